@@ -1,5 +1,10 @@
-ghost use Rattle.std.specs.Prelude.{◌≡◌};
-ghost use Rattle.sv_world.specs.Faults.{cause_number};
+ghost use Rattle.std.specs.Prelude.{◌≡◌, map, not, Some, None, MatchResult};
+ghost use Rattle.sv_world.specs.declared.world.ObjectId.{ObjectId};
+ghost use Rattle.sv_world.specs.Faults.{is_ascending, has_no_reads, has_too_many_reads, is_not_ascending, reads_no_object, has_bad_mask, has_slots, sets_in_mask, has_attrs, is_too_large, is_too_deep, is_in_plane, has_origin, first_fault_of_action, cause_number};
+
+use crate::measure::{body_is_within, body_left};
+use crate::names::{NameTest, passes_in_body};
+use crate::{Action, ObjectId, Shape};
 
 /// Why an action is refused, in the order in which the causes are looked for.
 #[derive(Clone, Copy, Debug, Drop, PartialEq, Eq)]
@@ -43,4 +48,155 @@ impl BadAction {
             BadAction::BadOrigin => 11,
         }
     }
+}
+
+/// Whether the numbers of the objects ascend strictly.
+pub fn is_ascending(objects: &[ObjectId]) -> bool
+    ensures { result ≡ is_ascending (map (λ (o : ObjectId). o.0) objects.now) }
+{
+    let [first, rest @ ..] = objects else {
+        return true;
+    };
+    let mut last = first.0;
+    for object in rest {
+        if object.0 <= last {
+            return false;
+        }
+        last = object.0;
+    }
+    true
+}
+
+/// Refuses an action that is not one of this shape, with the first cause that applies. It walks trees of any depth.
+#[tactic(auto, unfolding(crate::specs::Faults::first_fault_of_action))]
+pub fn check_action(shape: Shape, action: &Action) -> Result<(), BadAction>
+    ensures { MatchResult result (λ _. first_fault_of_action shape action.now ≡ None) (λ cause. first_fault_of_action shape action.now ≡ Some cause) }
+{
+    if has_no_reads(action) {
+        return Err(BadAction::NoReads);
+    }
+    if has_too_many_reads(action) {
+        return Err(BadAction::TooManyReads);
+    }
+    if is_not_ascending(action) {
+        return Err(BadAction::NotAscending);
+    }
+    if reads_no_object(shape, action) {
+        return Err(BadAction::NoSuchObject);
+    }
+    if has_bad_mask(action) {
+        return Err(BadAction::BadMask);
+    }
+    if !has_slots(action) {
+        return Err(BadAction::BadSlot);
+    }
+    if !sets_in_mask(action) {
+        return Err(BadAction::NotWritable);
+    }
+    if !has_attrs(shape, action) {
+        return Err(BadAction::BadAttr);
+    }
+    if is_too_large(action) {
+        return Err(BadAction::TooLarge);
+    }
+    if is_too_deep(action) {
+        return Err(BadAction::TooDeep);
+    }
+    if !has_origin(action) {
+        return Err(BadAction::BadOrigin);
+    }
+    Ok(())
+}
+
+#[tactic(auto, unfolding(crate::specs::Faults::has_no_reads))]
+fn has_no_reads(action: &Action) -> bool
+    ensures { result ≡ has_no_reads action.now }
+{
+    action.reads.len() == 0
+}
+
+#[tactic(auto, unfolding(crate::specs::Faults::has_too_many_reads))]
+fn has_too_many_reads(action: &Action) -> bool
+    ensures { result ≡ has_too_many_reads action.now }
+{
+    action.reads.len() > 16
+}
+
+#[tactic(auto, unfolding(crate::specs::Faults::is_not_ascending))]
+fn is_not_ascending(action: &Action) -> bool
+    ensures { result ≡ is_not_ascending action.now }
+{
+    !is_ascending(action.reads.as_slice())
+}
+
+#[tactic(auto, unfolding(crate::specs::Faults::reads_no_object))]
+fn reads_no_object(shape: Shape, action: &Action) -> bool
+    ensures { result ≡ reads_no_object shape action.now }
+{
+    for object in action.reads.as_slice() {
+        if object.0 >= shape.objects {
+            return true;
+        }
+    }
+    false
+}
+
+#[tactic(auto, unfolding(crate::specs::Faults::has_bad_mask))]
+fn has_bad_mask(action: &Action) -> bool
+    ensures { result ≡ has_bad_mask action.now }
+{
+    let mask = action.mask;
+    let reads = action.reads.len();
+    reads < 16 && mask >> reads > 0
+}
+
+#[tactic(auto, unfolding(crate::specs::Faults::has_slots))]
+fn has_slots(action: &Action) -> bool
+    ensures { result ≡ has_slots action.now }
+{
+    let reads = action.reads.len();
+    passes_in_body(NameTest::Slot { reads }, action.body.as_slice())
+}
+
+#[tactic(auto, unfolding(crate::specs::Faults::sets_in_mask))]
+fn sets_in_mask(action: &Action) -> bool
+    ensures { result ≡ sets_in_mask action.now }
+{
+    let mask = action.mask;
+    passes_in_body(NameTest::Writable { mask }, action.body.as_slice())
+}
+
+#[tactic(auto, unfolding(crate::specs::Faults::has_attrs))]
+fn has_attrs(shape: Shape, action: &Action) -> bool
+    ensures { result ≡ has_attrs shape action.now }
+{
+    let attrs = shape.attrs;
+    passes_in_body(NameTest::Attr { attrs }, action.body.as_slice())
+}
+
+#[tactic(auto, unfolding(crate::specs::Faults::is_too_large))]
+fn is_too_large(action: &Action) -> bool
+    ensures { result ≡ is_too_large action.now }
+{
+    body_left(64, action.body.as_slice()).is_none()
+}
+
+#[tactic(auto, unfolding(crate::specs::Faults::is_too_deep))]
+fn is_too_deep(action: &Action) -> bool
+    ensures { result ≡ is_too_deep action.now }
+{
+    !body_is_within(8, action.body.as_slice())
+}
+
+fn is_in_plane(coordinate: i32) -> bool
+    ensures { result ≡ is_in_plane coordinate }
+{
+    coordinate >= -1_000_000 && coordinate <= 1_000_000
+}
+
+#[tactic(auto, unfolding(crate::specs::Faults::has_origin))]
+fn has_origin(action: &Action) -> bool
+    ensures { result ≡ has_origin action.now }
+{
+    is_in_plane(action.origin.x) && is_in_plane(action.origin.y)
 }

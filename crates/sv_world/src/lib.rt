@@ -4,13 +4,18 @@
 mod action;
 mod boxed;
 mod check;
+mod copy;
 mod list;
+mod measure;
+mod names;
 mod text;
 mod world;
 
 pub use action::{Action, Cond, Expr, Point, Stmt};
 pub use boxed::Boxed;
-pub use check::BadAction;
+pub use check::{BadAction, check_action, is_ascending};
+pub use copy::{copy_action, copy_objects, copy_value, copy_values};
 pub use list::List;
+pub use names::is_in_mask;
 pub use text::Text;
 pub use world::{ClientId, ObjectId, Shape, Value, World};
