@@ -4,6 +4,7 @@
 mod action;
 mod boxed;
 mod check;
+mod laws;
 mod list;
 mod text;
 mod world;
@@ -11,6 +12,11 @@ mod world;
 pub use action::{Action, Cond, Expr, Point, Stmt};
 pub use boxed::Boxed;
 pub use check::BadAction;
+pub use laws::{
+    base_values_are_those_read_as_committed, committed_actions_do_not_count,
+    influence_is_the_least_set, missing_influences_are_the_least_set, missing_influences_ascend,
+    missing_influences_only_shrink, only_marks_above_the_commit_count,
+};
 pub use list::List;
 pub use text::Text;
 pub use world::{ClientId, ObjectId, Shape, Value, World};

@@ -1,0 +1,7 @@
+pub mod Ascending
+pub mod Bases
+pub mod Influences
+pub mod Members
+pub mod Needs
+pub mod Sweeps
+pub mod Writers
