@@ -1,5 +1,6 @@
 -- What writing to a sink means. What it took is None where the sink doesn't tell it.
-use Rattle.std.specs.Prelude.{◌≡◌, ℕ, ◌<◌, ◌≤◌, List, ◌++◌, length, take, Option, Some, None}
+use Rattle.std.specs.Prelude.{◌≡◌, ℕ, ◌<◌, ◌≤◌, List, [], ◌∷◌, ◌++◌, length, take, Option, Some, None}
+use Rattle.std.specs.Borrow.{Bor}
 use Rattle.sv_bytes.specs.declared.writing.Wrote.{Wrote}
 use Rattle.sv_bytes.specs.declared.writing.Wrote.TheVariants.{Took, Failed}
 
@@ -27,3 +28,8 @@ IsTaken size Failed = Unit {0}
 abbrev pub Writes : Option (List ℕ) → Option (List ℕ) → List ℕ → Wrote → Type 0
 Writes old now piece (Took n) = Grew old now (take n piece)
 Writes old now piece Failed = now ≡ old
+
+-- several pieces as one text
+abbrev pub joined : List (Bor (List ℕ)) → List ℕ
+joined [] = []
+joined (piece ∷ pieces) = piece.now ++ joined pieces

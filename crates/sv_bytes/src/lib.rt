@@ -8,6 +8,8 @@ mod plan;
 mod reading;
 mod stored;
 mod system;
+#[cfg(test)]
+mod tests;
 mod writing;
 
 pub use faults::FaultCount;
@@ -15,4 +17,4 @@ pub use memory::{MemFiles, MemSink};
 pub use plan::Plan;
 pub use reading::{Begun, FileFault, Files, Read, read_all};
 pub use system::{OsFiles, OsSink};
-pub use writing::{Sink, Wrote, write_all, write_three};
+pub use writing::{Sink, Wrote, write_all, write_pieces};

@@ -1,7 +1,7 @@
 ghost use Rattle.std.specs.Prelude.{◌≡◌, ℕ, ◌<◌, List, ◌++◌, Option, length, MatchBool, IsTrue};
 ghost use Rattle.std.specs.Bool.{OnTrue};
 ghost use Rattle.sv_bytes.specs.Faults.{WriteCause, Rose};
-ghost use Rattle.sv_bytes.specs.Writing.{IsTaken, Writes, Grew, GrewByPart};
+ghost use Rattle.sv_bytes.specs.Writing.{IsTaken, Writes, Grew, GrewByPart, joined};
 
 /// What `write` answers.
 #[derive(Clone, Copy, Debug, PartialEq, Eq)]
@@ -43,17 +43,16 @@ pub fn write_all<K: Sink>(sink: &mut K, bytes: &[u8]) -> bool
     true
 }
 
-/// Writes three texts in a row, as `write_all` of all three joined, without taking memory.
-pub fn write_three<K: Sink>(sink: &mut K, first: &[u8], second: &[u8], third: &[u8]) -> bool
-    ensures whole { OnTrue result (Grew (K.taken sink.old) (K.taken sink.new) (first.now ++ second.now ++ third.now)) }
-    ensures part { GrewByPart (K.taken sink.old) (K.taken sink.new) (first.now ++ second.now ++ third.now) }
+/// Writes several pieces in a row, as `write_all` of all of them joined, without taking memory.
+pub fn write_pieces<K: Sink>(sink: &mut K, pieces: &[&[u8]]) -> bool
+    ensures whole { OnTrue result (Grew (K.taken sink.old) (K.taken sink.new) (joined pieces.now)) }
+    ensures part { GrewByPart (K.taken sink.old) (K.taken sink.new) (joined pieces.now) }
     ensures cause { MatchBool result (K.faults sink.new ≡ K.faults sink.old) (Rose (K.faults sink.old) (K.faults sink.new)) }
 {
-    if !write_all(sink, first) {
-        return false;
+    for piece in pieces {
+        if !write_all(sink, piece) {
+            return false;
+        }
     }
-    if !write_all(sink, second) {
-        return false;
-    }
-    write_all(sink, third)
+    true
 }
