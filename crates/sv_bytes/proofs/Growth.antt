@@ -49,9 +49,9 @@ pub GrewByPart-joined : (old mid now : Option (List ℕ)) (pieces : List (Bor (L
 GrewByPart-joined old mid now pieces i d below whole part =
     let next : List ℕ = (get_or pieces i d).now in
     let front : GrewByPart old now (joined (take (i + 1) pieces)) =
-      rw (joined-take-more pieces i d below) (GrewByPart-after old mid now (joined (take i pieces)) next whole part) in
+    rw (joined-take-more pieces i d below) (GrewByPart-after old mid now (joined (take i pieces)) next whole part) in
     let all : joined (take (i + 1) pieces) ++ joined (drop (i + 1) pieces) ≡ joined pieces =
-      sym (joined-append (take (i + 1) pieces) (drop (i + 1) pieces)) ∙ ap joined (take-append-drop (i + 1) pieces) in
+    sym (joined-append (take (i + 1) pieces) (drop (i + 1) pieces)) ∙ ap joined (take-append-drop (i + 1) pieces) in
     subst (λ (text : List ℕ). GrewByPart old now text) all (GrewByPart-front old now (joined (take (i + 1) pieces)) (joined (drop (i + 1) pieces)) front)
 
 -- growth by i whole pieces and by the next

@@ -1,6 +1,7 @@
 -- What writing to a sink means. What it took is None where the sink doesn't tell it.
 use Rattle.std.specs.Prelude.{◌≡◌, ℕ, ◌<◌, ◌≤◌, List, [], ◌∷◌, ◌++◌, length, take, Option, Some, None}
 use Rattle.std.specs.Borrow.{Bor}
+use Rattle.sv_bytes.specs.Faults.{Rose}
 use Rattle.sv_bytes.specs.declared.writing.Wrote.{Wrote}
 use Rattle.sv_bytes.specs.declared.writing.Wrote.TheVariants.{Took, Failed}
 
@@ -33,3 +34,8 @@ Writes old now piece Failed = now ≡ old
 abbrev pub joined : List (Bor (List ℕ)) → List ℕ
 joined [] = []
 joined (piece ∷ pieces) = piece.now ++ joined pieces
+
+-- the sink was given a text: it grew by just that where its count did not rise, and else by a front part of it
+pub record Told (old now : Option (List ℕ)) (before after : ℕ) (text : List ℕ) : Type 0 where
+  pub part : GrewByPart old now text
+  pub whole : ¬ Rose before after → Grew old now text

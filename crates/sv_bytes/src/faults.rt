@@ -48,3 +48,9 @@ impl Drop for FaultCount {
         let Self { marker: _ } = self;
     }
 }
+
+// SAFETY: a count has no bytes and owns nothing.
+unsafe impl Send for FaultCount {}
+
+// SAFETY: as for `Send`.
+unsafe impl Sync for FaultCount {}

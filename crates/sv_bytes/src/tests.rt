@@ -33,7 +33,12 @@ fn sink_with(alloc: Global, room: usize, step: usize, failing: &[u64]) -> Result
 #[test]
 fn reads_up_to_the_limit(rt: HostRuntime) -> Result<(), Fail> {
     let alloc = rt.alloc();
-    for (limit, want) in [(0, "".as_bytes()), (3, b"hel"), (5, b"hello"), (9, b"hello")] {
+    for (limit, want) in [
+        (0, "".as_bytes()),
+        (3, b"hel"),
+        (5, b"hello"),
+        (9, b"hello"),
+    ] {
         let mut files = files_with(alloc, 2, &[])?;
         let bytes = read_all(alloc, &mut files, "first", limit)?;
         assert_eq!(rt; bytes.as_slice(), want, "up to {limit}");
@@ -47,14 +52,24 @@ fn reads_up_to_the_limit(rt: HostRuntime) -> Result<(), Fail> {
 fn tells_a_failed_file(rt: HostRuntime) -> Result<(), Fail> {
     let alloc = rt.alloc();
     let mut files = files_with(alloc, 2, &[])?;
-    assert_eq!(rt; read_all(alloc, &mut files, "third", 9).err(), Some(FileFault::Failed));
+    assert_eq!(rt;
+        read_all(alloc, &mut files, "third", 9).err(),
+        Some(FileFault::Failed)
+    );
     // `begin` is call 1, and each read gives two bytes: call 5 is the one that finds the end.
     for call in [1, 2, 3, 4, 5] {
         let mut files = files_with(alloc, 2, &[call])?;
-        assert_eq!(rt; read_all(alloc, &mut files, "first", 9).err(), Some(FileFault::Failed), "at {call}");
+        assert_eq!(rt;
+            read_all(alloc, &mut files, "first", 9).err(),
+            Some(FileFault::Failed),
+            "at {call}"
+        );
     }
     let mut files = files_with(alloc, 2, &[6])?;
-    assert_eq!(rt; read_all(alloc, &mut files, "first", 9)?.as_slice(), b"hello".as_slice());
+    assert_eq!(rt;
+        read_all(alloc, &mut files, "first", 9)?.as_slice(),
+        b"hello".as_slice()
+    );
     Ok(())
 }
 
@@ -73,7 +88,11 @@ fn writes_all_or_a_front_part(rt: HostRuntime) -> Result<(), Fail> {
     ];
     for (room, step, call, whole, want) in cases {
         let mut sink = sink_with(alloc, room, step, &[call])?;
-        assert_eq!(rt; write_all(&mut sink, b"hello"), whole, "{room} {step} {call}");
+        assert_eq!(rt;
+            write_all(&mut sink, b"hello"),
+            whole,
+            "{room} {step} {call}"
+        );
         assert_eq!(rt; sink.bytes(), want.as_bytes(), "{room} {step} {call}");
     }
     Ok(())
@@ -82,7 +101,12 @@ fn writes_all_or_a_front_part(rt: HostRuntime) -> Result<(), Fail> {
 #[test]
 fn writes_pieces_in_a_row(rt: HostRuntime) -> Result<(), Fail> {
     let alloc = rt.alloc();
-    for (call, whole, want) in [(0, true, "file: a.json\n"), (1, false, ""), (2, false, "file: "), (3, false, "file: a.json")] {
+    for (call, whole, want) in [
+        (0, true, "file: a.json\n"),
+        (1, false, ""),
+        (2, false, "file: "),
+        (3, false, "file: a.json"),
+    ] {
         let pieces = [b"file: ".as_slice(), b"a.json", b"\n"];
         let mut sink = sink_with(alloc, 20, 20, &[call])?;
         assert_eq!(rt; write_pieces(&mut sink, &pieces), whole, "{call}");

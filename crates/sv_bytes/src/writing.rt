@@ -1,7 +1,7 @@
 ghost use Rattle.std.specs.Prelude.{◌≡◌, ℕ, ◌<◌, List, ◌++◌, Option, length, MatchBool, IsTrue};
 ghost use Rattle.std.specs.Bool.{OnTrue};
 ghost use Rattle.sv_bytes.specs.Faults.{WriteCause, Rose};
-ghost use Rattle.sv_bytes.specs.Writing.{IsTaken, Writes, Grew, GrewByPart, joined};
+ghost use Rattle.sv_bytes.specs.Writing.{IsTaken, Writes, Grew, GrewByPart, Told, joined};
 
 /// What `write` answers.
 #[derive(Clone, Copy, Debug, PartialEq, Eq)]
@@ -31,6 +31,7 @@ pub trait Sink {
 pub fn write_all<K: Sink>(sink: &mut K, bytes: &[u8]) -> bool
     ensures whole { OnTrue result (Grew (K.taken sink.old) (K.taken sink.new) bytes.now) }
     ensures part { GrewByPart (K.taken sink.old) (K.taken sink.new) bytes.now }
+    ensures told { Told (K.taken sink.old) (K.taken sink.new) (K.faults sink.old) (K.faults sink.new) bytes.now }
     ensures cause { MatchBool result (K.faults sink.new ≡ K.faults sink.old) (Rose (K.faults sink.old) (K.faults sink.new)) }
 {
     let mut done = 0;
@@ -47,6 +48,7 @@ pub fn write_all<K: Sink>(sink: &mut K, bytes: &[u8]) -> bool
 pub fn write_pieces<K: Sink>(sink: &mut K, pieces: &[&[u8]]) -> bool
     ensures whole { OnTrue result (Grew (K.taken sink.old) (K.taken sink.new) (joined pieces.now)) }
     ensures part { GrewByPart (K.taken sink.old) (K.taken sink.new) (joined pieces.now) }
+    ensures told { Told (K.taken sink.old) (K.taken sink.new) (K.faults sink.old) (K.faults sink.new) (joined pieces.now) }
     ensures cause { MatchBool result (K.faults sink.new ≡ K.faults sink.old) (Rose (K.faults sink.old) (K.faults sink.new)) }
 {
     for piece in pieces {
