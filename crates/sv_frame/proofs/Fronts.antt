@@ -129,9 +129,9 @@ first_frame-append stream more payload after e =
     let n = stated_length stream in
     let same = stated_length-append stream more (omega arith) in
     let body : take n (drop 4 (stream ++ more)) ≡ payload =
-        ap (take n) (drop-append-le 4 stream more (omega arith)) ∙ take-append-le n (drop 4 stream) more (omega (arith, length-drop 4 stream)) ∙ sym p.payload_is in
+    ap (take n) (drop-append-le 4 stream more (omega arith)) ∙ take-append-le n (drop 4 stream) more (omega (arith, length-drop 4 stream)) ∙ sym p.payload_is in
     let rest : drop (4 + n) (stream ++ more) ≡ after ++ more =
-        drop-append-le (4 + n) stream more p.enough ∙ ap (λ (l : List ℕ). l ++ more) (sym p.after_is) in
+    drop-append-le (4 + n) stream more p.enough ∙ ap (λ (l : List ℕ). l ++ more) (sym p.after_is) in
     frame_from_parts (stream ++ more) n (sym same) p.within (omega (arith, length-append stream more)) ∙ cc
 
 pub too_long-append : (stream more : List ℕ) (n : ℕ) → too_long stream ≡ Some n → too_long (stream ++ more) ≡ Some n
@@ -161,7 +161,7 @@ first_frame-frame payload more fits =
     let prefix = big_bytes 4 n in
     let regrouped : stream ≡ prefix ++ (payload ++ more) = append_assoc prefix payload more in
     let body : take n (drop 4 stream) ≡ payload =
-        ap (λ (l : List ℕ). take n (drop 4 l)) regrouped ∙ ap (take n) (drop_at prefix (payload ++ more) 4 (length-bytes_high_first 4 n)) ∙ take_at payload more n refl in
+    ap (λ (l : List ℕ). take n (drop 4 l)) regrouped ∙ ap (take n) (drop_at prefix (payload ++ more) 4 (length-bytes_high_first 4 n)) ∙ take_at payload more n refl in
     let rest : drop (4 + n) stream ≡ more = drop_at (frame payload) more (4 + n) (length-frame payload) in
     frame_from_parts stream n (sym (stated_length-frame payload more fits)) fits (omega (arith, length-append (frame payload) more, length-frame payload)) ∙ cc
 
@@ -191,10 +191,10 @@ stream_is_frame stream payload after bytes e =
     let len : length payload ≡ n = ap length p.payload_is ∙ length-take n (drop 4 stream) ∙ omega (arith, length-drop 4 stream) in
     let prefix : big_bytes 4 (length payload) ≡ take 4 stream = ap (big_bytes 4) len ∙ bytes_of_stated_length stream bytes (omega arith) in
     let body : payload ++ after ≡ drop 4 stream =
-        ap (λ (l : List ℕ). l ++ after) p.payload_is ∙ ap (λ (l : List ℕ). take n (drop 4 stream) ++ l) (p.after_is ∙ sym (drop-drop n 4 stream)) ∙ take-append-drop n (drop 4 stream) in
+    ap (λ (l : List ℕ). l ++ after) p.payload_is ∙ ap (λ (l : List ℕ). take n (drop 4 stream) ++ l) (p.after_is ∙ sym (drop-drop n 4 stream)) ∙ take-append-drop n (drop 4 stream) in
     let whole : frame payload ++ after ≡ stream =
-        append_assoc (big_bytes 4 (length payload)) payload after
-        ∙ (ap (λ (l : List ℕ). l ++ (payload ++ after)) prefix ∙ (ap (λ (l : List ℕ). take 4 stream ++ l) body ∙ take-append-drop 4 stream)) in
+    append_assoc (big_bytes 4 (length payload)) payload after
+    ∙ (ap (λ (l : List ℕ). l ++ (payload ++ after)) prefix ∙ (ap (λ (l : List ℕ). take 4 stream ++ l) body ∙ take-append-drop 4 stream)) in
     (sym whole, omega (arith, p.within))
 
 pub bytes-after : (front after : List ℕ) → AreBytes (front ++ after) → AreBytes after

@@ -14,7 +14,7 @@ part-fed room piece tail start end ordered within =
     let front = take end room in
     let len : length front ≡ end = length-take-le end room within in
     let dropped : drop start (front ++ (piece ++ tail)) ≡ (drop start front ++ piece) ++ tail =
-        drop-append-le start front (piece ++ tail) (omega arith) ∙ sym (append_assoc (drop start front) piece tail) in
+    drop-append-le start front (piece ++ tail) (omega arith) ∙ sym (append_assoc (drop start front) piece tail) in
     let n = end + length piece - start in
     let size : length (drop start front ++ piece) ≡ n = omega (arith, length-append (drop start front) piece, length-drop start front) in
     ap (take n) dropped ∙ (take_at (drop start front ++ piece) tail n size ∙ ap (λ (l : List ℕ). l ++ piece) (sym (between_is room start end)))
@@ -35,14 +35,14 @@ part-moved room start end ordered within =
 pub part-payload : (room : List ℕ) (start n more total k at : ℕ) → total ≡ 4 + (n + more) → k ≡ n → at ≡ start + 4 → take k (drop at room) ≡ take n (drop 4 (take total (drop start room)))
 part-payload room start n more total k at t e a =
     let kept : take n (drop 4 (take total (drop start room))) ≡ take n (drop (start + 4) room) =
-        ap (λ (m : ℕ). take n (drop 4 (take m (drop start room)))) t
-        ∙ (ap (take n) (drop-take 4 (n + more) (drop start room)) ∙ (take-take n (n + more) (drop 4 (drop start room)) (omega arith) ∙ ap (take n) (drop-drop 4 start room))) in
+    ap (λ (m : ℕ). take n (drop 4 (take m (drop start room)))) t
+    ∙ (ap (take n) (drop-take 4 (n + more) (drop start room)) ∙ (take-take n (n + more) (drop 4 (drop start room)) (omega arith) ∙ ap (take n) (drop-drop 4 start room))) in
     cc
 
 -- the part after a frame
 pub part-after : (room : List ℕ) (start n total k at : ℕ) → total ≡ (4 + n) + k → at ≡ start + (4 + n) → take k (drop at room) ≡ drop (4 + n) (take total (drop start room))
 part-after room start n total k at t a =
     let kept : drop (4 + n) (take total (drop start room)) ≡ take k (drop (start + (4 + n)) room) =
-        ap (λ (m : ℕ). drop (4 + n) (take m (drop start room))) t
-        ∙ (drop-take (4 + n) k (drop start room) ∙ ap (take k) (drop-drop (4 + n) start room)) in
+    ap (λ (m : ℕ). drop (4 + n) (take m (drop start room))) t
+    ∙ (drop-take (4 + n) k (drop start room) ∙ ap (take k) (drop-drop (4 + n) start room)) in
     cc

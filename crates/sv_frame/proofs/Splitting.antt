@@ -42,8 +42,8 @@ enough (suc m) (suc n) stream a b =
     elim (none_or_some (first_frame stream)) [
       | inl e ↦ split_at_none (suc m) stream e ∙ sym (split_at_none (suc n) stream e)
       | inr f ↦
-        let shorter = first_frame-shorter stream f.0.0 f.0.1 f.1 in
-        split_at_some m stream f.0.0 f.0.1 f.1 ∙ (ap (with_first f.0.0) (enough m n f.0.1 (omega arith) (omega arith)) ∙ sym (split_at_some n stream f.0.0 f.0.1 f.1))
+          let shorter = first_frame-shorter stream f.0.0 f.0.1 f.1 in
+          split_at_some m stream f.0.0 f.0.1 f.1 ∙ (ap (with_first f.0.0) (enough m n f.0.1 (omega arith) (omega arith)) ∙ sym (split_at_some n stream f.0.0 f.0.1 f.1))
     ]
 
 pub split-none : (stream : List ℕ) → first_frame stream ≡ None → split_frames stream ≡ ([], stream)
@@ -72,9 +72,9 @@ split-append_by (suc k) first second h =
     elim (none_or_some (first_frame first)) [
       | inl e ↦ sym (ap (λ (s : List (List ℕ) × List ℕ). split_on s second) (split-none first e))
       | inr f ↦
-        let shorter = first_frame-shorter first f.0.0 f.0.1 f.1 in
-        split-some (first ++ second) f.0.0 (f.0.1 ++ second) (first_frame-append first second f.0.0 f.0.1 f.1)
-        ∙ (ap (with_first f.0.0) (split-append_by k f.0.1 second (omega arith)) ∙ sym (ap (λ (s : List (List ℕ) × List ℕ). split_on s second) (split-some first f.0.0 f.0.1 f.1)))
+          let shorter = first_frame-shorter first f.0.0 f.0.1 f.1 in
+          split-some (first ++ second) f.0.0 (f.0.1 ++ second) (first_frame-append first second f.0.0 f.0.1 f.1)
+          ∙ (ap (with_first f.0.0) (split-append_by k f.0.1 second (omega arith)) ∙ sym (ap (λ (s : List (List ℕ) × List ℕ). split_on s second) (split-some first f.0.0 f.0.1 f.1)))
     ]
 
 pub split-append : (first second : List ℕ) → split_frames (first ++ second) ≡ split_on (split_frames first) second
@@ -102,8 +102,8 @@ rest-none_by (suc k) stream h =
     elim (none_or_some (first_frame stream)) [
       | inl e ↦ ap (λ (s : List (List ℕ) × List ℕ). first_frame s.1) (split-none stream e) ∙ e
       | inr f ↦
-        let shorter = first_frame-shorter stream f.0.0 f.0.1 f.1 in
-        ap (λ (s : List (List ℕ) × List ℕ). first_frame s.1) (split-some stream f.0.0 f.0.1 f.1) ∙ rest-none_by k f.0.1 (omega arith)
+          let shorter = first_frame-shorter stream f.0.0 f.0.1 f.1 in
+          ap (λ (s : List (List ℕ) × List ℕ). first_frame s.1) (split-some stream f.0.0 f.0.1 f.1) ∙ rest-none_by k f.0.1 (omega arith)
     ]
 
 pub rest-none : (stream : List ℕ) → first_frame (split_frames stream).1 ≡ None
@@ -125,13 +125,14 @@ whole_by (suc k) stream h bytes =
     elim (none_or_some (first_frame stream)) [
       | inl e ↦ rw (split-none stream e) (refl, tt)
       | inr f ↦
-        let shorter = first_frame-shorter stream f.0.0 f.0.1 f.1 in
-        let is = stream_is_frame stream f.0.0 f.0.1 bytes f.1 in
-        let more = whole_by k f.0.1 (omega arith) (bytes-after (frame f.0.0) f.0.1 (subst AreBytes is.0 bytes)) in
-        let P : List (List ℕ) × List ℕ → Type 0 = λ s. (stream ≡ frames_of s.0 ++ s.1) × AllByRecursion FitsFrame s.0 in
-        subst P (sym (split-some stream f.0.0 f.0.1 f.1))
-          ( is.0 ∙ (ap (λ (l : List ℕ). frame f.0.0 ++ l) more.0 ∙ sym (append_assoc (frame f.0.0) (frames_of (split_frames f.0.1).0) (split_frames f.0.1).1))
-          , (is.1, more.1) )
+          let shorter = first_frame-shorter stream f.0.0 f.0.1 f.1 in
+          let is = stream_is_frame stream f.0.0 f.0.1 bytes f.1 in
+          let more = whole_by k f.0.1 (omega arith) (bytes-after (frame f.0.0) f.0.1 (subst AreBytes is.0 bytes)) in
+          let P : List (List ℕ) × List ℕ → Type 0 = λ s. (stream ≡ frames_of s.0 ++ s.1) × AllByRecursion FitsFrame s.0 in
+          subst P (sym (split-some stream f.0.0 f.0.1 f.1)) (
+            is.0 ∙ (ap (λ (l : List ℕ). frame f.0.0 ++ l) more.0 ∙ sym (append_assoc (frame f.0.0) (frames_of (split_frames f.0.1).0) (split_frames f.0.1).1)),
+            (is.1, more.1),
+          )
     ]
 
 pub split-splits : (stream : List ℕ) → AreBytes stream → Splits stream (split_frames stream).0 (split_frames stream).1
@@ -143,17 +144,18 @@ pub split-unique : (stream : List ℕ) (payloads : List (List ℕ)) (rest : List
 split-unique stream payloads rest bytes s =
     let rest_bytes = bytes-after (frames_of payloads) rest (subst AreBytes s.whole bytes) in
     let none : first_frame rest ≡ None =
-        elim (none_or_some (first_frame rest)) [
-          | inl e ↦ e
-          | inr f ↦ let is = stream_is_frame rest f.0.0 f.0.1 rest_bytes f.1 in absurd (s.no_more f.0.0 f.0.1 is.1 is.0)
-        ] in
+    elim (none_or_some (first_frame rest)) [
+      | inl e ↦ e
+      | inr f ↦ let is = stream_is_frame rest f.0.0 f.0.1 rest_bytes f.1 in absurd (s.no_more f.0.0 f.0.1 is.1 is.0)
+    ] in
     ap split_frames s.whole
     ∙ (split-frames_of payloads rest s.each ∙ (ap (λ (t : List (List ℕ) × List ℕ). (payloads ++ t.0, t.1)) (split-none rest none) ∙ ap (λ (l : List (List ℕ)). (l, rest)) (append-nil payloads)))
 
 pub split-exact : (stream : List ℕ) (payloads : List (List ℕ)) (rest : List ℕ) → AreBytes stream → Splits stream payloads rest ↔ (split_frames stream ≡ (payloads, rest))
-split-exact stream payloads rest bytes =
-    ( split-unique stream payloads rest bytes
-    , λ (e : split_frames stream ≡ (payloads, rest)). subst (λ (s : List (List ℕ) × List ℕ). Splits stream s.0 s.1) e (split-splits stream bytes) )
+split-exact stream payloads rest bytes = (
+  split-unique stream payloads rest bytes,
+  λ (e : split_frames stream ≡ (payloads, rest)). subst (λ (s : List (List ℕ) × List ℕ). Splits stream s.0 s.1) e (split-splits stream bytes),
+)
 
 pub frames-apart : (p q x y : List ℕ) → FitsFrame p → FitsFrame q → frame p ++ x ≡ frame q ++ y → (p ≡ q) × (x ≡ y)
 frames-apart p q x y fits_p fits_q e =
@@ -177,6 +179,6 @@ incoming-final first second n e =
     let more = too_long-append a.1 second n e in
     let stuck = split-none (a.1 ++ second) (no_frame_if_too_long (a.1 ++ second) n more) in
     let after : split_on a second ≡ (a.0, a.1 ++ second) =
-        ap (λ (t : List (List ℕ) × List ℕ). (a.0 ++ t.0, t.1)) stuck ∙ ap (λ (l : List (List ℕ)). (l, a.1 ++ second)) (append-nil a.0) in
+    ap (λ (t : List (List ℕ) × List ℕ). (a.0 ++ t.0, t.1)) stuck ∙ ap (λ (l : List (List ℕ)). (l, a.1 ++ second)) (append-nil a.0) in
     ap (λ (s : List (List ℕ) × List ℕ). map Payload s.0 ++ last_item (too_long s.1)) (split-append first second ∙ after)
     ∙ ap (λ (o : Option ℕ). map Payload a.0 ++ last_item o) (more ∙ sym e)

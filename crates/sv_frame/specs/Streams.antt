@@ -12,8 +12,8 @@ abbrev pub split_at_most : ℕ → List ℕ → List (List ℕ) × List ℕ
 split_at_most zero stream = ([], stream)
 split_at_most (suc count) stream =
     elim (first_frame stream) [
-      None ↦ ([], stream)
-    | Some first ↦ with_first first.0 (split_at_most count first.1)
+      | None ↦ ([], stream)
+      | Some first ↦ with_first first.0 (split_at_most count first.1)
     ]
 
 -- the whole payloads that a stream begins with, and the rest. A stream has no more frames than bytes

@@ -39,7 +39,12 @@ fn frame_vectors(rt: HostRuntime) -> Result<(), Fail> {
     let mut reader = FrameReader::new(rt.alloc())?;
     read_cut(&rt, &mut reader, &[0, 0, 0, 0], &[&[]]);
     read_cut(&rt, &mut reader, &[0, 0, 0, 1, 4], &[&[4]]);
-    read_cut(&rt, &mut reader, &[0, 0, 0, 1, 4, 0, 0, 0, 1, 5], &[&[4], &[5]]);
+    read_cut(
+        &rt,
+        &mut reader,
+        &[0, 0, 0, 1, 4, 0, 0, 0, 1, 5],
+        &[&[4], &[5]],
+    );
     Ok(())
 }
 

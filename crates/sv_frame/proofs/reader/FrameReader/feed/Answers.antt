@@ -20,10 +20,10 @@ returns c =
     let P : Inside → Type 0 = HasSpace c.args.self.now (length piece) in
     let now = c.if-self.self-inside in
     let kept : P now =
-        elim c.if-self.branch [
-          | then-self w ↦ subst P (sym w.self-inside-is) (ap (part 0 (old.end - old.start)) w.copy_within.ensures.items ∙ (part-moved old.room.items old.start old.end (omega arith) (omega arith) ∙ c.self.view_is), omega arith, omega arith, w.copy_within.ensures.len ∙ c.self.invariant.0)
-          | else-self+else-piece-self w ↦ subst P (sym w.self-inside-is) (c.self.view_is, omega arith, omega arith, c.self.invariant.0)
-        ] in
+    elim c.if-self.branch [
+      | then-self w ↦ subst P (sym w.self-inside-is) (ap (part 0 (old.end - old.start)) w.copy_within.ensures.items ∙ (part-moved old.room.items old.start old.end (omega arith) (omega arith) ∙ c.self.view_is), omega arith, omega arith, w.copy_within.ensures.len ∙ c.self.invariant.0)
+      | else-self+else-piece-self w ↦ subst P (sym w.self-inside-is) (c.self.view_is, omega arith, omega arith, c.self.invariant.0)
+    ] in
     let room = c.as_mut_slice.result.now in
     let copied = c.copy_from_slice.new.self in
     let is : copied ≡ piece = c.copy_from_slice.ensures.after in
@@ -32,7 +32,7 @@ returns c =
     let filled = take now.end room ++ (copied ++ tail) in
     let len = c.as_mut_slice.ensures.len in
     let items : (with_items now.room filled).items ≡ filled =
-        with_items_is now.room filled (length-fed room copied now.end k (omega arith) (ap length is ∙ omega arith) ∙ len) in
+    with_items_is now.room filled (length-fed room copied now.end k (omega arith) (ap length is ∙ omega arith) ∙ len) in
     let after = part now.start (now.end + length piece) in
     ap after items
     ∙ (ap (λ (l : List ℕ). after (take now.end room ++ (l ++ tail))) is

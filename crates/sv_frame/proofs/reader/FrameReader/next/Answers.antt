@@ -18,11 +18,11 @@ returns-in-Whole c =
     let k = start + 4 + n - (start + 4) in
     let again : c.deref-in-Whole.result.now ≡ room = c.deref-in-Whole.ensures.value ∙ sym c.deref.ensures.value in
     let payload : take n (drop 4 (part start end room)) ≡ take k (drop (start + 4) c.deref-in-Whole.result.now) =
-        sym (ap (λ (l : List ℕ). take k (drop (start + 4) l)) again ∙ part-payload room start n (total - (4 + n)) total k (start + 4) (omega arith) (omega arith) refl) in
+    sym (ap (λ (l : List ℕ). take k (drop (start + 4) l)) again ∙ part-payload room start n (total - (4 + n)) total k (start + 4) (omega arith) (omega arith) refl) in
     let after : drop (4 + n) (part start end room) ≡ part (start + 4 + n) end c.self.inside.room.items =
-        sym (ap (part (start + 4 + n) end) (sym c.deref.ensures.value) ∙ part-after room start n total (end - (start + 4 + n)) (start + 4 + n) (omega arith) (omega arith)) in
+    sym (ap (part (start + 4 + n) end) (sym c.deref.ensures.value) ∙ part-after room start n total (end - (start + 4 + n)) (start + 4 + n) (omega arith) (omega arith)) in
     let whole : first_frame c.args.self.now ≡ Some (take k (drop (start + 4) c.deref-in-Whole.result.now), part (start + 4 + n) end c.self.inside.room.items) =
-        ap first_frame (sym same) ∙ (found.1 ∙ some_pair _ _ _ _ payload after) in (
+    ap first_frame (sym same) ∙ (found.1 ∙ some_pair _ _ _ _ payload after) in (
       (refl, λ _. tt, (whole, split-some c.args.self.now _ _ whole)),
       record { answer = ap (option_map (λ (first : List ℕ × List ℕ). first.0)) whole; room = tt; rest = tt },
     )
@@ -31,7 +31,7 @@ pub returns-in-Partial : goal.returns-in-Partial
 returns-in-Partial c =
     let same = ap (part c.self.inside.start c.self.inside.end) c.deref.ensures.value ∙ c.self.view_is in
     let none : (first_frame c.args.self.now ≡ None) × (too_long c.args.self.now ≡ None) =
-        (ap first_frame (sym same) ∙ c.in-Partial.ensures.0, ap too_long (sym same) ∙ c.in-Partial.ensures.1) in (
+    (ap first_frame (sym same) ∙ c.in-Partial.ensures.0, ap too_long (sym same) ∙ c.in-Partial.ensures.1) in (
       (refl, λ _. tt, (c.self.view_is, split-none c.args.self.now none.0)),
       record { answer = none; room = room_if_neither c.args.self.now none.0 none.1; rest = tt },
     )
