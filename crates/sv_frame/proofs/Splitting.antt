@@ -1,11 +1,11 @@
 -- How a stream splits into payloads, whole, in pieces, and as frames that were written.
-use Rattle.std.proofs.Common.{◌≡◌, ℕ, zero, suc, ◌+◌, ◌<◌, ◌≤◌, List, [], ◌∷◌, ◌++◌, length, map, Option, Some, None, refl, sym, ap, subst, ◌∙◌, append_assoc, arith, ◌⊎◌, ◌↔◌, inl, inr}
+use Rattle.std.proofs.Common.{◌≡◌, ℕ, zero, suc, ◌+◌, ◌<◌, ◌≤◌, List, [], ◌∷◌, ◌++◌, length, map, Option, Some, None, refl, sym, ap, subst, ◌∙◌, append_assoc, length-append, arith, ◌⊎◌, ◌↔◌, inl, inr}
 use Rattle.std.specs.List.{AllByRecursion, flat_map}
 use Rattle.std.proofs.lemmas.List.{append-nil, map-append}
 use Rattle.sv_frame.specs.Frames.{frame, frames_of, FitsFrame, first_frame, too_long}
-use Rattle.sv_frame.specs.Streams.{with_first, split_at_most, split_frames, split_on, AreBytes, Splits, Incoming, last_item, incoming_items}
+use Rattle.sv_frame.specs.Streams.{with_first, TakesOff, split_at_most, split_frames, split_on, AreBytes, Splits, Incoming, last_item, incoming_items}
 use Rattle.sv_frame.specs.Streams.Incoming.{Payload, TooLong}
-use Rattle.sv_frame.proofs.Fronts.{none_or_some, first_frame-append, first_frame-shorter, first_frame-frame, stream_is_frame, bytes-after, too_long-append, no_frame_if_too_long}
+use Rattle.sv_frame.proofs.Fronts.{none_or_some, length-frame, first_frame-append, first_frame-shorter, first_frame-frame, stream_is_frame, bytes-after, too_long-append, no_frame_if_too_long}
 
 -- a step of `split_at_most`, by what the stream begins with
 one_step : ℕ → List ℕ → Option (List ℕ × List ℕ) → List (List ℕ) × List ℕ
@@ -57,6 +57,15 @@ split-some stream payload after e =
     let shorter = first_frame-shorter stream payload after e in
     enough n (suc n) stream (omega arith) (omega arith)
     ∙ (split_at_some n stream payload after e ∙ ap (with_first payload) (enough n (length after) after (omega arith) (omega arith)))
+
+pub takes_off : (payload old new : List ℕ) → first_frame old ≡ Some (payload, new) → old ≡ frame payload ++ new → TakesOff payload old new
+takes_off payload old new first whole =
+    record {
+      first = first;
+      whole = whole;
+      sizes = omega (arith, ap length whole, length-append (frame payload) new, length-frame payload);
+      split = split-some old payload new first;
+    }
 
 pub split-empty : split_frames [] ≡ ([], [])
 unfolding split_frames

@@ -1,9 +1,9 @@
 -- What a reader's `next` answers, and what it leaves.
-use Rattle.std.specs.Prelude.{◌≡◌, ℕ, ◌+◌, ◌≤◌, ◌<◌, List, [], length, take, drop, Option, None, Some, option_map, ⊤}
+use Rattle.std.specs.Prelude.{◌≡◌, ℕ, ◌+◌, ◌≤◌, ◌<◌, List, [], ◌++◌, length, take, drop, Option, None, Some, option_map, ⊤}
 use Rattle.std.specs.Borrow.{follows_so, MutBor, Fml}
 use mathlib.Core.Option.{none}
-use Rattle.sv_frame.specs.Frames.{first_frame, too_long}
-use Rattle.sv_frame.specs.Streams.{split_frames, with_first}
+use Rattle.sv_frame.specs.Frames.{frame, first_frame, too_long}
+use Rattle.sv_frame.specs.Streams.{TakesOff, split_frames}
 use Rattle.sv_frame.specs.declared.reader.Front.{Front}
 use Rattle.sv_frame.specs.declared.reader.Front.TheVariants.{Whole, Partial, Oversize}
 use Rattle.sv_frame.specs.declared.reader.Next.{Next}
@@ -22,10 +22,9 @@ LeavesRoom (Frame payload) rest = Unit {0}
 LeavesRoom NotYet rest = length rest < 65540
 LeavesRoom (TooLong n) rest = Unit {0}
 
--- A frame is taken off, and its payload was the first of the split. Any other answer takes nothing off, and
--- there was nothing to split
+-- A frame is taken off. Any other answer takes nothing off, and there was no payload to split off
 abbrev pub IsRestAfter : Next → List ℕ → List ℕ → Type 0
-IsRestAfter (Frame payload) old new = (first_frame old ≡ Some (payload.now, new)) × (split_frames old ≡ with_first payload.now (split_frames new))
+IsRestAfter (Frame payload) old new = TakesOff payload.now old new
 IsRestAfter NotYet old new = (new ≡ old) × (split_frames old ≡ ([], old))
 IsRestAfter (TooLong n) old new = (new ≡ old) × (split_frames old ≡ ([], old))
 
@@ -36,6 +35,6 @@ LeavesRest reader answer =
 
 -- what a rest begins with, the length of a whole frame's payload among it
 abbrev pub IsFront : Front → List ℕ → Type 0
-IsFront (Whole n) rest = (4 + n ≤ length rest) × (first_frame rest ≡ Some (take n (drop 4 rest), drop (4 + n) rest))
+IsFront (Whole n) rest = (4 + n ≤ length rest) × (first_frame rest ≡ Some (take n (drop 4 rest), drop (4 + n) rest)) × (rest ≡ frame (take n (drop 4 rest)) ++ drop (4 + n) rest)
 IsFront Partial rest = (first_frame rest ≡ None) × (too_long rest ≡ None)
 IsFront (Oversize n) rest = too_long rest ≡ Some n

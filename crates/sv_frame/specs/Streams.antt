@@ -1,5 +1,5 @@
 -- The payloads of a stream, however many there are.
-use Rattle.std.specs.Prelude.{◌≡◌, ℕ, zero, suc, ◌<◌, List, [], ◌∷◌, ◌++◌, length, map, slice_index, Option, None, Some}
+use Rattle.std.specs.Prelude.{◌≡◌, ℕ, zero, suc, ◌+◌, ◌<◌, List, [], ◌∷◌, ◌++◌, length, map, slice_index, Option, None, Some}
 use Rattle.std.specs.List.{AllByRecursion}
 use Rattle.sv_frame.specs.Frames.{frame, frames_of, FitsFrame, first_frame, too_long}
 
@@ -19,6 +19,13 @@ split_at_most (suc count) stream =
 -- the whole payloads that a stream begins with, and the rest. A stream has no more frames than bytes
 unfoldable pub split_frames : List ℕ → List (List ℕ) × List ℕ
 split_frames stream = split_at_most (length stream) stream
+
+-- the frame of this payload is taken off the front of a stream
+pub record TakesOff (payload old new : List ℕ) : Type 0 where
+  pub first : first_frame old ≡ Some (payload, new)
+  pub whole : old ≡ frame payload ++ new
+  pub sizes : length old ≡ 4 + length payload + length new
+  pub split : split_frames old ≡ with_first payload (split_frames new)
 
 -- a split of what has come so far, and then of its rest with more bytes after it
 abbrev pub split_on : List (List ℕ) × List ℕ → List ℕ → List (List ℕ) × List ℕ

@@ -1,5 +1,5 @@
-use Rattle.std.proofs.Common.{arith}
-use Rattle.sv_frame.proofs.Fronts.{stated, frame_from_parts, no_frame_if_short, too_long_from, not_long_if_short, not_long_within}
+use Rattle.std.proofs.Common.{◌+◌, take, drop, arith}
+use Rattle.sv_frame.proofs.Fronts.{stated, stream_is_frame, frame_from_parts, no_frame_if_short, too_long_from, not_long_if_short, not_long_within}
 use Rattle.sv_frame.proofs.reader.front_of.Goals as goal
 
 pub returns-then-rest-lt-PREFIX : goal.returns-then-rest-lt-PREFIX
@@ -22,4 +22,5 @@ pub returns : goal.returns
 returns c =
     let rest = c.args.rest.now in
     let n = c.read_u32-length.result in
-    (omega arith, frame_from_parts rest n (stated rest n c.read_u32-length.ensures) (omega arith) (omega arith))
+    let e = frame_from_parts rest n (stated rest n c.read_u32-length.ensures) (omega arith) (omega arith) in
+    (omega arith, e, (stream_is_frame rest (take n (drop 4 rest)) (drop (4 + n) rest) (λ i. omega (arith, c.type_inv.rest i)) e).0)

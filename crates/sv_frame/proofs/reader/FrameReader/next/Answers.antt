@@ -1,8 +1,8 @@
-use Rattle.std.proofs.Common.{◌≡◌, Some, None, List, ℕ, ◌+◌, ◌-◌, ◌≤◌, ◌<◌, take, drop, length, refl, sym, ap, subst, ◌∙◌, arith, option_map, length-take, length-drop}
-use Rattle.sv_frame.specs.Frames.{first_frame, too_long}
+use Rattle.std.proofs.Common.{◌≡◌, Some, None, List, ℕ, ◌+◌, ◌-◌, ◌≤◌, ◌<◌, ◌++◌, take, drop, length, refl, sym, ap, subst, ◌∙◌, arith, option_map, length-take, length-drop}
+use Rattle.sv_frame.specs.Frames.{frame, first_frame, too_long}
 use Rattle.sv_frame.proofs.Fronts.{room_if_neither, no_frame_if_too_long, some_pair}
 use Rattle.sv_frame.proofs.Room.{part, part-payload, part-after}
-use Rattle.sv_frame.proofs.Splitting.{split-none, split-some}
+use Rattle.sv_frame.proofs.Splitting.{split-none, takes_off}
 use Rattle.sv_frame.proofs.reader.FrameReader.next.Goals as goal
 
 pub returns-in-Whole : goal.returns-in-Whole
@@ -22,8 +22,10 @@ returns-in-Whole c =
     let after : drop (4 + n) (part start end room) ≡ part (start + 4 + n) end c.self.inside.room.items =
     sym (ap (part (start + 4 + n) end) (sym c.deref.ensures.value) ∙ part-after room start n total (end - (start + 4 + n)) (start + 4 + n) (omega arith) (omega arith)) in
     let whole : first_frame c.args.self.now ≡ Some (take k (drop (start + 4) c.deref-in-Whole.result.now), part (start + 4 + n) end c.self.inside.room.items) =
-    ap first_frame (sym same) ∙ (found.1 ∙ some_pair _ _ _ _ payload after) in (
-      (refl, λ _. tt, (whole, split-some c.args.self.now _ _ whole)),
+    ap first_frame (sym same) ∙ (found.1 ∙ some_pair _ _ _ _ payload after) in
+    let joined : c.args.self.now ≡ frame (take k (drop (start + 4) c.deref-in-Whole.result.now)) ++ part (start + 4 + n) end c.self.inside.room.items =
+    sym same ∙ (found.2 ∙ (ap (λ (l : List ℕ). frame l ++ drop (4 + n) (part start end room)) payload ∙ ap (λ (l : List ℕ). frame (take k (drop (start + 4) c.deref-in-Whole.result.now)) ++ l) after)) in (
+      (refl, λ _. tt, takes_off _ _ _ whole joined),
       record { answer = ap (option_map (λ (first : List ℕ × List ℕ). first.0)) whole; room = tt; rest = tt },
     )
 
