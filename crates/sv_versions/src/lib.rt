@@ -1,0 +1,8 @@
+//! The values of objects at positions that a client holds.
+#![tactic(auto)]
+
+mod count;
+mod history;
+
+
+
