@@ -2,14 +2,14 @@
 use Rattle.std.proofs.Common.{◌≡◌, ℕ, zero, suc, ◌+◌, ◌-◌, ◌<◌, ◌≤◌, ◌⊎◌, inl, inr, Bool, true, false, cond, not, ◌||◌, ◌&&◌, eqb, ltb, leb, List, [], ◌∷◌, ◌++◌, length, get_or, take, drop, map, refl, sym, ap, ◌∙◌, arith}
 use Rattle.std.specs.List.{filter, list_any, count_by}
 use Rattle.std.proofs.lemmas.Bool.{cond-true, cond-false, lt-ltb, le-ltb, le-leb, lt-leb, and_from, and_left, and_right, cases_lt}
-use Rattle.std.proofs.lemmas.List.{get_or_default, drop_more}
+use Rattle.std.proofs.lemmas.List.{get_or_default, length-drop, get_or-drop}
 use Rattle.std.proofs.lemmas.List.Folds.{list_any_at, list_any_none}
 use Rattle.std.proofs.lemmas.List.Elements.{filter_agree}
 use Rattle.sv_versions.specs.declared.history.Version.{Version}
 use Rattle.sv_versions.specs.Held.{Held, versions_of, is_outdated, pruned, count_up_to}
 use Rattle.sv_versions.specs.Histories.{AscendsFrom, IsCountUpTo, held_at, tagged}
 use Rattle.sv_versions.proofs.Lists.{filter_back, filter_map_is, list_any_map_is}
-use Rattle.sv_versions.proofs.Rows.{own, ordered, not_after}
+use Rattle.sv_versions.proofs.Rows.{own, ordered, not_after, counted}
 
 -- some version stands behind a position and up to the commit
 abbrev stands_between : ℕ → ℕ → Version → Bool
@@ -82,3 +82,19 @@ filter_ascends t low (v ∷ vs) a = go (t v) (filter_ascends t (v.pos + 1) vs a.
     go : (b : Bool) → AscendsFrom (v.pos + 1) (filter t vs) → AscendsFrom low (cond b (v ∷ filter t vs) (filter t vs))
     go true r = (a.0, r)
     go false r = ascends_lower low (v.pos + 1) _ (omega (arith, a.0)) r
+
+left_one : (commit count : ℕ) (vs : List Version) → IsCountUpTo commit vs count → 0 < count → IsCountUpTo commit (drop (count - 1) vs) 1
+left_one commit count vs c n = record {
+  within = omega (arith, length-drop (count - 1) vs, c.within);
+  low = λ k d l. let zero_th : k ≡ 0 = omega arith in
+    let read : get_or (drop (count - 1) vs) k d ≡ get_or vs (count - 1 + k) d = get_or-drop (count - 1) vs k d in
+    omega (arith, ap (λ (v : Version). v.pos) read, c.low (count - 1 + k) d (omega arith));
+  high = λ k d l m. let read : get_or (drop (count - 1) vs) k d ≡ get_or vs (count - 1 + k) d = get_or-drop (count - 1) vs k d in
+    omega (arith, ap (λ (v : Version). v.pos) read, c.high (count - 1 + k) d (omega arith) (omega (arith, length-drop (count - 1) vs)));
+}
+
+pub few_left : (commit count x newest : ℕ) (vs : List Version) (d : Version) → AscendsFrom 0 vs → IsCountUpTo commit vs count → 0 < count → newest ≡ (get_or vs (count - 1) d).pos → count_up_to (tagged x (filter (λ v. leb newest v.pos) vs)) x commit ≤ 1
+few_left commit count x newest vs d a c n e =
+    let one : 1 ≡ count_up_to (tagged x (drop (count - 1) vs)) x commit = counted x commit 1 (drop (count - 1) vs) (left_one commit count vs c n) in
+    let back : filter (λ v. leb newest v.pos) vs ≡ drop (count - 1) vs = kept_back count newest vs d a n c.within e in
+    omega (arith, one, ap (λ ws. count_up_to (tagged x ws) x commit) back)

@@ -1,7 +1,7 @@
 -- The versions of one object: what is found, put and pruned, by the number of them up to a position.
 use Rattle.std.proofs.Common.{◌≡◌, ℕ, zero, suc, ◌+◌, ◌-◌, ◌<◌, ◌≤◌, Bool, true, false, cond, not, ◌||◌, ◌&&◌, eqb, ltb, leb, List, [], ◌∷◌, ◌++◌, length, get_or, take, drop, map, Option, Some, None, option_map, refl, sym, ap, ◌∙◌, arith, suc-add}
 use Rattle.std.specs.List.{filter, list_any, count_by}
-use Rattle.std.proofs.lemmas.Bool.{cond-true, cond-false, eq-eqb, lt-ltb, le-ltb, le-leb, lt-leb, and_from, and_right}
+use Rattle.std.proofs.lemmas.Bool.{cond-true, cond-false, eq-eqb, lt-ltb, le-ltb, le-leb, lt-leb}
 use Rattle.std.proofs.lemmas.List.{get_or_default, take_all, length-take-le, length-map}
 use Rattle.std.proofs.lemmas.List.Sums.{length-filter}
 use Rattle.sv_versions.specs.declared.history.Version.{Version}
@@ -102,10 +102,10 @@ latest_none x (v ∷ vs) z = absurd (omega arith)
 
 pub counted : (x pos count : ℕ) (vs : List Version) → IsCountUpTo pos vs count → count ≡ count_up_to (tagged x vs) x pos
 counted x pos count vs c =
-    let kept : filter (λ h. eqb h.object x && leb h.pos pos) (tagged x vs) ≡ tagged x (take count vs) =
-      filter_map_is (held_at x) (λ h. eqb h.object x && leb h.pos pos) vs
-      ∙ ap (λ ws. tagged x ws) (filter_front (λ v. eqb x x && leb v.pos pos) vs count
-        (λ k d l w. and_from _ _ (eq-eqb x x refl) (le-leb _ pos (c.low k d l)))
-        (λ k d l w. and_right _ _ (lt-leb _ pos (c.high k d l w)))) in
+    let kept : filter (λ h. leb h.pos pos) (tagged x vs) ≡ tagged x (take count vs) =
+      filter_map_is (held_at x) (λ h. leb h.pos pos) vs
+      ∙ ap (λ ws. tagged x ws) (filter_front (λ v. leb v.pos pos) vs count
+        (λ k d l w. le-leb _ pos (c.low k d l)) (λ k d l w. lt-leb _ pos (c.high k d l w))) in
     sym (length-take-le count vs c.within) ∙ sym (length-map (take count vs) (held_at x)) ∙ ap length (sym kept)
-    ∙ length-filter (λ h. eqb h.object x && leb h.pos pos) (tagged x vs)
+    ∙ length-filter (λ h. leb h.pos pos) (tagged x vs)
+    ∙ ap (λ hs. count_by (λ h. leb h.pos pos) hs) (sym (own x vs))

@@ -53,7 +53,7 @@ pruned commit held = filter (λ h. not (is_outdated commit held h)) held
 
 -- how many values of an object stand at or below a position
 abbrev pub count_up_to : List Held → ℕ → ℕ → ℕ
-count_up_to held x pos = count_by (λ h. h.object == x && nat_le h.pos pos) held
+count_up_to held x pos = count_by (λ h. nat_le h.pos pos) (versions_of x held)
 
 -- by object, and by position within an object
 abbrev pub comes_before : Held → Held → Bool

@@ -1,4 +1,4 @@
-ghost use Rattle.std.specs.Prelude.{◌≡◌, ℕ, [], ◌++◌, ◌∷◌, ◌-◌, ◌<◌, length, option_copied, IfOk, OnOk, OnErr};
+ghost use Rattle.std.specs.Prelude.{◌≡◌, ℕ, [], ◌++◌, ◌∷◌, ◌+◌, ◌-◌, ◌≤◌, length, option_copied, IfOk, OnOk, OnErr};
 ghost use Rattle.sv_versions.specs.Held.{read_below, latest, put_in, pruned, count_up_to};
 
 use std::alloc::{AllocError, Global};
@@ -73,9 +73,17 @@ impl History {
         Some(&self.versions[count - 1].value)
     }
 
+    /// How many versions stand at or below a commit.
+    pub fn old_versions(&self, commit: u32) -> usize
+        ensures { (x : ℕ) → result ≡ count_up_to (tagged x self.now) x commit }
+    {
+        count_versions(&self.versions, commit)
+    }
+
     pub fn put(&mut self, pos: u32, value: Value) -> Result<(), AllocError>
         ensures ok { OnOk result ((x : ℕ) → tagged x self.new ≡ put_in (tagged x self.old) (held_at x (record { pos = pos; value = value }))) }
         ensures err { OnErr result (self.new ≡ self.old) }
+        ensures longer { length self.new ≤ length self.old + 1 }
     {
         let count = count_versions(&self.versions, pos);
         let version = Version { pos, value };
@@ -88,7 +96,9 @@ impl History {
     }
 
     pub fn prune(&mut self, commit: u32)
-        ensures { (x : ℕ) → tagged x self.new ≡ pruned commit (tagged x self.old) }
+        ensures kept { (x : ℕ) → tagged x self.new ≡ pruned commit (tagged x self.old) }
+        ensures few { (x : ℕ) → count_up_to (tagged x self.new) x commit ≤ 1 }
+        ensures shorter { length self.new ≤ length self.old }
     {
         let count = count_versions(&self.versions, commit);
         if count > 1 {
