@@ -2,7 +2,8 @@
 #![tactic(auto)]
 
 mod count;
+mod crowded;
 mod history;
+mod store;
 
-
-
+pub use store::Versions;
