@@ -92,12 +92,12 @@ put_from b zero (vs ∷ rows) h row e l p =
     let mine : tagged b row ≡ put_in (tagged b vs) h = subst (λ (c : ℕ). tagged c row ≡ put_in (tagged c vs) h) here p in
     let rest = flat_from (b + 1) rows in
     let front : filter (λ k. comes_before k h) (tagged b vs ++ rest) ≡ filter (λ k. comes_before k h) (tagged b vs) =
-      filter-append (λ k. comes_before k h) (tagged b vs) rest
-      ∙ ap (λ hs. filter (λ k. comes_before k h) (tagged b vs) ++ hs) (rows_before (b + 1) rows h (omega arith))
-      ∙ append-nil (filter (λ k. comes_before k h) (tagged b vs)) in
+    filter-append (λ k. comes_before k h) (tagged b vs) rest
+    ∙ ap (λ hs. filter (λ k. comes_before k h) (tagged b vs) ++ hs) (rows_before (b + 1) rows h (omega arith))
+    ∙ append-nil (filter (λ k. comes_before k h) (tagged b vs)) in
     let back : filter (λ k. comes_before h k) (tagged b vs ++ rest) ≡ filter (λ k. comes_before h k) (tagged b vs) ++ rest =
-      filter-append (λ k. comes_before h k) (tagged b vs) rest
-      ∙ ap (λ hs. filter (λ k. comes_before h k) (tagged b vs) ++ hs) (rows_behind (b + 1) rows h (omega arith)) in
+    filter-append (λ k. comes_before h k) (tagged b vs) rest
+    ∙ ap (λ hs. filter (λ k. comes_before h k) (tagged b vs) ++ hs) (rows_behind (b + 1) rows h (omega arith)) in
     ap (λ hs. hs ++ rest) mine
     ∙ append_assoc (filter (λ k. comes_before k h) (tagged b vs)) (h ∷ filter (λ k. comes_before h k) (tagged b vs)) rest
     ∙ ap (λ hs. filter (λ k. comes_before k h) (tagged b vs) ++ h ∷ hs) (sym back)
@@ -105,11 +105,11 @@ put_from b zero (vs ∷ rows) h row e l p =
 put_from b (suc k) (vs ∷ rows) h row e l p =
     let rest = flat_from (b + 1) rows in
     let front : filter (λ k. comes_before k h) (tagged b vs ++ rest) ≡ tagged b vs ++ filter (λ k. comes_before k h) rest =
-      filter-append (λ k. comes_before k h) (tagged b vs) rest
-      ∙ ap (λ hs. hs ++ filter (λ k. comes_before k h) rest) (earlier_before b vs h (omega arith)) in
+    filter-append (λ k. comes_before k h) (tagged b vs) rest
+    ∙ ap (λ hs. hs ++ filter (λ k. comes_before k h) rest) (earlier_before b vs h (omega arith)) in
     let back : filter (λ k. comes_before h k) (tagged b vs ++ rest) ≡ filter (λ k. comes_before h k) rest =
-      filter-append (λ k. comes_before h k) (tagged b vs) rest
-      ∙ ap (λ hs. hs ++ filter (λ k. comes_before h k) rest) (earlier_behind b vs h (omega arith)) in
+    filter-append (λ k. comes_before h k) (tagged b vs) rest
+    ∙ ap (λ hs. hs ++ filter (λ k. comes_before h k) rest) (earlier_behind b vs h (omega arith)) in
     ap (λ hs. tagged b vs ++ hs) (put_from (b + 1) k rows h row (omega arith) (omega arith) p)
     ∙ sym (append_assoc (tagged b vs) (filter (λ k. comes_before k h) rest) (h ∷ filter (λ k. comes_before h k) rest))
     ∙ ap (λ hs. hs ++ h ∷ filter (λ k. comes_before h k) rest) (sym front)
@@ -122,7 +122,7 @@ same_prune : (commit b : ℕ) (all : List Held) (vs : List Version) → versions
 same_prune commit b all vs e =
     filter_map_is (held_at b) (λ h. not (is_outdated commit all h)) vs
     ∙ ap (λ ws. tagged b ws) (filter_agree (λ v. not (is_outdated commit all (held_at b v))) (λ v. not (is_outdated commit (tagged b vs) (held_at b v)))
-      (λ v. ap (λ hs. not (list_any (λ k. ltb v.pos k.pos && leb k.pos commit) hs)) e) vs)
+    (λ v. ap (λ hs. not (list_any (λ k. ltb v.pos k.pos && leb k.pos commit) hs)) e) vs)
     ∙ sym (filter_map_is (held_at b) (λ h. not (is_outdated commit (tagged b vs) h)) vs)
 
 prune_from : (commit b : ℕ) (all : List Held) (rows done : List (List Version)) → length done ≡ length rows → ((k : ℕ) → k < length rows → versions_of (b + k) all ≡ versions_of (b + k) (tagged (b + k) (get_or rows k []))) → ((k : ℕ) → k < length rows → tagged (b + k) (get_or done k []) ≡ pruned commit (tagged (b + k) (get_or rows k []))) → flat_from b done ≡ filter (λ h. not (is_outdated commit all h)) (flat_from b rows)
@@ -135,8 +135,8 @@ prune_from commit b all (vs ∷ rows) (ds ∷ done) l same each =
     let of_b : versions_of b all ≡ versions_of b (tagged b vs) = subst (λ (c : ℕ). versions_of c all ≡ versions_of c (tagged c vs)) here (same 0 (omega arith)) in
     ap (λ hs. hs ++ flat_from (b + 1) done) (mine ∙ sym (same_prune commit b all vs of_b))
     ∙ ap (λ hs. filter (λ h. not (is_outdated commit all h)) (tagged b vs) ++ hs) (prune_from commit (b + 1) all rows done (omega arith)
-      (λ k h. let next : b + suc k ≡ b + 1 + k = omega arith in subst (λ (c : ℕ). versions_of c all ≡ versions_of c (tagged c (get_or rows k []))) next (same (suc k) (omega arith)))
-      (λ k h. let next : b + suc k ≡ b + 1 + k = omega arith in subst (λ (c : ℕ). tagged c (get_or done k []) ≡ pruned commit (tagged c (get_or rows k []))) next (each (suc k) (omega arith))))
+    (λ k h. let next : b + suc k ≡ b + 1 + k = omega arith in subst (λ (c : ℕ). versions_of c all ≡ versions_of c (tagged c (get_or rows k []))) next (same (suc k) (omega arith)))
+    (λ k h. let next : b + suc k ≡ b + 1 + k = omega arith in subst (λ (c : ℕ). tagged c (get_or done k []) ≡ pruned commit (tagged c (get_or rows k []))) next (each (suc k) (omega arith))))
     ∙ sym (filter-append (λ h. not (is_outdated commit all h)) (tagged b vs) (flat_from (b + 1) rows))
 
 pub prune_flat : (commit : ℕ) (rows done : List (List Version)) → length done ≡ length rows → ((k : ℕ) → k < length rows → tagged k (get_or done k []) ≡ pruned commit (tagged k (get_or rows k []))) → flat done ≡ pruned commit (flat rows)

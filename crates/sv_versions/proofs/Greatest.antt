@@ -9,10 +9,10 @@ abbrev pub joined : Option Held → Option Held → Option Held
 joined None o = o
 joined (Some h) o = Some (later_of h o)
 
-first_later : (h k : Held) → k.pos < h.pos → later_of h (Some k) ≡ h
+pub first_later : (h k : Held) → k.pos < h.pos → later_of h (Some k) ≡ h
 first_later h k l = cond-true (ltb k.pos h.pos) h k (lt-ltb k.pos h.pos l)
 
-second_later : (h k : Held) → h.pos ≤ k.pos → later_of h (Some k) ≡ k
+pub second_later : (h k : Held) → h.pos ≤ k.pos → later_of h (Some k) ≡ k
 second_later h k l = cond-false (ltb k.pos h.pos) h k (le-ltb k.pos h.pos l)
 
 assoc_cases : (h k m : Held) → (k.pos < h.pos) ⊎ (h.pos ≤ k.pos) → (m.pos < k.pos) ⊎ (k.pos ≤ m.pos) → later_of (later_of h (Some k)) (Some m) ≡ later_of h (Some (later_of k (Some m)))
@@ -44,7 +44,7 @@ abbrev pub IsBelow : Option Held → ℕ → Type 0
 IsBelow None pos = Unit {0}
 IsBelow (Some h) pos = h.pos < pos
 
-later_below : (h : Held) (o : Option Held) (pos : ℕ) → h.pos < pos → IsBelow o pos → (later_of h o).pos < pos
+pub later_below : (h : Held) (o : Option Held) (pos : ℕ) → h.pos < pos → IsBelow o pos → (later_of h o).pos < pos
 later_below h None pos l b = l
 later_below h (Some k) pos l b = go (cases_lt k.pos h.pos)
   where
@@ -102,6 +102,7 @@ order k h = by_object (cases_order k.object h.object)
     by_pos e (inl p) = same (not_before k h (omega arith) (λ _. omega arith)) (not_before h k (omega arith) (λ _. omega arith)) e p
     by_pos e (inr (inl p)) = before (is_before k h (inr (e, p))) (not_before h k (omega arith) (λ _. omega arith)) (λ _. p)
     by_pos e (inr (inr p)) = behind (not_before k h (omega arith) (λ _. omega arith)) (is_before h k (inr (sym e, p))) (λ _. p)
+
     by_object : (k.object ≡ h.object) ⊎ ((k.object < h.object) ⊎ (h.object < k.object)) → Order k h
     by_object (inl e) = by_pos e (cases_order k.pos h.pos)
     by_object (inr (inl l)) = before (is_before k h (inl l)) (not_before h k (omega arith) (λ f. absurd (omega arith))) (λ f. absurd (omega arith))
@@ -129,6 +130,7 @@ added t h = cond (t h) (Some h) None
 module _ (x : ℕ) (t : Held → Bool) (asks : AsksFor x t) (h : Held) where
   abbrev front_of : List Held → Option Held
   front_of hs = greatest (filter t (filter (λ k. comes_before k h) hs))
+
   abbrev back_of : List Held → Option Held
   back_of hs = greatest (filter t (filter (λ k. comes_before h k) hs))
 
@@ -140,3 +142,78 @@ module _ (x : ℕ) (t : Held → Bool) (asks : AsksFor x t) (h : Held) where
       go true true e f r = subst (λ o. IsBelow o pos) (sym (cond_taken t k _ _ f e)) (later_below k (front_of hs) pos (l k e f) r)
       go true false e f r = subst (λ o. IsBelow o pos) (sym (cond_left t k _ _ f)) r
       go false b e f r = subst (λ o. IsBelow o pos) (sym (cond_passed t k _ _ e)) r
+
+  added_below : (k : Held) → t k ≡ true → (k.object ≡ h.object → h.pos < k.pos) → IsBelow (added t h) k.pos
+  added_below k e l = go (t h) refl
+    where
+      go : (b : Bool) → t h ≡ b → IsBelow (cond b (Some h) None) k.pos
+      go true f = l (asks.of k e ∙ sym (asks.of h f))
+      go false f = tt
+
+  joined_none : (o : Option Held) → joined o None ≡ o
+  joined_none None = refl
+  joined_none (Some g) = refl
+
+  framed : (k : Held) (hs : List Held) (f b g : Option Held) → front_of (k ∷ hs) ≡ f → back_of (k ∷ hs) ≡ b → greatest (filter t (k ∷ hs)) ≡ g → joined f (joined (added t h) b) ≡ joined g (added t h) → joined (front_of (k ∷ hs)) (joined (added t h) (back_of (k ∷ hs))) ≡ joined (greatest (filter t (k ∷ hs))) (added t h)
+  framed k hs f b g fe be ge core =
+      ap (λ o. joined o (joined (added t h) (back_of (k ∷ hs)))) fe ∙ ap (λ o. joined f (joined (added t h) o)) be ∙ core
+      ∙ ap (λ o. joined o (added t h)) (sym ge)
+
+  -- what stands before the element stands before what stands behind it
+  between : (k g : Held) → t k ≡ true → t g ≡ true → comes_before g h ≡ true → comes_before k h ≡ false → (k.object ≡ h.object → h.pos < k.pos) → Order g h → g.pos < k.pos
+  between k g e p q n l (behind u v w) = absurd (both_ways _ u q)
+  between k g e p q n l (same u v w y) = absurd (both_ways _ u q)
+  between k g e p q n l (before u v w) = go (cases_order k.object h.object)
+    where
+      go : (k.object ≡ h.object) ⊎ ((k.object < h.object) ⊎ (h.object < k.object)) → g.pos < k.pos
+      go (inl z) = omega (arith, w (asks.of g p ∙ sym (asks.of k e) ∙ z), l z)
+      go (inr (inl z)) = absurd (both_ways _ n (is_before k h (inl z)))
+      go (inr (inr z)) = absurd (both_ways _ (not_before g h (omega (arith, asks.of g p, asks.of k e)) (λ f. absurd (omega (arith, asks.of g p, asks.of k e)))) q)
+
+  one_more : (k : Held) (hs : List Held) → (t k ≡ true) ⊎ (t k ≡ false) → Order k h → joined (front_of hs) (joined (added t h) (back_of hs)) ≡ joined (greatest (filter t hs)) (added t h) → joined (front_of (k ∷ hs)) (joined (added t h) (back_of (k ∷ hs))) ≡ joined (greatest (filter t (k ∷ hs))) (added t h)
+  one_more k hs (inr e) o rest =
+      framed k hs (front_of hs) (back_of hs) (greatest (filter t hs)) (cond_passed t k _ _ e) (cond_passed t k _ _ e) (ap greatest (cond-false (t k) _ _ e)) rest
+  one_more k hs (inl e) (before f n l) rest =
+      framed k hs (joined (Some k) (front_of hs)) (back_of hs) (joined (Some k) (greatest (filter t hs))) (cond_taken t k _ _ f e) (cond_left t k _ _ n) (ap greatest (cond-true (t k) _ _ e))
+      (joined_assoc (Some k) (front_of hs) (joined (added t h) (back_of hs)) ∙ ap (λ o. joined (Some k) o) rest
+      ∙ sym (joined_assoc (Some k) (greatest (filter t hs)) (added t h)))
+  one_more k hs (inl e) (behind n f l) rest =
+      framed k hs (front_of hs) (joined (Some k) (back_of hs)) (joined (Some k) (greatest (filter t hs))) (cond_left t k _ _ n) (cond_taken t k _ _ f e) (ap greatest (cond-true (t k) _ _ e))
+      (ap (λ o. joined (front_of hs) o) (swapped (added t h) (back_of hs) k (added_below k e l))
+      ∙ swapped (front_of hs) (joined (added t h) (back_of hs)) k (front_below hs k.pos (λ g p q. between k g e p q n l (order g h)))
+      ∙ ap (λ o. joined (Some k) o) rest
+      ∙ sym (joined_assoc (Some k) (greatest (filter t hs)) (added t h)))
+  one_more k hs (inl e) (same n m ob po) rest =
+      framed k hs (front_of hs) (back_of hs) (joined (Some k) (greatest (filter t hs))) (cond_left t k _ _ n) (cond_left t k _ _ m) (ap greatest (cond-true (t k) _ _ e))
+      (rest ∙ sym (joined_assoc (Some k) (greatest (filter t hs)) (added t h) ∙ keeps (t h) (sym (asks.by_place k h ob po) ∙ e)))
+    where
+      keeps : (b : Bool) → b ≡ true → joined (Some k) (joined (greatest (filter t hs)) (cond b (Some h) None)) ≡ joined (greatest (filter t hs)) (cond b (Some h) None)
+      keeps true z = absorbed k h (greatest (filter t hs)) (omega arith)
+      keeps false z = absurd (both_ways _ refl z)
+
+  put_core : (hs : List Held) → joined (front_of hs) (joined (added t h) (back_of hs)) ≡ joined (greatest (filter t hs)) (added t h)
+  put_core [] = joined_none (added t h)
+  put_core (k ∷ hs) = one_more k hs (cases_Bool (t k)) (order k h) (put_core hs)
+
+  added_first : (b : Bool) (hs : List Held) → greatest (cond b (h ∷ hs) hs) ≡ joined (cond b (Some h) None) (greatest hs)
+  added_first true hs = refl
+  added_first false hs = refl
+
+  added_alone : (b : Bool) → greatest (cond b (h ∷ []) []) ≡ cond b (Some h) None
+  added_alone true = refl
+  added_alone false = refl
+
+  pub found_put : (hs : List Held) → greatest (filter t (put_in hs h)) ≡ joined (greatest (filter t hs)) (added t h)
+  found_put hs =
+      let fronts = filter (λ k. comes_before k h) hs in
+      let backs = filter (λ k. comes_before h k) hs in
+      ap greatest (filter-append t fronts (h ∷ backs))
+      ∙ greatest-append (filter t fronts) (filter t (h ∷ backs))
+      ∙ ap (λ o. joined (greatest (filter t fronts)) o) (added_first (t h) (filter t backs))
+      ∙ put_core hs
+
+  pub found_end : (hs : List Held) → greatest (filter t (hs ++ h ∷ [])) ≡ joined (greatest (filter t hs)) (added t h)
+  found_end hs =
+      ap greatest (filter-append t hs (h ∷ []))
+      ∙ greatest-append (filter t hs) (filter t (h ∷ []))
+      ∙ ap (λ o. joined (greatest (filter t hs)) o) (added_alone (t h))

@@ -5,3 +5,4 @@ pub mod Prunes
 pub mod Flats
 pub mod Prunings
 pub mod Greatest
+pub mod Laws

@@ -87,10 +87,10 @@ left_one : (commit count : ℕ) (vs : List Version) → IsCountUpTo commit vs co
 left_one commit count vs c n = record {
   within = omega (arith, length-drop (count - 1) vs, c.within);
   low = λ k d l. let zero_th : k ≡ 0 = omega arith in
-    let read : get_or (drop (count - 1) vs) k d ≡ get_or vs (count - 1 + k) d = get_or-drop (count - 1) vs k d in
-    omega (arith, ap (λ (v : Version). v.pos) read, c.low (count - 1 + k) d (omega arith));
+      let read : get_or (drop (count - 1) vs) k d ≡ get_or vs (count - 1 + k) d = get_or-drop (count - 1) vs k d in
+      omega (arith, ap (λ (v : Version). v.pos) read, c.low (count - 1 + k) d (omega arith));
   high = λ k d l m. let read : get_or (drop (count - 1) vs) k d ≡ get_or vs (count - 1 + k) d = get_or-drop (count - 1) vs k d in
-    omega (arith, ap (λ (v : Version). v.pos) read, c.high (count - 1 + k) d (omega arith) (omega (arith, length-drop (count - 1) vs)));
+      omega (arith, ap (λ (v : Version). v.pos) read, c.high (count - 1 + k) d (omega arith) (omega (arith, length-drop (count - 1) vs)));
 }
 
 pub few_left : (commit count x newest : ℕ) (vs : List Version) (d : Version) → AscendsFrom 0 vs → IsCountUpTo commit vs count → 0 < count → newest ≡ (get_or vs (count - 1) d).pos → count_up_to (tagged x (filter (λ v. leb newest v.pos) vs)) x commit ≤ 1

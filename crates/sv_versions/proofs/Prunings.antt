@@ -32,8 +32,8 @@ pruned_twice commit hs =
     filter_back (λ h. not (is_outdated commit (pruned commit hs) h)) (pruned commit hs) 0
     (λ k d l n. absurd (omega arith))
     (λ k d l n. let h = get_or (pruned commit hs) k d in
-      let kept : is_outdated commit hs h ≡ false = not-true _ (filter_passes (λ g. not (is_outdated commit hs g)) hs k d n) in
-      not_from_false _ (none_in_part (λ g. ltb h.pos g.pos && leb g.pos commit) (λ g. eqb g.object h.object) (λ g. not (is_outdated commit hs g)) hs kept))
+    let kept : is_outdated commit hs h ≡ false = not-true _ (filter_passes (λ g. not (is_outdated commit hs g)) hs k d n) in
+    not_from_false _ (none_in_part (λ g. ltb h.pos g.pos && leb g.pos commit) (λ g. eqb g.object h.object) (λ g. not (is_outdated commit hs g)) hs kept))
 
 -- one version alone stays
 pub pruned_alone : (commit x : ℕ) (vs : List Version) → length vs ≤ 1 → pruned commit (tagged x vs) ≡ tagged x vs
@@ -41,7 +41,7 @@ pruned_alone commit x [] h = refl
 pruned_alone commit x (v ∷ []) h =
     cond-true (not (is_outdated commit (tagged x (v ∷ [])) (held_at x v))) _ _
     (not_from_false _ (ap (λ hs. list_any (λ k. ltb v.pos k.pos && leb k.pos commit) hs) (own x (v ∷ []))
-      ∙ or_from _ _ (and_left _ _ (le-ltb v.pos v.pos (omega arith))) refl))
+    ∙ or_from _ _ (and_left _ _ (le-ltb v.pos v.pos (omega arith))) refl))
 pruned_alone commit x (v ∷ (w ∷ vs)) h = absurd (omega arith)
 
 few_alone : (commit x : ℕ) (vs : List Version) → length vs ≤ 1 → count_up_to (tagged x vs) x commit ≤ 1
@@ -161,8 +161,8 @@ module _ (commit : ℕ) (crowded : List ObjectId) (rows done : List (List Versio
 
 pub new_listed : (n : ℕ) → AreListed [] (replicate n [])
 new_listed n = record {
-  listed = λ x h m. let none : get_or (replicate n []) x [] ≡ [] = get_or-replicate n x [] [] (omega (arith, length-replicate {A = List Version} n [])) in
-    absurd (omega (arith, ap (λ (r : List Version). length r) none));
+  listed = λ x h m. let none : get_or {A = List Version} (replicate n []) x [] ≡ [] = get_or-replicate n x [] [] (omega (arith, length-replicate {A = List Version} n [])) in
+      absurd (omega (arith, ap (λ (r : List Version). length r) none));
 }
 
 pub more_listed : (crowded after : List ObjectId) (rows : List (List Version)) → AreListed crowded rows → ((x : ℕ) → is_listed x crowded ≡ true → is_listed x after ≡ true) → AreListed after rows

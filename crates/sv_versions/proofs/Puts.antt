@@ -26,15 +26,15 @@ pub put_is : (x pos i j : ℕ) (vs : List Version) (w : Version) → w.pos ≡ p
 put_is x pos i j vs w e p =
     let h = held_at x w in
     let front : filter (λ k. comes_before k h) (tagged x vs) ≡ tagged x (take i vs) =
-      filter_map_is (held_at x) (λ k. comes_before k h) vs
-      ∙ ap (λ ws. tagged x ws) (filter_front (λ v. comes_before (held_at x v) h) vs i
-        (λ k d l n. same_object x _ _ ∙ lt-ltb _ _ (omega (arith, e, p.before k d l n)))
-        (λ k d l n. same_object x _ _ ∙ le-ltb _ _ (omega (arith, e, p.not_before k d l n)))) in
+    filter_map_is (held_at x) (λ k. comes_before k h) vs
+    ∙ ap (λ ws. tagged x ws) (filter_front (λ v. comes_before (held_at x v) h) vs i
+    (λ k d l n. same_object x _ _ ∙ lt-ltb _ _ (omega (arith, e, p.before k d l n)))
+    (λ k d l n. same_object x _ _ ∙ le-ltb _ _ (omega (arith, e, p.not_before k d l n)))) in
     let back : filter (λ k. comes_before h k) (tagged x vs) ≡ tagged x (drop j vs) =
-      filter_map_is (held_at x) (λ k. comes_before h k) vs
-      ∙ ap (λ ws. tagged x ws) (filter_back (λ v. comes_before h (held_at x v)) vs j
-        (λ k d l n. same_object x _ _ ∙ le-ltb _ _ (omega (arith, e, p.not_behind k d l n)))
-        (λ k d l n. same_object x _ _ ∙ lt-ltb _ _ (omega (arith, e, p.behind k d l n)))) in
+    filter_map_is (held_at x) (λ k. comes_before h k) vs
+    ∙ ap (λ ws. tagged x ws) (filter_back (λ v. comes_before h (held_at x v)) vs j
+    (λ k d l n. same_object x _ _ ∙ le-ltb _ _ (omega (arith, e, p.not_behind k d l n)))
+    (λ k d l n. same_object x _ _ ∙ lt-ltb _ _ (omega (arith, e, p.behind k d l n)))) in
     map-append (held_at x) (take i vs) (w ∷ drop j vs)
     ∙ ap (λ hs. hs ++ h ∷ tagged x (drop j vs)) (sym front) ∙ ap (λ hs. filter (λ k. comes_before k h) (tagged x vs) ++ h ∷ hs) (sym back)
 
@@ -49,17 +49,19 @@ put_ascends low zero j vs w a l ij n before behind =
     (l, ascends_dropped low (w.pos + 1) j vs a (λ k d h m. omega (arith, behind k d h m)))
 put_ascends low (suc i) j [] w a l ij n before behind = absurd (omega arith)
 put_ascends low (suc i) zero (v ∷ vs) w a l ij n before behind = absurd (omega arith)
-put_ascends low (suc i) (suc j) (v ∷ vs) w a l ij n before behind =
-    (a.0, put_ascends (v.pos + 1) i j vs w a.1 (omega (arith, before 0 v (omega arith) (omega arith))) (omega arith) (omega arith)
-      (λ k d h m. before (suc k) d (omega arith) (omega arith)) (λ k d h m. behind (suc k) d (omega arith) (omega arith)))
+put_ascends low (suc i) (suc j) (v ∷ vs) w a l ij n before behind = (
+  a.0,
+  put_ascends (v.pos + 1) i j vs w a.1 (omega (arith, before 0 v (omega arith) (omega arith))) (omega arith) (omega arith)
+      (λ k d h m. before (suc k) d (omega arith) (omega arith)) (λ k d h m. behind (suc k) d (omega arith) (omega arith)),
+)
 
 -- where the last one counted stands elsewhere, the new one comes in behind it
 parts_apart : (pos count : ℕ) (vs : List Version) → AscendsFrom 0 vs → IsCountUpTo pos vs count → EndsApart pos vs count → Parts pos vs count count
 parts_apart pos count vs a c e = record {
   before = λ k d l n. let near : (get_or vs k d).pos ≤ (get_or vs (count - 1) d).pos = not_after 0 vs k (count - 1) d a (omega arith) (omega (arith, c.within)) in
-    let top : (get_or vs (count - 1) d).pos ≤ pos = c.low (count - 1) d (omega arith) in
-    let not_there : (get_or vs (count - 1) d).pos ≡ pos → ⊥ = e.apart d (omega arith) in
-    omega arith;
+      let top : (get_or vs (count - 1) d).pos ≤ pos = c.low (count - 1) d (omega arith) in
+      let not_there : (get_or vs (count - 1) d).pos ≡ pos → ⊥ = e.apart d (omega arith) in
+      omega arith;
   not_before = λ k d l n. omega (arith, c.high k d l n);
   not_behind = λ k d l n. c.low k d l;
   behind = c.high;

@@ -32,8 +32,8 @@ pub count_from : (pos : ℕ) (vs : List Version) (count : ℕ) (e : Version) →
 count_from pos vs count e a within last high = record {
   within = within;
   low = λ k d h. let near : (get_or vs k d).pos ≤ (get_or vs (count - 1) d).pos = not_after 0 vs k (count - 1) d a (omega arith) (omega arith) in
-    let same : get_or vs (count - 1) d ≡ get_or vs (count - 1) e = get_or_default vs (count - 1) d e (omega arith) in
-    omega (arith, near, ap (λ (v : Version). v.pos) same, last (omega arith));
+      let same : get_or vs (count - 1) d ≡ get_or vs (count - 1) e = get_or_default vs (count - 1) d e (omega arith) in
+      omega (arith, near, ap (λ (v : Version). v.pos) same, last (omega arith));
   high = high;
 }
 
@@ -55,8 +55,8 @@ below_is x pos count vs h c =
     ap (λ hs. filter (λ h. ltb h.pos pos) hs) (own x vs)
     ∙ filter_map_is (held_at x) (λ h. ltb h.pos pos) vs
     ∙ ap (λ ws. tagged x ws) (filter_front (λ v. ltb v.pos pos) vs count
-      (λ k d l w. lt-ltb _ pos (omega (arith, c.low k d l)))
-      (λ k d l w. le-ltb _ pos (omega (arith, c.high k d l w))))
+    (λ k d l w. lt-ltb _ pos (omega (arith, c.low k d l)))
+    (λ k d l w. le-ltb _ pos (omega (arith, c.high k d l w))))
 
 pub found_below_last : (x pos count : ℕ) (vs : List Version) (d : Version) → 0 < pos → 0 < count → AscendsFrom 0 vs → IsCountUpTo (pos - 1) vs count → found_below (tagged x vs) x pos ≡ Some (held_at x (get_or vs (count - 1) d))
 found_below_last x pos zero vs d h n a c = absurd (omega arith)
@@ -103,9 +103,9 @@ latest_none x (v ∷ vs) z = absurd (omega arith)
 pub counted : (x pos count : ℕ) (vs : List Version) → IsCountUpTo pos vs count → count ≡ count_up_to (tagged x vs) x pos
 counted x pos count vs c =
     let kept : filter (λ h. leb h.pos pos) (tagged x vs) ≡ tagged x (take count vs) =
-      filter_map_is (held_at x) (λ h. leb h.pos pos) vs
-      ∙ ap (λ ws. tagged x ws) (filter_front (λ v. leb v.pos pos) vs count
-        (λ k d l w. le-leb _ pos (c.low k d l)) (λ k d l w. lt-leb _ pos (c.high k d l w))) in
+    filter_map_is (held_at x) (λ h. leb h.pos pos) vs
+    ∙ ap (λ ws. tagged x ws) (filter_front (λ v. leb v.pos pos) vs count
+    (λ k d l w. le-leb _ pos (c.low k d l)) (λ k d l w. lt-leb _ pos (c.high k d l w))) in
     sym (length-take-le count vs c.within) ∙ sym (length-map (take count vs) (held_at x)) ∙ ap length (sym kept)
     ∙ length-filter (λ h. leb h.pos pos) (tagged x vs)
     ∙ ap (λ hs. count_by (λ h. leb h.pos pos) hs) (sym (own x vs))

@@ -1,14 +1,16 @@
 ghost use Rattle.std.specs.Prelude.{◌≡◌, ℕ, true, nat_lt, filter, length, slice_index_or, [], OnOk};
 ghost use Rattle.sv_versions.specs.Histories.{ArePruned, is_listed};
 
+use crate::history::History;
 use std::alloc::AllocError;
-
 use sv_world::ObjectId;
 
-use crate::history::History;
-
 /// Lists an object that has one version, since it may have two afterwards. One that has more is listed already.
-pub fn list_object(listed: &mut Vec<ObjectId>, object: ObjectId, count: usize) -> Result<(), AllocError>
+pub fn list_object(
+    listed: &mut Vec<ObjectId>,
+    object: ObjectId,
+    count: usize,
+) -> Result<(), AllocError>
     ensures there { OnOk result (count ≡ 1 → is_listed object.0 listed.new.items ≡ true) }
     ensures kept { (x : ℕ) → is_listed x listed.old.items ≡ true → is_listed x listed.new.items ≡ true }
 {
@@ -42,5 +44,9 @@ fn is_crowded(histories: &[History], object: ObjectId) -> bool
     ensures { result ≡ nat_lt 1 (length (slice_index_or histories.now object.0 [])) }
 {
     let index = object.0 as usize;
-    if index < histories.len() { histories[index].len() > 1 } else { false }
+    if index < histories.len() {
+        histories[index].len() > 1
+    } else {
+        false
+    }
 }

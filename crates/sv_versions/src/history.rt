@@ -1,10 +1,9 @@
 ghost use Rattle.std.specs.Prelude.{◌≡◌, ℕ, [], ◌++◌, ◌∷◌, ◌+◌, ◌-◌, ◌≤◌, length, option_copied, IfOk, OnOk, OnErr};
 ghost use Rattle.sv_versions.specs.Held.{read_below, latest, put_in, pruned, count_up_to};
 
+use crate::count::{count_versions, ends_at};
 use std::alloc::{AllocError, Global};
 use std::marker::Model;
-
-use crate::count::{count_versions, ends_at};
 use sv_world::{List, Value};
 
 /// A value at a position.
@@ -113,7 +112,10 @@ impl History {
         let mut versions = Vec::with_capacity(alloc, self.versions.len())?;
         for version in &self.versions {
             let value = copied(alloc, &version.value)?;
-            versions.push(Version { pos: version.pos, value })?;
+            versions.push(Version {
+                pos: version.pos,
+                value,
+            })?;
         }
         Ok(History { versions })
     }

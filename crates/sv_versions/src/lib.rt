@@ -7,3 +7,6 @@ mod history;
 mod store;
 
 pub use store::Versions;
+
+#[cfg(test)]
+mod tests;

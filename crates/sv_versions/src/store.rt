@@ -1,13 +1,11 @@
-ghost use Rattle.std.specs.Prelude.{◌≡◌, ℕ, [], ◌<◌, ◌≤◌, option_copied, IfOk, OnOk, OnErr};
-ghost use Rattle.sv_versions.specs.Held.{read_below, latest, put_in, pruned, count_up_to};
-
-use std::alloc::{AllocError, Global};
-use std::marker::Model;
-
-use sv_world::{ObjectId, Shape, Value};
+ghost use Rattle.std.specs.Prelude.{◌≡◌, ℕ, [], ◌∷◌, ◌++◌, ◌<◌, ◌≤◌, option_copied, IfOk, OnOk, OnErr};
+ghost use Rattle.sv_versions.specs.Held.{read_below, latest, put_in, pruned, count_up_to, AnswersAbove};
 
 use crate::crowded::{keep_crowded, list_object, prune_each};
 use crate::history::History;
+use std::alloc::{AllocError, Global};
+use std::marker::Model;
+use sv_world::{ObjectId, Shape, Value};
 
 /// The values of a world's objects at positions.
 ///
@@ -87,6 +85,7 @@ impl Versions {
     pub fn put(&mut self, object: ObjectId, pos: u32, value: Value) -> Result<(), AllocError>
         requires { object.0 < self.old.shape.objects }
         ensures ok { OnOk result (self.new ≡ record self.old { held = put_in self.old.held (record { object = object.0; pos = pos; value = value }) }) }
+        ensures answers { OnOk result ((told : ℕ) (all : _) → AnswersAbove told self.old.held all → AnswersAbove told self.new.held (all ++ record { object = object.0; pos = pos; value = value } ∷ [])) }
         ensures err { OnErr result (self.new ≡ self.old) }
     {
         let count = self.histories[object.0 as usize].len();
@@ -100,6 +99,7 @@ impl Versions {
     /// Looks only at the objects that may have more than one version.
     pub fn prune(&mut self, commit: u32)
         ensures kept { self.new ≡ record self.old { held = pruned commit self.old.held } }
+        ensures answers { (told : ℕ) (all : _) → told ≤ commit → AnswersAbove told self.old.held all → AnswersAbove commit self.new.held all }
         ensures few { (x : ℕ) → count_up_to self.new.held x commit ≤ 1 }
     {
         prune_each(&mut self.histories, &self.crowded, commit);

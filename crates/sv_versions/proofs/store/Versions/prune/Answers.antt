@@ -1,5 +1,7 @@
-use Rattle.std.proofs.Common.{◌≡◌, List, ap, ◌∙◌}
-use Rattle.sv_versions.specs.Held.{Held, Store}
+use Rattle.std.proofs.Common.{◌≡◌, List, ap, ◌∙◌, sym, subst}
+use Rattle.sv_versions.specs.Held.{Held, Store, AnswersAbove}
+use Rattle.sv_versions.specs.Histories.{flat}
+use Rattle.sv_versions.proofs.Laws.{prune_answers}
 use Rattle.sv_versions.proofs.Prunings.{flat_pruned, flat_few, still_listed}
 use Rattle.sv_versions.proofs.store.Versions.prune.Goals as goal
 
@@ -19,3 +21,9 @@ pub returns-clause-few : goal.returns-clause-few
 returns-clause-few c =
     let done = rw c.deref.ensures.value at c.prune_each.ensures in
     flat_few _ _ _ _ c.self.invariant.1 done
+
+pub returns-clause-answers : goal.returns-clause-answers
+returns-clause-answers c = λ told all l a.
+    let done = rw c.deref.ensures.value at c.prune_each.ensures in
+    let was : AnswersAbove told (flat c.self.inside.histories.items) all = subst (λ (s : Store). AnswersAbove told s.held all) (sym c.self.view_is) a in
+    rw (flat_pruned _ _ _ _ c.self.invariant.1 done) (prune_answers told c.args.commit _ all l was)
