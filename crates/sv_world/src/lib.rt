@@ -8,12 +8,14 @@ mod copy;
 mod list;
 mod measure;
 mod names;
+#[cfg(test)]
+mod tests;
 mod text;
 mod world;
 
 pub use action::{Action, Cond, Expr, Point, Stmt};
 pub use boxed::Boxed;
-pub use check::{BadAction, check_action, is_ascending};
+pub use check::{BadAction, check_action, good_actions_have_no_fault, is_ascending};
 pub use copy::{copy_action, copy_objects, copy_value, copy_values};
 pub use list::List;
 pub use names::is_in_mask;
