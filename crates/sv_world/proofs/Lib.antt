@@ -1,5 +1,6 @@
 pub mod Ascending
 pub mod Bases
+pub mod Good
 pub mod Influences
 pub mod Masks
 pub mod Members

@@ -61,10 +61,10 @@ abbrev pub first_of : List (Bool × BadAction) → Option BadAction
 first_of [] = None
 first_of (c ∷ cs) = if c.0 then Some c.1 else first_of cs
 
--- The first of the eleven causes for which an action is refused in a shape, if one applies.
-unfoldable pub first_fault_of_action : Shape → Action → Option BadAction
-first_fault_of_action shape a = first_of
-    ((has_no_reads a, NoReads)
+-- The eleven causes in order, each with whether it applies.
+abbrev pub causes : Shape → Action → List (Bool × BadAction)
+causes shape a =
+    (has_no_reads a, NoReads)
     ∷ (has_too_many_reads a, TooManyReads)
     ∷ (is_not_ascending a, NotAscending)
     ∷ (reads_no_object shape a, NoSuchObject)
@@ -75,7 +75,11 @@ first_fault_of_action shape a = first_of
     ∷ (is_too_large a, TooLarge)
     ∷ (is_too_deep a, TooDeep)
     ∷ (not (has_origin a), BadOrigin)
-    ∷ [])
+    ∷ []
+
+-- The first of the eleven causes for which an action is refused in a shape, if one applies.
+unfoldable pub first_fault_of_action : Shape → Action → Option BadAction
+first_fault_of_action shape a = first_of (causes shape a)
 
 -- The number of a cause in their order, from 1.
 abbrev pub cause_number : BadAction → ℕ

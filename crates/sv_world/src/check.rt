@@ -1,6 +1,8 @@
-ghost use Rattle.std.specs.Prelude.{◌≡◌, map, not, Some, None, MatchResult};
+ghost use Rattle.std.specs.Prelude.{◌≡◌, ◌↔◌, map, not, Some, None, MatchResult, OnOk};
+ghost use Rattle.sv_world.specs.declared.action.Action.{Action};
 ghost use Rattle.sv_world.specs.declared.world.ObjectId.{ObjectId};
-ghost use Rattle.sv_world.specs.Faults.{is_ascending, has_no_reads, has_too_many_reads, is_not_ascending, reads_no_object, has_bad_mask, has_slots, sets_in_mask, has_attrs, is_too_large, is_too_deep, is_in_plane, has_origin, first_fault_of_action, cause_number};
+ghost use Rattle.sv_world.specs.declared.world.Shape.{Shape};
+ghost use Rattle.sv_world.specs.Faults.{is_ascending, has_no_reads, has_too_many_reads, is_not_ascending, reads_no_object, has_bad_mask, has_slots, sets_in_mask, has_attrs, is_too_large, is_too_deep, is_in_plane, has_origin, first_fault_of_action, cause_number, IsGoodAction};
 
 use crate::measure::{body_is_within, body_left};
 use crate::names::{NameTest, passes_in_body};
@@ -68,45 +70,60 @@ pub fn is_ascending(objects: &[ObjectId]) -> bool
 }
 
 /// Refuses an action that is not one of this shape, with the first cause that applies. It walks trees of any depth.
-#[tactic(auto, unfolding(crate::specs::Faults::first_fault_of_action))]
 pub fn check_action(shape: Shape, action: &Action) -> Result<(), BadAction>
-    ensures { MatchResult result (λ _. first_fault_of_action shape action.now ≡ None) (λ cause. first_fault_of_action shape action.now ≡ Some cause) }
+    ensures first { MatchResult result (λ _. first_fault_of_action shape action.now ≡ None) (λ cause. first_fault_of_action shape action.now ≡ Some cause) }
+    ensures good { OnOk result (IsGoodAction shape action.now) }
+{
+    match first_fault(shape, action) {
+        None => Ok(()),
+        Some(cause) => Err(cause),
+    }
+}
+
+#[tactic(auto, unfolding(crate::specs::Faults::first_fault_of_action))]
+fn first_fault(shape: Shape, action: &Action) -> Option<BadAction>
+    ensures { result ≡ first_fault_of_action shape action.now }
 {
     if has_no_reads(action) {
-        return Err(BadAction::NoReads);
+        return Some(BadAction::NoReads);
     }
     if has_too_many_reads(action) {
-        return Err(BadAction::TooManyReads);
+        return Some(BadAction::TooManyReads);
     }
     if is_not_ascending(action) {
-        return Err(BadAction::NotAscending);
+        return Some(BadAction::NotAscending);
     }
     if reads_no_object(shape, action) {
-        return Err(BadAction::NoSuchObject);
+        return Some(BadAction::NoSuchObject);
     }
     if has_bad_mask(action) {
-        return Err(BadAction::BadMask);
+        return Some(BadAction::BadMask);
     }
     if !has_slots(action) {
-        return Err(BadAction::BadSlot);
+        return Some(BadAction::BadSlot);
     }
     if !sets_in_mask(action) {
-        return Err(BadAction::NotWritable);
+        return Some(BadAction::NotWritable);
     }
     if !has_attrs(shape, action) {
-        return Err(BadAction::BadAttr);
+        return Some(BadAction::BadAttr);
     }
     if is_too_large(action) {
-        return Err(BadAction::TooLarge);
+        return Some(BadAction::TooLarge);
     }
     if is_too_deep(action) {
-        return Err(BadAction::TooDeep);
+        return Some(BadAction::TooDeep);
     }
     if !has_origin(action) {
-        return Err(BadAction::BadOrigin);
+        return Some(BadAction::BadOrigin);
     }
-    Ok(())
+    None
 }
+
+/// A law of the causes: none applies to an action exactly where the action is good.
+pub fn good_actions_have_no_fault()
+    ensures { (shape : Shape) (action : Action) → (first_fault_of_action shape action ≡ None) ↔ IsGoodAction shape action }
+{}
 
 #[tactic(auto, unfolding(crate::specs::Faults::has_no_reads))]
 fn has_no_reads(action: &Action) -> bool

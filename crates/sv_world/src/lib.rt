@@ -9,12 +9,14 @@ mod laws;
 mod list;
 mod measure;
 mod names;
+#[cfg(test)]
+mod tests;
 mod text;
 mod world;
 
 pub use action::{Action, Cond, Expr, Point, Stmt};
 pub use boxed::Boxed;
-pub use check::{BadAction, check_action, is_ascending};
+pub use check::{BadAction, check_action, good_actions_have_no_fault, is_ascending};
 pub use copy::{copy_action, copy_objects, copy_value, copy_values};
 pub use laws::{
     base_values_are_those_read_as_committed, committed_actions_do_not_count,
