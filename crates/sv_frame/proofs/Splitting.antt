@@ -1,10 +1,10 @@
 -- How a stream splits into payloads, whole, in pieces, and as frames that were written.
-use Rattle.std.proofs.Common.{◌≡◌, ℕ, zero, suc, ◌+◌, ◌<◌, ◌≤◌, List, [], ◌∷◌, ◌++◌, length, map, Option, Some, None, refl, sym, ap, subst, ◌∙◌, append_assoc, length-append, arith, ◌⊎◌, ◌↔◌, inl, inr}
-use Rattle.std.specs.List.{AllByRecursion, flat_map}
+use Rattle.std.proofs.Common.{◌≡◌, ℕ, zero, suc, ◌≤◌, List, [], ◌∷◌, ◌++◌, length, map, Option, Some, None, refl, sym, ap, subst, ◌∙◌, append_assoc, length-append, arith, ◌↔◌, inl, inr}
+use Rattle.std.specs.List.{AllByRecursion}
 use Rattle.std.proofs.lemmas.List.{append-nil, map-append}
 use Rattle.sv_frame.specs.Frames.{frame, frames_of, FitsFrame, first_frame, too_long}
 use Rattle.sv_frame.specs.Streams.{with_first, TakesOff, split_at_most, split_frames, split_on, AreBytes, Splits, Incoming, last_item, incoming_items}
-use Rattle.sv_frame.specs.Streams.Incoming.{Payload, TooLong}
+use Rattle.sv_frame.specs.Streams.Incoming.{Payload}
 use Rattle.sv_frame.proofs.Fronts.{none_or_some, length-frame, first_frame-append, first_frame-shorter, first_frame-frame, stream_is_frame, bytes-after, too_long-append, no_frame_if_too_long}
 
 -- a step of `split_at_most`, by what the stream begins with

@@ -1,4 +1,4 @@
-use Rattle.std.proofs.Common.{◌≡◌, Some, None, List, ℕ, ◌+◌, ◌-◌, ◌≤◌, ◌<◌, ◌++◌, take, drop, length, refl, sym, ap, subst, ◌∙◌, arith, option_map, length-take, length-drop}
+use Rattle.std.proofs.Common.{◌≡◌, Some, None, List, ℕ, ◌+◌, ◌-◌, ◌≤◌, ◌++◌, take, drop, refl, sym, ap, ◌∙◌, arith, option_map, length-take}
 use Rattle.sv_frame.specs.Frames.{frame, first_frame, too_long}
 use Rattle.sv_frame.proofs.Fronts.{room_if_neither, no_frame_if_too_long, some_pair}
 use Rattle.sv_frame.proofs.Room.{part, part-payload, part-after}
