@@ -4,6 +4,8 @@
 mod evaluation;
 mod outcome;
 mod run;
+#[cfg(test)]
+mod tests;
 
 pub use evaluation::eval;
 pub use outcome::Outcome;
