@@ -2,6 +2,7 @@
 use Rattle.std.proofs.Common.{◌≡◌, ℕ, zero, suc, ◌+◌, ◌*◌, ◌<◌, ◌≤◌, Bool, true, false, List, [], ◌∷◌, length, map, get_or, refl, ap, sym, ◌∙◌, arith}
 use Rattle.std.specs.Prelude.{All, if◌then◌else◌}
 use Rattle.sv_world.specs.Sets.{at_mask, is_in_mask}
+use Rattle.sv_eval.proofs.Lists.{all_head, all_tail, all_cons}
 
 -- Lists of equal length have as many elements at the slots in a mask.
 at_mask_step : {A B : Type 0} (b : Bool) (x : A) (y : B) (xs : List A) (ys : List B) → length xs ≡ length ys
@@ -19,16 +20,6 @@ at_mask_lengths mask k (x ∷ xs) (y ∷ ys) e =
     (at_mask_lengths mask (k + 1) xs ys (omega arith))
 
 -- Each of them is an element.
-all_head : {A : Type 0} (P : A → Type 0) (x : A) (xs : List A) → All P (x ∷ xs) → P x
-all_head P x xs h = h 0 x (omega arith)
-
-all_tail : {A : Type 0} (P : A → Type 0) (x : A) (xs : List A) → All P (x ∷ xs) → All P xs
-all_tail P x xs h k d lt = h (suc k) d (omega arith)
-
-all_cons : {A : Type 0} (P : A → Type 0) (x : A) (xs : List A) → P x → All P xs → All P (x ∷ xs)
-all_cons P x xs p h zero d lt = p
-all_cons P x xs p h (suc k) d lt = h k d (omega arith)
-
 all_choice : {A : Type 0} (P : A → Type 0) (b : Bool) (x : A) (xs : List A) → P x → All P xs → All P (if b then x ∷ xs else xs)
 all_choice P true x xs p h = all_cons P x xs p h
 all_choice P false x xs p h = h

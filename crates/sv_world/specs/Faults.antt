@@ -4,7 +4,6 @@ use Rattle.std.specs.List.{list_any}
 use Rattle.sv_world.specs.Sets.{is_in_mask, read_set}
 use Rattle.sv_world.specs.Trees.{body_nodes, body_depth, body_passes}
 use Rattle.sv_world.specs.declared.action.Action.{Action}
-use Rattle.sv_world.specs.declared.action.Point.{Point}
 use Rattle.sv_world.specs.declared.world.Shape.{Shape}
 use Rattle.sv_world.specs.declared.check.BadAction.{BadAction}
 use Rattle.sv_world.specs.declared.check.BadAction.TheVariants.{NoReads, TooManyReads, NotAscending, NoSuchObject, BadMask, BadSlot, NotWritable, BadAttr, TooLarge, TooDeep, BadOrigin}

@@ -1,0 +1,30 @@
+use sv_wire::Reply;
+use sv_world::{Action, ClientId, List, ObjectId};
+
+/// One step of a client.
+#[derive(Debug, Drop)]
+pub enum Event {
+    /// It began this session, with a Join and a Submit for each pending action.
+    Join(u16),
+    /// It made an action, and sent its Submit.
+    Make(Action),
+    Poll,
+    Leave,
+    /// It took a reply of this session, and sent the Done of a relay.
+    Got(u16, Reply),
+    /// It closed its session's link, to begin another session later.
+    Cut,
+    /// It closed its session's link for good.
+    Quit,
+    /// It looked at these objects.
+    Show(List<ObjectId>),
+}
+
+/// All that a client did. Its sessions are numbered upwards from `first`.
+#[derive(Debug, Drop)]
+pub struct Trace {
+    pub client: ClientId,
+    pub interest: List<ObjectId>,
+    pub first: u16,
+    pub events: List<Event>,
+}

@@ -1,0 +1,43 @@
+use sv_wire::{Held, Request};
+use sv_world::List;
+
+/// A reply as the journal keeps it: a relay names the positions of its items, whose actions stand in the journal already.
+#[derive(Debug, Drop)]
+pub enum Logged {
+    Welcome {
+        commit: u32,
+        head: List<Held>,
+    },
+    Relay {
+        seq: u32,
+        commit: u32,
+        head: List<Held>,
+        positions: List<u32>,
+    },
+    Dropped {
+        seq: u32,
+        chain: u32,
+        far: u32,
+    },
+    Settled {
+        seq: u32,
+        pos: u32,
+    },
+    Noted {
+        commit: u32,
+    },
+    Idle,
+    Refused {
+        code: u8,
+        detail: u32,
+    },
+    Bye,
+}
+
+/// One event of the server: what a session asked, and what it was answered.
+#[derive(Debug, Drop)]
+pub struct Entry {
+    pub session: u16,
+    pub request: Request,
+    pub reply: Logged,
+}

@@ -1,0 +1,89 @@
+use sv_world::{Action, ClientId, List, ObjectId, Value};
+
+/// The value of an object.
+#[derive(Debug, Drop)]
+pub struct Held {
+    pub object: ObjectId,
+    pub value: Value,
+}
+
+/// An accepted action as a relay carries it: its position in the one order, counted from 1, who made it, and its author's number for it.
+#[derive(Debug, Drop)]
+pub struct Item {
+    pub pos: u32,
+    pub client: ClientId,
+    pub seq: u32,
+    pub action: Action,
+}
+
+/// The result of one position: a value for each object that its action writes, ascending.
+#[derive(Debug, Drop)]
+pub struct Done1 {
+    pub pos: u32,
+    pub values: List<Value>,
+}
+
+/// What a client asks of the server. `Bad` stands for bytes that are no message, and `End` for the end of a session: neither is sent.
+#[derive(Debug, Drop)]
+pub enum Request {
+    /// Begins a session. `life` numbers the client's sessions upwards, and `interest` are the objects whose committed values it wants at once.
+    Join {
+        client: ClientId,
+        life: u32,
+        interest: List<ObjectId>,
+    },
+    /// An action, under the client's own number for it, counted from 1.
+    Submit {
+        seq: u32,
+        action: Action,
+    },
+    /// The results of the actions of one relay.
+    Done {
+        results: List<Done1>,
+    },
+    /// Asks for an abandoned action to complete.
+    Poll,
+    Leave,
+    Bad,
+    End,
+}
+
+/// What the server answers.
+#[derive(Debug, Drop)]
+pub enum Reply {
+    /// The session has begun. `head` has the committed values of the whole interest.
+    Welcome {
+        commit: u32,
+        head: List<Held>,
+    },
+    /// Actions to evaluate, ascending by position, and the committed values that they read and the session lacks. `seq` is that of the
+    /// Submit that it answers, and 0 for a Poll.
+    Relay {
+        seq: u32,
+        commit: u32,
+        head: List<Held>,
+        items: List<Item>,
+    },
+    /// The action is not accepted: `chain` actions influence it, the farthest at the distance `far`.
+    Dropped {
+        seq: u32,
+        chain: u32,
+        far: u32,
+    },
+    /// The action has been committed, at this position.
+    Settled {
+        seq: u32,
+        pos: u32,
+    },
+    Noted {
+        commit: u32,
+    },
+    Idle,
+    /// The codes, from 1: malformed, not joined, already joined, ended, bad sequence number, bad action, bad completion, bad interest,
+    /// spent, bad client, stale.
+    Refused {
+        code: u8,
+        detail: u32,
+    },
+    Bye,
+}
