@@ -1,0 +1,6 @@
+pub mod Invariant
+pub mod Pairs
+pub mod Positions
+pub mod Queue
+pub mod Sessions
+pub mod Worlds
