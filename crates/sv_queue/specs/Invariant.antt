@@ -31,13 +31,17 @@ pub record IsGoodEntry (shape : Shape) (e : Queued) : Type 0 where
   pub values : IfSome e.result (λ values. length values ≡ length (write_set e.action))
   pub attrs : IfSome e.result (HaveAttrs shape)
 
--- `writers` has, for each object, the uncommitted positions whose actions write it.
-pub record IsQueue (a : Inside) : Type 0 where
-  pub shape : IsGoodShape a.shape
-  pub objects : length a.committed ≡ a.shape.objects
-  pub attrs : HaveAttrs a.shape a.committed
-  pub entries : All (IsGoodEntry a.shape) a.entries.items
-  pub last : a.commit + length a.entries.items < 2 ^ 32
-  pub rows : length a.writers ≡ a.shape.objects
-  pub writers : (x : ℕ) → x < a.shape.objects → slice_index_or a.writers x [] ≡ writers_above a.commit a.entries.items x
-  pub given : length a.given.items ≡ a.shape.objects
+-- `entries` are good, `writers` has for each object the uncommitted positions whose actions write it, and the other lists have an element
+-- for each object.
+pub record AgreeOn (shape : Shape) (commit : ℕ) (committed : List (List ℤ)) (entries : List Queued) (writers rows : List (List ℕ)) : Type 0 where
+  pub limits : IsGoodShape shape
+  pub objects : length committed ≡ shape.objects
+  pub attrs : HaveAttrs shape committed
+  pub good : All (IsGoodEntry shape) entries
+  pub last : commit + length entries < 2 ^ 32
+  pub lists : length writers ≡ shape.objects
+  pub indexed : (x : ℕ) → x < shape.objects → slice_index_or writers x [] ≡ writers_above commit entries x
+  pub given : length rows ≡ shape.objects
+
+abbrev pub IsQueue : Inside → Type 0
+IsQueue a = AgreeOn a.shape a.commit a.committed a.entries.items a.writers a.given.items

@@ -4,3 +4,4 @@ pub mod Positions
 pub mod Queue
 pub mod Sessions
 pub mod Worlds
+pub mod Written

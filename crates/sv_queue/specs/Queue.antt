@@ -1,6 +1,6 @@
 -- A queue of actions as its callers see it, and what each call makes of it.
 -- Positions count from 1. Those up to the commit are committed; the queue has the actions above it.
-use Rattle.std.specs.Prelude.{ℕ, suc, ◌+◌, ◌-◌, ◌<◌, ◌≤◌, Bool, ◌&&◌, List, [], ◌∷◌, ◌++◌, map, filter, length, take, drop, take_while, slice_set, slice_index_or, replicate, ℤ, Option, Some, None, is_some, unwrap_or, if◌then◌else◌}
+use Rattle.std.specs.Prelude.{ℕ, suc, ◌+◌, ◌-◌, ◌<◌, ◌≤◌, Bool, ◌&&◌, List, [], ◌∷◌, ◌++◌, map, filter, length, take, drop, slice_set, slice_index_or, replicate, ℤ, Option, Some, None, is_some, unwrap_or, if◌then◌else◌}
 use Rattle.sv_world.specs.declared.action.Action.{Action}
 use Rattle.sv_world.specs.declared.world.ClientId.{ClientId}
 use Rattle.sv_world.specs.declared.world.Shape.{Shape}
@@ -32,9 +32,12 @@ last_position v = v.commit + length v.entries
 abbrev pub IsUncommitted : QueueView → ℕ → Type 0
 IsUncommitted v p = (v.commit < p) × (p ≤ last_position v)
 
+abbrev pub actions_of : List Queued → List Action
+actions_of es = map (λ (e : Queued). e.action) es
+
 -- All actions from position 1 on as far as the queue knows them: the committed ones are blank.
 abbrev pub queue_actions : QueueView → List Action
-queue_actions v = replicate v.commit blank ++ map (λ (e : Queued). e.action) v.entries
+queue_actions v = replicate v.commit blank ++ actions_of v.entries
 
 abbrev pub no_entry : Queued
 no_entry = record { author = record { 0 = 0 }; seq = 0; action = blank; result = None; marks = [] }
@@ -83,7 +86,8 @@ with_given v x s = record v { given = with_pair v.shape.objects x s v.given }
 
 -- The entries before the first that has no result.
 abbrev pub ready : List Queued → List Queued
-ready es = take_while (λ e. is_some e.result) es
+ready [] = []
+ready (e ∷ es) = if is_some e.result then e ∷ ready es else []
 
 -- With the values of these objects replaced, one after the other.
 abbrev pub put_values : List (List ℤ) → List ℕ → List (List ℤ) → List (List ℤ)
@@ -105,12 +109,19 @@ abbrev pub given_after : ℕ → List (ℕ × ℕ) → List Queued → List (ℕ
 given_after objects given [] = given
 given_after objects given (e ∷ es) = given_after objects (given_by objects given e) es
 
--- With the entries before the first that has no result committed.
-abbrev pub installed : QueueView → QueueView
-installed v = let done = ready v.entries in record {
+-- With these entries, the first of all, committed.
+abbrev pub with_committed : QueueView → List Queued → QueueView
+with_committed v done = record {
   shape = v.shape;
   commit = v.commit + length done;
   committed = committed_after v.committed done;
   entries = drop (length done) v.entries;
   given = given_after v.shape.objects v.given done
 }
+
+-- With the entries before the first that has no result committed.
+abbrev pub installed : QueueView → QueueView
+installed v = with_committed v (ready v.entries)
+
+abbrev pub first_installed : QueueView → QueueView
+first_installed v = with_committed v (take 1 v.entries)

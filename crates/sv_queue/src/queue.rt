@@ -1,16 +1,16 @@
-ghost use Rattle.std.specs.Prelude.{◌≡◌, ◌+◌, ◌<◌, [], length, slice_index_or, is_some, IfOk, OnErr, IsNone};
+ghost use Rattle.std.specs.Prelude.{◌≡◌, ◌+◌, ◌-◌, ◌^◌, ◌<◌, nat_lt, [], length, slice_index_or, is_some, IfOk, IsNone, OnOk, OnErr};
 ghost use Rattle.sv_world.specs.Control.{is_in, last_writer, action_at};
 ghost use Rattle.sv_world.specs.Faults.{IsGoodAction};
 ghost use Rattle.sv_world.specs.Sets.{write_set};
 ghost use Rattle.sv_queue.specs.Pairs.{is_pair};
-ghost use Rattle.sv_queue.specs.Queue.{IsUncommitted, last_position, entry_at, queue_actions, sent_positions, opening_queue, with_action, without_last, with_mark, with_result, with_given, ready, installed};
+ghost use Rattle.sv_queue.specs.Queue.{IsUncommitted, last_position, entry_at, queue_actions, sent_positions, opening_queue, with_action, without_last, with_mark, with_result, with_given, ready, first_installed, installed};
 ghost use Rattle.sv_queue.specs.Worlds.{IsGoodShape, IsGoodWorld, HaveAttrs};
 
 use crate::queued::Queued;
 use crate::sessions::Sessions;
 use crate::steps::Steps;
 use crate::writers::Writers;
-use crate::written::no_sessions;
+use crate::written::{give_written, no_sessions, put_values};
 use std::alloc::{AllocError, Global};
 use std::collections::VecDeque;
 use std::marker::Model;
@@ -161,5 +161,112 @@ impl Queue {
     {
         let row = &self.given[object.0 as usize];
         row.has(session)
+    }
+
+    /// Adds an action at the next position and answers that position.
+    pub fn push(&mut self, author: ClientId, seq: u32, action: Action) -> Result<u32, AllocError>
+        requires good { IsGoodAction self.old.shape action }
+        requires room { last_position self.old < 2 ^ 32 - 1 }
+        ensures position { IfOk result (λ pos. pos ≡ last_position self.new) }
+        ensures ok { OnOk result (self.new ≡ with_action self.old author seq action) }
+        ensures err { OnErr result (self.new ≡ self.old) }
+    {
+        let pos = self.commit + self.entries.len() as u32 + 1;
+        self.entries.reserve(1)?;
+        self.writers.add(&action, pos)?;
+        let entry = Queued {
+            author,
+            seq,
+            action,
+            result: None,
+            marks: Sessions::new(),
+        };
+        match self.entries.push_back(entry) {
+            Ok(()) => Ok(pos),
+            Err(_) => unreachable!(),
+        }
+    }
+
+    /// Takes the last action back.
+    pub fn pop(&mut self)
+        requires { 0 < length self.old.entries }
+        ensures { self.new ≡ without_last self.old }
+    {
+        if let Some(entry) = self.entries.pop_back() {
+            self.writers.remove_last(&entry.action);
+        }
+    }
+
+    /// Marks an uncommitted position for a session, to which it is sent.
+    pub fn mark(&mut self, pos: u32, session: u16)
+        requires position { IsUncommitted self.old pos }
+        requires session { session < 64 }
+        ensures { self.new ≡ with_mark self.old pos session }
+    {
+        let place = (pos - self.commit - 1) as usize;
+        let entry = &mut self.entries[place];
+        entry.marks.add(session);
+    }
+
+    /// Keeps the result of an uncommitted position until it is installed.
+    pub fn set_result(&mut self, pos: u32, values: Vec<Value>)
+        requires position { IsUncommitted self.old pos }
+        requires missing { IsNone (entry_at self.old pos).result }
+        requires count { length values.items ≡ length (write_set (entry_at self.old pos).action) }
+        requires attrs { HaveAttrs self.old.shape values.items }
+        ensures { self.new ≡ with_result self.old pos values.items }
+    {
+        let place = (pos - self.commit - 1) as usize;
+        let entry = &mut self.entries[place];
+        entry.result = Some(List::from_vec(values));
+    }
+
+    /// Notes that a session knows the committed value of an object.
+    pub fn set_given(&mut self, object: ObjectId, session: u16)
+        requires object { object.0 < self.old.shape.objects }
+        requires session { session < 64 }
+        ensures { self.new ≡ with_given self.old object.0 session }
+    {
+        let row = &mut self.given[object.0 as usize];
+        row.add(session);
+    }
+
+    /// Commits the actions before the first that has no result, in order, and answers how many.
+    pub fn install(&mut self) -> u32
+        ensures count { result ≡ length (ready self.old.entries) }
+        ensures installed { self.new ≡ installed self.old }
+    {
+        let before = self.commit();
+        while self.is_front_ready() {
+            self.install_front();
+        }
+        self.commit() - before
+    }
+
+    fn is_front_ready(&self) -> bool
+        ensures { result ≡ nat_lt 0 (length (ready self.now.entries)) }
+    {
+        match self.entries.front() {
+            Some(entry) => entry.result.is_some(),
+            None => false,
+        }
+    }
+
+    fn install_front(&mut self)
+        requires { 0 < length (ready self.old.entries) }
+        ensures { self.new ≡ first_installed self.old }
+    {
+        let entry = self.entries.pop_front().unwrap();
+        let Queued {
+            author: _,
+            seq: _,
+            action,
+            result,
+            marks,
+        } = entry;
+        put_values(&mut self.committed, &action, result.unwrap());
+        self.writers.remove_first(&action);
+        give_written(&mut self.given, &action, &marks);
+        self.commit += 1;
     }
 }

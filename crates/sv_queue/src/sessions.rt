@@ -1,4 +1,4 @@
-ghost use Rattle.std.specs.Prelude.{◌≡◌, ◌<◌, []};
+ghost use Rattle.std.specs.Prelude.{◌≡◌, ◌<◌, [], IsTrue};
 ghost use Rattle.sv_world.specs.Control.{is_in};
 ghost use Rattle.sv_queue.specs.Sessions.{with_session};
 
@@ -27,7 +27,8 @@ impl Sessions {
     }
 
     pub fn has(&self, session: u16) -> bool
-        ensures { result ≡ is_in session self.now }
+        ensures has { result ≡ is_in session self.now }
+        ensures below { IsTrue result → session < 64 }
     {
         session < 64 && (self.bits >> session) & 1 == 1
     }
