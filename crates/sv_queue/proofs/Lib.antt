@@ -1,4 +1,5 @@
 pub mod Entries
+pub mod GoodActions
 pub mod Installs
 pub mod Kept
 pub mod Members

@@ -5,6 +5,8 @@ mod queue;
 mod queued;
 mod sessions;
 mod steps;
+#[cfg(test)]
+mod tests;
 mod writers;
 mod written;
 
