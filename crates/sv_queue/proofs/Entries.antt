@@ -37,6 +37,7 @@ writers_above-push n (d ∷ es) e x = go (is_in x (write_set d.action)) (writers
   where
     same : suc (suc n + length es) ≡ suc (n + suc (length es))
     same = omega arith
+
     go : (b : Bool) → writers_above (suc n) (es ++ e ∷ []) x ≡ writers_above (suc n) es x ++ cond (is_in x (write_set e.action)) (suc (suc n + length es) ∷ []) [] →
         cond b (suc n ∷ writers_above (suc n) (es ++ e ∷ []) x) (writers_above (suc n) (es ++ e ∷ []) x)
         ≡ cond b (suc n ∷ writers_above (suc n) es x) (writers_above (suc n) es x) ++ cond (is_in x (write_set e.action)) (suc (n + suc (length es)) ∷ []) []
@@ -80,6 +81,7 @@ in_writers n (e ∷ es) x (suc k) = go (is_in x (write_set e.action)) (ap (λ m.
   where
     same : suc (n + suc k) ≡ suc (suc n + k)
     same = omega arith
+
     go : (b : Bool) → is_in (suc (n + suc k)) (writers_above (suc n) es x) ≡ is_in x (write_set (get_or (actions_of es) k blank)) →
         is_in (suc (n + suc k)) (cond b (suc n ∷ writers_above (suc n) es x) (writers_above (suc n) es x)) ≡ is_in x (write_set (get_or (actions_of es) k blank))
     go true h = rw (ne_eqb (suc (n + suc k)) (suc n) (λ q. omega arith)) h
@@ -123,6 +125,7 @@ in_marked_place n (e ∷ es) s (suc k) = go (is_in s e.marks) (ap (λ m. is_in m
   where
     same : suc (n + suc k) ≡ suc (suc n + k)
     same = omega arith
+
     go : (b : Bool) → is_in (suc (n + suc k)) (marked_above (suc n) es s) ≡ is_in s (get_or es k no_entry).marks →
         is_in (suc (n + suc k)) (cond b (suc n ∷ marked_above (suc n) es s) (marked_above (suc n) es s)) ≡ is_in s (get_or es k no_entry).marks
     go true h = rw (ne_eqb (suc (n + suc k)) (suc n) (λ q. omega arith)) h

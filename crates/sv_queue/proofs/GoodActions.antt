@@ -8,7 +8,6 @@ use Rattle.sv_world.specs.declared.world.Shape.{Shape}
 use Rattle.sv_world.specs.Sets.{at_mask, write_set}
 use Rattle.sv_world.specs.Faults.{IsGoodAction, has_slots, sets_in_mask, has_attrs, has_origin}
 
-
 pub good_alone : (shape : Shape) (x : ℕ) → x < shape.objects →
     IsGoodAction shape (record { reads = record { 0 = x } ∷ []; mask = 1; origin = record { x = pos 0; y = pos 0 }; body = [] })
 unfolding has_slots sets_in_mask has_attrs has_origin
@@ -23,7 +22,7 @@ good_alone shape x low = record {
   attrs = refl;
   few_nodes = lit≤ tt;
   shallow = lit≤ tt;
-  origin = refl
+  origin = refl;
 }
   where
     go : (k d : ℕ) → k < 1 → slice_index_or (x ∷ []) k d < shape.objects
@@ -44,7 +43,7 @@ good_with_next shape x low = record {
   attrs = refl;
   few_nodes = lit≤ tt;
   shallow = lit≤ tt;
-  origin = refl
+  origin = refl;
 }
   where
     go : (k d : ℕ) → k < 2 → slice_index_or (x ∷ (x + 1) ∷ []) k d < shape.objects

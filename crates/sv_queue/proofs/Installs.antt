@@ -23,6 +23,7 @@ pairs_of-add n rows x s row count low made = pairs_where-ext _ _ n (λ y t small
   where
     within : x < length rows
     within = omega (arith, count)
+
     go : (y t : ℕ) → t < 64 → (y ≡ x) ⊎ (y ≡ x → ⊥) → is_in t (get_or (set rows x row) y []) ≡ ((nat_eq y x && nat_eq t s) || is_in t (get_or rows y []))
     go y t below (inl e) = rw (e, eq-eqb x x refl, get_or-set_same rows x row [] within, made) (in_sessions (λ u. nat_eq u s || is_in u (get_or rows x [])) t below)
     go y t below (inr ne) = rw (ne_eqb y x ne, get_or-set_other rows x y row [] ne) refl
@@ -49,8 +50,10 @@ installed-first shape commit committed e es given h =
   where
     v : QueueView
     v = record { shape = shape; commit = commit; committed = committed; entries = e ∷ es; given = given }
+
     with_count : ℕ → QueueView
     with_count n = record (with_committed v (e ∷ ready es)) { commit = n }
+
     count : commit + 1 + length (ready es) ≡ commit + suc (length (ready es))
     count = omega arith
 

@@ -24,6 +24,7 @@ All-set P xs i y h p k d low = go (cases_eq k i)
   where
     small : k < length xs
     small = omega (arith, length-set xs i y)
+
     go : (k ≡ i) ⊎ (k ≡ i → ⊥) → P (get_or (set xs i y) k d)
     go (inl e) = let within : i < length xs = omega (arith, small) in rw (e, get_or-set_same xs i y d within) p
     go (inr ne) = rw (get_or-set_other xs i k y d ne) (h k d small)
@@ -55,7 +56,7 @@ module _ (shape : Shape) (commit : ℕ) (committed : List (List ℤ)) where
     last = omega (arith, h.last, length-set es i e);
     lists = h.lists;
     indexed = λ x low. h.indexed x low ∙ sym (writers_above-set commit es i e x same);
-    given = h.given
+    given = h.given;
   }
 
   pub agree_with_row : (es : List Queued) (writers rows : List (List ℕ)) (i : ℕ) (row : List ℕ) → AgreeOn shape commit committed es writers rows →
@@ -68,7 +69,7 @@ module _ (shape : Shape) (commit : ℕ) (committed : List (List ℤ)) where
     last = h.last;
     lists = h.lists;
     indexed = h.indexed;
-    given = length-set rows i row ∙ h.given
+    given = length-set rows i row ∙ h.given;
   }
 
   -- With lists that have the same elements.
@@ -82,7 +83,7 @@ module _ (shape : Shape) (commit : ℕ) (committed : List (List ℤ)) where
     last = h.last;
     lists = same.count ∙ h.lists;
     indexed = λ x low. same.elements x (omega (arith, h.lists)) ∙ h.indexed x low;
-    given = h.given
+    given = h.given;
   }
 
   -- With one entry more.
@@ -97,7 +98,7 @@ module _ (shape : Shape) (commit : ℕ) (committed : List (List ℤ)) where
     last = omega (arith, room, at, length-append es (e ∷ []));
     lists = changed.count ∙ h.lists;
     indexed = λ x low. changed.elements x (omega (arith, h.lists)) ∙ rw (h.indexed x low, writers_above-push commit es e x, at) (go (is_in x (write_set e.action)) (writers_above commit es x));
-    given = h.given
+    given = h.given;
   }
     where
       go : (b : Bool) (list : List ℕ) → cond b (list ++ suc (commit + length es) ∷ []) list ≡ list ++ cond b (suc (commit + length es) ∷ []) []
@@ -115,7 +116,7 @@ module _ (shape : Shape) (commit : ℕ) (committed : List (List ℤ)) where
     last = omega (arith, h.last, length-append es (e ∷ []));
     lists = changed.count ∙ h.lists;
     indexed = λ x low. changed.elements x (omega (arith, h.lists)) ∙ rw (h.indexed x low, writers_above-push commit es e x) (go (is_in x (write_set e.action)) (writers_above commit es x));
-    given = h.given
+    given = h.given;
   }
     where
       go : (b : Bool) (list : List ℕ) → cond b (front_of (list ++ cond b (suc (commit + length es) ∷ []) [])) (list ++ cond b (suc (commit + length es) ∷ []) []) ≡ list
@@ -169,7 +170,7 @@ agree_rest shape commit committed values e es writers now rows next h attrs chan
   last = omega (arith, h.last);
   lists = changed.count ∙ h.lists;
   indexed = λ x low. changed.elements x (omega (arith, h.lists)) ∙ rw (h.indexed x low, add-one) (go (is_in x (write_set e.action)) (writers_above (suc commit) es x));
-  given = given.count ∙ h.given
+  given = given.count ∙ h.given;
 }
   where
     go : (b : Bool) (list : List ℕ) → cond b (drop 1 (cond b (suc commit ∷ list) list)) (cond b (suc commit ∷ list) list) ≡ list
@@ -182,7 +183,7 @@ pub agree_install : (shape : Shape) (commit : ℕ) (committed values : List (Lis
     AgreeOn shape (commit + 1) (put_values committed (write_set e.action) values) rest now next
 agree_install shape commit committed values e es rest writers now rows next h q is changed given =
     agree_rest shape commit committed values e rest writers now rows next (subst (λ (ds : List Queued). AgreeOn shape commit committed ds writers rows) q h)
-        (first_values shape commit committed es rest writers rows e values h q is).1 changed given
+    (first_values shape commit committed es rest writers rows e values h q is).1 changed given
 
 -- A queue of a world with no action.
 pub agree_opening : (shape : Shape) (committed : List (List ℤ)) → IsGoodShape shape → length committed ≡ shape.objects → HaveAttrs shape committed →
@@ -195,5 +196,5 @@ agree_opening shape committed limits objects attrs = record {
   last = lit< tt;
   lists = length-replicate shape.objects [];
   indexed = λ x low. get_or-replicate shape.objects x [] [] low;
-  given = length-replicate shape.objects []
+  given = length-replicate shape.objects [];
 }

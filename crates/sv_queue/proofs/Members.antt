@@ -38,6 +38,7 @@ filter-ext p q (x ∷ xs) h = rw (h x (go (nat_eq x x) (eq-eqb x x refl))) (ap (
     go : (b : Bool) → b ≡ true → (b || is_in x xs) ≡ true
     go true e = refl
     go false e = cc
+
     later : (k : ℕ) (b : Bool) → is_in k xs ≡ true → (b || is_in k xs) ≡ true
     later k true e = refl
     later k false e = e

@@ -34,8 +34,12 @@ is_pair-row x s n (t ∷ ts) = go (nat_eq x n) (nat_eq s t) (is_pair-row x s n t
 is_pair-above : (p : ℕ → ℕ → Bool) (x s n : ℕ) → n ≤ x → is_pair x s (pairs_where n p) ≡ false
 unfolding pairs_where
 is_pair-above p x s zero high = refl
-is_pair-above p x s (suc n) high = rw (is_pair-append x s (pairs_where n p) (map (λ t. (n, t)) (sessions_where (p n))),
-    is_pair-above p x s n (omega arith), is_pair-row x s n (sessions_where (p n)), ne_eqb x n (λ e. omega arith)) refl
+is_pair-above p x s (suc n) high = rw (
+  is_pair-append x s (pairs_where n p) (map (λ t. (n, t)) (sessions_where (p n))),
+  is_pair-above p x s n (omega arith),
+  is_pair-row x s n (sessions_where (p n)),
+  ne_eqb x n (λ e. omega arith),
+) refl
 
 pair_at : (p : ℕ → ℕ → Bool) (x s n : ℕ) → x < n → is_pair x s (pairs_where n p) ≡ is_in s (sessions_where (p x))
 unfolding pairs_where

@@ -26,6 +26,7 @@ greatest_below-suc (x ∷ xs) n = go (cases_eq n x) (is_in n xs) refl (greatest_
   where
     bound : greatest_below xs (suc n) ≤ n
     bound = greatest_below_bound xs n
+
     go : (n ≡ x) ⊎ (n ≡ x → ⊥) → (b : Bool) → is_in n xs ≡ b → greatest_below xs (suc n) ≡ cond (is_in n xs) n (greatest_below xs n) →
         cond (nat_lt x (suc n)) (max x (greatest_below xs (suc n))) (greatest_below xs (suc n))
         ≡ cond (nat_eq n x || is_in n xs) n (cond (nat_lt x n) (max x (greatest_below xs n)) (greatest_below xs n))

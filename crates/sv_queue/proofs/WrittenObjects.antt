@@ -22,6 +22,7 @@ at_mask_next mask k (suc n) (x ∷ xs) low = go (is_in_mask mask k) (at_mask_nex
   where
     same : k + 1 + n ≡ k + suc n
     same = omega arith
+
     go : (b : Bool) → at_mask mask (k + 1) (take (suc n) xs) ≡ at_mask mask (k + 1) (take n xs) ++ cond (is_in_mask mask (k + 1 + n)) (get_or xs n 0 ∷ []) [] →
         cond b (x ∷ at_mask mask (k + 1) (take (suc n) xs)) (at_mask mask (k + 1) (take (suc n) xs))
         ≡ cond b (x ∷ at_mask mask (k + 1) (take n xs)) (at_mask mask (k + 1) (take n xs)) ++ cond (is_in_mask mask (k + suc n)) (get_or xs n 0 ∷ []) []
@@ -96,13 +97,15 @@ module _ {X : Type 0} (d : X) (f : X → X) where
       is_in x places ≡ false → y ≡ f (get_or now x d) → IsChangedAt d f (places ++ x ∷ []) old (set now x y)
   changed_next places old now x y h low fresh e = record {
     count = length-set now x y ∙ h.count;
-    elements = λ k small. go k small (cases_eq k x)
+    elements = λ k small. go k small (cases_eq k x);
   }
     where
       now_low : x < length now
       now_low = omega (arith, h.count)
+
       last : (k : ℕ) → is_in k (places ++ x ∷ []) ≡ (is_in k places || (nat_eq k x || false))
       last k = is_in-append k places (x ∷ [])
+
       go : (k : ℕ) → k < length old → (k ≡ x) ⊎ (k ≡ x → ⊥) →
           get_or (set now x y) k d ≡ cond (is_in k (places ++ x ∷ [])) (f (get_or old k d)) (get_or old k d)
       go k small (inl q) = rw (last k, q, fresh, eq-eqb x x refl, get_or-set_same now x y d now_low, e)
@@ -143,11 +146,12 @@ pub undone : (ws : List ℕ) (p x : ℕ) (old now then new : List (List ℕ)) (r
     x < length now → r ≡ get_or now x r → y ≡ r → then ≡ set now x y → IsChangedAt [] front_of ws then new → IsChangedAt [] (λ list. list) [] old new
 undone ws p x old now then new r y h low read same e g = record {
   count = g.count ∙ ap length stays ∙ h.count;
-  elements = λ k small. go k small (is_in k ws) refl
+  elements = λ k small. go k small (is_in k ws) refl;
 }
   where
     stays : then ≡ now
     stays = e ∙ ap (set now x) (same ∙ get_or_read now x r low read []) ∙ set-get_or now x []
+
     go : (k : ℕ) → k < length old → (b : Bool) → is_in k ws ≡ b → get_or new k [] ≡ get_or old k []
     go k small true q = g.elements k (omega (arith, ap length stays, h.count)) ∙ cond-true _ _ _ q
         ∙ ap (λ lists. front_of (get_or lists k [])) stays ∙ ap front_of (h.elements k small ∙ cond-true _ _ _ q) ∙ front_of-push (get_or old k []) p

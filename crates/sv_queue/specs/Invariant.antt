@@ -16,7 +16,7 @@ view_of a = record {
   commit = a.commit;
   committed = a.committed;
   entries = a.entries.items;
-  given = pairs_of a.shape.objects a.given.items
+  given = pairs_of a.shape.objects a.given.items;
 }
 
 -- Of the entries, which stand at the positions above n, the positions of those that write an object; ascending.

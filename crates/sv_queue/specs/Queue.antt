@@ -116,7 +116,7 @@ with_committed v done = record {
   commit = v.commit + length done;
   committed = committed_after v.committed done;
   entries = drop (length done) v.entries;
-  given = given_after v.shape.objects v.given done
+  given = given_after v.shape.objects v.given done;
 }
 
 -- With the entries before the first that has no result committed.

@@ -105,12 +105,7 @@ impl Queue {
     }
 
     /// The last writer of an object below a position where it is above the commit, else 0. One look-up.
-    pub fn last_writer<L: Ledger>(
-        &self,
-        object: ObjectId,
-        below: u32,
-        steps: &mut Steps<L>,
-    ) -> u32
+    pub fn last_writer<L: Ledger>(&self, object: ObjectId, below: u32, steps: &mut Steps<L>) -> u32
         requires { object.0 < self.now.shape.objects }
         ensures writer { result ≡ last_writer (queue_actions self.now) object.0 below }
         ensures ticks { steps.new ≡ steps.old + 1 }
@@ -192,9 +187,9 @@ impl Queue {
         requires { 0 < length self.old.entries }
         ensures { self.new ≡ without_last self.old }
     {
-        if let Some(entry) = self.entries.pop_back() {
-            self.writers.remove_last(&entry.action);
-        }
+        let entry = self.entries.pop_back().unwrap();
+        self.writers.remove_last(&entry.action);
+        drop(entry);
     }
 
     /// Marks an uncommitted position for a session, to which it is sent.

@@ -74,7 +74,12 @@ fn push(alloc: Global, queue: &mut Queue, seq: u32, object: u16) -> Result<u32, 
     queue.push(ClientId(object), seq, action)
 }
 
-fn push_with_next(alloc: Global, queue: &mut Queue, seq: u32, object: u16) -> Result<u32, AllocError> {
+fn push_with_next(
+    alloc: Global,
+    queue: &mut Queue,
+    seq: u32,
+    object: u16,
+) -> Result<u32, AllocError> {
     let shape = queue.shape();
     if object >= shape.objects - 1 || queue.last() == u32::MAX {
         return Ok(0);

@@ -14,7 +14,7 @@ loop-slot-preserved c =
     let old = c.args.lists.now.items in
     let now = c.loop-slot.lists.items in
     elim c.match-written_at.branch [
-      in-Some w ↦ changed_slot [] front_of a n old now c.match-written_at.lists.items w.in-Some.object.0 w.index_mut-list.result.now w.pop_last.new.self
+      | in-Some w ↦ changed_slot [] front_of a n old now c.match-written_at.lists.items w.in-Some.object.0 w.index_mut-list.result.now w.pop_last.new.self
           c.requires.can (omega arith) w.in-Some.ensures.read w.in-Some.ensures.fresh w.in-Some.ensures.next c.loop-slot.invariant
           w.index_mut-list.ensures.value w.pop_last.ensures (ap (λ v. v.items) w.lists-is)
       | in_default w ↦ kept_slot [] front_of a n old now c.match-written_at.lists.items w.in_default.ensures.next c.loop-slot.invariant (ap (λ v. v.items) w.lists-is)

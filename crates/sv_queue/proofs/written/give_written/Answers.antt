@@ -13,7 +13,7 @@ loop-slot-preserved c =
     let old = c.args.rows.now.items in
     let now = c.loop-slot.rows.items in
     elim c.match-written_at.branch [
-      in-Some w ↦ put_slot [] (λ (_ : List ℕ). c.args.sessions.now) a n old now c.match-written_at.rows.items w.in-Some.object.0 w.copy.result
+      | in-Some w ↦ put_slot [] (λ (_ : List ℕ). c.args.sessions.now) a n old now c.match-written_at.rows.items w.in-Some.object.0 w.copy.result
           c.requires (omega arith) w.in-Some.ensures.read w.in-Some.ensures.fresh w.in-Some.ensures.next c.loop-slot.invariant
           w.copy.ensures (ap (λ v. v.items) w.rows-is)
       | in_default w ↦ kept_slot [] (λ (_ : List ℕ). c.args.sessions.now) a n old now c.match-written_at.rows.items w.in_default.ensures.next c.loop-slot.invariant (ap (λ v. v.items) w.rows-is)

@@ -18,23 +18,23 @@ loop-slot-preserved c =
     let put = c.loop-slot.invariant.put in
     let left = c.loop-slot.invariant.left in
     elim c.match-written_at.branch [
-      in-Some+in-Some-next w ↦
-        let x = w.in-Some.object.0 in
-        let rest = into_iter_items w.next.new.self in
-        let here : drop (length ws) c.args.values ≡ w.in-Some-next.value ∷ rest = sym left ∙ w.in-Some-next.ensures.items in
-        rw (w.in-Some.ensures.next, w.committed-is, w.values-is) (record {
-          put = w.set.ensures ∙ ap (λ values. set values x w.in-Some-next.value) put ∙ sym (put_values-next c.args.committed.now ws x c.args.values w.in-Some-next.value rest here);
-          left = sym (drop_push ws x c.args.values rest (ap (drop 1) here))
-        })
+      | in-Some+in-Some-next w ↦
+          let x = w.in-Some.object.0 in
+          let rest = into_iter_items w.next.new.self in
+          let here : drop (length ws) c.args.values ≡ w.in-Some-next.value ∷ rest = sym left ∙ w.in-Some-next.ensures.items in
+          rw (w.in-Some.ensures.next, w.committed-is, w.values-is) (record {
+            put = w.set.ensures ∙ ap (λ values. set values x w.in-Some-next.value) put ∙ sym (put_values-next c.args.committed.now ws x c.args.values w.in-Some-next.value rest here);
+            left = sym (drop_push ws x c.args.values rest (ap (drop 1) here));
+          })
       | in-Some+in_default-next w ↦
-        let x = w.in-Some.object.0 in
-        let same = w.in_default-next.ensures.items in
-        let none : into_iter_items c.loop-slot.values ≡ [] = nil_from_length _ (omega (arith, c.loop-slot.values.rest.ok.0, w.in_default-next.ensures.cases.0)) in
-        let here : drop (length ws) c.args.values ≡ [] = sym left ∙ none in
-        rw (w.in-Some.ensures.next, w.committed-is, w.values-is) (record {
-          put = put ∙ sym (put_values_end c.args.committed.now ws x c.args.values here);
-          left = sym same ∙ none ∙ sym (drop_push ws x c.args.values [] (ap (drop 1) here))
-        })
+          let x = w.in-Some.object.0 in
+          let same = w.in_default-next.ensures.items in
+          let none : into_iter_items c.loop-slot.values ≡ [] = nil_from_length _ (omega (arith, c.loop-slot.values.rest.ok.0, w.in_default-next.ensures.cases.0)) in
+          let here : drop (length ws) c.args.values ≡ [] = sym left ∙ none in
+          rw (w.in-Some.ensures.next, w.committed-is, w.values-is) (record {
+            put = put ∙ sym (put_values_end c.args.committed.now ws x c.args.values here);
+            left = sym same ∙ none ∙ sym (drop_push ws x c.args.values [] (ap (drop 1) here));
+          })
       | in_default w ↦ rw (w.in_default.ensures.next, append-nil ws, w.committed-is, w.values-is) (record { put = put; left = left })
     ]
 

@@ -7,5 +7,5 @@ use Rattle.sv_queue.proofs.written.put_values.Given as goal
 abbrev pub invariant-loop-slot : goal.invariant-loop-slot
 invariant-loop-slot l = record {
   put : l.committed ≡ put_values l.initial.committed (writes_before l.action l.slot) l.fn.values;
-  left : into_iter_items l.values ≡ drop (length (writes_before l.action l.slot)) l.fn.values
+  left : into_iter_items l.values ≡ drop (length (writes_before l.action l.slot)) l.fn.values;
 }

@@ -6,7 +6,6 @@ use Rattle.sv_queue.specs.Written.{writes_before}
 use Rattle.sv_queue.proofs.WrittenObjects.{writes_before-next, fresh_read, read_at}
 use Rattle.sv_queue.proofs.written.written_at.Goals as goal
 
-
 pub returns-then-action-slot-eq1-clause-next : goal.returns-then-action-slot-eq1-clause-next
 returns-then-action-slot-eq1-clause-next c =
     let a = c.args.action.now in

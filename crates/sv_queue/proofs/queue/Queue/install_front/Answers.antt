@@ -11,7 +11,7 @@ put_values-requires c =
     let first = rw c.unwrap-entry.ensures at c.pop_front.ensures.items in
     record {
       can = rw c.self.invariant.objects (first_can_write a.shape a.commit a.committed a.entries.items c.pop_front.new.self.items a.writers a.given.items c.unwrap-entry.result c.self.invariant first);
-      values = (first_values a.shape a.commit a.committed a.entries.items c.pop_front.new.self.items a.writers a.given.items c.unwrap-entry.result c.unwrap.result c.self.invariant first c.unwrap.ensures).0
+      values = (first_values a.shape a.commit a.committed a.entries.items c.pop_front.new.self.items a.writers a.given.items c.unwrap-entry.result c.unwrap.result c.self.invariant first c.unwrap.ensures).0;
     }
 
 pub remove_first-requires : goal.remove_first-requires
@@ -31,12 +31,12 @@ invariant_of-self c =
     let a = c.self.inside in
     let first = rw c.unwrap-entry.ensures at c.pop_front.ensures.items in
     rw c.put_values.ensures (agree_install a.shape a.commit a.committed c.unwrap.result c.unwrap-entry.result a.entries.items c.pop_front.new.self.items
-        a.writers c.remove_first.new.self a.given.items c.give_written.new.rows.items c.self.invariant first c.unwrap.ensures c.remove_first.ensures c.give_written.ensures)
+    a.writers c.remove_first.new.self a.given.items c.give_written.new.rows.items c.self.invariant first c.unwrap.ensures c.remove_first.ensures c.give_written.ensures)
 
 pub returns : goal.returns
 returns c =
     let a = c.self.inside in
     let first = rw c.unwrap-entry.ensures at c.pop_front.ensures.items in
     rw (c.put_values.ensures, pairs_of-give a.shape.objects a.given.items c.give_written.new.rows.items c.unwrap-entry.result c.self.invariant.given c.give_written.ensures)
-        (sym (first_installed_is a.shape a.commit a.committed c.unwrap.result a.entries.items c.pop_front.new.self.items c.unwrap-entry.result (pairs_of a.shape.objects a.given.items) first c.unwrap.ensures)
-        ∙ ap first_installed c.self.view_is)
+    (sym (first_installed_is a.shape a.commit a.committed c.unwrap.result a.entries.items c.pop_front.new.self.items c.unwrap-entry.result (pairs_of a.shape.objects a.given.items) first c.unwrap.ensures)
+    ∙ ap first_installed c.self.view_is)

@@ -16,6 +16,6 @@ returns c =
     let row = get_or_read a.given.items x _ (omega arith) c.index-row.ensures [] in
     let test = λ (y t : ℕ). is_in t (slice_index_or a.given.items y []) in
     elim (cases_lt s 64) [
-      inl small ↦ c.has.ensures.has ∙ ap (is_in s) row ∙ sym (is_pair-where test x s a.shape.objects low small) ∙ ap (λ (v : QueueView). is_pair x s v.given) c.self.view_is
+      | inl small ↦ c.has.ensures.has ∙ ap (is_in s) row ∙ sym (is_pair-where test x s a.shape.objects low small) ∙ ap (λ (v : QueueView). is_pair x s v.given) c.self.view_is
       | inr large ↦ false_from_ne_true _ (λ t. omega (arith, c.has.ensures.below t)) ∙ sym (out_of_pairs test x s a.shape.objects low large) ∙ ap (λ (v : QueueView). is_pair x s v.given) c.self.view_is
     ]

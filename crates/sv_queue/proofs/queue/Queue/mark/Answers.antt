@@ -18,4 +18,4 @@ invariant_of-self c =
     let is : e ≡ get_or es i no_entry = get_or_read es i e within c.index_mut-entry.ensures.value no_entry in
     let good : IsGoodEntry a.shape e = subst (IsGoodEntry a.shape) (sym is) (c.self.invariant.good i no_entry within) in
     agree_with_entry a.shape a.commit a.committed es a.writers a.given.items i (record e { marks = c.add.new.self }) c.self.invariant (ap (λ (d : Queued). d.action) is)
-        (record { action = good.action; values = good.values; attrs = good.attrs })
+    (record { action = good.action; values = good.values; attrs = good.attrs })

@@ -23,7 +23,7 @@ invariant_of-self c =
     let seen : e ≡ entry_at c.args.self.now c.args.pos = is ∙ ap (λ (v : QueueView). entry_at v c.args.pos) c.self.view_is in
     let values = c.from_vec.result in
     let count : length values ≡ length (write_set e.action) =
-        ap length c.from_vec.ensures ∙ c.requires.count ∙ ap (λ (d : Queued). length (write_set d.action)) (sym seen) in
+    ap length c.from_vec.ensures ∙ c.requires.count ∙ ap (λ (d : Queued). length (write_set d.action)) (sym seen) in
     let attrs : HaveAttrs a.shape values = rw (c.from_vec.ensures, ap (λ (v : QueueView). v.shape) c.self.view_is) c.requires.attrs in
     agree_with_entry a.shape a.commit a.committed es a.writers a.given.items i (record e { result = Some values }) c.self.invariant (ap (λ (d : Queued). d.action) is)
-        (record { action = good.action; values = count; attrs = attrs })
+    (record { action = good.action; values = count; attrs = attrs })

@@ -13,7 +13,7 @@ loop-slot-preserved c =
     let old = c.args.self.now in
     let now = c.loop-slot.self-inside.lists.items in
     elim c.match-written_at.branch [
-      in-Some w ↦ changed_slot [] (drop 1) a n old now c.match-written_at.self-inside.lists.items w.in-Some.object.0 w.index_mut-list.result.now w.pop_first.new.self
+      | in-Some w ↦ changed_slot [] (drop 1) a n old now c.match-written_at.self-inside.lists.items w.in-Some.object.0 w.index_mut-list.result.now w.pop_first.new.self
           c.requires (omega arith) w.in-Some.ensures.read w.in-Some.ensures.fresh w.in-Some.ensures.next c.loop-slot.invariant
           w.index_mut-list.ensures.value w.pop_first.ensures (ap (λ i. i.lists.items) w.self-inside-is)
       | in_default w ↦ kept_slot [] (drop 1) a n old now c.match-written_at.self-inside.lists.items w.in_default.ensures.next c.loop-slot.invariant (ap (λ i. i.lists.items) w.self-inside-is)
