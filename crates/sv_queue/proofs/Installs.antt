@@ -1,12 +1,12 @@
 -- What installing makes of the pairs given, and of the queue.
-use Rattle.std.proofs.Common.{◌≡◌, ℕ, zero, suc, ◌+◌, ◌-◌, ◌<◌, ◌≤◌, Bool, true, false, ◌&&◌, ◌||◌, cond, nat_lt, nat_eq, List, [], ◌∷◌, ◌++◌, length, take, drop, set, get_or, replicate, ◌⊎◌, inl, inr, ℤ, Option, Some, None, is_some, refl, sym, ◌∙◌, ap, arith, add-one}
-use Rattle.std.proofs.lemmas.Bool.{cases_eq, cases_Bool, eq-eqb, ne_eqb, cond-true, cond-false}
-use Rattle.std.proofs.lemmas.List.{get_or-set_same, get_or-set_other, length-set, get_or-replicate, nil_from_length}
+use Rattle.std.proofs.Common.{◌≡◌, ℕ, suc, ◌+◌, ◌<◌, Bool, true, false, ◌&&◌, ◌||◌, cond, nat_eq, List, [], ◌∷◌, length, set, get_or, replicate, ◌⊎◌, inl, inr, ℤ, Some, is_some, refl, sym, ◌∙◌, ap, arith}
+use Rattle.std.proofs.lemmas.Bool.{cases_eq, eq-eqb, ne_eqb, cond-true}
+use Rattle.std.proofs.lemmas.List.{get_or-set_same, get_or-set_other, get_or-replicate, nil_from_length}
 use Rattle.sv_world.specs.declared.world.Shape.{Shape}
 use Rattle.sv_world.specs.Control.{is_in}
 use Rattle.sv_world.specs.Sets.{write_set}
 use Rattle.sv_queue.specs.declared.queued.Queued.{Queued}
-use Rattle.sv_queue.specs.Pairs.{is_pair, pairs_where, pairs_of, with_pair}
+use Rattle.sv_queue.specs.Pairs.{is_pair, pairs_of, with_pair}
 use Rattle.sv_queue.specs.Queue.{QueueView, ready, installed, first_installed, with_committed, given_by, put_values}
 use Rattle.sv_queue.specs.Sessions.{with_session}
 use Rattle.sv_queue.specs.Written.{IsChangedAt}

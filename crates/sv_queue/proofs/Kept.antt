@@ -1,9 +1,8 @@
 -- What a queue's fields keep, and how it stays through each change.
-use Rattle.std.proofs.Common.{◌≡◌, ℕ, zero, suc, ◌+◌, ◌-◌, ◌^◌, ◌<◌, ◌≤◌, Bool, true, false, ◌&&◌, ◌||◌, cond, nat_lt, nat_eq, List, [], ◌∷◌, ◌++◌, map, length, take, drop, set, All, get_or, replicate, ◌⊎◌, inl, inr, ℤ, Option, Some, None, IfSome, refl, sym, ◌∙◌, ap, subst, lit<, arith, add-one, length-append, append-nil}
-use Rattle.std.proofs.lemmas.Bool.{cases_eq, cases_lt, eq-eqb, ne_eqb, cond-true, cond-false}
-use Rattle.std.proofs.lemmas.List.{take_at, get_or-set_same, get_or-set_other, get_or_append_left, get_or_push, length-set, length-replicate, get_or-replicate}
+use Rattle.std.proofs.Common.{◌≡◌, ℕ, zero, suc, ◌+◌, ◌^◌, ◌<◌, ◌≤◌, Bool, true, false, cond, List, [], ◌∷◌, ◌++◌, length, drop, set, All, get_or, replicate, ◌⊎◌, inl, inr, ℤ, Option, Some, IfSome, refl, sym, ◌∙◌, ap, subst, lit<, arith, add-one, length-append, append-nil}
+use Rattle.std.proofs.lemmas.Bool.{cases_eq, cases_lt}
+use Rattle.std.proofs.lemmas.List.{get_or-set_same, get_or-set_other, get_or_append_left, get_or_push, length-set, length-replicate, get_or-replicate}
 use Rattle.sv_world.specs.declared.action.Action.{Action}
-use Rattle.sv_world.specs.declared.world.ClientId.{ClientId}
 use Rattle.sv_world.specs.declared.world.Shape.{Shape}
 use Rattle.sv_world.specs.Control.{is_in}
 use Rattle.sv_world.specs.Faults.{IsGoodAction}

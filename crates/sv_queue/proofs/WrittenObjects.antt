@@ -1,6 +1,6 @@
 -- The objects that an action writes, slot by slot, and lists that are changed at them.
-use Rattle.std.proofs.Common.{◌≡◌, ℕ, zero, suc, ◌+◌, ◌-◌, ◌<◌, ◌≤◌, Bool, true, false, ◌&&◌, ◌||◌, cond, nat_lt, nat_eq, List, [], ◌∷◌, ◌++◌, map, length, take, drop, set, All, get_or, ◌⊎◌, inl, inr, ℤ, refl, sym, ◌∙◌, ap, arith, add-one, length-append, append-nil}
-use Rattle.std.proofs.lemmas.Bool.{cases_eq, cases_Bool, eq-eqb, ne_eqb, ltb-true, and_parts, or_from, or_parts, cond-true, cond-false}
+use Rattle.std.proofs.Common.{◌≡◌, ℕ, zero, suc, ◌+◌, ◌<◌, Bool, true, false, ◌||◌, cond, nat_lt, nat_eq, List, [], ◌∷◌, ◌++◌, length, take, drop, set, get_or, ◌⊎◌, inl, inr, ℤ, refl, sym, ◌∙◌, ap, arith, add-one, length-append, append-nil}
+use Rattle.std.proofs.lemmas.Bool.{cases_eq, eq-eqb, ne_eqb, ltb-true, and_parts, or_from, or_parts, cond-true, cond-false}
 use Rattle.std.proofs.lemmas.List.{take_all, take_at, set-get_or, drop-drop, get_or-map, length-map, get_or_read, get_or-set_same, get_or-set_other, length-set}
 use Rattle.sv_world.specs.declared.action.Action.{Action}
 use Rattle.sv_world.specs.declared.world.ObjectId.{ObjectId}

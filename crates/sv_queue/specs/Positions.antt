@@ -1,6 +1,5 @@
 -- Ascending lists of positions.
-use Rattle.std.specs.Prelude.{ℕ, zero, suc, ◌<◌, Bool, nat_lt, List, [], ◌∷◌, max, if◌then◌else◌}
-use Rattle.sv_world.specs.Control.{is_in}
+use Rattle.std.specs.Prelude.{ℕ, ◌<◌, nat_lt, List, [], ◌∷◌, max, if◌then◌else◌}
 
 -- The greatest of the numbers that are below n, else 0.
 abbrev pub greatest_below : List ℕ → ℕ → ℕ

@@ -1,6 +1,6 @@
 -- A queue of actions as its callers see it, and what each call makes of it.
 -- Positions count from 1. Those up to the commit are committed; the queue has the actions above it.
-use Rattle.std.specs.Prelude.{ℕ, suc, ◌+◌, ◌-◌, ◌<◌, ◌≤◌, Bool, ◌&&◌, List, [], ◌∷◌, ◌++◌, map, filter, length, take, drop, slice_set, slice_index_or, replicate, ℤ, Option, Some, None, is_some, unwrap_or, if◌then◌else◌}
+use Rattle.std.specs.Prelude.{ℕ, suc, ◌+◌, ◌-◌, ◌<◌, ◌≤◌, List, [], ◌∷◌, ◌++◌, map, filter, length, take, drop, slice_set, slice_index_or, replicate, ℤ, Some, None, is_some, unwrap_or, if◌then◌else◌}
 use Rattle.sv_world.specs.declared.action.Action.{Action}
 use Rattle.sv_world.specs.declared.world.ClientId.{ClientId}
 use Rattle.sv_world.specs.declared.world.Shape.{Shape}

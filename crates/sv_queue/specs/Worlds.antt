@@ -1,5 +1,5 @@
 -- What a world keeps.
-use Rattle.std.specs.Prelude.{◌≡◌, ℕ, ◌≤◌, List, length, ℤ, All}
+use Rattle.std.specs.Prelude.{◌≡◌, ◌≤◌, List, length, ℤ, All}
 use Rattle.sv_world.specs.declared.world.Shape.{Shape}
 use Rattle.sv_world.specs.declared.world.World.{World}
 

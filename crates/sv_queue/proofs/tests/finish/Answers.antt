@@ -1,5 +1,4 @@
 use Rattle.std.proofs.Common.{◌≡◌, length, sym, arith}
-use Rattle.sv_world.specs.Sets.{write_set}
 use Rattle.sv_queue.proofs.GoodActions.{one_written}
 use Rattle.sv_queue.proofs.tests.finish.Goals as goal
 

@@ -1,7 +1,6 @@
-use Rattle.std.proofs.Common.{◌≡◌, [], ◌∷◌, append-nil, set, length, drop, refl, ap, sym, ◌∙◌, List, ℕ, arith}
+use Rattle.std.proofs.Common.{◌≡◌, [], ◌∷◌, append-nil, set, length, drop, refl, ap, sym, ◌∙◌, arith}
 use Rattle.std.proofs.lemmas.List.{nil_from_length}
 use Rattle.std.specs.Vec.Iter.{into_iter_items}
-use Rattle.sv_queue.specs.Queue.{put_values}
 use Rattle.sv_queue.specs.Written.{writes_before}
 use Rattle.sv_queue.proofs.WrittenObjects.{put_values-next, put_values_end, drop_push, writes_before-zero, writes_before_all}
 use Rattle.sv_queue.proofs.written.put_values.Goals as goal

@@ -1,4 +1,4 @@
-use Rattle.std.proofs.Common.{ℕ, ◌≡◌, List, ap, sym, ◌∙◌, [], ◌∷◌, ◌++◌, get_or}
+use Rattle.std.proofs.Common.{List, ap, sym, ◌∙◌, [], ◌∷◌, ◌++◌, get_or}
 use Rattle.std.proofs.lemmas.Bool.{cond-true, cond-false, eq-eqb, ne_eqb}
 use Rattle.sv_world.specs.declared.world.ObjectId.{ObjectId}
 use Rattle.sv_world.specs.Control.{is_in}

@@ -1,4 +1,4 @@
-use Rattle.std.proofs.Common.{◌≡◌, ◌∷◌, ap, sym, ◌∙◌}
+use Rattle.std.proofs.Common.{ap, sym, ◌∙◌}
 use Rattle.sv_queue.specs.Queue.{first_installed}
 use Rattle.sv_queue.specs.Pairs.{pairs_of}
 use Rattle.sv_queue.proofs.Kept.{agree_install, first_can_write, first_values}

@@ -1,4 +1,4 @@
-use Rattle.std.proofs.Common.{ℕ, ◌≡◌, ◌<◌, ◌∙◌, [], List, ap, arith}
+use Rattle.std.proofs.Common.{ℕ, ◌<◌, ◌∙◌, [], List, ap, arith}
 use Rattle.std.proofs.lemmas.List.{get_or_read}
 use Rattle.sv_queue.specs.Invariant.{view_of}
 use Rattle.sv_queue.specs.Queue.{QueueView, with_given}

@@ -1,4 +1,4 @@
-use Rattle.std.proofs.Common.{ap, ◌∙◌, sym}
+use Rattle.std.proofs.Common.{ap, ◌∙◌}
 use Rattle.sv_queue.specs.Sessions.{with_session}
 use Rattle.sv_queue.proofs.SessionSets.{sessions_of-set}
 use Rattle.sv_queue.proofs.sessions.Sessions.add.Goals as goal

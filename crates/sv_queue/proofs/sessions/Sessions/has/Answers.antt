@@ -1,4 +1,4 @@
-use Rattle.std.proofs.Common.{ℕ, ◌≡◌, nat_lt, nat_eq, Bool, ap, ◌∙◌, sym, arith}
+use Rattle.std.proofs.Common.{nat_eq, ap, ◌∙◌, sym}
 use Rattle.std.proofs.lemmas.Bool.{le-ltb}
 use Rattle.std.proofs.lemmas.Nat.Bits.{shr_and_one}
 use Rattle.sv_world.specs.Control.{is_in}

@@ -1,5 +1,3 @@
-use Rattle.std.proofs.Common.{List, ℕ}
-use Rattle.sv_queue.specs.Written.{IsChangedAt, front_of}
 use Rattle.sv_queue.proofs.WrittenObjects.{writes_before_all}
 use Rattle.sv_queue.proofs.writers.Writers.remove_last.Goals as goal
 
