@@ -1,9 +1,11 @@
 -- What a journal says of its actions, results and clients. A history is the list of a journal's entries with the latest first: `e ∷ h`
 -- is h, and then e. Positions and sequence numbers count from 1.
-use Rattle.std.specs.Prelude.{ℕ, zero, suc, ◌+◌, ◌-◌, Bool, true, false, ◌&&◌, ◌==◌, ℤ, List, [], ◌∷◌, ◌++◌, map, length, slice_index_or, if◌then◌else◌, Option, Some, None, is_some, option_map}
+use Rattle.std.specs.Prelude.{ℕ, zero, suc, ◌+◌, ◌-◌, Bool, true, false, ◌&&◌, ◌==◌, ℤ, List, [], ◌∷◌, ◌++◌, map, length, slice_index_or, if◌then◌else◌, Option, Some, None, is_some, unwrap_or}
 use Rattle.sv_world.specs.declared.action.Action.{Action}
 use Rattle.sv_world.specs.declared.world.ClientId.{ClientId}
-use Rattle.sv_world.specs.Control.{blank}
+use Rattle.sv_world.specs.Control.{blank, action_at}
+use Rattle.sv_world.specs.Sets.{write_set}
+use Rattle.sv_eval.specs.Serial.{put_all}
 use Rattle.sv_wire.specs.declared.message.Done1.{Done1}
 use Rattle.sv_wire.specs.declared.message.Request.{Request}
 use Rattle.sv_wire.specs.declared.message.Request.TheVariants as requests
@@ -119,6 +121,16 @@ run_length test (suc n) = if (run_length test n == n) && test (suc n) then suc n
 -- The commit: the greatest accepted position up to which all have results.
 abbrev pub commit_of : List Entry → ℕ
 commit_of h = run_length (λ p. is_some (result_at h p)) (length (accepted h))
+
+-- The opening world after the results of the positions from 1 to p are put on the objects that they write, in order.
+abbrev pub installed : List (List ℤ) → List Entry → ℕ → List (List ℤ)
+installed opening h zero = opening
+installed opening h (suc p) =
+    put_all (installed opening h p) (write_set (action_at (actions_of h) (suc p))) (unwrap_or (result_at h (suc p)) [])
+
+-- The committed world: the values of all objects at the commit.
+abbrev pub committed_of : List (List ℤ) → List Entry → List (List ℤ)
+committed_of opening h = installed opening h (commit_of h)
 
 -- ---- Whole replies
 

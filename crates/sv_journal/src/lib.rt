@@ -2,5 +2,7 @@
 #![tactic(auto)]
 
 mod entry;
+mod text;
 
 pub use entry::{Entry, Logged};
+pub use text::{append_held, append_objects, append_value};

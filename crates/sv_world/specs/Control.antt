@@ -2,7 +2,7 @@
 -- Everything here speaks of positions, reads, writes and delivery marks alone, and of no value: it holds for any clients.
 -- `A` is the list of accepted actions; the action at position p, counted from 1, is its p-th. `sent` are the positions that were sent to a
 -- session, and `given` are the objects whose committed value the session was given, or has computed, since they were last written.
-use Rattle.std.specs.Prelude.{◌≡◌, ℕ, zero, suc, ◌<◌, ◌+◌, Bool, true, false, ◌&&◌, ◌||◌, not, nat_lt, nat_le, nat_eq, List, [], ◌∷◌, ◌++◌, map, filter, length, slice_index_or, max, pos, ℤ, ◌-ℤ◌, nat_abs, if◌then◌else◌}
+use Rattle.std.specs.Prelude.{◌≡◌, ℕ, zero, suc, ◌<◌, Bool, true, false, ◌&&◌, ◌||◌, not, nat_lt, nat_le, nat_eq, List, [], ◌∷◌, ◌++◌, map, filter, length, slice_index_or, max, pos, ◌-ℤ◌, nat_abs, if◌then◌else◌}
 use Rattle.sv_world.specs.declared.action.Action.{Action}
 use Rattle.sv_world.specs.declared.action.Point.{Point}
 use Rattle.sv_world.specs.Sets.{read_set, write_set}
@@ -37,6 +37,12 @@ pub data IsNeeded (A : List Action) (commit : ℕ) (sent : List ℕ) (i : ℕ) :
   writer : {k j : ℕ} (x : ℕ) → IsNeeded A commit sent i k → is_in x (read_set (action_at A k)) ≡ true →
       j ≡ last_writer A x k → commit < j → is_in j sent ≡ false → IsNeeded A commit sent i j
 
+-- A set of positions has, for each k in it and each object that k reads, the last writer below k, where that is above the commit and was not
+-- sent.
+abbrev pub IsClosed : List Action → ℕ → List ℕ → (ℕ → Bool) → Type 0
+IsClosed A commit sent p = (k x : ℕ) → p k ≡ true → is_in x (read_set (action_at A k)) ≡ true → commit < last_writer A x k →
+    is_in (last_writer A x k) sent ≡ false → p (last_writer A x k) ≡ true
+
 -- The last writers of what k reads that are above the commit and were not sent.
 abbrev pub missing_writers : List Action → ℕ → List ℕ → ℕ → List ℕ
 missing_writers A commit sent k =
@@ -68,6 +74,12 @@ head_for objects A commit sent given i =
 -- The influence of an action placed after all of A: what a session that was sent nothing would lack of it, the action itself left out.
 abbrev pub influence : List Action → ℕ → Action → List ℕ
 influence A commit a = wanted_up_to (A ++ a ∷ []) commit [] (length A) (missing_writers (A ++ a ∷ []) commit [] (suc (length A)))
+
+-- The influence as a relation, before the positions at or below the commit are left out: the least set that has the last writer of each
+-- object that the action reads and, for each k in it, the last writer below k of each object that k reads.
+pub data IsInfluence (A : List Action) (a : Action) : ℕ → Type 0 where
+  direct : {j : ℕ} (x : ℕ) → is_in x (read_set a) ≡ true → j ≡ last_writer A x (suc (length A)) → IsInfluence A a j
+  further : {k j : ℕ} (x : ℕ) → IsInfluence A a k → is_in x (read_set (action_at A k)) ≡ true → j ≡ last_writer A x k → IsInfluence A a j
 
 abbrev pub chain_length : List Action → ℕ → Action → ℕ
 chain_length A commit a = length (influence A commit a)

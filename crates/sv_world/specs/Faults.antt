@@ -4,7 +4,6 @@ use Rattle.std.specs.List.{list_any}
 use Rattle.sv_world.specs.Sets.{is_in_mask, read_set}
 use Rattle.sv_world.specs.Trees.{body_nodes, body_depth, body_passes}
 use Rattle.sv_world.specs.declared.action.Action.{Action}
-use Rattle.sv_world.specs.declared.action.Point.{Point}
 use Rattle.sv_world.specs.declared.world.Shape.{Shape}
 use Rattle.sv_world.specs.declared.check.BadAction.{BadAction}
 use Rattle.sv_world.specs.declared.check.BadAction.TheVariants.{NoReads, TooManyReads, NotAscending, NoSuchObject, BadMask, BadSlot, NotWritable, BadAttr, TooLarge, TooDeep, BadOrigin}
@@ -62,10 +61,10 @@ abbrev pub first_of : List (Bool × BadAction) → Option BadAction
 first_of [] = None
 first_of (c ∷ cs) = if c.0 then Some c.1 else first_of cs
 
--- The first of the eleven causes for which an action is refused in a shape, if one applies.
-unfoldable pub first_fault_of_action : Shape → Action → Option BadAction
-first_fault_of_action shape a = first_of
-    ((has_no_reads a, NoReads)
+-- The eleven causes in order, each with whether it applies.
+abbrev pub causes : Shape → Action → List (Bool × BadAction)
+causes shape a =
+    (has_no_reads a, NoReads)
     ∷ (has_too_many_reads a, TooManyReads)
     ∷ (is_not_ascending a, NotAscending)
     ∷ (reads_no_object shape a, NoSuchObject)
@@ -76,7 +75,11 @@ first_fault_of_action shape a = first_of
     ∷ (is_too_large a, TooLarge)
     ∷ (is_too_deep a, TooDeep)
     ∷ (not (has_origin a), BadOrigin)
-    ∷ [])
+    ∷ []
+
+-- The first of the eleven causes for which an action is refused in a shape, if one applies.
+unfoldable pub first_fault_of_action : Shape → Action → Option BadAction
+first_fault_of_action shape a = first_of (causes shape a)
 
 -- The number of a cause in their order, from 1.
 abbrev pub cause_number : BadAction → ℕ

@@ -1,5 +1,12 @@
-ghost use Rattle.std.specs.Prelude.{◌≡◌};
-ghost use Rattle.sv_world.specs.Faults.{cause_number};
+ghost use Rattle.std.specs.Prelude.{◌≡◌, ◌↔◌, map, not, Some, None, MatchResult, OnOk};
+ghost use Rattle.sv_world.specs.declared.action.Action.{Action};
+ghost use Rattle.sv_world.specs.declared.world.ObjectId.{ObjectId};
+ghost use Rattle.sv_world.specs.declared.world.Shape.{Shape};
+ghost use Rattle.sv_world.specs.Faults.{is_ascending, has_no_reads, has_too_many_reads, is_not_ascending, reads_no_object, has_bad_mask, has_slots, sets_in_mask, has_attrs, is_too_large, is_too_deep, is_in_plane, has_origin, first_fault_of_action, cause_number, IsGoodAction};
+
+use crate::measure::{body_is_within, body_left};
+use crate::names::{NameTest, passes_in_body};
+use crate::{Action, ObjectId, Shape};
 
 /// Why an action is refused, in the order in which the causes are looked for.
 #[derive(Clone, Copy, Debug, Drop, PartialEq, Eq)]
@@ -43,4 +50,170 @@ impl BadAction {
             BadAction::BadOrigin => 11,
         }
     }
+}
+
+/// Whether the numbers of the objects ascend strictly.
+pub fn is_ascending(objects: &[ObjectId]) -> bool
+    ensures { result ≡ is_ascending (map (λ (o : ObjectId). o.0) objects.now) }
+{
+    let [first, rest @ ..] = objects else {
+        return true;
+    };
+    let mut last = first.0;
+    for object in rest {
+        if object.0 <= last {
+            return false;
+        }
+        last = object.0;
+    }
+    true
+}
+
+/// Refuses an action that is not one of this shape, with the first cause that applies. It walks trees of any depth.
+pub fn check_action(shape: Shape, action: &Action) -> Result<(), BadAction>
+    ensures first { MatchResult result (λ _. first_fault_of_action shape action.now ≡ None) (λ cause. first_fault_of_action shape action.now ≡ Some cause) }
+    ensures good { OnOk result (IsGoodAction shape action.now) }
+{
+    match first_fault(shape, action) {
+        None => Ok(()),
+        Some(cause) => Err(cause),
+    }
+}
+
+#[tactic(auto, unfolding(crate::specs::Faults::first_fault_of_action))]
+fn first_fault(shape: Shape, action: &Action) -> Option<BadAction>
+    ensures { result ≡ first_fault_of_action shape action.now }
+{
+    if has_no_reads(action) {
+        return Some(BadAction::NoReads);
+    }
+    if has_too_many_reads(action) {
+        return Some(BadAction::TooManyReads);
+    }
+    if is_not_ascending(action) {
+        return Some(BadAction::NotAscending);
+    }
+    if reads_no_object(shape, action) {
+        return Some(BadAction::NoSuchObject);
+    }
+    if has_bad_mask(action) {
+        return Some(BadAction::BadMask);
+    }
+    if !has_slots(action) {
+        return Some(BadAction::BadSlot);
+    }
+    if !sets_in_mask(action) {
+        return Some(BadAction::NotWritable);
+    }
+    if !has_attrs(shape, action) {
+        return Some(BadAction::BadAttr);
+    }
+    if is_too_large(action) {
+        return Some(BadAction::TooLarge);
+    }
+    if is_too_deep(action) {
+        return Some(BadAction::TooDeep);
+    }
+    if !has_origin(action) {
+        return Some(BadAction::BadOrigin);
+    }
+    None
+}
+
+/// A law of the causes: none applies to an action exactly where the action is good.
+pub fn good_actions_have_no_fault()
+    ensures { (shape : Shape) (action : Action) → (first_fault_of_action shape action ≡ None) ↔ IsGoodAction shape action }
+{}
+
+#[tactic(auto, unfolding(crate::specs::Faults::has_no_reads))]
+fn has_no_reads(action: &Action) -> bool
+    ensures { result ≡ has_no_reads action.now }
+{
+    action.reads.len() == 0
+}
+
+#[tactic(auto, unfolding(crate::specs::Faults::has_too_many_reads))]
+fn has_too_many_reads(action: &Action) -> bool
+    ensures { result ≡ has_too_many_reads action.now }
+{
+    action.reads.len() > 16
+}
+
+#[tactic(auto, unfolding(crate::specs::Faults::is_not_ascending))]
+fn is_not_ascending(action: &Action) -> bool
+    ensures { result ≡ is_not_ascending action.now }
+{
+    !is_ascending(action.reads.as_slice())
+}
+
+#[tactic(auto, unfolding(crate::specs::Faults::reads_no_object))]
+fn reads_no_object(shape: Shape, action: &Action) -> bool
+    ensures { result ≡ reads_no_object shape action.now }
+{
+    for object in action.reads.as_slice() {
+        if object.0 >= shape.objects {
+            return true;
+        }
+    }
+    false
+}
+
+#[tactic(auto, unfolding(crate::specs::Faults::has_bad_mask))]
+fn has_bad_mask(action: &Action) -> bool
+    ensures { result ≡ has_bad_mask action.now }
+{
+    let mask = action.mask;
+    let reads = action.reads.len();
+    reads < 16 && mask >> reads > 0
+}
+
+#[tactic(auto, unfolding(crate::specs::Faults::has_slots))]
+fn has_slots(action: &Action) -> bool
+    ensures { result ≡ has_slots action.now }
+{
+    let reads = action.reads.len();
+    passes_in_body(NameTest::Slot { reads }, action.body.as_slice())
+}
+
+#[tactic(auto, unfolding(crate::specs::Faults::sets_in_mask))]
+fn sets_in_mask(action: &Action) -> bool
+    ensures { result ≡ sets_in_mask action.now }
+{
+    let mask = action.mask;
+    passes_in_body(NameTest::Writable { mask }, action.body.as_slice())
+}
+
+#[tactic(auto, unfolding(crate::specs::Faults::has_attrs))]
+fn has_attrs(shape: Shape, action: &Action) -> bool
+    ensures { result ≡ has_attrs shape action.now }
+{
+    let attrs = shape.attrs;
+    passes_in_body(NameTest::Attr { attrs }, action.body.as_slice())
+}
+
+#[tactic(auto, unfolding(crate::specs::Faults::is_too_large))]
+fn is_too_large(action: &Action) -> bool
+    ensures { result ≡ is_too_large action.now }
+{
+    body_left(64, action.body.as_slice()).is_none()
+}
+
+#[tactic(auto, unfolding(crate::specs::Faults::is_too_deep))]
+fn is_too_deep(action: &Action) -> bool
+    ensures { result ≡ is_too_deep action.now }
+{
+    !body_is_within(8, action.body.as_slice())
+}
+
+fn is_in_plane(coordinate: i32) -> bool
+    ensures { result ≡ is_in_plane coordinate }
+{
+    coordinate >= -1_000_000 && coordinate <= 1_000_000
+}
+
+#[tactic(auto, unfolding(crate::specs::Faults::has_origin))]
+fn has_origin(action: &Action) -> bool
+    ensures { result ≡ has_origin action.now }
+{
+    is_in_plane(action.origin.x) && is_in_plane(action.origin.y)
 }

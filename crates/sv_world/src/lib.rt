@@ -4,13 +4,26 @@
 mod action;
 mod boxed;
 mod check;
+mod copy;
+mod laws;
 mod list;
+mod measure;
+mod names;
+#[cfg(test)]
+mod tests;
 mod text;
 mod world;
 
 pub use action::{Action, Cond, Expr, Point, Stmt};
 pub use boxed::Boxed;
-pub use check::BadAction;
+pub use check::{BadAction, check_action, good_actions_have_no_fault, is_ascending};
+pub use copy::{copy_action, copy_objects, copy_value, copy_values};
+pub use laws::{
+    base_values_are_those_read_as_committed, committed_actions_do_not_count,
+    influence_is_the_least_set, missing_influences_are_the_least_set, missing_influences_ascend,
+    missing_influences_only_shrink, only_marks_above_the_commit_count,
+};
 pub use list::List;
+pub use names::is_in_mask;
 pub use text::Text;
 pub use world::{ClientId, ObjectId, Shape, Value, World};

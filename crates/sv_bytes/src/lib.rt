@@ -1,0 +1,20 @@
+//! Files that are read and sinks that are written, as traits with exact contracts: what a call
+//! moves, when it fails, and that a failure is counted.
+#![tactic(auto)]
+
+mod faults;
+mod memory;
+mod plan;
+mod reading;
+mod stored;
+mod system;
+#[cfg(test)]
+mod tests;
+mod writing;
+
+pub use faults::FaultCount;
+pub use memory::{MemFiles, MemSink};
+pub use plan::Plan;
+pub use reading::{Begun, FileFault, Files, Read, read_all};
+pub use system::{OsFiles, OsSink};
+pub use writing::{Sink, Wrote, write_all, write_pieces};

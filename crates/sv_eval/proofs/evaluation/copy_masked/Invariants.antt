@@ -1,0 +1,6 @@
+use Rattle.std.proofs.Common.{◌≡◌, ◌++◌, drop}
+use Rattle.sv_world.specs.Sets.{at_mask}
+use Rattle.sv_eval.proofs.evaluation.copy_masked.Given as goal
+
+abbrev pub invariant-loop-slot : goal.invariant-loop-slot
+invariant-loop-slot l = l.copies ++ at_mask l.mask l.slot (drop l.slot l.values) ≡ at_mask l.mask 0 l.values

@@ -1,0 +1,3 @@
+pub mod Evaluation
+pub mod Numbers
+pub mod Serial

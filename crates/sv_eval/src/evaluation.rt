@@ -1,0 +1,41 @@
+ghost use Rattle.std.specs.Prelude.{◌≡◌, ◌≤◌, ℕ, IfOk, All, length, ◌++◌, [], ◌∷◌};
+ghost use Rattle.sv_world.specs.Sets.{at_mask, write_set};
+ghost use Rattle.sv_eval.specs.Evaluation.{outcome_of};
+
+use crate::Outcome;
+use crate::run::run_body;
+use std::alloc::{AllocError, Global};
+use sv_world::{Action, List, Value, copy_value, copy_values, is_in_mask};
+
+/// The result of an action on one value for each of its reads.
+///
+/// Slots and attributes beyond the values are read as 0, and setting them does nothing.
+#[tactic(auto, unfolding(crate::specs::Evaluation::outcome_of))]
+pub fn eval(alloc: Global, action: &Action, values: &[Value]) -> Result<Outcome, AllocError>
+    ensures { IfOk result (λ outcome. outcome ≡ outcome_of action.now values.now) }
+{
+    let mut slots = copy_values(alloc, values)?.into_vec();
+    if run_body(action.body.as_slice(), slots.as_mut_slice()) {
+        let writes = copy_masked(alloc, action.mask, slots.as_slice())?;
+        Ok(Outcome {
+            void: false,
+            writes,
+        })
+    } else {
+        let writes = copy_masked(alloc, action.mask, values)?;
+        Ok(Outcome { void: true, writes })
+    }
+}
+
+/// Copies of the values at the slots in the mask.
+fn copy_masked(alloc: Global, mask: u16, values: &[Value]) -> Result<List<Value>, AllocError>
+    ensures { IfOk result (λ copies. copies ≡ at_mask mask 0 values.now) }
+{
+    let mut copies = List::new(alloc);
+    for (slot, value) in values.iter().enumerate() {
+        if is_in_mask(mask, slot) {
+            copies.push(copy_value(alloc, value)?)?;
+        }
+    }
+    Ok(copies)
+}

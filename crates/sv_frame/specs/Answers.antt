@@ -1,0 +1,40 @@
+-- What a reader's `next` answers, and what it leaves.
+use Rattle.std.specs.Prelude.{◌≡◌, ℕ, ◌+◌, ◌≤◌, ◌<◌, List, [], ◌++◌, length, take, drop, None, Some, option_map, ⊤}
+use Rattle.std.specs.Borrow.{follows_so, MutBor, Fml}
+use mathlib.Core.Option.{none}
+use Rattle.sv_frame.specs.Frames.{frame, first_frame, too_long}
+use Rattle.sv_frame.specs.Streams.{TakesOff, split_frames}
+use Rattle.sv_frame.specs.declared.reader.Front.{Front}
+use Rattle.sv_frame.specs.declared.reader.Front.TheVariants.{Whole, Partial, Oversize}
+use Rattle.sv_frame.specs.declared.reader.Next.{Next}
+use Rattle.sv_frame.specs.declared.reader.Next.TheVariants.{Frame, NotYet, TooLong}
+use Rattle.sv_frame.specs.contracts.reader.FrameReader.{the_row}
+
+-- the first payload of the rest; or there is neither a whole frame nor a length over the limit; or that length
+abbrev pub IsAnswer : Next → List ℕ → Type 0
+IsAnswer (Frame payload) rest = option_map (λ first. first.0) (first_frame rest) ≡ Some payload.now
+IsAnswer NotYet rest = (first_frame rest ≡ None) × (too_long rest ≡ None)
+IsAnswer (TooLong n) rest = too_long rest ≡ Some n
+
+-- a rest with no whole frame leaves room for another byte
+abbrev pub LeavesRoom : Next → List ℕ → Type 0
+LeavesRoom (Frame payload) rest = Unit {0}
+LeavesRoom NotYet rest = length rest < 65540
+LeavesRoom (TooLong n) rest = Unit {0}
+
+-- A frame is taken off. Any other answer takes nothing off, and there was no payload to split off
+abbrev pub IsRestAfter : Next → List ℕ → List ℕ → Type 0
+IsRestAfter (Frame payload) old new = TakesOff payload.now old new
+IsRestAfter NotYet old new = (new ≡ old) × (split_frames old ≡ ([], old))
+IsRestAfter (TooLong n) old new = (new ≡ old) × (split_frames old ≡ ([], old))
+
+-- what the reader is once the answer is gone
+abbrev pub LeavesRest : MutBor (List ℕ) → Next → Fml
+LeavesRest reader answer =
+    follows_so the_row the_row reader.ghost_name none (λ _ _. ⊤) (λ new. IsRestAfter answer reader.now new)
+
+-- what a rest begins with, the length of a whole frame's payload among it
+abbrev pub IsFront : Front → List ℕ → Type 0
+IsFront (Whole n) rest = (4 + n ≤ length rest) × (first_frame rest ≡ Some (take n (drop 4 rest), drop (4 + n) rest)) × (rest ≡ frame (take n (drop 4 rest)) ++ drop (4 + n) rest)
+IsFront Partial rest = (first_frame rest ≡ None) × (too_long rest ≡ None)
+IsFront (Oversize n) rest = too_long rest ≡ Some n

@@ -1,0 +1,126 @@
+//! Reading frames from a stream that comes in pieces.
+ghost use Rattle.std.specs.Prelude.{◌≡◌, [], ◌++◌, ◌+◌, ◌<◌, ◌≤◌, IfOk, length};
+ghost use Rattle.std.specs.Borrow.{sem};
+ghost use Rattle.sv_frame.specs.Answers.{IsAnswer, IsFront, LeavesRoom, LeavesRest};
+
+use crate::limits::{GREATEST_PAYLOAD, PREFIX, ROOM};
+use byteorder::{BigEndian, ByteOrder};
+use std::alloc::{AllocError, Global};
+use std::marker::Model;
+
+/// What a reader finds at the front of what it was fed.
+#[derive(Clone, Copy, Debug, PartialEq, Eq)]
+pub enum Next<'a> {
+    /// The payload of a whole frame, which is taken off the stream.
+    Frame(&'a [u8]),
+
+    /// No whole frame has come yet.
+    NotYet,
+
+    /// The next frame's length, which is over the limit. No frame can be read from here on.
+    TooLong(u32),
+}
+
+/// What has come of a stream and was not yet given as frames. Contracts see the list of these bytes.
+///
+/// The room for them is taken once, by `new`.
+#[derive(Drop)]
+pub struct FrameReader {
+    room: Vec<u8>,
+    start: usize,
+    end: usize,
+}
+
+impl Model for FrameReader {
+    ghost use Rattle.std.specs.Prelude.{◌≡◌, ◌-◌, ◌≤◌, List, ℕ, take, drop};
+    ghost use Rattle.std.specs.Vec.{vec_len};
+
+    ghost Value = { List ℕ };
+
+    ghost view = { λ r. take (r.end - r.start) (drop r.start r.room.items) };
+
+    ghost invariant = { λ r. (vec_len r.room ≡ 65540) × (r.start ≤ r.end) × (r.end ≤ 65540) };
+}
+
+impl FrameReader {
+    /// A reader that was fed nothing.
+    pub fn new(alloc: Global) -> Result<FrameReader, AllocError>
+        ensures { IfOk result (λ reader. reader ≡ []) }
+    {
+        let room = vec![in alloc; 0; ROOM]?;
+        Ok(FrameReader {
+            room,
+            start: 0,
+            end: 0,
+        })
+    }
+
+    /// How many bytes the next piece may have. At least one, after `next` answered `NotYet`.
+    pub fn spare(&self) -> usize
+        ensures { result + length self.now ≡ 65540 }
+    {
+        ROOM - (self.end - self.start)
+    }
+
+    /// Takes the next piece of the stream, of at most [`spare`](FrameReader::spare) bytes.
+    pub fn feed(&mut self, piece: &[u8])
+        requires { length self.old + length piece.now ≤ 65540 }
+        ensures { self.new ≡ self.old ++ piece.now }
+    {
+        // An empty rest costs nothing to move, and what is used again is still in the cache.
+        if self.start == self.end || piece.len() > ROOM - self.end {
+            self.room.copy_within(self.start..self.end, 0);
+            self.end -= self.start;
+            self.start = 0;
+        }
+        let after = self.end + piece.len();
+        self.room.as_mut_slice()[self.end..after].copy_from_slice(piece);
+        self.end = after;
+    }
+
+    /// Gives the next frame's payload, and takes the frame off the stream. Any other answer takes nothing off.
+    pub fn next(&mut self) -> Next<'_>
+        ensures answer { IsAnswer result self.old }
+        ensures room { LeavesRoom result self.old }
+        ensures* rest { sem 𝓛 (LeavesRest self.entry result) }
+    {
+        let start = self.start;
+        match front_of(&self.room[start..self.end]) {
+            Front::Whole(length) => {
+                self.start = start + PREFIX + length;
+                Next::Frame(&self.room[start + PREFIX..start + PREFIX + length])
+            }
+            Front::Partial => Next::NotYet,
+            Front::Oversize(length) => Next::TooLong(length),
+        }
+    }
+}
+
+/// What a rest begins with.
+enum Front {
+    /// A frame with a payload of so many bytes.
+    Whole(usize),
+
+    /// Less than a frame.
+    Partial,
+
+    /// A length over the limit.
+    Oversize(u32),
+}
+
+fn front_of(rest: &[u8]) -> Front
+    ensures { IsFront result rest.now }
+{
+    if rest.len() < PREFIX {
+        return Front::Partial;
+    }
+    let length = BigEndian::read_u32(rest);
+    let size = length as usize;
+    if size > GREATEST_PAYLOAD {
+        return Front::Oversize(length);
+    }
+    if rest.len() < PREFIX + size {
+        return Front::Partial;
+    }
+    Front::Whole(size)
+}

@@ -1,0 +1,8 @@
+pub mod Lists
+pub mod Rows
+pub mod Puts
+pub mod Prunes
+pub mod Flats
+pub mod Prunings
+pub mod Greatest
+pub mod Laws

@@ -1,0 +1,9 @@
+pub mod Ascending
+pub mod Bases
+pub mod Good
+pub mod Influences
+pub mod Masks
+pub mod Members
+pub mod Needs
+pub mod Sweeps
+pub mod Writers

@@ -1,0 +1,73 @@
+-- Which numbers are in a list.
+use Rattle.std.proofs.Common.{◌≡◌, ℕ, Bool, true, ◌⊎◌, inl, inr, List, [], ◌∷◌, ◌++◌, map, filter, refl, sym, ◌∙◌, ap, subst, nat_eq, eq-eqb, eqb-true}
+use Rattle.std.proofs.lemmas.Bool.{cond_both, or_cases, or_left, or_right}
+use Rattle.sv_world.specs.Control.{is_in}
+
+pub is_in-head : (k : ℕ) (xs : List ℕ) → is_in k (k ∷ xs) ≡ true
+is_in-head k xs = or_left (nat_eq k k) (is_in k xs) (eq-eqb k k refl)
+
+pub is_in-tail : (k x : ℕ) (xs : List ℕ) → is_in k xs ≡ true → is_in k (x ∷ xs) ≡ true
+is_in-tail k x xs h = or_right (nat_eq k x) (is_in k xs) h
+
+pub is_in-cons_cases : (k x : ℕ) (xs : List ℕ) → is_in k (x ∷ xs) ≡ true → (k ≡ x) ⊎ (is_in k xs ≡ true)
+is_in-cons_cases k x xs h = elim (or_cases (nat_eq k x) (is_in k xs) h) [ inl e ↦ inl (eqb-true k x e) | inr r ↦ inr r ]
+
+pub is_in-one : (k x : ℕ) → is_in k (x ∷ []) ≡ true → k ≡ x
+is_in-one k x h = elim (is_in-cons_cases k x [] h) [ inl e ↦ e | inr r ↦ cc ]
+
+pub is_in-append_left : (k : ℕ) (xs ys : List ℕ) → is_in k xs ≡ true → is_in k (xs ++ ys) ≡ true
+is_in-append_left k [] ys h = cc
+is_in-append_left k (x ∷ xs) ys h =
+    elim (or_cases (nat_eq k x) (is_in k xs) h) [
+      | inl e ↦ or_left (nat_eq k x) (is_in k (xs ++ ys)) e
+      | inr r ↦ is_in-tail k x (xs ++ ys) (is_in-append_left k xs ys r)
+    ]
+
+pub is_in-append_right : (k : ℕ) (xs ys : List ℕ) → is_in k ys ≡ true → is_in k (xs ++ ys) ≡ true
+is_in-append_right k [] ys h = h
+is_in-append_right k (x ∷ xs) ys h = is_in-tail k x (xs ++ ys) (is_in-append_right k xs ys h)
+
+pub is_in-append_cases : (k : ℕ) (xs ys : List ℕ) → is_in k (xs ++ ys) ≡ true → (is_in k xs ≡ true) ⊎ (is_in k ys ≡ true)
+is_in-append_cases k [] ys h = inr h
+is_in-append_cases k (x ∷ xs) ys h =
+    elim (or_cases (nat_eq k x) (is_in k (xs ++ ys)) h) [
+      | inl e ↦ inl (or_left (nat_eq k x) (is_in k xs) e)
+      | inr r ↦ elim (is_in-append_cases k xs ys r) [ inl l ↦ inl (is_in-tail k x xs l) | inr s ↦ inr s ]
+    ]
+
+pub is_in-filter : (p : ℕ → Bool) (k : ℕ) (xs : List ℕ) → is_in k xs ≡ true → p k ≡ true → is_in k (filter p xs) ≡ true
+is_in-filter p k [] h q = cc
+is_in-filter p k (x ∷ xs) h q =
+    let rest : is_in k xs ≡ true → is_in k (filter p xs) ≡ true = λ r. is_in-filter p k xs r q in
+    cond_both (p x) (x ∷ filter p xs) (filter p xs) (λ (ys : List ℕ). is_in k ys ≡ true)
+    (λ e. elim (is_in-cons_cases k x xs h) [ inl s ↦ subst (λ (y : ℕ). is_in k (y ∷ filter p xs) ≡ true) s (is_in-head k (filter p xs)) | inr r ↦ is_in-tail k x (filter p xs) (rest r) ])
+    (λ e. elim (is_in-cons_cases k x xs h) [ inl s ↦ (let f : p x ≡ true = ap p (sym s) ∙ q in cc) | inr r ↦ rest r ])
+
+pub is_in-filter_parts : (p : ℕ → Bool) (k : ℕ) (xs : List ℕ) → is_in k (filter p xs) ≡ true → (is_in k xs ≡ true) × (p k ≡ true)
+is_in-filter_parts p k [] h = cc
+is_in-filter_parts p k (x ∷ xs) h =
+    let rest : is_in k (filter p xs) ≡ true → (is_in k (x ∷ xs) ≡ true) × (p k ≡ true) =
+    λ r. (let both = is_in-filter_parts p k xs r in (is_in-tail k x xs both.0, both.1)) in
+    cond_both (p x) (x ∷ filter p xs) (filter p xs) (λ (ys : List ℕ). is_in k ys ≡ true → (is_in k (x ∷ xs) ≡ true) × (p k ≡ true))
+    (λ e g. elim (is_in-cons_cases k x (filter p xs) g) [
+      | inl s ↦ (subst (λ (y : ℕ). is_in k (y ∷ xs) ≡ true) s (is_in-head k xs), ap p s ∙ e)
+      | inr r ↦ rest r
+    ])
+    (λ e g. rest g)
+    h
+
+pub is_in-map : (f : ℕ → ℕ) (x : ℕ) (xs : List ℕ) → is_in x xs ≡ true → is_in (f x) (map f xs) ≡ true
+is_in-map f x [] h = cc
+is_in-map f x (y ∷ ys) h =
+    elim (is_in-cons_cases x y ys h) [
+      | inl e ↦ subst (λ (z : ℕ). is_in (f x) (f z ∷ map f ys) ≡ true) e (is_in-head (f x) (map f ys))
+      | inr r ↦ is_in-tail (f x) (f y) (map f ys) (is_in-map f x ys r)
+    ]
+
+pub is_in-map_from : (f : ℕ → ℕ) (k : ℕ) (xs : List ℕ) → is_in k (map f xs) ≡ true → (x : ℕ) × ((is_in x xs ≡ true) × (k ≡ f x))
+is_in-map_from f k [] h = cc
+is_in-map_from f k (y ∷ ys) h =
+    elim (is_in-cons_cases k (f y) (map f ys) h) [
+      | inl e ↦ (y, (is_in-head y ys, e))
+      | inr r ↦ (let from = is_in-map_from f k ys r in (from.0, (is_in-tail from.0 y ys from.1.0, from.1.1)))
+    ]

@@ -1,0 +1,158 @@
+use crate::{
+    Action, Boxed, ClientId, Cond, Expr, List, ObjectId, Point, Shape, Stmt, Text, World,
+    check_action, copy_action, copy_objects, copy_value, copy_values, good_actions_have_no_fault,
+    is_ascending, is_in_mask,
+};
+use std::alloc::{AllocError, Global};
+use std::test::Fail;
+
+const ONE: Shape = Shape {
+    objects: 1,
+    attrs: 1,
+};
+
+fn ids(alloc: Global, numbers: &[u16]) -> Result<List<ObjectId>, AllocError> {
+    let mut ids = List::new(alloc);
+    for number in numbers {
+        ids.push(ObjectId(*number))?;
+    }
+    Ok(ids)
+}
+
+fn action(alloc: Global, reads: &[u16], mask: u16, body: List<Stmt>) -> Result<Action, AllocError> {
+    let reads = ids(alloc, reads)?;
+    let origin = Point { x: 0, y: 0 };
+    Ok(Action {
+        reads,
+        mask,
+        origin,
+        body,
+    })
+}
+
+fn set(slot: u8, attr: u8) -> Stmt {
+    let expr = Expr::Lit(7);
+    Stmt::Set { slot, attr, expr }
+}
+
+/// That many statements of two nodes each.
+fn sets(alloc: Global, count: u8) -> Result<List<Stmt>, AllocError> {
+    let mut body = List::new(alloc);
+    for _ in 0..count {
+        body.push(set(0, 0))?;
+    }
+    Ok(body)
+}
+
+/// One statement of depth 3 more than the number of negations.
+fn negations(alloc: Global, count: u8) -> Result<List<Stmt>, AllocError> {
+    let mut cond = Cond::Eq(Expr::Lit(1), Expr::Lit(2));
+    for _ in 0..count {
+        cond = Cond::Not(Boxed::new(alloc, cond)?);
+    }
+    let mut body = List::new(alloc);
+    body.push(Stmt::If {
+        cond,
+        then: List::new(alloc),
+        other: List::new(alloc),
+    })?;
+    Ok(body)
+}
+
+/// The number of the action's first cause in a world of one object with one attribute, 0 for none.
+fn cause(action: &Action) -> u8 {
+    match check_action(ONE, action) {
+        Ok(()) => 0,
+        Err(cause) => cause.code(),
+    }
+}
+
+#[test]
+fn answers_the_first_cause(rt: HostRuntime) -> Result<(), Fail> {
+    let alloc = rt.alloc();
+    assert_eq!(rt; cause(&action(alloc, &[], 2, sets(alloc, 40)?)?), 1);
+    assert_eq!(rt; cause(&action(alloc, &[0; 17], 0, sets(alloc, 0)?)?), 2);
+    assert_eq!(rt; cause(&action(alloc, &[0; 16], 0, sets(alloc, 0)?)?), 3);
+    assert_eq!(rt; cause(&action(alloc, &[1], 2, sets(alloc, 0)?)?), 4);
+    assert_eq!(rt; cause(&action(alloc, &[0], 2, sets(alloc, 0)?)?), 5);
+    assert_eq!(rt; cause(&action(alloc, &[0], 0, sets(alloc, 1)?)?), 7);
+    assert_eq!(rt; cause(&action(alloc, &[0], 1, sets(alloc, 33)?)?), 9);
+    assert_eq!(rt; cause(&action(alloc, &[0], 1, sets(alloc, 32)?)?), 0);
+    assert_eq!(rt; cause(&action(alloc, &[0], 1, negations(alloc, 6)?)?), 10);
+    assert_eq!(rt; cause(&action(alloc, &[0], 1, negations(alloc, 5)?)?), 0);
+    good_actions_have_no_fault();
+    Ok(())
+}
+
+#[test]
+fn judges_slots_and_attributes(rt: HostRuntime) -> Result<(), Fail> {
+    let alloc = rt.alloc();
+    for (slot, attr, expected) in [(1u8, 0u8, 6u8), (1, 1, 6), (0, 1, 8), (0, 0, 0)] {
+        let mut body = List::new(alloc);
+        body.push(set(slot, attr))?;
+        assert_eq!(rt;
+            cause(&action(alloc, &[0], 1, body)?),
+            expected,
+            "slot {slot}, attribute {attr}"
+        );
+    }
+    Ok(())
+}
+
+#[test]
+fn judges_the_origin(rt: HostRuntime) -> Result<(), Fail> {
+    let alloc = rt.alloc();
+    for (x, y, expected) in [
+        (1_000_001, 0, 11),
+        (1_000_000, -1_000_000, 0),
+        (0, -1_000_001, 11),
+        (0, 1_000_001, 11),
+    ] {
+        let mut action = action(alloc, &[0], 1, sets(alloc, 1)?)?;
+        action.origin = Point { x, y };
+        assert_eq!(rt; cause(&action), expected, "at {x} {y}");
+    }
+    Ok(())
+}
+
+#[test]
+fn copies(rt: HostRuntime) -> Result<(), Fail> {
+    let alloc = rt.alloc();
+    let made = action(alloc, &[0], 1, negations(alloc, 5)?)?;
+    let copy = copy_action(alloc, &made)?;
+    assert_eq!(rt; cause(&copy), 0);
+    assert_eq!(rt; copy.body.len(), 1);
+    let mut value = List::new(alloc);
+    value.push(-3i64)?;
+    assert_eq!(rt; copy_value(alloc, &value)?.as_slice(), [-3].as_slice());
+    assert_eq!(rt;
+        copy_objects(alloc, ids(alloc, &[4, 5])?.as_slice())?.as_slice(),
+        [ObjectId(4), ObjectId(5)].as_slice()
+    );
+    let mut values = List::new(alloc);
+    values.push(value)?;
+    let world = World {
+        shape: ONE,
+        values: copy_values(alloc, values.as_slice())?,
+    };
+    assert_eq!(rt; world.values.len(), 1);
+    Ok(())
+}
+
+#[test]
+fn sees_lists_and_texts(rt: HostRuntime) -> Result<(), Fail> {
+    let alloc = rt.alloc();
+    let mut list = List::from_vec(vec![in alloc; 3, 4]?);
+    list.set(1, 5);
+    list.set(2, 6);
+    assert_eq!(rt; list.into_vec().as_slice(), [3, 5].as_slice());
+    let text = Text::from_string(String::from_str(alloc, "ab")?);
+    assert_eq!(rt; text.as_str(), "ab");
+    assert_eq!(rt; text.into_string().as_str(), "ab");
+    assert_eq!(rt; Boxed::new(alloc, ClientId(3))?.into_inner(), ClientId(3));
+    assert!(rt; is_ascending(&[ObjectId(2), ObjectId(9)]));
+    assert!(rt; !is_ascending(&[ObjectId(2), ObjectId(2)]));
+    assert!(rt; is_in_mask(4, 2));
+    assert!(rt; !is_in_mask(4, 18));
+    Ok(())
+}
