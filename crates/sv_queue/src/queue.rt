@@ -76,6 +76,7 @@ impl Queue {
         })
     }
 
+    /// The shape of the world, within the limits.
     pub fn shape(&self) -> Shape
         ensures value { result ≡ self.now.shape }
         ensures limits { IsGoodShape result }
@@ -83,6 +84,7 @@ impl Queue {
         self.shape
     }
 
+    /// The greatest position up to which all results are installed, 0 at first.
     pub fn commit(&self) -> u32
         ensures { result ≡ self.now.commit }
     {
@@ -96,6 +98,7 @@ impl Queue {
         self.commit + self.entries.len() as u32
     }
 
+    /// The value of an object at the commit.
     pub fn committed(&self, object: ObjectId) -> &Value
         requires { object.0 < self.now.shape.objects }
         ensures value { result.now ≡ slice_index_or self.now.committed object.0 [] }
@@ -127,7 +130,7 @@ impl Queue {
         entry.marks.has(session)
     }
 
-    /// One look-up.
+    /// What stands at an uncommitted position. One look-up.
     pub fn entry<L: Ledger>(&self, pos: u32, steps: &mut Steps<L>) -> QueueEntry<'_>
         requires { IsUncommitted self.now pos }
         ensures author { result.author ≡ (entry_at self.now pos).author }

@@ -32,6 +32,7 @@ impl<L: Ledger> Steps<L> {
         Steps { book, share }
     }
 
+    /// Counts one look-up.
     pub fn tick(&mut self)
         ensures { self.new ≡ self.old + 1 }
     {

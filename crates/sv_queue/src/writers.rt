@@ -1,4 +1,4 @@
-ghost use Rattle.std.specs.Prelude.{◌≡◌, ◌+◌, ◌<◌, ◌≤◌, [], ◌∷◌, ◌++◌, length, drop, replicate, slice_index_or, IfOk, OnOk, OnErr};
+ghost use Rattle.std.specs.Prelude.{◌≡◌, ◌<◌, ◌≤◌, [], ◌∷◌, ◌++◌, length, drop, replicate, slice_index_or, IfOk, OnOk, OnErr};
 ghost use Rattle.sv_world.specs.Sets.{write_set};
 ghost use Rattle.sv_queue.specs.Positions.{greatest_below, IsAscending};
 ghost use Rattle.sv_queue.specs.Written.{CanWrite, IsChangedAt, writes_before, front_of};
