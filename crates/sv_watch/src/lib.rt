@@ -8,3 +8,6 @@ mod watch;
 pub use change::{Change, Line};
 pub use line::told_line;
 pub use watch::{Callback, Watch};
+
+#[cfg(test)]
+mod tests;

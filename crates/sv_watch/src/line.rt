@@ -2,11 +2,9 @@ ghost use Rattle.std.specs.Prelude.{◌≡◌, ◌++◌, string_bytes, IfOk, OnO
 ghost use Rattle.sv_watch.specs.Told.{numbers_text, view_text, change_line};
 ghost use Rattle.std.specs.Fmt.{signed_decimal};
 
-use std::alloc::{AllocError, Global};
-
-use sv_world::{Text, Value};
-
 use crate::{Change, Line};
+use std::alloc::{AllocError, Global};
+use sv_world::{Text, Value};
 
 /// The line that tells a change, as `told c0 2 0 ? -> (5)`: the client, the event, the object, and the views before and after.
 pub fn told_line(alloc: Global, change: &Change) -> Result<Line, AllocError>

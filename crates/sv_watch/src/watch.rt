@@ -2,11 +2,9 @@ ghost use Rattle.std.specs.Prelude.{◌≡◌, ◌++◌, map, take, length, vec_
 ghost use Rattle.std.specs.Result.{ForOk};
 ghost use Rattle.sv_watch.specs.Told.{change_line, IsChangeIn};
 
-use std::alloc::AllocError;
-
-use sv_world::Shape;
-
 use crate::{Change, Line};
+use std::alloc::AllocError;
+use sv_world::Shape;
 
 /// What makes the line of a change.
 pub type Callback = Box<dyn Fn(&Change) -> Result<Line, AllocError> + Send + Sync>;
@@ -55,6 +53,7 @@ impl Watch {
         }
         Ok(())
     }
+
     fn line_of(&self, change: &Change) -> Result<Line, AllocError>
         requires { IsChangeIn self.now.shape change.now }
         ensures { ForOk result (λ line. line ≡ change_line change.now) }

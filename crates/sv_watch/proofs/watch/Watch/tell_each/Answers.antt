@@ -10,7 +10,7 @@ loop-change-preserved g c =
     let lines = c.args.lines.now.items in
     let told = map change_line (take i c.args.changes.now) in
     let more : map change_line (take (i + 1) c.args.changes.now) ≡ told ++ change_line x ∷ [] =
-      map_more change_line c.args.changes.now i x c.loop-change-test.true ∙ ap (λ y. told ++ change_line y ∷ []) (sym c.change-item.is) in
+    map_more change_line c.args.changes.now i x c.loop-change-test.true ∙ ap (λ y. told ++ change_line y ∷ []) (sym c.change-item.is) in
     c.in_ok-push.ensures.items
     ∙ ap (λ l. l ++ c.in_ok-line_of.field-0 ∷ []) c.loop-change.invariant
     ∙ ap (λ y. (lines ++ told) ++ y ∷ []) (c.in_ok-line_of.ensures _ refl)
