@@ -1,1 +1,3 @@
 pub mod Pending
+pub mod Made
+pub mod Seen
