@@ -48,13 +48,13 @@ pub fn overlay_in<'a>(made: &'a [Made], kept: &'a [Kept], object: ObjectId) -> O
     requires { AreWhole made.now kept.now }
     ensures { overlay_seen result ≡ overlay_of (paired made.now kept.now) object.0 }
 {
-    let Some((first, made)) = made.split_first() else {
+    let Some((first, rest)) = made.split_first() else {
         return Overlay::Unwritten;
     };
-    let Some((first_kept, kept)) = kept.split_first() else {
+    let Some((first_kept, rest_kept)) = kept.split_first() else {
         return Overlay::Unwritten;
     };
-    match overlay_in(made, kept, object) {
+    match overlay_in(rest, rest_kept, object) {
         Overlay::Unwritten => overlay_by(first, first_kept, object),
         Overlay::Unknown => Overlay::Unknown,
         Overlay::Kept(value) => Overlay::Kept(value),
