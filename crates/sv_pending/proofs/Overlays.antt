@@ -1,10 +1,8 @@
 -- What pending actions say, one after another.
-use Rattle.std.proofs.Common.{◌≡◌, ℕ, zero, suc, ◌+◌, ◌<◌, ◌≤◌, List, [], ◌∷◌, ◌++◌, length, get_or, take, drop, Option, Some, None, option_map, option_and_then, refl, sym, ap, ◌∙◌, arith}
+use Rattle.std.proofs.Common.{◌≡◌, ℕ, zero, suc, ◌+◌, ◌<◌, List, [], ◌∷◌, ◌++◌, length, get_or, drop, Option, None, option_map, refl, sym, ap, ◌∙◌, arith}
 use Rattle.std.specs.Prelude.{ℤ}
-use Rattle.std.specs.Option.{IfSome}
-use Rattle.sv_world.specs.declared.action.Action.{Action}
 use Rattle.sv_versions.specs.Held.{Held}
-use Rattle.sv_pending.specs.Pending.{PendingAction, views_over, view_over, kept_of, redone_after, redone}
+use Rattle.sv_pending.specs.Pending.{PendingAction, kept_of, redone_after}
 use Rattle.sv_pending.specs.declared.made.Made.{Made}
 use Rattle.sv_pending.specs.Made.{paired, IsWhole, AreWhole}
 

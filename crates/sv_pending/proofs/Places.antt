@@ -1,5 +1,5 @@
 -- The place of an object among those that an action writes, found slot by slot.
-use Rattle.std.proofs.Common.{◌≡◌, ℕ, zero, suc, ◌+◌, ◌<◌, ◌≤◌, ◌⊎◌, inl, inr, Bool, true, false, cond, ◌||◌, eqb, List, [], ◌∷◌, length, get_or, drop, map, Option, Some, None, option_map, refl, sym, ap, ◌∙◌, subst, arith}
+use Rattle.std.proofs.Common.{◌≡◌, ℕ, suc, ◌+◌, ◌<◌, ◌≤◌, ◌⊎◌, inl, inr, true, false, ◌||◌, eqb, List, [], ◌∷◌, length, get_or, drop, map, Option, Some, None, option_map, refl, sym, ap, ◌∙◌, subst, arith}
 use Rattle.std.proofs.lemmas.Bool.{cond-true, cond-false, eq-eqb, ne_eqb, eqb-true, or_left, or_right, or_from, cases_Bool, both_ways}
 use Rattle.std.proofs.lemmas.List.{drop_more, drop_all, get_or-map, length-map}
 use Rattle.std.proofs.lemmas.Option.{none-some, same_Some}
@@ -8,7 +8,7 @@ use Rattle.sv_world.specs.Control.{is_in}
 use Rattle.sv_world.specs.Sets.{is_in_mask, at_mask, read_set, write_set}
 use Rattle.sv_world.specs.declared.action.Action.{Action}
 use Rattle.sv_world.specs.declared.world.ObjectId.{ObjectId}
-use Rattle.sv_pending.specs.Pending.{PendingAction, Overlaid, Unwritten, Kept, value_of, kept_for}
+use Rattle.sv_pending.specs.Pending.{PendingAction, Unwritten, Kept, value_of, kept_for}
 use Rattle.sv_pending.specs.Made.{place_in, overlay_by, ReadsWithin}
 
 -- the written objects from a slot on

@@ -1,5 +1,5 @@
 -- What is answered of pending actions, with what the references in it point to.
-use Rattle.std.specs.Prelude.{ℕ, ℤ, List, Option, option_map}
+use Rattle.std.specs.Prelude.{option_map}
 use Rattle.sv_pending.specs.Pending.{PendingAction, Overlaid, Unwritten, Unknown, Kept}
 use Rattle.sv_pending.specs.declared.overlay.Overlay.{Overlay}
 use Rattle.sv_pending.specs.declared.overlay.Overlay.TheVariants as overlays

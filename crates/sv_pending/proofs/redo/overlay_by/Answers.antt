@@ -1,4 +1,4 @@
-use Rattle.std.proofs.Common.{◌≡◌, ◌<◌, List, length, None, ap, sym, ◌∙◌, arith}
+use Rattle.std.proofs.Common.{◌<◌, List, length, None, ap, sym, ◌∙◌, arith}
 use Rattle.std.specs.Prelude.{ℤ}
 use Rattle.sv_world.specs.Sets.{write_set}
 use Rattle.sv_pending.proofs.Overlays.{entry}

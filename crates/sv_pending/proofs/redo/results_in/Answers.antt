@@ -1,7 +1,6 @@
-use Rattle.std.proofs.Common.{◌≡◌, ◌<◌, ◌≤◌, ◌+◌, List, [], ◌∷◌, ◌++◌, length, get_or, drop, refl, sym, ap, subst, ◌∙◌, arith}
-use Rattle.std.specs.Prelude.{ℤ, Option}
+use Rattle.std.proofs.Common.{◌≡◌, ◌<◌, ◌≤◌, List, length, get_or, refl, sym, ap, subst, ◌∙◌, arith}
 use Rattle.std.proofs.lemmas.List.{length_push, drop_all}
-use Rattle.sv_pending.specs.Pending.{PendingAction, kept_of, redone_after, redone}
+use Rattle.sv_pending.specs.Pending.{PendingAction, kept_of, redone_after}
 use Rattle.sv_pending.specs.Made.{paired, IsWhole}
 use Rattle.sv_pending.specs.declared.made.Made.{Made}
 use Rattle.sv_pending.proofs.Overlays.{redo_more, whole_more, whole_none, paired_none, length-paired}
