@@ -1,6 +1,6 @@
 //! From bytes to tokens.
 
-ghost use Rattle.std.specs.Prelude.{◌≡◌, ◌+◌, ◌^◌, ◌<◌, ◌≤◌, min, length, slice_index, IfOk};
+ghost use Rattle.std.specs.Prelude.{◌≡◌, ◌+◌, ◌^◌, ◌<◌, ◌≤◌, min, length, drop, slice_index, IfOk};
 ghost use Rattle.std.specs.List.{prefix_len, take_while};
 ghost use Rattle.std.specs.Char.{is_ascii_digit, is_ascii_lowercase};
 ghost use Rattle.sv_text.specs.Tokens.{is_blank, digits_at, value_of, has_leading_zero, number_of, word_of, sign_of, sign_at, positive, negative, small_ref, ref_of, ref_at, word_at, number_at, negative_at, token_at, is_word, is_joint, tokens_of};
@@ -295,4 +295,46 @@ fn is_word(mark: Mark) -> bool
             | Mark::Not
             | Mark::Other
     )
+}
+
+#[tactic(auto, using(crate::proofs::Lexing::token_has))]
+fn token_behind(bytes: &[u8], at: usize) -> (Token, usize)
+    requires few { length bytes.now < 2 ^ 32 }
+    requires within { at < length bytes.now }
+    ensures value { result ≡ token_at (drop at bytes.now) }
+    ensures some { 0 < result.1 }
+    ensures end { at + result.1 ≤ length bytes.now }
+{
+    token_at(&bytes[at..])
+}
+
+/// The tokens of a text, the last of them its end.
+pub fn tokens(alloc: Global, bytes: &[u8]) -> Result<Vec<Lexeme>, AllocError>
+    requires { length bytes.now < 2 ^ 32 }
+    ensures { IfOk result (λ v. v.items ≡ tokens_of bytes.now) }
+{
+    let mut lexemes = Vec::with_capacity(alloc, bytes.len() / 2 + 1)?;
+    let mut at = 0;
+    let mut glued = false;
+    while at < bytes.len() {
+        if is_blank(bytes[at]) {
+            at += 1;
+            glued = false;
+            continue;
+        }
+        let (token, len) = token_behind(bytes, at);
+        lexemes.push(Lexeme {
+            place: at as u32,
+            glued,
+            token,
+        })?;
+        at += len;
+        glued = is_joint(token);
+    }
+    lexemes.push(Lexeme {
+        place: at as u32,
+        glued,
+        token: Token::Mark(Mark::End),
+    })?;
+    Ok(lexemes)
 }
