@@ -277,7 +277,7 @@ fn is_joint(token: Token) -> bool
     }
 }
 
-fn is_word(mark: Mark) -> bool
+pub fn is_word(mark: Mark) -> bool
     ensures { result ≡ is_word mark }
 {
     matches!(

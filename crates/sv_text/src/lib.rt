@@ -2,7 +2,9 @@
 #![tactic(auto)]
 
 mod fault;
+mod cursor;
 mod lexer;
+mod parts;
 mod token;
 
 pub use fault::{ParseFault, TextCause, TextFault};
