@@ -1,6 +1,6 @@
 -- The canonical text of an action, as bytes. Its tokens are joined by one space, but there is none after `(` and `[`, and none before
 -- `)`, `]` and `;`.
-use Rattle.std.specs.Prelude.{ℕ, ℤ, pos, Bool, ◌&&◌, List, [], ◌∷◌, ◌++◌, map, slice_index_or, codes, decimal, if◌then◌else◌}
+use Rattle.std.specs.Prelude.{◌≡◌, ℕ, pos, ◌&&◌, List, [], ◌∷◌, ◌++◌, length, take, map, slice_index_or, codes, decimal, if◌then◌else◌}
 use Rattle.std.specs.Fmt.{signed_decimal}
 use Rattle.std.specs.Ordering.{int_eq}
 use Rattle.sv_world.specs.Sets.{read_set, write_set}
@@ -95,3 +95,7 @@ abbrev pub canonical : Action → List ℕ
 canonical a =
     codes "reads" ++ objects_text (read_set a) ++ codes " writes" ++ objects_text (write_set a) ++ origin_text a.origin ++ codes " "
     ++ body_text (read_set a) a.body
+
+-- A list begins with another one.
+abbrev pub Begins : List ℕ → List ℕ → Type 0
+Begins front whole = take (length front) whole ≡ front

@@ -1,0 +1,21 @@
+-- A text that is appended to keeps its beginning.
+use Rattle.std.proofs.Common.{◌≡◌, ℕ, List, [], ◌∷◌, ◌++◌, length, take, drop, refl, sym, ap, ◌∙◌, append_assoc, arith}
+use Rattle.std.proofs.Math.Seq.{take-append_seam, take-length}
+use Rattle.std.proofs.lemmas.List.{take-append-drop}
+
+-- What begins with more begins with less.
+pub begins_after : (a s b w : List ℕ) → b ≡ a ++ s → take (length b) w ≡ b → take (length a) w ≡ a
+begins_after a s b w is h =
+    let e : w ≡ a ++ (s ++ drop (length b) w) = sym (take-append-drop (length b) w) ∙ ap (λ x. x ++ drop (length b) w) (h ∙ is) ∙ append_assoc a s (drop (length b) w) in
+    ap (take (length a)) e ∙ take-append_seam a (s ++ drop (length b) w)
+
+pub begins_with : (a s w : List ℕ) → w ≡ a ++ s → take (length a) w ≡ a
+begins_with a s w e = ap (take (length a)) e ∙ take-append_seam a s
+
+pub begins_itself : (a w : List ℕ) → w ≡ a → take (length a) w ≡ a
+begins_itself a w e = ap (take (length a)) e ∙ take-length a
+
+pub begins_after_two : (a s b t c w : List ℕ) → b ≡ a ++ s → c ≡ b ++ t → take (length c) w ≡ c → take (length a) w ≡ a
+begins_after_two a s b t c w p q h = begins_after a s b w p (begins_after b t c w q h)
+
+pub ruleset begins = (begins_after_two, begins_after, begins_with, begins_itself)
