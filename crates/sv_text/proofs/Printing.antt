@@ -18,4 +18,10 @@ begins_itself a w e = ap (take (length a)) e ∙ take-length a
 pub begins_after_two : (a s b t c w : List ℕ) → b ≡ a ++ s → c ≡ b ++ t → take (length c) w ≡ c → take (length a) w ≡ a
 begins_after_two a s b t c w p q h = begins_after a s b w p (begins_after b t c w q h)
 
-pub ruleset begins = (begins_after_two, begins_after, begins_with, begins_itself)
+pub begins_further : (a b w : List ℕ) → take (length a) b ≡ a → take (length b) w ≡ b → take (length a) w ≡ a
+begins_further a b w g h = begins_after a (drop (length a) b) b w (sym (take-append-drop (length a) b) ∙ ap (λ x. x ++ drop (length a) b) g) h
+
+pub begins_longer : (a b s w : List ℕ) → take (length a) b ≡ a → w ≡ b ++ s → take (length a) w ≡ a
+begins_longer a b s w g e = begins_further a b w g (begins_with b s w e)
+
+pub ruleset begins = (begins_further, begins_longer, begins_after_two, begins_after, begins_with, begins_itself)

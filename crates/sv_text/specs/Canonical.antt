@@ -1,6 +1,6 @@
 -- The canonical text of an action, as bytes. Its tokens are joined by one space, but there is none after `(` and `[`, and none before
 -- `)`, `]` and `;`.
-use Rattle.std.specs.Prelude.{◌≡◌, ℕ, pos, ◌&&◌, List, [], ◌∷◌, ◌++◌, length, take, map, slice_index_or, codes, decimal, if◌then◌else◌}
+use Rattle.std.specs.Prelude.{◌≡◌, ℕ, pos, Bool, ◌&&◌, List, [], ◌∷◌, ◌++◌, length, take, map, slice_index_or, codes, decimal, if◌then◌else◌}
 use Rattle.std.specs.Fmt.{signed_decimal}
 use Rattle.std.specs.Ordering.{int_eq}
 use Rattle.sv_world.specs.Sets.{read_set, write_set}
@@ -87,9 +87,12 @@ abbrev pub objects_text : List ℕ → List ℕ
 objects_text [] = []
 objects_text (o ∷ os) = codes " " ++ decimal o ++ objects_text os
 
+abbrev pub is_zero : Point → Bool
+is_zero p = int_eq p.x (pos 0) && int_eq p.y (pos 0)
+
 -- The origin stands only where it is not the point (0, 0).
 abbrev pub origin_text : Point → List ℕ
-origin_text p = if int_eq p.x (pos 0) && int_eq p.y (pos 0) then [] else codes " at " ++ signed_decimal p.x ++ codes " " ++ signed_decimal p.y
+origin_text p = if is_zero p then [] else codes " at " ++ signed_decimal p.x ++ codes " " ++ signed_decimal p.y
 
 abbrev pub canonical : Action → List ℕ
 canonical a =

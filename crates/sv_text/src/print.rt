@@ -1,9 +1,9 @@
 //! Printing an action in its canonical text.
 
-ghost use Rattle.std.specs.Prelude.{◌≡◌, ◌++◌, string_bytes, codes, decimal, slice_index_or, IfOk, OnOk, OnErr};
+ghost use Rattle.std.specs.Prelude.{◌≡◌, ◌++◌, [], if◌then◌else◌, string_bytes, codes, decimal, slice_index_or, IfOk, OnOk, OnErr};
 ghost use Rattle.std.specs.Fmt.{signed_decimal};
-ghost use Rattle.sv_world.specs.Sets.{at_mask};
-ghost use Rattle.sv_text.specs.Canonical.{Begins, numbers, ref_text, pair_text, test_text, expr_text, cond_text, block_text, else_text, stmt_text, body_text, objects_text, origin_text, canonical};
+ghost use Rattle.sv_world.specs.Sets.{at_mask, read_set, write_set};
+ghost use Rattle.sv_text.specs.Canonical.{Begins, numbers, is_zero, ref_text, pair_text, test_text, expr_text, cond_text, block_text, else_text, stmt_text, body_text, objects_text, origin_text, canonical};
 
 use std::alloc::{AllocError, Global};
 use sv_world::{Action, Boxed, Cond, Expr, ObjectId, Point, Stmt, is_in_mask};
@@ -244,5 +244,203 @@ fn append_right_part(
 {
     append_cond(reads, b.get(), out)?;
     out.push_str(")")?;
+    Ok(())
+}
+
+#[cycle(statements)]
+#[tactic(auto, using(crate::proofs::Printing::begins))]
+fn append_stmt(reads: &[ObjectId], stmt: &Stmt, out: &mut String) -> Result<(), AllocError>
+    ensures ok { OnOk result (string_bytes out.new ≡ string_bytes out.old ++ stmt_text (numbers reads.now) stmt.now) }
+    ensures err { OnErr result (Begins (string_bytes out.old) (string_bytes out.new)) }
+{
+    match stmt {
+        Stmt::Set { slot, attr, expr } => append_set(reads, *slot, *attr, expr, out),
+        Stmt::If { cond, then, other } => {
+            append_question(reads, cond, out)?;
+            append_block(reads, then.as_slice(), out)?;
+            if other.len() == 0 {
+                return Ok(());
+            }
+            out.push_str(" else ")?;
+            append_block(reads, other.as_slice(), out)?;
+            Ok(())
+        }
+    }
+}
+
+#[cycle(statements)]
+#[tactic(auto, using(crate::proofs::Printing::begins))]
+fn append_block(reads: &[ObjectId], body: &[Stmt], out: &mut String) -> Result<(), AllocError>
+    ensures ok { OnOk result (string_bytes out.new ≡ string_bytes out.old ++ body_text (numbers reads.now) body.now) }
+    ensures err { OnErr result (Begins (string_bytes out.old) (string_bytes out.new)) }
+{
+    out.push_str("{ ")?;
+    for stmt in body {
+        append_stmt(reads, stmt, out)?;
+        out.push_str(" ")?;
+    }
+    out.push_str("}")?;
+    Ok(())
+}
+
+#[tactic(auto, using(crate::proofs::Printing::begins))]
+fn append_set(
+    reads: &[ObjectId],
+    slot: u8,
+    attr: u8,
+    expr: &Expr,
+    out: &mut String,
+) -> Result<(), AllocError>
+    ensures ok { OnOk result (string_bytes out.new ≡ string_bytes out.old ++ codes "set " ++ ref_text (numbers reads.now) slot attr ++ codes " " ++ expr_text (numbers reads.now) expr.now ++ codes ";") }
+    ensures err { OnErr result (Begins (string_bytes out.old) (string_bytes out.new)) }
+{
+    append_target(reads, slot, attr, out)?;
+    append_expr(reads, expr, out)?;
+    out.push_str(";")?;
+    Ok(())
+}
+
+#[tactic(auto, using(crate::proofs::Printing::begins))]
+fn append_target(
+    reads: &[ObjectId],
+    slot: u8,
+    attr: u8,
+    out: &mut String,
+) -> Result<(), AllocError>
+    ensures ok { OnOk result (string_bytes out.new ≡ string_bytes out.old ++ codes "set " ++ ref_text (numbers reads.now) slot attr ++ codes " ") }
+    ensures err { OnErr result (Begins (string_bytes out.old) (string_bytes out.new)) }
+{
+    out.push_str("set ")?;
+    append_ref(reads, slot, attr, out)?;
+    out.push_str(" ")?;
+    Ok(())
+}
+
+#[tactic(auto, using(crate::proofs::Printing::begins))]
+fn append_question(reads: &[ObjectId], cond: &Cond, out: &mut String) -> Result<(), AllocError>
+    ensures ok { OnOk result (string_bytes out.new ≡ string_bytes out.old ++ codes "if " ++ cond_text (numbers reads.now) cond.now ++ codes " ") }
+    ensures err { OnErr result (Begins (string_bytes out.old) (string_bytes out.new)) }
+{
+    out.push_str("if ")?;
+    append_cond(reads, cond, out)?;
+    out.push_str(" ")?;
+    Ok(())
+}
+
+#[tactic(auto, using(crate::proofs::Printing::begins))]
+fn append_reads(reads: &[ObjectId], out: &mut String) -> Result<(), AllocError>
+    ensures ok { OnOk result (string_bytes out.new ≡ string_bytes out.old ++ objects_text (numbers reads.now)) }
+    ensures err { OnErr result (Begins (string_bytes out.old) (string_bytes out.new)) }
+{
+    for object in reads {
+        append_marked(" ", object.0, out)?;
+    }
+    Ok(())
+}
+
+#[tactic(auto, using(crate::proofs::Printing::begins))]
+fn append_writes(mask: u16, reads: &[ObjectId], out: &mut String) -> Result<(), AllocError>
+    ensures ok { OnOk result (string_bytes out.new ≡ string_bytes out.old ++ objects_text (at_mask mask 0 (numbers reads.now))) }
+    ensures err { OnErr result (Begins (string_bytes out.old) (string_bytes out.new)) }
+{
+    for slot in 0..reads.len() {
+        append_written(is_in_mask(mask, slot), reads[slot], out)?;
+    }
+    Ok(())
+}
+
+/// Appends the object's number where the object is written.
+#[tactic(auto, using(crate::proofs::Printing::begins))]
+fn append_written(
+    is_written: bool,
+    object: ObjectId,
+    out: &mut String,
+) -> Result<(), AllocError>
+    ensures ok { OnOk result (string_bytes out.new ≡ string_bytes out.old ++ (if is_written then codes " " ++ decimal object.0 else [])) }
+    ensures err { OnErr result (Begins (string_bytes out.old) (string_bytes out.new)) }
+{
+    if is_written {
+        append_marked(" ", object.0, out)?;
+    }
+    Ok(())
+}
+
+#[tactic(auto, using(crate::proofs::Printing::begins))]
+fn append_coordinate(mark: &str, n: i32, out: &mut String) -> Result<(), AllocError>
+    ensures ok { OnOk result (string_bytes out.new ≡ string_bytes out.old ++ mark.now ++ signed_decimal n) }
+    ensures err { OnErr result (Begins (string_bytes out.old) (string_bytes out.new)) }
+{
+    out.push_str(mark)?;
+    append_integer(i64::from(n), out)?;
+    Ok(())
+}
+
+fn is_zero(origin: Point) -> bool
+    ensures { result ≡ is_zero origin }
+{
+    origin.x == 0 && origin.y == 0
+}
+
+#[tactic(auto, using(crate::proofs::Printing::begins))]
+fn append_origin(origin: Point, out: &mut String) -> Result<(), AllocError>
+    ensures ok { OnOk result (string_bytes out.new ≡ string_bytes out.old ++ origin_text origin) }
+    ensures err { OnErr result (Begins (string_bytes out.old) (string_bytes out.new)) }
+{
+    if is_zero(origin) {
+        return Ok(());
+    }
+    append_coordinate(" at ", origin.x, out)?;
+    append_coordinate(" ", origin.y, out)?;
+    Ok(())
+}
+
+#[tactic(auto, using(crate::proofs::Printing::begins))]
+fn append_header(action: &Action, out: &mut String) -> Result<(), AllocError>
+    ensures ok { OnOk result (string_bytes out.new ≡ string_bytes out.old ++ codes "reads" ++ objects_text (read_set action.now) ++ codes " writes" ++ objects_text (write_set action.now)) }
+    ensures err { OnErr result (Begins (string_bytes out.old) (string_bytes out.new)) }
+{
+    append_read_set(action.reads.as_slice(), out)?;
+    append_write_set(action.mask, action.reads.as_slice(), out)?;
+    Ok(())
+}
+
+#[tactic(auto, using(crate::proofs::Printing::begins))]
+fn append_read_set(reads: &[ObjectId], out: &mut String) -> Result<(), AllocError>
+    ensures ok { OnOk result (string_bytes out.new ≡ string_bytes out.old ++ codes "reads" ++ objects_text (numbers reads.now)) }
+    ensures err { OnErr result (Begins (string_bytes out.old) (string_bytes out.new)) }
+{
+    out.push_str("reads")?;
+    append_reads(reads, out)?;
+    Ok(())
+}
+
+#[tactic(auto, using(crate::proofs::Printing::begins))]
+fn append_write_set(mask: u16, reads: &[ObjectId], out: &mut String) -> Result<(), AllocError>
+    ensures ok { OnOk result (string_bytes out.new ≡ string_bytes out.old ++ codes " writes" ++ objects_text (at_mask mask 0 (numbers reads.now))) }
+    ensures err { OnErr result (Begins (string_bytes out.old) (string_bytes out.new)) }
+{
+    out.push_str(" writes")?;
+    append_writes(mask, reads, out)?;
+    Ok(())
+}
+
+#[tactic(auto, using(crate::proofs::Printing::begins))]
+fn append_body(action: &Action, out: &mut String) -> Result<(), AllocError>
+    ensures ok { OnOk result (string_bytes out.new ≡ string_bytes out.old ++ origin_text action.now.origin ++ codes " " ++ body_text (read_set action.now) action.now.body) }
+    ensures err { OnErr result (Begins (string_bytes out.old) (string_bytes out.new)) }
+{
+    append_origin(action.origin, out)?;
+    out.push_str(" ")?;
+    append_block(action.reads.as_slice(), action.body.as_slice(), out)?;
+    Ok(())
+}
+
+#[tactic(auto, using(crate::proofs::Printing::begins))]
+fn append_whole(action: &Action, out: &mut String) -> Result<(), AllocError>
+    ensures ok { OnOk result (string_bytes out.new ≡ string_bytes out.old ++ canonical action.now) }
+    ensures err { OnErr result (Begins (string_bytes out.old) (string_bytes out.new)) }
+{
+    append_header(action, out)?;
+    append_body(action, out)?;
     Ok(())
 }
