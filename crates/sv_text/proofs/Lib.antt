@@ -1,3 +1,4 @@
 pub mod Numbers
 pub mod Lexing
 pub mod Printing
+pub mod Texts

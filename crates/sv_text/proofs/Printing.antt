@@ -1,5 +1,5 @@
 -- A text that is appended to keeps its beginning.
-use Rattle.std.proofs.Common.{◌≡◌, ℕ, List, [], ◌∷◌, ◌++◌, length, take, drop, refl, sym, ap, ◌∙◌, append_assoc, arith}
+use Rattle.std.proofs.Common.{◌≡◌, ℕ, List, [], ◌∷◌, ◌++◌, length, take, drop, refl, sym, ap, ◌∙◌, append_assoc, Result, Ok, Err, OnErr}
 use Rattle.std.proofs.Math.Seq.{take-append_seam, take-length}
 use Rattle.std.proofs.lemmas.List.{take-append-drop}
 
@@ -23,5 +23,9 @@ begins_further a b w g h = begins_after a (drop (length a) b) b w (sym (take-app
 
 pub begins_longer : (a b s w : List ℕ) → take (length a) b ≡ a → w ≡ b ++ s → take (length a) w ≡ a
 begins_longer a b s w g e = begins_further a b w g (begins_with b s w e)
+
+pub on_err : {X E P : Type 0} (r : Result X E) → P → OnErr r P
+on_err (Ok x) p = tt
+on_err (Err e) p = p
 
 pub ruleset begins = (begins_further, begins_longer, begins_after_two, begins_after, begins_with, begins_itself)

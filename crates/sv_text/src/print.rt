@@ -291,7 +291,7 @@ fn append_set(
     expr: &Expr,
     out: &mut String,
 ) -> Result<(), AllocError>
-    ensures ok { OnOk result (string_bytes out.new ≡ string_bytes out.old ++ codes "set " ++ ref_text (numbers reads.now) slot attr ++ codes " " ++ expr_text (numbers reads.now) expr.now ++ codes ";") }
+    ensures ok { OnOk result (string_bytes out.new ≡ string_bytes out.old ++ (codes "set " ++ ref_text (numbers reads.now) slot attr ++ codes " " ++ expr_text (numbers reads.now) expr.now ++ codes ";")) }
     ensures err { OnErr result (Begins (string_bytes out.old) (string_bytes out.new)) }
 {
     append_target(reads, slot, attr, out)?;
@@ -318,7 +318,7 @@ fn append_target(
 
 #[tactic(auto, using(crate::proofs::Printing::begins))]
 fn append_question(reads: &[ObjectId], cond: &Cond, out: &mut String) -> Result<(), AllocError>
-    ensures ok { OnOk result (string_bytes out.new ≡ string_bytes out.old ++ codes "if " ++ cond_text (numbers reads.now) cond.now ++ codes " ") }
+    ensures ok { OnOk result (string_bytes out.new ≡ string_bytes out.old ++ (codes "if " ++ cond_text (numbers reads.now) cond.now ++ codes " ")) }
     ensures err { OnErr result (Begins (string_bytes out.old) (string_bytes out.new)) }
 {
     out.push_str("if ")?;
