@@ -1,7 +1,10 @@
 -- A text that is appended to keeps its beginning.
-use Rattle.std.proofs.Common.{◌≡◌, ℕ, List, [], ◌∷◌, ◌++◌, length, take, drop, refl, sym, ap, ◌∙◌, append_assoc, Result, Ok, Err, OnErr}
+use Rattle.std.proofs.Common.{◌≡◌, ℕ, List, [], ◌∷◌, ◌++◌, length, take, drop, refl, sym, ap, ◌∙◌, append_assoc, Result, Ok, Err, OnErr, String, string_bytes, subst, arith, ◌≤◌, min}
+use Rattle.std.specs.Str.{IsUtf8}
+use Rattle.std.specs.String.Boundary.{IsSplitPoint}
+use Rattle.std.proofs.lemmas.Str.{IsUtf8-string_bytes, IsCharBoundary-from_take}
 use Rattle.std.proofs.Math.Seq.{take-append_seam, take-length}
-use Rattle.std.proofs.lemmas.List.{take-append-drop}
+use Rattle.std.proofs.lemmas.List.{take-append-drop, length-take}
 
 -- What begins with more begins with less.
 pub begins_after : (a s b w : List ℕ) → b ≡ a ++ s → take (length b) w ≡ b → take (length a) w ≡ a
@@ -29,3 +32,12 @@ on_err (Ok x) p = tt
 on_err (Err e) p = p
 
 pub ruleset begins = (begins_further, begins_longer, begins_after_two, begins_after, begins_with, begins_itself)
+
+-- Where the old text ends, no character is cut.
+pub split_at_old_end : {Z : Type 0} (old new : String Z) (n : ℕ) → n ≡ length (string_bytes old) → take (length (string_bytes old)) (string_bytes new) ≡ string_bytes old
+    → IsSplitPoint (string_bytes new) n
+split_at_old_end old new n is h =
+    let same : take n (string_bytes new) ≡ string_bytes old = ap (λ k. take k (string_bytes new)) is ∙ h in
+    let fits : n ≤ length (string_bytes new) = omega (arith, length-take n (string_bytes new), ap length same) in
+    let end = IsCharBoundary-from_take (string_bytes new) n (IsUtf8-string_bytes new) fits (subst IsUtf8 (sym same) (IsUtf8-string_bytes old)) in
+    (end.0, λ some more. end.1 more)

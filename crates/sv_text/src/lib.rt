@@ -9,3 +9,4 @@ mod print;
 mod token;
 
 pub use fault::{ParseFault, TextCause, TextFault};
+pub use print::{append_action, print_action};

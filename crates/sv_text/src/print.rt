@@ -8,6 +8,31 @@ ghost use Rattle.sv_text.specs.Canonical.{Begins, numbers, is_zero, ref_text, pa
 use std::alloc::{AllocError, Global};
 use sv_world::{Action, Boxed, Cond, Expr, ObjectId, Point, Stmt, is_in_mask};
 
+/// The action's canonical text: its tokens are joined by one space, but there is none after `(` and `[`, and none before `)`, `]` and
+/// `;`. A slot stands as the object that is read there; where none is, as object 0.
+pub fn print_action(alloc: Global, action: &Action) -> Result<String, AllocError>
+    ensures { IfOk result (λ text. string_bytes text ≡ canonical action.now) }
+{
+    let mut text = String::new(alloc);
+    append_action(action, &mut text)?;
+    Ok(text)
+}
+
+/// Appends the action's canonical text, or leaves the text as it was.
+pub fn append_action(action: &Action, out: &mut String) -> Result<(), AllocError>
+    ensures ok { OnOk result (string_bytes out.new ≡ string_bytes out.old ++ canonical action.now) }
+    ensures err { OnErr result (string_bytes out.new ≡ string_bytes out.old) }
+{
+    let len = out.len();
+    match append_whole(action, out) {
+        Ok(()) => Ok(()),
+        Err(error) => {
+            out.truncate(len);
+            Err(error)
+        }
+    }
+}
+
 #[tactic(auto, using(crate::proofs::Printing::begins))]
 fn append_natural(n: u16, out: &mut String) -> Result<(), AllocError>
     ensures ok { OnOk result (string_bytes out.new ≡ string_bytes out.old ++ decimal n) }
