@@ -33,5 +33,4 @@ pub canonical-increment : (o a : ℕ) (n : ℤ) → canonical (increment o a n)
     ≡ codes "reads " ++ (decimal o ++ (codes " writes " ++ (decimal o ++ (codes " { set @" ++ (decimal o ++ (codes "." ++ (decimal a ++ (codes " (@" ++ (decimal o ++ (codes "." ++ (decimal a ++ (codes " + " ++ (signed_decimal n ++ codes "); }")))))))))))))
 canonical-increment o a n = rw (increment_text o a n)
     (in_a_row (codes "reads") (codes " ") (decimal o) (codes " writes") (codes "{ ") (codes "set ") (codes "@") (codes ".") (decimal a) (codes "(") (codes "+") (signed_decimal n)
-        (codes ")") (codes ";") (codes "}"))
-
+    (codes ")") (codes ";") (codes "}"))

@@ -1,11 +1,13 @@
 //! The action language: reading an action from its text, and printing it.
 #![tactic(auto)]
 
-mod fault;
 mod cursor;
+mod fault;
 mod lexer;
 mod parts;
 mod print;
+#[cfg(test)]
+mod print_tests;
 mod token;
 
 pub use fault::{ParseFault, TextCause, TextFault};

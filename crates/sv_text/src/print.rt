@@ -72,12 +72,7 @@ fn object_in(reads: &[ObjectId], slot: u8) -> u16
 }
 
 #[tactic(auto, using(crate::proofs::Printing::begins))]
-fn append_ref(
-    reads: &[ObjectId],
-    slot: u8,
-    attr: u8,
-    out: &mut String,
-) -> Result<(), AllocError>
+fn append_ref(reads: &[ObjectId], slot: u8, attr: u8, out: &mut String) -> Result<(), AllocError>
     ensures ok { OnOk result (string_bytes out.new ≡ string_bytes out.old ++ ref_text (numbers reads.now) slot attr) }
     ensures err { OnErr result (Begins (string_bytes out.old) (string_bytes out.new)) }
 {
@@ -326,12 +321,7 @@ fn append_set(
 }
 
 #[tactic(auto, using(crate::proofs::Printing::begins))]
-fn append_target(
-    reads: &[ObjectId],
-    slot: u8,
-    attr: u8,
-    out: &mut String,
-) -> Result<(), AllocError>
+fn append_target(reads: &[ObjectId], slot: u8, attr: u8, out: &mut String) -> Result<(), AllocError>
     ensures ok { OnOk result (string_bytes out.new ≡ string_bytes out.old ++ codes "set " ++ ref_text (numbers reads.now) slot attr ++ codes " ") }
     ensures err { OnErr result (Begins (string_bytes out.old) (string_bytes out.new)) }
 {
@@ -376,11 +366,7 @@ fn append_writes(mask: u16, reads: &[ObjectId], out: &mut String) -> Result<(), 
 
 /// Appends the object's number where the object is written.
 #[tactic(auto, using(crate::proofs::Printing::begins))]
-fn append_written(
-    is_written: bool,
-    object: ObjectId,
-    out: &mut String,
-) -> Result<(), AllocError>
+fn append_written(is_written: bool, object: ObjectId, out: &mut String) -> Result<(), AllocError>
     ensures ok { OnOk result (string_bytes out.new ≡ string_bytes out.old ++ (if is_written then codes " " ++ decimal object.0 else [])) }
     ensures err { OnErr result (Begins (string_bytes out.old) (string_bytes out.new)) }
 {
