@@ -1,2 +1,4 @@
 pub mod Numbers
 pub mod Lexing
+pub mod Depth
+pub mod Turns

@@ -1,10 +1,16 @@
 //! The action language: reading an action from its text, and printing it.
 #![tactic(auto)]
 
+mod expression;
 mod fault;
+mod header;
+mod condition;
 mod cursor;
 mod lexer;
+mod parser;
 mod parts;
+mod statement;
 mod token;
 
 pub use fault::{ParseFault, TextCause, TextFault};
+pub use parser::parse_action;
