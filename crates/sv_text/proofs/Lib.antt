@@ -2,3 +2,4 @@ pub mod Numbers
 pub mod Lexing
 pub mod Depth
 pub mod Turns
+pub mod Printing

@@ -9,8 +9,10 @@ mod cursor;
 mod lexer;
 mod parser;
 mod parts;
+mod printer;
 mod statement;
 mod token;
 
 pub use fault::{ParseFault, TextCause, TextFault};
 pub use parser::parse_action;
+pub use printer::{append_action, print_action};

@@ -1,0 +1,108 @@
+-- The one canonical text of each action.
+use Rattle.std.specs.Prelude.{◌≡◌, ℕ, zero, suc, ◌/◌, ◌%◌, ℤ, pos, negsuc, Bool, true, false, cond, ◌&&◌, ◌==◌, List, [], ◌∷◌, ◌++◌, map, codes, decimal}
+use Rattle.std.specs.Fmt.{signed_decimal}
+use Rattle.std.specs.List.{flat_map}
+use Rattle.sv_world.specs.declared.world.ObjectId.{ObjectId}
+use Rattle.sv_world.specs.declared.action.Point.{Point}
+use Rattle.sv_world.specs.declared.action.Action.{Action}
+use Rattle.sv_world.specs.declared.action.Expr.{Expr}
+use Rattle.sv_world.specs.declared.action.Expr.TheOpen.{Expr-F}
+use Rattle.sv_world.specs.declared.action.Expr.TheFolds.{fold-Expr}
+use Rattle.sv_world.specs.declared.action.Cond.{Cond}
+use Rattle.sv_world.specs.declared.action.Cond.TheOpen.{Cond-F}
+use Rattle.sv_world.specs.declared.action.Cond.TheFolds.{fold-Cond}
+use Rattle.sv_world.specs.declared.action.Stmt.{Stmt}
+use Rattle.sv_world.specs.declared.action.Stmt.TheOpen.{Stmt-F}
+use Rattle.sv_world.specs.declared.action.Stmt.TheFolds.{fold-Stmt}
+
+-- the object in a slot, and 0 where the slot is none
+abbrev pub object_in : List ObjectId → ℕ → ℕ
+object_in [] k = 0
+object_in (r ∷ rs) zero = r.0
+object_in (r ∷ rs) (suc k) = object_in rs k
+
+abbrev pub ref_text : List ObjectId → ℕ → ℕ → List ℕ
+ref_text reads slot attr = codes "@" ++ decimal (object_in reads slot) ++ codes "." ++ decimal attr
+
+abbrev pub between : List ℕ → List ℕ → List ℕ → List ℕ → List ℕ → List ℕ
+between before a middle b after = before ++ a ++ middle ++ b ++ after
+
+abbrev pub pair_text : List ℕ → List ℕ → List ℕ → List ℕ
+pair_text a middle b = between (codes "(") a middle b (codes ")")
+
+abbrev pub test_text : List ℕ → List ℕ → List ℕ → List ℕ
+test_text a middle b = between (codes "[") a middle b (codes "]")
+
+abbrev pub expr_text_step : List ObjectId → Expr-F (List ℕ) → List ℕ
+expr_text_step reads (Expr-F.Lit z) = signed_decimal z
+expr_text_step reads (Expr-F.Attr slot attr) = ref_text reads slot attr
+expr_text_step reads (Expr-F.Add a b) = pair_text a (codes " + ") b
+expr_text_step reads (Expr-F.Sub a b) = pair_text a (codes " - ") b
+expr_text_step reads (Expr-F.Mul a b) = pair_text a (codes " * ") b
+expr_text_step reads (Expr-F.Div a b) = pair_text a (codes " / ") b
+expr_text_step reads (Expr-F.Rem a b) = pair_text a (codes " % ") b
+expr_text_step reads (Expr-F.Min a b) = pair_text a (codes " min ") b
+expr_text_step reads (Expr-F.Max a b) = pair_text a (codes " max ") b
+
+abbrev pub expr_text : List ObjectId → Expr → List ℕ
+expr_text reads = fold-Expr (List ℕ) (expr_text_step reads)
+
+abbrev pub cond_text_step : List ObjectId → Cond-F (List ℕ) → List ℕ
+cond_text_step reads (Cond-F.Eq a b) = test_text (expr_text reads a) (codes " == ") (expr_text reads b)
+cond_text_step reads (Cond-F.Lt a b) = test_text (expr_text reads a) (codes " < ") (expr_text reads b)
+cond_text_step reads (Cond-F.Le a b) = test_text (expr_text reads a) (codes " <= ") (expr_text reads b)
+cond_text_step reads (Cond-F.And a b) = pair_text a (codes " and ") b
+cond_text_step reads (Cond-F.Or a b) = pair_text a (codes " or ") b
+cond_text_step reads (Cond-F.Not a) = codes "not " ++ a
+
+abbrev pub cond_text : List ObjectId → Cond → List ℕ
+cond_text reads = fold-Cond (List ℕ) (cond_text_step reads)
+
+-- the texts, each behind a space
+abbrev pub spaced : List (List ℕ) → List ℕ
+spaced texts = flat_map (λ text. 32 ∷ text) texts
+
+-- the block of these statements; an empty one is `{ }`
+abbrev pub block_text : List (List ℕ) → List ℕ
+block_text stmts = codes "{" ++ spaced stmts ++ codes " }"
+
+-- An empty block has no `else`.
+abbrev pub else_text : List (List ℕ) → List ℕ
+else_text [] = []
+else_text (s ∷ ss) = codes " else " ++ block_text (s ∷ ss)
+
+abbrev pub set_text : List ObjectId → ℕ → ℕ → Expr → List ℕ
+set_text reads slot attr e = codes "set " ++ ref_text reads slot attr ++ codes " " ++ expr_text reads e ++ codes ";"
+
+abbrev pub stmt_text_step : List ObjectId → Stmt-F (List ℕ) → List ℕ
+stmt_text_step reads (Stmt-F.Set slot attr e) = set_text reads slot attr e
+stmt_text_step reads (Stmt-F.If c a b) = codes "if " ++ cond_text reads c ++ codes " " ++ block_text a ++ else_text b
+
+abbrev pub stmt_text : List ObjectId → Stmt → List ℕ
+stmt_text reads = fold-Stmt (List ℕ) (stmt_text_step reads)
+
+abbrev pub body_text : List ObjectId → List Stmt → List ℕ
+body_text reads body = block_text (map (stmt_text reads) body)
+
+abbrev pub object_text : ObjectId → List ℕ
+object_text o = 32 ∷ decimal o.0
+
+abbrev pub objects_text : List ObjectId → List ℕ
+objects_text os = flat_map object_text os
+
+-- the objects at the slots of a mask's bits
+abbrev pub written : List ObjectId → ℕ → List ObjectId
+written [] mask = []
+written (r ∷ rs) mask = cond (mask % 2 == 1) (r ∷ written rs (mask / 2)) (written rs (mask / 2))
+
+abbrev pub is_zero : ℤ → Bool
+is_zero (pos zero) = true
+is_zero (pos (suc n)) = false
+is_zero (negsuc n) = false
+
+-- It stands exactly where the origin is not (0, 0).
+abbrev pub origin_text : Point → List ℕ
+origin_text p = cond (is_zero p.x && is_zero p.y) [] (codes " at " ++ signed_decimal p.x ++ codes " " ++ signed_decimal p.y)
+
+unfoldable pub canonical : Action → List ℕ
+canonical a = codes "reads" ++ objects_text a.reads ++ codes " writes" ++ objects_text (written a.reads a.mask) ++ origin_text a.origin ++ codes " " ++ body_text a.reads a.body
