@@ -16,3 +16,6 @@ mod token;
 pub use fault::{ParseFault, TextCause, TextFault};
 pub use parser::parse_action;
 pub use printer::{append_action, print_action};
+
+#[cfg(test)]
+mod tests;
