@@ -6,6 +6,7 @@ mod fault;
 mod header;
 mod condition;
 mod cursor;
+mod laws;
 mod lexer;
 mod parser;
 mod parts;
@@ -14,6 +15,7 @@ mod statement;
 mod token;
 
 pub use fault::{ParseFault, TextCause, TextFault};
+pub use laws::what_is_read_is_a_text_of_it;
 pub use parser::parse_action;
 pub use printer::{append_action, print_action};
 
