@@ -6,3 +6,6 @@ pub mod Printing
 pub mod Found
 pub mod FoundBody
 pub mod FoundAction
+pub mod Again
+pub mod AgainBody
+pub mod AgainAction

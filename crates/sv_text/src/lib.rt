@@ -15,7 +15,7 @@ mod statement;
 mod token;
 
 pub use fault::{ParseFault, TextCause, TextFault};
-pub use laws::what_is_read_is_a_text_of_it;
+pub use laws::{each_text_of_an_action_is_read, what_is_read_is_a_text_of_it};
 pub use parser::parse_action;
 pub use printer::{append_action, print_action};
 
