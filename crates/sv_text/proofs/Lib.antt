@@ -1,5 +1,12 @@
 pub mod Numbers
 pub mod Lexing
+pub mod Depth
+pub mod Turns
 pub mod Printing
-pub mod Texts
-pub mod Increment
+pub mod Found
+pub mod FoundBody
+pub mod FoundAction
+pub mod Again
+pub mod AgainBody
+pub mod AgainAction
+pub mod Both

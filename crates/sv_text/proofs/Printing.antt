@@ -1,43 +1,65 @@
--- A text that is appended to keeps its beginning.
-use Rattle.std.proofs.Common.{◌≡◌, ℕ, List, [], ◌∷◌, ◌++◌, length, take, drop, refl, sym, ap, ◌∙◌, append_assoc, Result, Ok, Err, OnErr, String, string_bytes, subst, arith, ◌≤◌, min}
-use Rattle.std.specs.Str.{IsUtf8}
-use Rattle.std.specs.String.Boundary.{IsSplitPoint}
-use Rattle.std.proofs.lemmas.Str.{IsUtf8-string_bytes, IsCharBoundary-from_take}
-use Rattle.std.proofs.Math.Seq.{take-append_seam, take-length}
-use Rattle.std.proofs.lemmas.List.{take-append-drop, length-take}
+-- One turn of the loop over the slots of a mask, and how far a printed tree goes.
+use Rattle.std.proofs.Common.{◌≡◌, ℕ, zero, suc, ◌+◌, ◌/◌, ◌%◌, ◌<◌, ◌≤◌, true, false, cond, eqb, List, [], ◌∷◌, ◌++◌, length, drop, get_or, refl, sym, ap, ◌∙◌, append_assoc, arith}
+use Rattle.std.proofs.Math.Seq.{drop-cons}
+use Rattle.std.proofs.lemmas.List.Concat.{flat_map-cons}
+use Rattle.sv_world.specs.declared.world.ObjectId.{ObjectId}
+use Rattle.sv_world.specs.declared.action.Expr.{Expr}
+use Rattle.sv_world.specs.declared.action.Expr.TheOpen.{Expr-F}
+use Rattle.sv_world.specs.declared.action.Expr.TheFolds.{fold-Expr}
+use Rattle.sv_world.specs.declared.action.Cond.{Cond}
+use Rattle.sv_world.specs.declared.action.Cond.TheOpen.{Cond-F}
+use Rattle.sv_world.specs.declared.action.Cond.TheFolds.{fold-Cond}
+use Rattle.sv_text.specs.Canonical.{object_in, object_text, objects_text, written}
 
--- What begins with more begins with less.
-pub begins_after : (a s b w : List ℕ) → b ≡ a ++ s → take (length b) w ≡ b → take (length a) w ≡ a
-begins_after a s b w is h =
-    let e : w ≡ a ++ (s ++ drop (length b) w) = sym (take-append-drop (length b) w) ∙ ap (λ x. x ++ drop (length b) w) (h ∙ is) ∙ append_assoc a s (drop (length b) w) in
-    ap (take (length a)) e ∙ take-append_seam a (s ++ drop (length b) w)
+objects_text-written : (r : ObjectId) (rs : List ObjectId) (mask : ℕ) → objects_text (written (r ∷ rs) mask) ≡ cond (eqb (mask % 2) 1) (object_text r) [] ++ objects_text (written rs (mask / 2))
+objects_text-written r rs mask = elim (eqb (mask % 2) 1) as (λ b. objects_text (cond b (r ∷ written rs (mask / 2)) (written rs (mask / 2))) ≡ cond b (object_text r) [] ++ objects_text (written rs (mask / 2))) [
+  | true ↦ flat_map-cons object_text r (written rs (mask / 2))
+  | false ↦ refl
+]
 
-pub begins_with : (a s w : List ℕ) → w ≡ a ++ s → take (length a) w ≡ a
-begins_with a s w e = ap (take (length a)) e ∙ take-append_seam a s
+-- what is printed so far and what is left are all
+pub written_turn : (reads : List ObjectId) (i mask : ℕ) (d : ObjectId) (front after total : List ℕ) → i < length reads
+    → after ≡ front ++ cond (eqb (mask % 2) 1) (object_text (get_or reads i d)) []
+    → front ++ objects_text (written (drop i reads) mask) ≡ total → after ++ objects_text (written (drop (i + 1) reads) (mask / 2)) ≡ total
+written_turn reads i mask d front after total lt new told =
+    let one : i + 1 ≡ suc i = omega arith in
+    let r = get_or reads i d in
+    let rest = written (drop (suc i) reads) (mask / 2) in
+    let here : front ++ objects_text (written (drop i reads) mask) ≡ front ++ (cond (eqb (mask % 2) 1) (object_text r) [] ++ objects_text rest) =
+    ap (λ (l : List ObjectId). front ++ objects_text (written l mask)) (drop-cons reads i d lt) ∙ ap (λ (l : List ℕ). front ++ l) (objects_text-written r (drop (suc i) reads) mask) in
+    rw (new, one) (append_assoc front (cond (eqb (mask % 2) 1) (object_text r) []) (objects_text rest) ∙ sym here ∙ told)
 
-pub begins_itself : (a w : List ℕ) → w ≡ a → take (length a) w ≡ a
-begins_itself a w e = ap (take (length a)) e ∙ take-length a
+abbrev expr_weight_step : Expr-F ℕ → ℕ
+expr_weight_step (Expr-F.Lit z) = 1
+expr_weight_step (Expr-F.Attr slot attr) = 1
+expr_weight_step (Expr-F.Add a b) = 1 + a + b
+expr_weight_step (Expr-F.Sub a b) = 1 + a + b
+expr_weight_step (Expr-F.Mul a b) = 1 + a + b
+expr_weight_step (Expr-F.Div a b) = 1 + a + b
+expr_weight_step (Expr-F.Rem a b) = 1 + a + b
+expr_weight_step (Expr-F.Min a b) = 1 + a + b
+expr_weight_step (Expr-F.Max a b) = 1 + a + b
 
-pub begins_after_two : (a s b t c w : List ℕ) → b ≡ a ++ s → c ≡ b ++ t → take (length c) w ≡ c → take (length a) w ≡ a
-begins_after_two a s b t c w p q h = begins_after a s b w p (begins_after b t c w q h)
+abbrev pub expr_weight : Expr → ℕ
+expr_weight = fold-Expr ℕ expr_weight_step
 
-pub begins_further : (a b w : List ℕ) → take (length a) b ≡ a → take (length b) w ≡ b → take (length a) w ≡ a
-begins_further a b w g h = begins_after a (drop (length a) b) b w (sym (take-append-drop (length a) b) ∙ ap (λ x. x ++ drop (length a) b) g) h
+abbrev cond_weight_step : Cond-F ℕ → ℕ
+cond_weight_step (Cond-F.Eq a b) = 1
+cond_weight_step (Cond-F.Lt a b) = 1
+cond_weight_step (Cond-F.Le a b) = 1
+cond_weight_step (Cond-F.And a b) = 1 + a + b
+cond_weight_step (Cond-F.Or a b) = 1 + a + b
+cond_weight_step (Cond-F.Not a) = 1 + a
 
-pub begins_longer : (a b s w : List ℕ) → take (length a) b ≡ a → w ≡ b ++ s → take (length a) w ≡ a
-begins_longer a b s w g e = begins_further a b w g (begins_with b s w e)
+abbrev pub cond_weight : Cond → ℕ
+cond_weight = fold-Cond ℕ cond_weight_step
 
-pub on_err : {X E P : Type 0} (r : Result X E) → P → OnErr r P
-on_err (Ok x) p = tt
-on_err (Err e) p = p
+pub object_in_at : (reads : List ObjectId) (k : ℕ) (d : ObjectId) → k < length reads → object_in reads k ≡ (get_or reads k d).0
+object_in_at [] k d lt = absurd (omega arith)
+object_in_at (r ∷ rs) zero d lt = refl
+object_in_at (r ∷ rs) (suc k) d lt = object_in_at rs k d (omega arith)
 
-pub ruleset begins = (begins_further, begins_longer, begins_after_two, begins_after, begins_with, begins_itself)
-
--- Where the old text ends, no character is cut.
-pub split_at_old_end : {Z : Type 0} (old new : String Z) (n : ℕ) → n ≡ length (string_bytes old) → take (length (string_bytes old)) (string_bytes new) ≡ string_bytes old
-    → IsSplitPoint (string_bytes new) n
-split_at_old_end old new n is h =
-    let same : take n (string_bytes new) ≡ string_bytes old = ap (λ k. take k (string_bytes new)) is ∙ h in
-    let fits : n ≤ length (string_bytes new) = omega (arith, length-take n (string_bytes new), ap length same) in
-    let end = IsCharBoundary-from_take (string_bytes new) n (IsUtf8-string_bytes new) fits (subst IsUtf8 (sym same) (IsUtf8-string_bytes old)) in
-    (end.0, λ some more. end.1 more)
+pub object_in_past : (reads : List ObjectId) (k : ℕ) → length reads ≤ k → object_in reads k ≡ 0
+object_in_past [] k le = refl
+object_in_past (r ∷ rs) zero le = absurd (omega arith)
+object_in_past (r ∷ rs) (suc k) le = object_in_past rs k (omega arith)
