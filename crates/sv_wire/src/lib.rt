@@ -1,6 +1,9 @@
 //! The messages between clients and the server.
 #![tactic(auto)]
 
+mod fault;
+mod fields;
 mod message;
 
+pub use fault::{Malformed, WireCause, WireFault};
 pub use message::{Done1, Held, Item, Reply, Request};
