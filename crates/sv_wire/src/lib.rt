@@ -4,6 +4,7 @@
 mod fault;
 mod fields;
 mod message;
+mod nodes;
 
 pub use fault::{Malformed, WireCause, WireFault};
 pub use message::{Done1, Held, Item, Reply, Request};
