@@ -1,3 +1,4 @@
 pub mod Steps
 pub mod Fields
 pub mod Nodes
+pub mod Trees

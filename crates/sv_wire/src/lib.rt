@@ -1,6 +1,8 @@
 //! The messages between clients and the server.
 #![tactic(auto)]
 
+mod conds;
+mod exprs;
 mod fault;
 mod fields;
 mod message;
