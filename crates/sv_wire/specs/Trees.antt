@@ -17,7 +17,7 @@ use Rattle.sv_wire.specs.declared.nodes.CondKind.{CondKind}
 use Rattle.sv_wire.specs.declared.nodes.CondKind.TheVariants as cond_kind
 use Rattle.sv_wire.specs.declared.nodes.StmtKind.{StmtKind}
 use Rattle.sv_wire.specs.declared.nodes.StmtKind.TheVariants as stmt_kind
-use Rattle.sv_wire.specs.Steps.{Turn, ◌>>=◌, stop, in_turn}
+use Rattle.sv_wire.specs.Steps.{Read, Turn, ◌>>=◌, stop, in_turn}
 use Rattle.sv_wire.specs.Fields.{byte_at, int_at}
 use Rattle.sv_wire.specs.Nodes.{node_at, expr_kind_of, cond_kind_of, stmt_kind_of, expr_by, compare_by, join_by}
 
@@ -136,5 +136,8 @@ unfoldable pub stmt_at : ℕ → Reader Stmt
 stmt_at zero nodes bytes = stmt_step nothing nothing nothing 0 nodes bytes
 stmt_at (suc depth) nodes bytes = stmt_step (λ n rest. expr_at depth n rest) (λ n rest. cond_at depth n rest) (λ n rest. stmt_at depth n rest) (suc depth) nodes bytes
 
-unfoldable pub list_at : ℕ → Reader (List Stmt)
-list_at depth nodes bytes = list_by (λ n rest. stmt_at depth n rest) nodes bytes
+-- a body, whose statements have eight levels
+unfoldable pub body_at : List ℕ → Read (List Stmt)
+body_at bytes = do
+  body ← list_by (λ n rest. stmt_at 8 n rest) 0 bytes
+  Ok (body.0, body.2)
