@@ -5,3 +5,5 @@ pub mod Trees
 pub mod Messages
 pub mod Spelling
 pub mod Grammar
+pub mod Ranges
+pub mod Laws

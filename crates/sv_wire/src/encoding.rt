@@ -1,6 +1,7 @@
 //! Encoding messages.
-ghost use Rattle.std.specs.Prelude.{◌≡◌, ◌≤◌, ◌++◌, length, All, IfOk, OnOk};
+ghost use Rattle.std.specs.Prelude.{◌≡◌, ◌≤◌, ◌++◌, ◌∷◌, length, All, IfOk, OnOk};
 ghost use Rattle.std.specs.List.{flat_map};
+ghost use Rattle.byteorder.specs.Endian.{big_bytes};
 ghost use Rattle.sv_wire.specs.Spelling.{action_bytes, item_bytes, request_bytes, reply_bytes};
 ghost use Rattle.sv_wire.specs.Grammar.{IsWireAction, IsWireRelay, IsWireRequest, IsWireReply};
 
@@ -40,6 +41,24 @@ fn put_items(out: &mut Vec<u8>, items: &[Item]) -> Result<(), AllocError>
     for item in items {
         put_item(out, item)?;
     }
+    Ok(())
+}
+
+fn put_item_list(out: &mut Vec<u8>, items: &[Item]) -> Result<(), AllocError>
+    requires few { length items.now ≤ 33 }
+    requires each { All (λ i. IsWireAction i.action) items.now }
+    ensures { OnOk result (out.new.items ≡ out.old.items ++ length items.now ∷ flat_map item_bytes items.now) }
+{
+    out.push(items.len() as u8)?;
+    put_items(out, items)?;
+    Ok(())
+}
+
+fn put_two(out: &mut Vec<u8>, first: u32, second: u32) -> Result<(), AllocError>
+    ensures { OnOk result (out.new.items ≡ out.old.items ++ (big_bytes 4 first ++ big_bytes 4 second)) }
+{
+    put_u32(out, first)?;
+    put_u32(out, second)?;
     Ok(())
 }
 
@@ -98,18 +117,15 @@ fn put_reply(out: &mut Vec<u8>, reply: &Reply) -> Result<(), AllocError>
             items,
         } => {
             out.push(0x89)?;
-            put_u32(out, *seq)?;
-            put_u32(out, *commit)?;
+            put_two(out, *seq, *commit)?;
             put_head(out, head.as_slice())?;
-            out.push(items.len() as u8)?;
-            put_items(out, items.as_slice())?;
+            put_item_list(out, items.as_slice())?;
             Ok(())
         }
         Reply::Dropped { seq, chain, far } => {
             out.push(0x8a)?;
             put_u32(out, *seq)?;
-            put_u32(out, *chain)?;
-            put_u32(out, *far)?;
+            put_two(out, *chain, *far)?;
             Ok(())
         }
         Reply::Settled { seq, pos } => {
