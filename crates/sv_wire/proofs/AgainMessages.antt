@@ -48,14 +48,16 @@ action_again a rest h =
     let point = point_bytes a.origin in
     let body = body_bytes a.body in
     let regrouped : action_bytes a ++ rest ≡ length a.reads ∷ (objects ++ (mask ++ (point ++ (body ++ rest)))) =
-        ap (λ (t : List ℕ). length a.reads ∷ t)
-        (append_assoc (objects ++ mask ++ point) body rest ∙ append_assoc (objects ++ mask) point (body ++ rest) ∙ append_assoc objects mask (point ++ (body ++ rest))) in
+    ap (λ (t : List ℕ). length a.reads ∷ t)
+    (append_assoc (objects ++ mask ++ point) body rest ∙ append_assoc (objects ++ mask) point (body ++ rest) ∙ append_assoc objects mask (point ++ (body ++ rest))) in
     ap action_at regrouped
-    ∙ rw (count_again 1 16 (length a.reads) (objects ++ (mask ++ (point ++ (body ++ rest)))) h.0.some_reads h.0.few_reads,
-    objects_again a.reads (mask ++ (point ++ (body ++ rest))) h.0.ascending h.1.reads,
-    mask_again (length a.reads) a.mask (point ++ (body ++ rest)) h.1.mask h.0.mask,
-    point_again a.origin (body ++ rest) h.1.x h.1.y,
-    body_again a.body rest h.1.body h.0.shallow h.0.few_nodes) refl
+    ∙ rw (
+      count_again 1 16 (length a.reads) (objects ++ (mask ++ (point ++ (body ++ rest)))) h.0.some_reads h.0.few_reads,
+      objects_again a.reads (mask ++ (point ++ (body ++ rest))) h.0.ascending h.1.reads,
+      mask_again (length a.reads) a.mask (point ++ (body ++ rest)) h.1.mask h.0.mask,
+      point_again a.origin (body ++ rest) h.1.x h.1.y,
+      body_again a.body rest h.1.body h.0.shallow h.0.few_nodes,
+    ) refl
 
 item_again : (i : Item) (rest : List ℕ) → IsWireAction i.action × ItemFits i → item_at (item_bytes i ++ rest) ≡ Ok (i, rest)
 unfolding item_at
@@ -65,12 +67,14 @@ item_again i rest h =
     let seq = big_bytes 4 i.seq in
     let action = action_bytes i.action in
     let regrouped : item_bytes i ++ rest ≡ pos ++ (client ++ (seq ++ (action ++ rest))) =
-        append_assoc (pos ++ client ++ seq) action rest ∙ append_assoc (pos ++ client) seq (action ++ rest) ∙ append_assoc pos client (seq ++ (action ++ rest)) in
+    append_assoc (pos ++ client ++ seq) action rest ∙ append_assoc (pos ++ client) seq (action ++ rest) ∙ append_assoc pos client (seq ++ (action ++ rest)) in
     ap item_at regrouped
-    ∙ rw (number_again 4 i.pos (client ++ (seq ++ (action ++ rest))) (omega (arith, h.1.pos)),
-    number_again 2 i.client.0 (seq ++ (action ++ rest)) (omega (arith, h.1.client)),
-    number_again 4 i.seq (action ++ rest) (omega (arith, h.1.seq)),
-    action_again i.action rest (h.0, h.1.action)) refl
+    ∙ rw (
+      number_again 4 i.pos (client ++ (seq ++ (action ++ rest))) (omega (arith, h.1.pos)),
+      number_again 2 i.client.0 (seq ++ (action ++ rest)) (omega (arith, h.1.client)),
+      number_again 4 i.seq (action ++ rest) (omega (arith, h.1.seq)),
+      action_again i.action rest (h.0, h.1.action),
+    ) refl
 
 -- A request at the front, whatever follows it.
 pub request_again : (m : Request) (rest : List ℕ) → IsWireRequest m → RequestFits m → request_front (request_bytes m ++ rest) ≡ Ok (m, rest)
@@ -78,19 +82,23 @@ unfolding request_front request_bytes request_kind_of byte_at join_request_at su
 request_again (Join client life interest) rest is fits =
     let objects = flat_map object_bytes interest in
     let read : join_request_at (big_bytes 2 client.0 ++ (big_bytes 4 life ++ (length interest ∷ (objects ++ rest)))) ≡ Ok (Join client life interest, rest) =
-        rw (number_again 2 client.0 (big_bytes 4 life ++ (length interest ∷ (objects ++ rest))) (omega (arith, fits.0)),
-        number_again 4 life (length interest ∷ (objects ++ rest)) (omega (arith, fits.1)),
-        count_again 0 64 (length interest) (objects ++ rest) (omega arith) is.few,
-        objects_again interest rest is.ascending fits.2) refl in
+    rw (
+      number_again 2 client.0 (big_bytes 4 life ++ (length interest ∷ (objects ++ rest))) (omega (arith, fits.0)),
+      number_again 4 life (length interest ∷ (objects ++ rest)) (omega (arith, fits.1)),
+      count_again 0 64 (length interest) (objects ++ rest) (omega arith) is.few,
+      objects_again interest rest is.ascending fits.2,
+    ) refl in
     read
 request_again (Submit seq action) rest is fits =
     let read : submit_at (big_bytes 4 seq ++ (action_bytes action ++ rest)) ≡ Ok (Submit seq action, rest) =
-        rw (number_again 4 seq (action_bytes action ++ rest) (omega (arith, fits.0)), action_again action rest (is, fits.1)) refl in
+    rw (number_again 4 seq (action_bytes action ++ rest) (omega (arith, fits.0)), action_again action rest (is, fits.1)) refl in
     read
 request_again (Done results) rest is fits =
     let each = both_of_each IsWireResult ResultFits results (recursion_from_All IsWireResult results is.each) fits in
-    rw (count_again 1 33 (length results) (flat_map result_bytes results ++ rest) is.some is.few,
-    several_again result_at result_bytes (λ r. IsWireResult r × ResultFits r) result_again results rest each) refl
+    rw (
+      count_again 1 33 (length results) (flat_map result_bytes results ++ rest) is.some is.few,
+      several_again result_at result_bytes (λ r. IsWireResult r × ResultFits r) result_again results rest each,
+    ) refl
 request_again Poll rest is fits = refl
 request_again Leave rest is fits = refl
 request_again Bad rest is fits = absurd is
@@ -106,11 +114,13 @@ unfolding relay_at
 relay_again seq commit head items rest is fits =
     let each = both_of_each (λ (i : Item). IsWireAction i.action) ItemFits items (recursion_from_All (λ (i : Item). IsWireAction i.action) items is.each) fits.3 in
     let last = flat_map item_bytes items ++ rest in
-    rw (number_again 4 seq (big_bytes 4 commit ++ (head_bytes head ++ (length items ∷ last))) (omega (arith, fits.0)),
-    number_again 4 commit (head_bytes head ++ (length items ∷ last)) (omega (arith, fits.1)),
-    head_again head (length items ∷ last) is.base fits.2,
-    count_again 0 33 (length items) last (omega arith) is.few,
-    several_again item_at item_bytes (λ (i : Item). IsWireAction i.action × ItemFits i) item_again items rest each) refl
+    rw (
+      number_again 4 seq (big_bytes 4 commit ++ (head_bytes head ++ (length items ∷ last))) (omega (arith, fits.0)),
+      number_again 4 commit (head_bytes head ++ (length items ∷ last)) (omega (arith, fits.1)),
+      head_again head (length items ∷ last) is.base fits.2,
+      count_again 0 33 (length items) last (omega arith) is.few,
+      several_again item_at item_bytes (λ (i : Item). IsWireAction i.action × ItemFits i) item_again items rest each,
+    ) refl
 
 -- A reply at the front, whatever follows it.
 pub reply_again : (m : Reply) (rest : List ℕ) → IsWireReply m → ReplyFits m → reply_front (reply_bytes m ++ rest) ≡ Ok (m, rest)
@@ -124,15 +134,15 @@ reply_again (Relay seq commit head items) rest is fits =
     let h = head_bytes head in
     let l = length items ∷ flat_map item_bytes items in
     let regrouped : s ++ c ++ h ++ l ++ rest ≡ s ++ (c ++ (h ++ (l ++ rest))) =
-        append_assoc (s ++ c ++ h) l rest ∙ append_assoc (s ++ c) h (l ++ rest) ∙ append_assoc s c (h ++ (l ++ rest)) in
+    append_assoc (s ++ c ++ h) l rest ∙ append_assoc (s ++ c) h (l ++ rest) ∙ append_assoc s c (h ++ (l ++ rest)) in
     ap relay_at regrouped ∙ relay_again seq commit head items rest is fits
 reply_again (Dropped seq chain far) rest is fits =
     let read : dropped_at (big_bytes 4 seq ++ (big_bytes 4 chain ++ (big_bytes 4 far ++ rest))) ≡ Ok (Dropped seq chain far, rest) =
-        rw (number_again 4 seq (big_bytes 4 chain ++ (big_bytes 4 far ++ rest)) (omega (arith, fits.0)), number_again 4 chain (big_bytes 4 far ++ rest) (omega (arith, fits.1)), number_again 4 far rest (omega (arith, fits.2))) refl in
+    rw (number_again 4 seq (big_bytes 4 chain ++ (big_bytes 4 far ++ rest)) (omega (arith, fits.0)), number_again 4 chain (big_bytes 4 far ++ rest) (omega (arith, fits.1)), number_again 4 far rest (omega (arith, fits.2))) refl in
     read
 reply_again (Settled seq position) rest is fits =
     let read : settled_at (big_bytes 4 seq ++ (big_bytes 4 position ++ rest)) ≡ Ok (Settled seq position, rest) =
-        rw (number_again 4 seq (big_bytes 4 position ++ rest) (omega (arith, fits.0)), number_again 4 position rest (omega (arith, fits.1))) refl in
+    rw (number_again 4 seq (big_bytes 4 position ++ rest) (omega (arith, fits.0)), number_again 4 position rest (omega (arith, fits.1))) refl in
     read
 reply_again (Noted commit) rest is fits = rw (number_again 4 commit rest (omega (arith, fits))) refl
 reply_again Idle rest is fits = refl

@@ -88,9 +88,11 @@ pair_read : (o : Operator) (a b : Expr) → ExprAgain a → ExprAgain b → (dep
 unfolding expr_step pair_at
 pair_read o a b p q depth nodes rest fa fb da db few =
     expr_at_is depth nodes (operator_byte o ∷ (expr_bytes a ++ (expr_bytes b ++ rest))) (omega arith)
-    ∙ rw (node_again expr_kind_of (expr_kind.Both o) (operator_byte o) (kind_by o) depth nodes (expr_bytes a ++ (expr_bytes b ++ rest)) (omega arith) (omega arith),
-    p (depth - 1) (nodes + 1) (expr_bytes b ++ rest) fa (omega arith) (omega arith),
-    q (depth - 1) (nodes + 1 + expr_nodes a) rest fb (omega arith) (omega arith)) refl
+    ∙ rw (
+      node_again expr_kind_of (expr_kind.Both o) (operator_byte o) (kind_by o) depth nodes (expr_bytes a ++ (expr_bytes b ++ rest)) (omega arith) (omega arith),
+      p (depth - 1) (nodes + 1) (expr_bytes b ++ rest) fa (omega arith) (omega arith),
+      q (depth - 1) (nodes + 1 + expr_nodes a) rest fb (omega arith) (omega arith),
+    ) refl
 
 pair_again : (o : Operator) (a b : Expr) → ExprAgain a → ExprAgain b → ExprAgain (expr_by o a b)
 pair_again o a b p q depth nodes rest fits deep few =
@@ -126,9 +128,11 @@ compare_read : (o : Comparison) (a b : Expr) (depth nodes : ℕ) (rest : List �
 unfolding cond_step compare_at
 compare_read o a b depth nodes rest fa fb da db few =
     cond_at_is depth nodes (comparison_byte o ∷ (expr_bytes a ++ (expr_bytes b ++ rest))) (omega arith)
-    ∙ rw (node_again cond_kind_of (cond_kind.Compare o) (comparison_byte o) (compare_kind o) depth nodes (expr_bytes a ++ (expr_bytes b ++ rest)) (omega arith) (omega arith),
-    expr_again a (depth - 1) (nodes + 1) (expr_bytes b ++ rest) fa (omega arith) (omega arith),
-    expr_again b (depth - 1) (nodes + 1 + expr_nodes a) rest fb (omega arith) (omega arith)) refl
+    ∙ rw (
+      node_again cond_kind_of (cond_kind.Compare o) (comparison_byte o) (compare_kind o) depth nodes (expr_bytes a ++ (expr_bytes b ++ rest)) (omega arith) (omega arith),
+      expr_again a (depth - 1) (nodes + 1) (expr_bytes b ++ rest) fa (omega arith) (omega arith),
+      expr_again b (depth - 1) (nodes + 1 + expr_nodes a) rest fb (omega arith) (omega arith),
+    ) refl
 
 compare_again : (o : Comparison) (a b : Expr) → CondAgain (compare_by o a b)
 compare_again o a b depth nodes rest fits deep few =
@@ -145,9 +149,11 @@ join_read : (o : Connective) (a b : Cond) → CondAgain a → CondAgain b → (d
 unfolding cond_step join_at
 join_read o a b p q depth nodes rest fa fb da db few =
     cond_at_is depth nodes (connective_byte o ∷ (cond_bytes a ++ (cond_bytes b ++ rest))) (omega arith)
-    ∙ rw (node_again cond_kind_of (cond_kind.Both o) (connective_byte o) (join_kind o) depth nodes (cond_bytes a ++ (cond_bytes b ++ rest)) (omega arith) (omega arith),
-    p (depth - 1) (nodes + 1) (cond_bytes b ++ rest) fa (omega arith) (omega arith),
-    q (depth - 1) (nodes + 1 + cond_nodes a) rest fb (omega arith) (omega arith)) refl
+    ∙ rw (
+      node_again cond_kind_of (cond_kind.Both o) (connective_byte o) (join_kind o) depth nodes (cond_bytes a ++ (cond_bytes b ++ rest)) (omega arith) (omega arith),
+      p (depth - 1) (nodes + 1) (cond_bytes b ++ rest) fa (omega arith) (omega arith),
+      q (depth - 1) (nodes + 1 + cond_nodes a) rest fb (omega arith) (omega arith),
+    ) refl
 
 join_again : (o : Connective) (a b : Cond) → CondAgain a → CondAgain b → CondAgain (join_by o a b)
 join_again o a b p q depth nodes rest fits deep few =
@@ -163,8 +169,10 @@ not_read : (a : Cond) → CondAgain a → (depth nodes : ℕ) (rest : List ℕ) 
 unfolding cond_step not_at cond_kind_of
 not_read a p depth nodes rest fa da few =
     cond_at_is depth nodes (0x35 ∷ (cond_bytes a ++ rest)) (omega arith)
-    ∙ rw (node_again cond_kind_of cond_kind.Not 0x35 refl depth nodes (cond_bytes a ++ rest) (omega arith) (omega arith),
-    p (depth - 1) (nodes + 1) rest fa (omega arith) (omega arith)) refl
+    ∙ rw (
+      node_again cond_kind_of cond_kind.Not 0x35 refl depth nodes (cond_bytes a ++ rest) (omega arith) (omega arith),
+      p (depth - 1) (nodes + 1) rest fa (omega arith) (omega arith),
+    ) refl
 
 not_again : (a : Cond) → CondAgain a → CondAgain (test.Not a)
 not_again a p depth nodes rest fits deep few =
@@ -194,8 +202,10 @@ set_read : (slot attr : ℕ) (value : Expr) (depth nodes : ℕ) (rest : List ℕ
 unfolding stmt_step stmt_kind_of set_at byte_at
 set_read slot attr value depth nodes rest fits deep few =
     stmt_at_is depth nodes (0x10 ∷ slot ∷ attr ∷ (expr_bytes value ++ rest)) (omega arith)
-    ∙ rw (node_again stmt_kind_of stmt_kind.Set 0x10 refl depth nodes (slot ∷ attr ∷ (expr_bytes value ++ rest)) (omega arith) (omega arith),
-    expr_again value (depth - 1) (nodes + 1) rest fits (omega arith) (omega arith)) refl
+    ∙ rw (
+      node_again stmt_kind_of stmt_kind.Set 0x10 refl depth nodes (slot ∷ attr ∷ (expr_bytes value ++ rest)) (omega arith) (omega arith),
+      expr_again value (depth - 1) (nodes + 1) rest fits (omega arith) (omega arith),
+    ) refl
 
 set_again : (slot attr : ℕ) (value : Expr) → StmtAgain (stmt.Set slot attr value)
 set_again slot attr value depth nodes rest fits deep few =
@@ -237,10 +247,12 @@ if_read c xs ys p q depth nodes rest fc fx fy dc dx dy few =
     let third = counted (map stmt_bytes ys) ++ rest in
     let second = counted (map stmt_bytes xs) ++ third in
     stmt_at_is depth nodes (0x11 ∷ (cond_bytes c ++ second)) (omega arith)
-    ∙ rw (node_again stmt_kind_of stmt_kind.If 0x11 refl depth nodes (cond_bytes c ++ second) (omega arith) (omega arith),
-    cond_again c (depth - 1) (nodes + 1) second fc (omega arith) (omega arith),
-    list_again xs p (depth - 1) (nodes + 1 + cond_nodes c) third fx (omega arith) (omega arith),
-    list_again ys q (depth - 1) (nodes + 1 + cond_nodes c + body_nodes xs) rest fy (omega arith) (omega arith)) refl
+    ∙ rw (
+      node_again stmt_kind_of stmt_kind.If 0x11 refl depth nodes (cond_bytes c ++ second) (omega arith) (omega arith),
+      cond_again c (depth - 1) (nodes + 1) second fc (omega arith) (omega arith),
+      list_again xs p (depth - 1) (nodes + 1 + cond_nodes c) third fx (omega arith) (omega arith),
+      list_again ys q (depth - 1) (nodes + 1 + cond_nodes c + body_nodes xs) rest fy (omega arith) (omega arith),
+    ) refl
 
 if_again : (c : Cond) (xs ys : List Stmt) → AllByRecursion StmtAgain xs → AllByRecursion StmtAgain ys → StmtAgain (stmt.If c xs ys)
 if_again c xs ys p q depth nodes rest fits deep few =

@@ -196,12 +196,14 @@ head_takes bytes x fits e =
     let h = bind_ok (in_turn held_at n.0.0 0 n.0.1) (λ head. Ok (head.0, head.2)) x n.2 in
     let t = in_turn_takes held_at held_bytes (λ (h : Held). h.object.0) (λ (h : Held). IsWireValue h.value) held_takes n.0.0 0 n.0.1 h.0 c.0.bytes_left h.1 in
     let whole : Takes bytes (head_bytes h.0.0) h.0.2 = subst (λ (k : ℕ). Takes bytes (big_bytes 2 k ++ flat_map held_bytes h.0.0) h.0.2) (sym t.1) (after c.0 t.0) in
-    subst (λ (y : List Held × List ℕ). Takes bytes (head_bytes y.0) y.1 × IsWireHead y.0) (ok_is (h.0.0, h.0.2) x h.2)
-    (whole, record {
-      few = omega (arith, c.1, t.1);
-      ascending = ascends (λ (h : Held). h.object.0) 0 h.0.0 t.2;
-      values = All-from_recursion (λ (h : Held). IsWireValue h.value) h.0.0 t.3;
-    })
+    subst (λ (y : List Held × List ℕ). Takes bytes (head_bytes y.0) y.1 × IsWireHead y.0) (ok_is (h.0.0, h.0.2) x h.2) (
+      whole,
+      record {
+        few = omega (arith, c.1, t.1);
+        ascending = ascends (λ (h : Held). h.object.0) 0 h.0.0 t.2;
+        values = All-from_recursion (λ (h : Held). IsWireValue h.value) h.0.0 t.3;
+      },
+    )
 
 pub result_takes : (bytes : List ℕ) (x : Done1 × List ℕ) → IsBytes bytes → result_at bytes ≡ Ok x → Takes bytes (result_bytes x.0) x.1 × IsWireResult x.0
 unfolding result_at

@@ -79,15 +79,17 @@ action_takes bytes x fits e =
     let tb = body_takes p.0.1 b.0 tp.bytes_left b.1 in
     let front : Takes bytes (length r.0.0 ∷ flat_map object_bytes r.0.0) r.0.1 = subst (λ (k : ℕ). Takes bytes (k ∷ flat_map object_bytes r.0.0) r.0.1) (sym tr.1) (after tn tr.0) in
     let mask : m.0.0 < 2 ^ length r.0.0 = subst (λ (k : ℕ). m.0.0 < 2 ^ k) (sym tr.1) tm.1 in
-    subst (λ (y : Action × List ℕ). Takes bytes (action_bytes y.0) y.1 × IsWireAction y.0) (ok_is (record { reads = r.0.0; mask = m.0.0; origin = p.0.0; body = b.0.0 }, b.0.1) x b.2)
-    (after (after (after front tm.0) tp) tb.0, record {
-      some_reads = omega (arith, few.0, tr.1);
-      few_reads = omega (arith, few.1, tr.1);
-      ascending = tr.2;
-      mask = mask;
-      few_nodes = tb.1;
-      shallow = tb.2;
-    })
+    subst (λ (y : Action × List ℕ). Takes bytes (action_bytes y.0) y.1 × IsWireAction y.0) (ok_is (record { reads = r.0.0; mask = m.0.0; origin = p.0.0; body = b.0.0 }, b.0.1) x b.2) (
+      after (after (after front tm.0) tp) tb.0,
+      record {
+        some_reads = omega (arith, few.0, tr.1);
+        few_reads = omega (arith, few.1, tr.1);
+        ascending = tr.2;
+        mask = mask;
+        few_nodes = tb.1;
+        shallow = tb.2;
+      },
+    )
 
 item_takes : (bytes : List ℕ) (x : Item × List ℕ) → IsBytes bytes → item_at bytes ≡ Ok x → Takes bytes (item_bytes x.0) x.1 × IsWireAction x.0.action
 unfolding item_at
@@ -143,9 +145,12 @@ done_takes bytes x fits e =
     let tn = count_takes 1 33 bytes n.0 fits n.1 in
     let few = count_is 1 33 bytes n.0 n.1 in
     let tr = several_takes result_at result_bytes IsWireResult result_takes n.0.0 n.0.1 r.0 tn.bytes_left r.1 in
-    subst (λ (y : Request × List ℕ). RequestRest 0x03 bytes y) (ok_is (request.Done r.0.0, r.0.1) x r.2)
-    (length r.0.0 ∷ flat_map result_bytes r.0.0, subst (λ (k : ℕ). Takes bytes (k ∷ flat_map result_bytes r.0.0) r.0.1) (sym tr.1) (after tn tr.0), refl,
-    record { some = omega (arith, few.0, tr.1); few = omega (arith, few.1, tr.1); each = All-from_recursion IsWireResult r.0.0 tr.2 })
+    subst (λ (y : Request × List ℕ). RequestRest 0x03 bytes y) (ok_is (request.Done r.0.0, r.0.1) x r.2) (
+      length r.0.0 ∷ flat_map result_bytes r.0.0,
+      subst (λ (k : ℕ). Takes bytes (k ∷ flat_map result_bytes r.0.0) r.0.1) (sym tr.1) (after tn tr.0),
+      refl,
+      record { some = omega (arith, few.0, tr.1); few = omega (arith, few.1, tr.1); each = All-from_recursion IsWireResult r.0.0 tr.2 },
+    )
 
 abbrev request_byte : RequestKind → ℕ
 request_byte request_kind.Join = 0x01
@@ -237,9 +242,12 @@ relay_takes bytes x fits e =
     let few = count_is 0 33 h.0.1 n.0 n.1 in
     let ti = several_takes item_at item_bytes (λ (i : Item). IsWireAction i.action) item_takes n.0.0 n.0.1 i.0 tn.bytes_left i.1 in
     let list : Takes h.0.1 (length i.0.0 ∷ flat_map item_bytes i.0.0) i.0.1 = subst (λ (k : ℕ). Takes h.0.1 (k ∷ flat_map item_bytes i.0.0) i.0.1) (sym ti.1) (after tn ti.0) in
-    subst (λ (y : Reply × List ℕ). ReplyRest 0x89 bytes y) (ok_is (reply.Relay s.0.0 c.0.0 h.0.0 i.0.0, i.0.1) x i.2)
-    (big_bytes 4 s.0.0 ++ big_bytes 4 c.0.0 ++ head_bytes h.0.0 ++ length i.0.0 ∷ flat_map item_bytes i.0.0, after (after (after ts.0 tc.0) th.0) list, refl,
-    record { base = th.1; few = omega (arith, few.1, ti.1); each = All-from_recursion (λ (i : Item). IsWireAction i.action) i.0.0 ti.2 })
+    subst (λ (y : Reply × List ℕ). ReplyRest 0x89 bytes y) (ok_is (reply.Relay s.0.0 c.0.0 h.0.0 i.0.0, i.0.1) x i.2) (
+      big_bytes 4 s.0.0 ++ big_bytes 4 c.0.0 ++ head_bytes h.0.0 ++ length i.0.0 ∷ flat_map item_bytes i.0.0,
+      after (after (after ts.0 tc.0) th.0) list,
+      refl,
+      record { base = th.1; few = omega (arith, few.1, ti.1); each = All-from_recursion (λ (i : Item). IsWireAction i.action) i.0.0 ti.2 },
+    )
 
 dropped_takes : (bytes : List ℕ) (x : Reply × List ℕ) → IsBytes bytes → dropped_at bytes ≡ Ok x → ReplyRest 0x8a bytes x
 unfolding dropped_at reply_bytes

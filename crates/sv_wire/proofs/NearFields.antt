@@ -109,5 +109,5 @@ result_near bytes =
     near_then left2 left2 4 529 533 (length bytes) (number_at 4 bytes) _ (omega arith) (number_near 4 bytes)
     (λ pos _. near_then left2 left2 1 528 529 (length pos.1) (count_at 0 16 pos.1) _ (omega arith) (count_near 0 16 pos.1)
     (λ n e. let few = count_is 0 16 pos.1 n e in
-      near_then left2 left2 (n.0 * 33) 0 528 (length n.1) (several value_at n.0 n.1) _ (omega arith) (several_near value_at 33 value_near n.0 n.1)
+    near_then left2 left2 (n.0 * 33) 0 528 (length n.1) (several value_at n.0 n.1) _ (omega arith) (several_near value_at 33 value_near n.0 n.1)
     (λ values _. near_done left2 0 (length values.1) _ (omega arith) (omega arith))))

@@ -34,7 +34,7 @@ unfolding action_at
 action_near bytes =
     near_then left2 left2 1 619 620 (length bytes) (count_at 1 16 bytes) _ (omega arith) (count_near 1 16 bytes)
     (λ n e. let few = count_is 1 16 bytes n e in
-      near_then left2 left2 (n.0 * 2) 587 619 (length n.1) (objects_at n.0 n.1) _ (omega arith) (objects_near n.0 n.1)
+    near_then left2 left2 (n.0 * 2) 587 619 (length n.1) (objects_at n.0 n.1) _ (omega arith) (objects_near n.0 n.1)
     (λ reads _. near_then left2 left2 2 585 587 (length reads.1) (mask_at n.0 reads.1) _ (omega arith) (mask_near n.0 reads.1)
     (λ mask _. near_then left2 left2 8 577 585 (length mask.1) (point_at mask.1) _ (omega arith) (point_near mask.1)
     (λ origin _. near_then left2 left2 577 0 577 (length origin.1) (body_at origin.1) _ (omega arith) (body_near origin.1)
@@ -56,7 +56,7 @@ join_near bytes =
     (λ client _. near_then left2 left2 4 129 133 (length client.1) (number_at 4 client.1) _ (omega arith) (number_near 4 client.1)
     (λ life _. near_then left2 left2 1 128 129 (length life.1) (count_at 0 64 life.1) _ (omega arith) (count_near 0 64 life.1)
     (λ n e. let few = count_is 0 64 life.1 n e in
-      near_then left2 left2 (n.0 * 2) 0 128 (length n.1) (objects_at n.0 n.1) _ (omega arith) (objects_near n.0 n.1)
+    near_then left2 left2 (n.0 * 2) 0 128 (length n.1) (objects_at n.0 n.1) _ (omega arith) (objects_near n.0 n.1)
     (λ interest _. near_done left2 0 (length interest.1) _ (omega arith) (omega arith)))))
 
 submit_near : (bytes : List ℕ) → Near left2 624 (length bytes) (submit_at bytes)
@@ -71,7 +71,7 @@ unfolding done_at
 done_near bytes =
     near_then left2 left2 1 17589 17590 (length bytes) (count_at 1 33 bytes) _ (omega arith) (count_near 1 33 bytes)
     (λ n e. let few = count_is 1 33 bytes n e in
-      near_then left2 left2 (n.0 * 533) 0 17589 (length n.1) (several result_at n.0 n.1) _ (omega arith) (several_near result_at 533 result_near n.0 n.1)
+    near_then left2 left2 (n.0 * 533) 0 17589 (length n.1) (several result_at n.0 n.1) _ (omega arith) (several_near result_at 533 result_near n.0 n.1)
     (λ results _. near_done left2 0 (length results.1) _ (omega arith) (omega arith)))
 
 request_of_near : (kind : RequestKind) (bytes : List ℕ) → Near left2 39999 (length bytes) (request_of kind bytes)
@@ -96,7 +96,7 @@ relay_near bytes =
     (λ commit _. near_then left2 left2 18482 20791 39273 (length commit.1) (head_at commit.1) _ (omega arith) (head_near commit.1)
     (λ head _. near_then left2 left2 1 20790 20791 (length head.1) (count_at 0 33 head.1) _ (omega arith) (count_near 0 33 head.1)
     (λ n e. let few = count_is 0 33 head.1 n e in
-      near_then left2 left2 (n.0 * 630) 0 20790 (length n.1) (several item_at n.0 n.1) _ (omega arith) (several_near item_at 630 item_near n.0 n.1)
+    near_then left2 left2 (n.0 * 630) 0 20790 (length n.1) (several item_at n.0 n.1) _ (omega arith) (several_near item_at 630 item_near n.0 n.1)
     (λ items _. near_done left2 0 (length items.1) _ (omega arith) (omega arith))))))
 
 dropped_near : (bytes : List ℕ) → Near left2 12 (length bytes) (dropped_at bytes)

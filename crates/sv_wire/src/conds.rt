@@ -70,7 +70,13 @@ pub fn cond_next<'a>(
 {
     let (kind, rest) = cond_node(depth, nodes, bytes)?;
     match kind {
-        CondKind::Compare(comparison) => compare_next(alloc, depth - 1, comparison, nodes + 1, rest),
+        CondKind::Compare(comparison) => compare_next(
+            alloc,
+            depth - 1,
+            comparison,
+            nodes + 1,
+            rest,
+        ),
         CondKind::Both(connective) => join_next(alloc, depth - 1, connective, nodes + 1, rest),
         CondKind::Not => not_next(alloc, depth - 1, nodes + 1, rest),
     }

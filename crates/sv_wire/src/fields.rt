@@ -95,7 +95,11 @@ fn object_of(least: u32, bytes: &[u8]) -> Result<(ObjectId, u32, &[u8]), ReadFau
     Ok((ObjectId(number), number_wide + 1, rest))
 }
 
-pub fn objects_of(alloc: Global, count: u8, bytes: &[u8]) -> Result<(List<ObjectId>, &[u8]), ReadFault>
+pub fn objects_of(
+    alloc: Global,
+    count: u8,
+    bytes: &[u8],
+) -> Result<(List<ObjectId>, &[u8]), ReadFault>
     ensures { Gives (λ x. (x.0, x.1.now)) result (objects_at count bytes.now) }
 {
     let mut objects = List::new(alloc);

@@ -5,13 +5,11 @@ ghost use Rattle.sv_wire.specs.Laws.{RequestsDiffer, RepliesDiffer, RequestFrame
 pub fn one_payload()
     ensures requests { RequestsDiffer }
     ensures replies { RepliesDiffer }
-{
-}
+{}
 
 /// No message's frame begins another message's frame.
 pub fn no_frame_begins_another()
     ensures requests { RequestFramesDiffer }
     ensures replies { ReplyFramesDiffer }
     ensures kinds { KindsDiffer }
-{
-}
+{}

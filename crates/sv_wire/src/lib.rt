@@ -25,3 +25,6 @@ pub use encoding::{encode_reply, encode_request};
 pub use fault::{Malformed, WireCause, WireFault};
 pub use laws::{no_frame_begins_another, one_payload};
 pub use message::{Done1, Held, Item, Reply, Request};
+
+#[cfg(test)]
+mod tests;

@@ -153,7 +153,12 @@ pub fn stmt_node(depth: u8, nodes: u8, bytes: &[u8]) -> Result<(StmtKind, &[u8])
     Ok((kind, rest))
 }
 
-pub fn joined(alloc: Global, operator: Operator, left: Expr, right: Expr) -> Result<Expr, AllocError>
+pub fn joined(
+    alloc: Global,
+    operator: Operator,
+    left: Expr,
+    right: Expr,
+) -> Result<Expr, AllocError>
     ensures { IfOk result (λ e. e ≡ expr_by operator left right) }
 {
     let left = Boxed::new(alloc, left)?;
@@ -179,7 +184,12 @@ pub fn compared(comparison: Comparison, left: Expr, right: Expr) -> Cond
     }
 }
 
-pub fn both(alloc: Global, connective: Connective, left: Cond, right: Cond) -> Result<Cond, AllocError>
+pub fn both(
+    alloc: Global,
+    connective: Connective,
+    left: Cond,
+    right: Cond,
+) -> Result<Cond, AllocError>
     ensures { IfOk result (λ t. t ≡ join_by connective left right) }
 {
     let left = Boxed::new(alloc, left)?;

@@ -18,9 +18,7 @@ fn put_expr(out: &mut Vec<u8>, expr: &Expr) -> Result<(), AllocError>
             put_i64(out, *number)?;
             Ok(())
         }
-        Expr::Attr { slot, attr } => {
-            out.extend_from_slice(&[0x21, *slot, *attr])
-        }
+        Expr::Attr { slot, attr } => { out.extend_from_slice(&[0x21, *slot, *attr]) }
         Expr::Add(a, b) => put_pair(out, 0x22, a.get(), b.get()),
         Expr::Sub(a, b) => put_pair(out, 0x23, a.get(), b.get()),
         Expr::Mul(a, b) => put_pair(out, 0x24, a.get(), b.get()),

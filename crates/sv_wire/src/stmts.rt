@@ -82,11 +82,15 @@ fn other_next<'a>(
     ensures few { IfOk result (λ x. x.1 ≤ 64) }
 {
     let (other, nodes, rest) = list_next(alloc, depth, nodes, bytes)?;
-    Ok((Stmt::If {
+    Ok((
+        Stmt::If {
             cond,
             then: body,
             other,
-        }, nodes, rest))
+        },
+        nodes,
+        rest,
+    ))
 }
 
 #[cycle(stmts)]
