@@ -2,10 +2,11 @@
 ghost use Rattle.std.specs.Prelude.{◌≡◌, ◌≤◌, ◌++◌, ◌∷◌, length, All, IfOk, OnOk};
 ghost use Rattle.std.specs.List.{flat_map};
 ghost use Rattle.byteorder.specs.Endian.{big_bytes};
+ghost use Rattle.sv_wire.specs.declared.message.Reply.TheVariants as reply;
 ghost use Rattle.sv_wire.specs.Spelling.{action_bytes, item_bytes, request_bytes, reply_bytes};
 ghost use Rattle.sv_wire.specs.Grammar.{IsWireAction, IsWireRelay, IsWireRequest, IsWireReply};
 
-use crate::message::{Item, Reply, Request};
+use crate::message::{Held, Item, Reply, Request};
 use crate::put::{put_head, put_objects, put_point, put_results, put_u16, put_u32};
 use crate::put_body::put_body;
 use std::alloc::{AllocError, Global};
@@ -98,6 +99,32 @@ fn put_request(out: &mut Vec<u8>, request: &Request) -> Result<(), AllocError>
     }
 }
 
+fn put_relay(
+    out: &mut Vec<u8>,
+    seq: u32,
+    commit: u32,
+    head: &[Held],
+    items: &[Item],
+) -> Result<(), AllocError>
+    requires { IsWireRelay head.now items.now }
+    ensures { OnOk result (out.new.items ≡ out.old.items ++ reply_bytes (reply.Relay seq commit head.now items.now)) }
+{
+    out.push(0x89)?;
+    put_two(out, seq, commit)?;
+    put_head(out, head)?;
+    put_item_list(out, items)?;
+    Ok(())
+}
+
+fn put_dropped(out: &mut Vec<u8>, seq: u32, chain: u32, far: u32) -> Result<(), AllocError>
+    ensures { OnOk result (out.new.items ≡ out.old.items ++ reply_bytes (reply.Dropped seq chain far)) }
+{
+    out.push(0x8a)?;
+    put_u32(out, seq)?;
+    put_two(out, chain, far)?;
+    Ok(())
+}
+
 #[tactic(auto, unfolding(crate::specs::Spelling::reply_bytes))]
 fn put_reply(out: &mut Vec<u8>, reply: &Reply) -> Result<(), AllocError>
     requires { IsWireReply reply.now }
@@ -115,19 +142,8 @@ fn put_reply(out: &mut Vec<u8>, reply: &Reply) -> Result<(), AllocError>
             commit,
             head,
             items,
-        } => {
-            out.push(0x89)?;
-            put_two(out, *seq, *commit)?;
-            put_head(out, head.as_slice())?;
-            put_item_list(out, items.as_slice())?;
-            Ok(())
-        }
-        Reply::Dropped { seq, chain, far } => {
-            out.push(0x8a)?;
-            put_u32(out, *seq)?;
-            put_two(out, *chain, *far)?;
-            Ok(())
-        }
+        } => put_relay(out, *seq, *commit, head.as_slice(), items.as_slice()),
+        Reply::Dropped { seq, chain, far } => put_dropped(out, *seq, *chain, *far),
         Reply::Settled { seq, pos } => {
             out.push(0x84)?;
             put_u32(out, *seq)?;
