@@ -1,21 +1,19 @@
 -- What was written is read again, whatever follows it: numbers, objects and values.
-use Rattle.std.proofs.Common.{◌≡◌, ℕ, zero, suc, ◌+◌, ◌^◌, ◌<◌, ◌≤◌, Bool, true, false, cond, ltb, leb, ◌&&◌, ℤ, List, [], ◌∷◌, ◌++◌, length, map, drop, Result, Ok, Err, SFits, refl, sym, ap, subst, ◌∙◌, append_assoc, arith}
+use Rattle.std.proofs.Common.{◌≡◌, ℕ, suc, ◌+◌, ◌^◌, ◌<◌, ◌≤◌, Bool, true, false, ltb, ◌&&◌, ℤ, List, [], ◌∷◌, ◌++◌, length, map, Ok, SFits, refl, ap, ◌∙◌, append_assoc, arith}
 use Rattle.std.specs.List.{flat_map, AllByRecursion}
-use Rattle.std.specs.Int.{Width, w32, w64, byte_len, cast_signed, cast_unsigned}
+use Rattle.std.specs.Int.{Width, w32, w64, byte_len, cast_unsigned}
 use Rattle.std.proofs.Math.Facts.{Fits-of_z}
 use Rattle.std.proofs.lemmas.Int.{to_z-of_z}
-use Rattle.std.proofs.lemmas.Bool.{lt-ltb, le-ltb, le-leb, ltb-true}
+use Rattle.std.proofs.lemmas.Bool.{le-ltb, le-leb, ltb-true}
 use Rattle.std.proofs.lemmas.List.{drop_at, length-append}
 use Rattle.std.proofs.lemmas.List.Elements.{recursion_from_All}
-use Rattle.std.proofs.lemmas.List.Concat.{flat_map-cons}
-use Rattle.byteorder.specs.Endian.{big_bytes, big_number}
+use Rattle.byteorder.specs.Endian.{big_bytes}
 use Rattle.byteorder.specs.Numbers.{big_number-reads_back, length-bytes_high_first}
 use Rattle.sv_world.specs.Faults.{is_ascending}
 use Rattle.sv_world.specs.declared.world.ObjectId.{ObjectId}
-use Rattle.sv_wire.specs.declared.fault.Stop.{Stop}
 use Rattle.sv_wire.specs.declared.message.Held.{Held}
 use Rattle.sv_wire.specs.declared.message.Done1.{Done1}
-use Rattle.sv_wire.specs.Steps.{◌>>=◌, Read, Turn, several, in_turn}
+use Rattle.sv_wire.specs.Steps.{Read, Turn, several, in_turn}
 use Rattle.sv_wire.specs.Fields.{byte_at, number_at, int_at, count_at, head_count_at, object_at, objects_at, value_at, held_at, helds_at, head_at, result_at}
 use Rattle.sv_wire.specs.Spelling.{int_bytes, object_bytes, value_bytes, held_bytes, head_bytes, result_bytes}
 use Rattle.sv_wire.specs.Grammar.{IsWireValue, IsWireHead, IsWireResult}

@@ -1,5 +1,5 @@
 -- What was written is read again, whatever follows it: actions and messages.
-use Rattle.std.proofs.Common.{◌≡◌, ℕ, suc, ◌+◌, ◌^◌, ◌<◌, ◌≤◌, Bool, true, false, leb, eqb, ℤ, List, [], ◌∷◌, ◌++◌, length, map, drop, Result, Ok, Err, FitsSigned, refl, sym, ap, ◌∙◌, append_assoc, arith}
+use Rattle.std.proofs.Common.{◌≡◌, ℕ, ◌^◌, ◌<◌, List, [], ◌∷◌, ◌++◌, length, drop, Result, Ok, FitsSigned, refl, sym, ap, ◌∙◌, append_assoc, arith}
 use Rattle.std.specs.List.{flat_map, AllByRecursion}
 use Rattle.std.specs.Int.{w32}
 use Rattle.std.proofs.lemmas.Bool.{lt-leb, le-leb}
@@ -8,25 +8,20 @@ use Rattle.std.proofs.lemmas.List.Elements.{recursion_from_All}
 use Rattle.byteorder.specs.Endian.{big_bytes}
 use Rattle.sv_world.specs.declared.action.Action.{Action}
 use Rattle.sv_world.specs.declared.action.Point.{Point}
-use Rattle.sv_world.specs.declared.world.ClientId.{ClientId}
-use Rattle.sv_world.specs.declared.world.ObjectId.{ObjectId}
 use Rattle.sv_wire.specs.declared.fault.Stop.{Stop}
-use Rattle.sv_wire.specs.declared.fault.Malformed.{Malformed}
 use Rattle.sv_wire.specs.declared.message.Held.{Held}
-use Rattle.sv_wire.specs.declared.message.Done1.{Done1}
 use Rattle.sv_wire.specs.declared.message.Item.{Item}
 use Rattle.sv_wire.specs.declared.message.Request.{Request}
 use Rattle.sv_wire.specs.declared.message.Request.TheVariants.{Join, Submit, Done, Poll, Leave, Bad, End}
 use Rattle.sv_wire.specs.declared.message.Reply.{Reply}
 use Rattle.sv_wire.specs.declared.message.Reply.TheVariants.{Welcome, Relay, Dropped, Settled, Noted, Idle, Refused, Bye}
-use Rattle.sv_wire.specs.Steps.{◌>>=◌, Read, several}
-use Rattle.sv_wire.specs.Fields.{byte_at, number_at, int_at, count_at, objects_at, head_at, result_at}
-use Rattle.sv_wire.specs.Trees.{body_at}
+use Rattle.sv_wire.specs.Steps.{Read}
+use Rattle.sv_wire.specs.Fields.{byte_at, result_at}
 use Rattle.sv_wire.specs.Messages.{mask_at, point_at, action_at, item_at, join_request_at, submit_at, done_at, request_front, request_kind_of, welcome_at, relay_at, dropped_at, settled_at, noted_at, code_at, refused_at, reply_front, reply_kind_of, whole, placed, request_at, reply_at}
-use Rattle.sv_wire.specs.Spelling.{int_bytes, object_bytes, held_bytes, head_bytes, result_bytes, point_bytes, body_bytes, action_bytes, item_bytes, request_bytes, reply_bytes}
+use Rattle.sv_wire.specs.Spelling.{int_bytes, object_bytes, head_bytes, result_bytes, point_bytes, body_bytes, action_bytes, item_bytes, request_bytes, reply_bytes}
 use Rattle.sv_wire.specs.Grammar.{IsWireHead, IsWireResult, IsWireAction, IsWireRequest, IsWireReply}
 use Rattle.sv_wire.specs.Laws.{IsRequest, IsReply, RequestsDiffer, RepliesDiffer, frame, RequestFramesDiffer, ReplyFramesDiffer, KindsDiffer}
-use Rattle.sv_wire.specs.Ranges.{ObjectFits, HeldFits, ResultFits, ActionFits, ItemFits, RequestFits, ReplyFits}
+use Rattle.sv_wire.specs.Ranges.{HeldFits, ResultFits, ActionFits, ItemFits, RequestFits, ReplyFits}
 use Rattle.sv_wire.proofs.Again.{number_again, int32_again, count_again, several_again, objects_again, head_again, result_again, both_of_each}
 use Rattle.sv_wire.proofs.AgainTrees.{body_again}
 

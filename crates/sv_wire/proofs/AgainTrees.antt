@@ -1,10 +1,10 @@
 -- What was written is read again, whatever follows it: the body of an action.
-use Rattle.std.proofs.Common.{◌≡◌, ℕ, zero, suc, ◌+◌, ◌-◌, ◌<◌, ◌≤◌, max, Bool, true, false, ◌&&◌, ℤ, pos, negsuc, List, [], ◌∷◌, ◌++◌, length, map, sum, Option, Some, Result, Ok, SFits, refl, sym, ap, subst, ◌∙◌, append_assoc, arith, int_le}
+use Rattle.std.proofs.Common.{◌≡◌, ℕ, suc, ◌+◌, ◌-◌, ◌<◌, ◌≤◌, max, true, ◌&&◌, ℤ, pos, negsuc, List, [], ◌∷◌, ◌++◌, length, map, Option, Some, Ok, SFits, refl, sym, ap, subst, ◌∙◌, append_assoc, arith, int_le}
 use Rattle.std.specs.List.{flat_map, AllByRecursion}
 use Rattle.std.specs.Int.{w64}
 use Rattle.std.proofs.lemmas.Bool.{lt-ltb, leb-true}
 use Rattle.std.proofs.lemmas.List.{length-map}
-use Rattle.sv_world.specs.Trees.{expr_nodes, cond_nodes, stmt_nodes, body_nodes, expr_depth, cond_depth, stmt_depth, body_depth, greatest, all_true}
+use Rattle.sv_world.specs.Trees.{expr_nodes, cond_nodes, stmt_nodes, body_nodes, expr_depth, cond_depth, stmt_depth, body_depth, all_true}
 use Rattle.sv_world.specs.declared.action.Expr.{Expr, map-Expr}
 use Rattle.sv_world.specs.declared.action.Expr.TheVariants as expr
 use Rattle.sv_world.specs.declared.action.Expr.TheOpen.{Expr-F}
@@ -29,8 +29,8 @@ use Rattle.sv_wire.specs.declared.nodes.Connective.{Connective}
 use Rattle.sv_wire.specs.declared.nodes.Connective.TheVariants.{And, Or}
 use Rattle.sv_wire.specs.declared.nodes.CondKind.TheVariants as cond_kind
 use Rattle.sv_wire.specs.declared.nodes.StmtKind.TheVariants as stmt_kind
-use Rattle.sv_wire.specs.Steps.{◌>>=◌, Read, Turn, in_turn}
-use Rattle.sv_wire.specs.Fields.{byte_at, int_at}
+use Rattle.sv_wire.specs.Steps.{Turn, in_turn}
+use Rattle.sv_wire.specs.Fields.{byte_at}
 use Rattle.sv_wire.specs.Nodes.{room_at, node_at, expr_kind_of, cond_kind_of, stmt_kind_of, expr_by, compare_by, join_by}
 use Rattle.sv_wire.specs.Trees.{lit_at, attr_at, pair_at, expr_step, expr_at, compare_at, join_at, not_at, cond_step, cond_at, set_at, list_by, other_at, lists_at, if_at, stmt_step, stmt_at, body_at}
 use Rattle.sv_wire.specs.Spelling.{int_bytes, expr_bytes, cond_bytes, counted, stmt_bytes, body_bytes}

@@ -1,7 +1,7 @@
 -- What is read is spelled so, each byte of it: numbers, objects and values.
-use Rattle.std.proofs.Common.{◌≡◌, ℕ, zero, suc, ◌+◌, ◌^◌, ◌<◌, ◌≤◌, Bool, true, false, cond, ltb, leb, ◌&&◌, ℤ, List, [], ◌∷◌, ◌++◌, length, map, get_or, take, drop, Result, Ok, Err, refl, sym, ap, subst, ◌∙◌, append_assoc, arith}
+use Rattle.std.proofs.Common.{◌≡◌, ℕ, zero, suc, ◌+◌, ◌^◌, ◌<◌, ◌≤◌, Bool, true, false, cond, ltb, leb, ◌&&◌, ℤ, List, [], ◌∷◌, ◌++◌, length, map, get_or, take, drop, Ok, refl, sym, ap, subst, ◌∙◌, append_assoc, arith}
 use Rattle.std.specs.List.{flat_map, AllByRecursion}
-use Rattle.std.specs.Int.{Width, w16, w32, w64, byte_len, cast_signed, cast_unsigned}
+use Rattle.std.specs.Int.{Width, w32, w64, byte_len, cast_signed, cast_unsigned}
 use Rattle.std.proofs.lemmas.Int.{of_z-to_z}
 use Rattle.std.proofs.lemmas.Bool.{lt-ltb, ltb-false}
 use Rattle.std.proofs.lemmas.List.{take-append-drop, get_or-drop}
@@ -11,7 +11,6 @@ use Rattle.byteorder.specs.Endian.{big_bytes, big_number}
 use Rattle.byteorder.specs.Numbers.{big_from-lt}
 use Rattle.sv_world.specs.Faults.{is_ascending}
 use Rattle.sv_world.specs.declared.world.ObjectId.{ObjectId}
-use Rattle.sv_wire.specs.declared.fault.Stop.{Stop}
 use Rattle.sv_wire.specs.declared.fault.WireCause.TheVariants.{Count, Order}
 use Rattle.sv_wire.specs.declared.message.Held.{Held}
 use Rattle.sv_wire.specs.declared.message.Done1.{Done1}
@@ -20,7 +19,7 @@ use Rattle.sv_wire.specs.Fields.{byte_at, number_at, int_at, count_at, head_coun
 use Rattle.sv_wire.specs.Spelling.{int_bytes, object_bytes, value_bytes, held_bytes, head_bytes, result_bytes}
 use Rattle.sv_wire.specs.Grammar.{IsWireValue, IsWireHead, IsWireResult}
 use Rattle.sv_wire.proofs.Near.{ok_is}
-use Rattle.sv_wire.proofs.NearFields.{bind_ok, kept_if, kept_unless, count_is, head_count_is}
+use Rattle.sv_wire.proofs.NearFields.{bind_ok, kept_if, kept_unless, count_is}
 use Rattle.sv_wire.proofs.Again.{Climbs}
 
 abbrev pub IsBytes : List ℕ → Type 0

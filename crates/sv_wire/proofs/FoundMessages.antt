@@ -1,8 +1,8 @@
 -- What is read is spelled so, each byte of it: actions and messages.
-use Rattle.std.proofs.Common.{◌≡◌, ℕ, suc, ◌+◌, ◌^◌, ◌<◌, ◌≤◌, Bool, true, false, cond, leb, eqb, ◌&&◌, List, [], ◌∷◌, ◌++◌, length, map, Option, Some, None, Result, Ok, Err, refl, sym, ap, subst, ◌∙◌, append_assoc, arith}
-use Rattle.std.specs.List.{flat_map, AllByRecursion}
+use Rattle.std.proofs.Common.{◌≡◌, ℕ, ◌^◌, ◌<◌, ◌≤◌, cond, leb, eqb, ◌&&◌, List, [], ◌∷◌, ◌++◌, length, Some, Result, Ok, Err, refl, sym, ap, subst, ◌∙◌, arith}
+use Rattle.std.specs.List.{flat_map}
 use Rattle.std.specs.Int.{w32}
-use Rattle.std.proofs.lemmas.Bool.{leb-true, leb-false, eqb-true}
+use Rattle.std.proofs.lemmas.Bool.{leb-false, eqb-true}
 use Rattle.std.proofs.lemmas.List.{append-nil, nil_from_length}
 use Rattle.std.proofs.lemmas.List.Elements.{All-from_recursion}
 use Rattle.byteorder.specs.Endian.{big_bytes}
@@ -26,8 +26,8 @@ use Rattle.sv_wire.specs.Fields.{byte_at, number_at, int_at, count_at, objects_a
 use Rattle.sv_wire.specs.Nodes.{kind_in}
 use Rattle.sv_wire.specs.Trees.{list_by, stmt_at, body_at}
 use Rattle.sv_wire.specs.Messages.{mask_at, point_at, action_at, item_at, join_request_at, submit_at, done_at, request_of, request_front, request_kind_of, welcome_at, relay_at, dropped_at, settled_at, noted_at, code_at, refused_at, reply_of, reply_front, reply_kind_of, whole, placed, request_at, reply_at}
-use Rattle.sv_wire.specs.Spelling.{int_bytes, object_bytes, head_bytes, result_bytes, point_bytes, body_bytes, action_bytes, item_bytes, request_bytes, reply_bytes}
-use Rattle.sv_wire.specs.Grammar.{IsWireHead, IsWireResult, IsWireAction, IsWireRequest, IsWireReply}
+use Rattle.sv_wire.specs.Spelling.{object_bytes, head_bytes, result_bytes, point_bytes, body_bytes, action_bytes, item_bytes, request_bytes, reply_bytes}
+use Rattle.sv_wire.specs.Grammar.{IsWireResult, IsWireAction, IsWireRequest, IsWireReply}
 use Rattle.sv_wire.proofs.Near.{ok_is}
 use Rattle.sv_wire.proofs.NearFields.{bind_ok, kept_if, kept_unless, count_is, within}
 use Rattle.sv_wire.proofs.NearTrees.{list_near, stmt_near}

@@ -1,5 +1,5 @@
 -- What is read is spelled so, each byte of it: the body of an action.
-use Rattle.std.proofs.Common.{◌≡◌, ℕ, zero, suc, ◌+◌, ◌<◌, ◌≤◌, max, Bool, true, false, cond, eqb, ltb, ℤ, List, [], ◌∷◌, ◌++◌, length, map, Option, Some, None, Result, Ok, Err, refl, sym, ap, subst, ◌∙◌, append_assoc, arith}
+use Rattle.std.proofs.Common.{◌≡◌, ℕ, zero, suc, ◌+◌, ◌<◌, ◌≤◌, max, Bool, true, false, cond, eqb, ltb, List, [], ◌∷◌, ◌++◌, length, map, Option, Some, None, Ok, Err, refl, sym, ap, subst, ◌∙◌, arith}
 use Rattle.std.specs.List.{flat_map, AllByRecursion}
 use Rattle.std.specs.Int.{w64}
 use Rattle.std.proofs.lemmas.Bool.{eqb-true, ltb-true}
@@ -24,11 +24,11 @@ use Rattle.sv_wire.specs.declared.nodes.CondKind.{CondKind}
 use Rattle.sv_wire.specs.declared.nodes.CondKind.TheVariants as cond_kind
 use Rattle.sv_wire.specs.declared.nodes.StmtKind.{StmtKind}
 use Rattle.sv_wire.specs.declared.nodes.StmtKind.TheVariants as stmt_kind
-use Rattle.sv_wire.specs.Steps.{◌>>=◌, Read, Turn, in_turn}
+use Rattle.sv_wire.specs.Steps.{◌>>=◌, in_turn}
 use Rattle.sv_wire.specs.Fields.{byte_at, int_at}
 use Rattle.sv_wire.specs.Nodes.{among, kind_in, room_at, node_at, expr_kind_of, cond_kind_of, stmt_kind_of, expr_by, compare_by, join_by}
-use Rattle.sv_wire.specs.Trees.{Reader, nothing, lit_at, attr_at, pair_at, expr_of, expr_step, expr_at, compare_at, join_at, not_at, cond_of, cond_step, cond_at, set_at, list_by, other_at, lists_at, if_at, stmt_of, stmt_step, stmt_at, body_at}
-use Rattle.sv_wire.specs.Spelling.{int_bytes, expr_bytes, cond_bytes, counted, stmt_bytes, body_bytes}
+use Rattle.sv_wire.specs.Trees.{Reader, nothing, lit_at, attr_at, pair_at, expr_of, expr_step, expr_at, compare_at, join_at, not_at, cond_of, cond_step, cond_at, set_at, list_by, other_at, lists_at, if_at, stmt_of, stmt_step, stmt_at}
+use Rattle.sv_wire.specs.Spelling.{int_bytes, expr_bytes, cond_bytes, stmt_bytes, body_bytes}
 use Rattle.sv_wire.proofs.Near.{ok_is}
 use Rattle.sv_wire.proofs.NearFields.{bind_ok}
 use Rattle.sv_wire.proofs.Append.{nodes_more}

@@ -1,5 +1,5 @@
 -- What the measures and the spelling of a body are at each kind of node.
-use Rattle.std.proofs.Common.{◌≡◌, ℕ, ◌+◌, max, Bool, ◌&&◌, ℤ, List, [], ◌∷◌, ◌++◌, map, sum, Some, refl, sym, ap, ◌∙◌}
+use Rattle.std.proofs.Common.{◌≡◌, ℕ, ◌+◌, max, Bool, ◌&&◌, ℤ, List, [], ◌∷◌, ◌++◌, map, Some, refl, sym, ap, ◌∙◌}
 use Rattle.std.specs.Int.{w64}
 use Rattle.sv_world.specs.Trees.{expr_by as expr_value, cond_by as cond_value, expr_nodes, cond_nodes, stmt_nodes, stmt_nodes_step, body_nodes, expr_depth, cond_depth, stmt_depth, stmt_depth_step, body_depth, all_true}
 use Rattle.sv_world.specs.declared.action.Expr.{Expr}

@@ -1,12 +1,12 @@
 -- How many bytes each field has at most.
-use Rattle.std.proofs.Common.{◌≡◌, ℕ, zero, suc, ◌+◌, ◌*◌, ◌^◌, ◌<◌, ◌≤◌, Bool, true, false, cond, ltb, leb, eqb, ◌&&◌, List, [], ◌∷◌, length, drop, Result, Ok, Err, refl, sym, ap, subst, ◌∙◌, arith}
-use Rattle.std.specs.Int.{Width, w32, w64, byte_len, cast_signed}
+use Rattle.std.proofs.Common.{◌≡◌, ℕ, suc, ◌*◌, ◌≤◌, Bool, true, false, cond, ltb, leb, ◌&&◌, List, [], ◌∷◌, length, Result, Ok, Err, refl, subst, arith}
+use Rattle.std.specs.Int.{Width, w64, byte_len}
 use Rattle.std.proofs.lemmas.List.{length-drop}
 use Rattle.std.proofs.lemmas.Bool.{ltb-false}
 use Rattle.std.proofs.lemmas.Bool.Decides.{nat_tests}
 use Rattle.sv_wire.specs.declared.fault.Stop.{Stop}
 use Rattle.sv_wire.specs.declared.fault.WireCause.TheVariants.{Short, Count}
-use Rattle.sv_wire.specs.Steps.{◌>>=◌, Read, Turn, stop, several, in_turn}
+use Rattle.sv_wire.specs.Steps.{◌>>=◌, stop, several, in_turn}
 use Rattle.sv_wire.specs.Fields.{byte_at, number_at, int_at, count_at, head_count_at, object_at, objects_at, value_at, held_at, helds_at, head_at, result_at}
 use Rattle.sv_wire.proofs.Near.{left2, left3, Near, near_done, near_stop, near_more, near_then, near_if, near_check, checked_if, checked_unless, several_near, in_turn_near}
 

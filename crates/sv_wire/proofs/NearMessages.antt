@@ -2,8 +2,6 @@
 use Rattle.std.proofs.Common.{◌≡◌, ℕ, suc, ◌+◌, ◌*◌, ◌≤◌, Bool, true, false, cond, List, [], ◌∷◌, length, Option, Some, None, Result, Ok, Err, eqb, refl, sym, ap, arith}
 use Rattle.std.specs.Int.{w32}
 use Rattle.sv_wire.specs.declared.fault.Stop.{Stop}
-use Rattle.sv_wire.specs.declared.message.Request.{Request}
-use Rattle.sv_wire.specs.declared.message.Reply.{Reply}
 use Rattle.sv_wire.specs.declared.kinds.RequestKind.{RequestKind}
 use Rattle.sv_wire.specs.declared.kinds.RequestKind.TheVariants as request_kind
 use Rattle.sv_wire.specs.declared.kinds.ReplyKind.{ReplyKind}
@@ -14,7 +12,7 @@ use Rattle.sv_wire.specs.Fields.{byte_at, number_at, int_at, count_at, objects_a
 use Rattle.sv_wire.specs.Trees.{body_at}
 use Rattle.sv_wire.specs.Messages.{mask_at, point_at, action_at, item_at, join_request_at, submit_at, done_at, request_of, request_front, request_kind_of, welcome_at, relay_at, dropped_at, settled_at, noted_at, code_at, refused_at, reply_of, reply_front, reply_kind_of, whole}
 use Rattle.sv_wire.specs.Nodes.{kind_in}
-use Rattle.sv_wire.proofs.Near.{left2, left3, Near, near_done, near_stop, near_more, near_then, near_check, checked_unless, checked_if, several_near, err_is, failed_is}
+use Rattle.sv_wire.proofs.Near.{left2, Near, near_done, near_stop, near_more, near_then, near_check, checked_unless, checked_if, several_near, err_is, failed_is}
 use Rattle.sv_wire.proofs.NearFields.{byte_near, number_near, int_near, count_near, count_is, objects_near, head_near, result_near}
 use Rattle.sv_wire.proofs.NearTrees.{body_near}
 

@@ -1,5 +1,5 @@
 -- Reading numbers, counts, objects, values and lists of them.
-use Rattle.std.specs.Prelude.{ℕ, ◌+◌, List, [], ◌∷◌, length, drop, Result, Ok, Err, ◌&&◌, nat_lt, nat_le, if◌then◌else◌, ℤ}
+use Rattle.std.specs.Prelude.{ℕ, ◌+◌, List, [], ◌∷◌, length, drop, Ok, ◌&&◌, nat_lt, nat_le, if◌then◌else◌, ℤ}
 use Rattle.std.specs.Int.{Width, w64, byte_len, cast_signed}
 use Rattle.byteorder.specs.Endian.{big_number}
 use Rattle.sv_world.specs.declared.world.ObjectId.{ObjectId}

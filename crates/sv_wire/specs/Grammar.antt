@@ -1,5 +1,5 @@
 -- Which messages are within the grammar.
-use Rattle.std.specs.Prelude.{◌≡◌, ℕ, ◌^◌, ◌<◌, ◌≤◌, true, ℤ, List, length, map, All}
+use Rattle.std.specs.Prelude.{◌≡◌, ◌^◌, ◌<◌, ◌≤◌, true, ℤ, List, length, map, All}
 use Rattle.sv_world.specs.Faults.{is_ascending}
 use Rattle.sv_world.specs.Sets.{read_set}
 use Rattle.sv_world.specs.Trees.{body_nodes, body_depth}

@@ -1,5 +1,5 @@
 -- Reading the body of an action. The depth is the number of levels that are left, and nodes the number of nodes so far.
-use Rattle.std.specs.Prelude.{ℕ, zero, suc, ◌+◌, List, Result, Ok, Err}
+use Rattle.std.specs.Prelude.{ℕ, zero, suc, ◌+◌, List, Ok}
 use Rattle.std.specs.Int.{w64}
 use Rattle.sv_world.specs.declared.action.Expr.{Expr}
 use Rattle.sv_world.specs.declared.action.Expr.TheVariants as expr

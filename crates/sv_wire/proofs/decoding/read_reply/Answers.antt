@@ -1,4 +1,3 @@
-use Rattle.std.proofs.Common.{arith}
 use Rattle.sv_wire.proofs.NearMessages.{reply_place}
 use Rattle.sv_wire.proofs.decoding.read_reply.Goals as goal
 

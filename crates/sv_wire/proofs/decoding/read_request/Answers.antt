@@ -1,4 +1,3 @@
-use Rattle.std.proofs.Common.{arith}
 use Rattle.sv_wire.proofs.NearMessages.{request_place}
 use Rattle.sv_wire.proofs.decoding.read_request.Goals as goal
 

@@ -1,4 +1,4 @@
-use Rattle.std.proofs.Common.{◌≡◌, ◌++◌, ◌∷◌, []}
+use Rattle.std.proofs.Common.{◌++◌, ◌∷◌, []}
 use Rattle.byteorder.specs.Endian.{big_bytes}
 use Rattle.sv_wire.specs.Spelling.{reply_bytes}
 use Rattle.sv_wire.proofs.Append.{after_three}

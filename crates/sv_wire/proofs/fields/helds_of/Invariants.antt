@@ -1,5 +1,5 @@
 use Rattle.std.proofs.Common.{◌≡◌, ◌-◌}
-use Rattle.sv_wire.specs.Fields.{held_at, helds_at}
+use Rattle.sv_wire.specs.Fields.{held_at}
 use Rattle.sv_wire.specs.Steps.{in_turn}
 use Rattle.sv_wire.proofs.Loop.{turn_front}
 use Rattle.sv_wire.proofs.fields.helds_of.Given as goal

@@ -1,5 +1,5 @@
 use Rattle.std.proofs.lemmas.Result.{err_from_is_err_and}
-use Rattle.std.proofs.Common.{◌≡◌, ◌++◌, ◌∷◌, [], Ok, refl}
+use Rattle.std.proofs.Common.{Ok, refl}
 use Rattle.sv_wire.specs.Fields.{object_at, objects_at}
 use Rattle.sv_wire.specs.Steps.{in_turn}
 use Rattle.sv_wire.proofs.Loop.{turn_goes_on, turn_ends, turn_is_done, fails_first}

@@ -1,5 +1,4 @@
 use Rattle.std.proofs.lemmas.Result.{err_from_is_err_and}
-use Rattle.std.proofs.Common.{◌≡◌, ◌++◌, ◌∷◌, []}
 use Rattle.sv_wire.specs.Fields.{result_at}
 use Rattle.sv_wire.specs.Steps.{several}
 use Rattle.sv_wire.proofs.Loop.{goes_on, ends, is_done}
