@@ -1,7 +1,7 @@
 -- Sets of objects by their bits.
-use Rattle.std.proofs.Common.{◌≡◌, ℕ, ◌+◌, ◌*◌, ◌/◌, ◌%◌, ◌^◌, ◌<◌, ◌≤◌, ◌⊎◌, inl, inr, Bool, true, false, ◌||◌, List, length, replicate, slice_index_or, slice_set, bit_or, refl, sym, ◌∙◌, ap, nat_eq, arith, eq-eqb, ne_eqb, get_or-set_same, get_or-set_other}
+use Rattle.std.proofs.Common.{◌≡◌, ℕ, ◌*◌, ◌/◌, ◌%◌, ◌^◌, ◌<◌, inl, inr, Bool, false, ◌||◌, List, length, replicate, slice_index_or, slice_set, bit_or, sym, ◌∙◌, ap, nat_eq, arith, eq-eqb, ne_eqb, get_or-set_same, get_or-set_other}
 use Rattle.std.proofs.lemmas.Bool.{cases_eq, cases_lt}
-use Rattle.std.proofs.lemmas.List.{get_or-replicate, get_or_past, length-replicate}
+use Rattle.std.proofs.lemmas.List.{get_or-replicate, get_or_past}
 use Rattle.std.proofs.lemmas.Nat.Bits.{bit_at-zero, bit_at_set_same, bit_at_set_other}
 use Rattle.std.specs.Int.{bit_at, w64}
 use Rattle.sv_influence.specs.Objects.{has_object}
@@ -9,9 +9,10 @@ use Rattle.sv_influence.specs.Objects.{has_object}
 pub has_object-none : (x : ℕ) → has_object (replicate 64 0) x ≡ false
 has_object-none x =
     let none : slice_index_or (replicate 64 0) (x / 64) 0 ≡ 0 =
-      elim (cases_lt (x / 64) 64) [
-        inl l ↦ get_or-replicate 64 (x / 64) 0 0 l
-      | inr l ↦ get_or_past (replicate 64 0) (x / 64) 0 l ] in
+    elim (cases_lt (x / 64) 64) [
+      | inl l ↦ get_or-replicate 64 (x / 64) 0 0 l
+      | inr l ↦ get_or_past (replicate 64 0) (x / 64) 0 l
+    ] in
     ap (λ (w : ℕ). nat_eq (bit_at w (x % 64)) 1) none ∙ ap (λ (b : ℕ). nat_eq b 1) (bit_at-zero (x % 64))
 
 pub has_object-add : (words : List ℕ) (o x : ℕ) → length words ≡ 64 → o < 4096 →
@@ -22,20 +23,22 @@ has_object-add words o x len low =
     let word = slice_index_or words (o / 64) 0 in
     let new' = bit_or word (1 * 2 ^ (o % 64) % 2 ^ 64) in
     elim (cases_eq (x / 64) (o / 64)) [
-      inl e ↦
-        (let here : slice_index_or (slice_set words (o / 64) new') (x / 64) 0 ≡ new' =
+      | inl e ↦
+          (let here : slice_index_or (slice_set words (o / 64) new') (x / 64) 0 ≡ new' =
           ap (λ (k : ℕ). slice_index_or (slice_set words (o / 64) new') k 0) e ∙ get_or-set_same words (o / 64) new' 0 place in
-        ap (λ (w : ℕ). nat_eq (bit_at w (x % 64)) 1) here
+          ap (λ (w : ℕ). nat_eq (bit_at w (x % 64)) 1) here
           ∙ elim (cases_eq x o) [
-              inl s ↦
+            | inl s ↦
                 (let bit : bit_at new' (x % 64) ≡ 1 = ap (λ (k : ℕ). bit_at new' (k % 64)) s ∙ bit_at_set_same w64 word (o % 64) small in
                 eq-eqb (bit_at new' (x % 64)) 1 bit ∙ sym (ap (λ (b : Bool). b || has_object words x) (eq-eqb x o s)))
             | inr ne ↦
                 (let apart : (x % 64) ≡ (o % 64) → ⊥ = λ f. ne (omega arith) in
                 ap (λ (b : ℕ). nat_eq b 1) (bit_at_set_other w64 word (o % 64) small (x % 64) apart)
-                  ∙ ap (λ (k : ℕ). nat_eq (bit_at (slice_index_or words k 0) (x % 64)) 1) (sym e)
-                  ∙ sym (ap (λ (b : Bool). b || has_object words x) (ne_eqb x o ne))) ])
-    | inr ne ↦
-        (let apart : x ≡ o → ⊥ = λ s. ne (ap (λ (k : ℕ). k / 64) s) in
-        ap (λ (w : ℕ). nat_eq (bit_at w (x % 64)) 1) (get_or-set_other words (o / 64) (x / 64) new' 0 ne)
-          ∙ sym (ap (λ (b : Bool). b || has_object words x) (ne_eqb x o apart))) ]
+                ∙ ap (λ (k : ℕ). nat_eq (bit_at (slice_index_or words k 0) (x % 64)) 1) (sym e)
+                ∙ sym (ap (λ (b : Bool). b || has_object words x) (ne_eqb x o ne)))
+          ])
+      | inr ne ↦
+          (let apart : x ≡ o → ⊥ = λ s. ne (ap (λ (k : ℕ). k / 64) s) in
+          ap (λ (w : ℕ). nat_eq (bit_at w (x % 64)) 1) (get_or-set_other words (o / 64) (x / 64) new' 0 ne)
+          ∙ sym (ap (λ (b : Bool). b || has_object words x) (ne_eqb x o apart)))
+    ]

@@ -1,5 +1,12 @@
 //! What a session lacks of an action, and what an action's influence is.
 #![tactic(auto)]
 
+mod answers;
+mod influence;
+mod lacking;
 mod numbers;
 mod objects;
+
+pub use answers::{Chain, Closure};
+pub use influence::chain;
+pub use lacking::closure;

@@ -7,6 +7,7 @@ ghost use Rattle.sv_influence.specs.Objects.{has_object};
 use sv_world::{Action, ObjectId};
 
 /// A set of objects below 4,096, one bit for each.
+#[derive(Drop)]
 pub struct ObjectSet {
     words: [u64; 64],
 }

@@ -1,4 +1,4 @@
-use Rattle.std.proofs.Common.{◌≡◌, ℕ, ◌+◌, Bool, ◌||◌, List, drop, get_or, sym, ◌∙◌, ap, nat_eq}
+use Rattle.std.proofs.Common.{ℕ, ◌+◌, Bool, ◌||◌, List, drop, get_or, sym, ◌∙◌, ap, nat_eq}
 use Rattle.sv_world.specs.Control.{is_in}
 use Rattle.sv_world.specs.Sets.{read_set}
 use Rattle.sv_influence.specs.Objects.{has_object}
@@ -16,8 +16,8 @@ loop-object-preserved c =
     record {
       items = c.loop-object.invariant.items;
       rest = λ x.
-        ap (λ (b : Bool). is_in x rest || b) (c.add.ensures x)
+          ap (λ (b : Bool). is_in x rest || b) (c.add.ensures x)
           ∙ sym (or_move (nat_eq x (get_or c.as_slice-object-items.result.now c.loop-object.object-index record { 0 = 0 }).0) (is_in x rest) (has_object c.loop-object.self.words x))
           ∙ sym (ap (λ (xs : List ℕ). is_in x xs || has_object c.loop-object.self.words x) d)
-          ∙ c.loop-object.invariant.rest x
+          ∙ c.loop-object.invariant.rest x;
     }
