@@ -1,3 +1,4 @@
+pub mod Backwards
 pub mod Bits
 pub mod Counts
 pub mod Growth
@@ -5,4 +6,5 @@ pub mod Looks
 pub mod Places
 pub mod ReadSets
 pub mod Takes
+pub mod Visits
 pub mod Walks

@@ -1,5 +1,5 @@
 -- What a loop over an action's reads has before it.
-use Rattle.std.proofs.Common.{◌≡◌, ℕ, ◌+◌, ◌/◌, ◌%◌, ◌^◌, ◌<◌, Bool, true, false, ◌||◌, List, ◌∷◌, length, drop, get_or, All, refl, sym, ◌∙◌, ap, subst, bit_and, arith, eq-eqb, ne_eqb}
+use Rattle.std.proofs.Common.{◌≡◌, ℕ, ◌+◌, ◌/◌, ◌%◌, ◌^◌, ◌<◌, Bool, true, false, ◌||◌, ◌&&◌, not, List, ◌∷◌, length, drop, get_or, All, refl, sym, ◌∙◌, ap, subst, bit_and, arith, eq-eqb, ne_eqb}
 use Rattle.std.proofs.lemmas.Bool.{cond-true, cond-false, cond_both, or_left}
 use Rattle.std.proofs.lemmas.List.{drop_more, get_or-map, length-map}
 use Rattle.std.proofs.lemmas.Nat.Bits.{shr_and_one}
@@ -51,3 +51,19 @@ meets_miss f mask k x xs ys e h =
     ap (λ (zs : List ℕ). list_any f (at_mask mask k zs)) e
     ∙ cond_both (is_in_mask mask k) (x ∷ at_mask mask (k + 1) xs) (at_mask mask (k + 1) xs) (λ (zs : List ℕ). list_any f zs ≡ list_any f (at_mask mask (k + 1) xs))
     (λ q. ap (λ (b : Bool). b || list_any f (at_mask mask (k + 1) xs)) h) (λ q. refl)
+
+-- What is left of an action's writes at a slot that it writes, and at another.
+pub masked_hit : (mask k x : ℕ) (xs ys : List ℕ) → ys ≡ x ∷ xs → bit_and (mask / 2 ^ k) 1 ≡ 1 → at_mask mask k ys ≡ x ∷ at_mask mask (k + 1) xs
+masked_hit mask k x xs ys e bit =
+    let in' : is_in_mask mask k ≡ true = eq-eqb ((mask / 2 ^ k) % 2) 1 (sym (shr_and_one mask k) ∙ bit) in
+    ap (λ (zs : List ℕ). at_mask mask k zs) e ∙ cond-true (is_in_mask mask k) (x ∷ at_mask mask (k + 1) xs) (at_mask mask (k + 1) xs) in'
+
+pub masked_miss : (mask k x : ℕ) (xs ys : List ℕ) → ys ≡ x ∷ xs → (bit_and (mask / 2 ^ k) 1 ≡ 1 → ⊥) → at_mask mask k ys ≡ at_mask mask (k + 1) xs
+masked_miss mask k x xs ys e bit =
+    let out : is_in_mask mask k ≡ false = ne_eqb ((mask / 2 ^ k) % 2) 1 (λ s. bit (shr_and_one mask k ∙ s)) in
+    ap (λ (zs : List ℕ). at_mask mask k zs) e ∙ cond-false (is_in_mask mask k) (x ∷ at_mask mask (k + 1) xs) (at_mask mask (k + 1) xs) out
+
+pub and_not_or : (h e t : Bool) → ((h && not e) && not t) ≡ (h && not (e || t))
+and_not_or true true t = refl
+and_not_or true false t = refl
+and_not_or false e t = refl

@@ -108,12 +108,12 @@ reader_of A c a n low (further {k} x more reads is) =
       ),
     )
 
-any_from : (f : ℕ → Bool) (x : ℕ) (xs : List ℕ) → is_in x xs ≡ true → f x ≡ true → list_any f xs ≡ true
+pub any_from : (f : ℕ → Bool) (x : ℕ) (xs : List ℕ) → is_in x xs ≡ true → f x ≡ true → list_any f xs ≡ true
 any_from f x [] h t = cc
 any_from f x (y ∷ ys) h t =
     elim (is_in-cons_cases x y ys h) [ inl e ↦ or_left (f y) (list_any f ys) (ap f (sym e) ∙ t) | inr r ↦ or_right (f y) (list_any f ys) (any_from f x ys r t) ]
 
-any_parts : (f : ℕ → Bool) (xs : List ℕ) → list_any f xs ≡ true → (x : ℕ) × ((is_in x xs ≡ true) × (f x ≡ true))
+pub any_parts : (f : ℕ → Bool) (xs : List ℕ) → list_any f xs ≡ true → (x : ℕ) × ((is_in x xs ≡ true) × (f x ≡ true))
 any_parts f [] h = cc
 any_parts f (y ∷ ys) h =
     elim (or_cases (f y) (list_any f ys) h) [

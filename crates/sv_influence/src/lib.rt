@@ -6,7 +6,9 @@ mod influence;
 mod lacking;
 mod numbers;
 mod objects;
+mod plain;
 
 pub use answers::{Chain, Closure};
 pub use influence::chain;
 pub use lacking::closure;
+pub use plain::plain_closure;

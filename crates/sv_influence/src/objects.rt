@@ -1,4 +1,4 @@
-ghost use Rattle.std.specs.Prelude.{◌≡◌, ℕ, ◌<◌, ◌≤◌, ◌||◌, false, All, length, nat_eq};
+ghost use Rattle.std.specs.Prelude.{◌≡◌, ℕ, ◌<◌, ◌≤◌, ◌&&◌, ◌||◌, not, false, All, length, nat_eq};
 ghost use Rattle.std.specs.List.{list_any};
 ghost use Rattle.sv_world.specs.Control.{is_in};
 ghost use Rattle.sv_world.specs.Sets.{read_set, write_set};
@@ -36,6 +36,15 @@ impl ObjectSet {
         self.words[place] = word | (1 << (object.0 % 64));
     }
 
+    pub fn remove(&mut self, object: ObjectId)
+        requires { object.0 < 4096 }
+        ensures { (x : ℕ) → has_object self.new.words x ≡ (has_object self.old.words x && not (nat_eq x object.0)) }
+    {
+        let place = (object.0 / 64) as usize;
+        let word = self.words[place];
+        self.words[place] = word & !(1 << (object.0 % 64));
+    }
+
     /// Adds the objects that an action reads.
     pub fn add_reads(&mut self, action: &Action)
         requires { All (λ x. x < 4096) (read_set action.now) }
@@ -43,6 +52,19 @@ impl ObjectSet {
     {
         for object in action.reads.as_slice() {
             self.add(*object);
+        }
+    }
+
+    /// Removes the objects that an action writes.
+    pub fn remove_writes(&mut self, action: &Action)
+        requires low { All (λ x. x < 4096) (read_set action.now) }
+        requires few { length action.now.reads ≤ 16 }
+        ensures { (x : ℕ) → has_object self.new.words x ≡ (has_object self.old.words x && not (is_in x (write_set action.now))) }
+    {
+        for (slot, object) in action.reads.as_slice().iter().enumerate() {
+            if (action.mask >> slot) & 1 == 1 {
+                self.remove(*object);
+            }
         }
     }
 
