@@ -12,3 +12,6 @@ pub use answers::{Chain, Closure};
 pub use influence::chain;
 pub use lacking::closure;
 pub use plain::plain_closure;
+
+#[cfg(test)]
+mod tests;
