@@ -55,28 +55,31 @@ has_object-remove words o x len low =
     let word = slice_index_or words (o / 64) 0 in
     let new' = bit_and word (bit_not w64 (1 * 2 ^ (o % 64) % 2 ^ 64)) in
     let kept : (x ≡ o → ⊥) → has_object words x ≡ (has_object words x && not (nat_eq x o)) =
-      λ ne. sym (and_true (has_object words x)) ∙ ap (λ (b : Bool). has_object words x && not b) (sym (ne_eqb x o ne)) in
+    λ ne. sym (and_true (has_object words x)) ∙ ap (λ (b : Bool). has_object words x && not b) (sym (ne_eqb x o ne)) in
     elim (cases_eq (x / 64) (o / 64)) [
-      inl e ↦
-        (let here : slice_index_or (slice_set words (o / 64) new') (x / 64) 0 ≡ new' =
+      | inl e ↦
+          (let here : slice_index_or (slice_set words (o / 64) new') (x / 64) 0 ≡ new' =
           ap (λ (k : ℕ). slice_index_or (slice_set words (o / 64) new') k 0) e ∙ get_or-set_same words (o / 64) new' 0 place in
-        ap (λ (w : ℕ). nat_eq (bit_at w (x % 64)) 1) here
+          ap (λ (w : ℕ). nat_eq (bit_at w (x % 64)) 1) here
           ∙ elim (cases_eq x o) [
-              inl s ↦
+            | inl s ↦
                 (let bit : bit_at new' (x % 64) ≡ 0 = ap (λ (k : ℕ). bit_at new' (k % 64)) s ∙ bit_at_clear_same w64 word (o % 64) small in
                 ap (λ (b : ℕ). nat_eq b 1) bit ∙ sym (and_false (has_object words x)) ∙ ap (λ (b : Bool). has_object words x && not b) (sym (eq-eqb x o s)))
             | inr ne ↦
                 (let apart : (x % 64) ≡ (o % 64) → ⊥ = λ f. ne (omega arith) in
                 ap (λ (b : ℕ). nat_eq b 1) (bit_at_clear_other w64 word (o % 64) small (x % 64) small' apart)
-                  ∙ ap (λ (k : ℕ). nat_eq (bit_at (slice_index_or words k 0) (x % 64)) 1) (sym e)
-                  ∙ kept ne) ])
-    | inr ne ↦
-        (let apart : x ≡ o → ⊥ = λ s. ne (ap (λ (k : ℕ). k / 64) s) in
-        ap (λ (w : ℕ). nat_eq (bit_at w (x % 64)) 1) (get_or-set_other words (o / 64) (x / 64) new' 0 ne) ∙ kept apart) ]
+                ∙ ap (λ (k : ℕ). nat_eq (bit_at (slice_index_or words k 0) (x % 64)) 1) (sym e)
+                ∙ kept ne)
+          ])
+      | inr ne ↦
+          (let apart : x ≡ o → ⊥ = λ s. ne (ap (λ (k : ℕ). k / 64) s) in
+          ap (λ (w : ℕ). nat_eq (bit_at w (x % 64)) 1) (get_or-set_other words (o / 64) (x / 64) new' 0 ne) ∙ kept apart)
+    ]
   where
     and_true : (b : Bool) → (b && true) ≡ b
     and_true true = refl
     and_true false = refl
+
     and_false : (b : Bool) → (b && false) ≡ false
     and_false true = refl
     and_false false = refl

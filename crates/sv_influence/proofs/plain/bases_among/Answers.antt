@@ -23,16 +23,18 @@ loop-number-preserved c =
     let l = c.loop-number-test.true in
     let low : n < v.shape.objects = omega arith in
     elim c.if-has.branch [
-      then-has+then-not-is_given+in_ok-push w ↦
-        ap (map number) (w.bases-is ∙ w.in_ok-push.ensures.ok)
+      | then-has+then-not-is_given+in_ok-push w ↦
+          ap (map number) (w.bases-is ∙ w.in_ok-push.ensures.ok)
           ∙ map_push number c.loop-number.bases record { 0 = n }
           ∙ ap (λ (xs : List ℕ). xs ++ n ∷ []) c.loop-number.invariant
           ∙ sym (below-take test n
-            (and_from (has_object words n) (not (is_in n given)) (sym c.has.ensures ∙ w.if-has.true)
-              (not_from_false (is_in n given) (given-is v n c.args.session low ∙ sym w.if-not-is_given.ensures))))
-    | else-has w ↦
-        ap (map number) w.bases-is ∙ c.loop-number.invariant
+          (and_from (has_object words n) (not (is_in n given)) (sym c.has.ensures ∙ w.if-has.true)
+          (not_from_false (is_in n given) (given-is v n c.args.session low ∙ sym w.if-not-is_given.ensures))))
+      | else-has w ↦
+          ap (map number) w.bases-is ∙ c.loop-number.invariant
           ∙ sym (below-skip test n (elim w.else-has.branch [
-              else-has-via-then-has+else-not-is_given u ↦
+            | else-has-via-then-has+else-not-is_given u ↦
                 and_right (has_object words n) (not (is_in n given)) (not_from_true (is_in n given) (given-is v n c.args.session low ∙ sym u.if-not-is_given.ensures))
-            | else-has-via-else-has u ↦ and_left (has_object words n) (not (is_in n given)) (sym c.has.ensures ∙ u.if-has.false) ])) ]
+            | else-has-via-else-has u ↦ and_left (has_object words n) (not (is_in n given)) (sym c.has.ensures ∙ u.if-has.false)
+          ]))
+    ]

@@ -21,7 +21,7 @@ loop-at-init g c =
       low = omega arith;
       high = omega arith;
       items = c.new-items.ensures.items ∙ sym (ap reverse none);
-      objects = λ x. c.new-objects.ensures x ∙ sym (ap (λ (ks : List ℕ). reads_committed (queue_actions v) c.args.pos x ks) none)
+      objects = λ x. c.new-objects.ensures x ∙ sym (ap (λ (ks : List ℕ). reads_committed (queue_actions v) c.args.pos x ks) none);
     }
 
 pub loop-at-preserved : goal.loop-at-preserved
@@ -40,21 +40,23 @@ loop-at-preserved g c =
       low = omega arith;
       high = omega arith;
       items = elim c.if-is_wanted.branch [
-          then-is_wanted+in_ok-visit w ↦
+        | then-is_wanted+in_ok-visit w ↦
             ap (λ (u : Vec ℕ Global). u.items) w.items-is
-              ∙ (visited v s pos at f (has_object w.visit.new.objects.words) c.loop-at.items.items w.visit.new.items.items low high c.loop-at.invariant.objects
-                  (sym c.is_wanted.ensures ∙ w.if-is_wanted.true) w.in_ok-visit.ensures.items w.in_ok-visit.ensures.objects c.loop-at.invariant.items).0
+            ∙ (visited v s pos at f (has_object w.visit.new.objects.words) c.loop-at.items.items w.visit.new.items.items low high c.loop-at.invariant.objects
+            (sym c.is_wanted.ensures ∙ w.if-is_wanted.true) w.in_ok-visit.ensures.items w.in_ok-visit.ensures.objects c.loop-at.invariant.items).0
         | else-is_wanted w ↦
             ap (λ (u : Vec ℕ Global). u.items) w.items-is
-              ∙ (passed v s pos at f c.loop-at.items.items low high c.loop-at.invariant.objects (sym c.is_wanted.ensures ∙ w.if-is_wanted.false) c.loop-at.invariant.items).0 ];
+            ∙ (passed v s pos at f c.loop-at.items.items low high c.loop-at.invariant.objects (sym c.is_wanted.ensures ∙ w.if-is_wanted.false) c.loop-at.invariant.items).0
+      ];
       objects = elim c.if-is_wanted.branch [
-          then-is_wanted+in_ok-visit w ↦ (λ x.
+        | then-is_wanted+in_ok-visit w ↦ (λ x.
             ap (λ (o : ObjectSet). has_object o.words x) w.objects-is
-              ∙ (visited v s pos at f (has_object w.visit.new.objects.words) c.loop-at.items.items w.visit.new.items.items low high c.loop-at.invariant.objects
-                  (sym c.is_wanted.ensures ∙ w.if-is_wanted.true) w.in_ok-visit.ensures.items w.in_ok-visit.ensures.objects c.loop-at.invariant.items).1 x)
+            ∙ (visited v s pos at f (has_object w.visit.new.objects.words) c.loop-at.items.items w.visit.new.items.items low high c.loop-at.invariant.objects
+            (sym c.is_wanted.ensures ∙ w.if-is_wanted.true) w.in_ok-visit.ensures.items w.in_ok-visit.ensures.objects c.loop-at.invariant.items).1 x)
         | else-is_wanted w ↦ (λ x.
             ap (λ (o : ObjectSet). has_object o.words x) w.objects-is
-              ∙ (passed v s pos at f c.loop-at.items.items low high c.loop-at.invariant.objects (sym c.is_wanted.ensures ∙ w.if-is_wanted.false) c.loop-at.invariant.items).1 x) ]
+            ∙ (passed v s pos at f c.loop-at.items.items low high c.loop-at.invariant.objects (sym c.is_wanted.ensures ∙ w.if-is_wanted.false) c.loop-at.invariant.items).1 x)
+      ];
     }
 
 pub returns-clause-items : goal.returns-clause-items
@@ -67,7 +69,7 @@ returns-clause-items g c =
     let low : v.commit < c.args.pos = c.requires.0 in
     let here : c.loop-at.at ≡ v.commit = omega arith in
     c.from_vec.ensures ∙ c.reverse.ensures.items ∙ ap reverse c.loop-at.invariant.items ∙ reverse-reverse (above c.loop-at.at N)
-      ∙ ap (λ (n : ℕ). above n N) here ∙ items-had v c.args.session c.args.pos low
+    ∙ ap (λ (n : ℕ). above n N) here ∙ items-had v c.args.session c.args.pos low
 
 pub returns-clause-head : goal.returns-clause-head
 returns-clause-head g c =
@@ -78,5 +80,5 @@ returns-clause-head g c =
     let low : v.commit < c.args.pos = c.requires.0 in
     let here : c.loop-at.at ≡ v.commit = omega arith in
     c.in_ok-head.ensures
-      ∙ bases-had v c.args.session c.args.pos (has_object c.loop-at.objects.words) low
-          (subst (λ (n : ℕ). AreToBeHad v c.args.session c.args.pos n (has_object c.loop-at.objects.words)) here c.loop-at.invariant.objects)
+    ∙ bases-had v c.args.session c.args.pos (has_object c.loop-at.objects.words) low
+    (subst (λ (n : ℕ). AreToBeHad v c.args.session c.args.pos n (has_object c.loop-at.objects.words)) here c.loop-at.invariant.objects)

@@ -11,7 +11,7 @@ invariant-loop-at g l = record {
   low : l.commit ≤ l.at;
   high : l.at ≤ l.pos;
   items : l.items.items ≡ reverse (above l.at (lacking l.queue l.session l.pos));
-  objects : AreToBeHad l.queue l.session l.pos l.at (has_object l.objects.words)
+  objects : AreToBeHad l.queue l.session l.pos l.at (has_object l.objects.words);
 }
 
 abbrev pub decreases-loop-at : goal.decreases-loop-at

@@ -4,5 +4,5 @@ use Rattle.sv_influence.proofs.tests.world.Given as goal
 abbrev pub invariant-loop : goal.invariant-loop
 invariant-loop l = record {
   count : length l.values ≡ l.counter;
-  attrs : All (λ value. length value ≡ 1) l.values
+  attrs : All (λ value. length value ≡ 1) l.values;
 }

@@ -21,14 +21,15 @@ loop-slot-preserved c =
     record {
       items = c.loop-slot.invariant.items;
       rest = elim c.if-action-slot-eq1.branch [
-          then-action-slot-eq1 w ↦ (λ x.
+        | then-action-slot-eq1 w ↦ (λ x.
             ap (λ (s : ObjectSet). has_object s.words x && not (is_in x left)) w.self-is
-              ∙ ap (λ (b : Bool). b && not (is_in x left)) (w.remove.ensures x)
-              ∙ and_not_or (has_object c.loop-slot.self.words x) (nat_eq x o) (is_in x left)
-              ∙ sym (ap (λ (ys : List ℕ). has_object c.loop-slot.self.words x && not (is_in x ys)) (masked_hit mask k o _ _ d w.if-action-slot-eq1.true))
-              ∙ c.loop-slot.invariant.rest x)
+            ∙ ap (λ (b : Bool). b && not (is_in x left)) (w.remove.ensures x)
+            ∙ and_not_or (has_object c.loop-slot.self.words x) (nat_eq x o) (is_in x left)
+            ∙ sym (ap (λ (ys : List ℕ). has_object c.loop-slot.self.words x && not (is_in x ys)) (masked_hit mask k o _ _ d w.if-action-slot-eq1.true))
+            ∙ c.loop-slot.invariant.rest x)
         | else-action-slot-eq1 w ↦ (λ x.
             ap (λ (s : ObjectSet). has_object s.words x && not (is_in x left)) w.self-is
-              ∙ sym (ap (λ (ys : List ℕ). has_object c.loop-slot.self.words x && not (is_in x ys)) (masked_miss mask k o _ _ d w.if-action-slot-eq1.false))
-              ∙ c.loop-slot.invariant.rest x) ]
+            ∙ sym (ap (λ (ys : List ℕ). has_object c.loop-slot.self.words x && not (is_in x ys)) (masked_miss mask k o _ _ d w.if-action-slot-eq1.false))
+            ∙ c.loop-slot.invariant.rest x)
+      ];
     }
