@@ -1,0 +1,10 @@
+//! The action language: reading an action from its text, and printing it.
+#![tactic(auto)]
+
+mod fault;
+mod cursor;
+mod lexer;
+mod parts;
+mod token;
+
+pub use fault::{ParseFault, TextCause, TextFault};
