@@ -1,4 +1,4 @@
-ghost use Rattle.std.specs.Prelude.{◌≡◌, ◌≤◌, ℕ, IfOk, All, length, ◌++◌, [], ◌∷◌};
+ghost use Rattle.std.specs.Prelude.{◌≡◌, ℕ, IfOk, All, length};
 ghost use Rattle.sv_world.specs.Sets.{at_mask, write_set};
 ghost use Rattle.sv_eval.specs.Evaluation.{outcome_of};
 
@@ -10,8 +10,17 @@ use sv_world::{Action, List, Value, copy_value, copy_values, is_in_mask};
 /// The result of an action on one value for each of its reads.
 ///
 /// Slots and attributes beyond the values are read as 0, and setting them does nothing.
-#[tactic(auto, unfolding(crate::specs::Evaluation::outcome_of))]
 pub fn eval(alloc: Global, action: &Action, values: &[Value]) -> Result<Outcome, AllocError>
+    ensures exact { IfOk result (λ outcome. outcome ≡ outcome_of action.now values.now) }
+    ensures shaped { (attrs : ℕ) → All (λ value. length value ≡ attrs) values.now → IfOk result (λ outcome. All (λ value. length value ≡ attrs) outcome.writes) }
+    ensures counted { length values.now ≡ length action.now.reads → IfOk result (λ outcome. length outcome.writes ≡ length (write_set action.now)) }
+{
+    let outcome = evaluate(alloc, action, values)?;
+    Ok(outcome)
+}
+
+#[tactic(auto, unfolding(crate::specs::Evaluation::outcome_of))]
+fn evaluate(alloc: Global, action: &Action, values: &[Value]) -> Result<Outcome, AllocError>
     ensures { IfOk result (λ outcome. outcome ≡ outcome_of action.now values.now) }
 {
     let mut slots = copy_values(alloc, values)?.into_vec();

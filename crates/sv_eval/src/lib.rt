@@ -4,6 +4,10 @@
 mod evaluation;
 mod outcome;
 mod run;
+mod serial;
+#[cfg(test)]
+mod tests;
 
 pub use evaluation::eval;
 pub use outcome::Outcome;
+pub use serial::serial_worlds_keep_their_shape;

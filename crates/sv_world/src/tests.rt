@@ -44,7 +44,6 @@ fn sets(alloc: Global, count: u8) -> Result<List<Stmt>, AllocError> {
     Ok(body)
 }
 
-/// One statement of depth 3 more than the number of negations.
 fn negations(alloc: Global, count: u8) -> Result<List<Stmt>, AllocError> {
     let mut cond = Cond::Eq(Expr::Lit(1), Expr::Lit(2));
     for _ in 0..count {
@@ -67,70 +66,100 @@ fn cause(action: &Action) -> u8 {
     }
 }
 
+/// The cause of an action of that many statements of two nodes each.
+fn cause_of_sets(alloc: Global, reads: &[u16], mask: u16, count: u8) -> Result<u8, AllocError> {
+    let body = sets(alloc, count)?;
+    Ok(cause(&action(alloc, reads, mask, body)?))
+}
+
+/// The cause of an action whose body is one statement of depth 3 more than the number of negations.
+fn cause_of_negations(alloc: Global, count: u8) -> Result<u8, AllocError> {
+    let body = negations(alloc, count)?;
+    Ok(cause(&action(alloc, &[0], 1, body)?))
+}
+
 #[test]
 fn answers_the_first_cause(rt: HostRuntime) -> Result<(), Fail> {
     let alloc = rt.alloc();
-    assert_eq!(rt; cause(&action(alloc, &[], 2, sets(alloc, 40)?)?), 1);
-    assert_eq!(rt; cause(&action(alloc, &[0; 17], 0, sets(alloc, 0)?)?), 2);
-    assert_eq!(rt; cause(&action(alloc, &[0; 16], 0, sets(alloc, 0)?)?), 3);
-    assert_eq!(rt; cause(&action(alloc, &[1], 2, sets(alloc, 0)?)?), 4);
-    assert_eq!(rt; cause(&action(alloc, &[0], 2, sets(alloc, 0)?)?), 5);
-    assert_eq!(rt; cause(&action(alloc, &[0], 0, sets(alloc, 1)?)?), 7);
-    assert_eq!(rt; cause(&action(alloc, &[0], 1, sets(alloc, 33)?)?), 9);
-    assert_eq!(rt; cause(&action(alloc, &[0], 1, sets(alloc, 32)?)?), 0);
-    assert_eq!(rt; cause(&action(alloc, &[0], 1, negations(alloc, 6)?)?), 10);
-    assert_eq!(rt; cause(&action(alloc, &[0], 1, negations(alloc, 5)?)?), 0);
+    assert_eq!(rt; cause_of_sets(alloc, &[], 2, 40)?, 1);
+    assert_eq!(rt; cause_of_sets(alloc, &[0; 17], 0, 0)?, 2);
+    assert_eq!(rt; cause_of_sets(alloc, &[0; 16], 0, 0)?, 3);
+    assert_eq!(rt; cause_of_sets(alloc, &[1], 2, 0)?, 4);
+    assert_eq!(rt; cause_of_sets(alloc, &[0], 2, 0)?, 5);
+    assert_eq!(rt; cause_of_sets(alloc, &[0], 0, 1)?, 7);
+    Ok(())
+}
+
+#[test]
+fn judges_nodes_and_depth(rt: HostRuntime) -> Result<(), Fail> {
+    let alloc = rt.alloc();
+    assert_eq!(rt; cause_of_sets(alloc, &[0], 1, 33)?, 9);
+    assert_eq!(rt; cause_of_sets(alloc, &[0], 1, 32)?, 0);
+    assert_eq!(rt; cause_of_negations(alloc, 6)?, 10);
+    assert_eq!(rt; cause_of_negations(alloc, 5)?, 0);
     good_actions_have_no_fault();
     Ok(())
 }
 
+/// The cause of an action of one statement, which sets that attribute.
+fn cause_of_set(alloc: Global, slot: u8, attr: u8) -> Result<u8, AllocError> {
+    let mut body = List::new(alloc);
+    body.push(set(slot, attr))?;
+    Ok(cause(&action(alloc, &[0], 1, body)?))
+}
+
+/// The cause of an action with no statements, made at that point.
+fn cause_at(alloc: Global, x: i32, y: i32) -> Result<u8, AllocError> {
+    let mut action = action(alloc, &[0], 1, List::new(alloc))?;
+    action.origin = Point { x, y };
+    Ok(cause(&action))
+}
+
 #[test]
-fn judges_slots_and_attributes(rt: HostRuntime) -> Result<(), Fail> {
+fn judges_slots_attributes_and_origins(rt: HostRuntime) -> Result<(), Fail> {
     let alloc = rt.alloc();
-    for (slot, attr, expected) in [(1u8, 0u8, 6u8), (1, 1, 6), (0, 1, 8), (0, 0, 0)] {
-        let mut body = List::new(alloc);
-        body.push(set(slot, attr))?;
+    for (slot, attr, expected) in [(1, 0, 6), (1, 1, 6), (0, 1, 8), (0, 0, 0)] {
         assert_eq!(rt;
-            cause(&action(alloc, &[0], 1, body)?),
+            cause_of_set(alloc, slot, attr)?,
             expected,
             "slot {slot}, attribute {attr}"
         );
     }
-    Ok(())
-}
-
-#[test]
-fn judges_the_origin(rt: HostRuntime) -> Result<(), Fail> {
-    let alloc = rt.alloc();
     for (x, y, expected) in [
         (1_000_001, 0, 11),
         (1_000_000, -1_000_000, 0),
         (0, -1_000_001, 11),
-        (0, 1_000_001, 11),
     ] {
-        let mut action = action(alloc, &[0], 1, sets(alloc, 1)?)?;
-        action.origin = Point { x, y };
-        assert_eq!(rt; cause(&action), expected, "at {x} {y}");
+        assert_eq!(rt; cause_at(alloc, x, y)?, expected, "at {x} {y}");
     }
     Ok(())
+}
+
+/// The cause of an action's copy.
+fn cause_of_copy(alloc: Global) -> Result<u8, AllocError> {
+    let made = action(alloc, &[1], 1, negations(alloc, 5)?)?;
+    Ok(cause(&copy_action(alloc, &made)?))
 }
 
 #[test]
 fn copies(rt: HostRuntime) -> Result<(), Fail> {
     let alloc = rt.alloc();
-    let made = action(alloc, &[0], 1, negations(alloc, 5)?)?;
-    let copy = copy_action(alloc, &made)?;
-    assert_eq!(rt; cause(&copy), 0);
-    assert_eq!(rt; copy.body.len(), 1);
-    let mut value = List::new(alloc);
-    value.push(-3i64)?;
-    assert_eq!(rt; copy_value(alloc, &value)?.as_slice(), [-3].as_slice());
+    assert_eq!(rt; cause_of_copy(alloc)?, 4);
+    let value = List::from_vec(vec![in alloc; 4, -3]?);
+    assert_eq!(rt; copy_value(alloc, &value)?.as_slice(), [4, -3].as_slice());
+    let objects = ids(alloc, &[4, 5])?;
     assert_eq!(rt;
-        copy_objects(alloc, ids(alloc, &[4, 5])?.as_slice())?.as_slice(),
+        copy_objects(alloc, objects.as_slice())?.as_slice(),
         [ObjectId(4), ObjectId(5)].as_slice()
     );
+    Ok(())
+}
+
+#[test]
+fn makes_worlds(rt: HostRuntime) -> Result<(), Fail> {
+    let alloc = rt.alloc();
     let mut values = List::new(alloc);
-    values.push(value)?;
+    values.push(List::from_vec(vec![in alloc; 1]?))?;
     let world = World {
         shape: ONE,
         values: copy_values(alloc, values.as_slice())?,
@@ -150,9 +179,13 @@ fn sees_lists_and_texts(rt: HostRuntime) -> Result<(), Fail> {
     assert_eq!(rt; text.as_str(), "ab");
     assert_eq!(rt; text.into_string().as_str(), "ab");
     assert_eq!(rt; Boxed::new(alloc, ClientId(3))?.into_inner(), ClientId(3));
+    Ok(())
+}
+
+#[test]
+fn tells_order_and_masks(rt: HostRuntime) {
     assert!(rt; is_ascending(&[ObjectId(2), ObjectId(9)]));
     assert!(rt; !is_ascending(&[ObjectId(2), ObjectId(2)]));
     assert!(rt; is_in_mask(4, 2));
     assert!(rt; !is_in_mask(4, 18));
-    Ok(())
 }

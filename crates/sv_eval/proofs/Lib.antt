@@ -1,0 +1,5 @@
+pub mod Lengths
+pub mod Lists
+pub mod Masks
+pub mod Outcomes
+pub mod Serials
