@@ -3,9 +3,9 @@ ghost use Rattle.std.specs.List.{flat_map};
 ghost use Rattle.sv_world.specs.declared.world.ObjectId.{ObjectId};
 ghost use Rattle.sv_world.specs.Sets.{at_mask, write_set};
 ghost use Rattle.sv_eval.specs.Serial.{put_all};
-ghost use Rattle.sv_journal.specs.Pieces.{joined, held_text, head_text};
+ghost use Rattle.sv_journal.specs.Pieces.{joined, held_text};
 ghost use Rattle.sv_report.specs.Report.{value_lines};
-ghost use Rattle.sv_app.specs.Single.{opening_held};
+ghost use Rattle.sv_app.specs.Lines.{opening_text};
 
 use std::alloc::{AllocError, Global};
 use sv_journal::{append_held, append_value};
@@ -23,7 +23,7 @@ pub fn opening_value<'a>(world: &'a World, object: ObjectId) -> &'a [i64]
 
 /// Appends objects with their opening values, as `[0=(5) 2=(7)]`.
 pub fn append_opening(world: &World, objects: &[ObjectId], out: &mut String) -> Result<(), AllocError>
-    ensures { OnOk result (string_bytes out.new ≡ string_bytes out.old ++ head_text (opening_held world.now objects.now)) }
+    ensures { OnOk result (string_bytes out.new ≡ string_bytes out.old ++ opening_text world.now objects.now) }
 {
     out.push_str("[")?;
     append_opening_list(world, objects, out)?;
