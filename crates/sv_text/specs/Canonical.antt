@@ -4,6 +4,7 @@ use Rattle.std.specs.Prelude.{ℕ, ℤ, pos, Bool, ◌&&◌, List, [], ◌∷◌
 use Rattle.std.specs.Fmt.{signed_decimal}
 use Rattle.std.specs.Ordering.{int_eq}
 use Rattle.sv_world.specs.Sets.{read_set, write_set}
+use Rattle.sv_world.specs.declared.world.ObjectId.{ObjectId}
 use Rattle.sv_world.specs.declared.action.Action.{Action}
 use Rattle.sv_world.specs.declared.action.Point.{Point}
 use Rattle.sv_world.specs.declared.action.Expr.{Expr}
@@ -15,6 +16,9 @@ use Rattle.sv_world.specs.declared.action.Cond.TheFolds.{fold-Cond}
 use Rattle.sv_world.specs.declared.action.Stmt.{Stmt}
 use Rattle.sv_world.specs.declared.action.Stmt.TheOpen.{Stmt-F}
 use Rattle.sv_world.specs.declared.action.Stmt.TheFolds.{fold-Stmt}
+
+abbrev pub numbers : List ObjectId → List ℕ
+numbers = map (λ (o : ObjectId). o.0)
 
 -- An attribute, as `@7.2`: the object that stands in the slot, 0 where none does, and the attribute's number. `reads` are the numbers of
 -- the objects that the action reads.

@@ -5,6 +5,7 @@ mod fault;
 mod cursor;
 mod lexer;
 mod parts;
+mod print;
 mod token;
 
 pub use fault::{ParseFault, TextCause, TextFault};
