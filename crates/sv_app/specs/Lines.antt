@@ -52,9 +52,17 @@ abbrev pub idle_text : World → List ObjectId → List (List ObjectId) → List
 idle_text world interest shows = codes "journal 3\n" ++ join_lines world interest ++ codes "2 s0 leave -> bye\n3 s0 end -> bye\nclient 0\njoin s0\ngot s0 #1\n"
     ++ show_lines world (numbers interest) [] [] shows ++ codes "leave\ngot s0 #2\nworld 0\n" ++ value_lines 0 world.values
 
--- and with one
+-- the lines up to the action
+abbrev pub act_head : World → List ObjectId → Action → List (List ℤ) → List ℕ
+act_head world interest action result = codes "journal 5\n" ++ join_lines world interest ++ act_lines world action result
+    ++ codes "4 s0 leave -> bye\n5 s0 end -> bye\nclient 0\njoin s0\ngot s0 #1\n"
+
+-- the lines after the looks
+abbrev pub end_lines : World → List ℕ → List (List ℤ) → List ℕ
+end_lines world written result = codes "leave\ngot s0 #4\nworld 1\n" ++ value_lines 0 (put_all world.values written result)
+
+-- the whole report with one
 abbrev pub act_text : World → List ObjectId → Action → List (List ℤ) → List (List ObjectId) → List ℕ
-act_text world interest action result shows = codes "journal 5\n" ++ join_lines world interest ++ act_lines world action result
-    ++ codes "4 s0 leave -> bye\n5 s0 end -> bye\nclient 0\njoin s0\ngot s0 #1\n" ++ make_lines interest action result
+act_text world interest action result shows = act_head world interest action result ++ make_lines interest action result
     ++ show_lines world (numbers interest ++ read_set action) (write_set action) result shows
-    ++ codes "leave\ngot s0 #4\nworld 1\n" ++ value_lines 0 (put_all world.values (write_set action) result)
+    ++ end_lines world (write_set action) result

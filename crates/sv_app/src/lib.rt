@@ -3,6 +3,8 @@
 
 mod act;
 mod opening;
+mod show;
 mod single;
+mod stub;
 
 pub use single::Single;
