@@ -5,6 +5,5 @@ mod act;
 mod opening;
 mod show;
 mod single;
-mod stub;
 
 pub use single::Single;
