@@ -1,17 +1,16 @@
 -- The walk from a position downwards with the set of the objects that are still to be had: at n these are the ones that an item above n reads
 -- with no writer between, that is, with the last writer at or below n.
-use Rattle.std.proofs.Common.{◌≡◌, ℕ, zero, suc, ◌<◌, ◌≤◌, ◌+◌, ◌-◌, ◌⊎◌, inl, inr, Bool, true, false, ◌||◌, ◌&&◌, not, List, [], ◌∷◌, ◌++◌, length, refl, sym, ◌∙◌, ap, subst, arith}
+use Rattle.std.proofs.Common.{◌≡◌, ℕ, zero, suc, ◌<◌, ◌≤◌, ◌-◌, ◌⊎◌, inl, inr, Bool, true, false, ◌||◌, ◌&&◌, not, List, [], ◌∷◌, refl, sym, ◌∙◌, ap, subst, arith}
 use Rattle.std.proofs.lemmas.Bool.{cases_Bool, cases_eq, cases_lt, or_cases, or_left, or_right, and_parts, and_from, not-true, not_from_false, false_from_ne_true}
 use Rattle.std.specs.List.{list_any}
 use Rattle.sv_world.specs.declared.action.Action.{Action}
 use Rattle.sv_world.specs.Sets.{read_set, write_set}
 use Rattle.sv_world.specs.Control.{is_in, action_at, last_writer, missing_writers, needed_for, reads_committed}
-use Rattle.sv_world.specs.Faults.{is_ascending}
 use Rattle.sv_world.proofs.Members.{is_in-head, is_in-tail, is_in-cons_cases}
 use Rattle.sv_world.proofs.Writers.{last_writer-most, last_writer-writes, last_writer-unwritten, missing_writers-parts, missing_writers-lower}
-use Rattle.sv_world.proofs.Needs.{needed-target, needed-sound, needed-closed, needed-closed_writer, needed-ascending, needed-bounds, needed-sent}
+use Rattle.sv_world.proofs.Needs.{needed-target, needed-sound, needed-closed, needed-closed_writer, needed-ascending, needed-sent}
 use Rattle.sv_world.proofs.Bases.{reads_committed-from, reads_committed-parts}
-use Rattle.sv_influence.proofs.Counts.{above, above-in, above-parts, above-none, above-all, above-taken, above-left}
+use Rattle.sv_influence.proofs.Counts.{above, above-in, above-parts, above-taken, above-left}
 use Rattle.sv_influence.proofs.Growth.{same_test}
 use Rattle.sv_influence.proofs.Walks.{written_is_read, any_from, any_parts}
 

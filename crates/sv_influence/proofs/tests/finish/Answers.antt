@@ -1,6 +1,6 @@
-use Rattle.std.proofs.Common.{◌≡◌, ℕ, List, [], ◌∷◌, length, map, refl, sym, ◌∙◌, ap, arith}
+use Rattle.std.proofs.Common.{◌≡◌, ℕ, List, [], ◌∷◌, length, map, sym, ap, arith}
 use Rattle.sv_world.specs.declared.world.ObjectId.{ObjectId}
-use Rattle.sv_world.specs.Sets.{write_set, at_mask}
+use Rattle.sv_world.specs.Sets.{at_mask}
 use Rattle.sv_influence.proofs.tests.finish.Goals as goal
 
 -- An action that reads one object, with mask 1, writes one.

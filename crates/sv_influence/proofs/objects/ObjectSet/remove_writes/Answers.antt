@@ -1,4 +1,4 @@
-use Rattle.std.proofs.Common.{◌≡◌, ℕ, ◌+◌, Bool, ◌&&◌, not, List, ◌∷◌, drop, get_or, nat_eq, sym, ◌∙◌, ap}
+use Rattle.std.proofs.Common.{ℕ, ◌+◌, Bool, ◌&&◌, not, List, drop, get_or, nat_eq, sym, ◌∙◌, ap}
 use Rattle.sv_world.specs.Control.{is_in}
 use Rattle.sv_world.specs.Sets.{read_set, at_mask}
 use Rattle.sv_influence.specs.declared.objects.ObjectSet.{ObjectSet}
