@@ -1,3 +1,4 @@
 pub mod Tokens
 pub mod Reading
 pub mod Canonical
+pub mod Grammar

@@ -163,11 +163,14 @@ read_at count least ts = do
 abbrev pub as_object : ℕ → ObjectId
 as_object o = record { 0 = o }
 
+abbrev pub ends_reads : ℕ → List Lexeme → Bool
+ends_reads count ts = nat_lt 0 count && is_at marks.Writes ts
+
 -- one read or more, and `writes`
 unfoldable pub reads_from : List ObjectId → ℕ → List Lexeme → Result (List ObjectId × List Lexeme) TextFault
 reads_from before least [] = Err (unexpected [])
 reads_from before least (t ∷ ts) =
-    cond (nat_lt 0 (length before) && is_at marks.Writes (t ∷ ts)) (Ok (before, ts))
+    cond (ends_reads (length before) (t ∷ ts)) (Ok (before, ts))
     (read_at (length before) least (t ∷ ts) >>= λ o. reads_from (before ++ as_object o ∷ []) (o + 1) ts)
 
 -- the slot of an object, which is its place in the reads
@@ -196,11 +199,15 @@ is_number (tokens.Ref object attr) = false
 is_number (tokens.Mark m) = false
 is_number (tokens.Bad cause) = false
 
+unfoldable pub is_number_at : List Lexeme → Bool
+is_number_at [] = false
+is_number_at (t ∷ ts) = is_number t.token
+
 -- the written objects as a mask over the slots
 unfoldable pub writes_from : List ObjectId → ℕ → ℕ → List Lexeme → Result (ℕ × List Lexeme) TextFault
 writes_from reads mask least [] = Ok (mask, [])
 writes_from reads mask least (t ∷ ts) =
-    cond (is_number t.token) (write_at reads least (t ∷ ts) >>= λ w. writes_from reads (bit_or mask (2 ^ w.1)) (w.0 + 1) ts) (Ok (mask, t ∷ ts))
+    cond (is_number_at (t ∷ ts)) (write_at reads least (t ∷ ts) >>= λ w. writes_from reads (bit_or mask (2 ^ w.1)) (w.0 + 1) ts) (Ok (mask, t ∷ ts))
 
 unfoldable pub coordinate_at : List Lexeme → Result ℤ TextFault
 coordinate_at ts = number_at (negsuc 999999) (pos 1000000) ts
@@ -263,6 +270,13 @@ unfoldable pub leaf_at : List ObjectId → List Lexeme → Result Expr TextFault
 leaf_at reads [] = Err (unexpected [])
 leaf_at reads (t ∷ ts) = leaf_by reads (t ∷ ts) t.glued t.token
 
+-- what `below` reads, and a sign behind it
+unfoldable pub closed_by : {A : Type 0} → (ℕ → List Lexeme → Read A) → Mark → ℕ → List Lexeme → Read A
+closed_by below m nodes ts = do
+  a ← below nodes ts
+  rest ← expect m a.2
+  Ok (a.0, a.1, rest)
+
 -- `below` reads the parts, which stand one deeper.
 unfoldable pub pair_by : (ℕ → List Lexeme → Read Expr) → ℕ → List Lexeme → Read Expr
 pair_by below nodes ts = do
@@ -320,17 +334,19 @@ unfoldable pub compare_by : (ℕ → List Lexeme → Read Expr) → ℕ → List
 compare_by exprs nodes ts = do
   a ← exprs nodes ts
   c ← comparison_at a.2
-  b ← exprs a.1 (rest_of a.2)
-  rest ← expect marks.CloseTest b.2
-  Ok (with_comparison c a.0 b.0, b.1, rest)
+  b ← closed_by exprs marks.CloseTest a.1 (rest_of a.2)
+  Ok (with_comparison c a.0 b.0, b.1, b.2)
+
+unfoldable pub joined_by : (ℕ → List Lexeme → Read Cond) → Joint → Cond → ℕ → List Lexeme → Read Cond
+joined_by below j a nodes ts = do
+  b ← closed_by below marks.Close nodes ts
+  Ok (with_joint j a b.0, b.1, b.2)
 
 unfoldable pub join_by : (ℕ → List Lexeme → Read Cond) → ℕ → List Lexeme → Read Cond
 join_by below nodes ts = do
   a ← below nodes ts
   j ← joint_at a.2
-  b ← below a.1 (rest_of a.2)
-  rest ← expect marks.Close b.2
-  Ok (with_joint j a.0 b.0, b.1, rest)
+  joined_by below j a.0 a.1 (rest_of a.2)
 
 unfoldable pub not_by : (ℕ → List Lexeme → Read Cond) → ℕ → List Lexeme → Read Cond
 not_by below nodes ts = below nodes ts >>= λ a. Ok (test.Not a.0, a.1, a.2)
@@ -363,21 +379,24 @@ target_at reads (t ∷ ts) = target_by reads (t ∷ ts) t.token
 unfoldable pub set_by : List ObjectId → (ℕ → List Lexeme → Read Expr) → ℕ → List Lexeme → Read Stmt
 set_by reads exprs nodes ts = do
   target ← target_at reads ts
-  e ← exprs nodes (rest_of ts)
-  rest ← expect marks.Semicolon e.2
-  Ok (stmt.Set target.0 target.1 e.0, e.1, rest)
+  e ← closed_by exprs marks.Semicolon nodes (rest_of ts)
+  Ok (stmt.Set target.0 target.1 e.0, e.1, e.2)
 
--- An empty block behind `else` is the same as none.
-unfoldable pub other_by : (ℕ → List Lexeme → Read (List Stmt)) → Cond → List Stmt → ℕ → List Lexeme → Read Stmt
-other_by blocks c body nodes ts = cond (is_at marks.Else ts)
-    (blocks nodes (rest_of ts) >>= λ b. Ok (stmt.If c body b.0, b.1, b.2))
-    (Ok (stmt.If c body [], nodes, ts))
+-- the block behind `else`, and an empty one where there is none
+unfoldable pub else_by : (ℕ → List Lexeme → Read (List Stmt)) → ℕ → List Lexeme → Read (List Stmt)
+else_by blocks nodes ts = cond (is_at marks.Else ts) (blocks nodes (rest_of ts)) (Ok ([], nodes, ts))
 
-unfoldable pub then_by : (ℕ → List Lexeme → Read (List Stmt)) → Cond → ℕ → List Lexeme → Read Stmt
-then_by blocks c nodes ts = blocks nodes ts >>= λ a. other_by blocks c a.0 a.1 a.2
+unfoldable pub branches_by : (ℕ → List Lexeme → Read (List Stmt)) → ℕ → List Lexeme → Read (List Stmt × List Stmt)
+branches_by blocks nodes ts = do
+  a ← blocks nodes ts
+  b ← else_by blocks a.1 a.2
+  Ok ((a.0, b.0), b.1, b.2)
 
 unfoldable pub if_by : (ℕ → List Lexeme → Read Cond) → (ℕ → List Lexeme → Read (List Stmt)) → ℕ → List Lexeme → Read Stmt
-if_by conds blocks nodes ts = conds nodes ts >>= λ c. then_by blocks c.0 c.1 c.2
+if_by conds blocks nodes ts = do
+  c ← conds nodes ts
+  b ← branches_by blocks c.1 c.2
+  Ok (stmt.If c.0 b.0.0 b.0.1, b.1, b.2)
 
 -- Statements up to the end of their block. Each starts a node, so that 65 turns suffice: the 65th statement is refused.
 unfoldable pub stmts_by : (ℕ → List Lexeme → Read Stmt) → ℕ → List Stmt → ℕ → List Lexeme → Read (List Stmt)

@@ -1,6 +1,6 @@
 //! What stands next in a list of tokens.
 
-ghost use Rattle.std.specs.Prelude.{◌≡◌, ◌≤◌, ◌≤ℤ◌, IfOk};
+ghost use Rattle.std.specs.Prelude.{◌≡◌, ◌-◌, length, ◌≤ℤ◌, IfOk};
 ghost use Rattle.sv_text.specs.Reading.{seen, is_same, front_of, mark_of, cause_of, front, is_at, rest_of, place_of, fault, unexpected, expect, number_at};
 
 use crate::lexer::is_word;
@@ -15,7 +15,8 @@ fn is_same(mark: Mark, other: Mark) -> bool
 }
 
 pub fn rest_of(tokens: &[Lexeme]) -> &[Lexeme]
-    ensures { result.now ≡ rest_of tokens.now }
+    ensures value { result.now ≡ rest_of tokens.now }
+    ensures shorter { length result.now ≡ length tokens.now - 1 }
 {
     match tokens {
         [] => &[],

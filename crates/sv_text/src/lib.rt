@@ -1,11 +1,23 @@
 //! The action language: reading an action from its text, and printing it.
 #![tactic(auto)]
 
+mod expression;
 mod fault;
+mod header;
+mod condition;
 mod cursor;
+mod laws;
 mod lexer;
+mod parser;
 mod parts;
-mod print;
+mod printer;
+mod statement;
 mod token;
 
 pub use fault::{ParseFault, TextCause, TextFault};
+pub use laws::{each_text_of_an_action_is_read, what_is_read_is_a_text_of_it};
+pub use parser::parse_action;
+pub use printer::{append_action, print_action};
+
+#[cfg(test)]
+mod tests;

@@ -1,0 +1,202 @@
+//! Conditions.
+
+ghost use Rattle.std.specs.Prelude.{◌≡◌, ◌≤◌, length, Ok, IfOk};
+ghost use Rattle.sv_text.specs.Reading.{Gives, with_comparison, comparison_of, comparison_at, with_joint, joint_of, joint_at, compare_by, closed_by, joined_by, join_by, not_by, expr_at, cond_at};
+ghost use Rattle.sv_text.specs.declared.token.Mark.TheVariants as marks;
+
+use crate::cursor::{expect, front, is_at, rest_of, unexpected};
+use crate::expression::{closed_expr_at, expr_at, start};
+use crate::parts::{Comparison, Joint};
+use crate::token::{Lexeme, Mark};
+use crate::{ParseFault, TextFault};
+use std::alloc::{AllocError, Global};
+use sv_world::{Boxed, Cond, Expr, ObjectId};
+
+fn with_comparison(comparison: Comparison, left: Expr, right: Expr) -> Cond
+    ensures { result ≡ with_comparison comparison left right }
+{
+    match comparison {
+        Comparison::Equal => Cond::Eq(left, right),
+        Comparison::Less => Cond::Lt(left, right),
+        Comparison::LessEqual => Cond::Le(left, right),
+    }
+}
+
+fn comparison_of(mark: Mark) -> Option<Comparison>
+    ensures { result ≡ comparison_of mark }
+{
+    match mark {
+        Mark::Equal => Some(Comparison::Equal),
+        Mark::Less => Some(Comparison::Less),
+        Mark::LessEqual => Some(Comparison::LessEqual),
+        _ => None,
+    }
+}
+
+#[tactic(auto, unfolding(crate::specs::Reading::comparison_at))]
+fn comparison_at(tokens: &[Lexeme]) -> Result<Comparison, TextFault>
+    ensures { result ≡ comparison_at tokens.now }
+{
+    match front(tokens) {
+        None => Err(unexpected(tokens)),
+        Some(mark) => match comparison_of(mark) {
+            None => Err(unexpected(tokens)),
+            Some(comparison) => Ok(comparison),
+        },
+    }
+}
+
+fn with_joint(alloc: Global, joint: Joint, left: Cond, right: Cond) -> Result<Cond, AllocError>
+    ensures { IfOk result (λ c. c ≡ with_joint joint left right) }
+{
+    let left = Boxed::new(alloc, left)?;
+    let right = Boxed::new(alloc, right)?;
+    Ok(match joint {
+        Joint::And => Cond::And(left, right),
+        Joint::Or => Cond::Or(left, right),
+    })
+}
+
+fn joint_of(mark: Mark) -> Option<Joint>
+    ensures { result ≡ joint_of mark }
+{
+    match mark {
+        Mark::And => Some(Joint::And),
+        Mark::Or => Some(Joint::Or),
+        _ => None,
+    }
+}
+
+#[tactic(auto, unfolding(crate::specs::Reading::joint_at))]
+fn joint_at(tokens: &[Lexeme]) -> Result<Joint, TextFault>
+    ensures { result ≡ joint_at tokens.now }
+{
+    match front(tokens) {
+        None => Err(unexpected(tokens)),
+        Some(mark) => match joint_of(mark) {
+            None => Err(unexpected(tokens)),
+            Some(joint) => Ok(joint),
+        },
+    }
+}
+
+#[tactic(auto, unfolding(crate::specs::Reading::compare_by))]
+fn compare_at<'a>(
+    alloc: Global,
+    depth: u8,
+    nodes: u8,
+    reads: &[ObjectId],
+    tokens: &'a [Lexeme],
+) -> Result<(Cond, u8, &'a [Lexeme]), ParseFault>
+    requires { length reads.now ≤ 16 }
+    ensures gives { Gives (λ x. (x.0, x.1, x.2.now)) result (compare_by (expr_at reads.now depth) nodes tokens.now) }
+    ensures few { IfOk result (λ x. x.1 ≤ 64) }
+{
+    let (left, nodes, tokens) = expr_at(alloc, depth, nodes, reads, tokens)?;
+    let comparison = comparison_at(tokens)?;
+    let tokens = rest_of(tokens);
+    let (right, nodes, rest) =
+        closed_expr_at(alloc, Mark::CloseTest, depth, nodes, reads, tokens)?;
+    Ok((with_comparison(comparison, left, right), nodes, rest))
+}
+
+#[cycle(condition)]
+#[tactic(auto, using(crate::proofs::Depth::cond_at_is), unfolding(crate::specs::Reading::cond_by))]
+pub fn cond_at<'a>(
+    alloc: Global,
+    depth: u8,
+    nodes: u8,
+    reads: &[ObjectId],
+    tokens: &'a [Lexeme],
+) -> Result<(Cond, u8, &'a [Lexeme]), ParseFault>
+    requires { length reads.now ≤ 16 }
+    ensures gives { Gives (λ x. (x.0, x.1, x.2.now)) result (cond_at reads.now depth nodes tokens.now) }
+    ensures few { IfOk result (λ x. x.1 ≤ 64) }
+{
+    if is_at(tokens, Mark::OpenTest) {
+        let nodes = start(tokens, depth, nodes)?;
+        return compare_at(alloc, depth - 1, nodes, reads, rest_of(tokens));
+    }
+    if is_at(tokens, Mark::Open) {
+        let nodes = start(tokens, depth, nodes)?;
+        return join_at(alloc, depth - 1, nodes, reads, rest_of(tokens));
+    }
+    if is_at(tokens, Mark::Not) {
+        let nodes = start(tokens, depth, nodes)?;
+        return not_at(alloc, depth - 1, nodes, reads, rest_of(tokens));
+    }
+    Err(ParseFault::Text(unexpected(tokens)))
+}
+
+#[cycle(condition)]
+#[tactic(auto, unfolding(crate::specs::Reading::join_by))]
+fn join_at<'a>(
+    alloc: Global,
+    depth: u8,
+    nodes: u8,
+    reads: &[ObjectId],
+    tokens: &'a [Lexeme],
+) -> Result<(Cond, u8, &'a [Lexeme]), ParseFault>
+    requires { length reads.now ≤ 16 }
+    ensures gives { Gives (λ x. (x.0, x.1, x.2.now)) result (join_by (cond_at reads.now depth) nodes tokens.now) }
+    ensures few { IfOk result (λ x. x.1 ≤ 64) }
+{
+    let (left, nodes, tokens) = cond_at(alloc, depth, nodes, reads, tokens)?;
+    let joint = joint_at(tokens)?;
+    joined_at(alloc, joint, left, depth, nodes, reads, rest_of(tokens))
+}
+
+#[cycle(condition)]
+#[tactic(auto, unfolding(crate::specs::Reading::joined_by))]
+fn joined_at<'a>(
+    alloc: Global,
+    joint: Joint,
+    left: Cond,
+    depth: u8,
+    nodes: u8,
+    reads: &[ObjectId],
+    tokens: &'a [Lexeme],
+) -> Result<(Cond, u8, &'a [Lexeme]), ParseFault>
+    requires { length reads.now ≤ 16 }
+    ensures gives { Gives (λ x. (x.0, x.1, x.2.now)) result (joined_by (cond_at reads.now depth) joint left nodes tokens.now) }
+    ensures few { IfOk result (λ x. x.1 ≤ 64) }
+{
+    let (right, nodes, rest) = closed_cond_at(alloc, depth, nodes, reads, tokens)?;
+    Ok((with_joint(alloc, joint, left, right)?, nodes, rest))
+}
+
+/// A condition and a parenthesis behind it.
+#[cycle(condition)]
+#[tactic(auto, unfolding(crate::specs::Reading::closed_by))]
+fn closed_cond_at<'a>(
+    alloc: Global,
+    depth: u8,
+    nodes: u8,
+    reads: &[ObjectId],
+    tokens: &'a [Lexeme],
+) -> Result<(Cond, u8, &'a [Lexeme]), ParseFault>
+    requires { length reads.now ≤ 16 }
+    ensures gives { Gives (λ x. (x.0, x.1, x.2.now)) result (closed_by (cond_at reads.now depth) marks.Close nodes tokens.now) }
+    ensures few { IfOk result (λ x. x.1 ≤ 64) }
+{
+    let (cond, nodes, tokens) = cond_at(alloc, depth, nodes, reads, tokens)?;
+    let rest = expect(tokens, Mark::Close)?;
+    Ok((cond, nodes, rest))
+}
+
+#[cycle(condition)]
+#[tactic(auto, unfolding(crate::specs::Reading::not_by))]
+fn not_at<'a>(
+    alloc: Global,
+    depth: u8,
+    nodes: u8,
+    reads: &[ObjectId],
+    tokens: &'a [Lexeme],
+) -> Result<(Cond, u8, &'a [Lexeme]), ParseFault>
+    requires { length reads.now ≤ 16 }
+    ensures gives { Gives (λ x. (x.0, x.1, x.2.now)) result (not_by (cond_at reads.now depth) nodes tokens.now) }
+    ensures few { IfOk result (λ x. x.1 ≤ 64) }
+{
+    let (inner, nodes, rest) = cond_at(alloc, depth, nodes, reads, tokens)?;
+    Ok((Cond::Not(Boxed::new(alloc, inner)?), nodes, rest))
+}

@@ -1,0 +1,60 @@
+//! From a text to its action.
+
+ghost use Rattle.std.specs.Prelude.{◌≡◌, ◌≤◌, ◌<◌, ◌^◌, length, Ok};
+ghost use Rattle.sv_text.specs.Tokens.{tokens_of};
+ghost use Rattle.sv_text.specs.Reading.{Gives, body_at, reading};
+
+use crate::ParseFault;
+use crate::cursor::expect;
+use crate::header::{header_at, origin_at, writes_at};
+use crate::lexer::tokens;
+use crate::statement::block_at;
+use crate::token::{Lexeme, Mark};
+use std::alloc::Global;
+use sv_world::{Action, List, ObjectId, Stmt};
+
+/// The deepest that a node may stand, counted from the outermost statements.
+const DEPTH: u8 = 8;
+
+#[tactic(auto, unfolding(crate::specs::Reading::body_at))]
+fn body_at(
+    alloc: Global,
+    reads: &[ObjectId],
+    tokens: &[Lexeme],
+) -> Result<List<Stmt>, ParseFault>
+    requires { length reads.now ≤ 16 }
+    ensures { Gives (λ body. body) result (body_at reads.now tokens.now) }
+{
+    let (body, _, rest) = block_at(alloc, DEPTH, 0, reads, tokens)?;
+    let _ = expect(rest, Mark::End)?;
+    Ok(body)
+}
+
+#[tactic(auto, unfolding(crate::specs::Reading::reading))]
+fn action_at(alloc: Global, tokens: &[Lexeme]) -> Result<Action, ParseFault>
+    ensures { Gives (λ action. action) result (reading tokens.now) }
+{
+    let (reads, rest) = header_at(alloc, tokens)?;
+    let (mask, rest) = writes_at(&reads, rest)?;
+    let (origin, rest) = origin_at(rest)?;
+    let body = body_at(alloc, &reads, rest)?;
+    Ok(Action {
+        reads: List::from_vec(reads),
+        mask,
+        origin,
+        body,
+    })
+}
+
+/// The action that a text writes.
+///
+/// The text is a list of tokens: numbers, refs such as `@2.0` (object 2, attribute 0), words and signs. It is read from left to right,
+/// and refused at the first token that may not stand at its place; the end of the text counts as a token. At most 16 objects are read,
+/// and a body has at most 64 nodes, none of which has 8 nodes above it.
+pub fn parse_action(alloc: Global, text: &str) -> Result<Action, ParseFault>
+    requires { length text.now < 2 ^ 32 }
+    ensures { Gives (λ action. action) result (reading (tokens_of text.now)) }
+{
+    let lexemes = tokens(alloc, text.as_bytes())?;
+    action_at(alloc, &lexemes)
+}
