@@ -2,9 +2,17 @@
 #![tactic(auto)]
 
 mod act;
+mod first;
+mod first_act;
 mod opening;
 mod show;
 mod single;
 mod stub;
+#[cfg(test)]
+mod tests;
+mod top;
+mod words;
+
 
 pub use single::Single;
+pub use top::run;
