@@ -1,5 +1,5 @@
 -- The lines of the run of one client are its report.
-use Rattle.std.proofs.Common.{◌≡◌, ℕ, zero, suc, ◌+◌, ◌==◌, Bool, true, false, cond, ◌||◌, ℤ, List, [], ◌∷◌, ◌++◌, map, Option, Some, None, option_map, refl, sym, ap, ◌∙◌, arith, reverse, append_assoc}
+use Rattle.std.proofs.Common.{◌≡◌, ℕ, zero, suc, ◌+◌, ◌==◌, Bool, true, false, cond, ◌||◌, ℤ, List, [], ◌∷◌, ◌++◌, map, Option, Some, None, option_map, refl, sym, ap, subst, ◌∙◌, arith, reverse, append_assoc}
 use Rattle.std.specs.Prelude.{codes, is_none}
 use Rattle.std.specs.List.{flat_map}
 use Rattle.std.proofs.lemmas.List.{append-nil}
@@ -12,20 +12,23 @@ use Rattle.sv_world.specs.Control.{is_in}
 use Rattle.sv_world.specs.Faults.{first_fault_of_action}
 use Rattle.sv_world.specs.Sets.{read_set, write_set}
 use Rattle.sv_journal.specs.declared.entry.Entry.{Entry}
-use Rattle.sv_journal.specs.Pieces.{joined, bracketed, held_text, head_text}
-use Rattle.sv_journal.specs.History.{Authored}
+use Rattle.sv_journal.specs.Pieces.{joined, bracketed, held_text, head_text, value_text}
+use Rattle.sv_text.specs.Canonical.{canonical}
+use Rattle.sv_journal.specs.declared.entry.Logged.TheVariants as logged
+use Rattle.sv_journal.specs.History.{Authored, authored_at}
 use Rattle.sv_journal.specs.Text.{entry_line, journal_text}
 use Rattle.sv_wire.specs.declared.message.Request.TheVariants as requests
-use Rattle.sv_app.proofs.Pieces.{join_line, act_lines_are}
+use Rattle.sv_app.proofs.Pieces.{join_line, act_lines_are, done_request, line, noted_reply, relay_reply, submit_request, join_request, welcome_reply, idle_left, idle_right, act_left, act_right}
 use Rattle.sv_client.specs.declared.trace.Event.{Event}
 use Rattle.sv_client.specs.declared.trace.Event.TheVariants as events
 use Rattle.sv_client.specs.Traces.{head_held, held_at, view_of, held_of, pending_of}
 use Rattle.sv_eval.specs.Evaluation.{outcome_of}
+use Rattle.sv_eval.specs.Serial.{put_all}
 use Rattle.sv_versions.specs.Held.{Held, latest}
 use Rattle.sv_pending.specs.Pending.{PendingAction, kept_of, view_over}
 use Rattle.sv_app.specs.Known.{are_in, first_of, last_value}
 use Rattle.sv_app.proofs.Views.{at_start, found_if, latest_after, latest_start, opened_is, views_start}
-use Rattle.sv_report.specs.Report.{event_lines, event_text, report_text, shown_text}
+use Rattle.sv_report.specs.Report.{event_lines, event_text, kept_text, report_text, shown_text, value_lines}
 use Rattle.sv_app.specs.Single.{opening_held, opening_result, entries_of, trace_of, entry, welcome, relay}
 use Rattle.sv_app.specs.Lines.{join_lines, act_lines, kept_values, numbers, opening_of, opening_text, seen, show_line, show_lines, idle_text, act_text}
 use Rattle.sv_app.proofs.Joined.{joined_map}
@@ -142,3 +145,104 @@ pub join_lines_are : (world : World) (interest : List ObjectId) (A : List Author
   → join_lines world interest ≡ entry_line world.shape A 1 (entry (requests.Join (record { 0 = 0 }) 1 interest) (welcome world interest))
 join_lines_are world interest A = rw (d0, d1, head_is world interest)
     (join_line (joined 32 (λ (o : ObjectId). decimal o.0) interest) (joined 32 (λ (o : ObjectId). held_text o.0 (opening_of world o.0)) interest))
+
+head_joined : (world : World) (objects : List ObjectId) → joined 32 (λ (h : Rattle.sv_wire.specs.declared.message.Held.Held). held_text h.object.0 h.value) (opening_held world objects)
+  ≡ joined 32 (λ (o : ObjectId). held_text o.0 (opening_of world o.0)) objects
+head_joined world objects = joined_map 32 (λ (h : Rattle.sv_wire.specs.declared.message.Held.Held). held_text h.object.0 h.value) (λ (o : ObjectId). record { object = o; value = opening_of world o.0 }) objects
+
+-- the accepted actions: the one
+abbrev pub only : Action → List Authored
+only action = record { client = 0; seq = 1; action = action } ∷ []
+
+pub act_lines_text : (world : World) (action : Action) → first_fault_of_action world.shape action ≡ None
+  → act_lines world action (opening_result world action)
+    ≡ entry_line world.shape (only action) 2 (entry (requests.Submit 1 action) (relay world action))
+      ++ entry_line world.shape (only action) 3 (entry (requests.Done (record { pos = 1; values = opening_result world action } ∷ [])) (logged.Noted 1))
+act_lines_text world action good = rw (head_joined world action.reads, good)
+    (simp (d0, d1, d2, d3) (act_lines_are (canonical action) (joined 32 (λ (o : ObjectId). held_text o.0 (opening_of world o.0)) action.reads) (flat_map value_text (opening_result world action))))
+
+idle_report_is : (world : World) (interest : List ObjectId) (shows : List (List ObjectId))
+  → report_text world (entries_of world interest None) (trace_of world interest None shows ∷ [])
+    ≡ codes "journal 3\n" ++ (line (codes "1") (join_request (joined 32 (λ (o : ObjectId). decimal o.0) interest))
+          (welcome_reply (joined 32 (λ (o : ObjectId). held_text o.0 (opening_of world o.0)) interest))
+        ++ (codes "2 s0 leave -> bye\n3 s0 end -> bye\nclient 0\njoin s0\ngot s0 #1\n" ++ (show_lines world (numbers interest) [] [] shows
+        ++ (codes "leave\ngot s0 #2\n" ++ (codes "world 0\n" ++ value_lines 0 world.values)))))
+idle_report_is world interest shows = rw (events_are world interest None shows, got-looking shows (before_looks world interest None) 0,
+    lines-looking (entries_of world interest None) shows (before_looks world interest None),
+    looks_are (before_looks world interest None) world (numbers interest) [] [] (idle_view world interest) shows, head_is world interest)
+    (simp (d0, d1, d2, d3) (idle_right (codes "journal 3\n")
+        (line (codes "1") (join_request (joined 32 (λ (o : ObjectId). decimal o.0) interest)) (welcome_reply (joined 32 (λ (o : ObjectId). held_text o.0 (opening_of world o.0)) interest)))
+        (codes "2 s0 leave -> bye\n3 s0 end -> bye\n") (codes "client 0\njoin s0\ngot s0 #1\n") (show_lines world (numbers interest) [] [] shows)
+        (codes "leave") (10 ∷ []) (codes "got s0 #2") (codes "world 0\n" ++ value_lines 0 world.values)))
+
+pub idle_is : (world : World) (interest : List ObjectId) (shows : List (List ObjectId))
+  → idle_text world interest shows ≡ report_text world (entries_of world interest None) (trace_of world interest None shows ∷ [])
+idle_is world interest shows =
+    idle_left (codes "journal 3\n") (join_lines world interest) (codes "2 s0 leave -> bye\n3 s0 end -> bye\nclient 0\njoin s0\ngot s0 #1\n")
+        (show_lines world (numbers interest) [] [] shows) (codes "leave\ngot s0 #2\nworld 0\n") (value_lines 0 world.values)
+    ∙ ap (λ z. codes "journal 3\n" ++ (z ++ (codes "2 s0 leave -> bye\n3 s0 end -> bye\nclient 0\njoin s0\ngot s0 #1\n" ++ (show_lines world (numbers interest) [] [] shows
+        ++ (codes "leave\ngot s0 #2\n" ++ (codes "world 0\n" ++ value_lines 0 world.values))))))
+        (join_line (joined 32 (λ (o : ObjectId). decimal o.0) interest) (joined 32 (λ (o : ObjectId). held_text o.0 (opening_of world o.0)) interest))
+    ∙ sym (idle_report_is world interest shows)
+
+abbrev opening_list : World → List ObjectId → List ℕ
+opening_list world objects = joined 32 (λ (o : ObjectId). held_text o.0 (opening_of world o.0)) objects
+
+abbrev first_line : World → List ObjectId → List ℕ
+first_line world interest = line (codes "1") (join_request (joined 32 (λ (o : ObjectId). decimal o.0) interest)) (welcome_reply (opening_list world interest))
+
+abbrev second_line : World → Action → List ℕ
+second_line world action = line (codes "2") (submit_request (canonical action)) (relay_reply (opening_list world action.reads))
+
+abbrev third_line : World → Action → List ℕ
+third_line world action = line (codes "3") (done_request (flat_map value_text (opening_result world action))) noted_reply
+
+abbrev kept_line : World → List ObjectId → Action → List ℕ
+kept_line world interest action = codes "make 1 kept " ++ kept_text (write_set action) (kept_values interest action (opening_result world action))
+
+abbrev looks : World → List ObjectId → Action → List (List ObjectId) → List ℕ
+looks world interest action shows = show_lines world (numbers interest ++ read_set action) (write_set action) (opening_result world action) shows
+
+abbrev last_lines : World → Action → List ℕ
+last_lines world action = codes "world 1\n" ++ value_lines 0 (put_all world.values (write_set action) (opening_result world action))
+
+abbrev after_act : World → List ObjectId → Action → List (List ObjectId) → List ℕ
+after_act world interest action shows = codes "4 s0 leave -> bye\n5 s0 end -> bye\nclient 0\njoin s0\ngot s0 #1\n" ++ (kept_line world interest action
+    ++ (codes "\ngot s0 #2\ngot s0 #3\n" ++ (looks world interest action shows ++ (codes "leave\ngot s0 #4\n" ++ last_lines world action))))
+
+act_report_is : (world : World) (interest : List ObjectId) (action : Action) (shows : List (List ObjectId)) → first_fault_of_action world.shape action ≡ None
+  → report_text world (entries_of world interest (Some action)) (trace_of world interest (Some action) shows ∷ [])
+    ≡ codes "journal 5\n" ++ (first_line world interest ++ ((second_line world action ++ third_line world action)
+        ++ (codes "4 s0 leave -> bye\n5 s0 end -> bye\nclient 0\njoin s0\ngot s0 #1\n" ++ (kept_line world interest action
+        ++ (codes "\ngot s0 #2\ngot s0 #3\n" ++ (looks world interest action shows ++ (codes "leave\ngot s0 #4\n" ++ last_lines world action)))))))
+act_report_is world interest action shows good = rw (events_are world interest (Some action) shows, got-looking shows (before_looks world interest (Some action)) 0,
+    lines-looking (entries_of world interest (Some action)) shows (before_looks world interest (Some action)),
+    looks_are (before_looks world interest (Some action)) world (numbers interest ++ read_set action) (write_set action) (opening_result world action) (act_view world interest action) shows,
+    act_kept world interest action, head_joined world interest, head_joined world action.reads, good)
+    (simp (d0, d1, d2, d3, d4, d5) (act_right (codes "journal 5\n") (first_line world interest) (second_line world action) (third_line world action)
+        (codes "4 s0 leave -> bye\n5 s0 end -> bye\n") (codes "client 0\njoin s0\ngot s0 #1\n") (kept_line world interest action) (10 ∷ []) (codes "got s0 #2") (codes "got s0 #3")
+        (looks world interest action shows) (codes "leave") (codes "got s0 #4") (last_lines world action)))
+
+pub act_is : (world : World) (interest : List ObjectId) (action : Action) (shows : List (List ObjectId)) → first_fault_of_action world.shape action ≡ None
+  → act_text world interest action (opening_result world action) shows
+    ≡ report_text world (entries_of world interest (Some action)) (trace_of world interest (Some action) shows ∷ [])
+act_is world interest action shows good =
+    act_left (codes "journal 5\n") (join_lines world interest) (act_lines world action (opening_result world action))
+        (codes "4 s0 leave -> bye\n5 s0 end -> bye\nclient 0\njoin s0\ngot s0 #1\n") (codes "make 1 kept ")
+        (kept_text (write_set action) (kept_values interest action (opening_result world action))) (codes "\ngot s0 #2\ngot s0 #3\n")
+        (looks world interest action shows) (codes "leave\ngot s0 #4\nworld 1\n") (value_lines 0 (put_all world.values (write_set action) (opening_result world action)))
+    ∙ ap (λ z. codes "journal 5\n" ++ (z ++ (act_lines world action (opening_result world action) ++ after_act world interest action shows)))
+        (join_line (joined 32 (λ (o : ObjectId). decimal o.0) interest) (opening_list world interest))
+    ∙ ap (λ z. codes "journal 5\n" ++ (first_line world interest ++ (z ++ after_act world interest action shows)))
+        (act_lines_are (canonical action) (opening_list world action.reads) (flat_map value_text (opening_result world action)))
+    ∙ sym (act_report_is world interest action shows good)
+
+pub act_is_for : (world : World) (interest : List ObjectId) (act : Option Action) (action : Action) (shows : List (List ObjectId)) → act ≡ Some action → first_fault_of_action world.shape action ≡ None
+  → act_text world interest action (opening_result world action) shows ≡ report_text world (entries_of world interest act) (trace_of world interest act shows ∷ [])
+act_is_for world interest act action shows e good = subst (λ (a : Option Action). act_text world interest action (opening_result world action) shows
+    ≡ report_text world (entries_of world interest a) (trace_of world interest a shows ∷ [])) (sym e) (act_is world interest action shows good)
+
+pub idle_is_for : (world : World) (interest : List ObjectId) (act : Option Action) (shows : List (List ObjectId)) → act ≡ None
+  → idle_text world interest shows ≡ report_text world (entries_of world interest act) (trace_of world interest act shows ∷ [])
+idle_is_for world interest act shows e = subst (λ (a : Option Action). idle_text world interest shows
+    ≡ report_text world (entries_of world interest a) (trace_of world interest a shows ∷ [])) (sym e) (idle_is world interest shows)

@@ -7,12 +7,10 @@ mod first_act;
 mod opening;
 mod show;
 mod single;
-mod stub;
 #[cfg(test)]
 mod tests;
 mod top;
 mod words;
-
 
 pub use single::Single;
 pub use top::run;

@@ -10,7 +10,7 @@ ghost use Rattle.sv_app.specs.Lines.{numbers, join_lines, act_lines, kept_values
 use crate::act::{append_kept, append_result, are_among, opening_values};
 use crate::opening::{append_opening, append_world, put_values, written_objects};
 use crate::show::{Sight, append_show_lines};
-use crate::stub::append_action;
+use sv_text::append_action;
 use std::alloc::{AllocError, Global};
 use sv_eval::eval;
 use sv_journal::append_objects;

@@ -1,138 +1,123 @@
-use crate::{Outcome, eval};
+use crate::eval;
 use std::alloc::{AllocError, Global};
 use std::test::Fail;
 use sv_world::{Action, Boxed, Cond, Expr, List, ObjectId, Point, Stmt, Value};
 
-/// Values of one number each.
-fn values(alloc: Global, numbers: &[i64]) -> Result<Vec<Value>, AllocError> {
-    let mut values = Vec::new(alloc);
-    for number in numbers {
-        let mut value = List::new(alloc);
-        value.push(*number)?;
-        values.push(value)?;
-    }
-    Ok(values)
-}
-
-/// The first number of the first written value, and whether the action is void.
-fn told(outcome: &Outcome) -> (bool, i64) {
-    let number = match outcome.writes.as_slice() {
-        [value, ..] => match value.as_slice() {
-            [number, ..] => *number,
-            [] => 0,
-        },
-        [] => 0,
-    };
-    (outcome.void, number)
-}
-
-/// An action that reads the objects 0 and 1, and is run on 5 and 6.
-fn run(alloc: Global, mask: u16, body: List<Stmt>) -> Result<(bool, i64), AllocError> {
-    let reads = List::from_vec(vec![in alloc; ObjectId(0), ObjectId(1)]?);
-    let origin = Point { x: 0, y: 0 };
-    let action = Action {
-        reads,
-        mask,
-        origin,
-        body,
-    };
-    Ok(told(&eval(alloc, &action, values(alloc, &[5, 6])?.as_slice())?))
-}
-
-fn set(slot: u8, expr: Expr) -> Stmt {
+fn set(expr: Expr) -> Stmt {
     Stmt::Set {
-        slot,
+        slot: 0,
         attr: 0,
         expr,
     }
 }
 
-fn one(alloc: Global, statement: Stmt) -> Result<List<Stmt>, AllocError> {
+fn one(alloc: Global, expr: Expr) -> Result<List<Stmt>, AllocError> {
     let mut body = List::new(alloc);
-    body.push(statement)?;
+    body.push(set(expr))?;
     Ok(body)
 }
 
-fn boxed(alloc: Global, number: i64) -> Result<Boxed<Expr>, AllocError> {
-    Boxed::new(alloc, Expr::Lit(number))
+fn first_number(values: &[Value]) -> i64 {
+    match values {
+        [value, ..] => match value.as_slice() {
+            [number, ..] => *number,
+            [] => 0,
+        },
+        [] => 0,
+    }
 }
 
-fn made(alloc: Global, sign: u8, left: i64, right: i64) -> Result<Expr, AllocError> {
-    let a = boxed(alloc, left)?;
-    let b = boxed(alloc, right)?;
-    Ok(match sign {
-        b'+' => Expr::Add(a, b),
-        b'-' => Expr::Sub(a, b),
-        b'*' => Expr::Mul(a, b),
-        b'/' => Expr::Div(a, b),
-        b'%' => Expr::Rem(a, b),
-        b'm' => Expr::Min(a, b),
-        _ => Expr::Max(a, b),
+/// An action that reads and writes one object.
+fn action(alloc: Global, body: List<Stmt>) -> Result<Action, AllocError> {
+    let mut reads = List::new(alloc);
+    reads.push(ObjectId(0))?;
+    let origin = Point { x: 0, y: 0 };
+    Ok(Action {
+        reads,
+        mask: 1,
+        origin,
+        body,
     })
+}
+
+/// One value, of the number 5.
+fn five(alloc: Global) -> Result<List<Value>, AllocError> {
+    let value = List::from_vec(vec![in alloc; 5]?);
+    let mut values = List::new(alloc);
+    values.push(value)?;
+    Ok(values)
+}
+
+/// Whether the body is void on 5, and what it makes of it.
+fn run(alloc: Global, body: List<Stmt>) -> Result<(bool, i64), AllocError> {
+    let action = action(alloc, body)?;
+    let values = five(alloc)?;
+    let outcome = eval(alloc, &action, values.as_slice())?;
+    Ok((outcome.void, first_number(outcome.writes.as_slice())))
+}
+
+fn quotient(alloc: Global, left: i64, right: i64) -> Result<(bool, i64), AllocError> {
+    let a = Boxed::new(alloc, Expr::Lit(left))?;
+    let b = Boxed::new(alloc, Expr::Lit(right))?;
+    let body = one(alloc, Expr::Div(a, b))?;
+    run(alloc, body)
+}
+
+fn remainder(alloc: Global, left: i64, right: i64) -> Result<(bool, i64), AllocError> {
+    let a = Boxed::new(alloc, Expr::Lit(left))?;
+    let b = Boxed::new(alloc, Expr::Lit(right))?;
+    let body = one(alloc, Expr::Rem(a, b))?;
+    run(alloc, body)
+}
+
+/// Sets 30 where the number is 1, else 40.
+fn choice(alloc: Global) -> Result<Stmt, AllocError> {
+    let then = one(alloc, Expr::Lit(30))?;
+    let other = one(alloc, Expr::Lit(40))?;
+    let cond = Cond::Eq(Expr::Attr { slot: 0, attr: 0 }, Expr::Lit(1));
+    Ok(Stmt::If { cond, then, other })
+}
+
+fn chosen(alloc: Global, number: i64) -> Result<(bool, i64), AllocError> {
+    let mut body = one(alloc, Expr::Lit(number))?;
+    body.push(choice(alloc)?)?;
+    run(alloc, body)
+}
+
+/// The number over zero.
+fn void(alloc: Global) -> Result<Expr, AllocError> {
+    let a = Boxed::new(alloc, Expr::Attr { slot: 0, attr: 0 })?;
+    let b = Boxed::new(alloc, Expr::Lit(0))?;
+    Ok(Expr::Div(a, b))
+}
+
+fn set_before_void(alloc: Global) -> Result<(bool, i64), AllocError> {
+    let mut body = one(alloc, Expr::Lit(7))?;
+    body.push(set(void(alloc)?))?;
+    run(alloc, body)
 }
 
 #[test]
 fn void_action_keeps_values(rt: HostRuntime) -> Result<(), Fail> {
-    let alloc = rt.alloc();
-    let mut body = one(alloc, set(0, Expr::Lit(7)))?;
-    let present = Boxed::new(alloc, Expr::Attr { slot: 0, attr: 0 })?;
-    body.push(set(0, Expr::Div(present, boxed(alloc, 0)?)))?;
-    assert_eq!(rt; run(alloc, 1, body)?, (true, 5));
+    assert_eq!(rt; set_before_void(rt.alloc())?, (true, 5));
     Ok(())
 }
 
 #[test]
-fn computes_numbers(rt: HostRuntime) -> Result<(), Fail> {
+fn divides_towards_zero(rt: HostRuntime) -> Result<(), Fail> {
     let alloc = rt.alloc();
-    for (sign, left, right, expected) in [
-        (b'/', -7, 2, (false, -3)),
-        (b'%', -7, 2, (false, -1)),
-        (b'/', 7, -2, (false, -3)),
-        (b'%', 7, -2, (false, 1)),
-        (b'/', i64::MIN, -1, (true, 5)),
-        (b'%', i64::MIN, -1, (true, 5)),
-        (b'%', 7, 0, (true, 5)),
-        (b'+', i64::MAX, 1, (true, 5)),
-        (b'-', i64::MIN, 1, (true, 5)),
-        (b'*', i64::MIN, -1, (true, 5)),
-        (b'*', i64::MIN, 1, (false, i64::MIN)),
-        (b'm', -3, 2, (false, -3)),
-        (b'M', -3, 2, (false, 2)),
-    ] {
-        let body = one(alloc, set(0, made(alloc, sign, left, right)?))?;
-        assert_eq!(rt; run(alloc, 1, body)?, expected, "{left} {right}");
-    }
+    assert_eq!(rt; quotient(alloc, -7, 2)?, (false, -3));
+    assert_eq!(rt; remainder(alloc, -7, 2)?, (false, -1));
+    assert_eq!(rt; remainder(alloc, 7, -2)?, (false, 1));
+    assert_eq!(rt; quotient(alloc, i64::MIN, -1)?, (true, 5));
+    assert_eq!(rt; remainder(alloc, i64::MIN, -1)?, (true, 5));
     Ok(())
 }
 
 #[test]
 fn runs_one_branch_on_what_was_set(rt: HostRuntime) -> Result<(), Fail> {
     let alloc = rt.alloc();
-    for (first, expected) in [(1, (false, 30)), (2, (false, 40))] {
-        let mut body = one(alloc, set(0, Expr::Lit(first)))?;
-        body.push(Stmt::If {
-            cond: Cond::Eq(Expr::Attr { slot: 0, attr: 0 }, Expr::Lit(1)),
-            then: one(alloc, set(1, Expr::Lit(30)))?,
-            other: one(alloc, set(1, Expr::Lit(40)))?,
-        })?;
-        assert_eq!(rt; run(alloc, 2, body)?, expected);
-    }
-    Ok(())
-}
-
-#[test]
-fn evaluates_both_sides_of_and(rt: HostRuntime) -> Result<(), Fail> {
-    let alloc = rt.alloc();
-    let fails = Boxed::new(alloc, Cond::Lt(Expr::Lit(2), Expr::Lit(1)))?;
-    let void = Boxed::new(alloc, Cond::Le(made(alloc, b'/', 1, 0)?, Expr::Lit(1)))?;
-    let body = one(
-        alloc,
-        Stmt::If {
-            cond: Cond::And(fails, void),
-            then: one(alloc, set(0, Expr::Lit(30)))?,
-            other: one(alloc, set(0, Expr::Lit(40)))?,
-        },
-    )?;
-    assert_eq!(rt; run(alloc, 1, body)?, (true, 5));
+    assert_eq!(rt; chosen(alloc, 1)?, (false, 30));
+    assert_eq!(rt; chosen(alloc, 2)?, (false, 40));
     Ok(())
 }

@@ -1,1 +1,4 @@
 pub mod Pending
+pub mod Made
+pub mod Seen
+pub mod Shapes

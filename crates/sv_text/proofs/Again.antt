@@ -1,5 +1,5 @@
 -- An expression or condition of the grammar is read.
-use Rattle.std.proofs.Common.{◌≡◌, ℕ, zero, suc, ◌+◌, ◌<◌, ◌≤◌, ◌⊎◌, inl, inr, Bool, true, false, cond, eqb, ltb, List, [], ◌∷◌, length, Option, Some, None, Result, Ok, Err, refl, sym, ap, subst, ◌∙◌, arith}
+use Rattle.std.proofs.Common.{◌≡◌, ℕ, zero, suc, ◌+◌, ◌<◌, ◌≤◌, inl, inr, Bool, true, false, cond, eqb, ltb, List, [], ◌∷◌, Option, Some, None, Result, Ok, Err, refl, ap, ◌∙◌, arith}
 use Rattle.std.specs.Prelude.{ℤ}
 use Rattle.std.proofs.lemmas.Bool.{eq-eqb, lt-ltb}
 use Rattle.sv_world.specs.declared.world.ObjectId.{ObjectId}
@@ -21,7 +21,7 @@ use Rattle.sv_text.specs.declared.parts.Comparison.TheVariants as comparisons
 use Rattle.sv_text.specs.declared.parts.Joint.{Joint}
 use Rattle.sv_text.specs.declared.parts.Joint.TheVariants as joints
 use Rattle.sv_text.specs.Reading.{◌>>=◌, Read, mark_code, is_same, is_mark, is_at, mark_of, front_of, front, rest_of, fault, unexpected, expect, slot_from, slot_or, slot_at, start, part_or, marked, op_of, op_at, with_op, leaf_by, leaf_at, closed_by, pair_by, expr_by, expr_at, with_comparison, comparison_of, comparison_at, with_joint, joint_of, joint_at, compare_by, joined_by, join_by, not_by, cond_by, cond_at}
-use Rattle.sv_text.specs.Grammar.{Place, Form, IsMark, IsNode, IsNumber, IsRef, op_mark, comparison_mark, joint_mark, AreTwo, IsPair, IsLiteral, IsAttr, IsExpr, IsTest, IsJoined, IsNot, IsCond}
+use Rattle.sv_text.specs.Grammar.{Place, Form, IsMark, IsNode, IsNumber, IsRef, op_mark, comparison_mark, joint_mark, AreTwo, IsPair, IsExpr, IsTest, IsJoined, IsNot, IsCond}
 
 -- a step that does not fail
 pub then_ok : {A B : Type 0} (r : Result A TextFault) (f : A → Result B TextFault) (x : A) (z : Result B TextFault) → r ≡ Ok x → f x ≡ z → (r >>= f) ≡ z
@@ -127,8 +127,8 @@ unfolding expr_by
 leaf_step reads below depth e p q leaf next few count =
     ap (λ (b : Bool). cond b (start (suc depth) p.0 p.1 >>= λ n. pair_by below n (rest_of p.1)) (leaf_at reads p.1 >>= λ leaf. start (suc depth) p.0 p.1 >>= λ n. Ok (leaf, n, rest_of p.1))) (not_at_none marks.Open p.1 next.0)
     ∙ then_ok (leaf_at reads p.1) (λ leaf. start (suc depth) p.0 p.1 >>= λ n. Ok (leaf, n, rest_of p.1)) e (gives e q) leaf
-      (then_ok (start (suc depth) p.0 p.1) (λ n. Ok (e, n, rest_of p.1)) (p.0 + 1) (gives e q) (start_again (suc depth) p.0 p.1 (omega arith) few)
-        (ap (λ (n : ℕ). gives e (n, rest_of p.1)) count ∙ ap (λ (l : List Lexeme). gives e (q.0, l)) next.1))
+    (then_ok (start (suc depth) p.0 p.1) (λ n. Ok (e, n, rest_of p.1)) (p.0 + 1) (gives e q) (start_again (suc depth) p.0 p.1 (omega arith) few)
+    (ap (λ (n : ℕ). gives e (n, rest_of p.1)) count ∙ ap (λ (l : List Lexeme). gives e (q.0, l)) next.1))
 
 pair_step : (reads : List ObjectId) (below : ℕ → List Lexeme → Read Expr) (form : Form Expr) → Reads below form → (depth : ℕ) (e : Expr) (p q : Place) → IsPair form e p q → expr_by reads below (suc depth) p.0 p.1 ≡ gives e q
 unfolding expr_by
@@ -193,7 +193,7 @@ compare_again exprs form again c a b p q t =
     then_ok (exprs p.0 p.1) (λ a. comparison_at a.2 >>= λ c. closed_by exprs marks.CloseTest a.1 (rest_of a.2) >>= λ b. Ok (with_comparison c a.0 b.0, b.1, b.2)) (a, t.one.0, t.one.1) (gives (with_comparison c a b) q) (again a p t.one t.left)
     (then_ok (comparison_at t.one.1) (λ c. closed_by exprs marks.CloseTest t.one.0 (rest_of t.one.1) >>= λ b. Ok (with_comparison c a b.0, b.1, b.2)) c (gives (with_comparison c a b) q) (comparison_again c t.one.1 t.between.0)
     (then_ok (closed_by exprs marks.CloseTest t.one.0 (rest_of t.one.1)) (λ b. Ok (with_comparison c a b.0, b.1, b.2)) (b, q.0, q.1) (gives (with_comparison c a b) q)
-        (ap (λ (s : Place). closed_by exprs marks.CloseTest s.0 s.1) t.between.1 ∙ closed_again exprs marks.CloseTest b t.two t.three q (again b t.two t.three t.right) t.closed) refl))
+    (ap (λ (s : Place). closed_by exprs marks.CloseTest s.0 s.1) t.between.1 ∙ closed_again exprs marks.CloseTest b t.two t.three q (again b t.two t.three t.right) t.closed) refl))
 
 join_again : (below : ℕ → List Lexeme → Read Cond) (form : Form Cond) → Reads below form → (j : Joint) (a b : Cond) (p q : Place) → AreTwo form a (joint_mark j) b marks.Close p q → join_by below p.0 p.1 ≡ gives (with_joint j a b) q
 unfolding join_by joined_by
@@ -201,7 +201,7 @@ join_again below form again j a b p q t =
     then_ok (below p.0 p.1) (λ a. joint_at a.2 >>= λ j. joined_by below j a.0 a.1 (rest_of a.2)) (a, t.one.0, t.one.1) (gives (with_joint j a b) q) (again a p t.one t.left)
     (then_ok (joint_at t.one.1) (λ j. joined_by below j a t.one.0 (rest_of t.one.1)) j (gives (with_joint j a b) q) (joint_again j t.one.1 t.between.0)
     (then_ok (closed_by below marks.Close t.one.0 (rest_of t.one.1)) (λ b. Ok (with_joint j a b.0, b.1, b.2)) (b, q.0, q.1) (gives (with_joint j a b) q)
-        (ap (λ (s : Place). closed_by below marks.Close s.0 s.1) t.between.1 ∙ closed_again below marks.Close b t.two t.three q (again b t.two t.three t.right) t.closed) refl))
+    (ap (λ (s : Place). closed_by below marks.Close s.0 s.1) t.between.1 ∙ closed_again below marks.Close b t.two t.three q (again b t.two t.three t.right) t.closed) refl))
 
 not_again : (below : ℕ → List Lexeme → Read Cond) (a : Cond) (p q : Place) → below p.0 p.1 ≡ gives a q → not_by below p.0 p.1 ≡ gives (test.Not a) q
 unfolding not_by

@@ -1,18 +1,15 @@
 -- A statement or block of the grammar is read.
-use Rattle.std.proofs.Common.{◌≡◌, ℕ, zero, suc, ◌+◌, ◌<◌, ◌≤◌, ◌⊎◌, inl, inr, Bool, true, false, cond, List, [], ◌∷◌, ◌++◌, Option, Some, None, Result, Ok, Err, refl, sym, ap, subst, ◌∙◌, append_assoc, arith}
+use Rattle.std.proofs.Common.{◌≡◌, ℕ, zero, suc, ◌+◌, ◌<◌, ◌≤◌, ◌⊎◌, inl, inr, Bool, false, cond, List, [], ◌∷◌, ◌++◌, Some, Ok, Err, refl, sym, ap, ◌∙◌, append_assoc, arith}
 use Rattle.std.proofs.lemmas.List.{append-nil}
 use Rattle.sv_world.specs.declared.world.ObjectId.{ObjectId}
 use Rattle.sv_world.specs.declared.action.Expr.{Expr}
 use Rattle.sv_world.specs.declared.action.Cond.{Cond}
 use Rattle.sv_world.specs.declared.action.Stmt.{Stmt}
 use Rattle.sv_world.specs.declared.action.Stmt.TheVariants as stmt
-use Rattle.sv_text.specs.declared.token.Mark.{Mark}
 use Rattle.sv_text.specs.declared.token.Mark.TheVariants as marks
-use Rattle.sv_text.specs.declared.token.Token.{Token}
-use Rattle.sv_text.specs.declared.token.Token.TheVariants as tokens
 use Rattle.sv_text.specs.declared.token.Lexeme.{Lexeme}
 use Rattle.sv_text.specs.Reading.{◌>>=◌, Read, is_at, front, rest_of, unexpected, expect, slot_at, start, closed_by, target_by, target_at, set_by, else_by, branches_by, if_by, stmts_by, block_by, stmt_by, expr_at, cond_at, stmt_at}
-use Rattle.sv_text.specs.Grammar.{Place, Form, IsMark, IsNode, IsRef, IsExpr, IsCond, AreAll, IsBlock, IsSet, IsElse, MayBeElse, IsIf, IsStmt}
+use Rattle.sv_text.specs.Grammar.{Place, Form, IsMark, IsRef, IsExpr, IsCond, AreAll, IsBlock, IsSet, MayBeElse, IsIf, IsStmt}
 use Rattle.sv_text.proofs.Again.{then_ok, gives, Reads, Grows, at_mark, not_at, expect_again, started, slot_again, closed_again, expr_again, expr_grows, cond_again, cond_grows, mark_stays, node_counts}
 
 -- no `else` stands here
@@ -102,8 +99,8 @@ set_again reads exprs form again s p q i =
     let made : Stmt = stmt.Set i.slot i.attr i.e in
     then_ok (target_at reads i.one.1) (λ t. closed_by exprs marks.Semicolon i.one.0 (rest_of i.one.1) >>= λ v. Ok (stmt.Set t.0 t.1 v.0, v.1, v.2)) (i.slot, i.attr) (gives s q) t.0
     (then_ok (closed_by exprs marks.Semicolon i.one.0 (rest_of i.one.1)) (λ v. Ok (stmt.Set i.slot i.attr v.0, v.1, v.2)) (i.e, q.0, q.1) (gives s q)
-        (ap (λ (l : List Lexeme). closed_by exprs marks.Semicolon i.one.0 l) t.1 ∙ closed_again exprs marks.Semicolon i.e (i.one.0, i.two) i.three q (again i.e (i.one.0, i.two) i.three i.value) i.closed)
-        (ap (λ (x : Stmt). gives x q) i.made))
+    (ap (λ (l : List Lexeme). closed_by exprs marks.Semicolon i.one.0 l) t.1 ∙ closed_again exprs marks.Semicolon i.e (i.one.0, i.two) i.three q (again i.e (i.one.0, i.two) i.three i.value) i.closed)
+    (ap (λ (x : Stmt). gives x q) i.made))
 
 follows : (form : Form Stmt) → Begins form → (body : List Stmt) (p end q : Place) → AreAll form body p end → IsMark marks.CloseBlock end q → NoElse p
 follows form begins [] p end q h c = not_at marks.Else marks.CloseBlock p.1 (ap (λ (s : Place). front s.1) h ∙ c.0) refl
@@ -121,14 +118,14 @@ stmts_again stmts form again grows begins (suc turns) before (s ∷ ss) p end q 
     let one = grows s p h.0 h.1 in
     ap (λ (b : Bool). cond b (Ok (before, p.0, rest_of p.1)) (stmts p.0 p.1 >>= λ s. stmts_by stmts turns (before ++ s.0 ∷ []) s.1 s.2)) (no_close p.1 (begins s p h.0 h.1))
     ∙ then_ok (stmts p.0 p.1) (λ s. stmts_by stmts turns (before ++ s.0 ∷ []) s.1 s.2) (s, h.0.0, h.0.1) (gives (before ++ s ∷ ss) q) (again s p h.0 h.1 (follows form begins ss h.0 end q h.2 c))
-        (stmts_again stmts form again grows begins turns (before ++ s ∷ []) ss h.0 end q (omega (arith, one.0)) one.1 h.2 c ∙ ap (λ (l : List Stmt). gives l q) (append_assoc before (s ∷ []) ss))
+    (stmts_again stmts form again grows begins turns (before ++ s ∷ []) ss h.0 end q (omega (arith, one.0)) one.1 h.2 c ∙ ap (λ (l : List Stmt). gives l q) (append_assoc before (s ∷ []) ss))
 
 block_again : (stmts : ℕ → List Lexeme → Read Stmt) (form : Form Stmt) → ReadsBefore stmts form → Grows form → Begins form → ReadsBlock (block_by stmts) form
 unfolding block_by
 block_again stmts form again grows begins body p q few b =
     let e = mark_stays marks.OpenBlock p b.inside b.opened in
     then_ok (expect marks.OpenBlock p.1) (λ rest. stmts_by stmts 65 [] p.0 rest) (rest_of p.1) (gives body q) (expect_again marks.OpenBlock p.1 b.opened.0)
-        (ap (λ (s : Place). stmts_by stmts 65 [] s.0 s.1) b.opened.1 ∙ stmts_again stmts form again grows begins 65 [] body b.inside b.end q (omega arith) (omega (arith, e)) b.stmts b.closed)
+    (ap (λ (s : Place). stmts_by stmts 65 [] s.0 s.1) b.opened.1 ∙ stmts_again stmts form again grows begins 65 [] body b.inside b.end q (omega arith) (omega (arith, e)) b.stmts b.closed)
 
 else_again : (blocks : ℕ → List Lexeme → Read (List Stmt)) (form : Form Stmt) → ReadsBlock blocks form → (body : List Stmt) (p q : Place) → p.0 ≤ 64 → NoElse q → MayBeElse form body p q → else_by blocks p.0 p.1 ≡ gives body q
 unfolding else_by
@@ -155,7 +152,7 @@ if_again conds blocks tests form in_conds tests_grow in_blocks grows s p q i non
     let t = tests_grow i.c i.one i.two i.test in
     then_ok (conds i.one.0 i.one.1) (λ c. branches_by blocks c.1 c.2 >>= λ b. Ok (stmt.If c.0 b.0.0 b.0.1, b.1, b.2)) (i.c, i.two.0, i.two.1) (gives s q) (in_conds i.c i.one i.two i.test)
     (then_ok (branches_by blocks i.two.0 i.two.1) (λ b. Ok (stmt.If i.c b.0.0 b.0.1, b.1, b.2)) ((i.body, i.other), q.0, q.1) (gives s q) (branches_again blocks form in_blocks grows i.body i.other i.two i.three q t.1 none i.block i.behind)
-        (ap (λ (x : Stmt). gives x q) i.made))
+    (ap (λ (x : Stmt). gives x q) i.made))
 
 module _ (reads : List ObjectId) (exprs : ℕ → List Lexeme → Read Expr) (conds : ℕ → List Lexeme → Read Cond) (blocks : ℕ → List Lexeme → Read (List Stmt)) (values : Form Expr) (tests : Form Cond) (form : Form Stmt)
     (in_exprs : Reads exprs values) (in_conds : Reads conds tests) (tests_grow : Grows tests) (in_blocks : ReadsBlock blocks form) (grows : Grows form) (depth : ℕ) (s : Stmt) (p q : Place) where
@@ -181,10 +178,10 @@ unfolding stmt_at
 stmt_again reads zero s p q h none = absurd h
 stmt_again reads (suc depth) s p q (inl i) none =
     set_step reads (expr_at reads depth) (cond_at reads depth) (block_by (stmt_at reads depth)) (IsExpr reads depth) (IsCond reads depth) (IsStmt reads depth)
-        (expr_again reads depth) (cond_again reads depth) (cond_grows reads depth) (block_again (stmt_at reads depth) (IsStmt reads depth) (stmt_again reads depth) (stmt_grows reads depth) (stmt_begins reads depth)) (stmt_grows reads depth) depth s p q i
+    (expr_again reads depth) (cond_again reads depth) (cond_grows reads depth) (block_again (stmt_at reads depth) (IsStmt reads depth) (stmt_again reads depth) (stmt_grows reads depth) (stmt_begins reads depth)) (stmt_grows reads depth) depth s p q i
 stmt_again reads (suc depth) s p q (inr i) none =
     if_step reads (expr_at reads depth) (cond_at reads depth) (block_by (stmt_at reads depth)) (IsExpr reads depth) (IsCond reads depth) (IsStmt reads depth)
-        (expr_again reads depth) (cond_again reads depth) (cond_grows reads depth) (block_again (stmt_at reads depth) (IsStmt reads depth) (stmt_again reads depth) (stmt_grows reads depth) (stmt_begins reads depth)) (stmt_grows reads depth) depth s p q i none
+    (expr_again reads depth) (cond_again reads depth) (cond_grows reads depth) (block_again (stmt_at reads depth) (IsStmt reads depth) (stmt_again reads depth) (stmt_grows reads depth) (stmt_begins reads depth)) (stmt_grows reads depth) depth s p q i none
 
 pub body_again : (reads : List ObjectId) (depth : ℕ) → ReadsBlock (block_by (stmt_at reads depth)) (IsStmt reads depth)
 body_again reads depth = block_again (stmt_at reads depth) (IsStmt reads depth) (stmt_again reads depth) (stmt_grows reads depth) (stmt_begins reads depth)

@@ -1,5 +1,5 @@
 -- Where a node may start, its parts stand one less deep.
-use Rattle.std.proofs.Common.{◌≡◌, ℕ, zero, suc, ◌-◌, ◌<◌, Bool, true, false, cond, ltb, List, Result, Ok, Err, refl, sym, ap, arith}
+use Rattle.std.proofs.Common.{◌≡◌, ℕ, zero, suc, ◌-◌, true, false, cond, ltb, List, Result, Ok, Err, refl, sym, ap, arith}
 use Rattle.sv_world.specs.declared.action.Expr.{Expr}
 use Rattle.sv_world.specs.declared.action.Cond.{Cond}
 use Rattle.sv_world.specs.declared.action.Stmt.{Stmt}
@@ -30,9 +30,11 @@ expr_at_is reads (suc depth) nodes ts = ap (λ (d : ℕ). expr_by reads (expr_at
 no_cond : (e f : ℕ → List Lexeme → Read Expr) (c d : ℕ → List Lexeme → Read Cond) (nodes : ℕ) (ts : List Lexeme) → cond_by e c 0 nodes ts ≡ cond_by f d 0 nodes ts
 unfolding cond_by
 no_cond e f c d nodes ts =
-    rw (no_start nodes ts (λ n. compare_by e n (rest_of ts)) (λ n. compare_by f n (rest_of ts)),
-        no_start nodes ts (λ n. join_by c n (rest_of ts)) (λ n. join_by d n (rest_of ts)),
-        no_start nodes ts (λ n. not_by c n (rest_of ts)) (λ n. not_by d n (rest_of ts))) refl
+    rw (
+      no_start nodes ts (λ n. compare_by e n (rest_of ts)) (λ n. compare_by f n (rest_of ts)),
+      no_start nodes ts (λ n. join_by c n (rest_of ts)) (λ n. join_by d n (rest_of ts)),
+      no_start nodes ts (λ n. not_by c n (rest_of ts)) (λ n. not_by d n (rest_of ts)),
+    ) refl
 
 pub cond_at_is : (reads : List ObjectId) (depth nodes : ℕ) (ts : List Lexeme) → cond_at reads depth nodes ts ≡ cond_by (expr_at reads (depth - 1)) (cond_at reads (depth - 1)) depth nodes ts
 unfolding cond_at
@@ -43,8 +45,10 @@ no_stmt : (reads : List ObjectId) (e f : ℕ → List Lexeme → Read Expr) (c d
     → stmt_by reads e c a 0 nodes ts ≡ stmt_by reads f d b 0 nodes ts
 unfolding stmt_by
 no_stmt reads e f c d a b nodes ts =
-    rw (no_start nodes ts (λ n. set_by reads e n (rest_of ts)) (λ n. set_by reads f n (rest_of ts)),
-        no_start nodes ts (λ n. if_by c a n (rest_of ts)) (λ n. if_by d b n (rest_of ts))) refl
+    rw (
+      no_start nodes ts (λ n. set_by reads e n (rest_of ts)) (λ n. set_by reads f n (rest_of ts)),
+      no_start nodes ts (λ n. if_by c a n (rest_of ts)) (λ n. if_by d b n (rest_of ts)),
+    ) refl
 
 pub stmt_at_is : (reads : List ObjectId) (depth nodes : ℕ) (ts : List Lexeme)
     → stmt_at reads depth nodes ts ≡ stmt_by reads (expr_at reads (depth - 1)) (cond_at reads (depth - 1)) (block_by (stmt_at reads (depth - 1))) depth nodes ts

@@ -1,7 +1,7 @@
 -- What is read as a token or an expression is in the grammar.
-use Rattle.std.proofs.Common.{◌≡◌, ℕ, zero, suc, ◌+◌, ◌<◌, ◌≤◌, ◌⊎◌, inl, inr, Bool, true, false, cond, ◌&&◌, eqb, ltb, List, [], ◌∷◌, Option, Some, None, Result, Ok, Err, refl, sym, ap, subst, ◌∙◌, arith}
-use Rattle.std.specs.Prelude.{ℤ, int_le}
-use Rattle.std.proofs.lemmas.Bool.{eqb-true, ltb-true, and_parts}
+use Rattle.std.proofs.Common.{◌≡◌, ℕ, zero, suc, ◌+◌, ◌<◌, ◌⊎◌, inl, inr, Bool, true, false, cond, eqb, ltb, List, [], ◌∷◌, Option, Some, None, Result, Ok, Err, refl, sym, ap, subst, ◌∙◌, arith}
+use Rattle.std.specs.Prelude.{ℤ}
+use Rattle.std.proofs.lemmas.Bool.{eqb-true, ltb-true}
 use Rattle.sv_world.specs.declared.world.ObjectId.{ObjectId}
 use Rattle.sv_world.specs.declared.action.Expr.{Expr}
 use Rattle.sv_world.specs.declared.action.Expr.TheVariants as expr
@@ -14,8 +14,8 @@ use Rattle.sv_text.specs.declared.token.Token.TheVariants as tokens
 use Rattle.sv_text.specs.declared.token.Lexeme.{Lexeme}
 use Rattle.sv_text.specs.declared.parts.Op.{Op}
 use Rattle.sv_text.specs.declared.parts.Op.TheVariants as ops
-use Rattle.sv_text.specs.Reading.{◌>>=◌, Read, mark_code, is_same, is_mark, is_at, front, rest_of, fault, unexpected, expect, number_by, number_at, slot_from, slot_or, slot_at, start, part_or, marked, op_of, op_at, with_op, leaf_by, leaf_at, closed_by, pair_by, expr_by, nowhere, expr_at}
-use Rattle.sv_text.specs.Grammar.{Place, Form, IsMark, IsNode, IsNumber, IsRef, op_mark, AreTwo, IsPair, IsLiteral, IsAttr, IsExpr}
+use Rattle.sv_text.specs.Reading.{◌>>=◌, Read, mark_code, is_same, is_mark, is_at, front, rest_of, fault, unexpected, expect, slot_from, slot_or, slot_at, start, part_or, marked, op_of, op_at, with_op, leaf_by, leaf_at, closed_by, pair_by, expr_by, nowhere, expr_at}
+use Rattle.sv_text.specs.Grammar.{Place, Form, IsMark, IsNode, IsNumber, IsRef, op_mark, IsPair, IsLiteral, IsAttr, IsExpr}
 
 -- the value of a step that did not fail
 pub bind_ok : {A B : Type 0} (r : Result A TextFault) (f : A → Result B TextFault) (y : B) → (r >>= f) ≡ Ok y → (x : A) × (r ≡ Ok x) × (f x ≡ Ok y)
@@ -182,7 +182,7 @@ closed_found {A = A} below form found m nodes ts x e =
     let c = expect_is m a.0.2 r.0 r.1 in
     let made : A × ℕ × List Lexeme = (a.0.0, a.0.1, r.0) in
     subst (λ (y : A × ℕ × List Lexeme). (q : Place) × form y.0 (nodes, ts) q × IsMark m q (y.1, y.2)) (ok_is made x r.2)
-        ((a.0.1, a.0.2), found nodes ts a.0 a.1, (c.0, ap (λ (l : List Lexeme). (a.0.1, l)) c.1))
+    ((a.0.1, a.0.2), found nodes ts a.0 a.1, (c.0, ap (λ (l : List Lexeme). (a.0.1, l)) c.1))
 
 pair_found : (below : ℕ → List Lexeme → Read Expr) (form : Form Expr) → Finds below form → (p : Place) (nodes : ℕ) (ts : List Lexeme) (x : Expr × ℕ × List Lexeme)
     → IsNode marks.Open p (nodes, ts) → pair_by below nodes ts ≡ Ok x → IsPair form x.0 p (x.1, x.2)
@@ -231,15 +231,15 @@ unfolding expr_by
 expr_by_found reads below form found depth nodes ts x e =
     elim (chosen (is_at marks.Open ts) (start depth nodes ts >>= λ n. pair_by below n (rest_of ts)) (leaf_at reads ts >>= λ leaf. start depth nodes ts >>= λ n. Ok (leaf, n, rest_of ts)) (Ok x) e) [
       | inl h ↦
-        let s = bind_ok (start depth nodes ts) (λ n. pair_by below n (rest_of ts)) x h.1 in
-        let k = node_is marks.Open depth nodes ts s.0 h.0 s.1 in
-        (k.0, inl (pair_found below form found (nodes, ts) s.0 (rest_of ts) x k.1 s.2))
+          let s = bind_ok (start depth nodes ts) (λ n. pair_by below n (rest_of ts)) x h.1 in
+          let k = node_is marks.Open depth nodes ts s.0 h.0 s.1 in
+          (k.0, inl (pair_found below form found (nodes, ts) s.0 (rest_of ts) x k.1 s.2))
       | inr h ↦
-        let l = bind_ok (leaf_at reads ts) (λ leaf. start depth nodes ts >>= λ n. Ok (leaf, n, rest_of ts)) x h.1 in
-        let s = bind_ok (start depth nodes ts) (λ n. Ok (l.0, n, rest_of ts)) x l.2 in
-        let k = start_is depth nodes ts s.0 s.1 in
-        let made : Expr × ℕ × List Lexeme = (l.0, s.0, rest_of ts) in
-        (k.0, subst (λ (y : Expr × ℕ × List Lexeme). ExprForms reads form y.0 (nodes, ts) (y.1, y.2)) (ok_is made x s.2) (leaf_found reads form nodes ts l.0 s.0 k.1 k.2 (leaf_at_is reads ts l.0 l.1)))
+          let l = bind_ok (leaf_at reads ts) (λ leaf. start depth nodes ts >>= λ n. Ok (leaf, n, rest_of ts)) x h.1 in
+          let s = bind_ok (start depth nodes ts) (λ n. Ok (l.0, n, rest_of ts)) x l.2 in
+          let k = start_is depth nodes ts s.0 s.1 in
+          let made : Expr × ℕ × List Lexeme = (l.0, s.0, rest_of ts) in
+          (k.0, subst (λ (y : Expr × ℕ × List Lexeme). ExprForms reads form y.0 (nodes, ts) (y.1, y.2)) (ok_is made x s.2) (leaf_found reads form nodes ts l.0 s.0 k.1 k.2 (leaf_at_is reads ts l.0 l.1)))
     ]
 
 abbrev Never : {A : Type 0} → Form A

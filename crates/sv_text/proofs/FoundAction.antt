@@ -1,5 +1,5 @@
 -- What is read as an action is a text of it.
-use Rattle.std.proofs.Common.{◌≡◌, ℕ, zero, suc, ◌+◌, ◌<◌, ◌≤◌, ◌^◌, ◌⊎◌, inl, inr, Bool, true, false, cond, ◌&&◌, ltb, List, [], ◌∷◌, ◌++◌, length, Option, Some, None, Result, Ok, Err, refl, sym, ap, subst, ◌∙◌, append_assoc, arith, bit_or}
+use Rattle.std.proofs.Common.{◌≡◌, ℕ, ◌+◌, ◌<◌, ◌≤◌, ◌^◌, inl, inr, Bool, true, false, cond, ◌&&◌, ltb, List, [], ◌∷◌, ◌++◌, length, Some, Result, Ok, Err, refl, sym, ap, subst, ◌∙◌, append_assoc, arith, bit_or}
 use Rattle.std.specs.Prelude.{ℤ, pos, negsuc, int_le}
 use Rattle.std.proofs.lemmas.Bool.{ltb-true, ltb-false, leb-true, and_parts}
 use Rattle.std.proofs.lemmas.List.{append-nil, length-append}
@@ -13,8 +13,8 @@ use Rattle.sv_text.specs.declared.token.Mark.TheVariants as marks
 use Rattle.sv_text.specs.declared.token.Token.{Token}
 use Rattle.sv_text.specs.declared.token.Token.TheVariants as tokens
 use Rattle.sv_text.specs.declared.token.Lexeme.{Lexeme}
-use Rattle.sv_text.specs.Reading.{◌>>=◌, is_at, front, rest_of, fault, unexpected, expect, number_by, number_at, size_of, object_at, read_at, as_object, ends_reads, reads_from, slot_from, slot_at, write_at, is_number_at, writes_from, coordinate_at, origin_at, header_at, block_by, stmt_at, body_at, reading}
-use Rattle.sv_text.specs.Grammar.{Place, IsMark, IsNumber, AreAll, IsBlock, IsStmt, IsWord, IsObject, IsAscending, IsMask, AreReads, AreWrites, IsCoordinate, IsOrigin, MayBeOrigin, IsActionText}
+use Rattle.sv_text.specs.Reading.{◌>>=◌, is_at, rest_of, fault, unexpected, expect, number_by, number_at, size_of, object_at, read_at, as_object, ends_reads, reads_from, slot_from, slot_at, write_at, is_number_at, writes_from, coordinate_at, origin_at, header_at, block_by, stmt_at, body_at, reading}
+use Rattle.sv_text.specs.Grammar.{IsNumber, AreAll, IsBlock, IsStmt, IsWord, IsObject, IsAscending, IsMask, AreReads, IsCoordinate, MayBeOrigin, IsActionText}
 use Rattle.sv_text.proofs.Found.{bind_ok, chosen, ok_is, no_err, is_at_is, expect_is, slot_at_is}
 use Rattle.sv_text.proofs.FoundBody.{body_found}
 
@@ -27,8 +27,8 @@ number_by_is low high t ts z glued (tokens.Number w) g k e =
       | inl h ↦ elim (chosen glued (Err (fault (t ∷ ts) causes.Expected)) (Ok w) (Ok z) h.1) [
         | inl f ↦ no_err (fault (t ∷ ts) causes.Expected) z f.1
         | inr f ↦
-          let both = and_parts (int_le low w) (int_le w high) h.0 in
-          subst (λ (v : ℤ). Within low high v (t ∷ ts) ts) (ok_is w z f.1) (both.0, both.1, (k, g ∙ f.0, refl))
+            let both = and_parts (int_le low w) (int_le w high) h.0 in
+            subst (λ (v : ℤ). Within low high v (t ∷ ts) ts) (ok_is w z f.1) (both.0, both.1, (k, g ∙ f.0, refl))
       ]
       | inr h ↦ no_err (fault (t ∷ ts) causes.Number) z h.1
     ]
@@ -75,16 +75,16 @@ reads_found before least [] x few e = no_err (unexpected []) x e
 reads_found before least (t ∷ ts) x few e =
     elim (chosen (ends_reads (length before) (t ∷ ts)) (Ok (before, ts)) (read_at (length before) least (t ∷ ts) >>= λ o. reads_from (before ++ as_object o ∷ []) (o + 1) ts) (Ok x) e) [
       | inl h ↦
-        let both = and_parts (ltb 0 (length before)) (is_at marks.Writes (t ∷ ts)) h.0 in
-        let made : List ObjectId × List Lexeme = (before, ts) in
-        subst (λ (y : List ObjectId × List Lexeme). MoreReads before least (t ∷ ts) y.0 y.1) (ok_is made x h.1)
-            ([], append-nil before, t ∷ ts, refl, (is_at_is marks.Writes (t ∷ ts) both.1, refl), tt, ltb-true 0 (length before) both.0, few)
+          let both = and_parts (ltb 0 (length before)) (is_at marks.Writes (t ∷ ts)) h.0 in
+          let made : List ObjectId × List Lexeme = (before, ts) in
+          subst (λ (y : List ObjectId × List Lexeme). MoreReads before least (t ∷ ts) y.0 y.1) (ok_is made x h.1)
+          ([], append-nil before, t ∷ ts, refl, (is_at_is marks.Writes (t ∷ ts) both.1, refl), tt, ltb-true 0 (length before) both.0, few)
       | inr h ↦
-        let o = bind_ok (read_at (length before) least (t ∷ ts)) (λ o. reads_from (before ++ as_object o ∷ []) (o + 1) ts) x h.1 in
-        let k = read_at_is (length before) least (t ∷ ts) o.0 o.1 in
-        let longer : length (before ++ as_object o.0 ∷ []) ≤ 16 = omega (arith, length-append before (as_object o.0 ∷ []), k.1) in
-        let r = reads_found (before ++ as_object o.0 ∷ []) (o.0 + 1) ts x longer o.2 in
-        (as_object o.0 ∷ r.0, sym (append_assoc before (as_object o.0 ∷ []) r.0) ∙ r.1, r.2, (ts, k.2, r.3), r.4, (k.0, r.5), r.6, r.7)
+          let o = bind_ok (read_at (length before) least (t ∷ ts)) (λ o. reads_from (before ++ as_object o ∷ []) (o + 1) ts) x h.1 in
+          let k = read_at_is (length before) least (t ∷ ts) o.0 o.1 in
+          let longer : length (before ++ as_object o.0 ∷ []) ≤ 16 = omega (arith, length-append before (as_object o.0 ∷ []), k.1) in
+          let r = reads_found (before ++ as_object o.0 ∷ []) (o.0 + 1) ts x longer o.2 in
+          (as_object o.0 ∷ r.0, sym (append_assoc before (as_object o.0 ∷ []) r.0) ∙ r.1, r.2, (ts, k.2, r.3), r.4, (k.0, r.5), r.6, r.7)
     ]
 
 header_found : (ts : List Lexeme) (x : List ObjectId × List Lexeme) → header_at ts ≡ Ok x → AreReads x.0 ts x.1
@@ -132,10 +132,10 @@ writes_found reads mask least [] x e = no_writes reads mask least [] x e
 writes_found reads mask least (t ∷ ts) x e =
     elim (chosen (is_number_at (t ∷ ts)) (write_at reads least (t ∷ ts) >>= λ w. writes_from reads (bit_or mask (2 ^ w.1)) (w.0 + 1) ts) (Ok (mask, t ∷ ts)) (Ok x) e) [
       | inl h ↦
-        let w = bind_ok (write_at reads least (t ∷ ts)) (λ w. writes_from reads (bit_or mask (2 ^ w.1)) (w.0 + 1) ts) x h.1 in
-        let k = write_at_is reads least (t ∷ ts) w.0 w.1 in
-        let r = writes_found reads (bit_or mask (2 ^ w.0.1)) (w.0.0 + 1) ts x w.2 in
-        (as_object w.0.0 ∷ r.0, (ts, k.2, r.1), (k.0, r.2), (w.0.1, k.1, r.3))
+          let w = bind_ok (write_at reads least (t ∷ ts)) (λ w. writes_from reads (bit_or mask (2 ^ w.1)) (w.0 + 1) ts) x h.1 in
+          let k = write_at_is reads least (t ∷ ts) w.0 w.1 in
+          let r = writes_found reads (bit_or mask (2 ^ w.0.1)) (w.0.0 + 1) ts x w.2 in
+          (as_object w.0.0 ∷ r.0, (ts, k.2, r.1), (k.0, r.2), (w.0.1, k.1, r.3))
       | inr h ↦ no_writes reads mask least (t ∷ ts) x h.1
     ]
 
@@ -151,19 +151,19 @@ unfolding origin_at
 origin_found ts x e =
     elim (chosen (is_at marks.At ts) (coordinate_at (rest_of ts) >>= λ a. coordinate_at (rest_of (rest_of ts)) >>= λ b. Ok (point a b, rest_of (rest_of (rest_of ts)))) (Ok (point (pos 0) (pos 0), ts)) (Ok x) e) [
       | inl h ↦
-        let a = bind_ok (coordinate_at (rest_of ts)) (λ a. coordinate_at (rest_of (rest_of ts)) >>= λ b. Ok (point a b, rest_of (rest_of (rest_of ts)))) x h.1 in
-        let b = bind_ok (coordinate_at (rest_of (rest_of ts))) (λ b. Ok (point a.0 b, rest_of (rest_of (rest_of ts)))) x a.2 in
-        let made : Point × List Lexeme = (point a.0 b.0, rest_of (rest_of (rest_of ts))) in
-        subst (λ (y : Point × List Lexeme). MayBeOrigin y.0 ts y.1) (ok_is made x b.2) (inl (record {
-          one = rest_of ts;
-          two = rest_of (rest_of ts);
-          word = (is_at_is marks.At ts h.0, refl);
-          x = coordinate_is (rest_of ts) a.0 a.1;
-          y = coordinate_is (rest_of (rest_of ts)) b.0 b.1;
-        }))
+          let a = bind_ok (coordinate_at (rest_of ts)) (λ a. coordinate_at (rest_of (rest_of ts)) >>= λ b. Ok (point a b, rest_of (rest_of (rest_of ts)))) x h.1 in
+          let b = bind_ok (coordinate_at (rest_of (rest_of ts))) (λ b. Ok (point a.0 b, rest_of (rest_of (rest_of ts)))) x a.2 in
+          let made : Point × List Lexeme = (point a.0 b.0, rest_of (rest_of (rest_of ts))) in
+          subst (λ (y : Point × List Lexeme). MayBeOrigin y.0 ts y.1) (ok_is made x b.2) (inl (record {
+            one = rest_of ts;
+            two = rest_of (rest_of ts);
+            word = (is_at_is marks.At ts h.0, refl);
+            x = coordinate_is (rest_of ts) a.0 a.1;
+            y = coordinate_is (rest_of (rest_of ts)) b.0 b.1;
+          }))
       | inr h ↦
-        let made : Point × List Lexeme = (point (pos 0) (pos 0), ts) in
-        subst (λ (y : Point × List Lexeme). MayBeOrigin y.0 ts y.1) (ok_is made x h.1) (inr (refl, refl, refl))
+          let made : Point × List Lexeme = (point (pos 0) (pos 0), ts) in
+          subst (λ (y : Point × List Lexeme). MayBeOrigin y.0 ts y.1) (ok_is made x h.1) (inr (refl, refl, refl))
     ]
 
 pub action_found : (ts : List Lexeme) (a : Action) → reading ts ≡ Ok a → IsActionText a ts

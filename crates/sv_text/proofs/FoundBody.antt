@@ -1,5 +1,5 @@
 -- What is read as a condition, a statement or a block is in the grammar.
-use Rattle.std.proofs.Common.{◌≡◌, ℕ, zero, suc, ◌+◌, ◌<◌, ◌≤◌, ◌⊎◌, inl, inr, Bool, true, false, cond, List, [], ◌∷◌, ◌++◌, Option, Some, None, Result, Ok, Err, refl, sym, ap, subst, ◌∙◌, append_assoc, arith}
+use Rattle.std.proofs.Common.{◌≡◌, ℕ, zero, suc, ◌<◌, ◌⊎◌, inl, inr, cond, List, [], ◌∷◌, ◌++◌, Some, Ok, Err, refl, sym, ap, subst, ◌∙◌, append_assoc, arith}
 use Rattle.std.proofs.lemmas.List.{append-nil}
 use Rattle.sv_world.specs.declared.world.ObjectId.{ObjectId}
 use Rattle.sv_world.specs.declared.action.Expr.{Expr}
@@ -8,7 +8,6 @@ use Rattle.sv_world.specs.declared.action.Cond.TheVariants as test
 use Rattle.sv_world.specs.declared.action.Stmt.{Stmt}
 use Rattle.sv_world.specs.declared.action.Stmt.TheVariants as stmt
 use Rattle.sv_text.specs.declared.fault.TextCause.TheVariants as causes
-use Rattle.sv_text.specs.declared.fault.TextFault.{TextFault}
 use Rattle.sv_text.specs.declared.token.Mark.{Mark}
 use Rattle.sv_text.specs.declared.token.Mark.TheVariants as marks
 use Rattle.sv_text.specs.declared.token.Token.{Token}
@@ -18,9 +17,9 @@ use Rattle.sv_text.specs.declared.parts.Comparison.{Comparison}
 use Rattle.sv_text.specs.declared.parts.Comparison.TheVariants as comparisons
 use Rattle.sv_text.specs.declared.parts.Joint.{Joint}
 use Rattle.sv_text.specs.declared.parts.Joint.TheVariants as joints
-use Rattle.sv_text.specs.Reading.{◌>>=◌, Read, is_at, front, rest_of, fault, unexpected, expect, slot_at, start, part_or, marked, with_comparison, comparison_of, comparison_at, with_joint, joint_of, joint_at, closed_by, compare_by, joined_by, join_by, not_by, cond_by, nowhere, expr_at, cond_at, target_by, target_at, set_by, else_by, branches_by, if_by, stmts_by, block_by, stmt_by, stmt_at}
-use Rattle.sv_text.specs.Grammar.{Place, Form, IsMark, IsNode, IsRef, comparison_mark, joint_mark, AreTwo, IsTest, IsJoined, IsNot, IsExpr, IsCond, AreAll, IsBlock, IsSet, IsElse, MayBeElse, IsIf, IsStmt}
-use Rattle.sv_text.proofs.Found.{bind_ok, chosen, ok_is, no_err, some_is, is_at_is, expect_is, part_is, marked_is, start_is, slot_at_is, node_is, Finds, nowhere_finds, closed_found, expr_found}
+use Rattle.sv_text.specs.Reading.{◌>>=◌, Read, is_at, front, rest_of, fault, unexpected, expect, slot_at, start, marked, with_comparison, comparison_of, comparison_at, with_joint, joint_of, joint_at, closed_by, compare_by, joined_by, join_by, not_by, cond_by, nowhere, expr_at, cond_at, target_by, target_at, set_by, else_by, branches_by, if_by, stmts_by, block_by, stmt_by, stmt_at}
+use Rattle.sv_text.specs.Grammar.{Place, Form, IsMark, IsNode, IsRef, comparison_mark, joint_mark, IsTest, IsJoined, IsNot, IsExpr, IsCond, AreAll, IsBlock, IsSet, MayBeElse, IsIf, IsStmt}
+use Rattle.sv_text.proofs.Found.{bind_ok, chosen, ok_is, no_err, some_is, is_at_is, expect_is, part_is, marked_is, slot_at_is, node_is, Finds, nowhere_finds, closed_found, expr_found}
 
 abbrev Never : {A : Type 0} → Form A
 Never a p q = ⊥
@@ -111,7 +110,7 @@ not_found below form found p nodes ts x opened e =
     let a = bind_ok (below nodes ts) (λ a. Ok (test.Not a.0, a.1, a.2)) x e in
     let made : Cond × ℕ × List Lexeme = (test.Not a.0.0, a.0.1, a.0.2) in
     subst (λ (y : Cond × ℕ × List Lexeme). IsNot form y.0 p (y.1, y.2)) (ok_is made x a.2)
-        (record { a = a.0.0; made = refl; inside = (nodes, ts); opened = opened; part = found nodes ts a.0 a.1 })
+    (record { a = a.0.0; made = refl; inside = (nodes, ts); opened = opened; part = found nodes ts a.0 a.1 })
 
 abbrev CondForms : Form Expr → Form Cond → Cond → Place → Place → Type 0
 CondForms exprs form c p q = IsTest exprs c p q ⊎ (IsJoined form c p q ⊎ IsNot form c p q)
@@ -122,19 +121,19 @@ unfolding cond_by
 cond_by_found exprs below values form in_exprs in_below depth nodes ts x e =
     elim (chosen (is_at marks.OpenTest ts) (start depth nodes ts >>= λ n. compare_by exprs n (rest_of ts)) (cond (is_at marks.Open ts) (start depth nodes ts >>= λ n. join_by below n (rest_of ts)) (cond (is_at marks.Not ts) (start depth nodes ts >>= λ n. not_by below n (rest_of ts)) (Err (unexpected ts)))) (Ok x) e) [
       | inl h ↦
-        let s = bind_ok (start depth nodes ts) (λ n. compare_by exprs n (rest_of ts)) x h.1 in
-        let k = node_is marks.OpenTest depth nodes ts s.0 h.0 s.1 in
-        (k.0, inl (compare_found exprs values in_exprs (nodes, ts) s.0 (rest_of ts) x k.1 s.2))
+          let s = bind_ok (start depth nodes ts) (λ n. compare_by exprs n (rest_of ts)) x h.1 in
+          let k = node_is marks.OpenTest depth nodes ts s.0 h.0 s.1 in
+          (k.0, inl (compare_found exprs values in_exprs (nodes, ts) s.0 (rest_of ts) x k.1 s.2))
       | inr g ↦ elim (chosen (is_at marks.Open ts) (start depth nodes ts >>= λ n. join_by below n (rest_of ts)) (cond (is_at marks.Not ts) (start depth nodes ts >>= λ n. not_by below n (rest_of ts)) (Err (unexpected ts))) (Ok x) g.1) [
         | inl h ↦
-          let s = bind_ok (start depth nodes ts) (λ n. join_by below n (rest_of ts)) x h.1 in
-          let k = node_is marks.Open depth nodes ts s.0 h.0 s.1 in
-          (k.0, inr (inl (join_found below form in_below (nodes, ts) s.0 (rest_of ts) x k.1 s.2)))
+            let s = bind_ok (start depth nodes ts) (λ n. join_by below n (rest_of ts)) x h.1 in
+            let k = node_is marks.Open depth nodes ts s.0 h.0 s.1 in
+            (k.0, inr (inl (join_found below form in_below (nodes, ts) s.0 (rest_of ts) x k.1 s.2)))
         | inr f ↦ elim (chosen (is_at marks.Not ts) (start depth nodes ts >>= λ n. not_by below n (rest_of ts)) (Err (unexpected ts)) (Ok x) f.1) [
           | inl h ↦
-            let s = bind_ok (start depth nodes ts) (λ n. not_by below n (rest_of ts)) x h.1 in
-            let k = node_is marks.Not depth nodes ts s.0 h.0 s.1 in
-            (k.0, inr (inr (not_found below form in_below (nodes, ts) s.0 (rest_of ts) x k.1 s.2)))
+              let s = bind_ok (start depth nodes ts) (λ n. not_by below n (rest_of ts)) x h.1 in
+              let k = node_is marks.Not depth nodes ts s.0 h.0 s.1 in
+              (k.0, inr (inr (not_found below form in_below (nodes, ts) s.0 (rest_of ts) x k.1 s.2)))
           | inr h ↦ no_err (unexpected ts) x h.1
         ]
       ]
@@ -194,13 +193,13 @@ stmts_found stmts form found zero before nodes ts x e = no_err (fault ts causes.
 stmts_found stmts form found (suc turns) before nodes ts x e =
     elim (chosen (is_at marks.CloseBlock ts) (Ok (before, nodes, rest_of ts)) (stmts nodes ts >>= λ s. stmts_by stmts turns (before ++ s.0 ∷ []) s.1 s.2) (Ok x) e) [
       | inl h ↦
-        let made : List Stmt × ℕ × List Lexeme = (before, nodes, rest_of ts) in
-        subst (λ (y : List Stmt × ℕ × List Lexeme). Further form before (nodes, ts) y.0 (y.1, y.2)) (ok_is made x h.1)
-            ([], append-nil before, (nodes, ts), refl, (is_at_is marks.CloseBlock ts h.0, refl))
+          let made : List Stmt × ℕ × List Lexeme = (before, nodes, rest_of ts) in
+          subst (λ (y : List Stmt × ℕ × List Lexeme). Further form before (nodes, ts) y.0 (y.1, y.2)) (ok_is made x h.1)
+          ([], append-nil before, (nodes, ts), refl, (is_at_is marks.CloseBlock ts h.0, refl))
       | inr h ↦
-        let s = bind_ok (stmts nodes ts) (λ s. stmts_by stmts turns (before ++ s.0 ∷ []) s.1 s.2) x h.1 in
-        let r = stmts_found stmts form found turns (before ++ s.0.0 ∷ []) s.0.1 s.0.2 x s.2 in
-        (s.0.0 ∷ r.0, sym (append_assoc before (s.0.0 ∷ []) r.0) ∙ r.1, r.2, ((s.0.1, s.0.2), found nodes ts s.0 s.1, r.3), r.4)
+          let s = bind_ok (stmts nodes ts) (λ s. stmts_by stmts turns (before ++ s.0 ∷ []) s.1 s.2) x h.1 in
+          let r = stmts_found stmts form found turns (before ++ s.0.0 ∷ []) s.0.1 s.0.2 x s.2 in
+          (s.0.0 ∷ r.0, sym (append_assoc before (s.0.0 ∷ []) r.0) ∙ r.1, r.2, ((s.0.1, s.0.2), found nodes ts s.0 s.1, r.3), r.4)
     ]
 
 block_found : (stmts : ℕ → List Lexeme → Read Stmt) (form : Form Stmt) → Finds stmts form → Finds (block_by stmts) (IsBlock form)
@@ -223,8 +222,8 @@ else_found blocks form found nodes ts x e =
     elim (chosen (is_at marks.Else ts) (blocks nodes (rest_of ts)) (Ok ([], nodes, ts)) (Ok x) e) [
       | inl h ↦ inl (record { inside = (nodes, rest_of ts); word = (is_at_is marks.Else ts h.0, refl); block = found nodes (rest_of ts) x h.1 })
       | inr h ↦
-        let made : List Stmt × ℕ × List Lexeme = ([], nodes, ts) in
-        subst (λ (y : List Stmt × ℕ × List Lexeme). MayBeElse form y.0 (nodes, ts) (y.1, y.2)) (ok_is made x h.1) (inr (refl, refl))
+          let made : List Stmt × ℕ × List Lexeme = ([], nodes, ts) in
+          subst (λ (y : List Stmt × ℕ × List Lexeme). MayBeElse form y.0 (nodes, ts) (y.1, y.2)) (ok_is made x h.1) (inr (refl, refl))
     ]
 
 if_found : (conds : ℕ → List Lexeme → Read Cond) (blocks : ℕ → List Lexeme → Read (List Stmt)) (tests : Form Cond) (form : Form Stmt) → Finds conds tests → Finds blocks (IsBlock form)
@@ -262,14 +261,14 @@ unfolding stmt_by
 stmt_by_found reads exprs conds blocks values tests form in_exprs in_conds in_blocks depth nodes ts x e =
     elim (chosen (is_at marks.Set ts) (start depth nodes ts >>= λ n. set_by reads exprs n (rest_of ts)) (cond (is_at marks.If ts) (start depth nodes ts >>= λ n. if_by conds blocks n (rest_of ts)) (Err (unexpected ts))) (Ok x) e) [
       | inl h ↦
-        let s = bind_ok (start depth nodes ts) (λ n. set_by reads exprs n (rest_of ts)) x h.1 in
-        let k = node_is marks.Set depth nodes ts s.0 h.0 s.1 in
-        (k.0, inl (set_found reads exprs values in_exprs (nodes, ts) s.0 (rest_of ts) x k.1 s.2))
+          let s = bind_ok (start depth nodes ts) (λ n. set_by reads exprs n (rest_of ts)) x h.1 in
+          let k = node_is marks.Set depth nodes ts s.0 h.0 s.1 in
+          (k.0, inl (set_found reads exprs values in_exprs (nodes, ts) s.0 (rest_of ts) x k.1 s.2))
       | inr g ↦ elim (chosen (is_at marks.If ts) (start depth nodes ts >>= λ n. if_by conds blocks n (rest_of ts)) (Err (unexpected ts)) (Ok x) g.1) [
         | inl h ↦
-          let s = bind_ok (start depth nodes ts) (λ n. if_by conds blocks n (rest_of ts)) x h.1 in
-          let k = node_is marks.If depth nodes ts s.0 h.0 s.1 in
-          (k.0, inr (if_found conds blocks tests form in_conds in_blocks (nodes, ts) s.0 (rest_of ts) x k.1 s.2))
+            let s = bind_ok (start depth nodes ts) (λ n. if_by conds blocks n (rest_of ts)) x h.1 in
+            let k = node_is marks.If depth nodes ts s.0 h.0 s.1 in
+            (k.0, inr (if_found conds blocks tests form in_conds in_blocks (nodes, ts) s.0 (rest_of ts) x k.1 s.2))
         | inr h ↦ no_err (unexpected ts) x h.1
       ]
     ]
@@ -279,7 +278,7 @@ unfolding stmt_at
 stmt_found reads zero nodes ts x e = let f = stmt_by_found reads nowhere nowhere nowhere Never Never Never (nowhere_finds Never) (nowhere_finds Never) (nowhere_finds (IsBlock Never)) 0 nodes ts x e in absurd (omega (arith, f.0))
 stmt_found reads (suc depth) nodes ts x e =
     (stmt_by_found reads (expr_at reads depth) (cond_at reads depth) (block_by (stmt_at reads depth)) (IsExpr reads depth) (IsCond reads depth) (IsStmt reads depth)
-        (expr_found reads depth) (cond_found reads depth) (block_found (stmt_at reads depth) (IsStmt reads depth) (stmt_found reads depth)) (suc depth) nodes ts x e).1
+    (expr_found reads depth) (cond_found reads depth) (block_found (stmt_at reads depth) (IsStmt reads depth) (stmt_found reads depth)) (suc depth) nodes ts x e).1
 
 pub body_found : (reads : List ObjectId) (depth : ℕ) → Finds (block_by (stmt_at reads depth)) (IsBlock (IsStmt reads depth))
 body_found reads depth = block_found (stmt_at reads depth) (IsStmt reads depth) (stmt_found reads depth)

@@ -1,8 +1,8 @@
 -- How long tokens are, and one turn of the loop over the bytes.
-use Rattle.std.proofs.Common.{◌≡◌, ℕ, zero, suc, ◌+◌, ◌-◌, ◌<◌, ◌≤◌, Bool, true, false, cond, ◌&&◌, List, [], ◌∷◌, length, take, drop, get_or, eqb, ltb, refl, sym, ap, subst, ◌∙◌, inl, inr, arith, drop-drop, append_assoc, ◌++◌}
-use Rattle.std.specs.List.{prefix_len, take_while}
+use Rattle.std.proofs.Common.{◌≡◌, ℕ, zero, suc, ◌+◌, ◌-◌, ◌<◌, ◌≤◌, Bool, true, false, ◌&&◌, List, [], ◌∷◌, length, drop, get_or, eqb, refl, sym, ap, subst, ◌∙◌, inl, inr, arith, drop-drop, append_assoc, ◌++◌}
+use Rattle.std.specs.List.{prefix_len}
 use Rattle.std.specs.Char.{is_ascii_digit, is_ascii_lowercase}
-use Rattle.std.proofs.lemmas.Bool.{cases_lt, cond_both, and_parts, eqb-true, ltb-true}
+use Rattle.std.proofs.lemmas.Bool.{cases_lt, cond_both, and_parts, eqb-true}
 use Rattle.std.proofs.lemmas.List.{get_or_past, length-drop}
 use Rattle.std.proofs.lemmas.List.Folds.{length-prefix_len}
 use Rattle.std.proofs.lemmas.List.Sums.{prefix_len-le-length}
@@ -13,7 +13,7 @@ use Rattle.sv_text.specs.declared.token.Mark.TheVariants as marks
 use Rattle.sv_text.specs.declared.token.Token.{Token}
 use Rattle.sv_text.specs.declared.token.Token.TheVariants as tokens
 use Rattle.sv_text.specs.declared.token.Lexeme.{Lexeme}
-use Rattle.sv_text.specs.Tokens.{is_blank, digits_at, number_of, word_of, sign_of, sign_at, ref_of, ref_at, word_at, number_at, negative_at, token_at, is_joint, tokens_from, tokens_of}
+use Rattle.sv_text.specs.Tokens.{is_blank, digits_at, sign_at, ref_of, ref_at, word_at, number_at, negative_at, token_at, is_joint, tokens_from, tokens_of}
 
 abbrev HasLength : List ℕ → Token × ℕ → Type 0
 HasLength bs t = (0 < t.1) × (t.1 ≤ length bs)
@@ -56,30 +56,30 @@ ref_has bs some =
     let object = digits_at 1 bs in
     let attr = digits_at (2 + length object) bs in
     cond_both _ (ref_of object attr, 2 + length object + length attr) (tokens.Bad causes.Character, 1) (HasLength bs)
-        (λ h.
-            let both = and_parts _ _ h in
-            let front = and_parts _ _ both.0 in
-            let dot : 1 + length object < length bs = byte_stands bs (1 + length object) 45 front.1 in
-            let more = digits_within (2 + length object) bs in
-            (omega arith, omega arith))
-        (λ h. (omega arith, some))
+    (λ h.
+    let both = and_parts _ _ h in
+    let front = and_parts _ _ both.0 in
+    let dot : 1 + length object < length bs = byte_stands bs (1 + length object) 45 front.1 in
+    let more = digits_within (2 + length object) bs in
+    (omega arith, omega arith))
+    (λ h. (omega arith, some))
 
 sign_has : (bs : List ℕ) → 0 < length bs → HasLength bs (sign_at bs)
 unfolding sign_at
 sign_has bs some =
     cond_both (eqb (get_or bs 0 0) 61) _ _ (HasLength bs)
-        (λ h. cond_both (eqb (get_or bs 1 0) 61) (tokens.Mark marks.Equal, 2) (tokens.Bad causes.Character, 1) (HasLength bs) (λ e. let two = byte_stands bs 1 60 e in (omega arith, omega arith)) (λ _. (omega arith, some)))
-        (λ h. cond_both (eqb (get_or bs 0 0) 60) _ _ (HasLength bs)
-            (λ _. cond_both (eqb (get_or bs 1 0) 61) (tokens.Mark marks.LessEqual, 2) (tokens.Mark marks.Less, 1) (HasLength bs) (λ e. let two = byte_stands bs 1 60 e in (omega arith, omega arith)) (λ _. (omega arith, some)))
-            (λ _. (omega arith, some)))
+    (λ h. cond_both (eqb (get_or bs 1 0) 61) (tokens.Mark marks.Equal, 2) (tokens.Bad causes.Character, 1) (HasLength bs) (λ e. let two = byte_stands bs 1 60 e in (omega arith, omega arith)) (λ _. (omega arith, some)))
+    (λ h. cond_both (eqb (get_or bs 0 0) 60) _ _ (HasLength bs)
+    (λ _. cond_both (eqb (get_or bs 1 0) 61) (tokens.Mark marks.LessEqual, 2) (tokens.Mark marks.Less, 1) (HasLength bs) (λ e. let two = byte_stands bs 1 60 e in (omega arith, omega arith)) (λ _. (omega arith, some)))
+    (λ _. (omega arith, some)))
 
 pub token_has : (bs : List ℕ) → 0 < length bs → HasLength bs (token_at bs)
 unfolding token_at
 token_has bs some =
     cond_both (is_ascii_lowercase (get_or bs 0 0)) _ _ (HasLength bs) (word_has bs)
-        (λ _. cond_both (is_ascii_digit (get_or bs 0 0)) _ _ (HasLength bs) (number_has bs)
-            (λ _. cond_both (eqb (get_or bs 0 0) 45 && is_ascii_digit (get_or bs 1 0)) _ _ (HasLength bs) (λ h. negative_has bs (and_parts _ _ h).1)
-                (λ _. cond_both (eqb (get_or bs 0 0) 64) _ _ (HasLength bs) (λ _. ref_has bs some) (λ _. sign_has bs some))))
+    (λ _. cond_both (is_ascii_digit (get_or bs 0 0)) _ _ (HasLength bs) (number_has bs)
+    (λ _. cond_both (eqb (get_or bs 0 0) 45 && is_ascii_digit (get_or bs 1 0)) _ _ (HasLength bs) (λ h. negative_has bs (and_parts _ _ h).1)
+    (λ _. cond_both (eqb (get_or bs 0 0) 64) _ _ (HasLength bs) (λ _. ref_has bs some) (λ _. sign_has bs some))))
 
 -- what is skipped belongs to no further token
 skips : (k place : ℕ) (glued : Bool) (bs : List ℕ) → k ≤ length bs → tokens_from k place glued bs ≡ tokens_from 0 (place + k) glued (drop k bs)
@@ -117,7 +117,7 @@ token_step bs at d glued lt h =
     let t = token_at (drop at bs) in
     let front = token_front at glued (get_or bs at d) (drop (suc at) bs) h in
     let made : tokens_from 0 at glued (drop at bs) ≡ first at glued (drop at bs) ∷ tokens_from 0 (at + t.1) (is_joint t.0) (drop t.1 (drop at bs)) =
-        subst (λ (l : List ℕ). tokens_from 0 at glued l ≡ first at glued l ∷ tokens_from 0 (at + (token_at l).1) (is_joint (token_at l).0) (drop (token_at l).1 l)) (sym parts) front in
+    subst (λ (l : List ℕ). tokens_from 0 at glued l ≡ first at glued l ∷ tokens_from 0 (at + (token_at l).1) (is_joint (token_at l).0) (drop (token_at l).1 l)) (sym parts) front in
     made ∙ ap (λ (l : List ℕ). first at glued (drop at bs) ∷ tokens_from 0 (at + t.1) (is_joint t.0) l) (drop-drop t.1 at bs)
 
 pub blank_turn : (items total : List Lexeme) (bs : List ℕ) (at d : ℕ) (glued : Bool) → at < length bs → is_blank (get_or bs at d) ≡ true → items ++ tokens_from 0 at glued (drop at bs) ≡ total → items ++ tokens_from 0 (at + 1) false (drop (at + 1) bs) ≡ total

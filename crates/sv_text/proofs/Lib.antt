@@ -9,3 +9,4 @@ pub mod FoundAction
 pub mod Again
 pub mod AgainBody
 pub mod AgainAction
+pub mod Both

@@ -1,5 +1,5 @@
 -- One turn of the loop over the slots of a mask, and how far a printed tree goes.
-use Rattle.std.proofs.Common.{◌≡◌, ℕ, zero, suc, ◌+◌, ◌*◌, ◌/◌, ◌%◌, ◌<◌, ◌≤◌, Bool, true, false, cond, eqb, List, [], ◌∷◌, ◌++◌, length, drop, get_or, refl, sym, ap, ◌∙◌, append_assoc, arith}
+use Rattle.std.proofs.Common.{◌≡◌, ℕ, zero, suc, ◌+◌, ◌/◌, ◌%◌, ◌<◌, ◌≤◌, true, false, cond, eqb, List, [], ◌∷◌, ◌++◌, length, drop, get_or, refl, sym, ap, ◌∙◌, append_assoc, arith}
 use Rattle.std.proofs.Math.Seq.{drop-cons}
 use Rattle.std.proofs.lemmas.List.Concat.{flat_map-cons}
 use Rattle.sv_world.specs.declared.world.ObjectId.{ObjectId}
@@ -26,7 +26,7 @@ written_turn reads i mask d front after total lt new told =
     let r = get_or reads i d in
     let rest = written (drop (suc i) reads) (mask / 2) in
     let here : front ++ objects_text (written (drop i reads) mask) ≡ front ++ (cond (eqb (mask % 2) 1) (object_text r) [] ++ objects_text rest) =
-        ap (λ (l : List ObjectId). front ++ objects_text (written l mask)) (drop-cons reads i d lt) ∙ ap (λ (l : List ℕ). front ++ l) (objects_text-written r (drop (suc i) reads) mask) in
+    ap (λ (l : List ObjectId). front ++ objects_text (written l mask)) (drop-cons reads i d lt) ∙ ap (λ (l : List ℕ). front ++ l) (objects_text-written r (drop (suc i) reads) mask) in
     rw (new, one) (append_assoc front (cond (eqb (mask % 2) 1) (object_text r) []) (objects_text rest) ∙ sym here ∙ told)
 
 abbrev expr_weight_step : Expr-F ℕ → ℕ

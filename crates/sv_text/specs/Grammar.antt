@@ -1,5 +1,5 @@
 -- The grammar of action texts, apart from how they are read: what stands in a list of tokens from one place to another.
-use Rattle.std.specs.Prelude.{◌≡◌, ℕ, zero, suc, ◌+◌, ◌<◌, ◌≤◌, ◌^◌, ℤ, pos, negsuc, Bool, true, false, ◌⊎◌, List, [], ◌∷◌, length, bit_or, Option, Some, None, int_le}
+use Rattle.std.specs.Prelude.{◌≡◌, ℕ, zero, suc, ◌+◌, ◌<◌, ◌≤◌, ◌^◌, ℤ, pos, negsuc, true, false, ◌⊎◌, List, [], ◌∷◌, length, bit_or, Some, int_le}
 use Rattle.sv_world.specs.declared.world.ObjectId.{ObjectId}
 use Rattle.sv_world.specs.declared.action.Point.{Point}
 use Rattle.sv_world.specs.declared.action.Action.{Action}

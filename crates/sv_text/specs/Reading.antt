@@ -1,6 +1,6 @@
 -- The action that the tokens of a text write, or the first token that may not stand at its place. There is a definition for each line of
 -- the grammar. It takes its tokens one after the other and chooses among its forms by the next token alone.
-use Rattle.std.specs.Prelude.{◌≡◌, ℕ, zero, suc, ◌+◌, ◌-◌, ◌^◌, ℤ, pos, negsuc, Bool, true, false, cond, not, ◌&&◌, nat_lt, nat_le, nat_eq, ◌==◌, int_le, List, [], ◌∷◌, ◌++◌, length, bit_or, Option, Some, None, Result, Ok, Err}
+use Rattle.std.specs.Prelude.{◌≡◌, ℕ, zero, suc, ◌+◌, ◌^◌, ℤ, pos, negsuc, Bool, true, false, cond, ◌&&◌, nat_lt, nat_eq, ◌==◌, int_le, List, [], ◌∷◌, ◌++◌, length, bit_or, Option, Some, None, Result, Ok, Err}
 use Rattle.sv_world.specs.declared.world.ObjectId.{ObjectId}
 use Rattle.sv_world.specs.declared.action.Point.{Point}
 use Rattle.sv_world.specs.declared.action.Action.{Action}

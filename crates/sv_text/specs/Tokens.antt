@@ -1,5 +1,5 @@
 -- The tokens that a text consists of. Where a token is asked for, the longest that fits is meant.
-use Rattle.std.specs.Prelude.{◌≡◌, ℕ, zero, suc, ◌+◌, ◌-◌, ◌*◌, ◌^◌, ℤ, pos, negsuc, Bool, true, false, cond, ◌&&◌, ◌||◌, nat_lt, nat_eq, ◌==◌, List, [], ◌∷◌, length, drop, slice_index, codes}
+use Rattle.std.specs.Prelude.{ℕ, zero, suc, ◌+◌, ◌-◌, ◌*◌, pos, negsuc, Bool, true, false, cond, ◌&&◌, ◌||◌, nat_lt, nat_eq, ◌==◌, List, [], ◌∷◌, length, drop, slice_index, codes}
 use Rattle.std.specs.Cmp.Lexicographic.{pointwise}
 use Rattle.std.specs.List.{prefix_len, take_while}
 use Rattle.std.specs.Char.{is_ascii_digit, is_ascii_lowercase}
@@ -97,8 +97,8 @@ ref_at bs =
     let object = digits_at 1 bs in
     let attr = digits_at (2 + length object) bs in
     cond (nat_lt 0 (length object) && (slice_index bs (1 + length object) == 46) && nat_lt 0 (length attr))
-        (ref_of object attr, 2 + length object + length attr)
-        (tokens.Bad causes.Character, 1)
+    (ref_of object attr, 2 + length object + length attr)
+    (tokens.Bad causes.Character, 1)
 
 unfoldable pub word_at : List ℕ → Token × ℕ
 word_at bs = (tokens.Mark (word_of (take_while is_ascii_lowercase bs)), prefix_len is_ascii_lowercase bs)

@@ -95,8 +95,7 @@ fn compare_at<'a>(
     let (left, nodes, tokens) = expr_at(alloc, depth, nodes, reads, tokens)?;
     let comparison = comparison_at(tokens)?;
     let tokens = rest_of(tokens);
-    let (right, nodes, rest) =
-        closed_expr_at(alloc, Mark::CloseTest, depth, nodes, reads, tokens)?;
+    let (right, nodes, rest) = closed_expr_at(alloc, Mark::CloseTest, depth, nodes, reads, tokens)?;
     Ok((with_comparison(comparison, left, right), nodes, rest))
 }
 

@@ -35,7 +35,9 @@ pub struct TextFault {
 /// Why no action was read.
 #[derive(Debug, Drop)]
 pub enum ParseFault {
+    /// The text is none of an action, and where that shows first.
     Text(TextFault),
+    /// Memory ran out, which says nothing of the text.
     Memory,
 }
 

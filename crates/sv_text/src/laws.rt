@@ -9,11 +9,9 @@ ghost use Rattle.sv_text.specs.Grammar.{IsActionText};
 /// A text that is read as an action is a text of that action, by the grammar.
 pub fn what_is_read_is_a_text_of_it()
     ensures { (text : List ℕ) (action : Action) → reading (tokens_of text) ≡ Ok action → IsActionText action (tokens_of text) }
-{
-}
+{}
 
 /// A text of an action is read as that action.
 pub fn each_text_of_an_action_is_read()
     ensures { (text : List ℕ) (action : Action) → IsActionText action (tokens_of text) → reading (tokens_of text) ≡ Ok action }
-{
-}
+{}

@@ -1,11 +1,11 @@
 //! The action language: reading an action from its text, and printing it.
 #![tactic(auto)]
 
+mod condition;
+mod cursor;
 mod expression;
 mod fault;
 mod header;
-mod condition;
-mod cursor;
 mod laws;
 mod lexer;
 mod parser;

@@ -1,6 +1,8 @@
 //! From a text to its action.
 
-ghost use Rattle.std.specs.Prelude.{◌≡◌, ◌≤◌, ◌<◌, ◌^◌, length, Ok};
+ghost use Rattle.std.specs.Prelude.{◌≡◌, ◌≤◌, ◌<◌, ◌^◌, length, Ok, IfOk};
+ghost use Rattle.sv_world.specs.declared.action.Action.{Action};
+ghost use Rattle.sv_text.specs.Grammar.{IsActionText};
 ghost use Rattle.sv_text.specs.Tokens.{tokens_of};
 ghost use Rattle.sv_text.specs.Reading.{Gives, body_at, reading};
 
@@ -17,11 +19,7 @@ use sv_world::{Action, List, ObjectId, Stmt};
 const DEPTH: u8 = 8;
 
 #[tactic(auto, unfolding(crate::specs::Reading::body_at))]
-fn body_at(
-    alloc: Global,
-    reads: &[ObjectId],
-    tokens: &[Lexeme],
-) -> Result<List<Stmt>, ParseFault>
+fn body_at(alloc: Global, reads: &[ObjectId], tokens: &[Lexeme]) -> Result<List<Stmt>, ParseFault>
     requires { length reads.now ≤ 16 }
     ensures { Gives (λ body. body) result (body_at reads.now tokens.now) }
 {
@@ -46,6 +44,14 @@ fn action_at(alloc: Global, tokens: &[Lexeme]) -> Result<Action, ParseFault>
     })
 }
 
+fn read_action(alloc: Global, text: &str) -> Result<Action, ParseFault>
+    requires { length text.now < 2 ^ 32 }
+    ensures { Gives (λ action. action) result (reading (tokens_of text.now)) }
+{
+    let lexemes = tokens(alloc, text.as_bytes())?;
+    action_at(alloc, &lexemes)
+}
+
 /// The action that a text writes.
 ///
 /// The text is a list of tokens: numbers, refs such as `@2.0` (object 2, attribute 0), words and signs. It is read from left to right,
@@ -53,8 +59,13 @@ fn action_at(alloc: Global, tokens: &[Lexeme]) -> Result<Action, ParseFault>
 /// and a body has at most 64 nodes, none of which has 8 nodes above it.
 pub fn parse_action(alloc: Global, text: &str) -> Result<Action, ParseFault>
     requires { length text.now < 2 ^ 32 }
-    ensures { Gives (λ action. action) result (reading (tokens_of text.now)) }
+
+    // What is read is an action that the text is a text of.
+    ensures found { IfOk result (λ action. IsActionText action (tokens_of text.now)) }
+    // An action that the text is a text of is read, unless memory runs out.
+    ensures only { (action : Action) → IsActionText action (tokens_of text.now) → Gives (λ a. a) result (Ok action) }
+    // Which fault it is.
+    ensures exact { Gives (λ a. a) result (reading (tokens_of text.now)) }
 {
-    let lexemes = tokens(alloc, text.as_bytes())?;
-    action_at(alloc, &lexemes)
+    read_action(alloc, text)
 }

@@ -13,19 +13,10 @@ fn object_in(reads: &[ObjectId], slot: u8) -> u16
     ensures { result ≡ object_in reads.now slot }
 {
     let slot = slot as usize;
-    if slot < reads.len() {
-        reads[slot].0
-    } else {
-        0
-    }
+    if slot < reads.len() { reads[slot].0 } else { 0 }
 }
 
-fn put_ref(
-    out: &mut String,
-    reads: &[ObjectId],
-    slot: u8,
-    attr: u8,
-) -> Result<(), AllocError>
+fn put_ref(out: &mut String, reads: &[ObjectId], slot: u8, attr: u8) -> Result<(), AllocError>
     ensures { OnOk result (string_bytes out.new ≡ string_bytes out.old ++ ref_text reads.now slot attr) }
 {
     let object = object_in(reads, slot);
@@ -175,11 +166,7 @@ fn put_objects(out: &mut String, objects: &[ObjectId]) -> Result<(), AllocError>
 }
 
 /// The object behind a space, where it is written.
-fn put_if_written(
-    out: &mut String,
-    object: ObjectId,
-    is_written: bool,
-) -> Result<(), AllocError>
+fn put_if_written(out: &mut String, object: ObjectId, is_written: bool) -> Result<(), AllocError>
     ensures { OnOk result (string_bytes out.new ≡ string_bytes out.old ++ cond is_written (object_text object) []) }
 {
     if !is_written {

@@ -47,8 +47,7 @@ fn set_at<'a>(
 {
     let (slot, attr) = target_at(reads, tokens)?;
     let tokens = rest_of(tokens);
-    let (expr, nodes, rest) =
-        closed_expr_at(alloc, Mark::Semicolon, depth, nodes, reads, tokens)?;
+    let (expr, nodes, rest) = closed_expr_at(alloc, Mark::Semicolon, depth, nodes, reads, tokens)?;
     Ok((Stmt::Set { slot, attr, expr }, nodes, rest))
 }
 

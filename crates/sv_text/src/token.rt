@@ -42,10 +42,7 @@ pub enum Token {
     /// A number that is written as numbers are, but is outside i64.
     Wide,
     /// `@`, an object, `.` and an attribute.
-    Ref {
-        object: u16,
-        attr: u8,
-    },
+    Ref { object: u16, attr: u8 },
     Mark(Mark),
     /// What is refused wherever it stands.
     Bad(TextCause),

@@ -1,7 +1,7 @@
 -- The greatest of a list of values: of two lists, and with an element put in at its place.
-use Rattle.std.proofs.Common.{◌≡◌, ℕ, zero, suc, ◌+◌, ◌<◌, ◌≤◌, ◌⊎◌, inl, inr, Bool, true, false, cond, not, ◌||◌, ◌&&◌, eqb, ltb, leb, List, [], ◌∷◌, ◌++◌, Option, Some, None, refl, sym, ap, ◌∙◌, subst, arith}
+use Rattle.std.proofs.Common.{◌≡◌, ℕ, ◌<◌, ◌≤◌, ◌⊎◌, inl, inr, Bool, true, false, cond, ◌&&◌, eqb, ltb, List, [], ◌∷◌, ◌++◌, Option, Some, None, refl, sym, ap, ◌∙◌, subst, arith}
 use Rattle.std.specs.List.{filter}
-use Rattle.std.proofs.lemmas.Bool.{cond-true, cond-false, lt-ltb, le-ltb, ltb-true, eq-eqb, eqb-true, ne_eqb, or_left, or_right, or_from, or_cases, and_left, and_right, and_from, and_parts, cases_lt, cases_order, cases_Bool, both_ways}
+use Rattle.std.proofs.lemmas.Bool.{cond-true, cond-false, lt-ltb, le-ltb, eq-eqb, eqb-true, or_left, or_right, or_from, and_left, and_right, and_from, cases_lt, cases_order, cases_Bool, both_ways}
 use Rattle.std.proofs.lemmas.List.Elements.{filter-append}
 use Rattle.sv_versions.specs.Held.{Held, later_of, greatest, comes_before, put_in}
 

@@ -1,8 +1,8 @@
 -- A store that is put into and pruned answers as the list in which no value is ever dropped.
-use Rattle.std.proofs.Common.{◌≡◌, ℕ, zero, suc, ◌+◌, ◌<◌, ◌≤◌, ◌⊎◌, inl, inr, Bool, true, false, cond, not, ◌||◌, ◌&&◌, eqb, ltb, leb, List, [], ◌∷◌, ◌++◌, Option, Some, None, option_map, ℤ, refl, sym, ap, ◌∙◌, subst, arith}
+use Rattle.std.proofs.Common.{◌≡◌, ℕ, ◌+◌, ◌<◌, ◌≤◌, ◌⊎◌, inl, inr, Bool, true, false, cond, not, ◌&&◌, eqb, ltb, leb, List, [], ◌∷◌, ◌++◌, Option, Some, None, option_map, ℤ, refl, sym, ap, ◌∙◌, subst, arith}
 use Rattle.std.specs.List.{filter, list_any, All}
 use Rattle.std.specs.Option.{IfSome}
-use Rattle.std.proofs.lemmas.Bool.{cond-true, cond-false, lt-ltb, le-ltb, lt-leb, le-leb, leb-true, leb-false, eq-eqb, eqb-true, or_from, and_left, and_right, and_from, and_parts, cases_lt, cases_Bool, not_from_false}
+use Rattle.std.proofs.lemmas.Bool.{cond-true, lt-ltb, le-ltb, lt-leb, eq-eqb, eqb-true, or_from, and_left, and_right, and_from, and_parts, cases_lt, not_from_false}
 use Rattle.std.proofs.lemmas.List.Elements.{filter_agree, filter_passes, All-head, All-tail, All-cons, All-append, All-filter}
 use Rattle.std.proofs.lemmas.Option.{none-some, same_Some}
 use Rattle.sv_versions.specs.Held.{Held, later_of, greatest, versions_of, found_below, found_latest, read_below, latest, comes_before, put_in, is_outdated, pruned, AnswersAbove}

@@ -1,12 +1,12 @@
 -- The versions of one object, pruned.
-use Rattle.std.proofs.Common.{◌≡◌, ℕ, zero, suc, ◌+◌, ◌-◌, ◌<◌, ◌≤◌, ◌⊎◌, inl, inr, Bool, true, false, cond, not, ◌||◌, ◌&&◌, eqb, ltb, leb, List, [], ◌∷◌, ◌++◌, length, get_or, take, drop, map, refl, sym, ap, ◌∙◌, arith}
-use Rattle.std.specs.List.{filter, list_any, count_by}
-use Rattle.std.proofs.lemmas.Bool.{cond-true, cond-false, lt-ltb, le-ltb, le-leb, lt-leb, and_from, and_left, and_right, cases_lt}
+use Rattle.std.proofs.Common.{◌≡◌, ℕ, zero, suc, ◌+◌, ◌-◌, ◌<◌, ◌≤◌, ◌⊎◌, inl, inr, Bool, true, false, cond, not, ◌&&◌, ltb, leb, List, [], ◌∷◌, length, get_or, drop, refl, sym, ap, ◌∙◌, arith}
+use Rattle.std.specs.List.{filter, list_any}
+use Rattle.std.proofs.lemmas.Bool.{lt-ltb, le-ltb, le-leb, lt-leb, and_from, and_left, and_right, cases_lt}
 use Rattle.std.proofs.lemmas.List.{get_or_default, length-drop, get_or-drop}
 use Rattle.std.proofs.lemmas.List.Folds.{list_any_at, list_any_none}
 use Rattle.std.proofs.lemmas.List.Elements.{filter_agree}
 use Rattle.sv_versions.specs.declared.history.Version.{Version}
-use Rattle.sv_versions.specs.Held.{Held, versions_of, is_outdated, pruned, count_up_to}
+use Rattle.sv_versions.specs.Held.{is_outdated, pruned, count_up_to}
 use Rattle.sv_versions.specs.Histories.{AscendsFrom, IsCountUpTo, held_at, tagged}
 use Rattle.sv_versions.proofs.Lists.{filter_back, filter_map_is, list_any_map_is}
 use Rattle.sv_versions.proofs.Rows.{own, ordered, not_after, counted}

@@ -1,14 +1,14 @@
 -- A pruning that looks at the listed objects alone.
-use Rattle.std.proofs.Common.{◌≡◌, ℕ, zero, suc, ◌+◌, ◌-◌, ◌<◌, ◌≤◌, ◌⊎◌, inl, inr, ⊎_elim, Bool, true, false, cond, not, ◌||◌, ◌&&◌, eqb, ltb, leb, List, [], ◌∷◌, ◌++◌, length, get_or, set, map, replicate, refl, sym, ap, ◌∙◌, subst, arith}
+use Rattle.std.proofs.Common.{◌≡◌, ℕ, ◌+◌, ◌<◌, ◌≤◌, ◌⊎◌, inl, inr, ⊎_elim, Bool, true, false, cond, not, ◌||◌, ◌&&◌, eqb, ltb, leb, List, [], ◌∷◌, ◌++◌, length, get_or, set, replicate, refl, sym, ap, ◌∙◌, subst, arith}
 use Rattle.std.specs.List.{filter, list_any, count_by}
-use Rattle.std.proofs.lemmas.Bool.{cond-true, cond-false, lt-ltb, le-ltb, lt-leb, le-leb, leb-true, leb-false, eq-eqb, ne_eqb, or_left, or_right, or_from, or_parts, or_cases, and_left, and_from, cases_Bool, cases_eq, cases_lt, eqb-true, not-true, not_from_false, both_ways}
-use Rattle.std.proofs.lemmas.List.{get_or-set_same, get_or-set_other, length-set, length-map, get_or-replicate, length-replicate, set-get_or}
+use Rattle.std.proofs.lemmas.Bool.{cond-true, cond-false, lt-ltb, le-ltb, or_left, or_right, or_from, or_parts, or_cases, and_left, cases_Bool, cases_eq, cases_lt, eqb-true, not-true, not_from_false, both_ways}
+use Rattle.std.proofs.lemmas.List.{get_or-set_same, get_or-set_other, length-set, length-map, get_or-replicate, length-replicate}
 use Rattle.std.proofs.lemmas.List.Elements.{filter_passes}
 use Rattle.std.proofs.lemmas.List.Folds.{list_any-append}
 use Rattle.std.proofs.lemmas.List.Sums.{count_by-le-length}
 use Rattle.sv_world.specs.declared.world.ObjectId.{ObjectId}
 use Rattle.sv_versions.specs.declared.history.Version.{Version}
-use Rattle.sv_versions.specs.Held.{Held, versions_of, is_outdated, pruned, count_up_to}
+use Rattle.sv_versions.specs.Held.{Held, is_outdated, pruned, count_up_to}
 use Rattle.sv_versions.specs.Histories.{held_at, tagged, flat, is_listed, AreListed, ArePruned}
 use Rattle.sv_versions.proofs.Lists.{filter_back}
 use Rattle.sv_versions.proofs.Rows.{own}

@@ -1,10 +1,10 @@
 -- A version put among the versions of one object.
-use Rattle.std.proofs.Common.{◌≡◌, ℕ, zero, suc, ◌+◌, ◌-◌, ◌<◌, ◌≤◌, Bool, true, false, cond, ◌||◌, ◌&&◌, eqb, ltb, leb, List, [], ◌∷◌, ◌++◌, length, get_or, set, take, drop, map, refl, sym, ap, subst, ◌∙◌, arith}
+use Rattle.std.proofs.Common.{◌≡◌, ℕ, zero, suc, ◌+◌, ◌-◌, ◌<◌, ◌≤◌, ◌||◌, ◌&&◌, eqb, ltb, List, [], ◌∷◌, ◌++◌, length, get_or, set, take, drop, refl, sym, ap, subst, ◌∙◌, arith}
 use Rattle.std.specs.List.{filter, insert}
 use Rattle.std.proofs.lemmas.Bool.{lt-ltb, le-ltb, eq-eqb}
-use Rattle.std.proofs.lemmas.List.{map-append, get_or_default, set_split}
+use Rattle.std.proofs.lemmas.List.{map-append, set_split}
 use Rattle.sv_versions.specs.declared.history.Version.{Version}
-use Rattle.sv_versions.specs.Held.{Held, comes_before, put_in}
+use Rattle.sv_versions.specs.Held.{comes_before, put_in}
 use Rattle.sv_versions.specs.Histories.{AscendsFrom, IsCountUpTo, EndsAt, EndsApart, held_at, tagged}
 use Rattle.sv_versions.proofs.Lists.{filter_front, filter_back, filter_map_is}
 use Rattle.sv_versions.proofs.Rows.{not_after, ordered}

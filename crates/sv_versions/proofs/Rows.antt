@@ -1,11 +1,11 @@
 -- The versions of one object: what is found, put and pruned, by the number of them up to a position.
-use Rattle.std.proofs.Common.{◌≡◌, ℕ, zero, suc, ◌+◌, ◌-◌, ◌<◌, ◌≤◌, Bool, true, false, cond, not, ◌||◌, ◌&&◌, eqb, ltb, leb, List, [], ◌∷◌, ◌++◌, length, get_or, take, drop, map, Option, Some, None, option_map, refl, sym, ap, ◌∙◌, arith, suc-add}
-use Rattle.std.specs.List.{filter, list_any, count_by}
+use Rattle.std.proofs.Common.{◌≡◌, ℕ, zero, suc, ◌+◌, ◌-◌, ◌<◌, ◌≤◌, eqb, ltb, leb, List, [], ◌∷◌, length, get_or, take, Some, None, option_map, refl, sym, ap, ◌∙◌, arith}
+use Rattle.std.specs.List.{filter, count_by}
 use Rattle.std.proofs.lemmas.Bool.{cond-true, cond-false, eq-eqb, lt-ltb, le-ltb, le-leb, lt-leb}
 use Rattle.std.proofs.lemmas.List.{get_or_default, take_all, length-take-le, length-map}
 use Rattle.std.proofs.lemmas.List.Sums.{length-filter}
 use Rattle.sv_versions.specs.declared.history.Version.{Version}
-use Rattle.sv_versions.specs.Held.{Held, versions_of, later_of, greatest, found_below, found_latest, read_below, latest, count_up_to}
+use Rattle.sv_versions.specs.Held.{Held, versions_of, later_of, greatest, found_below, read_below, latest, count_up_to}
 use Rattle.sv_versions.specs.Histories.{AscendsFrom, IsCountUpTo, held_at, tagged}
 use Rattle.sv_versions.proofs.Lists.{filter_front, filter_map_is}
 

@@ -1,5 +1,5 @@
 -- Values of objects at positions: how they are read, put and pruned, on plain lists.
-use Rattle.std.specs.Prelude.{ℕ, ℤ, Bool, ◌≡◌, ◌<◌, ◌≤◌, ◌==◌, ◌&&◌, ◌||◌, not, nat_lt, nat_le, List, [], ◌∷◌, ◌++◌, Option, Some, None, option_map, filter, count_by, length, if◌then◌else◌}
+use Rattle.std.specs.Prelude.{ℕ, ℤ, Bool, ◌≡◌, ◌<◌, ◌==◌, ◌&&◌, ◌||◌, not, nat_lt, nat_le, List, [], ◌∷◌, ◌++◌, Option, Some, None, option_map, filter, count_by, if◌then◌else◌}
 use Rattle.std.specs.List.{list_any}
 use Rattle.sv_world.specs.declared.world.Shape.{Shape}
 

@@ -1,5 +1,5 @@
 -- How the store keeps its values: for each object, in order, a list by position.
-use Rattle.std.specs.Prelude.{ℕ, ℤ, ◌≡◌, ◌+◌, ◌-◌, ◌<◌, ◌≤◌, List, [], ◌∷◌, ◌++◌, map, length, slice_index_or}
+use Rattle.std.specs.Prelude.{ℕ, ◌≡◌, ◌+◌, ◌-◌, ◌<◌, ◌≤◌, List, [], ◌∷◌, ◌++◌, map, length, slice_index_or}
 use Rattle.std.specs.Prelude.{Bool, true, ◌==◌}
 use Rattle.std.specs.List.{list_any}
 use Rattle.sv_world.specs.declared.world.ObjectId.{ObjectId}

@@ -4,7 +4,7 @@ ghost use Rattle.sv_versions.specs.Held.{read_below, latest, put_in, pruned, cou
 use crate::count::{count_versions, ends_at};
 use std::alloc::{AllocError, Global};
 use std::marker::Model;
-use sv_world::{List, Value};
+use sv_world::{Value, copy_value};
 
 /// A value at a position.
 #[derive(Debug, Drop)]
@@ -111,7 +111,7 @@ impl History {
     {
         let mut versions = Vec::with_capacity(alloc, self.versions.len())?;
         for version in &self.versions {
-            let value = copied(alloc, &version.value)?;
+            let value = copy_value(alloc, &version.value)?;
             versions.push(Version {
                 pos: version.pos,
                 value,
@@ -119,10 +119,4 @@ impl History {
         }
         Ok(History { versions })
     }
-}
-
-fn copied(alloc: Global, value: &Value) -> Result<Value, AllocError>
-    ensures { IfOk result (λ copy. copy ≡ value.now) }
-{
-    Ok(List::from_vec(Vec::from_slice(alloc, value.as_slice())?))
 }

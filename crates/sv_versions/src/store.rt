@@ -12,6 +12,7 @@ use sv_world::{ObjectId, Shape, Value};
 /// Contracts see the shape and the list of the values held, by object and by position. An object has one value at a position.
 #[derive(Debug, Drop)]
 pub struct Versions {
+    alloc: Global,
     shape: Shape,
     histories: Vec<History>,
     /// The objects that may have more than one version, so that a pruning looks at no other.
@@ -42,6 +43,7 @@ impl Versions {
             histories.push(History::new(alloc))?;
         }
         Ok(Versions {
+            alloc,
             shape,
             histories,
             crowded: Vec::new(alloc),
@@ -107,17 +109,18 @@ impl Versions {
     }
 
     /// A store that holds the same.
-    pub fn copy(&self, alloc: Global) -> Result<Versions, AllocError>
+    pub fn copy(&self) -> Result<Versions, AllocError>
         ensures { IfOk result (λ copy. copy ≡ self.now) }
     {
-        let mut histories = Vec::with_capacity(alloc, self.histories.len())?;
+        let mut histories = Vec::with_capacity(self.alloc, self.histories.len())?;
         for history in &self.histories {
-            histories.push(history.copy(alloc)?)?;
+            histories.push(history.copy(self.alloc)?)?;
         }
         Ok(Versions {
+            alloc: self.alloc,
             shape: self.shape,
             histories,
-            crowded: Vec::from_slice(alloc, &self.crowded)?,
+            crowded: Vec::from_slice(self.alloc, &self.crowded)?,
         })
     }
 }

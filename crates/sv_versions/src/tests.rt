@@ -51,7 +51,7 @@ fn prunes_at_a_commit(rt: HostRuntime) -> Result<(), Fail> {
     versions.prune(2);
     assert_eq!(rt; versions.old_versions(OBJECT, 2), 1);
     assert_eq!(rt; versions.old_versions(OBJECT, 3), 2);
-    let copy = versions.copy(alloc)?;
+    let copy = versions.copy()?;
     assert_eq!(rt;
         copy.shape(),
         Shape {

@@ -1,6 +1,30 @@
 //! The messages between clients and the server.
 #![tactic(auto)]
 
+mod actions;
+mod conds;
+mod copying;
+mod decoding;
+mod encoding;
+mod exprs;
+mod fault;
+mod fields;
+mod kinds;
+mod laws;
 mod message;
+mod nodes;
+mod put;
+mod put_body;
+mod replies;
+mod requests;
+mod stmts;
 
+pub use copying::{copy_head, copy_reply, copy_request};
+pub use decoding::{decode_reply, decode_request};
+pub use encoding::{encode_reply, encode_request};
+pub use fault::{Malformed, WireCause, WireFault};
+pub use laws::{no_frame_begins_another, one_payload};
 pub use message::{Done1, Held, Item, Reply, Request};
+
+#[cfg(test)]
+mod tests;

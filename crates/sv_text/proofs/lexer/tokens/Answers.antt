@@ -1,7 +1,5 @@
-use Rattle.std.proofs.Common.{◌≡◌, ◌++◌, [], ◌∷◌, sym, ap, ◌∙◌, arith}
-use Rattle.sv_text.specs.declared.token.Lexeme.{Lexeme}
-use Rattle.std.proofs.Common.{List, drop, ◌+◌}
-use Rattle.sv_text.specs.Tokens.{tokens_from}
+use Rattle.std.proofs.Common.{sym, ◌∙◌, arith}
+use Rattle.std.proofs.Common.{◌+◌}
 use Rattle.sv_text.proofs.Lexing.{at_first, blank_turn, token_turn, no_turn}
 use Rattle.sv_text.proofs.lexer.tokens.Goals as goal
 

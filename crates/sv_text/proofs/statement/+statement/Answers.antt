@@ -1,6 +1,6 @@
-use Rattle.std.proofs.Common.{◌≡◌, ◌∙◌, ap, sym, [], ◌∷◌, Ok, arith}
+use Rattle.std.proofs.Common.{sym}
 use Rattle.std.proofs.lemmas.Result.{err_from_is_err_and}
-use Rattle.sv_text.specs.Reading.{stmt_at, stmts_by, rest_of}
+use Rattle.sv_text.specs.Reading.{stmt_at}
 use Rattle.sv_text.proofs.Turns.{stmts_end, stmts_turn, stmts_fail}
 use Rattle.sv_text.proofs.statement.+statement.Goals as goal
 
@@ -19,6 +19,6 @@ pub stmts_at-loop-preserved : goal.stmts_at-loop-preserved
 stmts_at-loop-preserved t c = record {
   few = c.in_ok-stmt.ensures.few;
   told =
-    rw c.in_ok-push.ensures.ok
-    (stmts_turn (stmt_at c.args.reads.now c.args.depth) 65 c.loop.counter c.loop.body c.loop.count c.loop.rest.now _ c.loop-test.true c.loop.invariant.told (c.in_ok-stmt.stmt, c.in_ok-stmt.more, c.in_ok-stmt.after.now) (sym c.if-is_at.ensures) c.in_ok-stmt.ensures.gives);
+      rw c.in_ok-push.ensures.ok
+      (stmts_turn (stmt_at c.args.reads.now c.args.depth) 65 c.loop.counter c.loop.body c.loop.count c.loop.rest.now _ c.loop-test.true c.loop.invariant.told (c.in_ok-stmt.stmt, c.in_ok-stmt.more, c.in_ok-stmt.after.now) (sym c.if-is_at.ensures) c.in_ok-stmt.ensures.gives);
 }

@@ -1,4 +1,4 @@
-use Rattle.std.proofs.Common.{◌≡◌, ◌<◌, false, nat_lt, sym, ◌∙◌, arith}
+use Rattle.std.proofs.Common.{◌≡◌, false, nat_lt, sym, ◌∙◌, arith}
 use Rattle.std.proofs.lemmas.Bool.Decides.{nat_tests}
 use Rattle.sv_world.specs.Faults.{has_bad_mask}
 use Rattle.sv_world.proofs.Masks.{bits_above, none_above}

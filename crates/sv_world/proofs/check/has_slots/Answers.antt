@@ -1,4 +1,4 @@
-use Rattle.std.proofs.Common.{◌≡◌, ℕ, List, nat_lt, ap, ◌∙◌}
+use Rattle.std.proofs.Common.{ℕ, List, nat_lt, ap, ◌∙◌}
 use Rattle.sv_world.specs.Faults.{has_slots}
 use Rattle.sv_world.specs.Names.{set_passes, get_passes}
 use Rattle.sv_world.specs.Trees.{body_passes}

@@ -1,4 +1,4 @@
-use Rattle.std.proofs.Common.{◌≡◌, ◌++◌, drop, take}
+use Rattle.std.proofs.Common.{◌≡◌, take}
 use Rattle.sv_world.proofs.copy.copy_values.Given as goal
 
 abbrev pub invariant-loop-value : goal.invariant-loop-value

@@ -1,5 +1,5 @@
 use Rattle.std.proofs.Common.{◌≡◌, length, arith, rules}
-use Rattle.sv_versions.proofs.Rows.{latest_last, latest_none}
+use Rattle.sv_versions.proofs.Rows.{latest_last}
 use Rattle.sv_versions.proofs.history.History.latest.Goals as goal
 
 pub returns : goal.returns

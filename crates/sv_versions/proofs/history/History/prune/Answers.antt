@@ -1,4 +1,4 @@
-use Rattle.std.proofs.Common.{◌≡◌, List, leb, ap, arith, rules}
+use Rattle.std.proofs.Common.{◌≡◌, leb, ap, arith, rules}
 use Rattle.std.specs.List.{filter}
 use Rattle.std.proofs.lemmas.Fn.{filter_same}
 use Rattle.sv_versions.specs.declared.history.Version.{Version}

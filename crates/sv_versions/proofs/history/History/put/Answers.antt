@@ -1,5 +1,3 @@
-use Rattle.std.proofs.Common.{◌≡◌, arith, rules}
-use Rattle.std.specs.List.{insert}
 use Rattle.sv_versions.proofs.Puts.{put_there, put_new, ascends_there, ascends_new}
 use Rattle.sv_versions.proofs.history.History.put.Goals as goal
 

@@ -1,4 +1,4 @@
-use Rattle.std.proofs.Common.{◌<◌, length, ◌∙◌, sym, subst, arith}
+use Rattle.std.proofs.Common.{◌<◌, ◌∙◌, sym, subst, arith}
 use Rattle.sv_versions.specs.Held.{Store}
 use Rattle.sv_versions.proofs.Flats.{latest_row}
 use Rattle.sv_versions.proofs.store.Versions.latest.Goals as goal

@@ -1,4 +1,4 @@
-use Rattle.std.proofs.Common.{◌≡◌, List, ap, ◌∙◌, sym, subst}
+use Rattle.std.proofs.Common.{List, ap, ◌∙◌, sym, subst}
 use Rattle.sv_versions.specs.Held.{Held, Store, AnswersAbove}
 use Rattle.sv_versions.specs.Histories.{flat}
 use Rattle.sv_versions.proofs.Laws.{prune_answers}

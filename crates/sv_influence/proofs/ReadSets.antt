@@ -1,0 +1,69 @@
+-- What a loop over an action's reads has before it.
+use Rattle.std.proofs.Common.{◌≡◌, ℕ, ◌+◌, ◌/◌, ◌%◌, ◌^◌, ◌<◌, Bool, true, false, ◌||◌, ◌&&◌, not, List, ◌∷◌, length, drop, get_or, All, refl, sym, ◌∙◌, ap, subst, bit_and, arith, eq-eqb, ne_eqb}
+use Rattle.std.proofs.lemmas.Bool.{cond-true, cond-false, cond_both, or_left}
+use Rattle.std.proofs.lemmas.List.{drop_more, get_or-map, length-map}
+use Rattle.std.proofs.lemmas.Nat.Bits.{shr_and_one}
+use Rattle.std.specs.List.{list_any}
+use Rattle.sv_world.specs.declared.action.Action.{Action}
+use Rattle.sv_world.specs.declared.world.ObjectId.{ObjectId}
+use Rattle.sv_world.specs.Sets.{read_set, is_in_mask, at_mask}
+
+pub read_low : (n : ℕ) (a : Action) (items : List ObjectId) (k : ℕ) (d : ObjectId) → items ≡ a.reads → All (λ x. x < n) (read_set a) → k < length items → (get_or items k d).0 < n
+read_low n a items k d e low l =
+    let l' : k < length a.reads = subst (λ (os : List ObjectId). k < length os) e l in
+    let m : k < length (read_set a) = let q = length-map a.reads (λ (o : ObjectId). o.0) in omega arith in
+    let at : get_or (read_set a) k d.0 ≡ (get_or a.reads k d).0 = get_or-map (λ (o : ObjectId). o.0) a.reads k d d.0 l' in
+    subst (λ (os : List ObjectId). (get_or os k d).0 < n) (sym e) (subst (λ (x : ℕ). x < n) at (low k d.0 m))
+
+pub read_at : (a : Action) (items : List ObjectId) (k : ℕ) (d : ObjectId) → items ≡ a.reads → k < length items →
+    drop k (read_set a) ≡ (get_or items k d).0 ∷ drop (k + 1) (read_set a)
+read_at a items k d e l =
+    let l' : k < length a.reads = subst (λ (os : List ObjectId). k < length os) e l in
+    let m : k < length (read_set a) = let q = length-map a.reads (λ (o : ObjectId). o.0) in omega arith in
+    drop_more (read_set a) k d.0 m
+    ∙ ap (λ (x : ℕ). x ∷ drop (k + 1) (read_set a))
+    (get_or-map (λ (o : ObjectId). o.0) a.reads k d d.0 l' ∙ ap (λ (os : List ObjectId). (get_or os k d).0) (sym e))
+
+pub or_move : (a b c : Bool) → ((a || b) || c) ≡ (b || (a || c))
+or_move true true c = refl
+or_move true false c = refl
+or_move false true c = refl
+or_move false false c = refl
+
+-- A set f of objects meets what an action writes, at a slot.
+pub meets_hit : (f : ℕ → Bool) (mask k x : ℕ) (xs ys : List ℕ) → ys ≡ x ∷ xs → bit_and (mask / 2 ^ k) 1 ≡ 1 → f x ≡ true → list_any f (at_mask mask k ys) ≡ true
+meets_hit f mask k x xs ys e bit h =
+    let in' : is_in_mask mask k ≡ true = eq-eqb ((mask / 2 ^ k) % 2) 1 (sym (shr_and_one mask k) ∙ bit) in
+    ap (λ (zs : List ℕ). list_any f (at_mask mask k zs)) e
+    ∙ ap (list_any f) (cond-true (is_in_mask mask k) (x ∷ at_mask mask (k + 1) xs) (at_mask mask (k + 1) xs) in')
+    ∙ or_left (f x) (list_any f (at_mask mask (k + 1) xs)) h
+
+pub meets_unwritten : (f : ℕ → Bool) (mask k x : ℕ) (xs ys : List ℕ) → ys ≡ x ∷ xs → (bit_and (mask / 2 ^ k) 1 ≡ 1 → ⊥) →
+    list_any f (at_mask mask k ys) ≡ list_any f (at_mask mask (k + 1) xs)
+meets_unwritten f mask k x xs ys e bit =
+    let out : is_in_mask mask k ≡ false = ne_eqb ((mask / 2 ^ k) % 2) 1 (λ s. bit (shr_and_one mask k ∙ s)) in
+    ap (λ (zs : List ℕ). list_any f (at_mask mask k zs)) e
+    ∙ ap (list_any f) (cond-false (is_in_mask mask k) (x ∷ at_mask mask (k + 1) xs) (at_mask mask (k + 1) xs) out)
+
+pub meets_miss : (f : ℕ → Bool) (mask k x : ℕ) (xs ys : List ℕ) → ys ≡ x ∷ xs → f x ≡ false →
+    list_any f (at_mask mask k ys) ≡ list_any f (at_mask mask (k + 1) xs)
+meets_miss f mask k x xs ys e h =
+    ap (λ (zs : List ℕ). list_any f (at_mask mask k zs)) e
+    ∙ cond_both (is_in_mask mask k) (x ∷ at_mask mask (k + 1) xs) (at_mask mask (k + 1) xs) (λ (zs : List ℕ). list_any f zs ≡ list_any f (at_mask mask (k + 1) xs))
+    (λ q. ap (λ (b : Bool). b || list_any f (at_mask mask (k + 1) xs)) h) (λ q. refl)
+
+-- What is left of an action's writes at a slot that it writes, and at another.
+pub masked_hit : (mask k x : ℕ) (xs ys : List ℕ) → ys ≡ x ∷ xs → bit_and (mask / 2 ^ k) 1 ≡ 1 → at_mask mask k ys ≡ x ∷ at_mask mask (k + 1) xs
+masked_hit mask k x xs ys e bit =
+    let in' : is_in_mask mask k ≡ true = eq-eqb ((mask / 2 ^ k) % 2) 1 (sym (shr_and_one mask k) ∙ bit) in
+    ap (λ (zs : List ℕ). at_mask mask k zs) e ∙ cond-true (is_in_mask mask k) (x ∷ at_mask mask (k + 1) xs) (at_mask mask (k + 1) xs) in'
+
+pub masked_miss : (mask k x : ℕ) (xs ys : List ℕ) → ys ≡ x ∷ xs → (bit_and (mask / 2 ^ k) 1 ≡ 1 → ⊥) → at_mask mask k ys ≡ at_mask mask (k + 1) xs
+masked_miss mask k x xs ys e bit =
+    let out : is_in_mask mask k ≡ false = ne_eqb ((mask / 2 ^ k) % 2) 1 (λ s. bit (shr_and_one mask k ∙ s)) in
+    ap (λ (zs : List ℕ). at_mask mask k zs) e ∙ cond-false (is_in_mask mask k) (x ∷ at_mask mask (k + 1) xs) (at_mask mask (k + 1) xs) out
+
+pub and_not_or : (h e t : Bool) → ((h && not e) && not t) ≡ (h && not (e || t))
+and_not_or true true t = refl
+and_not_or true false t = refl
+and_not_or false e t = refl

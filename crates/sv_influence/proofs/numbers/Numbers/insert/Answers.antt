@@ -1,0 +1,20 @@
+use Rattle.std.proofs.Common.{◌∙◌, ap}
+use Rattle.sv_world.specs.Control.{is_in}
+use Rattle.sv_influence.proofs.Places.{insert-searched, is_in-searched, is_in-known, insert-members}
+use Rattle.sv_influence.proofs.numbers.Numbers.insert.Goals as goal
+
+pub invariant_of-self-in-Err : goal.invariant_of-self-in-Err
+invariant_of-self-in-Err c =
+    insert-searched c.self.inside.items.items c.deref.result.now c.insert.new.self.items c.args.number c.in-Err.place c.insert.result c.self.invariant
+    c.deref.ensures.value c.in-Err.ensures.position c.insert.ensures.items
+
+pub returns-in-Ok : goal.returns-in-Ok
+returns-in-Ok c =
+    rw (← c.self.view_is)
+    (is_in-known c.args.number c.self.inside.items.items
+    (is_in-searched c.self.inside.items.items c.deref.result.now c.args.number c.in-Ok.field-0 c.self.invariant c.deref.ensures.value c.in-Ok.ensures.position))
+
+pub returns-in_ok-insert-in-Err : goal.returns-in_ok-insert-in-Err
+returns-in_ok-insert-in-Err c =
+    rw (← c.self.view_is)
+    (λ j. ap (is_in j) c.in_ok-insert-in-Err.ensures.items ∙ insert-members c.self.inside.items.items c.in-Err.place c.args.number j)

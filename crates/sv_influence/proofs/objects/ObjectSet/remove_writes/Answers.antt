@@ -1,0 +1,35 @@
+use Rattle.std.proofs.Common.{◌≡◌, ℕ, ◌+◌, Bool, ◌&&◌, not, List, ◌∷◌, drop, get_or, nat_eq, sym, ◌∙◌, ap}
+use Rattle.sv_world.specs.Control.{is_in}
+use Rattle.sv_world.specs.Sets.{read_set, at_mask}
+use Rattle.sv_influence.specs.declared.objects.ObjectSet.{ObjectSet}
+use Rattle.sv_influence.specs.Objects.{has_object}
+use Rattle.sv_influence.proofs.ReadSets.{read_low, read_at, masked_hit, masked_miss, and_not_or}
+use Rattle.sv_influence.proofs.objects.ObjectSet.remove_writes.Goals as goal
+use Rattle.sv_influence.proofs.objects.ObjectSet.remove_writes.Goals.{then-action-slot-eq1, else-action-slot-eq1}
+
+pub remove-requires : goal.remove-requires
+remove-requires c =
+    read_low 4096 c.args.action.now c.as_slice-object-items.result.now c.loop-slot.slot record { 0 = 0 } c.loop-slot.invariant.items c.requires.low c.loop-slot-test.true
+
+pub loop-slot-preserved : goal.loop-slot-preserved
+loop-slot-preserved c =
+    let d = read_at c.args.action.now c.as_slice-object-items.result.now c.loop-slot.slot record { 0 = 0 } c.loop-slot.invariant.items c.loop-slot-test.true in
+    let o = (get_or c.as_slice-object-items.result.now c.loop-slot.slot record { 0 = 0 }).0 in
+    let mask = c.args.action.now.mask in
+    let k = c.loop-slot.slot in
+    let left = at_mask mask (k + 1) (drop (k + 1) (read_set c.args.action.now)) in
+    record {
+      items = c.loop-slot.invariant.items;
+      rest = elim c.if-action-slot-eq1.branch [
+        | then-action-slot-eq1 w ↦ (λ x.
+            ap (λ (s : ObjectSet). has_object s.words x && not (is_in x left)) w.self-is
+            ∙ ap (λ (b : Bool). b && not (is_in x left)) (w.remove.ensures x)
+            ∙ and_not_or (has_object c.loop-slot.self.words x) (nat_eq x o) (is_in x left)
+            ∙ sym (ap (λ (ys : List ℕ). has_object c.loop-slot.self.words x && not (is_in x ys)) (masked_hit mask k o _ _ d w.if-action-slot-eq1.true))
+            ∙ c.loop-slot.invariant.rest x)
+        | else-action-slot-eq1 w ↦ (λ x.
+            ap (λ (s : ObjectSet). has_object s.words x && not (is_in x left)) w.self-is
+            ∙ sym (ap (λ (ys : List ℕ). has_object c.loop-slot.self.words x && not (is_in x ys)) (masked_miss mask k o _ _ d w.if-action-slot-eq1.false))
+            ∙ c.loop-slot.invariant.rest x)
+      ];
+    }

@@ -1,0 +1,84 @@
+use Rattle.std.proofs.Common.{◌≡◌, ℕ, ◌<◌, ◌≤◌, ◌-◌, Bool, true, [], List, Vec, Global, reverse, sym, ◌∙◌, ap, subst, arith}
+use Rattle.std.proofs.lemmas.List.{reverse-reverse}
+use Rattle.sv_world.specs.Control.{reads_committed}
+use Rattle.sv_queue.specs.Queue.{queue_actions}
+use Rattle.sv_influence.specs.declared.objects.ObjectSet.{ObjectSet}
+use Rattle.sv_influence.specs.Lacking.{lacking}
+use Rattle.sv_influence.specs.Objects.{has_object}
+use Rattle.sv_influence.proofs.Counts.{above}
+use Rattle.sv_influence.proofs.Visits.{AreToBeHad, visited, passed, none-had, items-had, bases-had}
+use Rattle.sv_influence.proofs.plain.plain_closure.Goals as goal
+use Rattle.sv_influence.proofs.plain.plain_closure.Goals.{then-is_wanted+in_ok-visit, else-is_wanted}
+
+pub loop-at-init : goal.loop-at-init
+loop-at-init g c =
+    let v = c.args.queue.now in
+    let low : v.commit < c.args.pos = c.requires.0 in
+    let e = c.commit-commit.ensures in
+    let none = none-had v c.args.session c.args.pos low in
+    record {
+      commit = e;
+      low = omega arith;
+      high = omega arith;
+      items = c.new-items.ensures.items ∙ sym (ap reverse none);
+      objects = λ x. c.new-objects.ensures x ∙ sym (ap (λ (ks : List ℕ). reads_committed (queue_actions v) c.args.pos x ks) none);
+    }
+
+pub loop-at-preserved : goal.loop-at-preserved
+loop-at-preserved g c =
+    let v = c.args.queue.now in
+    let s = c.args.session in
+    let pos = c.args.pos in
+    let at = c.loop-at.at in
+    let e = c.loop-at.invariant.commit in
+    let t = c.loop-at-test.true in
+    let low : v.commit < at = omega arith in
+    let high = c.loop-at.invariant.high in
+    let f = has_object c.loop-at.objects.words in
+    record {
+      commit = e;
+      low = omega arith;
+      high = omega arith;
+      items = elim c.if-is_wanted.branch [
+        | then-is_wanted+in_ok-visit w ↦
+            ap (λ (u : Vec ℕ Global). u.items) w.items-is
+            ∙ (visited v s pos at f (has_object w.visit.new.objects.words) c.loop-at.items.items w.visit.new.items.items low high c.loop-at.invariant.objects
+            (sym c.is_wanted.ensures ∙ w.if-is_wanted.true) w.in_ok-visit.ensures.items w.in_ok-visit.ensures.objects c.loop-at.invariant.items).0
+        | else-is_wanted w ↦
+            ap (λ (u : Vec ℕ Global). u.items) w.items-is
+            ∙ (passed v s pos at f c.loop-at.items.items low high c.loop-at.invariant.objects (sym c.is_wanted.ensures ∙ w.if-is_wanted.false) c.loop-at.invariant.items).0
+      ];
+      objects = elim c.if-is_wanted.branch [
+        | then-is_wanted+in_ok-visit w ↦ (λ x.
+            ap (λ (o : ObjectSet). has_object o.words x) w.objects-is
+            ∙ (visited v s pos at f (has_object w.visit.new.objects.words) c.loop-at.items.items w.visit.new.items.items low high c.loop-at.invariant.objects
+            (sym c.is_wanted.ensures ∙ w.if-is_wanted.true) w.in_ok-visit.ensures.items w.in_ok-visit.ensures.objects c.loop-at.invariant.items).1 x)
+        | else-is_wanted w ↦ (λ x.
+            ap (λ (o : ObjectSet). has_object o.words x) w.objects-is
+            ∙ (passed v s pos at f c.loop-at.items.items low high c.loop-at.invariant.objects (sym c.is_wanted.ensures ∙ w.if-is_wanted.false) c.loop-at.invariant.items).1 x)
+      ];
+    }
+
+pub returns-clause-items : goal.returns-clause-items
+returns-clause-items g c =
+    let v = c.args.queue.now in
+    let N = lacking v c.args.session c.args.pos in
+    let e = c.loop-at.invariant.commit in
+    let l = c.loop-at.invariant.low in
+    let t = c.loop-at-test.false in
+    let low : v.commit < c.args.pos = c.requires.0 in
+    let here : c.loop-at.at ≡ v.commit = omega arith in
+    c.from_vec.ensures ∙ c.reverse.ensures.items ∙ ap reverse c.loop-at.invariant.items ∙ reverse-reverse (above c.loop-at.at N)
+    ∙ ap (λ (n : ℕ). above n N) here ∙ items-had v c.args.session c.args.pos low
+
+pub returns-clause-head : goal.returns-clause-head
+returns-clause-head g c =
+    let v = c.args.queue.now in
+    let e = c.loop-at.invariant.commit in
+    let l = c.loop-at.invariant.low in
+    let t = c.loop-at-test.false in
+    let low : v.commit < c.args.pos = c.requires.0 in
+    let here : c.loop-at.at ≡ v.commit = omega arith in
+    c.in_ok-head.ensures
+    ∙ bases-had v c.args.session c.args.pos (has_object c.loop-at.objects.words) low
+    (subst (λ (n : ℕ). AreToBeHad v c.args.session c.args.pos n (has_object c.loop-at.objects.words)) here c.loop-at.invariant.objects)

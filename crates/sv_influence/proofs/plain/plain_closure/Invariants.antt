@@ -1,0 +1,18 @@
+use Rattle.std.proofs.Common.{◌≡◌, ◌≤◌, reverse}
+use Rattle.sv_influence.specs.Lacking.{lacking}
+use Rattle.sv_influence.specs.Objects.{has_object}
+use Rattle.sv_influence.proofs.Counts.{above}
+use Rattle.sv_influence.proofs.Visits.{AreToBeHad}
+use Rattle.sv_influence.proofs.plain.plain_closure.Given as goal
+
+abbrev pub invariant-loop-at : goal.invariant-loop-at
+invariant-loop-at g l = record {
+  commit : l.commit ≡ l.queue.commit;
+  low : l.commit ≤ l.at;
+  high : l.at ≤ l.pos;
+  items : l.items.items ≡ reverse (above l.at (lacking l.queue l.session l.pos));
+  objects : AreToBeHad l.queue l.session l.pos l.at (has_object l.objects.words);
+}
+
+abbrev pub decreases-loop-at : goal.decreases-loop-at
+decreases-loop-at g l = l.at

@@ -1,0 +1,7 @@
+-- Sets of objects below 4,096, one bit for each.
+use Rattle.std.specs.Prelude.{ℕ, ◌/◌, ◌%◌, Bool, ◌==◌, List, slice_index}
+use Rattle.std.specs.Int.{bit_at}
+
+-- The set has the object.
+abbrev pub has_object : List ℕ → ℕ → Bool
+has_object words x = bit_at (slice_index words (x / 64)) (x % 64) == 1

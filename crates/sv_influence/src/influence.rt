@@ -1,0 +1,59 @@
+ghost use Rattle.std.specs.Prelude.{◌≡◌, ◌<◌, All};
+ghost use Rattle.sv_world.specs.Control.{chain_length, influence_distance, distance};
+ghost use Rattle.sv_world.specs.Sets.{read_set};
+ghost use Rattle.sv_queue.specs.Queue.{queue_actions};
+
+use crate::answers::Chain;
+use crate::objects::ObjectSet;
+use std::marker::Brand;
+use std::sync::ledger::{Blank, Ledger};
+use sv_queue::{Queue, Steps};
+use sv_world::{Action, Point};
+
+/// How many uncommitted actions a new action depends on, directly or through others, and how far away they were made.
+///
+/// It walks down the queue with the set of the objects read so far. Since an action reads what it writes, the set only grows, and an
+/// action that writes an object in it is one that the new action depends on. It takes no memory, on a queue of any length.
+pub fn chain(queue: &Queue, action: &Action) -> Chain
+    requires { All (λ x. x < queue.now.shape.objects) (read_set action.now) }
+    ensures count { result.count ≡ chain_length (queue_actions queue.now) queue.now.commit action.now }
+    ensures far { result.far ≡ influence_distance (queue_actions queue.now) queue.now.commit action.now }
+{
+    walk_down::<Brand>(queue, action, Blank::new(1))
+}
+
+fn walk_down<L: Ledger>(queue: &Queue, action: &Action, blank: Blank) -> Chain
+    requires name { blank.name ≡ L.name }
+    requires parts { blank.parts ≡ L.parts }
+    requires some { 0 < blank.parts }
+    requires reads { All (λ x. x < queue.now.shape.objects) (read_set action.now) }
+    ensures count { result.count ≡ chain_length (queue_actions queue.now) queue.now.commit action.now }
+    ensures far { result.far ≡ influence_distance (queue_actions queue.now) queue.now.commit action.now }
+{
+    let mut steps = Steps::<L>::new(blank);
+    let commit = queue.commit();
+    let shape = queue.shape();
+    prove!(shape.objects <= 4096);
+    let mut objects = ObjectSet::new();
+    objects.add_reads(action);
+    let mut count = 0;
+    let mut far = 0;
+    let mut pos = queue.last();
+    while pos > commit {
+        let entry = queue.entry(pos, &mut steps);
+        if objects.meets_writes(entry.action) {
+            count += 1;
+            far = distance(action.origin, entry.action.origin).max(far);
+            objects.add_reads(entry.action);
+        }
+        pos -= 1;
+    }
+    Chain { count, far }
+}
+
+/// The greater of the distances on the two axes.
+fn distance(from: Point, to: Point) -> u32
+    ensures { result ≡ distance from to }
+{
+    from.x.abs_diff(to.x).max(from.y.abs_diff(to.y))
+}

@@ -1,0 +1,141 @@
+ghost use Rattle.std.specs.Prelude.{◌≡◌, ℕ, ◌+◌, ◌*◌, ◌<◌, ◌≤◌, true, [], ◌∷◌, ◌++◌, map, length, IfOk, OnOk, All};
+ghost use Rattle.sv_world.specs.declared.world.ObjectId.{ObjectId};
+ghost use Rattle.sv_world.specs.Control.{is_in, wanted_up_to};
+ghost use Rattle.sv_queue.specs.Queue.{IsUncommitted, queue_actions, sent_positions};
+ghost use Rattle.sv_influence.specs.Lacking.{lacking, base_objects, lacking_writers, committed_reads, reads_at};
+
+use crate::answers::Closure;
+use crate::numbers::Numbers;
+use std::alloc::{AllocError, Global};
+use std::sync::ledger::Ledger;
+use sv_queue::{Queue, Steps};
+use sv_world::{List, ObjectId};
+
+/// What a relay of an uncommitted position has for a session: the positions that the session lacks, and the objects whose committed
+/// values it needs with them.
+///
+/// It goes from the position to the last writers of what it reads, from these to theirs, and so on, and looks at no other position: its
+/// work grows with what it answers, and not with the queue.
+pub fn closure<L: Ledger>(
+    alloc: Global,
+    queue: &Queue,
+    session: u16,
+    pos: u32,
+    steps: &mut Steps<L>,
+) -> Result<Closure, AllocError>
+    requires { IsUncommitted queue.now pos }
+    ensures items { IfOk result (λ c. c.items ≡ lacking queue.now session pos) }
+    ensures head { IfOk result (λ c. map (λ (o : ObjectId). o.0) c.head ≡ base_objects queue.now session pos) }
+    ensures ticks { steps.new ≤ steps.old + 33 * length (lacking queue.now session pos) + 1 }
+{
+    let mut wanted = Numbers::new(alloc);
+    if !queue.is_marked(pos, session, steps) {
+        wanted.insert(pos)?;
+    }
+    let found = expand_all(alloc, queue, session, pos, wanted, steps)?;
+    let Found { items, bases } = found;
+    let shape = queue.shape();
+    prove!(shape.objects <= 4096);
+    let head = objects_of(alloc, bases)?;
+    Ok(Closure {
+        items: List::from_vec(items),
+        head,
+    })
+}
+
+/// The positions that were wanted, and the objects that these read as committed; both ascending.
+#[derive(Drop)]
+struct Found {
+    items: Vec<u32>,
+    bases: Vec<u32>,
+}
+
+/// Takes the greatest wanted position, until there is none. What it makes wanted lies below it, so each comes once.
+fn expand_all<L: Ledger>(
+    alloc: Global,
+    queue: &Queue,
+    session: u16,
+    pos: u32,
+    mut wanted: Numbers,
+    steps: &mut Steps<L>,
+) -> Result<Found, AllocError>
+    requires pos { IsUncommitted queue.now pos }
+    requires within { (j : ℕ) → is_in j wanted ≡ true → (queue.now.commit < j) × (j ≤ pos) }
+    requires whole { wanted_up_to (queue_actions queue.now) queue.now.commit (sent_positions queue.now session) pos wanted ≡ lacking queue.now session pos }
+    ensures items { IfOk result (λ f. f.items.items ≡ lacking queue.now session pos) }
+    ensures bases { IfOk result (λ f. f.bases.items ≡ base_objects queue.now session pos) }
+    ensures ticks { steps.new ≤ steps.old + 33 * length (lacking queue.now session pos) }
+{
+    let mut items = Vec::new(alloc);
+    let mut bases = Numbers::new(alloc);
+    while let Some(next) = wanted.pop() {
+        items.push(next)?;
+        expand(queue, session, next, &mut wanted, &mut bases, steps)?;
+    }
+    items.reverse();
+    Ok(Found {
+        items,
+        bases: bases.into_vec(),
+    })
+}
+
+/// Looks at each object that a position reads.
+fn expand<L: Ledger>(
+    queue: &Queue,
+    session: u16,
+    pos: u32,
+    wanted: &mut Numbers,
+    bases: &mut Numbers,
+    steps: &mut Steps<L>,
+) -> Result<(), AllocError>
+    requires { IsUncommitted queue.now pos }
+    ensures wanted { OnOk result ((j : ℕ) → is_in j wanted.new ≡ is_in j (lacking_writers queue.now session pos (reads_at queue.now pos) ++ wanted.old)) }
+    ensures bases { OnOk result ((x : ℕ) → is_in x bases.new ≡ is_in x (committed_reads queue.now session pos (reads_at queue.now pos) ++ bases.old)) }
+    ensures low { All (λ x. x < queue.now.shape.objects) (reads_at queue.now pos) }
+    ensures ticks { steps.new ≤ steps.old + 33 }
+{
+    let entry = queue.entry(pos, steps);
+    for object in entry.action.reads.as_slice() {
+        look_up(queue, session, pos, *object, wanted, bases, steps)?;
+    }
+    Ok(())
+}
+
+/// Where the object's last writer is committed the object is needed, unless it was given; where it is not, the writer is, unless it was sent.
+fn look_up<L: Ledger>(
+    queue: &Queue,
+    session: u16,
+    pos: u32,
+    object: ObjectId,
+    wanted: &mut Numbers,
+    bases: &mut Numbers,
+    steps: &mut Steps<L>,
+) -> Result<(), AllocError>
+    requires pos { IsUncommitted queue.now pos }
+    requires object { object.0 < queue.now.shape.objects }
+    ensures wanted { OnOk result ((j : ℕ) → is_in j wanted.new ≡ is_in j (lacking_writers queue.now session pos (object.0 ∷ []) ++ wanted.old)) }
+    ensures bases { OnOk result ((x : ℕ) → is_in x bases.new ≡ is_in x (committed_reads queue.now session pos (object.0 ∷ []) ++ bases.old)) }
+    ensures ticks { steps.new ≤ steps.old + 2 }
+{
+    let writer = queue.last_writer(object, pos, steps);
+    if writer == 0 {
+        if !queue.is_given(object, session) {
+            bases.insert(u32::from(object.0))?;
+        }
+    } else if !queue.is_marked(writer, session, steps) {
+        wanted.insert(writer)?;
+    }
+    Ok(())
+}
+
+/// Numbers of objects, as objects.
+fn objects_of(alloc: Global, numbers: Vec<u32>) -> Result<List<ObjectId>, AllocError>
+    requires { All (λ x. x < 65536) numbers.items }
+    ensures { IfOk result (λ list. map (λ (o : ObjectId). o.0) list ≡ numbers.items) }
+{
+    let mut objects = List::new(alloc);
+    for number in &numbers {
+        objects.push(ObjectId(*number as u16))?;
+    }
+    Ok(objects)
+}

@@ -1,0 +1,17 @@
+//! What a session lacks of an action, and what an action's influence is.
+#![tactic(auto)]
+
+mod answers;
+mod influence;
+mod lacking;
+mod numbers;
+mod objects;
+mod plain;
+
+pub use answers::{Chain, Closure};
+pub use influence::chain;
+pub use lacking::closure;
+pub use plain::plain_closure;
+
+#[cfg(test)]
+mod tests;

@@ -1,0 +1,63 @@
+ghost use Rattle.std.specs.Prelude.{◌≡◌, ℕ, true, [], ◌∷◌, ◌++◌, OnOk, IfSome, IfNone};
+ghost use Rattle.sv_world.specs.Control.{is_in};
+ghost use Rattle.sv_world.specs.Faults.{is_ascending};
+
+use std::alloc::{AllocError, Global};
+use std::marker::Model;
+
+/// Numbers in ascending order, each once.
+#[derive(Drop)]
+pub struct Numbers {
+    items: Vec<u32>,
+}
+
+impl Model for Numbers {
+    ghost use Rattle.std.specs.Prelude.{◌≡◌, ℕ, true, List};
+    ghost use Rattle.sv_world.specs.Faults.{is_ascending};
+
+    ghost Value = { List ℕ };
+
+    ghost view = { λ a. a.items.items };
+
+    ghost invariant = { λ a. is_ascending a.items.items ≡ true };
+}
+
+impl Numbers {
+    pub fn new(alloc: Global) -> Numbers
+        ensures { result ≡ [] }
+    {
+        Numbers {
+            items: Vec::new(alloc),
+        }
+    }
+
+    /// The numbers as they are otherwise, and this one.
+    pub fn insert(&mut self, number: u32) -> Result<(), AllocError>
+        ensures { OnOk result ((j : ℕ) → is_in j self.new ≡ is_in j (number ∷ self.old)) }
+    {
+        match self.items.binary_search(&number) {
+            Ok(_) => Ok(()),
+            Err(place) => {
+                self.items.insert(place, number)?;
+                Ok(())
+            }
+        }
+    }
+
+    /// Takes the greatest off.
+    pub fn pop(&mut self) -> Option<u32>
+        ensures none { IfNone result (self.old ≡ []) }
+        ensures some { IfSome result (λ x. self.old ≡ self.new ++ x ∷ []) }
+        ensures ascending { is_ascending self.old ≡ true }
+    {
+        self.items.pop()
+    }
+
+    pub fn into_vec(self) -> Vec<u32>
+        ensures items { result.items ≡ self }
+        ensures ascending { is_ascending self ≡ true }
+    {
+        let Numbers { items } = self;
+        items
+    }
+}

@@ -1,0 +1,111 @@
+ghost use Rattle.std.specs.Prelude.{◌≡◌, ℕ, ◌-◌, ◌<◌, ◌≤◌, ◌&&◌, ◌||◌, not, [], ◌∷◌, ◌++◌, map, filter, nat_eq, IfOk, OnOk, if◌then◌else◌};
+ghost use Rattle.sv_world.specs.declared.world.ObjectId.{ObjectId};
+ghost use Rattle.sv_world.specs.Control.{is_in, below, action_at};
+ghost use Rattle.sv_world.specs.Sets.{read_set, write_set};
+ghost use Rattle.std.specs.List.{list_any};
+ghost use Rattle.sv_queue.specs.Queue.{IsUncommitted, queue_actions, sent_positions, given_objects};
+ghost use Rattle.sv_influence.specs.Lacking.{lacking, base_objects};
+ghost use Rattle.sv_influence.specs.Objects.{has_object};
+
+use crate::answers::Closure;
+use crate::objects::ObjectSet;
+use std::alloc::{AllocError, Global};
+use std::sync::ledger::Ledger;
+use sv_queue::{Queue, Steps};
+use sv_world::{List, ObjectId};
+
+/// The same as [`closure`](crate::closure), by a walk over the queue from the position downwards with the set of the objects that are
+/// still to be had. A position that writes one of them is an item, unless it was sent: then its objects leave the set.
+///
+/// Its work grows with the queue. It is there to compare with.
+pub fn plain_closure<L: Ledger>(
+    alloc: Global,
+    queue: &Queue,
+    session: u16,
+    pos: u32,
+    steps: &mut Steps<L>,
+) -> Result<Closure, AllocError>
+    requires { IsUncommitted queue.now pos }
+    ensures items { IfOk result (λ c. c.items ≡ lacking queue.now session pos) }
+    ensures head { IfOk result (λ c. map (λ (o : ObjectId). o.0) c.head ≡ base_objects queue.now session pos) }
+{
+    let commit = queue.commit();
+    let mut objects = ObjectSet::new();
+    let mut items = Vec::new(alloc);
+    let mut at = pos;
+    while at > commit {
+        if is_wanted(queue, pos, at, &objects, steps) {
+            visit(queue, session, at, &mut items, &mut objects, steps)?;
+        }
+        at -= 1;
+    }
+    items.reverse();
+    let head = bases_among(alloc, queue, session, &objects)?;
+    Ok(Closure {
+        items: List::from_vec(items),
+        head,
+    })
+}
+
+/// The position asked for, or one that writes an object of the set.
+fn is_wanted<L: Ledger>(
+    queue: &Queue,
+    pos: u32,
+    at: u32,
+    objects: &ObjectSet,
+    steps: &mut Steps<L>,
+) -> bool
+    requires { IsUncommitted queue.now at }
+    ensures { result ≡ (nat_eq at pos || list_any (λ x. has_object objects.now.words x) (write_set (action_at (queue_actions queue.now) at))) }
+{
+    let shape = queue.shape();
+    prove!(shape.objects <= 4096);
+    let entry = queue.entry(at, steps);
+    at == pos || objects.meets_writes(entry.action)
+}
+
+/// Takes a wanted position as an item, or removes the objects that it writes where it was sent.
+fn visit<L: Ledger>(
+    queue: &Queue,
+    session: u16,
+    at: u32,
+    items: &mut Vec<u32>,
+    objects: &mut ObjectSet,
+    steps: &mut Steps<L>,
+) -> Result<(), AllocError>
+    requires at { IsUncommitted queue.now at }
+    ensures items { OnOk result (items.new.items ≡ (if is_in at (sent_positions queue.now session) then items.old.items else items.old.items ++ at ∷ [])) }
+    ensures objects { OnOk result ((x : ℕ) → has_object objects.new.words x ≡ (if is_in at (sent_positions queue.now session) then has_object objects.old.words x && not (is_in x (write_set (action_at (queue_actions queue.now) at))) else is_in x (read_set (action_at (queue_actions queue.now) at)) || has_object objects.old.words x)) }
+{
+    let shape = queue.shape();
+    prove!(shape.objects <= 4096);
+    let entry = queue.entry(at, steps);
+    if queue.is_marked(at, session, steps) {
+        objects.remove_writes(entry.action);
+    } else {
+        items.push(at)?;
+        objects.add_reads(entry.action);
+    }
+    Ok(())
+}
+
+/// Of the objects of a set, those that were not given to a session, ascending.
+fn bases_among(
+    alloc: Global,
+    queue: &Queue,
+    session: u16,
+    objects: &ObjectSet,
+) -> Result<List<ObjectId>, AllocError>
+    ensures { IfOk result (λ list. map (λ (o : ObjectId). o.0) list ≡ filter (λ x. has_object objects.now.words x && not (is_in x (given_objects queue.now session))) (below queue.now.shape.objects)) }
+{
+    let shape = queue.shape();
+    prove!(shape.objects <= 4096);
+    let mut bases = List::new(alloc);
+    for number in 0..shape.objects {
+        let object = ObjectId(number);
+        if objects.has(object) && !queue.is_given(object, session) {
+            bases.push(object)?;
+        }
+    }
+    Ok(bases)
+}

@@ -1,0 +1,71 @@
+-- What pending actions say, one after another.
+use Rattle.std.proofs.Common.{◌≡◌, ℕ, zero, suc, ◌+◌, ◌<◌, List, [], ◌∷◌, ◌++◌, length, get_or, drop, Option, None, option_map, refl, sym, ap, ◌∙◌, arith}
+use Rattle.std.specs.Prelude.{ℤ}
+use Rattle.sv_versions.specs.Held.{Held}
+use Rattle.sv_pending.specs.Pending.{PendingAction, kept_of, redone_after}
+use Rattle.sv_pending.specs.declared.made.Made.{Made}
+use Rattle.sv_pending.specs.Made.{paired, IsWhole, AreWhole}
+
+abbrev Result : Type 0
+Result = Option (List (List ℤ))
+
+abbrev pub entry : Made → Option (List (List ℤ)) → PendingAction
+entry m k = record { seq = m.seq; action = m.action; kept = k }
+
+-- one more result
+pub paired_more : (ms : List Made) (ks : List (Option (List (List ℤ)))) (k : Option (List (List ℤ))) (d : Made) → length ks < length ms → paired ms (ks ++ k ∷ []) ≡ paired ms ks ++ entry (get_or ms (length ks) d) k ∷ []
+paired_more [] ks k d h = absurd (omega arith)
+paired_more (m ∷ []) [] k d h = refl
+paired_more (m ∷ (n ∷ ms)) [] k d h = refl
+paired_more (m ∷ ms) (j ∷ ks) k d h = ap (λ ps. entry m j ∷ ps) (paired_more ms ks k d (omega arith))
+
+pub whole_more : (ms : List Made) (ks : List (Option (List (List ℤ)))) (k : Option (List (List ℤ))) (d : Made) → length ks < length ms → AreWhole ms ks → IsWhole (get_or ms (length ks) d).action k → AreWhole ms (ks ++ k ∷ [])
+whole_more [] ks k d h a w = absurd (omega arith)
+whole_more (m ∷ []) [] k d h a w = (w, tt)
+whole_more (m ∷ (n ∷ ms)) [] k d h a w = (w, tt)
+whole_more (m ∷ ms) (j ∷ ks) k d h a w = (a.0, whole_more ms ks k d (omega arith) a.1 w)
+
+pub paired_none : (ms : List Made) → paired ms [] ≡ []
+paired_none [] = refl
+paired_none (m ∷ ms) = refl
+
+pub whole_none : (ms : List Made) → AreWhole ms []
+whole_none [] = tt
+whole_none (m ∷ ms) = tt
+
+-- one more action
+pub paired_push : (ms : List Made) (ks : List (Option (List (List ℤ)))) (m : Made) (k : Option (List (List ℤ))) → length ks ≡ length ms → paired (ms ++ m ∷ []) (ks ++ k ∷ []) ≡ paired ms ks ++ entry m k ∷ []
+paired_push [] [] m k e = refl
+paired_push [] (j ∷ ks) m k e = absurd (omega arith)
+paired_push (n ∷ ms) [] m k e = absurd (omega arith)
+paired_push (n ∷ ms) (j ∷ ks) m k e = ap (λ ps. entry n j ∷ ps) (paired_push ms ks m k (omega arith))
+
+pub whole_push : (ms : List Made) (ks : List (Option (List (List ℤ)))) (m : Made) (k : Option (List (List ℤ))) → length ks ≡ length ms → AreWhole ms ks → IsWhole m.action k → AreWhole (ms ++ m ∷ []) (ks ++ k ∷ [])
+whole_push [] [] m k e a w = (w, tt)
+whole_push [] (j ∷ ks) m k e a w = absurd (omega arith)
+whole_push (n ∷ ms) [] m k e a w = absurd (omega arith)
+whole_push (n ∷ ms) (j ∷ ks) m k e a w = (a.0, whole_push ms ks m k (omega arith) a.1 w)
+
+pub length-paired : (ms : List Made) (ks : List (Option (List (List ℤ)))) → length ks ≡ length ms → length (paired ms ks) ≡ length ms
+length-paired [] ks e = refl
+length-paired (m ∷ ms) [] e = absurd (omega arith)
+length-paired (m ∷ ms) (k ∷ ks) e = ap suc (length-paired ms ks (omega arith))
+
+-- the rest of the list to redo, with the next of it
+pub drop_paired : (ms : List Made) (ks : List (Option (List (List ℤ)))) (i : ℕ) (d : Made) (e : Option (List (List ℤ))) → length ks ≡ length ms → i < length ms → drop i (paired ms ks) ≡ entry (get_or ms i d) (get_or ks i e) ∷ drop (i + 1) (paired ms ks)
+drop_paired [] ks i d e l h = absurd (omega arith)
+drop_paired (m ∷ ms) [] i d e l h = absurd (omega arith)
+drop_paired (m ∷ ms) (k ∷ ks) zero d e l h = refl
+drop_paired (m ∷ ms) (k ∷ ks) (suc i) d e l h =
+    let next : suc i + 1 ≡ suc (i + 1) = omega arith in
+    rw next (drop_paired ms ks i d e (omega arith) (omega arith))
+
+pub redo_more : (held : List Held) (ms : List Made) (ks done : List (Option (List (List ℤ)))) (k : Option (List (List ℤ))) (d : Made) → length ks ≡ length ms → length done < length ms → k ≡ kept_of held (paired ms done) (get_or ms (length done) d).action → redone_after held (paired ms done) (drop (length done) (paired ms ks)) ≡ redone_after held (paired ms (done ++ k ∷ [])) (drop (length done + 1) (paired ms ks))
+redo_more held ms ks done k d l h e =
+    ap (λ ps. redone_after held (paired ms done) ps) (drop_paired ms ks (length done) d None l h)
+    ∙ ap (λ (j : Option (List (List ℤ))). redone_after held (paired ms done ++ entry (get_or ms (length done) d) j ∷ []) (drop (length done + 1) (paired ms ks))) (sym e)
+    ∙ ap (λ ps. redone_after held ps (drop (length done + 1) (paired ms ks))) (sym (paired_more ms done k d h))
+
+-- views, one after another
+abbrev pub with_views : List (List ℤ) → Option (List (List ℤ)) → Option (List (List ℤ))
+with_views vs rest = option_map (λ ws. vs ++ ws) rest

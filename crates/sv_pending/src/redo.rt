@@ -1,0 +1,142 @@
+ghost use Rattle.std.specs.Prelude.{◌≡◌, ◌<◌, ◌≤◌, map, length, option_copied, IfOk, IfSome, All, List, Option, ℤ};
+ghost use Rattle.sv_world.specs.declared.world.ObjectId.{ObjectId};
+ghost use Rattle.sv_world.specs.Sets.{write_set};
+ghost use Rattle.sv_pending.specs.Pending.{overlay_of, view_over, views_over, kept_of, redone};
+ghost use Rattle.sv_pending.specs.Made.{paired, overlay_by, place_in, IsWhole, AreWhole, ReadsWithin};
+ghost use Rattle.sv_pending.specs.Seen.{overlay_seen};
+
+use crate::Overlay;
+use crate::made::{Kept, Made};
+use std::alloc::{AllocError, Global};
+use sv_eval::eval;
+use sv_versions::Versions;
+use sv_world::{Action, List as Items, ObjectId, Value, copy_value, is_in_mask};
+
+/// The place of an object among those that an action writes.
+fn place_of(action: &Action, object: ObjectId) -> Option<usize>
+    ensures { result ≡ place_in object.0 (write_set action.now) }
+{
+    let reads = action.reads.as_slice();
+    let mut place = 0;
+    for (slot, read) in reads.iter().enumerate() {
+        if is_in_mask(action.mask, slot) {
+            if *read == object {
+                return Some(place);
+            }
+            place += 1;
+        }
+    }
+    None
+}
+
+/// What one action says of an object.
+fn overlay_by<'a>(made: &'a Made, kept: &'a Kept, object: ObjectId) -> Overlay<'a>
+    requires { IsWhole made.now.action kept.now }
+    ensures { overlay_seen result ≡ overlay_by (record { seq = made.now.seq; action = made.now.action; kept = kept.now }) object.0 }
+{
+    let Some(place) = place_of(&made.action, object) else {
+        return Overlay::Unwritten;
+    };
+    match kept {
+        None => Overlay::Unknown,
+        Some(values) => Overlay::Kept(&values.as_slice()[place]),
+    }
+}
+
+/// What the last of the actions that writes an object says of it.
+pub fn overlay_in<'a>(made: &'a [Made], kept: &'a [Kept], object: ObjectId) -> Overlay<'a>
+    requires { AreWhole made.now kept.now }
+    ensures { overlay_seen result ≡ overlay_of (paired made.now kept.now) object.0 }
+{
+    let Some((first, rest)) = made.split_first() else {
+        return Overlay::Unwritten;
+    };
+    let Some((first_kept, rest_kept)) = kept.split_first() else {
+        return Overlay::Unwritten;
+    };
+    match overlay_in(rest, rest_kept, object) {
+        Overlay::Unwritten => overlay_by(first, first_kept, object),
+        Overlay::Unknown => Overlay::Unknown,
+        Overlay::Kept(value) => Overlay::Kept(value),
+    }
+}
+
+/// An object's value over these actions, where it is known.
+fn view_in<'a>(
+    made: &'a [Made],
+    kept: &'a [Kept],
+    versions: &'a Versions,
+    object: ObjectId,
+) -> Option<&'a Value>
+    requires whole { AreWhole made.now kept.now }
+    requires object { object.0 < versions.now.shape.objects }
+    ensures { option_copied result ≡ view_over versions.now.held (paired made.now kept.now) object.0 }
+{
+    match overlay_in(made, kept, object) {
+        Overlay::Unwritten => versions.latest(object),
+        Overlay::Unknown => None,
+        Overlay::Kept(value) => Some(value),
+    }
+}
+
+/// The values of objects over these actions, where all are known.
+fn views_in(
+    alloc: Global,
+    made: &[Made],
+    kept: &[Kept],
+    versions: &Versions,
+    objects: &[ObjectId],
+) -> Result<Kept, AllocError>
+    requires whole { AreWhole made.now kept.now }
+    requires objects { All (λ (o : ObjectId). o.0 < versions.now.shape.objects) objects.now }
+    ensures views { IfOk result (λ views. views ≡ views_over versions.now.held (paired made.now kept.now) (map (λ (o : ObjectId). o.0) objects.now)) }
+    ensures long { IfOk result (λ views. IfSome views (λ values. length values ≡ length objects.now)) }
+{
+    let mut views = Vec::with_capacity(alloc, objects.len())?;
+    for object in objects {
+        let Some(value) = view_in(made, kept, versions, *object) else {
+            return Ok(None);
+        };
+        views.push(copy_value(alloc, value)?)?;
+    }
+    Ok(Some(Items::from_vec(views)))
+}
+
+/// What an action would give its written objects over these actions.
+pub fn kept_in(
+    alloc: Global,
+    made: &[Made],
+    kept: &[Kept],
+    versions: &Versions,
+    action: &Action,
+) -> Result<Kept, AllocError>
+    requires whole { AreWhole made.now kept.now }
+    requires reads { ReadsWithin versions.now.shape.objects action.now }
+    ensures kept { IfOk result (λ values. values ≡ kept_of versions.now.held (paired made.now kept.now) action.now) }
+    ensures whole { IfOk result (λ values. IsWhole action.now values) }
+{
+    let Some(values) = views_in(alloc, made, kept, versions, action.reads.as_slice())? else {
+        return Ok(None);
+    };
+    let outcome = eval(alloc, action, values.as_slice())?;
+    Ok(Some(outcome.writes))
+}
+
+/// The results of all actions, in order, each over the actions before it.
+pub fn results_in(
+    alloc: Global,
+    made: &[Made],
+    versions: &Versions,
+) -> Result<Vec<Kept>, AllocError>
+    requires { All (λ m. ReadsWithin versions.now.shape.objects m.action) made.now }
+    ensures redone { IfOk result (λ done. (ks : List (Option (List (List ℤ)))) → length ks ≡ length made.now → paired made.now done.items ≡ redone versions.now.held (paired made.now ks)) }
+    ensures whole { IfOk result (λ done. AreWhole made.now done.items) }
+    ensures long { IfOk result (λ done. length done.items ≡ length made.now) }
+{
+    let mut done = Vec::with_capacity(alloc, made.len())?;
+    for next in made {
+        let kept = kept_in(alloc, made, &done, versions, &next.action)?;
+        done.push(kept)?;
+    }
+    Ok(done)
+}

@@ -1,0 +1,9 @@
+pub mod Entries
+pub mod GoodActions
+pub mod Installs
+pub mod Kept
+pub mod Members
+pub mod PairSets
+pub mod PositionLists
+pub mod SessionSets
+pub mod WrittenObjects

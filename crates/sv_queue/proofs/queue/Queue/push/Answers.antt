@@ -1,0 +1,25 @@
+use Rattle.std.proofs.Common.{◌≡◌, suc, ◌+◌, ◌^◌, ◌<◌, ◌∙◌, [], ◌∷◌, ◌++◌, length, None, ap, arith}
+use Rattle.sv_world.specs.Faults.{IsGoodAction}
+use Rattle.sv_queue.specs.declared.queued.Queued.{Queued}
+use Rattle.sv_queue.specs.Queue.{QueueView, last_position}
+use Rattle.sv_queue.proofs.Kept.{agree_push, can_write}
+use Rattle.sv_queue.proofs.queue.Queue.push.Goals as goal
+
+pub add-requires : goal.add-requires
+add-requires c =
+    let a = c.self.inside in
+    let good : IsGoodAction a.shape c.args.action = rw (ap (λ (v : QueueView). v.shape) c.self.view_is) c.requires.good in
+    rw c.self.invariant.lists (can_write a.shape c.args.action good)
+
+pub invariant_of-self-2 : goal.invariant_of-self-2
+invariant_of-self-2 c =
+    let a = c.self.inside in
+    let es = a.entries.items in
+    let p = a.commit + c.len.result + 1 in
+    let e : Queued = record { author = c.args.author; seq = c.args.seq; action = c.args.action; result = None; marks = c.new.result } in
+    let added : c.push_back.new.self.items ≡ es ++ e ∷ [] = c.in-Ok.ensures.items ∙ ap (λ ds. ds ++ e ∷ []) c.in_ok-reserve.ensures.items in
+    let good : IsGoodAction a.shape c.args.action = rw (ap (λ (v : QueueView). v.shape) c.self.view_is) c.requires.good in
+    let at : p ≡ suc (a.commit + length es) = omega (arith, c.len.ensures, a.entries.ok.0) in
+    let last = ap (λ (v : QueueView). last_position v) c.self.view_is in
+    let room : p < 2 ^ 32 = omega (arith, at, last, c.requires.room) in
+    rw added (agree_push a.shape a.commit a.committed es a.writers c.add.new.self a.given.items e p c.self.invariant (record { action = good; values = tt; attrs = tt }) at room c.in_ok-add.ensures.ok)

@@ -1,0 +1,47 @@
+-- What a queue's fields keep.
+use Rattle.std.specs.Prelude.{◌≡◌, ℕ, suc, ◌+◌, ◌^◌, ◌<◌, List, [], ◌∷◌, length, ℤ, All, IfSome, slice_index_or, if◌then◌else◌}
+use Rattle.sv_world.specs.declared.world.Shape.{Shape}
+use Rattle.sv_world.specs.Control.{is_in}
+use Rattle.sv_world.specs.Faults.{IsGoodAction}
+use Rattle.sv_world.specs.Sets.{write_set}
+use Rattle.sv_queue.specs.declared.queue.Queue.TheInside.{Inside}
+use Rattle.sv_queue.specs.declared.queued.Queued.{Queued}
+use Rattle.sv_queue.specs.Pairs.{pairs_of}
+use Rattle.sv_queue.specs.Queue.{QueueView}
+use Rattle.sv_queue.specs.Worlds.{IsGoodShape, HaveAttrs}
+
+abbrev pub view_of : Inside → QueueView
+view_of a = record {
+  shape = a.shape;
+  commit = a.commit;
+  committed = a.committed;
+  entries = a.entries.items;
+  given = pairs_of a.shape.objects a.given.items;
+}
+
+-- Of the entries, which stand at the positions above n, the positions of those that write an object; ascending.
+abbrev pub writers_above : ℕ → List Queued → ℕ → List ℕ
+writers_above n [] x = []
+writers_above n (e ∷ es) x =
+    if is_in x (write_set e.action) then suc n ∷ writers_above (suc n) es x else writers_above (suc n) es x
+
+-- An entry that the queue may have: a good action, and a result of the right form if there is one.
+pub record IsGoodEntry (shape : Shape) (e : Queued) : Type 0 where
+  pub action : IsGoodAction shape e.action
+  pub values : IfSome e.result (λ values. length values ≡ length (write_set e.action))
+  pub attrs : IfSome e.result (HaveAttrs shape)
+
+-- `entries` are good, `writers` has for each object the uncommitted positions whose actions write it, and the other lists have an element
+-- for each object.
+pub record AgreeOn (shape : Shape) (commit : ℕ) (committed : List (List ℤ)) (entries : List Queued) (writers rows : List (List ℕ)) : Type 0 where
+  pub limits : IsGoodShape shape
+  pub objects : length committed ≡ shape.objects
+  pub attrs : HaveAttrs shape committed
+  pub good : All (IsGoodEntry shape) entries
+  pub last : commit + length entries < 2 ^ 32
+  pub lists : length writers ≡ shape.objects
+  pub indexed : (x : ℕ) → x < shape.objects → slice_index_or writers x [] ≡ writers_above commit entries x
+  pub given : length rows ≡ shape.objects
+
+abbrev pub IsQueue : Inside → Type 0
+IsQueue a = AgreeOn a.shape a.commit a.committed a.entries.items a.writers a.given.items

@@ -1,0 +1,7 @@
+pub mod Invariant
+pub mod Pairs
+pub mod Positions
+pub mod Queue
+pub mod Sessions
+pub mod Worlds
+pub mod Written

@@ -1,0 +1,270 @@
+ghost use Rattle.std.specs.Prelude.{◌≡◌, ◌+◌, ◌-◌, ◌^◌, ◌<◌, nat_lt, [], length, slice_index_or, is_some, IfOk, IsNone, OnOk, OnErr};
+ghost use Rattle.sv_world.specs.Control.{is_in, last_writer, action_at};
+ghost use Rattle.sv_world.specs.Faults.{IsGoodAction};
+ghost use Rattle.sv_world.specs.Sets.{write_set};
+ghost use Rattle.sv_queue.specs.Pairs.{is_pair};
+ghost use Rattle.sv_queue.specs.Queue.{IsUncommitted, last_position, entry_at, queue_actions, sent_positions, opening_queue, with_action, without_last, with_mark, with_result, with_given, ready, first_installed, installed};
+ghost use Rattle.sv_queue.specs.Worlds.{IsGoodShape, IsGoodWorld, HaveAttrs};
+
+use crate::queued::Queued;
+use crate::sessions::Sessions;
+use crate::steps::Steps;
+use crate::writers::Writers;
+use crate::written::{give_written, no_sessions, put_values};
+use std::alloc::{AllocError, Global};
+use std::collections::VecDeque;
+use std::marker::Model;
+use std::sync::ledger::Ledger;
+use sv_world::{Action, ClientId, List, ObjectId, Shape, Value, World};
+
+/// The committed values of a world's objects, and the accepted actions after the commit.
+///
+/// Actions have positions 1, 2, 3, and so on. Those up to the commit are in the committed values. A position is marked for a session
+/// when it is sent to it, and the pair of an object and a session is given when the session knows the object's committed value.
+#[derive(Debug, Drop)]
+pub struct Queue {
+    shape: Shape,
+    commit: u32,
+    committed: List<Value>,
+    entries: VecDeque<Queued>,
+    writers: Writers,
+    given: Vec<Sessions>,
+}
+
+impl Model for Queue {
+    ghost use Rattle.std.specs.Coded.{codes};
+    ghost use Rattle.sv_queue.specs.Queue.{QueueView};
+    ghost use Rattle.sv_queue.specs.contracts.queued.Queued as queued;
+
+    ghost Value = { QueueView };
+
+    ghost coded = { Prim.hlevel (codes, queued.the_row.coded) };
+
+    ghost use Rattle.sv_queue.specs.Invariant.{view_of, IsQueue};
+
+    ghost view = { view_of };
+
+    ghost invariant = { IsQueue };
+}
+
+/// What the queue has at an uncommitted position.
+#[derive(Drop)]
+pub struct QueueEntry<'a> {
+    pub author: ClientId,
+    pub seq: u32,
+    pub action: &'a Action,
+    pub has_result: bool,
+}
+
+impl Queue {
+    /// The world stands as committed, with no action.
+    pub fn new(alloc: Global, world: World) -> Result<Queue, AllocError>
+        requires { IsGoodWorld world }
+        ensures { IfOk result (λ queue. queue ≡ opening_queue world) }
+    {
+        let World { shape, values } = world;
+        let objects = shape.objects as usize;
+        let writers = Writers::new(alloc, objects)?;
+        let given = no_sessions(alloc, objects)?;
+        Ok(Queue {
+            shape,
+            commit: 0,
+            committed: values,
+            entries: VecDeque::new(alloc),
+            writers,
+            given,
+        })
+    }
+
+    /// The shape of the world, within the limits.
+    pub fn shape(&self) -> Shape
+        ensures value { result ≡ self.now.shape }
+        ensures limits { IsGoodShape result }
+    {
+        self.shape
+    }
+
+    /// The greatest position up to which all results are installed, 0 at first.
+    pub fn commit(&self) -> u32
+        ensures { result ≡ self.now.commit }
+    {
+        self.commit
+    }
+
+    /// The last position, 0 before the first action.
+    pub fn last(&self) -> u32
+        ensures { result ≡ last_position self.now }
+    {
+        self.commit + self.entries.len() as u32
+    }
+
+    /// The value of an object at the commit.
+    pub fn committed(&self, object: ObjectId) -> &Value
+        requires { object.0 < self.now.shape.objects }
+        ensures value { result.now ≡ slice_index_or self.now.committed object.0 [] }
+        ensures attrs { length result.now ≡ self.now.shape.attrs }
+    {
+        &self.committed.as_slice()[object.0 as usize]
+    }
+
+    /// The last writer of an object below a position where it is above the commit, else 0. One look-up.
+    pub fn last_writer<L: Ledger>(&self, object: ObjectId, below: u32, steps: &mut Steps<L>) -> u32
+        requires { object.0 < self.now.shape.objects }
+        ensures writer { result ≡ last_writer (queue_actions self.now) object.0 below }
+        ensures ticks { steps.new ≡ steps.old + 1 }
+    {
+        steps.tick();
+        self.writers.last_below(object, below)
+    }
+
+    /// Whether an uncommitted position was sent to a session. One look-up.
+    pub fn is_marked<L: Ledger>(&self, pos: u32, session: u16, steps: &mut Steps<L>) -> bool
+        requires { IsUncommitted self.now pos }
+        ensures marked { result ≡ is_in pos (sent_positions self.now session) }
+        ensures in_marks { result ≡ is_in session (entry_at self.now pos).marks }
+        ensures ticks { steps.new ≡ steps.old + 1 }
+    {
+        steps.tick();
+        let place = (pos - self.commit - 1) as usize;
+        let entry = &self.entries[place];
+        entry.marks.has(session)
+    }
+
+    /// What stands at an uncommitted position. One look-up.
+    pub fn entry<L: Ledger>(&self, pos: u32, steps: &mut Steps<L>) -> QueueEntry<'_>
+        requires { IsUncommitted self.now pos }
+        ensures author { result.author ≡ (entry_at self.now pos).author }
+        ensures seq { result.seq ≡ (entry_at self.now pos).seq }
+        ensures action { result.action.now ≡ (entry_at self.now pos).action }
+        ensures has_result { result.has_result ≡ is_some (entry_at self.now pos).result }
+        ensures placed { result.action.now ≡ action_at (queue_actions self.now) pos }
+        ensures good { IsGoodAction self.now.shape result.action.now }
+        ensures ticks { steps.new ≡ steps.old + 1 }
+    {
+        steps.tick();
+        let place = (pos - self.commit - 1) as usize;
+        let entry = &self.entries[place];
+        QueueEntry {
+            author: entry.author,
+            seq: entry.seq,
+            action: &entry.action,
+            has_result: entry.result.is_some(),
+        }
+    }
+
+    /// Whether a session knows the committed value of an object.
+    pub fn is_given(&self, object: ObjectId, session: u16) -> bool
+        requires { object.0 < self.now.shape.objects }
+        ensures { result ≡ is_pair object.0 session self.now.given }
+    {
+        let row = &self.given[object.0 as usize];
+        row.has(session)
+    }
+
+    /// Adds an action at the next position and answers that position.
+    pub fn push(&mut self, author: ClientId, seq: u32, action: Action) -> Result<u32, AllocError>
+        requires good { IsGoodAction self.old.shape action }
+        requires room { last_position self.old < 2 ^ 32 - 1 }
+        ensures position { IfOk result (λ pos. pos ≡ last_position self.new) }
+        ensures ok { OnOk result (self.new ≡ with_action self.old author seq action) }
+        ensures err { OnErr result (self.new ≡ self.old) }
+    {
+        let pos = self.commit + self.entries.len() as u32 + 1;
+        self.entries.reserve(1)?;
+        self.writers.add(&action, pos)?;
+        let entry = Queued {
+            author,
+            seq,
+            action,
+            result: None,
+            marks: Sessions::new(),
+        };
+        match self.entries.push_back(entry) {
+            Ok(()) => Ok(pos),
+            Err(_) => unreachable!(),
+        }
+    }
+
+    /// Takes the last action back.
+    pub fn pop(&mut self)
+        requires { 0 < length self.old.entries }
+        ensures { self.new ≡ without_last self.old }
+    {
+        let entry = self.entries.pop_back().unwrap();
+        self.writers.remove_last(&entry.action);
+        drop(entry);
+    }
+
+    /// Marks an uncommitted position for a session, to which it is sent.
+    pub fn mark(&mut self, pos: u32, session: u16)
+        requires position { IsUncommitted self.old pos }
+        requires session { session < 64 }
+        ensures { self.new ≡ with_mark self.old pos session }
+    {
+        let place = (pos - self.commit - 1) as usize;
+        let entry = &mut self.entries[place];
+        entry.marks.add(session);
+    }
+
+    /// Keeps the result of an uncommitted position until it is installed.
+    pub fn set_result(&mut self, pos: u32, values: Vec<Value>)
+        requires position { IsUncommitted self.old pos }
+        requires missing { IsNone (entry_at self.old pos).result }
+        requires count { length values.items ≡ length (write_set (entry_at self.old pos).action) }
+        requires attrs { HaveAttrs self.old.shape values.items }
+        ensures { self.new ≡ with_result self.old pos values.items }
+    {
+        let place = (pos - self.commit - 1) as usize;
+        let entry = &mut self.entries[place];
+        entry.result = Some(List::from_vec(values));
+    }
+
+    /// Notes that a session knows the committed value of an object.
+    pub fn set_given(&mut self, object: ObjectId, session: u16)
+        requires object { object.0 < self.old.shape.objects }
+        requires session { session < 64 }
+        ensures { self.new ≡ with_given self.old object.0 session }
+    {
+        let row = &mut self.given[object.0 as usize];
+        row.add(session);
+    }
+
+    /// Commits the actions before the first that has no result, in order, and answers how many.
+    pub fn install(&mut self) -> u32
+        ensures count { result ≡ length (ready self.old.entries) }
+        ensures installed { self.new ≡ installed self.old }
+    {
+        let before = self.commit();
+        while self.is_front_ready() {
+            self.install_front();
+        }
+        self.commit() - before
+    }
+
+    fn is_front_ready(&self) -> bool
+        ensures { result ≡ nat_lt 0 (length (ready self.now.entries)) }
+    {
+        match self.entries.front() {
+            Some(entry) => entry.result.is_some(),
+            None => false,
+        }
+    }
+
+    fn install_front(&mut self)
+        requires { 0 < length (ready self.old.entries) }
+        ensures { self.new ≡ first_installed self.old }
+    {
+        let entry = self.entries.pop_front().unwrap();
+        let Queued {
+            author: _,
+            seq: _,
+            action,
+            result,
+            marks,
+        } = entry;
+        put_values(&mut self.committed, &action, result.unwrap());
+        self.writers.remove_first(&action);
+        give_written(&mut self.given, &action, &marks);
+        self.commit += 1;
+    }
+}

@@ -1,0 +1,14 @@
+use crate::sessions::Sessions;
+use sv_world::{Action, ClientId, List, Value};
+
+/// An accepted action that is not committed yet.
+#[derive(Debug, Drop)]
+pub struct Queued {
+    pub author: ClientId,
+    pub seq: u32,
+    pub action: Action,
+    /// One value for each written object.
+    pub result: Option<List<Value>>,
+    /// The sessions that the action was sent to.
+    pub marks: Sessions,
+}

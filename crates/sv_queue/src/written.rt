@@ -1,0 +1,66 @@
+ghost use Rattle.std.specs.Prelude.{◌≡◌, ◌+◌, ◌<◌, ◌≤◌, false, true, [], ◌++◌, length, map, replicate, slice_index_or, IfOk, IfSome, option_to_list};
+ghost use Rattle.sv_world.specs.declared.world.ObjectId.{ObjectId};
+ghost use Rattle.sv_world.specs.Control.{is_in};
+ghost use Rattle.sv_world.specs.Faults.{is_ascending};
+ghost use Rattle.sv_world.specs.Sets.{read_set, write_set};
+ghost use Rattle.sv_queue.specs.Queue.{put_values};
+ghost use Rattle.sv_queue.specs.Written.{CanWrite, IsChangedAt, writes_before};
+
+use crate::sessions::Sessions;
+use std::alloc::{AllocError, Global};
+use sv_world::{Action, List, ObjectId, Value};
+
+/// The object in a slot of an action's reads, where the action may write it.
+pub fn written_at(action: &Action, slot: usize) -> Option<ObjectId>
+    requires slot { slot < length action.now.reads }
+    requires few_reads { length action.now.reads ≤ 16 }
+    requires ascending { is_ascending (read_set action.now) ≡ true }
+    ensures next { writes_before action.now (slot + 1) ≡ writes_before action.now slot ++ map (λ (x : ObjectId). x.0) (option_to_list result) }
+    ensures read { IfSome result (λ x. x.0 ≡ slice_index_or (read_set action.now) slot 0) }
+    ensures fresh { IfSome result (λ x. is_in x.0 (writes_before action.now slot) ≡ false) }
+{
+    if (action.mask >> slot) % 2 == 1 {
+        Some(action.reads.as_slice()[slot])
+    } else {
+        None
+    }
+}
+
+/// Replaces the values of the objects that an action writes.
+pub fn put_values(committed: &mut List<Value>, action: &Action, values: List<Value>)
+    requires can { CanWrite (length committed.old) action.now }
+    requires values { length values ≡ length (write_set action.now) }
+    ensures { committed.new ≡ put_values committed.old (write_set action.now) values }
+{
+    let mut values = values.into_vec().into_iter();
+    for slot in 0..action.reads.len() {
+        if let Some(object) = written_at(action, slot) {
+            if let Some(value) = values.next() {
+                committed.set(object.0 as usize, value);
+            }
+        }
+    }
+}
+
+/// One empty set for each object.
+pub fn no_sessions(alloc: Global, objects: usize) -> Result<Vec<Sessions>, AllocError>
+    ensures { IfOk result (λ rows. rows.items ≡ replicate objects []) }
+{
+    let mut rows = Vec::with_capacity(alloc, objects)?;
+    for _ in 0..objects {
+        rows.push(Sessions::new())?;
+    }
+    Ok(rows)
+}
+
+/// Gives each object that an action writes to just these sessions.
+pub fn give_written(rows: &mut Vec<Sessions>, action: &Action, sessions: &Sessions)
+    requires { CanWrite (length rows.old.items) action.now }
+    ensures { IsChangedAt [] (λ _. sessions.now) (write_set action.now) rows.old.items rows.new.items }
+{
+    for slot in 0..action.reads.len() {
+        if let Some(object) = written_at(action, slot) {
+            rows[object.0 as usize] = sessions.copy();
+        }
+    }
+}

@@ -1,0 +1,288 @@
+-- What was written is read again, whatever follows it: the body of an action.
+use Rattle.std.proofs.Common.{◌≡◌, ℕ, suc, ◌+◌, ◌-◌, ◌<◌, ◌≤◌, max, true, ◌&&◌, ℤ, pos, negsuc, List, [], ◌∷◌, ◌++◌, length, map, Option, Some, Ok, SFits, refl, sym, ap, subst, ◌∙◌, append_assoc, arith, int_le}
+use Rattle.std.specs.List.{flat_map, AllByRecursion}
+use Rattle.std.specs.Int.{w64}
+use Rattle.std.proofs.lemmas.Bool.{lt-ltb, leb-true}
+use Rattle.std.proofs.lemmas.List.{length-map}
+use Rattle.sv_world.specs.Trees.{expr_nodes, cond_nodes, stmt_nodes, body_nodes, expr_depth, cond_depth, stmt_depth, body_depth, all_true}
+use Rattle.sv_world.specs.declared.action.Expr.{Expr, map-Expr}
+use Rattle.sv_world.specs.declared.action.Expr.TheVariants as expr
+use Rattle.sv_world.specs.declared.action.Expr.TheOpen.{Expr-F}
+use Rattle.sv_world.specs.declared.action.Expr.TheViews.{roll-Expr}
+use Rattle.sv_world.specs.declared.action.Expr.TheFolds.{ind-Expr}
+use Rattle.sv_world.specs.declared.action.Cond.{Cond, map-Cond}
+use Rattle.sv_world.specs.declared.action.Cond.TheVariants as test
+use Rattle.sv_world.specs.declared.action.Cond.TheOpen.{Cond-F}
+use Rattle.sv_world.specs.declared.action.Cond.TheViews.{roll-Cond}
+use Rattle.sv_world.specs.declared.action.Cond.TheFolds.{ind-Cond}
+use Rattle.sv_world.specs.declared.action.Stmt.{Stmt, map-Stmt}
+use Rattle.sv_world.specs.declared.action.Stmt.TheVariants as stmt
+use Rattle.sv_world.specs.declared.action.Stmt.TheOpen.{Stmt-F}
+use Rattle.sv_world.specs.declared.action.Stmt.TheViews.{roll-Stmt}
+use Rattle.sv_world.specs.declared.action.Stmt.TheFolds.{ind-Stmt}
+use Rattle.sv_wire.specs.declared.nodes.Operator.{Operator}
+use Rattle.sv_wire.specs.declared.nodes.Operator.TheVariants.{Add, Sub, Mul, Div, Rem, Min, Max}
+use Rattle.sv_wire.specs.declared.nodes.ExprKind.TheVariants as expr_kind
+use Rattle.sv_wire.specs.declared.nodes.Comparison.{Comparison}
+use Rattle.sv_wire.specs.declared.nodes.Comparison.TheVariants.{Eq, Lt, Le}
+use Rattle.sv_wire.specs.declared.nodes.Connective.{Connective}
+use Rattle.sv_wire.specs.declared.nodes.Connective.TheVariants.{And, Or}
+use Rattle.sv_wire.specs.declared.nodes.CondKind.TheVariants as cond_kind
+use Rattle.sv_wire.specs.declared.nodes.StmtKind.TheVariants as stmt_kind
+use Rattle.sv_wire.specs.Steps.{Turn, in_turn}
+use Rattle.sv_wire.specs.Fields.{byte_at}
+use Rattle.sv_wire.specs.Nodes.{room_at, node_at, expr_kind_of, cond_kind_of, stmt_kind_of, expr_by, compare_by, join_by}
+use Rattle.sv_wire.specs.Trees.{lit_at, attr_at, pair_at, expr_step, expr_at, compare_at, join_at, not_at, cond_step, cond_at, set_at, list_by, other_at, lists_at, if_at, stmt_step, stmt_at, body_at}
+use Rattle.sv_wire.specs.Spelling.{int_bytes, expr_bytes, cond_bytes, counted, stmt_bytes, body_bytes}
+use Rattle.sv_wire.specs.Ranges.{is_i64, is_byte, expr_fits, cond_fits, stmt_fits}
+use Rattle.sv_wire.proofs.Trees.{expr_at_is, cond_at_is, stmt_at_is}
+use Rattle.sv_wire.proofs.Append.{nodes_more}
+use Rattle.sv_wire.proofs.Again.{int64_again, and_left, and_right}
+use Rattle.sv_wire.proofs.Layers.{operator_byte, bytes_by, nodes_by, depth_by, fits_by, kind_by, lit_bytes, lit_nodes, lit_depth, lit_fits, attr_bytes, attr_nodes, attr_depth, comparison_byte, connective_byte, compare_bytes, compare_nodes, compare_depth, compare_fits, compare_kind, join_bytes, join_nodes, join_depth, join_fits, join_kind, not_bytes, not_nodes, not_depth, not_fits, set_bytes, set_nodes, set_depth, set_fits, if_bytes, if_nodes, if_depth, if_fits}
+
+node_again : {K : Type 0} (kind_of : ℕ → Option K) (kind : K) (b : ℕ) → kind_of b ≡ Some kind → (depth nodes : ℕ) (rest : List ℕ) → 0 < depth → nodes < 64 → node_at kind_of depth nodes (b ∷ rest) ≡ Ok (kind, rest)
+unfolding node_at byte_at room_at
+node_again kind_of kind b is depth nodes rest deep few = rw (is, lt-ltb nodes 64 few, lt-ltb 0 depth deep) refl
+
+is_signed : (z : ℤ) → is_i64 z ≡ true → SFits w64 z
+is_signed (pos n) e = record { sfits = omega (arith, leb-true n 9223372036854775807 e) }
+is_signed (negsuc n) e = record { sfits = omega (arith, leb-true n 9223372036854775807 (and_left (int_le (negsuc 9223372036854775807) (negsuc n)) (int_le (negsuc n) (pos 9223372036854775807)) e)) }
+
+-- The bytes may be written in two ways, and so may the number of nodes.
+along : {X : Type 0} (reader : List ℕ → Turn X) (a b : List ℕ) (x : X) (m n : ℕ) (rest : List ℕ) → a ≡ b → m ≡ n → reader b ≡ Ok (x, m, rest) → reader a ≡ Ok (x, n, rest)
+along {X = X} reader a b x m n rest p q h = ap reader p ∙ subst (λ (k : ℕ). reader b ≡ Ok (x, k, rest)) q h
+
+-- ---- expressions
+
+abbrev pub ExprAgain : Expr → Type 0
+ExprAgain e = (depth nodes : ℕ) (rest : List ℕ) → expr_fits e ≡ true → expr_depth e ≤ depth → nodes + expr_nodes e ≤ 64 → expr_at depth nodes (expr_bytes e ++ rest) ≡ Ok (e, nodes + expr_nodes e, rest)
+
+lit_read : (n : ℤ) (depth nodes : ℕ) (rest : List ℕ) → SFits w64 n → 0 < depth → nodes < 64 → expr_at depth nodes (0x20 ∷ (int_bytes w64 n ++ rest)) ≡ Ok (expr.Lit n, nodes + 1, rest)
+unfolding expr_step expr_kind_of lit_at
+lit_read n depth nodes rest fits deep few =
+    expr_at_is depth nodes (0x20 ∷ (int_bytes w64 n ++ rest)) deep
+    ∙ rw (node_again expr_kind_of expr_kind.Lit 0x20 refl depth nodes (int_bytes w64 n ++ rest) deep few, int64_again n rest fits) refl
+
+lit_again : (n : ℤ) → ExprAgain (expr.Lit n)
+lit_again n depth nodes rest fits deep few =
+    let count = lit_nodes n in
+    let level = lit_depth n in
+    along (expr_at depth nodes) (expr_bytes (expr.Lit n) ++ rest) (0x20 ∷ (int_bytes w64 n ++ rest)) (expr.Lit n) (nodes + 1) (nodes + expr_nodes (expr.Lit n)) rest
+    (ap (λ (t : List ℕ). t ++ rest) (lit_bytes n)) (omega arith) (lit_read n depth nodes rest (is_signed n (sym (lit_fits n) ∙ fits)) (omega arith) (omega arith))
+
+attr_read : (slot attr depth nodes : ℕ) (rest : List ℕ) → 0 < depth → nodes < 64 → expr_at depth nodes (0x21 ∷ slot ∷ attr ∷ rest) ≡ Ok (expr.Attr slot attr, nodes + 1, rest)
+unfolding expr_step expr_kind_of attr_at byte_at
+attr_read slot attr depth nodes rest deep few =
+    expr_at_is depth nodes (0x21 ∷ slot ∷ attr ∷ rest) deep
+    ∙ rw (node_again expr_kind_of expr_kind.Attr 0x21 refl depth nodes (slot ∷ attr ∷ rest) deep few) refl
+
+attr_again : (slot attr : ℕ) → ExprAgain (expr.Attr slot attr)
+attr_again slot attr depth nodes rest fits deep few =
+    let count = attr_nodes slot attr in
+    let level = attr_depth slot attr in
+    along (expr_at depth nodes) (expr_bytes (expr.Attr slot attr) ++ rest) (0x21 ∷ slot ∷ attr ∷ rest) (expr.Attr slot attr) (nodes + 1) (nodes + expr_nodes (expr.Attr slot attr)) rest
+    (ap (λ (t : List ℕ). t ++ rest) (attr_bytes slot attr)) (omega arith) (attr_read slot attr depth nodes rest (omega arith) (omega arith))
+
+pair_read : (o : Operator) (a b : Expr) → ExprAgain a → ExprAgain b → (depth nodes : ℕ) (rest : List ℕ) → expr_fits a ≡ true → expr_fits b ≡ true → expr_depth a < depth → expr_depth b < depth → nodes + 1 + expr_nodes a + expr_nodes b ≤ 64
+    → expr_at depth nodes (operator_byte o ∷ (expr_bytes a ++ (expr_bytes b ++ rest))) ≡ Ok (expr_by o a b, nodes + 1 + expr_nodes a + expr_nodes b, rest)
+unfolding expr_step pair_at
+pair_read o a b p q depth nodes rest fa fb da db few =
+    expr_at_is depth nodes (operator_byte o ∷ (expr_bytes a ++ (expr_bytes b ++ rest))) (omega arith)
+    ∙ rw (
+      node_again expr_kind_of (expr_kind.Both o) (operator_byte o) (kind_by o) depth nodes (expr_bytes a ++ (expr_bytes b ++ rest)) (omega arith) (omega arith),
+      p (depth - 1) (nodes + 1) (expr_bytes b ++ rest) fa (omega arith) (omega arith),
+      q (depth - 1) (nodes + 1 + expr_nodes a) rest fb (omega arith) (omega arith),
+    ) refl
+
+pair_again : (o : Operator) (a b : Expr) → ExprAgain a → ExprAgain b → ExprAgain (expr_by o a b)
+pair_again o a b p q depth nodes rest fits deep few =
+    let count = nodes_by o a b in
+    let level = depth_by o a b in
+    let both = sym (fits_by o a b) ∙ fits in
+    along (expr_at depth nodes) (expr_bytes (expr_by o a b) ++ rest) (operator_byte o ∷ (expr_bytes a ++ (expr_bytes b ++ rest))) (expr_by o a b) (nodes + 1 + expr_nodes a + expr_nodes b) (nodes + expr_nodes (expr_by o a b)) rest
+    (ap (λ (t : List ℕ). t ++ rest) (bytes_by o a b) ∙ ap (λ (t : List ℕ). operator_byte o ∷ t) (append_assoc (expr_bytes a) (expr_bytes b) rest))
+    (omega arith)
+    (pair_read o a b p q depth nodes rest (and_left (expr_fits a) (expr_fits b) both) (and_right (expr_fits a) (expr_fits b) both) (omega arith) (omega arith) (omega arith))
+
+expr_layer : {Z : Type 0} (p : Z → Expr) → ((z : Z) → ExprAgain (p z)) → (y : Expr-F Z) → ExprAgain (roll-Expr (map-Expr Z Expr p y))
+expr_layer p q (Expr-F.Lit n) = subst (λ (e : Expr). ExprAgain e) (sym (expr.rolls-Lit n)) (lit_again n)
+expr_layer p q (Expr-F.Attr slot attr) = subst (λ (e : Expr). ExprAgain e) (sym (expr.rolls-Attr slot attr)) (attr_again slot attr)
+expr_layer p q (Expr-F.Add a b) = subst (λ (e : Expr). ExprAgain e) (sym (expr.rolls-Add (p a) (p b))) (pair_again Add (p a) (p b) (q a) (q b))
+expr_layer p q (Expr-F.Sub a b) = subst (λ (e : Expr). ExprAgain e) (sym (expr.rolls-Sub (p a) (p b))) (pair_again Sub (p a) (p b) (q a) (q b))
+expr_layer p q (Expr-F.Mul a b) = subst (λ (e : Expr). ExprAgain e) (sym (expr.rolls-Mul (p a) (p b))) (pair_again Mul (p a) (p b) (q a) (q b))
+expr_layer p q (Expr-F.Div a b) = subst (λ (e : Expr). ExprAgain e) (sym (expr.rolls-Div (p a) (p b))) (pair_again Div (p a) (p b) (q a) (q b))
+expr_layer p q (Expr-F.Rem a b) = subst (λ (e : Expr). ExprAgain e) (sym (expr.rolls-Rem (p a) (p b))) (pair_again Rem (p a) (p b) (q a) (q b))
+expr_layer p q (Expr-F.Min a b) = subst (λ (e : Expr). ExprAgain e) (sym (expr.rolls-Min (p a) (p b))) (pair_again Min (p a) (p b) (q a) (q b))
+expr_layer p q (Expr-F.Max a b) = subst (λ (e : Expr). ExprAgain e) (sym (expr.rolls-Max (p a) (p b))) (pair_again Max (p a) (p b) (q a) (q b))
+
+pub expr_again : (e : Expr) → ExprAgain e
+expr_again = ind-Expr ExprAgain (λ x y is. subst (λ (z : Expr-F Expr). ExprAgain (roll-Expr z)) is (expr_layer (λ e. e.0) (λ e. e.1) y))
+
+-- ---- conditions
+
+abbrev pub CondAgain : Cond → Type 0
+CondAgain c = (depth nodes : ℕ) (rest : List ℕ) → cond_fits c ≡ true → cond_depth c ≤ depth → nodes + cond_nodes c ≤ 64 → cond_at depth nodes (cond_bytes c ++ rest) ≡ Ok (c, nodes + cond_nodes c, rest)
+
+compare_read : (o : Comparison) (a b : Expr) (depth nodes : ℕ) (rest : List ℕ) → expr_fits a ≡ true → expr_fits b ≡ true → expr_depth a < depth → expr_depth b < depth → nodes + 1 + expr_nodes a + expr_nodes b ≤ 64
+    → cond_at depth nodes (comparison_byte o ∷ (expr_bytes a ++ (expr_bytes b ++ rest))) ≡ Ok (compare_by o a b, nodes + 1 + expr_nodes a + expr_nodes b, rest)
+unfolding cond_step compare_at
+compare_read o a b depth nodes rest fa fb da db few =
+    cond_at_is depth nodes (comparison_byte o ∷ (expr_bytes a ++ (expr_bytes b ++ rest))) (omega arith)
+    ∙ rw (
+      node_again cond_kind_of (cond_kind.Compare o) (comparison_byte o) (compare_kind o) depth nodes (expr_bytes a ++ (expr_bytes b ++ rest)) (omega arith) (omega arith),
+      expr_again a (depth - 1) (nodes + 1) (expr_bytes b ++ rest) fa (omega arith) (omega arith),
+      expr_again b (depth - 1) (nodes + 1 + expr_nodes a) rest fb (omega arith) (omega arith),
+    ) refl
+
+compare_again : (o : Comparison) (a b : Expr) → CondAgain (compare_by o a b)
+compare_again o a b depth nodes rest fits deep few =
+    let count = compare_nodes o a b in
+    let level = compare_depth o a b in
+    let both = sym (compare_fits o a b) ∙ fits in
+    along (cond_at depth nodes) (cond_bytes (compare_by o a b) ++ rest) (comparison_byte o ∷ (expr_bytes a ++ (expr_bytes b ++ rest))) (compare_by o a b) (nodes + 1 + expr_nodes a + expr_nodes b) (nodes + cond_nodes (compare_by o a b)) rest
+    (ap (λ (t : List ℕ). t ++ rest) (compare_bytes o a b) ∙ ap (λ (t : List ℕ). comparison_byte o ∷ t) (append_assoc (expr_bytes a) (expr_bytes b) rest))
+    (omega arith)
+    (compare_read o a b depth nodes rest (and_left (expr_fits a) (expr_fits b) both) (and_right (expr_fits a) (expr_fits b) both) (omega arith) (omega arith) (omega arith))
+
+join_read : (o : Connective) (a b : Cond) → CondAgain a → CondAgain b → (depth nodes : ℕ) (rest : List ℕ) → cond_fits a ≡ true → cond_fits b ≡ true → cond_depth a < depth → cond_depth b < depth → nodes + 1 + cond_nodes a + cond_nodes b ≤ 64
+    → cond_at depth nodes (connective_byte o ∷ (cond_bytes a ++ (cond_bytes b ++ rest))) ≡ Ok (join_by o a b, nodes + 1 + cond_nodes a + cond_nodes b, rest)
+unfolding cond_step join_at
+join_read o a b p q depth nodes rest fa fb da db few =
+    cond_at_is depth nodes (connective_byte o ∷ (cond_bytes a ++ (cond_bytes b ++ rest))) (omega arith)
+    ∙ rw (
+      node_again cond_kind_of (cond_kind.Both o) (connective_byte o) (join_kind o) depth nodes (cond_bytes a ++ (cond_bytes b ++ rest)) (omega arith) (omega arith),
+      p (depth - 1) (nodes + 1) (cond_bytes b ++ rest) fa (omega arith) (omega arith),
+      q (depth - 1) (nodes + 1 + cond_nodes a) rest fb (omega arith) (omega arith),
+    ) refl
+
+join_again : (o : Connective) (a b : Cond) → CondAgain a → CondAgain b → CondAgain (join_by o a b)
+join_again o a b p q depth nodes rest fits deep few =
+    let count = join_nodes o a b in
+    let level = join_depth o a b in
+    let both = sym (join_fits o a b) ∙ fits in
+    along (cond_at depth nodes) (cond_bytes (join_by o a b) ++ rest) (connective_byte o ∷ (cond_bytes a ++ (cond_bytes b ++ rest))) (join_by o a b) (nodes + 1 + cond_nodes a + cond_nodes b) (nodes + cond_nodes (join_by o a b)) rest
+    (ap (λ (t : List ℕ). t ++ rest) (join_bytes o a b) ∙ ap (λ (t : List ℕ). connective_byte o ∷ t) (append_assoc (cond_bytes a) (cond_bytes b) rest))
+    (omega arith)
+    (join_read o a b p q depth nodes rest (and_left (cond_fits a) (cond_fits b) both) (and_right (cond_fits a) (cond_fits b) both) (omega arith) (omega arith) (omega arith))
+
+not_read : (a : Cond) → CondAgain a → (depth nodes : ℕ) (rest : List ℕ) → cond_fits a ≡ true → cond_depth a < depth → nodes + 1 + cond_nodes a ≤ 64 → cond_at depth nodes (0x35 ∷ (cond_bytes a ++ rest)) ≡ Ok (test.Not a, nodes + 1 + cond_nodes a, rest)
+unfolding cond_step not_at cond_kind_of
+not_read a p depth nodes rest fa da few =
+    cond_at_is depth nodes (0x35 ∷ (cond_bytes a ++ rest)) (omega arith)
+    ∙ rw (
+      node_again cond_kind_of cond_kind.Not 0x35 refl depth nodes (cond_bytes a ++ rest) (omega arith) (omega arith),
+      p (depth - 1) (nodes + 1) rest fa (omega arith) (omega arith),
+    ) refl
+
+not_again : (a : Cond) → CondAgain a → CondAgain (test.Not a)
+not_again a p depth nodes rest fits deep few =
+    let count = not_nodes a in
+    let level = not_depth a in
+    along (cond_at depth nodes) (cond_bytes (test.Not a) ++ rest) (0x35 ∷ (cond_bytes a ++ rest)) (test.Not a) (nodes + 1 + cond_nodes a) (nodes + cond_nodes (test.Not a)) rest
+    (ap (λ (t : List ℕ). t ++ rest) (not_bytes a)) (omega arith) (not_read a p depth nodes rest (sym (not_fits a) ∙ fits) (omega arith) (omega arith))
+
+cond_layer : {Z : Type 0} (p : Z → Cond) → ((z : Z) → CondAgain (p z)) → (y : Cond-F Z) → CondAgain (roll-Cond (map-Cond Z Cond p y))
+cond_layer p q (Cond-F.Eq a b) = subst (λ (c : Cond). CondAgain c) (sym (test.rolls-Eq a b)) (compare_again Eq a b)
+cond_layer p q (Cond-F.Lt a b) = subst (λ (c : Cond). CondAgain c) (sym (test.rolls-Lt a b)) (compare_again Lt a b)
+cond_layer p q (Cond-F.Le a b) = subst (λ (c : Cond). CondAgain c) (sym (test.rolls-Le a b)) (compare_again Le a b)
+cond_layer p q (Cond-F.And a b) = subst (λ (c : Cond). CondAgain c) (sym (test.rolls-And (p a) (p b))) (join_again And (p a) (p b) (q a) (q b))
+cond_layer p q (Cond-F.Or a b) = subst (λ (c : Cond). CondAgain c) (sym (test.rolls-Or (p a) (p b))) (join_again Or (p a) (p b) (q a) (q b))
+cond_layer p q (Cond-F.Not a) = subst (λ (c : Cond). CondAgain c) (sym (test.rolls-Not (p a))) (not_again (p a) (q a))
+
+pub cond_again : (c : Cond) → CondAgain c
+cond_again = ind-Cond CondAgain (λ x y is. subst (λ (z : Cond-F Cond). CondAgain (roll-Cond z)) is (cond_layer (λ e. e.0) (λ e. e.1) y))
+
+-- ---- statements
+
+abbrev pub StmtAgain : Stmt → Type 0
+StmtAgain s = (depth nodes : ℕ) (rest : List ℕ) → stmt_fits s ≡ true → stmt_depth s ≤ depth → nodes + stmt_nodes s ≤ 64 → stmt_at depth nodes (stmt_bytes s ++ rest) ≡ Ok (s, nodes + stmt_nodes s, rest)
+
+set_read : (slot attr : ℕ) (value : Expr) (depth nodes : ℕ) (rest : List ℕ) → expr_fits value ≡ true → expr_depth value < depth → nodes + 1 + expr_nodes value ≤ 64
+    → stmt_at depth nodes (0x10 ∷ slot ∷ attr ∷ (expr_bytes value ++ rest)) ≡ Ok (stmt.Set slot attr value, nodes + 1 + expr_nodes value, rest)
+unfolding stmt_step stmt_kind_of set_at byte_at
+set_read slot attr value depth nodes rest fits deep few =
+    stmt_at_is depth nodes (0x10 ∷ slot ∷ attr ∷ (expr_bytes value ++ rest)) (omega arith)
+    ∙ rw (
+      node_again stmt_kind_of stmt_kind.Set 0x10 refl depth nodes (slot ∷ attr ∷ (expr_bytes value ++ rest)) (omega arith) (omega arith),
+      expr_again value (depth - 1) (nodes + 1) rest fits (omega arith) (omega arith),
+    ) refl
+
+set_again : (slot attr : ℕ) (value : Expr) → StmtAgain (stmt.Set slot attr value)
+set_again slot attr value depth nodes rest fits deep few =
+    let count = set_nodes slot attr value in
+    let level = set_depth slot attr value in
+    let parts = sym (set_fits slot attr value) ∙ fits in
+    let most = and_right (is_byte slot) (is_byte attr && expr_fits value) parts in
+    along (stmt_at depth nodes) (stmt_bytes (stmt.Set slot attr value) ++ rest) (0x10 ∷ slot ∷ attr ∷ (expr_bytes value ++ rest)) (stmt.Set slot attr value) (nodes + 1 + expr_nodes value) (nodes + stmt_nodes (stmt.Set slot attr value)) rest
+    (ap (λ (t : List ℕ). t ++ rest) (set_bytes slot attr value)) (omega arith)
+    (set_read slot attr value depth nodes rest (and_right (is_byte attr) (expr_fits value) most) (omega arith) (omega arith))
+
+turns_again : (xs : List Stmt) → AllByRecursion StmtAgain xs → (depth nodes : ℕ) (rest : List ℕ) → all_true (map stmt_fits xs) ≡ true → body_depth xs ≤ depth → nodes + body_nodes xs ≤ 64
+    → in_turn (λ n r. stmt_at depth n r) (length xs) nodes (flat_map (λ x. x) (map stmt_bytes xs) ++ rest) ≡ Ok (xs, nodes + body_nodes xs, rest)
+unfolding in_turn
+turns_again [] each depth nodes rest fits deep few =
+    let e : nodes ≡ nodes + 0 = omega arith in
+    ap (λ (k : ℕ). Ok ([], k, rest)) e
+turns_again (x ∷ xs) each depth nodes rest fits deep few =
+    let more = flat_map (λ (t : List ℕ). t) (map stmt_bytes xs) in
+    let count = nodes_more x xs in
+    let level : body_depth (x ∷ xs) ≡ max (stmt_depth x) (body_depth xs) = refl in
+    let regrouped : (stmt_bytes x ++ more) ++ rest ≡ stmt_bytes x ++ (more ++ rest) = append_assoc (stmt_bytes x) more rest in
+    let first = each.0 depth nodes (more ++ rest) (and_left (stmt_fits x) (all_true (map stmt_fits xs)) fits) (omega arith) (omega arith) in
+    let others = turns_again xs each.1 depth (nodes + stmt_nodes x) rest (and_right (stmt_fits x) (all_true (map stmt_fits xs)) fits) (omega arith) (omega arith) in
+    let total : nodes + stmt_nodes x + body_nodes xs ≡ nodes + body_nodes (x ∷ xs) = omega (arith, count) in
+    along (in_turn (λ n r. stmt_at depth n r) (suc (length xs)) nodes) ((stmt_bytes x ++ more) ++ rest) (stmt_bytes x ++ (more ++ rest)) (x ∷ xs) (nodes + stmt_nodes x + body_nodes xs) (nodes + body_nodes (x ∷ xs)) rest
+    regrouped total (rw (first, others) refl)
+
+list_again : (xs : List Stmt) → AllByRecursion StmtAgain xs → (depth nodes : ℕ) (rest : List ℕ) → all_true (map stmt_fits xs) ≡ true → body_depth xs ≤ depth → nodes + body_nodes xs ≤ 64
+    → list_by (λ n r. stmt_at depth n r) nodes (counted (map stmt_bytes xs) ++ rest) ≡ Ok (xs, nodes + body_nodes xs, rest)
+unfolding list_by byte_at
+list_again xs each depth nodes rest fits deep few = rw (length-map xs stmt_bytes) (turns_again xs each depth nodes rest fits deep few)
+
+if_read : (c : Cond) (xs ys : List Stmt) → AllByRecursion StmtAgain xs → AllByRecursion StmtAgain ys → (depth nodes : ℕ) (rest : List ℕ) → cond_fits c ≡ true → all_true (map stmt_fits xs) ≡ true → all_true (map stmt_fits ys) ≡ true
+    → cond_depth c < depth → body_depth xs < depth → body_depth ys < depth → nodes + 1 + cond_nodes c + body_nodes xs + body_nodes ys ≤ 64
+    → stmt_at depth nodes (0x11 ∷ (cond_bytes c ++ (counted (map stmt_bytes xs) ++ (counted (map stmt_bytes ys) ++ rest)))) ≡ Ok (stmt.If c xs ys, nodes + 1 + cond_nodes c + body_nodes xs + body_nodes ys, rest)
+unfolding stmt_step stmt_kind_of if_at lists_at other_at
+if_read c xs ys p q depth nodes rest fc fx fy dc dx dy few =
+    let third = counted (map stmt_bytes ys) ++ rest in
+    let second = counted (map stmt_bytes xs) ++ third in
+    stmt_at_is depth nodes (0x11 ∷ (cond_bytes c ++ second)) (omega arith)
+    ∙ rw (
+      node_again stmt_kind_of stmt_kind.If 0x11 refl depth nodes (cond_bytes c ++ second) (omega arith) (omega arith),
+      cond_again c (depth - 1) (nodes + 1) second fc (omega arith) (omega arith),
+      list_again xs p (depth - 1) (nodes + 1 + cond_nodes c) third fx (omega arith) (omega arith),
+      list_again ys q (depth - 1) (nodes + 1 + cond_nodes c + body_nodes xs) rest fy (omega arith) (omega arith),
+    ) refl
+
+if_again : (c : Cond) (xs ys : List Stmt) → AllByRecursion StmtAgain xs → AllByRecursion StmtAgain ys → StmtAgain (stmt.If c xs ys)
+if_again c xs ys p q depth nodes rest fits deep few =
+    let count = if_nodes c xs ys in
+    let level = if_depth c xs ys in
+    let parts = sym (if_fits c xs ys) ∙ fits in
+    let lists = and_right (cond_fits c) (all_true (map stmt_fits xs) && all_true (map stmt_fits ys)) parts in
+    let bx = counted (map stmt_bytes xs) in
+    let by = counted (map stmt_bytes ys) in
+    along (stmt_at depth nodes) (stmt_bytes (stmt.If c xs ys) ++ rest) (0x11 ∷ (cond_bytes c ++ (bx ++ (by ++ rest)))) (stmt.If c xs ys) (nodes + 1 + cond_nodes c + body_nodes xs + body_nodes ys) (nodes + stmt_nodes (stmt.If c xs ys)) rest
+    (ap (λ (t : List ℕ). t ++ rest) (if_bytes c xs ys) ∙ ap (λ (t : List ℕ). 0x11 ∷ t) (append_assoc (cond_bytes c ++ bx) by rest ∙ append_assoc (cond_bytes c) bx (by ++ rest)))
+    (omega arith)
+    (if_read c xs ys p q depth nodes rest (and_left (cond_fits c) (all_true (map stmt_fits xs) && all_true (map stmt_fits ys)) parts)
+    (and_left (all_true (map stmt_fits xs)) (all_true (map stmt_fits ys)) lists) (and_right (all_true (map stmt_fits xs)) (all_true (map stmt_fits ys)) lists) (omega arith) (omega arith) (omega arith) (omega arith))
+
+each_again : {Z : Type 0} (p : Z → Stmt) → ((z : Z) → StmtAgain (p z)) → (zs : List Z) → AllByRecursion StmtAgain (map p zs)
+each_again p q [] = tt
+each_again p q (z ∷ zs) = (q z, each_again p q zs)
+
+stmt_layer : {Z : Type 0} (p : Z → Stmt) → ((z : Z) → StmtAgain (p z)) → (y : Stmt-F Z) → StmtAgain (roll-Stmt (map-Stmt Z Stmt p y))
+stmt_layer p q (Stmt-F.Set slot attr value) = subst (λ (s : Stmt). StmtAgain s) (sym (stmt.rolls-Set slot attr value)) (set_again slot attr value)
+stmt_layer p q (Stmt-F.If c xs ys) = subst (λ (s : Stmt). StmtAgain s) (sym (stmt.rolls-If c (map p xs) (map p ys))) (if_again c (map p xs) (map p ys) (each_again p q xs) (each_again p q ys))
+
+pub stmt_again : (s : Stmt) → StmtAgain s
+stmt_again = ind-Stmt StmtAgain (λ x y is. subst (λ (z : Stmt-F Stmt). StmtAgain (roll-Stmt z)) is (stmt_layer (λ e. e.0) (λ e. e.1) y))
+
+all_again : (xs : List Stmt) → AllByRecursion StmtAgain xs
+all_again [] = tt
+all_again (x ∷ xs) = (stmt_again x, all_again xs)
+
+pub body_again : (xs : List Stmt) (rest : List ℕ) → all_true (map stmt_fits xs) ≡ true → body_depth xs ≤ 8 → body_nodes xs ≤ 64 → body_at (body_bytes xs ++ rest) ≡ Ok (xs, rest)
+unfolding body_at
+body_again xs rest fits deep few = rw (list_again xs (all_again xs) 8 0 rest fits deep (omega arith)) refl

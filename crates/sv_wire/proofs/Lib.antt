@@ -1,0 +1,15 @@
+pub mod Again
+pub mod AgainMessages
+pub mod AgainTrees
+pub mod Append
+pub mod Decoded
+pub mod Found
+pub mod FoundMessages
+pub mod FoundTrees
+pub mod Layers
+pub mod Loop
+pub mod Near
+pub mod NearFields
+pub mod NearMessages
+pub mod NearTrees
+pub mod Trees

@@ -1,0 +1,11 @@
+use Rattle.sv_wire.proofs.AgainMessages.{request_frames_differ, reply_frames_differ, kinds_differ}
+use Rattle.sv_wire.proofs.laws.no_frame_begins_another.Goals as goal
+
+pub returns-clause-requests : goal.returns-clause-requests
+returns-clause-requests c = request_frames_differ
+
+pub returns-clause-replies : goal.returns-clause-replies
+returns-clause-replies c = reply_frames_differ
+
+pub returns-clause-kinds : goal.returns-clause-kinds
+returns-clause-kinds c = kinds_differ

@@ -1,0 +1,106 @@
+-- Which values a message's fields have: each number is one of its type.
+use Rattle.std.specs.Prelude.{ℕ, ◌^◌, ◌<◌, ◌≡◌, Bool, true, ◌&&◌, nat_lt, ℤ, pos, negsuc, int_le, List, map, FitsSigned}
+use Rattle.std.specs.List.{AllByRecursion}
+use Rattle.std.specs.Int.{w32, w64}
+use Rattle.sv_world.specs.Trees.{all_true}
+use Rattle.sv_world.specs.declared.action.Action.{Action}
+use Rattle.sv_world.specs.declared.action.Expr.{Expr}
+use Rattle.sv_world.specs.declared.action.Expr.TheOpen.{Expr-F}
+use Rattle.sv_world.specs.declared.action.Expr.TheFolds.{fold-Expr}
+use Rattle.sv_world.specs.declared.action.Cond.{Cond}
+use Rattle.sv_world.specs.declared.action.Cond.TheOpen.{Cond-F}
+use Rattle.sv_world.specs.declared.action.Cond.TheFolds.{fold-Cond}
+use Rattle.sv_world.specs.declared.action.Stmt.{Stmt}
+use Rattle.sv_world.specs.declared.action.Stmt.TheOpen.{Stmt-F}
+use Rattle.sv_world.specs.declared.action.Stmt.TheFolds.{fold-Stmt}
+use Rattle.sv_world.specs.declared.world.ObjectId.{ObjectId}
+use Rattle.sv_wire.specs.declared.message.Held.{Held}
+use Rattle.sv_wire.specs.declared.message.Done1.{Done1}
+use Rattle.sv_wire.specs.declared.message.Item.{Item}
+use Rattle.sv_wire.specs.declared.message.Request.{Request}
+use Rattle.sv_wire.specs.declared.message.Request.TheVariants.{Join, Submit, Done, Poll, Leave, Bad, End}
+use Rattle.sv_wire.specs.declared.message.Reply.{Reply}
+use Rattle.sv_wire.specs.declared.message.Reply.TheVariants.{Welcome, Relay, Dropped, Settled, Noted, Idle, Refused, Bye}
+
+abbrev pub ObjectFits : ObjectId → Type 0
+ObjectFits o = o.0 < 2 ^ 16
+
+abbrev pub ValueFits : List ℤ → Type 0
+ValueFits v = AllByRecursion (FitsSigned w64) v
+
+abbrev pub HeldFits : Held → Type 0
+HeldFits h = ObjectFits h.object × ValueFits h.value
+
+abbrev pub ResultFits : Done1 → Type 0
+ResultFits r = (r.pos < 2 ^ 32) × AllByRecursion ValueFits r.values
+
+-- whether a number is one of 64 bits
+abbrev pub is_i64 : ℤ → Bool
+is_i64 z = int_le (negsuc 9223372036854775807) z && int_le z (pos 9223372036854775807)
+
+abbrev pub is_byte : ℕ → Bool
+is_byte n = nat_lt n 256
+
+abbrev pub expr_fits_step : Expr-F Bool → Bool
+expr_fits_step (Expr-F.Lit n) = is_i64 n
+expr_fits_step (Expr-F.Attr slot attr) = is_byte slot && is_byte attr
+expr_fits_step (Expr-F.Add x y) = x && y
+expr_fits_step (Expr-F.Sub x y) = x && y
+expr_fits_step (Expr-F.Mul x y) = x && y
+expr_fits_step (Expr-F.Div x y) = x && y
+expr_fits_step (Expr-F.Rem x y) = x && y
+expr_fits_step (Expr-F.Min x y) = x && y
+expr_fits_step (Expr-F.Max x y) = x && y
+
+abbrev pub expr_fits : Expr → Bool
+expr_fits = fold-Expr Bool expr_fits_step
+
+abbrev pub cond_fits_step : Cond-F Bool → Bool
+cond_fits_step (Cond-F.Eq x y) = expr_fits x && expr_fits y
+cond_fits_step (Cond-F.Lt x y) = expr_fits x && expr_fits y
+cond_fits_step (Cond-F.Le x y) = expr_fits x && expr_fits y
+cond_fits_step (Cond-F.And x y) = x && y
+cond_fits_step (Cond-F.Or x y) = x && y
+cond_fits_step (Cond-F.Not x) = x
+
+abbrev pub cond_fits : Cond → Bool
+cond_fits = fold-Cond Bool cond_fits_step
+
+abbrev pub stmt_fits_step : Stmt-F Bool → Bool
+stmt_fits_step (Stmt-F.Set slot attr value) = is_byte slot && (is_byte attr && expr_fits value)
+stmt_fits_step (Stmt-F.If c xs ys) = cond_fits c && (all_true xs && all_true ys)
+
+abbrev pub stmt_fits : Stmt → Bool
+stmt_fits = fold-Stmt Bool stmt_fits_step
+
+pub record ActionFits (a : Action) : Type 0 where
+  pub reads : AllByRecursion ObjectFits a.reads
+  pub mask : a.mask < 2 ^ 16
+  pub x : FitsSigned w32 a.origin.x
+  pub y : FitsSigned w32 a.origin.y
+  pub body : all_true (map stmt_fits a.body) ≡ true
+
+pub record ItemFits (i : Item) : Type 0 where
+  pub pos : i.pos < 2 ^ 32
+  pub client : i.client.0 < 2 ^ 16
+  pub seq : i.seq < 2 ^ 32
+  pub action : ActionFits i.action
+
+abbrev pub RequestFits : Request → Type 0
+RequestFits (Join client life interest) = (client.0 < 2 ^ 16) × (life < 2 ^ 32) × AllByRecursion ObjectFits interest
+RequestFits (Submit seq action) = (seq < 2 ^ 32) × ActionFits action
+RequestFits (Done results) = AllByRecursion ResultFits results
+RequestFits Poll = Unit {0}
+RequestFits Leave = Unit {0}
+RequestFits Bad = Unit {0}
+RequestFits End = Unit {0}
+
+abbrev pub ReplyFits : Reply → Type 0
+ReplyFits (Welcome commit head) = (commit < 2 ^ 32) × AllByRecursion HeldFits head
+ReplyFits (Relay seq commit head items) = (seq < 2 ^ 32) × (commit < 2 ^ 32) × AllByRecursion HeldFits head × AllByRecursion ItemFits items
+ReplyFits (Dropped seq chain far) = (seq < 2 ^ 32) × (chain < 2 ^ 32) × (far < 2 ^ 32)
+ReplyFits (Settled seq position) = (seq < 2 ^ 32) × (position < 2 ^ 32)
+ReplyFits (Noted commit) = commit < 2 ^ 32
+ReplyFits Idle = Unit {0}
+ReplyFits (Refused code detail) = (code < 2 ^ 8) × (detail < 2 ^ 32)
+ReplyFits Bye = Unit {0}

@@ -1,0 +1,143 @@
+-- Reading the body of an action. The depth is the number of levels that are left, and nodes the number of nodes so far.
+use Rattle.std.specs.Prelude.{ℕ, zero, suc, ◌+◌, List, Ok}
+use Rattle.std.specs.Int.{w64}
+use Rattle.sv_world.specs.declared.action.Expr.{Expr}
+use Rattle.sv_world.specs.declared.action.Expr.TheVariants as expr
+use Rattle.sv_world.specs.declared.action.Cond.{Cond}
+use Rattle.sv_world.specs.declared.action.Cond.TheVariants as test
+use Rattle.sv_world.specs.declared.action.Stmt.{Stmt}
+use Rattle.sv_world.specs.declared.action.Stmt.TheVariants as stmt
+use Rattle.sv_wire.specs.declared.fault.WireCause.TheVariants.{Deep}
+use Rattle.sv_wire.specs.declared.nodes.Operator.{Operator}
+use Rattle.sv_wire.specs.declared.nodes.Comparison.{Comparison}
+use Rattle.sv_wire.specs.declared.nodes.Connective.{Connective}
+use Rattle.sv_wire.specs.declared.nodes.ExprKind.{ExprKind}
+use Rattle.sv_wire.specs.declared.nodes.ExprKind.TheVariants as expr_kind
+use Rattle.sv_wire.specs.declared.nodes.CondKind.{CondKind}
+use Rattle.sv_wire.specs.declared.nodes.CondKind.TheVariants as cond_kind
+use Rattle.sv_wire.specs.declared.nodes.StmtKind.{StmtKind}
+use Rattle.sv_wire.specs.declared.nodes.StmtKind.TheVariants as stmt_kind
+use Rattle.sv_wire.specs.Steps.{Read, Turn, ◌>>=◌, stop, in_turn}
+use Rattle.sv_wire.specs.Fields.{byte_at, int_at}
+use Rattle.sv_wire.specs.Nodes.{node_at, expr_kind_of, cond_kind_of, stmt_kind_of, expr_by, compare_by, join_by}
+
+-- Reads a tree: the number of nodes so far, and the bytes.
+abbrev pub Reader : Type 0 → Type 0
+Reader A = ℕ → List ℕ → Turn A
+
+-- Below the last level nothing is read.
+abbrev pub nothing : {A : Type 0} → Reader A
+nothing nodes bytes = stop bytes Deep
+
+unfoldable pub lit_at : Reader Expr
+lit_at nodes bytes = do
+  n ← int_at w64 bytes
+  Ok (expr.Lit n.0, nodes, n.1)
+
+unfoldable pub attr_at : Reader Expr
+attr_at nodes bytes = do
+  slot ← byte_at bytes
+  attr ← byte_at slot.1
+  Ok (expr.Attr slot.0 attr.0, nodes, attr.1)
+
+unfoldable pub pair_at : Reader Expr → Operator → Reader Expr
+pair_at reader operator nodes bytes = do
+  a ← reader nodes bytes
+  b ← reader a.1 a.2
+  Ok (expr_by operator a.0 b.0, b.1, b.2)
+
+-- the rest of an expression of a kind
+abbrev pub expr_of : Reader Expr → ExprKind → Reader Expr
+expr_of reader expr_kind.Lit nodes bytes = lit_at nodes bytes
+expr_of reader expr_kind.Attr nodes bytes = attr_at nodes bytes
+expr_of reader (expr_kind.Both operator) nodes bytes = pair_at reader operator nodes bytes
+
+-- an expression whose operands are read by reader
+unfoldable pub expr_step : Reader Expr → ℕ → Reader Expr
+expr_step reader depth nodes bytes = do
+  kind ← node_at expr_kind_of depth nodes bytes
+  expr_of reader kind.0 (nodes + 1) kind.1
+
+unfoldable pub expr_at : ℕ → Reader Expr
+expr_at zero nodes bytes = expr_step nothing 0 nodes bytes
+expr_at (suc depth) nodes bytes = expr_step (λ n rest. expr_at depth n rest) (suc depth) nodes bytes
+
+unfoldable pub compare_at : Reader Expr → Comparison → Reader Cond
+compare_at reader comparison nodes bytes = do
+  a ← reader nodes bytes
+  b ← reader a.1 a.2
+  Ok (compare_by comparison a.0 b.0, b.1, b.2)
+
+unfoldable pub join_at : Reader Cond → Connective → Reader Cond
+join_at reader connective nodes bytes = do
+  a ← reader nodes bytes
+  b ← reader a.1 a.2
+  Ok (join_by connective a.0 b.0, b.1, b.2)
+
+unfoldable pub not_at : Reader Cond → Reader Cond
+not_at reader nodes bytes = do
+  a ← reader nodes bytes
+  Ok (test.Not a.0, a.1, a.2)
+
+abbrev pub cond_of : Reader Expr → Reader Cond → CondKind → Reader Cond
+cond_of exprs conds (cond_kind.Compare comparison) nodes bytes = compare_at exprs comparison nodes bytes
+cond_of exprs conds (cond_kind.Both connective) nodes bytes = join_at conds connective nodes bytes
+cond_of exprs conds cond_kind.Not nodes bytes = not_at conds nodes bytes
+
+unfoldable pub cond_step : Reader Expr → Reader Cond → ℕ → Reader Cond
+cond_step exprs conds depth nodes bytes = do
+  kind ← node_at cond_kind_of depth nodes bytes
+  cond_of exprs conds kind.0 (nodes + 1) kind.1
+
+unfoldable pub cond_at : ℕ → Reader Cond
+cond_at zero nodes bytes = cond_step nothing nothing 0 nodes bytes
+cond_at (suc depth) nodes bytes = cond_step (λ n rest. expr_at depth n rest) (λ n rest. cond_at depth n rest) (suc depth) nodes bytes
+
+unfoldable pub set_at : Reader Expr → Reader Stmt
+set_at exprs nodes bytes = do
+  slot ← byte_at bytes
+  attr ← byte_at slot.1
+  value ← exprs nodes attr.1
+  Ok (stmt.Set slot.0 attr.0 value.0, value.1, value.2)
+
+-- a count, and that many statements
+unfoldable pub list_by : Reader Stmt → Reader (List Stmt)
+list_by stmts nodes bytes = do
+  n ← byte_at bytes
+  in_turn stmts n.0 nodes n.1
+
+-- the last list of an If
+unfoldable pub other_at : Reader Stmt → Cond → List Stmt → Reader Stmt
+other_at stmts c body nodes bytes = do
+  other ← list_by stmts nodes bytes
+  Ok (stmt.If c body other.0, other.1, other.2)
+
+-- both lists of an If
+unfoldable pub lists_at : Reader Stmt → Cond → Reader Stmt
+lists_at stmts c nodes bytes = do
+  body ← list_by stmts nodes bytes
+  other_at stmts c body.0 body.1 body.2
+
+unfoldable pub if_at : Reader Cond → Reader Stmt → Reader Stmt
+if_at conds stmts nodes bytes = do
+  c ← conds nodes bytes
+  lists_at stmts c.0 c.1 c.2
+
+abbrev pub stmt_of : Reader Expr → Reader Cond → Reader Stmt → StmtKind → Reader Stmt
+stmt_of exprs conds stmts stmt_kind.Set nodes bytes = set_at exprs nodes bytes
+stmt_of exprs conds stmts stmt_kind.If nodes bytes = if_at conds stmts nodes bytes
+
+unfoldable pub stmt_step : Reader Expr → Reader Cond → Reader Stmt → ℕ → Reader Stmt
+stmt_step exprs conds stmts depth nodes bytes = do
+  kind ← node_at stmt_kind_of depth nodes bytes
+  stmt_of exprs conds stmts kind.0 (nodes + 1) kind.1
+
+unfoldable pub stmt_at : ℕ → Reader Stmt
+stmt_at zero nodes bytes = stmt_step nothing nothing nothing 0 nodes bytes
+stmt_at (suc depth) nodes bytes = stmt_step (λ n rest. expr_at depth n rest) (λ n rest. cond_at depth n rest) (λ n rest. stmt_at depth n rest) (suc depth) nodes bytes
+
+-- a body, whose statements have eight levels
+unfoldable pub body_at : List ℕ → Read (List Stmt)
+body_at bytes = do
+  body ← list_by (λ n rest. stmt_at 8 n rest) 0 bytes
+  Ok (body.0, body.2)

@@ -1,0 +1,204 @@
+//! Reading numbers, counts, objects, values and lists of them.
+ghost use Rattle.std.specs.Prelude.{◌≡◌, ◌≤◌, ◌<◌, IfOk, OnOk, FitsSigned};
+ghost use Rattle.std.specs.Int.{w32, w64};
+ghost use Rattle.sv_wire.specs.Steps.{Gives, several, in_turn};
+ghost use Rattle.sv_wire.specs.Fields.{byte_at, number_at, int_at, count_at, head_count_at, object_at, objects_at, value_at, held_at, helds_at, head_at, result_at};
+
+use crate::fault::{ReadFault, WireCause, stop_at};
+use crate::message::{Done1, Held};
+use byteorder::{BigEndian, ByteOrder};
+use std::alloc::Global;
+use sv_world::{List, ObjectId, Value};
+
+#[tactic(auto, unfolding(crate::specs::Fields::byte_at))]
+pub fn byte_of(bytes: &[u8]) -> Result<(u8, &[u8]), ReadFault>
+    ensures { Gives (λ x. (x.0, x.1.now)) result (byte_at bytes.now) }
+{
+    match bytes {
+        [] => Err(stop_at(bytes, WireCause::Short)),
+        [byte, rest @ ..] => Ok((*byte, rest)),
+    }
+}
+
+#[tactic(auto, unfolding(crate::specs::Fields::number_at))]
+pub fn u16_of(bytes: &[u8]) -> Result<(u16, &[u8]), ReadFault>
+    ensures { Gives (λ x. (x.0, x.1.now)) result (number_at 2 bytes.now) }
+{
+    if bytes.len() < 2 {
+        return Err(stop_at(bytes, WireCause::Short));
+    }
+    Ok((BigEndian::read_u16(bytes), &bytes[2..]))
+}
+
+#[tactic(auto, unfolding(crate::specs::Fields::number_at))]
+pub fn u32_of(bytes: &[u8]) -> Result<(u32, &[u8]), ReadFault>
+    ensures { Gives (λ x. (x.0, x.1.now)) result (number_at 4 bytes.now) }
+{
+    if bytes.len() < 4 {
+        return Err(stop_at(bytes, WireCause::Short));
+    }
+    Ok((BigEndian::read_u32(bytes), &bytes[4..]))
+}
+
+#[tactic(auto, unfolding(crate::specs::Fields::number_at, crate::specs::Fields::int_at))]
+pub fn i32_of(bytes: &[u8]) -> Result<(i32, &[u8]), ReadFault>
+    ensures { Gives (λ x. (x.0, x.1.now)) result (int_at w32 bytes.now) }
+{
+    if bytes.len() < 4 {
+        return Err(stop_at(bytes, WireCause::Short));
+    }
+    Ok((BigEndian::read_i32(bytes), &bytes[4..]))
+}
+
+#[tactic(auto, unfolding(crate::specs::Fields::number_at, crate::specs::Fields::int_at))]
+pub fn i64_of(bytes: &[u8]) -> Result<(i64, &[u8]), ReadFault>
+    ensures gives { Gives (λ x. (x.0, x.1.now)) result (int_at w64 bytes.now) }
+    ensures signed { IfOk result (λ x. FitsSigned w64 x.0) }
+{
+    if bytes.len() < 8 {
+        return Err(stop_at(bytes, WireCause::Short));
+    }
+    Ok((BigEndian::read_i64(bytes), &bytes[8..]))
+}
+
+#[tactic(auto, unfolding(crate::specs::Fields::count_at))]
+pub fn count_of(low: u8, high: u8, bytes: &[u8]) -> Result<(u8, &[u8]), ReadFault>
+    ensures { Gives (λ x. (x.0, x.1.now)) result (count_at low high bytes.now) }
+{
+    let (count, rest) = byte_of(bytes)?;
+    if count < low || high < count {
+        return Err(stop_at(bytes, WireCause::Count));
+    }
+    Ok((count, rest))
+}
+
+#[tactic(auto, unfolding(crate::specs::Fields::head_count_at))]
+fn head_count_of(bytes: &[u8]) -> Result<(u16, &[u8]), ReadFault>
+    ensures { Gives (λ x. (x.0, x.1.now)) result (head_count_at bytes.now) }
+{
+    let (count, rest) = u16_of(bytes)?;
+    if 528 < count {
+        return Err(stop_at(bytes, WireCause::Count));
+    }
+    Ok((count, rest))
+}
+
+#[tactic(auto, unfolding(crate::specs::Fields::object_at))]
+fn object_of(least: u32, bytes: &[u8]) -> Result<(ObjectId, u32, &[u8]), ReadFault>
+    ensures { Gives (λ x. (x.0, x.1, x.2.now)) result (object_at least bytes.now) }
+{
+    let (number, rest) = u16_of(bytes)?;
+    let number_wide = u32::from(number);
+    if number_wide < least {
+        return Err(stop_at(bytes, WireCause::Order));
+    }
+    Ok((ObjectId(number), number_wide + 1, rest))
+}
+
+pub fn objects_of(
+    alloc: Global,
+    count: u8,
+    bytes: &[u8],
+) -> Result<(List<ObjectId>, &[u8]), ReadFault>
+    ensures { Gives (λ x. (x.0, x.1.now)) result (objects_at count bytes.now) }
+{
+    let mut objects = List::new(alloc);
+    let mut least = 0;
+    let mut rest = bytes;
+    for _ in 0..count {
+        let (object, next, after) = object_of(least, rest)?;
+        objects.push(object)?;
+        least = next;
+        rest = after;
+    }
+    Ok((objects, rest))
+}
+
+fn numbers_of(alloc: Global, count: u8, bytes: &[u8]) -> Result<(Value, &[u8]), ReadFault>
+    ensures { Gives (λ x. (x.0, x.1.now)) result (several (int_at w64) count bytes.now) }
+{
+    let mut numbers = List::new(alloc);
+    let mut rest = bytes;
+    for _ in 0..count {
+        let (number, after) = i64_of(rest)?;
+        numbers.push(number)?;
+        rest = after;
+    }
+    Ok((numbers, rest))
+}
+
+#[tactic(auto, unfolding(crate::specs::Fields::value_at))]
+fn value_of(alloc: Global, bytes: &[u8]) -> Result<(Value, &[u8]), ReadFault>
+    ensures { Gives (λ x. (x.0, x.1.now)) result (value_at bytes.now) }
+{
+    let (count, rest) = count_of(1, 4, bytes)?;
+    numbers_of(alloc, count, rest)
+}
+
+#[tactic(auto, unfolding(crate::specs::Fields::held_at))]
+fn held_of(alloc: Global, least: u32, bytes: &[u8]) -> Result<(Held, u32, &[u8]), ReadFault>
+    ensures { Gives (λ x. (x.0, x.1, x.2.now)) result (held_at least bytes.now) }
+{
+    let (object, next, rest) = object_of(least, bytes)?;
+    let (value, rest) = value_of(alloc, rest)?;
+    Ok((Held { object, value }, next, rest))
+}
+
+fn helds_of(alloc: Global, count: u16, bytes: &[u8]) -> Result<(List<Held>, &[u8]), ReadFault>
+    ensures { Gives (λ x. (x.0, x.1.now)) result (helds_at count bytes.now) }
+{
+    let mut head = List::new(alloc);
+    let mut least = 0;
+    let mut rest = bytes;
+    for _ in 0..count {
+        let (held, next, after) = held_of(alloc, least, rest)?;
+        head.push(held)?;
+        least = next;
+        rest = after;
+    }
+    Ok((head, rest))
+}
+
+#[tactic(auto, unfolding(crate::specs::Fields::head_at))]
+pub fn head_of(alloc: Global, bytes: &[u8]) -> Result<(List<Held>, &[u8]), ReadFault>
+    ensures { Gives (λ x. (x.0, x.1.now)) result (head_at bytes.now) }
+{
+    let (count, rest) = head_count_of(bytes)?;
+    helds_of(alloc, count, rest)
+}
+
+fn values_of(alloc: Global, count: u8, bytes: &[u8]) -> Result<(List<Value>, &[u8]), ReadFault>
+    ensures { Gives (λ x. (x.0, x.1.now)) result (several value_at count bytes.now) }
+{
+    let mut values = List::new(alloc);
+    let mut rest = bytes;
+    for _ in 0..count {
+        let (value, after) = value_of(alloc, rest)?;
+        values.push(value)?;
+        rest = after;
+    }
+    Ok((values, rest))
+}
+
+#[tactic(auto, unfolding(crate::specs::Fields::result_at))]
+fn result_of(alloc: Global, bytes: &[u8]) -> Result<(Done1, &[u8]), ReadFault>
+    ensures { Gives (λ x. (x.0, x.1.now)) result (result_at bytes.now) }
+{
+    let (pos, rest) = u32_of(bytes)?;
+    let (count, rest) = count_of(0, 16, rest)?;
+    let (values, rest) = values_of(alloc, count, rest)?;
+    Ok((Done1 { pos, values }, rest))
+}
+
+pub fn results_of(alloc: Global, count: u8, bytes: &[u8]) -> Result<(List<Done1>, &[u8]), ReadFault>
+    ensures { Gives (λ x. (x.0, x.1.now)) result (several result_at count bytes.now) }
+{
+    let mut results = List::new(alloc);
+    let mut rest = bytes;
+    for _ in 0..count {
+        let (found, after) = result_of(alloc, rest)?;
+        results.push(found)?;
+        rest = after;
+    }
+    Ok((results, rest))
+}

@@ -1,0 +1,201 @@
+//! The kinds of the nodes of an action's body.
+ghost use Rattle.std.specs.Prelude.{◌≡◌, ◌<◌, IfOk, OnOk};
+ghost use Rattle.sv_wire.specs.Steps.{Gives};
+ghost use Rattle.sv_wire.specs.Nodes.{room_at, node_at, expr_kind_of, cond_kind_of, stmt_kind_of, expr_by, compare_by, join_by};
+
+use crate::fault::{ReadFault, WireCause, stop_at};
+use crate::fields::byte_of;
+use std::alloc::{AllocError, Global};
+use sv_world::{Boxed, Cond, Expr};
+
+/// What joins two expressions to one.
+#[derive(Clone, Copy)]
+pub enum Operator {
+    Add,
+    Sub,
+    Mul,
+    Div,
+    Rem,
+    Min,
+    Max,
+}
+
+#[derive(Clone, Copy)]
+pub enum ExprKind {
+    Lit,
+    Attr,
+    Both(Operator),
+}
+
+/// What compares two expressions.
+#[derive(Clone, Copy)]
+pub enum Comparison {
+    Eq,
+    Lt,
+    Le,
+}
+
+/// What joins two conditions to one.
+#[derive(Clone, Copy)]
+pub enum Connective {
+    And,
+    Or,
+}
+
+#[derive(Clone, Copy)]
+pub enum CondKind {
+    Compare(Comparison),
+    Both(Connective),
+    Not,
+}
+
+#[derive(Clone, Copy)]
+pub enum StmtKind {
+    Set,
+    If,
+}
+
+#[tactic(auto, unfolding(crate::specs::Nodes::expr_kind_of))]
+fn expr_kind(byte: u8) -> Option<ExprKind>
+    ensures { result ≡ expr_kind_of byte }
+{
+    match byte {
+        0x20 => Some(ExprKind::Lit),
+        0x21 => Some(ExprKind::Attr),
+        0x22 => Some(ExprKind::Both(Operator::Add)),
+        0x23 => Some(ExprKind::Both(Operator::Sub)),
+        0x24 => Some(ExprKind::Both(Operator::Mul)),
+        0x25 => Some(ExprKind::Both(Operator::Div)),
+        0x26 => Some(ExprKind::Both(Operator::Rem)),
+        0x27 => Some(ExprKind::Both(Operator::Min)),
+        0x28 => Some(ExprKind::Both(Operator::Max)),
+        _ => None,
+    }
+}
+
+#[tactic(auto, unfolding(crate::specs::Nodes::cond_kind_of))]
+fn cond_kind(byte: u8) -> Option<CondKind>
+    ensures { result ≡ cond_kind_of byte }
+{
+    match byte {
+        0x30 => Some(CondKind::Compare(Comparison::Eq)),
+        0x31 => Some(CondKind::Compare(Comparison::Lt)),
+        0x32 => Some(CondKind::Compare(Comparison::Le)),
+        0x33 => Some(CondKind::Both(Connective::And)),
+        0x34 => Some(CondKind::Both(Connective::Or)),
+        0x35 => Some(CondKind::Not),
+        _ => None,
+    }
+}
+
+#[tactic(auto, unfolding(crate::specs::Nodes::stmt_kind_of))]
+fn stmt_kind(byte: u8) -> Option<StmtKind>
+    ensures { result ≡ stmt_kind_of byte }
+{
+    match byte {
+        0x10 => Some(StmtKind::Set),
+        0x11 => Some(StmtKind::If),
+        _ => None,
+    }
+}
+
+/// Whether a node may stand here, with so many levels left for it and so many nodes before it.
+#[tactic(auto, unfolding(crate::specs::Nodes::room_at))]
+fn has_room(depth: u8, nodes: u8, bytes: &[u8]) -> Result<(), ReadFault>
+    ensures gives { Gives (λ _. tt) result (room_at depth nodes bytes.now) }
+    ensures few { OnOk result ((nodes < 64) × (0 < depth)) }
+{
+    if 64 <= nodes {
+        return Err(stop_at(bytes, WireCause::Large));
+    }
+    if depth == 0 {
+        return Err(stop_at(bytes, WireCause::Deep));
+    }
+    Ok(())
+}
+
+#[tactic(auto, unfolding(crate::specs::Nodes::node_at))]
+pub fn expr_node(depth: u8, nodes: u8, bytes: &[u8]) -> Result<(ExprKind, &[u8]), ReadFault>
+    ensures gives { Gives (λ x. (x.0, x.1.now)) result (node_at expr_kind_of depth nodes bytes.now) }
+    ensures few { OnOk result ((nodes < 64) × (0 < depth)) }
+{
+    let (byte, rest) = byte_of(bytes)?;
+    let Some(kind) = expr_kind(byte) else {
+        return Err(stop_at(bytes, WireCause::Kind));
+    };
+    has_room(depth, nodes, bytes)?;
+    Ok((kind, rest))
+}
+
+#[tactic(auto, unfolding(crate::specs::Nodes::node_at))]
+pub fn cond_node(depth: u8, nodes: u8, bytes: &[u8]) -> Result<(CondKind, &[u8]), ReadFault>
+    ensures gives { Gives (λ x. (x.0, x.1.now)) result (node_at cond_kind_of depth nodes bytes.now) }
+    ensures few { OnOk result ((nodes < 64) × (0 < depth)) }
+{
+    let (byte, rest) = byte_of(bytes)?;
+    let Some(kind) = cond_kind(byte) else {
+        return Err(stop_at(bytes, WireCause::Kind));
+    };
+    has_room(depth, nodes, bytes)?;
+    Ok((kind, rest))
+}
+
+#[tactic(auto, unfolding(crate::specs::Nodes::node_at))]
+pub fn stmt_node(depth: u8, nodes: u8, bytes: &[u8]) -> Result<(StmtKind, &[u8]), ReadFault>
+    ensures gives { Gives (λ x. (x.0, x.1.now)) result (node_at stmt_kind_of depth nodes bytes.now) }
+    ensures few { OnOk result ((nodes < 64) × (0 < depth)) }
+{
+    let (byte, rest) = byte_of(bytes)?;
+    let Some(kind) = stmt_kind(byte) else {
+        return Err(stop_at(bytes, WireCause::Kind));
+    };
+    has_room(depth, nodes, bytes)?;
+    Ok((kind, rest))
+}
+
+pub fn joined(
+    alloc: Global,
+    operator: Operator,
+    left: Expr,
+    right: Expr,
+) -> Result<Expr, AllocError>
+    ensures { IfOk result (λ e. e ≡ expr_by operator left right) }
+{
+    let left = Boxed::new(alloc, left)?;
+    let right = Boxed::new(alloc, right)?;
+    Ok(match operator {
+        Operator::Add => Expr::Add(left, right),
+        Operator::Sub => Expr::Sub(left, right),
+        Operator::Mul => Expr::Mul(left, right),
+        Operator::Div => Expr::Div(left, right),
+        Operator::Rem => Expr::Rem(left, right),
+        Operator::Min => Expr::Min(left, right),
+        Operator::Max => Expr::Max(left, right),
+    })
+}
+
+pub fn compared(comparison: Comparison, left: Expr, right: Expr) -> Cond
+    ensures { result ≡ compare_by comparison left right }
+{
+    match comparison {
+        Comparison::Eq => Cond::Eq(left, right),
+        Comparison::Lt => Cond::Lt(left, right),
+        Comparison::Le => Cond::Le(left, right),
+    }
+}
+
+pub fn both(
+    alloc: Global,
+    connective: Connective,
+    left: Cond,
+    right: Cond,
+) -> Result<Cond, AllocError>
+    ensures { IfOk result (λ t. t ≡ join_by connective left right) }
+{
+    let left = Boxed::new(alloc, left)?;
+    let right = Boxed::new(alloc, right)?;
+    Ok(match connective {
+        Connective::And => Cond::And(left, right),
+        Connective::Or => Cond::Or(left, right),
+    })
+}

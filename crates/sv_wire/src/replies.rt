@@ -1,0 +1,119 @@
+//! Reading replies.
+ghost use Rattle.std.specs.Prelude.{◌≡◌};
+ghost use Rattle.sv_wire.specs.Steps.{Gives};
+ghost use Rattle.sv_wire.specs.Messages.{welcome_at, relay_at, dropped_at, settled_at, noted_at, code_at, refused_at, reply_front, whole};
+
+use crate::actions::items_of;
+use crate::fault::{ReadFault, WireCause, stop_at};
+use crate::fields::{byte_of, count_of, head_of, u32_of};
+use crate::kinds::{ReplyKind, reply_kind};
+use crate::message::Reply;
+use std::alloc::Global;
+
+#[tactic(auto, unfolding(crate::specs::Messages::welcome_at))]
+fn welcome_of(alloc: Global, bytes: &[u8]) -> Result<(Reply, &[u8]), ReadFault>
+    ensures { Gives (λ x. (x.0, x.1.now)) result (welcome_at bytes.now) }
+{
+    let (commit, rest) = u32_of(bytes)?;
+    let (head, rest) = head_of(alloc, rest)?;
+    Ok((Reply::Welcome { commit, head }, rest))
+}
+
+#[tactic(auto, unfolding(crate::specs::Messages::relay_at))]
+fn relay_of(alloc: Global, bytes: &[u8]) -> Result<(Reply, &[u8]), ReadFault>
+    ensures { Gives (λ x. (x.0, x.1.now)) result (relay_at bytes.now) }
+{
+    let (seq, rest) = u32_of(bytes)?;
+    let (commit, rest) = u32_of(rest)?;
+    let (head, rest) = head_of(alloc, rest)?;
+    let (count, rest) = count_of(0, 33, rest)?;
+    let (items, rest) = items_of(alloc, count, rest)?;
+    Ok((
+        Reply::Relay {
+            seq,
+            commit,
+            head,
+            items,
+        },
+        rest,
+    ))
+}
+
+#[tactic(auto, unfolding(crate::specs::Messages::dropped_at))]
+fn dropped_of(bytes: &[u8]) -> Result<(Reply, &[u8]), ReadFault>
+    ensures { Gives (λ x. (x.0, x.1.now)) result (dropped_at bytes.now) }
+{
+    let (seq, rest) = u32_of(bytes)?;
+    let (chain, rest) = u32_of(rest)?;
+    let (far, rest) = u32_of(rest)?;
+    Ok((Reply::Dropped { seq, chain, far }, rest))
+}
+
+#[tactic(auto, unfolding(crate::specs::Messages::settled_at))]
+fn settled_of(bytes: &[u8]) -> Result<(Reply, &[u8]), ReadFault>
+    ensures { Gives (λ x. (x.0, x.1.now)) result (settled_at bytes.now) }
+{
+    let (seq, rest) = u32_of(bytes)?;
+    let (pos, rest) = u32_of(rest)?;
+    Ok((Reply::Settled { seq, pos }, rest))
+}
+
+#[tactic(auto, unfolding(crate::specs::Messages::noted_at))]
+fn noted_of(bytes: &[u8]) -> Result<(Reply, &[u8]), ReadFault>
+    ensures { Gives (λ x. (x.0, x.1.now)) result (noted_at bytes.now) }
+{
+    let (commit, rest) = u32_of(bytes)?;
+    Ok((Reply::Noted { commit }, rest))
+}
+
+#[tactic(auto, unfolding(crate::specs::Messages::code_at))]
+fn code_of(bytes: &[u8]) -> Result<(u8, &[u8]), ReadFault>
+    ensures { Gives (λ x. (x.0, x.1.now)) result (code_at bytes.now) }
+{
+    let (code, rest) = byte_of(bytes)?;
+    if code < 1 || 11 < code {
+        return Err(stop_at(bytes, WireCause::Code));
+    }
+    Ok((code, rest))
+}
+
+#[tactic(auto, unfolding(crate::specs::Messages::refused_at))]
+fn refused_of(bytes: &[u8]) -> Result<(Reply, &[u8]), ReadFault>
+    ensures { Gives (λ x. (x.0, x.1.now)) result (refused_at bytes.now) }
+{
+    let (code, rest) = code_of(bytes)?;
+    let (detail, rest) = u32_of(rest)?;
+    Ok((Reply::Refused { code, detail }, rest))
+}
+
+#[tactic(auto, unfolding(crate::specs::Messages::reply_front))]
+fn reply_of(alloc: Global, payload: &[u8]) -> Result<(Reply, &[u8]), ReadFault>
+    ensures { Gives (λ x. (x.0, x.1.now)) result (reply_front payload.now) }
+{
+    let (byte, rest) = byte_of(payload)?;
+    let Some(kind) = reply_kind(byte) else {
+        return Err(stop_at(payload, WireCause::Kind));
+    };
+    match kind {
+        ReplyKind::Welcome => welcome_of(alloc, rest),
+        ReplyKind::Relay => relay_of(alloc, rest),
+        ReplyKind::Dropped => dropped_of(rest),
+        ReplyKind::Settled => settled_of(rest),
+        ReplyKind::Noted => noted_of(rest),
+        ReplyKind::Idle => Ok((Reply::Idle, rest)),
+        ReplyKind::Refused => refused_of(rest),
+        ReplyKind::Bye => Ok((Reply::Bye, rest)),
+    }
+}
+
+/// The reply that a payload is, all of it.
+#[tactic(auto, unfolding(crate::specs::Messages::whole))]
+pub fn whole_reply(alloc: Global, payload: &[u8]) -> Result<Reply, ReadFault>
+    ensures { Gives (λ x. x) result (whole reply_front payload.now) }
+{
+    let (reply, rest) = reply_of(alloc, payload)?;
+    if !rest.is_empty() {
+        return Err(stop_at(rest, WireCause::Rest));
+    }
+    Ok(reply)
+}

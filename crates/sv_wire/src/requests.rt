@@ -1,0 +1,77 @@
+//! Reading requests.
+ghost use Rattle.std.specs.Prelude.{◌≡◌};
+ghost use Rattle.sv_wire.specs.Steps.{Gives};
+ghost use Rattle.sv_wire.specs.Messages.{join_request_at, submit_at, done_at, request_front, whole};
+
+use crate::actions::action_of;
+use crate::fault::{ReadFault, WireCause, stop_at};
+use crate::fields::{byte_of, count_of, objects_of, results_of, u16_of, u32_of};
+use crate::kinds::{RequestKind, request_kind};
+use crate::message::Request;
+use std::alloc::Global;
+use sv_world::ClientId;
+
+#[tactic(auto, unfolding(crate::specs::Messages::join_request_at))]
+fn join_of(alloc: Global, bytes: &[u8]) -> Result<(Request, &[u8]), ReadFault>
+    ensures { Gives (λ x. (x.0, x.1.now)) result (join_request_at bytes.now) }
+{
+    let (client, rest) = u16_of(bytes)?;
+    let (life, rest) = u32_of(rest)?;
+    let (count, rest) = count_of(0, 64, rest)?;
+    let (interest, rest) = objects_of(alloc, count, rest)?;
+    Ok((
+        Request::Join {
+            client: ClientId(client),
+            life,
+            interest,
+        },
+        rest,
+    ))
+}
+
+#[tactic(auto, unfolding(crate::specs::Messages::submit_at))]
+fn submit_of(alloc: Global, bytes: &[u8]) -> Result<(Request, &[u8]), ReadFault>
+    ensures { Gives (λ x. (x.0, x.1.now)) result (submit_at bytes.now) }
+{
+    let (seq, rest) = u32_of(bytes)?;
+    let (action, rest) = action_of(alloc, rest)?;
+    Ok((Request::Submit { seq, action }, rest))
+}
+
+#[tactic(auto, unfolding(crate::specs::Messages::done_at))]
+fn done_of(alloc: Global, bytes: &[u8]) -> Result<(Request, &[u8]), ReadFault>
+    ensures { Gives (λ x. (x.0, x.1.now)) result (done_at bytes.now) }
+{
+    let (count, rest) = count_of(1, 33, bytes)?;
+    let (results, rest) = results_of(alloc, count, rest)?;
+    Ok((Request::Done { results }, rest))
+}
+
+#[tactic(auto, unfolding(crate::specs::Messages::request_front))]
+fn request_of(alloc: Global, payload: &[u8]) -> Result<(Request, &[u8]), ReadFault>
+    ensures { Gives (λ x. (x.0, x.1.now)) result (request_front payload.now) }
+{
+    let (byte, rest) = byte_of(payload)?;
+    let Some(kind) = request_kind(byte) else {
+        return Err(stop_at(payload, WireCause::Kind));
+    };
+    match kind {
+        RequestKind::Join => join_of(alloc, rest),
+        RequestKind::Submit => submit_of(alloc, rest),
+        RequestKind::Done => done_of(alloc, rest),
+        RequestKind::Poll => Ok((Request::Poll, rest)),
+        RequestKind::Leave => Ok((Request::Leave, rest)),
+    }
+}
+
+/// The request that a payload is, all of it.
+#[tactic(auto, unfolding(crate::specs::Messages::whole))]
+pub fn whole_request(alloc: Global, payload: &[u8]) -> Result<Request, ReadFault>
+    ensures { Gives (λ x. x) result (whole request_front payload.now) }
+{
+    let (request, rest) = request_of(alloc, payload)?;
+    if !rest.is_empty() {
+        return Err(stop_at(rest, WireCause::Rest));
+    }
+    Ok(request)
+}

@@ -1,0 +1,291 @@
+use super::*;
+use std::alloc::Global;
+use std::process::Abort;
+use std::test::*;
+use sv_world::{ClientId, List, ObjectId};
+
+const JOIN: [u8; 10] = [1, 0, 0, 0, 0, 0, 1, 1, 0, 0];
+
+const SUBMIT: [u8; 35] = [
+    6, 0, 0, 0, 1, 1, 0, 0, 0, 1, 0, 0, 0, 0, 0, 0, 0, 0, 1, 0x10, 0, 0, 0x22, 0x21, 0, 0, 0x20, 0,
+    0, 0, 0, 0, 0, 0, 1,
+];
+
+const DONE: [u8; 16] = [3, 1, 0, 0, 0, 1, 1, 1, 0, 0, 0, 0, 0, 0, 0, 6];
+
+const WELCOME: [u8; 18] = [0x81, 0, 0, 0, 0, 0, 1, 0, 0, 1, 0, 0, 0, 0, 0, 0, 0, 5];
+
+const RELAY: [u8; 63] = [
+    0x89, 0, 0, 0, 1, 0, 0, 0, 0, 0, 1, 0, 0, 1, 0, 0, 0, 0, 0, 0, 0, 5, 1, 0, 0, 0, 1, 0, 0, 0, 0,
+    0, 1, 1, 0, 0, 0, 1, 0, 0, 0, 0, 0, 0, 0, 0, 1, 0x10, 0, 0, 0x22, 0x21, 0, 0, 0x20, 0, 0, 0, 0,
+    0, 0, 0, 1,
+];
+
+const FIRST_RELAY: [u8; 52] = [
+    0x89, 0, 0, 0, 1, 0, 0, 0, 0, 0, 0, 1, 0, 0, 0, 1, 0, 0, 0, 0, 0, 1, 1, 0, 0, 0, 1, 0, 0, 0, 0,
+    0, 0, 0, 0, 1, 0x10, 0, 0, 0x22, 0x21, 0, 0, 0x20, 0, 0, 0, 0, 0, 0, 0, 1,
+];
+
+/// A request's payload is read, and its copy written as the same payload.
+fn request_comes_back(rt: &impl Abort, alloc: Global, payload: &[u8]) -> Result<(), Fail> {
+    let request = decode_request(alloc, payload)
+        .ok()
+        .ok_or("it is a request")?;
+    let copy = copy_request(alloc, &request)?;
+    let written = encode_request(alloc, &copy)?;
+    assert!(rt; written.as_slice() == payload);
+    Ok(())
+}
+
+fn reply_comes_back(rt: &impl Abort, alloc: Global, payload: &[u8]) -> Result<(), Fail> {
+    let reply = decode_reply(alloc, payload).ok().ok_or("it is a reply")?;
+    let copy = copy_reply(alloc, &reply)?;
+    let written = encode_reply(alloc, &copy)?;
+    assert!(rt; written.as_slice() == payload);
+    Ok(())
+}
+
+fn request_is_refused(rt: &impl Abort, alloc: Global, payload: &[u8], at: u32, cause: WireCause) {
+    let fault = decode_request(alloc, payload).err();
+    assert!(rt; fault == Some(WireFault::Malformed(Malformed { at, cause })));
+}
+
+fn reply_is_refused(rt: &impl Abort, alloc: Global, payload: &[u8], at: u32, cause: WireCause) {
+    let fault = decode_reply(alloc, payload).err();
+    assert!(rt; fault == Some(WireFault::Malformed(Malformed { at, cause })));
+}
+
+#[test]
+fn message_vectors(rt: HostRuntime) -> Result<(), Fail> {
+    request_comes_back(&rt, rt.alloc(), &JOIN)?;
+    request_comes_back(&rt, rt.alloc(), &SUBMIT)?;
+    request_comes_back(&rt, rt.alloc(), &DONE)?;
+    request_comes_back(&rt, rt.alloc(), &[4])?;
+    request_comes_back(&rt, rt.alloc(), &[5])?;
+    reply_comes_back(&rt, rt.alloc(), &WELCOME)?;
+    reply_comes_back(&rt, rt.alloc(), &RELAY)?;
+    reply_comes_back(&rt, rt.alloc(), &FIRST_RELAY)?;
+    reply_comes_back(&rt, rt.alloc(), &[0x84, 0, 0, 0, 7, 0, 0, 0, 9])?;
+    reply_comes_back(&rt, rt.alloc(), &[0x85, 0, 0, 0, 1])?;
+    reply_comes_back(&rt, rt.alloc(), &[0x86])?;
+    reply_comes_back(&rt, rt.alloc(), &[0x87, 11, 0, 0, 0, 3])?;
+    reply_comes_back(&rt, rt.alloc(), &[0x88])?;
+    Ok(())
+}
+
+#[test]
+fn messages_are_written(rt: HostRuntime) -> Result<(), Fail> {
+    let dropped = Reply::Dropped {
+        seq: 3,
+        chain: 2,
+        far: 0,
+    };
+    let written = encode_reply(rt.alloc(), &dropped)?;
+    assert!(rt; written.as_slice() == [0x8a, 0, 0, 0, 3, 0, 0, 0, 2, 0, 0, 0, 0].as_slice());
+    let mut interest = List::new(rt.alloc());
+    interest.push(ObjectId(0))?;
+    let join = Request::Join {
+        client: ClientId(0),
+        life: 1,
+        interest,
+    };
+    let written = encode_request(rt.alloc(), &join)?;
+    assert!(rt; written.as_slice() == JOIN.as_slice());
+    Ok(())
+}
+
+#[test]
+fn refused_requests(rt: HostRuntime) {
+    let alloc = rt.alloc();
+    request_is_refused(&rt, alloc, &[], 0, WireCause::Short);
+    request_is_refused(&rt, alloc, &[6], 1, WireCause::Short);
+    request_is_refused(&rt, alloc, &[2, 0], 0, WireCause::Kind);
+    request_is_refused(&rt, alloc, &[7, 0], 0, WireCause::Kind);
+    request_is_refused(&rt, alloc, &[0x81, 0], 0, WireCause::Kind);
+    request_is_refused(&rt, alloc, &[4, 0], 1, WireCause::Rest);
+    request_is_refused(&rt, alloc, &[6, 0, 0, 0, 1, 0], 5, WireCause::Count);
+    request_is_refused(
+        &rt,
+        alloc,
+        &[6, 0, 0, 0, 1, 2, 0, 1, 0, 0, 9],
+        8,
+        WireCause::Order,
+    );
+    request_is_refused(
+        &rt,
+        alloc,
+        &[6, 0, 0, 0, 1, 1, 0, 0, 0, 2, 9],
+        8,
+        WireCause::Mask,
+    );
+    request_is_refused(&rt, alloc, &[1, 0, 0, 0, 0], 3, WireCause::Short);
+    request_is_refused(&rt, alloc, &[3, 0], 1, WireCause::Count);
+}
+
+/// A payload with the byte at a place left out.
+fn without(alloc: Global, payload: &[u8], place: usize) -> Result<Vec<u8>, Fail> {
+    let mut edited = Vec::new(alloc);
+    for (at, byte) in payload.iter().enumerate() {
+        if at != place {
+            edited.push(*byte)?;
+        }
+    }
+    Ok(edited)
+}
+
+/// A payload with another byte at a place.
+fn changed(alloc: Global, payload: &[u8], place: usize, other: u8) -> Result<Vec<u8>, Fail> {
+    let mut edited = Vec::new(alloc);
+    for (at, byte) in payload.iter().enumerate() {
+        edited.push(if at == place { other } else { *byte })?;
+    }
+    Ok(edited)
+}
+
+#[test]
+fn edited_requests(rt: HostRuntime) -> Result<(), Fail> {
+    let alloc = rt.alloc();
+    let left_out = [
+        (0, 0, WireCause::Kind),
+        (1, 8, WireCause::Rest),
+        (6, 8, WireCause::Rest),
+        (7, 8, WireCause::Rest),
+        (8, 8, WireCause::Short),
+        (9, 8, WireCause::Short),
+    ];
+    for (place, at, cause) in left_out {
+        let payload = without(alloc, &JOIN, place)?;
+        request_is_refused(&rt, alloc, &payload, at, cause);
+    }
+    let edits = [
+        (0, 2, 0, WireCause::Kind),
+        (5, 0, 5, WireCause::Count),
+        (5, 17, 5, WireCause::Count),
+        (5, 2, 21, WireCause::Rest),
+        (9, 2, 8, WireCause::Mask),
+        (18, 0, 19, WireCause::Rest),
+        (18, 2, 35, WireCause::Short),
+        (19, 0x12, 19, WireCause::Kind),
+        (22, 0x29, 22, WireCause::Kind),
+        (22, 0x21, 25, WireCause::Rest),
+        (23, 0x30, 23, WireCause::Kind),
+    ];
+    for (place, byte, at, cause) in edits {
+        let payload = changed(alloc, &SUBMIT, place, byte)?;
+        request_is_refused(&rt, alloc, &payload, at, cause);
+    }
+    Ok(())
+}
+
+#[test]
+fn edited_results_and_replies(rt: HostRuntime) -> Result<(), Fail> {
+    let alloc = rt.alloc();
+    let edits = [
+        (1, 0, 1, WireCause::Count),
+        (1, 34, 1, WireCause::Count),
+        (1, 2, 16, WireCause::Short),
+        (6, 17, 6, WireCause::Count),
+        (6, 0, 7, WireCause::Rest),
+        (7, 0, 7, WireCause::Count),
+        (7, 5, 7, WireCause::Count),
+        (7, 2, 16, WireCause::Short),
+    ];
+    for (place, byte, at, cause) in edits {
+        let payload = changed(alloc, &DONE, place, byte)?;
+        request_is_refused(&rt, alloc, &payload, at, cause);
+    }
+    let edits = [
+        (0, 0x82, 0, WireCause::Kind),
+        (0, 0x83, 0, WireCause::Kind),
+        (0, 0x01, 0, WireCause::Kind),
+        (10, 0, 12, WireCause::Rest),
+        (10, 2, 24, WireCause::Count),
+        (13, 0, 13, WireCause::Count),
+        (13, 5, 13, WireCause::Count),
+        (22, 0, 23, WireCause::Rest),
+        (22, 34, 22, WireCause::Count),
+        (22, 2, 63, WireCause::Short),
+    ];
+    for (place, byte, at, cause) in edits {
+        let payload = changed(alloc, &RELAY, place, byte)?;
+        reply_is_refused(&rt, alloc, &payload, at, cause);
+    }
+    reply_is_refused(&rt, alloc, &WELCOME[..17], 10, WireCause::Short);
+    reply_is_refused(&rt, alloc, &[0x81, 0, 0, 0, 0, 2, 17], 5, WireCause::Count);
+    reply_is_refused(&rt, alloc, &[0x85, 0, 0, 0], 1, WireCause::Short);
+    reply_is_refused(&rt, alloc, &[0x85, 0, 0, 0, 1, 0], 5, WireCause::Rest);
+    reply_is_refused(&rt, alloc, &[0x87, 0, 0, 0, 0, 0], 1, WireCause::Code);
+    reply_is_refused(&rt, alloc, &[0x87, 12, 0, 0, 0, 0], 1, WireCause::Code);
+    Ok(())
+}
+
+/// Appends `count` statements that set a number to a literal: two nodes each, in twelve bytes.
+fn put_sets(payload: &mut Vec<u8>, count: u8) -> Result<(), Fail> {
+    for _ in 0..count {
+        payload.extend_from_slice(&[0x10, 0, 0, 0x20, 0, 0, 0, 0, 0, 0, 0, 1])?;
+    }
+    Ok(())
+}
+
+#[test]
+fn refused_nodes(rt: HostRuntime) -> Result<(), Fail> {
+    let alloc = rt.alloc();
+    let mut deep = Vec::from_slice(alloc, &SUBMIT[..19])?;
+    deep.extend_from_slice(&[0x11, 0x35, 0x35, 0x35, 0x35, 0x35, 0x35, 0x35, 0x35])?;
+    request_is_refused(&rt, alloc, &deep, 27, WireCause::Deep);
+    let mut large = Vec::from_slice(alloc, &SUBMIT[..18])?;
+    large.push(33)?;
+    put_sets(&mut large, 33)?;
+    request_is_refused(&rt, alloc, &large, 403, WireCause::Large);
+    let mut both = Vec::from_slice(alloc, &SUBMIT[..18])?;
+    both.push(29)?;
+    put_sets(&mut both, 28)?;
+    both.extend_from_slice(&[0x11, 0x35, 0x35, 0x35, 0x35, 0x35, 0x35, 0x35, 0x35])?;
+    request_is_refused(&rt, alloc, &both, 363, WireCause::Large);
+    Ok(())
+}
+
+/// Appends a value of four numbers.
+fn put_value(payload: &mut Vec<u8>) -> Result<(), Fail> {
+    payload.push(4)?;
+    for _ in 0..4u8 {
+        payload.extend_from_slice(&[0x80, 0, 0, 0, 0, 0, 0, 1])?;
+    }
+    Ok(())
+}
+
+/// Appends an item with 16 reads and 64 nodes.
+fn put_item(payload: &mut Vec<u8>) -> Result<(), Fail> {
+    payload.extend_from_slice(&[0, 0, 0, 9, 0, 3, 0, 0, 0, 4, 16])?;
+    for object in 0..16u8 {
+        payload.extend_from_slice(&[2, object])?;
+    }
+    payload.extend_from_slice(&[0xff, 0xff, 0x7f, 0xff, 0xff, 0xff, 0x80, 0, 0, 0, 32])?;
+    put_sets(payload, 32)
+}
+
+#[test]
+fn greatest_messages(rt: HostRuntime) -> Result<(), Fail> {
+    let alloc = rt.alloc();
+    let mut relay = Vec::from_slice(alloc, &[0x89, 0, 0, 0, 1, 0, 0, 0, 2, 2, 0x10])?;
+    for object in 0..528u16 {
+        relay.extend_from_slice(&object.to_be_bytes())?;
+        put_value(&mut relay)?;
+    }
+    relay.push(33)?;
+    for _ in 0..33u8 {
+        put_item(&mut relay)?;
+    }
+    assert!(rt; relay.len() <= 65_536);
+    reply_comes_back(&rt, alloc, &relay)?;
+    let mut done = Vec::from_slice(alloc, &[3, 33])?;
+    for pos in 1..34u8 {
+        done.extend_from_slice(&[0, 0, 0, pos, 16])?;
+        for _ in 0..16u8 {
+            put_value(&mut done)?;
+        }
+    }
+    assert!(rt; done.len() <= 65_536);
+    request_comes_back(&rt, alloc, &done)?;
+    Ok(())
+}
