@@ -44,7 +44,6 @@ impl<T: Drop> From<AllocFailed<T>> for FirstFault {
     }
 }
 
-#[tactic(auto, using(crate::proofs::Sizes::count_items_is, crate::proofs::Sizes::count_members_is))]
 fn size_of(value: &Value) -> usize
     ensures { result ≡ size_of (view value.now) }
 {

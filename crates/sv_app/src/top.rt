@@ -95,6 +95,7 @@ fn tell_file<E: Sink>(name: &str, err: &mut E) -> bool
 /// Does what the words ask for, and answers the status with which the program ends.
 ///
 /// The words leave out the program's own name. For now the only ones are `replay FILE`, for a scenario of the first form.
+#[tactic(auto, using(crate::proofs::Endings::printed_is_built, crate::proofs::Endings::cut_is_built, crate::proofs::Endings::unbuilt_is_unbuilt))]
 pub fn run<F: Files, K: Sink, E: Sink>(
     alloc: Global,
     words: &[String],
