@@ -4,7 +4,7 @@ use Rattle.std.specs.Prelude.{◌≡◌, ℕ, zero, suc, ◌^◌, ℤ, pos, Bool
 use Rattle.std.specs.Str.{bytes_eq}
 use Rattle.std.specs.Ordering.{int_eq}
 use Rattle.serde_json.specs.Data.{Data, null, boolean, number, string, array, object, Items, no_items, item, Members, no_members, member}
-use Rattle.serde_json.specs.Find.{get, at, as_array, as_i64, as_number, as_str, as_u64}
+use Rattle.serde_json.specs.Find.{get, at, as_array, as_i64, as_number, as_object, as_str, as_u64}
 use Rattle.serde_json.specs.Read.{read as read_text}
 use Rattle.sv_world.specs.declared.world.ObjectId.{ObjectId}
 use Rattle.sv_world.specs.declared.world.Shape.{Shape}
@@ -48,14 +48,14 @@ abbrev pub count_items : Items → ℕ
 count_items no_items = 0
 count_items (item d ds) = suc (count_items ds)
 
--- how many members an object has, or items a list
-abbrev pub size_of : Data → ℕ
-size_of null = 0
-size_of (boolean b) = 0
-size_of (number n) = 0
-size_of (string s) = 0
-size_of (array ds) = count_items ds
-size_of (object ms) = count_members ms
+abbrev pub size_by : Option Items → Option Members → ℕ
+size_by (Some ds) ms = count_items ds
+size_by None (Some ms) = count_members ms
+size_by None None = 0
+
+-- how many items a list has, or members an object
+unfoldable pub size_of : Data → ℕ
+size_of d = size_by (as_array d) (as_object d)
 
 -- the member of a name, of an object that has just so many
 unfoldable pub field : ℕ → List ℕ → Data → Option Data

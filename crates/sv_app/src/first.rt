@@ -44,13 +44,14 @@ impl<T: Drop> From<AllocFailed<T>> for FirstFault {
     }
 }
 
+#[tactic(auto, unfolding(crate::specs::First::size_of), using(crate::proofs::Sizes::count_items_is, crate::proofs::Sizes::count_members_is))]
 fn size_of(value: &Value) -> usize
     ensures { result ≡ size_of (view value.now) }
 {
-    match value {
-        Value::Array(list) => list.len(),
-        Value::Object(map) => map.len(),
-        _ => 0,
+    match (value.as_array(), value.as_object()) {
+        (Some(items), _) => items.len(),
+        (None, Some(members)) => members.len(),
+        (None, None) => 0,
     }
 }
 

@@ -19,7 +19,10 @@ fn attribute_is(attr: u8, expr: &Expr) -> bool
     ensures { result ≡ attribute_is attr (kind expr.now) }
 {
     match expr {
-        Expr::Attr { slot: 0, attr: found } => attr == *found,
+        Expr::Attr {
+            slot: 0,
+            attr: found,
+        } => attr == *found,
         _ => false,
     }
 }
@@ -38,7 +41,11 @@ fn adds(stmt: &Stmt) -> bool
     ensures { result ≡ adds stmt.now }
 {
     match stmt {
-        Stmt::Set { slot: 0, attr, expr } => is_increment(*attr, expr),
+        Stmt::Set {
+            slot: 0,
+            attr,
+            expr,
+        } => is_increment(*attr, expr),
         _ => false,
     }
 }
@@ -71,7 +78,10 @@ fn is_zero(point: Point) -> bool
 fn is_first(object: u64, action: &Action) -> bool
     ensures { result ≡ is_first object action.now }
 {
-    is_just(object, action.reads.as_slice()) && action.mask == 1 && is_zero(action.origin) && is_addition(action.body.as_slice())
+    is_just(object, action.reads.as_slice())
+        && action.mask == 1
+        && is_zero(action.origin)
+        && is_addition(action.body.as_slice())
 }
 
 #[tactic(auto, unfolding(crate::specs::First::parsed))]
@@ -109,7 +119,10 @@ pub fn action_of(alloc: Global, shape: Shape, object: u64, text: &str) -> Result
     ensures good { IfOk result (λ a. first_fault_of_action shape a ≡ None) }
 {
     let action = parsed(alloc, text)?;
-    if has_no_fault(shape, &action) && is_first(object, &action) && is_text_of(alloc, text, &action)? {
+    if has_no_fault(shape, &action)
+        && is_first(object, &action)
+        && is_text_of(alloc, text, &action)?
+    {
         Ok(action)
     } else {
         Err(FirstFault::Unbuilt)

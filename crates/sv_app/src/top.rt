@@ -61,7 +61,12 @@ fn replay<F: Files, K: Sink>(alloc: Global, name: &str, files: &mut F, out: &mut
     }
 }
 
-fn decide<F: Files, K: Sink>(alloc: Global, named: Option<&str>, files: &mut F, out: &mut K) -> Ending
+fn decide<F: Files, K: Sink>(
+    alloc: Global,
+    named: Option<&str>,
+    files: &mut F,
+    out: &mut K,
+) -> Ending
     ensures words { (result ≡ Ending.Words) ↔ (option_copied named.entry ≡ None) }
     ensures ends { Replays (held_by (F.contents files.old) (option_copied named.entry)) (F.faults files.old) (F.faults files.new) (K.taken out.old) (K.taken out.new) (K.faults out.old) (K.faults out.new) result }
     ensures certain { IfSome (option_copied named.entry) (λ name. F.sure files.old name → result ≢ Ending.File) }
@@ -78,7 +83,10 @@ fn tell<E: Sink>(ending: Ending, named: Option<&str>, err: &mut E)
 {
     let _ = match ending {
         Ending::Done => write_all(err, b""),
-        Ending::Words => write_all(err, b"words: play FILE [--brief | --watch] | replay FILE | load N\n"),
+        Ending::Words => write_all(
+            err,
+            b"words: play FILE [--brief | --watch] | replay FILE | load N\n",
+        ),
         Ending::Scenario => write_all(err, b"scenario: : unbuilt\n"),
         Ending::File => tell_file(named.unwrap_or(""), err),
         Ending::Out => write_all(err, b"out\n"),
@@ -95,7 +103,7 @@ fn tell_file<E: Sink>(name: &str, err: &mut E) -> bool
 /// Does what the words ask for, and answers the status with which the program ends.
 ///
 /// The words leave out the program's own name. For now the only ones are `replay FILE`, for a scenario of the first form.
-#[tactic(auto, using(crate::proofs::Endings::printed_is_built, crate::proofs::Endings::cut_is_built, crate::proofs::Endings::unbuilt_is_unbuilt))]
+#[tactic(auto, using(crate::proofs::Endings::printed_is_built, crate::proofs::Endings::cut_is_built))]
 pub fn run<F: Files, K: Sink, E: Sink>(
     alloc: Global,
     words: &[String],
@@ -117,7 +125,7 @@ pub fn run<F: Files, K: Sink, E: Sink>(
     ensures told { Told (E.taken err.old) (E.taken err.new) (E.faults err.old) (E.faults err.new) (status_line result (named_file (map string_bytes words.now))) }
     ensures complete { IfSome (held_by (F.contents files.old) (named_file (map string_bytes words.now)))
         (λ all. ¬ HasNoFirstForm (take read_limit all) → ¬ Rose (F.faults files.old) (F.faults files.new)
-            → ¬ Rose (K.faults out.old) (K.faults out.new) → (result ≡ 0) ⊎ (result ≡ 8)) }
+        → ¬ Rose (K.faults out.old) (K.faults out.new) → (result ≡ 0) ⊎ (result ≡ 8)) }
 {
     let named = named_file(words);
     let ending = decide(alloc, named, files, out);
