@@ -1,2 +1,3 @@
 pub mod History
 pub mod Pieces
+pub mod Text

@@ -6,3 +6,6 @@ mod text;
 
 pub use entry::{Entry, Logged};
 pub use text::{append_held, append_objects, append_value};
+
+#[cfg(test)]
+mod tests;
