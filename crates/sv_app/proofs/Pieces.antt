@@ -45,30 +45,30 @@ done_line : (d : List ℕ) → line (codes "3") (done_request d) noted_reply ≡
 done_line d = ap (λ z. codes "3 s0 done [1:" ++ z) (chain5 d [] (codes "]") (codes " -> ") noted_reply (10 ∷ []))
 
 submit_line : (t r more : List ℕ) → line (codes "2") (submit_request t) (relay_reply r) ++ more
-  ≡ codes "2 s0 submit 1 " ++ (t ++ (codes " -> relay 1 at 0 [" ++ ((r ++ codes "]") ++ (codes " [1:c0.1]\n" ++ more))))
+    ≡ codes "2 s0 submit 1 " ++ (t ++ (codes " -> relay 1 at 0 [" ++ ((r ++ codes "]") ++ (codes " [1:c0.1]\n" ++ more))))
 submit_line t r more = ap (λ z. codes "2 s0 submit 1 " ++ z) (chain4 t (codes " -> ") (relay_reply r) (10 ∷ []) more
     ∙ ap (λ z. t ++ (codes " -> relay 1 at 0 [" ++ z)) (chain3 (r ++ codes "]") (codes " ") (codes "[1:c0.1]") (10 ∷ more)))
 
 pub act_lines_are : (t r d : List ℕ) → codes "2 s0 submit 1 " ++ t ++ codes " -> relay 1 at 0 " ++ listed r ++ codes " [1:c0.1]\n3 s0 done [1:" ++ d ++ codes "] -> noted 1\n"
-  ≡ line (codes "2") (submit_request t) (relay_reply r) ++ line (codes "3") (done_request d) noted_reply
+    ≡ line (codes "2") (submit_request t) (relay_reply r) ++ line (codes "3") (done_request d) noted_reply
 act_lines_are t r d =
     ap (λ z. codes "2 s0 submit 1 " ++ z) (chain5 t (codes " -> relay 1 at 0 ") (listed r) (codes " [1:c0.1]\n3 s0 done [1:") d (codes "] -> noted 1\n"))
     ∙ sym (submit_line t r (line (codes "3") (done_request d) noted_reply)
-        ∙ ap (λ z. codes "2 s0 submit 1 " ++ (t ++ (codes " -> relay 1 at 0 [" ++ ((r ++ codes "]") ++ (codes " [1:c0.1]\n" ++ z))))) (done_line d))
+    ∙ ap (λ z. codes "2 s0 submit 1 " ++ (t ++ (codes " -> relay 1 at 0 [" ++ ((r ++ codes "]") ++ (codes " [1:c0.1]\n" ++ z))))) (done_line d))
 
 -- a report's parts, put together from the left and from the right
 pub idle_left : (p j m s e v : List ℕ) → ((((p ++ j) ++ m) ++ s) ++ e) ++ v ≡ p ++ (j ++ (m ++ (s ++ (e ++ v))))
 idle_left p j m s e v = chain5 p j m s e v
 
 pub idle_right : (p j l c s a n b w : List ℕ) → ((p ++ (j ++ l)) ++ ((c ++ ((((s ++ a) ++ n) ++ b) ++ n)) ++ [])) ++ w
-  ≡ p ++ (j ++ ((l ++ c) ++ (s ++ ((a ++ (n ++ (b ++ n))) ++ w))))
+    ≡ p ++ (j ++ ((l ++ c) ++ (s ++ ((a ++ (n ++ (b ++ n))) ++ w))))
 idle_right p j l c s a n b w = simp (append_assoc, append-nil)
 
 pub act_left : (p j a m k1 k k2 s e v : List ℕ) → ((((((p ++ j) ++ a) ++ m) ++ ((k1 ++ k) ++ k2)) ++ s) ++ (e ++ v))
-  ≡ p ++ (j ++ (a ++ (m ++ (k1 ++ (k ++ (k2 ++ (s ++ (e ++ v))))))))
+    ≡ p ++ (j ++ (a ++ (m ++ (k1 ++ (k ++ (k2 ++ (s ++ (e ++ v))))))))
 act_left p j a m k1 k k2 s e v = simp append_assoc
 
 pub act_right : (p j a1 a2 l c k n g h s x y w : List ℕ)
-  → ((p ++ (j ++ (a1 ++ (a2 ++ l)))) ++ ((c ++ ((((((((((k ++ n) ++ g) ++ n) ++ h) ++ n) ++ s) ++ x) ++ n) ++ y) ++ n)) ++ [])) ++ w
-  ≡ p ++ (j ++ ((a1 ++ a2) ++ ((l ++ c) ++ (k ++ ((n ++ (g ++ (n ++ (h ++ n)))) ++ (s ++ ((x ++ (n ++ (y ++ n))) ++ w)))))))
+    → ((p ++ (j ++ (a1 ++ (a2 ++ l)))) ++ ((c ++ ((((((((((k ++ n) ++ g) ++ n) ++ h) ++ n) ++ s) ++ x) ++ n) ++ y) ++ n)) ++ [])) ++ w
+    ≡ p ++ (j ++ ((a1 ++ a2) ++ ((l ++ c) ++ (k ++ ((n ++ (g ++ (n ++ (h ++ n)))) ++ (s ++ ((x ++ (n ++ (y ++ n))) ++ w)))))))
 act_right p j a1 a2 l c k n g h s x y w = simp (append_assoc, append-nil)

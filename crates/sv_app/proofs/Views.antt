@@ -55,7 +55,7 @@ module _ (f : ℕ → List ℤ) where
   latest_start x (y ∷ ys) = go (y == x) refl (latest_start x ys)
     where
       go : (b : Bool) → (y == x) ≡ b → found_latest (map at_start ys) x ≡ found_if x (is_in x ys)
-        → found_latest (map at_start (y ∷ ys)) x ≡ found_if x (is_in x (y ∷ ys))
+          → found_latest (map at_start (y ∷ ys)) x ≡ found_if x (is_in x (y ∷ ys))
       go true e ih = let p : y ≡ x = eq_from y x e in rw (e, ih, p, same_test x) (one_more x (is_in x ys))
       go false e ih = rw (e, other_test y x e) ih
 
@@ -65,7 +65,7 @@ module _ (f : ℕ → List ℤ) where
   below_start x (y ∷ ys) = go (y == x) refl (below_start x ys)
     where
       go : (b : Bool) → (y == x) ≡ b → filter (λ (h : Held). nat_lt h.pos 1) (versions_of x (map at_start ys)) ≡ versions_of x (map at_start ys)
-        → filter (λ (h : Held). nat_lt h.pos 1) (versions_of x (map at_start (y ∷ ys))) ≡ versions_of x (map at_start (y ∷ ys))
+          → filter (λ (h : Held). nat_lt h.pos 1) (versions_of x (map at_start (y ∷ ys))) ≡ versions_of x (map at_start (y ∷ ys))
       go true e ih = rw e (ap (λ hs. at_start y ∷ hs) ih)
       go false e ih = rw e ih
 
@@ -108,13 +108,13 @@ are_in_itself (x ∷ xs) = rw (same_test x) (are_in_more x xs xs (are_in_itself 
 
 module _ (f : ℕ → List ℤ) where
   pub reads_two : (xs ys zs : List ℕ) → are_in xs zs ≡ true
-    → map (λ x. unwrap_or (read_below (map (at_start f) ys ++ map (at_start f) zs) x 1) []) xs ≡ map f xs
+      → map (λ x. unwrap_or (read_below (map (at_start f) ys ++ map (at_start f) zs) x 1) []) xs ≡ map f xs
   reads_two [] ys zs e = refl
   reads_two (x ∷ xs) ys zs e = go (is_in x zs) refl e (reads_two xs ys zs)
     where
       go : (b : Bool) → is_in x zs ≡ b → (b && are_in xs zs) ≡ true
-        → (are_in xs zs ≡ true → map (λ x. unwrap_or (read_below (map (at_start f) ys ++ map (at_start f) zs) x 1) []) xs ≡ map f xs)
-        → map (λ x. unwrap_or (read_below (map (at_start f) ys ++ map (at_start f) zs) x 1) []) (x ∷ xs) ≡ map f (x ∷ xs)
+          → (are_in xs zs ≡ true → map (λ x. unwrap_or (read_below (map (at_start f) ys ++ map (at_start f) zs) x 1) []) xs ≡ map f xs)
+          → map (λ x. unwrap_or (read_below (map (at_start f) ys ++ map (at_start f) zs) x 1) []) (x ∷ xs) ≡ map f (x ∷ xs)
       go true here rest ih = rw (read_two f x ys zs here, ih rest) refl
       go false here rest ih = cc
 
@@ -124,7 +124,7 @@ module _ (f : ℕ → List ℤ) where
   views_start (x ∷ xs) ys = go (is_in x ys) refl (are_in xs ys) (views_start xs ys)
     where
       go : (b : Bool) → is_in x ys ≡ b → (c : Bool) → views_over (map (at_start f) ys) [] xs ≡ cond c (Some (map f xs)) None
-        → views_over (map (at_start f) ys) [] (x ∷ xs) ≡ cond (is_in x ys && c) (Some (map f (x ∷ xs))) None
+          → views_over (map (at_start f) ys) [] (x ∷ xs) ≡ cond (is_in x ys && c) (Some (map f (x ∷ xs))) None
       go true here true ih = rw (latest_start f x ys, here, ih) refl
       go true here false ih = rw (latest_start f x ys, here, ih) refl
       go false here c ih = rw (latest_start f x ys, here) refl
@@ -151,7 +151,7 @@ latest_one x (o ∷ os) [] = refl
 latest_one x (o ∷ os) (v ∷ vs) = go (o == x) refl (latest_one x os vs)
   where
     go : (b : Bool) → (o == x) ≡ b → found_latest (held_at 1 os vs) x ≡ found_one x (last_value os vs x)
-      → found_latest (held_at 1 (o ∷ os) (v ∷ vs)) x ≡ found_one x (first_of (last_value os vs x) (cond (o == x) (Some v) None))
+        → found_latest (held_at 1 (o ∷ os) (v ∷ vs)) x ≡ found_one x (first_of (last_value os vs x) (cond (o == x) (Some v) None))
     go true e ih = let p : o ≡ x = eq_from o x e in rw (e, ih, p) (later_one x v (last_value os vs x))
     go false e ih = rw (e, ih, no_other (last_value os vs x)) refl
 
@@ -164,7 +164,7 @@ module _ (f : ℕ → List ℤ) where
 
   -- the value of an object after a result at 1, over the values of two lists of objects at 0
   pub latest_after : (x : ℕ) (ys zs os : List ℕ) (vs : List (List ℤ))
-    → latest ((map (at_start f) ys ++ map (at_start f) zs) ++ held_at 1 os vs) x
+      → latest ((map (at_start f) ys ++ map (at_start f) zs) ++ held_at 1 os vs) x
       ≡ first_of (last_value os vs x) (cond (is_in x ys || is_in x zs) (Some (f x)) None)
   latest_after x ys zs os vs =
       rw (versions-append f x (map (at_start f) ys ++ map (at_start f) zs) (held_at 1 os vs), greatest-append, latest_two f x ys zs, latest_one x os vs)

@@ -61,9 +61,14 @@ show_events shows = map (λ objects. events.Show objects) shows
 
 -- The trace: it joins, makes the action, takes its relay and its Done's answer, looks, leaves, and takes the Bye.
 abbrev pub trace_of : World → List ObjectId → Option Action → List (List ObjectId) → Trace
-trace_of world interest act shows = record { client = record { 0 = 0 }; interest = interest; first = 0; events =
-    events.Join 0 ∷ events.Got 0 (replies.Welcome 0 (opening_held world interest)) ∷ act_events world act ++ show_events shows
-    ++ events.Leave ∷ events.Got 0 replies.Bye ∷ [] }
+trace_of world interest act shows = record {
+  client = record { 0 = 0 };
+  interest = interest;
+  first = 0;
+  events =
+      events.Join 0 ∷ events.Got 0 (replies.Welcome 0 (opening_held world interest)) ∷ act_events world act ++ show_events shows
+      ++ events.Leave ∷ events.Got 0 replies.Bye ∷ [];
+}
 
 abbrev pub is_end : Request → Bool
 is_end requests.End = true

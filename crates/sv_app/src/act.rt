@@ -15,7 +15,11 @@ use sv_journal::{append_held, append_value};
 use sv_world::{List, ObjectId, Value, World, copy_value};
 
 /// The opening values of objects.
-pub fn opening_values(alloc: Global, world: &World, objects: &[ObjectId]) -> Result<Vec<Value>, AllocError>
+pub fn opening_values(
+    alloc: Global,
+    world: &World,
+    objects: &[ObjectId],
+) -> Result<Vec<Value>, AllocError>
     ensures { IfOk result (λ v. v.items ≡ values_at world.now.values (map (λ (o : ObjectId). o.0) objects.now)) }
 {
     let mut values = Vec::new(alloc);
@@ -57,7 +61,11 @@ pub fn append_result(values: &[Value], out: &mut String) -> Result<(), AllocErro
 }
 
 /// Appends objects with the values that are kept for them, as `[0=(6)]`.
-pub fn append_kept(objects: &[ObjectId], values: &[Value], out: &mut String) -> Result<(), AllocError>
+pub fn append_kept(
+    objects: &[ObjectId],
+    values: &[Value],
+    out: &mut String,
+) -> Result<(), AllocError>
     ensures { OnOk result (string_bytes out.new ≡ string_bytes out.old ++ kept_text (map (λ (o : ObjectId). o.0) objects.now) (Some values.now)) }
 {
     out.push_str("[")?;
@@ -65,7 +73,11 @@ pub fn append_kept(objects: &[ObjectId], values: &[Value], out: &mut String) -> 
     out.push_str("]")
 }
 
-fn append_first_kept(objects: &[ObjectId], values: &[Value], out: &mut String) -> Result<(), AllocError>
+fn append_first_kept(
+    objects: &[ObjectId],
+    values: &[Value],
+    out: &mut String,
+) -> Result<(), AllocError>
     ensures { OnOk result (string_bytes out.new ≡ string_bytes out.old
         ++ joined 32 (λ p. held_text p.0 p.1) (zip (map (λ (o : ObjectId). o.0) objects.now) values.now)) }
 {
@@ -79,7 +91,11 @@ fn append_first_kept(objects: &[ObjectId], values: &[Value], out: &mut String) -
     append_more_kept(objects, values, out)
 }
 
-fn append_more_kept(objects: &[ObjectId], values: &[Value], out: &mut String) -> Result<(), AllocError>
+fn append_more_kept(
+    objects: &[ObjectId],
+    values: &[Value],
+    out: &mut String,
+) -> Result<(), AllocError>
     ensures { OnOk result (string_bytes out.new ≡ string_bytes out.old
         ++ flat_map (λ p. 32 ∷ held_text p.0 p.1) (zip (map (λ (o : ObjectId). o.0) objects.now) values.now)) }
 {

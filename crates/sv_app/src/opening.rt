@@ -22,7 +22,11 @@ pub fn opening_value<'a>(world: &'a World, object: ObjectId) -> &'a [i64]
 }
 
 /// Appends objects with their opening values, as `[0=(5) 2=(7)]`.
-pub fn append_opening(world: &World, objects: &[ObjectId], out: &mut String) -> Result<(), AllocError>
+pub fn append_opening(
+    world: &World,
+    objects: &[ObjectId],
+    out: &mut String,
+) -> Result<(), AllocError>
     ensures { OnOk result (string_bytes out.new ≡ string_bytes out.old ++ opening_text world.now objects.now) }
 {
     out.push_str("[")?;
@@ -30,7 +34,11 @@ pub fn append_opening(world: &World, objects: &[ObjectId], out: &mut String) -> 
     out.push_str("]")
 }
 
-fn append_opening_list(world: &World, objects: &[ObjectId], out: &mut String) -> Result<(), AllocError>
+fn append_opening_list(
+    world: &World,
+    objects: &[ObjectId],
+    out: &mut String,
+) -> Result<(), AllocError>
     ensures { OnOk result (string_bytes out.new ≡ string_bytes out.old
         ++ joined 32 (λ (o : ObjectId). held_text o.0 (slice_index_or world.now.values o.0 [])) objects.now) }
 {
@@ -41,7 +49,11 @@ fn append_opening_list(world: &World, objects: &[ObjectId], out: &mut String) ->
     append_more_opening(world, rest, out)
 }
 
-fn append_more_opening(world: &World, objects: &[ObjectId], out: &mut String) -> Result<(), AllocError>
+fn append_more_opening(
+    world: &World,
+    objects: &[ObjectId],
+    out: &mut String,
+) -> Result<(), AllocError>
     ensures { OnOk result (string_bytes out.new ≡ string_bytes out.old
         ++ flat_map (λ (o : ObjectId). 32 ∷ held_text o.0 (slice_index_or world.now.values o.0 [])) objects.now) }
 {
@@ -62,7 +74,12 @@ pub fn written_objects(alloc: Global, action: &Action) -> Result<Vec<ObjectId>, 
 }
 
 // Adds those of the reads, whose slots begin with `slot`, that the mask has.
-fn add_written(mask: u16, slot: usize, reads: &[ObjectId], written: &mut Vec<ObjectId>) -> Result<(), AllocError>
+fn add_written(
+    mask: u16,
+    slot: usize,
+    reads: &[ObjectId],
+    written: &mut Vec<ObjectId>,
+) -> Result<(), AllocError>
     requires { slot + length reads.now < 2 ^ 64 }
     ensures { OnOk result (map (λ (o : ObjectId). o.0) written.new.items
         ≡ map (λ (o : ObjectId). o.0) written.old.items ++ at_mask mask slot (map (λ (o : ObjectId). o.0) reads.now)) }
@@ -78,7 +95,12 @@ fn add_written(mask: u16, slot: usize, reads: &[ObjectId], written: &mut Vec<Obj
 }
 
 /// Replaces the values of some objects.
-pub fn put_values(alloc: Global, values: &mut List<Value>, objects: &[ObjectId], results: &[Value]) -> Result<(), AllocError>
+pub fn put_values(
+    alloc: Global,
+    values: &mut List<Value>,
+    objects: &[ObjectId],
+    results: &[Value],
+) -> Result<(), AllocError>
     ensures { OnOk result (values.new ≡ put_all values.old (map (λ (o : ObjectId). o.0) objects.now) results.now) }
 {
     let [object, objects @ ..] = objects else {

@@ -36,7 +36,11 @@ fn last_value<'a>(objects: &[ObjectId], values: &'a [Value], object: ObjectId) -
     if let Some(later) = last_value(objects, values, object) {
         return Some(later);
     }
-    if first.0 == object.0 { Some(value) } else { None }
+    if first.0 == object.0 {
+        Some(value)
+    } else {
+        None
+    }
 }
 
 fn append_unknown(object: ObjectId, out: &mut String) -> Result<(), AllocError>
@@ -60,7 +64,11 @@ fn append_shown(sight: &Sight<'_>, object: ObjectId, out: &mut String) -> Result
 }
 
 /// Appends the line of a look at objects.
-fn append_show_line(sight: &Sight<'_>, objects: &[ObjectId], out: &mut String) -> Result<(), AllocError>
+fn append_show_line(
+    sight: &Sight<'_>,
+    objects: &[ObjectId],
+    out: &mut String,
+) -> Result<(), AllocError>
     ensures { OnOk result (string_bytes out.new ≡ string_bytes out.old
         ++ show_line sight.now.world.now (numbers sight.now.given.now) (numbers sight.now.written.now) sight.now.result.now objects.now) }
 {
@@ -69,7 +77,11 @@ fn append_show_line(sight: &Sight<'_>, objects: &[ObjectId], out: &mut String) -
     out.push_str("]\n")
 }
 
-fn append_first_shown(sight: &Sight<'_>, objects: &[ObjectId], out: &mut String) -> Result<(), AllocError>
+fn append_first_shown(
+    sight: &Sight<'_>,
+    objects: &[ObjectId],
+    out: &mut String,
+) -> Result<(), AllocError>
     ensures { OnOk result (string_bytes out.new ≡ string_bytes out.old
         ++ joined 32 (λ (o : ObjectId). shown_text o.0 (seen sight.now.world.now (numbers sight.now.given.now) (numbers sight.now.written.now) sight.now.result.now o.0)) objects.now) }
 {
@@ -80,7 +92,11 @@ fn append_first_shown(sight: &Sight<'_>, objects: &[ObjectId], out: &mut String)
     append_more_shown(sight, rest, out)
 }
 
-fn append_more_shown(sight: &Sight<'_>, objects: &[ObjectId], out: &mut String) -> Result<(), AllocError>
+fn append_more_shown(
+    sight: &Sight<'_>,
+    objects: &[ObjectId],
+    out: &mut String,
+) -> Result<(), AllocError>
     ensures { OnOk result (string_bytes out.new ≡ string_bytes out.old
         ++ flat_map (λ (o : ObjectId). 32 ∷ shown_text o.0 (seen sight.now.world.now (numbers sight.now.given.now) (numbers sight.now.written.now) sight.now.result.now o.0)) objects.now) }
 {
@@ -93,7 +109,11 @@ fn append_more_shown(sight: &Sight<'_>, objects: &[ObjectId], out: &mut String) 
 }
 
 /// Appends the lines of looks at objects, one after the other.
-pub fn append_show_lines(sight: &Sight<'_>, shows: &[List<ObjectId>], out: &mut String) -> Result<(), AllocError>
+pub fn append_show_lines(
+    sight: &Sight<'_>,
+    shows: &[List<ObjectId>],
+    out: &mut String,
+) -> Result<(), AllocError>
     ensures { OnOk result (string_bytes out.new ≡ string_bytes out.old
         ++ show_lines sight.now.world.now (numbers sight.now.given.now) (numbers sight.now.written.now) sight.now.result.now shows.now) }
 {

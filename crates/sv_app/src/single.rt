@@ -10,10 +10,10 @@ ghost use Rattle.sv_app.specs.Lines.{numbers, join_lines, act_lines, kept_values
 use crate::act::{append_kept, append_result, are_among, opening_values};
 use crate::opening::{append_opening, append_world, put_values, written_objects};
 use crate::show::{Sight, append_show_lines};
-use sv_text::append_action;
 use std::alloc::{AllocError, Global};
 use sv_eval::eval;
 use sv_journal::append_objects;
+use sv_text::append_action;
 use sv_world::{Action, List, ObjectId, Value, World, copy_values};
 
 /// A run of one client: what it is interested in, the action that it makes, if any, and what it looks at after that.
@@ -36,7 +36,12 @@ fn append_join(world: &World, interest: &[ObjectId], out: &mut String) -> Result
     Ok(())
 }
 
-fn append_act(world: &World, action: &Action, result_values: &[Value], out: &mut String) -> Result<(), AllocError>
+fn append_act(
+    world: &World,
+    action: &Action,
+    result_values: &[Value],
+    out: &mut String,
+) -> Result<(), AllocError>
     ensures { OnOk result (string_bytes out.new ≡ string_bytes out.old ++ act_lines world.now action.now result_values.now) }
 {
     out.push_str("2 s0 submit 1 ")?;
@@ -81,7 +86,12 @@ fn append_make(
     Ok(())
 }
 
-fn append_head(single: &Single, action: &Action, result_values: &[Value], out: &mut String) -> Result<(), AllocError>
+fn append_head(
+    single: &Single,
+    action: &Action,
+    result_values: &[Value],
+    out: &mut String,
+) -> Result<(), AllocError>
     ensures { OnOk result (string_bytes out.new ≡ string_bytes out.old ++ act_head single.now.world single.now.interest action.now result_values.now) }
 {
     out.push_str("journal 5\n")?;
@@ -113,7 +123,11 @@ fn append_looks(
     append_show_lines(&sight, single.shows.as_slice(), out)
 }
 
-fn given_objects(alloc: Global, interest: &[ObjectId], reads: &[ObjectId]) -> Result<Vec<ObjectId>, AllocError>
+fn given_objects(
+    alloc: Global,
+    interest: &[ObjectId],
+    reads: &[ObjectId],
+) -> Result<Vec<ObjectId>, AllocError>
     ensures { IfOk result (λ v. numbers v.items ≡ numbers interest.now ++ numbers reads.now) }
 {
     let mut given = Vec::from_slice(alloc, interest)?;
@@ -121,7 +135,12 @@ fn given_objects(alloc: Global, interest: &[ObjectId], reads: &[ObjectId]) -> Re
     Ok(given)
 }
 
-fn final_values(alloc: Global, world: &World, written: &[ObjectId], result_values: &[Value]) -> Result<List<Value>, AllocError>
+fn final_values(
+    alloc: Global,
+    world: &World,
+    written: &[ObjectId],
+    result_values: &[Value],
+) -> Result<List<Value>, AllocError>
     ensures { IfOk result (λ v. v ≡ put_all world.now.values (numbers written.now) result_values.now) }
 {
     let mut values = copy_values(alloc, world.values.as_slice())?;
@@ -129,7 +148,13 @@ fn final_values(alloc: Global, world: &World, written: &[ObjectId], result_value
     Ok(values)
 }
 
-fn append_end(alloc: Global, single: &Single, written: &[ObjectId], result_values: &[Value], out: &mut String) -> Result<(), AllocError>
+fn append_end(
+    alloc: Global,
+    single: &Single,
+    written: &[ObjectId],
+    result_values: &[Value],
+    out: &mut String,
+) -> Result<(), AllocError>
     ensures { OnOk result (string_bytes out.new ≡ string_bytes out.old ++ end_lines single.now.world (numbers written.now) result_values.now) }
 {
     let values = final_values(alloc, &single.world, written, result_values)?;
@@ -167,7 +192,13 @@ fn append_parts(
     ensures { OnOk result (string_bytes out.new ≡ string_bytes out.old ++ act_text single.now.world single.now.interest action.now result_values.now single.now.shows) }
 {
     append_head(single, action, result_values, out)?;
-    append_make(single.interest.as_slice(), action, written, result_values, out)?;
+    append_make(
+        single.interest.as_slice(),
+        action,
+        written,
+        result_values,
+        out,
+    )?;
     append_looks(alloc, single, action, written, result_values, out)?;
     append_end(alloc, single, written, result_values, out)?;
     Ok(())

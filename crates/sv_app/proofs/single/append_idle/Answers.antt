@@ -14,6 +14,6 @@ returns c =
     let middle = codes "2 s0 leave -> bye\n3 s0 end -> bye\nclient 0\njoin s0\ngot s0 #1\n" in
     more o ((((codes "journal 3\n" ++ journal) ++ middle) ++ looks) ++ codes "leave\ngot s0 #2\nworld 0\n") (value_lines 0 single.world.values)
     (five o (codes "journal 3\n") journal middle looks (codes "leave\ngot s0 #2\nworld 0\n")
-        c.in_ok-push_str.ensures.bytes (rw c.as_slice.ensures at c.in_ok-append_join.ensures) c.in_ok-push_str-2.ensures.bytes
-        c.in_ok-append_idle_looks.ensures c.in_ok-push_str-3.ensures.bytes)
+    c.in_ok-push_str.ensures.bytes (rw c.as_slice.ensures at c.in_ok-append_join.ensures) c.in_ok-push_str-2.ensures.bytes
+    c.in_ok-append_idle_looks.ensures c.in_ok-push_str-3.ensures.bytes)
     (rw c.as_slice-2.ensures at c.in_ok-append_world.ensures)

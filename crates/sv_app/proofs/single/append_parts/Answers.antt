@@ -10,7 +10,7 @@ returns c =
     let action = c.args.action.now in
     let result = c.args.result_values.now in
     four (string_bytes c.args.out.now) (act_head single.world single.interest action result) (make_lines single.interest action result)
-        (show_lines single.world (numbers single.interest ++ read_set action) (write_set action) result single.shows)
-        (end_lines single.world (write_set action) result)
-        c.in_ok-append_head.ensures (rw c.as_slice.ensures at c.in_ok-append_make.ensures) c.in_ok-append_looks.ensures
-        (rw c.requires at c.in_ok-append_end.ensures)
+    (show_lines single.world (numbers single.interest ++ read_set action) (write_set action) result single.shows)
+    (end_lines single.world (write_set action) result)
+    c.in_ok-append_head.ensures (rw c.as_slice.ensures at c.in_ok-append_make.ensures) c.in_ok-append_looks.ensures
+    (rw c.requires at c.in_ok-append_end.ensures)
