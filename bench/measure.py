@@ -1,0 +1,146 @@
+"""Runs sv_bench and the peer in turn on the same corpora, and prints a table of the best and the median figures.
+
+python3 bench/measure.py REPOSITORY PEER [ROUNDS]
+"""
+import os
+import re
+import shutil
+import statistics
+import subprocess
+import sys
+import tempfile
+
+REPOSITORY, PEER = (os.path.abspath(path) for path in sys.argv[1:3])
+ROUNDS = int(sys.argv[3]) if len(sys.argv) > 3 else 5
+TEXT_MEGABYTES = 20
+EVAL_TURNS = 500
+WIRE_TURNS = 20_000
+QUEUES = [(10, 0), (10, 7), (100, 0), (100, 7), (100, 32), (1000, 0), (1000, 7), (1000, 32), (10_000, 0), (10_000, 7), (10_000, 32)]
+CLOSURE_TURNS = 1500
+SESSIONS = 64
+
+
+def output(*words, **options):
+    return subprocess.run(words, stdout=subprocess.PIPE, check=True, **options).stdout.decode()
+
+
+def built_peer(work):
+    """The peer may lie in a folder that may not be written, so it is built in a copy."""
+    copy = os.path.join(work, "peer")
+    shutil.copytree(PEER, copy, ignore=shutil.ignore_patterns("target"))
+    subprocess.run(["chmod", "-R", "u+w", copy], check=True)
+    subprocess.run(["cargo", "build", "--release", "--offline", "--quiet"], cwd=copy, check=True)
+    return os.path.join(copy, "target", "release", "peer")
+
+
+def built_bench():
+    crate = os.path.join(REPOSITORY, "crates", "sv_bench")
+    subprocess.run(["rt", "run"], cwd=crate, stdout=subprocess.DEVNULL, stderr=subprocess.DEVNULL, check=True)
+    return os.path.join(crate, "out", "sv_bench")
+
+
+def corpora(peer, work):
+    """Writes the corpora, and tells how many bytes the action texts have."""
+    def write(name, text):
+        with open(os.path.join(work, name), "w") as file:
+            file.write(text)
+
+    texts = output(peer, "corpus", "text", str(TEXT_MEGABYTES))
+    write("texts", texts)
+    actions, values = [], []
+    for line in output(peer, "corpus", "eval").splitlines():
+        end = line.rindex("}") + 1
+        actions.append(line[:end] + "\n")
+        values.append(re.sub("[(),]", " ", line[end:]) + "\n")
+    write("actions", "".join(actions))
+    write("values", "".join(values))
+    write("messages", output(peer, "corpus", "wire"))
+    return len(texts) - texts.count("\n")
+
+
+class Figures:
+    """All figures of a name and a side, one for each round."""
+
+    def __init__(self):
+        self.all = {}
+
+    def add(self, name, unit, side, figure):
+        self.all.setdefault((name, unit), {}).setdefault(side, []).append(figure)
+
+    def table(self):
+        print("| Work | Unit | Peer: best | median | Here: best | median | Here / peer (medians) |")
+        print("|---|---|---|---|---|---|---|")
+        for (name, unit), sides in self.all.items():
+            best = min if unit.startswith("ns") else max
+            cells = [f"{f(sides[s]):,.1f}" if s in sides else "" for s in ("peer", "here") for f in (best, statistics.median)]
+            both = "peer" in sides and "here" in sides
+            ratio = f"{statistics.median(sides['here']) / statistics.median(sides['peer']):.2f}" if both else ""
+            print(f"| {name} | {unit} | {' | '.join(cells)} | {ratio} |")
+
+
+def peer_figures(peer, *words):
+    lines = (line.split(" ", 2) for line in output(peer, "bench", *map(str, words)).splitlines())
+    return {name: value for name, value, _ in lines}
+
+
+def here_figures(bench, work, *words):
+    """By name: how often the work was done, what it added up to, and its nanoseconds."""
+    lines = (line.split() for line in output(bench, *map(str, words), cwd=work).splitlines())
+    return {name: tuple(map(int, rest)) for name, *rest in lines}
+
+
+def measure_text(figures, peer, bench, work, size):
+    told = peer_figures(peer, "text", TEXT_MEGABYTES)
+    figures.add("text", "MB/s", "peer", float(told["text"]))
+    items, _, nanos = here_figures(bench, work, "text", "texts", 1)["text"]
+    assert items == round(float(told["text_corpus_actions"]))
+    figures.add("text", "MB/s", "here", size * 1e3 / nanos)
+
+
+def measure_eval(figures, peer, bench, work):
+    told = peer_figures(peer, "eval", EVAL_TURNS * 1000)
+    figures.add("eval", "actions/s", "peer", float(told["eval"]))
+    items, voids, nanos = here_figures(bench, work, "eval", "actions", "values", EVAL_TURNS)["eval"]
+    assert items == EVAL_TURNS * 1000 and voids == EVAL_TURNS * round(float(told["eval_void"]))
+    figures.add("eval", "actions/s", "here", items * 1e9 / nanos)
+
+
+def measure_wire(figures, peer, bench, work):
+    told = peer_figures(peer, "wire", WIRE_TURNS)
+    here = here_figures(bench, work, "wire", "messages", WIRE_TURNS)
+    (encoded, size, encode), (decoded, _, decode) = here["wire_encode"], here["wire_decode"]
+    assert size == WIRE_TURNS * round(float(told["wire_mix_bytes"])) and encoded == decoded
+    for name, nanos in (("wire_encode", encode), ("wire_decode", decode), ("wire_both", encode + decode)):
+        figures.add(name, "messages/s", "peer", float(told[name]))
+        figures.add(name, "messages/s", "here", encoded * 1e9 / nanos)
+
+
+def measure_closure(figures, peer, bench, work, queue, influence):
+    """The peer's calls note what they send. The calls with notes need a new queue in each turn, so they are fewer."""
+    of = f"{influence + 1} items of {queue}"
+    told = peer_figures(peer, "closure", queue, influence, CLOSURE_TURNS * SESSIONS)
+    turns = {"closure": CLOSURE_TURNS, "sent": max(5, min(300, 100_000 // queue)), "plain": max(5, min(100, 20_000 // queue))}
+    for way, name in (("sent", f"closure and notes, {of}"), ("closure", f"closure alone, {of}"), ("plain", f"plain walk, {of}")):
+        calls, items, nanos = here_figures(bench, work, way, queue, influence, turns[way])[way]
+        assert calls == turns[way] * SESSIONS and items == calls * (influence + 1)
+        if way == "sent":
+            figures.add(name, "ns/call", "peer", float(told["closure"]))
+        figures.add(name, "ns/call", "here", nanos / calls)
+
+
+def main():
+    with tempfile.TemporaryDirectory() as work:
+        peer, bench = built_peer(work), built_bench()
+        size = corpora(peer, work)
+        figures = Figures()
+        for _ in range(ROUNDS):
+            measure_text(figures, peer, bench, work, size)
+            measure_eval(figures, peer, bench, work)
+            measure_wire(figures, peer, bench, work)
+            for queue, influence in QUEUES:
+                measure_closure(figures, peer, bench, work, queue, influence)
+        figures.table()
+        print(f"\n{ROUNDS} rounds. Load average: {', '.join(f'{load:.1f}' for load in os.getloadavg())}.")
+
+
+main()
