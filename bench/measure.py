@@ -11,12 +11,13 @@ import sys
 import tempfile
 
 REPOSITORY, PEER = (os.path.abspath(path) for path in sys.argv[1:3])
-ROUNDS = int(sys.argv[3]) if len(sys.argv) > 3 else 5
-TEXT_MEGABYTES = 20
-EVAL_TURNS = 500
-WIRE_TURNS = 20_000
+ROUNDS = int(sys.argv[3]) if len(sys.argv) > 3 else 25
+# A run takes some milliseconds, so that on a loaded machine the best of many runs was not interrupted.
+TEXT_MEGABYTES = 1
+EVAL_TURNS = 20
+WIRE_TURNS = 500
 QUEUES = [(10, 0), (10, 7), (100, 0), (100, 7), (100, 32), (1000, 0), (1000, 7), (1000, 32), (10_000, 0), (10_000, 7), (10_000, 32)]
-CLOSURE_TURNS = 1500
+CLOSURE_TURNS = 100
 SESSIONS = 64
 
 
@@ -68,14 +69,14 @@ class Figures:
         self.all.setdefault((name, unit), {}).setdefault(side, []).append(figure)
 
     def table(self):
-        print("| Work | Unit | Peer: best | median | Here: best | median | Here / peer (medians) |")
-        print("|---|---|---|---|---|---|---|")
+        print("| Work | Unit | Peer: best | median | Here: best | median | Here / peer: best | median |")
+        print("|---|---|---|---|---|---|---|---|")
         for (name, unit), sides in self.all.items():
-            best = min if unit.startswith("ns") else max
-            cells = [f"{f(sides[s]):,.1f}" if s in sides else "" for s in ("peer", "here") for f in (best, statistics.median)]
+            ways = (min if unit.startswith("ns") else max, statistics.median)
+            cells = [f"{way(sides[side]):,.1f}" if side in sides else "" for side in ("peer", "here") for way in ways]
             both = "peer" in sides and "here" in sides
-            ratio = f"{statistics.median(sides['here']) / statistics.median(sides['peer']):.2f}" if both else ""
-            print(f"| {name} | {unit} | {' | '.join(cells)} | {ratio} |")
+            cells += [f"{way(sides['here']) / way(sides['peer']):.2f}" if both else "" for way in ways]
+            print(f"| {name} | {unit} | {' | '.join(cells)} |")
 
 
 def peer_figures(peer, *words):
@@ -119,7 +120,7 @@ def measure_closure(figures, peer, bench, work, queue, influence):
     """The peer's calls note what they send. The calls with notes need a new queue in each turn, so they are fewer."""
     of = f"{influence + 1} items of {queue}"
     told = peer_figures(peer, "closure", queue, influence, CLOSURE_TURNS * SESSIONS)
-    turns = {"closure": CLOSURE_TURNS, "sent": max(5, min(300, 100_000 // queue)), "plain": max(5, min(100, 20_000 // queue))}
+    turns = {"closure": CLOSURE_TURNS, "sent": max(4, min(50, 10_000 // queue)), "plain": max(1, min(50, 10_000 // queue))}
     for way, name in (("sent", f"closure and notes, {of}"), ("closure", f"closure alone, {of}"), ("plain", f"plain walk, {of}")):
         calls, items, nanos = here_figures(bench, work, way, queue, influence, turns[way])[way]
         assert calls == turns[way] * SESSIONS and items == calls * (influence + 1)
@@ -140,7 +141,7 @@ def main():
             for queue, influence in QUEUES:
                 measure_closure(figures, peer, bench, work, queue, influence)
         figures.table()
-        print(f"\n{ROUNDS} rounds. Load average: {', '.join(f'{load:.1f}' for load in os.getloadavg())}.")
+        print(f"\n{ROUNDS} runs each. Load average: {', '.join(f'{load:.1f}' for load in os.getloadavg())}.")
 
 
 main()

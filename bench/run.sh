@@ -5,4 +5,4 @@
 set -eu
 here=$(cd "$(dirname "$0")" && pwd)
 root=$(dirname "$here")
-exec python3 "$here/measure.py" "$root" "${PEER:-$root/../shared/peer}" "${1:-5}"
+exec python3 "$here/measure.py" "$root" "${PEER:-$root/../shared/peer}" "${1:-25}"
