@@ -1,0 +1,147 @@
+use crate::{replies, requests};
+use std::alloc::Global;
+use std::test::Fail;
+use sv_wire::{WireCause, WireFault, decode_reply, decode_request, encode_reply, encode_request};
+
+const JOIN: [u8; 10] = [1, 0, 0, 0, 0, 0, 1, 1, 0, 0];
+
+const SUBMIT: [u8; 35] = [
+    6, 0, 0, 0, 1, 1, 0, 0, 0, 1, 0, 0, 0, 0, 0, 0, 0, 0, 1, 0x10, 0, 0, 0x22, 0x21, 0, 0, 0x20, 0,
+    0, 0, 0, 0, 0, 0, 1,
+];
+
+const DONE: [u8; 16] = [3, 1, 0, 0, 0, 1, 1, 1, 0, 0, 0, 0, 0, 0, 0, 6];
+
+const LEAVE: [u8; 1] = [5];
+
+const WELCOME: [u8; 18] = [0x81, 0, 0, 0, 0, 0, 1, 0, 0, 1, 0, 0, 0, 0, 0, 0, 0, 5];
+
+const RELAY: [u8; 63] = [
+    0x89, 0, 0, 0, 1, 0, 0, 0, 0, 0, 1, 0, 0, 1, 0, 0, 0, 0, 0, 0, 0, 5, 1, 0, 0, 0, 1, 0, 0, 0, 0,
+    0, 1, 1, 0, 0, 0, 1, 0, 0, 0, 0, 0, 0, 0, 0, 1, 0x10, 0, 0, 0x22, 0x21, 0, 0, 0x20, 0, 0, 0, 0,
+    0, 0, 0, 1,
+];
+
+const FIRST_RELAY: [u8; 52] = [
+    0x89, 0, 0, 0, 1, 0, 0, 0, 0, 0, 0, 1, 0, 0, 0, 1, 0, 0, 0, 0, 0, 1, 1, 0, 0, 0, 1, 0, 0, 0, 0,
+    0, 0, 0, 0, 1, 0x10, 0, 0, 0x22, 0x21, 0, 0, 0x20, 0, 0, 0, 0, 0, 0, 0, 1,
+];
+
+const NOTED: [u8; 5] = [0x85, 0, 0, 0, 1];
+
+const BYE: [u8; 1] = [0x88];
+
+/// The payload of the vector of a message.
+fn vector(alloc: Global, message: &str) -> Result<Vec<u8>, Fail> {
+    let payload: &[u8] = match message {
+        "join" => &JOIN,
+        "submit" => &SUBMIT,
+        "done" => &DONE,
+        "leave" => &LEAVE,
+        "welcome" => &WELCOME,
+        "relay" => &RELAY,
+        "first_relay" => &FIRST_RELAY,
+        "noted" => &NOTED,
+        "bye" => &BYE,
+        _ => &[],
+    };
+    Ok(Vec::from_slice(alloc, payload)?)
+}
+
+/// Leaves a byte out, adds a byte 0 before a place, or raises a byte by one.
+fn edit(payload: &mut Vec<u8>, how: &str, place: usize) -> Result<(), Fail> {
+    if how == "add" && place <= payload.len() {
+        payload.insert(place, 0)?;
+        return Ok(());
+    }
+    if place >= payload.len() {
+        return Err(Fail::from("no such place"));
+    }
+    if how == "out" {
+        payload.remove(place);
+    } else {
+        payload[place] = payload[place].wrapping_add(1);
+    }
+    Ok(())
+}
+
+/// The edited payload of a row, whose message, edit and place these are.
+fn edited(alloc: Global, message: &str, how: &str, place: &str) -> Result<Vec<u8>, Fail> {
+    let mut payload = vector(alloc, message)?;
+    edit(&mut payload, how, place.parse::<usize>()?)?;
+    Ok(payload)
+}
+
+fn name(cause: WireCause) -> &'static str {
+    match cause {
+        WireCause::Short => "Short",
+        WireCause::Kind => "Kind",
+        WireCause::Count => "Count",
+        WireCause::Order => "Order",
+        WireCause::Mask => "Mask",
+        WireCause::Code => "Code",
+        WireCause::Large => "Large",
+        WireCause::Deep => "Deep",
+        WireCause::Rest => "Rest",
+    }
+}
+
+fn is_fault(fault: WireFault, cause: &str, at: u32) -> bool {
+    match fault {
+        WireFault::Malformed(malformed) => malformed.at == at && name(malformed.cause) == cause,
+        WireFault::Memory => false,
+    }
+}
+
+/// Whether a payload is a request that is written as that payload, or is refused, as a row says.
+fn request_is(alloc: Global, payload: &[u8], answer: &str, at: u32) -> Result<bool, Fail> {
+    match decode_request(alloc, payload) {
+        Ok(request) => {
+            let written = encode_request(alloc, &request)?;
+            Ok(answer == "Message" && written.as_slice() == payload)
+        }
+        Err(fault) => Ok(is_fault(fault, answer, at)),
+    }
+}
+
+fn reply_is(alloc: Global, payload: &[u8], answer: &str, at: u32) -> Result<bool, Fail> {
+    match decode_reply(alloc, payload) {
+        Ok(reply) => {
+            let written = encode_reply(alloc, &reply)?;
+            Ok(answer == "Message" && written.as_slice() == payload)
+        }
+        Err(fault) => Ok(is_fault(fault, answer, at)),
+    }
+}
+
+#[test]
+fn edited_requests(rt: HostRuntime) -> Result<(), Fail> {
+    let alloc = rt.alloc();
+    assert_eq!(rt; requests::EDITED.lines().count(), 190);
+    for row in requests::EDITED.lines() {
+        let (message, rest) = row.split_once(' ').ok_or("no edit")?;
+        let (how, rest) = rest.split_once(' ').ok_or("no place")?;
+        let (place, rest) = rest.split_once(' ').ok_or("no answer")?;
+        let (answer, at) = rest.split_once(' ').ok_or("no offset")?;
+        let payload = edited(alloc, message, how, place)?;
+        let holds = request_is(alloc, payload.as_slice(), answer, at.parse::<u32>()?)?;
+        assert!(rt; holds, "{row}");
+    }
+    Ok(())
+}
+
+#[test]
+fn edited_replies(rt: HostRuntime) -> Result<(), Fail> {
+    let alloc = rt.alloc();
+    assert_eq!(rt; replies::EDITED.lines().count(), 422);
+    for row in replies::EDITED.lines() {
+        let (message, rest) = row.split_once(' ').ok_or("no edit")?;
+        let (how, rest) = rest.split_once(' ').ok_or("no place")?;
+        let (place, rest) = rest.split_once(' ').ok_or("no answer")?;
+        let (answer, at) = rest.split_once(' ').ok_or("no offset")?;
+        let payload = edited(alloc, message, how, place)?;
+        let holds = reply_is(alloc, payload.as_slice(), answer, at.parse::<u32>()?)?;
+        assert!(rt; holds, "{row}");
+    }
+    Ok(())
+}
