@@ -1,1 +1,4 @@
 pub mod Traces
+pub mod Same
+pub mod Taking
+pub mod Proper

@@ -1,3 +1,5 @@
+pub mod Answer
 pub mod History
 pub mod Pieces
 pub mod Text
+pub mod Sessions

@@ -1,0 +1,75 @@
+-- Which traces a client can have.
+-- Events stand here with the latest first: `e ∷ t` is t, and then e.
+use Rattle.std.specs.Prelude.{◌≡◌, ℕ, ◌+◌, ◌<◌, ◌≤◌, Bool, true, false, not, List, [], ◌∷◌, map, length, reverse, Option, Some, None, All}
+use Rattle.sv_world.specs.declared.action.Action.{Action}
+use Rattle.sv_world.specs.declared.world.ClientId.{ClientId}
+use Rattle.sv_world.specs.declared.world.ObjectId.{ObjectId}
+use Rattle.sv_world.specs.declared.world.Shape.{Shape}
+use Rattle.sv_world.specs.Faults.{first_fault_of_action, is_ascending}
+use Rattle.sv_wire.specs.declared.message.Reply.{Reply}
+use Rattle.sv_client.specs.declared.trace.Event.{Event}
+use Rattle.sv_client.specs.declared.trace.Event.TheVariants as events
+use Rattle.sv_client.specs.declared.trace.Trace.{Trace}
+use Rattle.sv_client.specs.Traces.{joins, makes, current_session, pending_of}
+use Rattle.sv_client.specs.Taking.{Identity, outstanding, first_fault_of_reply}
+
+-- The client is in a session, and did not leave the latest one.
+abbrev pub in_session : List Event → Bool
+in_session [] = false
+in_session (events.Join s ∷ t) = true
+in_session (events.Leave ∷ t) = false
+in_session (_ ∷ t) = in_session t
+
+-- A client number, and an interest, that a Join may have.
+pub record IsGoodIdentity (who : Identity) : Type 0 where
+  pub client : who.client.0 < 32
+  pub few : length who.interest ≤ 64
+  pub ascending : is_ascending (map (λ (o : ObjectId). o.0) who.interest) ≡ true
+  pub objects : All (λ (o : ObjectId). o.0 < who.shape.objects) who.interest
+
+pub record MayMake (who : Identity) (t : List Event) (action : Action) : Type 0 where
+  pub joined : in_session t ≡ true
+  pub good : first_fault_of_action who.shape action ≡ None
+  pub room : length (pending_of t) < 8
+  pub calm : length (outstanding who t) < 16
+  pub few : makes t < 65536
+
+pub record MayPoll (who : Identity) (t : List Event) : Type 0 where
+  pub joined : in_session t ≡ true
+  pub calm : length (outstanding who t) < 16
+
+pub record MayLeave (who : Identity) (t : List Event) : Type 0 where
+  pub joined : in_session t ≡ true
+  pub settled : outstanding who t ≡ []
+
+-- A reply is got in the session that was begun last, without a fault.
+pub record MayGet (who : Identity) (t : List Event) (s : ℕ) (reply : Reply) : Type 0 where
+  pub current : current_session t ≡ Some s
+  pub taken : first_fault_of_reply who t reply ≡ None
+
+-- The n-th Join names the n-th session from the first one on, of at most 64.
+pub record MayJoin (first : ℕ) (t : List Event) (s : ℕ) : Type 0 where
+  pub next : s ≡ first + joins t
+  pub few : joins t < 64
+
+-- An event may come after the events t. Cut, Quit and Show may always.
+abbrev pub MayFollow : Identity → ℕ → List Event → Event → Type 0
+MayFollow who first t (events.Join s) = MayJoin first t s
+MayFollow who first t (events.Make action) = MayMake who t action
+MayFollow who first t events.Poll = MayPoll who t
+MayFollow who first t events.Leave = MayLeave who t
+MayFollow who first t (events.Got s reply) = MayGet who t s reply
+MayFollow who first t _ = Unit {0}
+
+abbrev pub AreProper : Identity → ℕ → List Event → Type 0
+AreProper who first [] = Unit {0}
+AreProper who first (e ∷ t) = MayFollow who first t e × AreProper who first t
+
+abbrev pub identity_of : Shape → Trace → Identity
+identity_of shape trace = record { client = trace.client; interest = trace.interest; shape = shape }
+
+-- A trace that a client can have in a world of the shape.
+pub record Proper (shape : Shape) (trace : Trace) : Type 0 where
+  pub who : IsGoodIdentity (identity_of shape trace)
+  pub first : trace.first < 64
+  pub events : AreProper (identity_of shape trace) trace.first (reverse trace.events)

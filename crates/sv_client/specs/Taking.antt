@@ -1,0 +1,186 @@
+-- Which replies a client takes, and the first fault of one that it refuses.
+-- Events stand here with the latest first: `e ∷ t` is t, and then e.
+use Rattle.std.specs.Prelude.{ℕ, zero, suc, ℤ, Bool, true, false, ◌==◌, ◌&&◌, ◌||◌, not, nat_le, nat_lt, max, is_none, List, [], ◌∷◌, ◌++◌, map, length, drop, Option, Some, None, if◌then◌else◌}
+use Rattle.std.specs.List.{list_any, list_all}
+use Rattle.sv_world.specs.declared.action.Action.{Action}
+use Rattle.sv_world.specs.declared.world.ClientId.{ClientId}
+use Rattle.sv_world.specs.declared.world.ObjectId.{ObjectId}
+use Rattle.sv_world.specs.declared.world.Shape.{Shape}
+use Rattle.sv_world.specs.Faults.{first_fault_of_action, is_ascending}
+use Rattle.sv_world.specs.Sets.{read_set}
+use Rattle.sv_versions.specs.Held.{Held, read_below}
+use Rattle.sv_pending.specs.Pending.{PendingAction}
+use Rattle.sv_wire.specs.declared.message.Held.{Held as Sent}
+use Rattle.sv_wire.specs.declared.message.Item.{Item}
+use Rattle.sv_wire.specs.declared.message.Request.{Request}
+use Rattle.sv_wire.specs.declared.message.Request.TheVariants as requests
+use Rattle.sv_wire.specs.declared.message.Reply.{Reply}
+use Rattle.sv_wire.specs.declared.message.Reply.TheVariants as replies
+use Rattle.sv_client.specs.declared.trace.Event.{Event}
+use Rattle.sv_client.specs.declared.trace.Event.TheVariants as events
+use Rattle.sv_client.specs.Same.{is_same_action}
+use Rattle.sv_client.specs.Traces.{current_session, held_of, head_held, item_held, pending_of, asked, got}
+
+-- Who a client is: its number and its interest, and the shape of its world.
+pub record Identity : Type 0 where
+  pub client : ClientId
+  pub interest : List ObjectId
+  pub shape : Shape
+
+-- ---- What is awaited, and what was told
+
+-- The requests of a session that have no reply yet, in order.
+abbrev pub unanswered : Identity → List Event → Option ℕ → List Request
+unanswered who t None = []
+unanswered who t (Some s) = drop (length (got t s)) (asked who.client who.interest t s)
+
+-- The requests that have no reply yet: those of the session that was begun last. What was outstanding in an older session is forgotten.
+abbrev pub outstanding : Identity → List Event → List Request
+outstanding who t = unanswered who t (current_session t)
+
+-- The commit that a reply tells. Settled tells none.
+abbrev pub commit_in : Reply → Option ℕ
+commit_in (replies.Welcome commit head) = Some commit
+commit_in (replies.Relay seq commit head items) = Some commit
+commit_in (replies.Noted commit) = Some commit
+commit_in _ = None
+
+abbrev pub told_with : Option ℕ → ℕ → ℕ
+told_with None told = told
+told_with (Some commit) told = max commit told
+
+abbrev pub told_by : Reply → ℕ → ℕ
+told_by reply told = told_with (commit_in reply) told
+
+-- The greatest commit that the client was told, 0 at first.
+abbrev pub told : List Event → ℕ
+told [] = 0
+told (events.Got s reply ∷ t) = told_by reply (told t)
+told (_ ∷ t) = told t
+
+-- ---- Kinds
+
+-- The replies that a request may have. Refused is never among them.
+abbrev pub allows : Request → Reply → Bool
+allows (requests.Join client life interest) (replies.Welcome commit head) = true
+allows (requests.Submit seq action) (replies.Relay n commit head items) = true
+allows (requests.Submit seq action) (replies.Dropped n chain far) = true
+allows (requests.Submit seq action) (replies.Settled n pos) = true
+allows (requests.Done results) (replies.Noted commit) = true
+allows requests.Poll (replies.Relay n commit head items) = true
+allows requests.Poll replies.Idle = true
+allows requests.Leave replies.Bye = true
+allows _ _ = false
+
+-- ---- Order
+
+abbrev pub head_of : Reply → List Sent
+head_of (replies.Welcome commit head) = head
+head_of (replies.Relay seq commit head items) = head
+head_of _ = []
+
+abbrev pub items_of : Reply → List Item
+items_of (replies.Relay seq commit head items) = items
+items_of _ = []
+
+abbrev pub begins_by : ℕ → List Item → Bool
+begins_by commit [] = false
+begins_by commit (item ∷ items) = nat_le item.pos commit
+
+-- Some item stands at or below the commit, where items ascend: the first one does.
+abbrev pub begins_low : Option ℕ → List Item → Bool
+begins_low None items = false
+begins_low (Some commit) items = begins_by commit items
+
+abbrev pub goes_back : Option ℕ → ℕ → Bool
+goes_back None told = false
+goes_back (Some commit) told = nat_lt commit told
+
+-- The objects of the head do not ascend, or the positions of the items do not; the first item stands at or below the reply's commit; or the
+-- client was told a greater commit before.
+abbrev pub is_out_of_order : List Event → Reply → Bool
+is_out_of_order t reply = not (is_ascending (map (λ (h : Sent). h.object.0) (head_of reply)))
+    || not (is_ascending (map (λ (i : Item). i.pos) (items_of reply)))
+    || begins_low (commit_in reply) (items_of reply) || goes_back (commit_in reply) (told t)
+
+-- ---- Items
+
+abbrev pub is_bad_head : Shape → List Sent → Bool
+is_bad_head shape head = list_any (λ (h : Sent). nat_le shape.objects h.object.0 || not (length h.value == shape.attrs)) head
+
+-- The reply to the Submit of a pending action is for that one.
+abbrev pub is_for_front : ℕ → List PendingAction → Bool
+is_for_front seq [] = false
+is_for_front seq (p ∷ ps) = seq == p.seq
+
+-- The items end with the front pending action as the client's own.
+abbrev pub ends_with_front : Identity → List PendingAction → List Item → Bool
+ends_with_front who (p ∷ ps) (item ∷ []) = item.client.0 == who.client.0 && item.seq == p.seq && is_same_action item.action p.action
+ends_with_front who (p ∷ ps) (item ∷ other ∷ items) = ends_with_front who (p ∷ ps) (other ∷ items)
+ends_with_front who _ _ = false
+
+-- What a relay to a request must have besides good actions.
+abbrev pub is_good_relay : Identity → List PendingAction → Request → ℕ → List Item → Bool
+is_good_relay who pending requests.Poll seq items = seq == 0
+is_good_relay who pending _ seq items = is_for_front seq pending && ends_with_front who pending items
+
+abbrev pub is_bad_relay : Identity → List PendingAction → Request → ℕ → List Item → Bool
+is_bad_relay who pending request seq items = length items == 0
+    || list_any (λ (i : Item). not (is_none (first_fault_of_action who.shape i.action))) items
+    || not (is_good_relay who pending request seq items)
+
+abbrev pub has_bad_item : Identity → List PendingAction → Request → Reply → Bool
+has_bad_item who pending request (replies.Welcome commit head) = is_bad_head who.shape head
+has_bad_item who pending request (replies.Relay seq commit head items) =
+    is_bad_head who.shape head || is_bad_relay who pending request seq items
+has_bad_item who pending request (replies.Dropped seq chain far) = not (is_for_front seq pending)
+has_bad_item who pending request (replies.Settled seq pos) = not (is_for_front seq pending)
+has_bad_item who pending request _ = false
+
+-- ---- Missing values
+
+-- The first of the objects that has no value below a position.
+abbrev pub first_missing : List Held → ℕ → List ℕ → Option ℕ
+first_missing held pos [] = None
+first_missing held pos (x ∷ xs) = if is_none (read_below held x pos) then Some x else first_missing held pos xs
+
+abbrev pub missing_at : ℕ → Option ℕ → Option (ℕ × ℕ) → Option (ℕ × ℕ)
+missing_at pos (Some x) other = Some (pos, x)
+missing_at pos None other = other
+
+-- The first item, and the first object that it reads, of which no value below the item is held.
+abbrev pub first_missing_of : List Held → List Item → Option (ℕ × ℕ)
+first_missing_of held [] = None
+first_missing_of held (item ∷ items) =
+    missing_at item.pos (first_missing held item.pos (read_set item.action)) (first_missing_of (held ++ item_held held item) items)
+
+abbrev pub missing_in : List Held → Reply → Option (ℕ × ℕ)
+missing_in held (replies.Relay seq commit head items) = first_missing_of (held ++ head_held commit head) items
+missing_in held _ = None
+
+-- ---- The five faults
+
+pub data Fault : Type 0 where
+  Unasked : Fault
+  WrongKind : Fault
+  BadOrder : Fault
+  BadItem : Fault
+  Missing : ℕ → ℕ → Fault
+
+abbrev pub missing_fault : Option (ℕ × ℕ) → Option Fault
+missing_fault None = None
+missing_fault (Some (pos, object)) = Some (Missing pos object)
+
+abbrev pub fault_for : Identity → List Event → Request → Reply → Option Fault
+fault_for who t request reply = if not (allows request reply) then Some WrongKind
+    else if is_out_of_order t reply then Some BadOrder
+    else if has_bad_item who (pending_of t) request reply then Some BadItem
+    else missing_fault (missing_in (held_of t) reply)
+
+abbrev pub fault_after : Identity → List Event → List Request → Reply → Option Fault
+fault_after who t [] reply = Some Unasked
+fault_after who t (request ∷ requests) reply = fault_for who t request reply
+
+-- The first of the five faults of a reply that applies, after the events t, where the oldest outstanding request is the one it answers.
+abbrev pub first_fault_of_reply : Identity → List Event → Reply → Option Fault
+first_fault_of_reply who t reply = fault_after who t (outstanding who t) reply

@@ -1,0 +1,154 @@
+-- What the server replies to each request, by its journal so far. The table is read from the top: the first case that applies decides.
+-- A history is the list of a journal's entries with the latest first.
+use Rattle.std.specs.Prelude.{◌≡◌, ℕ, suc, ◌+◌, Bool, true, false, ◌&&◌, ◌||◌, not, ◌==◌, nat_le, nat_lt, ℤ, List, [], ◌∷◌, ◌++◌, map, filter, length, slice_index_or, Option, Some, None, is_none, if◌then◌else◌}
+use Rattle.std.specs.List.{list_any, list_all}
+use Rattle.sv_world.specs.declared.action.Action.{Action}
+use Rattle.sv_world.specs.declared.check.BadAction.{BadAction}
+use Rattle.sv_world.specs.declared.world.ClientId.{ClientId}
+use Rattle.sv_world.specs.declared.world.ObjectId.{ObjectId}
+use Rattle.sv_world.specs.declared.world.World.{World}
+use Rattle.sv_world.specs.Control.{is_in, below, action_at, needed_for, head_for, chain_length, influence_distance}
+use Rattle.sv_world.specs.Faults.{first_fault_of_action, cause_number, is_ascending}
+use Rattle.sv_world.specs.Sets.{write_set}
+use Rattle.sv_wire.specs.declared.message.Done1.{Done1}
+use Rattle.sv_wire.specs.declared.message.Held.{Held}
+use Rattle.sv_wire.specs.declared.message.Request.{Request}
+use Rattle.sv_wire.specs.declared.message.Request.TheVariants as requests
+use Rattle.sv_journal.specs.declared.entry.Entry.{Entry}
+use Rattle.sv_journal.specs.declared.entry.Logged.{Logged}
+use Rattle.sv_journal.specs.declared.entry.Logged.TheVariants as logged
+use Rattle.sv_journal.specs.History.{client_of, Outcome, Accepted, Dropped, accepted, actions_of, next_seq, result_at, commit_of, committed_of}
+use Rattle.sv_journal.specs.Sessions.{is_over, is_live, asked_in, life_of, kept_outcome, sent_to, already_given, positions_in}
+
+-- What a server is opened with, which no step changes: its world, the bound on chains of influence, the reach, where one is given, and
+-- the number of its sessions.
+pub record Rules : Type 0 where
+  pub world : World
+  pub bound : ℕ
+  pub reach : Option ℕ
+  pub sessions : ℕ
+
+abbrev pub refused : ℕ → ℕ → Logged
+refused code detail = logged.Refused code detail
+
+-- ---- Relays
+
+-- Objects with their committed values.
+abbrev pub committed_held : Rules → List Entry → List ℕ → List Held
+committed_held r h xs = map (λ x. record { object = record { 0 = x }; value = slice_index_or (committed_of r.world.values h) x [] }) xs
+
+-- The relay of position i of the actions A to a session: what the session lacks of it, and the base values that go with that.
+abbrev pub relay_of : Rules → List Entry → List Action → ℕ → ℕ → ℕ → Logged
+relay_of r h A s seq i = logged.Relay seq (commit_of h)
+    (committed_held r h (head_for r.world.shape.objects A (commit_of h) (sent_to h s) (already_given r.world.shape.objects h s) i))
+    (needed_for A (commit_of h) (sent_to h s) i)
+
+-- ---- Submits
+
+abbrev pub is_over_reach : Option ℕ → ℕ → Bool
+is_over_reach None far = false
+is_over_reach (Some reach) far = nat_lt reach far
+
+-- An action that the check passes is dropped by its chain or its reach, or is accepted as the last one.
+abbrev pub reply_to_good : Rules → List Entry → ℕ → ℕ → Action → Logged
+reply_to_good r h s seq a =
+    if nat_lt r.bound (chain_length (actions_of h) (commit_of h) a) || is_over_reach r.reach (influence_distance (actions_of h) (commit_of h) a)
+    then logged.Dropped seq (chain_length (actions_of h) (commit_of h) a) (influence_distance (actions_of h) (commit_of h) a)
+    else relay_of r h (actions_of h ++ a ∷ []) s seq (suc (length (actions_of h)))
+
+abbrev pub reply_to_checked : Rules → List Entry → ℕ → ℕ → Action → Option BadAction → Logged
+reply_to_checked r h s seq a (Some cause) = refused 6 (cause_number cause)
+reply_to_checked r h s seq a None = reply_to_good r h s seq a
+
+abbrev pub reply_to_new : Rules → List Entry → ℕ → ℕ → ℕ → Action → Logged
+reply_to_new r h s k seq a = if seq == next_seq h k
+    then reply_to_checked r h s seq a (first_fault_of_action r.world.shape a)
+    else refused 5 (next_seq h k)
+
+-- A repeated Submit is answered by its kept outcome; its action is not looked at.
+abbrev pub reply_to_submit : Rules → List Entry → ℕ → ℕ → ℕ → Action → Option Outcome → Logged
+reply_to_submit r h s k seq a (Some (Dropped chain far)) = logged.Dropped seq chain far
+reply_to_submit r h s k seq a (Some (Accepted p)) = if nat_le p (commit_of h) then logged.Settled seq p else relay_of r h (actions_of h) s seq p
+reply_to_submit r h s k seq a None = reply_to_new r h s k seq a
+
+-- ---- Dones
+
+-- A reported result names no accepted position; or it is above the commit and was not sent to the session, or has not one value for each
+-- written object with a number for each attribute.
+abbrev pub is_bad_result : Rules → List Entry → ℕ → Done1 → Bool
+is_bad_result r h s d = d.pos == 0 || nat_lt (length (accepted h)) d.pos || (nat_lt (commit_of h) d.pos && (not (is_in d.pos (sent_to h s))
+    || not (length d.values == length (write_set (action_at (actions_of h) d.pos)))
+    || not (list_all (λ v. length v == r.world.shape.attrs) d.values)))
+
+abbrev pub is_bad_done : Rules → List Entry → ℕ → List Done1 → Bool
+is_bad_done r h s results = length results == 0 || nat_lt 33 (length results)
+    || not (is_ascending (map (λ (d : Done1). d.pos) results)) || list_any (is_bad_result r h s) results
+
+-- The commit once the results are noted.
+abbrev pub commit_with : List Entry → ℕ → List Done1 → ℕ
+commit_with h s results = commit_of (record { session = s; request = requests.Done results; reply = logged.Noted 0 } ∷ h)
+
+abbrev pub reply_to_done : Rules → List Entry → ℕ → List Done1 → Logged
+reply_to_done r h s results = if is_bad_done r h s results then refused 7 0 else logged.Noted (commit_with h s results)
+
+-- ---- Polls
+
+-- Each session that a position was sent to is over.
+abbrev pub is_abandoned : List Entry → ℕ → Bool
+is_abandoned h p = list_all (λ (e : Entry). not (is_in p (positions_in e.reply)) || is_over h e.session) h
+
+-- The abandoned positions above the commit that have no result, ascending.
+abbrev pub orphans : List Entry → List ℕ
+orphans h = filter (λ p. nat_lt (commit_of h) p && is_none (result_at h p) && is_abandoned h p) (below (suc (length (accepted h))))
+
+abbrev pub reply_to_poll : Rules → List Entry → ℕ → List ℕ → Logged
+reply_to_poll r h s [] = logged.Idle
+reply_to_poll r h s (p ∷ ps) = relay_of r h (actions_of h) s 0 p
+
+-- ---- Requests
+
+abbrev pub is_good_interest : ℕ → List ℕ → Bool
+is_good_interest objects xs = nat_le (length xs) 64 && is_ascending xs && list_all (λ x. nat_lt x objects) xs
+
+abbrev pub reply_to_join : Rules → List Entry → ℕ → ℕ → ℕ → List ℕ → Logged
+reply_to_join r h s k life interest = if is_live h s then refused 3 0
+    else if nat_le 32 k then refused 10 0
+    else if nat_le life (life_of h k) then refused 11 (life_of h k)
+    else if is_good_interest r.world.shape.objects interest then logged.Welcome (commit_of h) (committed_held r h interest)
+    else refused 8 0
+
+-- The reply to client k's request in a session that it joined.
+abbrev pub reply_to_client : Rules → List Entry → ℕ → ℕ → Request → Logged
+reply_to_client r h s k (requests.Submit seq a) = reply_to_submit r h s k seq a (kept_outcome h k seq)
+reply_to_client r h s k (requests.Done results) = reply_to_done r h s results
+reply_to_client r h s k requests.Poll = reply_to_poll r h s (orphans h)
+reply_to_client r h s k _ = logged.Bye
+
+abbrev pub reply_to_member : Rules → List Entry → ℕ → Option ℕ → Request → Logged
+reply_to_member r h s None request = refused 2 0
+reply_to_member r h s (Some k) request = reply_to_client r h s k request
+
+-- The reply in a session that is not over and not spent.
+abbrev pub reply_to_open : Rules → List Entry → ℕ → Request → Logged
+reply_to_open r h s requests.Bad = refused 1 0
+reply_to_open r h s (requests.Join client life interest) = reply_to_join r h s client.0 life (map (λ (o : ObjectId). o.0) interest)
+reply_to_open r h s request = reply_to_member r h s (client_of h s) request
+
+-- How many requests a session may make.
+abbrev pub most_requests : ℕ
+most_requests = 1024
+
+abbrev pub reply_to_request : Rules → List Entry → ℕ → Request → Logged
+reply_to_request r h s request = if is_over h s then refused 4 0
+    else if nat_le most_requests (asked_in h s) then refused 9 0
+    else reply_to_open r h s request
+
+-- The reply to a request of a session, after the entries h.
+abbrev pub reply_to : Rules → List Entry → ℕ → Request → Logged
+reply_to r h s requests.End = logged.Bye
+reply_to r h s request = reply_to_request r h s request
+
+-- A journal is legal: the reply of each entry is the one that the entries before it give.
+abbrev pub Legal : Rules → List Entry → Type 0
+Legal r [] = Unit {0}
+Legal r (e ∷ h) = (e.reply ≡ reply_to r h e.session e.request) × Legal r h
