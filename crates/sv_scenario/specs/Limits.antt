@@ -1,0 +1,79 @@
+-- The limits and rules of scenarios.
+use Rattle.std.specs.Prelude.{◌≡◌, ℕ, ◌≤◌, ◌<◌, ℤ, Bool, true, false, List, [], ◌∷◌, length, map, IfSome}
+use Rattle.std.specs.List.{AllByRecursion}
+use Rattle.sv_world.specs.declared.world.ObjectId.{ObjectId}
+use Rattle.sv_world.specs.declared.world.Shape.{Shape}
+use Rattle.sv_world.specs.declared.world.World.{World}
+use Rattle.sv_world.specs.Faults.{is_ascending, IsGoodAction}
+use Rattle.sv_scenario.specs.declared.scenario.Plan.{Plan}
+use Rattle.sv_scenario.specs.declared.scenario.Scenario.{Scenario}
+use Rattle.sv_scenario.specs.declared.scenario.Step.{Step}
+use Rattle.sv_scenario.specs.declared.scenario.Step.TheVariants as steps
+use Rattle.sv_scenario.specs.declared.scenario.Turn.{Turn}
+use Rattle.sv_scenario.specs.declared.scenario.Turn.TheVariants as turns
+use Rattle.sv_scenario.specs.Sessions.{session_count}
+
+-- A world within the limits, with one value for each object, of one number for each attribute.
+pub record IsGoodWorld (world : World) : Type 0 where
+  pub some_objects : 1 ≤ world.shape.objects
+  pub few_objects : world.shape.objects ≤ 4096
+  pub some_attrs : 1 ≤ world.shape.attrs
+  pub few_attrs : world.shape.attrs ≤ 4
+  pub objects : length world.values ≡ world.shape.objects
+  pub attrs : AllByRecursion (λ value. length value ≡ world.shape.attrs) world.values
+
+-- Each is an object of the shape.
+abbrev pub AreObjects : Shape → List ObjectId → Type 0
+AreObjects shape objects = AllByRecursion (λ (o : ObjectId). o.0 < shape.objects) objects
+
+-- 1 to 16 objects of the shape.
+pub record IsGoodShow (shape : Shape) (objects : List ObjectId) : Type 0 where
+  pub some : 1 ≤ length objects
+  pub few : length objects ≤ 16
+  pub known : AreObjects shape objects
+
+abbrev pub IsGoodStep : Shape → Step → Type 0
+IsGoodStep shape (steps.Act action) = IsGoodAction shape action
+IsGoodStep shape steps.Poll = Unit {0}
+IsGoodStep shape steps.Sync = Unit {0}
+IsGoodStep shape (steps.Show objects) = IsGoodShow shape objects
+IsGoodStep shape steps.Cut = Unit {0}
+IsGoodStep shape steps.Quit = Unit {0}
+
+-- No step but the last is a quit.
+abbrev pub quits_last : List Step → Bool
+quits_last [] = true
+quits_last (step ∷ []) = true
+quits_last (steps.Quit ∷ next ∷ ss) = false
+quits_last (steps.Act action ∷ next ∷ ss) = quits_last (next ∷ ss)
+quits_last (steps.Poll ∷ next ∷ ss) = quits_last (next ∷ ss)
+quits_last (steps.Sync ∷ next ∷ ss) = quits_last (next ∷ ss)
+quits_last (steps.Show objects ∷ next ∷ ss) = quits_last (next ∷ ss)
+quits_last (steps.Cut ∷ next ∷ ss) = quits_last (next ∷ ss)
+
+-- At most 64 objects of the shape, ascending, and at most 256 good steps.
+pub record IsGoodPlan (shape : Shape) (plan : Plan) : Type 0 where
+  pub few_objects : length plan.interest ≤ 64
+  pub ascending : is_ascending (map (λ (o : ObjectId). o.0) plan.interest) ≡ true
+  pub known : AreObjects shape plan.interest
+  pub few_steps : length plan.steps ≤ 256
+  pub steps : AllByRecursion (IsGoodStep shape) plan.steps
+  pub quit : quits_last plan.steps ≡ true
+
+-- A turn of one of so many clients or sessions.
+abbrev pub IsGoodTurn : ℕ → ℕ → Turn → Type 0
+IsGoodTurn clients sessions (turns.Client k) = k < clients
+IsGoodTurn clients sessions (turns.Session s) = s < sessions
+IsGoodTurn clients sessions (turns.Take k) = k < clients
+
+-- A scenario that keeps the limits and rules.
+pub record IsGoodScenario (scenario : Scenario) : Type 0 where
+  pub world : IsGoodWorld scenario.world
+  pub bound : scenario.bound ≤ 32
+  pub reach : IfSome scenario.reach (λ n. n ≤ 2000000)
+  pub some_clients : 1 ≤ length scenario.clients
+  pub few_clients : length scenario.clients ≤ 32
+  pub plans : AllByRecursion (IsGoodPlan scenario.world.shape) scenario.clients
+  pub sessions : session_count scenario ≤ 64
+  pub few_turns : length scenario.schedule ≤ 16384
+  pub turns : AllByRecursion (IsGoodTurn (length scenario.clients) (session_count scenario)) scenario.schedule
