@@ -13,10 +13,7 @@ use Rattle.sv_client.specs.declared.trace.Event.TheVariants as events
 use Rattle.sv_client.specs.declared.trace.Trace.{Trace}
 use Rattle.sv_client.specs.Traces.{got, requests_of}
 use Rattle.sv_client.specs.Proper.{Proper}
-
--- xs is the front part of ys.
-abbrev pub IsFront : {A : Type 0} → List A → List A → Type 0
-IsFront {A = A} xs ys = (i : ℕ) (x : A) → slice_get xs i ≡ Some x → slice_get ys i ≡ Some x
+use Rattle.sv_system.specs.Fronts.{IsFront}
 
 -- The requests of a session that a journal has, in order, its End left out.
 abbrev pub requests_in : List Entry → ℕ → List Request

@@ -1,3 +1,4 @@
-pub mod Fits
-pub mod Serial
 pub mod Delivery
+pub mod Fits
+pub mod Fronts
+pub mod Serial
