@@ -1,8 +1,7 @@
 -- Which traces a client can have.
 -- Events stand here with the latest first: `e ∷ t` is t, and then e.
-use Rattle.std.specs.Prelude.{◌≡◌, ℕ, ◌+◌, ◌<◌, ◌≤◌, Bool, true, false, not, List, [], ◌∷◌, map, length, reverse, Option, Some, None, All}
+use Rattle.std.specs.Prelude.{◌≡◌, ℕ, ◌+◌, ◌<◌, ◌≤◌, Bool, true, false, List, [], ◌∷◌, map, length, reverse, Some, None, All}
 use Rattle.sv_world.specs.declared.action.Action.{Action}
-use Rattle.sv_world.specs.declared.world.ClientId.{ClientId}
 use Rattle.sv_world.specs.declared.world.ObjectId.{ObjectId}
 use Rattle.sv_world.specs.declared.world.Shape.{Shape}
 use Rattle.sv_world.specs.Faults.{first_fault_of_action, is_ascending}
@@ -71,5 +70,4 @@ identity_of shape trace = record { client = trace.client; interest = trace.inter
 -- A trace that a client can have in a world of the shape.
 pub record Proper (shape : Shape) (trace : Trace) : Type 0 where
   pub who : IsGoodIdentity (identity_of shape trace)
-  pub first : trace.first < 64
   pub events : AreProper (identity_of shape trace) trace.first (reverse trace.events)

@@ -1,10 +1,9 @@
 -- What a trace says of its client: the values that it holds, its pending actions, its views, and the requests that it asked.
 -- Events stand here with the latest first: `e ∷ t` is t, and then e. A trace itself has them in order.
-use Rattle.std.specs.Prelude.{ℕ, suc, ℤ, Bool, true, false, ◌==◌, ◌&&◌, not, List, [], ◌∷◌, ◌++◌, map, reverse, Option, Some, None, unwrap_or, if◌then◌else◌}
+use Rattle.std.specs.Prelude.{ℕ, suc, ℤ, Bool, true, false, ◌==◌, List, [], ◌∷◌, ◌++◌, map, reverse, Option, Some, None, unwrap_or, if◌then◌else◌}
 use Rattle.std.specs.List.{zip}
 use Rattle.std.specs.Ordering.{int_eq}
 use lib.Pointwise.{pointwise}
-use Rattle.sv_world.specs.declared.action.Action.{Action}
 use Rattle.sv_world.specs.declared.world.ClientId.{ClientId}
 use Rattle.sv_world.specs.declared.world.ObjectId.{ObjectId}
 use Rattle.sv_world.specs.Sets.{read_set, write_set}
