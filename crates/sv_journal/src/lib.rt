@@ -2,9 +2,11 @@
 #![tactic(auto)]
 
 mod entry;
+mod laws;
 mod text;
 
 pub use entry::{Entry, Logged};
+pub use laws::examples_are_answered;
 pub use text::{append_held, append_objects, append_value};
 
 #[cfg(test)]
