@@ -96,18 +96,23 @@ module _ (x pos : ℕ) (P : Held → Type 0) where
       elim (or_cases here (is_covered x low pos held) h) [
         | inl y ↦
             (let p = and_parts (g.object == x) (nat_le low g.pos && nat_lt g.pos pos) y in
-            let q = and_parts (nat_le low g.pos) (nat_lt g.pos pos) p.1 in
-            (later_of g (found held),
-            (found-one g held p.0 q.1, with_later low g (found held) (leb-true low g.pos q.0) (eqb-true g.object x p.0, (ltb-true g.pos pos q.1, each.0)) rest)))
+            let q = and_parts (nat_le low g.pos) (nat_lt g.pos pos) p.1 in (
+              later_of g (found held),
+              (found-one g held p.0 q.1, with_later low g (found held) (leb-true low g.pos q.0) (eqb-true g.object x p.0, (ltb-true g.pos pos q.1, each.0)) rest),
+            ))
         | inr r ↦
             (let f = later r in
             elim (cases_Bool (g.object == x)) [
               | inr e ↦ moved low g held (found-other g held e) f
               | inl e ↦ elim (cases_Bool (nat_lt g.pos pos)) [
                 | inr k ↦ moved low g held (found-late g held e k) f
-                | inl k ↦ (later_of g (Some f.0),
-                    (found-one g held e k ∙ ap (λ o. Some (later_of g o)) f.1.0,
-                    after_later low g f.0 (eqb-true g.object x e, (ltb-true g.pos pos k, each.0)) f.1.1.0 f.1.1.1))
+                | inl k ↦ (
+                  later_of g (Some f.0),
+                  (
+                    found-one g held e k ∙ ap (λ o. Some (later_of g o)) f.1.0,
+                    after_later low g f.0 (eqb-true g.object x e, (ltb-true g.pos pos k, each.0)) f.1.1.0 f.1.1.1,
+                  ),
+                )
               ]
             ])
       ]

@@ -128,9 +128,10 @@ module _ (objects : ℕ) (opening : List (List ℤ)) (count : length opening ≡
   item-serial held k serial covered =
       subst (λ (a : Action). All (λ x. is_covered x (last_writer (actions_in A) x k) k held ≡ true) (read_set a)
       × AreSerial opening (actions_in A) (held_at k (write_set a) (outcome_of a (map (λ x. unwrap_or (read_below held x k) []) (read_set a))).writes))
-      (sym (item-action A k))
-      (All-from_recursion (λ x. is_covered x (last_writer (actions_in A) x k) k held ≡ true) (read_set (action_at (actions_in A) k)) covered,
-      results-serial held k serial covered)
+      (sym (item-action A k)) (
+        All-from_recursion (λ x. is_covered x (last_writer (actions_in A) x k) k held ≡ true) (read_set (action_at (actions_in A) k)) covered,
+        results-serial held k serial covered,
+      )
 
   first-covered : (held : List Held) (k : ℕ) (ks : List ℕ) → is_ascending (k ∷ ks) ≡ true → AreWaiting (actions_in A) held (k ∷ ks) →
       (x : ℕ) → is_in x (read_set (action_at (actions_in A) k)) ≡ true → is_covered x (last_writer (actions_in A) x k) k held ≡ true
@@ -173,5 +174,5 @@ module _ (objects : ℕ) (opening : List (List ℤ)) (count : length opening ≡
       let here = item-serial held k serial covered in
       let more = item_held held (item_at A k) in
       let rest = items-supplied ks (held ++ more) (ascending-tail k ks asc)
-          (each-append (IsSerial opening acts) held more serial here.1) (rest-waiting held k ks asc waiting) in
+      (each-append (IsSerial opening acts) held more serial here.1) (rest-waiting held k ks asc waiting) in
       ((here.0, rest.0), rest.1)

@@ -57,7 +57,9 @@ module _ (opening : List (List ℤ)) (A : List Action) where
       let rest : AreSerial opening A (held_at pos xs vs) =
       put-serial pos (slice_set world x v) xs vs e (ascending-tail x xs a)
       (subst (λ (n : ℕ). AllByRecursion (λ (y : ℕ). y < n) xs) (sym (length-set world x v)) b.1) in
-      let none : is_in x xs ≡ false = false_from_ne_true (is_in x xs) (λ m. let l : x < x = ascending-head x xs a x m in absurd (omega arith)) in
-      (sym (ap (λ (w : List (List ℤ)). slice_index_or w x []) e
-      ∙ put_all_elsewhere (slice_set world x v) xs vs x none
-      ∙ get_or-set_same world x v [] b.0), rest)
+      let none : is_in x xs ≡ false = false_from_ne_true (is_in x xs) (λ m. let l : x < x = ascending-head x xs a x m in absurd (omega arith)) in (
+        sym (ap (λ (w : List (List ℤ)). slice_index_or w x []) e
+            ∙ put_all_elsewhere (slice_set world x v) xs vs x none
+            ∙ get_or-set_same world x v [] b.0),
+        rest,
+      )

@@ -82,7 +82,7 @@ module _ (objects : ℕ) (opening : List (List ℤ)) (count : length opening ≡
       (front-then mine (mine ++ T ∷ []) (tellings_to A ds s) (front-append mine (T ∷ [])) front) told.before (sym told.as_many) in
       let known = knows-taken A (held_of t) s told.earlier (subst (AreTaken (held_of t)) same (w.taken s)) in
       let well = delivery-taken objects opening count A plain (held_of t) told.earlier told.delivery w.serial
-          (subst (λ (n : ℕ). Knows (actions_in A) told.earlier n (held_of t)) (sym told.session) known) told.lawful in
+      (subst (λ (n : ℕ). Knows (actions_in A) told.earlier n (held_of t)) (sym told.session) known) told.lawful in
       subst (IsTellingTaken (held_of t)) (sym told.telling) (of-delivery (held_of t) told.delivery well)
 
   more-taken : (held : List Held) (T : Telling) → (tellings : List Telling) → AreTaken held tellings → AreTaken (with_telling held T) tellings

@@ -145,7 +145,7 @@ module _ (objects : ℕ) (opening : List (List ℤ)) (count : length opening ≡
       let heads = head_held d.commit d.head in
       let w = waiting-of held ds d known lawful.relayed in
       let items = items-supplied objects opening count A plain d.positions (held ++ heads) w.0
-          (each-append (IsSerial opening (actions_in A)) held heads serial lawful.serial) w.1 in
+      (each-append (IsSerial opening (actions_in A)) held heads serial lawful.serial) w.1 in
       record {
         supplied = items.0;
         serial = items.1;
