@@ -1,12 +1,10 @@
 -- Deliveries: the heads and positions that a server tells its sessions, apart from how it comes to tell them. Where they are lawful, every
 -- client that takes them holds serial values alone.
-use Rattle.std.specs.Prelude.{◌≡◌, ◌⊎◌, ⊥, ℕ, ◌+◌, ◌<◌, ◌≤◌, ℤ, Bool, true, false, ◌==◌, ◌&&◌, nat_le, List, [], ◌∷◌, ◌++◌, map, filter, length, take, slice_index_or, All, if◌then◌else◌}
+use Rattle.std.specs.Prelude.{◌≡◌, ◌⊎◌, ℕ, ◌+◌, ◌<◌, ◌≤◌, ℤ, false, ◌==◌, ◌&&◌, nat_le, List, [], ◌∷◌, ◌++◌, map, filter, length, take, if◌then◌else◌}
 use Rattle.std.specs.List.{list_any}
 use Rattle.sv_world.specs.declared.action.Action.{Action}
 use Rattle.sv_world.specs.Control.{is_in, below, action_at, last_writer, needed_for, head_for}
 use Rattle.sv_world.specs.Sets.{write_set}
-use Rattle.sv_eval.specs.Serial.{serial_world}
-use Rattle.sv_versions.specs.Held.{Held}
 use Rattle.sv_wire.specs.declared.message.Held.{Held as Sent}
 use Rattle.sv_wire.specs.declared.message.Item.{Item}
 use Rattle.sv_wire.specs.declared.message.Reply.{Reply}
@@ -57,7 +55,8 @@ pub record IsRelayed (objects : ℕ) (A : List Action) (ds : List Delivery) (d :
   pub positions : d.positions ≡ needed_for (take d.count A) d.commit (told_positions ds d.session) target
   pub head : head_objects d.head ≡ head_for objects (take d.count A) d.commit (told_positions ds d.session) (known_values objects A d.commit ds d.session) target
 
--- A delivery is lawful after the earlier ones: its numbers do not fall; it is a relay, or has no positions; and its head has serial values.
+-- A delivery is lawful after the earlier ones: its commit is among its accepted actions, and these are the first of A; it is a relay, or has no
+-- positions; and its head has serial values.
 pub record IsLawful (objects : ℕ) (opening : List (List ℤ)) (A : List Action) (ds : List Delivery) (d : Delivery) : Type 0 where
   pub commit : d.commit ≤ d.count
   pub count : d.count ≤ length A

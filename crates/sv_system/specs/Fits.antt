@@ -1,6 +1,6 @@
 -- When a journal and clients' traces can belong together: each client got what its sessions were answered, and the journal has what it asked.
 -- A history is the list of a journal's entries with the latest first.
-use Rattle.std.specs.Prelude.{◌≡◌, ◌⊎◌, ⊥, ℕ, suc, Bool, true, false, ◌==◌, ◌&&◌, ◌||◌, not, List, [], ◌∷◌, ◌++◌, reverse, All, Option, Some, None, slice_get, if◌then◌else◌}
+use Rattle.std.specs.Prelude.{◌≡◌, ℕ, Bool, true, false, ◌==◌, ◌&&◌, ◌||◌, not, List, [], ◌∷◌, ◌++◌, reverse, All, if◌then◌else◌}
 use Rattle.std.specs.List.{list_any}
 use Rattle.sv_world.specs.declared.world.Shape.{Shape}
 use Rattle.sv_wire.specs.declared.message.Request.{Request}
@@ -13,10 +13,7 @@ use Rattle.sv_client.specs.declared.trace.Event.TheVariants as events
 use Rattle.sv_client.specs.declared.trace.Trace.{Trace}
 use Rattle.sv_client.specs.Traces.{got, requests_of}
 use Rattle.sv_client.specs.Proper.{Proper}
-
--- xs is the front part of ys.
-abbrev pub IsFront : {A : Type 0} → List A → List A → Type 0
-IsFront {A = A} xs ys = (i : ℕ) (x : A) → slice_get xs i ≡ Some x → slice_get ys i ≡ Some x
+use Rattle.sv_system.specs.Fronts.{IsFront}
 
 -- The requests of a session that a journal has, in order, its End left out.
 abbrev pub requests_in : List Entry → ℕ → List Request
@@ -36,7 +33,7 @@ is_ended h s = list_any (λ (e : Entry). e.session == s && is_end e.request) h
 -- A session has at most one End, and nothing after it.
 abbrev pub IsEndLast : List Entry → ℕ → Type 0
 IsEndLast [] s = Unit {0}
-IsEndLast (e ∷ h) s = (if e.session == s then is_ended h s ≡ false else Unit {0}) × IsEndLast h s
+IsEndLast (e ∷ h) s = (e.session ≡ s → is_ended h s ≡ false) × IsEndLast h s
 
 abbrev pub is_join_of : ℕ → Event → Bool
 is_join_of s (events.Join n) = n == s

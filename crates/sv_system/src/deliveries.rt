@@ -4,7 +4,7 @@ ghost use Rattle.sv_world.specs.Faults.{IsGoodAction};
 ghost use Rattle.sv_journal.specs.History.{Authored};
 ghost use Rattle.sv_client.specs.declared.trace.Event.{Event};
 ghost use Rattle.sv_client.specs.Traces.{held_of};
-ghost use Rattle.sv_system.specs.Fits.{IsFront};
+ghost use Rattle.sv_system.specs.Fronts.{IsFront};
 ghost use Rattle.sv_system.specs.Serial.{AreSerial, AreSufficient};
 ghost use Rattle.sv_system.specs.Delivery.{Delivery, AreLawful, tellings_to, tellings_got};
 
