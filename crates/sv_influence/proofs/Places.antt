@@ -1,5 +1,6 @@
 -- Ascending lists by place, and with one number more.
-use Rattle.std.proofs.Common.{All, Result, Ok, Err, cond, is_ok, insert, nat_cmp}
+use Rattle.std.proofs.Common.{All, Result, Ok, Err, cond, is_ok, insert, nat_cmp, ◌-◌, Option, Some, None}
+use Rattle.std.specs.Prelude.{IfNone, option_to_list}
 use Rattle.std.proofs.lemmas.Bool.{cond_both}
 use Rattle.std.proofs.lemmas.List.{get_or_default}
 use Rattle.std.proofs.lemmas.List.Sorted.{searched}
@@ -90,3 +91,26 @@ all-members P xs h k d l = subst P (get_or_default xs k 0 d l) (h (get_or xs k 0
 
 pub members-all : (P : ℕ → Type 0) (xs : List ℕ) → All P xs → (j : ℕ) → is_in j xs ≡ true → P j
 members-all P xs h j m = let p = is_in-place j xs m in subst P p.1.1 (h p.0 0 p.1.0)
+
+-- Below a number above the last one are all.
+below-end : (xs : List ℕ) (last n : ℕ) → is_ascending xs ≡ true → 0 < length xs → last ≡ get_or xs (length xs - 1) last → last < n → (j : ℕ) → is_in j xs ≡ true → j < n
+below-end xs last n h some' at low j m =
+    let p = is_in-place j xs m in
+    let l : p.0 < length xs = p.1.0 in
+    let e : get_or xs p.0 0 ≡ j = p.1.1 in
+    let a : get_or xs p.0 0 ≤ get_or xs (length xs - 1) 0 = ascending-places xs h p.0 (length xs - 1) (omega arith) (omega arith) in
+    let b : get_or xs (length xs - 1) 0 ≡ last = get_or_default xs (length xs - 1) 0 last (omega arith) ∙ sym at in
+    omega arith
+
+pub below-last : (xs zs : List ℕ) (last n : ℕ) → is_ascending xs ≡ true → zs ≡ xs → 0 < length zs → last ≡ get_or zs (length zs - 1) last → last < n →
+    (j : ℕ) → is_in j xs ≡ true → j < n
+below-last xs zs last n h same some' at low =
+    below-end xs last n h (subst (λ (ys : List ℕ). 0 < length ys) same some') (subst (λ (ys : List ℕ). last ≡ get_or ys (length ys - 1) last) same at) low
+
+pub option-ascending : (o : Option ℕ) → is_ascending (option_to_list o) ≡ true
+option-ascending None = refl
+option-ascending (Some x) = refl
+
+pub option-none : (o : Option ℕ) (P : Type 0) → P → IfNone o P
+option-none None P p = p
+option-none (Some x) P p = tt

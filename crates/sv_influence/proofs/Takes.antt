@@ -1,5 +1,6 @@
 -- What is known when the greatest wanted position was taken off.
-use Rattle.std.proofs.Common.{◌≡◌, ℕ, ◌<◌, ◌≤◌, ◌+◌, inl, inr, Bool, true, false, ◌||◌, List, [], ◌∷◌, ◌++◌, length, reverse, refl, sym, ◌∙◌, ap, subst, arith, length-append}
+use Rattle.std.proofs.Common.{◌≡◌, ℕ, ◌<◌, ◌≤◌, ◌+◌, inl, inr, Bool, true, false, ◌||◌, List, [], ◌∷◌, ◌++◌, length, reverse, Option, None, refl, sym, ◌∙◌, ap, subst, arith, length-append, append-nil}
+use Rattle.std.specs.Prelude.{IfNone, option_to_list}
 use Rattle.std.proofs.lemmas.List.{length-reverse}
 use Rattle.sv_world.specs.Control.{is_in, missing_writers, wanted_up_to}
 use Rattle.sv_world.specs.Faults.{is_ascending}
@@ -75,6 +76,16 @@ next-room v s pos next wanted rest items within up e whole =
     let d : length (reverse (items ++ next ∷ [])) ≡ length (items ++ next ∷ []) = length-reverse (items ++ next ∷ []) in
     let f : length (items ++ next ∷ []) ≡ length items + 1 = length-append items (next ∷ []) in
     omega arith
+
+-- Where none is left, all were taken.
+pub all-taken : (v : QueueView) (s pos : ℕ) (wanted items : List ℕ) (next : Option ℕ) → next ≡ None → IfNone next (wanted ≡ []) →
+    wanted_up_to (queue_actions v) v.commit (sent_positions v s) pos (wanted ++ option_to_list next) ++ reverse items ≡ lacking v s pos → reverse items ≡ lacking v s pos
+all-taken v s pos wanted items next none last whole =
+    let empty : wanted ≡ [] = subst (λ (o : Option ℕ). IfNone o (wanted ≡ [])) none last in
+    let both : wanted ++ option_to_list next ≡ [] = ap (λ (o : Option ℕ). wanted ++ option_to_list o) none ∙ append-nil wanted ∙ empty in
+    sym (ap (λ (xs : List ℕ). xs ++ reverse items)
+    (ap (λ (xs : List ℕ). wanted_up_to (queue_actions v) v.commit (sent_positions v s) pos xs) both ∙ whole-nil (makes_wanted v s) pos))
+    ∙ whole
 
 -- How it begins.
 pub start-unsent : (v : QueueView) (s pos : ℕ) (wanted : List ℕ) → IsUncommitted v pos → is_in pos (sent_positions v s) ≡ false →

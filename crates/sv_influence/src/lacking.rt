@@ -1,6 +1,6 @@
-ghost use Rattle.std.specs.Prelude.{◌≡◌, ℕ, ◌+◌, ◌*◌, ◌<◌, ◌≤◌, true, [], ◌∷◌, ◌++◌, map, length, IfOk, OnOk, All};
+ghost use Rattle.std.specs.Prelude.{◌≡◌, ℕ, ◌+◌, ◌*◌, ◌<◌, ◌≤◌, true, [], ◌∷◌, ◌++◌, map, length, slice_index_or, option_to_list, IfOk, OnOk, All};
 ghost use Rattle.sv_world.specs.declared.world.ObjectId.{ObjectId};
-ghost use Rattle.sv_world.specs.Control.{is_in, wanted_up_to};
+ghost use Rattle.sv_world.specs.Control.{is_in, action_at, wanted_up_to};
 ghost use Rattle.sv_queue.specs.Queue.{IsUncommitted, queue_actions, sent_positions};
 ghost use Rattle.sv_influence.specs.Lacking.{lacking, base_objects, lacking_writers, committed_reads, reads_at};
 
@@ -28,11 +28,8 @@ pub fn closure<L: Ledger>(
     ensures head { IfOk result (λ c. map (λ (o : ObjectId). o.0) c.head ≡ base_objects queue.now session pos) }
     ensures ticks { steps.new ≤ steps.old + 33 * length (lacking queue.now session pos) + 1 }
 {
-    let mut wanted = Numbers::new(alloc);
-    if !queue.is_marked(pos, session, steps) {
-        wanted.insert(pos)?;
-    }
-    let found = expand_all(alloc, queue, session, pos, wanted, steps)?;
+    let first = first_wanted(queue, session, pos, steps);
+    let found = expand_all(alloc, queue, session, pos, first, steps)?;
     let Found { items, bases } = found;
     let shape = queue.shape();
     prove!(shape.objects <= 4096);
@@ -43,6 +40,28 @@ pub fn closure<L: Ledger>(
     })
 }
 
+/// A relay has few positions, so that these need no more room.
+const ROOM: usize = 33;
+
+/// The position itself, where the session lacks it.
+fn first_wanted<L: Ledger>(
+    queue: &Queue,
+    session: u16,
+    pos: u32,
+    steps: &mut Steps<L>,
+) -> Option<u32>
+    requires { IsUncommitted queue.now pos }
+    ensures within { (j : ℕ) → is_in j (option_to_list result) ≡ true → (queue.now.commit < j) × (j ≤ pos) }
+    ensures whole { wanted_up_to (queue_actions queue.now) queue.now.commit (sent_positions queue.now session) pos (option_to_list result) ≡ lacking queue.now session pos }
+    ensures ticks { steps.new ≡ steps.old + 1 }
+{
+    if queue.is_marked(pos, session, steps) {
+        None
+    } else {
+        Some(pos)
+    }
+}
+
 /// The positions that were wanted, and the objects that these read as committed; both ascending.
 #[derive(Drop)]
 struct Found {
@@ -50,27 +69,31 @@ struct Found {
     bases: Vec<u32>,
 }
 
-/// Takes the greatest wanted position, until there is none. What it makes wanted lies below it, so each comes once.
+/// Takes the greatest wanted position, until there is none. What it makes wanted lies below it, so each comes once. The greatest is held
+/// apart from the others, so that a single position takes no memory for them.
 fn expand_all<L: Ledger>(
     alloc: Global,
     queue: &Queue,
     session: u16,
     pos: u32,
-    mut wanted: Numbers,
+    first: Option<u32>,
     steps: &mut Steps<L>,
 ) -> Result<Found, AllocError>
     requires pos { IsUncommitted queue.now pos }
-    requires within { (j : ℕ) → is_in j wanted ≡ true → (queue.now.commit < j) × (j ≤ pos) }
-    requires whole { wanted_up_to (queue_actions queue.now) queue.now.commit (sent_positions queue.now session) pos wanted ≡ lacking queue.now session pos }
+    requires within { (j : ℕ) → is_in j (option_to_list first) ≡ true → (queue.now.commit < j) × (j ≤ pos) }
+    requires whole { wanted_up_to (queue_actions queue.now) queue.now.commit (sent_positions queue.now session) pos (option_to_list first) ≡ lacking queue.now session pos }
     ensures items { IfOk result (λ f. f.items.items ≡ lacking queue.now session pos) }
     ensures bases { IfOk result (λ f. f.bases.items ≡ base_objects queue.now session pos) }
     ensures ticks { steps.new ≤ steps.old + 33 * length (lacking queue.now session pos) }
 {
-    let mut items = Vec::new(alloc);
+    let mut items = Vec::with_capacity(alloc, ROOM)?;
+    let mut wanted = Numbers::new(alloc);
     let mut bases = Numbers::new(alloc);
-    while let Some(next) = wanted.pop() {
-        items.push(next)?;
-        expand(queue, session, next, &mut wanted, &mut bases, steps)?;
+    let mut next = first;
+    while let Some(greatest) = next {
+        items.push(greatest)?;
+        expand(queue, session, greatest, &mut wanted, &mut bases, steps)?;
+        next = wanted.pop();
     }
     items.reverse();
     Ok(Found {
@@ -95,17 +118,18 @@ fn expand<L: Ledger>(
     ensures ticks { steps.new ≤ steps.old + 33 }
 {
     let entry = queue.entry(pos, steps);
-    for object in entry.action.reads.as_slice() {
-        look_up(queue, session, pos, *object, wanted, bases, steps)?;
+    for (slot, object) in entry.action.reads.as_slice().iter().enumerate() {
+        look_up(queue, session, pos, slot, *object, wanted, bases, steps)?;
     }
     Ok(())
 }
 
-/// Where the object's last writer is committed the object is needed, unless it was given; where it is not, the writer is, unless it was sent.
+/// Where the last writer of an object, which the position reads in a slot, is committed the object is needed, unless it was given; where it is not, the writer is, unless it was sent.
 fn look_up<L: Ledger>(
     queue: &Queue,
     session: u16,
     pos: u32,
+    slot: usize,
     object: ObjectId,
     wanted: &mut Numbers,
     bases: &mut Numbers,
@@ -113,11 +137,13 @@ fn look_up<L: Ledger>(
 ) -> Result<(), AllocError>
     requires pos { IsUncommitted queue.now pos }
     requires object { object.0 < queue.now.shape.objects }
+    requires slot { slot < length (action_at (queue_actions queue.now) pos).reads }
+    requires read { slice_index_or (reads_at queue.now pos) slot 0 ≡ object.0 }
     ensures wanted { OnOk result ((j : ℕ) → is_in j wanted.new ≡ is_in j (lacking_writers queue.now session pos (object.0 ∷ []) ++ wanted.old)) }
     ensures bases { OnOk result ((x : ℕ) → is_in x bases.new ≡ is_in x (committed_reads queue.now session pos (object.0 ∷ []) ++ bases.old)) }
     ensures ticks { steps.new ≤ steps.old + 2 }
 {
-    let writer = queue.last_writer(object, pos, steps);
+    let writer = queue.source(pos, slot, steps);
     if writer == 0 {
         if !queue.is_given(object, session) {
             bases.insert(u32::from(object.0))?;
@@ -133,9 +159,9 @@ fn objects_of(alloc: Global, numbers: Vec<u32>) -> Result<List<ObjectId>, AllocE
     requires { All (λ x. x < 65536) numbers.items }
     ensures { IfOk result (λ list. map (λ (o : ObjectId). o.0) list ≡ numbers.items) }
 {
-    let mut objects = List::new(alloc);
+    let mut objects = Vec::with_capacity(alloc, numbers.len())?;
     for number in &numbers {
         objects.push(ObjectId(*number as u16))?;
     }
-    Ok(objects)
+    Ok(List::from_vec(objects))
 }

@@ -1,4 +1,4 @@
-ghost use Rattle.std.specs.Prelude.{◌≡◌, ℕ, true, [], ◌∷◌, ◌++◌, OnOk, IfSome, IfNone};
+ghost use Rattle.std.specs.Prelude.{◌≡◌, ◌<◌, ℕ, true, [], ◌∷◌, ◌++◌, IsTrue, OnOk, IfNone, option_to_list};
 ghost use Rattle.sv_world.specs.Control.{is_in};
 ghost use Rattle.sv_world.specs.Faults.{is_ascending};
 
@@ -35,6 +35,10 @@ impl Numbers {
     pub fn insert(&mut self, number: u32) -> Result<(), AllocError>
         ensures { OnOk result ((j : ℕ) → is_in j self.new ≡ is_in j (number ∷ self.old)) }
     {
+        if self.is_below(number) {
+            self.items.push(number)?;
+            return Ok(());
+        }
         match self.items.binary_search(&number) {
             Ok(_) => Ok(()),
             Err(place) => {
@@ -44,10 +48,20 @@ impl Numbers {
         }
     }
 
+    /// Whether all of them are below a number.
+    fn is_below(&self, number: u32) -> bool
+        ensures { IsTrue result → (j : ℕ) → is_in j self.now ≡ true → j < number }
+    {
+        match self.items.last() {
+            Some(last) => *last < number,
+            None => true,
+        }
+    }
+
     /// Takes the greatest off.
     pub fn pop(&mut self) -> Option<u32>
-        ensures none { IfNone result (self.old ≡ []) }
-        ensures some { IfSome result (λ x. self.old ≡ self.new ++ x ∷ []) }
+        ensures greatest { self.old ≡ self.new ++ option_to_list result }
+        ensures none { IfNone result (self.new ≡ []) }
         ensures ascending { is_ascending self.old ≡ true }
     {
         self.items.pop()

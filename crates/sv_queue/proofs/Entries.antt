@@ -45,7 +45,7 @@ writers_above-push n (d ∷ es) e x = go (is_in x (write_set d.action)) (writers
     go false h = rw (← same) h
 
 -- The action at a place past the blanks.
-action_past : (c : ℕ) (actions : List Action) (k : ℕ) → get_or (replicate c blank ++ actions) (c + k) blank ≡ get_or actions k blank
+pub action_past : (c : ℕ) (actions : List Action) (k : ℕ) → get_or (replicate c blank ++ actions) (c + k) blank ≡ get_or actions k blank
 action_past zero actions k = ap (λ m. get_or actions m blank) (zero_add k)
   where
     zero_add : (k : ℕ) → 0 + k ≡ k

@@ -6,4 +6,5 @@ pub mod Members
 pub mod PairSets
 pub mod PositionLists
 pub mod SessionSets
+pub mod SourceLists
 pub mod WrittenObjects

@@ -1,6 +1,7 @@
 -- Ascending lists of positions, and the greatest element below a bound.
-use Rattle.std.proofs.Common.{◌≡◌, ℕ, zero, suc, ◌-◌, ◌<◌, ◌≤◌, Bool, true, false, ◌||◌, cond, nat_lt, nat_eq, List, [], ◌∷◌, length, max, get_or, ◌⊎◌, inl, inr, refl, ◌∙◌, ap, arith}
+use Rattle.std.proofs.Common.{◌≡◌, ℕ, zero, suc, ◌-◌, ◌<◌, ◌≤◌, Bool, true, false, ◌||◌, cond, nat_lt, nat_eq, List, [], ◌∷◌, length, max, get_or, ◌⊎◌, inl, inr, refl, sym, ◌∙◌, ap, arith}
 use Rattle.std.proofs.lemmas.Bool.{lt-ltb, le-ltb, ltb-true, ltb-false, cases_eq, cases_lt, eq-eqb, ne_eqb, cond-false}
+use Rattle.std.proofs.lemmas.List.{get_or_default}
 use Rattle.std.specs.List.Sorted.{IsNonDecreasingBy, IsPartitionPoint}
 use Rattle.sv_world.specs.Control.{is_in}
 use Rattle.sv_queue.specs.Positions.{greatest_below, AreAbove, IsAscending}
@@ -82,3 +83,15 @@ pub greatest_below-search : (xs : List ℕ) (n i : ℕ) → IsAscending xs → i
     greatest_below xs n ≡ cond (nat_eq i 0) 0 (get_or xs (i - 1) 0)
 greatest_below-search xs n i s low point = greatest_below-point xs n i s low
     (λ k h. ltb-true (get_or xs k 0) n (point.0 k 0 (omega arith) h)) (λ k h g. ltb-false (get_or xs k 0) n (point.1 k 0 h g))
+
+-- In an ascending list whose last element is below n, that is the greatest below n.
+pub greatest_below-last : (xs : List ℕ) (n i last : ℕ) → IsAscending xs → suc i ≡ length xs → last ≡ get_or xs i last → last < n → last ≡ greatest_below xs n
+greatest_below-last xs n i last s count at low =
+    let e : get_or xs i 0 ≡ last = get_or_default xs i 0 last (omega arith) ∙ sym at in
+    let q : suc i - 1 ≡ i = omega arith in
+    sym (greatest_below-point xs n (suc i) s (omega arith)
+    (λ k l. let le : get_or xs k 0 ≤ get_or xs i 0 = ascending_order xs s k i 0 (omega arith) (omega arith) in omega arith)
+    (λ k h g. absurd (omega arith))
+    ∙ cond-false (nat_eq (suc i) 0) 0 (get_or xs (suc i - 1) 0) (ne_eqb (suc i) 0 (λ z. omega arith))
+    ∙ ap (λ m. get_or xs m 0) q
+    ∙ e)

@@ -1,13 +1,14 @@
 -- What a queue's fields keep.
-use Rattle.std.specs.Prelude.{◌≡◌, ℕ, suc, ◌+◌, ◌^◌, ◌<◌, List, [], ◌∷◌, length, ℤ, All, IfSome, slice_index_or, if◌then◌else◌}
+use Rattle.std.specs.Prelude.{◌≡◌, ℕ, suc, ◌+◌, ◌^◌, ◌<◌, nat_lt, List, [], ◌∷◌, ◌++◌, length, replicate, ℤ, All, IfSome, slice_index_or, if◌then◌else◌}
+use Rattle.sv_world.specs.declared.action.Action.{Action}
 use Rattle.sv_world.specs.declared.world.Shape.{Shape}
-use Rattle.sv_world.specs.Control.{is_in}
+use Rattle.sv_world.specs.Control.{is_in, blank, last_writer}
 use Rattle.sv_world.specs.Faults.{IsGoodAction}
-use Rattle.sv_world.specs.Sets.{write_set}
+use Rattle.sv_world.specs.Sets.{read_set, write_set}
 use Rattle.sv_queue.specs.declared.queue.Queue.TheInside.{Inside}
 use Rattle.sv_queue.specs.declared.queued.Queued.{Queued}
 use Rattle.sv_queue.specs.Pairs.{pairs_of}
-use Rattle.sv_queue.specs.Queue.{QueueView}
+use Rattle.sv_queue.specs.Queue.{QueueView, actions_of}
 use Rattle.sv_queue.specs.Worlds.{IsGoodShape, HaveAttrs}
 
 abbrev pub view_of : Inside → QueueView
@@ -43,5 +44,18 @@ pub record AgreeOn (shape : Shape) (commit : ℕ) (committed : List (List ℤ)) 
   pub indexed : (x : ℕ) → x < shape.objects → slice_index_or writers x [] ≡ writers_above commit entries x
   pub given : length rows ≡ shape.objects
 
-abbrev pub IsQueue : Inside → Type 0
-IsQueue a = AgreeOn a.shape a.commit a.committed a.entries.items a.writers a.given.items
+-- A position that is above the commit, else 0.
+abbrev pub uncommitted : ℕ → ℕ → ℕ
+uncommitted commit p = if nat_lt commit p then p else 0
+
+-- For each of the actions above the commit, and each slot of its reads, `sources` has the object's last writer below the action. Where that
+-- was committed since, it counts as 0.
+pub record HaveSources (commit : ℕ) (actions : List Action) (sources : List (List ℕ)) : Type 0 where
+  pub count : length sources ≡ length actions
+  pub each : (i k : ℕ) → i < length actions → k < length (slice_index_or actions i blank).reads →
+      uncommitted commit (slice_index_or (slice_index_or sources i []) k 0)
+      ≡ last_writer (replicate commit blank ++ actions) (slice_index_or (read_set (slice_index_or actions i blank)) k 0) (suc (commit + i))
+
+pub record IsQueue (a : Inside) : Type 0 where
+  pub agree : AgreeOn a.shape a.commit a.committed a.entries.items a.writers a.given.items
+  pub sources : HaveSources a.commit (actions_of a.entries.items) a.sources.items

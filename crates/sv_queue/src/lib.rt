@@ -4,6 +4,7 @@
 mod queue;
 mod queued;
 mod sessions;
+mod sources;
 mod steps;
 #[cfg(test)]
 mod tests;

@@ -1,13 +1,14 @@
-ghost use Rattle.std.specs.Prelude.{◌≡◌, ◌+◌, ◌-◌, ◌^◌, ◌<◌, nat_lt, [], length, slice_index_or, is_some, IfOk, IsNone, OnOk, OnErr};
+ghost use Rattle.std.specs.Prelude.{◌≡◌, ℕ, ◌+◌, ◌-◌, ◌^◌, ◌<◌, nat_lt, [], length, slice_index_or, is_some, IfOk, IsNone, OnOk, OnErr};
 ghost use Rattle.sv_world.specs.Control.{is_in, last_writer, action_at};
 ghost use Rattle.sv_world.specs.Faults.{IsGoodAction};
-ghost use Rattle.sv_world.specs.Sets.{write_set};
+ghost use Rattle.sv_world.specs.Sets.{read_set, write_set};
 ghost use Rattle.sv_queue.specs.Pairs.{is_pair};
 ghost use Rattle.sv_queue.specs.Queue.{IsUncommitted, last_position, entry_at, queue_actions, sent_positions, opening_queue, with_action, without_last, with_mark, with_result, with_given, ready, first_installed, installed};
 ghost use Rattle.sv_queue.specs.Worlds.{IsGoodShape, IsGoodWorld, HaveAttrs};
 
 use crate::queued::Queued;
 use crate::sessions::Sessions;
+use crate::sources::Sources;
 use crate::steps::Steps;
 use crate::writers::Writers;
 use crate::written::{give_written, no_sessions, put_values};
@@ -27,6 +28,8 @@ pub struct Queue {
     commit: u32,
     committed: List<Value>,
     entries: VecDeque<Queued>,
+    /// The last writers of what each entry reads, found when it was pushed: later ones are above it.
+    sources: VecDeque<Sources>,
     writers: Writers,
     given: Vec<Sessions>,
 }
@@ -71,6 +74,7 @@ impl Queue {
             commit: 0,
             committed: values,
             entries: VecDeque::new(alloc),
+            sources: VecDeque::new(alloc),
             writers,
             given,
         })
@@ -114,7 +118,43 @@ impl Queue {
         ensures ticks { steps.new ≡ steps.old + 1 }
     {
         steps.tick();
+        self.writer_below(object, below)
+    }
+
+    fn writer_below(&self, object: ObjectId, below: u32) -> u32
+        requires { object.0 < self.now.shape.objects }
+        ensures { result ≡ last_writer (queue_actions self.now) object.0 below }
+    {
         self.writers.last_below(object, below)
+    }
+
+    /// The last writer, below an uncommitted position, of what it reads in a slot, where that is above the commit, else 0. One look-up.
+    ///
+    /// It is the answer of `last_writer`, without a search.
+    pub fn source<L: Ledger>(&self, pos: u32, slot: usize, steps: &mut Steps<L>) -> u32
+        requires pos { IsUncommitted self.now pos }
+        requires slot { slot < length (action_at (queue_actions self.now) pos).reads }
+        ensures writer { result ≡ last_writer (queue_actions self.now) (slice_index_or (read_set (action_at (queue_actions self.now) pos)) slot 0) pos }
+        ensures ticks { steps.new ≡ steps.old + 1 }
+    {
+        steps.tick();
+        let place = (pos - self.commit - 1) as usize;
+        let sources = &self.sources[place];
+        let source = sources.get(slot);
+        if self.commit < source { source } else { 0 }
+    }
+
+    /// The last writers of what an action at a position after all others reads.
+    fn sources_at(&self, pos: u32, action: &Action) -> Sources
+        requires { IsGoodAction self.now.shape action.now }
+        ensures { (k : ℕ) → k < length action.now.reads → slice_index_or result k 0 ≡ last_writer (queue_actions self.now) (slice_index_or (read_set action.now) k 0) pos }
+    {
+        let mut sources = Sources::new();
+        for slot in 0..action.reads.len() {
+            let object = action.reads.as_slice()[slot];
+            sources.set(slot, self.writer_below(object, pos));
+        }
+        sources
     }
 
     /// Whether an uncommitted position was sent to a session. One look-up.
@@ -170,8 +210,11 @@ impl Queue {
         ensures err { OnErr result (self.new ≡ self.old) }
     {
         let pos = self.commit + self.entries.len() as u32 + 1;
+        let sources = self.sources_at(pos, &action);
         self.entries.reserve(1)?;
+        self.sources.reserve(1)?;
         self.writers.add(&action, pos)?;
+        self.sources.push_back_reserved(sources);
         let entry = Queued {
             author,
             seq,
@@ -191,6 +234,7 @@ impl Queue {
         ensures { self.new ≡ without_last self.old }
     {
         let entry = self.entries.pop_back().unwrap();
+        self.sources.pop_back();
         self.writers.remove_last(&entry.action);
         drop(entry);
     }
@@ -255,6 +299,7 @@ impl Queue {
         ensures { self.new ≡ first_installed self.old }
     {
         let entry = self.entries.pop_front().unwrap();
+        self.sources.pop_front();
         let Queued {
             author: _,
             seq: _,

@@ -152,6 +152,17 @@ fn last_writer<L: Ledger>(queue: &Queue, object: u16, below: u32, steps: &mut St
     queue.last_writer(ObjectId(object), below, steps)
 }
 
+fn source<L: Ledger>(queue: &Queue, pos: u32, slot: usize, steps: &mut Steps<L>) -> u32 {
+    if pos <= queue.commit() || queue.last() < pos {
+        return u32::MAX;
+    }
+    let entry = queue.entry(pos, steps);
+    if entry.action.reads.len() <= slot {
+        return u32::MAX;
+    }
+    queue.source(pos, slot, steps)
+}
+
 /// What the installs answer and leave: counts, commits, numbers.
 fn completions<L: Ledger>(alloc: Global, blank: Blank) -> Result<[u32; 5], AllocError>
     requires name { blank.name ≡ L.name }
@@ -237,6 +248,33 @@ fn writers<L: Ledger>(alloc: Global, blank: Blank) -> Result<[u32; 7], AllocErro
 fn evaluates_late_older_action_at_its_place(rt: HostRuntime) -> Result<(), Fail> {
     let told = writers::<Brand>(rt.alloc(), Blank::new(1))?;
     assert_eq!(rt; told, [0, 1, 3, 2, 1, 0, 3]);
+    Ok(())
+}
+
+/// The last writers of what positions 2, 3 and 4 read, slot by slot, and those of 2 and 3 after the first commit.
+fn sources<L: Ledger>(alloc: Global, blank: Blank) -> Result<[u32; 7], AllocError>
+    requires name { blank.name ≡ L.name }
+    requires parts { blank.parts ≡ L.parts }
+    requires one { blank.parts ≡ 1 }
+{
+    let mut steps = Steps::<L>::new(blank);
+    let mut queue = four_actions(alloc)?;
+    let first = source(&queue, 2, 0, &mut steps);
+    let second = source(&queue, 2, 1, &mut steps);
+    let third = source(&queue, 3, 0, &mut steps);
+    let fourth = source(&queue, 4, 0, &mut steps);
+    finish(alloc, &mut queue, 1, 6, &mut steps)?;
+    queue.install();
+    let committed = source(&queue, 2, 1, &mut steps);
+    let also = source(&queue, 3, 0, &mut steps);
+    let later = source(&queue, 4, 0, &mut steps);
+    Ok([first, second, third, fourth, committed, also, later])
+}
+
+#[test]
+fn sources_are_last_writers(rt: HostRuntime) -> Result<(), Fail> {
+    let told = sources::<Brand>(rt.alloc(), Blank::new(1))?;
+    assert_eq!(rt; told, [0, 1, 1, 2, 0, 0, 2]);
     Ok(())
 }
 

@@ -43,6 +43,11 @@ impl Positions {
         requires { IsAscending self.now }
         ensures { result ≡ greatest_below self.now below }
     {
+        if let Some(last) = self.items.back() {
+            if *last < below {
+                return *last;
+            }
+        }
         let count = self.items.partition_point(|pos| *pos < below);
         if count == 0 {
             return 0;

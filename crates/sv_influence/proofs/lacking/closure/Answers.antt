@@ -1,23 +1,10 @@
-use Rattle.std.proofs.Common.{◌≡◌, ℕ, ◌∷◌, List, ◌<◌, All, sym, ◌∙◌, ap, subst, arith}
+use Rattle.std.proofs.Common.{◌≡◌, ℕ, List, ◌<◌, All, sym, ap, subst, arith}
 use Rattle.sv_world.specs.declared.world.Shape.{Shape}
-use Rattle.sv_world.specs.Control.{is_in, wanted_up_to}
 use Rattle.sv_world.proofs.Bases.{head_for-iff}
 use Rattle.sv_queue.specs.Queue.{queue_actions, sent_positions, given_objects}
 use Rattle.sv_influence.specs.Lacking.{base_objects}
 use Rattle.sv_influence.proofs.Places.{all-members}
-use Rattle.sv_influence.proofs.Takes.{start-unsent, start-sent}
 use Rattle.sv_influence.proofs.lacking.closure.Goals as goal
-use Rattle.sv_influence.proofs.lacking.closure.Goals.{then-not-is_marked+in_ok-insert, else-not-is_marked}
-
-pub expand_all-requires-clause-whole : goal.expand_all-requires-clause-whole
-expand_all-requires-clause-whole g c =
-    let v = c.args.queue.now in
-    let W = λ (xs : List ℕ). wanted_up_to (queue_actions v) v.commit (sent_positions v c.args.session) c.args.pos xs in
-    elim c.if-not-is_marked.branch [
-      | then-not-is_marked+in_ok-insert w ↦ ap W w.wanted-is ∙ start-unsent v c.args.session c.args.pos w.insert.new.self c.requires (sym w.if-not-is_marked.ensures.marked)
-          (λ j. w.in_ok-insert.ensures j ∙ ap (λ (xs : List ℕ). is_in j (c.args.pos ∷ xs)) c.new-wanted.ensures)
-      | else-not-is_marked w ↦ ap W (w.wanted-is ∙ c.new-wanted.ensures) ∙ start-sent v c.args.session c.args.pos (sym w.if-not-is_marked.ensures.marked)
-    ]
 
 pub objects_of-requires : goal.objects_of-requires
 objects_of-requires g c =

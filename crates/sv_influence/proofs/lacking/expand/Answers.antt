@@ -8,28 +8,28 @@ use Rattle.sv_influence.proofs.lacking.expand.Goals as goal
 
 pub look_up-requires-clause-object : goal.look_up-requires-clause-object
 look_up-requires-clause-object g c =
-    read_low c.args.queue.now.shape.objects (action_at (queue_actions c.args.queue.now) c.args.pos) c.as_slice-object-items.result.now c.loop-object.object-index record { 0 = 0 }
-    c.loop-object.invariant.items c.loop-object.invariant.good.objects c.loop-object-test.true
+    read_low c.args.queue.now.shape.objects (action_at (queue_actions c.args.queue.now) c.args.pos) c.as_slice-object-items.result.now c.loop-slot.slot record { 0 = 0 }
+    c.loop-slot.invariant.items c.loop-slot.invariant.good.objects c.loop-slot-test.true
 
-pub loop-object-preserved : goal.loop-object-preserved
-loop-object-preserved g c =
+pub loop-slot-preserved : goal.loop-slot-preserved
+loop-slot-preserved g c =
     let v = c.args.queue.now in
-    let o = (get_or c.as_slice-object-items.result.now c.loop-object.object-index record { 0 = 0 }).0 in
-    let rest = drop (c.loop-object.object-index + 1) (reads_at v c.args.pos) in
-    let d : drop c.loop-object.object-index (reads_at v c.args.pos) ≡ o ∷ rest =
-    read_at (action_at (queue_actions v) c.args.pos) c.as_slice-object-items.result.now c.loop-object.object-index record { 0 = 0 } c.loop-object.invariant.items c.loop-object-test.true in
+    let o = (get_or c.as_slice-object-items.result.now c.loop-slot.slot record { 0 = 0 }).0 in
+    let rest = drop (c.loop-slot.slot + 1) (reads_at v c.args.pos) in
+    let d : drop c.loop-slot.slot (reads_at v c.args.pos) ≡ o ∷ rest =
+    read_at (action_at (queue_actions v) c.args.pos) c.as_slice-object-items.result.now c.loop-slot.slot record { 0 = 0 } c.loop-slot.invariant.items c.loop-slot-test.true in
     record {
-      items = c.loop-object.invariant.items;
-      good = c.loop-object.invariant.good;
+      items = c.loop-slot.invariant.items;
+      good = c.loop-slot.invariant.good;
       wanted = λ j.
-          members-move j (lacking_writers v c.args.session c.args.pos (o ∷ [])) (lacking_writers v c.args.session c.args.pos rest) c.loop-object.wanted c.look_up.new.wanted (c.in_ok-look_up.ensures.wanted j)
-          ∙ ap (λ (xs : List ℕ). is_in j (xs ++ c.loop-object.wanted))
+          members-move j (lacking_writers v c.args.session c.args.pos (o ∷ [])) (lacking_writers v c.args.session c.args.pos rest) c.loop-slot.wanted c.look_up.new.wanted (c.in_ok-look_up.ensures.wanted j)
+          ∙ ap (λ (xs : List ℕ). is_in j (xs ++ c.loop-slot.wanted))
           (sym (ap (λ (xs : List ℕ). lacking_writers v c.args.session c.args.pos xs) d ∙ writers-cons v c.args.session c.args.pos o rest))
-          ∙ c.loop-object.invariant.wanted j;
+          ∙ c.loop-slot.invariant.wanted j;
       bases = λ x.
-          members-move x (committed_reads v c.args.session c.args.pos (o ∷ [])) (committed_reads v c.args.session c.args.pos rest) c.loop-object.bases c.look_up.new.bases (c.in_ok-look_up.ensures.bases x)
-          ∙ ap (λ (xs : List ℕ). is_in x (xs ++ c.loop-object.bases))
+          members-move x (committed_reads v c.args.session c.args.pos (o ∷ [])) (committed_reads v c.args.session c.args.pos rest) c.loop-slot.bases c.look_up.new.bases (c.in_ok-look_up.ensures.bases x)
+          ∙ ap (λ (xs : List ℕ). is_in x (xs ++ c.loop-slot.bases))
           (sym (ap (λ (xs : List ℕ). committed_reads v c.args.session c.args.pos xs) d ∙ reads-cons v c.args.session c.args.pos o rest))
-          ∙ c.loop-object.invariant.bases x;
-      ticks = (let t = c.in_ok-look_up.ensures.ticks in let u = c.loop-object.invariant.ticks in omega arith);
+          ∙ c.loop-slot.invariant.bases x;
+      ticks = (let t = c.in_ok-look_up.ensures.ticks in let u = c.loop-slot.invariant.ticks in omega arith);
     }

@@ -5,11 +5,11 @@ use Rattle.sv_queue.specs.Queue.{queue_actions}
 use Rattle.sv_influence.specs.Lacking.{lacking_writers, committed_reads, reads_at}
 use Rattle.sv_influence.proofs.lacking.expand.Given as goal
 
-abbrev pub invariant-loop-object : goal.invariant-loop-object
-invariant-loop-object g l = record {
+abbrev pub invariant-loop-slot : goal.invariant-loop-slot
+invariant-loop-slot g l = record {
   items : l.object-items ≡ (action_at (queue_actions l.queue) l.pos).reads;
   good : IsGoodAction l.queue.shape (action_at (queue_actions l.queue) l.pos);
-  wanted : (j : ℕ) → is_in j (lacking_writers l.queue l.session l.pos (drop l.object-index (reads_at l.queue l.pos)) ++ l.wanted) ≡ is_in j (lacking_writers l.queue l.session l.pos (reads_at l.queue l.pos) ++ l.fn.wanted);
-  bases : (x : ℕ) → is_in x (committed_reads l.queue l.session l.pos (drop l.object-index (reads_at l.queue l.pos)) ++ l.bases) ≡ is_in x (committed_reads l.queue l.session l.pos (reads_at l.queue l.pos) ++ l.fn.bases);
-  ticks : l.steps ≤ l.fn.steps + 1 + 2 * l.object-index;
+  wanted : (j : ℕ) → is_in j (lacking_writers l.queue l.session l.pos (drop l.slot (reads_at l.queue l.pos)) ++ l.wanted) ≡ is_in j (lacking_writers l.queue l.session l.pos (reads_at l.queue l.pos) ++ l.fn.wanted);
+  bases : (x : ℕ) → is_in x (committed_reads l.queue l.session l.pos (drop l.slot (reads_at l.queue l.pos)) ++ l.bases) ≡ is_in x (committed_reads l.queue l.session l.pos (reads_at l.queue l.pos) ++ l.fn.bases);
+  ticks : l.steps ≤ l.fn.steps + 1 + 2 * l.slot;
 }

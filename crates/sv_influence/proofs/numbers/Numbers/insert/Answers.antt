@@ -1,7 +1,22 @@
-use Rattle.std.proofs.Common.{◌∙◌, ap}
+use Rattle.std.proofs.Common.{◌≡◌, ℕ, true, List, [], ◌∷◌, refl, sym, ◌∙◌, ap, subst}
 use Rattle.sv_world.specs.Control.{is_in}
+use Rattle.sv_world.specs.Faults.{is_ascending}
+use Rattle.sv_world.proofs.Ascending.{ascending-push}
+use Rattle.sv_influence.proofs.Takes.{is_in-swap}
 use Rattle.sv_influence.proofs.Places.{insert-searched, is_in-searched, is_in-known, insert-members}
 use Rattle.sv_influence.proofs.numbers.Numbers.insert.Goals as goal
+
+pub invariant_of-self-then-is_below : goal.invariant_of-self-then-is_below
+invariant_of-self-then-is_below c =
+    subst (λ (xs : List ℕ). is_ascending xs ≡ true) (sym c.in_ok-push.ensures.items)
+    (ascending-push c.self.inside.items.items c.args.number c.self.invariant
+    (λ j m. c.if-is_below.ensures refl j (subst (λ (xs : List ℕ). is_in j xs ≡ true) c.self.view_is m)))
+
+pub returns-then-is_below : goal.returns-then-is_below
+returns-then-is_below c = λ j.
+    ap (is_in j) c.in_ok-push.ensures.items
+    ∙ is_in-swap j c.self.inside.items.items (c.args.number ∷ [])
+    ∙ ap (λ (xs : List ℕ). is_in j (c.args.number ∷ xs)) c.self.view_is
 
 pub invariant_of-self-in-Err : goal.invariant_of-self-in-Err
 invariant_of-self-in-Err c =

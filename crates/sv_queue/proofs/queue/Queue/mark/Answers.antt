@@ -1,9 +1,11 @@
-use Rattle.std.proofs.Common.{◌≡◌, ◌-◌, ◌<◌, length, get_or, sym, ap, subst, arith}
+use Rattle.std.proofs.Common.{◌≡◌, ◌-◌, ◌<◌, List, length, get_or, sym, ap, subst, arith}
 use Rattle.std.proofs.lemmas.List.{get_or_read}
+use Rattle.sv_world.specs.declared.action.Action.{Action}
 use Rattle.sv_queue.specs.declared.queued.Queued.{Queued}
-use Rattle.sv_queue.specs.Invariant.{IsGoodEntry}
+use Rattle.sv_queue.specs.Invariant.{HaveSources, IsGoodEntry}
 use Rattle.sv_queue.specs.Queue.{QueueView, no_entry}
 use Rattle.sv_queue.proofs.Kept.{agree_with_entry}
+use Rattle.sv_queue.proofs.SourceLists.{actions-set}
 use Rattle.sv_queue.proofs.queue.Queue.mark.Goals as goal
 
 pub invariant_of-self : goal.invariant_of-self
@@ -16,6 +18,10 @@ invariant_of-self c =
     let count = ap (λ (v : QueueView). length v.entries) c.self.view_is in
     let within : i < length es = omega (arith, commit, count) in
     let is : e ≡ get_or es i no_entry = get_or_read es i e within c.index_mut-entry.ensures.value no_entry in
-    let good : IsGoodEntry a.shape e = subst (IsGoodEntry a.shape) (sym is) (c.self.invariant.good i no_entry within) in
-    agree_with_entry a.shape a.commit a.committed es a.writers a.given.items i (record e { marks = c.add.new.self }) c.self.invariant (ap (λ (d : Queued). d.action) is)
-    (record { action = good.action; values = good.values; attrs = good.attrs })
+    let good : IsGoodEntry a.shape e = subst (IsGoodEntry a.shape) (sym is) (c.self.invariant.agree.good i no_entry within) in
+    let same : e.action ≡ (get_or es i no_entry).action = ap (λ (d : Queued). d.action) is in
+    record {
+      agree = agree_with_entry a.shape a.commit a.committed es a.writers a.given.items i (record e { marks = c.add.new.self }) c.self.invariant.agree same
+          (record { action = good.action; values = good.values; attrs = good.attrs });
+      sources = subst (λ (bs : List Action). HaveSources a.commit bs a.sources.items) (sym (actions-set es i (record e { marks = c.add.new.self }) same)) c.self.invariant.sources;
+    }

@@ -1,15 +1,19 @@
-use Rattle.std.proofs.Common.{◌≡◌, suc, ◌+◌, ◌^◌, ◌<◌, ◌∙◌, [], ◌∷◌, ◌++◌, length, None, ap, arith}
+use Rattle.std.proofs.Common.{◌≡◌, suc, ◌+◌, ◌^◌, ◌<◌, ◌∙◌, [], ◌∷◌, ◌++◌, length, get_or, replicate, None, sym, ap, arith}
+use Rattle.std.proofs.lemmas.List.{length-map}
+use Rattle.sv_world.specs.Control.{blank, last_writer}
+use Rattle.sv_world.specs.Sets.{read_set}
 use Rattle.sv_world.specs.Faults.{IsGoodAction}
 use Rattle.sv_queue.specs.declared.queued.Queued.{Queued}
-use Rattle.sv_queue.specs.Queue.{QueueView, last_position}
+use Rattle.sv_queue.specs.Queue.{QueueView, actions_of, last_position, queue_actions}
 use Rattle.sv_queue.proofs.Kept.{agree_push, can_write}
+use Rattle.sv_queue.proofs.SourceLists.{actions-push, sources-push}
 use Rattle.sv_queue.proofs.queue.Queue.push.Goals as goal
 
 pub add-requires : goal.add-requires
 add-requires c =
     let a = c.self.inside in
     let good : IsGoodAction a.shape c.args.action = rw (ap (λ (v : QueueView). v.shape) c.self.view_is) c.requires.good in
-    rw c.self.invariant.lists (can_write a.shape c.args.action good)
+    rw c.self.invariant.agree.lists (can_write a.shape c.args.action good)
 
 pub invariant_of-self-2 : goal.invariant_of-self-2
 invariant_of-self-2 c =
@@ -22,4 +26,12 @@ invariant_of-self-2 c =
     let at : p ≡ suc (a.commit + length es) = omega (arith, c.len.ensures, a.entries.ok.0) in
     let last = ap (λ (v : QueueView). last_position v) c.self.view_is in
     let room : p < 2 ^ 32 = omega (arith, at, last, c.requires.room) in
-    rw added (agree_push a.shape a.commit a.committed es a.writers c.add.new.self a.given.items e p c.self.invariant (record { action = good; values = tt; attrs = tt }) at room c.in_ok-add.ensures.ok)
+    let stands : c.push_back_reserved.new.self.items ≡ a.sources.items ++ c.sources_at-sources.result ∷ [] =
+    c.push_back_reserved.ensures.items ∙ ap (λ ss. ss ++ c.sources_at-sources.result ∷ []) c.in_ok-reserve-2.ensures.items in
+    record {
+      agree = rw added (agree_push a.shape a.commit a.committed es a.writers c.add.new.self a.given.items e p c.self.invariant.agree (record { action = good; values = tt; attrs = tt }) at room c.in_ok-add.ensures.ok);
+      sources = rw (added, actions-push es e, stands) (sources-push a.commit (actions_of es) c.args.action a.sources.items c.sources_at-sources.result c.self.invariant.sources
+          (λ k low. c.sources_at-sources.ensures k low
+          ∙ ap (λ (v : QueueView). last_writer (queue_actions v) (get_or (read_set c.args.action) k 0) p) (sym c.self.view_is)
+          ∙ ap (λ n. last_writer (replicate a.commit blank ++ actions_of es) (get_or (read_set c.args.action) k 0) n) (at ∙ ap (λ n. suc (a.commit + n)) (sym (length-map es (λ (d : Queued). d.action))))));
+    }

@@ -13,7 +13,7 @@ returns c =
     let s = c.args.session in
     let rows = a.given.items in
     let low : x < a.shape.objects = omega (arith, ap (λ (v : QueueView). v.shape.objects) c.self.view_is) in
-    let read = get_or_read rows x _ (omega (arith, low, c.self.invariant.given)) c.index_mut-row.ensures.value [] in
+    let read = get_or_read rows x _ (omega (arith, low, c.self.invariant.agree.given)) c.index_mut-row.ensures.value [] in
     ap (λ (given : List (ℕ × ℕ)). record (view_of a) { given = given })
-    (pairs_of-add a.shape.objects rows x s c.add.new.self c.self.invariant.given low (c.add.ensures ∙ ap (with_session s) read))
+    (pairs_of-add a.shape.objects rows x s c.add.new.self c.self.invariant.agree.given low (c.add.ensures ∙ ap (with_session s) read))
     ∙ ap (λ (v : QueueView). with_given v x s) c.self.view_is

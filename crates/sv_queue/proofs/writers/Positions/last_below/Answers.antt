@@ -1,10 +1,21 @@
-use Rattle.std.proofs.Common.{ℕ, ltb, List, sym, ap, ◌∙◌, arith, rules}
+use Rattle.std.proofs.Common.{ℕ, ◌-◌, ltb, List, sym, ap, ◌∙◌, arith, rules}
 use Rattle.std.proofs.lemmas.Bool.{ne_eqb, eq-eqb, cond-true, cond-false}
 use Rattle.std.proofs.lemmas.List.{get_or_read}
 use Rattle.std.proofs.lemmas.List.Sorted.{IsPartitionPoint-from_clause, IsPartitionedBy-ltb}
 use Rattle.sv_queue.specs.Positions.{greatest_below, IsAscending}
-use Rattle.sv_queue.proofs.PositionLists.{ascending_order, greatest_below-search}
+use Rattle.sv_queue.proofs.PositionLists.{ascending_order, greatest_below-last, greatest_below-search}
 use Rattle.sv_queue.proofs.writers.Positions.last_below.Goals as goal
+
+pub returns-then-last-below : goal.returns-then-last-below
+returns-then-last-below c =
+    let xs = c.self.inside.items.items in
+    let n = c.args.below in
+    let P : List ℕ → Type 0 = IsAscending in
+    let s : IsAscending xs = rw c.self.view_is c.requires in
+    let some' = c.in-Some.ensures.item.3.0 in
+    let count = c.self.inside.items.ok.0 in
+    greatest_below-last xs n (c.self.inside.items.len - 1) c.in-Some.last.now s (omega (arith, some', count)) c.in-Some.ensures.lookup (omega arith)
+    ∙ ap (λ ys. greatest_below ys n) c.self.view_is
 
 pub returns-then-count-eq0 : goal.returns-then-count-eq0
 returns-then-count-eq0 c =
