@@ -43,6 +43,7 @@ last_is_not : (v n : ℕ) (digits : List ℕ) → bytes_eq (decimal n) digits �
 last_is_not v n digits is = ⊎_elim (λ (e : v ≡ n). same e) (λ (ne : v ≢ n). other ne) (cases_eq v n) where
   same : v ≡ n → checked v n digits ≡ checked v (suc n) digits
   same e = subst (λ w. checked w n digits ≡ checked w (suc n) digits) (sym e) (sym (never n digits (nat_lt n n) is) ∙ never n digits (nat_lt n (suc n)) is)
+
   other : v ≢ n → checked v n digits ≡ checked v (suc n) digits
   other ne = ap (λ (b : Bool). cond (b && bytes_eq (decimal v) digits) (Some v) None) (ltb_from_iff (λ (t : nat_lt v n ≡ true). omega (arith, ltb-true v n t), λ (l : v < suc n). lt-ltb v n (omega (arith, ne))))
 

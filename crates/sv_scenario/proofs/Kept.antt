@@ -280,7 +280,7 @@ plan_ok shape d plan is =
     let a = interest_ok shape i.0 q.0 i.1 in
     let b = steps_ok shape s.0 r.0 s.1 in
     just (IsGoodPlan shape) plan (record { interest = q.0; steps = r.0 })
-      (record { few_objects = a.0; ascending = a.1; known = a.2; few_steps = b.0; steps = b.1; quit = b.2 }) r.2
+    (record { few_objects = a.0; ascending = a.1; known = a.2; few_steps = b.0; steps = b.1; quit = b.2 }) r.2
 
 plans_ok : (shape : Shape) (d : Data) (plans : List Plan) → plans_of shape d ≡ Ok plans → AllByRecursion (IsGoodPlan shape) plans × (1 ≤ length plans) × (length plans ≤ 32)
 unfolding plans_of
@@ -371,26 +371,26 @@ scenario_ok d s is =
     let cv = at_key_of (codes "clients") (clients_of w.0.shape) d c.0 c.1 in
     let good_clients = clients_ok w.0.shape cv.0 c.0 cv.1 in
     let good_turns : AreTurns (length c.0) (sessions_in c.0) t.0 =
-      at_key_if (codes "schedule") [] (turns_of (length c.0) (sessions_in c.0)) (get (codes "schedule") d) t.0 (AreTurns (length c.0) (sessions_in c.0)) (tt, omega arith) (λ e h. turns_ok (length c.0) (sessions_in c.0) e t.0 h) t.1 in
+    at_key_if (codes "schedule") [] (turns_of (length c.0) (sessions_in c.0)) (get (codes "schedule") d) t.0 (AreTurns (length c.0) (sessions_in c.0)) (tt, omega arith) (λ e h. turns_ok (length c.0) (sessions_in c.0) e t.0 h) t.1 in
     just IsGoodScenario s (record { world = w.0; bound = b.0; reach = r.0; clients = c.0; schedule = t.0 })
-      (record {
-        world = world_ok d w.0 w.1;
-        bound = (number_ok 0 32 bv.0 b.0 bv.1).1;
-        reach = at_key_if (codes "reach") None reach_of (get (codes "reach") d) r.0 IsReach tt (λ e h. reach_ok e r.0 h) r.1;
-        some_clients = good_clients.some;
-        few_clients = good_clients.few;
-        plans = good_clients.all;
-        sessions = good_clients.sessions;
-        few_turns = good_turns.1;
-        turns = good_turns.0;
-      }) t.2
+    (record {
+      world = world_ok d w.0 w.1;
+      bound = (number_ok 0 32 bv.0 b.0 bv.1).1;
+      reach = at_key_if (codes "reach") None reach_of (get (codes "reach") d) r.0 IsReach tt (λ e h. reach_ok e r.0 h) r.1;
+      some_clients = good_clients.some;
+      few_clients = good_clients.few;
+      plans = good_clients.all;
+      sessions = good_clients.sessions;
+      few_turns = good_turns.1;
+      turns = good_turns.0;
+    }) t.2
 
 pub scenario_good : (bytes : List ℕ) (s : Scenario) → scenario_of bytes ≡ Ok s → IsGoodScenario s
 unfolding scenario_of
 scenario_good bytes s is =
     either IsGoodScenario s (nat_lt 4194304 (length bytes)) _ _ (λ (e : ◌≡◌ {A = Read Scenario} (refuse causes.Size) (Ok s)). cc) (
     either IsGoodScenario s (is_utf8 bytes) _ _ (λ (e : (value_in bytes >>= scenario_in) ≡ Ok s). let p = bound (value_in bytes) scenario_in s e in scenario_ok p.0 s p.2)
-      (λ (e : ◌≡◌ {A = Read Scenario} (refuse causes.Json) (Ok s)). cc)) is
+    (λ (e : ◌≡◌ {A = Read Scenario} (refuse causes.Json) (Ok s)). cc)) is
 
 pub read_is_good : (bytes : List ℕ) (r : Result Scenario ReadFault) → Gives (λ s. s) r (scenario_of bytes) → IfOk r IsGoodScenario
 read_is_good bytes (Ok s) given = scenario_good bytes s given

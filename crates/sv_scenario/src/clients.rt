@@ -24,7 +24,11 @@ fn interest_in(alloc: Global, shape: Shape, value: &Value) -> Result<List<Object
     ensures { Gives (λ v. v) result (value_at (codes "interest") (interest_of shape.objects) (view value.now)) }
 {
     let interest = needed(alloc, "interest", value)?;
-    at_key(alloc, "interest", interest_of(alloc, shape.objects, interest))
+    at_key(
+        alloc,
+        "interest",
+        interest_of(alloc, shape.objects, interest),
+    )
 }
 
 fn steps_in(alloc: Global, shape: Shape, value: &Value) -> Result<List<Step>, ReadFault>

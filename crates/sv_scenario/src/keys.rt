@@ -75,11 +75,7 @@ pub(crate) fn keys_of(
 
 /// The value of a key that must be there.
 #[tactic(auto, unfolding(crate::specs::Keys::needed))]
-pub(crate) fn needed<'a>(
-    alloc: Global,
-    key: &str,
-    value: &'a Value,
-) -> Result<&'a Value, ReadFault>
+pub(crate) fn needed<'a>(alloc: Global, key: &str, value: &'a Value) -> Result<&'a Value, ReadFault>
     ensures { Gives (λ v. view v.now) result (needed key.now (view value.now)) }
 {
     match value.get(key) {

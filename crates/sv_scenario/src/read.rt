@@ -26,13 +26,7 @@ use sv_world::{List, Shape, World};
 /// A file has at most so many bytes.
 const LIMIT: usize = 4_194_304;
 
-fn number_in(
-    alloc: Global,
-    key: &str,
-    low: u32,
-    high: u32,
-    value: &Value,
-) -> Result<u32, ReadFault>
+fn number_in(alloc: Global, key: &str, low: u32, high: u32, value: &Value) -> Result<u32, ReadFault>
     ensures reads { Gives (λ n. n) result (value_at key.now (number_within low high) (view value.now)) }
     ensures high { IfOk result (λ n. n ≤ high) }
 {

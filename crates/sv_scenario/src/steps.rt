@@ -94,12 +94,7 @@ fn only<'a>(key: &str, value: &'a Value) -> Option<&'a Value>
 }
 
 #[tactic(auto, unfolding(crate::specs::Scripts::step_of))]
-fn step_of(
-    alloc: Global,
-    shape: Shape,
-    is_last: bool,
-    value: &Value,
-) -> Result<Step, ReadFault>
+fn step_of(alloc: Global, shape: Shape, is_last: bool, value: &Value) -> Result<Step, ReadFault>
     ensures { Gives (λ s. s) result (step_of shape is_last (view value.now)) }
 {
     if let Some(word) = value.as_str() {
@@ -140,11 +135,7 @@ fn each_step(alloc: Global, shape: Shape, values: &[Value]) -> Result<Vec<Step>,
 
 /// The steps of one client.
 #[tactic(auto, unfolding(crate::specs::Scripts::steps_of))]
-pub(crate) fn steps_of(
-    alloc: Global,
-    shape: Shape,
-    value: &Value,
-) -> Result<List<Step>, ReadFault>
+pub(crate) fn steps_of(alloc: Global, shape: Shape, value: &Value) -> Result<List<Step>, ReadFault>
     ensures { Gives (λ v. v) result (steps_of shape (view value.now)) }
 {
     let values = list_within(alloc, 0, 256, value)?;
