@@ -1,1 +1,6 @@
-
+pub mod Counts
+pub mod Decimals
+pub mod Kept
+pub mod Parts
+pub mod Sums
+pub mod Utf8

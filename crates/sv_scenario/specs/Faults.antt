@@ -1,5 +1,5 @@
 -- What is read of a value, or its first fault.
-use Rattle.std.specs.Prelude.{◌≡◌, ℕ, List, [], ◌∷◌, ◌++◌, length, Option, Some, None, Result, Ok, Err, decimal}
+use Rattle.std.specs.Prelude.{◌≡◌, ℕ, List, [], ◌∷◌, ◌++◌, length, Option, Some, None, Result, Ok, Err, ◌⊎◌, decimal}
 use Rattle.serde_json.specs.Data.{Data, Items, no_items, item}
 use Rattle.sv_scenario.specs.declared.fault.ScenarioFault.{ScenarioFault}
 use Rattle.sv_scenario.specs.declared.fault.ScenarioCause.{ScenarioCause}
@@ -46,3 +46,13 @@ abbrev pub Gives : {X Y : Type 0} → (X → Y) → Result X ReadFault → Read 
 Gives view (Ok x) read = read ≡ Ok (view x)
 Gives view (Err (faults.Scenario fault)) read = read ≡ Err fault
 Gives view (Err faults.Memory) read = Unit {0}
+
+-- A fault with a key before its path, unless memory ran out; for private clauses.
+abbrev pub IsInside : List ℕ → ReadFault → ReadFault → Type 0
+IsInside key (faults.Scenario fault) after = (after ≡ faults.Memory) ⊎ (after ≡ faults.Scenario (inside key fault))
+IsInside key faults.Memory after = after ≡ faults.Memory
+
+-- The same of what a function returned.
+abbrev pub IsAtKey : {X : Type 0} → List ℕ → Result X ReadFault → Result X ReadFault → Type 0
+IsAtKey key (Ok x) after = after ≡ Ok x
+IsAtKey key (Err fault) after = (moved : ReadFault) × (after ≡ Err moved) × IsInside key fault moved

@@ -3,14 +3,14 @@ use Rattle.std.specs.Prelude.{ℕ, Bool, cond, List, [], ◌∷◌, ◌++◌, Op
 use Rattle.std.specs.List.{list_any}
 use Rattle.std.specs.Str.{bytes_eq}
 use Rattle.serde_json.specs.Data.{Data, Members, no_members, member}
-use Rattle.serde_json.specs.Find.{as_object, get, get_member}
+use Rattle.serde_json.specs.Find.{as_object, get}
 use Rattle.sv_scenario.specs.declared.fault.ScenarioCause.TheVariants as causes
 use Rattle.sv_scenario.specs.Faults.{Read, ◌>>=◌, refuse, given, at_key}
 
 -- The first of some keys that an object lacks.
-abbrev pub first_missing : List (List ℕ) → Members → Option (List ℕ)
-first_missing [] ms = None
-first_missing (k ∷ ks) ms = cond (is_some (get_member k ms)) (first_missing ks ms) (Some k)
+abbrev pub first_missing : List (List ℕ) → Data → Option (List ℕ)
+first_missing [] d = None
+first_missing (k ∷ ks) d = cond (is_some (get k d)) (first_missing ks d) (Some k)
 
 abbrev pub is_among : List (List ℕ) → List ℕ → Bool
 is_among names k = list_any (bytes_eq k) names
@@ -32,16 +32,20 @@ no_key (Some key) = refuse_key key
 unfoldable pub keys_of : List (List ℕ) → List (List ℕ) → Data → Read ⊤
 keys_of needed others d = do
   ms ← given causes.Kind (as_object d)
-  _ ← no_key (first_missing needed ms)
+  _ ← no_key (first_missing needed d)
   no_key (first_unnamed (needed ++ others) ms)
 
-abbrev pub needed_by : {A : Type 0} → List ℕ → (Data → Read A) → Option Data → Read A
-needed_by key read (Some d) = at_key key (read d)
-needed_by key read None = refuse_key key
+-- The value of a key that must be there.
+abbrev pub found : List ℕ → Option Data → Read Data
+found key (Some d) = Ok d
+found key None = refuse_key key
 
--- What is read of the value of a key.
+unfoldable pub needed : List ℕ → Data → Read Data
+needed key d = found key (get key d)
+
+-- What is read of the value of such a key.
 abbrev pub value_at : {A : Type 0} → List ℕ → (Data → Read A) → Data → Read A
-value_at key read d = needed_by key read (get key d)
+value_at key read d = needed key d >>= λ e. at_key key (read e)
 
 abbrev pub wanted_by : {A : Type 0} → List ℕ → A → (Data → Read A) → Option Data → Read A
 wanted_by key otherwise read (Some d) = at_key key (read d)

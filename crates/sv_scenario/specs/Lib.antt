@@ -4,6 +4,7 @@ pub mod Numbers
 pub mod Objects
 pub mod Scripts
 pub mod Sessions
+pub mod Digits
 pub mod Turns
 pub mod Scenarios
 pub mod Limits

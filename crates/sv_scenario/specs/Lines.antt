@@ -30,6 +30,9 @@ cause_text causes.Last = codes "last"
 cause_text (causes.Text fault) = codes "text " ++ decimal fault.place ++ 32 ∷ decimal (text_cause_number fault.cause)
 cause_text (causes.Action cause) = codes "action " ++ decimal (cause_number cause)
 
+abbrev pub line_of : List ℕ → List ℕ → List ℕ
+line_of path cause = codes "scenario: " ++ path ++ codes ": " ++ cause ++ 10 ∷ []
+
 -- The path as it stands, and the cause.
 abbrev pub fault_line : ScenarioFault → List ℕ
-fault_line fault = codes "scenario: " ++ fault.path ++ codes ": " ++ cause_text fault.cause ++ 10 ∷ []
+fault_line fault = line_of fault.path (cause_text fault.cause)

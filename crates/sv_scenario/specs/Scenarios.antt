@@ -45,9 +45,13 @@ scenario_in d = do
   schedule ← value_if (codes "schedule") [] (turns_of (length clients) (sessions_in clients)) d
   Ok (record { world = world; bound = bound; reach = reach; clients = clients; schedule = schedule })
 
+-- The JSON value that a text is.
+abbrev pub value_in : List ℕ → Read Data
+value_in text = given causes.Json (read text)
+
 -- A file has at most 4,194,304 bytes, which are the UTF-8 of a JSON text.
 unfoldable pub scenario_of : List ℕ → Read Scenario
 scenario_of bytes =
     cond (nat_lt 4194304 (length bytes)) (refuse causes.Size)
-    (cond (is_utf8 bytes) (given causes.Json (read bytes) >>= scenario_in)
+    (cond (is_utf8 bytes) (value_in bytes >>= scenario_in)
     (refuse causes.Json))

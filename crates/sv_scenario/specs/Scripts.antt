@@ -36,6 +36,12 @@ act_of shape d = do
   action ← read_text (reading (tokens_of text))
   unless_bad action (first_fault_of_action shape action)
 
+abbrev pub act_step : Shape → Data → Read Step
+act_step shape d = at_key (codes "act") (act_of shape d) >>= λ action. Ok (steps.Act action)
+
+abbrev pub show_step : Shape → Data → Read Step
+show_step shape d = at_key (codes "show") (shown_of shape.objects d) >>= λ objects. Ok (steps.Show objects)
+
 -- A step that is a word. `quit` is the last one.
 unfoldable pub word_step : Bool → List ℕ → Read Step
 word_step is_last word =
@@ -60,8 +66,8 @@ only key d = cond (has_one (as_object d)) (get key d) None
 -- By the value's text, and the values of its one key `act` or `show`.
 abbrev pub step_by : Shape → Bool → Option (List ℕ) → Option Data → Option Data → Read Step
 step_by shape is_last (Some word) act show = word_step is_last word
-step_by shape is_last None (Some act) show = at_key (codes "act") (act_of shape act) >>= λ action. Ok (steps.Act action)
-step_by shape is_last None None (Some show) = at_key (codes "show") (shown_of shape.objects show) >>= λ objects. Ok (steps.Show objects)
+step_by shape is_last None (Some act) show = act_step shape act
+step_by shape is_last None None (Some show) = show_step shape show
 step_by shape is_last None None None = refuse causes.Kind
 
 unfoldable pub step_of : Shape → Bool → Data → Read Step

@@ -1,8 +1,24 @@
 //! Scenario files: the opening world, the limits and the scripts of a run, read from JSON.
 #![tactic(auto)]
 
+mod clients;
 mod fault;
+mod keys;
+mod line;
+mod numbers;
+mod objects;
+mod place;
+mod read;
 mod scenario;
+mod sessions;
+mod steps;
+mod turns;
 
 pub use fault::{ReadFault, ScenarioCause, ScenarioFault};
+pub use line::append_fault_line;
+pub use read::read_scenario;
 pub use scenario::{Plan, Scenario, Step, Turn};
+pub use sessions::{sessions_of, sessions_of_plan};
+
+#[cfg(test)]
+mod tests;

@@ -1,0 +1,11 @@
+use Rattle.std.proofs.Common.{◌≡◌, [], length}
+use Rattle.serde_json.specs.View.{items_view}
+use Rattle.sv_scenario.specs.Faults.{each}
+use Rattle.sv_scenario.specs.Turns.{turn_of}
+use Rattle.sv_scenario.proofs.turns.each_turn.Given as goal
+
+abbrev pub invariant-loop-rest : goal.invariant-loop-rest
+invariant-loop-rest l = each (turn_of l.clients l.sessions) l.all.items (items_view l.rest) ≡ each (turn_of l.clients l.sessions) [] (items_view l.values)
+
+abbrev pub decreases-loop-rest : goal.decreases-loop-rest
+decreases-loop-rest l = length l.rest
