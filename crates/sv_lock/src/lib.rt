@@ -1,0 +1,11 @@
+//! A ticket lock round an object whose steps have one history, whatever threads call them.
+//!
+//! An object is taken in turn. Each caller has a pass, in which a proof sees how much of the history
+//! the caller has seen, and which entries in it are its own.
+#![tactic(auto)]
+
+mod object;
+mod plays;
+mod view;
+
+pub use object::Object;
