@@ -15,7 +15,7 @@ use Rattle.sv_lock.specs.declared.view.View.{View}
 use Rattle.sv_lock.specs.declared.view.Stage.{Stage}
 use Rattle.sv_lock.specs.declared.view.Stage.TheVariants.{Idle, Waits, Holds}
 use Rattle.sv_lock.specs.Histories.{entries_of, AreJust, AreBelow}
-use Rattle.sv_lock.specs.Line.{tickets, out, IsBusy, InLine, IsOwn, Knows, IsHome, IsOut, OneHistory, staged, first_keeper, one_more, next_pass, taken_in, spent, drew, Took, looked, renewed, returned, Learned, learned}
+use Rattle.sv_lock.specs.Line.{tickets, out, IsBusy, InLine, IsOwn, Knows, IsHome, IsOut, OneHistory, staged, first_keeper, one_more, next_pass, taken_in, spent, drew, Took, looked, renewed, Follows, MayReturn, returned, Learned, learned}
 use Rattle.sv_lock.proofs.Histories.{prefix_self, prefix_none, prefix_trans, prefix_more, one_more_entry, other_entry, none_above}
 use Rattle.sv_lock.proofs.Lines.{here, snoc, same_place, single, seats_stay, put, put_here, put_else, rank, ticket, out_set, out_append, out_few, apart, line_grows, line_moves, line_owns}
 
@@ -40,8 +40,8 @@ module _ {S B E : Type 0} (base_of : S → B) (history_of : S → List E) (lawfu
       let other = apart vs id o.1 v o.2 at o.3 (λ e. idle (e ∙ ap rank o.4)) in (o.0, o.1, o.2, set_else vs id o.1 w other ∙ o.3, o.4)
 
   -- a seat draws a ticket
-  pub draws : (id : ℕ) (m : M) (x : ℕ × List E) → m.0.stage ≡ Idle → m.0.lists ≡ x ∷ [] → Allows Rule 1 id m 0 (λ n. (n + 1) % 2 ^ 64) (drew (step 1 0 1 0 none) m)
-  draws id m x idle owned s r deep at small =
+  pub draws : (slots id : ℕ) (m : M) (x : ℕ × List E) → m.0.stage ≡ Idle → m.0.lists ≡ x ∷ [] → Allows Rule slots id m 0 (λ n. (n + 1) % 2 ^ 64) (drew (step slots 0 1 0 none) m)
+  draws slots id m x idle owned s r deep at small =
       let w : View B E = staged m.0 (Waits r.next) m.0.seen m.0.lists in
       let k = r.each_seat id m.0 at in
       let own : All (IsOwn number_of r.log r.made r.owner id) (x ∷ []) = subst (All (IsOwn number_of r.log r.made r.owner id)) owned k.own in
@@ -131,8 +131,8 @@ module _ {S B E : Type 0} (base_of : S → B) (history_of : S → List E) (lawfu
       }
 
   -- it looks at the word that says who is served
-  pub looks : (id t : ℕ) (m : M) (b : B) → m.0.stage ≡ Waits t → m.0.base ≡ Some b → Allows Rule 1 id m 1 (λ n. n) (looked base_of history_of number_of (step 1 1 0 0 none) m)
-  looks id t m c waits based s r deep at small = look (found == t % 2 ^ 64) refl r.slot
+  pub looks : (slots id t : ℕ) (m : M) (b : B) → m.0.stage ≡ Waits t → m.0.base ≡ Some b → Allows Rule slots id m 1 (λ n. n) (looked base_of history_of number_of (step slots 1 0 0 none) m)
+  looks slots id t m c waits based s r deep at small = look (found == t % 2 ^ 64) refl r.slot
     where
       found : ℕ
       found = get_or s.words 1 0
@@ -154,7 +154,7 @@ module _ {S B E : Type 0} (base_of : S → B) (history_of : S → List E) (lawfu
           sym (one_turn r.turn t (2 ^ 64) le near (ap (λ (l : List ℕ). get_or l 1 0) (sym r.words) ∙ eqb-true found (t % 2 ^ 64) e))
 
       Told : M → Type 0
-      Told m' = looked base_of history_of number_of (step 1 1 0 0 none) m found m'
+      Told m' = looked base_of history_of number_of (step slots 1 0 0 none) m found m'
 
       look : (b : Bool) → (found == t % 2 ^ 64) ≡ b → IsHome base_of history_of base r.log s.homes ⊎ IsOut r.turn s.homes s.views
           → (w : View B E) × (a : Act S) × Rattle.atomic_table.specs.Table.Valid s.homes m.1 a × Rule (stepped s 1 found id m.1 w a) × Told (w, Rattle.atomic_table.specs.Table.carried_after m.1 a)
@@ -190,22 +190,18 @@ module _ {S B E : Type 0} (base_of : S → B) (history_of : S → List E) (lawfu
           let other : o.1 ≢ id = apart s.views id o.1 m.0 o.2 at o.3 (λ q. let one = ap rank waits in let two = ap rank o.4 in omega arith) in
           absurd (other (sym at_turn.2 ∙ (ap r.queue (sym (its_turn e)) ∙ line.2)))
 
-  -- after the step of this number the object has the history that its holder saw, or one entry more
-  abbrev Follows : ℕ → List E → List E → Type 0
-  Follows n seen h = (h ≡ seen) ⊎ ((e : E) × (h ≡ seen ++ e ∷ []) × (number_of e ≡ n))
-
-  follows_on : (n : ℕ) (seen h : List E) → Follows n seen h → IsPrefix seen h
+  follows_on : (n : ℕ) (seen h : List E) → Follows number_of n seen h → IsPrefix seen h
   follows_on n seen h (inl e) = subst (IsPrefix seen) (sym e) (prefix_self seen)
   follows_on n seen h (inr e) = (e.0 ∷ [], sym e.1)
 
   -- what follows is below what the lock has made,
-  follows_below : (n made : ℕ) (seen h : List E) → n < made → Follows n seen h → AreBelow number_of made seen → AreBelow number_of made h
+  follows_below : (n made : ℕ) (seen h : List E) → n < made → Follows number_of n seen h → AreBelow number_of made seen → AreBelow number_of made h
   follows_below n made seen h lt (inl e) below = subst (AreBelow number_of made) (sym e) below
   follows_below n made seen h lt (inr e) below = subst (AreBelow number_of made) (sym e.1)
       (All-push (λ (x : E). number_of x < made) seen e.0 below (let is = e.2 in omega arith))
 
   -- and another number has the entries that it had
-  follows_other : (n k : ℕ) (seen h : List E) → k ≢ n → Follows n seen h → entries_of number_of k h ≡ entries_of number_of k seen
+  follows_other : (n k : ℕ) (seen h : List E) → k ≢ n → Follows number_of n seen h → entries_of number_of k h ≡ entries_of number_of k seen
   follows_other n k seen h other (inl e) = ap (entries_of number_of k) e
   follows_other n k seen h other (inr e) = ap (entries_of number_of k) e.1 ∙ other_entry number_of k seen e.0 (λ q. other (sym q ∙ e.2))
 
@@ -213,10 +209,9 @@ module _ {S B E : Type 0} (base_of : S → B) (history_of : S → List E) (lawfu
   held_or d [] = d
   held_or d (x ∷ xs) = x.1
 
-  -- a seat gives the object back
-  pub returns : (id t n : ℕ) (mine : List E) (y : S) (m : M) → m.0.stage ≡ Holds t → m.0.lists ≡ (n, mine) ∷ [] → m.0.base ≡ Some (base_of y) → m.1 ≡ (0, y) ∷ []
-      → lawful (base_of y) (history_of y) → Follows n m.0.seen (history_of y) → Allows Rule 1 id m 1 (λ n. (n + 1) % 2 ^ 64) (returned history_of number_of (step 1 1 1 0 none) m)
-  returns id t n mine y m holds owned based hand legal follows s r deep at small = (
+  gives_back : (slots id t n : ℕ) (mine : List E) (y : S) (m : M) → slots ≡ 1 → m.0.stage ≡ Holds t → m.0.lists ≡ (n, mine) ∷ [] → m.0.base ≡ Some (base_of y) → m.1 ≡ (0, y) ∷ []
+      → lawful (base_of y) (history_of y) → Follows number_of n m.0.seen (history_of y) → Allows Rule slots id m 1 (λ n. (n + 1) % 2 ^ 64) (returned history_of number_of (step slots 1 1 0 none) m)
+  gives_back slots id t n mine y m one_slot holds owned based hand legal follows s r deep at small = (
     w,
     gives,
     tt,
@@ -281,8 +276,8 @@ module _ {S B E : Type 0} (base_of : S → B) (history_of : S → List E) (lawfu
       served : r.queue r.turn ≡ id
       served = ap r.queue (sym line.0) ∙ line.2
 
-      follows' : Follows n r.log h
-      follows' = subst (λ (l : List E). Follows n l h) line.4 follows
+      follows' : Follows number_of n r.log h
+      follows' = subst (λ (l : List E). Follows number_of n l h) line.4 follows
 
       goes_on : IsPrefix r.log h
       goes_on = follows_on n r.log h follows'
@@ -297,7 +292,11 @@ module _ {S B E : Type 0} (base_of : S → B) (history_of : S → List E) (lawfu
       own = All-head (IsOwn number_of r.log r.made r.owner id) (n, mine) [] (subst (All (IsOwn number_of r.log r.made r.owner id)) owned k.own)
 
       homes' : homes_after s.homes m.1 gives ≡ some y ∷ []
-      homes' = ap (Rattle.atomic_table.specs.Table.put_back s.homes) hand ∙ single s.homes (some y) deep
+      homes' = ap (Rattle.atomic_table.specs.Table.put_back s.homes) hand ∙ single s.homes (some y) (deep ∙ one_slot)
+
+  -- a seat gives the object back
+  pub returns : (slots id : ℕ) (m : M) → slots ≡ 1 → MayReturn base_of history_of lawful number_of m → Allows Rule slots id m 1 (λ n. (n + 1) % 2 ^ 64) (returned history_of number_of (step slots 1 1 0 none) m)
+  returns slots id m one_slot may = gives_back slots id may.turn may.number may.mine may.object m one_slot may.holds may.own may.based may.hand may.legal may.follows
 
   -- the table as it is made
   pub opens : (x : S) → base_of x ≡ base → history_of x ≡ [] → lawful base [] → Rule (opening (0 ∷ 0 ∷ []) (x ∷ []) (first_keeper base))
@@ -510,8 +509,8 @@ module _ {S B E : Type 0} (base_of : S → B) (history_of : S → List E) (lawfu
       }
 
   -- a seat sees the whole history
-  pub learns : (id : ℕ) (m : M) → m.0.stage ≡ Idle → Allows Rule 1 id m 0 (λ n. n) (learned lawful number_of (step 1 0 0 0 none) m)
-  learns id m idle s r deep at small =
+  pub learns : (slots id : ℕ) (m : M) → m.0.stage ≡ Idle → Allows Rule slots id m 0 (λ n. n) (learned lawful number_of (step slots 0 0 0 none) m)
+  learns slots id m idle s r deep at small =
       let w : View B E = staged m.0 Idle r.log m.0.lists in
       let k = r.each_seat id m.0 at in
       let same_out : out (set s.views id w) + tickets m.0.stage ≡ out s.views + 0 = out_set s.views id m.0 w at in

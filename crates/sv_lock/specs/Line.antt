@@ -117,6 +117,23 @@ abbrev pub looked : {S B E : Type 0} → (S → B) → (S → List E) → (E →
 looked base_of history_of number_of step m found m' =
     (t : ℕ) → m.0.stage ≡ Waits t → MatchBool (found == t % 2 ^ 64) (Took base_of history_of number_of t m m') (m' ≡ m)
 
+-- After a step of this number the history is the same, or it has one entry more, of that number.
+abbrev pub Follows : {E : Type 0} → (E → ℕ) → ℕ → List E → List E → Type 0
+Follows {E} number_of n seen h = (h ≡ seen) ⊎ ((e : E) × (h ≡ seen ++ e ∷ []) × (number_of e ≡ n))
+
+-- A seat that stands for one number holds the object y after its step.
+pub record MayReturn {S B E : Type 0} (base_of : S → B) (history_of : S → List E) (lawful : B → List E → Type 0) (number_of : E → ℕ) (m : Me S (View B E)) : Type 0 where
+  pub turn : ℕ
+  pub number : ℕ
+  pub mine : List E
+  pub object : S
+  pub holds : m.0.stage ≡ Holds turn
+  pub own : m.0.lists ≡ (number, mine) ∷ []
+  pub based : m.0.base ≡ Some (base_of object)
+  pub hand : m.1 ≡ (0, object) ∷ []
+  pub legal : lawful (base_of object) (history_of object)
+  pub follows : Follows number_of number m.0.seen (history_of object)
+
 -- The numbers of the list, each with its entries in this history.
 abbrev pub renewed : {E : Type 0} → (E → ℕ) → List E → List (ℕ × List E) → List (ℕ × List E)
 renewed number_of log lists = map (λ x. (x.0, entries_of number_of x.0 log)) lists
