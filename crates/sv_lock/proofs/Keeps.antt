@@ -19,6 +19,11 @@ use Rattle.sv_lock.specs.Line.{tickets, out, IsBusy, InLine, IsOwn, Knows, IsHom
 use Rattle.sv_lock.proofs.Histories.{prefix_self, prefix_none, prefix_trans, prefix_more, one_more_entry, other_entry, none_above}
 use Rattle.sv_lock.proofs.Lines.{here, snoc, same_place, single, seats_stay, put, put_here, put_else, rank, ticket, out_set, out_append, out_few, apart, line_grows, line_moves, line_owns}
 
+-- what is in hand
+abbrev pub held_or : {S : Type 0} → S → List (ℕ × S) → S
+held_or d [] = d
+held_or d (x ∷ xs) = x.1
+
 module _ {S B E : Type 0} (base_of : S → B) (history_of : S → List E) (lawful : B → List E → Type 0) (number_of : E → ℕ) (base : B) where
   abbrev Rule : State S (View B E) → Type 0
   Rule = OneHistory base_of history_of lawful number_of base
@@ -204,10 +209,6 @@ module _ {S B E : Type 0} (base_of : S → B) (history_of : S → List E) (lawfu
   follows_other : (n k : ℕ) (seen h : List E) → k ≢ n → Follows number_of n seen h → entries_of number_of k h ≡ entries_of number_of k seen
   follows_other n k seen h other (inl e) = ap (entries_of number_of k) e
   follows_other n k seen h other (inr e) = ap (entries_of number_of k) e.1 ∙ other_entry number_of k seen e.0 (λ q. other (sym q ∙ e.2))
-
-  abbrev held_or : S → List (ℕ × S) → S
-  held_or d [] = d
-  held_or d (x ∷ xs) = x.1
 
   gives_back : (slots id t n : ℕ) (mine : List E) (y : S) (m : M) → slots ≡ 1 → m.0.stage ≡ Holds t → m.0.lists ≡ (n, mine) ∷ [] → m.0.base ≡ Some (base_of y) → m.1 ≡ (0, y) ∷ []
       → lawful (base_of y) (history_of y) → Follows number_of n m.0.seen (history_of y) → Allows Rule slots id m 1 (λ n. (n + 1) % 2 ^ 64) (returned history_of number_of (step slots 1 1 0 none) m)

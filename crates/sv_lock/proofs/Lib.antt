@@ -1,3 +1,4 @@
 pub mod Histories
 pub mod Lines
 pub mod Keeps
+pub mod Calls

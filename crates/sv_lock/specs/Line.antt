@@ -2,7 +2,7 @@
 -- just one seat. And what each step tells.
 -- Tickets are drawn from `next` on, and the ticket `turn` is served. `queue` is the seat of each ticket that is out, `owner` the seat that stands
 -- for each number.
-use Rattle.std.specs.Prelude.{◌≡◌, ◌⊎◌, ℕ, ◌+◌, ◌%◌, ◌^◌, ◌<◌, ◌≤◌, ◌==◌, Bool, true, false, MatchBool, List, [], ◌∷◌, ◌++◌, map, length, All, Option, Some, None}
+use Rattle.std.specs.Prelude.{◌≡◌, ◌⊎◌, ℕ, ◌+◌, ◌%◌, ◌^◌, ◌<◌, ◌≤◌, ◌==◌, Bool, true, false, MatchBool, List, [], ◌∷◌, ◌++◌, map, length, All, Option, Some, None, Result, MatchResult, IfOk}
 use mathlib.Core.List.{IsPrefix}
 use mathlib.Core.Option.{some, none}
 use lib.ListN.{get_elem?}
@@ -10,7 +10,7 @@ use Rattle.atomic_table.specs.Table.{State, Me, Step}
 use Rattle.sv_lock.specs.declared.view.View.{View}
 use Rattle.sv_lock.specs.declared.view.Stage.{Stage}
 use Rattle.sv_lock.specs.declared.view.Stage.TheVariants.{Idle, Waits, Holds}
-use Rattle.sv_lock.specs.Histories.{entries_of, AreJust, AreBelow}
+use Rattle.sv_lock.specs.Histories.{entries_of, AreJust, AreBelow, GoesOn}
 
 -- How many tickets of a seat are out, and of all seats.
 abbrev pub tickets : Stage → ℕ
@@ -155,3 +155,13 @@ pub record Learned {S B E : Type 0} (lawful : B → List E → Type 0) (number_o
 
 abbrev pub learned : {S B E : Type 0} → (B → List E → Type 0) → (E → ℕ) → Step S → Me S (View B E) → ℕ → Me S (View B E) → Type 0
 learned lawful number_of step m found m' = Learned lawful number_of m m'
+
+-- A call was carried through, or memory ran out. The seat has seen the whole history as it was then, and in it its number n has just what it
+-- had, and after a reply the reply's entry. `mine` is what the number had before.
+pub record Ran {S B E R X : Type 0} (lawful : B → List E → Type 0) (number_of : E → ℕ) (n : ℕ) (mine : List E) (entry : R → E) (whole : R → List E → Type 0) (m m' : Me S (View B E)) (result : Result R X) : Type 0 where
+  pub log : List E
+  pub seat : m' ≡ (staged m.0 Idle log (renewed number_of log m.0.lists), [])
+  pub legal : (b : B) → m.0.base ≡ Some b → lawful b log
+  pub seen : MatchResult result (λ r. GoesOn m.0.seen (entry r) log) (λ _. IsPrefix m.0.seen log)
+  pub mine_now : MatchResult result (λ r. entries_of number_of n log ≡ mine ++ entry r ∷ []) (λ _. entries_of number_of n log ≡ mine)
+  pub whole_now : IfOk result (λ r. whole r log)

@@ -3,7 +3,8 @@ ghost use Rattle.std.specs.Prelude.{◌≡◌, ℕ, ◌+◌, ◌%◌, ◌^◌, �
 ghost use mathlib.Core.List.{IsPrefix};
 ghost use Rattle.sv_lock.specs.declared.view.Stage.TheVariants.{Idle, Waits, Holds};
 ghost use Rattle.sv_lock.specs.Histories.{entries_of, AreJust, AreBelow, GoesOn};
-ghost use Rattle.sv_lock.specs.Line.{staged, renewed, Took, MayReturn, Learned, first_keeper};
+ghost use Rattle.sv_lock.specs.Line.{staged, renewed, Took, MayReturn, Ran};
+ghost use Rattle.sv_lock.specs.Rest.{first_list};
 
 use crate::object::Object;
 use crate::plays::{Cut, Draw, Glue, Learn, Line, Look, Place, Return};
@@ -75,6 +76,41 @@ impl<O: Object> Desk<O> {
         let object = seat.slot_mut(&self.table.shared, 0);
         let reply = object.step(number, request);
         object.certify();
+        reply
+    }
+
+    // Waits for its turn, and has the object in hand then.
+    fn take<R: Wait>(&self, rt: &R, seat: &mut Place<O>)
+        requires table { seat.old.table_id ≡ self.now.table.shared.table_id }
+        requires idle { seat.old.me.0.stage ≡ Idle }
+        requires number { (x : ℕ × List O.Entry) × (seat.old.me.0.lists ≡ x ∷ []) }
+        requires based { (b : O.Base) × (seat.old.me.0.base ≡ Some b) }
+        ensures table { seat.new.table_id ≡ seat.old.table_id }
+        ensures took { (t : ℕ) × Took O.base O.history O.number_of t seat.old.me seat.new.me }
+    {
+        let ticket = self.draw(seat);
+        self.wait(rt, seat, ticket);
+    }
+
+    /// One call by the seat of a session's pass.
+    pub fn run<R: Wait>(
+        &self,
+        rt: &R,
+        seat: &mut Place<O>,
+        number: u16,
+        request: &O::Request,
+    ) -> Result<O::Reply, AllocError>
+        requires table { seat.old.table_id ≡ self.now.table.shared.table_id }
+        requires idle { (seat.old.me.0.stage ≡ Idle) × (seat.old.me.1 ≡ []) }
+        requires number { seat.old.me.0.lists ≡ (number, first_list seat.old.me.0.lists) ∷ [] }
+        requires can { (b : O.Base) × (seat.old.me.0.base ≡ Some b) × O.can_step b number request.now (first_list seat.old.me.0.lists) }
+        ensures table { seat.new.table_id ≡ seat.old.table_id }
+        ensures plain { O.is_plain request.now → IsOk result }
+        ensures ran { Ran O.lawful O.number_of number (first_list seat.old.me.0.lists) (O.entry number request.now) O.whole seat.old.me seat.new.me result }
+    {
+        self.take(rt, seat);
+        let reply = self.step(seat, number, request);
+        self.give_back(seat);
         reply
     }
 }

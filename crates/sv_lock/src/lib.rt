@@ -5,8 +5,12 @@
 #![tactic(auto)]
 
 mod desk;
+mod lock;
 mod object;
+mod pass;
 mod plays;
 mod view;
 
+pub use lock::SeqLock;
 pub use object::Object;
+pub use pass::Pass;
