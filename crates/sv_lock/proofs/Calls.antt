@@ -1,5 +1,6 @@
 -- One call: from what its steps tell to what it has done.
-use Rattle.std.proofs.Common.{◌≡◌, ℕ, ◌+◌, ◌%◌, ◌^◌, List, [], ◌∷◌, ◌++◌, All, Option, Some, None, Result, Ok, Err, MatchResult, IfOk, OnErr, sym, refl, ap, ◌∙◌, subst, inl, inr}
+use Rattle.std.proofs.Common.{◌≡◌, ℕ, ◌+◌, ◌%◌, ◌^◌, ◌<◌, List, [], ◌∷◌, ◌++◌, map, All, Contains, Option, Some, None, IsSome, Result, Ok, Err, MatchResult, IfOk, OnErr, sym, refl, ap, ◌∙◌, subst, inl, inr, arith}
+use mathlib.Core.Bool.{false≢true}
 use mathlib.Core.List.{IsPrefix}
 use Rattle.std.proofs.lemmas.List.Elements.{All-head}
 use Rattle.atomic_table.specs.Table.{Me}
@@ -7,6 +8,7 @@ use Rattle.sv_lock.specs.declared.view.View.{View}
 use Rattle.sv_lock.specs.declared.view.Stage.TheVariants.{Idle, Waits, Holds}
 use Rattle.sv_lock.specs.Histories.{entries_of, AreJust, GoesOn}
 use Rattle.sv_lock.specs.Line.{staged, renewed, Took, Follows, MayReturn, Ran}
+use Rattle.sv_lock.specs.Rest.{the, ended_in}
 use Rattle.sv_lock.proofs.Histories.{one_more_entry}
 use Rattle.sv_lock.proofs.Keeps.{held_or}
 
@@ -92,3 +94,13 @@ module _ {S B E R X : Type 0} (base_of : S → B) (history_of : S → List E) (l
         mine_now = has_now n mine (history_of f.0) h of_number had result f.6 f.8;
         whole_now = f.7;
       }
+
+-- what the keeper took in, in its seat
+pub all_in : {E : Type 0} (session : Option ℕ) (lists ended : List (ℕ × List E)) (made made' : ℕ) → session ≡ None → ended_in session lists ≡ ended → made ≡ made'
+    → ((n : ℕ) → n < made' → Contains (map (λ (x : ℕ × List E). x.0) ended) n) → (n : ℕ) → n < made → Contains (map (λ (x : ℕ × List E). x.0) lists) n
+all_in {E} session lists ended made made' none_is is same all n lt =
+    subst (λ (l : List (ℕ × List E)). Contains (map (λ (x : ℕ × List E). x.0) l) n) (sym is ∙ ap (λ s. ended_in s lists) none_is) (all n (omega arith))
+
+pub some_the : {B : Type 0} (o : Option B) (there : IsSome o) → o ≡ Some (the o there)
+some_the (Some b) there = refl
+some_the None there = absurd (false≢true there)

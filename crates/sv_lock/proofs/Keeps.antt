@@ -15,7 +15,7 @@ use Rattle.sv_lock.specs.declared.view.View.{View}
 use Rattle.sv_lock.specs.declared.view.Stage.{Stage}
 use Rattle.sv_lock.specs.declared.view.Stage.TheVariants.{Idle, Waits, Holds}
 use Rattle.sv_lock.specs.Histories.{entries_of, AreJust, AreBelow}
-use Rattle.sv_lock.specs.Line.{tickets, out, IsBusy, InLine, IsOwn, Knows, IsHome, IsOut, OneHistory, staged, first_keeper, one_more, next_pass, taken_in, spent, drew, Took, looked, renewed, Follows, MayReturn, returned, Learned, learned}
+use Rattle.sv_lock.specs.Line.{tickets, out, IsBusy, InLine, IsOwn, Knows, IsHome, IsOut, OneHistory, staged, first_keeper, one_more, next_pass, taken_in, spent, drew, Took, looked, renewed, Follows, MayReturn, returned, Learned, learned, Closes}
 use Rattle.sv_lock.proofs.Histories.{prefix_self, prefix_none, prefix_trans, prefix_more, one_more_entry, other_entry, none_above}
 use Rattle.sv_lock.proofs.Lines.{here, snoc, same_place, single, seats_stay, put, put_here, put_else, rank, ticket, out_set, out_append, out_few, apart, line_grows, line_moves, line_owns}
 
@@ -551,27 +551,20 @@ module _ {S B E : Type 0} (base_of : S → B) (history_of : S → List E) (lawfu
         },
       )
 
-  -- what the object is when all passes are joined
-  pub record Closes (v : View B E) (b : B) (x : S) : Type 0 where
-    pub same : base_of x ≡ b
-    pub seen : IsPrefix v.seen (history_of x)
-    pub just : AreJust number_of (history_of x) v.lists
-    pub below : AreBelow number_of v.made (history_of x)
-    pub legal : lawful b (history_of x)
-
+  -- all passes are joined, and the object comes out
   pub closes : (id : ℕ) (v : View B E) (b : B) (ws : List ℕ) (xs : List S) (x : S) → v.stage ≡ Idle → v.keeps ≡ true → v.base ≡ Some b
       → ((n : ℕ) → n < v.made → Contains (map (λ (y : ℕ × List E). y.0) v.lists) n)
-      → Final (Seen Rule id v) ws xs → get_elem? xs 0 ≡ some x → Closes v b x
+      → Final (Seen Rule id v) ws xs → get_elem? xs 0 ≡ some x → Closes base_of history_of lawful number_of v x
   closes id v b ws xs x idle keeping based all f at_x = ends f.0 f.1.0 f.1.1 f.4 f.1.0.slot
     where
       ends : (s : State S (View B E)) (r : Rule s) → get_elem? s.views id ≡ some v → ((k : ℕ) (y : S) → get_elem? s.homes k ≡ some (some y) → get_elem? xs k ≡ some y)
-          → IsHome base_of history_of base r.log s.homes ⊎ IsOut r.turn s.homes s.views → Closes v b x
+          → IsHome base_of history_of base r.log s.homes ⊎ IsOut r.turn s.homes s.views → Closes base_of history_of lawful number_of v x
       ends s r at kept (inl home) =
           let k = r.each_seat id v at in
           let same : home.0 ≡ x = some-injective home.0 x (sym (kept 0 home.0 (ap (λ (l : List (maybe.Option S)). get_elem? l 0) home.1)) ∙ at_x) in
           let is_log : r.log ≡ history_of x = sym home.3 ∙ ap history_of same in
-          let is_base : base ≡ b = sym (k.same b based) in record {
-            same = ap base_of (sym same) ∙ (home.2 ∙ is_base);
+          let is_base : base ≡ base_of x = sym home.2 ∙ ap base_of same in record {
+            same = based ∙ ap Some (k.same b based ∙ is_base);
             seen = subst (IsPrefix v.seen) is_log k.seen;
             just = subst (λ (h : List E). AreJust number_of h v.lists) is_log
                 (All-weaker (IsOwn number_of r.log r.made r.owner id) (λ y. entries_of number_of y.0 r.log ≡ y.1) (λ y own. own.2) v.lists k.own);

@@ -165,3 +165,11 @@ pub record Ran {S B E R X : Type 0} (lawful : B → List E → Type 0) (number_o
   pub seen : MatchResult result (λ r. GoesOn m.0.seen (entry r) log) (λ _. IsPrefix m.0.seen log)
   pub mine_now : MatchResult result (λ r. entries_of number_of n log ≡ mine ++ entry r ∷ []) (λ _. entries_of number_of n log ≡ mine)
   pub whole_now : IfOk result (λ r. whole r log)
+
+-- The object as the table had it at the end, where no seat but the one of this view has a number.
+pub record Closes {S B E : Type 0} (base_of : S → B) (history_of : S → List E) (lawful : B → List E → Type 0) (number_of : E → ℕ) (v : View B E) (object : S) : Type 0 where
+  pub same : v.base ≡ Some (base_of object)
+  pub seen : IsPrefix v.seen (history_of object)
+  pub just : AreJust number_of (history_of object) v.lists
+  pub below : AreBelow number_of v.made (history_of object)
+  pub legal : lawful (base_of object) (history_of object)

@@ -1,14 +1,16 @@
 //! The table with its line of callers: the steps of one seat, each on its own.
-ghost use Rattle.std.specs.Prelude.{◌≡◌, ℕ, ◌+◌, ◌%◌, ◌^◌, ◌<◌, List, [], ◌∷◌, ◌++◌, map, Contains, Option, Some, None, IfOk, OnErr, IsOk, MatchBool};
+ghost use Rattle.std.specs.Prelude.{◌≡◌, ℕ, ◌+◌, ◌%◌, ◌^◌, ◌<◌, List, [], ◌∷◌, ◌++◌, map, Contains, Option, Some, None, IfOk, IfErr, OnErr, IsOk, IsSome, MatchBool, MatchResult, true, length};
 ghost use mathlib.Core.List.{IsPrefix};
 ghost use Rattle.sv_lock.specs.declared.view.Stage.TheVariants.{Idle, Waits, Holds};
 ghost use Rattle.sv_lock.specs.Histories.{entries_of, AreJust, AreBelow, GoesOn};
-ghost use Rattle.sv_lock.specs.Line.{staged, renewed, Took, MayReturn, Ran};
+ghost use Rattle.sv_lock.specs.Line.{staged, renewed, one_more, next_pass, taken_in, first_keeper, Took, MayReturn, Ran, Learned, Closes};
 ghost use Rattle.sv_lock.specs.Rest.{first_list};
 
 use crate::object::Object;
 use crate::plays::{Cut, Draw, Glue, Learn, Line, Look, Place, Return};
-use std::alloc::AllocError;
+use atomic_table::{Refused, Table};
+use std::alloc::{AllocError, Global};
+use std::snapshot::Snapshot;
 use std::sync::Wait;
 use std::thread;
 
@@ -113,4 +115,81 @@ impl<O: Object> Desk<O> {
         self.give_back(seat);
         reply
     }
+
+    /// Makes the seat of the next pass.
+    pub fn cut(&self, keeper: &mut Place<O>) -> Place<O>
+        requires table { keeper.old.table_id ≡ self.now.table.shared.table_id }
+        requires keeper { (keeper.old.me.0.stage ≡ Idle) × (keeper.old.me.0.keeps ≡ true) }
+        requires room { keeper.old.me.0.made < 64 }
+        ensures keeper { (keeper.new.table_id ≡ keeper.old.table_id) × (keeper.new.me ≡ (one_more keeper.old.me.0, keeper.old.me.1)) }
+        ensures pass { (result.table_id ≡ keeper.old.table_id) × (result.me ≡ (next_pass keeper.old.me.0, [])) }
+    {
+        self.table.shared.split_seat::<Cut>(keeper)
+    }
+
+    /// Takes a pass's seat in, and sees the whole history.
+    pub fn glue(&self, keeper: &mut Place<O>, other: Place<O>)
+        requires tables { (keeper.old.table_id ≡ self.now.table.shared.table_id) × (other.table_id ≡ self.now.table.shared.table_id) }
+        requires keeper { (keeper.old.me.0.stage ≡ Idle) × (keeper.old.me.1 ≡ []) }
+        requires other { (other.me.0.stage ≡ Idle) × (other.me.1 ≡ []) }
+        ensures table { keeper.new.table_id ≡ keeper.old.table_id }
+        ensures learned { Learned O.lawful O.number_of (taken_in keeper.old.me.0 other.me.0, keeper.old.me.1) keeper.new.me }
+    {
+        self.table.shared.join_seat::<Glue>(keeper, other);
+        self.table.shared.load::<Learn>(keeper, 0);
+    }
+
+    /// The table of an object, and the keeper's seat. Without memory the object comes back.
+    pub fn open(alloc: Global, object: O) -> Result<(Desk<O>, Place<O>), O>
+        requires { O.history object ≡ [] }
+        ensures ok { IfOk result (λ r. (r.1.table_id ≡ r.0.table.shared.table_id) × (r.1.me ≡ (first_keeper (O.base object), []))) }
+        ensures err { IfErr result (λ o. o ≡ object) }
+    {
+        object.certify();
+        let opening = Snapshot::of(&object);
+        let slots = one_slot(alloc, object)?;
+        match Table::new(alloc, [0, 0].as_slice(), slots, &opening) {
+            Ok((table, seat)) => Ok((Desk { table }, seat)),
+            Err(Refused { slots }) => Err(only(slots)),
+        }
+    }
+
+    /// The object, once no other seat has a number.
+    pub fn close(self, keeper: Place<O>) -> O
+        requires table { keeper.table_id ≡ self.table.shared.table_id }
+        requires keeper { (keeper.me.0.stage ≡ Idle) × (keeper.me.0.keeps ≡ true) }
+        requires based { IsSome keeper.me.0.base }
+        requires all { (n : ℕ) → n < keeper.me.0.made → Contains (map (λ x. x.0) keeper.me.0.lists) n }
+        ensures { Closes O.base O.history O.lawful O.number_of keeper.me.0 result }
+    {
+        let Desk { table } = self;
+        let mut closed = table.close_with(keeper);
+        let object = closed.take(0);
+        closed.free();
+        object
+    }
+}
+
+fn one_slot<T>(alloc: Global, value: T) -> Result<Vec<T>, T>
+    ensures { MatchResult result (λ v. v.items ≡ value ∷ []) (λ x. x ≡ value) }
+{
+    let mut slots = Vec::new(alloc);
+    match slots.push(value) {
+        Ok(()) => Ok(slots),
+        Err(failed) => {
+            slots.destroy_empty();
+            Err(failed.value)
+        }
+    }
+}
+
+fn only<T>(mut slots: Vec<T>) -> T
+    requires { length slots.items ≡ 1 }
+    ensures { slots.items ≡ result ∷ [] }
+{
+    let Some(value) = slots.pop() else {
+        unreachable!()
+    };
+    slots.destroy_empty();
+    value
 }

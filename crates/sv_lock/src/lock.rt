@@ -6,10 +6,8 @@ ghost use Rattle.sv_lock.specs.Passes.{session_number, AllEnded};
 use crate::desk::Desk;
 use crate::object::Object;
 use crate::pass::Pass;
-use crate::plays::{Cut, Glue, Learn, Line, Place};
 use std::alloc::{AllocError, Global};
 use std::marker::Model;
-use std::snapshot::Snapshot;
 use std::sync::Wait;
 
 /// A lock round an object, which any number of threads share by reference. Its callers are served in the order of their tickets.
@@ -32,6 +30,49 @@ impl<O: Object> Model for SeqLock<O> {
 }
 
 impl<O: Object> SeqLock<O> {
+    /// A lock for so many passes, and its keeper. Without memory the object comes back.
+    pub fn new(
+        alloc: Global,
+        object: O,
+        passes: u16,
+    ) -> Result<(SeqLock<O>, Pass<O>), (O, AllocError)>
+        requires passes { (0 < passes) × (passes ≤ 64) }
+        requires empty { O.history object ≡ [] }
+        ensures lock { IfOk result (λ r. r.0.passes ≡ passes) }
+        ensures keeper { IfOk result (λ r. r.1 ≡ record { lock = r.0.id; session = None; base = O.base object; seen = []; mine = []; made = 0; ended = [] }) }
+        ensures err { IfErr result (λ e. e.0 ≡ object) }
+    {
+        match Desk::open(alloc, object) {
+            Ok((desk, seat)) => {
+                let keeper = Pass {
+                    seat,
+                    session: None,
+                    made: 0,
+                };
+                Ok((SeqLock { desk, passes }, keeper))
+            }
+            Err(object) => Err((object, AllocError)),
+        }
+    }
+
+    /// Makes the pass of the next session number. It has seen what the keeper has.
+    pub fn split(&self, keeper: &mut Pass<O>) -> Pass<O>
+        requires lock { keeper.old.lock ≡ self.now.id }
+        requires keeper { keeper.old.session ≡ None }
+        requires room { keeper.old.made < self.now.passes }
+        ensures keeper { keeper.new ≡ record keeper.old { made = keeper.old.made + 1 } }
+        ensures pass { result ≡ record { lock = keeper.old.lock; session = Some keeper.old.made; base = keeper.old.base; seen = keeper.old.seen; mine = []; made = 0; ended = [] } }
+    {
+        let seat = self.desk.cut(&mut keeper.seat);
+        let number = keeper.made;
+        keeper.made += 1;
+        Pass {
+            seat,
+            session: Some(number),
+            made: 0,
+        }
+    }
+
     /// Calls the object in turn, once no one else has it.
     pub fn call<R: Wait>(
         &self,
@@ -55,5 +96,43 @@ impl<O: Object> SeqLock<O> {
             unreachable!()
         };
         self.desk.run(rt, &mut pass.seat, number, request)
+    }
+
+    /// Takes a pass in, with what it had seen. The keeper then has seen the whole history.
+    pub fn join(&self, keeper: &mut Pass<O>, pass: Pass<O>)
+        requires keeper { (keeper.old.lock ≡ self.now.id) × (keeper.old.session ≡ None) }
+        requires pass { (pass.lock ≡ self.now.id) × IsSome pass.session }
+        ensures same { (keeper.new.lock ≡ keeper.old.lock) × (keeper.new.session ≡ keeper.old.session) × (keeper.new.base ≡ keeper.old.base) × (keeper.new.mine ≡ keeper.old.mine) × (keeper.new.made ≡ keeper.old.made) }
+        ensures ended { keeper.new.ended ≡ keeper.old.ended ++ (session_number pass, pass.mine) ∷ [] }
+        ensures seen { IsPrefix keeper.old.seen keeper.new.seen × IsPrefix pass.seen keeper.new.seen }
+        ensures just { AreJust O.number_of keeper.new.seen keeper.new.ended }
+        ensures below { AreBelow O.number_of keeper.new.made keeper.new.seen }
+        ensures lawful { O.lawful keeper.new.base keeper.new.seen }
+    {
+        let Pass {
+            seat,
+            session: _,
+            made: _,
+        } = pass;
+        self.desk.glue(&mut keeper.seat, seat);
+    }
+
+    /// Gives the object back, once every pass that was made was joined.
+    pub fn close(self, keeper: Pass<O>) -> O
+        requires keeper { (keeper.lock ≡ self.id) × (keeper.session ≡ None) }
+        requires ended { AllEnded keeper }
+        ensures base { O.base result ≡ keeper.base }
+        ensures seen { IsPrefix keeper.seen (O.history result) }
+        ensures just { AreJust O.number_of (O.history result) keeper.ended }
+        ensures below { AreBelow O.number_of keeper.made (O.history result) }
+        ensures lawful { O.lawful keeper.base (O.history result) }
+    {
+        let Pass {
+            seat,
+            session: _,
+            made: _,
+        } = keeper;
+        let SeqLock { desk, passes: _ } = self;
+        desk.close(seat)
     }
 }
