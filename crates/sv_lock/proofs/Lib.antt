@@ -2,3 +2,4 @@ pub mod Histories
 pub mod Lines
 pub mod Keeps
 pub mod Calls
+pub mod Ended

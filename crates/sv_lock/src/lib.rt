@@ -4,11 +4,15 @@
 //! the caller has seen, and which entries in it are its own.
 #![tactic(auto)]
 
+#[cfg(test)]
+mod counter;
 mod desk;
 mod lock;
 mod object;
 mod pass;
 mod plays;
+#[cfg(test)]
+mod tests;
 mod view;
 
 pub use lock::SeqLock;
