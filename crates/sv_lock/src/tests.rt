@@ -75,3 +75,106 @@ fn two_threads_make_a_thousand_calls_each(rt: HostRuntime) -> Result<(), Fail> {
     assert_eq!(rt; next, [1_000, 1_000]);
     Ok(())
 }
+
+fn ask<R: Wait>(
+    rt: &R,
+    lock: &SeqLock<Counter>,
+    pass: &mut Pass<Counter>,
+    amount: u64,
+) -> Option<u64>
+    requires lock { pass.old.lock ≡ lock.now.id }
+    requires session { IsSome pass.old.session }
+    requires small { amount < pass.old.base }
+    ensures same { (pass.new.lock ≡ pass.old.lock) × (pass.new.session ≡ pass.old.session) × (pass.new.base ≡ pass.old.base) }
+{
+    lock.call(rt, pass, &amount).ok()
+}
+
+// One pass alone adds 5, 7, 1, 2, 3 and 4.
+fn add_alone<R: Wait>(
+    rt: &R,
+    alloc: Global,
+    failing: u64,
+) -> Result<(Counter, [Option<u64>; 6], (Option<u16>, Option<u16>)), AllocError> {
+    let counter = Counter::new(alloc, 10, failing);
+    let (lock, mut keeper) = match SeqLock::new(alloc, counter, 1) {
+        Ok(made) => made,
+        Err((_, error)) => return Err(error),
+    };
+    let mut pass = lock.split(&mut keeper);
+    let sessions = (keeper.session(), pass.session());
+    let replies = [
+        ask(rt, &lock, &mut pass, 5),
+        ask(rt, &lock, &mut pass, 7),
+        ask(rt, &lock, &mut pass, 1),
+        ask(rt, &lock, &mut pass, 2),
+        ask(rt, &lock, &mut pass, 3),
+        ask(rt, &lock, &mut pass, 4),
+    ];
+    lock.join(&mut keeper, pass);
+    Ok((lock.close(keeper), replies, sessions))
+}
+
+fn amounts(alloc: Global, counter: &Counter) -> Result<Vec<u64>, AllocError> {
+    let mut amounts = Vec::new(alloc);
+    for added in counter.added.iter() {
+        amounts.push(added.amount)?;
+    }
+    Ok(amounts)
+}
+
+#[test]
+fn one_pass_alone(rt: HostRuntime) -> Result<(), Fail> {
+    let (counter, replies, sessions) = add_alone(&rt, rt.alloc(), 0)?;
+    assert!(rt; sessions == (None, Some(0)));
+    assert!(rt; replies == [Some(5), Some(12), Some(13), Some(15), Some(18), Some(22)]);
+    assert_eq!(rt; amounts(rt.alloc(), &counter)?.as_slice(), [5u64, 7, 1, 2, 3, 4].as_slice());
+    Ok(())
+}
+
+#[test]
+fn every_third_call_wants_memory(rt: HostRuntime) -> Result<(), Fail> {
+    let (counter, replies, _) = add_alone(&rt, rt.alloc(), 3)?;
+    assert!(rt; replies == [Some(5), Some(12), None, Some(14), Some(17), None]);
+    assert_eq!(rt; amounts(rt.alloc(), &counter)?.as_slice(), [5u64, 7, 2, 3].as_slice());
+    Ok(())
+}
+
+// Makes so many passes, each before the one before it has called and was taken in.
+fn nest<R: Wait>(rt: &R, lock: &SeqLock<Counter>, keeper: &mut Pass<Counter>, left: u64)
+    requires keeper { (keeper.old.lock ≡ lock.now.id) × (keeper.old.session ≡ None) }
+    requires room { keeper.old.made + left ≤ lock.now.passes }
+    requires small { left < keeper.old.base }
+    ensures same { (keeper.new.lock ≡ keeper.old.lock) × (keeper.new.session ≡ None) × (keeper.new.base ≡ keeper.old.base) }
+    ensures made { keeper.new.made ≡ keeper.old.made + left }
+    ensures ended { (n : ℕ) → keeper.old.made ≤ n → n < keeper.new.made → Contains (map (λ x. x.0) keeper.new.ended) n }
+{
+    if left == 0 {
+        return;
+    }
+    let mut pass = lock.split(keeper);
+    nest(rt, lock, keeper, left - 1);
+    ask(rt, lock, &mut pass, left);
+    lock.join(keeper, pass);
+}
+
+fn add_nested<R: Wait>(rt: &R, alloc: Global) -> Result<Counter, AllocError> {
+    let counter = Counter::new(alloc, 100, 0);
+    let (lock, mut keeper) = match SeqLock::new(alloc, counter, 64) {
+        Ok(made) => made,
+        Err((_, error)) => return Err(error),
+    };
+    nest(rt, &lock, &mut keeper, 64);
+    Ok(lock.close(keeper))
+}
+
+#[test]
+fn sixty_four_passes(rt: HostRuntime) -> Result<(), Fail> {
+    let counter = add_nested(&rt, rt.alloc())?;
+    assert_eq!(rt; counter.added.len(), 64);
+    for (place, added) in counter.added.iter().enumerate() {
+        assert_eq!(rt; usize::from(added.by).wrapping_add(place), 63);
+        assert_eq!(rt; added.amount.wrapping_add(u64::from(added.by)), 64);
+    }
+    Ok(())
+}
