@@ -1,12 +1,12 @@
 -- One call: from what its steps tell to what it has done.
-use Rattle.std.proofs.Common.{◌≡◌, ℕ, ◌+◌, ◌%◌, ◌^◌, ◌<◌, List, [], ◌∷◌, ◌++◌, map, All, Contains, Option, Some, None, IsSome, Result, Ok, Err, MatchResult, IfOk, OnErr, sym, refl, ap, ◌∙◌, subst, inl, inr, arith}
+use Rattle.std.proofs.Common.{◌≡◌, ℕ, ◌<◌, List, [], ◌∷◌, ◌++◌, map, All, Contains, Option, Some, None, IsSome, Result, Ok, Err, MatchResult, IfOk, OnErr, sym, refl, ap, ◌∙◌, subst, inl, inr, arith}
 use mathlib.Core.Bool.{false≢true}
 use mathlib.Core.List.{IsPrefix}
 use Rattle.std.proofs.lemmas.List.Elements.{All-head}
 use Rattle.atomic_table.specs.Table.{Me}
 use Rattle.sv_lock.specs.declared.view.View.{View}
-use Rattle.sv_lock.specs.declared.view.Stage.TheVariants.{Idle, Waits, Holds}
-use Rattle.sv_lock.specs.Histories.{entries_of, AreJust, GoesOn}
+use Rattle.sv_lock.specs.declared.view.Stage.TheVariants.{Idle, Holds}
+use Rattle.sv_lock.specs.Histories.{entries_of, GoesOn}
 use Rattle.sv_lock.specs.Line.{staged, renewed, Took, Follows, MayReturn, Ran}
 use Rattle.sv_lock.specs.Rest.{the, ended_in}
 use Rattle.sv_lock.proofs.Histories.{one_more_entry}

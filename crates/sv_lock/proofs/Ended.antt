@@ -30,6 +30,6 @@ pub one_more_ended : {A : Type 0} (first made made' : ℕ) (ended ended' : List 
 one_more_ended {A} first made made' ended ended' x is same rest n le lt =
     let numbers : List ℕ = map (λ (y : ℕ × A). y.0) ended in
     subst (λ l. Contains l n) (sym (ap (map (λ (y : ℕ × A). y.0)) is ∙ map-append (λ (y : ℕ × A). y.0) ended ((first, x) ∷ [])))
-        (dite (ℕ_discrete n first)
-          (λ e. subst (Contains (numbers ++ first ∷ [])) (sym e) (Contains-push numbers first))
-          (λ ne. Contains-append_left numbers (first ∷ []) n (rest n (omega arith) (omega arith))))
+    (dite (ℕ_discrete n first)
+    (λ e. subst (Contains (numbers ++ first ∷ [])) (sym e) (Contains-push numbers first))
+    (λ ne. Contains-append_left numbers (first ∷ []) n (rest n (omega arith) (omega arith))))

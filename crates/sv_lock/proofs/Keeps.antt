@@ -1,23 +1,20 @@
 -- Each step keeps the rule, and tells what it is to tell.
 use Rattle.std.proofs.Common.{◌≡◌, ◌≢◌, ◌⊎◌, ℕ, ◌+◌, ◌%◌, ◌^◌, ◌<◌, ◌≤◌, ◌==◌, cond, Bool, true, false, MatchBool, List, [], ◌∷◌, ◌++◌, map, length, All, Contains, Option, Some, None, set, get_or, sym, refl, ap, ◌∙◌, subst, inl, inr, ⊎_elim, arith, length-set, length-append, eqb, eqb-true, eq-eqb, ne_eqb}
 use mathlib.Core.List.{IsPrefix}
-use mathlib.Core.Logic.{dite}
 use mathlib.Core.Option.{some, none, some-injective, some-ne-none}
 use mathlib.Core.Option as maybe
-use native.Mathlib.Decide.{ℕ_discrete}
 use lib.ListN.{get_elem?}
 use Rattle.std.proofs.Math.Nat.{mod-add-mod}
 use Rattle.std.proofs.lemmas.List.{set-get_or}
 use Rattle.std.proofs.lemmas.List.Elements.{All-nil, All-cons, All-head, All-append, All-push, All-weaker, All-map, All-contains}
 use Rattle.atomic_table.specs.Table.{State, Me, step, Act, keeps, takes, gives, stepped, homes_after, rest, Allows, Splits, Joins, opening, Final, Seen}
-use Rattle.atomic_table.proofs.Lists.{at_set, set_else, set_again, at_longer, one_turn}
+use Rattle.atomic_table.proofs.Lists.{set_else, set_again, at_longer, one_turn}
 use Rattle.sv_lock.specs.declared.view.View.{View}
-use Rattle.sv_lock.specs.declared.view.Stage.{Stage}
 use Rattle.sv_lock.specs.declared.view.Stage.TheVariants.{Idle, Waits, Holds}
 use Rattle.sv_lock.specs.Histories.{entries_of, AreJust, AreBelow}
-use Rattle.sv_lock.specs.Line.{tickets, out, IsBusy, InLine, IsOwn, Knows, IsHome, IsOut, OneHistory, staged, first_keeper, one_more, next_pass, taken_in, spent, drew, Took, looked, renewed, Follows, MayReturn, returned, Learned, learned, Closes}
-use Rattle.sv_lock.proofs.Histories.{prefix_self, prefix_none, prefix_trans, prefix_more, one_more_entry, other_entry, none_above}
-use Rattle.sv_lock.proofs.Lines.{here, snoc, same_place, single, seats_stay, put, put_here, put_else, rank, ticket, out_set, out_append, out_few, apart, line_grows, line_moves, line_owns}
+use Rattle.sv_lock.specs.Line.{tickets, out, InLine, IsOwn, Knows, IsHome, IsOut, OneHistory, staged, first_keeper, one_more, next_pass, taken_in, spent, drew, Took, looked, renewed, Follows, MayReturn, returned, learned, Closes}
+use Rattle.sv_lock.proofs.Histories.{prefix_self, prefix_none, prefix_trans, other_entry, none_above}
+use Rattle.sv_lock.proofs.Lines.{here, snoc, single, seats_stay, put, put_here, put_else, rank, ticket, out_set, out_append, out_few, apart, line_grows, line_moves, line_owns}
 
 -- what is in hand
 abbrev pub held_or : {S : Type 0} → S → List (ℕ × S) → S
@@ -226,10 +223,10 @@ module _ {S B E : Type 0} (base_of : S → B) (history_of : S → List E) (lawfu
       owner = r.owner;
       words = counted_next s.words r.next r.turn r.words;
       count = (
-        let count = r.count in
-        let less : out (set s.views id w) + tickets m.0.stage ≡ out s.views + 0 = out_set s.views id m.0 w at in
-        let one_out : tickets m.0.stage ≡ 1 = ap tickets holds in
-        omega arith);
+          let count = r.count in
+          let less : out (set s.views id w) + tickets m.0.stage ≡ out s.views + 0 = out_set s.views id m.0 w at in
+          let one_out : tickets m.0.stage ≡ 1 = ap tickets holds in
+          omega arith);
       few = r.few;
       seats = length-set s.views id w ∙ r.seats;
       start = r.start;
@@ -353,12 +350,12 @@ module _ {S B E : Type 0} (base_of : S → B) (history_of : S → List E) (lawfu
         owner = owner';
         words = r.words;
         count = (
-          let a : out (set s.views id (one_more v)) + tickets v.stage ≡ out s.views + tickets v.stage = out_set s.views id v (one_more v) at in
-          let b : out (set s.views id (one_more v) ++ next_pass v ∷ []) ≡ out (set s.views id (one_more v)) + 0 = out_append (set s.views id (one_more v)) (next_pass v) in
-          omega arith);
+            let a : out (set s.views id (one_more v)) + tickets v.stage ≡ out s.views + tickets v.stage = out_set s.views id v (one_more v) at in
+            let b : out (set s.views id (one_more v) ++ next_pass v ∷ []) ≡ out (set s.views id (one_more v)) + 0 = out_append (set s.views id (one_more v)) (next_pass v) in
+            omega arith);
         few = omega arith;
         seats = (
-          let a = length-append (set s.views id (one_more v)) (next_pass v ∷ []) in let b = length-set s.views id (one_more v) in omega arith);
+            let a = length-append (set s.views id (one_more v)) (next_pass v ∷ []) in let b = length-set s.views id (one_more v) in omega arith);
         start = r.start;
         legal = r.legal;
         below = All-weaker (λ (e : E). number_of e < r.made) (λ (e : E). number_of e < r.made + 1) (λ e lt. omega arith) r.log r.below;
@@ -367,7 +364,7 @@ module _ {S B E : Type 0} (base_of : S → B) (history_of : S → List E) (lawfu
             (snoc (set s.views id (one_more v)) (next_pass v) u j there);
         slot = ⊎_elim (λ home. inl home)
             (λ o. let p = still_out r.turn s.homes s.views id v (one_more v) at (λ e. let z : rank v.stage ≡ 0 = ap rank idle in omega arith) o in
-              inr (p.0, p.1, p.2, at_longer (set s.views id (one_more v)) (next_pass v ∷ []) p.1 p.2 p.3, p.4)) r.slot;
+            inr (p.0, p.1, p.2, at_longer (set s.views id (one_more v)) (next_pass v ∷ []) p.1 p.2 p.3, p.4)) r.slot;
       }
     where
       owner' : ℕ → ℕ
@@ -438,10 +435,10 @@ module _ {S B E : Type 0} (base_of : S → B) (history_of : S → List E) (lawfu
         owner = owner';
         words = r.words;
         count = (
-          let a : out vs + tickets v.stage ≡ out s.views + tickets v.stage = out_set s.views id v (taken_in v w) at in
-          let b : out (set vs other spent) + tickets w.stage ≡ out vs + 0 = out_set vs other w spent there in
-          let none_out : tickets w.stage ≡ 0 = ap tickets idle' in
-          omega arith);
+            let a : out vs + tickets v.stage ≡ out s.views + tickets v.stage = out_set s.views id v (taken_in v w) at in
+            let b : out (set vs other spent) + tickets w.stage ≡ out vs + 0 = out_set vs other w spent there in
+            let none_out : tickets w.stage ≡ 0 = ap tickets idle' in
+            omega arith);
         few = r.few;
         seats = length-set vs other spent ∙ (length-set s.views id (taken_in v w) ∙ r.seats);
         start = r.start;
@@ -450,7 +447,7 @@ module _ {S B E : Type 0} (base_of : S → B) (history_of : S → List E) (lawfu
         each_seat = seats_stay Knew vs other spent gone (λ j u j_other at'. seats_stay (λ i z. i ≢ other → Knew i z) s.views id (taken_in v w) (λ _. keeper') others j u at' j_other);
         slot = ⊎_elim (λ home. inl home)
             (λ o. inr (still_out r.turn s.homes vs other w spent there (λ e. let z : rank w.stage ≡ 0 = ap rank idle' in omega arith)
-              (still_out r.turn s.homes s.views id v (taken_in v w) at (λ e. let z : rank v.stage ≡ 0 = ap rank idle in omega arith) o))) r.slot;
+            (still_out r.turn s.homes s.views id v (taken_in v w) at (λ e. let z : rank v.stage ≡ 0 = ap rank idle in omega arith) o))) r.slot;
       }
     where
       vs : List (View B E)
@@ -577,8 +574,8 @@ module _ {S B E : Type 0} (base_of : S → B) (history_of : S → List E) (lawfu
           let at_turn : InLine r.log r.next r.turn r.made r.queue r.owner o.1 o.2.seen (Holds r.turn) = subst (InLine r.log r.next r.turn r.made r.queue r.owner o.1 o.2.seen) o.4 holder.line in
           let busy = at_turn.3 in
           let owners : All (λ (n : ℕ). r.owner n ≡ id) (map (λ (y : ℕ × List E). y.0) v.lists) =
-              All-map (λ (n : ℕ). r.owner n ≡ id) (λ (y : ℕ × List E). y.0) v.lists
-              (All-weaker (IsOwn number_of r.log r.made r.owner id) (λ y. r.owner y.0 ≡ id) (λ y own. own.0) v.lists k.own) in
+          All-map (λ (n : ℕ). r.owner n ≡ id) (λ (y : ℕ × List E). y.0) v.lists
+          (All-weaker (IsOwn number_of r.log r.made r.owner id) (λ y. r.owner y.0 ≡ id) (λ y own. own.0) v.lists k.own) in
           let other : o.1 ≢ id = apart s.views id o.1 v o.2 at o.3 (λ q. let none_of = ap rank idle in let two = ap rank o.4 in omega arith) in
           absurd (other (sym busy.2 ∙ All-contains (λ (n : ℕ). r.owner n ≡ id) (map (λ (y : ℕ × List E). y.0) v.lists) busy.0 owners
-            (all busy.0 (let lt = busy.1 in let is = (k.keeps keeping).1 in omega arith))))
+          (all busy.0 (let lt = busy.1 in let is = (k.keeps keeping).1 in omega arith))))

@@ -2,7 +2,7 @@
 -- just one seat. And what each step tells.
 -- Tickets are drawn from `next` on, and the ticket `turn` is served. `queue` is the seat of each ticket that is out, `owner` the seat that stands
 -- for each number.
-use Rattle.std.specs.Prelude.{◌≡◌, ◌⊎◌, ℕ, ◌+◌, ◌%◌, ◌^◌, ◌<◌, ◌≤◌, ◌==◌, Bool, true, false, MatchBool, List, [], ◌∷◌, ◌++◌, map, length, All, Option, Some, None, Result, MatchResult, IfOk}
+use Rattle.std.specs.Prelude.{◌≡◌, ◌⊎◌, ℕ, ◌+◌, ◌%◌, ◌^◌, ◌<◌, ◌≤◌, ◌==◌, true, false, MatchBool, List, [], ◌∷◌, ◌++◌, map, length, All, Some, None, Result, MatchResult, IfOk}
 use mathlib.Core.List.{IsPrefix}
 use mathlib.Core.Option.{some, none}
 use lib.ListN.{get_elem?}

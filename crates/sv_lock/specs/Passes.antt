@@ -1,5 +1,5 @@
 -- What contracts see of a lock and of a pass.
-use Rattle.std.specs.Prelude.{◌≡◌, ℕ, ◌<◌, List, [], ◌∷◌, map, Contains, Option, Some, None, IsSome, unwrap_or}
+use Rattle.std.specs.Prelude.{ℕ, ◌<◌, List, map, Contains, Option, unwrap_or}
 use Rattle.atomic_table.specs.Seated.{TableId}
 
 -- Which lock it is, and for how many passes it is made.

@@ -58,7 +58,8 @@ impl<O: Object> Desk<O> {
         unreachable!()
     }
 
-    fn give_back(&self, seat: &mut Place<O>)
+    /// Gives the object back, and serves the next ticket.
+    pub fn give_back(&self, seat: &mut Place<O>)
         requires table { seat.old.table_id ≡ self.now.table.shared.table_id }
         requires may { MayReturn O.base O.history O.lawful O.number_of seat.old.me }
         ensures table { seat.new.table_id ≡ seat.old.table_id }
@@ -67,7 +68,13 @@ impl<O: Object> Desk<O> {
         self.table.shared.fetch_add::<Return>(seat, 1, 1);
     }
 
-    fn step(&self, seat: &mut Place<O>, number: u16, request: &O::Request) -> Result<O::Reply, AllocError>
+    /// One step of the object in hand.
+    pub fn step(
+        &self,
+        seat: &mut Place<O>,
+        number: u16,
+        request: &O::Request,
+    ) -> Result<O::Reply, AllocError>
         requires table { seat.old.table_id ≡ self.now.table.shared.table_id }
         requires held { (x : O) × (seat.old.me.1 ≡ (0, x) ∷ []) × O.can_step (O.base x) number request.now (entries_of O.number_of number (O.history x)) }
         ensures table { seat.new.table_id ≡ seat.old.table_id }
@@ -81,8 +88,8 @@ impl<O: Object> Desk<O> {
         reply
     }
 
-    // Waits for its turn, and has the object in hand then.
-    fn take<R: Wait>(&self, rt: &R, seat: &mut Place<O>)
+    /// Waits for its turn, and has the object in hand then.
+    pub fn take<R: Wait>(&self, rt: &R, seat: &mut Place<O>)
         requires table { seat.old.table_id ≡ self.now.table.shared.table_id }
         requires idle { seat.old.me.0.stage ≡ Idle }
         requires number { (x : ℕ × List O.Entry) × (seat.old.me.0.lists ≡ x ∷ []) }
@@ -111,9 +118,9 @@ impl<O: Object> Desk<O> {
         ensures ran { Ran O.lawful O.number_of number (first_list seat.old.me.0.lists) (O.entry number request.now) O.whole seat.old.me seat.new.me result }
     {
         self.take(rt, seat);
-        let reply = self.step(seat, number, request);
+        let answer = self.step(seat, number, request);
         self.give_back(seat);
-        reply
+        answer
     }
 
     /// Makes the seat of the next pass.
@@ -127,16 +134,26 @@ impl<O: Object> Desk<O> {
         self.table.shared.split_seat::<Cut>(keeper)
     }
 
+    /// Sees the whole history.
+    pub fn learn(&self, seat: &mut Place<O>)
+        requires table { seat.old.table_id ≡ self.now.table.shared.table_id }
+        requires idle { seat.old.me.0.stage ≡ Idle }
+        ensures table { seat.new.table_id ≡ seat.old.table_id }
+        ensures learned { Learned O.lawful O.number_of seat.old.me seat.new.me }
+    {
+        self.table.shared.load::<Learn>(seat, 0);
+    }
+
     /// Takes a pass's seat in, and sees the whole history.
     pub fn glue(&self, keeper: &mut Place<O>, other: Place<O>)
         requires tables { (keeper.old.table_id ≡ self.now.table.shared.table_id) × (other.table_id ≡ self.now.table.shared.table_id) }
-        requires keeper { (keeper.old.me.0.stage ≡ Idle) × (keeper.old.me.1 ≡ []) }
+        requires keeper { keeper.old.me.0.stage ≡ Idle }
         requires other { (other.me.0.stage ≡ Idle) × (other.me.1 ≡ []) }
         ensures table { keeper.new.table_id ≡ keeper.old.table_id }
         ensures learned { Learned O.lawful O.number_of (taken_in keeper.old.me.0 other.me.0, keeper.old.me.1) keeper.new.me }
     {
         self.table.shared.join_seat::<Glue>(keeper, other);
-        self.table.shared.load::<Learn>(keeper, 0);
+        self.learn(keeper);
     }
 
     /// The table of an object, and the keeper's seat. Without memory the object comes back.

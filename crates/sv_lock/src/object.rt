@@ -9,7 +9,9 @@ use std::alloc::AllocError;
 /// says `history = { λ s. reverse (..) }`, and reverses again in `lawful` and `whole`.
 pub trait Object {
     type Request;
+
     type Reply;
+
     type Entry;
     /// What no step changes. Only contracts see it.
     type Base;

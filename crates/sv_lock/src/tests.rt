@@ -128,7 +128,10 @@ fn one_pass_alone(rt: HostRuntime) -> Result<(), Fail> {
     let (counter, replies, sessions) = add_alone(&rt, rt.alloc(), 0)?;
     assert!(rt; sessions == (None, Some(0)));
     assert!(rt; replies == [Some(5), Some(12), Some(13), Some(15), Some(18), Some(22)]);
-    assert_eq!(rt; amounts(rt.alloc(), &counter)?.as_slice(), [5u64, 7, 1, 2, 3, 4].as_slice());
+    assert_eq!(rt;
+        amounts(rt.alloc(), &counter)?.as_slice(),
+        [5u64, 7, 1, 2, 3, 4].as_slice()
+    );
     Ok(())
 }
 
@@ -136,7 +139,10 @@ fn one_pass_alone(rt: HostRuntime) -> Result<(), Fail> {
 fn every_third_call_wants_memory(rt: HostRuntime) -> Result<(), Fail> {
     let (counter, replies, _) = add_alone(&rt, rt.alloc(), 3)?;
     assert!(rt; replies == [Some(5), Some(12), None, Some(14), Some(17), None]);
-    assert_eq!(rt; amounts(rt.alloc(), &counter)?.as_slice(), [5u64, 7, 2, 3].as_slice());
+    assert_eq!(rt;
+        amounts(rt.alloc(), &counter)?.as_slice(),
+        [5u64, 7, 2, 3].as_slice()
+    );
     Ok(())
 }
 

@@ -1,5 +1,4 @@
-use Rattle.std.proofs.Common.{rules, subst, ◌≡◌, ◌==◌, ◌%◌, ◌^◌, ℕ, MatchBool}
-use Rattle.sv_lock.specs.Line.{Took}
+use Rattle.std.proofs.Common.{rules}
 use Rattle.sv_lock.proofs.Keeps.{looks}
 use Rattle.sv_lock.proofs.desk.Desk.look.Goals as goal
 

@@ -8,4 +8,4 @@ new-requires g c =
     let words : c.as_slice.result.now ≡ 0 ∷ 0 ∷ [] = search rules in
     let slots : c.in_ok-slots.slots.items ≡ x ∷ [] = search rules in
     rw (words, slots) (opens o.base o.history o.lawful o.number_of _ x (ap o.base (sym is)) c.requires
-        (rw is (subst (o.lawful (o.base x)) c.requires c.certify.ensures)))
+    (rw is (subst (o.lawful (o.base x)) c.requires c.certify.ensures)))
