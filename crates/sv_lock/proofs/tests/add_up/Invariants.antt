@@ -1,0 +1,6 @@
+use Rattle.std.proofs.Common.{◌≡◌}
+use Rattle.sv_lock.proofs.tests.add_up.Given as goal
+
+abbrev pub invariant-loop-amount : goal.invariant-loop-amount
+invariant-loop-amount g l =
+    (l.pass.lock ≡ l.fn.pass.lock) × (l.pass.session ≡ l.fn.pass.session) × (l.pass.base ≡ l.fn.pass.base)

@@ -1,0 +1,4 @@
+pub mod Histories
+pub mod Line
+pub mod Passes
+pub mod Rest

@@ -1,0 +1,175 @@
+-- The rule of the lock's table: one history, which the object at home or the seat that holds it has, and in which each number's entries stand with
+-- just one seat. And what each step tells.
+-- Tickets are drawn from `next` on, and the ticket `turn` is served. `queue` is the seat of each ticket that is out, `owner` the seat that stands
+-- for each number.
+use Rattle.std.specs.Prelude.{◌≡◌, ◌⊎◌, ℕ, ◌+◌, ◌%◌, ◌^◌, ◌<◌, ◌≤◌, ◌==◌, true, false, MatchBool, List, [], ◌∷◌, ◌++◌, map, length, All, Some, None, Result, MatchResult, IfOk}
+use mathlib.Core.List.{IsPrefix}
+use mathlib.Core.Option.{some, none}
+use lib.ListN.{get_elem?}
+use Rattle.atomic_table.specs.Table.{State, Me, Step}
+use Rattle.sv_lock.specs.declared.view.View.{View}
+use Rattle.sv_lock.specs.declared.view.Stage.{Stage}
+use Rattle.sv_lock.specs.declared.view.Stage.TheVariants.{Idle, Waits, Holds}
+use Rattle.sv_lock.specs.Histories.{entries_of, AreJust, AreBelow, GoesOn}
+
+-- How many tickets of a seat are out, and of all seats.
+abbrev pub tickets : Stage → ℕ
+tickets Idle = 0
+tickets (Waits t) = 1
+tickets (Holds t) = 1
+
+abbrev pub out : {B E : Type 0} → List (View B E) → ℕ
+out [] = 0
+out (v ∷ vs) = tickets v.stage + out vs
+
+-- The seat stands for some number.
+abbrev pub IsBusy : ℕ → (ℕ → ℕ) → ℕ → Type 0
+IsBusy made owner j = (n : ℕ) × (n < made) × (owner n ≡ j)
+
+-- What a seat in the line knows of its ticket.
+abbrev pub InLine : {E : Type 0} → List E → (next turn made : ℕ) → (queue owner : ℕ → ℕ) → ℕ → List E → Stage → Type 0
+InLine log next turn made queue owner j seen Idle = Unit {0}
+InLine log next turn made queue owner j seen (Waits t) = (turn ≤ t) × (t < next) × (queue t ≡ j) × IsBusy made owner j
+InLine log next turn made queue owner j seen (Holds t) = (t ≡ turn) × (t < next) × (queue t ≡ j) × IsBusy made owner j × (seen ≡ log)
+
+-- The seat stands for this number, with all its entries.
+abbrev pub IsOwn : {E : Type 0} → (E → ℕ) → List E → ℕ → (ℕ → ℕ) → ℕ → ℕ × List E → Type 0
+IsOwn number_of log made owner j x = (owner x.0 ≡ j) × (x.0 < made) × (entries_of number_of x.0 log ≡ x.1)
+
+-- What is true of what the seat j knows.
+pub record Knows {B E : Type 0} (lawful : B → List E → Type 0) (number_of : E → ℕ) (base : B) (log : List E) (next turn keeper made : ℕ) (queue owner : ℕ → ℕ) (j : ℕ) (v : View B E) : Type 0 where
+  pub same : (b : B) → v.base ≡ Some b → b ≡ base
+  pub seen : IsPrefix v.seen log
+  pub told : IsPrefix v.told log
+  pub legal : lawful base v.seen
+  pub line : InLine log next turn made queue owner j v.seen v.stage
+  pub own : All (IsOwn number_of log made owner j) v.lists
+  pub keeps : v.keeps ≡ true → (j ≡ keeper) × (v.made ≡ made)
+
+-- The object is at home, with this base and history.
+abbrev pub IsHome : {S B E : Type 0} → (S → B) → (S → List E) → B → List E → List (mathlib.Core.Option.Option S) → Type 0
+IsHome {S} base_of history_of base log homes = (x : S) × (homes ≡ some x ∷ []) × (base_of x ≡ base) × (history_of x ≡ log)
+
+-- The object is out with the seat whose ticket is served.
+abbrev pub IsOut : {S B E : Type 0} → ℕ → List (mathlib.Core.Option.Option S) → List (View B E) → Type 0
+IsOut {S} {B} {E} turn homes views = (homes ≡ none ∷ []) × (j : ℕ) × (v : View B E) × (get_elem? views j ≡ some v) × (v.stage ≡ Holds turn)
+
+-- The rule, for an object of this base.
+pub record OneHistory {S B E : Type 0} (base_of : S → B) (history_of : S → List E) (lawful : B → List E → Type 0) (number_of : E → ℕ) (base : B) (s : State S (View B E)) : Type 0 where
+  pub log : List E
+  pub next : ℕ
+  pub turn : ℕ
+  pub keeper : ℕ
+  pub made : ℕ
+  pub queue : ℕ → ℕ
+  pub owner : ℕ → ℕ
+  pub words : s.words ≡ next % 2 ^ 64 ∷ turn % 2 ^ 64 ∷ []
+  pub count : out s.views + turn ≡ next
+  pub few : made ≤ 64
+  pub seats : length s.views ≡ made + 1
+  pub start : lawful base []
+  pub legal : lawful base log
+  pub below : AreBelow number_of made log
+  pub each_seat : (j : ℕ) (v : View B E) → get_elem? s.views j ≡ some v → Knows lawful number_of base log next turn keeper made queue owner j v
+  pub slot : IsHome base_of history_of base log s.homes ⊎ IsOut turn s.homes s.views
+
+-- ---- Views
+
+module _ {B E : Type 0} where
+  -- The view with another place in the line, and with more seen.
+  abbrev pub staged : View B E → Stage → List E → List (ℕ × List E) → View B E
+  staged v stage seen lists = record { base = v.base; stage = stage; seen = seen; told = v.told; lists = lists; keeps = v.keeps; made = v.made }
+
+  abbrev pub first_keeper : B → View B E
+  first_keeper base = record { base = Some base; stage = Idle; seen = []; told = []; lists = []; keeps = true; made = 0 }
+
+  -- The keeper, with one pass more made; and that pass.
+  abbrev pub one_more : View B E → View B E
+  one_more v = record { base = v.base; stage = v.stage; seen = v.seen; told = v.told; lists = v.lists; keeps = v.keeps; made = v.made + 1 }
+
+  abbrev pub next_pass : View B E → View B E
+  next_pass v = record { base = v.base; stage = Idle; seen = v.seen; told = []; lists = (v.made, []) ∷ []; keeps = false; made = 0 }
+
+  -- The keeper with what a pass had; and what is left of the pass.
+  abbrev pub taken_in : View B E → View B E → View B E
+  taken_in v w = record { base = v.base; stage = v.stage; seen = v.seen; told = w.seen; lists = v.lists ++ w.lists; keeps = v.keeps; made = v.made }
+
+  abbrev pub spent : View B E
+  spent = record { base = None; stage = Idle; seen = []; told = []; lists = []; keeps = false; made = 0 }
+
+-- ---- What the steps tell
+
+module _ {S B E : Type 0} where
+  -- A ticket was drawn.
+  abbrev pub drew : Step S → Me S (View B E) → ℕ → Me S (View B E) → Type 0
+  drew step m found m' = (t : ℕ) × (t % 2 ^ 64 ≡ found) × (m' ≡ (staged m.0 (Waits t) m.0.seen m.0.lists, m.1))
+
+-- The object was taken, and its history is now seen.
+pub record Took {S B E : Type 0} (base_of : S → B) (history_of : S → List E) (number_of : E → ℕ) (t : ℕ) (m m' : Me S (View B E)) : Type 0 where
+  pub object : S
+  pub seat : m' ≡ (staged m.0 (Holds t) (history_of object) m.0.lists, (0, object) ∷ m.1)
+  pub base : m.0.base ≡ Some (base_of object)
+  pub seen : IsPrefix m.0.seen (history_of object)
+  pub just : AreJust number_of (history_of object) m.0.lists
+
+-- Where the seat's ticket is served, the object was taken; else nothing changed.
+abbrev pub looked : {S B E : Type 0} → (S → B) → (S → List E) → (E → ℕ) → Step S → Me S (View B E) → ℕ → Me S (View B E) → Type 0
+looked base_of history_of number_of step m found m' =
+    (t : ℕ) → m.0.stage ≡ Waits t → MatchBool (found == t % 2 ^ 64) (Took base_of history_of number_of t m m') (m' ≡ m)
+
+-- After a step of this number the history is the same, or it has one entry more, of that number.
+abbrev pub Follows : {E : Type 0} → (E → ℕ) → ℕ → List E → List E → Type 0
+Follows {E} number_of n seen h = (h ≡ seen) ⊎ ((e : E) × (h ≡ seen ++ e ∷ []) × (number_of e ≡ n))
+
+-- A seat that stands for one number holds the object y after its step.
+pub record MayReturn {S B E : Type 0} (base_of : S → B) (history_of : S → List E) (lawful : B → List E → Type 0) (number_of : E → ℕ) (m : Me S (View B E)) : Type 0 where
+  pub turn : ℕ
+  pub number : ℕ
+  pub mine : List E
+  pub object : S
+  pub holds : m.0.stage ≡ Holds turn
+  pub own : m.0.lists ≡ (number, mine) ∷ []
+  pub based : m.0.base ≡ Some (base_of object)
+  pub hand : m.1 ≡ (0, object) ∷ []
+  pub legal : lawful (base_of object) (history_of object)
+  pub follows : Follows number_of number m.0.seen (history_of object)
+
+-- The numbers of the list, each with its entries in this history.
+abbrev pub renewed : {E : Type 0} → (E → ℕ) → List E → List (ℕ × List E) → List (ℕ × List E)
+renewed number_of log lists = map (λ x. (x.0, entries_of number_of x.0 log)) lists
+
+-- The object in hand was given back, and its history is what is seen.
+abbrev pub returned : {S B E : Type 0} → (S → List E) → (E → ℕ) → Step S → Me S (View B E) → ℕ → Me S (View B E) → Type 0
+returned {S} history_of number_of step m found m' =
+    (y : S) → m.1 ≡ (0, y) ∷ [] → m' ≡ (staged m.0 Idle (history_of y) (renewed number_of (history_of y) m.0.lists), [])
+
+-- The whole history was seen. It begins with all that was seen and told.
+pub record Learned {S B E : Type 0} (lawful : B → List E → Type 0) (number_of : E → ℕ) (m m' : Me S (View B E)) : Type 0 where
+  pub log : List E
+  pub seat : m' ≡ (staged m.0 Idle log m.0.lists, m.1)
+  pub seen : IsPrefix m.0.seen log
+  pub told : IsPrefix m.0.told log
+  pub just : AreJust number_of log m.0.lists
+  pub legal : (b : B) → m.0.base ≡ Some b → lawful b log
+  pub below : m.0.keeps ≡ true → AreBelow number_of m.0.made log
+
+abbrev pub learned : {S B E : Type 0} → (B → List E → Type 0) → (E → ℕ) → Step S → Me S (View B E) → ℕ → Me S (View B E) → Type 0
+learned lawful number_of step m found m' = Learned lawful number_of m m'
+
+-- A call was carried through, or memory ran out. The seat has seen the whole history as it was then, and in it its number n has just what it
+-- had, and after a reply the reply's entry. `mine` is what the number had before.
+pub record Ran {S B E R X : Type 0} (lawful : B → List E → Type 0) (number_of : E → ℕ) (n : ℕ) (mine : List E) (entry : R → E) (whole : R → List E → Type 0) (m m' : Me S (View B E)) (result : Result R X) : Type 0 where
+  pub log : List E
+  pub seat : m' ≡ (staged m.0 Idle log (renewed number_of log m.0.lists), [])
+  pub legal : (b : B) → m.0.base ≡ Some b → lawful b log
+  pub seen : MatchResult result (λ r. GoesOn m.0.seen (entry r) log) (λ _. IsPrefix m.0.seen log)
+  pub mine_now : MatchResult result (λ r. entries_of number_of n log ≡ mine ++ entry r ∷ []) (λ _. entries_of number_of n log ≡ mine)
+  pub whole_now : IfOk result (λ r. whole r log)
+
+-- The object as the table had it at the end, where no seat but the one of this view has a number.
+pub record Closes {S B E : Type 0} (base_of : S → B) (history_of : S → List E) (lawful : B → List E → Type 0) (number_of : E → ℕ) (v : View B E) (object : S) : Type 0 where
+  pub same : v.base ≡ Some (base_of object)
+  pub seen : IsPrefix v.seen (history_of object)
+  pub just : AreJust number_of (history_of object) v.lists
+  pub below : AreBelow number_of v.made (history_of object)
+  pub legal : lawful (base_of object) (history_of object)

@@ -1,0 +1,20 @@
+//! A ticket lock round an object whose steps have one history, whatever threads call them.
+//!
+//! An object is taken in turn. Each caller has a pass, in which a proof sees how much of the history
+//! the caller has seen, and which entries in it are its own.
+#![tactic(auto)]
+
+#[cfg(test)]
+mod counter;
+mod desk;
+mod lock;
+mod object;
+mod pass;
+mod plays;
+#[cfg(test)]
+mod tests;
+mod view;
+
+pub use lock::SeqLock;
+pub use object::Object;
+pub use pass::Pass;
