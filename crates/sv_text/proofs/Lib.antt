@@ -1,4 +1,5 @@
 pub mod Numbers
+pub mod Words
 pub mod Lexing
 pub mod Depth
 pub mod Turns
