@@ -11,3 +11,8 @@ pub mod Again
 pub mod AgainBody
 pub mod AgainAction
 pub mod Both
+pub mod Layers
+pub mod Spelled
+pub mod Standing
+pub mod StandingBody
+pub mod StandingAction
