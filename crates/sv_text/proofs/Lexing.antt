@@ -21,7 +21,7 @@ HasLength bs t = (0 < t.1) × (t.1 ≤ length bs)
 stands : (bs : List ℕ) (i : ℕ) → (get_or bs i 0 ≡ 0 → ⊥) → i < length bs
 stands bs i h = elim (cases_lt i (length bs)) [ inl lt ↦ lt | inr le ↦ absurd (h (get_or_past bs i 0 le)) ]
 
-digit_stands : (bs : List ℕ) (i : ℕ) → is_ascii_digit (get_or bs i 0) ≡ true → i < length bs
+pub digit_stands : (bs : List ℕ) (i : ℕ) → is_ascii_digit (get_or bs i 0) ≡ true → i < length bs
 digit_stands bs i h = stands bs i (λ e. let no : false ≡ true = subst (λ (x : ℕ). is_ascii_digit x ≡ true) e h in absurd cc)
 
 byte_stands : (bs : List ℕ) (i k : ℕ) → eqb (get_or bs i 0) (suc k) ≡ true → i < length bs
@@ -88,14 +88,14 @@ skips zero place glued bs le = let e : place + 0 ≡ place = omega arith in rw e
 skips (suc k) place glued [] le = absurd (omega arith)
 skips (suc k) place glued (b ∷ bs) le = let e : place + 1 + k ≡ place + suc k = omega arith in skips k (place + 1) glued bs (omega arith) ∙ ap (λ (x : ℕ). tokens_from 0 x glued (drop k bs)) e
 
-abbrev first : ℕ → Bool → List ℕ → Lexeme
+abbrev pub first : ℕ → Bool → List ℕ → Lexeme
 first place glued bs = record { place = place; glued = glued; token = (token_at bs).0 }
 
-blank_front : (place : ℕ) (glued : Bool) (b : ℕ) (bs : List ℕ) → is_blank b ≡ true → tokens_from 0 place glued (b ∷ bs) ≡ tokens_from 0 (place + 1) false bs
+pub blank_front : (place : ℕ) (glued : Bool) (b : ℕ) (bs : List ℕ) → is_blank b ≡ true → tokens_from 0 place glued (b ∷ bs) ≡ tokens_from 0 (place + 1) false bs
 unfolding tokens_from
 blank_front place glued b bs h = rw h refl
 
-token_front : (place : ℕ) (glued : Bool) (b : ℕ) (bs : List ℕ) → is_blank b ≡ false → tokens_from 0 place glued (b ∷ bs) ≡ first place glued (b ∷ bs) ∷ tokens_from 0 (place + (token_at (b ∷ bs)).1) (is_joint (token_at (b ∷ bs)).0) (drop (token_at (b ∷ bs)).1 (b ∷ bs))
+pub token_front : (place : ℕ) (glued : Bool) (b : ℕ) (bs : List ℕ) → is_blank b ≡ false → tokens_from 0 place glued (b ∷ bs) ≡ first place glued (b ∷ bs) ∷ tokens_from 0 (place + (token_at (b ∷ bs)).1) (is_joint (token_at (b ∷ bs)).0) (drop (token_at (b ∷ bs)).1 (b ∷ bs))
 unfolding tokens_from
 token_front place glued b bs h =
     let t = token_at (b ∷ bs) in

@@ -1,4 +1,5 @@
 pub mod Numbers
+pub mod Words
 pub mod Lexing
 pub mod Depth
 pub mod Turns
@@ -10,3 +11,8 @@ pub mod Again
 pub mod AgainBody
 pub mod AgainAction
 pub mod Both
+pub mod Layers
+pub mod Spelled
+pub mod Standing
+pub mod StandingBody
+pub mod StandingAction

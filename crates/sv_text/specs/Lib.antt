@@ -2,3 +2,4 @@ pub mod Tokens
 pub mod Reading
 pub mod Canonical
 pub mod Grammar
+pub mod Printable

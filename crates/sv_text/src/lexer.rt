@@ -1,9 +1,10 @@
 //! From bytes to tokens.
 
-ghost use Rattle.std.specs.Prelude.{◌≡◌, ◌+◌, ◌^◌, ◌<◌, ◌≤◌, min, length, drop, slice_index, IfOk};
+ghost use Rattle.std.specs.Prelude.{◌≡◌, ◌+◌, ◌-◌, ◌*◌, ◌^◌, ◌<◌, ◌≤◌, cond, min, length, drop, slice_index, IfOk};
 ghost use Rattle.std.specs.List.{prefix_len, take_while};
 ghost use Rattle.std.specs.Char.{is_ascii_digit, is_ascii_lowercase};
-ghost use Rattle.sv_text.specs.Tokens.{is_blank, digits_at, value_of, has_leading_zero, number_of, word_of, sign_of, sign_at, positive, negative, small_ref, ref_of, ref_at, word_at, number_at, negative_at, token_at, is_word, is_joint, tokens_of};
+ghost use Rattle.sv_text.specs.Tokens.{is_blank, digits_at, value_of, has_leading_zero, number_of, is_text, word_of, sign_of, sign_at, positive, negative, small_ref, ref_of, ref_at, word_at, number_at, negative_at, token_at, is_word, is_joint, tokens_of};
+ghost use Rattle.sv_text.specs.declared.token.Mark.TheVariants.{Other};
 
 use crate::TextCause;
 use crate::token::{Lexeme, Mark, Token};
@@ -28,12 +29,6 @@ fn letter_count(bytes: &[u8]) -> usize
     bytes.iter().take_while(|b| b.is_ascii_lowercase()).count()
 }
 
-fn digit_count(bytes: &[u8]) -> usize
-    ensures { result ≡ prefix_len is_ascii_digit bytes.now }
-{
-    bytes.iter().take_while(|b| b.is_ascii_digit()).count()
-}
-
 /// The letters that the bytes begin with.
 fn letters(bytes: &[u8]) -> &[u8]
     ensures { result.now ≡ take_while is_ascii_lowercase bytes.now }
@@ -41,56 +36,57 @@ fn letters(bytes: &[u8]) -> &[u8]
     &bytes[..letter_count(bytes)]
 }
 
-/// The digits that the bytes begin with.
-fn digits(bytes: &[u8]) -> &[u8]
-    ensures { result.now ≡ take_while is_ascii_digit bytes.now }
+fn is_digit_at(bytes: &[u8], at: usize) -> bool
+    ensures { result ≡ is_ascii_digit (slice_index bytes.now at) }
 {
-    &bytes[..digit_count(bytes)]
+    byte_at(bytes, at).is_ascii_digit()
 }
 
-/// The digits that stand from a place on.
-fn digits_at(bytes: &[u8], at: usize) -> &[u8]
-    ensures { result.now ≡ digits_at at bytes.now }
+/// The number with one more digit behind it, or the greatest u64 where that is less.
+fn with_digit(number: u64, digit: u8) -> u64
+    ensures { result ≡ min (10 * number + (digit - 48)) 18446744073709551615 }
 {
-    if at < bytes.len() {
-        digits(&bytes[at..])
-    } else {
-        &[]
+    number
+        .saturating_mul(10)
+        .saturating_add(u64::from(digit.saturating_sub(b'0')))
+}
+
+/// How many digits stand from a place on, and the number that they write, or the greatest u64 where that is less.
+#[tactic(auto, using(crate::proofs::Numbers::digits_go_on, crate::proofs::Numbers::digits_end, crate::proofs::Numbers::value_goes_on))]
+fn digits_at(bytes: &[u8], at: usize) -> (usize, u64)
+    ensures count { result.0 ≡ length (digits_at at bytes.now) }
+    ensures value { result.1 ≡ min (value_of (digits_at at bytes.now)) 18446744073709551615 }
+{
+    let mut end = at;
+    let mut value = 0;
+    while is_digit_at(bytes, end) {
+        value = with_digit(value, byte_at(bytes, end));
+        end += 1;
     }
+    (end - at, value)
 }
 
-/// The number that the digits write, or the greatest u64 where that is less.
-#[tactic(auto, using(crate::proofs::Numbers::value_of_more))]
-fn magnitude(digits: &[u8]) -> u64
-    ensures { result ≡ min (value_of digits.now) 18446744073709551615 }
+/// Whether so many digits from a place on are more than one and begin with a zero.
+fn has_leading_zero(bytes: &[u8], at: usize, count: usize) -> bool
+    requires { count ≡ length (digits_at at bytes.now) }
+    ensures { result ≡ has_leading_zero (digits_at at bytes.now) }
 {
-    let mut value: u64 = 0;
-    for digit in digits {
-        value = value
-            .saturating_mul(10)
-            .saturating_add(u64::from(digit.saturating_sub(b'0')));
-    }
-    value
+    count > 1 && byte_at(bytes, at) == b'0'
 }
 
-fn has_leading_zero(digits: &[u8]) -> bool
-    ensures { result ≡ has_leading_zero digits.now }
-{
-    byte_at(digits, 0) == b'0' && digits.len() > 1
-}
-
+/// The number that the digits from a place on write, behind a minus or not, and how many digits they are.
 #[tactic(auto, unfolding(crate::specs::Tokens::number_of))]
-fn number_of(is_negative: bool, digits: &[u8]) -> Token
-    ensures { result ≡ number_of is_negative digits.now }
+fn number_of(bytes: &[u8], at: usize, is_negative: bool) -> (Token, usize)
+    ensures { result ≡ (number_of is_negative (digits_at at bytes.now), length (digits_at at bytes.now)) }
 {
-    if has_leading_zero(digits) {
-        return Token::Bad(TextCause::Number);
+    let (count, magnitude) = digits_at(bytes, at);
+    if has_leading_zero(bytes, at, count) {
+        return (Token::Bad(TextCause::Number), count);
     }
-    let magnitude = magnitude(digits);
     if is_negative {
-        negative(magnitude)
+        (negative(magnitude), count)
     } else {
-        positive(magnitude)
+        (positive(magnitude), count)
     }
 }
 
@@ -118,34 +114,39 @@ fn negative(magnitude: u64) -> Token
     }
 }
 
-#[tactic(auto, unfolding(crate::specs::Tokens::word_of))]
+/// The mark of a word, where the run is that word, and else of one that is none of the language's.
+fn mark_if(run: &[u8], word: &[u8], mark: Mark) -> Mark
+    ensures { result ≡ cond (is_text run.now word.now) mark Other }
+{
+    if run == word { mark } else { Mark::Other }
+}
+
+/// The mark of the one of two words that the run is.
+fn mark_of_two(run: &[u8], word: &[u8], mark: Mark, other: &[u8], other_mark: Mark) -> Mark
+    ensures { result ≡ cond (is_text run.now word.now) mark (cond (is_text run.now other.now) other_mark Other) }
+{
+    if run == word {
+        mark
+    } else {
+        mark_if(run, other, other_mark)
+    }
+}
+
+#[tactic(auto, using(crate::proofs::Words::word_by_first))]
 fn word_of(run: &[u8]) -> Mark
     ensures { result ≡ word_of run.now }
 {
-    if run == b"reads".as_slice() {
-        Mark::Reads
-    } else if run == b"writes".as_slice() {
-        Mark::Writes
-    } else if run == b"at".as_slice() {
-        Mark::At
-    } else if run == b"set".as_slice() {
-        Mark::Set
-    } else if run == b"if".as_slice() {
-        Mark::If
-    } else if run == b"else".as_slice() {
-        Mark::Else
-    } else if run == b"min".as_slice() {
-        Mark::Min
-    } else if run == b"max".as_slice() {
-        Mark::Max
-    } else if run == b"and".as_slice() {
-        Mark::And
-    } else if run == b"or".as_slice() {
-        Mark::Or
-    } else if run == b"not".as_slice() {
-        Mark::Not
-    } else {
-        Mark::Other
+    match byte_at(run, 0) {
+        b'r' => mark_if(run, b"reads", Mark::Reads),
+        b'w' => mark_if(run, b"writes", Mark::Writes),
+        b'a' => mark_of_two(run, b"at", Mark::At, b"and", Mark::And),
+        b's' => mark_if(run, b"set", Mark::Set),
+        b'i' => mark_if(run, b"if", Mark::If),
+        b'e' => mark_if(run, b"else", Mark::Else),
+        b'm' => mark_of_two(run, b"min", Mark::Min, b"max", Mark::Max),
+        b'o' => mark_if(run, b"or", Mark::Or),
+        b'n' => mark_if(run, b"not", Mark::Not),
+        _ => Mark::Other,
     }
 }
 
@@ -184,16 +185,6 @@ fn sign_at(bytes: &[u8]) -> (Token, usize)
     }
 }
 
-#[tactic(auto, unfolding(crate::specs::Tokens::ref_of))]
-fn ref_of(object: &[u8], attr: &[u8]) -> Token
-    ensures { result ≡ ref_of object.now attr.now }
-{
-    if has_leading_zero(object) || has_leading_zero(attr) {
-        return Token::Bad(TextCause::Number);
-    }
-    small_ref(magnitude(object), magnitude(attr))
-}
-
 fn small_ref(object: u64, attr: u64) -> Token
     ensures { result ≡ small_ref object attr }
 {
@@ -207,15 +198,31 @@ fn small_ref(object: u64, attr: u64) -> Token
     }
 }
 
+/// The ref whose object's digits stand behind the first byte, and its attribute's behind the byte after them: how many digits, and their number.
+#[tactic(auto, unfolding(crate::specs::Tokens::ref_of))]
+fn ref_of(bytes: &[u8], object: (usize, u64), attr: (usize, u64)) -> Token
+    requires few { length bytes.now < 2 ^ 32 }
+    requires object { object.0 ≡ length (digits_at 1 bytes.now) }
+    requires object_value { object.1 ≡ min (value_of (digits_at 1 bytes.now)) 18446744073709551615 }
+    requires attr { attr.0 ≡ length (digits_at (2 + object.0) bytes.now) }
+    requires attr_value { attr.1 ≡ min (value_of (digits_at (2 + object.0) bytes.now)) 18446744073709551615 }
+    ensures { result ≡ ref_of (digits_at 1 bytes.now) (digits_at (2 + object.0) bytes.now) }
+{
+    if has_leading_zero(bytes, 1, object.0) || has_leading_zero(bytes, 2 + object.0, attr.0) {
+        return Token::Bad(TextCause::Number);
+    }
+    small_ref(object.1, attr.1)
+}
+
 #[tactic(auto, unfolding(crate::specs::Tokens::ref_at))]
 fn ref_at(bytes: &[u8]) -> (Token, usize)
     requires { length bytes.now < 2 ^ 32 }
     ensures { result ≡ ref_at bytes.now }
 {
     let object = digits_at(bytes, 1);
-    let attr = digits_at(bytes, 2 + object.len());
-    if !object.is_empty() && byte_at(bytes, 1 + object.len()) == b'.' && !attr.is_empty() {
-        (ref_of(object, attr), 2 + object.len() + attr.len())
+    let attr = digits_at(bytes, 2 + object.0);
+    if object.0 > 0 && byte_at(bytes, 1 + object.0) == b'.' && attr.0 > 0 {
+        (ref_of(bytes, object, attr), 2 + object.0 + attr.0)
     } else {
         (Token::Bad(TextCause::Character), 1)
     }
@@ -233,8 +240,7 @@ fn word_at(bytes: &[u8]) -> (Token, usize)
 fn number_at(bytes: &[u8]) -> (Token, usize)
     ensures { result ≡ number_at bytes.now }
 {
-    let run = digits_at(bytes, 0);
-    (number_of(false, run), run.len())
+    number_of(bytes, 0, false)
 }
 
 #[tactic(auto, unfolding(crate::specs::Tokens::negative_at))]
@@ -242,8 +248,8 @@ fn negative_at(bytes: &[u8]) -> (Token, usize)
     requires { length bytes.now < 2 ^ 32 }
     ensures { result ≡ negative_at bytes.now }
 {
-    let run = digits_at(bytes, 1);
-    (number_of(true, run), 1 + run.len())
+    let (token, count) = number_of(bytes, 1, true);
+    (token, 1 + count)
 }
 
 /// The token that the bytes begin with, which are no blank, and how many of them it has.

@@ -1,6 +1,9 @@
 //! From an action to its canonical text.
 
-ghost use Rattle.std.specs.Prelude.{◌≡◌, ◌++◌, [], ◌&&◌, cond, string_bytes, OnOk, OnErr, IfOk};
+ghost use Rattle.std.specs.Prelude.{◌≡◌, ◌++◌, [], ◌&&◌, cond, string_bytes, Ok, OnOk, OnErr, IfOk};
+ghost use Rattle.sv_text.specs.Tokens.{tokens_of};
+ghost use Rattle.sv_text.specs.Reading.{reading};
+ghost use Rattle.sv_text.specs.Printable.{IsPrintable};
 ghost use Rattle.sv_text.specs.Canonical.{object_in, ref_text, pair_text, test_text, expr_text, cond_text, set_text, stmt_text, body_text, object_text, objects_text, written, is_zero, origin_text, canonical};
 
 use std::alloc::{AllocError, Global};
@@ -226,10 +229,7 @@ fn put_action(out: &mut String, action: &Action) -> Result<(), AllocError>
     put_block(out, reads, action.body.as_slice())
 }
 
-/// The canonical text of an action: its tokens by one space each, with none after `(` and `[`, and none before `)`, `]` and `;`.
-///
-/// It has no `else` for an empty block, and no origin where that is (0, 0). A slot that the reads lack is printed as object 0.
-pub fn print_action(alloc: Global, action: &Action) -> Result<String, AllocError>
+fn canonical_text(alloc: Global, action: &Action) -> Result<String, AllocError>
     ensures { IfOk result (λ text. string_bytes text ≡ canonical action.now) }
 {
     let mut text = String::new(alloc);
@@ -237,11 +237,22 @@ pub fn print_action(alloc: Global, action: &Action) -> Result<String, AllocError
     Ok(text)
 }
 
+/// The canonical text of an action: its tokens by one space each, with none after `(` and `[`, and none before `)`, `]` and `;`.
+///
+/// It has no `else` for an empty block, and no origin where that is (0, 0). A slot that the reads lack is printed as object 0.
+pub fn print_action(alloc: Global, action: &Action) -> Result<String, AllocError>
+    ensures text { IfOk result (λ text. string_bytes text ≡ canonical action.now) }
+    // The text of an action that the check refuses at most for what its world lacks is read as that action.
+    ensures again { IfOk result (λ text. IsPrintable action.now → reading (tokens_of (string_bytes text)) ≡ Ok action.now) }
+{
+    canonical_text(alloc, action)
+}
+
 /// Appends the canonical text of an action, all of it or nothing.
 pub fn append_action(action: &Action, out: &mut String) -> Result<(), AllocError>
     ensures ok { OnOk result (string_bytes out.new ≡ string_bytes out.old ++ canonical action.now) }
     ensures err { OnErr result (string_bytes out.new ≡ string_bytes out.old) }
 {
-    let text = print_action(*out.allocator(), action)?;
+    let text = canonical_text(*out.allocator(), action)?;
     out.push_str(&text)
 }

@@ -1,0 +1,6 @@
+use Rattle.std.proofs.Common.{string_bytes}
+use Rattle.sv_text.proofs.StandingAction.{again_if_ok}
+use Rattle.sv_text.proofs.printer.print_action.Goals as goal
+
+pub returns-clause-again : goal.returns-clause-again
+returns-clause-again c = again_if_ok string_bytes c.args.action.now c.canonical_text.result c.canonical_text.ensures
