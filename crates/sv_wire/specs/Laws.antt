@@ -1,8 +1,9 @@
 -- Laws of the payloads and their frames.
-use Rattle.std.specs.Prelude.{◌≡◌, ℕ, List, ◌++◌, length}
+use Rattle.std.specs.Prelude.{◌≡◌, ℕ, List, ◌++◌, length, Ok}
 use Rattle.byteorder.specs.Endian.{big_bytes}
 use Rattle.sv_wire.specs.declared.message.Request.{Request}
 use Rattle.sv_wire.specs.declared.message.Reply.{Reply}
+use Rattle.sv_wire.specs.Messages.{request_at, reply_at}
 use Rattle.sv_wire.specs.Spelling.{request_bytes, reply_bytes}
 use Rattle.sv_wire.specs.Grammar.{IsWireRequest, IsWireReply}
 use Rattle.sv_wire.specs.Ranges.{RequestFits, ReplyFits}
@@ -37,3 +38,10 @@ ReplyFramesDiffer = (m n : Reply) (x y : List ℕ) → IsReply m → IsReply n �
 -- No stream begins with both a request's frame and a reply's.
 abbrev pub KindsDiffer : Type 0
 KindsDiffer = (m : Request) (n : Reply) (x y : List ℕ) → IsRequest m → IsReply n → frame (request_bytes m) ++ x ≡ frame (reply_bytes n) ++ y → ⊥
+
+-- What was encoded is decoded as itself.
+abbrev pub RequestsAreReadBack : Type 0
+RequestsAreReadBack = (m : Request) → IsRequest m → request_at (request_bytes m) ≡ Ok m
+
+abbrev pub RepliesAreReadBack : Type 0
+RepliesAreReadBack = (m : Reply) → IsReply m → reply_at (reply_bytes m) ≡ Ok m

@@ -4,7 +4,7 @@ ghost use Rattle.sv_wire.specs.Steps.{Gives, several};
 ghost use Rattle.sv_wire.specs.Messages.{mask_at, point_at, action_at, item_at};
 
 use crate::fault::{ReadFault, WireCause, stop_at};
-use crate::fields::{count_of, i32_of, objects_of, u16_of, u32_of};
+use crate::fields::{count_of, i32_of, list_for, objects_of, u16_of, u32_of};
 use crate::message::Item;
 use crate::stmts::body_of;
 use std::alloc::Global;
@@ -73,7 +73,7 @@ fn item_of(alloc: Global, bytes: &[u8]) -> Result<(Item, &[u8]), ReadFault>
 pub fn items_of(alloc: Global, count: u8, bytes: &[u8]) -> Result<(List<Item>, &[u8]), ReadFault>
     ensures { Gives (λ x. (x.0, x.1.now)) result (several item_at count bytes.now) }
 {
-    let mut items = List::new(alloc);
+    let mut items = list_for(alloc, usize::from(count))?;
     let mut rest = bytes;
     for _ in 0..count {
         let (item, after) = item_of(alloc, rest)?;

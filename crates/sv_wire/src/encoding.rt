@@ -1,16 +1,21 @@
 //! Encoding messages.
-ghost use Rattle.std.specs.Prelude.{◌≡◌, ◌≤◌, ◌++◌, ◌∷◌, length, All, IfOk, OnOk};
+ghost use Rattle.std.specs.Prelude.{◌≡◌, ◌≤◌, ◌++◌, ◌∷◌, length, All, IfOk, OnOk, Ok};
 ghost use Rattle.std.specs.List.{flat_map};
 ghost use Rattle.byteorder.specs.Endian.{big_bytes};
 ghost use Rattle.sv_wire.specs.declared.message.Reply.TheVariants as reply;
 ghost use Rattle.sv_wire.specs.Spelling.{action_bytes, item_bytes, request_bytes, reply_bytes};
 ghost use Rattle.sv_wire.specs.Grammar.{IsWireAction, IsWireRelay, IsWireRequest, IsWireReply};
+ghost use Rattle.sv_wire.specs.Messages.{request_at, reply_at};
+ghost use Rattle.sv_wire.specs.Ranges.{RequestFits, ReplyFits};
 
 use crate::message::{Held, Item, Reply, Request};
 use crate::put::{put_head, put_objects, put_point, put_results, put_u16, put_u32};
 use crate::put_body::put_body;
 use std::alloc::{AllocError, Global};
 use sv_world::Action;
+
+/// Most payloads fit, so that they are written without moving what is written.
+const ROOM: usize = 256;
 
 fn put_action(out: &mut Vec<u8>, action: &Action) -> Result<(), AllocError>
     requires { IsWireAction action.now }
@@ -169,9 +174,11 @@ fn put_reply(out: &mut Vec<u8>, reply: &Reply) -> Result<(), AllocError>
 /// The payload of a request, which is not `Bad` or `End`. Its lists keep the limits of the format.
 pub fn encode_request(alloc: Global, request: &Request) -> Result<Vec<u8>, AllocError>
     requires { IsWireRequest request.now }
-    ensures { IfOk result (λ payload. payload.items ≡ request_bytes request.now) }
+    ensures bytes { IfOk result (λ payload. payload.items ≡ request_bytes request.now) }
+    // It is decoded as the request. The numbers of a request are always those of their types.
+    ensures read_back { IfOk result (λ payload. RequestFits request.now → request_at payload.items ≡ Ok request.now) }
 {
-    let mut out = Vec::new(alloc);
+    let mut out = Vec::with_capacity(alloc, ROOM)?;
     put_request(&mut out, request)?;
     Ok(out)
 }
@@ -179,9 +186,11 @@ pub fn encode_request(alloc: Global, request: &Request) -> Result<Vec<u8>, Alloc
 /// The payload of a reply. Its lists keep the limits of the format.
 pub fn encode_reply(alloc: Global, reply: &Reply) -> Result<Vec<u8>, AllocError>
     requires { IsWireReply reply.now }
-    ensures { IfOk result (λ payload. payload.items ≡ reply_bytes reply.now) }
+    ensures bytes { IfOk result (λ payload. payload.items ≡ reply_bytes reply.now) }
+    // It is decoded as the reply. The numbers of a reply are always those of their types.
+    ensures read_back { IfOk result (λ payload. ReplyFits reply.now → reply_at payload.items ≡ Ok reply.now) }
 {
-    let mut out = Vec::new(alloc);
+    let mut out = Vec::with_capacity(alloc, ROOM)?;
     put_reply(&mut out, reply)?;
     Ok(out)
 }

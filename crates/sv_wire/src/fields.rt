@@ -1,5 +1,5 @@
 //! Reading numbers, counts, objects, values and lists of them.
-ghost use Rattle.std.specs.Prelude.{◌≡◌, ◌≤◌, ◌<◌, IfOk, OnOk, FitsSigned};
+ghost use Rattle.std.specs.Prelude.{◌≡◌, ◌≤◌, ◌<◌, [], IfOk, OnOk, FitsSigned};
 ghost use Rattle.std.specs.Int.{w32, w64};
 ghost use Rattle.sv_wire.specs.Steps.{Gives, several, in_turn};
 ghost use Rattle.sv_wire.specs.Fields.{byte_at, number_at, int_at, count_at, head_count_at, object_at, objects_at, value_at, held_at, helds_at, head_at, result_at};
@@ -7,8 +7,15 @@ ghost use Rattle.sv_wire.specs.Fields.{byte_at, number_at, int_at, count_at, hea
 use crate::fault::{ReadFault, WireCause, stop_at};
 use crate::message::{Done1, Held};
 use byteorder::{BigEndian, ByteOrder};
-use std::alloc::Global;
+use std::alloc::{AllocError, Global};
 use sv_world::{List, ObjectId, Value};
+
+/// The empty list, with room for the elements that its count announces.
+pub fn list_for<T>(alloc: Global, count: usize) -> Result<List<T>, AllocError>
+    ensures { IfOk result (λ list. list ≡ []) }
+{
+    Ok(List::from_vec(Vec::with_capacity(alloc, count)?))
+}
 
 #[tactic(auto, unfolding(crate::specs::Fields::byte_at))]
 pub fn byte_of(bytes: &[u8]) -> Result<(u8, &[u8]), ReadFault>
@@ -102,7 +109,7 @@ pub fn objects_of(
 ) -> Result<(List<ObjectId>, &[u8]), ReadFault>
     ensures { Gives (λ x. (x.0, x.1.now)) result (objects_at count bytes.now) }
 {
-    let mut objects = List::new(alloc);
+    let mut objects = list_for(alloc, usize::from(count))?;
     let mut least = 0;
     let mut rest = bytes;
     for _ in 0..count {
@@ -117,7 +124,7 @@ pub fn objects_of(
 fn numbers_of(alloc: Global, count: u8, bytes: &[u8]) -> Result<(Value, &[u8]), ReadFault>
     ensures { Gives (λ x. (x.0, x.1.now)) result (several (int_at w64) count bytes.now) }
 {
-    let mut numbers = List::new(alloc);
+    let mut numbers = list_for(alloc, usize::from(count))?;
     let mut rest = bytes;
     for _ in 0..count {
         let (number, after) = i64_of(rest)?;
@@ -147,7 +154,7 @@ fn held_of(alloc: Global, least: u32, bytes: &[u8]) -> Result<(Held, u32, &[u8])
 fn helds_of(alloc: Global, count: u16, bytes: &[u8]) -> Result<(List<Held>, &[u8]), ReadFault>
     ensures { Gives (λ x. (x.0, x.1.now)) result (helds_at count bytes.now) }
 {
-    let mut head = List::new(alloc);
+    let mut head = list_for(alloc, usize::from(count))?;
     let mut least = 0;
     let mut rest = bytes;
     for _ in 0..count {
@@ -170,7 +177,7 @@ pub fn head_of(alloc: Global, bytes: &[u8]) -> Result<(List<Held>, &[u8]), ReadF
 fn values_of(alloc: Global, count: u8, bytes: &[u8]) -> Result<(List<Value>, &[u8]), ReadFault>
     ensures { Gives (λ x. (x.0, x.1.now)) result (several value_at count bytes.now) }
 {
-    let mut values = List::new(alloc);
+    let mut values = list_for(alloc, usize::from(count))?;
     let mut rest = bytes;
     for _ in 0..count {
         let (value, after) = value_of(alloc, rest)?;
@@ -193,7 +200,7 @@ fn result_of(alloc: Global, bytes: &[u8]) -> Result<(Done1, &[u8]), ReadFault>
 pub fn results_of(alloc: Global, count: u8, bytes: &[u8]) -> Result<(List<Done1>, &[u8]), ReadFault>
     ensures { Gives (λ x. (x.0, x.1.now)) result (several result_at count bytes.now) }
 {
-    let mut results = List::new(alloc);
+    let mut results = list_for(alloc, usize::from(count))?;
     let mut rest = bytes;
     for _ in 0..count {
         let (found, after) = result_of(alloc, rest)?;

@@ -23,7 +23,7 @@ pub use copying::{copy_head, copy_reply, copy_request};
 pub use decoding::{decode_reply, decode_request};
 pub use encoding::{encode_reply, encode_request};
 pub use fault::{Malformed, WireCause, WireFault};
-pub use laws::{no_frame_begins_another, one_payload};
+pub use laws::{encoded_is_read_back, no_frame_begins_another, one_payload};
 pub use message::{Done1, Held, Item, Reply, Request};
 
 #[cfg(test)]

@@ -8,7 +8,7 @@ use Rattle.sv_wire.proofs.fields.helds_of.Goals as goal
 pub returns-in_err-held : goal.returns-in_err-held
 unfolding helds_at
 returns-in_err-held c =
-    let p = err_from_is_err_and c.from_residual.result c.from_residual.ensures.1 in
+    let p = err_from_is_err_and c.from_residual-in_err-held.result c.from_residual-in_err-held.ensures.1 in
     rw (p.1, p.2) (fails_first c.in_err-held.field-0.0 (in_turn held_at c.args.count 0 c.args.bytes.now) (λ x. Ok (x.0, x.2)) (turn_ends held_at c.in_err-held.field-0.0 c.loop.head c.args.count c.loop.counter c.loop.least c.loop.rest.now (in_turn held_at c.args.count 0 c.args.bytes.now) c.loop-test.true c.in_err-held.ensures c.loop.invariant))
 
 pub loop-preserved : goal.loop-preserved

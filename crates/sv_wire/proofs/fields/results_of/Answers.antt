@@ -6,7 +6,7 @@ use Rattle.sv_wire.proofs.fields.results_of.Goals as goal
 
 pub returns-in_err-found : goal.returns-in_err-found
 returns-in_err-found c =
-    let p = err_from_is_err_and c.from_residual.result c.from_residual.ensures.1 in
+    let p = err_from_is_err_and c.from_residual-in_err-found.result c.from_residual-in_err-found.ensures.1 in
     rw (p.1, p.2) (ends result_at c.in_err-found.field-0.0 c.loop.results c.args.count c.loop.counter c.loop.rest.now (several result_at c.args.count c.args.bytes.now) c.loop-test.true c.in_err-found.ensures c.loop.invariant)
 
 pub loop-preserved : goal.loop-preserved
