@@ -2,10 +2,13 @@
 #![tactic(auto)]
 
 mod entry;
+mod journal;
 mod laws;
+mod rows;
 mod text;
 
 pub use entry::{Entry, Logged};
+pub use journal::Journal;
 pub use laws::examples_are_answered;
 pub use text::{append_held, append_objects, append_value};
 
