@@ -1,16 +1,16 @@
 -- Where the accepted actions of a history stand among its entries.
-use Rattle.std.proofs.Common.{◌≡◌, ℕ, zero, suc, ◌+◌, ◌-◌, ◌<◌, ◌≤◌, Bool, true, false, cond, List, [], ◌∷◌, ◌++◌, map, length, reverse, get_or, Option, Some, None, ◌⊎◌, inl, inr, refl, sym, ap, subst, ◌∙◌, arith, length-append}
-use Rattle.std.specs.Prelude.{if◌then◌else◌, ◌==◌, slice_index_or}
+use Rattle.std.proofs.Common.{◌≡◌, ℕ, zero, suc, ◌+◌, ◌-◌, ◌<◌, ◌≤◌, Bool, true, false, List, [], ◌∷◌, ◌++◌, length, reverse, get_or, Option, Some, None, ◌⊎◌, inl, inr, refl, sym, ap, subst, ◌∙◌, arith, length-append}
+use Rattle.std.specs.Prelude.{if◌then◌else◌, ◌==◌}
 use Rattle.std.proofs.lemmas.Bool.{cases_lt}
 use Rattle.std.proofs.lemmas.List.{reverse-append, reverse-reverse, length-reverse, get_or_append_left, get_or-append_right}
 use Rattle.sv_world.specs.declared.action.Action.{Action}
-use Rattle.sv_world.specs.Control.{blank, action_at}
+use Rattle.sv_world.specs.Control.{blank}
 use Rattle.sv_wire.specs.declared.message.Request.{Request}
 use Rattle.sv_wire.specs.declared.message.Request.TheVariants as requests
 use Rattle.sv_journal.specs.declared.entry.Entry.{Entry}
 use Rattle.sv_journal.specs.declared.entry.Logged.TheVariants as logged
 use Rattle.sv_journal.specs.declared.rows.Acceptance.{Acceptance}
-use Rattle.sv_journal.specs.History.{is_relay, client_of, outcomes_of, Authored, new_action, accepted, actions_of, authored_at}
+use Rattle.sv_journal.specs.History.{is_relay, client_of, outcomes_of, Authored, new_action, accepted, authored_at}
 use Rattle.sv_journal.specs.Rows.{new_place, places_of}
 
 -- a history with one more entry, in order
@@ -49,17 +49,17 @@ new_one None next place q = inl (refl, refl)
 new_one (Some k) next place (requests.Submit seq action) = go (seq == next k)
   where
     go : (b : Bool) → (((if b then row_of k place ∷ [] else []) ≡ [])
-            × ((if b then author_of k seq action ∷ [] else []) ≡ []))
+        × ((if b then author_of k seq action ∷ [] else []) ≡ []))
         ⊎ IsOne (requests.Submit seq action) place (if b then row_of k place ∷ [] else [])
-            (if b then author_of k seq action ∷ [] else [])
+        (if b then author_of k seq action ∷ [] else [])
     go true = inr (record {
-        row = row_of k place;
-        action = author_of k seq action;
-        rows_are = refl;
-        actions_are = refl;
-        placed = refl;
-        tells = record { seq = seq; action = action; asked = refl; told = refl };
-      })
+      row = row_of k place;
+      action = author_of k seq action;
+      rows_are = refl;
+      actions_are = refl;
+      placed = refl;
+      tells = record { seq = seq; action = action; asked = refl; told = refl };
+    })
     go false = inl (refl, refl)
 new_one (Some k) next place (requests.Join client life interest) = inl (refl, refl)
 new_one (Some k) next place (requests.Done results) = inl (refl, refl)
@@ -80,9 +80,9 @@ unfolding AreNone rows_by actions_by
 added e h = go (is_relay e.reply)
   where
     go : (b : Bool) → AreNone (if b then new_place (client_of h e.session) (λ k. suc (length (outcomes_of h k))) (length h) e.request else [])
-            (if b then new_action (client_of h e.session) (λ k. suc (length (outcomes_of h k))) e.request else [])
+        (if b then new_action (client_of h e.session) (λ k. suc (length (outcomes_of h k))) e.request else [])
         ⊎ IsOne e.request (length h) (if b then new_place (client_of h e.session) (λ k. suc (length (outcomes_of h k))) (length h) e.request else [])
-            (if b then new_action (client_of h e.session) (λ k. suc (length (outcomes_of h k))) e.request else [])
+        (if b then new_action (client_of h e.session) (λ k. suc (length (outcomes_of h k))) e.request else [])
     go true = new_one (client_of h e.session) (λ k. suc (length (outcomes_of h k))) (length h) e.request
     go false = inl (refl, refl)
 
@@ -112,23 +112,23 @@ pub record IsFound (h : List Entry) (n : ℕ) (row : Acceptance) : Type 0 where
 
 found_before : (e : Entry) (h : List Entry) (n : ℕ) (row : Acceptance) → n < length (accepted h) → IsFound h n row → IsFound (e ∷ h) n row
 found_before e h n row low f = record {
-    within = omega (arith, f.within);
-    tells = λ d a. rw (
-      reverse-cons e h,
-      accepted_by e h,
-      get_or_append_left (reverse h) (e ∷ []) d row.place (omega (arith, f.within, length-reverse h)),
-      get_or_append_left (accepted h) (actions_by e h) a n low,
-    ) (f.tells d a);
-  }
+  within = omega (arith, f.within);
+  tells = λ d a. rw (
+    reverse-cons e h,
+    accepted_by e h,
+    get_or_append_left (reverse h) (e ∷ []) d row.place (omega (arith, f.within, length-reverse h)),
+    get_or_append_left (accepted h) (actions_by e h) a n low,
+  ) (f.tells d a);
+}
 
 found_last : (e : Entry) (h : List Entry) (n : ℕ) → n ≡ length (accepted h) → (one : IsOne e.request (length h) (rows_by e h) (actions_by e h)) → IsFound (e ∷ h) n one.row
 found_last e h n last one = record {
-    within = omega (arith, one.placed);
-    tells = λ d a.
+  within = omega (arith, one.placed);
+  tells = λ d a.
       let entry : get_or (reverse h ++ e ∷ []) one.row.place d ≡ e = get_or-append_right (reverse h) (e ∷ []) one.row.place one.row.place d (length-reverse h ∙ sym one.placed) (omega arith) ∙ rw (sub_self one.row.place) refl in
       let action : get_or (accepted h ++ one.action ∷ []) n a ≡ one.action = get_or-append_right (accepted h) (one.action ∷ []) n n a (sym last) (omega arith) ∙ rw (sub_self n) refl in
       rw (reverse-cons e h, accepted_by e h, one.actions_are, entry, action) one.tells;
-  }
+}
   where
     sub_self : (m : ℕ) → m - m ≡ 0
     sub_self m = omega arith

@@ -1,5 +1,5 @@
 -- What a journal's fields keep.
-use Rattle.std.specs.Prelude.{◌≡◌, ℕ, ◌+◌, ◌^◌, ◌<◌, ◌≤◌, length, reverse}
+use Rattle.std.specs.Prelude.{◌≡◌, ◌+◌, ◌^◌, ◌<◌, ◌≤◌, length, reverse}
 use Rattle.std.specs.Vec.{vec_len, vec_capacity}
 use Rattle.sv_journal.specs.declared.journal.Journal.TheInside.{Inside}
 use Rattle.sv_journal.specs.Rows.{AreRows}

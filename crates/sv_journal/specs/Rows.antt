@@ -1,5 +1,5 @@
 -- The rows by which a journal finds its accepted actions.
-use Rattle.std.specs.Prelude.{◌≡◌, ℕ, suc, ◌+◌, ◌^◌, ◌<◌, ◌≤◌, Bool, true, false, ◌&&◌, ◌==◌, List, [], ◌∷◌, ◌++◌, length, reverse, slice_index_or, Option, Some, None, if◌then◌else◌}
+use Rattle.std.specs.Prelude.{◌≡◌, ℕ, suc, ◌^◌, ◌<◌, Bool, true, false, ◌&&◌, ◌==◌, List, [], ◌∷◌, ◌++◌, length, slice_index_or, Option, Some, None, if◌then◌else◌}
 use Rattle.std.specs.Option.{option_map}
 use Rattle.sv_world.specs.declared.world.ClientId.{ClientId}
 use Rattle.sv_wire.specs.declared.message.Request.{Request}
@@ -43,4 +43,3 @@ pub record AreRows (h : List Entry) (clients : List (Option ClientId)) (outcomes
   pub client : (s : ℕ) → s < 2 ^ 16 → client_in clients s ≡ client_of h s
   pub count : (k : ℕ) → k < 2 ^ 16 → slice_index_or outcomes k 0 ≡ length (outcomes_of h k)
   pub places : accepted ≡ places_of h
-

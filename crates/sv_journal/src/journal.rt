@@ -2,8 +2,8 @@ ghost use Rattle.std.specs.Prelude.{◌≡◌, ◌-◌, ◌<◌, ◌≤◌, [], 
 ghost use Rattle.sv_world.specs.Control.{action_at};
 ghost use Rattle.sv_journal.specs.History.{accepted, actions_of, authored_at};
 
-use crate::rows::{Acceptance, make_client_rows, make_count_rows, note};
 use crate::Entry;
+use crate::rows::{Acceptance, make_client_rows, make_count_rows, note};
 use std::alloc::{AllocError, Global};
 use std::marker::Model;
 use sv_wire::Request;
@@ -74,6 +74,13 @@ impl Journal {
         ensures { slice_get self.now.entries at ≡ Some result.now }
     {
         &self.entries[at]
+    }
+
+    /// The entries in order.
+    pub fn entries(&self) -> &[Entry]
+        ensures { result.now ≡ self.now.entries }
+    {
+        self.entries.as_slice()
     }
 
     /// How many actions were accepted.
@@ -150,7 +157,13 @@ impl Journal {
         ensures { self.new ≡ record { entries = self.old.entries ++ entry ∷ []; spare = self.old.spare - 1 } }
     {
         let place = self.entries.len();
-        note(&mut self.clients, &mut self.outcomes, &mut self.accepted, place, &entry);
+        note(
+            &mut self.clients,
+            &mut self.outcomes,
+            &mut self.accepted,
+            place,
+            &entry,
+        );
         self.spare -= 1;
         if self.entries.push(entry).is_err() {
             unreachable!();

@@ -1,4 +1,4 @@
-use Rattle.std.proofs.Common.{arith, length, ap, ◌≡◌, ◌∙◌, sym, reverse}
+use Rattle.std.proofs.Common.{arith, length, ap, sym, reverse}
 use Rattle.sv_journal.specs.View.{JournalView}
 use Rattle.sv_journal.specs.History.{accepted}
 use Rattle.sv_journal.proofs.Places.{places_count}

@@ -1,4 +1,4 @@
-use Rattle.std.proofs.Common.{◌≡◌, ◌-◌, ◌<◌, ◌≤◌, ◌∙◌, sym, ap, length, reverse, get_or, arith}
+use Rattle.std.proofs.Common.{◌-◌, ◌∙◌, ap, length, reverse, get_or, arith}
 use Rattle.sv_journal.specs.History.{accepted, authored_at}
 use Rattle.sv_journal.specs.View.{JournalView}
 use Rattle.sv_journal.proofs.Places.{places_count, author_at}

@@ -1,8 +1,4 @@
-use Rattle.std.proofs.Common.{◌≡◌, ◌-◌, ◌<◌, ◌≤◌, ◌∙◌, sym, ap, length, reverse, get_or, arith, subst}
-use Rattle.std.specs.Prelude.{List}
-use Rattle.sv_world.specs.declared.action.Action.{Action}
-use Rattle.sv_journal.specs.declared.entry.Entry.{Entry}
-use Rattle.sv_journal.specs.declared.rows.Acceptance.{Acceptance}
+use Rattle.std.proofs.Common.{◌-◌, ◌∙◌, sym, ap, length, reverse, get_or, arith}
 use Rattle.sv_journal.specs.History.{Authored, accepted, authored_at}
 use Rattle.sv_journal.specs.View.{JournalView}
 use Rattle.sv_journal.proofs.Places.{places_count, place_within, told_at, submits_are}
