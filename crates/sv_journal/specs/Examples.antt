@@ -13,11 +13,11 @@ use Rattle.sv_journal.specs.Answer.{Rules, reply_to}
 -- Objects of one attribute with these values, under a bound and a reach.
 abbrev pub opened : List ℕ → ℕ → Option ℕ → Rules
 opened values bound reach = record {
-    world = record { shape = record { objects = length values; attrs = 1 }; values = map (λ n. pos n ∷ []) values };
-    bound = bound;
-    reach = reach;
-    sessions = 3
-  }
+  world = record { shape = record { objects = length values; attrs = 1 }; values = map (λ n. pos n ∷ []) values };
+  bound = bound;
+  reach = reach;
+  sessions = 3;
+}
 
 abbrev pub objects : List ℕ → List ObjectId
 objects xs = map (λ x. record { 0 = x }) xs

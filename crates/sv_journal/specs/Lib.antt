@@ -4,3 +4,6 @@ pub mod History
 pub mod Pieces
 pub mod Text
 pub mod Sessions
+pub mod Invariant
+pub mod Rows
+pub mod View
