@@ -6,3 +6,6 @@ mod scripts;
 mod whole;
 
 pub use whole::generate;
+
+#[cfg(test)]
+mod tests;

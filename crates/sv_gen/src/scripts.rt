@@ -9,12 +9,7 @@ use sv_scenario::{Plan, Step};
 use sv_world::{List, ObjectId};
 
 /// Appends sixteen acts among four objects, and a sync.
-fn put_round(
-    alloc: Global,
-    half: u16,
-    base: u16,
-    steps: &mut Vec<Step>,
-) -> Result<(), AllocError>
+fn put_round(alloc: Global, half: u16, base: u16, steps: &mut Vec<Step>) -> Result<(), AllocError>
     requires half { half ≤ 1 }
     requires base { base ≤ 768 }
     ensures { OnOk result (steps.new.items ≡ steps.old.items ++ round_steps half base) }

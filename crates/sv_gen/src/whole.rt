@@ -77,6 +77,7 @@ pub fn generate(alloc: Global, n: u32) -> Result<Scenario, AllocError>
     requires some { 1 ≤ n }
     requires most { n ≤ 192 }
     ensures ok { IfOk result (λ s. s ≡ generated n) }
+    ensures good { IfOk result IsGoodScenario }
 {
     let pairs = 1 + (n - 1) % 16;
     let rounds = 1 + (n - 1) / 16;
