@@ -1,0 +1,11 @@
+//! Scenarios of any wanted load.
+#![tactic(auto)]
+
+mod acts;
+mod scripts;
+mod whole;
+
+pub use whole::generate;
+
+#[cfg(test)]
+mod tests;
