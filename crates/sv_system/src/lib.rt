@@ -2,5 +2,7 @@
 #![tactic(auto)]
 
 mod deliveries;
+mod journals;
 
 pub use deliveries::lawful_deliveries_make_values_serial;
+pub use journals::legal_journals_make_lawful_deliveries;
