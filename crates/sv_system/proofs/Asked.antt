@@ -1,14 +1,11 @@
 -- A trace's requests and replies of a session, event by event.
-use Rattle.std.proofs.Common.{◌≡◌, ℕ, zero, suc, ◌+◌, ◌<◌, ◌≤◌, Bool, true, false, cond, ◌&&◌, ◌||◌, not, ◌==◌, ◌⊎◌, inl, inr, List, [], ◌∷◌, ◌++◌, map, drop, reverse, length, Option, Some, None, slice_get, refl, sym, ap, ◌∙◌, subst, arith, eqb-true, eq-eqb, true≢false, append-nil}
+use Rattle.std.proofs.Common.{◌≡◌, ℕ, zero, suc, ◌+◌, ◌≤◌, Bool, true, false, not, ◌==◌, ◌⊎◌, inl, inr, List, [], ◌∷◌, ◌++◌, map, drop, reverse, length, Option, Some, None, slice_get, refl, sym, ap, ◌∙◌, subst, arith, eqb-true, eq-eqb, true≢false}
 use Rattle.std.specs.Prelude.{if◌then◌else◌}
 use Rattle.std.specs.List.{list_any}
-use Rattle.std.proofs.lemmas.Bool.{cond_both, cond-true, cond-false, cases_Bool, cases_eq, or_cases, or_left, or_right}
-use Rattle.std.proofs.lemmas.List.{length-append, reverse-append}
+use Rattle.std.proofs.lemmas.Bool.{cond_both, cond-true, cond-false, cases_Bool, or_cases, or_left, or_right}
+use Rattle.std.proofs.lemmas.List.{reverse-append}
 use Rattle.std.proofs.lemmas.List.Folds.{list_any-append}
-use Rattle.std.proofs.lemmas.Option.{none-some, same_Some, slice_get_within}
-use Rattle.sv_world.specs.declared.action.Action.{Action}
-use Rattle.sv_world.specs.declared.world.ObjectId.{ObjectId}
-use Rattle.sv_versions.specs.Held.{Held}
+use Rattle.std.proofs.lemmas.Option.{none-some, same_Some}
 use Rattle.sv_pending.specs.Pending.{PendingAction}
 use Rattle.sv_wire.specs.declared.message.Done1.{Done1}
 use Rattle.sv_wire.specs.declared.message.Held.{Held as Sent}
@@ -19,9 +16,9 @@ use Rattle.sv_wire.specs.declared.message.Reply.{Reply}
 use Rattle.sv_wire.specs.declared.message.Reply.TheVariants as replies
 use Rattle.sv_client.specs.declared.trace.Event.{Event}
 use Rattle.sv_client.specs.declared.trace.Event.TheVariants as events
-use Rattle.sv_client.specs.Traces.{is_join, joins, makes, current_session, is_session, held_of, head_held, results_of, done_for, pending_of, submit_of, asked_by, asked, got}
-use Rattle.sv_client.specs.Taking.{Identity, unanswered, outstanding, allows, is_out_of_order, has_bad_item, missing_in, missing_fault, Fault, WrongKind, BadOrder, BadItem, Unasked, fault_for, fault_after, first_fault_of_reply}
-use Rattle.sv_client.specs.Proper.{MayFollow, MayGet, MayJoin, AreProper}
+use Rattle.sv_client.specs.Traces.{joins, makes, current_session, is_session, held_of, head_held, results_of, done_for, pending_of, submit_of, asked_by, asked, got}
+use Rattle.sv_client.specs.Taking.{Identity, unanswered, allows, Fault, WrongKind, Unasked, fault_after}
+use Rattle.sv_client.specs.Proper.{MayGet, MayJoin, AreProper}
 use Rattle.sv_system.specs.Fronts.{IsFront}
 use Rattle.sv_system.specs.Fits.{is_join_of}
 use Rattle.sv_system.proofs.Fronts.{front-all, front-then, front-append, get-push_cases}

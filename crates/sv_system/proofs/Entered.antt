@@ -1,5 +1,5 @@
 -- A journal's requests and replies of a session, entry by entry; and what stays so when a history goes on.
-use Rattle.std.proofs.Common.{◌≡◌, ℕ, zero, suc, ◌+◌, ◌<◌, ◌≤◌, max, Bool, true, false, cond, ◌&&◌, ◌||◌, not, ◌==◌, ◌⊎◌, inl, inr, List, [], ◌∷◌, ◌++◌, length, Option, Some, None, slice_get, refl, sym, ap, ◌∙◌, subst, arith, eqb-true, eq-eqb, true≢false}
+use Rattle.std.proofs.Common.{◌≡◌, ℕ, suc, ◌+◌, ◌≤◌, max, Bool, true, false, ◌&&◌, not, ◌==◌, ◌⊎◌, inl, inr, List, [], ◌∷◌, ◌++◌, length, Option, Some, None, slice_get, refl, sym, ap, ◌∙◌, arith, eqb-true, eq-eqb}
 use Rattle.std.specs.Prelude.{if◌then◌else◌}
 use Rattle.std.proofs.lemmas.Bool.{cond_both, cond-true, cond-false, cases_Bool, and_parts, and_from, or_left, or_right, not-true, not_from_false, ne_eqb}
 use Rattle.std.proofs.lemmas.List.{length-append}
@@ -11,14 +11,13 @@ use Rattle.sv_wire.specs.declared.message.Request.{Request}
 use Rattle.sv_wire.specs.declared.message.Request.TheVariants as requests
 use Rattle.sv_wire.specs.declared.message.Reply.{Reply}
 use Rattle.sv_journal.specs.declared.entry.Entry.{Entry}
-use Rattle.sv_journal.specs.declared.entry.Logged.{Logged}
 use Rattle.sv_journal.specs.declared.entry.Logged.TheVariants as logged
 use Rattle.sv_journal.specs.History.{Authored, is_welcome, joining, is_client, client_of, full_reply, either}
 use Rattle.sv_journal.specs.Sessions.{is_end, is_last, welcomes, is_over, life_in, life_of}
 use Rattle.sv_system.specs.Fronts.{IsFront}
 use Rattle.sv_system.specs.Fits.{requests_in, replies_in}
 use Rattle.sv_system.proofs.Fronts.{front-all, front-then, front-append, get-last, get-push_cases}
-use Rattle.sv_system.proofs.Histories.{IsEarlier, same, after, earlier-rest}
+use Rattle.sv_system.proofs.Histories.{IsEarlier, same, after}
 
 -- Two earlier parts of a history: one is an earlier part of the other.
 pub earlier-cases : (h g H : List Entry) → IsEarlier h H → IsEarlier g H → IsEarlier h g ⊎ IsEarlier g h

@@ -1,13 +1,12 @@
 -- A legal journal makes lawful deliveries, where the results that it notes are those of the serial execution.
-use Rattle.std.proofs.Common.{◌≡◌, ℕ, zero, suc, ◌+◌, ◌<◌, ◌≤◌, Bool, true, false, cond, ◌&&◌, ◌||◌, ◌==◌, nat_le, ◌⊎◌, inl, inr, List, [], ◌∷◌, ◌++◌, map, filter, take, length, ℤ, Option, Some, None, is_some, slice_index_or, refl, sym, ap, ap₂, ◌∙◌, subst, arith, append-nil, eqb-true, true≢false, add-one}
+use Rattle.std.proofs.Common.{◌≡◌, ℕ, zero, suc, ◌+◌, ◌<◌, ◌≤◌, Bool, true, false, ◌&&◌, ◌==◌, nat_le, inl, inr, List, [], ◌∷◌, ◌++◌, map, filter, take, length, ℤ, Option, Some, None, is_some, slice_index_or, refl, sym, ap, ap₂, ◌∙◌, subst, arith, append-nil, true≢false, add-one}
 use Rattle.std.specs.Prelude.{if◌then◌else◌, unwrap_or}
-use Rattle.std.specs.List.{list_any, AllByRecursion}
-use Rattle.std.proofs.lemmas.Bool.{cond_both, cond-true, cond-false, cases_Bool}
-use Rattle.std.proofs.lemmas.List.{take_at, map-append, length-append}
+use Rattle.std.specs.List.{list_any}
+use Rattle.std.proofs.lemmas.Bool.{cond_both, cases_Bool}
+use Rattle.std.proofs.lemmas.List.{take_at, map-append}
 use Rattle.std.proofs.lemmas.List.Elements.{filter_agree}
-use Rattle.std.proofs.lemmas.Option.{none-some, same_Some}
 use Rattle.sv_world.specs.Control.{is_in, below, action_at, last_writer, needed_for, head_for}
-use Rattle.sv_world.specs.Sets.{read_set, write_set}
+use Rattle.sv_world.specs.Sets.{write_set}
 use Rattle.sv_world.specs.declared.action.Action.{Action}
 use Rattle.sv_world.specs.declared.world.ObjectId.{ObjectId}
 use Rattle.sv_world.proofs.Members.{is_in-head, is_in-tail, is_in-append_cases}
@@ -18,12 +17,12 @@ use Rattle.sv_wire.specs.declared.message.Held.{Held as Sent}
 use Rattle.sv_journal.specs.declared.entry.Entry.{Entry}
 use Rattle.sv_journal.specs.declared.entry.Logged.{Logged}
 use Rattle.sv_journal.specs.declared.entry.Logged.TheVariants as logged
-use Rattle.sv_journal.specs.History.{Authored, accepted, actions_of, is_noted, reports, result_at, commit_of, installed, committed_of, either}
-use Rattle.sv_journal.specs.Sessions.{positions_in, sent_to, names, named_in, named_to, given_at, committed_writer, is_given, already_given}
+use Rattle.sv_journal.specs.History.{Authored, accepted, actions_of, is_noted, reports, result_at, commit_of, installed, either}
+use Rattle.sv_journal.specs.Sessions.{positions_in, sent_to, named_in, named_to, given_at, committed_writer, is_given, already_given}
 use Rattle.sv_journal.specs.Answer.{Rules, committed_held, Legal}
 use Rattle.sv_client.specs.Traces.{head_held}
-use Rattle.sv_system.specs.Serial.{IsSerial, AreSerial}
-use Rattle.sv_system.specs.Delivery.{Delivery, told_positions, head_objects, told_commits, known_at, known_values, IsRelayed, IsLawful, AreLawful}
+use Rattle.sv_system.specs.Serial.{AreSerial}
+use Rattle.sv_system.specs.Delivery.{Delivery, told_positions, head_objects, told_commits, known_at, known_values, IsLawful, AreLawful}
 use Rattle.sv_system.specs.Journals.{delivery_by, deliveries_of, serial_result, ResultsAreSerial}
 use Rattle.sv_system.proofs.Serials.{serial-step}
 use Rattle.sv_system.proofs.Histories.{IsEarlier, same, after, earlier-rest, actions-earlier, actions-count, accepted-grows, action_at-earlier, commit-most, committed-has}

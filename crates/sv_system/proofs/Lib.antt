@@ -3,8 +3,10 @@ pub mod Covers
 pub mod Entered
 pub mod Fronts
 pub mod Histories
+pub mod Induction
 pub mod Items
 pub mod Lawful
+pub mod Order
 pub mod Relays
 pub mod Replied
 pub mod Replies

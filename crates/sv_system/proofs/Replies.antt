@@ -1,18 +1,16 @@
 -- What a reply that the table gives says of its request and of the history before it.
-use Rattle.std.proofs.Common.{◌≡◌, ℕ, zero, suc, ◌+◌, ◌<◌, ◌≤◌, Bool, true, false, cond, ◌&&◌, ◌||◌, not, ◌==◌, nat_le, nat_lt, ◌⊎◌, inl, inr, List, [], ◌∷◌, ◌++◌, map, filter, length, Option, Some, None, is_none, refl, sym, ap, ◌∙◌, subst, arith, eqb-true, eq-eqb, leb-false, leb-true, ltb-true, true≢false, append-nil}
-use Rattle.std.specs.Prelude.{if◌then◌else◌}
+use Rattle.std.proofs.Common.{◌≡◌, ℕ, suc, ◌+◌, ◌<◌, ◌≤◌, true, false, ◌&&◌, ◌||◌, ◌==◌, nat_le, nat_lt, List, [], ◌∷◌, ◌++◌, map, length, Option, Some, None, is_none, refl, sym, ap, ◌∙◌, subst, arith, eqb-true, eq-eqb, leb-false, ltb-true, true≢false, append-nil}
 use Rattle.std.specs.List.{AllByRecursion}
-use Rattle.std.proofs.lemmas.Bool.{cond_both, cond-true, cond-false, cases_Bool, and_parts, not-true, false_from_ne_true}
+use Rattle.std.proofs.lemmas.Bool.{cond_both, cond-true, cond-false, and_parts, false_from_ne_true}
 use Rattle.std.proofs.lemmas.List.{length-append}
 use Rattle.sv_world.specs.declared.action.Action.{Action}
 use Rattle.sv_world.specs.declared.check.BadAction.{BadAction}
 use Rattle.sv_world.specs.declared.world.ObjectId.{ObjectId}
 use Rattle.sv_world.specs.declared.world.ClientId.{ClientId}
 use Rattle.sv_world.specs.Control.{is_in, below, needed_for, head_for, chain_length, influence_distance}
-use Rattle.sv_world.specs.Faults.{first_fault_of_action, cause_number}
+use Rattle.sv_world.specs.Faults.{first_fault_of_action}
 use Rattle.sv_world.proofs.Members.{is_in-head, is_in-filter_parts}
 use Rattle.sv_world.proofs.Bases.{below-is_in}
-use Rattle.sv_wire.specs.declared.message.Done1.{Done1}
 use Rattle.sv_wire.specs.declared.message.Held.{Held}
 use Rattle.sv_wire.specs.declared.message.Request.{Request}
 use Rattle.sv_wire.specs.declared.message.Request.TheVariants as requests
@@ -20,8 +18,8 @@ use Rattle.sv_journal.specs.declared.entry.Entry.{Entry}
 use Rattle.sv_journal.specs.declared.entry.Logged.{Logged}
 use Rattle.sv_journal.specs.declared.entry.Logged.TheVariants as logged
 use Rattle.sv_journal.specs.History.{Authored, Outcome, Accepted, Dropped, new_action, outcomes_of, client_of, accepted, actions_of, next_seq, result_at, commit_of}
-use Rattle.sv_journal.specs.Sessions.{is_joined, is_over, is_live, is_end, asked_in, life_of, kept_outcome, sent_to, already_given}
-use Rattle.sv_journal.specs.Answer.{Rules, refused, committed_held, relay_of, is_over_reach, reply_to_good, reply_to_checked, reply_to_new, reply_to_submit, is_bad_done, commit_with, reply_to_done, is_abandoned, orphans, reply_to_poll, is_good_interest, reply_to_join, reply_to_client, reply_to_member, reply_to_open, most_requests, reply_to_request, reply_to, Legal}
+use Rattle.sv_journal.specs.Sessions.{is_over, is_live, is_end, asked_in, life_of, kept_outcome, sent_to, already_given}
+use Rattle.sv_journal.specs.Answer.{Rules, refused, committed_held, is_over_reach, reply_to_good, reply_to_checked, reply_to_submit, is_bad_done, is_abandoned, orphans, reply_to_poll, is_good_interest, reply_to_join, reply_to_client, reply_to_member, reply_to_open, most_requests, reply_to_request, reply_to, Legal}
 use Rattle.sv_system.proofs.Histories.{actions-count, commit-most, kept-within, kept-below}
 
 -- The action of a request, where it is a Submit with its client's next number.

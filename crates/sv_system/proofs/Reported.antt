@@ -1,17 +1,15 @@
 -- The results that a client reports of a relay's items are those of the serial execution.
-use Rattle.std.proofs.Common.{◌≡◌, ℕ, zero, suc, ◌<◌, Bool, true, List, [], ◌∷◌, ◌++◌, map, length, ℤ, refl, sym, ap, ◌∙◌, subst, arith}
+use Rattle.std.proofs.Common.{◌≡◌, ℕ, zero, suc, ◌<◌, true, List, [], ◌∷◌, ◌++◌, map, length, ℤ, ap, ◌∙◌, arith}
 use Rattle.std.specs.Prelude.{unwrap_or}
 use Rattle.std.specs.List.{AllByRecursion}
-use Rattle.sv_world.specs.Control.{is_in, action_at, last_writer}
+use Rattle.sv_world.specs.Control.{action_at, last_writer}
 use Rattle.sv_world.specs.Faults.{is_ascending}
 use Rattle.sv_world.specs.Sets.{read_set}
 use Rattle.sv_world.specs.declared.action.Action.{Action}
 use Rattle.sv_world.proofs.Ascending.{ascending-tail}
 use Rattle.sv_eval.specs.Evaluation.{outcome_of}
-use Rattle.sv_eval.specs.declared.outcome.Outcome.{Outcome}
 use Rattle.sv_versions.specs.Held.{Held, read_below}
 use Rattle.sv_wire.specs.declared.message.Done1.{Done1}
-use Rattle.sv_wire.specs.declared.message.Item.{Item}
 use Rattle.sv_journal.specs.History.{Authored, item_at}
 use Rattle.sv_client.specs.Traces.{item_result, item_held, results_of}
 use Rattle.sv_system.specs.Serial.{IsSerial, AreSerial, is_covered}

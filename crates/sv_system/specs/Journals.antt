@@ -6,7 +6,6 @@ use Rattle.sv_world.specs.Control.{action_at}
 use Rattle.sv_world.specs.Sets.{read_set}
 use Rattle.sv_eval.specs.Evaluation.{outcome_of}
 use Rattle.sv_eval.specs.Serial.{values_at, serial_world}
-use Rattle.sv_eval.specs.declared.outcome.Outcome.{Outcome}
 use Rattle.sv_journal.specs.declared.entry.Entry.{Entry}
 use Rattle.sv_journal.specs.declared.entry.Logged.{Logged}
 use Rattle.sv_journal.specs.declared.entry.Logged.TheVariants as logged
