@@ -98,7 +98,7 @@ module _ (objects : ℕ) (opening : List (List ℤ)) (count : length opening ≡
       ∙ ap (λ (y : ℕ). slice_index_or (serial_world opening acts h.pos) y []) f.1.1.1.0
       ∙ sym (serial-since opening acts x n h.pos low (omega arith))
 
-  reads-serial : (held : List Held) (n : ℕ) (xs : List ℕ) → AreSerial opening (actions_in A) held →
+  pub reads-serial : (held : List Held) (n : ℕ) (xs : List ℕ) → AreSerial opening (actions_in A) held →
       AllByRecursion (λ x. is_covered x (last_writer (actions_in A) x (suc n)) (suc n) held ≡ true) xs →
       map (λ x. unwrap_or (read_below held x (suc n)) []) xs ≡ values_at (serial_world opening (actions_in A) n) xs
   reads-serial held n [] serial covered = refl
@@ -122,7 +122,7 @@ module _ (objects : ℕ) (opening : List (List ℤ)) (count : length opening ≡
       (λ x m. subst (λ (l : ℕ). x < l) (sym (serial_length opening acts n ∙ count))
       (each-is_in (λ (y : ℕ). y < objects) (read_set a) (plain (suc n)).1 x (at_mask-members a.mask 0 (read_set a) x m))))
 
-  item-serial : (held : List Held) (k : ℕ) → AreSerial opening (actions_in A) held →
+  pub item-serial : (held : List Held) (k : ℕ) → AreSerial opening (actions_in A) held →
       AllByRecursion (λ x. is_covered x (last_writer (actions_in A) x k) k held ≡ true) (read_set (action_at (actions_in A) k)) →
       IsSupplied (actions_in A) held (item_at A k) × AreSerial opening (actions_in A) (item_held held (item_at A k))
   item-serial held k serial covered =
@@ -133,7 +133,7 @@ module _ (objects : ℕ) (opening : List (List ℤ)) (count : length opening ≡
         results-serial held k serial covered,
       )
 
-  first-covered : (held : List Held) (k : ℕ) (ks : List ℕ) → is_ascending (k ∷ ks) ≡ true → AreWaiting (actions_in A) held (k ∷ ks) →
+  pub first-covered : (held : List Held) (k : ℕ) (ks : List ℕ) → is_ascending (k ∷ ks) ≡ true → AreWaiting (actions_in A) held (k ∷ ks) →
       (x : ℕ) → is_in x (read_set (action_at (actions_in A) k)) ≡ true → is_covered x (last_writer (actions_in A) x k) k held ≡ true
   first-covered held k ks asc waiting x r =
       elim (waiting k (is_in-head k ks) x r) [
@@ -146,7 +146,7 @@ module _ (objects : ℕ) (opening : List (List ℤ)) (count : length opening ≡
             ])
       ]
 
-  rest-waiting : (held : List Held) (k : ℕ) (ks : List ℕ) → is_ascending (k ∷ ks) ≡ true → AreWaiting (actions_in A) held (k ∷ ks) →
+  pub rest-waiting : (held : List Held) (k : ℕ) (ks : List ℕ) → is_ascending (k ∷ ks) ≡ true → AreWaiting (actions_in A) held (k ∷ ks) →
       AreWaiting (actions_in A) (held ++ item_held held (item_at A k)) ks
   rest-waiting held k ks asc waiting j m x r =
       let acts = actions_in A in

@@ -1,7 +1,16 @@
+pub mod Asked
 pub mod Covers
+pub mod Entered
 pub mod Fronts
+pub mod Histories
+pub mod Induction
 pub mod Items
+pub mod Lawful
+pub mod Order
 pub mod Relays
+pub mod Replied
+pub mod Replies
+pub mod Reported
 pub mod Serials
 pub mod Taken
 pub mod Tellings

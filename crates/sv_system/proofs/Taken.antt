@@ -1,6 +1,7 @@
 -- Each client that takes the first of its sessions' lawful deliveries holds serial values alone, and each of its relays is sufficient.
 use Rattle.std.proofs.Common.{◌≡◌, ℕ, zero, suc, ◌<◌, ◌==◌, ◌⊎◌, inl, inr, List, [], ◌∷◌, ◌++◌, length, ℤ, refl, sym, ap, ◌∙◌, subst, arith, eq-eqb}
 use Rattle.std.specs.Prelude.{All}
+use Rattle.std.specs.List.{AllByRecursion}
 use Rattle.std.proofs.lemmas.Bool.{cond-true, cond-false, cases_Bool}
 use Rattle.std.proofs.lemmas.List.{append-nil}
 use Rattle.std.proofs.lemmas.List.Elements.{recursion_from_All}
@@ -8,13 +9,14 @@ use Rattle.sv_world.specs.Control.{action_at}
 use Rattle.sv_world.specs.Faults.{IsGoodAction}
 use Rattle.sv_world.specs.Sets.{read_set}
 use Rattle.sv_world.specs.declared.world.Shape.{Shape}
+use Rattle.sv_world.specs.declared.action.Action.{Action}
 use Rattle.sv_versions.specs.Held.{Held}
 use Rattle.sv_wire.specs.declared.message.Reply.{Reply}
 use Rattle.sv_wire.specs.declared.message.Reply.TheVariants as replies
 use Rattle.sv_journal.specs.History.{Authored}
 use Rattle.sv_client.specs.declared.trace.Event.{Event}
 use Rattle.sv_client.specs.declared.trace.Event.TheVariants as events
-use Rattle.sv_client.specs.Traces.{head_held, held_of}
+use Rattle.sv_client.specs.Traces.{head_held, held_of, results_of}
 use Rattle.sv_system.specs.Fronts.{IsFront}
 use Rattle.sv_system.specs.Serial.{AreSerial, AreSupplied, AreSufficient}
 use Rattle.sv_system.specs.Delivery.{Delivery, Telling, AreLawful, tellings_to, telling_in, tellings_got}
@@ -22,6 +24,7 @@ use Rattle.sv_system.proofs.Fronts.{front-then, front-append, get-last, fronts-s
 use Rattle.sv_system.proofs.Tests.{any-left, each-append}
 use Rattle.sv_system.proofs.Items.{actions_in, IsPlain, items-keep}
 use Rattle.sv_system.proofs.Relays.{Knows}
+use Rattle.sv_system.proofs.Reported.{IsSerialResult}
 use Rattle.sv_system.proofs.Tellings.{IsTaken, AreTaken, with_telling, telling_of, taken-more, each-weaker, knows-taken, IsTakenWell, delivery-taken, told-at}
 
 -- Each position's action has what the check promises, also where it is blank.
@@ -32,6 +35,17 @@ plain-at shape (a ∷ A) good (suc zero) =
     let g : IsGoodAction shape a.action = good 0 a (omega arith) in
     (g.ascending, recursion_from_All (λ (x : ℕ). x < shape.objects) (read_set a.action) g.objects)
 plain-at shape (a ∷ A) good (suc (suc k)) = plain-at shape A (λ i d l. good (suc i) d (omega arith)) (suc k)
+
+-- The results reported of a reply, where these values are held before it.
+abbrev pub IsReported : List (List ℤ) → List Action → List Held → Reply → Type 0
+IsReported opening A held (replies.Relay seq commit head items) = AllByRecursion (IsSerialResult opening A) (results_of (held ++ head_held commit head) items)
+IsReported opening A held _ = Unit {0}
+
+-- The results reported of each relay that was got are those of the serial execution.
+abbrev pub AreReported : List (List ℤ) → List Action → List Event → Type 0
+AreReported opening A [] = Unit {0}
+AreReported opening A (events.Got s reply ∷ t) = IsReported opening A (held_of t) reply × AreReported opening A t
+AreReported opening A (_ ∷ t) = AreReported opening A t
 
 got-mine : (s : ℕ) (r : Reply) (t : List Event) → tellings_got (events.Got s r ∷ t) s ≡ tellings_got t s ++ telling_in r
 got-mine s r t = cond-true (s == s) _ _ (eq-eqb s s refl)
@@ -58,6 +72,7 @@ module _ (objects : ℕ) (opening : List (List ℤ)) (count : length opening ≡
     pub serial : AreSerial opening (actions_in A) (held_of t)
     pub sufficient : AreSufficient (actions_in A) t
     pub taken : (s : ℕ) → AreTaken (held_of t) (tellings_got t s)
+    pub reported : AreReported opening (actions_in A) t
 
   earlier-front : (s : ℕ) (r : Reply) (t : List Event) → AreFronts (events.Got s r ∷ t) → AreFronts t
   earlier-front s r t f n = front-then (tellings_got t n) (tellings_got (events.Got s r ∷ t) n) (tellings_to A ds n) (got-front s r t n) (f n)
@@ -67,9 +82,10 @@ module _ (objects : ℕ) (opening : List (List ℤ)) (count : length opening ≡
     pub supplied : AreSupplied (actions_in A) (held ++ head_held T.commit T.head) T.items
     pub serial : AreSerial opening (actions_in A) (with_telling held T)
     pub taken : IsTaken (with_telling held T) T
+    pub reported : AllByRecursion (IsSerialResult opening (actions_in A)) (results_of (held ++ head_held T.commit T.head) T.items)
 
   of-delivery : (held : List Held) (d : Delivery) → IsTakenWell objects opening count A plain held d → IsTellingTaken held (telling_of A d)
-  of-delivery held d w = record { supplied = w.supplied; serial = w.serial; taken = w.taken }
+  of-delivery held d w = record { supplied = w.supplied; serial = w.serial; taken = w.taken; reported = w.reported }
 
   telling-taken : (s : ℕ) (r : Reply) (t : List Event) (T : Telling) → telling_in r ≡ T ∷ [] → AreFronts (events.Got s r ∷ t) → IsWell t → IsTellingTaken (held_of t) T
   telling-taken s r t T e f w =
@@ -111,31 +127,31 @@ module _ (objects : ℕ) (opening : List (List ℤ)) (count : length opening ≡
   got-well s (replies.Welcome commit head) t f w =
       let T : Telling = record { commit = commit; head = head; items = [] } in
       let g = telling-taken s (replies.Welcome commit head) t T refl f w in
-      record { serial = g.serial; sufficient = (tt, w.sufficient); taken = taken-now s (replies.Welcome commit head) t T refl w g.taken }
+      record { serial = g.serial; sufficient = (tt, w.sufficient); taken = taken-now s (replies.Welcome commit head) t T refl w g.taken; reported = (tt, w.reported) }
   got-well s (replies.Relay seq commit head items) t f w =
       let T : Telling = record { commit = commit; head = head; items = items } in
       let g = telling-taken s (replies.Relay seq commit head items) t T refl f w in
-      record { serial = g.serial; sufficient = (g.supplied, w.sufficient); taken = taken-now s (replies.Relay seq commit head items) t T refl w g.taken }
+      record { serial = g.serial; sufficient = (g.supplied, w.sufficient); taken = taken-now s (replies.Relay seq commit head items) t T refl w g.taken; reported = (g.reported, w.reported) }
   got-well s (replies.Dropped seq chain far) t f w =
-      record { serial = w.serial; sufficient = (tt, w.sufficient); taken = taken-silent s (replies.Dropped seq chain far) t refl w }
+      record { serial = w.serial; sufficient = (tt, w.sufficient); taken = taken-silent s (replies.Dropped seq chain far) t refl w; reported = (tt, w.reported) }
   got-well s (replies.Settled seq pos) t f w =
-      record { serial = w.serial; sufficient = (tt, w.sufficient); taken = taken-silent s (replies.Settled seq pos) t refl w }
+      record { serial = w.serial; sufficient = (tt, w.sufficient); taken = taken-silent s (replies.Settled seq pos) t refl w; reported = (tt, w.reported) }
   got-well s (replies.Noted commit) t f w =
-      record { serial = w.serial; sufficient = (tt, w.sufficient); taken = taken-silent s (replies.Noted commit) t refl w }
+      record { serial = w.serial; sufficient = (tt, w.sufficient); taken = taken-silent s (replies.Noted commit) t refl w; reported = (tt, w.reported) }
   got-well s replies.Idle t f w =
-      record { serial = w.serial; sufficient = (tt, w.sufficient); taken = taken-silent s replies.Idle t refl w }
+      record { serial = w.serial; sufficient = (tt, w.sufficient); taken = taken-silent s replies.Idle t refl w; reported = (tt, w.reported) }
   got-well s (replies.Refused code detail) t f w =
-      record { serial = w.serial; sufficient = (tt, w.sufficient); taken = taken-silent s (replies.Refused code detail) t refl w }
+      record { serial = w.serial; sufficient = (tt, w.sufficient); taken = taken-silent s (replies.Refused code detail) t refl w; reported = (tt, w.reported) }
   got-well s replies.Bye t f w =
-      record { serial = w.serial; sufficient = (tt, w.sufficient); taken = taken-silent s replies.Bye t refl w }
+      record { serial = w.serial; sufficient = (tt, w.sufficient); taken = taken-silent s replies.Bye t refl w; reported = (tt, w.reported) }
 
   pub all-well : (t : List Event) → AreFronts t → IsWell t
-  all-well [] f = record { serial = tt; sufficient = tt; taken = λ s. tt }
+  all-well [] f = record { serial = tt; sufficient = tt; taken = λ s. tt; reported = tt }
   all-well (events.Got s r ∷ t) f = got-well s r t f (all-well t (earlier-front s r t f))
-  all-well (events.Join s ∷ t) f = let w = all-well t f in record { serial = w.serial; sufficient = w.sufficient; taken = w.taken }
-  all-well (events.Make action ∷ t) f = let w = all-well t f in record { serial = w.serial; sufficient = w.sufficient; taken = w.taken }
-  all-well (events.Poll ∷ t) f = let w = all-well t f in record { serial = w.serial; sufficient = w.sufficient; taken = w.taken }
-  all-well (events.Leave ∷ t) f = let w = all-well t f in record { serial = w.serial; sufficient = w.sufficient; taken = w.taken }
-  all-well (events.Cut ∷ t) f = let w = all-well t f in record { serial = w.serial; sufficient = w.sufficient; taken = w.taken }
-  all-well (events.Quit ∷ t) f = let w = all-well t f in record { serial = w.serial; sufficient = w.sufficient; taken = w.taken }
-  all-well (events.Show objects' ∷ t) f = let w = all-well t f in record { serial = w.serial; sufficient = w.sufficient; taken = w.taken }
+  all-well (events.Join s ∷ t) f = let w = all-well t f in record { serial = w.serial; sufficient = w.sufficient; taken = w.taken; reported = w.reported }
+  all-well (events.Make action ∷ t) f = let w = all-well t f in record { serial = w.serial; sufficient = w.sufficient; taken = w.taken; reported = w.reported }
+  all-well (events.Poll ∷ t) f = let w = all-well t f in record { serial = w.serial; sufficient = w.sufficient; taken = w.taken; reported = w.reported }
+  all-well (events.Leave ∷ t) f = let w = all-well t f in record { serial = w.serial; sufficient = w.sufficient; taken = w.taken; reported = w.reported }
+  all-well (events.Cut ∷ t) f = let w = all-well t f in record { serial = w.serial; sufficient = w.sufficient; taken = w.taken; reported = w.reported }
+  all-well (events.Quit ∷ t) f = let w = all-well t f in record { serial = w.serial; sufficient = w.sufficient; taken = w.taken; reported = w.reported }
+  all-well (events.Show objects' ∷ t) f = let w = all-well t f in record { serial = w.serial; sufficient = w.sufficient; taken = w.taken; reported = w.reported }

@@ -11,7 +11,7 @@ use Rattle.sv_world.proofs.Members.{is_in-head, is_in-tail, is_in-one, is_in-con
 use Rattle.sv_versions.specs.Held.{Held}
 use Rattle.sv_wire.specs.declared.message.Item.{Item}
 use Rattle.sv_journal.specs.History.{Authored, item_at}
-use Rattle.sv_client.specs.Traces.{head_held, with_items}
+use Rattle.sv_client.specs.Traces.{head_held, with_items, results_of}
 use Rattle.sv_system.specs.Fronts.{IsFront}
 use Rattle.sv_system.specs.Serial.{IsSerial, AreSerial, AreSupplied}
 use Rattle.sv_system.specs.Delivery.{Delivery, Telling, told_positions, told_commits, head_objects, IsRelayed, IsLawful, AreLawful, tellings_to}
@@ -19,6 +19,7 @@ use Rattle.sv_system.proofs.Tests.{any-right, each-append}
 use Rattle.sv_system.proofs.Fronts.{front-all, front-then, front-append, get-push_cases}
 use Rattle.sv_system.proofs.Covers.{is_held}
 use Rattle.sv_system.proofs.Items.{actions_in, item-action, IsPlain, AreWaiting, items-keep, items-have, items-supplied}
+use Rattle.sv_system.proofs.Reported.{IsSerialResult, items-reported}
 use Rattle.sv_system.proofs.Relays.{head-has, Knows, positions-ascending, relay-waiting}
 
 -- All that a telling tells is held: the values of its head at its commit, and of each item those of what it writes at its position.
@@ -122,6 +123,7 @@ module _ (objects : ℕ) (opening : List (List ℤ)) (count : length opening ≡
     pub supplied : AreSupplied (actions_in A) (held ++ head_held d.commit d.head) (map (item_at A) d.positions)
     pub serial : AreSerial opening (actions_in A) (with_telling held (telling_of A d))
     pub taken : IsTaken (with_telling held (telling_of A d)) (telling_of A d)
+    pub reported : AllByRecursion (IsSerialResult opening (actions_in A)) (results_of (held ++ head_held d.commit d.head) (map (item_at A) d.positions))
 
   waiting-of : (held : List Held) (ds : List Delivery) (d : Delivery) → Knows (actions_in A) ds d.session held →
       (d.positions ≡ []) ⊎ IsRelayed objects (actions_in A) ds d →
@@ -144,11 +146,12 @@ module _ (objects : ℕ) (opening : List (List ℤ)) (count : length opening ≡
   delivery-taken held ds d serial known lawful =
       let heads = head_held d.commit d.head in
       let w = waiting-of held ds d known lawful.relayed in
-      let items = items-supplied objects opening count A plain d.positions (held ++ heads) w.0
-      (each-append (IsSerial opening (actions_in A)) held heads serial lawful.serial) w.1 in
+      let all : AreSerial opening (actions_in A) (held ++ heads) = each-append (IsSerial opening (actions_in A)) held heads serial lawful.serial in
+      let items = items-supplied objects opening count A plain d.positions (held ++ heads) w.0 all w.1 in
       record {
         supplied = items.0;
         serial = items.1;
+        reported = items-reported objects opening count A plain d.positions (held ++ heads) w.0 all w.1;
         taken = (
           λ x m. items-keep (λ h. h.object == x && h.pos == d.commit) (held ++ heads) (map (item_at A) d.positions)
               (any-right (λ h. h.object == x && h.pos == d.commit) held heads (head-has d.commit d.head x m)),

@@ -1,5 +1,6 @@
 pub mod Fronts
 pub mod Fits
+pub mod Journals
 pub mod Serial
 pub mod Delivery
 pub mod Schedule

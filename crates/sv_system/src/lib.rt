@@ -2,5 +2,9 @@
 #![tactic(auto)]
 
 mod deliveries;
+mod journals;
+mod truth;
 
 pub use deliveries::lawful_deliveries_make_values_serial;
+pub use journals::legal_journals_make_lawful_deliveries;
+pub use truth::replicas_equal_serial_execution;

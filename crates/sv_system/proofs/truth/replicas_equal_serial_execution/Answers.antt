@@ -1,0 +1,8 @@
+use Rattle.sv_system.proofs.Induction.{values-serial, relays-sufficient}
+use Rattle.sv_system.proofs.truth.replicas_equal_serial_execution.Goals as goal
+
+pub returns-clause-values : goal.returns-clause-values
+returns-clause-values c = values-serial
+
+pub returns-clause-relays : goal.returns-clause-relays
+returns-clause-relays c = relays-sufficient

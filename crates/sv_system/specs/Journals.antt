@@ -1,0 +1,36 @@
+-- The deliveries that a journal tells, and when the results that it notes are those of the serial execution.
+-- A history is the list of a journal's entries with the latest first.
+use Rattle.std.specs.Prelude.{◌≡◌, ℕ, zero, suc, ◌<◌, ℤ, List, [], ◌∷◌, ◌++◌, length, Some}
+use Rattle.sv_world.specs.declared.action.Action.{Action}
+use Rattle.sv_world.specs.Control.{action_at}
+use Rattle.sv_world.specs.Sets.{read_set}
+use Rattle.sv_eval.specs.Evaluation.{outcome_of}
+use Rattle.sv_eval.specs.Serial.{values_at, serial_world}
+use Rattle.sv_journal.specs.declared.entry.Entry.{Entry}
+use Rattle.sv_journal.specs.declared.entry.Logged.{Logged}
+use Rattle.sv_journal.specs.declared.entry.Logged.TheVariants as logged
+use Rattle.sv_journal.specs.History.{accepted, result_at}
+use Rattle.sv_system.specs.Delivery.{Delivery}
+
+-- The delivery of a reply to a session, when `count` actions are accepted: that of a welcome has no positions.
+abbrev pub delivery_by : ℕ → ℕ → Logged → List Delivery
+delivery_by s count (logged.Welcome commit head) = record { session = s; count = count; commit = commit; head = head; positions = [] } ∷ []
+delivery_by s count (logged.Relay seq commit head positions) =
+    record { session = s; count = count; commit = commit; head = head; positions = positions } ∷ []
+delivery_by s count _ = []
+
+-- The deliveries of a history's welcomes and relays, with the latest first.
+abbrev pub deliveries_of : List Entry → List Delivery
+deliveries_of [] = []
+deliveries_of (e ∷ h) = delivery_by e.session (length (accepted (e ∷ h))) e.reply ++ deliveries_of h
+
+-- The result that the serial execution gives at a position.
+abbrev pub serial_result : List (List ℤ) → List Action → ℕ → List (List ℤ)
+serial_result opening A zero = []
+serial_result opening A (suc p) =
+    (outcome_of (action_at A (suc p)) (values_at (serial_world opening A p) (read_set (action_at A (suc p))))).writes
+
+-- Each result that a history notes of a position is that of the serial execution.
+abbrev pub ResultsAreSerial : List (List ℤ) → List Action → List Entry → Type 0
+ResultsAreSerial opening A h =
+    (p : ℕ) (values : List (List ℤ)) → 0 < p → result_at h p ≡ Some values → values ≡ serial_result opening A p
