@@ -12,7 +12,7 @@ mod text;
 pub use entry::{Entry, Logged};
 pub use journal::Journal;
 pub use laws::examples_are_answered;
-pub use print::print_journal;
+pub use print::{print_journal, relays_name_accepted};
 pub use text::{append_held, append_objects, append_value};
 
 #[cfg(test)]

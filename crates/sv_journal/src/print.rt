@@ -1,5 +1,5 @@
 //! The printed text of a journal.
-ghost use Rattle.std.specs.Prelude.{◌≡◌, ◌≤◌, ◌++◌, All, length, reverse, codes, string_bytes, OnOk, OnErr};
+ghost use Rattle.std.specs.Prelude.{◌≡◌, ◌≤◌, ◌++◌, All, length, reverse, codes, string_bytes, MatchBool, OnOk, OnErr};
 ghost use Rattle.std.specs.Fmt.{decimal};
 ghost use Rattle.sv_journal.specs.History.{accepted};
 ghost use Rattle.sv_journal.specs.Pieces.{bracketed, head_text, objects_text, result_text};
@@ -164,6 +164,41 @@ fn append_journal(shape: Shape, journal: &Journal, out: &mut String) -> Result<(
     let count = journal.len();
     write!(out, "journal {count}\n")?;
     append_entries(shape, journal, out)
+}
+
+/// Whether each position is one of so many accepted actions.
+fn are_accepted(count: usize, positions: &[u32]) -> bool
+    ensures { MatchBool result (All (λ p. (1 ≤ p) × (p ≤ count)) positions.now) (All (λ p. (1 ≤ p) × (p ≤ count)) positions.now → ⊥) }
+{
+    for pos in positions {
+        if *pos == 0 || *pos as usize > count {
+            return false;
+        }
+    }
+    true
+}
+
+fn names_accepted(count: usize, reply: &Logged) -> bool
+    ensures { MatchBool result (NamesAccepted count reply.now) (NamesAccepted count reply.now → ⊥) }
+{
+    match reply {
+        Logged::Relay { positions, .. } => are_accepted(count, positions.as_slice()),
+        _ => true,
+    }
+}
+
+/// Whether each position that a relay of the journal names is that of an accepted action, as in each journal of a server.
+pub fn relays_name_accepted(journal: &Journal) -> bool
+    ensures { MatchBool result (RelaysNameAccepted journal.now.entries) (RelaysNameAccepted journal.now.entries → ⊥) }
+{
+    let count = journal.accepted_count();
+    let entries = journal.entries();
+    for entry in entries {
+        if !names_accepted(count, &entry.reply) {
+            return false;
+        }
+    }
+    true
 }
 
 /// Appends the text of a journal, a line for each entry after one with their number.
