@@ -1,5 +1,5 @@
 -- How many items and members there are.
-use Rattle.std.proofs.Common.{◌≡◌, ℕ, suc, List, [], ◌∷◌, length, ◌≤◌, false, refl, ap, arith}
+use Rattle.std.proofs.Common.{◌≡◌, suc, List, [], ◌∷◌, length, ◌≤◌, false, refl, ap, arith}
 use Rattle.std.specs.Prelude.{String}
 use Rattle.std.specs.declared.alloc.Global.{Global}
 use Rattle.serde_json.specs.declared.value.Value.{Value}

@@ -1,11 +1,11 @@
 -- A scenario that was read keeps the limits and rules.
-use Rattle.std.proofs.Common.{◌≡◌, ◌≢◌, ℕ, zero, suc, ◌≤◌, ◌<◌, ◌+◌, Bool, true, false, ◌&&◌, ◌==◌, cond, nat_le, nat_lt, ℤ, List, [], ◌∷◌, ◌++◌, length, map, Option, Some, None, Result, Ok, Err, IfOk, IfSome, codes, refl, sym, ap, ◌∙◌, subst, arith, append_assoc, decimal}
-use Rattle.std.proofs.lemmas.Bool.{and_parts, leb-true, ltb-true, lt-ltb}
+use Rattle.std.proofs.Common.{◌≡◌, ℕ, zero, suc, ◌≤◌, ◌<◌, Bool, true, false, ◌==◌, cond, nat_le, nat_lt, ℤ, List, [], ◌∷◌, ◌++◌, length, map, Option, Some, None, Result, Ok, Err, IfOk, IfSome, codes, refl, sym, ap, ◌∙◌, subst, arith, append_assoc, decimal}
+use Rattle.std.proofs.lemmas.Bool.{leb-true, ltb-true, lt-ltb}
 use Rattle.std.proofs.lemmas.List.{append-nil}
 use Rattle.std.specs.List.{AllByRecursion}
 use Rattle.std.specs.Str.{bytes_eq, is_utf8}
 use Rattle.serde_json.specs.Data.{Data, Items, no_items, item}
-use Rattle.serde_json.specs.Find.{as_array, as_object, as_str, get}
+use Rattle.serde_json.specs.Find.{as_str, get}
 use Rattle.sv_world.specs.declared.action.Action.{Action}
 use Rattle.sv_world.specs.declared.check.BadAction.{BadAction}
 use Rattle.sv_world.specs.declared.world.ObjectId.{ObjectId}
@@ -29,10 +29,10 @@ use Rattle.sv_scenario.specs.Limits.{IsGoodWorld, AreObjects, IsGoodShow, IsGood
 use Rattle.sv_scenario.specs.Numbers.{number_within, list_within, count_items, attribute_of, value_of, values_of}
 use Rattle.sv_scenario.specs.Objects.{known, object_of, shown_of, not_below, next_object, ascending_from, interest_of}
 use Rattle.sv_scenario.specs.Scenarios.{world_with, world_of, reach_of, few_sessions, clients_of, scenario_in, scenario_of, value_in}
-use Rattle.sv_scenario.specs.Scripts.{read_text, unless_bad, act_of, act_step, show_step, word_step, only, step_by, step_of, is_end, steps_from, steps_of, plan_of, plans_of}
-use Rattle.sv_scenario.specs.Sessions.{sessions_in, session_count}
+use Rattle.sv_scenario.specs.Scripts.{read_text, unless_bad, act_of, word_step, only, step_by, step_of, is_end, steps_from, steps_of, plan_of, plans_of}
+use Rattle.sv_scenario.specs.Sessions.{sessions_in}
 use Rattle.sv_scenario.specs.Turns.{number_below, numbered, turn_in, turn_of, turns_of}
-use Rattle.sv_scenario.proofs.Parts.{bound, keyed_ok, given_ok, chosen, at_key_of, at_key_if, number_ok, list_ok, IsRead, all_ok}
+use Rattle.sv_scenario.proofs.Parts.{bound, keyed_ok, given_ok, chosen, at_key_of, at_key_if, number_ok, list_ok, all_ok}
 
 -- ---- the world
 

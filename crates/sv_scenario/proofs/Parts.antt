@@ -1,14 +1,14 @@
 -- What a read that succeeded tells of its parts.
-use Rattle.std.proofs.Common.{◌≡◌, ℕ, ◌≤◌, Bool, true, false, ◌&&◌, cond, nat_le, ℤ, pos, negsuc, List, [], ◌∷◌, ◌++◌, length, Option, Some, None, Result, Ok, Err, refl, sym, ap, ◌∙◌, subst, arith, append_assoc, decimal, suc}
+use Rattle.std.proofs.Common.{◌≡◌, ℕ, ◌≤◌, Bool, true, false, ◌&&◌, cond, nat_le, ℤ, pos, negsuc, List, [], ◌∷◌, ◌++◌, length, Option, Some, None, Ok, Err, refl, sym, ap, ◌∙◌, subst, append_assoc, decimal, suc}
 use Rattle.std.proofs.lemmas.Bool.{and_parts, leb-true}
 use Rattle.std.proofs.lemmas.List.{append-nil}
 use Rattle.std.specs.List.{AllByRecursion}
 use Rattle.serde_json.specs.Data.{Data, Items, no_items, item}
-use Rattle.serde_json.specs.Find.{as_array, get}
+use Rattle.serde_json.specs.Find.{as_array}
 use Rattle.sv_scenario.specs.declared.fault.ScenarioCause.{ScenarioCause}
 use Rattle.sv_scenario.specs.declared.fault.ScenarioCause.TheVariants as causes
 use Rattle.sv_scenario.specs.Faults.{Read, ◌>>=◌, refuse, given, at_key, at_place, each}
-use Rattle.sv_scenario.specs.Keys.{needed, value_at, value_if, wanted_by}
+use Rattle.sv_scenario.specs.Keys.{needed, value_at, wanted_by}
 use Rattle.sv_scenario.specs.Numbers.{whole_number, number_within, in_range, list_within, counted, count_items}
 
 module _ {A B : Type 0} where

@@ -1,5 +1,5 @@
 -- Lists of objects in a scenario file.
-use Rattle.std.specs.Prelude.{ℕ, suc, cond, nat_le, nat_lt, List, [], ◌∷◌, ◌++◌, length, Ok, ⊤}
+use Rattle.std.specs.Prelude.{ℕ, suc, cond, nat_le, nat_lt, List, [], ◌∷◌, ◌++◌, length, Ok}
 use Rattle.serde_json.specs.Data.{Data, Items, no_items, item}
 use Rattle.sv_world.specs.declared.world.ObjectId.{ObjectId}
 use Rattle.sv_scenario.specs.declared.fault.ScenarioCause.TheVariants as causes

@@ -262,13 +262,19 @@ fn quoted(alloc: Global, text: &str) -> Result<Vec<u8>, Fail> {
     Ok(bytes)
 }
 
+fn tell(fault: ReadFault, line: &mut String) -> Result<(), Fail> {
+    match fault {
+        ReadFault::Scenario(fault) => Ok(append_fault_line(&fault, line)?),
+        ReadFault::Memory => Err(Fail::from("out of memory")),
+    }
+}
+
 /// The line that tells why bytes are no scenario, and `read` where they are one.
 fn line_of(alloc: Global, bytes: &[u8]) -> Result<String, Fail> {
     let mut line = String::new(alloc);
     match read_scenario(alloc, bytes) {
-        Ok(_) => line.push_str("read")?,
-        Err(ReadFault::Scenario(fault)) => append_fault_line(&fault, &mut line)?,
-        Err(ReadFault::Memory) => return Err(Fail::from("out of memory")),
+        Ok(_scenario) => line.push_str("read")?,
+        Err(fault) => tell(fault, &mut line)?,
     }
     Ok(line)
 }

@@ -1,4 +1,4 @@
-use Rattle.std.proofs.Common.{◌≡◌, ◌+◌, ◌≤◌, drop, length}
+use Rattle.std.proofs.Common.{◌≡◌, ◌+◌, ◌≤◌, drop}
 use Rattle.sv_scenario.specs.Sessions.{cuts_in}
 use Rattle.sv_scenario.proofs.sessions.cuts_in.Given as goal
 

@@ -1,4 +1,4 @@
-use Rattle.std.proofs.Common.{◌≡◌, ◌+◌, ◌≤◌, drop, length}
+use Rattle.std.proofs.Common.{◌≡◌, ◌+◌, drop}
 use Rattle.sv_scenario.specs.Sessions.{sessions_in}
 use Rattle.sv_scenario.proofs.sessions.sessions_in.Given as goal
 
