@@ -1,3 +1,6 @@
 mod Filling
+mod Named
 mod Places
+mod Replies
+mod Stays
 mod Worked
