@@ -2,5 +2,6 @@ mod Filling
 mod Named
 mod Places
 mod Replies
+mod Sizes
 mod Stays
 mod Worked

@@ -38,7 +38,7 @@ needed_are law A commit sent i n above within = λ k d low.
     let at = law A commit sent i (get_or (needed_for A commit sent i) k d) above (in_list (needed_for A commit sent i) k d low) in
     (omega (arith, at.0), omega (arith, at.1, within))
 
-run_within : (test : ℕ → Bool) (n : ℕ) → run_length test n ≤ n
+pub run_within : (test : ℕ → Bool) (n : ℕ) → run_length test n ≤ n
 run_within test zero = omega arith
 run_within test (suc n) = cond_both ((run_length test n == n) && test (suc n)) (suc n) (run_length test n) (λ m. m ≤ suc n)
     (λ _. omega arith) (λ _. omega (arith, run_within test n))
@@ -214,9 +214,9 @@ named_here law r h s q = each_reply r h s q (Named h s q) (record {
       let count = length-map (accepted h) (λ (x : Authored). x.action) in
       relay_named law r h s q (actions_of h ++ a ∷ []) seq i (omega (arith, count, commit_within h))
       (omega (arith, count, accepted_one_more (entry_of s q w) h k seq a refl client asked next));
-  again = λ k seq p kept above. relay_named law r h s q (actions_of h) seq p above
+  again = λ k seq p a client asked kept above. relay_named law r h s q (actions_of h) seq p above
       (omega (arith, kept_within h k seq p kept, accepted_grow (entry_of s q (relay_of r h (actions_of h) s seq p)) h));
-  poll = λ p ps first.
+  poll = λ p ps asked first.
       let found = orphan_within h p ps first in
       relay_named law r h s q (actions_of h) 0 p found.0 (omega (arith, found.1, accepted_grow (entry_of s q (relay_of r h (actions_of h) s 0 p)) h));
 })

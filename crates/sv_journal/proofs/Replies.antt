@@ -20,8 +20,9 @@ pub record HoldsByRow (r : Rules) (h : List Entry) (s : ℕ) (q : Request) (P : 
   pub fresh : (k seq : ℕ) (a : Action) → client_of h s ≡ Some k → q ≡ requests.Submit seq a → seq ≡ next_seq h k →
       first_fault_of_action r.world.shape a ≡ None → chain_length (actions_of h) (commit_of h) a ≤ r.bound →
       P (relay_of r h (actions_of h ++ a ∷ []) s seq (suc (length (actions_of h))))
-  pub again : (k seq p : ℕ) → kept_outcome h k seq ≡ Some (Accepted p) → commit_of h < p → P (relay_of r h (actions_of h) s seq p)
-  pub poll : (p : ℕ) (ps : List ℕ) → orphans h ≡ p ∷ ps → P (relay_of r h (actions_of h) s 0 p)
+  pub again : (k seq p : ℕ) (a : Action) → client_of h s ≡ Some k → q ≡ requests.Submit seq a → kept_outcome h k seq ≡ Some (Accepted p) → commit_of h < p →
+      P (relay_of r h (actions_of h) s seq p)
+  pub poll : (p : ℕ) (ps : List ℕ) → q ≡ requests.Poll → orphans h ≡ p ∷ ps → P (relay_of r h (actions_of h) s 0 p)
 
 good_case : (r : Rules) (h : List Entry) (s : ℕ) (q : Request) (P : Logged → Type 0) → HoldsByRow r h s q P → (k seq : ℕ) (a : Action) →
     client_of h s ≡ Some k → q ≡ requests.Submit seq a → seq ≡ next_seq h k → first_fault_of_action r.world.shape a ≡ None → P (reply_to_good r h s seq a)
@@ -39,20 +40,20 @@ submit_case : (r : Rules) (h : List Entry) (s : ℕ) (q : Request) (P : Logged �
     client_of h s ≡ Some k → q ≡ requests.Submit seq a → (o : Option Outcome) → kept_outcome h k seq ≡ o → P (reply_to_submit r h s k seq a o)
 submit_case r h s q P rows k seq a client asked (Some (Dropped chain far)) is = rows.other _ refl
 submit_case r h s q P rows k seq a client asked (Some (Accepted p)) is =
-    cond_both (nat_le p (commit_of h)) _ _ P (λ _. rows.other _ refl) (λ n. rows.again k seq p is (leb-false _ _ n))
+    cond_both (nat_le p (commit_of h)) _ _ P (λ _. rows.other _ refl) (λ n. rows.again k seq p a client asked is (leb-false _ _ n))
 submit_case r h s q P rows k seq a client asked None is =
     cond_both (seq == next_seq h k) _ _ P
     (λ e. checked_case r h s q P rows k seq a client asked (eqb-true _ _ e) (first_fault_of_action r.world.shape a) refl)
     (λ _. rows.other _ refl)
 
-poll_case : (r : Rules) (h : List Entry) (s : ℕ) (q : Request) (P : Logged → Type 0) → HoldsByRow r h s q P → (ps : List ℕ) → orphans h ≡ ps → P (reply_to_poll r h s ps)
-poll_case r h s q P rows [] is = rows.other _ refl
-poll_case r h s q P rows (p ∷ ps) is = rows.poll p ps is
+poll_case : (r : Rules) (h : List Entry) (s : ℕ) (q : Request) (P : Logged → Type 0) → HoldsByRow r h s q P → q ≡ requests.Poll → (ps : List ℕ) → orphans h ≡ ps → P (reply_to_poll r h s ps)
+poll_case r h s q P rows asked [] is = rows.other _ refl
+poll_case r h s q P rows asked (p ∷ ps) is = rows.poll p ps asked is
 
 client_case : (r : Rules) (h : List Entry) (s : ℕ) (q : Request) (P : Logged → Type 0) → HoldsByRow r h s q P → (k : ℕ) → client_of h s ≡ Some k → P (reply_to_client r h s k q)
 client_case r h s (requests.Submit seq a) P rows k client = submit_case r h s (requests.Submit seq a) P rows k seq a client refl (kept_outcome h k seq) refl
 client_case r h s (requests.Done results) P rows k client = cond_both (is_bad_done r h s results) _ _ P (λ _. rows.other _ refl) (λ _. rows.other _ refl)
-client_case r h s requests.Poll P rows k client = poll_case r h s requests.Poll P rows (orphans h) refl
+client_case r h s requests.Poll P rows k client = poll_case r h s requests.Poll P rows refl (orphans h) refl
 client_case r h s (requests.Join client life interest) P rows k known = rows.other _ refl
 client_case r h s requests.Leave P rows k client = rows.other _ refl
 client_case r h s requests.Bad P rows k client = rows.other _ refl

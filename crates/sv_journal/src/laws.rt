@@ -1,8 +1,8 @@
 //! Laws of journals.
 ghost use Rattle.sv_journal.specs.Examples.{ExamplesAreAnswered};
-ghost use Rattle.sv_journal.specs.Laws.{FullRepliesStay, LegalRelaysNameAccepted};
+ghost use Rattle.sv_journal.specs.Laws.{FullRepliesStay, LegalRelaysAreSmall, LegalRelaysNameAccepted};
 
-use sv_world::missing_influences_ascend;
+use sv_world::{missing_influences_ascend, missing_influences_only_shrink};
 
 /// The definition of the server's replies gives those of the worked examples.
 pub fn examples_are_answered()
@@ -19,4 +19,11 @@ pub fn legal_relays_name_accepted()
     ensures { LegalRelaysNameAccepted }
 {
     missing_influences_ascend();
+}
+
+/// A relay of a legal journal has at most one item more than the bound on chains.
+pub fn legal_relays_are_small()
+    ensures { LegalRelaysAreSmall }
+{
+    missing_influences_only_shrink();
 }
