@@ -1,3 +1,7 @@
 mod Filling
+mod Named
 mod Places
+mod Replies
+mod Sizes
+mod Stays
 mod Worked

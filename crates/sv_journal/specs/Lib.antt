@@ -7,3 +7,4 @@ pub mod Sessions
 pub mod Invariant
 pub mod Rows
 pub mod View
+pub mod Laws

@@ -1,6 +1,29 @@
+//! Laws of journals.
 ghost use Rattle.sv_journal.specs.Examples.{ExamplesAreAnswered};
+ghost use Rattle.sv_journal.specs.Laws.{FullRepliesStay, LegalRelaysAreSmall, LegalRelaysNameAccepted};
+
+use sv_world::{missing_influences_ascend, missing_influences_only_shrink};
 
 /// The definition of the server's replies gives those of the worked examples.
 pub fn examples_are_answered()
     ensures { ExamplesAreAnswered }
 {}
+
+/// A whole reply over a beginning of a journal is the whole reply over all of it, where it names positions of the beginning.
+pub fn full_replies_stay()
+    ensures { FullRepliesStay }
+{}
+
+/// Each position that a relay of a legal journal names is that of an action that was accepted, so the journal can be printed.
+pub fn legal_relays_name_accepted()
+    ensures { LegalRelaysNameAccepted }
+{
+    missing_influences_ascend();
+}
+
+/// A relay of a legal journal has at most one item more than the bound on chains.
+pub fn legal_relays_are_small()
+    ensures { LegalRelaysAreSmall }
+{
+    missing_influences_only_shrink();
+}

@@ -1,0 +1,214 @@
+-- The relays of a legal journal have at most one item more than the bound.
+use Rattle.std.proofs.Common.{◌≡◌, ℕ, zero, suc, ◌+◌, ◌<◌, ◌≤◌, Bool, true, false, ◌&&◌, List, [], ◌∷◌, ◌++◌, map, length, Option, Some, None, ◌⊎◌, inl, inr, refl, sym, ap, subst, ◌∙◌, arith, append_assoc, length-append}
+use Rattle.std.specs.Prelude.{if◌then◌else◌, nat_le, ◌==◌, is_some}
+use Rattle.std.specs.List.{AllByRecursion}
+use Rattle.std.proofs.lemmas.Bool.{cond_both, cases_lt, cases_Bool, cond-true, eq-eqb, ne_eqb, eqb-true, and_parts, and_from}
+use Rattle.std.proofs.lemmas.List.{length-map, map-append}
+use Rattle.std.proofs.lemmas.List.Elements.{All-from_recursion}
+use Rattle.std.proofs.lemmas.Option.{slice_get_within}
+use Rattle.sv_world.specs.declared.action.Action.{Action}
+use Rattle.sv_world.specs.Control.{needed_for, chain_length}
+use Rattle.sv_wire.specs.declared.message.Request.{Request}
+use Rattle.sv_wire.specs.declared.message.Request.TheVariants as requests
+use Rattle.sv_journal.specs.declared.entry.Entry.{Entry}
+use Rattle.sv_journal.specs.declared.entry.Logged.{Logged}
+use Rattle.sv_journal.specs.declared.entry.Logged.TheVariants as logged
+use Rattle.sv_journal.specs.History.{either, is_relay, is_noted, reports, client_of, outcomes_of, Outcome, Accepted, Authored, new_action, accepted, actions_of, next_seq, result_at, run_length, commit_of}
+use Rattle.sv_journal.specs.Sessions.{kept_count, outcome_at, kept_outcome, sent_to, positions_in}
+use Rattle.sv_journal.specs.Answer.{Rules, relay_of, reply_to, Legal}
+use Rattle.sv_journal.specs.Laws.{LegalRelaysAreSmall}
+use Rattle.sv_journal.proofs.Replies.{each_reply}
+use Rattle.sv_journal.proofs.Named.{run_within, commit_within, kept_within, orphan_within}
+
+-- A law of sv_world: later a relay has no more items than its action had influences when it was accepted, and one.
+abbrev pub SizeWithin : Type 0
+SizeWithin = (A later : List Action) (early late : ℕ) (a : Action) (sent : List ℕ) → early ≤ late → late ≤ length A →
+    length (needed_for (A ++ a ∷ later) late sent (length A + 1)) ≤ chain_length A early a + 1
+
+-- ---- The commit never falls
+
+step_up : (f : ℕ → Bool) (n : ℕ) → run_length f n ≤ run_length f (suc n)
+step_up f n = cond_both ((run_length f n == n) && f (suc n)) (suc n) (run_length f n) (λ m. run_length f n ≤ m)
+    (λ _. omega (arith, run_within f n)) (λ _. omega arith)
+
+all_pass : (f g : ℕ → Bool) → ((p : ℕ) → f p ≡ true → g p ≡ true) → (n : ℕ) → run_length f n ≡ n → run_length g n ≡ n
+all_pass f g h zero e = refl
+all_pass f g h (suc n) e = go (cases_Bool ((run_length f n == n) && f (suc n))) (all_pass f g h n) e
+  where
+    go : (((run_length f n == n) && f (suc n)) ≡ true) ⊎ (((run_length f n == n) && f (suc n)) ≡ false) → (run_length f n ≡ n → run_length g n ≡ n) →
+        (if (run_length f n == n) && f (suc n) then suc n else run_length f n) ≡ suc n → (if (run_length g n == n) && g (suc n) then suc n else run_length g n) ≡ suc n
+    go (inl t) ih e =
+        let parts = and_parts (run_length f n == n) (f (suc n)) t in
+        let all : run_length g n ≡ n = ih (eqb-true (run_length f n) n parts.0) in
+        cond-true ((run_length g n == n) && g (suc n)) (suc n) (run_length g n) (and_from (run_length g n == n) (g (suc n)) (eq-eqb (run_length g n) n all) (h (suc n) parts.1))
+    go (inr t) ih e = absurd (omega (arith, rw t at e, run_within f n))
+
+more_pass : (f g : ℕ → Bool) → ((p : ℕ) → f p ≡ true → g p ≡ true) → (n : ℕ) → run_length f n ≤ run_length g n
+more_pass f g h zero = omega arith
+more_pass f g h (suc n) = go (cases_Bool ((run_length f n == n) && f (suc n))) (more_pass f g h n)
+  where
+    go : (((run_length f n == n) && f (suc n)) ≡ true) ⊎ (((run_length f n == n) && f (suc n)) ≡ false) → run_length f n ≤ run_length g n → run_length f (suc n) ≤ run_length g (suc n)
+    go (inl t) ih =
+        let all = all_pass f g h (suc n) (cond-true ((run_length f n == n) && f (suc n)) (suc n) (run_length f n) t) in
+        omega (arith, all, run_within f (suc n))
+    go (inr t) ih = rw t (omega (arith, ih, step_up g n))
+
+result_stays : {X : Type 0} (a b : Option X) → is_some a ≡ true → is_some (either a b) ≡ true
+result_stays None b e = cc
+result_stays (Some x) b e = refl
+
+more_numbers : (g : ℕ → Bool) (n m : ℕ) → n ≤ m → run_length g n ≤ run_length g m
+more_numbers g n zero le = let e : n ≡ 0 = omega (arith, le) in rw e (omega arith)
+more_numbers g n (suc m) le = go (cases_lt m n) (λ l. more_numbers g n m l)
+  where
+    go : (m < n) ⊎ (n ≤ m) → (n ≤ m → run_length g n ≤ run_length g m) → run_length g n ≤ run_length g (suc m)
+    go (inl over) ih = let e : n ≡ suc m = omega (arith, le, over) in omega (arith, ap (run_length g) e)
+    go (inr l) ih = omega (arith, ih l, step_up g m)
+
+-- what an entry after h adds
+abbrev new_by : Entry → List Entry → List Authored
+new_by e h = if is_relay e.reply then new_action (client_of h e.session) (λ k. suc (length (outcomes_of h k))) e.request else []
+
+pub commit_grows : (e : Entry) (h : List Entry) → commit_of h ≤ commit_of (e ∷ h)
+commit_grows e h =
+    let f = λ (p : ℕ). is_some (result_at h p) in
+    let g = λ (p : ℕ). is_some (result_at (e ∷ h) p) in
+    let stays = more_pass f g (λ p t. result_stays (result_at h p) (if is_noted e.reply then reports p e.request else None) t) (length (accepted h)) in
+    let grows = more_numbers g (length (accepted h)) (length (accepted (e ∷ h))) (omega (arith, length-append (accepted h) (new_by e h))) in
+    omega (arith, stays, grows)
+
+-- ---- Accepted actions had a chain within the bound
+
+record IsBounded (A : List Action) (commit bound p : ℕ) : Type 0 where
+  earlier : List Action
+  action : Action
+  later : List Action
+  split : A ≡ earlier ++ action ∷ later
+  placed : p ≡ length earlier + 1
+  early : ℕ
+  before : early ≤ commit
+  chain : chain_length earlier early action ≤ bound
+
+abbrev AreBounded : ℕ → List Entry → Type 0
+AreBounded bound h = (p : ℕ) → 1 ≤ p → p ≤ length (accepted h) → IsBounded (actions_of h) (commit_of h) bound p
+
+later_bounded : (A more : List Action) (commit after bound p : ℕ) → commit ≤ after → IsBounded A commit bound p → IsBounded (A ++ more) after bound p
+later_bounded A more commit after bound p le b = record {
+  earlier = b.earlier;
+  action = b.action;
+  later = b.later ++ more;
+  split = ap (λ (X : List Action). X ++ more) b.split ∙ append_assoc b.earlier (b.action ∷ b.later) more;
+  placed = b.placed;
+  early = b.early;
+  before = omega (arith, b.before, le);
+  chain = b.chain;
+}
+
+sized : SizeWithin → (A : List Action) (commit bound p : ℕ) (sent : List ℕ) → IsBounded A commit bound p → commit < p → length (needed_for A commit sent p) ≤ bound + 1
+sized law A commit bound p sent b above =
+    let fits = law b.earlier b.later b.early commit b.action sent b.before (omega (arith, above, b.placed)) in
+    let same = ap (λ (X : List Action). length (needed_for X commit sent p)) b.split
+    ∙ ap (λ (m : ℕ). length (needed_for (b.earlier ++ b.action ∷ b.later) commit sent m)) b.placed in
+    omega (arith, same, fits, b.chain)
+
+abbrev acts : List Authored → List Action
+acts A = map (λ (x : Authored). x.action) A
+
+grown : (e : Entry) (h : List Entry) (bound p : ℕ) → IsBounded (actions_of h) (commit_of h) bound p → IsBounded (actions_of (e ∷ h)) (commit_of (e ∷ h)) bound p
+grown e h bound p b =
+    subst (λ (A : List Action). IsBounded A (commit_of (e ∷ h)) bound p) (sym (map-append (λ (x : Authored). x.action) (accepted h) (new_by e h)))
+    (later_bounded (actions_of h) (acts (new_by e h)) (commit_of h) (commit_of (e ∷ h)) bound p (commit_grows e h) b)
+
+none_new : (bound : ℕ) (e : Entry) (h : List Entry) → new_by e h ≡ [] → AreBounded bound h → AreBounded bound (e ∷ h)
+none_new bound e h none inv p first last =
+    grown e h bound p (inv p first (omega (arith, last, length-append (accepted h) (new_by e h), ap (λ (N : List Authored). length N) none)))
+
+one_new : (bound : ℕ) (e : Entry) (h : List Entry) (k seq : ℕ) (a : Action) → new_by e h ≡ record { client = k; seq = seq; action = a } ∷ [] →
+    chain_length (actions_of h) (commit_of h) a ≤ bound → AreBounded bound h → AreBounded bound (e ∷ h)
+one_new bound e h k seq a one chain inv p first last = go (cases_lt (length (accepted h)) p)
+  where
+    count : length (accepted (e ∷ h)) ≡ length (accepted h) + 1
+    count = length-append (accepted h) (new_by e h) ∙ ap (λ (N : List Authored). length (accepted h) + length N) one
+
+    all : actions_of (e ∷ h) ≡ actions_of h ++ a ∷ []
+    all = map-append (λ (x : Authored). x.action) (accepted h) (new_by e h) ∙ ap (λ (N : List Authored). actions_of h ++ acts N) one
+
+    go : (length (accepted h) < p) ⊎ (p ≤ length (accepted h)) → IsBounded (actions_of (e ∷ h)) (commit_of (e ∷ h)) bound p
+    go (inr old) = grown e h bound p (inv p first old)
+    go (inl new) = record {
+      earlier = actions_of h;
+      action = a;
+      later = [];
+      split = all;
+      placed = omega (arith, new, last, count, length-map (accepted h) (λ (x : Authored). x.action));
+      early = commit_of h;
+      before = commit_grows e h;
+      chain = chain;
+    }
+
+kept_known : (h : List Entry) (k seq : ℕ) (o : Outcome) → kept_outcome h k seq ≡ Some o → seq < next_seq h k
+kept_known h k seq o =
+    cond_both (nat_le (next_seq h k) (seq + kept_count)) (outcome_at (outcomes_of h k) seq) None
+    (λ (x : Option Outcome). x ≡ Some o → seq < next_seq h k) (λ _ e. known seq e) (λ _ e. absurd (none e))
+  where
+    none : ◌≡◌ {A = Option Outcome} None (Some o) → ⊥
+    none e = cc
+
+    known : (n : ℕ) → outcome_at (outcomes_of h k) n ≡ Some o → n < next_seq h k
+    known zero e = absurd (none e)
+    known (suc n) e = omega (arith, slice_get_within (outcomes_of h k) n o e)
+
+not_by_poll : (o : Option ℕ) (next : ℕ → ℕ) → new_action o next requests.Poll ≡ []
+not_by_poll None next = refl
+not_by_poll (Some k) next = refl
+
+-- ---- Each reply
+
+abbrev entry_of : ℕ → Request → Logged → Entry
+entry_of s q w = record { session = s; request = q; reply = w }
+
+abbrev KeepsBound : ℕ → List Entry → ℕ → Request → Logged → Type 0
+KeepsBound bound h s q w = AreBounded bound (entry_of s q w ∷ h) × (length (positions_in w) ≤ bound + 1)
+
+no_items : (bound : ℕ) (w : Logged) → is_relay w ≡ false → length (positions_in w) ≤ bound + 1
+no_items bound (logged.Relay seq commit head positions) e = absurd (cc)
+no_items bound (logged.Welcome commit head) e = omega arith
+no_items bound (logged.Dropped seq chain far) e = omega arith
+no_items bound (logged.Settled seq pos) e = omega arith
+no_items bound (logged.Noted commit) e = omega arith
+no_items bound logged.Idle e = omega arith
+no_items bound (logged.Refused code detail) e = omega arith
+no_items bound logged.Bye e = omega arith
+
+bound_kept : SizeWithin → (r : Rules) (h : List Entry) (s : ℕ) (q : Request) → AreBounded r.bound h → KeepsBound r.bound h s q (reply_to r h s q)
+bound_kept law r h s q inv = each_reply r h s q (KeepsBound r.bound h s q) (record {
+  other = λ w e. (none_new r.bound (entry_of s q w) h (rw e refl) inv, no_items r.bound w e);
+  fresh = λ k seq a client asked next good chain.
+      let count = length-map (accepted h) (λ (x : Authored). x.action) in (
+        one_new r.bound (entry_of s q (relay_of r h (actions_of h ++ a ∷ []) s seq (suc (length (actions_of h))))) h k seq a
+            (rw (client, asked, eq-eqb seq (next_seq h k) next) refl) chain inv,
+        sized law (actions_of h ++ a ∷ []) (commit_of h) r.bound (suc (length (actions_of h))) (sent_to h s)
+            (record { earlier = actions_of h; action = a; later = []; split = refl; placed = omega arith; early = commit_of h; before = omega arith; chain = chain })
+            (omega (arith, count, commit_within h)),
+      );
+  again = λ k seq p a client asked kept above. (
+    none_new r.bound (entry_of s q (relay_of r h (actions_of h) s seq p)) h
+        (rw (client, asked, ne_eqb seq (next_seq h k) (λ e. omega (arith, e, kept_known h k seq (Accepted p) kept))) refl) inv,
+    sized law (actions_of h) (commit_of h) r.bound p (sent_to h s) (inv p (omega (arith, above)) (kept_within h k seq p kept)) above,
+  );
+  poll = λ p ps asked first.
+      let found = orphan_within h p ps first in (
+        none_new r.bound (entry_of s q (relay_of r h (actions_of h) s 0 p)) h (rw asked (not_by_poll (client_of h s) (λ k. suc (length (outcomes_of h k))))) inv,
+        sized law (actions_of h) (commit_of h) r.bound p (sent_to h s) (inv p (omega (arith, found.0)) found.1) found.0,
+      );
+})
+
+legal_bounded : SizeWithin → (r : Rules) (h : List Entry) → Legal r h → AreBounded r.bound h × AllByRecursion (λ (e : Entry). length (positions_in e.reply) ≤ r.bound + 1) h
+legal_bounded law r [] legal = ((λ p first last. absurd (omega (arith, first, last))), tt)
+legal_bounded law r (e ∷ h) legal =
+    let rest = legal_bounded law r h legal.1 in
+    let here = subst (KeepsBound r.bound h e.session e.request) (sym legal.0) (bound_kept law r h e.session e.request rest.0) in
+    (here.0, (here.1, rest.1))
+
+pub legal_relays_are_small : SizeWithin → LegalRelaysAreSmall
+legal_relays_are_small law r h legal = All-from_recursion (λ (e : Entry). length (positions_in e.reply) ≤ r.bound + 1) h (legal_bounded law r h legal).1

@@ -1,0 +1,21 @@
+-- Laws of journals.
+use Rattle.std.specs.Prelude.{◌≡◌, ◌+◌, ◌≤◌, All, List, ◌++◌, length, reverse}
+use Rattle.sv_journal.specs.declared.entry.Entry.{Entry}
+use Rattle.sv_journal.specs.declared.entry.Logged.{Logged}
+use Rattle.sv_journal.specs.History.{accepted, full_reply}
+use Rattle.sv_journal.specs.Answer.{Rules, Legal}
+use Rattle.sv_journal.specs.Sessions.{positions_in}
+use Rattle.sv_journal.specs.Text.{NamesAccepted, RelaysNameAccepted}
+
+-- A reply that names positions of a beginning of a journal has the same items over the whole.
+abbrev pub FullRepliesStay : Type 0
+FullRepliesStay = (later earlier : List Entry) (reply : Logged) → NamesAccepted (length (accepted earlier)) reply →
+    full_reply (accepted (later ++ earlier)) reply ≡ full_reply (accepted earlier) reply
+
+-- The relays of a legal journal name accepted actions.
+abbrev pub LegalRelaysNameAccepted : Type 0
+LegalRelaysNameAccepted = (r : Rules) (h : List Entry) → Legal r h → RelaysNameAccepted (reverse h)
+
+-- A relay of a legal journal has at most one item more than the bound.
+abbrev pub LegalRelaysAreSmall : Type 0
+LegalRelaysAreSmall = (r : Rules) (h : List Entry) → Legal r h → All (λ (e : Entry). length (positions_in e.reply) ≤ r.bound + 1) h
