@@ -1,5 +1,8 @@
+ghost use Rattle.std.specs.Prelude.{◌≤◌};
+
 use super::generate;
 use std::alloc::Global;
+use std::process::Abort;
 use std::test::Fail;
 use sv_scenario::{Plan, Scenario, Step, read_scenario, sessions_of};
 
@@ -36,28 +39,39 @@ fn all_acts(scenario: &Scenario) -> u32 {
     count
 }
 
-#[test]
-fn loads_have_the_stated_sums(rt: HostRuntime) -> Result<(), Fail> {
-    for (n, clients, objects, made, sum, steps) in [
-        (1, 2, 4, 32, 406, 17),
-        (2, 4, 8, 64, 828, 17),
-        (16, 32, 64, 512, 8416, 17),
-        (17, 2, 8, 64, 828, 34),
-        (192, 32, 768, 6144, 371_328, 204),
-    ] {
-        let scenario = generate(rt.alloc(), n)?;
-        assert_eq!(rt; scenario.clients.len(), clients);
-        assert_eq!(rt; sessions_of(&scenario) as usize, clients);
-        assert_eq!(rt; scenario.world.values.len(), objects);
-        assert_eq!(rt; all_acts(&scenario), made);
-        assert_eq!(rt; total(&scenario, 0), sum);
-        assert_eq!(rt; total(&scenario, 1), 0);
-        for plan in scenario.clients.as_slice() {
-            assert_eq!(rt; plan.steps.len(), steps);
-            assert_eq!(rt; plan.interest.len(), 4);
-        }
+/// A load has so many clients, objects and acts, each client has so many steps, and attribute 0 adds up to so much.
+fn has_sums(
+    rt: &impl Abort,
+    alloc: Global,
+    n: u32,
+    counts: (usize, usize, u32, usize),
+    sum: i128,
+) -> Result<(), Fail>
+    requires some { 1 ≤ n }
+    requires most { n ≤ 192 }
+{
+    let (clients, objects, made, steps) = counts;
+    let scenario = generate(alloc, n)?;
+    assert_eq!(rt; scenario.clients.len(), clients);
+    assert_eq!(rt; sessions_of(&scenario) as usize, clients);
+    assert_eq!(rt; scenario.world.values.len(), objects);
+    assert_eq!(rt; all_acts(&scenario), made);
+    assert_eq!(rt; total(&scenario, 0), sum);
+    assert_eq!(rt; total(&scenario, 1), 0);
+    for plan in scenario.clients.as_slice() {
+        assert_eq!(rt; plan.steps.len(), steps);
+        assert_eq!(rt; plan.interest.len(), 4);
     }
     Ok(())
+}
+
+#[test]
+fn loads_have_the_stated_sums(rt: HostRuntime) -> Result<(), Fail> {
+    has_sums(&rt, rt.alloc(), 1, (2, 4, 32, 17), 406)?;
+    has_sums(&rt, rt.alloc(), 2, (4, 8, 64, 17), 828)?;
+    has_sums(&rt, rt.alloc(), 16, (32, 64, 512, 17), 8416)?;
+    has_sums(&rt, rt.alloc(), 17, (2, 8, 64, 34), 828)?;
+    has_sums(&rt, rt.alloc(), 192, (32, 768, 6144, 204), 371_328)
 }
 
 fn quoted(alloc: Global, text: &str) -> Result<Vec<u8>, Fail> {

@@ -1,5 +1,6 @@
 use super::*;
 use std::alloc::Global;
+use std::process::Abort;
 use std::test::Fail;
 use sv_world::{ObjectId, Shape};
 
@@ -286,35 +287,38 @@ fn split(alloc: Global, line: &str) -> Result<(String, Vec<u8>), Fail> {
     Ok((printed, quoted(alloc, text)?))
 }
 
-#[test]
-fn refuses_faulty_scenarios(rt: HostRuntime) -> Result<(), Fail> {
-    for table in [REFUSED, PAIRS, DOUBLED] {
-        for line in table.lines() {
-            let (printed, bytes) = split(rt.alloc(), line)?;
-            assert_eq!(rt;
-                line_of(rt.alloc(), &bytes)?.as_str(),
-                printed.as_str(),
-                "{line}"
-            );
-        }
+/// Each text of a table is refused as the table says, and without its last byte it is no JSON.
+fn are_refused(rt: &impl Abort, alloc: Global, table: &str) -> Result<(), Fail> {
+    for line in table.lines() {
+        let (printed, mut bytes) = split(alloc, line)?;
+        assert_eq!(rt;
+            line_of(alloc, &bytes)?.as_str(),
+            printed.as_str(),
+            "{line}"
+        );
+        bytes.pop();
+        assert_eq!(rt;
+            line_of(alloc, &bytes)?.as_str(),
+            "scenario: : json\n",
+            "{line}"
+        );
     }
     Ok(())
 }
 
 #[test]
-fn refuses_a_text_without_its_last_byte(rt: HostRuntime) -> Result<(), Fail> {
-    for table in [REFUSED, PAIRS, DOUBLED] {
-        for line in table.lines() {
-            let (_, mut bytes) = split(rt.alloc(), line)?;
-            bytes.pop();
-            assert_eq!(rt;
-                line_of(rt.alloc(), &bytes)?.as_str(),
-                "scenario: : json\n",
-                "{line}"
-            );
-        }
-    }
-    Ok(())
+fn refuses_faulty_scenarios(rt: HostRuntime) -> Result<(), Fail> {
+    are_refused(&rt, rt.alloc(), REFUSED)
+}
+
+#[test]
+fn refuses_the_first_of_two_faults(rt: HostRuntime) -> Result<(), Fail> {
+    are_refused(&rt, rt.alloc(), PAIRS)
+}
+
+#[test]
+fn the_last_of_two_keys_counts(rt: HostRuntime) -> Result<(), Fail> {
+    are_refused(&rt, rt.alloc(), DOUBLED)
 }
 
 #[test]
@@ -326,14 +330,16 @@ fn reads_scenarios(rt: HostRuntime) -> Result<(), Fail> {
     Ok(())
 }
 
-/// What is printed of a head, so many times an item with commas between, and a tail.
-fn repeated(
+/// So much is printed of a head, so many times an item with commas between, and a tail.
+fn is_printed(
+    rt: &impl Abort,
     alloc: Global,
     head: &str,
     item: &str,
     count: usize,
     tail: &str,
-) -> Result<String, Fail> {
+    printed: &str,
+) -> Result<(), Fail> {
     let mut text = String::from_str(alloc, head)?;
     for index in 0..count {
         if index > 0 {
@@ -342,7 +348,9 @@ fn repeated(
         text.push_str(item)?;
     }
     text.push_str(tail)?;
-    line_of(alloc, &quoted(alloc, &text)?)
+    let bytes = quoted(alloc, &text)?;
+    assert_eq!(rt; line_of(alloc, &bytes)?.as_str(), printed);
+    Ok(())
 }
 
 /// Up to the clients, to one client's steps, and to its interest.
@@ -360,48 +368,74 @@ fn keeps_the_limits_of_lists(rt: HostRuntime) -> Result<(), Fail> {
         "{'attrs':1,'objects':[[5]],'bound':4,'clients':[{'interest':[],'steps':[]}],'schedule':[";
     let show = "{'attrs':1,'objects':[[5]],'bound':4,'clients':[{'interest':[],'steps':[{'show':[";
     let client = "{'interest':[],'steps':[]}";
-    assert_eq!(rt; repeated(alloc, world, "[5]", 4096, "]}")?.as_str(), "read");
-    assert_eq!(rt;
-        repeated(alloc, world, "[5]", 4097, "]}")?.as_str(),
-        "scenario: /objects: range\n"
-    );
-    assert_eq!(rt;
-        repeated(alloc, CLIENTS, client, 32, "]}")?.as_str(),
-        "read"
-    );
-    assert_eq!(rt;
-        repeated(alloc, CLIENTS, client, 33, "]}")?.as_str(),
-        "scenario: /clients: range\n"
-    );
-    assert_eq!(rt;
-        repeated(alloc, INTEREST, "0", 64, "]}]}")?.as_str(),
-        "scenario: /clients/0/interest/1: order\n"
-    );
-    assert_eq!(rt;
-        repeated(alloc, INTEREST, "0", 65, "]}]}")?.as_str(),
-        "scenario: /clients/0/interest: range\n"
-    );
-    assert_eq!(rt;
-        repeated(alloc, STEPS, "'sync'", 256, "]}]}")?.as_str(),
-        "read"
-    );
-    assert_eq!(rt;
-        repeated(alloc, STEPS, "'sync'", 257, "]}]}")?.as_str(),
-        "scenario: /clients/0/steps: range\n"
-    );
-    assert_eq!(rt; repeated(alloc, show, "0", 16, "]}]}]}")?.as_str(), "read");
-    assert_eq!(rt;
-        repeated(alloc, show, "0", 17, "]}]}]}")?.as_str(),
-        "scenario: /clients/0/steps/0/show: range\n"
-    );
-    assert_eq!(rt;
-        repeated(alloc, turns, "'s0'", 16_384, "]}")?.as_str(),
-        "read"
-    );
-    assert_eq!(rt;
-        repeated(alloc, turns, "'s0'", 16_385, "]}")?.as_str(),
-        "scenario: /schedule: range\n"
-    );
+    is_printed(&rt, alloc, world, "[5]", 4096, "]}", "read")?;
+    is_printed(
+        &rt,
+        alloc,
+        world,
+        "[5]",
+        4097,
+        "]}",
+        "scenario: /objects: range\n",
+    )?;
+    is_printed(&rt, alloc, CLIENTS, client, 32, "]}", "read")?;
+    is_printed(
+        &rt,
+        alloc,
+        CLIENTS,
+        client,
+        33,
+        "]}",
+        "scenario: /clients: range\n",
+    )?;
+    is_printed(
+        &rt,
+        alloc,
+        INTEREST,
+        "0",
+        64,
+        "]}]}",
+        "scenario: /clients/0/interest/1: order\n",
+    )?;
+    is_printed(
+        &rt,
+        alloc,
+        INTEREST,
+        "0",
+        65,
+        "]}]}",
+        "scenario: /clients/0/interest: range\n",
+    )?;
+    is_printed(&rt, alloc, STEPS, "'sync'", 256, "]}]}", "read")?;
+    is_printed(
+        &rt,
+        alloc,
+        STEPS,
+        "'sync'",
+        257,
+        "]}]}",
+        "scenario: /clients/0/steps: range\n",
+    )?;
+    is_printed(&rt, alloc, show, "0", 16, "]}]}]}", "read")?;
+    is_printed(
+        &rt,
+        alloc,
+        show,
+        "0",
+        17,
+        "]}]}]}",
+        "scenario: /clients/0/steps/0/show: range\n",
+    )?;
+    is_printed(&rt, alloc, turns, "'s0'", 16_384, "]}", "read")?;
+    is_printed(
+        &rt,
+        alloc,
+        turns,
+        "'s0'",
+        16_385,
+        "]}",
+        "scenario: /schedule: range\n",
+    )?;
     Ok(())
 }
 
@@ -411,27 +445,44 @@ fn counts_sessions_behind_the_clients(rt: HostRuntime) -> Result<(), Fail> {
     let more = "]},{'interest':[],'steps':[]}]}";
     let faulty = "]},{'interest':[],'steps':['wait']}]}";
     let turns = "]}],'schedule':[5]}";
-    assert_eq!(rt;
-        repeated(alloc, STEPS, "'cut'", 63, "]}]}")?.as_str(),
-        "read"
-    );
-    assert_eq!(rt;
-        repeated(alloc, STEPS, "'cut'", 64, "]}]}")?.as_str(),
-        "scenario: /clients: range\n"
-    );
-    assert_eq!(rt; repeated(alloc, STEPS, "'cut'", 62, more)?.as_str(), "read");
-    assert_eq!(rt;
-        repeated(alloc, STEPS, "'cut'", 63, more)?.as_str(),
-        "scenario: /clients: range\n"
-    );
-    assert_eq!(rt;
-        repeated(alloc, STEPS, "'cut'", 64, faulty)?.as_str(),
-        "scenario: /clients/1/steps/0: kind\n"
-    );
-    assert_eq!(rt;
-        repeated(alloc, STEPS, "'cut'", 64, turns)?.as_str(),
-        "scenario: /clients: range\n"
-    );
+    is_printed(&rt, alloc, STEPS, "'cut'", 63, "]}]}", "read")?;
+    is_printed(
+        &rt,
+        alloc,
+        STEPS,
+        "'cut'",
+        64,
+        "]}]}",
+        "scenario: /clients: range\n",
+    )?;
+    is_printed(&rt, alloc, STEPS, "'cut'", 62, more, "read")?;
+    is_printed(
+        &rt,
+        alloc,
+        STEPS,
+        "'cut'",
+        63,
+        more,
+        "scenario: /clients: range\n",
+    )?;
+    is_printed(
+        &rt,
+        alloc,
+        STEPS,
+        "'cut'",
+        64,
+        faulty,
+        "scenario: /clients/1/steps/0: kind\n",
+    )?;
+    is_printed(
+        &rt,
+        alloc,
+        STEPS,
+        "'cut'",
+        64,
+        turns,
+        "scenario: /clients: range\n",
+    )?;
     Ok(())
 }
 
@@ -470,45 +521,34 @@ fn prints_keys_as_they_are(rt: HostRuntime) -> Result<(), Fail> {
     Ok(())
 }
 
-/// What is printed of a text with so many bytes behind it that there are so many in all.
-fn filled(alloc: Global, text: &str, byte: u8, size: usize) -> Result<String, Fail> {
+/// So much is printed of a text with a byte behind it so often that there are so many in all.
+fn is_filled(
+    rt: &impl Abort,
+    alloc: Global,
+    text: &str,
+    byte: u8,
+    size: usize,
+    printed: &str,
+) -> Result<(), Fail> {
     let mut bytes = quoted(alloc, text)?;
     for _ in bytes.len()..size {
         bytes.push(byte)?;
     }
-    line_of(alloc, &bytes)
+    assert_eq!(rt; line_of(alloc, &bytes)?.as_str(), printed);
+    Ok(())
 }
 
 #[test]
 fn refuses_more_than_four_mebibytes(rt: HostRuntime) -> Result<(), Fail> {
     let alloc = rt.alloc();
     let good = "{'attrs':1,'objects':[[5]],'bound':4,'clients':[{'interest':[],'steps':[]}]}";
-    assert_eq!(rt; filled(alloc, good, b' ', 4_194_304)?.as_str(), "read");
-    assert_eq!(rt;
-        filled(alloc, good, b' ', 4_194_305)?.as_str(),
-        "scenario: : size\n"
-    );
-    assert_eq!(rt;
-        filled(alloc, good, 0xFF, 4_194_304)?.as_str(),
-        "scenario: : json\n"
-    );
-    assert_eq!(rt;
-        filled(alloc, good, 0xFF, 4_194_305)?.as_str(),
-        "scenario: : size\n"
-    );
-    assert_eq!(rt;
-        filled(alloc, "", b' ', 4_194_305)?.as_str(),
-        "scenario: : size\n"
-    );
-    assert_eq!(rt;
-        filled(alloc, "[]", b' ', 4_194_304)?.as_str(),
-        "scenario: : kind\n"
-    );
-    assert_eq!(rt;
-        filled(alloc, "[]", b' ', 4_194_305)?.as_str(),
-        "scenario: : size\n"
-    );
-    Ok(())
+    is_filled(&rt, alloc, good, b' ', 4_194_304, "read")?;
+    is_filled(&rt, alloc, good, b' ', 4_194_305, "scenario: : size\n")?;
+    is_filled(&rt, alloc, good, 0xFF, 4_194_304, "scenario: : json\n")?;
+    is_filled(&rt, alloc, good, 0xFF, 4_194_305, "scenario: : size\n")?;
+    is_filled(&rt, alloc, "", b' ', 4_194_305, "scenario: : size\n")?;
+    is_filled(&rt, alloc, "[]", b' ', 4_194_304, "scenario: : kind\n")?;
+    is_filled(&rt, alloc, "[]", b' ', 4_194_305, "scenario: : size\n")
 }
 
 /// The conflict of two clients, whose turns are fixed.
