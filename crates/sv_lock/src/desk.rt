@@ -1,5 +1,5 @@
 //! The table with its line of callers: the steps of one seat, each on its own.
-ghost use Rattle.std.specs.Prelude.{◌≡◌, ℕ, ◌+◌, ◌%◌, ◌^◌, ◌<◌, List, [], ◌∷◌, ◌++◌, map, Contains, Option, Some, None, IfOk, IfErr, OnErr, IsOk, IsSome, MatchBool, MatchResult, true, length};
+ghost use Rattle.std.specs.Prelude.{◌≡◌, ℕ, ◌+◌, ◌%◌, ◌^◌, ◌<◌, ◌==◌, List, [], ◌∷◌, ◌++◌, map, Contains, Option, Some, None, IfOk, IfErr, OnErr, IsOk, IsSome, MatchBool, MatchResult, true, length};
 ghost use mathlib.Core.List.{IsPrefix};
 ghost use Rattle.sv_lock.specs.declared.view.Stage.TheVariants.{Idle, Waits, Holds};
 ghost use Rattle.sv_lock.specs.Histories.{entries_of, AreJust, AreBelow, GoesOn};
@@ -10,9 +10,12 @@ use crate::object::Object;
 use crate::plays::{Cut, Draw, Glue, Learn, Line, Look, Place, Return};
 use atomic_table::{Refused, Table};
 use std::alloc::{AllocError, Global};
+use std::hint;
 use std::snapshot::Snapshot;
 use std::sync::Wait;
-use std::thread;
+
+// How often a thread looks before it sleeps.
+const LOOKS: u32 = 100;
 
 pub struct Desk<O: Object> {
     pub table: Line<O>,
@@ -30,18 +33,19 @@ impl<O: Object> Desk<O> {
         self.table.shared.fetch_add::<Draw>(seat, 0, 1)
     }
 
-    // Whether the ticket is served. If it is, the seat has taken the object.
-    fn look(&self, seat: &mut Place<O>, ticket: u64) -> bool
+    // The ticket that is served. If it is the seat's, the seat has taken the object.
+    fn look(&self, seat: &mut Place<O>, ticket: u64) -> u64
         requires table { seat.old.table_id ≡ self.now.table.shared.table_id }
         requires waits { (t : ℕ) × (t % 2 ^ 64 ≡ ticket) × (seat.old.me.0.stage ≡ Waits t) }
         requires based { (b : O.Base) × (seat.old.me.0.base ≡ Some b) }
         ensures table { seat.new.table_id ≡ seat.old.table_id }
-        ensures looked { MatchBool result ((t : ℕ) × Took O.base O.history O.number_of t seat.old.me seat.new.me) (seat.new.me ≡ seat.old.me) }
+        ensures looked { MatchBool (result == ticket) ((t : ℕ) × Took O.base O.history O.number_of t seat.old.me seat.new.me) (seat.new.me ≡ seat.old.me) }
     {
-        self.table.shared.load::<Look>(seat, 1) == ticket
+        self.table.shared.load::<Look>(seat, 1)
     }
 
-    // Looks again and again, and lets other threads run in between.
+    // Looks again and again. After some looks it sleeps until another ticket is served, so that many threads on few processors
+    // leave these to the one that is served.
     fn wait<R: Wait>(&self, rt: &R, seat: &mut Place<O>, ticket: u64)
         requires table { seat.old.table_id ≡ self.now.table.shared.table_id }
         requires waits { (t : ℕ) × (t % 2 ^ 64 ≡ ticket) × (seat.old.me.0.stage ≡ Waits t) }
@@ -49,13 +53,42 @@ impl<O: Object> Desk<O> {
         ensures table { seat.new.table_id ≡ seat.old.table_id }
         ensures took { (t : ℕ) × Took O.base O.history O.number_of t seat.old.me seat.new.me }
     {
+        let mut looks: u32 = 0;
         for _ in rt.forever() {
-            if self.look(seat, ticket) {
+            let served = self.look(seat, ticket);
+            if served == ticket {
                 return;
             }
-            thread::yield_now();
+            if looks < LOOKS {
+                looks += 1;
+                hint::spin_loop();
+            } else {
+                self.sleep(rt, served);
+            }
         }
         unreachable!()
+    }
+
+    // Sleeps while this ticket is served.
+    fn sleep<R: Wait>(&self, rt: &R, served: u64) {
+        self.table.shared.park(rt, 1, (served % (1 << 32)) as u32);
+    }
+
+    // Wakes those who sleep, if a ticket is out behind the one that was served.
+    fn wake(&self, served: u64) {
+        if self.table.shared.peek(0) != served.wrapping_add(1) {
+            self.table.shared.wake_all(1);
+        }
+    }
+
+    // Gives the object back, and answers which ticket was served.
+    fn serve_next(&self, seat: &mut Place<O>) -> u64
+        requires table { seat.old.table_id ≡ self.now.table.shared.table_id }
+        requires may { MayReturn O.base O.history O.lawful O.number_of seat.old.me }
+        ensures table { seat.new.table_id ≡ seat.old.table_id }
+        ensures returned { (y : O) → seat.old.me.1 ≡ (0, y) ∷ [] → seat.new.me ≡ (staged seat.old.me.0 Idle (O.history y) (renewed O.number_of (O.history y) seat.old.me.0.lists), []) }
+    {
+        self.table.shared.fetch_add::<Return>(seat, 1, 1)
     }
 
     /// Gives the object back, and serves the next ticket.
@@ -65,7 +98,8 @@ impl<O: Object> Desk<O> {
         ensures table { seat.new.table_id ≡ seat.old.table_id }
         ensures returned { (y : O) → seat.old.me.1 ≡ (0, y) ∷ [] → seat.new.me ≡ (staged seat.old.me.0 Idle (O.history y) (renewed O.number_of (O.history y) seat.old.me.0.lists), []) }
     {
-        self.table.shared.fetch_add::<Return>(seat, 1, 1);
+        let served = self.serve_next(seat);
+        self.wake(served);
     }
 
     /// One step of the object in hand.

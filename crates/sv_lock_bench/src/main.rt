@@ -51,8 +51,20 @@ fn act<R: Threads + Wait + Sync + Print + Clock>(
     let each = calls / u64::from(threads);
     let start = Instant::now(rt)?;
     match name.as_str() {
-        "lock" => print(rt, "lock", threads, &turns::add_up(rt, alloc, counter, threads, each)?, start),
-        "mutex" => print(rt, "mutex", threads, &mutex::add_up(rt, counter, threads, each), start),
+        "lock" => print(
+            rt,
+            "lock",
+            threads,
+            &turns::add_up(rt, alloc, counter, threads, each)?,
+            start,
+        ),
+        "mutex" => print(
+            rt,
+            "mutex",
+            threads,
+            &mutex::add_up(rt, counter, threads, each),
+            start,
+        ),
         _ => usage(rt),
     }
 }

@@ -1,6 +1,6 @@
 use Rattle.std.proofs.Common.{rules}
 use Rattle.sv_lock.proofs.Keeps.{returns}
-use Rattle.sv_lock.proofs.desk.Desk.give_back.Goals as goal
+use Rattle.sv_lock.proofs.desk.Desk.serve_next.Goals as goal
 
 pub fetch_add-requires : goal.fetch_add-requires
 fetch_add-requires g c =

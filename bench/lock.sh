@@ -1,0 +1,36 @@
+#!/bin/sh
+# Times the ticket lock beside the mutex of the toolchain's standard library and that of Rust's, on one small object, and
+# prints a table: nanoseconds a call, best and median. README.md says what is measured.
+#
+#   bench/lock.sh [ROUNDS [CALLS]]
+set -eu
+here=$(cd "$(dirname "$0")" && pwd)
+crate=$(dirname "$here")/crates/sv_lock_bench
+rounds=${1:-5}
+calls=${2:-100000}
+work=$(mktemp -d)
+trap 'rm -rf "$work"' EXIT
+(cd "$crate" && nice -n 10 rt run >"$work/log" 2>&1)
+rustc -C opt-level=3 -o "$work/rust" "$here/lock.rs"
+for _ in $(seq "$rounds"); do
+    for threads in 1 2 4 8; do
+        for kind in lock mutex; do
+            timeout 60 "$crate/out/sv_lock_bench" "$kind" "$threads" "$calls" || echo "$kind $threads 1 0 60000000000"
+        done
+        timeout 60 "$work/rust" "$threads" "$calls"
+    done
+done >"$work/figures"
+python3 - "$work/figures" <<'END'
+import statistics
+import sys
+
+figures = {}
+for line in open(sys.argv[1]):
+    kind, threads, calls, _, nanos = line.split()
+    figures.setdefault((kind, int(threads)), []).append(int(nanos) / int(calls))
+print("| Threads | Ticket lock | Mutex here | Mutex of Rust |")
+print("|---|---|---|---|")
+for threads in (1, 2, 4, 8):
+    cells = [figures[kind, threads] for kind in ("lock", "mutex", "rust")]
+    print(f"| {threads} | " + " | ".join(f"{min(cell):,.0f} ({statistics.median(cell):,.0f})" for cell in cells) + " |")
+END
