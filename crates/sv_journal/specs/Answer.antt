@@ -1,10 +1,9 @@
 -- What the server replies to each request, by its journal so far. The table is read from the top: the first case that applies decides.
 -- A history is the list of a journal's entries with the latest first.
-use Rattle.std.specs.Prelude.{◌≡◌, ℕ, suc, ◌+◌, Bool, true, false, ◌&&◌, ◌||◌, not, ◌==◌, nat_le, nat_lt, ℤ, List, [], ◌∷◌, ◌++◌, map, filter, length, slice_index_or, Option, Some, None, is_none, if◌then◌else◌}
+use Rattle.std.specs.Prelude.{◌≡◌, ℕ, suc, Bool, false, ◌&&◌, ◌||◌, not, ◌==◌, nat_le, nat_lt, List, [], ◌∷◌, ◌++◌, map, filter, length, slice_index_or, Option, Some, None, is_none, if◌then◌else◌}
 use Rattle.std.specs.List.{list_any, list_all}
 use Rattle.sv_world.specs.declared.action.Action.{Action}
 use Rattle.sv_world.specs.declared.check.BadAction.{BadAction}
-use Rattle.sv_world.specs.declared.world.ClientId.{ClientId}
 use Rattle.sv_world.specs.declared.world.ObjectId.{ObjectId}
 use Rattle.sv_world.specs.declared.world.World.{World}
 use Rattle.sv_world.specs.Control.{is_in, below, action_at, needed_for, head_for, chain_length, influence_distance}

@@ -1,8 +1,7 @@
 -- What a journal says of its actions, results and clients. A history is the list of a journal's entries with the latest first: `e ∷ h`
 -- is h, and then e. Positions and sequence numbers count from 1.
-use Rattle.std.specs.Prelude.{ℕ, zero, suc, ◌+◌, ◌-◌, Bool, true, false, ◌&&◌, ◌==◌, ℤ, List, [], ◌∷◌, ◌++◌, map, length, slice_index_or, if◌then◌else◌, Option, Some, None, is_some, unwrap_or}
+use Rattle.std.specs.Prelude.{ℕ, zero, suc, Bool, true, false, ◌&&◌, ◌==◌, ℤ, List, [], ◌∷◌, ◌++◌, map, length, slice_index_or, if◌then◌else◌, Option, Some, None, is_some, unwrap_or}
 use Rattle.sv_world.specs.declared.action.Action.{Action}
-use Rattle.sv_world.specs.declared.world.ClientId.{ClientId}
 use Rattle.sv_world.specs.Control.{blank, action_at}
 use Rattle.sv_world.specs.Sets.{write_set}
 use Rattle.sv_eval.specs.Serial.{put_all}

@@ -1,5 +1,9 @@
 pub mod Answer
+pub mod Examples
 pub mod History
 pub mod Pieces
 pub mod Text
 pub mod Sessions
+pub mod Invariant
+pub mod Rows
+pub mod View

@@ -1,6 +1,6 @@
 -- What a journal says of its sessions and of the clients' numbers: it speaks of no value, so it holds for any clients.
 -- A history is the list of a journal's entries with the latest first: `e ∷ h` is h, and then e.
-use Rattle.std.specs.Prelude.{ℕ, zero, suc, ◌+◌, ◌-◌, Bool, true, false, ◌&&◌, ◌||◌, not, ◌==◌, nat_le, nat_lt, max, List, [], ◌∷◌, ◌++◌, map, filter, length, slice_get, Option, Some, None, is_some, if◌then◌else◌}
+use Rattle.std.specs.Prelude.{ℕ, zero, suc, ◌+◌, Bool, true, false, ◌&&◌, ◌||◌, not, ◌==◌, nat_le, max, List, [], ◌∷◌, ◌++◌, map, filter, slice_get, Option, Some, None, is_some, if◌then◌else◌}
 use Rattle.std.specs.List.{list_any}
 use Rattle.sv_world.specs.Control.{is_in, below, action_at, last_writer}
 use Rattle.sv_world.specs.Sets.{write_set}

@@ -1,5 +1,5 @@
 -- The printed text of a journal. Each line ends with a line feed, whose code is 10.
-use Rattle.std.specs.Prelude.{ℕ, ◌+◌, List, [], ◌∷◌, ◌++◌, length, reverse, if◌then◌else◌, is_none, codes}
+use Rattle.std.specs.Prelude.{ℕ, ◌+◌, ◌≤◌, All, List, [], ◌∷◌, ◌++◌, length, reverse, if◌then◌else◌, is_none, codes}
 use Rattle.std.specs.Fmt.{decimal}
 use Rattle.sv_world.specs.Faults.{first_fault_of_action}
 use Rattle.sv_world.specs.declared.action.Action.{Action}
@@ -55,3 +55,12 @@ entry_lines shape A n (e ∷ es) = entry_line shape A n e ++ entry_lines shape A
 -- The text of a journal, whose entries stand in order.
 abbrev pub journal_text : Shape → List Entry → List ℕ
 journal_text shape entries = codes "journal " ++ decimal (length entries) ++ 10 ∷ entry_lines shape (accepted (reverse entries)) 1 entries
+
+-- Each position that a reply names is one of so many accepted actions.
+abbrev pub NamesAccepted : ℕ → Logged → Type 0
+NamesAccepted count (logged.Relay seq commit head positions) = All (λ p. (1 ≤ p) × (p ≤ count)) positions
+NamesAccepted count _ = Unit {0}
+
+-- Each position that a relay of the journal names is that of an accepted action.
+abbrev pub RelaysNameAccepted : List Entry → Type 0
+RelaysNameAccepted entries = All (λ (e : Entry). NamesAccepted (length (accepted (reverse entries))) e.reply) entries

@@ -1,0 +1,18 @@
+use Rattle.sv_journal.proofs.Worked as worked
+use Rattle.sv_journal.proofs.laws.examples_are_answered.Goals as goal
+
+pub returns : goal.returns
+returns c = record {
+  only_influences_are_relayed = worked.only_influences_are_relayed;
+  late_older_action = worked.late_older_action;
+  completions_out_of_order = worked.completions_out_of_order;
+  bound_1 = worked.bound_1;
+  bound_0 = worked.bound_0;
+  lost_relay = worked.lost_relay;
+  retry_after_commit = worked.retry_after_commit;
+  abandoned_action = worked.abandoned_action;
+  refusals = worked.refusals;
+  reach = worked.reach;
+  one_action = worked.one_action;
+  repeated_relay = worked.repeated_relay;
+}

@@ -1,0 +1,143 @@
+//! Heads, results and items as the journal prints them. On want of memory a part of what is appended may be left.
+ghost use Rattle.std.specs.Prelude.{◌≡◌, ◌≤◌, ◌∷◌, ◌++◌, All, length, reverse, string_bytes, OnOk};
+ghost use Rattle.std.specs.List.{flat_map};
+ghost use Rattle.sv_wire.specs.declared.message.Done1.{Done1};
+ghost use Rattle.sv_wire.specs.declared.message.Held.{Held};
+ghost use Rattle.sv_journal.specs.History.{accepted};
+ghost use Rattle.sv_journal.specs.Pieces.{joined, bracketed, value_text, held_text, head_text, result_text};
+ghost use Rattle.sv_journal.specs.Text.{item_text};
+
+use crate::journal::Journal;
+use crate::text::{append_held, append_value};
+use std::alloc::AllocError;
+use sv_wire::{Done1, Held};
+use sv_world::Value;
+
+/// Appends a head, as `[0=(5) 3=(7)]`.
+pub fn append_head(head: &[Held], out: &mut String) -> Result<(), AllocError>
+    ensures { OnOk result (string_bytes out.new ≡ string_bytes out.old ++ head_text head.now) }
+{
+    out.push_str("[")?;
+    append_head_values(head, out)?;
+    out.push_str("]")
+}
+
+fn append_head_values(head: &[Held], out: &mut String) -> Result<(), AllocError>
+    ensures { OnOk result (string_bytes out.new ≡ string_bytes out.old ++ joined 32 (λ (h : Held). held_text h.object.0 h.value) head.now) }
+{
+    let [first, rest @ ..] = head else {
+        return Ok(());
+    };
+    append_held(first.object, first.value.as_slice(), out)?;
+    append_more_head_values(rest, out)
+}
+
+fn append_more_head_values(head: &[Held], out: &mut String) -> Result<(), AllocError>
+    ensures { OnOk result (string_bytes out.new ≡ string_bytes out.old ++ flat_map (λ (h : Held). 32 ∷ held_text h.object.0 h.value) head.now) }
+{
+    for held in head {
+        out.push_str(" ")?;
+        append_held(held.object, held.value.as_slice(), out)?;
+    }
+    Ok(())
+}
+
+/// Appends results, as `[1:(6) 2:(7)(8)]`.
+pub fn append_results(results: &[Done1], out: &mut String) -> Result<(), AllocError>
+    ensures { OnOk result (string_bytes out.new ≡ string_bytes out.old ++ bracketed result_text results.now) }
+{
+    out.push_str("[")?;
+    append_result_list(results, out)?;
+    out.push_str("]")
+}
+
+fn append_result_list(results: &[Done1], out: &mut String) -> Result<(), AllocError>
+    ensures { OnOk result (string_bytes out.new ≡ string_bytes out.old ++ joined 32 result_text results.now) }
+{
+    let [first, rest @ ..] = results else {
+        return Ok(());
+    };
+    append_result(first, out)?;
+    append_more_results(rest, out)
+}
+
+fn append_more_results(results: &[Done1], out: &mut String) -> Result<(), AllocError>
+    ensures { OnOk result (string_bytes out.new ≡ string_bytes out.old ++ flat_map (λ (d : Done1). 32 ∷ result_text d) results.now) }
+{
+    for done in results {
+        out.push_str(" ")?;
+        append_result(done, out)?;
+    }
+    Ok(())
+}
+
+fn append_result(done: &Done1, out: &mut String) -> Result<(), AllocError>
+    ensures { OnOk result (string_bytes out.new ≡ string_bytes out.old ++ result_text done.now) }
+{
+    let pos = done.pos;
+    write!(out, "{pos}:")?;
+    append_values(done.values.as_slice(), out)
+}
+
+fn append_values(values: &[Value], out: &mut String) -> Result<(), AllocError>
+    ensures { OnOk result (string_bytes out.new ≡ string_bytes out.old ++ flat_map value_text values.now) }
+{
+    for value in values {
+        append_value(value.as_slice(), out)?;
+    }
+    Ok(())
+}
+
+/// Appends the items at positions, as `[1:c0.1 3:c1.2]`.
+pub fn append_items(
+    journal: &Journal,
+    positions: &[u32],
+    out: &mut String,
+) -> Result<(), AllocError>
+    requires { All (λ p. (1 ≤ p) × (p ≤ length (accepted (reverse journal.now.entries)))) positions.now }
+    ensures { OnOk result (string_bytes out.new ≡ string_bytes out.old ++ bracketed (item_text (accepted (reverse journal.now.entries))) positions.now) }
+{
+    out.push_str("[")?;
+    append_item_list(journal, positions, out)?;
+    out.push_str("]")
+}
+
+fn append_item_list(
+    journal: &Journal,
+    positions: &[u32],
+    out: &mut String,
+) -> Result<(), AllocError>
+    requires { All (λ p. (1 ≤ p) × (p ≤ length (accepted (reverse journal.now.entries)))) positions.now }
+    ensures { OnOk result (string_bytes out.new ≡ string_bytes out.old ++ joined 32 (item_text (accepted (reverse journal.now.entries))) positions.now) }
+{
+    let [first, rest @ ..] = positions else {
+        return Ok(());
+    };
+    append_item(journal, *first, out)?;
+    append_more_items(journal, rest, out)
+}
+
+fn append_more_items(
+    journal: &Journal,
+    positions: &[u32],
+    out: &mut String,
+) -> Result<(), AllocError>
+    requires { All (λ p. (1 ≤ p) × (p ≤ length (accepted (reverse journal.now.entries)))) positions.now }
+    ensures { OnOk result (string_bytes out.new ≡ string_bytes out.old ++ flat_map (λ p. 32 ∷ item_text (accepted (reverse journal.now.entries)) p) positions.now) }
+{
+    for pos in positions {
+        out.push_str(" ")?;
+        append_item(journal, *pos, out)?;
+    }
+    Ok(())
+}
+
+fn append_item(journal: &Journal, pos: u32, out: &mut String) -> Result<(), AllocError>
+    requires first { 1 ≤ pos }
+    requires last { pos ≤ length (accepted (reverse journal.now.entries)) }
+    ensures { OnOk result (string_bytes out.new ≡ string_bytes out.old ++ item_text (accepted (reverse journal.now.entries)) pos) }
+{
+    let client = journal.author(pos).0;
+    let seq = journal.author_seq(pos);
+    write!(out, "{pos}:c{client}.{seq}")
+}

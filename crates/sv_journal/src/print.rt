@@ -1,0 +1,180 @@
+//! The printed text of a journal.
+ghost use Rattle.std.specs.Prelude.{◌≡◌, ◌≤◌, ◌++◌, All, length, reverse, codes, string_bytes, OnOk, OnErr};
+ghost use Rattle.std.specs.Fmt.{decimal};
+ghost use Rattle.sv_journal.specs.History.{accepted};
+ghost use Rattle.sv_journal.specs.Pieces.{bracketed, head_text, objects_text, result_text};
+ghost use Rattle.sv_journal.specs.Text.{item_text, action_text, request_text, reply_text, entry_line, entry_lines, journal_text, NamesAccepted, RelaysNameAccepted};
+
+use crate::journal::Journal;
+use crate::pieces::{append_head, append_items, append_results};
+use crate::text::append_objects;
+use crate::{Entry, Logged};
+use std::alloc::AllocError;
+use sv_text::append_action;
+use sv_wire::{Done1, Held, Request};
+use sv_world::{Action, ClientId, ObjectId, Shape, check_action};
+
+fn append_shown(shape: Shape, action: &Action, out: &mut String) -> Result<(), AllocError>
+    ensures { OnOk result (string_bytes out.new ≡ string_bytes out.old ++ action_text shape action.now) }
+{
+    match check_action(shape, action) {
+        Ok(()) => append_action(action, out),
+        Err(_) => out.push_str("bad"),
+    }
+}
+
+fn append_join(
+    client: ClientId,
+    life: u32,
+    interest: &[ObjectId],
+    out: &mut String,
+) -> Result<(), AllocError>
+    ensures { OnOk result (string_bytes out.new ≡ string_bytes out.old ++ codes "join c" ++ decimal client.0 ++ codes " " ++ decimal life ++ codes " " ++ objects_text interest.now) }
+{
+    let number = client.0;
+    write!(out, "join c{number} {life} ")?;
+    append_objects(interest, out)
+}
+
+fn append_submit(
+    shape: Shape,
+    seq: u32,
+    action: &Action,
+    out: &mut String,
+) -> Result<(), AllocError>
+    ensures { OnOk result (string_bytes out.new ≡ string_bytes out.old ++ codes "submit " ++ decimal seq ++ codes " " ++ action_text shape action.now) }
+{
+    write!(out, "submit {seq} ")?;
+    append_shown(shape, action, out)
+}
+
+fn append_done(results: &[Done1], out: &mut String) -> Result<(), AllocError>
+    ensures { OnOk result (string_bytes out.new ≡ string_bytes out.old ++ codes "done " ++ bracketed result_text results.now) }
+{
+    out.push_str("done ")?;
+    append_results(results, out)
+}
+
+fn append_request(shape: Shape, request: &Request, out: &mut String) -> Result<(), AllocError>
+    ensures { OnOk result (string_bytes out.new ≡ string_bytes out.old ++ request_text shape request.now) }
+{
+    match request {
+        Request::Join {
+            client,
+            life,
+            interest,
+        } => append_join(*client, *life, interest.as_slice(), out),
+        Request::Submit { seq, action } => append_submit(shape, *seq, action, out),
+        Request::Done { results } => append_done(results.as_slice(), out),
+        Request::Poll => out.push_str("poll"),
+        Request::Leave => out.push_str("leave"),
+        Request::Bad => out.push_str("bad"),
+        Request::End => out.push_str("end"),
+    }
+}
+
+fn append_welcome(commit: u32, head: &[Held], out: &mut String) -> Result<(), AllocError>
+    ensures { OnOk result (string_bytes out.new ≡ string_bytes out.old ++ codes "welcome " ++ decimal commit ++ codes " " ++ head_text head.now) }
+{
+    write!(out, "welcome {commit} ")?;
+    append_head(head, out)
+}
+
+fn append_relay(
+    journal: &Journal,
+    seq: u32,
+    commit: u32,
+    head: &[Held],
+    positions: &[u32],
+    out: &mut String,
+) -> Result<(), AllocError>
+    requires { All (λ p. (1 ≤ p) × (p ≤ length (accepted (reverse journal.now.entries)))) positions.now }
+    ensures { OnOk result (string_bytes out.new ≡ string_bytes out.old ++ codes "relay " ++ decimal seq ++ codes " at " ++ decimal commit ++ codes " " ++ head_text head.now
+        ++ codes " " ++ bracketed (item_text (accepted (reverse journal.now.entries))) positions.now) }
+{
+    write!(out, "relay {seq} at {commit} ")?;
+    append_head(head, out)?;
+    out.push_str(" ")?;
+    append_items(journal, positions, out)
+}
+
+fn append_reply(journal: &Journal, reply: &Logged, out: &mut String) -> Result<(), AllocError>
+    requires { NamesAccepted (length (accepted (reverse journal.now.entries))) reply.now }
+    ensures { OnOk result (string_bytes out.new ≡ string_bytes out.old ++ reply_text (accepted (reverse journal.now.entries)) reply.now) }
+{
+    match reply {
+        Logged::Welcome { commit, head } => append_welcome(*commit, head.as_slice(), out),
+        Logged::Relay {
+            seq,
+            commit,
+            head,
+            positions,
+        } => append_relay(
+            journal,
+            *seq,
+            *commit,
+            head.as_slice(),
+            positions.as_slice(),
+            out,
+        ),
+        Logged::Dropped { seq, chain, far } => write!(out, "dropped {seq} chain {chain} far {far}"),
+        Logged::Settled { seq, pos } => write!(out, "settled {seq} at {pos}"),
+        Logged::Noted { commit } => write!(out, "noted {commit}"),
+        Logged::Idle => out.push_str("idle"),
+        Logged::Refused { code, detail } => write!(out, "refused {code} {detail}"),
+        Logged::Bye => out.push_str("bye"),
+    }
+}
+
+fn append_entry(
+    shape: Shape,
+    journal: &Journal,
+    number: usize,
+    entry: &Entry,
+    out: &mut String,
+) -> Result<(), AllocError>
+    requires { NamesAccepted (length (accepted (reverse journal.now.entries))) entry.now.reply }
+    ensures { OnOk result (string_bytes out.new ≡ string_bytes out.old ++ entry_line shape (accepted (reverse journal.now.entries)) number entry.now) }
+{
+    let session = entry.session;
+    write!(out, "{number} s{session} ")?;
+    append_request(shape, &entry.request, out)?;
+    out.push_str(" -> ")?;
+    append_reply(journal, &entry.reply, out)?;
+    out.push_str("\n")
+}
+
+fn append_entries(shape: Shape, journal: &Journal, out: &mut String) -> Result<(), AllocError>
+    requires { RelaysNameAccepted journal.now.entries }
+    ensures { OnOk result (string_bytes out.new ≡ string_bytes out.old ++ entry_lines shape (accepted (reverse journal.now.entries)) 1 journal.now.entries) }
+{
+    let entries = journal.entries();
+    let mut number = 0;
+    for entry in entries {
+        number += 1;
+        append_entry(shape, journal, number, entry, out)?;
+    }
+    Ok(())
+}
+
+fn append_journal(shape: Shape, journal: &Journal, out: &mut String) -> Result<(), AllocError>
+    requires { RelaysNameAccepted journal.now.entries }
+    ensures { OnOk result (string_bytes out.new ≡ string_bytes out.old ++ journal_text shape journal.now.entries) }
+{
+    let count = journal.len();
+    write!(out, "journal {count}\n")?;
+    append_entries(shape, journal, out)
+}
+
+/// Appends the text of a journal, a line for each entry after one with their number.
+///
+/// An action that is refused in the shape is printed as `bad`. On want of memory `out` is as it was.
+pub fn print_journal(shape: Shape, journal: &Journal, out: &mut String) -> Result<(), AllocError>
+    requires { RelaysNameAccepted journal.now.entries }
+    ensures ok { OnOk result (string_bytes out.new ≡ string_bytes out.old ++ journal_text shape journal.now.entries) }
+    ensures err { OnErr result (string_bytes out.new ≡ string_bytes out.old) }
+{
+    let mut text = String::new(*out.allocator());
+    append_journal(shape, journal, &mut text)?;
+    out.push_str(&text)
+}
