@@ -1,4 +1,4 @@
-ghost use Rattle.std.specs.Prelude.{◌≡◌, ℕ, suc, ◌+◌, ◌<◌, Bool, nat_eq, [], ◌∷◌, ◌++◌, map, length, option_map, OnOk, OnErr, if◌then◌else◌};
+ghost use Rattle.std.specs.Prelude.{◌≡◌, ℕ, suc, ◌+◌, ◌<◌, ◌&&◌, nat_eq, nat_lt, nat_le, [], ◌∷◌, ◌++◌, map, length, option_map, OnOk, OnErr, if◌then◌else◌};
 ghost use Rattle.sv_journal.specs.Sessions.{outcome_at};
 ghost use Rattle.sv_sequencer.specs.Clients.{client_row, no_client, kept_of, outcome_value};
 
@@ -112,8 +112,14 @@ fn kept_in(outcomes: &[Outcome], seq: u32) -> Option<Outcome>
 fn outcome_at(outcomes: &[Outcome], seq: usize) -> Option<Outcome>
     ensures { option_map outcome_value result ≡ outcome_at (map outcome_value outcomes.now) seq }
 {
-    if seq == 0 {
-        return None;
+    if has_outcome(outcomes, seq) {
+        return Some(outcomes[seq - 1]);
     }
-    outcomes.get(seq - 1).copied()
+    None
+}
+
+fn has_outcome(outcomes: &[Outcome], seq: usize) -> bool
+    ensures { result ≡ (nat_lt 0 seq && nat_le seq (length outcomes.now)) }
+{
+    seq > 0 && seq <= outcomes.len()
 }

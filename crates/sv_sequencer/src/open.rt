@@ -2,6 +2,7 @@ ghost use Rattle.std.specs.Prelude.{◌≡◌, ◌<◌, ◌≤◌, [], slice_ind
 ghost use Rattle.sv_queue.specs.Worlds.{IsGoodWorld};
 ghost use Rattle.sv_journal.specs.History.{committed_of};
 ghost use Rattle.sv_journal.specs.Answer.{Legal};
+ghost use Rattle.sv_sequencer.specs.Rows.{is_ended};
 ghost use Rattle.sv_sequencer.specs.Step.{history};
 
 use crate::clients::Clients;
@@ -74,5 +75,20 @@ impl Sequencer {
         ensures { result.now ≡ slice_index_or (committed_of self.now.rules.world.values (history self.now)) object.0 [] }
     {
         self.queue.committed(object)
+    }
+
+    /// How many sessions there may be.
+    pub fn sessions(&self) -> u16
+        ensures { result ≡ self.now.rules.sessions }
+    {
+        self.sessions.len() as u16
+    }
+
+    /// Whether a session had its End.
+    pub fn is_ended(&self, session: u16) -> bool
+        requires { session < self.now.rules.sessions }
+        ensures { result ≡ is_ended (history self.now) session }
+    {
+        self.sessions[session as usize].ended
     }
 }

@@ -27,10 +27,20 @@ impl Sequencer {
     {
         if let Request::End = request {
             self.end(session);
+            self.is_legal();
             return Ok(Reply::Bye);
         }
         let decision = self.decide(session, request);
-        self.carry_out(session, request, decision)
+        let answer = self.carry_out(session, request, decision);
+        self.is_legal();
+        answer
+    }
+
+    /// A law: the journal is legal at any time.
+    fn is_legal(&self)
+        ensures { Legal self.now.rules (history self.now) }
+    {
+        let _ = &self.alloc;
     }
 
     fn carry_out(
