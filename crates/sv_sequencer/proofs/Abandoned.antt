@@ -135,8 +135,8 @@ pub orphans-are : (r : Rules) (h : List Entry) (v : QueueView) (rows : List Sess
 orphans-are r h v rows few count at within f are all =
     ap (λ n. filter (is_orphan_in v rows) (below (suc n))) f.last
     ∙ filter-ext (is_orphan_in v rows) (λ p. nat_lt (commit_of h) p && is_none (result_at h p) && is_abandoned h p) (below (suc (length (accepted h))))
-      (λ p m. (let high : p < suc (length (accepted h)) = below-is_in (suc (length (accepted h))) p m in
-      go p (omega arith) (nat_lt v.commit p) refl ∙ ap (λ c. nat_lt c p && is_none (result_at h p) && is_abandoned h p) at))
+    (λ p m. (let high : p < suc (length (accepted h)) = below-is_in (suc (length (accepted h))) p m in
+    go p (omega arith) (nat_lt v.commit p) refl ∙ ap (λ c. nat_lt c p && is_none (result_at h p) && is_abandoned h p) at))
   where
     go : (p : ℕ) → p ≤ length (accepted h) → (b : Bool) → nat_lt v.commit p ≡ b →
         (b && is_none (entry_at v p).result && is_abandoned_in v rows p) ≡ (b && is_none (result_at h p) && is_abandoned h p)

@@ -154,9 +154,9 @@ agree-accept r h v old next clients after owed spare room s request k seq c m he
         ap (run_length (λ p. is_some (result_at (e ∷ h) p))) (let n : length (accepted (e ∷ h)) ≡ suc (length (accepted h)) = omega (arith, longer) in n)
         ∙ run_same (λ p. is_some (result_at (e ∷ h) p)) (λ p. is_some (result_at h p)) (suc (length (accepted h))) (λ p. ap is_some (results p))
         ∙ cond-false (nat_eq (run_length (λ p. is_some (result_at h p)) (length (accepted h))) (length (accepted h)) && is_some (result_at h (suc (length (accepted h)))))
-          (suc (length (accepted h))) (run_length (λ p. is_some (result_at h p)) (length (accepted h)))
-          (and_right (nat_eq (run_length (λ p. is_some (result_at h p)) (length (accepted h))) (length (accepted h))) (is_some (result_at h (suc (length (accepted h)))))
-          (ap is_some (a.sound.results (suc (length (accepted h))) (omega arith))))
+        (suc (length (accepted h))) (run_length (λ p. is_some (result_at h p)) (length (accepted h)))
+        (and_right (nat_eq (run_length (λ p. is_some (result_at h p)) (length (accepted h))) (length (accepted h))) (is_some (result_at h (suc (length (accepted h)))))
+        (ap is_some (a.sound.results (suc (length (accepted h))) (omega arith))))
 
 -- The row of a client that joins.
 abbrev pub joined_row : (ℕ → ClientRow) → ℕ → ℕ → ℕ → ClientRow

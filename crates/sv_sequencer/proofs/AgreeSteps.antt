@@ -59,7 +59,7 @@ rows-next r e h old new' count after rows s low =
 
 -- An entry that changes nothing but its own session.
 pub agree-quiet : (r : Rules) (h : List Entry) (v : QueueView) (rows next : List SessionRow) (clients : Clients) (owed spare room : ℕ) (s : ℕ) (request : Request) (reply : Logged) →
-    Agrees r h v rows clients owed spare → length rows ≡ r.sessions → s < r.sessions → IsQuiet h s request reply → reply ≡ reply_to r h s request → 
+    Agrees r h v rows clients owed spare → length rows ≡ r.sessions → s < r.sessions → IsQuiet h s request reply → reply ≡ reply_to r h s request →
     AreAfter (entry_of s request reply) rows next →
     (left : ℕ) → left ≡ ends_owed (entry_of s request reply ∷ h) r.sessions → left ≤ room → Agrees r (entry_of s request reply ∷ h) v next clients left room
 agree-quiet r h v rows next clients owed spare room s request reply a count low quiet is after left owes fits = record {

@@ -30,7 +30,7 @@ bad-is r h v s d small at within f =
     ap (λ n. d.pos == 0 || nat_lt n d.pos || later n) f.last
     ∙ go (nat_lt (length (accepted h)) d.pos) refl (nat_lt v.commit d.pos) refl
     ∙ ap (λ c. d.pos == 0 || nat_lt (length (accepted h)) d.pos || (nat_lt c d.pos && (not (is_in d.pos (sent_to h s))
-        || not (length d.values == length (write_set (action_at (actions_of h) d.pos))) || not (list_all (λ w. length w == r.world.shape.attrs) d.values)))) at
+    || not (length d.values == length (write_set (action_at (actions_of h) d.pos))) || not (list_all (λ w. length w == r.world.shape.attrs) d.values)))) at
   where
     later : ℕ → Bool
     later n = nat_lt v.commit d.pos && (not (is_in d.pos (sent_positions v s))
@@ -38,9 +38,9 @@ bad-is r h v s d small at within f =
 
     go : (b : Bool) → nat_lt (length (accepted h)) d.pos ≡ b → (c : Bool) → nat_lt v.commit d.pos ≡ c →
         (d.pos == 0 || b || (c && (not (is_in d.pos (sent_positions v s))
-            || not (length d.values == length (write_set (action_at (queue_actions v) d.pos))) || not (list_all (λ w. length w == v.shape.attrs) d.values))))
+        || not (length d.values == length (write_set (action_at (queue_actions v) d.pos))) || not (list_all (λ w. length w == v.shape.attrs) d.values))))
         ≡ (d.pos == 0 || b || (c && (not (is_in d.pos (sent_to h s))
-            || not (length d.values == length (write_set (action_at (actions_of h) d.pos))) || not (list_all (λ w. length w == r.world.shape.attrs) d.values))))
+        || not (length d.values == length (write_set (action_at (actions_of h) d.pos))) || not (list_all (λ w. length w == r.world.shape.attrs) d.values))))
     go b q false t = refl
     go true q true t = full (d.pos == 0) _ _
       where
@@ -49,8 +49,11 @@ bad-is r h v s d small at within f =
         full false x y = refl
     go false q true t = (let low : v.commit < d.pos = ltb-true v.commit d.pos t in
         let high : d.pos ≤ length (accepted h) = ltb-false (length (accepted h)) d.pos q in
-        rw (sent-is r.world (accepted h) (result_at h) (sent_to h) (named_to h) v f within s d.pos small low,
-        action-is r.world (accepted h) (result_at h) (sent_to h) (named_to h) v f within d.pos low high, f.shape) refl)
+        rw (
+          sent-is r.world (accepted h) (result_at h) (sent_to h) (named_to h) v f within s d.pos small low,
+          action-is r.world (accepted h) (result_at h) (sent_to h) (named_to h) v f within d.pos low high,
+          f.shape,
+        ) refl)
 
 pub bad-done : (r : Rules) (h : List Entry) (v : QueueView) (s : ℕ) (ds : List Done1) → s < 64 → v.commit ≡ commit_of h →
     ((t q : ℕ) → is_in q (sent_to h t) ≡ true → q ≤ length (accepted h)) → Fits r.world (accepted h) (result_at h) (sent_to h) (named_to h) v →

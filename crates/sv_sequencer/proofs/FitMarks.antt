@@ -86,8 +86,12 @@ fits-same w A R Q S U N M v results sent named f = record {
   last = f.last;
   committed = f.committed ∙ values-same w.values (actions_in A) R Q v.commit (λ p low high. results p low);
   entries = λ p low high. (let e = f.entries p low high in record {
-    author = e.author; seq = e.seq; action = e.action; result = e.result ∙ results p (omega arith);
-    marks = λ s small. e.marks s small ∙ ap (is_in p) (sent s) });
+    author = e.author;
+    seq = e.seq;
+    action = e.action;
+    result = e.result ∙ results p (omega arith);
+    marks = λ s small. e.marks s small ∙ ap (is_in p) (sent s);
+  });
   given = λ x s low small. f.given x s low small ∙ ap (λ ks. gives (actions_in A) ks (N s x) x v.commit) (sent s)
       ∙ ap (λ ks. gives (actions_in A) (U s) ks x v.commit) (named s x);
 }
@@ -132,7 +136,10 @@ is_sent_also s p S t q = go (nat_eq s t)
 marked-entry : (A : List Authored) (R : ℕ → Option (List (List ℤ))) (S : ℕ → List ℕ) (p s : ℕ) (q : Queued) → IsEntry A R S p q →
     IsEntry A R (sent_also s (p ∷ []) S) p (record q { marks = with_session s q.marks })
 marked-entry A R S p s q e = record {
-  author = e.author; seq = e.seq; action = e.action; result = e.result;
+  author = e.author;
+  seq = e.seq;
+  action = e.action;
+  result = e.result;
   marks = λ t small.
       in_sessions (λ u. nat_eq u s || is_in u q.marks) t small
       ∙ ap (λ b. nat_eq t s || b) (e.marks t small)
@@ -148,7 +155,10 @@ marked-entry A R S p s q e = record {
 other-entry : (A : List Authored) (R : ℕ → Option (List (List ℤ))) (S : ℕ → List ℕ) (p k s : ℕ) (q : Queued) → (k ≡ p → ⊥) → IsEntry A R S k q →
     IsEntry A R (sent_also s (p ∷ []) S) k q
 other-entry A R S p k s q ne e = record {
-  author = e.author; seq = e.seq; action = e.action; result = e.result;
+  author = e.author;
+  seq = e.seq;
+  action = e.action;
+  result = e.result;
   marks = λ t small. e.marks t small
       ∙ sym (is_sent_also s p S t k ∙ ap (λ b. is_in k (S t) || b) (ap (λ b. nat_eq s t && b) (ne_eqb k p ne) ∙ and_right (nat_eq s t) false refl) ∙ or_false (is_in k (S t)));
 }

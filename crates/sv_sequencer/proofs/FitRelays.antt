@@ -55,14 +55,14 @@ module _ (w : World) (A : List Authored) (R : ℕ → Option (List (List ℤ))) 
   bases-are given s p small low high same =
       ap (λ g. head_for v.shape.objects (queue_actions v) v.commit (sent_positions v s) g p) same
       ∙ head_for-agree v.shape.objects (queue_actions v) (actions_in A) v.commit (sent_positions v s) (S s) given p low
-        (λ k a b. action-is k a (omega arith)) (λ k a. sent-is s k small a)
+      (λ k a b. action-is k a (omega arith)) (λ k a. sent-is s k small a)
       ∙ ap (λ (d : Shape). head_for d.objects (actions_in A) v.commit (S s) given p) f.shape
 
   pub given-are : (s : ℕ) → s < 64 → given_objects v s ≡ filter (λ x. gives (actions_in A) (S s) (N s x) x v.commit) (below w.shape.objects)
   given-are s small =
       ap (λ (d : Shape). filter (λ x. is_pair x s v.given) (below d.objects)) f.shape
       ∙ filter-ext (λ x. is_pair x s v.given) (λ x. gives (actions_in A) (S s) (N s x) x v.commit) (below w.shape.objects)
-        (λ x h. f.given x s (below-is_in w.shape.objects x h) small)
+      (λ x h. f.given x s (below-is_in w.shape.objects x h) small)
 
   same_length : length (queue_actions v) ≡ length (actions_in A)
   same_length = queue_length v ∙ f.last ∙ sym (length-actions A)

@@ -71,14 +71,20 @@ fits-report w A R S N v d done high f = go (nat_lt v.commit d.pos) refl (is_none
 
         here : IsEntry A (result_also d R) S d.pos e
         here = record {
-          author = old.author; seq = old.seq; action = old.action; marks = old.marks;
+          author = old.author;
+          seq = old.seq;
+          action = old.action;
+          marks = old.marks;
           result = sym (ap (λ o. either o (cond (nat_eq d.pos d.pos) (Some d.values) None)) (sym old.result ∙ none)
-          ∙ cond-true (nat_eq d.pos d.pos) (Some d.values) None (eq-eqb d.pos d.pos refl));
+              ∙ cond-true (nat_eq d.pos d.pos) (Some d.values) None (eq-eqb d.pos d.pos refl));
         }
 
         other : (k : ℕ) → (k ≡ d.pos → ⊥) → IsEntry A R S k (entry_at v k) → IsEntry A (result_also d R) S k (entry_at v k)
         other k ne h = record {
-          author = h.author; seq = h.seq; action = h.action; marks = h.marks;
+          author = h.author;
+          seq = h.seq;
+          action = h.action;
+          marks = h.marks;
           result = h.result ∙ sym (ap (either (R k)) (cond-false (nat_eq d.pos k) (Some d.values) None (ne_eqb d.pos k (λ q. ne (sym q)))) ∙ either-none (R k));
         }
 

@@ -46,7 +46,7 @@ pub new_action-next : (h : List Entry) (s : ℕ) (request : Request) (k seq : �
 new_action-next h s request k seq is =
     ap (λ c. new_action c (next_seq h) request) is.client
     ∙ subst (λ r. new_action (Some k) (next_seq h) r ≡ record { client = k; seq = seq; action = action_in r } ∷ []) (sym is.submit)
-      (cond-true (nat_eq seq (next_seq h k)) (record { client = k; seq = seq; action = action_in request } ∷ []) [] (eq-eqb seq (next_seq h k) is.next))
+    (cond-true (nat_eq seq (next_seq h k)) (record { client = k; seq = seq; action = action_in request } ∷ []) [] (eq-eqb seq (next_seq h k) is.next))
 
 pub accepted-next : (e : Entry) (h : List Entry) (k seq : ℕ) → is_relay e.reply ≡ true → IsNext h e.session e.request k seq →
     accepted (e ∷ h) ≡ accepted h ++ authored_by k seq e.request ∷ []

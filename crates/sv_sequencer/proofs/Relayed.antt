@@ -1,6 +1,6 @@
 -- What a relay of a queue's position has is within the queue.
 use Rattle.std.proofs.Common.{◌≡◌, ℕ, zero, suc, ◌+◌, ◌<◌, ◌≤◌, ◌-◌, Bool, true, false, ◌&&◌, cond, nat_lt, nat_le, is_none, List, [], ◌∷◌, map, drop, length, get_or, All, Option, option_map, Some, None, slice_get, slice_index_or, refl, sym, ◌∙◌, ap, subst, arith, add-one, length-append}
-use Rattle.std.proofs.lemmas.Bool.{and_parts, ltb-true, leb-true, leb-false}
+use Rattle.std.proofs.lemmas.Bool.{and_parts, ltb-true, lt-ltb, leb-true, leb-false}
 use Rattle.std.proofs.lemmas.List.{drop_more, length-map, get_or-map as read_mapped}
 use Rattle.std.proofs.lemmas.Option.{slice_get-map}
 use Rattle.std.proofs.Math.ListN.{get_or-map}
@@ -59,7 +59,7 @@ outcome-within os (suc n) d h =
 pub outcome-outside : (os : List OutcomeRow) (seq : ℕ) → (nat_lt 0 seq && nat_le seq (length os)) ≡ false → ◌≡◌ {A = Option Outcome} None (outcome_at (map outcome_value os) seq)
 outcome-outside os zero h = refl
 outcome-outside os (suc n) h =
-    let past : length os < suc n = leb-false (suc n) (length os) (h) in
+    let past : length os < suc n = leb-false (suc n) (length os) (sym (ap (λ b. b && nat_le (suc n) (length os)) (lt-ltb 0 (suc n) (omega arith))) ∙ h) in
     ap (option_map outcome_value) (beyond os n (omega arith)) ∙ sym (slice_get-map outcome_value os n)
   where
     beyond : (xs : List OutcomeRow) (m : ℕ) → length xs ≤ m → ◌≡◌ {A = Option OutcomeRow} None (slice_get xs m)

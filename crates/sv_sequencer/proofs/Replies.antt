@@ -40,14 +40,14 @@ pub relay-is : (r : Rules) (h : List Entry) (v : QueueView) (s seq p : ℕ) → 
 relay-is r h v s seq p small at low high within f =
     ap (λ xs. logged.Relay seq v.commit xs (lacking v s p)) (held-is r h v (base_objects v s p) (committed-is r h (accepted h) (sent_to h) (named_to h) v at f))
     ∙ ap (λ xs. logged.Relay seq v.commit (committed_held r h xs) (lacking v s p))
-      (bases-are r.world (accepted h) (result_at h) (sent_to h) (named_to h) v f within
-      (filter (λ x. gives (actions_in (accepted h)) (sent_to h s) (named_to h s x) x v.commit) (below r.world.shape.objects)) s p small low high
-      (given-are r.world (accepted h) (result_at h) (sent_to h) (named_to h) v f within s small))
+    (bases-are r.world (accepted h) (result_at h) (sent_to h) (named_to h) v f within
+    (filter (λ x. gives (actions_in (accepted h)) (sent_to h s) (named_to h s x) x v.commit) (below r.world.shape.objects)) s p small low high
+    (given-are r.world (accepted h) (result_at h) (sent_to h) (named_to h) v f within s small))
     ∙ ap (logged.Relay seq v.commit (committed_held r h (head_for r.world.shape.objects (actions_of h) v.commit (sent_to h s)
-      (filter (λ x. gives (actions_in (accepted h)) (sent_to h s) (named_to h s x) x v.commit) (below r.world.shape.objects)) p)))
-      (lacking-is r.world (accepted h) (result_at h) (sent_to h) (named_to h) v f within s p small low high)
+    (filter (λ x. gives (actions_in (accepted h)) (sent_to h s) (named_to h s x) x v.commit) (below r.world.shape.objects)) p)))
+    (lacking-is r.world (accepted h) (result_at h) (sent_to h) (named_to h) v f within s p small low high)
     ∙ ap (λ c. logged.Relay seq c (committed_held r h (head_for r.world.shape.objects (actions_of h) c (sent_to h s)
-      (filter (λ x. gives (actions_of h) (sent_to h s) (named_to h s x) x c) (below r.world.shape.objects)) p)) (needed_for (actions_of h) c (sent_to h s) p)) at
+    (filter (λ x. gives (actions_of h) (sent_to h s) (named_to h s x) x c) (below r.world.shape.objects)) p)) (needed_for (actions_of h) c (sent_to h s) p)) at
 
 -- The relay of a new action, which the queue v has and the queue w has beside it.
 pub relay-new : (r : Rules) (h : List Entry) (v w : QueueView) (a : Authored) (s seq : ℕ) → s < 64 → v.commit ≡ commit_of h → w.commit ≡ v.commit →
@@ -60,16 +60,16 @@ relay-new r h v w a s seq small at same values gave within f g =
     ap (λ p. logged.Relay seq w.commit (held_in w (base_objects w s p)) (lacking w s p)) place
     ∙ ap (λ xs. logged.Relay seq w.commit xs (lacking w s m)) (held-is r h w (base_objects w s m) (values ∙ committed-is r h (accepted h) (sent_to h) (named_to h) v at f))
     ∙ ap (λ xs. logged.Relay seq w.commit (committed_held r h xs) (lacking w s m))
-      (bases-are r.world (accepted h ++ a ∷ []) (result_at h) (sent_to h) (named_to h) w g later
-      (filter (λ x. gives (actions_in (accepted h)) (sent_to h s) (named_to h s x) x v.commit) (below r.world.shape.objects)) s m small low high
-      (gave ∙ given-are r.world (accepted h) (result_at h) (sent_to h) (named_to h) v f within s small))
+    (bases-are r.world (accepted h ++ a ∷ []) (result_at h) (sent_to h) (named_to h) w g later
+    (filter (λ x. gives (actions_in (accepted h)) (sent_to h s) (named_to h s x) x v.commit) (below r.world.shape.objects)) s m small low high
+    (gave ∙ given-are r.world (accepted h) (result_at h) (sent_to h) (named_to h) v f within s small))
     ∙ ap (logged.Relay seq w.commit (committed_held r h (head_for r.world.shape.objects (actions_in (accepted h ++ a ∷ [])) w.commit (sent_to h s)
-      (filter (λ x. gives (actions_in (accepted h)) (sent_to h s) (named_to h s x) x v.commit) (below r.world.shape.objects)) m)))
-      (lacking-is r.world (accepted h ++ a ∷ []) (result_at h) (sent_to h) (named_to h) w g later s m small low high)
+    (filter (λ x. gives (actions_in (accepted h)) (sent_to h s) (named_to h s x) x v.commit) (below r.world.shape.objects)) m)))
+    (lacking-is r.world (accepted h ++ a ∷ []) (result_at h) (sent_to h) (named_to h) w g later s m small low high)
     ∙ ap (λ c. logged.Relay seq c (committed_held r h (head_for r.world.shape.objects (actions_in (accepted h ++ a ∷ [])) c (sent_to h s)
-      (filter (λ x. gives (actions_of h) (sent_to h s) (named_to h s x) x v.commit) (below r.world.shape.objects)) m)) (needed_for (actions_in (accepted h ++ a ∷ [])) c (sent_to h s) m)) (same ∙ at)
+    (filter (λ x. gives (actions_of h) (sent_to h s) (named_to h s x) x v.commit) (below r.world.shape.objects)) m)) (needed_for (actions_in (accepted h ++ a ∷ [])) c (sent_to h s) m)) (same ∙ at)
     ∙ ap (λ c. logged.Relay seq (commit_of h) (committed_held r h (head_for r.world.shape.objects (actions_in (accepted h ++ a ∷ [])) (commit_of h) (sent_to h s)
-      (filter (λ x. gives (actions_of h) (sent_to h s) (named_to h s x) x c) (below r.world.shape.objects)) m)) (needed_for (actions_in (accepted h ++ a ∷ [])) (commit_of h) (sent_to h s) m)) at
+    (filter (λ x. gives (actions_of h) (sent_to h s) (named_to h s x) x c) (below r.world.shape.objects)) m)) (needed_for (actions_in (accepted h ++ a ∷ [])) (commit_of h) (sent_to h s) m)) at
     ∙ ap (λ acts. relay_of r h acts s seq m) (map_push (λ (b : Authored). b.action) (accepted h) a)
     ∙ ap (λ n. relay_of r h (actions_of h ++ a.action ∷ []) s seq (suc n)) (sym (length-actions (accepted h)))
   where

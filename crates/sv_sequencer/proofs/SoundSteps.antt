@@ -43,8 +43,8 @@ all_left-takes e h zero low more early = absurd (omega arith)
 all_left-takes e h (suc n) low more early = elim (cases_eq e.session n) [
   | inl same ↦ (let falls = all_left-falls e h n in
       let here : requests_left (e ∷ h) n ≡ 1024 - suc (asked_in h n) =
-        ap (λ b. 1024 - cond (b && not (is_end e.request)) (suc (asked_in h n)) (asked_in h n)) (eq-eqb e.session n same)
-        ∙ ap (λ b. 1024 - cond (not b) (suc (asked_in h n)) (asked_in h n)) more in
+      ap (λ b. 1024 - cond (b && not (is_end e.request)) (suc (asked_in h n)) (asked_in h n)) (eq-eqb e.session n same)
+      ∙ ap (λ b. 1024 - cond (not b) (suc (asked_in h n)) (asked_in h n)) more in
       let few : asked_in h n < 1024 = subst (λ m. asked_in h m < 1024) same early in
       omega arith)
   | inr ne ↦ (let takes = all_left-takes e h n (omega arith) more early in let falls = left-falls e h n in omega arith)

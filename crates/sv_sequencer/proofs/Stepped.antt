@@ -40,6 +40,6 @@ pub relayed-whole : (w : World) (A : List Authored) (R : ℕ → Option (List (L
 relayed-whole w A R S N v seq c head sent ps items f same are within =
     ap (λ xs. replies.Relay seq c xs items) same
     ∙ ap (replies.Relay seq c head) (are ∙ items-are w A R S N v ps f (λ p m.
-      let both = members-all (IsUncommitted v) ps within p m in
-      let low : v.commit < p = both.0 in
-      (low, omega (arith, both.1, f.last))))
+    let both = members-all (IsUncommitted v) ps within p m in
+    let low : v.commit < p = both.0 in
+    (low, omega (arith, both.1, f.last))))

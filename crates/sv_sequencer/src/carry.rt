@@ -129,11 +129,7 @@ impl Sequencer {
     }
 
     /// Answers that no action is abandoned.
-    pub(crate) fn idle(
-        &mut self,
-        session: u16,
-        request: &Request,
-    ) -> Result<Reply, AllocError>
+    pub(crate) fn idle(&mut self, session: u16, request: &Request) -> Result<Reply, AllocError>
         requires session { session < self.old.rules.sessions }
         requires reply { logged.Idle ≡ reply_to self.old.rules (history self.old) session request.now }
         requires more { is_end request.now ≡ false }
@@ -145,11 +141,7 @@ impl Sequencer {
     }
 
     /// Ends a session as its client asks.
-    pub(crate) fn leave(
-        &mut self,
-        session: u16,
-        request: &Request,
-    ) -> Result<Reply, AllocError>
+    pub(crate) fn leave(&mut self, session: u16, request: &Request) -> Result<Reply, AllocError>
         requires session { session < self.old.rules.sessions }
         requires reply { logged.Bye ≡ reply_to self.old.rules (history self.old) session request.now }
         requires more { is_end request.now ≡ false }

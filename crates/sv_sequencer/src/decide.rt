@@ -65,7 +65,10 @@ impl Sequencer {
             return Decision::Refuse { code: 3, detail: 0 };
         }
         if client.0 >= 32 {
-            return Decision::Refuse { code: 10, detail: 0 };
+            return Decision::Refuse {
+                code: 10,
+                detail: 0,
+            };
         }
         let greatest = self.life_of(client.0);
         if life <= greatest {
@@ -121,7 +124,9 @@ impl Sequencer {
     {
         match self.kept_outcome(client, seq) {
             Some(Outcome::Dropped { chain, far }) => Decision::Repeat { seq, chain, far },
-            Some(Outcome::Accepted { pos }) => self.decide_accepted(session, client, seq, pos, action),
+            Some(Outcome::Accepted { pos }) => self.decide_accepted(
+                session, client, seq, pos, action,
+            ),
             None => self.decide_new(session, client, seq, action),
         }
     }

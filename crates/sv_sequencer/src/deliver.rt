@@ -162,7 +162,8 @@ impl Sequencer {
     {
         let copy = copy_request(self.alloc, request)?;
         self.reserve()?;
-        self.clients.settle(client, Outcome::Dropped { chain, far })?;
+        self.clients
+            .settle(client, Outcome::Dropped { chain, far })?;
         let entry = Entry {
             session,
             request: copy,
@@ -194,14 +195,29 @@ impl Sequencer {
         let relayed = relay_in(self.alloc, &self.queue, session, pos)?;
         let commit = self.queue.commit();
         deliver(&mut self.queue, &relayed, session);
-        let Relayed { head, positions, sent_head, items } = relayed;
+        let Relayed {
+            head,
+            positions,
+            sent_head,
+            items,
+        } = relayed;
         let entry = Entry {
             session,
             request: copy,
-            reply: Logged::Relay { seq, commit, head, positions },
+            reply: Logged::Relay {
+                seq,
+                commit,
+                head,
+                positions,
+            },
         };
         enter(&mut self.journal, &mut self.sessions, entry);
-        Ok(Reply::Relay { seq, commit, head: sent_head, items })
+        Ok(Reply::Relay {
+            seq,
+            commit,
+            head: sent_head,
+            items,
+        })
     }
 
     /// Accepts a new action and sends it with what the session lacks of it.
@@ -225,17 +241,40 @@ impl Sequencer {
         let copy = copy_request(self.alloc, request)?;
         let action = copy_action(self.alloc, action)?;
         self.reserve()?;
-        let relayed = take_in(self.alloc, &mut self.queue, &mut self.clients, session, client, seq, action)?;
+        let relayed = take_in(
+            self.alloc,
+            &mut self.queue,
+            &mut self.clients,
+            session,
+            client,
+            seq,
+            action,
+        )?;
         let commit = self.queue.commit();
         deliver(&mut self.queue, &relayed, session);
-        let Relayed { head, positions, sent_head, items } = relayed;
+        let Relayed {
+            head,
+            positions,
+            sent_head,
+            items,
+        } = relayed;
         let entry = Entry {
             session,
             request: copy,
-            reply: Logged::Relay { seq, commit, head, positions },
+            reply: Logged::Relay {
+                seq,
+                commit,
+                head,
+                positions,
+            },
         };
         enter(&mut self.journal, &mut self.sessions, entry);
-        Ok(Reply::Relay { seq, commit, head: sent_head, items })
+        Ok(Reply::Relay {
+            seq,
+            commit,
+            head: sent_head,
+            items,
+        })
     }
 
     /// Notes reported results, and commits what may be.

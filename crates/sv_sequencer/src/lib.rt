@@ -13,5 +13,7 @@ mod reports;
 mod sequencer;
 mod sessions;
 mod step;
+#[cfg(test)]
+mod tests;
 
 pub use sequencer::Sequencer;

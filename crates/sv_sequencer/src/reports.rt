@@ -65,12 +65,7 @@ fn is_one_bad<L: Ledger>(
     is_bad(queue, session, first, steps) || is_one_bad(queue, session, rest, steps)
 }
 
-fn is_bad<L: Ledger>(
-    queue: &Queue,
-    session: u16,
-    found: &Done1,
-    steps: &mut Steps<L>,
-) -> bool
+fn is_bad<L: Ledger>(queue: &Queue, session: u16, found: &Done1, steps: &mut Steps<L>) -> bool
     ensures { result ≡ is_bad_report queue.now session found.now }
 {
     if found.pos == 0 || found.pos > queue.last() {

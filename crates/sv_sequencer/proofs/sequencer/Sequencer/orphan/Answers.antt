@@ -12,6 +12,6 @@ returns c =
     let h = reverse a.journal.entries in
     let same = ap (orphans_in a.queue) c.deref.ensures.value
     ∙ orphans-are (rules_of a) h a.queue a.sessions.items c.self.invariant.few_sessions refl c.self.invariant.commit c.self.invariant.sound.sent c.self.invariant.fits
-      c.self.invariant.session_rows c.self.invariant.sound.sessions
+    c.self.invariant.session_rows c.self.invariant.sound.sessions
     ∙ ap (λ (v : SequencerView). orphans (history v)) c.self.view_is in
     subst (λ (os : List ℕ). MatchOption c.first_orphan.result (os ≡ []) (λ p. (rest : List ℕ) × (os ≡ p ∷ rest))) same c.first_orphan.ensures

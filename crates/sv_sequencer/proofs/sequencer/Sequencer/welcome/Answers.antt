@@ -68,8 +68,8 @@ invariant_of-self-2 c =
     let said : l ≡ logged.Welcome (commit_of h) (committed_held (rules_of a) h (interest_in q)) =
     ap (λ m. logged.Welcome m head) (c.commit-commit.ensures ∙ c.self-2.invariant.commit)
     ∙ ap (logged.Welcome (commit_of h)) (c.in_ok-head.ensures ∙ ap (held_in v) c.interest_of.ensures
-      ∙ held-is (rules_of a) h v (interest_in c.args.request.now) (committed-is (rules_of a) h (accepted h) (sent_to h) (named_to h) v c.self-2.invariant.commit c.self-2.invariant.fits)
-      ∙ ap (λ p. committed_held (rules_of a) h (interest_in p)) (sym copied)) in
+    ∙ held-is (rules_of a) h v (interest_in c.args.request.now) (committed-is (rules_of a) h (accepted h) (sent_to h) (named_to h) v c.self-2.invariant.commit c.self-2.invariant.fits)
+    ∙ ap (λ p. committed_held (rules_of a) h (interest_in p)) (sym copied)) in
     let reply : l ≡ reply_to (rules_of a) h s q =
     said ∙ moved (λ r h q. logged.Welcome (commit_of h) (committed_held r h (interest_in q)) ≡ reply_to r h s q) (rules_of a) _ a.journal.entries _ q _ same entries copied c.requires.reply in
     let roomy : ends_owed h n + 1 ≤ a.journal.spare =
@@ -99,8 +99,8 @@ returns-clause-ok c =
     let said : l ≡ logged.Welcome (commit_of h) (committed_held (rules_of a) h (interest_in q)) =
     ap (λ m. logged.Welcome m head) (c.commit-commit.ensures ∙ c.self-2.invariant.commit)
     ∙ ap (logged.Welcome (commit_of h)) (c.in_ok-head.ensures ∙ ap (held_in v) c.interest_of.ensures
-      ∙ held-is (rules_of a) h v (interest_in c.args.request.now) (committed-is (rules_of a) h (accepted h) (sent_to h) (named_to h) v c.self-2.invariant.commit c.self-2.invariant.fits)
-      ∙ ap (λ p. committed_held (rules_of a) h (interest_in p)) (sym copied)) in
+    ∙ held-is (rules_of a) h v (interest_in c.args.request.now) (committed-is (rules_of a) h (accepted h) (sent_to h) (named_to h) v c.self-2.invariant.commit c.self-2.invariant.fits)
+    ∙ ap (λ p. committed_held (rules_of a) h (interest_in p)) (sym copied)) in
     let reply : l ≡ reply_to c.args.self.now.rules (history c.args.self.now) s c.args.request.now =
     moved (λ r h p. l ≡ logged.Welcome (commit_of h) (committed_held r h (interest_in p))) c.args.self.now.rules (rules_of a) c.args.self.now.journal.entries a.journal.entries c.args.request.now q
     (sym same) (sym entries) (sym copied) said ∙ c.requires.reply in
