@@ -1,0 +1,145 @@
+-- Abandoned positions by the queue and the rows of sessions, against those of the history.
+use Rattle.std.proofs.Common.{◌≡◌, ℕ, zero, suc, ◌+◌, ◌<◌, ◌≤◌, Bool, true, false, ◌&&◌, ◌||◌, not, cond, nat_eq, nat_lt, ◌⊎◌, inl, inr, List, [], ◌∷◌, ◌++◌, filter, length, get_or, All, Option, is_none, refl, sym, ◌∙◌, ap, subst, arith}
+use Rattle.std.proofs.lemmas.Bool.{cases_Bool, cases_eq, cond_both, and_parts, and_from, and_left, or_cases, or_left, or_right, not_from_false, not-true, both_ways, eq-eqb, eqb-true, ltb-true, lt-ltb}
+use Rattle.std.proofs.lemmas.List.Elements.{filter-append}
+use Rattle.std.proofs.lemmas.List.Folds.{list_all-append}
+use Rattle.std.specs.List.{list_all}
+use Rattle.sv_world.specs.declared.world.World.{World}
+use Rattle.sv_world.specs.Control.{is_in, below}
+use Rattle.sv_world.proofs.Bases.{below-is_in}
+use Rattle.sv_world.proofs.Members.{is_in-append_cases, is_in-append_left, is_in-append_right}
+use Rattle.sv_influence.proofs.Growth.{same_test}
+use Rattle.sv_journal.specs.declared.entry.Entry.{Entry}
+use Rattle.sv_journal.specs.History.{Authored, accepted, result_at, commit_of}
+use Rattle.sv_journal.specs.Sessions.{is_over, positions_in, sent_to, named_to}
+use Rattle.sv_journal.specs.Answer.{Rules, is_abandoned, orphans}
+use Rattle.sv_queue.specs.Queue.{QueueView, last_position, entry_at, sent_positions}
+use Rattle.sv_queue.proofs.Members.{filter-ext}
+use Rattle.sv_sequencer.specs.declared.sessions.SessionRow.{SessionRow}
+use Rattle.sv_sequencer.specs.Fits.{Fits}
+use Rattle.sv_sequencer.specs.Orphans.{is_abandoned_in, is_orphan_in, orphans_in}
+use Rattle.sv_sequencer.specs.Rows.{no_session, IsSessionRow}
+use Rattle.sv_sequencer.proofs.FitRelays.{sent-is}
+
+-- ---- All numbers below another
+
+pub all-below-at : (T : ℕ → Bool) (n s : ℕ) → list_all T (below n) ≡ true → s < n → T s ≡ true
+all-below-at T zero s h low = absurd (omega arith)
+all-below-at T (suc n) s h low =
+    let both = and_parts (list_all T (below n)) (list_all T (n ∷ [])) (sym (list_all-append T (below n) (n ∷ [])) ∙ h) in
+    elim (cases_eq s n) [
+      | inl same ↦ ap T same ∙ (and_parts (T n) true both.1).0
+      | inr ne ↦ all-below-at T n s both.0 (omega arith)
+    ]
+
+pub all-below-from : (T : ℕ → Bool) (n : ℕ) → ((s : ℕ) → s < n → T s ≡ true) → list_all T (below n) ≡ true
+all-below-from T zero h = refl
+all-below-from T (suc n) h = list_all-append T (below n) (n ∷ [])
+    ∙ and_from (list_all T (below n)) (list_all T (n ∷ [])) (all-below-from T n (λ s low. h s (omega arith))) (and_from (T n) true (h n (omega arith)) refl)
+
+-- ---- The first number that passes a test
+
+pub none-below : (T : ℕ → Bool) (n : ℕ) → ((p : ℕ) → p < n → T p ≡ false) → filter T (below n) ≡ []
+none-below T zero h = refl
+none-below T (suc n) h = filter-append T (below n) (n ∷ []) ∙ rw (none-below T n (λ p low. h p (omega arith)), h n (omega arith)) refl
+
+pub first-below : (T : ℕ → Bool) (n p : ℕ) → p < n → T p ≡ true → ((q : ℕ) → q < p → T q ≡ false) → (rest : List ℕ) × (filter T (below n) ≡ p ∷ rest)
+first-below T zero p low here before = absurd (omega arith)
+first-below T (suc n) p low here before = elim (cases_eq p n) [
+  | inl same ↦ ([], filter-append T (below n) (n ∷ []) ∙ rw (none-below T n (λ q l. before q (omega arith)), ap T (sym same) ∙ here) (ap (λ m. m ∷ []) (sym same)))
+  | inr ne ↦ (let found = first-below T n p (omega arith) here before in
+      (found.0 ++ filter T (n ∷ []), filter-append T (below n) (n ∷ []) ∙ ap (λ xs. xs ++ filter T (n ∷ [])) found.1))
+]
+
+-- ---- Abandoned positions
+
+sent-over : (O : ℕ → Bool) (p : ℕ) (g : List Entry) → list_all (λ (e : Entry). not (is_in p (positions_in e.reply)) || O e.session) g ≡ true →
+    (s : ℕ) → is_in p (sent_to g s) ≡ true → O s ≡ true
+sent-over O p [] h s m = cc
+sent-over O p (e ∷ g) h s m =
+    let both = and_parts (not (is_in p (positions_in e.reply)) || O e.session) (list_all (λ (o : Entry). not (is_in p (positions_in o.reply)) || O o.session) g) h in
+    go (nat_eq e.session s) refl both.0 m (sent-over O p g both.1 s)
+  where
+    go : (b : Bool) → nat_eq e.session s ≡ b → (not (is_in p (positions_in e.reply)) || O e.session) ≡ true →
+        is_in p (cond b (sent_to g s ++ positions_in e.reply) (sent_to g s)) ≡ true → (is_in p (sent_to g s) ≡ true → O s ≡ true) → O s ≡ true
+    go false q here k ih = ih k
+    go true q here k ih = elim (is_in-append_cases p (sent_to g s) (positions_in e.reply) k) [
+      | inl old ↦ ih old
+      | inr now ↦ elim (or_cases (not (is_in p (positions_in e.reply))) (O e.session) here) [
+        | inl none ↦ absurd (both_ways (is_in p (positions_in e.reply)) (not-true (is_in p (positions_in e.reply)) none) now)
+        | inr over ↦ ap O (sym (eqb-true e.session s q)) ∙ over
+      ]
+    ]
+
+over-sent : (O : ℕ → Bool) (p : ℕ) (g : List Entry) → ((s : ℕ) → is_in p (sent_to g s) ≡ true → O s ≡ true) →
+    list_all (λ (e : Entry). not (is_in p (positions_in e.reply)) || O e.session) g ≡ true
+over-sent O p [] h = refl
+over-sent O p (e ∷ g) h =
+    and_from (not (is_in p (positions_in e.reply)) || O e.session) (list_all (λ (o : Entry). not (is_in p (positions_in o.reply)) || O o.session) g)
+    (elim (cases_Bool (is_in p (positions_in e.reply))) [
+      | inl now ↦ or_right (not (is_in p (positions_in e.reply))) (O e.session) (h e.session (mine now))
+      | inr none ↦ or_left (not (is_in p (positions_in e.reply))) (O e.session) (not_from_false (is_in p (positions_in e.reply)) none)
+    ])
+    (over-sent O p g (λ s m. h s (older s m)))
+  where
+    mine : is_in p (positions_in e.reply) ≡ true → is_in p (sent_to (e ∷ g) e.session) ≡ true
+    mine now = rw (eq-eqb e.session e.session refl) (is_in-append_right p (sent_to g e.session) (positions_in e.reply) now)
+
+    older : (s : ℕ) → is_in p (sent_to g s) ≡ true → is_in p (sent_to (e ∷ g) s) ≡ true
+    older s m = cond_both (nat_eq e.session s) (sent_to g s ++ positions_in e.reply) (sent_to g s) (λ xs. is_in p xs ≡ true)
+        (λ q. is_in-append_left p (sent_to g s) (positions_in e.reply) m) (λ q. m)
+
+sent-within : (n p : ℕ) (g : List Entry) → All (λ (e : Entry). e.session < n) g → (s : ℕ) → is_in p (sent_to g s) ≡ true → s < n
+sent-within n p [] all s m = cc
+sent-within n p (e ∷ g) all s m = go (nat_eq e.session s) refl m (sent-within n p g (λ i d low. all (suc i) d (omega arith)) s)
+  where
+    go : (b : Bool) → nat_eq e.session s ≡ b → is_in p (cond b (sent_to g s ++ positions_in e.reply) (sent_to g s)) ≡ true →
+        (is_in p (sent_to g s) ≡ true → s < n) → s < n
+    go true q k ih = (let low : e.session < n = all 0 e (omega arith) in let same : e.session ≡ s = eqb-true e.session s q in omega arith)
+    go false q k ih = ih k
+
+pub abandoned-is : (r : Rules) (h : List Entry) (v : QueueView) (rows : List SessionRow) (p : ℕ) → r.sessions ≤ 64 → length rows ≡ r.sessions → v.commit < p →
+    ((t q : ℕ) → is_in q (sent_to h t) ≡ true → q ≤ length (accepted h)) → Fits r.world (accepted h) (result_at h) (sent_to h) (named_to h) v →
+    ((s : ℕ) → s < r.sessions → IsSessionRow h s (get_or rows s no_session)) → All (λ (e : Entry). e.session < r.sessions) h →
+    is_abandoned_in v rows p ≡ is_abandoned h p
+abandoned-is r h v rows p few count low within f are all = same_test (is_abandoned_in v rows p) (is_abandoned h p) there back
+  where
+    T : ℕ → Bool
+    T s = not (is_in p (sent_positions v s)) || (get_or rows s no_session).over
+
+    marked : (s : ℕ) → s < r.sessions → is_in p (sent_positions v s) ≡ is_in p (sent_to h s)
+    marked s l = sent-is r.world (accepted h) (result_at h) (sent_to h) (named_to h) v f within s p (omega arith) low
+
+    there : is_abandoned_in v rows p ≡ true → is_abandoned h p ≡ true
+    there q = over-sent (is_over h) p h (λ s m.
+        let l : s < r.sessions = sent-within r.sessions p h all s m in
+        let at : T s ≡ true = all-below-at T (length rows) s q (omega arith) in
+        elim (or_cases (not (is_in p (sent_positions v s))) (get_or rows s no_session).over at) [
+          | inl none ↦ absurd (both_ways (is_in p (sent_positions v s)) (not-true (is_in p (sent_positions v s)) none) (marked s l ∙ m))
+          | inr over ↦ sym (are s l).over ∙ over
+        ])
+
+    back : is_abandoned h p ≡ true → is_abandoned_in v rows p ≡ true
+    back q = all-below-from T (length rows) (λ s l.
+        let low' : s < r.sessions = omega arith in
+        elim (cases_Bool (is_in p (sent_positions v s))) [
+          | inl m ↦ or_right (not (is_in p (sent_positions v s))) (get_or rows s no_session).over
+              ((are s low').over ∙ sent-over (is_over h) p h q s (sym (marked s low') ∙ m))
+          | inr none ↦ or_left (not (is_in p (sent_positions v s))) (get_or rows s no_session).over (not_from_false (is_in p (sent_positions v s)) none)
+        ])
+
+pub orphans-are : (r : Rules) (h : List Entry) (v : QueueView) (rows : List SessionRow) → r.sessions ≤ 64 → length rows ≡ r.sessions → v.commit ≡ commit_of h →
+    ((t q : ℕ) → is_in q (sent_to h t) ≡ true → q ≤ length (accepted h)) → Fits r.world (accepted h) (result_at h) (sent_to h) (named_to h) v →
+    ((s : ℕ) → s < r.sessions → IsSessionRow h s (get_or rows s no_session)) → All (λ (e : Entry). e.session < r.sessions) h →
+    orphans_in v rows ≡ orphans h
+orphans-are r h v rows few count at within f are all =
+    ap (λ n. filter (is_orphan_in v rows) (below (suc n))) f.last
+    ∙ filter-ext (is_orphan_in v rows) (λ p. nat_lt (commit_of h) p && is_none (result_at h p) && is_abandoned h p) (below (suc (length (accepted h))))
+    (λ p m. (let high : p < suc (length (accepted h)) = below-is_in (suc (length (accepted h))) p m in
+    go p (omega arith) (nat_lt v.commit p) refl ∙ ap (λ c. nat_lt c p && is_none (result_at h p) && is_abandoned h p) at))
+  where
+    go : (p : ℕ) → p ≤ length (accepted h) → (b : Bool) → nat_lt v.commit p ≡ b →
+        (b && is_none (entry_at v p).result && is_abandoned_in v rows p) ≡ (b && is_none (result_at h p) && is_abandoned h p)
+    go p high true q = (let low : v.commit < p = ltb-true v.commit p q in
+        rw ((f.entries p low high).result, abandoned-is r h v rows p few count low within f are all) refl)
+    go p high false q = refl

@@ -1,0 +1,131 @@
+-- The sequencer's fields once results are noted and installed.
+use Rattle.std.proofs.Common.{◌≡◌, ℕ, zero, suc, ◌+◌, ◌-◌, ◌<◌, ◌≤◌, Bool, true, false, ◌&&◌, ◌||◌, not, cond, nat_eq, nat_lt, nat_le, ◌⊎◌, inl, inr, List, [], ◌∷◌, ◌++◌, map, length, get_or, All, Option, ℤ, Some, None, is_some, slice_get, refl, sym, ◌∙◌, ap, subst, arith}
+use Rattle.std.proofs.lemmas.Bool.{both_ways, cases_Bool, cases_lt, eqb-true, ne_eqb, or_parts, ltb-false, ltb-true, or_left}
+use Rattle.std.specs.List.{list_any}
+use Rattle.sv_world.specs.Control.{is_in}
+use Rattle.sv_wire.specs.declared.message.Done1.{Done1}
+use Rattle.sv_wire.specs.declared.message.Request.{Request}
+use Rattle.sv_wire.specs.declared.message.Request.TheVariants as requests
+use Rattle.sv_journal.specs.declared.entry.Entry.{Entry}
+use Rattle.sv_journal.specs.declared.entry.Logged.{Logged}
+use Rattle.sv_journal.specs.declared.entry.Logged.TheVariants as logged
+use Rattle.sv_journal.specs.History.{either, is_relay, reported, reports, outcomes_of, accepted, result_at, run_length, commit_of}
+use Rattle.sv_journal.specs.Sessions.{is_end, positions_in, named_in, sent_to, named_to}
+use Rattle.sv_journal.specs.Answer.{Rules, reply_to, is_bad_result, is_bad_done, commit_with}
+use Rattle.sv_queue.specs.Queue.{QueueView, last_position, installed}
+use Rattle.sv_sequencer.specs.declared.clients.Clients.{Clients}
+use Rattle.sv_sequencer.specs.declared.sessions.SessionRow.{SessionRow}
+use Rattle.sv_sequencer.specs.Agreement.{IsSound, Agrees}
+use Rattle.sv_sequencer.specs.Fits.{Fits}
+use Rattle.sv_sequencer.specs.Relays.{with_reports}
+use Rattle.sv_sequencer.specs.Step.{entry_of}
+use Rattle.sv_sequencer.proofs.AgreeSteps.{sent-quiet, named-quiet, life-quiet, AreAfter, rows-next}
+use Rattle.sv_sequencer.proofs.FitInstalls.{view_by, fits-installed, installed-commit}
+use Rattle.sv_sequencer.proofs.FitMarks.{fits-same}
+use Rattle.sv_sequencer.proofs.FitReports.{fits-reports, commit-reports}
+use Rattle.sv_sequencer.proofs.HistorySteps.{accepted-quiet, outcomes-quiet, run_length-is, run_length-most, run_length-passes}
+use Rattle.sv_sequencer.proofs.SoundSteps.{all_left-falls, owed-same, IsSoundStep, sound-next}
+
+-- Of results at positions up to a number, none is for a later one.
+pub reported-none : (ds : List Done1) (m p : ℕ) → All (λ (d : Done1). d.pos ≤ m) ds → m < p → reported p ds ≡ None
+reported-none [] m p low high = refl
+reported-none (d ∷ ds) m p low high =
+    rw (ne_eqb d.pos p (λ q. (let l : d.pos ≤ m = low 0 d (omega arith) in omega arith))) (reported-none ds m p (λ i o l. low (suc i) o (omega arith)) high)
+
+-- All up to the commit have results.
+pub commit-done : (h : List Entry) (p : ℕ) → 0 < p → p ≤ commit_of h → is_some (result_at h p) ≡ true
+commit-done h p low high = run_length-passes (λ q. is_some (result_at h q)) (length (accepted h)) p low high
+
+-- The queue once results were kept and installed, and its commit, against a history in which they are noted.
+pub noted : (r : Rules) (h : List Entry) (v : QueueView) (e : Entry) (c : ℕ) (ds : List Done1) → e.reply ≡ logged.Noted c → e.request ≡ requests.Done ds →
+    All (λ (d : Done1). d.pos ≤ last_position v) ds → v.commit ≡ commit_of h → IsSound r h →
+    Fits r.world (accepted h) (result_at h) (sent_to h) (named_to h) v →
+    Fits r.world (accepted (e ∷ h)) (result_at (e ∷ h)) (sent_to (e ∷ h)) (named_to (e ∷ h)) (installed (with_reports v ds))
+    × (((installed (with_reports v ds)).commit ≡ commit_of (e ∷ h)) × (commit_of h ≤ commit_of (e ∷ h)))
+noted r h v e c ds is asks low at sound f = (fitted, (commit, rises))
+  where
+    R : ℕ → Option (List (List ℤ))
+    R p = either (result_at h p) (reported p ds)
+
+    w : QueueView
+    w = with_reports v ds
+
+    same : accepted (e ∷ h) ≡ accepted h
+    same = accepted-quiet e h (ap is_relay is)
+
+    results : (p : ℕ) → R p ≡ result_at (e ∷ h) p
+    results p = sym (rw (is, asks) refl)
+
+    kept : Fits r.world (accepted h) R (sent_to h) (named_to h) w
+    kept = fits-reports r.world (accepted h) (result_at h) (sent_to h) (named_to h) v ds (λ p some most. commit-done h p some (omega (arith, most, at))) low f
+
+    early : (t x q : ℕ) → is_in q (named_to h t x) ≡ true → q ≤ w.commit
+    early t x q m = omega (arith, sound.named t x q m, at, commit-reports v ds)
+
+    done : (p : ℕ) → 0 < p → p ≤ w.commit → is_some (R p) ≡ true
+    done p some most = go (result_at h p) (commit-done h p some (omega (arith, most, at, commit-reports v ds)))
+      where
+        go : (o : Option (List (List ℤ))) → is_some o ≡ true → is_some (either o (reported p ds)) ≡ true
+        go (Some x) q = refl
+        go None q = cc
+
+    fitted : Fits r.world (accepted (e ∷ h)) (result_at (e ∷ h)) (sent_to (e ∷ h)) (named_to (e ∷ h)) (installed w)
+    fitted = subst (λ A. Fits r.world A (result_at (e ∷ h)) (sent_to (e ∷ h)) (named_to (e ∷ h)) (installed w)) (sym same)
+        (fits-same r.world (accepted h) R (result_at (e ∷ h)) (sent_to h) (sent_to (e ∷ h)) (named_to h) (named_to (e ∷ h)) (installed w)
+        (λ p some. results p) (λ t. sent-quiet e h t (ap positions_in is)) (λ t x. named-quiet e h t x (ap (λ l. named_in l x) is))
+        (fits-installed r.world (accepted h) R (sent_to h) (named_to h) w.shape w.commit w.committed w.entries w.given early kept))
+
+    facts : (w.commit ≤ (installed w).commit) × (((installed w).commit ≤ length (accepted h)) × (((p : ℕ) → 0 < p → p ≤ (installed w).commit → is_some (R p) ≡ true)
+        × ((installed w).commit < length (accepted h) → is_some (R (suc (installed w).commit)) ≡ false)))
+    facts = installed-commit r.world (accepted h) R (sent_to h) (named_to h) w.shape w.commit w.committed w.entries w.given done kept
+
+    run_same : (f g : ℕ → Bool) (n : ℕ) → ((p : ℕ) → f p ≡ g p) → run_length f n ≡ run_length g n
+    run_same f g zero q = refl
+    run_same f g (suc n) q = rw (run_same f g n q, q (suc n)) refl
+
+    commit : (installed w).commit ≡ commit_of (e ∷ h)
+    commit = sym (ap (run_length (λ p. is_some (result_at (e ∷ h) p))) (ap length same)
+        ∙ run_same (λ p. is_some (result_at (e ∷ h) p)) (λ p. is_some (R p)) (length (accepted h)) (λ p. ap is_some (sym (results p)))
+        ∙ run_length-is (λ p. is_some (R p)) (length (accepted h)) (installed w).commit facts.1.0 facts.1.1.0 facts.1.1.1)
+
+    rises : commit_of h ≤ commit_of (e ∷ h)
+    rises = omega (arith, facts.0, commit, at, commit-reports v ds)
+
+-- Results are noted.
+pub agree-noted : (r : Rules) (h : List Entry) (v : QueueView) (old next : List SessionRow) (clients : Clients) (owed spare room : ℕ) (s : ℕ) (request : Request)
+    (c : ℕ) (ds : List Done1) → c ≡ (installed (with_reports v ds)).commit → request ≡ requests.Done ds → All (λ (d : Done1). d.pos ≤ last_position v) ds →
+    Agrees r h v old clients owed spare → length old ≡ r.sessions → s < r.sessions →
+    logged.Noted c ≡ reply_to r h s request → AreAfter (entry_of s request (logged.Noted c)) old next → owed ≤ room →
+    Agrees r (entry_of s request (logged.Noted c) ∷ h) (installed (with_reports v ds)) next clients owed room
+agree-noted r h v old next clients owed spare room s request c ds at asks within a count low reply rows' fits = record {
+  sound = sound-next r h e 0 (record {
+    session = low;
+    reply = reply;
+    grows = omega (arith, ap length same);
+    accepts = omega (arith, ap length same);
+    settles = λ j. omega (arith, ap length (outcomes-quiet e h j refl));
+    takes = omega (arith, all_left-falls e h r.sessions);
+    commit = all.1.1;
+    reported = λ q p high. ap (reports p) asks ∙ reported-none ds (last_position v) p within (omega (arith, high, a.fits.last));
+    sent = λ p m. absurd (both_ways false refl m);
+    named = λ x q m. absurd (both_ways false refl m);
+    outcomes = λ j n p q. omega (arith, a.sound.outcomes j n p (ap (λ os. slice_get os n) (sym (outcomes-quiet e h j refl)) ∙ q), ap length same);
+  }) a.sound;
+  few_sessions = a.few_sessions;
+  fits = all.0;
+  commit = all.1.0;
+  session_rows = rows-next r e h old next count rows' a.session_rows;
+  client_rows = λ j. record { life = (a.client_rows j).life ∙ sym (life-quiet e h j refl); outcomes = (a.client_rows j).outcomes ∙ sym (outcomes-quiet e h j refl) };
+  ends = a.ends ∙ sym (owed-same e h r.sessions (ap is_end asks));
+  room = fits;
+}
+  where
+    e : Entry
+    e = entry_of s request (logged.Noted c)
+
+    same : accepted (e ∷ h) ≡ accepted h
+    same = accepted-quiet e h refl
+
+    all : Fits r.world (accepted (e ∷ h)) (result_at (e ∷ h)) (sent_to (e ∷ h)) (named_to (e ∷ h)) (installed (with_reports v ds))
+        × (((installed (with_reports v ds)).commit ≡ commit_of (e ∷ h)) × (commit_of h ≤ commit_of (e ∷ h)))
+    all = noted r h v e c ds refl asks within a.commit a.sound a.fits

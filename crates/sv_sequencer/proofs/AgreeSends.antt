@@ -1,0 +1,225 @@
+-- The sequencer's fields once positions are sent to a session, and once one begins.
+use Rattle.std.proofs.Common.{◌≡◌, ℕ, zero, suc, ◌+◌, ◌-◌, ◌<◌, ◌≤◌, Bool, true, false, ◌&&◌, ◌||◌, not, cond, nat_eq, max, ◌⊎◌, inl, inr, List, [], ◌∷◌, ◌++◌, map, length, get_or, All, Option, ℤ, Some, None, is_some, slice_get, refl, sym, ◌∙◌, ap, subst, arith, append-nil, length-append}
+use Rattle.std.proofs.lemmas.Bool.{both_ways, cond_both, cond-false, eqb-true, and_right}
+use Rattle.sv_world.specs.Control.{is_in}
+use Rattle.sv_world.proofs.Members.{is_in-one}
+use Rattle.sv_influence.proofs.Places.{members-all}
+use Rattle.sv_wire.specs.declared.message.Held.{Held}
+use Rattle.sv_wire.specs.declared.message.Request.{Request}
+use Rattle.sv_journal.specs.declared.entry.Entry.{Entry}
+use Rattle.sv_journal.specs.declared.entry.Logged.{Logged}
+use Rattle.sv_journal.specs.declared.entry.Logged.TheVariants as logged
+use Rattle.sv_journal.specs.History.{Outcome, Accepted, is_client, is_noted, joining, outcomes_of, accepted, result_at, run_length, commit_of}
+use Rattle.sv_journal.specs.Sessions.{is_end, life_in, life_of, names, named_in, sent_to, named_to}
+use Rattle.sv_journal.specs.Answer.{Rules, reply_to}
+use Rattle.sv_queue.specs.Queue.{QueueView, IsUncommitted, last_position, with_action, with_given}
+use Rattle.sv_sequencer.specs.declared.clients.ClientRow.{ClientRow}
+use Rattle.sv_sequencer.specs.declared.clients.Clients.{Clients}
+use Rattle.sv_sequencer.specs.declared.clients.Outcome.TheVariants as rows
+use Rattle.sv_sequencer.specs.declared.sessions.SessionRow.{SessionRow}
+use Rattle.sv_sequencer.specs.Agreement.{IsClientRow, IsSound, Agrees, all_left, ends_owed}
+use Rattle.sv_sequencer.specs.Clients.{client_row, outcome_value}
+use Rattle.sv_sequencer.specs.Decisions.{IsOld, IsNext, IsJoin, action_in}
+use Rattle.sv_sequencer.specs.Fits.{Fits}
+use Rattle.sv_sequencer.specs.Relays.{marked_all, given_all}
+use Rattle.sv_sequencer.specs.Step.{entry_of}
+use Rattle.sv_sequencer.proofs.AgreeNext.{settled_row, client-next, settles-next, placed-next}
+use Rattle.sv_sequencer.proofs.AgreeSteps.{sent-quiet, named-quiet, commit-same, life-quiet, AreAfter, rows-next}
+use Rattle.sv_sequencer.proofs.FitMarks.{sent_also, named_also, fits-same, fits-marked, fits-given, commit-marked}
+use Rattle.sv_sequencer.proofs.FitPush.{fits-pushed}
+use Rattle.sv_sequencer.proofs.HistorySteps.{accepted-quiet, accepted-old, accepted-next, authored_by, outcomes-quiet, outcomes-old, result-quiet}
+use Rattle.sv_sequencer.proofs.SoundSteps.{all_left-falls, all_left-takes, owed-same, IsSoundStep, sound-next}
+
+pub commit-given : (v : QueueView) (head : List Held) (s : ℕ) → (given_all v head s).commit ≡ v.commit
+commit-given v [] s = refl
+commit-given v (x ∷ xs) s = commit-given (with_given v x.object.0 s) xs s
+
+-- The commits that a reply's head names.
+head-at : (head : List Held) (c x q : ℕ) → is_in q (cond (names head x) (c ∷ []) []) ≡ true → q ≡ c
+head-at head c x q = cond_both (names head x) (c ∷ []) [] (λ xs. is_in q xs ≡ true → q ≡ c) (λ t m. is_in-one q c m) (λ t m. cc)
+
+-- The queue after a relay, against a history with its entry.
+fits-relay : (r : Rules) (h : List Entry) (e : Entry) (v : QueueView) (s seq : ℕ) (head : List Held) (ps : List ℕ) → e.session ≡ s → e.reply ≡ logged.Relay seq v.commit head ps →
+    All (IsUncommitted v) ps → Fits r.world (accepted (e ∷ h)) (result_at h) (sent_to h) (named_to h) v →
+    Fits r.world (accepted (e ∷ h)) (result_at (e ∷ h)) (sent_to (e ∷ h)) (named_to (e ∷ h)) (given_all (marked_all v ps s) head s)
+fits-relay r h e v s seq head ps at is low f =
+    fits-same r.world (accepted (e ∷ h)) (result_at h) (result_at (e ∷ h)) (sent_also s ps (sent_to h)) (sent_to (e ∷ h))
+    (named_also s head (marked_all v ps s).commit (named_to h)) (named_to (e ∷ h)) (given_all (marked_all v ps s) head s)
+    (λ p some. sym (result-quiet e h p (ap is_noted is)))
+    (λ t. rw (at, is) refl)
+    (λ t x. ap (λ c. cond (nat_eq s t) (named_to h t x ++ cond (names head x) (c ∷ []) []) (named_to h t x)) (commit-marked v ps s) ∙ rw (at, is) refl)
+    (fits-given r.world (accepted (e ∷ h)) (result_at h) (sent_also s ps (sent_to h)) (named_to h) (marked_all v ps s) head s
+    (fits-marked r.world (accepted (e ∷ h)) (result_at h) (sent_to h) (named_to h) v ps s low f))
+
+-- A position that is there is sent, on a Poll or a repeated Submit.
+pub agree-relay : (r : Rules) (h : List Entry) (v : QueueView) (old next : List SessionRow) (clients : Clients) (owed spare room : ℕ) (s : ℕ) (request : Request)
+    (seq c : ℕ) (head : List Held) (ps : List ℕ) → c ≡ v.commit →
+    Agrees r h v old clients owed spare → length old ≡ r.sessions → s < r.sessions → IsOld h s request → is_end request ≡ false →
+    logged.Relay seq c head ps ≡ reply_to r h s request → AreAfter (entry_of s request (logged.Relay seq c head ps)) old next →
+    All (IsUncommitted v) ps → owed ≤ room →
+    Agrees r (entry_of s request (logged.Relay seq c head ps) ∷ h) (given_all (marked_all v ps s) head s) next clients owed room
+agree-relay r h v old next clients owed spare room s request seq c head ps at a count low is more reply rows' within fits = record {
+  sound = sound-next r h e 0 (record {
+    session = low;
+    reply = reply;
+    grows = omega (arith, ap length same);
+    accepts = omega (arith, ap length same);
+    settles = λ k. omega (arith, ap length (outcomes-old e h k is));
+    takes = omega (arith, all_left-falls e h r.sessions);
+    commit = omega (arith, commit);
+    reported = λ q. absurd (both_ways false refl q);
+    sent = λ p m. omega (arith, (members-all (IsUncommitted v) ps within p m).1, a.fits.last, ap length same);
+    named = λ x q m. omega (arith, head-at head c x q m, at, a.commit, commit);
+    outcomes = λ k n p q. omega (arith, a.sound.outcomes k n p (ap (λ os. slice_get os n) (sym (outcomes-old e h k is)) ∙ q), ap length same);
+  }) a.sound;
+  few_sessions = a.few_sessions;
+  fits = fits-relay r h e v s seq head ps refl (ap (λ n. logged.Relay seq n head ps) at) within
+      (subst (λ A. Fits r.world A (result_at h) (sent_to h) (named_to h) v) (sym same) a.fits);
+  commit = commit-given (marked_all v ps s) head s ∙ commit-marked v ps s ∙ a.commit ∙ sym commit;
+  session_rows = rows-next r e h old next count rows' a.session_rows;
+  client_rows = λ k. record { life = (a.client_rows k).life ∙ sym (life-quiet e h k refl); outcomes = (a.client_rows k).outcomes ∙ sym (outcomes-old e h k is) };
+  ends = a.ends ∙ sym (owed-same e h r.sessions more);
+  room = fits;
+}
+  where
+    e : Entry
+    e = entry_of s request (logged.Relay seq c head ps)
+
+    same : accepted (e ∷ h) ≡ accepted h
+    same = accepted-old e h is
+
+    commit : commit_of (e ∷ h) ≡ commit_of h
+    commit = commit-same e h same (λ p. result-quiet e h p refl)
+
+-- A new action is accepted as the last one, and sent.
+pub agree-accept : (r : Rules) (h : List Entry) (v : QueueView) (old next : List SessionRow) (clients after : Clients) (owed spare room : ℕ) (s : ℕ) (request : Request)
+    (k seq c m : ℕ) (head : List Held) (ps : List ℕ) → c ≡ v.commit → m ≡ suc (last_position v) →
+    Agrees r h v old clients owed spare → length old ≡ r.sessions → s < r.sessions → IsNext h s request k seq → is_end request ≡ false →
+    logged.Relay seq c head ps ≡ reply_to r h s request → AreAfter (entry_of s request (logged.Relay seq c head ps)) old next →
+    ((j : ℕ) → client_row after j ≡ settled_row (client_row clients) k (rows.Accepted m) j) →
+    All (IsUncommitted (with_action v (record { 0 = k }) seq (action_in request))) ps → owed ≤ room →
+    Agrees r (entry_of s request (logged.Relay seq c head ps) ∷ h) (given_all (marked_all (with_action v (record { 0 = k }) seq (action_in request)) ps s) head s) next after owed room
+agree-accept r h v old next clients after owed spare room s request k seq c m head ps at last a count low is more reply rows' clients' within fits = record {
+  sound = sound-next r h e 1 (record {
+    session = low;
+    reply = reply;
+    grows = omega (arith, longer);
+    accepts = omega (arith, longer);
+    settles = λ j. settles-next h e k seq j (Accepted (suc (length (accepted h)))) is refl;
+    takes = omega (arith, all_left-takes e h r.sessions low more is.early);
+    commit = omega (arith, commit);
+    reported = λ q. absurd (both_ways false refl q);
+    sent = λ p q. omega (arith, (members-all (IsUncommitted w) ps within p q).1, fitted.last);
+    named = λ x q t. omega (arith, head-at head c x q t, at, a.commit, commit);
+    outcomes = placed-next h e k seq (Accepted (suc (length (accepted h)))) (length (accepted (e ∷ h))) is refl
+        (λ p q. (let same : suc (length (accepted h)) ≡ p = cc in omega (arith, longer)))
+        (λ j n p g. omega (arith, a.sound.outcomes j n p g, longer));
+  }) a.sound;
+  few_sessions = a.few_sessions;
+  fits = fits-relay r h e w s seq head ps refl (ap (λ n. logged.Relay seq n head ps) at) within fitted;
+  commit = commit-given (marked_all w ps s) head s ∙ commit-marked w ps s ∙ a.commit ∙ sym commit;
+  session_rows = rows-next r e h old next count rows' a.session_rows;
+  client_rows = λ j. subst (IsClientRow (e ∷ h) j) (sym (clients' j))
+      (client-next h e k seq (rows.Accepted m) (client_row clients) is (ap (λ n. Accepted n ∷ []) (let p : suc (length (accepted h)) ≡ m = omega (arith, last, a.fits.last) in p)) refl a.client_rows j);
+  ends = a.ends ∙ sym (owed-same e h r.sessions more);
+  room = fits;
+}
+  where
+    e : Entry
+    e = entry_of s request (logged.Relay seq c head ps)
+
+    w : QueueView
+    w = with_action v (record { 0 = k }) seq (action_in request)
+
+    same : accepted (e ∷ h) ≡ accepted h ++ authored_by k seq request ∷ []
+    same = accepted-next e h k seq refl is
+
+    longer : length (accepted (e ∷ h)) ≡ length (accepted h) + 1
+    longer = ap length same ∙ length-append (accepted h) (authored_by k seq request ∷ [])
+
+    fitted : Fits r.world (accepted (e ∷ h)) (result_at h) (sent_to h) (named_to h) w
+    fitted = subst (λ A. Fits r.world A (result_at h) (sent_to h) (named_to h) w) (sym same)
+        (fits-pushed r.world (accepted h) (result_at h) (sent_to h) (named_to h) v (record { 0 = k }) seq (action_in request)
+        (a.sound.results (suc (length (accepted h))) (omega arith)) a.sound.sent a.fits)
+
+    results : (p : ℕ) → result_at (e ∷ h) p ≡ result_at h p
+    results p = result-quiet e h p refl
+
+    run_same : (f g : ℕ → Bool) (n : ℕ) → ((p : ℕ) → f p ≡ g p) → run_length f n ≡ run_length g n
+    run_same f g zero q = refl
+    run_same f g (suc n) q = rw (run_same f g n q, q (suc n)) refl
+
+    commit : commit_of (e ∷ h) ≡ commit_of h
+    commit =
+        ap (run_length (λ p. is_some (result_at (e ∷ h) p))) (let n : length (accepted (e ∷ h)) ≡ suc (length (accepted h)) = omega (arith, longer) in n)
+        ∙ run_same (λ p. is_some (result_at (e ∷ h) p)) (λ p. is_some (result_at h p)) (suc (length (accepted h))) (λ p. ap is_some (results p))
+        ∙ cond-false (nat_eq (run_length (λ p. is_some (result_at h p)) (length (accepted h))) (length (accepted h)) && is_some (result_at h (suc (length (accepted h)))))
+        (suc (length (accepted h))) (run_length (λ p. is_some (result_at h p)) (length (accepted h)))
+        (and_right (nat_eq (run_length (λ p. is_some (result_at h p)) (length (accepted h))) (length (accepted h))) (is_some (result_at h (suc (length (accepted h)))))
+        (ap is_some (a.sound.results (suc (length (accepted h))) (omega arith))))
+
+-- The row of a client that joins.
+abbrev pub joined_row : (ℕ → ClientRow) → ℕ → ℕ → ℕ → ClientRow
+joined_row rows k life j = cond (nat_eq k j) (record (rows k) { life = life }) (rows j)
+
+-- A session begins.
+pub agree-welcome : (r : Rules) (h : List Entry) (v : QueueView) (old next : List SessionRow) (clients after : Clients) (owed spare room : ℕ) (s : ℕ) (request : Request)
+    (k life c : ℕ) (head : List Held) → c ≡ v.commit →
+    Agrees r h v old clients owed spare → length old ≡ r.sessions → s < r.sessions → IsJoin r h request k life → is_end request ≡ false →
+    logged.Welcome c head ≡ reply_to r h s request → AreAfter (entry_of s request (logged.Welcome c head)) old next →
+    ((j : ℕ) → client_row after j ≡ joined_row (client_row clients) k life j) → owed ≤ room →
+    Agrees r (entry_of s request (logged.Welcome c head) ∷ h) (given_all v head s) next after owed room
+agree-welcome r h v old next clients after owed spare room s request k life c head at a count low is more reply rows' clients' fits = record {
+  sound = sound-next r h e 0 (record {
+    session = low;
+    reply = reply;
+    grows = omega (arith, ap length same);
+    accepts = omega (arith, ap length same);
+    settles = λ j. omega (arith, ap length (outcomes-quiet e h j refl));
+    takes = omega (arith, all_left-falls e h r.sessions);
+    commit = omega (arith, commit);
+    reported = λ q. absurd (both_ways false refl q);
+    sent = λ p m. absurd (both_ways false refl m);
+    named = λ x q m. omega (arith, head-at head c x q m, at, a.commit, commit);
+    outcomes = λ j n p q. omega (arith, a.sound.outcomes j n p (ap (λ os. slice_get os n) (sym (outcomes-quiet e h j refl)) ∙ q), ap length same);
+  }) a.sound;
+  few_sessions = a.few_sessions;
+  fits = subst (λ A. Fits r.world A (result_at (e ∷ h)) (sent_to (e ∷ h)) (named_to (e ∷ h)) (given_all v head s)) (sym same)
+      (fits-same r.world (accepted h) (result_at h) (result_at (e ∷ h)) (sent_to h) (sent_to (e ∷ h)) (named_also s head v.commit (named_to h)) (named_to (e ∷ h)) (given_all v head s)
+      (λ p some. sym (result-quiet e h p refl)) (λ t. sent-quiet e h t refl)
+      (λ t x. ap (λ n. cond (nat_eq s t) (named_to h t x ++ cond (names head x) (n ∷ []) []) (named_to h t x)) (sym at))
+      (fits-given r.world (accepted h) (result_at h) (sent_to h) (named_to h) v head s a.fits));
+  commit = commit-given v head s ∙ a.commit ∙ sym commit;
+  session_rows = rows-next r e h old next count rows' a.session_rows;
+  client_rows = λ j. subst (IsClientRow (e ∷ h) j) (sym (clients' j)) (joined j);
+  ends = a.ends ∙ sym (owed-same e h r.sessions more);
+  room = fits;
+}
+  where
+    e : Entry
+    e = entry_of s request (logged.Welcome c head)
+
+    same : accepted (e ∷ h) ≡ accepted h
+    same = accepted-quiet e h refl
+
+    commit : commit_of (e ∷ h) ≡ commit_of h
+    commit = commit-same e h same (λ p. result-quiet e h p refl)
+
+    max-above : (m n : ℕ) → n < m → max m n ≡ m
+    max-above m n l = omega arith
+
+    joined : (j : ℕ) → IsClientRow (e ∷ h) j (joined_row (client_row clients) k life j)
+    joined j = record {
+      life = go (nat_eq k j) refl
+          ∙ ap (λ b. cond b (max (life_in request) (life_of h j)) (life_of h j)) (sym (ap (λ o. is_client o j) is.client));
+      outcomes = outs (nat_eq k j) refl ∙ sym (outcomes-quiet e h j refl);
+    }
+      where
+        go : (b : Bool) → nat_eq k j ≡ b → (cond b (record (client_row clients k) { life = life }) (client_row clients j)).life ≡ cond b (max (life_in request) (life_of h j)) (life_of h j)
+        go true q = (let above : life_of h j < life_in request = subst (λ i. life_of h i < life_in request) (eqb-true k j q) (omega (arith, is.above, is.number)) in
+            sym is.number ∙ sym (max-above (life_in request) (life_of h j) above))
+        go false q = (a.client_rows j).life
+
+        outs : (b : Bool) → nat_eq k j ≡ b → map outcome_value (cond b (record (client_row clients k) { life = life }) (client_row clients j)).outcomes ≡ outcomes_of h j
+        outs true q = (a.client_rows k).outcomes ∙ ap (outcomes_of h) (eqb-true k j q)
+        outs false q = (a.client_rows j).outcomes

@@ -1,0 +1,54 @@
+-- The sequencer's fields as it is opened.
+use Rattle.std.proofs.Common.{◌≡◌, ℕ, zero, suc, ◌+◌, ◌-◌, ◌*◌, ◌<◌, ◌≤◌, Bool, true, false, List, [], length, get_or, replicate, Option, refl, sym, ◌∙◌, ap, subst, arith}
+use Rattle.std.proofs.lemmas.Bool.{both_ways}
+use Rattle.std.proofs.lemmas.List.{get_or-replicate}
+use Rattle.sv_world.specs.declared.world.World.{World}
+use Rattle.sv_queue.specs.Queue.{opening_queue}
+use Rattle.sv_journal.specs.Answer.{Rules}
+use Rattle.sv_sequencer.specs.declared.clients.Clients.{Clients}
+use Rattle.sv_sequencer.specs.declared.sessions.SessionRow.{SessionRow}
+use Rattle.sv_sequencer.specs.Agreement.{Agrees, IsClientRow, all_left, ends_owed}
+use Rattle.sv_sequencer.specs.Clients.{client_row, no_client}
+use Rattle.sv_sequencer.specs.Rows.{no_session, IsSessionRow}
+
+all_left-opening : (n : ℕ) → all_left [] n ≡ 1024 * n
+all_left-opening zero = refl
+all_left-opening (suc n) = omega (arith, all_left-opening n)
+
+ends_owed-opening : (n : ℕ) → ends_owed [] n ≡ n
+ends_owed-opening zero = refl
+ends_owed-opening (suc n) = omega (arith, ends_owed-opening n)
+
+no_session-is : (s : ℕ) → IsSessionRow [] s no_session
+no_session-is s = record { client = refl; over = refl; left = refl; ended = refl }
+
+no_client-is : (k : ℕ) → IsClientRow [] k no_client
+no_client-is k = record { life = refl; outcomes = refl }
+
+pub agree-opening : (r : Rules) (rows : List SessionRow) (clients : Clients) (owed spare : ℕ) → r.sessions ≤ 64 → rows ≡ replicate r.sessions no_session →
+    ((k : ℕ) → client_row clients k ≡ no_client) → owed ≡ r.sessions → owed ≤ spare → Agrees r [] (opening_queue r.world) rows clients owed spare
+agree-opening r rows clients owed spare few are none owes room = record {
+  sound = record {
+    legal = tt;
+    results = λ p high. refl;
+    sent = λ s p m. absurd (both_ways false refl m);
+    named = λ s x q m. absurd (both_ways false refl m);
+    sessions = λ i d low. absurd (omega arith);
+    outcomes = λ k n p q. cc;
+    few = omega (arith, all_left-opening r.sessions);
+    few_outcomes = λ k. omega (arith, all_left-opening r.sessions);
+  };
+  few_sessions = few;
+  fits = record {
+    shape = refl;
+    last = refl;
+    committed = refl;
+    entries = λ p low high. absurd (omega arith);
+    given = λ x s low small. refl;
+  };
+  commit = refl;
+  session_rows = λ s low. subst (IsSessionRow [] s) (sym (ap (λ xs. get_or xs s no_session) are ∙ get_or-replicate r.sessions s no_session no_session low)) (no_session-is s);
+  client_rows = λ k. subst (IsClientRow [] k) (sym (none k)) (no_client-is k);
+  ends = owes ∙ sym (ends_owed-opening r.sessions);
+  room = room;
+}

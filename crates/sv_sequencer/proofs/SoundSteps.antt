@@ -1,0 +1,138 @@
+-- What a legal journal keeps, entry by entry.
+use Rattle.std.proofs.Common.{◌≡◌, ℕ, zero, suc, ◌+◌, ◌-◌, ◌*◌, ◌<◌, ◌≤◌, Bool, true, false, ◌&&◌, ◌||◌, not, cond, nat_eq, ◌⊎◌, inl, inr, List, [], ◌∷◌, ◌++◌, length, All, Option, Some, None, slice_get, refl, sym, ◌∙◌, ap, subst, arith}
+use Rattle.std.proofs.lemmas.Bool.{cases_eq, cases_Bool, eq-eqb, eqb-true, ne_eqb, cond_both, or_right}
+use Rattle.sv_world.specs.Control.{is_in}
+use Rattle.sv_world.proofs.Members.{is_in-append_cases}
+use Rattle.sv_journal.specs.declared.entry.Entry.{Entry}
+use Rattle.sv_journal.specs.History.{Accepted, is_noted, reports, either, outcomes_of, accepted, result_at, commit_of}
+use Rattle.sv_journal.specs.Sessions.{is_end, asked_in, positions_in, named_in, sent_to, named_to}
+use Rattle.sv_journal.specs.Answer.{Rules, reply_to, most_requests}
+use Rattle.sv_sequencer.specs.declared.sessions.SessionRow.{SessionRow}
+use Rattle.sv_sequencer.specs.Agreement.{IsSound, all_left, ends_owed}
+use Rattle.sv_sequencer.specs.Rows.{is_ended, requests_left, session_after, IsSessionRow}
+use Rattle.sv_sequencer.proofs.FitMarks.{or_false}
+use Rattle.sv_sequencer.proofs.HistorySteps.{either-nothing}
+
+-- ---- Rows
+
+left-next : (b : Bool) (asked left : ℕ) → left ≡ 1024 - asked → cond b (left - 1) left ≡ 1024 - cond b (suc asked) asked
+left-next true asked left h = omega arith
+left-next false asked left h = h
+
+pub row-next : (e : Entry) (h : List Entry) (s : ℕ) (r : SessionRow) → IsSessionRow h s r → IsSessionRow (e ∷ h) s (session_after e s r)
+row-next e h s r is = record {
+  client = rw is.client refl;
+  over = rw (is.over, is.client) refl;
+  left = left-next (nat_eq e.session s && not (is_end e.request)) (asked_in h s) r.left is.left;
+  ended = rw is.ended refl;
+}
+
+-- ---- Requests left, and Ends to come
+
+left-falls : (e : Entry) (h : List Entry) (s : ℕ) → requests_left (e ∷ h) s ≤ requests_left h s
+left-falls e h s = cond_both (nat_eq e.session s && not (is_end e.request)) (suc (asked_in h s)) (asked_in h s) (λ n. 1024 - n ≤ 1024 - asked_in h s)
+    (λ q. omega arith) (λ q. omega arith)
+
+pub all_left-falls : (e : Entry) (h : List Entry) (n : ℕ) → all_left (e ∷ h) n ≤ all_left h n
+all_left-falls e h zero = omega arith
+all_left-falls e h (suc n) = omega (arith, all_left-falls e h n, left-falls e h n)
+
+pub all_left-takes : (e : Entry) (h : List Entry) (n : ℕ) → e.session < n → is_end e.request ≡ false → asked_in h e.session < most_requests →
+    suc (all_left (e ∷ h) n) ≤ all_left h n
+all_left-takes e h zero low more early = absurd (omega arith)
+all_left-takes e h (suc n) low more early = elim (cases_eq e.session n) [
+  | inl same ↦ (let falls = all_left-falls e h n in
+      let here : requests_left (e ∷ h) n ≡ 1024 - suc (asked_in h n) =
+      ap (λ b. 1024 - cond (b && not (is_end e.request)) (suc (asked_in h n)) (asked_in h n)) (eq-eqb e.session n same)
+      ∙ ap (λ b. 1024 - cond (not b) (suc (asked_in h n)) (asked_in h n)) more in
+      let few : asked_in h n < 1024 = subst (λ m. asked_in h m < 1024) same early in
+      omega arith)
+  | inr ne ↦ (let takes = all_left-takes e h n (omega arith) more early in let falls = left-falls e h n in omega arith)
+]
+
+ended-same : (e : Entry) (h : List Entry) (s : ℕ) → is_end e.request ≡ false → is_ended (e ∷ h) s ≡ is_ended h s
+ended-same e h s more = rw more (go (is_ended h s) (nat_eq e.session s))
+  where
+    go : (a b : Bool) → (a || (b && false)) ≡ a
+    go true b = refl
+    go false true = refl
+    go false false = refl
+
+pub owed-same : (e : Entry) (h : List Entry) (n : ℕ) → is_end e.request ≡ false → ends_owed (e ∷ h) n ≡ ends_owed h n
+owed-same e h zero more = refl
+owed-same e h (suc n) more = rw (owed-same e h n more, ended-same e h n more) refl
+
+pub owed-end : (e : Entry) (h : List Entry) (n : ℕ) → is_end e.request ≡ true → is_ended h e.session ≡ false → e.session < n → ends_owed (e ∷ h) n + 1 ≡ ends_owed h n
+owed-end e h zero ends first low = absurd (omega arith)
+owed-end e h (suc n) ends first low = elim (cases_eq e.session n) [
+  | inl same ↦ (let before = owed-before e h n ends (omega arith) in
+      let now : is_ended (e ∷ h) n ≡ true = rw (eq-eqb e.session n same, ends) (or_right (is_ended h n) true refl) in
+      let old : is_ended h n ≡ false = subst (λ m. is_ended h m ≡ false) same first in
+      rw (before, now, old) (omega arith))
+  | inr ne ↦ (let before = owed-end e h n ends first (omega arith) in
+      let same' : is_ended (e ∷ h) n ≡ is_ended h n = rw (ne_eqb e.session n ne) (or_false (is_ended h n)) in
+      rw same' (omega arith))
+]
+  where
+    owed-before : (e : Entry) (h : List Entry) (n : ℕ) → is_end e.request ≡ true → n ≤ e.session → ends_owed (e ∷ h) n ≡ ends_owed h n
+    owed-before e h zero ends high = refl
+    owed-before e h (suc n) ends high = rw (owed-before e h n ends (omega arith), ne_eqb e.session n (λ q. omega arith)) (ap (λ b. ends_owed h n + cond b 0 1) (or_nothing (is_ended h n)))
+      where
+        or_nothing : (b : Bool) → (b || false) ≡ b
+        or_nothing true = refl
+        or_nothing false = refl
+
+-- ---- Sound journals
+
+-- What the next entry may bring: g is how many requests it takes for what it accepts.
+pub record IsSoundStep (r : Rules) (h : List Entry) (e : Entry) (g : ℕ) : Type 0 where
+  pub session : e.session < r.sessions
+  pub reply : e.reply ≡ reply_to r h e.session e.request
+  pub grows : length (accepted h) ≤ length (accepted (e ∷ h))
+  pub accepts : length (accepted (e ∷ h)) ≤ length (accepted h) + g
+  pub settles : (k : ℕ) → length (outcomes_of (e ∷ h) k) ≤ length (outcomes_of h k) + g
+  pub takes : g + all_left (e ∷ h) r.sessions ≤ all_left h r.sessions
+  pub commit : commit_of h ≤ commit_of (e ∷ h)
+  pub reported : is_noted e.reply ≡ true → (p : ℕ) → length (accepted h) < p → reports p e.request ≡ None
+  pub sent : (p : ℕ) → is_in p (positions_in e.reply) ≡ true → p ≤ length (accepted (e ∷ h))
+  pub named : (x q : ℕ) → is_in q (named_in e.reply x) ≡ true → q ≤ commit_of (e ∷ h)
+  pub outcomes : (k n p : ℕ) → slice_get (outcomes_of (e ∷ h) k) n ≡ Some (Accepted p) → p ≤ length (accepted (e ∷ h))
+
+pub sound-next : (r : Rules) (h : List Entry) (e : Entry) (g : ℕ) → IsSoundStep r h e g → IsSound r h → IsSound r (e ∷ h)
+sound-next r h e g step sound = record {
+  legal = (step.reply, sound.legal);
+  results = λ p high. result p (omega (arith, high, step.grows));
+  sent = λ s p m. sent s p m;
+  named = λ s x q m. named s x q m;
+  sessions = all-cons step.session sound.sessions;
+  outcomes = step.outcomes;
+  few = omega (arith, step.accepts, step.takes, sound.few);
+  few_outcomes = λ k. omega (arith, step.settles k, step.takes, sound.few_outcomes k);
+}
+  where
+    result : (p : ℕ) → length (accepted h) < p → result_at (e ∷ h) p ≡ None
+    result p high = ap (λ o. either o (cond (is_noted e.reply) (reports p e.request) None)) (sound.results p high)
+        ∙ elim (cases_Bool (is_noted e.reply)) [
+          | inl q ↦ ap (λ b. cond b (reports p e.request) None) q ∙ step.reported q p high
+          | inr q ↦ ap (λ b. cond b (reports p e.request) None) q
+        ]
+
+    sent : (s p : ℕ) → is_in p (sent_to (e ∷ h) s) ≡ true → p ≤ length (accepted (e ∷ h))
+    sent s p = cond_both (nat_eq e.session s) (sent_to h s ++ positions_in e.reply) (sent_to h s) (λ xs. is_in p xs ≡ true → p ≤ length (accepted (e ∷ h)))
+        (λ q m. elim (is_in-append_cases p (sent_to h s) (positions_in e.reply) m) [
+          | inl old ↦ omega (arith, sound.sent s p old, step.grows)
+          | inr new' ↦ step.sent p new'
+        ])
+        (λ q m. omega (arith, sound.sent s p m, step.grows))
+
+    named : (s x q : ℕ) → is_in q (named_to (e ∷ h) s x) ≡ true → q ≤ commit_of (e ∷ h)
+    named s x q = cond_both (nat_eq e.session s) (named_to h s x ++ named_in e.reply x) (named_to h s x) (λ xs. is_in q xs ≡ true → q ≤ commit_of (e ∷ h))
+        (λ t m. elim (is_in-append_cases q (named_to h s x) (named_in e.reply x) m) [
+          | inl old ↦ omega (arith, sound.named s x q old, step.commit)
+          | inr new' ↦ step.named x q new'
+        ])
+        (λ t m. omega (arith, sound.named s x q m, step.commit))
+
+    all-cons : e.session < r.sessions → All (λ (o : Entry). o.session < r.sessions) h → All (λ (o : Entry). o.session < r.sessions) (e ∷ h)
+    all-cons here rest zero d low = here
+    all-cons here rest (suc i) d low = rest i d (omega arith)

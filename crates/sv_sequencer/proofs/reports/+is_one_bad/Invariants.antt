@@ -1,0 +1,5 @@
+use Rattle.std.proofs.Common.{length}
+use Rattle.sv_sequencer.proofs.reports.+is_one_bad.Given as goal
+
+abbrev pub decreases-is_one_bad : goal.decreases-is_one_bad
+decreases-is_one_bad g l = length l.results.now

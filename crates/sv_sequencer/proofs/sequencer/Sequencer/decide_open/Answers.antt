@@ -1,0 +1,11 @@
+use Rattle.std.proofs.Common.{◌≡◌, sym, subst}
+use Rattle.sv_wire.specs.declared.message.Request.{Request}
+use Rattle.sv_journal.specs.Answer.{reply_to_open}
+use Rattle.sv_sequencer.specs.Decisions.{reply_by}
+use Rattle.sv_sequencer.specs.Step.{history}
+use Rattle.sv_sequencer.proofs.sequencer.Sequencer.decide_open.Goals as goal
+
+pub returns-in-Join-clause-reply : goal.returns-in-Join-clause-reply
+returns-in-Join-clause-reply c =
+    subst (λ (q : Request). reply_by c.args.self.now.rules (history c.args.self.now) c.args.session q c.decide_join.result
+    ≡ reply_to_open c.args.self.now.rules (history c.args.self.now) c.args.session q) (sym c.in-Join.is) c.decide_join.ensures.reply

@@ -1,0 +1,111 @@
+use Rattle.std.proofs.Common.{◌≡◌, ◌≤◌, ◌<◌, ◌+◌, ◌-◌, ℕ, suc, false, List, [], ◌∷◌, ◌++◌, map, length, reverse, All, None, refl, sym, ◌∙◌, ap, subst, arith}
+use Rattle.sv_wire.specs.declared.message.Held.{Held}
+use Rattle.sv_wire.specs.declared.message.Item.{Item}
+use Rattle.sv_wire.specs.declared.message.Request.{Request}
+use Rattle.sv_wire.specs.declared.message.Request.TheVariants as requests
+use Rattle.sv_wire.specs.declared.message.Reply.TheVariants as replies
+use Rattle.sv_journal.specs.declared.entry.Entry.{Entry}
+use Rattle.sv_journal.specs.declared.entry.Logged.TheVariants as logged
+use Rattle.sv_journal.specs.View.{JournalView}
+use Rattle.sv_journal.specs.History.{Authored, accepted, actions_of, result_at, commit_of, full_reply}
+use Rattle.sv_journal.specs.Sessions.{is_end, sent_to, named_to}
+use Rattle.sv_journal.specs.Answer.{Rules, relay_of, reply_to, commit_with, is_bad_done, committed_held}
+use Rattle.sv_queue.specs.Queue.{QueueView, IsUncommitted, last_position, with_action, installed}
+use Rattle.sv_influence.specs.Lacking.{lacking, base_objects}
+use Rattle.sv_sequencer.specs.Agreement.{Agrees, ends_owed}
+use Rattle.sv_sequencer.specs.Decisions.{IsOld, IsNext, IsJoin, interest_in, action_in, results_in}
+use Rattle.sv_sequencer.specs.Invariant.{rules_of}
+use Rattle.sv_sequencer.specs.Relays.{held_in, item_in, marked_all, given_all, with_reports, CanReport}
+use Rattle.sv_sequencer.specs.Step.{SequencerView, history, entry_of}
+use Rattle.sv_sequencer.proofs.AgreeNext.{agree-drop}
+use Rattle.sv_sequencer.proofs.AgreeNoted.{noted, agree-noted}
+use Rattle.sv_sequencer.proofs.AgreeSends.{agree-relay, agree-accept, agree-welcome}
+use Rattle.sv_sequencer.proofs.Dones.{can_report_done}
+use Rattle.sv_sequencer.proofs.Entered.{rules_with, reshaped, moved}
+use Rattle.sv_sequencer.proofs.FitPush.{fits-pushed}
+use Rattle.sv_sequencer.proofs.HistorySteps.{accepted-old, accepted-next, authored_by}
+use Rattle.sv_sequencer.proofs.Relayed.{lacking-within, held-low, bases-below, objects-low}
+use Rattle.sv_sequencer.proofs.Replies.{committed-is, held-is, relay-is, relay-new}
+use Rattle.sv_sequencer.proofs.Stepped.{answered, relayed-whole}
+use Rattle.sv_wire.specs.declared.message.Done1.{Done1}
+use Rattle.sv_sequencer.proofs.sequencer.Sequencer.note_results.Goals as goal
+
+pub set_reports-requires : goal.set_reports-requires
+set_reports-requires c =
+    let a = c.self-2.inside in
+    let h = reverse a.journal.entries in
+    let s = c.args.session in
+    let same = ap (λ (u : SequencerView). u.rules) c.self-2.view_is ∙ c.reserve.ensures.rules in
+    let entries = ap (λ (u : SequencerView). u.journal.entries) c.self-2.view_is ∙ c.reserve.ensures.entries in
+    let small : s < 64 = omega (arith, c.requires.session, ap (λ (r : Rules). r.sessions) same, c.self-2.invariant.few_sessions) in
+    let ds : c.in_ok-results.results.items ≡ results_in c.args.request.now = c.in_ok-results.ensures ∙ c.results_of.ensures in
+    let bad : is_bad_done (rules_of a) h s (results_in c.args.request.now) ≡ false =
+    moved (λ r h q. is_bad_done r h s (results_in q) ≡ false) (rules_of a) _ a.journal.entries _ c.args.request.now _ same entries refl c.requires.bad in
+    subst (All (CanReport a.queue)) (sym ds) (can_report_done (rules_of a) h a.queue s (results_in c.args.request.now) small c.self-2.invariant.commit c.self-2.invariant.sound.sent c.self-2.invariant.fits bad)
+
+pub invariant_of-self : goal.invariant_of-self
+invariant_of-self c =
+    let a = c.self-2.inside in
+    let v = a.queue in
+    let h = reverse a.journal.entries in
+    let s = c.args.session in
+    let q = c.in_ok-copy.copy in
+    let n = length a.sessions.items in
+    let ds = c.in_ok-results.results.items in
+    let k = c.commit-commit.result in
+    let l = logged.Noted k in
+    let e = entry_of s q l in
+    let copied : q ≡ c.args.request.now = c.in_ok-copy.ensures in
+    let listed : ds ≡ results_in c.args.request.now = c.in_ok-results.ensures ∙ c.results_of.ensures in
+    let same = ap (λ (u : SequencerView). u.rules) c.self-2.view_is ∙ c.reserve.ensures.rules in
+    let entries = ap (λ (u : SequencerView). u.journal.entries) c.self-2.view_is ∙ c.reserve.ensures.entries in
+    let low : s < n = omega (arith, c.requires.session, ap (λ (r : Rules). r.sessions) same) in
+    let small : s < 64 = omega (arith, low, c.self-2.invariant.few_sessions) in
+    let asks : q ≡ requests.Done ds = copied ∙ c.requires.done ∙ ap requests.Done (sym listed) in
+    let bad : is_bad_done (rules_of a) h s (results_in c.args.request.now) ≡ false =
+    moved (λ r h q. is_bad_done r h s (results_in q) ≡ false) (rules_of a) _ a.journal.entries _ c.args.request.now _ same entries refl c.requires.bad in
+    let can = subst (All (CanReport v)) (sym listed) (can_report_done (rules_of a) h v s (results_in c.args.request.now) small c.self-2.invariant.commit c.self-2.invariant.sound.sent c.self-2.invariant.fits bad) in
+    let within : All (λ (d : Done1). d.pos ≤ last_position v) ds = λ i d l. (can i d l).last in
+    let queue : c.install.new.self ≡ installed (with_reports v ds) = c.install.ensures.installed ∙ ap installed c.set_reports.ensures in
+    let at : k ≡ (installed (with_reports v ds)).commit = c.commit-commit.ensures ∙ ap (λ (w : QueueView). w.commit) queue in
+    let told = noted (rules_of a) h v (entry_of s (requests.Done ds) (logged.Noted 0)) 0 ds refl refl within c.self-2.invariant.commit c.self-2.invariant.sound c.self-2.invariant.fits in
+    let said : l ≡ logged.Noted (commit_with h s (results_in c.args.request.now)) = ap logged.Noted (at ∙ told.1.0 ∙ ap (commit_with h s) listed) in
+    let reply : l ≡ reply_to (rules_of a) h s q =
+    said ∙ moved (λ r h q. logged.Noted (commit_with h s (results_in c.args.request.now)) ≡ reply_to r h s q) (rules_of a) _ a.journal.entries _ q _ same entries copied c.requires.reply in
+    let roomy : ends_owed h n + 1 ≤ a.journal.spare =
+    subst (λ (u : SequencerView). ends_owed (history u) u.rules.sessions + 1 ≤ u.journal.spare) (sym c.self-2.view_is) c.in_ok-reserve.ensures.ok in
+    reshaped a.opening a.bound a.reach n (length c.enter.new.sessions.items) a.journal.entries c.enter.new.journal.entries e c.install.new.self c.enter.new.sessions.items a.clients
+    a.owed c.enter.new.journal.spare c.enter.ensures.count (ap (λ (j : JournalView). j.entries) c.enter.ensures.journal)
+    (subst (λ (w : QueueView). Agrees (rules_of a) (e ∷ h) w c.enter.new.sessions.items a.clients a.owed c.enter.new.journal.spare) (sym queue)
+    (agree-noted (rules_of a) h v a.sessions.items c.enter.new.sessions.items a.clients a.owed a.journal.spare c.enter.new.journal.spare s q k ds at asks within
+    c.self-2.invariant refl low reply c.enter.ensures.rows
+    (omega (arith, roomy, c.self-2.invariant.ends, ap (λ (j : JournalView). j.spare) c.enter.ensures.journal))))
+
+pub returns-clause-ok : goal.returns-clause-ok
+returns-clause-ok c =
+    let a = c.self-2.inside in
+    let v = a.queue in
+    let h = reverse a.journal.entries in
+    let s = c.args.session in
+    let q = c.in_ok-copy.copy in
+    let ds = c.in_ok-results.results.items in
+    let k = c.commit-commit.result in
+    let l = logged.Noted k in
+    let e = entry_of s q l in
+    let copied : q ≡ c.args.request.now = c.in_ok-copy.ensures in
+    let listed : ds ≡ results_in c.args.request.now = c.in_ok-results.ensures ∙ c.results_of.ensures in
+    let same = ap (λ (u : SequencerView). u.rules) c.self-2.view_is ∙ c.reserve.ensures.rules in
+    let entries = ap (λ (u : SequencerView). u.journal.entries) c.self-2.view_is ∙ c.reserve.ensures.entries in
+    let small : s < 64 = omega (arith, c.requires.session, ap (λ (r : Rules). r.sessions) same, c.self-2.invariant.few_sessions) in
+    let bad : is_bad_done (rules_of a) h s (results_in c.args.request.now) ≡ false =
+    moved (λ r h q. is_bad_done r h s (results_in q) ≡ false) (rules_of a) _ a.journal.entries _ c.args.request.now _ same entries refl c.requires.bad in
+    let can = subst (All (CanReport v)) (sym listed) (can_report_done (rules_of a) h v s (results_in c.args.request.now) small c.self-2.invariant.commit c.self-2.invariant.sound.sent c.self-2.invariant.fits bad) in
+    let within : All (λ (d : Done1). d.pos ≤ last_position v) ds = λ i d l. (can i d l).last in
+    let queue : c.install.new.self ≡ installed (with_reports v ds) = c.install.ensures.installed ∙ ap installed c.set_reports.ensures in
+    let at : k ≡ (installed (with_reports v ds)).commit = c.commit-commit.ensures ∙ ap (λ (w : QueueView). w.commit) queue in
+    let told = noted (rules_of a) h v (entry_of s (requests.Done ds) (logged.Noted 0)) 0 ds refl refl within c.self-2.invariant.commit c.self-2.invariant.sound c.self-2.invariant.fits in
+    let said : l ≡ logged.Noted (commit_with h s (results_in c.args.request.now)) = ap logged.Noted (at ∙ told.1.0 ∙ ap (commit_with h s) listed) in
+    let reply : l ≡ reply_to c.args.self.now.rules (history c.args.self.now) s c.args.request.now =
+    subst (λ (es : List Entry). l ≡ logged.Noted (commit_with (reverse es) s (results_in c.args.request.now))) entries said ∙ c.requires.reply in
+    answered c.args.self.now _ s c.args.request.now q l _ copied (ap (rules_with a.opening a.bound a.reach) c.enter.ensures.count ∙ same)
+    (ap (λ (j : JournalView). j.entries) c.enter.ensures.journal ∙ ap (λ es. es ++ e ∷ []) entries) reply refl

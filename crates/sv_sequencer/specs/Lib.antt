@@ -1,0 +1,9 @@
+pub mod Agreement
+pub mod Clients
+pub mod Decisions
+pub mod Fits
+pub mod Invariant
+pub mod Orphans
+pub mod Relays
+pub mod Rows
+pub mod Step

@@ -1,0 +1,17 @@
+-- The abandoned positions of a queue.
+use Rattle.std.specs.Prelude.{ℕ, suc, Bool, ◌&&◌, ◌||◌, not, nat_lt, is_none, List, filter, length, slice_index_or}
+use Rattle.std.specs.List.{list_all}
+use Rattle.sv_world.specs.Control.{is_in, below}
+use Rattle.sv_queue.specs.Queue.{QueueView, last_position, entry_at, sent_positions}
+use Rattle.sv_sequencer.specs.declared.sessions.SessionRow.{SessionRow}
+use Rattle.sv_sequencer.specs.Rows.{no_session}
+
+-- Each of the sessions that a position was sent to is over.
+abbrev pub is_abandoned_in : QueueView → List SessionRow → ℕ → Bool
+is_abandoned_in v rows p = list_all (λ s. not (is_in p (sent_positions v s)) || (slice_index_or rows s no_session).over) (below (length rows))
+
+abbrev pub is_orphan_in : QueueView → List SessionRow → ℕ → Bool
+is_orphan_in v rows p = nat_lt v.commit p && is_none (entry_at v p).result && is_abandoned_in v rows p
+
+abbrev pub orphans_in : QueueView → List SessionRow → List ℕ
+orphans_in v rows = filter (is_orphan_in v rows) (below (suc (last_position v)))

@@ -1,0 +1,42 @@
+/// What is done on a request, where it is not an End.
+#[derive(Clone, Copy, Debug, Drop)]
+pub enum Decision {
+    Refuse {
+        code: u8,
+        detail: u32,
+    },
+    Welcome {
+        client: u16,
+        life: u32,
+    },
+    /// A new action is dropped.
+    Drop {
+        client: u16,
+        seq: u32,
+        chain: u32,
+        far: u32,
+    },
+    /// An action was dropped before.
+    Repeat {
+        seq: u32,
+        chain: u32,
+        far: u32,
+    },
+    Settle {
+        seq: u32,
+        pos: u32,
+    },
+    /// A relay of a position that is there.
+    Relay {
+        seq: u32,
+        pos: u32,
+    },
+    /// A new action is accepted.
+    Accept {
+        client: u16,
+        seq: u32,
+    },
+    Note,
+    Idle,
+    Leave,
+}

@@ -1,0 +1,307 @@
+//! What is decided is done, where a session is sent or gives something.
+ghost use Rattle.std.specs.Prelude.{◌≡◌, ℕ, suc, ◌+◌, ◌-◌, ◌<◌, ◌≤◌, false, nat_eq, [], ◌∷◌, ◌++◌, map, length, All, IfOk, OnOk, OnErr, if◌then◌else◌};
+ghost use Rattle.sv_world.specs.declared.world.ObjectId.{ObjectId};
+ghost use Rattle.sv_world.specs.Faults.{IsGoodAction};
+ghost use Rattle.sv_queue.specs.Queue.{IsUncommitted, last_position, with_action, installed};
+ghost use Rattle.sv_influence.specs.Lacking.{lacking, base_objects};
+ghost use Rattle.sv_wire.specs.declared.message.Held.{Held};
+ghost use Rattle.sv_wire.specs.declared.message.Request.TheVariants as requests;
+ghost use Rattle.sv_journal.specs.declared.entry.Logged.TheVariants as logged;
+ghost use Rattle.sv_journal.specs.History.{accepted, actions_of, commit_of};
+ghost use Rattle.sv_journal.specs.Sessions.{is_end};
+ghost use Rattle.sv_journal.specs.Answer.{relay_of, is_bad_done, commit_with, reply_to};
+ghost use Rattle.sv_sequencer.specs.declared.decision.Decision.TheVariants as decisions;
+ghost use Rattle.sv_sequencer.specs.declared.clients.Outcome.TheVariants as rows;
+ghost use Rattle.sv_sequencer.specs.Clients.{client_row};
+ghost use Rattle.sv_sequencer.specs.Decisions.{reply_by, IsJoin, IsNext, IsOld, interest_in, action_in, results_in};
+ghost use Rattle.sv_sequencer.specs.Relays.{held_in, item_in, marked_all, given_all, with_reports, CanReport};
+ghost use Rattle.sv_sequencer.specs.Step.{history, Answered, Stayed};
+
+use crate::carry::enter;
+use crate::clients::{Clients, Outcome};
+use crate::relays::{Relayed, base_values, give_all, mark_all, relay_in};
+use crate::reports::{copy_reports, set_reports};
+use crate::sequencer::Sequencer;
+use std::alloc::{AllocError, Global};
+use sv_journal::{Entry, Logged};
+use sv_queue::Queue;
+use sv_wire::{Done1, Reply, Request, copy_head, copy_request};
+use sv_world::{Action, ClientId, ObjectId, copy_action};
+
+/// The interest that a Join names.
+fn interest_of(request: &Request) -> &[ObjectId]
+    ensures { map (λ (o : ObjectId). o.0) result.now ≡ interest_in request.now }
+{
+    match request {
+        Request::Join { interest, .. } => interest.as_slice(),
+        _ => &[],
+    }
+}
+
+/// The results that a Done reports.
+fn results_of(request: &Request) -> &[Done1]
+    ensures { result.now ≡ results_in request.now }
+{
+    match request {
+        Request::Done { results } => results.as_slice(),
+        _ => &[],
+    }
+}
+
+/// Takes in a new action, with what a relay of it has. After want of memory the queue and the clients' rows are as before.
+fn take_in(
+    alloc: Global,
+    queue: &mut Queue,
+    clients: &mut Clients,
+    session: u16,
+    client: u16,
+    seq: u32,
+    action: Action,
+) -> Result<Relayed, AllocError>
+    requires good { IsGoodAction queue.old.shape action }
+    requires room { last_position queue.old < 4294967295 }
+    ensures queue { OnOk result (queue.new ≡ with_action queue.old (record { 0 = client }) seq action) }
+    ensures clients { OnOk result ((k : ℕ) → client_row clients.new k ≡ (if nat_eq client k then record (client_row clients.old client) { outcomes = (client_row clients.old client).outcomes ++ rows.Accepted (suc (last_position queue.old)) ∷ [] } else client_row clients.old k)) }
+    ensures head { IfOk result (λ r. r.head ≡ held_in queue.new (base_objects queue.new session (last_position queue.new))) }
+    ensures positions { IfOk result (λ r. r.positions ≡ lacking queue.new session (last_position queue.new)) }
+    ensures sent_head { IfOk result (λ r. r.sent_head ≡ held_in queue.new (base_objects queue.new session (last_position queue.new))) }
+    ensures items { IfOk result (λ r. r.items ≡ map (item_in queue.new) (lacking queue.new session (last_position queue.new))) }
+    ensures err { OnErr result (queue.new ≡ queue.old) }
+    ensures kept { OnErr result ((k : ℕ) → client_row clients.new k ≡ client_row clients.old k) }
+{
+    let pos = queue.push(ClientId(client), seq, action)?;
+    match relay_and_settle(alloc, queue, clients, session, client, pos) {
+        Ok(relayed) => Ok(relayed),
+        Err(error) => {
+            queue.pop();
+            Err(error)
+        }
+    }
+}
+
+fn relay_and_settle(
+    alloc: Global,
+    queue: &Queue,
+    clients: &mut Clients,
+    session: u16,
+    client: u16,
+    pos: u32,
+) -> Result<Relayed, AllocError>
+    requires { IsUncommitted queue.now pos }
+    ensures clients { OnOk result ((k : ℕ) → client_row clients.new k ≡ (if nat_eq client k then record (client_row clients.old client) { outcomes = (client_row clients.old client).outcomes ++ rows.Accepted pos ∷ [] } else client_row clients.old k)) }
+    ensures head { IfOk result (λ r. r.head ≡ held_in queue.now (base_objects queue.now session pos)) }
+    ensures positions { IfOk result (λ r. r.positions ≡ lacking queue.now session pos) }
+    ensures sent_head { IfOk result (λ r. r.sent_head ≡ held_in queue.now (base_objects queue.now session pos)) }
+    ensures items { IfOk result (λ r. r.items ≡ map (item_in queue.now) (lacking queue.now session pos)) }
+    ensures kept { OnErr result ((k : ℕ) → client_row clients.new k ≡ client_row clients.old k) }
+{
+    let relayed = relay_in(alloc, queue, session, pos)?;
+    clients.settle(client, Outcome::Accepted { pos })?;
+    Ok(relayed)
+}
+
+/// Marks what a relay sends, and notes what it gives.
+fn deliver(queue: &mut Queue, relayed: &Relayed, session: u16)
+    requires positions { All (IsUncommitted queue.old) relayed.now.positions }
+    requires objects { All (λ (x : Held). x.object.0 < queue.old.shape.objects) relayed.now.head }
+    requires session { session < 64 }
+    ensures { queue.new ≡ given_all (marked_all queue.old relayed.now.positions session) relayed.now.head session }
+{
+    mark_all(queue, relayed.positions.as_slice(), session);
+    give_all(queue, relayed.head.as_slice(), session);
+}
+
+impl Sequencer {
+    /// Begins a session.
+    pub(crate) fn welcome(
+        &mut self,
+        session: u16,
+        request: &Request,
+        client: u16,
+        life: u32,
+    ) -> Result<Reply, AllocError>
+        requires session { session < self.old.rules.sessions }
+        requires join { IsJoin self.old.rules (history self.old) request.now client life }
+        requires reply { reply_by self.old.rules (history self.old) session request.now (decisions.Welcome client life) ≡ reply_to self.old.rules (history self.old) session request.now }
+        requires more { is_end request.now ≡ false }
+        ensures ok { IfOk result (Answered self.old self.new session request.now) }
+        ensures err { OnErr result (Stayed self.old self.new) }
+    {
+        let copy = copy_request(self.alloc, request)?;
+        self.reserve()?;
+        let head = base_values(self.alloc, &self.queue, interest_of(request))?;
+        let sent = copy_head(self.alloc, head.as_slice())?;
+        self.clients.join(client, life)?;
+        let commit = self.queue.commit();
+        give_all(&mut self.queue, head.as_slice(), session);
+        let entry = Entry {
+            session,
+            request: copy,
+            reply: Logged::Welcome { commit, head },
+        };
+        enter(&mut self.journal, &mut self.sessions, entry);
+        Ok(Reply::Welcome { commit, head: sent })
+    }
+
+    /// Drops a new action.
+    pub(crate) fn drop_new(
+        &mut self,
+        session: u16,
+        request: &Request,
+        client: u16,
+        seq: u32,
+        chain: u32,
+        far: u32,
+    ) -> Result<Reply, AllocError>
+        requires session { session < self.old.rules.sessions }
+        requires next { IsNext (history self.old) session request.now client seq }
+        requires reply { logged.Dropped seq chain far ≡ reply_to self.old.rules (history self.old) session request.now }
+        requires more { is_end request.now ≡ false }
+        ensures ok { IfOk result (Answered self.old self.new session request.now) }
+        ensures err { OnErr result (Stayed self.old self.new) }
+    {
+        let copy = copy_request(self.alloc, request)?;
+        self.reserve()?;
+        self.clients
+            .settle(client, Outcome::Dropped { chain, far })?;
+        let entry = Entry {
+            session,
+            request: copy,
+            reply: Logged::Dropped { seq, chain, far },
+        };
+        enter(&mut self.journal, &mut self.sessions, entry);
+        Ok(Reply::Dropped { seq, chain, far })
+    }
+
+    /// Sends an accepted action with what the session lacks of it.
+    pub(crate) fn relay(
+        &mut self,
+        session: u16,
+        request: &Request,
+        seq: u32,
+        pos: u32,
+    ) -> Result<Reply, AllocError>
+        requires session { session < self.old.rules.sessions }
+        requires old { IsOld (history self.old) session request.now }
+        requires low { commit_of (history self.old) < pos }
+        requires high { pos ≤ length (accepted (history self.old)) }
+        requires reply { relay_of self.old.rules (history self.old) (actions_of (history self.old)) session seq pos ≡ reply_to self.old.rules (history self.old) session request.now }
+        requires more { is_end request.now ≡ false }
+        ensures ok { IfOk result (Answered self.old self.new session request.now) }
+        ensures err { OnErr result (Stayed self.old self.new) }
+    {
+        let copy = copy_request(self.alloc, request)?;
+        self.reserve()?;
+        let relayed = relay_in(self.alloc, &self.queue, session, pos)?;
+        let commit = self.queue.commit();
+        deliver(&mut self.queue, &relayed, session);
+        let Relayed {
+            head,
+            positions,
+            sent_head,
+            items,
+        } = relayed;
+        let entry = Entry {
+            session,
+            request: copy,
+            reply: Logged::Relay {
+                seq,
+                commit,
+                head,
+                positions,
+            },
+        };
+        enter(&mut self.journal, &mut self.sessions, entry);
+        Ok(Reply::Relay {
+            seq,
+            commit,
+            head: sent_head,
+            items,
+        })
+    }
+
+    /// Accepts a new action and sends it with what the session lacks of it.
+    pub(crate) fn accept(
+        &mut self,
+        session: u16,
+        request: &Request,
+        client: u16,
+        seq: u32,
+        action: &Action,
+    ) -> Result<Reply, AllocError>
+        requires session { session < self.old.rules.sessions }
+        requires next { IsNext (history self.old) session request.now client seq }
+        requires action { action.now ≡ action_in request.now }
+        requires good { IsGoodAction self.old.rules.world.shape action.now }
+        requires reply { relay_of self.old.rules (history self.old) (actions_of (history self.old) ++ action_in request.now ∷ []) session seq (suc (length (actions_of (history self.old)))) ≡ reply_to self.old.rules (history self.old) session request.now }
+        requires more { is_end request.now ≡ false }
+        ensures ok { IfOk result (Answered self.old self.new session request.now) }
+        ensures err { OnErr result (Stayed self.old self.new) }
+    {
+        let copy = copy_request(self.alloc, request)?;
+        let action = copy_action(self.alloc, action)?;
+        self.reserve()?;
+        let relayed = take_in(
+            self.alloc,
+            &mut self.queue,
+            &mut self.clients,
+            session,
+            client,
+            seq,
+            action,
+        )?;
+        let commit = self.queue.commit();
+        deliver(&mut self.queue, &relayed, session);
+        let Relayed {
+            head,
+            positions,
+            sent_head,
+            items,
+        } = relayed;
+        let entry = Entry {
+            session,
+            request: copy,
+            reply: Logged::Relay {
+                seq,
+                commit,
+                head,
+                positions,
+            },
+        };
+        enter(&mut self.journal, &mut self.sessions, entry);
+        Ok(Reply::Relay {
+            seq,
+            commit,
+            head: sent_head,
+            items,
+        })
+    }
+
+    /// Notes reported results, and commits what may be.
+    pub(crate) fn note_results(
+        &mut self,
+        session: u16,
+        request: &Request,
+    ) -> Result<Reply, AllocError>
+        requires session { session < self.old.rules.sessions }
+        requires done { request.now ≡ requests.Done (results_in request.now) }
+        requires bad { is_bad_done self.old.rules (history self.old) session (results_in request.now) ≡ false }
+        requires reply { logged.Noted (commit_with (history self.old) session (results_in request.now)) ≡ reply_to self.old.rules (history self.old) session request.now }
+        ensures ok { IfOk result (Answered self.old self.new session request.now) }
+        ensures err { OnErr result (Stayed self.old self.new) }
+    {
+        let copy = copy_request(self.alloc, request)?;
+        let results = copy_reports(self.alloc, results_of(request))?;
+        self.reserve()?;
+        set_reports(&mut self.queue, results);
+        self.queue.install();
+        let commit = self.queue.commit();
+        let entry = Entry {
+            session,
+            request: copy,
+            reply: Logged::Noted { commit },
+        };
+        enter(&mut self.journal, &mut self.sessions, entry);
+        Ok(Reply::Noted { commit })
+    }
+}

@@ -1,0 +1,19 @@
+//! The sequencer: it puts the actions of all sessions in one order, and its journal is always a legal one.
+#![tactic(auto)]
+
+mod carry;
+mod clients;
+mod decide;
+mod decision;
+mod deliver;
+mod open;
+mod orphans;
+mod relays;
+mod reports;
+mod sequencer;
+mod sessions;
+mod step;
+#[cfg(test)]
+mod tests;
+
+pub use sequencer::Sequencer;

@@ -1,0 +1,146 @@
+ghost use Rattle.std.specs.Prelude.{◌≡◌, ℕ, ◌<◌, ◌≤◌, [], ◌∷◌, map, length, All, IfOk};
+ghost use Rattle.sv_world.specs.declared.world.ObjectId.{ObjectId};
+ghost use Rattle.sv_wire.specs.declared.message.Held.{Held};
+ghost use Rattle.sv_queue.specs.Queue.{IsUncommitted};
+ghost use Rattle.sv_influence.specs.Lacking.{lacking, base_objects};
+ghost use Rattle.sv_sequencer.specs.Relays.{held_in, item_in, marked_all, given_all};
+
+use std::alloc::{AllocError, Global};
+use std::marker::Brand;
+use std::sync::ledger::{Blank, Ledger};
+use sv_influence::closure;
+use sv_queue::{Queue, Steps};
+use sv_wire::{Held, Item, copy_head};
+use sv_world::{List, ObjectId, copy_action, copy_value};
+
+/// What a relay of a position has, once for the journal and once for the reply.
+#[derive(Drop)]
+pub struct Relayed {
+    pub head: List<Held>,
+    pub positions: List<u32>,
+    pub sent_head: List<Held>,
+    pub items: List<Item>,
+}
+
+/// What a relay of an uncommitted position has for a session.
+pub fn relay_in(alloc: Global, queue: &Queue, session: u16, pos: u32) -> Result<Relayed, AllocError>
+    requires { IsUncommitted queue.now pos }
+    ensures head { IfOk result (λ r. r.head ≡ held_in queue.now (base_objects queue.now session pos)) }
+    ensures positions { IfOk result (λ r. r.positions ≡ lacking queue.now session pos) }
+    ensures sent_head { IfOk result (λ r. r.sent_head ≡ held_in queue.now (base_objects queue.now session pos)) }
+    ensures items { IfOk result (λ r. r.items ≡ map (item_in queue.now) (lacking queue.now session pos)) }
+{
+    counted::<Brand>(alloc, queue, session, pos, Blank::new(1))
+}
+
+/// Its look-ups are counted, and nobody asks how many there were.
+fn counted<L: Ledger>(
+    alloc: Global,
+    queue: &Queue,
+    session: u16,
+    pos: u32,
+    blank: Blank,
+) -> Result<Relayed, AllocError>
+    requires name { blank.name ≡ L.name }
+    requires parts { blank.parts ≡ L.parts }
+    requires some { 0 < blank.parts }
+    requires pos { IsUncommitted queue.now pos }
+    ensures head { IfOk result (λ r. r.head ≡ held_in queue.now (base_objects queue.now session pos)) }
+    ensures positions { IfOk result (λ r. r.positions ≡ lacking queue.now session pos) }
+    ensures sent_head { IfOk result (λ r. r.sent_head ≡ held_in queue.now (base_objects queue.now session pos)) }
+    ensures items { IfOk result (λ r. r.items ≡ map (item_in queue.now) (lacking queue.now session pos)) }
+{
+    let mut steps = Steps::<L>::new(blank);
+    let found = closure(alloc, queue, session, pos, &mut steps)?;
+    let head = base_values(alloc, queue, found.head.as_slice())?;
+    let items = items_of(alloc, queue, found.items.as_slice(), &mut steps)?;
+    let sent_head = copy_head(alloc, head.as_slice())?;
+    Ok(Relayed {
+        head,
+        positions: found.items,
+        sent_head,
+        items,
+    })
+}
+
+/// Objects of a world with their committed values.
+pub fn base_values(
+    alloc: Global,
+    queue: &Queue,
+    objects: &[ObjectId],
+) -> Result<List<Held>, AllocError>
+    requires { All (λ (o : ObjectId). o.0 < queue.now.shape.objects) objects.now }
+    ensures { IfOk result (λ head. head ≡ held_in queue.now (map (λ (o : ObjectId). o.0) objects.now)) }
+{
+    let mut head = Vec::with_capacity(alloc, objects.len())?;
+    for object in objects {
+        let value = copy_value(alloc, queue.committed(*object))?;
+        head.push(Held {
+            object: *object,
+            value,
+        })?;
+    }
+    Ok(List::from_vec(head))
+}
+
+/// What stands at some uncommitted positions.
+fn items_of<L: Ledger>(
+    alloc: Global,
+    queue: &Queue,
+    positions: &[u32],
+    steps: &mut Steps<L>,
+) -> Result<List<Item>, AllocError>
+    requires { All (λ p. IsUncommitted queue.now p) positions.now }
+    ensures { IfOk result (λ items. items ≡ map (item_in queue.now) positions.now) }
+{
+    let mut items = Vec::with_capacity(alloc, positions.len())?;
+    for pos in positions {
+        items.push(item_of(alloc, queue, *pos, steps)?)?;
+    }
+    Ok(List::from_vec(items))
+}
+
+fn item_of<L: Ledger>(
+    alloc: Global,
+    queue: &Queue,
+    pos: u32,
+    steps: &mut Steps<L>,
+) -> Result<Item, AllocError>
+    requires { IsUncommitted queue.now pos }
+    ensures { IfOk result (λ item. item ≡ item_in queue.now pos) }
+{
+    let entry = queue.entry(pos, steps);
+    let action = copy_action(alloc, entry.action)?;
+    Ok(Item {
+        pos,
+        client: entry.author,
+        seq: entry.seq,
+        action,
+    })
+}
+
+/// Marks uncommitted positions for a session.
+pub fn mark_all(queue: &mut Queue, positions: &[u32], session: u16)
+    requires positions { All (λ p. IsUncommitted queue.old p) positions.now }
+    requires session { session < 64 }
+    ensures { queue.new ≡ marked_all queue.old positions.now session }
+{
+    let [first, rest @ ..] = positions else {
+        return;
+    };
+    queue.mark(*first, session);
+    mark_all(queue, rest, session);
+}
+
+/// Notes that a session was given the objects of a head.
+pub fn give_all(queue: &mut Queue, head: &[Held], session: u16)
+    requires objects { All (λ (x : Held). x.object.0 < queue.old.shape.objects) head.now }
+    requires session { session < 64 }
+    ensures { queue.new ≡ given_all queue.old head.now session }
+{
+    let [first, rest @ ..] = head else {
+        return;
+    };
+    queue.set_given(first.object, session);
+    give_all(queue, rest, session);
+}

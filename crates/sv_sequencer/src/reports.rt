@@ -1,0 +1,160 @@
+ghost use Rattle.std.specs.Prelude.{◌≡◌, ℕ, ◌<◌, ◌≤◌, ◌==◌, not, ◌||◌, ◌&&◌, nat_lt, nat_le, false, is_some, [], ◌∷◌, map, length, All, IfOk};
+ghost use Rattle.std.specs.List.{list_any, list_all};
+ghost use Rattle.sv_world.specs.Control.{is_in, action_at};
+ghost use Rattle.sv_world.specs.Faults.{is_ascending, IsGoodAction};
+ghost use Rattle.sv_world.specs.Sets.{write_set, at_mask, read_set};
+ghost use Rattle.sv_wire.specs.declared.message.Done1.{Done1};
+ghost use Rattle.sv_queue.specs.Queue.{IsUncommitted, queue_actions, sent_positions, last_position, entry_at};
+ghost use Rattle.sv_sequencer.specs.Relays.{is_bad_report, with_report, with_reports, CanReport};
+
+use std::alloc::{AllocError, Global};
+use std::marker::Brand;
+use std::sync::ledger::{Blank, Ledger};
+use sv_queue::{Queue, Steps};
+use sv_wire::Done1;
+use sv_world::{Action, List, Value, copy_values, is_in_mask};
+
+/// Whether the results that a session reports may not be taken.
+pub fn are_bad(queue: &Queue, session: u16, results: &[Done1]) -> bool
+    ensures { result ≡ (length results.now == 0 || nat_lt 33 (length results.now) || not (is_ascending (map (λ (d : Done1). d.pos) results.now)) || list_any (is_bad_report queue.now session) results.now) }
+{
+    results.len() == 0
+        || results.len() > 33
+        || !are_ascending(results)
+        || is_any_bad::<Brand>(queue, session, results, Blank::new(1))
+}
+
+/// Whether the positions ascend strictly.
+fn are_ascending(results: &[Done1]) -> bool
+    ensures { result ≡ is_ascending (map (λ (d : Done1). d.pos) results.now) }
+{
+    let [first, rest @ ..] = results else {
+        return true;
+    };
+    let mut last = first.pos;
+    for found in rest {
+        if found.pos <= last {
+            return false;
+        }
+        last = found.pos;
+    }
+    true
+}
+
+fn is_any_bad<L: Ledger>(queue: &Queue, session: u16, results: &[Done1], blank: Blank) -> bool
+    requires name { blank.name ≡ L.name }
+    requires parts { blank.parts ≡ L.parts }
+    requires some { 0 < blank.parts }
+    ensures { result ≡ list_any (is_bad_report queue.now session) results.now }
+{
+    let mut steps = Steps::<L>::new(blank);
+    is_one_bad(queue, session, results, &mut steps)
+}
+
+fn is_one_bad<L: Ledger>(
+    queue: &Queue,
+    session: u16,
+    results: &[Done1],
+    steps: &mut Steps<L>,
+) -> bool
+    ensures { result ≡ list_any (is_bad_report queue.now session) results.now }
+{
+    let [first, rest @ ..] = results else {
+        return false;
+    };
+    is_bad(queue, session, first, steps) || is_one_bad(queue, session, rest, steps)
+}
+
+fn is_bad<L: Ledger>(queue: &Queue, session: u16, found: &Done1, steps: &mut Steps<L>) -> bool
+    ensures { result ≡ is_bad_report queue.now session found.now }
+{
+    if found.pos == 0 || found.pos > queue.last() {
+        return true;
+    }
+    if found.pos <= queue.commit() {
+        return false;
+    }
+    if !queue.is_marked(found.pos, session, steps) {
+        return true;
+    }
+    let shape = queue.shape();
+    let entry = queue.entry(found.pos, steps);
+    found.values.len() != count_written(entry.action)
+        || !have_attrs(found.values.as_slice(), shape.attrs)
+}
+
+/// Whether each of the values has so many numbers.
+fn have_attrs(values: &[Value], attrs: u8) -> bool
+    ensures { result ≡ list_all (λ value. length value == attrs) values.now }
+{
+    let [first, rest @ ..] = values else {
+        return true;
+    };
+    first.len() == attrs as usize && have_attrs(rest, attrs)
+}
+
+/// How many objects an action writes.
+fn count_written(action: &Action) -> usize
+    requires { length action.now.reads ≤ 16 }
+    ensures { result ≡ length (write_set action.now) }
+{
+    let mut count = 0;
+    for slot in 0..action.reads.len() {
+        if is_in_mask(action.mask, slot) {
+            count += 1;
+        }
+    }
+    count
+}
+
+/// Equal copies of reported results.
+pub fn copy_reports(alloc: Global, results: &[Done1]) -> Result<Vec<Done1>, AllocError>
+    ensures { IfOk result (λ copies. copies.items ≡ results.now) }
+{
+    let mut copies = Vec::with_capacity(alloc, results.len())?;
+    for found in results {
+        copies.push(Done1 {
+            pos: found.pos,
+            values: copy_values(alloc, found.values.as_slice())?,
+        })?;
+    }
+    Ok(copies)
+}
+
+/// Keeps reported results in the queue, where their positions are not committed and have none yet.
+pub fn set_reports(queue: &mut Queue, results: Vec<Done1>)
+    requires { All (CanReport queue.old) results.items }
+    ensures { queue.new ≡ with_reports queue.old results.items }
+{
+    let mut left = results.into_iter();
+    while let Some(found) = left.next() {
+        set_report::<Brand>(queue, found, Blank::new(1));
+    }
+}
+
+fn set_report<L: Ledger>(queue: &mut Queue, found: Done1, blank: Blank)
+    requires name { blank.name ≡ L.name }
+    requires parts { blank.parts ≡ L.parts }
+    requires some { 0 < blank.parts }
+    requires can { CanReport queue.old found }
+    ensures { queue.new ≡ with_report queue.old found }
+{
+    let Done1 { pos, values } = found;
+    if pos <= queue.commit() {
+        return;
+    }
+    let mut steps = Steps::<L>::new(blank);
+    if has_result(queue, pos, &mut steps) {
+        return;
+    }
+    queue.set_result(pos, values.into_vec());
+}
+
+/// Whether an uncommitted position has a result.
+pub fn has_result<L: Ledger>(queue: &Queue, pos: u32, steps: &mut Steps<L>) -> bool
+    requires { IsUncommitted queue.now pos }
+    ensures { result ≡ is_some (entry_at queue.now pos).result }
+{
+    let entry = queue.entry(pos, steps);
+    entry.has_result
+}
