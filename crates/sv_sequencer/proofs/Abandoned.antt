@@ -1,19 +1,18 @@
 -- Abandoned positions by the queue and the rows of sessions, against those of the history.
-use Rattle.std.proofs.Common.{◌≡◌, ℕ, zero, suc, ◌+◌, ◌<◌, ◌≤◌, Bool, true, false, ◌&&◌, ◌||◌, not, cond, nat_eq, nat_lt, ◌⊎◌, inl, inr, List, [], ◌∷◌, ◌++◌, filter, length, get_or, All, Option, is_none, refl, sym, ◌∙◌, ap, subst, arith}
-use Rattle.std.proofs.lemmas.Bool.{cases_Bool, cases_eq, cond_both, and_parts, and_from, and_left, or_cases, or_left, or_right, not_from_false, not-true, both_ways, eq-eqb, eqb-true, ltb-true, lt-ltb}
+use Rattle.std.proofs.Common.{◌≡◌, ℕ, zero, suc, ◌<◌, ◌≤◌, Bool, true, false, ◌&&◌, ◌||◌, not, cond, nat_eq, nat_lt, inl, inr, List, [], ◌∷◌, ◌++◌, filter, length, get_or, All, is_none, refl, sym, ◌∙◌, ap, arith}
+use Rattle.std.proofs.lemmas.Bool.{cases_Bool, cases_eq, cond_both, and_parts, and_from, or_cases, or_left, or_right, not_from_false, not-true, both_ways, eq-eqb, eqb-true, ltb-true}
 use Rattle.std.proofs.lemmas.List.Elements.{filter-append}
 use Rattle.std.proofs.lemmas.List.Folds.{list_all-append}
 use Rattle.std.specs.List.{list_all}
-use Rattle.sv_world.specs.declared.world.World.{World}
 use Rattle.sv_world.specs.Control.{is_in, below}
 use Rattle.sv_world.proofs.Bases.{below-is_in}
 use Rattle.sv_world.proofs.Members.{is_in-append_cases, is_in-append_left, is_in-append_right}
 use Rattle.sv_influence.proofs.Growth.{same_test}
 use Rattle.sv_journal.specs.declared.entry.Entry.{Entry}
-use Rattle.sv_journal.specs.History.{Authored, accepted, result_at, commit_of}
+use Rattle.sv_journal.specs.History.{accepted, result_at, commit_of}
 use Rattle.sv_journal.specs.Sessions.{is_over, positions_in, sent_to, named_to}
 use Rattle.sv_journal.specs.Answer.{Rules, is_abandoned, orphans}
-use Rattle.sv_queue.specs.Queue.{QueueView, last_position, entry_at, sent_positions}
+use Rattle.sv_queue.specs.Queue.{QueueView, entry_at, sent_positions}
 use Rattle.sv_queue.proofs.Members.{filter-ext}
 use Rattle.sv_sequencer.specs.declared.sessions.SessionRow.{SessionRow}
 use Rattle.sv_sequencer.specs.Fits.{Fits}

@@ -1,22 +1,19 @@
 -- The sequencer's fields once a new action has an outcome, and once positions are sent.
-use Rattle.std.proofs.Common.{◌≡◌, ℕ, zero, suc, ◌+◌, ◌-◌, ◌<◌, ◌≤◌, Bool, true, false, ◌&&◌, ◌||◌, not, cond, nat_eq, ◌⊎◌, inl, inr, List, [], ◌∷◌, ◌++◌, map, length, get_or, All, Option, ℤ, Some, None, slice_get, refl, sym, ◌∙◌, ap, subst, arith, append-nil, length-append}
-use Rattle.std.proofs.lemmas.Bool.{both_ways, cond_both, eqb-true}
+use Rattle.std.proofs.Common.{◌≡◌, ℕ, zero, suc, ◌+◌, ◌<◌, ◌≤◌, Bool, true, false, cond, nat_eq, ◌⊎◌, inl, inr, List, [], ◌∷◌, ◌++◌, map, length, Some, slice_get, refl, sym, ◌∙◌, ap, subst, arith, length-append}
+use Rattle.std.proofs.lemmas.Bool.{both_ways, eqb-true}
 use Rattle.std.proofs.lemmas.List.{map_push}
-use Rattle.sv_world.specs.Control.{is_in}
-use Rattle.sv_wire.specs.declared.message.Held.{Held}
 use Rattle.sv_wire.specs.declared.message.Request.{Request}
 use Rattle.sv_journal.specs.declared.entry.Entry.{Entry}
-use Rattle.sv_journal.specs.declared.entry.Logged.{Logged}
 use Rattle.sv_journal.specs.declared.entry.Logged.TheVariants as logged
 use Rattle.sv_journal.specs.History.{Outcome, Accepted, Dropped, is_welcome, outcome_in, outcomes_of, accepted, result_at, commit_of}
-use Rattle.sv_journal.specs.Sessions.{is_end, asked_in, life_of, sent_to, named_to}
-use Rattle.sv_journal.specs.Answer.{Rules, reply_to, most_requests}
+use Rattle.sv_journal.specs.Sessions.{is_end, life_of, sent_to, named_to}
+use Rattle.sv_journal.specs.Answer.{Rules, reply_to}
 use Rattle.sv_queue.specs.Queue.{QueueView}
 use Rattle.sv_sequencer.specs.declared.clients.ClientRow.{ClientRow}
 use Rattle.sv_sequencer.specs.declared.clients.Clients.{Clients}
 use Rattle.sv_sequencer.specs.declared.clients.Outcome.{Outcome as OutcomeRow}
 use Rattle.sv_sequencer.specs.declared.sessions.SessionRow.{SessionRow}
-use Rattle.sv_sequencer.specs.Agreement.{IsClientRow, IsSound, Agrees, all_left, ends_owed}
+use Rattle.sv_sequencer.specs.Agreement.{IsClientRow, Agrees}
 use Rattle.sv_sequencer.specs.Clients.{client_row, outcome_value}
 use Rattle.sv_sequencer.specs.Decisions.{IsNext}
 use Rattle.sv_sequencer.specs.Fits.{Fits}
@@ -24,7 +21,7 @@ use Rattle.sv_sequencer.specs.Step.{entry_of}
 use Rattle.sv_sequencer.proofs.AgreeSteps.{sent-quiet, named-quiet, commit-same, life-quiet, AreAfter, rows-next}
 use Rattle.sv_sequencer.proofs.FitMarks.{fits-same}
 use Rattle.sv_sequencer.proofs.HistorySteps.{accepted-quiet, outcomes-next, result-quiet}
-use Rattle.sv_sequencer.proofs.SoundSteps.{all_left-takes, owed-same, IsSoundStep, sound-next}
+use Rattle.sv_sequencer.proofs.SoundSteps.{all_left-takes, owed-same, sound-next}
 
 -- An element of a list with one more is one of the list, or that one.
 pub get-push : {X : Type 0} (xs : List X) (y z : X) (n : ℕ) → slice_get (xs ++ y ∷ []) n ≡ Some z → (slice_get xs n ≡ Some z) ⊎ (y ≡ z)

@@ -1,17 +1,15 @@
 -- The sequencer's fields once results are noted and installed.
-use Rattle.std.proofs.Common.{◌≡◌, ℕ, zero, suc, ◌+◌, ◌-◌, ◌<◌, ◌≤◌, Bool, true, false, ◌&&◌, ◌||◌, not, cond, nat_eq, nat_lt, nat_le, ◌⊎◌, inl, inr, List, [], ◌∷◌, ◌++◌, map, length, get_or, All, Option, ℤ, Some, None, is_some, slice_get, refl, sym, ◌∙◌, ap, subst, arith}
-use Rattle.std.proofs.lemmas.Bool.{both_ways, cases_Bool, cases_lt, eqb-true, ne_eqb, or_parts, ltb-false, ltb-true, or_left}
-use Rattle.std.specs.List.{list_any}
+use Rattle.std.proofs.Common.{◌≡◌, ℕ, zero, suc, ◌<◌, ◌≤◌, Bool, true, false, List, [], ◌∷◌, length, All, Option, ℤ, Some, None, is_some, slice_get, refl, sym, ◌∙◌, ap, subst, arith}
+use Rattle.std.proofs.lemmas.Bool.{both_ways, ne_eqb}
 use Rattle.sv_world.specs.Control.{is_in}
 use Rattle.sv_wire.specs.declared.message.Done1.{Done1}
 use Rattle.sv_wire.specs.declared.message.Request.{Request}
 use Rattle.sv_wire.specs.declared.message.Request.TheVariants as requests
 use Rattle.sv_journal.specs.declared.entry.Entry.{Entry}
-use Rattle.sv_journal.specs.declared.entry.Logged.{Logged}
 use Rattle.sv_journal.specs.declared.entry.Logged.TheVariants as logged
-use Rattle.sv_journal.specs.History.{either, is_relay, reported, reports, outcomes_of, accepted, result_at, run_length, commit_of}
+use Rattle.sv_journal.specs.History.{either, is_relay, reported, reports, accepted, result_at, run_length, commit_of}
 use Rattle.sv_journal.specs.Sessions.{is_end, positions_in, named_in, sent_to, named_to}
-use Rattle.sv_journal.specs.Answer.{Rules, reply_to, is_bad_result, is_bad_done, commit_with}
+use Rattle.sv_journal.specs.Answer.{Rules, reply_to}
 use Rattle.sv_queue.specs.Queue.{QueueView, last_position, installed}
 use Rattle.sv_sequencer.specs.declared.clients.Clients.{Clients}
 use Rattle.sv_sequencer.specs.declared.sessions.SessionRow.{SessionRow}
@@ -20,11 +18,11 @@ use Rattle.sv_sequencer.specs.Fits.{Fits}
 use Rattle.sv_sequencer.specs.Relays.{with_reports}
 use Rattle.sv_sequencer.specs.Step.{entry_of}
 use Rattle.sv_sequencer.proofs.AgreeSteps.{sent-quiet, named-quiet, life-quiet, AreAfter, rows-next}
-use Rattle.sv_sequencer.proofs.FitInstalls.{view_by, fits-installed, installed-commit}
+use Rattle.sv_sequencer.proofs.FitInstalls.{fits-installed, installed-commit}
 use Rattle.sv_sequencer.proofs.FitMarks.{fits-same}
 use Rattle.sv_sequencer.proofs.FitReports.{fits-reports, commit-reports}
-use Rattle.sv_sequencer.proofs.HistorySteps.{accepted-quiet, outcomes-quiet, run_length-is, run_length-most, run_length-passes}
-use Rattle.sv_sequencer.proofs.SoundSteps.{all_left-falls, owed-same, IsSoundStep, sound-next}
+use Rattle.sv_sequencer.proofs.HistorySteps.{accepted-quiet, outcomes-quiet, run_length-is, run_length-passes}
+use Rattle.sv_sequencer.proofs.SoundSteps.{all_left-falls, owed-same, sound-next}
 
 -- Of results at positions up to a number, none is for a later one.
 pub reported-none : (ds : List Done1) (m p : ℕ) → All (λ (d : Done1). d.pos ≤ m) ds → m < p → reported p ds ≡ None

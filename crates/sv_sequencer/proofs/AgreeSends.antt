@@ -1,5 +1,5 @@
 -- The sequencer's fields once positions are sent to a session, and once one begins.
-use Rattle.std.proofs.Common.{◌≡◌, ℕ, zero, suc, ◌+◌, ◌-◌, ◌<◌, ◌≤◌, Bool, true, false, ◌&&◌, ◌||◌, not, cond, nat_eq, max, ◌⊎◌, inl, inr, List, [], ◌∷◌, ◌++◌, map, length, get_or, All, Option, ℤ, Some, None, is_some, slice_get, refl, sym, ◌∙◌, ap, subst, arith, append-nil, length-append}
+use Rattle.std.proofs.Common.{◌≡◌, ℕ, zero, suc, ◌+◌, ◌<◌, ◌≤◌, Bool, true, false, ◌&&◌, cond, nat_eq, max, List, [], ◌∷◌, ◌++◌, map, length, All, is_some, slice_get, refl, sym, ◌∙◌, ap, subst, arith, length-append}
 use Rattle.std.proofs.lemmas.Bool.{both_ways, cond_both, cond-false, eqb-true, and_right}
 use Rattle.sv_world.specs.Control.{is_in}
 use Rattle.sv_world.proofs.Members.{is_in-one}
@@ -7,28 +7,27 @@ use Rattle.sv_influence.proofs.Places.{members-all}
 use Rattle.sv_wire.specs.declared.message.Held.{Held}
 use Rattle.sv_wire.specs.declared.message.Request.{Request}
 use Rattle.sv_journal.specs.declared.entry.Entry.{Entry}
-use Rattle.sv_journal.specs.declared.entry.Logged.{Logged}
 use Rattle.sv_journal.specs.declared.entry.Logged.TheVariants as logged
-use Rattle.sv_journal.specs.History.{Outcome, Accepted, is_client, is_noted, joining, outcomes_of, accepted, result_at, run_length, commit_of}
-use Rattle.sv_journal.specs.Sessions.{is_end, life_in, life_of, names, named_in, sent_to, named_to}
+use Rattle.sv_journal.specs.History.{Accepted, is_client, is_noted, outcomes_of, accepted, result_at, run_length, commit_of}
+use Rattle.sv_journal.specs.Sessions.{is_end, life_in, life_of, names, sent_to, named_to}
 use Rattle.sv_journal.specs.Answer.{Rules, reply_to}
 use Rattle.sv_queue.specs.Queue.{QueueView, IsUncommitted, last_position, with_action, with_given}
 use Rattle.sv_sequencer.specs.declared.clients.ClientRow.{ClientRow}
 use Rattle.sv_sequencer.specs.declared.clients.Clients.{Clients}
 use Rattle.sv_sequencer.specs.declared.clients.Outcome.TheVariants as rows
 use Rattle.sv_sequencer.specs.declared.sessions.SessionRow.{SessionRow}
-use Rattle.sv_sequencer.specs.Agreement.{IsClientRow, IsSound, Agrees, all_left, ends_owed}
+use Rattle.sv_sequencer.specs.Agreement.{IsClientRow, Agrees}
 use Rattle.sv_sequencer.specs.Clients.{client_row, outcome_value}
 use Rattle.sv_sequencer.specs.Decisions.{IsOld, IsNext, IsJoin, action_in}
 use Rattle.sv_sequencer.specs.Fits.{Fits}
 use Rattle.sv_sequencer.specs.Relays.{marked_all, given_all}
 use Rattle.sv_sequencer.specs.Step.{entry_of}
 use Rattle.sv_sequencer.proofs.AgreeNext.{settled_row, client-next, settles-next, placed-next}
-use Rattle.sv_sequencer.proofs.AgreeSteps.{sent-quiet, named-quiet, commit-same, life-quiet, AreAfter, rows-next}
+use Rattle.sv_sequencer.proofs.AgreeSteps.{sent-quiet, commit-same, life-quiet, AreAfter, rows-next}
 use Rattle.sv_sequencer.proofs.FitMarks.{sent_also, named_also, fits-same, fits-marked, fits-given, commit-marked}
 use Rattle.sv_sequencer.proofs.FitPush.{fits-pushed}
 use Rattle.sv_sequencer.proofs.HistorySteps.{accepted-quiet, accepted-old, accepted-next, authored_by, outcomes-quiet, outcomes-old, result-quiet}
-use Rattle.sv_sequencer.proofs.SoundSteps.{all_left-falls, all_left-takes, owed-same, IsSoundStep, sound-next}
+use Rattle.sv_sequencer.proofs.SoundSteps.{all_left-falls, all_left-takes, owed-same, sound-next}
 
 pub commit-given : (v : QueueView) (head : List Held) (s : ℕ) → (given_all v head s).commit ≡ v.commit
 commit-given v [] s = refl

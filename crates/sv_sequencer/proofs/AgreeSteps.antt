@@ -1,26 +1,24 @@
 -- The sequencer's fields against a history with one more entry.
-use Rattle.std.proofs.Common.{◌≡◌, ℕ, zero, suc, ◌+◌, ◌-◌, ◌<◌, ◌≤◌, Bool, true, false, ◌&&◌, ◌||◌, not, cond, nat_eq, max, ◌⊎◌, inl, inr, List, [], ◌∷◌, ◌++◌, map, length, get_or, Option, ℤ, Some, None, is_some, slice_get, refl, sym, ◌∙◌, ap, subst, arith, append-nil}
+use Rattle.std.proofs.Common.{◌≡◌, ℕ, zero, suc, ◌<◌, ◌≤◌, Bool, true, false, ◌&&◌, cond, nat_eq, max, List, [], ◌∷◌, ◌++◌, length, get_or, is_some, slice_get, refl, sym, ◌∙◌, ap, subst, arith, append-nil}
 use Rattle.std.proofs.lemmas.Bool.{both_ways}
 use Rattle.sv_world.specs.Control.{is_in}
 use Rattle.sv_wire.specs.declared.message.Request.{Request}
 use Rattle.sv_journal.specs.declared.entry.Entry.{Entry}
 use Rattle.sv_journal.specs.declared.entry.Logged.{Logged}
-use Rattle.sv_journal.specs.History.{Accepted, is_welcome, is_relay, is_noted, reports, joining, is_client, outcomes_of, accepted, result_at, run_length, commit_of}
-use Rattle.sv_journal.specs.Sessions.{is_end, welcomes, life_in, life_of, positions_in, named_in, sent_to, named_to}
+use Rattle.sv_journal.specs.History.{is_welcome, is_noted, joining, is_client, accepted, result_at, run_length, commit_of}
+use Rattle.sv_journal.specs.Sessions.{life_in, life_of, positions_in, named_in, sent_to, named_to}
 use Rattle.sv_journal.specs.Answer.{Rules, reply_to}
 use Rattle.sv_queue.specs.Queue.{QueueView}
-use Rattle.sv_sequencer.specs.declared.clients.ClientRow.{ClientRow}
 use Rattle.sv_sequencer.specs.declared.clients.Clients.{Clients}
 use Rattle.sv_sequencer.specs.declared.sessions.SessionRow.{SessionRow}
-use Rattle.sv_sequencer.specs.Agreement.{IsClientRow, IsSound, Agrees, all_left, ends_owed}
-use Rattle.sv_sequencer.specs.Clients.{client_row}
+use Rattle.sv_sequencer.specs.Agreement.{Agrees, ends_owed}
 use Rattle.sv_sequencer.specs.Decisions.{IsQuiet}
 use Rattle.sv_sequencer.specs.Fits.{Fits}
-use Rattle.sv_sequencer.specs.Rows.{no_session, session_after, is_ended, IsSessionRow}
+use Rattle.sv_sequencer.specs.Rows.{no_session, session_after, IsSessionRow}
 use Rattle.sv_sequencer.specs.Step.{entry_of}
 use Rattle.sv_sequencer.proofs.FitMarks.{fits-same}
 use Rattle.sv_sequencer.proofs.HistorySteps.{accepted-quiet, result-quiet}
-use Rattle.sv_sequencer.proofs.SoundSteps.{row-next, all_left-falls, owed-same, owed-end, IsSoundStep, sound-next}
+use Rattle.sv_sequencer.proofs.SoundSteps.{row-next, all_left-falls, sound-next}
 
 pub sent-quiet : (e : Entry) (h : List Entry) (s : ℕ) → positions_in e.reply ≡ [] → sent_to h s ≡ sent_to (e ∷ h) s
 sent-quiet e h s q = go (nat_eq e.session s)

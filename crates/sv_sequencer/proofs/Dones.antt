@@ -1,9 +1,8 @@
 -- Reported results that may be taken.
-use Rattle.std.proofs.Common.{◌≡◌, ℕ, zero, suc, ◌+◌, ◌-◌, ◌<◌, ◌≤◌, Bool, true, false, ◌&&◌, ◌||◌, not, nat_eq, nat_lt, ◌==◌, List, [], ◌∷◌, map, length, get_or, All, Option, ℤ, refl, sym, ◌∙◌, ap, subst, arith}
+use Rattle.std.proofs.Common.{◌≡◌, ℕ, zero, suc, ◌<◌, ◌≤◌, Bool, true, false, ◌&&◌, ◌||◌, not, nat_lt, ◌==◌, List, [], ◌∷◌, map, length, get_or, All, ℤ, refl, sym, ◌∙◌, ap, arith}
 use Rattle.std.proofs.lemmas.Bool.{or_parts, ltb-true, ltb-false, lt-ltb, not-false, eqb-true, and_parts}
 use Rattle.std.specs.List.{list_any, list_all}
 use Rattle.sv_world.specs.declared.action.Action.{Action}
-use Rattle.sv_world.specs.declared.world.Shape.{Shape}
 use Rattle.sv_world.specs.Control.{is_in, action_at}
 use Rattle.sv_world.specs.Faults.{is_ascending}
 use Rattle.sv_world.specs.Sets.{write_set}
@@ -12,7 +11,7 @@ use Rattle.sv_journal.specs.declared.entry.Entry.{Entry}
 use Rattle.sv_journal.specs.History.{accepted, actions_of, result_at, commit_of}
 use Rattle.sv_journal.specs.Sessions.{sent_to, named_to}
 use Rattle.sv_journal.specs.Answer.{Rules, is_bad_result, is_bad_done}
-use Rattle.sv_queue.specs.Queue.{QueueView, last_position, entry_at, queue_actions, sent_positions}
+use Rattle.sv_queue.specs.Queue.{QueueView, last_position, queue_actions, sent_positions}
 use Rattle.sv_queue.specs.Worlds.{HaveAttrs}
 use Rattle.sv_sequencer.specs.Fits.{Fits}
 use Rattle.sv_sequencer.specs.Relays.{is_bad_report, CanReport}

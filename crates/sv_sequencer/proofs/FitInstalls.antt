@@ -1,6 +1,6 @@
 -- A queue whose results are installed.
-use Rattle.std.proofs.Common.{◌≡◌, ℕ, zero, suc, ◌+◌, ◌-◌, ◌<◌, ◌≤◌, Bool, true, false, ◌&&◌, ◌||◌, cond, nat_eq, nat_le, ◌⊎◌, inl, inr, List, [], ◌∷◌, ◌++◌, map, filter, length, get_or, set, Option, ℤ, Some, is_some, unwrap_or, refl, sym, ◌∙◌, ap, subst, arith, add-one}
-use Rattle.std.proofs.lemmas.Bool.{cases_eq, cases_Bool, eq-eqb, eqb-true, ne_eqb, cond-true, cond-false, and_right, and_left, le-leb, lt-leb, leb-true, leb-false, or_left, or_right, or_cases, and_parts, cond_both, cases_lt}
+use Rattle.std.proofs.Common.{◌≡◌, ℕ, zero, suc, ◌+◌, ◌-◌, ◌<◌, ◌≤◌, Bool, true, false, ◌&&◌, ◌||◌, cond, nat_eq, nat_le, ◌⊎◌, inl, inr, List, [], ◌∷◌, ◌++◌, filter, length, get_or, set, Option, ℤ, is_some, unwrap_or, refl, sym, ◌∙◌, ap, subst, arith, add-one}
+use Rattle.std.proofs.lemmas.Bool.{cases_eq, cases_Bool, eq-eqb, eqb-true, ne_eqb, cond-false, and_right, and_left, le-leb, lt-leb, leb-true, leb-false, or_left, or_right, or_cases, and_parts, cond_both, cases_lt}
 use Rattle.std.proofs.lemmas.List.Folds.{list_any-append}
 use Rattle.std.specs.List.{list_any}
 use Rattle.sv_world.specs.declared.action.Action.{Action}
@@ -8,17 +8,15 @@ use Rattle.sv_world.specs.declared.world.Shape.{Shape}
 use Rattle.sv_world.specs.declared.world.World.{World}
 use Rattle.sv_world.specs.Control.{is_in, action_at, last_writer}
 use Rattle.sv_world.specs.Sets.{write_set}
-use Rattle.sv_world.proofs.Writers.{last_writer-most}
 use Rattle.sv_eval.specs.Serial.{put_all}
 use Rattle.sv_queue.specs.declared.queued.Queued.{Queued}
 use Rattle.sv_queue.specs.Pairs.{is_pair}
-use Rattle.sv_queue.specs.Queue.{QueueView, last_position, entry_at, no_entry, put_values, given_by, ready, installed, first_installed}
+use Rattle.sv_queue.specs.Queue.{QueueView, entry_at, no_entry, put_values, given_by, ready, installed, first_installed}
 use Rattle.sv_queue.proofs.Installs.{installed-first, installed-none}
 use Rattle.sv_queue.proofs.Members.{is_in-append, is_in-filter}
 use Rattle.sv_queue.proofs.PairSets.{is_pair-where}
-use Rattle.sv_journal.specs.History.{Authored, authored_at}
+use Rattle.sv_journal.specs.History.{Authored}
 use Rattle.sv_sequencer.specs.Fits.{actions_in, values_after, gives, IsEntry, Fits}
-use Rattle.sv_sequencer.proofs.FitMarks.{or_false}
 use Rattle.sv_sequencer.proofs.FitPush.{authored-action}
 
 put_same : (world : List (List ℤ)) (xs : List ℕ) (values : List (List ℤ)) → put_values world xs values ≡ put_all world xs values

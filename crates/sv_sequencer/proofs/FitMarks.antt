@@ -1,6 +1,6 @@
 -- A queue whose positions are sent to a session, and whose objects are given to it.
-use Rattle.std.proofs.Common.{◌≡◌, ◌≢◌, ℕ, zero, suc, ◌+◌, ◌-◌, ◌<◌, ◌≤◌, Bool, true, false, ◌&&◌, ◌||◌, not, cond, nat_eq, nat_le, ◌⊎◌, inl, inr, List, [], ◌∷◌, ◌++◌, map, filter, length, set, get_or, All, Option, ℤ, refl, sym, ◌∙◌, ap, subst, arith, length-set, append_assoc, append-nil}
-use Rattle.std.proofs.lemmas.Bool.{cases_eq, cases_Bool, eq-eqb, ne_eqb, cond-true, cond-false, and_right, le-leb, lt-leb, or_right}
+use Rattle.std.proofs.Common.{◌≡◌, ℕ, zero, suc, ◌+◌, ◌-◌, ◌<◌, ◌≤◌, Bool, true, false, ◌&&◌, ◌||◌, cond, nat_eq, nat_le, inl, inr, List, [], ◌∷◌, ◌++◌, filter, All, Option, ℤ, refl, sym, ◌∙◌, ap, subst, arith, length-set, append_assoc, append-nil}
+use Rattle.std.proofs.lemmas.Bool.{cases_eq, eq-eqb, ne_eqb, and_right, le-leb, lt-leb, or_right}
 use Rattle.std.proofs.lemmas.List.{get_or-set_same, get_or-set_other}
 use Rattle.std.proofs.lemmas.List.Elements.{filter-append}
 use Rattle.std.proofs.lemmas.List.Folds.{list_any-append}

@@ -1,5 +1,5 @@
 -- A queue with one more action.
-use Rattle.std.proofs.Common.{◌≡◌, ℕ, zero, suc, ◌+◌, ◌-◌, ◌<◌, ◌≤◌, Bool, true, false, ◌&&◌, nat_le, ◌⊎◌, inl, inr, List, [], ◌∷◌, ◌++◌, map, filter, length, get_or, Option, ℤ, None, refl, sym, ◌∙◌, ap, subst, arith, length-append}
+use Rattle.std.proofs.Common.{◌≡◌, ℕ, zero, suc, ◌-◌, ◌<◌, ◌≤◌, true, false, ◌&&◌, nat_le, inl, inr, List, [], ◌∷◌, ◌++◌, filter, length, Option, ℤ, None, refl, sym, ◌∙◌, ap, subst, arith, length-append}
 use Rattle.std.proofs.lemmas.Bool.{cases_eq, false_from_ne_true}
 use Rattle.std.proofs.lemmas.List.{get_or_append_left, get_or_push, map_push, length-map}
 use Rattle.std.proofs.Math.ListN.{get_or-map}
@@ -11,8 +11,7 @@ use Rattle.sv_world.specs.Control.{is_in, blank, action_at, last_writer}
 use Rattle.sv_world.specs.Sets.{write_set}
 use Rattle.sv_world.proofs.Writers.{action_at-append, last_writer-same}
 use Rattle.sv_queue.specs.declared.queued.Queued.{Queued}
-use Rattle.sv_queue.specs.Pairs.{is_pair}
-use Rattle.sv_queue.specs.Queue.{QueueView, last_position, entry_at, no_entry, with_action}
+use Rattle.sv_queue.specs.Queue.{QueueView, entry_at, no_entry, with_action}
 use Rattle.sv_queue.proofs.Members.{filter-ext}
 use Rattle.sv_journal.specs.History.{Authored, authored_at}
 use Rattle.sv_sequencer.specs.Fits.{actions_in, values_after, gives, IsEntry, Fits}

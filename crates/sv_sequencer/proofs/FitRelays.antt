@@ -1,25 +1,25 @@
 -- What a fitting queue says of relays, influence and reported results.
-use Rattle.std.proofs.Common.{◌≡◌, ℕ, zero, suc, ◌+◌, ◌-◌, ◌<◌, ◌≤◌, Bool, true, false, ◌&&◌, ◌⊎◌, inl, inr, List, [], ◌∷◌, ◌++◌, map, filter, length, get_or, replicate, Option, ℤ, refl, sym, ◌∙◌, ap, subst, arith, nat_lt}
-use Rattle.std.proofs.lemmas.Bool.{cases_lt, false_from_ne_true, ltb-true}
+use Rattle.std.proofs.Common.{◌≡◌, ℕ, zero, suc, ◌-◌, ◌<◌, ◌≤◌, true, inl, inr, List, [], ◌∷◌, map, filter, length, get_or, replicate, Option, ℤ, refl, sym, ◌∙◌, ap, arith}
+use Rattle.std.proofs.lemmas.Bool.{cases_lt, false_from_ne_true}
 use Rattle.std.proofs.lemmas.List.{get_or-append_right, length-replicate, get_or_past}
 use Rattle.std.proofs.Math.ListN.{get_or-map}
 use Rattle.sv_world.specs.declared.action.Action.{Action}
 use Rattle.sv_world.specs.declared.world.Shape.{Shape}
 use Rattle.sv_world.specs.declared.world.World.{World}
-use Rattle.sv_world.specs.Control.{is_in, below, blank, action_at, needed_for, head_for, influence, chain_length, influence_distance, distance, greatest}
+use Rattle.sv_world.specs.Control.{is_in, below, blank, action_at, needed_for, head_for, influence, influence_distance, distance, greatest}
 use Rattle.sv_world.proofs.Members.{is_in-head, is_in-tail}
 use Rattle.sv_world.proofs.Needs.{needed-agree}
 use Rattle.sv_world.proofs.Bases.{head_for-agree, below-is_in}
 use Rattle.sv_world.proofs.Influences.{influence-agree, influence-bounds}
 use Rattle.sv_queue.specs.declared.queued.Queued.{Queued}
 use Rattle.sv_queue.specs.Pairs.{is_pair}
-use Rattle.sv_queue.specs.Queue.{QueueView, IsUncommitted, last_position, entry_at, no_entry, actions_of, queue_actions, sent_positions, given_objects}
+use Rattle.sv_queue.specs.Queue.{QueueView, entry_at, no_entry, actions_of, queue_actions, sent_positions, given_objects}
 use Rattle.sv_queue.proofs.Entries.{in_marked}
 use Rattle.sv_queue.proofs.Members.{filter-ext}
 use Rattle.sv_influence.specs.Lacking.{lacking, base_objects}
 use Rattle.sv_influence.proofs.Looks.{queue_length}
 use Rattle.sv_journal.specs.History.{Authored}
-use Rattle.sv_sequencer.specs.Fits.{actions_in, gives, IsEntry, Fits}
+use Rattle.sv_sequencer.specs.Fits.{actions_in, gives, Fits}
 use Rattle.sv_sequencer.proofs.FitPush.{authored-action, length-actions}
 
 pub queue-action : (v : QueueView) (p : ℕ) → v.commit < p → action_at (queue_actions v) p ≡ (entry_at v p).action

@@ -1,12 +1,12 @@
 -- A queue that keeps reported results.
-use Rattle.std.proofs.Common.{◌≡◌, ℕ, suc, ◌+◌, ◌-◌, ◌<◌, ◌≤◌, Bool, true, false, ◌&&◌, cond, nat_eq, nat_lt, ◌⊎◌, inl, inr, List, [], ◌∷◌, length, get_or, All, Option, ℤ, Some, None, is_some, is_none, refl, sym, ◌∙◌, ap, subst, arith}
+use Rattle.std.proofs.Common.{◌≡◌, ℕ, suc, ◌<◌, ◌≤◌, Bool, true, false, ◌&&◌, cond, nat_eq, nat_lt, inl, inr, List, [], ◌∷◌, length, get_or, All, Option, ℤ, Some, None, is_some, is_none, refl, sym, ◌∙◌, ap, subst, arith}
 use Rattle.std.proofs.lemmas.Bool.{cases_eq, eq-eqb, eqb-true, ne_eqb, cond-true, cond-false, ltb-true, ltb-false}
 use Rattle.sv_world.specs.declared.action.Action.{Action}
 use Rattle.sv_world.specs.declared.world.World.{World}
 use Rattle.sv_world.specs.Sets.{write_set}
 use Rattle.sv_wire.specs.declared.message.Done1.{Done1}
 use Rattle.sv_queue.specs.declared.queued.Queued.{Queued}
-use Rattle.sv_queue.specs.Queue.{QueueView, last_position, entry_at, with_entry, with_result}
+use Rattle.sv_queue.specs.Queue.{QueueView, last_position, entry_at, with_result}
 use Rattle.sv_journal.specs.History.{Authored, either, reported}
 use Rattle.sv_sequencer.specs.Fits.{actions_in, IsEntry, Fits}
 use Rattle.sv_sequencer.specs.Relays.{with_report, with_reports, CanReport}

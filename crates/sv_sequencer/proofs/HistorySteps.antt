@@ -1,15 +1,9 @@
 -- What one more entry makes of what a history says.
-use Rattle.std.proofs.Common.{◌≡◌, ℕ, zero, suc, ◌+◌, ◌-◌, ◌<◌, ◌≤◌, Bool, true, false, ◌&&◌, ◌||◌, not, cond, nat_eq, max, ◌⊎◌, inl, inr, List, [], ◌∷◌, ◌++◌, map, length, Option, ℤ, Some, None, is_some, refl, sym, ◌∙◌, ap, subst, arith, append-nil}
-use Rattle.std.proofs.lemmas.Bool.{cases_eq, cases_Bool, eq-eqb, eqb-true, ne_eqb, cond-true, cond-false, cond_both, and_right, both_ways}
-use Rattle.sv_world.specs.declared.action.Action.{Action}
-use Rattle.sv_world.specs.Control.{is_in}
+use Rattle.std.proofs.Common.{◌≡◌, ℕ, zero, suc, ◌<◌, ◌≤◌, Bool, true, false, ◌&&◌, cond, nat_eq, ◌⊎◌, inl, inr, List, [], ◌∷◌, ◌++◌, length, Option, ℤ, Some, None, refl, sym, ◌∙◌, ap, subst, arith, append-nil}
+use Rattle.std.proofs.lemmas.Bool.{cases_eq, eq-eqb, eqb-true, ne_eqb, cond-true, cond-false, cond_both, and_right, both_ways}
 use Rattle.sv_wire.specs.declared.message.Request.{Request}
-use Rattle.sv_wire.specs.declared.message.Request.TheVariants as requests
 use Rattle.sv_journal.specs.declared.entry.Entry.{Entry}
-use Rattle.sv_journal.specs.declared.entry.Logged.{Logged}
-use Rattle.sv_journal.specs.declared.entry.Logged.TheVariants as logged
-use Rattle.sv_journal.specs.History.{Authored, Outcome, either, is_relay, is_noted, is_client, is_submit_of, outcome_in, new_action, client_of, outcomes_of, accepted, next_seq, result_at, run_length, commit_of, installed, actions_of, reports}
-use Rattle.sv_journal.specs.Sessions.{positions_in, sent_to}
+use Rattle.sv_journal.specs.History.{Authored, either, is_relay, is_noted, is_client, is_submit_of, outcome_in, new_action, client_of, outcomes_of, accepted, next_seq, result_at, run_length, installed, actions_of, reports}
 use Rattle.sv_sequencer.specs.Decisions.{IsOld, IsNext, action_in}
 use Rattle.sv_sequencer.specs.Fits.{actions_in, values_after}
 

@@ -1,12 +1,11 @@
 -- Kept outcomes, by the rows of clients.
-use Rattle.std.proofs.Common.{◌≡◌, ℕ, zero, suc, ◌+◌, ◌<◌, ◌≤◌, Bool, true, false, ◌&&◌, cond, nat_eq, nat_le, List, [], ◌∷◌, map, length, Option, Some, None, slice_get, refl, sym, ◌∙◌, ap, subst, arith}
+use Rattle.std.proofs.Common.{◌≡◌, ℕ, zero, suc, ◌+◌, ◌<◌, Bool, true, false, ◌&&◌, cond, nat_eq, nat_le, List, [], ◌∷◌, map, length, Some, None, slice_get, refl, sym, ◌∙◌, ap, arith}
 use Rattle.std.proofs.lemmas.Bool.{cond_both, cond-false, eqb-true, ne_eqb, and_right}
 use Rattle.std.proofs.lemmas.List.{length-map}
 use Rattle.sv_world.specs.declared.action.Action.{Action}
-use Rattle.sv_wire.specs.declared.message.Request.{Request}
 use Rattle.sv_wire.specs.declared.message.Request.TheVariants as requests
 use Rattle.sv_journal.specs.declared.entry.Entry.{Entry}
-use Rattle.sv_journal.specs.History.{Authored, Outcome, Accepted, is_client, is_submit_of, new_action, client_of, outcomes_of, accepted, next_seq}
+use Rattle.sv_journal.specs.History.{Outcome, is_client, new_action, client_of, outcomes_of, next_seq}
 use Rattle.sv_journal.specs.Sessions.{outcome_at, kept_count, kept_outcome}
 use Rattle.sv_sequencer.specs.declared.clients.ClientRow.{ClientRow}
 use Rattle.sv_sequencer.specs.Agreement.{IsClientRow}

@@ -1,8 +1,7 @@
 -- The sequencer's fields as it is opened.
-use Rattle.std.proofs.Common.{◌≡◌, ℕ, zero, suc, ◌+◌, ◌-◌, ◌*◌, ◌<◌, ◌≤◌, Bool, true, false, List, [], length, get_or, replicate, Option, refl, sym, ◌∙◌, ap, subst, arith}
+use Rattle.std.proofs.Common.{◌≡◌, ℕ, zero, suc, ◌*◌, ◌≤◌, false, List, [], get_or, replicate, refl, sym, ◌∙◌, ap, subst, arith}
 use Rattle.std.proofs.lemmas.Bool.{both_ways}
 use Rattle.std.proofs.lemmas.List.{get_or-replicate}
-use Rattle.sv_world.specs.declared.world.World.{World}
 use Rattle.sv_queue.specs.Queue.{opening_queue}
 use Rattle.sv_journal.specs.Answer.{Rules}
 use Rattle.sv_sequencer.specs.declared.clients.Clients.{Clients}

@@ -1,8 +1,7 @@
 -- Replies that change nothing but their own session.
-use Rattle.std.proofs.Common.{◌≡◌, ℕ, suc, List, [], ◌∷◌, length, refl}
+use Rattle.std.proofs.Common.{ℕ, List, refl}
 use Rattle.sv_wire.specs.declared.message.Request.{Request}
 use Rattle.sv_journal.specs.declared.entry.Entry.{Entry}
-use Rattle.sv_journal.specs.declared.entry.Logged.{Logged}
 use Rattle.sv_journal.specs.declared.entry.Logged.TheVariants as logged
 use Rattle.sv_sequencer.specs.Decisions.{IsOld, IsQuiet}
 use Rattle.sv_sequencer.specs.Step.{entry_of}

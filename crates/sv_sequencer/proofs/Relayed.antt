@@ -1,5 +1,5 @@
 -- What a relay of a queue's position has is within the queue.
-use Rattle.std.proofs.Common.{◌≡◌, ℕ, zero, suc, ◌+◌, ◌<◌, ◌≤◌, ◌-◌, Bool, true, false, ◌&&◌, cond, nat_lt, nat_le, is_none, List, [], ◌∷◌, map, drop, length, get_or, All, Option, option_map, Some, None, slice_get, slice_index_or, refl, sym, ◌∙◌, ap, subst, arith, add-one, length-append}
+use Rattle.std.proofs.Common.{◌≡◌, ℕ, zero, suc, ◌+◌, ◌<◌, ◌≤◌, ◌-◌, Bool, true, false, ◌&&◌, cond, nat_lt, nat_le, is_none, List, [], ◌∷◌, map, drop, length, get_or, All, Option, option_map, Some, None, slice_get, slice_index_or, refl, sym, ◌∙◌, ap, subst, arith, length-append}
 use Rattle.std.proofs.lemmas.Bool.{and_parts, ltb-true, lt-ltb, leb-true, leb-false}
 use Rattle.std.proofs.lemmas.List.{drop_more, length-map, get_or-map as read_mapped}
 use Rattle.std.proofs.lemmas.Option.{slice_get-map}

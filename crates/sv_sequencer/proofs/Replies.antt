@@ -1,21 +1,16 @@
 -- The replies that a fitting queue gives, against those of the definition.
-use Rattle.std.proofs.Common.{◌≡◌, ℕ, zero, suc, ◌+◌, ◌-◌, ◌<◌, ◌≤◌, Bool, true, false, ◌&&◌, List, [], ◌∷◌, ◌++◌, map, filter, length, Option, ℤ, slice_index_or, refl, sym, ◌∙◌, ap, subst, arith, length-append}
+use Rattle.std.proofs.Common.{◌≡◌, ℕ, suc, ◌<◌, ◌≤◌, true, List, [], ◌∷◌, ◌++◌, map, filter, length, Option, ℤ, slice_index_or, refl, sym, ◌∙◌, ap, arith, length-append}
 use Rattle.std.proofs.lemmas.List.{map_push}
-use Rattle.sv_world.specs.declared.action.Action.{Action}
 use Rattle.sv_world.specs.declared.world.ClientId.{ClientId}
 use Rattle.sv_world.specs.declared.world.World.{World}
 use Rattle.sv_world.specs.Control.{is_in, below, needed_for, head_for}
 use Rattle.sv_world.proofs.Members.{is_in-head, is_in-tail}
-use Rattle.sv_wire.specs.declared.message.Held.{Held}
-use Rattle.sv_wire.specs.declared.message.Item.{Item}
-use Rattle.sv_queue.specs.declared.queued.Queued.{Queued}
-use Rattle.sv_queue.specs.Queue.{QueueView, IsUncommitted, last_position, entry_at, given_objects}
+use Rattle.sv_queue.specs.Queue.{QueueView, last_position, entry_at, given_objects}
 use Rattle.sv_influence.specs.Lacking.{lacking, base_objects}
 use Rattle.sv_journal.specs.declared.entry.Entry.{Entry}
-use Rattle.sv_journal.specs.declared.entry.Logged.{Logged}
 use Rattle.sv_journal.specs.declared.entry.Logged.TheVariants as logged
 use Rattle.sv_journal.specs.History.{Authored, authored_at, item_at, accepted, actions_of, result_at, commit_of, committed_of}
-use Rattle.sv_journal.specs.Sessions.{sent_to, named_to, already_given}
+use Rattle.sv_journal.specs.Sessions.{sent_to, named_to}
 use Rattle.sv_journal.specs.Answer.{Rules, committed_held, relay_of}
 use Rattle.sv_sequencer.specs.Fits.{actions_in, values_after, gives, IsEntry, Fits}
 use Rattle.sv_sequencer.specs.Relays.{held_in, item_in}

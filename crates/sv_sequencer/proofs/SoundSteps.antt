@@ -1,6 +1,6 @@
 -- What a legal journal keeps, entry by entry.
-use Rattle.std.proofs.Common.{◌≡◌, ℕ, zero, suc, ◌+◌, ◌-◌, ◌*◌, ◌<◌, ◌≤◌, Bool, true, false, ◌&&◌, ◌||◌, not, cond, nat_eq, ◌⊎◌, inl, inr, List, [], ◌∷◌, ◌++◌, length, All, Option, Some, None, slice_get, refl, sym, ◌∙◌, ap, subst, arith}
-use Rattle.std.proofs.lemmas.Bool.{cases_eq, cases_Bool, eq-eqb, eqb-true, ne_eqb, cond_both, or_right}
+use Rattle.std.proofs.Common.{◌≡◌, ℕ, zero, suc, ◌+◌, ◌-◌, ◌<◌, ◌≤◌, Bool, true, false, ◌&&◌, ◌||◌, not, cond, nat_eq, inl, inr, List, ◌∷◌, ◌++◌, length, All, Some, None, slice_get, refl, ◌∙◌, ap, subst, arith}
+use Rattle.std.proofs.lemmas.Bool.{cases_eq, cases_Bool, eq-eqb, ne_eqb, cond_both, or_right}
 use Rattle.sv_world.specs.Control.{is_in}
 use Rattle.sv_world.proofs.Members.{is_in-append_cases}
 use Rattle.sv_journal.specs.declared.entry.Entry.{Entry}
@@ -11,7 +11,6 @@ use Rattle.sv_sequencer.specs.declared.sessions.SessionRow.{SessionRow}
 use Rattle.sv_sequencer.specs.Agreement.{IsSound, all_left, ends_owed}
 use Rattle.sv_sequencer.specs.Rows.{is_ended, requests_left, session_after, IsSessionRow}
 use Rattle.sv_sequencer.proofs.FitMarks.{or_false}
-use Rattle.sv_sequencer.proofs.HistorySteps.{either-nothing}
 
 -- ---- Rows
 

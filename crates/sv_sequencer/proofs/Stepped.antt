@@ -1,5 +1,5 @@
 -- One step of a sequencer, put together.
-use Rattle.std.proofs.Common.{◌≡◌, ℕ, ◌<◌, ◌≤◌, ℤ, List, [], ◌∷◌, ◌++◌, map, length, reverse, All, Option, refl, sym, ◌∙◌, ap, subst, arith}
+use Rattle.std.proofs.Common.{◌≡◌, ℕ, ◌<◌, ℤ, List, [], ◌∷◌, ◌++◌, map, reverse, All, Option, sym, ◌∙◌, ap, arith}
 use Rattle.std.proofs.lemmas.List.{reverse-append}
 use Rattle.sv_world.specs.declared.world.World.{World}
 use Rattle.sv_wire.specs.declared.message.Held.{Held}
@@ -7,16 +7,15 @@ use Rattle.sv_wire.specs.declared.message.Item.{Item}
 use Rattle.sv_wire.specs.declared.message.Reply.{Reply}
 use Rattle.sv_wire.specs.declared.message.Reply.TheVariants as replies
 use Rattle.sv_wire.specs.declared.message.Request.{Request}
-use Rattle.sv_journal.specs.declared.entry.Entry.{Entry}
 use Rattle.sv_journal.specs.declared.entry.Logged.{Logged}
 use Rattle.sv_journal.specs.declared.entry.Logged.TheVariants as logged
 use Rattle.sv_journal.specs.History.{Authored, accepted, full_reply}
-use Rattle.sv_journal.specs.Answer.{Rules, reply_to}
+use Rattle.sv_journal.specs.Answer.{reply_to}
 use Rattle.sv_influence.proofs.Places.{members-all}
-use Rattle.sv_queue.specs.Queue.{QueueView, IsUncommitted, last_position}
+use Rattle.sv_queue.specs.Queue.{QueueView, IsUncommitted}
 use Rattle.sv_sequencer.specs.Fits.{Fits}
 use Rattle.sv_sequencer.specs.Relays.{item_in}
-use Rattle.sv_sequencer.specs.Step.{SequencerView, history, entry_of, Grew, Answered}
+use Rattle.sv_sequencer.specs.Step.{SequencerView, history, entry_of, Answered}
 use Rattle.sv_sequencer.proofs.Replies.{items-are}
 
 -- The journal grew by a copy of the request with the defined reply, and the answer is that reply in full.

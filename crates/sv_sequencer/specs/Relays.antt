@@ -1,5 +1,5 @@
 -- What a relay takes from a queue, and what its delivery and reported results make of it.
-use Rattle.std.specs.Prelude.{◌≡◌, ℕ, ◌<◌, ◌≤◌, Bool, ◌&&◌, ◌||◌, not, ◌==◌, nat_lt, List, [], ◌∷◌, map, length, slice_index_or, Option, Some, None, is_none, All, if◌then◌else◌}
+use Rattle.std.specs.Prelude.{◌≡◌, ℕ, ◌<◌, ◌≤◌, Bool, ◌&&◌, ◌||◌, not, ◌==◌, nat_lt, List, [], ◌∷◌, map, length, slice_index_or, is_none, if◌then◌else◌}
 use Rattle.std.specs.List.{list_all}
 use Rattle.sv_world.specs.Control.{is_in, action_at}
 use Rattle.sv_world.specs.Sets.{write_set}
@@ -7,7 +7,7 @@ use Rattle.sv_wire.specs.declared.message.Done1.{Done1}
 use Rattle.sv_wire.specs.declared.message.Held.{Held}
 use Rattle.sv_wire.specs.declared.message.Item.{Item}
 use Rattle.sv_queue.specs.Worlds.{HaveAttrs}
-use Rattle.sv_queue.specs.Queue.{QueueView, IsUncommitted, last_position, entry_at, queue_actions, sent_positions, with_mark, with_given, with_result}
+use Rattle.sv_queue.specs.Queue.{QueueView, last_position, entry_at, queue_actions, sent_positions, with_mark, with_given, with_result}
 
 -- Objects with their committed values in a queue.
 abbrev pub held_in : QueueView → List ℕ → List Held

@@ -1,7 +1,6 @@
 -- What the sequencer keeps of each session, and what an entry makes of it.
 use Rattle.std.specs.Prelude.{◌≡◌, ℕ, ◌-◌, Bool, false, ◌&&◌, ◌||◌, not, ◌==◌, List, [], ◌∷◌, None, if◌then◌else◌}
 use Rattle.sv_journal.specs.declared.entry.Entry.{Entry}
-use Rattle.sv_journal.specs.declared.entry.Logged.{Logged}
 use Rattle.sv_journal.specs.History.{either, is_welcome, joining, client_of}
 use Rattle.sv_journal.specs.Sessions.{is_last, welcomes, is_over, is_end, asked_in}
 use Rattle.sv_journal.specs.Answer.{most_requests}

@@ -166,6 +166,7 @@ fn join_two(alloc: Global, server: &mut Sequencer) -> Result<(), AllocError> {
 }
 
 const INC0: &str = "reads 0 writes 0 { set @0.0 (@0.0 + 1); }";
+
 const INC1: &str = "reads 1 writes 1 { set @1.0 (@1.0 + 1); }";
 
 #[test]
@@ -182,13 +183,21 @@ fn relays_only_influences(rt: HostRuntime) -> Result<(), Fail> {
     ask(&mut s, 0, &submit(alloc, 2, inc2)?, &mut out)?;
     ask(&mut s, 0, &submit(alloc, 3, a3)?, &mut out)?;
     ask(&mut s, 1, &submit(alloc, 1, inc3)?, &mut out)?;
-    ask(&mut s, 1, &done(alloc, &[(1, 30), (3, 70), (4, 71)])?, &mut out)?;
-    assert_eq!(rt; out.as_str(), "relay 1 at 0 [0=(10) 1=(20)] [1:c0.1]
+    ask(
+        &mut s,
+        1,
+        &done(alloc, &[(1, 30), (3, 70), (4, 71)])?,
+        &mut out,
+    )?;
+    assert_eq!(rt;
+        out.as_str(),
+        "relay 1 at 0 [0=(10) 1=(20)] [1:c0.1]
 relay 2 at 0 [2=(30)] [2:c0.2]
 relay 3 at 0 [3=(40)] [3:c0.3]
 relay 1 at 0 [0=(10) 1=(20) 3=(40)] [1:c0.1 3:c0.3 4:c1.1]
 noted 1
-");
+"
+    );
     Ok(())
 }
 
@@ -204,11 +213,14 @@ fn evaluates_late_older_action_at_its_place(rt: HostRuntime) -> Result<(), Fail>
     ask(&mut s, 0, &submit(alloc, 2, a2)?, &mut out)?;
     ask(&mut s, 1, &submit(alloc, 1, a3)?, &mut out)?;
     ask(&mut s, 1, &submit(alloc, 2, INC0)?, &mut out)?;
-    assert_eq!(rt; out.as_str(), "relay 1 at 0 [1=(5)] [1:c0.1]
+    assert_eq!(rt;
+        out.as_str(),
+        "relay 1 at 0 [1=(5)] [1:c0.1]
 relay 2 at 0 [0=(100)] [2:c0.2]
 relay 1 at 0 [1=(5)] [1:c0.1 3:c1.1]
 relay 2 at 0 [0=(100)] [2:c0.2 4:c1.2]
-");
+"
+    );
     Ok(())
 }
 
@@ -223,12 +235,15 @@ fn completions_out_of_order(rt: HostRuntime) -> Result<(), Fail> {
     ask(&mut s, 1, &done(alloc, &[(2, 1)])?, &mut out)?;
     ask(&mut s, 0, &done(alloc, &[(1, 1)])?, &mut out)?;
     ask(&mut s, 0, &done(alloc, &[(1, 9)])?, &mut out)?;
-    assert_eq!(rt; out.as_str(), "relay 1 at 0 [0=(0)] [1:c0.1]
+    assert_eq!(rt;
+        out.as_str(),
+        "relay 1 at 0 [0=(0)] [1:c0.1]
 relay 1 at 0 [1=(0)] [2:c1.1]
 noted 0
 noted 2
 noted 2
-");
+"
+    );
     Ok(())
 }
 
@@ -245,14 +260,17 @@ fn drops_long_chains(rt: HostRuntime) -> Result<(), Fail> {
     ask(&mut s, 0, &done(alloc, &[(2, 2)])?, &mut out)?;
     ask(&mut s, 0, &submit(alloc, 4, INC0)?, &mut out)?;
     ask(&mut s, 0, &submit(alloc, 3, INC0)?, &mut out)?;
-    assert_eq!(rt; out.as_str(), "relay 1 at 0 [0=(0)] [1:c0.1]
+    assert_eq!(rt;
+        out.as_str(),
+        "relay 1 at 0 [0=(0)] [1:c0.1]
 relay 2 at 0 [] [2:c0.2]
 dropped 3 chain 2 far 0
 noted 1
 noted 2
 relay 4 at 2 [] [3:c0.4]
 dropped 3 chain 2 far 0
-");
+"
+    );
     Ok(())
 }
 
@@ -264,9 +282,12 @@ fn drops_any_chain_at_bound_0(rt: HostRuntime) -> Result<(), Fail> {
     let mut out = String::new(alloc);
     ask(&mut s, 0, &submit(alloc, 1, INC0)?, &mut out)?;
     ask(&mut s, 0, &submit(alloc, 2, INC0)?, &mut out)?;
-    assert_eq!(rt; out.as_str(), "relay 1 at 0 [0=(0)] [1:c0.1]
+    assert_eq!(rt;
+        out.as_str(),
+        "relay 1 at 0 [0=(0)] [1:c0.1]
 dropped 2 chain 1 far 0
-");
+"
+    );
     Ok(())
 }
 
@@ -281,13 +302,16 @@ fn resends_lost_relay(rt: HostRuntime) -> Result<(), Fail> {
     ask(&mut s, 0, &Request::Poll, &mut out)?;
     ask(&mut s, 1, &submit(alloc, 1, INC0)?, &mut out)?;
     ask(&mut s, 2, &join(alloc, 0, 2, &[])?, &mut out)?;
-    assert_eq!(rt; out.as_str(), "welcome 0 []
+    assert_eq!(rt;
+        out.as_str(),
+        "welcome 0 []
 relay 1 at 0 [0=(0)] [1:c0.1]
 welcome 0 []
 refused 4 0
 relay 1 at 0 [0=(0)] [1:c0.1]
 refused 11 2
-");
+"
+    );
     Ok(())
 }
 
@@ -302,12 +326,15 @@ fn settles_retry_after_commit(rt: HostRuntime) -> Result<(), Fail> {
     ask(&mut s, 1, &done(alloc, &[(1, 1), (2, 2)])?, &mut out)?;
     ask(&mut s, 2, &join(alloc, 0, 2, &[0])?, &mut out)?;
     ask(&mut s, 2, &submit(alloc, 1, INC0)?, &mut out)?;
-    assert_eq!(rt; out.as_str(), "relay 1 at 0 [0=(0)] [1:c0.1]
+    assert_eq!(rt;
+        out.as_str(),
+        "relay 1 at 0 [0=(0)] [1:c0.1]
 relay 1 at 0 [0=(0)] [1:c0.1 2:c1.1]
 noted 2
 welcome 2 [0=(2)]
 settled 1 at 1
-");
+"
+    );
     assert_eq!(rt; s.commit(), 2);
     Ok(())
 }
@@ -324,13 +351,16 @@ fn relays_orphan_on_poll(rt: HostRuntime) -> Result<(), Fail> {
     ask(&mut s, 1, &Request::Poll, &mut out)?;
     ask(&mut s, 1, &Request::Poll, &mut out)?;
     ask(&mut s, 1, &done(alloc, &[(1, 1)])?, &mut out)?;
-    assert_eq!(rt; out.as_str(), "relay 1 at 0 [0=(0)] [1:c0.1]
+    assert_eq!(rt;
+        out.as_str(),
+        "relay 1 at 0 [0=(0)] [1:c0.1]
 idle
 bye
 relay 0 at 0 [0=(0)] [1:c0.1]
 idle
 noted 1
-");
+"
+    );
     Ok(())
 }
 
@@ -349,7 +379,9 @@ fn sequencer_refusals(rt: HostRuntime) -> Result<(), Fail> {
     ask(&mut s, 0, &done(alloc, &[(1, 1)])?, &mut out)?;
     ask(&mut s, 0, &Request::Bad, &mut out)?;
     ask(&mut s, 0, &Request::Poll, &mut out)?;
-    assert_eq!(rt; out.as_str(), "refused 2 0
+    assert_eq!(rt;
+        out.as_str(),
+        "refused 2 0
 refused 10 0
 refused 8 0
 welcome 0 [0=(0)]
@@ -359,7 +391,8 @@ refused 6 4
 refused 7 0
 refused 1 0
 refused 4 0
-");
+"
+    );
     Ok(())
 }
 
@@ -370,17 +403,65 @@ fn drops_what_was_made_far_away(rt: HostRuntime) -> Result<(), Fail> {
     join_two(alloc, &mut s)?;
     let mut out = String::new(alloc);
     let body = "{ set @0.0 (@0.0 + 1); }";
-    ask(&mut s, 0, &submit(alloc, 1, format!(in alloc; "reads 0 writes 0 at 0 0 {body}")?.as_str())?, &mut out)?;
-    ask(&mut s, 0, &submit(alloc, 2, format!(in alloc; "reads 0 writes 0 at 11 3 {body}")?.as_str())?, &mut out)?;
-    ask(&mut s, 0, &submit(alloc, 3, format!(in alloc; "reads 0 writes 0 at 10 -10 {body}")?.as_str())?, &mut out)?;
-    ask(&mut s, 0, &submit(alloc, 4, format!(in alloc; "reads 0 writes 0 at 0 0 {body}")?.as_str())?, &mut out)?;
-    ask(&mut s, 0, &submit(alloc, 5, format!(in alloc; "reads 0 writes 0 at -1 0 {body}")?.as_str())?, &mut out)?;
-    assert_eq!(rt; out.as_str(), "relay 1 at 0 [0=(0)] [1:c0.1]
+    ask(
+        &mut s,
+        0,
+        &submit(
+            alloc,
+            1,
+            format!(in alloc; "reads 0 writes 0 at 0 0 {body}")?.as_str(),
+        )?,
+        &mut out,
+    )?;
+    ask(
+        &mut s,
+        0,
+        &submit(
+            alloc,
+            2,
+            format!(in alloc; "reads 0 writes 0 at 11 3 {body}")?.as_str(),
+        )?,
+        &mut out,
+    )?;
+    ask(
+        &mut s,
+        0,
+        &submit(
+            alloc,
+            3,
+            format!(in alloc; "reads 0 writes 0 at 10 -10 {body}")?.as_str(),
+        )?,
+        &mut out,
+    )?;
+    ask(
+        &mut s,
+        0,
+        &submit(
+            alloc,
+            4,
+            format!(in alloc; "reads 0 writes 0 at 0 0 {body}")?.as_str(),
+        )?,
+        &mut out,
+    )?;
+    ask(
+        &mut s,
+        0,
+        &submit(
+            alloc,
+            5,
+            format!(in alloc; "reads 0 writes 0 at -1 0 {body}")?.as_str(),
+        )?,
+        &mut out,
+    )?;
+    assert_eq!(rt;
+        out.as_str(),
+        "relay 1 at 0 [0=(0)] [1:c0.1]
 dropped 2 chain 1 far 11
 relay 3 at 0 [] [2:c0.3]
 relay 4 at 0 [] [3:c0.4]
 dropped 5 chain 3 far 11
-");
+"
+    );
     Ok(())
 }
 
@@ -392,9 +473,12 @@ fn repeats_relay_without_items(rt: HostRuntime) -> Result<(), Fail> {
     let mut out = String::new(alloc);
     ask(&mut s, 0, &submit(alloc, 1, INC0)?, &mut out)?;
     ask(&mut s, 0, &submit(alloc, 1, INC0)?, &mut out)?;
-    assert_eq!(rt; out.as_str(), "relay 1 at 0 [0=(0)] [1:c0.1]
+    assert_eq!(rt;
+        out.as_str(),
+        "relay 1 at 0 [0=(0)] [1:c0.1]
 relay 1 at 0 [] []
-");
+"
+    );
     Ok(())
 }
 
@@ -419,11 +503,14 @@ fn spent_sessions_are_over(rt: HostRuntime) -> Result<(), Fail> {
     spend(alloc, &mut other)?;
     ask(&mut other, 0, &Request::Bad, &mut out)?;
     ask(&mut other, 0, &Request::End, &mut out)?;
-    assert_eq!(rt; out.as_str(), "refused 9 0
+    assert_eq!(rt;
+        out.as_str(),
+        "refused 9 0
 refused 4 0
 refused 9 0
 bye
-");
+"
+    );
     Ok(())
 }
 
@@ -438,11 +525,14 @@ fn a_later_life_may_join_in_an_earlier_session(rt: HostRuntime) -> Result<(), Fa
     ask(&mut s, 3, &Request::Poll, &mut out)?;
     ask(&mut s, 1, &Request::Poll, &mut out)?;
     ask(&mut s, 1, &Request::Leave, &mut out)?;
-    assert_eq!(rt; out.as_str(), "welcome 0 []
+    assert_eq!(rt;
+        out.as_str(),
+        "welcome 0 []
 welcome 0 [0=(7)]
 refused 4 0
 idle
 bye
-");
+"
+    );
     Ok(())
 }

@@ -1,4 +1,4 @@
-use Rattle.std.proofs.Common.{◌≡◌, sym, ◌∙◌}
+use Rattle.std.proofs.Common.{sym, ◌∙◌}
 use Rattle.sv_sequencer.proofs.Relayed.{outcome-within, outcome-outside}
 use Rattle.sv_sequencer.proofs.clients.outcome_at.Goals as goal
 

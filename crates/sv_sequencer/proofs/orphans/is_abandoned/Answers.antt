@@ -1,4 +1,4 @@
-use Rattle.std.proofs.Common.{◌≡◌, ℕ, ◌<◌, true, false, ◌||◌, not, length, get_or, inl, inr, rules, sym, ◌∙◌, ap, arith}
+use Rattle.std.proofs.Common.{◌≡◌, ◌<◌, true, ◌||◌, not, length, get_or, inl, inr, sym, ◌∙◌, arith}
 use Rattle.std.proofs.lemmas.Bool.{false_from_ne_true, both_ways, or_cases, not-true}
 use Rattle.sv_world.specs.Control.{is_in}
 use Rattle.sv_queue.specs.Queue.{sent_positions}

@@ -1,4 +1,4 @@
-use Rattle.std.proofs.Common.{◌≡◌, ℕ, suc, ◌+◌, ◌<◌, ◌≤◌, true, sym, ◌∙◌, ap, arith}
+use Rattle.std.proofs.Common.{suc, ◌+◌, sym, ◌∙◌, arith}
 use Rattle.sv_queue.specs.Queue.{last_position}
 use Rattle.sv_sequencer.specs.Orphans.{is_orphan_in}
 use Rattle.sv_sequencer.proofs.Abandoned.{none-below, first-below}

@@ -1,4 +1,4 @@
-use Rattle.std.proofs.Common.{◌≡◌, ℕ, ◌<◌, List, map, All, sym, ◌∙◌, ap, subst}
+use Rattle.std.proofs.Common.{map, All, sym, ◌∙◌, ap, subst}
 use Rattle.sv_world.specs.declared.world.ObjectId.{ObjectId}
 use Rattle.sv_queue.specs.Queue.{IsUncommitted}
 use Rattle.sv_sequencer.proofs.Relayed.{bases-low, lacking-within}

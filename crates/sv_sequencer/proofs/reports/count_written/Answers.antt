@@ -1,8 +1,8 @@
-use Rattle.std.proofs.Common.{◌≡◌, ℕ, ◌+◌, ◌<◌, true, false, cond, drop, length, sym, ◌∙◌, ap, arith}
+use Rattle.std.proofs.Common.{◌≡◌, ℕ, ◌<◌, cond, length, sym, ◌∙◌, arith}
 use Rattle.std.proofs.lemmas.Bool.{cond-true, cond-false}
 use Rattle.std.proofs.lemmas.List.{length-map}
 use Rattle.sv_world.specs.declared.world.ObjectId.{ObjectId}
-use Rattle.sv_world.specs.Sets.{is_in_mask, at_mask, read_set}
+use Rattle.sv_world.specs.Sets.{is_in_mask, read_set}
 use Rattle.sv_sequencer.proofs.Relayed.{mask-step}
 use Rattle.sv_sequencer.proofs.reports.count_written.Goals as goal
 use Rattle.sv_sequencer.proofs.reports.count_written.Goals.{then-is_in_mask, else-is_in_mask}

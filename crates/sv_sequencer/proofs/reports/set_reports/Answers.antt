@@ -1,7 +1,6 @@
-use Rattle.std.proofs.Common.{◌≡◌, ℕ, suc, ◌<◌, ◌≤◌, List, [], ◌∷◌, length, All, sym, ◌∙◌, ap, subst, arith}
+use Rattle.std.proofs.Common.{sym, ◌∙◌, ap}
 use Rattle.std.specs.Vec.Iter.{into_iter_items}
-use Rattle.sv_wire.specs.declared.message.Done1.{Done1}
-use Rattle.sv_sequencer.specs.Relays.{with_reports, CanReport}
+use Rattle.sv_sequencer.specs.Relays.{with_reports}
 use Rattle.sv_sequencer.proofs.FitReports.{can_report_first, can_report_rest}
 use Rattle.sv_sequencer.proofs.reports.set_reports.Goals as goal
 

@@ -1,4 +1,4 @@
-use Rattle.std.proofs.Common.{◌≡◌, None, sym, ap, subst, ◌∙◌}
+use Rattle.std.proofs.Common.{sym, ap, ◌∙◌}
 use Rattle.sv_world.specs.Faults.{first_fault_of_action}
 use Rattle.sv_world.proofs.Good.{good_of_none}
 use Rattle.sv_sequencer.specs.Decisions.{action_in}

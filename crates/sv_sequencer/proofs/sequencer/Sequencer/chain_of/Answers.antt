@@ -1,4 +1,4 @@
-use Rattle.std.proofs.Common.{◌≡◌, length, reverse, sym, ◌∙◌, ap, subst}
+use Rattle.std.proofs.Common.{◌≡◌, length, reverse, ◌∙◌, ap, subst}
 use Rattle.sv_world.specs.Control.{chain_length, influence_distance}
 use Rattle.sv_journal.specs.History.{accepted, actions_of, result_at, commit_of}
 use Rattle.sv_journal.specs.Sessions.{sent_to, named_to}

@@ -1,4 +1,4 @@
-use Rattle.std.proofs.Common.{◌≡◌, [], slice_index_or, reverse, sym, ◌∙◌, ap, subst}
+use Rattle.std.proofs.Common.{◌≡◌, [], slice_index_or, reverse, ◌∙◌, ap, subst}
 use Rattle.sv_journal.specs.History.{accepted, committed_of}
 use Rattle.sv_journal.specs.Sessions.{sent_to, named_to}
 use Rattle.sv_sequencer.specs.Invariant.{rules_of}

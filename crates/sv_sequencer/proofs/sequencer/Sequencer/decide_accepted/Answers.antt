@@ -1,4 +1,4 @@
-use Rattle.std.proofs.Common.{◌≡◌, ◌<◌, arith}
+use Rattle.std.proofs.Common.{◌<◌, arith}
 use Rattle.sv_journal.specs.History.{commit_of}
 use Rattle.sv_sequencer.specs.Step.{history}
 use Rattle.sv_sequencer.proofs.Kept.{old-submit}

@@ -1,4 +1,3 @@
-use Rattle.std.proofs.Common.{◌≡◌}
 use Rattle.sv_sequencer.specs.Step.{history}
 use Rattle.sv_sequencer.proofs.Kept.{old-poll}
 use Rattle.sv_sequencer.proofs.Relayed.{orphan-within}

@@ -1,32 +1,14 @@
-use Rattle.std.proofs.Common.{◌≡◌, ◌≤◌, ◌<◌, ◌+◌, ◌-◌, ℕ, suc, false, List, [], ◌∷◌, ◌++◌, map, length, reverse, All, None, refl, sym, ◌∙◌, ap, subst, arith}
-use Rattle.sv_wire.specs.declared.message.Held.{Held}
-use Rattle.sv_wire.specs.declared.message.Item.{Item}
-use Rattle.sv_wire.specs.declared.message.Request.{Request}
-use Rattle.sv_wire.specs.declared.message.Request.TheVariants as requests
-use Rattle.sv_wire.specs.declared.message.Reply.TheVariants as replies
-use Rattle.sv_journal.specs.declared.entry.Entry.{Entry}
+use Rattle.std.proofs.Common.{◌≡◌, ◌≤◌, ◌<◌, ◌+◌, false, length, reverse, refl, sym, ◌∙◌, ap, subst, arith}
 use Rattle.sv_journal.specs.declared.entry.Logged.TheVariants as logged
 use Rattle.sv_journal.specs.View.{JournalView}
-use Rattle.sv_journal.specs.History.{Authored, accepted, actions_of, result_at, commit_of, full_reply}
-use Rattle.sv_journal.specs.Sessions.{is_end, sent_to, named_to}
-use Rattle.sv_journal.specs.Answer.{Rules, relay_of, reply_to, commit_with, is_bad_done, committed_held}
-use Rattle.sv_queue.specs.Queue.{QueueView, IsUncommitted, last_position, with_action, installed}
-use Rattle.sv_influence.specs.Lacking.{lacking, base_objects}
-use Rattle.sv_sequencer.specs.Agreement.{Agrees, ends_owed}
-use Rattle.sv_sequencer.specs.Decisions.{IsOld, IsNext, IsJoin, interest_in, action_in, results_in}
+use Rattle.sv_journal.specs.Sessions.{is_end}
+use Rattle.sv_journal.specs.Answer.{Rules, reply_to}
+use Rattle.sv_sequencer.specs.Agreement.{ends_owed}
+use Rattle.sv_sequencer.specs.Decisions.{IsNext}
 use Rattle.sv_sequencer.specs.Invariant.{rules_of}
-use Rattle.sv_sequencer.specs.Relays.{held_in, item_in, marked_all, given_all, with_reports, CanReport}
 use Rattle.sv_sequencer.specs.Step.{SequencerView, history, entry_of}
 use Rattle.sv_sequencer.proofs.AgreeNext.{agree-drop}
-use Rattle.sv_sequencer.proofs.AgreeNoted.{noted, agree-noted}
-use Rattle.sv_sequencer.proofs.AgreeSends.{agree-relay, agree-accept, agree-welcome}
-use Rattle.sv_sequencer.proofs.Dones.{can_report_done}
-use Rattle.sv_sequencer.proofs.Entered.{rules_with, reshaped, moved}
-use Rattle.sv_sequencer.proofs.FitPush.{fits-pushed}
-use Rattle.sv_sequencer.proofs.HistorySteps.{accepted-old, accepted-next, authored_by}
-use Rattle.sv_sequencer.proofs.Relayed.{lacking-within, held-low, bases-below, objects-low}
-use Rattle.sv_sequencer.proofs.Replies.{committed-is, held-is, relay-is, relay-new}
-use Rattle.sv_sequencer.proofs.Stepped.{answered, relayed-whole}
+use Rattle.sv_sequencer.proofs.Entered.{reshaped, moved}
 use Rattle.sv_sequencer.proofs.sequencer.Sequencer.drop_new.Goals as goal
 
 pub invariant_of-self-2 : goal.invariant_of-self-2

@@ -1,4 +1,4 @@
-use Rattle.std.proofs.Common.{◌≡◌, reverse, sym, ◌∙◌, ap, subst, arith, ◌<◌}
+use Rattle.std.proofs.Common.{◌≡◌, reverse, ◌∙◌, ap, subst, arith, ◌<◌}
 use Rattle.sv_journal.specs.Answer.{is_bad_done}
 use Rattle.sv_sequencer.specs.Invariant.{rules_of}
 use Rattle.sv_sequencer.specs.Step.{SequencerView, history}

@@ -1,6 +1,4 @@
-use Rattle.std.proofs.Common.{◌≡◌, ◌≤◌, ◌<◌, ◌+◌, ◌-◌, false, length, reverse, refl, sym, ◌∙◌, ap, subst, arith}
-use Rattle.sv_wire.specs.declared.message.Request.{Request}
-use Rattle.sv_journal.specs.declared.entry.Entry.{Entry}
+use Rattle.std.proofs.Common.{◌≡◌, ◌≤◌, ◌<◌, ◌+◌, false, length, reverse, refl, sym, ◌∙◌, ap, subst, arith}
 use Rattle.sv_journal.specs.View.{JournalView}
 use Rattle.sv_journal.specs.Sessions.{is_end}
 use Rattle.sv_journal.specs.Answer.{Rules, reply_to}

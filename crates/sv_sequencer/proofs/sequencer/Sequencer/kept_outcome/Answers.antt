@@ -1,5 +1,5 @@
-use Rattle.std.proofs.Common.{◌≡◌, ◌<◌, ◌≤◌, ℕ, length, Some, option_map, reverse, sym, ◌∙◌, ap, subst}
-use Rattle.sv_journal.specs.History.{Accepted, accepted, next_seq}
+use Rattle.std.proofs.Common.{◌≡◌, ◌≤◌, ℕ, length, Some, option_map, reverse, ◌∙◌, subst}
+use Rattle.sv_journal.specs.History.{Accepted, accepted}
 use Rattle.sv_journal.specs.Sessions.{kept_outcome}
 use Rattle.sv_sequencer.specs.Clients.{client_row, outcome_value}
 use Rattle.sv_sequencer.specs.Step.{SequencerView, history}

@@ -1,4 +1,4 @@
-use Rattle.std.proofs.Common.{◌≡◌, ℕ, List, [], ◌∷◌, length, reverse, refl, MatchOption, sym, ◌∙◌, ap, subst}
+use Rattle.std.proofs.Common.{◌≡◌, ℕ, List, [], ◌∷◌, reverse, refl, MatchOption, ◌∙◌, ap, subst}
 use Rattle.sv_journal.specs.Answer.{orphans}
 use Rattle.sv_sequencer.specs.Invariant.{rules_of}
 use Rattle.sv_sequencer.specs.Orphans.{orphans_in}
