@@ -1,3 +1,4 @@
+mod Checked
 mod Filling
 mod Named
 mod Places

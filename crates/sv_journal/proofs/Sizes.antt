@@ -66,7 +66,7 @@ more_numbers g n (suc m) le = go (cases_lt m n) (λ l. more_numbers g n m l)
     go (inr l) ih = omega (arith, ih l, step_up g m)
 
 -- what an entry after h adds
-abbrev new_by : Entry → List Entry → List Authored
+abbrev pub new_by : Entry → List Entry → List Authored
 new_by e h = if is_relay e.reply then new_action (client_of h e.session) (λ k. suc (length (outcomes_of h k))) e.request else []
 
 pub commit_grows : (e : Entry) (h : List Entry) → commit_of h ≤ commit_of (e ∷ h)
@@ -146,7 +146,7 @@ one_new bound e h k seq a one chain inv p first last = go (cases_lt (length (acc
       chain = chain;
     }
 
-kept_known : (h : List Entry) (k seq : ℕ) (o : Outcome) → kept_outcome h k seq ≡ Some o → seq < next_seq h k
+pub kept_known : (h : List Entry) (k seq : ℕ) (o : Outcome) → kept_outcome h k seq ≡ Some o → seq < next_seq h k
 kept_known h k seq o =
     cond_both (nat_le (next_seq h k) (seq + kept_count)) (outcome_at (outcomes_of h k) seq) None
     (λ (x : Option Outcome). x ≡ Some o → seq < next_seq h k) (λ _ e. known seq e) (λ _ e. absurd (none e))
@@ -158,13 +158,13 @@ kept_known h k seq o =
     known zero e = absurd (none e)
     known (suc n) e = omega (arith, slice_get_within (outcomes_of h k) n o e)
 
-not_by_poll : (o : Option ℕ) (next : ℕ → ℕ) → new_action o next requests.Poll ≡ []
+pub not_by_poll : (o : Option ℕ) (next : ℕ → ℕ) → new_action o next requests.Poll ≡ []
 not_by_poll None next = refl
 not_by_poll (Some k) next = refl
 
 -- ---- Each reply
 
-abbrev entry_of : ℕ → Request → Logged → Entry
+abbrev pub entry_of : ℕ → Request → Logged → Entry
 entry_of s q w = record { session = s; request = q; reply = w }
 
 abbrev KeepsBound : ℕ → List Entry → ℕ → Request → Logged → Type 0

@@ -1,8 +1,9 @@
 -- Laws of journals.
-use Rattle.std.specs.Prelude.{◌≡◌, ◌+◌, ◌≤◌, All, List, ◌++◌, length, reverse}
+use Rattle.std.specs.Prelude.{◌≡◌, ◌+◌, ◌≤◌, All, List, ◌++◌, length, reverse, None}
+use Rattle.sv_world.specs.Faults.{first_fault_of_action}
 use Rattle.sv_journal.specs.declared.entry.Entry.{Entry}
 use Rattle.sv_journal.specs.declared.entry.Logged.{Logged}
-use Rattle.sv_journal.specs.History.{accepted, full_reply}
+use Rattle.sv_journal.specs.History.{Authored, accepted, full_reply}
 use Rattle.sv_journal.specs.Answer.{Rules, Legal}
 use Rattle.sv_journal.specs.Sessions.{positions_in}
 use Rattle.sv_journal.specs.Text.{NamesAccepted, RelaysNameAccepted}
@@ -19,3 +20,7 @@ LegalRelaysNameAccepted = (r : Rules) (h : List Entry) → Legal r h → RelaysN
 -- A relay of a legal journal has at most one item more than the bound.
 abbrev pub LegalRelaysAreSmall : Type 0
 LegalRelaysAreSmall = (r : Rules) (h : List Entry) → Legal r h → All (λ (e : Entry). length (positions_in e.reply) ≤ r.bound + 1) h
+
+-- No cause of refusal applies to an accepted action of a legal journal.
+abbrev pub LegalActionsAreGood : Type 0
+LegalActionsAreGood = (r : Rules) (h : List Entry) → Legal r h → All (λ (a : Authored). first_fault_of_action r.world.shape a.action ≡ None) (accepted h)

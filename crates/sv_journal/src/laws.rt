@@ -1,6 +1,6 @@
 //! Laws of journals.
 ghost use Rattle.sv_journal.specs.Examples.{ExamplesAreAnswered};
-ghost use Rattle.sv_journal.specs.Laws.{FullRepliesStay, LegalRelaysAreSmall, LegalRelaysNameAccepted};
+ghost use Rattle.sv_journal.specs.Laws.{FullRepliesStay, LegalActionsAreGood, LegalRelaysAreSmall, LegalRelaysNameAccepted};
 
 use sv_world::{missing_influences_ascend, missing_influences_only_shrink};
 
@@ -27,3 +27,8 @@ pub fn legal_relays_are_small()
 {
     missing_influences_only_shrink();
 }
+
+/// No accepted action of a legal journal is one that its shape refuses.
+pub fn legal_actions_are_good()
+    ensures { LegalActionsAreGood }
+{}

@@ -1,0 +1,51 @@
+-- The accepted actions of a legal journal are good.
+use Rattle.std.proofs.Common.{◌≡◌, ℕ, suc, List, [], ◌∷◌, ◌++◌, length, None, refl, sym, subst, arith}
+use Rattle.std.specs.List.{AllByRecursion}
+use Rattle.std.proofs.lemmas.Bool.{eq-eqb, ne_eqb}
+use Rattle.std.proofs.lemmas.List.Elements.{All-from_recursion}
+use Rattle.sv_world.specs.declared.world.Shape.{Shape}
+use Rattle.sv_world.specs.Faults.{first_fault_of_action}
+use Rattle.sv_wire.specs.declared.message.Request.{Request}
+use Rattle.sv_journal.specs.declared.entry.Entry.{Entry}
+use Rattle.sv_journal.specs.declared.entry.Logged.{Logged}
+use Rattle.sv_journal.specs.History.{client_of, outcomes_of, Accepted, Authored, accepted, actions_of, next_seq}
+use Rattle.sv_journal.specs.Answer.{Rules, relay_of, reply_to, Legal}
+use Rattle.sv_journal.specs.Laws.{LegalActionsAreGood}
+use Rattle.sv_journal.proofs.Replies.{each_reply}
+use Rattle.sv_journal.proofs.Sizes.{new_by, entry_of, kept_known, not_by_poll}
+
+abbrev IsGood : Shape → Authored → Type 0
+IsGood shape a = first_fault_of_action shape a.action ≡ None
+
+abbrev AreGood : Shape → List Entry → Type 0
+AreGood shape h = AllByRecursion (IsGood shape) (accepted h)
+
+all_append : (P : Authored → Type 0) (xs ys : List Authored) → AllByRecursion P xs → AllByRecursion P ys → AllByRecursion P (xs ++ ys)
+all_append P [] ys h k = k
+all_append P (x ∷ xs) ys h k = (h.0, all_append P xs ys h.1 k)
+
+with_new : (shape : Shape) (e : Entry) (h : List Entry) (new : List Authored) → new_by e h ≡ new → AllByRecursion (IsGood shape) new → AreGood shape h → AreGood shape (e ∷ h)
+with_new shape e h new is good inv =
+    all_append (IsGood shape) (accepted h) (new_by e h) inv (subst (AllByRecursion (IsGood shape)) (sym is) good)
+
+good_kept : (r : Rules) (h : List Entry) (s : ℕ) (q : Request) → AreGood r.world.shape h → AreGood r.world.shape (entry_of s q (reply_to r h s q) ∷ h)
+good_kept r h s q inv = each_reply r h s q (λ w. AreGood r.world.shape (entry_of s q w ∷ h)) (record {
+  other = λ w e. with_new r.world.shape (entry_of s q w) h [] (rw e refl) tt inv;
+  fresh = λ k seq a client asked next good chain.
+      with_new r.world.shape (entry_of s q (relay_of r h (actions_of h ++ a ∷ []) s seq (suc (length (actions_of h))))) h (record { client = k; seq = seq; action = a } ∷ [])
+      (rw (client, asked, eq-eqb seq (next_seq h k) next) refl) (good, tt) inv;
+  again = λ k seq p a client asked kept above.
+      with_new r.world.shape (entry_of s q (relay_of r h (actions_of h) s seq p)) h []
+      (rw (client, asked, ne_eqb seq (next_seq h k) (λ e. omega (arith, e, kept_known h k seq (Accepted p) kept))) refl) tt inv;
+  poll = λ p ps asked first.
+      with_new r.world.shape (entry_of s q (relay_of r h (actions_of h) s 0 p)) h []
+      (rw asked (not_by_poll (client_of h s) (λ k. suc (length (outcomes_of h k))))) tt inv;
+})
+
+legal_good : (r : Rules) (h : List Entry) → Legal r h → AreGood r.world.shape h
+legal_good r [] legal = tt
+legal_good r (e ∷ h) legal =
+    subst (λ (w : Logged). AreGood r.world.shape (entry_of e.session e.request w ∷ h)) (sym legal.0) (good_kept r h e.session e.request (legal_good r h legal.1))
+
+pub legal_actions_are_good : LegalActionsAreGood
+legal_actions_are_good r h legal = All-from_recursion (IsGood r.world.shape) (accepted h) (legal_good r h legal)
