@@ -2,3 +2,8 @@ pub mod Traces
 pub mod Same
 pub mod Taking
 pub mod Proper
+pub mod Kinds
+pub mod Seen
+pub mod Evaluating
+pub mod Invariant
+pub mod Answers

@@ -1,5 +1,5 @@
 -- Whether two actions are the same, by a test.
-use Rattle.std.specs.Prelude.{Bool, true, false, ◌==◌, ◌&&◌, List, [], ◌∷◌}
+use Rattle.std.specs.Prelude.{Bool, true, false, ◌==◌, ◌&&◌, ℤ, List, [], ◌∷◌, map}
 use Rattle.std.specs.Ordering.{int_eq}
 use lib.Pointwise.{pointwise}
 use Rattle.sv_world.specs.declared.action.Action.{Action}
@@ -15,7 +15,8 @@ use Rattle.sv_world.specs.declared.action.Stmt.{Stmt}
 use Rattle.sv_world.specs.declared.action.Stmt.TheOpen.{Stmt-F}
 use Rattle.sv_world.specs.declared.action.Stmt.TheFolds.{fold-Stmt}
 use Rattle.sv_world.specs.declared.action.Stmt.TheViews.{out-Stmt}
-use Rattle.sv_world.specs.Sets.{read_set}
+use Rattle.sv_world.specs.declared.action.Point.{Point}
+use Rattle.sv_world.specs.declared.world.ObjectId.{ObjectId}
 
 -- One node beside another: the same kind, the same fields, and children that pass.
 abbrev pub same_expr_node : Expr-F (Expr → Bool) → Expr-F Expr → Bool
@@ -59,7 +60,21 @@ same_stmt_node _ _ = false
 abbrev pub is_same_stmt : Stmt → Stmt → Bool
 is_same_stmt = fold-Stmt (Stmt → Bool) (λ node other. same_stmt_node node (out-Stmt other))
 
+-- Two bodies are the same: statement by statement.
+abbrev pub is_same_body : List Stmt → List Stmt → Bool
+is_same_body xs ys = all_pass (map is_same_stmt xs) ys
+
+unfoldable pub are_same_reads : List ObjectId → List ObjectId → Bool
+are_same_reads xs ys = pointwise (λ (x : ObjectId) (y : ObjectId). x.0 == y.0) xs ys
+
+unfoldable pub is_same_point : Point → Point → Bool
+is_same_point a b = int_eq a.x b.x && int_eq a.y b.y
+
 -- Two actions are the same: in reads, mask, origin and body. A law says that this is equality.
 unfoldable pub is_same_action : Action → Action → Bool
-is_same_action a b = pointwise (λ x y. x == y) (read_set a) (read_set b) && a.mask == b.mask
-    && int_eq a.origin.x b.origin.x && int_eq a.origin.y b.origin.y && pointwise is_same_stmt a.body b.body
+is_same_action a b =
+    are_same_reads a.reads b.reads && a.mask == b.mask && is_same_point a.origin b.origin && is_same_body a.body b.body
+
+-- Two lists of values are the same: number by number.
+abbrev pub are_same_values : List (List ℤ) → List (List ℤ) → Bool
+are_same_values vs ws = pointwise (pointwise int_eq) vs ws

@@ -1,6 +1,22 @@
 //! A client of the server, which is its trace: what it did, and the replies that it got, in order.
 #![tactic(auto)]
 
+mod applying;
+mod asking;
+mod checks;
+mod client;
+mod commits;
+mod evaluating;
+mod fault;
+mod kinds;
+mod raising;
+mod same;
+mod taken;
 mod trace;
+mod view;
 
-pub use trace::{Event, Trace};
+pub use client::Client;
+pub use fault::{MakeFault, PollFault, TakeFault};
+pub use same::{same_action, same_actions_are_equal};
+pub use trace::{Event, Mark, Trace};
+pub use view::View;

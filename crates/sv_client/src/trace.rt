@@ -20,6 +20,14 @@ pub enum Event {
     Show(List<ObjectId>),
 }
 
+/// What is noted in a trace beside the calls of a client.
+#[derive(Debug, Drop)]
+pub enum Mark {
+    Cut,
+    Quit,
+    Show(List<ObjectId>),
+}
+
 /// All that a client did. Its sessions are numbered upwards from `first`.
 #[derive(Debug, Drop)]
 pub struct Trace {

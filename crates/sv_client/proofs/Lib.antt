@@ -1,0 +1,16 @@
+pub mod Sessions
+pub mod Outstanding
+pub mod Standing
+pub mod Lasts
+pub mod Keeping
+pub mod Equal
+pub mod Looking
+pub mod Beyond
+pub mod Shifts
+pub mod Masked
+pub mod Items
+pub mod Takes
+pub mod Looks
+pub mod Applies
+pub mod Raised
+pub mod Backwards

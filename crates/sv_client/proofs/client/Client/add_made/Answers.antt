@@ -1,0 +1,37 @@
+use Rattle.std.proofs.Common.{◌≡◌, ◌+◌, ◌<◌, List, [], ◌∷◌, ◌++◌, length, reverse, None, sym, ap, subst, ◌∙◌, arith}
+use Rattle.sv_world.specs.declared.action.Action.{Action}
+use Rattle.sv_world.specs.declared.world.Shape.{Shape}
+use Rattle.sv_world.specs.Faults.{first_fault_of_action, IsGoodAction}
+use Rattle.sv_world.proofs.Good.{good_of_none}
+use Rattle.sv_pending.specs.Made.{PendingList}
+use Rattle.sv_pending.specs.Pending.{kept_of}
+use Rattle.sv_client.specs.declared.kinds.Awaited.{Awaited}
+use Rattle.sv_client.specs.declared.kinds.Awaited.TheVariants as kinds
+use Rattle.sv_client.specs.declared.trace.Event.{Event}
+use Rattle.sv_client.specs.declared.trace.Event.TheVariants as events
+use Rattle.sv_client.specs.Taking.{outstanding}
+use Rattle.sv_client.specs.Proper.{MayMake}
+use Rattle.sv_client.specs.Seen.{ClientView}
+use Rattle.sv_client.specs.Invariant.{who_is, IsClientOf}
+use Rattle.sv_client.proofs.Keeping.{reverse_push, made_keeps, same_long}
+use Rattle.sv_client.proofs.client.Client.add_made.Goals as goal
+
+pub add-requires-clause-good : goal.add-requires-clause-good
+add-requires-clause-good c =
+    let p : c.in_ok-pending.pending.shape ≡ c.self.inside.shape = ap (λ (p : PendingList). p.shape) (c.in_ok-pending.ensures ∙ c.self.invariant.actions) in
+    subst (λ (s : Shape). IsGoodAction s c.args.action) (sym p)
+    (good_of_none c.self.inside.shape c.args.action (subst (λ (v : ClientView). first_fault_of_action v.who.shape c.args.action ≡ None) (sym c.self.view_is) c.requires.good))
+
+pub invariant_of-self-2 : goal.invariant_of-self-2
+invariant_of-self-2 c =
+    let who = who_is c.self.inside in
+    let t = reverse c.self.inside.events.items in
+    let is = c.self.invariant in
+    let long = same_long c.self.inside.awaited.items (outstanding who t) is.awaited.same in
+    let may : MayMake who t c.args.action = subst (λ (v : ClientView). MayMake v.who v.events c.args.action) (sym c.self.view_is) c.requires in
+    let ks = c.in_ok-awaited.ensures ∙ ap (λ (ks : List Awaited). ks ++ kinds.Submit ∷ []) c.deref.ensures.value in
+    let few : length c.self.inside.awaited.items < 16 = omega (arith, long, may.calm) in
+    let after = c.in_ok-add.ensures.ok ∙ ap (λ (p : PendingList). record p { items = p.items ++ record { seq = c.self.inside.made + 1; action = c.args.action; kept = kept_of c.self.inside.versions.held p.items c.args.action } ∷ [] }) c.in_ok-pending.ensures in
+    subst (λ (es : List Event). IsClientOf who es c.self.inside.versions c.add.new.self c.in_ok-awaited.awaited.items c.self.inside.sessions (c.self.inside.made + 1) c.self.inside.told c.self.inside.joined)
+    (sym (reverse_push c.self.inside.events.items c.push.new.self.items (events.Make c.args.action) (c.in_ok-push.ensures.items ∙ ap (λ (a : Action). c.self.inside.events.items ++ events.Make a ∷ []) c.in_ok-noted.ensures)))
+    (made_keeps who t c.self.inside.versions c.self.inside.pending c.self.inside.awaited.items c.self.inside.sessions c.self.inside.made c.self.inside.told c.self.inside.joined is c.args.action c.add.new.self c.in_ok-awaited.awaited.items may after ks few)

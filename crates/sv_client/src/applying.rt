@@ -1,0 +1,197 @@
+//! What a reply does to the values held and to the pending actions.
+ghost use Rattle.std.specs.Prelude.{◌≡◌, ◌==◌, ℕ, List, option_copied, IfOk, IfErr, OnOk, if◌then◌else◌};
+ghost use Rattle.sv_versions.specs.Held.{Held as Kept, AnswersAbove};
+ghost use Rattle.sv_pending.specs.Pending.{redone};
+ghost use Rattle.sv_wire.specs.declared.message.Reply.TheVariants as replies;
+ghost use Rattle.sv_client.specs.declared.fault.TakeFault.TheVariants as faults;
+ghost use Rattle.sv_client.specs.Traces.{are_same, last_values, settled_by, without_front};
+ghost use Rattle.sv_client.specs.Same.{are_same_values};
+ghost use Rattle.sv_client.specs.Evaluating.{IsHeadWithin, ItemsReadWithin, AreAbove, IsFitting, IsApplied, keeps_front};
+
+use crate::evaluating::{evaluate_items, hold_head};
+use crate::fault::TakeFault;
+use std::alloc::{AllocError, Global};
+use sv_pending::Pending;
+use sv_versions::Versions;
+use sv_wire::{Done1, Held, Item, Reply, Request};
+use sv_world::{List, Value};
+
+fn are_same_values(values: &[Value], others: &[Value]) -> bool
+    ensures { result ≡ are_same_values values.now others.now }
+{
+    let [value, rest @ ..] = values else {
+        return others.is_empty();
+    };
+    let [other, other_rest @ ..] = others else {
+        return false;
+    };
+    value.as_slice() == other.as_slice() && are_same_values(rest, other_rest)
+}
+
+/// Whether a result is there and is the one that was kept.
+fn is_kept(own: Option<&[Value]>, kept: Option<&[Value]>) -> bool
+    ensures { result ≡ are_same (option_copied own.entry) (option_copied kept.entry) }
+{
+    match (own, kept) {
+        (Some(values), Some(others)) => are_same_values(values, others),
+        _ => false,
+    }
+}
+
+/// The values of the last result.
+fn last_values(results: &[Done1]) -> Option<&[Value]>
+    ensures { option_copied result ≡ last_values results.now }
+{
+    match results.last() {
+        Some(last) => Some(last.values.as_slice()),
+        None => None,
+    }
+}
+
+fn drop_front(pending: &mut Pending)
+    ensures { pending.new ≡ record pending.old { items = without_front pending.old.items } }
+{
+    if pending.len() > 0 {
+        pending.settle();
+    }
+}
+
+/// Takes the front action out and computes the others again.
+fn reconcile_rest(pending: &mut Pending, versions: &Versions) -> Result<(), AllocError>
+    requires { versions.now.shape ≡ pending.old.shape }
+    ensures shape { pending.new.shape ≡ pending.old.shape }
+    ensures items { OnOk result (pending.new.items ≡ redone versions.now.held (without_front pending.old.items)) }
+{
+    drop_front(pending);
+    pending.reconcile(versions)
+}
+
+fn is_front_kept(pending: &Pending, own: Option<&[Value]>) -> bool
+    ensures { result ≡ keeps_front pending.now.items (option_copied own.entry) }
+{
+    match pending.front() {
+        Some(front) => is_kept(own, front.kept),
+        None => true,
+    }
+}
+
+/// Takes the front action out. Where its result is not the one that it kept, the others are computed again.
+fn settle_own(
+    pending: &mut Pending,
+    versions: &Versions,
+    own: Option<&[Value]>,
+) -> Result<(), AllocError>
+    requires { versions.now.shape ≡ pending.old.shape }
+    ensures shape { pending.new.shape ≡ pending.old.shape }
+    ensures items { OnOk result (pending.new.items ≡ settled_by versions.now.held (option_copied own.entry) pending.old.items) }
+{
+    if is_front_kept(pending, own) {
+        drop_front(pending);
+        return Ok(());
+    }
+    reconcile_rest(pending, versions)
+}
+
+/// Settles the front action by the last result, unless the relay answers a Poll.
+fn settle_by(
+    pending: &mut Pending,
+    versions: &Versions,
+    seq: u32,
+    results: &[Done1],
+) -> Result<(), AllocError>
+    requires { versions.now.shape ≡ pending.old.shape }
+    ensures shape { pending.new.shape ≡ pending.old.shape }
+    ensures items { OnOk result (pending.new.items ≡ (if seq == 0 then pending.old.items else settled_by versions.now.held (last_values results.now) pending.old.items)) }
+{
+    if seq == 0 {
+        return Ok(());
+    }
+    settle_own(pending, versions, last_values(results))
+}
+
+fn apply_relay(
+    alloc: Global,
+    versions: &mut Versions,
+    pending: &mut Pending,
+    seq: u32,
+    commit: u32,
+    head: &[Held],
+    items: &[Item],
+) -> Result<Option<Request>, TakeFault>
+    requires shape { versions.old.shape ≡ pending.old.shape }
+    requires head { IsHeadWithin versions.old.shape.objects head.now }
+    requires reads { ItemsReadWithin versions.old.shape.objects items.now }
+    ensures versions { versions.new.shape ≡ versions.old.shape }
+    ensures shape { pending.new.shape ≡ pending.old.shape }
+    ensures applied { (told : ℕ) (all : List Kept) → AnswersAbove told versions.old.held all → AreAbove told items.now → IsApplied told all (replies.Relay seq commit head.now items.now) pending.old.items result versions.new.held pending.new.items }
+{
+    hold_head(alloc, versions, commit, head)?;
+    let mut results = Vec::with_capacity(alloc, items.len())?;
+    evaluate_items(alloc, versions, items, &mut results)?;
+    settle_by(pending, versions, seq, &results)?;
+    Ok(Some(Request::Done {
+        results: List::from_vec(results),
+    }))
+}
+
+fn apply_welcome(
+    alloc: Global,
+    versions: &mut Versions,
+    commit: u32,
+    head: &[Held],
+) -> Result<Option<Request>, TakeFault>
+    requires { IsHeadWithin versions.old.shape.objects head.now }
+    ensures versions { versions.new.shape ≡ versions.old.shape }
+    ensures applied { (told : ℕ) (all : List Kept) (pending : _) → AnswersAbove told versions.old.held all → IsApplied told all (replies.Welcome commit head.now) pending result versions.new.held pending }
+{
+    hold_head(alloc, versions, commit, head)?;
+    Ok(None)
+}
+
+fn apply_without(versions: &Versions, pending: &mut Pending) -> Result<Option<Request>, TakeFault>
+    requires { versions.now.shape ≡ pending.old.shape }
+    ensures shape { pending.new.shape ≡ pending.old.shape }
+    ensures none { IfOk result (λ done. done ≡ None) }
+    ensures fault { IfErr result (λ fault. fault ≡ faults.Memory) }
+    ensures items { OnOk result (pending.new.items ≡ redone versions.now.held (without_front pending.old.items)) }
+{
+    reconcile_rest(pending, versions)?;
+    Ok(None)
+}
+
+/// Puts a reply into the values held and the pending actions, and answers the Done of a relay. After a refusal they are in the middle.
+pub(crate) fn apply(
+    alloc: Global,
+    versions: &mut Versions,
+    pending: &mut Pending,
+    told: u32,
+    reply: &Reply,
+) -> Result<Option<Request>, TakeFault>
+    requires shape { versions.old.shape ≡ pending.old.shape }
+    requires fits { IsFitting versions.old.shape.objects told reply.now }
+    ensures versions { versions.new.shape ≡ versions.old.shape }
+    ensures shape { pending.new.shape ≡ pending.old.shape }
+    ensures applied { (all : List Kept) → AnswersAbove told versions.old.held all → IsApplied told all reply.now pending.old.items result versions.new.held pending.new.items }
+{
+    match reply {
+        Reply::Welcome { commit, head } => {
+            apply_welcome(alloc, versions, *commit, head.as_slice())
+        }
+        Reply::Relay {
+            seq,
+            commit,
+            head,
+            items,
+        } => apply_relay(
+            alloc,
+            versions,
+            pending,
+            *seq,
+            *commit,
+            head.as_slice(),
+            items.as_slice(),
+        ),
+        Reply::Dropped { .. } | Reply::Settled { .. } => apply_without(versions, pending),
+        Reply::Noted { .. } | Reply::Idle | Reply::Refused { .. } | Reply::Bye => Ok(None),
+    }
+}

@@ -1,0 +1,393 @@
+ghost use Rattle.std.specs.Prelude.{◌≡◌, ◌<◌, ◌≤◌, true, ◌∷◌, [], length, option_to_list, IfOk, IfErr, OnOk, OnErr, MatchResult};
+ghost use Rattle.sv_versions.specs.Held.{count_up_to, latest, read_below};
+ghost use Rattle.sv_client.specs.declared.trace.Event.TheVariants as events;
+ghost use Rattle.sv_client.specs.Traces.{joins, makes, held_of, pending_of, view_of};
+ghost use Rattle.sv_client.specs.Taking.{outstanding, told, first_fault_of_reply};
+ghost use Rattle.sv_client.specs.Proper.{IsGoodIdentity, MayMake, MayPoll, MayLeave, Proper, in_session};
+ghost use Rattle.sv_client.specs.Seen.{new_client, with_event, newly_asked, event_of, trace_from};
+ghost use Rattle.sv_client.specs.Answers.{view_seen, IsMakeFault, IsPollFault, IsTakeFault, IsTaken, IsFine, got_now};
+
+use crate::applying::apply;
+use crate::asking::{awaited_after, awaited_at_join, joining, with_awaited};
+use crate::checks::{is_out_of_order, is_unfit};
+use crate::commits::told_by;
+use crate::fault::{MakeFault, PollFault, TakeFault};
+use crate::kinds::{Awaited, allows_kind};
+use crate::raising::raise_events;
+use crate::taken::Taken;
+use crate::trace::{Event, Mark, Trace};
+use crate::view::View;
+use std::alloc::{AllocError, Global};
+use std::marker::Model;
+use sv_pending::{Overlay, Pending};
+use sv_versions::Versions;
+use sv_wire::{Reply, Request, copy_reply};
+use sv_world::{Action, ClientId, List, ObjectId, Shape, check_action, copy_action, copy_objects};
+
+/// A client of a world, which is its trace.
+///
+/// Contracts see who it is, the events of its trace with the latest first, where its first session is 0, and the values that it holds.
+#[derive(Debug, Drop)]
+pub struct Client {
+    alloc: Global,
+    id: ClientId,
+    shape: Shape,
+    interest: List<ObjectId>,
+    versions: Versions,
+    pending: Pending,
+    awaited: Vec<Awaited>,
+    events: Vec<Event>,
+    sessions: u16,
+    made: u32,
+    told: u32,
+    joined: bool,
+}
+
+impl Model for Client {
+    ghost use Rattle.std.specs.Coded.{codes};
+    ghost use Rattle.sv_client.specs.Seen.{ClientView};
+    ghost use Rattle.sv_client.specs.contracts.trace.Event as event_rows;
+
+    ghost Value = { ClientView };
+
+    ghost coded = { Prim.hlevel (codes, event_rows.the_row.coded) };
+
+    ghost use Rattle.sv_client.specs.Invariant.{view_of, IsClient};
+
+    ghost view = { view_of };
+
+    ghost invariant = { IsClient };
+}
+
+impl Client {
+    /// A client in no session, that holds nothing.
+    pub fn new(
+        alloc: Global,
+        id: ClientId,
+        shape: Shape,
+        interest: List<ObjectId>,
+    ) -> Result<Client, AllocError>
+        requires { IsGoodIdentity (record { client = id; interest = interest; shape = shape }) }
+        ensures { IfOk result (λ client. client ≡ new_client id shape interest) }
+    {
+        Ok(Client {
+            alloc,
+            id,
+            shape,
+            interest,
+            versions: Versions::new(alloc, shape)?,
+            pending: Pending::new(alloc, shape),
+            awaited: Vec::new(alloc),
+            events: Vec::new(alloc),
+            sessions: 0,
+            made: 0,
+            told: 0,
+            joined: false,
+        })
+    }
+
+    pub fn id(&self) -> ClientId
+        ensures { result ≡ self.now.who.client }
+    {
+        self.id
+    }
+
+    pub fn interest(&self) -> &[ObjectId]
+        ensures { result.now ≡ self.now.who.interest }
+    {
+        self.interest.as_slice()
+    }
+
+    /// How many actions are made and not settled, at most 8.
+    pub fn pending(&self) -> usize
+        ensures { result ≡ length (pending_of self.now.events) }
+    {
+        self.pending.len()
+    }
+
+    /// How many requests have no reply yet, at most 16.
+    pub fn outstanding(&self) -> usize
+        ensures exact { result ≡ length (outstanding self.now.who self.now.events) }
+        ensures few { result ≤ 16 }
+    {
+        self.awaited.len()
+    }
+
+    /// Whether the client began a session and did not leave the latest one.
+    pub fn in_session(&self) -> bool
+        ensures { result ≡ in_session self.now.events }
+    {
+        self.joined
+    }
+
+    /// How many sessions were begun, at most 64.
+    pub fn sessions(&self) -> u16
+        ensures { result ≡ joins self.now.events }
+    {
+        self.sessions
+    }
+
+    /// How many actions were made, at most 65,536.
+    pub fn made(&self) -> u32
+        ensures { result ≡ makes self.now.events }
+    {
+        self.made
+    }
+
+    /// The greatest commit that the client was told, 0 at first.
+    pub fn told(&self) -> u32
+        ensures { result ≡ told self.now.events }
+    {
+        self.told
+    }
+
+    /// How many values of an object are held at or below the greatest commit told.
+    pub fn old_versions(&self, object: ObjectId) -> u32
+        ensures exact { result ≡ count_up_to self.now.kept object.0 (told self.now.events) }
+        ensures few { result ≤ 1 }
+    {
+        if object.0 < self.shape.objects {
+            self.versions.old_versions(object, self.told) as u32
+        } else {
+            0
+        }
+    }
+
+    /// The value that the client sees of an object: the stable one, overlaid by its own pending actions.
+    pub fn view(&self, object: ObjectId) -> View<'_>
+        ensures { view_seen result ≡ view_of self.now.events object.0 }
+    {
+        match self.pending.overlay(object) {
+            Overlay::Kept(value) => View::Known(value),
+            Overlay::Unknown => View::Unknown,
+            Overlay::Unwritten => self.stable(object),
+        }
+    }
+
+    /// The value held of an object at its greatest position.
+    fn stable(&self, object: ObjectId) -> View<'_>
+        ensures { view_seen result ≡ latest (held_of self.now.events) object.0 }
+    {
+        if object.0 >= self.shape.objects {
+            return View::Unknown;
+        }
+        match self.versions.latest(object) {
+            Some(value) => View::Known(value),
+            None => View::Unknown,
+        }
+    }
+
+    /// The value held of an object at the greatest position below one, which is above what the client was told.
+    pub fn value_below(&self, object: ObjectId, pos: u32) -> View<'_>
+        requires object { object.0 < self.now.who.shape.objects }
+        requires above { told self.now.events < pos }
+        ensures { view_seen result ≡ read_below (held_of self.now.events) object.0 pos }
+    {
+        match self.versions.read_below(object, pos) {
+            Some(value) => View::Known(value),
+            None => View::Unknown,
+        }
+    }
+
+    /// Begins the first or the next session: a Join, and a Submit for each pending action. What was outstanding is forgotten.
+    pub fn join(&mut self) -> Result<Vec<Request>, AllocError>
+        requires { joins self.old.events < 64 }
+        ensures requests { IfOk result (λ requests. requests.items ≡ newly_asked self.old.who self.old.events (events.Join (joins self.old.events))) }
+        ensures ok { OnOk result (self.new ≡ with_event self.old (events.Join (joins self.old.events))) }
+        ensures err { OnErr result (self.new ≡ self.old) }
+    {
+        let interest = copy_objects(self.alloc, self.interest.as_slice())?;
+        let requests = joining(
+            self.alloc,
+            self.id,
+            u32::from(self.sessions) + 1,
+            interest,
+            &self.pending,
+        )?;
+        let awaited = awaited_at_join(self.alloc, self.pending.len())?;
+        self.events.push(Event::Join(self.sessions))?;
+        self.awaited = awaited;
+        self.sessions += 1;
+        self.joined = true;
+        Ok(requests)
+    }
+
+    /// Notes an event in the trace, and changes nothing else.
+    pub fn note(&mut self, mark: Mark) -> Result<(), AllocError>
+        ensures ok { OnOk result (self.new ≡ with_event self.old (event_of mark)) }
+        ensures err { OnErr result (self.new ≡ self.old) }
+    {
+        let event = match mark {
+            Mark::Cut => Event::Cut,
+            Mark::Quit => Event::Quit,
+            Mark::Show(objects) => Event::Show(objects),
+        };
+        self.events.push(event)?;
+        Ok(())
+    }
+
+    /// Makes an action, which is pending from now on with the result that it has on the views.
+    pub fn make(&mut self, action: Action) -> Result<Request, MakeFault>
+        requires joined { in_session self.old.events ≡ true }
+        requires few { makes self.old.events < 65536 }
+        ensures request { IfOk result (λ request. request ∷ [] ≡ newly_asked self.old.who self.old.events (events.Make action)) }
+        ensures ok { OnOk result (self.new ≡ with_event self.old (events.Make action)) }
+        ensures err { OnErr result (self.new ≡ self.old) }
+        ensures cause { MatchResult result (λ _. MayMake self.old.who self.old.events action) (IsMakeFault self.old.who self.old.events action) }
+    {
+        if let Err(cause) = check_action(self.shape, &action) {
+            return Err(MakeFault::BadAction(cause));
+        }
+        if self.pending.len() >= 8 {
+            return Err(MakeFault::Full);
+        }
+        if self.awaited.len() >= 16 {
+            return Err(MakeFault::Busy);
+        }
+        let sent = copy_action(self.alloc, &action)?;
+        let seq = self.made + 1;
+        self.add_made(action)?;
+        Ok(Request::Submit { seq, action: sent })
+    }
+
+    /// Makes an action that may be made.
+    fn add_made(&mut self, action: Action) -> Result<(), AllocError>
+        requires { MayMake self.old.who self.old.events action }
+        ensures ok { OnOk result (self.new ≡ with_event self.old (events.Make action)) }
+        ensures err { OnErr result (self.new ≡ self.old) }
+    {
+        let awaited = with_awaited(self.alloc, &self.awaited, Awaited::Submit)?;
+        let noted = copy_action(self.alloc, &action)?;
+        let mut pending = self.pending.copy()?;
+        pending.add(self.made + 1, action, &self.versions)?;
+        self.events.push(Event::Make(noted))?;
+        self.pending = pending;
+        self.awaited = awaited;
+        self.made += 1;
+        Ok(())
+    }
+
+    /// Asks for an abandoned action to complete.
+    pub fn poll(&mut self) -> Result<Request, PollFault>
+        requires { in_session self.old.events ≡ true }
+        ensures request { IfOk result (λ request. request ∷ [] ≡ newly_asked self.old.who self.old.events events.Poll) }
+        ensures ok { OnOk result (self.new ≡ with_event self.old events.Poll) }
+        ensures err { OnErr result (self.new ≡ self.old) }
+        ensures cause { MatchResult result (λ _. MayPoll self.old.who self.old.events) (IsPollFault self.old.who self.old.events) }
+    {
+        if self.awaited.len() >= 16 {
+            return Err(PollFault::Busy);
+        }
+        let awaited = with_awaited(self.alloc, &self.awaited, Awaited::Poll)?;
+        self.events.push(Event::Poll)?;
+        self.awaited = awaited;
+        Ok(Request::Poll)
+    }
+
+    /// Leaves the session.
+    pub fn leave(&mut self) -> Result<Request, AllocError>
+        requires { MayLeave self.old.who self.old.events }
+        ensures request { IfOk result (λ request. request ∷ [] ≡ newly_asked self.old.who self.old.events events.Leave) }
+        ensures ok { OnOk result (self.new ≡ with_event self.old events.Leave) }
+        ensures err { OnErr result (self.new ≡ self.old) }
+    {
+        let awaited = with_awaited(self.alloc, &self.awaited, Awaited::Leave)?;
+        self.events.push(Event::Leave)?;
+        self.awaited = awaited;
+        self.joined = false;
+        Ok(Request::Leave)
+    }
+
+    /// Takes the reply to the oldest outstanding request, and answers the Done of a relay.
+    ///
+    /// Values at or below the greatest commit told are dropped, but for the last one of each object.
+    pub fn take(&mut self, reply: &Reply) -> Result<Option<Request>, TakeFault>
+        ensures done { IfOk result (λ done. option_to_list done ≡ newly_asked self.old.who self.old.events (got_now self.old.events reply.now)) }
+        ensures fine { OnOk result (first_fault_of_reply self.old.who self.old.events reply.now ≡ None) }
+        ensures fault { IfErr result (IsTakeFault self.old.who self.old.events reply.now) }
+        ensures who { OnOk result (self.new.who ≡ self.old.who) }
+        ensures got { OnOk result (self.new.events ≡ got_now self.old.events reply.now ∷ self.old.events) }
+        ensures err { OnErr result (self.new ≡ self.old) }
+    {
+        let taken = self.taken(reply)?;
+        let copy = copy_reply(self.alloc, reply)?;
+        let session = self.sessions - 1;
+        self.events.push(Event::Got(session, copy))?;
+        let Taken {
+            versions,
+            pending,
+            awaited,
+            told,
+            done,
+        } = taken;
+        self.versions = versions;
+        self.pending = pending;
+        self.awaited = awaited;
+        self.told = told;
+        Ok(done)
+    }
+
+    /// What a reply makes of the client.
+    fn taken(&self, reply: &Reply) -> Result<Taken, TakeFault>
+        ensures ok { IfOk result (IsTaken self.now.who self.now.events reply.now) }
+        ensures fault { IfErr result (IsTakeFault self.now.who self.now.events reply.now) }
+    {
+        self.look_at(reply)?;
+        let awaited = awaited_after(self.alloc, &self.awaited, reply)?;
+        let mut versions = self.versions.copy()?;
+        let mut pending = self.pending.copy()?;
+        let done = apply(self.alloc, &mut versions, &mut pending, self.told, reply)?;
+        let told = told_by(reply, self.told);
+        versions.prune(told);
+        Ok(Taken {
+            versions,
+            pending,
+            awaited,
+            told,
+            done,
+        })
+    }
+
+    /// Refuses a reply for a fault that is seen before any item is evaluated.
+    fn look_at(&self, reply: &Reply) -> Result<(), TakeFault>
+        ensures ok { OnOk result (IsFine self.now.who self.now.events reply.now) }
+        ensures fault { IfErr result (IsTakeFault self.now.who self.now.events reply.now) }
+    {
+        let Some(awaited) = self.awaited.first() else {
+            return Err(TakeFault::Unasked);
+        };
+        let awaited = *awaited;
+        if !allows_kind(awaited, reply) {
+            return Err(TakeFault::WrongKind);
+        }
+        if is_out_of_order(self.told, reply) {
+            return Err(TakeFault::BadOrder);
+        }
+        if is_unfit(self.id, self.shape, &self.pending, awaited, reply) {
+            return Err(TakeFault::BadItem);
+        }
+        Ok(())
+    }
+
+    /// The trace, where the first session has this number.
+    pub fn into_trace(self, first: u16) -> Trace
+        requires { first < 64 }
+        ensures trace { result ≡ trace_from first self }
+        ensures proper { Proper self.who.shape result }
+    {
+        let Client {
+            id,
+            interest,
+            events,
+            ..
+        } = self;
+        let mut events = events;
+        raise_events(&mut events, first);
+        Trace {
+            client: id,
+            interest,
+            first,
+            events: List::from_vec(events),
+        }
+    }
+}

@@ -1,0 +1,180 @@
+//! Evaluating the items of a relay, each on the values that the earlier ones left.
+ghost use Rattle.std.specs.Prelude.{◌≡◌, ◌++◌, ◌<◌, ℕ, List, [], ◌∷◌, option_map, unwrap_or, IfOk, OnOk, if◌then◌else◌};
+ghost use Rattle.sv_world.specs.Sets.{at_mask, is_in_mask};
+ghost use Rattle.sv_versions.specs.Held.{Held as Kept, AnswersAbove, read_below};
+ghost use Rattle.sv_pending.specs.Made.{ReadsWithin};
+ghost use Rattle.sv_client.specs.Traces.{head_held, held_at};
+ghost use Rattle.sv_client.specs.Taking.{first_missing};
+ghost use Rattle.sv_client.specs.Evaluating.{numbers, AreWithin, IsHeadWithin, ItemsReadWithin, AreAbove, values_below, IsEvaluated, AreEvaluated};
+
+use crate::fault::TakeFault;
+use std::alloc::{AllocError, Global};
+use sv_eval::eval;
+use sv_versions::Versions;
+use sv_wire::{Done1, Held, Item};
+use sv_world::{List, ObjectId, Value, copy_value, is_in_mask};
+
+/// Holds the values of a head at its reply's commit.
+pub(crate) fn hold_head(
+    alloc: Global,
+    versions: &mut Versions,
+    commit: u32,
+    head: &[Held],
+) -> Result<(), AllocError>
+    requires { IsHeadWithin versions.old.shape.objects head.now }
+    ensures shape { versions.new.shape ≡ versions.old.shape }
+    ensures held { OnOk result ((told : ℕ) (all : List Kept) → AnswersAbove told versions.old.held all → AnswersAbove told versions.new.held (all ++ head_held commit head.now)) }
+{
+    let [held, rest @ ..] = head else {
+        return Ok(());
+    };
+    let value = copy_value(alloc, &held.value)?;
+    versions.put(held.object, commit, value)?;
+    hold_head(alloc, versions, commit, rest)
+}
+
+/// Holds values of objects at a position.
+fn hold_values(
+    alloc: Global,
+    versions: &mut Versions,
+    pos: u32,
+    objects: &[ObjectId],
+    values: &[Value],
+) -> Result<(), AllocError>
+    requires { AreWithin versions.old.shape.objects objects.now }
+    ensures shape { versions.new.shape ≡ versions.old.shape }
+    ensures held { OnOk result ((told : ℕ) (all : List Kept) → AnswersAbove told versions.old.held all → AnswersAbove told versions.new.held (all ++ held_at pos (numbers objects.now) values.now)) }
+{
+    let [object, other_objects @ ..] = objects else {
+        return Ok(());
+    };
+    let [value, other_values @ ..] = values else {
+        return Ok(());
+    };
+    let value = copy_value(alloc, value)?;
+    versions.put(*object, pos, value)?;
+    hold_values(alloc, versions, pos, other_objects, other_values)
+}
+
+/// The objects at the slots in a mask.
+fn masked(alloc: Global, mask: u16, objects: &[ObjectId]) -> Result<List<ObjectId>, AllocError>
+    ensures { IfOk result (λ masked. masked ≡ at_mask mask 0 objects.now) }
+{
+    let mut masked = List::new(alloc);
+    for (slot, object) in objects.iter().enumerate() {
+        push_masked(&mut masked, mask, slot, *object)?;
+    }
+    Ok(masked)
+}
+
+fn push_masked(
+    masked: &mut List<ObjectId>,
+    mask: u16,
+    slot: usize,
+    object: ObjectId,
+) -> Result<(), AllocError>
+    ensures { OnOk result (masked.new ≡ masked.old ++ (if is_in_mask mask slot then object ∷ [] else [])) }
+{
+    if is_in_mask(mask, slot) {
+        return masked.push(object);
+    }
+    Ok(())
+}
+
+/// The first of the objects that has no value below a position.
+fn first_missing(versions: &Versions, pos: u32, objects: &[ObjectId]) -> Option<ObjectId>
+    requires { AreWithin versions.now.shape.objects objects.now }
+    ensures { option_map (λ o. o.0) result ≡ first_missing versions.now.held pos (numbers objects.now) }
+{
+    let [object, rest @ ..] = objects else {
+        return None;
+    };
+    match versions.read_below(*object, pos) {
+        None => Some(*object),
+        Some(_) => first_missing(versions, pos, rest),
+    }
+}
+
+fn value_below(
+    alloc: Global,
+    versions: &Versions,
+    pos: u32,
+    object: ObjectId,
+) -> Result<Value, AllocError>
+    requires { object.0 < versions.now.shape.objects }
+    ensures { IfOk result (λ value. value ≡ unwrap_or (read_below versions.now.held object.0 pos) []) }
+{
+    match versions.read_below(object, pos) {
+        None => Ok(List::new(alloc)),
+        Some(value) => copy_value(alloc, value),
+    }
+}
+
+/// The values of objects below a position.
+fn values_below(
+    alloc: Global,
+    versions: &Versions,
+    pos: u32,
+    objects: &[ObjectId],
+) -> Result<Vec<Value>, AllocError>
+    requires { AreWithin versions.now.shape.objects objects.now }
+    ensures { IfOk result (λ values. values.items ≡ values_below versions.now.held pos (numbers objects.now)) }
+{
+    let mut values = Vec::with_capacity(alloc, objects.len())?;
+    for object in objects {
+        values.push(value_below(alloc, versions, pos, *object)?)?;
+    }
+    Ok(values)
+}
+
+/// The result of an item on the values below it, which are held at its position.
+fn evaluate_item(
+    alloc: Global,
+    versions: &mut Versions,
+    item: &Item,
+) -> Result<List<Value>, TakeFault>
+    requires { ReadsWithin versions.old.shape.objects item.now.action }
+    ensures shape { versions.new.shape ≡ versions.old.shape }
+    ensures evaluated { (told : ℕ) (all : List Kept) → AnswersAbove told versions.old.held all → told < item.now.pos → IsEvaluated told all item.now result versions.new.held }
+{
+    let reads = item.action.reads.as_slice();
+    if let Some(object) = first_missing(versions, item.pos, reads) {
+        return Err(TakeFault::Missing {
+            pos: item.pos,
+            object,
+        });
+    }
+    let values = values_below(alloc, versions, item.pos, reads)?;
+    let outcome = eval(alloc, &item.action, &values)?;
+    let objects = masked(alloc, item.action.mask, reads)?;
+    hold_values(
+        alloc,
+        versions,
+        item.pos,
+        objects.as_slice(),
+        outcome.writes.as_slice(),
+    )?;
+    Ok(outcome.writes)
+}
+
+/// Appends the results of items, in order.
+pub(crate) fn evaluate_items(
+    alloc: Global,
+    versions: &mut Versions,
+    items: &[Item],
+    results: &mut Vec<Done1>,
+) -> Result<(), TakeFault>
+    requires { ItemsReadWithin versions.old.shape.objects items.now }
+    ensures shape { versions.new.shape ≡ versions.old.shape }
+    ensures evaluated { (told : ℕ) (all : List Kept) → AnswersAbove told versions.old.held all → AreAbove told items.now → AreEvaluated told all items.now results.old.items results.new.items result versions.new.held }
+{
+    let [item, rest @ ..] = items else {
+        return Ok(());
+    };
+    let values = evaluate_item(alloc, versions, item)?;
+    results.push(Done1 {
+        pos: item.pos,
+        values,
+    })?;
+    evaluate_items(alloc, versions, rest, results)
+}

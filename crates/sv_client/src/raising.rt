@@ -1,0 +1,28 @@
+ghost use Rattle.std.specs.Prelude.{◌≡◌, ◌<◌, map, All};
+ghost use Rattle.sv_client.specs.Seen.{raised, NamesBelow};
+
+use crate::trace::Event;
+
+fn raise_event(event: &mut Event, first: u16)
+    requires first { first < 64 }
+    requires names { NamesBelow 64 event.old }
+    ensures { event.new ≡ raised first event.old }
+{
+    match event {
+        Event::Join(session) => *session += first,
+        Event::Got(session, _) => *session += first,
+        Event::Make(_) | Event::Poll | Event::Leave | Event::Cut | Event::Quit | Event::Show(_) =>
+            {}
+    }
+}
+
+/// Raises the numbers of the sessions that events name.
+pub(crate) fn raise_events(events: &mut [Event], first: u16)
+    requires first { first < 64 }
+    requires names { All (NamesBelow 64) events.old }
+    ensures { events.new ≡ map (raised first) events.old }
+{
+    for place in 0..events.len() {
+        raise_event(&mut events[place], first);
+    }
+}
