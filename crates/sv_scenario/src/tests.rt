@@ -1,3 +1,6 @@
+ghost use Rattle.std.specs.Prelude.{IfOk};
+ghost use Rattle.sv_scenario.specs.Limits.{IsGoodScenario};
+
 use super::*;
 use std::alloc::Global;
 use std::process::Abort;
@@ -555,12 +558,19 @@ fn refuses_more_than_four_mebibytes(rt: HostRuntime) -> Result<(), Fail> {
 const CONFLICT: &str =
     "{'attrs':1,'objects':[[10]],'bound':4,'clients':[{'interest':[],'steps':[{'act':'reads 0 writes 0 { set @0.0 (@0.0 * 2); }'}]},{'interest':[0],'steps':[{'act':'reads 0 writes 0 { set @0.0 (@0.0 + 1); }'},'cut','poll',{'show':[0,0]},'quit']}],'schedule':['c0','s2','t1']}";
 
+fn scenario(alloc: Global, bytes: &[u8]) -> Result<Scenario, Fail>
+    ensures { IfOk result IsGoodScenario }
+{
+    match read_scenario(alloc, bytes) {
+        Ok(scenario) => Ok(scenario),
+        Err(_fault) => Err(Fail::from("it is no scenario")),
+    }
+}
+
 #[test]
 fn reads_what_the_text_says(rt: HostRuntime) -> Result<(), Fail> {
     let bytes = quoted(rt.alloc(), CONFLICT)?;
-    let scenario = read_scenario(rt.alloc(), &bytes)
-        .ok()
-        .ok_or("it is a scenario")?;
+    let scenario = scenario(rt.alloc(), &bytes)?;
     assert_eq!(rt; sessions_of(&scenario), 3);
     assert_eq!(rt; scenario.bound, 4);
     assert_eq!(rt; scenario.reach, None);
