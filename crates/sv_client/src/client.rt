@@ -1,5 +1,5 @@
-ghost use Rattle.std.specs.Prelude.{◌≡◌, ◌<◌, ◌≤◌, true, ◌∷◌, [], length, option_to_list, IfOk, IfErr, OnOk, OnErr, MatchResult};
-ghost use Rattle.sv_versions.specs.Held.{count_up_to, latest, read_below};
+ghost use Rattle.std.specs.Prelude.{◌≡◌, ℕ, ◌<◌, ◌≤◌, true, ◌∷◌, [], length, option_to_list, IfOk, IfErr, OnOk, OnErr, MatchResult};
+ghost use Rattle.sv_versions.specs.Held.{AnswersAbove, count_up_to, latest, read_below};
 ghost use Rattle.sv_client.specs.declared.trace.Event.TheVariants as events;
 ghost use Rattle.sv_client.specs.Traces.{joins, makes, held_of, pending_of, view_of};
 ghost use Rattle.sv_client.specs.Taking.{outstanding, told, first_fault_of_reply};
@@ -307,6 +307,8 @@ impl Client {
         ensures fault { IfErr result (IsTakeFault self.old.who self.old.events reply.now) }
         ensures who { OnOk result (self.new.who ≡ self.old.who) }
         ensures got { OnOk result (self.new.events ≡ got_now self.old.events reply.now ∷ self.old.events) }
+        ensures kept { OnOk result (AnswersAbove (told self.new.events) self.new.kept (held_of self.new.events)) }
+        ensures few { OnOk result ((x : ℕ) → count_up_to self.new.kept x (told self.new.events) ≤ 1) }
         ensures err { OnErr result (self.new ≡ self.old) }
     {
         let taken = self.taken(reply)?;
