@@ -1,4 +1,6 @@
 pub mod Asked
+pub mod BoundedRelays
+pub mod Commits
 pub mod Covers
 pub mod Entered
 pub mod Fronts

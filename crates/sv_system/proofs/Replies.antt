@@ -1,7 +1,7 @@
 -- What a reply that the table gives says of its request and of the history before it.
-use Rattle.std.proofs.Common.{◌≡◌, ℕ, suc, ◌+◌, ◌<◌, ◌≤◌, true, false, ◌&&◌, ◌||◌, ◌==◌, nat_le, nat_lt, List, [], ◌∷◌, ◌++◌, map, length, Option, Some, None, is_none, refl, sym, ap, ◌∙◌, subst, arith, eqb-true, eq-eqb, leb-false, ltb-true, true≢false, append-nil}
+use Rattle.std.proofs.Common.{◌⊎◌, inl, inr, Bool, ◌≡◌, ℕ, suc, ◌+◌, ◌<◌, ◌≤◌, true, false, ◌&&◌, ◌||◌, ◌==◌, nat_le, nat_lt, List, [], ◌∷◌, ◌++◌, map, length, Option, Some, None, is_none, refl, sym, ap, ◌∙◌, subst, arith, eqb-true, eq-eqb, leb-false, ltb-true, true≢false, append-nil}
 use Rattle.std.specs.List.{AllByRecursion}
-use Rattle.std.proofs.lemmas.Bool.{cond_both, cond-true, cond-false, and_parts, false_from_ne_true}
+use Rattle.std.proofs.lemmas.Bool.{cond_both, cond-true, cond-false, and_parts, or_parts, false_from_ne_true}
 use Rattle.std.proofs.lemmas.List.{length-append}
 use Rattle.sv_world.specs.declared.action.Action.{Action}
 use Rattle.sv_world.specs.declared.check.BadAction.{BadAction}
@@ -26,12 +26,22 @@ use Rattle.sv_system.proofs.Histories.{actions-count, commit-most, kept-within, 
 abbrev pub new_of : List Entry → ℕ → Request → List Action
 new_of h s q = map (λ (a : Authored). a.action) (new_action (client_of h s) (λ k. suc (length (outcomes_of h k))) q)
 
+-- What a relay to client k of position i answers: a Submit whose kept outcome is that position, or a new one that is the next position and
+-- whose chain is not over the bound; or a Poll, where the position is abandoned.
+abbrev pub RelayKind : Rules → List Entry → ℕ → Request → ℕ → Type 0
+RelayKind r h k q i =
+    ((seq : ℕ) × ((a : Action) × ((q ≡ requests.Submit seq a)
+    × ((kept_outcome h k seq ≡ Some (Accepted i))
+    ⊎ ((seq ≡ next_seq h k) × ((i ≡ suc (length (actions_of h))) × (nat_lt r.bound (chain_length (actions_of h) (commit_of h) a) ≡ false)))))))
+    ⊎ ((q ≡ requests.Poll) × (is_in i (orphans h) ≡ true))
+
 -- A relay answers a client of the session: it is the relay of some position above the commit, among the actions with the new one.
 pub record IsRelayReply (r : Rules) (h : List Entry) (s : ℕ) (q : Request) (commit : ℕ) (head : List Held) (positions : List ℕ) : Type 0 where
   pub client : ℕ
   pub joined : client_of h s ≡ Some client
   pub checked : AllByRecursion (λ a. first_fault_of_action r.world.shape a ≡ None) (new_of h s q)
   pub target : ℕ
+  pub kind : RelayKind r h client q target
   pub above : commit_of h < target
   pub accepted_to : target ≤ length (actions_of h ++ new_of h s q)
   pub commit_is : commit ≡ commit_of h
@@ -56,16 +66,17 @@ Tells r h s q (logged.Relay seq commit head positions) = IsRelayReply r h s q co
 Tells r h s q _ = Unit {0}
 
 module _ (r : Rules) (h : List Entry) (s : ℕ) where
-  old-relay : (k : ℕ) (q : Request) (i : ℕ) → client_of h s ≡ Some k → new_of h s q ≡ [] → commit_of h < i → i ≤ length (accepted h) →
+  old-relay : (k : ℕ) (q : Request) (i : ℕ) → client_of h s ≡ Some k → new_of h s q ≡ [] → RelayKind r h k q i → commit_of h < i → i ≤ length (accepted h) →
       IsRelayReply r h s q (commit_of h) (committed_held r h (head_for r.world.shape.objects (actions_of h) (commit_of h) (sent_to h s) (already_given r.world.shape.objects h s) i))
       (needed_for (actions_of h) (commit_of h) (sent_to h s) i)
-  old-relay k q i c a above within =
+  old-relay k q i c a kind above within =
       let none : actions_of h ++ new_of h s q ≡ actions_of h = ap (λ (l : List Action). actions_of h ++ l) a ∙ append-nil (actions_of h) in
       record {
         client = k;
         joined = c;
         checked = subst (AllByRecursion (λ a. first_fault_of_action r.world.shape a ≡ None)) (sym a) tt;
         target = i;
+        kind = kind;
         above = above;
         accepted_to = subst (λ (A : List Action). i ≤ length A) (sym none) (let e : length (actions_of h) ≡ length (accepted h) = actions-count h in omega arith);
         commit_is = refl;
@@ -73,17 +84,17 @@ module _ (r : Rules) (h : List Entry) (s : ℕ) where
         head_is = ap (λ (A : List Action). committed_held r h (head_for r.world.shape.objects A (commit_of h) (sent_to h s) (already_given r.world.shape.objects h s) i)) (sym none);
       }
 
-  new-submit : (k seq : ℕ) (a : Action) → client_of h s ≡ Some k → seq ≡ next_seq h k → new_of h s (requests.Submit seq a) ≡ a ∷ []
+  pub new-submit : (k seq : ℕ) (a : Action) → client_of h s ≡ Some k → seq ≡ next_seq h k → new_of h s (requests.Submit seq a) ≡ a ∷ []
   new-submit k seq a c n =
       ap (λ (o : Option ℕ). map (λ (b : Authored). b.action) (new_action o (λ k. suc (length (outcomes_of h k))) (requests.Submit seq a))) c
       ∙ ap (map (λ (b : Authored). b.action)) (cond-true (seq == next_seq h k) _ _ (eq-eqb seq (next_seq h k) n))
 
-  old-submit : (k seq : ℕ) (a : Action) → client_of h s ≡ Some k → seq < next_seq h k → new_of h s (requests.Submit seq a) ≡ []
+  pub old-submit : (k seq : ℕ) (a : Action) → client_of h s ≡ Some k → seq < next_seq h k → new_of h s (requests.Submit seq a) ≡ []
   old-submit k seq a c l =
       ap (λ (o : Option ℕ). map (λ (b : Authored). b.action) (new_action o (λ k. suc (length (outcomes_of h k))) (requests.Submit seq a))) c
       ∙ ap (map (λ (b : Authored). b.action)) (cond-false (seq == next_seq h k) _ _ (false_from_ne_true (seq == next_seq h k) (λ e. let f : seq ≡ next_seq h k = eqb-true seq (next_seq h k) e in absurd (omega arith))))
 
-  new-poll : (k : ℕ) → client_of h s ≡ Some k → new_of h s requests.Poll ≡ []
+  pub new-poll : (k : ℕ) → client_of h s ≡ Some k → new_of h s requests.Poll ≡ []
   new-poll k c = ap (λ (o : Option ℕ). map (λ (b : Authored). b.action) (new_action o (λ k. suc (length (outcomes_of h k))) requests.Poll)) c
 
   good-tells : (k seq : ℕ) (a : Action) → client_of h s ≡ Some k → seq ≡ next_seq h k → first_fault_of_action r.world.shape a ≡ None →
@@ -100,6 +111,7 @@ module _ (r : Rules) (h : List Entry) (s : ℕ) where
         joined = c;
         checked = subst (AllByRecursion (λ a. first_fault_of_action r.world.shape a ≡ None)) new (f, tt);
         target = suc (length (actions_of h));
+        kind = inl (seq, (a, (refl, inr (n, (refl, (or_parts (nat_lt r.bound (chain_length (actions_of h) (commit_of h) a)) (is_over_reach r.reach (influence_distance (actions_of h) (commit_of h) a)) e).0)))));
         above = omega arith;
         accepted_to = subst (λ (l : List Action). suc (length (actions_of h)) ≤ length (actions_of h ++ l)) new
             (let all : length (actions_of h ++ a ∷ []) ≡ length (actions_of h) + 1 = length-append (actions_of h) (a ∷ []) in omega arith);
@@ -118,15 +130,15 @@ module _ (r : Rules) (h : List Entry) (s : ℕ) where
   submit-tells k seq a (Some (Dropped chain far)) e c = tt
   submit-tells k seq a (Some (Accepted p)) e c =
       cond_both (nat_le p (commit_of h)) _ _ (Tells r h s (requests.Submit seq a)) (λ f. tt)
-      (λ f. old-relay k (requests.Submit seq a) p c (old-submit k seq a c (kept-below h k seq p e)) (leb-false p (commit_of h) f) (kept-within h k seq p e).1)
+      (λ f. old-relay k (requests.Submit seq a) p c (old-submit k seq a c (kept-below h k seq p e)) (inl (seq, (a, (refl, inl e)))) (leb-false p (commit_of h) f) (kept-within h k seq p e).1)
   submit-tells k seq a None e c =
       cond_both (seq == next_seq h k) _ _ (Tells r h s (requests.Submit seq a))
       (λ f. checked-tells k seq a (first_fault_of_action r.world.shape a) refl c (eqb-true seq (next_seq h k) f)) (λ f. tt)
 
-  poll-tells : (k : ℕ) (ps : List ℕ) → ((p : ℕ) → is_in p ps ≡ true → (commit_of h < p) × (p ≤ length (accepted h))) → client_of h s ≡ Some k →
+  poll-tells : (k : ℕ) (ps : List ℕ) → ((p : ℕ) → is_in p ps ≡ true → (is_in p (orphans h) ≡ true) × ((commit_of h < p) × (p ≤ length (accepted h)))) → client_of h s ≡ Some k →
       Tells r h s requests.Poll (reply_to_poll r h s ps)
   poll-tells k [] f c = tt
-  poll-tells k (p ∷ ps) f c = let b = f p (is_in-head p ps) in old-relay k requests.Poll p c (new-poll k c) b.0 b.1
+  poll-tells k (p ∷ ps) f c = let b = f p (is_in-head p ps) in old-relay k requests.Poll p c (new-poll k c) (inr (refl, b.0)) b.1.0 b.1.1
 
   orphans-within : (p : ℕ) → is_in p (orphans h) ≡ true → (commit_of h < p) × (p ≤ length (accepted h))
   orphans-within p m =
@@ -138,7 +150,7 @@ module _ (r : Rules) (h : List Entry) (s : ℕ) where
   client-tells : (k : ℕ) (q : Request) → client_of h s ≡ Some k → Tells r h s q (reply_to_client r h s k q)
   client-tells k (requests.Submit seq a) c = submit-tells k seq a (kept_outcome h k seq) refl c
   client-tells k (requests.Done results) c = cond_both (is_bad_done r h s results) _ _ (Tells r h s (requests.Done results)) (λ e. tt) (λ e. tt)
-  client-tells k requests.Poll c = poll-tells k (orphans h) orphans-within c
+  client-tells k requests.Poll c = poll-tells k (orphans h) (λ p m. (m, orphans-within p m)) c
   client-tells k (requests.Join client life interest) c = tt
   client-tells k requests.Leave c = tt
   client-tells k requests.Bad c = tt

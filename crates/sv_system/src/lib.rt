@@ -3,8 +3,10 @@
 
 mod deliveries;
 mod journals;
+mod small;
 mod truth;
 
 pub use deliveries::lawful_deliveries_make_values_serial;
 pub use journals::legal_journals_make_lawful_deliveries;
+pub use small::relays_are_small;
 pub use truth::replicas_equal_serial_execution;
