@@ -79,7 +79,7 @@ module _ (r : Rules) (H : List Entry) (legal : Legal r H) (L : Trace) (fits : Fi
   abbrev A : List Authored
   A = accepted H
 
-  joined-has : (v : List Event) → IsPart v whole → (s : ℕ) → list_any (is_join_of s) v ≡ true → has_session L s ≡ true
+  pub joined-has : (v : List Event) → IsPart v whole → (s : ℕ) → list_any (is_join_of s) v ≡ true → has_session L s ≡ true
   joined-has v part s h = any-reverse (is_join_of s) L.events (any-part (is_join_of s) v whole part h)
 
   got-has : (s n : ℕ) (reply : Reply) → slice_get (got whole s) n ≡ Some reply → has_session L s ≡ true
@@ -133,7 +133,7 @@ module _ (r : Rules) (H : List Entry) (legal : Legal r H) (L : Trace) (fits : Fi
       ]
 
   -- A welcome's session had no client before, and its life is greater than its client's before.
-  welcome-legal : (e : Entry) (h : List Entry) (client : ClientId) (life : ℕ) → IsEarlier (e ∷ h) H → IsWelcome e client life →
+  pub welcome-legal : (e : Entry) (h : List Entry) (client : ClientId) (life : ℕ) → IsEarlier (e ∷ h) H → IsWelcome e client life →
       (client_of h e.session ≡ None) × (life_of h client.0 < life)
   welcome-legal e h client life b w =
       let t : IsWelcomeReply r h e.session e.request w.commit w.head =
@@ -143,7 +143,7 @@ module _ (r : Rules) (H : List Entry) (legal : Legal r H) (L : Trace) (fits : Fi
       (t.fresh, subst (λ (n : ℕ). life_of h client.0 < n) same_life (subst (λ (k : ℕ). life_of h k < t.life) same_client t.later))
 
   -- Of two welcomed sessions, the one with the lower life is over once the other is welcomed.
-  older-over : (s o : ℕ) (h : List Entry) → IsEarlier h H → (w : IsWelcomed h s) → (v : IsWelcomed H o) → v.life < w.life → is_over h o ≡ true
+  pub older-over : (s o : ℕ) (h : List Entry) → IsEarlier h H → (w : IsWelcomed h s) → (v : IsWelcomed H o) → v.life < w.life → is_over h o ≡ true
   older-over s o h b w v lower =
       let k = L.client.0 in
       let new : IsEarlier (w.entry ∷ w.before) H = earlier-then (w.entry ∷ w.before) h H w.earlier b in
