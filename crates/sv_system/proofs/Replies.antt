@@ -11,6 +11,7 @@ use Rattle.sv_world.specs.Control.{is_in, below, needed_for, head_for, chain_len
 use Rattle.sv_world.specs.Faults.{first_fault_of_action}
 use Rattle.sv_world.proofs.Members.{is_in-head, is_in-filter_parts}
 use Rattle.sv_world.proofs.Bases.{below-is_in}
+use Rattle.sv_wire.specs.declared.message.Done1.{Done1}
 use Rattle.sv_wire.specs.declared.message.Held.{Held}
 use Rattle.sv_wire.specs.declared.message.Request.{Request}
 use Rattle.sv_wire.specs.declared.message.Request.TheVariants as requests
@@ -19,7 +20,7 @@ use Rattle.sv_journal.specs.declared.entry.Logged.{Logged}
 use Rattle.sv_journal.specs.declared.entry.Logged.TheVariants as logged
 use Rattle.sv_journal.specs.History.{Authored, Outcome, Accepted, Dropped, new_action, outcomes_of, client_of, accepted, actions_of, next_seq, result_at, commit_of}
 use Rattle.sv_journal.specs.Sessions.{is_over, is_live, is_end, asked_in, life_of, kept_outcome, sent_to, already_given}
-use Rattle.sv_journal.specs.Answer.{Rules, refused, committed_held, is_over_reach, reply_to_good, reply_to_checked, reply_to_submit, is_bad_done, is_abandoned, orphans, reply_to_poll, is_good_interest, reply_to_join, reply_to_client, reply_to_member, reply_to_open, most_requests, reply_to_request, reply_to, Legal}
+use Rattle.sv_journal.specs.Answer.{commit_with, Rules, refused, committed_held, is_over_reach, reply_to_good, reply_to_checked, reply_to_submit, is_bad_done, is_abandoned, orphans, reply_to_poll, is_good_interest, reply_to_join, reply_to_client, reply_to_member, reply_to_open, most_requests, reply_to_request, reply_to, Legal}
 use Rattle.sv_system.proofs.Histories.{actions-count, commit-most, kept-within, kept-below}
 
 -- The action of a request, where it is a Submit with its client's next number.
@@ -63,6 +64,7 @@ pub record IsWelcomeReply (r : Rules) (h : List Entry) (s : ℕ) (q : Request) (
 abbrev pub Tells : Rules → List Entry → ℕ → Request → Logged → Type 0
 Tells r h s q (logged.Welcome commit head) = IsWelcomeReply r h s q commit head
 Tells r h s q (logged.Relay seq commit head positions) = IsRelayReply r h s q commit head positions
+Tells r h s q (logged.Noted commit) = (results : List Done1) × ((q ≡ requests.Done results) × (commit ≡ commit_with h s results))
 Tells r h s q _ = Unit {0}
 
 module _ (r : Rules) (h : List Entry) (s : ℕ) where
@@ -149,7 +151,7 @@ module _ (r : Rules) (h : List Entry) (s : ℕ) where
 
   client-tells : (k : ℕ) (q : Request) → client_of h s ≡ Some k → Tells r h s q (reply_to_client r h s k q)
   client-tells k (requests.Submit seq a) c = submit-tells k seq a (kept_outcome h k seq) refl c
-  client-tells k (requests.Done results) c = cond_both (is_bad_done r h s results) _ _ (Tells r h s (requests.Done results)) (λ e. tt) (λ e. tt)
+  client-tells k (requests.Done results) c = cond_both (is_bad_done r h s results) _ _ (Tells r h s (requests.Done results)) (λ e. tt) (λ e. (results, (refl, refl)))
   client-tells k requests.Poll c = poll-tells k (orphans h) (λ p m. (m, orphans-within p m)) c
   client-tells k (requests.Join client life interest) c = tt
   client-tells k requests.Leave c = tt
