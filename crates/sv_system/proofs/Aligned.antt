@@ -107,7 +107,7 @@ settles-submit who t requests.End r c k g = absurd (true≢false (sym k ∙ end-
     end-none (replies.Refused code detail) = refl
     end-none replies.Bye = refl
 
-drop-one : {X : Type 0} (n : ℕ) (xs : List X) (x : X) → slice_get xs n ≡ Some x → drop n xs ≡ x ∷ drop (suc n) xs
+pub drop-one : {X : Type 0} (n : ℕ) (xs : List X) (x : X) → slice_get xs n ≡ Some x → drop n xs ≡ x ∷ drop (suc n) xs
 drop-one zero [] x e = absurd (none-some x e)
 drop-one zero (y ∷ ys) x e = ap (λ z. z ∷ ys) (same_Some y x e)
 drop-one (suc n) [] x e = absurd (none-some x e)

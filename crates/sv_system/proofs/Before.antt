@@ -33,7 +33,7 @@ use Rattle.sv_system.proofs.Order.{get-some, got-replied, IsWelcomed, welcomed-a
 use Rattle.sv_system.proofs.Opened.{one, asks}
 use Rattle.sv_system.proofs.Begun.{join-welcomed}
 
-noted-commit : (d : Entry) (h : List Entry) (s commit : ℕ) (results : List Done1) → d.request ≡ requests.Done results → d.reply ≡ logged.Noted commit → commit_with h s results ≡ commit_of (d ∷ h)
+pub noted-commit : (d : Entry) (h : List Entry) (s commit : ℕ) (results : List Done1) → d.request ≡ requests.Done results → d.reply ≡ logged.Noted commit → commit_with h s results ≡ commit_of (d ∷ h)
 noted-commit d h s commit results q y =
     sym (ap (λ (p : Request). commit_of (record { session = d.session; request = p; reply = d.reply } ∷ h)) q
     ∙ ap (λ (p : Logged). commit_of (record { session = d.session; request = requests.Done results; reply = p } ∷ h)) y)
@@ -129,26 +129,27 @@ module _ (r : Rules) (H : List Entry) (Ls : List Trace) (legal : Legal r H) (fit
   welcomed-now = elim (cases_eq (length (got whole s)) 0) [ inl z ↦ first-welcomed z | inr z ↦ later-welcomed (omega arith) ]
 
   -- Each reply that was got was given at an entry before.
-  pub record IsGotAt (o : ℕ) (reply : Reply) : Type 0 where
+  pub record IsGotAt (o n : ℕ) (reply : Reply) : Type 0 where
     pub entry : Entry
     pub before : List Entry
     pub there : IsEarlier (entry ∷ before) g
     pub of_it : is_of entry o ≡ true
     pub replied : reply ≡ full_reply A entry.reply
+    pub index : n ≡ length (replies_in A before o)
 
-  got-own : (n : ℕ) (reply : Reply) → slice_get (got whole s) n ≡ Some reply → IsGotAt s reply
+  got-own : (n : ℕ) (reply : Reply) → slice_get (got whole s) n ≡ Some reply → IsGotAt s n reply
   got-own n reply is =
       let x = entered A g s n reply (ap (λ (rs : List Reply). slice_get rs n) (sym got-same) ∙ is) in
-      record { entry = x.entry; before = x.before; there = x.earlier; of_it = x.of_it; replied = x.replied }
+      record { entry = x.entry; before = x.before; there = x.earlier; of_it = x.of_it; replied = x.replied; index = x.place }
 
-  got-other : (o n : ℕ) (reply : Reply) → (o ≡ s → ⊥) → slice_get (got whole o) n ≡ Some reply → IsGotAt o reply
+  got-other : (o n : ℕ) (reply : Reply) → (o ≡ s → ⊥) → slice_get (got whole o) n ≡ Some reply → IsGotAt o n reply
   got-other o n reply other is =
       let x = entered A H o n reply (got-replied r H legal L this_one o n reply is) in
       let apart : x.entry.session ≡ e.session → ⊥ = λ q. other (sym (of-parts x.entry o x.of_it).0 ∙ q ∙ (of-parts e s mine).0) in
       elim (earlier-cases (x.entry ∷ x.before) (e ∷ g) H x.earlier b) [
         | inl c ↦ elim (earlier-strict (x.entry ∷ x.before) e g c) [
           | inl d ↦ absurd (apart (ap session_of d))
-          | inr d ↦ record { entry = x.entry; before = x.before; there = d; of_it = x.of_it; replied = x.replied }
+          | inr d ↦ record { entry = x.entry; before = x.before; there = d; of_it = x.of_it; replied = x.replied; index = x.place }
         ]
         | inr c ↦ elim (earlier-strict (e ∷ g) x.entry x.before c) [
           | inl d ↦ absurd (apart (sym (ap session_of d)))
@@ -181,10 +182,10 @@ module _ (r : Rules) (H : List Entry) (Ls : List Trace) (legal : Legal r H) (fit
                 (over-stays (e ∷ g) x.before d o (older-over r H legal L this_one s o (e ∷ g) b w v lower)))
           ]
 
-  pub got-at : (o n : ℕ) (reply : Reply) → slice_get (got whole o) n ≡ Some reply → IsGotAt o reply
+  pub got-at : (o n : ℕ) (reply : Reply) → slice_get (got whole o) n ≡ Some reply → IsGotAt o n reply
   got-at o n reply is =
       elim (cases_eq o s) [
-        | inl q ↦ subst (λ (m : ℕ). IsGotAt m reply) (sym q) (got-own n reply (ap (λ (m : ℕ). slice_get (got whole m) n) (sym q) ∙ is))
+        | inl q ↦ subst (λ (m : ℕ). IsGotAt m n reply) (sym q) (got-own n reply (ap (λ (m : ℕ). slice_get (got whole m) n) (sym q) ∙ is))
         | inr q ↦ got-other o n reply q is
       ]
 

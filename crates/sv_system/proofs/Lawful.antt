@@ -205,7 +205,7 @@ module _ (r : Rules) (H : List Entry) where
 
   -- ---- Lawful
 
-  objects-named : (h : List Entry) (xs : List ℕ) → head_objects (committed_held r h xs) ≡ xs
+  pub objects-named : (h : List Entry) (xs : List ℕ) → head_objects (committed_held r h xs) ≡ xs
   objects-named h [] = refl
   objects-named h (x ∷ xs) = ap (λ (l : List ℕ). x ∷ l) (objects-named h xs)
 

@@ -61,9 +61,19 @@ pub record IsWelcomeReply (r : Rules) (h : List Entry) (s : ℕ) (q : Request) (
   pub commit_is : commit ≡ commit_of h
   pub head_is : head ≡ committed_held r h (map (λ (o : ObjectId). o.0) interest)
 
+-- A reply to a client's Submit with this number, whose outcome is kept or which has the client's next number.
+abbrev pub AnswersSubmit : List Entry → ℕ → Request → ℕ → Type 0
+AnswersSubmit h s q n =
+    (k : ℕ) × ((client_of h s ≡ Some k) × ((a : Action) × ((q ≡ requests.Submit n a) × (((o : Outcome) × (kept_outcome h k n ≡ Some o)) ⊎ (n ≡ next_seq h k)))))
+
+abbrev pub AnswersKept : List Entry → ℕ → Request → ℕ → Type 0
+AnswersKept h s q n = (k : ℕ) × ((client_of h s ≡ Some k) × ((a : Action) × ((q ≡ requests.Submit n a) × ((o : Outcome) × (kept_outcome h k n ≡ Some o)))))
+
 abbrev pub Tells : Rules → List Entry → ℕ → Request → Logged → Type 0
 Tells r h s q (logged.Welcome commit head) = IsWelcomeReply r h s q commit head
 Tells r h s q (logged.Relay seq commit head positions) = IsRelayReply r h s q commit head positions
+Tells r h s q (logged.Dropped seq chain far) = AnswersSubmit h s q seq
+Tells r h s q (logged.Settled seq pos) = AnswersKept h s q seq
 Tells r h s q (logged.Noted commit) = (results : List Done1) × ((q ≡ requests.Done results) × (commit ≡ commit_with h s results))
 Tells r h s q _ = Unit {0}
 
@@ -103,7 +113,7 @@ module _ (r : Rules) (h : List Entry) (s : ℕ) where
       Tells r h s (requests.Submit seq a) (reply_to_good r h s seq a)
   good-tells k seq a c n f =
       cond_both (nat_lt r.bound (chain_length (actions_of h) (commit_of h) a) || is_over_reach r.reach (influence_distance (actions_of h) (commit_of h) a)) _ _
-      (Tells r h s (requests.Submit seq a)) (λ e. tt)
+      (Tells r h s (requests.Submit seq a)) (λ e. (k, (c, (a, (refl, inr n)))))
       (λ e.
       let most : commit_of h ≤ length (accepted h) = commit-most h in
       let count : length (actions_of h) ≡ length (accepted h) = actions-count h in
@@ -129,9 +139,9 @@ module _ (r : Rules) (h : List Entry) (s : ℕ) where
 
   submit-tells : (k seq : ℕ) (a : Action) (kept : Option Outcome) → kept_outcome h k seq ≡ kept → client_of h s ≡ Some k →
       Tells r h s (requests.Submit seq a) (reply_to_submit r h s k seq a kept)
-  submit-tells k seq a (Some (Dropped chain far)) e c = tt
+  submit-tells k seq a (Some (Dropped chain far)) e c = (k, (c, (a, (refl, inl (Dropped chain far, e)))))
   submit-tells k seq a (Some (Accepted p)) e c =
-      cond_both (nat_le p (commit_of h)) _ _ (Tells r h s (requests.Submit seq a)) (λ f. tt)
+      cond_both (nat_le p (commit_of h)) _ _ (Tells r h s (requests.Submit seq a)) (λ f. (k, (c, (a, (refl, (Accepted p, e))))))
       (λ f. old-relay k (requests.Submit seq a) p c (old-submit k seq a c (kept-below h k seq p e)) (inl (seq, (a, (refl, inl e)))) (leb-false p (commit_of h) f) (kept-within h k seq p e).1)
   submit-tells k seq a None e c =
       cond_both (seq == next_seq h k) _ _ (Tells r h s (requests.Submit seq a))
