@@ -1,4 +1,7 @@
+pub mod Aligned
 pub mod Asked
+pub mod Before
+pub mod Begun
 pub mod BoundedRelays
 pub mod Commits
 pub mod Covers
@@ -8,7 +11,12 @@ pub mod Histories
 pub mod Induction
 pub mod Items
 pub mod Lawful
+pub mod Leaving
+pub mod NextReply
+pub mod Opened
 pub mod Order
+pub mod Ordered
+pub mod Pendings
 pub mod Relays
 pub mod Replied
 pub mod Replies
@@ -17,3 +25,4 @@ pub mod Serials
 pub mod Taken
 pub mod Tellings
 pub mod Tests
+pub mod Window
