@@ -1,10 +1,12 @@
 pub mod Aligned
+pub mod Allowed
 pub mod Asked
 pub mod Before
 pub mod Begun
 pub mod BoundedRelays
 pub mod Commits
 pub mod Covers
+pub mod Dones
 pub mod Entered
 pub mod Fronts
 pub mod Histories

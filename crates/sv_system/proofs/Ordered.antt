@@ -53,7 +53,7 @@ four-false false false true d e f g h = absurd (true≢false g)
 four-false false false false true e f g h = absurd (true≢false h)
 four-false false false false false e f g h = refl
 
-positions-back : (A : List Authored) (ks : List ℕ) → map (λ (i : Item). i.pos) (map (item_at A) ks) ≡ ks
+pub positions-back : (A : List Authored) (ks : List ℕ) → map (λ (i : Item). i.pos) (map (item_at A) ks) ≡ ks
 positions-back A [] = refl
 positions-back A (k ∷ ks) = ap (λ (l : List ℕ). k ∷ l) (positions-back A ks)
 
