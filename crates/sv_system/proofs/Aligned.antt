@@ -1,12 +1,10 @@
 -- The outstanding Submits of the current session are the pending actions, in order; what was answered before is settled.
-use Rattle.std.proofs.Common.{◌≡◌, ℕ, zero, suc, ◌+◌, ◌-◌, ◌<◌, ◌≤◌, Bool, true, false, cond, ◌&&◌, ◌||◌, not, ◌==◌, ◌⊎◌, inl, inr, List, [], ◌∷◌, ◌++◌, map, drop, length, ℤ, Option, Some, None, slice_get, refl, sym, ap, ap₂, ◌∙◌, subst, arith, eqb-true, eq-eqb, true≢false, append-nil, append_assoc, add-one}
+use Rattle.std.proofs.Common.{◌≡◌, ℕ, zero, suc, ◌+◌, ◌<◌, ◌≤◌, Bool, true, false, not, ◌==◌, inl, inr, List, [], ◌∷◌, ◌++◌, map, drop, length, Option, Some, slice_get, refl, sym, ap, ap₂, ◌∙◌, subst, arith, eqb-true, eq-eqb, true≢false, append-nil, add-one}
 use Rattle.std.specs.Prelude.{if◌then◌else◌}
-use Rattle.std.specs.List.{AllByRecursion}
-use Rattle.std.proofs.lemmas.Bool.{cond-true, cond-false, cases_Bool, cases_eq, cases_lt, and_parts, or_parts, not-false, not_from_false, false_from_ne_true, ne_eqb}
-use Rattle.std.proofs.lemmas.List.{length-append, map-append, length-map, drop-append-le}
+use Rattle.std.proofs.lemmas.Bool.{cond-true, cond-false, and_parts, or_parts, ne_eqb}
+use Rattle.std.proofs.lemmas.List.{length-append, drop-append-le}
 use Rattle.std.proofs.lemmas.Option.{none-some, same_Some, slice_get_within}
 use Rattle.sv_world.specs.declared.action.Action.{Action}
-use Rattle.sv_world.specs.Faults.{first_fault_of_action}
 use Rattle.sv_pending.specs.Pending.{PendingAction}
 use Rattle.sv_wire.specs.declared.message.Request.{Request}
 use Rattle.sv_wire.specs.declared.message.Request.TheVariants as requests
@@ -16,9 +14,9 @@ use Rattle.sv_client.specs.declared.trace.Event.{Event}
 use Rattle.sv_client.specs.declared.trace.Event.TheVariants as events
 use Rattle.sv_client.specs.Traces.{joins, makes, current_session, is_session, held_of, with_reply, pending_of, submit_of, asked_by, asked, got}
 use Rattle.sv_client.specs.Taking.{Identity, allows, is_for_front, ends_with_front, is_good_relay, is_bad_relay, is_bad_head, has_bad_item}
-use Rattle.sv_client.specs.Proper.{MayMake, MayJoin, AreProper}
-use Rattle.sv_system.proofs.Asked.{get-append_cases, Answers, may-answer, IsBegun, begun-or_not}
-use Rattle.sv_system.proofs.Pendings.{Numbered, key_of, keys, without_first, settles, keys-with, AreFrom, settled, IsCounted, counted, submitted_by, submits, submits-append, submits-pending, keys-made, got-fewer, waiting, IsAligned, waiting-more, quiet, quiet-if, quiet-got}
+use Rattle.sv_client.specs.Proper.{AreProper}
+use Rattle.sv_system.proofs.Asked.{may-answer, begun-or_not}
+use Rattle.sv_system.proofs.Pendings.{Numbered, keys, without_first, settles, keys-with, AreFrom, settled, IsCounted, counted, submitted_by, submits, submits-append, submits-pending, keys-made, got-fewer, IsAligned, waiting-more, quiet, quiet-if, quiet-got}
 
 abbrev pub is_submit : Request → Bool
 is_submit (requests.Submit seq a) = true
@@ -132,8 +130,8 @@ module _ (who : Identity) (first : ℕ) where
       let within : n < length qs = slice_get_within qs n ans.request ans.asked_there in
       let got_now : length (got (events.Got s r ∷ t) s) ≡ suc n = ap length (cond-true (s == s) (got t s ++ r ∷ []) (got t s) (eq-eqb s s refl)) ∙ length-append (got t s) (r ∷ []) ∙ add-one n in
       let rest : submits (drop (suc n) qs) ≡ (if settles r then without_first (keys (pending_of t)) else keys (pending_of t)) =
-          rest-of ans.request (settles r) (submits (drop (suc n) qs)) (keys (pending_of t)) (settles-submit who t ans.request r (counted who first t p.1) ans.kind ans.good)
-          (sym (ap submits (drop-one n qs ans.request ans.asked_there)) ∙ a) in
+      rest-of ans.request (settles r) (submits (drop (suc n) qs)) (keys (pending_of t)) (settles-submit who t ans.request r (counted who first t p.1) ans.kind ans.good)
+      (sym (ap submits (drop-one n qs ans.request ans.asked_there)) ∙ a) in
       ap (λ (m : ℕ). submits (drop m (qs ++ more))) got_now
       ∙ ap submits (drop-append-le (suc n) qs more (omega arith))
       ∙ submits-append (drop (suc n) qs) more

@@ -1,12 +1,12 @@
 -- The next reply to a client is of a kind that its request may have.
-use Rattle.std.proofs.Common.{◌≡◌, ℕ, zero, suc, ◌+◌, ◌<◌, ◌≤◌, Bool, true, false, cond, not, ◌&&◌, ◌||◌, ◌==◌, nat_le, nat_lt, ◌⊎◌, inl, inr, List, [], ◌∷◌, ◌++◌, map, reverse, length, ℤ, Option, Some, None, slice_get, refl, sym, ap, ◌∙◌, subst, arith, eqb-true, eq-eqb, true≢false}
+use Rattle.std.proofs.Common.{◌≡◌, ℕ, zero, suc, ◌+◌, ◌<◌, ◌≤◌, Bool, true, false, not, ◌||◌, ◌==◌, nat_le, nat_lt, inl, inr, List, [], ◌∷◌, ◌++◌, map, reverse, length, ℤ, Option, Some, None, slice_get, refl, sym, ap, ◌∙◌, subst, arith, eq-eqb, true≢false}
 use Rattle.std.specs.Prelude.{if◌then◌else◌, All}
-use Rattle.std.specs.List.{list_any, AllByRecursion}
-use Rattle.std.proofs.lemmas.Bool.{cond_both, cond-true, cond-false, cases_Bool, cases_eq, or_parts}
+use Rattle.std.specs.List.{AllByRecursion}
+use Rattle.std.proofs.lemmas.Bool.{cond_both, cond-true, cond-false, or_parts}
 use Rattle.std.proofs.lemmas.List.{length-map}
-use Rattle.std.proofs.lemmas.List.Elements.{recursion_from_All, All-from_recursion}
+use Rattle.std.proofs.lemmas.List.Elements.{All-from_recursion}
 use Rattle.std.proofs.lemmas.Option.{none-some, same_Some}
-use Rattle.sv_world.specs.Control.{is_in, action_at, needed_for, chain_length, influence_distance}
+use Rattle.sv_world.specs.Control.{is_in, chain_length, influence_distance}
 use Rattle.sv_world.specs.Faults.{first_fault_of_action, is_ascending, IsGoodAction}
 use Rattle.sv_world.specs.Sets.{read_set}
 use Rattle.sv_world.specs.declared.action.Action.{Action}
@@ -27,22 +27,21 @@ use Rattle.sv_journal.specs.declared.entry.Logged.{Logged}
 use Rattle.sv_journal.specs.declared.entry.Logged.TheVariants as logged
 use Rattle.sv_journal.specs.History.{Authored, Outcome, Accepted, Dropped, accepted, actions_of, client_of, next_seq, item_at, full_reply, commit_of}
 use Rattle.sv_journal.specs.Sessions.{is_end, kept_outcome, positions_in, sent_to}
-use Rattle.sv_journal.specs.Answer.{Rules, refused, relay_of, is_over_reach, reply_to_good, reply_to_checked, reply_to_new, reply_to_submit, is_bad_done, commit_with, reply_to_done, orphans, reply_to_poll, reply_to_client, reply_to_member, reply_to_open, Legal}
+use Rattle.sv_journal.specs.Answer.{Rules, refused, is_over_reach, reply_to_checked, reply_to_submit, is_bad_done, commit_with, orphans, reply_to_poll, reply_to_client, reply_to_member, reply_to_open, Legal}
 use Rattle.sv_client.specs.declared.trace.Event.{Event}
 use Rattle.sv_client.specs.declared.trace.Event.TheVariants as events
 use Rattle.sv_client.specs.declared.trace.Trace.{Trace}
 use Rattle.sv_client.specs.Traces.{joins, makes, current_session, is_session, held_of, with_reply, head_held, results_of, done_for, pending_of, submit_of, asked_by, asked, got}
 use Rattle.sv_client.specs.Taking.{Identity, allows, items_of, is_bad_head, is_bad_relay, is_good_relay, has_bad_item}
 use Rattle.sv_client.specs.Proper.{AreProper, identity_of}
-use Rattle.sv_system.specs.Fronts.{IsFront}
 use Rattle.sv_system.specs.Fits.{replies_in, FitsOne, Fits}
 use Rattle.sv_system.proofs.Fronts.{front-then, get-last}
 use Rattle.sv_system.proofs.Tests.{each-append}
 use Rattle.sv_system.proofs.Reported.{IsSerialResult}
-use Rattle.sv_system.proofs.Histories.{IsEarlier, same, after, earlier-then, earlier-rest, earlier-legal, accepted-grows}
-use Rattle.sv_system.proofs.Lawful.{IsLegalRelay, legal-relay, positions-within}
+use Rattle.sv_system.proofs.Histories.{IsEarlier, same, earlier-then, earlier-rest, earlier-legal, accepted-grows}
+use Rattle.sv_system.proofs.Lawful.{legal-relay, positions-within}
 use Rattle.sv_system.proofs.Entered.{is_of, of-parts, client-stays, welcome-client}
-use Rattle.sv_system.proofs.Asked.{get-append_cases, IsPart, all, part-rest, proper-part, got-part, done-when, may-answer, begun-or_not}
+use Rattle.sv_system.proofs.Asked.{get-append_cases, proper-part, got-part, done-when, may-answer}
 use Rattle.sv_system.proofs.BoundedRelays.{all-small}
 use Rattle.sv_system.proofs.Pendings.{Numbered, keys, without_first, settles, keys-with, keys-made}
 use Rattle.sv_system.proofs.Leaving.{is_join_request}
@@ -143,9 +142,10 @@ items-logged A logged.Bye = refl
 
 positions-low : (r : Rules) (d : Entry) (h : List Entry) → Legal r (d ∷ h) → (reply : Logged) → d.reply ≡ reply → (is_ascending (positions_in reply) ≡ true) × ((k : ℕ) → is_in k (positions_in reply) ≡ true → 0 < k)
 positions-low r d h l (logged.Relay seq commit head positions) is =
-    let t = legal-relay r d h seq commit head positions l is in
-    (subst (λ (ks : List ℕ). is_ascending ks ≡ true) (sym t.positions_are) (needed-ascending (actions_of (d ∷ h)) (commit_of h) (sent_to h d.session) t.target),
-    λ k m. (let low : commit_of h < k = (needed-bounds (actions_of (d ∷ h)) (commit_of h) (sent_to h d.session) t.target t.above k (subst (λ (ks : List ℕ). is_in k ks ≡ true) t.positions_are m)).0 in omega arith))
+    let t = legal-relay r d h seq commit head positions l is in (
+      subst (λ (ks : List ℕ). is_ascending ks ≡ true) (sym t.positions_are) (needed-ascending (actions_of (d ∷ h)) (commit_of h) (sent_to h d.session) t.target),
+      λ k m. (let low : commit_of h < k = (needed-bounds (actions_of (d ∷ h)) (commit_of h) (sent_to h d.session) t.target t.above k (subst (λ (ks : List ℕ). is_in k ks ≡ true) t.positions_are m)).0 in omega arith),
+    )
 positions-low r d h l (logged.Welcome commit head) is = (refl, λ k m. absurd (true≢false (sym m)))
 positions-low r d h l (logged.Dropped seq chain far) is = (refl, λ k m. absurd (true≢false (sym m)))
 positions-low r d h l (logged.Settled seq pos) is = (refl, λ k m. absurd (true≢false (sym m)))
@@ -246,7 +246,7 @@ module _ (r : Rules) (H : List Entry) (Ls : List Trace) (legal : Legal r H) (fit
       let a = may-answer who L.first t s reply proper.0 in
       let m = length (got t s) in
       let there : slice_get (got whole s) m ≡ Some reply =
-          got-part who L.first v whole d.part s m reply (ap (λ (rs : List Reply). slice_get rs m) (cond-true (s == s) (got t s ++ reply ∷ []) (got t s) (eq-eqb s s refl)) ∙ get-last (got t s) reply) in
+      got-part who L.first v whole d.part s m reply (ap (λ (rs : List Reply). slice_get rs m) (cond-true (s == s) (got t s ++ reply ∷ []) (got t s) (eq-eqb s s refl)) ∙ get-last (got t s) reply) in
       let x = got-at r H Ls legal fits i L member s current few e g b mine next s m reply there in
       let bx : IsEarlier (x.entry ∷ x.before) H = earlier-then (x.entry ∷ x.before) g H x.there earlier in
       let lx : Legal r (x.entry ∷ x.before) = earlier-legal r (x.entry ∷ x.before) H bx legal in
@@ -259,14 +259,18 @@ module _ (r : Rules) (H : List Entry) (Ls : List Trace) (legal : Legal r H) (fit
       let small : length ks ≤ r.bound + 1 = (all-small r (x.entry ∷ x.before) lx).0 in
       let session : x.entry.session ≡ s = (of-parts x.entry s x.of_it).0 in
       let well = well-after r H Ls count legal fits H same (noted-serial r H Ls count legal fits) v
-          (λ o. front-then (got v o) (got whole o) (replies_in A H o) (got-part who L.first v whole d.part o) (got-replied r H legal L this_one o)) in
+      (λ o. front-then (got v o) (got whole o) (replies_in A H o) (got-part who L.first v whole d.part o) (got-replied r H legal L this_one o)) in
       let held = held_of t ++ head_held d.commit d.head in
       let results_are : results ≡ results_of held (map (item_at A) ks) = d.results_are ∙ ap (results_of held) items in
       subst (λ (rs : List Done1). is_bad_done r g s rs ≡ false) (sym results_are)
       (good-done r H count shaped (plain r H Ls count legal fits) g earlier s worlds-shaped held ks low.0 (ap (λ (n : ℕ). n == 0) (sym many) ∙ some_items) (omega arith)
-      (λ j m. (low.1 j m,
-      ((let w : j ≤ length (accepted (x.entry ∷ x.before)) = positions-within r x.entry x.before lx x.entry.reply refl j m in let grows : length (accepted (x.entry ∷ x.before)) ≤ length (accepted g) = accepted-grows (x.entry ∷ x.before) g x.there in omega arith),
-      sent-stays (x.entry ∷ x.before) g x.there s j (sent-now x.entry x.before s j session m))))
+      (λ j m. (
+        low.1 j m,
+        (
+          (let w : j ≤ length (accepted (x.entry ∷ x.before)) = positions-within r x.entry x.before lx x.entry.reply refl j m in let grows : length (accepted (x.entry ∷ x.before)) ≤ length (accepted g) = accepted-grows (x.entry ∷ x.before) g x.there in omega arith),
+          sent-stays (x.entry ∷ x.before) g x.there s j (sent-now x.entry x.before s j session m),
+        ),
+      ))
       (subst (λ (is : List Item). AllByRecursion (IsSerialResult r.world.values (actions_of H)) (results_of held is)) items well.reported.0))
     where
       relay-part : (q : Request) (seq commit : ℕ) (head : List Sent) (items : List Item) (t : List Event) → has_bad_item who (pending_of t) q (replies.Relay seq commit head items) ≡ false →

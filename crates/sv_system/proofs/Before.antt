@@ -1,6 +1,6 @@
 -- All that a client got was answered before its next request, so it was told no greater commit than that of the next reply.
-use Rattle.std.proofs.Common.{◌≡◌, ℕ, zero, suc, ◌+◌, ◌<◌, ◌≤◌, max, Bool, true, false, ◌==◌, ◌⊎◌, inl, inr, List, [], ◌∷◌, ◌++◌, map, reverse, length, Option, Some, None, slice_get, refl, sym, ap, ◌∙◌, subst, arith, eq-eqb, true≢false}
-use Rattle.std.proofs.lemmas.Bool.{cond-true, cases_eq, cases_lt}
+use Rattle.std.proofs.Common.{◌≡◌, ℕ, ◌+◌, ◌<◌, ◌≤◌, true, ◌==◌, inl, inr, List, [], ◌∷◌, ◌++◌, map, reverse, length, Option, Some, None, slice_get, refl, sym, ap, ◌∙◌, subst, arith, eq-eqb}
+use Rattle.std.proofs.lemmas.Bool.{cond-true, cases_eq}
 use Rattle.std.proofs.lemmas.Option.{none-some, same_Some, slice_get_within}
 use Rattle.sv_world.specs.declared.world.ObjectId.{ObjectId}
 use Rattle.sv_wire.specs.declared.message.Done1.{Done1}
@@ -11,24 +11,20 @@ use Rattle.sv_journal.specs.declared.entry.Entry.{Entry}
 use Rattle.sv_journal.specs.declared.entry.Logged.{Logged}
 use Rattle.sv_journal.specs.declared.entry.Logged.TheVariants as logged
 use Rattle.sv_journal.specs.History.{Authored, accepted, full_reply, commit_of}
-use Rattle.sv_journal.specs.Sessions.{is_over}
 use Rattle.sv_journal.specs.Answer.{Rules, committed_held, commit_with, Legal}
 use Rattle.sv_client.specs.declared.trace.Event.{Event}
 use Rattle.sv_client.specs.declared.trace.Event.TheVariants as events
 use Rattle.sv_client.specs.declared.trace.Trace.{Trace}
 use Rattle.sv_client.specs.Traces.{joins, current_session, asked, got}
-use Rattle.sv_client.specs.Taking.{Identity, commit_in, told_with, told_by, told}
+use Rattle.sv_client.specs.Taking.{Identity, commit_in, told_with, told}
 use Rattle.sv_client.specs.Proper.{identity_of}
-use Rattle.sv_system.specs.Fronts.{IsFront}
 use Rattle.sv_system.specs.Fits.{replies_in, FitsOne, Fits}
 use Rattle.sv_system.proofs.Fronts.{get-last, fronts-same}
 use Rattle.sv_system.proofs.Histories.{IsEarlier, same, after, earlier-then, earlier-rest, earlier-legal}
 use Rattle.sv_system.proofs.Replies.{Tells, IsRelayReply, IsWelcomeReply, legal-tells}
 use Rattle.sv_system.proofs.Commits.{commit-grows}
-use Rattle.sv_system.proofs.Entered.{earlier-cases, is_of, of-parts, replies-earlier, IsEntered, entered, IsWelcome, over-stays}
-use Rattle.sv_system.proofs.Asked.{IsPart, all, then_one, part-rest, asked-part, got-part, IsGot, got-when, Answers, got-answers, IsBegun, begun-or_not, current-last}
-use Rattle.sv_system.proofs.Leaving.{IsJoinAsked}
-use Rattle.sv_system.proofs.BoundedRelays.{earlier-inner}
+use Rattle.sv_system.proofs.Entered.{earlier-cases, is_of, of-parts, replies-earlier, IsEntered, entered, over-stays}
+use Rattle.sv_system.proofs.Asked.{IsPart, part-rest, asked-part, got-part, got-when, got-answers, begun-or_not, current-last}
 use Rattle.sv_system.proofs.Order.{get-some, got-replied, IsWelcomed, welcomed-at, older-over, earlier-strict, got-not_over}
 use Rattle.sv_system.proofs.Opened.{one, asks}
 use Rattle.sv_system.proofs.Begun.{join-welcomed}
@@ -96,8 +92,8 @@ module _ (r : Rules) (H : List Entry) (Ls : List Trace) (legal : Legal r H) (fit
         | inl n ↦ absurd (n.1 current)
         | inr begun ↦
             (let first : e.request ≡ requests.Join L.client begun.life L.interest =
-                same_Some e.request (requests.Join L.client begun.life L.interest)
-                (sym (ap (slice_get (asked L.client L.interest whole s)) (sym z) ∙ asks r H Ls legal fits i L member s current e g b mine next) ∙ ap (λ (qs : List Request). slice_get qs 0) begun.asked_are) in
+            same_Some e.request (requests.Join L.client begun.life L.interest)
+            (sym (ap (slice_get (asked L.client L.interest whole s)) (sym z) ∙ asks r H Ls legal fits i L member s current e g b mine next) ∙ ap (λ (qs : List Request). slice_get qs 0) begun.asked_are) in
             let w = join-welcomed r H Ls legal fits i L member s current few e g b mine next L.client begun.life L.interest first in
             record {
               entry = e;
@@ -195,7 +191,7 @@ module _ (r : Rules) (H : List Entry) (Ls : List Trace) (legal : Legal r H) (fit
   told-before (events.Got o reply ∷ t) p =
       let less : told t ≤ commit_of g = told-before t (part-rest t (events.Got o reply) whole p) in
       let there : slice_get (got whole o) (length (got t o)) ≡ Some reply =
-          got-part who L.first (events.Got o reply ∷ t) whole p o (length (got t o)) reply (ap (λ (rs : List Reply). slice_get rs (length (got t o))) (cond-true (o == o) (got t o ++ reply ∷ []) (got t o) (eq-eqb o o refl)) ∙ get-last (got t o) reply) in
+      got-part who L.first (events.Got o reply ∷ t) whole p o (length (got t o)) reply (ap (λ (rs : List Reply). slice_get rs (length (got t o))) (cond-true (o == o) (got t o ++ reply ∷ []) (got t o) (eq-eqb o o refl)) ∙ get-last (got t o) reply) in
       let x = got-at o (length (got t o)) reply there in
       with-most (commit_in reply) (told t) (commit_of g)
       (λ c f. told-most r A x.entry x.before g (earlier-legal r (x.entry ∷ x.before) H (earlier-then (x.entry ∷ x.before) g H x.there earlier) legal) x.there x.entry.reply refl c (ap commit_in (sym x.replied) ∙ f)) less

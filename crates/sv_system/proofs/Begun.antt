@@ -1,8 +1,7 @@
 -- A client's Join is answered Welcome, and what it got in older sessions was answered before its next request.
-use Rattle.std.proofs.Common.{◌≡◌, ℕ, zero, suc, ◌+◌, ◌<◌, ◌≤◌, max, Bool, true, false, cond, ◌&&◌, ◌||◌, not, ◌==◌, nat_le, nat_lt, ◌⊎◌, inl, inr, List, [], ◌∷◌, ◌++◌, map, reverse, length, Option, Some, None, is_some, slice_get, refl, sym, ap, ap₂, ◌∙◌, subst, arith, eqb-true, eq-eqb, true≢false, ltb-true, lt-ltb, le-leb, leb-true, leb-false}
-use Rattle.std.specs.Prelude.{if◌then◌else◌, All}
-use Rattle.std.specs.List.{list_any, list_all, AllByRecursion}
-use Rattle.std.proofs.lemmas.Bool.{cond_both, cond-true, cond-false, cases_Bool, cases_eq, cases_lt, and_parts, and_from, and_left, lt-leb, not_from_false, false_from_ne_true}
+use Rattle.std.proofs.Common.{◌≡◌, ℕ, suc, ◌+◌, ◌<◌, ◌≤◌, max, true, false, ◌&&◌, not, nat_le, nat_lt, inl, inr, List, [], ◌∷◌, map, reverse, length, Option, Some, None, is_some, slice_get, refl, sym, ap, ap₂, ◌∙◌, arith, eqb-true, true≢false, lt-ltb, le-leb}
+use Rattle.std.specs.List.{list_all, AllByRecursion}
+use Rattle.std.proofs.lemmas.Bool.{cond-true, cond-false, cases_Bool, cases_lt, and_parts, and_from, and_left, lt-leb}
 use Rattle.std.proofs.lemmas.List.{length-append, length-map}
 use Rattle.std.proofs.lemmas.List.Elements.{recursion_from_All}
 use Rattle.std.proofs.lemmas.Option.{none-some, same_Some, slice_get_within}
@@ -11,25 +10,21 @@ use Rattle.sv_world.specs.declared.world.ObjectId.{ObjectId}
 use Rattle.sv_world.specs.Faults.{is_ascending}
 use Rattle.sv_wire.specs.declared.message.Request.{Request}
 use Rattle.sv_wire.specs.declared.message.Request.TheVariants as requests
-use Rattle.sv_wire.specs.declared.message.Reply.{Reply}
 use Rattle.sv_journal.specs.declared.entry.Entry.{Entry}
-use Rattle.sv_journal.specs.declared.entry.Logged.{Logged}
 use Rattle.sv_journal.specs.declared.entry.Logged.TheVariants as logged
 use Rattle.sv_journal.specs.History.{Authored, accepted, client_of, is_client, is_welcome, joining, full_reply, commit_of}
 use Rattle.sv_journal.specs.Sessions.{is_end, welcomes, is_joined, is_over, is_live, asked_in, life_in, life_of}
-use Rattle.sv_journal.specs.Answer.{Rules, committed_held, is_good_interest, reply_to_join, reply_to_open, reply_to_request, most_requests, reply_to, refused, Legal}
+use Rattle.sv_journal.specs.Answer.{Rules, committed_held, is_good_interest, reply_to_join, reply_to_open, reply_to_request, reply_to, refused, Legal}
 use Rattle.sv_client.specs.declared.trace.Event.{Event}
 use Rattle.sv_client.specs.declared.trace.Trace.{Trace}
 use Rattle.sv_client.specs.Traces.{joins, current_session, asked, got}
-use Rattle.sv_client.specs.Taking.{Identity}
 use Rattle.sv_client.specs.Proper.{identity_of}
 use Rattle.sv_system.specs.Fits.{requests_in, replies_in, FitsOne, Fits}
 use Rattle.sv_system.proofs.Histories.{IsEarlier, same, after, earlier-then, earlier-rest, earlier-legal}
-use Rattle.sv_system.proofs.Entered.{earlier-cases, is_of, of-parts, of-from, as-many, IsEntered, entered, IsWelcome, over-stays}
+use Rattle.sv_system.proofs.Entered.{is_of, of-parts, of-from, as-many}
 use Rattle.sv_system.proofs.Asked.{current-last}
 use Rattle.sv_system.proofs.Leaving.{IsJoinAsked, join-asked}
-use Rattle.sv_system.proofs.Order.{get-some, got-replied, IsWelcomed, welcomed-at, older-over, earlier-strict, got-not_over}
-use Rattle.sv_system.proofs.Opened.{welcomed-by, one, own-join, has, asks, was-got, not-over}
+use Rattle.sv_system.proofs.Opened.{welcomed-by, one, own-join, asks, was-got, not-over}
 
 asked-count : (h : List Entry) (s : ℕ) → asked_in h s ≡ length (requests_in h s)
 asked-count [] s = refl
@@ -38,7 +33,7 @@ asked-count (e ∷ h) s =
     elim (cases_Bool (is_of e s)) [
       | inl t ↦ cond-true (is_of e s) _ _ t ∙ ap suc before
           ∙ (let n : suc (length (requests_in h s)) ≡ length (requests_in (e ∷ h) s) =
-              (let a : length (requests_in (e ∷ h) s) ≡ length (requests_in h s) + 1 = ap length (cond-true (is_of e s) _ _ t) ∙ length-append (requests_in h s) (e.request ∷ []) in omega arith) in n)
+          (let a : length (requests_in (e ∷ h) s) ≡ length (requests_in h s) + 1 = ap length (cond-true (is_of e s) _ _ t) ∙ length-append (requests_in h s) (e.request ∷ []) in omega arith) in n)
       | inr f ↦ cond-false (is_of e s) _ _ f ∙ before ∙ sym (ap length (cond-false (is_of e s) _ _ f))
     ]
 
@@ -137,7 +132,7 @@ module _ (r : Rules) (H : List Entry) (Ls : List Trace) (legal : Legal r H) (fit
   none-before : length (got whole s) ≡ 0 → (d : Entry) (h : List Entry) → IsEarlier (d ∷ h) g → is_of d s ≡ true → ⊥
   none-before z d h c t =
       let l : length (replies_in A h s) < length (got whole s) =
-          slice_get_within (got whole s) (length (replies_in A h s)) (full_reply A d.reply) (was-got r H Ls legal fits i L member s current e g b mine next d h c t) in
+      slice_get_within (got whole s) (length (replies_in A h s)) (full_reply A d.reply) (was-got r H Ls legal fits i L member s current e g b mine next d h c t) in
       absurd (omega arith)
 
   fresh-client : length (got whole s) ≡ 0 → (o : Option ℕ) → client_of g s ≡ o → client_of g s ≡ None
@@ -187,7 +182,9 @@ module _ (r : Rules) (H : List Entry) (Ls : List Trace) (legal : Legal r H) (fit
       × IsJoinAsked (identity_of r.world.shape L) L.first whole s (length (got whole s)) client life interest
   join-welcomed client life interest is =
       let j = join-asked (identity_of r.world.shape L) L.first whole this_one.proper.events s (length (got whole s)) client life interest (asking ∙ ap Some is) in
-      let z : length (got whole s) ≡ 0 = j.place in
-      (replied ∙ ap (reply_to_open r g s) is
-      ∙ ap₂ (λ (c : ClientId) (xs : List ObjectId). reply_to_join r g s c.0 life (map (λ (o : ObjectId). o.0) xs)) j.client_is j.interest_is
-      ∙ join-reply life (fresh-client z (client_of g s) refl) (later-life z life j.low j.numbered), j)
+      let z : length (got whole s) ≡ 0 = j.place in (
+        replied ∙ ap (reply_to_open r g s) is
+            ∙ ap₂ (λ (c : ClientId) (xs : List ObjectId). reply_to_join r g s c.0 life (map (λ (o : ObjectId). o.0) xs)) j.client_is j.interest_is
+            ∙ join-reply life (fresh-client z (client_of g s) refl) (later-life z life j.low j.numbered),
+        j,
+      )

@@ -1,23 +1,20 @@
 -- A relay has at most one item more than the bound.
-use Rattle.std.proofs.Common.{◌≡◌, ℕ, zero, suc, ◌+◌, ◌<◌, ◌≤◌, Bool, true, false, nat_lt, ◌⊎◌, inl, inr, List, [], ◌∷◌, ◌++◌, map, length, Option, Some, None, refl, sym, ap, ap₂, ◌∙◌, subst, arith, append-nil, append_assoc}
+use Rattle.std.proofs.Common.{◌≡◌, ℕ, suc, ◌+◌, ◌<◌, ◌≤◌, false, nat_lt, inl, inr, List, [], ◌∷◌, ◌++◌, length, refl, ap, ap₂, ◌∙◌, subst, arith, append-nil, append_assoc}
 use Rattle.std.specs.Prelude.{if◌then◌else◌}
 use Rattle.std.specs.List.{AllByRecursion}
 use Rattle.std.proofs.lemmas.Bool.{cond-false, cases_lt, ltb-false}
 use Rattle.std.proofs.lemmas.List.{length-append}
-use Rattle.std.proofs.lemmas.Option.{none-some, same_Some}
 use Rattle.sv_world.specs.declared.action.Action.{Action}
 use Rattle.sv_world.specs.Control.{chain_length, needed_for}
 use Rattle.sv_world.proofs.Influences.{needed-chain}
 use Rattle.sv_wire.specs.declared.message.Held.{Held as Sent}
-use Rattle.sv_wire.specs.declared.message.Request.{Request}
-use Rattle.sv_wire.specs.declared.message.Request.TheVariants as requests
 use Rattle.sv_journal.specs.declared.entry.Entry.{Entry}
 use Rattle.sv_journal.specs.declared.entry.Logged.{Logged}
 use Rattle.sv_journal.specs.declared.entry.Logged.TheVariants as logged
 use Rattle.sv_journal.specs.History.{Authored, client_of, is_relay, new_action, outcomes_of, accepted, actions_of, commit_of}
 use Rattle.sv_journal.specs.Sessions.{positions_in, sent_to}
 use Rattle.sv_journal.specs.Answer.{Rules, Legal}
-use Rattle.sv_system.proofs.Histories.{IsEarlier, same, after, IsFrontPart, actions-earlier, actions-count, earlier-rest, kept-below}
+use Rattle.sv_system.proofs.Histories.{IsEarlier, same, after, actions-earlier, actions-count, earlier-rest, kept-below}
 use Rattle.sv_system.proofs.Commits.{commit-grows}
 use Rattle.sv_system.proofs.Replies.{new_of, new-submit, old-submit, new-poll, Tells, IsRelayReply, legal-tells}
 use Rattle.sv_system.proofs.Lawful.{relayed-actions, IsLegalRelay, legal-relay}
@@ -56,7 +53,7 @@ accepted-here r e h i l low high (logged.Relay seq commit head positions) is =
     let before : length (actions_of h) ≡ length (accepted h) = actions-count h in
     let now : length (actions_of (e ∷ h)) ≡ length (accepted (e ∷ h)) = actions-count (e ∷ h) in
     let none : new_of h e.session e.request ≡ [] → ⊥ =
-        λ (n : new_of h e.session e.request ≡ []). (let c : length (actions_of (e ∷ h)) ≡ length (actions_of h) = ap length (acts ∙ ap (λ (x : List Action). actions_of h ++ x) n ∙ append-nil (actions_of h)) in absurd (omega arith)) in
+    λ (n : new_of h e.session e.request ≡ []). (let c : length (actions_of (e ∷ h)) ≡ length (actions_of h) = ap length (acts ∙ ap (λ (x : List Action). actions_of h ++ x) n ∙ append-nil (actions_of h)) in absurd (omega arith)) in
     elim t.kind [
       | inr p ↦ absurd (none (ap (new_of h e.session) p.0 ∙ new-poll r h e.session t.client t.joined))
       | inl p ↦ elim p.1.1.1 [
@@ -106,9 +103,9 @@ relay-small r e h commit head positions l t =
     let p = actions-earlier (a.entry ∷ a.before) (e ∷ h) a.earlier in
     let acts : actions_of (e ∷ h) ≡ A ++ a.action ∷ p.0 = p.1 ∙ ap (λ (x : List Action). x ++ p.0) a.actions ∙ append_assoc A (a.action ∷ []) p.0 in
     let same_positions : positions ≡ needed_for (A ++ a.action ∷ p.0) (commit_of h) (sent_to h e.session) (suc (length A)) =
-        t.positions_are ∙ ap₂ (λ (x : List Action) (n : ℕ). needed_for x (commit_of h) (sent_to h e.session) n) acts place in
+    t.positions_are ∙ ap₂ (λ (x : List Action) (n : ℕ). needed_for x (commit_of h) (sent_to h e.session) n) acts place in
     let small : length (needed_for (A ++ a.action ∷ p.0) (commit_of h) (sent_to h e.session) (suc (length A))) ≤ suc (chain_length A (commit_of a.before) a.action) =
-        needed-chain A p.0 (commit_of a.before) (commit_of h) a.action (sent_to h e.session) (commit-grows a.before h (earlier-inner a.entry e a.before h a.earlier)) (omega arith) in
+    needed-chain A p.0 (commit_of a.before) (commit_of h) a.action (sent_to h e.session) (commit-grows a.before h (earlier-inner a.entry e a.before h a.earlier)) (omega arith) in
     let chain : chain_length A (commit_of a.before) a.action ≤ r.bound = ltb-false r.bound (chain_length A (commit_of a.before) a.action) a.chain in
     let len : length positions ≡ length (needed_for (A ++ a.action ∷ p.0) (commit_of h) (sent_to h e.session) (suc (length A))) = ap length same_positions in
     omega arith

@@ -1,21 +1,15 @@
 -- The commit and the numbers of clients grow along a history; and an accepted position was accepted at an entry.
-use Rattle.std.proofs.Common.{◌≡◌, ℕ, zero, suc, ◌+◌, ◌<◌, ◌≤◌, Bool, true, false, cond, ◌&&◌, ◌==◌, nat_lt, ◌⊎◌, inl, inr, List, [], ◌∷◌, ◌++◌, map, length, ℤ, Option, Some, None, is_some, slice_get, refl, sym, ap, ◌∙◌, subst, arith, eqb-true, eq-eqb, true≢false, append-nil, append_assoc}
+use Rattle.std.proofs.Common.{◌≡◌, ℕ, zero, suc, ◌+◌, ◌<◌, ◌≤◌, Bool, true, ◌&&◌, ◌==◌, inl, inr, List, [], ◌∷◌, ◌++◌, length, ℤ, Option, Some, None, is_some, slice_get, refl, sym, ap, ◌∙◌, subst, arith, eq-eqb, true≢false, append-nil, append_assoc}
 use Rattle.std.specs.Prelude.{if◌then◌else◌}
-use Rattle.std.proofs.lemmas.Bool.{cond_both, cond-true, cond-false, cases_Bool, cases_eq, cases_lt, and_parts, and_from}
+use Rattle.std.proofs.lemmas.Bool.{cond_both, cond-true, cond-false, cases_Bool, cases_eq, and_parts, and_from}
 use Rattle.std.proofs.lemmas.List.{length-append}
 use Rattle.std.proofs.lemmas.Option.{none-some, same_Some}
-use Rattle.sv_world.specs.declared.action.Action.{Action}
-use Rattle.sv_world.specs.Control.{action_at, chain_length, needed_for}
-use Rattle.sv_wire.specs.declared.message.Held.{Held as Sent}
-use Rattle.sv_wire.specs.declared.message.Request.{Request}
-use Rattle.sv_wire.specs.declared.message.Request.TheVariants as requests
 use Rattle.sv_journal.specs.declared.entry.Entry.{Entry}
 use Rattle.sv_journal.specs.declared.entry.Logged.{Logged}
 use Rattle.sv_journal.specs.declared.entry.Logged.TheVariants as logged
-use Rattle.sv_journal.specs.History.{Authored, Outcome, Accepted, Dropped, client_of, is_client, is_relay, is_noted, is_submit_of, outcome_in, new_action, outcomes_of, accepted, actions_of, next_seq, result_at, reports, run_length, commit_of, either}
+use Rattle.sv_journal.specs.History.{Outcome, Accepted, Dropped, client_of, is_client, is_noted, is_submit_of, outcome_in, outcomes_of, accepted, next_seq, result_at, reports, run_length, commit_of, either}
 use Rattle.sv_journal.specs.Sessions.{outcome_at}
-use Rattle.sv_journal.specs.Answer.{Rules, Legal}
-use Rattle.sv_system.proofs.Histories.{IsEarlier, same, after, earlier-rest, accepted-grows, actions-count, commit-most, committed-has}
+use Rattle.sv_system.proofs.Histories.{IsEarlier, same, after, accepted-grows, commit-most, committed-has}
 use Rattle.sv_system.proofs.Asked.{get-append_cases}
 
 -- ---- The commit grows
@@ -32,7 +26,7 @@ run-least test (suc n) m l f =
           (let most : n ≤ run_length test n = run-least test n n (omega arith) (λ p a b. f p a (omega arith)) in
           let top : run_length test n ≤ n = run-top test n in
           let both : ((run_length test n == n) && test (suc n)) ≡ true =
-              and_from (run_length test n == n) (test (suc n)) (eq-eqb (run_length test n) n (omega arith)) (f (suc n) (omega arith) (omega arith)) in
+          and_from (run_length test n == n) (test (suc n)) (eq-eqb (run_length test n) n (omega arith)) (f (suc n) (omega arith) (omega arith)) in
           absurd (true≢false (sym both ∙ e)))
     ])
   where

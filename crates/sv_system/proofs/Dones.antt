@@ -1,37 +1,31 @@
 -- A client's Done is not bad: it reports, of the items of a relay that it got, well-formed results.
-use Rattle.std.proofs.Common.{◌≡◌, ℕ, zero, suc, ◌+◌, ◌<◌, ◌≤◌, Bool, true, false, cond, not, ◌&&◌, ◌||◌, ◌==◌, nat_le, nat_lt, ◌⊎◌, inl, inr, List, [], ◌∷◌, ◌++◌, map, reverse, length, ℤ, Option, Some, None, slice_get, slice_index_or, refl, sym, ap, ◌∙◌, subst, arith, eqb-true, eq-eqb, true≢false, le-ltb}
-use Rattle.std.specs.Prelude.{if◌then◌else◌, All, unwrap_or}
+use Rattle.std.proofs.Common.{◌≡◌, ℕ, zero, suc, ◌<◌, ◌≤◌, Bool, true, false, not, ◌&&◌, ◌||◌, ◌==◌, nat_lt, List, [], ◌∷◌, ◌++◌, map, length, ℤ, refl, sym, ap, ◌∙◌, subst, arith, eq-eqb, true≢false, le-ltb}
+use Rattle.std.specs.Prelude.{All, unwrap_or}
 use Rattle.std.specs.List.{list_any, list_all, AllByRecursion}
-use Rattle.std.proofs.lemmas.Bool.{cond_both, cond-true, cond-false, cases_Bool, cases_eq, cases_lt, or_from, or_parts, and_right, and_parts, ne_eqb, not_from_true, false_from_ne_true}
-use Rattle.std.proofs.lemmas.List.{length-append, length-map}
+use Rattle.std.proofs.lemmas.Bool.{cond_both, cond-true, or_from, and_right, ne_eqb, not_from_true}
+use Rattle.std.proofs.lemmas.List.{length-map}
 use Rattle.std.proofs.lemmas.List.Elements.{recursion_from_All, All-from_recursion}
-use Rattle.std.proofs.lemmas.Option.{none-some, same_Some}
-use Rattle.sv_world.specs.Control.{is_in, action_at, needed_for}
+use Rattle.sv_world.specs.Control.{is_in, action_at}
 use Rattle.sv_world.specs.Faults.{is_ascending}
 use Rattle.sv_world.specs.Sets.{read_set, write_set}
 use Rattle.sv_world.specs.declared.action.Action.{Action}
 use Rattle.sv_world.specs.declared.world.ObjectId.{ObjectId}
 use Rattle.sv_world.proofs.Members.{is_in-head, is_in-tail, is_in-append_left, is_in-append_right}
-use Rattle.sv_world.proofs.Needs.{needed-ascending, needed-bounds}
 use Rattle.sv_eval.specs.Serial.{values_at, serial_world}
 use Rattle.sv_eval.proofs.Outcomes.{outcome_counted, outcome_shaped}
-use Rattle.sv_eval.proofs.Serials.{serial_length, serial_shaped}
+use Rattle.sv_eval.proofs.Serials.{serial_length}
 use Rattle.sv_versions.specs.Held.{Held, read_below}
 use Rattle.sv_wire.specs.declared.message.Done1.{Done1}
-use Rattle.sv_wire.specs.declared.message.Held.{Held as Sent}
 use Rattle.sv_wire.specs.declared.message.Item.{Item}
 use Rattle.sv_journal.specs.declared.entry.Entry.{Entry}
-use Rattle.sv_journal.specs.declared.entry.Logged.{Logged}
-use Rattle.sv_journal.specs.declared.entry.Logged.TheVariants as logged
 use Rattle.sv_journal.specs.History.{Authored, accepted, actions_of, item_at, commit_of}
 use Rattle.sv_journal.specs.Sessions.{positions_in, sent_to}
-use Rattle.sv_journal.specs.Answer.{Rules, is_bad_result, is_bad_done, Legal}
+use Rattle.sv_journal.specs.Answer.{Rules, is_bad_result, is_bad_done}
 use Rattle.sv_client.specs.Traces.{item_result, item_held, results_of}
 use Rattle.sv_system.specs.Journals.{serial_result}
 use Rattle.sv_system.proofs.Items.{IsPlain, item-action}
 use Rattle.sv_system.proofs.Reported.{IsSerialResult}
-use Rattle.sv_system.proofs.Histories.{IsEarlier, same, after, earlier-rest, earlier-legal, accepted-grows, action_at-earlier}
-use Rattle.sv_system.proofs.Lawful.{IsLegalRelay, legal-relay, sent-within}
+use Rattle.sv_system.proofs.Histories.{IsEarlier, same, after, action_at-earlier}
 use Rattle.sv_system.proofs.Ordered.{positions-back}
 
 -- What a journal's relay to a session sends it, of which it is a part later on.
@@ -117,12 +111,12 @@ module _ (r : Rules) (H : List Entry) (count : length r.world.values ≡ r.world
       let a = action_at (actions_of g) k in
       let action : (item_at A k).action ≡ a = item-action A k ∙ action_at-earlier g H b k high in
       let size : length values ≡ length (write_set a) =
-          outcome_counted (item_at A k).action (map (λ x. unwrap_or (read_below held x k) []) (read_set (item_at A k).action))
-          (length-map (read_set (item_at A k).action) (λ x. unwrap_or (read_below held x k) []) ∙ length-map (item_at A k).action.reads (λ (o : ObjectId). o.0))
-          ∙ ap (λ (c : Action). length (write_set c)) action in
+      outcome_counted (item_at A k).action (map (λ x. unwrap_or (read_below held x k) []) (read_set (item_at A k).action))
+      (length-map (read_set (item_at A k).action) (λ x. unwrap_or (read_below held x k) []) ∙ length-map (item_at A k).action.reads (λ (o : ObjectId). o.0))
+      ∙ ap (λ (c : Action). length (write_set c)) action in
       let long : list_all (λ (v : List ℤ). length v == r.world.shape.attrs) values ≡ true =
-          all-long r.world.shape.attrs values
-          (subst (AllByRecursion (λ (v : List ℤ). length v ≡ r.world.shape.attrs)) (sym (serial low)) (result-shaped world-shaped k)) in
+      all-long r.world.shape.attrs values
+      (subst (AllByRecursion (λ (v : List ℤ). length v ≡ r.world.shape.attrs)) (sym (serial low)) (result-shaped world-shaped k)) in
       three-false (k == 0) (nat_lt (length (accepted g)) k)
       (nat_lt (commit_of g) k && (not (is_in k (sent_to g s)) || not (length values == length (write_set a)) || not (list_all (λ (v : List ℤ). length v == r.world.shape.attrs) values)))
       (ne_eqb k 0 (λ z. absurd (omega arith)))

@@ -1,7 +1,7 @@
 -- The Joins that a trace asks, and that nothing is asked after a Leave.
-use Rattle.std.proofs.Common.{◌≡◌, ℕ, zero, suc, ◌+◌, ◌<◌, ◌≤◌, Bool, true, false, cond, ◌==◌, ◌⊎◌, inl, inr, List, [], ◌∷◌, ◌++◌, map, drop, length, Option, Some, None, slice_get, refl, sym, ap, ap₂, ◌∙◌, subst, arith, eqb-true, eq-eqb, true≢false, append-nil}
+use Rattle.std.proofs.Common.{◌≡◌, ℕ, zero, suc, ◌+◌, ◌<◌, ◌≤◌, Bool, true, false, ◌==◌, inl, inr, List, [], ◌∷◌, ◌++◌, map, drop, length, Option, Some, None, slice_get, refl, sym, ap, ◌∙◌, subst, arith, eqb-true, eq-eqb, true≢false, append-nil}
 use Rattle.std.specs.Prelude.{if◌then◌else◌}
-use Rattle.std.proofs.lemmas.Bool.{cond-true, cond-false, cases_Bool, cases_eq, cases_lt}
+use Rattle.std.proofs.lemmas.Bool.{cond-true, cond-false, cases_Bool}
 use Rattle.std.proofs.lemmas.List.{length-append}
 use Rattle.std.proofs.lemmas.Option.{none-some, same_Some, slice_get_within}
 use Rattle.sv_world.specs.declared.world.ClientId.{ClientId}
@@ -15,10 +15,9 @@ use Rattle.sv_wire.specs.declared.message.Reply.TheVariants as replies
 use Rattle.sv_client.specs.declared.trace.Event.{Event}
 use Rattle.sv_client.specs.declared.trace.Event.TheVariants as events
 use Rattle.sv_client.specs.Traces.{joins, makes, current_session, is_session, held_of, done_for, pending_of, submit_of, asked_by, asked, got}
-use Rattle.sv_client.specs.Taking.{Identity, allows, outstanding, unanswered}
+use Rattle.sv_client.specs.Taking.{Identity, allows, unanswered}
 use Rattle.sv_client.specs.Proper.{MayFollow, MayJoin, AreProper, in_session}
-use Rattle.sv_system.proofs.Asked.{get-append_cases, Answers, may-answer, IsBegun, begun-or_not}
-use Rattle.sv_system.proofs.Pendings.{got-fewer}
+use Rattle.sv_system.proofs.Asked.{get-append_cases, may-answer, IsBegun, begun-or_not}
 
 -- A Join that a trace asks is the first request of its session, and its life is told by the session's number.
 pub record IsJoinAsked (who : Identity) (first : ℕ) (t : List Event) (s i : ℕ) (client : ClientId) (life : ℕ) (interest : List ObjectId) : Type 0 where
@@ -177,7 +176,7 @@ module _ (who : Identity) (first : ℕ) where
   leave-now t s p c j z there =
       let mine : is_session (current_session t) s ≡ true = ap (λ (o : Option ℕ). is_session o s) c ∙ eq-eqb s s refl in
       let one : length (here (events.Leave ∷ t) s) ≡ length (here t s) + 1 =
-          ap (λ (qs : List Request). length (here t s ++ qs)) (cond-true (is_session (current_session t) s) (requests.Leave ∷ []) [] mine) ∙ length-append (here t s) (requests.Leave ∷ []) in
+      ap (λ (qs : List Request). length (here t s ++ qs)) (cond-true (is_session (current_session t) s) (requests.Leave ∷ []) [] mine) ∙ length-append (here t s) (requests.Leave ∷ []) in
       let none : drop (length (got t s)) (here t s) ≡ [] = subst (λ (o : Option ℕ). unanswered who t o ≡ []) c p.0.settled in
       let most : length (here t s) ≤ length (got t s) = drop-none (length (got t s)) (here t s) none in
       record {

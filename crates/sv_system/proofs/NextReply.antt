@@ -1,18 +1,18 @@
 -- The faults that the next reply to a client may have, if any.
-use Rattle.std.proofs.Common.{◌≡◌, ℕ, ℤ, suc, ◌≤◌, Bool, true, false, not, ◌⊎◌, inl, inr, List, ◌∷◌, drop, reverse, length, Option, Some, None, slice_get, refl, sym, ap, ◌∙◌, subst, true≢false}
+use Rattle.std.proofs.Common.{◌≡◌, ℕ, ℤ, ◌≤◌, Bool, true, false, not, ◌⊎◌, inl, inr, List, reverse, length, Option, Some, None, slice_get, refl, sym, ap, ◌∙◌, subst, true≢false}
 use Rattle.std.specs.Prelude.{if◌then◌else◌, All}
 use Rattle.sv_wire.specs.declared.message.Request.{Request}
 use Rattle.sv_wire.specs.declared.message.Reply.{Reply}
 use Rattle.sv_journal.specs.declared.entry.Entry.{Entry}
-use Rattle.sv_journal.specs.History.{accepted, full_reply}
+use Rattle.sv_journal.specs.History.{accepted}
 use Rattle.sv_journal.specs.Answer.{Rules, Legal}
 use Rattle.sv_client.specs.declared.trace.Event.{Event}
 use Rattle.sv_client.specs.declared.trace.Trace.{Trace}
 use Rattle.sv_client.specs.Traces.{current_session, held_of, pending_of, requests_of, asked, got}
-use Rattle.sv_client.specs.Taking.{Identity, Fault, WrongKind, BadOrder, BadItem, allows, is_out_of_order, has_bad_item, missing_in, missing_fault, unanswered, fault_for, fault_after, first_fault_of_reply}
+use Rattle.sv_client.specs.Taking.{Identity, Fault, WrongKind, BadOrder, BadItem, allows, is_out_of_order, has_bad_item, missing_in, missing_fault, unanswered, fault_after, first_fault_of_reply}
 use Rattle.sv_client.specs.Proper.{identity_of}
 use Rattle.sv_system.specs.Fits.{replies_in, Fits}
-use Rattle.sv_system.proofs.Entered.{IsEntered, entered}
+use Rattle.sv_system.proofs.Entered.{entered}
 use Rattle.sv_system.proofs.Aligned.{drop-one}
 use Rattle.sv_system.proofs.Opened.{asks}
 use Rattle.sv_system.proofs.Allowed.{allowed}

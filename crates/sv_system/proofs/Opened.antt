@@ -1,14 +1,13 @@
 -- The session that a client began last is not over when its next request is answered.
-use Rattle.std.proofs.Common.{◌≡◌, ℕ, zero, suc, ◌+◌, ◌<◌, ◌≤◌, Bool, true, false, ◌&&◌, ◌||◌, ◌==◌, ◌⊎◌, inl, inr, List, [], ◌∷◌, ◌++◌, map, reverse, length, Option, Some, None, slice_get, refl, sym, ap, ◌∙◌, subst, arith, eqb-true, eq-eqb, true≢false}
-use Rattle.std.specs.Prelude.{if◌then◌else◌, All}
+use Rattle.std.proofs.Common.{◌≡◌, ℕ, zero, suc, ◌+◌, ◌<◌, ◌≤◌, Bool, true, false, ◌&&◌, ◌==◌, ◌⊎◌, inl, inr, List, [], ◌∷◌, reverse, length, Option, Some, None, slice_get, refl, sym, ap, ◌∙◌, subst, arith, eqb-true, eq-eqb, true≢false}
+use Rattle.std.specs.Prelude.{if◌then◌else◌}
 use Rattle.std.specs.List.{list_any, AllByRecursion}
-use Rattle.std.proofs.lemmas.Bool.{cond-true, cond-false, cases_Bool, cases_eq, cases_lt, or_cases, or_left, or_right, and_parts, and_from, not_from_false, false_from_ne_true}
+use Rattle.std.proofs.lemmas.Bool.{cond-true, cond-false, cases_Bool, or_cases, or_left, or_right, and_parts, and_from, false_from_ne_true}
 use Rattle.std.proofs.lemmas.List.{length-append}
 use Rattle.std.proofs.lemmas.List.Elements.{recursion_from_All}
 use Rattle.std.proofs.lemmas.Option.{none-some, same_Some, slice_get_within}
 use Rattle.sv_world.specs.declared.world.ClientId.{ClientId}
 use Rattle.sv_world.specs.declared.world.ObjectId.{ObjectId}
-use Rattle.sv_world.specs.declared.world.Shape.{Shape}
 use Rattle.sv_wire.specs.declared.message.Held.{Held as Sent}
 use Rattle.sv_wire.specs.declared.message.Request.{Request}
 use Rattle.sv_wire.specs.declared.message.Request.TheVariants as requests
@@ -25,15 +24,13 @@ use Rattle.sv_client.specs.declared.trace.Event.TheVariants as events
 use Rattle.sv_client.specs.declared.trace.Trace.{Trace}
 use Rattle.sv_client.specs.Traces.{joins, current_session, asked, got}
 use Rattle.sv_client.specs.Taking.{Identity, allows}
-use Rattle.sv_client.specs.Proper.{AreProper, identity_of}
-use Rattle.sv_system.specs.Fronts.{IsFront}
+use Rattle.sv_client.specs.Proper.{identity_of}
 use Rattle.sv_system.specs.Fits.{requests_in, replies_in, is_ended, IsEndLast, has_session, FitsOne, AreApart, AreAllApart, is_owned, Fits}
 use Rattle.sv_system.proofs.Fronts.{get-last}
-use Rattle.sv_system.proofs.Histories.{IsEarlier, same, after, earlier-then, earlier-rest, earlier-legal}
-use Rattle.sv_system.proofs.Entered.{is_of, of-parts, of-from, as-many, replies-earlier, front-length, request-there, IsEntered, entered, IsWelcome, welcome-life, life-grows}
-use Rattle.sv_system.proofs.Asked.{all, part-rest, asked-part, IsGot, got-when, Answers, got-answers, current-last, current-joined}
+use Rattle.sv_system.proofs.Histories.{IsEarlier, same, after, earlier-then, earlier-rest}
+use Rattle.sv_system.proofs.Entered.{is_of, of-parts, of-from, as-many, replies-earlier, front-length, request-there, IsWelcome, welcome-life, life-grows}
+use Rattle.sv_system.proofs.Asked.{all, part-rest, asked-part, got-when, got-answers, current-last, current-joined}
 use Rattle.sv_system.proofs.Leaving.{IsJoinAsked, join-asked, leave-last}
-use Rattle.sv_system.proofs.BoundedRelays.{earlier-inner}
 use Rattle.sv_system.proofs.Order.{get-some, never-refused, got-replied, joined-has, welcome-legal}
 
 -- ---- Traces of different clients
@@ -249,7 +246,7 @@ module _ (r : Rules) (H : List Entry) (Ls : List Trace) (legal : Legal r H) (fit
   session-client s has h b k c =
       let w = welcomed-by h s k c in
       let j = join-of L one w.entry w.before (earlier-then (w.entry ∷ w.before) h H w.earlier b) (subst (λ (n : ℕ). has_session L n ≡ true) (sym w.session) has)
-          w.client w.life w.welcome.interest w.welcome.request in
+      w.client w.life w.welcome.interest w.welcome.request in
       sym w.client_is ∙ ap (λ (d : ClientId). d.0) j.client_is
 
   -- ---- The session that was begun last
@@ -276,7 +273,7 @@ module _ (r : Rules) (H : List Entry) (Ls : List Trace) (legal : Legal r H) (fit
         let m = length (replies_in A h s) in
         let found = get-some (got whole s) m (omega arith) in
         let there : slice_get (replies_in A (d ∷ h) s) m ≡ Some (full_reply A d.reply) =
-            ap (λ (l : List Reply). slice_get l m) (cond-true (is_of d s) _ _ t) ∙ get-last (replies_in A h s) (full_reply A d.reply) in
+        ap (λ (l : List Reply). slice_get l m) (cond-true (is_of d s) _ _ t) ∙ get-last (replies_in A h s) (full_reply A d.reply) in
         let full : slice_get (replies_in A H s) m ≡ Some (full_reply A d.reply) = replies-earlier A (d ∷ h) H (earlier-then (d ∷ h) g H c earlier) s m (full_reply A d.reply) there in
         found.1 ∙ ap Some (same_Some found.0 (full_reply A d.reply) (sym (got-replied r H legal L one s m found.0 found.1) ∙ full))
 
@@ -288,8 +285,8 @@ module _ (r : Rules) (H : List Entry) (Ls : List Trace) (legal : Legal r H) (fit
         let a = got-answers who L.first whole one.proper.events s m (full_reply A d.reply) w in
         let leave : a.request ≡ requests.Leave = last-kinds a.request A d.reply last a.kind in
         let at : slice_get (asked L.client L.interest whole s) m ≡ Some requests.Leave =
-            asked-part who L.first w.before whole (part-rest w.before (events.Got s (full_reply A d.reply)) whole w.part) s m requests.Leave
-            (ap (slice_get (asked L.client L.interest w.before s)) w.place ∙ a.asked_there ∙ ap Some leave) in
+        asked-part who L.first w.before whole (part-rest w.before (events.Got s (full_reply A d.reply)) whole w.part) s m requests.Leave
+        (ap (slice_get (asked L.client L.interest w.before s)) w.place ∙ a.asked_there ∙ ap Some leave) in
         let last_one : length (asked L.client L.interest whole s) ≡ suc m = (leave-last who L.first whole one.proper.events s m at).last in
         let within : length (got whole s) < length (asked L.client L.interest whole s) = slice_get_within (asked L.client L.interest whole s) (length (got whole s)) e.request asks in
         let got_it : m < length (got whole s) = slice_get_within (got whole s) m (full_reply A d.reply) there in

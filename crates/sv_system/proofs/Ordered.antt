@@ -1,11 +1,9 @@
 -- The next reply to a client is in order, and brings each value that its items read.
-use Rattle.std.proofs.Common.{◌≡◌, ℕ, zero, suc, ◌+◌, ◌<◌, ◌≤◌, Bool, true, false, not, ◌||◌, ◌==◌, nat_le, nat_lt, ◌⊎◌, inl, inr, List, [], ◌∷◌, ◌++◌, map, reverse, length, Option, Some, None, option_map, is_none, slice_get, refl, sym, ap, ◌∙◌, subst, arith, eq-eqb, true≢false, le-ltb}
-use Rattle.std.specs.Prelude.{if◌then◌else◌, All}
+use Rattle.std.proofs.Common.{◌≡◌, ℕ, ◌<◌, ◌≤◌, Bool, true, false, not, ◌||◌, ◌==◌, inl, inr, List, [], ◌∷◌, ◌++◌, map, reverse, length, Option, Some, None, option_map, is_none, slice_get, refl, sym, ap, ◌∙◌, subst, arith, eq-eqb, true≢false, le-ltb}
 use Rattle.std.specs.List.{AllByRecursion}
-use Rattle.std.proofs.lemmas.Bool.{cond-true, cond-false, cases_eq, cases_lt, lt-leb, not_from_true, ne_eqb}
+use Rattle.std.proofs.lemmas.Bool.{cond-true, cond-false, cases_eq, lt-leb, not_from_true, ne_eqb}
 use Rattle.std.proofs.lemmas.List.Elements.{recursion_from_All}
-use Rattle.std.proofs.lemmas.Option.{none-some, same_Some}
-use Rattle.sv_world.specs.Control.{is_in, action_at, last_writer, needed_for, head_for}
+use Rattle.sv_world.specs.Control.{is_in, last_writer, needed_for, head_for}
 use Rattle.sv_world.specs.Faults.{is_ascending}
 use Rattle.sv_world.specs.Sets.{read_set}
 use Rattle.sv_world.specs.declared.action.Action.{Action}
@@ -13,7 +11,7 @@ use Rattle.sv_world.specs.declared.world.ObjectId.{ObjectId}
 use Rattle.sv_world.proofs.Members.{is_in-head}
 use Rattle.sv_world.proofs.Needs.{needed-ascending, needed-bounds}
 use Rattle.sv_world.proofs.Bases.{head_for-ascending}
-use Rattle.sv_versions.specs.Held.{Held, found_below, read_below}
+use Rattle.sv_versions.specs.Held.{Held, read_below}
 use Rattle.sv_wire.specs.declared.message.Held.{Held as Sent}
 use Rattle.sv_wire.specs.declared.message.Item.{Item}
 use Rattle.sv_wire.specs.declared.message.Reply.{Reply}
@@ -23,15 +21,15 @@ use Rattle.sv_journal.specs.declared.entry.Logged.{Logged}
 use Rattle.sv_journal.specs.declared.entry.Logged.TheVariants as logged
 use Rattle.sv_journal.specs.History.{Authored, accepted, actions_of, item_at, full_reply, commit_of}
 use Rattle.sv_journal.specs.Sessions.{sent_to, already_given}
-use Rattle.sv_journal.specs.Answer.{Rules, committed_held, commit_with, Legal}
+use Rattle.sv_journal.specs.Answer.{Rules, committed_held, Legal}
 use Rattle.sv_client.specs.declared.trace.Event.{Event}
 use Rattle.sv_client.specs.declared.trace.Event.TheVariants as events
 use Rattle.sv_client.specs.declared.trace.Trace.{Trace}
 use Rattle.sv_client.specs.Traces.{current_session, held_of, head_held, item_held, asked, got}
-use Rattle.sv_client.specs.Taking.{Identity, commit_in, told, head_of, items_of, begins_by, begins_low, goes_back, is_out_of_order, first_missing, missing_at, first_missing_of, missing_in}
+use Rattle.sv_client.specs.Taking.{told, begins_by, goes_back, is_out_of_order, first_missing, missing_at, first_missing_of, missing_in}
 use Rattle.sv_system.specs.Fronts.{IsFront}
 use Rattle.sv_system.specs.Fits.{replies_in, FitsOne, Fits}
-use Rattle.sv_system.specs.Serial.{is_covered, IsSupplied, AreSupplied, IsSufficient}
+use Rattle.sv_system.specs.Serial.{is_covered, AreSupplied, IsSufficient}
 use Rattle.sv_system.specs.Delivery.{head_objects}
 use Rattle.sv_system.proofs.Covers.{covered-found}
 use Rattle.sv_system.proofs.Histories.{IsEarlier, same, after, earlier-rest, earlier-legal}

@@ -1,26 +1,22 @@
 -- A trace's pending actions: their numbers, and that the outstanding Submits are theirs, in order.
-use Rattle.std.proofs.Common.{◌≡◌, ℕ, zero, suc, ◌+◌, ◌-◌, ◌<◌, ◌≤◌, Bool, true, false, cond, ◌&&◌, ◌||◌, not, ◌==◌, ◌⊎◌, inl, inr, List, [], ◌∷◌, ◌++◌, map, drop, length, ℤ, Option, Some, None, slice_get, refl, sym, ap, ap₂, ◌∙◌, subst, arith, eqb-true, eq-eqb, true≢false, append-nil, append_assoc}
+use Rattle.std.proofs.Common.{◌≡◌, ℕ, suc, ◌+◌, ◌-◌, ◌<◌, ◌≤◌, Bool, true, false, not, ◌==◌, inl, inr, List, [], ◌∷◌, ◌++◌, map, drop, length, ℤ, Option, Some, slice_get, refl, sym, ap, ◌∙◌, subst, arith, eqb-true, append-nil, append_assoc}
 use Rattle.std.specs.Prelude.{if◌then◌else◌}
-use Rattle.std.specs.List.{AllByRecursion}
-use Rattle.std.proofs.lemmas.Bool.{cond-true, cond-false, cases_Bool, cases_eq, cases_lt, and_parts, or_parts, not-false, not_from_false, false_from_ne_true, ne_eqb}
+use Rattle.std.proofs.lemmas.Bool.{cond-true, cond-false, cases_Bool}
 use Rattle.std.proofs.lemmas.List.{length-append, map-append, length-map, drop-append-le}
-use Rattle.std.proofs.lemmas.Option.{none-some, same_Some, slice_get_within}
+use Rattle.std.proofs.lemmas.Option.{slice_get_within}
 use Rattle.sv_world.specs.declared.action.Action.{Action}
-use Rattle.sv_world.specs.Faults.{first_fault_of_action}
 use Rattle.sv_versions.specs.Held.{Held}
 use Rattle.sv_pending.specs.Pending.{PendingAction, kept_of, redone_after, redone}
-use Rattle.sv_wire.specs.declared.message.Item.{Item}
-use Rattle.sv_wire.specs.declared.message.Held.{Held as Sent}
 use Rattle.sv_wire.specs.declared.message.Request.{Request}
 use Rattle.sv_wire.specs.declared.message.Request.TheVariants as requests
 use Rattle.sv_wire.specs.declared.message.Reply.{Reply}
 use Rattle.sv_wire.specs.declared.message.Reply.TheVariants as replies
 use Rattle.sv_client.specs.declared.trace.Event.{Event}
 use Rattle.sv_client.specs.declared.trace.Event.TheVariants as events
-use Rattle.sv_client.specs.Traces.{joins, makes, current_session, is_session, held_of, with_reply, head_held, results_of, last_values, are_same, without_front, settled_by, pending_with, done_for, pending_of, submit_of, asked_by, asked, got}
-use Rattle.sv_client.specs.Taking.{Identity, allows, is_for_front, ends_with_front, is_good_relay, is_bad_relay, is_bad_head, has_bad_item}
-use Rattle.sv_client.specs.Proper.{MayMake, MayJoin, AreProper}
-use Rattle.sv_system.proofs.Asked.{get-append_cases, get-drop, Answers, may-answer, IsBegun, begun-or_not}
+use Rattle.sv_client.specs.Traces.{makes, held_of, with_reply, head_held, results_of, last_values, are_same, without_front, settled_by, pending_with, done_for, pending_of, submit_of, asked_by, asked, got}
+use Rattle.sv_client.specs.Taking.{Identity}
+use Rattle.sv_client.specs.Proper.{MayMake, AreProper}
+use Rattle.sv_system.proofs.Asked.{may-answer}
 
 -- An action with its client's number for it.
 abbrev pub Numbered : Type 0

@@ -1,9 +1,9 @@
 -- The number of a client's next Submit is its next one for the server, or one whose outcome is kept.
-use Rattle.std.proofs.Common.{◌≡◌, ℕ, zero, suc, ◌+◌, ◌-◌, ◌<◌, ◌≤◌, Bool, true, false, cond, ◌&&◌, ◌||◌, ◌==◌, nat_le, ◌⊎◌, inl, inr, List, [], ◌∷◌, ◌++◌, map, drop, reverse, length, Option, Some, None, slice_get, refl, sym, ap, ◌∙◌, subst, arith, eqb-true, eq-eqb, true≢false, le-leb}
+use Rattle.std.proofs.Common.{◌≡◌, ℕ, zero, suc, ◌+◌, ◌<◌, ◌≤◌, Bool, true, false, ◌&&◌, ◌==◌, nat_le, ◌⊎◌, inl, inr, List, [], ◌∷◌, ◌++◌, map, drop, reverse, length, Option, Some, None, slice_get, refl, sym, ap, ◌∙◌, subst, arith, eqb-true, eq-eqb, true≢false, le-leb}
 use Rattle.std.specs.Prelude.{if◌then◌else◌}
-use Rattle.std.proofs.lemmas.Bool.{cond-true, cond-false, cases_Bool, cases_eq, cases_lt, and_parts, and_from}
+use Rattle.std.proofs.lemmas.Bool.{cond-true, cond-false, cases_Bool, cases_lt, and_from}
 use Rattle.std.proofs.lemmas.List.{length-append}
-use Rattle.std.proofs.lemmas.Option.{none-some, same_Some, slice_get_within}
+use Rattle.std.proofs.lemmas.Option.{none-some, same_Some}
 use Rattle.sv_world.specs.declared.action.Action.{Action}
 use Rattle.sv_pending.specs.Pending.{PendingAction}
 use Rattle.sv_wire.specs.declared.message.Request.{Request}
@@ -13,27 +13,27 @@ use Rattle.sv_wire.specs.declared.message.Reply.TheVariants as replies
 use Rattle.sv_journal.specs.declared.entry.Entry.{Entry}
 use Rattle.sv_journal.specs.declared.entry.Logged.{Logged}
 use Rattle.sv_journal.specs.declared.entry.Logged.TheVariants as logged
-use Rattle.sv_journal.specs.History.{Authored, Outcome, Accepted, Dropped, accepted, client_of, is_client, is_submit_of, outcome_in, outcomes_of, next_seq, full_reply}
+use Rattle.sv_journal.specs.History.{Authored, Outcome, Accepted, accepted, client_of, is_client, is_submit_of, outcome_in, outcomes_of, next_seq, full_reply}
 use Rattle.sv_journal.specs.Sessions.{is_end, kept_outcome, kept_count, outcome_at}
 use Rattle.sv_journal.specs.Answer.{Rules, Legal}
 use Rattle.sv_client.specs.declared.trace.Event.{Event}
 use Rattle.sv_client.specs.declared.trace.Event.TheVariants as events
 use Rattle.sv_client.specs.declared.trace.Trace.{Trace}
 use Rattle.sv_client.specs.Traces.{joins, makes, current_session, is_session, held_of, with_reply, done_for, pending_of, submit_of, asked_by, asked, got}
-use Rattle.sv_client.specs.Taking.{Identity, is_for_front}
+use Rattle.sv_client.specs.Taking.{Identity}
 use Rattle.sv_client.specs.Proper.{AreProper, identity_of}
 use Rattle.sv_system.specs.Fits.{requests_in, replies_in, has_session, FitsOne, Fits}
 use Rattle.sv_system.proofs.Fronts.{get-last}
 use Rattle.sv_system.proofs.Histories.{IsEarlier, same, after, earlier-then, earlier-rest, earlier-legal, kept-old}
 use Rattle.sv_system.proofs.Replies.{AnswersSubmit, AnswersKept, Tells, IsRelayReply, legal-tells}
-use Rattle.sv_system.proofs.Commits.{next-grows, IsOutcome, outcome-when}
+use Rattle.sv_system.proofs.Commits.{next-grows, outcome-when}
 use Rattle.sv_system.proofs.Entered.{is_of, of-parts, of-from, as-many, request-there}
-use Rattle.sv_system.proofs.Asked.{get-append_cases, IsPart, all, then_one, part-rest, asked-part, got-part, proper-part, Answers, may-answer, current-joined}
-use Rattle.sv_system.proofs.Pendings.{Numbered, key_of, keys, without_first, settles, keys-with, keys-made, AreFrom, settled, IsCounted, counted, submitted_by, submits}
+use Rattle.sv_system.proofs.Asked.{get-append_cases, IsPart, all, part-rest, asked-part, got-part, proper-part, may-answer, current-joined}
+use Rattle.sv_system.proofs.Pendings.{Numbered, keys, without_first, settles, keys-with, keys-made, AreFrom, settled, IsCounted, counted, submits}
 use Rattle.sv_system.proofs.Aligned.{is_submit, settles-submit, drop-one, aligned}
 use Rattle.sv_system.proofs.Order.{get-some, joined-has}
-use Rattle.sv_system.proofs.Opened.{one, has, asks, own-join, session-client, welcomed-by}
-use Rattle.sv_system.proofs.Before.{IsGotAt, got-at, welcomed-now}
+use Rattle.sv_system.proofs.Opened.{one, asks, own-join, session-client, welcomed-by}
+use Rattle.sv_system.proofs.Before.{got-at}
 
 -- ---- The Submits of a trace are of actions that it made
 
@@ -172,11 +172,11 @@ next-new d h k n a c q e one' =
     let test : Bool = is_client (client_of h d.session) k && is_submit_of d.request (suc (length (outcomes_of h k))) in
     let more = outcome_in (suc (length (accepted h))) d.reply in
     let yes' : test ≡ true =
-        and_from (is_client (client_of h d.session) k) (is_submit_of d.request (suc (length (outcomes_of h k))))
-        (ap (λ (o : Option ℕ). is_client o k) c ∙ eq-eqb k k refl)
-        (ap (λ (p : Request). is_submit_of p (suc (length (outcomes_of h k)))) q ∙ eq-eqb n (suc (length (outcomes_of h k))) e) in
+    and_from (is_client (client_of h d.session) k) (is_submit_of d.request (suc (length (outcomes_of h k))))
+    (ap (λ (o : Option ℕ). is_client o k) c ∙ eq-eqb k k refl)
+    (ap (λ (p : Request). is_submit_of p (suc (length (outcomes_of h k)))) q ∙ eq-eqb n (suc (length (outcomes_of h k))) e) in
     let len : length (outcomes_of (d ∷ h) k) ≡ length (outcomes_of h k) + length more =
-        ap (λ (l : List Outcome). length (outcomes_of h k ++ l)) (cond-true test more [] yes') ∙ length-append (outcomes_of h k) more in
+    ap (λ (l : List Outcome). length (outcomes_of h k ++ l)) (cond-true test more [] yes') ∙ length-append (outcomes_of h k) more in
     omega arith
 
 -- After a reply that settles the Submit, the client's next number is over its number.
@@ -188,23 +188,31 @@ answered-next r A d h l n a q (logged.Relay seq commit head positions) is s =
     elim t.kind [
       | inr p ↦ absurd (true≢false (sym (ap is_submit (sym p.0 ∙ q))))
       | inl p ↦
-          (let number : p.0 ≡ n = ap submit_number (sym p.1.1.0 ∙ q) in
-          (t.client, (t.joined,
-          elim p.1.1.1 [
-            | inl kept ↦ (let old : p.0 < next_seq h t.client = kept-old h t.client p.0 (Accepted t.target) kept in omega arith)
-            | inr fresh ↦ next-new d h t.client n a t.joined q (sym number ∙ fresh.0) (ap (λ (y : Logged). length (outcome_in (suc (length (accepted h))) y)) is)
-          ])))
+          (let number : p.0 ≡ n = ap submit_number (sym p.1.1.0 ∙ q) in (
+            t.client,
+            (
+              t.joined,
+              elim p.1.1.1 [
+                | inl kept ↦ (let old : p.0 < next_seq h t.client = kept-old h t.client p.0 (Accepted t.target) kept in omega arith)
+                | inr fresh ↦ next-new d h t.client n a t.joined q (sym number ∙ fresh.0) (ap (λ (y : Logged). length (outcome_in (suc (length (accepted h))) y)) is)
+              ],
+            ),
+          ))
     ]
 answered-next r A d h l n a q (logged.Dropped seq chain far) is s =
     let t : AnswersSubmit h d.session d.request seq = subst (λ (y : Logged). Tells r h d.session d.request y) is (legal-tells r d h l) in
     let k = t.0 in
     let number : seq ≡ n = ap submit_number (sym t.1.1.1.0 ∙ q) in
-    let grows : next_seq h k ≤ next_seq (d ∷ h) k = next-grows h (d ∷ h) (after d same) k in
-    (k, (t.1.0,
-    elim t.1.1.1.1 [
-      | inl o ↦ (let old : seq < next_seq h k = kept-old h k seq o.0 o.1 in omega arith)
-      | inr fresh ↦ next-new d h k n a t.1.0 q (sym number ∙ fresh) (ap (λ (y : Logged). length (outcome_in (suc (length (accepted h))) y)) is)
-    ]))
+    let grows : next_seq h k ≤ next_seq (d ∷ h) k = next-grows h (d ∷ h) (after d same) k in (
+      k,
+      (
+        t.1.0,
+        elim t.1.1.1.1 [
+          | inl o ↦ (let old : seq < next_seq h k = kept-old h k seq o.0 o.1 in omega arith)
+          | inr fresh ↦ next-new d h k n a t.1.0 q (sym number ∙ fresh) (ap (λ (y : Logged). length (outcome_in (suc (length (accepted h))) y)) is)
+        ],
+      ),
+    )
 answered-next r A d h l n a q (logged.Settled seq pos) is s =
     let t : AnswersKept h d.session d.request seq = subst (λ (y : Logged). Tells r h d.session d.request y) is (legal-tells r d h l) in
     let k = t.0 in
@@ -254,13 +262,13 @@ module _ (r : Rules) (H : List Entry) (Ls : List Trace) (legal : Legal r H) (fit
       let q = submit-of a.request (sym (settles-submit who t a.request reply (counted who L.first t proper.1) a.kind a.good) ∙ s') in
       let front = next-front who L.first t proper.1 o q.0 q.1.0 a.current (a.asked_there ∙ ap Some q.1.1) in
       let there : slice_get (got whole o) m ≡ Some reply =
-          got-part who L.first (events.Got o reply ∷ t) whole part o m reply (ap (λ (rs : List Reply). slice_get rs m) (cond-true (o == o) (got t o ++ reply ∷ []) (got t o) (eq-eqb o o refl)) ∙ get-last (got t o) reply) in
+      got-part who L.first (events.Got o reply ∷ t) whole part o m reply (ap (λ (rs : List Reply). slice_get rs m) (cond-true (o == o) (got t o ++ reply ∷ []) (got t o) (eq-eqb o o refl)) ∙ get-last (got t o) reply) in
       let x = got-at r H Ls legal fits i L member s current few e g b mine next o m reply there in
       let bx : IsEarlier (x.entry ∷ x.before) H = earlier-then (x.entry ∷ x.before) g H x.there earlier in
       let has_o : has_session L o ≡ true = joined-has r H legal L this_one t rest o (current-joined t o a.current) in
       let by_journal : slice_get (asked L.client L.interest whole o) m ≡ Some x.entry.request =
-          ap (slice_get (asked L.client L.interest whole o)) (x.index ∙ as-many A x.before o)
-          ∙ (this_one.sessions o has_o).asked (length (requests_in x.before o)) x.entry.request (request-there x.entry x.before H o bx x.of_it) in
+      ap (slice_get (asked L.client L.interest whole o)) (x.index ∙ as-many A x.before o)
+      ∙ (this_one.sessions o has_o).asked (length (requests_in x.before o)) x.entry.request (request-there x.entry x.before H o bx x.of_it) in
       let by_trace : slice_get (asked L.client L.interest whole o) m ≡ Some a.request = asked-part who L.first t whole rest o m a.request a.asked_there in
       let request : x.entry.request ≡ requests.Submit q.0 q.1.0 = same_Some x.entry.request a.request (sym by_journal ∙ by_trace) ∙ q.1.1 in
       let n = answered-next r A x.entry x.before (earlier-legal r (x.entry ∷ x.before) H bx legal) q.0 q.1.0 request x.entry.reply refl (ap settles (sym x.replied) ∙ s') in
@@ -321,7 +329,7 @@ module _ (r : Rules) (H : List Entry) (Ls : List Trace) (legal : Legal r H) (fit
           let j = own-join r H Ls legal fits i L member w.entry w.before (earlier-then (w.entry ∷ w.before) x.before H w.earlier (earlier-rest x.before x.entry H bx)) w.client w.life w.welcome.interest w.welcome.request w.client_is in
           let has_o : has_session L x.entry.session ≡ true = subst (λ (o : ℕ). has_session L o ≡ true) w.session j.0 in
           let there = (this_one.sessions x.entry.session has_o).asked (length (requests_in x.before x.entry.session)) x.entry.request
-              (request-there x.entry x.before H x.entry.session bx (of-from x.entry x.entry.session refl (ap is_end q.1))) in
+          (request-there x.entry x.before H x.entry.session bx (of-from x.entry x.entry.session refl (ap is_end q.1))) in
           let most : suc m ≤ makes whole = submit-most who L.first whole this_one.proper.events x.entry.session (length (requests_in x.before x.entry.session)) (suc m) q.0 (there ∙ ap Some q.1) in
           omega arith
 
@@ -341,7 +349,7 @@ module _ (r : Rules) (H : List Entry) (Ls : List Trace) (legal : Legal r H) (fit
       let within : length (keys (pending_of whole)) ≤ makes whole = c.within in
       let most : length (outcomes_of g k) ≤ makes whole = outcomes-made in
       let kept : kept_outcome g k n ≡ slice_get (outcomes_of g k) (settled whole) =
-          cond-true (nat_le (next_seq g k) (n + kept_count)) (outcome_at (outcomes_of g k) n) None (le-leb (next_seq g k) (n + kept_count) (omega arith)) ∙ ap (outcome_at (outcomes_of g k)) number in
+      cond-true (nat_le (next_seq g k) (n + kept_count)) (outcome_at (outcomes_of g k) n) None (le-leb (next_seq g k) (n + kept_count) (omega arith)) ∙ ap (outcome_at (outcomes_of g k)) number in
       record {
         rest = front.0;
         front = front.1.0;
