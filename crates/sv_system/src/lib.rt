@@ -4,11 +4,9 @@
 mod deliveries;
 mod honest;
 mod journals;
-mod small;
 mod truth;
 
 pub use deliveries::lawful_deliveries_make_values_serial;
 pub use honest::honest_clients_get_what_they_wait_for;
 pub use journals::legal_journals_make_lawful_deliveries;
-pub use small::relays_are_small;
 pub use truth::replicas_equal_serial_execution;
