@@ -17,7 +17,7 @@ use Rattle.sv_wire.specs.declared.message.Reply.TheVariants as replies
 use Rattle.sv_client.specs.declared.trace.Event.{Event}
 use Rattle.sv_client.specs.declared.trace.Event.TheVariants as events
 use Rattle.sv_client.specs.Traces.{joins, makes, current_session, is_session, held_of, head_held, results_of, done_for, pending_of, submit_of, asked_by, asked, got}
-use Rattle.sv_client.specs.Taking.{Identity, unanswered, allows, Fault, WrongKind, Unasked, fault_after}
+use Rattle.sv_client.specs.Taking.{Identity, unanswered, allows, Fault, WrongKind, Unasked, fault_after, is_out_of_order, has_bad_item, BadOrder, BadItem}
 use Rattle.sv_client.specs.Proper.{MayGet, MayJoin, AreProper}
 use Rattle.sv_system.specs.Fronts.{IsFront}
 use Rattle.sv_system.specs.Fits.{is_join_of}
@@ -39,7 +39,7 @@ get-append_cases (z ∷ xs) ys zero x e = inl e
 get-append_cases (z ∷ xs) ys (suc i) x e =
     elim (get-append_cases xs ys i x e) [ inl s ↦ inl s | inr s ↦ (let q : i ≡ length xs + s.0 = s.1.0 in inr (s.0, (omega arith, s.1.1))) ]
 
-get-drop : {X : Type 0} (n : ℕ) (xs : List X) (y : X) (ys : List X) → drop n xs ≡ y ∷ ys → slice_get xs n ≡ Some y
+pub get-drop : {X : Type 0} (n : ℕ) (xs : List X) (y : X) (ys : List X) → drop n xs ≡ y ∷ ys → slice_get xs n ≡ Some y
 get-drop zero [] y ys e = cc
 get-drop zero (x ∷ xs) y ys e = cc
 get-drop (suc n) [] y ys e = cc
@@ -114,10 +114,23 @@ module _ (who : Identity) (first : ℕ) where
     pub request : Request
     pub asked_there : slice_get (asked who.client who.interest t s) (length (got t s)) ≡ Some request
     pub kind : allows request reply ≡ true
+    pub ordered : is_out_of_order t reply ≡ false
+    pub good : has_bad_item who (pending_of t) request reply ≡ false
 
   kind-of : (b : Bool) (o : Option Fault) → (if not b then Some WrongKind else o) ≡ None → b ≡ true
   kind-of true o e = refl
   kind-of false o e = absurd (none-some WrongKind (sym e))
+
+  order-of : (b c : Bool) (o : Option Fault) → (if not b then Some WrongKind else if c then Some BadOrder else o) ≡ None → c ≡ false
+  order-of true true o e = absurd (none-some BadOrder (sym e))
+  order-of true false o e = refl
+  order-of false c o e = absurd (none-some WrongKind (sym e))
+
+  good-of : (b c d : Bool) (o : Option Fault) → (if not b then Some WrongKind else if c then Some BadOrder else if d then Some BadItem else o) ≡ None → d ≡ false
+  good-of true true d o e = absurd (none-some BadOrder (sym e))
+  good-of true false true o e = absurd (none-some BadItem (sym e))
+  good-of true false false o e = refl
+  good-of false c d o e = absurd (none-some WrongKind (sym e))
 
   answers-first : (t : List Event) (s : ℕ) (reply : Reply) (qs : List Request) → current_session t ≡ Some s → drop (length (got t s)) (asked_in_trace t s) ≡ qs →
       fault_after who t qs reply ≡ None → Answers t s reply
@@ -127,6 +140,8 @@ module _ (who : Identity) (first : ℕ) where
     request = q;
     asked_there = get-drop (length (got t s)) (asked_in_trace t s) q qs e;
     kind = kind-of (allows q reply) _ f;
+    ordered = order-of (allows q reply) (is_out_of_order t reply) _ f;
+    good = good-of (allows q reply) (is_out_of_order t reply) (has_bad_item who (pending_of t) q reply) _ f;
   }
 
   pub may-answer : (t : List Event) (s : ℕ) (reply : Reply) → MayGet who t s reply → Answers t s reply

@@ -144,13 +144,16 @@ kept-is h k seq o e = some_if (nat_le (next_seq h k) (seq + kept_count)) (outcom
 pub kept-within : (h : List Entry) (k seq p : ℕ) → kept_outcome h k seq ≡ Some (Accepted p) → (0 < p) × (p ≤ length (accepted h))
 kept-within h k seq p e = at-within h k seq p (kept-is h k seq (Accepted p) e)
 
-at-below : (h : List Entry) (k seq p : ℕ) → outcome_at (outcomes_of h k) seq ≡ Some (Accepted p) → seq < next_seq h k
-at-below h k zero p e = omega arith
-at-below h k (suc n) p e = let l : n < length (outcomes_of h k) = slice_get_within (outcomes_of h k) n (Accepted p) e in omega arith
+at-below : (h : List Entry) (k seq : ℕ) (o : Outcome) → outcome_at (outcomes_of h k) seq ≡ Some o → seq < next_seq h k
+at-below h k zero o e = omega arith
+at-below h k (suc n) o e = let l : n < length (outcomes_of h k) = slice_get_within (outcomes_of h k) n o e in omega arith
+
+pub kept-old : (h : List Entry) (k seq : ℕ) (o : Outcome) → kept_outcome h k seq ≡ Some o → seq < next_seq h k
+kept-old h k seq o e = at-below h k seq o (kept-is h k seq o e)
 
 -- A kept number is below the next one.
 pub kept-below : (h : List Entry) (k seq p : ℕ) → kept_outcome h k seq ≡ Some (Accepted p) → seq < next_seq h k
-kept-below h k seq p e = at-below h k seq p (kept-is h k seq (Accepted p) e)
+kept-below h k seq p e = kept-old h k seq (Accepted p) e
 
 -- ---- The commit
 

@@ -134,23 +134,23 @@ some-owner (L ∷ Ls) s h shape g each =
     elim (or_cases (has_session L s) (list_any (λ (M : Trace). has_session M s) Ls) h) [ inl e ↦ (L, (each.0, e)) | inr e ↦ some-owner Ls s e shape g each.1 ]
 
 module _ (r : Rules) (H : List Entry) (Ls : List Trace) (count : length r.world.values ≡ r.world.shape.objects) (legal : Legal r H) (fits : Fits r.world.shape H Ls) where
-  abbrev A : List Authored
+  abbrev pub A : List Authored
   A = accepted H
 
-  abbrev acts : List Action
+  abbrev pub acts : List Action
   acts = actions_of H
 
-  plain : (k : ℕ) → IsPlain r.world.shape.objects (action_at acts k)
+  pub plain : (k : ℕ) → IsPlain r.world.shape.objects (action_at acts k)
   plain = plain-at r.world.shape A (All-from_recursion (λ (a : Authored). IsGoodAction r.world.shape a.action) A (accepted-good r H legal))
 
   -- What was got is a front of the tellings of a history's deliveries where it is a front of its replies.
-  tellings-front : (h : List Entry) → IsEarlier h H → (t : List Event) (s : ℕ) → IsFront (got t s) (replies_in A h s) → IsFront (tellings_got t s) (tellings_to A (deliveries_of h) s)
+  pub tellings-front : (h : List Entry) → IsEarlier h H → (t : List Event) (s : ℕ) → IsFront (got t s) (replies_in A h s) → IsFront (tellings_got t s) (tellings_to A (deliveries_of h) s)
   tellings-front h b t s f =
       subst (λ (xs : List Telling). IsFront xs (tellings_to A (deliveries_of h) s)) (sym (tellings-got t s))
       (subst (IsFront (flat_map telling_in (got t s))) (sym (tellings-replied r A h (earlier-legal r h H b legal) s))
       (front-flat telling_in (got t s) (replies_in A h s) f))
 
-  well-after : (h : List Entry) → (b : IsEarlier h H) → (serial : ResultsAreSerial r.world.values acts h) → (t : List Event) → ((s : ℕ) → IsFront (got t s) (replies_in A h s)) →
+  pub well-after : (h : List Entry) → (b : IsEarlier h H) → (serial : ResultsAreSerial r.world.values acts h) → (t : List Event) → ((s : ℕ) → IsFront (got t s) (replies_in A h s)) →
       IsWell r.world.shape.objects r.world.values count A plain (deliveries_of h) (legal-lawful r H h b (earlier-legal r h H b legal) serial) t
   well-after h b serial t f =
       all-well r.world.shape.objects r.world.values count A plain (deliveries_of h) (legal-lawful r H h b (earlier-legal r h H b legal) serial) t (λ s. tellings-front h b t s (f s))

@@ -105,7 +105,7 @@ legal-relay r e h seq commit head positions l is =
       head_is = t.head_is ∙ ap (λ (A : List Action). committed_held r h (head_for r.world.shape.objects A (commit_of h) (sent_to h e.session) (already_given r.world.shape.objects h e.session) t.target)) acts;
     }
 
-positions-within : (r : Rules) (e : Entry) (h : List Entry) → Legal r (e ∷ h) → (reply : Logged) → e.reply ≡ reply → (p : ℕ) → is_in p (positions_in reply) ≡ true → p ≤ length (accepted (e ∷ h))
+pub positions-within : (r : Rules) (e : Entry) (h : List Entry) → Legal r (e ∷ h) → (reply : Logged) → e.reply ≡ reply → (p : ℕ) → is_in p (positions_in reply) ≡ true → p ≤ length (accepted (e ∷ h))
 positions-within r e h l (logged.Relay seq commit head positions) is p m =
     let t = legal-relay r e h seq commit head positions l is in
     let within : t.target ≤ length (accepted (e ∷ h)) = t.accepted_to in
@@ -205,7 +205,7 @@ module _ (r : Rules) (H : List Entry) where
 
   -- ---- Lawful
 
-  objects-named : (h : List Entry) (xs : List ℕ) → head_objects (committed_held r h xs) ≡ xs
+  pub objects-named : (h : List Entry) (xs : List ℕ) → head_objects (committed_held r h xs) ≡ xs
   objects-named h [] = refl
   objects-named h (x ∷ xs) = ap (λ (l : List ℕ). x ∷ l) (objects-named h xs)
 

@@ -38,7 +38,7 @@ get-some [] i l = absurd (omega arith)
 get-some (x ∷ xs) zero l = (x, refl)
 get-some (x ∷ xs) (suc i) l = get-some xs i (omega arith)
 
-earlier-strict : (h : List Entry) (e : Entry) (g : List Entry) → IsEarlier h (e ∷ g) → (h ≡ e ∷ g) ⊎ IsEarlier h g
+pub earlier-strict : (h : List Entry) (e : Entry) (g : List Entry) → IsEarlier h (e ∷ g) → (h ≡ e ∷ g) ⊎ IsEarlier h g
 earlier-strict h e g same = inl refl
 earlier-strict h e g (after d b) = inr b
 
@@ -79,7 +79,7 @@ module _ (r : Rules) (H : List Entry) (legal : Legal r H) (L : Trace) (fits : Fi
   abbrev A : List Authored
   A = accepted H
 
-  joined-has : (v : List Event) → IsPart v whole → (s : ℕ) → list_any (is_join_of s) v ≡ true → has_session L s ≡ true
+  pub joined-has : (v : List Event) → IsPart v whole → (s : ℕ) → list_any (is_join_of s) v ≡ true → has_session L s ≡ true
   joined-has v part s h = any-reverse (is_join_of s) L.events (any-part (is_join_of s) v whole part h)
 
   got-has : (s n : ℕ) (reply : Reply) → slice_get (got whole s) n ≡ Some reply → has_session L s ≡ true
@@ -102,7 +102,7 @@ module _ (r : Rules) (H : List Entry) (legal : Legal r H) (L : Trace) (fits : Fi
     pub numbered : s + 1 ≡ L.first + life
     pub welcome : IsWelcome entry L.client life
 
-  welcomed-at : (h : List Entry) → IsEarlier h H → (s : ℕ) (reply : Reply) → slice_get (got whole s) 0 ≡ Some reply → slice_get (replies_in A h s) 0 ≡ Some reply → IsWelcomed h s
+  pub welcomed-at : (h : List Entry) → IsEarlier h H → (s : ℕ) (reply : Reply) → slice_get (got whole s) 0 ≡ Some reply → slice_get (replies_in A h s) 0 ≡ Some reply → IsWelcomed h s
   welcomed-at h b s reply is there =
       let g = got-when who L.first whole s 0 reply is in
       let a = got-answers who L.first whole fits.proper.events s 0 reply g in
@@ -133,7 +133,7 @@ module _ (r : Rules) (H : List Entry) (legal : Legal r H) (L : Trace) (fits : Fi
       ]
 
   -- A welcome's session had no client before, and its life is greater than its client's before.
-  welcome-legal : (e : Entry) (h : List Entry) (client : ClientId) (life : ℕ) → IsEarlier (e ∷ h) H → IsWelcome e client life →
+  pub welcome-legal : (e : Entry) (h : List Entry) (client : ClientId) (life : ℕ) → IsEarlier (e ∷ h) H → IsWelcome e client life →
       (client_of h e.session ≡ None) × (life_of h client.0 < life)
   welcome-legal e h client life b w =
       let t : IsWelcomeReply r h e.session e.request w.commit w.head =
@@ -143,7 +143,7 @@ module _ (r : Rules) (H : List Entry) (legal : Legal r H) (L : Trace) (fits : Fi
       (t.fresh, subst (λ (n : ℕ). life_of h client.0 < n) same_life (subst (λ (k : ℕ). life_of h k < t.life) same_client t.later))
 
   -- Of two welcomed sessions, the one with the lower life is over once the other is welcomed.
-  older-over : (s o : ℕ) (h : List Entry) → IsEarlier h H → (w : IsWelcomed h s) → (v : IsWelcomed H o) → v.life < w.life → is_over h o ≡ true
+  pub older-over : (s o : ℕ) (h : List Entry) → IsEarlier h H → (w : IsWelcomed h s) → (v : IsWelcomed H o) → v.life < w.life → is_over h o ≡ true
   older-over s o h b w v lower =
       let k = L.client.0 in
       let new : IsEarlier (w.entry ∷ w.before) H = earlier-then (w.entry ∷ w.before) h H w.earlier b in
@@ -171,9 +171,9 @@ module _ (r : Rules) (H : List Entry) (legal : Legal r H) (L : Trace) (fits : Fi
       ]
 
   -- A reply that was got in a session is no answer to a request made when the session was over.
-  not-over : (o n : ℕ) (reply : Reply) → slice_get (got whole o) n ≡ Some reply → (e : Entry) (h : List Entry) → IsEarlier (e ∷ h) H → is_of e o ≡ true →
+  pub got-not_over : (o n : ℕ) (reply : Reply) → slice_get (got whole o) n ≡ Some reply → (e : Entry) (h : List Entry) → IsEarlier (e ∷ h) H → is_of e o ≡ true →
       reply ≡ full_reply A e.reply → is_over h o ≡ true → ⊥
-  not-over o n reply is e h b t replied over' =
+  got-not_over o n reply is e h b t replied over' =
       let g = got-when who L.first whole o n reply is in
       let a = got-answers who L.first whole fits.proper.events o n reply g in
       let parts = of-parts e o t in
@@ -235,6 +235,6 @@ module _ (r : Rules) (H : List Entry) (legal : Legal r H) (L : Trace) (fits : Fi
             | inl c ↦ (let short = front-length (replies_in A (i.entry ∷ i.before) o) (replies_in A h o) (replies-earlier A (i.entry ∷ i.before) h c o) in omega arith)
             | inr c ↦ elim (earlier-strict h i.entry i.before c) [
               | inl d ↦ (let same_length : length (replies_in A h o) ≡ length (replies_in A (i.entry ∷ i.before) o) = ap (λ (g : List Entry). length (replies_in A g o)) d in omega arith)
-              | inr d ↦ not-over o m late.0 late_whole i.entry i.before i.earlier i.of_it i.replied (over-stays h i.before d o over')
+              | inr d ↦ got-not_over o m late.0 late_whole i.entry i.before i.earlier i.of_it i.replied (over-stays h i.before d o over')
             ]
           ]

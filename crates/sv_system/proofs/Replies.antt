@@ -1,7 +1,7 @@
 -- What a reply that the table gives says of its request and of the history before it.
-use Rattle.std.proofs.Common.{◌≡◌, ℕ, suc, ◌+◌, ◌<◌, ◌≤◌, true, false, ◌&&◌, ◌||◌, ◌==◌, nat_le, nat_lt, List, [], ◌∷◌, ◌++◌, map, length, Option, Some, None, is_none, refl, sym, ap, ◌∙◌, subst, arith, eqb-true, eq-eqb, leb-false, ltb-true, true≢false, append-nil}
+use Rattle.std.proofs.Common.{◌⊎◌, inl, inr, ◌≡◌, ℕ, suc, ◌+◌, ◌<◌, ◌≤◌, true, false, ◌&&◌, ◌||◌, ◌==◌, nat_le, nat_lt, List, [], ◌∷◌, ◌++◌, map, length, Option, Some, None, is_none, refl, sym, ap, ◌∙◌, subst, arith, eqb-true, eq-eqb, leb-false, ltb-true, true≢false, append-nil}
 use Rattle.std.specs.List.{AllByRecursion}
-use Rattle.std.proofs.lemmas.Bool.{cond_both, cond-true, cond-false, and_parts, false_from_ne_true}
+use Rattle.std.proofs.lemmas.Bool.{cond_both, cond-true, cond-false, and_parts, or_parts, false_from_ne_true}
 use Rattle.std.proofs.lemmas.List.{length-append}
 use Rattle.sv_world.specs.declared.action.Action.{Action}
 use Rattle.sv_world.specs.declared.check.BadAction.{BadAction}
@@ -11,6 +11,7 @@ use Rattle.sv_world.specs.Control.{is_in, below, needed_for, head_for, chain_len
 use Rattle.sv_world.specs.Faults.{first_fault_of_action}
 use Rattle.sv_world.proofs.Members.{is_in-head, is_in-filter_parts}
 use Rattle.sv_world.proofs.Bases.{below-is_in}
+use Rattle.sv_wire.specs.declared.message.Done1.{Done1}
 use Rattle.sv_wire.specs.declared.message.Held.{Held}
 use Rattle.sv_wire.specs.declared.message.Request.{Request}
 use Rattle.sv_wire.specs.declared.message.Request.TheVariants as requests
@@ -19,12 +20,21 @@ use Rattle.sv_journal.specs.declared.entry.Logged.{Logged}
 use Rattle.sv_journal.specs.declared.entry.Logged.TheVariants as logged
 use Rattle.sv_journal.specs.History.{Authored, Outcome, Accepted, Dropped, new_action, outcomes_of, client_of, accepted, actions_of, next_seq, result_at, commit_of}
 use Rattle.sv_journal.specs.Sessions.{is_over, is_live, is_end, asked_in, life_of, kept_outcome, sent_to, already_given}
-use Rattle.sv_journal.specs.Answer.{Rules, refused, committed_held, is_over_reach, reply_to_good, reply_to_checked, reply_to_submit, is_bad_done, is_abandoned, orphans, reply_to_poll, is_good_interest, reply_to_join, reply_to_client, reply_to_member, reply_to_open, most_requests, reply_to_request, reply_to, Legal}
+use Rattle.sv_journal.specs.Answer.{commit_with, Rules, refused, committed_held, is_over_reach, reply_to_good, reply_to_checked, reply_to_submit, is_bad_done, is_abandoned, orphans, reply_to_poll, is_good_interest, reply_to_join, reply_to_client, reply_to_member, reply_to_open, most_requests, reply_to_request, reply_to, Legal}
 use Rattle.sv_system.proofs.Histories.{actions-count, commit-most, kept-within, kept-below}
 
 -- The action of a request, where it is a Submit with its client's next number.
 abbrev pub new_of : List Entry → ℕ → Request → List Action
 new_of h s q = map (λ (a : Authored). a.action) (new_action (client_of h s) (λ k. suc (length (outcomes_of h k))) q)
+
+-- What a relay to client k of position i answers: a Submit whose kept outcome is that position, or a new one that is the next position and
+-- whose chain is not over the bound; or a Poll, where the position is abandoned.
+abbrev pub RelayKind : Rules → List Entry → ℕ → Request → ℕ → Type 0
+RelayKind r h k q i =
+    ((seq : ℕ) × ((a : Action) × ((q ≡ requests.Submit seq a)
+    × ((kept_outcome h k seq ≡ Some (Accepted i))
+    ⊎ ((seq ≡ next_seq h k) × ((i ≡ suc (length (actions_of h))) × (nat_lt r.bound (chain_length (actions_of h) (commit_of h) a) ≡ false)))))))
+    ⊎ ((q ≡ requests.Poll) × (is_in i (orphans h) ≡ true))
 
 -- A relay answers a client of the session: it is the relay of some position above the commit, among the actions with the new one.
 pub record IsRelayReply (r : Rules) (h : List Entry) (s : ℕ) (q : Request) (commit : ℕ) (head : List Held) (positions : List ℕ) : Type 0 where
@@ -32,6 +42,7 @@ pub record IsRelayReply (r : Rules) (h : List Entry) (s : ℕ) (q : Request) (co
   pub joined : client_of h s ≡ Some client
   pub checked : AllByRecursion (λ a. first_fault_of_action r.world.shape a ≡ None) (new_of h s q)
   pub target : ℕ
+  pub kind : RelayKind r h client q target
   pub above : commit_of h < target
   pub accepted_to : target ≤ length (actions_of h ++ new_of h s q)
   pub commit_is : commit ≡ commit_of h
@@ -50,22 +61,34 @@ pub record IsWelcomeReply (r : Rules) (h : List Entry) (s : ℕ) (q : Request) (
   pub commit_is : commit ≡ commit_of h
   pub head_is : head ≡ committed_held r h (map (λ (o : ObjectId). o.0) interest)
 
+-- A reply to a client's Submit with this number, whose outcome is kept or which has the client's next number.
+abbrev pub AnswersSubmit : List Entry → ℕ → Request → ℕ → Type 0
+AnswersSubmit h s q n =
+    (k : ℕ) × ((client_of h s ≡ Some k) × ((a : Action) × ((q ≡ requests.Submit n a) × (((o : Outcome) × (kept_outcome h k n ≡ Some o)) ⊎ (n ≡ next_seq h k)))))
+
+abbrev pub AnswersKept : List Entry → ℕ → Request → ℕ → Type 0
+AnswersKept h s q n = (k : ℕ) × ((client_of h s ≡ Some k) × ((a : Action) × ((q ≡ requests.Submit n a) × ((o : Outcome) × (kept_outcome h k n ≡ Some o)))))
+
 abbrev pub Tells : Rules → List Entry → ℕ → Request → Logged → Type 0
 Tells r h s q (logged.Welcome commit head) = IsWelcomeReply r h s q commit head
 Tells r h s q (logged.Relay seq commit head positions) = IsRelayReply r h s q commit head positions
+Tells r h s q (logged.Dropped seq chain far) = AnswersSubmit h s q seq
+Tells r h s q (logged.Settled seq pos) = AnswersKept h s q seq
+Tells r h s q (logged.Noted commit) = (results : List Done1) × ((q ≡ requests.Done results) × (commit ≡ commit_with h s results))
 Tells r h s q _ = Unit {0}
 
 module _ (r : Rules) (h : List Entry) (s : ℕ) where
-  old-relay : (k : ℕ) (q : Request) (i : ℕ) → client_of h s ≡ Some k → new_of h s q ≡ [] → commit_of h < i → i ≤ length (accepted h) →
+  old-relay : (k : ℕ) (q : Request) (i : ℕ) → client_of h s ≡ Some k → new_of h s q ≡ [] → RelayKind r h k q i → commit_of h < i → i ≤ length (accepted h) →
       IsRelayReply r h s q (commit_of h) (committed_held r h (head_for r.world.shape.objects (actions_of h) (commit_of h) (sent_to h s) (already_given r.world.shape.objects h s) i))
       (needed_for (actions_of h) (commit_of h) (sent_to h s) i)
-  old-relay k q i c a above within =
+  old-relay k q i c a kind above within =
       let none : actions_of h ++ new_of h s q ≡ actions_of h = ap (λ (l : List Action). actions_of h ++ l) a ∙ append-nil (actions_of h) in
       record {
         client = k;
         joined = c;
         checked = subst (AllByRecursion (λ a. first_fault_of_action r.world.shape a ≡ None)) (sym a) tt;
         target = i;
+        kind = kind;
         above = above;
         accepted_to = subst (λ (A : List Action). i ≤ length A) (sym none) (let e : length (actions_of h) ≡ length (accepted h) = actions-count h in omega arith);
         commit_is = refl;
@@ -73,24 +96,24 @@ module _ (r : Rules) (h : List Entry) (s : ℕ) where
         head_is = ap (λ (A : List Action). committed_held r h (head_for r.world.shape.objects A (commit_of h) (sent_to h s) (already_given r.world.shape.objects h s) i)) (sym none);
       }
 
-  new-submit : (k seq : ℕ) (a : Action) → client_of h s ≡ Some k → seq ≡ next_seq h k → new_of h s (requests.Submit seq a) ≡ a ∷ []
+  pub new-submit : (k seq : ℕ) (a : Action) → client_of h s ≡ Some k → seq ≡ next_seq h k → new_of h s (requests.Submit seq a) ≡ a ∷ []
   new-submit k seq a c n =
       ap (λ (o : Option ℕ). map (λ (b : Authored). b.action) (new_action o (λ k. suc (length (outcomes_of h k))) (requests.Submit seq a))) c
       ∙ ap (map (λ (b : Authored). b.action)) (cond-true (seq == next_seq h k) _ _ (eq-eqb seq (next_seq h k) n))
 
-  old-submit : (k seq : ℕ) (a : Action) → client_of h s ≡ Some k → seq < next_seq h k → new_of h s (requests.Submit seq a) ≡ []
+  pub old-submit : (k seq : ℕ) (a : Action) → client_of h s ≡ Some k → seq < next_seq h k → new_of h s (requests.Submit seq a) ≡ []
   old-submit k seq a c l =
       ap (λ (o : Option ℕ). map (λ (b : Authored). b.action) (new_action o (λ k. suc (length (outcomes_of h k))) (requests.Submit seq a))) c
       ∙ ap (map (λ (b : Authored). b.action)) (cond-false (seq == next_seq h k) _ _ (false_from_ne_true (seq == next_seq h k) (λ e. let f : seq ≡ next_seq h k = eqb-true seq (next_seq h k) e in absurd (omega arith))))
 
-  new-poll : (k : ℕ) → client_of h s ≡ Some k → new_of h s requests.Poll ≡ []
+  pub new-poll : (k : ℕ) → client_of h s ≡ Some k → new_of h s requests.Poll ≡ []
   new-poll k c = ap (λ (o : Option ℕ). map (λ (b : Authored). b.action) (new_action o (λ k. suc (length (outcomes_of h k))) requests.Poll)) c
 
   good-tells : (k seq : ℕ) (a : Action) → client_of h s ≡ Some k → seq ≡ next_seq h k → first_fault_of_action r.world.shape a ≡ None →
       Tells r h s (requests.Submit seq a) (reply_to_good r h s seq a)
   good-tells k seq a c n f =
       cond_both (nat_lt r.bound (chain_length (actions_of h) (commit_of h) a) || is_over_reach r.reach (influence_distance (actions_of h) (commit_of h) a)) _ _
-      (Tells r h s (requests.Submit seq a)) (λ e. tt)
+      (Tells r h s (requests.Submit seq a)) (λ e. (k, (c, (a, (refl, inr n)))))
       (λ e.
       let most : commit_of h ≤ length (accepted h) = commit-most h in
       let count : length (actions_of h) ≡ length (accepted h) = actions-count h in
@@ -100,6 +123,7 @@ module _ (r : Rules) (h : List Entry) (s : ℕ) where
         joined = c;
         checked = subst (AllByRecursion (λ a. first_fault_of_action r.world.shape a ≡ None)) new (f, tt);
         target = suc (length (actions_of h));
+        kind = inl (seq, (a, (refl, inr (n, (refl, (or_parts (nat_lt r.bound (chain_length (actions_of h) (commit_of h) a)) (is_over_reach r.reach (influence_distance (actions_of h) (commit_of h) a)) e).0)))));
         above = omega arith;
         accepted_to = subst (λ (l : List Action). suc (length (actions_of h)) ≤ length (actions_of h ++ l)) new
             (let all : length (actions_of h ++ a ∷ []) ≡ length (actions_of h) + 1 = length-append (actions_of h) (a ∷ []) in omega arith);
@@ -115,18 +139,18 @@ module _ (r : Rules) (h : List Entry) (s : ℕ) where
 
   submit-tells : (k seq : ℕ) (a : Action) (kept : Option Outcome) → kept_outcome h k seq ≡ kept → client_of h s ≡ Some k →
       Tells r h s (requests.Submit seq a) (reply_to_submit r h s k seq a kept)
-  submit-tells k seq a (Some (Dropped chain far)) e c = tt
+  submit-tells k seq a (Some (Dropped chain far)) e c = (k, (c, (a, (refl, inl (Dropped chain far, e)))))
   submit-tells k seq a (Some (Accepted p)) e c =
-      cond_both (nat_le p (commit_of h)) _ _ (Tells r h s (requests.Submit seq a)) (λ f. tt)
-      (λ f. old-relay k (requests.Submit seq a) p c (old-submit k seq a c (kept-below h k seq p e)) (leb-false p (commit_of h) f) (kept-within h k seq p e).1)
+      cond_both (nat_le p (commit_of h)) _ _ (Tells r h s (requests.Submit seq a)) (λ f. (k, (c, (a, (refl, (Accepted p, e))))))
+      (λ f. old-relay k (requests.Submit seq a) p c (old-submit k seq a c (kept-below h k seq p e)) (inl (seq, (a, (refl, inl e)))) (leb-false p (commit_of h) f) (kept-within h k seq p e).1)
   submit-tells k seq a None e c =
       cond_both (seq == next_seq h k) _ _ (Tells r h s (requests.Submit seq a))
       (λ f. checked-tells k seq a (first_fault_of_action r.world.shape a) refl c (eqb-true seq (next_seq h k) f)) (λ f. tt)
 
-  poll-tells : (k : ℕ) (ps : List ℕ) → ((p : ℕ) → is_in p ps ≡ true → (commit_of h < p) × (p ≤ length (accepted h))) → client_of h s ≡ Some k →
+  poll-tells : (k : ℕ) (ps : List ℕ) → ((p : ℕ) → is_in p ps ≡ true → (is_in p (orphans h) ≡ true) × ((commit_of h < p) × (p ≤ length (accepted h)))) → client_of h s ≡ Some k →
       Tells r h s requests.Poll (reply_to_poll r h s ps)
   poll-tells k [] f c = tt
-  poll-tells k (p ∷ ps) f c = let b = f p (is_in-head p ps) in old-relay k requests.Poll p c (new-poll k c) b.0 b.1
+  poll-tells k (p ∷ ps) f c = let b = f p (is_in-head p ps) in old-relay k requests.Poll p c (new-poll k c) (inr (refl, b.0)) b.1.0 b.1.1
 
   orphans-within : (p : ℕ) → is_in p (orphans h) ≡ true → (commit_of h < p) × (p ≤ length (accepted h))
   orphans-within p m =
@@ -137,8 +161,8 @@ module _ (r : Rules) (h : List Entry) (s : ℕ) where
 
   client-tells : (k : ℕ) (q : Request) → client_of h s ≡ Some k → Tells r h s q (reply_to_client r h s k q)
   client-tells k (requests.Submit seq a) c = submit-tells k seq a (kept_outcome h k seq) refl c
-  client-tells k (requests.Done results) c = cond_both (is_bad_done r h s results) _ _ (Tells r h s (requests.Done results)) (λ e. tt) (λ e. tt)
-  client-tells k requests.Poll c = poll-tells k (orphans h) orphans-within c
+  client-tells k (requests.Done results) c = cond_both (is_bad_done r h s results) _ _ (Tells r h s (requests.Done results)) (λ e. tt) (λ e. (results, (refl, refl)))
+  client-tells k requests.Poll c = poll-tells k (orphans h) (λ p m. (m, orphans-within p m)) c
   client-tells k (requests.Join client life interest) c = tt
   client-tells k requests.Leave c = tt
   client-tells k requests.Bad c = tt

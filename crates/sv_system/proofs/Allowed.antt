@@ -1,0 +1,290 @@
+-- The next reply to a client is of a kind that its request may have.
+use Rattle.std.proofs.Common.{◌≡◌, ℕ, zero, suc, ◌+◌, ◌<◌, ◌≤◌, Bool, true, false, not, ◌||◌, ◌==◌, nat_le, nat_lt, inl, inr, List, [], ◌∷◌, ◌++◌, map, reverse, length, ℤ, Option, Some, None, slice_get, refl, sym, ap, ◌∙◌, subst, arith, eq-eqb, true≢false}
+use Rattle.std.specs.Prelude.{if◌then◌else◌, All}
+use Rattle.std.specs.List.{AllByRecursion}
+use Rattle.std.proofs.lemmas.Bool.{cond_both, cond-true, cond-false, or_parts}
+use Rattle.std.proofs.lemmas.List.{length-map}
+use Rattle.std.proofs.lemmas.List.Elements.{All-from_recursion}
+use Rattle.std.proofs.lemmas.Option.{none-some, same_Some}
+use Rattle.sv_world.specs.Control.{is_in, chain_length, influence_distance}
+use Rattle.sv_world.specs.Faults.{first_fault_of_action, is_ascending, IsGoodAction}
+use Rattle.sv_world.specs.Sets.{read_set}
+use Rattle.sv_world.specs.declared.action.Action.{Action}
+use Rattle.sv_world.proofs.Needs.{needed-ascending, needed-bounds}
+use Rattle.sv_eval.specs.Serial.{serial_world}
+use Rattle.sv_eval.proofs.Serials.{serial_shaped}
+use Rattle.sv_versions.specs.Held.{Held}
+use Rattle.sv_pending.specs.Pending.{PendingAction}
+use Rattle.sv_wire.specs.declared.message.Done1.{Done1}
+use Rattle.sv_wire.specs.declared.message.Held.{Held as Sent}
+use Rattle.sv_wire.specs.declared.message.Item.{Item}
+use Rattle.sv_wire.specs.declared.message.Request.{Request}
+use Rattle.sv_wire.specs.declared.message.Request.TheVariants as requests
+use Rattle.sv_wire.specs.declared.message.Reply.{Reply}
+use Rattle.sv_wire.specs.declared.message.Reply.TheVariants as replies
+use Rattle.sv_journal.specs.declared.entry.Entry.{Entry}
+use Rattle.sv_journal.specs.declared.entry.Logged.{Logged}
+use Rattle.sv_journal.specs.declared.entry.Logged.TheVariants as logged
+use Rattle.sv_journal.specs.History.{Authored, Outcome, Accepted, Dropped, accepted, actions_of, client_of, next_seq, item_at, full_reply, commit_of}
+use Rattle.sv_journal.specs.Sessions.{is_end, kept_outcome, positions_in, sent_to}
+use Rattle.sv_journal.specs.Answer.{Rules, refused, is_over_reach, reply_to_checked, reply_to_submit, is_bad_done, commit_with, orphans, reply_to_poll, reply_to_client, reply_to_member, reply_to_open, Legal}
+use Rattle.sv_client.specs.declared.trace.Event.{Event}
+use Rattle.sv_client.specs.declared.trace.Event.TheVariants as events
+use Rattle.sv_client.specs.declared.trace.Trace.{Trace}
+use Rattle.sv_client.specs.Traces.{joins, makes, current_session, is_session, held_of, with_reply, head_held, results_of, done_for, pending_of, submit_of, asked_by, asked, got}
+use Rattle.sv_client.specs.Taking.{Identity, allows, items_of, is_bad_head, is_bad_relay, is_good_relay, has_bad_item}
+use Rattle.sv_client.specs.Proper.{AreProper, identity_of}
+use Rattle.sv_system.specs.Fits.{replies_in, FitsOne, Fits}
+use Rattle.sv_system.proofs.Fronts.{front-then, get-last}
+use Rattle.sv_system.proofs.Tests.{each-append}
+use Rattle.sv_system.proofs.Reported.{IsSerialResult}
+use Rattle.sv_system.proofs.Histories.{IsEarlier, same, earlier-then, earlier-rest, earlier-legal, accepted-grows}
+use Rattle.sv_system.proofs.Lawful.{legal-relay, positions-within}
+use Rattle.sv_system.proofs.Entered.{is_of, of-parts, client-stays, welcome-client}
+use Rattle.sv_system.proofs.Asked.{get-append_cases, proper-part, got-part, done-when, may-answer}
+use Rattle.sv_system.proofs.BoundedRelays.{all-small}
+use Rattle.sv_system.proofs.Pendings.{Numbered, keys, without_first, settles, keys-with, keys-made}
+use Rattle.sv_system.proofs.Leaving.{is_join_request}
+use Rattle.sv_system.proofs.Order.{got-replied, welcome-legal, earlier-strict}
+use Rattle.sv_system.proofs.Induction.{accepted-good, plain, well-after, noted-serial}
+use Rattle.sv_system.proofs.Opened.{one, asks}
+use Rattle.sv_system.proofs.Begun.{replied, join-welcomed}
+use Rattle.sv_system.proofs.Before.{got-at, welcomed-now}
+use Rattle.sv_system.proofs.Window.{numbered-well}
+use Rattle.sv_system.proofs.Dones.{sent-now, sent-stays, good-done}
+
+-- ---- What a trace asks
+
+module _ (who : Identity) (first : ℕ) where
+  abbrev AreChecked : List Numbered → Type 0
+  AreChecked ks = AllByRecursion (λ (k : Numbered). first_fault_of_action who.shape k.1 ≡ None) ks
+
+  checked-rest : (ks : List Numbered) → AreChecked ks → AreChecked (without_first ks)
+  checked-rest [] h = tt
+  checked-rest (k ∷ ks) h = h.1
+
+  -- Each pending action passed the check.
+  pub pending-checked : (t : List Event) → AreProper who first t → AllByRecursion (λ (k : Numbered). first_fault_of_action who.shape k.1 ≡ None) (keys (pending_of t))
+  pending-checked [] p = tt
+  pending-checked (events.Make action ∷ t) p =
+      subst AreChecked (sym (keys-made who first action t))
+      (each-append (λ (k : Numbered). first_fault_of_action who.shape k.1 ≡ None) (keys (pending_of t)) ((suc (makes t), action) ∷ []) (pending-checked t p.1) (p.0.good, tt))
+  pending-checked (events.Got s r ∷ t) p =
+      let before = pending-checked t p.1 in
+      subst AreChecked (sym (keys-with (held_of t) (with_reply (held_of t) r) r (pending_of t)))
+      (cond_both (settles r) (without_first (keys (pending_of t))) (keys (pending_of t)) AreChecked (λ e. checked-rest (keys (pending_of t)) before) (λ e. before))
+  pending-checked (events.Join s ∷ t) p = pending-checked t p.1
+  pending-checked (events.Poll ∷ t) p = pending-checked t p.1
+  pending-checked (events.Leave ∷ t) p = pending-checked t p.1
+  pending-checked (events.Cut ∷ t) p = pending-checked t p.1
+  pending-checked (events.Quit ∷ t) p = pending-checked t p.1
+  pending-checked (events.Show objects ∷ t) p = pending-checked t p.1
+
+  abbrev is_bad : Request → Bool
+  is_bad requests.Bad = true
+  is_bad _ = false
+
+  not-bad_if : (b : Bool) (q : Request) (j : ℕ) → is_bad q ≡ false → slice_get (if b then q ∷ [] else []) j ≡ Some requests.Bad → ⊥
+  not-bad_if true q zero f e = true≢false (sym (ap is_bad (same_Some q requests.Bad e)) ∙ f)
+  not-bad_if true q (suc j) f e = none-some requests.Bad e
+  not-bad_if false q j f e = none-some requests.Bad e
+
+  not-bad_submits : (ps : List PendingAction) (j : ℕ) → slice_get (map submit_of ps) j ≡ Some requests.Bad → ⊥
+  not-bad_submits [] j e = none-some requests.Bad e
+  not-bad_submits (p ∷ ps) zero e = true≢false (sym (ap is_bad (same_Some (requests.Submit p.seq p.action) requests.Bad e)))
+  not-bad_submits (p ∷ ps) (suc j) e = not-bad_submits ps j e
+
+  not-bad_join : (b : Bool) (q : Request) (ps : List PendingAction) (j : ℕ) → is_bad q ≡ false → slice_get (if b then q ∷ map submit_of ps else []) j ≡ Some requests.Bad → ⊥
+  not-bad_join true q ps zero f e = true≢false (sym (ap is_bad (same_Some q requests.Bad e)) ∙ f)
+  not-bad_join true q ps (suc j) f e = not-bad_submits ps j e
+  not-bad_join false q ps j f e = none-some requests.Bad e
+
+  not-bad_done : (b : Bool) (held : List Held) (r : Reply) (j : ℕ) → slice_get (if b then done_for held r else []) j ≡ Some requests.Bad → ⊥
+  not-bad_done false held r j e = none-some requests.Bad e
+  not-bad_done true held (replies.Relay seq commit head items) zero e = true≢false (sym (ap is_bad (same_Some _ requests.Bad e)))
+  not-bad_done true held (replies.Relay seq commit head items) (suc j) e = none-some requests.Bad e
+  not-bad_done true held (replies.Welcome commit head) j e = none-some requests.Bad e
+  not-bad_done true held (replies.Dropped seq chain far) j e = none-some requests.Bad e
+  not-bad_done true held (replies.Settled seq pos) j e = none-some requests.Bad e
+  not-bad_done true held (replies.Noted commit) j e = none-some requests.Bad e
+  not-bad_done true held replies.Idle j e = none-some requests.Bad e
+  not-bad_done true held (replies.Refused code detail) j e = none-some requests.Bad e
+  not-bad_done true held replies.Bye j e = none-some requests.Bad e
+
+  -- A malformed request is never asked.
+  pub never-bad : (t : List Event) (s i : ℕ) → slice_get (asked who.client who.interest t s) i ≡ Some requests.Bad → ⊥
+  never-bad [] s i e = none-some requests.Bad e
+  never-bad (ev ∷ t) s i e =
+      let before = never-bad t s i in
+      elim (get-append_cases (asked who.client who.interest t s) (asked_by who.client who.interest t ev s) i requests.Bad e) [ inl f ↦ before f | inr f ↦ now ev f.0 f.1.1 ]
+    where
+      now : (ev : Event) (j : ℕ) → slice_get (asked_by who.client who.interest t ev s) j ≡ Some requests.Bad → ⊥
+      now (events.Join m) j g = not-bad_join (m == s) (requests.Join who.client (suc (joins t)) who.interest) (pending_of t) j refl g
+      now (events.Got m r) j g = not-bad_done (m == s) (held_of t) r j g
+      now (events.Make action) j g = not-bad_if (is_session (current_session t) s) (requests.Submit (suc (makes t)) action) j refl g
+      now events.Poll j g = not-bad_if (is_session (current_session t) s) requests.Poll j refl g
+      now events.Leave j g = not-bad_if (is_session (current_session t) s) requests.Leave j refl g
+      now events.Cut j g = none-some requests.Bad g
+      now events.Quit j g = none-some requests.Bad g
+      now (events.Show objects) j g = none-some requests.Bad g
+
+-- ---- The relays of a journal
+
+items-logged : (A : List Authored) (reply : Logged) → items_of (full_reply A reply) ≡ map (item_at A) (positions_in reply)
+items-logged A (logged.Relay seq commit head positions) = refl
+items-logged A (logged.Welcome commit head) = refl
+items-logged A (logged.Dropped seq chain far) = refl
+items-logged A (logged.Settled seq pos) = refl
+items-logged A (logged.Noted commit) = refl
+items-logged A logged.Idle = refl
+items-logged A (logged.Refused code detail) = refl
+items-logged A logged.Bye = refl
+
+positions-low : (r : Rules) (d : Entry) (h : List Entry) → Legal r (d ∷ h) → (reply : Logged) → d.reply ≡ reply → (is_ascending (positions_in reply) ≡ true) × ((k : ℕ) → is_in k (positions_in reply) ≡ true → 0 < k)
+positions-low r d h l (logged.Relay seq commit head positions) is =
+    let t = legal-relay r d h seq commit head positions l is in (
+      subst (λ (ks : List ℕ). is_ascending ks ≡ true) (sym t.positions_are) (needed-ascending (actions_of (d ∷ h)) (commit_of h) (sent_to h d.session) t.target),
+      λ k m. (let low : commit_of h < k = (needed-bounds (actions_of (d ∷ h)) (commit_of h) (sent_to h d.session) t.target t.above k (subst (λ (ks : List ℕ). is_in k ks ≡ true) t.positions_are m)).0 in omega arith),
+    )
+positions-low r d h l (logged.Welcome commit head) is = (refl, λ k m. absurd (true≢false (sym m)))
+positions-low r d h l (logged.Dropped seq chain far) is = (refl, λ k m. absurd (true≢false (sym m)))
+positions-low r d h l (logged.Settled seq pos) is = (refl, λ k m. absurd (true≢false (sym m)))
+positions-low r d h l (logged.Noted commit) is = (refl, λ k m. absurd (true≢false (sym m)))
+positions-low r d h l logged.Idle is = (refl, λ k m. absurd (true≢false (sym m)))
+positions-low r d h l (logged.Refused code detail) is = (refl, λ k m. absurd (true≢false (sym m)))
+positions-low r d h l logged.Bye is = (refl, λ k m. absurd (true≢false (sym m)))
+
+good-reads : (objects : ℕ) (shape_of : Action → Type 0) (xs : List Authored) → ((a : Action) → shape_of a → All (λ x. x < objects) (read_set a)) → AllByRecursion (λ (a : Authored). shape_of a.action) xs →
+    AllByRecursion (λ (a : Action). All (λ x. x < objects) (read_set a)) (map (λ (a : Authored). a.action) xs)
+good-reads objects shape_of [] f h = tt
+good-reads objects shape_of (a ∷ xs) f h = (f a.action h.0, good-reads objects shape_of xs f h.1)
+
+module _ (r : Rules) (H : List Entry) (Ls : List Trace) (legal : Legal r H) (fits : Fits r.world.shape H Ls) (i : ℕ) (L : Trace) (member : slice_get Ls i ≡ Some L)
+    (s : ℕ) (current : current_session (reverse L.events) ≡ Some s) (few : length (asked L.client L.interest (reverse L.events) s) ≤ 1024)
+    (e : Entry) (g : List Entry) (b : IsEarlier (e ∷ g) H) (mine : is_of e s ≡ true) (next : length (replies_in (accepted H) g s) ≡ length (got (reverse L.events) s))
+    (count : length r.world.values ≡ r.world.shape.objects) (shaped : All (λ (v : List ℤ). length v ≡ r.world.shape.attrs) r.world.values) (bound : r.bound ≤ 32) where
+  abbrev whole : List Event
+  whole = reverse L.events
+
+  abbrev A : List Authored
+  A = accepted H
+
+  abbrev who : Identity
+  who = identity_of r.world.shape L
+
+  abbrev k : ℕ
+  k = L.client.0
+
+  abbrev this_one : FitsOne r.world.shape H L
+  this_one = one r H Ls legal fits i L member
+
+  earlier : IsEarlier g H
+  earlier = earlier-rest g e H b
+
+  asking : slice_get (asked L.client L.interest whole s) (length (got whole s)) ≡ Some e.request
+  asking = asks r H Ls legal fits i L member s current e g b mine next
+
+  -- The session has this client, where the request is no Join.
+  joined : is_join_request e.request ≡ false → client_of g s ≡ Some k
+  joined f =
+      let w = welcomed-now r H Ls legal fits i L member s current few e g b mine next in
+      let early : IsEarlier (w.entry ∷ w.before) H = earlier-then (w.entry ∷ w.before) (e ∷ g) H w.earlier b in
+      let fresh = welcome-legal r H legal L this_one w.entry w.before L.client w.life early w.welcome in
+      elim (earlier-strict (w.entry ∷ w.before) e g w.earlier) [
+        | inl d ↦ absurd (true≢false (sym (ap is_join_request w.welcome.request) ∙ ap (λ (h : List Entry). is_join_request (first_request h)) d ∙ f))
+        | inr d ↦ client-stays (w.entry ∷ w.before) g d s k (subst (λ (n : ℕ). client_of (w.entry ∷ w.before) n ≡ Some k) w.session (welcome-client w.entry w.before L.client w.life w.welcome fresh.0))
+      ]
+    where
+      first_request : List Entry → Request
+      first_request [] = requests.Bad
+      first_request (d ∷ h) = d.request
+
+  member-reply : (q : Request) → e.request ≡ q → is_join_request q ≡ false → reply_to_open r g s q ≡ reply_to_member r g s (client_of g s) q → e.reply ≡ reply_to_client r g s k q
+  member-reply q is f same_reply =
+      replied r H Ls legal fits i L member s current few e g b mine next ∙ ap (reply_to_open r g s) is ∙ same_reply
+      ∙ ap (λ (o : Option ℕ). reply_to_member r g s o q) (joined (ap is_join_request is ∙ f))
+
+  abbrev IsAllowed : Request → Logged → Type 0
+  IsAllowed q reply = allows q (full_reply A reply) ≡ true
+
+  submit-allowed : (n : ℕ) (a : Action) → e.request ≡ requests.Submit n a → IsAllowed (requests.Submit n a) (reply_to_submit r g s k n a (kept_outcome g k n))
+  submit-allowed n a is =
+      let w = numbered-well r H Ls legal fits i L member s current few e g b mine next n a is in
+      let P : Logged → Type 0 = IsAllowed (requests.Submit n a) in
+      elim w.outcome [
+        | inl o ↦ subst (λ (x : Option Outcome). P (reply_to_submit r g s k n a x)) (sym o.1) (kept-allowed o.0)
+        | inr o ↦ subst (λ (x : Option Outcome). P (reply_to_submit r g s k n a x)) (sym o.1)
+            (subst P (sym (cond-true (n == next_seq g k) _ (refused 5 (next_seq g k)) (eq-eqb n (next_seq g k) o.0)
+            ∙ ap (reply_to_checked r g s n a) (front-checked w.rest (subst (AllByRecursion (λ (j : Numbered). first_fault_of_action r.world.shape j.1 ≡ None)) w.front (pending-checked who L.first whole this_one.proper.events)))))
+            (cond_both (nat_lt r.bound (chain_length (actions_of g) (commit_of g) a) || is_over_reach r.reach (influence_distance (actions_of g) (commit_of g) a)) _ _ P (λ x. refl) (λ x. refl)))
+      ]
+    where
+      kept-allowed : (o : Outcome) → IsAllowed (requests.Submit n a) (reply_to_submit r g s k n a (Some o))
+      kept-allowed (Dropped chain far) = refl
+      kept-allowed (Accepted p) = cond_both (nat_le p (commit_of g)) _ _ (IsAllowed (requests.Submit n a)) (λ x. refl) (λ x. refl)
+
+      front-checked : (ks : List Numbered) → AllByRecursion (λ (j : Numbered). first_fault_of_action r.world.shape j.1 ≡ None) ((n, a) ∷ ks) → first_fault_of_action r.world.shape a ≡ None
+      front-checked ks h = h.0
+
+  poll-allowed : (ps : List ℕ) → IsAllowed requests.Poll (reply_to_poll r g s ps)
+  poll-allowed [] = refl
+  poll-allowed (p ∷ ps) = refl
+
+  worlds-shaped : (p : ℕ) → All (λ (v : List ℤ). length v ≡ r.world.shape.attrs) (serial_world r.world.values (actions_of H) p)
+  worlds-shaped p =
+      serial_shaped r.world.shape.attrs r.world.values (actions_of H) p shaped
+      (All-from_recursion (λ (a : Action). All (λ x. x < length r.world.values) (read_set a)) (actions_of H)
+      (good-reads (length r.world.values) (IsGoodAction r.world.shape) A (λ a good. subst (λ (n : ℕ). All (λ x. x < n) (read_set a)) (sym count) good.objects) (accepted-good r H legal)))
+
+  done-good : (results : List Done1) → e.request ≡ requests.Done results → is_bad_done r g s results ≡ false
+  done-good results is =
+      let d = done-when who L.first whole s (length (got whole s)) results (asking ∙ ap Some is) in
+      let reply : Reply = replies.Relay d.seq d.commit d.head d.items in
+      let t : List Event = d.before in
+      let v : List Event = events.Got s reply ∷ t in
+      let proper : AreProper who L.first v = proper-part who L.first v whole d.part this_one.proper.events in
+      let a = may-answer who L.first t s reply proper.0 in
+      let m = length (got t s) in
+      let there : slice_get (got whole s) m ≡ Some reply =
+      got-part who L.first v whole d.part s m reply (ap (λ (rs : List Reply). slice_get rs m) (cond-true (s == s) (got t s ++ reply ∷ []) (got t s) (eq-eqb s s refl)) ∙ get-last (got t s) reply) in
+      let x = got-at r H Ls legal fits i L member s current few e g b mine next s m reply there in
+      let bx : IsEarlier (x.entry ∷ x.before) H = earlier-then (x.entry ∷ x.before) g H x.there earlier in
+      let lx : Legal r (x.entry ∷ x.before) = earlier-legal r (x.entry ∷ x.before) H bx legal in
+      let ks = positions_in x.entry.reply in
+      let items : d.items ≡ map (item_at A) ks = ap items_of x.replied ∙ items-logged A x.entry.reply in
+      let low = positions-low r x.entry x.before lx x.entry.reply refl in
+      let bad_relay : is_bad_relay who (pending_of t) a.request d.seq d.items ≡ false = relay-part a.request d.seq d.commit d.head d.items t a.good a.kind in
+      let some_items : (length d.items == 0) ≡ false = (or_parts (length d.items == 0) _ (or_parts _ (not (is_good_relay who (pending_of t) a.request d.seq d.items)) bad_relay).0).0 in
+      let many : length d.items ≡ length ks = ap length items ∙ length-map ks (item_at A) in
+      let small : length ks ≤ r.bound + 1 = (all-small r (x.entry ∷ x.before) lx).0 in
+      let session : x.entry.session ≡ s = (of-parts x.entry s x.of_it).0 in
+      let well = well-after r H Ls count legal fits H same (noted-serial r H Ls count legal fits) v
+      (λ o. front-then (got v o) (got whole o) (replies_in A H o) (got-part who L.first v whole d.part o) (got-replied r H legal L this_one o)) in
+      let held = held_of t ++ head_held d.commit d.head in
+      let results_are : results ≡ results_of held (map (item_at A) ks) = d.results_are ∙ ap (results_of held) items in
+      subst (λ (rs : List Done1). is_bad_done r g s rs ≡ false) (sym results_are)
+      (good-done r H count shaped (plain r H Ls count legal fits) g earlier s worlds-shaped held ks low.0 (ap (λ (n : ℕ). n == 0) (sym many) ∙ some_items) (omega arith)
+      (λ j m. (
+        low.1 j m,
+        (
+          (let w : j ≤ length (accepted (x.entry ∷ x.before)) = positions-within r x.entry x.before lx x.entry.reply refl j m in let grows : length (accepted (x.entry ∷ x.before)) ≤ length (accepted g) = accepted-grows (x.entry ∷ x.before) g x.there in omega arith),
+          sent-stays (x.entry ∷ x.before) g x.there s j (sent-now x.entry x.before s j session m),
+        ),
+      ))
+      (subst (λ (is : List Item). AllByRecursion (IsSerialResult r.world.values (actions_of H)) (results_of held is)) items well.reported.0))
+    where
+      relay-part : (q : Request) (seq commit : ℕ) (head : List Sent) (items : List Item) (t : List Event) → has_bad_item who (pending_of t) q (replies.Relay seq commit head items) ≡ false →
+          allows q (replies.Relay seq commit head items) ≡ true → is_bad_relay who (pending_of t) q seq items ≡ false
+      relay-part q seq commit head items t f kind = (or_parts (is_bad_head who.shape head) (is_bad_relay who (pending_of t) q seq items) f).1
+
+  -- The reply is one that the request may have.
+  pub allowed : (q : Request) → e.request ≡ q → allows q (full_reply A e.reply) ≡ true
+  allowed (requests.Join client life interest) is =
+      subst (IsAllowed (requests.Join client life interest)) (sym (join-welcomed r H Ls legal fits i L member s current few e g b mine next client life interest is).0) refl
+  allowed (requests.Submit n a) is = subst (IsAllowed (requests.Submit n a)) (sym (member-reply (requests.Submit n a) is refl refl)) (submit-allowed n a is)
+  allowed (requests.Done results) is =
+      subst (IsAllowed (requests.Done results)) (sym (member-reply (requests.Done results) is refl refl ∙ cond-false (is_bad_done r g s results) (refused 7 0) (logged.Noted (commit_with g s results)) (done-good results is))) refl
+  allowed requests.Poll is = subst (IsAllowed requests.Poll) (sym (member-reply requests.Poll is refl refl)) (poll-allowed (orphans g))
+  allowed requests.Leave is = subst (IsAllowed requests.Leave) (sym (member-reply requests.Leave is refl refl)) refl
+  allowed requests.Bad is = absurd (never-bad who L.first whole s (length (got whole s)) (asking ∙ ap Some is))
+  allowed requests.End is = absurd (true≢false (sym (ap is_end is) ∙ (of-parts e s mine).1))

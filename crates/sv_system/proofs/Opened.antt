@@ -1,0 +1,336 @@
+-- The session that a client began last is not over when its next request is answered.
+use Rattle.std.proofs.Common.{◌≡◌, ℕ, zero, suc, ◌+◌, ◌<◌, ◌≤◌, Bool, true, false, ◌&&◌, ◌==◌, ◌⊎◌, inl, inr, List, [], ◌∷◌, reverse, length, Option, Some, None, slice_get, refl, sym, ap, ◌∙◌, subst, arith, eqb-true, eq-eqb, true≢false}
+use Rattle.std.specs.Prelude.{if◌then◌else◌}
+use Rattle.std.specs.List.{list_any, AllByRecursion}
+use Rattle.std.proofs.lemmas.Bool.{cond-true, cond-false, cases_Bool, or_cases, or_left, or_right, and_parts, and_from, false_from_ne_true}
+use Rattle.std.proofs.lemmas.List.{length-append}
+use Rattle.std.proofs.lemmas.List.Elements.{recursion_from_All}
+use Rattle.std.proofs.lemmas.Option.{none-some, same_Some, slice_get_within}
+use Rattle.sv_world.specs.declared.world.ClientId.{ClientId}
+use Rattle.sv_world.specs.declared.world.ObjectId.{ObjectId}
+use Rattle.sv_wire.specs.declared.message.Held.{Held as Sent}
+use Rattle.sv_wire.specs.declared.message.Request.{Request}
+use Rattle.sv_wire.specs.declared.message.Request.TheVariants as requests
+use Rattle.sv_wire.specs.declared.message.Reply.{Reply}
+use Rattle.sv_wire.specs.declared.message.Reply.TheVariants as replies
+use Rattle.sv_journal.specs.declared.entry.Entry.{Entry}
+use Rattle.sv_journal.specs.declared.entry.Logged.{Logged}
+use Rattle.sv_journal.specs.declared.entry.Logged.TheVariants as logged
+use Rattle.sv_journal.specs.History.{Authored, accepted, client_of, is_client, is_welcome, joining, full_reply, either}
+use Rattle.sv_journal.specs.Sessions.{is_end, is_last, welcomes, is_over, life_of}
+use Rattle.sv_journal.specs.Answer.{Rules, Legal}
+use Rattle.sv_client.specs.declared.trace.Event.{Event}
+use Rattle.sv_client.specs.declared.trace.Event.TheVariants as events
+use Rattle.sv_client.specs.declared.trace.Trace.{Trace}
+use Rattle.sv_client.specs.Traces.{joins, current_session, asked, got}
+use Rattle.sv_client.specs.Taking.{Identity, allows}
+use Rattle.sv_client.specs.Proper.{identity_of}
+use Rattle.sv_system.specs.Fits.{requests_in, replies_in, is_ended, IsEndLast, has_session, FitsOne, AreApart, AreAllApart, is_owned, Fits}
+use Rattle.sv_system.proofs.Fronts.{get-last}
+use Rattle.sv_system.proofs.Histories.{IsEarlier, same, after, earlier-then, earlier-rest}
+use Rattle.sv_system.proofs.Entered.{is_of, of-parts, of-from, as-many, replies-earlier, front-length, request-there, IsWelcome, welcome-life, life-grows}
+use Rattle.sv_system.proofs.Asked.{all, part-rest, asked-part, got-when, got-answers, current-last, current-joined}
+use Rattle.sv_system.proofs.Leaving.{IsJoinAsked, join-asked, leave-last}
+use Rattle.sv_system.proofs.Order.{get-some, never-refused, got-replied, joined-has, welcome-legal}
+
+-- ---- Traces of different clients
+
+each-at : {X : Type 0} (P : X → Type 0) (xs : List X) (i : ℕ) (x : X) → AllByRecursion P xs → slice_get xs i ≡ Some x → P x
+each-at P [] i x h e = absurd (none-some x e)
+each-at P (y ∷ ys) zero x h e = subst P (same_Some y x e) h.0
+each-at P (y ∷ ys) (suc i) x h e = each-at P ys i x h.1 e
+
+apart-same : (Ls : List Trace) → AreAllApart Ls → (i j : ℕ) (L M : Trace) → slice_get Ls i ≡ Some L → slice_get Ls j ≡ Some M → L.client ≡ M.client → L ≡ M
+apart-same [] apart i j L M a b e = absurd (none-some L a)
+apart-same (N ∷ Ls) apart zero zero L M a b e = sym (same_Some N L a) ∙ same_Some N M b
+apart-same (N ∷ Ls) apart zero (suc j) L M a b e =
+    absurd ((each-at (AreApart N) Ls j M (recursion_from_All (AreApart N) Ls apart.0) b).clients (ap (λ (T : Trace). T.client) (same_Some N L a) ∙ e))
+apart-same (N ∷ Ls) apart (suc i) zero L M a b e =
+    absurd ((each-at (AreApart N) Ls i L (recursion_from_All (AreApart N) Ls apart.0) a).clients (ap (λ (T : Trace). T.client) (same_Some N M b) ∙ sym e))
+apart-same (N ∷ Ls) apart (suc i) (suc j) L M a b e = apart-same Ls apart.1 i j L M a b e
+
+find-owner : (Ls : List Trace) (s : ℕ) → list_any (λ (L : Trace). has_session L s) Ls ≡ true → (j : ℕ) × ((M : Trace) × ((slice_get Ls j ≡ Some M) × (has_session M s ≡ true)))
+find-owner [] s h = absurd (true≢false (sym h))
+find-owner (L ∷ Ls) s h =
+    elim (or_cases (has_session L s) (list_any (λ (M : Trace). has_session M s) Ls) h) [
+      | inl e ↦ (0, (L, (refl, e)))
+      | inr e ↦ (let f = find-owner Ls s e in (suc f.0, f.1))
+    ]
+
+same-client : (a b : ClientId) → a.0 ≡ b.0 → a ≡ b
+same-client a b e = ap (λ (n : ℕ). record { 0 = n }) e
+
+-- ---- Where a session's client comes from
+
+joining-of : (q : Request) (k : ℕ) → joining q ≡ Some k → (client : ClientId) × ((life : ℕ) × ((interest : List ObjectId) × ((q ≡ requests.Join client life interest) × (client.0 ≡ k))))
+joining-of (requests.Join client life interest) k e = (client, (life, (interest, (refl, same_Some client.0 k e))))
+joining-of (requests.Submit seq a) k e = absurd (none-some k e)
+joining-of (requests.Done results) k e = absurd (none-some k e)
+joining-of requests.Poll k e = absurd (none-some k e)
+joining-of requests.Leave k e = absurd (none-some k e)
+joining-of requests.Bad k e = absurd (none-some k e)
+joining-of requests.End k e = absurd (none-some k e)
+
+welcome-of : (reply : Logged) → is_welcome reply ≡ true → (commit : ℕ) × ((head : List Sent) × (reply ≡ logged.Welcome commit head))
+welcome-of (logged.Welcome commit head) e = (commit, (head, refl))
+welcome-of (logged.Relay seq commit head positions) e = absurd (true≢false (sym e))
+welcome-of (logged.Dropped seq chain far) e = absurd (true≢false (sym e))
+welcome-of (logged.Settled seq pos) e = absurd (true≢false (sym e))
+welcome-of (logged.Noted commit) e = absurd (true≢false (sym e))
+welcome-of logged.Idle e = absurd (true≢false (sym e))
+welcome-of (logged.Refused code detail) e = absurd (true≢false (sym e))
+welcome-of logged.Bye e = absurd (true≢false (sym e))
+
+-- An entry that welcomed client k in the session.
+pub record IsWelcomedBy (h : List Entry) (s k : ℕ) : Type 0 where
+  pub entry : Entry
+  pub before : List Entry
+  pub earlier : IsEarlier (entry ∷ before) h
+  pub session : entry.session ≡ s
+  pub client : ClientId
+  pub life : ℕ
+  pub client_is : client.0 ≡ k
+  pub welcome : IsWelcome entry client life
+
+by-later : (e : Entry) (h : List Entry) (s k : ℕ) → IsWelcomedBy h s k → IsWelcomedBy (e ∷ h) s k
+by-later e h s k w = record {
+  entry = w.entry;
+  before = w.before;
+  earlier = after e w.earlier;
+  session = w.session;
+  client = w.client;
+  life = w.life;
+  client_is = w.client_is;
+  welcome = w.welcome;
+}
+
+by-entry : (e : Entry) (h : List Entry) (s k : ℕ) → e.session ≡ s → is_welcome e.reply ≡ true → joining e.request ≡ Some k → IsWelcomedBy (e ∷ h) s k
+by-entry e h s k is w j =
+    let q = joining-of e.request k j in
+    let y = welcome-of e.reply w in
+    record {
+      entry = e;
+      before = h;
+      earlier = same;
+      session = is;
+      client = q.0;
+      life = q.1.0;
+      client_is = q.1.1.1.1;
+      welcome = record { interest = q.1.1.0; commit = y.0; head = y.1.0; request = q.1.1.1.0; reply = y.1.1 };
+    }
+
+pub welcomed-by : (h : List Entry) (s k : ℕ) → client_of h s ≡ Some k → IsWelcomedBy h s k
+welcomed-by [] s k c = absurd (none-some k c)
+welcomed-by (e ∷ h) s k c = go (client_of h s) refl (welcomed-by h s k)
+  where
+    here : Bool
+    here = (e.session == s) && is_welcome e.reply
+
+    now : (if (e.session == s) && is_welcome e.reply then joining e.request else None) ≡ Some k → IsWelcomedBy (e ∷ h) s k
+    now f = elim (cases_Bool ((e.session == s) && is_welcome e.reply)) [
+      | inr x ↦ absurd (none-some k (sym (cond-false ((e.session == s) && is_welcome e.reply) (joining e.request) None x) ∙ f))
+      | inl x ↦
+          (let p = and_parts (e.session == s) (is_welcome e.reply) x in
+          by-entry e h s k (eqb-true e.session s p.0) p.1 (sym (cond-true ((e.session == s) && is_welcome e.reply) (joining e.request) None x) ∙ f))
+    ]
+
+    go : (o : Option ℕ) → client_of h s ≡ o → (client_of h s ≡ Some k → IsWelcomedBy h s k) → IsWelcomedBy (e ∷ h) s k
+    go (Some j) f before =
+        by-later e h s k (before (f ∙ sym (ap (λ (o : Option ℕ). either o (if (e.session == s) && is_welcome e.reply then joining e.request else None)) f) ∙ c))
+    go None f before = now (sym (ap (λ (o : Option ℕ). either o (if (e.session == s) && is_welcome e.reply then joining e.request else None)) f) ∙ c)
+
+-- ---- Why a session is over
+
+pub record IsOverBy (h : List Entry) (s : ℕ) : Type 0 where
+  pub entry : Entry
+  pub before : List Entry
+  pub earlier : IsEarlier (entry ∷ before) h
+  pub cause : ((entry.session ≡ s) × (is_last entry.reply ≡ true)) ⊎ ((entry.session ≡ s → ⊥) × (welcomes entry (client_of before s) ≡ true))
+
+over-later : (e : Entry) (h : List Entry) (s : ℕ) → IsOverBy h s → IsOverBy (e ∷ h) s
+over-later e h s o = record { entry = o.entry; before = o.before; earlier = after e o.earlier; cause = o.cause }
+
+pub over-by : (h : List Entry) (s : ℕ) → is_over h s ≡ true → IsOverBy h s
+over-by [] s o = absurd (true≢false (sym o))
+over-by (e ∷ h) s o =
+    let before = over-by h s in
+    let last = is_last e.reply in
+    let other = welcomes e (client_of h s) in
+    elim (or_cases (is_over h s) (if e.session == s then last else other) o) [
+      | inl x ↦ over-later e h s (before x)
+      | inr x ↦ record {
+        entry = e;
+        before = h;
+        earlier = same;
+        cause = elim (cases_Bool (e.session == s)) [
+          | inl y ↦ inl (eqb-true e.session s y, sym (cond-true (e.session == s) last other y) ∙ x)
+          | inr y ↦ inr (λ z. true≢false (sym (eq-eqb e.session s z) ∙ y), sym (cond-false (e.session == s) last other y) ∙ x)
+        ];
+      }
+    ]
+
+end-last_at : (h g : List Entry) (s : ℕ) → IsEarlier h g → IsEndLast g s → IsEndLast h s
+end-last_at h whole s same l = l
+end-last_at h whole s (after {g} e b) l = end-last_at h g s b l.1
+
+ended-since : (d : Entry) (h g : List Entry) (s : ℕ) → IsEarlier (d ∷ h) g → d.session ≡ s → is_end d.request ≡ true → is_ended g s ≡ true
+ended-since d h whole s same is e = or_left ((d.session == s) && is_end d.request) (is_ended h s) (and_from (d.session == s) (is_end d.request) (eq-eqb d.session s is) e)
+ended-since d h whole s (after {g} c b) is e = or_right ((c.session == s) && is_end c.request) (is_ended g s) (ended-since d h g s b is e)
+
+last-kinds : (q : Request) (A : List Authored) (reply : Logged) → is_last reply ≡ true → allows q (full_reply A reply) ≡ true → q ≡ requests.Leave
+last-kinds q A logged.Bye l a = leave-only q a
+  where
+    leave-only : (q : Request) → allows q replies.Bye ≡ true → q ≡ requests.Leave
+    leave-only requests.Leave a = refl
+    leave-only (requests.Join client life interest) a = absurd (true≢false (sym a))
+    leave-only (requests.Submit seq x) a = absurd (true≢false (sym a))
+    leave-only (requests.Done results) a = absurd (true≢false (sym a))
+    leave-only requests.Poll a = absurd (true≢false (sym a))
+    leave-only requests.Bad a = absurd (true≢false (sym a))
+    leave-only requests.End a = absurd (true≢false (sym a))
+last-kinds q A (logged.Refused code detail) l a = absurd (true≢false (sym a ∙ never-refused q code detail))
+last-kinds q A (logged.Welcome commit head) l a = absurd (true≢false (sym l))
+last-kinds q A (logged.Relay seq commit head positions) l a = absurd (true≢false (sym l))
+last-kinds q A (logged.Dropped seq chain far) l a = absurd (true≢false (sym l))
+last-kinds q A (logged.Settled seq pos) l a = absurd (true≢false (sym l))
+last-kinds q A (logged.Noted commit) l a = absurd (true≢false (sym l))
+last-kinds q A logged.Idle l a = absurd (true≢false (sym l))
+
+module _ (r : Rules) (H : List Entry) (Ls : List Trace) (legal : Legal r H) (fits : Fits r.world.shape H Ls) (i : ℕ) (L : Trace) (member : slice_get Ls i ≡ Some L) where
+  pub one : FitsOne r.world.shape H L
+  one = each-at (FitsOne r.world.shape H) Ls i L (recursion_from_All (FitsOne r.world.shape H) Ls fits.each) member
+
+  abbrev who : Identity
+  who = identity_of r.world.shape L
+
+  abbrev whole : List Event
+  whole = reverse L.events
+
+  abbrev A : List Authored
+  A = accepted H
+
+  owned-at : (e : Entry) (h : List Entry) → IsEarlier (e ∷ h) H → is_owned Ls e ≡ true
+  owned-at e h b = go H b (recursion_from_All (λ (d : Entry). is_owned Ls d ≡ true) H fits.owned)
+    where
+      go : (g : List Entry) → IsEarlier (e ∷ h) g → AllByRecursion (λ (d : Entry). is_owned Ls d ≡ true) g → is_owned Ls e ≡ true
+      go all' same o = o.0
+      go all' (after {g} d c) o = go g c o.1
+
+  -- A Join that a session of a trace has in the journal is one that the trace asks.
+  join-of : (M : Trace) → FitsOne r.world.shape H M → (e : Entry) (h : List Entry) → IsEarlier (e ∷ h) H → has_session M e.session ≡ true →
+      (client : ClientId) (life : ℕ) (interest : List ObjectId) → e.request ≡ requests.Join client life interest →
+      IsJoinAsked (identity_of r.world.shape M) M.first (reverse M.events) e.session (length (requests_in h e.session)) client life interest
+  join-of M fit e h b has client life interest is =
+      join-asked (identity_of r.world.shape M) M.first (reverse M.events) fit.proper.events e.session (length (requests_in h e.session)) client life interest
+      ((fit.sessions e.session has).asked (length (requests_in h e.session)) (requests.Join client life interest)
+      (request-there e h H e.session b (of-from e e.session refl (ap is_end is)) ∙ ap Some is))
+
+  -- A Join of this client is asked by this trace.
+  pub own-join : (e : Entry) (h : List Entry) → IsEarlier (e ∷ h) H → (client : ClientId) (life : ℕ) (interest : List ObjectId) → e.request ≡ requests.Join client life interest →
+      client.0 ≡ L.client.0 → (has_session L e.session ≡ true) × IsJoinAsked who L.first whole e.session (length (requests_in h e.session)) client life interest
+  own-join e h b client life interest is same_number =
+      elim (or_cases (is_end e.request) (list_any (λ (M : Trace). has_session M e.session) Ls) (owned-at e h b)) [
+        | inl x ↦ absurd (true≢false (sym x ∙ ap is_end is))
+        | inr x ↦
+            (let o = find-owner Ls e.session x in
+            let M = o.1.0 in
+            let fit : FitsOne r.world.shape H M = each-at (FitsOne r.world.shape H) Ls o.0 M (recursion_from_All (FitsOne r.world.shape H) Ls fits.each) o.1.1.0 in
+            let j = join-of M fit e h b o.1.1.1 client life interest is in
+            let same_trace : L ≡ M = apart-same Ls fits.apart i o.0 L M member o.1.1.0 (same-client L.client M.client (sym same_number ∙ ap (λ (c : ClientId). c.0) j.client_is)) in
+            let has : has_session L e.session ≡ true = subst (λ (T : Trace). has_session T e.session ≡ true) (sym same_trace) o.1.1.1 in
+            (has, join-of L one e h b has client life interest is))
+      ]
+
+  -- The client of this trace's session is the trace's own.
+  pub session-client : (s : ℕ) → has_session L s ≡ true → (h : List Entry) → IsEarlier h H → (k : ℕ) → client_of h s ≡ Some k → k ≡ L.client.0
+  session-client s has h b k c =
+      let w = welcomed-by h s k c in
+      let j = join-of L one w.entry w.before (earlier-then (w.entry ∷ w.before) h H w.earlier b) (subst (λ (n : ℕ). has_session L n ≡ true) (sym w.session) has)
+      w.client w.life w.welcome.interest w.welcome.request in
+      sym w.client_is ∙ ap (λ (d : ClientId). d.0) j.client_is
+
+  -- ---- The session that was begun last
+
+  module _ (s : ℕ) (current : current_session whole ≡ Some s) (e : Entry) (g : List Entry) (b : IsEarlier (e ∷ g) H) (mine : is_of e s ≡ true)
+      (next : length (replies_in A g s) ≡ length (got whole s)) where
+    pub has : has_session L s ≡ true
+    has = joined-has r H legal L one whole all s (current-joined whole s current)
+
+    abbrev earlier : IsEarlier g H
+    earlier = earlier-rest g e H b
+
+    -- The request that is answered is the next one asked.
+    pub asks : slice_get (asked L.client L.interest whole s) (length (got whole s)) ≡ Some e.request
+    asks =
+        ap (slice_get (asked L.client L.interest whole s)) (sym next ∙ as-many A g s)
+        ∙ (one.sessions s has).asked (length (requests_in g s)) e.request (request-there e g H s b mine)
+
+    -- Each reply of the session before it was got.
+    pub was-got : (d : Entry) (h : List Entry) → IsEarlier (d ∷ h) g → is_of d s ≡ true → slice_get (got whole s) (length (replies_in A h s)) ≡ Some (full_reply A d.reply)
+    was-got d h c t =
+        let longer : length (replies_in A (d ∷ h) s) ≡ length (replies_in A h s) + 1 = ap length (cond-true (is_of d s) _ _ t) ∙ length-append (replies_in A h s) (full_reply A d.reply ∷ []) in
+        let short : length (replies_in A (d ∷ h) s) ≤ length (replies_in A g s) = front-length (replies_in A (d ∷ h) s) (replies_in A g s) (replies-earlier A (d ∷ h) g c s) in
+        let m = length (replies_in A h s) in
+        let found = get-some (got whole s) m (omega arith) in
+        let there : slice_get (replies_in A (d ∷ h) s) m ≡ Some (full_reply A d.reply) =
+        ap (λ (l : List Reply). slice_get l m) (cond-true (is_of d s) _ _ t) ∙ get-last (replies_in A h s) (full_reply A d.reply) in
+        let full : slice_get (replies_in A H s) m ≡ Some (full_reply A d.reply) = replies-earlier A (d ∷ h) H (earlier-then (d ∷ h) g H c earlier) s m (full_reply A d.reply) there in
+        found.1 ∙ ap Some (same_Some found.0 (full_reply A d.reply) (sym (got-replied r H legal L one s m found.0 found.1) ∙ full))
+
+    not-left : (d : Entry) (h : List Entry) → IsEarlier (d ∷ h) g → is_of d s ≡ true → is_last d.reply ≡ true → ⊥
+    not-left d h c t last =
+        let m = length (replies_in A h s) in
+        let there = was-got d h c t in
+        let w = got-when who L.first whole s m (full_reply A d.reply) there in
+        let a = got-answers who L.first whole one.proper.events s m (full_reply A d.reply) w in
+        let leave : a.request ≡ requests.Leave = last-kinds a.request A d.reply last a.kind in
+        let at : slice_get (asked L.client L.interest whole s) m ≡ Some requests.Leave =
+        asked-part who L.first w.before whole (part-rest w.before (events.Got s (full_reply A d.reply)) whole w.part) s m requests.Leave
+        (ap (slice_get (asked L.client L.interest w.before s)) w.place ∙ a.asked_there ∙ ap Some leave) in
+        let last_one : length (asked L.client L.interest whole s) ≡ suc m = (leave-last who L.first whole one.proper.events s m at).last in
+        let within : length (got whole s) < length (asked L.client L.interest whole s) = slice_get_within (asked L.client L.interest whole s) (length (got whole s)) e.request asks in
+        let got_it : m < length (got whole s) = slice_get_within (got whole s) m (full_reply A d.reply) there in
+        absurd (omega arith)
+
+    not-replaced : (d : Entry) (h : List Entry) → IsEarlier (d ∷ h) g → (d.session ≡ s → ⊥) → (o : Option ℕ) → client_of h s ≡ o → welcomes d o ≡ true → ⊥
+    not-replaced d h c other None is w = true≢false (sym w)
+    not-replaced d h c other (Some k) is w =
+        let early : IsEarlier (d ∷ h) H = earlier-then (d ∷ h) g H c earlier in
+        let early_h : IsEarlier h H = earlier-rest h d H early in
+        let p = and_parts (is_welcome d.reply) (is_client (joining d.request) k) w in
+        let mine_is : k ≡ L.client.0 = session-client s has h early_h k is in
+        let first_one = welcomed-by h s k is in
+        let d_joins : joining d.request ≡ Some k = client-some (joining d.request) p.1 in
+        let q = joining-of d.request k d_joins in
+        let reply_is = welcome-of d.reply p.0 in
+        let client : ClientId = q.0 in
+        let life : ℕ = q.1.0 in
+        let welcome : IsWelcome d client life = record { interest = q.1.1.0; commit = reply_is.0; head = reply_is.1.0; request = q.1.1.1.0; reply = reply_is.1.1 } in
+        let oj = own-join d h early client life q.1.1.0 q.1.1.1.0 (q.1.1.1.1 ∙ mine_is) in
+        let fj = own-join first_one.entry first_one.before (earlier-then (first_one.entry ∷ first_one.before) h H first_one.earlier early_h) first_one.client first_one.life first_one.welcome.interest first_one.welcome.request (first_one.client_is ∙ mine_is) in
+        let n1 : d.session + 1 ≡ L.first + life = oj.1.numbered in
+        let l1 : life ≤ joins whole = oj.1.among in
+        let n2 : s + 1 ≡ L.first + first_one.life = subst (λ (n : ℕ). n + 1 ≡ L.first + first_one.life) first_one.session fj.1.numbered in
+        let n3 : s + 1 ≡ L.first + joins whole = current-last who L.first whole one.proper.events s current in
+        let grew : first_one.life ≤ life_of (first_one.entry ∷ first_one.before) first_one.client.0 = welcome-life first_one.entry first_one.before first_one.client first_one.life first_one.welcome in
+        let kept : life_of (first_one.entry ∷ first_one.before) first_one.client.0 ≤ life_of h first_one.client.0 = life-grows (first_one.entry ∷ first_one.before) h first_one.earlier first_one.client.0 in
+        let late : life_of h client.0 < life = (welcome-legal r H legal L one d h client life early welcome).1 in
+        let clients : client.0 ≡ first_one.client.0 = q.1.1.1.1 ∙ sym first_one.client_is in
+        let late' : life_of h first_one.client.0 < life = subst (λ (n : ℕ). life_of h n < life) clients late in
+        absurd (omega arith)
+      where
+        client-some : (o : Option ℕ) → is_client o k ≡ true → o ≡ Some k
+        client-some None e = absurd (true≢false (sym e))
+        client-some (Some n) e = ap Some (eqb-true n k e)
+
+    -- It is not over.
+    pub not-over : is_over g s ≡ false
+    not-over = false_from_ne_true (is_over g s) (λ o.
+        let y = over-by g s o in
+        elim y.cause [
+          | inr z ↦ not-replaced y.entry y.before y.earlier z.0 (client_of y.before s) refl z.1
+          | inl z ↦ elim (cases_Bool (is_end y.entry.request)) [
+            | inr n ↦ not-left y.entry y.before y.earlier (of-from y.entry s z.0 n) z.1
+            | inl x ↦ true≢false (sym (ended-since y.entry y.before g s y.earlier z.0 x) ∙ (end-last_at (e ∷ g) H s b (one.sessions s has).ended).0 (of-parts e s mine).0)
+          ]
+        ])

@@ -1,0 +1,360 @@
+-- The number of a client's next Submit is its next one for the server, or one whose outcome is kept.
+use Rattle.std.proofs.Common.{◌≡◌, ℕ, zero, suc, ◌+◌, ◌<◌, ◌≤◌, Bool, true, false, ◌&&◌, ◌==◌, nat_le, ◌⊎◌, inl, inr, List, [], ◌∷◌, ◌++◌, map, drop, reverse, length, Option, Some, None, slice_get, refl, sym, ap, ◌∙◌, subst, arith, eqb-true, eq-eqb, true≢false, le-leb}
+use Rattle.std.specs.Prelude.{if◌then◌else◌}
+use Rattle.std.proofs.lemmas.Bool.{cond-true, cond-false, cases_Bool, cases_lt, and_from}
+use Rattle.std.proofs.lemmas.List.{length-append}
+use Rattle.std.proofs.lemmas.Option.{none-some, same_Some}
+use Rattle.sv_world.specs.declared.action.Action.{Action}
+use Rattle.sv_pending.specs.Pending.{PendingAction}
+use Rattle.sv_wire.specs.declared.message.Request.{Request}
+use Rattle.sv_wire.specs.declared.message.Request.TheVariants as requests
+use Rattle.sv_wire.specs.declared.message.Reply.{Reply}
+use Rattle.sv_wire.specs.declared.message.Reply.TheVariants as replies
+use Rattle.sv_journal.specs.declared.entry.Entry.{Entry}
+use Rattle.sv_journal.specs.declared.entry.Logged.{Logged}
+use Rattle.sv_journal.specs.declared.entry.Logged.TheVariants as logged
+use Rattle.sv_journal.specs.History.{Authored, Outcome, Accepted, accepted, client_of, is_client, is_submit_of, outcome_in, outcomes_of, next_seq, full_reply}
+use Rattle.sv_journal.specs.Sessions.{is_end, kept_outcome, kept_count, outcome_at}
+use Rattle.sv_journal.specs.Answer.{Rules, Legal}
+use Rattle.sv_client.specs.declared.trace.Event.{Event}
+use Rattle.sv_client.specs.declared.trace.Event.TheVariants as events
+use Rattle.sv_client.specs.declared.trace.Trace.{Trace}
+use Rattle.sv_client.specs.Traces.{joins, makes, current_session, is_session, held_of, with_reply, done_for, pending_of, submit_of, asked_by, asked, got}
+use Rattle.sv_client.specs.Taking.{Identity}
+use Rattle.sv_client.specs.Proper.{AreProper, identity_of}
+use Rattle.sv_system.specs.Fits.{requests_in, replies_in, has_session, FitsOne, Fits}
+use Rattle.sv_system.proofs.Fronts.{get-last}
+use Rattle.sv_system.proofs.Histories.{IsEarlier, same, after, earlier-then, earlier-rest, earlier-legal, kept-old}
+use Rattle.sv_system.proofs.Replies.{AnswersSubmit, AnswersKept, Tells, IsRelayReply, legal-tells}
+use Rattle.sv_system.proofs.Commits.{next-grows, outcome-when}
+use Rattle.sv_system.proofs.Entered.{is_of, of-parts, of-from, as-many, request-there}
+use Rattle.sv_system.proofs.Asked.{get-append_cases, IsPart, all, part-rest, asked-part, got-part, proper-part, may-answer, current-joined}
+use Rattle.sv_system.proofs.Pendings.{Numbered, keys, without_first, settles, keys-with, keys-made, AreFrom, settled, IsCounted, counted, submits}
+use Rattle.sv_system.proofs.Aligned.{is_submit, settles-submit, drop-one, aligned}
+use Rattle.sv_system.proofs.Order.{get-some, joined-has}
+use Rattle.sv_system.proofs.Opened.{one, asks, own-join, session-client, welcomed-by}
+use Rattle.sv_system.proofs.Before.{got-at}
+
+-- ---- The Submits of a trace are of actions that it made
+
+no-submit_if : (b : Bool) (p : Request) (j n : ℕ) (a : Action) → is_submit p ≡ false → slice_get (if b then p ∷ [] else []) j ≡ Some (requests.Submit n a) → ⊥
+no-submit_if true p zero n a f e = true≢false (sym (ap is_submit (same_Some p (requests.Submit n a) e)) ∙ f)
+no-submit_if true p (suc j) n a f e = none-some (requests.Submit n a) e
+no-submit_if false p j n a f e = none-some (requests.Submit n a) e
+
+abbrev submit_number : Request → ℕ
+submit_number (requests.Submit n a) = n
+submit_number _ = 0
+
+abbrev AreMost : ℕ → List PendingAction → Type 0
+AreMost n [] = Unit {0}
+AreMost n (p ∷ ps) = (p.seq ≤ n) × AreMost n ps
+
+most-submits : (n : ℕ) (ps : List PendingAction) → AreMost n ps → (j m : ℕ) (a : Action) → slice_get (map submit_of ps) j ≡ Some (requests.Submit m a) → m ≤ n
+most-submits n [] h j m a e = absurd (none-some (requests.Submit m a) e)
+most-submits n (p ∷ ps) h zero m a e = subst (λ (k : ℕ). k ≤ n) (ap number (same_Some (requests.Submit p.seq p.action) (requests.Submit m a) e)) h.0
+  where
+    number : Request → ℕ
+    number (requests.Submit k b) = k
+    number _ = 0
+most-submits n (p ∷ ps) h (suc j) m a e = most-submits n ps h.1 j m a e
+
+most-from : (n top : ℕ) (ps : List PendingAction) → AreFrom n (keys ps) → n + length (keys ps) ≤ suc top → AreMost top ps
+most-from n top [] f l = tt
+most-from n top (p ∷ ps) f l = ((let e : p.seq ≡ n = f.0 in omega arith), most-from (suc n) top ps f.1 (omega arith))
+
+pending-most : (t : List Event) → IsCounted t → AreMost (makes t) (pending_of t)
+pending-most t c = most-from (suc (settled t)) (makes t) (pending_of t) c.numbered (let w : length (keys (pending_of t)) ≤ makes t = c.within in omega arith)
+
+module _ (who : Identity) (first : ℕ) where
+  -- Each Submit that is asked has at most the number of actions made.
+  pub submit-most : (t : List Event) → AreProper who first t → (s i n : ℕ) (a : Action) → slice_get (asked who.client who.interest t s) i ≡ Some (requests.Submit n a) → n ≤ makes t
+  submit-most [] p s i n a e = absurd (none-some (requests.Submit n a) e)
+  submit-most (ev ∷ t) p s i n a e =
+      let before = submit-most t p.1 s i n a in
+      elim (get-append_cases (asked who.client who.interest t s) (asked_by who.client who.interest t ev s) i (requests.Submit n a) e) [
+        | inl f ↦ (let l : n ≤ makes t = before f in let m : makes t ≤ makes (ev ∷ t) = grows ev in omega arith)
+        | inr f ↦ now ev f.0 f.1.1
+      ]
+    where
+      grows : (ev : Event) → makes t ≤ makes (ev ∷ t)
+      grows (events.Join m) = omega arith
+      grows (events.Got m r) = omega arith
+      grows (events.Make action) = omega arith
+      grows events.Poll = omega arith
+      grows events.Leave = omega arith
+      grows events.Cut = omega arith
+      grows events.Quit = omega arith
+      grows (events.Show objects) = omega arith
+
+      join-now : (b : Bool) (j : ℕ) → slice_get (if b then requests.Join who.client (suc (joins t)) who.interest ∷ map submit_of (pending_of t) else []) j ≡ Some (requests.Submit n a) → n ≤ makes t
+      join-now true zero g = (let f : requests.Join who.client (suc (joins t)) who.interest ≡ requests.Submit n a = same_Some _ _ g in absurd (true≢false (sym (ap is_submit f))))
+      join-now true (suc j) g = most-submits (makes t) (pending_of t) (pending-most t (counted who first t p.1)) j n a g
+      join-now false j g = absurd (none-some (requests.Submit n a) g)
+
+      make-now : (b : Bool) (action : Action) (j : ℕ) → slice_get (if b then requests.Submit (suc (makes t)) action ∷ [] else []) j ≡ Some (requests.Submit n a) → n ≤ suc (makes t)
+      make-now true action zero g =
+          (let f : suc (makes t) ≡ n = ap number (same_Some (requests.Submit (suc (makes t)) action) (requests.Submit n a) g) in omega arith)
+        where
+          number : Request → ℕ
+          number (requests.Submit k b) = k
+          number _ = 0
+      make-now true action (suc j) g = absurd (none-some (requests.Submit n a) g)
+      make-now false action j g = absurd (none-some (requests.Submit n a) g)
+
+      done-now : (b : Bool) (r : Reply) (j : ℕ) → slice_get (if b then done_for (held_of t) r else []) j ≡ Some (requests.Submit n a) → ⊥
+      done-now false r j g = none-some (requests.Submit n a) g
+      done-now true (replies.Relay seq commit head items) zero g = true≢false (sym (ap is_submit (same_Some _ (requests.Submit n a) g)))
+      done-now true (replies.Relay seq commit head items) (suc j) g = none-some (requests.Submit n a) g
+      done-now true (replies.Welcome commit head) j g = none-some (requests.Submit n a) g
+      done-now true (replies.Dropped seq chain far) j g = none-some (requests.Submit n a) g
+      done-now true (replies.Settled seq pos) j g = none-some (requests.Submit n a) g
+      done-now true (replies.Noted commit) j g = none-some (requests.Submit n a) g
+      done-now true replies.Idle j g = none-some (requests.Submit n a) g
+      done-now true (replies.Refused code detail) j g = none-some (requests.Submit n a) g
+      done-now true replies.Bye j g = none-some (requests.Submit n a) g
+
+      now : (ev : Event) → (j : ℕ) → slice_get (asked_by who.client who.interest t ev s) j ≡ Some (requests.Submit n a) → n ≤ makes (ev ∷ t)
+      now (events.Join m) j g = join-now (m == s) j g
+      now (events.Got m r) j g = absurd (done-now (m == s) r j g)
+      now (events.Make action) j g = make-now (is_session (current_session t) s) action j g
+      now events.Poll j g = absurd (no-submit_if (is_session (current_session t) s) requests.Poll j n a refl g)
+      now events.Leave j g = absurd (no-submit_if (is_session (current_session t) s) requests.Leave j n a refl g)
+      now events.Cut j g = absurd (none-some (requests.Submit n a) g)
+      now events.Quit j g = absurd (none-some (requests.Submit n a) g)
+      now (events.Show objects) j g = absurd (none-some (requests.Submit n a) g)
+
+  -- The Submit that is answered next in the current session is that of the front pending action.
+  pub next-front : (t : List Event) → AreProper who first t → (s n : ℕ) (a : Action) → current_session t ≡ Some s →
+      slice_get (asked who.client who.interest t s) (length (got t s)) ≡ Some (requests.Submit n a) →
+      (ks : List Numbered) × ((keys (pending_of t) ≡ (n, a) ∷ ks) × (n ≡ suc (settled t)))
+  next-front t p s n a c e =
+      let qs = asked who.client who.interest t s in
+      let rest = submits (drop (suc (length (got t s))) qs) in
+      let are : (n, a) ∷ rest ≡ keys (pending_of t) = sym (ap submits (drop-one (length (got t s)) qs (requests.Submit n a) e)) ∙ aligned who first t p s c in
+      (rest, (sym are, first-number (keys (pending_of t)) (suc (settled t)) (counted who first t p).numbered are))
+    where
+      first-number : (ks : List Numbered) (m : ℕ) → AreFrom m ks → {js : List Numbered} → (n, a) ∷ js ≡ ks → n ≡ m
+      first-number [] m f {js} g = cc
+      first-number (k ∷ ks) m f {js} g = number g ∙ f.0
+        where
+          head_number : List Numbered → ℕ
+          head_number [] = 0
+          head_number (k ∷ ks) = k.0
+
+          number : (n, a) ∷ js ≡ k ∷ ks → n ≡ k.0
+          number h = ap head_number h
+
+-- ---- The server's next number
+
+submit-of : (q : Request) → is_submit q ≡ true → (n : ℕ) × ((a : Action) × (q ≡ requests.Submit n a))
+submit-of (requests.Submit n a) e = (n, (a, refl))
+submit-of (requests.Join client life interest) e = absurd (true≢false (sym e))
+submit-of (requests.Done results) e = absurd (true≢false (sym e))
+submit-of requests.Poll e = absurd (true≢false (sym e))
+submit-of requests.Leave e = absurd (true≢false (sym e))
+submit-of requests.Bad e = absurd (true≢false (sym e))
+submit-of requests.End e = absurd (true≢false (sym e))
+
+submit-named : (q : Request) (n : ℕ) → is_submit_of q n ≡ true → (a : Action) × (q ≡ requests.Submit n a)
+submit-named (requests.Submit m a) n e = (a, ap (λ (k : ℕ). requests.Submit k a) (eqb-true m n e))
+submit-named (requests.Join client life interest) n e = absurd (true≢false (sym e))
+submit-named (requests.Done results) n e = absurd (true≢false (sym e))
+submit-named requests.Poll n e = absurd (true≢false (sym e))
+submit-named requests.Leave n e = absurd (true≢false (sym e))
+submit-named requests.Bad n e = absurd (true≢false (sym e))
+submit-named requests.End n e = absurd (true≢false (sym e))
+
+-- A new Submit that has an outcome makes its client's next number one greater.
+next-new : (d : Entry) (h : List Entry) (k n : ℕ) (a : Action) → client_of h d.session ≡ Some k → d.request ≡ requests.Submit n a → n ≡ next_seq h k →
+    length (outcome_in (suc (length (accepted h))) d.reply) ≡ 1 → n < next_seq (d ∷ h) k
+next-new d h k n a c q e one' =
+    let test : Bool = is_client (client_of h d.session) k && is_submit_of d.request (suc (length (outcomes_of h k))) in
+    let more = outcome_in (suc (length (accepted h))) d.reply in
+    let yes' : test ≡ true =
+    and_from (is_client (client_of h d.session) k) (is_submit_of d.request (suc (length (outcomes_of h k))))
+    (ap (λ (o : Option ℕ). is_client o k) c ∙ eq-eqb k k refl)
+    (ap (λ (p : Request). is_submit_of p (suc (length (outcomes_of h k)))) q ∙ eq-eqb n (suc (length (outcomes_of h k))) e) in
+    let len : length (outcomes_of (d ∷ h) k) ≡ length (outcomes_of h k) + length more =
+    ap (λ (l : List Outcome). length (outcomes_of h k ++ l)) (cond-true test more [] yes') ∙ length-append (outcomes_of h k) more in
+    omega arith
+
+-- After a reply that settles the Submit, the client's next number is over its number.
+answered-next : (r : Rules) (A : List Authored) (d : Entry) (h : List Entry) → Legal r (d ∷ h) → (n : ℕ) (a : Action) → d.request ≡ requests.Submit n a → (reply : Logged) → d.reply ≡ reply →
+    settles (full_reply A reply) ≡ true → (k : ℕ) × ((client_of h d.session ≡ Some k) × (n < next_seq (d ∷ h) k))
+answered-next r A d h l n a q (logged.Relay seq commit head positions) is s =
+    let t : IsRelayReply r h d.session d.request commit head positions = subst (λ (y : Logged). Tells r h d.session d.request y) is (legal-tells r d h l) in
+    let grows : next_seq h t.client ≤ next_seq (d ∷ h) t.client = next-grows h (d ∷ h) (after d same) t.client in
+    elim t.kind [
+      | inr p ↦ absurd (true≢false (sym (ap is_submit (sym p.0 ∙ q))))
+      | inl p ↦
+          (let number : p.0 ≡ n = ap submit_number (sym p.1.1.0 ∙ q) in (
+            t.client,
+            (
+              t.joined,
+              elim p.1.1.1 [
+                | inl kept ↦ (let old : p.0 < next_seq h t.client = kept-old h t.client p.0 (Accepted t.target) kept in omega arith)
+                | inr fresh ↦ next-new d h t.client n a t.joined q (sym number ∙ fresh.0) (ap (λ (y : Logged). length (outcome_in (suc (length (accepted h))) y)) is)
+              ],
+            ),
+          ))
+    ]
+answered-next r A d h l n a q (logged.Dropped seq chain far) is s =
+    let t : AnswersSubmit h d.session d.request seq = subst (λ (y : Logged). Tells r h d.session d.request y) is (legal-tells r d h l) in
+    let k = t.0 in
+    let number : seq ≡ n = ap submit_number (sym t.1.1.1.0 ∙ q) in
+    let grows : next_seq h k ≤ next_seq (d ∷ h) k = next-grows h (d ∷ h) (after d same) k in (
+      k,
+      (
+        t.1.0,
+        elim t.1.1.1.1 [
+          | inl o ↦ (let old : seq < next_seq h k = kept-old h k seq o.0 o.1 in omega arith)
+          | inr fresh ↦ next-new d h k n a t.1.0 q (sym number ∙ fresh) (ap (λ (y : Logged). length (outcome_in (suc (length (accepted h))) y)) is)
+        ],
+      ),
+    )
+answered-next r A d h l n a q (logged.Settled seq pos) is s =
+    let t : AnswersKept h d.session d.request seq = subst (λ (y : Logged). Tells r h d.session d.request y) is (legal-tells r d h l) in
+    let k = t.0 in
+    let number : seq ≡ n = ap submit_number (sym t.1.1.1.0 ∙ q) in
+    let grows : next_seq h k ≤ next_seq (d ∷ h) k = next-grows h (d ∷ h) (after d same) k in
+    let old : seq < next_seq h k = kept-old h k seq t.1.1.1.1.0 t.1.1.1.1.1 in
+    (k, (t.1.0, omega arith))
+answered-next r A d h l n a q (logged.Welcome commit head) is s = absurd (true≢false (sym s))
+answered-next r A d h l n a q (logged.Noted commit) is s = absurd (true≢false (sym s))
+answered-next r A d h l n a q logged.Idle is s = absurd (true≢false (sym s))
+answered-next r A d h l n a q (logged.Refused code detail) is s = absurd (true≢false (sym s))
+answered-next r A d h l n a q logged.Bye is s = absurd (true≢false (sym s))
+
+get-none : {X : Type 0} (xs : List X) (i : ℕ) → length xs ≤ i → slice_get xs i ≡ None
+get-none [] i l = refl
+get-none (x ∷ xs) zero l = absurd (omega arith)
+get-none (x ∷ xs) (suc i) l = get-none xs i (omega arith)
+
+module _ (r : Rules) (H : List Entry) (Ls : List Trace) (legal : Legal r H) (fits : Fits r.world.shape H Ls) (i : ℕ) (L : Trace) (member : slice_get Ls i ≡ Some L)
+    (s : ℕ) (current : current_session (reverse L.events) ≡ Some s) (few : length (asked L.client L.interest (reverse L.events) s) ≤ 1024)
+    (e : Entry) (g : List Entry) (b : IsEarlier (e ∷ g) H) (mine : is_of e s ≡ true) (next : length (replies_in (accepted H) g s) ≡ length (got (reverse L.events) s)) where
+  abbrev whole : List Event
+  whole = reverse L.events
+
+  abbrev A : List Authored
+  A = accepted H
+
+  abbrev who : Identity
+  who = identity_of r.world.shape L
+
+  abbrev k : ℕ
+  k = L.client.0
+
+  abbrev this_one : FitsOne r.world.shape H L
+  this_one = one r H Ls legal fits i L member
+
+  earlier : IsEarlier g H
+  earlier = earlier-rest g e H b
+
+  -- The front pending action, once its reply is got, was numbered below the server's next number.
+  front-answered : (o : ℕ) (reply : Reply) (t : List Event) → IsPart (events.Got o reply ∷ t) whole → settles reply ≡ true → suc (settled t) < next_seq g k
+  front-answered o reply t part s' =
+      let proper : AreProper who L.first (events.Got o reply ∷ t) = proper-part who L.first (events.Got o reply ∷ t) whole part this_one.proper.events in
+      let rest : IsPart t whole = part-rest t (events.Got o reply) whole part in
+      let a = may-answer who L.first t o reply proper.0 in
+      let m = length (got t o) in
+      let q = submit-of a.request (sym (settles-submit who t a.request reply (counted who L.first t proper.1) a.kind a.good) ∙ s') in
+      let front = next-front who L.first t proper.1 o q.0 q.1.0 a.current (a.asked_there ∙ ap Some q.1.1) in
+      let there : slice_get (got whole o) m ≡ Some reply =
+      got-part who L.first (events.Got o reply ∷ t) whole part o m reply (ap (λ (rs : List Reply). slice_get rs m) (cond-true (o == o) (got t o ++ reply ∷ []) (got t o) (eq-eqb o o refl)) ∙ get-last (got t o) reply) in
+      let x = got-at r H Ls legal fits i L member s current few e g b mine next o m reply there in
+      let bx : IsEarlier (x.entry ∷ x.before) H = earlier-then (x.entry ∷ x.before) g H x.there earlier in
+      let has_o : has_session L o ≡ true = joined-has r H legal L this_one t rest o (current-joined t o a.current) in
+      let by_journal : slice_get (asked L.client L.interest whole o) m ≡ Some x.entry.request =
+      ap (slice_get (asked L.client L.interest whole o)) (x.index ∙ as-many A x.before o)
+      ∙ (this_one.sessions o has_o).asked (length (requests_in x.before o)) x.entry.request (request-there x.entry x.before H o bx x.of_it) in
+      let by_trace : slice_get (asked L.client L.interest whole o) m ≡ Some a.request = asked-part who L.first t whole rest o m a.request a.asked_there in
+      let request : x.entry.request ≡ requests.Submit q.0 q.1.0 = same_Some x.entry.request a.request (sym by_journal ∙ by_trace) ∙ q.1.1 in
+      let n = answered-next r A x.entry x.before (earlier-legal r (x.entry ∷ x.before) H bx legal) q.0 q.1.0 request x.entry.reply refl (ap settles (sym x.replied) ∙ s') in
+      let session : x.entry.session ≡ o = (of-parts x.entry o x.of_it).0 in
+      let own : n.0 ≡ k = session-client r H Ls legal fits i L member o has_o x.before (earlier-rest x.before x.entry H bx) n.0 (subst (λ (c : ℕ). client_of x.before c ≡ Some n.0) session n.1.0) in
+      let low : q.0 < next_seq (x.entry ∷ x.before) k = subst (λ (c : ℕ). q.0 < next_seq (x.entry ∷ x.before) c) own n.1.1 in
+      let grows : next_seq (x.entry ∷ x.before) k ≤ next_seq g k = next-grows (x.entry ∷ x.before) g x.there k in
+      let number : q.0 ≡ suc (settled t) = front.1.1 in
+      omega arith
+
+  -- All settled actions have outcomes.
+  pub settled-next : (t : List Event) → IsPart t whole → settled t < next_seq g k
+  settled-next [] p = omega arith
+  settled-next (events.Got o reply ∷ t) p =
+      let before : settled t < next_seq g k = settled-next t (part-rest t (events.Got o reply) whole p) in
+      let ks = keys (pending_of t) in
+      let with = keys-with (held_of t) (with_reply (held_of t) reply) reply (pending_of t) in
+      elim (cases_Bool (settles reply)) [
+        | inr f ↦ (let same_length : length (keys (pending_of (events.Got o reply ∷ t))) ≡ length ks = ap length (with ∙ cond-false (settles reply) (without_first ks) ks f) in omega arith)
+        | inl f ↦
+            (let front : suc (settled t) < next_seq g k = front-answered o reply t p f in
+            let shorter : length (keys (pending_of (events.Got o reply ∷ t))) ≡ length (without_first ks) = ap length (with ∙ cond-true (settles reply) (without_first ks) ks f) in
+            let one_less : length ks ≤ suc (length (without_first ks)) = less ks in
+            omega arith)
+      ]
+    where
+      less : (ks : List Numbered) → length ks ≤ suc (length (without_first ks))
+      less [] = omega arith
+      less (k ∷ ks) = omega arith
+  settled-next (events.Make action ∷ t) p =
+      let before : settled t < next_seq g k = settled-next t (part-rest t (events.Make action) whole p) in
+      let more : length (keys (pending_of (events.Make action ∷ t))) ≡ length (keys (pending_of t)) + 1 = ap length (keys-made who L.first action t) ∙ length-append (keys (pending_of t)) ((suc (makes t), action) ∷ []) in
+      omega arith
+  settled-next (events.Join o ∷ t) p = settled-next t (part-rest t (events.Join o) whole p)
+  settled-next (events.Poll ∷ t) p = settled-next t (part-rest t events.Poll whole p)
+  settled-next (events.Leave ∷ t) p = settled-next t (part-rest t events.Leave whole p)
+  settled-next (events.Cut ∷ t) p = settled-next t (part-rest t events.Cut whole p)
+  settled-next (events.Quit ∷ t) p = settled-next t (part-rest t events.Quit whole p)
+  settled-next (events.Show objects ∷ t) p = settled-next t (part-rest t (events.Show objects) whole p)
+
+  client-some : (o : Option ℕ) (j : ℕ) → is_client o j ≡ true → o ≡ Some j
+  client-some None j x = absurd (true≢false (sym x))
+  client-some (Some m) j x = ap Some (eqb-true m j x)
+
+  -- No more outcomes were told than actions were made.
+  pub outcomes-made : length (outcomes_of g k) ≤ makes whole
+  outcomes-made = go (length (outcomes_of g k)) refl
+    where
+      go : (n : ℕ) → length (outcomes_of g k) ≡ n → length (outcomes_of g k) ≤ makes whole
+      go zero z = omega arith
+      go (suc m) z =
+          let f = get-some (outcomes_of g k) m (omega arith) in
+          let x = outcome-when g k m f.0 f.1 in
+          let bx : IsEarlier (x.entry ∷ x.before) H = earlier-then (x.entry ∷ x.before) g H x.earlier earlier in
+          let q = submit-named x.entry.request (suc m) x.submit in
+          let c : client_of x.before x.entry.session ≡ Some k = client-some (client_of x.before x.entry.session) k x.client in
+          let w = welcomed-by x.before x.entry.session k c in
+          let j = own-join r H Ls legal fits i L member w.entry w.before (earlier-then (w.entry ∷ w.before) x.before H w.earlier (earlier-rest x.before x.entry H bx)) w.client w.life w.welcome.interest w.welcome.request w.client_is in
+          let has_o : has_session L x.entry.session ≡ true = subst (λ (o : ℕ). has_session L o ≡ true) w.session j.0 in
+          let there = (this_one.sessions x.entry.session has_o).asked (length (requests_in x.before x.entry.session)) x.entry.request
+          (request-there x.entry x.before H x.entry.session bx (of-from x.entry x.entry.session refl (ap is_end q.1))) in
+          let most : suc m ≤ makes whole = submit-most who L.first whole this_one.proper.events x.entry.session (length (requests_in x.before x.entry.session)) (suc m) q.0 (there ∙ ap Some q.1) in
+          omega arith
+
+  -- A Submit that is answered next is that of the front pending action; its outcome is kept, or it has the next number.
+  pub record IsNumberedWell (n : ℕ) (a : Action) : Type 0 where
+    pub rest : List Numbered
+    pub front : keys (pending_of whole) ≡ (n, a) ∷ rest
+    pub outcome : ((o : Outcome) × (kept_outcome g k n ≡ Some o)) ⊎ ((n ≡ next_seq g k) × (kept_outcome g k n ≡ None))
+
+  pub numbered-well : (n : ℕ) (a : Action) → e.request ≡ requests.Submit n a → IsNumberedWell n a
+  numbered-well n a is =
+      let front = next-front who L.first whole this_one.proper.events s n a current (asks r H Ls legal fits i L member s current e g b mine next ∙ ap Some is) in
+      let number : n ≡ suc (settled whole) = front.1.1 in
+      let low : settled whole < next_seq g k = settled-next whole all in
+      let c = counted who L.first whole this_one.proper.events in
+      let few' : length (keys (pending_of whole)) ≤ 8 = c.few in
+      let within : length (keys (pending_of whole)) ≤ makes whole = c.within in
+      let most : length (outcomes_of g k) ≤ makes whole = outcomes-made in
+      let kept : kept_outcome g k n ≡ slice_get (outcomes_of g k) (settled whole) =
+      cond-true (nat_le (next_seq g k) (n + kept_count)) (outcome_at (outcomes_of g k) n) None (le-leb (next_seq g k) (n + kept_count) (omega arith)) ∙ ap (outcome_at (outcomes_of g k)) number in
+      record {
+        rest = front.0;
+        front = front.1.0;
+        outcome = elim (cases_lt (settled whole) (length (outcomes_of g k))) [
+          | inl l ↦ (let f = get-some (outcomes_of g k) (settled whole) l in inl (f.0, kept ∙ f.1))
+          | inr l ↦ inr (omega arith, kept ∙ get-none (outcomes_of g k) (settled whole) l)
+        ];
+      }
