@@ -55,7 +55,7 @@ impl Model for Sequencer {
 }
 
 impl Sequencer {
-    /// A session's reply of Bye or Refused was its last.
+    /// Whether a session is over.
     pub(crate) fn is_over(&self, session: u16) -> bool
         requires { session < self.now.rules.sessions }
         ensures { result ≡ is_over (history self.now) session }
