@@ -14,10 +14,10 @@ use Rattle.sv_journal.specs.Laws.{LegalActionsAreGood}
 use Rattle.sv_journal.proofs.Replies.{each_reply}
 use Rattle.sv_journal.proofs.Sizes.{new_by, entry_of, kept_known, not_by_poll}
 
-abbrev IsGood : Shape → Authored → Type 0
+abbrev pub IsGood : Shape → Authored → Type 0
 IsGood shape a = first_fault_of_action shape a.action ≡ None
 
-abbrev AreGood : Shape → List Entry → Type 0
+abbrev pub AreGood : Shape → List Entry → Type 0
 AreGood shape h = AllByRecursion (IsGood shape) (accepted h)
 
 all_append : (P : Authored → Type 0) (xs ys : List Authored) → AllByRecursion P xs → AllByRecursion P ys → AllByRecursion P (xs ++ ys)
@@ -42,7 +42,7 @@ good_kept r h s q inv = each_reply r h s q (λ w. AreGood r.world.shape (entry_o
       (rw asked (not_by_poll (client_of h s) (λ k. suc (length (outcomes_of h k))))) tt inv;
 })
 
-legal_good : (r : Rules) (h : List Entry) → Legal r h → AreGood r.world.shape h
+pub legal_good : (r : Rules) (h : List Entry) → Legal r h → AreGood r.world.shape h
 legal_good r [] legal = tt
 legal_good r (e ∷ h) legal =
     subst (λ (w : Logged). AreGood r.world.shape (entry_of e.session e.request w ∷ h)) (sym legal.0) (good_kept r h e.session e.request (legal_good r h legal.1))

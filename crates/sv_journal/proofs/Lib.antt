@@ -1,8 +1,12 @@
 mod Checked
+mod Counts
 mod Filling
+mod Heads
+mod Messages
 mod Named
 mod Places
 mod Replies
+mod Results
 mod Sizes
 mod Stays
 mod Worked

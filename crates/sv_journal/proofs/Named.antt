@@ -24,7 +24,7 @@ use Rattle.sv_journal.proofs.Replies.{each_reply}
 abbrev pub NeededWithin : Type 0
 NeededWithin = (A : List Action) (commit : ℕ) (sent : List ℕ) (i j : ℕ) → commit < i → is_in j (needed_for A commit sent i) ≡ true → (commit < j) × (j ≤ i)
 
-in_list : (xs : List ℕ) (k d : ℕ) → k < length xs → is_in (get_or xs k d) xs ≡ true
+pub in_list : (xs : List ℕ) (k d : ℕ) → k < length xs → is_in (get_or xs k d) xs ≡ true
 in_list [] k d low = absurd (omega (arith, low))
 in_list (x ∷ xs) zero d low = rw (eq-eqb x x refl) refl
 in_list (x ∷ xs) (suc k) d low = go (nat_eq (get_or xs k d) x) (in_list xs k d (omega (arith, low)))
@@ -235,7 +235,7 @@ all_names_later : (m n : ℕ) (h : List Entry) → m ≤ n → AllByRecursion (�
 all_names_later m n [] le f = tt
 all_names_later m n (e ∷ h) le f = (names_later m n e.reply le f.0, all_names_later m n h le f.1)
 
-all_named : NeededWithin → (r : Rules) (h : List Entry) → Legal r h → AllByRecursion (λ (e : Entry). NamesAccepted (length (accepted h)) e.reply) h
+pub all_named : NeededWithin → (r : Rules) (h : List Entry) → Legal r h → AllByRecursion (λ (e : Entry). NamesAccepted (length (accepted h)) e.reply) h
 all_named law r [] legal = tt
 all_named law r (e ∷ h) legal = (
   subst (Named h e.session e.request) (sym legal.0) (named_here law r h e.session e.request),

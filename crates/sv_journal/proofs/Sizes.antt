@@ -210,5 +210,8 @@ legal_bounded law r (e ∷ h) legal =
     let here = subst (KeepsBound r.bound h e.session e.request) (sym legal.0) (bound_kept law r h e.session e.request rest.0) in
     (here.0, (here.1, rest.1))
 
+pub all_small : SizeWithin → (r : Rules) (h : List Entry) → Legal r h → AllByRecursion (λ (e : Entry). length (positions_in e.reply) ≤ r.bound + 1) h
+all_small law r h legal = (legal_bounded law r h legal).1
+
 pub legal_relays_are_small : SizeWithin → LegalRelaysAreSmall
-legal_relays_are_small law r h legal = All-from_recursion (λ (e : Entry). length (positions_in e.reply) ≤ r.bound + 1) h (legal_bounded law r h legal).1
+legal_relays_are_small law r h legal = All-from_recursion (λ (e : Entry). length (positions_in e.reply) ≤ r.bound + 1) h (all_small law r h legal)

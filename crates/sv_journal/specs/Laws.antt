@@ -1,6 +1,7 @@
 -- Laws of journals.
 use Rattle.std.specs.Prelude.{◌≡◌, ◌+◌, ◌≤◌, All, List, ◌++◌, length, reverse, None}
 use Rattle.sv_world.specs.Faults.{first_fault_of_action}
+use Rattle.sv_wire.specs.Grammar.{IsWireReply}
 use Rattle.sv_journal.specs.declared.entry.Entry.{Entry}
 use Rattle.sv_journal.specs.declared.entry.Logged.{Logged}
 use Rattle.sv_journal.specs.History.{Authored, accepted, full_reply}
@@ -24,3 +25,17 @@ LegalRelaysAreSmall = (r : Rules) (h : List Entry) → Legal r h → All (λ (e 
 -- No cause of refusal applies to an accepted action of a legal journal.
 abbrev pub LegalActionsAreGood : Type 0
 LegalActionsAreGood = (r : Rules) (h : List Entry) → Legal r h → All (λ (a : Authored). first_fault_of_action r.world.shape a.action ≡ None) (accepted h)
+
+-- Rules within the limits: each object of the world has a value, of one number for each of its 1 to 4 attributes, and a chain has at most 32
+-- actions.
+pub record AreWithinLimits (r : Rules) : Type 0 where
+  pub some_attrs : 1 ≤ r.world.shape.attrs
+  pub few_attrs : r.world.shape.attrs ≤ 4
+  pub objects : length r.world.values ≡ r.world.shape.objects
+  pub attrs : All (λ value. length value ≡ r.world.shape.attrs) r.world.values
+  pub bound : r.bound ≤ 32
+
+-- Each reply of a legal journal is a message, as it was sent.
+abbrev pub LegalRepliesAreMessages : Type 0
+LegalRepliesAreMessages = (r : Rules) (h : List Entry) → AreWithinLimits r → Legal r h →
+    All (λ (e : Entry). IsWireReply (full_reply (accepted h) e.reply)) h

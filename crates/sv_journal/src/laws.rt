@@ -1,8 +1,11 @@
 //! Laws of journals.
 ghost use Rattle.sv_journal.specs.Examples.{ExamplesAreAnswered};
-ghost use Rattle.sv_journal.specs.Laws.{FullRepliesStay, LegalActionsAreGood, LegalRelaysAreSmall, LegalRelaysNameAccepted};
+ghost use Rattle.sv_journal.specs.Laws.{FullRepliesStay, LegalActionsAreGood, LegalRelaysAreSmall, LegalRelaysNameAccepted, LegalRepliesAreMessages};
 
-use sv_world::{missing_influences_ascend, missing_influences_only_shrink};
+use sv_world::{
+    base_values_are_those_read_as_committed, good_actions_have_no_fault, missing_influences_ascend,
+    missing_influences_only_shrink,
+};
 
 /// The definition of the server's replies gives those of the worked examples.
 pub fn examples_are_answered()
@@ -32,3 +35,14 @@ pub fn legal_relays_are_small()
 pub fn legal_actions_are_good()
     ensures { LegalActionsAreGood }
 {}
+
+/// Every reply of a legal journal, with the items that it was sent with, is within the grammar of messages, whatever the clients ask. The
+/// rules are to be within the limits; how large a number of a reply may be is not part of the grammar.
+pub fn legal_replies_are_messages()
+    ensures { LegalRepliesAreMessages }
+{
+    missing_influences_ascend();
+    missing_influences_only_shrink();
+    base_values_are_those_read_as_committed();
+    good_actions_have_no_fault();
+}

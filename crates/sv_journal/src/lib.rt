@@ -13,7 +13,7 @@ pub use entry::{Entry, Logged};
 pub use journal::Journal;
 pub use laws::{
     examples_are_answered, full_replies_stay, legal_actions_are_good, legal_relays_are_small,
-    legal_relays_name_accepted,
+    legal_relays_name_accepted, legal_replies_are_messages,
 };
 pub use print::{print_journal, relays_name_accepted};
 pub use text::{append_held, append_objects, append_value};
