@@ -3,4 +3,4 @@
 
 mod following;
 
-pub use following::{beginnings_follow};
+pub use following::{beginnings_follow, events_are_few, steps_are_done_in_order};
