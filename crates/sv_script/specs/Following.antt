@@ -1,5 +1,6 @@
 -- How a trace follows a client's script. Events stand with the latest first: `e ∷ t` is t, and then e.
-use Rattle.std.specs.Prelude.{◌≡◌, Bool, true, false, List, [], ◌∷◌, reverse, Option, Some, None}
+-- How many actions may be pending, and how many requests outstanding, where a client makes one or polls, is said of proper traces.
+use Rattle.std.specs.Prelude.{◌≡◌, Bool, true, false, List, [], ◌∷◌, ◌++◌, reverse, Option, Some, None, if◌then◌else◌}
 use Rattle.sv_wire.specs.declared.message.Reply.{Reply}
 use Rattle.sv_wire.specs.declared.message.Reply.TheVariants as replies
 use Rattle.sv_wire.specs.declared.message.Request.{Request}
@@ -25,9 +26,11 @@ is_welcomed (events.Join s ∷ t) = false
 is_welcomed (events.Got s reply ∷ t) = true
 is_welcomed (_ ∷ t) = is_welcomed t
 
-abbrev pub has_quit : List Event → Bool
-has_quit (events.Quit ∷ t) = true
-has_quit _ = false
+-- The last event is the Quit, or the Bye that answers the Leave. Nothing comes after it.
+abbrev pub is_finished : List Event → Bool
+is_finished (events.Quit ∷ t) = true
+is_finished (events.Got s replies.Bye ∷ t) = true
+is_finished _ = false
 
 -- The event that a step does. A sync does none.
 abbrev pub event_of : Step → Option Event
@@ -55,7 +58,7 @@ unsynced who t left = passed_syncs (outstanding who t) left
 pub record DoesStep (who : Identity) (t : List Event) (before : List Step) (e : Event) (left : List Step) : Type 0 where
   pub joined : must_join t ≡ false
   pub welcomed : is_welcomed t ≡ true
-  pub here : has_quit t ≡ false
+  pub here : is_finished t ≡ false
   pub step : Step
   pub next : unsynced who t before ≡ step ∷ left
   pub event : event_of step ≡ Some e
@@ -66,15 +69,16 @@ pub record Joins (t : List Event) (before left : List Step) : Type 0 where
 
 pub record Gets (t : List Event) (before left : List Step) : Type 0 where
   pub joined : must_join t ≡ false
-  pub here : has_quit t ≡ false
+  pub here : is_finished t ≡ false
   pub same : left ≡ before
 
--- A client leaves when all steps are done.
+-- A client leaves when all steps are done and nothing is outstanding.
 pub record Leaves (who : Identity) (t : List Event) (before left : List Step) : Type 0 where
   pub joined : must_join t ≡ false
   pub welcomed : is_welcomed t ≡ true
-  pub here : has_quit t ≡ false
-  pub done : unsynced who t before ≡ []
+  pub here : is_finished t ≡ false
+  pub settled : outstanding who t ≡ []
+  pub done : after_syncs before ≡ []
   pub same : left ≡ []
 
 -- An event may come after the events t with so many steps left before and after it.
@@ -89,11 +93,30 @@ abbrev pub FollowsTo : Identity → List Step → List Event → List Step → T
 FollowsTo who script [] left = left ≡ script
 FollowsTo who script (e ∷ t) left = (before : List Step) × (FollowsTo who script t before × MayCome who t before e left)
 
--- The last event is the Quit, or the Bye that answers the Leave.
-abbrev pub is_finished : List Event → Bool
-is_finished (events.Quit ∷ t) = true
-is_finished (events.Got s replies.Bye ∷ t) = true
-is_finished _ = false
+-- ---- Steps done
+
+-- The event does a step: it is no Join, no Got and no Leave.
+abbrev pub is_step : Event → Bool
+is_step (events.Join s) = false
+is_step (events.Got s reply) = false
+is_step events.Leave = false
+is_step _ = true
+
+-- The events that do steps, in order.
+abbrev pub steps_done : List Event → List Event
+steps_done [] = []
+steps_done (e ∷ t) = if is_step e then steps_done t ++ e ∷ [] else steps_done t
+
+abbrev pub with_event : Option Event → List Event → List Event
+with_event None es = es
+with_event (Some e) es = e ∷ es
+
+-- The events that the steps of a script do, in order.
+abbrev pub events_of : List Step → List Event
+events_of [] = []
+events_of (step ∷ ss) = with_event (event_of step) (events_of ss)
+
+-- ---- Traces
 
 -- A trace follows a script as far as it goes.
 pub record Follows (shape : Shape) (script : List Step) (trace : Trace) : Type 0 where

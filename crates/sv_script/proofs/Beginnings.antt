@@ -1,0 +1,58 @@
+-- The beginnings of a trace that follows a script, and the steps that they leave.
+use Rattle.std.proofs.Common.{◌≡◌, ℕ, suc, ◌+◌, ◌≤◌, Bool, true, false, List, [], ◌∷◌, ◌++◌, length, reverse, Option, Some, None, refl, sym, ap, subst, ◌∙◌, arith}
+use Rattle.std.proofs.lemmas.List.{reverse-append}
+use Rattle.sv_world.specs.declared.world.Shape.{Shape}
+use Rattle.sv_wire.specs.declared.message.Request.{Request}
+use Rattle.sv_client.specs.declared.trace.Event.{Event}
+use Rattle.sv_client.specs.declared.trace.Event.TheVariants as events
+use Rattle.sv_client.specs.declared.trace.Trace.{Trace}
+use Rattle.sv_client.specs.Taking.{Identity, outstanding}
+use Rattle.sv_client.specs.Proper.{identity_of}
+use Rattle.sv_scenario.specs.declared.scenario.Step.{Step}
+use Rattle.sv_scenario.specs.declared.scenario.Step.TheVariants as steps
+use Rattle.sv_script.specs.Following.{DoesStep, MayCome, FollowsTo, Follows, after_syncs, passed_syncs}
+
+synced-less : (ss : List Step) → length (after_syncs ss) ≤ length ss
+synced-less [] = omega arith
+synced-less (steps.Act action ∷ ss) = omega arith
+synced-less (steps.Poll ∷ ss) = omega arith
+synced-less (steps.Sync ∷ ss) = omega (arith, synced-less ss)
+synced-less (steps.Show objects ∷ ss) = omega arith
+synced-less (steps.Cut ∷ ss) = omega arith
+synced-less (steps.Quit ∷ ss) = omega arith
+
+passed-less : (os : List Request) (ss : List Step) → length (passed_syncs os ss) ≤ length ss
+passed-less [] ss = synced-less ss
+passed-less (o ∷ os) ss = omega arith
+
+-- An event that does a step leaves fewer of them.
+pub step-less : (who : Identity) (t : List Event) (before : List Step) (e : Event) (left : List Step) → DoesStep who t before e left → suc (length left) ≤ length before
+step-less who t before e left d =
+    let most = passed-less (outstanding who t) before in
+    let next = ap (λ (ss : List Step). length ss) d.next in
+    omega (arith, most, next)
+
+pub event-less : (who : Identity) (t : List Event) (before : List Step) (e : Event) (left : List Step) → MayCome who t before e left → length left ≤ length before
+event-less who t before (events.Join s) left m = omega (arith, ap (λ (ss : List Step). length ss) m.same)
+event-less who t before (events.Got s reply) left m = omega (arith, ap (λ (ss : List Step). length ss) m.same)
+event-less who t before events.Leave left m = omega (arith, ap (λ (ss : List Step). length ss) m.same)
+event-less who t before (events.Make action) left m = omega (arith, step-less who t before (events.Make action) left m)
+event-less who t before events.Poll left m = omega (arith, step-less who t before events.Poll left m)
+event-less who t before events.Cut left m = omega (arith, step-less who t before events.Cut left m)
+event-less who t before events.Quit left m = omega (arith, step-less who t before events.Quit left m)
+event-less who t before (events.Show objects) left m = omega (arith, step-less who t before (events.Show objects) left m)
+
+pub beginnings-follow : (who : Identity) (script : List Step) (later t : List Event) (left : List Step) → FollowsTo who script (later ++ t) left →
+    (before : List Step) × (FollowsTo who script t before × (length left ≤ length before))
+beginnings-follow who script [] t left f = (left, (f, omega arith))
+beginnings-follow who script (e ∷ later) t left f =
+    let b = beginnings-follow who script later t f.0 f.1.0 in
+    (b.0, (b.1.0, omega (arith, b.1.1, event-less who (later ++ t) f.0 e left f.1.1)))
+
+pub traces-follow : (shape : Shape) (script : List Step) (trace : Trace) (es later : List Event) → trace.events ≡ es ++ later → Follows shape script trace →
+    Follows shape script (record trace { events = es })
+traces-follow shape script trace es later e f =
+    let whole : FollowsTo (identity_of shape trace) script (reverse later ++ reverse es) f.left =
+        subst (λ (t : List Event). FollowsTo (identity_of shape trace) script t f.left) (ap (λ (xs : List Event). reverse xs) e ∙ reverse-append es later) f.follows in
+    let b = beginnings-follow (identity_of shape trace) script (reverse later) (reverse es) f.left whole in
+    record { left = b.0; follows = b.1.0 }

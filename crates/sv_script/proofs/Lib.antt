@@ -1,0 +1,6 @@
+pub mod Beginnings
+pub mod Steps
+pub mod Pending
+pub mod Due
+pub mod Counts
+pub mod Ends

@@ -1,0 +1,25 @@
+//! Laws of traces that follow a script.
+ghost use Rattle.sv_script.specs.Laws.{BeginningsFollow, BeginningsOfTracesFollow, StepsAreDoneInOrder, EndsDoAllSteps, EventsAreFew, EventsOfTracesAreFew};
+
+/// A beginning of a trace that follows a script follows it, and leaves as many steps or more.
+pub fn beginnings_follow()
+    ensures events { BeginningsFollow }
+    ensures traces { BeginningsOfTracesFollow }
+{}
+
+/// The events of a trace that are no Join, Got or Leave are the first steps of its script, syncs left out, in order; at the script's end they
+/// are all of them.
+pub fn steps_are_done_in_order()
+    ensures begun { StepsAreDoneInOrder }
+    ensures whole { EndsDoAllSteps }
+{}
+
+/// A trace that follows a script of at most 256 steps has at most 2,048 events over all its sessions: 256 that do steps, 64 Joins, at most as
+/// many Leaves, and 1,664 replies. For each action and each Poll brings at most two replies, and each Join one, and at most 16 for the actions
+/// that are pending.
+///
+/// So numbers of events and counts of requests fit 32 bits wherever a script is followed.
+pub fn events_are_few()
+    ensures events { EventsAreFew }
+    ensures traces { EventsOfTracesAreFew }
+{}
