@@ -1,8 +1,8 @@
 -- The position of a client's pending action, once it was accepted, was not sent to the client's current session.
-use Rattle.std.proofs.Common.{◌≡◌, ℕ, zero, suc, ◌+◌, ◌<◌, ◌≤◌, Bool, true, false, ◌==◌, ◌⊎◌, inl, inr, List, [], ◌∷◌, ◌++◌, reverse, length, Option, Some, None, slice_get, refl, sym, ap, ◌∙◌, subst, arith, eqb-true, eq-eqb, true≢false}
+use Rattle.std.proofs.Common.{◌≡◌, ℕ, suc, ◌+◌, ◌<◌, ◌≤◌, Bool, true, false, ◌==◌, inl, inr, List, [], ◌∷◌, ◌++◌, reverse, length, Option, Some, slice_get, refl, sym, ap, ◌∙◌, subst, arith, eqb-true, eq-eqb, true≢false}
 use Rattle.std.proofs.lemmas.Bool.{cond-true, cond-false, cases_Bool, cases_eq}
 use Rattle.std.proofs.lemmas.List.{length-append}
-use Rattle.std.proofs.lemmas.Option.{none-some, same_Some, slice_get_within}
+use Rattle.std.proofs.lemmas.Option.{slice_get_within}
 use Rattle.sv_world.specs.declared.action.Action.{Action}
 use Rattle.sv_world.specs.Control.{is_in}
 use Rattle.sv_world.proofs.Members.{is_in-append_cases}
@@ -13,7 +13,7 @@ use Rattle.sv_wire.specs.declared.message.Request.TheVariants as requests
 use Rattle.sv_journal.specs.declared.entry.Entry.{Entry}
 use Rattle.sv_journal.specs.declared.entry.Logged.{Logged}
 use Rattle.sv_journal.specs.declared.entry.Logged.TheVariants as logged
-use Rattle.sv_journal.specs.History.{Authored, Outcome, Accepted, Dropped, accepted, actions_of, client_of, is_client, is_relay, is_submit_of, outcome_in, new_action, outcomes_of, next_seq, full_reply, commit_of}
+use Rattle.sv_journal.specs.History.{Authored, Outcome, Accepted, accepted, actions_of, client_of, is_client, is_relay, is_submit_of, outcome_in, new_action, outcomes_of, next_seq, full_reply, commit_of}
 use Rattle.sv_journal.specs.Sessions.{is_end, kept_outcome, outcome_at, positions_in, sent_to}
 use Rattle.sv_journal.specs.Answer.{Rules, Legal}
 use Rattle.sv_client.specs.declared.trace.Event.{Event}
@@ -24,13 +24,13 @@ use Rattle.sv_client.specs.Proper.{identity_of}
 use Rattle.sv_system.specs.Fits.{requests_in, replies_in, has_session, FitsOne, Fits}
 use Rattle.sv_system.proofs.Histories.{IsEarlier, same, after, earlier-then, earlier-rest, earlier-legal, accepted-grows, actions-count, new-counts, kept-is}
 use Rattle.sv_system.proofs.Replies.{Tells, IsRelayReply, new_of, legal-tells}
-use Rattle.sv_system.proofs.Commits.{next-grows, IsOutcome, outcome-at}
+use Rattle.sv_system.proofs.Commits.{next-grows, outcome-at}
 use Rattle.sv_system.proofs.Order.{earlier-strict}
 use Rattle.sv_system.proofs.Opened.{one, has, asks, was-got, own-join, session-client, welcomed-by}
 use Rattle.sv_system.proofs.Pendings.{settled}
 use Rattle.sv_system.proofs.Window.{next-front, submit-named, client-some}
 use Rattle.sv_system.proofs.Resent.{answered-settled, older-made, after-poll, joined_makes}
-use Rattle.sv_system.proofs.Entered.{earlier-cases, is_of, of-parts, of-from, as-many, request-there}
+use Rattle.sv_system.proofs.Entered.{earlier-cases, is_of, of-from, as-many, request-there}
 
 -- A position that was sent to a session stands in a relay to it.
 pub record IsSentBy (g : List Entry) (s p : ℕ) : Type 0 where
@@ -63,7 +63,7 @@ accepted-one d h k n p c q e (logged.Relay seq commit head positions) is told =
     let new = new_action (client_of h d.session) (λ j. suc (length (outcomes_of h j))) d.request in
     let one : length new ≡ 1 = new-counts (client_of h d.session) (λ j. suc (length (outcomes_of h j))) k d.request c (subst (λ (m : ℕ). is_submit_of d.request m ≡ true) e q) in
     let all : length (accepted (d ∷ h)) ≡ length (accepted h) + length new =
-        ap (λ (l : List Authored). length (accepted h ++ l)) (cond-true (is_relay d.reply) new [] (ap is_relay is)) ∙ length-append (accepted h) new in
+    ap (λ (l : List Authored). length (accepted h ++ l)) (cond-true (is_relay d.reply) new [] (ap is_relay is)) ∙ length-append (accepted h) new in
     (ap place_of told, omega arith)
   where
     place_of : List Outcome → ℕ
@@ -189,7 +189,7 @@ module _ (r : Rules) (H : List Entry) (Ls : List Trace) (legal : Legal r H) (fit
     not-polled d h c t poll =
         let before = asked-before d h c t in
         let after' : joined_makes who L.first whole < n =
-            after-poll who L.first whole this_one.proper.events s (length (replies_in A h s)) (length (got whole s)) n a current before.1 (before.0 ∙ ap Some poll) asking in
+        after-poll who L.first whole this_one.proper.events s (length (replies_in A h s)) (length (got whole s)) n a current before.1 (before.0 ∙ ap Some poll) asking in
         let o = x.entry.session in
         let bx : IsEarlier (x.entry ∷ x.before) H = earlier-then (x.entry ∷ x.before) g H x.there earlier in
         let q = submit-named x.entry.request n x.submit in
@@ -224,11 +224,11 @@ module _ (r : Rules) (H : List Entry) (Ls : List Trace) (legal : Legal r H) (fit
         let l : Legal r (w.entry ∷ w.before) = earlier-legal r (w.entry ∷ w.before) H bw legal in
         let y = relay-of w.entry.reply p w.named in
         let t : IsRelayReply r w.before w.entry.session w.entry.request y.1.0 y.1.1.0 y.1.1.1.0 =
-            subst (λ (z : Logged). Tells r w.before w.entry.session w.entry.request z) y.1.1.1.1 (legal-tells r w.entry w.before l) in
+        subst (λ (z : Logged). Tells r w.before w.entry.session w.entry.request z) y.1.1.1.1 (legal-tells r w.entry w.before l) in
         let own : t.client ≡ k = session-client r H Ls legal fits i L member s has_s w.before (earlier-rest w.before w.entry H bw) t.client (subst (λ (o : ℕ). client_of w.before o ≡ Some t.client) w.session t.joined) in
         let named : is_in p y.1.1.1.0 ≡ true = subst (λ (z : Logged). is_in p (positions_in z) ≡ true) y.1.1.1.1 w.named in
         let low : p ≤ t.target = (needed-bounds (actions_of w.before ++ new_of w.before w.entry.session w.entry.request) (commit_of w.before) (sent_to w.before w.entry.session) t.target t.above p
-            (subst (λ (ks : List ℕ). is_in p ks ≡ true) t.positions_are named)).1 in
+        (subst (λ (ks : List ℕ). is_in p ks ≡ true) t.positions_are named)).1 in
         elim t.kind [
           | inr z ↦ not-polled w.entry w.before w.there (of-from w.entry s w.session (ap is_end z.0)) z.0
           | inl z ↦ not-submitted w.entry w.before w.there (of-from w.entry s w.session (ap is_end z.1.1.0)) z.0 t.target z.1.0 z.1.1.0

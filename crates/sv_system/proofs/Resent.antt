@@ -1,8 +1,8 @@
 -- Requests of a session by the time of their actions: what was answered is settled; what older sessions asked was made before the last Join; and a
 -- Submit after a Poll is of an action made after it.
-use Rattle.std.proofs.Common.{◌≡◌, ℕ, zero, suc, ◌+◌, ◌-◌, ◌<◌, ◌≤◌, Bool, true, false, cond, ◌==◌, ◌⊎◌, inl, inr, List, [], ◌∷◌, ◌++◌, map, length, Option, Some, None, slice_get, refl, sym, ap, ◌∙◌, subst, arith, eqb-true, eq-eqb, true≢false}
+use Rattle.std.proofs.Common.{◌≡◌, ℕ, zero, suc, ◌+◌, ◌<◌, ◌≤◌, Bool, true, false, ◌==◌, inl, inr, List, [], ◌∷◌, ◌++◌, map, length, Option, Some, None, slice_get, refl, sym, ap, ◌∙◌, subst, arith, eqb-true, true≢false}
 use Rattle.std.specs.Prelude.{if◌then◌else◌}
-use Rattle.std.proofs.lemmas.Bool.{cond-true, cond-false, cases_Bool, cases_eq, cases_lt, ne_eqb}
+use Rattle.std.proofs.lemmas.Bool.{cond-true, cond-false, cases_Bool, cases_eq, ne_eqb}
 use Rattle.std.proofs.lemmas.List.{length-append}
 use Rattle.std.proofs.lemmas.Option.{none-some, same_Some, slice_get_within}
 use Rattle.sv_world.specs.declared.action.Action.{Action}
@@ -17,8 +17,8 @@ use Rattle.sv_client.specs.declared.trace.Event.TheVariants as events
 use Rattle.sv_client.specs.Traces.{joins, makes, current_session, is_session, held_of, with_reply, done_for, pending_of, submit_of, asked_by, asked, got}
 use Rattle.sv_client.specs.Taking.{Identity}
 use Rattle.sv_client.specs.Proper.{AreProper}
-use Rattle.sv_system.proofs.Asked.{get-append_cases, may-answer, IsBegun, begun-or_not}
-use Rattle.sv_system.proofs.Pendings.{Numbered, keys, without_first, settles, keys-with, settled, counted, IsCounted, got-fewer, keys-made}
+use Rattle.sv_system.proofs.Asked.{get-append_cases, may-answer, begun-or_not}
+use Rattle.sv_system.proofs.Pendings.{Numbered, keys, without_first, settles, keys-with, settled, counted, got-fewer, keys-made}
 use Rattle.sv_system.proofs.Aligned.{is_submit, settles-submit}
 use Rattle.sv_system.proofs.Window.{next-front, submit-most}
 
