@@ -79,7 +79,7 @@ all-within-more : (m n : ℕ) → m ≤ n → (os : List Outcome) → AllByRecur
 all-within-more m n l [] h = h
 all-within-more m n l (o ∷ os) h = (within-more m n l o h.0, all-within-more m n l os h.1)
 
-new-counts : (o : Option ℕ) (next : ℕ → ℕ) (k : ℕ) (q : Request) → is_client o k ≡ true → is_submit_of q (next k) ≡ true → length (new_action o next q) ≡ 1
+pub new-counts : (o : Option ℕ) (next : ℕ → ℕ) (k : ℕ) (q : Request) → is_client o k ≡ true → is_submit_of q (next k) ≡ true → length (new_action o next q) ≡ 1
 new-counts None next k q c s = absurd (true≢false (sym c))
 new-counts (Some j) next k (requests.Submit seq action) c s =
     let e : j ≡ k = eqb-true j k c in

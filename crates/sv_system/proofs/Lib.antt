@@ -14,7 +14,9 @@ pub mod Induction
 pub mod Items
 pub mod Lawful
 pub mod Leaving
+pub mod NeverSent
 pub mod NextReply
+pub mod NonEmpty
 pub mod Opened
 pub mod Order
 pub mod Ordered
@@ -23,6 +25,7 @@ pub mod Relays
 pub mod Replied
 pub mod Replies
 pub mod Reported
+pub mod Resent
 pub mod Serials
 pub mod Taken
 pub mod Tellings

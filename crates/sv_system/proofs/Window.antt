@@ -156,7 +156,7 @@ submit-of requests.Leave e = absurd (true≢false (sym e))
 submit-of requests.Bad e = absurd (true≢false (sym e))
 submit-of requests.End e = absurd (true≢false (sym e))
 
-submit-named : (q : Request) (n : ℕ) → is_submit_of q n ≡ true → (a : Action) × (q ≡ requests.Submit n a)
+pub submit-named : (q : Request) (n : ℕ) → is_submit_of q n ≡ true → (a : Action) × (q ≡ requests.Submit n a)
 submit-named (requests.Submit m a) n e = (a, ap (λ (k : ℕ). requests.Submit k a) (eqb-true m n e))
 submit-named (requests.Join client life interest) n e = absurd (true≢false (sym e))
 submit-named (requests.Done results) n e = absurd (true≢false (sym e))
@@ -225,6 +225,10 @@ answered-next r A d h l n a q (logged.Noted commit) is s = absurd (true≢false 
 answered-next r A d h l n a q logged.Idle is s = absurd (true≢false (sym s))
 answered-next r A d h l n a q (logged.Refused code detail) is s = absurd (true≢false (sym s))
 answered-next r A d h l n a q logged.Bye is s = absurd (true≢false (sym s))
+
+pub client-some : (o : Option ℕ) (j : ℕ) → is_client o j ≡ true → o ≡ Some j
+client-some None j x = absurd (true≢false (sym x))
+client-some (Some m) j x = ap Some (eqb-true m j x)
 
 get-none : {X : Type 0} (xs : List X) (i : ℕ) → length xs ≤ i → slice_get xs i ≡ None
 get-none [] i l = refl
@@ -308,10 +312,6 @@ module _ (r : Rules) (H : List Entry) (Ls : List Trace) (legal : Legal r H) (fit
   settled-next (events.Cut ∷ t) p = settled-next t (part-rest t events.Cut whole p)
   settled-next (events.Quit ∷ t) p = settled-next t (part-rest t events.Quit whole p)
   settled-next (events.Show objects ∷ t) p = settled-next t (part-rest t (events.Show objects) whole p)
-
-  client-some : (o : Option ℕ) (j : ℕ) → is_client o j ≡ true → o ≡ Some j
-  client-some None j x = absurd (true≢false (sym x))
-  client-some (Some m) j x = ap Some (eqb-true m j x)
 
   -- No more outcomes were told than actions were made.
   pub outcomes-made : length (outcomes_of g k) ≤ makes whole
