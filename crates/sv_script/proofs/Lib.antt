@@ -4,3 +4,5 @@ pub mod Pending
 pub mod Due
 pub mod Counts
 pub mod Ends
+pub mod Places
+pub mod Told

@@ -1,5 +1,6 @@
 //! Laws of traces that follow a script.
 ghost use Rattle.sv_script.specs.Laws.{BeginningsFollow, BeginningsOfTracesFollow, StepsAreDoneInOrder, EndsDoAllSteps, EventsAreFew, EventsOfTracesAreFew};
+ghost use Rattle.sv_script.specs.Laws.{JoinsComeWhereNeeded, StepsWaitForTheWelcome, LeavesWaitForTheWelcome, SyncsWaitForReplies, NothingFollowsTheEnd};
 
 /// A beginning of a trace that follows a script follows it, and leaves as many steps or more.
 pub fn beginnings_follow()
@@ -22,4 +23,14 @@ pub fn steps_are_done_in_order()
 pub fn events_are_few()
     ensures events { EventsAreFew }
     ensures traces { EventsOfTracesAreFew }
+{}
+
+/// Each event has its place: a Join stands first and directly after each Cut, and nowhere else; a step, and the Leave, stand after the Welcome
+/// of their session; the step after a sync stands where nothing is outstanding; and nothing stands after a Quit or a Bye.
+pub fn events_have_their_places()
+    ensures joins { JoinsComeWhereNeeded }
+    ensures welcome { StepsWaitForTheWelcome }
+    ensures leave { LeavesWaitForTheWelcome }
+    ensures sync { SyncsWaitForReplies }
+    ensures end { NothingFollowsTheEnd }
 {}
