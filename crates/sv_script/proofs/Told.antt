@@ -1,9 +1,9 @@
 -- The changes that a trace tells.
-use Rattle.std.proofs.Common.{◌≡◌, ℕ, zero, suc, ◌+◌, ◌<◌, ◌≤◌, Bool, true, false, inl, inr, List, [], ◌∷◌, ◌++◌, length, map, reverse, Option, Some, None, refl, sym, ap, subst, ◌∙◌, arith, true≢false}
+use Rattle.std.proofs.Common.{◌≡◌, ℕ, zero, suc, ◌≤◌, Bool, true, false, List, [], ◌∷◌, ◌++◌, length, map, reverse, Option, Some, None, refl, sym, ap, subst, ◌∙◌, arith, true≢false}
 use Rattle.std.specs.Prelude.{ℤ, All, Decides, if◌then◌else◌}
 use Rattle.std.specs.List.{Contains, flat_map}
 use lib.Pointwise.{pointwise_decides}
-use Rattle.std.proofs.lemmas.Bool.{cases_Bool, cond-true, cond-false}
+use Rattle.std.proofs.lemmas.Bool.{cond-true}
 use Rattle.std.proofs.lemmas.Bool.Decides.{Decides-int_eq}
 use Rattle.std.proofs.lemmas.List.{append_assoc, append-nil, map-append, reverse-append}
 use Rattle.std.proofs.lemmas.List.Elements.{All-nil, All-append, Contains-append_left, Contains-append_right}
@@ -99,11 +99,12 @@ pub lines-at_once : (trace : Trace) (es later : List Event) → trace.events ≡
     (rest : List (List ℕ)) × (told_lines trace ≡ told_lines (record trace { events = es }) ++ rest)
 lines-at_once trace es later e =
     let b = told-at_once trace.client trace.interest (reverse later) (reverse es) in
-    let changes = λ (t : List Event). changes_of trace.client trace.interest t in
-    (map change_line b.0,
-    ap (λ (t : List Event). map change_line (changes t)) (ap (λ (xs : List Event). reverse xs) e ∙ reverse-append es later)
-    ∙ ap (λ (cs : List Change). map change_line cs) b.1
-    ∙ map-append change_line (changes (reverse es)) b.0)
+    let changes = λ (t : List Event). changes_of trace.client trace.interest t in (
+      map change_line b.0,
+      ap (λ (t : List Event). map change_line (changes t)) (ap (λ (xs : List Event). reverse xs) e ∙ reverse-append es later)
+          ∙ ap (λ (cs : List Change). map change_line cs) b.1
+          ∙ map-append change_line (changes (reverse es)) b.0,
+    )
 
 -- ---- Events that change nothing
 
@@ -125,5 +126,5 @@ pub others-quiet : (client : ClientId) (interest : List ObjectId) (e : Event) (t
 others-quiet client interest e t h =
     ap (λ (cs : List Change). changes_of client interest t ++ cs)
     (flat-none (change_of client t e) interest (λ x. cond-true (same_view (view_of t x.0) (view_of (e ∷ t) x.0)) [] (change_by client t e x ∷ [])
-      ((same-decides (view_of t x.0) (view_of (e ∷ t) x.0)).1 (quiet-view e t x.0 h))))
+    ((same-decides (view_of t x.0) (view_of (e ∷ t) x.0)).1 (quiet-view e t x.0 h))))
     ∙ append-nil (changes_of client interest t)

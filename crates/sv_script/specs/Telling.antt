@@ -1,6 +1,6 @@
 -- What a trace tells of the objects that its client is interested in: each change of a view, by the event that made it.
 -- Events stand with the latest first: `e ∷ t` is t, and then e.
-use Rattle.std.specs.Prelude.{ℕ, ℤ, Bool, ◌==◌, List, [], ◌∷◌, ◌++◌, map, length, reverse, Option, Some, None, if◌then◌else◌}
+use Rattle.std.specs.Prelude.{ℕ, ℤ, Bool, List, [], ◌∷◌, ◌++◌, map, length, reverse, Option, Some, None, if◌then◌else◌}
 use Rattle.std.specs.List.{flat_map}
 use Rattle.std.specs.Ordering.{int_eq}
 use lib.Pointwise.{pointwise}
