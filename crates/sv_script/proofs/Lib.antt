@@ -6,3 +6,4 @@ pub mod Counts
 pub mod Ends
 pub mod Places
 pub mod Told
+pub mod Examples

@@ -1,10 +1,12 @@
 -- Where the events of a trace that follows a script stand.
-use Rattle.std.proofs.Common.{◌≡◌, true, false, List, [], ◌∷◌, Some, refl, sym, ap, ◌∙◌, true≢false}
+use Rattle.std.proofs.Common.{◌≡◌, ℕ, true, false, List, [], ◌∷◌, Some, refl, sym, ap, ◌∙◌, true≢false}
 use Rattle.std.proofs.lemmas.Option.{none-some}
 use Rattle.sv_wire.specs.declared.message.Request.{Request}
+use Rattle.sv_wire.specs.declared.message.Reply.TheVariants as replies
 use Rattle.sv_client.specs.declared.trace.Event.{Event}
 use Rattle.sv_client.specs.declared.trace.Event.TheVariants as events
 use Rattle.sv_client.specs.Traces.{is_join}
+use Rattle.sv_script.specs.Laws.{is_got}
 use Rattle.sv_client.specs.Taking.{Identity, outstanding}
 use Rattle.sv_scenario.specs.declared.scenario.Step.{Step}
 use Rattle.sv_scenario.specs.declared.scenario.Step.TheVariants as steps
@@ -77,3 +79,25 @@ nothing-after who t before (events.Show objects) left h m = true≢false (sym h 
 
 pub nothing-follows : (who : Identity) (script : List Step) (e : Event) (t : List Event) (left : List Step) → is_finished t ≡ true → FollowsTo who script (e ∷ t) left → ⊥
 nothing-follows who script e t left h f = nothing-after who t f.0 e left h f.1.1
+
+pub cuts-bring_join : (who : Identity) (script : List Step) (e : Event) (t : List Event) (left : List Step) → FollowsTo who script (e ∷ events.Cut ∷ t) left → is_join e ≡ true
+cuts-bring_join who script e t left f = joins-where_needed who script e (events.Cut ∷ t) left f
+
+reply-at : (who : Identity) (s : ℕ) (t : List Event) (before : List Step) (e : Event) (left : List Step) → MayCome who (events.Join s ∷ t) before e left → is_got e ≡ true
+reply-at who s t before (events.Join n) left m = absurd (true≢false (sym m.needed))
+reply-at who s t before (events.Got n reply) left m = refl
+reply-at who s t before events.Leave left m = absurd (true≢false (sym m.welcomed))
+reply-at who s t before (events.Make action) left m = absurd (true≢false (sym m.welcomed))
+reply-at who s t before events.Poll left m = absurd (true≢false (sym m.welcomed))
+reply-at who s t before events.Cut left m = absurd (true≢false (sym m.welcomed))
+reply-at who s t before events.Quit left m = absurd (true≢false (sym m.welcomed))
+reply-at who s t before (events.Show objects) left m = absurd (true≢false (sym m.welcomed))
+
+pub joins-bring_reply : (who : Identity) (script : List Step) (e : Event) (s : ℕ) (t : List Event) (left : List Step) → FollowsTo who script (e ∷ events.Join s ∷ t) left → is_got e ≡ true
+joins-bring_reply who script e s t left f = reply-at who s t f.0 e left f.1.1
+
+pub nothing-after_quit : (who : Identity) (script : List Step) (e : Event) (t : List Event) (left : List Step) → FollowsTo who script (e ∷ events.Quit ∷ t) left → ⊥
+nothing-after_quit who script e t left f = nothing-follows who script e (events.Quit ∷ t) left refl f
+
+pub nothing-after_bye : (who : Identity) (script : List Step) (e : Event) (s : ℕ) (t : List Event) (left : List Step) → FollowsTo who script (e ∷ events.Got s replies.Bye ∷ t) left → ⊥
+nothing-after_bye who script e s t left f = nothing-follows who script e (events.Got s replies.Bye ∷ t) left refl f

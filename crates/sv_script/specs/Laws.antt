@@ -8,13 +8,14 @@ use Rattle.sv_watch.specs.declared.change.Change.{Change}
 use Rattle.sv_scenario.specs.declared.scenario.Step.{Step}
 use Rattle.sv_scenario.specs.declared.scenario.Step.TheVariants as steps
 use Rattle.sv_scenario.specs.Limits.{quits_last}
+use Rattle.sv_wire.specs.declared.message.Reply.TheVariants as replies
 use Rattle.sv_client.specs.declared.trace.Event.{Event}
 use Rattle.sv_client.specs.declared.trace.Event.TheVariants as events
 use Rattle.sv_client.specs.declared.trace.Trace.{Trace}
 use Rattle.sv_client.specs.Traces.{is_join, view_of}
 use Rattle.sv_client.specs.Taking.{Identity, outstanding}
 use Rattle.sv_client.specs.Proper.{Proper, AreProper}
-use Rattle.sv_script.specs.Following.{FollowsTo, Follows, FollowsToEnd, MayCome, must_join, is_welcomed, is_finished, is_step, steps_done, events_of}
+use Rattle.sv_script.specs.Following.{FollowsTo, Follows, FollowsToEnd, MayCome, must_join, is_welcomed, is_step, steps_done, events_of}
 use Rattle.sv_script.specs.Telling.{change_by, changes_of, told_lines}
 
 -- ---- Beginnings
@@ -54,6 +55,10 @@ EventsOfTracesAreFew = (shape : Shape) (script : List Step) (trace : Trace) → 
 
 -- ---- Places
 
+abbrev pub is_got : Event → Bool
+is_got (events.Got s reply) = true
+is_got _ = false
+
 -- A Join comes first, and directly after a Cut, and nowhere else.
 abbrev pub JoinsComeWhereNeeded : Type 0
 JoinsComeWhereNeeded = (who : Identity) (script : List Step) (e : Event) (t : List Event) (left : List Step) → FollowsTo who script (e ∷ t) left →
@@ -73,10 +78,23 @@ abbrev pub SyncsWaitForReplies : Type 0
 SyncsWaitForReplies = (who : Identity) (t : List Event) (ss : List Step) (e : Event) (left : List Step) → is_step e ≡ true →
     MayCome who t (steps.Sync ∷ ss) e left → outstanding who t ≡ []
 
--- Nothing comes after a Quit or a Bye.
-abbrev pub NothingFollowsTheEnd : Type 0
-NothingFollowsTheEnd = (who : Identity) (script : List Step) (e : Event) (t : List Event) (left : List Step) → is_finished t ≡ true →
-    FollowsTo who script (e ∷ t) left → ⊥
+-- Directly after a Cut comes the Join of the next session, so no reply is got between them.
+abbrev pub CutsBringAJoin : Type 0
+CutsBringAJoin = (who : Identity) (script : List Step) (e : Event) (t : List Event) (left : List Step) → FollowsTo who script (e ∷ events.Cut ∷ t) left →
+    is_join e ≡ true
+
+-- Directly after a Join comes a reply: that is the Welcome.
+abbrev pub JoinsBringAReply : Type 0
+JoinsBringAReply = (who : Identity) (script : List Step) (e : Event) (s : ℕ) (t : List Event) (left : List Step) →
+    FollowsTo who script (e ∷ events.Join s ∷ t) left → is_got e ≡ true
+
+-- Nothing comes after a Quit, and nothing after a Bye.
+abbrev pub NothingFollowsAQuit : Type 0
+NothingFollowsAQuit = (who : Identity) (script : List Step) (e : Event) (t : List Event) (left : List Step) → FollowsTo who script (e ∷ events.Quit ∷ t) left → ⊥
+
+abbrev pub NothingFollowsABye : Type 0
+NothingFollowsABye = (who : Identity) (script : List Step) (e : Event) (s : ℕ) (t : List Event) (left : List Step) →
+    FollowsTo who script (e ∷ events.Got s replies.Bye ∷ t) left → ⊥
 
 -- ---- Told lines
 
