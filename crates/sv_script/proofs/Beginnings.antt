@@ -1,5 +1,5 @@
 -- The beginnings of a trace that follows a script, and the steps that they leave.
-use Rattle.std.proofs.Common.{◌≡◌, ℕ, suc, ◌+◌, ◌≤◌, Bool, true, false, List, [], ◌∷◌, ◌++◌, length, reverse, Option, Some, None, refl, sym, ap, subst, ◌∙◌, arith}
+use Rattle.std.proofs.Common.{◌≡◌, suc, ◌≤◌, List, [], ◌∷◌, ◌++◌, length, reverse, ap, subst, ◌∙◌, arith}
 use Rattle.std.proofs.lemmas.List.{reverse-append}
 use Rattle.sv_world.specs.declared.world.Shape.{Shape}
 use Rattle.sv_wire.specs.declared.message.Request.{Request}
@@ -53,6 +53,6 @@ pub traces-follow : (shape : Shape) (script : List Step) (trace : Trace) (es lat
     Follows shape script (record trace { events = es })
 traces-follow shape script trace es later e f =
     let whole : FollowsTo (identity_of shape trace) script (reverse later ++ reverse es) f.left =
-        subst (λ (t : List Event). FollowsTo (identity_of shape trace) script t f.left) (ap (λ (xs : List Event). reverse xs) e ∙ reverse-append es later) f.follows in
+    subst (λ (t : List Event). FollowsTo (identity_of shape trace) script t f.left) (ap (λ (xs : List Event). reverse xs) e ∙ reverse-append es later) f.follows in
     let b = beginnings-follow (identity_of shape trace) script (reverse later) (reverse es) f.left whole in
     record { left = b.0; follows = b.1.0 }

@@ -1,5 +1,5 @@
 -- How many replies the outstanding requests may bring, where a relay's Done brings one more.
-use Rattle.std.proofs.Common.{◌≡◌, ℕ, zero, suc, ◌+◌, ◌*◌, ◌<◌, ◌≤◌, Bool, true, false, List, [], ◌∷◌, ◌++◌, length, map, drop, Option, Some, None, refl, sym, ap, ◌∙◌, arith}
+use Rattle.std.proofs.Common.{◌≡◌, ℕ, suc, ◌+◌, ◌*◌, ◌≤◌, Bool, true, false, List, [], ◌∷◌, ◌++◌, length, map, drop, Option, Some, None, refl, sym, ap, arith}
 use Rattle.std.specs.Prelude.{not, if◌then◌else◌}
 use Rattle.std.proofs.lemmas.Option.{none-some}
 use Rattle.sv_world.specs.declared.action.Action.{Action}
@@ -12,7 +12,7 @@ use Rattle.sv_wire.specs.declared.message.Request.{Request}
 use Rattle.sv_wire.specs.declared.message.Request.TheVariants as requests
 use Rattle.sv_client.specs.declared.trace.Event.{Event}
 use Rattle.sv_client.specs.declared.trace.Event.TheVariants as events
-use Rattle.sv_client.specs.Traces.{held_of, pending_of, submit_of, done_for, joins, makes}
+use Rattle.sv_client.specs.Traces.{held_of, pending_of, submit_of, done_for, makes}
 use Rattle.sv_client.specs.Taking.{Identity, Fault, Unasked, WrongKind, outstanding, allows, fault_after}
 use Rattle.sv_client.specs.Proper.{AreProper, MayGet, MayJoin, in_session}
 use Rattle.sv_client.proofs.Outstanding.{outstanding_joined, outstanding_made, outstanding_polled, outstanding_left, outstanding_cut, outstanding_quit, outstanding_shown, outstanding_got}

@@ -4,3 +4,6 @@ pub mod Pending
 pub mod Due
 pub mod Counts
 pub mod Ends
+pub mod Places
+pub mod Told
+pub mod Examples

@@ -1,5 +1,5 @@
 -- The events of a trace that do steps are those of its script.
-use Rattle.std.proofs.Common.{◌≡◌, ℕ, Bool, true, false, List, [], ◌∷◌, ◌++◌, Option, Some, None, refl, sym, ap, ◌∙◌}
+use Rattle.std.proofs.Common.{◌≡◌, List, [], ◌∷◌, ◌++◌, Option, refl, sym, ap, ◌∙◌}
 use Rattle.std.proofs.lemmas.List.{append_assoc}
 use Rattle.sv_wire.specs.declared.message.Request.{Request}
 use Rattle.sv_client.specs.declared.trace.Event.{Event}
@@ -7,7 +7,7 @@ use Rattle.sv_client.specs.declared.trace.Event.TheVariants as events
 use Rattle.sv_client.specs.Taking.{Identity, outstanding}
 use Rattle.sv_scenario.specs.declared.scenario.Step.{Step}
 use Rattle.sv_scenario.specs.declared.scenario.Step.TheVariants as steps
-use Rattle.sv_script.specs.Following.{DoesStep, FollowsTo, after_syncs, passed_syncs, steps_done, events_of, with_event, event_of}
+use Rattle.sv_script.specs.Following.{DoesStep, FollowsTo, after_syncs, passed_syncs, steps_done, events_of, with_event}
 
 events-synced : (ss : List Step) → events_of (after_syncs ss) ≡ events_of ss
 events-synced [] = refl

@@ -1,7 +1,6 @@
 -- How a trace follows a client's script. Events stand with the latest first: `e ∷ t` is t, and then e.
 -- How many actions may be pending, and how many requests outstanding, where a client makes one or polls, is said of proper traces.
 use Rattle.std.specs.Prelude.{◌≡◌, Bool, true, false, List, [], ◌∷◌, ◌++◌, reverse, Option, Some, None, if◌then◌else◌}
-use Rattle.sv_wire.specs.declared.message.Reply.{Reply}
 use Rattle.sv_wire.specs.declared.message.Reply.TheVariants as replies
 use Rattle.sv_wire.specs.declared.message.Request.{Request}
 use Rattle.sv_client.specs.declared.trace.Event.{Event}

@@ -1,3 +1,4 @@
 pub mod Following
 pub mod Telling
 pub mod Laws
+pub mod Examples

@@ -1,6 +1,6 @@
 -- What a trace tells of the objects that its client is interested in: each change of a view, by the event that made it.
 -- Events stand with the latest first: `e ∷ t` is t, and then e.
-use Rattle.std.specs.Prelude.{ℕ, ℤ, Bool, ◌==◌, List, [], ◌∷◌, ◌++◌, map, length, reverse, Option, Some, None, if◌then◌else◌}
+use Rattle.std.specs.Prelude.{ℕ, ℤ, Bool, List, [], ◌∷◌, ◌++◌, map, length, reverse, Option, Some, None, if◌then◌else◌}
 use Rattle.std.specs.List.{flat_map}
 use Rattle.std.specs.Ordering.{int_eq}
 use lib.Pointwise.{pointwise}
@@ -17,10 +17,20 @@ same_view None None = Bool.true
 same_view (Some v) (Some w) = pointwise int_eq v w
 same_view _ _ = Bool.false
 
--- The change of one object's view by an event after the events t, if there is one. Events are numbered from 1.
+-- An object's view before and after an event that comes after the events t. Events are numbered from 1.
+abbrev pub change_by : ClientId → List Event → Event → ObjectId → Change
+change_by client t e object = record {
+  client = client;
+  object = object;
+  event = length (e ∷ t);
+  old = view_of t object.0;
+  new = view_of (e ∷ t) object.0;
+}
+
+-- The change of one object's view by an event, if there is one.
 abbrev pub change_of : ClientId → List Event → Event → ObjectId → List Change
-change_of client t e object = if same_view (view_of t object.0) (view_of (e ∷ t) object.0) then []
-    else record { client = client; object = object; event = length (e ∷ t); old = view_of t object.0; new = view_of (e ∷ t) object.0 } ∷ []
+change_of client t e object =
+    if same_view (view_of t object.0) (view_of (e ∷ t) object.0) then [] else change_by client t e object ∷ []
 
 -- The changes that the events make, in order; those of one event in the order of the interest.
 abbrev pub changes_of : ClientId → List ObjectId → List Event → List Change

@@ -1,5 +1,8 @@
 //! Laws of traces that follow a script.
+ghost use Rattle.sv_script.specs.Examples.{ExamplesFollow};
 ghost use Rattle.sv_script.specs.Laws.{BeginningsFollow, BeginningsOfTracesFollow, StepsAreDoneInOrder, EndsDoAllSteps, EventsAreFew, EventsOfTracesAreFew};
+ghost use Rattle.sv_script.specs.Laws.{JoinsComeWhereNeeded, StepsWaitForTheWelcome, LeavesWaitForTheWelcome, SyncsWaitForReplies};
+ghost use Rattle.sv_script.specs.Laws.{CutsBringAJoin, JoinsBringAReply, NothingFollowsAQuit, NothingFollowsABye};
 
 /// A beginning of a trace that follows a script follows it, and leaves as many steps or more.
 pub fn beginnings_follow()
@@ -22,4 +25,23 @@ pub fn steps_are_done_in_order()
 pub fn events_are_few()
     ensures events { EventsAreFew }
     ensures traces { EventsOfTracesAreFew }
+{}
+
+/// Each event has its place: a Join stands first and directly after each Cut, and nowhere else; directly after a Join stands the Welcome; a
+/// step, and the Leave, stand after the Welcome of their session; the step after a sync stands where nothing is outstanding; and nothing stands
+/// after a Quit or a Bye.
+pub fn events_have_their_places()
+    ensures joins { JoinsComeWhereNeeded }
+    ensures cuts { CutsBringAJoin }
+    ensures first { JoinsBringAReply }
+    ensures welcome { StepsWaitForTheWelcome }
+    ensures leave { LeavesWaitForTheWelcome }
+    ensures sync { SyncsWaitForReplies }
+    ensures quit { NothingFollowsAQuit }
+    ensures bye { NothingFollowsABye }
+{}
+
+/// The definition of following allows the worked examples, and refuses a show that does not wait at its sync.
+pub fn examples_follow()
+    ensures { ExamplesFollow }
 {}
