@@ -186,9 +186,13 @@ rules_of scenario = record { world = scenario.world; bound = scenario.bound; rea
 abbrev pub players_from : Shape → ℕ → ℕ → List Plan → List Player
 players_from shape k s [] = []
 players_from shape k s (plan ∷ plans) = record {
-    who = record { client = record { 0 = k }; interest = plan.interest; shape = shape };
-    first = s; events = []; left = plan.steps; closed = false }
-  ∷ players_from shape (suc k) (s + sessions_of_plan plan) plans
+  who = record { client = record { 0 = k }; interest = plan.interest; shape = shape };
+  first = s;
+  events = [];
+  left = plan.steps;
+  closed = false;
+}
+    ∷ players_from shape (suc k) (s + sessions_of_plan plan) plans
 
 abbrev pub opening_run : Scenario → Run
 opening_run scenario = record { history = []; players = players_from scenario.world.shape 0 0 scenario.clients }
