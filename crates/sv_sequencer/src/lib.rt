@@ -13,7 +13,5 @@ mod reports;
 mod sequencer;
 mod sessions;
 mod step;
-#[cfg(test)]
-mod tests;
 
 pub use sequencer::Sequencer;
