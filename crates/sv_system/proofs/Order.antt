@@ -179,7 +179,7 @@ module _ (r : Rules) (H : List Entry) (legal : Legal r H) (L : Trace) (fits : Fi
       let parts = of-parts e o t in
       let refusal : e.reply ≡ refused 4 0 =
       (earlier-legal r (e ∷ h) H b legal).0 ∙ over-refused r h e.session e.request (subst (λ (m : ℕ). is_over h m ≡ true) (sym parts.0) over') parts.1 in
-      true≢false (sym a.kind ∙ ap (allows a.request) (replied ∙ ap (full_reply A) refusal) ∙ never-refused a.request 4 0)
+      true≢false (sym a.kind ∙ ap (allows a.request) (replied ∙ ap (full_reply A) refusal) ∙ never-refused (a.request) 4 0)
 
   begun-at : (v : List Event) → AreProper who L.first v → (s n : ℕ) (reply : Reply) → slice_get (got v s) n ≡ Some reply → IsBegun who L.first v s
   begun-at v p s n reply is =
