@@ -3,4 +3,3 @@ pub mod Fits
 pub mod Journals
 pub mod Serial
 pub mod Delivery
-pub mod Schedule
