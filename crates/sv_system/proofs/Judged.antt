@@ -1,6 +1,6 @@
 -- Each new action is dropped for its chain or its distance alone, and no action is accepted twice.
-use Rattle.std.proofs.Common.{◌⊎◌, inl, inr, ◌≡◌, ℕ, zero, suc, ◌+◌, ◌<◌, ◌≤◌, Bool, true, false, ◌&&◌, ◌||◌, ◌==◌, nat_le, nat_lt, List, [], ◌∷◌, ◌++◌, map, length, Option, Some, None, slice_get, refl, sym, ap, ◌∙◌, subst, arith, eqb-true, eq-eqb, ltb-true, true≢false, if◌then◌else◌, append-nil}
-use Rattle.std.proofs.lemmas.Bool.{cond_both, cond-true, cond-false, and_from, or_parts, cases_Bool}
+use Rattle.std.proofs.Common.{◌⊎◌, inl, inr, ◌≡◌, ℕ, zero, suc, ◌+◌, ◌<◌, ◌≤◌, Bool, true, false, ◌&&◌, ◌||◌, ◌==◌, nat_le, nat_lt, List, [], ◌∷◌, ◌++◌, map, length, Option, Some, None, slice_get, refl, sym, ap, ◌∙◌, subst, arith, eqb-true, eq-eqb, ltb-true, lt-ltb, true≢false, if◌then◌else◌, append-nil}
+use Rattle.std.proofs.lemmas.Bool.{cond_both, cond-true, cond-false, and_from, or_parts, cases_Bool, cases_lt}
 use Rattle.std.proofs.lemmas.List.{length-append}
 use Rattle.std.proofs.lemmas.Option.{none-some, same_Some}
 use Rattle.sv_world.specs.declared.action.Action.{Action}
@@ -20,7 +20,7 @@ use Rattle.sv_system.proofs.Fronts.{get-push_cases}
 use Rattle.sv_system.proofs.Histories.{kept-old}
 
 not-below : (m n : ℕ) → nat_lt m n ≡ false → n ≤ m
-not-below m n f = elim (cases_le n m) [ inl l ↦ l | inr l ↦ absurd (true≢false (sym (lt-ltb m n l) ∙ f)) ]
+not-below m n f = elim (cases_lt m n) [ inr g ↦ g | inl l ↦ absurd (true≢false (sym (lt-ltb m n l) ∙ f)) ]
 
 or-either : (a b : Bool) → a || b ≡ true → (a ≡ true) ⊎ (b ≡ true)
 or-either true b e = inl refl
@@ -87,10 +87,10 @@ module _ (e : Entry) (h : List Entry) where
       let test : Bool = is_client (client_of h e.session) k && is_submit_of e.request (suc (length (outcomes_of h k))) in
       let more = outcome_in (suc (length (accepted h))) e.reply in
       let holds : test ≡ true = and_from (is_client (client_of h e.session) k) (is_submit_of e.request (suc (length (outcomes_of h k))))
-          (ap (λ (o : Option ℕ). is_client o k) c ∙ eq-eqb k k refl) (ap (λ (p : Request). is_submit_of p (suc (length (outcomes_of h k)))) q ∙ eq-eqb seq (suc (length (outcomes_of h k))) n) in
+      (ap (λ (o : Option ℕ). is_client o k) c ∙ eq-eqb k k refl) (ap (λ (p : Request). is_submit_of p (suc (length (outcomes_of h k)))) q ∙ eq-eqb seq (suc (length (outcomes_of h k))) n) in
       let single : length more ≡ 1 = relay-one e.reply y in
       let len : length (outcomes_of (e ∷ h) k) ≡ length (outcomes_of h k) + length more =
-          ap (λ (l : List Outcome). length (outcomes_of h k ++ l)) (cond-true test more [] holds) ∙ length-append (outcomes_of h k) more in
+      ap (λ (l : List Outcome). length (outcomes_of h k ++ l)) (cond-true test more [] holds) ∙ length-append (outcomes_of h k) more in
       omega arith
     where
       relay-one : (reply : Logged) → is_relay reply ≡ true → length (outcome_in (suc (length (accepted h))) reply) ≡ 1
@@ -160,7 +160,7 @@ are-once (e ∷ h) i j a b f g c s =
     elim (fresh e h) [
       | inl none ↦
           (let back : (n : ℕ) → slice_get (accepted (e ∷ h)) n ≡ slice_get (accepted h) n =
-              λ n. ap (λ (new : List Authored). slice_get (accepted h ++ new) n) none ∙ ap (λ (A : List Authored). slice_get A n) (append-nil (accepted h)) in
+          λ n. ap (λ (new : List Authored). slice_get (accepted h ++ new) n) none ∙ ap (λ (A : List Authored). slice_get A n) (append-nil (accepted h)) in
           are-once h i j a b (sym (back i) ∙ f) (sym (back j) ∙ g) c s)
       | inr new ↦
           (let with : (n : ℕ) → slice_get (accepted (e ∷ h)) n ≡ slice_get (accepted h ++ new.0 ∷ []) n = λ n. ap (λ (l : List Authored). slice_get (accepted h ++ l) n) new.1.0 in

@@ -9,6 +9,6 @@ mod truth;
 
 pub use deliveries::lawful_deliveries_make_values_serial;
 pub use honest::honest_clients_get_what_they_wait_for;
-pub use outcomes::actions_have_outcomes;
 pub use journals::legal_journals_make_lawful_deliveries;
+pub use outcomes::actions_have_outcomes;
 pub use truth::replicas_equal_serial_execution;
