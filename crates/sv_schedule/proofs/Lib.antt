@@ -1,3 +1,4 @@
+pub mod SoundCalls
 pub mod SoundEntries
 pub mod SoundLaws
 pub mod SoundPlayers
