@@ -56,7 +56,7 @@ pub data HasMoved (p q : Player) : Type 0 where
   shut : q.closed ≡ true → HasMoved p q
   cut : to_go q < to_go p → must_join q.events ≡ true → HasMoved p q
   moved : to_go q < to_go p → (s : ℕ) → IsOpen q s → HasMoved p q
-  waits : q ≡ p → is_settled p ≡ false → HasMoved p q
+  waits : q ≡ p → is_settled p ≡ false → (s : ℕ) → IsOpen p s → HasMoved p q
 
 -- What is left before a step is done.
 abbrev IsAt : Player → Step → List Step → Type 0
@@ -100,15 +100,15 @@ room-settled p s proper o e =
     let same = length-map (pending_of p.events) key_of in
     lt-ltb (length (pending_of p.events)) 8 (omega (arith, count, same))
 
-free-or_waits : (p : Player) (may : Bool) (e : Event) (left : List Step) → (is_settled p ≡ true → may ≡ true) → HasMoved p (does p e left) → HasMoved p (if_free p may e left)
-free-or_waits p true e left f m = m
-free-or_waits p false e left f m = elim (cases_Bool (is_settled p)) [ inl x ↦ absurd (true≢false (sym (f x))) | inr x ↦ waits refl x ]
+free-or_waits : (p : Player) (s : ℕ) → IsOpen p s → (may : Bool) (e : Event) (left : List Step) → (is_settled p ≡ true → may ≡ true) → HasMoved p (does p e left) → HasMoved p (if_free p may e left)
+free-or_waits p s o true e left f m = m
+free-or_waits p s o false e left f m = elim (cases_Bool (is_settled p)) [ inl x ↦ absurd (true≢false (sym (f x))) | inr x ↦ waits refl x s o ]
 
-settled-or_waits : (p q : Player) → HasMoved p q → HasMoved p (if is_settled p then q else p)
-settled-or_waits p q m =
+settled-or_waits : (p q : Player) (s : ℕ) → IsOpen p s → HasMoved p q → HasMoved p (if is_settled p then q else p)
+settled-or_waits p q s o m =
     elim (cases_Bool (is_settled p)) [
       | inl x ↦ subst (HasMoved p) (sym (cond-true (is_settled p) q p x)) m
-      | inr x ↦ waits (cond-false (is_settled p) q p x) x
+      | inr x ↦ waits (cond-false (is_settled p) q p x) x s o
     ]
 
 last-moves : (p : Player) (s : ℕ) → IsOpen p s → p.left ≡ [] → HasMoved p (if in_session p.events then does p events.Leave [] else record p { closed = true })
@@ -128,7 +128,7 @@ last-turn p s o left =
     let q : Player = if in_session p.events then does p events.Leave [] else record p { closed = true } in
     elim (cases_Bool (is_settled p)) [
       | inl x ↦ subst (HasMoved p) (sym (ap (λ (b : Bool). if not b then p else q) x)) (last-moves p s o left)
-      | inr x ↦ waits (ap (λ (b : Bool). if not b then p else q) x) x
+      | inr x ↦ waits (ap (λ (b : Bool). if not b then p else q) x) x s o
     ]
 
 -- ---- A client's turn
@@ -136,12 +136,12 @@ last-turn p s o left =
 step-moves : (p : Player) (s : ℕ) → AreProper p.who p.first p.events → IsOpen p s → (left : List Step) → p.left ≡ left → HasMoved p (next_step p left)
 step-moves p s proper o [] e = last-turn p s o e
 step-moves p s proper o (steps.Act action ∷ ss) e =
-    free-or_waits p (nat_lt (length (pending_of p.events)) 8 && is_calm p) (events.Make action) ss
+    free-or_waits p s o (nat_lt (length (pending_of p.events)) 8 && is_calm p) (events.Make action) ss
     (λ x. and_from (nat_lt (length (pending_of p.events)) 8) (is_calm p) (room-settled p s proper o x) (calm-settled p x))
     (moved-by p s (steps.Act action) ss (events.Make action) o e refl refl refl)
-step-moves p s proper o (steps.Poll ∷ ss) e = free-or_waits p (is_calm p) events.Poll ss (calm-settled p) (moved-by p s steps.Poll ss events.Poll o e refl refl refl)
+step-moves p s proper o (steps.Poll ∷ ss) e = free-or_waits p s o (is_calm p) events.Poll ss (calm-settled p) (moved-by p s steps.Poll ss events.Poll o e refl refl refl)
 step-moves p s proper o (steps.Sync ∷ ss) e =
-    settled-or_waits p (record p { left = ss })
+    settled-or_waits p (record p { left = ss }) s o
     (let all = before-step p steps.Sync ss e o.joined in
     let j = ap one_if o.joined in
     let l = ap (λ (b : Bool). last_to_go b (in_session p.events)) o.joined in
