@@ -81,10 +81,10 @@ pub record IsFollowing (scenario : Scenario) (h : List Entry) (p : Player) : Typ
 pub any-turned : (t : Event → Bool) (xs : List Event) → list_any t xs ≡ true → list_any t (reverse xs) ≡ true
 any-turned t xs h = any-reverse t (reverse xs) (ap (list_any t) (reverse-reverse xs) ∙ h)
 
-same-who : (shape : Shape) (p : Player) → p.who.shape ≡ shape → identity_of shape (trace_of_player p) ≡ p.who
+pub same-who : (shape : Shape) (p : Player) → p.who.shape ≡ shape → identity_of shape (trace_of_player p) ≡ p.who
 same-who shape p e = ap (λ (x : Shape). record { client = p.who.client; interest = p.who.interest; shape = x }) (sym e)
 
-same-events : (p : Player) → reverse (trace_of_player p).events ≡ p.events
+pub same-events : (p : Player) → reverse (trace_of_player p).events ≡ p.events
 same-events p = reverse-reverse p.events
 
 module _ (scenario : Scenario) (good : IsGoodScenario scenario) (run : Run) (sound : IsSound scenario run) (i : ℕ) (p : Player) (at : slice_get run.players i ≡ Some p) where
