@@ -2,5 +2,7 @@
 #![tactic(auto)]
 
 mod played;
+mod sound;
 
 pub use played::Played;
+pub use sound::turns_keep_runs_sound;
