@@ -1,7 +1,7 @@
 -- A session had its End only where its loop had stopped before, or its client's end was closed.
-use Rattle.std.proofs.Common.{◌≡◌, ℕ, zero, suc, Bool, true, false, ◌&&◌, ◌||◌, ◌==◌, not, ◌⊎◌, inl, inr, List, [], ◌∷◌, ◌++◌, map, length, drop, refl, sym, ap, ◌∙◌, subst, eqb-true, eq-eqb, true≢false}
+use Rattle.std.proofs.Common.{◌≡◌, ℕ, zero, suc, Bool, true, false, ◌&&◌, ◌||◌, ◌==◌, not, ◌⊎◌, inl, inr, List, [], ◌∷◌, map, length, drop, refl, sym, ap, ◌∙◌, subst, eqb-true, true≢false}
 use Rattle.std.specs.Prelude.{if◌then◌else◌}
-use Rattle.std.specs.List.{list_any, flat_map, AllByRecursion}
+use Rattle.std.specs.List.{list_any, AllByRecursion}
 use Rattle.std.proofs.lemmas.Bool.{cases_Bool, and_parts, and_from, or_cases, or_left, or_right, not_from_false}
 use Rattle.std.proofs.lemmas.List.Concat.{flat_map-cons}
 use Rattle.sv_pending.specs.Pending.{PendingAction}
@@ -20,9 +20,9 @@ use Rattle.sv_client.specs.declared.trace.Event.TheVariants as events
 use Rattle.sv_client.specs.Traces.{submit_of, pending_of, held_of, done_for, is_session, current_session, makes, joins, asked_by, asked}
 use Rattle.sv_system.specs.Fits.{requests_in, is_ended}
 use Rattle.sv_system.proofs.Tests.{each-append}
-use Rattle.sv_schedule.specs.Schedule.{Player, asked_in_run, closed_by, is_stop, is_stopped, with_entry, session_turn, session_turns, sessions_turned, repeated}
+use Rattle.sv_schedule.specs.Schedule.{Player, asked_in_run, closed_by, is_stop, is_stopped, with_entry, session_turn, session_turns, sessions_turned}
 use Rattle.sv_schedule.proofs.DoneLists.{repeated-keeps}
-use Rattle.sv_schedule.proofs.DoneSessions.{is_spent, IsSameIn, IsTurn, over, stops, steps, closes, waits, turn-is, other-turn}
+use Rattle.sv_schedule.proofs.DoneSessions.{is_spent, IsTurn, over, stops, steps, closes, waits, turn-is, other-turn}
 
 -- ---- No client asks an End
 

@@ -1,8 +1,7 @@
 -- Once all clients have closed, a round ends all sessions, and a further one changes nothing.
-use Rattle.std.proofs.Common.{◌≡◌, ℕ, zero, suc, ◌+◌, ◌-◌, ◌≤◌, ◌<◌, Bool, true, false, ◌&&◌, ◌||◌, ◌==◌, not, ◌⊎◌, inl, inr, List, [], ◌∷◌, map, length, Option, Some, None, slice_get, refl, sym, ap, ap₂, ◌∙◌, subst, arith, eqb-true, true≢false}
-use Rattle.std.specs.Prelude.{All, if◌then◌else◌}
+use Rattle.std.proofs.Common.{◌≡◌, ℕ, suc, ◌+◌, ◌-◌, ◌≤◌, ◌<◌, Bool, true, false, ◌&&◌, ◌||◌, ◌==◌, not, inl, inr, List, [], ◌∷◌, map, length, Option, Some, slice_get, refl, sym, ap, ap₂, ◌∙◌, subst, arith, eqb-true, true≢false}
 use Rattle.std.specs.List.{list_any, AllByRecursion}
-use Rattle.std.proofs.lemmas.Bool.{cond-true, cond-false, cases_Bool, cases_lt, and_parts, and_from, or_cases, eq-eqb}
+use Rattle.std.proofs.lemmas.Bool.{cond-true, cond-false, cases_Bool, cases_lt, and_parts, and_from, or_cases}
 use Rattle.std.proofs.lemmas.List.Elements.{recursion_from_All, All-from_recursion}
 use Rattle.sv_world.specs.declared.world.Shape.{Shape}
 use Rattle.sv_world.specs.Control.{is_in, below}
@@ -12,8 +11,6 @@ use Rattle.sv_journal.specs.declared.entry.Entry.{Entry}
 use Rattle.sv_journal.specs.Sessions.{is_end}
 use Rattle.sv_journal.specs.Answer.{Rules}
 use Rattle.sv_client.specs.Traces.{is_session}
-use Rattle.sv_client.specs.Taking.{Identity}
-use Rattle.sv_client.specs.Proper.{AreProper}
 use Rattle.sv_scenario.specs.declared.scenario.Plan.{Plan}
 use Rattle.sv_scenario.specs.declared.scenario.Scenario.{Scenario}
 use Rattle.sv_scenario.specs.Limits.{IsGoodPlan, IsGoodScenario}
@@ -25,13 +22,13 @@ use Rattle.sv_schedule.specs.Sound.{IsPlaying, ArePlaying, IsSound}
 use Rattle.sv_schedule.specs.Records.{ends_in}
 use Rattle.sv_schedule.specs.Done.{IsDone}
 use Rattle.sv_schedule.proofs.DoneGiven.{NeverRefused, StaySound}
-use Rattle.sv_schedule.proofs.DoneLists.{repeated-sum, repeated-still, map-here, map-from, any-there, each-found, each-from}
+use Rattle.sv_schedule.proofs.DoneLists.{repeated-sum, repeated-still, map-from, any-there, each-found, each-from}
 use Rattle.sv_schedule.proofs.DoneSessions.{quiet-round, quiet-still}
-use Rattle.sv_schedule.proofs.DoneFacts.{IsFit, following}
+use Rattle.sv_schedule.proofs.DoneFacts.{following}
 use Rattle.sv_schedule.proofs.DoneCounts.{low-joined, finished-joined, all-joined}
 use Rattle.sv_schedule.proofs.DoneTakes.{takes-none}
 use Rattle.sv_schedule.proofs.DoneShut.{open-closed, turn-closed}
-use Rattle.sv_schedule.proofs.DoneRounds.{IsGoing, going-clients, going-round, going-rounds, IsFalling, falling-first, falling-rounds, fallen-closed}
+use Rattle.sv_schedule.proofs.DoneRounds.{IsGoing, going-clients, going-round, going-rounds, falling-first, falling-rounds, fallen-closed}
 
 -- ---- Whose a session is
 

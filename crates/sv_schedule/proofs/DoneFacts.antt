@@ -1,7 +1,6 @@
 -- What soundness says of one player of a run.
-use Rattle.std.proofs.Common.{◌≡◌, ℕ, zero, suc, ◌+◌, ◌≤◌, ◌<◌, Bool, true, false, ◌⊎◌, inl, inr, List, [], ◌∷◌, ◌++◌, map, length, reverse, Option, Some, None, slice_get, refl, sym, ap, ◌∙◌, subst, arith, true≢false}
-use Rattle.std.specs.Prelude.{All}
-use Rattle.std.specs.List.{list_any, AllByRecursion}
+use Rattle.std.proofs.Common.{◌≡◌, ℕ, zero, suc, ◌+◌, ◌≤◌, Bool, true, List, [], ◌∷◌, map, length, reverse, Some, None, slice_get, refl, sym, ap, ◌∙◌, subst, arith}
+use Rattle.std.specs.List.{list_any}
 use Rattle.std.proofs.lemmas.List.{reverse-reverse}
 use Rattle.std.proofs.lemmas.List.Elements.{recursion_from_All, All-from_recursion}
 use Rattle.std.proofs.lemmas.Option.{none-some, same_Some}
@@ -10,9 +9,7 @@ use Rattle.sv_wire.specs.declared.message.Reply.{Reply}
 use Rattle.sv_journal.specs.declared.entry.Entry.{Entry}
 use Rattle.sv_journal.specs.History.{accepted}
 use Rattle.sv_client.specs.declared.trace.Event.{Event}
-use Rattle.sv_client.specs.declared.trace.Event.TheVariants as events
-use Rattle.sv_client.specs.declared.trace.Trace.{Trace}
-use Rattle.sv_client.specs.Traces.{current_session, requests_of, asked, got}
+use Rattle.sv_client.specs.Traces.{current_session, asked, got}
 use Rattle.sv_client.specs.Taking.{Identity, first_fault_of_reply}
 use Rattle.sv_client.specs.Proper.{AreProper, identity_of}
 use Rattle.sv_scenario.specs.declared.scenario.Plan.{Plan}
@@ -22,12 +19,12 @@ use Rattle.sv_scenario.specs.Limits.{quits_last, IsGoodPlan, IsGoodScenario}
 use Rattle.sv_scenario.specs.Sessions.{sessions_of_plan, sessions_in, session_count}
 use Rattle.sv_script.specs.Following.{FollowsTo, is_finished}
 use Rattle.sv_system.specs.Fronts.{IsFront}
-use Rattle.sv_system.specs.Fits.{requests_in, replies_in, IsEndLast, is_join_of, has_session, FitsOne, AreApart, AreAllApart}
+use Rattle.sv_system.specs.Fits.{requests_in, replies_in, IsEndLast, is_join_of, FitsOne, AreApart, AreAllApart}
 use Rattle.sv_system.proofs.Asked.{any-reverse}
 use Rattle.sv_schedule.specs.Schedule.{Player, Run, rules_of, trace_of_player, traces_of}
 use Rattle.sv_schedule.specs.Sound.{IsLeft, IsPlaying, ArePlaying, IsSound}
 use Rattle.sv_schedule.proofs.DoneGiven.{NeverRefused}
-use Rattle.sv_schedule.proofs.DoneLists.{map-here, map-from, each-found}
+use Rattle.sv_schedule.proofs.DoneLists.{map-here, each-found}
 
 -- ---- The player's plan
 

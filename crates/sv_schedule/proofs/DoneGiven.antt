@@ -30,7 +30,7 @@ NeverRefused = (r : Rules) (h : List Entry) (Ls : List Trace) (i : ℕ) (L : Tra
 pub record StaySound (scenario : Scenario) : Type 0 where
   pub opening : IsSound scenario (opening_run scenario)
   pub turns : (run : Run) (turn : Turn) → IsGoodTurn (length scenario.clients) (session_count scenario) turn → IsSound scenario run →
-    IsSound scenario (turned (rules_of scenario) run turn)
+      IsSound scenario (turned (rules_of scenario) run turn)
   pub clients : (run : Run) → IsSound scenario run → IsSound scenario (after_clients run)
   pub sessions : (run : Run) → IsSound scenario run → IsSound scenario (after_sessions (rules_of scenario) run)
   pub takes : (run : Run) → IsSound scenario run → IsSound scenario (after_takes run)

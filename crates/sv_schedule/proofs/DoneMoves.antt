@@ -1,10 +1,8 @@
 -- What is left for a client to do, and that its turn does some of it, where nothing is outstanding.
-use Rattle.std.proofs.Common.{◌≡◌, ℕ, zero, suc, ◌+◌, ◌*◌, ◌≤◌, ◌<◌, Bool, true, false, ◌&&◌, ◌||◌, ◌==◌, not, ◌⊎◌, inl, inr, List, [], ◌∷◌, map, length, drop, Option, Some, None, refl, sym, ap, ap₂, ◌∙◌, subst, arith, eqb-true, true≢false}
+use Rattle.std.proofs.Common.{◌≡◌, ℕ, suc, ◌+◌, ◌*◌, ◌≤◌, ◌<◌, Bool, true, false, ◌&&◌, not, ◌⊎◌, inl, inr, List, [], ◌∷◌, length, refl, sym, ap, ap₂, ◌∙◌, subst, arith, eqb-true, true≢false}
 use Rattle.std.specs.Prelude.{if◌then◌else◌, nat_lt}
 use Rattle.std.proofs.lemmas.Bool.{cond-true, cond-false, cases_Bool, and_from, lt-ltb}
 use Rattle.std.proofs.lemmas.List.{length-map}
-use Rattle.sv_pending.specs.Pending.{PendingAction}
-use Rattle.sv_wire.specs.declared.message.Request.{Request}
 use Rattle.sv_client.specs.declared.trace.Event.{Event}
 use Rattle.sv_client.specs.declared.trace.Event.TheVariants as events
 use Rattle.sv_client.specs.Traces.{joins, current_session, pending_of}
@@ -16,10 +14,10 @@ use Rattle.sv_scenario.specs.declared.scenario.Step.TheVariants as steps
 use Rattle.sv_scenario.specs.Sessions.{cuts_by, cuts_in}
 use Rattle.sv_script.specs.Following.{must_join, is_welcomed}
 use Rattle.sv_system.proofs.Aligned.{aligned}
-use Rattle.sv_system.proofs.Pendings.{Numbered, key_of, keys, submits}
+use Rattle.sv_system.proofs.Pendings.{key_of, keys, submits}
 use Rattle.sv_schedule.specs.Schedule.{Player, does, if_free, is_calm, is_settled, last_steps, next_step, player_turn}
 use Rattle.sv_schedule.proofs.DoneTakes.{IsOpen}
-use Rattle.sv_schedule.proofs.DoneShut.{turn-closed, turn-joins, turn-steps}
+use Rattle.sv_schedule.proofs.DoneShut.{turn-joins, turn-steps}
 
 abbrev pub one_if : Bool → ℕ
 one_if true = 1

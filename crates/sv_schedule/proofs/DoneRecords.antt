@@ -1,22 +1,19 @@
 -- The scheduled run is done, its journal and traces are its record, and each client did all of its script.
-use Rattle.std.proofs.Common.{◌≡◌, ℕ, zero, suc, ◌+◌, ◌≤◌, ◌<◌, Bool, true, false, inl, inr, List, [], ◌∷◌, map, length, reverse, Option, Some, None, slice_get, refl, sym, ap, ◌∙◌, subst, arith, true≢false}
-use Rattle.std.specs.Prelude.{All}
+use Rattle.std.proofs.Common.{◌≡◌, ℕ, suc, ◌+◌, ◌≤◌, true, List, [], ◌∷◌, map, sym, ap, subst, arith, true≢false}
 use Rattle.std.specs.List.{AllByRecursion}
 use Rattle.std.proofs.lemmas.List.Elements.{recursion_from_All}
 use Rattle.sv_world.specs.declared.world.Shape.{Shape}
 use Rattle.sv_client.specs.declared.trace.Event.{Event}
-use Rattle.sv_client.specs.declared.trace.Trace.{Trace}
 use Rattle.sv_client.specs.Taking.{Identity}
 use Rattle.sv_client.specs.Proper.{identity_of}
 use Rattle.sv_scenario.specs.declared.scenario.Plan.{Plan}
 use Rattle.sv_scenario.specs.declared.scenario.Scenario.{Scenario}
 use Rattle.sv_scenario.specs.Limits.{IsGoodScenario}
-use Rattle.sv_scenario.specs.Sessions.{sessions_of_plan, session_count}
+use Rattle.sv_scenario.specs.Sessions.{sessions_of_plan}
 use Rattle.sv_script.specs.Following.{FollowsTo, FollowsToEnd, is_finished}
-use Rattle.sv_system.specs.Fits.{is_ended}
 use Rattle.sv_schedule.specs.Schedule.{Player, Run, rules_of, opening_run, all_turned, round, repeated, scheduled_run, trace_of_player, traces_of}
 use Rattle.sv_schedule.specs.Sound.{IsPlaying, ArePlaying, IsSound}
-use Rattle.sv_schedule.specs.Records.{ends_in, AreTracesOf, IsRecordOf, ScriptsAreDone}
+use Rattle.sv_schedule.specs.Records.{AreTracesOf, IsRecordOf, ScriptsAreDone}
 use Rattle.sv_schedule.specs.Done.{IsDone}
 use Rattle.sv_schedule.proofs.DoneGiven.{NeverRefused, StaySound}
 use Rattle.sv_schedule.proofs.DoneLists.{each-found}

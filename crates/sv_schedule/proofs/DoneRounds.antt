@@ -1,12 +1,10 @@
 -- Each round leaves each client less to do, until all have closed.
-use Rattle.std.proofs.Common.{◌≡◌, ℕ, zero, suc, ◌+◌, ◌*◌, ◌-◌, ◌≤◌, ◌<◌, Bool, true, false, ◌==◌, not, ◌⊎◌, inl, inr, List, [], ◌∷◌, map, length, Option, Some, None, slice_get, refl, sym, ap, ap₂, ◌∙◌, subst, arith, true≢false}
-use Rattle.std.specs.Prelude.{if◌then◌else◌}
+use Rattle.std.proofs.Common.{◌≡◌, ℕ, zero, suc, ◌+◌, ◌*◌, ◌≤◌, ◌<◌, Bool, true, false, ◌==◌, not, ◌⊎◌, inl, inr, List, [], ◌∷◌, map, length, Some, slice_get, sym, ap, ap₂, ◌∙◌, subst, arith, true≢false}
 use Rattle.std.specs.List.{AllByRecursion}
 use Rattle.std.proofs.lemmas.Bool.{cases_Bool}
 use Rattle.sv_world.specs.Control.{below}
 use Rattle.sv_journal.specs.declared.entry.Entry.{Entry}
 use Rattle.sv_journal.specs.Answer.{Rules}
-use Rattle.sv_client.specs.declared.trace.Event.{Event}
 use Rattle.sv_client.specs.Taking.{outstanding}
 use Rattle.sv_client.specs.Proper.{in_session}
 use Rattle.sv_scenario.specs.declared.scenario.Scenario.{Scenario}
@@ -21,7 +19,7 @@ use Rattle.sv_schedule.specs.Sound.{ArePassed, none, sync, IsSound}
 use Rattle.sv_schedule.proofs.DoneGiven.{NeverRefused, StaySound}
 use Rattle.sv_schedule.proofs.DoneLists.{map-here, map-from, repeated-keeps}
 use Rattle.sv_schedule.proofs.DoneDue.{EndsAreDue, due-turn, due-round}
-use Rattle.sv_schedule.proofs.DoneFacts.{IsFollowing, following}
+use Rattle.sv_schedule.proofs.DoneFacts.{following}
 use Rattle.sv_schedule.proofs.DoneCounts.{left-less, cuts-less, current-there}
 use Rattle.sv_schedule.proofs.DoneTakes.{AreDones, IsOpen, takes-none}
 use Rattle.sv_schedule.proofs.DoneWaits.{HasWaited, has-waited}
@@ -248,24 +246,26 @@ module _ (scenario : Scenario) (good : IsGoodScenario scenario) (honest : NeverR
   -- After one round each player has at most 775 to do.
   pub falling-first : (run : Run) → IsGoing scenario run → IsFalling 775 (round r run)
   falling-first run g i q at =
-      let w = was-there run i q at in
-      (subst IsRested (sym w.same) (rested-after scenario good honest stay run g i w.before w.at),
-      inr (weight-most scenario good (round r run) (going-round scenario good stay run g).sound i q at))
+      let w = was-there run i q at in (
+        subst IsRested (sym w.same) (rested-after scenario good honest stay run g i w.before w.at),
+        inr (weight-most scenario good (round r run) (going-round scenario good stay run g).sound i q at),
+      )
 
   -- After one more it has less.
   falling-next : (n : ℕ) (run : Run) → IsGoing scenario run → IsFalling (suc n) run → IsFalling n (round r run)
   falling-next n run g fall i q at =
       let w = was-there run i q at in
       let f = fall i w.before w.at in
-      let after = take_turns (after_sessions r (after_clients run)).history (player_turn w.before) in
-      (subst IsRested (sym w.same) (rested-after scenario good honest stay run g i w.before w.at),
-      elim (less-after scenario good honest stay run g i w.before w.at f.0) [
-        | inl c ↦ inl (ap (λ (p : Player). p.closed) w.same ∙ c)
-        | inr l ↦ elim f.1 [
-          | inl c ↦ inl (ap (λ (p : Player). p.closed) w.same ∙ closed-after w.before run c)
-          | inr m ↦ inr (let same = ap weight w.same in omega (arith, l, m, same))
-        ]
-      ])
+      let after = take_turns (after_sessions r (after_clients run)).history (player_turn w.before) in (
+        subst IsRested (sym w.same) (rested-after scenario good honest stay run g i w.before w.at),
+        elim (less-after scenario good honest stay run g i w.before w.at f.0) [
+          | inl c ↦ inl (ap (λ (p : Player). p.closed) w.same ∙ c)
+          | inr l ↦ elim f.1 [
+            | inl c ↦ inl (ap (λ (p : Player). p.closed) w.same ∙ closed-after w.before run c)
+            | inr m ↦ inr (let same = ap weight w.same in omega (arith, l, m, same))
+          ]
+        ],
+      )
     where
       closed-after : (p : Player) (run : Run) → p.closed ≡ true → (take_turns (after_sessions r (after_clients run)).history (player_turn p)).closed ≡ true
       closed-after p run c =

@@ -51,9 +51,9 @@ pub data IsTurn (r : Rules) (ps : List Player) (s : ℕ) (h g : List Entry) : Ty
   over : is_ended h s ≡ true → g ≡ h → IsTurn r ps s h g
   stops : is_ended h s ≡ false → is_stopped h s ≡ true → g ≡ with_entry r h s requests.End → IsTurn r ps s h g
   steps : is_ended h s ≡ false → is_stopped h s ≡ false → (q : Request) (rest : List Request) → drop (length (requests_in h s)) (asked_in_run ps s) ≡ q ∷ rest →
-    g ≡ with_entry r h s q → IsTurn r ps s h g
+      g ≡ with_entry r h s q → IsTurn r ps s h g
   closes : is_ended h s ≡ false → drop (length (requests_in h s)) (asked_in_run ps s) ≡ [] → list_any (closed_by s) ps ≡ true →
-    g ≡ with_entry r h s requests.End → IsTurn r ps s h g
+      g ≡ with_entry r h s requests.End → IsTurn r ps s h g
   waits : is_stopped h s ≡ false → drop (length (requests_in h s)) (asked_in_run ps s) ≡ [] → list_any (closed_by s) ps ≡ false → g ≡ h → IsTurn r ps s h g
 
 turn-by : (r : Rules) (ps : List Player) (s : ℕ) (h : List Entry) (b c d : Bool) (w : List Request) → is_ended h s ≡ b → is_stopped h s ≡ c → list_any (closed_by s) ps ≡ d →

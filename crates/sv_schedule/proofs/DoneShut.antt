@@ -1,23 +1,20 @@
 -- A client's end of a session that is closed stays closed, so that Ends that are due stay due.
-use Rattle.std.proofs.Common.{◌≡◌, ℕ, zero, suc, ◌+◌, ◌≤◌, ◌<◌, Bool, true, false, ◌&&◌, ◌||◌, ◌==◌, not, ◌⊎◌, inl, inr, List, [], ◌∷◌, map, length, Option, Some, None, slice_get, refl, sym, ap, ◌∙◌, subst, arith, eqb-true, eq-eqb, true≢false}
+use Rattle.std.proofs.Common.{◌≡◌, ℕ, ◌+◌, Bool, true, false, ◌||◌, ◌==◌, not, ◌⊎◌, inl, inr, List, [], ◌∷◌, map, Option, Some, None, slice_get, refl, sym, ap, ◌∙◌, arith}
 use Rattle.std.specs.Prelude.{if◌then◌else◌}
 use Rattle.std.specs.List.{list_any}
-use Rattle.std.proofs.lemmas.Bool.{cases_Bool, and_parts, and_from, or_left, or_right, ne_eqb}
+use Rattle.std.proofs.lemmas.Bool.{cases_Bool, and_parts, and_from, or_right, ne_eqb}
 use Rattle.sv_wire.specs.declared.message.Reply.{Reply}
 use Rattle.sv_journal.specs.declared.entry.Entry.{Entry}
-use Rattle.sv_journal.specs.History.{accepted}
-use Rattle.sv_client.specs.declared.trace.Event.{Event}
 use Rattle.sv_client.specs.declared.trace.Event.TheVariants as events
-use Rattle.sv_client.specs.Traces.{joins, current_session, is_session, got, pending_of}
-use Rattle.sv_client.specs.Taking.{Fault, outstanding, first_fault_of_reply}
+use Rattle.sv_client.specs.Traces.{joins, current_session, is_session}
+use Rattle.sv_client.specs.Taking.{Fault, first_fault_of_reply}
 use Rattle.sv_client.specs.Proper.{AreProper, in_session}
 use Rattle.sv_scenario.specs.declared.scenario.Step.{Step}
 use Rattle.sv_scenario.specs.declared.scenario.Step.TheVariants as steps
 use Rattle.sv_script.specs.Following.{must_join, is_welcomed}
-use Rattle.sv_system.specs.Fits.{is_join_of, is_ended, replies_in}
-use Rattle.sv_schedule.specs.Schedule.{Player, Run, does, if_free, is_calm, is_settled, last_steps, next_step, player_turn, open_session, takes_if, takes, take_in, take_turn, closed_by, at_player}
+use Rattle.sv_system.specs.Fits.{is_join_of}
+use Rattle.sv_schedule.specs.Schedule.{Player, does, is_settled, next_step, player_turn, open_session, takes_if, takes, take_in, take_turn, closed_by, at_player}
 use Rattle.sv_schedule.proofs.DoneLists.{any-mapped, any-at}
-use Rattle.sv_schedule.proofs.DoneSessions.{is_spent}
 use Rattle.sv_schedule.proofs.DoneDue.{EndsAreDue}
 use Rattle.sv_schedule.proofs.DoneCounts.{joined-low}
 

@@ -1,10 +1,9 @@
 -- After a round a client whose session is open waits for nothing but the answers to the Dones that it asked in that round.
-use Rattle.std.proofs.Common.{◌≡◌, ℕ, zero, suc, ◌+◌, ◌≤◌, ◌<◌, Bool, true, false, ◌&&◌, ◌||◌, ◌==◌, not, ◌⊎◌, inl, inr, List, [], ◌∷◌, ◌++◌, length, drop, Option, Some, None, slice_get, refl, sym, ap, ◌∙◌, subst, arith, eq-eqb, true≢false}
-use Rattle.std.specs.Prelude.{if◌then◌else◌}
+use Rattle.std.proofs.Common.{◌≡◌, ℕ, zero, suc, ◌≤◌, ◌<◌, true, false, ◌&&◌, not, inl, inr, List, [], ◌∷◌, ◌++◌, length, drop, Option, Some, slice_get, refl, sym, ap, ◌∙◌, subst, arith, eq-eqb, true≢false}
 use Rattle.std.specs.List.{list_any}
-use Rattle.std.proofs.lemmas.Bool.{cond-true, cases_Bool, and_parts, or_cases}
+use Rattle.std.proofs.lemmas.Bool.{cond-true, and_parts, or_cases}
 use Rattle.std.proofs.lemmas.List.{length-append}
-use Rattle.std.proofs.lemmas.Option.{none-some, same_Some, slice_get_within}
+use Rattle.std.proofs.lemmas.Option.{slice_get_within}
 use Rattle.sv_world.specs.Control.{below}
 use Rattle.sv_world.proofs.Bases.{is_in-below}
 use Rattle.sv_wire.specs.declared.message.Request.{Request}
@@ -15,7 +14,6 @@ use Rattle.sv_journal.specs.declared.entry.Entry.{Entry}
 use Rattle.sv_journal.specs.declared.entry.Logged.{Logged}
 use Rattle.sv_journal.specs.declared.entry.Logged.TheVariants as logged
 use Rattle.sv_journal.specs.History.{Authored, accepted, full_reply}
-use Rattle.sv_journal.specs.Sessions.{is_end}
 use Rattle.sv_journal.specs.Answer.{Rules}
 use Rattle.sv_client.specs.declared.trace.Event.{Event}
 use Rattle.sv_client.specs.declared.trace.Event.TheVariants as events
@@ -28,13 +26,13 @@ use Rattle.sv_scenario.specs.Limits.{IsGoodScenario}
 use Rattle.sv_scenario.specs.Sessions.{session_count}
 use Rattle.sv_script.specs.Following.{must_join, is_welcomed}
 use Rattle.sv_system.specs.Fronts.{IsFront}
-use Rattle.sv_system.specs.Fits.{requests_in, replies_in, is_ended, is_join_of}
+use Rattle.sv_system.specs.Fits.{requests_in, replies_in, is_join_of}
 use Rattle.sv_system.proofs.Fronts.{get-last}
 use Rattle.sv_system.proofs.Histories.{IsEarlier, same, after}
 use Rattle.sv_system.proofs.Entered.{is_of, as-many, replies-earlier}
 use Rattle.sv_system.proofs.Asked.{part-rest, asked-part, got-when, got-answers, begun-or_not, current-joined}
 use Rattle.sv_system.proofs.Leaving.{leave-last}
-use Rattle.sv_schedule.specs.Schedule.{Player, Run, rules_of, open_session, closed_by, is_stop, asked_in_run, sessions_turned, after_sessions, after_takes, take_turns}
+use Rattle.sv_schedule.specs.Schedule.{Player, Run, rules_of, open_session, closed_by, is_stop, after_sessions, after_takes, take_turns}
 use Rattle.sv_schedule.specs.Sound.{IsSound}
 use Rattle.sv_schedule.proofs.DoneGiven.{NeverRefused, StaySound}
 use Rattle.sv_schedule.proofs.DoneLists.{map-here, any-found, piece-shorter}
