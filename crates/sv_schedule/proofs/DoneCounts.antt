@@ -24,7 +24,7 @@ use Rattle.sv_system.specs.Fits.{is_join_of}
 
 -- ---- What is asked in a session
 
-abbrev one_if : Bool → ℕ
+abbrev pub one_if : Bool → ℕ
 one_if true = 1
 one_if false = 0
 

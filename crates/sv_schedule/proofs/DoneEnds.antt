@@ -27,7 +27,7 @@ use Rattle.sv_schedule.proofs.DoneSessions.{quiet-round, quiet-still}
 use Rattle.sv_schedule.proofs.DoneFacts.{following}
 use Rattle.sv_schedule.proofs.DoneCounts.{low-joined, finished-joined, all-joined}
 use Rattle.sv_schedule.proofs.DoneTakes.{takes-none}
-use Rattle.sv_schedule.proofs.DoneShut.{open-closed, turn-closed}
+use Rattle.sv_schedule.proofs.DoneShut.{open-closed, turn-closed, stays-closed}
 use Rattle.sv_schedule.proofs.DoneRounds.{IsGoing, going-clients, going-round, going-rounds, falling-first, falling-rounds, fallen-closed}
 
 -- ---- Whose a session is
@@ -104,9 +104,7 @@ round-closed r run closed i q at =
     let h = (after_sessions r (after_clients run)).history in
     let m = map-from (take_turns h) (map player_turn run.players) i q at in
     let k = map-from player_turn run.players i m.0 m.1.0 in
-    let p = k.0 in
-    let c : (player_turn p).closed ≡ true = ap (λ (x : Player). x.closed) (turn-closed p (closed i p k.1.0)) ∙ closed i p k.1.0 in
-    ap (λ (x : Player). x.closed) (m.1.1 ∙ ap (take_turns h) k.1.1 ∙ takes-none h (player_turn p) (open-closed (player_turn p) c)) ∙ c
+    ap (λ (x : Player). x.closed) (m.1.1 ∙ ap (take_turns h) k.1.1) ∙ stays-closed h k.0 (closed i k.0 k.1.0)
 
 clients-closed : (run : Run) → AreClosed run → AreClosed (after_clients run)
 clients-closed run closed i q at =

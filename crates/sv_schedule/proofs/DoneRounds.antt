@@ -20,11 +20,11 @@ use Rattle.sv_schedule.proofs.DoneGiven.{NeverRefused, StaySound}
 use Rattle.sv_schedule.proofs.DoneLists.{map-here, map-from, repeated-keeps}
 use Rattle.sv_schedule.proofs.DoneDue.{EndsAreDue, due-turn, due-round}
 use Rattle.sv_schedule.proofs.DoneFacts.{following}
-use Rattle.sv_schedule.proofs.DoneCounts.{left-less, cuts-less, current-there}
+use Rattle.sv_schedule.proofs.DoneCounts.{one_if, left-less, cuts-less, current-there}
 use Rattle.sv_schedule.proofs.DoneTakes.{AreDones, IsOpen, takes-none}
 use Rattle.sv_schedule.proofs.DoneWaits.{HasWaited, has-waited}
-use Rattle.sv_schedule.proofs.DoneShut.{open-closed, open-none, shut-turn, shut-take, turn-closed, due-mapped, due-at}
-use Rattle.sv_schedule.proofs.DoneMoves.{one_if, last_to_go, to_go, last-some, last-most, one-most, HasMoved, shut, cut, moved, waits, IsReady, turn-moves}
+use Rattle.sv_schedule.proofs.DoneShut.{open-closed, open-none, stays-closed, shut-turn, shut-take, due-mapped, due-at}
+use Rattle.sv_schedule.proofs.DoneMoves.{last_to_go, to_go, last-some, last-most, one-most, HasMoved, shut, cut, moved, waits, IsReady, turn-moves}
 
 -- ---- Runs that go on
 
@@ -205,10 +205,7 @@ module _ (scenario : Scenario) (good : IsGoodScenario scenario) (honest : NeverR
   less-open c ready dones = less-by_turn dones (turn-moves p (following scenario good run g.sound i p at).proper c ready)
 
   less-closed : p.closed ≡ true → IsLess
-  less-closed c =
-      let still : turn ≡ p = turn-closed p c in
-      let closed : turn.closed ≡ true = ap (λ (q : Player). q.closed) still ∙ c in
-      inl (ap (λ (q : Player). q.closed) (takes-none h turn (open-closed turn closed)) ∙ closed)
+  less-closed c = inl (stays-closed h p c)
 
   -- A player that is not closed has less to do after a round, or closed in it.
   pub less-after : IsRested p → IsLess
@@ -261,16 +258,11 @@ module _ (scenario : Scenario) (good : IsGoodScenario scenario) (honest : NeverR
         elim (less-after scenario good honest stay run g i w.before w.at f.0) [
           | inl c ↦ inl (ap (λ (p : Player). p.closed) w.same ∙ c)
           | inr l ↦ elim f.1 [
-            | inl c ↦ inl (ap (λ (p : Player). p.closed) w.same ∙ closed-after w.before run c)
+            | inl c ↦ inl (ap (λ (p : Player). p.closed) w.same ∙ stays-closed (after_sessions r (after_clients run)).history w.before c)
             | inr m ↦ inr (let same = ap weight w.same in omega (arith, l, m, same))
           ]
         ],
       )
-    where
-      closed-after : (p : Player) (run : Run) → p.closed ≡ true → (take_turns (after_sessions r (after_clients run)).history (player_turn p)).closed ≡ true
-      closed-after p run c =
-          let closed : (player_turn p).closed ≡ true = ap (λ (q : Player). q.closed) (turn-closed p c) ∙ c in
-          ap (λ (q : Player). q.closed) (takes-none (after_sessions r (after_clients run)).history (player_turn p) (open-closed (player_turn p) closed)) ∙ closed
 
   pub going-rounds : (n : ℕ) (run : Run) → IsGoing scenario run → IsGoing scenario (repeated n (round r) run)
   going-rounds n run g = repeated-keeps (IsGoing scenario) (round r) (going-round scenario good stay) n run g

@@ -13,10 +13,11 @@ use Rattle.sv_scenario.specs.declared.scenario.Step.{Step}
 use Rattle.sv_scenario.specs.declared.scenario.Step.TheVariants as steps
 use Rattle.sv_script.specs.Following.{must_join, is_welcomed}
 use Rattle.sv_system.specs.Fits.{is_join_of}
-use Rattle.sv_schedule.specs.Schedule.{Player, does, is_settled, next_step, player_turn, open_session, takes_if, takes, take_in, take_turn, closed_by, at_player}
+use Rattle.sv_schedule.specs.Schedule.{Player, does, is_settled, next_step, player_turn, open_session, takes_if, takes, take_in, take_turn, take_turns, closed_by, at_player}
 use Rattle.sv_schedule.proofs.DoneLists.{any-mapped, any-at}
 use Rattle.sv_schedule.proofs.DoneDue.{EndsAreDue}
 use Rattle.sv_schedule.proofs.DoneCounts.{joined-low}
+use Rattle.sv_schedule.proofs.DoneTakes.{takes-none}
 
 -- ---- What opens no session
 
@@ -162,3 +163,11 @@ due-at ps h k turn keep d s e =
       | inl x ↦ inl x
       | inr x ↦ inr (any-at (closed_by s) turn ps k (λ p there c. keep p s there c) x)
     ]
+
+-- ---- Players that have closed
+
+-- A player that closed stays so over a round.
+pub stays-closed : (h : List Entry) (p : Player) → p.closed ≡ true → (take_turns h (player_turn p)).closed ≡ true
+stays-closed h p c =
+    let closed : (player_turn p).closed ≡ true = ap (λ (q : Player). q.closed) (turn-closed p c) ∙ c in
+    ap (λ (q : Player). q.closed) (takes-none h (player_turn p) (open-closed (player_turn p) closed)) ∙ closed
