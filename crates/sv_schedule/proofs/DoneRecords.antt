@@ -11,7 +11,7 @@ use Rattle.sv_scenario.specs.declared.scenario.Scenario.{Scenario}
 use Rattle.sv_scenario.specs.Limits.{IsGoodScenario}
 use Rattle.sv_scenario.specs.Sessions.{sessions_of_plan}
 use Rattle.sv_script.specs.Following.{FollowsTo, FollowsToEnd, is_finished}
-use Rattle.sv_schedule.specs.Schedule.{Player, Run, rules_of, opening_run, all_turned, round, repeated, scheduled_run, trace_of_player, traces_of}
+use Rattle.sv_schedule.specs.Schedule.{Player, Run, rules_of, opening_run, all_turned, round, repeated, most_rounds, scheduled_run, trace_of_player, traces_of}
 use Rattle.sv_schedule.specs.Sound.{IsPlaying, ArePlaying, IsSound}
 use Rattle.sv_schedule.specs.Records.{AreTracesOf, IsRecordOf, ScriptsAreDone}
 use Rattle.sv_schedule.specs.Done.{IsDone}
@@ -91,10 +91,10 @@ module _ (scenario : Scenario) (good : IsGoodScenario scenario) (honest : NeverR
       (recursion_from_All (λ (p : Player). p.closed ≡ true) _ (rounds-enough n l).closed)
 
   pub scheduled-done : IsDone scenario (scheduled_run scenario)
-  scheduled-done = rounds-enough 1000 (omega arith)
+  scheduled-done = rounds-enough most_rounds (omega arith)
 
   pub scheduled-record : IsRecordOf scenario (scheduled_run scenario).history (traces_of (scheduled_run scenario))
-  scheduled-record = rounds-record 1000 (omega arith)
+  scheduled-record = rounds-record most_rounds (omega arith)
 
   pub scheduled-scripts : ScriptsAreDone scenario.world.shape scenario.clients (traces_of (scheduled_run scenario))
-  scheduled-scripts = rounds-scripts 1000 (omega arith)
+  scheduled-scripts = rounds-scripts most_rounds (omega arith)
