@@ -12,9 +12,11 @@ pub mod DoneShut
 pub mod DoneSound
 pub mod DoneTakes
 pub mod DoneWaits
+pub mod SoundCalls
 pub mod SoundEntries
 pub mod SoundLaws
 pub mod SoundPlayers
+pub mod SoundReplies
 pub mod SoundRuns
 pub mod SoundTraces
 pub mod SoundTurns

@@ -2,47 +2,20 @@
 use Rattle.std.proofs.Common.{◌≡◌, ℕ, zero, suc, Bool, true, false, ◌==◌, ◌&&◌, not, inl, inr, List, [], ◌∷◌, ◌++◌, drop, length, Some, slice_get, refl, sym, ap, subst, ◌∙◌, eqb-true, true≢false}
 use Rattle.std.specs.List.{list_any, AllByRecursion}
 use Rattle.std.proofs.lemmas.Bool.{or_cases, or_parts, or_left, or_right, cond_both, and_parts, not-true, ne_eqb}
-use Rattle.sv_world.proofs.Needs.{needed-bounds}
-use Rattle.sv_wire.specs.declared.message.Reply.{Reply}
 use Rattle.sv_wire.specs.declared.message.Request.{Request}
 use Rattle.sv_journal.specs.declared.entry.Entry.{Entry}
-use Rattle.sv_journal.specs.History.{Authored, accepted, full_reply}
+use Rattle.sv_journal.specs.History.{accepted}
 use Rattle.sv_journal.specs.Sessions.{is_end}
 use Rattle.sv_journal.specs.Answer.{Rules, Legal}
-use Rattle.sv_journal.specs.Text.{NamesAccepted}
-use Rattle.sv_journal.proofs.Named.{NeededWithin, all_named}
-use Rattle.sv_journal.proofs.Stays.{full_replies_stay}
 use Rattle.sv_client.specs.Traces.{asked, got}
 use Rattle.sv_system.specs.Fronts.{IsFront}
 use Rattle.sv_system.specs.Fits.{requests_in, replies_in, is_ended}
 use Rattle.sv_system.proofs.Fronts.{front-then}
-use Rattle.sv_system.proofs.Entered.{replies-one}
 use Rattle.sv_schedule.specs.Schedule.{Player, asked_in_run, closed_by, is_stop, is_stopped, with_entry}
 use Rattle.sv_schedule.specs.Sound.{has_joined}
 use Rattle.sv_schedule.proofs.SoundTraces.{none-asked}
+use Rattle.sv_schedule.proofs.SoundReplies.{replies-grow}
 use Rattle.sv_schedule.proofs.SoundPlayers.{FitsAt, IsFitting, front-push}
-
--- ---- Whole replies stay
-
-needed-within : NeededWithin
-needed-within A commit sent i j l h = needed-bounds A commit sent i l j h
-
--- The reply of each entry is whole over a history with an entry more as it was.
-stays-named : (e : Entry) (h g : List Entry) → AllByRecursion (λ (d : Entry). NamesAccepted (length (accepted h)) d.reply) g →
-    AllByRecursion (λ (d : Entry). full_reply (accepted (e ∷ h)) d.reply ≡ full_reply (accepted h) d.reply) g
-stays-named e h [] a = tt
-stays-named e h (d ∷ g) a = (full_replies_stay (e ∷ []) h d.reply a.0, stays-named e h g a.1)
-
-replies-as : (A B : List Authored) (g : List Entry) (s : ℕ) → AllByRecursion (λ (d : Entry). full_reply A d.reply ≡ full_reply B d.reply) g → replies_in A g s ≡ replies_in B g s
-replies-as A B [] s a = refl
-replies-as A B (d ∷ g) s a = rw (a.0, replies-as A B g s a.1) refl
-
--- The replies of a session with an entry more begin as they were.
-pub replies-grow : (r : Rules) (e : Entry) (h : List Entry) (s : ℕ) → Legal r h → IsFront (replies_in (accepted h) h s) (replies_in (accepted (e ∷ h)) (e ∷ h) s)
-replies-grow r e h s legal =
-    subst (λ (rs : List Reply). IsFront rs (replies_in (accepted (e ∷ h)) (e ∷ h) s))
-    (replies-as (accepted (e ∷ h)) (accepted h) h s (stays-named e h h (all_named needed-within r h legal)))
-    (replies-one (accepted (e ∷ h)) e h s)
 
 -- ---- One player
 

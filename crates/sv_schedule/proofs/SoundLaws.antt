@@ -5,6 +5,7 @@ use Rattle.std.proofs.lemmas.Bool.{or_right}
 use Rattle.std.proofs.lemmas.List.{reverse-reverse, reverse-append}
 use Rattle.std.proofs.lemmas.List.Elements.{All-from_recursion, recursion_from_All}
 use Rattle.std.proofs.lemmas.List.Folds.{list_any-append}
+use Rattle.sv_world.specs.Control.{below}
 use Rattle.sv_world.specs.declared.world.ClientId.{ClientId}
 use Rattle.sv_world.specs.declared.world.ObjectId.{ObjectId}
 use Rattle.sv_world.specs.declared.world.Shape.{Shape}
@@ -23,12 +24,12 @@ use Rattle.sv_scenario.specs.Limits.{IsGoodPlan, IsGoodScenario, IsGoodTurn}
 use Rattle.sv_scenario.specs.Sessions.{sessions_of_plan, session_count}
 use Rattle.sv_system.specs.Fronts.{IsFront}
 use Rattle.sv_system.specs.Fits.{is_join_of, has_session, requests_in, replies_in, FitsIn, FitsOne, AreApart, AreAllApart, is_owned}
-use Rattle.sv_schedule.specs.Schedule.{Player, Run, most_rounds, repeated, all_turned, turned, round, rules_of, players_from, opening_run, scheduled_run, trace_of_player, traces_of}
+use Rattle.sv_schedule.specs.Schedule.{Player, Run, most_rounds, repeated, session_turn, session_turns, sessions_turned, all_turned, turned, after_clients, after_sessions, after_takes, round, rules_of, players_from, opening_run, scheduled_run, trace_of_player, traces_of}
 use Rattle.sv_schedule.specs.Sound.{IsPlaying, ArePlaying, has_joined, IsSound}
 use Rattle.sv_schedule.proofs.SoundPlayers.{FitsAt, IsFitting}
 use Rattle.sv_schedule.proofs.SoundEntries.{begun_by}
 use Rattle.sv_schedule.proofs.SoundRuns.{in-plan}
-use Rattle.sv_schedule.proofs.SoundTurns.{AreStanding, turned-stands, all-turned_stands, round-stands, rounds-stand}
+use Rattle.sv_schedule.proofs.SoundTurns.{AreStanding, below-known, session-stands, session-all_stands, sessions-stand, clients-stand, takes-stand, turned-stands, all-turned_stands, round-stands, rounds-stand}
 
 -- ---- A player and its trace
 
@@ -229,6 +230,36 @@ pub turns-sound : (scenario : Scenario) (run : Run) (turn : Turn) → IsGoodScen
     IsSound scenario (turned (rules_of scenario) run turn)
 turns-sound scenario run turn good known a =
     sound-from scenario (turned (rules_of scenario) run turn) (turned-stands scenario good run turn known (sound-stands scenario run a))
+
+-- ---- The parts of a round
+
+pub clients-sound : (scenario : Scenario) (run : Run) → IsGoodScenario scenario → IsSound scenario run → IsSound scenario (after_clients run)
+clients-sound scenario run good a = sound-from scenario (after_clients run) (clients-stand scenario good run.players run.history (sound-stands scenario run a))
+
+pub session-turn_sound : (scenario : Scenario) (run : Run) (s : ℕ) → s < session_count scenario → IsSound scenario run →
+    IsSound scenario (record run { history = session_turn (rules_of scenario) run.players run.history s })
+session-turn_sound scenario run s known a =
+    sound-from scenario (record run { history = session_turn (rules_of scenario) run.players run.history s })
+    (session-stands scenario run.players s known run.history (sound-stands scenario run a))
+
+pub session-turns_sound : (scenario : Scenario) (run : Run) (s : ℕ) → s < session_count scenario → IsSound scenario run →
+    IsSound scenario (record run { history = session_turns (rules_of scenario) run.players run.history s })
+session-turns_sound scenario run s known a =
+    sound-from scenario (record run { history = session_turns (rules_of scenario) run.players run.history s })
+    (session-all_stands scenario run.players s known run.history (sound-stands scenario run a))
+
+pub sessions-turned_sound : (scenario : Scenario) (run : Run) (ss : List ℕ) → AllByRecursion (λ s. s < session_count scenario) ss → IsSound scenario run →
+    IsSound scenario (record run { history = sessions_turned (rules_of scenario) run.players run.history ss })
+sessions-turned_sound scenario run ss known a =
+    sound-from scenario (record run { history = sessions_turned (rules_of scenario) run.players run.history ss })
+    (sessions-stand scenario run.players ss run.history known (sound-stands scenario run a))
+
+pub sessions-sound : (scenario : Scenario) (run : Run) → IsSound scenario run → IsSound scenario (after_sessions (rules_of scenario) run)
+sessions-sound scenario run a =
+    sessions-turned_sound scenario run (below (session_count scenario)) (below-known (session_count scenario) (session_count scenario) (omega arith)) a
+
+pub takes-sound : (scenario : Scenario) (run : Run) → IsGoodScenario scenario → IsSound scenario run → IsSound scenario (after_takes run)
+takes-sound scenario run good a = sound-from scenario (after_takes run) (takes-stand scenario good run.players run.history (sound-stands scenario run a))
 
 pub rounds-sound : (scenario : Scenario) (run : Run) → IsGoodScenario scenario → IsSound scenario run → IsSound scenario (round (rules_of scenario) run)
 rounds-sound scenario run good a = sound-from scenario (round (rules_of scenario) run) (round-stands scenario good run (sound-stands scenario run a))

@@ -17,7 +17,7 @@ use Rattle.sv_client.specs.declared.trace.Event.{Event}
 use Rattle.sv_client.specs.declared.trace.Event.TheVariants as events
 use Rattle.sv_client.specs.Traces.{joins, makes, current_session, pending_of, asked, asked_by, got}
 use Rattle.sv_client.specs.Taking.{Identity, Fault, Unasked, outstanding, fault_after, first_fault_of_reply}
-use Rattle.sv_client.specs.Proper.{AreProper, MayFollow, IsGoodIdentity, in_session}
+use Rattle.sv_client.specs.Proper.{AreProper, MayFollow, MayJoin, MayMake, MayPoll, MayLeave, IsGoodIdentity, in_session}
 use Rattle.sv_client.proofs.Sessions.{no_got}
 use Rattle.sv_scenario.specs.declared.scenario.Plan.{Plan}
 use Rattle.sv_scenario.specs.declared.scenario.Step.{Step}
@@ -189,10 +189,13 @@ module _ (shape : Shape) (h : List Entry) (k s : ℕ) (plan : Plan) (p : Player)
   not-begun : has_joined p new_session ≡ false
   not-begun = false_from_ne_true (has_joined p new_session) (λ j. let b = joined-within p.who p.first p.events new_session fit.proper j in absurd (omega (arith, b.1)))
 
+  pub may-join : must_join p.events ≡ true → sessions_of_plan plan ≤ 64 → MayJoin p.first p.events new_session
+  may-join m few = record { next = refl; few = omega (arith, few, joins-few m) }
+
   joining : p.closed ≡ false → must_join p.events ≡ true → sessions_of_plan plan ≤ 64 → IsUnused h new_session → Kept (does p (events.Join new_session) p.left)
   joining o m few free = record {
     playing = plays-next (events.Join new_session) p.left p.closed (record { needed = m; same = w.apart m }) (λ c. absurd (true≢false (sym c ∙ o))) (λ t e. absurd (true≢false (sym (ap is_quit e))));
-    fitting = fits-next (events.Join new_session) p.left p.closed (record { next = refl; few = omega (arith, few, joins-few m) }) new-got new-asked new-ended;
+    fitting = fits-next (events.Join new_session) p.left p.closed (may-join m few) new-got new-asked new-ended;
     more = more-next (events.Join new_session) p.left p.closed;
   }
     where
@@ -287,24 +290,33 @@ module _ (shape : Shape) (h : List Entry) (k s : ℕ) (plan : Plan) (p : Player)
     makes-few : makes p.events < 65536
     makes-few = (let most = makes-within p.who plan.steps p.events w.before w.follows in omega (arith, most, good.few_steps))
 
-    making : (action : Action) (ss : List Step) → p.left ≡ steps.Act action ∷ ss → (nat_lt (length (pending_of p.events)) 8 && is_calm p) ≡ true → Kept (does p (events.Make action) ss)
-    making action ss l t =
+    -- What a client's call asks for holds where its turn makes the call.
+    pub may-make : (action : Action) (ss : List Step) → p.left ≡ steps.Act action ∷ ss → (nat_lt (length (pending_of p.events)) 8 && is_calm p) ≡ true → MayMake p.who p.events action
+    may-make action ss l t =
         let parts = and_parts (nat_lt (length (pending_of p.events)) 8) (is_calm p) t in
-        stepped (events.Make action) ss (does-step (events.Make action) (steps.Act action) ss l refl refl)
-        (record {
+        record {
           joined = still-in (steps.Act action) ss m l;
           good = good-action action ss l;
           room = ltb-true (length (pending_of p.events)) 8 parts.0;
           calm = ltb-true (length (outstanding p.who p.events)) 16 parts.1;
           few = makes-few;
-        })
-        (λ n. refl) (λ n. refl) refl
+        }
+
+    pub may-poll : (ss : List Step) → p.left ≡ steps.Poll ∷ ss → is_calm p ≡ true → MayPoll p.who p.events
+    may-poll ss l t = record { joined = still-in steps.Poll ss m l; calm = ltb-true (length (outstanding p.who p.events)) 16 t }
+
+    settled-nil : is_settled p ≡ true → outstanding p.who p.events ≡ []
+    settled-nil t = no-length (outstanding p.who p.events) (eqb-true (length (outstanding p.who p.events)) 0 t)
+
+    pub may-leave : is_settled p ≡ true → in_session p.events ≡ true → MayLeave p.who p.events
+    may-leave t i = record { joined = i; settled = settled-nil t }
+
+    making : (action : Action) (ss : List Step) → p.left ≡ steps.Act action ∷ ss → (nat_lt (length (pending_of p.events)) 8 && is_calm p) ≡ true → Kept (does p (events.Make action) ss)
+    making action ss l t =
+        stepped (events.Make action) ss (does-step (events.Make action) (steps.Act action) ss l refl refl) (may-make action ss l t) (λ n. refl) (λ n. refl) refl
 
     polling : (ss : List Step) → p.left ≡ steps.Poll ∷ ss → is_calm p ≡ true → Kept (does p events.Poll ss)
-    polling ss l t =
-        stepped events.Poll ss (does-step events.Poll steps.Poll ss l refl refl)
-        (record { joined = still-in steps.Poll ss m l; calm = ltb-true (length (outstanding p.who p.events)) 16 t })
-        (λ n. refl) (λ n. refl) refl
+    polling ss l t = stepped events.Poll ss (does-step events.Poll steps.Poll ss l refl refl) (may-poll ss l t) (λ n. refl) (λ n. refl) refl
 
     quitting : (ss : List Step) → p.left ≡ steps.Quit ∷ ss → Kept (record (does p events.Quit ss) { closed = true })
     quitting ss l = record {
@@ -312,9 +324,6 @@ module _ (shape : Shape) (h : List Entry) (k s : ℕ) (plan : Plan) (p : Player)
       fitting = quiet-next events.Quit ss true tt (λ n. refl) (λ n. refl);
       more = more-next events.Quit ss true;
     }
-
-    settled-nil : is_settled p ≡ true → outstanding p.who p.events ≡ []
-    settled-nil t = no-length (outstanding p.who p.events) (eqb-true (length (outstanding p.who p.events)) 0 t)
 
     passing : (ss : List Step) → p.left ≡ steps.Sync ∷ ss → is_settled p ≡ true → Kept (record p { left = ss })
     passing ss l t = record {
@@ -349,7 +358,7 @@ module _ (shape : Shape) (h : List Entry) (k s : ℕ) (plan : Plan) (p : Player)
           done = left-synced ∙ ap after_syncs l;
           same = refl;
         })
-        (record { joined = i; settled = settled-nil t })
+        (may-leave t i)
         (λ n. refl) (λ n. refl) refl
 
     ended-now : is_settled p ≡ true → in_session p.events ≡ false → is_finished p.events ≡ true

@@ -252,6 +252,18 @@ joins-within who script (events.Poll ∷ t) left f = later-step who t f.0 events
 joins-within who script (events.Quit ∷ t) left f = later-step who t f.0 events.Quit left (cuts_in script) f.1.1 (joins-within who script t f.0 f.1.0)
 joins-within who script (events.Show objects ∷ t) left f = later-step who t f.0 (events.Show objects) left (cuts_in script) f.1.1 (joins-within who script t f.0 f.1.0)
 
+-- A client that has not to join has joined.
+pub joined-once : (who : Identity) (script : List Step) (t : List Event) (left : List Step) → FollowsTo who script t left → must_join t ≡ false → 1 ≤ joins t
+joined-once who script [] left f m = absurd (true≢false m)
+joined-once who script (events.Join s ∷ t) left f m = omega arith
+joined-once who script (events.Got s reply ∷ t) left f m = joined-once who script t f.0 f.1.0 f.1.1.joined
+joined-once who script (events.Leave ∷ t) left f m = joined-once who script t f.0 f.1.0 f.1.1.joined
+joined-once who script (events.Cut ∷ t) left f m = absurd (true≢false m)
+joined-once who script (events.Make action ∷ t) left f m = joined-once who script t f.0 f.1.0 f.1.1.joined
+joined-once who script (events.Poll ∷ t) left f m = joined-once who script t f.0 f.1.0 f.1.1.joined
+joined-once who script (events.Quit ∷ t) left f m = joined-once who script t f.0 f.1.0 f.1.1.joined
+joined-once who script (events.Show objects ∷ t) left f m = joined-once who script t f.0 f.1.0 f.1.1.joined
+
 -- ---- Steps that are left
 
 all-synced : (P : Step → Type 0) (ss : List Step) → AllByRecursion P ss → AllByRecursion P (after_syncs ss)

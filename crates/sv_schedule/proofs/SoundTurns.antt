@@ -26,7 +26,7 @@ all-push : {X : Type 0} (P : X → Type 0) (xs : List X) (x : X) → AllByRecurs
 all-push P [] x a p = (p, tt)
 all-push P (y ∷ xs) x a p = (a.0, all-push P xs x a.1 p)
 
-below-known : (n m : ℕ) → n ≤ m → AllByRecursion (λ s. s < m) (below n)
+pub below-known : (n m : ℕ) → n ≤ m → AllByRecursion (λ s. s < m) (below n)
 below-known zero m l = tt
 below-known (suc n) m l = all-push (λ s. s < m) (below n) n (below-known n m (omega (arith, l))) (omega (arith, l))
 

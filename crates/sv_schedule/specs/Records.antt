@@ -1,7 +1,6 @@
 -- When a journal and traces are the record of a run of a scenario, and what the headline says of them.
 -- A history is the list of a journal's entries with the latest first.
 use Rattle.std.specs.Prelude.{◌≡◌, ℕ, suc, ◌+◌, ◌<◌, ◌&&◌, ◌==◌, List, [], ◌∷◌, reverse, All, if◌then◌else◌}
-use Rattle.sv_world.specs.declared.world.ClientId.{ClientId}
 use Rattle.sv_world.specs.declared.world.Shape.{Shape}
 use Rattle.sv_eval.specs.Serial.{serial_world}
 use Rattle.sv_journal.specs.declared.entry.Entry.{Entry}
