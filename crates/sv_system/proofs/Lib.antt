@@ -1,4 +1,5 @@
 pub mod Aligned
+pub mod AllTold
 pub mod Allowed
 pub mod Asked
 pub mod Before
@@ -14,6 +15,7 @@ pub mod Heads
 pub mod Histories
 pub mod Induction
 pub mod Items
+pub mod Judged
 pub mod Lawful
 pub mod Leaving
 pub mod Made
