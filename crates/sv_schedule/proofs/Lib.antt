@@ -1,3 +1,17 @@
+pub mod DoneCounts
+pub mod DoneDue
+pub mod DoneEnds
+pub mod DoneFacts
+pub mod DoneGiven
+pub mod DoneLists
+pub mod DoneMoves
+pub mod DoneRecords
+pub mod DoneRounds
+pub mod DoneSessions
+pub mod DoneShut
+pub mod DoneSound
+pub mod DoneTakes
+pub mod DoneWaits
 pub mod SoundCalls
 pub mod SoundEntries
 pub mod SoundLaws

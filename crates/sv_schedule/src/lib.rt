@@ -1,8 +1,10 @@
 //! The run that a scenario's schedule gives: its definition, and what holds of it.
 #![tactic(auto)]
 
+mod done;
 mod played;
 mod sound;
 
+pub use done::scheduled_runs_end;
 pub use played::Played;
 pub use sound::turns_keep_runs_sound;
