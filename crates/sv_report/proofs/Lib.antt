@@ -1,0 +1,6 @@
+pub mod Lines
+pub mod Seeking
+pub mod Doing
+pub mod Standing
+pub mod Counting
+pub mod Dropping
