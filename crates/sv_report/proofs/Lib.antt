@@ -4,3 +4,4 @@ pub mod Doing
 pub mod Standing
 pub mod Counting
 pub mod Dropping
+pub mod Traffic

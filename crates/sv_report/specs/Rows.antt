@@ -1,6 +1,5 @@
 -- The rows by which new Submits that were dropped are counted.
-use Rattle.std.specs.Prelude.{◌≡◌, ℕ, suc, ◌+◌, ◌^◌, ◌<◌, List, [], ◌∷◌, length, slice_index_or, Option, Some, None, if◌then◌else◌}
-use Rattle.std.specs.Option.{option_map}
+use Rattle.std.specs.Prelude.{◌≡◌, ℕ, suc, ◌^◌, ◌<◌, List, [], ◌∷◌, length, slice_index_or, Option, if◌then◌else◌}
 use Rattle.sv_world.specs.declared.world.ClientId.{ClientId}
 use Rattle.sv_journal.specs.declared.entry.Entry.{Entry}
 use Rattle.sv_journal.specs.History.{client_of, outcomes_of}
