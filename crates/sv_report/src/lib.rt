@@ -17,3 +17,6 @@ mod written;
 
 pub use summary::brief;
 pub use whole::report;
+
+#[cfg(test)]
+mod tests;
