@@ -1,5 +1,5 @@
 -- What a call of the program does, by the status that it answers.
-use Rattle.std.specs.Prelude.{◌≡◌, ℕ, ◌==◌, List, [], ◌++◌, take, reverse, Option, Some, None, codes, if◌then◌else◌, option_and_then, unwrap_or}
+use Rattle.std.specs.Prelude.{◌≡◌, ◌≢◌, ℕ, ◌==◌, List, [], ◌++◌, take, reverse, Option, Some, None, codes, if◌then◌else◌, option_and_then, unwrap_or}
 use Rattle.std.specs.Prelude.{Result, Ok, Err, String, string_bytes}
 use Rattle.std.specs.declared.alloc.Global.{Global}
 use Rattle.sv_bytes.specs.Faults.{Rose}
@@ -81,6 +81,15 @@ Replays held f0 f1 old now k0 k1 endings.File = Rose f0 f1 × (now ≡ old)
 Replays held f0 f1 old now k0 k1 endings.Out = Rose k0 k1 × IsCutShort held old now
 Replays held f0 f1 old now k0 k1 endings.Memory = now ≡ old
 
+-- The status of an ending.
+abbrev pub status_of : Ending → ℕ
+status_of endings.Done = 0
+status_of endings.Words = 2
+status_of (endings.Scenario line) = 3
+status_of endings.File = 4
+status_of endings.Out = 5
+status_of endings.Memory = 8
+
 -- What the file of the words holds, where there is one and that is told.
 abbrev pub held_by : (List ℕ → Option (List ℕ)) → Option (List ℕ) → Option (List ℕ)
 held_by contents named = option_and_then contents named
@@ -119,12 +128,9 @@ status_line status named = if status == 2 then words_line
     else (if status == 5 then codes "out\n"
     else (if status == 8 then codes "memory\n" else [])))
 
--- The line of a status: at 3 it tells of the first fault of what was read of the file.
-abbrev pub IsLine : ℕ → Option (List ℕ) → Option (List ℕ) → List ℕ → Type 0
-IsLine status held named line = if status == 3 then IsRefused held line else line ≡ status_line status named
-
--- The sink was given just the line of the status.
+-- The sink was given just the line of the status. At 3 it tells of the first fault of what was read of the file.
 pub record TellsStatus (status : ℕ) (held named : Option (List ℕ)) (old now : Option (List ℕ)) (before after : ℕ) : Type 0 where
   pub line : List ℕ
-  pub right : IsLine status held named line
+  pub faulty : status ≡ 3 → IsRefused held line
+  pub plain : status ≢ 3 → line ≡ status_line status named
   pub told : Told old now before after line

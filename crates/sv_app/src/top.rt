@@ -5,7 +5,7 @@ ghost use Rattle.sv_bytes.specs.Writing.{Told};
 ghost use Rattle.sv_scenario.specs.Limits.{IsGoodScenario};
 ghost use Rattle.sv_scenario.specs.Lines.{fault_line};
 ghost use Rattle.sv_scenario.specs.Scenarios.{scenario_of};
-ghost use Rattle.sv_app.specs.Statuses.{read_limit, Replays, ReportOrFault, IsPrinted, IsCutShort, IsRefused, IsScenario, IsNoScenario, IsRun, TellsStatus, held_by, file_line, line_of};
+ghost use Rattle.sv_app.specs.Statuses.{read_limit, Replays, ReportOrFault, IsPrinted, IsCutShort, IsRefused, IsScenario, IsNoScenario, IsRun, TellsStatus, held_by, file_line, line_of, status_of};
 ghost use Rattle.sv_app.specs.Words.{named_file};
 
 use crate::words::named_file;
@@ -51,15 +51,13 @@ fn report_of(alloc: Global, bytes: &[u8]) -> Result<String, ReadFault>
     Ok(replayed(alloc, &scenario)?)
 }
 
-/// The ending of contents that are no scenario.
-fn refused(alloc: Global, fault: &ScenarioFault) -> Ending
-    ensures { (result ≡ Ending.Memory) ⊎ (line : String Global) × (result ≡ Ending.Scenario line) × (string_bytes line ≡ fault_line fault.now) }
+/// The line that tells of a fault.
+fn line_of_fault(alloc: Global, fault: &ScenarioFault) -> Result<String, AllocError>
+    ensures { IfOk result (λ line. string_bytes line ≡ fault_line fault.now) }
 {
     let mut line = String::new(alloc);
-    match append_fault_line(fault, &mut line) {
-        Ok(()) => Ending::Scenario(line),
-        Err(_) => Ending::Memory,
-    }
+    append_fault_line(fault, &mut line)?;
+    Ok(line)
 }
 
 fn replay<F: Files, K: Sink>(alloc: Global, name: &str, files: &mut F, out: &mut K) -> Ending
@@ -74,7 +72,12 @@ fn replay<F: Files, K: Sink>(alloc: Global, name: &str, files: &mut F, out: &mut
     };
     let text = match report_of(alloc, &bytes) {
         Ok(text) => text,
-        Err(ReadFault::Scenario(fault)) => return refused(alloc, &fault),
+        Err(ReadFault::Scenario(fault)) => {
+            return match line_of_fault(alloc, &fault) {
+                Ok(line) => Ending::Scenario(line),
+                Err(_) => Ending::Memory,
+            };
+        }
         Err(ReadFault::Memory) => return Ending::Memory,
     };
     if write_all(out, text.as_bytes()) {
@@ -123,10 +126,23 @@ fn tell_file<E: Sink>(name: &str, err: &mut E) -> bool
     write_pieces(err, &[b"file: ", name.as_bytes(), b"\n"])
 }
 
+/// The status of an ending.
+fn status_of(ending: &Ending) -> u8
+    ensures { result ≡ status_of ending.now }
+{
+    match ending {
+        Ending::Done => 0,
+        Ending::Words => 2,
+        Ending::Scenario(_) => 3,
+        Ending::File => 4,
+        Ending::Out => 5,
+        Ending::Memory => 8,
+    }
+}
+
 /// Does what the words ask for, and answers the status with which the program ends.
 ///
 /// The words leave out the program's own name. For now the only ones are `replay FILE`.
-#[tactic(auto, using(crate::proofs::Endings::printed_is_scenario, crate::proofs::Endings::cut_is_scenario))]
 pub fn run<F: Files, K: Sink, E: Sink>(
     alloc: Global,
     words: &[String],
@@ -152,12 +168,5 @@ pub fn run<F: Files, K: Sink, E: Sink>(
     let named = named_file(words);
     let ending = decide(alloc, named, files, out);
     tell(&ending, named, err);
-    match ending {
-        Ending::Done => 0,
-        Ending::Words => 2,
-        Ending::Scenario(_) => 3,
-        Ending::File => 4,
-        Ending::Out => 5,
-        Ending::Memory => 8,
-    }
+    status_of(&ending)
 }
