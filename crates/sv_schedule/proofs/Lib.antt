@@ -12,7 +12,7 @@ pub mod DoneShut
 pub mod DoneSound
 pub mod DoneTakes
 pub mod DoneWaits
-pub mod Replays
+pub mod Headline
 pub mod SoundCalls
 pub mod SoundEntries
 pub mod SoundLaws

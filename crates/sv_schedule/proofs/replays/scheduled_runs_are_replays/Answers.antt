@@ -3,7 +3,7 @@ use Rattle.sv_system.proofs.NextReply.{no-fault}
 use Rattle.sv_schedule.specs.Schedule.{scheduled_run, traces_of}
 use Rattle.sv_schedule.proofs.DoneRecords.{scheduled-record, scheduled-scripts}
 use Rattle.sv_schedule.proofs.DoneSound.{stay-sound}
-use Rattle.sv_schedule.proofs.Replays.{is-replay}
+use Rattle.sv_schedule.proofs.Headline.{is-replay}
 use Rattle.sv_schedule.proofs.replays.scheduled_runs_are_replays.Goals as goal
 
 pub returns : goal.returns
