@@ -1,3 +1,5 @@
+ghost use Rattle.std.specs.Prelude.{◌≡◌, IfOk};
+
 use crate::{Undo, Versions};
 use std::alloc::{AllocError, Global};
 use std::test::Fail;
@@ -13,7 +15,9 @@ fn number(value: Option<&Value>) -> Option<i64> {
     value?.as_slice().first().copied()
 }
 
-fn two_objects(alloc: Global) -> Result<Versions, AllocError> {
+fn two_objects(alloc: Global) -> Result<Versions, AllocError>
+    ensures { IfOk result (λ versions. versions.shape.objects ≡ 2) }
+{
     Versions::new(
         alloc,
         Shape {
