@@ -6,6 +6,7 @@ mod clients;
 mod decide;
 mod decision;
 mod deliver;
+mod object;
 mod open;
 mod orphans;
 mod relays;
@@ -14,4 +15,5 @@ mod sequencer;
 mod sessions;
 mod step;
 
+pub use object::Opened;
 pub use sequencer::Sequencer;
