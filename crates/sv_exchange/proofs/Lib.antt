@@ -1,0 +1,7 @@
+pub mod Onward
+pub mod Rests
+pub mod Messages
+pub mod Sizes
+pub mod Kept
+pub mod ByServer
+pub mod ByClient

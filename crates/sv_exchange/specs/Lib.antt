@@ -1,0 +1,4 @@
+pub mod Streams
+pub mod Carried
+pub mod View
+pub mod Invariant
