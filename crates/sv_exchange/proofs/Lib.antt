@@ -5,3 +5,4 @@ pub mod Sizes
 pub mod Kept
 pub mod ByServer
 pub mod ByClient
+pub mod Examples

@@ -19,9 +19,9 @@ pub no_frame_waits : (rest left : List ℕ) → IsUnfinished rest → IsFilled r
 no_frame_waits rest left unfinished filled =
     elim unfinished.1 [
       | inl short ↦ elim filled [
-          | inl full ↦ absurd (omega arith)
-          | inr none ↦ ap (λ (l : List ℕ). first_frame (rest ++ l)) none ∙ (ap first_frame (append-nil rest) ∙ unfinished.0)
-        ]
+        | inl full ↦ absurd (omega arith)
+        | inr none ↦ ap (λ (l : List ℕ). first_frame (rest ++ l)) none ∙ (ap first_frame (append-nil rest) ∙ unfinished.0)
+      ]
       | inr long ↦ no_frame_if_too_long (rest ++ left) long.0 (too_long-append rest left long.0 long.1)
     ]
 

@@ -2,3 +2,4 @@ pub mod Streams
 pub mod Carried
 pub mod View
 pub mod Invariant
+pub mod Worked

@@ -10,8 +10,7 @@ use Rattle.sv_exchange.proofs.exchange.Exchange.next_reply.Goals as goal
 pub returns-in_default-clause-taken : goal.returns-in_default-clause-taken
 returns-in_default-clause-taken c =
     let reads : ReadsOn c.self.inside c.take.new.link c.take.new.self = record { stream = c.take.ensures.same; onward = c.take.ensures.link } in
-    let none = c.in_ok-take.ensures.none (sym c.in_default.ensures.held) in
-    (
+    let none = c.in_ok-take.ensures.none (sym c.in_default.ensures.held) in (
       sym (ap (λ (v : ExchangeView). v.replies) c.self.view_is) ∙ none_waits c.self.inside c.take.new.link c.take.new.self c.self.invariant reads none,
       same_inside c.self.inside c.take.new.link c.take.new.self reads ∙ c.self.view_is,
     )
