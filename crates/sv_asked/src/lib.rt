@@ -1,0 +1,6 @@
+//! What honest clients ask.
+#![tactic(auto)]
+
+mod laws;
+
+pub use laws::requests_are_messages;
