@@ -1,9 +1,9 @@
 -- An evaluation gives numbers of 64 bits, where the numbers that it is given are.
-use Rattle.std.proofs.Common.{◌≡◌, ℕ, zero, suc, ◌+◌, ◌^◌, ◌<◌, ◌≤◌, Bool, true, false, cond, ◌&&◌, List, [], ◌∷◌, length, map, get_or, set, ℤ, pos, negsuc, Option, Some, None, refl, sym, ap, subst, ◌∙◌, arith, FitsSigned}
+use Rattle.std.proofs.Common.{◌≡◌, ℕ, zero, suc, ◌+◌, ◌^◌, ◌<◌, ◌≤◌, Bool, true, false, cond, ◌&&◌, List, [], ◌∷◌, map, get_or, set, ℤ, pos, negsuc, Option, Some, None, refl, sym, subst, ◌∙◌, arith, FitsSigned}
 use Rattle.std.specs.Prelude.{IfSome, option_map, option_and_then, nat_lt, ◌+ℤ◌, ◌-ℤ◌, ◌*ℤ◌, int_lt, int_le, int_div, int_rem, unsigned_abs}
 use Rattle.std.specs.List.{AllByRecursion}
 use Rattle.std.specs.Int.{w64, int_min, int_max}
-use Rattle.std.proofs.lemmas.Bool.{leb-true, and_parts, cases_Bool}
+use Rattle.std.proofs.lemmas.Bool.{leb-true, and_parts}
 use Rattle.std.proofs.lemmas.Int.{fits_signed_from_abs, rem_below}
 use Rattle.sv_world.specs.Sets.{is_in_mask, at_mask}
 use Rattle.sv_world.specs.Trees.{all_true}
@@ -12,15 +12,13 @@ use Rattle.sv_world.specs.declared.action.Expr.{Expr, map-Expr}
 use Rattle.sv_world.specs.declared.action.Expr.TheOpen.{Expr-F}
 use Rattle.sv_world.specs.declared.action.Expr.TheViews.{roll-Expr}
 use Rattle.sv_world.specs.declared.action.Expr.TheFolds.{fold-roll-Expr, ind-Expr}
-use Rattle.sv_world.specs.declared.action.Cond.{Cond}
 use Rattle.sv_world.specs.declared.action.Stmt.{Stmt, map-Stmt}
 use Rattle.sv_world.specs.declared.action.Stmt.TheOpen.{Stmt-F}
 use Rattle.sv_world.specs.declared.action.Stmt.TheViews.{roll-Stmt}
 use Rattle.sv_world.specs.declared.action.Stmt.TheFolds.{fold-roll-Stmt, ind-Stmt}
 use Rattle.sv_eval.specs.Numbers.{is_i64, in_i64, is_zero, sum_of, difference_of, product_of, quotient_of, remainder_of}
 use Rattle.sv_eval.specs.Evaluation.{Slots, number_at, with_number, both, expr_step, expr_number, cond_holds, choose, in_order, stmt_step, stmt_after, body_after, outcome_by, outcome_of}
-use Rattle.sv_eval.specs.declared.outcome.Outcome.{Outcome}
-use Rattle.sv_wire.specs.Ranges.{ValueFits, expr_fits_step, expr_fits, cond_fits, stmt_fits_step, stmt_fits, ActionFits}
+use Rattle.sv_wire.specs.Ranges.{ValueFits, expr_fits_step, expr_fits, cond_fits, stmt_fits_step, stmt_fits}
 
 -- ---- Numbers
 

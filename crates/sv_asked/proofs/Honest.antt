@@ -1,10 +1,10 @@
 -- Each request that an honest client asks is a message.
-use Rattle.std.proofs.Common.{◌≡◌, ℕ, zero, suc, ◌+◌, ◌^◌, ◌<◌, ◌≤◌, Bool, true, false, List, [], ◌∷◌, ◌++◌, length, map, reverse, ℤ, Option, Some, None, slice_get, refl, sym, ap, subst, ◌∙◌, arith}
+use Rattle.std.proofs.Common.{◌≡◌, ℕ, ◌^◌, ◌<◌, ◌≤◌, List, [], ◌∷◌, length, reverse, Some, None, slice_get, sym, subst, arith}
 use Rattle.std.specs.Prelude.{All, slice_index_or}
 use Rattle.std.specs.List.{AllByRecursion}
 use Rattle.std.proofs.lemmas.List.Elements.{recursion_from_All, All-from_recursion}
 use Rattle.sv_world.specs.Sets.{read_set}
-use Rattle.sv_world.specs.Faults.{first_fault_of_action, is_ascending, IsGoodAction}
+use Rattle.sv_world.specs.Faults.{first_fault_of_action, IsGoodAction}
 use Rattle.sv_world.proofs.Good.{good_of_none}
 use Rattle.sv_world.specs.declared.action.Action.{Action}
 use Rattle.sv_world.specs.declared.world.ClientId.{ClientId}
@@ -24,7 +24,7 @@ use Rattle.sv_journal.specs.Laws.{AreWithinLimits, LegalRelaysAreSmall}
 use Rattle.sv_client.specs.declared.trace.Event.{Event}
 use Rattle.sv_client.specs.declared.trace.Event.TheVariants as events
 use Rattle.sv_client.specs.declared.trace.Trace.{Trace}
-use Rattle.sv_client.specs.Traces.{joins, makes, held_of, asked, requests_of}
+use Rattle.sv_client.specs.Traces.{joins, makes, held_of, requests_of}
 use Rattle.sv_client.specs.Taking.{Identity}
 use Rattle.sv_client.specs.Proper.{AreProper, IsGoodIdentity, identity_of}
 use Rattle.sv_system.specs.Fits.{FitsOne, Fits}

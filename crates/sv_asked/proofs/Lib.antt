@@ -6,3 +6,4 @@ pub mod Reported
 pub mod Owned
 pub mod Items
 pub mod Honest
+pub mod Spent

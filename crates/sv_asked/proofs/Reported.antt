@@ -1,5 +1,5 @@
 -- The results that a client reports are within the grammar, where what it holds is serial.
-use Rattle.std.proofs.Common.{◌≡◌, ℕ, suc, ◌+◌, ◌^◌, ◌<◌, ◌≤◌, Bool, true, false, cond, ◌||◌, List, [], ◌∷◌, ◌++◌, length, map, ℤ, Option, Some, None, refl, sym, ap, subst, ◌∙◌, arith}
+use Rattle.std.proofs.Common.{◌≡◌, ℕ, suc, ◌+◌, ◌^◌, ◌<◌, ◌≤◌, Bool, true, false, cond, List, [], ◌∷◌, ◌++◌, length, map, ℤ, refl, sym, ap, subst, ◌∙◌, arith}
 use Rattle.std.specs.Prelude.{slice_index_or, unwrap_or}
 use Rattle.std.proofs.lemmas.List.{length-map}
 use Rattle.std.specs.List.{AllByRecursion}
@@ -69,8 +69,7 @@ module _ (attrs : ℕ) (opening : List (List ℤ)) (acts : List Action) (some : 
       let count : length (item_result held item) ≡ length (write_set a) = outcome_counted a values as_many in
       let written : length (write_set a) ≤ length (read_set a) = mask-fewer a.mask 0 (read_set a) in
       let reads : length (read_set a) ≡ length a.reads = length-map a.reads (λ (o : ObjectId). o.0) in
-      let goods = values-good item.pos (write_set a) (item_result held item) count (mask_fits (λ x. x < length opening) a.mask 0 (read_set a) fine.within) h in
-      (
+      let goods = values-good item.pos (write_set a) (item_result held item) count (mask_fits (λ x. x < length opening) a.mask 0 (read_set a) fine.within) h in (
         record {
           few = omega (arith, fine.few);
           values = All-from_recursion IsWireValue (item_result held item) (each-more (IsGoodValue attrs) IsWireValue wire-value (item_result held item) goods);
@@ -86,11 +85,10 @@ module _ (attrs : ℕ) (opening : List (List ℤ)) (acts : List Action) (some : 
 
   results-fine : (held : List Held) (items : List Item) → AllByRecursion (IsFineItem (length opening)) items → AllByRecursion Serial (with_items held items) → AllByRecursion IsFineResult (results_of held items)
   results-fine held [] fine h = tt
-  results-fine held (item ∷ items) fine h =
-      (
-        result-fine held item fine.0 (each-right Serial held (item_held held item) (items-front (held ++ item_held held item) items h)),
-        results-fine (held ++ item_held held item) items fine.1 h,
-      )
+  results-fine held (item ∷ items) fine h = (
+    result-fine held item fine.0 (each-right Serial held (item_held held item) (items-front (held ++ item_held held item) items h)),
+    results-fine (held ++ item_held held item) items fine.1 h,
+  )
 
   reply-front : (held : List Held) (reply : Reply) → AllByRecursion Serial (with_reply held reply) → AllByRecursion Serial held
   reply-front held (replies.Welcome commit head) h = each-left Serial held (head_held commit head) h
@@ -130,10 +128,10 @@ module _ (attrs : ℕ) (opening : List (List ℤ)) (acts : List Action) (some : 
       let each = results-fine held items fine (held-part (events.Got s (replies.Relay seq commit head items) ∷ before) u part h) in
       record {
         within =
-          record {
-            some = omega (arith, results-count held items, one);
-            few = omega (arith, results-count held items, most);
-            each = All-from_recursion IsWireResult results (each-more IsFineResult IsWireResult (λ d f. f.0) results each);
-          };
+            record {
+              some = omega (arith, results-count held items, one);
+              few = omega (arith, results-count held items, most);
+              each = All-from_recursion IsWireResult results (each-more IsFineResult IsWireResult (λ d f. f.0) results each);
+            };
         fits = each-more IsFineResult ResultFits (λ d f. f.1) results each;
       }

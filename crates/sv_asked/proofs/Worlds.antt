@@ -1,13 +1,12 @@
 -- The values of serial worlds have as many numbers as the shape has attributes, each of 64 bits.
-use Rattle.std.proofs.Common.{◌≡◌, ℕ, zero, suc, ◌+◌, ◌<◌, ◌≤◌, Bool, true, List, [], ◌∷◌, length, map, get_or, set, ℤ, Option, Some, None, refl, sym, ap, subst, arith}
+use Rattle.std.proofs.Common.{◌≡◌, ℕ, zero, suc, ◌<◌, true, List, [], ◌∷◌, length, map, set, ℤ, arith}
 use Rattle.std.specs.Prelude.{All, slice_get, slice_index_or}
 use Rattle.std.specs.List.{AllByRecursion}
 use Rattle.sv_world.specs.Sets.{read_set, write_set}
 use Rattle.sv_world.specs.Trees.{all_true}
 use Rattle.sv_world.specs.declared.action.Action.{Action}
 use Rattle.sv_eval.specs.Evaluation.{Slots, outcome_of}
-use Rattle.sv_eval.specs.Serial.{values_at, put_all, world_after, world_after_some, serial_world}
-use Rattle.sv_eval.specs.declared.outcome.Outcome.{Outcome}
+use Rattle.sv_eval.specs.Serial.{values_at, put_all, world_after_some, serial_world}
 use Rattle.sv_eval.proofs.Serials.{serial_length, serial_shaped}
 use Rattle.sv_wire.specs.Ranges.{ValueFits, stmt_fits}
 use Rattle.sv_asked.proofs.Every.{each-get}

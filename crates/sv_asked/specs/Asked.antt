@@ -1,5 +1,5 @@
 -- What is said of the requests that honest clients ask.
-use Rattle.std.specs.Prelude.{◌≡◌, ℕ, ◌^◌, ◌<◌, ◌≤◌, List, length, slice_get, Some, All}
+use Rattle.std.specs.Prelude.{◌≡◌, ℕ, ◌*◌, ◌^◌, ◌<◌, ◌≤◌, List, length, slice_get, Some, All}
 use Rattle.sv_wire.specs.Ranges.{ValueFits, ActionFits}
 use Rattle.sv_wire.specs.Laws.{IsRequest}
 use Rattle.sv_journal.specs.declared.entry.Entry.{Entry}
@@ -29,3 +29,7 @@ pub record HasNumbers (r : Rules) (h : List Entry) (Ls : List Trace) : Type 0 wh
 abbrev pub RequestsAreMessages : Type 0
 RequestsAreMessages = (r : Rules) (h : List Entry) (Ls : List Trace) (i : ℕ) (L : Trace) (s : ℕ) → AreWithinLimits r → HasNumbers r h Ls →
     Legal r h → Fits r.world.shape h Ls → slice_get Ls i ≡ Some L → All IsRequest (requests_of L s)
+
+-- Each session may make 1,024 requests, so a journal of so many sessions accepts at most so many actions.
+abbrev pub AcceptedAreFew : Type 0
+AcceptedAreFew = (r : Rules) (h : List Entry) (sessions : ℕ) → Legal r h → All (λ (e : Entry). e.session < sessions) h → length (accepted h) ≤ 1024 * sessions

@@ -1,5 +1,5 @@
 //! Laws of what is asked.
-ghost use Rattle.sv_asked.specs.Asked.{RequestsAreMessages};
+ghost use Rattle.sv_asked.specs.Asked.{AcceptedAreFew, RequestsAreMessages};
 
 use sv_journal::legal_relays_are_small;
 use sv_system::{legal_journals_make_lawful_deliveries, replicas_equal_serial_execution};
@@ -16,3 +16,8 @@ pub fn requests_are_messages()
     legal_journals_make_lawful_deliveries();
     replicas_equal_serial_execution();
 }
+
+/// A legal journal of so many sessions accepts at most 1,024 actions for each of them, whatever its clients ask.
+pub fn accepted_are_few()
+    ensures { AcceptedAreFew }
+{}

@@ -3,4 +3,4 @@
 
 mod laws;
 
-pub use laws::requests_are_messages;
+pub use laws::{accepted_are_few, requests_are_messages};
