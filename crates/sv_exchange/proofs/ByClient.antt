@@ -1,5 +1,5 @@
 -- The replies of an exchange: one is sent, none waits, or the first is taken.
-use Rattle.std.proofs.Common.{◌≡◌, ℕ, ◌≤◌, List, [], ◌∷◌, ◌++◌, length, Option, Some, None, refl, sym, ap, subst, ◌∙◌}
+use Rattle.std.proofs.Common.{◌≡◌, ℕ, ◌≤◌, List, [], ◌∷◌, ◌++◌, length, Some, None, sym, ap, subst, ◌∙◌}
 use Rattle.sv_frame.specs.Frames.{frame, first_frame}
 use Rattle.sv_link.specs.declared.side.Side.TheVariants.{Client, Server}
 use Rattle.sv_link.specs.Sides.{SideView, LinkView, unread, after_write, with_side}
@@ -9,8 +9,7 @@ use Rattle.sv_wire.specs.Messages.{reply_at}
 use Rattle.sv_wire.specs.Spelling.{reply_bytes}
 use Rattle.sv_exchange.specs.declared.exchange.Exchange.TheInside.{Inside}
 use Rattle.sv_exchange.specs.Streams.{InboxView, not_taken, IsWithin, IsReadOn}
-use Rattle.sv_exchange.specs.View.{ExchangeView}
-use Rattle.sv_exchange.specs.Invariant.{replies_in, requests_in, reply_stream, request_stream, view_of, IsExchange, CarriesReplies, CarriesRequests}
+use Rattle.sv_exchange.specs.Invariant.{replies_in, requests_in, reply_stream, view_of, IsExchange, CarriesReplies, CarriesRequests}
 use Rattle.sv_exchange.proofs.Messages.{carried_end, ComesFirst, carried_first}
 use Rattle.sv_exchange.proofs.Sizes.{replies_spelled}
 use Rattle.sv_exchange.proofs.Kept.{replies_are, replies_kept, reply_sent, within-written, same_view_back, held_first}

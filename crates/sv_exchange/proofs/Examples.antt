@@ -1,7 +1,6 @@
 -- The messages of the small run are within the grammar, and their numbers are those of their types.
 use Rattle.std.specs.Prelude.{All}
-use Rattle.std.proofs.Common.{◌≡◌, ℕ, ◌+◌, ◌<◌, ◌≤◌, Bool, true, List, [], ◌∷◌, length, map, max, ℤ, pos, refl, sym, ap, subst, ◌∙◌, arith, rules, FitsSigned}
-use Rattle.std.specs.List.{AllByRecursion}
+use Rattle.std.proofs.Common.{◌≡◌, ℕ, ◌+◌, ◌≤◌, Bool, true, [], ◌∷◌, map, pos, refl, ap, ◌∙◌, arith}
 use Rattle.std.specs.Int.{w32, w64}
 use Rattle.std.proofs.lemmas.Int.{fits_signed_from_abs}
 use Rattle.std.proofs.lemmas.List.Elements.{All-from_recursion}
@@ -10,15 +9,12 @@ use Rattle.sv_world.specs.declared.action.Stmt.TheVariants as stmts
 use Rattle.sv_world.specs.declared.action.Expr.TheVariants as exprs
 use Rattle.sv_wire.specs.declared.message.Held.{Held}
 use Rattle.sv_wire.specs.declared.message.Item.{Item}
-use Rattle.sv_wire.specs.declared.message.Done1.{Done1}
-use Rattle.sv_wire.specs.declared.message.Request.{Request}
 use Rattle.sv_wire.specs.declared.message.Request.TheVariants as requests
-use Rattle.sv_wire.specs.declared.message.Reply.{Reply}
 use Rattle.sv_wire.specs.declared.message.Reply.TheVariants as replies
 use Rattle.sv_wire.specs.Grammar.{IsWireValue, IsWireAction, IsWireHead, IsWireResult}
 use Rattle.sv_wire.specs.declared.nodes.Operator.TheVariants as operators
 use Rattle.sv_wire.proofs.Layers.{nodes_by, depth_by, fits_by, attr_fold, attr_nodes, attr_depth, lit_nodes, lit_depth, lit_fits, set_nodes, set_depth, set_fits}
-use Rattle.sv_wire.specs.Ranges.{expr_fits_step, expr_fits, stmt_fits, ActionFits, ItemFits, HeldFits, ResultFits}
+use Rattle.sv_wire.specs.Ranges.{expr_fits_step, expr_fits, stmt_fits, ActionFits, ItemFits, HeldFits}
 use Rattle.sv_wire.specs.Laws.{IsRequest, IsReply}
 use Rattle.sv_exchange.specs.Worked.{one_more, adding, added_item, opening, added_result}
 

@@ -1,7 +1,7 @@
 -- What is kept of an exchange's streams.
-use Rattle.std.proofs.Common.{◌≡◌, ℕ, ◌+◌, ◌≤◌, Bool, List, [], ◌∷◌, ◌++◌, length, drop, Option, Some, None, Result, Ok, Err, refl, sym, ap, subst, ◌∙◌, append_assoc, arith, length-append}
+use Rattle.std.proofs.Common.{◌≡◌, ℕ, Bool, List, [], ◌∷◌, ◌++◌, Option, Some, None, Result, Ok, Err, refl, sym, ap, subst, ◌∙◌, append_assoc, arith, length-append}
 use Rattle.std.proofs.lemmas.List.{drop-append-le}
-use Rattle.sv_frame.specs.Frames.{frame, FitsFrame, first_frame}
+use Rattle.sv_frame.specs.Frames.{frame}
 use Rattle.sv_link.specs.Sides.{SideView, new_side, unread, after_write}
 use Rattle.sv_wire.specs.declared.message.Request.{Request}
 use Rattle.sv_wire.specs.declared.message.Reply.{Reply}
@@ -14,7 +14,7 @@ use Rattle.sv_wire.specs.Spelling.{request_bytes, reply_bytes}
 use Rattle.sv_exchange.specs.Streams.{InboxView, held_frame, not_taken, IsWithin}
 use Rattle.sv_exchange.specs.View.{ExchangeView}
 use Rattle.sv_exchange.specs.Invariant.{requests_in, replies_in, CarriesRequests, CarriesReplies}
-use Rattle.sv_exchange.proofs.Messages.{messages_are, carried_last, carried_end, ComesFirst, carried_first}
+use Rattle.sv_exchange.proofs.Messages.{messages_are, carried_last}
 use Rattle.sv_exchange.proofs.Sizes.{requests_spelled, replies_spelled}
 
 -- the messages of a stream are those that are read in it

@@ -6,3 +6,4 @@ pub mod Kept
 pub mod ByServer
 pub mod ByClient
 pub mod Examples
+pub mod Great

@@ -1,9 +1,8 @@
 -- Which messages a stream carries.
-use Rattle.std.proofs.Common.{◌≡◌, ℕ, ◌≤◌, List, [], ◌∷◌, ◌++◌, length, map, Option, Some, None, Result, Ok, Err, refl, sym, ap, subst, ◌∙◌, append_assoc, arith, length-append}
+use Rattle.std.proofs.Common.{◌≡◌, ℕ, List, [], ◌∷◌, ◌++◌, length, map, None, Result, Ok, refl, sym, ap, ◌∙◌, append_assoc, arith, length-append}
 use Rattle.std.specs.List.{AllByRecursion}
 use Rattle.std.proofs.lemmas.List.{append-nil, map-append}
 use Rattle.sv_frame.specs.Frames.{frame, frames_of, FitsFrame, first_frame}
-use Rattle.sv_frame.specs.Streams.{split_frames}
 use Rattle.sv_frame.proofs.Fronts.{length-frame, first_frame-frame}
 use Rattle.sv_frame.proofs.Splitting.{split-all_frames, frames-apart}
 use Rattle.sv_exchange.specs.Carried.{message_before, messages_of, messages_in, IsStreamOf}

@@ -1,5 +1,5 @@
 -- What a read leaves of a link.
-use Rattle.std.proofs.Common.{◌≡◌, ℕ, ◌+◌, ◌-◌, ◌<◌, ◌≤◌, List, [], ◌∷◌, ◌++◌, length, take, drop, refl, sym, ap, subst, ◌∙◌, append_assoc, arith, length-append, length-take, length-drop}
+use Rattle.std.proofs.Common.{◌≡◌, ℕ, ◌≤◌, List, ◌++◌, length, take, drop, refl, sym, ap, subst, ◌∙◌, append_assoc, arith, length-drop}
 use Rattle.std.proofs.lemmas.List.{take-append-drop, drop-drop, take_at, length-take-le}
 use Rattle.sv_link.specs.declared.side.Side.{Side}
 use Rattle.sv_link.specs.declared.side.Side.TheVariants.{Server, Client}

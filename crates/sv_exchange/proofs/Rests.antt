@@ -1,10 +1,10 @@
 -- When no frame waits.
-use Rattle.std.proofs.Common.{◌≡◌, ℕ, ◌<◌, ◌≤◌, List, [], ◌++◌, length, Option, Some, None, refl, sym, ap, subst, ◌∙◌, arith, ◌⊎◌, inl, inr, Bor}
+use Rattle.std.proofs.Common.{◌≡◌, ℕ, List, [], ◌++◌, Option, Some, None, refl, sym, ap, subst, ◌∙◌, arith, inl, inr, Bor}
 use Rattle.std.proofs.lemmas.List.{append-nil}
 use Rattle.sv_frame.specs.declared.reader.Next.{Next}
 use Rattle.sv_frame.specs.declared.reader.Next.TheVariants.{Frame, NotYet, TooLong}
 use Rattle.sv_frame.specs.Answers.{IsAnswer, LeavesRoom, IsRestAfter}
-use Rattle.sv_frame.specs.Frames.{frame, first_frame, too_long}
+use Rattle.sv_frame.specs.Frames.{first_frame}
 use Rattle.sv_frame.proofs.Fronts.{no_frame_if_too_long, too_long-append}
 use Rattle.sv_exchange.specs.Streams.{IsUnfinished, IsFilled, held_frame}
 

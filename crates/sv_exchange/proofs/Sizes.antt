@@ -1,6 +1,5 @@
 -- Payloads are short, and are read as their messages.
-use Rattle.std.proofs.Common.{◌≡◌, ℕ, ◌≤◌, List, [], ◌∷◌, ◌++◌, length, Result, Ok, Err, refl, ap, ◌∙◌, arith, length-append}
-use Rattle.sv_wire.specs.declared.fault.Stop.{Stop}
+use Rattle.std.proofs.Common.{◌≡◌, ℕ, ◌≤◌, List, [], ◌∷◌, ◌++◌, length, Ok, Err, refl, arith, length-append}
 use Rattle.sv_wire.specs.declared.fault.WireCause.TheVariants.{Rest}
 use Rattle.sv_wire.specs.declared.message.Request.{Request}
 use Rattle.sv_wire.specs.declared.message.Reply.{Reply}

@@ -1,7 +1,7 @@
 ghost use Rattle.std.specs.Prelude.{◌≡◌, false, [], ◌∷◌, pos, IfOk, OnOk};
 ghost use Rattle.sv_world.specs.declared.action.Stmt.TheVariants as stmts;
 ghost use Rattle.sv_wire.specs.Laws.{IsRequest, IsReply};
-ghost use Rattle.sv_exchange.specs.Worked.{one_more, adding, added_item, opening, added_result};
+ghost use Rattle.sv_exchange.specs.Worked.{one_more, adding, added_item, opening, added_result, greatest, great_heads, great_reads, great_body, great_action, great_items};
 
 use crate::Exchange;
 use std::alloc::{AllocError, Global};
@@ -319,5 +319,128 @@ fn what_was_sent_comes_after_closing(rt: HostRuntime) -> Result<(), Fail> {
     exchange.close_server();
     takes_request(&rt, &mut exchange, 1)?;
     takes_reply(&rt, &mut exchange, 1)?;
+    Ok(())
+}
+
+fn great_value(alloc: Global) -> Result<Value, AllocError>
+    ensures { IfOk result (λ value. value ≡ greatest ∷ greatest ∷ greatest ∷ greatest ∷ []) }
+{
+    let mut value = List::new(alloc);
+    value.push(i64::MAX)?;
+    value.push(i64::MAX)?;
+    value.push(i64::MAX)?;
+    value.push(i64::MAX)?;
+    Ok(value)
+}
+
+#[tactic(auto, using(crate::proofs::Great::heads_more))]
+fn great_head(alloc: Global) -> Result<List<Held>, AllocError>
+    ensures { IfOk result (λ head. head ≡ great_heads 528) }
+{
+    let mut head = List::new(alloc);
+    for object in 0..528u16 {
+        head.push(Held {
+            object: ObjectId(object),
+            value: great_value(alloc)?,
+        })?;
+    }
+    Ok(head)
+}
+
+#[tactic(auto, using(crate::proofs::Great::reads_more))]
+fn great_reading(alloc: Global) -> Result<List<ObjectId>, AllocError>
+    ensures { IfOk result (λ reads. reads ≡ great_reads 16) }
+{
+    let mut reads = List::new(alloc);
+    for object in 0..16u16 {
+        reads.push(ObjectId(object))?;
+    }
+    Ok(reads)
+}
+
+#[tactic(auto, using(crate::proofs::Great::body_more))]
+fn great_statements(alloc: Global) -> Result<List<Stmt>, AllocError>
+    ensures { IfOk result (λ body. body ≡ great_body 32) }
+{
+    let mut body = List::new(alloc);
+    for _ in 0..32u8 {
+        body.push(Stmt::Set {
+            slot: 0,
+            attr: 0,
+            expr: Expr::Lit(i64::MAX),
+        })?;
+    }
+    Ok(body)
+}
+
+fn great_acting(alloc: Global) -> Result<Action, AllocError>
+    ensures { IfOk result (λ action. action ≡ great_action) }
+{
+    Ok(Action {
+        reads: great_reading(alloc)?,
+        mask: 65_535,
+        origin: Point { x: 0, y: 0 },
+        body: great_statements(alloc)?,
+    })
+}
+
+#[tactic(auto, using(crate::proofs::Great::items_more))]
+fn great_list(alloc: Global) -> Result<List<Item>, AllocError>
+    ensures { IfOk result (λ items. items ≡ great_items 33) }
+{
+    let mut items = List::new(alloc);
+    for _ in 0..33u8 {
+        items.push(Item {
+            pos: 1,
+            client: ClientId(31),
+            seq: 1,
+            action: great_acting(alloc)?,
+        })?;
+    }
+    Ok(items)
+}
+
+#[tactic(auto, using(crate::proofs::Great::great_is))]
+fn great_relay(alloc: Global) -> Result<Reply, AllocError>
+    ensures { IfOk result IsReply }
+{
+    Ok(Reply::Relay {
+        seq: 1,
+        commit: 0,
+        head: great_head(alloc)?,
+        items: great_list(alloc)?,
+    })
+}
+
+/// Takes a reply that is a great relay.
+fn takes_great(rt: &impl Abort, alloc: Global, exchange: &mut Exchange) -> Result<(), Fail> {
+    let taken = exchange.next_reply()?.ok_or("a relay waits")?;
+    let written = encode_reply(alloc, &taken)?;
+    assert!(rt; written.len() == 32_946);
+    assert!(rt; written.starts_with(&[0x89, 0, 0, 0, 1, 0, 0, 0, 0, 2, 16, 0, 0, 4, 0x7f, 0xff]));
+    Ok(())
+}
+
+fn send_great(exchange: &mut Exchange, relay: &Reply) -> Result<(), AllocError>
+    requires message { IsReply relay.now }
+    requires open { exchange.old.server_closed ≡ false }
+{
+    exchange.send_reply(relay)?;
+    exchange.send_reply(relay)?;
+    exchange.send_reply(relay)?;
+    Ok(())
+}
+
+/// Three of them are more bytes than a reader has room for.
+#[test]
+fn great_relays_wait(rt: HostRuntime) -> Result<(), Fail> {
+    let alloc = rt.alloc();
+    let mut exchange = Exchange::new(alloc)?;
+    let relay = great_relay(alloc)?;
+    send_great(&mut exchange, &relay)?;
+    takes_great(&rt, alloc, &mut exchange)?;
+    takes_great(&rt, alloc, &mut exchange)?;
+    takes_great(&rt, alloc, &mut exchange)?;
+    takes_reply(&rt, &mut exchange, 0)?;
     Ok(())
 }

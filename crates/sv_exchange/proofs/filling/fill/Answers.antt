@@ -1,4 +1,4 @@
-use Rattle.std.proofs.Common.{◌≡◌, ℕ, ◌≤◌, List, ◌++◌, length, take, drop, sym, ◌∙◌, arith}
+use Rattle.std.proofs.Common.{◌≤◌, length, take, drop, ◌∙◌, arith}
 use Rattle.sv_link.specs.Sides.{other, side_of, unread}
 use Rattle.sv_exchange.proofs.Onward.{read_on_more, unread_after, moved}
 use Rattle.sv_exchange.proofs.filling.fill.Goals as goal

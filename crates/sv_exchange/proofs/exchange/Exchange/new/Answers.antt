@@ -1,9 +1,9 @@
-use Rattle.std.proofs.Common.{◌≡◌, ℕ, ◌≤◌, List, [], length, None, refl, sym, ap, subst, ◌∙◌, arith}
+use Rattle.std.proofs.Common.{◌≡◌, [], None, sym, ap, subst, arith}
 use Rattle.sv_link.specs.Sides.{SideView, LinkView, new_side}
 use Rattle.sv_wire.specs.Laws.{IsRequest, IsReply}
 use Rattle.sv_wire.specs.Spelling.{request_bytes, reply_bytes}
 use Rattle.sv_exchange.specs.Streams.{InboxView, not_taken, IsWithin}
-use Rattle.sv_exchange.specs.Invariant.{requests_in, replies_in, CarriesRequests, CarriesReplies}
+use Rattle.sv_exchange.specs.Invariant.{CarriesRequests, CarriesReplies}
 use Rattle.sv_exchange.proofs.Messages.{carried_none}
 use Rattle.sv_exchange.proofs.Kept.{requests_are, replies_are, requests_kept, replies_kept, nothing_taken, same_view}
 use Rattle.sv_exchange.proofs.exchange.Exchange.new.Goals as goal

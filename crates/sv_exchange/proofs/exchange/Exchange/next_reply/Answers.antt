@@ -1,4 +1,4 @@
-use Rattle.std.proofs.Common.{◌≡◌, ℕ, ◌≤◌, List, [], ◌∷◌, length, Some, Err, refl, sym, ap, subst, ◌∙◌}
+use Rattle.std.proofs.Common.{Err, sym, ap, subst, ◌∙◌}
 use Rattle.sv_exchange.specs.Streams.{InboxView, IsShortIfHeld}
 use Rattle.sv_wire.specs.Laws.{IsReply}
 use Rattle.sv_exchange.specs.View.{ExchangeView}

@@ -1,7 +1,7 @@
 use Rattle.std.proofs.Common.{◌≡◌, ℕ, ◌≤◌, List, [], ◌∷◌, ◌++◌, length, sym, ap, subst, ◌∙◌}
 use Rattle.sv_frame.specs.Frames.{frame}
 use Rattle.sv_link.specs.declared.side.Side.TheVariants.{Client}
-use Rattle.sv_link.specs.Sides.{LinkView, after_write, with_side}
+use Rattle.sv_link.specs.Sides.{after_write, with_side}
 use Rattle.sv_wire.specs.Spelling.{request_bytes}
 use Rattle.sv_exchange.specs.View.{ExchangeView}
 use Rattle.sv_exchange.proofs.Sizes.{request_short}

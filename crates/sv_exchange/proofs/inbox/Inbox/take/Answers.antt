@@ -1,7 +1,7 @@
-use Rattle.std.proofs.Common.{◌≡◌, List, ℕ, [], ◌++◌, None, sym, ap, subst, ◌∙◌}
+use Rattle.std.proofs.Common.{◌≡◌, List, ℕ, ◌++◌, sym, ap, subst, ◌∙◌}
 use Rattle.sv_link.specs.Sides.{other, side_of, unread}
 use Rattle.sv_frame.specs.Frames.{first_frame}
-use Rattle.sv_exchange.specs.Streams.{held_frame, IsFilled}
+use Rattle.sv_exchange.specs.Streams.{IsFilled}
 use Rattle.sv_exchange.proofs.Rests.{no_frame_waits, nothing_held}
 use Rattle.sv_exchange.proofs.inbox.Inbox.take.Goals as goal
 

@@ -1,5 +1,5 @@
-use Rattle.std.proofs.Common.{◌≡◌, List, ℕ, [], ◌++◌, None, option_map, sym, ap, ◌∙◌}
-use Rattle.sv_exchange.specs.Streams.{InboxView, held_frame}
+use Rattle.std.proofs.Common.{List, ℕ, ◌++◌, option_map, ap, ◌∙◌}
+use Rattle.sv_exchange.specs.Streams.{InboxView}
 use Rattle.sv_exchange.proofs.Rests.{not_frame_leaves, nothing_held}
 use Rattle.sv_exchange.proofs.inbox.Inbox.take_read.Goals as goal
 

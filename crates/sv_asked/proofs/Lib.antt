@@ -1,0 +1,9 @@
+pub mod Every
+pub mod Evaluated
+pub mod Worlds
+pub mod Made
+pub mod Reported
+pub mod Owned
+pub mod Items
+pub mod Honest
+pub mod Spent
