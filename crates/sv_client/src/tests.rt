@@ -1,6 +1,5 @@
 //! Clients of two objects, with replies handed in by hand.
 ghost use Rattle.std.specs.Prelude.{◌≡◌, ◌<◌, [], ◌∷◌, IfOk, if◌then◌else◌};
-ghost use Rattle.sv_client.specs.Seen.{new_client};
 
 mod data;
 mod rows;

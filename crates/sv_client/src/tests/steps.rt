@@ -1,6 +1,5 @@
 //! What a client does, step by step, and what it is to answer.
-ghost use Rattle.std.specs.Prelude.{◌≡◌, ◌<◌, ◌≤◌};
-ghost use Rattle.sv_client.specs.Taking.{told};
+ghost use Rattle.std.specs.Prelude.{◌≡◌};
 
 use super::data::{Answer, Deed, action_of, objects_of, reply_of};
 use crate::{Client, Mark, TakeFault, View};
