@@ -1,0 +1,5 @@
+pub mod Turns
+pub mod Events
+pub mod Doing
+pub mod Apart
+pub mod Channels
