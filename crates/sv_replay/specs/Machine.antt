@@ -1,6 +1,6 @@
 -- The machine that plays a scenario, and the run that it stands for.
 -- A history is the list of a journal's entries with the latest first; events stand with the latest first too.
-use Rattle.std.specs.Prelude.{◌≡◌, ℕ, ◌<◌, Bool, false, ◌||◌, List, ◌∷◌, ◌++◌, map, length, reverse, slice_index_or, All}
+use Rattle.std.specs.Prelude.{◌≡◌, ℕ, ◌<◌, Bool, true, false, ◌||◌, List, ◌∷◌, ◌++◌, map, length, reverse, slice_index_or, All}
 use Rattle.sv_wire.specs.declared.message.Reply.{Reply}
 use Rattle.sv_wire.specs.declared.message.Request.{Request}
 use Rattle.sv_client.specs.declared.trace.Event.{Event}

@@ -6,7 +6,8 @@ ghost use Rattle.sv_scenario.specs.declared.scenario.Step.TheVariants as steps;
 ghost use Rattle.sv_script.specs.Following.{must_join};
 ghost use Rattle.sv_schedule.specs.Schedule.{player_turn, next_step, last_steps, open_session, takes, is_calm, is_settled};
 ghost use Rattle.sv_replay.specs.Channel.{ChannelView};
-ghost use Rattle.sv_replay.specs.Machine.{player_of, session_of, AreFlags, IsFit, IsReady, Does, Moved};
+ghost use Rattle.sv_replay.specs.Players.{session_of, IsFit};
+ghost use Rattle.sv_replay.specs.Machine.{player_of, AreFlags, IsReady, Does, Moved};
 
 use crate::channel::Channel;
 use std::alloc::{AllocError, Global};

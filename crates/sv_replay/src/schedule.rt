@@ -1,4 +1,4 @@
-ghost use Rattle.std.specs.Prelude.{◌≡◌, reverse};
+ghost use Rattle.std.specs.Prelude.{◌≡◌, reverse, IfOk};
 ghost use Rattle.sv_scenario.specs.Limits.{IsGoodScenario};
 ghost use Rattle.sv_schedule.specs.Schedule.{scheduled_run, traces_of};
 ghost use Rattle.sv_schedule.specs.Records.{IsPlayed, IsReplay};
