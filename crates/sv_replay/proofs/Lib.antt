@@ -3,3 +3,4 @@ pub mod Events
 pub mod Doing
 pub mod Apart
 pub mod Channels
+pub mod Moving

@@ -110,7 +110,10 @@ impl<'a> Playing<'a> {
         match step {
             Step::Act(action) => self.act(alloc, channel, action, rest),
             Step::Poll => self.poll(channel, rest),
-            Step::Sync => self.sync(rest),
+            Step::Sync => {
+                self.sync(rest);
+                Ok(())
+            }
             Step::Show(objects) => self.show(alloc, objects, rest),
             Step::Cut => self.cut(channel, rest),
             Step::Quit => self.quit(channel, rest),
@@ -158,6 +161,7 @@ impl<'a> Playing<'a> {
         rest: &'a [Step],
     ) -> Result<(), AllocError>
         requires flags { AreFlags self.old }
+        requires ready { IsReady self.old }
         requires may { MayMake self.old.client.who self.old.client.events action.now }
         ensures { OnOk result (Does (events.Make action.now) rest.now self.old.closed self.old self.new channel.old channel.new) }
     {
@@ -187,6 +191,7 @@ impl<'a> Playing<'a> {
     /// Asks for an abandoned action.
     fn ask(&mut self, channel: &mut Channel, rest: &'a [Step]) -> Result<(), AllocError>
         requires flags { AreFlags self.old }
+        requires ready { IsReady self.old }
         requires may { MayPoll self.old.client.who self.old.client.events }
         ensures { OnOk result (Does events.Poll rest.now self.old.closed self.old self.new channel.old channel.new) }
     {
@@ -199,7 +204,7 @@ impl<'a> Playing<'a> {
         Ok(())
     }
 
-    fn sync(&mut self, rest: &'a [Step]) -> Result<(), AllocError>
+    fn sync(&mut self, rest: &'a [Step])
         requires flags { AreFlags self.old }
         ensures player { player_of self.new ≡ next_step (player_of self.old) (steps.Sync ∷ rest.now) }
         ensures flags { AreFlags self.new }
@@ -207,7 +212,6 @@ impl<'a> Playing<'a> {
         if self.is_settled() {
             self.left = rest;
         }
-        Ok(())
     }
 
     fn show(
@@ -216,7 +220,8 @@ impl<'a> Playing<'a> {
         objects: &List<ObjectId>,
         rest: &'a [Step],
     ) -> Result<(), AllocError>
-        requires { AreFlags self.old }
+        requires flags { AreFlags self.old }
+        requires ready { IsReady self.old }
         ensures { (c : ChannelView) → OnOk result (Does (events.Show objects.now) rest.now self.old.closed self.old self.new c c) }
     {
         let copy = copy_objects(alloc, objects.as_slice())?;
@@ -226,7 +231,8 @@ impl<'a> Playing<'a> {
     }
 
     fn cut(&mut self, channel: &mut Channel, rest: &'a [Step]) -> Result<(), AllocError>
-        requires { AreFlags self.old }
+        requires flags { AreFlags self.old }
+        requires ready { IsReady self.old }
         ensures { OnOk result (Does events.Cut rest.now self.old.closed self.old self.new channel.old channel.new) }
     {
         self.client.note(Mark::Cut)?;
@@ -237,7 +243,8 @@ impl<'a> Playing<'a> {
     }
 
     fn quit(&mut self, channel: &mut Channel, rest: &'a [Step]) -> Result<(), AllocError>
-        requires { AreFlags self.old }
+        requires flags { AreFlags self.old }
+        requires ready { IsReady self.old }
         ensures { OnOk result (Does events.Quit rest.now true self.old self.new channel.old channel.new) }
     {
         self.client.note(Mark::Quit)?;
@@ -268,6 +275,7 @@ impl<'a> Playing<'a> {
 
     fn leave(&mut self, channel: &mut Channel) -> Result<(), AllocError>
         requires flags { AreFlags self.old }
+        requires ready { IsReady self.old }
         requires may { MayLeave self.old.client.who self.old.client.events }
         ensures { OnOk result (Does events.Leave self.old.left.now self.old.closed self.old self.new channel.old channel.new) }
     {
