@@ -4,3 +4,4 @@ pub mod Doing
 pub mod Apart
 pub mod Channels
 pub mod Moving
+pub mod Places

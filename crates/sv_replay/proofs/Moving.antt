@@ -1,7 +1,7 @@
 -- A client's turn makes it the next player: what its events do, against the definition of a turn.
 use Rattle.std.proofs.Common.{◌≡◌, ◌⊎◌, inl, inr, ℕ, zero, suc, ◌+◌, ◌-◌, ◌<◌, ◌≤◌, Bool, true, false, ◌&&◌, ◌||◌, not, ◌==◌, List, [], ◌∷◌, ◌++◌, length, map, Option, Some, None, slice_get, refl, sym, ap, subst, ◌∙◌, arith}
 use Rattle.std.specs.Prelude.{if◌then◌else◌, nat_lt}
-use Rattle.std.proofs.lemmas.Bool.{and_from, and_right, lt-ltb, le-ltb}
+use Rattle.std.proofs.lemmas.Bool.{cases_Bool, and_from, and_right, lt-ltb, le-ltb}
 use Rattle.std.proofs.lemmas.List.{append-nil}
 use Rattle.sv_world.specs.declared.action.Action.{Action}
 use Rattle.sv_world.specs.declared.world.ObjectId.{ObjectId}
@@ -10,20 +10,23 @@ use Rattle.sv_wire.specs.declared.message.Request.{Request}
 use Rattle.sv_client.specs.declared.trace.Event.{Event}
 use Rattle.sv_client.specs.declared.trace.Event.TheVariants as events
 use Rattle.sv_client.specs.Traces.{joins, makes, is_join, current_session, pending_of}
-use Rattle.sv_client.specs.Taking.{Identity, outstanding, first_fault_of_reply, Fault}
+use Rattle.sv_client.specs.declared.fault.TakeFault.{TakeFault}
+use Rattle.sv_client.specs.declared.fault.TakeFault.TheVariants as faults
+use Rattle.sv_client.specs.Answers.{IsTakeFault, got_now}
+use Rattle.sv_client.specs.Taking.{Identity, outstanding, first_fault_of_reply, Fault, Unasked, WrongKind, BadOrder, BadItem, Missing}
 use Rattle.sv_client.specs.Proper.{AreProper, MayMake, MayPoll, MayLeave, in_session}
 use Rattle.sv_client.specs.Seen.{raised, latest_session, newly_asked}
 use Rattle.sv_client.proofs.Shifts.{Up, up_joins, up_makes, up_session, up_pending, up_outstanding, up_fault}
 use Rattle.sv_scenario.specs.declared.scenario.Step.{Step}
 use Rattle.sv_scenario.specs.declared.scenario.Step.TheVariants as steps
 use Rattle.sv_script.specs.Following.{must_join, is_welcomed}
-use Rattle.sv_schedule.specs.Schedule.{Player, player_turn, next_step, last_steps, if_free, is_calm, is_settled, does, takes, takes_if}
+use Rattle.sv_schedule.specs.Schedule.{Player, player_turn, next_step, last_steps, if_free, is_calm, is_settled, does, open_session, takes, takes_if}
 use Rattle.sv_replay.specs.declared.playing.Playing.{Playing}
-use Rattle.sv_replay.specs.Channel.{ChannelView}
+use Rattle.sv_replay.specs.Channel.{ChannelView, TakesReply}
 use Rattle.sv_replay.specs.Players.{session_of, IsFit, Moves, is_closing}
 use Rattle.sv_replay.specs.Machine.{player_of, AreFlags, IsReady, Does, Moved}
 use Rattle.sv_replay.proofs.Events.{is_got, up_must, up_welcomed}
-use Rattle.sv_replay.proofs.Doing.{player, is_quit, JoinsNext, event_moves, close_moves, got_moves, still_moves, left_moves}
+use Rattle.sv_replay.proofs.Doing.{player, is_quit, session_latest, JoinsNext, event_moves, close_moves, got_moves, still_moves, left_moves}
 
 -- The player after an event.
 abbrev pub next_player : Playing → Event → List Step → Player
@@ -228,3 +231,83 @@ closed_moved p c d ready flags is =
     or_true : (b : Bool) → true ≡ (b || true)
     or_true true = refl
     or_true false = refl
+
+-- ---- Replies
+
+-- A fault that is no want of memory is one of the reply.
+pub refuses : (who : Identity) (t : List Event) (reply : Reply) (fault : TakeFault) → (fault ≡ faults.Memory → ⊥) → IsTakeFault who t reply fault →
+    (f : Fault) × (first_fault_of_reply who t reply ≡ Some f)
+refuses who t reply faults.Unasked other is = (Unasked, is)
+refuses who t reply faults.WrongKind other is = (WrongKind, is)
+refuses who t reply faults.BadOrder other is = (BadOrder, is)
+refuses who t reply faults.BadItem other is = (BadItem, is)
+refuses who t reply (faults.Missing pos object) other is = (Missing pos object.0, is)
+refuses who t reply faults.Memory other is = absurd (other refl)
+
+first_of : {X : Type 0} (x : X) (xs ys : List X) → xs ≡ x ∷ ys → slice_get xs 0 ≡ Some x
+first_of x xs ys e = ap (λ zs. slice_get zs 0) e
+
+pub none_waits : (p : Playing) (c d : ChannelView) (s : ℕ) → TakesReply c d None → AreFlags p → Moved (takes (player_of p) s (slice_get c.replies 0)) p p c d
+none_waits p c d s h flags =
+    subst (λ (v : ChannelView). Moved (takes (player_of p) s (slice_get c.replies 0)) p p c v) (sym h.1)
+    (still_at _ p c (ap (takes (player_of p) s) (ap (λ (rs : List Reply). slice_get rs 0) h.0)) flags)
+
+took_faulty : (p : Player) (s : ℕ) (reply : Reply) (f : Fault) → first_fault_of_reply p.who p.events reply ≡ Some f → takes p s (Some reply) ≡ p
+took_faulty p s reply f e = ap (takes_if p s reply) e
+
+took_fine : (p : Player) (s : ℕ) (reply : Reply) → first_fault_of_reply p.who p.events reply ≡ None → takes p s (Some reply) ≡ does p (events.Got s reply) p.left
+took_fine p s reply e = ap (takes_if p s reply) e
+
+pub refused_moved : (p : Playing) (c b d : ChannelView) (s : ℕ) (reply : Reply) (fault : TakeFault) → TakesReply c b (Some reply) → d ≡ record b { replies = reply ∷ b.replies } →
+    (fault ≡ faults.Memory → ⊥) → IsTakeFault p.client.who p.client.events reply fault → AreFlags p → Moved (takes (player_of p) s (slice_get c.replies 0)) p p c d
+refused_moved p c b d s reply fault h back other is flags =
+    let f = refuses p.client.who p.client.events reply fault other is in
+    subst (λ (v : ChannelView). Moved (takes (player_of p) s (slice_get c.replies 0)) p p c v) (h ∙ sym back)
+    (still_at _ p c (ap (takes (player_of p) s) (first_of reply c.replies b.replies (ap (λ (v : ChannelView). v.replies) h))
+      ∙ took_faulty (player_of p) s reply f.0 (up_fault p.first p.client.who p.client.events reply ∙ f.1)) flags)
+
+open_parts : (p : Player) (s : ℕ) → open_session p ≡ Some s → (p.closed ≡ false) × (must_join p.events ≡ false)
+open_parts p s e = elim (cases_Bool p.closed) [
+      | inl y ↦ absurd (let h : open_session p ≡ None = rw y refl in cc)
+      | inr f ↦ elim (cases_Bool (must_join p.events)) [
+        | inl y ↦ absurd (let h : open_session p ≡ None = rw (f, y) refl in cc)
+        | inr g ↦ (f, g)
+      ]
+    ]
+
+-- A reply was got, and what it asks is sent.
+pub took_moved : (p q : Playing) (c b d : ChannelView) (reply : Reply) → IsFit 64 (player_of p) → open_session (player_of p) ≡ Some (session_of (player_of p)) →
+    TakesReply c b (Some reply) → first_fault_of_reply p.client.who p.client.events reply ≡ None →
+    q.client.who ≡ p.client.who → q.client.events ≡ got_now p.client.events reply ∷ p.client.events → q.first ≡ p.first → q.left.now ≡ p.left.now → q.closed ≡ p.closed →
+    AreFlags p → q.between ≡ p.between → q.welcomed ≡ true → d ≡ record b { requests = b.requests ++ newly_asked p.client.who p.client.events (got_now p.client.events reply) } →
+    Moved (takes (player_of p) (session_of (player_of p)) (slice_get c.replies 0)) p q c d
+took_moved p q c b d reply fit linked h fine who es first left closed flags between welcomed sent =
+    let k = p.client.who in
+    let t = p.client.events in
+    let e = got_now t reply in
+    let n = session_of (player_of p) in
+    let parts = open_parts (player_of p) n linked in
+    let joined : must_join t ≡ false = sym (up_must p.first t) ∙ parts.1 in
+    let free : IsFit 64 (player k p.first t p.left.now false) = subst (λ b. IsFit 64 (player k p.first t p.left.now b)) parts.0 fit in
+    let last : latest_session t + p.first ≡ n = session_latest k p.first t p.left.now p.closed fit.proper joined (fit.begun parts.1) in
+    let next : takes (player_of p) n (slice_get c.replies 0) ≡ player k p.first (e ∷ t) p.left.now false =
+        ap (takes (player_of p) n) (first_of reply c.replies b.replies (ap (λ (v : ChannelView). v.replies) h))
+        ∙ took_fine (player_of p) n reply (up_fault p.first k t reply ∙ fine)
+        ∙ ap (λ (m : ℕ). does (player_of p) (events.Got m reply) p.left.now) (sym last)
+        ∙ ap (λ (x : Bool). player k p.first (e ∷ t) p.left.now x) parts.0 in
+    subst (λ (x : Player). Moved x p q c d) (sym next) (record {
+      player = same_player q.client.who k q.first p.first q.client.events (e ∷ t) q.left.now p.left.now q.closed false who first es left (closed ∙ parts.0);
+      flags = record {
+        between = between ∙ flags.between ∙ joined ∙ ap must_join (sym es);
+        welcomed = welcomed ∙ ap is_welcomed (sym es);
+      };
+      sent = newly_asked k t e;
+      taken = reply ∷ [];
+      closing = false;
+      moves = at_closed k p.first t p.left.now p.closed (λ (old : Player). Moves (session_of old) old (player k p.first (e ∷ t) p.left.now false) (newly_asked k t e) (reply ∷ []) false) parts.0
+        (got_moves k p.first t p.left.now free joined (latest_session t) reply refl);
+      requests = ap (λ (v : ChannelView). v.requests) sent ∙ ap (λ (v : ChannelView). v.requests ++ newly_asked k t e) (sym h);
+      replies = ap (λ (v : ChannelView). v.replies) h ∙ ap (λ (rs : List Reply). reply ∷ rs) (sym (ap (λ (v : ChannelView). v.replies) sent));
+      closed = ap (λ (v : ChannelView). v.closed) sent ∙ ap (λ (v : ChannelView). v.closed) (sym h) ∙ or_none c.closed;
+      stopped = ap (λ (v : ChannelView). v.stopped) sent ∙ ap (λ (v : ChannelView). v.stopped) (sym h);
+    })

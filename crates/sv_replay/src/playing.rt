@@ -295,8 +295,10 @@ impl<'a> Playing<'a> {
         };
         match self.client.take(&reply) {
             Ok(done) => self.taken(channel, done),
-            Err(TakeFault::Memory) => Err(AllocError),
-            Err(_) => channel.put_back(reply),
+            Err(fault) => match fault {
+                TakeFault::Memory => Err(AllocError),
+                _ => channel.put_back(reply),
+            },
         }
     }
 
