@@ -1,49 +1,192 @@
--- What was read of a file, and the report that it asks for.
-use Rattle.std.proofs.Common.{◌≡◌, ℕ, List, [], ◌∷◌, ◌++◌, take, Option, Some, None, refl, sym}
-use Rattle.std.specs.Prelude.{IfSome}
+-- What was read of a file, and the report or the fault that it has.
+use Rattle.std.proofs.Common.{◌≡◌, ◌≢◌, ◌↔◌, ◌⊎◌, inl, inr, refl, arith, ℕ, List, take, reverse, Option, Some, None, sym, ap, ◌∙◌}
+use Rattle.std.specs.Prelude.{string_bytes, IfSome, IfOk, Result, Ok, Err}
+use Rattle.std.proofs.lemmas.List.{reverse-reverse}
+use Rattle.sv_bytes.specs.Faults.{Rose}
 use Rattle.sv_bytes.specs.Reading.{ReadsFront}
-use Rattle.sv_app.specs.declared.single.Single.{Single}
-use Rattle.sv_app.specs.First.{IsOfFirstForm, HasNoFirstForm, first_form}
-use Rattle.sv_app.specs.Single.{entries_of, trace_of}
-use Rattle.sv_app.specs.Statuses.{read_limit, report_of, IsFront, IsReport, IsPrinted, IsCutShort, IsUnbuilt}
-use Rattle.sv_app.proofs.Record.{is_record}
+use Rattle.sv_bytes.specs.Writing.{Told}
+use Rattle.sv_app.specs.declared.top.Ending.{Ending}
+use Rattle.sv_app.specs.declared.top.Ending.TheVariants as endings
+use Rattle.sv_journal.specs.declared.entry.Entry.{Entry}
+use Rattle.sv_client.specs.declared.trace.Trace.{Trace}
+use Rattle.sv_scenario.specs.declared.fault.ScenarioFault.{ScenarioFault}
+use Rattle.sv_scenario.specs.declared.scenario.Scenario.{Scenario}
+use Rattle.sv_scenario.specs.Scenarios.{scenario_of}
+use Rattle.sv_schedule.specs.Records.{IsReplay}
+use Rattle.sv_report.specs.Report.{report_text}
+use Rattle.sv_app.specs.Statuses.{Replays, status_of, line_of, TellsStatus, held_by, IsRun, read_limit, IsFront, IsReportOf, IsReport, IsPrinted, IsCutShort, IsRefused, IsScenario, IsNoScenario}
 
 pub front_of : (held left : Option (List ℕ)) (bytes : List ℕ) → ReadsFront held read_limit bytes left → IsFront held bytes
 front_of (Some all) left bytes read = read.0
 front_of None left bytes read = tt
 
-pub report_is : (held left : Option (List ℕ)) (bytes text : List ℕ) → ReadsFront held read_limit bytes left
-    → ((single : Single) × IsOfFirstForm bytes single × (text ≡ report_of single)) → IsReport held text
-report_is held left bytes text read made = record {
-  bytes = bytes;
-  single = made.0;
-  front = front_of held left bytes read;
-  formed = made.1;
-  J = entries_of made.0.world made.0.interest made.0.act;
-  L = trace_of made.0.world made.0.interest made.0.act made.0.shows;
-  journal = refl;
-  trace = refl;
-  is_record = is_record made.0.world made.0.interest made.0.act made.0.shows;
-  reported = made.2;
+pub report_is : (held left : Option (List ℕ)) (bytes text : List ℕ) → ReadsFront held read_limit bytes left → IsReportOf bytes text → IsReport held text
+report_is held left bytes text read made = record { bytes = bytes; front = front_of held left bytes read; report = made }
+
+not-both : (scenario : Scenario) (fault : ScenarioFault) (bytes : List ℕ) → scenario_of bytes ≡ Ok scenario → scenario_of bytes ≡ Err fault → ⊥
+not-both scenario fault bytes e f = cc
+
+has_scenario : (all text : List ℕ) → IsReport (Some all) text → IsNoScenario (take read_limit all) → ⊥
+has_scenario all text r none =
+    let faulty : scenario_of r.bytes ≡ Err none.fault = rw r.front none.faulty in
+    not-both r.report.scenario none.fault r.bytes r.report.read faulty
+
+pub printed_is_scenario : (held old now : Option (List ℕ)) (P : Type 0) → IsPrinted held old now → IfSome held (λ all. IsNoScenario (take read_limit all) → P)
+printed_is_scenario None old now P printed = tt
+printed_is_scenario (Some all) old now P printed = λ none. absurd (has_scenario all printed.text printed.report none)
+
+pub cut_is_scenario : (held old now : Option (List ℕ)) (P : Type 0) → IsCutShort held old now → IfSome held (λ all. IsNoScenario (take read_limit all) → P)
+cut_is_scenario None old now P cut = tt
+cut_is_scenario (Some all) old now P cut = λ none. absurd (has_scenario all cut.text cut.report none)
+
+-- What was refused is no scenario.
+pub refused_is_none : (held : Option (List ℕ)) (line : List ℕ) (P : Type 0) → IsRefused held line → IfSome held (λ all. IsScenario (take read_limit all) → P)
+refused_is_none None line P r = tt
+refused_is_none (Some all) line P r = λ some. absurd (both some)
+  where
+    both : IsScenario (take read_limit all) → ⊥
+    both some =
+        let read : scenario_of r.bytes ≡ Ok some.scenario = rw r.front some.read in
+        not-both some.scenario r.fault r.bytes read r.faulty
+
+-- The report of what was played is that of its journal with the latest entry first.
+pub run_is : (scenario : Scenario) (text : List ℕ) (entries : List Entry) (Ls : List Trace) → IsReplay scenario (reverse entries) Ls
+    → text ≡ report_text scenario.world entries Ls → IsRun scenario text
+run_is scenario text entries Ls replay reported = record {
+  h = reverse entries;
+  Ls = Ls;
+  replay = replay;
+  reported = reported ∙ ap (λ (es : List Entry). report_text scenario.world es Ls) (sym (reverse-reverse entries));
 }
 
--- what has a report is of the first form
-pub has_form : (all text : List ℕ) → IsReport (Some all) text → HasNoFirstForm (take read_limit all) → ⊥
-has_form all text r none =
-    let none_read : HasNoFirstForm r.bytes = rw r.front none in
-    cc (none_read r.formed.0, r.formed.1)
+pub run_if_ok : {S E : Type 0} (bytes : S → List ℕ) (scenario : Scenario) (entries : List Entry) (Ls : List Trace) (r : Result S E) → IsReplay scenario (reverse entries) Ls
+    → IfOk r (λ text. bytes text ≡ report_text scenario.world entries Ls) → IfOk r (λ text. IsRun scenario (bytes text))
+run_if_ok bytes scenario entries Ls (Ok text) replay given = run_is scenario (bytes text) entries Ls replay given
+run_if_ok bytes scenario entries Ls (Err e) replay given = tt
 
-pub printed_is_built : (held old now : Option (List ℕ)) (P : Type 0) → IsPrinted held old now
-    → IfSome held (λ all. HasNoFirstForm (take read_limit all) → P)
-printed_is_built None old now P printed = tt
-printed_is_built (Some all) old now P printed = λ none. absurd (has_form all printed.text printed.report none)
+-- ---- What a status says, by its ending
 
-pub cut_is_built : (held old now : Option (List ℕ)) (P : Type 0) → IsCutShort held old now
-    → IfSome held (λ all. HasNoFirstForm (take read_limit all) → P)
-cut_is_built None old now P cut = tt
-cut_is_built (Some all) old now P cut = λ none. absurd (has_form all cut.text cut.report none)
+always : {P : List ℕ → Type 0} (o : Option (List ℕ)) → ((all : List ℕ) → P all) → IfSome o P
+always None f = tt
+always (Some all) f = f all
 
-pub unbuilt_is_unbuilt : (held : Option (List ℕ)) (P : Type 0) → IsUnbuilt held
-    → IfSome held (λ all. ¬ HasNoFirstForm (take read_limit all) → P)
-unbuilt_is_unbuilt None P u = tt
-unbuilt_is_unbuilt (Some all) P u = λ some. absurd (some (rw (sym u.front) u.unbuilt))
+module _ (held named : Option (List ℕ)) (f0 f1 : ℕ) (old now : Option (List ℕ)) (k0 k1 : ℕ) where
+  abbrev Ends : Ending → Type 0
+  Ends e = Replays held f0 f1 old now k0 k1 e
+
+  pub status_range : (e : Ending) → (status_of e ≡ 0) ⊎ (status_of e ≡ 2) ⊎ (status_of e ≡ 3) ⊎ (status_of e ≡ 4) ⊎ (status_of e ≡ 5) ⊎ (status_of e ≡ 8)
+  status_range endings.Done = inl refl
+  status_range endings.Words = inr (inl refl)
+  status_range (endings.Scenario line) = inr (inr (inl refl))
+  status_range endings.File = inr (inr (inr (inl refl)))
+  status_range endings.Out = inr (inr (inr (inr (inl refl))))
+  status_range endings.Memory = inr (inr (inr (inr (inr refl))))
+
+  words_of : (e : Ending) → status_of e ≡ 2 → e ≡ endings.Words
+  words_of endings.Words s = refl
+  words_of endings.Done s = absurd (omega arith)
+  words_of (endings.Scenario line) s = absurd (omega arith)
+  words_of endings.File s = absurd (omega arith)
+  words_of endings.Out s = absurd (omega arith)
+  words_of endings.Memory s = absurd (omega arith)
+
+  pub status_words : (e : Ending) → ((e ≡ endings.Words) ↔ (named ≡ None)) → (status_of e ≡ 2) ↔ (named ≡ None)
+  status_words e w = (λ s. w.0 (words_of e s), λ n. ap status_of (w.1 n))
+
+  pub status_file : (e : Ending) → Ends e → status_of e ≡ 4 → Rose f0 f1
+  status_file endings.File h s = h.0
+  status_file endings.Done h s = absurd (omega arith)
+  status_file endings.Words h s = absurd (omega arith)
+  status_file (endings.Scenario line) h s = absurd (omega arith)
+  status_file endings.Out h s = absurd (omega arith)
+  status_file endings.Memory h s = absurd (omega arith)
+
+  file_is : (e : Ending) → status_of e ≡ 4 → e ≡ endings.File
+  file_is endings.File s = refl
+  file_is endings.Done s = absurd (omega arith)
+  file_is endings.Words s = absurd (omega arith)
+  file_is (endings.Scenario line) s = absurd (omega arith)
+  file_is endings.Out s = absurd (omega arith)
+  file_is endings.Memory s = absurd (omega arith)
+
+  pub status_certain : (sure : List ℕ → Type 0) (e : Ending) → IfSome named (λ name. sure name → e ≢ endings.File) → IfSome named (λ name. sure name → status_of e ≢ 4)
+  status_certain sure e h = go named h
+    where
+      go : (o : Option (List ℕ)) → IfSome o (λ name. sure name → e ≢ endings.File) → IfSome o (λ name. sure name → status_of e ≢ 4)
+      go None h = tt
+      go (Some name) h = λ s f. h s (file_is e f)
+
+  pub status_faulty : (e : Ending) → Ends e → IfSome held (λ all. IsNoScenario (take read_limit all) → (status_of e ≡ 3) ⊎ (status_of e ≡ 4) ⊎ (status_of e ≡ 8)) ⊎ (e ≡ endings.Words)
+  status_faulty endings.Done h = inl (printed_is_scenario held old now _ h)
+  status_faulty endings.Out h = inl (cut_is_scenario held old now _ h.1)
+  status_faulty endings.Words h = inr refl
+  status_faulty (endings.Scenario line) h = inl (always held (λ all n. inl refl))
+  status_faulty endings.File h = inl (always held (λ all n. inr (inl refl)))
+  status_faulty endings.Memory h = inl (always held (λ all n. inr (inr refl)))
+
+  pub status_out : (e : Ending) → Ends e → status_of e ≡ 5 → Rose k0 k1
+  status_out endings.Out h s = h.0
+  status_out endings.Done h s = absurd (omega arith)
+  status_out endings.Words h s = absurd (omega arith)
+  status_out (endings.Scenario line) h s = absurd (omega arith)
+  status_out endings.File h s = absurd (omega arith)
+  status_out endings.Memory h s = absurd (omega arith)
+
+  pub status_printed : (e : Ending) → Ends e → status_of e ≡ 0 → IsPrinted held old now
+  status_printed endings.Done h s = h
+  status_printed endings.Out h s = absurd (omega arith)
+  status_printed endings.Words h s = absurd (omega arith)
+  status_printed (endings.Scenario line) h s = absurd (omega arith)
+  status_printed endings.File h s = absurd (omega arith)
+  status_printed endings.Memory h s = absurd (omega arith)
+
+  pub status_part : (e : Ending) → Ends e → status_of e ≡ 5 → IsCutShort held old now
+  status_part endings.Out h s = h.1
+  status_part endings.Done h s = absurd (omega arith)
+  status_part endings.Words h s = absurd (omega arith)
+  status_part (endings.Scenario line) h s = absurd (omega arith)
+  status_part endings.File h s = absurd (omega arith)
+  status_part endings.Memory h s = absurd (omega arith)
+
+  pub status_nothing : (e : Ending) → Ends e → status_of e ≢ 0 → status_of e ≢ 5 → now ≡ old
+  status_nothing endings.Done h z f = absurd (z refl)
+  status_nothing endings.Out h z f = absurd (f refl)
+  status_nothing endings.Words h z f = h
+  status_nothing (endings.Scenario line) h z f = h.1
+  status_nothing endings.File h z f = h.1
+  status_nothing endings.Memory h z f = h
+
+  pub status_told : (told untold : Option (List ℕ)) (e0 e1 : ℕ) (e : Ending) → Ends e → Told told untold e0 e1 (line_of e named) → TellsStatus (status_of e) held named told untold e0 e1
+  status_told a b e0 e1 endings.Done h t = record { line = line_of endings.Done named; faulty = λ s. absurd (omega arith); plain = λ s. refl; told = t }
+  status_told a b e0 e1 endings.Out h t = record { line = line_of endings.Out named; faulty = λ s. absurd (omega arith); plain = λ s. refl; told = t }
+  status_told a b e0 e1 endings.Words h t = record { line = line_of endings.Words named; faulty = λ s. absurd (omega arith); plain = λ s. refl; told = t }
+  status_told a b e0 e1 (endings.Scenario line) h t = record { line = string_bytes line; faulty = λ s. h.0; plain = λ s. absurd (s refl); told = t }
+  status_told a b e0 e1 endings.File h t = record { line = line_of endings.File named; faulty = λ s. absurd (omega arith); plain = λ s. refl; told = t }
+  status_told a b e0 e1 endings.Memory h t = record { line = line_of endings.Memory named; faulty = λ s. absurd (omega arith); plain = λ s. refl; told = t }
+
+  abbrev Completes : Ending → List ℕ → Type 0
+  Completes e all = IsScenario (take read_limit all) → ¬ Rose f0 f1 → ¬ Rose k0 k1 → (status_of e ≡ 0) ⊎ (status_of e ≡ 8)
+
+  pub status_complete : (e : Ending) → Ends e → IfSome held (Completes e) ⊎ (e ≡ endings.Words)
+  status_complete endings.Done h = inl (always held (λ all s f k. inl refl))
+  status_complete endings.Memory h = inl (always held (λ all s f k. inr refl))
+  status_complete endings.Words h = inr refl
+  status_complete endings.File h = inl (always held (λ all s f k. absurd (f h.0)))
+  status_complete endings.Out h = inl (always held (λ all s f k. absurd (k h.0)))
+  status_complete (endings.Scenario line) h = inl (refused_is_none held (string_bytes line) _ h.0)
+
+-- Where the words name no file, nothing is said of what it holds.
+unnamed : (contents : List ℕ → Option (List ℕ)) (P : List ℕ → Type 0) (named : Option (List ℕ)) → named ≡ None → IfSome (held_by contents named) P
+unnamed contents P None n = tt
+unnamed contents P (Some name) n = absurd (some_none name n)
+  where
+    some_none : (name : List ℕ) → Some name ≡ None → ⊥
+    some_none name n = cc
+
+module _ (contents : List ℕ → Option (List ℕ)) (named : Option (List ℕ)) (f0 f1 : ℕ) (old now : Option (List ℕ)) (k0 k1 : ℕ) (e : Ending) (words : (e ≡ endings.Words) ↔ (named ≡ None))
+    (h : Replays (held_by contents named) f0 f1 old now k0 k1 e) where
+  pub faulty_is : IfSome (held_by contents named) (λ all. IsNoScenario (take read_limit all) → (status_of e ≡ 3) ⊎ (status_of e ≡ 4) ⊎ (status_of e ≡ 8))
+  faulty_is = elim (status_faulty (held_by contents named) named f0 f1 old now k0 k1 e h) [ inl x ↦ x | inr w ↦ unnamed contents _ named (words.0 w) ]
+
+  pub complete_is : IfSome (held_by contents named) (λ all. IsScenario (take read_limit all) → ¬ Rose f0 f1 → ¬ Rose k0 k1 → (status_of e ≡ 0) ⊎ (status_of e ≡ 8))
+  complete_is = elim (status_complete (held_by contents named) named f0 f1 old now k0 k1 e h) [ inl x ↦ x | inr w ↦ unnamed contents _ named (words.0 w) ]

@@ -1,6 +1,2 @@
-pub mod First
-pub mod Known
-pub mod Lines
-pub mod Single
 pub mod Statuses
 pub mod Words

@@ -9,11 +9,8 @@ const FIRST: &str =
 const FULL: &str =
     "{\"attrs\":1,\"objects\":[[9223372036854775807]],\"bound\":4,\"clients\":[{\"interest\":[0],\"steps\":[{\"act\":\"reads 0 writes 0 { set @0.0 (@0.0 + 1); }\"},\"sync\",{\"show\":[0]}]}]}";
 
-const TWO_SHOWS: &str =
-    "{\"attrs\":1,\"objects\":[[5]],\"bound\":4,\"clients\":[{\"interest\":[0],\"steps\":[{\"act\":\"reads 0 writes 0 { set @0.0 (@0.0 + 1); }\"},\"sync\",{\"show\":[0]},{\"show\":[0]}]}]}";
-
 const REPORT: &[u8] =
-    b"journal 5\n1 s0 join c0 1 [0] -> welcome 0 [0=(5)]\n2 s0 submit 1 reads 0 writes 0 { set @0.0 (@0.0 + 1); } -> relay 1 at 0 [0=(5)] [1:c0.1]\n3 s0 done [1:(6)] -> noted 1\n4 s0 leave -> bye\n5 s0 end -> bye\nclient 0\njoin s0\ngot s0 #1\nmake 1 kept [0=(6)]\ngot s0 #2\ngot s0 #3\nshow [0=(6)]\nleave\ngot s0 #4\nworld 1\n0=(6)\n";
+    b"journal 5\n1 s0 join c0 1 [0] -> welcome 0 [0=(5)]\n2 s0 submit 1 reads 0 writes 0 { set @0.0 (@0.0 + 1); } -> relay 1 at 0 [] [1:c0.1]\n3 s0 done [1:(6)] -> noted 1\n4 s0 leave -> bye\n5 s0 end -> bye\nclient 0\njoin s0\ngot s0 #1\nmake 1 kept [0=(6)]\ngot s0 #2\ngot s0 #3\nshow [0=(6)]\nleave\ngot s0 #4\nworld 1\n0=(6)\n";
 
 const WORDS_LINE: &[u8] = b"words: play FILE [--brief | --watch] | replay FILE | load N\n";
 
@@ -126,17 +123,5 @@ fn a_value_that_overflows_stays(rt: HostRuntime) -> Result<(), Fail> {
             b"show [0=(9223372036854775807)]\nleave\ngot s0 #4\nworld 1\n0=(9223372036854775807)\n"
         )
     );
-    Ok(())
-}
-
-#[test]
-fn two_shows_are_not_of_the_first_form(rt: HostRuntime) -> Result<(), Fail> {
-    let words = words(rt.alloc(), "replay a")?;
-    let mut files = scenario(rt.alloc(), TWO_SHOWS)?;
-    let (mut out, mut err) = sinks(rt.alloc())?;
-    let status = run(rt.alloc(), &words, &mut files, &mut out, &mut err);
-    assert_eq!(rt; status, 3);
-    assert_eq!(rt; out.bytes(), b"".as_slice());
-    assert_eq!(rt; err.bytes(), b"scenario: : unbuilt\n".as_slice());
     Ok(())
 }

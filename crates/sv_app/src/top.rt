@@ -1,28 +1,31 @@
-ghost use Rattle.std.specs.Prelude.{◌≡◌, ◌≢◌, ◌↔◌, ◌⊎◌, ℕ, List, [], ◌∷◌, take, map, codes, string_bytes, Some, None, IfSome, option_and_then};
+ghost use Rattle.std.specs.Prelude.{◌≡◌, ◌≢◌, ◌↔◌, ◌⊎◌, ℕ, List, take, map, codes, string_bytes, Some, None, IfOk, IfSome, option_and_then};
 ghost use Rattle.std.specs.Option.{option_copied};
 ghost use Rattle.sv_bytes.specs.Faults.{Rose};
 ghost use Rattle.sv_bytes.specs.Writing.{Told};
-ghost use Rattle.sv_app.specs.First.{IsOfFirstForm, HasNoFirstForm};
-ghost use Rattle.sv_app.specs.Statuses.{read_limit, Replays, IsPrinted, IsCutShort, IsUnbuilt, ReportOrFault, held_by, file_line, line_of, status_line};
+ghost use Rattle.sv_scenario.specs.Limits.{IsGoodScenario};
+ghost use Rattle.sv_scenario.specs.Lines.{fault_line};
+ghost use Rattle.sv_scenario.specs.Scenarios.{scenario_of};
+ghost use Rattle.sv_app.specs.Statuses.{read_limit, Replays, ReportOrFault, IsPrinted, IsCutShort, IsRefused, IsScenario, IsNoScenario, IsRun, TellsStatus, held_by, file_line, line_of, status_of};
 ghost use Rattle.sv_app.specs.Words.{named_file};
 
-use crate::first::{FirstFault, read_first};
-use crate::single::single_report;
 use crate::words::named_file;
-use std::alloc::Global;
+use std::alloc::{AllocError, Global};
 use sv_bytes::{FileFault, Files, Sink, read_all, write_all, write_pieces};
+use sv_replay::run_schedule;
+use sv_report::report;
+use sv_scenario::{ReadFault, Scenario, ScenarioFault, append_fault_line, read_scenario};
 
 /// A file is read so far and no further: one byte more than a scenario may have.
 const READ_LIMIT: usize = 4_194_305;
 
 /// How a call of the program ends.
-#[derive(Clone, Copy, Debug, PartialEq, Eq)]
+#[derive(Debug, Drop)]
 pub enum Ending {
     Done,
     /// The words are none that the program knows.
     Words,
-    /// The file is no scenario that is run yet.
-    Scenario,
+    /// The file is no scenario. The line tells where and why.
+    Scenario(String),
     /// The file can't be read.
     File,
     /// The output failed.
@@ -31,12 +34,30 @@ pub enum Ending {
     Memory,
 }
 
+/// The report of a scenario's run.
+fn replayed(alloc: Global, scenario: &Scenario) -> Result<String, AllocError>
+    requires { IsGoodScenario scenario.now }
+    ensures { IfOk result (λ text. IsRun scenario.now (string_bytes text)) }
+{
+    let played = run_schedule(alloc, scenario)?;
+    report(alloc, scenario, &played)
+}
+
 /// The report of a file's contents.
-fn report(alloc: Global, bytes: &[u8]) -> Result<String, FirstFault>
+fn report_of(alloc: Global, bytes: &[u8]) -> Result<String, ReadFault>
     ensures { ReportOrFault bytes.now result }
 {
-    let single = read_first(alloc, bytes)?;
-    Ok(single_report(alloc, &single)?)
+    let scenario = read_scenario(alloc, bytes)?;
+    Ok(replayed(alloc, &scenario)?)
+}
+
+/// The line that tells of a fault.
+fn line_of_fault(alloc: Global, fault: &ScenarioFault) -> Result<String, AllocError>
+    ensures { IfOk result (λ line. string_bytes line ≡ fault_line fault.now) }
+{
+    let mut line = String::new(alloc);
+    append_fault_line(fault, &mut line)?;
+    Ok(line)
 }
 
 fn replay<F: Files, K: Sink>(alloc: Global, name: &str, files: &mut F, out: &mut K) -> Ending
@@ -49,10 +70,15 @@ fn replay<F: Files, K: Sink>(alloc: Global, name: &str, files: &mut F, out: &mut
         Err(FileFault::Failed) => return Ending::File,
         Err(FileFault::Memory) => return Ending::Memory,
     };
-    let text = match report(alloc, &bytes) {
+    let text = match report_of(alloc, &bytes) {
         Ok(text) => text,
-        Err(FirstFault::Unbuilt) => return Ending::Scenario,
-        Err(FirstFault::Memory) => return Ending::Memory,
+        Err(ReadFault::Scenario(fault)) => {
+            return match line_of_fault(alloc, &fault) {
+                Ok(line) => Ending::Scenario(line),
+                Err(_) => Ending::Memory,
+            };
+        }
+        Err(ReadFault::Memory) => return Ending::Memory,
     };
     if write_all(out, text.as_bytes()) {
         Ending::Done
@@ -78,8 +104,8 @@ fn decide<F: Files, K: Sink>(
 }
 
 /// The line that tells of an ending, in pieces.
-fn tell<E: Sink>(ending: Ending, named: Option<&str>, err: &mut E)
-    ensures { Told (E.taken err.old) (E.taken err.new) (E.faults err.old) (E.faults err.new) (line_of ending (option_copied named.entry)) }
+fn tell<E: Sink>(ending: &Ending, named: Option<&str>, err: &mut E)
+    ensures { Told (E.taken err.old) (E.taken err.new) (E.faults err.old) (E.faults err.new) (line_of ending.now (option_copied named.entry)) }
 {
     let _ = match ending {
         Ending::Done => write_all(err, b""),
@@ -87,7 +113,7 @@ fn tell<E: Sink>(ending: Ending, named: Option<&str>, err: &mut E)
             err,
             b"words: play FILE [--brief | --watch] | replay FILE | load N\n",
         ),
-        Ending::Scenario => write_all(err, b"scenario: : unbuilt\n"),
+        Ending::Scenario(line) => write_all(err, line.as_bytes()),
         Ending::File => tell_file(named.unwrap_or(""), err),
         Ending::Out => write_all(err, b"out\n"),
         Ending::Memory => write_all(err, b"memory\n"),
@@ -100,10 +126,23 @@ fn tell_file<E: Sink>(name: &str, err: &mut E) -> bool
     write_pieces(err, &[b"file: ", name.as_bytes(), b"\n"])
 }
 
+/// The status of an ending.
+fn status_of(ending: &Ending) -> u8
+    ensures { result ≡ status_of ending.now }
+{
+    match ending {
+        Ending::Done => 0,
+        Ending::Words => 2,
+        Ending::Scenario(_) => 3,
+        Ending::File => 4,
+        Ending::Out => 5,
+        Ending::Memory => 8,
+    }
+}
+
 /// Does what the words ask for, and answers the status with which the program ends.
 ///
-/// The words leave out the program's own name. For now the only ones are `replay FILE`, for a scenario of the first form.
-#[tactic(auto, using(crate::proofs::Endings::printed_is_built, crate::proofs::Endings::cut_is_built))]
+/// The words leave out the program's own name. For now the only ones are `replay FILE`.
 pub fn run<F: Files, K: Sink, E: Sink>(
     alloc: Global,
     words: &[String],
@@ -115,27 +154,19 @@ pub fn run<F: Files, K: Sink, E: Sink>(
     ensures words { (result ≡ 2) ↔ (named_file (map string_bytes words.now) ≡ None) }
     ensures file { result ≡ 4 → Rose (F.faults files.old) (F.faults files.new) }
     ensures certain { IfSome (named_file (map string_bytes words.now)) (λ name. F.sure files.old name → result ≢ 4) }
-    ensures unbuilt { result ≡ 3 → IsUnbuilt (held_by (F.contents files.old) (named_file (map string_bytes words.now))) }
-    ensures built { IfSome (held_by (F.contents files.old) (named_file (map string_bytes words.now)))
-        (λ all. HasNoFirstForm (take read_limit all) → (result ≡ 3) ⊎ (result ≡ 4) ⊎ (result ≡ 8)) }
+    ensures faulty { IfSome (held_by (F.contents files.old) (named_file (map string_bytes words.now)))
+        (λ all. IsNoScenario (take read_limit all) → (result ≡ 3) ⊎ (result ≡ 4) ⊎ (result ≡ 8)) }
     ensures out { result ≡ 5 → Rose (K.faults out.old) (K.faults out.new) }
     ensures printed { result ≡ 0 → IsPrinted (held_by (F.contents files.old) (named_file (map string_bytes words.now))) (K.taken out.old) (K.taken out.new) }
     ensures part { result ≡ 5 → IsCutShort (held_by (F.contents files.old) (named_file (map string_bytes words.now))) (K.taken out.old) (K.taken out.new) }
     ensures nothing { result ≢ 0 → result ≢ 5 → K.taken out.new ≡ K.taken out.old }
-    ensures told { Told (E.taken err.old) (E.taken err.new) (E.faults err.old) (E.faults err.new) (status_line result (named_file (map string_bytes words.now))) }
+    ensures told { TellsStatus result (held_by (F.contents files.old) (named_file (map string_bytes words.now))) (named_file (map string_bytes words.now)) (E.taken err.old) (E.taken err.new) (E.faults err.old) (E.faults err.new) }
     ensures complete { IfSome (held_by (F.contents files.old) (named_file (map string_bytes words.now)))
-        (λ all. ¬ HasNoFirstForm (take read_limit all) → ¬ Rose (F.faults files.old) (F.faults files.new)
+        (λ all. IsScenario (take read_limit all) → ¬ Rose (F.faults files.old) (F.faults files.new)
         → ¬ Rose (K.faults out.old) (K.faults out.new) → (result ≡ 0) ⊎ (result ≡ 8)) }
 {
     let named = named_file(words);
     let ending = decide(alloc, named, files, out);
-    tell(ending, named, err);
-    match ending {
-        Ending::Done => 0,
-        Ending::Words => 2,
-        Ending::Scenario => 3,
-        Ending::File => 4,
-        Ending::Out => 5,
-        Ending::Memory => 8,
-    }
+    tell(&ending, named, err);
+    status_of(&ending)
 }

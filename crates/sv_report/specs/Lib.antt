@@ -1,1 +1,5 @@
 pub mod Report
+pub mod Again
+pub mod Drops
+pub mod Summary
+pub mod Rows

@@ -1,2 +1,22 @@
-//! The report of a run: its journal, what each client did, and the committed world.
+//! The report of a run: its journal, what each client did, and the committed world; and its brief summary.
 #![tactic(auto)]
+
+mod again;
+mod counts;
+mod event;
+mod kept;
+mod next;
+mod rows;
+mod shown;
+mod summary;
+mod totals;
+mod trace;
+mod values;
+mod whole;
+mod written;
+
+pub use summary::brief;
+pub use whole::report;
+
+#[cfg(test)]
+mod tests;

@@ -1,3 +1,4 @@
 pub mod Schedule
 pub mod Sound
 pub mod Records
+pub mod Done

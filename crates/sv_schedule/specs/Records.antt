@@ -1,7 +1,6 @@
 -- When a journal and traces are the record of a run of a scenario, and what the headline says of them.
 -- A history is the list of a journal's entries with the latest first.
 use Rattle.std.specs.Prelude.{◌≡◌, ℕ, suc, ◌+◌, ◌<◌, ◌&&◌, ◌==◌, List, [], ◌∷◌, reverse, All, if◌then◌else◌}
-use Rattle.sv_world.specs.declared.world.ClientId.{ClientId}
 use Rattle.sv_world.specs.declared.world.Shape.{Shape}
 use Rattle.sv_eval.specs.Serial.{serial_world}
 use Rattle.sv_journal.specs.declared.entry.Entry.{Entry}
@@ -14,6 +13,7 @@ use Rattle.sv_scenario.specs.declared.scenario.Scenario.{Scenario}
 use Rattle.sv_scenario.specs.Sessions.{sessions_of_plan, session_count}
 use Rattle.sv_script.specs.Following.{FollowsToEnd}
 use Rattle.sv_system.specs.Fits.{Fits}
+use Rattle.sv_system.specs.Outcomes.{OutcomesAreRight}
 use Rattle.sv_system.specs.Serial.{ValuesAreSerial, RelaysAreSufficient}
 use Rattle.sv_schedule.specs.declared.played.Played.{Played}
 use Rattle.sv_schedule.specs.Schedule.{rules_of, scheduled_run, traces_of}
@@ -51,13 +51,14 @@ pub record AreScheduled (scenario : Scenario) (h : List Entry) (Ls : List Trace)
   pub traces : Ls ≡ traces_of (scheduled_run scenario)
 
 -- The headline of a replay: the record of its traffic, each value at a position the serial execution's, the committed world too, each relay
--- sufficient, and each script carried out.
+-- sufficient, each script carried out, and one outcome for each action.
 pub record IsReplay (scenario : Scenario) (h : List Entry) (Ls : List Trace) : Type 0 where
   pub traffic : IsRecordOf scenario h Ls
   pub values : ValuesAreSerial scenario.world.values h Ls
   pub world : committed_of scenario.world.values h ≡ serial_world scenario.world.values (actions_of h) (commit_of h)
   pub relays : RelaysAreSufficient h Ls
   pub scripts : ScriptsAreDone scenario.world.shape scenario.clients Ls
+  pub outcomes : OutcomesAreRight (rules_of scenario) h Ls
   pub scheduled : AreScheduled scenario h Ls
 
 -- What was played is such a record, with the scenario's shape, and the commit and the committed values that its journal gives.

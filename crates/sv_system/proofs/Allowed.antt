@@ -140,7 +140,7 @@ items-logged A logged.Idle = refl
 items-logged A (logged.Refused code detail) = refl
 items-logged A logged.Bye = refl
 
-positions-low : (r : Rules) (d : Entry) (h : List Entry) → Legal r (d ∷ h) → (reply : Logged) → d.reply ≡ reply → (is_ascending (positions_in reply) ≡ true) × ((k : ℕ) → is_in k (positions_in reply) ≡ true → 0 < k)
+pub positions-low : (r : Rules) (d : Entry) (h : List Entry) → Legal r (d ∷ h) → (reply : Logged) → d.reply ≡ reply → (is_ascending (positions_in reply) ≡ true) × ((k : ℕ) → is_in k (positions_in reply) ≡ true → 0 < k)
 positions-low r d h l (logged.Relay seq commit head positions) is =
     let t = legal-relay r d h seq commit head positions l is in (
       subst (λ (ks : List ℕ). is_ascending ks ≡ true) (sym t.positions_are) (needed-ascending (actions_of (d ∷ h)) (commit_of h) (sent_to h d.session) t.target),
@@ -199,7 +199,7 @@ module _ (r : Rules) (H : List Entry) (Ls : List Trace) (legal : Legal r H) (fit
       first_request [] = requests.Bad
       first_request (d ∷ h) = d.request
 
-  member-reply : (q : Request) → e.request ≡ q → is_join_request q ≡ false → reply_to_open r g s q ≡ reply_to_member r g s (client_of g s) q → e.reply ≡ reply_to_client r g s k q
+  pub member-reply : (q : Request) → e.request ≡ q → is_join_request q ≡ false → reply_to_open r g s q ≡ reply_to_member r g s (client_of g s) q → e.reply ≡ reply_to_client r g s k q
   member-reply q is f same_reply =
       replied r H Ls legal fits i L member s current few e g b mine next ∙ ap (reply_to_open r g s) is ∙ same_reply
       ∙ ap (λ (o : Option ℕ). reply_to_member r g s o q) (joined (ap is_join_request is ∙ f))
@@ -230,7 +230,7 @@ module _ (r : Rules) (H : List Entry) (Ls : List Trace) (legal : Legal r H) (fit
   poll-allowed [] = refl
   poll-allowed (p ∷ ps) = refl
 
-  worlds-shaped : (p : ℕ) → All (λ (v : List ℤ). length v ≡ r.world.shape.attrs) (serial_world r.world.values (actions_of H) p)
+  pub worlds-shaped : (p : ℕ) → All (λ (v : List ℤ). length v ≡ r.world.shape.attrs) (serial_world r.world.values (actions_of H) p)
   worlds-shaped p =
       serial_shaped r.world.shape.attrs r.world.values (actions_of H) p shaped
       (All-from_recursion (λ (a : Action). All (λ x. x < length r.world.values) (read_set a)) (actions_of H)

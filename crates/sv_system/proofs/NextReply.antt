@@ -1,5 +1,5 @@
--- The faults that the next reply to a client may have, if any.
-use Rattle.std.proofs.Common.{◌≡◌, ℕ, ℤ, ◌≤◌, Bool, true, false, not, ◌⊎◌, inl, inr, List, reverse, length, Option, Some, None, slice_get, refl, sym, ap, ◌∙◌, subst, true≢false}
+-- The next reply to a client has no fault.
+use Rattle.std.proofs.Common.{◌≡◌, ℕ, ℤ, ◌≤◌, Bool, true, false, not, List, reverse, length, Option, Some, None, slice_get, refl, sym, ap, ◌∙◌, true≢false}
 use Rattle.std.specs.Prelude.{if◌then◌else◌, All}
 use Rattle.sv_wire.specs.declared.message.Request.{Request}
 use Rattle.sv_wire.specs.declared.message.Reply.{Reply}
@@ -9,7 +9,7 @@ use Rattle.sv_journal.specs.Answer.{Rules, Legal}
 use Rattle.sv_client.specs.declared.trace.Event.{Event}
 use Rattle.sv_client.specs.declared.trace.Trace.{Trace}
 use Rattle.sv_client.specs.Traces.{current_session, held_of, pending_of, requests_of, asked, got}
-use Rattle.sv_client.specs.Taking.{Identity, Fault, WrongKind, BadOrder, BadItem, allows, is_out_of_order, has_bad_item, missing_in, missing_fault, unanswered, fault_after, first_fault_of_reply}
+use Rattle.sv_client.specs.Taking.{Identity, WrongKind, BadOrder, BadItem, allows, is_out_of_order, has_bad_item, missing_in, missing_fault, unanswered, fault_after, first_fault_of_reply}
 use Rattle.sv_client.specs.Proper.{identity_of}
 use Rattle.sv_system.specs.Fits.{replies_in, Fits}
 use Rattle.sv_system.proofs.Entered.{entered}
@@ -17,34 +17,36 @@ use Rattle.sv_system.proofs.Aligned.{drop-one}
 use Rattle.sv_system.proofs.Opened.{asks}
 use Rattle.sv_system.proofs.Allowed.{allowed}
 use Rattle.sv_system.proofs.Ordered.{ordered, complete}
+use Rattle.sv_system.proofs.GoodItems.{no-bad_item}
 
--- Of the five faults one is left where the reply was asked for, is of an allowed kind, in order and complete.
-abbrev pub IsLeft : Option Fault → Type 0
-IsLeft f = (f ≡ None) ⊎ (f ≡ Some BadItem)
+none-left : (b c d : Bool) (o : Option (ℕ × ℕ)) → b ≡ true → c ≡ false → d ≡ false → o ≡ None →
+    (if not b then Some WrongKind else if c then Some BadOrder else if d then Some BadItem else missing_fault o) ≡ None
+none-left false c d o k e g f = absurd (true≢false (sym k))
+none-left true true d o k e g f = absurd (true≢false e)
+none-left true false true o k e g f = absurd (true≢false g)
+none-left true false false o k e g f = ap missing_fault f
 
-left-over : (b c d : Bool) (o : Option (ℕ × ℕ)) → b ≡ true → c ≡ false → o ≡ None → IsLeft (if not b then Some WrongKind else if c then Some BadOrder else if d then Some BadItem else missing_fault o)
-left-over false c d o k e f = absurd (true≢false (sym k))
-left-over true true d o k e f = absurd (true≢false e)
-left-over true false true o k e f = inr refl
-left-over true false false o k e f = inl (ap missing_fault f)
+-- None of the five faults applies where the reply was asked for, is of an allowed kind, in order, without a bad item and complete.
+answered-well : (who : Identity) (t : List Event) (s : ℕ) (q : Request) (reply : Reply) → current_session t ≡ Some s →
+    slice_get (asked who.client who.interest t s) (length (got t s)) ≡ Some q → allows q reply ≡ true → is_out_of_order t reply ≡ false →
+    has_bad_item who (pending_of t) q reply ≡ false → missing_in (held_of t) reply ≡ None → first_fault_of_reply who t reply ≡ None
+answered-well who t s q reply c e k o i m =
+    ap (λ (x : Option ℕ). fault_after who t (unanswered who t x) reply) c
+    ∙ ap (λ (qs : List Request). fault_after who t qs reply) (drop-one (length (got t s)) (asked who.client who.interest t s) q e)
+    ∙ none-left (allows q reply) (is_out_of_order t reply) (has_bad_item who (pending_of t) q reply) (missing_in (held_of t) reply) k o i m
 
-answered-left : (who : Identity) (t : List Event) (s : ℕ) (q : Request) (reply : Reply) → current_session t ≡ Some s →
-    slice_get (asked who.client who.interest t s) (length (got t s)) ≡ Some q → allows q reply ≡ true → is_out_of_order t reply ≡ false → missing_in (held_of t) reply ≡ None → IsLeft (first_fault_of_reply who t reply)
-answered-left who t s q reply c e k o m =
-    subst IsLeft
-    (sym (ap (λ (x : Option ℕ). fault_after who t (unanswered who t x) reply) c ∙ ap (λ (qs : List Request). fault_after who t qs reply) (drop-one (length (got t s)) (asked who.client who.interest t s) q e)))
-    (left-over (allows q reply) (is_out_of_order t reply) (has_bad_item who (pending_of t) q reply) (missing_in (held_of t) reply) k o m)
-
-pub few-faults : (r : Rules) (h : List Entry) (Ls : List Trace) (i : ℕ) (L : Trace) (s : ℕ) (reply : Reply) → length r.world.values ≡ r.world.shape.objects →
+pub no-fault : (r : Rules) (h : List Entry) (Ls : List Trace) (i : ℕ) (L : Trace) (s : ℕ) (reply : Reply) → length r.world.values ≡ r.world.shape.objects →
     All (λ (v : List ℤ). length v ≡ r.world.shape.attrs) r.world.values → r.bound ≤ 32 → Legal r h → Fits r.world.shape h Ls →
     slice_get Ls i ≡ Some L → current_session (reverse L.events) ≡ Some s → length (requests_of L s) ≤ 1024 →
-    slice_get (replies_in (accepted h) h s) (length (got (reverse L.events) s)) ≡ Some reply → IsLeft (first_fault_of_reply (identity_of r.world.shape L) (reverse L.events) reply)
-few-faults r h Ls i L s reply count shaped bound legal fits member current few is =
+    slice_get (replies_in (accepted h) h s) (length (got (reverse L.events) s)) ≡ Some reply → first_fault_of_reply (identity_of r.world.shape L) (reverse L.events) reply ≡ None
+no-fault r h Ls i L s reply count shaped bound legal fits member current few is =
     let whole : List Event = reverse L.events in
     let x = entered (accepted h) h s (length (got whole s)) reply is in
     let next : length (replies_in (accepted h) x.before s) ≡ length (got whole s) = sym x.place in
-    answered-left (identity_of r.world.shape L) whole s x.entry.request reply current
+    answered-well (identity_of r.world.shape L) whole s x.entry.request reply current
     (asks r h Ls legal fits i L member s current x.entry x.before x.earlier x.of_it next)
     (ap (allows x.entry.request) x.replied ∙ allowed r h Ls legal fits i L member s current few x.entry x.before x.earlier x.of_it next count shaped bound x.entry.request refl)
     (ap (is_out_of_order whole) x.replied ∙ ordered r h Ls legal fits i L member s current few x.entry x.before x.earlier x.of_it next x.entry.reply refl)
+    (ap (has_bad_item (identity_of r.world.shape L) (pending_of whole) x.entry.request) x.replied
+    ∙ no-bad_item r h Ls legal fits i L member s current few x.entry x.before x.earlier x.of_it next count shaped bound x.entry.reply refl)
     (ap (missing_in (held_of whole)) x.replied ∙ complete r h Ls legal fits i L member s current few x.entry x.before x.earlier x.of_it next count)

@@ -148,12 +148,12 @@ module _ (who : Identity) (first : ℕ) where
   older-made (events.Quit ∷ t) p s n j k a c f e = older-made t p.1 s n j k a c f (asked-as_before t events.Quit n j k a refl e)
   older-made (events.Show objects ∷ t) p s n j k a c f e = older-made t p.1 s n j k a c f (asked-as_before t (events.Show objects) n j k a refl e)
 
-  no-submit : (b : Bool) (q : Request) (j k : ℕ) (a : Action) → is_submit q ≡ false → slice_get (if b then q ∷ [] else []) j ≡ Some (requests.Submit k a) → ⊥
+  pub no-submit : (b : Bool) (q : Request) (j k : ℕ) (a : Action) → is_submit q ≡ false → slice_get (if b then q ∷ [] else []) j ≡ Some (requests.Submit k a) → ⊥
   no-submit true q zero k a f e = true≢false (sym (ap is_submit (same_Some q (requests.Submit k a) e)) ∙ f)
   no-submit true q (suc j) k a f e = none-some (requests.Submit k a) e
   no-submit false q j k a f e = none-some (requests.Submit k a) e
 
-  no-submit_done : (b : Bool) (held : List Held) (r : Reply) (j k : ℕ) (a : Action) → slice_get (if b then done_for held r else []) j ≡ Some (requests.Submit k a) → ⊥
+  pub no-submit_done : (b : Bool) (held : List Held) (r : Reply) (j k : ℕ) (a : Action) → slice_get (if b then done_for held r else []) j ≡ Some (requests.Submit k a) → ⊥
   no-submit_done false held r j k a e = none-some (requests.Submit k a) e
   no-submit_done true held (replies.Relay seq commit head items) zero k a e = true≢false (sym (ap is_submit (same_Some _ (requests.Submit k a) e)))
   no-submit_done true held (replies.Relay seq commit head items) (suc j) k a e = none-some (requests.Submit k a) e

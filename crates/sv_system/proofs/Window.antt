@@ -147,7 +147,7 @@ module _ (who : Identity) (first : ℕ) where
 
 -- ---- The server's next number
 
-submit-of : (q : Request) → is_submit q ≡ true → (n : ℕ) × ((a : Action) × (q ≡ requests.Submit n a))
+pub submit-of : (q : Request) → is_submit q ≡ true → (n : ℕ) × ((a : Action) × (q ≡ requests.Submit n a))
 submit-of (requests.Submit n a) e = (n, (a, refl))
 submit-of (requests.Join client life interest) e = absurd (true≢false (sym e))
 submit-of (requests.Done results) e = absurd (true≢false (sym e))
@@ -180,7 +180,7 @@ next-new d h k n a c q e one' =
     omega arith
 
 -- After a reply that settles the Submit, the client's next number is over its number.
-answered-next : (r : Rules) (A : List Authored) (d : Entry) (h : List Entry) → Legal r (d ∷ h) → (n : ℕ) (a : Action) → d.request ≡ requests.Submit n a → (reply : Logged) → d.reply ≡ reply →
+pub answered-next : (r : Rules) (A : List Authored) (d : Entry) (h : List Entry) → Legal r (d ∷ h) → (n : ℕ) (a : Action) → d.request ≡ requests.Submit n a → (reply : Logged) → d.reply ≡ reply →
     settles (full_reply A reply) ≡ true → (k : ℕ) × ((client_of h d.session ≡ Some k) × (n < next_seq (d ∷ h) k))
 answered-next r A d h l n a q (logged.Relay seq commit head positions) is s =
     let t : IsRelayReply r h d.session d.request commit head positions = subst (λ (y : Logged). Tells r h d.session d.request y) is (legal-tells r d h l) in

@@ -3,3 +3,4 @@ pub mod Fits
 pub mod Journals
 pub mod Serial
 pub mod Delivery
+pub mod Outcomes

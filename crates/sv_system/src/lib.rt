@@ -4,9 +4,11 @@
 mod deliveries;
 mod honest;
 mod journals;
+mod outcomes;
 mod truth;
 
 pub use deliveries::lawful_deliveries_make_values_serial;
-pub use honest::honest_clients_get_what_they_wait_for;
+pub use honest::honest_clients_are_never_refused;
 pub use journals::legal_journals_make_lawful_deliveries;
-pub use truth::replicas_equal_serial_execution;
+pub use outcomes::actions_have_outcomes;
+pub use truth::{committed_world_is_serial, replicas_equal_serial_execution};

@@ -1,5 +1,7 @@
 ghost use Rattle.std.specs.Prelude.{◌≡◌, List, length};
+ghost use Rattle.sv_eval.specs.Serial.{serial_world};
 ghost use Rattle.sv_journal.specs.declared.entry.Entry.{Entry};
+ghost use Rattle.sv_journal.specs.History.{actions_of, commit_of, committed_of};
 ghost use Rattle.sv_journal.specs.Answer.{Rules, Legal};
 ghost use Rattle.sv_client.specs.declared.trace.Trace.{Trace};
 ghost use Rattle.sv_system.specs.Fits.{Fits};
@@ -14,4 +16,13 @@ pub fn replicas_equal_serial_execution()
         Fits r.world.shape h Ls → ValuesAreSerial r.world.values h Ls }
     ensures relays { (r : Rules) (h : List Entry) (Ls : List Trace) → length r.world.values ≡ r.world.shape.objects → Legal r h →
         Fits r.world.shape h Ls → RelaysAreSufficient h Ls }
+{}
+
+/// The committed world is serial: where a journal is legal and clients' traces fit it, the values of all objects at the commit are those that
+/// the accepted actions up to the commit give, one after the other on one whole world.
+///
+/// `r`, `h` and `Ls` are as above.
+pub fn committed_world_is_serial()
+    ensures world { (r : Rules) (h : List Entry) (Ls : List Trace) → length r.world.values ≡ r.world.shape.objects → Legal r h →
+        Fits r.world.shape h Ls → committed_of r.world.values h ≡ serial_world r.world.values (actions_of h) (commit_of h) }
 {}

@@ -1,8 +1,18 @@
-use Rattle.sv_app.proofs.Endings.{unbuilt_is_unbuilt}
+use Rattle.std.proofs.Common.{None}
+use Rattle.sv_app.proofs.Endings.{status_range, status_words, status_file, status_certain, status_out, status_printed, status_part, status_nothing, status_told, faulty_is, complete_is}
 use Rattle.sv_app.proofs.top.run.Goals as goal
 
-pub returns-in-Scenario-clause-unbuilt : goal.returns-in-Scenario-clause-unbuilt
-returns-in-Scenario-clause-unbuilt g c = λ _. rw c.named_file-named.ensures at (c.in-Scenario.ensures.ends.0)
+pub returns-clause-certain : goal.returns-clause-certain
+returns-clause-certain g c = rw c.status_of.ensures (status_certain None _ 0 0 None None 0 0 _ _ (rw c.named_file-named.ensures at c.decide-ending.ensures.certain))
 
-pub returns-in-Scenario-clause-complete : goal.returns-in-Scenario-clause-complete
-returns-in-Scenario-clause-complete g c = unbuilt_is_unbuilt _ _ (rw c.named_file-named.ensures at (c.in-Scenario.ensures.ends.0))
+pub returns-clause-faulty : goal.returns-clause-faulty
+returns-clause-faulty g c = rw c.status_of.ensures (faulty_is _ _ _ _ _ _ _ _ _ (rw c.named_file-named.ensures at c.decide-ending.ensures.words) (rw c.named_file-named.ensures at c.decide-ending.ensures.ends))
+
+pub returns-clause-part : goal.returns-clause-part
+returns-clause-part g c = rw c.status_of.ensures (status_part _ None _ _ _ _ _ _ _ (rw c.named_file-named.ensures at c.decide-ending.ensures.ends))
+
+pub returns-clause-told : goal.returns-clause-told
+returns-clause-told g c = rw c.status_of.ensures (status_told _ _ _ _ _ _ _ _ _ _ _ _ _ (rw c.named_file-named.ensures at c.decide-ending.ensures.ends) (rw c.named_file-named.ensures at c.tell.ensures))
+
+pub returns-clause-complete : goal.returns-clause-complete
+returns-clause-complete g c = rw c.status_of.ensures (complete_is _ _ _ _ _ _ _ _ _ (rw c.named_file-named.ensures at c.decide-ending.ensures.words) (rw c.named_file-named.ensures at c.decide-ending.ensures.ends))

@@ -1,0 +1,39 @@
+//! How many actions the clients made.
+ghost use Rattle.std.specs.Prelude.{◌≡◌, ◌≤◌, All, length, reverse};
+ghost use Rattle.sv_client.specs.declared.trace.Trace.{Trace};
+ghost use Rattle.sv_client.specs.Traces.{is_make, makes};
+ghost use Rattle.sv_report.specs.Summary.{made_count};
+
+use sv_client::{Event, Trace};
+
+fn is_make(event: &Event) -> bool
+    ensures { result ≡ is_make event.now }
+{
+    matches!(event, Event::Make(_))
+}
+
+/// How many of the events make an action.
+fn made_by(events: &[Event]) -> usize
+    ensures { result ≡ makes events.now }
+{
+    let mut count = 0;
+    for event in events {
+        if is_make(event) {
+            count += 1;
+        }
+    }
+    count
+}
+
+/// How many actions all clients made.
+pub(crate) fn made_in(traces: &[Trace]) -> usize
+    requires few { length traces.now ≤ 32 }
+    requires small { All (λ (L : Trace). makes (reverse L.events) ≤ 65536) traces.now }
+    ensures { result ≡ made_count traces.now }
+{
+    let mut count = 0;
+    for trace in traces {
+        count += made_by(trace.events.as_slice());
+    }
+    count
+}

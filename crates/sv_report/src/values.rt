@@ -1,0 +1,30 @@
+//! The committed world.
+ghost use Rattle.std.specs.Prelude.{◌≡◌, ◌++◌, string_bytes, OnOk};
+ghost use Rattle.sv_report.specs.Report.{value_lines, world_text};
+
+use std::alloc::AllocError;
+use sv_journal::append_value;
+use sv_world::Value;
+
+/// Appends the commit, and the values of all objects, each on a line, as `0=(5)`.
+pub(crate) fn append_world(
+    commit: u32,
+    values: &[Value],
+    out: &mut String,
+) -> Result<(), AllocError>
+    ensures { OnOk result (string_bytes out.new ≡ string_bytes out.old ++ world_text commit values.now) }
+{
+    write!(out, "world {commit}\n")?;
+    append_values(values, out)
+}
+
+fn append_values(values: &[Value], out: &mut String) -> Result<(), AllocError>
+    ensures { OnOk result (string_bytes out.new ≡ string_bytes out.old ++ value_lines 0 values.now) }
+{
+    for (object, value) in values.iter().enumerate() {
+        write!(out, "{object}=")?;
+        append_value(value.as_slice(), out)?;
+        out.push_str("\n")?;
+    }
+    Ok(())
+}

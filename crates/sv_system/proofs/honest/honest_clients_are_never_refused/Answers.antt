@@ -1,0 +1,9 @@
+use Rattle.sv_system.proofs.NextReply.{no-fault}
+use Rattle.sv_system.proofs.NonEmpty.{never-empty}
+use Rattle.sv_system.proofs.honest.honest_clients_are_never_refused.Goals as goal
+
+pub returns-clause-faults : goal.returns-clause-faults
+returns-clause-faults c = no-fault
+
+pub returns-clause-items : goal.returns-clause-items
+returns-clause-items c = never-empty
