@@ -5,3 +5,4 @@ pub mod Apart
 pub mod Channels
 pub mod Moving
 pub mod Places
+pub mod Served

@@ -59,11 +59,12 @@ impl Channel {
         Ok(())
     }
 
-    /// Sends a reply to the client.
-    pub(crate) fn answer(&mut self, reply: Reply) -> Result<(), AllocError>
-        ensures { OnOk result (self.new ≡ record self.old { replies = self.old.replies ++ reply ∷ [] }) }
+    /// Sends a reply to the client, after which the session's loop stops or goes on.
+    pub(crate) fn answer(&mut self, reply: Reply, stops: bool) -> Result<(), AllocError>
+        ensures { OnOk result (self.new ≡ record self.old { replies = self.old.replies ++ reply ∷ []; stopped = stops }) }
     {
         self.replies.push_back(reply)?;
+        self.stopped = stops;
         Ok(())
     }
 

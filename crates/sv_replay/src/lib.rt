@@ -5,5 +5,6 @@ mod channel;
 mod machine;
 mod playing;
 mod schedule;
+mod serving;
 
 pub use schedule::run_schedule;
