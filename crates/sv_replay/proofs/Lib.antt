@@ -6,3 +6,5 @@ pub mod Channels
 pub mod Moving
 pub mod Places
 pub mod Served
+pub mod Answering
+pub mod Machines

@@ -113,7 +113,7 @@ same_stop A logged.Bye = refl
 
 -- ---- Whole replies stay
 
-replies_stay : (r : Rules) (e : Entry) (h : List Entry) (s : ℕ) → Legal r h → replies_in (accepted h) h s ≡ replies_in (accepted (e ∷ h)) h s
+pub replies_stay : (r : Rules) (e : Entry) (h : List Entry) (s : ℕ) → Legal r h → replies_in (accepted h) h s ≡ replies_in (accepted (e ∷ h)) h s
 replies_stay r e h s legal =
     fronts-same (replies_in (accepted h) h s) (replies_in (accepted (e ∷ h)) h s) (replies_in (accepted (e ∷ h)) (e ∷ h) s) (replies-grow r e h s legal) (replies-one (accepted (e ∷ h)) e h s)
     (as-many (accepted h) h s ∙ sym (as-many (accepted (e ∷ h)) h s))
@@ -121,20 +121,20 @@ replies_stay r e h s legal =
 -- ---- Which turn it is
 
 module _ (r : Rules) (h : List Entry) (s : ℕ) (c : ChannelView) where
-  next_ended : is_ended h s ≡ true → (next_history r h s c ≡ h) × (next_channel r h s c ≡ c)
+  pub next_ended : is_ended h s ≡ true → (next_history r h s c ≡ h) × (next_channel r h s c ≡ c)
   next_ended e = (rw e refl, rw e refl)
 
-  next_stopped : is_ended h s ≡ false → c.stopped ≡ true → (next_history r h s c ≡ with_entry r h s requests.End) × (next_channel r h s c ≡ record c { stopped = true })
+  pub next_stopped : is_ended h s ≡ false → c.stopped ≡ true → (next_history r h s c ≡ with_entry r h s requests.End) × (next_channel r h s c ≡ record c { stopped = true })
   next_stopped e t = (rw (e, t) refl, rw (e, t) refl)
 
-  next_closed : is_ended h s ≡ false → c.stopped ≡ false → c.requests ≡ [] → c.closed ≡ true →
+  pub next_closed : is_ended h s ≡ false → c.stopped ≡ false → c.requests ≡ [] → c.closed ≡ true →
       (next_history r h s c ≡ with_entry r h s requests.End) × (next_channel r h s c ≡ record c { stopped = true })
   next_closed e t q k = (rw (e, t, q, k) refl, rw (e, t, q, k) refl)
 
-  next_idle : is_ended h s ≡ false → c.stopped ≡ false → c.requests ≡ [] → c.closed ≡ false → (next_history r h s c ≡ h) × (next_channel r h s c ≡ c)
+  pub next_idle : is_ended h s ≡ false → c.stopped ≡ false → c.requests ≡ [] → c.closed ≡ false → (next_history r h s c ≡ h) × (next_channel r h s c ≡ c)
   next_idle e t q k = (rw (e, t, q, k) refl, rw (e, t, q, k) refl)
 
-  next_asked : (q : Request) (qs : List Request) → is_ended h s ≡ false → c.stopped ≡ false → c.requests ≡ q ∷ qs →
+  pub next_asked : (q : Request) (qs : List Request) → is_ended h s ≡ false → c.stopped ≡ false → c.requests ≡ q ∷ qs →
       (next_history r h s c ≡ with_entry r h s q) × (next_channel r h s c ≡ record c {
         requests = qs;
         replies = c.replies ++ full_reply (accepted (with_entry r h s q)) (reply_to r h s q) ∷ [];
