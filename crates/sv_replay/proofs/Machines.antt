@@ -1,5 +1,5 @@
 -- One turn of the machine is one turn of its run, and leaves it in step.
-use Rattle.std.proofs.Common.{◌≡◌, ◌≢◌, ◌⊎◌, inl, inr, ℕ, zero, suc, ◌+◌, ◌-◌, ◌<◌, ◌≤◌, Bool, true, false, ◌==◌, eqb, List, [], ◌∷◌, ◌++◌, map, length, reverse, set, get_or, slice_get, Option, Some, None, refl, sym, ap, subst, ◌∙◌, arith, eqb-true, eq-eqb}
+use Rattle.std.proofs.Common.{◌≡◌, ◌≢◌, ◌⊎◌, inl, inr, ℕ, zero, suc, ◌+◌, ◌-◌, ◌<◌, ◌≤◌, Bool, true, false, ◌==◌, eqb, List, [], ◌∷◌, ◌++◌, map, drop, length, reverse, set, get_or, slice_get, Option, Some, None, refl, sym, ap, subst, ◌∙◌, arith, eqb-true, eq-eqb}
 use Rattle.std.specs.Prelude.{All}
 use Rattle.std.specs.List.{list_any, AllByRecursion}
 use Rattle.std.proofs.lemmas.Bool.{cases_Bool}
@@ -10,8 +10,9 @@ use Rattle.sv_wire.specs.declared.message.Reply.{Reply}
 use Rattle.sv_wire.specs.declared.message.Request.{Request}
 use Rattle.sv_world.specs.declared.world.Shape.{Shape}
 use Rattle.sv_journal.specs.declared.entry.Entry.{Entry}
+use Rattle.sv_journal.specs.History.{accepted}
 use Rattle.sv_journal.specs.Answer.{Rules, Legal}
-use Rattle.sv_client.specs.Traces.{joins}
+use Rattle.sv_client.specs.Traces.{joins, current_session, got}
 use Rattle.sv_scenario.specs.declared.scenario.Plan.{Plan}
 use Rattle.sv_scenario.specs.declared.scenario.Scenario.{Scenario}
 use Rattle.sv_scenario.specs.declared.scenario.Turn.{Turn}
@@ -20,18 +21,21 @@ use Rattle.sv_scenario.specs.Limits.{IsGoodScenario, IsGoodTurn}
 use Rattle.sv_scenario.specs.Sessions.{sessions_of_plan, session_count}
 use Rattle.sv_script.specs.Following.{must_join}
 use Rattle.sv_sequencer.specs.Step.{SequencerView, history}
-use Rattle.sv_system.specs.Fits.{is_join_of}
-use Rattle.sv_schedule.specs.Schedule.{Player, Run, rules_of, at_player, player_turn, session_turn, turned}
+use Rattle.sv_system.specs.Fits.{is_join_of, replies_in}
+use Rattle.sv_system.proofs.Asked.{current-joined}
+use Rattle.sv_schedule.specs.Schedule.{Player, Run, rules_of, at_player, player_turn, open_session, takes, take_in, take_turn, session_turn, turned}
 use Rattle.sv_schedule.specs.Sound.{ArePlaying, IsSound}
 use Rattle.sv_schedule.proofs.SoundLaws.{turns-sound}
 use Rattle.sv_schedule.proofs.SoundCalls.{IsPlayer, player-at, session-next, session-last, turn-player}
 use Rattle.sv_replay.specs.declared.machine.Machine.{Machine}
 use Rattle.sv_replay.specs.declared.playing.Playing.{Playing}
 use Rattle.sv_replay.specs.Channel.{ChannelView, new_channel}
-use Rattle.sv_replay.specs.Players.{session_of, IsFit, Moves, IsChannel}
+use Rattle.sv_replay.specs.Players.{session_of, IsFit, Moves, IsChannel, taken_from, got_in_run}
 use Rattle.sv_replay.specs.Serving.{Served, next_history, next_channel}
 use Rattle.sv_replay.specs.Machine.{player_of, AreFlags, Moved, run_of, IsMachine, Became}
-use Rattle.sv_replay.proofs.Apart.{OthersSilent, IsSilent, others_silent}
+use Rattle.sv_replay.proofs.Apart.{OthersSilent, others_silent, got_by_one}
+use Rattle.sv_replay.proofs.Doing.{session_current}
+use Rattle.sv_replay.proofs.Moving.{take_shut, take_between, take_linked}
 use Rattle.sv_replay.proofs.Channels.{other_stays, own_moves}
 use Rattle.sv_replay.proofs.Places.{place_between, place_within, fewer_fit}
 use Rattle.sv_replay.proofs.Turns.{place-is}
@@ -257,3 +261,59 @@ module _ (m : Machine) (k : ℕ) (p : Playing) (is : IsMachine m) (l : k < lengt
   player_fits_after =
       fewer_fit (session_count m.scenario.now) (player_turn (player_of p)) is.good.sessions
       (fit_after m.scenario.now (run_of m) is.good is.sound k (player_of p) (get_map player_of m.players.items k p player_read))
+
+-- ---- What a player takes
+
+open_as : (p : Player) → p.closed ≡ false → must_join p.events ≡ false → open_session p ≡ current_session p.events
+open_as p l j = rw (l, j) refl
+
+open_shut : (p : Player) → p.closed ≡ true → open_session p ≡ None
+open_shut p l = rw l refl
+
+open_between : (p : Player) → p.closed ≡ false → must_join p.events ≡ true → open_session p ≡ None
+open_between p l j = rw (l, j) refl
+
+-- What waits first over a player's connection is the next reply of its session that it did not take.
+module _ (m : Machine) (k : ℕ) (p : Player) (is : IsMachine m) (at : slice_get (run_of m).players k ≡ Some p) (linked : p.closed ≡ false) (joined : must_join p.events ≡ false) where
+  abbrev place_of : ℕ
+  place_of = session_of p
+
+  abbrev entries : List Entry
+  entries = (run_of m).history
+
+  fit_here : IsFit (session_count m.scenario.now) p
+  fit_here = fit_at m.scenario.now (run_of m) is.good is.sound k p at
+
+  current_here : current_session p.events ≡ Some place_of
+  current_here = session_current p fit_here.proper joined (fit_here.begun joined)
+
+  silent_here : OthersSilent place_of k (run_of m).players
+  silent_here = others_silent m.scenario.now.world.shape entries place_of k (run_of m).players p (recursion_from_All _ _ is.sound.fits.each) is.sound.fits.apart at
+      (current-joined p.events place_of current_here)
+
+  first_left : {X : Type 0} (g : ℕ) (xs : List X) → slice_get (drop g xs) 0 ≡ slice_get xs g
+  first_left zero [] = refl
+  first_left zero (x ∷ xs) = refl
+  first_left (suc g) [] = refl
+  first_left (suc g) (x ∷ xs) = first_left g xs
+
+  pub waits_first : slice_get (get_or m.channels.items place_of new_channel).replies 0 ≡ slice_get (replies_in (accepted entries) entries place_of) (length (got p.events place_of))
+  waits_first =
+      ap (λ (rs : List Reply). slice_get rs 0) (is.channels place_of fit_here.known).replies
+      ∙ first_left (length (got_in_run (run_of m).players place_of)) (replies_in (accepted entries) entries place_of)
+      ∙ ap (λ (rs : List Reply). slice_get (replies_in (accepted entries) entries place_of) (length rs)) (got_by_one place_of k (run_of m).players p silent_here at)
+
+  pub open_here : open_session p ≡ Some place_of
+  open_here = open_as p linked joined ∙ current_here
+
+pub taken_is : (m : Machine) (k : ℕ) (p : Player) → IsMachine m → slice_get (run_of m).players k ≡ Some p →
+    taken_from (get_or m.channels.items (session_of p) new_channel).replies p ≡ take_turn (run_of m).history p
+taken_is m k p is at = elim (cases_Bool p.closed) [
+      | inl shut ↦ take_shut p _ shut ∙ sym (ap (take_in (run_of m).history p) (open_shut p shut))
+      | inr linked ↦ elim (cases_Bool (must_join p.events)) [
+        | inl between ↦ take_between p _ linked between ∙ sym (ap (take_in (run_of m).history p) (open_between p linked between))
+        | inr joined ↦
+            take_linked p _ linked joined ∙ ap (takes p (session_of p)) (waits_first m k p is at linked joined)
+            ∙ sym (ap (take_in (run_of m).history p) (open_here m k p is at linked joined))
+      ]
+    ]

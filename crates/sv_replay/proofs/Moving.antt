@@ -20,10 +20,10 @@ use Rattle.sv_client.proofs.Shifts.{Up, up_joins, up_makes, up_session, up_pendi
 use Rattle.sv_scenario.specs.declared.scenario.Step.{Step}
 use Rattle.sv_scenario.specs.declared.scenario.Step.TheVariants as steps
 use Rattle.sv_script.specs.Following.{must_join, is_welcomed}
-use Rattle.sv_schedule.specs.Schedule.{Player, player_turn, next_step, last_steps, if_free, is_calm, is_settled, does, open_session, takes, takes_if}
+use Rattle.sv_schedule.specs.Schedule.{Player, player_turn, next_step, last_steps, if_free, is_calm, is_settled, does, takes, takes_if}
 use Rattle.sv_replay.specs.declared.playing.Playing.{Playing}
 use Rattle.sv_replay.specs.Channel.{ChannelView, TakesReply}
-use Rattle.sv_replay.specs.Players.{session_of, IsFit, Moves, is_closing}
+use Rattle.sv_replay.specs.Players.{session_of, IsFit, Moves, is_closing, taken_from}
 use Rattle.sv_replay.specs.Machine.{player_of, AreFlags, IsReady, Does, Moved}
 use Rattle.sv_replay.proofs.Events.{is_got, up_must, up_welcomed}
 use Rattle.sv_replay.proofs.Doing.{player, is_quit, session_latest, JoinsNext, event_moves, close_moves, got_moves, still_moves, left_moves}
@@ -266,37 +266,26 @@ refused_moved p c b d s reply fault h back other is flags =
     (still_at _ p c (ap (takes (player_of p) s) (first_of reply c.replies b.replies (ap (λ (v : ChannelView). v.replies) h))
       ∙ took_faulty (player_of p) s reply f.0 (up_fault p.first p.client.who p.client.events reply ∙ f.1)) flags)
 
-open_parts : (p : Player) (s : ℕ) → open_session p ≡ Some s → (p.closed ≡ false) × (must_join p.events ≡ false)
-open_parts p s e = elim (cases_Bool p.closed) [
-      | inl y ↦ absurd (let h : open_session p ≡ None = rw y refl in cc)
-      | inr f ↦ elim (cases_Bool (must_join p.events)) [
-        | inl y ↦ absurd (let h : open_session p ≡ None = rw (f, y) refl in cc)
-        | inr g ↦ (f, g)
-      ]
-    ]
-
 -- A reply was got, and what it asks is sent.
-pub took_moved : (p q : Playing) (c b d : ChannelView) (reply : Reply) → IsFit 64 (player_of p) → open_session (player_of p) ≡ Some (session_of (player_of p)) →
+pub took_moved : (p q : Playing) (c b d : ChannelView) (reply : Reply) → IsFit 64 (player_of p) → p.closed ≡ false → must_join p.client.events ≡ false →
     TakesReply c b (Some reply) → first_fault_of_reply p.client.who p.client.events reply ≡ None →
     q.client.who ≡ p.client.who → q.client.events ≡ got_now p.client.events reply ∷ p.client.events → q.first ≡ p.first → q.left.now ≡ p.left.now → q.closed ≡ p.closed →
     AreFlags p → q.between ≡ p.between → q.welcomed ≡ true → d ≡ record b { requests = b.requests ++ newly_asked p.client.who p.client.events (got_now p.client.events reply) } →
     Moved (takes (player_of p) (session_of (player_of p)) (slice_get c.replies 0)) p q c d
-took_moved p q c b d reply fit linked h fine who es first left closed flags between welcomed sent =
+took_moved p q c b d reply fit linked joined h fine who es first left closed flags between welcomed sent =
     let k = p.client.who in
     let t = p.client.events in
     let e = got_now t reply in
     let n = session_of (player_of p) in
-    let parts = open_parts (player_of p) n linked in
-    let joined : must_join t ≡ false = sym (up_must p.first t) ∙ parts.1 in
-    let free : IsFit 64 (player k p.first t p.left.now false) = subst (λ b. IsFit 64 (player k p.first t p.left.now b)) parts.0 fit in
-    let last : latest_session t + p.first ≡ n = session_latest k p.first t p.left.now p.closed fit.proper joined (fit.begun parts.1) in
+    let free : IsFit 64 (player k p.first t p.left.now false) = subst (λ b. IsFit 64 (player k p.first t p.left.now b)) linked fit in
+    let last : latest_session t + p.first ≡ n = session_latest k p.first t p.left.now p.closed fit.proper joined (fit.begun (up_must p.first t ∙ joined)) in
     let next : takes (player_of p) n (slice_get c.replies 0) ≡ player k p.first (e ∷ t) p.left.now false =
         ap (takes (player_of p) n) (first_of reply c.replies b.replies (ap (λ (v : ChannelView). v.replies) h))
         ∙ took_fine (player_of p) n reply (up_fault p.first k t reply ∙ fine)
         ∙ ap (λ (m : ℕ). does (player_of p) (events.Got m reply) p.left.now) (sym last)
-        ∙ ap (λ (x : Bool). player k p.first (e ∷ t) p.left.now x) parts.0 in
+        ∙ ap (λ (x : Bool). player k p.first (e ∷ t) p.left.now x) linked in
     subst (λ (x : Player). Moved x p q c d) (sym next) (record {
-      player = same_player q.client.who k q.first p.first q.client.events (e ∷ t) q.left.now p.left.now q.closed false who first es left (closed ∙ parts.0);
+      player = same_player q.client.who k q.first p.first q.client.events (e ∷ t) q.left.now p.left.now q.closed false who first es left (closed ∙ linked);
       flags = record {
         between = between ∙ flags.between ∙ joined ∙ ap must_join (sym es);
         welcomed = welcomed ∙ ap is_welcomed (sym es);
@@ -304,10 +293,21 @@ took_moved p q c b d reply fit linked h fine who es first left closed flags betw
       sent = newly_asked k t e;
       taken = reply ∷ [];
       closing = false;
-      moves = at_closed k p.first t p.left.now p.closed (λ (old : Player). Moves (session_of old) old (player k p.first (e ∷ t) p.left.now false) (newly_asked k t e) (reply ∷ []) false) parts.0
+      moves = at_closed k p.first t p.left.now p.closed (λ (old : Player). Moves (session_of old) old (player k p.first (e ∷ t) p.left.now false) (newly_asked k t e) (reply ∷ []) false) linked
         (got_moves k p.first t p.left.now free joined (latest_session t) reply refl);
       requests = ap (λ (v : ChannelView). v.requests) sent ∙ ap (λ (v : ChannelView). v.requests ++ newly_asked k t e) (sym h);
       replies = ap (λ (v : ChannelView). v.replies) h ∙ ap (λ (rs : List Reply). reply ∷ rs) (sym (ap (λ (v : ChannelView). v.replies) sent));
       closed = ap (λ (v : ChannelView). v.closed) sent ∙ ap (λ (v : ChannelView). v.closed) (sym h) ∙ or_none c.closed;
       stopped = ap (λ (v : ChannelView). v.stopped) sent ∙ ap (λ (v : ChannelView). v.stopped) (sym h);
     })
+
+-- ---- Whether a client's end is open
+
+pub take_shut : (p : Player) (replies : List Reply) → p.closed ≡ true → taken_from replies p ≡ p
+take_shut p replies c = rw c refl
+
+pub take_between : (p : Player) (replies : List Reply) → p.closed ≡ false → must_join p.events ≡ true → taken_from replies p ≡ p
+take_between p replies c m = rw (c, m) refl
+
+pub take_linked : (p : Player) (replies : List Reply) → p.closed ≡ false → must_join p.events ≡ false → taken_from replies p ≡ takes p (session_of p) (slice_get replies 0)
+take_linked p replies c m = rw (c, m) refl

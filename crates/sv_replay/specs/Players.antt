@@ -1,6 +1,6 @@
 -- What one player does in a run over its session's connection, and what each session's connection holds.
 -- A history is the list of a journal's entries with the latest first; events stand with the latest first too.
-use Rattle.std.specs.Prelude.{◌≡◌, ◌⊎◌, ℕ, ◌+◌, ◌-◌, ◌<◌, ◌≤◌, Bool, true, false, ◌==◌, ◌||◌, List, [], ◌++◌, length, drop, if◌then◌else◌}
+use Rattle.std.specs.Prelude.{◌≡◌, ◌⊎◌, ℕ, ◌+◌, ◌-◌, ◌<◌, ◌≤◌, Bool, true, false, ◌==◌, ◌||◌, List, [], ◌++◌, length, drop, slice_get, if◌then◌else◌}
 use Rattle.std.specs.List.{list_any, flat_map}
 use Rattle.sv_wire.specs.declared.message.Reply.{Reply}
 use Rattle.sv_wire.specs.declared.message.Request.{Request}
@@ -11,7 +11,7 @@ use Rattle.sv_client.specs.Traces.{joins, asked, got}
 use Rattle.sv_client.specs.Proper.{AreProper}
 use Rattle.sv_script.specs.Following.{must_join}
 use Rattle.sv_system.specs.Fits.{is_join_of, requests_in, replies_in}
-use Rattle.sv_schedule.specs.Schedule.{Player, Run, asked_in_run, closed_by, is_stopped}
+use Rattle.sv_schedule.specs.Schedule.{Player, Run, asked_in_run, closed_by, is_stopped, takes}
 use Rattle.sv_replay.specs.Channel.{ChannelView}
 
 -- The session that a player is in, or joins next.
@@ -23,6 +23,10 @@ pub record IsFit (sessions : ℕ) (p : Player) : Type 0 where
   pub proper : AreProper p.who p.first p.events
   pub begun : must_join p.events ≡ false → 1 ≤ joins p.events
   pub known : session_of p < sessions
+
+-- A player takes the first of the replies that wait in its session, if its link is open.
+abbrev pub taken_from : List Reply → Player → Player
+taken_from replies p = if p.closed || must_join p.events then p else takes p (session_of p) (slice_get replies 0)
 
 abbrev pub asked_by_player : Player → ℕ → List Request
 asked_by_player p s = asked p.who.client p.who.interest p.events s

@@ -53,9 +53,6 @@ impl<'a> Machine<'a> {
         ensures { OnOk result (Became self.old self.new (turned (rules_of self.old.scenario.now) (run_of self.old) (turns.Take client))) }
     {
         let player = &mut self.players[client];
-        if !player.is_linked() {
-            return Ok(());
-        }
         let session = player.session() as usize;
         player.take(&mut self.channels[session])
     }

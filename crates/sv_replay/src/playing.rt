@@ -1,12 +1,12 @@
-ghost use Rattle.std.specs.Prelude.{◌≡◌, ◌<◌, [], ◌∷◌, ◌++◌, ◌||◌, not, true, false, Some, option_to_list, slice_get, OnOk};
+ghost use Rattle.std.specs.Prelude.{◌≡◌, ◌<◌, [], ◌∷◌, ◌++◌, true, false, option_to_list, slice_get, OnOk};
 ghost use Rattle.sv_client.specs.declared.trace.Event.TheVariants as events;
 ghost use Rattle.sv_client.specs.Traces.{joins};
 ghost use Rattle.sv_client.specs.Proper.{MayMake, MayPoll, MayLeave};
 ghost use Rattle.sv_scenario.specs.declared.scenario.Step.TheVariants as steps;
 ghost use Rattle.sv_script.specs.Following.{must_join};
-ghost use Rattle.sv_schedule.specs.Schedule.{player_turn, next_step, last_steps, open_session, takes, is_calm, is_settled};
+ghost use Rattle.sv_schedule.specs.Schedule.{player_turn, next_step, last_steps, takes, is_calm, is_settled};
 ghost use Rattle.sv_replay.specs.Channel.{ChannelView};
-ghost use Rattle.sv_replay.specs.Players.{session_of, IsFit};
+ghost use Rattle.sv_replay.specs.Players.{session_of, IsFit, taken_from};
 ghost use Rattle.sv_replay.specs.Machine.{player_of, AreFlags, IsReady, Does, Moved};
 
 use crate::channel::Channel;
@@ -47,14 +47,6 @@ impl<'a> Playing<'a> {
             welcomed: false,
             closed: false,
         }
-    }
-
-    /// Whether its end of a session is open.
-    pub(crate) fn is_linked(&self) -> bool
-        requires { AreFlags self.now }
-        ensures { result ≡ not (self.now.closed || must_join (player_of self.now).events) }
-    {
-        !self.closed && !self.between
     }
 
     /// The session that it is in, or joins next.
@@ -283,11 +275,23 @@ impl<'a> Playing<'a> {
         channel.send(request)
     }
 
-    /// Takes the next reply that waits for it, if there is one. One that it refuses stays.
+    /// Takes the next reply that waits for it, if its end of a session is open. One that it refuses stays.
     pub(crate) fn take(&mut self, channel: &mut Channel) -> Result<(), AllocError>
         requires flags { AreFlags self.old }
         requires fit { IsFit 64 (player_of self.old) }
-        requires linked { open_session (player_of self.old) ≡ Some (session_of (player_of self.old)) }
+        ensures { OnOk result (Moved (taken_from channel.old.replies (player_of self.old)) self.old self.new channel.old channel.new) }
+    {
+        if self.closed || self.between {
+            return Ok(());
+        }
+        self.take_next(channel)
+    }
+
+    fn take_next(&mut self, channel: &mut Channel) -> Result<(), AllocError>
+        requires flags { AreFlags self.old }
+        requires fit { IsFit 64 (player_of self.old) }
+        requires linked { self.old.closed ≡ false }
+        requires joined { must_join self.old.client.events ≡ false }
         ensures { OnOk result (Moved (takes (player_of self.old) (session_of (player_of self.old)) (slice_get channel.old.replies 0)) self.old self.new channel.old channel.new) }
     {
         let Some(reply) = channel.next_reply() else {
