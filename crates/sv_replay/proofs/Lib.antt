@@ -8,3 +8,4 @@ pub mod Places
 pub mod Served
 pub mod Answering
 pub mod Machines
+pub mod Heading

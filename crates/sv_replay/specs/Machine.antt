@@ -9,7 +9,8 @@ use Rattle.sv_scenario.specs.declared.scenario.Step.{Step}
 use Rattle.sv_scenario.specs.Limits.{IsGoodScenario}
 use Rattle.sv_scenario.specs.Sessions.{session_count}
 use Rattle.sv_script.specs.Following.{must_join, is_welcomed}
-use Rattle.sv_schedule.specs.Schedule.{Player, Run, rules_of}
+use Rattle.sv_journal.specs.Answer.{Rules}
+use Rattle.sv_schedule.specs.Schedule.{Player, Run, rules_of, session_turns, at_player, take_turns}
 use Rattle.sv_schedule.specs.Sound.{IsSound}
 use Rattle.sv_replay.specs.declared.machine.Machine.{Machine}
 use Rattle.sv_replay.specs.declared.playing.Playing.{Playing}
@@ -82,3 +83,17 @@ pub record Became (old new : Machine) (run : Run) : Type 0 where
   pub scenario : new.scenario.now ≡ old.scenario.now
   pub machine : IsMachine new
   pub run_is : run_of new ≡ run
+
+-- On the way from one machine to a run: what is left to do makes it of the run so far.
+pub record Heads (start now : Machine) (left : Run → Run) (goal : Run) : Type 0 where
+  pub scenario : now.scenario.now ≡ start.scenario.now
+  pub machine : IsMachine now
+  pub arrives : left (run_of now) ≡ goal
+
+-- All that a session has to do was done.
+abbrev pub after_session : Rules → ℕ → Run → Run
+after_session r s run = record run { history = session_turns r run.players run.history s }
+
+-- All replies that wait for a client were taken.
+abbrev pub after_take : ℕ → Run → Run
+after_take k run = record run { players = at_player run.players k (take_turns run.history) }
