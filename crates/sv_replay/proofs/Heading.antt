@@ -1,5 +1,5 @@
 -- Phases of many turns: what is left to do at each turn.
-use Rattle.std.proofs.Common.{◌≡◌, ◌⊎◌, inl, inr, ℕ, zero, suc, ◌+◌, ◌-◌, ◌<◌, ◌≤◌, ◌≢◌, Bool, true, false, ◌&&◌, ◌||◌, not, ◌==◌, eqb, List, [], ◌∷◌, ◌++◌, map, drop, length, set, slice_get, Option, Some, None, refl, sym, ap, subst, ◌∙◌, arith, eqb-true, eq-eqb, add-one}
+use Rattle.std.proofs.Common.{◌≡◌, ◌⊎◌, inl, inr, ℕ, zero, suc, ◌+◌, ◌-◌, ◌<◌, ◌≤◌, ◌≢◌, Bool, true, false, ◌&&◌, ◌||◌, not, ◌==◌, eqb, List, [], ◌∷◌, ◌++◌, map, drop, length, set, get_or, slice_get, Option, Some, None, refl, sym, ap, subst, ◌∙◌, arith, eqb-true, eq-eqb, add-one}
 use Rattle.std.specs.Prelude.{if◌then◌else◌}
 use Rattle.std.specs.List.{list_any}
 use Rattle.std.proofs.lemmas.Bool.{cases_Bool, cond-true, cond-false}
@@ -21,11 +21,13 @@ use Rattle.sv_scenario.specs.declared.scenario.Scenario.{Scenario}
 use Rattle.sv_script.specs.Following.{must_join}
 use Rattle.sv_system.specs.Fits.{requests_in, replies_in, is_ended}
 use Rattle.sv_system.proofs.Entered.{is_of, of-from, as-many}
-use Rattle.sv_schedule.specs.Schedule.{Player, Run, asked_in_run, closed_by, is_stopped, with_entry, steps_next, session_turn, open_session, takes, takes_if, take_in, take_turn, at_player, repeated, does}
+use Rattle.sv_schedule.specs.Schedule.{Player, Run, asked_in_run, closed_by, is_stopped, with_entry, steps_next, session_turn, open_session, takes, takes_if, take_in, take_turn, at_player, repeated, does, take_turns, session_turns, sessions_turned}
 use Rattle.sv_replay.specs.declared.machine.Machine.{Machine}
-use Rattle.sv_replay.specs.Machine.{player_of, run_of, IsMachine, Became, Heads}
-use Rattle.sv_replay.proofs.Turns.{repeated-enough, place-is, turned_from, turned-next, turned-all}
-use Rattle.sv_replay.proofs.Machines.{clients_are}
+use Rattle.sv_replay.specs.Machine.{player_of, run_of, IsMachine, Became, Heads, after_session, after_take}
+use Rattle.sv_replay.proofs.Turns.{repeated-enough, place-is, turned_from, turned-next, turned-all, place-again, place-none}
+use Rattle.sv_replay.proofs.Machines.{clients_are, waits_all, open_here, open_shut, open_between}
+use Rattle.sv_replay.specs.Channel.{new_channel}
+use Rattle.sv_replay.specs.Players.{session_of}
 
 pub heads_start : (m : Machine) (left : Run → Run) (goal : Run) → IsMachine m → left (run_of m) ≡ goal → Heads m m left goal
 heads_start m left goal is e = record { scenario = refl; machine = is; arrives = e }
@@ -217,3 +219,76 @@ clients_all f run k l = ap (λ (ps : List Player). record run { players = ps }) 
 
 pub same_clients : (start now : Machine) (left : Run → Run) (goal : Run) → Heads start now left goal → length now.scenario.now.clients ≡ length start.scenario.now.clients
 same_clients start now left goal h = ap (λ (x : Scenario). length x.clients) h.scenario
+
+pub heads_first : (start after : Machine) (left : Run → Run) (goal next : Run) → Became start after next → left next ≡ goal → Heads start after left goal
+heads_first start after left goal next b e = record { scenario = b.scenario; machine = b.machine; arrives = ap left b.run_is ∙ e }
+
+one_fewer : (n i : ℕ) → i < n → suc (n - (i + 1)) ≡ n - i
+one_fewer n i l = omega arith
+
+none_left : (n i : ℕ) → n ≤ i → n - i ≡ 0
+none_left n i l = omega arith
+
+pub serve_first : (r : Rules) (s : ℕ) (run : Run) (n : ℕ) → n ≡ length (drop (length (requests_in run.history s)) (asked_in_run run.players s)) →
+    record run { history = repeated (n - 0) (λ h. session_turn r run.players h s) (session_turn r run.players run.history s) } ≡ after_session r s run
+serve_first r s run n e =
+    let all : n - 0 ≡ n = omega arith in
+    ap (λ (k : ℕ). record run { history = repeated k (λ h. session_turn r run.players h s) (session_turn r run.players run.history s) }) all
+    ∙ ap (λ (h : List Entry). record run { history = h }) (enough_turns r run.players s run.history n e)
+
+pub serve_next : (r : Rules) (s : ℕ) (run : Run) (n i : ℕ) → i < n →
+    record run { history = repeated (n - (i + 1)) (λ h. session_turn r run.players h s) (session_turn r run.players run.history s) } ≡ record run { history = repeated (n - i) (λ h. session_turn r run.players h s) run.history }
+serve_next r s run n i l = ap (λ (k : ℕ). record run { history = repeated k (λ h. session_turn r run.players h s) run.history }) (one_fewer n i l)
+
+pub serve_end : (r : Rules) (s : ℕ) (run : Run) (n i : ℕ) → n ≤ i → record run { history = repeated (n - i) (λ h. session_turn r run.players h s) run.history } ≡ run
+serve_end r s run n i l = ap (λ (k : ℕ). record run { history = repeated k (λ h. session_turn r run.players h s) run.history }) (none_left n i l)
+
+-- ---- Replies taken
+
+pub take_first : (k : ℕ) (run : Run) (p : Player) (n : ℕ) → slice_get run.players k ≡ Some p → work_in run.history p (open_session p) ≤ n →
+    record run { players = at_player run.players k (repeated (n - 0) (take_turn run.history)) } ≡ after_take k run
+take_first k run p n at l =
+    let all : n - 0 ≡ n = omega arith in
+    ap (λ (i : ℕ). record run { players = at_player run.players k (repeated i (take_turn run.history)) }) all
+    ∙ ap (λ (ps : List Player). record run { players = ps })
+      (place-is (repeated n (take_turn run.history)) run.players k p at ∙ ap (λ (q : Player). set run.players k q) (enough_takes run.history p n l)
+        ∙ sym (place-is (take_turns run.history) run.players k p at))
+
+pub take_next : (k : ℕ) (run : Run) (n i : ℕ) → i < n →
+    record run { players = at_player (at_player run.players k (take_turn run.history)) k (repeated (n - (i + 1)) (take_turn run.history)) } ≡ record run { players = at_player run.players k (repeated (n - i) (take_turn run.history)) }
+take_next k run n i l =
+    ap (λ (ps : List Player). record run { players = ps }) (place-again (n - (i + 1)) (take_turn run.history) run.players k)
+    ∙ ap (λ (j : ℕ). record run { players = at_player run.players k (repeated j (take_turn run.history)) }) (one_fewer n i l)
+
+pub take_end : (k : ℕ) (run : Run) (n i : ℕ) → n ≤ i → record run { players = at_player run.players k (repeated (n - i) (take_turn run.history)) } ≡ run
+take_end k run n i l =
+    ap (λ (j : ℕ). record run { players = at_player run.players k (repeated j (take_turn run.history)) }) (none_left n i l)
+    ∙ ap (λ (ps : List Player). record run { players = ps }) (place-none (take_turn run.history) run.players k)
+
+-- ---- Sessions one after the other
+
+pub sessions_next : (r : Rules) (run : Run) (n k : ℕ) → k < n →
+    record run { history = sessions_turned r run.players (session_turns r run.players run.history k) (drop (k + 1) (below n)) } ≡ record run { history = sessions_turned r run.players run.history (drop k (below n)) }
+sessions_next r run n k l =
+    ap (λ (i : ℕ). record run { history = sessions_turned r run.players (session_turns r run.players run.history k) (drop i (below n)) }) (add-one k)
+    ∙ ap (λ (ss : List ℕ). record run { history = sessions_turned r run.players run.history ss }) (sym (below_next n k l))
+
+pub sessions_end : (r : Rules) (run : Run) (n k : ℕ) → n ≤ k → record run { history = sessions_turned r run.players run.history (drop k (below n)) } ≡ run
+sessions_end r run n k l = ap (λ (ss : List ℕ). record run { history = sessions_turned r run.players run.history ss }) (below_all n k l)
+
+-- As many replies wait over a player's connection as it has to take.
+pub waits_enough : (m : Machine) (k : ℕ) (p : Player) → IsMachine m → slice_get (run_of m).players k ≡ Some p →
+    work_in (run_of m).history p (open_session p) ≤ length (get_or m.channels.items (session_of p) new_channel).replies
+waits_enough m k p is at = elim (cases_Bool p.closed) [
+      | inl shut ↦ none_waits (open_shut p shut)
+      | inr linked ↦ elim (cases_Bool (must_join p.events)) [
+        | inl between ↦ none_waits (open_between p linked between)
+        | inr joined ↦
+            (let same : length (get_or m.channels.items (session_of p) new_channel).replies ≡ length (drop (length (got p.events (session_of p))) (replies_in (accepted (run_of m).history) (run_of m).history (session_of p))) =
+                ap (λ (rs : List Reply). length rs) (waits_all m k p is at linked joined) in
+              subst (λ (o : Option ℕ). work_in (run_of m).history p o ≤ length (get_or m.channels.items (session_of p) new_channel).replies) (sym (open_here m k p is at linked joined)) (omega arith))
+      ]
+    ]
+  where
+    none_waits : open_session p ≡ None → work_in (run_of m).history p (open_session p) ≤ length (get_or m.channels.items (session_of p) new_channel).replies
+    none_waits o = subst (λ (x : Option ℕ). work_in (run_of m).history p x ≤ length (get_or m.channels.items (session_of p) new_channel).replies) (sym o) (omega arith)

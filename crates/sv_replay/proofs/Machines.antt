@@ -267,10 +267,10 @@ module _ (m : Machine) (k : ℕ) (p : Playing) (is : IsMachine m) (l : k < lengt
 open_as : (p : Player) → p.closed ≡ false → must_join p.events ≡ false → open_session p ≡ current_session p.events
 open_as p l j = rw (l, j) refl
 
-open_shut : (p : Player) → p.closed ≡ true → open_session p ≡ None
+pub open_shut : (p : Player) → p.closed ≡ true → open_session p ≡ None
 open_shut p l = rw l refl
 
-open_between : (p : Player) → p.closed ≡ false → must_join p.events ≡ true → open_session p ≡ None
+pub open_between : (p : Player) → p.closed ≡ false → must_join p.events ≡ true → open_session p ≡ None
 open_between p l j = rw (l, j) refl
 
 -- What waits first over a player's connection is the next reply of its session that it did not take.
@@ -297,11 +297,13 @@ module _ (m : Machine) (k : ℕ) (p : Player) (is : IsMachine m) (at : slice_get
   first_left (suc g) [] = refl
   first_left (suc g) (x ∷ xs) = first_left g xs
 
+  pub waits_all : (get_or m.channels.items place_of new_channel).replies ≡ drop (length (got p.events place_of)) (replies_in (accepted entries) entries place_of)
+  waits_all =
+      (is.channels place_of fit_here.known).replies
+      ∙ ap (λ (rs : List Reply). drop (length rs) (replies_in (accepted entries) entries place_of)) (got_by_one place_of k (run_of m).players p silent_here at)
+
   pub waits_first : slice_get (get_or m.channels.items place_of new_channel).replies 0 ≡ slice_get (replies_in (accepted entries) entries place_of) (length (got p.events place_of))
-  waits_first =
-      ap (λ (rs : List Reply). slice_get rs 0) (is.channels place_of fit_here.known).replies
-      ∙ first_left (length (got_in_run (run_of m).players place_of)) (replies_in (accepted entries) entries place_of)
-      ∙ ap (λ (rs : List Reply). slice_get (replies_in (accepted entries) entries place_of) (length rs)) (got_by_one place_of k (run_of m).players p silent_here at)
+  waits_first = ap (λ (rs : List Reply). slice_get rs 0) waits_all ∙ first_left (length (got p.events place_of)) (replies_in (accepted entries) entries place_of)
 
   pub open_here : open_session p ≡ Some place_of
   open_here = open_as p linked joined ∙ current_here

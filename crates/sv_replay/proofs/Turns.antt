@@ -64,13 +64,12 @@ place-is f (y ∷ ys) zero x e = let same : y ≡ x = cc in ap (λ z. f z ∷ ys
 place-is f (y ∷ ys) (suc k) x e = ap (λ zs. y ∷ zs) (place-is f ys k x e)
 
 -- Turns of one element, again and again.
-pub place-repeated : (n : ℕ) (f : Player → Player) (xs : List Player) (k : ℕ) → repeated n (λ ys. at_player ys k f) xs ≡ at_player xs k (repeated n f)
-place-repeated zero f [] k = refl
-place-repeated zero f (x ∷ xs) zero = refl
-place-repeated zero f (x ∷ xs) (suc k) = ap (λ ys. x ∷ ys) (place-repeated zero f xs k)
-place-repeated (suc n) f xs k = place-repeated n f (at_player xs k f) k ∙ places n f xs k
-  where
-    places : (n : ℕ) (f : Player → Player) (xs : List Player) (k : ℕ) → at_player (at_player xs k f) k (repeated n f) ≡ at_player xs k (repeated (suc n) f)
-    places n f [] k = refl
-    places n f (x ∷ xs) zero = refl
-    places n f (x ∷ xs) (suc k) = ap (λ ys. x ∷ ys) (places n f xs k)
+pub place-again : (n : ℕ) (f : Player → Player) (xs : List Player) (k : ℕ) → at_player (at_player xs k f) k (repeated n f) ≡ at_player xs k (repeated (suc n) f)
+place-again n f [] k = refl
+place-again n f (x ∷ xs) zero = refl
+place-again n f (x ∷ xs) (suc k) = ap (λ ys. x ∷ ys) (place-again n f xs k)
+
+pub place-none : (f : Player → Player) (xs : List Player) (k : ℕ) → at_player xs k (repeated zero f) ≡ xs
+place-none f [] k = refl
+place-none f (x ∷ xs) zero = refl
+place-none f (x ∷ xs) (suc k) = ap (λ ys. x ∷ ys) (place-none f xs k)

@@ -126,7 +126,8 @@ impl<'a> Machine<'a> {
         ensures { OnOk result (Became self.old self.new (after_take client (run_of self.old))) }
     {
         let session = self.players[client].session() as usize;
-        for _ in 0..self.channels[session].replies() {
+        let waiting = self.channels[session].replies();
+        for _ in 0..waiting {
             self.take_turn(client)?;
         }
         Ok(())

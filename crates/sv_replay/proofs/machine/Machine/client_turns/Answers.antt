@@ -1,4 +1,5 @@
 use Rattle.std.proofs.Common.{◌+◌, arith}
+use Rattle.sv_replay.proofs.Turns.{turned_from}
 use Rattle.sv_schedule.specs.Schedule.{Run, player_turn}
 use Rattle.sv_replay.specs.Machine.{run_of}
 use Rattle.sv_replay.proofs.Machines.{clients_are}
@@ -12,7 +13,7 @@ client_turn-requires-clause-client c =
 
 pub loop-client-preserved : goal.loop-client-preserved
 loop-client-preserved c =
-    heads_next _ _ _ _ (λ (run : Run). record run { players = Rattle.sv_replay.proofs.Turns.turned_from (c.loop-client.client + 1) player_turn run.players }) _ _
+    heads_next _ _ _ _ (λ (run : Run). record run { players = turned_from (c.loop-client.client + 1) player_turn run.players }) _ _
     c.loop-client.invariant c.in_ok-client_turn.ensures (clients_next player_turn (run_of c.loop-client.self) c.loop-client.client)
 
 pub returns : goal.returns

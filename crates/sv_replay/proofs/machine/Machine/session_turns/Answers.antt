@@ -1,0 +1,4 @@
+use Rattle.sv_replay.proofs.machine.Machine.session_turns.Goals as goal
+
+pub loop-session-preserved : goal.loop-session-preserved
+loop-session-preserved c = ?
