@@ -21,7 +21,7 @@ use Rattle.sv_scenario.specs.declared.scenario.Scenario.{Scenario}
 use Rattle.sv_script.specs.Following.{must_join}
 use Rattle.sv_system.specs.Fits.{requests_in, replies_in, is_ended}
 use Rattle.sv_system.proofs.Entered.{is_of, of-from, as-many}
-use Rattle.sv_schedule.specs.Schedule.{Player, Run, asked_in_run, closed_by, is_stopped, with_entry, steps_next, session_turn, open_session, takes, takes_if, take_in, take_turn, at_player, repeated, does, take_turns, session_turns, sessions_turned}
+use Rattle.sv_schedule.specs.Schedule.{Player, Run, asked_in_run, closed_by, is_stopped, with_entry, steps_next, session_turn, open_session, takes, takes_if, take_in, take_turn, at_player, repeated, does, take_turns, session_turns, sessions_turned, rules_of, after_clients, after_sessions, after_takes, round}
 use Rattle.sv_replay.specs.declared.machine.Machine.{Machine}
 use Rattle.sv_replay.specs.Machine.{player_of, run_of, IsMachine, Became, Heads, after_session, after_take}
 use Rattle.sv_replay.proofs.Turns.{repeated-enough, place-is, turned_from, turned-next, turned-all, place-again, place-none}
@@ -292,3 +292,22 @@ waits_enough m k p is at = elim (cases_Bool p.closed) [
   where
     none_waits : open_session p ≡ None → work_in (run_of m).history p (open_session p) ≤ length (get_or m.channels.items (session_of p) new_channel).replies
     none_waits o = subst (λ (x : Option ℕ). work_in (run_of m).history p x ≤ length (get_or m.channels.items (session_of p) new_channel).replies) (sym o) (omega arith)
+
+-- ---- Rounds
+
+pub round_became : (m a b w : Machine) → Became m a (after_clients (run_of m)) → Became a b (after_sessions (rules_of a.scenario.now) (run_of a)) → Became b w (after_takes (run_of b)) →
+    Became m w (round (rules_of m.scenario.now) (run_of m))
+round_became m a b w x y z = record {
+  scenario = z.scenario ∙ y.scenario ∙ x.scenario;
+  machine = z.machine;
+  run_is = z.run_is ∙ ap after_takes (y.run_is ∙ ap (λ (s : Scenario). after_sessions (rules_of s) (run_of a)) x.scenario ∙ ap (after_sessions (rules_of m.scenario.now)) x.run_is);
+}
+
+pub rounds_next : (r : Rules) (run : Run) (n i : ℕ) → i < n → repeated (n - (i + 1)) (round r) (round r run) ≡ repeated (n - i) (round r) run
+rounds_next r run n i l = ap (λ (k : ℕ). repeated k (round r) run) (one_fewer n i l)
+
+pub rounds_end : (r : Rules) (run : Run) (n i : ℕ) → n ≤ i → repeated (n - i) (round r) run ≡ run
+rounds_end r run n i l = ap (λ (k : ℕ). repeated k (round r) run) (none_left n i l)
+
+pub rounds_start : (r : Rules) (run : Run) (n : ℕ) → repeated (n - 0) (round r) run ≡ repeated n (round r) run
+rounds_start r run n = let all : n - 0 ≡ n = omega arith in ap (λ (k : ℕ). repeated k (round r) run) all

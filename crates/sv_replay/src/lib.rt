@@ -3,6 +3,7 @@
 
 mod channel;
 mod machine;
+mod opening;
 mod playing;
 mod schedule;
 mod serving;

@@ -2,7 +2,7 @@ ghost use Rattle.std.specs.Prelude.{◌≡◌, ◌<◌, length, OnOk};
 ghost use Rattle.sv_scenario.specs.declared.scenario.Turn.TheVariants as turns;
 ghost use Rattle.sv_scenario.specs.Limits.{IsGoodTurn};
 ghost use Rattle.sv_scenario.specs.Sessions.{session_count};
-ghost use Rattle.sv_schedule.specs.Schedule.{rules_of, turned, all_turned, after_clients, after_sessions, after_takes, round};
+ghost use Rattle.sv_schedule.specs.Schedule.{rules_of, turned, all_turned, after_clients, after_sessions, after_takes, round, repeated};
 ghost use Rattle.sv_replay.specs.Machine.{run_of, IsMachine, Became, after_session, after_take};
 
 use crate::channel::Channel;
@@ -152,5 +152,16 @@ impl<'a> Machine<'a> {
         self.client_turns()?;
         self.session_turns()?;
         self.take_turns()
+    }
+
+    /// So many rounds.
+    pub(crate) fn run_rounds(&mut self, rounds: u16) -> Result<(), AllocError>
+        requires { IsMachine self.old }
+        ensures { OnOk result (Became self.old self.new (repeated rounds (round (rules_of self.old.scenario.now)) (run_of self.old))) }
+    {
+        for _ in 0..rounds {
+            self.round()?;
+        }
+        Ok(())
     }
 }
