@@ -9,3 +9,4 @@ pub mod Served
 pub mod Answering
 pub mod Machines
 pub mod Heading
+pub mod Opened

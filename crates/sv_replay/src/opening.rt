@@ -1,6 +1,6 @@
 //! The machine at the opening of a run.
 
-ghost use Rattle.std.specs.Prelude.{◌≡◌, ℕ, [], ◌+◌, ◌<◌, ◌≤◌, length, map, slice_index_or, All, IfOk};
+ghost use Rattle.std.specs.Prelude.{◌≡◌, ℕ, false, [], ◌+◌, ◌<◌, ◌≤◌, length, map, slice_index_or, All, IfOk};
 ghost use Rattle.sv_scenario.specs.Limits.{IsGoodScenario, IsGoodPlan};
 ghost use Rattle.sv_scenario.specs.Sessions.{session_count, sessions_of_plan};
 ghost use Rattle.sv_schedule.specs.Schedule.{rules_of, players_from, opening_run};

@@ -4,14 +4,14 @@ ghost use Rattle.sv_client.specs.Traces.{joins};
 ghost use Rattle.sv_client.specs.Proper.{MayMake, MayPoll, MayLeave};
 ghost use Rattle.sv_scenario.specs.declared.scenario.Step.TheVariants as steps;
 ghost use Rattle.sv_script.specs.Following.{must_join};
-ghost use Rattle.sv_schedule.specs.Schedule.{player_turn, next_step, last_steps, takes, is_calm, is_settled};
+ghost use Rattle.sv_schedule.specs.Schedule.{player_turn, next_step, last_steps, takes, trace_of_player, is_calm, is_settled};
 ghost use Rattle.sv_replay.specs.Channel.{ChannelView};
 ghost use Rattle.sv_replay.specs.Players.{session_of, IsFit, taken_from};
 ghost use Rattle.sv_replay.specs.Machine.{player_of, AreFlags, IsReady, Does, Moved};
 
 use crate::channel::Channel;
 use std::alloc::{AllocError, Global};
-use sv_client::{Client, MakeFault, Mark, PollFault, TakeFault};
+use sv_client::{Client, MakeFault, Mark, PollFault, TakeFault, Trace};
 use sv_scenario::Step;
 use sv_wire::Request;
 use sv_world::{Action, List, ObjectId, copy_action, copy_objects};
@@ -47,6 +47,15 @@ impl<'a> Playing<'a> {
             welcomed: false,
             closed: false,
         }
+    }
+
+    /// What it did.
+    pub(crate) fn into_trace(self) -> Trace
+        requires { self.first < 64 }
+        ensures { result ≡ trace_of_player (player_of self.entry) }
+    {
+        let Playing { client, first, .. } = self;
+        client.into_trace(first)
     }
 
     /// The session that it is in, or joins next.
