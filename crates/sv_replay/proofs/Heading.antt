@@ -44,7 +44,7 @@ pub below_length : (n : ℕ) → length (below n) ≡ n
 below_length zero = refl
 below_length (suc n) = let l : length (below n) ≡ n = below_length n in let a : length (below n ++ n ∷ []) ≡ length (below n) + 1 = length-append (below n) (n ∷ []) in omega arith
 
-drop_past : {X : Type 0} (n : ℕ) (xs : List X) → length xs ≤ n → drop n xs ≡ []
+pub drop_past : {X : Type 0} (n : ℕ) (xs : List X) → length xs ≤ n → drop n xs ≡ []
 drop_past zero [] l = refl
 drop_past zero (x ∷ xs) l = absurd (omega arith)
 drop_past (suc n) [] l = refl

@@ -10,3 +10,4 @@ pub mod Answering
 pub mod Machines
 pub mod Heading
 pub mod Opened
+pub mod Committed

@@ -37,7 +37,7 @@ use Rattle.sv_replay.proofs.Apart.{OthersSilent, others_silent, got_by_one}
 use Rattle.sv_replay.proofs.Doing.{session_current}
 use Rattle.sv_replay.proofs.Moving.{take_shut, take_between, take_linked}
 use Rattle.sv_replay.proofs.Channels.{other_stays, own_moves}
-use Rattle.sv_replay.proofs.Places.{place_between, place_within, fewer_fit}
+use Rattle.sv_replay.proofs.Places.{place_between, place_within, fewer_fit, first_few}
 use Rattle.sv_replay.proofs.Turns.{place-is}
 use Rattle.sv_replay.proofs.Answering.{run_at, session_turn_is, own_served, other_served}
 
@@ -319,3 +319,10 @@ taken_is m k p is at = elim (cases_Bool p.closed) [
             ∙ sym (ap (take_in (run_of m).history p) (open_here m k p is at linked joined))
       ]
     ]
+
+-- Each player's first session is one of 64.
+pub firsts_few : (m : Machine) → IsMachine m → All (λ (p : Playing). p.first < 64) m.players.items
+firsts_few m is = λ k d l.
+    let p = get_or m.players.items k d in
+    let at = get_map player_of m.players.items k p (get_at m.players.items k d l) in
+    first_few (player_of p) (fewer_fit (session_count m.scenario.now) (player_of p) is.good.sessions (fit_at m.scenario.now (run_of m) is.good is.sound k (player_of p) at))

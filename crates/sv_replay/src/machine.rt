@@ -72,7 +72,7 @@ impl<'a> Machine<'a> {
     }
 
     /// The turns of the scenario's schedule.
-    pub(crate) fn run_schedule(&mut self) -> Result<(), AllocError>
+    pub(crate) fn run_turns(&mut self) -> Result<(), AllocError>
         requires { IsMachine self.old }
         ensures { OnOk result (Became self.old self.new (all_turned (rules_of self.old.scenario.now) (run_of self.old) self.old.scenario.now.schedule)) }
     {

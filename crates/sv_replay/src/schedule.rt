@@ -31,7 +31,7 @@ pub fn run_schedule(alloc: Global, scenario: &Scenario) -> Result<Played, AllocE
     ensures replay { IfOk result (λ played. IsReplay scenario.now (reverse played.journal.entries) played.traces) }
 {
     let mut machine = open_machine(alloc, scenario)?;
-    machine.run_schedule()?;
+    machine.run_turns()?;
     machine.run_rounds(MOST_ROUNDS)?;
     played(machine)
 }

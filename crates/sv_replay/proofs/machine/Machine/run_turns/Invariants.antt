@@ -1,7 +1,7 @@
 use Rattle.std.proofs.Common.{◌≡◌, drop}
 use Rattle.sv_schedule.specs.Schedule.{Run, rules_of, all_turned}
 use Rattle.sv_replay.specs.Machine.{run_of, Heads}
-use Rattle.sv_replay.proofs.machine.Machine.run_schedule.Given as goal
+use Rattle.sv_replay.proofs.machine.Machine.run_turns.Given as goal
 
 abbrev pub invariant-loop-turn : goal.invariant-loop-turn
 invariant-loop-turn l =
