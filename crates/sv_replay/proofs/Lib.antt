@@ -11,3 +11,4 @@ pub mod Machines
 pub mod Heading
 pub mod Opened
 pub mod Committed
+pub mod Ended

@@ -13,7 +13,7 @@ use crate::playing::Playing;
 use std::alloc::{AllocError, Global};
 use sv_client::Trace;
 use sv_scenario::Scenario;
-use sv_schedule::Played;
+use sv_schedule::{Played, scheduled_runs_are_replays};
 use sv_sequencer::Sequencer;
 use sv_world::{List, ObjectId, Value, copy_value};
 
@@ -30,6 +30,7 @@ pub fn run_schedule(alloc: Global, scenario: &Scenario) -> Result<Played, AllocE
     ensures played { IfOk result (λ played. IsPlayed scenario.now played) }
     ensures replay { IfOk result (λ played. IsReplay scenario.now (reverse played.journal.entries) played.traces) }
 {
+    scheduled_runs_are_replays();
     let mut machine = open_machine(alloc, scenario)?;
     machine.run_turns()?;
     machine.run_rounds(MOST_ROUNDS)?;
