@@ -1,6 +1,11 @@
 //! The run of a scenario's schedule on one thread.
 #![tactic(auto)]
 
+mod channel;
+mod machine;
+mod opening;
+mod playing;
 mod schedule;
+mod serving;
 
 pub use schedule::run_schedule;

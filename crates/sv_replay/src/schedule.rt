@@ -1,11 +1,24 @@
-ghost use Rattle.std.specs.Prelude.{◌≡◌, reverse, IfOk};
+ghost use Rattle.std.specs.Prelude.{◌≡◌, ◌<◌, ◌∷◌, [], length, map, reverse, IfOk, All};
+ghost use Rattle.sv_journal.specs.History.{commit_of, committed_of};
 ghost use Rattle.sv_scenario.specs.Limits.{IsGoodScenario};
-ghost use Rattle.sv_schedule.specs.Schedule.{scheduled_run, traces_of};
+ghost use Rattle.sv_sequencer.specs.Step.{history};
+ghost use Rattle.sv_schedule.specs.Schedule.{trace_of_player, scheduled_run, traces_of};
 ghost use Rattle.sv_schedule.specs.Records.{IsPlayed, IsReplay};
+ghost use Rattle.sv_replay.specs.declared.playing.Playing.{Playing};
+ghost use Rattle.sv_replay.specs.Machine.{player_of, run_of, IsMachine};
 
+use crate::machine::Machine;
+use crate::opening::open_machine;
+use crate::playing::Playing;
 use std::alloc::{AllocError, Global};
+use sv_client::Trace;
 use sv_scenario::Scenario;
-use sv_schedule::Played;
+use sv_schedule::{Played, scheduled_runs_are_replays};
+use sv_sequencer::Sequencer;
+use sv_world::{List, ObjectId, Value, copy_value};
+
+/// So many rounds are always enough.
+const MOST_ROUNDS: u16 = 1000;
 
 /// Runs a scenario on one thread: the turns of its schedule, and then rounds until every client is finished and every session ended.
 ///
@@ -17,5 +30,66 @@ pub fn run_schedule(alloc: Global, scenario: &Scenario) -> Result<Played, AllocE
     ensures played { IfOk result (λ played. IsPlayed scenario.now played) }
     ensures replay { IfOk result (λ played. IsReplay scenario.now (reverse played.journal.entries) played.traces) }
 {
-    Err(AllocError)
+    scheduled_runs_are_replays();
+    let mut machine = open_machine(alloc, scenario)?;
+    machine.run_turns()?;
+    machine.run_rounds(MOST_ROUNDS)?;
+    played(machine)
+}
+
+/// What a machine's run leaves.
+fn played(machine: Machine<'_>) -> Result<Played, AllocError>
+    requires { IsMachine machine }
+    ensures shape { IfOk result (λ played. played.shape ≡ machine.entry.scenario.now.world.shape) }
+    ensures journal { IfOk result (λ played. reverse played.journal.entries ≡ (run_of machine.entry).history) }
+    ensures traces { IfOk result (λ played. played.traces ≡ traces_of (run_of machine.entry)) }
+    ensures commit { IfOk result (λ played. played.commit ≡ commit_of (run_of machine.entry).history) }
+    ensures committed { IfOk result (λ played. played.committed ≡ committed_of machine.entry.scenario.now.world.values (run_of machine.entry).history) }
+{
+    let Machine {
+        alloc,
+        scenario,
+        sequencer,
+        players,
+        ..
+    } = machine;
+    let committed = committed(alloc, &sequencer, scenario.world.shape.objects)?;
+    let traces = traces(alloc, players)?;
+    let commit = sequencer.commit();
+    Ok(Played {
+        shape: scenario.world.shape,
+        journal: sequencer.into_journal(),
+        traces,
+        commit,
+        committed,
+    })
+}
+
+/// The committed value of each object.
+fn committed(
+    alloc: Global,
+    sequencer: &Sequencer,
+    objects: u16,
+) -> Result<List<Value>, AllocError>
+    requires objects { objects ≡ sequencer.now.rules.world.shape.objects }
+    requires values { length sequencer.now.rules.world.values ≡ objects }
+    ensures { IfOk result (λ values. values ≡ committed_of sequencer.now.rules.world.values (history sequencer.now)) }
+{
+    let mut values = List::new(alloc);
+    for object in 0..objects {
+        values.push(copy_value(alloc, sequencer.committed(ObjectId(object)))?)?;
+    }
+    Ok(values)
+}
+
+/// What each client did.
+fn traces(alloc: Global, players: Vec<Playing<'_>>) -> Result<List<Trace>, AllocError>
+    requires { All (λ (p : Playing). p.first < 64) players.items }
+    ensures { IfOk result (λ traces. traces ≡ map trace_of_player (map player_of players.entry.items)) }
+{
+    let mut traces = List::new(alloc);
+    for player in players {
+        traces.push(player.into_trace())?;
+    }
+    Ok(traces)
 }

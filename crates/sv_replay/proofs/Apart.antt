@@ -1,0 +1,157 @@
+-- Each session is of one player alone: the others ask and get nothing in it.
+use Rattle.std.proofs.Common.{◌≡◌, ◌⊎◌, inl, inr, ℕ, zero, suc, ◌+◌, ◌<◌, ◌≤◌, Bool, true, false, eqb, List, [], ◌∷◌, ◌++◌, map, drop, length, reverse, set, slice_get, Option, Some, None, refl, sym, ap, subst, ◌∙◌, arith, eqb-true, append_assoc, append-nil}
+use Rattle.std.specs.Prelude.{if◌then◌else◌, All}
+use Rattle.std.specs.List.{list_any, flat_map, AllByRecursion}
+use Rattle.std.proofs.lemmas.Bool.{cases_Bool}
+use Rattle.std.proofs.lemmas.List.{reverse-reverse}
+use Rattle.std.proofs.lemmas.List.Elements.{recursion_from_All}
+use Rattle.sv_world.specs.declared.world.Shape.{Shape}
+use Rattle.sv_wire.specs.declared.message.Reply.{Reply}
+use Rattle.sv_wire.specs.declared.message.Request.{Request}
+use Rattle.sv_journal.specs.declared.entry.Entry.{Entry}
+use Rattle.sv_client.specs.declared.trace.Event.{Event}
+use Rattle.sv_client.specs.declared.trace.Event.TheVariants as events
+use Rattle.sv_client.specs.declared.trace.Trace.{Trace}
+use Rattle.sv_client.specs.Traces.{joins, current_session, is_session, asked, asked_by, got, done_for, held_of}
+use Rattle.sv_client.specs.Taking.{Identity}
+use Rattle.sv_client.specs.Proper.{AreProper, identity_of}
+use Rattle.sv_system.specs.Fits.{is_join_of, has_session, FitsOne, AreApart, AreAllApart}
+use Rattle.sv_system.proofs.Asked.{current-joined, any-reverse}
+use Rattle.sv_schedule.specs.Schedule.{Player, trace_of_player, asked_in_run}
+use Rattle.sv_replay.specs.Players.{asked_by_player, got_in_run}
+
+-- ---- A session that was not begun
+
+not_joined : (t : List Event) (n s : ℕ) → list_any (is_join_of n) t ≡ false → current_session t ≡ Some s → eqb s n ≡ false
+not_joined t n s e c = elim (cases_Bool (eqb s n)) [
+      | inr f ↦ f
+      | inl y ↦ (let there : list_any (is_join_of s) t ≡ true = current-joined t s c in
+          let here : list_any (is_join_of n) t ≡ true = subst (λ k. list_any (is_join_of k) t ≡ true) (eqb-true s n y) there in cc)
+    ]
+
+not_in : (t : List Event) (n : ℕ) → list_any (is_join_of n) t ≡ false → is_session (current_session t) n ≡ false
+not_in t n e = go (current_session t) refl
+  where
+    go : (o : Option ℕ) → current_session t ≡ o → is_session o n ≡ false
+    go None c = refl
+    go (Some s) c = not_joined t n s e c
+
+pub nothing : {X : Type 0} (b : Bool) (xs : List X) → b ≡ false → (if b then xs else []) ≡ []
+nothing true xs e = cc
+nothing false xs e = refl
+
+neither : {X : Type 0} (xs ys : List X) → xs ≡ [] → ys ≡ [] → xs ++ ys ≡ []
+neither xs ys e h = rw (e, h) refl
+
+join_parts : (n s : ℕ) (t : List Event) → list_any (is_join_of n) (events.Join s ∷ t) ≡ false → (eqb s n ≡ false) × (list_any (is_join_of n) t ≡ false)
+join_parts n s t e = elim (cases_Bool (eqb s n)) [
+      | inl y ↦ absurd (let h : list_any (is_join_of n) (events.Join s ∷ t) ≡ true = rw y refl in cc)
+      | inr f ↦ (f, rw f at e)
+    ]
+
+pub none_asked : (who : Identity) (first : ℕ) (t : List Event) → AreProper who first t → (n : ℕ) → list_any (is_join_of n) t ≡ false → asked who.client who.interest t n ≡ []
+none_asked who first [] p n e = refl
+none_asked who first (events.Join s ∷ t) p n e =
+    neither _ _ (none_asked who first t p.1 n (join_parts n s t e).1) (nothing (eqb s n) _ (join_parts n s t e).0)
+none_asked who first (events.Make a ∷ t) p n e = neither _ _ (none_asked who first t p.1 n e) (nothing (is_session (current_session t) n) _ (not_in t n e))
+none_asked who first (events.Poll ∷ t) p n e = neither _ _ (none_asked who first t p.1 n e) (nothing (is_session (current_session t) n) _ (not_in t n e))
+none_asked who first (events.Leave ∷ t) p n e = neither _ _ (none_asked who first t p.1 n e) (nothing (is_session (current_session t) n) _ (not_in t n e))
+none_asked who first (events.Got s reply ∷ t) p n e = neither _ _ (none_asked who first t p.1 n e) (nothing (eqb s n) (done_for (held_of t) reply) (not_joined t n s e p.0.current))
+none_asked who first (events.Cut ∷ t) p n e = neither _ _ (none_asked who first t p.1 n e) refl
+none_asked who first (events.Quit ∷ t) p n e = neither _ _ (none_asked who first t p.1 n e) refl
+none_asked who first (events.Show os ∷ t) p n e = neither _ _ (none_asked who first t p.1 n e) refl
+
+pub none_got : (who : Identity) (first : ℕ) (t : List Event) → AreProper who first t → (n : ℕ) → list_any (is_join_of n) t ≡ false → got t n ≡ []
+none_got who first [] p n e = refl
+none_got who first (events.Join s ∷ t) p n e = none_got who first t p.1 n (join_parts n s t e).1
+none_got who first (events.Make a ∷ t) p n e = none_got who first t p.1 n e
+none_got who first (events.Poll ∷ t) p n e = none_got who first t p.1 n e
+none_got who first (events.Leave ∷ t) p n e = none_got who first t p.1 n e
+none_got who first (events.Got s reply ∷ t) p n e = rw (not_joined t n s e p.0.current) (none_got who first t p.1 n e)
+none_got who first (events.Cut ∷ t) p n e = none_got who first t p.1 n e
+none_got who first (events.Quit ∷ t) p n e = none_got who first t p.1 n e
+none_got who first (events.Show os ∷ t) p n e = none_got who first t p.1 n e
+
+-- ---- Players that are silent in a session
+
+pub record IsSilent (n : ℕ) (p : Player) : Type 0 where
+  pub asks : asked_by_player p n ≡ []
+  pub gets : got p.events n ≡ []
+
+-- All players but the k-th are silent in session n.
+abbrev pub OthersSilent : ℕ → ℕ → List Player → Type 0
+OthersSilent n k [] = Unit {0}
+OthersSilent n zero (p ∷ ps) = AllByRecursion (IsSilent n) ps
+OthersSilent n (suc k) (p ∷ ps) = IsSilent n p × OthersSilent n k ps
+
+joined_back : (p : Player) (n : ℕ) → list_any (is_join_of n) p.events ≡ true → has_session (trace_of_player p) n ≡ true
+joined_back p n e = any-reverse (is_join_of n) (reverse p.events) (ap (λ (es : List Event). list_any (is_join_of n) es) (reverse-reverse p.events) ∙ e)
+
+silent_from : (shape : Shape) (h : List Entry) (p : Player) (n : ℕ) → FitsOne shape h (trace_of_player p) → (has_session (trace_of_player p) n ≡ true → ⊥) → IsSilent n p
+silent_from shape h p n fits none =
+    let who : Identity = identity_of shape (trace_of_player p) in
+    let proper : AreProper who p.first p.events = subst (AreProper who p.first) (reverse-reverse p.events) fits.proper.events in
+    let free : list_any (is_join_of n) p.events ≡ false = elim (cases_Bool (list_any (is_join_of n) p.events)) [ inl y ↦ absurd (none (joined_back p n y)) | inr f ↦ f ] in
+    record { asks = none_asked who p.first p.events proper n free; gets = none_got who p.first p.events proper n free }
+
+later_silent : (shape : Shape) (h : List Entry) (q : Player) (n : ℕ) (ps : List Player) → AllByRecursion (FitsOne shape h) (map trace_of_player ps) →
+    AllByRecursion (AreApart (trace_of_player q)) (map trace_of_player ps) → has_session (trace_of_player q) n ≡ true → AllByRecursion (IsSilent n) ps
+later_silent shape h q n [] fits apart has = tt
+later_silent shape h q n (p ∷ ps) fits apart has =
+    (silent_from shape h p n fits.0 (λ y. apart.0.sessions n has y), later_silent shape h q n ps fits.1 apart.1 has)
+
+apart_at : (p : Player) (k : ℕ) (ps : List Player) (q : Player) → AllByRecursion (AreApart (trace_of_player p)) (map trace_of_player ps) → slice_get ps k ≡ Some q →
+    AreApart (trace_of_player p) (trace_of_player q)
+apart_at p k [] q apart e = cc
+apart_at p zero (r ∷ ps) q apart e = let same : r ≡ q = cc in subst (λ (x : Player). AreApart (trace_of_player p) (trace_of_player x)) same apart.0
+apart_at p (suc k) (r ∷ ps) q apart e = apart_at p k ps q apart.1 e
+
+pub others_silent : (shape : Shape) (h : List Entry) (n k : ℕ) (ps : List Player) (q : Player) → AllByRecursion (FitsOne shape h) (map trace_of_player ps) →
+    AreAllApart (map trace_of_player ps) → slice_get ps k ≡ Some q → list_any (is_join_of n) q.events ≡ true → OthersSilent n k ps
+others_silent shape h n k [] q fits apart e has = tt
+others_silent shape h n zero (p ∷ ps) q fits apart e has =
+    let same : q ≡ p = cc in
+    later_silent shape h p n ps fits.1 (recursion_from_All _ (map trace_of_player ps) apart.0) (joined_back p n (subst (λ (x : Player). list_any (is_join_of n) x.events ≡ true) same has))
+others_silent shape h n (suc k) (p ∷ ps) q fits apart e has = (
+  silent_from shape h p n fits.0 (λ y. (apart_at p k ps q (recursion_from_All _ (map trace_of_player ps) apart.0) e).sessions n y (joined_back q n has)),
+  others_silent shape h n k ps q fits.1 apart.1 e has,
+)
+
+-- ---- Of all players together
+
+pub all_ask_nothing : (n : ℕ) (ps : List Player) → AllByRecursion (IsSilent n) ps → asked_in_run ps n ≡ []
+all_ask_nothing n [] h = refl
+all_ask_nothing n (p ∷ ps) h = neither _ _ h.0.asks (all_ask_nothing n ps h.1)
+
+pub all_get_nothing : (n : ℕ) (ps : List Player) → AllByRecursion (IsSilent n) ps → got_in_run ps n ≡ []
+all_get_nothing n [] h = refl
+all_get_nothing n (p ∷ ps) h = neither _ _ h.0.gets (all_get_nothing n ps h.1)
+
+-- What all got in a session is what its player got.
+pub got_by_one : (n k : ℕ) (ps : List Player) (q : Player) → OthersSilent n k ps → slice_get ps k ≡ Some q → got_in_run ps n ≡ got q.events n
+got_by_one n k [] q h e = cc
+got_by_one n zero (p ∷ ps) q h e =
+    let same : p ≡ q = cc in
+    ap (λ (rs : List Reply). got p.events n ++ rs) (all_get_nothing n ps h) ∙ append-nil (got p.events n) ∙ ap (λ (x : Player). got x.events n) same
+got_by_one n (suc k) (p ∷ ps) q h e = ap (λ (rs : List Reply). rs ++ got_in_run ps n) h.0.gets ∙ got_by_one n k ps q h.1 e
+
+-- Something is put behind what one player said, which commutes with what the later ones said.
+pub flat_moved : {X : Type 0} (f : Player → List X) (more : List X) (k : ℕ) (ps : List Player) (p q : Player) → slice_get ps k ≡ Some p → f q ≡ f p ++ more →
+    more ++ flat_map f (drop (suc k) ps) ≡ flat_map f (drop (suc k) ps) ++ more → flat_map f (set ps k q) ≡ flat_map f ps ++ more
+flat_moved f more k [] p q e grown c = cc
+flat_moved f more zero (r ∷ ps) p q e grown c =
+    let same : p ≡ r = cc in
+    ap (λ xs. xs ++ flat_map f ps) (grown ∙ ap (λ x. f x ++ more) same) ∙ append_assoc (f r) more (flat_map f ps) ∙ ap (λ xs. f r ++ xs) c ∙ sym (append_assoc (f r) (flat_map f ps) more)
+flat_moved f more (suc k) (r ∷ ps) p q e grown c =
+    ap (λ xs. f r ++ xs) (flat_moved f more k ps p q e grown c) ∙ sym (append_assoc (f r) (flat_map f ps) more)
+
+pub commutes_with_none : {X : Type 0} (more xs : List X) → xs ≡ [] → more ++ xs ≡ xs ++ more
+commutes_with_none more xs e = rw e (append-nil more)
+
+pub none_commutes : {X : Type 0} (more xs : List X) → more ≡ [] → more ++ xs ≡ xs ++ more
+none_commutes more xs e = rw e (sym (append-nil xs))
+
+pub later_of : (n k : ℕ) (ps : List Player) → OthersSilent n k ps → AllByRecursion (IsSilent n) (drop (suc k) ps)
+later_of n k [] h = tt
+later_of n zero (p ∷ ps) h = h
+later_of n (suc k) (p ∷ ps) h = later_of n k ps h.1

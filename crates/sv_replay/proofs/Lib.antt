@@ -1,0 +1,14 @@
+pub mod Turns
+pub mod Events
+pub mod Doing
+pub mod Apart
+pub mod Channels
+pub mod Moving
+pub mod Places
+pub mod Served
+pub mod Answering
+pub mod Machines
+pub mod Heading
+pub mod Opened
+pub mod Committed
+pub mod Ended

@@ -1,0 +1,208 @@
+-- A session's turn by its connection is its turn in the run, and each connection stays in step.
+use Rattle.std.proofs.Common.{◌≡◌, ◌⊎◌, inl, inr, ℕ, zero, suc, ◌+◌, ◌-◌, ◌<◌, ◌≤◌, Bool, true, false, ◌&&◌, ◌||◌, not, ◌==◌, eqb, List, [], ◌∷◌, ◌++◌, map, drop, length, reverse, Option, Some, None, refl, sym, ap, subst, ◌∙◌, arith, eqb-true, eq-eqb, append_assoc, append-nil, add-one}
+use Rattle.std.specs.Prelude.{if◌then◌else◌}
+use Rattle.std.specs.List.{list_any, flat_map, AllByRecursion}
+use Rattle.std.proofs.lemmas.Bool.{cases_Bool}
+use Rattle.std.proofs.lemmas.List.{drop-append-le, drop-drop, length-append, length-drop, reverse-append}
+use Rattle.sv_wire.specs.declared.message.Reply.{Reply}
+use Rattle.sv_wire.specs.declared.message.Request.{Request}
+use Rattle.sv_wire.specs.declared.message.Request.TheVariants as requests
+use Rattle.sv_wire.specs.declared.message.Reply.TheVariants as replies
+use Rattle.sv_pending.specs.Pending.{PendingAction}
+use Rattle.sv_world.specs.declared.world.ClientId.{ClientId}
+use Rattle.sv_world.specs.declared.world.ObjectId.{ObjectId}
+use Rattle.sv_versions.specs.Held.{Held}
+use Rattle.sv_journal.specs.declared.entry.Entry.{Entry}
+use Rattle.sv_journal.specs.declared.entry.Logged.{Logged}
+use Rattle.sv_journal.specs.declared.entry.Logged.TheVariants as logged
+use Rattle.sv_journal.specs.History.{Authored, accepted, full_reply}
+use Rattle.sv_journal.specs.Sessions.{is_end}
+use Rattle.sv_journal.specs.Answer.{Rules, Legal, reply_to}
+use Rattle.sv_client.specs.declared.trace.Event.{Event}
+use Rattle.sv_client.specs.declared.trace.Event.TheVariants as events
+use Rattle.sv_client.specs.Traces.{asked, asked_by, submit_of, pending_of, current_session, is_session, held_of, done_for}
+use Rattle.sv_sequencer.specs.Rows.{is_ended as is_ended_by_rows}
+use Rattle.sv_system.specs.Fits.{requests_in, replies_in, is_ended}
+use Rattle.sv_system.proofs.Fronts.{fronts-same}
+use Rattle.sv_system.proofs.Entered.{as-many, replies-one}
+use Rattle.sv_schedule.specs.Schedule.{Player, Run, asked_in_run, closed_by, is_stop, is_stopped, with_entry, steps_next, session_turn}
+use Rattle.sv_schedule.proofs.SoundReplies.{replies-grow}
+use Rattle.sv_sequencer.specs.Step.{SequencerView, history, entry_of, Grew, Answered}
+use Rattle.sv_replay.specs.Channel.{ChannelView, TakesRequest}
+use Rattle.sv_replay.specs.Players.{got_in_run, IsChannel}
+use Rattle.sv_replay.specs.Serving.{is_stop_reply, next_history, next_channel, answered, with_answer, Entered, Served}
+
+-- ---- What is never asked
+
+IsAsked : Request → Type 0
+IsAsked q = is_end q ≡ false
+
+submits_asked : (ps : List PendingAction) → AllByRecursion (λ (q : Request). is_end q ≡ false) (map submit_of ps)
+submits_asked [] = tt
+submits_asked (p ∷ ps) = (refl, submits_asked ps)
+
+done_asked : (held : List Held) (reply : Reply) → AllByRecursion (λ (q : Request). is_end q ≡ false) (done_for held reply)
+done_asked held (replies.Welcome commit head) = tt
+done_asked held (replies.Relay seq commit head items) = (refl, tt)
+done_asked held (replies.Dropped seq chain far) = tt
+done_asked held (replies.Settled seq pos) = tt
+done_asked held (replies.Noted commit) = tt
+done_asked held replies.Idle = tt
+done_asked held (replies.Refused code detail) = tt
+done_asked held replies.Bye = tt
+
+where_asked : {X : Type 0} (P : X → Type 0) (b : Bool) (xs : List X) → AllByRecursion P xs → AllByRecursion P (if b then xs else [])
+where_asked P true xs a = a
+where_asked P false xs a = tt
+
+both_asked : {X : Type 0} (P : X → Type 0) (xs ys : List X) → AllByRecursion P xs → AllByRecursion P ys → AllByRecursion P (xs ++ ys)
+both_asked P [] ys a b = b
+both_asked P (x ∷ xs) ys a b = (a.0, both_asked P xs ys a.1 b)
+
+event_asked : (client : ClientId) (interest : List ObjectId) (t : List Event) (e : Event) (s : ℕ) → AllByRecursion (λ (q : Request). is_end q ≡ false) (asked_by client interest t e s)
+event_asked client interest t (events.Join n) s = where_asked (λ (q : Request). is_end q ≡ false) (n == s) _ (refl, submits_asked (pending_of t))
+event_asked client interest t (events.Make a) s = where_asked (λ (q : Request). is_end q ≡ false) (is_session (current_session t) s) _ (refl, tt)
+event_asked client interest t events.Poll s = where_asked (λ (q : Request). is_end q ≡ false) (is_session (current_session t) s) _ (refl, tt)
+event_asked client interest t events.Leave s = where_asked (λ (q : Request). is_end q ≡ false) (is_session (current_session t) s) _ (refl, tt)
+event_asked client interest t (events.Got n reply) s = where_asked (λ (q : Request). is_end q ≡ false) (n == s) _ (done_asked (held_of t) reply)
+event_asked client interest t events.Cut s = tt
+event_asked client interest t events.Quit s = tt
+event_asked client interest t (events.Show os) s = tt
+
+trace_asked : (client : ClientId) (interest : List ObjectId) (t : List Event) (s : ℕ) → AllByRecursion (λ (q : Request). is_end q ≡ false) (asked client interest t s)
+trace_asked client interest [] s = tt
+trace_asked client interest (e ∷ t) s =
+    both_asked (λ (q : Request). is_end q ≡ false) (asked client interest t s) (asked_by client interest t e s) (trace_asked client interest t s) (event_asked client interest t e s)
+
+run_asked : (ps : List Player) (s : ℕ) → AllByRecursion (λ (q : Request). is_end q ≡ false) (asked_in_run ps s)
+run_asked [] s = tt
+run_asked (p ∷ ps) s =
+    both_asked (λ (q : Request). is_end q ≡ false) (asked p.who.client p.who.interest p.events s) (asked_in_run ps s) (trace_asked p.who.client p.who.interest p.events s) (run_asked ps s)
+
+dropped_asked : {X : Type 0} (P : X → Type 0) (n : ℕ) (xs : List X) (y : X) (ys : List X) → AllByRecursion P xs → drop n xs ≡ y ∷ ys → P y
+dropped_asked P zero [] y ys a e = cc
+dropped_asked P zero (x ∷ xs) y ys a e = let same : x ≡ y = cc in subst P same a.0
+dropped_asked P (suc n) [] y ys a e = cc
+dropped_asked P (suc n) (x ∷ xs) y ys a e = dropped_asked P n xs y ys a.1 e
+
+-- An End is never asked.
+pub waiting_asked : (ps : List Player) (s n : ℕ) (q : Request) (qs : List Request) → drop n (asked_in_run ps s) ≡ q ∷ qs → is_end q ≡ false
+waiting_asked ps s n q qs e = dropped_asked (λ (q : Request). is_end q ≡ false) n (asked_in_run ps s) q qs (run_asked ps s) e
+
+-- ---- Tests
+
+pub same_ended : (h : List Entry) (s : ℕ) → is_ended_by_rows h s ≡ is_ended h s
+same_ended [] s = refl
+same_ended (e ∷ h) s = ap (λ b. b || (e.session == s && is_end e.request)) (same_ended h s) ∙ or_comm (is_ended h s) (e.session == s && is_end e.request)
+  where
+    or_comm : (a b : Bool) → (a || b) ≡ (b || a)
+    or_comm true true = refl
+    or_comm true false = refl
+    or_comm false true = refl
+    or_comm false false = refl
+
+pub same_stop : (A : List Authored) (l : Logged) → is_stop_reply (full_reply A l) ≡ is_stop l
+same_stop A (logged.Welcome commit head) = refl
+same_stop A (logged.Relay seq commit head positions) = refl
+same_stop A (logged.Dropped seq chain far) = refl
+same_stop A (logged.Settled seq pos) = refl
+same_stop A (logged.Noted commit) = refl
+same_stop A logged.Idle = refl
+same_stop A (logged.Refused code detail) = refl
+same_stop A logged.Bye = refl
+
+-- ---- Whole replies stay
+
+pub replies_stay : (r : Rules) (e : Entry) (h : List Entry) (s : ℕ) → Legal r h → replies_in (accepted h) h s ≡ replies_in (accepted (e ∷ h)) h s
+replies_stay r e h s legal =
+    fronts-same (replies_in (accepted h) h s) (replies_in (accepted (e ∷ h)) h s) (replies_in (accepted (e ∷ h)) (e ∷ h) s) (replies-grow r e h s legal) (replies-one (accepted (e ∷ h)) e h s)
+    (as-many (accepted h) h s ∙ sym (as-many (accepted (e ∷ h)) h s))
+
+-- ---- Which turn it is
+
+module _ (r : Rules) (h : List Entry) (s : ℕ) (c : ChannelView) where
+  pub next_ended : is_ended h s ≡ true → (next_history r h s c ≡ h) × (next_channel r h s c ≡ c)
+  next_ended e = (rw e refl, rw e refl)
+
+  pub next_stopped : is_ended h s ≡ false → c.stopped ≡ true → (next_history r h s c ≡ with_entry r h s requests.End) × (next_channel r h s c ≡ record c { stopped = true })
+  next_stopped e t = (rw (e, t) refl, rw (e, t) refl)
+
+  pub next_closed : is_ended h s ≡ false → c.stopped ≡ false → c.requests ≡ [] → c.closed ≡ true →
+      (next_history r h s c ≡ with_entry r h s requests.End) × (next_channel r h s c ≡ record c { stopped = true })
+  next_closed e t q k = (rw (e, t, q, k) refl, rw (e, t, q, k) refl)
+
+  pub next_idle : is_ended h s ≡ false → c.stopped ≡ false → c.requests ≡ [] → c.closed ≡ false → (next_history r h s c ≡ h) × (next_channel r h s c ≡ c)
+  next_idle e t q k = (rw (e, t, q, k) refl, rw (e, t, q, k) refl)
+
+  pub next_asked : (q : Request) (qs : List Request) → is_ended h s ≡ false → c.stopped ≡ false → c.requests ≡ q ∷ qs →
+      (next_history r h s c ≡ with_entry r h s q) × (next_channel r h s c ≡ record c {
+        requests = qs;
+        replies = c.replies ++ full_reply (accepted (with_entry r h s q)) (reply_to r h s q) ∷ [];
+        stopped = is_stop (reply_to r h s q);
+      })
+  next_asked q qs e t is = (rw (e, t, is) refl, rw (e, t, is) refl)
+
+pub serves_ended : (s : ℕ) (v : SequencerView) (c : ChannelView) → true ≡ is_ended_by_rows (history v) s → Served s v v c c
+serves_ended s v c e =
+    let n = next_ended v.rules (history v) s c (sym (same_ended (history v) s) ∙ sym e) in
+    record { rules = refl; entries = sym n.0; channel = sym n.1 }
+
+pub serves_end : (s : ℕ) (v w : SequencerView) (c d : ChannelView) → is_ended_by_rows (history v) s ≡ false → c.stopped ≡ true →
+    Entered s requests.End v w d (record c { stopped = true }) → Served s v w c d
+serves_end s v w c d e t done =
+    let n = next_stopped v.rules (history v) s c (sym (same_ended (history v) s) ∙ e) t in
+    record { rules = done.rules; entries = done.entries ∙ sym n.0; channel = done.channel ∙ sym n.1 }
+
+pub serves_closed : (s : ℕ) (v w : SequencerView) (c b d : ChannelView) → is_ended_by_rows (history v) s ≡ false → c.stopped ≡ false → TakesRequest c b None → b.closed ≡ true →
+    Entered s requests.End v w d (record b { stopped = true }) → Served s v w c d
+serves_closed s v w c b d e t none k done =
+    let n = next_closed v.rules (history v) s c (sym (same_ended (history v) s) ∙ e) t none.0 (ap (λ (x : ChannelView). x.closed) (sym none.1) ∙ k) in
+    record { rules = done.rules; entries = done.entries ∙ sym n.0; channel = done.channel ∙ ap (λ (x : ChannelView). record x { stopped = true }) none.1 ∙ sym n.1 }
+
+pub serves_idle : (s : ℕ) (v : SequencerView) (c b : ChannelView) → is_ended_by_rows (history v) s ≡ false → c.stopped ≡ false → TakesRequest c b None → b.closed ≡ false → Served s v v c b
+serves_idle s v c b e t none k =
+    let n = next_idle v.rules (history v) s c (sym (same_ended (history v) s) ∙ e) t none.0 (ap (λ (x : ChannelView). x.closed) (sym none.1) ∙ k) in
+    record { rules = refl; entries = sym n.0; channel = none.1 ∙ sym n.1 }
+
+pub serves_asked : (s : ℕ) (v w : SequencerView) (c b d : ChannelView) (q : Request) → is_ended_by_rows (history v) s ≡ false → c.stopped ≡ false → TakesRequest c b (Some q) →
+    Entered s q v w d (with_answer v.rules (history v) s q b) → Served s v w c d
+serves_asked s v w c b d q e t some done =
+    let n = next_asked v.rules (history v) s c q b.requests (sym (same_ended (history v) s) ∙ e) t (ap (λ (x : ChannelView). x.requests) some) in
+    record {
+      rules = done.rules;
+      entries = done.entries ∙ sym n.0;
+      channel = done.channel
+        ∙ ap (λ (x : ChannelView). record x {
+          requests = b.requests;
+          replies = x.replies ++ full_reply (accepted (with_entry v.rules (history v) s q)) (reply_to v.rules (history v) s q) ∷ [];
+          stopped = is_stop (reply_to v.rules (history v) s q);
+        }) (sym some)
+        ∙ sym n.1;
+    }
+
+grew_history : (v w : SequencerView) (e : Entry) → Grew v w e → history w ≡ e ∷ history v
+grew_history v w e g = ap reverse g.entries ∙ reverse-append v.journal.entries (e ∷ [])
+
+-- A step entered a request with its reply.
+pub answer_entered : (v w : SequencerView) (s : ℕ) (q : Request) (reply : Reply) (stops : Bool) (b d : ChannelView) → Answered v w s q reply → stops ≡ is_stop_reply reply →
+    d ≡ record b { replies = b.replies ++ reply ∷ []; stopped = stops } → Entered s q v w d (with_answer v.rules (history v) s q b)
+answer_entered v w s q reply stops b d done stop sent =
+    let grown : history w ≡ with_entry v.rules (history v) s q = grew_history v w (entry_of s q (reply_to v.rules (history v) s q)) done.grew in
+    let whole : reply ≡ full_reply (accepted (with_entry v.rules (history v) s q)) (reply_to v.rules (history v) s q) =
+        done.whole ∙ ap (λ (h : List Entry). full_reply (accepted h) (reply_to v.rules (history v) s q)) grown in
+    let last : stops ≡ is_stop (reply_to v.rules (history v) s q) =
+        stop ∙ ap is_stop_reply whole ∙ same_stop (accepted (with_entry v.rules (history v) s q)) (reply_to v.rules (history v) s q) in
+    record {
+      rules = done.grew.rules;
+      entries = grown;
+      channel = sent ∙ ap (λ (x : Reply). record b { replies = b.replies ++ x ∷ []; stopped = stops }) whole
+        ∙ ap (λ (x : Bool). record b { replies = b.replies ++ full_reply (accepted (with_entry v.rules (history v) s q)) (reply_to v.rules (history v) s q) ∷ []; stopped = x }) last;
+    }
+
+pub end_entered : (v w : SequencerView) (s : ℕ) (reply : Reply) (b d : ChannelView) → Answered v w s requests.End reply → d ≡ record b { stopped = true } →
+    Entered s requests.End v w d (record b { stopped = true })
+end_entered v w s reply b d done stop = record {
+  rules = done.grew.rules;
+  entries = grew_history v w (entry_of s requests.End (reply_to v.rules (history v) s requests.End)) done.grew;
+  channel = stop;
+}

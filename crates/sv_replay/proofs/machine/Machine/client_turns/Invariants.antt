@@ -1,0 +1,8 @@
+use Rattle.std.proofs.Common.{◌≡◌}
+use Rattle.sv_schedule.specs.Schedule.{Run, player_turn, after_clients}
+use Rattle.sv_replay.specs.Machine.{run_of, Heads}
+use Rattle.sv_replay.proofs.Turns.{turned_from}
+use Rattle.sv_replay.proofs.machine.Machine.client_turns.Given as goal
+
+abbrev pub invariant-loop-client : goal.invariant-loop-client
+invariant-loop-client l = Heads l.fn.self l.self (λ (run : Run). record run { players = turned_from l.client player_turn run.players }) (after_clients (run_of l.fn.self))

@@ -1,0 +1,9 @@
+use Rattle.std.proofs.lemmas.Result.{on_ok_weaker}
+use Rattle.sv_replay.proofs.Heading.{round_became}
+use Rattle.sv_replay.proofs.machine.Machine.round.Goals as goal
+
+pub returns : goal.returns
+returns c =
+    on_ok_weaker c.take_turns.result
+    (λ done. round_became c.args.self.now c.client_turns.new.self c.session_turns.new.self c.take_turns.new.self c.in_ok-client_turns.ensures c.in_ok-session_turns.ensures done)
+    c.take_turns.ensures

@@ -1,0 +1,54 @@
+use Rattle.std.proofs.Common.{◌≡◌, ◌<◌, length, refl, subst, sym, ap, ◌∙◌, arith, get_or, set}
+use Rattle.std.specs.Vec.{with_item}
+use Rattle.std.proofs.lemmas.Result.{on_ok_weaker}
+use Rattle.std.proofs.lemmas.List.{get_or_read}
+use Rattle.sv_scenario.specs.declared.scenario.Turn.TheVariants as turns
+use Rattle.sv_schedule.specs.Schedule.{Player, take_turn}
+use Rattle.sv_replay.specs.Channel.{ChannelView, new_channel}
+use Rattle.sv_replay.specs.Players.{session_of, taken_from}
+use Rattle.sv_replay.specs.Machine.{player_of, Moved, run_of}
+use Rattle.sv_replay.proofs.Machines.{clients_are, player_read, player_flags, player_known, player_fits, get_map, taken_is, moved_became}
+use Rattle.sv_replay.proofs.machine.Machine.take_turn.Goals as goal
+
+pub index_mut-player-requires : goal.index_mut-player-requires
+index_mut-player-requires c = let m = c.args.self.now in omega (arith, clients_are m c.requires.machine, m.players.ok.0, c.requires.client)
+
+pub session-session-requires-clause-flags : goal.session-session-requires-clause-flags
+session-session-requires-clause-flags c = player_flags c.args.self.now c.args.client c.index_mut-player.result.now c.requires.machine c.requires.client c.index_mut-player.ensures.value
+
+pub session-session-requires-clause-fit : goal.session-session-requires-clause-fit
+session-session-requires-clause-fit c = player_fits c.args.self.now c.args.client c.index_mut-player.result.now c.requires.machine c.requires.client c.index_mut-player.ensures.value
+
+pub index_mut-requires : goal.index_mut-requires
+index_mut-requires c =
+    let m = c.args.self.now in
+    let fit = player_known m c.args.client c.index_mut-player.result.now c.requires.machine c.requires.client c.index_mut-player.ensures.value in
+    omega (arith, fit.known, c.requires.machine.count, m.channels.ok.0, c.session-session.ensures)
+
+pub take-requires-clause-flags : goal.take-requires-clause-flags
+take-requires-clause-flags c = player_flags c.args.self.now c.args.client c.index_mut-player.result.now c.requires.machine c.requires.client c.index_mut-player.ensures.value
+
+pub take-requires-clause-fit : goal.take-requires-clause-fit
+take-requires-clause-fit c = player_fits c.args.self.now c.args.client c.index_mut-player.result.now c.requires.machine c.requires.client c.index_mut-player.ensures.value
+
+pub returns : goal.returns
+returns c =
+    let m = c.args.self.now in
+    let k = c.args.client in
+    let p = c.index_mut-player.result.now in
+    let q = c.take.new.self in
+    let d = c.take.new.channel in
+    let is = c.requires.machine in
+    let w = record m { players = with_item m.players k q; channels = with_item m.channels c.session-session.result d } in
+    let here = c.session-session.ensures in
+    let at = player_read m k p is c.requires.client c.index_mut-player.ensures.value in
+    let fit = player_known m k p is c.requires.client c.index_mut-player.ensures.value in
+    let known : c.session-session.result < length m.channels.items = omega (arith, fit.known, is.count, here) in
+    let read : c.index_mut.result.now ≡ get_or m.channels.items (session_of (player_of p)) new_channel =
+        get_or_read m.channels.items c.session-session.result _ known c.index_mut.ensures.value new_channel ∙ ap (λ n. get_or m.channels.items n new_channel) here in
+    on_ok_weaker c.take.result
+    (λ did. moved_became m w k p q d is at (take_turn (run_of m).history) (turns.Take k)
+      (subst (λ (x : Player). Moved x p q (get_or m.channels.items (session_of (player_of p)) new_channel) d) (taken_is m k (player_of p) is (get_map player_of m.players.items k p at))
+        (subst (λ (v : ChannelView). Moved (taken_from v.replies (player_of p)) p q v d) read did)) refl c.requires.client refl refl refl
+      (ap (λ n. set m.channels.items n d) here))
+    c.take.ensures

@@ -1,0 +1,7 @@
+use Rattle.std.proofs.Common.{◌≡◌, map}
+use Rattle.sv_schedule.specs.Schedule.{trace_of_player}
+use Rattle.sv_replay.specs.Machine.{player_of}
+use Rattle.sv_replay.proofs.schedule.traces.Given as goal
+
+abbrev pub invariant-loop-player : goal.invariant-loop-player
+invariant-loop-player l = l.traces ≡ map trace_of_player (map player_of l.yielded)

@@ -1,0 +1,15 @@
+use Rattle.std.proofs.Common.{◌∙◌}
+use Rattle.std.proofs.lemmas.Result.{on_ok_weaker}
+use Rattle.sv_sequencer.specs.Step.{history}
+use Rattle.sv_replay.proofs.Served.{same_ended, answer_entered}
+use Rattle.sv_replay.proofs.serving.answer.Goals as goal
+
+pub step-requires-clause-first : goal.step-requires-clause-first
+step-requires-clause-first c = λ _. same_ended (history c.args.sequencer.now) c.args.session ∙ c.requires.running
+
+pub returns : goal.returns
+returns c =
+    let v = c.args.sequencer.now in
+    on_ok_weaker c.answer.result
+    (λ sent. answer_entered v c.step.new.self c.args.session c.args.request.now c.in_ok-reply.reply c.is_stop-stops.result c.args.channel.now c.answer.new.self c.in_ok-reply.ensures.ok c.is_stop-stops.ensures sent)
+    c.answer.ensures

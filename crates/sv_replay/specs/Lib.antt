@@ -1,0 +1,4 @@
+pub mod Channel
+pub mod Players
+pub mod Serving
+pub mod Machine

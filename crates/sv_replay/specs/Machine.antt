@@ -1,0 +1,99 @@
+-- The machine that plays a scenario, and the run that it stands for.
+-- A history is the list of a journal's entries with the latest first; events stand with the latest first too.
+use Rattle.std.specs.Prelude.{◌≡◌, ℕ, ◌<◌, Bool, true, false, ◌||◌, List, ◌∷◌, ◌++◌, map, length, reverse, slice_index_or, All}
+use Rattle.sv_wire.specs.declared.message.Reply.{Reply}
+use Rattle.sv_wire.specs.declared.message.Request.{Request}
+use Rattle.sv_client.specs.declared.trace.Event.{Event}
+use Rattle.sv_client.specs.Seen.{raised, newly_asked}
+use Rattle.sv_scenario.specs.declared.scenario.Step.{Step}
+use Rattle.sv_scenario.specs.Limits.{IsGoodScenario}
+use Rattle.sv_scenario.specs.Sessions.{session_count}
+use Rattle.sv_script.specs.Following.{must_join, is_welcomed}
+use Rattle.sv_journal.specs.Answer.{Rules}
+use Rattle.sv_schedule.specs.Schedule.{Player, Run, rules_of, session_turns, at_player, take_turns}
+use Rattle.sv_schedule.specs.Sound.{IsSound}
+use Rattle.sv_replay.specs.declared.machine.Machine.{Machine}
+use Rattle.sv_replay.specs.declared.playing.Playing.{Playing}
+use Rattle.sv_replay.specs.Channel.{ChannelView, new_channel}
+use Rattle.sv_replay.specs.Players.{session_of, IsFit, Moves, is_closing, IsChannel}
+
+-- ---- Players
+
+-- The player that a client with its place in its script stands for. The client itself counts its sessions from 0.
+abbrev pub player_of : Playing → Player
+player_of p = record {
+  who = p.client.who;
+  first = p.first;
+  events = map (raised p.first) p.client.events;
+  left = p.left.now;
+  closed = p.closed;
+}
+
+-- What is kept of a client's events says what they do.
+pub record AreFlags (p : Playing) : Type 0 where
+  pub between : p.between ≡ must_join p.client.events
+  pub welcomed : p.welcomed ≡ is_welcomed p.client.events
+
+-- A client in a session that has its Welcome, with an open link.
+pub record IsReady (p : Playing) : Type 0 where
+  pub fit : IsFit 64 (player_of p)
+  pub linked : p.closed ≡ false
+  pub joined : must_join p.client.events ≡ false
+  pub welcomed : is_welcomed p.client.events ≡ true
+
+-- A client did an event, with these steps left: what it asks is sent, and its end is closed after a Cut or a Quit.
+pub record Does (e : Event) (rest : List Step) (closed : Bool) (old new : Playing) (c d : ChannelView) : Type 0 where
+  pub who : new.client.who ≡ old.client.who
+  pub events : new.client.events ≡ e ∷ old.client.events
+  pub first : new.first ≡ old.first
+  pub left : new.left.now ≡ rest
+  pub closed_is : new.closed ≡ closed
+  pub flags : AreFlags new
+  pub channel : d ≡ record c { requests = c.requests ++ newly_asked old.client.who old.client.events e; closed = c.closed || is_closing e }
+
+-- A turn made a client the next player, by what it did over its session's connection.
+pub record Moved (next : Player) (old new : Playing) (c d : ChannelView) : Type 0 where
+  pub player : player_of new ≡ next
+  pub flags : AreFlags new
+  pub sent : List Request
+  pub taken : List Reply
+  pub closing : Bool
+  pub moves : Moves (session_of (player_of old)) (player_of old) next sent taken closing
+  pub requests : d.requests ≡ c.requests ++ sent
+  pub replies : c.replies ≡ taken ++ d.replies
+  pub closed : d.closed ≡ (c.closed || closing)
+  pub stopped : d.stopped ≡ c.stopped
+
+-- ---- The machine
+
+abbrev pub run_of : Machine → Run
+run_of m = record { history = reverse m.sequencer.journal.entries; players = map player_of m.players.items }
+
+-- The machine is in step with the run that it stands for, which is a sound one of its scenario.
+pub record IsMachine (m : Machine) : Type 0 where
+  pub good : IsGoodScenario m.scenario.now
+  pub rules : m.sequencer.rules ≡ rules_of m.scenario.now
+  pub sound : IsSound m.scenario.now (run_of m)
+  pub flags : All AreFlags m.players.items
+  pub count : length m.channels.items ≡ session_count m.scenario.now
+  pub channels : (s : ℕ) → s < session_count m.scenario.now → IsChannel (run_of m) s (slice_index_or m.channels.items s new_channel)
+
+-- The machine went on to a run of the same scenario.
+pub record Became (old new : Machine) (run : Run) : Type 0 where
+  pub scenario : new.scenario.now ≡ old.scenario.now
+  pub machine : IsMachine new
+  pub run_is : run_of new ≡ run
+
+-- On the way from one machine to a run: what is left to do makes it of the run so far.
+pub record Heads (start now : Machine) (left : Run → Run) (goal : Run) : Type 0 where
+  pub scenario : now.scenario.now ≡ start.scenario.now
+  pub machine : IsMachine now
+  pub arrives : left (run_of now) ≡ goal
+
+-- All that a session has to do was done.
+abbrev pub after_session : Rules → ℕ → Run → Run
+after_session r s run = record run { history = session_turns r run.players run.history s }
+
+-- All replies that wait for a client were taken.
+abbrev pub after_take : ℕ → Run → Run
+after_take k run = record run { players = at_player run.players k (take_turns run.history) }

@@ -1,0 +1,167 @@
+ghost use Rattle.std.specs.Prelude.{◌≡◌, ◌<◌, length, OnOk};
+ghost use Rattle.sv_scenario.specs.declared.scenario.Turn.TheVariants as turns;
+ghost use Rattle.sv_scenario.specs.Limits.{IsGoodTurn};
+ghost use Rattle.sv_scenario.specs.Sessions.{session_count};
+ghost use Rattle.sv_schedule.specs.Schedule.{rules_of, turned, all_turned, after_clients, after_sessions, after_takes, round, repeated};
+ghost use Rattle.sv_replay.specs.Machine.{run_of, IsMachine, Became, after_session, after_take};
+
+use crate::channel::Channel;
+use crate::playing::Playing;
+use crate::serving::serve;
+use std::alloc::{AllocError, Global};
+use sv_scenario::{Scenario, Turn};
+use sv_sequencer::Sequencer;
+
+/// A scenario's run so far: the server, the clients and their connections, one for each session.
+#[derive(Drop)]
+pub(crate) struct Machine<'a> {
+    pub(crate) alloc: Global,
+    pub(crate) scenario: &'a Scenario,
+    pub(crate) sequencer: Sequencer,
+    pub(crate) players: Vec<Playing<'a>>,
+    pub(crate) channels: Vec<Channel>,
+}
+
+impl<'a> Machine<'a> {
+    /// A client's turn: it joins its first or next session, or does its next step, if it can.
+    fn client_turn(&mut self, client: usize) -> Result<(), AllocError>
+        requires machine { IsMachine self.old }
+        requires client { client < length self.old.scenario.now.clients }
+        ensures { OnOk result (Became self.old self.new (turned (rules_of self.old.scenario.now) (run_of self.old) (turns.Client client))) }
+    {
+        let player = &mut self.players[client];
+        let session = player.session() as usize;
+        player.turn(self.alloc, &mut self.channels[session])
+    }
+
+    /// A session's turn: its next waiting request, or its End, if that is due.
+    fn session_turn(&mut self, session: u16) -> Result<(), AllocError>
+        requires machine { IsMachine self.old }
+        requires session { session < session_count self.old.scenario.now }
+        ensures { OnOk result (Became self.old self.new (turned (rules_of self.old.scenario.now) (run_of self.old) (turns.Session session))) }
+    {
+        serve(
+            &mut self.sequencer,
+            &mut self.channels[session as usize],
+            session,
+        )
+    }
+
+    /// A client takes the next reply that waits for it, if there is one.
+    fn take_turn(&mut self, client: usize) -> Result<(), AllocError>
+        requires machine { IsMachine self.old }
+        requires client { client < length self.old.scenario.now.clients }
+        ensures { OnOk result (Became self.old self.new (turned (rules_of self.old.scenario.now) (run_of self.old) (turns.Take client))) }
+    {
+        let player = &mut self.players[client];
+        let session = player.session() as usize;
+        player.take(&mut self.channels[session])
+    }
+
+    /// The turn of a schedule.
+    fn turn(&mut self, turn: Turn) -> Result<(), AllocError>
+        requires machine { IsMachine self.old }
+        requires turn { IsGoodTurn (length self.old.scenario.now.clients) (session_count self.old.scenario.now) turn }
+        ensures { OnOk result (Became self.old self.new (turned (rules_of self.old.scenario.now) (run_of self.old) turn)) }
+    {
+        match turn {
+            Turn::Client(client) => self.client_turn(usize::from(client)),
+            Turn::Session(session) => self.session_turn(session),
+            Turn::Take(client) => self.take_turn(usize::from(client)),
+        }
+    }
+
+    /// The turns of the scenario's schedule.
+    pub(crate) fn run_turns(&mut self) -> Result<(), AllocError>
+        requires { IsMachine self.old }
+        ensures { OnOk result (Became self.old self.new (all_turned (rules_of self.old.scenario.now) (run_of self.old) self.old.scenario.now.schedule)) }
+    {
+        let scenario = self.scenario;
+        for turn in scenario.schedule.as_slice() {
+            self.turn(*turn)?;
+        }
+        Ok(())
+    }
+
+    /// Each client's turn.
+    fn client_turns(&mut self) -> Result<(), AllocError>
+        requires { IsMachine self.old }
+        ensures { OnOk result (Became self.old self.new (after_clients (run_of self.old))) }
+    {
+        for client in 0..self.players.len() {
+            self.client_turn(client)?;
+        }
+        Ok(())
+    }
+
+    /// All that a session has to do: each waiting request, and the End.
+    fn serve_all(&mut self, session: u16) -> Result<(), AllocError>
+        requires machine { IsMachine self.old }
+        requires session { session < session_count self.old.scenario.now }
+        ensures { OnOk result (Became self.old self.new (after_session (rules_of self.old.scenario.now) session (run_of self.old))) }
+    {
+        let waiting = self.channels[session as usize].requests();
+        self.session_turn(session)?;
+        for _ in 0..waiting {
+            self.session_turn(session)?;
+        }
+        Ok(())
+    }
+
+    /// All that each session has to do.
+    fn session_turns(&mut self) -> Result<(), AllocError>
+        requires { IsMachine self.old }
+        ensures { OnOk result (Became self.old self.new (after_sessions (rules_of self.old.scenario.now) (run_of self.old))) }
+    {
+        for session in 0..self.sequencer.sessions() {
+            self.serve_all(session)?;
+        }
+        Ok(())
+    }
+
+    /// All replies that wait for a client.
+    fn take_all(&mut self, client: usize) -> Result<(), AllocError>
+        requires machine { IsMachine self.old }
+        requires client { client < length self.old.scenario.now.clients }
+        ensures { OnOk result (Became self.old self.new (after_take client (run_of self.old))) }
+    {
+        let session = self.players[client].session() as usize;
+        let waiting = self.channels[session].replies();
+        for _ in 0..waiting {
+            self.take_turn(client)?;
+        }
+        Ok(())
+    }
+
+    /// All replies that wait for each client.
+    fn take_turns(&mut self) -> Result<(), AllocError>
+        requires { IsMachine self.old }
+        ensures { OnOk result (Became self.old self.new (after_takes (run_of self.old))) }
+    {
+        for client in 0..self.players.len() {
+            self.take_all(client)?;
+        }
+        Ok(())
+    }
+
+    /// A round: each client's turn, then each session until it finds nothing to do, then each client's replies until none waits.
+    fn round(&mut self) -> Result<(), AllocError>
+        requires { IsMachine self.old }
+        ensures { OnOk result (Became self.old self.new (round (rules_of self.old.scenario.now) (run_of self.old))) }
+    {
+        self.client_turns()?;
+        self.session_turns()?;
+        self.take_turns()
+    }
+
+    /// So many rounds.
+    pub(crate) fn run_rounds(&mut self, rounds: u16) -> Result<(), AllocError>
+        requires { IsMachine self.old }
+        ensures { OnOk result (Became self.old self.new (repeated rounds (round (rules_of self.old.scenario.now)) (run_of self.old))) }
+    {
+        for _ in 0..rounds {
+            self.round()?;
+        }
+        Ok(())
+    }
+}

@@ -1,0 +1,104 @@
+//! The machine at the opening of a run.
+
+ghost use Rattle.std.specs.Prelude.{◌≡◌, ℕ, false, [], ◌+◌, ◌<◌, ◌≤◌, length, map, slice_index_or, All, IfOk};
+ghost use Rattle.sv_scenario.specs.Limits.{IsGoodScenario, IsGoodPlan};
+ghost use Rattle.sv_scenario.specs.Sessions.{session_count, sessions_of_plan};
+ghost use Rattle.sv_schedule.specs.Schedule.{rules_of, players_from, opening_run};
+ghost use Rattle.sv_replay.specs.Channel.{new_channel};
+ghost use Rattle.sv_replay.specs.Machine.{player_of, AreFlags, run_of, IsMachine};
+
+use crate::channel::Channel;
+use crate::machine::Machine;
+use crate::playing::Playing;
+use std::alloc::{AllocError, Global};
+use sv_client::Client;
+use sv_scenario::{Plan, Scenario, sessions_of, sessions_of_plan};
+use sv_sequencer::Sequencer;
+use sv_world::{ClientId, Shape, World, copy_objects, copy_values};
+
+fn open_sequencer(alloc: Global, scenario: &Scenario) -> Result<Sequencer, AllocError>
+    requires { IsGoodScenario scenario.now }
+    ensures rules { IfOk result (λ s. s.rules ≡ rules_of scenario.now) }
+    ensures empty { IfOk result (λ s. s.journal.entries ≡ []) }
+{
+    let world = World {
+        shape: scenario.world.shape,
+        values: copy_values(alloc, scenario.world.values.as_slice())?,
+    };
+    Sequencer::new(
+        alloc,
+        world,
+        scenario.bound,
+        scenario.reach,
+        sessions_of(scenario),
+    )
+}
+
+fn open_player<'a>(
+    alloc: Global,
+    shape: Shape,
+    number: u16,
+    first: u16,
+    plan: &'a Plan,
+) -> Result<Playing<'a>, AllocError>
+    requires number { number < 32 }
+    requires plan { IsGoodPlan shape plan.now }
+    ensures player { IfOk result (λ p. player_of p ≡ record { who = record { client = record { 0 = number }; interest = plan.now.interest; shape = shape }; first = first; events = []; left = plan.now.steps; closed = false }) }
+    ensures flags { IfOk result (λ p. AreFlags p) }
+{
+    let interest = copy_objects(alloc, plan.interest.as_slice())?;
+    let client = Client::new(alloc, ClientId(number), shape, interest)?;
+    Ok(Playing::new(client, first, plan.steps.as_slice()))
+}
+
+fn open_players<'a>(
+    alloc: Global,
+    scenario: &'a Scenario,
+) -> Result<Vec<Playing<'a>>, AllocError>
+    requires { IsGoodScenario scenario.now }
+    ensures players { IfOk result (λ players. map player_of players.items ≡ players_from scenario.now.world.shape 0 0 scenario.now.clients) }
+    ensures flags { IfOk result (λ players. All AreFlags players.items) }
+{
+    let mut players = Vec::new(alloc);
+    let mut number = 0;
+    let mut first = 0;
+    for plan in scenario.clients.as_slice() {
+        players.push(open_player(alloc, scenario.world.shape, number, first, plan)?)?;
+        number += 1;
+        first += sessions_of_plan(plan) as u16;
+    }
+    Ok(players)
+}
+
+fn open_channels(alloc: Global, sessions: u16) -> Result<Vec<Channel>, AllocError>
+    ensures count { IfOk result (λ channels. length channels.items ≡ sessions) }
+    ensures new { IfOk result (λ channels. (s : ℕ) → slice_index_or channels.items s new_channel ≡ new_channel) }
+{
+    let mut channels = Vec::new(alloc);
+    for _ in 0..sessions {
+        channels.push(Channel::new(alloc))?;
+    }
+    Ok(channels)
+}
+
+/// Opens the server, the clients and their connections.
+pub(crate) fn open_machine<'a>(
+    alloc: Global,
+    scenario: &'a Scenario,
+) -> Result<Machine<'a>, AllocError>
+    requires { IsGoodScenario scenario.now }
+    ensures scenario { IfOk result (λ m. m.scenario.now ≡ scenario.now) }
+    ensures machine { IfOk result (λ m. IsMachine m) }
+    ensures run { IfOk result (λ m. run_of m ≡ opening_run scenario.now) }
+{
+    let sequencer = open_sequencer(alloc, scenario)?;
+    let players = open_players(alloc, scenario)?;
+    let channels = open_channels(alloc, sequencer.sessions())?;
+    Ok(Machine {
+        alloc,
+        scenario,
+        sequencer,
+        players,
+        channels,
+    })
+}

@@ -1,0 +1,329 @@
+ghost use Rattle.std.specs.Prelude.{◌≡◌, ◌<◌, [], ◌∷◌, ◌++◌, true, false, option_to_list, slice_get, OnOk};
+ghost use Rattle.sv_client.specs.declared.trace.Event.TheVariants as events;
+ghost use Rattle.sv_client.specs.Traces.{joins};
+ghost use Rattle.sv_client.specs.Proper.{MayMake, MayPoll, MayLeave};
+ghost use Rattle.sv_scenario.specs.declared.scenario.Step.TheVariants as steps;
+ghost use Rattle.sv_script.specs.Following.{must_join};
+ghost use Rattle.sv_schedule.specs.Schedule.{player_turn, next_step, last_steps, takes, trace_of_player, is_calm, is_settled};
+ghost use Rattle.sv_replay.specs.Channel.{ChannelView};
+ghost use Rattle.sv_replay.specs.Players.{session_of, IsFit, taken_from};
+ghost use Rattle.sv_replay.specs.Machine.{player_of, AreFlags, IsReady, Does, Moved};
+
+use crate::channel::Channel;
+use std::alloc::{AllocError, Global};
+use sv_client::{Client, MakeFault, Mark, PollFault, TakeFault, Trace};
+use sv_scenario::Step;
+use sv_wire::Request;
+use sv_world::{Action, List, ObjectId, copy_action, copy_objects};
+
+/// A client that plays its script.
+#[derive(Drop)]
+pub(crate) struct Playing<'a> {
+    pub(crate) client: Client,
+    /// The number of its first session.
+    pub(crate) first: u16,
+    /// The steps that are not done yet.
+    pub(crate) left: &'a [Step],
+    /// It is in no session, and joins one next.
+    pub(crate) between: bool,
+    /// Its session has its Welcome.
+    pub(crate) welcomed: bool,
+    /// It closed its last session's link for good.
+    pub(crate) closed: bool,
+}
+
+impl<'a> Playing<'a> {
+    /// A client that did nothing yet.
+    pub(crate) fn new(client: Client, first: u16, left: &'a [Step]) -> Playing<'a>
+        requires { client.events ≡ [] }
+        ensures player { player_of result ≡ record { who = client.who; first = first; events = []; left = left.now; closed = false } }
+        ensures flags { AreFlags result }
+    {
+        Playing {
+            client,
+            first,
+            left,
+            between: true,
+            welcomed: false,
+            closed: false,
+        }
+    }
+
+    /// What it did.
+    pub(crate) fn into_trace(self) -> Trace
+        requires { self.first < 64 }
+        ensures { result ≡ trace_of_player (player_of self.entry) }
+    {
+        let Playing { client, first, .. } = self;
+        client.into_trace(first)
+    }
+
+    /// The session that it is in, or joins next.
+    pub(crate) fn session(&self) -> u16
+        requires flags { AreFlags self.now }
+        requires fit { IsFit 64 (player_of self.now) }
+        ensures { result ≡ session_of (player_of self.now) }
+    {
+        let begun = self.first + self.client.sessions();
+        if self.between { begun } else { begun - 1 }
+    }
+
+    /// Its turn: it joins its first or next session, or does its next step, if it can.
+    pub(crate) fn turn(&mut self, alloc: Global, channel: &mut Channel) -> Result<(), AllocError>
+        requires flags { AreFlags self.old }
+        requires fit { IsFit 64 (player_of self.old) }
+        requires after { IsFit 64 (player_turn (player_of self.old)) }
+        ensures { OnOk result (Moved (player_turn (player_of self.old)) self.old self.new channel.old channel.new) }
+    {
+        if self.closed {
+            return Ok(());
+        }
+        if self.between {
+            return self.join(channel);
+        }
+        if self.welcomed {
+            return self.step(alloc, channel);
+        }
+        Ok(())
+    }
+
+    fn join(&mut self, channel: &mut Channel) -> Result<(), AllocError>
+        requires { joins self.old.client.events < 64 }
+        ensures { OnOk result (Does (events.Join (joins self.old.client.events)) self.old.left.now self.old.closed self.old self.new channel.old channel.new) }
+    {
+        let requests = self.client.join()?;
+        channel.send_all(requests)?;
+        self.between = false;
+        self.welcomed = false;
+        Ok(())
+    }
+
+    /// Its next step, in a session that has its Welcome. A step that can't be done yet waits.
+    fn step(&mut self, alloc: Global, channel: &mut Channel) -> Result<(), AllocError>
+        requires flags { AreFlags self.old }
+        requires ready { IsReady self.old }
+        requires after { IsFit 64 (next_step (player_of self.old) self.old.left.now) }
+        ensures { OnOk result (Moved (next_step (player_of self.old) self.old.left.now) self.old self.new channel.old channel.new) }
+    {
+        let Some((step, rest)) = self.left.split_first() else {
+            return self.finish(channel);
+        };
+        match step {
+            Step::Act(action) => self.act(alloc, channel, action, rest),
+            Step::Poll => self.poll(channel, rest),
+            Step::Sync => {
+                self.sync(rest);
+                Ok(())
+            }
+            Step::Show(objects) => self.show(alloc, objects, rest),
+            Step::Cut => self.cut(channel, rest),
+            Step::Quit => self.quit(channel, rest),
+        }
+    }
+
+    /// Whether it may have one more request outstanding.
+    fn is_calm(&self) -> bool
+        ensures { result ≡ is_calm (player_of self.now) }
+    {
+        self.client.outstanding() < 16
+    }
+
+    /// Whether no request is outstanding.
+    fn is_settled(&self) -> bool
+        ensures { result ≡ is_settled (player_of self.now) }
+    {
+        self.client.outstanding() == 0
+    }
+
+    fn act(
+        &mut self,
+        alloc: Global,
+        channel: &mut Channel,
+        action: &Action,
+        rest: &'a [Step],
+    ) -> Result<(), AllocError>
+        requires flags { AreFlags self.old }
+        requires ready { IsReady self.old }
+        requires after { IsFit 64 (next_step (player_of self.old) (steps.Act action.now ∷ rest.now)) }
+        ensures { OnOk result (Moved (next_step (player_of self.old) (steps.Act action.now ∷ rest.now)) self.old self.new channel.old channel.new) }
+    {
+        if self.client.pending() < 8 && self.is_calm() {
+            self.make(alloc, channel, action, rest)
+        } else {
+            Ok(())
+        }
+    }
+
+    fn make(
+        &mut self,
+        alloc: Global,
+        channel: &mut Channel,
+        action: &Action,
+        rest: &'a [Step],
+    ) -> Result<(), AllocError>
+        requires flags { AreFlags self.old }
+        requires ready { IsReady self.old }
+        requires may { MayMake self.old.client.who self.old.client.events action.now }
+        ensures { OnOk result (Does (events.Make action.now) rest.now self.old.closed self.old self.new channel.old channel.new) }
+    {
+        let copy = copy_action(alloc, action)?;
+        match self.client.make(copy) {
+            Ok(request) => channel.send(request)?,
+            Err(MakeFault::Memory) => return Err(AllocError),
+            Err(_) => unreachable!(),
+        }
+        self.left = rest;
+        Ok(())
+    }
+
+    fn poll(&mut self, channel: &mut Channel, rest: &'a [Step]) -> Result<(), AllocError>
+        requires flags { AreFlags self.old }
+        requires ready { IsReady self.old }
+        requires after { IsFit 64 (next_step (player_of self.old) (steps.Poll ∷ rest.now)) }
+        ensures { OnOk result (Moved (next_step (player_of self.old) (steps.Poll ∷ rest.now)) self.old self.new channel.old channel.new) }
+    {
+        if self.is_calm() {
+            self.ask(channel, rest)
+        } else {
+            Ok(())
+        }
+    }
+
+    /// Asks for an abandoned action.
+    fn ask(&mut self, channel: &mut Channel, rest: &'a [Step]) -> Result<(), AllocError>
+        requires flags { AreFlags self.old }
+        requires ready { IsReady self.old }
+        requires may { MayPoll self.old.client.who self.old.client.events }
+        ensures { OnOk result (Does events.Poll rest.now self.old.closed self.old self.new channel.old channel.new) }
+    {
+        match self.client.poll() {
+            Ok(request) => channel.send(request)?,
+            Err(PollFault::Memory) => return Err(AllocError),
+            Err(PollFault::Busy) => unreachable!(),
+        }
+        self.left = rest;
+        Ok(())
+    }
+
+    fn sync(&mut self, rest: &'a [Step])
+        requires flags { AreFlags self.old }
+        ensures player { player_of self.new ≡ next_step (player_of self.old) (steps.Sync ∷ rest.now) }
+        ensures flags { AreFlags self.new }
+    {
+        if self.is_settled() {
+            self.left = rest;
+        }
+    }
+
+    fn show(
+        &mut self,
+        alloc: Global,
+        objects: &List<ObjectId>,
+        rest: &'a [Step],
+    ) -> Result<(), AllocError>
+        requires flags { AreFlags self.old }
+        requires ready { IsReady self.old }
+        ensures { (c : ChannelView) → OnOk result (Does (events.Show objects.now) rest.now self.old.closed self.old self.new c c) }
+    {
+        let copy = copy_objects(alloc, objects.as_slice())?;
+        self.client.note(Mark::Show(copy))?;
+        self.left = rest;
+        Ok(())
+    }
+
+    fn cut(&mut self, channel: &mut Channel, rest: &'a [Step]) -> Result<(), AllocError>
+        requires flags { AreFlags self.old }
+        requires ready { IsReady self.old }
+        ensures { OnOk result (Does events.Cut rest.now self.old.closed self.old self.new channel.old channel.new) }
+    {
+        self.client.note(Mark::Cut)?;
+        channel.close();
+        self.left = rest;
+        self.between = true;
+        Ok(())
+    }
+
+    fn quit(&mut self, channel: &mut Channel, rest: &'a [Step]) -> Result<(), AllocError>
+        requires flags { AreFlags self.old }
+        requires ready { IsReady self.old }
+        ensures { OnOk result (Does events.Quit rest.now true self.old self.new channel.old channel.new) }
+    {
+        self.client.note(Mark::Quit)?;
+        channel.close();
+        self.left = rest;
+        self.closed = true;
+        Ok(())
+    }
+
+    /// With all steps done, it leaves, and closes its link when it has its Bye; each when nothing is outstanding.
+    fn finish(&mut self, channel: &mut Channel) -> Result<(), AllocError>
+        requires flags { AreFlags self.old }
+        requires ready { IsReady self.old }
+        requires after { IsFit 64 (last_steps (player_of self.old)) }
+        requires none { self.old.left.now ≡ [] }
+        ensures { OnOk result (Moved (last_steps (player_of self.old)) self.old self.new channel.old channel.new) }
+    {
+        if !self.is_settled() {
+            return Ok(());
+        }
+        if self.client.in_session() {
+            return self.leave(channel);
+        }
+        channel.close();
+        self.closed = true;
+        Ok(())
+    }
+
+    fn leave(&mut self, channel: &mut Channel) -> Result<(), AllocError>
+        requires flags { AreFlags self.old }
+        requires ready { IsReady self.old }
+        requires may { MayLeave self.old.client.who self.old.client.events }
+        ensures { OnOk result (Does events.Leave self.old.left.now self.old.closed self.old self.new channel.old channel.new) }
+    {
+        let request = self.client.leave()?;
+        channel.send(request)
+    }
+
+    /// Takes the next reply that waits for it, if its end of a session is open. One that it refuses stays.
+    pub(crate) fn take(&mut self, channel: &mut Channel) -> Result<(), AllocError>
+        requires flags { AreFlags self.old }
+        requires fit { IsFit 64 (player_of self.old) }
+        ensures { OnOk result (Moved (taken_from channel.old.replies (player_of self.old)) self.old self.new channel.old channel.new) }
+    {
+        if self.closed || self.between {
+            return Ok(());
+        }
+        self.take_next(channel)
+    }
+
+    fn take_next(&mut self, channel: &mut Channel) -> Result<(), AllocError>
+        requires flags { AreFlags self.old }
+        requires fit { IsFit 64 (player_of self.old) }
+        requires linked { self.old.closed ≡ false }
+        requires joined { must_join self.old.client.events ≡ false }
+        ensures { OnOk result (Moved (takes (player_of self.old) (session_of (player_of self.old)) (slice_get channel.old.replies 0)) self.old self.new channel.old channel.new) }
+    {
+        let Some(reply) = channel.next_reply() else {
+            return Ok(());
+        };
+        match self.client.take(&reply) {
+            Ok(done) => self.taken(channel, done),
+            Err(fault) => match fault {
+                TakeFault::Memory => Err(AllocError),
+                _ => channel.put_back(reply),
+            },
+        }
+    }
+
+    /// Sends the Done of a relay that was taken.
+    fn taken(&mut self, channel: &mut Channel, done: Option<Request>) -> Result<(), AllocError>
+        ensures playing { self.new ≡ record self.old { welcomed = true } }
+        ensures channel { OnOk result (channel.new ≡ record channel.old { requests = channel.old.requests ++ option_to_list done }) }
+    {
+        self.welcomed = true;
+        match done {
+            Some(request) => channel.send(request),
+            None => Ok(()),
+        }
+    }
+}
