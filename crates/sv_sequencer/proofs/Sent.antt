@@ -18,7 +18,6 @@ use Rattle.sv_world.proofs.action.Expr.TheLaws.TheKnot as expr_knot
 use Rattle.sv_world.proofs.action.Cond.TheLaws.TheKnot as condition_knot
 use Rattle.sv_world.proofs.action.Stmt.TheLaws.TheKnot as stmt_knot
 use Rattle.sv_world.proofs.list.List.TheSendSync as lists
-use Rattle.sv_sequencer.specs.contracts.clients.Clients as clients
 use Rattle.sv_sequencer.specs.contracts.sequencer.Sequencer as sequencer
 
 expr-sends : IsSend expr.the_row
