@@ -14,6 +14,8 @@ mod reports;
 mod sequencer;
 mod sessions;
 mod step;
+#[cfg(test)]
+mod tests;
 
 pub use object::Opened;
 pub use sequencer::Sequencer;
