@@ -58,7 +58,7 @@ full-items A logged.Idle = refl
 full-items A (logged.Refused code detail) = refl
 full-items A logged.Bye = refl
 
-sent-here : (e : Entry) (h : List Entry) (p : ℕ) → is_in p (positions_in e.reply) ≡ true → is_in p (sent_to (e ∷ h) e.session) ≡ true
+pub sent-here : (e : Entry) (h : List Entry) (p : ℕ) → is_in p (positions_in e.reply) ≡ true → is_in p (sent_to (e ∷ h) e.session) ≡ true
 sent-here e h p m =
     subst (λ (l : List ℕ). is_in p l ≡ true) (sym (cond-true (e.session == e.session) (sent_to h e.session ++ positions_in e.reply) (sent_to h e.session) (eq-eqb e.session e.session refl)))
     (is_in-append_right p (sent_to h e.session) (positions_in e.reply) m)

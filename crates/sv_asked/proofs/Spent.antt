@@ -73,7 +73,7 @@ one-if : {X : Type 0} (b : Bool) (x : X) → length (cond b (x ∷ []) []) ≤ 1
 one-if true x = omega arith
 one-if false x = omega arith
 
-new-few : (o : Option ℕ) (next : ℕ → ℕ) (q : Request) → length (new_action o next q) ≤ 1
+pub new-few : (o : Option ℕ) (next : ℕ → ℕ) (q : Request) → length (new_action o next q) ≤ 1
 new-few (Some k) next (requests.Submit seq a) = one-if (eqb seq (next k)) (record { client = k; seq = seq; action = a })
 new-few (Some k) next (requests.Join client life interest) = omega arith
 new-few (Some k) next (requests.Done results) = omega arith

@@ -16,7 +16,7 @@ use Rattle.sv_asked.proofs.Evaluated.{AreNumbers, all_set, outcome_fits}
 abbrev pub HasFit : Action → Type 0
 HasFit a = all_true (map stmt_fits a.body) ≡ true
 
-put_all_fits : (world : Slots) (objects : List ℕ) (values : Slots) → AreNumbers world → AreNumbers values → AreNumbers (put_all world objects values)
+pub put_all_fits : (world : Slots) (objects : List ℕ) (values : Slots) → AreNumbers world → AreNumbers values → AreNumbers (put_all world objects values)
 put_all_fits world [] values h q = h
 put_all_fits world (x ∷ xs) [] h q = h
 put_all_fits world (x ∷ xs) (v ∷ vs) h q = put_all_fits (set world x v) xs vs (all_set ValueFits world x v h q.0) q.1

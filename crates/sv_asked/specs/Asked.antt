@@ -1,9 +1,9 @@
 -- What is said of the requests that honest clients ask.
-use Rattle.std.specs.Prelude.{◌≡◌, ℕ, ◌*◌, ◌^◌, ◌<◌, ◌≤◌, List, length, slice_get, Some, All}
-use Rattle.sv_wire.specs.Ranges.{ValueFits, ActionFits}
-use Rattle.sv_wire.specs.Laws.{IsRequest}
+use Rattle.std.specs.Prelude.{◌≡◌, ℕ, ◌+◌, ◌*◌, ◌^◌, ◌<◌, ◌≤◌, List, length, slice_get, Some, All}
+use Rattle.sv_wire.specs.Ranges.{ValueFits, ActionFits, RequestFits}
+use Rattle.sv_wire.specs.Laws.{IsRequest, IsReply}
 use Rattle.sv_journal.specs.declared.entry.Entry.{Entry}
-use Rattle.sv_journal.specs.History.{accepted}
+use Rattle.sv_journal.specs.History.{accepted, full_reply}
 use Rattle.sv_journal.specs.Answer.{Rules, Legal}
 use Rattle.sv_journal.specs.Laws.{AreWithinLimits}
 use Rattle.sv_client.specs.declared.trace.Event.{Event}
@@ -33,3 +33,9 @@ RequestsAreMessages = (r : Rules) (h : List Entry) (Ls : List Trace) (i : ℕ) (
 -- Each session may make 1,024 requests, so a journal of so many sessions accepts at most so many actions.
 abbrev pub AcceptedAreFew : Type 0
 AcceptedAreFew = (r : Rules) (h : List Entry) (sessions : ℕ) → Legal r h → All (λ (e : Entry). e.session < sessions) h → length (accepted h) ≤ 1024 * sessions
+
+-- Each reply of a legal journal is a message, with numbers of its types, where the opening world and the requests have numbers of theirs,
+-- whatever the clients ask. The journal is not longer than positions and sequence numbers go.
+abbrev pub RepliesAreMessages : Type 0
+RepliesAreMessages = (r : Rules) (h : List Entry) → AreWithinLimits r → r.world.shape.objects ≤ 2 ^ 16 → All ValueFits r.world.values →
+    All (λ (e : Entry). RequestFits e.request) h → length h + 1 < 2 ^ 32 → Legal r h → All (λ (e : Entry). IsReply (full_reply (accepted h) e.reply)) h

@@ -1,7 +1,7 @@
-//! Laws of what is asked.
-ghost use Rattle.sv_asked.specs.Asked.{AcceptedAreFew, RequestsAreMessages};
+//! Laws of what is asked and replied.
+ghost use Rattle.sv_asked.specs.Asked.{AcceptedAreFew, RepliesAreMessages, RequestsAreMessages};
 
-use sv_journal::legal_relays_are_small;
+use sv_journal::{legal_relays_are_small, legal_replies_are_messages};
 use sv_system::{legal_journals_make_lawful_deliveries, replicas_equal_serial_execution};
 
 /// Each request that an honest client asks in a session is a message: it is within the grammar, and its numbers are those of their types.
@@ -15,6 +15,16 @@ pub fn requests_are_messages()
     legal_relays_are_small();
     legal_journals_make_lawful_deliveries();
     replicas_equal_serial_execution();
+}
+
+/// Each reply of a legal journal is a message: it is within the grammar, and its numbers are those of their types.
+///
+/// Of the requests nothing is asked but that their numbers are those of their types.
+pub fn replies_are_messages()
+    ensures { RepliesAreMessages }
+{
+    legal_journals_make_lawful_deliveries();
+    legal_replies_are_messages();
 }
 
 /// A legal journal of so many sessions accepts at most 1,024 actions for each of them, whatever its clients ask.

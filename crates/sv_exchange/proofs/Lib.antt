@@ -7,3 +7,4 @@ pub mod ByServer
 pub mod ByClient
 pub mod Examples
 pub mod Great
+pub mod Renewed

@@ -41,3 +41,9 @@ IsFilled reader left = (65540 ≤ length reader) ⊎ (left ≡ [])
 -- a rest begins with no whole frame, and either with a length over the limit or with less than a frame has
 abbrev pub IsUnfinished : List ℕ → Type 0
 IsUnfinished rest = (first_frame rest ≡ None) × ((length rest < 65540) ⊎ ((n : ℕ) × (too_long rest ≡ Some n)))
+
+-- what is to be read of a side is the same
+pub record IsSameToRead (old new : SideView) : Type 0 where
+  pub left : unread new ≡ unread old
+  pub closed : new.closed ≡ old.closed
+  pub within : IsWithin old → IsWithin new

@@ -4,6 +4,7 @@ ghost use Rattle.sv_wire.specs.Laws.{IsRequest, IsReply};
 ghost use Rattle.sv_exchange.specs.View.{TakesRequest, TakesReply};
 
 use crate::inbox::Inbox;
+use crate::renewing::renew;
 use crate::sending::send;
 use std::alloc::{AllocError, Global};
 use std::marker::Model;
@@ -16,6 +17,8 @@ use sv_wire::{
 /// that the server sent and the client has not taken, and which sides are closed.
 ///
 /// Each message goes as the bytes of its frame through a [`MemLink`], and each side reads frames in a [`FrameReader`](sv_frame::FrameReader).
+/// Where all that was written has been read, the next message goes through a new link. So an exchange takes the memory of what waits, and of
+/// what was sent since both sides had read all.
 #[derive(Drop)]
 pub struct Exchange {
     alloc: Global,
@@ -62,6 +65,7 @@ impl Exchange {
         ensures err { OnErr result (self.new ≡ self.old) }
     {
         let payload = encode_request(self.alloc, request)?;
+        renew(self.alloc, &mut self.link);
         send(self.alloc, &mut self.link, Side::Client, &payload)?;
         Ok(())
     }
@@ -74,6 +78,7 @@ impl Exchange {
         ensures err { OnErr result (self.new ≡ self.old) }
     {
         let payload = encode_reply(self.alloc, reply)?;
+        renew(self.alloc, &mut self.link);
         send(self.alloc, &mut self.link, Side::Server, &payload)?;
         Ok(())
     }

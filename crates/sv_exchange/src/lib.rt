@@ -4,6 +4,7 @@
 mod exchange;
 mod filling;
 mod inbox;
+mod renewing;
 mod sending;
 #[cfg(test)]
 mod tests;

@@ -444,3 +444,15 @@ fn great_relays_wait(rt: HostRuntime) -> Result<(), Fail> {
     takes_reply(&rt, &mut exchange, 0)?;
     Ok(())
 }
+
+/// A reply that is sent when all was read goes through a new link, whose closed sides are those of the old one.
+#[test]
+fn closed_sides_stay_closed(rt: HostRuntime) -> Result<(), Fail> {
+    let mut exchange = Exchange::new(rt.alloc())?;
+    exchange.close_client();
+    exchange.send_reply(&Reply::Bye)?;
+    assert!(rt; exchange.is_client_closed());
+    assert!(rt; !exchange.is_server_closed());
+    takes_reply(&rt, &mut exchange, 2)?;
+    Ok(())
+}
