@@ -1,4 +1,5 @@
-"""Runs sv_bench and the peer in turn on the same corpora, and prints a table of the best and the median figures.
+"""Runs sv_bench, the peer and, for texts and decoding, boxed.rs in turn on the same corpora, and prints a table of the best and the
+median figures.
 
 python3 bench/measure.py REPOSITORY PEER [ROUNDS]
 """
@@ -40,6 +41,15 @@ def built_bench():
     return os.path.join(crate, "out", "sv_bench")
 
 
+def built_trees(work):
+    """Plain Rust that makes trees of the libraries' shape."""
+    source = os.path.join(os.path.dirname(os.path.abspath(__file__)), "boxed.rs")
+    program = os.path.join(work, "boxed")
+    flags = ["--edition", "2021", "-C", "opt-level=3", "-C", "codegen-units=1", "-C", "lto=fat"]
+    subprocess.run(["rustc", *flags, "-o", program, source], check=True)
+    return program
+
+
 def corpora(peer, work):
     """Writes the corpora, and tells how many bytes the action texts have."""
     def write(name, text):
@@ -69,13 +79,16 @@ class Figures:
         self.all.setdefault((name, unit), {}).setdefault(side, []).append(figure)
 
     def table(self):
-        print("| Work | Unit | Peer: best | median | Here: best | median | Here / peer: best | median |")
-        print("|---|---|---|---|---|---|---|---|")
+        print("| Work | Unit | Peer: best | median | Here: best | median | Here / peer: best | median | Trees in Rust: best | median | Trees / peer: best | median |")
+        print("|---|---|---|---|---|---|---|---|---|---|---|---|")
         for (name, unit), sides in self.all.items():
             ways = (min if unit.startswith("ns") else max, statistics.median)
-            cells = [f"{way(sides[side]):,.1f}" if side in sides else "" for side in ("peer", "here") for way in ways]
-            both = "peer" in sides and "here" in sides
-            cells += [f"{way(sides['here']) / way(sides['peer']):.2f}" if both else "" for way in ways]
+            cells = []
+            for side in ("peer", "here", "trees"):
+                cells += [f"{way(sides[side]):,.1f}" if side in sides else "" for way in ways]
+                if side != "peer":
+                    both = "peer" in sides and side in sides
+                    cells += [f"{way(sides[side]) / way(sides['peer']):.2f}" if both else "" for way in ways]
             print(f"| {name} | {unit} | {' | '.join(cells)} |")
 
 
@@ -90,12 +103,13 @@ def here_figures(bench, work, *words):
     return {name: tuple(map(int, rest)) for name, *rest in lines}
 
 
-def measure_text(figures, peer, bench, work, size):
+def measure_text(figures, peer, bench, trees, work, size):
     told = peer_figures(peer, "text", TEXT_MEGABYTES)
     figures.add("text", "MB/s", "peer", float(told["text"]))
-    items, _, nanos = here_figures(bench, work, "text", "texts", 1)["text"]
-    assert items == round(float(told["text_corpus_actions"]))
-    figures.add("text", "MB/s", "here", size * 1e3 / nanos)
+    for side, program in (("here", bench), ("trees", trees)):
+        items, _, nanos = here_figures(program, work, "text", "texts", 1)["text"]
+        assert items == round(float(told["text_corpus_actions"]))
+        figures.add("text", "MB/s", side, size * 1e3 / nanos)
 
 
 def measure_eval(figures, peer, bench, work):
@@ -106,7 +120,7 @@ def measure_eval(figures, peer, bench, work):
     figures.add("eval", "actions/s", "here", items * 1e9 / nanos)
 
 
-def measure_wire(figures, peer, bench, work):
+def measure_wire(figures, peer, bench, trees, work):
     told = peer_figures(peer, "wire", WIRE_TURNS)
     here = here_figures(bench, work, "wire", "messages", WIRE_TURNS)
     (encoded, size, encode), (decoded, _, decode) = here["wire_encode"], here["wire_decode"]
@@ -114,6 +128,9 @@ def measure_wire(figures, peer, bench, work):
     for name, nanos in (("wire_encode", encode), ("wire_decode", decode), ("wire_both", encode + decode)):
         figures.add(name, "messages/s", "peer", float(told[name]))
         figures.add(name, "messages/s", "here", encoded * 1e9 / nanos)
+    items, _, nanos = here_figures(trees, work, "wire", "messages", WIRE_TURNS)["wire_decode"]
+    assert items == decoded
+    figures.add("wire_decode", "messages/s", "trees", items * 1e9 / nanos)
 
 
 def measure_closure(figures, peer, bench, work, queue, influence):
@@ -131,13 +148,13 @@ def measure_closure(figures, peer, bench, work, queue, influence):
 
 def main():
     with tempfile.TemporaryDirectory() as work:
-        peer, bench = built_peer(work), built_bench()
+        peer, bench, trees = built_peer(work), built_bench(), built_trees(work)
         size = corpora(peer, work)
         figures = Figures()
         for _ in range(ROUNDS):
-            measure_text(figures, peer, bench, work, size)
+            measure_text(figures, peer, bench, trees, work, size)
             measure_eval(figures, peer, bench, work)
-            measure_wire(figures, peer, bench, work)
+            measure_wire(figures, peer, bench, trees, work)
             for queue, influence in QUEUES:
                 measure_closure(figures, peer, bench, work, queue, influence)
         figures.table()
