@@ -1,6 +1,7 @@
 -- Phases of many turns: what is left to do at each turn.
 use Rattle.std.proofs.Common.{◌≡◌, ◌⊎◌, inl, inr, ℕ, zero, suc, ◌+◌, ◌-◌, ◌<◌, ◌≤◌, ◌≢◌, Bool, true, false, ◌&&◌, ◌||◌, not, ◌==◌, eqb, List, [], ◌∷◌, ◌++◌, map, drop, length, set, get_or, slice_get, Option, Some, None, refl, sym, ap, subst, ◌∙◌, arith, eqb-true, eq-eqb, add-one}
-use Rattle.std.specs.Prelude.{if◌then◌else◌}
+use Rattle.std.specs.Prelude.{if◌then◌else◌, All}
+use Rattle.std.proofs.lemmas.List.Elements.{All-cons}
 use Rattle.std.specs.List.{list_any}
 use Rattle.std.proofs.lemmas.Bool.{cases_Bool, cond-true, cond-false}
 use Rattle.std.proofs.lemmas.List.{drop-append-le, length-append, length-drop, length-map}
@@ -23,8 +24,9 @@ use Rattle.sv_system.specs.Fits.{requests_in, replies_in, is_ended}
 use Rattle.sv_system.proofs.Entered.{is_of, of-from, as-many}
 use Rattle.sv_schedule.specs.Schedule.{Player, Run, asked_in_run, closed_by, is_stopped, with_entry, steps_next, session_turn, open_session, takes, takes_if, take_in, take_turn, at_player, repeated, does, take_turns, session_turns, sessions_turned, rules_of, after_clients, after_sessions, after_takes, round}
 use Rattle.sv_replay.specs.declared.machine.Machine.{Machine}
+use Rattle.sv_replay.specs.declared.playing.Playing.{Playing}
 use Rattle.sv_replay.specs.Machine.{player_of, run_of, IsMachine, Became, Heads, after_session, after_take}
-use Rattle.sv_replay.proofs.Turns.{repeated-enough, place-is, turned_from, turned-next, turned-all, place-again, place-none}
+use Rattle.sv_replay.proofs.Turns.{repeated-still, repeated-enough, place-is, turned_from, turned-next, turned-all, place-again, place-none}
 use Rattle.sv_replay.proofs.Machines.{clients_are, waits_all, open_here, open_shut, open_between}
 use Rattle.sv_replay.specs.Channel.{new_channel}
 use Rattle.sv_replay.specs.Players.{session_of}
@@ -311,3 +313,16 @@ rounds_end r run n i l = ap (λ (k : ℕ). repeated k (round r) run) (none_left 
 
 pub rounds_start : (r : Rules) (run : Run) (n : ℕ) → repeated (n - 0) (round r) run ≡ repeated n (round r) run
 rounds_start r run n = let all : n - 0 ≡ n = omega arith in ap (λ (k : ℕ). repeated k (round r) run) all
+
+-- ---- The end
+
+pub all_closed : (ps : List Playing) → ((k : ℕ) (d : Playing) → k < length ps → (get_or ps k d).closed ≡ true) → All (λ (p : Player). p.closed ≡ true) (map player_of ps)
+all_closed [] h = λ k d l. absurd (omega arith)
+all_closed (p ∷ ps) h = All-cons (λ (q : Player). q.closed ≡ true) (player_of p) (map player_of ps) (h 0 p (omega arith)) (all_closed ps (λ k d l. h (suc k) d (omega arith)))
+
+-- Once all is done, rounds change nothing.
+pub done_became : (start now : Machine) (r : Rules) (n : ℕ) (goal : Run) → Heads start now (λ (run : Run). repeated n (round r) run) goal → r ≡ rules_of start.scenario.now →
+    round (rules_of now.scenario.now) (run_of now) ≡ run_of now → Became start now goal
+done_became start now r n goal h same still =
+    heads_end start now (λ (run : Run). repeated n (round r) run) goal h
+    (repeated-still n (round r) (run_of now) (ap (λ (x : Rules). round x (run_of now)) (same ∙ ap rules_of (sym h.scenario)) ∙ still))
