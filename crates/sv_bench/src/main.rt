@@ -6,6 +6,7 @@ mod evaluations;
 mod figure;
 mod lines;
 mod messages;
+mod takes;
 mod texts;
 
 use closures::Way;
@@ -13,7 +14,7 @@ use std::env;
 
 fn usage(rt: &HostRuntime) -> anyhow::Result<()> {
     println!(rt;
-        "words: text FILE TURNS | eval ACTIONS VALUES TURNS | wire FILE TURNS | closure, sent or plain QUEUE INFLUENCE TURNS"
+        "words: text FILE TURNS | eval ACTIONS VALUES TURNS | wire FILE TURNS | take ITEMS TURNS | closure, sent or plain QUEUE INFLUENCE TURNS"
     )?;
     Ok(())
 }
@@ -36,6 +37,7 @@ fn act(rt: &HostRuntime, words: &[String]) -> anyhow::Result<()> {
         ("eval", [actions, values, turns]) => {
             evaluations::measure(rt, actions.as_str(), values.as_str(), turns.parse()?)
         }
+        ("take", [items, turns]) => takes::measure(rt, items.parse()?, turns.parse()?),
         ("wire", [file, turns]) => messages::measure(rt, file.as_str(), turns.parse()?),
         (name, [queue, influence, turns]) => {
             let Some(way) = way_of(name) else {

@@ -158,7 +158,7 @@ module _ (who : Identity) (t : List Event) (store : Store) (pending : PendingLis
   noted_keeps marks.Quit = noted events.Quit (tt, is.proper) refl refl refl (outstanding_quit who t) refl refl refl
   noted_keeps (marks.Show os) = noted (events.Show os) (tt, is.proper) refl refl refl (outstanding_shown who t os) refl refl refl
 
-latest_in : (who : Identity) (t : List Event) (o : Option ℕ) → 0 < length (unanswered who t o) → o ≡ Some (unwrap_or o 0)
+pub latest_in : (who : Identity) (t : List Event) (o : Option ℕ) → 0 < length (unanswered who t o) → o ≡ Some (unwrap_or o 0)
 latest_in who t None l = absurd (omega (arith, l))
 latest_in who t (Some s) l = refl
 

@@ -1,5 +1,6 @@
 -- What a reply makes of a client, from what its parts say.
 use Rattle.std.proofs.Common.{◌≡◌, ℕ, ◌+◌, ◌-◌, ◌<◌, ◌≤◌, Bool, List, [], ◌∷◌, ◌++◌, length, drop, map, Option, Some, None, Ok, refl, sym, ap, subst, ◌∙◌, arith}
+use Rattle.std.specs.Prelude.{IfSome}
 use Rattle.std.proofs.lemmas.Bool.{eq-eqb}
 use Rattle.std.proofs.lemmas.List.{length-append, length-drop, map-append}
 use Rattle.sv_versions.specs.Held.{Held, Store, AnswersAbove, count_up_to}
@@ -11,17 +12,18 @@ use Rattle.sv_client.specs.declared.kinds.Awaited.{Awaited}
 use Rattle.sv_client.specs.declared.taken.Taken.{Taken}
 use Rattle.sv_client.specs.declared.trace.Event.{Event}
 use Rattle.sv_client.specs.declared.trace.Event.TheVariants as events
-use Rattle.sv_client.specs.Traces.{held_of, pending_of, with_reply, done_for}
-use Rattle.sv_client.specs.Taking.{Identity, outstanding, told, told_by, told_with, commit_in, first_fault_of_reply, missing_fault}
+use Rattle.sv_client.specs.Traces.{current_session, held_of, pending_of, with_reply, done_for}
+use Rattle.sv_client.specs.Taking.{Identity, outstanding, told, told_by, told_with, commit_in, first_fault_of_reply, missing_fault, missing_in, Fault}
 use Rattle.sv_client.specs.Proper.{MayGet}
 use Rattle.sv_client.specs.Kinds.{kind_of, done_kinds}
-use Rattle.sv_client.specs.Seen.{newly_asked, latest_session}
-use Rattle.sv_client.specs.Evaluating.{IsApplied}
+use Rattle.sv_client.specs.Seen.{newly_asked, latest_session, fault_named}
+use Rattle.sv_client.specs.Evaluating.{IsApplied, IsMissing}
 use Rattle.sv_client.specs.Invariant.{AreAwaited, IsClientOf}
-use Rattle.sv_client.specs.Answers.{IsFine, IsTaken, got_now}
+use Rattle.sv_client.specs.declared.fault.TakeFault.{TakeFault}
+use Rattle.sv_client.specs.Answers.{IsFine, IsTaken, IsTakeFault, got_now}
 use Rattle.sv_client.proofs.Looking.{fine_misses}
 use Rattle.sv_client.proofs.Outstanding.{outstanding_got}
-use Rattle.sv_client.proofs.Keeping.{latest_is, latest_count, same_long}
+use Rattle.sv_client.proofs.Keeping.{latest_is, latest_in, latest_count, same_long}
 
 told_more : (o : Option ℕ) (n : ℕ) → n ≤ told_with o n
 told_more None n = omega arith
@@ -76,13 +78,13 @@ asked_some os r rs e = rw e (omega arith)
 
 pub taken_is : (who : Identity) (t : List Event) (reply : Reply) (store : Store) (pending : PendingList) (ks : List Awaited) (sessions made commit : ℕ) (joined : Bool)
     → IsClientOf who t store pending ks sessions made commit joined → IsFine who t reply
-    → (taken : Taken) (kept : List Held) → IsApplied (told t) (held_of t) reply (pending_of t) (Ok taken.done) kept taken.pending.items
-    → taken.pending.shape ≡ who.shape → taken.versions.shape ≡ who.shape
-    → ((n : ℕ) (all : List Held) → n ≤ taken.told → AnswersAbove n kept all → AnswersAbove taken.told taken.versions.held all)
-    → ((x : ℕ) → count_up_to taken.versions.held x taken.told ≤ 1)
+    → (taken : Taken) (after : Store) (kept : List Held) → IsApplied (told t) (held_of t) reply (pending_of t) (Ok taken.done) kept taken.pending.items
+    → taken.pending.shape ≡ who.shape → after.shape ≡ who.shape
+    → ((n : ℕ) (all : List Held) → n ≤ taken.told → AnswersAbove n kept all → AnswersAbove taken.told after.held all)
+    → ((x : ℕ) → count_up_to after.held x taken.told ≤ 1)
     → taken.awaited.items ≡ drop 1 ks ++ done_kinds reply → taken.told ≡ told_by reply (told t)
-    → IsTaken who t reply taken
-taken_is who t reply store pending ks sessions made commit joined is fine taken kept a shape versions prune few awaited c =
+    → IsTaken who t reply taken after
+taken_is who t reply store pending ks sessions made commit joined is fine taken after kept a shape versions prune few awaited c =
     let none : first_fault_of_reply who t reply ≡ None = fine_misses who t reply fine ∙ ap missing_fault a.0 in
     let may : MayGet who t (latest_session t) reply = record { current = latest_is who t reply none; taken = none } in
     let below : told t ≤ taken.told = rw c (told_least reply (told t)) in
@@ -90,8 +92,8 @@ taken_is who t reply store pending ks sessions made commit joined is fine taken 
       fine = none;
       held = record {
         shape = versions;
-        answers = subst (λ (n : ℕ). AnswersAbove n taken.versions.held (with_reply (held_of t) reply)) c (prune (told t) (with_reply (held_of t) reply) below a.3);
-        few = subst (λ (n : ℕ). (x : ℕ) → count_up_to taken.versions.held x n ≤ 1) c few;
+        answers = subst (λ (n : ℕ). AnswersAbove n after.held (with_reply (held_of t) reply)) c (prune (told t) (with_reply (held_of t) reply) below a.3);
+        few = subst (λ (n : ℕ). (x : ℕ) → count_up_to after.held x n ≤ 1) c few;
       };
       actions = λ i. record { shape = shape i; items = a.2 i };
       kinds = awaited_got who t reply ks taken.awaited.items is.awaited (asked_some (outstanding who t) fine.request fine.rest fine.asked) (outstanding_got who 0 t (latest_session t) reply is.proper may) awaited;
@@ -99,11 +101,15 @@ taken_is who t reply store pending ks sessions made commit joined is fine taken 
       asked = a.1 ∙ sym (newly_got who t reply);
     }
 
+-- A value that is missing is the fault of a reply in which nothing else is wrong.
+pub missing_is : (who : Identity) (t : List Event) (reply : Reply) (fault : TakeFault) → IsFine who t reply → IsMissing (missing_in (held_of t) reply) fault → IsTakeFault who t reply fault
+missing_is who t reply fault fine m = subst (λ (o : Option Fault). IfSome (fault_named fault) (λ f. o ≡ Some f)) (sym (fine_misses who t reply fine)) m
+
 -- A client that takes a reply has begun one session more than the number of the latest.
 pub sessions_are : (who : Identity) (t : List Event) (reply : Reply) (store : Store) (pending : PendingList) (ks : List Awaited) (sessions made commit : ℕ) (joined : Bool)
-    → IsClientOf who t store pending ks sessions made commit joined → first_fault_of_reply who t reply ≡ None → sessions ≡ latest_session t + 1
-sessions_are who t reply store pending ks sessions made commit joined is none =
-    is.counts.sessions_are ∙ latest_count who t is.proper (latest_session t) (latest_is who t reply none)
+    → IsClientOf who t store pending ks sessions made commit joined → IsFine who t reply → sessions ≡ latest_session t + 1
+sessions_are who t reply store pending ks sessions made commit joined is fine =
+    is.counts.sessions_are ∙ latest_count who t is.proper (latest_session t) (latest_in who t (current_session t) (asked_some (outstanding who t) fine.request fine.rest fine.asked))
 
 pub got_event : (sessions : ℕ) (t : List Event) (reply copy : Reply) → sessions ≡ latest_session t + 1 → copy ≡ reply → events.Got (sessions - 1) copy ≡ got_now t reply
 got_event sessions t reply copy e h =

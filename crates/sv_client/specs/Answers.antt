@@ -2,6 +2,7 @@
 use Rattle.std.specs.Prelude.{◌≡◌, ◌<◌, true, false, ℤ, List, ◌∷◌, length, Option, Some, None, IfSome, option_to_list}
 use Rattle.sv_world.specs.declared.action.Action.{Action}
 use Rattle.sv_world.specs.Faults.{first_fault_of_action}
+use Rattle.sv_versions.specs.Held.{Store}
 use Rattle.sv_wire.specs.declared.message.Reply.{Reply}
 use Rattle.sv_wire.specs.declared.message.Request.{Request}
 use Rattle.sv_client.specs.declared.fault.MakeFault.{MakeFault}
@@ -43,10 +44,10 @@ IsTakeFault who t reply fault = IfSome (fault_named fault) (λ f. first_fault_of
 abbrev pub got_now : List Event → Reply → Event
 got_now t reply = events.Got (latest_session t) reply
 
--- What a reply makes of a client: it has no fault, and the parts are those of the trace with the reply.
-pub record IsTaken (who : Identity) (t : List Event) (reply : Reply) (taken : Taken) : Type 0 where
+-- What a reply makes of a client: it has no fault, and the parts and the store are those of the trace with the reply.
+pub record IsTaken (who : Identity) (t : List Event) (reply : Reply) (taken : Taken) (store : Store) : Type 0 where
   pub fine : first_fault_of_reply who t reply ≡ None
-  pub held : StandsFor who (got_now t reply ∷ t) taken.versions
+  pub held : StandsFor who (got_now t reply ∷ t) store
   pub actions : taken.pending ≡ record { shape = who.shape; items = pending_of (got_now t reply ∷ t) }
   pub kinds : AreAwaited who (got_now t reply ∷ t) taken.awaited.items
   pub commit : taken.told ≡ told (got_now t reply ∷ t)

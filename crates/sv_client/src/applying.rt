@@ -1,6 +1,7 @@
 //! What a reply does to the values held and to the pending actions.
-ghost use Rattle.std.specs.Prelude.{◌≡◌, ◌==◌, ℕ, List, option_copied, IfOk, IfErr, OnOk, if◌then◌else◌};
+ghost use Rattle.std.specs.Prelude.{◌≡◌, ◌==◌, ℕ, List, option_copied, IfOk, IfErr, OnOk, OnErr, if◌then◌else◌};
 ghost use Rattle.sv_versions.specs.Held.{Held as Kept, AnswersAbove};
+ghost use Rattle.sv_versions.specs.Undone.{undone};
 ghost use Rattle.sv_pending.specs.Pending.{redone};
 ghost use Rattle.sv_wire.specs.declared.message.Reply.TheVariants as replies;
 ghost use Rattle.sv_client.specs.declared.fault.TakeFault.TheVariants as faults;
@@ -12,7 +13,7 @@ use crate::evaluating::{evaluate_items, hold_head};
 use crate::fault::TakeFault;
 use std::alloc::{AllocError, Global};
 use sv_pending::Pending;
-use sv_versions::Versions;
+use sv_versions::{Undo, Versions};
 use sv_wire::{Done1, Held, Item, Reply, Request};
 use sv_world::{List, Value};
 
@@ -112,6 +113,7 @@ fn settle_by(
 fn apply_relay(
     alloc: Global,
     versions: &mut Versions,
+    undo: &mut Undo,
     pending: &mut Pending,
     seq: u32,
     commit: u32,
@@ -122,12 +124,13 @@ fn apply_relay(
     requires head { IsHeadWithin versions.old.shape.objects head.now }
     requires reads { ItemsReadWithin versions.old.shape.objects items.now }
     ensures versions { versions.new.shape ≡ versions.old.shape }
+    ensures undone { undone undo.new versions.new.held ≡ undone undo.old versions.old.held }
     ensures shape { pending.new.shape ≡ pending.old.shape }
     ensures applied { (told : ℕ) (all : List Kept) → AnswersAbove told versions.old.held all → AreAbove told items.now → IsApplied told all (replies.Relay seq commit head.now items.now) pending.old.items result versions.new.held pending.new.items }
 {
-    hold_head(alloc, versions, commit, head)?;
+    hold_head(alloc, versions, undo, commit, head)?;
     let mut results = Vec::with_capacity(alloc, items.len())?;
-    evaluate_items(alloc, versions, items, &mut results)?;
+    evaluate_items(alloc, versions, undo, items, &mut results)?;
     settle_by(pending, versions, seq, &results)?;
     Ok(Some(Request::Done {
         results: List::from_vec(results),
@@ -137,14 +140,16 @@ fn apply_relay(
 fn apply_welcome(
     alloc: Global,
     versions: &mut Versions,
+    undo: &mut Undo,
     commit: u32,
     head: &[Held],
 ) -> Result<Option<Request>, TakeFault>
     requires { IsHeadWithin versions.old.shape.objects head.now }
     ensures versions { versions.new.shape ≡ versions.old.shape }
+    ensures undone { undone undo.new versions.new.held ≡ undone undo.old versions.old.held }
     ensures applied { (told : ℕ) (all : List Kept) (pending : _) → AnswersAbove told versions.old.held all → IsApplied told all (replies.Welcome commit head.now) pending result versions.new.held pending }
 {
-    hold_head(alloc, versions, commit, head)?;
+    hold_head(alloc, versions, undo, commit, head)?;
     Ok(None)
 }
 
@@ -160,7 +165,47 @@ fn apply_without(versions: &Versions, pending: &mut Pending) -> Result<Option<Re
 }
 
 /// Puts a reply into the values held and the pending actions, and answers the Done of a relay. After a refusal they are in the middle.
-pub(crate) fn apply(
+fn apply(
+    alloc: Global,
+    versions: &mut Versions,
+    undo: &mut Undo,
+    pending: &mut Pending,
+    told: u32,
+    reply: &Reply,
+) -> Result<Option<Request>, TakeFault>
+    requires shape { versions.old.shape ≡ pending.old.shape }
+    requires fits { IsFitting versions.old.shape.objects told reply.now }
+    ensures versions { versions.new.shape ≡ versions.old.shape }
+    ensures undone { undone undo.new versions.new.held ≡ undone undo.old versions.old.held }
+    ensures shape { pending.new.shape ≡ pending.old.shape }
+    ensures applied { (all : List Kept) → AnswersAbove told versions.old.held all → IsApplied told all reply.now pending.old.items result versions.new.held pending.new.items }
+{
+    match reply {
+        Reply::Welcome { commit, head } => {
+            apply_welcome(alloc, versions, undo, *commit, head.as_slice())
+        }
+        Reply::Relay {
+            seq,
+            commit,
+            head,
+            items,
+        } => apply_relay(
+            alloc,
+            versions,
+            undo,
+            pending,
+            *seq,
+            *commit,
+            head.as_slice(),
+            items.as_slice(),
+        ),
+        Reply::Dropped { .. } | Reply::Settled { .. } => apply_without(versions, pending),
+        Reply::Noted { .. } | Reply::Idle | Reply::Refused { .. } | Reply::Bye => Ok(None),
+    }
+}
+
+/// Puts a reply into the values held and the pending actions. After a refusal the values held are as before.
+pub(crate) fn try_apply(
     alloc: Global,
     versions: &mut Versions,
     pending: &mut Pending,
@@ -172,26 +217,12 @@ pub(crate) fn apply(
     ensures versions { versions.new.shape ≡ versions.old.shape }
     ensures shape { pending.new.shape ≡ pending.old.shape }
     ensures applied { (all : List Kept) → AnswersAbove told versions.old.held all → IsApplied told all reply.now pending.old.items result versions.new.held pending.new.items }
+    ensures err { OnErr result (versions.new ≡ versions.old) }
 {
-    match reply {
-        Reply::Welcome { commit, head } => {
-            apply_welcome(alloc, versions, *commit, head.as_slice())
-        }
-        Reply::Relay {
-            seq,
-            commit,
-            head,
-            items,
-        } => apply_relay(
-            alloc,
-            versions,
-            pending,
-            *seq,
-            *commit,
-            head.as_slice(),
-            items.as_slice(),
-        ),
-        Reply::Dropped { .. } | Reply::Settled { .. } => apply_without(versions, pending),
-        Reply::Noted { .. } | Reply::Idle | Reply::Refused { .. } | Reply::Bye => Ok(None),
+    let mut undo = Undo::new(alloc);
+    let applied = apply(alloc, versions, &mut undo, pending, told, reply);
+    if applied.is_err() {
+        versions.undo(undo);
     }
+    applied
 }

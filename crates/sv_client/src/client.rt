@@ -5,16 +5,14 @@ ghost use Rattle.sv_client.specs.Traces.{joins, makes, held_of, pending_of, view
 ghost use Rattle.sv_client.specs.Taking.{outstanding, told, first_fault_of_reply};
 ghost use Rattle.sv_client.specs.Proper.{IsGoodIdentity, MayMake, MayPoll, MayLeave, Proper, in_session};
 ghost use Rattle.sv_client.specs.Seen.{new_client, with_event, newly_asked, event_of, trace_from};
-ghost use Rattle.sv_client.specs.Answers.{view_seen, IsMakeFault, IsPollFault, IsTakeFault, IsTaken, IsFine, got_now};
+ghost use Rattle.sv_client.specs.Answers.{view_seen, IsMakeFault, IsPollFault, IsTakeFault, IsFine, got_now};
 
-use crate::applying::apply;
-use crate::asking::{awaited_after, awaited_at_join, joining, with_awaited};
+use crate::asking::{awaited_at_join, joining, with_awaited};
 use crate::checks::{is_out_of_order, is_unfit};
-use crate::commits::told_by;
 use crate::fault::{MakeFault, PollFault, TakeFault};
 use crate::kinds::{Awaited, allows_kind};
 use crate::raising::raise_events;
-use crate::taken::Taken;
+use crate::taken::take_reply;
 use crate::trace::{Event, Mark, Trace};
 use crate::view::View;
 use std::alloc::{AllocError, Global};
@@ -311,43 +309,29 @@ impl Client {
         ensures few { OnOk result ((x : ℕ) → count_up_to self.new.kept x (told self.new.events) ≤ 1) }
         ensures err { OnErr result (self.new ≡ self.old) }
     {
-        let taken = self.taken(reply)?;
+        self.look_at(reply)?;
         let copy = copy_reply(self.alloc, reply)?;
         let session = self.sessions - 1;
         self.events.push(Event::Got(session, copy))?;
-        let Taken {
-            versions,
-            pending,
-            awaited,
-            told,
-            done,
-        } = taken;
-        self.versions = versions;
-        self.pending = pending;
-        self.awaited = awaited;
-        self.told = told;
-        Ok(done)
-    }
-
-    /// What a reply makes of the client.
-    fn taken(&self, reply: &Reply) -> Result<Taken, TakeFault>
-        ensures ok { IfOk result (IsTaken self.now.who self.now.events reply.now) }
-        ensures fault { IfErr result (IsTakeFault self.now.who self.now.events reply.now) }
-    {
-        self.look_at(reply)?;
-        let awaited = awaited_after(self.alloc, &self.awaited, reply)?;
-        let mut versions = self.versions.copy()?;
-        let mut pending = self.pending.copy()?;
-        let done = apply(self.alloc, &mut versions, &mut pending, self.told, reply)?;
-        let told = told_by(reply, self.told);
-        versions.prune(told);
-        Ok(Taken {
-            versions,
-            pending,
-            awaited,
-            told,
-            done,
-        })
+        match take_reply(
+            self.alloc,
+            &mut self.versions,
+            &self.pending,
+            &self.awaited,
+            self.told,
+            reply,
+        ) {
+            Ok(taken) => {
+                self.pending = taken.pending;
+                self.awaited = taken.awaited;
+                self.told = taken.told;
+                Ok(taken.done)
+            }
+            Err(fault) => {
+                let _ = self.events.pop();
+                Err(fault)
+            }
+        }
     }
 
     /// Refuses a reply for a fault that is seen before any item is evaluated.

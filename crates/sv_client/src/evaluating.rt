@@ -2,6 +2,7 @@
 ghost use Rattle.std.specs.Prelude.{◌≡◌, ◌++◌, ◌<◌, ℕ, List, [], ◌∷◌, option_map, unwrap_or, IfOk, OnOk, if◌then◌else◌};
 ghost use Rattle.sv_world.specs.Sets.{at_mask, is_in_mask};
 ghost use Rattle.sv_versions.specs.Held.{Held as Kept, AnswersAbove, read_below};
+ghost use Rattle.sv_versions.specs.Undone.{undone};
 ghost use Rattle.sv_pending.specs.Made.{ReadsWithin};
 ghost use Rattle.sv_client.specs.Traces.{head_held, held_at};
 ghost use Rattle.sv_client.specs.Taking.{first_missing};
@@ -10,7 +11,7 @@ ghost use Rattle.sv_client.specs.Evaluating.{numbers, AreWithin, IsHeadWithin, I
 use crate::fault::TakeFault;
 use std::alloc::{AllocError, Global};
 use sv_eval::eval;
-use sv_versions::Versions;
+use sv_versions::{Undo, Versions};
 use sv_wire::{Done1, Held, Item};
 use sv_world::{List, ObjectId, Value, copy_value, is_in_mask};
 
@@ -18,31 +19,35 @@ use sv_world::{List, ObjectId, Value, copy_value, is_in_mask};
 pub(crate) fn hold_head(
     alloc: Global,
     versions: &mut Versions,
+    undo: &mut Undo,
     commit: u32,
     head: &[Held],
 ) -> Result<(), AllocError>
     requires { IsHeadWithin versions.old.shape.objects head.now }
     ensures shape { versions.new.shape ≡ versions.old.shape }
+    ensures undone { undone undo.new versions.new.held ≡ undone undo.old versions.old.held }
     ensures held { OnOk result ((told : ℕ) (all : List Kept) → AnswersAbove told versions.old.held all → AnswersAbove told versions.new.held (all ++ head_held commit head.now)) }
 {
     let [held, rest @ ..] = head else {
         return Ok(());
     };
     let value = copy_value(alloc, &held.value)?;
-    versions.put(held.object, commit, value)?;
-    hold_head(alloc, versions, commit, rest)
+    versions.put_noted(undo, held.object, commit, value)?;
+    hold_head(alloc, versions, undo, commit, rest)
 }
 
 /// Holds values of objects at a position.
 fn hold_values(
     alloc: Global,
     versions: &mut Versions,
+    undo: &mut Undo,
     pos: u32,
     objects: &[ObjectId],
     values: &[Value],
 ) -> Result<(), AllocError>
     requires { AreWithin versions.old.shape.objects objects.now }
     ensures shape { versions.new.shape ≡ versions.old.shape }
+    ensures undone { undone undo.new versions.new.held ≡ undone undo.old versions.old.held }
     ensures held { OnOk result ((told : ℕ) (all : List Kept) → AnswersAbove told versions.old.held all → AnswersAbove told versions.new.held (all ++ held_at pos (numbers objects.now) values.now)) }
 {
     let [object, other_objects @ ..] = objects else {
@@ -52,8 +57,8 @@ fn hold_values(
         return Ok(());
     };
     let value = copy_value(alloc, value)?;
-    versions.put(*object, pos, value)?;
-    hold_values(alloc, versions, pos, other_objects, other_values)
+    versions.put_noted(undo, *object, pos, value)?;
+    hold_values(alloc, versions, undo, pos, other_objects, other_values)
 }
 
 /// The objects at the slots in a mask.
@@ -131,10 +136,12 @@ fn values_below(
 fn evaluate_item(
     alloc: Global,
     versions: &mut Versions,
+    undo: &mut Undo,
     item: &Item,
 ) -> Result<List<Value>, TakeFault>
     requires { ReadsWithin versions.old.shape.objects item.now.action }
     ensures shape { versions.new.shape ≡ versions.old.shape }
+    ensures undone { undone undo.new versions.new.held ≡ undone undo.old versions.old.held }
     ensures evaluated { (told : ℕ) (all : List Kept) → AnswersAbove told versions.old.held all → told < item.now.pos → IsEvaluated told all item.now result versions.new.held }
 {
     let reads = item.action.reads.as_slice();
@@ -150,6 +157,7 @@ fn evaluate_item(
     hold_values(
         alloc,
         versions,
+        undo,
         item.pos,
         objects.as_slice(),
         outcome.writes.as_slice(),
@@ -161,20 +169,22 @@ fn evaluate_item(
 pub(crate) fn evaluate_items(
     alloc: Global,
     versions: &mut Versions,
+    undo: &mut Undo,
     items: &[Item],
     results: &mut Vec<Done1>,
 ) -> Result<(), TakeFault>
     requires { ItemsReadWithin versions.old.shape.objects items.now }
     ensures shape { versions.new.shape ≡ versions.old.shape }
+    ensures undone { undone undo.new versions.new.held ≡ undone undo.old versions.old.held }
     ensures evaluated { (told : ℕ) (all : List Kept) → AnswersAbove told versions.old.held all → AreAbove told items.now → AreEvaluated told all items.now results.old.items results.new.items result versions.new.held }
 {
     let [item, rest @ ..] = items else {
         return Ok(());
     };
-    let values = evaluate_item(alloc, versions, item)?;
+    let values = evaluate_item(alloc, versions, undo, item)?;
     results.push(Done1 {
         pos: item.pos,
         values,
     })?;
-    evaluate_items(alloc, versions, rest, results)
+    evaluate_items(alloc, versions, undo, rest, results)
 }

@@ -1,10 +1,15 @@
 //! Replays each example of the folder, and tells whether it printed what stands beside it.
 #![tactic(auto)]
 
+ghost use Rattle.sv_scenario.specs.Limits.{IsGoodScenario};
+
 use std::alloc::{AllocError, Global};
 use std::process::ExitCode;
 use sv_app::run;
 use sv_bytes::{FileFault, MemSink, OsFiles, OsSink, read_all, write_all};
+use sv_replay::run_schedule;
+use sv_report::brief;
+use sv_scenario::{Scenario, read_scenario};
 
 /// Room for the longest output.
 const ROOM: usize = 65_536;
@@ -32,6 +37,9 @@ const REFUSED: [&str; 5] = [
     "number_after_object",
     "origin_too_far",
 ];
+
+/// The scenarios whose run is told in counts and totals.
+const SUMMED: [&str; 1] = ["marketplace"];
 
 /// The words that replay a scenario of the folder.
 fn words(alloc: Global, name: &str) -> Result<Vec<String>, AllocError> {
@@ -81,6 +89,24 @@ fn refuses(rt: &HostRuntime, name: &str) -> Result<bool, FileFault> {
         && printed.out.bytes().is_empty())
 }
 
+fn summary(alloc: Global, scenario: &Scenario) -> Result<String, AllocError>
+    requires { IsGoodScenario scenario.now }
+{
+    let played = run_schedule(alloc, scenario)?;
+    brief(alloc, scenario, &played)
+}
+
+/// Whether the summary of a scenario's run is what stands beside it.
+fn sums_up(rt: &HostRuntime, name: &str) -> Result<bool, FileFault> {
+    let bytes = expected(rt, name, "json")?;
+    let Ok(scenario) = read_scenario(rt.alloc(), &bytes) else {
+        return Ok(false);
+    };
+    let printed = summary(rt.alloc(), &scenario)?;
+    let wanted = expected(rt, name, "brief")?;
+    Ok(printed.as_bytes() == wanted.as_slice())
+}
+
 fn tell(out: &mut OsSink, name: &str, same: &Result<bool, FileFault>) {
     let told: &[u8] = match same {
         Ok(true) => b": same\n",
@@ -98,6 +124,9 @@ fn main(rt: HostRuntime) -> ExitCode {
     }
     for name in REFUSED {
         tell(&mut out, name, &refuses(&rt, name));
+    }
+    for name in SUMMED {
+        tell(&mut out, name, &sums_up(&rt, name));
     }
     ExitCode::SUCCESS
 }

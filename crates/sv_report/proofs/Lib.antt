@@ -5,3 +5,4 @@ pub mod Standing
 pub mod Counting
 pub mod Dropping
 pub mod Traffic
+pub mod Outcomes

@@ -3,3 +3,4 @@ pub mod Again
 pub mod Drops
 pub mod Summary
 pub mod Rows
+pub mod Laws

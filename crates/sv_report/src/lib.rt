@@ -5,6 +5,7 @@ mod again;
 mod counts;
 mod event;
 mod kept;
+mod laws;
 mod next;
 mod rows;
 mod shown;
@@ -15,6 +16,7 @@ mod values;
 mod whole;
 mod written;
 
+pub use laws::drops_are_outcomes;
 pub use summary::brief;
 pub use whole::report;
 

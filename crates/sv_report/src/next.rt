@@ -9,7 +9,7 @@ use sv_journal::Entry;
 /// An entry of a session.
 #[derive(Clone, Copy, Drop)]
 pub(crate) struct Next {
-    /// Its number, from 1. Without an entry it is the one after the last.
+    /// Its number, from 1. Where there is none it is the one after the last, and for an event that gets no reply 0.
     pub number: usize,
     /// The place behind it, from 0.
     pub behind: usize,

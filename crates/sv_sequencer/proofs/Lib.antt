@@ -12,6 +12,8 @@ pub mod FitPush
 pub mod FitRelays
 pub mod FitReports
 pub mod HistorySteps
+pub mod Sent
+pub mod Shared
 pub mod SoundSteps
 pub mod Replies
 pub mod Kept

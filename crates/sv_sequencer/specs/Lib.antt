@@ -6,4 +6,5 @@ pub mod Invariant
 pub mod Orphans
 pub mod Relays
 pub mod Rows
+pub mod Shared
 pub mod Step

@@ -6,6 +6,7 @@ mod clients;
 mod decide;
 mod decision;
 mod deliver;
+mod object;
 mod open;
 mod orphans;
 mod relays;
@@ -13,5 +14,8 @@ mod reports;
 mod sequencer;
 mod sessions;
 mod step;
+#[cfg(test)]
+mod tests;
 
+pub use object::Opened;
 pub use sequencer::Sequencer;

@@ -71,7 +71,7 @@ prune_few commit (suc zero) x (v ∷ vs) a c h =
 prune_few commit (suc zero) x [] a c h = absurd (omega (arith, c.within))
 prune_few commit (suc (suc count)) x vs a c h = absurd (omega arith)
 
-ascends_lower : (low high : ℕ) (vs : List Version) → low ≤ high → AscendsFrom high vs → AscendsFrom low vs
+pub ascends_lower : (low high : ℕ) (vs : List Version) → low ≤ high → AscendsFrom high vs → AscendsFrom low vs
 ascends_lower low high [] h a = tt
 ascends_lower low high (v ∷ vs) h a = (omega (arith, a.0), a.1)
 

@@ -183,3 +183,17 @@ pub put_listed : (after : List ObjectId) (rows : List (List Version)) (x : ℕ) 
 put_listed after rows x row a h one longer = record {
   listed = λ k l m. put_cases after rows x k row a h one longer (omega (arith, length-set rows x row)) m (cases_eq k x);
 }
+
+shorter_cases : (crowded : List ObjectId) (rows : List (List Version)) (x k : ℕ) (row : List Version) → AreListed crowded rows → x < length rows → length row ≤ length (get_or rows x []) → k < length rows → 1 < length (get_or (set rows x row) k []) → (k ≡ x) ⊎ (k ≡ x → ⊥) → is_listed k crowded ≡ true
+shorter_cases crowded rows x k row a h shorter l m (inl e) =
+    let read : get_or (set rows x row) k [] ≡ row = ap (λ j. get_or (set rows x row) j []) e ∙ get_or-set_same rows x row [] h in
+    let more : 1 < length (get_or rows x []) = omega (arith, ap (λ (r : List Version). length r) read) in
+    ap (λ j. is_listed j crowded) e ∙ a.listed x h more
+shorter_cases crowded rows x k row a h shorter l m (inr ne) =
+    a.listed k l (omega (arith, ap (λ (r : List Version). length r) (get_or-set_other rows x k row [] ne)))
+
+-- fewer versions of one object: the same objects are listed
+pub shorter_listed : (crowded : List ObjectId) (rows : List (List Version)) (x : ℕ) (row : List Version) → AreListed crowded rows → x < length rows → length row ≤ length (get_or rows x []) → AreListed crowded (set rows x row)
+shorter_listed crowded rows x row a h shorter = record {
+  listed = λ k l m. shorter_cases crowded rows x k row a h shorter (omega (arith, length-set rows x row)) m (cases_eq k x);
+}

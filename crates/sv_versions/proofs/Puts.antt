@@ -56,7 +56,7 @@ put_ascends low (suc i) (suc j) (v ∷ vs) w a l ij n before behind = (
 )
 
 -- where the last one counted stands elsewhere, the new one comes in behind it
-parts_apart : (pos count : ℕ) (vs : List Version) → AscendsFrom 0 vs → IsCountUpTo pos vs count → EndsApart pos vs count → Parts pos vs count count
+pub parts_apart : (pos count : ℕ) (vs : List Version) → AscendsFrom 0 vs → IsCountUpTo pos vs count → EndsApart pos vs count → Parts pos vs count count
 parts_apart pos count vs a c e = record {
   before = λ k d l n. let near : (get_or vs k d).pos ≤ (get_or vs (count - 1) d).pos = not_after 0 vs k (count - 1) d a (omega arith) (omega (arith, c.within)) in
       let top : (get_or vs (count - 1) d).pos ≤ pos = c.low (count - 1) d (omega arith) in
@@ -70,7 +70,7 @@ parts_apart pos count vs a c e = record {
 }
 
 -- where the last one counted stands at the position, the new one takes its place
-parts_equal : (pos count : ℕ) (vs : List Version) → AscendsFrom 0 vs → IsCountUpTo pos vs count → EndsAt pos vs count → Parts pos vs (count - 1) count
+pub parts_equal : (pos count : ℕ) (vs : List Version) → AscendsFrom 0 vs → IsCountUpTo pos vs count → EndsAt pos vs count → Parts pos vs (count - 1) count
 parts_equal pos count vs a c e = record {
   before = λ k d l m. omega (arith, ordered 0 vs k (count - 1) d a l (omega (arith, c.within, e.some)), e.same d);
   not_before = λ k d l m. omega (arith, not_after 0 vs (count - 1) k d a l m, e.same d);
@@ -80,7 +80,7 @@ parts_equal pos count vs a c e = record {
   across = omega arith;
 }
 
-replaced : (vs : List Version) (count : ℕ) (w : Version) → 0 < count → count ≤ length vs → set vs (count - 1) w ≡ take (count - 1) vs ++ w ∷ drop count vs
+pub replaced : (vs : List Version) (count : ℕ) (w : Version) → 0 < count → count ≤ length vs → set vs (count - 1) w ≡ take (count - 1) vs ++ w ∷ drop count vs
 replaced vs zero w n l = absurd (omega arith)
 replaced vs (suc count) w n l = let e : suc count - 1 ≡ count = omega arith in rw e (set_split vs count w (omega arith))
 

@@ -1,5 +1,5 @@
 -- Values of objects at positions: how they are read, put and pruned, on plain lists.
-use Rattle.std.specs.Prelude.{ℕ, ℤ, Bool, ◌≡◌, ◌<◌, ◌==◌, ◌&&◌, ◌||◌, not, nat_lt, nat_le, List, [], ◌∷◌, ◌++◌, Option, Some, None, option_map, filter, count_by, if◌then◌else◌}
+use Rattle.std.specs.Prelude.{ℕ, ℤ, Bool, ◌≡◌, ◌<◌, ◌==◌, ◌&&◌, ◌||◌, not, nat_lt, nat_le, List, [], ◌∷◌, ◌++◌, Option, Some, None, option_map, filter, flat_map, count_by, if◌then◌else◌}
 use Rattle.std.specs.List.{list_any}
 use Rattle.sv_world.specs.declared.world.Shape.{Shape}
 
@@ -67,3 +67,12 @@ put_in held h = filter (λ k. comes_before k h) held ++ h ∷ filter (λ k. come
 pub record AnswersAbove (commit : ℕ) (kept all : List Held) : Type 0 where
   pub below : (x pos : ℕ) → commit < pos → found_below kept x pos ≡ found_below all x pos
   pub last : (x : ℕ) → found_latest kept x ≡ found_latest all x
+
+-- what stands at an object's position where the value before was this one, or none
+abbrev pub stood_at : ℕ → ℕ → Option (List ℤ) → List Held
+stood_at x pos None = []
+stood_at x pos (Some value) = record { object = x; pos = pos; value = value } ∷ []
+
+-- the value of an object at a position, if there is one, is again what stood there before
+abbrev pub restored : ℕ → ℕ → Option (List ℤ) → List Held → List Held
+restored x pos was held = flat_map (λ h. if h.object == x && h.pos == pos then stood_at x pos was else h ∷ []) held

@@ -1,5 +1,5 @@
 -- How the store keeps its values: for each object, in order, a list by position.
-use Rattle.std.specs.Prelude.{ℕ, ◌≡◌, ◌+◌, ◌-◌, ◌<◌, ◌≤◌, List, [], ◌∷◌, ◌++◌, map, length, slice_index_or}
+use Rattle.std.specs.Prelude.{ℕ, ℤ, ◌≡◌, ◌+◌, ◌-◌, ◌<◌, ◌≤◌, List, [], ◌∷◌, ◌++◌, Option, Some, None, map, flat_map, length, slice_index_or, if◌then◌else◌}
 use Rattle.std.specs.Prelude.{Bool, true, ◌==◌}
 use Rattle.std.specs.List.{list_any}
 use Rattle.sv_world.specs.declared.world.ObjectId.{ObjectId}
@@ -55,3 +55,12 @@ pub record ArePruned (commit : ℕ) (listed : List ObjectId) (old new : List (Li
   pub shorter : (k : ℕ) → k < length old → length (slice_index_or new k []) ≤ length (slice_index_or old k [])
   pub done : (k x : ℕ) → k < length old → is_listed k listed ≡ true → tagged x (slice_index_or new k []) ≡ pruned commit (tagged x (slice_index_or old k []))
   pub few : (k x : ℕ) → k < length old → is_listed k listed ≡ true → count_up_to (tagged x (slice_index_or new k [])) x commit ≤ 1
+
+-- what stands at a position where the value before was this one, or none
+abbrev pub stood : ℕ → Option (List ℤ) → List Version
+stood pos None = []
+stood pos (Some value) = record { pos = pos; value = value } ∷ []
+
+-- the version at a position, if there is one, is again what stood there before
+abbrev pub row_restored : ℕ → Option (List ℤ) → List Version → List Version
+row_restored pos was versions = flat_map (λ v. if v.pos == pos then stood pos was else v ∷ []) versions

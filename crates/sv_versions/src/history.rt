@@ -4,6 +4,7 @@ ghost use Rattle.sv_versions.specs.Held.{read_below, latest, put_in, pruned, cou
 use crate::count::{count_versions, ends_at};
 use std::alloc::{AllocError, Global};
 use std::marker::Model;
+use std::mem;
 use sv_world::{Value, copy_value};
 
 /// A value at a position.
@@ -33,7 +34,7 @@ impl Model for History {
 }
 
 impl History {
-    ghost use Rattle.sv_versions.specs.Histories.{held_at, tagged};
+    ghost use Rattle.sv_versions.specs.Histories.{held_at, tagged, row_restored};
 
     pub fn new(alloc: Global) -> History
         ensures { result ≡ [] }
@@ -79,19 +80,38 @@ impl History {
         count_versions(&self.versions, commit)
     }
 
-    pub fn put(&mut self, pos: u32, value: Value) -> Result<(), AllocError>
+    /// Holds a value at a position, and returns the one that stood there.
+    pub fn put(&mut self, pos: u32, value: Value) -> Result<Option<Value>, AllocError>
         ensures ok { OnOk result ((x : ℕ) → tagged x self.new ≡ put_in (tagged x self.old) (held_at x (record { pos = pos; value = value }))) }
+        ensures undone { IfOk result (λ was. row_restored pos was self.new ≡ self.old) }
         ensures err { OnErr result (self.new ≡ self.old) }
         ensures longer { length self.new ≤ length self.old + 1 }
     {
         let count = count_versions(&self.versions, pos);
         let version = Version { pos, value };
         if ends_at(&self.versions, count, pos) {
-            self.versions[count - 1] = version;
-        } else {
-            self.versions.insert(count, version)?;
+            let was = mem::replace(&mut self.versions[count - 1], version);
+            return Ok(Some(was.value));
         }
-        Ok(())
+        self.versions.insert(count, version)?;
+        Ok(None)
+    }
+
+    /// Takes a put at a position back: the value that stood there before, if any, stands there again.
+    pub fn restore(&mut self, pos: u32, was: Option<Value>)
+        ensures kept { self.new ≡ row_restored pos was self.old }
+        ensures shorter { length self.new ≤ length self.old }
+    {
+        let count = count_versions(&self.versions, pos);
+        if !ends_at(&self.versions, count, pos) {
+            return;
+        }
+        match was {
+            Some(value) => self.versions[count - 1] = Version { pos, value },
+            None => {
+                let _ = self.versions.remove(count - 1);
+            }
+        }
     }
 
     pub fn prune(&mut self, commit: u32)

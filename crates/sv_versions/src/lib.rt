@@ -5,8 +5,10 @@ mod count;
 mod crowded;
 mod history;
 mod store;
+mod undo;
 
 pub use store::Versions;
+pub use undo::Undo;
 
 #[cfg(test)]
 mod tests;

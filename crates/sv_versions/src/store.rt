@@ -1,8 +1,10 @@
 ghost use Rattle.std.specs.Prelude.{◌≡◌, ℕ, [], ◌∷◌, ◌++◌, ◌<◌, ◌≤◌, option_copied, IfOk, OnOk, OnErr};
-ghost use Rattle.sv_versions.specs.Held.{read_below, latest, put_in, pruned, count_up_to, AnswersAbove};
+ghost use Rattle.sv_versions.specs.Held.{read_below, latest, put_in, pruned, restored, count_up_to, AnswersAbove};
+ghost use Rattle.sv_versions.specs.Undone.{undone};
 
 use crate::crowded::{keep_crowded, list_object, prune_each};
 use crate::history::History;
+use crate::undo::{Change, Undo};
 use std::alloc::{AllocError, Global};
 use std::marker::Model;
 use sv_world::{ObjectId, Shape, Value};
@@ -88,6 +90,65 @@ impl Versions {
         requires { object.0 < self.old.shape.objects }
         ensures ok { OnOk result (self.new ≡ record self.old { held = put_in self.old.held (record { object = object.0; pos = pos; value = value }) }) }
         ensures answers { OnOk result ((told : ℕ) (all : _) → AnswersAbove told self.old.held all → AnswersAbove told self.new.held (all ++ record { object = object.0; pos = pos; value = value } ∷ [])) }
+        ensures err { OnErr result (self.new ≡ self.old) }
+    {
+        self.replace(object, pos, value)?;
+        Ok(())
+    }
+
+    /// Holds one more value, as `put` does, and notes what that changed.
+    pub fn put_noted(
+        &mut self,
+        undo: &mut Undo,
+        object: ObjectId,
+        pos: u32,
+        value: Value,
+    ) -> Result<(), AllocError>
+        requires { object.0 < self.old.shape.objects }
+        ensures ok { OnOk result (self.new ≡ record self.old { held = put_in self.old.held (record { object = object.0; pos = pos; value = value }) }) }
+        ensures answers { OnOk result ((told : ℕ) (all : _) → AnswersAbove told self.old.held all → AnswersAbove told self.new.held (all ++ record { object = object.0; pos = pos; value = value } ∷ [])) }
+        ensures err { OnErr result (self.new ≡ self.old) }
+        ensures undone { undone undo.new self.new.held ≡ undone undo.old self.old.held }
+    {
+        let was = self.replace(object, pos, value)?;
+        if let Err(failed) = undo.changes.push(Change { object, pos, was }) {
+            self.restore(failed.value);
+            return Err(AllocError);
+        }
+        Ok(())
+    }
+
+    /// Takes back what was noted, the latest first. This takes no memory.
+    pub fn undo(&mut self, undo: Undo)
+        ensures { self.new ≡ record self.old { held = undone undo self.old.held } }
+    {
+        let mut undo = undo;
+        while let Some(change) = undo.changes.pop() {
+            self.restore(change);
+        }
+    }
+
+    fn restore(&mut self, change: Change)
+        ensures { self.new ≡ record self.old { held = restored change.object.0 change.pos change.was self.old.held } }
+    {
+        let index = change.object.0 as usize;
+        if index < self.histories.len() {
+            let history = &mut self.histories[index];
+            history.restore(change.pos, change.was);
+        }
+    }
+
+    /// Holds one more value, and returns the one that the object had at this position.
+    fn replace(
+        &mut self,
+        object: ObjectId,
+        pos: u32,
+        value: Value,
+    ) -> Result<Option<Value>, AllocError>
+        requires { object.0 < self.old.shape.objects }
+        ensures ok { OnOk result (self.new ≡ record self.old { held = put_in self.old.held (record { object = object.0; pos = pos; value = value }) }) }
+        ensures answers { OnOk result ((told : ℕ) (all : _) → AnswersAbove told self.old.held all → AnswersAbove told self.new.held (all ++ record { object = object.0; pos = pos; value = value } ∷ [])) }
+        ensures undone { IfOk result (λ was. restored object.0 pos was self.new.held ≡ self.old.held) }
         ensures err { OnErr result (self.new ≡ self.old) }
     {
         let count = self.histories[object.0 as usize].len();

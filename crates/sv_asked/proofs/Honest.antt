@@ -1,0 +1,177 @@
+-- Each request that an honest client asks is a message.
+use Rattle.std.proofs.Common.{◌≡◌, ℕ, ◌^◌, ◌<◌, ◌≤◌, List, [], ◌∷◌, length, reverse, Some, None, slice_get, sym, subst, arith}
+use Rattle.std.specs.Prelude.{All, slice_index_or}
+use Rattle.std.specs.List.{AllByRecursion}
+use Rattle.std.proofs.lemmas.List.Elements.{recursion_from_All, All-from_recursion}
+use Rattle.sv_world.specs.Sets.{read_set}
+use Rattle.sv_world.specs.Faults.{first_fault_of_action, IsGoodAction}
+use Rattle.sv_world.proofs.Good.{good_of_none}
+use Rattle.sv_world.specs.declared.action.Action.{Action}
+use Rattle.sv_world.specs.declared.world.ClientId.{ClientId}
+use Rattle.sv_world.specs.declared.world.ObjectId.{ObjectId}
+use Rattle.sv_world.specs.declared.world.Shape.{Shape}
+use Rattle.sv_eval.specs.Serial.{serial_world}
+use Rattle.sv_wire.specs.declared.message.Done1.{Done1}
+use Rattle.sv_wire.specs.declared.message.Request.{Request}
+use Rattle.sv_wire.specs.declared.message.Request.TheVariants as requests
+use Rattle.sv_wire.specs.Grammar.{IsWireAction}
+use Rattle.sv_wire.specs.Ranges.{ObjectFits, ValueFits, ActionFits}
+use Rattle.sv_wire.specs.Laws.{IsRequest}
+use Rattle.sv_journal.specs.declared.entry.Entry.{Entry}
+use Rattle.sv_journal.specs.History.{Authored, accepted, actions_of}
+use Rattle.sv_journal.specs.Answer.{Rules, Legal}
+use Rattle.sv_journal.specs.Laws.{AreWithinLimits, LegalRelaysAreSmall}
+use Rattle.sv_client.specs.declared.trace.Event.{Event}
+use Rattle.sv_client.specs.declared.trace.Event.TheVariants as events
+use Rattle.sv_client.specs.declared.trace.Trace.{Trace}
+use Rattle.sv_client.specs.Traces.{joins, makes, held_of, requests_of}
+use Rattle.sv_client.specs.Taking.{Identity}
+use Rattle.sv_client.specs.Proper.{AreProper, IsGoodIdentity, identity_of}
+use Rattle.sv_system.specs.Fits.{FitsOne, Fits}
+use Rattle.sv_system.specs.Serial.{AreSerial, ValuesAreSerial}
+use Rattle.sv_system.proofs.Asked.{done-when}
+use Rattle.sv_system.proofs.Leaving.{join-asked}
+use Rattle.sv_system.proofs.Window.{submit-most}
+use Rattle.sv_asked.specs.Asked.{EventFits, HasNumbers, RequestsAreMessages}
+use Rattle.sv_asked.proofs.Every.{each-at, each-map, each-more, each-place, each-reverse}
+use Rattle.sv_asked.proofs.Worlds.{IsGoodValue, serial_good}
+use Rattle.sv_asked.proofs.Made.{Makes, Asks, asked-have}
+use Rattle.sv_asked.proofs.Owned.{actions-fit}
+use Rattle.sv_asked.proofs.Items.{relay-items}
+use Rattle.sv_asked.proofs.Reported.{IsFineItem, done-is}
+
+-- Laws of the crates below.
+abbrev pub ActionsAreGood : Type 0
+ActionsAreGood = (r : Rules) (h : List Entry) → Legal r h → All (λ (a : Authored). IsGoodAction r.world.shape a.action) (accepted h)
+
+abbrev pub ReplicasAreSerial : Type 0
+ReplicasAreSerial = (r : Rules) (h : List Entry) (Ls : List Trace) → length r.world.values ≡ r.world.shape.objects → Legal r h → Fits r.world.shape h Ls → ValuesAreSerial r.world.values h Ls
+
+-- ---- Counts
+
+few-joins : (who : Identity) (first : ℕ) (t : List Event) → AreProper who first t → joins t ≤ 64
+few-joins who first [] p = omega arith
+few-joins who first (events.Join s ∷ t) p = omega (arith, p.0.few)
+few-joins who first (events.Make a ∷ t) p = few-joins who first t p.1
+few-joins who first (events.Poll ∷ t) p = few-joins who first t p.1
+few-joins who first (events.Leave ∷ t) p = few-joins who first t p.1
+few-joins who first (events.Got s reply ∷ t) p = few-joins who first t p.1
+few-joins who first (events.Cut ∷ t) p = few-joins who first t p.1
+few-joins who first (events.Quit ∷ t) p = few-joins who first t p.1
+few-joins who first (events.Show objects ∷ t) p = few-joins who first t p.1
+
+few-makes : (who : Identity) (first : ℕ) (t : List Event) → AreProper who first t → makes t ≤ 65536
+few-makes who first [] p = omega arith
+few-makes who first (events.Make a ∷ t) p = omega (arith, p.0.few)
+few-makes who first (events.Join s ∷ t) p = few-makes who first t p.1
+few-makes who first (events.Poll ∷ t) p = few-makes who first t p.1
+few-makes who first (events.Leave ∷ t) p = few-makes who first t p.1
+few-makes who first (events.Got s reply ∷ t) p = few-makes who first t p.1
+few-makes who first (events.Cut ∷ t) p = few-makes who first t p.1
+few-makes who first (events.Quit ∷ t) p = few-makes who first t p.1
+few-makes who first (events.Show objects ∷ t) p = few-makes who first t p.1
+
+-- ---- Actions
+
+-- An action that may be made, with numbers of its types.
+abbrev IsMade : Shape → Action → Type 0
+IsMade shape a = (first_fault_of_action shape a ≡ None) × ActionFits a
+
+wire-action : (shape : Shape) (a : Action) → IsGoodAction shape a → IsWireAction a
+wire-action shape a good =
+    record {
+      some_reads = good.some_reads;
+      few_reads = good.few_reads;
+      ascending = good.ascending;
+      mask = good.mask;
+      few_nodes = good.few_nodes;
+      shallow = good.shallow;
+    }
+
+made : (who : Identity) (first : ℕ) (t : List Event) → AreProper who first t → AllByRecursion EventFits t → AllByRecursion (Makes (IsMade who.shape)) t
+made who first [] p f = tt
+made who first (events.Make a ∷ t) p f = ((p.0.good, f.0), made who first t p.1 f.1)
+made who first (events.Join s ∷ t) p f = (tt, made who first t p.1 f.1)
+made who first (events.Poll ∷ t) p f = (tt, made who first t p.1 f.1)
+made who first (events.Leave ∷ t) p f = (tt, made who first t p.1 f.1)
+made who first (events.Got s reply ∷ t) p f = (tt, made who first t p.1 f.1)
+made who first (events.Cut ∷ t) p f = (tt, made who first t p.1 f.1)
+made who first (events.Quit ∷ t) p f = (tt, made who first t p.1 f.1)
+made who first (events.Show objects ∷ t) p f = (tt, made who first t p.1 f.1)
+
+-- ---- Each request
+
+join-is : (who : Identity) (life : ℕ) → IsGoodIdentity who → who.shape.objects ≤ 2 ^ 16 → life ≤ 64 → IsRequest (requests.Join who.client life who.interest)
+join-is who life good objects few =
+    record {
+      within = record { few = good.few; ascending = good.ascending };
+      fits = (
+        omega (arith, good.client),
+        omega (arith, few),
+        each-more (λ (o : ObjectId). o.0 < who.shape.objects) ObjectFits (λ o l. omega (arith, l, objects)) who.interest (recursion_from_All (λ (o : ObjectId). o.0 < who.shape.objects) who.interest good.objects),
+      );
+    }
+
+submit-is : (shape : Shape) (n : ℕ) (a : Action) → n ≤ 65536 → IsMade shape a → IsRequest (requests.Submit n a)
+submit-is shape n a few m = record { within = wire-action shape a (good_of_none shape a m.0); fits = (omega (arith, few), m.1) }
+
+module _ (small : LegalRelaysAreSmall) (goods : ActionsAreGood) (serial : ReplicasAreSerial) (r : Rules) (H : List Entry) (Ls : List Trace) (i : ℕ) (L : Trace) (s : ℕ)
+    (limits : AreWithinLimits r) (numbers : HasNumbers r H Ls) (legal : Legal r H) (fits : Fits r.world.shape H Ls) (member : slice_get Ls i ≡ Some L) where
+  abbrev whole : List Event
+  whole = reverse L.events
+
+  abbrev who : Identity
+  who = identity_of r.world.shape L
+
+  one : FitsOne r.world.shape H L
+  one = each-at (FitsOne r.world.shape H) Ls i L (recursion_from_All (FitsOne r.world.shape H) Ls fits.each) member
+
+  held-serial : AreSerial r.world.values (actions_of H) (held_of whole)
+  held-serial =
+      let all = (serial r H Ls limits.objects legal fits).held in
+      each-at (λ (M : Trace). AreSerial r.world.values (actions_of H) (held_of (reverse M.events))) Ls i L (recursion_from_All (λ (M : Trace). AreSerial r.world.values (actions_of H) (held_of (reverse M.events))) Ls all) member
+
+  within : All (λ a. All (λ y. y < length r.world.values) (read_set a)) (actions_of H)
+  within =
+      All-from_recursion (λ a. All (λ y. y < length r.world.values) (read_set a)) (actions_of H)
+      (each-map (λ (a : Authored). a.action) (λ a. All (λ y. y < length r.world.values) (read_set a)) (accepted H)
+      (each-more (λ (a : Authored). IsGoodAction r.world.shape a.action) (λ (a : Authored). All (λ y. y < length r.world.values) (read_set a.action))
+      (λ a g. subst (λ (n : ℕ). All (λ y. y < n) (read_set a.action)) (sym limits.objects) g.objects)
+      (accepted H) (recursion_from_All (λ (a : Authored). IsGoodAction r.world.shape a.action) (accepted H) (goods r H legal))))
+
+  good : (p x : ℕ) → x < length r.world.values → IsGoodValue r.world.shape.attrs (slice_index_or (serial_world r.world.values (actions_of H) p) x [])
+  good p x below =
+      serial_good r.world.shape.attrs r.world.values (actions_of H) p x limits.attrs within (actions-fit r H Ls fits numbers.made)
+      (recursion_from_All ValueFits r.world.values numbers.opening) below
+
+  asks : (n : ℕ) (q : Request) → slice_get (requests_of L s) n ≡ Some q → Asks (IsMade r.world.shape) q
+  asks n q there =
+      let events = recursion_from_All EventFits L.events (each-at (λ (M : Trace). All EventFits M.events) Ls i L (recursion_from_All (λ (M : Trace). All EventFits M.events) Ls numbers.made) member) in
+      let makings = made who L.first whole one.proper.events (each-reverse EventFits L.events events) in
+      each-at (Asks (IsMade r.world.shape)) (requests_of L s) n q (asked-have (IsMade r.world.shape) L.client L.interest whole s makings) there
+
+  each : (n : ℕ) (q : Request) → slice_get (requests_of L s) n ≡ Some q → IsRequest q
+  each n (requests.Join client life interest) there =
+      let j = join-asked who L.first whole one.proper.events s n client life interest there in
+      let few = few-joins who L.first whole one.proper.events in
+      let is = join-is who life one.proper.who numbers.objects (omega (arith, j.among, few)) in
+      subst (λ (c : ClientId). IsRequest (requests.Join c life interest)) (sym j.client_is) (subst (λ (o : List ObjectId). IsRequest (requests.Join who.client life o)) (sym j.interest_is) is)
+  each n (requests.Submit seq a) there =
+      let most = submit-most who L.first whole one.proper.events s n seq a there in
+      submit-is r.world.shape seq a (omega (arith, most, few-makes who L.first whole one.proper.events)) (asks n (requests.Submit seq a) there)
+  each n (requests.Done results) there =
+      let d = done-when who L.first whole s n results there in
+      let items = relay-items r H legal L one limits.bound numbers.positions (small r H legal) (goods r H legal) s d.seq d.commit d.head d.items d.before d.part in
+      subst (λ (l : List Done1). IsRequest (requests.Done l)) (sym d.results_are)
+      (done-is r.world.shape.attrs r.world.values (actions_of H) limits.some_attrs limits.few_attrs good s d.seq d.commit d.head d.items d.before whole d.part held-serial
+      (subst (λ (n : ℕ). AllByRecursion (IsFineItem n) d.items) (sym limits.objects) items.each) items.some items.few)
+  each n requests.Poll there = record { within = tt; fits = tt }
+  each n requests.Leave there = record { within = tt; fits = tt }
+  each n requests.Bad there = absurd (asks n requests.Bad there)
+  each n requests.End there = absurd (asks n requests.End there)
+
+  all-requests : All IsRequest (requests_of L s)
+  all-requests = All-from_recursion IsRequest (requests_of L s) (each-place IsRequest (requests_of L s) each)
+
+pub requests_are_messages : LegalRelaysAreSmall → ActionsAreGood → ReplicasAreSerial → RequestsAreMessages
+requests_are_messages small goods serial r H Ls i L s limits numbers legal fits member = all-requests small goods serial r H Ls i L s limits numbers legal fits member

@@ -1,0 +1,12 @@
+pub mod Every
+pub mod Evaluated
+pub mod Worlds
+pub mod Made
+pub mod Reported
+pub mod Owned
+pub mod Items
+pub mod Honest
+pub mod Spent
+pub mod Facts
+pub mod Answered
+pub mod Replied

@@ -1,0 +1,5 @@
+use Rattle.sv_asked.proofs.Spent.{accepted-few}
+use Rattle.sv_asked.proofs.laws.accepted_are_few.Goals as goal
+
+pub returns : goal.returns
+returns c = accepted-few

@@ -1,0 +1,41 @@
+-- What is said of the requests that honest clients ask.
+use Rattle.std.specs.Prelude.{◌≡◌, ℕ, ◌+◌, ◌*◌, ◌^◌, ◌<◌, ◌≤◌, List, length, slice_get, Some, All}
+use Rattle.sv_wire.specs.Ranges.{ValueFits, ActionFits, RequestFits}
+use Rattle.sv_wire.specs.Laws.{IsRequest, IsReply}
+use Rattle.sv_journal.specs.declared.entry.Entry.{Entry}
+use Rattle.sv_journal.specs.History.{accepted, full_reply}
+use Rattle.sv_journal.specs.Answer.{Rules, Legal}
+use Rattle.sv_journal.specs.Laws.{AreWithinLimits}
+use Rattle.sv_client.specs.declared.trace.Event.{Event}
+use Rattle.sv_client.specs.declared.trace.Event.TheVariants as events
+use Rattle.sv_client.specs.declared.trace.Trace.{Trace}
+use Rattle.sv_client.specs.Traces.{requests_of}
+use Rattle.sv_system.specs.Fits.{Fits}
+
+-- The numbers of an action that is made are those of their types.
+abbrev pub EventFits : Event → Type 0
+EventFits (events.Make action) = ActionFits action
+EventFits _ = Unit {0}
+
+-- What a run is given has numbers of their types: its objects, the values of its opening world, and the actions that clients made. And there
+-- are numbers for the positions of the accepted actions.
+pub record HasNumbers (r : Rules) (h : List Entry) (Ls : List Trace) : Type 0 where
+  pub objects : r.world.shape.objects ≤ 2 ^ 16
+  pub opening : All ValueFits r.world.values
+  pub made : All (λ (L : Trace). All EventFits L.events) Ls
+  pub positions : length (accepted h) < 2 ^ 32
+
+-- Each request that an honest client asks in a session is a message, with numbers of its types.
+abbrev pub RequestsAreMessages : Type 0
+RequestsAreMessages = (r : Rules) (h : List Entry) (Ls : List Trace) (i : ℕ) (L : Trace) (s : ℕ) → AreWithinLimits r → HasNumbers r h Ls →
+    Legal r h → Fits r.world.shape h Ls → slice_get Ls i ≡ Some L → All IsRequest (requests_of L s)
+
+-- Each session may make 1,024 requests, so a journal of so many sessions accepts at most so many actions.
+abbrev pub AcceptedAreFew : Type 0
+AcceptedAreFew = (r : Rules) (h : List Entry) (sessions : ℕ) → Legal r h → All (λ (e : Entry). e.session < sessions) h → length (accepted h) ≤ 1024 * sessions
+
+-- Each reply of a legal journal is a message, with numbers of its types, where the opening world and the requests have numbers of theirs,
+-- whatever the clients ask. The journal is not longer than positions and sequence numbers go.
+abbrev pub RepliesAreMessages : Type 0
+RepliesAreMessages = (r : Rules) (h : List Entry) → AreWithinLimits r → r.world.shape.objects ≤ 2 ^ 16 → All ValueFits r.world.values →
+    All (λ (e : Entry). RequestFits e.request) h → length h + 1 < 2 ^ 32 → Legal r h → All (λ (e : Entry). IsReply (full_reply (accepted h) e.reply)) h

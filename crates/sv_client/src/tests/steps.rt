@@ -1,0 +1,169 @@
+//! What a client does, step by step, and what it is to answer.
+ghost use Rattle.std.specs.Prelude.{◌≡◌};
+
+use super::data::{Answer, Deed, action_of, objects_of, reply_of};
+use crate::{Client, Mark, TakeFault, View};
+use std::alloc::Global;
+use std::test::Fail;
+use sv_wire::{Done1, Request};
+use sv_world::ObjectId;
+
+/// What `take` answers: the results of the Done, nothing to ask, or a fault.
+#[derive(Clone, Copy)]
+pub enum Told<'a> {
+    Nothing,
+    Done(&'a [(u32, i64)]),
+    Fault(TakeFault),
+}
+
+#[derive(Clone, Copy)]
+pub enum Step<'a> {
+    Join,
+    Make(Deed),
+    Poll,
+    Leave,
+    Cut,
+    /// A reply is handed in.
+    Take(Answer<'a>, Told<'a>),
+    /// The client looks at an object, and sees this number, or none.
+    Show(u16, Option<i64>),
+    /// The number that is held of an object below a position.
+    Below(u16, u32, Option<i64>),
+    /// How many actions are pending and how many requests are outstanding, and the commit told.
+    Counts(usize, usize, u32),
+}
+
+fn number(view: View<'_>) -> Option<i64> {
+    match view {
+        View::Known(value) => value.as_slice().first().copied(),
+        View::Unknown => None,
+    }
+}
+
+fn joins(client: &mut Client) -> Result<bool, Fail>
+    ensures { client.new.who ≡ client.old.who }
+{
+    if client.sessions() >= 64 {
+        return Ok(false);
+    }
+    let requests = client.join()?;
+    Ok(requests.len() == client.pending() + 1)
+}
+
+fn makes(alloc: Global, client: &mut Client, deed: Deed) -> Result<bool, Fail>
+    ensures { client.new.who ≡ client.old.who }
+{
+    if !client.in_session() || client.made() >= 65536 {
+        return Ok(false);
+    }
+    let action = action_of(alloc, deed)?;
+    client.make(action)?;
+    Ok(true)
+}
+
+fn polls(client: &mut Client) -> Result<bool, Fail>
+    ensures { client.new.who ≡ client.old.who }
+{
+    if !client.in_session() {
+        return Ok(false);
+    }
+    client.poll()?;
+    Ok(true)
+}
+
+fn leaves(client: &mut Client) -> Result<bool, Fail>
+    ensures { client.new.who ≡ client.old.who }
+{
+    if !client.in_session() || client.outstanding() > 0 {
+        return Ok(false);
+    }
+    client.leave()?;
+    Ok(true)
+}
+
+fn cuts(client: &mut Client) -> Result<bool, Fail>
+    ensures { client.new.who ≡ client.old.who }
+{
+    client.note(Mark::Cut)?;
+    Ok(true)
+}
+
+fn shows(
+    alloc: Global,
+    client: &mut Client,
+    object: u16,
+    expected: Option<i64>,
+) -> Result<bool, Fail>
+    ensures { client.new.who ≡ client.old.who }
+{
+    let objects = objects_of(alloc, &[object])?;
+    client.note(Mark::Show(objects))?;
+    Ok(number(client.view(ObjectId(object))) == expected)
+}
+
+fn are_results(results: &[Done1], expected: &[(u32, i64)]) -> bool {
+    if results.len() != expected.len() {
+        return false;
+    }
+    for (result, (pos, number)) in results.iter().zip(expected) {
+        let first = result.values.as_slice().first();
+        let found = first.and_then(|value| value.as_slice().first().copied());
+        if result.pos != *pos || found != Some(*number) {
+            return false;
+        }
+    }
+    true
+}
+
+fn is_told(asked: Option<&Request>, expected: Told) -> bool {
+    match (asked, expected) {
+        (None, Told::Nothing) => true,
+        (Some(Request::Done { results }), Told::Done(numbers)) => {
+            are_results(results.as_slice(), numbers)
+        }
+        _ => false,
+    }
+}
+
+fn takes(alloc: Global, client: &mut Client, answer: Answer, expected: Told) -> Result<bool, Fail>
+    ensures { client.new.who ≡ client.old.who }
+{
+    let reply = reply_of(alloc, answer)?;
+    Ok(match client.take(&reply) {
+        Ok(asked) => is_told(asked.as_ref(), expected),
+        Err(fault) => matches!(expected, Told::Fault(other) if other == fault),
+    })
+}
+
+fn holds_below(client: &Client, object: u16, pos: u32, expected: Option<i64>) -> bool
+    requires { client.now.who.shape.objects ≡ 2 }
+{
+    if object >= 2 || pos <= client.told() {
+        return false;
+    }
+    number(client.value_below(ObjectId(object), pos)) == expected
+}
+
+fn counts(client: &Client, pending: usize, outstanding: usize, told: u32) -> bool {
+    client.pending() == pending && client.outstanding() == outstanding && client.told() == told
+}
+
+/// Whether a step of a client of two objects goes as expected.
+pub fn goes(alloc: Global, client: &mut Client, step: Step) -> Result<bool, Fail>
+    requires { client.old.who.shape.objects ≡ 2 }
+    ensures { client.new.who ≡ client.old.who }
+{
+    match step {
+        Step::Join => joins(client),
+        Step::Make(deed) => makes(alloc, client, deed),
+        Step::Poll => polls(client),
+        Step::Leave => leaves(client),
+        Step::Cut => cuts(client),
+        Step::Take(answer, expected) => takes(alloc, client, answer, expected),
+        Step::Show(object, expected) => shows(alloc, client, object, expected),
+        Step::Below(object, pos, expected) => Ok(holds_below(client, object, pos, expected)),
+        Step::Counts(pending, outstanding, told) => {
+            Ok(counts(client, pending, outstanding, told))
+        }
+    }
+}

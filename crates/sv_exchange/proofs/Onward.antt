@@ -1,0 +1,47 @@
+-- What a read leaves of a link.
+use Rattle.std.proofs.Common.{◌≡◌, ℕ, ◌≤◌, List, ◌++◌, length, take, drop, refl, sym, ap, subst, ◌∙◌, append_assoc, arith, length-drop}
+use Rattle.std.proofs.lemmas.List.{take-append-drop, drop-drop, take_at, length-take-le}
+use Rattle.sv_link.specs.declared.side.Side.{Side}
+use Rattle.sv_link.specs.declared.side.Side.TheVariants.{Server, Client}
+use Rattle.sv_link.specs.Sides.{SideView, LinkView, other, side_of, with_side, unread, after_read}
+use Rattle.sv_exchange.specs.Streams.{IsWithin, IsReadOn}
+
+pub side_with_same : (link : LinkView) (side : Side) (x : SideView) → side_of (with_side link side x) side ≡ x
+side_with_same link Server x = refl
+side_with_same link Client x = refl
+
+pub side_with_other : (link : LinkView) (side : Side) (x : SideView) → side_of (with_side link (other side) x) side ≡ side_of link side
+side_with_other link Server x = refl
+side_with_other link Client x = refl
+
+pub read_on_none : (link : LinkView) (side : Side) → IsWithin (side_of link (other side)) → IsReadOn link link side
+read_on_none link side within = record { own = refl; written = refl; closed = refl; within = within }
+
+-- after so many bytes more of the other side were read
+pub read_on_more : (first old new : LinkView) (side : Side) (count : ℕ) → new ≡ with_side old (other side) (after_read (side_of old (other side)) count) → count ≤ length (unread (side_of old (other side))) → IsReadOn first old side → IsReadOn first new side
+read_on_more first old new side count e few so_far =
+    let sender = side_of old (other side) in
+    let is : side_of new (other side) ≡ after_read sender count = ap (λ (l : LinkView). side_of l (other side)) e ∙ side_with_same old (other side) (after_read sender count) in
+    let own : side_of new side ≡ side_of old side = ap (λ (l : LinkView). side_of l side) e ∙ side_with_other old side (after_read sender count) in
+    record {
+      own = own ∙ so_far.own;
+      written = ap (λ (s : SideView). s.written) is ∙ so_far.written;
+      closed = ap (λ (s : SideView). s.closed) is ∙ so_far.closed;
+      within = subst IsWithin (sym is) (omega (arith, length-drop sender.read sender.written, so_far.within));
+    }
+
+pub unread_after : (old new : LinkView) (side : Side) (count : ℕ) → new ≡ with_side old (other side) (after_read (side_of old (other side)) count) → unread (side_of new (other side)) ≡ drop count (unread (side_of old (other side)))
+unread_after old new side count e =
+    let sender = side_of old (other side) in
+    ap (λ (l : LinkView). unread (side_of l (other side))) e
+    ∙ (ap unread (side_with_same old (other side) (after_read sender count)) ∙ sym (drop-drop count sender.read sender.written))
+
+-- the bytes of a piece go to the end of what was read
+pub moved : (reader fed left after into piece behind : List ℕ) (count : ℕ) → into ≡ take count left ++ drop count piece → count ≤ length left → fed ≡ reader ++ take count (into ++ behind) → after ≡ drop count left → fed ++ after ≡ reader ++ left
+moved reader fed left after into piece behind count i few f a =
+    let first = take count left in
+    let rest = drop count piece in
+    let taken : take count (into ++ behind) ≡ first =
+    ap (λ (l : List ℕ). take count (l ++ behind)) i ∙ (ap (take count) (append_assoc first rest behind) ∙ take_at first (rest ++ behind) count (length-take-le count left few)) in
+    let fed_is : fed ≡ reader ++ first = f ∙ ap (λ (l : List ℕ). reader ++ l) taken in
+    rw (fed_is, a, append_assoc reader first (drop count left), take-append-drop count left) refl

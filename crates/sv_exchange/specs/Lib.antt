@@ -1,0 +1,5 @@
+pub mod Streams
+pub mod Carried
+pub mod View
+pub mod Invariant
+pub mod Worked

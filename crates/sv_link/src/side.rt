@@ -1,0 +1,11 @@
+//! The two sides of a connection.
+
+/// A side of a connection.
+#[derive(Clone, Copy, Debug, PartialEq, Eq)]
+pub enum Side {
+    /// The server's side.
+    Server,
+
+    /// The client's side.
+    Client,
+}

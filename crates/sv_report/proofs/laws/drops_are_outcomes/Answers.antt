@@ -1,0 +1,5 @@
+use Rattle.sv_report.proofs.Outcomes.{drops_are}
+use Rattle.sv_report.proofs.laws.drops_are_outcomes.Goals as goal
+
+pub returns : goal.returns
+returns c = drops_are
