@@ -26,12 +26,12 @@ pub returns-in-Some : goal.returns-in-Some
 returns-in-Some c =
     on_ok_weaker c.answer.result
     (λ done. serves_asked c.args.session c.args.sequencer.now c.answer.new.sequencer c.args.channel.now c.next_request.new.self c.answer.new.channel c.in-Some.request
-      (sym c.if-is_ended.ensures) (sym c.if-is_stopped.ensures) c.in-Some.ensures done)
+    (sym c.if-is_ended.ensures) (sym c.if-is_stopped.ensures) c.in-Some.ensures done)
     c.answer.ensures
 
 pub returns-in-None : goal.returns-in-None
 returns-in-None c =
     on_ok_weaker c.end-in-None.result
     (λ done. serves_closed c.args.session c.args.sequencer.now c.end-in-None.new.sequencer c.args.channel.now c.next_request.new.self c.end-in-None.new.channel
-      (sym c.if-is_ended.ensures) (sym c.if-is_stopped.ensures) c.in-None.ensures (sym c.if-is_closed.ensures) done)
+    (sym c.if-is_ended.ensures) (sym c.if-is_stopped.ensures) c.in-None.ensures (sym c.if-is_closed.ensures) done)
     c.end-in-None.ensures

@@ -27,7 +27,7 @@ returns-then-in_session c =
     let next = leaves (player_of p) (sym c.if-not-is_settled.ensures) (up_session p.first p.client.events ∙ sym c.if-in_session.ensures) in
     on_ok_weaker c.leave.result
     (λ did. ready_moved events.Leave [] _ p c.leave.new.self c.args.channel.now c.leave.new.channel c.requires.ready refl refl (next ∙ does_player p events.Leave [] c.requires.ready.linked refl)
-      (left_is events.Leave p.left.now [] p c.leave.new.self c.args.channel.now c.leave.new.channel c.requires.none (same_link events.Leave p.left.now p.closed false p c.leave.new.self c.args.channel.now c.leave.new.channel c.requires.ready.linked did)))
+    (left_is events.Leave p.left.now [] p c.leave.new.self c.args.channel.now c.leave.new.channel c.requires.none (same_link events.Leave p.left.now p.closed false p c.leave.new.self c.args.channel.now c.leave.new.channel c.requires.ready.linked did)))
     c.leave.ensures
 
 pub returns : goal.returns
