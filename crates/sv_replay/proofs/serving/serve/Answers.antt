@@ -1,7 +1,7 @@
 use Rattle.std.proofs.Common.{sym, ◌∙◌}
 use Rattle.std.proofs.lemmas.Result.{on_ok_weaker}
 use Rattle.sv_sequencer.specs.Step.{history}
-use Rattle.sv_replay.proofs.Served.{same_ended, serves_ended, serves_end, serves_closed, serves_idle, serves_asked}
+use Rattle.sv_replay.proofs.Served.{same_ended, serves_ended, serves_end, serves_closed, serves_asked}
 use Rattle.sv_replay.proofs.serving.serve.Goals as goal
 
 pub returns-then-is_ended : goal.returns-then-is_ended

@@ -1,7 +1,5 @@
-use Rattle.std.proofs.Common.{◌≡◌, ◌+◌, ◌-◌, ◌≤◌, ◌<◌, List, length, drop, get_or, sym, subst, ap, ◌∙◌, arith}
+use Rattle.std.proofs.Common.{◌≡◌, ◌+◌, ◌-◌, ◌≤◌, ◌<◌, length, get_or, sym, subst, ap, ◌∙◌, arith}
 use Rattle.std.proofs.lemmas.List.{get_or_read}
-use Rattle.sv_wire.specs.declared.message.Reply.{Reply}
-use Rattle.sv_scenario.specs.declared.scenario.Scenario.{Scenario}
 use Rattle.sv_schedule.specs.Schedule.{Run, at_player, repeated, take_turn, open_session}
 use Rattle.sv_replay.specs.Channel.{ChannelView, new_channel}
 use Rattle.sv_replay.specs.Players.{session_of}

@@ -1,6 +1,5 @@
-use Rattle.std.proofs.Common.{◌≡◌, ◌≤◌, ◌<◌, false, length, sym, ap, ◌∙◌, subst, refl}
+use Rattle.std.proofs.Common.{◌≤◌, ◌<◌, false, length, sym, ap, ◌∙◌, subst, refl}
 use Rattle.std.proofs.lemmas.Result.{on_ok_weaker}
-use Rattle.sv_pending.specs.Pending.{PendingAction}
 use Rattle.sv_client.specs.declared.trace.Event.TheVariants as events
 use Rattle.sv_client.specs.Traces.{pending_of}
 use Rattle.sv_client.proofs.Shifts.{up_pending}
