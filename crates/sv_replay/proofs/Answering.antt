@@ -69,20 +69,20 @@ module _ (r : Rules) (h : List Entry) (ps : List Player) (s : ℕ) (q : Request)
       let of_it : is_of e s ≡ true = of-from e s refl asked in
       let asks : requests_in (e ∷ h) s ≡ requests_in h s ++ q ∷ [] = cond-true (is_of e s) (requests_in h s ++ q ∷ []) (requests_in h s) of_it in
       let gives : replies_in (accepted (e ∷ h)) (e ∷ h) s ≡ replies_in (accepted h) h s ++ full_reply (accepted (e ∷ h)) (reply_to r h s q) ∷ [] =
-          cond-true (is_of e s) (replies_in (accepted (e ∷ h)) h s ++ full_reply (accepted (e ∷ h)) (reply_to r h s q) ∷ []) (replies_in (accepted (e ∷ h)) h s) of_it
-          ∙ ap (λ (rs : List Reply). rs ++ full_reply (accepted (e ∷ h)) (reply_to r h s q) ∷ []) (sym (replies_stay r e h s legal)) in
+      cond-true (is_of e s) (replies_in (accepted (e ∷ h)) h s ++ full_reply (accepted (e ∷ h)) (reply_to r h s q) ∷ []) (replies_in (accepted (e ∷ h)) h s) of_it
+      ∙ ap (λ (rs : List Reply). rs ++ full_reply (accepted (e ∷ h)) (reply_to r h s q) ∷ []) (sym (replies_stay r e h s legal)) in
       let one : length (requests_in h s ++ q ∷ []) ≡ length (requests_in h s) + 1 = length-append (requests_in h s) (q ∷ []) in
       let more : length (replies_in (accepted h) h s ++ full_reply (accepted (e ∷ h)) (reply_to r h s q) ∷ []) ≡ length (replies_in (accepted h) h s) + 1 =
-          length-append (replies_in (accepted h) h s) (full_reply (accepted (e ∷ h)) (reply_to r h s q) ∷ []) in
+      length-append (replies_in (accepted h) h s) (full_reply (accepted (e ∷ h)) (reply_to r h s q) ∷ []) in
       record {
         asked = (let long : length (q ∷ qs) ≡ length (asked_in_run ps s) - length (requests_in h s) = ap length (sym left) ∙ length-drop (length (requests_in h s)) (asked_in_run ps s) in
-          subst (λ (rs : List Request). length rs ≤ length (asked_in_run ps s)) (sym asks) (omega (arith, one, long)));
+            subst (λ (rs : List Request). length rs ≤ length (asked_in_run ps s)) (sym asks) (omega (arith, one, long)));
         requests = sym (next_left (length (requests_in h s)) (asked_in_run ps s) q qs left) ∙ ap (λ (n : ℕ). drop n (asked_in_run ps s)) (sym one)
-          ∙ ap (λ (rs : List Request). drop (length rs) (asked_in_run ps s)) (sym asks);
+            ∙ ap (λ (rs : List Request). drop (length rs) (asked_in_run ps s)) (sym asks);
         got = subst (λ (rs : List Reply). length (got_in_run ps s) ≤ length rs) (sym gives) (omega (arith, is.got, more));
         replies = ap (λ (rs : List Reply). rs ++ full_reply (accepted (e ∷ h)) (reply_to r h s q) ∷ []) is.replies
-          ∙ sym (drop-append-le (length (got_in_run ps s)) (replies_in (accepted h) h s) (full_reply (accepted (e ∷ h)) (reply_to r h s q) ∷ []) is.got)
-          ∙ ap (λ (rs : List Reply). drop (length (got_in_run ps s)) rs) (sym gives);
+            ∙ sym (drop-append-le (length (got_in_run ps s)) (replies_in (accepted h) h s) (full_reply (accepted (e ∷ h)) (reply_to r h s q) ∷ []) is.got)
+            ∙ ap (λ (rs : List Reply). drop (length (got_in_run ps s)) rs) (sym gives);
         closed = is.closed;
         stopped = sym (stops_here s h (is_stop (reply_to r h s q)) running);
       }
@@ -93,6 +93,7 @@ module _ (r : Rules) (h : List Entry) (ps : List Player) (s : ℕ) (q : Request)
           or_false : (b : Bool) → (b || false) ≡ b
           or_false true = refl
           or_false false = refl
+
       next_left : {X : Type 0} (n : ℕ) (xs : List X) (y : X) (ys : List X) → drop n xs ≡ y ∷ ys → drop (n + 1) xs ≡ ys
       next_left n xs y ys e = sym (drop-drop 1 n xs) ∙ ap (λ zs. drop 1 zs) e
 
@@ -112,36 +113,38 @@ module _ (r : Rules) (h : List Entry) (ps : List Player) (s : ℕ) (c : ChannelV
   -- The session's own connection.
   pub own_served : Legal r h → IsChannel (run_at (next_history r h s c) ps) s (next_channel r h s c)
   own_served legal = elim (cases_Bool (is_ended h s)) [
-        | inl ended ↦ at_turn h c (next_ended r h s c ended) is
-        | inr running ↦ elim (cases_Bool c.stopped) [
-          | inl stops ↦ at_turn _ _ (next_stopped r h s c running stops) (end_entry r h ps s requests.End legal c refl is)
-          | inr goes ↦ waits running goes c.requests refl
-        ]
-      ]
+    | inl ended ↦ at_turn h c (next_ended r h s c ended) is
+    | inr running ↦ elim (cases_Bool c.stopped) [
+      | inl stops ↦ at_turn _ _ (next_stopped r h s c running stops) (end_entry r h ps s requests.End legal c refl is)
+      | inr goes ↦ waits running goes c.requests refl
+    ]
+  ]
     where
       closes : is_ended h s ≡ false → c.stopped ≡ false → c.requests ≡ [] → IsChannel (run_at (next_history r h s c) ps) s (next_channel r h s c)
       closes running goes none = elim (cases_Bool c.closed) [
-            | inl shut ↦ at_turn _ _ (next_closed r h s c running goes none shut) (end_entry r h ps s requests.End legal c refl is)
-            | inr linked ↦ at_turn h c (next_idle r h s c running goes none linked) is
-          ]
+        | inl shut ↦ at_turn _ _ (next_closed r h s c running goes none shut) (end_entry r h ps s requests.End legal c refl is)
+        | inr linked ↦ at_turn h c (next_idle r h s c running goes none linked) is
+      ]
+
       waits : is_ended h s ≡ false → c.stopped ≡ false → (qs : List Request) → c.requests ≡ qs → IsChannel (run_at (next_history r h s c) ps) s (next_channel r h s c)
       waits running goes [] none = closes running goes none
       waits running goes (q ∷ qs) some = at_turn _ _ (next_asked r h s c q qs running goes some) (asked_entry r h ps s q legal c qs some (sym is.stopped ∙ goes) is)
 
   next_cases : (next_history r h s c ≡ h) ⊎ ((q : Request) × (next_history r h s c ≡ with_entry r h s q))
   next_cases = elim (cases_Bool (is_ended h s)) [
-        | inl ended ↦ inl (next_ended r h s c ended).0
-        | inr running ↦ elim (cases_Bool c.stopped) [
-          | inl stops ↦ inr (requests.End, (next_stopped r h s c running stops).0)
-          | inr goes ↦ waits running goes c.requests refl
-        ]
-      ]
+    | inl ended ↦ inl (next_ended r h s c ended).0
+    | inr running ↦ elim (cases_Bool c.stopped) [
+      | inl stops ↦ inr (requests.End, (next_stopped r h s c running stops).0)
+      | inr goes ↦ waits running goes c.requests refl
+    ]
+  ]
     where
       closes : is_ended h s ≡ false → c.stopped ≡ false → c.requests ≡ [] → (next_history r h s c ≡ h) ⊎ ((q : Request) × (next_history r h s c ≡ with_entry r h s q))
       closes running goes none = elim (cases_Bool c.closed) [
-            | inl shut ↦ inr (requests.End, (next_closed r h s c running goes none shut).0)
-            | inr linked ↦ inl (next_idle r h s c running goes none linked).0
-          ]
+        | inl shut ↦ inr (requests.End, (next_closed r h s c running goes none shut).0)
+        | inr linked ↦ inl (next_idle r h s c running goes none linked).0
+      ]
+
       waits : is_ended h s ≡ false → c.stopped ≡ false → (qs : List Request) → c.requests ≡ qs → (next_history r h s c ≡ h) ⊎ ((q : Request) × (next_history r h s c ≡ with_entry r h s q))
       waits running goes [] none = closes running goes none
       waits running goes (q ∷ qs) some = inr (q, (next_asked r h s c q qs running goes some).0)
@@ -149,6 +152,6 @@ module _ (r : Rules) (h : List Entry) (ps : List Player) (s : ℕ) (c : ChannelV
   -- The connections of other sessions.
   pub other_served : (n : ℕ) (d : ChannelView) → (s == n) ≡ false → Legal r h → IsChannel (run_at h ps) n d → IsChannel (run_at (next_history r h s c) ps) n d
   other_served n d f legal there = elim next_cases [
-        | inl same ↦ subst (λ (k : List Entry). IsChannel (run_at k ps) n d) (sym same) there
-        | inr one ↦ subst (λ (k : List Entry). IsChannel (run_at k ps) n d) (sym one.1) (other_entry r h ps s one.0 legal n d f there)
-      ]
+    | inl same ↦ subst (λ (k : List Entry). IsChannel (run_at k ps) n d) (sym same) there
+    | inr one ↦ subst (λ (k : List Entry). IsChannel (run_at k ps) n d) (sym one.1) (other_entry r h ps s one.0 legal n d f there)
+  ]

@@ -24,10 +24,10 @@ use Rattle.sv_replay.specs.Players.{asked_by_player, got_in_run}
 
 not_joined : (t : List Event) (n s : ℕ) → list_any (is_join_of n) t ≡ false → current_session t ≡ Some s → eqb s n ≡ false
 not_joined t n s e c = elim (cases_Bool (eqb s n)) [
-      | inr f ↦ f
-      | inl y ↦ (let there : list_any (is_join_of s) t ≡ true = current-joined t s c in
-          let here : list_any (is_join_of n) t ≡ true = subst (λ k. list_any (is_join_of k) t ≡ true) (eqb-true s n y) there in cc)
-    ]
+  | inr f ↦ f
+  | inl y ↦ (let there : list_any (is_join_of s) t ≡ true = current-joined t s c in
+      let here : list_any (is_join_of n) t ≡ true = subst (λ k. list_any (is_join_of k) t ≡ true) (eqb-true s n y) there in cc)
+]
 
 not_in : (t : List Event) (n : ℕ) → list_any (is_join_of n) t ≡ false → is_session (current_session t) n ≡ false
 not_in t n e = go (current_session t) refl
@@ -45,9 +45,9 @@ neither xs ys e h = rw (e, h) refl
 
 join_parts : (n s : ℕ) (t : List Event) → list_any (is_join_of n) (events.Join s ∷ t) ≡ false → (eqb s n ≡ false) × (list_any (is_join_of n) t ≡ false)
 join_parts n s t e = elim (cases_Bool (eqb s n)) [
-      | inl y ↦ absurd (let h : list_any (is_join_of n) (events.Join s ∷ t) ≡ true = rw y refl in cc)
-      | inr f ↦ (f, rw f at e)
-    ]
+  | inl y ↦ absurd (let h : list_any (is_join_of n) (events.Join s ∷ t) ≡ true = rw y refl in cc)
+  | inr f ↦ (f, rw f at e)
+]
 
 pub none_asked : (who : Identity) (first : ℕ) (t : List Event) → AreProper who first t → (n : ℕ) → list_any (is_join_of n) t ≡ false → asked who.client who.interest t n ≡ []
 none_asked who first [] p n e = refl

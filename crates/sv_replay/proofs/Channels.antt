@@ -59,8 +59,7 @@ any_moved f more (suc k) (r ∷ ps) p q e grown = ap (λ b. f r || b) (any_moved
 -- ---- One player moved
 
 module _ (h : List Entry) (ps : List Player) (k n : ℕ) (p q : Player) (sent : List Request) (taken : List Reply) (closing : Bool) (at : slice_get ps k ≡ Some p)
-  (m : Moves n p q sent taken closing) (quiet : OthersSilent n k ps ⊎ ((sent ≡ []) × (taken ≡ []))) where
-
+    (m : Moves n p q sent taken closing) (quiet : OthersSilent n k ps ⊎ ((sent ≡ []) × (taken ≡ []))) where
   abbrev before : Run
   before = record { history = h; players = ps }
 
@@ -69,23 +68,23 @@ module _ (h : List Entry) (ps : List Player) (k n : ℕ) (p q : Player) (sent : 
 
   ask_commutes : (s : ℕ) → (if n == s then sent else []) ++ asked_in_run (drop (suc k) ps) s ≡ asked_in_run (drop (suc k) ps) s ++ (if n == s then sent else [])
   ask_commutes s = elim quiet [
-        | inr none ↦ none_commutes (if n == s then sent else []) (asked_in_run (drop (suc k) ps) s) (rw none.0 (either_way (n == s) []))
-        | inl silent ↦ elim (cases_Bool (n == s)) [
-          | inr f ↦ none_commutes (if n == s then sent else []) (asked_in_run (drop (suc k) ps) s) (nothing (n == s) sent f)
-          | inl y ↦ commutes_with_none (if n == s then sent else []) (asked_in_run (drop (suc k) ps) s)
-            (subst (λ (i : ℕ). asked_in_run (drop (suc k) ps) i ≡ []) (eqb-true n s y) (all_ask_nothing n (drop (suc k) ps) (later_of n k ps silent)))
-        ]
-      ]
+    | inr none ↦ none_commutes (if n == s then sent else []) (asked_in_run (drop (suc k) ps) s) (rw none.0 (either_way (n == s) []))
+    | inl silent ↦ elim (cases_Bool (n == s)) [
+      | inr f ↦ none_commutes (if n == s then sent else []) (asked_in_run (drop (suc k) ps) s) (nothing (n == s) sent f)
+      | inl y ↦ commutes_with_none (if n == s then sent else []) (asked_in_run (drop (suc k) ps) s)
+          (subst (λ (i : ℕ). asked_in_run (drop (suc k) ps) i ≡ []) (eqb-true n s y) (all_ask_nothing n (drop (suc k) ps) (later_of n k ps silent)))
+    ]
+  ]
 
   get_commutes : (s : ℕ) → (if n == s then taken else []) ++ got_in_run (drop (suc k) ps) s ≡ got_in_run (drop (suc k) ps) s ++ (if n == s then taken else [])
   get_commutes s = elim quiet [
-        | inr none ↦ none_commutes (if n == s then taken else []) (got_in_run (drop (suc k) ps) s) (rw none.1 (either_way (n == s) []))
-        | inl silent ↦ elim (cases_Bool (n == s)) [
-          | inr f ↦ none_commutes (if n == s then taken else []) (got_in_run (drop (suc k) ps) s) (nothing (n == s) taken f)
-          | inl y ↦ commutes_with_none (if n == s then taken else []) (got_in_run (drop (suc k) ps) s)
-            (subst (λ (i : ℕ). got_in_run (drop (suc k) ps) i ≡ []) (eqb-true n s y) (all_get_nothing n (drop (suc k) ps) (later_of n k ps silent)))
-        ]
-      ]
+    | inr none ↦ none_commutes (if n == s then taken else []) (got_in_run (drop (suc k) ps) s) (rw none.1 (either_way (n == s) []))
+    | inl silent ↦ elim (cases_Bool (n == s)) [
+      | inr f ↦ none_commutes (if n == s then taken else []) (got_in_run (drop (suc k) ps) s) (nothing (n == s) taken f)
+      | inl y ↦ commutes_with_none (if n == s then taken else []) (got_in_run (drop (suc k) ps) s)
+          (subst (λ (i : ℕ). got_in_run (drop (suc k) ps) i ≡ []) (eqb-true n s y) (all_get_nothing n (drop (suc k) ps) (later_of n k ps silent)))
+    ]
+  ]
 
   asked_moved : (s : ℕ) → asked_in_run (set ps k q) s ≡ asked_in_run ps s ++ (if n == s then sent else [])
   asked_moved s = flat_moved (λ (r : Player). asked_by_player r s) (if n == s then sent else []) k ps p q at (m.asks s) (ask_commutes s)
@@ -127,12 +126,12 @@ module _ (h : List Entry) (ps : List Player) (k n : ℕ) (p q : Player) (sent : 
       let within : length (got_in_run ps n) + length taken ≤ length (replies_in (accepted h) h n) = taken_within (length (got_in_run ps n)) (replies_in (accepted h) h n) taken d.replies is.got waits in
       record {
         asked = (let long : length (asked_in_run ps n ++ sent) ≡ length (asked_in_run ps n) + length sent = length-append (asked_in_run ps n) sent in
-          subst (λ (rs : List Request). length (requests_in h n) ≤ length rs) (sym asks) (omega (arith, is.asked)));
+            subst (λ (rs : List Request). length (requests_in h n) ≤ length rs) (sym asks) (omega (arith, is.asked)));
         requests = dropped_more (length (requests_in h n)) (asked_in_run ps n) sent c.requests d.requests is.asked is.requests requests
-          ∙ ap (λ (rs : List Request). drop (length (requests_in h n)) rs) (sym asks);
+            ∙ ap (λ (rs : List Request). drop (length (requests_in h n)) rs) (sym asks);
         got = subst (λ (rs : List Reply). length rs ≤ length (replies_in (accepted h) h n)) (sym gets) (omega arith);
         replies = dropped_less (length (got_in_run ps n)) (replies_in (accepted h) h n) taken d.replies waits
-          ∙ ap (λ (i : ℕ). drop i (replies_in (accepted h) h n)) (sym many) ∙ ap (λ (rs : List Reply). drop (length rs) (replies_in (accepted h) h n)) (sym gets);
+            ∙ ap (λ (i : ℕ). drop i (replies_in (accepted h) h n)) (sym many) ∙ ap (λ (rs : List Reply). drop (length rs) (replies_in (accepted h) h n)) (sym gets);
         closed = closed ∙ ap (λ b. b || closing) is.closed ∙ sym shuts;
         stopped = stopped ∙ is.stopped;
       }

@@ -119,7 +119,7 @@ module _ (who : Identity) (first : ℕ) (t : List Event) (left : List Step) (fit
   begins n j s =
       let here : session_of old ≡ first + joins (Up first t) = session_next old (up_must first t ∙ sym j.needed) in
       let fresh : (n + first == s) ≡ true → list_any (is_join_of s) (Up first t) ≡ false =
-          λ e. not_begun who first (Up first t) fit.proper s (let same : n + first ≡ s = eqb-true (n + first) s e in let next : n + first ≡ session_of old = next_is n j in omega arith) in
+      λ e. not_begun who first (Up first t) fit.proper s (let same : n + first ≡ s = eqb-true (n + first) s e in let next : n + first ≡ session_of old = next_is n j in omega arith) in
       begins_one (list_any (is_join_of s) (Up first t)) (n + first == s) fresh
       ∙ ap (λ (k : ℕ). (list_any (is_join_of s) (Up first t) && true) || (if k == s then false else false)) (next_is n j)
       ∙ ap (λ (o : Option ℕ). (list_any (is_join_of s) (Up first t) && not (is_session o s)) || (if session_of old == s then false else false)) (sym (open_none (sym j.needed)))
@@ -175,7 +175,7 @@ module _ (who : Identity) (first : ℕ) (t : List Event) (left : List Step) (fit
       Moves (session_of old) old (player who first (events.Got m reply ∷ t) left false) (newly_asked who t (events.Got m reply)) (reply ∷ []) false
   got_moves j m reply e = record {
     asks = λ s. ap (λ (rs : List Request). asked who.client who.interest (Up first t) s ++ rs)
-      (asks_got who first t m reply e s ∙ ap (λ (n : ℕ). if n == s then newly_asked who t (events.Got m reply) else []) (ap (λ n. n + first) e ∙ last_is j));
+        (asks_got who first t m reply e s ∙ ap (λ (n : ℕ). if n == s then newly_asked who t (events.Got m reply) else []) (ap (λ n. n + first) e ∙ last_is j));
     gets = λ s. gets_one (Up first t) (m + first) reply s ∙ ap (λ (n : ℕ). got (Up first t) s ++ (if n == s then reply ∷ [] else [])) (ap (λ n. n + first) e ∙ last_is j);
     closes = kept j;
     begun = inl (joined_it j);

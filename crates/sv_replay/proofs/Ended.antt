@@ -18,7 +18,7 @@ pub ran : (n : ℕ) (scenario : Scenario) (o t w : Machine) → o.scenario.now �
 ran n scenario o t w same opening turns rounds =
     rounds.run_is ∙ ap (λ (s : Scenario). repeated n (round (rules_of s)) (run_of t)) (turns.scenario ∙ same)
     ∙ ap (λ (run : Run). repeated n (round (rules_of scenario)) run)
-      (turns.run_is ∙ ap (λ (s : Scenario). all_turned (rules_of s) (run_of o) s.schedule) same ∙ ap (λ (run : Run). all_turned (rules_of scenario) run scenario.schedule) opening)
+    (turns.run_is ∙ ap (λ (s : Scenario). all_turned (rules_of s) (run_of o) s.schedule) same ∙ ap (λ (run : Run). all_turned (rules_of scenario) run scenario.schedule) opening)
 
 pub still_of : (scenario : Scenario) (o t w : Machine) → o.scenario.now ≡ scenario → {run next : Run} → Became o t run → Became t w next → w.scenario.now ≡ scenario
 still_of scenario o t w same turns rounds = rounds.scenario ∙ turns.scenario ∙ same
@@ -29,13 +29,15 @@ pub played_is : (scenario : Scenario) (run : Run) (played : Played) → IsReplay
     IsPlayed scenario played × IsReplay scenario (reverse played.journal.entries) played.traces
 played_is scenario run played replay journal traces shape commit committed =
     let all : IsReplay scenario (reverse played.journal.entries) played.traces =
-        subst (λ (h : List Entry). IsReplay scenario h played.traces) (sym journal) (subst (λ (Ls : List Trace). IsReplay scenario run.history Ls) (sym traces) replay) in
-    (record {
-      traffic = all.traffic;
-      shape = shape;
-      commit = commit ∙ ap commit_of (sym journal);
-      committed = committed ∙ ap (committed_of scenario.world.values) (sym journal);
-    }, all)
+    subst (λ (h : List Entry). IsReplay scenario h played.traces) (sym journal) (subst (λ (Ls : List Trace). IsReplay scenario run.history Ls) (sym traces) replay) in (
+      record {
+        traffic = all.traffic;
+        shape = shape;
+        commit = commit ∙ ap commit_of (sym journal);
+        committed = committed ∙ ap (committed_of scenario.world.values) (sym journal);
+      },
+      all,
+    )
 
 pub journal_of : (r : Result Played AllocError) (run target : Run) → run ≡ target → IfOk r (λ (played : Played). reverse played.journal.entries ≡ run.history) →
     IfOk r (λ (played : Played). reverse played.journal.entries ≡ target.history)
@@ -53,7 +55,7 @@ pub played_of : (scenario other : Scenario) (r : Result Played AllocError) (run 
 played_of scenario other (Err x) run target e same replay shape journal traces commit committed = tt
 played_of scenario other (Ok played) run target e same replay shape journal traces commit committed =
     (played_is scenario run played (subst (λ (x : Run). IsReplay scenario x.history (traces_of x)) (sym e) replay) journal traces (shape ∙ ap (λ (s : Scenario). s.world.shape) same) commit
-      (committed ∙ ap (λ (s : Scenario). committed_of s.world.values run.history) same)).0
+    (committed ∙ ap (λ (s : Scenario). committed_of s.world.values run.history) same)).0
 
 pub replay_of : (scenario other : Scenario) (r : Result Played AllocError) (run target : Run) → run ≡ target → other ≡ scenario → IsReplay scenario target.history (traces_of target) →
     IfOk r (λ (played : Played). played.shape ≡ other.world.shape) → IfOk r (λ (played : Played). reverse played.journal.entries ≡ run.history) →
@@ -63,4 +65,4 @@ pub replay_of : (scenario other : Scenario) (r : Result Played AllocError) (run 
 replay_of scenario other (Err x) run target e same replay shape journal traces commit committed = tt
 replay_of scenario other (Ok played) run target e same replay shape journal traces commit committed =
     (played_is scenario run played (subst (λ (x : Run). IsReplay scenario x.history (traces_of x)) (sym e) replay) journal traces (shape ∙ ap (λ (s : Scenario). s.world.shape) same) commit
-      (committed ∙ ap (λ (s : Scenario). committed_of s.world.values run.history) same)).1
+    (committed ∙ ap (λ (s : Scenario). committed_of s.world.values run.history) same)).1

@@ -1,6 +1,7 @@
 -- Phases of many turns: what is left to do at each turn.
 use Rattle.std.proofs.Common.{◌≡◌, ◌⊎◌, inl, inr, ℕ, zero, suc, ◌+◌, ◌-◌, ◌<◌, ◌≤◌, ◌≢◌, Bool, true, false, ◌&&◌, ◌||◌, not, ◌==◌, eqb, List, [], ◌∷◌, ◌++◌, map, drop, length, set, get_or, slice_get, Option, Some, None, refl, sym, ap, subst, ◌∙◌, arith, eqb-true, eq-eqb, add-one}
-use Rattle.std.specs.Prelude.{if◌then◌else◌}
+use Rattle.std.specs.Prelude.{if◌then◌else◌, All}
+use Rattle.std.proofs.lemmas.List.Elements.{All-cons}
 use Rattle.std.specs.List.{list_any}
 use Rattle.std.proofs.lemmas.Bool.{cases_Bool, cond-true, cond-false}
 use Rattle.std.proofs.lemmas.List.{drop-append-le, length-append, length-drop, length-map}
@@ -23,8 +24,9 @@ use Rattle.sv_system.specs.Fits.{requests_in, replies_in, is_ended}
 use Rattle.sv_system.proofs.Entered.{is_of, of-from, as-many}
 use Rattle.sv_schedule.specs.Schedule.{Player, Run, asked_in_run, closed_by, is_stopped, with_entry, steps_next, session_turn, open_session, takes, takes_if, take_in, take_turn, at_player, repeated, does, take_turns, session_turns, sessions_turned, rules_of, after_clients, after_sessions, after_takes, round}
 use Rattle.sv_replay.specs.declared.machine.Machine.{Machine}
+use Rattle.sv_replay.specs.declared.playing.Playing.{Playing}
 use Rattle.sv_replay.specs.Machine.{player_of, run_of, IsMachine, Became, Heads, after_session, after_take}
-use Rattle.sv_replay.proofs.Turns.{repeated-enough, place-is, turned_from, turned-next, turned-all, place-again, place-none}
+use Rattle.sv_replay.proofs.Turns.{repeated-still, repeated-enough, place-is, turned_from, turned-next, turned-all, place-again, place-none}
 use Rattle.sv_replay.proofs.Machines.{clients_are, waits_all, open_here, open_shut, open_between}
 use Rattle.sv_replay.specs.Channel.{new_channel}
 use Rattle.sv_replay.specs.Players.{session_of}
@@ -67,9 +69,9 @@ below_earlier n k l e =
 pub below_next : (n k : ℕ) → k < n → drop k (below n) ≡ k ∷ drop (suc k) (below n)
 below_next zero k l = absurd (omega arith)
 below_next (suc n) k l = elim (cases_Bool (eqb k n)) [
-      | inl y ↦ below_last n k (eqb-true k n y)
-      | inr f ↦ (let less : k < n = (let other : k ≢ n = λ e. (let t : eqb k n ≡ true = eq-eqb k n e in cc) in omega arith) in below_earlier n k less (below_next n k less))
-    ]
+  | inl y ↦ below_last n k (eqb-true k n y)
+  | inr f ↦ (let less : k < n = (let other : k ≢ n = λ e. (let t : eqb k n ≡ true = eq-eqb k n e in cc) in omega arith) in below_earlier n k less (below_next n k less))
+]
 
 -- ---- A session's turns
 
@@ -84,9 +86,9 @@ entry_lessens r ps s h q running (inl end) =
     let same : requests_in (with_entry r h s q) s ≡ requests_in h s = rw (here, end) refl in
     let ended : is_ended (with_entry r h s q) s ≡ true = rw (here, end) refl in
     subst (λ (n : ℕ). n < work_left ps s h)
-      (sym (ap (λ (rs : List Request). length (drop (length rs) (asked_in_run ps s)) + (if is_ended (with_entry r h s q) s then 0 else 1)) same
-        ∙ ap (λ (b : Bool). length (drop (length (requests_in h s)) (asked_in_run ps s)) + (if b then 0 else 1)) ended))
-      (subst (λ (b : Bool). length (drop (length (requests_in h s)) (asked_in_run ps s)) + 0 < length (drop (length (requests_in h s)) (asked_in_run ps s)) + (if b then 0 else 1)) (sym running) (omega arith))
+    (sym (ap (λ (rs : List Request). length (drop (length rs) (asked_in_run ps s)) + (if is_ended (with_entry r h s q) s then 0 else 1)) same
+    ∙ ap (λ (b : Bool). length (drop (length (requests_in h s)) (asked_in_run ps s)) + (if b then 0 else 1)) ended))
+    (subst (λ (b : Bool). length (drop (length (requests_in h s)) (asked_in_run ps s)) + 0 < length (drop (length (requests_in h s)) (asked_in_run ps s)) + (if b then 0 else 1)) (sym running) (omega arith))
 entry_lessens r ps s h q running (inr asked) =
     let here : (s == s) ≡ true = eq-eqb s s refl in
     let more : requests_in (with_entry r h s q) s ≡ requests_in h s ++ q ∷ [] = rw (here, asked.0) refl in
@@ -95,37 +97,43 @@ entry_lessens r ps s h q running (inr asked) =
     let a : length (drop (length (requests_in h s ++ q ∷ [])) (asked_in_run ps s)) ≡ length (asked_in_run ps s) - length (requests_in h s ++ q ∷ []) = length-drop (length (requests_in h s ++ q ∷ [])) (asked_in_run ps s) in
     let b : length (drop (length (requests_in h s)) (asked_in_run ps s)) ≡ length (asked_in_run ps s) - length (requests_in h s) = length-drop (length (requests_in h s)) (asked_in_run ps s) in
     subst (λ (n : ℕ). n < work_left ps s h)
-      (sym (ap (λ (rs : List Request). length (drop (length rs) (asked_in_run ps s)) + (if is_ended (with_entry r h s q) s then 0 else 1)) more
-        ∙ ap (λ (b : Bool). length (drop (length (requests_in h s ++ q ∷ [])) (asked_in_run ps s)) + (if b then 0 else 1)) still))
-      (subst (λ (x : Bool). length (drop (length (requests_in h s ++ q ∷ [])) (asked_in_run ps s)) + 1 < length (drop (length (requests_in h s)) (asked_in_run ps s)) + (if x then 0 else 1)) (sym running)
-        (omega (arith, a, b, long, asked.1)))
+    (sym (ap (λ (rs : List Request). length (drop (length rs) (asked_in_run ps s)) + (if is_ended (with_entry r h s q) s then 0 else 1)) more
+    ∙ ap (λ (b : Bool). length (drop (length (requests_in h s ++ q ∷ [])) (asked_in_run ps s)) + (if b then 0 else 1)) still))
+    (subst (λ (x : Bool). length (drop (length (requests_in h s ++ q ∷ [])) (asked_in_run ps s)) + 1 < length (drop (length (requests_in h s)) (asked_in_run ps s)) + (if x then 0 else 1)) (sym running)
+    (omega (arith, a, b, long, asked.1)))
 
 add_one_length : {X : Type 0} (x : X) (xs : List X) → length (x ∷ xs) ≡ length xs + 1
 add_one_length x xs = omega arith
 
 turn_lessens : (r : Rules) (ps : List Player) (s : ℕ) (h : List Entry) → (session_turn r ps h s ≡ h) ⊎ (work_left ps s (session_turn r ps h s) < work_left ps s h)
 turn_lessens r ps s h = elim (cases_Bool (is_ended h s)) [
-      | inl ended ↦ inl (rw ended refl)
-      | inr running ↦ elim (cases_Bool (is_stopped h s)) [
-        | inl stops ↦ inr (lessens running requests.End (rw (running, stops) refl) (inl refl))
-        | inr goes ↦ waits running goes (drop (length (requests_in h s)) (asked_in_run ps s)) refl
-      ]
-    ]
+  | inl ended ↦ inl (rw ended refl)
+  | inr running ↦ elim (cases_Bool (is_stopped h s)) [
+    | inl stops ↦ inr (lessens running requests.End (rw (running, stops) refl) (inl refl))
+    | inr goes ↦ waits running goes (drop (length (requests_in h s)) (asked_in_run ps s)) refl
+  ]
+]
   where
     lessens : is_ended h s ≡ false → (q : Request) → session_turn r ps h s ≡ with_entry r h s q → (is_end q ≡ true) ⊎ ((is_end q ≡ false) × (length (requests_in h s) < length (asked_in_run ps s))) →
         work_left ps s (session_turn r ps h s) < work_left ps s h
     lessens running q is kind = subst (λ (g : List Entry). work_left ps s g < work_left ps s h) (sym is) (entry_lessens r ps s h q running kind)
+
     kind : (q : Request) (qs : List Request) → drop (length (requests_in h s)) (asked_in_run ps s) ≡ q ∷ qs → (is_end q ≡ true) ⊎ ((is_end q ≡ false) × (length (requests_in h s) < length (asked_in_run ps s)))
     kind q qs e = elim (cases_Bool (is_end q)) [
-          | inl y ↦ inl y
-          | inr f ↦ inr (f, (let l : length (q ∷ qs) ≡ length (asked_in_run ps s) - length (requests_in h s) = sym (ap length e) ∙ length-drop (length (requests_in h s)) (asked_in_run ps s) in
-            let more : length (q ∷ qs) ≡ length qs + 1 = add_one_length q qs in omega arith))
-        ]
+      | inl y ↦ inl y
+      | inr f ↦ inr (
+        f,
+        (let l : length (q ∷ qs) ≡ length (asked_in_run ps s) - length (requests_in h s) = sym (ap length e) ∙ length-drop (length (requests_in h s)) (asked_in_run ps s) in
+            let more : length (q ∷ qs) ≡ length qs + 1 = add_one_length q qs in omega arith),
+      )
+    ]
+
     closes : is_ended h s ≡ false → is_stopped h s ≡ false → drop (length (requests_in h s)) (asked_in_run ps s) ≡ [] → (session_turn r ps h s ≡ h) ⊎ (work_left ps s (session_turn r ps h s) < work_left ps s h)
     closes running goes none = elim (cases_Bool (list_any (closed_by s) ps)) [
-          | inl shut ↦ inr (lessens running requests.End (rw (running, goes, none, shut) refl) (inl refl))
-          | inr linked ↦ inl (rw (running, goes, none, linked) refl)
-        ]
+      | inl shut ↦ inr (lessens running requests.End (rw (running, goes, none, shut) refl) (inl refl))
+      | inr linked ↦ inl (rw (running, goes, none, linked) refl)
+    ]
+
     waits : is_ended h s ≡ false → is_stopped h s ≡ false → (qs : List Request) → drop (length (requests_in h s)) (asked_in_run ps s) ≡ qs → (session_turn r ps h s ≡ h) ⊎ (work_left ps s (session_turn r ps h s) < work_left ps s h)
     waits running goes [] none = closes running goes none
     waits running goes (q ∷ qs) some = inr (lessens running q (rw (running, goes, some) refl) (kind q qs some))
@@ -163,9 +171,9 @@ got_lessens h p s reply o e =
     let long : length (got p.events s ++ reply ∷ []) ≡ length (got p.events s) + 1 = length-append (got p.events s) (reply ∷ []) in
     let within : length (got p.events s) < length (replies_in (accepted h) h s) = slice_get_within (replies_in (accepted h) h s) (length (got p.events s)) reply e in
     let a : length (drop (length (got p.events s ++ reply ∷ [])) (replies_in (accepted h) h s)) ≡ length (replies_in (accepted h) h s) - length (got p.events s ++ reply ∷ []) =
-        length-drop (length (got p.events s ++ reply ∷ [])) (replies_in (accepted h) h s) in
+    length-drop (length (got p.events s ++ reply ∷ [])) (replies_in (accepted h) h s) in
     let b : length (drop (length (got p.events s)) (replies_in (accepted h) h s)) ≡ length (replies_in (accepted h) h s) - length (got p.events s) =
-        length-drop (length (got p.events s)) (replies_in (accepted h) h s) in
+    length-drop (length (got p.events s)) (replies_in (accepted h) h s) in
     subst (λ (x : Option ℕ). work_in h (does p (events.Got s reply) p.left) (open_session (does p (events.Got s reply) p.left)) < work_in h p x) (sym o)
     (subst (λ (x : Option ℕ). work_in h (does p (events.Got s reply) p.left) x < length (drop (length (got p.events s)) (replies_in (accepted h) h s))) (sym next)
     (subst (λ (rs : List Reply). length (drop (length rs) (replies_in (accepted h) h s)) < length (drop (length (got p.events s)) (replies_in (accepted h) h s))) (sym grown) (omega arith)))
@@ -178,10 +186,12 @@ take_lessens h p = opens (open_session p) refl
     fits s reply o e (Some fault) f = inl (ap (take_in h p) o ∙ ap (takes p s) e ∙ ap (takes_if p s reply) f)
     fits s reply o e None f =
         inr (subst (λ (q : Player). work_in h q (open_session q) < work_in h p (open_session p)) (sym (ap (take_in h p) o ∙ ap (takes p s) e ∙ ap (takes_if p s reply) f)) (got_lessens h p s reply o e))
+
     waits : (s : ℕ) → open_session p ≡ Some s → (r : Option Reply) → slice_get (replies_in (accepted h) h s) (length (got p.events s)) ≡ r →
         (take_turn h p ≡ p) ⊎ (work_in h (take_turn h p) (open_session (take_turn h p)) < work_in h p (open_session p))
     waits s o None e = inl (ap (take_in h p) o ∙ ap (takes p s) e)
     waits s o (Some reply) e = fits s reply o e (first_fault_of_reply p.who p.events reply) refl
+
     opens : (o : Option ℕ) → open_session p ≡ o → (take_turn h p ≡ p) ⊎ (work_in h (take_turn h p) (open_session (take_turn h p)) < work_in h p (open_session p))
     opens None o = inl (ap (take_in h p) o)
     opens (Some s) o = waits s o (slice_get (replies_in (accepted h) h s) (length (got p.events s))) refl
@@ -189,11 +199,11 @@ take_lessens h p = opens (open_session p) refl
 few_replies : (A : List Authored) (h : List Entry) (s : ℕ) → length (replies_in A h s) ≤ length h
 few_replies A [] s = omega arith
 few_replies A (e ∷ h) s = elim (cases_Bool (is_of e s)) [
-      | inl y ↦ subst (λ (rs : List Reply). length rs ≤ length (e ∷ h)) (sym (cond-true (is_of e s) (replies_in A h s ++ full_reply A e.reply ∷ []) (replies_in A h s) y))
-        (omega (arith, few_replies A h s, length-append (replies_in A h s) (full_reply A e.reply ∷ [])))
-      | inr f ↦ subst (λ (rs : List Reply). length rs ≤ length (e ∷ h)) (sym (cond-false (is_of e s) (replies_in A h s ++ full_reply A e.reply ∷ []) (replies_in A h s) f))
-        (omega (arith, few_replies A h s))
-    ]
+  | inl y ↦ subst (λ (rs : List Reply). length rs ≤ length (e ∷ h)) (sym (cond-true (is_of e s) (replies_in A h s ++ full_reply A e.reply ∷ []) (replies_in A h s) y))
+      (omega (arith, few_replies A h s, length-append (replies_in A h s) (full_reply A e.reply ∷ [])))
+  | inr f ↦ subst (λ (rs : List Reply). length rs ≤ length (e ∷ h)) (sym (cond-false (is_of e s) (replies_in A h s ++ full_reply A e.reply ∷ []) (replies_in A h s) f))
+      (omega (arith, few_replies A h s))
+]
 
 few_waiting : (h : List Entry) (p : Player) (o : Option ℕ) → work_in h p o ≤ length h
 few_waiting h p None = omega arith
@@ -251,8 +261,8 @@ take_first k run p n at l =
     let all : n - 0 ≡ n = omega arith in
     ap (λ (i : ℕ). record run { players = at_player run.players k (repeated i (take_turn run.history)) }) all
     ∙ ap (λ (ps : List Player). record run { players = ps })
-      (place-is (repeated n (take_turn run.history)) run.players k p at ∙ ap (λ (q : Player). set run.players k q) (enough_takes run.history p n l)
-        ∙ sym (place-is (take_turns run.history) run.players k p at))
+    (place-is (repeated n (take_turn run.history)) run.players k p at ∙ ap (λ (q : Player). set run.players k q) (enough_takes run.history p n l)
+    ∙ sym (place-is (take_turns run.history) run.players k p at))
 
 pub take_next : (k : ℕ) (run : Run) (n i : ℕ) → i < n →
     record run { players = at_player (at_player run.players k (take_turn run.history)) k (repeated (n - (i + 1)) (take_turn run.history)) } ≡ record run { players = at_player run.players k (repeated (n - i) (take_turn run.history)) }
@@ -280,15 +290,15 @@ sessions_end r run n k l = ap (λ (ss : List ℕ). record run { history = sessio
 pub waits_enough : (m : Machine) (k : ℕ) (p : Player) → IsMachine m → slice_get (run_of m).players k ≡ Some p →
     work_in (run_of m).history p (open_session p) ≤ length (get_or m.channels.items (session_of p) new_channel).replies
 waits_enough m k p is at = elim (cases_Bool p.closed) [
-      | inl shut ↦ none_waits (open_shut p shut)
-      | inr linked ↦ elim (cases_Bool (must_join p.events)) [
-        | inl between ↦ none_waits (open_between p linked between)
-        | inr joined ↦
-            (let same : length (get_or m.channels.items (session_of p) new_channel).replies ≡ length (drop (length (got p.events (session_of p))) (replies_in (accepted (run_of m).history) (run_of m).history (session_of p))) =
-                ap (λ (rs : List Reply). length rs) (waits_all m k p is at linked joined) in
-              subst (λ (o : Option ℕ). work_in (run_of m).history p o ≤ length (get_or m.channels.items (session_of p) new_channel).replies) (sym (open_here m k p is at linked joined)) (omega arith))
-      ]
-    ]
+  | inl shut ↦ none_waits (open_shut p shut)
+  | inr linked ↦ elim (cases_Bool (must_join p.events)) [
+    | inl between ↦ none_waits (open_between p linked between)
+    | inr joined ↦
+        (let same : length (get_or m.channels.items (session_of p) new_channel).replies ≡ length (drop (length (got p.events (session_of p))) (replies_in (accepted (run_of m).history) (run_of m).history (session_of p))) =
+        ap (λ (rs : List Reply). length rs) (waits_all m k p is at linked joined) in
+        subst (λ (o : Option ℕ). work_in (run_of m).history p o ≤ length (get_or m.channels.items (session_of p) new_channel).replies) (sym (open_here m k p is at linked joined)) (omega arith))
+  ]
+]
   where
     none_waits : open_session p ≡ None → work_in (run_of m).history p (open_session p) ≤ length (get_or m.channels.items (session_of p) new_channel).replies
     none_waits o = subst (λ (x : Option ℕ). work_in (run_of m).history p x ≤ length (get_or m.channels.items (session_of p) new_channel).replies) (sym o) (omega arith)
@@ -311,3 +321,16 @@ rounds_end r run n i l = ap (λ (k : ℕ). repeated k (round r) run) (none_left 
 
 pub rounds_start : (r : Rules) (run : Run) (n : ℕ) → repeated (n - 0) (round r) run ≡ repeated n (round r) run
 rounds_start r run n = let all : n - 0 ≡ n = omega arith in ap (λ (k : ℕ). repeated k (round r) run) all
+
+-- ---- The end
+
+pub all_closed : (ps : List Playing) → ((k : ℕ) (d : Playing) → k < length ps → (get_or ps k d).closed ≡ true) → All (λ (p : Player). p.closed ≡ true) (map player_of ps)
+all_closed [] h = λ k d l. absurd (omega arith)
+all_closed (p ∷ ps) h = All-cons (λ (q : Player). q.closed ≡ true) (player_of p) (map player_of ps) (h 0 p (omega arith)) (all_closed ps (λ k d l. h (suc k) d (omega arith)))
+
+-- Once all is done, rounds change nothing.
+pub done_became : (start now : Machine) (r : Rules) (n : ℕ) (goal : Run) → Heads start now (λ (run : Run). repeated n (round r) run) goal → r ≡ rules_of start.scenario.now →
+    round (rules_of now.scenario.now) (run_of now) ≡ run_of now → Became start now goal
+done_became start now r n goal h same still =
+    heads_end start now (λ (run : Run). repeated n (round r) run) goal h
+    (repeated-still n (round r) (run_of now) (ap (λ (x : Rules). round x (run_of now)) (same ∙ ap rules_of (sym h.scenario)) ∙ still))

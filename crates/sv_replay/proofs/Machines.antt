@@ -50,7 +50,7 @@ player_fit shape n h p a = record {
   known = elim (cases_Bool (must_join p.events)) [
     | inl y ↦ (let at : session_of p ≡ p.first + joins p.events = place_between p y in omega (arith, session-next shape n h p a y))
     | inr f ↦ (let at : session_of p ≡ (p.first + joins p.events) - 1 = place_within p f in
-      let last : (1 ≤ joins p.events) × (p.first + joins p.events ≤ n) = session-last shape n h p a f in omega (arith, last.0, last.1))
+        let last : (1 ≤ joins p.events) × (p.first + joins p.events ≤ n) = session-last shape n h p a f in omega (arith, last.0, last.1))
   ];
 }
 
@@ -138,25 +138,25 @@ module _ (m w : Machine) (k : ℕ) (p q : Playing) (d : ChannelView) (is : IsMac
 
   quiet : IsSound m.scenario.now moved_run → (moves : Moved (player_of q) p q c d) → OthersSilent n k (run_of m).players ⊎ ((moves.sent ≡ []) × (moves.taken ≡ []))
   quiet sound moves = elim moves.moves.begun [
-        | inr none ↦ inr none
-        | inl begun ↦ inl (silent_unset n k (run_of m).players (player_of q)
-          (others_silent m.scenario.now.world.shape (run_of m).history n k after (player_of q) (recursion_from_All _ _ sound.fits.each) sound.fits.apart
-            (get_set (run_of m).players k (player_of p) (player_of q) place) begun))
-      ]
+    | inr none ↦ inr none
+    | inl begun ↦ inl (silent_unset n k (run_of m).players (player_of q)
+        (others_silent m.scenario.now.world.shape (run_of m).history n k after (player_of q) (recursion_from_All _ _ sound.fits.each) sound.fits.apart
+        (get_set (run_of m).players k (player_of p) (player_of q) place) begun))
+  ]
 
   channel_at : IsSound m.scenario.now moved_run → (moves : Moved (player_of q) p q c d) → (s : ℕ) → s < session_count m.scenario.now →
       IsChannel moved_run s (get_or (set m.channels.items n d) s new_channel)
   channel_at sound moves s l = elim (cases_Bool (n == s)) [
-        | inl y ↦ (let same : n ≡ s = eqb-true n s y in
-          subst (λ (i : ℕ). IsChannel moved_run i (get_or (set m.channels.items n d) i new_channel)) same
-          (subst (λ (x : ChannelView). IsChannel moved_run n x) (sym (get_or-set_same m.channels.items n d new_channel (omega (arith, is.count, known))))
-            (own_moves (run_of m).history (run_of m).players k n (player_of p) (player_of q) moves.sent moves.taken moves.closing place moves.moves (quiet sound moves) c d
-              (is.channels n known) moves.requests moves.replies moves.closed moves.stopped)))
-        | inr f ↦ (let other : s ≢ n = λ e. (let t : (n == s) ≡ true = eq-eqb n s (sym e) in cc) in
-          subst (λ (x : ChannelView). IsChannel moved_run s x) (sym (get_or-set_other m.channels.items n s d new_channel other))
-          (other_stays (run_of m).history (run_of m).players k n (player_of p) (player_of q) moves.sent moves.taken moves.closing place moves.moves (quiet sound moves) s
-            (get_or m.channels.items s new_channel) f (is.channels s l)))
-      ]
+    | inl y ↦ (let same : n ≡ s = eqb-true n s y in
+        subst (λ (i : ℕ). IsChannel moved_run i (get_or (set m.channels.items n d) i new_channel)) same
+        (subst (λ (x : ChannelView). IsChannel moved_run n x) (sym (get_or-set_same m.channels.items n d new_channel (omega (arith, is.count, known))))
+        (own_moves (run_of m).history (run_of m).players k n (player_of p) (player_of q) moves.sent moves.taken moves.closing place moves.moves (quiet sound moves) c d
+        (is.channels n known) moves.requests moves.replies moves.closed moves.stopped)))
+    | inr f ↦ (let other : s ≢ n = λ e. (let t : (n == s) ≡ true = eq-eqb n s (sym e) in cc) in
+        subst (λ (x : ChannelView). IsChannel moved_run s x) (sym (get_or-set_other m.channels.items n s d new_channel other))
+        (other_stays (run_of m).history (run_of m).players k n (player_of p) (player_of q) moves.sent moves.taken moves.closing place moves.moves (quiet sound moves) s
+        (get_or m.channels.items s new_channel) f (is.channels s l)))
+  ]
 
   -- The machine after it is in step with the run after it.
   pub moved_became : (f : Player → Player) (turn : Turn) → Moved (f (player_of p)) p q c d →
@@ -167,13 +167,13 @@ module _ (m w : Machine) (k : ℕ) (p q : Playing) (d : ChannelView) (is : IsMac
   moved_became f turn did turns good scenario sequencer players channels =
       let moves : Moved (player_of q) p q c d = subst (λ (x : Player). Moved x p q c d) (sym did.player) did in
       let next : turned (rules_of m.scenario.now) (run_of m) turn ≡ moved_run =
-          turns ∙ ap (λ (ps : List Player). record { history = (run_of m).history; players = ps })
-          (place-is f (run_of m).players k (player_of p) place ∙ ap (λ (x : Player). set (run_of m).players k x) (sym did.player)) in
+      turns ∙ ap (λ (ps : List Player). record { history = (run_of m).history; players = ps })
+      (place-is f (run_of m).players k (player_of p) place ∙ ap (λ (x : Player). set (run_of m).players k x) (sym did.player)) in
       let sound : IsSound m.scenario.now moved_run = subst (IsSound m.scenario.now) next (turns-sound m.scenario.now (run_of m) turn is.good good is.sound) in
       let new : run_of w ≡ moved_run =
-          ap (λ (v : SequencerView). run_at (history v) (map player_of w.players.items)) sequencer
-          ∙ ap (λ (xs : List Playing). run_at (run_of m).history (map player_of xs)) players
-          ∙ ap (λ (ps : List Player). run_at (run_of m).history ps) (map_set player_of m.players.items k q) in
+      ap (λ (v : SequencerView). run_at (history v) (map player_of w.players.items)) sequencer
+      ∙ ap (λ (xs : List Playing). run_at (run_of m).history (map player_of xs)) players
+      ∙ ap (λ (ps : List Player). run_at (run_of m).history ps) (map_set player_of m.players.items k q) in
       record {
         scenario = scenario;
         machine = record {
@@ -181,10 +181,10 @@ module _ (m w : Machine) (k : ℕ) (p q : Playing) (d : ChannelView) (is : IsMac
           rules = ap (λ (v : SequencerView). v.rules) sequencer ∙ is.rules ∙ ap rules_of (sym scenario);
           sound = subst (λ (x : Scenario). IsSound x (run_of w)) (sym scenario) (subst (IsSound m.scenario.now) (sym new) sound);
           flags = subst (All AreFlags) (sym players)
-            (All-from_recursion AreFlags _ (all_set AreFlags m.players.items k q did.flags (recursion_from_All AreFlags m.players.items is.flags)));
+              (All-from_recursion AreFlags _ (all_set AreFlags m.players.items k q did.flags (recursion_from_All AreFlags m.players.items is.flags)));
           count = ap length channels ∙ length-set m.channels.items n d ∙ is.count ∙ ap session_count (sym scenario);
           channels = λ s l. subst (λ (x : Run). IsChannel x s (get_or w.channels.items s new_channel)) (sym new)
-            (subst (λ (xs : List ChannelView). IsChannel moved_run s (get_or xs s new_channel)) (sym channels) (channel_at sound moves s (subst (λ (x : Scenario). s < session_count x) scenario l)));
+              (subst (λ (xs : List ChannelView). IsChannel moved_run s (get_or xs s new_channel)) (sym channels) (channel_at sound moves s (subst (λ (x : Scenario). s < session_count x) scenario l)));
         };
         run_is = new ∙ sym next;
       }
@@ -209,14 +209,14 @@ module _ (m w : Machine) (s : ℕ) (d : ChannelView) (is : IsMachine m) (l : s <
 
   served_at : (n : ℕ) → n < session_count m.scenario.now → IsChannel (run_at (next_history r h s own) ps) n (get_or (set m.channels.items s (next_channel r h s own)) n new_channel)
   served_at n k = elim (cases_Bool (s == n)) [
-        | inl y ↦ (let same : s ≡ n = eqb-true s n y in
-          subst (λ (i : ℕ). IsChannel (run_at (next_history r h s own) ps) i (get_or (set m.channels.items s (next_channel r h s own)) i new_channel)) same
-          (subst (λ (x : ChannelView). IsChannel (run_at (next_history r h s own) ps) s x) (sym (get_or-set_same m.channels.items s (next_channel r h s own) new_channel (omega (arith, is.count, l))))
-            (own_served r h ps s own (is.channels s l) is.sound.legal)))
-        | inr f ↦ (let other : n ≢ s = λ e. (let t : (s == n) ≡ true = eq-eqb s n (sym e) in cc) in
-          subst (λ (x : ChannelView). IsChannel (run_at (next_history r h s own) ps) n x) (sym (get_or-set_other m.channels.items s n (next_channel r h s own) new_channel other))
-          (other_served r h ps s own (is.channels s l) n (get_or m.channels.items n new_channel) f is.sound.legal (is.channels n k)))
-      ]
+    | inl y ↦ (let same : s ≡ n = eqb-true s n y in
+        subst (λ (i : ℕ). IsChannel (run_at (next_history r h s own) ps) i (get_or (set m.channels.items s (next_channel r h s own)) i new_channel)) same
+        (subst (λ (x : ChannelView). IsChannel (run_at (next_history r h s own) ps) s x) (sym (get_or-set_same m.channels.items s (next_channel r h s own) new_channel (omega (arith, is.count, l))))
+        (own_served r h ps s own (is.channels s l) is.sound.legal)))
+    | inr f ↦ (let other : n ≢ s = λ e. (let t : (s == n) ≡ true = eq-eqb s n (sym e) in cc) in
+        subst (λ (x : ChannelView). IsChannel (run_at (next_history r h s own) ps) n x) (sym (get_or-set_other m.channels.items s n (next_channel r h s own) new_channel other))
+        (other_served r h ps s own (is.channels s l) n (get_or m.channels.items n new_channel) f is.sound.legal (is.channels n k)))
+  ]
 
   pub served_became : Served s m.sequencer w.sequencer own d →
       w.scenario.now ≡ m.scenario.now → w.players.items ≡ m.players.items → w.channels.items ≡ set m.channels.items s d → Became m w (turned r (run_of m) (turns.Session s))
@@ -224,7 +224,7 @@ module _ (m w : Machine) (s : ℕ) (d : ChannelView) (is : IsMachine m) (l : s <
       let made : history w.sequencer ≡ next_history r h s own = served.entries ∙ ap (λ (x : Rules). next_history x h s own) is.rules in
       let left : d ≡ next_channel r h s own = served.channel ∙ ap (λ (x : Rules). next_channel x h s own) is.rules in
       let new : run_of w ≡ run_at (next_history r h s own) ps =
-          ap (λ (g : List Entry). run_at g (map player_of w.players.items)) made ∙ ap (λ (xs : List Playing). run_at (next_history r h s own) (map player_of xs)) players in
+      ap (λ (g : List Entry). run_at g (map player_of w.players.items)) made ∙ ap (λ (xs : List Playing). run_at (next_history r h s own) (map player_of xs)) players in
       let next : run_at (next_history r h s own) ps ≡ served_run = ap (λ (g : List Entry). run_at g ps) (session_turn_is r h ps s own (is.channels s l)) in
       let sound : IsSound m.scenario.now served_run = turns-sound m.scenario.now (run_of m) (turns.Session s) is.good l is.sound in
       record {
@@ -236,7 +236,7 @@ module _ (m w : Machine) (s : ℕ) (d : ChannelView) (is : IsMachine m) (l : s <
           flags = subst (All AreFlags) (sym players) is.flags;
           count = ap length channels ∙ length-set m.channels.items s d ∙ is.count ∙ ap session_count (sym scenario);
           channels = λ n k. subst (λ (x : Run). IsChannel x n (get_or w.channels.items n new_channel)) (sym new)
-            (subst (λ (xs : List ChannelView). IsChannel (run_at (next_history r h s own) ps) n (get_or xs n new_channel)) (sym (channels ∙ ap (λ (x : ChannelView). set m.channels.items s x) left))
+              (subst (λ (xs : List ChannelView). IsChannel (run_at (next_history r h s own) ps) n (get_or xs n new_channel)) (sym (channels ∙ ap (λ (x : ChannelView). set m.channels.items s x) left))
               (served_at n (subst (λ (x : Scenario). n < session_count x) scenario k)));
         };
         run_is = new ∙ next;
@@ -311,14 +311,14 @@ module _ (m : Machine) (k : ℕ) (p : Player) (is : IsMachine m) (at : slice_get
 pub taken_is : (m : Machine) (k : ℕ) (p : Player) → IsMachine m → slice_get (run_of m).players k ≡ Some p →
     taken_from (get_or m.channels.items (session_of p) new_channel).replies p ≡ take_turn (run_of m).history p
 taken_is m k p is at = elim (cases_Bool p.closed) [
-      | inl shut ↦ take_shut p _ shut ∙ sym (ap (take_in (run_of m).history p) (open_shut p shut))
-      | inr linked ↦ elim (cases_Bool (must_join p.events)) [
-        | inl between ↦ take_between p _ linked between ∙ sym (ap (take_in (run_of m).history p) (open_between p linked between))
-        | inr joined ↦
-            take_linked p _ linked joined ∙ ap (takes p (session_of p)) (waits_first m k p is at linked joined)
-            ∙ sym (ap (take_in (run_of m).history p) (open_here m k p is at linked joined))
-      ]
-    ]
+  | inl shut ↦ take_shut p _ shut ∙ sym (ap (take_in (run_of m).history p) (open_shut p shut))
+  | inr linked ↦ elim (cases_Bool (must_join p.events)) [
+    | inl between ↦ take_between p _ linked between ∙ sym (ap (take_in (run_of m).history p) (open_between p linked between))
+    | inr joined ↦
+        take_linked p _ linked joined ∙ ap (takes p (session_of p)) (waits_first m k p is at linked joined)
+        ∙ sym (ap (take_in (run_of m).history p) (open_here m k p is at linked joined))
+  ]
+]
 
 -- Each player's first session is one of 64.
 pub firsts_few : (m : Machine) → IsMachine m → All (λ (p : Playing). p.first < 64) m.players.items

@@ -52,7 +52,7 @@ does_moved e rest closed p q c d fit linked j g quits did =
       taken = [];
       closing = is_closing e;
       moves = at_closed who p.first t p.left.now p.closed (λ (old : Player). Moves (session_of old) old (next_player p e rest) (newly_asked who t e) [] (is_closing e)) linked
-        (event_moves who p.first t p.left.now free e j g rest);
+          (event_moves who p.first t p.left.now free e j g rest);
       requests = ap (λ (v : ChannelView). v.requests) did.channel;
       replies = sym (ap (λ (v : ChannelView). v.replies) did.channel);
       closed = ap (λ (v : ChannelView). v.closed) did.channel;
@@ -221,7 +221,7 @@ closed_moved p c d ready flags is =
       taken = [];
       closing = true;
       moves = at_closed who p.first t p.left.now p.closed (λ (old : Player). Moves (session_of old) old (record old { closed = true }) [] [] true) ready.linked
-        (close_moves who p.first t p.left.now free ready.joined);
+          (close_moves who p.first t p.left.now free ready.joined);
       requests = ap (λ (v : ChannelView). v.requests) is ∙ sym (append-nil c.requests);
       replies = sym (ap (λ (v : ChannelView). v.replies) is);
       closed = ap (λ (v : ChannelView). v.closed) is ∙ or_true c.closed;
@@ -264,7 +264,7 @@ refused_moved p c b d s reply fault h back other is flags =
     let f = refuses p.client.who p.client.events reply fault other is in
     subst (λ (v : ChannelView). Moved (takes (player_of p) s (slice_get c.replies 0)) p p c v) (h ∙ sym back)
     (still_at _ p c (ap (takes (player_of p) s) (first_of reply c.replies b.replies (ap (λ (v : ChannelView). v.replies) h))
-      ∙ took_faulty (player_of p) s reply f.0 (up_fault p.first p.client.who p.client.events reply ∙ f.1)) flags)
+    ∙ took_faulty (player_of p) s reply f.0 (up_fault p.first p.client.who p.client.events reply ∙ f.1)) flags)
 
 -- A reply was got, and what it asks is sent.
 pub took_moved : (p q : Playing) (c b d : ChannelView) (reply : Reply) → IsFit 64 (player_of p) → p.closed ≡ false → must_join p.client.events ≡ false →
@@ -280,10 +280,10 @@ took_moved p q c b d reply fit linked joined h fine who es first left closed fla
     let free : IsFit 64 (player k p.first t p.left.now false) = subst (λ b. IsFit 64 (player k p.first t p.left.now b)) linked fit in
     let last : latest_session t + p.first ≡ n = session_latest k p.first t p.left.now p.closed fit.proper joined (fit.begun (up_must p.first t ∙ joined)) in
     let next : takes (player_of p) n (slice_get c.replies 0) ≡ player k p.first (e ∷ t) p.left.now false =
-        ap (takes (player_of p) n) (first_of reply c.replies b.replies (ap (λ (v : ChannelView). v.replies) h))
-        ∙ took_fine (player_of p) n reply (up_fault p.first k t reply ∙ fine)
-        ∙ ap (λ (m : ℕ). does (player_of p) (events.Got m reply) p.left.now) (sym last)
-        ∙ ap (λ (x : Bool). player k p.first (e ∷ t) p.left.now x) linked in
+    ap (takes (player_of p) n) (first_of reply c.replies b.replies (ap (λ (v : ChannelView). v.replies) h))
+    ∙ took_fine (player_of p) n reply (up_fault p.first k t reply ∙ fine)
+    ∙ ap (λ (m : ℕ). does (player_of p) (events.Got m reply) p.left.now) (sym last)
+    ∙ ap (λ (x : Bool). player k p.first (e ∷ t) p.left.now x) linked in
     subst (λ (x : Player). Moved x p q c d) (sym next) (record {
       player = same_player q.client.who k q.first p.first q.client.events (e ∷ t) q.left.now p.left.now q.closed false who first es left (closed ∙ linked);
       flags = record {
@@ -294,7 +294,7 @@ took_moved p q c b d reply fit linked joined h fine who es first left closed fla
       taken = reply ∷ [];
       closing = false;
       moves = at_closed k p.first t p.left.now p.closed (λ (old : Player). Moves (session_of old) old (player k p.first (e ∷ t) p.left.now false) (newly_asked k t e) (reply ∷ []) false) linked
-        (got_moves k p.first t p.left.now free joined (latest_session t) reply refl);
+          (got_moves k p.first t p.left.now free joined (latest_session t) reply refl);
       requests = ap (λ (v : ChannelView). v.requests) sent ∙ ap (λ (v : ChannelView). v.requests ++ newly_asked k t e) (sym h);
       replies = ap (λ (v : ChannelView). v.replies) h ∙ ap (λ (rs : List Reply). reply ∷ rs) (sym (ap (λ (v : ChannelView). v.replies) sent));
       closed = ap (λ (v : ChannelView). v.closed) sent ∙ ap (λ (v : ChannelView). v.closed) (sym h) ∙ or_none c.closed;

@@ -54,16 +54,18 @@ pub opening_machine : (m : Machine) (scenario : Scenario) → IsGoodScenario sce
     ((s : ℕ) → get_or m.channels.items s new_channel ≡ new_channel) → (run_of m ≡ opening_run scenario) × IsMachine m
 opening_machine m scenario good same rules empty players flags count new =
     let run : run_of m ≡ opening_run scenario =
-        ap (λ (es : List Entry). record { history = reverse es; players = map player_of m.players.items }) empty
-        ∙ ap (λ (ps : List Player). record { history = []; players = ps }) players in
-    (run, record {
-      good = subst IsGoodScenario (sym same) good;
-      rules = rules ∙ ap rules_of (sym same);
-      sound = subst (λ (x : Scenario). IsSound x (run_of m)) (sym same) (subst (IsSound scenario) (sym run) (opening-sound scenario good));
-      flags = flags;
-      count = count ∙ ap session_count (sym same);
-      channels = λ s l. subst (λ (v : ChannelView). IsChannel (run_of m) s v) (sym (new s)) (subst (λ (x : Run). IsChannel x s new_channel) (sym run) (opening_channel scenario s));
-    })
+    ap (λ (es : List Entry). record { history = reverse es; players = map player_of m.players.items }) empty
+    ∙ ap (λ (ps : List Player). record { history = []; players = ps }) players in (
+      run,
+      record {
+        good = subst IsGoodScenario (sym same) good;
+        rules = rules ∙ ap rules_of (sym same);
+        sound = subst (λ (x : Scenario). IsSound x (run_of m)) (sym same) (subst (IsSound scenario) (sym run) (opening-sound scenario good));
+        flags = flags;
+        count = count ∙ ap session_count (sym same);
+        channels = λ s l. subst (λ (v : ChannelView). IsChannel (run_of m) s v) (sym (new s)) (subst (λ (x : Run). IsChannel x s new_channel) (sym run) (opening_channel scenario s));
+      },
+    )
 
 -- ---- Players opened so far
 
@@ -73,10 +75,10 @@ pub opens_next : (shape : Shape) (k s : ℕ) (plans : List Plan) (i : ℕ) (plan
 opens_next shape k s plans i plan ps p l e is =
     append_assoc ps (p ∷ []) (players_from shape (k + 1) (s + sessions_of_plan plan) (drop (i + 1) plans))
     ∙ ap (λ (qs : List Player). ps ++ qs)
-      (ap (λ (q : Player). q ∷ players_from shape (k + 1) (s + sessions_of_plan plan) (drop (i + 1) plans)) is
-        ∙ ap (λ (n : ℕ). record { who = record { client = record { 0 = k }; interest = plan.interest; shape = shape }; first = s; events = []; left = plan.steps; closed = false }
-          ∷ players_from shape n (s + sessions_of_plan plan) (drop (i + 1) plans)) (add-one k)
-        ∙ ap (players_from shape k s) (sym (next_plan plans i plan l e)))
+    (ap (λ (q : Player). q ∷ players_from shape (k + 1) (s + sessions_of_plan plan) (drop (i + 1) plans)) is
+    ∙ ap (λ (n : ℕ). record { who = record { client = record { 0 = k }; interest = plan.interest; shape = shape }; first = s; events = []; left = plan.steps; closed = false }
+    ∷ players_from shape n (s + sessions_of_plan plan) (drop (i + 1) plans)) (add-one k)
+    ∙ ap (players_from shape k s) (sym (next_plan plans i plan l e)))
   where
     next_plan : (plans : List Plan) (i : ℕ) (plan : Plan) → i < length plans → plan ≡ get_or plans i plan → drop i plans ≡ plan ∷ drop (i + 1) plans
     next_plan plans i plan l e = drop_more plans i plan l ∙ ap (λ (x : Plan). x ∷ drop (i + 1) plans) (sym e)

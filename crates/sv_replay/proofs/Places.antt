@@ -14,15 +14,15 @@ place_within p m = rw m refl
 
 pub few_places : (p : Player) → IsFit 64 p → p.first + joins p.events ≤ 64
 few_places p fit = elim (cases_Bool (must_join p.events)) [
-      | inl y ↦ (let at : session_of p ≡ p.first + joins p.events = place_between p y in omega (arith, fit.known))
-      | inr f ↦ (let at : session_of p ≡ (p.first + joins p.events) - 1 = place_within p f in omega (arith, fit.known))
-    ]
+  | inl y ↦ (let at : session_of p ≡ p.first + joins p.events = place_between p y in omega (arith, fit.known))
+  | inr f ↦ (let at : session_of p ≡ (p.first + joins p.events) - 1 = place_within p f in omega (arith, fit.known))
+]
 
 pub fewer_fit : (n : ℕ) (p : Player) → n ≤ 64 → IsFit n p → IsFit 64 p
 fewer_fit n p l fit = record { proper = fit.proper; begun = fit.begun; known = omega (arith, fit.known) }
 
 pub first_few : (p : Player) → IsFit 64 p → p.first < 64
 first_few p fit = elim (cases_Bool (must_join p.events)) [
-      | inl y ↦ (let at : session_of p ≡ p.first + joins p.events = place_between p y in omega (arith, fit.known))
-      | inr f ↦ (let at : session_of p ≡ (p.first + joins p.events) - 1 = place_within p f in omega (arith, fit.known, fit.begun f))
-    ]
+  | inl y ↦ (let at : session_of p ≡ p.first + joins p.events = place_between p y in omega (arith, fit.known))
+  | inr f ↦ (let at : session_of p ≡ (p.first + joins p.events) - 1 = place_within p f in omega (arith, fit.known, fit.begun f))
+]

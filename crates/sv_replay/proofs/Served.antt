@@ -172,12 +172,12 @@ serves_asked s v w c b d q e t some done =
       rules = done.rules;
       entries = done.entries ∙ sym n.0;
       channel = done.channel
-        ∙ ap (λ (x : ChannelView). record x {
-          requests = b.requests;
-          replies = x.replies ++ full_reply (accepted (with_entry v.rules (history v) s q)) (reply_to v.rules (history v) s q) ∷ [];
-          stopped = is_stop (reply_to v.rules (history v) s q);
-        }) (sym some)
-        ∙ sym n.1;
+          ∙ ap (λ (x : ChannelView). record x {
+            requests = b.requests;
+            replies = x.replies ++ full_reply (accepted (with_entry v.rules (history v) s q)) (reply_to v.rules (history v) s q) ∷ [];
+            stopped = is_stop (reply_to v.rules (history v) s q);
+          }) (sym some)
+          ∙ sym n.1;
     }
 
 grew_history : (v w : SequencerView) (e : Entry) → Grew v w e → history w ≡ e ∷ history v
@@ -189,14 +189,14 @@ pub answer_entered : (v w : SequencerView) (s : ℕ) (q : Request) (reply : Repl
 answer_entered v w s q reply stops b d done stop sent =
     let grown : history w ≡ with_entry v.rules (history v) s q = grew_history v w (entry_of s q (reply_to v.rules (history v) s q)) done.grew in
     let whole : reply ≡ full_reply (accepted (with_entry v.rules (history v) s q)) (reply_to v.rules (history v) s q) =
-        done.whole ∙ ap (λ (h : List Entry). full_reply (accepted h) (reply_to v.rules (history v) s q)) grown in
+    done.whole ∙ ap (λ (h : List Entry). full_reply (accepted h) (reply_to v.rules (history v) s q)) grown in
     let last : stops ≡ is_stop (reply_to v.rules (history v) s q) =
-        stop ∙ ap is_stop_reply whole ∙ same_stop (accepted (with_entry v.rules (history v) s q)) (reply_to v.rules (history v) s q) in
+    stop ∙ ap is_stop_reply whole ∙ same_stop (accepted (with_entry v.rules (history v) s q)) (reply_to v.rules (history v) s q) in
     record {
       rules = done.grew.rules;
       entries = grown;
       channel = sent ∙ ap (λ (x : Reply). record b { replies = b.replies ++ x ∷ []; stopped = stops }) whole
-        ∙ ap (λ (x : Bool). record b { replies = b.replies ++ full_reply (accepted (with_entry v.rules (history v) s q)) (reply_to v.rules (history v) s q) ∷ []; stopped = x }) last;
+          ∙ ap (λ (x : Bool). record b { replies = b.replies ++ full_reply (accepted (with_entry v.rules (history v) s q)) (reply_to v.rules (history v) s q) ∷ []; stopped = x }) last;
     }
 
 pub end_entered : (v w : SequencerView) (s : ℕ) (reply : Reply) (b d : ChannelView) → Answered v w s requests.End reply → d ≡ record b { stopped = true } →

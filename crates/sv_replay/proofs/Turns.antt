@@ -17,9 +17,9 @@ pub repeated-settles : {A : Type 0} (work : A → ℕ) (f : A → A) → ((x : A
     (n : ℕ) (x : A) → work x ≤ n → f (repeated n f x) ≡ repeated n f x
 repeated-settles work f falls zero x l = elim (falls x) [ inl e ↦ e | inr m ↦ absurd (omega arith) ]
 repeated-settles work f falls (suc n) x l = elim (falls x) [
-      | inl e ↦ (let s : repeated n f (f x) ≡ x = ap (repeated n f) e ∙ repeated-still n f x e in ap f s ∙ e ∙ sym s)
-      | inr m ↦ repeated-settles work f falls n (f x) (omega arith)
-    ]
+  | inl e ↦ (let s : repeated n f (f x) ≡ x = ap (repeated n f) e ∙ repeated-still n f x e in ap f s ∙ e ∙ sym s)
+  | inr m ↦ repeated-settles work f falls n (f x) (omega arith)
+]
 
 -- More turns than are enough do nothing more.
 pub repeated-more : {A : Type 0} (m n : ℕ) (f : A → A) (x : A) → f (repeated n f x) ≡ repeated n f x → n ≤ m → repeated m f x ≡ repeated n f x

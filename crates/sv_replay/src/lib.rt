@@ -9,3 +9,6 @@ mod schedule;
 mod serving;
 
 pub use schedule::run_schedule;
+
+#[cfg(test)]
+mod tests;

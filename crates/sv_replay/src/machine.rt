@@ -1,8 +1,9 @@
-ghost use Rattle.std.specs.Prelude.{◌≡◌, ◌<◌, length, OnOk};
+ghost use Rattle.std.specs.Prelude.{◌≡◌, ℕ, ◌<◌, true, length, All, OnOk};
 ghost use Rattle.sv_scenario.specs.declared.scenario.Turn.TheVariants as turns;
 ghost use Rattle.sv_scenario.specs.Limits.{IsGoodTurn};
 ghost use Rattle.sv_scenario.specs.Sessions.{session_count};
-ghost use Rattle.sv_schedule.specs.Schedule.{rules_of, turned, all_turned, after_clients, after_sessions, after_takes, round, repeated};
+ghost use Rattle.sv_system.specs.Fits.{is_ended};
+ghost use Rattle.sv_schedule.specs.Schedule.{Player, rules_of, turned, all_turned, after_clients, after_sessions, after_takes, round, repeated};
 ghost use Rattle.sv_replay.specs.Machine.{run_of, IsMachine, Became, after_session, after_take};
 
 use crate::channel::Channel;
@@ -10,6 +11,7 @@ use crate::playing::Playing;
 use crate::serving::serve;
 use std::alloc::{AllocError, Global};
 use sv_scenario::{Scenario, Turn};
+use sv_schedule::scheduled_runs_end;
 use sv_sequencer::Sequencer;
 
 /// A scenario's run so far: the server, the clients and their connections, one for each session.
@@ -154,12 +156,41 @@ impl<'a> Machine<'a> {
         self.take_turns()
     }
 
-    /// So many rounds.
+    /// Whether each client closed its last link.
+    fn are_closed(&self) -> bool
+        ensures { result ≡ true → All (λ (p : Player). p.closed ≡ true) (run_of self.now).players }
+    {
+        for player in &self.players {
+            if !player.closed {
+                return false;
+            }
+        }
+        true
+    }
+
+    /// Whether each session had its End.
+    fn are_ended(&self) -> bool
+        requires { IsMachine self.now }
+        ensures { result ≡ true → (s : ℕ) → s < session_count self.now.scenario.now → is_ended (run_of self.now).history s ≡ true }
+    {
+        for session in 0..self.sequencer.sessions() {
+            if !self.sequencer.is_ended(session) {
+                return false;
+            }
+        }
+        true
+    }
+
+    /// At most so many rounds, until all is done.
     pub(crate) fn run_rounds(&mut self, rounds: u16) -> Result<(), AllocError>
         requires { IsMachine self.old }
         ensures { OnOk result (Became self.old self.new (repeated rounds (round (rules_of self.old.scenario.now)) (run_of self.old))) }
     {
+        scheduled_runs_end();
         for _ in 0..rounds {
+            if self.are_closed() && self.are_ended() {
+                return Ok(());
+            }
             self.round()?;
         }
         Ok(())

@@ -51,10 +51,7 @@ fn open_player<'a>(
     Ok(Playing::new(client, first, plan.steps.as_slice()))
 }
 
-fn open_players<'a>(
-    alloc: Global,
-    scenario: &'a Scenario,
-) -> Result<Vec<Playing<'a>>, AllocError>
+fn open_players<'a>(alloc: Global, scenario: &'a Scenario) -> Result<Vec<Playing<'a>>, AllocError>
     requires { IsGoodScenario scenario.now }
     ensures players { IfOk result (λ players. map player_of players.items ≡ players_from scenario.now.world.shape 0 0 scenario.now.clients) }
     ensures flags { IfOk result (λ players. All AreFlags players.items) }

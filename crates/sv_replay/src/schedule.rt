@@ -22,7 +22,7 @@ const MOST_ROUNDS: u16 = 1000;
 
 /// Runs a scenario on one thread: the turns of its schedule, and then rounds until every client is finished and every session ended.
 ///
-/// Messages are moved as bytes, over one link for each session.
+/// Messages go over one connection for each session.
 pub fn run_schedule(alloc: Global, scenario: &Scenario) -> Result<Played, AllocError>
     requires { IsGoodScenario scenario.now }
     ensures journal { IfOk result (λ played. reverse played.journal.entries ≡ (scheduled_run scenario.now).history) }
@@ -66,11 +66,7 @@ fn played(machine: Machine<'_>) -> Result<Played, AllocError>
 }
 
 /// The committed value of each object.
-fn committed(
-    alloc: Global,
-    sequencer: &Sequencer,
-    objects: u16,
-) -> Result<List<Value>, AllocError>
+fn committed(alloc: Global, sequencer: &Sequencer, objects: u16) -> Result<List<Value>, AllocError>
     requires objects { objects ≡ sequencer.now.rules.world.shape.objects }
     requires values { length sequencer.now.rules.world.values ≡ objects }
     ensures { IfOk result (λ values. values ≡ committed_of sequencer.now.rules.world.values (history sequencer.now)) }

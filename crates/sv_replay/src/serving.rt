@@ -63,11 +63,7 @@ fn answer(
 }
 
 /// Ends a session.
-fn end(
-    sequencer: &mut Sequencer,
-    channel: &mut Channel,
-    session: u16,
-) -> Result<(), AllocError>
+fn end(sequencer: &mut Sequencer, channel: &mut Channel, session: u16) -> Result<(), AllocError>
     requires session { session < sequencer.old.rules.sessions }
     requires running { is_ended (history sequencer.old) session ≡ false }
     ensures { OnOk result (Entered session requests.End sequencer.old sequencer.new channel.new (record channel.old { stopped = true })) }

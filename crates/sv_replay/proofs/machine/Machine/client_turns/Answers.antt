@@ -22,4 +22,4 @@ returns c =
     let now = c.loop-client.self in
     let h = c.loop-client.invariant in
     heads_end m now _ _ h (clients_all player_turn (run_of now) c.loop-client.client
-      (omega (arith, players_are now h.machine, same_clients _ _ _ _ h, clients_are m c.requires, m.players.ok.0, c.loop-client-test.false, c.len-client-end.ensures)))
+    (omega (arith, players_are now h.machine, same_clients _ _ _ _ h, clients_are m c.requires, m.players.ok.0, c.loop-client-test.false, c.len-client-end.ensures)))

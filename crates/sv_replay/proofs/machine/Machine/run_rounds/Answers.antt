@@ -1,8 +1,9 @@
-use Rattle.std.proofs.Common.{◌+◌, ◌-◌, ap, ◌∙◌, arith}
+use Rattle.std.proofs.Common.{◌+◌, ◌-◌, refl, sym, ap, ◌∙◌, arith}
 use Rattle.sv_scenario.specs.declared.scenario.Scenario.{Scenario}
 use Rattle.sv_schedule.specs.Schedule.{Run, rules_of, repeated, round}
+use Rattle.sv_schedule.specs.Done.{IsDone}
 use Rattle.sv_replay.specs.Machine.{run_of}
-use Rattle.sv_replay.proofs.Heading.{heads_start, heads_next, heads_end, rounds_start, rounds_next, rounds_end}
+use Rattle.sv_replay.proofs.Heading.{heads_start, heads_next, heads_end, rounds_start, rounds_next, rounds_end, done_became}
 use Rattle.sv_replay.proofs.machine.Machine.run_rounds.Goals as goal
 
 pub loop-init : goal.loop-init
@@ -25,3 +26,11 @@ pub returns : goal.returns
 returns c =
     let m = c.args.self.now in
     heads_end m c.loop.self _ _ c.loop.invariant (rounds_end (rules_of m.scenario.now) (run_of c.loop.self) c.args.rounds c.loop.counter (omega arith))
+
+pub returns-then-are_ended : goal.returns-then-are_ended
+returns-then-are_ended c =
+    let m = c.args.self.now in
+    let now = c.loop.self in
+    let h = c.loop.invariant in
+    let done : IsDone now.scenario.now (run_of now) = record { closed = c.if-are_closed.ensures refl; ended = c.if-are_ended.ensures refl } in
+    done_became m now (rules_of m.scenario.now) (c.args.rounds - c.loop.counter) _ h refl (c.scheduled_runs_end.ensures.still now.scenario.now (run_of now) h.machine.good h.machine.sound done)

@@ -1,4 +1,4 @@
-use Rattle.std.proofs.Common.{◌≡◌, drop}
+use Rattle.std.proofs.Common.{drop}
 use Rattle.sv_schedule.specs.Schedule.{Run, rules_of, all_turned}
 use Rattle.sv_replay.specs.Machine.{run_of, Heads}
 use Rattle.sv_replay.proofs.machine.Machine.run_turns.Given as goal

@@ -17,7 +17,7 @@ loop-init c =
     let n = c.requests-waiting.result in
     let read : c.index.result.now ≡ get_or m.channels.items s new_channel = get_or_read m.channels.items s _ (omega (arith, is.count, c.requires.session)) c.index.ensures new_channel in
     let waits : n ≡ length (drop (length (requests_in (run_of m).history s)) (asked_in_run (run_of m).players s)) =
-        c.requests-waiting.ensures ∙ ap (λ (v : ChannelView). length v.requests) read ∙ ap (λ (rs : List Request). length rs) (is.channels s c.requires.session).requests in
+    c.requests-waiting.ensures ∙ ap (λ (v : ChannelView). length v.requests) read ∙ ap (λ (rs : List Request). length rs) (is.channels s c.requires.session).requests in
     heads_first m c.session_turn.new.self (λ (run : Run). record run { history = repeated (n - 0) (λ h. session_turn (rules_of m.scenario.now) run.players h s) run.history }) _ _
     c.in_ok-session_turn.ensures (serve_first (rules_of m.scenario.now) s (run_of m) n waits)
 
@@ -33,4 +33,4 @@ loop-preserved c =
     heads_next m now c.session_turn-in-loop.new.self _ (λ (run : Run). record run { history = repeated (n - (i + 1)) (λ h. session_turn r run.players h s) run.history }) _ _
     c.loop.invariant c.in_ok-session_turn-2.ensures
     (ap (λ (x : Scenario). record run { history = repeated (n - (i + 1)) (λ h. session_turn r run.players h s) (session_turn (rules_of x) run.players run.history s) }) c.loop.invariant.scenario
-      ∙ serve_next r s run n i (omega arith))
+    ∙ serve_next r s run n i (omega arith))

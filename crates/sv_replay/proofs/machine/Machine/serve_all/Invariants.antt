@@ -1,4 +1,4 @@
-use Rattle.std.proofs.Common.{◌≡◌, ◌-◌}
+use Rattle.std.proofs.Common.{◌-◌}
 use Rattle.sv_schedule.specs.Schedule.{Run, rules_of, repeated, session_turn}
 use Rattle.sv_replay.specs.Machine.{run_of, Heads, after_session}
 use Rattle.sv_replay.proofs.machine.Machine.serve_all.Given as goal

@@ -1,4 +1,4 @@
-use Rattle.std.proofs.Common.{◌≡◌, length, refl, subst, sym, arith, get_or}
+use Rattle.std.proofs.Common.{◌≡◌, refl, subst, arith, get_or}
 use Rattle.std.specs.Vec.{with_item}
 use Rattle.std.proofs.lemmas.Result.{on_ok_weaker}
 use Rattle.std.proofs.lemmas.List.{get_or_read}
@@ -15,5 +15,5 @@ returns c =
     let read : c.index_mut.result.now ≡ get_or m.channels.items s new_channel = get_or_read m.channels.items s _ (omega (arith, is.count, c.requires.session)) c.index_mut.ensures.value new_channel in
     on_ok_weaker c.serve.result
     (λ served. served_became m (record m { sequencer = c.serve.new.sequencer; channels = with_item m.channels s c.serve.new.channel }) s c.serve.new.channel is c.requires.session
-      (subst (λ (v : ChannelView). Served s m.sequencer c.serve.new.sequencer v c.serve.new.channel) read served) refl refl refl)
+    (subst (λ (v : ChannelView). Served s m.sequencer c.serve.new.sequencer v c.serve.new.channel) read served) refl refl refl)
     c.serve.ensures

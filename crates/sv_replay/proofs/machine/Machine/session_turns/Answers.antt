@@ -28,7 +28,7 @@ loop-session-preserved c =
     heads_next m now c.serve_all.new.self _ (λ (run : Run). record run { history = sessions_turned r run.players run.history (drop (s + 1) (below n)) }) _ _
     c.loop-session.invariant c.in_ok-serve_all.ensures
     (ap (λ (x : Scenario). record run { history = sessions_turned r run.players (session_turns (rules_of x) run.players run.history s) (drop (s + 1) (below n)) }) c.loop-session.invariant.scenario
-      ∙ sessions_next r run n s l)
+    ∙ sessions_next r run n s l)
 
 pub returns : goal.returns
 returns c =

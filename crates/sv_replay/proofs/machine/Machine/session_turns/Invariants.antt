@@ -1,4 +1,4 @@
-use Rattle.std.proofs.Common.{◌≡◌, drop}
+use Rattle.std.proofs.Common.{drop}
 use Rattle.sv_world.specs.Control.{below}
 use Rattle.sv_scenario.specs.Sessions.{session_count}
 use Rattle.sv_schedule.specs.Schedule.{Run, rules_of, sessions_turned, after_sessions}

@@ -1,7 +1,5 @@
-use Rattle.std.proofs.Common.{◌≡◌, ◌+◌, ◌-◌, ◌≤◌, ◌<◌, List, length, drop, get_or, sym, subst, ap, ◌∙◌, arith}
+use Rattle.std.proofs.Common.{◌≡◌, ◌+◌, ◌-◌, ◌≤◌, ◌<◌, length, get_or, sym, subst, ap, ◌∙◌, arith}
 use Rattle.std.proofs.lemmas.List.{get_or_read}
-use Rattle.sv_wire.specs.declared.message.Reply.{Reply}
-use Rattle.sv_scenario.specs.declared.scenario.Scenario.{Scenario}
 use Rattle.sv_schedule.specs.Schedule.{Run, at_player, repeated, take_turn, open_session}
 use Rattle.sv_replay.specs.Channel.{ChannelView, new_channel}
 use Rattle.sv_replay.specs.Players.{session_of}
@@ -37,10 +35,10 @@ loop-init c =
     let at = get_map player_of m.players.items k p (player_read m k p is c.requires.client c.index.ensures) in
     let known : c.session-session.result < length m.channels.items = omega (arith, fit.known, is.count, here) in
     let read : c.index-2.result.now ≡ get_or m.channels.items (session_of (player_of p)) new_channel =
-        get_or_read m.channels.items c.session-session.result _ known c.index-2.ensures new_channel ∙ ap (λ i. get_or m.channels.items i new_channel) here in
+    get_or_read m.channels.items c.session-session.result _ known c.index-2.ensures new_channel ∙ ap (λ i. get_or m.channels.items i new_channel) here in
     let many : length (get_or m.channels.items (session_of (player_of p)) new_channel).replies ≡ n = ap (λ (v : ChannelView). length v.replies) (sym read) ∙ sym c.replies-waiting.ensures in
     let enough : work_in (run_of m).history (player_of p) (open_session (player_of p)) ≤ n =
-        subst (λ i. work_in (run_of m).history (player_of p) (open_session (player_of p)) ≤ i) many (waits_enough m k (player_of p) is at) in
+    subst (λ i. work_in (run_of m).history (player_of p) (open_session (player_of p)) ≤ i) many (waits_enough m k (player_of p) is at) in
     heads_start m (λ (run : Run). record run { players = at_player run.players k (repeated (n - 0) (take_turn run.history)) }) _ is (take_first k (run_of m) (player_of p) n at enough)
 
 pub take_turn-requires-clause-client : goal.take_turn-requires-clause-client

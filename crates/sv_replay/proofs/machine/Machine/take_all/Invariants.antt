@@ -1,4 +1,4 @@
-use Rattle.std.proofs.Common.{◌≡◌, ◌-◌}
+use Rattle.std.proofs.Common.{◌-◌}
 use Rattle.sv_schedule.specs.Schedule.{Run, at_player, repeated, take_turn}
 use Rattle.sv_replay.specs.Machine.{run_of, Heads, after_take}
 use Rattle.sv_replay.proofs.machine.Machine.take_all.Given as goal

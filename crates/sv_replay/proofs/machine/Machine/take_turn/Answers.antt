@@ -1,4 +1,4 @@
-use Rattle.std.proofs.Common.{◌≡◌, ◌<◌, length, refl, subst, sym, ap, ◌∙◌, arith, get_or, set}
+use Rattle.std.proofs.Common.{◌≡◌, ◌<◌, length, refl, subst, ap, ◌∙◌, arith, get_or, set}
 use Rattle.std.specs.Vec.{with_item}
 use Rattle.std.proofs.lemmas.Result.{on_ok_weaker}
 use Rattle.std.proofs.lemmas.List.{get_or_read}
@@ -45,10 +45,10 @@ returns c =
     let fit = player_known m k p is c.requires.client c.index_mut-player.ensures.value in
     let known : c.session-session.result < length m.channels.items = omega (arith, fit.known, is.count, here) in
     let read : c.index_mut.result.now ≡ get_or m.channels.items (session_of (player_of p)) new_channel =
-        get_or_read m.channels.items c.session-session.result _ known c.index_mut.ensures.value new_channel ∙ ap (λ n. get_or m.channels.items n new_channel) here in
+    get_or_read m.channels.items c.session-session.result _ known c.index_mut.ensures.value new_channel ∙ ap (λ n. get_or m.channels.items n new_channel) here in
     on_ok_weaker c.take.result
     (λ did. moved_became m w k p q d is at (take_turn (run_of m).history) (turns.Take k)
-      (subst (λ (x : Player). Moved x p q (get_or m.channels.items (session_of (player_of p)) new_channel) d) (taken_is m k (player_of p) is (get_map player_of m.players.items k p at))
-        (subst (λ (v : ChannelView). Moved (taken_from v.replies (player_of p)) p q v d) read did)) refl c.requires.client refl refl refl
-      (ap (λ n. set m.channels.items n d) here))
+    (subst (λ (x : Player). Moved x p q (get_or m.channels.items (session_of (player_of p)) new_channel) d) (taken_is m k (player_of p) is (get_map player_of m.players.items k p at))
+    (subst (λ (v : ChannelView). Moved (taken_from v.replies (player_of p)) p q v d) read did)) refl c.requires.client refl refl refl
+    (ap (λ n. set m.channels.items n d) here))
     c.take.ensures

@@ -1,6 +1,5 @@
-use Rattle.std.proofs.Common.{◌≡◌, ◌≤◌, ◌<◌, false, length, sym, ap, ◌∙◌, subst, refl}
+use Rattle.std.proofs.Common.{◌≤◌, ◌<◌, false, length, sym, ap, ◌∙◌, subst, refl}
 use Rattle.std.proofs.lemmas.Result.{on_ok_weaker}
-use Rattle.sv_pending.specs.Pending.{PendingAction}
 use Rattle.sv_client.specs.declared.trace.Event.TheVariants as events
 use Rattle.sv_client.specs.Traces.{pending_of}
 use Rattle.sv_client.proofs.Shifts.{up_pending}
@@ -25,8 +24,8 @@ returns-then-is_calm c =
     let few : length (pending_of (player_of p).events) < 8 = subst (λ n. n < 8) (c.pending.ensures ∙ ap length (sym (up_pending p.first p.client.events))) c.if-pending-lt8.true in
     on_ok_weaker c.make.result
     (λ did. ready_moved (events.Make a) rest _ p c.make.new.self c.args.channel.now c.make.new.channel c.requires.ready refl refl
-      (acts (player_of p) a rest few (sym c.if-is_calm.ensures) ∙ does_player p (events.Make a) rest c.requires.ready.linked refl)
-      (same_link (events.Make a) rest p.closed false p c.make.new.self c.args.channel.now c.make.new.channel c.requires.ready.linked did))
+    (acts (player_of p) a rest few (sym c.if-is_calm.ensures) ∙ does_player p (events.Make a) rest c.requires.ready.linked refl)
+    (same_link (events.Make a) rest p.closed false p c.make.new.self c.args.channel.now c.make.new.channel c.requires.ready.linked did))
     c.make.ensures
 
 pub returns-else-pending-lt8 : goal.returns-else-pending-lt8
@@ -36,6 +35,6 @@ returns-else-pending-lt8 c =
     (elim c.else-pending-lt8.branch [
       | else-pending-lt8-via-then-pending-lt8+else-is_calm w ↦ waits_busy (player_of p) c.args.action.now c.args.rest.now (sym w.if-is_calm.ensures)
       | else-pending-lt8-via-else-pending-lt8 w ↦ waits_full (player_of p) c.args.action.now c.args.rest.now
-        (subst (λ n. 8 ≤ n) (c.pending.ensures ∙ ap length (sym (up_pending p.first p.client.events))) w.if-pending-lt8.false)
+          (subst (λ n. 8 ≤ n) (c.pending.ensures ∙ ap length (sym (up_pending p.first p.client.events))) w.if-pending-lt8.false)
     ])
     c.requires.flags

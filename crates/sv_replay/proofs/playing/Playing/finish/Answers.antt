@@ -1,9 +1,8 @@
-use Rattle.std.proofs.Common.{◌≡◌, true, false, [], refl, sym, ap, ◌∙◌, subst}
+use Rattle.std.proofs.Common.{true, false, [], refl, sym, ◌∙◌, subst}
 use Rattle.std.proofs.lemmas.Result.{on_ok_weaker}
-use Rattle.std.proofs.lemmas.Bool.{not-true}
 use Rattle.sv_client.specs.declared.trace.Event.TheVariants as events
 use Rattle.sv_client.proofs.Shifts.{up_session}
-use Rattle.sv_schedule.specs.Schedule.{Player, last_steps, does}
+use Rattle.sv_schedule.specs.Schedule.{Player}
 use Rattle.sv_replay.specs.Players.{IsFit}
 use Rattle.sv_replay.specs.Machine.{player_of, Moved}
 use Rattle.sv_replay.proofs.Moving.{waits_last, leaves, closes, down_leave, does_player, same_link, left_is, ready_moved, closed_moved, still_at}
@@ -27,7 +26,7 @@ returns-then-in_session c =
     let next = leaves (player_of p) (sym c.if-not-is_settled.ensures) (up_session p.first p.client.events ∙ sym c.if-in_session.ensures) in
     on_ok_weaker c.leave.result
     (λ did. ready_moved events.Leave [] _ p c.leave.new.self c.args.channel.now c.leave.new.channel c.requires.ready refl refl (next ∙ does_player p events.Leave [] c.requires.ready.linked refl)
-      (left_is events.Leave p.left.now [] p c.leave.new.self c.args.channel.now c.leave.new.channel c.requires.none (same_link events.Leave p.left.now p.closed false p c.leave.new.self c.args.channel.now c.leave.new.channel c.requires.ready.linked did)))
+    (left_is events.Leave p.left.now [] p c.leave.new.self c.args.channel.now c.leave.new.channel c.requires.none (same_link events.Leave p.left.now p.closed false p c.leave.new.self c.args.channel.now c.leave.new.channel c.requires.ready.linked did)))
     c.leave.ensures
 
 pub returns : goal.returns

@@ -18,8 +18,8 @@ returns-then-is_calm c =
     let rest = c.args.rest.now in
     on_ok_weaker c.ask.result
     (λ did. ready_moved events.Poll rest _ p c.ask.new.self c.args.channel.now c.ask.new.channel c.requires.ready refl refl
-      (polls (player_of p) rest (sym c.if-is_calm.ensures) ∙ does_player p events.Poll rest c.requires.ready.linked refl)
-      (same_link events.Poll rest p.closed false p c.ask.new.self c.args.channel.now c.ask.new.channel c.requires.ready.linked did))
+    (polls (player_of p) rest (sym c.if-is_calm.ensures) ∙ does_player p events.Poll rest c.requires.ready.linked refl)
+    (same_link events.Poll rest p.closed false p c.ask.new.self c.args.channel.now c.ask.new.channel c.requires.ready.linked did))
     c.ask.ensures
 
 pub returns-else-is_calm : goal.returns-else-is_calm

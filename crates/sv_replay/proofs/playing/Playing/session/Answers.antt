@@ -1,4 +1,4 @@
-use Rattle.std.proofs.Common.{◌≡◌, ◌+◌, ◌-◌, ◌≤◌, sym, ap, ◌∙◌, subst, arith}
+use Rattle.std.proofs.Common.{◌≡◌, ◌+◌, ◌-◌, ◌≤◌, sym, ap, ◌∙◌, arith}
 use Rattle.sv_client.specs.Traces.{joins}
 use Rattle.sv_client.proofs.Shifts.{up_joins}
 use Rattle.sv_replay.specs.Machine.{player_of}

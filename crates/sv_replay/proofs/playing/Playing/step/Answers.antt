@@ -3,9 +3,9 @@ use Rattle.std.proofs.lemmas.Result.{on_ok_weaker}
 use Rattle.sv_client.specs.declared.trace.Event.TheVariants as events
 use Rattle.sv_scenario.specs.declared.scenario.Step.{Step}
 use Rattle.sv_scenario.specs.declared.scenario.Step.TheVariants as steps
-use Rattle.sv_schedule.specs.Schedule.{Player, next_step}
+use Rattle.sv_schedule.specs.Schedule.{next_step}
 use Rattle.sv_replay.specs.Machine.{player_of, Moved}
-use Rattle.sv_replay.proofs.Moving.{next_player, does_player, same_link, ready_moved, sync_moved}
+use Rattle.sv_replay.proofs.Moving.{does_player, same_link, ready_moved, sync_moved}
 use Rattle.sv_replay.proofs.playing.Playing.step.Goals as goal
 
 pub returns-in-Sync : goal.returns-in-Sync
@@ -25,8 +25,8 @@ returns-in-Show c =
     let left : p.left.now ≡ steps.Show c.in-Show.objects ∷ rest = c.in-Some.ensures.cases.0 ∙ ap (λ (s : Step). s ∷ rest) c.in-Show.is in
     on_ok_weaker c.show.result
     (λ did. ready_moved e rest _ p c.show.new.self d d c.requires.ready refl refl
-      (ap (next_step (player_of p)) left ∙ does_player p e rest c.requires.ready.linked refl)
-      (same_link e rest p.closed false p c.show.new.self d d c.requires.ready.linked did))
+    (ap (next_step (player_of p)) left ∙ does_player p e rest c.requires.ready.linked refl)
+    (same_link e rest p.closed false p c.show.new.self d d c.requires.ready.linked did))
     (c.show.ensures d)
 
 pub returns-in-Cut : goal.returns-in-Cut
@@ -36,8 +36,8 @@ returns-in-Cut c =
     let left : p.left.now ≡ steps.Cut ∷ rest = c.in-Some.ensures.cases.0 ∙ ap (λ (s : Step). s ∷ rest) c.in-Cut.is in
     on_ok_weaker c.cut.result
     (λ did. ready_moved events.Cut rest _ p c.cut.new.self c.args.channel.now c.cut.new.channel c.requires.ready refl refl
-      (ap (next_step (player_of p)) left ∙ does_player p events.Cut rest c.requires.ready.linked refl)
-      (same_link events.Cut rest p.closed false p c.cut.new.self c.args.channel.now c.cut.new.channel c.requires.ready.linked did))
+    (ap (next_step (player_of p)) left ∙ does_player p events.Cut rest c.requires.ready.linked refl)
+    (same_link events.Cut rest p.closed false p c.cut.new.self c.args.channel.now c.cut.new.channel c.requires.ready.linked did))
     c.cut.ensures
 
 pub returns-in-Quit : goal.returns-in-Quit
@@ -47,5 +47,5 @@ returns-in-Quit c =
     let left : p.left.now ≡ steps.Quit ∷ rest = c.in-Some.ensures.cases.0 ∙ ap (λ (s : Step). s ∷ rest) c.in-Quit.is in
     on_ok_weaker c.quit.result
     (λ did. ready_moved events.Quit rest _ p c.quit.new.self c.args.channel.now c.quit.new.channel c.requires.ready refl refl
-      (ap (next_step (player_of p)) left) did)
+    (ap (next_step (player_of p)) left) did)
     c.quit.ensures

@@ -24,5 +24,5 @@ returns c =
     let d = c.args.channel.now in
     on_ok_weaker c.take_next.result
     (λ did. subst (λ (x : Player). Moved x p c.take_next.new.self d c.take_next.new.channel)
-      (sym (take_linked (player_of p) d.replies c.if-self.false (up_must p.first p.client.events ∙ sym c.requires.flags.between ∙ c.if-self-2.false))) did)
+    (sym (take_linked (player_of p) d.replies c.if-self.false (up_must p.first p.client.events ∙ sym c.requires.flags.between ∙ c.if-self-2.false))) did)
     c.take_next.ensures

@@ -29,7 +29,7 @@ pub returns-then-self-3 : goal.returns-then-self-3
 returns-then-self-3 c =
     let p = c.args.self.now in
     on_ok_weaker c.step.result (λ h. subst (λ (n : Player). Moved n p c.step.new.self c.args.channel.now c.step.new.channel)
-      (sym (turn_steps (player_of p) c.if-self.false (up_must p.first p.client.events ∙ sym c.requires.flags.between ∙ c.if-self-2.false) (up_welcomed p.first p.client.events ∙ sym c.requires.flags.welcomed ∙ c.if-self-3.true))) h) c.step.ensures
+    (sym (turn_steps (player_of p) c.if-self.false (up_must p.first p.client.events ∙ sym c.requires.flags.between ∙ c.if-self-2.false) (up_welcomed p.first p.client.events ∙ sym c.requires.flags.welcomed ∙ c.if-self-3.true))) h) c.step.ensures
 
 pub returns : goal.returns
 returns c =
