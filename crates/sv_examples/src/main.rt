@@ -75,18 +75,22 @@ fn expected(rt: &HostRuntime, name: &str, ending: &str) -> Result<Vec<u8>, FileF
 fn prints(rt: &HostRuntime, name: &str) -> Result<bool, FileFault> {
     let printed = replay(rt, name)?;
     let wanted = expected(rt, name, "out")?;
-    Ok(printed.status == 0
-        && printed.out.bytes() == wanted.as_slice()
-        && printed.err.bytes().is_empty())
+    Ok(
+        printed.status == 0
+            && printed.out.bytes() == wanted.as_slice()
+            && printed.err.bytes().is_empty(),
+    )
 }
 
 /// Whether a scenario is refused, with just the line that stands beside it.
 fn refuses(rt: &HostRuntime, name: &str) -> Result<bool, FileFault> {
     let printed = replay(rt, name)?;
     let wanted = expected(rt, name, "err")?;
-    Ok(printed.status == 3
-        && printed.err.bytes() == wanted.as_slice()
-        && printed.out.bytes().is_empty())
+    Ok(
+        printed.status == 3
+            && printed.err.bytes() == wanted.as_slice()
+            && printed.out.bytes().is_empty(),
+    )
 }
 
 fn summary(alloc: Global, scenario: &Scenario) -> Result<String, AllocError>
