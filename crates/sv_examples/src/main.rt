@@ -6,7 +6,7 @@ ghost use Rattle.sv_scenario.specs.Limits.{IsGoodScenario};
 use std::alloc::{AllocError, Global};
 use std::process::ExitCode;
 use sv_app::run;
-use sv_bytes::{FileFault, MemSink, OsFiles, OsSink, read_all, write_all};
+use sv_bytes::{FileFault, MemSink, OsFiles, OsSink, Sink, read_all, write_all};
 use sv_replay::run_schedule;
 use sv_report::brief;
 use sv_scenario::{Scenario, read_scenario};
@@ -50,6 +50,7 @@ fn words(alloc: Global, name: &str) -> Result<Vec<String>, AllocError> {
 }
 
 /// What a call of the program printed on its two outputs, with its status before.
+#[derive(Drop)]
 struct Printed {
     status: u8,
     out: MemSink,
@@ -67,13 +68,17 @@ fn replay(rt: &HostRuntime, name: &str) -> Result<Printed, AllocError> {
 
 /// What stands in a file of the folder.
 fn expected(rt: &HostRuntime, name: &str, ending: &str) -> Result<Vec<u8>, FileFault> {
-    let name = format!(in rt.alloc(); "{name}.{ending}")?;
-    read_all(rt.alloc(), &mut OsFiles::new(rt), &name, ROOM)
+    match format!(in rt.alloc(); "{name}.{ending}") {
+        Ok(name) => read_all(rt.alloc(), &mut OsFiles::new(rt), &name, ROOM),
+        Err(_) => Err(FileFault::Memory),
+    }
 }
 
 /// Whether a scenario is replayed, with just the output that stands beside it.
 fn prints(rt: &HostRuntime, name: &str) -> Result<bool, FileFault> {
-    let printed = replay(rt, name)?;
+    let Ok(printed) = replay(rt, name) else {
+        return Err(FileFault::Memory);
+    };
     let wanted = expected(rt, name, "out")?;
     Ok(
         printed.status == 0
@@ -84,7 +89,9 @@ fn prints(rt: &HostRuntime, name: &str) -> Result<bool, FileFault> {
 
 /// Whether a scenario is refused, with just the line that stands beside it.
 fn refuses(rt: &HostRuntime, name: &str) -> Result<bool, FileFault> {
-    let printed = replay(rt, name)?;
+    let Ok(printed) = replay(rt, name) else {
+        return Err(FileFault::Memory);
+    };
     let wanted = expected(rt, name, "err")?;
     Ok(
         printed.status == 3
@@ -106,12 +113,14 @@ fn sums_up(rt: &HostRuntime, name: &str) -> Result<bool, FileFault> {
     let Ok(scenario) = read_scenario(rt.alloc(), &bytes) else {
         return Ok(false);
     };
-    let printed = summary(rt.alloc(), &scenario)?;
+    let Ok(printed) = summary(rt.alloc(), &scenario) else {
+        return Err(FileFault::Memory);
+    };
     let wanted = expected(rt, name, "brief")?;
     Ok(printed.as_bytes() == wanted.as_slice())
 }
 
-fn tell(out: &mut OsSink, name: &str, same: &Result<bool, FileFault>) {
+fn tell<K: Sink>(out: &mut K, name: &str, same: &Result<bool, FileFault>) {
     let told: &[u8] = match same {
         Ok(true) => b": same\n",
         Ok(false) => b": differs\n",
