@@ -11,6 +11,7 @@ mod refusals;
 mod rows;
 mod scans;
 mod shared;
+mod threads;
 
 use crate::Sequencer;
 use asked::{Ask, request_of, world_of};
