@@ -31,16 +31,16 @@ fn main() {
 
 
 def action(k, j):
-    """An action of about 480 bytes over four objects."""
+    """An action of about 390 bytes and 64 nodes over four objects."""
     reads = [k * 64 + (j * 7 + n * 11) % 64 for n in range(4)]
     reads = sorted(set(reads))
     names = " ".join(map(str, reads))
     sets = " ".join(
         f"set @{o}.{n % 4} ((@{o}.{n % 4} + {n + j}) max (@{reads[0]}.0 - {j * 1000003}));"
-        for n in range(6)
+        for n in range(4)
         for o in reads[:2]
     )
-    return f"reads {names} writes {names} at {j} -{k} {{ {sets} }}"
+    return f"reads {names} writes {names} at {j} {k} {{ {sets} }}"
 
 
 def scenario():
