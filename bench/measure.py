@@ -19,6 +19,9 @@ EVAL_TURNS = 20
 WIRE_TURNS = 500
 QUEUES = [(10, 0), (10, 7), (100, 0), (100, 7), (100, 32), (1000, 0), (1000, 7), (1000, 32), (10_000, 0), (10_000, 7), (10_000, 32)]
 CLOSURE_TURNS = 100
+# How often the requests of a mix are stepped through.
+STEP_TURNS = 4
+STEP_MIXES = ("step", "step_deep")
 SESSIONS = 64
 
 
@@ -66,6 +69,8 @@ def corpora(peer, work):
     write("actions", "".join(actions))
     write("values", "".join(values))
     write("messages", output(peer, "corpus", "wire"))
+    for mix in STEP_MIXES:
+        write(mix, output(peer, "corpus", mix))
     return len(texts) - texts.count("\n")
 
 
@@ -146,6 +151,22 @@ def measure_closure(figures, peer, bench, work, queue, influence):
         figures.add(name, "ns/call", "here", nanos / calls)
 
 
+def measure_steps(figures, peer, bench, work):
+    """The peer keeps no journal, so what entering the same requests into one takes stands beside the steps."""
+    told = None
+    for mix in STEP_MIXES:
+        here = here_figures(bench, work, "step", mix, STEP_TURNS)["step"]
+        entered = here_figures(bench, work, "journal", mix, STEP_TURNS)["journal"]
+        told = told or peer_figures(peer, "step", here[0])
+        assert here[0] == entered[0] == STEP_TURNS * round(float(told[f"{mix}_mix"]))
+        assert here[1] == STEP_TURNS * round(float(told[f"{mix}_items"]))
+        figures.add(mix, "steps/s", "peer", float(told[mix]))
+        figures.add(mix, "steps/s", "here", here[0] * 1e9 / here[2])
+        figures.add(mix, "ns/step", "peer", float(told[f"{mix}_time"]))
+        figures.add(mix, "ns/step", "here", here[2] / here[0])
+        figures.add(f"{mix}, the requests entered into a journal alone", "ns/entry", "here", entered[2] / entered[0])
+
+
 def main():
     with tempfile.TemporaryDirectory() as work:
         peer, bench, trees = built_peer(work), built_bench(), built_trees(work)
@@ -155,6 +176,7 @@ def main():
             measure_text(figures, peer, bench, trees, work, size)
             measure_eval(figures, peer, bench, work)
             measure_wire(figures, peer, bench, trees, work)
+            measure_steps(figures, peer, bench, work)
             for queue, influence in QUEUES:
                 measure_closure(figures, peer, bench, work, queue, influence)
         figures.table()

@@ -6,6 +6,7 @@ mod evaluations;
 mod figure;
 mod lines;
 mod messages;
+mod steps;
 mod takes;
 mod texts;
 
@@ -14,7 +15,7 @@ use std::env;
 
 fn usage(rt: &HostRuntime) -> anyhow::Result<()> {
     println!(rt;
-        "words: text FILE TURNS | eval ACTIONS VALUES TURNS | wire FILE TURNS | take ITEMS TURNS | closure, sent or plain QUEUE INFLUENCE TURNS"
+        "words: text FILE TURNS | eval ACTIONS VALUES TURNS | wire, step or journal FILE TURNS | take ITEMS TURNS | closure, sent or plain QUEUE INFLUENCE TURNS"
     )?;
     Ok(())
 }
@@ -37,6 +38,8 @@ fn act(rt: &HostRuntime, words: &[String]) -> anyhow::Result<()> {
         ("eval", [actions, values, turns]) => {
             evaluations::measure(rt, actions.as_str(), values.as_str(), turns.parse()?)
         }
+        ("step", [file, turns]) => steps::measure(rt, file.as_str(), turns.parse()?),
+        ("journal", [file, turns]) => steps::measure_journal(rt, file.as_str(), turns.parse()?),
         ("take", [items, turns]) => takes::measure(rt, items.parse()?, turns.parse()?),
         ("wire", [file, turns]) => messages::measure(rt, file.as_str(), turns.parse()?),
         (name, [queue, influence, turns]) => {
