@@ -159,6 +159,12 @@ module _ (commit : ℕ) (crowded : List ObjectId) (rows done : List (List Versio
     listed = λ x h m. listed_kept x (λ k. ltb 1 (length (get_or done k []))) crowded (lt-ltb 1 _ m) (a.listed x (omega (arith, p.long)) (omega (arith, p.shorter x (omega (arith, p.long)))));
   }
 
+-- The objects that have more than one version stay listed where the others go.
+pub crowded_listed : (crowded : List ObjectId) (rows : List (List Version)) → AreListed crowded rows → AreListed (filter (λ o. ltb 1 (length (get_or rows o.0 []))) crowded) rows
+crowded_listed crowded rows a = record {
+  listed = λ x h m. listed_kept x (λ k. ltb 1 (length (get_or rows k []))) crowded (lt-ltb 1 _ m) (a.listed x h m);
+}
+
 pub new_listed : (n : ℕ) → AreListed [] (replicate n [])
 new_listed n = record {
   listed = λ x h m. let none : get_or {A = List Version} (replicate n []) x [] ≡ [] = get_or-replicate n x [] [] (omega (arith, length-replicate {A = List Version} n [])) in

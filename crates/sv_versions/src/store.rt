@@ -126,6 +126,14 @@ impl Versions {
         while let Some(change) = undo.changes.pop() {
             self.restore(change);
         }
+        self.unlist();
+    }
+
+    /// Forgets that objects with at most one version had more.
+    fn unlist(&mut self)
+        ensures { self.new ≡ self.old }
+    {
+        keep_crowded(&mut self.crowded, &self.histories);
     }
 
     fn restore(&mut self, change: Change)
