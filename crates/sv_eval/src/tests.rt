@@ -1,7 +1,7 @@
 use crate::eval;
 use std::alloc::{AllocError, Global};
 use std::test::Fail;
-use sv_world::{Action, Boxed, Cond, Expr, List, ObjectId, Point, Stmt, Value};
+use sv_world::{Action, Boxed, Cond, Expr, List, ObjectId, Point, Shared, Stmt, Value};
 
 /// An operator, its two operands and the result on each line. A result outside 64 bits is void, and so is division by zero.
 const OPERATIONS: &str = "\
@@ -100,7 +100,7 @@ fn action(alloc: Global, body: List<Stmt>) -> Result<Action, AllocError> {
         reads,
         mask: 1,
         origin,
-        body,
+        body: Shared::from_list(body)?,
     })
 }
 

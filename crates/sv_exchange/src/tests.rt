@@ -8,7 +8,7 @@ use std::alloc::{AllocError, Global};
 use std::process::Abort;
 use std::test::Fail;
 use sv_wire::{Done1, Held, Item, Reply, Request, encode_reply, encode_request};
-use sv_world::{Action, Boxed, ClientId, Expr, List, ObjectId, Point, Stmt, Value};
+use sv_world::{Action, Boxed, ClientId, Expr, List, ObjectId, Point, Shared, Stmt, Value};
 
 const JOIN: [u8; 10] = [1, 0, 0, 0, 0, 0, 1, 1, 0, 0];
 
@@ -75,7 +75,7 @@ fn action(alloc: Global) -> Result<Action, AllocError>
         reads: objects(alloc)?,
         mask: 1,
         origin: Point { x: 0, y: 0 },
-        body: body(alloc)?,
+        body: Shared::from_list(body(alloc)?)?,
     })
 }
 
@@ -380,7 +380,7 @@ fn great_acting(alloc: Global) -> Result<Action, AllocError>
         reads: great_reading(alloc)?,
         mask: 65_535,
         origin: Point { x: 0, y: 0 },
-        body: great_statements(alloc)?,
+        body: Shared::from_list(great_statements(alloc)?)?,
     })
 }
 

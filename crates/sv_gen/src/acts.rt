@@ -4,7 +4,7 @@ ghost use Rattle.std.specs.Prelude.{◌≡◌, ◌≤◌, ◌<◌, IfOk};
 ghost use Rattle.sv_gen.specs.Generated.{slot_of, taken, added, transfer, act};
 
 use std::alloc::{AllocError, Global};
-use sv_world::{Action, Boxed, Expr, List, ObjectId, Point, Stmt};
+use sv_world::{Action, Boxed, Expr, List, ObjectId, Point, Shared, Stmt};
 
 fn slot_of(object: u16, other: u16) -> u8
     ensures { result ≡ slot_of object other }
@@ -53,7 +53,7 @@ fn transfer(alloc: Global, from: u16, to: u16, amount: u16) -> Result<Action, Al
         reads,
         mask: 3,
         origin: Point { x: 0, y: 0 },
-        body,
+        body: Shared::from_list(body)?,
     })
 }
 

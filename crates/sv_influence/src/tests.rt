@@ -7,7 +7,9 @@ use std::marker::Brand;
 use std::sync::ledger::{Blank, Ledger};
 use std::test::Fail;
 use sv_queue::{Queue, Steps};
-use sv_world::{Action, ClientId, List, ObjectId, Point, Shape, Value, World, check_action};
+use sv_world::{
+    Action, ClientId, List, ObjectId, Point, Shape, Shared, Value, World, check_action,
+};
 
 fn value(alloc: Global, number: i64) -> Result<Value, AllocError>
     ensures { IfOk result (λ value. value ≡ number ∷ []) }
@@ -49,7 +51,7 @@ fn action(alloc: Global, reads: u64, writes: u64, x: i32, y: i32) -> Result<Acti
         reads: objects,
         mask,
         origin: Point { x, y },
-        body: List::new(alloc),
+        body: Shared::from_list(List::new(alloc))?,
     })
 }
 
@@ -61,7 +63,7 @@ fn single(alloc: Global, object: u16) -> Result<Action, AllocError> {
         reads: objects,
         mask: 1,
         origin: Point { x: 0, y: 0 },
-        body: List::new(alloc),
+        body: Shared::from_list(List::new(alloc))?,
     })
 }
 

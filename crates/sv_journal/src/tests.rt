@@ -5,7 +5,7 @@ use crate::{
 use std::alloc::Global;
 use std::test::Fail;
 use sv_wire::{Done1, Held, Request};
-use sv_world::{Action, ClientId, List, ObjectId, Point, Shape, Value};
+use sv_world::{Action, ClientId, List, ObjectId, Point, Shape, Shared, Value};
 
 #[test]
 fn values_and_objects_are_printed(rt: HostRuntime) -> Result<(), Fail> {
@@ -26,7 +26,7 @@ fn act(alloc: Global, object: u16) -> Result<Action, Fail> {
         reads,
         mask: 1,
         origin: Point { x: 0, y: 0 },
-        body: List::new(alloc),
+        body: Shared::from_list(List::new(alloc))?,
     })
 }
 

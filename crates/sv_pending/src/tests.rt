@@ -2,7 +2,9 @@ use crate::{Overlay, Pending};
 use std::alloc::{AllocError, Global};
 use std::test::Fail;
 use sv_versions::Versions;
-use sv_world::{Action, Boxed, Expr, List, ObjectId, Point, Shape, Stmt, Value, check_action};
+use sv_world::{
+    Action, Boxed, Expr, List, ObjectId, Point, Shape, Shared, Stmt, Value, check_action,
+};
 
 const FIRST: ObjectId = ObjectId(0);
 
@@ -22,7 +24,7 @@ fn action(
         reads: List::from_vec(Vec::from_slice(alloc, reads)?),
         mask,
         origin: Point { x: 0, y: 0 },
-        body,
+        body: Shared::from_list(body)?,
     })
 }
 

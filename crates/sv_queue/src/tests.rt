@@ -7,7 +7,7 @@ use std::alloc::{AllocError, Global};
 use std::marker::Brand;
 use std::sync::ledger::{Blank, Ledger};
 use std::test::Fail;
-use sv_world::{Action, ClientId, List, ObjectId, Point, Shape, Value, World};
+use sv_world::{Action, ClientId, List, ObjectId, Point, Shape, Shared, Value, World};
 
 fn value(alloc: Global, number: i64) -> Result<Value, AllocError>
     ensures { IfOk result (λ value. value ≡ number ∷ []) }
@@ -43,7 +43,7 @@ fn writing(alloc: Global, shape: Shape, object: u16) -> Result<Action, AllocErro
         reads,
         mask: 1,
         origin: Point { x: 0, y: 0 },
-        body: List::new(alloc),
+        body: Shared::from_list(List::new(alloc))?,
     })
 }
 
@@ -59,7 +59,7 @@ fn writing_with_next(alloc: Global, shape: Shape, object: u16) -> Result<Action,
         reads,
         mask: 1,
         origin: Point { x: 0, y: 0 },
-        body: List::new(alloc),
+        body: Shared::from_list(List::new(alloc))?,
     })
 }
 

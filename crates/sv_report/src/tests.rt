@@ -9,7 +9,7 @@ use std::test::Fail;
 use sv_client::{Client, Event};
 use sv_journal::{Entry, Logged};
 use sv_wire::{Held, Reply, Request};
-use sv_world::{Action, Boxed, ClientId, Expr, List, ObjectId, Point, Shape, Stmt, Value};
+use sv_world::{Action, Boxed, ClientId, Expr, List, ObjectId, Point, Shape, Shared, Stmt, Value};
 
 const SHAPE: Shape = Shape {
     objects: 2,
@@ -62,7 +62,7 @@ fn plus_one(alloc: Global) -> Result<Action, Fail> {
         reads,
         mask: 1,
         origin: Point { x: 0, y: 0 },
-        body,
+        body: Shared::from_list(body)?,
     })
 }
 

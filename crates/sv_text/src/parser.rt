@@ -13,19 +13,19 @@ use crate::lexer::tokens;
 use crate::statement::block_at;
 use crate::token::{Lexeme, Mark};
 use std::alloc::Global;
-use sv_world::{Action, List, ObjectId, Stmt};
+use sv_world::{Action, List, ObjectId, Shared, Stmt};
 
 /// The deepest that a node may stand, counted from the outermost statements.
 const DEPTH: u8 = 8;
 
 #[tactic(auto, unfolding(crate::specs::Reading::body_at))]
-fn body_at(alloc: Global, reads: &[ObjectId], tokens: &[Lexeme]) -> Result<List<Stmt>, ParseFault>
+fn body_at(alloc: Global, reads: &[ObjectId], tokens: &[Lexeme]) -> Result<Shared<Stmt>, ParseFault>
     requires { length reads.now ≤ 16 }
     ensures { Gives (λ body. body) result (body_at reads.now tokens.now) }
 {
     let (body, _, rest) = block_at(alloc, DEPTH, 0, reads, tokens)?;
     let _ = expect(rest, Mark::End)?;
-    Ok(body)
+    Ok(Shared::from_list(body)?)
 }
 
 #[tactic(auto, unfolding(crate::specs::Reading::reading))]

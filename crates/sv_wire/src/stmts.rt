@@ -9,7 +9,7 @@ use crate::fault::ReadFault;
 use crate::fields::byte_of;
 use crate::nodes::{StmtKind, stmt_node};
 use std::alloc::Global;
-use sv_world::{Cond, List, Stmt};
+use sv_world::{Cond, List, Shared, Stmt};
 
 #[tactic(auto, unfolding(crate::specs::Trees::set_at))]
 fn set_next<'a>(
@@ -144,9 +144,9 @@ fn stmt_next<'a>(
 }
 
 #[tactic(auto, unfolding(crate::specs::Trees::body_at))]
-pub fn body_of(alloc: Global, bytes: &[u8]) -> Result<(List<Stmt>, &[u8]), ReadFault>
+pub fn body_of(alloc: Global, bytes: &[u8]) -> Result<(Shared<Stmt>, &[u8]), ReadFault>
     ensures { Gives (λ x. (x.0, x.1.now)) result (body_at bytes.now) }
 {
     let (body, _, rest) = list_next(alloc, 8, 0, bytes)?;
-    Ok((body, rest))
+    Ok((Shared::from_list(body)?, rest))
 }

@@ -1,4 +1,4 @@
-use crate::{Boxed, List, ObjectId};
+use crate::{Boxed, List, ObjectId, Shared};
 
 /// A number computed from the values that an action reads.
 #[derive(Debug, Drop)]
@@ -51,11 +51,12 @@ pub struct Point {
 /// A deterministic change of the objects that it reads.
 ///
 /// `reads` are 1 to 16 objects, ascending; a slot is a place in it. Bit `k` of `mask`, of weight `2^k`, says that the object in slot
-/// `k` may be written. Statements run in order, and each sees what the earlier ones set.
+/// `k` may be written. Statements run in order, and each sees what the earlier ones set. The body is shared, so that a copy of an action
+/// takes memory for its reads alone.
 #[derive(Debug, Drop)]
 pub struct Action {
     pub reads: List<ObjectId>,
     pub mask: u16,
     pub origin: Point,
-    pub body: List<Stmt>,
+    pub body: Shared<Stmt>,
 }

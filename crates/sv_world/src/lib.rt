@@ -9,6 +9,7 @@ mod laws;
 mod list;
 mod measure;
 mod names;
+mod shared;
 #[cfg(test)]
 mod tests;
 mod text;
@@ -25,5 +26,6 @@ pub use laws::{
 };
 pub use list::List;
 pub use names::is_in_mask;
+pub use shared::Shared;
 pub use text::Text;
 pub use world::{ClientId, ObjectId, Shape, Value, World};

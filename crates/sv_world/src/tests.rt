@@ -1,5 +1,5 @@
 use crate::{
-    Action, Boxed, ClientId, Cond, Expr, List, ObjectId, Point, Shape, Stmt, Text, World,
+    Action, Boxed, ClientId, Cond, Expr, List, ObjectId, Point, Shape, Shared, Stmt, Text, World,
     check_action, copy_action, copy_objects, copy_value, copy_values, good_actions_have_no_fault,
     is_ascending, is_in_mask,
 };
@@ -26,7 +26,7 @@ fn action(alloc: Global, reads: &[u16], mask: u16, body: List<Stmt>) -> Result<A
         reads,
         mask,
         origin,
-        body,
+        body: Shared::from_list(body)?,
     })
 }
 

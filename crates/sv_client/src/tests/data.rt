@@ -2,7 +2,7 @@
 use std::alloc::Global;
 use std::test::Fail;
 use sv_wire::{Held, Item, Reply};
-use sv_world::{Action, Boxed, ClientId, Expr, List, ObjectId, Point, Stmt, Value};
+use sv_world::{Action, Boxed, ClientId, Expr, List, ObjectId, Point, Shared, Stmt, Value};
 
 /// What an action sets its first object to, in a world of one number for each object.
 #[derive(Clone, Copy)]
@@ -91,7 +91,7 @@ pub fn action_of(alloc: Global, deed: Deed) -> Result<Action, Fail> {
         reads,
         mask: 1,
         origin: Point { x: 0, y: 0 },
-        body,
+        body: Shared::from_list(body)?,
     })
 }
 

@@ -12,7 +12,7 @@ use std::alloc::{AllocError, Global};
 use std::test::Fail;
 use sv_journal::{Entry, Journal};
 use sv_wire::{Done1, Request};
-use sv_world::{Action, ClientId, List, ObjectId, Point, Shape, Value};
+use sv_world::{Action, ClientId, List, ObjectId, Point, Shape, Shared, Value};
 
 const JOURNALS: u64 = 200;
 
@@ -97,7 +97,7 @@ fn some_action(alloc: Global, dice: &mut Dice) -> Result<Action, AllocError> {
             x: i32::from(dice.below(9)),
             y: i32::from(dice.below(3)),
         },
-        body: List::new(alloc),
+        body: Shared::from_list(List::new(alloc))?,
     })
 }
 
