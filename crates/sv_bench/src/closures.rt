@@ -19,7 +19,7 @@ const SESSIONS: u16 = 64;
 fn value(alloc: Global, number: i64) -> Result<Value, AllocError>
     ensures { IfOk result (λ value. value ≡ number ∷ []) }
 {
-    let mut value = List::new(alloc);
+    let mut value = Value::new(alloc);
     value.push(number)?;
     Ok(value)
 }

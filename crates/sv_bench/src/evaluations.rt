@@ -3,7 +3,7 @@ use crate::lines::{action_of, lines_of};
 use std::alloc::Global;
 use std::time::Instant;
 use sv_eval::eval;
-use sv_world::{Action, List, Value};
+use sv_world::{Action, Value};
 
 /// How many numbers each value of the corpus has.
 const ATTRS: usize = 4;
@@ -18,12 +18,12 @@ struct Work {
 /// The values of a line of numbers, four for each value.
 fn values_of(alloc: Global, line: &str) -> anyhow::Result<Vec<Value>> {
     let mut values = Vec::new(alloc);
-    let mut value = List::new(alloc);
+    let mut value = Value::new(alloc);
     for word in line.split_whitespace() {
         value.push(word.parse::<i64>()?)?;
         if value.len() == ATTRS {
             values.push(value)?;
-            value = List::new(alloc);
+            value = Value::new(alloc);
         }
     }
     Ok(values)

@@ -54,7 +54,7 @@ fn asks_of(alloc: Global, lines: &[String]) -> anyhow::Result<Vec<Ask>> {
 fn value(alloc: Global, number: i64) -> Result<Value, AllocError>
     ensures { IfOk result (λ value. length value ≡ 2) }
 {
-    let mut value = List::new(alloc);
+    let mut value = Value::new(alloc);
     value.push(number)?;
     value.push(0)?;
     Ok(value)

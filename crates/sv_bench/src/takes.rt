@@ -24,7 +24,7 @@ struct Turn {
 }
 
 fn value(alloc: Global, number: i64) -> Result<Value, AllocError> {
-    let mut value = List::new(alloc);
+    let mut value = Value::new(alloc);
     value.push(number)?;
     Ok(value)
 }

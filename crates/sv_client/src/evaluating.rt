@@ -110,7 +110,7 @@ fn value_below(
     ensures { IfOk result (λ value. value ≡ unwrap_or (read_below versions.now.held object.0 pos) []) }
 {
     match versions.read_below(object, pos) {
-        None => Ok(List::new(alloc)),
+        None => Ok(Value::new(alloc)),
         Some(value) => copy_value(alloc, value),
     }
 }

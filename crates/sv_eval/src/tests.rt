@@ -1,7 +1,7 @@
 use crate::eval;
 use std::alloc::{AllocError, Global};
 use std::test::Fail;
-use sv_world::{Action, Boxed, Cond, Expr, List, ObjectId, Point, Shared, Stmt, Value};
+use sv_world::{Action, Boxed, Cond, Expr, List, ObjectId, Point, Reads, Shared, Stmt, Value};
 
 /// An operator, its two operands and the result on each line. A result outside 64 bits is void, and so is division by zero.
 const OPERATIONS: &str = "\
@@ -93,7 +93,7 @@ fn first_number(values: &[Value]) -> i64 {
 
 /// An action that reads and writes one object.
 fn action(alloc: Global, body: List<Stmt>) -> Result<Action, AllocError> {
-    let mut reads = List::new(alloc);
+    let mut reads = Reads::new(alloc);
     reads.push(ObjectId(0))?;
     let origin = Point { x: 0, y: 0 };
     Ok(Action {
@@ -106,7 +106,7 @@ fn action(alloc: Global, body: List<Stmt>) -> Result<Action, AllocError> {
 
 /// One value, of the number 5.
 fn five(alloc: Global) -> Result<List<Value>, AllocError> {
-    let value = List::from_vec(vec![in alloc; 5]?);
+    let value = Value::from_slice(alloc, &[5])?;
     let mut values = List::new(alloc);
     values.push(value)?;
     Ok(values)

@@ -8,7 +8,7 @@ use std::alloc::{AllocError, Global};
 use std::process::Abort;
 use std::test::Fail;
 use sv_wire::{Done1, Held, Item, Reply, Request, encode_reply, encode_request};
-use sv_world::{Action, Boxed, ClientId, Expr, List, ObjectId, Point, Shared, Stmt, Value};
+use sv_world::{Action, Boxed, ClientId, Expr, List, ObjectId, Point, Reads, Shared, Stmt, Value};
 
 const JOIN: [u8; 10] = [1, 0, 0, 0, 0, 0, 1, 1, 0, 0];
 
@@ -43,7 +43,7 @@ fn objects(alloc: Global) -> Result<List<ObjectId>, AllocError>
 fn value(alloc: Global, number: i64) -> Result<Value, AllocError>
     ensures { IfOk result (λ value. value ≡ number ∷ []) }
 {
-    let mut value = List::new(alloc);
+    let mut value = Value::new(alloc);
     value.push(number)?;
     Ok(value)
 }
@@ -72,7 +72,7 @@ fn action(alloc: Global) -> Result<Action, AllocError>
     ensures { IfOk result (λ action. action ≡ adding) }
 {
     Ok(Action {
-        reads: objects(alloc)?,
+        reads: Reads::from_slice(alloc, &[ObjectId(0)])?,
         mask: 1,
         origin: Point { x: 0, y: 0 },
         body: Shared::from_list(body(alloc)?)?,
@@ -325,7 +325,7 @@ fn what_was_sent_comes_after_closing(rt: HostRuntime) -> Result<(), Fail> {
 fn great_value(alloc: Global) -> Result<Value, AllocError>
     ensures { IfOk result (λ value. value ≡ greatest ∷ greatest ∷ greatest ∷ greatest ∷ []) }
 {
-    let mut value = List::new(alloc);
+    let mut value = Value::new(alloc);
     value.push(i64::MAX)?;
     value.push(i64::MAX)?;
     value.push(i64::MAX)?;
@@ -348,10 +348,10 @@ fn great_head(alloc: Global) -> Result<List<Held>, AllocError>
 }
 
 #[tactic(auto, using(crate::proofs::Great::reads_more))]
-fn great_reading(alloc: Global) -> Result<List<ObjectId>, AllocError>
+fn great_reading(alloc: Global) -> Result<Reads, AllocError>
     ensures { IfOk result (λ reads. reads ≡ great_reads 16) }
 {
-    let mut reads = List::new(alloc);
+    let mut reads = Reads::new(alloc);
     for object in 0..16u16 {
         reads.push(ObjectId(object))?;
     }

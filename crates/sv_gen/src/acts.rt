@@ -4,7 +4,7 @@ ghost use Rattle.std.specs.Prelude.{◌≡◌, ◌≤◌, ◌<◌, IfOk};
 ghost use Rattle.sv_gen.specs.Generated.{slot_of, taken, added, transfer, act};
 
 use std::alloc::{AllocError, Global};
-use sv_world::{Action, Boxed, Expr, List, ObjectId, Point, Shared, Stmt};
+use sv_world::{Action, Boxed, Expr, List, ObjectId, Point, Reads, Shared, Stmt};
 
 fn slot_of(object: u16, other: u16) -> u8
     ensures { result ≡ slot_of object other }
@@ -42,7 +42,7 @@ fn added(alloc: Global, slot: u8, attr: u8, amount: u16) -> Result<Stmt, AllocEr
 fn transfer(alloc: Global, from: u16, to: u16, amount: u16) -> Result<Action, AllocError>
     ensures { IfOk result (λ a. a ≡ transfer from to amount) }
 {
-    let mut reads = List::new(alloc);
+    let mut reads = Reads::new(alloc);
     reads.push(ObjectId(from.min(to)))?;
     reads.push(ObjectId(from.max(to)))?;
     let mut body = List::new(alloc);

@@ -13,7 +13,7 @@ use sv_world::{List, Shape, Value, World};
 fn opening(alloc: Global, object: u16) -> Result<Value, AllocError>
     ensures { IfOk result (λ v. v ≡ opening object) }
 {
-    let mut value = List::new(alloc);
+    let mut value = Value::new(alloc);
     value.push(100 + i64::from(object))?;
     value.push(0)?;
     Ok(value)

@@ -8,13 +8,13 @@ use std::sync::ledger::{Blank, Ledger};
 use std::test::Fail;
 use sv_queue::{Queue, Steps};
 use sv_world::{
-    Action, ClientId, List, ObjectId, Point, Shape, Shared, Value, World, check_action,
+    Action, ClientId, List, ObjectId, Point, Reads, Shape, Shared, Value, World, check_action,
 };
 
 fn value(alloc: Global, number: i64) -> Result<Value, AllocError>
     ensures { IfOk result (λ value. value ≡ number ∷ []) }
 {
-    let mut value = List::new(alloc);
+    let mut value = Value::new(alloc);
     value.push(number)?;
     Ok(value)
 }
@@ -35,7 +35,7 @@ fn world(alloc: Global, objects: u16) -> Result<World, AllocError>
 
 /// An action without a body that reads the objects of a set of bits and writes those of another; made at a point.
 fn action(alloc: Global, reads: u64, writes: u64, x: i32, y: i32) -> Result<Action, AllocError> {
-    let mut objects = List::new(alloc);
+    let mut objects = Reads::new(alloc);
     let mut mask = 0u16;
     let mut bit = 1u16;
     for object in 0..16u16 {
@@ -57,7 +57,7 @@ fn action(alloc: Global, reads: u64, writes: u64, x: i32, y: i32) -> Result<Acti
 
 /// An action that reads and writes one object.
 fn single(alloc: Global, object: u16) -> Result<Action, AllocError> {
-    let mut objects = List::new(alloc);
+    let mut objects = Reads::new(alloc);
     objects.push(ObjectId(object))?;
     Ok(Action {
         reads: objects,

@@ -5,7 +5,7 @@ use crate::{
 use std::alloc::Global;
 use std::test::Fail;
 use sv_wire::{Done1, Held, Request};
-use sv_world::{Action, ClientId, List, ObjectId, Point, Shape, Shared, Value};
+use sv_world::{Action, ClientId, List, ObjectId, Point, Reads, Shape, Shared, Value};
 
 #[test]
 fn values_and_objects_are_printed(rt: HostRuntime) -> Result<(), Fail> {
@@ -20,7 +20,7 @@ fn values_and_objects_are_printed(rt: HostRuntime) -> Result<(), Fail> {
 
 /// `reads OBJECT writes OBJECT { }`
 fn act(alloc: Global, object: u16) -> Result<Action, Fail> {
-    let mut reads = List::new(alloc);
+    let mut reads = Reads::new(alloc);
     reads.push(ObjectId(object))?;
     Ok(Action {
         reads,
@@ -46,7 +46,7 @@ fn submit(alloc: Global, seq: u32, object: u16) -> Result<Request, Fail> {
 }
 
 fn value(alloc: Global, number: i64) -> Result<Value, Fail> {
-    let mut value = List::new(alloc);
+    let mut value = Value::new(alloc);
     value.push(number)?;
     Ok(value)
 }

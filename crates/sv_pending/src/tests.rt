@@ -3,7 +3,7 @@ use std::alloc::{AllocError, Global};
 use std::test::Fail;
 use sv_versions::Versions;
 use sv_world::{
-    Action, Boxed, Expr, List, ObjectId, Point, Shape, Shared, Stmt, Value, check_action,
+    Action, Boxed, Expr, List, ObjectId, Point, Reads, Shape, Shared, Stmt, Value, check_action,
 };
 
 const FIRST: ObjectId = ObjectId(0);
@@ -11,7 +11,7 @@ const FIRST: ObjectId = ObjectId(0);
 const SECOND: ObjectId = ObjectId(1);
 
 fn value(alloc: Global, number: i64) -> Result<Value, AllocError> {
-    Ok(List::from_vec([number].to_vec(alloc)?))
+    Value::from_slice(alloc, &[number])
 }
 
 fn action(
@@ -21,7 +21,7 @@ fn action(
     body: List<Stmt>,
 ) -> Result<Action, AllocError> {
     Ok(Action {
-        reads: List::from_vec(Vec::from_slice(alloc, reads)?),
+        reads: Reads::from_slice(alloc, reads)?,
         mask,
         origin: Point { x: 0, y: 0 },
         body: Shared::from_list(body)?,

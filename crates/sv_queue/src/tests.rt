@@ -7,12 +7,12 @@ use std::alloc::{AllocError, Global};
 use std::marker::Brand;
 use std::sync::ledger::{Blank, Ledger};
 use std::test::Fail;
-use sv_world::{Action, ClientId, List, ObjectId, Point, Shape, Shared, Value, World};
+use sv_world::{Action, ClientId, List, ObjectId, Point, Reads, Shape, Shared, Value, World};
 
 fn value(alloc: Global, number: i64) -> Result<Value, AllocError>
     ensures { IfOk result (λ value. value ≡ number ∷ []) }
 {
-    let mut value = List::new(alloc);
+    let mut value = Value::new(alloc);
     value.push(number)?;
     Ok(value)
 }
@@ -37,7 +37,7 @@ fn writing(alloc: Global, shape: Shape, object: u16) -> Result<Action, AllocErro
     requires { object < shape.objects }
     ensures { IfOk result (IsGoodAction shape) }
 {
-    let mut reads = List::new(alloc);
+    let mut reads = Reads::new(alloc);
     reads.push(ObjectId(object))?;
     Ok(Action {
         reads,
@@ -52,7 +52,7 @@ fn writing_with_next(alloc: Global, shape: Shape, object: u16) -> Result<Action,
     requires { object + 1 < shape.objects }
     ensures { IfOk result (IsGoodAction shape) }
 {
-    let mut reads = List::new(alloc);
+    let mut reads = Reads::new(alloc);
     reads.push(ObjectId(object))?;
     reads.push(ObjectId(object + 1))?;
     Ok(Action {

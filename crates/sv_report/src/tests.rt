@@ -9,7 +9,9 @@ use std::test::Fail;
 use sv_client::{Client, Event};
 use sv_journal::{Entry, Logged};
 use sv_wire::{Held, Reply, Request};
-use sv_world::{Action, Boxed, ClientId, Expr, List, ObjectId, Point, Shape, Shared, Stmt, Value};
+use sv_world::{
+    Action, Boxed, ClientId, Expr, List, ObjectId, Point, Reads, Shape, Shared, Stmt, Value,
+};
 
 const SHAPE: Shape = Shape {
     objects: 2,
@@ -17,7 +19,7 @@ const SHAPE: Shape = Shape {
 };
 
 fn value(alloc: Global, numbers: &[i64]) -> Result<Value, Fail> {
-    Ok(List::from_vec(Vec::from_slice(alloc, numbers)?))
+    Ok(Value::from_slice(alloc, numbers)?)
 }
 
 #[test]
@@ -57,7 +59,7 @@ fn plus_one(alloc: Global) -> Result<Action, Fail> {
         attr: 0,
         expr: Expr::Add(present, one),
     })?;
-    let reads = List::from_vec(Vec::from_slice(alloc, &[ObjectId(0)])?);
+    let reads = Reads::from_slice(alloc, &[ObjectId(0)])?;
     Ok(Action {
         reads,
         mask: 1,

@@ -9,7 +9,7 @@ use crate::place::{at_place, refuse};
 use crate::{ReadFault, ScenarioCause};
 use serde_json::Value;
 use std::alloc::Global;
-use sv_world::List;
+use sv_world::Short;
 
 #[tactic(auto, unfolding(crate::specs::Numbers::whole_number))]
 fn whole_number(alloc: Global, value: &Value) -> Result<i128, ReadFault>
@@ -92,14 +92,14 @@ fn attributes(alloc: Global, values: &[Value]) -> Result<Vec<i64>, ReadFault>
 }
 
 #[tactic(auto, unfolding(crate::specs::Numbers::value_of))]
-fn value_of(alloc: Global, attrs: u32, value: &Value) -> Result<List<i64>, ReadFault>
+fn value_of(alloc: Global, attrs: u32, value: &Value) -> Result<Short<i64, 4>, ReadFault>
     ensures { Gives (λ v. v) result (value_of attrs (view value.now)) }
 {
     let numbers = list_within(alloc, attrs as usize, attrs as usize, value)?;
-    Ok(List::from_vec(attributes(alloc, numbers)?))
+    Ok(Short::from_vec(attributes(alloc, numbers)?))
 }
 
-fn each_value(alloc: Global, attrs: u32, values: &[Value]) -> Result<Vec<List<i64>>, ReadFault>
+fn each_value(alloc: Global, attrs: u32, values: &[Value]) -> Result<Vec<Short<i64, 4>>, ReadFault>
     ensures reads { Gives (λ v. v.items) result (each (value_of attrs) [] (items_view values.now)) }
     ensures count { IfOk result (λ v. vec_len v ≡ length values.now) }
 {
@@ -119,7 +119,7 @@ pub(crate) fn values_of(
     alloc: Global,
     attrs: u32,
     value: &Value,
-) -> Result<Vec<List<i64>>, ReadFault>
+) -> Result<Vec<Short<i64, 4>>, ReadFault>
     ensures reads { Gives (λ v. v.items) result (values_of attrs (view value.now)) }
     ensures count { IfOk result (λ v. vec_len v ≤ 4096) }
 {

@@ -21,7 +21,7 @@ use crate::turns::turns_of;
 use crate::{Plan, ReadFault, Scenario, ScenarioCause, Turn};
 use serde_json::Value;
 use std::alloc::Global;
-use sv_world::{List, Shape, World};
+use sv_world::{List, Shape, Short, World};
 
 /// A file has at most so many bytes.
 const LIMIT: usize = 4_194_304;
@@ -34,7 +34,7 @@ fn number_in(alloc: Global, key: &str, low: u32, high: u32, value: &Value) -> Re
     at_key(alloc, key, number_within(alloc, low, high, number))
 }
 
-fn values_in(alloc: Global, attrs: u32, value: &Value) -> Result<Vec<List<i64>>, ReadFault>
+fn values_in(alloc: Global, attrs: u32, value: &Value) -> Result<Vec<Short<i64, 4>>, ReadFault>
     ensures reads { Gives (λ v. v.items) result (value_at (codes "objects") (values_of attrs) (view value.now)) }
     ensures count { IfOk result (λ v. vec_len v ≤ 4096) }
 {

@@ -13,7 +13,7 @@ use crate::lexer::tokens;
 use crate::statement::block_at;
 use crate::token::{Lexeme, Mark};
 use std::alloc::Global;
-use sv_world::{Action, List, ObjectId, Shared, Stmt};
+use sv_world::{Action, List, ObjectId, Reads, Shared, Stmt};
 
 /// The deepest that a node may stand, counted from the outermost statements.
 const DEPTH: u8 = 8;
@@ -37,7 +37,7 @@ fn action_at(alloc: Global, tokens: &[Lexeme]) -> Result<Action, ParseFault>
     let (origin, rest) = origin_at(rest)?;
     let body = body_at(alloc, &reads, rest)?;
     Ok(Action {
-        reads: List::from_vec(reads),
+        reads: Reads::from_vec(reads),
         mask,
         origin,
         body,

@@ -3,12 +3,12 @@ ghost use Rattle.std.specs.Prelude.{◌≡◌, IfOk};
 use crate::{Undo, Versions};
 use std::alloc::{AllocError, Global};
 use std::test::Fail;
-use sv_world::{List, ObjectId, Shape, Value};
+use sv_world::{ObjectId, Shape, Value};
 
 const OBJECT: ObjectId = ObjectId(1);
 
 fn value(alloc: Global, number: i64) -> Result<Value, AllocError> {
-    Ok(List::from_vec([number].to_vec(alloc)?))
+    Value::from_slice(alloc, &[number])
 }
 
 fn number(value: Option<&Value>) -> Option<i64> {

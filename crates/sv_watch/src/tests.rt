@@ -4,12 +4,12 @@ ghost use Rattle.sv_watch.specs.Told.{change_line};
 use crate::{Change, Line, Watch, told_line};
 use std::alloc::{AllocError, Global};
 use std::test::Fail;
-use sv_world::{ClientId, List, ObjectId, Shape, Value};
+use sv_world::{ClientId, ObjectId, Shape, Value};
 
 fn value(alloc: Global, number: i64) -> Result<Value, AllocError>
     ensures { IfOk result (λ v. v ≡ number ∷ []) }
 {
-    Ok(List::from_vec([number].to_vec(alloc)?))
+    Value::from_slice(alloc, &[number])
 }
 
 fn is_shared<T: Sync>(_value: &T) -> bool {
@@ -64,7 +64,7 @@ fn tells_all_numbers(rt: HostRuntime) -> Result<(), Fail> {
         client: ClientId(31),
         object: ObjectId(4095),
         event: 1024,
-        old: Some(List::from_vec([-1, 0, 7].to_vec(alloc)?)),
+        old: Some(Value::from_slice(alloc, &[-1, 0, 7])?),
         new: None,
     };
     let line = told_line(alloc, &change)?;

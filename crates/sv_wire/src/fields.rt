@@ -8,7 +8,7 @@ use crate::fault::{ReadFault, WireCause, stop_at};
 use crate::message::{Done1, Held};
 use byteorder::{BigEndian, ByteOrder};
 use std::alloc::{AllocError, Global};
-use sv_world::{List, ObjectId, Value};
+use sv_world::{List, ObjectId, Reads, Value};
 
 /// The empty list, with room for the elements that its count announces.
 pub fn list_for<T>(alloc: Global, count: usize) -> Result<List<T>, AllocError>
@@ -102,14 +102,10 @@ fn object_of(least: u32, bytes: &[u8]) -> Result<(ObjectId, u32, &[u8]), ReadFau
     Ok((ObjectId(number), number_wide + 1, rest))
 }
 
-pub fn objects_of(
-    alloc: Global,
-    count: u8,
-    bytes: &[u8],
-) -> Result<(List<ObjectId>, &[u8]), ReadFault>
+pub fn objects_of(alloc: Global, count: u8, bytes: &[u8]) -> Result<(Reads, &[u8]), ReadFault>
     ensures { Gives (λ x. (x.0, x.1.now)) result (objects_at count bytes.now) }
 {
-    let mut objects = list_for(alloc, usize::from(count))?;
+    let mut objects = Reads::new(alloc);
     let mut least = 0;
     let mut rest = bytes;
     for _ in 0..count {
@@ -124,7 +120,7 @@ pub fn objects_of(
 fn numbers_of(alloc: Global, count: u8, bytes: &[u8]) -> Result<(Value, &[u8]), ReadFault>
     ensures { Gives (λ x. (x.0, x.1.now)) result (several (int_at w64) count bytes.now) }
 {
-    let mut numbers = list_for(alloc, usize::from(count))?;
+    let mut numbers = Value::new(alloc);
     let mut rest = bytes;
     for _ in 0..count {
         let (number, after) = i64_of(rest)?;

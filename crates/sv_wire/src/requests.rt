@@ -9,7 +9,7 @@ use crate::fields::{byte_of, count_of, objects_of, results_of, u16_of, u32_of};
 use crate::kinds::{RequestKind, request_kind};
 use crate::message::Request;
 use std::alloc::Global;
-use sv_world::ClientId;
+use sv_world::{ClientId, copy_objects};
 
 #[tactic(auto, unfolding(crate::specs::Messages::join_request_at))]
 fn join_of(alloc: Global, bytes: &[u8]) -> Result<(Request, &[u8]), ReadFault>
@@ -18,7 +18,8 @@ fn join_of(alloc: Global, bytes: &[u8]) -> Result<(Request, &[u8]), ReadFault>
     let (client, rest) = u16_of(bytes)?;
     let (life, rest) = u32_of(rest)?;
     let (count, rest) = count_of(0, 64, rest)?;
-    let (interest, rest) = objects_of(alloc, count, rest)?;
+    let (objects, rest) = objects_of(alloc, count, rest)?;
+    let interest = copy_objects(alloc, objects.as_slice())?;
     Ok((
         Request::Join {
             client: ClientId(client),

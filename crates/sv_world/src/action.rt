@@ -1,4 +1,4 @@
-use crate::{Boxed, List, ObjectId, Shared};
+use crate::{Boxed, List, Reads, Shared};
 
 /// A number computed from the values that an action reads.
 #[derive(Debug, Drop)]
@@ -52,10 +52,10 @@ pub struct Point {
 ///
 /// `reads` are 1 to 16 objects, ascending; a slot is a place in it. Bit `k` of `mask`, of weight `2^k`, says that the object in slot
 /// `k` may be written. Statements run in order, and each sees what the earlier ones set. The body is shared, so that a copy of an action
-/// takes memory for its reads alone.
+/// takes memory only for more than eight reads.
 #[derive(Debug, Drop)]
 pub struct Action {
-    pub reads: List<ObjectId>,
+    pub reads: Reads,
     pub mask: u16,
     pub origin: Point,
     pub body: Shared<Stmt>,

@@ -1,13 +1,13 @@
 ghost use Rattle.std.specs.Prelude.{◌≡◌, IfOk};
 
-use crate::{Action, List, ObjectId, Value};
+use crate::{Action, List, ObjectId, Reads, Value};
 use std::alloc::{AllocError, Global};
 
 /// An equal copy.
 pub fn copy_value(alloc: Global, value: &Value) -> Result<Value, AllocError>
     ensures { IfOk result (λ copy. copy ≡ value.now) }
 {
-    Ok(List::from_vec(Vec::from_slice(alloc, value.as_slice())?))
+    Value::from_slice(alloc, value.as_slice())
 }
 
 /// An equal copy.
@@ -32,7 +32,7 @@ pub fn copy_values(alloc: Global, values: &[Value]) -> Result<List<Value>, Alloc
 pub fn copy_action(alloc: Global, action: &Action) -> Result<Action, AllocError>
     ensures { IfOk result (λ copy. copy ≡ action.now) }
 {
-    let reads = copy_objects(alloc, action.reads.as_slice())?;
+    let reads = Reads::from_slice(alloc, action.reads.as_slice())?;
     let body = action.body.share()?;
     Ok(Action {
         reads,

@@ -10,6 +10,7 @@ mod list;
 mod measure;
 mod names;
 mod shared;
+mod short;
 #[cfg(test)]
 mod tests;
 mod text;
@@ -27,5 +28,6 @@ pub use laws::{
 pub use list::List;
 pub use names::is_in_mask;
 pub use shared::Shared;
+pub use short::Short;
 pub use text::Text;
-pub use world::{ClientId, ObjectId, Shape, Value, World};
+pub use world::{ClientId, ObjectId, Reads, Shape, Value, World};

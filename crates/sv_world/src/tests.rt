@@ -1,7 +1,7 @@
 use crate::{
-    Action, Boxed, ClientId, Cond, Expr, List, ObjectId, Point, Shape, Shared, Stmt, Text, World,
-    check_action, copy_action, copy_objects, copy_value, copy_values, good_actions_have_no_fault,
-    is_ascending, is_in_mask,
+    Action, Boxed, ClientId, Cond, Expr, List, ObjectId, Point, Reads, Shape, Shared, Stmt, Text,
+    Value, World, check_action, copy_action, copy_objects, copy_value, copy_values,
+    good_actions_have_no_fault, is_ascending, is_in_mask,
 };
 use std::alloc::{AllocError, Global};
 use std::test::Fail;
@@ -20,7 +20,7 @@ fn ids(alloc: Global, numbers: &[u16]) -> Result<List<ObjectId>, AllocError> {
 }
 
 fn action(alloc: Global, reads: &[u16], mask: u16, body: List<Stmt>) -> Result<Action, AllocError> {
-    let reads = ids(alloc, reads)?;
+    let reads = Reads::from_slice(alloc, ids(alloc, reads)?.as_slice())?;
     let origin = Point { x: 0, y: 0 };
     Ok(Action {
         reads,
@@ -145,7 +145,7 @@ fn cause_of_copy(alloc: Global) -> Result<u8, AllocError> {
 fn copies(rt: HostRuntime) -> Result<(), Fail> {
     let alloc = rt.alloc();
     assert_eq!(rt; cause_of_copy(alloc)?, 4);
-    let value = List::from_vec(vec![in alloc; 4, -3]?);
+    let value = Value::from_slice(alloc, &[4, -3])?;
     assert_eq!(rt; copy_value(alloc, &value)?.as_slice(), [4, -3].as_slice());
     let objects = ids(alloc, &[4, 5])?;
     assert_eq!(rt;
@@ -159,7 +159,7 @@ fn copies(rt: HostRuntime) -> Result<(), Fail> {
 fn makes_worlds(rt: HostRuntime) -> Result<(), Fail> {
     let alloc = rt.alloc();
     let mut values = List::new(alloc);
-    values.push(List::from_vec(vec![in alloc; 1]?))?;
+    values.push(Value::from_slice(alloc, &[1])?)?;
     let world = World {
         shape: ONE,
         values: copy_values(alloc, values.as_slice())?,

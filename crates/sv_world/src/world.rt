@@ -1,7 +1,7 @@
-use crate::List;
+use crate::{List, Short};
 
 /// An object's number, from 0 up.
-#[derive(Clone, Copy, Debug, Drop, PartialEq, Eq, PartialOrd, Ord)]
+#[derive(Clone, Copy, Debug, Default, Drop, PartialEq, Eq, PartialOrd, Ord)]
 pub struct ObjectId(pub u16);
 
 /// A client's number, from 0 up.
@@ -9,7 +9,10 @@ pub struct ObjectId(pub u16);
 pub struct ClientId(pub u16);
 
 /// The numbers of one object, one for each attribute.
-pub type Value = List<i64>;
+pub type Value = Short<i64, 4>;
+
+/// The objects that an action reads. Few read more than eight.
+pub type Reads = Short<ObjectId, 8>;
 
 /// How many objects a world has, 1 to 4,096, and how many attributes each of them, 1 to 4.
 #[derive(Clone, Copy, Debug, Drop, PartialEq, Eq)]

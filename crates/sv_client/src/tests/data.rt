@@ -2,7 +2,7 @@
 use std::alloc::Global;
 use std::test::Fail;
 use sv_wire::{Held, Item, Reply};
-use sv_world::{Action, Boxed, ClientId, Expr, List, ObjectId, Point, Shared, Stmt, Value};
+use sv_world::{Action, Boxed, ClientId, Expr, List, ObjectId, Point, Reads, Shared, Stmt, Value};
 
 /// What an action sets its first object to, in a world of one number for each object.
 #[derive(Clone, Copy)]
@@ -75,12 +75,14 @@ pub fn objects_of(alloc: Global, numbers: &[u16]) -> Result<List<ObjectId>, Fail
     Ok(objects)
 }
 
-fn reads_of(alloc: Global, deed: Deed) -> Result<List<ObjectId>, Fail> {
+fn reads_of(alloc: Global, deed: Deed) -> Result<Reads, Fail> {
     match deed {
         Deed::Plus(object, _) | Deed::Minus(object, _) | Deed::Times(object, _) => {
-            objects_of(alloc, &[object])
+            Ok(Reads::from_slice(alloc, &[ObjectId(object)])?)
         }
-        Deed::PlusOther(object, other) => objects_of(alloc, &[object, other]),
+        Deed::PlusOther(object, other) => {
+            Ok(Reads::from_slice(alloc, &[ObjectId(object), ObjectId(other)])?)
+        }
     }
 }
 
@@ -96,7 +98,7 @@ pub fn action_of(alloc: Global, deed: Deed) -> Result<Action, Fail> {
 }
 
 fn value_of(alloc: Global, number: i64) -> Result<Value, Fail> {
-    let mut value = List::new(alloc);
+    let mut value = Value::new(alloc);
     value.push(number)?;
     Ok(value)
 }

@@ -12,7 +12,7 @@ use std::alloc::{AllocError, Global};
 use std::test::Fail;
 use sv_journal::{Entry, Journal};
 use sv_wire::{Done1, Request};
-use sv_world::{Action, ClientId, List, ObjectId, Point, Shape, Shared, Value};
+use sv_world::{Action, ClientId, List, ObjectId, Point, Reads, Shape, Shared, Value};
 
 const JOURNALS: u64 = 200;
 
@@ -84,7 +84,7 @@ fn some_objects(alloc: Global, dice: &mut Dice) -> Result<List<ObjectId>, AllocE
 
 /// An action without a body. Some are refused.
 fn some_action(alloc: Global, dice: &mut Dice) -> Result<Action, AllocError> {
-    let reads = some_objects(alloc, dice)?;
+    let reads = Reads::from_slice(alloc, some_objects(alloc, dice)?.as_slice())?;
     let limit = if dice.is_rare(12) {
         32
     } else {
@@ -133,7 +133,7 @@ fn some_submit(
 
 /// A value, mostly of one number.
 fn some_value(alloc: Global, dice: &mut Dice) -> Result<Value, AllocError> {
-    let mut value = List::new(alloc);
+    let mut value = Value::new(alloc);
     value.push(i64::from(dice.below(100)))?;
     if dice.is_rare(50) {
         value.push(0)?;

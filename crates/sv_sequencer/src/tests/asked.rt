@@ -23,7 +23,7 @@ pub enum Ask<'a> {
 fn value_of(alloc: Global, number: i64) -> Result<Value, Fail>
     ensures { IfOk result (λ value. value ≡ number ∷ []) }
 {
-    let mut value = List::new(alloc);
+    let mut value = Value::new(alloc);
     value.push(number)?;
     Ok(value)
 }
