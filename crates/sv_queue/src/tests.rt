@@ -7,7 +7,7 @@ use std::alloc::{AllocError, Global};
 use std::marker::Brand;
 use std::sync::ledger::{Blank, Ledger};
 use std::test::Fail;
-use sv_world::{Action, ClientId, List, ObjectId, Point, Reads, Shape, Shared, Value, World};
+use sv_world::{Action, ClientId, List, ObjectId, Point, Reads, Shape, Shared, Stmt, Value, World};
 
 fn value(alloc: Global, number: i64) -> Result<Value, AllocError>
     ensures { IfOk result (λ value. value ≡ number ∷ []) }
@@ -32,18 +32,41 @@ fn world(alloc: Global) -> Result<World, AllocError>
     Ok(World { shape, values })
 }
 
+fn reads_of_one(alloc: Global, object: u16) -> Result<Reads, AllocError>
+    ensures { IfOk result (λ reads. reads ≡ record { 0 = object } ∷ []) }
+{
+    let mut reads = Reads::new(alloc);
+    reads.push(ObjectId(object))?;
+    Ok(reads)
+}
+
+fn reads_of_two(alloc: Global, object: u16) -> Result<Reads, AllocError>
+    requires { object + 1 < 65536 }
+    ensures { IfOk result (λ reads. reads ≡ record { 0 = object } ∷ record { 0 = object + 1 } ∷ []) }
+{
+    let mut reads = reads_of_one(alloc, object)?;
+    reads.push(ObjectId(object + 1))?;
+    Ok(reads)
+}
+
+fn no_body(alloc: Global) -> Result<Shared<Stmt>, AllocError>
+    ensures { IfOk result (λ body. body ≡ []) }
+{
+    Shared::from_list(List::new(alloc))
+}
+
 /// An action without a body that reads and writes one object.
 fn writing(alloc: Global, shape: Shape, object: u16) -> Result<Action, AllocError>
     requires { object < shape.objects }
     ensures { IfOk result (IsGoodAction shape) }
 {
-    let mut reads = Reads::new(alloc);
-    reads.push(ObjectId(object))?;
+    let reads = reads_of_one(alloc, object)?;
+    let body = no_body(alloc)?;
     Ok(Action {
         reads,
         mask: 1,
         origin: Point { x: 0, y: 0 },
-        body: Shared::from_list(List::new(alloc))?,
+        body,
     })
 }
 
@@ -52,14 +75,13 @@ fn writing_with_next(alloc: Global, shape: Shape, object: u16) -> Result<Action,
     requires { object + 1 < shape.objects }
     ensures { IfOk result (IsGoodAction shape) }
 {
-    let mut reads = Reads::new(alloc);
-    reads.push(ObjectId(object))?;
-    reads.push(ObjectId(object + 1))?;
+    let reads = reads_of_two(alloc, object)?;
+    let body = no_body(alloc)?;
     Ok(Action {
         reads,
         mask: 1,
         origin: Point { x: 0, y: 0 },
-        body: Shared::from_list(List::new(alloc))?,
+        body,
     })
 }
 

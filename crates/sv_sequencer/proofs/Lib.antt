@@ -20,3 +20,4 @@ pub mod Kept
 pub mod Quiet
 pub mod Opening
 pub mod Stepped
+pub mod Rows

@@ -1,4 +1,4 @@
-ghost use Rattle.std.specs.Prelude.{◌≡◌, ℕ, ◌<◌, ◌&&◌, None, length, slice_index_or, replicate, IfOk, if◌then◌else◌};
+ghost use Rattle.std.specs.Prelude.{◌≡◌, ℕ, ◌<◌, ◌&&◌, false, None, length, slice_index_or, replicate, IfOk, if◌then◌else◌};
 ghost use Rattle.sv_journal.specs.declared.entry.Entry.{Entry};
 ghost use Rattle.sv_journal.specs.History.{either, is_welcome, joining};
 ghost use Rattle.sv_journal.specs.Sessions.{is_last, welcomes, is_end};
@@ -36,14 +36,38 @@ pub fn no_sessions(alloc: Global, sessions: u16) -> Result<Vec<SessionRow>, Allo
     Ok(rows)
 }
 
-/// Notes an entry of the journal in the rows of all sessions.
+/// Notes an entry of the journal in the rows of the sessions. Only a Join that is welcomed changes another row than its session's.
 pub fn note(rows: &mut Vec<SessionRow>, entry: &Entry)
+    requires { length rows.old.items < 65536 }
+    ensures count { length rows.new.items ≡ length rows.old.items }
+    ensures rows { (s : ℕ) → s < length rows.old.items → slice_index_or rows.new.items s no_session ≡ session_after entry.now s (slice_index_or rows.old.items s no_session) }
+{
+    if is_welcome(&entry.reply) {
+        note_in_all(rows, entry);
+    } else {
+        note_in_own(rows, entry);
+    }
+}
+
+fn note_in_all(rows: &mut Vec<SessionRow>, entry: &Entry)
     requires { length rows.old.items < 65536 }
     ensures count { length rows.new.items ≡ length rows.old.items }
     ensures rows { (s : ℕ) → s < length rows.old.items → slice_index_or rows.new.items s no_session ≡ session_after entry.now s (slice_index_or rows.old.items s no_session) }
 {
     for session in 0..rows.len() {
         rows[session] = session_after(entry, session as u16, &rows[session]);
+    }
+}
+
+#[tactic(auto, using(crate::proofs::Rows::other_row_stays))]
+fn note_in_own(rows: &mut Vec<SessionRow>, entry: &Entry)
+    requires { is_welcome entry.now.reply ≡ false }
+    ensures count { length rows.new.items ≡ length rows.old.items }
+    ensures rows { (s : ℕ) → s < length rows.old.items → slice_index_or rows.new.items s no_session ≡ session_after entry.now s (slice_index_or rows.old.items s no_session) }
+{
+    let session = entry.session as usize;
+    if session < rows.len() {
+        rows[session] = session_after(entry, entry.session, &rows[session]);
     }
 }
 

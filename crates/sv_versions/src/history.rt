@@ -1,4 +1,4 @@
-ghost use Rattle.std.specs.Prelude.{◌≡◌, ℕ, [], ◌++◌, ◌∷◌, ◌+◌, ◌-◌, ◌≤◌, length, option_copied, IfOk, OnOk, OnErr};
+ghost use Rattle.std.specs.Prelude.{◌≡◌, ℕ, [], ◌++◌, ◌∷◌, ◌+◌, ◌-◌, ◌<◌, ◌≤◌, set, remove, length, option_copied, IfOk, OnOk, OnErr};
 ghost use Rattle.sv_versions.specs.Held.{read_below, latest, put_in, pruned, count_up_to};
 
 use crate::count::{count_versions, ends_at};
@@ -107,10 +107,8 @@ impl History {
             return;
         }
         match was {
-            Some(value) => self.versions[count - 1] = Version { pos, value },
-            None => {
-                let _ = self.versions.remove(count - 1);
-            }
+            Some(value) => put_at(&mut self.versions, count - 1, Version { pos, value }),
+            None => remove_at(&mut self.versions, count - 1),
         }
     }
 
@@ -139,4 +137,18 @@ impl History {
         }
         Ok(History { versions })
     }
+}
+
+fn put_at(versions: &mut Vec<Version>, at: usize, version: Version)
+    requires { at < length versions.old.items }
+    ensures { versions.new.items ≡ set versions.old.items at version }
+{
+    versions[at] = version;
+}
+
+fn remove_at(versions: &mut Vec<Version>, at: usize)
+    requires { at < length versions.old.items }
+    ensures { versions.new.items ≡ remove versions.old.items at }
+{
+    let _ = versions.remove(at);
 }

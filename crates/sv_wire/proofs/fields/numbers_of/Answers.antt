@@ -9,7 +9,7 @@ use Rattle.sv_wire.proofs.fields.numbers_of.Goals as goal
 
 pub returns-in_err-number : goal.returns-in_err-number
 returns-in_err-number c =
-    let p = err_from_is_err_and c.from_residual-in_err-number.result c.from_residual-in_err-number.ensures.1 in
+    let p = err_from_is_err_and c.from_residual.result c.from_residual.ensures.1 in
     rw (p.1, p.2) (ends (int_at w64) c.in_err-number.field-0.0 c.loop.numbers c.args.count c.loop.counter c.loop.rest.now (several (int_at w64) c.args.count c.args.bytes.now) c.loop-test.true c.in_err-number.ensures.gives c.loop.invariant)
 
 pub loop-preserved : goal.loop-preserved

@@ -8,7 +8,7 @@ use Rattle.sv_wire.proofs.fields.objects_of.Goals as goal
 pub returns-in_err-object : goal.returns-in_err-object
 unfolding objects_at
 returns-in_err-object c =
-    let p = err_from_is_err_and c.from_residual-in_err-object.result c.from_residual-in_err-object.ensures.1 in
+    let p = err_from_is_err_and c.from_residual.result c.from_residual.ensures.1 in
     rw (p.1, p.2) (fails_first c.in_err-object.field-0.0 (in_turn object_at c.args.count 0 c.args.bytes.now) (λ x. Ok (x.0, x.2)) (turn_ends object_at c.in_err-object.field-0.0 c.loop.objects c.args.count c.loop.counter c.loop.least c.loop.rest.now (in_turn object_at c.args.count 0 c.args.bytes.now) c.loop-test.true c.in_err-object.ensures c.loop.invariant))
 
 pub loop-preserved : goal.loop-preserved

@@ -15,25 +15,25 @@ pub invariant_of-self : goal.invariant_of-self
 invariant_of-self c =
     let count = rw c.deref.ensures.value at c.count_versions-count.ensures in
     let there = rw c.deref-2.ensures.value at c.if-not-ends_at.ensures in
-    ascends_there _ _ _ c.self.invariant count there
+    subst (λ (vs : List Version). AscendsFrom 0 vs) (sym c.put_at.ensures) (ascends_there _ _ _ c.self.invariant count there)
 
 pub invariant_of-self-in-None : goal.invariant_of-self-in-None
 invariant_of-self-in-None c =
     let count = rw c.deref.ensures.value at c.count_versions-count.ensures in
     let there = rw c.deref-2.ensures.value at c.if-not-ends_at.ensures in
     let d : Version = record { pos = 0; value = [] } in
-    subst (λ (vs : List Version). AscendsFrom 0 vs) (sym (c.remove.ensures.items ∙ back_removed c.args.pos _ _ d c.self.invariant count there))
+    subst (λ (vs : List Version). AscendsFrom 0 vs) (sym (c.remove_at.ensures ∙ back_removed c.args.pos _ _ d c.self.invariant count there))
     (restored_ascends c.args.pos None 0 c.self.inside.versions.items c.self.invariant)
 
 pub returns-in-Some-clause-kept : goal.returns-in-Some-clause-kept
 returns-in-Some-clause-kept c =
     let count = rw c.deref.ensures.value at c.count_versions-count.ensures in
     let there = rw c.deref-2.ensures.value at c.if-not-ends_at.ensures in
-    rw (← c.self.view_is, c.in-Some.is) (back_replaced _ _ _ c.self.invariant count there)
+    rw (← c.self.view_is, c.in-Some.is) (c.put_at.ensures ∙ back_replaced _ _ _ c.self.invariant count there)
 
 pub returns-in-None-clause-kept : goal.returns-in-None-clause-kept
 returns-in-None-clause-kept c =
     let count = rw c.deref.ensures.value at c.count_versions-count.ensures in
     let there = rw c.deref-2.ensures.value at c.if-not-ends_at.ensures in
     let d : Version = record { pos = 0; value = [] } in
-    rw (← c.self.view_is, c.in-None.is) (c.remove.ensures.items ∙ back_removed c.args.pos _ _ d c.self.invariant count there)
+    rw (← c.self.view_is, c.in-None.is) (c.remove_at.ensures ∙ back_removed c.args.pos _ _ d c.self.invariant count there)

@@ -1,6 +1,6 @@
 use Rattle.std.proofs.Common.{◌≡◌, ℕ, ◌<◌, ◌≤◌, length, get_or}
 use Rattle.sv_sequencer.specs.Rows.{no_session, session_after}
-use Rattle.sv_sequencer.proofs.sessions.note.Given as goal
+use Rattle.sv_sequencer.proofs.sessions.note_in_all.Given as goal
 
 abbrev pub invariant-loop-session : goal.invariant-loop-session
 invariant-loop-session l = record {
