@@ -1,7 +1,7 @@
 -- A text of an action is read as that action.
-use Rattle.std.proofs.Common.{◌≡◌, ℕ, ◌+◌, ◌<◌, ◌≤◌, ◌^◌, inl, inr, Bool, true, false, cond, eqb, ltb, List, [], ◌∷◌, ◌++◌, length, Some, Result, Ok, Err, refl, sym, ap, subst, ◌∙◌, append_assoc, arith, bit_or}
+use Rattle.std.proofs.Common.{◌≡◌, ℕ, ◌+◌, ◌<◌, ◌≤◌, ◌^◌, inl, inr, Bool, true, false, cond, ltb, List, [], ◌∷◌, ◌++◌, length, Some, Result, Ok, Err, refl, sym, ap, subst, ◌∙◌, append_assoc, arith, bit_or}
 use Rattle.std.specs.Prelude.{ℤ, pos, negsuc, int_le}
-use Rattle.std.proofs.lemmas.Bool.{lt-ltb, le-ltb, le-leb, ne_eqb, and_from, and_right}
+use Rattle.std.proofs.lemmas.Bool.{lt-ltb, le-ltb, le-leb, and_from, and_right}
 use Rattle.std.proofs.lemmas.List.{append-nil, length-append}
 use Rattle.sv_world.specs.declared.world.ObjectId.{ObjectId}
 use Rattle.sv_world.specs.declared.action.Point.{Point}
@@ -35,15 +35,10 @@ number_again low high z (t ∷ ts) rest h l k =
     ∙ ap (λ (b : Bool). cond b (cond t.glued late (Ok z)) out) (and_from (int_le low z) (int_le z high) l k)
     ∙ ap (λ (g : Bool). cond g late (Ok z)) h.1
 
-some_there : (z : ℤ) (ts rest : List Lexeme) → IsNumber z ts rest → (eqb (length ts) 0 ≡ false) × (is_number_at ts ≡ true)
+number_there : (z : ℤ) (ts rest : List Lexeme) → IsNumber z ts rest → is_number_at ts ≡ true
 unfolding is_number_at
-some_there z [] rest h = absurd h
-some_there z (t ∷ ts) rest h = (ne_eqb (length (t ∷ ts)) 0 (λ e. absurd (omega arith)), ap is_number h.0)
-
-mark_there : (m : Mark) (ts : List Lexeme) → front ts ≡ Some m → eqb (length ts) 0 ≡ false
-unfolding front
-mark_there m [] h = absurd cc
-mark_there m (t ∷ ts) h = ne_eqb (length (t ∷ ts)) 0 (λ e. absurd (omega arith))
+number_there z [] rest h = absurd h
+number_there z (t ∷ ts) rest h = ap is_number h.0
 
 no_number_by : (m : Mark) (glued : Bool) (token : Token) → front_of glued (mark_of token) ≡ Some m → is_number token ≡ false
 no_number_by m glued (tokens.Number z) h = absurd cc
@@ -81,19 +76,18 @@ reads_again before [] least ts end rest h w up few some =
     let full : before ++ [] ≡ before = append-nil before in
     let next : rest_of ts ≡ rest = ap rest_of h ∙ w.1 in
     reads_from_is before least ts
-    ∙ rw (mark_there marks.Writes ts here) (ap (λ (b : Bool). cond b (ok (before, rest_of ts)) (read_at (length before) least ts >>= λ o. reads_from (before ++ as_object o ∷ []) (o + 1) (rest_of ts)))
-    (and_from (ltb 0 (length before)) (is_at marks.Writes ts) (lt-ltb 0 (length before) len) (at_mark marks.Writes ts here)))
+    ∙ ap (λ (b : Bool). cond b (ok (before, rest_of ts)) (read_at (length before) least ts >>= λ o. reads_from (before ++ as_object o ∷ []) (o + 1) (rest_of ts)))
+    (and_from (ltb 0 (length before)) (is_at marks.Writes ts) (lt-ltb 0 (length before) len) (at_mark marks.Writes ts here))
     ∙ ap (λ (l : List Lexeme). ok (before, l)) next ∙ ap (λ (l : List ObjectId). ok (l, rest)) (sym full)
 reads_again before (o ∷ os) least ts end rest h w up few some =
     let f = front_number (pos o.0) ts h.0 h.1.1 in
-    let there = some_there (pos o.0) ts h.0 h.1.1 in
     let room : length before < 16 = omega (arith, length-append before (o ∷ os)) in
     let step : List ObjectId → Result (List ObjectId × List Lexeme) TextFault = λ l. reads_from l (o.0 + 1) (rest_of ts) in
     let regroup : (before ++ o ∷ []) ++ os ≡ before ++ o ∷ os = append_assoc before (o ∷ []) os in
     let more = reads_again (before ++ o ∷ []) os (o.0 + 1) h.0 end rest h.2 w up.1 (subst (λ (l : List ObjectId). length l ≤ 16) (sym regroup) few) (subst (λ (l : List ObjectId). 0 < length l) (sym regroup) some) in
     reads_from_is before least ts
-    ∙ rw there.0 (ap (λ (b : Bool). cond b (ok (before, rest_of ts)) (read_at (length before) least ts >>= λ o. reads_from (before ++ as_object o ∷ []) (o + 1) (rest_of ts)))
-    (and_right (ltb 0 (length before)) (is_at marks.Writes ts) (not_at_none marks.Writes ts f.0)))
+    ∙ ap (λ (b : Bool). cond b (ok (before, rest_of ts)) (read_at (length before) least ts >>= λ o. reads_from (before ++ as_object o ∷ []) (o + 1) (rest_of ts)))
+    (and_right (ltb 0 (length before)) (is_at marks.Writes ts) (not_at_none marks.Writes ts f.0))
     ∙ then_ok (read_at (length before) least ts) (λ o. reads_from (before ++ as_object o ∷ []) (o + 1) (rest_of ts)) o.0 (ok (before ++ o ∷ os, rest)) (read_again (length before) least o ts h.0 h.1 up.0 room)
     (ap (λ (l : List Lexeme). reads_from (before ++ o ∷ []) (o.0 + 1) l) f.1 ∙ more ∙ ap (λ (l : List ObjectId). ok (l, rest)) regroup)
 
@@ -121,9 +115,8 @@ writes_again reads mask least [] ts rest all h up bits last =
     ∙ ap (λ (l : List Lexeme). ok (mask, l)) h ∙ ap (λ (m : ℕ). ok (m, rest)) bits
 writes_again reads mask least (o ∷ os) ts rest all h up bits last =
     let f = front_number (pos o.0) ts h.0 h.1.1 in
-    let there = some_there (pos o.0) ts h.0 h.1.1 in
     writes_from_is reads mask least ts
-    ∙ ap (λ (b : Bool). cond b (write_at reads least ts >>= λ w. writes_from reads (bit_or mask (2 ^ w.1)) (w.0 + 1) (rest_of ts)) (ok (mask, ts))) there.1
+    ∙ ap (λ (b : Bool). cond b (write_at reads least ts >>= λ w. writes_from reads (bit_or mask (2 ^ w.1)) (w.0 + 1) (rest_of ts)) (ok (mask, ts))) (number_there (pos o.0) ts h.0 h.1.1)
     ∙ then_ok (write_at reads least ts) (λ w. writes_from reads (bit_or mask (2 ^ w.1)) (w.0 + 1) (rest_of ts)) (o.0, bits.0) (ok (all, rest)) (write_again reads least bits.0 o ts h.0 h.1 up.0 bits.1)
     (ap (writes_from reads (bit_or mask (2 ^ bits.0)) (o.0 + 1)) f.1 ∙ writes_again reads (bit_or mask (2 ^ bits.0)) (o.0 + 1) os h.0 rest all h.2 up.1 bits.2 last)
 

@@ -1,5 +1,5 @@
--- How long tokens are, and one turn of the loop over the bytes.
-use Rattle.std.proofs.Common.{◌≡◌, ℕ, zero, suc, ◌+◌, ◌-◌, ◌<◌, ◌≤◌, Bool, true, false, ◌&&◌, List, [], ◌∷◌, length, drop, get_or, eqb, refl, sym, ap, subst, ◌∙◌, inl, inr, arith, drop-drop, append_assoc, ◌++◌}
+-- How long tokens are, and what stands ahead of the bytes.
+use Rattle.std.proofs.Common.{◌≡◌, ℕ, zero, suc, ◌+◌, ◌-◌, ◌<◌, ◌≤◌, Bool, true, false, ◌&&◌, List, [], ◌∷◌, length, drop, get_or, eqb, refl, sym, ap, subst, ◌∙◌, inl, inr, arith, drop-drop}
 use Rattle.std.specs.List.{prefix_len}
 use Rattle.std.specs.Char.{is_ascii_digit, is_ascii_lowercase}
 use Rattle.std.proofs.lemmas.Bool.{cases_lt, cond_both, and_parts, eqb-true}
@@ -13,7 +13,9 @@ use Rattle.sv_text.specs.declared.token.Mark.TheVariants as marks
 use Rattle.sv_text.specs.declared.token.Token.{Token}
 use Rattle.sv_text.specs.declared.token.Token.TheVariants as tokens
 use Rattle.sv_text.specs.declared.token.Lexeme.{Lexeme}
-use Rattle.sv_text.specs.Tokens.{is_blank, digits_at, sign_at, ref_of, ref_at, word_at, number_at, negative_at, token_at, is_joint, tokens_from, tokens_of}
+use Rattle.sv_text.specs.declared.token.Left.TheVariants as lefts
+use Rattle.sv_text.specs.Tokens.{is_blank, digits_at, sign_at, ref_of, ref_at, word_at, number_at, negative_at, token_at, is_joint, tokens_from}
+use Rattle.sv_text.specs.Ahead.{held}
 
 abbrev HasLength : List ℕ → Token × ℕ → Type 0
 HasLength bs t = (0 < t.1) × (t.1 ≤ length bs)
@@ -106,10 +108,11 @@ token_front place glued b bs h =
     let rest : drop (t.1 - 1) bs ≡ drop t.1 (b ∷ bs) = ap (λ (n : ℕ). drop n (b ∷ bs)) (sym len) in
     rw h (ap (λ (ts : List Lexeme). first place glued (b ∷ bs) ∷ ts) (one ∙ ap (λ (p : ℕ). tokens_from 0 p (is_joint t.0) (drop (t.1 - 1) bs)) here ∙ ap (λ (r : List ℕ). tokens_from 0 (place + t.1) (is_joint t.0) r) rest))
 
-pub blank_step : (bs : List ℕ) (at d : ℕ) (glued : Bool) → at < length bs → is_blank (get_or bs at d) ≡ true → tokens_from 0 at glued (drop at bs) ≡ tokens_from 0 (at + 1) false (drop (at + 1) bs)
-blank_step bs at d glued lt h =
+pub blank_step : (bs : List ℕ) (at : ℕ) (glued : Bool) → is_blank (get_or bs at 0) ≡ true → (at < length bs) × (tokens_from 0 at glued (drop at bs) ≡ tokens_from 0 (at + 1) false (drop (at + 1) bs))
+blank_step bs at glued h =
+    let lt : at < length bs = stands bs at (λ e. let no : false ≡ true = subst (λ (x : ℕ). is_blank x ≡ true) e h in absurd cc) in
     let one : at + 1 ≡ suc at = omega arith in
-    rw (drop-cons bs at d lt, one) (blank_front at glued (get_or bs at d) (drop (suc at) bs) h ∙ ap (λ (x : ℕ). tokens_from 0 x false (drop (suc at) bs)) one)
+    (lt, rw (drop-cons bs at 0 lt, one) (blank_front at glued (get_or bs at 0) (drop (suc at) bs) h ∙ ap (λ (x : ℕ). tokens_from 0 x false (drop (suc at) bs)) one))
 
 pub token_step : (bs : List ℕ) (at d : ℕ) (glued : Bool) → at < length bs → is_blank (get_or bs at d) ≡ false → tokens_from 0 at glued (drop at bs) ≡ first at glued (drop at bs) ∷ tokens_from 0 (at + (token_at (drop at bs)).1) (is_joint (token_at (drop at bs)).0) (drop (at + (token_at (drop at bs)).1) bs)
 token_step bs at d glued lt h =
@@ -120,19 +123,19 @@ token_step bs at d glued lt h =
     subst (λ (l : List ℕ). tokens_from 0 at glued l ≡ first at glued l ∷ tokens_from 0 (at + (token_at l).1) (is_joint (token_at l).0) (drop (token_at l).1 l)) (sym parts) front in
     made ∙ ap (λ (l : List ℕ). first at glued (drop at bs) ∷ tokens_from 0 (at + t.1) (is_joint t.0) l) (drop-drop t.1 at bs)
 
-pub blank_turn : (items total : List Lexeme) (bs : List ℕ) (at d : ℕ) (glued : Bool) → at < length bs → is_blank (get_or bs at d) ≡ true → items ++ tokens_from 0 at glued (drop at bs) ≡ total → items ++ tokens_from 0 (at + 1) false (drop (at + 1) bs) ≡ total
-blank_turn items total bs at d glued lt h told = ap (λ (ts : List Lexeme). items ++ ts) (sym (blank_step bs at d glued lt h)) ∙ told
-
-pub token_turn : (items total : List Lexeme) (bs : List ℕ) (at d : ℕ) (glued : Bool) (t : Token × ℕ) → at < length bs → is_blank (get_or bs at d) ≡ false → t ≡ token_at (drop at bs)
-    → items ++ tokens_from 0 at glued (drop at bs) ≡ total → (items ++ (record { place = at; glued = glued; token = t.0 }) ∷ []) ++ tokens_from 0 (at + t.1) (is_joint t.0) (drop (at + t.1) bs) ≡ total
-token_turn items total bs at d glued t lt h is told =
-    let P : Token × ℕ → Type 0 = λ u. (items ++ (record { place = at; glued = glued; token = u.0 }) ∷ []) ++ tokens_from 0 (at + u.1) (is_joint u.0) (drop (at + u.1) bs) ≡ total in
-    subst P (sym is) (append_assoc items (first at glued (drop at bs) ∷ []) (tokens_from 0 (at + (token_at (drop at bs)).1) (is_joint (token_at (drop at bs)).0) (drop (at + (token_at (drop at bs)).1) bs)) ∙ ap (λ (ts : List Lexeme). items ++ ts) (sym (token_step bs at d glued lt h)) ∙ told)
-
-pub no_turn : (items total : List Lexeme) (bs : List ℕ) (at : ℕ) (glued : Bool) → length bs ≤ at → items ++ tokens_from 0 at glued (drop at bs) ≡ total → items ++ (record { place = at; glued = glued; token = tokens.Mark marks.End }) ∷ [] ≡ total
+pub end_step : (bs : List ℕ) (at : ℕ) (glued : Bool) → length bs ≤ at → tokens_from 0 at glued (drop at bs) ≡ (record { place = at; glued = glued; token = tokens.Mark marks.End }) ∷ []
 unfolding tokens_from
-no_turn items total bs at glued le told = let nothing : drop at bs ≡ [] = drop_of_length-le bs le in ap (λ (l : List ℕ). items ++ tokens_from 0 at glued l) (sym nothing) ∙ told
+end_step bs at glued le = let none : drop at bs ≡ [] = drop_of_length-le bs le in ap (λ (l : List ℕ). tokens_from 0 at glued l) none
 
-pub at_first : (items : List Lexeme) (bs : List ℕ) → items ≡ [] → items ++ tokens_from 0 0 false bs ≡ tokens_of bs
-unfolding tokens_of
-at_first items bs e = rw e refl
+-- what stands ahead where a token begins
+pub ahead_is : (bs : List ℕ) (at d : ℕ) (glued : Bool) (t : Token × ℕ) → at < length bs → is_blank (get_or bs at d) ≡ false → t ≡ token_at (drop at bs)
+    → held bs (record { next = record { place = at; glued = glued; token = t.0 }; end = at + t.1; left = lefts.Tokens }) ≡ tokens_from 0 at glued (drop at bs)
+unfolding held
+ahead_is bs at d glued t lt h is =
+    let P : Token × ℕ → Type 0 = λ u. (record { place = at; glued = glued; token = u.0 }) ∷ tokens_from 0 (at + u.1) (is_joint u.0) (drop (at + u.1) bs) ≡ tokens_from 0 at glued (drop at bs) in
+    subst P (sym is) (sym (token_step bs at d glued lt h))
+
+pub end_is : (bs : List ℕ) (at end : ℕ) (glued : Bool) → length bs ≤ at
+    → held bs (record { next = record { place = at; glued = glued; token = tokens.Mark marks.End }; end = end; left = lefts.End }) ≡ tokens_from 0 at glued (drop at bs)
+unfolding held
+end_is bs at end glued le = sym (end_step bs at glued le)

@@ -1,6 +1,7 @@
 pub mod Numbers
 pub mod Words
 pub mod Lexing
+pub mod Next
 pub mod Depth
 pub mod Turns
 pub mod Printing

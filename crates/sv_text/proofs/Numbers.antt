@@ -1,11 +1,11 @@
 -- The value of digits, from the left.
-use Rattle.std.proofs.Common.{◌≡◌, ℕ, suc, ◌+◌, ◌-◌, ◌*◌, ◌<◌, ◌≤◌, min, inl, inr, Bool, true, false, cond, ◌&&◌, eqb, ltb, nat_lt, List, [], ◌∷◌, length, drop, get_or, get_or-drop, refl, sym, ap, subst, ◌∙◌, arith}
-use Rattle.std.specs.List.{prefix_len, take_while}
+use Rattle.std.proofs.Common.{◌≡◌, ℕ, suc, ◌+◌, ◌-◌, ◌*◌, ◌<◌, ◌≤◌, min, inl, inr, Bool, true, false, cond, List, [], ◌∷◌, length, drop, get_or, get_or-drop, refl, sym, ap, subst, ◌∙◌, arith}
+use Rattle.std.specs.List.{take_while}
 use Rattle.std.specs.Char.{is_ascii_digit}
 use Rattle.std.proofs.Math.Seq.{drop-cons}
 use Rattle.std.proofs.lemmas.Bool.{cases_lt}
 use Rattle.std.proofs.lemmas.List.Sums.{take_while-cons}
-use Rattle.sv_text.specs.Tokens.{digits_at, value_after, value_of}
+use Rattle.sv_text.specs.Tokens.{digits_at, value_after}
 use Rattle.sv_text.proofs.Lexing.{digit_stands}
 
 -- a digit and those behind it

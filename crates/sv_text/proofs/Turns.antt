@@ -1,6 +1,7 @@
 -- One turn of the loops over reads, writes and slots.
-use Rattle.std.proofs.Common.{◌≡◌, ℕ, zero, suc, ◌+◌, ◌-◌, ◌*◌, ◌%◌, ◌^◌, ◌<◌, true, false, cond, eqb, List, [], ◌∷◌, ◌++◌, length, drop, get_or, Some, Result, Ok, Err, refl, sym, ap, ◌∙◌, arith, bit_or}
+use Rattle.std.proofs.Common.{◌≡◌, ℕ, zero, suc, ◌+◌, ◌-◌, ◌*◌, ◌%◌, ◌^◌, ◌<◌, true, false, cond, eqb, ltb, List, [], ◌∷◌, ◌++◌, length, drop, get_or, Some, Result, Ok, Err, refl, sym, ap, ◌∙◌, arith, bit_or}
 use Rattle.std.proofs.Math.Seq.{drop-cons}
+use Rattle.std.proofs.Math.Bool.{and-false}
 use Rattle.std.proofs.lemmas.Bool.{ne_eqb}
 use Rattle.std.proofs.lemmas.Grind.{one_shifted}
 use Rattle.sv_world.specs.declared.world.ObjectId.{ObjectId}
@@ -11,7 +12,7 @@ use Rattle.sv_text.specs.declared.fault.ParseFault.{ParseFault}
 use Rattle.sv_text.specs.declared.fault.ParseFault.TheVariants as faults
 use Rattle.sv_text.specs.declared.token.Mark.TheVariants as marks
 use Rattle.sv_text.specs.declared.token.Lexeme.{Lexeme}
-use Rattle.sv_text.specs.Reading.{◌>>=◌, Read, Fails, fault, rest_of, is_at, as_object, read_at, ends_reads, reads_from, slot_from, write_at, is_number_at, writes_from, stmts_by, unexpected}
+use Rattle.sv_text.specs.Reading.{◌>>=◌, Read, Fails, fault, rest_of, as_object, read_at, ends_reads, reads_from, slot_from, write_at, is_number_at, writes_from, stmts_by, front, is_at, object_at, number_at}
 
 pub slot_turn : (reads : List ObjectId) (i o : ℕ) (d : ObjectId) → i < length reads → slot_from i (drop i reads) o ≡ cond (eqb (get_or reads i d).0 o) (Some i) (slot_from (i + 1) (drop (i + 1) reads) o)
 slot_turn reads i o d lt =
@@ -19,10 +20,10 @@ slot_turn reads i o d lt =
     rw (drop-cons reads i d lt, one) refl
 
 pub reads_from_is : (before : List ObjectId) (least : ℕ) (ts : List Lexeme) → reads_from before least ts ≡
-    cond (eqb (length ts) 0) (Err (unexpected ts)) (cond (ends_reads (length before) ts) (Ok (before, rest_of ts)) (read_at (length before) least ts >>= λ o. reads_from (before ++ as_object o ∷ []) (o + 1) (rest_of ts)))
-unfolding reads_from
-reads_from_is before least [] = refl
-reads_from_is before least (t ∷ ts) = let some : eqb (length (t ∷ ts)) 0 ≡ false = ne_eqb (length (t ∷ ts)) 0 (λ e. absurd (omega arith)) in rw some refl
+    cond (ends_reads (length before) ts) (Ok (before, rest_of ts)) (read_at (length before) least ts >>= λ o. reads_from (before ++ as_object o ∷ []) (o + 1) (rest_of ts))
+unfolding reads_from is_at front read_at object_at number_at
+reads_from_is before least [] = rw (and-false (ltb 0 (length before))) refl
+reads_from_is before least (t ∷ ts) = refl
 
 pub writes_from_is : (reads : List ObjectId) (mask least : ℕ) (ts : List Lexeme) → writes_from reads mask least ts ≡
     cond (is_number_at ts) (write_at reads least ts >>= λ w. writes_from reads (bit_or mask (2 ^ w.1)) (w.0 + 1) (rest_of ts)) (Ok (mask, ts))
@@ -39,14 +40,27 @@ stmts_by_is stmts (suc turns) before nodes ts =
     let some : eqb (suc turns) 0 ≡ false = ne_eqb (suc turns) 0 (λ e. absurd (omega arith)) in
     rw (one, some) refl
 
+rest_shorter : (ts : List Lexeme) → 0 < length ts → length (rest_of ts) < length ts
+rest_shorter [] some = some
+rest_shorter (t ∷ ts) some = omega arith
+
+read_stands : (count least o : ℕ) (ts : List Lexeme) → read_at count least ts ≡ Ok o → 0 < length ts
+unfolding read_at object_at number_at
+read_stands count least o [] h = absurd cc
+read_stands count least o (t ∷ ts) h = omega arith
+
+-- one more read
+pub reads_shorter : (count least o : ℕ) (ts : List Lexeme) → read_at count least ts ≡ Ok o → length (rest_of ts) < length ts
+reads_shorter count least o ts h = rest_shorter ts (read_stands count least o ts h)
+
 number_stands : (ts : List Lexeme) → is_number_at ts ≡ true → 0 < length ts
 unfolding is_number_at
 number_stands [] h = absurd cc
 number_stands (t ∷ ts) h = omega arith
 
 -- one more write
-pub writes_shorter : (ts rest : List Lexeme) → is_number_at ts ≡ true → length rest ≡ length ts - 1 → length rest < length ts
-writes_shorter ts rest h e = let some = number_stands ts h in omega arith
+pub writes_shorter : (ts : List Lexeme) → is_number_at ts ≡ true → length (rest_of ts) < length ts
+writes_shorter ts h = rest_shorter ts (number_stands ts h)
 
 pub writes_turn : (reads : List ObjectId) (mask least o k : ℕ) (ts : List Lexeme) (total : Result (ℕ × List Lexeme) TextFault) → is_number_at ts ≡ true → write_at reads least ts ≡ Ok (o, k) → k < 16
     → writes_from reads mask least ts ≡ total → writes_from reads (bit_or mask (1 * 2 ^ k % 65536)) (o + 1) (rest_of ts) ≡ total

@@ -1,4 +1,5 @@
 pub mod Tokens
+pub mod Ahead
 pub mod Reading
 pub mod Canonical
 pub mod Grammar

@@ -4,10 +4,10 @@ ghost use Rattle.std.specs.Prelude.{◌≡◌, ◌≤◌, length, Ok, IfOk};
 ghost use Rattle.sv_text.specs.Reading.{Gives, with_comparison, comparison_of, comparison_at, with_joint, joint_of, joint_at, compare_by, closed_by, joined_by, join_by, not_by, expr_at, cond_at};
 ghost use Rattle.sv_text.specs.declared.token.Mark.TheVariants as marks;
 
-use crate::cursor::{expect, front, is_at, rest_of, unexpected};
+use crate::cursor::Cursor;
 use crate::expression::{closed_expr_at, expr_at, start};
 use crate::parts::{Comparison, Joint};
-use crate::token::{Lexeme, Mark};
+use crate::token::Mark;
 use crate::{ParseFault, TextFault};
 use std::alloc::{AllocError, Global};
 use sv_world::{Boxed, Cond, Expr, ObjectId};
@@ -34,13 +34,13 @@ fn comparison_of(mark: Mark) -> Option<Comparison>
 }
 
 #[tactic(auto, unfolding(crate::specs::Reading::comparison_at))]
-fn comparison_at(tokens: &[Lexeme]) -> Result<Comparison, TextFault>
-    ensures { result ≡ comparison_at tokens.now }
+fn comparison_at(cursor: &Cursor<'_>) -> Result<Comparison, TextFault>
+    ensures { result ≡ comparison_at cursor.now }
 {
-    match front(tokens) {
-        None => Err(unexpected(tokens)),
+    match cursor.front() {
+        None => Err(cursor.unexpected()),
         Some(mark) => match comparison_of(mark) {
-            None => Err(unexpected(tokens)),
+            None => Err(cursor.unexpected()),
             Some(comparison) => Ok(comparison),
         },
     }
@@ -68,134 +68,138 @@ fn joint_of(mark: Mark) -> Option<Joint>
 }
 
 #[tactic(auto, unfolding(crate::specs::Reading::joint_at))]
-fn joint_at(tokens: &[Lexeme]) -> Result<Joint, TextFault>
-    ensures { result ≡ joint_at tokens.now }
+fn joint_at(cursor: &Cursor<'_>) -> Result<Joint, TextFault>
+    ensures { result ≡ joint_at cursor.now }
 {
-    match front(tokens) {
-        None => Err(unexpected(tokens)),
+    match cursor.front() {
+        None => Err(cursor.unexpected()),
         Some(mark) => match joint_of(mark) {
-            None => Err(unexpected(tokens)),
+            None => Err(cursor.unexpected()),
             Some(joint) => Ok(joint),
         },
     }
 }
 
 #[tactic(auto, unfolding(crate::specs::Reading::compare_by))]
-fn compare_at<'a>(
+fn compare_at(
     alloc: Global,
     depth: u8,
     nodes: u8,
     reads: &[ObjectId],
-    tokens: &'a [Lexeme],
-) -> Result<(Cond, u8, &'a [Lexeme]), ParseFault>
+    cursor: &mut Cursor<'_>,
+) -> Result<(Cond, u8), ParseFault>
     requires { length reads.now ≤ 16 }
-    ensures gives { Gives (λ x. (x.0, x.1, x.2.now)) result (compare_by (expr_at reads.now depth) nodes tokens.now) }
+    ensures gives { Gives (λ x. (x.0, x.1, cursor.new)) result (compare_by (expr_at reads.now depth) nodes cursor.old) }
     ensures few { IfOk result (λ x. x.1 ≤ 64) }
 {
-    let (left, nodes, tokens) = expr_at(alloc, depth, nodes, reads, tokens)?;
-    let comparison = comparison_at(tokens)?;
-    let tokens = rest_of(tokens);
-    let (right, nodes, rest) = closed_expr_at(alloc, Mark::CloseTest, depth, nodes, reads, tokens)?;
-    Ok((with_comparison(comparison, left, right), nodes, rest))
+    let (left, nodes) = expr_at(alloc, depth, nodes, reads, cursor)?;
+    let comparison = comparison_at(cursor)?;
+    cursor.advance();
+    let (right, nodes) = closed_expr_at(alloc, Mark::CloseTest, depth, nodes, reads, cursor)?;
+    Ok((with_comparison(comparison, left, right), nodes))
 }
 
 #[cycle(condition)]
 #[tactic(auto, using(crate::proofs::Depth::cond_at_is), unfolding(crate::specs::Reading::cond_by))]
-pub fn cond_at<'a>(
+pub fn cond_at(
     alloc: Global,
     depth: u8,
     nodes: u8,
     reads: &[ObjectId],
-    tokens: &'a [Lexeme],
-) -> Result<(Cond, u8, &'a [Lexeme]), ParseFault>
+    cursor: &mut Cursor<'_>,
+) -> Result<(Cond, u8), ParseFault>
     requires { length reads.now ≤ 16 }
-    ensures gives { Gives (λ x. (x.0, x.1, x.2.now)) result (cond_at reads.now depth nodes tokens.now) }
+    ensures gives { Gives (λ x. (x.0, x.1, cursor.new)) result (cond_at reads.now depth nodes cursor.old) }
     ensures few { IfOk result (λ x. x.1 ≤ 64) }
 {
-    if is_at(tokens, Mark::OpenTest) {
-        let nodes = start(tokens, depth, nodes)?;
-        return compare_at(alloc, depth - 1, nodes, reads, rest_of(tokens));
+    if cursor.is_at(Mark::OpenTest) {
+        let nodes = start(cursor, depth, nodes)?;
+        cursor.advance();
+        return compare_at(alloc, depth - 1, nodes, reads, cursor);
     }
-    if is_at(tokens, Mark::Open) {
-        let nodes = start(tokens, depth, nodes)?;
-        return join_at(alloc, depth - 1, nodes, reads, rest_of(tokens));
+    if cursor.is_at(Mark::Open) {
+        let nodes = start(cursor, depth, nodes)?;
+        cursor.advance();
+        return join_at(alloc, depth - 1, nodes, reads, cursor);
     }
-    if is_at(tokens, Mark::Not) {
-        let nodes = start(tokens, depth, nodes)?;
-        return not_at(alloc, depth - 1, nodes, reads, rest_of(tokens));
+    if cursor.is_at(Mark::Not) {
+        let nodes = start(cursor, depth, nodes)?;
+        cursor.advance();
+        return not_at(alloc, depth - 1, nodes, reads, cursor);
     }
-    Err(ParseFault::Text(unexpected(tokens)))
+    Err(ParseFault::Text(cursor.unexpected()))
 }
 
 #[cycle(condition)]
 #[tactic(auto, unfolding(crate::specs::Reading::join_by))]
-fn join_at<'a>(
+fn join_at(
     alloc: Global,
     depth: u8,
     nodes: u8,
     reads: &[ObjectId],
-    tokens: &'a [Lexeme],
-) -> Result<(Cond, u8, &'a [Lexeme]), ParseFault>
+    cursor: &mut Cursor<'_>,
+) -> Result<(Cond, u8), ParseFault>
     requires { length reads.now ≤ 16 }
-    ensures gives { Gives (λ x. (x.0, x.1, x.2.now)) result (join_by (cond_at reads.now depth) nodes tokens.now) }
+    ensures gives { Gives (λ x. (x.0, x.1, cursor.new)) result (join_by (cond_at reads.now depth) nodes cursor.old) }
     ensures few { IfOk result (λ x. x.1 ≤ 64) }
 {
-    let (left, nodes, tokens) = cond_at(alloc, depth, nodes, reads, tokens)?;
-    let joint = joint_at(tokens)?;
-    joined_at(alloc, joint, left, depth, nodes, reads, rest_of(tokens))
+    let (left, nodes) = cond_at(alloc, depth, nodes, reads, cursor)?;
+    let joint = joint_at(cursor)?;
+    cursor.advance();
+    joined_at(alloc, joint, left, depth, nodes, reads, cursor)
 }
 
 #[cycle(condition)]
 #[tactic(auto, unfolding(crate::specs::Reading::joined_by))]
-fn joined_at<'a>(
+fn joined_at(
     alloc: Global,
     joint: Joint,
     left: Cond,
     depth: u8,
     nodes: u8,
     reads: &[ObjectId],
-    tokens: &'a [Lexeme],
-) -> Result<(Cond, u8, &'a [Lexeme]), ParseFault>
+    cursor: &mut Cursor<'_>,
+) -> Result<(Cond, u8), ParseFault>
     requires { length reads.now ≤ 16 }
-    ensures gives { Gives (λ x. (x.0, x.1, x.2.now)) result (joined_by (cond_at reads.now depth) joint left nodes tokens.now) }
+    ensures gives { Gives (λ x. (x.0, x.1, cursor.new)) result (joined_by (cond_at reads.now depth) joint left nodes cursor.old) }
     ensures few { IfOk result (λ x. x.1 ≤ 64) }
 {
-    let (right, nodes, rest) = closed_cond_at(alloc, depth, nodes, reads, tokens)?;
-    Ok((with_joint(alloc, joint, left, right)?, nodes, rest))
+    let (right, nodes) = closed_cond_at(alloc, depth, nodes, reads, cursor)?;
+    Ok((with_joint(alloc, joint, left, right)?, nodes))
 }
 
 /// A condition and a parenthesis behind it.
 #[cycle(condition)]
 #[tactic(auto, unfolding(crate::specs::Reading::closed_by))]
-fn closed_cond_at<'a>(
+fn closed_cond_at(
     alloc: Global,
     depth: u8,
     nodes: u8,
     reads: &[ObjectId],
-    tokens: &'a [Lexeme],
-) -> Result<(Cond, u8, &'a [Lexeme]), ParseFault>
+    cursor: &mut Cursor<'_>,
+) -> Result<(Cond, u8), ParseFault>
     requires { length reads.now ≤ 16 }
-    ensures gives { Gives (λ x. (x.0, x.1, x.2.now)) result (closed_by (cond_at reads.now depth) marks.Close nodes tokens.now) }
+    ensures gives { Gives (λ x. (x.0, x.1, cursor.new)) result (closed_by (cond_at reads.now depth) marks.Close nodes cursor.old) }
     ensures few { IfOk result (λ x. x.1 ≤ 64) }
 {
-    let (cond, nodes, tokens) = cond_at(alloc, depth, nodes, reads, tokens)?;
-    let rest = expect(tokens, Mark::Close)?;
-    Ok((cond, nodes, rest))
+    let (cond, nodes) = cond_at(alloc, depth, nodes, reads, cursor)?;
+    cursor.expect(Mark::Close)?;
+    Ok((cond, nodes))
 }
 
 #[cycle(condition)]
 #[tactic(auto, unfolding(crate::specs::Reading::not_by))]
-fn not_at<'a>(
+fn not_at(
     alloc: Global,
     depth: u8,
     nodes: u8,
     reads: &[ObjectId],
-    tokens: &'a [Lexeme],
-) -> Result<(Cond, u8, &'a [Lexeme]), ParseFault>
+    cursor: &mut Cursor<'_>,
+) -> Result<(Cond, u8), ParseFault>
     requires { length reads.now ≤ 16 }
-    ensures gives { Gives (λ x. (x.0, x.1, x.2.now)) result (not_by (cond_at reads.now depth) nodes tokens.now) }
+    ensures gives { Gives (λ x. (x.0, x.1, cursor.new)) result (not_by (cond_at reads.now depth) nodes cursor.old) }
     ensures few { IfOk result (λ x. x.1 ≤ 64) }
 {
-    let (inner, nodes, rest) = cond_at(alloc, depth, nodes, reads, tokens)?;
-    Ok((Cond::Not(Boxed::new(alloc, inner)?), nodes, rest))
+    let (inner, nodes) = cond_at(alloc, depth, nodes, reads, cursor)?;
+    Ok((Cond::Not(Boxed::new(alloc, inner)?), nodes))
 }

@@ -1,11 +1,34 @@
-//! What stands next in a list of tokens.
+//! What is left of a text, and the token that stands next.
 
-ghost use Rattle.std.specs.Prelude.{◌≡◌, ◌-◌, length, ◌≤ℤ◌, IfOk};
-ghost use Rattle.sv_text.specs.Reading.{seen, is_same, front_of, mark_of, cause_of, front, is_at, rest_of, place_of, fault, unexpected, expect, number_at};
+ghost use Rattle.std.specs.Prelude.{◌≡◌, ◌^◌, ◌<◌, ◌≤ℤ◌, length, IfOk};
+ghost use Rattle.sv_text.specs.Tokens.{tokens_of};
+ghost use Rattle.sv_text.specs.Ahead.{next_of};
+ghost use Rattle.sv_text.specs.Reading.{seen, is_same, front_of, mark_of, cause_of, front, is_at, rest_of, fault, unexpected, expect, number_at};
 
-use crate::lexer::is_word;
-use crate::token::{Lexeme, Mark, Token};
+use crate::lexer::{ahead_at, is_joint, is_word, nothing_ahead};
+use crate::token::{Ahead, Left, Lexeme, Mark, Token};
 use crate::{TextCause, TextFault};
+use std::marker::Model;
+
+/// The tokens that are left of a text, each cut when it is reached.
+#[derive(Drop)]
+pub struct Cursor<'a> {
+    bytes: &'a [u8],
+    ahead: Ahead,
+}
+
+impl<'a> Model for Cursor<'a> {
+    ghost use Rattle.std.specs.Prelude.{List};
+    ghost use Rattle.sv_text.specs.declared.token.Lexeme.{Lexeme};
+
+    ghost Value = { List Lexeme };
+
+    ghost use Rattle.sv_text.specs.Ahead.{held, IsAhead};
+
+    ghost view = { λ c. held c.bytes.now c.ahead };
+
+    ghost invariant = { λ c. IsAhead c.bytes.now c.ahead };
+}
 
 #[tactic(auto, unfolding(crate::specs::Reading::is_same))]
 fn is_same(mark: Mark, other: Mark) -> bool
@@ -14,65 +37,13 @@ fn is_same(mark: Mark, other: Mark) -> bool
     mark as u8 == other as u8
 }
 
-pub fn rest_of(tokens: &[Lexeme]) -> &[Lexeme]
-    ensures value { result.now ≡ rest_of tokens.now }
-    ensures shorter { length result.now ≡ length tokens.now - 1 }
+fn front_of(next: Lexeme) -> Option<Mark>
+    ensures { result ≡ front_of next.glued (mark_of next.token) }
 {
-    match tokens {
-        [] => &[],
-        [_, rest @ ..] => rest,
-    }
-}
-
-pub fn fault(tokens: &[Lexeme], cause: TextCause) -> TextFault
-    ensures { result ≡ fault tokens.now cause }
-{
-    let place = match tokens {
-        [] => 0,
-        [first, ..] => first.place,
-    };
-    TextFault { place, cause }
-}
-
-/// The word or sign that stands next, unless it is a word that directly follows a word or number.
-#[tactic(auto, unfolding(crate::specs::Reading::front))]
-pub fn front(tokens: &[Lexeme]) -> Option<Mark>
-    ensures { result ≡ front tokens.now }
-{
-    match tokens {
-        [] => None,
-        [first, ..] => front_of(first),
-    }
-}
-
-fn front_of(first: &Lexeme) -> Option<Mark>
-    ensures { result ≡ front_of first.now.glued (mark_of first.now.token) }
-{
-    match first.token {
-        Token::Mark(mark) if first.glued && is_word(mark) => None,
+    match next.token {
+        Token::Mark(mark) if next.glued && is_word(mark) => None,
         Token::Mark(mark) => Some(mark),
         Token::Number(_) | Token::Wide | Token::Ref { .. } | Token::Bad(_) => None,
-    }
-}
-
-#[tactic(auto, unfolding(crate::specs::Reading::is_at))]
-pub fn is_at(tokens: &[Lexeme], mark: Mark) -> bool
-    ensures { result ≡ is_at mark tokens.now }
-{
-    match front(tokens) {
-        Some(next) => is_same(next, mark),
-        None => false,
-    }
-}
-
-/// The fault of a token that the grammar does not have here.
-#[tactic(auto, unfolding(crate::specs::Reading::unexpected))]
-pub fn unexpected(tokens: &[Lexeme]) -> TextFault
-    ensures { result ≡ unexpected tokens.now }
-{
-    match tokens {
-        [] => fault(tokens, TextCause::Expected),
-        [first, ..] => fault(tokens, cause_of(first.token)),
     }
 }
 
@@ -85,37 +56,109 @@ fn cause_of(token: Token) -> TextCause
     }
 }
 
-#[tactic(auto, unfolding(crate::specs::Reading::expect))]
-pub fn expect(tokens: &[Lexeme], mark: Mark) -> Result<&[Lexeme], TextFault>
-    ensures { seen (λ rest. rest.now) result ≡ expect mark tokens.now }
-{
-    if is_at(tokens, mark) {
-        Ok(rest_of(tokens))
-    } else {
-        Err(unexpected(tokens))
+impl<'a> Cursor<'a> {
+    /// All tokens of a text.
+    #[tactic(auto, unfolding(crate::specs::Tokens::tokens_of))]
+    pub fn new(bytes: &'a [u8]) -> Cursor<'a>
+        requires { length bytes.now < 2 ^ 32 }
+        ensures { result ≡ tokens_of bytes.now }
+    {
+        Cursor {
+            bytes,
+            ahead: ahead_at(bytes, 0, false),
+        }
     }
-}
 
-/// A number from `low` to `high`, which may not directly follow a word or number.
-#[tactic(auto, unfolding(crate::specs::Reading::number_at))]
-pub fn number_at(tokens: &[Lexeme], low: i64, high: i64) -> Result<i64, TextFault>
-    ensures value { result ≡ number_at low high tokens.now }
-    ensures low { IfOk result (λ z. low ≤ℤ z) }
-    ensures high { IfOk result (λ z. z ≤ℤ high) }
-{
-    match tokens {
-        [] => Err(unexpected(tokens)),
-        [first, ..] => match first.token {
+    /// Goes behind the next token.
+    #[tactic(auto, unfolding(crate::specs::Ahead::held))]
+    pub fn advance(&mut self)
+        ensures { self.new ≡ rest_of self.old }
+    {
+        self.ahead = match self.ahead.left {
+            Left::Tokens => {
+                let glued = is_joint(self.ahead.next.token);
+                ahead_at(self.bytes, self.ahead.end, glued)
+            }
+            Left::End | Left::Nothing => nothing_ahead(),
+        };
+    }
+
+    /// The next token, or one that may stand nowhere.
+    #[tactic(auto, unfolding(crate::specs::Ahead::held))]
+    pub fn next(&self) -> Lexeme
+        ensures { result ≡ next_of self.now }
+    {
+        self.ahead.next
+    }
+
+    #[tactic(auto, using(crate::proofs::Next::place_is))]
+    pub fn fault(&self, cause: TextCause) -> TextFault
+        ensures { result ≡ fault self.now cause }
+    {
+        TextFault {
+            place: self.next().place,
+            cause,
+        }
+    }
+
+    /// The word or sign that stands next, unless it is a word that directly follows a word or number.
+    #[tactic(auto, using(crate::proofs::Next::front_is))]
+    pub fn front(&self) -> Option<Mark>
+        ensures { result ≡ front self.now }
+    {
+        front_of(self.next())
+    }
+
+    #[tactic(auto, unfolding(crate::specs::Reading::is_at))]
+    pub fn is_at(&self, mark: Mark) -> bool
+        ensures { result ≡ is_at mark self.now }
+    {
+        match self.front() {
+            Some(next) => is_same(next, mark),
+            None => false,
+        }
+    }
+
+    /// The fault of a token that the grammar does not have here.
+    #[tactic(auto, using(crate::proofs::Next::unexpected_is))]
+    pub fn unexpected(&self) -> TextFault
+        ensures { result ≡ unexpected self.now }
+    {
+        self.fault(cause_of(self.next().token))
+    }
+
+    /// Goes behind a word or sign that has to stand next.
+    #[tactic(auto, unfolding(crate::specs::Reading::expect))]
+    pub fn expect(&mut self, mark: Mark) -> Result<(), TextFault>
+        ensures { seen (λ _. self.new) result ≡ expect mark self.old }
+    {
+        if self.is_at(mark) {
+            self.advance();
+            Ok(())
+        } else {
+            Err(self.unexpected())
+        }
+    }
+
+    /// The number that stands next, from `low` to `high`. It may not directly follow a word or number.
+    #[tactic(auto, using(crate::proofs::Next::number_at_is))]
+    pub fn number_at(&self, low: i64, high: i64) -> Result<i64, TextFault>
+        ensures value { result ≡ number_at low high self.now }
+        ensures low { IfOk result (λ z. low ≤ℤ z) }
+        ensures high { IfOk result (λ z. z ≤ℤ high) }
+    {
+        let next = self.next();
+        match next.token {
             Token::Number(number) if low <= number && number <= high => {
-                if first.glued {
-                    Err(fault(tokens, TextCause::Expected))
+                if next.glued {
+                    Err(self.fault(TextCause::Expected))
                 } else {
                     Ok(number)
                 }
             }
-            Token::Number(_) | Token::Wide => Err(fault(tokens, TextCause::Number)),
-            Token::Ref { .. } | Token::Mark(_) => Err(fault(tokens, TextCause::Expected)),
-            Token::Bad(cause) => Err(fault(tokens, cause)),
-        },
+            Token::Number(_) | Token::Wide => Err(self.fault(TextCause::Number)),
+            Token::Ref { .. } | Token::Mark(_) => Err(self.fault(TextCause::Expected)),
+            Token::Bad(cause) => Err(self.fault(cause)),
+        }
     }
 }

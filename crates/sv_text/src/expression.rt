@@ -3,26 +3,26 @@
 ghost use Rattle.std.specs.Prelude.{◌≡◌, ◌≤◌, ◌<◌, length, Ok, IfOk, OnOk};
 ghost use Rattle.sv_text.specs.Reading.{Gives, start, with_op, op_of, op_at, leaf_at, closed_by, pair_by, expr_at};
 
-use crate::cursor::{expect, fault, front, is_at, rest_of, unexpected};
+use crate::cursor::Cursor;
 use crate::header::slot_at;
 use crate::parts::Op;
-use crate::token::{Lexeme, Mark, Token};
+use crate::token::{Mark, Token};
 use crate::{ParseFault, TextCause, TextFault};
 use std::alloc::{AllocError, Global};
 use sv_world::{Boxed, Expr, ObjectId};
 
 /// Starts a node, and counts it.
 #[tactic(auto, unfolding(crate::specs::Reading::start))]
-pub fn start(tokens: &[Lexeme], depth: u8, nodes: u8) -> Result<u8, TextFault>
-    ensures value { result ≡ start depth nodes tokens.now }
+pub fn start(cursor: &Cursor<'_>, depth: u8, nodes: u8) -> Result<u8, TextFault>
+    ensures value { result ≡ start depth nodes cursor.now }
     ensures few { IfOk result (λ n. n ≤ 64) }
     ensures deep { OnOk result (0 < depth) }
 {
     if nodes >= 64 {
-        return Err(fault(tokens, TextCause::TooLarge));
+        return Err(cursor.fault(TextCause::TooLarge));
     }
     if depth == 0 {
-        return Err(fault(tokens, TextCause::TooDeep));
+        return Err(cursor.fault(TextCause::TooDeep));
     }
     Ok(nodes + 1)
 }
@@ -59,97 +59,98 @@ fn op_of(mark: Mark) -> Option<Op>
 }
 
 #[tactic(auto, unfolding(crate::specs::Reading::op_at))]
-fn op_at(tokens: &[Lexeme]) -> Result<Op, TextFault>
-    ensures { result ≡ op_at tokens.now }
+fn op_at(cursor: &Cursor<'_>) -> Result<Op, TextFault>
+    ensures { result ≡ op_at cursor.now }
 {
-    match front(tokens) {
-        None => Err(unexpected(tokens)),
+    match cursor.front() {
+        None => Err(cursor.unexpected()),
         Some(mark) => match op_of(mark) {
-            None => Err(unexpected(tokens)),
+            None => Err(cursor.unexpected()),
             Some(op) => Ok(op),
         },
     }
 }
 
 /// A literal, or the attribute of an object that is read.
-#[tactic(auto, unfolding(crate::specs::Reading::leaf_at))]
-fn leaf_at(reads: &[ObjectId], tokens: &[Lexeme]) -> Result<Expr, TextFault>
+#[tactic(auto, using(crate::proofs::Next::leaf_at_is))]
+fn leaf_at(reads: &[ObjectId], cursor: &Cursor<'_>) -> Result<Expr, TextFault>
     requires { length reads.now ≤ 16 }
-    ensures { result ≡ leaf_at reads.now tokens.now }
+    ensures { result ≡ leaf_at reads.now cursor.now }
 {
-    match tokens {
-        [] => Err(unexpected(tokens)),
-        [first, ..] => match first.token {
-            Token::Number(_) if first.glued => Err(fault(tokens, TextCause::Expected)),
-            Token::Number(number) => Ok(Expr::Lit(number)),
-            Token::Wide => Err(fault(tokens, TextCause::Number)),
-            Token::Ref { object, attr } => {
-                let slot = slot_at(reads, object, tokens)?;
-                Ok(Expr::Attr { slot, attr })
-            }
-            Token::Mark(_) => Err(fault(tokens, TextCause::Expected)),
-            Token::Bad(cause) => Err(fault(tokens, cause)),
-        },
+    let next = cursor.next();
+    match next.token {
+        Token::Number(_) if next.glued => Err(cursor.fault(TextCause::Expected)),
+        Token::Number(number) => Ok(Expr::Lit(number)),
+        Token::Wide => Err(cursor.fault(TextCause::Number)),
+        Token::Ref { object, attr } => {
+            let slot = slot_at(reads, object, cursor)?;
+            Ok(Expr::Attr { slot, attr })
+        }
+        Token::Mark(_) => Err(cursor.fault(TextCause::Expected)),
+        Token::Bad(cause) => Err(cursor.fault(cause)),
     }
 }
 
 #[cycle(expression)]
 #[tactic(auto, using(crate::proofs::Depth::expr_at_is), unfolding(crate::specs::Reading::expr_by))]
-pub fn expr_at<'a>(
+pub fn expr_at(
     alloc: Global,
     depth: u8,
     nodes: u8,
     reads: &[ObjectId],
-    tokens: &'a [Lexeme],
-) -> Result<(Expr, u8, &'a [Lexeme]), ParseFault>
+    cursor: &mut Cursor<'_>,
+) -> Result<(Expr, u8), ParseFault>
     requires { length reads.now ≤ 16 }
-    ensures gives { Gives (λ x. (x.0, x.1, x.2.now)) result (expr_at reads.now depth nodes tokens.now) }
+    ensures gives { Gives (λ x. (x.0, x.1, cursor.new)) result (expr_at reads.now depth nodes cursor.old) }
     ensures few { IfOk result (λ x. x.1 ≤ 64) }
 {
-    if is_at(tokens, Mark::Open) {
-        let nodes = start(tokens, depth, nodes)?;
-        return pair_at(alloc, depth - 1, nodes, reads, rest_of(tokens));
+    if cursor.is_at(Mark::Open) {
+        let nodes = start(cursor, depth, nodes)?;
+        cursor.advance();
+        return pair_at(alloc, depth - 1, nodes, reads, cursor);
     }
-    let leaf = leaf_at(reads, tokens)?;
-    let nodes = start(tokens, depth, nodes)?;
-    Ok((leaf, nodes, rest_of(tokens)))
+    let leaf = leaf_at(reads, cursor)?;
+    let nodes = start(cursor, depth, nodes)?;
+    cursor.advance();
+    Ok((leaf, nodes))
 }
 
 #[cycle(expression)]
 #[tactic(auto, unfolding(crate::specs::Reading::pair_by))]
-fn pair_at<'a>(
+fn pair_at(
     alloc: Global,
     depth: u8,
     nodes: u8,
     reads: &[ObjectId],
-    tokens: &'a [Lexeme],
-) -> Result<(Expr, u8, &'a [Lexeme]), ParseFault>
+    cursor: &mut Cursor<'_>,
+) -> Result<(Expr, u8), ParseFault>
     requires { length reads.now ≤ 16 }
-    ensures gives { Gives (λ x. (x.0, x.1, x.2.now)) result (pair_by (expr_at reads.now depth) nodes tokens.now) }
+    ensures gives { Gives (λ x. (x.0, x.1, cursor.new)) result (pair_by (expr_at reads.now depth) nodes cursor.old) }
     ensures few { IfOk result (λ x. x.1 ≤ 64) }
 {
-    let (left, nodes, tokens) = expr_at(alloc, depth, nodes, reads, tokens)?;
-    let op = op_at(tokens)?;
-    let (right, nodes, tokens) = expr_at(alloc, depth, nodes, reads, rest_of(tokens))?;
-    let rest = expect(tokens, Mark::Close)?;
-    Ok((with_op(alloc, op, left, right)?, nodes, rest))
+    let (left, nodes) = expr_at(alloc, depth, nodes, reads, cursor)?;
+    let op = op_at(cursor)?;
+    cursor.advance();
+    let (right, nodes) = expr_at(alloc, depth, nodes, reads, cursor)?;
+    cursor.expect(Mark::Close)?;
+    Ok((with_op(alloc, op, left, right)?, nodes))
 }
 
 /// An expression and a sign behind it.
 #[tactic(auto, unfolding(crate::specs::Reading::closed_by))]
-pub fn closed_expr_at<'a>(
+pub fn closed_expr_at(
     alloc: Global,
     mark: Mark,
     depth: u8,
     nodes: u8,
     reads: &[ObjectId],
-    tokens: &'a [Lexeme],
-) -> Result<(Expr, u8, &'a [Lexeme]), ParseFault>
+    cursor: &mut Cursor<'_>,
+) -> Result<(Expr, u8), ParseFault>
     requires { length reads.now ≤ 16 }
-    ensures gives { Gives (λ x. (x.0, x.1, x.2.now)) result (closed_by (expr_at reads.now depth) mark nodes tokens.now) }
+    ensures gives { Gives (λ x. (x.0, x.1, cursor.new)) result (closed_by (expr_at reads.now depth) mark nodes cursor.old) }
     ensures few { IfOk result (λ x. x.1 ≤ 64) }
 {
-    let (expr, nodes, tokens) = expr_at(alloc, depth, nodes, reads, tokens)?;
-    let rest = expect(tokens, mark)?;
-    Ok((expr, nodes, rest))
+    let (expr, nodes) = expr_at(alloc, depth, nodes, reads, cursor)?;
+    cursor.expect(mark)?;
+    Ok((expr, nodes))
 }

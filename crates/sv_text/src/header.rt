@@ -3,71 +3,69 @@
 ghost use Rattle.std.specs.Prelude.{◌≡◌, ◌≤◌, ◌<◌, [], length, vec_len, Ok, IfOk, OnOk, IfSome};
 ghost use Rattle.sv_text.specs.Reading.{Gives, seen, object_at, read_at, ends_reads, reads_from, slot_from, slot_at, write_at, is_number_at, writes_from, coordinate_at, origin_at, header_at};
 
-use crate::cursor::{expect, fault, is_at, number_at, rest_of, unexpected};
-use crate::token::{Lexeme, Mark, Token};
+use crate::cursor::Cursor;
+use crate::token::{Mark, Token};
 use crate::{ParseFault, TextCause, TextFault};
 use std::alloc::Global;
 use sv_world::{ObjectId, Point};
 
 #[tactic(auto, unfolding(crate::specs::Reading::object_at))]
-fn object_at(tokens: &[Lexeme]) -> Result<u16, TextFault>
-    ensures { result ≡ object_at tokens.now }
+fn object_at(cursor: &Cursor<'_>) -> Result<u16, TextFault>
+    ensures { result ≡ object_at cursor.now }
 {
-    let object = number_at(tokens, 0, 65535)?;
+    let object = cursor.number_at(0, 65535)?;
     Ok(object as u16)
 }
 
 /// One more read behind so many, of which the last is below `least`.
 #[tactic(auto, unfolding(crate::specs::Reading::read_at))]
-fn read_at(tokens: &[Lexeme], count: usize, least: u32) -> Result<u16, TextFault>
-    ensures value { result ≡ read_at count least tokens.now }
+fn read_at(cursor: &Cursor<'_>, count: usize, least: u32) -> Result<u16, TextFault>
+    ensures value { result ≡ read_at count least cursor.now }
     ensures few { OnOk result (count < 16) }
 {
-    let object = object_at(tokens)?;
+    let object = object_at(cursor)?;
     if u32::from(object) < least {
-        return Err(fault(tokens, TextCause::Order));
+        return Err(cursor.fault(TextCause::Order));
     }
     if count < 16 {
         Ok(object)
     } else {
-        Err(fault(tokens, TextCause::TooMany))
+        Err(cursor.fault(TextCause::TooMany))
     }
 }
 
 /// Whether the reads end here, behind so many.
-fn ends_reads(tokens: &[Lexeme], count: usize) -> bool
-    ensures { result ≡ ends_reads count tokens.now }
+fn ends_reads(cursor: &Cursor<'_>, count: usize) -> bool
+    ensures { result ≡ ends_reads count cursor.now }
 {
-    count > 0 && is_at(tokens, Mark::Writes)
+    count > 0 && cursor.is_at(Mark::Writes)
 }
 
 /// One read or more, and `writes`.
 #[tactic(auto, using(crate::proofs::Turns::reads_from_is))]
-fn reads_at(alloc: Global, tokens: &[Lexeme]) -> Result<(Vec<ObjectId>, &[Lexeme]), ParseFault>
-    ensures gives { Gives (λ x. (x.0.items, x.1.now)) result (reads_from [] 0 tokens.now) }
-    ensures few { IfOk result (λ x. vec_len x.0 ≤ 16) }
+fn reads_at(alloc: Global, cursor: &mut Cursor<'_>) -> Result<Vec<ObjectId>, ParseFault>
+    ensures gives { Gives (λ reads. (reads.items, cursor.new)) result (reads_from [] 0 cursor.old) }
+    ensures few { IfOk result (λ reads. vec_len reads ≤ 16) }
 {
     let mut reads = Vec::new(alloc);
     let mut least = 0;
-    let mut rest = tokens;
-    while !rest.is_empty() {
-        if ends_reads(rest, reads.len()) {
-            return Ok((reads, rest_of(rest)));
-        }
-        let object = read_at(rest, reads.len(), least)?;
+    while !ends_reads(cursor, reads.len()) {
+        let object = read_at(cursor, reads.len(), least)?;
         reads.push(ObjectId(object))?;
         least = u32::from(object) + 1;
-        rest = rest_of(rest);
+        cursor.advance();
     }
-    Err(ParseFault::Text(unexpected(rest)))
+    cursor.advance();
+    Ok(reads)
 }
 
 #[tactic(auto, unfolding(crate::specs::Reading::header_at))]
-pub fn header_at(alloc: Global, tokens: &[Lexeme]) -> Result<(Vec<ObjectId>, &[Lexeme]), ParseFault>
-    ensures gives { Gives (λ x. (x.0.items, x.1.now)) result (header_at tokens.now) }
-    ensures few { IfOk result (λ x. vec_len x.0 ≤ 16) }
+pub fn header_at(alloc: Global, cursor: &mut Cursor<'_>) -> Result<Vec<ObjectId>, ParseFault>
+    ensures gives { Gives (λ reads. (reads.items, cursor.new)) result (header_at cursor.old) }
+    ensures few { IfOk result (λ reads. vec_len reads ≤ 16) }
 {
-    reads_at(alloc, expect(tokens, Mark::Reads)?)
+    cursor.expect(Mark::Reads)?;
+    reads_at(alloc, cursor)
 }
 
 /// The slot of an object, which is its place in the reads.
@@ -87,81 +85,75 @@ fn slot_of(reads: &[ObjectId], object: u16) -> Option<u8>
 
 /// The slot of the object that the next token names.
 #[tactic(auto, unfolding(crate::specs::Reading::slot_at))]
-pub fn slot_at(reads: &[ObjectId], object: u16, tokens: &[Lexeme]) -> Result<u8, TextFault>
+pub fn slot_at(reads: &[ObjectId], object: u16, cursor: &Cursor<'_>) -> Result<u8, TextFault>
     requires { length reads.now ≤ 16 }
-    ensures value { result ≡ slot_at reads.now object tokens.now }
+    ensures value { result ≡ slot_at reads.now object cursor.now }
     ensures low { IfOk result (λ k. k < 16) }
 {
     match slot_of(reads, object) {
         Some(slot) => Ok(slot),
-        None => Err(fault(tokens, TextCause::NotRead)),
+        None => Err(cursor.fault(TextCause::NotRead)),
     }
 }
 
 /// A written object and its slot.
 #[tactic(auto, unfolding(crate::specs::Reading::write_at))]
-fn write_at(reads: &[ObjectId], tokens: &[Lexeme], least: u32) -> Result<(u16, u8), TextFault>
+fn write_at(reads: &[ObjectId], cursor: &Cursor<'_>, least: u32) -> Result<(u16, u8), TextFault>
     requires { length reads.now ≤ 16 }
-    ensures value { result ≡ write_at reads.now least tokens.now }
+    ensures value { result ≡ write_at reads.now least cursor.now }
     ensures low { IfOk result (λ w. w.1 < 16) }
 {
-    let object = object_at(tokens)?;
-    let slot = slot_at(reads, object, tokens)?;
+    let object = object_at(cursor)?;
+    let slot = slot_at(reads, object, cursor)?;
     if u32::from(object) < least {
-        return Err(fault(tokens, TextCause::Order));
+        return Err(cursor.fault(TextCause::Order));
     }
     Ok((object, slot))
 }
 
-#[tactic(auto, unfolding(crate::specs::Reading::is_number_at))]
-fn is_number_at(tokens: &[Lexeme]) -> bool
-    ensures { result ≡ is_number_at tokens.now }
+#[tactic(auto, using(crate::proofs::Next::is_number_at_is))]
+fn is_number_at(cursor: &Cursor<'_>) -> bool
+    ensures { result ≡ is_number_at cursor.now }
 {
-    match tokens {
-        [] => false,
-        [first, ..] => matches!(first.token, Token::Number(_) | Token::Wide),
-    }
+    matches!(cursor.next().token, Token::Number(_) | Token::Wide)
 }
 
 /// The written objects as a mask over the slots.
 #[tactic(auto, using(crate::proofs::Turns::writes_from_is))]
-pub fn writes_at<'a>(
-    reads: &[ObjectId],
-    tokens: &'a [Lexeme],
-) -> Result<(u16, &'a [Lexeme]), TextFault>
+pub fn writes_at(reads: &[ObjectId], cursor: &mut Cursor<'_>) -> Result<u16, TextFault>
     requires { length reads.now ≤ 16 }
-    ensures { seen (λ x. (x.0, x.1.now)) result ≡ writes_from reads.now 0 0 tokens.now }
+    ensures { seen (λ mask. (mask, cursor.new)) result ≡ writes_from reads.now 0 0 cursor.old }
 {
     let mut mask = 0;
     let mut least = 0;
-    let mut rest = tokens;
-    while is_number_at(rest) {
-        let (object, slot) = write_at(reads, rest, least)?;
+    while is_number_at(cursor) {
+        let (object, slot) = write_at(reads, cursor, least)?;
         mask |= 1 << slot;
         least = u32::from(object) + 1;
-        rest = rest_of(rest);
+        cursor.advance();
     }
-    Ok((mask, rest))
+    Ok(mask)
 }
 
 #[tactic(auto, unfolding(crate::specs::Reading::coordinate_at))]
-fn coordinate_at(tokens: &[Lexeme]) -> Result<i32, TextFault>
-    ensures { result ≡ coordinate_at tokens.now }
+fn coordinate_at(cursor: &Cursor<'_>) -> Result<i32, TextFault>
+    ensures { result ≡ coordinate_at cursor.now }
 {
-    let coordinate = number_at(tokens, -1_000_000, 1_000_000)?;
+    let coordinate = cursor.number_at(-1_000_000, 1_000_000)?;
     Ok(coordinate as i32)
 }
 
 #[tactic(auto, unfolding(crate::specs::Reading::origin_at))]
-pub fn origin_at(tokens: &[Lexeme]) -> Result<(Point, &[Lexeme]), TextFault>
-    ensures { seen (λ x. (x.0, x.1.now)) result ≡ origin_at tokens.now }
+pub fn origin_at(cursor: &mut Cursor<'_>) -> Result<Point, TextFault>
+    ensures { seen (λ point. (point, cursor.new)) result ≡ origin_at cursor.old }
 {
-    if !is_at(tokens, Mark::At) {
-        return Ok((Point { x: 0, y: 0 }, tokens));
+    if !cursor.is_at(Mark::At) {
+        return Ok(Point { x: 0, y: 0 });
     }
-    let tokens = rest_of(tokens);
-    let x = coordinate_at(tokens)?;
-    let tokens = rest_of(tokens);
-    let y = coordinate_at(tokens)?;
-    Ok((Point { x, y }, rest_of(tokens)))
+    cursor.advance();
+    let x = coordinate_at(cursor)?;
+    cursor.advance();
+    let y = coordinate_at(cursor)?;
+    cursor.advance();
+    Ok(Point { x, y })
 }

@@ -1,14 +1,14 @@
 //! From bytes to tokens.
 
-ghost use Rattle.std.specs.Prelude.{◌≡◌, ◌+◌, ◌-◌, ◌*◌, ◌^◌, ◌<◌, ◌≤◌, cond, min, length, drop, slice_index, IfOk};
+ghost use Rattle.std.specs.Prelude.{◌≡◌, ◌+◌, ◌-◌, ◌*◌, ◌^◌, ◌<◌, ◌≤◌, cond, min, false, ℕ, List, [], length, drop, slice_index};
 ghost use Rattle.std.specs.List.{prefix_len, take_while};
 ghost use Rattle.std.specs.Char.{is_ascii_digit, is_ascii_lowercase};
-ghost use Rattle.sv_text.specs.Tokens.{is_blank, digits_at, value_of, has_leading_zero, number_of, is_text, word_of, sign_of, sign_at, positive, negative, small_ref, ref_of, ref_at, word_at, number_at, negative_at, token_at, is_word, is_joint, tokens_of};
+ghost use Rattle.sv_text.specs.Tokens.{is_blank, digits_at, value_of, has_leading_zero, number_of, is_text, word_of, sign_of, sign_at, positive, negative, small_ref, ref_of, ref_at, word_at, number_at, negative_at, token_at, is_word, is_joint, tokens_from};
+ghost use Rattle.sv_text.specs.Ahead.{held, IsAhead};
 ghost use Rattle.sv_text.specs.declared.token.Mark.TheVariants.{Other};
 
 use crate::TextCause;
-use crate::token::{Lexeme, Mark, Token};
-use std::alloc::{AllocError, Global};
+use crate::token::{Ahead, Left, Lexeme, Mark, Token};
 
 /// The byte at a place, and 0 past the end.
 fn byte_at(bytes: &[u8], at: usize) -> u8
@@ -273,7 +273,7 @@ fn token_at(bytes: &[u8]) -> (Token, usize)
 }
 
 #[tactic(auto, unfolding(crate::specs::Tokens::is_joint))]
-fn is_joint(token: Token) -> bool
+pub fn is_joint(token: Token) -> bool
     ensures { result ≡ is_joint token }
 {
     match token {
@@ -314,33 +314,69 @@ fn token_behind(bytes: &[u8], at: usize) -> (Token, usize)
     token_at(&bytes[at..])
 }
 
-/// The tokens of a text, the last of them its end.
-pub fn tokens(alloc: Global, bytes: &[u8]) -> Result<Vec<Lexeme>, AllocError>
-    requires { length bytes.now < 2 ^ 32 }
-    ensures { IfOk result (λ v. v.items ≡ tokens_of bytes.now) }
+/// Where the blanks from a place on end, and whether a word or number stands directly before that.
+#[tactic(auto, using(crate::proofs::Lexing::blank_step))]
+fn behind_blanks(bytes: &[u8], at: usize, glued: bool) -> (usize, bool)
+    requires { at ≤ length bytes.now }
+    ensures within { result.0 ≤ length bytes.now }
+    ensures stands { is_blank (slice_index bytes.now result.0) ≡ false }
+    ensures same { tokens_from 0 result.0 result.1 (drop result.0 bytes.now) ≡ tokens_from 0 at glued (drop at bytes.now) }
 {
-    let mut lexemes = Vec::with_capacity(alloc, bytes.len() / 2 + 1)?;
-    let mut at = 0;
-    let mut glued = false;
-    while at < bytes.len() {
-        if is_blank(bytes[at]) {
-            at += 1;
-            glued = false;
-            continue;
-        }
-        let (token, len) = token_behind(bytes, at);
-        lexemes.push(Lexeme {
-            place: at as u32,
+    let mut end = at;
+    let mut is_glued = glued;
+    while is_blank(byte_at(bytes, end)) {
+        end += 1;
+        is_glued = false;
+    }
+    (end, is_glued)
+}
+
+/// The next token from a place on.
+pub fn ahead_at(bytes: &[u8], at: usize, glued: bool) -> Ahead
+    requires few { length bytes.now < 2 ^ 32 }
+    requires within { at ≤ length bytes.now }
+    ensures held { held bytes.now result ≡ tokens_from 0 at glued (drop at bytes.now) }
+    ensures stands { IsAhead bytes.now result }
+{
+    let (at, glued) = behind_blanks(bytes, at, glued);
+    let place = at as u32;
+    if at == bytes.len() {
+        let token = Token::Mark(Mark::End);
+        return Ahead {
+            next: Lexeme {
+                place,
+                glued,
+                token,
+            },
+            end: at,
+            left: Left::End,
+        };
+    }
+    let (token, len) = token_behind(bytes, at);
+    Ahead {
+        next: Lexeme {
+            place,
             glued,
             token,
-        })?;
-        at += len;
-        glued = is_joint(token);
+        },
+        end: at + len,
+        left: Left::Tokens,
     }
-    lexemes.push(Lexeme {
-        place: at as u32,
-        glued,
-        token: Token::Mark(Mark::End),
-    })?;
-    Ok(lexemes)
+}
+
+/// What stands behind the end of a text.
+#[tactic(auto, unfolding(crate::specs::Ahead::held))]
+pub fn nothing_ahead() -> Ahead
+    ensures held { (bytes : List ℕ) → held bytes result ≡ [] }
+    ensures stands { (bytes : List ℕ) → length bytes < 2 ^ 32 → IsAhead bytes result }
+{
+    Ahead {
+        next: Lexeme {
+            place: 0,
+            glued: false,
+            token: Token::Bad(TextCause::Expected),
+        },
+        end: 0,
+        left: Left::Nothing,
+    }
 }

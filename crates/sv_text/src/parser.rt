@@ -7,11 +7,10 @@ ghost use Rattle.sv_text.specs.Tokens.{tokens_of};
 ghost use Rattle.sv_text.specs.Reading.{Gives, body_at, reading};
 
 use crate::ParseFault;
-use crate::cursor::expect;
+use crate::cursor::Cursor;
 use crate::header::{header_at, origin_at, writes_at};
-use crate::lexer::tokens;
 use crate::statement::block_at;
-use crate::token::{Lexeme, Mark};
+use crate::token::Mark;
 use std::alloc::Global;
 use sv_world::{Action, List, ObjectId, Reads, Shared, Stmt};
 
@@ -19,23 +18,27 @@ use sv_world::{Action, List, ObjectId, Reads, Shared, Stmt};
 const DEPTH: u8 = 8;
 
 #[tactic(auto, unfolding(crate::specs::Reading::body_at))]
-fn body_at(alloc: Global, reads: &[ObjectId], tokens: &[Lexeme]) -> Result<Shared<Stmt>, ParseFault>
+fn body_at(
+    alloc: Global,
+    reads: &[ObjectId],
+    cursor: &mut Cursor<'_>,
+) -> Result<Shared<Stmt>, ParseFault>
     requires { length reads.now ≤ 16 }
-    ensures { Gives (λ body. body) result (body_at reads.now tokens.now) }
+    ensures { Gives (λ body. body) result (body_at reads.now cursor.old) }
 {
-    let (body, _, rest) = block_at(alloc, DEPTH, 0, reads, tokens)?;
-    let _ = expect(rest, Mark::End)?;
+    let (body, _) = block_at(alloc, DEPTH, 0, reads, cursor)?;
+    cursor.expect(Mark::End)?;
     Ok(Shared::from_list(body)?)
 }
 
 #[tactic(auto, unfolding(crate::specs::Reading::reading))]
-fn action_at(alloc: Global, tokens: &[Lexeme]) -> Result<Action, ParseFault>
-    ensures { Gives (λ action. action) result (reading tokens.now) }
+fn action_at(alloc: Global, cursor: &mut Cursor<'_>) -> Result<Action, ParseFault>
+    ensures { Gives (λ action. action) result (reading cursor.old) }
 {
-    let (reads, rest) = header_at(alloc, tokens)?;
-    let (mask, rest) = writes_at(&reads, rest)?;
-    let (origin, rest) = origin_at(rest)?;
-    let body = body_at(alloc, &reads, rest)?;
+    let reads = header_at(alloc, cursor)?;
+    let mask = writes_at(&reads, cursor)?;
+    let origin = origin_at(cursor)?;
+    let body = body_at(alloc, &reads, cursor)?;
     Ok(Action {
         reads: Reads::from_vec(reads),
         mask,
@@ -48,8 +51,8 @@ fn read_action(alloc: Global, text: &str) -> Result<Action, ParseFault>
     requires { length text.now < 2 ^ 32 }
     ensures { Gives (λ action. action) result (reading (tokens_of text.now)) }
 {
-    let lexemes = tokens(alloc, text.as_bytes())?;
-    action_at(alloc, &lexemes)
+    let mut cursor = Cursor::new(text.as_bytes());
+    action_at(alloc, &mut cursor)
 }
 
 /// The action that a text writes.

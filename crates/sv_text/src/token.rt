@@ -56,3 +56,20 @@ pub struct Lexeme {
     pub glued: bool,
     pub token: Token,
 }
+
+/// What is left of a text: tokens and its end, its end alone, or nothing.
+#[derive(Clone, Copy, Debug, Drop)]
+pub enum Left {
+    Tokens,
+    End,
+    Nothing,
+}
+
+/// The token that stands next. Behind the end of the text this is one that may stand nowhere.
+#[derive(Clone, Copy, Debug, Drop)]
+pub struct Ahead {
+    pub next: Lexeme,
+    /// Where the bytes behind it begin.
+    pub end: usize,
+    pub left: Left,
+}

@@ -2,11 +2,11 @@ use Rattle.std.proofs.Common.{◌≡◌, ◌≤◌, [], length}
 use Rattle.sv_text.specs.Reading.{reads_from}
 use Rattle.sv_text.proofs.header.reads_at.Given as goal
 
-abbrev pub invariant-loop-reads : goal.invariant-loop-reads
-invariant-loop-reads l = record {
+abbrev pub invariant-loop-cursor : goal.invariant-loop-cursor
+invariant-loop-cursor l = record {
   few : length l.reads.items ≤ 16;
-  told : reads_from l.reads.items l.least l.rest ≡ reads_from [] 0 l.tokens;
+  told : reads_from l.reads.items l.least l.cursor ≡ reads_from [] 0 l.fn.cursor;
 }
 
-abbrev pub decreases-loop-reads : goal.decreases-loop-reads
-decreases-loop-reads l = length l.rest
+abbrev pub decreases-loop-cursor : goal.decreases-loop-cursor
+decreases-loop-cursor l = length l.cursor

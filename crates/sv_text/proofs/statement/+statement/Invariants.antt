@@ -5,7 +5,7 @@ use Rattle.sv_text.proofs.statement.+statement.Given as goal
 abbrev pub invariant-stmts_at-loop : goal.invariant-stmts_at-loop
 invariant-stmts_at-loop l = record {
   few : l.count ≤ 64;
-  told : stmts_by (stmt_at l.reads l.depth) (65 - l.counter) l.body l.count l.rest ≡ stmts_by (stmt_at l.reads l.depth) 65 [] l.nodes l.tokens;
+  told : stmts_by (stmt_at l.reads l.depth) (65 - l.counter) l.body l.count l.cursor ≡ stmts_by (stmt_at l.reads l.depth) 65 [] l.nodes l.fn.cursor;
 }
 
 abbrev pub decreases-stmt_at : goal.decreases-stmt_at
