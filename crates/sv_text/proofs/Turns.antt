@@ -25,6 +25,14 @@ unfolding reads_from is_at front read_at object_at number_at
 reads_from_is before least [] = rw (and-false (ltb 0 (length before))) refl
 reads_from_is before least (t ∷ ts) = refl
 
+-- one more read
+pub reads_go_on : (before after : List ObjectId) (count least o : ℕ) (ts : List Lexeme) → count ≡ length before → ends_reads count ts ≡ false
+    → read_at count least ts ≡ Ok o → after ≡ before ++ as_object o ∷ [] → reads_from after (o + 1) (rest_of ts) ≡ reads_from before least ts
+reads_go_on before after count least o ts is goes read same =
+    let ends : ends_reads (length before) ts ≡ false = rw (← is) goes in
+    let one : read_at (length before) least ts ≡ Ok o = rw (← is) read in
+    rw same (sym (rw (ends, one) at (reads_from_is before least ts)))
+
 pub writes_from_is : (reads : List ObjectId) (mask least : ℕ) (ts : List Lexeme) → writes_from reads mask least ts ≡
     cond (is_number_at ts) (write_at reads least ts >>= λ w. writes_from reads (bit_or mask (2 ^ w.1)) (w.0 + 1) (rest_of ts)) (Ok (mask, ts))
 unfolding writes_from is_number_at

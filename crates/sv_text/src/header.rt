@@ -1,13 +1,13 @@
 //! The reads, the writes and the origin of an action.
 
-ghost use Rattle.std.specs.Prelude.{◌≡◌, ◌≤◌, ◌<◌, [], length, vec_len, Ok, IfOk, OnOk, IfSome};
+ghost use Rattle.std.specs.Prelude.{◌≡◌, ◌≤◌, ◌<◌, [], length, Ok, IfOk, OnOk, IfSome};
 ghost use Rattle.sv_text.specs.Reading.{Gives, seen, object_at, read_at, ends_reads, reads_from, slot_from, slot_at, write_at, is_number_at, writes_from, coordinate_at, origin_at, header_at};
 
 use crate::cursor::Cursor;
 use crate::token::{Mark, Token};
 use crate::{ParseFault, TextCause, TextFault};
 use std::alloc::Global;
-use sv_world::{ObjectId, Point};
+use sv_world::{ObjectId, Point, Reads};
 
 #[tactic(auto, unfolding(crate::specs::Reading::object_at))]
 fn object_at(cursor: &Cursor<'_>) -> Result<u16, TextFault>
@@ -43,11 +43,11 @@ fn ends_reads(cursor: &Cursor<'_>, count: usize) -> bool
 
 /// One read or more, and `writes`.
 #[tactic(auto, using(crate::proofs::Turns::reads_from_is))]
-fn reads_at(alloc: Global, cursor: &mut Cursor<'_>) -> Result<Vec<ObjectId>, ParseFault>
-    ensures gives { Gives (λ reads. (reads.items, cursor.new)) result (reads_from [] 0 cursor.old) }
-    ensures few { IfOk result (λ reads. vec_len reads ≤ 16) }
+fn reads_at(alloc: Global, cursor: &mut Cursor<'_>) -> Result<Reads, ParseFault>
+    ensures gives { Gives (λ reads. (reads, cursor.new)) result (reads_from [] 0 cursor.old) }
+    ensures few { IfOk result (λ reads. length reads ≤ 16) }
 {
-    let mut reads = Vec::new(alloc);
+    let mut reads = Reads::new(alloc);
     let mut least = 0;
     while !ends_reads(cursor, reads.len()) {
         let object = read_at(cursor, reads.len(), least)?;
@@ -60,9 +60,9 @@ fn reads_at(alloc: Global, cursor: &mut Cursor<'_>) -> Result<Vec<ObjectId>, Par
 }
 
 #[tactic(auto, unfolding(crate::specs::Reading::header_at))]
-pub fn header_at(alloc: Global, cursor: &mut Cursor<'_>) -> Result<Vec<ObjectId>, ParseFault>
-    ensures gives { Gives (λ reads. (reads.items, cursor.new)) result (header_at cursor.old) }
-    ensures few { IfOk result (λ reads. vec_len reads ≤ 16) }
+pub fn header_at(alloc: Global, cursor: &mut Cursor<'_>) -> Result<Reads, ParseFault>
+    ensures gives { Gives (λ reads. (reads, cursor.new)) result (header_at cursor.old) }
+    ensures few { IfOk result (λ reads. length reads ≤ 16) }
 {
     cursor.expect(Mark::Reads)?;
     reads_at(alloc, cursor)

@@ -12,7 +12,7 @@ use crate::header::{header_at, origin_at, writes_at};
 use crate::statement::block_at;
 use crate::token::Mark;
 use std::alloc::Global;
-use sv_world::{Action, List, ObjectId, Reads, Shared, Stmt};
+use sv_world::{Action, ObjectId, Shared, Stmt};
 
 /// The deepest that a node may stand, counted from the outermost statements.
 const DEPTH: u8 = 8;
@@ -36,11 +36,11 @@ fn action_at(alloc: Global, cursor: &mut Cursor<'_>) -> Result<Action, ParseFaul
     ensures { Gives (λ action. action) result (reading cursor.old) }
 {
     let reads = header_at(alloc, cursor)?;
-    let mask = writes_at(&reads, cursor)?;
+    let mask = writes_at(reads.as_slice(), cursor)?;
     let origin = origin_at(cursor)?;
-    let body = body_at(alloc, &reads, cursor)?;
+    let body = body_at(alloc, reads.as_slice(), cursor)?;
     Ok(Action {
-        reads: Reads::from_vec(reads),
+        reads,
         mask,
         origin,
         body,

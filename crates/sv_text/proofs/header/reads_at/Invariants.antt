@@ -4,8 +4,8 @@ use Rattle.sv_text.proofs.header.reads_at.Given as goal
 
 abbrev pub invariant-loop-cursor : goal.invariant-loop-cursor
 invariant-loop-cursor l = record {
-  few : length l.reads.items ≤ 16;
-  told : reads_from l.reads.items l.least l.cursor ≡ reads_from [] 0 l.fn.cursor;
+  few : length l.reads ≤ 16;
+  told : reads_from l.reads l.least l.cursor ≡ reads_from [] 0 l.fn.cursor;
 }
 
 abbrev pub decreases-loop-cursor : goal.decreases-loop-cursor
