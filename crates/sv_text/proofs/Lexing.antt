@@ -14,8 +14,9 @@ use Rattle.sv_text.specs.declared.token.Token.{Token}
 use Rattle.sv_text.specs.declared.token.Token.TheVariants as tokens
 use Rattle.sv_text.specs.declared.token.Lexeme.{Lexeme}
 use Rattle.sv_text.specs.declared.token.Left.TheVariants as lefts
-use Rattle.sv_text.specs.Tokens.{is_blank, digits_at, sign_at, ref_of, ref_at, word_at, number_at, negative_at, token_at, is_joint, tokens_from}
-use Rattle.sv_text.specs.Ahead.{held}
+use Rattle.sv_text.specs.declared.token.Ahead.{Ahead}
+use Rattle.sv_text.specs.Tokens.{is_blank, digits_at, sign_at, ref_of, ref_at, word_at, number_at, negative_at, token_at, is_joint, tokens_from, tokens_of}
+use Rattle.sv_text.specs.Ahead.{nothing_ahead, held}
 
 abbrev HasLength : List ℕ → Token × ℕ → Type 0
 HasLength bs t = (0 < t.1) × (t.1 ≤ length bs)
@@ -139,3 +140,8 @@ pub end_is : (bs : List ℕ) (at end : ℕ) (glued : Bool) → length bs ≤ at
     → held bs (record { next = record { place = at; glued = glued; token = tokens.Mark marks.End }; end = end; left = lefts.End }) ≡ tokens_from 0 at glued (drop at bs)
 unfolding held
 end_is bs at end glued le = sym (end_step bs at glued le)
+
+-- the first token stands behind nothing
+pub starts : (bs : List ℕ) (a b : Ahead) → a ≡ nothing_ahead → held bs b ≡ tokens_from 0 a.end (is_joint a.next.token) (drop a.end bs) → held bs b ≡ tokens_of bs
+unfolding tokens_of is_joint
+starts bs a b e told = rw e at told

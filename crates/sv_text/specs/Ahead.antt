@@ -12,6 +12,9 @@ use Rattle.sv_text.specs.Tokens.{is_joint, tokens_from}
 abbrev pub nothing : Lexeme
 nothing = record { place = 0; glued = false; token = tokens.Bad causes.Expected }
 
+abbrev pub nothing_ahead : Ahead
+nothing_ahead = record { next = nothing; end = 0; left = lefts.Nothing }
+
 abbrev pub next_of : List Lexeme → Lexeme
 next_of [] = nothing
 next_of (t ∷ ts) = t

@@ -5,7 +5,7 @@ ghost use Rattle.sv_text.specs.Tokens.{tokens_of};
 ghost use Rattle.sv_text.specs.Ahead.{next_of};
 ghost use Rattle.sv_text.specs.Reading.{seen, is_same, front_of, mark_of, cause_of, front, is_at, rest_of, fault, unexpected, expect, number_at};
 
-use crate::lexer::{ahead_at, is_joint, is_word, nothing_ahead};
+use crate::lexer::{go_ahead, is_word, nothing_ahead};
 use crate::token::{Ahead, Left, Lexeme, Mark, Token};
 use crate::{TextCause, TextFault};
 use std::marker::Model;
@@ -37,8 +37,8 @@ fn is_same(mark: Mark, other: Mark) -> bool
     mark as u8 == other as u8
 }
 
-fn front_of(next: Lexeme) -> Option<Mark>
-    ensures { result ≡ front_of next.glued (mark_of next.token) }
+fn front_of(next: &Lexeme) -> Option<Mark>
+    ensures { result ≡ front_of next.now.glued (mark_of next.now.token) }
 {
     match next.token {
         Token::Mark(mark) if next.glued && is_word(mark) => None,
@@ -58,15 +58,14 @@ fn cause_of(token: Token) -> TextCause
 
 impl<'a> Cursor<'a> {
     /// All tokens of a text.
-    #[tactic(auto, unfolding(crate::specs::Tokens::tokens_of))]
+    #[tactic(auto, using(crate::proofs::Lexing::starts))]
     pub fn new(bytes: &'a [u8]) -> Cursor<'a>
         requires { length bytes.now < 2 ^ 32 }
         ensures { result ≡ tokens_of bytes.now }
     {
-        Cursor {
-            bytes,
-            ahead: ahead_at(bytes, 0, false),
-        }
+        let mut ahead = nothing_ahead();
+        go_ahead(bytes, &mut ahead);
+        Cursor { bytes, ahead }
     }
 
     /// Goes behind the next token.
@@ -74,21 +73,18 @@ impl<'a> Cursor<'a> {
     pub fn advance(&mut self)
         ensures { self.new ≡ rest_of self.old }
     {
-        self.ahead = match self.ahead.left {
-            Left::Tokens => {
-                let glued = is_joint(self.ahead.next.token);
-                ahead_at(self.bytes, self.ahead.end, glued)
-            }
-            Left::End | Left::Nothing => nothing_ahead(),
-        };
+        match self.ahead.left {
+            Left::Tokens => go_ahead(self.bytes, &mut self.ahead),
+            Left::End | Left::Nothing => self.ahead = nothing_ahead(),
+        }
     }
 
     /// The next token, or one that may stand nowhere.
     #[tactic(auto, unfolding(crate::specs::Ahead::held))]
-    pub fn next(&self) -> Lexeme
-        ensures { result ≡ next_of self.now }
+    pub fn next(&self) -> &Lexeme
+        ensures { result.now ≡ next_of self.now }
     {
-        self.ahead.next
+        &self.ahead.next
     }
 
     #[tactic(auto, using(crate::proofs::Next::place_is))]

@@ -1,10 +1,10 @@
 //! From bytes to tokens.
 
-ghost use Rattle.std.specs.Prelude.{◌≡◌, ◌+◌, ◌-◌, ◌*◌, ◌^◌, ◌<◌, ◌≤◌, cond, min, false, ℕ, List, [], length, drop, slice_index};
+ghost use Rattle.std.specs.Prelude.{◌≡◌, ◌+◌, ◌-◌, ◌*◌, ◌^◌, ◌<◌, ◌≤◌, cond, min, false, length, drop, slice_index};
 ghost use Rattle.std.specs.List.{prefix_len, take_while};
 ghost use Rattle.std.specs.Char.{is_ascii_digit, is_ascii_lowercase};
 ghost use Rattle.sv_text.specs.Tokens.{is_blank, digits_at, value_of, has_leading_zero, number_of, is_text, word_of, sign_of, sign_at, positive, negative, small_ref, ref_of, ref_at, word_at, number_at, negative_at, token_at, is_word, is_joint, tokens_from};
-ghost use Rattle.sv_text.specs.Ahead.{held, IsAhead};
+ghost use Rattle.sv_text.specs.Ahead.{nothing_ahead, held, IsAhead};
 ghost use Rattle.sv_text.specs.declared.token.Mark.TheVariants.{Other};
 
 use crate::TextCause;
@@ -331,44 +331,31 @@ fn behind_blanks(bytes: &[u8], at: usize, glued: bool) -> (usize, bool)
     (end, is_glued)
 }
 
-/// The next token from a place on.
-pub fn ahead_at(bytes: &[u8], at: usize, glued: bool) -> Ahead
+/// Goes to the next token behind the one that stands ahead. The fields are written one by one, since a whole `Ahead` is slow to move.
+pub fn go_ahead(bytes: &[u8], ahead: &mut Ahead)
     requires few { length bytes.now < 2 ^ 32 }
-    requires within { at ≤ length bytes.now }
-    ensures held { held bytes.now result ≡ tokens_from 0 at glued (drop at bytes.now) }
-    ensures stands { IsAhead bytes.now result }
+    requires within { ahead.old.end ≤ length bytes.now }
+    ensures held { held bytes.now ahead.new ≡ tokens_from 0 ahead.old.end (is_joint ahead.old.next.token) (drop ahead.old.end bytes.now) }
+    ensures stands { IsAhead bytes.now ahead.new }
 {
-    let (at, glued) = behind_blanks(bytes, at, glued);
-    let place = at as u32;
+    let (at, glued) = behind_blanks(bytes, ahead.end, is_joint(ahead.next.token));
+    ahead.next.place = at as u32;
+    ahead.next.glued = glued;
     if at == bytes.len() {
-        let token = Token::Mark(Mark::End);
-        return Ahead {
-            next: Lexeme {
-                place,
-                glued,
-                token,
-            },
-            end: at,
-            left: Left::End,
-        };
+        ahead.next.token = Token::Mark(Mark::End);
+        ahead.end = at;
+        ahead.left = Left::End;
+        return;
     }
     let (token, len) = token_behind(bytes, at);
-    Ahead {
-        next: Lexeme {
-            place,
-            glued,
-            token,
-        },
-        end: at + len,
-        left: Left::Tokens,
-    }
+    ahead.next.token = token;
+    ahead.end = at + len;
+    ahead.left = Left::Tokens;
 }
 
 /// What stands behind the end of a text.
-#[tactic(auto, unfolding(crate::specs::Ahead::held))]
 pub fn nothing_ahead() -> Ahead
-    ensures held { (bytes : List ℕ) → held bytes result ≡ [] }
-    ensures stands { (bytes : List ℕ) → length bytes < 2 ^ 32 → IsAhead bytes result }
+    ensures { result ≡ nothing_ahead }
 {
     Ahead {
         next: Lexeme {
