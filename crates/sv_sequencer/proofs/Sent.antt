@@ -25,6 +25,8 @@ use Rattle.sv_world.proofs.action.Expr.TheLaws.TheKnot as expr_knot
 use Rattle.sv_world.proofs.action.Cond.TheLaws.TheKnot as condition_knot
 use Rattle.sv_world.proofs.action.Stmt.TheLaws.TheKnot as stmt_knot
 use Rattle.sv_world.proofs.list.List.TheSendSync as lists
+use Rattle.sv_world.proofs.short.Short.TheSendSync as shorts
+use Rattle.sv_world.proofs.shared.Shared.TheSendSync as shared
 use Rattle.sv_lock.specs.contracts.lock.SeqLock as lock
 use Rattle.sv_lock.specs.contracts.pass.Pass as pass
 use Rattle.sv_lock.proofs.lock.SeqLock.TheSendSync as locks
@@ -42,23 +44,32 @@ condition-sends = search (expr_knot.crosses, condition_knot.crosses, sendable, c
 stmt-sends : IsSend stmt.the_row
 stmt-sends = search (expr_knot.crosses, condition_knot.crosses, stmt_knot.crosses, sendable, crosses) depth 20
 
+expr-syncs : IsSync expr.the_row
+expr-syncs = search (expr_knot.crosses, sendable, crosses) depth 20
+
+condition-syncs : IsSync condition.the_row
+condition-syncs = search (expr_knot.crosses, condition_knot.crosses, sendable, crosses) depth 20
+
+stmt-syncs : IsSync stmt.the_row
+stmt-syncs = search (expr_knot.crosses, condition_knot.crosses, stmt_knot.crosses, sendable, crosses) depth 20
+
 action-sends : IsSend action.the_row
-action-sends = search (lists.the_send, stmt-sends, sendable, crosses) depth 30
+action-sends = search (shorts.the_send, shared.the_send, stmt-sends, stmt-syncs, sendable, crosses) depth 30
 
 action-field-sends : IsSend (action.the_field).row
-action-field-sends = search (lists.the_send, stmt-sends, sendable, crosses) depth 30
+action-field-sends = search (shorts.the_send, shared.the_send, stmt-sends, stmt-syncs, sendable, crosses) depth 30
 
 queued-sends : IsSend queued.the_row
-queued-sends = search (action-field-sends, lists.the_send, sendable, crosses) depth 30
+queued-sends = search (action-field-sends, lists.the_send, shorts.the_send, sendable, crosses) depth 30
 
 queue-sends : IsSend queue.the_row
-queue-sends = search (queued-sends, lists.the_send, sources.the_send, writers.the_send, sessions.the_send, sendable, crosses) depth 40
+queue-sends = search (queued-sends, lists.the_send, shorts.the_send, sources.the_send, writers.the_send, sessions.the_send, sendable, crosses) depth 40
 
 request-field-sends : IsSend (request.the_field).row
-request-field-sends = search (lists.the_send, action-field-sends, sendable, crosses) depth 30 fits 10000
+request-field-sends = search (lists.the_send, shorts.the_send, action-field-sends, sendable, crosses) depth 30 fits 10000
 
 logged-field-sends : IsSend (logged.the_field).row
-logged-field-sends = search (lists.the_send, sendable, crosses) depth 30
+logged-field-sends = search (lists.the_send, shorts.the_send, sendable, crosses) depth 30
 
 entry-sends : IsSend entry.the_row
 entry-sends = search (request-field-sends, logged-field-sends, sendable, crosses) depth 20
