@@ -46,6 +46,7 @@ fn comparison_at(cursor: &Cursor<'_>) -> Result<Comparison, TextFault>
     }
 }
 
+#[inline(always)]
 fn with_joint(alloc: Global, joint: Joint, left: Cond, right: Cond) -> Result<Cond, AllocError>
     ensures { IfOk result (λ c. c ≡ with_joint joint left right) }
 {
@@ -84,10 +85,10 @@ fn joint_at(cursor: &Cursor<'_>) -> Result<Joint, TextFault>
 fn compare_at(
     alloc: Global,
     depth: u8,
-    nodes: u8,
+    nodes: usize,
     reads: &[ObjectId],
     cursor: &mut Cursor<'_>,
-) -> Result<(Cond, u8), ParseFault>
+) -> Result<(Cond, usize), ParseFault>
     requires { length reads.now ≤ 16 }
     ensures gives { Gives (λ x. (x.0, x.1, cursor.new)) result (compare_by (expr_at reads.now depth) nodes cursor.old) }
     ensures few { IfOk result (λ x. x.1 ≤ 64) }
@@ -104,10 +105,10 @@ fn compare_at(
 pub fn cond_at(
     alloc: Global,
     depth: u8,
-    nodes: u8,
+    nodes: usize,
     reads: &[ObjectId],
     cursor: &mut Cursor<'_>,
-) -> Result<(Cond, u8), ParseFault>
+) -> Result<(Cond, usize), ParseFault>
     requires { length reads.now ≤ 16 }
     ensures gives { Gives (λ x. (x.0, x.1, cursor.new)) result (cond_at reads.now depth nodes cursor.old) }
     ensures few { IfOk result (λ x. x.1 ≤ 64) }
@@ -135,10 +136,10 @@ pub fn cond_at(
 fn join_at(
     alloc: Global,
     depth: u8,
-    nodes: u8,
+    nodes: usize,
     reads: &[ObjectId],
     cursor: &mut Cursor<'_>,
-) -> Result<(Cond, u8), ParseFault>
+) -> Result<(Cond, usize), ParseFault>
     requires { length reads.now ≤ 16 }
     ensures gives { Gives (λ x. (x.0, x.1, cursor.new)) result (join_by (cond_at reads.now depth) nodes cursor.old) }
     ensures few { IfOk result (λ x. x.1 ≤ 64) }
@@ -156,10 +157,10 @@ fn joined_at(
     joint: Joint,
     left: Cond,
     depth: u8,
-    nodes: u8,
+    nodes: usize,
     reads: &[ObjectId],
     cursor: &mut Cursor<'_>,
-) -> Result<(Cond, u8), ParseFault>
+) -> Result<(Cond, usize), ParseFault>
     requires { length reads.now ≤ 16 }
     ensures gives { Gives (λ x. (x.0, x.1, cursor.new)) result (joined_by (cond_at reads.now depth) joint left nodes cursor.old) }
     ensures few { IfOk result (λ x. x.1 ≤ 64) }
@@ -174,10 +175,10 @@ fn joined_at(
 fn closed_cond_at(
     alloc: Global,
     depth: u8,
-    nodes: u8,
+    nodes: usize,
     reads: &[ObjectId],
     cursor: &mut Cursor<'_>,
-) -> Result<(Cond, u8), ParseFault>
+) -> Result<(Cond, usize), ParseFault>
     requires { length reads.now ≤ 16 }
     ensures gives { Gives (λ x. (x.0, x.1, cursor.new)) result (closed_by (cond_at reads.now depth) marks.Close nodes cursor.old) }
     ensures few { IfOk result (λ x. x.1 ≤ 64) }
@@ -192,10 +193,10 @@ fn closed_cond_at(
 fn not_at(
     alloc: Global,
     depth: u8,
-    nodes: u8,
+    nodes: usize,
     reads: &[ObjectId],
     cursor: &mut Cursor<'_>,
-) -> Result<(Cond, u8), ParseFault>
+) -> Result<(Cond, usize), ParseFault>
     requires { length reads.now ≤ 16 }
     ensures gives { Gives (λ x. (x.0, x.1, cursor.new)) result (not_by (cond_at reads.now depth) nodes cursor.old) }
     ensures few { IfOk result (λ x. x.1 ≤ 64) }

@@ -13,7 +13,7 @@ use sv_world::{Boxed, Expr, ObjectId};
 
 /// Starts a node, and counts it.
 #[tactic(auto, unfolding(crate::specs::Reading::start))]
-pub fn start(cursor: &Cursor<'_>, depth: u8, nodes: u8) -> Result<u8, TextFault>
+pub fn start(cursor: &Cursor<'_>, depth: u8, nodes: usize) -> Result<usize, TextFault>
     ensures value { result ≡ start depth nodes cursor.now }
     ensures few { IfOk result (λ n. n ≤ 64) }
     ensures deep { OnOk result (0 < depth) }
@@ -27,6 +27,7 @@ pub fn start(cursor: &Cursor<'_>, depth: u8, nodes: u8) -> Result<u8, TextFault>
     Ok(nodes + 1)
 }
 
+#[inline(always)]
 fn with_op(alloc: Global, op: Op, left: Expr, right: Expr) -> Result<Expr, AllocError>
     ensures { IfOk result (λ e. e ≡ with_op op left right) }
 {
@@ -96,10 +97,10 @@ fn leaf_at(reads: &[ObjectId], cursor: &Cursor<'_>) -> Result<Expr, TextFault>
 pub fn expr_at(
     alloc: Global,
     depth: u8,
-    nodes: u8,
+    nodes: usize,
     reads: &[ObjectId],
     cursor: &mut Cursor<'_>,
-) -> Result<(Expr, u8), ParseFault>
+) -> Result<(Expr, usize), ParseFault>
     requires { length reads.now ≤ 16 }
     ensures gives { Gives (λ x. (x.0, x.1, cursor.new)) result (expr_at reads.now depth nodes cursor.old) }
     ensures few { IfOk result (λ x. x.1 ≤ 64) }
@@ -120,10 +121,10 @@ pub fn expr_at(
 fn pair_at(
     alloc: Global,
     depth: u8,
-    nodes: u8,
+    nodes: usize,
     reads: &[ObjectId],
     cursor: &mut Cursor<'_>,
-) -> Result<(Expr, u8), ParseFault>
+) -> Result<(Expr, usize), ParseFault>
     requires { length reads.now ≤ 16 }
     ensures gives { Gives (λ x. (x.0, x.1, cursor.new)) result (pair_by (expr_at reads.now depth) nodes cursor.old) }
     ensures few { IfOk result (λ x. x.1 ≤ 64) }
@@ -142,10 +143,10 @@ pub fn closed_expr_at(
     alloc: Global,
     mark: Mark,
     depth: u8,
-    nodes: u8,
+    nodes: usize,
     reads: &[ObjectId],
     cursor: &mut Cursor<'_>,
-) -> Result<(Expr, u8), ParseFault>
+) -> Result<(Expr, usize), ParseFault>
     requires { length reads.now ≤ 16 }
     ensures gives { Gives (λ x. (x.0, x.1, cursor.new)) result (closed_by (expr_at reads.now depth) mark nodes cursor.old) }
     ensures few { IfOk result (λ x. x.1 ≤ 64) }

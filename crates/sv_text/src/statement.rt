@@ -32,10 +32,10 @@ fn target_at(reads: &[ObjectId], cursor: &Cursor<'_>) -> Result<(u8, u8), TextFa
 fn set_at(
     alloc: Global,
     depth: u8,
-    nodes: u8,
+    nodes: usize,
     reads: &[ObjectId],
     cursor: &mut Cursor<'_>,
-) -> Result<(Stmt, u8), ParseFault>
+) -> Result<(Stmt, usize), ParseFault>
     requires { length reads.now ≤ 16 }
     ensures gives { Gives (λ x. (x.0, x.1, cursor.new)) result (set_by reads.now (expr_at reads.now depth) nodes cursor.old) }
     ensures few { IfOk result (λ x. x.1 ≤ 64) }
@@ -51,10 +51,10 @@ fn set_at(
 fn stmt_at(
     alloc: Global,
     depth: u8,
-    nodes: u8,
+    nodes: usize,
     reads: &[ObjectId],
     cursor: &mut Cursor<'_>,
-) -> Result<(Stmt, u8), ParseFault>
+) -> Result<(Stmt, usize), ParseFault>
     requires { length reads.now ≤ 16 }
     ensures gives { Gives (λ x. (x.0, x.1, cursor.new)) result (stmt_at reads.now depth nodes cursor.old) }
     ensures few { IfOk result (λ x. x.1 ≤ 64) }
@@ -77,10 +77,10 @@ fn stmt_at(
 fn if_at(
     alloc: Global,
     depth: u8,
-    nodes: u8,
+    nodes: usize,
     reads: &[ObjectId],
     cursor: &mut Cursor<'_>,
-) -> Result<(Stmt, u8), ParseFault>
+) -> Result<(Stmt, usize), ParseFault>
     requires { length reads.now ≤ 16 }
     ensures gives { Gives (λ x. (x.0, x.1, cursor.new)) result (if_by (cond_at reads.now depth) (block_by (stmt_at reads.now depth)) nodes cursor.old) }
     ensures few { IfOk result (λ x. x.1 ≤ 64) }
@@ -96,10 +96,10 @@ fn if_at(
 fn branches_at(
     alloc: Global,
     depth: u8,
-    nodes: u8,
+    nodes: usize,
     reads: &[ObjectId],
     cursor: &mut Cursor<'_>,
-) -> Result<((List<Stmt>, List<Stmt>), u8), ParseFault>
+) -> Result<((List<Stmt>, List<Stmt>), usize), ParseFault>
     requires reads { length reads.now ≤ 16 }
     requires few { nodes ≤ 64 }
     ensures gives { Gives (λ x. (x.0, x.1, cursor.new)) result (branches_by (block_by (stmt_at reads.now depth)) nodes cursor.old) }
@@ -116,10 +116,10 @@ fn branches_at(
 fn else_at(
     alloc: Global,
     depth: u8,
-    nodes: u8,
+    nodes: usize,
     reads: &[ObjectId],
     cursor: &mut Cursor<'_>,
-) -> Result<(List<Stmt>, u8), ParseFault>
+) -> Result<(List<Stmt>, usize), ParseFault>
     requires reads { length reads.now ≤ 16 }
     requires few { nodes ≤ 64 }
     ensures gives { Gives (λ x. (x.0, x.1, cursor.new)) result (else_by (block_by (stmt_at reads.now depth)) nodes cursor.old) }
@@ -138,10 +138,10 @@ fn else_at(
 pub fn block_at(
     alloc: Global,
     depth: u8,
-    nodes: u8,
+    nodes: usize,
     reads: &[ObjectId],
     cursor: &mut Cursor<'_>,
-) -> Result<(List<Stmt>, u8), ParseFault>
+) -> Result<(List<Stmt>, usize), ParseFault>
     requires reads { length reads.now ≤ 16 }
     requires few { nodes ≤ 64 }
     ensures gives { Gives (λ x. (x.0, x.1, cursor.new)) result (block_by (stmt_at reads.now depth) nodes cursor.old) }
@@ -157,10 +157,10 @@ pub fn block_at(
 fn stmts_at(
     alloc: Global,
     depth: u8,
-    nodes: u8,
+    nodes: usize,
     reads: &[ObjectId],
     cursor: &mut Cursor<'_>,
-) -> Result<(List<Stmt>, u8), ParseFault>
+) -> Result<(List<Stmt>, usize), ParseFault>
     requires reads { length reads.now ≤ 16 }
     requires few { nodes ≤ 64 }
     ensures gives { Gives (λ x. (x.0, x.1, cursor.new)) result (stmts_by (stmt_at reads.now depth) 65 [] nodes cursor.old) }

@@ -4,7 +4,7 @@ use Rattle.sv_text.proofs.Turns.{reads_shorter, reads_go_on}
 use Rattle.sv_text.proofs.header.reads_at.Goals as goal
 
 pub loop-cursor-smaller : goal.loop-cursor-smaller
-loop-cursor-smaller c = rw c.advance.ensures (reads_shorter _ c.loop-cursor.least c.in_ok-object.object c.loop-cursor.cursor (sym c.in_ok-object.ensures.value))
+loop-cursor-smaller c = rw c.advance.ensures (reads_shorter _ _ _ c.loop-cursor.cursor (sym c.in_ok-object.ensures.value))
 
 pub loop-cursor-preserved : goal.loop-cursor-preserved
 loop-cursor-preserved c =
