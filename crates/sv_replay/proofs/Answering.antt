@@ -1,5 +1,5 @@
 -- A session's turn keeps each connection in step with the run.
-use Rattle.std.proofs.Common.{◌≡◌, ◌⊎◌, inl, inr, ℕ, zero, suc, ◌+◌, ◌-◌, ◌<◌, ◌≤◌, Bool, true, false, ◌&&◌, ◌||◌, not, ◌==◌, eqb, List, [], ◌∷◌, ◌++◌, drop, length, refl, sym, ap, subst, ◌∙◌, arith, eq-eqb}
+use Rattle.std.proofs.Common.{◌≡◌, ◌⊎◌, inl, inr, ℕ, ◌+◌, ◌-◌, ◌≤◌, Bool, true, false, ◌&&◌, ◌||◌, ◌==◌, List, [], ◌∷◌, ◌++◌, drop, length, refl, sym, ap, subst, ◌∙◌, arith, eq-eqb}
 use Rattle.std.specs.Prelude.{if◌then◌else◌}
 use Rattle.std.specs.List.{list_any}
 use Rattle.std.proofs.lemmas.Bool.{cases_Bool, cond-true, cond-false}
@@ -16,7 +16,7 @@ use Rattle.sv_system.proofs.Entered.{is_of, of-from}
 use Rattle.sv_schedule.specs.Schedule.{Player, Run, asked_in_run, closed_by, is_stop, is_stopped, with_entry, steps_next, session_turn}
 use Rattle.sv_replay.specs.Channel.{ChannelView}
 use Rattle.sv_replay.specs.Players.{got_in_run, IsChannel}
-use Rattle.sv_replay.specs.Serving.{next_history, next_channel, answered}
+use Rattle.sv_replay.specs.Serving.{next_history, next_channel}
 use Rattle.sv_replay.proofs.Served.{waiting_asked, replies_stay, next_ended, next_stopped, next_closed, next_idle, next_asked}
 
 abbrev pub run_at : List Entry → List Player → Run

@@ -1,23 +1,21 @@
 -- Each session is of one player alone: the others ask and get nothing in it.
-use Rattle.std.proofs.Common.{◌≡◌, ◌⊎◌, inl, inr, ℕ, zero, suc, ◌+◌, ◌<◌, ◌≤◌, Bool, true, false, eqb, List, [], ◌∷◌, ◌++◌, map, drop, length, reverse, set, slice_get, Option, Some, None, refl, sym, ap, subst, ◌∙◌, arith, eqb-true, append_assoc, append-nil}
-use Rattle.std.specs.Prelude.{if◌then◌else◌, All}
+use Rattle.std.proofs.Common.{◌≡◌, inl, inr, ℕ, zero, suc, Bool, true, false, eqb, List, [], ◌∷◌, ◌++◌, map, drop, reverse, set, slice_get, Option, Some, None, refl, sym, ap, subst, ◌∙◌, eqb-true, append_assoc, append-nil}
+use Rattle.std.specs.Prelude.{if◌then◌else◌}
 use Rattle.std.specs.List.{list_any, flat_map, AllByRecursion}
 use Rattle.std.proofs.lemmas.Bool.{cases_Bool}
 use Rattle.std.proofs.lemmas.List.{reverse-reverse}
 use Rattle.std.proofs.lemmas.List.Elements.{recursion_from_All}
 use Rattle.sv_world.specs.declared.world.Shape.{Shape}
 use Rattle.sv_wire.specs.declared.message.Reply.{Reply}
-use Rattle.sv_wire.specs.declared.message.Request.{Request}
 use Rattle.sv_journal.specs.declared.entry.Entry.{Entry}
 use Rattle.sv_client.specs.declared.trace.Event.{Event}
 use Rattle.sv_client.specs.declared.trace.Event.TheVariants as events
-use Rattle.sv_client.specs.declared.trace.Trace.{Trace}
-use Rattle.sv_client.specs.Traces.{joins, current_session, is_session, asked, asked_by, got, done_for, held_of}
+use Rattle.sv_client.specs.Traces.{current_session, is_session, asked, got, done_for, held_of}
 use Rattle.sv_client.specs.Taking.{Identity}
 use Rattle.sv_client.specs.Proper.{AreProper, identity_of}
 use Rattle.sv_system.specs.Fits.{is_join_of, has_session, FitsOne, AreApart, AreAllApart}
 use Rattle.sv_system.proofs.Asked.{current-joined, any-reverse}
-use Rattle.sv_schedule.specs.Schedule.{Player, trace_of_player, asked_in_run}
+use Rattle.sv_schedule.specs.Schedule.{Player, trace_of_player, asked_in_run, closed_by}
 use Rattle.sv_replay.specs.Players.{asked_by_player, got_in_run}
 
 -- ---- A session that was not begun
@@ -77,6 +75,7 @@ none_got who first (events.Show os ∷ t) p n e = none_got who first t p.1 n e
 pub record IsSilent (n : ℕ) (p : Player) : Type 0 where
   pub asks : asked_by_player p n ≡ []
   pub gets : got p.events n ≡ []
+  pub linked : closed_by n p ≡ false
 
 -- All players but the k-th are silent in session n.
 abbrev pub OthersSilent : ℕ → ℕ → List Player → Type 0
@@ -92,7 +91,7 @@ silent_from shape h p n fits none =
     let who : Identity = identity_of shape (trace_of_player p) in
     let proper : AreProper who p.first p.events = subst (AreProper who p.first) (reverse-reverse p.events) fits.proper.events in
     let free : list_any (is_join_of n) p.events ≡ false = elim (cases_Bool (list_any (is_join_of n) p.events)) [ inl y ↦ absurd (none (joined_back p n y)) | inr f ↦ f ] in
-    record { asks = none_asked who p.first p.events proper n free; gets = none_got who p.first p.events proper n free }
+    record { asks = none_asked who p.first p.events proper n free; gets = none_got who p.first p.events proper n free; linked = rw free refl }
 
 later_silent : (shape : Shape) (h : List Entry) (q : Player) (n : ℕ) (ps : List Player) → AllByRecursion (FitsOne shape h) (map trace_of_player ps) →
     AllByRecursion (AreApart (trace_of_player q)) (map trace_of_player ps) → has_session (trace_of_player q) n ≡ true → AllByRecursion (IsSilent n) ps
@@ -134,6 +133,19 @@ got_by_one n zero (p ∷ ps) q h e =
     let same : p ≡ q = cc in
     ap (λ (rs : List Reply). got p.events n ++ rs) (all_get_nothing n ps h) ∙ append-nil (got p.events n) ∙ ap (λ (x : Player). got x.events n) same
 got_by_one n (suc k) (p ∷ ps) q h e = ap (λ (rs : List Reply). rs ++ got_in_run ps n) h.0.gets ∙ got_by_one n k ps q h.1 e
+
+all_open : (n : ℕ) (ps : List Player) → AllByRecursion (IsSilent n) ps → list_any (closed_by n) ps ≡ false
+all_open n [] h = refl
+all_open n (p ∷ ps) h = rw (h.0.linked, all_open n ps h.1) refl
+
+-- A session's link is open where its player did not close it.
+pub open_by_one : (n k : ℕ) (ps : List Player) (q : Player) → OthersSilent n k ps → slice_get ps k ≡ Some q → closed_by n q ≡ false → list_any (closed_by n) ps ≡ false
+open_by_one n k [] q h e o = cc
+open_by_one n zero (p ∷ ps) q h e o =
+    let same : q ≡ p = cc in
+    let own : closed_by n p ≡ false = subst (λ (x : Player). closed_by n x ≡ false) same o in
+    rw (own, all_open n ps h) refl
+open_by_one n (suc k) (p ∷ ps) q h e o = rw (h.0.linked, open_by_one n k ps q h.1 e o) refl
 
 -- Something is put behind what one player said, which commutes with what the later ones said.
 pub flat_moved : {X : Type 0} (f : Player → List X) (more : List X) (k : ℕ) (ps : List Player) (p q : Player) → slice_get ps k ≡ Some p → f q ≡ f p ++ more →

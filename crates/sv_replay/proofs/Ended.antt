@@ -1,5 +1,5 @@
 -- The machine's run is the scheduled run, and what it leaves is that of the scheduled run.
-use Rattle.std.proofs.Common.{◌≡◌, ℕ, List, reverse, Result, Ok, Err, refl, sym, ap, subst, ◌∙◌}
+use Rattle.std.proofs.Common.{◌≡◌, ℕ, List, reverse, Result, Ok, Err, sym, ap, subst, ◌∙◌}
 use Rattle.std.specs.Prelude.{IfOk}
 use Rattle.std.specs.declared.alloc.AllocError.{AllocError}
 use Rattle.sv_journal.specs.declared.entry.Entry.{Entry}
@@ -7,7 +7,7 @@ use Rattle.sv_journal.specs.History.{commit_of, committed_of}
 use Rattle.sv_client.specs.declared.trace.Trace.{Trace}
 use Rattle.sv_scenario.specs.declared.scenario.Scenario.{Scenario}
 use Rattle.sv_schedule.specs.declared.played.Played.{Played}
-use Rattle.sv_schedule.specs.Schedule.{Run, rules_of, opening_run, all_turned, repeated, round, most_rounds, scheduled_run, traces_of}
+use Rattle.sv_schedule.specs.Schedule.{Run, rules_of, opening_run, all_turned, repeated, round, traces_of}
 use Rattle.sv_schedule.specs.Records.{IsReplay, IsPlayed}
 use Rattle.sv_replay.specs.declared.machine.Machine.{Machine}
 use Rattle.sv_replay.specs.Machine.{run_of, Became}

@@ -1,21 +1,19 @@
 -- What one event of a client asks, takes and closes, where its first session has the number `first`.
-use Rattle.std.proofs.Common.{◌≡◌, ◌≢◌, ◌⊎◌, inl, inr, ℕ, zero, suc, ◌+◌, ◌-◌, ◌<◌, ◌≤◌, Bool, true, false, ◌&&◌, ◌||◌, not, ◌==◌, eqb, List, [], ◌∷◌, ◌++◌, map, length, Option, Some, None, option_map, refl, sym, ap, subst, ◌∙◌, arith, eqb-true, eq-eqb}
+use Rattle.std.proofs.Common.{◌≡◌, ℕ, suc, ◌+◌, ◌≤◌, Bool, true, false, ◌&&◌, ◌||◌, not, ◌==◌, List, [], ◌∷◌, ◌++◌, Option, Some, None, option_map, refl, sym, ap, ◌∙◌, arith, eq-eqb}
 use Rattle.std.specs.Prelude.{if◌then◌else◌, unwrap_or}
 use Rattle.std.specs.List.{list_any}
-use Rattle.std.proofs.lemmas.Bool.{ne_eqb, cases_Bool}
-use Rattle.std.proofs.lemmas.Bool.Decides.{eqb_tells}
 use Rattle.std.proofs.lemmas.List.{append-nil}
 use Rattle.sv_wire.specs.declared.message.Request.{Request}
 use Rattle.sv_wire.specs.declared.message.Request.TheVariants as requests
 use Rattle.sv_wire.specs.declared.message.Reply.{Reply}
 use Rattle.sv_client.specs.declared.trace.Event.{Event}
 use Rattle.sv_client.specs.declared.trace.Event.TheVariants as events
-use Rattle.sv_client.specs.Traces.{joins, is_join, current_session, is_session, makes, asked, asked_by, got}
+use Rattle.sv_client.specs.Traces.{joins, current_session, is_session, makes, asked_by, got}
 use Rattle.sv_client.specs.Taking.{Identity}
 use Rattle.sv_client.specs.Proper.{AreProper}
 use Rattle.sv_client.specs.Seen.{raised, latest_session, newly_asked}
 use Rattle.sv_client.proofs.Shifts.{Up, up_joins, up_pending, up_held, up_makes, up_current}
-use Rattle.sv_client.proofs.Sessions.{session_after, current_is, apart}
+use Rattle.sv_client.proofs.Sessions.{apart}
 use Rattle.sv_script.specs.Following.{must_join, is_welcomed}
 use Rattle.sv_system.specs.Fits.{is_join_of}
 

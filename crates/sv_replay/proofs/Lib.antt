@@ -9,6 +9,10 @@ pub mod Served
 pub mod Answering
 pub mod Machines
 pub mod Heading
+pub mod Working
+pub mod Sending
+pub mod Lengths
+pub mod Messages
 pub mod Opened
 pub mod Committed
 pub mod Ended

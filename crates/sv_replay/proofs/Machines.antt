@@ -1,17 +1,15 @@
 -- One turn of the machine is one turn of its run, and leaves it in step.
-use Rattle.std.proofs.Common.{◌≡◌, ◌≢◌, ◌⊎◌, inl, inr, ℕ, zero, suc, ◌+◌, ◌-◌, ◌<◌, ◌≤◌, Bool, true, false, ◌==◌, eqb, List, [], ◌∷◌, ◌++◌, map, drop, length, reverse, set, get_or, slice_get, Option, Some, None, refl, sym, ap, subst, ◌∙◌, arith, eqb-true, eq-eqb}
+use Rattle.std.proofs.Common.{◌≡◌, ◌≢◌, ◌⊎◌, inl, inr, ℕ, zero, suc, ◌+◌, ◌-◌, ◌<◌, ◌≤◌, true, false, ◌==◌, List, [], ◌∷◌, map, drop, length, set, get_or, slice_get, Some, None, refl, sym, ap, subst, ◌∙◌, arith, eqb-true, eq-eqb}
 use Rattle.std.specs.Prelude.{All}
-use Rattle.std.specs.List.{list_any, AllByRecursion}
+use Rattle.std.specs.List.{AllByRecursion}
 use Rattle.std.proofs.lemmas.Bool.{cases_Bool}
 use Rattle.std.proofs.lemmas.List.{get_or-set_same, get_or-set_other, length-set, length-map}
 use Rattle.std.proofs.lemmas.List.Elements.{recursion_from_All, All-from_recursion}
-use Rattle.std.proofs.lemmas.Option.{slice_get_within}
 use Rattle.sv_wire.specs.declared.message.Reply.{Reply}
-use Rattle.sv_wire.specs.declared.message.Request.{Request}
 use Rattle.sv_world.specs.declared.world.Shape.{Shape}
 use Rattle.sv_journal.specs.declared.entry.Entry.{Entry}
 use Rattle.sv_journal.specs.History.{accepted}
-use Rattle.sv_journal.specs.Answer.{Rules, Legal}
+use Rattle.sv_journal.specs.Answer.{Rules}
 use Rattle.sv_client.specs.Traces.{joins, current_session, got}
 use Rattle.sv_scenario.specs.declared.scenario.Plan.{Plan}
 use Rattle.sv_scenario.specs.declared.scenario.Scenario.{Scenario}
@@ -19,9 +17,10 @@ use Rattle.sv_scenario.specs.declared.scenario.Turn.{Turn}
 use Rattle.sv_scenario.specs.declared.scenario.Turn.TheVariants as turns
 use Rattle.sv_scenario.specs.Limits.{IsGoodScenario, IsGoodTurn}
 use Rattle.sv_scenario.specs.Sessions.{sessions_of_plan, session_count}
+use Rattle.sv_numbers.specs.Numbers.{ScenarioFits}
 use Rattle.sv_script.specs.Following.{must_join}
 use Rattle.sv_sequencer.specs.Step.{SequencerView, history}
-use Rattle.sv_system.specs.Fits.{is_join_of, replies_in}
+use Rattle.sv_system.specs.Fits.{replies_in}
 use Rattle.sv_system.proofs.Asked.{current-joined}
 use Rattle.sv_schedule.specs.Schedule.{Player, Run, rules_of, at_player, player_turn, open_session, takes, take_in, take_turn, session_turn, turned}
 use Rattle.sv_schedule.specs.Sound.{ArePlaying, IsSound}
@@ -30,7 +29,7 @@ use Rattle.sv_schedule.proofs.SoundCalls.{IsPlayer, player-at, session-next, ses
 use Rattle.sv_replay.specs.declared.machine.Machine.{Machine}
 use Rattle.sv_replay.specs.declared.playing.Playing.{Playing}
 use Rattle.sv_replay.specs.Channel.{ChannelView, new_channel}
-use Rattle.sv_replay.specs.Players.{session_of, IsFit, Moves, IsChannel, taken_from, got_in_run}
+use Rattle.sv_replay.specs.Players.{session_of, IsFit, IsChannel, taken_from}
 use Rattle.sv_replay.specs.Serving.{Served, next_history, next_channel}
 use Rattle.sv_replay.specs.Machine.{player_of, AreFlags, Moved, run_of, IsMachine, Became}
 use Rattle.sv_replay.proofs.Apart.{OthersSilent, others_silent, got_by_one}
@@ -87,12 +86,12 @@ get_map f [] k x e = cc
 get_map f (y ∷ ys) zero x e = let same : y ≡ x = cc in ap (λ z. Some (f z)) same
 get_map f (y ∷ ys) (suc k) x e = get_map f ys k x e
 
-get_set : {X : Type 0} (xs : List X) (k : ℕ) (x y : X) → slice_get xs k ≡ Some x → slice_get (set xs k y) k ≡ Some y
+pub get_set : {X : Type 0} (xs : List X) (k : ℕ) (x y : X) → slice_get xs k ≡ Some x → slice_get (set xs k y) k ≡ Some y
 get_set [] k x y e = cc
 get_set (z ∷ zs) zero x y e = refl
 get_set (z ∷ zs) (suc k) x y e = get_set zs k x y e
 
-map_set : {X Y : Type 0} (f : X → Y) (xs : List X) (k : ℕ) (y : X) → map f (set xs k y) ≡ set (map f xs) k (f y)
+pub map_set : {X Y : Type 0} (f : X → Y) (xs : List X) (k : ℕ) (y : X) → map f (set xs k y) ≡ set (map f xs) k (f y)
 map_set f [] k y = refl
 map_set f (x ∷ xs) zero y = refl
 map_set f (x ∷ xs) (suc k) y = ap (λ zs. f x ∷ zs) (map_set f xs k y)
@@ -106,6 +105,12 @@ all_at : {X : Type 0} (P : X → Type 0) (xs : List X) (k : ℕ) (x : X) → All
 all_at P [] k x a e = cc
 all_at P (y ∷ ys) zero x a e = let same : y ≡ x = cc in subst P same a.0
 all_at P (y ∷ ys) (suc k) x a e = all_at P ys k x a.1 e
+
+-- Setting what stands there changes nothing.
+pub set_same : {X : Type 0} (xs : List X) (k : ℕ) (x y : X) → slice_get xs k ≡ Some x → y ≡ x → set xs k y ≡ xs
+set_same [] k x y e s = cc
+set_same (z ∷ zs) zero x y e s = let same : z ≡ x = cc in ap (λ w. w ∷ zs) (s ∙ sym same)
+set_same (z ∷ zs) (suc k) x y e s = ap (λ ws. z ∷ ws) (set_same zs k x y e s)
 
 silent_unset : (n k : ℕ) (ps : List Player) (q : Player) → OthersSilent n k (set ps k q) → OthersSilent n k ps
 silent_unset n k [] q h = tt
@@ -178,6 +183,7 @@ module _ (m w : Machine) (k : ℕ) (p q : Playing) (d : ChannelView) (is : IsMac
         scenario = scenario;
         machine = record {
           good = subst IsGoodScenario (sym scenario) is.good;
+          numbers = subst ScenarioFits (sym scenario) is.numbers;
           rules = ap (λ (v : SequencerView). v.rules) sequencer ∙ is.rules ∙ ap rules_of (sym scenario);
           sound = subst (λ (x : Scenario). IsSound x (run_of w)) (sym scenario) (subst (IsSound m.scenario.now) (sym new) sound);
           flags = subst (All AreFlags) (sym players)
@@ -231,6 +237,7 @@ module _ (m w : Machine) (s : ℕ) (d : ChannelView) (is : IsMachine m) (l : s <
         scenario = scenario;
         machine = record {
           good = subst IsGoodScenario (sym scenario) is.good;
+          numbers = subst ScenarioFits (sym scenario) is.numbers;
           rules = served.rules ∙ is.rules ∙ ap rules_of (sym scenario);
           sound = subst (λ (x : Scenario). IsSound x (run_of w)) (sym scenario) (subst (IsSound m.scenario.now) (sym (new ∙ next)) sound);
           flags = subst (All AreFlags) (sym players) is.flags;
@@ -264,8 +271,8 @@ module _ (m : Machine) (k : ℕ) (p : Playing) (is : IsMachine m) (l : k < lengt
 
 -- ---- What a player takes
 
-open_as : (p : Player) → p.closed ≡ false → must_join p.events ≡ false → open_session p ≡ current_session p.events
-open_as p l j = rw (l, j) refl
+pub open_is : (p : Player) → p.closed ≡ false → must_join p.events ≡ false → open_session p ≡ current_session p.events
+open_is p l j = rw (l, j) refl
 
 pub open_shut : (p : Player) → p.closed ≡ true → open_session p ≡ None
 open_shut p l = rw l refl
@@ -306,7 +313,7 @@ module _ (m : Machine) (k : ℕ) (p : Player) (is : IsMachine m) (at : slice_get
   waits_first = ap (λ (rs : List Reply). slice_get rs 0) waits_all ∙ first_left (length (got p.events place_of)) (replies_in (accepted entries) entries place_of)
 
   pub open_here : open_session p ≡ Some place_of
-  open_here = open_as p linked joined ∙ current_here
+  open_here = open_is p linked joined ∙ current_here
 
 pub taken_is : (m : Machine) (k : ℕ) (p : Player) → IsMachine m → slice_get (run_of m).players k ≡ Some p →
     taken_from (get_or m.channels.items (session_of p) new_channel).replies p ≡ take_turn (run_of m).history p

@@ -1,20 +1,23 @@
 -- A client's turn makes it the next player: what its events do, against the definition of a turn.
-use Rattle.std.proofs.Common.{◌≡◌, ◌⊎◌, inl, inr, ℕ, zero, suc, ◌+◌, ◌-◌, ◌<◌, ◌≤◌, Bool, true, false, ◌&&◌, ◌||◌, not, ◌==◌, List, [], ◌∷◌, ◌++◌, length, map, Option, Some, None, slice_get, refl, sym, ap, subst, ◌∙◌, arith}
-use Rattle.std.specs.Prelude.{if◌then◌else◌, nat_lt}
-use Rattle.std.proofs.lemmas.Bool.{cases_Bool, and_from, and_right, lt-ltb, le-ltb}
+use Rattle.std.proofs.Common.{◌≡◌, ℕ, ◌+◌, ◌<◌, ◌≤◌, Bool, true, false, ◌&&◌, ◌||◌, ◌==◌, List, [], ◌∷◌, ◌++◌, length, Some, None, slice_get, refl, sym, ap, subst, ◌∙◌, arith, eq-eqb}
+use Rattle.std.specs.Prelude.{if◌then◌else◌, nat_lt, All}
+use Rattle.std.proofs.lemmas.Bool.{and_from, and_right, lt-ltb, le-ltb}
 use Rattle.std.proofs.lemmas.List.{append-nil}
+use Rattle.std.proofs.lemmas.Option.{none-some}
+use Rattle.std.proofs.lemmas.List.Elements.{recursion_from_All, All-from_recursion}
+use Rattle.sv_wire.specs.Laws.{IsRequest}
+use Rattle.sv_asked.proofs.Every.{each-right}
 use Rattle.sv_world.specs.declared.action.Action.{Action}
-use Rattle.sv_world.specs.declared.world.ObjectId.{ObjectId}
 use Rattle.sv_wire.specs.declared.message.Reply.{Reply}
 use Rattle.sv_wire.specs.declared.message.Request.{Request}
 use Rattle.sv_client.specs.declared.trace.Event.{Event}
 use Rattle.sv_client.specs.declared.trace.Event.TheVariants as events
-use Rattle.sv_client.specs.Traces.{joins, makes, is_join, current_session, pending_of}
+use Rattle.sv_client.specs.Traces.{joins, is_join, pending_of}
 use Rattle.sv_client.specs.declared.fault.TakeFault.{TakeFault}
 use Rattle.sv_client.specs.declared.fault.TakeFault.TheVariants as faults
 use Rattle.sv_client.specs.Answers.{IsTakeFault, got_now}
-use Rattle.sv_client.specs.Taking.{Identity, outstanding, first_fault_of_reply, Fault, Unasked, WrongKind, BadOrder, BadItem, Missing}
-use Rattle.sv_client.specs.Proper.{AreProper, MayMake, MayPoll, MayLeave, in_session}
+use Rattle.sv_client.specs.Taking.{Identity, first_fault_of_reply, Fault, Unasked, WrongKind, BadOrder, BadItem, Missing}
+use Rattle.sv_client.specs.Proper.{MayMake, MayPoll, MayLeave, in_session}
 use Rattle.sv_client.specs.Seen.{raised, latest_session, newly_asked}
 use Rattle.sv_client.proofs.Shifts.{Up, up_joins, up_makes, up_session, up_pending, up_outstanding, up_fault}
 use Rattle.sv_scenario.specs.declared.scenario.Step.{Step}
@@ -23,9 +26,10 @@ use Rattle.sv_script.specs.Following.{must_join, is_welcomed}
 use Rattle.sv_schedule.specs.Schedule.{Player, player_turn, next_step, last_steps, if_free, is_calm, is_settled, does, takes, takes_if}
 use Rattle.sv_replay.specs.declared.playing.Playing.{Playing}
 use Rattle.sv_replay.specs.Channel.{ChannelView, TakesReply}
-use Rattle.sv_replay.specs.Players.{session_of, IsFit, Moves, is_closing, taken_from}
+use Rattle.sv_replay.specs.Messages.{AsksMessages}
+use Rattle.sv_replay.specs.Players.{session_of, asked_by_player, IsFit, Moves, is_closing, taken_from}
 use Rattle.sv_replay.specs.Machine.{player_of, AreFlags, IsReady, Does, Moved}
-use Rattle.sv_replay.proofs.Events.{is_got, up_must, up_welcomed}
+use Rattle.sv_replay.proofs.Events.{is_got, up_must}
 use Rattle.sv_replay.proofs.Doing.{player, is_quit, session_latest, JoinsNext, event_moves, close_moves, got_moves, still_moves, left_moves}
 
 -- The player after an event.
@@ -235,7 +239,7 @@ closed_moved p c d ready flags is =
 -- ---- Replies
 
 -- A fault that is no want of memory is one of the reply.
-pub refuses : (who : Identity) (t : List Event) (reply : Reply) (fault : TakeFault) → (fault ≡ faults.Memory → ⊥) → IsTakeFault who t reply fault →
+refuses : (who : Identity) (t : List Event) (reply : Reply) (fault : TakeFault) → (fault ≡ faults.Memory → ⊥) → IsTakeFault who t reply fault →
     (f : Fault) × (first_fault_of_reply who t reply ≡ Some f)
 refuses who t reply faults.Unasked other is = (Unasked, is)
 refuses who t reply faults.WrongKind other is = (WrongKind, is)
@@ -244,7 +248,7 @@ refuses who t reply faults.BadItem other is = (BadItem, is)
 refuses who t reply (faults.Missing pos object) other is = (Missing pos object.0, is)
 refuses who t reply faults.Memory other is = absurd (other refl)
 
-first_of : {X : Type 0} (x : X) (xs ys : List X) → xs ≡ x ∷ ys → slice_get xs 0 ≡ Some x
+pub first_of : {X : Type 0} (x : X) (xs ys : List X) → xs ≡ x ∷ ys → slice_get xs 0 ≡ Some x
 first_of x xs ys e = ap (λ zs. slice_get zs 0) e
 
 pub none_waits : (p : Playing) (c d : ChannelView) (s : ℕ) → TakesReply c d None → AreFlags p → Moved (takes (player_of p) s (slice_get c.replies 0)) p p c d
@@ -252,19 +256,22 @@ none_waits p c d s h flags =
     subst (λ (v : ChannelView). Moved (takes (player_of p) s (slice_get c.replies 0)) p p c v) (sym h.1)
     (still_at _ p c (ap (takes (player_of p) s) (ap (λ (rs : List Reply). slice_get rs 0) h.0)) flags)
 
-took_faulty : (p : Player) (s : ℕ) (reply : Reply) (f : Fault) → first_fault_of_reply p.who p.events reply ≡ Some f → takes p s (Some reply) ≡ p
-took_faulty p s reply f e = ap (takes_if p s reply) e
-
 took_fine : (p : Player) (s : ℕ) (reply : Reply) → first_fault_of_reply p.who p.events reply ≡ None → takes p s (Some reply) ≡ does p (events.Got s reply) p.left
 took_fine p s reply e = ap (takes_if p s reply) e
 
-pub refused_moved : (p : Playing) (c b d : ChannelView) (s : ℕ) (reply : Reply) (fault : TakeFault) → TakesReply c b (Some reply) → d ≡ record b { replies = reply ∷ b.replies } →
-    (fault ≡ faults.Memory → ⊥) → IsTakeFault p.client.who p.client.events reply fault → AreFlags p → Moved (takes (player_of p) s (slice_get c.replies 0)) p p c d
-refused_moved p c b d s reply fault h back other is flags =
-    let f = refuses p.client.who p.client.events reply fault other is in
-    subst (λ (v : ChannelView). Moved (takes (player_of p) s (slice_get c.replies 0)) p p c v) (h ∙ sym back)
-    (still_at _ p c (ap (takes (player_of p) s) (first_of reply c.replies b.replies (ap (λ (v : ChannelView). v.replies) h))
-    ∙ took_faulty (player_of p) s reply f.0 (up_fault p.first p.client.who p.client.events reply ∙ f.1)) flags)
+-- The player after a reply that it got.
+pub took_next : (p : Playing) (c : ChannelView) (reply : Reply) → IsFit 64 (player_of p) → p.closed ≡ false → must_join p.client.events ≡ false → slice_get c.replies 0 ≡ Some reply →
+    first_fault_of_reply p.client.who p.client.events reply ≡ None →
+    takes (player_of p) (session_of (player_of p)) (slice_get c.replies 0) ≡ player p.client.who p.first (got_now p.client.events reply ∷ p.client.events) p.left.now false
+took_next p c reply fit linked joined first fine =
+    let k = p.client.who in
+    let t = p.client.events in
+    let n = session_of (player_of p) in
+    let last : latest_session t + p.first ≡ n = session_latest k p.first t p.left.now p.closed fit.proper joined (fit.begun (up_must p.first t ∙ joined)) in
+    ap (takes (player_of p) n) first
+    ∙ took_fine (player_of p) n reply (up_fault p.first k t reply ∙ fine)
+    ∙ ap (λ (m : ℕ). does (player_of p) (events.Got m reply) p.left.now) (sym last)
+    ∙ ap (λ (x : Bool). player k p.first (got_now t reply ∷ t) p.left.now x) linked
 
 -- A reply was got, and what it asks is sent.
 pub took_moved : (p q : Playing) (c b d : ChannelView) (reply : Reply) → IsFit 64 (player_of p) → p.closed ≡ false → must_join p.client.events ≡ false →
@@ -276,15 +283,8 @@ took_moved p q c b d reply fit linked joined h fine who es first left closed fla
     let k = p.client.who in
     let t = p.client.events in
     let e = got_now t reply in
-    let n = session_of (player_of p) in
     let free : IsFit 64 (player k p.first t p.left.now false) = subst (λ b. IsFit 64 (player k p.first t p.left.now b)) linked fit in
-    let last : latest_session t + p.first ≡ n = session_latest k p.first t p.left.now p.closed fit.proper joined (fit.begun (up_must p.first t ∙ joined)) in
-    let next : takes (player_of p) n (slice_get c.replies 0) ≡ player k p.first (e ∷ t) p.left.now false =
-    ap (takes (player_of p) n) (first_of reply c.replies b.replies (ap (λ (v : ChannelView). v.replies) h))
-    ∙ took_fine (player_of p) n reply (up_fault p.first k t reply ∙ fine)
-    ∙ ap (λ (m : ℕ). does (player_of p) (events.Got m reply) p.left.now) (sym last)
-    ∙ ap (λ (x : Bool). player k p.first (e ∷ t) p.left.now x) linked in
-    subst (λ (x : Player). Moved x p q c d) (sym next) (record {
+    subst (λ (x : Player). Moved x p q c d) (sym (took_next p c reply fit linked joined (first_of reply c.replies b.replies (ap (λ (v : ChannelView). v.replies) h)) fine)) (record {
       player = same_player q.client.who k q.first p.first q.client.events (e ∷ t) q.left.now p.left.now q.closed false who first es left (closed ∙ linked);
       flags = record {
         between = between ∙ flags.between ∙ joined ∙ ap must_join (sym es);
@@ -300,6 +300,53 @@ took_moved p q c b d reply fit linked joined h fine who es first left closed fla
       closed = ap (λ (v : ChannelView). v.closed) sent ∙ ap (λ (v : ChannelView). v.closed) (sym h) ∙ or_none c.closed;
       stopped = ap (λ (v : ChannelView). v.stopped) sent ∙ ap (λ (v : ChannelView). v.stopped) (sym h);
     })
+
+-- A reply without a fault is refused for want of memory alone.
+pub takes_fine : (who : Identity) (t : List Event) (reply : Reply) (fault : TakeFault) → (fault ≡ faults.Memory → ⊥) → IsTakeFault who t reply fault → first_fault_of_reply who t reply ≡ None → ⊥
+takes_fine who t reply fault other is fine = let f = refuses who t reply fault other is in none-some f.0 (sym fine ∙ f.1)
+
+-- ---- What is asked next is messages
+
+newly_from : (n : ℕ) (before after sent : List Request) → after ≡ before ++ (if n == n then sent else []) → All IsRequest after → All IsRequest sent
+newly_from n before after sent e all =
+    let here : (n == n) ≡ true = eq-eqb n n refl in
+    let both : after ≡ before ++ sent = e ∙ ap (λ (b : Bool). before ++ (if b then sent else [])) here in
+    All-from_recursion IsRequest sent (each-right IsRequest before sent (recursion_from_All IsRequest (before ++ sent) (subst (All IsRequest) both all)))
+
+asks_event : (p : Playing) (e : Event) (rest : List Step) → IsFit 64 (player_of p) → p.closed ≡ false → JoinsNext p.client.events e → is_got e ≡ false →
+    AsksMessages (next_player p e rest) → All IsRequest (newly_asked p.client.who p.client.events e)
+asks_event p e rest fit linked j g asks =
+    let k = p.client.who in
+    let t = p.client.events in
+    let free : IsFit 64 (player k p.first t p.left.now false) = subst (λ b. IsFit 64 (player k p.first t p.left.now b)) linked fit in
+    let n = session_of (player k p.first t p.left.now false) in
+    newly_from n (asked_by_player (player k p.first t p.left.now false) n) (asked_by_player (next_player p e rest) n) (newly_asked k t e) ((event_moves k p.first t p.left.now free e j g rest).asks n) (asks n)
+
+pub asks_join : (p : Playing) → IsFit 64 (player_of p) → p.closed ≡ false → must_join p.client.events ≡ true → AsksMessages (player_turn (player_of p)) →
+    All IsRequest (newly_asked p.client.who p.client.events (events.Join (joins p.client.events)))
+asks_join p fit linked m asks =
+    asks_event p (events.Join (joins p.client.events)) p.left.now fit linked (record { needed = sym m; next = λ n is. (cc) }) refl (subst AsksMessages (joins_player p linked m) asks)
+
+pub asks_ready : (p : Playing) (e : Event) (rest : List Step) (next : Player) → IsReady p → is_got e ≡ false → is_join e ≡ false → next ≡ next_player p e rest → AsksMessages next →
+    All IsRequest (newly_asked p.client.who p.client.events e)
+asks_ready p e rest next ready g j is asks = asks_event p e rest ready.fit ready.linked (no_join p.client.events e j ready.joined) g (subst AsksMessages is asks)
+
+pub asks_got_now : (p : Playing) (c : ChannelView) (reply : Reply) → IsFit 64 (player_of p) → p.closed ≡ false → must_join p.client.events ≡ false → slice_get c.replies 0 ≡ Some reply →
+    first_fault_of_reply p.client.who p.client.events reply ≡ None → AsksMessages (takes (player_of p) (session_of (player_of p)) (slice_get c.replies 0)) →
+    All IsRequest (newly_asked p.client.who p.client.events (got_now p.client.events reply))
+asks_got_now p c reply fit linked joined first fine asks =
+    let k = p.client.who in
+    let t = p.client.events in
+    let e = got_now t reply in
+    let free : IsFit 64 (player k p.first t p.left.now false) = subst (λ b. IsFit 64 (player k p.first t p.left.now b)) linked fit in
+    let n = session_of (player k p.first t p.left.now false) in
+    newly_from n (asked_by_player (player k p.first t p.left.now false) n) (asked_by_player (player k p.first (e ∷ t) p.left.now false) n) (newly_asked k t e)
+    ((got_moves k p.first t p.left.now free joined (latest_session t) reply refl).asks n) (subst AsksMessages (took_next p c reply fit linked joined first fine) asks n)
+
+-- A request that an event asks alone.
+pub only_asked : (b : Bool) (q request : Request) → request ∷ [] ≡ (if b then q ∷ [] else []) → request ≡ q
+only_asked true q request e = cc
+only_asked false q request e = cc
 
 -- ---- Whether a client's end is open
 

@@ -1,21 +1,20 @@
 -- The machine at the opening is in step with the opening run.
-use Rattle.std.proofs.Common.{◌≡◌, ◌⊎◌, inl, inr, ℕ, zero, suc, ◌+◌, ◌-◌, ◌<◌, ◌≤◌, Bool, true, false, List, [], ◌∷◌, ◌++◌, map, drop, length, get_or, refl, sym, ap, subst, ◌∙◌, arith, append_assoc, add-one, reverse}
+use Rattle.std.proofs.Common.{◌≡◌, ℕ, zero, suc, ◌+◌, ◌<◌, ◌≤◌, false, List, [], ◌∷◌, ◌++◌, map, drop, length, get_or, refl, sym, ap, subst, ◌∙◌, arith, append_assoc, add-one, reverse}
 use Rattle.std.proofs.lemmas.List.{drop_more}
 use Rattle.std.specs.Prelude.{All}
-use Rattle.std.specs.List.{list_any, AllByRecursion}
+use Rattle.std.specs.List.{list_any}
 use Rattle.sv_world.specs.declared.world.Shape.{Shape}
 use Rattle.sv_wire.specs.declared.message.Reply.{Reply}
-use Rattle.sv_wire.specs.declared.message.Request.{Request}
 use Rattle.sv_journal.specs.declared.entry.Entry.{Entry}
 use Rattle.sv_scenario.specs.declared.scenario.Plan.{Plan}
 use Rattle.sv_scenario.specs.declared.scenario.Scenario.{Scenario}
-use Rattle.sv_scenario.specs.Limits.{IsGoodScenario, IsGoodPlan}
-use Rattle.sv_scenario.specs.Sessions.{sessions_of_plan, sessions_in, session_count, cuts_in}
+use Rattle.sv_scenario.specs.Limits.{IsGoodScenario}
+use Rattle.sv_scenario.specs.Sessions.{sessions_of_plan, sessions_in, session_count}
+use Rattle.sv_numbers.specs.Numbers.{ScenarioFits}
 use Rattle.sv_schedule.specs.Schedule.{Player, Run, rules_of, players_from, opening_run, asked_in_run, closed_by}
 use Rattle.sv_schedule.specs.Sound.{IsSound}
 use Rattle.sv_schedule.proofs.SoundLaws.{opening-sound}
 use Rattle.sv_replay.specs.declared.machine.Machine.{Machine}
-use Rattle.sv_replay.specs.declared.playing.Playing.{Playing}
 use Rattle.sv_replay.specs.Channel.{ChannelView, new_channel}
 use Rattle.sv_replay.specs.Players.{got_in_run, IsChannel}
 use Rattle.sv_replay.specs.Machine.{player_of, AreFlags, run_of, IsMachine}
@@ -49,16 +48,17 @@ opening_channel scenario n =
       stopped = refl;
     }
 
-pub opening_machine : (m : Machine) (scenario : Scenario) → IsGoodScenario scenario → m.scenario.now ≡ scenario → m.sequencer.rules ≡ rules_of scenario → m.sequencer.journal.entries ≡ [] →
+pub opening_machine : (m : Machine) (scenario : Scenario) → IsGoodScenario scenario → ScenarioFits scenario → m.scenario.now ≡ scenario → m.sequencer.rules ≡ rules_of scenario → m.sequencer.journal.entries ≡ [] →
     map player_of m.players.items ≡ players_from scenario.world.shape 0 0 scenario.clients → All AreFlags m.players.items → length m.channels.items ≡ session_count scenario →
     ((s : ℕ) → get_or m.channels.items s new_channel ≡ new_channel) → (run_of m ≡ opening_run scenario) × IsMachine m
-opening_machine m scenario good same rules empty players flags count new =
+opening_machine m scenario good numbers same rules empty players flags count new =
     let run : run_of m ≡ opening_run scenario =
     ap (λ (es : List Entry). record { history = reverse es; players = map player_of m.players.items }) empty
     ∙ ap (λ (ps : List Player). record { history = []; players = ps }) players in (
       run,
       record {
         good = subst IsGoodScenario (sym same) good;
+        numbers = subst ScenarioFits (sym same) numbers;
         rules = rules ∙ ap rules_of (sym same);
         sound = subst (λ (x : Scenario). IsSound x (run_of m)) (sym same) (subst (IsSound scenario) (sym run) (opening-sound scenario good));
         flags = flags;

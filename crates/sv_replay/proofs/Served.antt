@@ -1,9 +1,8 @@
 -- A session's turn by its connection is its turn in the run, and each connection stays in step.
-use Rattle.std.proofs.Common.{◌≡◌, ◌⊎◌, inl, inr, ℕ, zero, suc, ◌+◌, ◌-◌, ◌<◌, ◌≤◌, Bool, true, false, ◌&&◌, ◌||◌, not, ◌==◌, eqb, List, [], ◌∷◌, ◌++◌, map, drop, length, reverse, Option, Some, None, refl, sym, ap, subst, ◌∙◌, arith, eqb-true, eq-eqb, append_assoc, append-nil, add-one}
+use Rattle.std.proofs.Common.{◌≡◌, ℕ, zero, suc, ◌+◌, Bool, true, false, ◌&&◌, ◌||◌, ◌==◌, List, [], ◌∷◌, ◌++◌, map, drop, length, reverse, Some, None, refl, sym, ap, subst, ◌∙◌, arith}
 use Rattle.std.specs.Prelude.{if◌then◌else◌}
-use Rattle.std.specs.List.{list_any, flat_map, AllByRecursion}
-use Rattle.std.proofs.lemmas.Bool.{cases_Bool}
-use Rattle.std.proofs.lemmas.List.{drop-append-le, drop-drop, length-append, length-drop, reverse-append}
+use Rattle.std.specs.List.{AllByRecursion}
+use Rattle.std.proofs.lemmas.List.{reverse-append}
 use Rattle.sv_wire.specs.declared.message.Reply.{Reply}
 use Rattle.sv_wire.specs.declared.message.Request.{Request}
 use Rattle.sv_wire.specs.declared.message.Request.TheVariants as requests
@@ -22,15 +21,14 @@ use Rattle.sv_client.specs.declared.trace.Event.{Event}
 use Rattle.sv_client.specs.declared.trace.Event.TheVariants as events
 use Rattle.sv_client.specs.Traces.{asked, asked_by, submit_of, pending_of, current_session, is_session, held_of, done_for}
 use Rattle.sv_sequencer.specs.Rows.{is_ended as is_ended_by_rows}
-use Rattle.sv_system.specs.Fits.{requests_in, replies_in, is_ended}
+use Rattle.sv_system.specs.Fits.{replies_in, is_ended}
 use Rattle.sv_system.proofs.Fronts.{fronts-same}
 use Rattle.sv_system.proofs.Entered.{as-many, replies-one}
-use Rattle.sv_schedule.specs.Schedule.{Player, Run, asked_in_run, closed_by, is_stop, is_stopped, with_entry, steps_next, session_turn}
+use Rattle.sv_schedule.specs.Schedule.{Player, asked_in_run, is_stop, with_entry}
 use Rattle.sv_schedule.proofs.SoundReplies.{replies-grow}
 use Rattle.sv_sequencer.specs.Step.{SequencerView, history, entry_of, Grew, Answered}
 use Rattle.sv_replay.specs.Channel.{ChannelView, TakesRequest}
-use Rattle.sv_replay.specs.Players.{got_in_run, IsChannel}
-use Rattle.sv_replay.specs.Serving.{is_stop_reply, next_history, next_channel, answered, with_answer, Entered, Served}
+use Rattle.sv_replay.specs.Serving.{is_stop_reply, whole_reply, next_history, next_channel, with_answer, Entered, Served, one_if}
 
 -- ---- What is never asked
 
@@ -183,13 +181,20 @@ serves_asked s v w c b d q e t some done =
 grew_history : (v w : SequencerView) (e : Entry) → Grew v w e → history w ≡ e ∷ history v
 grew_history v w e g = ap reverse g.entries ∙ reverse-append v.journal.entries (e ∷ [])
 
+pub reply_whole : (v w : SequencerView) (s : ℕ) (q : Request) (reply : Reply) → Answered v w s q reply → reply ≡ whole_reply v.rules (history v) s q
+reply_whole v w s q reply done =
+    done.whole ∙ ap (λ (h : List Entry). full_reply (accepted h) (reply_to v.rules (history v) s q)) (grew_history v w (entry_of s q (reply_to v.rules (history v) s q)) done.grew)
+
+-- A history with one entry more is longer.
+pub entered_longer : (s : ℕ) (q : Request) (v w : SequencerView) (c d : ChannelView) → Entered s q v w c d → length (history w) ≡ length (history v) + one_if true
+entered_longer s q v w c d done = let long : length (history w) ≡ length (with_entry v.rules (history v) s q) = ap (λ (h : List Entry). length h) done.entries in omega (arith, long)
+
 -- A step entered a request with its reply.
 pub answer_entered : (v w : SequencerView) (s : ℕ) (q : Request) (reply : Reply) (stops : Bool) (b d : ChannelView) → Answered v w s q reply → stops ≡ is_stop_reply reply →
     d ≡ record b { replies = b.replies ++ reply ∷ []; stopped = stops } → Entered s q v w d (with_answer v.rules (history v) s q b)
 answer_entered v w s q reply stops b d done stop sent =
     let grown : history w ≡ with_entry v.rules (history v) s q = grew_history v w (entry_of s q (reply_to v.rules (history v) s q)) done.grew in
-    let whole : reply ≡ full_reply (accepted (with_entry v.rules (history v) s q)) (reply_to v.rules (history v) s q) =
-    done.whole ∙ ap (λ (h : List Entry). full_reply (accepted h) (reply_to v.rules (history v) s q)) grown in
+    let whole : reply ≡ whole_reply v.rules (history v) s q = reply_whole v w s q reply done in
     let last : stops ≡ is_stop (reply_to v.rules (history v) s q) =
     stop ∙ ap is_stop_reply whole ∙ same_stop (accepted (with_entry v.rules (history v) s q)) (reply_to v.rules (history v) s q) in
     record {

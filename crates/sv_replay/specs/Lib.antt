@@ -1,4 +1,6 @@
 pub mod Channel
 pub mod Players
+pub mod Messages
 pub mod Serving
 pub mod Machine
+pub mod Work

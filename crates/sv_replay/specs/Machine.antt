@@ -8,6 +8,7 @@ use Rattle.sv_client.specs.Seen.{raised, newly_asked}
 use Rattle.sv_scenario.specs.declared.scenario.Step.{Step}
 use Rattle.sv_scenario.specs.Limits.{IsGoodScenario}
 use Rattle.sv_scenario.specs.Sessions.{session_count}
+use Rattle.sv_numbers.specs.Numbers.{ScenarioFits}
 use Rattle.sv_script.specs.Following.{must_join, is_welcomed}
 use Rattle.sv_journal.specs.Answer.{Rules}
 use Rattle.sv_schedule.specs.Schedule.{Player, Run, rules_of, session_turns, at_player, take_turns}
@@ -72,6 +73,7 @@ run_of m = record { history = reverse m.sequencer.journal.entries; players = map
 -- The machine is in step with the run that it stands for, which is a sound one of its scenario.
 pub record IsMachine (m : Machine) : Type 0 where
   pub good : IsGoodScenario m.scenario.now
+  pub numbers : ScenarioFits m.scenario.now
   pub rules : m.sequencer.rules ≡ rules_of m.scenario.now
   pub sound : IsSound m.scenario.now (run_of m)
   pub flags : All AreFlags m.players.items

@@ -1,6 +1,6 @@
 -- What one player does in a run over its session's connection, and what each session's connection holds.
 -- A history is the list of a journal's entries with the latest first; events stand with the latest first too.
-use Rattle.std.specs.Prelude.{◌≡◌, ◌⊎◌, ℕ, ◌+◌, ◌-◌, ◌<◌, ◌≤◌, Bool, true, false, ◌==◌, ◌||◌, List, [], ◌++◌, length, drop, slice_get, if◌then◌else◌}
+use Rattle.std.specs.Prelude.{◌≡◌, ◌⊎◌, ℕ, ◌+◌, ◌-◌, ◌<◌, ◌≤◌, Bool, true, false, ◌==◌, ◌||◌, List, [], ◌++◌, length, drop, Some, None, slice_get, if◌then◌else◌}
 use Rattle.std.specs.List.{list_any, flat_map}
 use Rattle.sv_wire.specs.declared.message.Reply.{Reply}
 use Rattle.sv_wire.specs.declared.message.Request.{Request}
@@ -8,6 +8,7 @@ use Rattle.sv_journal.specs.History.{accepted}
 use Rattle.sv_client.specs.declared.trace.Event.{Event}
 use Rattle.sv_client.specs.declared.trace.Event.TheVariants as events
 use Rattle.sv_client.specs.Traces.{joins, asked, got}
+use Rattle.sv_client.specs.Taking.{Identity, first_fault_of_reply}
 use Rattle.sv_client.specs.Proper.{AreProper}
 use Rattle.sv_script.specs.Following.{must_join}
 use Rattle.sv_system.specs.Fits.{is_join_of, requests_in, replies_in}
@@ -23,6 +24,10 @@ pub record IsFit (sessions : ℕ) (p : Player) : Type 0 where
   pub proper : AreProper p.who p.first p.events
   pub begun : must_join p.events ≡ false → 1 ≤ joins p.events
   pub known : session_of p < sessions
+
+-- The first of the replies that wait is one that a client takes.
+abbrev pub IsNextFine : Identity → List Event → List Reply → Type 0
+IsNextFine who t replies = (reply : Reply) → slice_get replies 0 ≡ Some reply → first_fault_of_reply who t reply ≡ None
 
 -- A player takes the first of the replies that wait in its session, if its link is open.
 abbrev pub taken_from : List Reply → Player → Player

@@ -5,6 +5,7 @@ use Rattle.sv_wire.specs.declared.message.Reply.{Reply}
 use Rattle.sv_wire.specs.declared.message.Reply.TheVariants as replies
 use Rattle.sv_wire.specs.declared.message.Request.{Request}
 use Rattle.sv_wire.specs.declared.message.Request.TheVariants as requests
+use Rattle.sv_wire.specs.Laws.{IsReply}
 use Rattle.sv_journal.specs.declared.entry.Entry.{Entry}
 use Rattle.sv_journal.specs.History.{accepted, full_reply}
 use Rattle.sv_journal.specs.Answer.{Rules, reply_to}
@@ -25,12 +26,16 @@ next_history r h s c = if is_ended h s then h
     else if c.stopped then with_entry r h s requests.End
     else steps_next r h s c.closed c.requests
 
+-- The reply to a request, as it is sent.
+abbrev pub whole_reply : Rules → List Entry → ℕ → Request → Reply
+whole_reply r h s request = full_reply (accepted (with_entry r h s request)) (reply_to r h s request)
+
 -- The connection after the next of these waiting requests was answered, or else the End.
 abbrev pub answered : Rules → List Entry → ℕ → ChannelView → List Request → ChannelView
 answered r h s c [] = if c.closed then record c { stopped = true } else c
 answered r h s c (request ∷ waiting) = record c {
   requests = waiting;
-  replies = c.replies ++ full_reply (accepted (with_entry r h s request)) (reply_to r h s request) ∷ [];
+  replies = c.replies ++ whole_reply r h s request ∷ [];
   stopped = is_stop (reply_to r h s request);
 }
 
@@ -43,9 +48,18 @@ next_channel r h s c = if is_ended h s then c
 -- The connection after a request, which was taken from it, was answered.
 abbrev pub with_answer : Rules → List Entry → ℕ → Request → ChannelView → ChannelView
 with_answer r h s request c = record c {
-  replies = c.replies ++ full_reply (accepted (with_entry r h s request)) (reply_to r h s request) ∷ [];
+  replies = c.replies ++ whole_reply r h s request ∷ [];
   stopped = is_stop (reply_to r h s request);
 }
+
+-- What the session's turn replies is a message.
+abbrev pub AnswersMessage : Rules → List Entry → ℕ → ChannelView → Type 0
+AnswersMessage r h s c = (request : Request) (waiting : List Request) → is_ended h s ≡ false → c.stopped ≡ false → c.requests ≡ request ∷ waiting →
+    IsReply (whole_reply r h s request)
+
+abbrev pub one_if : Bool → ℕ
+one_if true = 1
+one_if false = 0
 
 -- A request of a session was entered with its reply, and left its connection like this.
 pub record Entered (s : ℕ) (request : Request) (old new : SequencerView) (c after : ChannelView) : Type 0 where

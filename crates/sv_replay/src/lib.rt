@@ -2,6 +2,7 @@
 #![tactic(auto)]
 
 mod channel;
+mod laws;
 mod machine;
 mod opening;
 mod playing;

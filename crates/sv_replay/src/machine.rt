@@ -1,12 +1,14 @@
-ghost use Rattle.std.specs.Prelude.{◌≡◌, ℕ, ◌<◌, true, length, All, OnOk};
+ghost use Rattle.std.specs.Prelude.{◌≡◌, ℕ, ◌<◌, true, length, All, IfOk, OnOk};
 ghost use Rattle.sv_scenario.specs.declared.scenario.Turn.TheVariants as turns;
 ghost use Rattle.sv_scenario.specs.Limits.{IsGoodTurn};
 ghost use Rattle.sv_scenario.specs.Sessions.{session_count};
 ghost use Rattle.sv_system.specs.Fits.{is_ended};
 ghost use Rattle.sv_schedule.specs.Schedule.{Player, rules_of, turned, all_turned, after_clients, after_sessions, after_takes, round, repeated};
 ghost use Rattle.sv_replay.specs.Machine.{run_of, IsMachine, Became, after_session, after_take};
+ghost use Rattle.sv_replay.specs.Work.{Found, work_of_session, work_of_client};
 
 use crate::channel::Channel;
+use crate::laws::runs_are_messages;
 use crate::playing::Playing;
 use crate::serving::serve;
 use std::alloc::{AllocError, Global};
@@ -31,17 +33,20 @@ impl<'a> Machine<'a> {
         requires client { client < length self.old.scenario.now.clients }
         ensures { OnOk result (Became self.old self.new (turned (rules_of self.old.scenario.now) (run_of self.old) (turns.Client client))) }
     {
+        runs_are_messages();
         let player = &mut self.players[client];
         let session = player.session() as usize;
         player.turn(self.alloc, &mut self.channels[session])
     }
 
-    /// A session's turn: its next waiting request, or its End, if that is due.
-    fn session_turn(&mut self, session: u16) -> Result<(), AllocError>
+    /// A session's turn: its next waiting request, or its End, if that is due. Whether it found something to do.
+    fn session_turn(&mut self, session: u16) -> Result<bool, AllocError>
         requires machine { IsMachine self.old }
         requires session { session < session_count self.old.scenario.now }
-        ensures { OnOk result (Became self.old self.new (turned (rules_of self.old.scenario.now) (run_of self.old) (turns.Session session))) }
+        ensures became { OnOk result (Became self.old self.new (turned (rules_of self.old.scenario.now) (run_of self.old) (turns.Session session))) }
+        ensures found { IfOk result (Found (work_of_session session) (run_of self.old) (run_of self.new)) }
     {
+        runs_are_messages();
         serve(
             &mut self.sequencer,
             &mut self.channels[session as usize],
@@ -49,12 +54,14 @@ impl<'a> Machine<'a> {
         )
     }
 
-    /// A client takes the next reply that waits for it, if there is one.
-    fn take_turn(&mut self, client: usize) -> Result<(), AllocError>
+    /// A client takes the next reply that waits for it, if there is one. Whether it took one.
+    fn take_turn(&mut self, client: usize) -> Result<bool, AllocError>
         requires machine { IsMachine self.old }
         requires client { client < length self.old.scenario.now.clients }
-        ensures { OnOk result (Became self.old self.new (turned (rules_of self.old.scenario.now) (run_of self.old) (turns.Take client))) }
+        ensures became { OnOk result (Became self.old self.new (turned (rules_of self.old.scenario.now) (run_of self.old) (turns.Take client))) }
+        ensures found { IfOk result (Found (work_of_client client) (run_of self.old) (run_of self.new)) }
     {
+        runs_are_messages();
         let player = &mut self.players[client];
         let session = player.session() as usize;
         player.take(&mut self.channels[session])
@@ -67,10 +74,15 @@ impl<'a> Machine<'a> {
         ensures { OnOk result (Became self.old self.new (turned (rules_of self.old.scenario.now) (run_of self.old) turn)) }
     {
         match turn {
-            Turn::Client(client) => self.client_turn(usize::from(client)),
-            Turn::Session(session) => self.session_turn(session),
-            Turn::Take(client) => self.take_turn(usize::from(client)),
+            Turn::Client(client) => self.client_turn(usize::from(client))?,
+            Turn::Session(session) => {
+                self.session_turn(session)?;
+            }
+            Turn::Take(client) => {
+                self.take_turn(usize::from(client))?;
+            }
         }
+        Ok(())
     }
 
     /// The turns of the scenario's schedule.
@@ -102,11 +114,7 @@ impl<'a> Machine<'a> {
         requires session { session < session_count self.old.scenario.now }
         ensures { OnOk result (Became self.old self.new (after_session (rules_of self.old.scenario.now) session (run_of self.old))) }
     {
-        let waiting = self.channels[session as usize].requests();
-        self.session_turn(session)?;
-        for _ in 0..waiting {
-            self.session_turn(session)?;
-        }
+        while self.session_turn(session)? {}
         Ok(())
     }
 
@@ -127,11 +135,7 @@ impl<'a> Machine<'a> {
         requires client { client < length self.old.scenario.now.clients }
         ensures { OnOk result (Became self.old self.new (after_take client (run_of self.old))) }
     {
-        let session = self.players[client].session() as usize;
-        let waiting = self.channels[session].replies();
-        for _ in 0..waiting {
-            self.take_turn(client)?;
-        }
+        while self.take_turn(client)? {}
         Ok(())
     }
 

@@ -12,6 +12,7 @@ use crate::machine::Machine;
 use crate::playing::Playing;
 use std::alloc::{AllocError, Global};
 use sv_client::Client;
+use sv_numbers::read_scenario_numbers;
 use sv_scenario::{Plan, Scenario, sessions_of, sessions_of_plan};
 use sv_sequencer::Sequencer;
 use sv_world::{ClientId, Shape, World, copy_objects, copy_values};
@@ -73,7 +74,7 @@ fn open_channels(alloc: Global, sessions: u16) -> Result<Vec<Channel>, AllocErro
 {
     let mut channels = Vec::new(alloc);
     for _ in 0..sessions {
-        channels.push(Channel::new(alloc))?;
+        channels.push(Channel::new(alloc)?)?;
     }
     Ok(channels)
 }
@@ -88,6 +89,8 @@ pub(crate) fn open_machine<'a>(
     ensures machine { IfOk result (λ m. IsMachine m) }
     ensures run { IfOk result (λ m. run_of m ≡ opening_run scenario.now) }
 {
+    // A number is known to be of its type once it is read, and only such numbers can be sent.
+    read_scenario_numbers(scenario);
     let sequencer = open_sequencer(alloc, scenario)?;
     let players = open_players(alloc, scenario)?;
     let channels = open_channels(alloc, sequencer.sessions())?;

@@ -1,12 +1,16 @@
-ghost use Rattle.std.specs.Prelude.{◌≡◌, ◌<◌, [], ◌∷◌, ◌++◌, true, false, option_to_list, slice_get, OnOk};
+ghost use Rattle.std.specs.Prelude.{◌≡◌, ◌<◌, ◌+◌, [], ◌∷◌, ◌++◌, true, false, length, option_to_list, slice_get, All, IfOk, OnOk};
 ghost use Rattle.sv_client.specs.declared.trace.Event.TheVariants as events;
 ghost use Rattle.sv_client.specs.Traces.{joins};
 ghost use Rattle.sv_client.specs.Proper.{MayMake, MayPoll, MayLeave};
+ghost use Rattle.sv_client.specs.Seen.{newly_asked};
 ghost use Rattle.sv_scenario.specs.declared.scenario.Step.TheVariants as steps;
 ghost use Rattle.sv_script.specs.Following.{must_join};
 ghost use Rattle.sv_schedule.specs.Schedule.{player_turn, next_step, last_steps, takes, trace_of_player, is_calm, is_settled};
+ghost use Rattle.sv_wire.specs.Laws.{IsRequest};
 ghost use Rattle.sv_replay.specs.Channel.{ChannelView};
-ghost use Rattle.sv_replay.specs.Players.{session_of, IsFit, taken_from};
+ghost use Rattle.sv_replay.specs.Messages.{AsksMessages, IsNext};
+ghost use Rattle.sv_replay.specs.Players.{session_of, IsFit, IsNextFine, taken_from};
+ghost use Rattle.sv_replay.specs.Serving.{one_if};
 ghost use Rattle.sv_replay.specs.Machine.{player_of, AreFlags, IsReady, Does, Moved};
 
 use crate::channel::Channel;
@@ -72,7 +76,8 @@ impl<'a> Playing<'a> {
     pub(crate) fn turn(&mut self, alloc: Global, channel: &mut Channel) -> Result<(), AllocError>
         requires flags { AreFlags self.old }
         requires fit { IsFit 64 (player_of self.old) }
-        requires after { IsFit 64 (player_turn (player_of self.old)) }
+        requires after { IsNext (player_turn (player_of self.old)) }
+        requires open { self.old.closed ≡ false → channel.old.closed ≡ false }
         ensures { OnOk result (Moved (player_turn (player_of self.old)) self.old self.new channel.old channel.new) }
     {
         if self.closed {
@@ -88,11 +93,13 @@ impl<'a> Playing<'a> {
     }
 
     fn join(&mut self, channel: &mut Channel) -> Result<(), AllocError>
-        requires { joins self.old.client.events < 64 }
+        requires few { joins self.old.client.events < 64 }
+        requires messages { All IsRequest (newly_asked self.old.client.who self.old.client.events (events.Join (joins self.old.client.events))) }
+        requires open { channel.old.closed ≡ false }
         ensures { OnOk result (Does (events.Join (joins self.old.client.events)) self.old.left.now self.old.closed self.old self.new channel.old channel.new) }
     {
         let requests = self.client.join()?;
-        channel.send_all(requests)?;
+        channel.send_all(&requests)?;
         self.between = false;
         self.welcomed = false;
         Ok(())
@@ -102,7 +109,8 @@ impl<'a> Playing<'a> {
     fn step(&mut self, alloc: Global, channel: &mut Channel) -> Result<(), AllocError>
         requires flags { AreFlags self.old }
         requires ready { IsReady self.old }
-        requires after { IsFit 64 (next_step (player_of self.old) self.old.left.now) }
+        requires after { IsNext (next_step (player_of self.old) self.old.left.now) }
+        requires open { channel.old.closed ≡ false }
         ensures { OnOk result (Moved (next_step (player_of self.old) self.old.left.now) self.old self.new channel.old channel.new) }
     {
         let Some((step, rest)) = self.left.split_first() else {
@@ -144,7 +152,8 @@ impl<'a> Playing<'a> {
     ) -> Result<(), AllocError>
         requires flags { AreFlags self.old }
         requires ready { IsReady self.old }
-        requires after { IsFit 64 (next_step (player_of self.old) (steps.Act action.now ∷ rest.now)) }
+        requires after { IsNext (next_step (player_of self.old) (steps.Act action.now ∷ rest.now)) }
+        requires open { channel.old.closed ≡ false }
         ensures { OnOk result (Moved (next_step (player_of self.old) (steps.Act action.now ∷ rest.now)) self.old self.new channel.old channel.new) }
     {
         if self.client.pending() < 8 && self.is_calm() {
@@ -164,11 +173,13 @@ impl<'a> Playing<'a> {
         requires flags { AreFlags self.old }
         requires ready { IsReady self.old }
         requires may { MayMake self.old.client.who self.old.client.events action.now }
+        requires messages { All IsRequest (newly_asked self.old.client.who self.old.client.events (events.Make action.now)) }
+        requires open { channel.old.closed ≡ false }
         ensures { OnOk result (Does (events.Make action.now) rest.now self.old.closed self.old self.new channel.old channel.new) }
     {
         let copy = copy_action(alloc, action)?;
         match self.client.make(copy) {
-            Ok(request) => channel.send(request)?,
+            Ok(request) => channel.send(&request)?,
             Err(MakeFault::Memory) => return Err(AllocError),
             Err(_) => unreachable!(),
         }
@@ -179,7 +190,8 @@ impl<'a> Playing<'a> {
     fn poll(&mut self, channel: &mut Channel, rest: &'a [Step]) -> Result<(), AllocError>
         requires flags { AreFlags self.old }
         requires ready { IsReady self.old }
-        requires after { IsFit 64 (next_step (player_of self.old) (steps.Poll ∷ rest.now)) }
+        requires after { IsNext (next_step (player_of self.old) (steps.Poll ∷ rest.now)) }
+        requires open { channel.old.closed ≡ false }
         ensures { OnOk result (Moved (next_step (player_of self.old) (steps.Poll ∷ rest.now)) self.old self.new channel.old channel.new) }
     {
         if self.is_calm() {
@@ -194,10 +206,11 @@ impl<'a> Playing<'a> {
         requires flags { AreFlags self.old }
         requires ready { IsReady self.old }
         requires may { MayPoll self.old.client.who self.old.client.events }
+        requires open { channel.old.closed ≡ false }
         ensures { OnOk result (Does events.Poll rest.now self.old.closed self.old self.new channel.old channel.new) }
     {
         match self.client.poll() {
-            Ok(request) => channel.send(request)?,
+            Ok(request) => channel.send(&request)?,
             Err(PollFault::Memory) => return Err(AllocError),
             Err(PollFault::Busy) => unreachable!(),
         }
@@ -259,7 +272,8 @@ impl<'a> Playing<'a> {
     fn finish(&mut self, channel: &mut Channel) -> Result<(), AllocError>
         requires flags { AreFlags self.old }
         requires ready { IsReady self.old }
-        requires after { IsFit 64 (last_steps (player_of self.old)) }
+        requires after { IsNext (last_steps (player_of self.old)) }
+        requires open { channel.old.closed ≡ false }
         requires none { self.old.left.now ≡ [] }
         ensures { OnOk result (Moved (last_steps (player_of self.old)) self.old self.new channel.old channel.new) }
     {
@@ -278,51 +292,65 @@ impl<'a> Playing<'a> {
         requires flags { AreFlags self.old }
         requires ready { IsReady self.old }
         requires may { MayLeave self.old.client.who self.old.client.events }
+        requires open { channel.old.closed ≡ false }
         ensures { OnOk result (Does events.Leave self.old.left.now self.old.closed self.old self.new channel.old channel.new) }
     {
         let request = self.client.leave()?;
-        channel.send(request)
+        channel.send(&request)
     }
 
-    /// Takes the next reply that waits for it, if its end of a session is open. One that it refuses stays.
-    pub(crate) fn take(&mut self, channel: &mut Channel) -> Result<(), AllocError>
+    /// Takes the next reply that waits for it, if its end of a session is open. Whether it took one.
+    pub(crate) fn take(&mut self, channel: &mut Channel) -> Result<bool, AllocError>
         requires flags { AreFlags self.old }
         requires fit { IsFit 64 (player_of self.old) }
-        ensures { OnOk result (Moved (taken_from channel.old.replies (player_of self.old)) self.old self.new channel.old channel.new) }
+        requires after { AsksMessages (taken_from channel.old.replies (player_of self.old)) }
+        requires open { self.old.closed ≡ false → must_join self.old.client.events ≡ false → channel.old.closed ≡ false }
+        requires fine { self.old.closed ≡ false → must_join self.old.client.events ≡ false → IsNextFine self.old.client.who self.old.client.events channel.old.replies }
+        ensures taken { OnOk result (Moved (taken_from channel.old.replies (player_of self.old)) self.old self.new channel.old channel.new) }
+        ensures found { IfOk result (λ found. length self.new.client.events ≡ length self.old.client.events + one_if found) }
     {
         if self.closed || self.between {
-            return Ok(());
+            return Ok(false);
         }
         self.take_next(channel)
     }
 
-    fn take_next(&mut self, channel: &mut Channel) -> Result<(), AllocError>
+    fn take_next(&mut self, channel: &mut Channel) -> Result<bool, AllocError>
         requires flags { AreFlags self.old }
         requires fit { IsFit 64 (player_of self.old) }
         requires linked { self.old.closed ≡ false }
         requires joined { must_join self.old.client.events ≡ false }
-        ensures { OnOk result (Moved (takes (player_of self.old) (session_of (player_of self.old)) (slice_get channel.old.replies 0)) self.old self.new channel.old channel.new) }
+        requires after { AsksMessages (takes (player_of self.old) (session_of (player_of self.old)) (slice_get channel.old.replies 0)) }
+        requires open { channel.old.closed ≡ false }
+        requires fine { IsNextFine self.old.client.who self.old.client.events channel.old.replies }
+        ensures taken { OnOk result (Moved (takes (player_of self.old) (session_of (player_of self.old)) (slice_get channel.old.replies 0)) self.old self.new channel.old channel.new) }
+        ensures found { IfOk result (λ found. length self.new.client.events ≡ length self.old.client.events + one_if found) }
     {
-        let Some(reply) = channel.next_reply() else {
-            return Ok(());
+        let Some(reply) = channel.next_reply()? else {
+            return Ok(false);
         };
         match self.client.take(&reply) {
-            Ok(done) => self.taken(channel, done),
+            Ok(done) => {
+                self.taken(channel, done)?;
+                Ok(true)
+            }
             Err(fault) => match fault {
                 TakeFault::Memory => Err(AllocError),
-                _ => channel.put_back(reply),
+                _ => unreachable!(),
             },
         }
     }
 
     /// Sends the Done of a relay that was taken.
     fn taken(&mut self, channel: &mut Channel, done: Option<Request>) -> Result<(), AllocError>
+        requires messages { All IsRequest (option_to_list done) }
+        requires open { channel.old.closed ≡ false }
         ensures playing { self.new ≡ record self.old { welcomed = true } }
         ensures channel { OnOk result (channel.new ≡ record channel.old { requests = channel.old.requests ++ option_to_list done }) }
     {
         self.welcomed = true;
         match done {
-            Some(request) => channel.send(request),
+            Some(request) => channel.send(&request),
             None => Ok(()),
         }
     }

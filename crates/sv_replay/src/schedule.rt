@@ -22,7 +22,7 @@ const MOST_ROUNDS: u16 = 1000;
 
 /// Runs a scenario on one thread: the turns of its schedule, and then rounds until every client is finished and every session ended.
 ///
-/// Messages go over one connection for each session.
+/// Each message goes as the bytes of its frame over its session's link.
 pub fn run_schedule(alloc: Global, scenario: &Scenario) -> Result<Played, AllocError>
     requires { IsGoodScenario scenario.now }
     ensures journal { IfOk result (λ played. reverse played.journal.entries ≡ (scheduled_run scenario.now).history) }

@@ -1,10 +1,11 @@
 //! A session's turn.
 
-ghost use Rattle.std.specs.Prelude.{◌≡◌, ◌<◌, true, false, OnOk};
+ghost use Rattle.std.specs.Prelude.{◌≡◌, ◌<◌, ◌+◌, true, false, length, IfOk, OnOk};
 ghost use Rattle.sv_wire.specs.declared.message.Request.TheVariants as requests;
+ghost use Rattle.sv_wire.specs.Laws.{IsReply};
 ghost use Rattle.sv_sequencer.specs.Step.{history};
 ghost use Rattle.sv_system.specs.Fits.{is_ended};
-ghost use Rattle.sv_replay.specs.Serving.{is_stop_reply, with_answer, Entered, Served};
+ghost use Rattle.sv_replay.specs.Serving.{is_stop_reply, whole_reply, with_answer, AnswersMessage, Entered, Served, one_if};
 
 use crate::channel::Channel;
 use std::alloc::AllocError;
@@ -23,25 +24,34 @@ fn is_stop(reply: &Reply) -> bool
 }
 
 /// A session's turn: its next waiting request, or its End, which is due once its loop has stopped, or once the client's end is closed and no
-/// request waits.
+/// request waits. Whether it found something to do.
 pub(crate) fn serve(
     sequencer: &mut Sequencer,
     channel: &mut Channel,
     session: u16,
-) -> Result<(), AllocError>
-    requires { session < sequencer.old.rules.sessions }
-    ensures { OnOk result (Served session sequencer.old sequencer.new channel.old channel.new) }
+) -> Result<bool, AllocError>
+    requires session { session < sequencer.old.rules.sessions }
+    requires message { AnswersMessage sequencer.old.rules (history sequencer.old) session channel.old }
+    ensures served { OnOk result (Served session sequencer.old sequencer.new channel.old channel.new) }
+    ensures found { IfOk result (λ found. length (history sequencer.new) ≡ length (history sequencer.old) + one_if found) }
 {
     if sequencer.is_ended(session) {
-        return Ok(());
+        return Ok(false);
     }
     if channel.is_stopped() {
-        return end(sequencer, channel, session);
+        end(sequencer, channel, session)?;
+        return Ok(true);
     }
-    match channel.next_request() {
-        Some(request) => answer(sequencer, channel, session, &request),
-        None if channel.is_closed() => end(sequencer, channel, session),
-        None => Ok(()),
+    match channel.next_request()? {
+        Some(request) => {
+            answer(sequencer, channel, session, &request)?;
+            Ok(true)
+        }
+        None if channel.is_closed() => {
+            end(sequencer, channel, session)?;
+            Ok(true)
+        }
+        None => Ok(false),
     }
 }
 
@@ -55,11 +65,12 @@ fn answer(
     requires session { session < sequencer.old.rules.sessions }
     requires running { is_ended (history sequencer.old) session ≡ false }
     requires unstopped { channel.old.stopped ≡ false }
+    requires message { IsReply (whole_reply sequencer.old.rules (history sequencer.old) session request.now) }
     ensures { OnOk result (Entered session request.now sequencer.old sequencer.new channel.new (with_answer sequencer.old.rules (history sequencer.old) session request.now channel.old)) }
 {
     let reply = sequencer.step(session, request)?;
     let stops = is_stop(&reply);
-    channel.answer(reply, stops)
+    channel.answer(&reply, stops)
 }
 
 /// Ends a session.

@@ -1,11 +1,11 @@
-use Rattle.std.proofs.Common.{sym, ◌∙◌}
-use Rattle.std.proofs.lemmas.Result.{on_ok_weaker}
+use Rattle.std.proofs.Common.{sym, ap, subst, ◌∙◌}
 use Rattle.sv_sequencer.specs.Step.{history}
-use Rattle.sv_replay.proofs.Served.{same_ended, serves_ended, serves_end, serves_closed, serves_asked}
+use Rattle.sv_replay.specs.Channel.{ChannelView, TakesRequest}
+use Rattle.sv_replay.proofs.Served.{same_ended, serves_ended, serves_end, serves_closed, serves_asked, entered_longer}
 use Rattle.sv_replay.proofs.serving.serve.Goals as goal
 
-pub returns-then-is_ended : goal.returns-then-is_ended
-returns-then-is_ended c = serves_ended c.args.session c.args.sequencer.now c.args.channel.now c.if-is_ended.ensures
+pub returns-then-is_ended-clause-served : goal.returns-then-is_ended-clause-served
+returns-then-is_ended-clause-served c = serves_ended c.args.session c.args.sequencer.now c.args.channel.now c.if-is_ended.ensures
 
 pub end-requires-clause-running : goal.end-requires-clause-running
 end-requires-clause-running c = sym (same_ended (history c.args.sequencer.now) c.args.session) ∙ sym c.if-is_ended.ensures
@@ -16,22 +16,33 @@ answer-requires-clause-running c = sym (same_ended (history c.args.sequencer.now
 pub end-requires-in-None-clause-running : goal.end-requires-in-None-clause-running
 end-requires-in-None-clause-running c = sym (same_ended (history c.args.sequencer.now) c.args.session) ∙ sym c.if-is_ended.ensures
 
-pub returns-then-is_stopped : goal.returns-then-is_stopped
-returns-then-is_stopped c =
-    on_ok_weaker c.end.result
-    (λ done. serves_end c.args.session c.args.sequencer.now c.end.new.sequencer c.args.channel.now c.end.new.channel (sym c.if-is_ended.ensures) (sym c.if-is_stopped.ensures) done)
-    c.end.ensures
+pub answer-requires-clause-message : goal.answer-requires-clause-message
+answer-requires-clause-message c =
+    let v = c.args.sequencer.now in
+    let b = c.next_request.new.self in
+    let taken = subst (TakesRequest c.args.channel.now b) c.in-Some.is c.in_ok-request.ensures in
+    c.requires.message c.in-Some.request b.requests (sym (same_ended (history v) c.args.session) ∙ sym c.if-is_ended.ensures) (sym c.if-is_stopped.ensures) (ap (λ (x : ChannelView). x.requests) taken)
 
-pub returns-in-Some : goal.returns-in-Some
-returns-in-Some c =
-    on_ok_weaker c.answer.result
-    (λ done. serves_asked c.args.session c.args.sequencer.now c.answer.new.sequencer c.args.channel.now c.next_request.new.self c.answer.new.channel c.in-Some.request
-    (sym c.if-is_ended.ensures) (sym c.if-is_stopped.ensures) c.in-Some.ensures done)
-    c.answer.ensures
+pub returns-then-is_stopped-clause-served : goal.returns-then-is_stopped-clause-served
+returns-then-is_stopped-clause-served c =
+    serves_end c.args.session c.args.sequencer.now c.end.new.sequencer c.args.channel.now c.end.new.channel (sym c.if-is_ended.ensures) (sym c.if-is_stopped.ensures) c.in_ok-end.ensures
 
-pub returns-in-None : goal.returns-in-None
-returns-in-None c =
-    on_ok_weaker c.end-in-None.result
-    (λ done. serves_closed c.args.session c.args.sequencer.now c.end-in-None.new.sequencer c.args.channel.now c.next_request.new.self c.end-in-None.new.channel
-    (sym c.if-is_ended.ensures) (sym c.if-is_stopped.ensures) c.in-None.ensures (sym c.if-is_closed.ensures) done)
-    c.end-in-None.ensures
+pub returns-then-is_stopped-clause-found : goal.returns-then-is_stopped-clause-found
+returns-then-is_stopped-clause-found c = entered_longer c.args.session _ c.args.sequencer.now c.end.new.sequencer c.end.new.channel _ c.in_ok-end.ensures
+
+pub returns-in_ok-answer-in-Some-clause-served : goal.returns-in_ok-answer-in-Some-clause-served
+returns-in_ok-answer-in-Some-clause-served c =
+    serves_asked c.args.session c.args.sequencer.now c.answer.new.sequencer c.args.channel.now c.next_request.new.self c.answer.new.channel c.in-Some.request
+    (sym c.if-is_ended.ensures) (sym c.if-is_stopped.ensures) (subst (TakesRequest c.args.channel.now c.next_request.new.self) c.in-Some.is c.in_ok-request.ensures) c.in_ok-answer-in-Some.ensures
+
+pub returns-in_ok-answer-in-Some-clause-found : goal.returns-in_ok-answer-in-Some-clause-found
+returns-in_ok-answer-in-Some-clause-found c =
+    entered_longer c.args.session c.in-Some.request c.args.sequencer.now c.answer.new.sequencer c.answer.new.channel _ c.in_ok-answer-in-Some.ensures
+
+pub returns-in_ok-end-in-None-clause-served : goal.returns-in_ok-end-in-None-clause-served
+returns-in_ok-end-in-None-clause-served c =
+    serves_closed c.args.session c.args.sequencer.now c.end-in-None.new.sequencer c.args.channel.now c.next_request.new.self c.end-in-None.new.channel
+    (sym c.if-is_ended.ensures) (sym c.if-is_stopped.ensures) (subst (TakesRequest c.args.channel.now c.next_request.new.self) c.in-None.is c.in_ok-request.ensures) (sym c.if-is_closed.ensures) c.in_ok-end-in-None.ensures
+
+pub returns-in_ok-end-in-None-clause-found : goal.returns-in_ok-end-in-None-clause-found
+returns-in_ok-end-in-None-clause-found c = entered_longer c.args.session _ c.args.sequencer.now c.end-in-None.new.sequencer c.end-in-None.new.channel _ c.in_ok-end-in-None.ensures

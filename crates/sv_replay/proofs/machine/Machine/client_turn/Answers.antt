@@ -7,7 +7,8 @@ use Rattle.sv_schedule.specs.Schedule.{player_turn}
 use Rattle.sv_replay.specs.Channel.{ChannelView, new_channel}
 use Rattle.sv_replay.specs.Players.{session_of}
 use Rattle.sv_replay.specs.Machine.{player_of, Moved}
-use Rattle.sv_replay.proofs.Machines.{clients_are, player_read, player_flags, player_known, player_fits, player_fits_after, moved_became}
+use Rattle.sv_replay.proofs.Machines.{clients_are, player_read, player_flags, player_known, player_fits, player_fits_after, get_map, moved_became}
+use Rattle.sv_replay.proofs.Sending.{turn_asks, link_open}
 use Rattle.sv_replay.proofs.machine.Machine.client_turn.Goals as goal
 
 pub index_mut-player-requires : goal.index_mut-player-requires
@@ -32,7 +33,30 @@ pub turn-requires-clause-fit : goal.turn-requires-clause-fit
 turn-requires-clause-fit c = player_fits c.args.self.now c.args.client c.index_mut-player.result.now c.requires.machine c.requires.client c.index_mut-player.ensures.value
 
 pub turn-requires-clause-after : goal.turn-requires-clause-after
-turn-requires-clause-after c = player_fits_after c.args.self.now c.args.client c.index_mut-player.result.now c.requires.machine c.requires.client c.index_mut-player.ensures.value
+turn-requires-clause-after c =
+    let m = c.args.self.now in
+    let k = c.args.client in
+    let p = c.index_mut-player.result.now in
+    let is = c.requires.machine in
+    let at = get_map player_of m.players.items k p (player_read m k p is c.requires.client c.index_mut-player.ensures.value) in
+    record {
+      fit = player_fits_after m k p is c.requires.client c.index_mut-player.ensures.value;
+      asks = turn_asks m k (player_of p) is c.requires.client at c.runs_are_messages.ensures.asked;
+    }
+
+pub turn-requires-clause-open : goal.turn-requires-clause-open
+turn-requires-clause-open c =
+    let m = c.args.self.now in
+    let k = c.args.client in
+    let p = c.index_mut-player.result.now in
+    let is = c.requires.machine in
+    let here = c.session-session.ensures in
+    let at = get_map player_of m.players.items k p (player_read m k p is c.requires.client c.index_mut-player.ensures.value) in
+    let fit = player_known m k p is c.requires.client c.index_mut-player.ensures.value in
+    let known : c.session-session.result < length m.channels.items = omega (arith, fit.known, is.count, here) in
+    let read : c.index_mut.result.now ≡ get_or m.channels.items (session_of (player_of p)) new_channel =
+    get_or_read m.channels.items c.session-session.result _ known c.index_mut.ensures.value new_channel ∙ ap (λ n. get_or m.channels.items n new_channel) here in
+    λ linked. ap (λ (v : ChannelView). v.closed) read ∙ link_open m k (player_of p) is c.requires.client at linked
 
 pub returns : goal.returns
 returns c =

@@ -1,4 +1,4 @@
-use Rattle.std.proofs.Common.{◌≡◌, ◌<◌, length, refl, subst, ap, ◌∙◌, arith, get_or, set}
+use Rattle.std.proofs.Common.{◌≡◌, ◌+◌, ◌<◌, length, refl, sym, subst, ap, ◌∙◌, arith, get_or, set, slice_get}
 use Rattle.std.specs.Vec.{with_item}
 use Rattle.std.proofs.lemmas.Result.{on_ok_weaker}
 use Rattle.std.proofs.lemmas.List.{get_or_read}
@@ -7,6 +7,12 @@ use Rattle.sv_schedule.specs.Schedule.{Player, take_turn}
 use Rattle.sv_replay.specs.Channel.{ChannelView, new_channel}
 use Rattle.sv_replay.specs.Players.{session_of, taken_from}
 use Rattle.sv_replay.specs.Machine.{player_of, Moved, run_of}
+use Rattle.sv_client.proofs.Shifts.{up_fault}
+use Rattle.sv_replay.specs.Messages.{AsksMessages}
+use Rattle.sv_replay.specs.Serving.{one_if}
+use Rattle.sv_replay.specs.Work.{work_of_client, Found}
+use Rattle.sv_replay.proofs.Events.{up_must}
+use Rattle.sv_replay.proofs.Sending.{take_asks, link_open, reply_fine, both_told, client_found}
 use Rattle.sv_replay.proofs.Machines.{clients_are, player_read, player_flags, player_known, player_fits, get_map, taken_is, moved_became}
 use Rattle.sv_replay.proofs.machine.Machine.take_turn.Goals as goal
 
@@ -31,8 +37,54 @@ take-requires-clause-flags c = player_flags c.args.self.now c.args.client c.inde
 pub take-requires-clause-fit : goal.take-requires-clause-fit
 take-requires-clause-fit c = player_fits c.args.self.now c.args.client c.index_mut-player.result.now c.requires.machine c.requires.client c.index_mut-player.ensures.value
 
-pub returns : goal.returns
-returns c =
+pub take-requires-clause-after : goal.take-requires-clause-after
+take-requires-clause-after c =
+    let m = c.args.self.now in
+    let k = c.args.client in
+    let p = c.index_mut-player.result.now in
+    let is = c.requires.machine in
+    let here = c.session-session.ensures in
+    let at = get_map player_of m.players.items k p (player_read m k p is c.requires.client c.index_mut-player.ensures.value) in
+    let fit = player_known m k p is c.requires.client c.index_mut-player.ensures.value in
+    let known : c.session-session.result < length m.channels.items = omega (arith, fit.known, is.count, here) in
+    let read : c.index_mut.result.now ≡ get_or m.channels.items (session_of (player_of p)) new_channel =
+    get_or_read m.channels.items c.session-session.result _ known c.index_mut.ensures.value new_channel ∙ ap (λ n. get_or m.channels.items n new_channel) here in
+    subst AsksMessages (sym (ap (λ (v : ChannelView). taken_from v.replies (player_of p)) read ∙ taken_is m k (player_of p) is at))
+    (take_asks m k (player_of p) is c.requires.client at c.runs_are_messages.ensures.asked)
+
+pub take-requires-clause-open : goal.take-requires-clause-open
+take-requires-clause-open c =
+    let m = c.args.self.now in
+    let k = c.args.client in
+    let p = c.index_mut-player.result.now in
+    let is = c.requires.machine in
+    let here = c.session-session.ensures in
+    let at = get_map player_of m.players.items k p (player_read m k p is c.requires.client c.index_mut-player.ensures.value) in
+    let fit = player_known m k p is c.requires.client c.index_mut-player.ensures.value in
+    let known : c.session-session.result < length m.channels.items = omega (arith, fit.known, is.count, here) in
+    let read : c.index_mut.result.now ≡ get_or m.channels.items (session_of (player_of p)) new_channel =
+    get_or_read m.channels.items c.session-session.result _ known c.index_mut.ensures.value new_channel ∙ ap (λ n. get_or m.channels.items n new_channel) here in
+    λ linked _. ap (λ (v : ChannelView). v.closed) read ∙ link_open m k (player_of p) is c.requires.client at linked
+
+pub take-requires-clause-fine : goal.take-requires-clause-fine
+take-requires-clause-fine c =
+    let m = c.args.self.now in
+    let k = c.args.client in
+    let p = c.index_mut-player.result.now in
+    let is = c.requires.machine in
+    let here = c.session-session.ensures in
+    let at = get_map player_of m.players.items k p (player_read m k p is c.requires.client c.index_mut-player.ensures.value) in
+    let fit = player_known m k p is c.requires.client c.index_mut-player.ensures.value in
+    let known : c.session-session.result < length m.channels.items = omega (arith, fit.known, is.count, here) in
+    let read : c.index_mut.result.now ≡ get_or m.channels.items (session_of (player_of p)) new_channel =
+    get_or_read m.channels.items c.session-session.result _ known c.index_mut.ensures.value new_channel ∙ ap (λ n. get_or m.channels.items n new_channel) here in
+    λ linked joined reply first.
+    sym (up_fault p.first p.client.who p.client.events reply)
+    ∙ reply_fine m k (player_of p) is c.requires.client at linked (up_must p.first p.client.events ∙ joined) reply
+    (sym (ap (λ (v : ChannelView). slice_get v.replies 0) read) ∙ first)
+
+pub returns-clause-became : goal.returns-clause-became
+returns-clause-became c =
     let m = c.args.self.now in
     let k = c.args.client in
     let p = c.index_mut-player.result.now in
@@ -51,4 +103,25 @@ returns c =
     (subst (λ (x : Player). Moved x p q (get_or m.channels.items (session_of (player_of p)) new_channel) d) (taken_is m k (player_of p) is (get_map player_of m.players.items k p at))
     (subst (λ (v : ChannelView). Moved (taken_from v.replies (player_of p)) p q v d) read did)) refl c.requires.client refl refl refl
     (ap (λ n. set m.channels.items n d) here))
-    c.take.ensures
+    c.take.ensures.taken
+
+pub returns-clause-found : goal.returns-clause-found
+returns-clause-found c =
+    let m = c.args.self.now in
+    let k = c.args.client in
+    let p = c.index_mut-player.result.now in
+    let q = c.take.new.self in
+    let d = c.take.new.channel in
+    let is = c.requires.machine in
+    let w = record m { players = with_item m.players k q; channels = with_item m.channels c.session-session.result d } in
+    let here = c.session-session.ensures in
+    let at = player_read m k p is c.requires.client c.index_mut-player.ensures.value in
+    let fit = player_known m k p is c.requires.client c.index_mut-player.ensures.value in
+    let known : c.session-session.result < length m.channels.items = omega (arith, fit.known, is.count, here) in
+    let read : c.index_mut.result.now ≡ get_or m.channels.items (session_of (player_of p)) new_channel =
+    get_or_read m.channels.items c.session-session.result _ known c.index_mut.ensures.value new_channel ∙ ap (λ n. get_or m.channels.items n new_channel) here in
+    both_told c.take.result (Moved (taken_from c.index_mut.result.now.replies (player_of p)) p q c.index_mut.result.now d)
+    (λ found. length q.client.events ≡ length p.client.events + one_if found) (Found (work_of_client k) (run_of m) (run_of w))
+    (λ found did long. client_found m w k p q found at
+    (did.player ∙ ap (λ (v : ChannelView). taken_from v.replies (player_of p)) read ∙ taken_is m k (player_of p) is (get_map player_of m.players.items k p at)) refl refl long)
+    c.take.ensures.taken c.take.ensures.found

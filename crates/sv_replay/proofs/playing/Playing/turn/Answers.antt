@@ -1,10 +1,10 @@
 use Rattle.std.proofs.Common.{sym, ◌∙◌, subst}
 use Rattle.std.proofs.lemmas.Result.{on_ok_weaker}
 use Rattle.sv_schedule.specs.Schedule.{Player}
-use Rattle.sv_replay.specs.Players.{IsFit}
+use Rattle.sv_replay.specs.Messages.{IsNext}
 use Rattle.sv_replay.specs.Machine.{player_of, Moved}
 use Rattle.sv_replay.proofs.Events.{up_must, up_welcomed}
-use Rattle.sv_replay.proofs.Moving.{turn_closed, turn_waits, turn_steps, may_join, joined_moved, still_at}
+use Rattle.sv_replay.proofs.Moving.{turn_closed, turn_waits, turn_steps, may_join, asks_join, joined_moved, still_at}
 use Rattle.sv_replay.proofs.playing.Playing.turn.Goals as goal
 
 pub returns-then-self : goal.returns-then-self
@@ -12,8 +12,11 @@ returns-then-self c =
     let p = c.args.self.now in
     still_at _ p c.args.channel.now (turn_closed (player_of p) c.if-self.true) c.requires.flags
 
-pub join-requires : goal.join-requires
-join-requires c = may_join c.args.self.now c.if-self.false (sym c.requires.flags.between ∙ c.if-self-2.true) c.requires.after
+pub join-requires-clause-few : goal.join-requires-clause-few
+join-requires-clause-few c = may_join c.args.self.now c.if-self.false (sym c.requires.flags.between ∙ c.if-self-2.true) c.requires.after.fit
+
+pub join-requires-clause-messages : goal.join-requires-clause-messages
+join-requires-clause-messages c = asks_join c.args.self.now c.requires.fit c.if-self.false (sym c.requires.flags.between ∙ c.if-self-2.true) c.requires.after.asks
 
 pub returns-then-self-2 : goal.returns-then-self-2
 returns-then-self-2 c =
@@ -23,7 +26,7 @@ returns-then-self-2 c =
 pub step-requires-clause-after : goal.step-requires-clause-after
 step-requires-clause-after c =
     let p = c.args.self.now in
-    subst (IsFit 64) (turn_steps (player_of p) c.if-self.false (up_must p.first p.client.events ∙ sym c.requires.flags.between ∙ c.if-self-2.false) (up_welcomed p.first p.client.events ∙ sym c.requires.flags.welcomed ∙ c.if-self-3.true)) c.requires.after
+    subst IsNext (turn_steps (player_of p) c.if-self.false (up_must p.first p.client.events ∙ sym c.requires.flags.between ∙ c.if-self-2.false) (up_welcomed p.first p.client.events ∙ sym c.requires.flags.welcomed ∙ c.if-self-3.true)) c.requires.after
 
 pub returns-then-self-3 : goal.returns-then-self-3
 returns-then-self-3 c =

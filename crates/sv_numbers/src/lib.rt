@@ -1,0 +1,13 @@
+//! That the numbers which a scenario holds are those of their types.
+//!
+//! A number of a type is in the type's range, but contracts know it only of a value that is read. So these functions read all numbers, and
+//! do nothing else.
+#![tactic(auto)]
+
+mod actions;
+mod scenarios;
+#[cfg(test)]
+mod tests;
+
+pub use actions::read_action;
+pub use scenarios::read_scenario_numbers;
