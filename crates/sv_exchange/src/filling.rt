@@ -6,8 +6,8 @@ ghost use Rattle.sv_exchange.specs.Streams.{IsWithin, IsReadOn, IsFilled};
 use sv_frame::FrameReader;
 use sv_link::{MemLink, Side};
 
-/// How many bytes are moved at a time.
-const PIECE: usize = 4096;
+/// How many bytes are moved at a time. Most messages are shorter, and the room for a piece is cleared each time.
+const PIECE: usize = 512;
 
 /// Reads what the other side wrote into the reader, as much as there is and fits.
 pub(crate) fn fill(link: &mut MemLink, side: Side, reader: &mut FrameReader)
