@@ -1,6 +1,6 @@
 use crate::{
-    Action, Boxed, ClientId, Cond, Expr, List, ObjectId, Point, Reads, Shape, Shared, Stmt, Text,
-    Value, World, check_action, copy_action, copy_objects, copy_value, copy_values,
+    Action, Boxed, ClientId, Cond, Expr, List, ObjectId, Point, Reads, Shape, Shared, Short, Stmt,
+    Text, Value, World, check_action, copy_action, copy_objects, copy_value, copy_values,
     good_actions_have_no_fault, is_ascending, is_in_mask,
 };
 use std::alloc::{AllocError, Global};
@@ -179,6 +179,27 @@ fn sees_lists_and_texts(rt: HostRuntime) -> Result<(), Fail> {
     assert_eq!(rt; text.as_str(), "ab");
     assert_eq!(rt; text.into_string().as_str(), "ab");
     assert_eq!(rt; Boxed::new(alloc, ClientId(3))?.into_inner(), ClientId(3));
+    Ok(())
+}
+
+#[test]
+fn sees_short_and_shared_lists(rt: HostRuntime) -> Result<(), Fail> {
+    let alloc = rt.alloc();
+    let mut short = Short::<i64, 2>::new(alloc);
+    short.push(1)?;
+    short.push(2)?;
+    short.push(3)?;
+    short.set(1, 5);
+    short.set(3, 6);
+    assert_eq!(rt; short.as_slice(), [1, 5, 3].as_slice());
+    let spilled = Short::<i64, 2>::from_vec(vec![in alloc; 7, 8, 9]?);
+    assert_eq!(rt; spilled.len(), 3);
+    assert_eq!(rt; spilled.as_slice(), [7, 8, 9].as_slice());
+    let shared = Shared::from_list(List::from_vec(vec![in alloc; 3, 4]?))?;
+    let other = shared.share()?;
+    drop(shared);
+    assert_eq!(rt; other.len(), 2);
+    assert_eq!(rt; other.as_slice(), [3, 4].as_slice());
     Ok(())
 }
 
