@@ -1,11 +1,12 @@
 -- What a loop over an action's reads has before it.
-use Rattle.std.proofs.Common.{◌≡◌, ℕ, ◌+◌, ◌/◌, ◌%◌, ◌^◌, ◌<◌, Bool, true, false, ◌||◌, ◌&&◌, not, List, ◌∷◌, length, drop, get_or, All, refl, sym, ◌∙◌, ap, subst, bit_and, arith, eq-eqb, ne_eqb}
+use Rattle.std.proofs.Common.{◌≡◌, ℕ, ◌+◌, ◌/◌, ◌%◌, ◌^◌, ◌<◌, ◌≤◌, Bool, true, false, ◌||◌, ◌&&◌, not, List, ◌∷◌, length, drop, get_or, All, refl, sym, ◌∙◌, ap, subst, bit_and, arith, eq-eqb, ne_eqb}
 use Rattle.std.proofs.lemmas.Bool.{cond-true, cond-false, cond_both, or_left}
-use Rattle.std.proofs.lemmas.List.{drop_more, get_or-map, length-map}
+use Rattle.std.proofs.lemmas.List.{drop_all, drop_more, get_or-map, length-map}
 use Rattle.std.proofs.lemmas.Nat.Bits.{shr_and_one}
 use Rattle.std.specs.List.{list_any}
 use Rattle.sv_world.specs.declared.action.Action.{Action}
 use Rattle.sv_world.specs.declared.world.ObjectId.{ObjectId}
+use Rattle.sv_world.specs.Control.{is_in}
 use Rattle.sv_world.specs.Sets.{read_set, is_in_mask, at_mask}
 
 pub read_low : (n : ℕ) (a : Action) (items : List ObjectId) (k : ℕ) (d : ObjectId) → items ≡ a.reads → All (λ x. x < n) (read_set a) → k < length items → (get_or items k d).0 < n
@@ -23,6 +24,13 @@ read_at a items k d e l =
     drop_more (read_set a) k d.0 m
     ∙ ap (λ (x : ℕ). x ∷ drop (k + 1) (read_set a))
     (get_or-map (λ (o : ObjectId). o.0) a.reads k d d.0 l' ∙ ap (λ (os : List ObjectId). (get_or os k d).0) (sym e))
+
+-- At the end nothing is left.
+pub unread_end : (a : Action) (items : List ObjectId) (k x : ℕ) → items ≡ a.reads → length items ≤ k → is_in x (drop k (read_set a)) ≡ false
+unread_end a items k x e l =
+    let l' : length a.reads ≤ k = subst (λ (os : List ObjectId). length os ≤ k) e l in
+    let m : length (read_set a) ≤ k = let q = length-map a.reads (λ (o : ObjectId). o.0) in omega arith in
+    ap (is_in x) (drop_all k (read_set a) m)
 
 pub or_move : (a b c : Bool) → ((a || b) || c) ≡ (b || (a || c))
 or_move true true c = refl

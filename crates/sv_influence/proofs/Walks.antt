@@ -1,6 +1,6 @@
 -- The walk from the last position downwards with the set of the objects read so far meets just the positions of the influence.
 use Rattle.std.proofs.Common.{◌≡◌, ℕ, zero, suc, ◌<◌, ◌≤◌, ◌+◌, ◌-◌, inl, inr, Bool, true, false, ◌||◌, List, [], ◌∷◌, length, refl, sym, ◌∙◌, ap, subst, arith}
-use Rattle.std.proofs.lemmas.Bool.{cases_eq, cases_lt, or_cases, or_left, or_right, cond_both}
+use Rattle.std.proofs.lemmas.Bool.{cases_eq, cases_lt, false_from_ne_true, or_cases, or_left, or_right, cond_both}
 use Rattle.std.specs.List.{list_any}
 use Rattle.sv_world.specs.declared.action.Action.{Action}
 use Rattle.sv_world.specs.Sets.{read_set, write_set, at_mask, is_in_mask}
@@ -8,7 +8,7 @@ use Rattle.sv_world.specs.Control.{is_in, action_at, last_writer, influence, IsI
 use Rattle.sv_world.proofs.Members.{is_in-head, is_in-tail, is_in-cons_cases}
 use Rattle.sv_world.proofs.Writers.{last_writer-below, last_writer-writes, last_writer-unwritten}
 use Rattle.sv_world.proofs.Influences.{influence-iff, influence-bounds, influence-direct, influence-closed, influence-ascending}
-use Rattle.sv_influence.proofs.Counts.{above, above-in, above-parts, above-ascending, above-none, above-all, ascending-few}
+use Rattle.sv_influence.proofs.Counts.{above, above-in, above-parts, above-ascending, above-none, above-all, above-miss, ascending-few}
 use Rattle.sv_influence.proofs.Growth.{same_test}
 
 -- Some of these positions reads the object.
@@ -180,3 +180,40 @@ pub walk-few : (A : List Action) (c : ℕ) (a : Action) (p : ℕ) → p ≤ leng
 walk-few A c a p l =
     ascending-few p (length A) (above p (influence A c a)) (above-ascending p (influence A c a) (influence-ascending A c a))
     (λ j m. let b = above-parts p j (influence A c a) m in (b.1, (influence-bounds A c a j b.0).1)) l
+
+-- Where no position at or below p writes an object of the set, nothing of the influence is there.
+rest_at : (A : List Action) (c : ℕ) (a : Action) (p : ℕ) (f : ℕ → Bool) → p ≤ length A →
+    ((x : ℕ) → f x ≡ (is_in x (read_set a) || are_read A x (above p (influence A c a)))) →
+    ((x q : ℕ) → f x ≡ true → q ≤ p → is_in x (write_set (action_at A q)) ≡ false) →
+    (most n : ℕ) → p ≤ n + most → c ≤ n → n ≤ p → above n (influence A c a) ≡ above p (influence A c a)
+rest_at A c a p f high is none zero n few low le = ap (λ (k : ℕ). above k (influence A c a)) (let e : n ≡ p = omega arith in e)
+rest_at A c a p f high is none (suc most) n few low le =
+    let I = influence A c a in
+    elim (cases_eq n p) [
+      | inl e ↦ ap (λ (k : ℕ). above k I) e
+      | inr ne ↦
+          (let h : above (suc n) I ≡ above p I = rest_at A c a p f high is none most (suc n) (omega arith) (omega arith) (omega arith) in
+          let meets : list_any f (write_set (action_at A (suc n))) ≡ is_in (suc n) I =
+          walk-meets A c a (suc n) f (omega arith) (omega arith) (λ x. is x ∙ ap (λ (ks : List ℕ). is_in x (read_set a) || are_read A x ks) (sym h)) in
+          let out : list_any f (write_set (action_at A (suc n))) ≡ false =
+          false_from_ne_true (list_any f (write_set (action_at A (suc n))))
+          (λ t.
+          let w = any_parts f (write_set (action_at A (suc n))) t in
+          let o : is_in w.0 (write_set (action_at A (suc n))) ≡ false = none w.0 (suc n) w.1.1 (omega arith) in
+          cc) in
+          above-miss n I (influence-ascending A c a) (sym meets ∙ out) ∙ h)
+    ]
+
+pub walk-rest : (A : List Action) (c : ℕ) (a : Action) (p : ℕ) (f : ℕ → Bool) → c ≤ p → p ≤ length A →
+    ((x : ℕ) → f x ≡ (is_in x (read_set a) || are_read A x (above p (influence A c a)))) →
+    ((x q : ℕ) → f x ≡ true → q ≤ p → is_in x (write_set (action_at A q)) ≡ false) → above p (influence A c a) ≡ influence A c a
+walk-rest A c a p f low high is none = sym (rest_at A c a p f high is none p c (omega arith) (omega arith) low) ∙ walk-all A c a
+
+-- The set has no object that is written at or below a bound, and stays so with more objects of which this holds for a lower bound.
+abbrev pub AreUnwritten : List Action → (ℕ → Bool) → ℕ → Type 0
+AreUnwritten A f p = (x q : ℕ) → f x ≡ true → q ≤ p → is_in x (write_set (action_at A q)) ≡ false
+
+pub unwritten-more : (A : List Action) (old more new' : ℕ → Bool) (p r : ℕ) → AreUnwritten A old p → AreUnwritten A more r → r ≤ p →
+    ((x : ℕ) → new' x ≡ (more x || old x)) → AreUnwritten A new' r
+unwritten-more A old more new' p r h g le is x q t low =
+    elim (or_cases (more x) (old x) (sym (is x) ∙ t)) [ inl m ↦ g x q m low | inr o ↦ h x q o (omega arith) ]

@@ -1,5 +1,5 @@
 -- The writers and the marks of a list of entries.
-use Rattle.std.proofs.Common.{◌≡◌, ℕ, zero, suc, ◌+◌, ◌-◌, ◌<◌, ◌≤◌, Bool, true, false, cond, List, [], ◌∷◌, ◌++◌, length, get_or, replicate, ◌⊎◌, inl, inr, refl, sym, ◌∙◌, ap, arith}
+use Rattle.std.proofs.Common.{◌≡◌, ℕ, zero, suc, ◌+◌, ◌-◌, ◌<◌, ◌≤◌, Bool, true, false, cond, List, [], ◌∷◌, ◌++◌, length, get_or, replicate, slice_get, Option, Some, None, IfSome, IfNone, ◌⊎◌, inl, inr, refl, sym, ◌∙◌, ap, arith}
 use Rattle.std.proofs.lemmas.Bool.{cases_lt, eq-eqb, ne_eqb}
 use Rattle.sv_world.specs.declared.action.Action.{Action}
 use Rattle.sv_world.specs.Control.{is_in, blank, action_at, last_writer}
@@ -7,7 +7,7 @@ use Rattle.sv_world.specs.Sets.{write_set}
 use Rattle.sv_queue.specs.declared.queued.Queued.{Queued}
 use Rattle.sv_queue.specs.Invariant.{writers_above}
 use Rattle.sv_queue.specs.Positions.{greatest_below, AreAbove, IsAscending}
-use Rattle.sv_queue.specs.Queue.{actions_of, marked_above, no_entry}
+use Rattle.sv_queue.specs.Queue.{IsFirstWriter, IsUnwritten, actions_of, marked_above, no_entry}
 use Rattle.sv_queue.proofs.PositionLists.{greatest_below-zero, greatest_below-suc}
 
 pub writers_above_bound : (n m : ℕ) (es : List Queued) (x : ℕ) → n ≤ m → AreAbove n (writers_above m es x)
@@ -105,6 +105,42 @@ greatest_below-writers c es x zero = greatest_below-zero (writers_above c es x)
 greatest_below-writers c es x (suc n) =
     greatest_below-suc (writers_above c es x) n
     ∙ rw (in_writers_at c es x n) (ap (cond (is_in x (write_set (action_at (replicate c blank ++ actions_of es) n))) n) (greatest_below-writers c es x n))
+
+above_list : (n p : ℕ) (xs : List ℕ) → AreAbove n xs → p ≤ n → is_in p xs ≡ false
+above_list n p [] h low = refl
+above_list n p (x ∷ xs) h low = rw (ne_eqb p x (λ e. let l : n < x = h.0 in omega arith), above_list n p xs h.1 low) refl
+
+-- What the first of the uncommitted writers is, and that there is none.
+pub first_of_writers : (c : ℕ) (es : List Queued) (x : ℕ) (r : Option ℕ) → r ≡ slice_get (writers_above c es x) 0 →
+    IfSome r (λ p. IsFirstWriter (replicate c blank ++ actions_of es) x p)
+first_of_writers c es x None at = tt
+first_of_writers c es x (Some p) at = go (writers_above c es x) refl at (writers_above_ascend c es x)
+  where
+    go : (xs : List ℕ) → writers_above c es x ≡ xs → Some p ≡ slice_get xs 0 → IsAscending xs → IsFirstWriter (replicate c blank ++ actions_of es) x p
+    go [] e at s = cc
+    go (y ∷ ys) e at s =
+        let is : p ≡ y = cc in
+        record {
+          writes = sym (in_writers_at c es x p) ∙ ap (is_in p) e ∙ rw (eq-eqb p y is) refl;
+          least = λ q low. sym (in_writers_at c es x q) ∙ ap (is_in q) e ∙ rw (ne_eqb q y (λ f. omega arith), above_list y q ys s.0 (omega arith)) refl;
+        }
+
+pub first_uncommitted : (c : ℕ) (es : List Queued) (x : ℕ) (r : Option ℕ) → r ≡ slice_get (writers_above c es x) 0 → IfSome r (λ p. c < p)
+first_uncommitted c es x None at = tt
+first_uncommitted c es x (Some p) at = go (writers_above c es x) (writers_above_bound c c es x (omega arith)) at
+  where
+    go : (xs : List ℕ) → AreAbove c xs → Some p ≡ slice_get xs 0 → c < p
+    go [] h at = cc
+    go (y ∷ ys) h at = let is : p ≡ y = cc in let l : c < y = h.0 in omega arith
+
+pub none_of_writers : (c : ℕ) (es : List Queued) (x : ℕ) (r : Option ℕ) → r ≡ slice_get (writers_above c es x) 0 →
+    IfNone r (IsUnwritten (replicate c blank ++ actions_of es) x)
+none_of_writers c es x (Some p) at = tt
+none_of_writers c es x None at = λ p. sym (in_writers_at c es x p) ∙ go p (writers_above c es x) at
+  where
+    go : (p : ℕ) (xs : List ℕ) → None ≡ slice_get xs 0 → is_in p xs ≡ false
+    go p [] h = refl
+    go p (y ∷ ys) h = cc
 
 in_marked_below : (n : ℕ) (es : List Queued) (s p : ℕ) → p ≤ n → is_in p (marked_above n es s) ≡ false
 in_marked_below n [] s p low = refl

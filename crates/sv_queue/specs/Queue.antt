@@ -1,11 +1,11 @@
 -- A queue of actions as its callers see it, and what each call makes of it.
 -- Positions count from 1. Those up to the commit are committed; the queue has the actions above it.
-use Rattle.std.specs.Prelude.{ℕ, suc, ◌+◌, ◌-◌, ◌<◌, ◌≤◌, List, [], ◌∷◌, ◌++◌, map, filter, length, take, drop, slice_set, slice_index_or, replicate, ℤ, Some, None, is_some, unwrap_or, if◌then◌else◌}
+use Rattle.std.specs.Prelude.{◌≡◌, ℕ, suc, ◌+◌, ◌-◌, ◌<◌, ◌≤◌, List, [], ◌∷◌, ◌++◌, map, filter, length, take, drop, slice_set, slice_index_or, replicate, ℤ, true, false, Some, None, is_some, unwrap_or, if◌then◌else◌}
 use Rattle.sv_world.specs.declared.action.Action.{Action}
 use Rattle.sv_world.specs.declared.world.ClientId.{ClientId}
 use Rattle.sv_world.specs.declared.world.Shape.{Shape}
 use Rattle.sv_world.specs.declared.world.World.{World}
-use Rattle.sv_world.specs.Control.{is_in, below, blank}
+use Rattle.sv_world.specs.Control.{is_in, below, blank, action_at}
 use Rattle.sv_world.specs.Sets.{write_set}
 use Rattle.sv_queue.specs.declared.queued.Queued.{Queued}
 use Rattle.sv_queue.specs.Pairs.{is_pair, pairs_where, with_pair}
@@ -38,6 +38,15 @@ actions_of es = map (λ (e : Queued). e.action) es
 -- All actions from position 1 on as far as the queue knows them: the committed ones are blank.
 abbrev pub queue_actions : QueueView → List Action
 queue_actions v = replicate v.commit blank ++ actions_of v.entries
+
+-- No position's action writes the object.
+abbrev pub IsUnwritten : List Action → ℕ → Type 0
+IsUnwritten A x = (p : ℕ) → is_in x (write_set (action_at A p)) ≡ false
+
+-- The action at the position writes the object, and none below it does.
+pub record IsFirstWriter (A : List Action) (x p : ℕ) : Type 0 where
+  pub writes : is_in x (write_set (action_at A p)) ≡ true
+  pub least : (q : ℕ) → q < p → is_in x (write_set (action_at A q)) ≡ false
 
 abbrev pub no_entry : Queued
 no_entry = record { author = record { 0 = 0 }; seq = 0; action = blank; result = None; marks = [] }

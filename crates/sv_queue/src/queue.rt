@@ -1,9 +1,9 @@
-ghost use Rattle.std.specs.Prelude.{◌≡◌, ℕ, ◌+◌, ◌-◌, ◌^◌, ◌<◌, nat_lt, [], length, slice_index_or, is_some, IfOk, IsNone, OnOk, OnErr};
+ghost use Rattle.std.specs.Prelude.{◌≡◌, ℕ, ◌+◌, ◌-◌, ◌^◌, ◌<◌, nat_lt, [], length, slice_index_or, is_some, IfNone, IfOk, IfSome, IsNone, OnOk, OnErr};
 ghost use Rattle.sv_world.specs.Control.{is_in, last_writer, action_at};
 ghost use Rattle.sv_world.specs.Faults.{IsGoodAction};
 ghost use Rattle.sv_world.specs.Sets.{read_set, write_set};
 ghost use Rattle.sv_queue.specs.Pairs.{is_pair};
-ghost use Rattle.sv_queue.specs.Queue.{IsUncommitted, last_position, entry_at, queue_actions, sent_positions, opening_queue, with_action, without_last, with_mark, with_result, with_given, ready, first_installed, installed};
+ghost use Rattle.sv_queue.specs.Queue.{IsFirstWriter, IsUncommitted, IsUnwritten, last_position, entry_at, queue_actions, sent_positions, opening_queue, with_action, without_last, with_mark, with_result, with_given, ready, first_installed, installed};
 ghost use Rattle.sv_queue.specs.Worlds.{IsGoodShape, IsGoodWorld, HaveAttrs};
 
 use crate::queued::Queued;
@@ -126,6 +126,18 @@ impl Queue {
         ensures { result ≡ last_writer (queue_actions self.now) object.0 below }
     {
         self.writers.last_below(object, below)
+    }
+
+    /// The first uncommitted writer of an object. One look-up.
+    pub fn first_writer<L: Ledger>(&self, object: ObjectId, steps: &mut Steps<L>) -> Option<u32>
+        requires { object.0 < self.now.shape.objects }
+        ensures writer { IfSome result (λ pos. IsFirstWriter (queue_actions self.now) object.0 pos) }
+        ensures uncommitted { IfSome result (λ pos. self.now.commit < pos) }
+        ensures none { IfNone result (IsUnwritten (queue_actions self.now) object.0) }
+        ensures ticks { steps.new ≡ steps.old + 1 }
+    {
+        steps.tick();
+        self.writers.first(object)
     }
 
     /// The last writer, below an uncommitted position, of what it reads in a slot, where that is above the commit, else 0. One look-up.

@@ -1,4 +1,4 @@
-ghost use Rattle.std.specs.Prelude.{◌≡◌, ◌<◌, ◌≤◌, [], ◌∷◌, ◌++◌, length, drop, replicate, slice_index_or, IfOk, OnOk, OnErr};
+ghost use Rattle.std.specs.Prelude.{◌≡◌, ◌<◌, ◌≤◌, [], ◌∷◌, ◌++◌, length, drop, replicate, slice_get, slice_index_or, IfOk, OnOk, OnErr};
 ghost use Rattle.sv_world.specs.Sets.{write_set};
 ghost use Rattle.sv_queue.specs.Positions.{greatest_below, IsAscending};
 ghost use Rattle.sv_queue.specs.Written.{CanWrite, IsChangedAt, writes_before, front_of};
@@ -55,6 +55,12 @@ impl Positions {
         self.items[count - 1]
     }
 
+    fn first(&self) -> Option<u32>
+        ensures { result ≡ slice_get self.now 0 }
+    {
+        self.items.front().copied()
+    }
+
     fn push(&mut self, pos: u32) -> Result<(), AllocError>
         ensures ok { OnOk result (self.new ≡ self.old ++ pos ∷ []) }
         ensures err { OnErr result (self.new ≡ self.old) }
@@ -97,6 +103,15 @@ impl Writers {
     {
         let list = &self.lists[object.0 as usize];
         list.last_below(below)
+    }
+
+    /// The first position in an object's list.
+    pub fn first(&self, object: ObjectId) -> Option<u32>
+        requires { object.0 < length self.now }
+        ensures { result ≡ slice_get (slice_index_or self.now object.0 []) 0 }
+    {
+        let list = &self.lists[object.0 as usize];
+        list.first()
     }
 
     /// Appends a position to the list of each object that an action writes. After want of memory the lists are as before.
