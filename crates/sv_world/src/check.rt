@@ -1,9 +1,10 @@
-ghost use Rattle.std.specs.Prelude.{◌≡◌, ◌↔◌, map, not, Some, None, MatchResult, OnOk};
+ghost use Rattle.std.specs.Prelude.{◌≡◌, ◌↔◌, true, false, map, not, Some, None, MatchResult, IsTrue, OnOk};
 ghost use Rattle.sv_world.specs.declared.action.Action.{Action};
 ghost use Rattle.sv_world.specs.declared.world.ObjectId.{ObjectId};
 ghost use Rattle.sv_world.specs.declared.world.Shape.{Shape};
 ghost use Rattle.sv_world.specs.Faults.{is_ascending, has_no_reads, has_too_many_reads, is_not_ascending, reads_no_object, has_bad_mask, has_slots, sets_in_mask, has_attrs, is_too_large, is_too_deep, is_in_plane, has_origin, first_fault_of_action, cause_number, IsGoodAction};
 
+use crate::fits::{Limits, body_fits};
 use crate::measure::{body_is_within, body_left};
 use crate::names::{NameTest, passes_in_body};
 use crate::{Action, ObjectId, Shape};
@@ -99,6 +100,13 @@ fn first_fault(shape: Shape, action: &Action) -> Option<BadAction>
     if has_bad_mask(action) {
         return Some(BadAction::BadMask);
     }
+    if has_sound_body(shape, action) {
+        return if has_origin(action) {
+            None
+        } else {
+            Some(BadAction::BadOrigin)
+        };
+    }
     if !has_slots(action) {
         return Some(BadAction::BadSlot);
     }
@@ -165,6 +173,26 @@ fn has_bad_mask(action: &Action) -> bool
     let mask = action.mask;
     let reads = action.reads.len();
     reads < 16 && mask >> reads > 0
+}
+
+/// Whether nothing is at fault in the body, by one walk over it. Where it answers no, the five causes are looked for in their order.
+#[tactic(auto, unfolding(crate::specs::Faults::has_slots, crate::specs::Faults::sets_in_mask, crate::specs::Faults::has_attrs, crate::specs::Faults::is_too_large, crate::specs::Faults::is_too_deep))]
+fn has_sound_body(shape: Shape, action: &Action) -> bool
+    ensures slots { IsTrue result → has_slots action.now ≡ true }
+    ensures writable { IsTrue result → sets_in_mask action.now ≡ true }
+    ensures attrs { IsTrue result → has_attrs shape action.now ≡ true }
+    ensures nodes { IsTrue result → is_too_large action.now ≡ false }
+    ensures depth { IsTrue result → is_too_deep action.now ≡ false }
+{
+    let limits = Limits {
+        reads: action.reads.len(),
+        mask: action.mask,
+        attrs: shape.attrs,
+    };
+    match body_fits(&limits, 8, 64, action.body.as_slice()) {
+        Some(_) => true,
+        None => false,
+    }
 }
 
 #[tactic(auto, unfolding(crate::specs::Faults::has_slots))]

@@ -5,6 +5,7 @@ mod action;
 mod boxed;
 mod check;
 mod copy;
+mod fits;
 mod laws;
 mod list;
 mod measure;
