@@ -1,5 +1,6 @@
 pub mod Backwards
 pub mod Bits
+pub mod Chains
 pub mod Counts
 pub mod Growth
 pub mod Looks

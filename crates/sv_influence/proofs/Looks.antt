@@ -26,20 +26,25 @@ committed_blank c zero es l = refl
 committed_blank c (suc k) es l =
     get_or_append_left (replicate c blank) es blank k (let n = length-replicate c blank in omega arith) ∙ get_or-replicate c k blank blank (omega arith)
 
--- A last writer in a queue is 0 or uncommitted.
-pub writer-uncommitted : (v : QueueView) (x i w : ℕ) → IsUncommitted v i → w ≡ last_writer (queue_actions v) x i → (w ≡ 0 → ⊥) → IsUncommitted v w
-writer-uncommitted v x i w within is some' =
+-- A last writer in a queue is above the commit, where there is one.
+pub writer-above : (v : QueueView) (x i : ℕ) → 0 < last_writer (queue_actions v) x i → v.commit < last_writer (queue_actions v) x i
+writer-above v x i low =
     let j = last_writer (queue_actions v) x i in
-    let low : 0 < j = omega arith in
-    let b : j < i = last_writer-below (queue_actions v) x i low in
-    let high : i ≤ last_position v = within.1 in
     elim (cases_lt v.commit j) [
-      | inl l ↦ (omega arith, omega arith)
+      | inl l ↦ l
       | inr l ↦
           (let h : is_in x (write_set (action_at (queue_actions v) j)) ≡ true = last_writer-writes (queue_actions v) x i low in
           let g : is_in x (write_set blank) ≡ true = subst (λ (a : Action). is_in x (write_set a) ≡ true) (committed_blank v.commit j (actions_of v.entries) l) h in
           cc)
     ]
+
+pub writer-uncommitted : (v : QueueView) (x i w : ℕ) → IsUncommitted v i → w ≡ last_writer (queue_actions v) x i → (w ≡ 0 → ⊥) → IsUncommitted v w
+writer-uncommitted v x i w within is some' =
+    let low : 0 < last_writer (queue_actions v) x i = omega arith in
+    let b : last_writer (queue_actions v) x i < i = last_writer-below (queue_actions v) x i low in
+    let over' = writer-above v x i low in
+    let high : i ≤ last_position v = within.1 in
+    (omega arith, omega arith)
 
 pub given-is : (v : QueueView) (x s : ℕ) → x < v.shape.objects → is_in x (given_objects v s) ≡ is_pair x s v.given
 given-is v x s low =

@@ -7,6 +7,7 @@ mod lacking;
 mod numbers;
 mod objects;
 mod plain;
+mod wanted;
 
 pub use answers::{Chain, Closure};
 pub use influence::chain;

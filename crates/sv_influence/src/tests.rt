@@ -346,6 +346,58 @@ fn far_is_the_greater_axis(rt: HostRuntime) -> Result<(), Fail> {
     Ok(())
 }
 
+/// An action that reads objects at equal steps and writes the first of them; made as far to the right as that one's number.
+fn spread(alloc: Global, first: u16, step: u16, count: u16) -> Result<Action, AllocError> {
+    let mut objects = Reads::new(alloc);
+    let mut object = first;
+    for _ in 0..count {
+        objects.push(ObjectId(object))?;
+        object = object.wrapping_add(step);
+    }
+    Ok(Action {
+        reads: objects,
+        mask: 1,
+        origin: Point {
+            x: i32::from(first),
+            y: 0,
+        },
+        body: Shared::from_list(List::new(alloc))?,
+    })
+}
+
+/// 48 objects, each written once, and three actions that read 16 of them each: the chain of one that reads what these write. When the
+/// last two of the three are taken, 32 single writers wait, and the first of the three.
+fn many_at_once(alloc: Global) -> Result<Chain, AllocError> {
+    let mut queue = Queue::new(alloc, world(alloc, 48)?)?;
+    for object in 0..48u16 {
+        push(&mut queue, single(alloc, object)?)?;
+    }
+    push(&mut queue, spread(alloc, 0, 1, 16)?)?;
+    push(&mut queue, spread(alloc, 16, 1, 16)?)?;
+    push(&mut queue, spread(alloc, 32, 1, 16)?)?;
+    Ok(influence_of(&queue, &spread(alloc, 0, 16, 3)?))
+}
+
+/// The chain of an action on objects 0 and 1, where between the first of the two that it depends on and the last there are 38 others.
+fn far_between(alloc: Global) -> Result<Chain, AllocError> {
+    let mut queue = Queue::new(alloc, world(alloc, 40)?)?;
+    push(&mut queue, spread(alloc, 0, 1, 2)?)?;
+    for object in 2..40u16 {
+        push(&mut queue, spread(alloc, object, 1, 1)?)?;
+    }
+    push(&mut queue, single(alloc, 0)?)?;
+    Ok(influence_of(&queue, &spread(alloc, 0, 1, 2)?))
+}
+
+#[test]
+fn counts_many_at_once_and_few_among_many(rt: HostRuntime) -> Result<(), Fail> {
+    let many = many_at_once(rt.alloc())?;
+    assert_eq!(rt; (many.count, many.far), (51, 32));
+    let few = far_between(rt.alloc())?;
+    assert_eq!(rt; (few.count, few.far), (2, 0));
+    Ok(())
+}
+
 /// The next number of a fixed sequence.
 fn draw(seed: &mut u64) -> u64 {
     *seed = seed

@@ -1,0 +1,12 @@
+use Rattle.std.proofs.Common.{◌≡◌, ℕ, ◌++◌, drop}
+use Rattle.sv_world.specs.Control.{is_in}
+use Rattle.sv_world.specs.Sets.{read_set}
+use Rattle.sv_queue.specs.Queue.{queue_actions}
+use Rattle.sv_influence.specs.Writers.{writers_of}
+use Rattle.sv_influence.proofs.influence.want_writers.Given as goal
+
+abbrev pub invariant-loop-object : goal.invariant-loop-object
+invariant-loop-object g l = record {
+  items : l.object-items ≡ l.action.reads;
+  added : (j : ℕ) → is_in j (writers_of (queue_actions l.queue) l.pos (drop l.object-index (read_set l.action)) ++ l.wanted) ≡ is_in j (writers_of (queue_actions l.queue) l.pos (read_set l.action) ++ l.fn.wanted);
+}

@@ -1,0 +1,8 @@
+-- The uncommitted positions that objects come from.
+use Rattle.std.specs.Prelude.{ℕ, nat_lt, List, map, filter}
+use Rattle.sv_world.specs.declared.action.Action.{Action}
+use Rattle.sv_world.specs.Control.{last_writer}
+
+-- The last writers below a position of some objects, where there are any.
+abbrev pub writers_of : List Action → ℕ → List ℕ → List ℕ
+writers_of A pos xs = filter (λ j. nat_lt 0 j) (map (λ x. last_writer A x pos) xs)
