@@ -70,7 +70,7 @@ struct Found {
 }
 
 /// Takes the greatest wanted position, until there is none. What it makes wanted lies below it, so each comes once. The greatest is held
-/// apart from the others, so that a single position takes no memory for them.
+/// apart from the others, so that a single position is never put among them.
 fn expand_all<L: Ledger>(
     alloc: Global,
     queue: &Queue,
