@@ -129,18 +129,23 @@ bases-push objects A c given items head new' p reads same h x =
     )
 
 -- At the end they are the objects of the base values.
-pub bases-all : (objects : ℕ) (A : List Action) (c : ℕ) (s given items head : List ℕ) (i : ℕ) → is_ascending head ≡ true →
-    AreBases objects A c given items head → reverse items ≡ needed_for A c s i → head ≡ head_for objects A c s given i
-bases-all objects A c s given items head i up h e =
-    ascending_same head (head_for objects A c s given i) up (head_for-ascending objects A c s given i)
-    (λ x m.
+pub bases-all : (objects : ℕ) (A : List Action) (c : ℕ) (s given items head : List ℕ) (i : ℕ) →
+    AreBases objects A c given items head → reverse items ≡ needed_for A c s i → (x : ℕ) → is_in x head ≡ is_in x (head_for objects A c s given i)
+bases-all objects A c s given items head i h e x =
+    same_test (is_in x head) (is_in x (head_for objects A c s given i))
+    (λ m.
     let q = (h x).0 m in
     let r = reads_committed-parts A c x items q.2 in
     (head_for-iff objects A c s given i x).1
     (q.0, (q.1, (r.0, (subst (λ (xs : List ℕ). is_in r.0 xs ≡ true) e (is_in-reverse r.0 items r.1.0), (r.1.1.0, r.1.1.1))))))
-    (λ x m.
+    (λ m.
     let q = (head_for-iff objects A c s given i x).0 m in
     let k = q.1.1.0 in
     let there : is_in k (reverse items) ≡ true = subst (λ (xs : List ℕ). is_in k xs ≡ true) (sym e) q.1.1.1.0 in
     let back : is_in k items ≡ true = subst (λ (xs : List ℕ). is_in k xs ≡ true) (reverse-reverse items) (is_in-reverse k (reverse items) there) in
     (h x).1 q.1.0 (reads_committed-from A c x k items back q.1.1.1.1.0 q.1.1.1.1.1))
+
+pub bases-same : (objects : ℕ) (A : List Action) (c : ℕ) (s given head : List ℕ) (i : ℕ) → is_ascending head ≡ true →
+    ((x : ℕ) → is_in x head ≡ is_in x (head_for objects A c s given i)) → head ≡ head_for objects A c s given i
+bases-same objects A c s given head i up same =
+    ascending_same head (head_for objects A c s given i) up (head_for-ascending objects A c s given i) (λ x m. sym (same x) ∙ m) (λ x m. same x ∙ m)

@@ -1,6 +1,6 @@
 -- Ascending lists by place, and with one number more.
 use Rattle.std.proofs.Common.{All, Result, Ok, Err, cond, is_ok, insert, nat_cmp, ◌-◌, Option, Some, None}
-use Rattle.std.specs.Prelude.{IfNone, option_to_list}
+use Rattle.std.specs.Prelude.{IfNone, OnOk, OnErr, option_to_list}
 use Rattle.std.proofs.lemmas.Bool.{cond_both}
 use Rattle.std.proofs.lemmas.List.{get_or_default}
 use Rattle.std.proofs.lemmas.List.Sorted.{searched}
@@ -69,6 +69,12 @@ is_in-known x xs h j =
       | inl e ↦ subst (λ (n : ℕ). is_in n xs ≡ true) (sym e) h ∙ sym (or_left (nat_eq j x) (is_in j xs) (eq-eqb j x e))
       | inr ne ↦ ap (λ (b : Bool). b || is_in j xs) (sym (ne_eqb j x ne))
     ]
+
+-- A vector after an insertion that may have found no memory.
+pub insert-result : {E V : Type 0} (r : Result (Unit {0}) E) (new' old : V) (items : V → List ℕ) (zs : List ℕ) → OnOk r (items new' ≡ zs) → OnErr r (new' ≡ old) →
+    items new' ≡ cond (is_ok r) zs (items old)
+insert-result (Ok x) new' old items zs ok err = ok
+insert-result (Err e) new' old items zs ok err = ap items err
 
 -- What a binary search in an ascending list says.
 pub insert-searched : {E : Type 0} (xs zs ys : List ℕ) (x i : ℕ) (r : Result (Unit {0}) E) → is_ascending xs ≡ true → zs ≡ xs →

@@ -33,7 +33,7 @@ pub fn closure<L: Ledger>(
     let Found { items, bases } = found;
     let shape = queue.shape();
     prove!(shape.objects <= 4096);
-    let head = objects_of(alloc, bases)?;
+    let head = objects_of(alloc, bases.as_slice())?;
     Ok(Closure {
         items: List::from_vec(items),
         head,
@@ -66,11 +66,11 @@ fn first_wanted<L: Ledger>(
 #[derive(Drop)]
 struct Found {
     items: Vec<u32>,
-    bases: Vec<u32>,
+    bases: Numbers,
 }
 
 /// Takes the greatest wanted position, until there is none. What it makes wanted lies below it, so each comes once. The greatest is held
-/// apart from the others, so that a single position takes no memory for them.
+/// apart from the others, so that a single position is never put among them.
 fn expand_all<L: Ledger>(
     alloc: Global,
     queue: &Queue,
@@ -83,7 +83,7 @@ fn expand_all<L: Ledger>(
     requires within { (j : ℕ) → is_in j (option_to_list first) ≡ true → (queue.now.commit < j) × (j ≤ pos) }
     requires whole { wanted_up_to (queue_actions queue.now) queue.now.commit (sent_positions queue.now session) pos (option_to_list first) ≡ lacking queue.now session pos }
     ensures items { IfOk result (λ f. f.items.items ≡ lacking queue.now session pos) }
-    ensures bases { IfOk result (λ f. f.bases.items ≡ base_objects queue.now session pos) }
+    ensures bases { IfOk result (λ f. (x : ℕ) → is_in x f.bases ≡ is_in x (base_objects queue.now session pos)) }
     ensures ticks { steps.new ≤ steps.old + 33 * length (lacking queue.now session pos) }
 {
     let mut items = Vec::with_capacity(alloc, ROOM)?;
@@ -96,10 +96,7 @@ fn expand_all<L: Ledger>(
         next = wanted.pop();
     }
     items.reverse();
-    Ok(Found {
-        items,
-        bases: bases.into_vec(),
-    })
+    Ok(Found { items, bases })
 }
 
 /// Looks at each object that a position reads.
@@ -155,12 +152,12 @@ fn look_up<L: Ledger>(
 }
 
 /// Numbers of objects, as objects.
-fn objects_of(alloc: Global, numbers: Vec<u32>) -> Result<List<ObjectId>, AllocError>
-    requires { All (λ x. x < 65536) numbers.items }
-    ensures { IfOk result (λ list. map (λ (o : ObjectId). o.0) list ≡ numbers.items) }
+fn objects_of(alloc: Global, numbers: &[u32]) -> Result<List<ObjectId>, AllocError>
+    requires { All (λ x. x < 65536) numbers.now }
+    ensures { IfOk result (λ list. map (λ (o : ObjectId). o.0) list ≡ numbers.now) }
 {
     let mut objects = Vec::with_capacity(alloc, numbers.len())?;
-    for number in &numbers {
+    for number in numbers {
         objects.push(ObjectId(*number as u16))?;
     }
     Ok(List::from_vec(objects))

@@ -2,13 +2,14 @@ ghost use Rattle.std.specs.Prelude.{◌≡◌, ◌<◌, ℕ, true, [], ◌∷◌
 ghost use Rattle.sv_world.specs.Control.{is_in};
 ghost use Rattle.sv_world.specs.Faults.{is_ascending};
 
+use smallvec::SmallVec;
 use std::alloc::{AllocError, Global};
 use std::marker::Model;
 
-/// Numbers in ascending order, each once.
+/// Numbers in ascending order, each once. Up to eight of them take no memory.
 #[derive(Drop)]
 pub struct Numbers {
-    items: Vec<u32>,
+    items: SmallVec<u32, 8>,
 }
 
 impl Model for Numbers {
@@ -27,7 +28,7 @@ impl Numbers {
         ensures { result ≡ [] }
     {
         Numbers {
-            items: Vec::new(alloc),
+            items: SmallVec::new(alloc),
         }
     }
 
@@ -67,11 +68,10 @@ impl Numbers {
         self.items.pop()
     }
 
-    pub fn into_vec(self) -> Vec<u32>
-        ensures items { result.items ≡ self }
-        ensures ascending { is_ascending self ≡ true }
+    pub fn as_slice(&self) -> &[u32]
+        ensures items { result.now ≡ self.now }
+        ensures ascending { is_ascending self.now ≡ true }
     {
-        let Numbers { items } = self;
-        items
+        self.items.as_slice()
     }
 }

@@ -1,8 +1,8 @@
-use Rattle.std.proofs.Common.{◌≡◌, ℕ, List, ◌<◌, All, sym, ap, subst, arith}
+use Rattle.std.proofs.Common.{◌≡◌, ℕ, List, ◌<◌, All, sym, ◌∙◌, ap, subst, arith}
 use Rattle.sv_world.specs.declared.world.Shape.{Shape}
 use Rattle.sv_world.proofs.Bases.{head_for-iff}
 use Rattle.sv_queue.specs.Queue.{queue_actions, sent_positions, given_objects}
-use Rattle.sv_influence.specs.Lacking.{base_objects}
+use Rattle.sv_influence.proofs.Growth.{bases-same}
 use Rattle.sv_influence.proofs.Places.{all-members}
 use Rattle.sv_influence.proofs.lacking.closure.Goals as goal
 
@@ -11,10 +11,17 @@ objects_of-requires g c =
     let v = c.args.queue.now in
     let few = c.shape-shape.ensures.limits.few_objects in
     let is = c.shape-shape.ensures.value in
-    subst (λ (xs : List ℕ). All (λ x. x < 65536) xs) (sym c.in_ok-found.ensures.bases)
-    (all-members (λ x. x < 65536) (base_objects v c.args.session c.args.pos)
+    subst (λ (xs : List ℕ). All (λ x. x < 65536) xs) (sym c.as_slice.ensures.items)
+    (all-members (λ x. x < 65536) c.in_ok-found.found.bases
     (λ x m.
     let low : x < v.shape.objects =
-    ((head_for-iff v.shape.objects (queue_actions v) v.commit (sent_positions v c.args.session) (given_objects v c.args.session) c.args.pos x).0 m).0 in
+    ((head_for-iff v.shape.objects (queue_actions v) v.commit (sent_positions v c.args.session) (given_objects v c.args.session) c.args.pos x).0 (sym (c.in_ok-found.ensures.bases x) ∙ m)).0 in
     let same : c.shape-shape.result.objects ≡ v.shape.objects = ap (λ (shape : Shape). shape.objects) is in
     omega arith))
+
+pub returns-clause-head : goal.returns-clause-head
+returns-clause-head g c =
+    let v = c.args.queue.now in
+    c.in_ok-head.ensures ∙ c.as_slice.ensures.items
+    ∙ bases-same v.shape.objects (queue_actions v) v.commit (sent_positions v c.args.session) (given_objects v c.args.session) c.in_ok-found.found.bases c.args.pos
+    c.as_slice.ensures.ascending c.in_ok-found.ensures.bases

@@ -101,9 +101,8 @@ returns-clause-items g c =
 pub returns-clause-bases : goal.returns-clause-bases
 returns-clause-bases g c =
     let v = c.args.queue.now in
-    c.into_vec.ensures.items
-    ∙ bases-all v.shape.objects (queue_actions v) v.commit (sent_positions v c.args.session) (given_objects v c.args.session) c.loop-next.items.items c.loop-next.bases c.args.pos
-    c.into_vec.ensures.ascending c.loop-next.invariant.bases
+    bases-all v.shape.objects (queue_actions v) v.commit (sent_positions v c.args.session) (given_objects v c.args.session) c.loop-next.items.items c.loop-next.bases c.args.pos
+    c.loop-next.invariant.bases
     (all-taken v c.args.session c.args.pos c.loop-next.wanted c.loop-next.items.items c.loop-next.next c.in_default.is c.loop-next.invariant.last c.loop-next.invariant.whole)
 
 pub returns-clause-ticks : goal.returns-clause-ticks
