@@ -93,7 +93,6 @@ fn want_sources<L: Ledger>(
 
 /// Walks down the queue with the set of the objects read so far. Since an action reads what it writes, the set only grows, and an action
 /// that writes an object in it is one that the new action depends on. It stops at the first uncommitted writer of all those objects.
-
 fn walk_down<L: Ledger>(queue: &Queue, action: &Action, blank: Blank) -> Chain
     requires name { blank.name ≡ L.name }
     requires parts { blank.parts ≡ L.parts }
