@@ -4,6 +4,7 @@ pub mod Chains
 pub mod Counts
 pub mod Growth
 pub mod Looks
+pub mod Placed
 pub mod Places
 pub mod ReadSets
 pub mod Takes

@@ -1,4 +1,4 @@
-ghost use Rattle.std.specs.Prelude.{◌≡◌, ◌<◌, ℕ, true, [], ◌∷◌, ◌++◌, filter, length, nat_lt, IsTrue, IfNone, OnOk, OnErr, option_to_list};
+ghost use Rattle.std.specs.Prelude.{◌≡◌, ◌<◌, ℕ, true, ◌+◌, ◌≤◌, [], ◌∷◌, ◌++◌, filter, length, nat_lt, IsTrue, IsFalse, IfNone, OnOk, OnErr, option_to_list};
 ghost use Rattle.sv_world.specs.Control.{is_in};
 ghost use Rattle.sv_world.specs.Faults.{is_ascending};
 
@@ -51,30 +51,48 @@ impl Wanted {
         ensures added { OnOk result ((j : ℕ) → is_in j self.new ≡ is_in j (pos ∷ self.old)) }
         ensures full { OnErr result (length self.old ≡ 32) }
     {
-        if self.items.is_full() {
+        if self.is_full() {
             return Err(Full);
         }
-        if self.is_below(pos) {
-            self.items.push(pos);
-            return Ok(());
+        self.place(pos);
+        Ok(())
+    }
+
+    fn is_full(&self) -> bool
+        ensures not_full { IsFalse result → length self.now < 32 }
+        ensures full { IsTrue result → length self.now ≡ 32 }
+    {
+        self.items.is_full()
+    }
+
+    /// Takes off the positions above it, which are few if any, and puts them back after it.
+    fn place(&mut self, pos: u32)
+        requires { length self.old < 32 }
+        ensures added { (j : ℕ) → is_in j self.new ≡ is_in j (pos ∷ self.old) }
+        ensures count { length self.new ≤ length self.old + 1 }
+    {
+        let Some(top) = self.pop() else {
+            self.push(pos);
+            return;
+        };
+        if top > pos {
+            self.place(pos);
+            self.push(top);
+            return;
         }
-        match self.items.binary_search(&pos) {
-            Ok(_) => Ok(()),
-            Err(place) => {
-                self.items.insert(place, pos);
-                Ok(())
-            }
+        self.push(top);
+        if top < pos {
+            self.push(pos);
         }
     }
 
-    /// Whether all of them are below a position.
-    fn is_below(&self, pos: u32) -> bool
-        ensures { IsTrue result → (j : ℕ) → is_in j self.now ≡ true → j < pos }
+    /// Appends a position that is above all of them.
+    fn push(&mut self, pos: u32)
+        requires room { length self.old < 32 }
+        requires above { (j : ℕ) → is_in j self.old ≡ true → j < pos }
+        ensures { self.new ≡ self.old ++ pos ∷ [] }
     {
-        match self.items.last() {
-            Some(last) => *last < pos,
-            None => true,
-        }
+        self.items.push(pos);
     }
 
     /// Takes the greatest off.
