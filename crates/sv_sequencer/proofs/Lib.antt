@@ -8,6 +8,7 @@ pub mod AgreeSteps
 pub mod Dones
 pub mod FitInstalls
 pub mod FitMarks
+pub mod FitMissing
 pub mod FitPush
 pub mod FitRelays
 pub mod FitReports

@@ -1,5 +1,5 @@
 -- What an entry that welcomes nobody leaves of the rows of other sessions.
-use Rattle.std.proofs.Common.{◌≡◌, ℕ, Bool, false, nat_eq, Option, Some, None, refl}
+use Rattle.std.proofs.Common.{◌≡◌, ℕ, false, nat_eq, Option, Some, None, refl}
 use Rattle.sv_journal.specs.declared.entry.Entry.{Entry}
 use Rattle.sv_journal.specs.History.{either, is_welcome}
 use Rattle.sv_journal.specs.Sessions.{welcomes}

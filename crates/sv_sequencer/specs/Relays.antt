@@ -27,9 +27,13 @@ abbrev pub given_all : QueueView → List Held → ℕ → QueueView
 given_all v [] s = v
 given_all v (x ∷ xs) s = given_all (with_given v x.object.0 s) xs s
 
+-- A position is not committed, and has no result yet.
+abbrev pub is_missing : QueueView → ℕ → Bool
+is_missing v p = nat_lt v.commit p && is_none (entry_at v p).result
+
 -- The queue with a reported result, where its position is not committed and has none yet.
 abbrev pub with_report : QueueView → Done1 → QueueView
-with_report v d = if nat_lt v.commit d.pos && is_none (entry_at v d.pos).result then with_result v d.pos d.values else v
+with_report v d = if is_missing v d.pos then with_result v d.pos d.values else v
 
 abbrev pub with_reports : QueueView → List Done1 → QueueView
 with_reports v [] = v

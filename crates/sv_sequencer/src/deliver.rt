@@ -20,7 +20,7 @@ ghost use Rattle.sv_sequencer.specs.Step.{history, Answered, Stayed};
 use crate::carry::enter;
 use crate::clients::{Clients, Outcome};
 use crate::relays::{Relayed, base_values, give_all, mark_all, relay_in};
-use crate::reports::{copy_reports, set_reports};
+use crate::reports::{copy_missing, set_reports};
 use crate::sequencer::Sequencer;
 use std::alloc::{AllocError, Global};
 use sv_journal::{Entry, Logged};
@@ -291,8 +291,8 @@ impl Sequencer {
         ensures err { OnErr result (Stayed self.old self.new) }
     {
         let copy = copy_request(self.alloc, request)?;
-        let results = copy_reports(self.alloc, results_of(request))?;
         self.reserve()?;
+        let results = copy_missing(self.alloc, &self.queue, results_of(request))?;
         set_reports(&mut self.queue, results);
         self.queue.install();
         let commit = self.queue.commit();

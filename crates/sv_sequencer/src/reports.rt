@@ -1,11 +1,11 @@
-ghost use Rattle.std.specs.Prelude.{◌≡◌, ℕ, ◌<◌, ◌≤◌, ◌==◌, not, ◌||◌, ◌&&◌, nat_lt, nat_le, false, is_some, [], ◌∷◌, map, length, All, IfOk};
+ghost use Rattle.std.specs.Prelude.{◌≡◌, ℕ, ◌<◌, ◌≤◌, ◌==◌, not, ◌||◌, ◌&&◌, nat_lt, nat_le, false, is_some, [], ◌∷◌, map, filter, length, All, IfOk};
 ghost use Rattle.std.specs.List.{list_any, list_all};
 ghost use Rattle.sv_world.specs.Control.{is_in, action_at};
 ghost use Rattle.sv_world.specs.Faults.{is_ascending, IsGoodAction};
 ghost use Rattle.sv_world.specs.Sets.{write_set, at_mask, read_set};
 ghost use Rattle.sv_wire.specs.declared.message.Done1.{Done1};
 ghost use Rattle.sv_queue.specs.Queue.{IsUncommitted, queue_actions, sent_positions, last_position, entry_at};
-ghost use Rattle.sv_sequencer.specs.Relays.{is_bad_report, with_report, with_reports, CanReport};
+ghost use Rattle.sv_sequencer.specs.Relays.{is_bad_report, is_missing, with_report, with_reports, CanReport};
 
 use std::alloc::{AllocError, Global};
 use std::marker::Brand;
@@ -107,18 +107,46 @@ fn count_written(action: &Action) -> usize
     count
 }
 
-/// Equal copies of reported results.
-pub fn copy_reports(alloc: Global, results: &[Done1]) -> Result<Vec<Done1>, AllocError>
-    ensures { IfOk result (λ copies. copies.items ≡ results.now) }
+/// Equal copies of those reported results whose positions are not committed and have none yet: the others change nothing.
+pub fn copy_missing(
+    alloc: Global,
+    queue: &Queue,
+    results: &[Done1],
+) -> Result<Vec<Done1>, AllocError>
+    requires { All (CanReport queue.now) results.now }
+    ensures { IfOk result (λ copies. copies.items ≡ filter (λ (d : Done1). is_missing queue.now d.pos) results.now) }
 {
-    let mut copies = Vec::with_capacity(alloc, results.len())?;
+    let mut copies = Vec::new(alloc);
     for found in results {
-        copies.push(Done1 {
-            pos: found.pos,
-            values: copy_values(alloc, found.values.as_slice())?,
-        })?;
+        if is_missing::<Brand>(queue, found.pos, Blank::new(1)) {
+            copies.push(copy_report(alloc, found)?)?;
+        }
     }
     Ok(copies)
+}
+
+fn copy_report(alloc: Global, found: &Done1) -> Result<Done1, AllocError>
+    ensures { IfOk result (λ copy. copy ≡ found.now) }
+{
+    Ok(Done1 {
+        pos: found.pos,
+        values: copy_values(alloc, found.values.as_slice())?,
+    })
+}
+
+/// Whether a position is not committed and has no result yet.
+fn is_missing<L: Ledger>(queue: &Queue, pos: u32, blank: Blank) -> bool
+    requires name { blank.name ≡ L.name }
+    requires parts { blank.parts ≡ L.parts }
+    requires some { 0 < blank.parts }
+    requires last { pos ≤ last_position queue.now }
+    ensures { result ≡ is_missing queue.now pos }
+{
+    if pos <= queue.commit() {
+        return false;
+    }
+    let mut steps = Steps::<L>::new(blank);
+    !has_result(queue, pos, &mut steps)
 }
 
 /// Keeps reported results in the queue, where their positions are not committed and have none yet.
@@ -140,14 +168,9 @@ fn set_report<L: Ledger>(queue: &mut Queue, found: Done1, blank: Blank)
     ensures { queue.new ≡ with_report queue.old found }
 {
     let Done1 { pos, values } = found;
-    if pos <= queue.commit() {
-        return;
+    if is_missing::<L>(queue, pos, blank) {
+        queue.set_result(pos, values.into_vec());
     }
-    let mut steps = Steps::<L>::new(blank);
-    if has_result(queue, pos, &mut steps) {
-        return;
-    }
-    queue.set_result(pos, values.into_vec());
 }
 
 /// Whether an uncommitted position has a result.

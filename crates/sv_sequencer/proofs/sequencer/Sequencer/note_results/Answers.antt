@@ -1,4 +1,5 @@
 use Rattle.std.proofs.Common.{◌≡◌, ◌≤◌, ◌<◌, ◌+◌, false, List, [], ◌∷◌, ◌++◌, length, reverse, All, refl, sym, ◌∙◌, ap, subst, arith}
+use Rattle.std.proofs.lemmas.List.Elements.{All-filter}
 use Rattle.sv_wire.specs.declared.message.Request.TheVariants as requests
 use Rattle.sv_journal.specs.declared.entry.Entry.{Entry}
 use Rattle.sv_journal.specs.declared.entry.Logged.TheVariants as logged
@@ -8,14 +9,27 @@ use Rattle.sv_queue.specs.Queue.{QueueView, last_position, installed}
 use Rattle.sv_sequencer.specs.Agreement.{Agrees, ends_owed}
 use Rattle.sv_sequencer.specs.Decisions.{results_in}
 use Rattle.sv_sequencer.specs.Invariant.{rules_of}
-use Rattle.sv_sequencer.specs.Relays.{with_reports, CanReport}
+use Rattle.sv_sequencer.specs.Relays.{is_missing, with_reports, CanReport}
 use Rattle.sv_sequencer.specs.Step.{SequencerView, history, entry_of}
 use Rattle.sv_sequencer.proofs.AgreeNoted.{noted, agree-noted}
 use Rattle.sv_sequencer.proofs.Dones.{can_report_done}
+use Rattle.sv_sequencer.proofs.FitMissing.{reports-missing}
 use Rattle.sv_sequencer.proofs.Entered.{rules_with, reshaped, moved}
 use Rattle.sv_sequencer.proofs.Stepped.{answered}
 use Rattle.sv_wire.specs.declared.message.Done1.{Done1}
 use Rattle.sv_sequencer.proofs.sequencer.Sequencer.note_results.Goals as goal
+
+pub copy_missing-requires : goal.copy_missing-requires
+copy_missing-requires c =
+    let a = c.self-2.inside in
+    let h = reverse a.journal.entries in
+    let s = c.args.session in
+    let same = ap (λ (u : SequencerView). u.rules) c.self-2.view_is ∙ c.reserve.ensures.rules in
+    let entries = ap (λ (u : SequencerView). u.journal.entries) c.self-2.view_is ∙ c.reserve.ensures.entries in
+    let small : s < 64 = omega (arith, c.requires.session, ap (λ (r : Rules). r.sessions) same, c.self-2.invariant.few_sessions) in
+    let bad : is_bad_done (rules_of a) h s (results_in c.args.request.now) ≡ false =
+    moved (λ r h q. is_bad_done r h s (results_in q) ≡ false) (rules_of a) _ a.journal.entries _ c.args.request.now _ same entries refl c.requires.bad in
+    subst (All (CanReport a.queue)) (sym c.results_of.ensures) (can_report_done (rules_of a) h a.queue s (results_in c.args.request.now) small c.self-2.invariant.commit c.self-2.invariant.sound.sent c.self-2.invariant.fits bad)
 
 pub set_reports-requires : goal.set_reports-requires
 set_reports-requires c =
@@ -25,10 +39,11 @@ set_reports-requires c =
     let same = ap (λ (u : SequencerView). u.rules) c.self-2.view_is ∙ c.reserve.ensures.rules in
     let entries = ap (λ (u : SequencerView). u.journal.entries) c.self-2.view_is ∙ c.reserve.ensures.entries in
     let small : s < 64 = omega (arith, c.requires.session, ap (λ (r : Rules). r.sessions) same, c.self-2.invariant.few_sessions) in
-    let ds : c.in_ok-results.results.items ≡ results_in c.args.request.now = c.in_ok-results.ensures ∙ c.results_of.ensures in
     let bad : is_bad_done (rules_of a) h s (results_in c.args.request.now) ≡ false =
     moved (λ r h q. is_bad_done r h s (results_in q) ≡ false) (rules_of a) _ a.journal.entries _ c.args.request.now _ same entries refl c.requires.bad in
-    subst (All (CanReport a.queue)) (sym ds) (can_report_done (rules_of a) h a.queue s (results_in c.args.request.now) small c.self-2.invariant.commit c.self-2.invariant.sound.sent c.self-2.invariant.fits bad)
+    let can : All (CanReport a.queue) c.results_of.result.now =
+    subst (All (CanReport a.queue)) (sym c.results_of.ensures) (can_report_done (rules_of a) h a.queue s (results_in c.args.request.now) small c.self-2.invariant.commit c.self-2.invariant.sound.sent c.self-2.invariant.fits bad) in
+    subst (All (CanReport a.queue)) (sym c.in_ok-results.ensures) (All-filter (λ (d : Done1). is_missing a.queue d.pos) (CanReport a.queue) c.results_of.result.now can)
 
 pub invariant_of-self : goal.invariant_of-self
 invariant_of-self c =
@@ -38,25 +53,26 @@ invariant_of-self c =
     let s = c.args.session in
     let q = c.in_ok-copy.copy in
     let n = length a.sessions.items in
-    let ds = c.in_ok-results.results.items in
+    let ds = results_in c.args.request.now in
     let k = c.commit-commit.result in
     let l = logged.Noted k in
     let e = entry_of s q l in
     let copied : q ≡ c.args.request.now = c.in_ok-copy.ensures in
-    let listed : ds ≡ results_in c.args.request.now = c.in_ok-results.ensures ∙ c.results_of.ensures in
     let same = ap (λ (u : SequencerView). u.rules) c.self-2.view_is ∙ c.reserve.ensures.rules in
     let entries = ap (λ (u : SequencerView). u.journal.entries) c.self-2.view_is ∙ c.reserve.ensures.entries in
     let low : s < n = omega (arith, c.requires.session, ap (λ (r : Rules). r.sessions) same) in
     let small : s < 64 = omega (arith, low, c.self-2.invariant.few_sessions) in
-    let asks : q ≡ requests.Done ds = copied ∙ c.requires.done ∙ ap requests.Done (sym listed) in
+    let asks : q ≡ requests.Done ds = copied ∙ c.requires.done in
     let bad : is_bad_done (rules_of a) h s (results_in c.args.request.now) ≡ false =
     moved (λ r h q. is_bad_done r h s (results_in q) ≡ false) (rules_of a) _ a.journal.entries _ c.args.request.now _ same entries refl c.requires.bad in
-    let can = subst (All (CanReport v)) (sym listed) (can_report_done (rules_of a) h v s (results_in c.args.request.now) small c.self-2.invariant.commit c.self-2.invariant.sound.sent c.self-2.invariant.fits bad) in
+    let can = (can_report_done (rules_of a) h v s (results_in c.args.request.now) small c.self-2.invariant.commit c.self-2.invariant.sound.sent c.self-2.invariant.fits bad) in
     let within : All (λ (d : Done1). d.pos ≤ last_position v) ds = λ i d l. (can i d l).last in
-    let queue : c.install.new.self ≡ installed (with_reports v ds) = c.install.ensures.installed ∙ ap installed c.set_reports.ensures in
+    let queue : c.install.new.self ≡ installed (with_reports v ds) =
+    c.install.ensures.installed
+    ∙ ap installed (c.set_reports.ensures ∙ ap (with_reports v) c.in_ok-results.ensures ∙ reports-missing v c.results_of.result.now ∙ ap (with_reports v) c.results_of.ensures) in
     let at : k ≡ (installed (with_reports v ds)).commit = c.commit-commit.ensures ∙ ap (λ (w : QueueView). w.commit) queue in
     let told = noted (rules_of a) h v (entry_of s (requests.Done ds) (logged.Noted 0)) 0 ds refl refl within c.self-2.invariant.commit c.self-2.invariant.sound c.self-2.invariant.fits in
-    let said : l ≡ logged.Noted (commit_with h s (results_in c.args.request.now)) = ap logged.Noted (at ∙ told.1.0 ∙ ap (commit_with h s) listed) in
+    let said : l ≡ logged.Noted (commit_with h s (results_in c.args.request.now)) = ap logged.Noted (at ∙ told.1.0) in
     let reply : l ≡ reply_to (rules_of a) h s q =
     said ∙ moved (λ r h q. logged.Noted (commit_with h s (results_in c.args.request.now)) ≡ reply_to r h s q) (rules_of a) _ a.journal.entries _ q _ same entries copied c.requires.reply in
     let roomy : ends_owed h n + 1 ≤ a.journal.spare =
@@ -75,23 +91,24 @@ returns-clause-ok c =
     let h = reverse a.journal.entries in
     let s = c.args.session in
     let q = c.in_ok-copy.copy in
-    let ds = c.in_ok-results.results.items in
+    let ds = results_in c.args.request.now in
     let k = c.commit-commit.result in
     let l = logged.Noted k in
     let e = entry_of s q l in
     let copied : q ≡ c.args.request.now = c.in_ok-copy.ensures in
-    let listed : ds ≡ results_in c.args.request.now = c.in_ok-results.ensures ∙ c.results_of.ensures in
     let same = ap (λ (u : SequencerView). u.rules) c.self-2.view_is ∙ c.reserve.ensures.rules in
     let entries = ap (λ (u : SequencerView). u.journal.entries) c.self-2.view_is ∙ c.reserve.ensures.entries in
     let small : s < 64 = omega (arith, c.requires.session, ap (λ (r : Rules). r.sessions) same, c.self-2.invariant.few_sessions) in
     let bad : is_bad_done (rules_of a) h s (results_in c.args.request.now) ≡ false =
     moved (λ r h q. is_bad_done r h s (results_in q) ≡ false) (rules_of a) _ a.journal.entries _ c.args.request.now _ same entries refl c.requires.bad in
-    let can = subst (All (CanReport v)) (sym listed) (can_report_done (rules_of a) h v s (results_in c.args.request.now) small c.self-2.invariant.commit c.self-2.invariant.sound.sent c.self-2.invariant.fits bad) in
+    let can = (can_report_done (rules_of a) h v s (results_in c.args.request.now) small c.self-2.invariant.commit c.self-2.invariant.sound.sent c.self-2.invariant.fits bad) in
     let within : All (λ (d : Done1). d.pos ≤ last_position v) ds = λ i d l. (can i d l).last in
-    let queue : c.install.new.self ≡ installed (with_reports v ds) = c.install.ensures.installed ∙ ap installed c.set_reports.ensures in
+    let queue : c.install.new.self ≡ installed (with_reports v ds) =
+    c.install.ensures.installed
+    ∙ ap installed (c.set_reports.ensures ∙ ap (with_reports v) c.in_ok-results.ensures ∙ reports-missing v c.results_of.result.now ∙ ap (with_reports v) c.results_of.ensures) in
     let at : k ≡ (installed (with_reports v ds)).commit = c.commit-commit.ensures ∙ ap (λ (w : QueueView). w.commit) queue in
     let told = noted (rules_of a) h v (entry_of s (requests.Done ds) (logged.Noted 0)) 0 ds refl refl within c.self-2.invariant.commit c.self-2.invariant.sound c.self-2.invariant.fits in
-    let said : l ≡ logged.Noted (commit_with h s (results_in c.args.request.now)) = ap logged.Noted (at ∙ told.1.0 ∙ ap (commit_with h s) listed) in
+    let said : l ≡ logged.Noted (commit_with h s (results_in c.args.request.now)) = ap logged.Noted (at ∙ told.1.0) in
     let reply : l ≡ reply_to c.args.self.now.rules (history c.args.self.now) s c.args.request.now =
     subst (λ (es : List Entry). l ≡ logged.Noted (commit_with (reverse es) s (results_in c.args.request.now))) entries said ∙ c.requires.reply in
     answered c.args.self.now _ s c.args.request.now q l _ copied (ap (rules_with a.opening a.bound a.reach) c.enter.ensures.count ∙ same)
