@@ -113,6 +113,12 @@ pub below-last : (xs zs : List ℕ) (last n : ℕ) → is_ascending xs ≡ true 
 below-last xs zs last n h same some' at low =
     below-end xs last n h (subst (λ (ys : List ℕ). 0 < length ys) same some') (subst (λ (ys : List ℕ). last ≡ get_or ys (length ys - 1) last) same at) low
 
+-- The last one is among them.
+pub is_in-last : (xs zs : List ℕ) (last n : ℕ) → zs ≡ xs → 0 < length zs → last ≡ get_or zs (length zs - 1) last → last ≡ n → is_in n xs ≡ true
+is_in-last xs zs last n same some' at is =
+    let b : get_or zs (length zs - 1) 0 ≡ n = get_or_default zs (length zs - 1) 0 last (omega arith) ∙ sym at ∙ is in
+    subst (λ (ys : List ℕ). is_in n ys ≡ true) same (subst (λ (k : ℕ). is_in k zs ≡ true) b (is_in-get zs (length zs - 1) (omega arith)))
+
 pub option-ascending : (o : Option ℕ) → is_ascending (option_to_list o) ≡ true
 option-ascending None = refl
 option-ascending (Some x) = refl

@@ -54,7 +54,11 @@ impl Wanted {
         if self.is_full() {
             return Err(Full);
         }
-        self.place(pos);
+        if self.is_below(pos) {
+            self.push(pos);
+        } else if !self.ends_at(pos) {
+            self.place(pos);
+        }
         Ok(())
     }
 
@@ -63,6 +67,26 @@ impl Wanted {
         ensures full { IsTrue result → length self.now ≡ 32 }
     {
         self.items.is_full()
+    }
+
+    /// Whether all of them are below a position.
+    fn is_below(&self, pos: u32) -> bool
+        ensures { IsTrue result → (j : ℕ) → is_in j self.now ≡ true → j < pos }
+    {
+        match self.items.last() {
+            Some(last) => *last < pos,
+            None => true,
+        }
+    }
+
+    /// Whether a position is the greatest of them.
+    fn ends_at(&self, pos: u32) -> bool
+        ensures { IsTrue result → is_in pos self.now ≡ true }
+    {
+        match self.items.last() {
+            Some(last) => *last == pos,
+            None => false,
+        }
     }
 
     /// Takes off the positions above it, which are few if any, and puts them back after it.
