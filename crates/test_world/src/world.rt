@@ -1,10 +1,11 @@
-use crate::{
+//! Tests of worlds, lists and the causes of refused actions.
+use std::alloc::{AllocError, Global};
+use std::test::Fail;
+use sv_world::{
     Action, Boxed, ClientId, Cond, Expr, List, ObjectId, Point, Reads, Shape, Shared, Short, Stmt,
     Text, Value, World, check_action, copy_action, copy_objects, copy_value, copy_values,
     good_actions_have_no_fault, is_ascending, is_in_mask,
 };
-use std::alloc::{AllocError, Global};
-use std::test::Fail;
 
 const ONE: Shape = Shape {
     objects: 1,
@@ -78,25 +79,35 @@ fn cause_of_negations(alloc: Global, count: u8) -> Result<u8, AllocError> {
     Ok(cause(&action(alloc, &[0], 1, body)?))
 }
 
+/// Whether an action of that many statements has that cause.
+fn is_cause_of_sets(
+    alloc: Global,
+    reads: &[u16],
+    mask: u16,
+    count: u8,
+    expected: u8,
+) -> Result<bool, AllocError> {
+    Ok(cause_of_sets(alloc, reads, mask, count)? == expected)
+}
+
 #[test]
 fn answers_the_first_cause(rt: HostRuntime) -> Result<(), Fail> {
     let alloc = rt.alloc();
-    assert_eq!(rt; cause_of_sets(alloc, &[], 2, 40)?, 1);
-    assert_eq!(rt; cause_of_sets(alloc, &[0; 17], 0, 0)?, 2);
-    assert_eq!(rt; cause_of_sets(alloc, &[0; 16], 0, 0)?, 3);
-    assert_eq!(rt; cause_of_sets(alloc, &[1], 2, 0)?, 4);
-    assert_eq!(rt; cause_of_sets(alloc, &[0], 2, 0)?, 5);
-    assert_eq!(rt; cause_of_sets(alloc, &[0], 0, 1)?, 7);
+    assert!(rt; is_cause_of_sets(alloc, &[], 2, 40, 1)?);
+    assert!(rt; is_cause_of_sets(alloc, &[0; 17], 0, 0, 2)?);
+    assert!(rt; is_cause_of_sets(alloc, &[0; 16], 0, 0, 3)?);
+    assert!(rt; is_cause_of_sets(alloc, &[1], 2, 0, 4)?);
+    assert!(rt; is_cause_of_sets(alloc, &[0], 2, 0, 5)?);
+    assert!(rt; is_cause_of_sets(alloc, &[0], 0, 1, 7)?);
+    assert!(rt; is_cause_of_sets(alloc, &[0], 1, 33, 9)?);
+    assert!(rt; is_cause_of_sets(alloc, &[0], 1, 32, 0)?);
     Ok(())
 }
 
 #[test]
-fn judges_nodes_and_depth(rt: HostRuntime) -> Result<(), Fail> {
-    let alloc = rt.alloc();
-    assert_eq!(rt; cause_of_sets(alloc, &[0], 1, 33)?, 9);
-    assert_eq!(rt; cause_of_sets(alloc, &[0], 1, 32)?, 0);
-    assert_eq!(rt; cause_of_negations(alloc, 6)?, 10);
-    assert_eq!(rt; cause_of_negations(alloc, 5)?, 0);
+fn judges_depth(rt: HostRuntime) -> Result<(), Fail> {
+    assert!(rt; cause_of_negations(rt.alloc(), 6)? == 10);
+    assert!(rt; cause_of_negations(rt.alloc(), 5)? == 0);
     good_actions_have_no_fault();
     Ok(())
 }
@@ -119,10 +130,9 @@ fn cause_at(alloc: Global, x: i32, y: i32) -> Result<u8, AllocError> {
 fn judges_slots_attributes_and_origins(rt: HostRuntime) -> Result<(), Fail> {
     let alloc = rt.alloc();
     for (slot, attr, expected) in [(1, 0, 6), (1, 1, 6), (0, 1, 8), (0, 0, 0)] {
-        assert_eq!(rt;
-            cause_of_set(alloc, slot, attr)?,
-            expected,
-            "slot {slot}, attribute {attr}"
+        assert!(rt;
+            cause_of_set(alloc, slot, attr)? == expected,
+            "{slot} {attr}"
         );
     }
     for (x, y, expected) in [
@@ -130,7 +140,7 @@ fn judges_slots_attributes_and_origins(rt: HostRuntime) -> Result<(), Fail> {
         (1_000_000, -1_000_000, 0),
         (0, -1_000_001, 11),
     ] {
-        assert_eq!(rt; cause_at(alloc, x, y)?, expected, "at {x} {y}");
+        assert!(rt; cause_at(alloc, x, y)? == expected, "at {x} {y}");
     }
     Ok(())
 }
@@ -142,64 +152,81 @@ fn cause_of_copy(alloc: Global) -> Result<u8, AllocError> {
 }
 
 #[test]
-fn copies(rt: HostRuntime) -> Result<(), Fail> {
-    let alloc = rt.alloc();
-    assert_eq!(rt; cause_of_copy(alloc)?, 4);
-    let value = Value::from_slice(alloc, &[4, -3])?;
-    assert_eq!(rt; copy_value(alloc, &value)?.as_slice(), [4, -3].as_slice());
-    let objects = ids(alloc, &[4, 5])?;
-    assert_eq!(rt;
-        copy_objects(alloc, objects.as_slice())?.as_slice(),
-        [ObjectId(4), ObjectId(5)].as_slice()
-    );
+fn copies_actions(rt: HostRuntime) -> Result<(), Fail> {
+    assert!(rt; cause_of_copy(rt.alloc())? == 4);
     Ok(())
+}
+
+#[test]
+fn copies_values_and_objects(rt: HostRuntime) -> Result<(), Fail> {
+    let value = copy_value(rt.alloc(), &Value::from_slice(rt.alloc(), &[4, -3])?)?;
+    assert!(rt; value.as_slice() == [4, -3].as_slice());
+    let objects = copy_objects(rt.alloc(), &[ObjectId(4), ObjectId(5)])?;
+    assert!(rt; objects.as_slice() == [ObjectId(4), ObjectId(5)].as_slice());
+    Ok(())
+}
+
+/// A world of one object, whose values are copies.
+fn world(alloc: Global) -> Result<World, AllocError> {
+    let mut values = List::new(alloc);
+    values.push(Value::from_slice(alloc, &[1])?)?;
+    let copies = copy_values(alloc, values.as_slice())?;
+    Ok(World {
+        shape: ONE,
+        values: copies,
+    })
 }
 
 #[test]
 fn makes_worlds(rt: HostRuntime) -> Result<(), Fail> {
-    let alloc = rt.alloc();
-    let mut values = List::new(alloc);
-    values.push(Value::from_slice(alloc, &[1])?)?;
-    let world = World {
-        shape: ONE,
-        values: copy_values(alloc, values.as_slice())?,
-    };
-    assert_eq!(rt; world.values.len(), 1);
+    assert!(rt; world(rt.alloc())?.values.len() == 1);
     Ok(())
 }
 
 #[test]
-fn sees_lists_and_texts(rt: HostRuntime) -> Result<(), Fail> {
-    let alloc = rt.alloc();
-    let mut list = List::from_vec(vec![in alloc; 3, 4]?);
+fn sees_lists(rt: HostRuntime) -> Result<(), Fail> {
+    let mut list = List::from_vec(vec![in rt.alloc(); 3, 4]?);
     list.set(1, 5);
     list.set(2, 6);
-    assert_eq!(rt; list.into_vec().as_slice(), [3, 5].as_slice());
-    let text = Text::from_string(String::from_str(alloc, "ab")?);
-    assert_eq!(rt; text.as_str(), "ab");
-    assert_eq!(rt; text.into_string().as_str(), "ab");
-    assert_eq!(rt; Boxed::new(alloc, ClientId(3))?.into_inner(), ClientId(3));
+    assert!(rt; list.into_vec().as_slice() == [3, 5].as_slice());
     Ok(())
 }
 
 #[test]
-fn sees_short_and_shared_lists(rt: HostRuntime) -> Result<(), Fail> {
-    let alloc = rt.alloc();
-    let mut short = Short::<i64, 2>::new(alloc);
+fn sees_texts_and_boxes(rt: HostRuntime) -> Result<(), Fail> {
+    let text = Text::from_string(String::from_str(rt.alloc(), "ab")?);
+    assert!(rt; text.as_str() == "ab");
+    assert!(rt; text.into_string().as_str() == "ab");
+    assert!(rt; Boxed::new(rt.alloc(), ClientId(3))?.into_inner() == ClientId(3));
+    Ok(())
+}
+
+/// Three numbers, where there is room for two before it spills.
+fn three_numbers(alloc: Global) -> Result<Short<i64, 2>, AllocError> {
+    let mut short = Short::new(alloc);
     short.push(1)?;
     short.push(2)?;
     short.push(3)?;
+    Ok(short)
+}
+
+#[test]
+fn sees_short_lists(rt: HostRuntime) -> Result<(), Fail> {
+    let mut short = three_numbers(rt.alloc())?;
     short.set(1, 5);
     short.set(3, 6);
-    assert_eq!(rt; short.as_slice(), [1, 5, 3].as_slice());
-    let spilled = Short::<i64, 2>::from_vec(vec![in alloc; 7, 8, 9]?);
-    assert_eq!(rt; spilled.len(), 3);
-    assert_eq!(rt; spilled.as_slice(), [7, 8, 9].as_slice());
-    let shared = Shared::from_list(List::from_vec(vec![in alloc; 3, 4]?))?;
+    assert!(rt; short.as_slice() == [1, 5, 3].as_slice());
+    let spilled = Short::<i64, 2>::from_vec(vec![in rt.alloc(); 7, 8, 9]?);
+    assert!(rt; spilled.len() == 3 && spilled.as_slice() == [7, 8, 9].as_slice());
+    Ok(())
+}
+
+#[test]
+fn sees_shared_lists(rt: HostRuntime) -> Result<(), Fail> {
+    let shared = Shared::from_list(List::from_vec(vec![in rt.alloc(); 3, 4]?))?;
     let other = shared.share()?;
     drop(shared);
-    assert_eq!(rt; other.len(), 2);
-    assert_eq!(rt; other.as_slice(), [3, 4].as_slice());
+    assert!(rt; other.len() == 2 && other.as_slice() == [3, 4].as_slice());
     Ok(())
 }
 

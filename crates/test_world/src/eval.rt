@@ -1,6 +1,7 @@
-use crate::eval;
+//! Tests of the evaluator: each operator, branches, and void actions.
 use std::alloc::{AllocError, Global};
 use std::test::Fail;
+use sv_eval::eval;
 use sv_world::{Action, Boxed, Cond, Expr, List, ObjectId, Point, Reads, Shared, Stmt, Value};
 
 /// An operator, its two operands and the result on each line. A result outside 64 bits is void, and so is division by zero.
