@@ -20,6 +20,3 @@ pub use fault::{MakeFault, PollFault, TakeFault};
 pub use same::{same_action, same_actions_are_equal};
 pub use trace::{Event, Mark, Trace};
 pub use view::View;
-
-#[cfg(test)]
-mod tests;

@@ -2,9 +2,9 @@
 ghost use Rattle.std.specs.Prelude.{◌≡◌};
 
 use super::data::{Answer, Deed, action_of, objects_of, reply_of};
-use crate::{Client, Mark, TakeFault, View};
 use std::alloc::Global;
 use std::test::Fail;
+use sv_client::{Client, Mark, TakeFault, View};
 use sv_wire::{Done1, Request};
 use sv_world::ObjectId;
 

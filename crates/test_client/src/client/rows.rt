@@ -7,9 +7,9 @@ use super::steps::Step::{Below, Counts, Cut, Join, Leave, Make, Poll, Show, Take
 use super::steps::Told::{Done, Fault, Nothing};
 use super::steps::goes;
 use super::{check, check_trace, client_of, play};
-use crate::{Client, TakeFault};
 use std::alloc::Global;
 use std::test::Fail;
+use sv_client::{Client, TakeFault};
 use sv_world::ObjectId;
 
 /// Position 2 comes after position 3, and reads what position 1 left.

@@ -1,5 +1,5 @@
 use Rattle.std.proofs.Common.{◌≡◌}
-use Rattle.sv_client.proofs.tests.rows.ten_pairs.Given as goal
+use Rattle.test_client.proofs.client.rows.ten_pairs.Given as goal
 
 abbrev pub invariant-loop-commit : goal.invariant-loop-commit
 invariant-loop-commit g l = l.client.who.shape.objects ≡ 2

@@ -5,11 +5,11 @@ mod data;
 mod rows;
 mod steps;
 
-use crate::{Client, Event, Trace};
 use data::objects_of;
 use std::alloc::Global;
 use std::test::Fail;
 use steps::{Step, goes};
+use sv_client::{Client, Event, Trace};
 use sv_world::{ClientId, List, ObjectId, Shape};
 
 /// All objects that the client has an interest in: the first, or none.
