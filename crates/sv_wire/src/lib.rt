@@ -25,6 +25,3 @@ pub use encoding::{encode_reply, encode_request};
 pub use fault::{Malformed, WireCause, WireFault};
 pub use laws::{encoded_is_read_back, no_frame_begins_another, one_payload};
 pub use message::{Done1, Held, Item, Reply, Request};
-
-#[cfg(test)]
-mod tests;

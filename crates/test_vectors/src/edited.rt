@@ -1,3 +1,4 @@
+//! Tests of each vector with one byte left out, added or raised.
 use crate::{replies, requests};
 use std::alloc::Global;
 use std::test::Fail;
@@ -65,10 +66,35 @@ fn edit(payload: &mut Vec<u8>, how: &str, place: usize) -> Result<(), Fail> {
     Ok(())
 }
 
-/// The edited payload of a row, whose message, edit and place these are.
-fn edited(alloc: Global, message: &str, how: &str, place: &str) -> Result<Vec<u8>, Fail> {
-    let mut payload = vector(alloc, message)?;
-    edit(&mut payload, how, place.parse::<usize>()?)?;
+/// What a row of the tables says.
+#[derive(Drop)]
+struct Row<'a> {
+    message: &'a str,
+    how: &'a str,
+    place: &'a str,
+    answer: &'a str,
+    at: &'a str,
+}
+
+fn parts_of(row: &str) -> Option<Row<'_>> {
+    let (message, rest) = row.split_once(' ')?;
+    let (how, rest) = rest.split_once(' ')?;
+    let (place, rest) = rest.split_once(' ')?;
+    let (answer, at) = rest.split_once(' ')?;
+    Some(Row {
+        message,
+        how,
+        place,
+        answer,
+        at,
+    })
+}
+
+/// The edited payload of a row.
+fn edited(alloc: Global, row: &Row<'_>) -> Result<Vec<u8>, Fail> {
+    let place = row.place.parse::<usize>()?;
+    let mut payload = vector(alloc, row.message)?;
+    edit(&mut payload, row.how, place)?;
     Ok(payload)
 }
 
@@ -114,34 +140,34 @@ fn reply_is(alloc: Global, payload: &[u8], answer: &str, at: u32) -> Result<bool
     }
 }
 
+fn request_holds(alloc: Global, row: &str) -> Result<bool, Fail> {
+    let row = parts_of(row).ok_or("a part is missing")?;
+    let at = row.at.parse::<u32>()?;
+    let payload = edited(alloc, &row)?;
+    request_is(alloc, payload.as_slice(), row.answer, at)
+}
+
+fn reply_holds(alloc: Global, row: &str) -> Result<bool, Fail> {
+    let row = parts_of(row).ok_or("a part is missing")?;
+    let at = row.at.parse::<u32>()?;
+    let payload = edited(alloc, &row)?;
+    reply_is(alloc, payload.as_slice(), row.answer, at)
+}
+
 #[test]
 fn edited_requests(rt: HostRuntime) -> Result<(), Fail> {
-    let alloc = rt.alloc();
-    assert_eq!(rt; requests::EDITED.lines().count(), 190);
+    assert!(rt; requests::EDITED.lines().count() == 190);
     for row in requests::EDITED.lines() {
-        let (message, rest) = row.split_once(' ').ok_or("no edit")?;
-        let (how, rest) = rest.split_once(' ').ok_or("no place")?;
-        let (place, rest) = rest.split_once(' ').ok_or("no answer")?;
-        let (answer, at) = rest.split_once(' ').ok_or("no offset")?;
-        let payload = edited(alloc, message, how, place)?;
-        let holds = request_is(alloc, payload.as_slice(), answer, at.parse::<u32>()?)?;
-        assert!(rt; holds, "{row}");
+        assert!(rt; request_holds(rt.alloc(), row)?, "{row}");
     }
     Ok(())
 }
 
 #[test]
 fn edited_replies(rt: HostRuntime) -> Result<(), Fail> {
-    let alloc = rt.alloc();
-    assert_eq!(rt; replies::EDITED.lines().count(), 422);
+    assert!(rt; replies::EDITED.lines().count() == 422);
     for row in replies::EDITED.lines() {
-        let (message, rest) = row.split_once(' ').ok_or("no edit")?;
-        let (how, rest) = rest.split_once(' ').ok_or("no place")?;
-        let (place, rest) = rest.split_once(' ').ok_or("no answer")?;
-        let (answer, at) = rest.split_once(' ').ok_or("no offset")?;
-        let payload = edited(alloc, message, how, place)?;
-        let holds = reply_is(alloc, payload.as_slice(), answer, at.parse::<u32>()?)?;
-        assert!(rt; holds, "{row}");
+        assert!(rt; reply_holds(rt.alloc(), row)?, "{row}");
     }
     Ok(())
 }

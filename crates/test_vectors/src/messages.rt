@@ -1,7 +1,11 @@
-use super::*;
+//! Tests of the messages' vectors, and of payloads that are refused at the right place.
 use std::alloc::Global;
 use std::process::Abort;
-use std::test::*;
+use std::test::Fail;
+use sv_wire::{
+    Malformed, Reply, Request, WireCause, WireFault, copy_reply, copy_request, decode_reply,
+    decode_request, encode_reply, encode_request,
+};
 use sv_world::{ClientId, List, ObjectId};
 
 const JOIN: [u8; 10] = [1, 0, 0, 0, 0, 0, 1, 1, 0, 0];
@@ -142,81 +146,124 @@ fn changed(alloc: Global, payload: &[u8], place: usize, other: u8) -> Result<Vec
     Ok(edited)
 }
 
+/// A request with one byte changed is refused at a place.
+fn changed_request_is_refused(
+    rt: &impl Abort,
+    alloc: Global,
+    payload: &[u8],
+    edit: (usize, u8),
+    at: u32,
+    cause: WireCause,
+) -> Result<(), Fail> {
+    let payload = changed(alloc, payload, edit.0, edit.1)?;
+    request_is_refused(rt, alloc, &payload, at, cause);
+    Ok(())
+}
+
+fn changed_relay_is_refused(
+    rt: &impl Abort,
+    alloc: Global,
+    edit: (usize, u8),
+    at: u32,
+    cause: WireCause,
+) -> Result<(), Fail> {
+    let payload = changed(alloc, &RELAY, edit.0, edit.1)?;
+    reply_is_refused(rt, alloc, &payload, at, cause);
+    Ok(())
+}
+
+fn join_without_is_refused(
+    rt: &impl Abort,
+    alloc: Global,
+    place: usize,
+    at: u32,
+    cause: WireCause,
+) -> Result<(), Fail> {
+    let payload = without(alloc, &JOIN, place)?;
+    request_is_refused(rt, alloc, &payload, at, cause);
+    Ok(())
+}
+
 #[test]
-fn edited_requests(rt: HostRuntime) -> Result<(), Fail> {
-    let alloc = rt.alloc();
-    let left_out = [
+fn joins_without_a_byte(rt: HostRuntime) -> Result<(), Fail> {
+    for (place, at, cause) in [
         (0, 0, WireCause::Kind),
         (1, 8, WireCause::Rest),
         (6, 8, WireCause::Rest),
         (7, 8, WireCause::Rest),
         (8, 8, WireCause::Short),
         (9, 8, WireCause::Short),
-    ];
-    for (place, at, cause) in left_out {
-        let payload = without(alloc, &JOIN, place)?;
-        request_is_refused(&rt, alloc, &payload, at, cause);
-    }
-    let edits = [
-        (0, 2, 0, WireCause::Kind),
-        (5, 0, 5, WireCause::Count),
-        (5, 17, 5, WireCause::Count),
-        (5, 2, 21, WireCause::Rest),
-        (9, 2, 8, WireCause::Mask),
-        (18, 0, 19, WireCause::Rest),
-        (18, 2, 35, WireCause::Short),
-        (19, 0x12, 19, WireCause::Kind),
-        (22, 0x29, 22, WireCause::Kind),
-        (22, 0x21, 25, WireCause::Rest),
-        (23, 0x30, 23, WireCause::Kind),
-    ];
-    for (place, byte, at, cause) in edits {
-        let payload = changed(alloc, &SUBMIT, place, byte)?;
-        request_is_refused(&rt, alloc, &payload, at, cause);
+    ] {
+        join_without_is_refused(&rt, rt.alloc(), place, at, cause)?;
     }
     Ok(())
 }
 
 #[test]
-fn edited_results_and_replies(rt: HostRuntime) -> Result<(), Fail> {
+fn edited_submits(rt: HostRuntime) -> Result<(), Fail> {
+    for (edit, at, cause) in [
+        ((0, 2), 0, WireCause::Kind),
+        ((5, 0), 5, WireCause::Count),
+        ((5, 17), 5, WireCause::Count),
+        ((5, 2), 21, WireCause::Rest),
+        ((9, 2), 8, WireCause::Mask),
+        ((18, 0), 19, WireCause::Rest),
+        ((18, 2), 35, WireCause::Short),
+        ((19, 0x12), 19, WireCause::Kind),
+        ((22, 0x29), 22, WireCause::Kind),
+        ((22, 0x21), 25, WireCause::Rest),
+        ((23, 0x30), 23, WireCause::Kind),
+    ] {
+        changed_request_is_refused(&rt, rt.alloc(), &SUBMIT, edit, at, cause)?;
+    }
+    Ok(())
+}
+
+#[test]
+fn edited_results(rt: HostRuntime) -> Result<(), Fail> {
+    for (edit, at, cause) in [
+        ((1, 0), 1, WireCause::Count),
+        ((1, 34), 1, WireCause::Count),
+        ((1, 2), 16, WireCause::Short),
+        ((6, 17), 6, WireCause::Count),
+        ((6, 0), 7, WireCause::Rest),
+        ((7, 0), 7, WireCause::Count),
+        ((7, 5), 7, WireCause::Count),
+        ((7, 2), 16, WireCause::Short),
+    ] {
+        changed_request_is_refused(&rt, rt.alloc(), &DONE, edit, at, cause)?;
+    }
+    Ok(())
+}
+
+#[test]
+fn edited_relays(rt: HostRuntime) -> Result<(), Fail> {
+    for (edit, at, cause) in [
+        ((0, 0x82), 0, WireCause::Kind),
+        ((0, 0x83), 0, WireCause::Kind),
+        ((0, 0x01), 0, WireCause::Kind),
+        ((10, 0), 12, WireCause::Rest),
+        ((10, 2), 24, WireCause::Count),
+        ((13, 0), 13, WireCause::Count),
+        ((13, 5), 13, WireCause::Count),
+        ((22, 0), 23, WireCause::Rest),
+        ((22, 34), 22, WireCause::Count),
+        ((22, 2), 63, WireCause::Short),
+    ] {
+        changed_relay_is_refused(&rt, rt.alloc(), edit, at, cause)?;
+    }
+    Ok(())
+}
+
+#[test]
+fn refused_replies(rt: HostRuntime) {
     let alloc = rt.alloc();
-    let edits = [
-        (1, 0, 1, WireCause::Count),
-        (1, 34, 1, WireCause::Count),
-        (1, 2, 16, WireCause::Short),
-        (6, 17, 6, WireCause::Count),
-        (6, 0, 7, WireCause::Rest),
-        (7, 0, 7, WireCause::Count),
-        (7, 5, 7, WireCause::Count),
-        (7, 2, 16, WireCause::Short),
-    ];
-    for (place, byte, at, cause) in edits {
-        let payload = changed(alloc, &DONE, place, byte)?;
-        request_is_refused(&rt, alloc, &payload, at, cause);
-    }
-    let edits = [
-        (0, 0x82, 0, WireCause::Kind),
-        (0, 0x83, 0, WireCause::Kind),
-        (0, 0x01, 0, WireCause::Kind),
-        (10, 0, 12, WireCause::Rest),
-        (10, 2, 24, WireCause::Count),
-        (13, 0, 13, WireCause::Count),
-        (13, 5, 13, WireCause::Count),
-        (22, 0, 23, WireCause::Rest),
-        (22, 34, 22, WireCause::Count),
-        (22, 2, 63, WireCause::Short),
-    ];
-    for (place, byte, at, cause) in edits {
-        let payload = changed(alloc, &RELAY, place, byte)?;
-        reply_is_refused(&rt, alloc, &payload, at, cause);
-    }
     reply_is_refused(&rt, alloc, &WELCOME[..17], 10, WireCause::Short);
     reply_is_refused(&rt, alloc, &[0x81, 0, 0, 0, 0, 2, 17], 5, WireCause::Count);
     reply_is_refused(&rt, alloc, &[0x85, 0, 0, 0], 1, WireCause::Short);
     reply_is_refused(&rt, alloc, &[0x85, 0, 0, 0, 1, 0], 5, WireCause::Rest);
     reply_is_refused(&rt, alloc, &[0x87, 0, 0, 0, 0, 0], 1, WireCause::Code);
     reply_is_refused(&rt, alloc, &[0x87, 12, 0, 0, 0, 0], 1, WireCause::Code);
-    Ok(())
 }
 
 /// Appends `count` statements that set a number to a literal: two nodes each, in twelve bytes.
@@ -227,22 +274,37 @@ fn put_sets(payload: &mut Vec<u8>, count: u8) -> Result<(), Fail> {
     Ok(())
 }
 
+/// Eight negations, one in the other, in an `if`.
+const DEEP: [u8; 9] = [0x11, 0x35, 0x35, 0x35, 0x35, 0x35, 0x35, 0x35, 0x35];
+
+/// The submit with this many statements: so many that set a number, and the deep one behind them where there is one more.
+fn submit_of(alloc: Global, count: u8, sets: u8) -> Result<Vec<u8>, Fail> {
+    let mut payload = Vec::from_slice(alloc, &SUBMIT[..18])?;
+    payload.push(count)?;
+    put_sets(&mut payload, sets)?;
+    if sets < count {
+        payload.extend_from_slice(&DEEP)?;
+    }
+    Ok(payload)
+}
+
+fn submit_is_refused(
+    rt: &impl Abort,
+    alloc: Global,
+    statements: (u8, u8),
+    at: u32,
+    cause: WireCause,
+) -> Result<(), Fail> {
+    let payload = submit_of(alloc, statements.0, statements.1)?;
+    request_is_refused(rt, alloc, &payload, at, cause);
+    Ok(())
+}
+
 #[test]
 fn refused_nodes(rt: HostRuntime) -> Result<(), Fail> {
-    let alloc = rt.alloc();
-    let mut deep = Vec::from_slice(alloc, &SUBMIT[..19])?;
-    deep.extend_from_slice(&[0x11, 0x35, 0x35, 0x35, 0x35, 0x35, 0x35, 0x35, 0x35])?;
-    request_is_refused(&rt, alloc, &deep, 27, WireCause::Deep);
-    let mut large = Vec::from_slice(alloc, &SUBMIT[..18])?;
-    large.push(33)?;
-    put_sets(&mut large, 33)?;
-    request_is_refused(&rt, alloc, &large, 403, WireCause::Large);
-    let mut both = Vec::from_slice(alloc, &SUBMIT[..18])?;
-    both.push(29)?;
-    put_sets(&mut both, 28)?;
-    both.extend_from_slice(&[0x11, 0x35, 0x35, 0x35, 0x35, 0x35, 0x35, 0x35, 0x35])?;
-    request_is_refused(&rt, alloc, &both, 363, WireCause::Large);
-    Ok(())
+    submit_is_refused(&rt, rt.alloc(), (1, 0), 27, WireCause::Deep)?;
+    submit_is_refused(&rt, rt.alloc(), (33, 33), 403, WireCause::Large)?;
+    submit_is_refused(&rt, rt.alloc(), (29, 28), 363, WireCause::Large)
 }
 
 /// Appends a value of four numbers.
@@ -264,9 +326,7 @@ fn put_item(payload: &mut Vec<u8>) -> Result<(), Fail> {
     put_sets(payload, 32)
 }
 
-#[test]
-fn greatest_messages(rt: HostRuntime) -> Result<(), Fail> {
-    let alloc = rt.alloc();
+fn greatest_relay(alloc: Global) -> Result<Vec<u8>, Fail> {
     let mut relay = Vec::from_slice(alloc, &[0x89, 0, 0, 0, 1, 0, 0, 0, 2, 2, 0x10])?;
     for object in 0..528u16 {
         relay.extend_from_slice(&object.to_be_bytes())?;
@@ -276,16 +336,36 @@ fn greatest_messages(rt: HostRuntime) -> Result<(), Fail> {
     for _ in 0..33u8 {
         put_item(&mut relay)?;
     }
-    assert!(rt; relay.len() <= 65_536);
-    reply_comes_back(&rt, alloc, &relay)?;
+    Ok(relay)
+}
+
+/// Appends sixteen values for a position.
+fn put_result(payload: &mut Vec<u8>, pos: u8) -> Result<(), Fail> {
+    payload.extend_from_slice(&[0, 0, 0, pos, 16])?;
+    for _ in 0..16u8 {
+        put_value(payload)?;
+    }
+    Ok(())
+}
+
+fn greatest_done(alloc: Global) -> Result<Vec<u8>, Fail> {
     let mut done = Vec::from_slice(alloc, &[3, 33])?;
     for pos in 1..34u8 {
-        done.extend_from_slice(&[0, 0, 0, pos, 16])?;
-        for _ in 0..16u8 {
-            put_value(&mut done)?;
-        }
+        put_result(&mut done, pos)?;
     }
+    Ok(done)
+}
+
+#[test]
+fn greatest_messages(rt: HostRuntime) -> Result<(), Fail> {
+    let relay = greatest_relay(rt.alloc())?;
+    assert!(rt; relay.len() <= 65_536);
+    reply_comes_back(&rt, rt.alloc(), &relay)
+}
+
+#[test]
+fn greatest_results(rt: HostRuntime) -> Result<(), Fail> {
+    let done = greatest_done(rt.alloc())?;
     assert!(rt; done.len() <= 65_536);
-    request_comes_back(&rt, alloc, &done)?;
-    Ok(())
+    request_comes_back(&rt, rt.alloc(), &done)
 }

@@ -1,0 +1,13 @@
+//! Tests of the messages' payloads: the vectors of the format and what refuses them; and each vector with one byte left out, added or
+//! raised is the message that it then spells, or is refused at the right place. The answers of the second kind come from a table that
+//! `tools/edited.py` wrote from the grammar alone.
+#![tactic(auto)]
+
+#[cfg(test)]
+mod edited;
+#[cfg(test)]
+mod messages;
+#[cfg(test)]
+mod replies;
+#[cfg(test)]
+mod requests;
