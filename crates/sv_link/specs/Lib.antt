@@ -1,1 +1,3 @@
 pub mod Sides
+pub mod Ends
+pub mod Nets

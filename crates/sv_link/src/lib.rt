@@ -2,10 +2,16 @@
 #![tactic(auto)]
 
 mod channel;
+mod ends;
+mod gates;
 mod link;
+mod nets;
 mod side;
 #[cfg(test)]
 mod tests;
 
+pub use ends::{End, EndRead, EndWrote, Sent, send_all};
+pub use gates::Gate;
 pub use link::MemLink;
+pub use nets::{Net, Pair, Settle};
 pub use side::Side;
