@@ -13,6 +13,7 @@ use std::sync::Wait;
 /// A lock round an object, which any number of threads share by reference. Its callers are served in the order of their tickets.
 ///
 /// Contracts see which lock it is, and for how many passes it is made.
+#[derive(Drop)]
 pub struct SeqLock<O: Object> {
     desk: Desk<O>,
     passes: u16,
