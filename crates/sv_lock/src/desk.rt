@@ -18,6 +18,9 @@ use std::sync::Wait;
 // How often a thread looks before it lies down to sleep.
 const LOOKS: u32 = 100;
 
+// Who is further back in the line sleeps at once.
+const NEAR: u64 = 4;
+
 #[derive(Drop)]
 pub struct Desk<O: Object> {
     pub table: Line<O>,
@@ -47,7 +50,7 @@ impl<O: Object> Desk<O> {
         self.table.shared.load::<Look>(seat, 1)
     }
 
-    // Looks for a short while, and says whether it took the object.
+    // Looks for a short while, if the turn is near, and says whether it took the object.
     fn spin(&self, seat: &mut Place<O>, ticket: u64) -> bool
         requires table { seat.old.table_id ≡ self.now.table.shared.table_id }
         requires waits { (t : ℕ) × (t % 2 ^ 64 ≡ ticket) × (seat.old.me.0.stage ≡ Waits t) }
@@ -56,8 +59,12 @@ impl<O: Object> Desk<O> {
         ensures looked { MatchBool result ((t : ℕ) × Took O.base O.history O.number_of t seat.old.me seat.new.me) (seat.new.me ≡ seat.old.me) }
     {
         for _ in 0..LOOKS {
-            if self.look(seat, ticket) == ticket {
+            let served = self.look(seat, ticket);
+            if served == ticket {
                 return true;
+            }
+            if ticket.wrapping_sub(served) > NEAR {
+                return false;
             }
             hint::spin_loop();
         }
