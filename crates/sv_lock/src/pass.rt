@@ -25,7 +25,7 @@ impl<O: Object> Model for Pass<O> {
 
     ghost view = { λ p. record { lock = p.seat.table_id; session = p.session; base = the p.seat.me.0.base p.based; seen = p.seat.me.0.seen; mine = mine_in p.session p.seat.me.0.lists; made = p.made; ended = ended_in p.session p.seat.me.0.lists } };
 
-    ghost invariant = { λ p. Rests p.session p.made p.seat.me };
+    ghost invariant = { λ p. Rests O.number_of p.session p.made p.seat.me };
 }
 
 impl<O: Object> Pass<O> {

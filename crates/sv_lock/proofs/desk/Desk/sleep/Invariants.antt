@@ -1,5 +1,5 @@
 use Rattle.std.proofs.Common.{◌≡◌}
-use Rattle.sv_lock.proofs.desk.Desk.wait.Given as goal
+use Rattle.sv_lock.proofs.desk.Desk.sleep.Given as goal
 
 abbrev pub invariant-loop : goal.invariant-loop
 invariant-loop g l =
