@@ -1,2 +1,3 @@
 mod Arrivals
+mod Promises
 mod Sending

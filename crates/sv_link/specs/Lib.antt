@@ -4,3 +4,6 @@ pub mod Nets
 pub mod Logs
 pub mod Rooms
 pub mod Pipes
+pub mod Crews
+pub mod Promises
+pub mod Tcp

@@ -1,5 +1,4 @@
 -- What an end keeps of its own calls.
-use Rattle.std.specs.Prelude.{ℕ, List}
 use Rattle.sv_link.specs.Ends.{Told}
 use Rattle.sv_link.specs.declared.log.EndLog.{EndLog}
 use Rattle.sv_link.specs.declared.ends.EndRead.{EndRead}

@@ -1,31 +1,40 @@
 -- Nets in memory: their lists of calls that fail.
-use Rattle.std.specs.Prelude.{◌≡◌, ℕ, List, [], ◌∷◌, ◌++◌}
+use Rattle.std.specs.Prelude.{◌≡◌, ℕ, List, []}
 use Rattle.sv_link.specs.declared.pipe_net.PipeNet.{PipeNet}
 
+-- The numbers of the calls that fail, of the net and of each server's and each client's end; of the settlings in which a received byte is
+-- taken as changed; and how many bytes a call of an end moves at most.
+pub record Plans : Type 0 where
+  pub calls : List ℕ
+  pub server : List ℕ
+  pub client : List ℕ
+  pub settlings : List ℕ
+  pub server_step : ℕ
+  pub client_step : ℕ
+
+-- nothing fails
+pub record HasNoPlan (plans : Plans) : Type 0 where
+  pub calls : plans.calls ≡ []
+  pub server : plans.server ≡ []
+  pub client : plans.client ≡ []
+  pub settlings : plans.settlings ≡ []
+
 module _ {R : Type 0} where
-  -- the calls of `pair` and `settle` that fail
-  abbrev pub failing_calls : PipeNet R → List ℕ
-  failing_calls net = net.calls.failing.items
+  abbrev pub plans_of : PipeNet R → Plans
+  plans_of net =
+      record {
+        calls = net.calls.failing.items;
+        server = net.server.failing.items;
+        client = net.client.failing.items;
+        settlings = net.settlings.failing.items;
+        server_step = net.server.step;
+        client_step = net.client.step;
+      }
 
-  -- the calls of each server's end that fail
-  abbrev pub failing_server : PipeNet R → List ℕ
-  failing_server net = net.server.failing.items
-
-  -- the calls of each client's end that fail
-  abbrev pub failing_client : PipeNet R → List ℕ
-  failing_client net = net.client.failing.items
-
-  -- the settlings in which a received byte is taken as changed
-  abbrev pub changed_settlings : PipeNet R → List ℕ
-  changed_settlings net = net.settlings.failing.items
-
-  -- no pair was made, and no call fails
+  -- no pair was made, and nothing fails
   pub record IsNewNet (net : PipeNet R) : Type 0 where
     pub settled : net.book.settled.items ≡ []
     pub made : net.book.made ≡ 0
     pub owed : net.book.owed ≡ 0
     pub faultless : net.book.faults.value ≡ 0
-    pub calls : failing_calls net ≡ []
-    pub server : failing_server net ≡ []
-    pub client : failing_client net ≡ []
-    pub settlings : changed_settlings net ≡ []
+    pub plans : HasNoPlan (plans_of net)

@@ -71,7 +71,10 @@ impl<'r, R: Wait> End for PipeEnd<'r, R> {
         if self.log.received.reserve(most).is_err() {
             return EndRead::Memory;
         }
-        let count = self.pipe.to(self.log.side).receive(self.rt, &mut into[..most]);
+        let count = self
+            .pipe
+            .to(self.log.side)
+            .receive(self.rt, &mut into[..most]);
         if count == 0 {
             self.log.ended = true;
             return EndRead::Ended;

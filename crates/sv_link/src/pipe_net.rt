@@ -24,7 +24,7 @@ pub struct PipeNet<'r, R: Wait> {
 }
 
 impl<'r, R: Wait> PipeNet<'r, R> {
-    ghost use Rattle.sv_link.specs.Pipes.{IsNewNet};
+    ghost use Rattle.sv_link.specs.Pipes.{IsNewNet, plans_of};
 
     /// No pair was made, and no call fails.
     pub fn new(alloc: Global, rt: &'r R) -> PipeNet<'r, R>
@@ -42,28 +42,46 @@ impl<'r, R: Wait> PipeNet<'r, R> {
     }
 
     /// Lets this call of `pair` or `settle` fail.
-    pub fn fail_at(&mut self, call: u64) -> Result<(), AllocError> {
+    pub fn fail_at(&mut self, call: u64) -> Result<(), AllocError>
+        ensures ok { OnOk result (plans_of self.new ≡ record (plans_of self.old) { calls = (plans_of self.old).calls ++ call ∷ [] }) }
+        ensures err { OnErr result (plans_of self.new ≡ plans_of self.old) }
+        ensures book { self.new.book ≡ self.old.book }
+    {
         self.calls.fail_at(call)
     }
 
     /// Lets this call of each server's end fail that is made from now on.
-    pub fn fail_server_at(&mut self, call: u64) -> Result<(), AllocError> {
+    pub fn fail_server_at(&mut self, call: u64) -> Result<(), AllocError>
+        ensures ok { OnOk result (plans_of self.new ≡ record (plans_of self.old) { server = (plans_of self.old).server ++ call ∷ [] }) }
+        ensures err { OnErr result (plans_of self.new ≡ plans_of self.old) }
+        ensures book { self.new.book ≡ self.old.book }
+    {
         self.server.fail_at(call)
     }
 
     /// Lets this call of each client's end fail that is made from now on.
-    pub fn fail_client_at(&mut self, call: u64) -> Result<(), AllocError> {
+    pub fn fail_client_at(&mut self, call: u64) -> Result<(), AllocError>
+        ensures ok { OnOk result (plans_of self.new ≡ record (plans_of self.old) { client = (plans_of self.old).client ++ call ∷ [] }) }
+        ensures err { OnErr result (plans_of self.new ≡ plans_of self.old) }
+        ensures book { self.new.book ≡ self.old.book }
+    {
         self.client.fail_at(call)
     }
 
     /// Lets one received byte be taken as changed in this settling. They are counted from 1. Where nothing was received, nothing changes.
-    pub fn change_at(&mut self, settling: u64) -> Result<(), AllocError> {
+    pub fn change_at(&mut self, settling: u64) -> Result<(), AllocError>
+        ensures ok { OnOk result (plans_of self.new ≡ record (plans_of self.old) { settlings = (plans_of self.old).settlings ++ settling ∷ [] }) }
+        ensures err { OnErr result (plans_of self.new ≡ plans_of self.old) }
+        ensures book { self.new.book ≡ self.old.book }
+    {
         self.settlings.fail_at(settling)
     }
 
     /// Lets each call of ends that are made from now on move at most `step` bytes.
     pub fn move_at_most(&mut self, step: usize)
         requires { 0 < step }
+        ensures plans { plans_of self.new ≡ record (plans_of self.old) { server_step = step; client_step = step } }
+        ensures book { self.new.book ≡ self.old.book }
     {
         self.server.step = step;
         self.client.step = step;
@@ -71,7 +89,7 @@ impl<'r, R: Wait> PipeNet<'r, R> {
 }
 
 impl<'r, R: Wait + Sync> Net for PipeNet<'r, R> {
-    ghost use Rattle.std.specs.Prelude.{◌≡◌, []};
+    ghost use Rattle.sv_link.specs.Pipes.{plans_of, HasNoPlan};
 
     type E = PipeEnd<'r, R>;
 
@@ -83,7 +101,7 @@ impl<'r, R: Wait + Sync> Net for PipeNet<'r, R> {
 
     ghost faults = { λ n. n.book.faults.value };
 
-    ghost calm = { λ n. (n.calls.failing.items ≡ []) × (n.server.failing.items ≡ []) × (n.client.failing.items ≡ []) × (n.settlings.failing.items ≡ []) };
+    ghost calm = { λ n. HasNoPlan (plans_of n) };
 
     fn pair(&mut self) -> Pair<PipeEnd<'r, R>> {
         if self.calls.next_fails() {

@@ -1,4 +1,4 @@
-use Rattle.std.proofs.Common.{rules, ◌≡◌, true, false}
+use Rattle.std.proofs.Common.{rules}
 use Rattle.sv_link.proofs.Arrivals.{prefix_decided, whole_by_length}
 use Rattle.sv_link.proofs.book.arrived.Goals as goal
 
