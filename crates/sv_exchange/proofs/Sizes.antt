@@ -28,6 +28,12 @@ reply_short m is =
     let place = reply_place bytes (record { left = 1; cause = Rest }) (rest_refused reply_front bytes m (reply_again m (0 ∷ []) is.within is.fits)) in
     omega (arith, place.1, length-append (reply_bytes m) (0 ∷ []))
 
+pub request_back : (m : Request) → IsRequest m → request_at (request_bytes m) ≡ Ok m
+request_back m is = request_is_read m is.within is.fits
+
+pub reply_back : (m : Reply) → IsReply m → reply_at (reply_bytes m) ≡ Ok m
+reply_back m is = reply_is_read m is.within is.fits
+
 pub requests_spelled : Spells IsRequest request_bytes request_at
 requests_spelled = record { back = λ m is. request_is_read m is.within is.fits; fits = request_short }
 

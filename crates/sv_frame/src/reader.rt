@@ -1,12 +1,15 @@
 //! Reading frames from a stream that comes in pieces.
-ghost use Rattle.std.specs.Prelude.{◌≡◌, [], ◌++◌, ◌+◌, ◌<◌, ◌≤◌, IfOk, length};
+ghost use Rattle.std.specs.Prelude.{◌≡◌, ◌≢◌, [], ◌++◌, ◌+◌, ◌<◌, ◌≤◌, false, None, IfOk, length};
 ghost use Rattle.std.specs.Borrow.{sem};
-ghost use Rattle.sv_frame.specs.Answers.{IsAnswer, IsFront, LeavesRoom, LeavesRest};
+ghost use Rattle.sv_link.specs.Ends.{EndReadCause};
+ghost use Rattle.sv_frame.specs.Frames.{first_frame};
+ghost use Rattle.sv_frame.specs.Answers.{IsAnswer, IsFront, LeavesRoom, LeavesRest, Skips, ReadsInto};
 
 use crate::limits::{GREATEST_PAYLOAD, PREFIX, ROOM};
 use byteorder::{BigEndian, ByteOrder};
 use std::alloc::{AllocError, Global};
 use std::marker::Model;
+use sv_link::{End, EndRead};
 
 /// What a reader finds at the front of what it was fed.
 #[derive(Clone, Copy, Debug, PartialEq, Eq)]
@@ -78,6 +81,43 @@ impl FrameReader {
         self.end = after;
     }
 
+    /// Waits for bytes of an end, and reads as many as have come and fit straight into the room.
+    pub fn read_from<E: End>(&mut self, end: &mut E) -> EndRead
+        requires open { (E.told end.old).closed ≡ false }
+        requires room { length self.old < 65540 }
+        ensures came { ReadsInto (E.told end.old) self.old result (E.told end.new) self.new }
+        ensures cause { EndReadCause (E.faults end.old) (E.faults end.new) result }
+        ensures calm { E.calm end.old → (result ≢ EndRead.Failed) × E.calm end.new }
+    {
+        let _ = end;
+        EndRead::Memory
+    }
+
+    /// Tells what `next` would answer, and takes nothing off.
+    pub fn first(&self) -> Next<'_>
+        ensures answer { IsAnswer result self.now }
+        ensures room { LeavesRoom result self.now }
+    {
+        let rest = &self.room[self.start..self.end];
+        match front_of(rest) {
+            Front::Whole(length) => Next::Frame(&rest[PREFIX..PREFIX + length]),
+            Front::Partial => Next::NotYet,
+            Front::Oversize(length) => Next::TooLong(length),
+        }
+    }
+
+    /// Takes the first frame off the stream.
+    pub fn skip(&mut self)
+        requires { first_frame self.old ≢ None }
+        ensures { Skips self.old self.new }
+    {
+        match front_of(&self.room[self.start..self.end]) {
+            Front::Whole(length) => self.start = self.start + PREFIX + length,
+            Front::Partial => {}
+            Front::Oversize(_) => {}
+        }
+    }
+
     /// Gives the next frame's payload, and takes the frame off the stream. Any other answer takes nothing off.
     pub fn next(&mut self) -> Next<'_>
         ensures answer { IsAnswer result self.old }
@@ -97,6 +137,7 @@ impl FrameReader {
 }
 
 /// What a rest begins with.
+#[derive(Clone, Copy)]
 enum Front {
     /// A frame with a payload of so many bytes.
     Whole(usize),
