@@ -7,7 +7,6 @@ ghost use Rattle.sv_wire.specs.declared.message.Reply as replies;
 ghost use Rattle.sv_wire.specs.Laws.{IsRequest, IsReply};
 ghost use Rattle.sv_wire.specs.Messages.{request_at, reply_at, Decodes};
 ghost use Rattle.sv_wire.specs.Spelling.{request_bytes, reply_bytes};
-ghost use Rattle.sv_exchange.proofs.Sizes.{request_back, reply_back, request_short, reply_short};
 
 use std::alloc::{AllocError, Global};
 use sv_wire::{
@@ -35,10 +34,10 @@ pub trait Message: Drop {
         ensures bytes { IfOk result (λ payload. payload.items ≡ spelled self.now) }
         ensures short { IfOk result (λ payload. vec_len payload ≤ 65536) };
 
-    // What is sent is read back, and has a frame.
-    ghost back: { (m : Self) → is_message m → read_at (spelled m) ≡ Ok m };
-
-    ghost short: { (m : Self) → is_message m → length (spelled m) ≤ 65536 };
+    /// Each message is read back from its payload, and has a frame. It does nothing.
+    fn is_read_back()
+        ensures back { (m : Self) → is_message m → read_at (spelled m) ≡ Ok m }
+        ensures short { (m : Self) → is_message m → length (spelled m) ≤ 65536 };
 }
 
 impl Message for Request {
@@ -48,10 +47,6 @@ impl Message for Request {
 
     ghost is_message = { IsRequest };
 
-    ghost back = { request_back };
-
-    ghost short = { request_short };
-
     fn decode(alloc: Global, payload: &[u8]) -> Result<Request, WireFault> {
         decode_request(alloc, payload)
     }
@@ -59,6 +54,8 @@ impl Message for Request {
     fn encode(&self, alloc: Global) -> Result<Vec<u8>, AllocError> {
         encode_request(alloc, self)
     }
+
+    fn is_read_back() {}
 }
 
 impl Message for Reply {
@@ -68,10 +65,6 @@ impl Message for Reply {
 
     ghost is_message = { IsReply };
 
-    ghost back = { reply_back };
-
-    ghost short = { reply_short };
-
     fn decode(alloc: Global, payload: &[u8]) -> Result<Reply, WireFault> {
         decode_reply(alloc, payload)
     }
@@ -79,4 +72,6 @@ impl Message for Reply {
     fn encode(&self, alloc: Global) -> Result<Vec<u8>, AllocError> {
         encode_reply(alloc, self)
     }
+
+    fn is_read_back() {}
 }

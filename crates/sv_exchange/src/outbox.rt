@@ -1,5 +1,5 @@
 //! Writing messages as frames, several at once.
-ghost use Rattle.std.specs.Prelude.{◌≡◌, ◌≢◌, [], false, IfOk};
+ghost use Rattle.std.specs.Prelude.{◌≡◌, ◌≢◌, ◌+◌, ◌≤◌, [], false, IfOk, length};
 ghost use Rattle.sv_link.specs.Ends.{Sends, SentCause};
 ghost use Rattle.sv_frame.specs.Frames.{frame};
 ghost use Rattle.sv_exchange.specs.Outgoing.{Posts, LeavesUnsent};
@@ -7,8 +7,8 @@ ghost use Rattle.sv_exchange.specs.Outgoing.{Posts, LeavesUnsent};
 use crate::message::Message;
 use std::alloc::{AllocError, Global};
 use std::marker::Model;
-use sv_frame::ROOM;
-use sv_link::{End, Sent};
+use sv_frame::{PREFIX, ROOM, put_frame};
+use sv_link::{End, Sent, send_all};
 
 /// Messages that are to be sent together. Contracts see the bytes of their frames.
 ///
@@ -47,8 +47,32 @@ impl Outbox {
         ensures cause { SentCause (E.faults end.old) (E.faults end.new) result }
         ensures calm { E.calm end.old → (result ≢ Sent.Failed) × E.calm end.new }
     {
-        let _ = (alloc, message, end);
-        Sent::Memory
+        let Ok(payload) = message.encode(alloc) else {
+            return Sent::Memory;
+        };
+        match self.make_room(PREFIX + payload.len(), end) {
+            Sent::Whole => {
+                put_frame(&payload, &mut self.bytes).unwrap();
+                Sent::Whole
+            }
+            Sent::Failed => Sent::Failed,
+            Sent::Memory => Sent::Memory,
+        }
+    }
+
+    /// Sends what waits, where so many bytes more do not fit.
+    fn make_room<E: End>(&mut self, size: usize, end: &mut E) -> Sent
+        requires open { (E.told end.old).closed ≡ false }
+        requires size { size ≤ 65540 }
+        ensures posts { Posts (E.told end.old) self.old [] result (E.told end.new) self.new }
+        ensures room { result ≡ Sent.Whole → length self.new + size ≤ 65540 }
+        ensures cause { SentCause (E.faults end.old) (E.faults end.new) result }
+        ensures calm { E.calm end.old → (result ≢ Sent.Failed) × E.calm end.new }
+    {
+        if size <= ROOM - self.bytes.len() {
+            return Sent::Whole;
+        }
+        self.flush(end)
     }
 
     /// Sends all that waits.
@@ -59,7 +83,13 @@ impl Outbox {
         ensures cause { SentCause (E.faults end.old) (E.faults end.new) result }
         ensures calm { E.calm end.old → (result ≢ Sent.Failed) × E.calm end.new }
     {
-        let _ = end;
-        Sent::Memory
+        match send_all(end, &self.bytes) {
+            Sent::Whole => {
+                self.bytes.clear();
+                Sent::Whole
+            }
+            Sent::Failed => Sent::Failed,
+            Sent::Memory => Sent::Memory,
+        }
     }
 }

@@ -1,5 +1,6 @@
 //! Reading frames from a stream that comes in pieces.
-ghost use Rattle.std.specs.Prelude.{◌≡◌, ◌≢◌, [], ◌++◌, ◌+◌, ◌<◌, ◌≤◌, false, None, IfOk, length};
+ghost use Rattle.std.specs.Prelude.{◌≡◌, ◌≢◌, [], ◌++◌, ◌+◌, ◌-◌, ◌<◌, ◌≤◌, false, None, IfOk, length, take, drop};
+ghost use Rattle.std.specs.Vec.{vec_len};
 ghost use Rattle.std.specs.Borrow.{sem};
 ghost use Rattle.sv_link.specs.Ends.{EndReadCause};
 ghost use Rattle.sv_frame.specs.Frames.{first_frame};
@@ -70,12 +71,9 @@ impl FrameReader {
         requires { length self.old + length piece.now ≤ 65540 }
         ensures { self.new ≡ self.old ++ piece.now }
     {
-        // An empty rest costs nothing to move, and what is used again is still in the cache.
-        if self.start == self.end || piece.len() > ROOM - self.end {
-            self.room.copy_within(self.start..self.end, 0);
-            self.end -= self.start;
-            self.start = 0;
-        }
+        let size = self.end - self.start;
+        self.start = make_space(&mut self.room, self.start, self.end, piece.len());
+        self.end = self.start + size;
         let after = self.end + piece.len();
         self.room.as_mut_slice()[self.end..after].copy_from_slice(piece);
         self.end = after;
@@ -89,8 +87,14 @@ impl FrameReader {
         ensures cause { EndReadCause (E.faults end.old) (E.faults end.new) result }
         ensures calm { E.calm end.old → (result ≢ EndRead.Failed) × E.calm end.new }
     {
-        let _ = end;
-        EndRead::Memory
+        let size = self.end - self.start;
+        self.start = make_space(&mut self.room, self.start, self.end, 1);
+        self.end = self.start + size;
+        let answer = end.read(&mut self.room.as_mut_slice()[self.end..]);
+        if let EndRead::Got(count) = answer {
+            self.end += count;
+        }
+        answer
     }
 
     /// Tells what `next` would answer, and takes nothing off.
@@ -134,6 +138,23 @@ impl FrameReader {
             Front::Oversize(length) => Next::TooLong(length),
         }
     }
+}
+
+/// Where the rest begins once there is space for so many bytes behind it. It is moved to the front of the room where there was too little.
+fn make_space(room: &mut Vec<u8>, start: usize, end: usize, size: usize) -> usize
+    requires whole { vec_len room.old ≡ 65540 }
+    requires part { (start ≤ end) × (end ≤ 65540) }
+    requires fits { end - start + size ≤ 65540 }
+    ensures rest { take (end - start) (drop result room.new.items) ≡ take (end - start) (drop start room.old.items) }
+    ensures space { result + (end - start) + size ≤ 65540 }
+    ensures whole { vec_len room.new ≡ 65540 }
+{
+    // An empty rest costs nothing to move, and what is used again is still in the cache.
+    if start == end || size > ROOM - end {
+        room.copy_within(start..end, 0);
+        return 0;
+    }
+    start
 }
 
 /// What a rest begins with.
