@@ -87,7 +87,8 @@ impl Inbox {
     {
         match self.reader.first() {
             Next::Frame(payload) => Some(payload),
-            Next::NotYet | Next::TooLong(_) => None,
+            Next::NotYet => None,
+            Next::TooLong(_) => None,
         }
     }
 
@@ -102,7 +103,7 @@ impl Inbox {
 
 /// What a frame at the front is read as.
 fn read_first<M: Message>(alloc: Global, first: Next<'_>) -> Incoming<M>
-    ensures { IsReadAs M.read_at first result }
+    ensures { IsReadAs M.read_at first.entry result }
 {
     match first {
         Next::Frame(payload) => match M::decode(alloc, payload) {
