@@ -8,3 +8,4 @@ pub mod ByClient
 pub mod Examples
 pub mod Great
 pub mod Renewed
+pub mod Posting

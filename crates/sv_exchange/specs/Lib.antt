@@ -2,4 +2,6 @@ pub mod Streams
 pub mod Carried
 pub mod View
 pub mod Invariant
+pub mod Incoming
+pub mod Outgoing
 pub mod Worked

@@ -3,7 +3,7 @@ ghost use Rattle.std.specs.Prelude.{◌≡◌, false, true, [], ◌∷◌, ◌++
 ghost use Rattle.sv_wire.specs.Laws.{IsRequest, IsReply};
 ghost use Rattle.sv_exchange.specs.View.{TakesRequest, TakesReply};
 
-use crate::inbox::Inbox;
+use crate::keeping::Keeper;
 use crate::renewing::renew;
 use crate::sending::send;
 use std::alloc::{AllocError, Global};
@@ -23,8 +23,8 @@ use sv_wire::{
 pub struct Exchange {
     alloc: Global,
     link: MemLink,
-    server: Inbox,
-    client: Inbox,
+    server: Keeper,
+    client: Keeper,
 }
 
 impl Model for Exchange {
@@ -52,8 +52,8 @@ impl Exchange {
         Ok(Exchange {
             alloc,
             link: MemLink::new(alloc),
-            server: Inbox::new(alloc)?,
-            client: Inbox::new(alloc)?,
+            server: Keeper::new(alloc)?,
+            client: Keeper::new(alloc)?,
         })
     }
 

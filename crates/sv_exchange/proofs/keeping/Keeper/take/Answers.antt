@@ -3,7 +3,7 @@ use Rattle.sv_link.specs.Sides.{other, side_of, unread}
 use Rattle.sv_frame.specs.Frames.{first_frame}
 use Rattle.sv_exchange.specs.Streams.{IsFilled}
 use Rattle.sv_exchange.proofs.Rests.{no_frame_waits, nothing_held}
-use Rattle.sv_exchange.proofs.inbox.Inbox.take.Goals as goal
+use Rattle.sv_exchange.proofs.keeping.Keeper.take.Goals as goal
 
 pub returns-in_ok-take_read-2-clause-none : goal.returns-in_ok-take_read-2-clause-none
 returns-in_ok-take_read-2-clause-none c h =

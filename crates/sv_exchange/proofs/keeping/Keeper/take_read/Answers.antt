@@ -1,7 +1,7 @@
 use Rattle.std.proofs.Common.{List, ℕ, ◌++◌, option_map, ap, ◌∙◌}
 use Rattle.sv_exchange.specs.Streams.{InboxView}
 use Rattle.sv_exchange.proofs.Rests.{not_frame_leaves, nothing_held}
-use Rattle.sv_exchange.proofs.inbox.Inbox.take_read.Goals as goal
+use Rattle.sv_exchange.proofs.keeping.Keeper.take_read.Goals as goal
 
 pub returns-in_default : goal.returns-in_default
 returns-in_default c =
