@@ -8,15 +8,16 @@ const AWAKE: u64 = 0;
 const ASLEEP: u64 = 1;
 
 /// A bed for each ticket that can be out. A lock has at most 64 passes, each with one ticket at a time, and the tickets
-/// that are out follow on one another. So no two who wait share a bed, and 64 is a divisor of 2^64, at which tickets begin again.
+/// that are out follow on one another. So no two who wait share a bed. At 2^64 tickets begin again, and 64 divides that.
 ///
-/// Beds say nothing of whose turn it is. No wake is lost if each who waits calls `lie_down`, then looks, and then sleeps,
-/// and each who serves the next ticket calls `wake` after that:
+/// Beds say nothing of whose turn it is. Who waits calls `lie_down`, then looks whether it is served, and then calls `sleep`.
+/// Who serves the next ticket calls `wake` after that. So no wake is lost:
 ///
-/// - if the look came after the serving, it saw it;
-/// - else `wake` comes after `lie_down`. It finds the bed `ASLEEP`, makes it `AWAKE` and wakes; or one who was late with an
-///   earlier ticket of this bed did so in between. Either way the bed was changed before a thread is woken, and only the
-///   sleeper makes it `ASLEEP` again. So `sleep` either finds the bed changed, and returns, or is woken.
+/// - If the look came after the serving, it saw it, and nobody sleeps.
+/// - Else `wake` came after `lie_down`. It found the bed `ASLEEP`, made it `AWAKE` and then woke who slept there; or one who
+///   was late with an earlier ticket of this bed made it `AWAKE` in between, and then woke. Only who lies there makes it `ASLEEP`
+///   again. So `sleep`, which sleeps only while the bed is `ASLEEP`, either came after the change and returned at once, or
+///   came before it and was woken.
 #[derive(Drop)]
 pub struct Beds {
     beds: [AtomicU64; 64],

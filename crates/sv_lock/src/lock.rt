@@ -12,6 +12,8 @@ use std::sync::Wait;
 
 /// A lock round an object, which any number of threads share by reference. Its callers are served in the order of their tickets.
 ///
+/// It may be let go where its object may, whatever became of its passes. `close` gives the object back instead.
+///
 /// Contracts see which lock it is, and for how many passes it is made.
 #[derive(Drop)]
 pub struct SeqLock<O: Object> {

@@ -7,7 +7,7 @@ use std::marker::Model;
 /// A caller's right to a lock, and what it knows of the history. Contracts see its lock, its session number, the base
 /// of the lock's object, what it has seen, and its own entries.
 ///
-/// One pass is the keeper's: it makes the others, and takes them in again.
+/// One pass is the keeper's: it makes the others, and takes them in again. A pass may be let go, but then its lock can't be closed.
 #[derive(Drop)]
 pub struct Pass<O: Object> {
     pub(crate) seat: Place<O>,

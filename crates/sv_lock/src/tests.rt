@@ -110,7 +110,7 @@ fn all_in_order(added: &[Added], threads: u16, count: u64) -> bool {
 // In the last row a call takes longer than any thread looks before it sleeps.
 #[test]
 fn threads_make_their_calls_in_order(rt: HostRuntime) -> Result<(), Fail> {
-    for (threads, count, pauses) in [(2u16, 1_000u64, 0u32), (6, 4, 50_000)] {
+    for (threads, count, pauses) in [(2u16, 1_000u64, 0u32), (6, 3, 400_000)] {
         let (counter, answered) = add_by(&rt, rt.alloc(), threads, count, pauses)?;
         let calls = count.wrapping_mul(u64::from(threads));
         assert_eq!(rt; answered, calls);
