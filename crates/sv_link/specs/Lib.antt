@@ -7,3 +7,4 @@ pub mod Pipes
 pub mod Crews
 pub mod Promises
 pub mod Tcp
+pub mod ThreadCrews

@@ -1,5 +1,6 @@
 -- Nets in memory: their lists of calls that fail.
 use Rattle.std.specs.Prelude.{◌≡◌, ℕ, List, []}
+use Rattle.sv_link.specs.declared.book.Book.{Book}
 use Rattle.sv_link.specs.declared.pipe_net.PipeNet.{PipeNet}
 
 -- The numbers of the calls that fail, of the net and of each server's and each client's end; of the settlings in which a received byte is
@@ -30,6 +31,10 @@ module _ {R : Type 0} where
         server_step = net.server.step;
         client_step = net.client.step;
       }
+
+  -- the net's pairs: those that were settled, how many were made, how many are owed, and the count of faults
+  abbrev pub book_of : PipeNet R → Book
+  book_of net = net.book
 
   -- no pair was made, and nothing fails
   pub record IsNewNet (net : PipeNet R) : Type 0 where

@@ -24,7 +24,7 @@ pub struct PipeNet<'r, R: Wait> {
 }
 
 impl<'r, R: Wait> PipeNet<'r, R> {
-    ghost use Rattle.sv_link.specs.Pipes.{IsNewNet, plans_of};
+    ghost use Rattle.sv_link.specs.Pipes.{IsNewNet, book_of, plans_of};
 
     /// No pair was made, and no call fails.
     pub fn new(alloc: Global, rt: &'r R) -> PipeNet<'r, R>
@@ -45,7 +45,7 @@ impl<'r, R: Wait> PipeNet<'r, R> {
     pub fn fail_at(&mut self, call: u64) -> Result<(), AllocError>
         ensures ok { OnOk result (plans_of self.new ≡ record (plans_of self.old) { calls = (plans_of self.old).calls ++ call ∷ [] }) }
         ensures err { OnErr result (plans_of self.new ≡ plans_of self.old) }
-        ensures book { self.new.book ≡ self.old.book }
+        ensures pairs { book_of self.new ≡ book_of self.old }
     {
         self.calls.fail_at(call)
     }
@@ -54,7 +54,7 @@ impl<'r, R: Wait> PipeNet<'r, R> {
     pub fn fail_server_at(&mut self, call: u64) -> Result<(), AllocError>
         ensures ok { OnOk result (plans_of self.new ≡ record (plans_of self.old) { server = (plans_of self.old).server ++ call ∷ [] }) }
         ensures err { OnErr result (plans_of self.new ≡ plans_of self.old) }
-        ensures book { self.new.book ≡ self.old.book }
+        ensures pairs { book_of self.new ≡ book_of self.old }
     {
         self.server.fail_at(call)
     }
@@ -63,7 +63,7 @@ impl<'r, R: Wait> PipeNet<'r, R> {
     pub fn fail_client_at(&mut self, call: u64) -> Result<(), AllocError>
         ensures ok { OnOk result (plans_of self.new ≡ record (plans_of self.old) { client = (plans_of self.old).client ++ call ∷ [] }) }
         ensures err { OnErr result (plans_of self.new ≡ plans_of self.old) }
-        ensures book { self.new.book ≡ self.old.book }
+        ensures pairs { book_of self.new ≡ book_of self.old }
     {
         self.client.fail_at(call)
     }
@@ -72,7 +72,7 @@ impl<'r, R: Wait> PipeNet<'r, R> {
     pub fn change_at(&mut self, settling: u64) -> Result<(), AllocError>
         ensures ok { OnOk result (plans_of self.new ≡ record (plans_of self.old) { settlings = (plans_of self.old).settlings ++ settling ∷ [] }) }
         ensures err { OnErr result (plans_of self.new ≡ plans_of self.old) }
-        ensures book { self.new.book ≡ self.old.book }
+        ensures pairs { book_of self.new ≡ book_of self.old }
     {
         self.settlings.fail_at(settling)
     }
@@ -81,7 +81,7 @@ impl<'r, R: Wait> PipeNet<'r, R> {
     pub fn move_at_most(&mut self, step: usize)
         requires { 0 < step }
         ensures plans { plans_of self.new ≡ record (plans_of self.old) { server_step = step; client_step = step } }
-        ensures book { self.new.book ≡ self.old.book }
+        ensures pairs { book_of self.new ≡ book_of self.old }
     {
         self.server.step = step;
         self.client.step = step;

@@ -1,5 +1,6 @@
 //! Crews over the threads of the system.
-ghost use Rattle.std.specs.Prelude.{◌≡◌, []};
+ghost use Rattle.std.specs.Prelude.{◌≡◌};
+ghost use Rattle.sv_link.specs.ThreadCrews.{IsNew, IsNewFew};
 
 use crate::crews::Crew;
 use std::alloc::{AllocError, Global};
@@ -15,7 +16,7 @@ pub struct ThreadCrew {
 impl ThreadCrew {
     /// Nothing ran yet.
     pub fn new(alloc: Global) -> ThreadCrew
-        ensures new { (result.ran.items ≡ []) × (result.faults.value ≡ 0) }
+        ensures { IsNew result }
     {
         ThreadCrew {
             ran: Vec::new(alloc),
@@ -61,8 +62,7 @@ pub struct FewCrew {
 impl FewCrew {
     /// Nothing ran yet.
     pub fn new(alloc: Global, refused: usize) -> FewCrew
-        ensures new { (result.crew.ran.items ≡ []) × (result.crew.faults.value ≡ 0) }
-        ensures refused { result.refused ≡ refused }
+        ensures { IsNewFew refused result }
     {
         FewCrew {
             crew: ThreadCrew::new(alloc),
