@@ -92,6 +92,7 @@ explains_later out stream rest x y s t due left on asked same is = by_out out
       },
       ap (λ l. s ++ l) f.1 ∙ sym is,
     )
+
     breaks_later : BreaksOff y → BreaksOff (x ++ y)
     breaks_later f = record {
       before = x ++ f.before;
@@ -100,6 +101,7 @@ explains_later out stream rest x y s t due left on asked same is = by_out out
       few = f.few;
       on = on_after x f.before on ∙ f.on;
     }
+
     all_later : TookAll rest y × (t ≡ left) → TookAll stream (x ++ y) × (s ++ t ≡ due)
     all_later f = (
       record {
@@ -109,6 +111,7 @@ explains_later out stream rest x y s t due left on asked same is = by_out out
       },
       ap (λ l. s ++ l) f.1 ∙ sym is,
     )
+
     by_out : (out : SessionOut) → Explains out rest y t left → Explains out stream (x ++ y) (s ++ t) due
     by_out outs.Left f = stops_later outs.Left f
     by_out outs.Closed f = all_later f

@@ -64,8 +64,11 @@ module _ (old : Told) (due : List ℕ) (mid : Told) (waits : List ℕ) (posts : 
         sent = posts.sent ++ take sends.size waits;
         told = sends.grew ∙ (ap (λ (t : Told). sending t (take sends.size waits)) posts.told ∙ told_twice old posts.sent (take sends.size waits));
         part = (f.0, append_assoc posts.sent (take sends.size waits) f.0 ∙ (ap (λ l. posts.sent ++ l) f.1 ∙ posts.all));
-        why = inr (broken, shorter (posts.sent ++ take sends.size waits) due
-            (omega (arith, length-append posts.sent (take sends.size waits), length-take sends.size waits, sends.part not_whole, length-append posts.sent waits, ap length posts.all)));
+        why = inr (
+          broken,
+          shorter (posts.sent ++ take sends.size waits) due
+              (omega (arith, length-append posts.sent (take sends.size waits), length-take sends.size waits, sends.part not_whole, length-append posts.sent waits, ap length posts.all)),
+        );
       }
 
 -- ---- Reading on

@@ -1,6 +1,6 @@
 -- What one round makes of a session: a request is answered, or the end is read.
 use Rattle.std.proofs.Common.{◌≡◌, ◌≢◌, ℕ, ◌<◌, ◌≤◌, List, [], ◌∷◌, ◌++◌, map, length, Option, Some, None, Result, Ok, Err, ◌⊎◌, inl, inr, refl, sym, ap, subst, ◌∙◌, append_assoc, append-nil, arith}
-use Rattle.std.specs.Prelude.{All, Bool, true, false, IsSome, reverse}
+use Rattle.std.specs.Prelude.{All, Bool, true, false, IsSome, IfOk, reverse}
 use Rattle.std.specs.List.{AllByRecursion}
 use Rattle.std.proofs.lemmas.List.{reverse-append, reverse-reverse}
 use Rattle.std.proofs.lemmas.List.Elements.{All-append, All-nil, All-from_recursion, recursion_from_All}
@@ -27,7 +27,8 @@ use Rattle.sv_lock.specs.Passes.{session_number}
 use Rattle.sv_link.specs.Ends.{Told, sending, receiving}
 use Rattle.sv_session.specs.Requests.{requests_in, requests_of, reply_payload, reply_frames, stop_of, stop_after, StopsFor}
 use Rattle.sv_session.specs.Serving.{SessionPass, IsSamePass, BreaksOff, TookAll, Explains, ended_by, Served}
-use Rattle.sv_session.specs.Rounds.{Stand, BeginsWith, Takes, AreNamed, StepsOn, Steps, IsBroken, Posts, PostsLast, ReadsOn, ReadsLast, Onward, Halts}
+use Rattle.sv_session.specs.Answers.{IsPosted, IsRead, IsRound}
+use Rattle.sv_session.specs.Rounds.{Stand, stand, BeginsWith, Takes, AreNamed, StepsOn, Steps, IsBroken, Posts, PostsLast, ReadsOn, ReadsLast, Onward, Halts}
 use Rattle.sv_session.specs.declared.outcome.SessionOut.{SessionOut}
 use Rattle.sv_session.specs.declared.outcome.SessionOut.TheVariants as outs
 use Rattle.sv_session.proofs.Streams.{begins_with_none, begins_and_more, none_yet, none_left}
@@ -89,6 +90,14 @@ steps before after request reply names messages limits no_end same on mine whole
       leave = λ left. left_by_leave after.base at.0 (session_number before) request (logged_of reply) replied no_end left;
       bad = λ is. bad_stops after.base at.0 (session_number before) (logged_of reply) (replied ∙ ap (reply_to after.base at.0 (session_number before)) is);
     }
+
+-- the same, where the call was answered
+pub steps_if : {X : Type 0} (before after : SessionPass) (request : Request) (o : Result Reply X) → LegalRelaysNameAccepted → LegalRepliesAreMessages → AreWithinLimits before.base → is_end request ≡ false →
+    IsSamePass before after → IfOk o (λ r. GoesOn before.seen (entry_of (session_number before) request (logged_of r)) after.seen) →
+    IfOk o (λ r. after.mine ≡ before.mine ++ entry_of (session_number before) request (logged_of r) ∷ []) → IfOk o (λ r. IsWhole r after.seen) → Legal after.base (reverse after.seen) →
+    IfOk o (λ r. Steps before request r after)
+steps_if before after request (Ok reply) names messages limits no_end same on mine whole legal = steps before after request reply names messages limits no_end same on mine whole legal
+steps_if before after request (Err e) names messages limits no_end same on mine whole legal = tt
 
 -- ---- A reply is posted
 
@@ -172,10 +181,12 @@ module _ (a : Stand) (q : Request) (reply : Reply) (inbox : List ℕ) (told : To
       kinds : ((stop_of (logged_of reply) ≡ Some out) × (posts.sent ≡ a.outbox ++ frame (reply_bytes reply))) ⊎ (IsBroken out × (posts.sent ≢ a.outbox ++ frame (reply_bytes reply))) → (stop_of (logged_of reply) ≡ Some out) ⊎ IsBroken out
       kinds (inl w) = inl w.0
       kinds (inr w) = inr w.0
+
       cause : ((stop_of (logged_of reply) ≡ Some out) × (posts.sent ≡ a.outbox ++ frame (reply_bytes reply))) ⊎ (IsBroken out × (posts.sent ≢ a.outbox ++ frame (reply_bytes reply))) →
           Explains out (a.inbox ++ []) (s.entry ∷ []) posts.sent (a.outbox ++ reply_frames pass.seen (s.entry ∷ []))
       cause (inl w) = explains_stop out w.0 (a.inbox ++ []) posts.sent _ (w.1 ∙ due_same)
       cause (inr w) = explains_broken out w.0 (a.inbox ++ []) posts.sent _
+
       exactly : ((stop_of (logged_of reply) ≡ Some out) × (posts.sent ≡ a.outbox ++ frame (reply_bytes reply))) ⊎ (IsBroken out × (posts.sent ≢ a.outbox ++ frame (reply_bytes reply))) →
           (reason : SessionOut) → stop_after (s.entry ∷ []) ≡ Some reason → posts.sent ≡ a.outbox ++ reply_frames pass.seen (s.entry ∷ []) → out ≡ reason
       exactly (inl w) reason stop all = let both : Some out ≡ Some reason = sym w.0 ∙ (sym alone ∙ stop) in cc
@@ -237,8 +248,21 @@ module _ (a : Stand) where
     where
       breaks_none : BreaksOff []
       breaks_none = record { before = []; last = []; are = refl; few = omega arith; on = refl }
+
       cause : ((out ≡ outs.Closed) × (reads.sent ≡ a.outbox)) ⊎ IsBroken out → Explains out (a.inbox ++ []) [] reads.sent (a.outbox ++ reply_frames a.pass.seen [])
       cause (inl w) = subst (λ o. Explains o (a.inbox ++ []) [] reads.sent (a.outbox ++ reply_frames a.pass.seen [])) (sym w.0)
           (record { on = refl; all = sym (ap requests_in (append-nil a.inbox) ∙ none_yet a.inbox no_frame no_length); rest = ap (λ l. too_long (split_frames l).1) (append-nil a.inbox) ∙ none_left a.inbox no_frame no_length }, w.1 ∙ sym due_none)
       cause (inr (inl w)) = subst (λ o. Explains o (a.inbox ++ []) [] reads.sent (a.outbox ++ reply_frames a.pass.seen [])) (sym w) breaks_none
       cause (inr (inr w)) = subst (λ o. Explains o (a.inbox ++ []) [] reads.sent (a.outbox ++ reply_frames a.pass.seen [])) (sym w) breaks_none
+
+-- ---- What the round answers
+
+pub round_posted : (result : Option SessionOut) (a : Stand) (q : Request) (reply : Reply) (inbox : List ℕ) (told : Told) (pass : SessionPass) (outbox : List ℕ) → Takes a.inbox q inbox → Steps a.pass q reply pass →
+    IsPosted result (stop_of (logged_of reply)) a.told (a.outbox ++ frame (reply_bytes reply)) told outbox → IsRound result a (stand told pass inbox outbox)
+round_posted None a q reply inbox told pass outbox takes s posts = on_answered a q reply inbox told pass takes s outbox posts.0 posts.1
+round_posted (Some out) a q reply inbox told pass outbox takes s posts = halts_answered a q reply inbox told pass takes s out posts
+
+pub round_read : (result : Option SessionOut) (a : Stand) (told : Told) (inbox outbox : List ℕ) → first_frame a.inbox ≡ None → too_long a.inbox ≡ None → IsRead result a.told a.outbox a.inbox told inbox outbox →
+    IsRound result a (stand told a.pass inbox outbox)
+round_read None a told inbox outbox no_frame no_length reads = subst (λ l. Onward a (stand told a.pass inbox l)) (sym reads.1) (on_read a told inbox reads.0)
+round_read (Some out) a told inbox outbox no_frame no_length reads = halts_read a out told no_frame no_length reads

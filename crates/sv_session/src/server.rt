@@ -90,8 +90,9 @@ impl<R: Wait, G: Gate> Server<'_, R, G> {
         full_replies_stay();
         let mut turn = 0;
         for _ in self.rt.forever() {
-            if let Some(out) = self.round(pass, end, buffers, &mut turn) {
-                return out;
+            match self.round(pass, end, buffers, &mut turn) {
+                None => {}
+                Some(out) => return out,
             }
         }
         unreachable!()
