@@ -1,6 +1,8 @@
-use crate::{MemLink, Side};
+//! Links for one thread.
+
 use std::process::Abort;
 use std::test::Fail;
+use sv_link::{MemLink, Side};
 
 /// Reads at most four bytes, and compares what the four places then hold.
 fn reads(rt: &impl Abort, link: &mut MemLink, side: Side, count: usize, holds: [u8; 4]) {
