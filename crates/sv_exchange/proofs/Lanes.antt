@@ -1,5 +1,5 @@
 -- One way of a connection: a message is sent, none waits, or the first that waits is taken. It serves both sides.
-use Rattle.std.proofs.Common.{◌≡◌, ℕ, ◌<◌, ◌≤◌, List, [], ◌∷◌, ◌++◌, length, map, option_map, Option, Some, None, Result, Ok, Err, refl, sym, ap, subst, ◌∙◌, append_assoc, append-nil, arith, length-append, inl, inr}
+use Rattle.std.proofs.Common.{◌≡◌, ℕ, ◌<◌, List, [], ◌∷◌, ◌++◌, length, map, option_map, Option, Some, None, Result, Ok, Err, refl, sym, ap, subst, ◌∙◌, append_assoc, append-nil, arith, length-append, inl, inr}
 use Rattle.std.specs.Prelude.{IfSome}
 use Rattle.std.proofs.lemmas.List.{drop-append-le}
 use Rattle.sv_frame.specs.Frames.{frame, frames_of, FitsFrame, first_frame, too_long}
@@ -7,11 +7,11 @@ use Rattle.sv_frame.specs.Streams.{TakesOff}
 use Rattle.sv_frame.specs.Answers.{Skips}
 use Rattle.sv_frame.proofs.Fronts.{first_frame-append, first_frame-shorter, first_frame-frame, no_frame_if_too_long, too_long-append, parts_of_long}
 use Rattle.sv_link.specs.declared.side.Side.{Side}
-use Rattle.sv_link.specs.Sides.{SideView, LinkView, new_side, other, side_of, with_side, unread, after_write}
-use Rattle.sv_exchange.specs.Streams.{not_taken, IsWithin, IsReadOn, IsFilled, IsSameToRead, IsSameLink, Wrote}
+use Rattle.sv_link.specs.Sides.{SideView, LinkView, new_side, side_of, unread, after_write}
+use Rattle.sv_exchange.specs.Streams.{not_taken, IsWithin, IsFilled, IsSameToRead, Wrote}
 use Rattle.sv_exchange.specs.Carried.{messages_in, IsStreamOf, waiting, IsLane}
 use Rattle.sv_exchange.proofs.Messages.{Spells, messages_are, carried_none, carried_last, carried_end, carried_first}
-use Rattle.sv_exchange.proofs.Onward.{side_with_same, side_with_other, same_side}
+use Rattle.sv_exchange.proofs.Onward.{side_with_same, same_side}
 
 -- ---- Without the messages
 

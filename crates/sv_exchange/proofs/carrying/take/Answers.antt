@@ -1,6 +1,5 @@
-use Rattle.std.proofs.Common.{◌≡◌, ◌<◌, ℕ, List, ◌++◌, length, sym, ap, subst, ◌∙◌}
+use Rattle.std.proofs.Common.{◌<◌, ℕ, List, ◌++◌, length, sym, ap, subst, ◌∙◌}
 use Rattle.sv_link.specs.Sides.{other, side_of, unread}
-use Rattle.sv_exchange.specs.Streams.{not_taken}
 use Rattle.sv_exchange.proofs.Messages.{Spells}
 use Rattle.sv_exchange.proofs.Lanes.{lane_same, waits_same, taken, none_waits, never_malformed, never_too_long}
 use Rattle.sv_exchange.proofs.carrying.take.Goals as goal
