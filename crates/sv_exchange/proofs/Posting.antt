@@ -1,11 +1,10 @@
 -- What was sent of the messages that wait, and how much room they leave.
-use Rattle.std.proofs.Common.{◌≡◌, ◌≢◌, ℕ, ◌+◌, ◌≤◌, Bool, true, false, List, [], ◌++◌, length, take, drop, refl, sym, ap, ◌∙◌, arith, length-append}
+use Rattle.std.proofs.Common.{ℕ, ◌+◌, ◌≤◌, Bool, true, false, List, [], ◌++◌, length, take, drop, refl, ap, arith, length-append}
 use Rattle.std.specs.Prelude.{if◌then◌else◌}
 use Rattle.std.proofs.lemmas.List.{take_all, take-append-drop}
-use mathlib.Core.List.{IsPrefix}
 use Rattle.sv_frame.specs.Frames.{frame}
 use Rattle.sv_frame.proofs.Fronts.{length-frame}
-use Rattle.sv_link.specs.Ends.{Told, Sends, sending}
+use Rattle.sv_link.specs.Ends.{Told, Sends}
 use Rattle.sv_link.specs.declared.ends.Sent.{Sent}
 use Rattle.sv_link.specs.declared.ends.Sent.TheVariants.{Whole, Failed, Memory}
 use Rattle.sv_exchange.specs.Outgoing.{Posts, LeavesUnsent}

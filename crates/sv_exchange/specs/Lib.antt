@@ -4,4 +4,3 @@ pub mod View
 pub mod Invariant
 pub mod Incoming
 pub mod Outgoing
-pub mod Worked

@@ -1,15 +1,18 @@
 //! Reading whole messages from what came.
 ghost use Rattle.std.specs.Prelude.{◌≡◌, ◌≢◌, ◌<◌, [], false, None, IfOk, length, option_map};
 ghost use Rattle.sv_link.specs.Ends.{EndReadCause};
+ghost use Rattle.sv_link.specs.Sides.{other, side_of, unread};
 ghost use Rattle.sv_frame.specs.Answers.{ReadsInto, Skips};
 ghost use Rattle.sv_frame.specs.Frames.{first_frame};
 ghost use Rattle.sv_exchange.specs.Incoming.{Reads, Takes, LeavesRoom, first_payload_of, IsReadAs};
+ghost use Rattle.sv_exchange.specs.Streams.{IsFilled, IsReadOn, IsWithin, not_taken};
 
+use crate::filling::fill;
 use crate::message::Message;
 use std::alloc::{AllocError, Global};
 use std::marker::Model;
 use sv_frame::{FrameReader, Next};
-use sv_link::{End, EndRead};
+use sv_link::{End, EndRead, MemLink, Side};
 use sv_wire::{Malformed, WireFault};
 
 /// What the first frame of an inbox is read as.
@@ -66,6 +69,16 @@ impl Inbox {
         ensures calm { E.calm end.old → (result ≢ EndRead.Failed) × E.calm end.new }
     {
         self.reader.read_from(end)
+    }
+
+    /// Reads what the other side wrote to a link, as much as there is and fits.
+    pub(crate) fn read_link(&mut self, link: &mut MemLink, side: Side)
+        requires { IsWithin (side_of link.old (other side)) }
+        ensures same { not_taken self.new (side_of link.new (other side)) ≡ not_taken self.old (side_of link.old (other side)) }
+        ensures filled { IsFilled self.new (unread (side_of link.new (other side))) }
+        ensures link { IsReadOn link.old link.new side }
+    {
+        fill(link, side, &mut self.reader);
     }
 
     /// Takes the first message off, where a whole frame has come. Any other answer takes nothing off.
