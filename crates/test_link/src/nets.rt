@@ -59,6 +59,46 @@ fn carries_over_tcp(rt: HostRuntime) -> Result<(), Fail> {
     Ok(())
 }
 
+/// Writes, and tells whether the bytes were taken.
+fn tries_to_write<E: End>(end: &mut E, bytes: &[u8]) -> bool
+    requires open { (E.told end.old).closed ≡ false }
+    requires some { 0 < length bytes.now }
+    ensures side { ((E.told end.new).side ≡ (E.told end.old).side) × ((E.told end.new).pair ≡ (E.told end.old).pair) }
+    ensures open { (E.told end.new).closed ≡ false }
+{
+    match end.write(bytes) {
+        EndWrote::Took(_) => true,
+        EndWrote::Failed => false,
+        EndWrote::Memory => false,
+    }
+}
+
+/// Reads, and goes on whatever came.
+fn tries_to_read<E: End>(end: &mut E)
+    requires { (E.told end.old).closed ≡ false }
+    ensures side { ((E.told end.new).side ≡ (E.told end.old).side) × ((E.told end.new).pair ≡ (E.told end.old).pair) }
+    ensures open { (E.told end.new).closed ≡ false }
+{
+    match end.read(&mut [0; 4]) {
+        EndRead::Got(_) => {}
+        EndRead::Ended => {}
+        EndRead::Failed => {}
+        EndRead::Memory => {}
+    }
+}
+
+/// One end writes, and the other reads where that was taken.
+fn passes<E: End>(from: &mut E, to: &mut E)
+    requires open { ((E.told from.old).closed ≡ false) × ((E.told to.old).closed ≡ false) }
+    ensures from { ((E.told from.new).side ≡ (E.told from.old).side) × ((E.told from.new).pair ≡ (E.told from.old).pair) }
+    ensures to { ((E.told to.new).side ≡ (E.told to.old).side) × ((E.told to.new).pair ≡ (E.told to.old).pair) }
+    ensures open { ((E.told from.new).closed ≡ false) × ((E.told to.new).closed ≡ false) }
+{
+    if tries_to_write(from, &[1, 2]) {
+        tries_to_read(to);
+    }
+}
+
 /// Calls that fail, 0 for none: of the net, of the server's end, of the client's end; and the settling in which a byte is changed.
 #[derive(Clone, Copy)]
 struct Failing {
@@ -83,13 +123,8 @@ fn settles<R: Wait + Sync>(
     let Pair::Made(mut server, mut client) = net.pair() else {
         return Ok(None);
     };
-    let mut into = [0; 4];
-    if client.write(&[1, 2]) == EndWrote::Took(2) {
-        server.read(&mut into);
-    }
-    if server.write(&[3]) == EndWrote::Took(1) {
-        client.read(&mut into);
-    }
+    passes(&mut client, &mut server);
+    passes(&mut server, &mut client);
     Ok(Some(net.settle(server, client, failing.cut)))
 }
 
