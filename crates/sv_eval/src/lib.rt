@@ -5,8 +5,6 @@ mod evaluation;
 mod outcome;
 mod run;
 mod serial;
-#[cfg(test)]
-mod tests;
 
 pub use evaluation::eval;
 pub use outcome::Outcome;

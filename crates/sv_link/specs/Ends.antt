@@ -1,5 +1,5 @@
 -- What an end of a connection tells, and what its calls change of it.
-use Rattle.std.specs.Prelude.{◌≡◌, ℕ, ◌<◌, ◌≤◌, Bool, true, false, List, [], ◌++◌, length, take}
+use Rattle.std.specs.Prelude.{◌≡◌, ◌≢◌, ℕ, ◌<◌, ◌≤◌, Bool, true, false, List, [], ◌++◌, length, take}
 use Rattle.sv_bytes.specs.Faults.{Rose}
 use Rattle.sv_link.specs.declared.side.Side.{Side}
 use Rattle.sv_link.specs.declared.ends.EndRead.{EndRead}
@@ -57,9 +57,10 @@ abbrev pub SentCause : ℕ → ℕ → Sent → Type 0
 SentCause before now sent.Failed = Rose before now
 SentCause before now _ = now ≡ before
 
--- the front of these bytes was sent, all of them where the answer is Whole
+-- the front of these bytes was sent: all of them just where the answer is Whole
 pub record Sends (old : Told) (bytes : List ℕ) (answer : Sent) (new : Told) : Type 0 where
   pub size : ℕ
   pub within : size ≤ length bytes
   pub grew : new ≡ sending old (take size bytes)
   pub whole : answer ≡ sent.Whole → size ≡ length bytes
+  pub part : answer ≢ sent.Whole → size < length bytes

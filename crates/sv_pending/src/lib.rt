@@ -6,8 +6,6 @@ mod made;
 mod overlay;
 mod pending;
 mod redo;
-#[cfg(test)]
-mod tests;
 
 pub use laws::views_and_results_have_the_numbers_of_their_world;
 pub use overlay::{Overlay, PendingItem};

@@ -9,7 +9,7 @@ use crate::expression::{closed_expr_at, expr_at, start};
 use crate::parts::{Comparison, Joint};
 use crate::token::Mark;
 use crate::{ParseFault, TextFault};
-use std::alloc::{AllocError, Global};
+use std::alloc::Global;
 use sv_world::{Boxed, Cond, Expr, ObjectId};
 
 fn with_comparison(comparison: Comparison, left: Expr, right: Expr) -> Cond
@@ -47,15 +47,13 @@ fn comparison_at(cursor: &Cursor<'_>) -> Result<Comparison, TextFault>
 }
 
 #[inline(always)]
-fn with_joint(alloc: Global, joint: Joint, left: Cond, right: Cond) -> Result<Cond, AllocError>
-    ensures { IfOk result (λ c. c ≡ with_joint joint left right) }
+fn with_joint(joint: Joint, left: Boxed<Cond>, right: Boxed<Cond>) -> Cond
+    ensures { result ≡ with_joint joint left right }
 {
-    let left = Boxed::new(alloc, left)?;
-    let right = Boxed::new(alloc, right)?;
-    Ok(match joint {
+    match joint {
         Joint::And => Cond::And(left, right),
         Joint::Or => Cond::Or(left, right),
-    })
+    }
 }
 
 fn joint_of(mark: Mark) -> Option<Joint>
@@ -131,6 +129,23 @@ pub fn cond_at(
     Err(ParseFault::Text(cursor.unexpected()))
 }
 
+// As an operand of an expression, it is boxed before what stands behind it is read.
+#[cycle(condition)]
+fn boxed_cond_at(
+    alloc: Global,
+    depth: u8,
+    nodes: usize,
+    reads: &[ObjectId],
+    cursor: &mut Cursor<'_>,
+) -> Result<(Boxed<Cond>, usize), ParseFault>
+    requires { length reads.now ≤ 16 }
+    ensures gives { Gives (λ x. (x.0, x.1, cursor.new)) result (cond_at reads.now depth nodes cursor.old) }
+    ensures few { IfOk result (λ x. x.1 ≤ 64) }
+{
+    let (cond, nodes) = cond_at(alloc, depth, nodes, reads, cursor)?;
+    Ok((Boxed::new(alloc, cond)?, nodes))
+}
+
 #[cycle(condition)]
 #[tactic(auto, unfolding(crate::specs::Reading::join_by))]
 fn join_at(
@@ -144,7 +159,7 @@ fn join_at(
     ensures gives { Gives (λ x. (x.0, x.1, cursor.new)) result (join_by (cond_at reads.now depth) nodes cursor.old) }
     ensures few { IfOk result (λ x. x.1 ≤ 64) }
 {
-    let (left, nodes) = cond_at(alloc, depth, nodes, reads, cursor)?;
+    let (left, nodes) = boxed_cond_at(alloc, depth, nodes, reads, cursor)?;
     let joint = joint_at(cursor)?;
     cursor.advance();
     joined_at(alloc, joint, left, depth, nodes, reads, cursor)
@@ -155,7 +170,7 @@ fn join_at(
 fn joined_at(
     alloc: Global,
     joint: Joint,
-    left: Cond,
+    left: Boxed<Cond>,
     depth: u8,
     nodes: usize,
     reads: &[ObjectId],
@@ -166,7 +181,7 @@ fn joined_at(
     ensures few { IfOk result (λ x. x.1 ≤ 64) }
 {
     let (right, nodes) = closed_cond_at(alloc, depth, nodes, reads, cursor)?;
-    Ok((with_joint(alloc, joint, left, right)?, nodes))
+    Ok((with_joint(joint, left, right), nodes))
 }
 
 /// A condition and a parenthesis behind it.
@@ -178,12 +193,12 @@ fn closed_cond_at(
     nodes: usize,
     reads: &[ObjectId],
     cursor: &mut Cursor<'_>,
-) -> Result<(Cond, usize), ParseFault>
+) -> Result<(Boxed<Cond>, usize), ParseFault>
     requires { length reads.now ≤ 16 }
     ensures gives { Gives (λ x. (x.0, x.1, cursor.new)) result (closed_by (cond_at reads.now depth) marks.Close nodes cursor.old) }
     ensures few { IfOk result (λ x. x.1 ≤ 64) }
 {
-    let (cond, nodes) = cond_at(alloc, depth, nodes, reads, cursor)?;
+    let (cond, nodes) = boxed_cond_at(alloc, depth, nodes, reads, cursor)?;
     cursor.expect(Mark::Close)?;
     Ok((cond, nodes))
 }
@@ -201,6 +216,6 @@ fn not_at(
     ensures gives { Gives (λ x. (x.0, x.1, cursor.new)) result (not_by (cond_at reads.now depth) nodes cursor.old) }
     ensures few { IfOk result (λ x. x.1 ≤ 64) }
 {
-    let (inner, nodes) = cond_at(alloc, depth, nodes, reads, cursor)?;
-    Ok((Cond::Not(Boxed::new(alloc, inner)?), nodes))
+    let (inner, nodes) = boxed_cond_at(alloc, depth, nodes, reads, cursor)?;
+    Ok((Cond::Not(inner), nodes))
 }

@@ -8,7 +8,7 @@ use crate::header::slot_at;
 use crate::parts::Op;
 use crate::token::{Mark, Token};
 use crate::{ParseFault, TextCause, TextFault};
-use std::alloc::{AllocError, Global};
+use std::alloc::Global;
 use sv_world::{Boxed, Expr, ObjectId};
 
 /// Starts a node, and counts it.
@@ -28,12 +28,10 @@ pub fn start(cursor: &Cursor<'_>, depth: u8, nodes: usize) -> Result<usize, Text
 }
 
 #[inline(always)]
-fn with_op(alloc: Global, op: Op, left: Expr, right: Expr) -> Result<Expr, AllocError>
-    ensures { IfOk result (λ e. e ≡ with_op op left right) }
+fn with_op(op: Op, left: Boxed<Expr>, right: Boxed<Expr>) -> Expr
+    ensures { result ≡ with_op op left right }
 {
-    let left = Boxed::new(alloc, left)?;
-    let right = Boxed::new(alloc, right)?;
-    Ok(match op {
+    match op {
         Op::Add => Expr::Add(left, right),
         Op::Sub => Expr::Sub(left, right),
         Op::Mul => Expr::Mul(left, right),
@@ -41,7 +39,7 @@ fn with_op(alloc: Global, op: Op, left: Expr, right: Expr) -> Result<Expr, Alloc
         Op::Rem => Expr::Rem(left, right),
         Op::Min => Expr::Min(left, right),
         Op::Max => Expr::Max(left, right),
-    })
+    }
 }
 
 fn op_of(mark: Mark) -> Option<Op>
@@ -116,6 +114,23 @@ pub fn expr_at(
     Ok((leaf, nodes))
 }
 
+// An operand is boxed before what stands behind it is read: two owned trees at each `?` cost a proof of minutes.
+#[cycle(expression)]
+fn boxed_expr_at(
+    alloc: Global,
+    depth: u8,
+    nodes: usize,
+    reads: &[ObjectId],
+    cursor: &mut Cursor<'_>,
+) -> Result<(Boxed<Expr>, usize), ParseFault>
+    requires { length reads.now ≤ 16 }
+    ensures gives { Gives (λ x. (x.0, x.1, cursor.new)) result (expr_at reads.now depth nodes cursor.old) }
+    ensures few { IfOk result (λ x. x.1 ≤ 64) }
+{
+    let (expr, nodes) = expr_at(alloc, depth, nodes, reads, cursor)?;
+    Ok((Boxed::new(alloc, expr)?, nodes))
+}
+
 #[cycle(expression)]
 #[tactic(auto, unfolding(crate::specs::Reading::pair_by))]
 fn pair_at(
@@ -129,12 +144,12 @@ fn pair_at(
     ensures gives { Gives (λ x. (x.0, x.1, cursor.new)) result (pair_by (expr_at reads.now depth) nodes cursor.old) }
     ensures few { IfOk result (λ x. x.1 ≤ 64) }
 {
-    let (left, nodes) = expr_at(alloc, depth, nodes, reads, cursor)?;
+    let (left, nodes) = boxed_expr_at(alloc, depth, nodes, reads, cursor)?;
     let op = op_at(cursor)?;
     cursor.advance();
-    let (right, nodes) = expr_at(alloc, depth, nodes, reads, cursor)?;
+    let (right, nodes) = boxed_expr_at(alloc, depth, nodes, reads, cursor)?;
     cursor.expect(Mark::Close)?;
-    Ok((with_op(alloc, op, left, right)?, nodes))
+    Ok((with_op(op, left, right), nodes))
 }
 
 /// An expression and a sign behind it.

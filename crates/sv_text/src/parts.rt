@@ -1,6 +1,6 @@
 //! What stands between the two parts of an expression or condition.
 
-#[derive(Clone, Copy, Debug, Drop)]
+#[derive(Clone, Copy, Drop)]
 pub enum Op {
     Add,
     Sub,
@@ -11,14 +11,14 @@ pub enum Op {
     Max,
 }
 
-#[derive(Clone, Copy, Debug, Drop)]
+#[derive(Clone, Copy, Drop)]
 pub enum Comparison {
     Equal,
     Less,
     LessEqual,
 }
 
-#[derive(Clone, Copy, Debug, Drop)]
+#[derive(Clone, Copy, Drop)]
 pub enum Joint {
     And,
     Or,

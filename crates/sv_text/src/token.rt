@@ -3,7 +3,7 @@
 use crate::TextCause;
 
 /// A word or sign of the language, or the end of the text.
-#[derive(Clone, Copy, Debug, Drop, PartialEq, Eq)]
+#[derive(Clone, Copy, Drop, PartialEq, Eq)]
 pub enum Mark {
     Reads,
     Writes,
@@ -36,7 +36,7 @@ pub enum Mark {
     End,
 }
 
-#[derive(Clone, Copy, Debug, Drop)]
+#[derive(Clone, Copy, Drop)]
 pub enum Token {
     Number(i64),
     /// A number that is written as numbers are, but is outside i64.
@@ -48,7 +48,7 @@ pub enum Token {
     Bad(TextCause),
 }
 
-#[derive(Clone, Copy, Debug, Drop)]
+#[derive(Clone, Copy, Drop)]
 pub struct Lexeme {
     /// The offset of its first byte in the text.
     pub place: u32,
@@ -58,7 +58,7 @@ pub struct Lexeme {
 }
 
 /// What is left of a text: tokens and its end, its end alone, or nothing.
-#[derive(Clone, Copy, Debug, Drop)]
+#[derive(Clone, Copy, Drop)]
 pub enum Left {
     Tokens,
     End,
@@ -66,7 +66,7 @@ pub enum Left {
 }
 
 /// The token that stands next. Behind the end of the text this is one that may stand nowhere.
-#[derive(Clone, Copy, Debug, Drop)]
+#[derive(Clone, Copy, Drop)]
 pub struct Ahead {
     pub next: Lexeme,
     /// Where the bytes behind it begin.

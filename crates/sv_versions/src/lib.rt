@@ -9,6 +9,3 @@ mod undo;
 
 pub use store::Versions;
 pub use undo::Undo;
-
-#[cfg(test)]
-mod tests;

@@ -8,6 +8,3 @@ mod watch;
 pub use change::{Change, Line};
 pub use line::told_line;
 pub use watch::{Callback, Watch};
-
-#[cfg(test)]
-mod tests;

@@ -25,6 +25,21 @@ fn compare_next<'a>(
     Ok((compared(comparison, left, right), nodes, rest))
 }
 
+// As an operand of an expression, it is boxed before what stands behind it is read.
+#[cycle(conds)]
+fn boxed_cond_next<'a>(
+    alloc: Global,
+    depth: u8,
+    nodes: u8,
+    bytes: &'a [u8],
+) -> Result<(Boxed<Cond>, u8, &'a [u8]), ReadFault>
+    ensures gives { Gives (λ x. (x.0, x.1, x.2.now)) result (cond_at depth nodes bytes.now) }
+    ensures few { IfOk result (λ x. x.1 ≤ 64) }
+{
+    let (cond, nodes, rest) = cond_next(alloc, depth, nodes, bytes)?;
+    Ok((Boxed::new(alloc, cond)?, nodes, rest))
+}
+
 #[cycle(conds)]
 #[tactic(auto, unfolding(crate::specs::Trees::join_at))]
 fn join_next<'a>(
@@ -37,9 +52,9 @@ fn join_next<'a>(
     ensures gives { Gives (λ x. (x.0, x.1, x.2.now)) result (join_at (λ n rest. cond_at depth n rest) connective nodes bytes.now) }
     ensures few { IfOk result (λ x. x.1 ≤ 64) }
 {
-    let (left, nodes, rest) = cond_next(alloc, depth, nodes, bytes)?;
-    let (right, nodes, rest) = cond_next(alloc, depth, nodes, rest)?;
-    Ok((both(alloc, connective, left, right)?, nodes, rest))
+    let (left, nodes, rest) = boxed_cond_next(alloc, depth, nodes, bytes)?;
+    let (right, nodes, rest) = boxed_cond_next(alloc, depth, nodes, rest)?;
+    Ok((both(connective, left, right), nodes, rest))
 }
 
 #[cycle(conds)]
@@ -53,8 +68,8 @@ fn not_next<'a>(
     ensures gives { Gives (λ x. (x.0, x.1, x.2.now)) result (not_at (λ n rest. cond_at depth n rest) nodes bytes.now) }
     ensures few { IfOk result (λ x. x.1 ≤ 64) }
 {
-    let (inner, nodes, rest) = cond_next(alloc, depth, nodes, bytes)?;
-    Ok((Cond::Not(Boxed::new(alloc, inner)?), nodes, rest))
+    let (inner, nodes, rest) = boxed_cond_next(alloc, depth, nodes, bytes)?;
+    Ok((Cond::Not(inner), nodes, rest))
 }
 
 #[cycle(conds)]

@@ -7,7 +7,7 @@ use crate::fault::ReadFault;
 use crate::fields::{byte_of, i64_of};
 use crate::nodes::{ExprKind, Operator, expr_node, joined};
 use std::alloc::Global;
-use sv_world::Expr;
+use sv_world::{Boxed, Expr};
 
 #[tactic(auto, unfolding(crate::specs::Trees::lit_at))]
 fn lit_next(nodes: u8, bytes: &[u8]) -> Result<(Expr, u8, &[u8]), ReadFault>
@@ -28,6 +28,21 @@ fn attr_next(nodes: u8, bytes: &[u8]) -> Result<(Expr, u8, &[u8]), ReadFault>
     Ok((Expr::Attr { slot, attr }, nodes, rest))
 }
 
+// An operand is boxed before what stands behind it is read: two owned trees at each `?` cost a proof of minutes.
+#[cycle(exprs)]
+fn boxed_expr_next<'a>(
+    alloc: Global,
+    depth: u8,
+    nodes: u8,
+    bytes: &'a [u8],
+) -> Result<(Boxed<Expr>, u8, &'a [u8]), ReadFault>
+    ensures gives { Gives (λ x. (x.0, x.1, x.2.now)) result (expr_at depth nodes bytes.now) }
+    ensures few { IfOk result (λ x. x.1 ≤ 64) }
+{
+    let (expr, nodes, rest) = expr_next(alloc, depth, nodes, bytes)?;
+    Ok((Boxed::new(alloc, expr)?, nodes, rest))
+}
+
 #[cycle(exprs)]
 #[tactic(auto, unfolding(crate::specs::Trees::pair_at))]
 fn pair_next<'a>(
@@ -40,9 +55,9 @@ fn pair_next<'a>(
     ensures gives { Gives (λ x. (x.0, x.1, x.2.now)) result (pair_at (λ n rest. expr_at depth n rest) operator nodes bytes.now) }
     ensures few { IfOk result (λ x. x.1 ≤ 64) }
 {
-    let (left, nodes, rest) = expr_next(alloc, depth, nodes, bytes)?;
-    let (right, nodes, rest) = expr_next(alloc, depth, nodes, rest)?;
-    Ok((joined(alloc, operator, left, right)?, nodes, rest))
+    let (left, nodes, rest) = boxed_expr_next(alloc, depth, nodes, bytes)?;
+    let (right, nodes, rest) = boxed_expr_next(alloc, depth, nodes, rest)?;
+    Ok((joined(operator, left, right), nodes, rest))
 }
 
 #[cycle(exprs)]

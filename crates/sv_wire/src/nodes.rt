@@ -1,11 +1,10 @@
 //! The kinds of the nodes of an action's body.
-ghost use Rattle.std.specs.Prelude.{◌≡◌, ◌<◌, IfOk, OnOk};
+ghost use Rattle.std.specs.Prelude.{◌≡◌, ◌<◌, OnOk};
 ghost use Rattle.sv_wire.specs.Steps.{Gives};
 ghost use Rattle.sv_wire.specs.Nodes.{room_at, node_at, expr_kind_of, cond_kind_of, stmt_kind_of, expr_by, compare_by, join_by};
 
 use crate::fault::{ReadFault, WireCause, stop_at};
 use crate::fields::byte_of;
-use std::alloc::{AllocError, Global};
 use sv_world::{Boxed, Cond, Expr};
 
 /// What joins two expressions to one.
@@ -153,17 +152,10 @@ pub fn stmt_node(depth: u8, nodes: u8, bytes: &[u8]) -> Result<(StmtKind, &[u8])
     Ok((kind, rest))
 }
 
-pub fn joined(
-    alloc: Global,
-    operator: Operator,
-    left: Expr,
-    right: Expr,
-) -> Result<Expr, AllocError>
-    ensures { IfOk result (λ e. e ≡ expr_by operator left right) }
+pub fn joined(operator: Operator, left: Boxed<Expr>, right: Boxed<Expr>) -> Expr
+    ensures { result ≡ expr_by operator left right }
 {
-    let left = Boxed::new(alloc, left)?;
-    let right = Boxed::new(alloc, right)?;
-    Ok(match operator {
+    match operator {
         Operator::Add => Expr::Add(left, right),
         Operator::Sub => Expr::Sub(left, right),
         Operator::Mul => Expr::Mul(left, right),
@@ -171,7 +163,7 @@ pub fn joined(
         Operator::Rem => Expr::Rem(left, right),
         Operator::Min => Expr::Min(left, right),
         Operator::Max => Expr::Max(left, right),
-    })
+    }
 }
 
 pub fn compared(comparison: Comparison, left: Expr, right: Expr) -> Cond
@@ -184,18 +176,11 @@ pub fn compared(comparison: Comparison, left: Expr, right: Expr) -> Cond
     }
 }
 
-pub fn both(
-    alloc: Global,
-    connective: Connective,
-    left: Cond,
-    right: Cond,
-) -> Result<Cond, AllocError>
-    ensures { IfOk result (λ t. t ≡ join_by connective left right) }
+pub fn both(connective: Connective, left: Boxed<Cond>, right: Boxed<Cond>) -> Cond
+    ensures { result ≡ join_by connective left right }
 {
-    let left = Boxed::new(alloc, left)?;
-    let right = Boxed::new(alloc, right)?;
-    Ok(match connective {
+    match connective {
         Connective::And => Cond::And(left, right),
         Connective::Or => Cond::Or(left, right),
-    })
+    }
 }

@@ -12,8 +12,6 @@ mod measure;
 mod names;
 mod shared;
 mod short;
-#[cfg(test)]
-mod tests;
 mod text;
 mod world;
 

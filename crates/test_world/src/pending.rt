@@ -1,0 +1,196 @@
+//! Tests of pending actions and what is computed again.
+ghost use Rattle.std.specs.Prelude.{◌≡◌, ◌<◌, IfOk};
+
+use std::alloc::{AllocError, Global};
+use std::test::Fail;
+use sv_pending::{Overlay, Pending};
+use sv_versions::Versions;
+use sv_world::{
+    Action, Boxed, Expr, List, ObjectId, Point, Reads, Shape, Shared, Stmt, Value, check_action,
+};
+
+const FIRST: ObjectId = ObjectId(0);
+
+const SECOND: ObjectId = ObjectId(1);
+
+const TWO_OBJECTS: Shape = Shape {
+    objects: 2,
+    attrs: 1,
+};
+
+/// What an action does to the first object: a sum, a product, or nothing, as it is only read, or is written as it is after both were read.
+#[derive(Clone, Copy)]
+enum Deed {
+    Plus(i64),
+    Times(i64),
+    Look,
+    Keep,
+}
+
+fn action(
+    alloc: Global,
+    reads: &[ObjectId],
+    mask: u16,
+    body: List<Stmt>,
+) -> Result<Action, AllocError> {
+    Ok(Action {
+        reads: Reads::from_slice(alloc, reads)?,
+        mask,
+        origin: Point { x: 0, y: 0 },
+        body: Shared::from_list(body)?,
+    })
+}
+
+fn present(alloc: Global) -> Result<Boxed<Expr>, AllocError> {
+    Boxed::new(alloc, Expr::Attr { slot: 0, attr: 0 })
+}
+
+fn set(alloc: Global, expr: Expr) -> Result<List<Stmt>, AllocError> {
+    let mut body = List::new(alloc);
+    body.push(Stmt::Set {
+        slot: 0,
+        attr: 0,
+        expr,
+    })?;
+    Ok(body)
+}
+
+fn sum(alloc: Global, by: i64) -> Result<Expr, AllocError> {
+    let number = Boxed::new(alloc, Expr::Lit(by))?;
+    Ok(Expr::Add(present(alloc)?, number))
+}
+
+fn product(alloc: Global, by: i64) -> Result<Expr, AllocError> {
+    let number = Boxed::new(alloc, Expr::Lit(by))?;
+    Ok(Expr::Mul(present(alloc)?, number))
+}
+
+fn action_of(alloc: Global, deed: Deed) -> Result<Action, AllocError> {
+    match deed {
+        Deed::Plus(by) => action(alloc, &[FIRST], 1, set(alloc, sum(alloc, by)?)?),
+        Deed::Times(by) => action(alloc, &[FIRST], 1, set(alloc, product(alloc, by)?)?),
+        Deed::Look => action(alloc, &[FIRST], 0, List::new(alloc)),
+        Deed::Keep => action(alloc, &[FIRST, SECOND], 1, List::new(alloc)),
+    }
+}
+
+fn hold(alloc: Global, versions: &mut Versions, pos: u32, number: i64) -> Result<(), AllocError>
+    requires { 0 < versions.old.shape.objects }
+    ensures { versions.new.shape ≡ versions.old.shape }
+{
+    let value = Value::from_slice(alloc, &[number])?;
+    versions.put(FIRST, pos, value)?;
+    Ok(())
+}
+
+/// The first of two objects is held.
+fn holding(alloc: Global, number: i64) -> Result<Versions, AllocError>
+    ensures { IfOk result (λ versions. versions.shape ≡ record { objects = 2; attrs = 1 }) }
+{
+    let mut versions = Versions::new(alloc, TWO_OBJECTS)?;
+    hold(alloc, &mut versions, 0, number)?;
+    Ok(versions)
+}
+
+/// One more action is made.
+fn make(
+    alloc: Global,
+    pending: &mut Pending,
+    versions: &Versions,
+    seq: u32,
+    deed: Deed,
+) -> Result<(), Fail>
+    requires { versions.now.shape ≡ pending.old.shape }
+    ensures { pending.new.shape ≡ pending.old.shape }
+{
+    let action = action_of(alloc, deed)?;
+    if check_action(versions.shape(), &action).is_err() || pending.len() >= 8 {
+        return Err(Fail::new("the action is not made"));
+    }
+    pending.add(seq, action, versions)?;
+    Ok(())
+}
+
+/// The number that the pending actions leave of the first object.
+fn shown(pending: &Pending) -> Option<i64> {
+    match pending.overlay(FIRST) {
+        Overlay::Kept(value) => value.as_slice().first().copied(),
+        Overlay::Unwritten | Overlay::Unknown => None,
+    }
+}
+
+/// The number of the first action, and the first number of its result.
+fn front(pending: &Pending) -> Option<(u32, Option<i64>)> {
+    let front = pending.front()?;
+    let number = match front.kept {
+        Some([value, ..]) => value.as_slice().first().copied(),
+        _ => None,
+    };
+    Some((front.seq, number))
+}
+
+/// How many values the first action is to write, where its result is known.
+fn front_values(pending: &Pending) -> Option<usize> {
+    let front = pending.front()?;
+    front.kept.map(|values| values.len())
+}
+
+/// Three actions, each on what the one before it leaves.
+fn make_three(alloc: Global, pending: &mut Pending, versions: &Versions) -> Result<bool, Fail>
+    requires { versions.now.shape ≡ pending.old.shape }
+    ensures { pending.new.shape ≡ pending.old.shape }
+{
+    make(alloc, pending, versions, 1, Deed::Plus(1))?;
+    let first = shown(pending) == Some(11);
+    make(alloc, pending, versions, 2, Deed::Times(3))?;
+    let second = shown(pending) == Some(33);
+    make(alloc, pending, versions, 3, Deed::Plus(-5))?;
+    Ok(first && second && shown(pending) == Some(28))
+}
+
+/// The first action is settled, and the others are computed again.
+fn settle(pending: &mut Pending, versions: &Versions) -> Result<(), AllocError>
+    requires { versions.now.shape ≡ pending.old.shape }
+{
+    if pending.len() > 0 {
+        pending.settle();
+    }
+    pending.reconcile(versions)
+}
+
+#[test]
+fn reconciles_conflict(rt: HostRuntime) -> Result<(), Fail> {
+    let mut versions = holding(rt.alloc(), 10)?;
+    let mut pending = Pending::new(rt.alloc(), TWO_OBJECTS);
+    assert!(rt; make_three(rt.alloc(), &mut pending, &versions)?);
+    hold(rt.alloc(), &mut versions, 2, 21)?;
+    settle(&mut pending, &versions)?;
+    let copy = pending.copy()?;
+    assert!(rt; copy.len() == 2 && front(&copy) == Some((2, Some(63))));
+    assert!(rt; shown(&copy) == Some(58));
+    Ok(())
+}
+
+#[test]
+fn keeps_nothing_of_what_writes_nothing(rt: HostRuntime) -> Result<(), Fail> {
+    let mut versions = Versions::new(rt.alloc(), TWO_OBJECTS)?;
+    let mut pending = Pending::new(rt.alloc(), TWO_OBJECTS);
+    make(rt.alloc(), &mut pending, &versions, 1, Deed::Look)?;
+    assert!(rt; pending.len() == 1 && front_values(&pending).is_none());
+    hold(rt.alloc(), &mut versions, 0, 10)?;
+    pending.reconcile(&versions)?;
+    assert!(rt; front_values(&pending) == Some(0));
+    assert!(rt; matches!(pending.overlay(FIRST), Overlay::Unwritten));
+    Ok(())
+}
+
+#[test]
+fn last_writer_decides(rt: HostRuntime) -> Result<(), Fail> {
+    let versions = holding(rt.alloc(), 10)?;
+    let mut pending = Pending::new(rt.alloc(), TWO_OBJECTS);
+    make(rt.alloc(), &mut pending, &versions, 1, Deed::Plus(1))?;
+    make(rt.alloc(), &mut pending, &versions, 2, Deed::Keep)?;
+    assert!(rt; matches!(pending.overlay(FIRST), Overlay::Unknown));
+    assert!(rt; matches!(pending.overlay(SECOND), Overlay::Unwritten));
+    Ok(())
+}
