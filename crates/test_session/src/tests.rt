@@ -16,7 +16,7 @@ use sv_session::{SessionOut, serve_session};
 /// What comes, in pieces, the outcome, and the frames of the replies.
 type Row<'a> = (&'a [&'a [u8]], SessionOut, &'a [&'a [u8]]);
 
-fn joined(alloc: Global, pieces: &[&[u8]]) -> Result<Vec<u8>, Fail> {
+pub fn joined(alloc: Global, pieces: &[&[u8]]) -> Result<Vec<u8>, Fail> {
     let mut bytes = Vec::new(alloc);
     for piece in pieces {
         bytes.extend_from_slice(piece)?;
@@ -96,11 +96,7 @@ const ROWS: &[Row] = &[
     // A frame that the end cuts off.
     (&[JOIN_0, &[0]], SessionOut::Closed, &[WELCOME]),
     (&[JOIN_0, &[0, 0, 0, 1]], SessionOut::Closed, &[WELCOME]),
-    (
-        &[POLL, &[0, 1, 0, 0, 4]],
-        SessionOut::Closed,
-        &[REFUSED_2],
-    ),
+    (&[POLL, &[0, 1, 0, 0, 4]], SessionOut::Closed, &[REFUSED_2]),
     // Lengths over the limit.
     (&[&[0, 1, 0, 1]], SessionOut::Malformed, &[REFUSED_1]),
     (
