@@ -19,7 +19,6 @@ use Rattle.sv_journal.specs.declared.entry.Logged.{Logged}
 use Rattle.sv_journal.specs.declared.entry.Logged.TheVariants as logged
 use Rattle.sv_journal.specs.History.{Authored, accepted, full_reply}
 use Rattle.sv_journal.specs.Sessions.{is_end}
-use Rattle.sv_journal.specs.Answer.{Rules}
 use Rattle.sv_journal.specs.Laws.{FullRepliesStay, LegalRelaysNameAccepted}
 use Rattle.sv_client.specs.declared.trace.Trace.{Trace}
 use Rattle.sv_client.specs.Traces.{requests_of}
@@ -70,7 +69,7 @@ stops A logged.Idle reason e = absurd (none-some reason e)
 
 -- ---- The session
 
-module _ (stay : FullRepliesStay) (name : LegalRelaysNameAccepted) (journal : List Entry) (r : Rules) (L : Trace) (s : ℕ) (x : Over) (d : IsSessionDone journal r L s x) where
+module _ (stay : FullRepliesStay) (name : LegalRelaysNameAccepted) (journal : List Entry) (L : Trace) (s : ℕ) (x : Over) (d : IsSessionDone journal L s x) where
   abbrev pub answered : List Entry
   answered = d.served.served.answered
 

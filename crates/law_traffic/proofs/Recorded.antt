@@ -18,7 +18,7 @@ use Rattle.sv_scenario.specs.declared.scenario.Plan.{Plan}
 use Rattle.sv_scenario.specs.declared.scenario.Scenario.{Scenario}
 use Rattle.sv_scenario.specs.Sessions.{session_count}
 use Rattle.sv_system.specs.Fits.{is_join_of, has_session, is_owned, FitsIn, FitsOne, Fits}
-use Rattle.sv_system.specs.Records.{rules_of, ends_in, EachTrace, IsRecordOf}
+use Rattle.sv_system.specs.Records.{ends_in, EachTrace, IsRecordOf}
 use Rattle.sv_system.proofs.Asked.{begun-or_not, any-reverse}
 use Rattle.sv_asked.specs.Asked.{RepliesAreMessages}
 use Rattle.sv_asked.proofs.Every.{each-append, each-reverse}
@@ -53,8 +53,8 @@ module _ (stay : FullRepliesStay) (name : LegalRelaysNameAccepted) (messages : R
       let n = s - L.first in
       let found = w.done n (omega (arith, b.0, b.1)) in
       let is : L.first + n ≡ s = omega (arith, b.0) in
-      let d = subst (λ (m : ℕ). IsSessionDone journal (rules_of scenario) L m found.0) is found.1.1 in
-      fits_of stay name journal (rules_of scenario) L s found.0 d (sendable stay name messages scenario journal Ls sessions good run s)
+      let d = subst (λ (m : ℕ). IsSessionDone journal L m found.0) is found.1.1 in
+      fits_of stay name journal L s found.0 d (sendable stay name messages scenario journal Ls sessions good run s)
 
   fits_each : (plans : List Plan) (Ms : List Trace) → EachTrace (IsWellDone scenario journal sessions) plans Ms → AllByRecursion (FitsOne scenario.world.shape (reverse journal)) Ms
   fits_each [] [] e = tt
@@ -81,12 +81,12 @@ module _ (stay : FullRepliesStay) (name : LegalRelaysNameAccepted) (messages : R
       let o = own stay name messages scenario journal Ls sessions good run s low in
       let x = session_of stay name messages scenario journal Ls sessions good run s o in
       let d = done_of stay name messages scenario journal Ls sessions good run s o in
-      let a = answered stay name journal (rules_of scenario) o.trace s x d in
-      let j = just stay name journal (rules_of scenario) o.trace s x d in
-      let ours = all_ours s journal a (entry_of s requests.End logged.Bye) j (others stay name journal (rules_of scenario) o.trace s x d) in
+      let a = answered stay name journal o.trace s x d in
+      let j = just stay name journal o.trace s x d in
+      let ours = all_ours s journal a (entry_of s requests.End logged.Bye) j (others stay name journal o.trace s x d) in
       subst (AllByRecursion (λ (e : Entry). is_owned Ls e ≡ true)) (sym j)
       (each-append (λ (e : Entry). is_owned Ls e ≡ true) a (entry_of s requests.End logged.Bye ∷ [])
-      (all_owned s o a (later stay name journal (rules_of scenario) o.trace s x d) (steps_asked stay name journal (rules_of scenario) o.trace s x d) ours) (refl, tt))
+      (all_owned s o a (later stay name journal o.trace s x d) (steps_asked stay name journal o.trace s x d) ours) (refl, tt))
     where
       one_owned : (s : ℕ) (e : Entry) → e.session ≡ s → list_any (λ (M : Trace). has_session M s) Ls ≡ true → is_owned Ls e ≡ true
       one_owned s e same any =
@@ -120,7 +120,7 @@ module _ (stay : FullRepliesStay) (name : LegalRelaysNameAccepted) (messages : R
   one_end_each : (s : ℕ) → s < session_count scenario → ends_in (reverse journal) s ≡ 1
   one_end_each s low =
       let o = own stay name messages scenario journal Ls sessions good run s low in
-      ends_are stay name journal (rules_of scenario) o.trace s (session_of stay name messages scenario journal Ls sessions good run s o) (done_of stay name messages scenario journal Ls sessions good run s o)
+      ends_are stay name journal o.trace s (session_of stay name messages scenario journal Ls sessions good run s o) (done_of stay name messages scenario journal Ls sessions good run s o)
 
   pub record_of : IsRecordOf scenario (reverse journal) Ls
   record_of =

@@ -36,11 +36,11 @@ pub record IsWellDone (scenario : Scenario) (journal : List Entry) (sessions : L
   pub good : IsGoodPlan scenario.world.shape plan
   pub proper : Proper scenario.world.shape L
   pub follows : Follows scenario.world.shape plan.steps L
-  pub done : EachSession (IsSessionDone journal (rules_of scenario) L) sessions plan L
+  pub done : EachSession (IsSessionDone journal L) sessions plan L
 
 pub all_well_done : (scenario : Scenario) (journal : List Entry) (sessions : List Over) (plans : List Plan) (Ls : List Trace) → AllByRecursion (IsGoodPlan scenario.world.shape) plans →
     AllByRecursion (Proper scenario.world.shape) Ls → EachTrace (λ plan L. Follows scenario.world.shape plan.steps L) plans Ls →
-    EachTrace (λ plan L. EachSession (IsSessionDone journal (rules_of scenario) L) sessions plan L) plans Ls → EachTrace (IsWellDone scenario journal sessions) plans Ls
+    EachTrace (λ plan L. EachSession (IsSessionDone journal L) sessions plan L) plans Ls → EachTrace (IsWellDone scenario journal sessions) plans Ls
 all_well_done scenario journal sessions [] [] g p f d = tt
 all_well_done scenario journal sessions [] (L ∷ Ls) g p f d = absurd f
 all_well_done scenario journal sessions (plan ∷ plans) [] g p f d = absurd f
@@ -88,8 +88,8 @@ module _ (stay : FullRepliesStay) (name : LegalRelaysNameAccepted) (messages : R
   abbrev pub session_of : (s : ℕ) → Own s → Over
   session_of s o = (o.holds.done o.number o.low).0
 
-  pub done_of : (s : ℕ) (o : Own s) → IsSessionDone journal (rules_of scenario) o.trace s (session_of s o)
-  done_of s o = subst (λ (n : ℕ). IsSessionDone journal (rules_of scenario) o.trace n (session_of s o)) o.session (o.holds.done o.number o.low).1.1
+  pub done_of : (s : ℕ) (o : Own s) → IsSessionDone journal o.trace s (session_of s o)
+  done_of s o = subst (λ (n : ℕ). IsSessionDone journal o.trace n (session_of s o)) o.session (o.holds.done o.number o.low).1.1
 
   pub under : AreUnder (session_count scenario) journal
   under = recursion_from_All (λ (e : Entry). e.session < session_count scenario) journal run.below
@@ -98,19 +98,19 @@ module _ (stay : FullRepliesStay) (name : LegalRelaysNameAccepted) (messages : R
   fit_in s low =
       let o = own s low in
       let d = done_of s o in
-      let a = answered stay name journal (rules_of scenario) o.trace s (session_of s o) d in
-      subst (AllByRecursion (λ (e : Entry). RequestFits e.request)) (sym (just stay name journal (rules_of scenario) o.trace s (session_of s o) d))
+      let a = answered stay name journal o.trace s (session_of s o) d in
+      subst (AllByRecursion (λ (e : Entry). RequestFits e.request)) (sym (just stay name journal o.trace s (session_of s o) d))
       (each-append (λ (e : Entry). RequestFits e.request) a (entry_of s requests.End logged.Bye ∷ [])
-      (entries_fit a (steps_messages stay name journal (rules_of scenario) o.trace s (session_of s o) d)) (tt, tt))
+      (entries_fit a (steps_messages stay name journal o.trace s (session_of s o) d)) (tt, tt))
 
   few_in : (s : ℕ) → s < session_count scenario → length (mine s journal) ≤ 531
   few_in s low =
       let o = own s low in
       let d = done_of s o in
-      let a = answered stay name journal (rules_of scenario) o.trace s (session_of s o) d in
-      let is = ap (λ (l : List Entry). length l) (just stay name journal (rules_of scenario) o.trace s (session_of s o) d) in
+      let a = answered stay name journal o.trace s (session_of s o) d in
+      let is = ap (λ (l : List Entry). length l) (just stay name journal o.trace s (session_of s o) d) in
       let sum = length-append a (entry_of s requests.End logged.Bye ∷ []) in
-      let less = steps_few stay name journal (rules_of scenario) o.trace s (session_of s o) d in
+      let less = steps_few stay name journal o.trace s (session_of s o) d in
       let most = few_asked (identity_of scenario.world.shape o.trace) o.trace.first o.plan.steps (reverse o.trace.events) o.holds.follows.left s o.holds.good.few_steps o.holds.proper.events o.holds.follows.follows in
       omega (arith, is, sum, less, most)
 

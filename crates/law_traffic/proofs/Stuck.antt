@@ -18,7 +18,6 @@ use Rattle.sv_wire.specs.Spelling.{request_bytes, reply_bytes}
 use Rattle.sv_wire.specs.Laws.{IsReply}
 use Rattle.sv_journal.specs.declared.entry.Entry.{Entry}
 use Rattle.sv_journal.specs.History.{accepted, full_reply}
-use Rattle.sv_journal.specs.Answer.{Rules}
 use Rattle.sv_journal.specs.Laws.{FullRepliesStay, LegalRelaysNameAccepted}
 use Rattle.sv_client.specs.declared.trace.Trace.{Trace}
 use Rattle.sv_client.specs.Traces.{requests_of, got, asked}
@@ -126,16 +125,16 @@ none_awaited shape L s proper stop =
 
 -- ---- An open session
 
-module _ (stay : FullRepliesStay) (name : LegalRelaysNameAccepted) (journal : List Entry) (r : Rules) (L : Trace) (s : ℕ) (x : Over) (d : IsSessionDone journal r L s x)
-    (sendable : AllByRecursion IsReply (all stay name journal r L s x d)) (rest : List ℕ) (begins : BeginsWith x.client.received (replies_of L s) rest) where
+module _ (stay : FullRepliesStay) (name : LegalRelaysNameAccepted) (journal : List Entry) (L : Trace) (s : ℕ) (x : Over) (d : IsSessionDone journal L s x)
+    (sendable : AllByRecursion IsReply (all stay name journal L s x d)) (rest : List ℕ) (begins : BeginsWith x.client.received (replies_of L s) rest) where
   abbrev whole_all : List Reply
-  whole_all = all stay name journal r L s x d
+  whole_all = all stay name journal L s x d
 
   abbrev own_steps : List Request
-  own_steps = steps stay name journal r L s x d
+  own_steps = steps stay name journal L s x d
 
   g : AreGot whole_all x.client.received (replies_of L s) rest
-  g = got_first whole_all x.client.received (replies_of L s) rest sendable (received_part stay name journal r L s x d) begins
+  g = got_first whole_all x.client.received (replies_of L s) rest sendable (received_part stay name journal L s x d) begins
 
   more_fine : AllByRecursion IsReply g.more
   more_fine = each-right IsReply (replies_of L s) g.more (subst (AllByRecursion IsReply) g.are sendable)
@@ -160,10 +159,10 @@ module _ (stay : FullRepliesStay) (name : LegalRelaysNameAccepted) (journal : Li
 
   module _ (shape : Shape) (proper : Proper shape L) (open_is : is_cut (reverse L.events) s ≡ false) (ended : x.client.ended ≡ true) (none : NoneCame rest) where
     faultless : x.out ≢ outs.LinkFault
-    faultless = no_fault_open stay name journal r L s x d open_is
+    faultless = no_fault_open stay name journal L s x d open_is
 
     received_all : x.client.received ≡ reply_frames whole_all
-    received_all = d.settled.arrived.to_client.whole ended ∙ sent_whole stay name journal r L s x d faultless
+    received_all = d.settled.arrived.to_client.whole ended ∙ sent_whole stay name journal L s x d faultless
 
     rest_is : rest ≡ reply_frames g.more
     rest_is =
@@ -176,17 +175,17 @@ module _ (stay : FullRepliesStay) (name : LegalRelaysNameAccepted) (journal : Li
     asked_all : TookAll x.server.ended x.server.received own_steps → length own_steps ≡ length (requests_of L s)
     asked_all t =
         let came = d.settled.arrived.to_server.whole t.ended_is ∙ (d.carried.sent ∙ request_frames_are (requests_of L s)) in
-        let items = sym t.items ∙ (ap incoming_items came ∙ whole_items (map request_bytes (requests_of L s)) (requests_fit (requests_of L s) (messages stay name journal r L s x d))) in
+        let items = sym t.items ∙ (ap incoming_items came ∙ whole_items (map request_bytes (requests_of L s)) (requests_fit (requests_of L s) (messages stay name journal L s x d))) in
         sym (counted_items own_steps) ∙ (ap (λ (l : List Incoming). length l) items ∙ counted_items (requests_of L s))
 
     pub none_is_awaited : length (replies_of L s) ≡ length (requests_of L s)
     none_is_awaited =
-        elim (how_ended stay name journal r L s x d faultless) [
+        elim (how_ended stay name journal L s x d faultless) [
           | inl stop ↦ none_awaited shape L s proper (subst EndsWithStop got_all stop)
           | inr took ↦
               let all_asked = asked_all took in
-              let as_many = length-map (answered stay name journal r L s x d) (λ (e : Entry). full_reply (accepted (reverse journal)) e.reply) in
-              let stepped = length-map (answered stay name journal r L s x d) (λ (e : Entry). e.request) in
+              let as_many = length-map (answered stay name journal L s x d) (λ (e : Entry). full_reply (accepted (reverse journal)) e.reply) in
+              let stepped = length-map (answered stay name journal L s x d) (λ (e : Entry). e.request) in
               let same = ap (λ (l : List Reply). length l) got_all in
               omega (arith, all_asked, as_many, stepped, same)
         ]

@@ -1,9 +1,11 @@
 -- The open sessions of a run, and the traffic of all sessions.
-use Rattle.std.proofs.Common.{◌≡◌, ℕ, zero, suc, ◌+◌, ◌-◌, ◌≤◌, Bool, true, List, [], ◌∷◌, length, map, reverse, Some, None, slice_get, ℤ, sym, ap, subst, ◌∙◌, arith}
+use Rattle.std.proofs.Common.{◌≡◌, ℕ, zero, suc, ◌+◌, ◌-◌, ◌≤◌, Bool, true, List, [], ◌∷◌, length, map, reverse, Some, None, slice_get, Result, Ok, Err, inl, inr, ◌⊎◌, ℤ, sym, ap, subst, ◌∙◌, arith, refl}
 use Rattle.std.specs.Prelude.{All}
 use Rattle.std.specs.List.{AllByRecursion}
+use Rattle.std.proofs.lemmas.List.{length-map}
 use Rattle.std.proofs.lemmas.Option.{none-some, same_Some}
 use Rattle.sv_link.specs.Nets.{counted}
+use Rattle.sv_wire.specs.declared.fault.Malformed.{Malformed}
 use Rattle.sv_wire.specs.declared.message.Reply.{Reply}
 use Rattle.sv_wire.specs.Laws.{IsReply}
 use Rattle.sv_journal.specs.declared.entry.Entry.{Entry}
@@ -17,14 +19,15 @@ use Rattle.sv_client.specs.Proper.{identity_of}
 use Rattle.sv_scenario.specs.declared.scenario.Plan.{Plan}
 use Rattle.sv_scenario.specs.declared.scenario.Scenario.{Scenario}
 use Rattle.sv_system.specs.Fits.{is_join_of, has_session, replies_in, Fits}
-use Rattle.sv_system.specs.Records.{rules_of, EachTrace}
+use Rattle.sv_system.specs.Records.{rules_of, EachTrace, ScriptsAreFollowed}
+use Rattle.sv_script.specs.Following.{FollowsToEnd}
 use Rattle.sv_system.proofs.Asked.{any-reverse, current-joined}
 use Rattle.sv_asked.specs.Asked.{RepliesAreMessages}
 use Rattle.law_traffic.specs.Carried.{BeginsWith, replies_of}
 use Rattle.law_traffic.specs.Sessions.{Over, transcript, IsSessionDone}
 use Rattle.law_traffic.specs.Traffic.{IsTraffic}
-use Rattle.law_traffic.specs.Stuck.{IsShut, IsTakeable}
-use Rattle.law_traffic.specs.Runs.{EachSession, IsRun, IsGoodRun, IsOpenIn, TrafficIsRecorded}
+use Rattle.law_traffic.specs.Stuck.{IsShut, IsBadRest, NotRead, Refused, TooLong, IsStopped, IsTakeable}
+use Rattle.law_traffic.specs.Runs.{EachSession, IsRun, IsGoodRun, IsOpenIn, TrafficIsRecorded, EndOrAreStopped, UncutSessionsHaveNoFault}
 use Rattle.law_traffic.proofs.Asking.{few_asked}
 use Rattle.law_traffic.proofs.Bytes.{all, all_are, traffic_of}
 use Rattle.law_traffic.proofs.Owners.{in_range}
@@ -48,6 +51,20 @@ trace_at P (plan ∷ plans) [] i L e m = absurd (none-some L m)
 trace_at P (plan ∷ plans) (M ∷ Ms) zero L e m = (plan, subst (P plan) (same_Some M L m) e.0)
 trace_at P (plan ∷ plans) (M ∷ Ms) (suc i) L e m = trace_at P plans Ms i L e.1 m
 
+-- by the places of the traces
+each_trace : (P Q : Plan → Trace → Type 0) (plans : List Plan) (Ls : List Trace) → EachTrace P plans Ls → ((i : ℕ) (plan : Plan) (L : Trace) → slice_get Ls i ≡ Some L → P plan L → Q plan L) → EachTrace Q plans Ls
+each_trace P Q [] [] e f = tt
+each_trace P Q [] (M ∷ Ms) e f = absurd e
+each_trace P Q (plan ∷ plans) [] e f = absurd e
+each_trace P Q (plan ∷ plans) (M ∷ Ms) e f = (f 0 plan M refl e.0, each_trace P Q plans Ms e.1 (λ i. f (suc i)))
+
+same_reply : (x y : Reply) → ◌≡◌ {A = Result Reply Malformed} (Ok x) (Ok y) → x ≡ y
+same_reply x y e = ap value e
+  where
+    value : Result Reply Malformed → Reply
+    value (Ok w) = w
+    value _ = x
+
 map_there : {X Y : Type 0} (f : X → Y) (xs : List X) (i : ℕ) (x : X) → slice_get xs i ≡ Some x → slice_get (map f xs) i ≡ Some (f x)
 map_there f [] i x e = absurd (none-some x e)
 map_there f (y ∷ ys) zero x e = ap (λ z. Some (f z)) (same_Some y x e)
@@ -69,7 +86,7 @@ module _ (stay : FullRepliesStay) (name : LegalRelaysNameAccepted) (messages : R
         transcript found.0,
         (
           map_there transcript sessions (L.first + n) found.0 found.1.0,
-          traffic_of stay name journal (rules_of scenario) L (L.first + n) found.0 found.1.1 (sendable stay name messages scenario journal Ls sessions good run (L.first + n)),
+          traffic_of stay name journal L (L.first + n) found.0 found.1.1 (sendable stay name messages scenario journal Ls sessions good run (L.first + n)),
         ),
       )
 
@@ -81,7 +98,7 @@ module _ (stay : FullRepliesStay) (name : LegalRelaysNameAccepted) (messages : R
   traffic_each (plan ∷ plans) (L ∷ Ms) e = (traffic_in plan L e.0, traffic_each plans Ms e.1)
 
   pub traffic_is_recorded : TrafficIsRecorded scenario (reverse journal) Ls (map transcript sessions)
-  traffic_is_recorded = traffic_each scenario.clients Ls all_well
+  traffic_is_recorded = record { count = length-map sessions transcript ∙ run.count; each = traffic_each scenario.clients Ls all_well }
 
   -- ---- Open sessions
 
@@ -92,7 +109,7 @@ module _ (stay : FullRepliesStay) (name : LegalRelaysNameAccepted) (messages : R
     joined : has_session L s ≡ true
     joined = any-reverse (is_join_of s) L.events (current-joined (reverse L.events) s o.session.current)
 
-    pub open_done : IsSessionDone journal (rules_of scenario) L s x
+    pub open_done : IsSessionDone journal L s x
     open_done =
         let w = mine_well.1 in
         let b = in_range scenario.world.shape mine_well.0 L s w.proper w.follows joined in
@@ -100,15 +117,15 @@ module _ (stay : FullRepliesStay) (name : LegalRelaysNameAccepted) (messages : R
         let found = w.done n (omega (arith, b.0, b.1)) in
         let is : L.first + n ≡ s = omega (arith, b.0) in
         let same : found.0 ≡ x = same_Some found.0 x (sym found.1.0 ∙ (ap (slice_get sessions) is ∙ o.there)) in
-        subst (λ (y : Over). IsSessionDone journal (rules_of scenario) L s y) same (subst (λ (m : ℕ). IsSessionDone journal (rules_of scenario) L m found.0) is found.1.1)
+        subst (λ (y : Over). IsSessionDone journal L s y) same (subst (λ (m : ℕ). IsSessionDone journal L m found.0) is found.1.1)
 
-    can_be_sent : AllByRecursion IsReply (all stay name journal (rules_of scenario) L s x open_done)
+    can_be_sent : AllByRecursion IsReply (all stay name journal L s x open_done)
     can_be_sent =
-        subst (AllByRecursion IsReply) (all_are stay name journal (rules_of scenario) L s x open_done) (sendable stay name messages scenario journal Ls sessions good run s)
+        subst (AllByRecursion IsReply) (all_are stay name journal L s x open_done) (sendable stay name messages scenario journal Ls sessions good run s)
 
     pub not_shut : IsShut L s x.client → ⊥
     not_shut shut =
-        let same = none_is_awaited stay name journal (rules_of scenario) L s x open_done can_be_sent shut.rest shut.received scenario.world.shape mine_well.1.proper o.session.open_is shut.ended shut.none in
+        let same = none_is_awaited stay name journal L s x open_done can_be_sent shut.rest shut.received scenario.world.shape mine_well.1.proper o.session.open_is shut.ended shut.none in
         let awaited = shut.awaited in
         omega (arith, same, awaited)
 
@@ -117,12 +134,44 @@ module _ (stay : FullRepliesStay) (name : LegalRelaysNameAccepted) (messages : R
         let limits = limits_of scenario good.good in
         let w = mine_well.1 in
         let few = few_asked (identity_of scenario.world.shape L) L.first mine_well.0.steps (reverse L.events) w.follows.left s w.good.few_steps w.proper.events w.follows.follows in
-        takeable stay name journal (rules_of scenario) L s x open_done can_be_sent rest begins scenario.world.shape
+        takeable stay name journal L s x open_done can_be_sent rest begins scenario.world.shape
         (λ reply there. law (rules_of scenario) (reverse journal) Ls o.place L s reply limits.objects limits.attrs limits.bound run.legal
         (fits stay name messages scenario journal Ls sessions good run) o.member o.session.current (omega (arith, few))
-        (ap (λ (ws : List Reply). slice_get ws (length (got (reverse L.events) s))) (all_are stay name journal (rules_of scenario) L s x open_done) ∙ there))
+        (ap (λ (ws : List Reply). slice_get ws (length (got (reverse L.events) s))) (all_are stay name journal L s x open_done) ∙ there))
 
-    pub no_faults : (x.server_faults ≡ 0) × (x.client_faults ≡ 0)
-    no_faults =
-        let none : x.server_faults + x.client_faults ≡ 0 = sym (ap (λ (b : Bool). counted b x.server_faults x.client_faults) o.session.open_is) ∙ open_done.settled.faultless in
-        (omega (arith, none), omega (arith, none))
+  -- ---- The ends of traces
+
+  not_bad : NeverRefused → (L : Trace) (s : ℕ) (x : Over) → IsOpenIn Ls sessions L s x → (rest : List ℕ) → BeginsWith x.client.received (replies_of L s) rest → IsBadRest scenario.world.shape L rest → ⊥
+  not_bad law L s x o rest begins (NotRead payload after fault first err) =
+      let n = (next_taken L s x o law rest begins).next payload after first in
+      let same : Ok n.0 ≡ Err fault = sym n.1.0 ∙ err in
+      cc
+  not_bad law L s x o rest begins (Refused payload after reply fault first read some) =
+      let n = (next_taken L s x o law rest begins).next payload after first in
+      let same : n.0 ≡ reply = same_reply n.0 reply (sym n.1.0 ∙ read) in
+      none-some fault (sym n.1.1 ∙ (ap (first_fault_of_reply (identity_of scenario.world.shape L) (reverse L.events)) same ∙ some))
+  not_bad law L s x o rest begins (TooLong n long) = none-some n (sym (next_taken L s x o law rest begins).short ∙ long)
+
+  not_stopped : NeverRefused → (i : ℕ) (L : Trace) → slice_get Ls i ≡ Some L → IsStopped scenario.world.shape L sessions → ⊥
+  not_stopped law i L member stop =
+      let o : IsOpenIn Ls sessions L stop.session stop.over = record { place = i; member = member; session = stop.open_is; there = stop.there } in
+      elim stop.how [
+        | inl shut ↦ not_shut L stop.session stop.over o shut
+        | inr bad ↦ not_bad law L stop.session stop.over o bad.rest bad.received bad.bad
+      ]
+
+  to_the_end : NeverRefused → (i : ℕ) (plan : Plan) (L : Trace) → slice_get Ls i ≡ Some L → FollowsToEnd scenario.world.shape plan.steps L ⊎ IsStopped scenario.world.shape L sessions →
+      FollowsToEnd scenario.world.shape plan.steps L
+  to_the_end law i plan L member (inl end) = end
+  to_the_end law i plan L member (inr stop) = absurd (not_stopped law i L member stop)
+
+  pub scripts_are_followed : NeverRefused → EndOrAreStopped scenario Ls sessions → ScriptsAreFollowed scenario.world.shape scenario.clients Ls
+  scripts_are_followed law ends =
+      each_trace (λ plan L. FollowsToEnd scenario.world.shape plan.steps L ⊎ IsStopped scenario.world.shape L sessions) (λ plan L. FollowsToEnd scenario.world.shape plan.steps L)
+      scenario.clients Ls ends (to_the_end law)
+
+-- No fault counts where no session was cut.
+pub no_faults : UncutSessionsHaveNoFault
+no_faults L s x settled uncut =
+    let none : x.server_faults + x.client_faults ≡ 0 = sym (ap (λ (b : Bool). counted b x.server_faults x.client_faults) uncut) ∙ settled.faultless in
+    (omega (arith, none), omega (arith, none))

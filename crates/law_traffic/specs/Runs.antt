@@ -1,6 +1,6 @@
 -- A whole run of threads that came to its end, and the laws of it.
 -- A journal has its entries in order here, the earliest first.
-use Rattle.std.specs.Prelude.{◌≡◌, ℕ, ◌+◌, ◌<◌, List, map, reverse, slice_get, Some, All}
+use Rattle.std.specs.Prelude.{◌≡◌, ◌⊎◌, ℕ, ◌+◌, ◌<◌, false, List, map, length, reverse, slice_get, Some, All}
 use Rattle.sv_link.specs.Nets.{Transcript}
 use Rattle.sv_wire.specs.Ranges.{ValueFits}
 use Rattle.sv_journal.specs.declared.entry.Entry.{Entry}
@@ -12,12 +12,12 @@ use Rattle.sv_scenario.specs.declared.scenario.Plan.{Plan}
 use Rattle.sv_scenario.specs.declared.scenario.Scenario.{Scenario}
 use Rattle.sv_scenario.specs.Limits.{IsGoodScenario}
 use Rattle.sv_scenario.specs.Sessions.{sessions_of_plan, session_count}
-use Rattle.sv_script.specs.Following.{Follows}
+use Rattle.sv_script.specs.Following.{Follows, FollowsToEnd}
 use Rattle.sv_system.specs.Records.{rules_of, AreTracesOf, EachTrace, ScriptsAreFollowed, IsRecordOf, IsFullRecord}
-use Rattle.law_traffic.specs.Carried.{BeginsWith, replies_of}
-use Rattle.law_traffic.specs.Sessions.{Over, transcript, IsSessionDone}
+use Rattle.law_traffic.specs.Carried.{BeginsWith, is_cut, replies_of}
+use Rattle.law_traffic.specs.Sessions.{Over, transcript, IsSettled, IsSessionDone}
 use Rattle.law_traffic.specs.Traffic.{IsTraffic}
-use Rattle.law_traffic.specs.Stuck.{IsOpenSession, IsShut, IsTakeable}
+use Rattle.law_traffic.specs.Stuck.{IsOpenSession, IsShut, IsStopped, IsTakeable}
 
 -- There is one for each session of a client, at its number in the list, and this holds of it.
 abbrev pub EachSession : {X : Type 0} → (ℕ → X → Type 0) → List X → Plan → Trace → Type 0
@@ -32,7 +32,8 @@ pub record IsRun (scenario : Scenario) (journal : List Entry) (Ls : List Trace) 
   pub clients : AreTracesOf 0 0 scenario.clients Ls
   pub proper : All (Proper scenario.world.shape) Ls
   pub follows : EachTrace (λ plan L. Follows scenario.world.shape plan.steps L) scenario.clients Ls
-  pub done : EachTrace (λ plan L. EachSession (IsSessionDone journal (rules_of scenario) L) sessions plan L) scenario.clients Ls
+  pub count : length sessions ≡ session_count scenario
+  pub done : EachTrace (λ plan L. EachSession (IsSessionDone journal L) sessions plan L) scenario.clients Ls
 
 -- A good scenario, with numbers of their types in its opening world.
 pub record IsGoodRun (scenario : Scenario) : Type 0 where
@@ -41,23 +42,27 @@ pub record IsGoodRun (scenario : Scenario) : Type 0 where
 
 -- ---- The record
 
--- A run leaves a record: the journal fits the traces, with one End for each session.
+-- A run leaves a record: the journal fits the traces, with one End for each session. Players may have stopped early.
 abbrev pub RunsLeaveRecords : Type 0
 RunsLeaveRecords = (scenario : Scenario) (journal : List Entry) (Ls : List Trace) (sessions : List Over) →
     IsGoodRun scenario → IsRun scenario journal Ls sessions → IsRecordOf scenario (reverse journal) Ls
 
--- A full one, where each trace follows its script to the end.
+-- Each trace follows its script to the end, or something stopped its player.
+abbrev pub EndOrAreStopped : Scenario → List Trace → List Over → Type 0
+EndOrAreStopped scenario Ls sessions =
+    EachTrace (λ plan L. FollowsToEnd scenario.world.shape plan.steps L ⊎ IsStopped scenario.world.shape L sessions) scenario.clients Ls
+
+-- The record is full where each player stopped for its script or for something of these: then it was for its script.
 abbrev pub RunsLeaveFullRecords : Type 0
 RunsLeaveFullRecords = (scenario : Scenario) (journal : List Entry) (Ls : List Trace) (sessions : List Over) →
-    IsGoodRun scenario → IsRun scenario journal Ls sessions → ScriptsAreFollowed scenario.world.shape scenario.clients Ls →
-    IsFullRecord scenario (reverse journal) Ls
+    IsGoodRun scenario → IsRun scenario journal Ls sessions → EndOrAreStopped scenario Ls sessions → IsFullRecord scenario (reverse journal) Ls
 
 -- ---- The traffic
 
--- Each session's transcript stands at its number, and has the traffic of the journal and of the session's trace.
-abbrev pub TrafficIsRecorded : Scenario → List Entry → List Trace → List Transcript → Type 0
-TrafficIsRecorded scenario h Ls transcripts =
-    EachTrace (λ plan L. EachSession (λ s x. IsTraffic h L s x) transcripts plan L) scenario.clients Ls
+-- There is one transcript for each session, in order, with the traffic of the journal and of the session's trace.
+pub record TrafficIsRecorded (scenario : Scenario) (h : List Entry) (Ls : List Trace) (transcripts : List Transcript) : Type 0 where
+  pub count : length transcripts ≡ session_count scenario
+  pub each : EachTrace (λ plan L. EachSession (λ s x. IsTraffic h L s x) transcripts plan L) scenario.clients Ls
 
 abbrev pub RunsMoveTheirTraffic : Type 0
 RunsMoveTheirTraffic = (scenario : Scenario) (journal : List Entry) (Ls : List Trace) (sessions : List Over) →
@@ -83,7 +88,12 @@ NextRepliesAreTaken = (scenario : Scenario) (journal : List Entry) (Ls : List Tr
     IsGoodRun scenario → IsRun scenario journal Ls sessions → IsOpenIn Ls sessions L s x → BeginsWith x.client.received (replies_of L s) rest →
     IsTakeable scenario.world.shape L rest
 
--- No fault was counted at an end of an open session.
-abbrev pub OpenEndsHaveNoFault : Type 0
-OpenEndsHaveNoFault = (scenario : Scenario) (journal : List Entry) (Ls : List Trace) (sessions : List Over) (L : Trace) (s : ℕ) (x : Over) →
-    IsGoodRun scenario → IsRun scenario journal Ls sessions → IsOpenIn Ls sessions L s x → (x.server_faults ≡ 0) × (x.client_faults ≡ 0)
+-- So players stop for their scripts alone.
+abbrev pub PlayersComeToTheirEnds : Type 0
+PlayersComeToTheirEnds = (scenario : Scenario) (journal : List Entry) (Ls : List Trace) (sessions : List Over) →
+    IsGoodRun scenario → IsRun scenario journal Ls sessions → EndOrAreStopped scenario Ls sessions → ScriptsAreFollowed scenario.world.shape scenario.clients Ls
+
+-- No fault was counted at an end of a session that was settled and not cut.
+abbrev pub UncutSessionsHaveNoFault : Type 0
+UncutSessionsHaveNoFault = (L : Trace) (s : ℕ) (x : Over) → IsSettled L s x → is_cut (reverse L.events) s ≡ false →
+    (x.server_faults ≡ 0) × (x.client_faults ≡ 0)

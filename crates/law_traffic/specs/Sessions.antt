@@ -7,7 +7,6 @@ use Rattle.sv_link.specs.Nets.{Transcript, transcript_of, BothArrived, counted}
 use Rattle.sv_link.specs.declared.side.Side.TheVariants.{Server}
 use Rattle.sv_wire.specs.Laws.{IsRequest}
 use Rattle.sv_journal.specs.declared.entry.Entry.{Entry}
-use Rattle.sv_journal.specs.Answer.{Rules}
 use Rattle.sv_client.specs.declared.trace.Trace.{Trace}
 use Rattle.sv_client.specs.Traces.{requests_of}
 use Rattle.sv_lock.specs.Histories.{entries_of}
@@ -31,13 +30,12 @@ transcript x = transcript_of x.server x.server_faults x.client x.client_faults
 
 -- The loop of session s served a new end by a new pass, and the journal has all that the pass had seen and, of this session, the pass's own
 -- entries alone.
-pub record IsServed (journal : List Entry) (r : Rules) (s : ℕ) (x : Over) : Type 0 where
+pub record IsServed (journal : List Entry) (s : ℕ) (x : Over) : Type 0 where
   pub pair : ℕ
   pub before : SessionPass
   pub after : SessionPass
   pub new : before.mine ≡ []
   pub number : session_number before ≡ s
-  pub base : before.base ≡ r
   pub served : Served (new_end pair Server) before x.out x.server after
   pub cause : SessionCause 0 x.server_faults x.out
   pub memory : x.out ≢ outs.Memory
@@ -57,7 +55,7 @@ pub record IsSettled (L : Trace) (s : ℕ) (x : Over) : Type 0 where
   pub faultless : counted (is_cut (reverse L.events) s) x.server_faults x.client_faults ≡ 0
 
 -- Session s of the trace is done.
-pub record IsSessionDone (journal : List Entry) (r : Rules) (L : Trace) (s : ℕ) (x : Over) : Type 0 where
-  pub served : IsServed journal r s x
+pub record IsSessionDone (journal : List Entry) (L : Trace) (s : ℕ) (x : Over) : Type 0 where
+  pub served : IsServed journal s x
   pub carried : IsCarried L s x
   pub settled : IsSettled L s x
