@@ -1,0 +1,238 @@
+-- One session that is done: its bytes against the journal and the trace.
+use Rattle.std.proofs.Common.{◌≡◌, ◌≢◌, ◌⊎◌, ℕ, ◌+◌, ◌<◌, Bool, true, false, cond, ◌||◌, eqb, List, [], ◌∷◌, ◌++◌, length, map, reverse, inl, inr, Some, None, refl, sym, ap, subst, ◌∙◌, append_assoc, arith, ◌≤◌, length-append}
+use Rattle.std.specs.List.{AllByRecursion}
+use Rattle.std.proofs.lemmas.Bool.{ltb-false}
+use Rattle.std.proofs.lemmas.List.{map-append, length-map}
+use Rattle.std.proofs.lemmas.List.Elements.{recursion_from_All}
+use Rattle.std.proofs.lemmas.Option.{none-some}
+use mathlib.Core.List.{IsPrefix}
+use Rattle.sv_frame.specs.Streams.Incoming.{Payload}
+use Rattle.sv_link.specs.Ends.{Told}
+use Rattle.sv_link.specs.Nets.{counted}
+use Rattle.sv_wire.specs.declared.message.Request.{Request}
+use Rattle.sv_wire.specs.declared.message.Request.TheVariants as requests
+use Rattle.sv_wire.specs.declared.message.Reply.{Reply}
+use Rattle.sv_wire.specs.Spelling.{request_bytes}
+use Rattle.sv_wire.specs.Laws.{IsRequest, IsReply}
+use Rattle.sv_journal.specs.declared.entry.Entry.{Entry}
+use Rattle.sv_journal.specs.declared.entry.Logged.{Logged}
+use Rattle.sv_journal.specs.declared.entry.Logged.TheVariants as logged
+use Rattle.sv_journal.specs.History.{Authored, accepted, full_reply}
+use Rattle.sv_journal.specs.Sessions.{is_end}
+use Rattle.sv_journal.specs.Laws.{FullRepliesStay, LegalRelaysNameAccepted}
+use Rattle.sv_client.specs.declared.trace.Trace.{Trace}
+use Rattle.sv_client.specs.Traces.{requests_of}
+use Rattle.sv_sequencer.specs.Step.{entry_of}
+use Rattle.sv_lock.specs.Passes.{session_number}
+use Rattle.sv_lock.proofs.Histories.{prefix_trans}
+use Rattle.sv_session.specs.Requests.{stop_of, StopsFor, reply_frames as due_frames}
+use Rattle.sv_session.specs.Serving.{Explains, ended_by}
+use Rattle.sv_session.specs.declared.outcome.SessionOut.{SessionOut}
+use Rattle.sv_session.specs.declared.outcome.SessionOut.TheVariants as outs
+use Rattle.sv_system.specs.Fronts.{IsFront}
+use Rattle.sv_system.specs.Fits.{requests_in, replies_in, FitsIn}
+use Rattle.sv_system.specs.Records.{ends_in}
+use Rattle.sv_system.proofs.Fronts.{front-append}
+use Rattle.law_traffic.specs.Carried.{request_frames, reply_frames, is_cut, replies_of}
+use Rattle.law_traffic.specs.Sessions.{Over, transcript, IsSessionDone}
+use Rattle.law_traffic.specs.Traffic.{is_stop, EndsWithStop, TookAll, IsTraffic}
+use Rattle.law_traffic.proofs.Ours.{mine, requests_are, replies_are, one_end, end_is_last}
+use Rattle.law_traffic.proofs.Dues.{full_over, due_is}
+use Rattle.law_traffic.proofs.Messages.{request_frames_both, front_all, AreTaken, taken, AreGot, got_first}
+
+-- ---- Outcomes
+
+all_sent : (out : SessionOut) (stream : List ℕ) (answered : List Entry) (sent due : List ℕ) → out ≢ outs.LinkFault → out ≢ outs.Memory → Explains out stream answered sent due → sent ≡ due
+all_sent outs.Left stream answered sent due l m e = e.1
+all_sent outs.Closed stream answered sent due l m e = e.1
+all_sent outs.Ended stream answered sent due l m e = e.1
+all_sent outs.Malformed stream answered sent due l m e = e.1
+all_sent outs.Spent stream answered sent due l m e = e.1
+all_sent outs.LinkFault stream answered sent due l m e = absurd (l refl)
+all_sent outs.Memory stream answered sent due l m e = absurd (m refl)
+
+stop_code : (a b c : Bool) (x y z : SessionOut) (reason : SessionOut) → cond a (Some x) (cond b (Some y) (cond c (Some z) None)) ≡ Some reason → (a || b || c) ≡ true
+stop_code true b c x y z reason e = refl
+stop_code false true c x y z reason e = refl
+stop_code false false true x y z reason e = refl
+stop_code false false false x y z reason e = absurd (none-some reason e)
+
+stops : (A : List Authored) (reply : Logged) (reason : SessionOut) → stop_of reply ≡ Some reason → is_stop (full_reply A reply) ≡ true
+stops A logged.Bye reason e = refl
+stops A (logged.Refused code detail) reason e = stop_code (eqb code 1) (eqb code 4) (eqb code 9) outs.Malformed outs.Ended outs.Spent reason e
+stops A (logged.Welcome commit head) reason e = absurd (none-some reason e)
+stops A (logged.Relay seq commit head positions) reason e = absurd (none-some reason e)
+stops A (logged.Dropped seq chain far) reason e = absurd (none-some reason e)
+stops A (logged.Settled seq place) reason e = absurd (none-some reason e)
+stops A (logged.Noted commit) reason e = absurd (none-some reason e)
+stops A logged.Idle reason e = absurd (none-some reason e)
+
+-- ---- The session
+
+module _ (stay : FullRepliesStay) (name : LegalRelaysNameAccepted) (journal : List Entry) (L : Trace) (s : ℕ) (x : Over) (d : IsSessionDone journal L s x) where
+  abbrev pub answered : List Entry
+  answered = d.served.served.answered
+
+  abbrev history : List Entry
+  history = reverse journal
+
+  abbrev pub steps : List Request
+  steps = map (λ (e : Entry). e.request) answered
+
+  abbrev pub all : List Reply
+  all = full_over journal answered
+
+  own_is : d.served.after.mine ≡ answered ++ entry_of s requests.End logged.Bye ∷ []
+  own_is =
+      d.served.served.mine
+      ∙ (ap (λ (l : List Entry). (l ++ answered) ++ entry_of (session_number d.served.before) requests.End logged.Bye ∷ []) d.served.new
+      ∙ ap (λ (n : ℕ). answered ++ entry_of n requests.End logged.Bye ∷ []) d.served.number)
+
+  pub just : mine s journal ≡ answered ++ entry_of s requests.End logged.Bye ∷ []
+  just = d.served.just ∙ own_is
+
+  pub others : AllByRecursion (λ (e : Entry). is_end e.request ≡ false) answered
+  others = recursion_from_All (λ (e : Entry). is_end e.request ≡ false) answered d.served.served.no_other
+
+  pub steps_are : requests_in history s ≡ steps
+  steps_are = requests_are s journal answered just others
+
+  pub all_are : replies_in (accepted history) history s ≡ all
+  all_are = replies_are s journal answered just others (accepted history)
+
+  pub ends_are : ends_in history s ≡ 1
+  ends_are = one_end s journal answered just others
+
+  pub messages : AllByRecursion IsRequest (requests_of L s)
+  messages = recursion_from_All IsRequest (requests_of L s) d.carried.messages
+
+  -- ---- Requests
+
+  server_received : x.server.received ≡ d.served.served.received
+  server_received = ap (λ (t : Told). t.received) d.served.served.told
+
+  server_sent : x.server.sent ≡ d.served.served.sent
+  server_sent = ap (λ (t : Told). t.sent) d.served.served.told
+
+  server_ended : x.server.ended ≡ ended_by x.out false
+  server_ended = ap (λ (t : Told). t.ended) d.served.served.told
+
+  pub came : AreTaken (requests_of L s) d.served.served.received
+  came =
+      let p = d.settled.arrived.to_server.part in
+      taken (requests_of L s) d.served.served.received messages (subst (λ (l : List ℕ). IsPrefix l (request_frames (requests_of L s))) server_received (p.0, p.1 ∙ d.carried.sent))
+
+  steps_first : steps ++ d.served.served.requests.0 ≡ came.first
+  steps_first = d.served.served.requests.1 ∙ came.came
+
+  -- what was asked and not stepped
+  abbrev pub later : List Request
+  later = d.served.served.requests.0 ++ came.second
+
+  pub steps_asked : steps ++ later ≡ requests_of L s
+  steps_asked = sym (append_assoc steps d.served.served.requests.0 came.second) ∙ (ap (λ (l : List Request). l ++ came.second) steps_first ∙ sym came.are)
+
+  -- each request of the journal is a message
+  pub steps_messages : AllByRecursion IsRequest steps
+  steps_messages = front_all IsRequest steps (d.served.served.requests.0 ++ came.second) (subst (AllByRecursion IsRequest) (sym steps_asked) messages)
+
+  -- no more requests were stepped than asked
+  pub steps_few : length answered ≤ length (requests_of L s)
+  steps_few =
+      let all = ap (λ (l : List Request). length l) steps_asked in
+      let sum = length-append steps (d.served.served.requests.0 ++ came.second) in
+      let same = length-map answered (λ (e : Entry). e.request) in
+      omega (arith, all, sum, same)
+
+  stepped : IsPrefix (request_frames steps) x.server.received
+  stepped = (
+    request_frames d.served.served.requests.0 ++ came.rest,
+    sym (append_assoc (request_frames steps) (request_frames d.served.served.requests.0) came.rest)
+        ∙ (ap (λ (l : List ℕ). l ++ came.rest) (sym (request_frames_both steps d.served.served.requests.0) ∙ ap request_frames steps_first)
+        ∙ (sym came.whole ∙ sym server_received)),
+  )
+
+  -- ---- Replies
+
+  due : due_frames d.served.after.seen answered ≡ reply_frames all
+  due =
+      due_is stay name d.served.after.base d.served.after.seen journal answered (entry_of s requests.End logged.Bye ∷ []) (session_number d.served.after)
+      d.served.served.lawful (d.served.served.just ∙ own_is) d.served.seen
+
+  sent_part : IsPrefix x.server.sent (reply_frames all)
+  sent_part = subst (λ (l : List ℕ). IsPrefix l (reply_frames all)) (sym server_sent) (d.served.served.replies.0, d.served.served.replies.1 ∙ due)
+
+  pub sent_whole : x.out ≢ outs.LinkFault → x.server.sent ≡ reply_frames all
+  sent_whole faultless =
+      server_sent ∙ (all_sent x.out d.served.served.received answered d.served.served.sent (due_frames d.served.after.seen answered) faultless d.served.memory d.served.served.cause ∙ due)
+
+  no_fault : x.server_faults ≡ 0 → x.out ≢ outs.LinkFault
+  no_fault none failed = let rose : 0 < x.server_faults = d.served.cause.0 failed in omega (arith, rose, none)
+
+  pub no_fault_open : is_cut (reverse L.events) s ≡ false → x.out ≢ outs.LinkFault
+  no_fault_open open_is =
+      let none : x.server_faults + x.client_faults ≡ 0 = sym (ap (λ (b : Bool). counted b x.server_faults x.client_faults) open_is) ∙ d.settled.faultless in
+      no_fault (omega (arith, none))
+
+  stopped : (reason : SessionOut) → StopsFor reason answered → EndsWithStop all
+  stopped reason f =
+      record {
+        before = full_over journal f.before;
+        last = full_reply (accepted history) f.last.reply;
+        are = ap (full_over journal) f.are ∙ map-append (λ (e : Entry). full_reply (accepted history) e.reply) f.before (f.last ∷ []);
+        stop = stops (accepted history) f.last.reply reason f.stop;
+      }
+
+  ending : (out : SessionOut) → out ≢ outs.LinkFault → out ≢ outs.Memory → Explains out d.served.served.received answered d.served.served.sent (due_frames d.served.after.seen answered) →
+      EndsWithStop all ⊎ TookAll (ended_by out false) d.served.served.received steps
+  ending outs.Closed l m e =
+      inr (record { ended_is = refl; items = came.items ∙ ap (λ (qs : List Request). map Payload (map request_bytes qs)) (sym came.came ∙ sym e.0.all) })
+  ending outs.Left l m e = inl (stopped outs.Left e.0)
+  ending outs.Ended l m e = inl (stopped outs.Ended e.0)
+  ending outs.Malformed l m e = inl (stopped outs.Malformed e.0)
+  ending outs.Spent l m e = inl (stopped outs.Spent e.0)
+  ending outs.LinkFault l m e = absurd (l refl)
+  ending outs.Memory l m e = absurd (m refl)
+
+  pub how_ended : x.out ≢ outs.LinkFault → EndsWithStop all ⊎ TookAll x.server.ended x.server.received steps
+  how_ended faultless =
+      subst (λ (l : List ℕ). EndsWithStop all ⊎ TookAll x.server.ended l steps) (sym server_received)
+      (subst (λ (b : Bool). EndsWithStop all ⊎ TookAll b d.served.served.received steps) (sym server_ended) (ending x.out faultless d.served.memory d.served.served.cause))
+
+  pub received_part : IsPrefix x.client.received (reply_frames all)
+  received_part = prefix_trans x.client.received x.server.sent (reply_frames all) d.settled.arrived.to_client.part sent_part
+
+  module _ (sendable : AllByRecursion IsReply all) where
+    pub got : AreGot all x.client.received (replies_of L s) d.carried.rest
+    got =
+        got_first all x.client.received (replies_of L s) d.carried.rest sendable received_part d.carried.received
+
+    traffic : IsTraffic history L s (transcript x)
+    traffic =
+        record {
+          asked = d.carried.sent;
+          arrived = d.settled.arrived.to_server.part;
+          stepped = subst (λ (qs : List Request). IsPrefix (request_frames qs) x.server.received) (sym steps_are) stepped;
+          replied = subst (λ (ws : List Reply). IsPrefix x.server.sent (reply_frames ws)) (sym all_are) sent_part;
+          whole = λ open_is. sent_whole (no_fault_open open_is) ∙ ap reply_frames (sym all_are);
+          returned = d.settled.arrived.to_client.part;
+          got = (d.carried.rest, sym got.whole);
+          end = λ faultless. subst (λ (ws : List Reply). EndsWithStop ws ⊎ TookAll x.server.ended x.server.received (requests_in history s)) (sym all_are)
+              (subst (λ (qs : List Request). EndsWithStop all ⊎ TookAll x.server.ended x.server.received qs) (sym steps_are)
+              (how_ended (no_fault (let none = ltb-false 0 x.server_faults faultless in omega (arith, none)))));
+        }
+
+    fits_in : FitsIn history L s
+    fits_in =
+        record {
+          got = subst (IsFront (replies_of L s)) (sym got.are ∙ sym all_are) (front-append (replies_of L s) got.more);
+          asked = subst (λ (qs : List Request). IsFront qs (requests_of L s)) (sym steps_are)
+              (subst (IsFront steps) steps_asked (front-append steps (d.served.served.requests.0 ++ came.second)));
+          ended = end_is_last s journal answered just others;
+        }
+
+  pub traffic_of : AllByRecursion IsReply (replies_in (accepted history) history s) → IsTraffic history L s (transcript x)
+  traffic_of sendable = traffic (subst (AllByRecursion IsReply) all_are sendable)
+
+  pub fits_of : AllByRecursion IsReply (replies_in (accepted history) history s) → FitsIn history L s
+  fits_of sendable = fits_in (subst (AllByRecursion IsReply) all_are sendable)

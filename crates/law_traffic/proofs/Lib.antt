@@ -1,0 +1,12 @@
+pub mod Cuts
+pub mod Ours
+pub mod Messages
+pub mod Dues
+pub mod Bytes
+pub mod Asking
+pub mod Counted
+pub mod Owners
+pub mod Sendable
+pub mod Recorded
+pub mod Stuck
+pub mod Whole

@@ -1,0 +1,191 @@
+-- No client of a run that is done waits at an end that is shut, or for a reply that it does not take.
+use Rattle.std.proofs.Common.{◌≡◌, ◌≢◌, ℕ, true, false, inl, inr, List, [], ◌∷◌, ◌++◌, length, map, reverse, Some, None, slice_get, Ok, refl, sym, ap, subst, ◌∙◌, arith, append-nil, length-append, true≢false}
+use Rattle.std.specs.List.{AllByRecursion}
+use Rattle.std.proofs.lemmas.List.{length-map, append_cancel_left}
+use Rattle.std.proofs.lemmas.Option.{none-some, same_Some}
+use mathlib.Core.List.{IsPrefix}
+use Rattle.sv_frame.specs.Frames.{frame, frames_of, FitsFrame, first_frame, too_long}
+use Rattle.sv_frame.specs.Streams.{incoming_items, last_item, Incoming}
+use Rattle.sv_frame.specs.Streams.Incoming.{Payload}
+use Rattle.sv_frame.proofs.Fronts.{first_frame-append, first_frame-frame, first_frame-shorter}
+use Rattle.sv_frame.proofs.Splitting.{split-all_frames}
+use Rattle.sv_wire.specs.declared.message.Request.{Request}
+use Rattle.sv_wire.specs.declared.message.Request.TheVariants as requests
+use Rattle.sv_wire.specs.declared.message.Reply.{Reply}
+use Rattle.sv_wire.specs.declared.message.Reply.TheVariants as replies
+use Rattle.sv_wire.specs.Messages.{reply_at}
+use Rattle.sv_wire.specs.Spelling.{request_bytes, reply_bytes}
+use Rattle.sv_wire.specs.Laws.{IsReply}
+use Rattle.sv_journal.specs.declared.entry.Entry.{Entry}
+use Rattle.sv_journal.specs.History.{accepted, full_reply}
+use Rattle.sv_journal.specs.Laws.{FullRepliesStay, LegalRelaysNameAccepted}
+use Rattle.sv_client.specs.declared.trace.Trace.{Trace}
+use Rattle.sv_client.specs.Traces.{requests_of, got, asked}
+use Rattle.sv_client.specs.Taking.{allows, first_fault_of_reply}
+use Rattle.sv_client.specs.Proper.{Proper, identity_of}
+use Rattle.sv_world.specs.declared.world.Shape.{Shape}
+use Rattle.sv_system.proofs.Asked.{got-when, got-answers, part-rest, asked-part}
+use Rattle.sv_system.proofs.Fronts.{get-last}
+use Rattle.sv_system.proofs.Leaving.{leave-last}
+use Rattle.sv_system.proofs.Order.{never-refused}
+use Rattle.sv_client.specs.declared.trace.Event.TheVariants as events
+use Rattle.sv_asked.proofs.Every.{each-right}
+use Rattle.sv_session.specs.declared.outcome.SessionOut.TheVariants as outs
+use Rattle.sv_exchange.proofs.Sizes.{reply_short, reply_back}
+use Rattle.law_traffic.specs.Carried.{reply_frames, BeginsWith, NoneCame, is_cut, replies_of}
+use Rattle.law_traffic.specs.Sessions.{Over, IsSessionDone}
+use Rattle.law_traffic.specs.Traffic.{is_stop, EndsWithStop, TookAll}
+use Rattle.law_traffic.specs.Stuck.{IsTakeable}
+use Rattle.law_traffic.proofs.Cuts.{front_none, empty_short, not_long}
+use Rattle.law_traffic.proofs.Messages.{requests_fit, request_frames_are, reply_frames_both, AreGot, got_first}
+use Rattle.law_traffic.proofs.Bytes.{answered, steps, all, messages, received_part, sent_whole, no_fault_open, how_ended}
+
+-- ---- Frames of replies
+
+one_frame : (w : Reply) (ws : List Reply) → reply_frames (w ∷ ws) ≡ frame (reply_bytes w) ++ reply_frames ws
+unfolding reply_frames
+one_frame w ws = refl
+
+no_frames : reply_frames [] ≡ []
+unfolding reply_frames
+no_frames = refl
+
+-- The reply that comes next, whose frame a rest begins with.
+record IsNext (more : List Reply) (payload : List ℕ) : Type 0 where
+  pub reply : Reply
+  pub others : List Reply
+  pub are : more ≡ reply ∷ others
+  pub bytes : payload ≡ reply_bytes reply
+
+next_of : (more : List Reply) (rest payload after : List ℕ) → AllByRecursion IsReply more → IsPrefix rest (reply_frames more) → first_frame rest ≡ Some (payload, after) → IsNext more payload
+next_of [] rest payload after fine p first =
+    let longer = first_frame-shorter (rest ++ p.0) payload (after ++ p.0) (first_frame-append rest p.0 payload after first) in
+    let none = ap (λ (l : List ℕ). length l) (p.1 ∙ no_frames) in
+    absurd (omega (arith, longer, none))
+next_of (w ∷ ws) rest payload after fine p first =
+    let here = first_frame-append rest p.0 payload after first in
+    let there = ap first_frame (p.1 ∙ one_frame w ws) ∙ first_frame-frame (reply_bytes w) (reply_frames ws) (reply_short w fine.0) in
+    let same = same_Some {A = List ℕ × List ℕ} (payload, after ++ p.0) (reply_bytes w, reply_frames ws) (sym here ∙ there) in
+    record { reply = w; others = ws; are = refl; bytes = ap (λ (q : List ℕ × List ℕ). q.0) same }
+
+next_short : (more : List Reply) (rest : List ℕ) → AllByRecursion IsReply more → IsPrefix rest (reply_frames more) → too_long rest ≡ None
+next_short [] rest fine p = ap too_long (front_none rest p.0 (p.1 ∙ no_frames)) ∙ empty_short
+next_short (w ∷ ws) rest fine p = not_long (reply_bytes w) rest p.0 (reply_frames ws) (reply_short w fine.0) (p.1 ∙ one_frame w ws)
+
+no_more : (more : List Reply) (rest : List ℕ) → AllByRecursion IsReply more → rest ≡ reply_frames more → first_frame rest ≡ None → more ≡ []
+no_more [] rest fine is none = refl
+no_more (w ∷ ws) rest fine is none =
+    let there = ap first_frame (is ∙ one_frame w ws) ∙ first_frame-frame (reply_bytes w) (reply_frames ws) (reply_short w fine.0) in
+    absurd (none-some (reply_bytes w, reply_frames ws) (sym none ∙ there))
+
+whole_items : (payloads : List (List ℕ)) → AllByRecursion FitsFrame payloads → incoming_items (frames_of payloads) ≡ map Payload payloads
+unfolding incoming_items
+whole_items payloads fits =
+    ap (λ (split : List (List ℕ) × List ℕ). map Payload split.0 ++ last_item (too_long split.1)) (split-all_frames payloads fits)
+    ∙ (ap (λ o. map Payload payloads ++ last_item o) empty_short ∙ append-nil (map Payload payloads))
+
+counted_items : (qs : List Request) → length (map Payload (map request_bytes qs)) ≡ length qs
+counted_items qs = length-map (map request_bytes qs) Payload ∙ length-map qs request_bytes
+
+-- ---- The last reply
+
+stop_answers : (q : Request) (w : Reply) → is_stop w ≡ true → allows q w ≡ true → q ≡ requests.Leave
+stop_answers q (replies.Refused code detail) stop kind = absurd (true≢false (sym kind ∙ never-refused q code detail))
+stop_answers requests.Leave replies.Bye stop kind = refl
+stop_answers (requests.Join client life interest) replies.Bye stop kind = cc
+stop_answers (requests.Submit seq action) replies.Bye stop kind = cc
+stop_answers (requests.Done results) replies.Bye stop kind = cc
+stop_answers requests.Poll replies.Bye stop kind = cc
+stop_answers requests.Bad replies.Bye stop kind = cc
+stop_answers requests.End replies.Bye stop kind = cc
+stop_answers q (replies.Welcome commit head) stop kind = cc
+stop_answers q (replies.Relay seq commit head items) stop kind = cc
+stop_answers q (replies.Dropped seq chain far) stop kind = cc
+stop_answers q (replies.Settled seq place) stop kind = cc
+stop_answers q (replies.Noted commit) stop kind = cc
+stop_answers q replies.Idle stop kind = cc
+
+-- Where the last reply that was got stops a session, nothing is awaited in it.
+none_awaited : (shape : Shape) (L : Trace) (s : ℕ) → Proper shape L → EndsWithStop (replies_of L s) → length (replies_of L s) ≡ length (requests_of L s)
+none_awaited shape L s proper stop =
+    let who = identity_of shape L in
+    let whole = reverse L.events in
+    let n = length stop.before in
+    let is : slice_get (got whole s) n ≡ Some stop.last = ap (λ (l : List Reply). slice_get l n) stop.are ∙ get-last stop.before stop.last in
+    let g = got-when who L.first whole s n stop.last is in
+    let a = got-answers who L.first whole proper.events s n stop.last g in
+    let leave : a.request ≡ requests.Leave = stop_answers a.request stop.last stop.stop a.kind in
+    let part = part-rest g.before (events.Got s stop.last) whole g.part in
+    let there : slice_get (asked L.client L.interest g.before s) n ≡ Some requests.Leave =
+    ap (slice_get (asked L.client L.interest g.before s)) g.place ∙ (a.asked_there ∙ ap Some leave) in
+    let last = leave-last who L.first whole proper.events s n (asked-part who L.first g.before whole part s n requests.Leave there) in
+    let count = ap (λ (l : List Reply). length l) stop.are ∙ length-append stop.before (stop.last ∷ []) in
+    let all = last.last in
+    omega (arith, count, all)
+
+-- ---- An open session
+
+module _ (stay : FullRepliesStay) (name : LegalRelaysNameAccepted) (journal : List Entry) (L : Trace) (s : ℕ) (x : Over) (d : IsSessionDone journal L s x)
+    (sendable : AllByRecursion IsReply (all stay name journal L s x d)) (rest : List ℕ) (begins : BeginsWith x.client.received (replies_of L s) rest) where
+  abbrev whole_all : List Reply
+  whole_all = all stay name journal L s x d
+
+  abbrev own_steps : List Request
+  own_steps = steps stay name journal L s x d
+
+  g : AreGot whole_all x.client.received (replies_of L s) rest
+  g = got_first whole_all x.client.received (replies_of L s) rest sendable (received_part stay name journal L s x d) begins
+
+  more_fine : AllByRecursion IsReply g.more
+  more_fine = each-right IsReply (replies_of L s) g.more (subst (AllByRecursion IsReply) g.are sendable)
+
+  -- the reply that comes next is the first that was not got
+  pub takeable : (shape : Shape) → ((w : Reply) → slice_get whole_all (length (replies_of L s)) ≡ Some w → first_fault_of_reply (identity_of shape L) (reverse L.events) w ≡ None) → IsTakeable shape L rest
+  takeable shape taken =
+      record {
+        short = next_short g.more rest more_fine g.next;
+        next = λ payload after first. found payload (next_of g.more rest payload after more_fine g.next first);
+      }
+    where
+      at_length : (xs : List Reply) (w : Reply) (ws : List Reply) → slice_get (xs ++ w ∷ ws) (length xs) ≡ Some w
+      at_length [] w ws = refl
+      at_length (y ∷ ys) w ws = at_length ys w ws
+
+      found : (payload : List ℕ) → IsNext g.more payload → (w : Reply) × ((reply_at payload ≡ Ok w) × (first_fault_of_reply (identity_of shape L) (reverse L.events) w ≡ None))
+      found payload n =
+          let are : whole_all ≡ replies_of L s ++ n.reply ∷ n.others = g.are ∙ ap (λ (l : List Reply). replies_of L s ++ l) n.are in
+          let fine = (subst (AllByRecursion IsReply) n.are more_fine).0 in
+          (n.reply, (ap reply_at n.bytes ∙ reply_back n.reply fine, taken n.reply (ap (λ (l : List Reply). slice_get l (length (replies_of L s))) are ∙ at_length (replies_of L s) n.reply n.others)))
+
+  module _ (shape : Shape) (proper : Proper shape L) (open_is : is_cut (reverse L.events) s ≡ false) (ended : x.client.ended ≡ true) (none : NoneCame rest) where
+    faultless : x.out ≢ outs.LinkFault
+    faultless = no_fault_open stay name journal L s x d open_is
+
+    received_all : x.client.received ≡ reply_frames whole_all
+    received_all = d.settled.arrived.to_client.whole ended ∙ sent_whole stay name journal L s x d faultless
+
+    rest_is : rest ≡ reply_frames g.more
+    rest_is =
+        append_cancel_left (reply_frames (replies_of L s)) rest (reply_frames g.more)
+        (sym g.whole ∙ (received_all ∙ (ap reply_frames g.are ∙ reply_frames_both (replies_of L s) g.more)))
+
+    got_all : whole_all ≡ replies_of L s
+    got_all = g.are ∙ (ap (λ (l : List Reply). replies_of L s ++ l) (no_more g.more rest more_fine rest_is none.0) ∙ append-nil (replies_of L s))
+
+    asked_all : TookAll x.server.ended x.server.received own_steps → length own_steps ≡ length (requests_of L s)
+    asked_all t =
+        let came = d.settled.arrived.to_server.whole t.ended_is ∙ (d.carried.sent ∙ request_frames_are (requests_of L s)) in
+        let items = sym t.items ∙ (ap incoming_items came ∙ whole_items (map request_bytes (requests_of L s)) (requests_fit (requests_of L s) (messages stay name journal L s x d))) in
+        sym (counted_items own_steps) ∙ (ap (λ (l : List Incoming). length l) items ∙ counted_items (requests_of L s))
+
+    pub none_is_awaited : length (replies_of L s) ≡ length (requests_of L s)
+    none_is_awaited =
+        elim (how_ended stay name journal L s x d faultless) [
+          | inl stop ↦ none_awaited shape L s proper (subst EndsWithStop got_all stop)
+          | inr took ↦
+              let all_asked = asked_all took in
+              let as_many = length-map (answered stay name journal L s x d) (λ (e : Entry). full_reply (accepted (reverse journal)) e.reply) in
+              let stepped = length-map (answered stay name journal L s x d) (λ (e : Entry). e.request) in
+              let same = ap (λ (l : List Reply). length l) got_all in
+              omega (arith, all_asked, as_many, stepped, same)
+        ]

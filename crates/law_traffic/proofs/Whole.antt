@@ -1,0 +1,177 @@
+-- The open sessions of a run, and the traffic of all sessions.
+use Rattle.std.proofs.Common.{◌≡◌, ℕ, zero, suc, ◌+◌, ◌-◌, ◌≤◌, Bool, true, List, [], ◌∷◌, length, map, reverse, Some, None, slice_get, Result, Ok, Err, inl, inr, ◌⊎◌, ℤ, sym, ap, subst, ◌∙◌, arith, refl}
+use Rattle.std.specs.Prelude.{All}
+use Rattle.std.specs.List.{AllByRecursion}
+use Rattle.std.proofs.lemmas.List.{length-map}
+use Rattle.std.proofs.lemmas.Option.{none-some, same_Some}
+use Rattle.sv_link.specs.Nets.{counted}
+use Rattle.sv_wire.specs.declared.fault.Malformed.{Malformed}
+use Rattle.sv_wire.specs.declared.message.Reply.{Reply}
+use Rattle.sv_wire.specs.Laws.{IsReply}
+use Rattle.sv_journal.specs.declared.entry.Entry.{Entry}
+use Rattle.sv_journal.specs.History.{accepted}
+use Rattle.sv_journal.specs.Answer.{Rules, Legal}
+use Rattle.sv_journal.specs.Laws.{FullRepliesStay, LegalRelaysNameAccepted}
+use Rattle.sv_client.specs.declared.trace.Trace.{Trace}
+use Rattle.sv_client.specs.Traces.{current_session, requests_of, got}
+use Rattle.sv_client.specs.Taking.{first_fault_of_reply}
+use Rattle.sv_client.specs.Proper.{identity_of}
+use Rattle.sv_scenario.specs.declared.scenario.Plan.{Plan}
+use Rattle.sv_scenario.specs.declared.scenario.Scenario.{Scenario}
+use Rattle.sv_system.specs.Fits.{is_join_of, has_session, replies_in, Fits}
+use Rattle.sv_system.specs.Records.{rules_of, EachTrace, ScriptsAreFollowed}
+use Rattle.sv_script.specs.Following.{FollowsToEnd}
+use Rattle.sv_system.proofs.Asked.{any-reverse, current-joined}
+use Rattle.sv_asked.specs.Asked.{RepliesAreMessages}
+use Rattle.law_traffic.specs.Carried.{BeginsWith, replies_of}
+use Rattle.law_traffic.specs.Sessions.{Over, transcript, IsSessionDone}
+use Rattle.law_traffic.specs.Traffic.{IsTraffic}
+use Rattle.law_traffic.specs.Stuck.{IsShut, IsBadRest, NotRead, Refused, TooLong, IsStopped, IsTakeable}
+use Rattle.law_traffic.specs.Runs.{EachSession, IsRun, IsGoodRun, IsOpenIn, TrafficIsRecorded, EndOrAreStopped, UncutSessionsHaveNoFault}
+use Rattle.law_traffic.proofs.Asking.{few_asked}
+use Rattle.law_traffic.proofs.Bytes.{all, all_are, traffic_of}
+use Rattle.law_traffic.proofs.Owners.{in_range}
+use Rattle.law_traffic.proofs.Recorded.{fits}
+use Rattle.law_traffic.proofs.Sendable.{IsWellDone, well, limits_of, sendable}
+use Rattle.law_traffic.proofs.Stuck.{takeable, none_is_awaited}
+
+-- The law of honest clients.
+abbrev pub NeverRefused : Type 0
+NeverRefused = (r : Rules) (h : List Entry) (Ls : List Trace) (i : ℕ) (L : Trace) (s : ℕ) (reply : Reply) →
+    length r.world.values ≡ r.world.shape.objects → All (λ (v : List ℤ). length v ≡ r.world.shape.attrs) r.world.values → r.bound ≤ 32 →
+    Legal r h → Fits r.world.shape h Ls → slice_get Ls i ≡ Some L →
+    current_session (reverse L.events) ≡ Some s → length (requests_of L s) ≤ 1024 →
+    slice_get (replies_in (accepted h) h s) (length (got (reverse L.events) s)) ≡ Some reply →
+    first_fault_of_reply (identity_of r.world.shape L) (reverse L.events) reply ≡ None
+
+trace_at : (P : Plan → Trace → Type 0) (plans : List Plan) (Ls : List Trace) (i : ℕ) (L : Trace) → EachTrace P plans Ls → slice_get Ls i ≡ Some L → (plan : Plan) × P plan L
+trace_at P [] [] i L e m = absurd (none-some L m)
+trace_at P [] (M ∷ Ms) i L e m = absurd e
+trace_at P (plan ∷ plans) [] i L e m = absurd (none-some L m)
+trace_at P (plan ∷ plans) (M ∷ Ms) zero L e m = (plan, subst (P plan) (same_Some M L m) e.0)
+trace_at P (plan ∷ plans) (M ∷ Ms) (suc i) L e m = trace_at P plans Ms i L e.1 m
+
+-- by the places of the traces
+each_trace : (P Q : Plan → Trace → Type 0) (plans : List Plan) (Ls : List Trace) → EachTrace P plans Ls → ((i : ℕ) (plan : Plan) (L : Trace) → slice_get Ls i ≡ Some L → P plan L → Q plan L) → EachTrace Q plans Ls
+each_trace P Q [] [] e f = tt
+each_trace P Q [] (M ∷ Ms) e f = absurd e
+each_trace P Q (plan ∷ plans) [] e f = absurd e
+each_trace P Q (plan ∷ plans) (M ∷ Ms) e f = (f 0 plan M refl e.0, each_trace P Q plans Ms e.1 (λ i. f (suc i)))
+
+same_reply : (x y : Reply) → ◌≡◌ {A = Result Reply Malformed} (Ok x) (Ok y) → x ≡ y
+same_reply x y e = ap value e
+  where
+    value : Result Reply Malformed → Reply
+    value (Ok w) = w
+    value _ = x
+
+map_there : {X Y : Type 0} (f : X → Y) (xs : List X) (i : ℕ) (x : X) → slice_get xs i ≡ Some x → slice_get (map f xs) i ≡ Some (f x)
+map_there f [] i x e = absurd (none-some x e)
+map_there f (y ∷ ys) zero x e = ap (λ z. Some (f z)) (same_Some y x e)
+map_there f (y ∷ ys) (suc i) x e = map_there f ys i x e
+
+module _ (stay : FullRepliesStay) (name : LegalRelaysNameAccepted) (messages : RepliesAreMessages) (scenario : Scenario) (journal : List Entry) (Ls : List Trace) (sessions : List Over)
+    (good : IsGoodRun scenario) (run : IsRun scenario journal Ls sessions) where
+  abbrev IsWell : Plan → Trace → Type 0
+  IsWell plan L = IsWellDone scenario journal sessions plan L
+
+  abbrev all_well : EachTrace (IsWellDone scenario journal sessions) scenario.clients Ls
+  all_well = well stay name messages scenario journal Ls sessions good run
+
+  -- ---- Traffic
+
+  traffic_in : (plan : Plan) (L : Trace) → IsWell plan L → EachSession (λ s x. IsTraffic (reverse journal) L s x) (map transcript sessions) plan L
+  traffic_in plan L w n low =
+      let found = w.done n low in (
+        transcript found.0,
+        (
+          map_there transcript sessions (L.first + n) found.0 found.1.0,
+          traffic_of stay name journal L (L.first + n) found.0 found.1.1 (sendable stay name messages scenario journal Ls sessions good run (L.first + n)),
+        ),
+      )
+
+  traffic_each : (plans : List Plan) (Ms : List Trace) → EachTrace (IsWellDone scenario journal sessions) plans Ms →
+      EachTrace (λ plan L. EachSession (λ s x. IsTraffic (reverse journal) L s x) (map transcript sessions) plan L) plans Ms
+  traffic_each [] [] e = tt
+  traffic_each [] (L ∷ Ms) e = absurd e
+  traffic_each (plan ∷ plans) [] e = absurd e
+  traffic_each (plan ∷ plans) (L ∷ Ms) e = (traffic_in plan L e.0, traffic_each plans Ms e.1)
+
+  pub traffic_is_recorded : TrafficIsRecorded scenario (reverse journal) Ls (map transcript sessions)
+  traffic_is_recorded = record { count = length-map sessions transcript ∙ run.count; each = traffic_each scenario.clients Ls all_well }
+
+  -- ---- Open sessions
+
+  module _ (L : Trace) (s : ℕ) (x : Over) (o : IsOpenIn Ls sessions L s x) where
+    mine_well : (plan : Plan) × IsWellDone scenario journal sessions plan L
+    mine_well = trace_at (IsWellDone scenario journal sessions) scenario.clients Ls o.place L all_well o.member
+
+    joined : has_session L s ≡ true
+    joined = any-reverse (is_join_of s) L.events (current-joined (reverse L.events) s o.session.current)
+
+    pub open_done : IsSessionDone journal L s x
+    open_done =
+        let w = mine_well.1 in
+        let b = in_range scenario.world.shape mine_well.0 L s w.proper w.follows joined in
+        let n = s - L.first in
+        let found = w.done n (omega (arith, b.0, b.1)) in
+        let is : L.first + n ≡ s = omega (arith, b.0) in
+        let same : found.0 ≡ x = same_Some found.0 x (sym found.1.0 ∙ (ap (slice_get sessions) is ∙ o.there)) in
+        subst (λ (y : Over). IsSessionDone journal L s y) same (subst (λ (m : ℕ). IsSessionDone journal L m found.0) is found.1.1)
+
+    can_be_sent : AllByRecursion IsReply (all stay name journal L s x open_done)
+    can_be_sent =
+        subst (AllByRecursion IsReply) (all_are stay name journal L s x open_done) (sendable stay name messages scenario journal Ls sessions good run s)
+
+    pub not_shut : IsShut L s x.client → ⊥
+    not_shut shut =
+        let same = none_is_awaited stay name journal L s x open_done can_be_sent shut.rest shut.received scenario.world.shape mine_well.1.proper o.session.open_is shut.ended shut.none in
+        let awaited = shut.awaited in
+        omega (arith, same, awaited)
+
+    pub next_taken : NeverRefused → (rest : List ℕ) → BeginsWith x.client.received (replies_of L s) rest → IsTakeable scenario.world.shape L rest
+    next_taken law rest begins =
+        let limits = limits_of scenario good.good in
+        let w = mine_well.1 in
+        let few = few_asked (identity_of scenario.world.shape L) L.first mine_well.0.steps (reverse L.events) w.follows.left s w.good.few_steps w.proper.events w.follows.follows in
+        takeable stay name journal L s x open_done can_be_sent rest begins scenario.world.shape
+        (λ reply there. law (rules_of scenario) (reverse journal) Ls o.place L s reply limits.objects limits.attrs limits.bound run.legal
+        (fits stay name messages scenario journal Ls sessions good run) o.member o.session.current (omega (arith, few))
+        (ap (λ (ws : List Reply). slice_get ws (length (got (reverse L.events) s))) (all_are stay name journal L s x open_done) ∙ there))
+
+  -- ---- The ends of traces
+
+  not_bad : NeverRefused → (L : Trace) (s : ℕ) (x : Over) → IsOpenIn Ls sessions L s x → (rest : List ℕ) → BeginsWith x.client.received (replies_of L s) rest → IsBadRest scenario.world.shape L rest → ⊥
+  not_bad law L s x o rest begins (NotRead payload after fault first err) =
+      let n = (next_taken L s x o law rest begins).next payload after first in
+      let same : Ok n.0 ≡ Err fault = sym n.1.0 ∙ err in
+      cc
+  not_bad law L s x o rest begins (Refused payload after reply fault first read some) =
+      let n = (next_taken L s x o law rest begins).next payload after first in
+      let same : n.0 ≡ reply = same_reply n.0 reply (sym n.1.0 ∙ read) in
+      none-some fault (sym n.1.1 ∙ (ap (first_fault_of_reply (identity_of scenario.world.shape L) (reverse L.events)) same ∙ some))
+  not_bad law L s x o rest begins (TooLong n long) = none-some n (sym (next_taken L s x o law rest begins).short ∙ long)
+
+  not_stopped : NeverRefused → (i : ℕ) (L : Trace) → slice_get Ls i ≡ Some L → IsStopped scenario.world.shape L sessions → ⊥
+  not_stopped law i L member stop =
+      let o : IsOpenIn Ls sessions L stop.session stop.over = record { place = i; member = member; session = stop.open_is; there = stop.there } in
+      elim stop.how [
+        | inl shut ↦ not_shut L stop.session stop.over o shut
+        | inr bad ↦ not_bad law L stop.session stop.over o bad.rest bad.received bad.bad
+      ]
+
+  to_the_end : NeverRefused → (i : ℕ) (plan : Plan) (L : Trace) → slice_get Ls i ≡ Some L → FollowsToEnd scenario.world.shape plan.steps L ⊎ IsStopped scenario.world.shape L sessions →
+      FollowsToEnd scenario.world.shape plan.steps L
+  to_the_end law i plan L member (inl end) = end
+  to_the_end law i plan L member (inr stop) = absurd (not_stopped law i L member stop)
+
+  pub scripts_are_followed : NeverRefused → EndOrAreStopped scenario Ls sessions → ScriptsAreFollowed scenario.world.shape scenario.clients Ls
+  scripts_are_followed law ends =
+      each_trace (λ plan L. FollowsToEnd scenario.world.shape plan.steps L ⊎ IsStopped scenario.world.shape L sessions) (λ plan L. FollowsToEnd scenario.world.shape plan.steps L)
+      scenario.clients Ls ends (to_the_end law)
+
+-- No fault counts where no session was cut.
+pub no_faults : UncutSessionsHaveNoFault
+no_faults L s x settled uncut =
+    let none : x.server_faults + x.client_faults ≡ 0 = sym (ap (λ (b : Bool). counted b x.server_faults x.client_faults) uncut) ∙ settled.faultless in
+    (omega (arith, none), omega (arith, none))

@@ -1,0 +1,5 @@
+use Rattle.law_traffic.proofs.Cuts.{cut_frames_are_front_frames}
+use Rattle.law_traffic.proofs.cutting.cut_frames_are_front_frames.Goals as goal
+
+pub returns : goal.returns
+returns c = cut_frames_are_front_frames

@@ -1,0 +1,7 @@
+pub mod Carried
+pub mod Cuts
+pub mod Sessions
+pub mod Traffic
+pub mod Laws
+pub mod Stuck
+pub mod Runs

@@ -1,0 +1,46 @@
+-- What the two ends of a session moved, against the journal and the client's trace.
+-- A history is the list of a journal's entries with the latest first.
+use Rattle.std.specs.Prelude.{◌≡◌, ◌⊎◌, ℕ, Bool, true, false, ◌==◌, ◌||◌, List, [], ◌∷◌, ◌++◌, map, reverse}
+use mathlib.Core.List.{IsPrefix}
+use Rattle.sv_frame.specs.Streams.{incoming_items}
+use Rattle.sv_frame.specs.Streams.Incoming.{Payload}
+use Rattle.sv_link.specs.Nets.{Transcript}
+use Rattle.sv_wire.specs.declared.message.Request.{Request}
+use Rattle.sv_wire.specs.declared.message.Reply.{Reply}
+use Rattle.sv_wire.specs.declared.message.Reply.TheVariants as replies
+use Rattle.sv_wire.specs.Spelling.{request_bytes}
+use Rattle.sv_journal.specs.declared.entry.Entry.{Entry}
+use Rattle.sv_journal.specs.History.{accepted}
+use Rattle.sv_client.specs.declared.trace.Trace.{Trace}
+use Rattle.sv_client.specs.Traces.{requests_of}
+use Rattle.sv_system.specs.Fits.{requests_in, replies_in}
+use Rattle.law_traffic.specs.Carried.{request_frames, reply_frames, is_cut, replies_of}
+
+-- the replies after which a session's loop stops: Bye, and Refused for a malformed payload, an ended session and a spent one
+abbrev pub is_stop : Reply → Bool
+is_stop replies.Bye = true
+is_stop (replies.Refused code detail) = code == 1 || code == 4 || code == 9
+is_stop _ = false
+
+-- the last of these replies is such a one
+pub record EndsWithStop (all : List Reply) : Type 0 where
+  pub before : List Reply
+  pub last : Reply
+  pub are : all ≡ before ++ last ∷ []
+  pub stop : is_stop last ≡ true
+
+-- The end was told that no more will come, and each payload that it received is that of one of these requests, in order.
+pub record TookAll (ended : Bool) (received : List ℕ) (requests : List Request) : Type 0 where
+  pub ended_is : ended ≡ true
+  pub items : incoming_items received ≡ map Payload (map request_bytes requests)
+
+-- The bytes of session s are those of the requests that the trace asked and the replies that the journal has, in full, as far as they went.
+pub record IsTraffic (h : List Entry) (L : Trace) (s : ℕ) (x : Transcript) : Type 0 where
+  pub asked : x.client_sent ≡ request_frames (requests_of L s)
+  pub arrived : IsPrefix x.server_received x.client_sent
+  pub stepped : IsPrefix (request_frames (requests_in h s)) x.server_received
+  pub replied : IsPrefix x.server_sent (reply_frames (replies_in (accepted h) h s))
+  pub whole : is_cut (reverse L.events) s ≡ false → x.server_sent ≡ reply_frames (replies_in (accepted h) h s)
+  pub returned : IsPrefix x.client_received x.server_sent
+  pub got : IsPrefix (reply_frames (replies_of L s)) x.client_received
+  pub end : x.server_faulty ≡ false → EndsWithStop (replies_in (accepted h) h s) ⊎ TookAll x.server_ended x.server_received (requests_in h s)
