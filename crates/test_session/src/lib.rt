@@ -9,5 +9,3 @@ mod frames;
 mod opening;
 #[cfg(test)]
 mod tests;
-#[cfg(test)]
-mod threads;

@@ -61,10 +61,7 @@ fn serve<R: Wait>(
         Err((_, error)) => return Err(Fail::from(error)),
     };
     let mut pass = lock.split(&mut keeper);
-    let served = serve_by(rt, alloc, &lock, &mut pass, end);
-    lock.join(&mut keeper, pass);
-    let _sequencer = lock.close(keeper);
-    served
+    serve_by(rt, alloc, &lock, &mut pass, end)
 }
 
 fn check<R: Wait>(rt: &R, alloc: Global, rows: &[Row]) -> Result<(), Fail> {
@@ -136,16 +133,22 @@ const MALFORMED: &[&[u8]] = &[
     ],
 ];
 
+/// A Poll, and then the frame of a payload.
+fn polled_before(alloc: Global, payload: &[u8]) -> Result<Vec<u8>, Fail> {
+    let mut bytes = joined(alloc, &[POLL, &[0, 0, 0]])?;
+    bytes.push(u8::try_from(payload.len()).unwrap_or(0))?;
+    bytes.extend_from_slice(payload)?;
+    Ok(bytes)
+}
+
 #[test]
 fn malformed_payloads_end_their_session(rt: HostRuntime) -> Result<(), Fail> {
+    let replies = joined(rt.alloc(), &[REFUSED_2, REFUSED_1])?;
     for payload in MALFORMED {
-        let length = payload.len() as u8;
-        let rows: [Row; 1] = [(
-            &[POLL, &[0, 0, 0, length], payload],
-            SessionOut::Malformed,
-            &[REFUSED_2, REFUSED_1],
-        )];
-        check(&rt, rt.alloc(), &rows)?;
+        let coming = polled_before(rt.alloc(), payload)?;
+        let (out, sent) = serve(&rt, rt.alloc(), &coming, 3, 0)?;
+        assert_eq!(rt; out, SessionOut::Malformed);
+        assert!(rt; sent == replies);
     }
     Ok(())
 }
