@@ -1,0 +1,13 @@
+pub mod Well
+pub mod Sizes
+pub mod Wire
+pub mod Awaited
+pub mod Linking
+pub mod Posting
+pub mod Going
+pub mod Doing
+pub mod Choosing
+pub mod Onward
+pub mod Turns
+pub mod Taking
+pub mod Receiving

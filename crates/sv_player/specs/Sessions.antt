@@ -1,0 +1,202 @@
+-- One session of a player, from its Join to what ends it. The client's own sessions are numbered from 0 here.
+-- Events stand with the latest first: `e ∷ t` is t, and then e.
+use Rattle.std.specs.Prelude.{◌≡◌, ◌≢◌, ℕ, suc, ◌+◌, ◌<◌, Bool, true, false, ◌||◌, List, [], ◌∷◌, length, Option, Some, None, option_map, Result, Ok, Err}
+use Rattle.sv_bytes.specs.Faults.{Rose}
+use Rattle.sv_frame.specs.Frames.{first_frame, too_long}
+use Rattle.sv_link.specs.Ends.{Told}
+use Rattle.sv_link.specs.declared.ends.Sent.{Sent}
+use Rattle.sv_link.specs.declared.ends.Sent.TheVariants as answers
+use Rattle.sv_wire.specs.declared.message.Reply.{Reply}
+use Rattle.sv_wire.specs.declared.message.Reply.TheVariants as replies
+use Rattle.sv_wire.specs.Messages.{reply_at}
+use Rattle.sv_wire.specs.Grammar.{IsWireReply}
+use Rattle.sv_client.specs.declared.fault.TakeFault.{TakeFault}
+use Rattle.sv_client.specs.declared.fault.TakeFault.TheVariants as take_faults
+use Rattle.sv_client.specs.declared.trace.Event.{Event}
+use Rattle.sv_client.specs.declared.trace.Event.TheVariants as events
+use Rattle.sv_client.specs.Traces.{current_session, is_session, asked, got}
+use Rattle.sv_client.specs.Taking.{Identity, outstanding}
+use Rattle.sv_client.specs.Proper.{AreProper}
+use Rattle.sv_client.specs.Answers.{IsTakeFault}
+use Rattle.sv_scenario.specs.declared.scenario.Step.{Step}
+use Rattle.sv_script.specs.Following.{FollowsTo, is_finished}
+use Rattle.sv_player.specs.declared.buffers.Buffers.{Buffers}
+use Rattle.sv_player.specs.declared.outcome.PlayerCause.{PlayerCause}
+use Rattle.sv_player.specs.declared.outcome.PlayerCause.TheVariants as causes
+use Rattle.sv_player.specs.declared.outcome.ReplyFault.{ReplyFault}
+use Rattle.sv_player.specs.declared.outcome.ReplyFault.TheVariants as faults
+use Rattle.sv_player.specs.declared.playing.Player.{Player}
+use Rattle.sv_player.specs.declared.outcome.Ending.{Ending}
+use Rattle.sv_player.specs.declared.outcome.Ending.TheVariants as endings
+use Rattle.sv_player.specs.Carried.{request_frames, BeginsWith, Posted, PostedPart, IsLinked, IsLinkedInPart}
+use Rattle.sv_player.specs.Waiting.{NoneCame}
+use Rattle.sv_player.specs.Going.{AreTold, IsGoing, IsHere, IsReady}
+
+-- the trace cut session s, or quit in it
+abbrev pub is_cut : List Event → ℕ → Bool
+is_cut [] s = false
+is_cut (events.Cut ∷ t) s = is_session (current_session t) s || is_cut t s
+is_cut (events.Quit ∷ t) s = is_session (current_session t) s || is_cut t s
+is_cut (_ ∷ t) s = is_cut t s
+
+-- The player is in session s, over this end.
+pub record IsAt (s : ℕ) (p : Player) (b : Buffers) (end : Told) : Type 0 where
+  pub going : IsGoing p
+  pub current : current_session p.client.events ≡ Some s
+  pub open_is : is_cut p.client.events s ≡ false
+  pub linked : IsLinked p.client.who p.client.events s end b.reader b.outbox
+
+-- What happened to the player happened in session s: nothing was asked, got or cut in any other.
+pub record Onward (s : ℕ) (old new : Player) : Type 0 where
+  pub who : new.client.who ≡ old.client.who
+  pub script : new.script.now ≡ old.script.now
+  pub first : new.first ≡ old.first
+  pub asks : (n : ℕ) → n ≢ s → asked old.client.who.client old.client.who.interest new.client.events n ≡ asked old.client.who.client old.client.who.interest old.client.events n
+  pub gets : (n : ℕ) → n ≢ s → got new.client.events n ≡ got old.client.events n
+  pub cuts : (n : ℕ) → n ≢ s → is_cut new.client.events n ≡ is_cut old.client.events n
+
+-- ---- How a session ends
+
+abbrev pub HasEnded : Ending → List Event → ℕ → Type 0
+HasEnded endings.Cut t s = (u : List Event) × (t ≡ events.Cut ∷ u)
+HasEnded endings.Quit t s = (u : List Event) × (t ≡ events.Quit ∷ u)
+HasEnded endings.Left t s = (u : List Event) × (t ≡ events.Got s replies.Bye ∷ u)
+
+-- The player ended session s: it sent all that it asked, and received the replies that were got.
+pub record Ended (s : ℕ) (old new : Player) (end : Told) (ending : Ending) : Type 0 where
+  pub going : IsGoing new
+  pub onward : Onward s old new
+  pub current : current_session new.client.events ≡ Some s
+  pub how : HasEnded ending new.client.events s
+  pub sent : end.sent ≡ request_frames (asked new.client.who.client new.client.who.interest new.client.events s)
+  pub rest : List ℕ
+  pub received : BeginsWith end.received (got new.client.events s) rest
+
+-- ---- Why a player stops
+
+-- the payload of the first frame
+abbrev pub first_payload : List ℕ → Option (List ℕ)
+first_payload rest = option_map (λ (f : List ℕ × List ℕ). f.0) (first_frame rest)
+
+-- The payload is read as a reply that the client does not take, for this fault.
+pub record IsRefused (who : Identity) (t : List Event) (payload : List ℕ) (fault : TakeFault) : Type 0 where
+  pub reply : Reply
+  pub read : reply_at payload ≡ Ok reply
+  pub fault_is : IsTakeFault who t reply fault
+  pub some : fault ≢ take_faults.Memory
+
+-- the first frame has a payload that is read as this reply
+pub record IsFirst (rest : List ℕ) (reply : Reply) : Type 0 where
+  pub payload : List ℕ
+  pub first : first_payload rest ≡ Some payload
+  pub read : reply_at payload ≡ Ok reply
+  pub wire : IsWireReply reply
+
+-- why the first frame of the rest that was received is no reply that can be taken
+abbrev pub IsBadRest : Identity → List Event → List ℕ → List ℕ → ReplyFault → Type 0
+IsBadRest who t rest payload (faults.Take fault) = (first_payload rest ≡ Some payload) × IsRefused who t payload fault
+IsBadRest who t rest payload (faults.Wire fault) = (first_payload rest ≡ Some payload) × (reply_at payload ≡ Err fault)
+IsBadRest who t rest payload (faults.TooLong n) = (payload ≡ []) × (too_long rest ≡ Some n)
+
+-- the player can't take the first frame of the rest for this cause, which names its session, or there was no memory
+abbrev pub IsFrameFault : Identity → List Event → ℕ → List ℕ → PlayerCause → Type 0
+IsFrameFault who t session rest causes.Memory = Unit {0}
+IsFrameFault who t session rest (causes.BadReply named payload fault) = (named ≡ session) × IsBadRest who t rest payload.items fault
+IsFrameFault who t session rest _ = ⊥
+
+-- A reply is awaited in session s; the end answered that no more will come, and no whole frame or too great length is left.
+pub record IsShut (who : Identity) (t : List Event) (s : ℕ) (end : Told) : Type 0 where
+  pub awaited : length (got t s) < length (asked who.client who.interest t s)
+  pub ended : end.ended ≡ true
+  pub rest : List ℕ
+  pub received : BeginsWith end.received (got t s) rest
+  pub none : NoneCame rest
+
+-- The rest that was received in session s begins with no reply that can be taken.
+pub record IsBad (who : Identity) (t : List Event) (s : ℕ) (end : Told) (payload : List ℕ) (fault : ReplyFault) : Type 0 where
+  pub rest : List ℕ
+  pub received : BeginsWith end.received (got t s) rest
+  pub bad : IsBadRest who t rest payload fault
+
+-- what shows the cause, for a player in session s, whose first session has the number `first`
+abbrev pub IsReason : Identity → List Event → ℕ → ℕ → Told → PlayerCause → Type 0
+IsReason who t first s end causes.Finished = ⊥
+IsReason who t first s end causes.Quit = ⊥
+IsReason who t first s end causes.LinkFault = Unit {0}
+IsReason who t first s end causes.Closed = IsShut who t s end
+IsReason who t first s end (causes.BadReply session payload fault) = (session ≡ s + first) × IsBad who t s end payload.items fault
+IsReason who t first s end causes.Memory = Unit {0}
+
+-- Something stopped the player in session s.
+pub record Stopped (s : ℕ) (old new : Player) (end : Told) (cause : PlayerCause) : Type 0 where
+  pub onward : Onward s old new
+  pub proper : AreProper new.client.who 0 new.client.events
+  pub left : List Step
+  pub follows : FollowsTo new.client.who new.script.now new.client.events left
+  pub current : cause ≢ causes.Memory → current_session new.client.events ≡ Some s
+  pub open_is : is_cut new.client.events s ≡ false
+  pub part : IsLinkedInPart new.client.who new.client.events s end
+  pub whole : cause ≢ causes.LinkFault → cause ≢ causes.Memory → end.sent ≡ request_frames (asked new.client.who.client new.client.who.interest new.client.events s)
+  pub told : cause ≢ causes.Memory → AreTold new.client.who new.client.events new.lines.items
+  pub going_on : cause ≢ causes.Memory → is_finished new.client.events ≡ false
+  pub reason : IsReason new.client.who new.client.events new.first s end cause
+
+-- The player did this event in session s, and goes on.
+pub record GoesOn (s : ℕ) (e : Event) (old new : Player) (b : Buffers) (end : Told) : Type 0 where
+  pub at : IsAt s new b end
+  pub onward : Onward s old new
+  pub events : new.client.events ≡ e ∷ old.client.events
+
+-- what an event of a player answers
+abbrev pub IsTurn : Result Unit PlayerCause → ℕ → Event → Player → Player → Buffers → Told → Type 0
+IsTurn (Ok _) s e old new b end = GoesOn s e old new b end
+IsTurn (Err cause) s e old new b end = Stopped s old new end cause
+
+-- The player got a reply in session s, and goes on, or it was the Bye.
+pub record Got (s : ℕ) (bye : Bool) (old new : Player) (b : Buffers) (end : Told) : Type 0 where
+  pub reply : Reply
+  pub turn : GoesOn s (events.Got s reply) old new b end
+  pub left : new.left.now ≡ old.left.now
+  pub bye_is : bye ≡ is_finished new.client.events
+  pub whole : bye ≡ true → b.outbox ≡ []
+  pub here : bye ≡ false → IsHere new.client.who new.client.events new.left.now
+
+abbrev pub IsReceived : Result Bool PlayerCause → ℕ → Player → Player → Buffers → Told → Type 0
+IsReceived (Ok bye) s old new b end = Got s bye old new b end
+IsReceived (Err cause) s old new b end = Stopped s old new end cause
+
+-- what a move of a player answers: it goes on, with more events; or it ended the session; or something stopped it
+abbrev pub IsMoved : Result (Option Ending) PlayerCause → ℕ → Player → Player → Buffers → Told → Type 0
+IsMoved (Ok None) s old new b end = IsAt s new b end × Onward s old new × IsReady new.client.who new.client.events new.left.now × (length old.client.events < length new.client.events)
+IsMoved (Ok (Some ending)) s old new b end = Ended s old new end ending
+IsMoved (Err cause) s old new b end = Stopped s old new end cause
+
+-- what a session answers
+abbrev pub IsPlayed : Result Ending PlayerCause → ℕ → Player → Player → Told → Type 0
+IsPlayed (Ok ending) s old new end = Ended s old new end ending
+IsPlayed (Err cause) s old new end = Stopped s old new end cause
+
+-- an end that nothing was sent or received over
+pub record IsFresh (end : Told) : Type 0 where
+  pub open_is : end.closed ≡ false
+  pub sent : end.sent ≡ []
+  pub received : end.received ≡ []
+
+-- the end's count of faults rises just where it stopped the player
+abbrev pub FaultCause : {A : Type 0} → ℕ → ℕ → Result A PlayerCause → Type 0
+FaultCause before now (Ok _) = now ≡ before
+FaultCause before now (Err causes.LinkFault) = Rose before now
+FaultCause before now (Err _) = now ≡ before
+
+-- bytes were put behind what waited; or sending ended early
+abbrev pub IsAnswered : Result Unit PlayerCause → Told → List ℕ → List ℕ → Told → List ℕ → Type 0
+IsAnswered (Ok _) old waiting more new left = Posted old waiting more new left
+IsAnswered (Err causes.LinkFault) old waiting more new left = PostedPart old waiting more new
+IsAnswered (Err causes.Memory) old waiting more new left = PostedPart old waiting more new
+IsAnswered (Err _) old waiting more new left = ⊥
+
+-- what an answer of a try to send is for a player
+abbrev pub IsSent : Sent → Result Unit PlayerCause → Type 0
+IsSent answers.Whole result = result ≡ Ok tt
+IsSent answers.Failed result = result ≡ Err causes.LinkFault
+IsSent answers.Memory result = result ≡ Err causes.Memory

@@ -1,0 +1,10 @@
+//! Clients that play their scripts over links.
+#![tactic(auto)]
+
+mod buffers;
+mod moves;
+mod outcome;
+mod playing;
+mod telling;
+
+pub use outcome::{PlayerCause, PlayerOut, ReplyFault};
