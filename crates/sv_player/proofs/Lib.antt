@@ -11,3 +11,4 @@ pub mod Onward
 pub mod Turns
 pub mod Taking
 pub mod Receiving
+pub mod Numbering

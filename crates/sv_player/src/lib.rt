@@ -5,6 +5,7 @@ mod buffers;
 mod moves;
 mod outcome;
 mod playing;
+mod session;
 mod telling;
 
 pub use outcome::{PlayerCause, PlayerOut, ReplyFault};
