@@ -6,8 +6,6 @@
 
 mod actions;
 mod scenarios;
-#[cfg(test)]
-mod tests;
 
 pub use actions::read_action;
 pub use scenarios::read_scenario_numbers;

@@ -157,10 +157,20 @@ fn copies_actions(rt: HostRuntime) -> Result<(), Fail> {
     Ok(())
 }
 
+fn copied_value(alloc: Global) -> Result<Value, AllocError> {
+    let value = Value::from_slice(alloc, &[4, -3])?;
+    copy_value(alloc, &value)
+}
+
 #[test]
-fn copies_values_and_objects(rt: HostRuntime) -> Result<(), Fail> {
-    let value = copy_value(rt.alloc(), &Value::from_slice(rt.alloc(), &[4, -3])?)?;
+fn copies_values(rt: HostRuntime) -> Result<(), Fail> {
+    let value = copied_value(rt.alloc())?;
     assert!(rt; value.as_slice() == [4, -3].as_slice());
+    Ok(())
+}
+
+#[test]
+fn copies_objects(rt: HostRuntime) -> Result<(), Fail> {
     let objects = copy_objects(rt.alloc(), &[ObjectId(4), ObjectId(5)])?;
     assert!(rt; objects.as_slice() == [ObjectId(4), ObjectId(5)].as_slice());
     Ok(())
@@ -216,6 +226,11 @@ fn sees_short_lists(rt: HostRuntime) -> Result<(), Fail> {
     short.set(1, 5);
     short.set(3, 6);
     assert!(rt; short.as_slice() == [1, 5, 3].as_slice());
+    Ok(())
+}
+
+#[test]
+fn sees_short_lists_made_of_longer_ones(rt: HostRuntime) -> Result<(), Fail> {
     let spilled = Short::<i64, 2>::from_vec(vec![in rt.alloc(); 7, 8, 9]?);
     assert!(rt; spilled.len() == 3 && spilled.as_slice() == [7, 8, 9].as_slice());
     Ok(())

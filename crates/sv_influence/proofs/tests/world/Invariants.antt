@@ -1,8 +1,0 @@
-use Rattle.std.proofs.Common.{◌≡◌, All, length}
-use Rattle.sv_influence.proofs.tests.world.Given as goal
-
-abbrev pub invariant-loop : goal.invariant-loop
-invariant-loop l = record {
-  count : length l.values ≡ l.counter;
-  attrs : All (λ value. length value ≡ 1) l.values;
-}

@@ -1,0 +1,4 @@
+use Rattle.test_queue.proofs.influence.closure_answers_as_the_plain_walk.Given as goal
+
+abbrev pub ghosts-compared : goal.ghosts-compared
+ghosts-compared g a = record { name = a.blank.name; parts = a.blank.parts }
