@@ -13,7 +13,7 @@ trap 'rm -rf "$work"' EXIT
 (cd "$crate" && nice -n 10 rt run >"$work/log" 2>&1)
 rustc -C opt-level=3 -o "$work/rust" "$here/lock.rs"
 for _ in $(seq "$rounds"); do
-    for threads in 1 2 4 8; do
+    for threads in 1 2 4 8 64; do
         for kind in lock mutex; do
             timeout 60 "$crate/out/sv_lock_bench" "$kind" "$threads" "$calls" || echo "$kind $threads 1 0 60000000000"
         done
@@ -30,7 +30,7 @@ for line in open(sys.argv[1]):
     figures.setdefault((kind, int(threads)), []).append(int(nanos) / int(calls))
 print("| Threads | Ticket lock | Mutex here | Mutex of Rust |")
 print("|---|---|---|---|")
-for threads in (1, 2, 4, 8):
+for threads in (1, 2, 4, 8, 64):
     cells = [figures[kind, threads] for kind in ("lock", "mutex", "rust")]
     print(f"| {threads} | " + " | ".join(f"{min(cell):,.0f} ({statistics.median(cell):,.0f})" for cell in cells) + " |")
 END

@@ -14,7 +14,7 @@ use Rattle.sv_scenario.specs.declared.scenario.Scenario.{Scenario}
 use Rattle.sv_scenario.specs.Scenarios.{scenario_of}
 use Rattle.sv_schedule.specs.Records.{IsReplay}
 use Rattle.sv_report.specs.Report.{report_text}
-use Rattle.sv_app.specs.Statuses.{Replays, status_of, line_of, TellsStatus, held_by, IsRun, read_limit, IsFront, IsReportOf, IsReport, IsPrinted, IsCutShort, IsRefused, IsScenario, IsNoScenario}
+use Rattle.sv_app.specs.Statuses.{Replays, TellsFaults, status_of, line_of, TellsStatus, held_by, IsRun, read_limit, IsFront, IsReportOf, IsReport, IsPrinted, IsCutShort, IsRefused, IsScenario, IsNoScenario}
 
 pub front_of : (held left : Option (List ℕ)) (bytes : List ℕ) → ReadsFront held read_limit bytes left → IsFront held bytes
 front_of (Some all) left bytes read = read.0
@@ -70,9 +70,29 @@ always : {P : List ℕ → Type 0} (o : Option (List ℕ)) → ((all : List ℕ)
 always None f = tt
 always (Some all) f = f all
 
-module _ (held named : Option (List ℕ)) (f0 f1 : ℕ) (old now : Option (List ℕ)) (k0 k1 : ℕ) where
+module _ (f0 f1 k0 k1 : ℕ) where
+  same : (before after : ℕ) → after ≡ before → Rose before after → ⊥
+  same before after e rose = omega (arith, e, rose)
+
+  pub status_file : (e : Ending) → TellsFaults f0 f1 k0 k1 e → (status_of e ≡ 4) ↔ Rose f0 f1
+  status_file endings.File h = (λ s. h.0, λ rose. refl)
+  status_file endings.Done h = (λ s. absurd (omega arith), λ rose. absurd (same f0 f1 h.0 rose))
+  status_file endings.Words h = (λ s. absurd (omega arith), λ rose. absurd (same f0 f1 h.0 rose))
+  status_file (endings.Scenario line) h = (λ s. absurd (omega arith), λ rose. absurd (same f0 f1 h.0 rose))
+  status_file endings.Out h = (λ s. absurd (omega arith), λ rose. absurd (same f0 f1 h.0 rose))
+  status_file endings.Memory h = (λ s. absurd (omega arith), λ rose. absurd (same f0 f1 h.0 rose))
+
+  pub status_out : (e : Ending) → TellsFaults f0 f1 k0 k1 e → (status_of e ≡ 5) ↔ Rose k0 k1
+  status_out endings.Out h = (λ s. h.1, λ rose. refl)
+  status_out endings.Done h = (λ s. absurd (omega arith), λ rose. absurd (same k0 k1 h.1 rose))
+  status_out endings.Words h = (λ s. absurd (omega arith), λ rose. absurd (same k0 k1 h.1 rose))
+  status_out (endings.Scenario line) h = (λ s. absurd (omega arith), λ rose. absurd (same k0 k1 h.1 rose))
+  status_out endings.File h = (λ s. absurd (omega arith), λ rose. absurd (same k0 k1 h.1 rose))
+  status_out endings.Memory h = (λ s. absurd (omega arith), λ rose. absurd (same k0 k1 h.1 rose))
+
+module _ (held named : Option (List ℕ)) (old now : Option (List ℕ)) where
   abbrev Ends : Ending → Type 0
-  Ends e = Replays held f0 f1 old now k0 k1 e
+  Ends e = Replays held old now e
 
   pub status_range : (e : Ending) → (status_of e ≡ 0) ⊎ (status_of e ≡ 2) ⊎ (status_of e ≡ 3) ⊎ (status_of e ≡ 4) ⊎ (status_of e ≡ 5) ⊎ (status_of e ≡ 8)
   status_range endings.Done = inl refl
@@ -93,14 +113,6 @@ module _ (held named : Option (List ℕ)) (f0 f1 : ℕ) (old now : Option (List 
   pub status_words : (e : Ending) → ((e ≡ endings.Words) ↔ (named ≡ None)) → (status_of e ≡ 2) ↔ (named ≡ None)
   status_words e w = (λ s. w.0 (words_of e s), λ n. ap status_of (w.1 n))
 
-  pub status_file : (e : Ending) → Ends e → status_of e ≡ 4 → Rose f0 f1
-  status_file endings.File h s = h.0
-  status_file endings.Done h s = absurd (omega arith)
-  status_file endings.Words h s = absurd (omega arith)
-  status_file (endings.Scenario line) h s = absurd (omega arith)
-  status_file endings.Out h s = absurd (omega arith)
-  status_file endings.Memory h s = absurd (omega arith)
-
   file_is : (e : Ending) → status_of e ≡ 4 → e ≡ endings.File
   file_is endings.File s = refl
   file_is endings.Done s = absurd (omega arith)
@@ -118,19 +130,11 @@ module _ (held named : Option (List ℕ)) (f0 f1 : ℕ) (old now : Option (List 
 
   pub status_faulty : (e : Ending) → Ends e → IfSome held (λ all. IsNoScenario (take read_limit all) → (status_of e ≡ 3) ⊎ (status_of e ≡ 4) ⊎ (status_of e ≡ 8)) ⊎ (e ≡ endings.Words)
   status_faulty endings.Done h = inl (printed_is_scenario held old now _ h)
-  status_faulty endings.Out h = inl (cut_is_scenario held old now _ h.1)
+  status_faulty endings.Out h = inl (cut_is_scenario held old now _ h)
   status_faulty endings.Words h = inr refl
   status_faulty (endings.Scenario line) h = inl (always held (λ all n. inl refl))
   status_faulty endings.File h = inl (always held (λ all n. inr (inl refl)))
   status_faulty endings.Memory h = inl (always held (λ all n. inr (inr refl)))
-
-  pub status_out : (e : Ending) → Ends e → status_of e ≡ 5 → Rose k0 k1
-  status_out endings.Out h s = h.0
-  status_out endings.Done h s = absurd (omega arith)
-  status_out endings.Words h s = absurd (omega arith)
-  status_out (endings.Scenario line) h s = absurd (omega arith)
-  status_out endings.File h s = absurd (omega arith)
-  status_out endings.Memory h s = absurd (omega arith)
 
   pub status_printed : (e : Ending) → Ends e → status_of e ≡ 0 → IsPrinted held old now
   status_printed endings.Done h s = h
@@ -141,7 +145,7 @@ module _ (held named : Option (List ℕ)) (f0 f1 : ℕ) (old now : Option (List 
   status_printed endings.Memory h s = absurd (omega arith)
 
   pub status_part : (e : Ending) → Ends e → status_of e ≡ 5 → IsCutShort held old now
-  status_part endings.Out h s = h.1
+  status_part endings.Out h s = h
   status_part endings.Done h s = absurd (omega arith)
   status_part endings.Words h s = absurd (omega arith)
   status_part (endings.Scenario line) h s = absurd (omega arith)
@@ -153,7 +157,7 @@ module _ (held named : Option (List ℕ)) (f0 f1 : ℕ) (old now : Option (List 
   status_nothing endings.Out h z f = absurd (f refl)
   status_nothing endings.Words h z f = h
   status_nothing (endings.Scenario line) h z f = h.1
-  status_nothing endings.File h z f = h.1
+  status_nothing endings.File h z f = h
   status_nothing endings.Memory h z f = h
 
   pub status_told : (told untold : Option (List ℕ)) (e0 e1 : ℕ) (e : Ending) → Ends e → Told told untold e0 e1 (line_of e named) → TellsStatus (status_of e) held named told untold e0 e1
@@ -165,15 +169,22 @@ module _ (held named : Option (List ℕ)) (f0 f1 : ℕ) (old now : Option (List 
   status_told a b e0 e1 endings.Memory h t = record { line = line_of endings.Memory named; faulty = λ s. absurd (omega arith); plain = λ s. refl; told = t }
 
   abbrev Completes : Ending → List ℕ → Type 0
-  Completes e all = IsScenario (take read_limit all) → ¬ Rose f0 f1 → ¬ Rose k0 k1 → (status_of e ≡ 0) ⊎ (status_of e ≡ 8)
+  Completes e all = IsScenario (take read_limit all) → status_of e ≢ 4 → status_of e ≢ 5 → (status_of e ≡ 0) ⊎ (status_of e ≡ 8)
 
   pub status_complete : (e : Ending) → Ends e → IfSome held (Completes e) ⊎ (e ≡ endings.Words)
   status_complete endings.Done h = inl (always held (λ all s f k. inl refl))
   status_complete endings.Memory h = inl (always held (λ all s f k. inr refl))
   status_complete endings.Words h = inr refl
-  status_complete endings.File h = inl (always held (λ all s f k. absurd (f h.0)))
-  status_complete endings.Out h = inl (always held (λ all s f k. absurd (k h.0)))
+  status_complete endings.File h = inl (always held (λ all s f k. absurd (f refl)))
+  status_complete endings.Out h = inl (always held (λ all s f k. absurd (k refl)))
   status_complete (endings.Scenario line) h = inl (refused_is_none held (string_bytes line) _ h.0)
+
+-- Where no count rose, the status is neither 4 nor 5.
+unrisen : (held : Option (List ℕ)) (status f0 f1 k0 k1 : ℕ) → (status ≡ 4) ↔ Rose f0 f1 → (status ≡ 5) ↔ Rose k0 k1 →
+    IfSome held (λ all. IsScenario (take read_limit all) → status ≢ 4 → status ≢ 5 → (status ≡ 0) ⊎ (status ≡ 8)) →
+    IfSome held (λ all. IsScenario (take read_limit all) → ¬ Rose f0 f1 → ¬ Rose k0 k1 → (status ≡ 0) ⊎ (status ≡ 8))
+unrisen None status f0 f1 k0 k1 file out h = tt
+unrisen (Some all) status f0 f1 k0 k1 file out h = λ s f k. h s (λ e. f (file.0 e)) (λ e. k (out.0 e))
 
 -- Where the words name no file, nothing is said of what it holds.
 unnamed : (contents : List ℕ → Option (List ℕ)) (P : List ℕ → Type 0) (named : Option (List ℕ)) → named ≡ None → IfSome (held_by contents named) P
@@ -183,10 +194,14 @@ unnamed contents P (Some name) n = absurd (some_none name n)
     some_none : (name : List ℕ) → Some name ≡ None → ⊥
     some_none name n = cc
 
-module _ (contents : List ℕ → Option (List ℕ)) (named : Option (List ℕ)) (f0 f1 : ℕ) (old now : Option (List ℕ)) (k0 k1 : ℕ) (e : Ending) (words : (e ≡ endings.Words) ↔ (named ≡ None))
-    (h : Replays (held_by contents named) f0 f1 old now k0 k1 e) where
+module _ (contents : List ℕ → Option (List ℕ)) (named old now : Option (List ℕ)) (e : Ending) (words : (e ≡ endings.Words) ↔ (named ≡ None))
+    (h : Replays (held_by contents named) old now e) where
   pub faulty_is : IfSome (held_by contents named) (λ all. IsNoScenario (take read_limit all) → (status_of e ≡ 3) ⊎ (status_of e ≡ 4) ⊎ (status_of e ≡ 8))
-  faulty_is = elim (status_faulty (held_by contents named) named f0 f1 old now k0 k1 e h) [ inl x ↦ x | inr w ↦ unnamed contents _ named (words.0 w) ]
+  faulty_is = elim (status_faulty (held_by contents named) named old now e h) [ inl x ↦ x | inr w ↦ unnamed contents _ named (words.0 w) ]
 
-  pub complete_is : IfSome (held_by contents named) (λ all. IsScenario (take read_limit all) → ¬ Rose f0 f1 → ¬ Rose k0 k1 → (status_of e ≡ 0) ⊎ (status_of e ≡ 8))
-  complete_is = elim (status_complete (held_by contents named) named f0 f1 old now k0 k1 e h) [ inl x ↦ x | inr w ↦ unnamed contents _ named (words.0 w) ]
+  pub complete_is : (f0 f1 k0 k1 : ℕ) → TellsFaults f0 f1 k0 k1 e →
+      IfSome (held_by contents named) (λ all. IsScenario (take read_limit all) → ¬ Rose f0 f1 → ¬ Rose k0 k1 → (status_of e ≡ 0) ⊎ (status_of e ≡ 8))
+  complete_is f0 f1 k0 k1 told = elim (status_complete (held_by contents named) named old now e h) [
+    | inl x ↦ unrisen (held_by contents named) (status_of e) f0 f1 k0 k1 (status_file f0 f1 k0 k1 e told) (status_out f0 f1 k0 k1 e told) x
+    | inr w ↦ unnamed contents _ named (words.0 w)
+  ]

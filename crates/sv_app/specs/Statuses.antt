@@ -72,14 +72,20 @@ pub record IsRefused (held : Option (List ℕ)) (line : List ℕ) : Type 0 where
   pub faulty : scenario_of bytes ≡ Err fault
   pub told : line ≡ fault_line fault
 
--- The ending of a replay, by what the file holds, and by the faults of the files and the sink, and what the sink took, before and after.
-abbrev pub Replays : Option (List ℕ) → ℕ → ℕ → Option (List ℕ) → Option (List ℕ) → ℕ → ℕ → Ending → Type 0
-Replays held f0 f1 old now k0 k1 endings.Done = IsPrinted held old now
-Replays held f0 f1 old now k0 k1 endings.Words = now ≡ old
-Replays held f0 f1 old now k0 k1 (endings.Scenario line) = IsRefused held (string_bytes line) × (now ≡ old)
-Replays held f0 f1 old now k0 k1 endings.File = Rose f0 f1 × (now ≡ old)
-Replays held f0 f1 old now k0 k1 endings.Out = Rose k0 k1 × IsCutShort held old now
-Replays held f0 f1 old now k0 k1 endings.Memory = now ≡ old
+-- The ending of a replay, by what the file holds, and what the sink took, before and after.
+abbrev pub Replays : Option (List ℕ) → Option (List ℕ) → Option (List ℕ) → Ending → Type 0
+Replays held old now endings.Done = IsPrinted held old now
+Replays held old now endings.Words = now ≡ old
+Replays held old now (endings.Scenario line) = IsRefused held (string_bytes line) × (now ≡ old)
+Replays held old now endings.File = now ≡ old
+Replays held old now endings.Out = IsCutShort held old now
+Replays held old now endings.Memory = now ≡ old
+
+-- The counts of faults of the files and of the sink, before and after: each rose just where the ending tells of its fault.
+abbrev pub TellsFaults : ℕ → ℕ → ℕ → ℕ → Ending → Type 0
+TellsFaults f0 f1 k0 k1 endings.File = Rose f0 f1 × (k1 ≡ k0)
+TellsFaults f0 f1 k0 k1 endings.Out = (f1 ≡ f0) × Rose k0 k1
+TellsFaults f0 f1 k0 k1 _ = (f1 ≡ f0) × (k1 ≡ k0)
 
 -- The status of an ending.
 abbrev pub status_of : Ending → ℕ

@@ -5,7 +5,7 @@ ghost use Rattle.sv_bytes.specs.Writing.{Told};
 ghost use Rattle.sv_scenario.specs.Limits.{IsGoodScenario};
 ghost use Rattle.sv_scenario.specs.Lines.{fault_line};
 ghost use Rattle.sv_scenario.specs.Scenarios.{scenario_of};
-ghost use Rattle.sv_app.specs.Statuses.{read_limit, Replays, ReportOrFault, IsPrinted, IsCutShort, IsRefused, IsScenario, IsNoScenario, IsRun, TellsStatus, held_by, file_line, line_of, status_of};
+ghost use Rattle.sv_app.specs.Statuses.{read_limit, Replays, TellsFaults, ReportOrFault, IsPrinted, IsCutShort, IsRefused, IsScenario, IsNoScenario, IsRun, TellsStatus, held_by, file_line, line_of, status_of};
 ghost use Rattle.sv_app.specs.Words.{named_file};
 
 use crate::words::named_file;
@@ -61,7 +61,8 @@ fn line_of_fault(alloc: Global, fault: &ScenarioFault) -> Result<String, AllocEr
 }
 
 fn replay<F: Files, K: Sink>(alloc: Global, name: &str, files: &mut F, out: &mut K) -> Ending
-    ensures ends { Replays (F.contents files.old name.now) (F.faults files.old) (F.faults files.new) (K.taken out.old) (K.taken out.new) (K.faults out.old) (K.faults out.new) result }
+    ensures ends { Replays (F.contents files.old name.now) (K.taken out.old) (K.taken out.new) result }
+    ensures faults { TellsFaults (F.faults files.old) (F.faults files.new) (K.faults out.old) (K.faults out.new) result }
     ensures certain { F.sure files.old name.now → result ≢ Ending.File }
     ensures words { result ≢ Ending.Words }
 {
@@ -94,7 +95,8 @@ fn decide<F: Files, K: Sink>(
     out: &mut K,
 ) -> Ending
     ensures words { (result ≡ Ending.Words) ↔ (option_copied named.entry ≡ None) }
-    ensures ends { Replays (held_by (F.contents files.old) (option_copied named.entry)) (F.faults files.old) (F.faults files.new) (K.taken out.old) (K.taken out.new) (K.faults out.old) (K.faults out.new) result }
+    ensures ends { Replays (held_by (F.contents files.old) (option_copied named.entry)) (K.taken out.old) (K.taken out.new) result }
+    ensures faults { TellsFaults (F.faults files.old) (F.faults files.new) (K.faults out.old) (K.faults out.new) result }
     ensures certain { IfSome (option_copied named.entry) (λ name. F.sure files.old name → result ≢ Ending.File) }
 {
     match named {
@@ -143,6 +145,10 @@ fn status_of(ending: &Ending) -> u8
 /// Does what the words ask for, and answers the status with which the program ends.
 ///
 /// The words leave out the program's own name. For now the only ones are `replay FILE`.
+///
+/// The status is the first of these that applies: 2 where the words are others, 4 where the file can't be read, 3 where it is no scenario, 8
+/// where memory ran out, and 5 where the output failed; else it is 0. So a fault of the files or of the output is told as what it is, and
+/// never as "out of memory".
 pub fn run<F: Files, K: Sink, E: Sink>(
     alloc: Global,
     words: &[String],
@@ -152,11 +158,11 @@ pub fn run<F: Files, K: Sink, E: Sink>(
 ) -> u8
     ensures range { (result ≡ 0) ⊎ (result ≡ 2) ⊎ (result ≡ 3) ⊎ (result ≡ 4) ⊎ (result ≡ 5) ⊎ (result ≡ 8) }
     ensures words { (result ≡ 2) ↔ (named_file (map string_bytes words.now) ≡ None) }
-    ensures file { result ≡ 4 → Rose (F.faults files.old) (F.faults files.new) }
+    ensures file { (result ≡ 4) ↔ Rose (F.faults files.old) (F.faults files.new) }
     ensures certain { IfSome (named_file (map string_bytes words.now)) (λ name. F.sure files.old name → result ≢ 4) }
     ensures faulty { IfSome (held_by (F.contents files.old) (named_file (map string_bytes words.now)))
         (λ all. IsNoScenario (take read_limit all) → (result ≡ 3) ⊎ (result ≡ 4) ⊎ (result ≡ 8)) }
-    ensures out { result ≡ 5 → Rose (K.faults out.old) (K.faults out.new) }
+    ensures out { (result ≡ 5) ↔ Rose (K.faults out.old) (K.faults out.new) }
     ensures printed { result ≡ 0 → IsPrinted (held_by (F.contents files.old) (named_file (map string_bytes words.now))) (K.taken out.old) (K.taken out.new) }
     ensures part { result ≡ 5 → IsCutShort (held_by (F.contents files.old) (named_file (map string_bytes words.now))) (K.taken out.old) (K.taken out.new) }
     ensures nothing { result ≢ 0 → result ≢ 5 → K.taken out.new ≡ K.taken out.old }

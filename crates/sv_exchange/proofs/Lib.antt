@@ -1,10 +1,6 @@
 pub mod Onward
-pub mod Rests
 pub mod Messages
 pub mod Sizes
-pub mod Kept
-pub mod ByServer
-pub mod ByClient
-pub mod Examples
-pub mod Great
-pub mod Renewed
+pub mod Posting
+pub mod Lanes
+pub mod Views

@@ -3,8 +3,8 @@ use Rattle.std.proofs.Common.{◌≡◌, ℕ, ◌≤◌, List, ◌++◌, length,
 use Rattle.std.proofs.lemmas.List.{take-append-drop, drop-drop, take_at, length-take-le}
 use Rattle.sv_link.specs.declared.side.Side.{Side}
 use Rattle.sv_link.specs.declared.side.Side.TheVariants.{Server, Client}
-use Rattle.sv_link.specs.Sides.{SideView, LinkView, other, side_of, with_side, unread, after_read}
-use Rattle.sv_exchange.specs.Streams.{IsWithin, IsReadOn}
+use Rattle.sv_link.specs.Sides.{SideView, LinkView, other, side_of, with_side, unread, after_read, after_write}
+use Rattle.sv_exchange.specs.Streams.{IsWithin, IsReadOn, IsSameToRead, IsSameLink, Wrote}
 
 pub side_with_same : (link : LinkView) (side : Side) (x : SideView) → side_of (with_side link side x) side ≡ x
 side_with_same link Server x = refl
@@ -13,6 +13,26 @@ side_with_same link Client x = refl
 pub side_with_other : (link : LinkView) (side : Side) (x : SideView) → side_of (with_side link (other side) x) side ≡ side_of link side
 side_with_other link Server x = refl
 side_with_other link Client x = refl
+
+pub side_with_here : (link : LinkView) (side : Side) (x : SideView) → side_of (with_side link side x) (other side) ≡ side_of link (other side)
+side_with_here link Server x = refl
+side_with_here link Client x = refl
+
+pub same_side : (old new : LinkView) (side : Side) → IsSameLink old new → IsSameToRead (side_of old side) (side_of new side)
+same_side old new Server same = same.server
+same_side old new Client same = same.client
+
+-- where a side wrote, what is to be read of the other side is the same
+pub other_unwritten : (old new : LinkView) (side : Side) (piece : List ℕ) → Wrote old new side piece → IsSameToRead (side_of old (other side)) (side_of new (other side))
+other_unwritten old new side piece wrote =
+    let written : side_of new (other side) ≡ side_of wrote.link (other side) =
+    ap (λ (l : LinkView). side_of l (other side)) wrote.written ∙ side_with_here wrote.link side (after_write (side_of wrote.link side) piece) in
+    subst (IsSameToRead (side_of old (other side))) (sym written) (same_side old wrote.link (other side) wrote.same)
+
+pub own_closed : (old new : LinkView) (side : Side) (piece : List ℕ) → Wrote old new side piece → (side_of new side).closed ≡ (side_of old side).closed
+own_closed old new side piece wrote =
+    let after = after_write (side_of wrote.link side) piece in
+    ap (λ (l : LinkView). (side_of l side).closed) wrote.written ∙ (ap (λ (x : SideView). x.closed) (side_with_same wrote.link side after) ∙ (same_side old wrote.link side wrote.same).closed)
 
 pub read_on_none : (link : LinkView) (side : Side) → IsWithin (side_of link (other side)) → IsReadOn link link side
 read_on_none link side within = record { own = refl; written = refl; closed = refl; within = within }

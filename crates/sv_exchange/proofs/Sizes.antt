@@ -1,5 +1,8 @@
 -- Payloads are short, and are read as their messages.
-use Rattle.std.proofs.Common.{◌≡◌, ℕ, ◌≤◌, List, [], ◌∷◌, ◌++◌, length, Ok, Err, refl, arith, length-append}
+use Rattle.std.proofs.Common.{◌≡◌, ℕ, ◌≤◌, List, [], ◌∷◌, ◌++◌, length, Result, Ok, Err, refl, ap, arith, length-append}
+use Rattle.std.specs.Prelude.{IfOk}
+use Rattle.std.specs.Global.{Vec}
+use Rattle.std.specs.Vec.{vec_len}
 use Rattle.sv_wire.specs.declared.fault.WireCause.TheVariants.{Rest}
 use Rattle.sv_wire.specs.declared.message.Request.{Request}
 use Rattle.sv_wire.specs.declared.message.Reply.{Reply}
@@ -28,8 +31,19 @@ reply_short m is =
     let place = reply_place bytes (record { left = 1; cause = Rest }) (rest_refused reply_front bytes m (reply_again m (0 ∷ []) is.within is.fits)) in
     omega (arith, place.1, length-append (reply_bytes m) (0 ∷ []))
 
+pub request_back : (m : Request) → IsRequest m → request_at (request_bytes m) ≡ Ok m
+request_back m is = request_is_read m is.within is.fits
+
+pub reply_back : (m : Reply) → IsReply m → reply_at (reply_bytes m) ≡ Ok m
+reply_back m is = reply_is_read m is.within is.fits
+
 pub requests_spelled : Spells IsRequest request_bytes request_at
 requests_spelled = record { back = λ m is. request_is_read m is.within is.fits; fits = request_short }
 
 pub replies_spelled : Spells IsReply reply_bytes reply_at
 replies_spelled = record { back = λ m is. reply_is_read m is.within is.fits; fits = reply_short }
+
+-- what was encoded is as short as its bytes
+pub encoded_short : {F : Type 0} (r : Result (Vec ℕ) F) (bytes : List ℕ) → IfOk r (λ payload. payload.items ≡ bytes) → length bytes ≤ 65536 → IfOk r (λ payload. vec_len payload ≤ 65536)
+encoded_short (Ok payload) bytes is short = omega (arith, payload.ok.0, ap length is)
+encoded_short (Err f) bytes is short = tt

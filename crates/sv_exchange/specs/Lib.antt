@@ -2,4 +2,5 @@ pub mod Streams
 pub mod Carried
 pub mod View
 pub mod Invariant
-pub mod Worked
+pub mod Incoming
+pub mod Outgoing

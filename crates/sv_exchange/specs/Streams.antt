@@ -1,27 +1,11 @@
 -- The bytes between a client and its session.
-use Rattle.std.specs.Prelude.{◌≡◌, ℕ, ◌<◌, ◌≤◌, ◌⊎◌, List, [], ◌++◌, length, Option, None, Some}
-use Rattle.sv_frame.specs.Frames.{frame, first_frame, too_long}
+use Rattle.std.specs.Prelude.{◌≡◌, ℕ, ◌≤◌, ◌⊎◌, List, [], ◌++◌, length}
 use Rattle.sv_link.specs.declared.side.Side.{Side}
-use Rattle.sv_link.specs.Sides.{SideView, LinkView, other, side_of, unread}
+use Rattle.sv_link.specs.Sides.{SideView, LinkView, other, side_of, with_side, unread, after_write}
 
--- what a side has read of the other side's stream: a payload that was taken off it and is no message yet, and what follows it
-pub record InboxView : Type 0 where
-  pub held : Option (List ℕ)
-  pub rest : List ℕ
-
--- a payload that is held had a frame
-abbrev pub IsShortIfHeld : Option (List ℕ) → Type 0
-IsShortIfHeld None = Unit {0}
-IsShortIfHeld (Some payload) = length payload ≤ 65536
-
--- the frame of a payload that is held
-abbrev pub held_frame : Option (List ℕ) → List ℕ
-held_frame None = []
-held_frame (Some payload) = frame payload
-
--- the bytes of a sender that its other side has not taken as messages
-abbrev pub not_taken : InboxView → SideView → List ℕ
-not_taken inbox sender = held_frame inbox.held ++ (inbox.rest ++ unread sender)
+-- the bytes of a sender that its other side has not taken as messages: those that came, and those that are still to be read
+abbrev pub not_taken : List ℕ → SideView → List ℕ
+not_taken inbox sender = inbox ++ unread sender
 
 -- no more was read of a side than it wrote
 abbrev pub IsWithin : SideView → Type 0
@@ -38,12 +22,19 @@ pub record IsReadOn (old new : LinkView) (side : Side) : Type 0 where
 abbrev pub IsFilled : List ℕ → List ℕ → Type 0
 IsFilled reader left = (65540 ≤ length reader) ⊎ (left ≡ [])
 
--- a rest begins with no whole frame, and either with a length over the limit or with less than a frame has
-abbrev pub IsUnfinished : List ℕ → Type 0
-IsUnfinished rest = (first_frame rest ≡ None) × ((length rest < 65540) ⊎ ((n : ℕ) × (too_long rest ≡ Some n)))
-
 -- what is to be read of a side is the same
 pub record IsSameToRead (old new : SideView) : Type 0 where
   pub left : unread new ≡ unread old
   pub closed : new.closed ≡ old.closed
   pub within : IsWithin old → IsWithin new
+
+-- what is to be read of each side is the same
+pub record IsSameLink (old new : LinkView) : Type 0 where
+  pub server : IsSameToRead old.server new.server
+  pub client : IsSameToRead old.client new.client
+
+-- a side wrote a piece to a link that had the same to read
+pub record Wrote (old new : LinkView) (side : Side) (piece : List ℕ) : Type 0 where
+  pub link : LinkView
+  pub same : IsSameLink old link
+  pub written : new ≡ with_side link side (after_write (side_of link side) piece)

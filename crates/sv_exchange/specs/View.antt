@@ -1,21 +1,24 @@
 -- An exchange as contracts see it.
-use Rattle.std.specs.Prelude.{◌≡◌, Bool, List, [], ◌∷◌, Option, None, Some}
+use Rattle.std.specs.Prelude.{◌≡◌, Bool, false, List, [], ◌∷◌, Option, None, Some}
 use Rattle.sv_wire.specs.declared.message.Request.{Request}
 use Rattle.sv_wire.specs.declared.message.Reply.{Reply}
 
--- the requests that the client sent and the server has not taken, the replies that the server sent and the client has not taken, in order,
--- and which sides are closed
+-- The requests that the client sent and the server has not taken, and the replies that the server sent and the client has not taken, in
+-- order; whether the client's side is closed, and whether the server's is, by which a session's loop stops.
 pub record ExchangeView : Type 0 where
   pub requests : List Request
   pub replies : List Reply
-  pub client_closed : Bool
-  pub server_closed : Bool
+  pub closed : Bool
+  pub stopped : Bool
+
+abbrev pub new_exchange : ExchangeView
+new_exchange = record { requests = []; replies = []; closed = false; stopped = false }
 
 -- none waits; or the first that waits is taken off
-abbrev pub TakesRequest : Option Request → ExchangeView → ExchangeView → Type 0
-TakesRequest None old new = (old.requests ≡ []) × (new ≡ old)
-TakesRequest (Some request) old new = old ≡ record new { requests = request ∷ new.requests }
+abbrev pub TakesRequest : ExchangeView → ExchangeView → Option Request → Type 0
+TakesRequest old new None = (old.requests ≡ []) × (new ≡ old)
+TakesRequest old new (Some request) = old ≡ record new { requests = request ∷ new.requests }
 
-abbrev pub TakesReply : Option Reply → ExchangeView → ExchangeView → Type 0
-TakesReply None old new = (old.replies ≡ []) × (new ≡ old)
-TakesReply (Some reply) old new = old ≡ record new { replies = reply ∷ new.replies }
+abbrev pub TakesReply : ExchangeView → ExchangeView → Option Reply → Type 0
+TakesReply old new None = (old.replies ≡ []) × (new ≡ old)
+TakesReply old new (Some reply) = old ≡ record new { replies = reply ∷ new.replies }

@@ -1,92 +1,130 @@
-//! What one side has read of the other side's stream.
-ghost use Rattle.std.specs.Prelude.{◌≡◌, ◌≤◌, [], ◌++◌, length, None, IfOk, OnOk, OnErr, option_map};
-ghost use Rattle.sv_frame.specs.Frames.{first_frame};
+//! Reading whole messages from what came.
+ghost use Rattle.std.specs.Prelude.{◌≡◌, ◌≢◌, ◌<◌, [], false, None, IfOk, length, option_map};
+ghost use Rattle.sv_link.specs.Ends.{EndReadCause};
 ghost use Rattle.sv_link.specs.Sides.{other, side_of, unread};
-ghost use Rattle.sv_exchange.specs.Streams.{IsShortIfHeld, held_frame, IsUnfinished, IsWithin, IsReadOn, not_taken};
+ghost use Rattle.sv_frame.specs.Answers.{ReadsInto, Skips};
+ghost use Rattle.sv_frame.specs.Frames.{first_frame};
+ghost use Rattle.sv_exchange.specs.Incoming.{Reads, Takes, LeavesRoom, first_payload_of, IsReadAs};
+ghost use Rattle.sv_exchange.specs.Streams.{IsFilled, IsReadOn, IsWithin, not_taken};
 
 use crate::filling::fill;
+use crate::message::Message;
 use std::alloc::{AllocError, Global};
 use std::marker::Model;
-use sv_frame::{FrameReader, Next, ROOM};
-use sv_link::{MemLink, Side};
+use sv_frame::{FrameReader, Next};
+use sv_link::{End, EndRead, MemLink, Side};
+use sv_wire::{Malformed, WireFault};
 
-/// What one side has read of the other side's stream and not yet given as a message: a payload that is held until it is decoded, and what
-/// follows it.
+/// What the first frame of an inbox is read as.
+#[derive(Debug, Drop)]
+pub enum Incoming<M> {
+    /// A message, which is taken off.
+    Whole(M),
+
+    /// No whole frame has come yet.
+    NotYet,
+
+    /// The first frame's payload is no message of this kind. It stays.
+    Malformed(Malformed),
+
+    /// The next frame's length is over the limit. No message can be read from here on.
+    TooLong(u32),
+
+    /// There was no memory for the message. Its frame stays.
+    Memory,
+}
+
+/// What came over a connection and was not yet taken as messages. Contracts see the list of these bytes.
+///
+/// Its room, for one frame of the greatest length, is taken once, by `new`.
 #[derive(Drop)]
-pub(crate) struct Inbox {
-    alloc: Global,
+pub struct Inbox {
     reader: FrameReader,
-    held: Option<Vec<u8>>,
 }
 
 impl Model for Inbox {
-    ghost use Rattle.std.specs.Prelude.{option_map};
-    ghost use Rattle.sv_exchange.specs.Streams.{InboxView, IsShortIfHeld};
+    ghost use Rattle.std.specs.Prelude.{List, ℕ};
 
-    ghost Value = { InboxView };
+    ghost Value = { List ℕ };
 
-    ghost view = { λ i. record { held = option_map (λ v. v.items) i.held; rest = i.reader } };
-
-    ghost invariant = { λ i. IsShortIfHeld (option_map (λ v. v.items) i.held) };
+    ghost view = { λ i. i.reader };
 }
 
 impl Inbox {
-    /// One that has read nothing. It takes the room for the greatest frame.
-    pub(crate) fn new(alloc: Global) -> Result<Inbox, AllocError>
-        ensures { IfOk result (λ inbox. inbox ≡ record { held = None; rest = [] }) }
+    /// Nothing came.
+    pub fn new(alloc: Global) -> Result<Inbox, AllocError>
+        ensures { IfOk result (λ inbox. inbox ≡ []) }
     {
         Ok(Inbox {
-            alloc,
             reader: FrameReader::new(alloc)?,
-            held: None,
         })
     }
 
-    /// The payload that is held.
-    pub(crate) fn held(&self) -> Option<&[u8]>
-        ensures held { option_map (λ payload. payload.now) result ≡ self.now.held }
-        ensures short { IsShortIfHeld self.now.held }
+    /// Waits for bytes of an end, and reads as many as have come and fit.
+    pub fn read_from<E: End>(&mut self, end: &mut E) -> EndRead
+        requires open { (E.told end.old).closed ≡ false }
+        requires room { length self.old < 65540 }
+        ensures came { ReadsInto (E.told end.old) self.old result (E.told end.new) self.new }
+        ensures cause { EndReadCause (E.faults end.old) (E.faults end.new) result }
+        ensures calm { E.calm end.old → (result ≢ EndRead.Failed) × E.calm end.new }
     {
-        self.held.as_deref()
+        self.reader.read_from(end)
     }
 
-    /// Lets the payload go.
-    pub(crate) fn let_go(&mut self)
-        ensures { self.new ≡ record { held = None; rest = self.old.rest } }
-    {
-        self.held = None;
-    }
-
-    /// Holds the payload of the first whole frame that was read, where there is one. The payload is in memory before its frame is taken off
-    /// the stream.
-    fn take_read(&mut self) -> Result<(), AllocError>
-        requires { self.old.held ≡ None }
-        ensures same { held_frame self.new.held ++ self.new.rest ≡ self.old.rest }
-        ensures none { OnOk result (self.new.held ≡ None → IsUnfinished self.new.rest) }
-    {
-        let mut payload = Vec::with_capacity(self.alloc, ROOM - self.reader.spare())?;
-        if let Next::Frame(next) = self.reader.next() {
-            payload.extend_from_slice(next).unwrap();
-            self.held = Some(payload);
-        }
-        Ok(())
-    }
-
-    /// Holds the next payload, where the other side sent one that was not taken. Without memory nothing is taken.
-    pub(crate) fn take(&mut self, link: &mut MemLink, side: Side) -> Result<(), AllocError>
+    /// Reads what the other side wrote to a link, as much as there is and fits.
+    pub(crate) fn read_link(&mut self, link: &mut MemLink, side: Side)
         requires { IsWithin (side_of link.old (other side)) }
         ensures same { not_taken self.new (side_of link.new (other side)) ≡ not_taken self.old (side_of link.old (other side)) }
-        ensures none { OnOk result (self.new.held ≡ None → first_frame (not_taken self.new (side_of link.new (other side))) ≡ None) }
+        ensures filled { IsFilled self.new (unread (side_of link.new (other side))) }
         ensures link { IsReadOn link.old link.new side }
     {
-        if self.held.is_some() {
-            return Ok(());
+        fill(link, side, &mut self.reader);
+    }
+
+    /// Takes the first message off, where a whole frame has come. Any other answer takes nothing off.
+    pub fn next<M: Message>(&mut self, alloc: Global) -> Incoming<M>
+        ensures reads { Reads M.read_at result self.old }
+        ensures takes { Takes result self.old self.new }
+        ensures room { LeavesRoom result self.new }
+    {
+        let answer = read_first(alloc, self.reader.first());
+        if let Incoming::Whole(_) = &answer {
+            self.reader.skip();
         }
-        self.take_read()?;
-        if self.held.is_none() {
-            fill(link, side, &mut self.reader);
-            self.take_read()?;
+        answer
+    }
+
+    /// The payload of the first frame, where a whole one has come.
+    pub fn first_payload(&self) -> Option<&[u8]>
+        ensures { option_map (λ payload. payload.now) result ≡ first_payload_of self.now }
+    {
+        match self.reader.first() {
+            Next::Frame(payload) => Some(payload),
+            Next::NotYet => None,
+            Next::TooLong(_) => None,
         }
-        Ok(())
+    }
+
+    /// Takes the first frame off, whatever its payload is.
+    pub fn skip(&mut self)
+        requires { first_frame self.old ≢ None }
+        ensures { Skips self.old self.new }
+    {
+        self.reader.skip();
+    }
+}
+
+/// What a frame at the front is read as.
+fn read_first<M: Message>(alloc: Global, first: Next<'_>) -> Incoming<M>
+    ensures { IsReadAs M.read_at first.entry result }
+{
+    match first {
+        Next::Frame(payload) => match M::decode(alloc, payload) {
+            Ok(message) => Incoming::Whole(message),
+            Err(WireFault::Malformed(fault)) => Incoming::Malformed(fault),
+            Err(WireFault::Memory) => Incoming::Memory,
+        },
+        Next::NotYet => Incoming::NotYet,
+        Next::TooLong(size) => Incoming::TooLong(size),
     }
 }

@@ -1,12 +1,18 @@
-//! Whole messages between a client and its session, as bytes over one link.
+//! Whole messages over bytes: an [`Inbox`] reads the next message from what came, and an [`Outbox`] writes messages as frames. Requests
+//! and replies go the same way, each as a [`Message`].
+//!
+//! An [`Exchange`] is a client's whole connection with its session on one thread, built of the same halves.
 #![tactic(auto)]
 
+mod carrying;
 mod exchange;
 mod filling;
 mod inbox;
+mod message;
+mod outbox;
 mod renewing;
-mod sending;
-#[cfg(test)]
-mod tests;
 
 pub use exchange::Exchange;
+pub use inbox::{Inbox, Incoming};
+pub use message::Message;
+pub use outbox::Outbox;

@@ -1,6 +1,6 @@
 //! Letting go of what a link carried.
 ghost use Rattle.std.specs.Prelude.{◌≡◌, []};
-ghost use Rattle.sv_exchange.specs.Streams.{IsSameToRead};
+ghost use Rattle.sv_exchange.specs.Streams.{IsSameLink};
 
 use std::alloc::Global;
 use sv_link::{MemLink, Side};
@@ -22,8 +22,7 @@ fn fresh(alloc: Global, server_closed: bool, client_closed: bool) -> MemLink
 
 /// Where each side has read all that the other wrote, the link starts anew: a link keeps all that it carried.
 pub(crate) fn renew(alloc: Global, link: &mut MemLink)
-    ensures server { IsSameToRead link.old.server link.new.server }
-    ensures client { IsSameToRead link.old.client link.new.client }
+    ensures { IsSameLink link.old link.new }
 {
     if link.waiting(Side::Server) == 0 && link.waiting(Side::Client) == 0 {
         *link = fresh(

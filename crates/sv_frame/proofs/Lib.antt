@@ -1,3 +1,4 @@
 pub mod Fronts
 pub mod Room
 pub mod Splitting
+pub mod Reading

@@ -1,10 +1,12 @@
 -- How a stream splits into payloads, whole, in pieces, and as frames that were written.
 use Rattle.std.proofs.Common.{◌≡◌, ℕ, zero, suc, ◌≤◌, List, [], ◌∷◌, ◌++◌, length, map, Option, Some, None, refl, sym, ap, subst, ◌∙◌, append_assoc, length-append, arith, ◌↔◌, inl, inr}
+use Rattle.std.specs.Prelude.{IfSome}
 use Rattle.std.specs.List.{AllByRecursion}
 use Rattle.std.proofs.lemmas.List.{append-nil, map-append}
 use Rattle.sv_frame.specs.Frames.{frame, frames_of, FitsFrame, first_frame, too_long}
 use Rattle.sv_frame.specs.Streams.{with_first, TakesOff, split_at_most, split_frames, split_on, AreBytes, Splits, Incoming, last_item, incoming_items}
 use Rattle.sv_frame.specs.Streams.Incoming.{Payload}
+use Rattle.sv_frame.specs.Answers.{Skips}
 use Rattle.sv_frame.proofs.Fronts.{none_or_some, length-frame, first_frame-append, first_frame-shorter, first_frame-frame, stream_is_frame, bytes-after, too_long-append, no_frame_if_too_long}
 
 -- a step of `split_at_most`, by what the stream begins with
@@ -66,6 +68,10 @@ takes_off payload old new first whole =
       sizes = omega (arith, ap length whole, length-append (frame payload) new, length-frame payload);
       split = split-some old payload new first;
     }
+
+pub skips : (payload old new : List ℕ) → TakesOff payload old new → Skips old new
+skips payload old new off =
+    subst (λ (o : Option (List ℕ × List ℕ)). IfSome o (λ first. TakesOff first.0 old new)) (sym off.first) off
 
 pub split-empty : split_frames [] ≡ ([], [])
 unfolding split_frames

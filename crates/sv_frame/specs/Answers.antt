@@ -1,5 +1,5 @@
 -- What a reader's `next` answers, and what it leaves.
-use Rattle.std.specs.Prelude.{◌≡◌, ℕ, ◌+◌, ◌≤◌, ◌<◌, List, [], ◌++◌, length, take, drop, None, Some, option_map, ⊤}
+use Rattle.std.specs.Prelude.{◌≡◌, ℕ, ◌+◌, ◌≤◌, ◌<◌, true, List, [], ◌++◌, length, take, drop, None, Some, option_map, IfSome, ⊤}
 use Rattle.std.specs.Borrow.{follows_so, MutBor, Fml}
 use mathlib.Core.Option.{none}
 use Rattle.sv_frame.specs.Frames.{frame, first_frame, too_long}
@@ -9,6 +9,9 @@ use Rattle.sv_frame.specs.declared.reader.Front.TheVariants.{Whole, Partial, Ove
 use Rattle.sv_frame.specs.declared.reader.Next.{Next}
 use Rattle.sv_frame.specs.declared.reader.Next.TheVariants.{Frame, NotYet, TooLong}
 use Rattle.sv_frame.specs.contracts.reader.FrameReader.{the_row}
+use Rattle.sv_link.specs.Ends.{Told, receiving}
+use Rattle.sv_link.specs.declared.ends.EndRead.{EndRead}
+use Rattle.sv_link.specs.declared.ends.EndRead.TheVariants as read
 
 -- the first payload of the rest; or there is neither a whole frame nor a length over the limit; or that length
 abbrev pub IsAnswer : Next → List ℕ → Type 0
@@ -38,3 +41,22 @@ abbrev pub IsFront : Front → List ℕ → Type 0
 IsFront (Whole n) rest = (4 + n ≤ length rest) × (first_frame rest ≡ Some (take n (drop 4 rest), drop (4 + n) rest)) × (rest ≡ frame (take n (drop 4 rest)) ++ drop (4 + n) rest)
 IsFront Partial rest = (first_frame rest ≡ None) × (too_long rest ≡ None)
 IsFront (Oversize n) rest = too_long rest ≡ Some n
+
+-- the first frame of a rest is taken off
+abbrev pub Skips : List ℕ → List ℕ → Type 0
+Skips old new = IfSome (first_frame old) (λ first. TakesOff first.0 old new)
+
+-- so many bytes came: the end received them, and they stand behind what the reader had
+pub record Came (old : Told) (before : List ℕ) (count : ℕ) (new : Told) (after : List ℕ) : Type 0 where
+  pub bytes : List ℕ
+  pub size : length bytes ≡ count
+  pub some : 0 < count
+  pub told : new ≡ receiving old bytes
+  pub rest : after ≡ before ++ bytes
+
+-- a reader read from an end: bytes came; or the end told that no more will come; or nothing changed
+abbrev pub ReadsInto : Told → List ℕ → EndRead → Told → List ℕ → Type 0
+ReadsInto old before (read.Got n) new after = Came old before n new after
+ReadsInto old before read.Ended new after = (new ≡ record old { ended = true }) × (after ≡ before)
+ReadsInto old before read.Failed new after = (new ≡ old) × (after ≡ before)
+ReadsInto old before read.Memory new after = (new ≡ old) × (after ≡ before)

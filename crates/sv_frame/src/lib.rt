@@ -10,6 +10,6 @@ mod reader;
 mod tests;
 mod writing;
 
-pub use limits::{GREATEST_PAYLOAD, ROOM};
+pub use limits::{GREATEST_PAYLOAD, PREFIX, ROOM};
 pub use reader::{FrameReader, Next};
 pub use writing::put_frame;

@@ -4,7 +4,7 @@
 pub const GREATEST_PAYLOAD: usize = 65_536;
 
 /// The bytes of a frame's length.
-pub(crate) const PREFIX: usize = 4;
+pub const PREFIX: usize = 4;
 
 /// The bytes that a reader has room for: one frame of the greatest length.
 pub const ROOM: usize = 65_540;

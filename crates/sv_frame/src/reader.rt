@@ -1,12 +1,16 @@
 //! Reading frames from a stream that comes in pieces.
-ghost use Rattle.std.specs.Prelude.{◌≡◌, [], ◌++◌, ◌+◌, ◌<◌, ◌≤◌, IfOk, length};
+ghost use Rattle.std.specs.Prelude.{◌≡◌, ◌≢◌, [], ◌++◌, ◌+◌, ◌-◌, ◌<◌, ◌≤◌, false, None, IfOk, length, take, drop};
+ghost use Rattle.std.specs.Vec.{vec_len};
 ghost use Rattle.std.specs.Borrow.{sem};
-ghost use Rattle.sv_frame.specs.Answers.{IsAnswer, IsFront, LeavesRoom, LeavesRest};
+ghost use Rattle.sv_link.specs.Ends.{EndReadCause};
+ghost use Rattle.sv_frame.specs.Frames.{first_frame};
+ghost use Rattle.sv_frame.specs.Answers.{IsAnswer, IsFront, LeavesRoom, LeavesRest, Skips, ReadsInto};
 
 use crate::limits::{GREATEST_PAYLOAD, PREFIX, ROOM};
 use byteorder::{BigEndian, ByteOrder};
 use std::alloc::{AllocError, Global};
 use std::marker::Model;
+use sv_link::{End, EndRead};
 
 /// What a reader finds at the front of what it was fed.
 #[derive(Clone, Copy, Debug, PartialEq, Eq)]
@@ -67,15 +71,55 @@ impl FrameReader {
         requires { length self.old + length piece.now ≤ 65540 }
         ensures { self.new ≡ self.old ++ piece.now }
     {
-        // An empty rest costs nothing to move, and what is used again is still in the cache.
-        if self.start == self.end || piece.len() > ROOM - self.end {
-            self.room.copy_within(self.start..self.end, 0);
-            self.end -= self.start;
-            self.start = 0;
-        }
+        let size = self.end - self.start;
+        self.start = make_space(&mut self.room, self.start, self.end, piece.len());
+        self.end = self.start + size;
         let after = self.end + piece.len();
         self.room.as_mut_slice()[self.end..after].copy_from_slice(piece);
         self.end = after;
+    }
+
+    /// Waits for bytes of an end, and reads as many as have come and fit straight into the room.
+    pub fn read_from<E: End>(&mut self, end: &mut E) -> EndRead
+        requires open { (E.told end.old).closed ≡ false }
+        requires room { length self.old < 65540 }
+        ensures came { ReadsInto (E.told end.old) self.old result (E.told end.new) self.new }
+        ensures cause { EndReadCause (E.faults end.old) (E.faults end.new) result }
+        ensures calm { E.calm end.old → (result ≢ EndRead.Failed) × E.calm end.new }
+    {
+        let size = self.end - self.start;
+        self.start = make_space(&mut self.room, self.start, self.end, 1);
+        self.end = self.start + size;
+        let answer = end.read(&mut self.room.as_mut_slice()[self.end..]);
+        if let EndRead::Got(count) = answer {
+            self.end += count;
+        }
+        answer
+    }
+
+    /// Tells what `next` would answer, and takes nothing off.
+    pub fn first(&self) -> Next<'_>
+        ensures answer { IsAnswer result self.now }
+        ensures room { LeavesRoom result self.now }
+    {
+        let rest = &self.room[self.start..self.end];
+        match front_of(rest) {
+            Front::Whole(length) => Next::Frame(&rest[PREFIX..PREFIX + length]),
+            Front::Partial => Next::NotYet,
+            Front::Oversize(length) => Next::TooLong(length),
+        }
+    }
+
+    /// Takes the first frame off the stream.
+    pub fn skip(&mut self)
+        requires { first_frame self.old ≢ None }
+        ensures { Skips self.old self.new }
+    {
+        match front_of(&self.room[self.start..self.end]) {
+            Front::Whole(length) => self.start = self.start + PREFIX + length,
+            Front::Partial => {}
+            Front::Oversize(_) => {}
+        }
     }
 
     /// Gives the next frame's payload, and takes the frame off the stream. Any other answer takes nothing off.
@@ -96,7 +140,25 @@ impl FrameReader {
     }
 }
 
+/// Where the rest begins once there is space for so many bytes behind it. It is moved to the front of the room where there was too little.
+fn make_space(room: &mut Vec<u8>, start: usize, end: usize, size: usize) -> usize
+    requires whole { vec_len room.old ≡ 65540 }
+    requires part { (start ≤ end) × (end ≤ 65540) }
+    requires fits { end - start + size ≤ 65540 }
+    ensures rest { take (end - start) (drop result room.new.items) ≡ take (end - start) (drop start room.old.items) }
+    ensures space { result + (end - start) + size ≤ 65540 }
+    ensures whole { vec_len room.new ≡ 65540 }
+{
+    // An empty rest costs nothing to move, and what is used again is still in the cache.
+    if start == end || size > ROOM - end {
+        room.copy_within(start..end, 0);
+        return 0;
+    }
+    start
+}
+
 /// What a rest begins with.
+#[derive(Clone, Copy)]
 enum Front {
     /// A frame with a payload of so many bytes.
     Whole(usize),

@@ -1,1 +1,10 @@
 pub mod Sides
+pub mod Ends
+pub mod Nets
+pub mod Logs
+pub mod Rooms
+pub mod Pipes
+pub mod Crews
+pub mod Promises
+pub mod Tcp
+pub mod ThreadCrews

@@ -4,6 +4,7 @@ use mathlib.Core.Bool.{false≢true}
 use Rattle.atomic_table.specs.Table.{Me}
 use Rattle.sv_lock.specs.declared.view.View.{View}
 use Rattle.sv_lock.specs.declared.view.Stage.TheVariants.{Idle}
+use Rattle.sv_lock.specs.Histories.{AreJust}
 
 -- What an option has that has something.
 abbrev pub the : {B : Type 0} (o : Option B) → IsSome o → B
@@ -24,8 +25,9 @@ abbrev pub ended_in : {E : Type 0} → Option ℕ → List (ℕ × List E) → L
 ended_in None lists = lists
 ended_in (Some n) lists = []
 
-pub record Rests {S B E : Type 0} (session : Option ℕ) (made : ℕ) (m : Me S (View B E)) : Type 0 where
+pub record Rests {S B E : Type 0} (number_of : E → ℕ) (session : Option ℕ) (made : ℕ) (m : Me S (View B E)) : Type 0 where
   pub idle : m.0.stage ≡ Idle
   pub empty : m.1 ≡ []
   pub keeper : session ≡ None → (m.0.keeps ≡ true) × (m.0.made ≡ made)
+  pub just : session ≡ None → AreJust number_of m.0.seen m.0.lists
   pub own : (n : ℕ) → session ≡ Some n → m.0.lists ≡ (n, first_list m.0.lists) ∷ []

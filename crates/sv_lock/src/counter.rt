@@ -3,6 +3,8 @@ ghost use Rattle.std.specs.Prelude.{◌≡◌, ℕ, ◌%◌, ◌^◌, ◌<◌, L
 
 use crate::Object;
 use std::alloc::{AllocError, Global};
+use std::hint;
+use std::sync::Arc;
 
 /// So much was added, by the caller of this number.
 #[derive(Clone, Copy)]
@@ -20,6 +22,10 @@ pub struct Counter {
     calls: u64,
     total: u64,
     pub added: Vec<Added>,
+    /// How long a call takes.
+    pub pauses: u32,
+    /// Goes when the counter does.
+    pub mark: Option<Arc<u8>>,
     ghost counted: { total ≡ sum_by (λ e. e.amount) added.items % 2 ^ 64 },
     ghost small: { All (λ e. e.amount < limit) added.items },
 }
@@ -34,7 +40,15 @@ impl Counter {
             calls: 0,
             total: 0,
             added: Vec::new(alloc),
+            pauses: 0,
+            mark: None,
         }
+    }
+}
+
+fn pause(times: u32) {
+    for _ in 0..times {
+        hint::spin_loop();
     }
 }
 
@@ -66,6 +80,7 @@ impl Object for Counter {
     ghost number_of_entry = { λ number amount total. refl };
 
     fn step(&mut self, number: u16, amount: &u64) -> Result<u64, AllocError> {
+        pause(self.pauses);
         self.calls = self.calls.wrapping_add(1);
         if self.failing != 0 && self.calls % self.failing == 0 {
             return Err(AllocError);

@@ -6,6 +6,7 @@ ghost use Rattle.sv_lock.specs.Histories.{entries_of, AreJust, AreBelow, GoesOn}
 ghost use Rattle.sv_lock.specs.Line.{staged, renewed, one_more, next_pass, taken_in, first_keeper, Took, MayReturn, Ran, Learned, Closes};
 ghost use Rattle.sv_lock.specs.Rest.{first_list};
 
+use crate::beds::Beds;
 use crate::object::Object;
 use crate::plays::{Cut, Draw, Glue, Learn, Line, Look, Place, Return};
 use atomic_table::{Refused, Table};
@@ -14,11 +15,16 @@ use std::hint;
 use std::snapshot::Snapshot;
 use std::sync::Wait;
 
-// How often a thread looks before it sleeps.
+// How often a thread looks before it lies down to sleep.
 const LOOKS: u32 = 100;
 
+// Who is further back in the line sleeps at once.
+const NEAR: u64 = 4;
+
+#[derive(Drop)]
 pub struct Desk<O: Object> {
     pub table: Line<O>,
+    beds: Beds,
     pub ghost sized: { (table.shared.table_id.words ≡ 2) × (table.shared.table_id.slots ≡ 1) },
 }
 
@@ -44,8 +50,45 @@ impl<O: Object> Desk<O> {
         self.table.shared.load::<Look>(seat, 1)
     }
 
-    // Looks again and again. After some looks it sleeps until another ticket is served, so that many threads on few processors
-    // leave these to the one that is served.
+    // Looks for a short while, if the turn is near, and says whether it took the object.
+    fn spin(&self, seat: &mut Place<O>, ticket: u64) -> bool
+        requires table { seat.old.table_id ≡ self.now.table.shared.table_id }
+        requires waits { (t : ℕ) × (t % 2 ^ 64 ≡ ticket) × (seat.old.me.0.stage ≡ Waits t) }
+        requires based { (b : O.Base) × (seat.old.me.0.base ≡ Some b) }
+        ensures table { seat.new.table_id ≡ seat.old.table_id }
+        ensures looked { MatchBool result ((t : ℕ) × Took O.base O.history O.number_of t seat.old.me seat.new.me) (seat.new.me ≡ seat.old.me) }
+    {
+        for _ in 0..LOOKS {
+            let served = self.look(seat, ticket);
+            if served == ticket {
+                return true;
+            }
+            if ticket.wrapping_sub(served) > NEAR {
+                return false;
+            }
+            hint::spin_loop();
+        }
+        false
+    }
+
+    // Sleeps until the ticket is served, so that many threads on few processors leave these to the one that is.
+    fn sleep<R: Wait>(&self, rt: &R, seat: &mut Place<O>, ticket: u64)
+        requires table { seat.old.table_id ≡ self.now.table.shared.table_id }
+        requires waits { (t : ℕ) × (t % 2 ^ 64 ≡ ticket) × (seat.old.me.0.stage ≡ Waits t) }
+        requires based { (b : O.Base) × (seat.old.me.0.base ≡ Some b) }
+        ensures table { seat.new.table_id ≡ seat.old.table_id }
+        ensures took { (t : ℕ) × Took O.base O.history O.number_of t seat.old.me seat.new.me }
+    {
+        for _ in rt.forever() {
+            self.beds.lie_down(ticket);
+            if self.look(seat, ticket) == ticket {
+                return;
+            }
+            self.beds.sleep(rt, ticket);
+        }
+        unreachable!()
+    }
+
     fn wait<R: Wait>(&self, rt: &R, seat: &mut Place<O>, ticket: u64)
         requires table { seat.old.table_id ≡ self.now.table.shared.table_id }
         requires waits { (t : ℕ) × (t % 2 ^ 64 ≡ ticket) × (seat.old.me.0.stage ≡ Waits t) }
@@ -53,31 +96,8 @@ impl<O: Object> Desk<O> {
         ensures table { seat.new.table_id ≡ seat.old.table_id }
         ensures took { (t : ℕ) × Took O.base O.history O.number_of t seat.old.me seat.new.me }
     {
-        let mut looks: u32 = 0;
-        for _ in rt.forever() {
-            let served = self.look(seat, ticket);
-            if served == ticket {
-                return;
-            }
-            if looks < LOOKS {
-                looks += 1;
-                hint::spin_loop();
-            } else {
-                self.sleep(rt, served);
-            }
-        }
-        unreachable!()
-    }
-
-    // Sleeps while this ticket is served.
-    fn sleep<R: Wait>(&self, rt: &R, served: u64) {
-        self.table.shared.park(rt, 1, (served % (1 << 32)) as u32);
-    }
-
-    // Wakes those who sleep, if a ticket is out behind the one that was served.
-    fn wake(&self, served: u64) {
-        if self.table.shared.peek(0) != served.wrapping_add(1) {
-            self.table.shared.wake_all(1);
+        if !self.spin(seat, ticket) {
+            self.sleep(rt, seat, ticket);
         }
     }
 
@@ -99,7 +119,7 @@ impl<O: Object> Desk<O> {
         ensures returned { (y : O) → seat.old.me.1 ≡ (0, y) ∷ [] → seat.new.me ≡ (staged seat.old.me.0 Idle (O.history y) (renewed O.number_of (O.history y) seat.old.me.0.lists), []) }
     {
         let served = self.serve_next(seat);
-        self.wake(served);
+        self.beds.wake(served.wrapping_add(1));
     }
 
     /// One step of the object in hand.
@@ -200,7 +220,10 @@ impl<O: Object> Desk<O> {
         let opening = Snapshot::of(&object);
         let slots = one_slot(alloc, object)?;
         match Table::new(alloc, [0, 0].as_slice(), slots, &opening) {
-            Ok((table, seat)) => Ok((Desk { table }, seat)),
+            Ok((table, seat)) => {
+                let beds = Beds::new();
+                Ok((Desk { table, beds }, seat))
+            }
             Err(Refused { slots }) => Err(only(slots)),
         }
     }
@@ -213,7 +236,7 @@ impl<O: Object> Desk<O> {
         requires all { (n : ℕ) → n < keeper.me.0.made → Contains (map (λ x. x.0) keeper.me.0.lists) n }
         ensures { Closes O.base O.history O.lawful O.number_of keeper.me.0 result }
     {
-        let Desk { table } = self;
+        let Desk { table, beds: _ } = self;
         let mut closed = table.close_with(keeper);
         let object = closed.take(0);
         closed.free();

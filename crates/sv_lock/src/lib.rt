@@ -4,6 +4,7 @@
 //! the caller has seen, and which entries in it are its own.
 #![tactic(auto)]
 
+mod beds;
 #[cfg(test)]
 mod counter;
 mod desk;

@@ -12,7 +12,10 @@ use std::sync::Wait;
 
 /// A lock round an object, which any number of threads share by reference. Its callers are served in the order of their tickets.
 ///
+/// It may be let go where its object may, whatever became of its passes. `close` gives the object back instead.
+///
 /// Contracts see which lock it is, and for how many passes it is made.
+#[derive(Drop)]
 pub struct SeqLock<O: Object> {
     desk: Desk<O>,
     passes: u16,
@@ -117,12 +120,12 @@ impl<O: Object> SeqLock<O> {
         self.desk.glue(&mut keeper.seat, seat);
     }
 
-    /// Gives the object back, once every pass that was made was joined.
+    /// Gives the object back, once every pass that was made was joined. The keeper then has seen the whole history.
     pub fn close(self, keeper: Pass<O>) -> O
         requires keeper { (keeper.lock ≡ self.id) × (keeper.session ≡ None) }
         requires ended { AllEnded keeper }
         ensures base { O.base result ≡ keeper.base }
-        ensures seen { IsPrefix keeper.seen (O.history result) }
+        ensures seen { O.history result ≡ keeper.seen }
         ensures just { AreJust O.number_of (O.history result) keeper.ended }
         ensures below { AreBelow O.number_of keeper.made (O.history result) }
         ensures lawful { O.lawful keeper.base (O.history result) }

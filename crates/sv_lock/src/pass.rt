@@ -7,7 +7,7 @@ use std::marker::Model;
 /// A caller's right to a lock, and what it knows of the history. Contracts see its lock, its session number, the base
 /// of the lock's object, what it has seen, and its own entries.
 ///
-/// One pass is the keeper's: it makes the others, and takes them in again.
+/// One pass is the keeper's: it makes the others, and takes them in again. A pass may be let go, but then its lock can't be closed.
 #[derive(Drop)]
 pub struct Pass<O: Object> {
     pub(crate) seat: Place<O>,
@@ -25,7 +25,7 @@ impl<O: Object> Model for Pass<O> {
 
     ghost view = { λ p. record { lock = p.seat.table_id; session = p.session; base = the p.seat.me.0.base p.based; seen = p.seat.me.0.seen; mine = mine_in p.session p.seat.me.0.lists; made = p.made; ended = ended_in p.session p.seat.me.0.lists } };
 
-    ghost invariant = { λ p. Rests p.session p.made p.seat.me };
+    ghost invariant = { λ p. Rests O.number_of p.session p.made p.seat.me };
 }
 
 impl<O: Object> Pass<O> {

@@ -1,10 +1,11 @@
 ghost use Rattle.std.specs.Prelude.{◌≡◌, ℕ, ◌+◌, ◌<◌, ◌≤◌, List, [], ◌∷◌, ◌++◌, map, Contains, Some, None, IsSome, OnOk, IfOk};
+ghost use Rattle.std.specs.Thread.{IsSync};
 ghost use Rattle.sv_lock.specs.Passes.{session_number};
 
 use super::counter::{Added, Counter};
 use super::*;
 use std::alloc::{AllocError, Global};
-use std::sync::Wait;
+use std::sync::{Arc, Wait};
 use std::test::Fail;
 use std::thread;
 use std::thread::Threads;
@@ -30,49 +31,92 @@ fn add_up<R: Wait>(
     (pass, count.wrapping_sub(left))
 }
 
-// Two threads, each with a pass of its own, add the numbers below `count`.
-fn add_by_two<R: Threads + Wait + Sync>(
+// So many threads, each with a pass of its own, add the numbers below `count`. The keeper takes their passes in.
+fn crowd<R: Threads + Wait + Sync>(
+    rt: &R,
+    lock: &SeqLock<Counter>,
+    mut keeper: Pass<Counter>,
+    threads: u16,
+    count: u64,
+) -> (Pass<Counter>, u64)
+    requires keeper { (keeper.lock ≡ lock.now.id) × (keeper.session ≡ None) }
+    requires room { keeper.made + threads ≤ lock.now.passes }
+    requires small { count ≤ keeper.base }
+    ensures same { (result.0.lock ≡ keeper.lock) × (result.0.session ≡ None) }
+    ensures made { result.0.made ≡ keeper.made + threads }
+    ensures ended { (n : ℕ) → keeper.made ≤ n → n < result.0.made → Contains (map (λ x. x.0) result.0.ended) n }
+{
+    if threads == 0 {
+        return (keeper, 0);
+    }
+    let rest = threads - 1;
+    let pass = lock.split(&mut keeper);
+    let ((pass, answered), (mut keeper, others)) = thread::join(
+        rt,
+        || -> (Pass<Counter>, u64)
+            requires pass { (pass.lock ≡ lock.now.id) × IsSome pass.session }
+            requires small { count ≤ pass.base }
+            ensures { (result.0.lock ≡ lock.entry.now.id) × (result.0.session ≡ pass.session) }
+        { add_up(rt, lock, pass, count) },
+        || -> (Pass<Counter>, u64)
+            requires handle { IsSync R.row }
+            requires keeper { (keeper.lock ≡ lock.now.id) × (keeper.session ≡ None) }
+            requires room { keeper.made + rest ≤ lock.now.passes }
+            requires small { count ≤ keeper.base }
+            ensures same { (result.0.lock ≡ lock.entry.now.id) × (result.0.session ≡ None) }
+            ensures made { result.0.made ≡ keeper.made + rest }
+            ensures ended { (n : ℕ) → keeper.made ≤ n → n < result.0.made → Contains (map (λ x. x.0) result.0.ended) n }
+        { crowd(rt, lock, keeper, rest, count) },
+    );
+    lock.join(&mut keeper, pass);
+    (keeper, answered.wrapping_add(others))
+}
+
+// The counter after all threads are done, and how many of their calls were answered.
+fn add_by<R: Threads + Wait + Sync>(
     rt: &R,
     alloc: Global,
+    threads: u16,
     count: u64,
-) -> Result<(Counter, u64, u64), AllocError> {
-    let counter = Counter::new(alloc, count, 0);
-    let (lock, mut keeper) = match SeqLock::new(alloc, counter, 2) {
+    pauses: u32,
+) -> Result<(Counter, u64), AllocError>
+    requires threads { (0 < threads) × (threads ≤ 64) }
+{
+    let mut counter = Counter::new(alloc, count, 0);
+    counter.pauses = pauses;
+    let (lock, keeper) = match SeqLock::new(alloc, counter, threads) {
         Ok(made) => made,
         Err((_, error)) => return Err(error),
     };
-    let one = lock.split(&mut keeper);
-    let two = lock.split(&mut keeper);
-    let shared = &lock;
-    let ((one, by_one), (two, by_two)) = thread::join(
-        rt,
-        || -> (Pass<Counter>, u64)
-            requires { (one.lock ≡ shared.now.id) × (one.session ≡ Some 0) × (one.base ≡ count) }
-            ensures { (result.0.lock ≡ shared.entry.now.id) × (result.0.session ≡ Some 0) }
-        { add_up(rt, shared, one, count) },
-        || -> (Pass<Counter>, u64)
-            requires { (two.lock ≡ shared.now.id) × (two.session ≡ Some 1) × (two.base ≡ count) }
-            ensures { (result.0.lock ≡ shared.entry.now.id) × (result.0.session ≡ Some 1) }
-        { add_up(rt, shared, two, count) },
-    );
-    lock.join(&mut keeper, one);
-    lock.join(&mut keeper, two);
-    Ok((lock.close(keeper), by_one, by_two))
+    let (keeper, answered) = crowd(rt, &lock, keeper, threads, count);
+    Ok((lock.close(keeper), answered))
 }
 
-#[test]
-fn two_threads_make_a_thousand_calls_each(rt: HostRuntime) -> Result<(), Fail> {
-    let (counter, by_one, by_two) = add_by_two(&rt, rt.alloc(), 1_000)?;
-    assert_eq!(rt; (by_one, by_two), (1_000, 1_000));
-    assert_eq!(rt; counter.added.len(), 2_000);
-    let mut next = [0u64, 0];
-    for added in counter.added.iter() {
-        let by = usize::from(added.by);
-        assert!(rt; by < 2);
-        assert_eq!(rt; added.amount, next[by]);
+// Each number added 0, 1, 2 and so on, up to `count`.
+fn all_in_order(added: &[Added], threads: u16, count: u64) -> bool {
+    let mut next = [0u64; 64];
+    for one in added.iter() {
+        let by = usize::from(one.by);
+        if by >= 64 || one.amount != next[by] {
+            return false;
+        }
         next[by] = next[by].wrapping_add(1);
     }
-    assert_eq!(rt; next, [1_000, 1_000]);
+    next.iter()
+        .take(usize::from(threads))
+        .all(|made| *made == count)
+}
+
+// In the last row a call takes longer than any thread looks before it sleeps.
+#[test]
+fn threads_make_their_calls_in_order(rt: HostRuntime) -> Result<(), Fail> {
+    for (threads, count, pauses) in [(2u16, 1_000u64, 0u32), (6, 3, 400_000)] {
+        let (counter, answered) = add_by(&rt, rt.alloc(), threads, count, pauses)?;
+        let calls = count.wrapping_mul(u64::from(threads));
+        assert_eq!(rt; answered, calls);
+        assert_eq!(rt; counter.added.len() as u64, calls);
+        assert!(rt; all_in_order(counter.added.as_slice(), threads, count));
+    }
     Ok(())
 }
 
@@ -181,6 +225,31 @@ fn sixty_four_passes(rt: HostRuntime) -> Result<(), Fail> {
     for (place, added) in counter.added.iter().enumerate() {
         assert_eq!(rt; usize::from(added.by).wrapping_add(place), 63);
         assert_eq!(rt; added.amount.wrapping_add(u64::from(added.by)), 64);
+    }
+    Ok(())
+}
+
+// Gives up before the lock is closed: at a call without memory, or with the sum of 5 and 7.
+fn let_go<R: Wait>(rt: &R, alloc: Global, failing: u64, mark: &Arc<u8>) -> Result<u64, AllocError> {
+    let mut counter = Counter::new(alloc, 10, failing);
+    counter.mark = Some(Arc::try_clone(mark)?);
+    let (lock, mut keeper) = match SeqLock::new(alloc, counter, 2) {
+        Ok(made) => made,
+        Err((_, error)) => return Err(error),
+    };
+    let mut pass = lock.split(&mut keeper);
+    lock.call(rt, &mut pass, &5)?;
+    drop(lock.split(&mut keeper));
+    drop(keeper);
+    lock.call(rt, &mut pass, &7)
+}
+
+#[test]
+fn a_lock_is_let_go(rt: HostRuntime) -> Result<(), Fail> {
+    let mark = Arc::new(rt.alloc(), 0u8)?;
+    for (failing, sum) in [(0u64, Some(12u64)), (1, None), (2, None)] {
+        assert!(rt; let_go(&rt, rt.alloc(), failing, &mark).ok() == sum);
+        assert_eq!(rt; Arc::strong_count(&mark), 1);
     }
     Ok(())
 }

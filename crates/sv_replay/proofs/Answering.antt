@@ -14,7 +14,7 @@ use Rattle.sv_journal.specs.Answer.{Rules, Legal, reply_to}
 use Rattle.sv_system.specs.Fits.{requests_in, replies_in, is_ended}
 use Rattle.sv_system.proofs.Entered.{is_of, of-from}
 use Rattle.sv_schedule.specs.Schedule.{Player, Run, asked_in_run, closed_by, is_stop, is_stopped, with_entry, steps_next, session_turn}
-use Rattle.sv_replay.specs.Channel.{ChannelView}
+use Rattle.sv_exchange.specs.View.{ExchangeView}
 use Rattle.sv_replay.specs.Players.{got_in_run, IsChannel}
 use Rattle.sv_replay.specs.Serving.{next_history, next_channel}
 use Rattle.sv_replay.proofs.Served.{waiting_asked, replies_stay, next_ended, next_stopped, next_closed, next_idle, next_asked}
@@ -37,7 +37,7 @@ module _ (r : Rules) (h : List Entry) (ps : List Player) (s : ℕ) (q : Request)
       ∙ sym (replies_stay r e h n legal)
 
   -- An entry that adds no request and no reply to a session.
-  not_of_channel : (n : ℕ) (c : ChannelView) (stopped : Bool) → is_of e n ≡ false → stopped ≡ is_stopped (e ∷ h) n → IsChannel (run_at h ps) n c → IsChannel (run_at (e ∷ h) ps) n (record c { stopped = stopped })
+  not_of_channel : (n : ℕ) (c : ExchangeView) (stopped : Bool) → is_of e n ≡ false → stopped ≡ is_stopped (e ∷ h) n → IsChannel (run_at h ps) n c → IsChannel (run_at (e ∷ h) ps) n (record c { stopped = stopped })
   not_of_channel n c stopped f stop is =
       let asks = not_of_requests n f in
       let gives = not_of_replies n f in
@@ -51,17 +51,17 @@ module _ (r : Rules) (h : List Entry) (ps : List Player) (s : ℕ) (q : Request)
       }
 
   -- Entries of other sessions.
-  pub other_entry : (n : ℕ) (c : ChannelView) → (s == n) ≡ false → IsChannel (run_at h ps) n c → IsChannel (run_at (e ∷ h) ps) n c
+  pub other_entry : (n : ℕ) (c : ExchangeView) → (s == n) ≡ false → IsChannel (run_at h ps) n c → IsChannel (run_at (e ∷ h) ps) n c
   other_entry n c f is = not_of_channel n c c.stopped (rw f refl) (is.stopped ∙ sym (rw f refl)) is
 
   -- An End.
-  pub end_entry : (c : ChannelView) → q ≡ requests.End → IsChannel (run_at h ps) s c → IsChannel (run_at (e ∷ h) ps) s (record c { stopped = true })
+  pub end_entry : (c : ExchangeView) → q ≡ requests.End → IsChannel (run_at h ps) s c → IsChannel (run_at (e ∷ h) ps) s (record c { stopped = true })
   end_entry c end is =
       let here : (s == s) ≡ true = eq-eqb s s refl in
       not_of_channel s c true (rw (here, end) refl) (sym (rw (here, end) refl)) is
 
   -- The first request that waits, with its reply.
-  pub asked_entry : (c : ChannelView) (qs : List Request) → c.requests ≡ q ∷ qs → is_stopped h s ≡ false → IsChannel (run_at h ps) s c →
+  pub asked_entry : (c : ExchangeView) (qs : List Request) → c.requests ≡ q ∷ qs → is_stopped h s ≡ false → IsChannel (run_at h ps) s c →
       IsChannel (run_at (e ∷ h) ps) s (record c { requests = qs; replies = c.replies ++ full_reply (accepted (e ∷ h)) (reply_to r h s q) ∷ []; stopped = is_stop (reply_to r h s q) })
   asked_entry c qs waits running is =
       let left : drop (length (requests_in h s)) (asked_in_run ps s) ≡ q ∷ qs = sym is.requests ∙ waits in
@@ -99,16 +99,16 @@ module _ (r : Rules) (h : List Entry) (ps : List Player) (s : ℕ) (q : Request)
 
 -- ---- Turns
 
-module _ (r : Rules) (h : List Entry) (ps : List Player) (s : ℕ) (c : ChannelView) (is : IsChannel (run_at h ps) s c) where
+module _ (r : Rules) (h : List Entry) (ps : List Player) (s : ℕ) (c : ExchangeView) (is : IsChannel (run_at h ps) s c) where
   pub session_turn_is : next_history r h s c ≡ session_turn r ps h s
   session_turn_is =
       ap (λ (b : Bool). if is_ended h s then h else if b then with_entry r h s requests.End else steps_next r h s c.closed c.requests) is.stopped
       ∙ ap (λ (b : Bool). if is_ended h s then h else if is_stopped h s then with_entry r h s requests.End else steps_next r h s b c.requests) is.closed
       ∙ ap (λ (qs : List Request). if is_ended h s then h else if is_stopped h s then with_entry r h s requests.End else steps_next r h s (list_any (closed_by s) ps) qs) is.requests
 
-  at_turn : (g : List Entry) (d : ChannelView) → (next_history r h s c ≡ g) × (next_channel r h s c ≡ d) → IsChannel (run_at g ps) s d → IsChannel (run_at (next_history r h s c) ps) s (next_channel r h s c)
+  at_turn : (g : List Entry) (d : ExchangeView) → (next_history r h s c ≡ g) × (next_channel r h s c ≡ d) → IsChannel (run_at g ps) s d → IsChannel (run_at (next_history r h s c) ps) s (next_channel r h s c)
   at_turn g d n made =
-      subst (λ (x : ChannelView). IsChannel (run_at (next_history r h s c) ps) s x) (sym n.1) (subst (λ (k : List Entry). IsChannel (run_at k ps) s d) (sym n.0) made)
+      subst (λ (x : ExchangeView). IsChannel (run_at (next_history r h s c) ps) s x) (sym n.1) (subst (λ (k : List Entry). IsChannel (run_at k ps) s d) (sym n.0) made)
 
   -- The session's own connection.
   pub own_served : Legal r h → IsChannel (run_at (next_history r h s c) ps) s (next_channel r h s c)
@@ -150,7 +150,7 @@ module _ (r : Rules) (h : List Entry) (ps : List Player) (s : ℕ) (c : ChannelV
       waits running goes (q ∷ qs) some = inr (q, (next_asked r h s c q qs running goes some).0)
 
   -- The connections of other sessions.
-  pub other_served : (n : ℕ) (d : ChannelView) → (s == n) ≡ false → Legal r h → IsChannel (run_at h ps) n d → IsChannel (run_at (next_history r h s c) ps) n d
+  pub other_served : (n : ℕ) (d : ExchangeView) → (s == n) ≡ false → Legal r h → IsChannel (run_at h ps) n d → IsChannel (run_at (next_history r h s c) ps) n d
   other_served n d f legal there = elim next_cases [
     | inl same ↦ subst (λ (k : List Entry). IsChannel (run_at k ps) n d) (sym same) there
     | inr one ↦ subst (λ (k : List Entry). IsChannel (run_at k ps) n d) (sym one.1) (other_entry r h ps s one.0 legal n d f there)

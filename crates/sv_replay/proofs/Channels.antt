@@ -12,7 +12,7 @@ use Rattle.sv_journal.specs.History.{accepted}
 use Rattle.sv_client.specs.Traces.{got}
 use Rattle.sv_system.specs.Fits.{requests_in, replies_in}
 use Rattle.sv_schedule.specs.Schedule.{Player, Run, asked_in_run, closed_by}
-use Rattle.sv_replay.specs.Channel.{ChannelView}
+use Rattle.sv_exchange.specs.View.{ExchangeView}
 use Rattle.sv_replay.specs.Players.{asked_by_player, got_in_run, Moves, IsChannel}
 use Rattle.sv_replay.proofs.Apart.{OthersSilent, all_ask_nothing, all_get_nothing, flat_moved, commutes_with_none, none_commutes, later_of, nothing}
 use Rattle.sv_replay.proofs.Events.{either_way}
@@ -97,7 +97,7 @@ module _ (h : List Entry) (ps : List Player) (k n : ℕ) (p q : Player) (sent : 
   more_none s xs more f = ap (λ ys. xs ++ ys) (nothing (n == s) more f) ∙ append-nil xs
 
   -- The connections of other sessions stay.
-  pub other_stays : (s : ℕ) (c : ChannelView) → (n == s) ≡ false → IsChannel before s c → IsChannel moved s c
+  pub other_stays : (s : ℕ) (c : ExchangeView) → (n == s) ≡ false → IsChannel before s c → IsChannel moved s c
   other_stays s c f is =
       let asks : asked_in_run (set ps k q) s ≡ asked_in_run ps s = asked_moved s ∙ more_none s (asked_in_run ps s) sent f in
       let gets : got_in_run (set ps k q) s ≡ got_in_run ps s = got_moved s ∙ more_none s (got_in_run ps s) taken f in
@@ -112,7 +112,7 @@ module _ (h : List Entry) (ps : List Player) (k n : ℕ) (p q : Player) (sent : 
       }
 
   -- The connection that the player moved over.
-  pub own_moves : (c d : ChannelView) → IsChannel before n c → d.requests ≡ c.requests ++ sent → c.replies ≡ taken ++ d.replies → d.closed ≡ (c.closed || closing) →
+  pub own_moves : (c d : ExchangeView) → IsChannel before n c → d.requests ≡ c.requests ++ sent → c.replies ≡ taken ++ d.replies → d.closed ≡ (c.closed || closing) →
       d.stopped ≡ c.stopped → IsChannel moved n d
   own_moves c d is requests replies closed stopped =
       let here : (n == n) ≡ true = eq-eqb n n refl in

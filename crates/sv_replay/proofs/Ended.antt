@@ -6,9 +6,10 @@ use Rattle.sv_journal.specs.declared.entry.Entry.{Entry}
 use Rattle.sv_journal.specs.History.{commit_of, committed_of}
 use Rattle.sv_client.specs.declared.trace.Trace.{Trace}
 use Rattle.sv_scenario.specs.declared.scenario.Scenario.{Scenario}
-use Rattle.sv_schedule.specs.declared.played.Played.{Played}
+use Rattle.sv_system.specs.declared.played.Played.{Played}
+use Rattle.sv_system.specs.Records.{IsPlayed}
 use Rattle.sv_schedule.specs.Schedule.{Run, rules_of, opening_run, all_turned, repeated, round, traces_of}
-use Rattle.sv_schedule.specs.Records.{IsReplay, IsPlayed}
+use Rattle.sv_schedule.specs.Records.{IsReplay}
 use Rattle.sv_replay.specs.declared.machine.Machine.{Machine}
 use Rattle.sv_replay.specs.Machine.{run_of, Became}
 
@@ -31,7 +32,7 @@ played_is scenario run played replay journal traces shape commit committed =
     let all : IsReplay scenario (reverse played.journal.entries) played.traces =
     subst (λ (h : List Entry). IsReplay scenario h played.traces) (sym journal) (subst (λ (Ls : List Trace). IsReplay scenario run.history Ls) (sym traces) replay) in (
       record {
-        traffic = all.traffic;
+        traffic = all.full.traffic;
         shape = shape;
         commit = commit ∙ ap commit_of (sym journal);
         committed = committed ∙ ap (committed_of scenario.world.values) (sym journal);

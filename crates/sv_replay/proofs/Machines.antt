@@ -28,7 +28,7 @@ use Rattle.sv_schedule.proofs.SoundLaws.{turns-sound}
 use Rattle.sv_schedule.proofs.SoundCalls.{IsPlayer, player-at, session-next, session-last, turn-player}
 use Rattle.sv_replay.specs.declared.machine.Machine.{Machine}
 use Rattle.sv_replay.specs.declared.playing.Playing.{Playing}
-use Rattle.sv_replay.specs.Channel.{ChannelView, new_channel}
+use Rattle.sv_exchange.specs.View.{ExchangeView, new_exchange}
 use Rattle.sv_replay.specs.Players.{session_of, IsFit, IsChannel, taken_from}
 use Rattle.sv_replay.specs.Serving.{Served, next_history, next_channel}
 use Rattle.sv_replay.specs.Machine.{player_of, AreFlags, Moved, run_of, IsMachine, Became}
@@ -122,12 +122,12 @@ flags_at m is k p at = all_at AreFlags m.players.items k p (recursion_from_All A
 
 -- ---- A client's turn, of either kind
 
-module _ (m w : Machine) (k : ℕ) (p q : Playing) (d : ChannelView) (is : IsMachine m) (at : slice_get m.players.items k ≡ Some p) where
+module _ (m w : Machine) (k : ℕ) (p q : Playing) (d : ExchangeView) (is : IsMachine m) (at : slice_get m.players.items k ≡ Some p) where
   abbrev n : ℕ
   n = session_of (player_of p)
 
-  abbrev c : ChannelView
-  c = get_or m.channels.items n new_channel
+  abbrev c : ExchangeView
+  c = get_or m.channels.items n new_exchange
 
   abbrev after : List Player
   after = set (run_of m).players k (player_of q)
@@ -150,17 +150,17 @@ module _ (m w : Machine) (k : ℕ) (p q : Playing) (d : ChannelView) (is : IsMac
   ]
 
   channel_at : IsSound m.scenario.now moved_run → (moves : Moved (player_of q) p q c d) → (s : ℕ) → s < session_count m.scenario.now →
-      IsChannel moved_run s (get_or (set m.channels.items n d) s new_channel)
+      IsChannel moved_run s (get_or (set m.channels.items n d) s new_exchange)
   channel_at sound moves s l = elim (cases_Bool (n == s)) [
     | inl y ↦ (let same : n ≡ s = eqb-true n s y in
-        subst (λ (i : ℕ). IsChannel moved_run i (get_or (set m.channels.items n d) i new_channel)) same
-        (subst (λ (x : ChannelView). IsChannel moved_run n x) (sym (get_or-set_same m.channels.items n d new_channel (omega (arith, is.count, known))))
+        subst (λ (i : ℕ). IsChannel moved_run i (get_or (set m.channels.items n d) i new_exchange)) same
+        (subst (λ (x : ExchangeView). IsChannel moved_run n x) (sym (get_or-set_same m.channels.items n d new_exchange (omega (arith, is.count, known))))
         (own_moves (run_of m).history (run_of m).players k n (player_of p) (player_of q) moves.sent moves.taken moves.closing place moves.moves (quiet sound moves) c d
         (is.channels n known) moves.requests moves.replies moves.closed moves.stopped)))
     | inr f ↦ (let other : s ≢ n = λ e. (let t : (n == s) ≡ true = eq-eqb n s (sym e) in cc) in
-        subst (λ (x : ChannelView). IsChannel moved_run s x) (sym (get_or-set_other m.channels.items n s d new_channel other))
+        subst (λ (x : ExchangeView). IsChannel moved_run s x) (sym (get_or-set_other m.channels.items n s d new_exchange other))
         (other_stays (run_of m).history (run_of m).players k n (player_of p) (player_of q) moves.sent moves.taken moves.closing place moves.moves (quiet sound moves) s
-        (get_or m.channels.items s new_channel) f (is.channels s l)))
+        (get_or m.channels.items s new_exchange) f (is.channels s l)))
   ]
 
   -- The machine after it is in step with the run after it.
@@ -189,17 +189,17 @@ module _ (m w : Machine) (k : ℕ) (p q : Playing) (d : ChannelView) (is : IsMac
           flags = subst (All AreFlags) (sym players)
               (All-from_recursion AreFlags _ (all_set AreFlags m.players.items k q did.flags (recursion_from_All AreFlags m.players.items is.flags)));
           count = ap length channels ∙ length-set m.channels.items n d ∙ is.count ∙ ap session_count (sym scenario);
-          channels = λ s l. subst (λ (x : Run). IsChannel x s (get_or w.channels.items s new_channel)) (sym new)
-              (subst (λ (xs : List ChannelView). IsChannel moved_run s (get_or xs s new_channel)) (sym channels) (channel_at sound moves s (subst (λ (x : Scenario). s < session_count x) scenario l)));
+          channels = λ s l. subst (λ (x : Run). IsChannel x s (get_or w.channels.items s new_exchange)) (sym new)
+              (subst (λ (xs : List ExchangeView). IsChannel moved_run s (get_or xs s new_exchange)) (sym channels) (channel_at sound moves s (subst (λ (x : Scenario). s < session_count x) scenario l)));
         };
         run_is = new ∙ sym next;
       }
 
 -- ---- A session's turn
 
-module _ (m w : Machine) (s : ℕ) (d : ChannelView) (is : IsMachine m) (l : s < session_count m.scenario.now) where
-  abbrev own : ChannelView
-  own = get_or m.channels.items s new_channel
+module _ (m w : Machine) (s : ℕ) (d : ExchangeView) (is : IsMachine m) (l : s < session_count m.scenario.now) where
+  abbrev own : ExchangeView
+  own = get_or m.channels.items s new_exchange
 
   abbrev r : Rules
   r = rules_of m.scenario.now
@@ -213,15 +213,15 @@ module _ (m w : Machine) (s : ℕ) (d : ChannelView) (is : IsMachine m) (l : s <
   abbrev served_run : Run
   served_run = record { history = session_turn r ps h s; players = ps }
 
-  served_at : (n : ℕ) → n < session_count m.scenario.now → IsChannel (run_at (next_history r h s own) ps) n (get_or (set m.channels.items s (next_channel r h s own)) n new_channel)
+  served_at : (n : ℕ) → n < session_count m.scenario.now → IsChannel (run_at (next_history r h s own) ps) n (get_or (set m.channels.items s (next_channel r h s own)) n new_exchange)
   served_at n k = elim (cases_Bool (s == n)) [
     | inl y ↦ (let same : s ≡ n = eqb-true s n y in
-        subst (λ (i : ℕ). IsChannel (run_at (next_history r h s own) ps) i (get_or (set m.channels.items s (next_channel r h s own)) i new_channel)) same
-        (subst (λ (x : ChannelView). IsChannel (run_at (next_history r h s own) ps) s x) (sym (get_or-set_same m.channels.items s (next_channel r h s own) new_channel (omega (arith, is.count, l))))
+        subst (λ (i : ℕ). IsChannel (run_at (next_history r h s own) ps) i (get_or (set m.channels.items s (next_channel r h s own)) i new_exchange)) same
+        (subst (λ (x : ExchangeView). IsChannel (run_at (next_history r h s own) ps) s x) (sym (get_or-set_same m.channels.items s (next_channel r h s own) new_exchange (omega (arith, is.count, l))))
         (own_served r h ps s own (is.channels s l) is.sound.legal)))
     | inr f ↦ (let other : n ≢ s = λ e. (let t : (s == n) ≡ true = eq-eqb s n (sym e) in cc) in
-        subst (λ (x : ChannelView). IsChannel (run_at (next_history r h s own) ps) n x) (sym (get_or-set_other m.channels.items s n (next_channel r h s own) new_channel other))
-        (other_served r h ps s own (is.channels s l) n (get_or m.channels.items n new_channel) f is.sound.legal (is.channels n k)))
+        subst (λ (x : ExchangeView). IsChannel (run_at (next_history r h s own) ps) n x) (sym (get_or-set_other m.channels.items s n (next_channel r h s own) new_exchange other))
+        (other_served r h ps s own (is.channels s l) n (get_or m.channels.items n new_exchange) f is.sound.legal (is.channels n k)))
   ]
 
   pub served_became : Served s m.sequencer w.sequencer own d →
@@ -242,8 +242,8 @@ module _ (m w : Machine) (s : ℕ) (d : ChannelView) (is : IsMachine m) (l : s <
           sound = subst (λ (x : Scenario). IsSound x (run_of w)) (sym scenario) (subst (IsSound m.scenario.now) (sym (new ∙ next)) sound);
           flags = subst (All AreFlags) (sym players) is.flags;
           count = ap length channels ∙ length-set m.channels.items s d ∙ is.count ∙ ap session_count (sym scenario);
-          channels = λ n k. subst (λ (x : Run). IsChannel x n (get_or w.channels.items n new_channel)) (sym new)
-              (subst (λ (xs : List ChannelView). IsChannel (run_at (next_history r h s own) ps) n (get_or xs n new_channel)) (sym (channels ∙ ap (λ (x : ChannelView). set m.channels.items s x) left))
+          channels = λ n k. subst (λ (x : Run). IsChannel x n (get_or w.channels.items n new_exchange)) (sym new)
+              (subst (λ (xs : List ExchangeView). IsChannel (run_at (next_history r h s own) ps) n (get_or xs n new_exchange)) (sym (channels ∙ ap (λ (x : ExchangeView). set m.channels.items s x) left))
               (served_at n (subst (λ (x : Scenario). n < session_count x) scenario k)));
         };
         run_is = new ∙ next;
@@ -304,19 +304,19 @@ module _ (m : Machine) (k : ℕ) (p : Player) (is : IsMachine m) (at : slice_get
   first_left (suc g) [] = refl
   first_left (suc g) (x ∷ xs) = first_left g xs
 
-  pub waits_all : (get_or m.channels.items place_of new_channel).replies ≡ drop (length (got p.events place_of)) (replies_in (accepted entries) entries place_of)
+  pub waits_all : (get_or m.channels.items place_of new_exchange).replies ≡ drop (length (got p.events place_of)) (replies_in (accepted entries) entries place_of)
   waits_all =
       (is.channels place_of fit_here.known).replies
       ∙ ap (λ (rs : List Reply). drop (length rs) (replies_in (accepted entries) entries place_of)) (got_by_one place_of k (run_of m).players p silent_here at)
 
-  pub waits_first : slice_get (get_or m.channels.items place_of new_channel).replies 0 ≡ slice_get (replies_in (accepted entries) entries place_of) (length (got p.events place_of))
+  pub waits_first : slice_get (get_or m.channels.items place_of new_exchange).replies 0 ≡ slice_get (replies_in (accepted entries) entries place_of) (length (got p.events place_of))
   waits_first = ap (λ (rs : List Reply). slice_get rs 0) waits_all ∙ first_left (length (got p.events place_of)) (replies_in (accepted entries) entries place_of)
 
   pub open_here : open_session p ≡ Some place_of
   open_here = open_is p linked joined ∙ current_here
 
 pub taken_is : (m : Machine) (k : ℕ) (p : Player) → IsMachine m → slice_get (run_of m).players k ≡ Some p →
-    taken_from (get_or m.channels.items (session_of p) new_channel).replies p ≡ take_turn (run_of m).history p
+    taken_from (get_or m.channels.items (session_of p) new_exchange).replies p ≡ take_turn (run_of m).history p
 taken_is m k p is at = elim (cases_Bool p.closed) [
   | inl shut ↦ take_shut p _ shut ∙ sym (ap (take_in (run_of m).history p) (open_shut p shut))
   | inr linked ↦ elim (cases_Bool (must_join p.events)) [

@@ -25,7 +25,7 @@ use Rattle.sv_scenario.specs.declared.scenario.Step.TheVariants as steps
 use Rattle.sv_script.specs.Following.{must_join, is_welcomed}
 use Rattle.sv_schedule.specs.Schedule.{Player, player_turn, next_step, last_steps, if_free, is_calm, is_settled, does, takes, takes_if}
 use Rattle.sv_replay.specs.declared.playing.Playing.{Playing}
-use Rattle.sv_replay.specs.Channel.{ChannelView, TakesReply}
+use Rattle.sv_exchange.specs.View.{ExchangeView, TakesReply}
 use Rattle.sv_replay.specs.Messages.{AsksMessages}
 use Rattle.sv_replay.specs.Players.{session_of, asked_by_player, IsFit, Moves, is_closing, taken_from}
 use Rattle.sv_replay.specs.Machine.{player_of, AreFlags, IsReady, Does, Moved}
@@ -43,7 +43,7 @@ same_player who who' first first' t t' left left' closed closed' a b c d e = rw 
 at_closed : (who : Identity) (first : ℕ) (t : List Event) (left : List Step) (b : Bool) (P : Player → Type 0) → b ≡ false → P (player who first t left false) → P (player who first t left b)
 at_closed who first t left b P e h = subst (λ x. P (player who first t left x)) (sym e) h
 
-pub does_moved : (e : Event) (rest : List Step) (closed : Bool) (p q : Playing) (c d : ChannelView) → IsFit 64 (player_of p) → p.closed ≡ false → JoinsNext p.client.events e →
+pub does_moved : (e : Event) (rest : List Step) (closed : Bool) (p q : Playing) (c d : ExchangeView) → IsFit 64 (player_of p) → p.closed ≡ false → JoinsNext p.client.events e →
     is_got e ≡ false → closed ≡ is_quit e → Does e rest closed p q c d → Moved (next_player p e rest) p q c d
 does_moved e rest closed p q c d fit linked j g quits did =
     let who = p.client.who in
@@ -57,17 +57,17 @@ does_moved e rest closed p q c d fit linked j g quits did =
       closing = is_closing e;
       moves = at_closed who p.first t p.left.now p.closed (λ (old : Player). Moves (session_of old) old (next_player p e rest) (newly_asked who t e) [] (is_closing e)) linked
           (event_moves who p.first t p.left.now free e j g rest);
-      requests = ap (λ (v : ChannelView). v.requests) did.channel;
-      replies = sym (ap (λ (v : ChannelView). v.replies) did.channel);
-      closed = ap (λ (v : ChannelView). v.closed) did.channel;
-      stopped = ap (λ (v : ChannelView). v.stopped) did.channel;
+      requests = ap (λ (v : ExchangeView). v.requests) did.channel;
+      replies = sym (ap (λ (v : ExchangeView). v.replies) did.channel);
+      closed = ap (λ (v : ExchangeView). v.closed) did.channel;
+      stopped = ap (λ (v : ExchangeView). v.stopped) did.channel;
     }
 
 or_none : (b : Bool) → b ≡ (b || false)
 or_none true = refl
 or_none false = refl
 
-pub still_moved : (p : Playing) (c : ChannelView) → AreFlags p → Moved (player_of p) p p c c
+pub still_moved : (p : Playing) (c : ExchangeView) → AreFlags p → Moved (player_of p) p p c c
 still_moved p c flags = record {
   player = refl;
   flags = flags;
@@ -166,26 +166,26 @@ no_join : (t : List Event) (e : Event) → is_join e ≡ false → must_join t �
 no_join t e j m = record { needed = j ∙ sym m; next = λ n is. absurd (let other : is_join e ≡ true = ap is_join is in cc) }
 
 -- A ready client did an event that is no join.
-pub ready_moved : (e : Event) (rest : List Step) (next : Player) (p q : Playing) (c d : ChannelView) → IsReady p → is_got e ≡ false → is_join e ≡ false →
+pub ready_moved : (e : Event) (rest : List Step) (next : Player) (p q : Playing) (c d : ExchangeView) → IsReady p → is_got e ≡ false → is_join e ≡ false →
     next ≡ next_player p e rest → Does e rest (is_quit e) p q c d → Moved next p q c d
 ready_moved e rest next p q c d ready g j is did =
     subst (λ (n : Player). Moved n p q c d) (sym is)
     (does_moved e rest (is_quit e) p q c d ready.fit ready.linked (no_join p.client.events e j ready.joined) g refl did)
 
 -- As it did before, where the flag of a closed link is as it was.
-pub same_link : (e : Event) (rest : List Step) (closed other : Bool) (p q : Playing) (c d : ChannelView) → closed ≡ other → Does e rest closed p q c d → Does e rest other p q c d
+pub same_link : (e : Event) (rest : List Step) (closed other : Bool) (p q : Playing) (c d : ExchangeView) → closed ≡ other → Does e rest closed p q c d → Does e rest other p q c d
 same_link e rest closed other p q c d same did = subst (λ (b : Bool). Does e rest b p q c d) same did
 
-pub left_is : (e : Event) (rest other : List Step) (p q : Playing) (c d : ChannelView) → rest ≡ other → Does e rest false p q c d → Does e other false p q c d
+pub left_is : (e : Event) (rest other : List Step) (p q : Playing) (c d : ExchangeView) → rest ≡ other → Does e rest false p q c d → Does e other false p q c d
 left_is e rest other p q c d same did = subst (λ (ss : List Step). Does e ss false p q c d) same did
 
-pub joined_moved : (p q : Playing) (c d : ChannelView) → IsFit 64 (player_of p) → p.closed ≡ false → must_join p.client.events ≡ true →
+pub joined_moved : (p q : Playing) (c d : ExchangeView) → IsFit 64 (player_of p) → p.closed ≡ false → must_join p.client.events ≡ true →
     Does (events.Join (joins p.client.events)) p.left.now p.closed p q c d → Moved (player_turn (player_of p)) p q c d
 joined_moved p q c d fit linked m did =
     subst (λ (n : Player). Moved n p q c d) (sym (joins_player p linked m))
     (does_moved (events.Join (joins p.client.events)) p.left.now p.closed p q c d fit linked (record { needed = sym m; next = λ n is. (cc) }) refl linked did)
 
-pub still_at : (next : Player) (p : Playing) (c : ChannelView) → next ≡ player_of p → AreFlags p → Moved next p p c c
+pub still_at : (next : Player) (p : Playing) (c : ExchangeView) → next ≡ player_of p → AreFlags p → Moved next p p c c
 still_at next p c is flags = subst (λ (n : Player). Moved n p p c c) (sym is) (still_moved p c flags)
 
 -- Steps left are no matter for the connection.
@@ -197,7 +197,7 @@ sync_moves p rest = go (is_settled p)
     go false = still_moves p
 
 -- A sync was passed, or not yet.
-pub sync_moved : (p q : Playing) (rest : List Step) (c : ChannelView) → player_of q ≡ next_step (player_of p) (steps.Sync ∷ rest) → AreFlags q →
+pub sync_moved : (p q : Playing) (rest : List Step) (c : ExchangeView) → player_of q ≡ next_step (player_of p) (steps.Sync ∷ rest) → AreFlags q →
     Moved (next_step (player_of p) (steps.Sync ∷ rest)) p q c c
 sync_moved p q rest c is flags = record {
   player = is;
@@ -213,7 +213,7 @@ sync_moved p q rest c is flags = record {
 }
 
 -- A client closed its link for good.
-pub closed_moved : (p : Playing) (c d : ChannelView) → IsReady p → AreFlags p → d ≡ record c { closed = true } → Moved (record (player_of p) { closed = true }) p (record p { closed = true }) c d
+pub closed_moved : (p : Playing) (c d : ExchangeView) → IsReady p → AreFlags p → d ≡ record c { closed = true } → Moved (record (player_of p) { closed = true }) p (record p { closed = true }) c d
 closed_moved p c d ready flags is =
     let who = p.client.who in
     let t = p.client.events in
@@ -226,10 +226,10 @@ closed_moved p c d ready flags is =
       closing = true;
       moves = at_closed who p.first t p.left.now p.closed (λ (old : Player). Moves (session_of old) old (record old { closed = true }) [] [] true) ready.linked
           (close_moves who p.first t p.left.now free ready.joined);
-      requests = ap (λ (v : ChannelView). v.requests) is ∙ sym (append-nil c.requests);
-      replies = sym (ap (λ (v : ChannelView). v.replies) is);
-      closed = ap (λ (v : ChannelView). v.closed) is ∙ or_true c.closed;
-      stopped = ap (λ (v : ChannelView). v.stopped) is;
+      requests = ap (λ (v : ExchangeView). v.requests) is ∙ sym (append-nil c.requests);
+      replies = sym (ap (λ (v : ExchangeView). v.replies) is);
+      closed = ap (λ (v : ExchangeView). v.closed) is ∙ or_true c.closed;
+      stopped = ap (λ (v : ExchangeView). v.stopped) is;
     }
   where
     or_true : (b : Bool) → true ≡ (b || true)
@@ -251,16 +251,16 @@ refuses who t reply faults.Memory other is = absurd (other refl)
 pub first_of : {X : Type 0} (x : X) (xs ys : List X) → xs ≡ x ∷ ys → slice_get xs 0 ≡ Some x
 first_of x xs ys e = ap (λ zs. slice_get zs 0) e
 
-pub none_waits : (p : Playing) (c d : ChannelView) (s : ℕ) → TakesReply c d None → AreFlags p → Moved (takes (player_of p) s (slice_get c.replies 0)) p p c d
+pub none_waits : (p : Playing) (c d : ExchangeView) (s : ℕ) → TakesReply c d None → AreFlags p → Moved (takes (player_of p) s (slice_get c.replies 0)) p p c d
 none_waits p c d s h flags =
-    subst (λ (v : ChannelView). Moved (takes (player_of p) s (slice_get c.replies 0)) p p c v) (sym h.1)
+    subst (λ (v : ExchangeView). Moved (takes (player_of p) s (slice_get c.replies 0)) p p c v) (sym h.1)
     (still_at _ p c (ap (takes (player_of p) s) (ap (λ (rs : List Reply). slice_get rs 0) h.0)) flags)
 
 took_fine : (p : Player) (s : ℕ) (reply : Reply) → first_fault_of_reply p.who p.events reply ≡ None → takes p s (Some reply) ≡ does p (events.Got s reply) p.left
 took_fine p s reply e = ap (takes_if p s reply) e
 
 -- The player after a reply that it got.
-pub took_next : (p : Playing) (c : ChannelView) (reply : Reply) → IsFit 64 (player_of p) → p.closed ≡ false → must_join p.client.events ≡ false → slice_get c.replies 0 ≡ Some reply →
+pub took_next : (p : Playing) (c : ExchangeView) (reply : Reply) → IsFit 64 (player_of p) → p.closed ≡ false → must_join p.client.events ≡ false → slice_get c.replies 0 ≡ Some reply →
     first_fault_of_reply p.client.who p.client.events reply ≡ None →
     takes (player_of p) (session_of (player_of p)) (slice_get c.replies 0) ≡ player p.client.who p.first (got_now p.client.events reply ∷ p.client.events) p.left.now false
 took_next p c reply fit linked joined first fine =
@@ -274,7 +274,7 @@ took_next p c reply fit linked joined first fine =
     ∙ ap (λ (x : Bool). player k p.first (got_now t reply ∷ t) p.left.now x) linked
 
 -- A reply was got, and what it asks is sent.
-pub took_moved : (p q : Playing) (c b d : ChannelView) (reply : Reply) → IsFit 64 (player_of p) → p.closed ≡ false → must_join p.client.events ≡ false →
+pub took_moved : (p q : Playing) (c b d : ExchangeView) (reply : Reply) → IsFit 64 (player_of p) → p.closed ≡ false → must_join p.client.events ≡ false →
     TakesReply c b (Some reply) → first_fault_of_reply p.client.who p.client.events reply ≡ None →
     q.client.who ≡ p.client.who → q.client.events ≡ got_now p.client.events reply ∷ p.client.events → q.first ≡ p.first → q.left.now ≡ p.left.now → q.closed ≡ p.closed →
     AreFlags p → q.between ≡ p.between → q.welcomed ≡ true → d ≡ record b { requests = b.requests ++ newly_asked p.client.who p.client.events (got_now p.client.events reply) } →
@@ -284,7 +284,7 @@ took_moved p q c b d reply fit linked joined h fine who es first left closed fla
     let t = p.client.events in
     let e = got_now t reply in
     let free : IsFit 64 (player k p.first t p.left.now false) = subst (λ b. IsFit 64 (player k p.first t p.left.now b)) linked fit in
-    subst (λ (x : Player). Moved x p q c d) (sym (took_next p c reply fit linked joined (first_of reply c.replies b.replies (ap (λ (v : ChannelView). v.replies) h)) fine)) (record {
+    subst (λ (x : Player). Moved x p q c d) (sym (took_next p c reply fit linked joined (first_of reply c.replies b.replies (ap (λ (v : ExchangeView). v.replies) h)) fine)) (record {
       player = same_player q.client.who k q.first p.first q.client.events (e ∷ t) q.left.now p.left.now q.closed false who first es left (closed ∙ linked);
       flags = record {
         between = between ∙ flags.between ∙ joined ∙ ap must_join (sym es);
@@ -295,10 +295,10 @@ took_moved p q c b d reply fit linked joined h fine who es first left closed fla
       closing = false;
       moves = at_closed k p.first t p.left.now p.closed (λ (old : Player). Moves (session_of old) old (player k p.first (e ∷ t) p.left.now false) (newly_asked k t e) (reply ∷ []) false) linked
           (got_moves k p.first t p.left.now free joined (latest_session t) reply refl);
-      requests = ap (λ (v : ChannelView). v.requests) sent ∙ ap (λ (v : ChannelView). v.requests ++ newly_asked k t e) (sym h);
-      replies = ap (λ (v : ChannelView). v.replies) h ∙ ap (λ (rs : List Reply). reply ∷ rs) (sym (ap (λ (v : ChannelView). v.replies) sent));
-      closed = ap (λ (v : ChannelView). v.closed) sent ∙ ap (λ (v : ChannelView). v.closed) (sym h) ∙ or_none c.closed;
-      stopped = ap (λ (v : ChannelView). v.stopped) sent ∙ ap (λ (v : ChannelView). v.stopped) (sym h);
+      requests = ap (λ (v : ExchangeView). v.requests) sent ∙ ap (λ (v : ExchangeView). v.requests ++ newly_asked k t e) (sym h);
+      replies = ap (λ (v : ExchangeView). v.replies) h ∙ ap (λ (rs : List Reply). reply ∷ rs) (sym (ap (λ (v : ExchangeView). v.replies) sent));
+      closed = ap (λ (v : ExchangeView). v.closed) sent ∙ ap (λ (v : ExchangeView). v.closed) (sym h) ∙ or_none c.closed;
+      stopped = ap (λ (v : ExchangeView). v.stopped) sent ∙ ap (λ (v : ExchangeView). v.stopped) (sym h);
     })
 
 -- A reply without a fault is refused for want of memory alone.
@@ -331,7 +331,7 @@ pub asks_ready : (p : Playing) (e : Event) (rest : List Step) (next : Player) �
     All IsRequest (newly_asked p.client.who p.client.events e)
 asks_ready p e rest next ready g j is asks = asks_event p e rest ready.fit ready.linked (no_join p.client.events e j ready.joined) g (subst AsksMessages is asks)
 
-pub asks_got_now : (p : Playing) (c : ChannelView) (reply : Reply) → IsFit 64 (player_of p) → p.closed ≡ false → must_join p.client.events ≡ false → slice_get c.replies 0 ≡ Some reply →
+pub asks_got_now : (p : Playing) (c : ExchangeView) (reply : Reply) → IsFit 64 (player_of p) → p.closed ≡ false → must_join p.client.events ≡ false → slice_get c.replies 0 ≡ Some reply →
     first_fault_of_reply p.client.who p.client.events reply ≡ None → AsksMessages (takes (player_of p) (session_of (player_of p)) (slice_get c.replies 0)) →
     All IsRequest (newly_asked p.client.who p.client.events (got_now p.client.events reply))
 asks_got_now p c reply fit linked joined first fine asks =

@@ -15,7 +15,7 @@ use Rattle.sv_schedule.specs.Schedule.{Player, Run, rules_of, players_from, open
 use Rattle.sv_schedule.specs.Sound.{IsSound}
 use Rattle.sv_schedule.proofs.SoundLaws.{opening-sound}
 use Rattle.sv_replay.specs.declared.machine.Machine.{Machine}
-use Rattle.sv_replay.specs.Channel.{ChannelView, new_channel}
+use Rattle.sv_exchange.specs.View.{ExchangeView, new_exchange}
 use Rattle.sv_replay.specs.Players.{got_in_run, IsChannel}
 use Rattle.sv_replay.specs.Machine.{player_of, AreFlags, run_of, IsMachine}
 
@@ -35,7 +35,7 @@ none_closed : (shape : Shape) (k s : ℕ) (plans : List Plan) (n : ℕ) → list
 none_closed shape k s [] n = refl
 none_closed shape k s (plan ∷ plans) n = none_closed shape (suc k) (s + sessions_of_plan plan) plans n
 
-opening_channel : (scenario : Scenario) (n : ℕ) → IsChannel (opening_run scenario) n new_channel
+opening_channel : (scenario : Scenario) (n : ℕ) → IsChannel (opening_run scenario) n new_exchange
 opening_channel scenario n =
     let asks = none_asked scenario.world.shape 0 0 scenario.clients n in
     let gets = none_got scenario.world.shape 0 0 scenario.clients n in
@@ -50,7 +50,7 @@ opening_channel scenario n =
 
 pub opening_machine : (m : Machine) (scenario : Scenario) → IsGoodScenario scenario → ScenarioFits scenario → m.scenario.now ≡ scenario → m.sequencer.rules ≡ rules_of scenario → m.sequencer.journal.entries ≡ [] →
     map player_of m.players.items ≡ players_from scenario.world.shape 0 0 scenario.clients → All AreFlags m.players.items → length m.channels.items ≡ session_count scenario →
-    ((s : ℕ) → get_or m.channels.items s new_channel ≡ new_channel) → (run_of m ≡ opening_run scenario) × IsMachine m
+    ((s : ℕ) → get_or m.channels.items s new_exchange ≡ new_exchange) → (run_of m ≡ opening_run scenario) × IsMachine m
 opening_machine m scenario good numbers same rules empty players flags count new =
     let run : run_of m ≡ opening_run scenario =
     ap (λ (es : List Entry). record { history = reverse es; players = map player_of m.players.items }) empty
@@ -63,7 +63,7 @@ opening_machine m scenario good numbers same rules empty players flags count new
         sound = subst (λ (x : Scenario). IsSound x (run_of m)) (sym same) (subst (IsSound scenario) (sym run) (opening-sound scenario good));
         flags = flags;
         count = count ∙ ap session_count (sym same);
-        channels = λ s l. subst (λ (v : ChannelView). IsChannel (run_of m) s v) (sym (new s)) (subst (λ (x : Run). IsChannel x s new_channel) (sym run) (opening_channel scenario s));
+        channels = λ s l. subst (λ (v : ExchangeView). IsChannel (run_of m) s v) (sym (new s)) (subst (λ (x : Run). IsChannel x s new_exchange) (sym run) (opening_channel scenario s));
       },
     )
 
@@ -86,7 +86,7 @@ opens_next shape k s plans i plan ps p l e is =
 pub sessions_more : (plans : List Plan) (i : ℕ) (plan : Plan) → i < length plans → plan ≡ get_or plans i plan → sessions_in (drop i plans) ≡ sessions_of_plan plan + sessions_in (drop (i + 1) plans)
 sessions_more plans i plan l e = ap sessions_in (drop_more plans i plan l) ∙ ap (λ (x : Plan). sessions_of_plan x + sessions_in (drop (i + 1) plans)) (sym e)
 
-pub new_pushed : (cs : List ChannelView) → ((s : ℕ) → get_or cs s new_channel ≡ new_channel) → (s : ℕ) → get_or (cs ++ new_channel ∷ []) s new_channel ≡ new_channel
+pub new_pushed : (cs : List ExchangeView) → ((s : ℕ) → get_or cs s new_exchange ≡ new_exchange) → (s : ℕ) → get_or (cs ++ new_exchange ∷ []) s new_exchange ≡ new_exchange
 new_pushed [] h zero = refl
 new_pushed [] h (suc s) = refl
 new_pushed (c ∷ cs) h zero = h 0

@@ -26,7 +26,7 @@ use Rattle.sv_schedule.proofs.SoundCalls.{player-at}
 use Rattle.sv_schedule.proofs.DoneCounts.{asked-few}
 use Rattle.sv_schedule.proofs.DoneFacts.{next-taken}
 use Rattle.sv_replay.specs.declared.machine.Machine.{Machine}
-use Rattle.sv_replay.specs.Channel.{ChannelView, new_channel}
+use Rattle.sv_exchange.specs.View.{ExchangeView, new_exchange}
 use Rattle.sv_replay.specs.Players.{session_of, IsFit, IsNextFine}
 use Rattle.sv_replay.specs.Messages.{AsksMessages, RunsAskMessages, RunsReplyMessages}
 use Rattle.sv_replay.specs.Serving.{AnswersMessage, next_history, one_if, Served}
@@ -113,7 +113,7 @@ module _ (m : Machine) (k : ℕ) (p : Player) (is : IsMachine m) (l : k < length
       rw fresh refl
 
   -- The client's end of its session is open, or it has not begun it.
-  pub link_open : p.closed ≡ false → (get_or m.channels.items n new_channel).closed ≡ false
+  pub link_open : p.closed ≡ false → (get_or m.channels.items n new_exchange).closed ≡ false
   link_open linked = (is.channels n fit.known).closed ∙ opened
     where
       opened : list_any (closed_by n) ps ≡ false
@@ -123,7 +123,7 @@ module _ (m : Machine) (k : ℕ) (p : Player) (is : IsMachine m) (l : k < length
       ]
 
   -- The next reply over its open link is one that it takes.
-  pub reply_fine : p.closed ≡ false → must_join p.events ≡ false → IsNextFine p.who p.events (get_or m.channels.items n new_channel).replies
+  pub reply_fine : p.closed ≡ false → must_join p.events ≡ false → IsNextFine p.who p.events (get_or m.channels.items n new_exchange).replies
   reply_fine linked joined reply first =
       let a = player-at m.scenario.now (run_of m) is.good is.sound k p at in
       let current = session_current p fit.proper joined (fit.begun joined) in
@@ -136,8 +136,8 @@ module _ (m : Machine) (s : ℕ) (is : IsMachine m) (l : s < session_count m.sce
   abbrev r : Rules
   r = rules_of m.scenario.now
 
-  abbrev own : ChannelView
-  own = get_or m.channels.items s new_channel
+  abbrev own : ExchangeView
+  own = get_or m.channels.items s new_exchange
 
   abbrev run : Run
   run = run_of m
@@ -158,11 +158,11 @@ pub both_told : {A E : Type 0} (r : Result A E) (P : Type 0) (Q R : A → Type 0
 both_told (Ok x) P Q R f p q = f x p q
 both_told (Err e) P Q R f p q = tt
 
-pub session_found : (m w : Machine) (s : ℕ) (d : ChannelView) (found : Bool) → IsMachine m → s < session_count m.scenario.now → Served s m.sequencer w.sequencer (get_or m.channels.items s new_channel) d →
+pub session_found : (m w : Machine) (s : ℕ) (d : ExchangeView) (found : Bool) → IsMachine m → s < session_count m.scenario.now → Served s m.sequencer w.sequencer (get_or m.channels.items s new_exchange) d →
     w.players.items ≡ m.players.items → length (history w.sequencer) ≡ length (history m.sequencer) + one_if found → Found (work_of_session s) (run_of m) (run_of w) found
 session_found m w s d found is l served players long =
     let r = rules_of m.scenario.now in
-    let c = get_or m.channels.items s new_channel in
+    let c = get_or m.channels.items s new_exchange in
     let h = (run_of m).history in
     let ps = (run_of m).players in
     let made : history w.sequencer ≡ session_turn r ps h s = served.entries ∙ ap (λ (x : Rules). next_history x h s c) is.rules ∙ session_turn_is r h ps s c (is.channels s l) in

@@ -27,7 +27,7 @@ use Rattle.sv_system.proofs.Entered.{as-many, replies-one}
 use Rattle.sv_schedule.specs.Schedule.{Player, asked_in_run, is_stop, with_entry}
 use Rattle.sv_schedule.proofs.SoundReplies.{replies-grow}
 use Rattle.sv_sequencer.specs.Step.{SequencerView, history, entry_of, Grew, Answered}
-use Rattle.sv_replay.specs.Channel.{ChannelView, TakesRequest}
+use Rattle.sv_exchange.specs.View.{ExchangeView, TakesRequest}
 use Rattle.sv_replay.specs.Serving.{is_stop_reply, whole_reply, next_history, next_channel, with_answer, Entered, Served, one_if}
 
 -- ---- What is never asked
@@ -118,7 +118,7 @@ replies_stay r e h s legal =
 
 -- ---- Which turn it is
 
-module _ (r : Rules) (h : List Entry) (s : ℕ) (c : ChannelView) where
+module _ (r : Rules) (h : List Entry) (s : ℕ) (c : ExchangeView) where
   pub next_ended : is_ended h s ≡ true → (next_history r h s c ≡ h) × (next_channel r h s c ≡ c)
   next_ended e = (rw e refl, rw e refl)
 
@@ -140,37 +140,37 @@ module _ (r : Rules) (h : List Entry) (s : ℕ) (c : ChannelView) where
       })
   next_asked q qs e t is = (rw (e, t, is) refl, rw (e, t, is) refl)
 
-pub serves_ended : (s : ℕ) (v : SequencerView) (c : ChannelView) → true ≡ is_ended_by_rows (history v) s → Served s v v c c
+pub serves_ended : (s : ℕ) (v : SequencerView) (c : ExchangeView) → true ≡ is_ended_by_rows (history v) s → Served s v v c c
 serves_ended s v c e =
     let n = next_ended v.rules (history v) s c (sym (same_ended (history v) s) ∙ sym e) in
     record { rules = refl; entries = sym n.0; channel = sym n.1 }
 
-pub serves_end : (s : ℕ) (v w : SequencerView) (c d : ChannelView) → is_ended_by_rows (history v) s ≡ false → c.stopped ≡ true →
+pub serves_end : (s : ℕ) (v w : SequencerView) (c d : ExchangeView) → is_ended_by_rows (history v) s ≡ false → c.stopped ≡ true →
     Entered s requests.End v w d (record c { stopped = true }) → Served s v w c d
 serves_end s v w c d e t done =
     let n = next_stopped v.rules (history v) s c (sym (same_ended (history v) s) ∙ e) t in
     record { rules = done.rules; entries = done.entries ∙ sym n.0; channel = done.channel ∙ sym n.1 }
 
-pub serves_closed : (s : ℕ) (v w : SequencerView) (c b d : ChannelView) → is_ended_by_rows (history v) s ≡ false → c.stopped ≡ false → TakesRequest c b None → b.closed ≡ true →
+pub serves_closed : (s : ℕ) (v w : SequencerView) (c b d : ExchangeView) → is_ended_by_rows (history v) s ≡ false → c.stopped ≡ false → TakesRequest c b None → b.closed ≡ true →
     Entered s requests.End v w d (record b { stopped = true }) → Served s v w c d
 serves_closed s v w c b d e t none k done =
-    let n = next_closed v.rules (history v) s c (sym (same_ended (history v) s) ∙ e) t none.0 (ap (λ (x : ChannelView). x.closed) (sym none.1) ∙ k) in
-    record { rules = done.rules; entries = done.entries ∙ sym n.0; channel = done.channel ∙ ap (λ (x : ChannelView). record x { stopped = true }) none.1 ∙ sym n.1 }
+    let n = next_closed v.rules (history v) s c (sym (same_ended (history v) s) ∙ e) t none.0 (ap (λ (x : ExchangeView). x.closed) (sym none.1) ∙ k) in
+    record { rules = done.rules; entries = done.entries ∙ sym n.0; channel = done.channel ∙ ap (λ (x : ExchangeView). record x { stopped = true }) none.1 ∙ sym n.1 }
 
-pub serves_idle : (s : ℕ) (v : SequencerView) (c b : ChannelView) → is_ended_by_rows (history v) s ≡ false → c.stopped ≡ false → TakesRequest c b None → b.closed ≡ false → Served s v v c b
+pub serves_idle : (s : ℕ) (v : SequencerView) (c b : ExchangeView) → is_ended_by_rows (history v) s ≡ false → c.stopped ≡ false → TakesRequest c b None → b.closed ≡ false → Served s v v c b
 serves_idle s v c b e t none k =
-    let n = next_idle v.rules (history v) s c (sym (same_ended (history v) s) ∙ e) t none.0 (ap (λ (x : ChannelView). x.closed) (sym none.1) ∙ k) in
+    let n = next_idle v.rules (history v) s c (sym (same_ended (history v) s) ∙ e) t none.0 (ap (λ (x : ExchangeView). x.closed) (sym none.1) ∙ k) in
     record { rules = refl; entries = sym n.0; channel = none.1 ∙ sym n.1 }
 
-pub serves_asked : (s : ℕ) (v w : SequencerView) (c b d : ChannelView) (q : Request) → is_ended_by_rows (history v) s ≡ false → c.stopped ≡ false → TakesRequest c b (Some q) →
+pub serves_asked : (s : ℕ) (v w : SequencerView) (c b d : ExchangeView) (q : Request) → is_ended_by_rows (history v) s ≡ false → c.stopped ≡ false → TakesRequest c b (Some q) →
     Entered s q v w d (with_answer v.rules (history v) s q b) → Served s v w c d
 serves_asked s v w c b d q e t some done =
-    let n = next_asked v.rules (history v) s c q b.requests (sym (same_ended (history v) s) ∙ e) t (ap (λ (x : ChannelView). x.requests) some) in
+    let n = next_asked v.rules (history v) s c q b.requests (sym (same_ended (history v) s) ∙ e) t (ap (λ (x : ExchangeView). x.requests) some) in
     record {
       rules = done.rules;
       entries = done.entries ∙ sym n.0;
       channel = done.channel
-          ∙ ap (λ (x : ChannelView). record x {
+          ∙ ap (λ (x : ExchangeView). record x {
             requests = b.requests;
             replies = x.replies ++ full_reply (accepted (with_entry v.rules (history v) s q)) (reply_to v.rules (history v) s q) ∷ [];
             stopped = is_stop (reply_to v.rules (history v) s q);
@@ -186,11 +186,11 @@ reply_whole v w s q reply done =
     done.whole ∙ ap (λ (h : List Entry). full_reply (accepted h) (reply_to v.rules (history v) s q)) (grew_history v w (entry_of s q (reply_to v.rules (history v) s q)) done.grew)
 
 -- A history with one entry more is longer.
-pub entered_longer : (s : ℕ) (q : Request) (v w : SequencerView) (c d : ChannelView) → Entered s q v w c d → length (history w) ≡ length (history v) + one_if true
+pub entered_longer : (s : ℕ) (q : Request) (v w : SequencerView) (c d : ExchangeView) → Entered s q v w c d → length (history w) ≡ length (history v) + one_if true
 entered_longer s q v w c d done = let long : length (history w) ≡ length (with_entry v.rules (history v) s q) = ap (λ (h : List Entry). length h) done.entries in omega (arith, long)
 
 -- A step entered a request with its reply.
-pub answer_entered : (v w : SequencerView) (s : ℕ) (q : Request) (reply : Reply) (stops : Bool) (b d : ChannelView) → Answered v w s q reply → stops ≡ is_stop_reply reply →
+pub answer_entered : (v w : SequencerView) (s : ℕ) (q : Request) (reply : Reply) (stops : Bool) (b d : ExchangeView) → Answered v w s q reply → stops ≡ is_stop_reply reply →
     d ≡ record b { replies = b.replies ++ reply ∷ []; stopped = stops } → Entered s q v w d (with_answer v.rules (history v) s q b)
 answer_entered v w s q reply stops b d done stop sent =
     let grown : history w ≡ with_entry v.rules (history v) s q = grew_history v w (entry_of s q (reply_to v.rules (history v) s q)) done.grew in
@@ -204,7 +204,7 @@ answer_entered v w s q reply stops b d done stop sent =
           ∙ ap (λ (x : Bool). record b { replies = b.replies ++ full_reply (accepted (with_entry v.rules (history v) s q)) (reply_to v.rules (history v) s q) ∷ []; stopped = x }) last;
     }
 
-pub end_entered : (v w : SequencerView) (s : ℕ) (reply : Reply) (b d : ChannelView) → Answered v w s requests.End reply → d ≡ record b { stopped = true } →
+pub end_entered : (v w : SequencerView) (s : ℕ) (reply : Reply) (b d : ExchangeView) → Answered v w s requests.End reply → d ≡ record b { stopped = true } →
     Entered s requests.End v w d (record b { stopped = true })
 end_entered v w s reply b d done stop = record {
   rules = done.grew.rules;

@@ -1,4 +1,3 @@
-pub mod Channel
 pub mod Players
 pub mod Messages
 pub mod Serving

@@ -15,7 +15,7 @@ use Rattle.sv_schedule.specs.Schedule.{Player, Run, rules_of, session_turns, at_
 use Rattle.sv_schedule.specs.Sound.{IsSound}
 use Rattle.sv_replay.specs.declared.machine.Machine.{Machine}
 use Rattle.sv_replay.specs.declared.playing.Playing.{Playing}
-use Rattle.sv_replay.specs.Channel.{ChannelView, new_channel}
+use Rattle.sv_exchange.specs.View.{ExchangeView, new_exchange}
 use Rattle.sv_replay.specs.Players.{session_of, IsFit, Moves, is_closing, IsChannel}
 
 -- ---- Players
@@ -43,7 +43,7 @@ pub record IsReady (p : Playing) : Type 0 where
   pub welcomed : is_welcomed p.client.events ≡ true
 
 -- A client did an event, with these steps left: what it asks is sent, and its end is closed after a Cut or a Quit.
-pub record Does (e : Event) (rest : List Step) (closed : Bool) (old new : Playing) (c d : ChannelView) : Type 0 where
+pub record Does (e : Event) (rest : List Step) (closed : Bool) (old new : Playing) (c d : ExchangeView) : Type 0 where
   pub who : new.client.who ≡ old.client.who
   pub events : new.client.events ≡ e ∷ old.client.events
   pub first : new.first ≡ old.first
@@ -53,7 +53,7 @@ pub record Does (e : Event) (rest : List Step) (closed : Bool) (old new : Playin
   pub channel : d ≡ record c { requests = c.requests ++ newly_asked old.client.who old.client.events e; closed = c.closed || is_closing e }
 
 -- A turn made a client the next player, by what it did over its session's connection.
-pub record Moved (next : Player) (old new : Playing) (c d : ChannelView) : Type 0 where
+pub record Moved (next : Player) (old new : Playing) (c d : ExchangeView) : Type 0 where
   pub player : player_of new ≡ next
   pub flags : AreFlags new
   pub sent : List Request
@@ -78,7 +78,7 @@ pub record IsMachine (m : Machine) : Type 0 where
   pub sound : IsSound m.scenario.now (run_of m)
   pub flags : All AreFlags m.players.items
   pub count : length m.channels.items ≡ session_count m.scenario.now
-  pub channels : (s : ℕ) → s < session_count m.scenario.now → IsChannel (run_of m) s (slice_index_or m.channels.items s new_channel)
+  pub channels : (s : ℕ) → s < session_count m.scenario.now → IsChannel (run_of m) s (slice_index_or m.channels.items s new_exchange)
 
 -- The machine went on to a run of the same scenario.
 pub record Became (old new : Machine) (run : Run) : Type 0 where

@@ -13,7 +13,7 @@ use Rattle.sv_client.specs.Proper.{AreProper}
 use Rattle.sv_script.specs.Following.{must_join}
 use Rattle.sv_system.specs.Fits.{is_join_of, requests_in, replies_in}
 use Rattle.sv_schedule.specs.Schedule.{Player, Run, asked_in_run, closed_by, is_stopped, takes}
-use Rattle.sv_replay.specs.Channel.{ChannelView}
+use Rattle.sv_exchange.specs.View.{ExchangeView}
 
 -- The session that a player is in, or joins next.
 abbrev pub session_of : Player → ℕ
@@ -55,7 +55,7 @@ got_in_run players s = flat_map (λ (p : Player). got p.events s) players
 
 -- The connection of a session holds what the players asked in it and the journal does not have yet, and what the journal answered and they
 -- did not take yet.
-pub record IsChannel (run : Run) (s : ℕ) (c : ChannelView) : Type 0 where
+pub record IsChannel (run : Run) (s : ℕ) (c : ExchangeView) : Type 0 where
   pub asked : length (requests_in run.history s) ≤ length (asked_in_run run.players s)
   pub requests : c.requests ≡ drop (length (requests_in run.history s)) (asked_in_run run.players s)
   pub got : length (got_in_run run.players s) ≤ length (replies_in (accepted run.history) run.history s)

@@ -1,7 +1,6 @@
 //! The run of a scenario's schedule on one thread.
 #![tactic(auto)]
 
-mod channel;
 mod laws;
 mod machine;
 mod opening;

@@ -1,3 +1,5 @@
+//! A scenario's run so far, and its turns.
+
 ghost use Rattle.std.specs.Prelude.{◌≡◌, ℕ, ◌<◌, true, length, All, IfOk, OnOk};
 ghost use Rattle.sv_scenario.specs.declared.scenario.Turn.TheVariants as turns;
 ghost use Rattle.sv_scenario.specs.Limits.{IsGoodTurn};
@@ -7,11 +9,11 @@ ghost use Rattle.sv_schedule.specs.Schedule.{Player, rules_of, turned, all_turne
 ghost use Rattle.sv_replay.specs.Machine.{run_of, IsMachine, Became, after_session, after_take};
 ghost use Rattle.sv_replay.specs.Work.{Found, work_of_session, work_of_client};
 
-use crate::channel::Channel;
 use crate::laws::runs_are_messages;
 use crate::playing::Playing;
 use crate::serving::serve;
 use std::alloc::{AllocError, Global};
+use sv_exchange::Exchange;
 use sv_scenario::{Scenario, Turn};
 use sv_schedule::scheduled_runs_end;
 use sv_sequencer::Sequencer;
@@ -23,7 +25,7 @@ pub(crate) struct Machine<'a> {
     pub(crate) scenario: &'a Scenario,
     pub(crate) sequencer: Sequencer,
     pub(crate) players: Vec<Playing<'a>>,
-    pub(crate) channels: Vec<Channel>,
+    pub(crate) channels: Vec<Exchange>,
 }
 
 impl<'a> Machine<'a> {

@@ -4,14 +4,14 @@ ghost use Rattle.std.specs.Prelude.{◌≡◌, ℕ, false, [], ◌+◌, ◌<◌,
 ghost use Rattle.sv_scenario.specs.Limits.{IsGoodScenario, IsGoodPlan};
 ghost use Rattle.sv_scenario.specs.Sessions.{session_count, sessions_of_plan};
 ghost use Rattle.sv_schedule.specs.Schedule.{rules_of, players_from, opening_run};
-ghost use Rattle.sv_replay.specs.Channel.{new_channel};
+ghost use Rattle.sv_exchange.specs.View.{new_exchange};
 ghost use Rattle.sv_replay.specs.Machine.{player_of, AreFlags, run_of, IsMachine};
 
-use crate::channel::Channel;
 use crate::machine::Machine;
 use crate::playing::Playing;
 use std::alloc::{AllocError, Global};
 use sv_client::Client;
+use sv_exchange::Exchange;
 use sv_numbers::read_scenario_numbers;
 use sv_scenario::{Plan, Scenario, sessions_of, sessions_of_plan};
 use sv_sequencer::Sequencer;
@@ -68,13 +68,13 @@ fn open_players<'a>(alloc: Global, scenario: &'a Scenario) -> Result<Vec<Playing
     Ok(players)
 }
 
-fn open_channels(alloc: Global, sessions: u16) -> Result<Vec<Channel>, AllocError>
+fn open_channels(alloc: Global, sessions: u16) -> Result<Vec<Exchange>, AllocError>
     ensures count { IfOk result (λ channels. length channels.items ≡ sessions) }
-    ensures new { IfOk result (λ channels. (s : ℕ) → slice_index_or channels.items s new_channel ≡ new_channel) }
+    ensures new { IfOk result (λ channels. (s : ℕ) → slice_index_or channels.items s new_exchange ≡ new_exchange) }
 {
     let mut channels = Vec::new(alloc);
     for _ in 0..sessions {
-        channels.push(Channel::new(alloc)?)?;
+        channels.push(Exchange::new(alloc)?)?;
     }
     Ok(channels)
 }

@@ -1,3 +1,5 @@
+//! A client that plays its script.
+
 ghost use Rattle.std.specs.Prelude.{◌≡◌, ◌<◌, ◌+◌, [], ◌∷◌, ◌++◌, true, false, length, option_to_list, slice_get, All, IfOk, OnOk};
 ghost use Rattle.sv_client.specs.declared.trace.Event.TheVariants as events;
 ghost use Rattle.sv_client.specs.Traces.{joins};
@@ -7,15 +9,15 @@ ghost use Rattle.sv_scenario.specs.declared.scenario.Step.TheVariants as steps;
 ghost use Rattle.sv_script.specs.Following.{must_join};
 ghost use Rattle.sv_schedule.specs.Schedule.{player_turn, next_step, last_steps, takes, trace_of_player, is_calm, is_settled};
 ghost use Rattle.sv_wire.specs.Laws.{IsRequest};
-ghost use Rattle.sv_replay.specs.Channel.{ChannelView};
+ghost use Rattle.sv_exchange.specs.View.{ExchangeView};
 ghost use Rattle.sv_replay.specs.Messages.{AsksMessages, IsNext};
 ghost use Rattle.sv_replay.specs.Players.{session_of, IsFit, IsNextFine, taken_from};
 ghost use Rattle.sv_replay.specs.Serving.{one_if};
 ghost use Rattle.sv_replay.specs.Machine.{player_of, AreFlags, IsReady, Does, Moved};
 
-use crate::channel::Channel;
 use std::alloc::{AllocError, Global};
 use sv_client::{Client, MakeFault, Mark, PollFault, TakeFault, Trace};
+use sv_exchange::Exchange;
 use sv_scenario::Step;
 use sv_wire::Request;
 use sv_world::{Action, List, ObjectId, copy_action, copy_objects};
@@ -73,7 +75,7 @@ impl<'a> Playing<'a> {
     }
 
     /// Its turn: it joins its first or next session, or does its next step, if it can.
-    pub(crate) fn turn(&mut self, alloc: Global, channel: &mut Channel) -> Result<(), AllocError>
+    pub(crate) fn turn(&mut self, alloc: Global, channel: &mut Exchange) -> Result<(), AllocError>
         requires flags { AreFlags self.old }
         requires fit { IsFit 64 (player_of self.old) }
         requires after { IsNext (player_turn (player_of self.old)) }
@@ -92,21 +94,21 @@ impl<'a> Playing<'a> {
         Ok(())
     }
 
-    fn join(&mut self, channel: &mut Channel) -> Result<(), AllocError>
+    fn join(&mut self, channel: &mut Exchange) -> Result<(), AllocError>
         requires few { joins self.old.client.events < 64 }
         requires messages { All IsRequest (newly_asked self.old.client.who self.old.client.events (events.Join (joins self.old.client.events))) }
         requires open { channel.old.closed ≡ false }
         ensures { OnOk result (Does (events.Join (joins self.old.client.events)) self.old.left.now self.old.closed self.old self.new channel.old channel.new) }
     {
         let requests = self.client.join()?;
-        channel.send_all(&requests)?;
+        send_requests(channel, &requests)?;
         self.between = false;
         self.welcomed = false;
         Ok(())
     }
 
     /// Its next step, in a session that has its Welcome. A step that can't be done yet waits.
-    fn step(&mut self, alloc: Global, channel: &mut Channel) -> Result<(), AllocError>
+    fn step(&mut self, alloc: Global, channel: &mut Exchange) -> Result<(), AllocError>
         requires flags { AreFlags self.old }
         requires ready { IsReady self.old }
         requires after { IsNext (next_step (player_of self.old) self.old.left.now) }
@@ -146,7 +148,7 @@ impl<'a> Playing<'a> {
     fn act(
         &mut self,
         alloc: Global,
-        channel: &mut Channel,
+        channel: &mut Exchange,
         action: &Action,
         rest: &'a [Step],
     ) -> Result<(), AllocError>
@@ -166,7 +168,7 @@ impl<'a> Playing<'a> {
     fn make(
         &mut self,
         alloc: Global,
-        channel: &mut Channel,
+        channel: &mut Exchange,
         action: &Action,
         rest: &'a [Step],
     ) -> Result<(), AllocError>
@@ -179,7 +181,7 @@ impl<'a> Playing<'a> {
     {
         let copy = copy_action(alloc, action)?;
         match self.client.make(copy) {
-            Ok(request) => channel.send(&request)?,
+            Ok(request) => channel.send_request(&request)?,
             Err(MakeFault::Memory) => return Err(AllocError),
             Err(_) => unreachable!(),
         }
@@ -187,7 +189,7 @@ impl<'a> Playing<'a> {
         Ok(())
     }
 
-    fn poll(&mut self, channel: &mut Channel, rest: &'a [Step]) -> Result<(), AllocError>
+    fn poll(&mut self, channel: &mut Exchange, rest: &'a [Step]) -> Result<(), AllocError>
         requires flags { AreFlags self.old }
         requires ready { IsReady self.old }
         requires after { IsNext (next_step (player_of self.old) (steps.Poll ∷ rest.now)) }
@@ -202,7 +204,7 @@ impl<'a> Playing<'a> {
     }
 
     /// Asks for an abandoned action.
-    fn ask(&mut self, channel: &mut Channel, rest: &'a [Step]) -> Result<(), AllocError>
+    fn ask(&mut self, channel: &mut Exchange, rest: &'a [Step]) -> Result<(), AllocError>
         requires flags { AreFlags self.old }
         requires ready { IsReady self.old }
         requires may { MayPoll self.old.client.who self.old.client.events }
@@ -210,7 +212,7 @@ impl<'a> Playing<'a> {
         ensures { OnOk result (Does events.Poll rest.now self.old.closed self.old self.new channel.old channel.new) }
     {
         match self.client.poll() {
-            Ok(request) => channel.send(&request)?,
+            Ok(request) => channel.send_request(&request)?,
             Err(PollFault::Memory) => return Err(AllocError),
             Err(PollFault::Busy) => unreachable!(),
         }
@@ -236,7 +238,7 @@ impl<'a> Playing<'a> {
     ) -> Result<(), AllocError>
         requires flags { AreFlags self.old }
         requires ready { IsReady self.old }
-        ensures { (c : ChannelView) → OnOk result (Does (events.Show objects.now) rest.now self.old.closed self.old self.new c c) }
+        ensures { (c : ExchangeView) → OnOk result (Does (events.Show objects.now) rest.now self.old.closed self.old self.new c c) }
     {
         let copy = copy_objects(alloc, objects.as_slice())?;
         self.client.note(Mark::Show(copy))?;
@@ -244,7 +246,7 @@ impl<'a> Playing<'a> {
         Ok(())
     }
 
-    fn cut(&mut self, channel: &mut Channel, rest: &'a [Step]) -> Result<(), AllocError>
+    fn cut(&mut self, channel: &mut Exchange, rest: &'a [Step]) -> Result<(), AllocError>
         requires flags { AreFlags self.old }
         requires ready { IsReady self.old }
         ensures { OnOk result (Does events.Cut rest.now self.old.closed self.old self.new channel.old channel.new) }
@@ -256,7 +258,7 @@ impl<'a> Playing<'a> {
         Ok(())
     }
 
-    fn quit(&mut self, channel: &mut Channel, rest: &'a [Step]) -> Result<(), AllocError>
+    fn quit(&mut self, channel: &mut Exchange, rest: &'a [Step]) -> Result<(), AllocError>
         requires flags { AreFlags self.old }
         requires ready { IsReady self.old }
         ensures { OnOk result (Does events.Quit rest.now true self.old self.new channel.old channel.new) }
@@ -269,7 +271,7 @@ impl<'a> Playing<'a> {
     }
 
     /// With all steps done, it leaves, and closes its link when it has its Bye; each when nothing is outstanding.
-    fn finish(&mut self, channel: &mut Channel) -> Result<(), AllocError>
+    fn finish(&mut self, channel: &mut Exchange) -> Result<(), AllocError>
         requires flags { AreFlags self.old }
         requires ready { IsReady self.old }
         requires after { IsNext (last_steps (player_of self.old)) }
@@ -288,7 +290,7 @@ impl<'a> Playing<'a> {
         Ok(())
     }
 
-    fn leave(&mut self, channel: &mut Channel) -> Result<(), AllocError>
+    fn leave(&mut self, channel: &mut Exchange) -> Result<(), AllocError>
         requires flags { AreFlags self.old }
         requires ready { IsReady self.old }
         requires may { MayLeave self.old.client.who self.old.client.events }
@@ -296,11 +298,11 @@ impl<'a> Playing<'a> {
         ensures { OnOk result (Does events.Leave self.old.left.now self.old.closed self.old self.new channel.old channel.new) }
     {
         let request = self.client.leave()?;
-        channel.send(&request)
+        channel.send_request(&request)
     }
 
     /// Takes the next reply that waits for it, if its end of a session is open. Whether it took one.
-    pub(crate) fn take(&mut self, channel: &mut Channel) -> Result<bool, AllocError>
+    pub(crate) fn take(&mut self, channel: &mut Exchange) -> Result<bool, AllocError>
         requires flags { AreFlags self.old }
         requires fit { IsFit 64 (player_of self.old) }
         requires after { AsksMessages (taken_from channel.old.replies (player_of self.old)) }
@@ -315,7 +317,7 @@ impl<'a> Playing<'a> {
         self.take_next(channel)
     }
 
-    fn take_next(&mut self, channel: &mut Channel) -> Result<bool, AllocError>
+    fn take_next(&mut self, channel: &mut Exchange) -> Result<bool, AllocError>
         requires flags { AreFlags self.old }
         requires fit { IsFit 64 (player_of self.old) }
         requires linked { self.old.closed ≡ false }
@@ -342,7 +344,7 @@ impl<'a> Playing<'a> {
     }
 
     /// Sends the Done of a relay that was taken.
-    fn taken(&mut self, channel: &mut Channel, done: Option<Request>) -> Result<(), AllocError>
+    fn taken(&mut self, channel: &mut Exchange, done: Option<Request>) -> Result<(), AllocError>
         requires messages { All IsRequest (option_to_list done) }
         requires open { channel.old.closed ≡ false }
         ensures playing { self.new ≡ record self.old { welcomed = true } }
@@ -350,8 +352,20 @@ impl<'a> Playing<'a> {
     {
         self.welcomed = true;
         match done {
-            Some(request) => channel.send(&request),
+            Some(request) => channel.send_request(&request),
             None => Ok(()),
         }
     }
+}
+
+/// Sends requests to the session, in order.
+fn send_requests(channel: &mut Exchange, requests: &[Request]) -> Result<(), AllocError>
+    requires messages { All IsRequest requests.now }
+    requires open { channel.old.closed ≡ false }
+    ensures { OnOk result (channel.new ≡ record channel.old { requests = channel.old.requests ++ requests.now }) }
+{
+    for request in requests {
+        channel.send_request(request)?;
+    }
+    Ok(())
 }

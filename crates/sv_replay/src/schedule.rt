@@ -2,8 +2,9 @@ ghost use Rattle.std.specs.Prelude.{◌≡◌, ◌<◌, ◌∷◌, [], length, m
 ghost use Rattle.sv_journal.specs.History.{commit_of, committed_of};
 ghost use Rattle.sv_scenario.specs.Limits.{IsGoodScenario};
 ghost use Rattle.sv_sequencer.specs.Step.{history};
+ghost use Rattle.sv_system.specs.Records.{IsPlayed};
 ghost use Rattle.sv_schedule.specs.Schedule.{trace_of_player, scheduled_run, traces_of};
-ghost use Rattle.sv_schedule.specs.Records.{IsPlayed, IsReplay};
+ghost use Rattle.sv_schedule.specs.Records.{IsReplay};
 ghost use Rattle.sv_replay.specs.declared.playing.Playing.{Playing};
 ghost use Rattle.sv_replay.specs.Machine.{player_of, run_of, IsMachine};
 
@@ -13,8 +14,9 @@ use crate::playing::Playing;
 use std::alloc::{AllocError, Global};
 use sv_client::Trace;
 use sv_scenario::Scenario;
-use sv_schedule::{Played, scheduled_runs_are_replays};
+use sv_schedule::scheduled_runs_are_replays;
 use sv_sequencer::Sequencer;
+use sv_system::Played;
 use sv_world::{List, ObjectId, Value, copy_value};
 
 /// So many rounds are always enough.

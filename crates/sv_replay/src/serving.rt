@@ -1,14 +1,14 @@
 //! A session's turn.
 
-ghost use Rattle.std.specs.Prelude.{◌≡◌, ◌<◌, ◌+◌, true, false, length, IfOk, OnOk};
+ghost use Rattle.std.specs.Prelude.{◌≡◌, ◌<◌, ◌+◌, [], ◌∷◌, ◌++◌, true, false, length, IfOk, OnOk};
 ghost use Rattle.sv_wire.specs.declared.message.Request.TheVariants as requests;
 ghost use Rattle.sv_wire.specs.Laws.{IsReply};
 ghost use Rattle.sv_sequencer.specs.Step.{history};
 ghost use Rattle.sv_system.specs.Fits.{is_ended};
 ghost use Rattle.sv_replay.specs.Serving.{is_stop_reply, whole_reply, with_answer, AnswersMessage, Entered, Served, one_if};
 
-use crate::channel::Channel;
 use std::alloc::AllocError;
+use sv_exchange::Exchange;
 use sv_sequencer::Sequencer;
 use sv_wire::{Reply, Request};
 
@@ -27,7 +27,7 @@ fn is_stop(reply: &Reply) -> bool
 /// request waits. Whether it found something to do.
 pub(crate) fn serve(
     sequencer: &mut Sequencer,
-    channel: &mut Channel,
+    channel: &mut Exchange,
     session: u16,
 ) -> Result<bool, AllocError>
     requires session { session < sequencer.old.rules.sessions }
@@ -58,7 +58,7 @@ pub(crate) fn serve(
 /// Answers a request, which was taken from the connection.
 fn answer(
     sequencer: &mut Sequencer,
-    channel: &mut Channel,
+    channel: &mut Exchange,
     session: u16,
     request: &Request,
 ) -> Result<(), AllocError>
@@ -70,11 +70,24 @@ fn answer(
 {
     let reply = sequencer.step(session, request)?;
     let stops = is_stop(&reply);
-    channel.answer(&reply, stops)
+    send_answer(channel, &reply, stops)
+}
+
+/// Sends a reply to the client, after which the session's loop stops or goes on.
+fn send_answer(channel: &mut Exchange, reply: &Reply, stops: bool) -> Result<(), AllocError>
+    requires message { IsReply reply.now }
+    requires running { channel.old.stopped ≡ false }
+    ensures { OnOk result (channel.new ≡ record channel.old { replies = channel.old.replies ++ reply.now ∷ []; stopped = stops }) }
+{
+    channel.send_reply(reply)?;
+    if stops {
+        channel.stop();
+    }
+    Ok(())
 }
 
 /// Ends a session.
-fn end(sequencer: &mut Sequencer, channel: &mut Channel, session: u16) -> Result<(), AllocError>
+fn end(sequencer: &mut Sequencer, channel: &mut Exchange, session: u16) -> Result<(), AllocError>
     requires session { session < sequencer.old.rules.sessions }
     requires running { is_ended (history sequencer.old) session ≡ false }
     ensures { OnOk result (Entered session requests.End sequencer.old sequencer.new channel.new (record channel.old { stopped = true })) }

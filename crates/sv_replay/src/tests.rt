@@ -5,7 +5,7 @@ use std::test::Fail;
 use sv_client::Event;
 use sv_journal::Logged;
 use sv_scenario::read_scenario;
-use sv_schedule::Played;
+use sv_system::Played;
 use sv_wire::Reply;
 
 /// Two clients conflict, and the later one reads what the earlier one wrote.

@@ -12,7 +12,7 @@ use Rattle.sv_client.specs.Traces.{makes}
 use Rattle.sv_scenario.specs.declared.scenario.Plan.{Plan}
 use Rattle.sv_scenario.specs.Sessions.{sessions_of_plan}
 use Rattle.sv_system.specs.Fits.{Fits}
-use Rattle.sv_schedule.specs.Records.{AreTracesOf}
+use Rattle.sv_system.specs.Records.{AreTracesOf}
 use Rattle.sv_report.proofs.Counting.{few_makes}
 
 -- There are as many traces as clients.

@@ -1,7 +1,7 @@
 //! The brief summary.
 ghost use Rattle.std.specs.Prelude.{◌≡◌, ◌++◌, string_bytes, IfOk, OnOk};
 ghost use Rattle.sv_scenario.specs.Limits.{IsGoodScenario};
-ghost use Rattle.sv_schedule.specs.Records.{IsPlayed};
+ghost use Rattle.sv_system.specs.Records.{IsPlayed};
 ghost use Rattle.sv_report.specs.Summary.{summary_text, size_lines, count_lines};
 
 use crate::counts::made_in;
@@ -9,7 +9,7 @@ use crate::rows::dropped_in;
 use crate::totals::append_totals;
 use std::alloc::{AllocError, Global};
 use sv_scenario::{Scenario, sessions_of};
-use sv_schedule::Played;
+use sv_system::Played;
 
 fn append_sizes(
     clients: usize,

@@ -1,7 +1,7 @@
 //! The whole report.
 ghost use Rattle.std.specs.Prelude.{◌≡◌, ◌++◌, string_bytes, IfOk, OnOk};
 ghost use Rattle.sv_scenario.specs.Limits.{IsGoodScenario};
-ghost use Rattle.sv_schedule.specs.Records.{IsPlayed};
+ghost use Rattle.sv_system.specs.Records.{IsPlayed};
 ghost use Rattle.sv_report.specs.Report.{report_text};
 
 use crate::trace::append_traces;
@@ -9,7 +9,7 @@ use crate::values::append_world;
 use std::alloc::{AllocError, Global};
 use sv_journal::{Journal, legal_relays_name_accepted, print_journal};
 use sv_scenario::Scenario;
-use sv_schedule::Played;
+use sv_system::Played;
 
 /// Appends the text of a record of the scenario's traffic.
 fn append_report(

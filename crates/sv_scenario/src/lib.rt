@@ -4,6 +4,7 @@
 mod clients;
 mod fault;
 mod keys;
+mod laws;
 mod line;
 mod numbers;
 mod objects;
@@ -15,6 +16,7 @@ mod steps;
 mod turns;
 
 pub use fault::{ReadFault, ScenarioCause, ScenarioFault};
+pub use laws::scenarios_keep_the_limits;
 pub use line::append_fault_line;
 pub use read::read_scenario;
 pub use scenario::{Plan, Scenario, Step, Turn};

@@ -19,7 +19,7 @@ use Rattle.sv_script.proofs.Ends.{none-left}
 use Rattle.sv_system.specs.Fits.{is_ended, IsEndLast, is_join_of}
 use Rattle.sv_schedule.specs.Schedule.{Player, Run, rules_of, open_session, closed_by, session_turn, session_turns, sessions_turned, asked_in_run, player_turn, take_turns, after_clients, after_sessions, after_takes, round, repeated}
 use Rattle.sv_schedule.specs.Sound.{IsPlaying, ArePlaying, IsSound}
-use Rattle.sv_schedule.specs.Records.{ends_in}
+use Rattle.sv_system.specs.Records.{ends_in}
 use Rattle.sv_schedule.specs.Done.{IsDone}
 use Rattle.sv_schedule.proofs.DoneGiven.{NeverRefused, StaySound}
 use Rattle.sv_schedule.proofs.DoneLists.{repeated-sum, repeated-still, map-from, any-there, each-found, each-from}

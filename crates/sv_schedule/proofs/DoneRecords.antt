@@ -1,4 +1,4 @@
--- The scheduled run is done, its journal and traces are its record, and each client did all of its script.
+-- The scheduled run is done, its journal and traces are its record, and each trace follows its script to the end.
 use Rattle.std.proofs.Common.{◌≡◌, ℕ, suc, ◌+◌, ◌≤◌, true, List, [], ◌∷◌, map, sym, ap, subst, arith, true≢false}
 use Rattle.std.specs.List.{AllByRecursion}
 use Rattle.std.proofs.lemmas.List.Elements.{recursion_from_All}
@@ -11,9 +11,9 @@ use Rattle.sv_scenario.specs.declared.scenario.Scenario.{Scenario}
 use Rattle.sv_scenario.specs.Limits.{IsGoodScenario}
 use Rattle.sv_scenario.specs.Sessions.{sessions_of_plan}
 use Rattle.sv_script.specs.Following.{FollowsTo, FollowsToEnd, is_finished}
+use Rattle.sv_system.specs.Records.{AreTracesOf, IsRecordOf, ScriptsAreFollowed}
 use Rattle.sv_schedule.specs.Schedule.{Player, Run, rules_of, opening_run, all_turned, round, repeated, most_rounds, scheduled_run, trace_of_player, traces_of}
 use Rattle.sv_schedule.specs.Sound.{IsPlaying, ArePlaying, IsSound}
-use Rattle.sv_schedule.specs.Records.{AreTracesOf, IsRecordOf, ScriptsAreDone}
 use Rattle.sv_schedule.specs.Done.{IsDone}
 use Rattle.sv_schedule.proofs.DoneGiven.{NeverRefused, StaySound}
 use Rattle.sv_schedule.proofs.DoneLists.{each-found}
@@ -43,13 +43,13 @@ follows-end shape k s plan p a c =
       finished = subst (λ (t : List Event). is_finished t ≡ true) back (a.closed c);
     }
 
-scripts-done : (shape : Shape) (k s : ℕ) (plans : List Plan) (ps : List Player) → ArePlaying shape k s plans ps → AllByRecursion (λ (p : Player). p.closed ≡ true) ps →
-    ScriptsAreDone shape plans (map trace_of_player ps)
-scripts-done shape k s [] [] a c = tt
-scripts-done shape k s [] (p ∷ ps) a c = absurd a
-scripts-done shape k s (plan ∷ plans) [] a c = absurd a
-scripts-done shape k s (plan ∷ plans) (p ∷ ps) a c =
-    (follows-end shape k s plan p a.0 c.0, scripts-done shape (suc k) (s + sessions_of_plan plan) plans ps a.1 c.1)
+scripts-followed : (shape : Shape) (k s : ℕ) (plans : List Plan) (ps : List Player) → ArePlaying shape k s plans ps → AllByRecursion (λ (p : Player). p.closed ≡ true) ps →
+    ScriptsAreFollowed shape plans (map trace_of_player ps)
+scripts-followed shape k s [] [] a c = tt
+scripts-followed shape k s [] (p ∷ ps) a c = absurd a
+scripts-followed shape k s (plan ∷ plans) [] a c = absurd a
+scripts-followed shape k s (plan ∷ plans) (p ∷ ps) a c =
+    (follows-end shape k s plan p a.0 c.0, scripts-followed shape (suc k) (s + sessions_of_plan plan) plans ps a.1 c.1)
 
 record-of : (scenario : Scenario) → IsGoodScenario scenario → (run : Run) → IsSound scenario run → IsDone scenario run → IsRecordOf scenario run.history (traces_of run)
 record-of scenario good run sound done =
@@ -84,10 +84,10 @@ module _ (scenario : Scenario) (good : IsGoodScenario scenario) (honest : NeverR
   rounds-record n l = record-of scenario good _ (rounds-going n).sound (rounds-enough n l)
 
   rounds-scripts : (n : ℕ) → 777 ≤ n →
-      (λ (run : Run). ScriptsAreDone scenario.world.shape scenario.clients (traces_of run))
+      (λ (run : Run). ScriptsAreFollowed scenario.world.shape scenario.clients (traces_of run))
       (repeated n (round (rules_of scenario)) (all_turned (rules_of scenario) (opening_run scenario) scenario.schedule))
   rounds-scripts n l =
-      scripts-done scenario.world.shape 0 0 scenario.clients _ (rounds-going n).sound.players
+      scripts-followed scenario.world.shape 0 0 scenario.clients _ (rounds-going n).sound.players
       (recursion_from_All (λ (p : Player). p.closed ≡ true) _ (rounds-enough n l).closed)
 
   pub scheduled-done : IsDone scenario (scheduled_run scenario)
@@ -96,5 +96,5 @@ module _ (scenario : Scenario) (good : IsGoodScenario scenario) (honest : NeverR
   pub scheduled-record : IsRecordOf scenario (scheduled_run scenario).history (traces_of (scheduled_run scenario))
   scheduled-record = rounds-record most_rounds (omega arith)
 
-  pub scheduled-scripts : ScriptsAreDone scenario.world.shape scenario.clients (traces_of (scheduled_run scenario))
+  pub scheduled-scripts : ScriptsAreFollowed scenario.world.shape scenario.clients (traces_of (scheduled_run scenario))
   scheduled-scripts = rounds-scripts most_rounds (omega arith)

@@ -12,7 +12,6 @@ pub mod DoneShut
 pub mod DoneSound
 pub mod DoneTakes
 pub mod DoneWaits
-pub mod Headline
 pub mod SoundCalls
 pub mod SoundEntries
 pub mod SoundLaws

@@ -1,69 +1,18 @@
--- When a journal and traces are the record of a run of a scenario, and what the headline says of them.
+-- When a journal and traces are those of a scenario's scheduled run.
 -- A history is the list of a journal's entries with the latest first.
-use Rattle.std.specs.Prelude.{◌≡◌, ℕ, suc, ◌+◌, ◌<◌, ◌&&◌, ◌==◌, List, [], ◌∷◌, reverse, All, if◌then◌else◌}
-use Rattle.sv_world.specs.declared.world.Shape.{Shape}
-use Rattle.sv_eval.specs.Serial.{serial_world}
+use Rattle.std.specs.Prelude.{◌≡◌, List}
 use Rattle.sv_journal.specs.declared.entry.Entry.{Entry}
-use Rattle.sv_journal.specs.History.{actions_of, commit_of, committed_of}
-use Rattle.sv_journal.specs.Sessions.{is_end}
-use Rattle.sv_journal.specs.Answer.{Legal}
 use Rattle.sv_client.specs.declared.trace.Trace.{Trace}
-use Rattle.sv_scenario.specs.declared.scenario.Plan.{Plan}
 use Rattle.sv_scenario.specs.declared.scenario.Scenario.{Scenario}
-use Rattle.sv_scenario.specs.Sessions.{sessions_of_plan, session_count}
-use Rattle.sv_script.specs.Following.{FollowsToEnd}
-use Rattle.sv_system.specs.Fits.{Fits}
-use Rattle.sv_system.specs.Outcomes.{OutcomesAreRight}
-use Rattle.sv_system.specs.Serial.{ValuesAreSerial, RelaysAreSufficient}
-use Rattle.sv_schedule.specs.declared.played.Played.{Played}
-use Rattle.sv_schedule.specs.Schedule.{rules_of, scheduled_run, traces_of}
-
--- How many Ends a session has.
-abbrev pub ends_in : List Entry → ℕ → ℕ
-ends_in [] s = 0
-ends_in (e ∷ h) s = if e.session == s && is_end e.request then suc (ends_in h s) else ends_in h s
-
--- There is one trace for each client, in order: of clients numbered from k on, with sessions numbered from s on.
-abbrev pub AreTracesOf : ℕ → ℕ → List Plan → List Trace → Type 0
-AreTracesOf k s [] [] = Unit {0}
-AreTracesOf k s (plan ∷ plans) (L ∷ Ls) =
-    (L.client ≡ record { 0 = k }) × (L.interest ≡ plan.interest) × (L.first ≡ s) × AreTracesOf (suc k) (s + sessions_of_plan plan) plans Ls
-AreTracesOf k s _ _ = ⊥
-
--- The journal is legal and fits the traces; it has entries of the scenario's sessions alone, and exactly one End for each; and there is one
--- trace for each client.
-pub record IsRecordOf (scenario : Scenario) (h : List Entry) (Ls : List Trace) : Type 0 where
-  pub legal : Legal (rules_of scenario) h
-  pub fits : Fits scenario.world.shape h Ls
-  pub sessions : All (λ (e : Entry). e.session < session_count scenario) h
-  pub ended : (s : ℕ) → s < session_count scenario → ends_in h s ≡ 1
-  pub clients : AreTracesOf 0 0 scenario.clients Ls
-
--- Each client did all of its script.
-abbrev pub ScriptsAreDone : Shape → List Plan → List Trace → Type 0
-ScriptsAreDone shape [] [] = Unit {0}
-ScriptsAreDone shape (plan ∷ plans) (L ∷ Ls) = FollowsToEnd shape plan.steps L × ScriptsAreDone shape plans Ls
-ScriptsAreDone shape _ _ = ⊥
+use Rattle.sv_system.specs.Records.{IsFullRecord}
+use Rattle.sv_schedule.specs.Schedule.{scheduled_run, traces_of}
 
 -- The journal and the traces are those of the scenario's scheduled run.
 pub record AreScheduled (scenario : Scenario) (h : List Entry) (Ls : List Trace) : Type 0 where
   pub journal : h ≡ (scheduled_run scenario).history
   pub traces : Ls ≡ traces_of (scheduled_run scenario)
 
--- The headline of a replay: the record of its traffic, each value at a position the serial execution's, the committed world too, each relay
--- sufficient, each script carried out, and one outcome for each action.
+-- The headline of a replay: the full record of the run that the scenario's schedule gives.
 pub record IsReplay (scenario : Scenario) (h : List Entry) (Ls : List Trace) : Type 0 where
-  pub traffic : IsRecordOf scenario h Ls
-  pub values : ValuesAreSerial scenario.world.values h Ls
-  pub world : committed_of scenario.world.values h ≡ serial_world scenario.world.values (actions_of h) (commit_of h)
-  pub relays : RelaysAreSufficient h Ls
-  pub scripts : ScriptsAreDone scenario.world.shape scenario.clients Ls
-  pub outcomes : OutcomesAreRight (rules_of scenario) h Ls
+  pub full : IsFullRecord scenario h Ls
   pub scheduled : AreScheduled scenario h Ls
-
--- What was played is such a record, with the scenario's shape, and the commit and the committed values that its journal gives.
-pub record IsPlayed (scenario : Scenario) (played : Played) : Type 0 where
-  pub traffic : IsRecordOf scenario (reverse played.journal.entries) played.traces
-  pub shape : played.shape ≡ scenario.world.shape
-  pub commit : played.commit ≡ commit_of (reverse played.journal.entries)
-  pub committed : played.committed ≡ committed_of scenario.world.values (reverse played.journal.entries)

@@ -24,9 +24,10 @@ use Rattle.sv_scenario.specs.declared.scenario.Step.{Step}
 use Rattle.sv_scenario.specs.declared.scenario.Step.TheVariants as steps
 use Rattle.sv_scenario.specs.declared.scenario.Turn.{Turn}
 use Rattle.sv_scenario.specs.declared.scenario.Turn.TheVariants as turns
-use Rattle.sv_scenario.specs.Sessions.{sessions_of_plan, session_count}
+use Rattle.sv_scenario.specs.Sessions.{sessions_of_plan}
 use Rattle.sv_script.specs.Following.{must_join, is_welcomed}
 use Rattle.sv_system.specs.Fits.{is_join_of, requests_in, replies_in, is_ended}
+pub use Rattle.sv_system.specs.Records.{rules_of}
 
 -- One client so far: what it did, the steps that are left, and whether it closed its last link.
 pub record Player : Type 0 where
@@ -178,9 +179,6 @@ abbrev pub round : Rules → Run → Run
 round r run = after_takes (after_sessions r (after_clients run))
 
 -- ---- The run
-
-abbrev pub rules_of : Scenario → Rules
-rules_of scenario = record { world = scenario.world; bound = scenario.bound; reach = scenario.reach; sessions = session_count scenario }
 
 -- The players of clients numbered from k on, with sessions numbered from s on.
 abbrev pub players_from : Shape → ℕ → ℕ → List Plan → List Player

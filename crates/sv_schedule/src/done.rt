@@ -2,16 +2,16 @@
 ghost use Rattle.std.specs.Prelude.{◌≡◌};
 ghost use Rattle.sv_scenario.specs.declared.scenario.Scenario.{Scenario};
 ghost use Rattle.sv_scenario.specs.Limits.{IsGoodScenario};
+ghost use Rattle.sv_system.specs.Records.{IsRecordOf, ScriptsAreFollowed};
 ghost use Rattle.sv_schedule.specs.Schedule.{Run, round, rules_of, scheduled_run, traces_of};
 ghost use Rattle.sv_schedule.specs.Sound.{IsSound};
-ghost use Rattle.sv_schedule.specs.Records.{IsRecordOf, ScriptsAreDone};
 ghost use Rattle.sv_schedule.specs.Done.{IsDone};
 
 /// A scenario's scheduled run ends: within its rounds each client closes and each session has its End. Its journal and traces are then the
-/// record of the run, and each client did all of its script. A further round changes nothing.
+/// record of the run's traffic, and each trace follows its script to the end. A further round changes nothing.
 pub fn scheduled_runs_end()
     ensures done { (scenario : Scenario) → IsGoodScenario scenario → IsDone scenario (scheduled_run scenario) }
     ensures traffic { (scenario : Scenario) → IsGoodScenario scenario → IsRecordOf scenario (scheduled_run scenario).history (traces_of (scheduled_run scenario)) }
-    ensures scripts { (scenario : Scenario) → IsGoodScenario scenario → ScriptsAreDone scenario.world.shape scenario.clients (traces_of (scheduled_run scenario)) }
+    ensures scripts { (scenario : Scenario) → IsGoodScenario scenario → ScriptsAreFollowed scenario.world.shape scenario.clients (traces_of (scheduled_run scenario)) }
     ensures still { (scenario : Scenario) (run : Run) → IsGoodScenario scenario → IsSound scenario run → IsDone scenario run → round (rules_of scenario) run ≡ run }
 {}

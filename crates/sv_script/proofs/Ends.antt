@@ -20,7 +20,7 @@ use Rattle.sv_client.proofs.Outstanding.{outstanding_joined, outstanding_made, o
 use Rattle.sv_scenario.specs.declared.scenario.Step.{Step}
 use Rattle.sv_scenario.specs.declared.scenario.Step.TheVariants as steps
 use Rattle.sv_scenario.specs.Limits.{quits_last}
-use Rattle.sv_script.specs.Following.{DoesStep, FollowsTo, FollowsToEnd, MayCome, after_syncs, passed_syncs, event_of, events_of, steps_done, is_finished}
+use Rattle.sv_script.specs.Following.{DoesStep, FollowsTo, FollowsToEnd, IsCarriedOut, MayCome, after_syncs, passed_syncs, event_of, events_of, steps_done, is_finished}
 use Rattle.sv_script.proofs.Due.{kind-of}
 use Rattle.sv_script.proofs.Steps.{steps-in_order}
 
@@ -183,9 +183,11 @@ none-left who first script (events.Cut ∷ t) left p q f h = cc
 none-left who first script (events.Show objects ∷ t) left p q f h = cc
 
 pub ends-do_all : (shape : Shape) (script : List Step) (trace : Trace) → Proper shape trace → quits_last script ≡ true → FollowsToEnd shape script trace →
-    steps_done (reverse trace.events) ≡ events_of script
+    IsCarriedOut shape script trace
 ends-do_all shape script trace p q f =
     let who = identity_of shape trace in
     let t = reverse trace.events in
     let none : f.follows.left ≡ [] = none-left who trace.first script t f.follows.left p.events q f.follows.follows f.finished in
-    sym (append-nil (steps_done t)) ∙ ap (λ (ss : List Step). steps_done t ++ events_of ss) (sym none) ∙ steps-in_order who script t f.follows.left f.follows.follows
+    let done : steps_done t ≡ events_of script =
+    sym (append-nil (steps_done t)) ∙ ap (λ (ss : List Step). steps_done t ++ events_of ss) (sym none) ∙ steps-in_order who script t f.follows.left f.follows.follows in
+    record { follows = f; steps = done }

@@ -126,3 +126,8 @@ pub record Follows (shape : Shape) (script : List Step) (trace : Trace) : Type 0
 pub record FollowsToEnd (shape : Shape) (script : List Step) (trace : Trace) : Type 0 where
   pub follows : Follows shape script trace
   pub finished : is_finished (reverse trace.events) ≡ true
+
+-- A trace did all of a script: it follows the script to its end, and its events that do steps are the script's steps in order, syncs left out.
+pub record IsCarriedOut (shape : Shape) (script : List Step) (trace : Trace) : Type 0 where
+  pub follows : FollowsToEnd shape script trace
+  pub steps : steps_done (reverse trace.events) ≡ events_of script

@@ -15,7 +15,7 @@ use Rattle.sv_client.specs.declared.trace.Trace.{Trace}
 use Rattle.sv_client.specs.Traces.{is_join, view_of}
 use Rattle.sv_client.specs.Taking.{Identity, outstanding}
 use Rattle.sv_client.specs.Proper.{Proper, AreProper}
-use Rattle.sv_script.specs.Following.{FollowsTo, Follows, FollowsToEnd, MayCome, must_join, is_welcomed, is_step, steps_done, events_of}
+use Rattle.sv_script.specs.Following.{FollowsTo, Follows, FollowsToEnd, IsCarriedOut, MayCome, must_join, is_welcomed, is_step, steps_done, events_of}
 use Rattle.sv_script.specs.Telling.{change_by, changes_of, told_lines}
 
 -- ---- Beginnings
@@ -37,10 +37,10 @@ abbrev pub StepsAreDoneInOrder : Type 0
 StepsAreDoneInOrder = (who : Identity) (script : List Step) (t : List Event) (left : List Step) → FollowsTo who script t left →
     steps_done t ++ events_of left ≡ events_of script
 
--- A trace that follows a script to its end did all of its steps, where a quit stands only at the end.
+-- A trace that follows a script to its end carried it out, where a quit stands only at the end.
 abbrev pub EndsDoAllSteps : Type 0
 EndsDoAllSteps = (shape : Shape) (script : List Step) (trace : Trace) → Proper shape trace → quits_last script ≡ true → FollowsToEnd shape script trace →
-    steps_done (reverse trace.events) ≡ events_of script
+    IsCarriedOut shape script trace
 
 -- ---- Counts
 

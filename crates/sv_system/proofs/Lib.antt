@@ -10,6 +10,7 @@ pub mod Covers
 pub mod Dones
 pub mod Entered
 pub mod Fronts
+pub mod Full
 pub mod GoodItems
 pub mod Heads
 pub mod Histories

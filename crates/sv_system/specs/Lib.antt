@@ -4,3 +4,4 @@ pub mod Journals
 pub mod Serial
 pub mod Delivery
 pub mod Outcomes
+pub mod Records

@@ -5,10 +5,14 @@ mod deliveries;
 mod honest;
 mod journals;
 mod outcomes;
+mod played;
+mod records;
 mod truth;
 
 pub use deliveries::lawful_deliveries_make_values_serial;
 pub use honest::honest_clients_are_never_refused;
 pub use journals::legal_journals_make_lawful_deliveries;
 pub use outcomes::actions_have_outcomes;
+pub use played::Played;
+pub use records::runs_leave_full_records;
 pub use truth::{committed_world_is_serial, replicas_equal_serial_execution};

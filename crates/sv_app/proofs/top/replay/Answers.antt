@@ -11,12 +11,9 @@ returns-then-write_all-clause-ends g c = record {
 }
 
 pub returns-clause-ends : goal.returns-clause-ends
-returns-clause-ends g c = (
-  c.if-write_all.ensures.cause,
-  record {
-    text = string_bytes c.in-Ok-report_of.text;
-    report = report_is (g.F.Files.contents c.args.files.now c.args.name.now) (g.F.Files.left c.read_all.new.files) c.in-Ok.bytes.items (string_bytes c.in-Ok-report_of.text)
-        c.in-Ok.ensures.front (rw c.deref.ensures.value at c.in-Ok-report_of.ensures);
-    part = rw c.as_bytes.ensures.value at c.if-write_all.ensures.part;
-  },
-)
+returns-clause-ends g c = record {
+  text = string_bytes c.in-Ok-report_of.text;
+  report = report_is (g.F.Files.contents c.args.files.now c.args.name.now) (g.F.Files.left c.read_all.new.files) c.in-Ok.bytes.items (string_bytes c.in-Ok-report_of.text)
+      c.in-Ok.ensures.front (rw c.deref.ensures.value at c.in-Ok-report_of.ensures);
+  part = rw c.as_bytes.ensures.value at c.if-write_all.ensures.part;
+}

@@ -1,8 +1,8 @@
 use Rattle.sv_frame.proofs.Fronts.{frame_appended}
 use Rattle.sv_frame.proofs.writing.put_frame.Goals as goal
 
-pub returns : goal.returns
-returns c =
+pub returns-clause-items : goal.returns-clause-items
+returns-clause-items c =
     frame_appended c.args.out.now.items c.reserve.new.self.items c.extend_from_slice.new.self.items c.write_u32.new.buf c.args.payload.now c.extend_from_slice-2.new.self.items
     c.in_ok-reserve.ensures.items
     c.in_ok-extend_from_slice.ensures.items

@@ -1,4 +1,4 @@
-use Rattle.std.proofs.Common.{rules, ◌≡◌, ℕ, ◌+◌, [], ◌∷◌, ◌++◌}
+use Rattle.std.proofs.Common.{rules, ◌≡◌, ◌+◌, [], ◌∷◌, ◌++◌}
 use Rattle.sv_lock.proofs.Ended.{one_more_ended}
 use Rattle.sv_lock.proofs.tests.+nest.Goals as goal
 

@@ -1,4 +1,4 @@
-use Rattle.std.proofs.Common.{rules, ◌≡◌, ℕ, ◌≤◌, arith}
+use Rattle.std.proofs.Common.{rules, ◌≡◌, arith}
 use Rattle.sv_lock.proofs.tests.add_nested.Goals as goal
 
 pub close-requires-clause-ended : goal.close-requires-clause-ended

@@ -1,4 +1,4 @@
-use Rattle.sv_schedule.specs.Schedule.{rules_of}
+use Rattle.sv_system.specs.Records.{rules_of}
 use Rattle.sv_report.proofs.Traffic.{named}
 use Rattle.sv_report.proofs.whole.append_report.Goals as goal
 

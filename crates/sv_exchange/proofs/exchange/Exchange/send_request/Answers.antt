@@ -1,33 +1,18 @@
-use Rattle.std.proofs.Common.{◌≡◌, ℕ, ◌≤◌, List, [], ◌∷◌, ◌++◌, length, sym, ap, subst, ◌∙◌}
-use Rattle.sv_frame.specs.Frames.{frame}
-use Rattle.sv_link.specs.declared.side.Side.TheVariants.{Client}
-use Rattle.sv_link.specs.Sides.{after_write, with_side}
-use Rattle.sv_wire.specs.Spelling.{request_bytes}
+use Rattle.std.proofs.Common.{◌≡◌, [], ◌∷◌, ◌++◌, subst}
+use Rattle.std.specs.Prelude.{OnOk, OnErr}
 use Rattle.sv_exchange.specs.View.{ExchangeView}
-use Rattle.sv_exchange.proofs.Sizes.{request_short}
-use Rattle.sv_exchange.proofs.Renewed.{with_link, renewed_inside, renewed_view}
-use Rattle.sv_exchange.proofs.ByServer.{sent_inside, sent_view}
+use Rattle.sv_exchange.specs.Invariant.{view_of}
+use Rattle.sv_exchange.proofs.Views.{with_link, request_kept, request_seen, unsent_seen}
 use Rattle.sv_exchange.proofs.exchange.Exchange.send_request.Goals as goal
 
-pub send-requires : goal.send-requires
-send-requires c =
-    let bytes : c.deref.result.now ≡ request_bytes c.args.request.now = c.deref.ensures.value ∙ c.in_ok-payload.ensures.bytes in
-    subst (λ (l : List ℕ). length l ≤ 65536) (sym bytes) (request_short c.args.request.now c.requires.message)
+pub invariant_of-self : goal.invariant_of-self
+invariant_of-self c = request_kept c.send.result c.self.inside c.send.new.link c.args.request.now c.self.invariant c.requires.message c.send.ensures.ok c.send.ensures.err
 
-pub invariant_of-self-2 : goal.invariant_of-self-2
-invariant_of-self-2 c =
-    let link = c.renew.new.link in
-    let bytes : c.deref.result.now ≡ request_bytes c.args.request.now = c.deref.ensures.value ∙ c.in_ok-payload.ensures.bytes in
-    let written = c.in_ok-send.ensures.ok ∙ ap (λ (l : List ℕ). with_side link Client (after_write link.client (frame l))) bytes in
-    let renewed = renewed_inside c.self.inside link c.self.invariant c.renew.ensures.server c.renew.ensures.client in
-    sent_inside (with_link c.self.inside link) c.send.new.link c.args.request.now renewed c.requires.message written
-
-pub returns-clause-ok : goal.returns-clause-ok
-returns-clause-ok c =
-    let link = c.renew.new.link in
-    let bytes : c.deref.result.now ≡ request_bytes c.args.request.now = c.deref.ensures.value ∙ c.in_ok-payload.ensures.bytes in
-    let written = c.in_ok-send.ensures.ok ∙ ap (λ (l : List ℕ). with_side link Client (after_write link.client (frame l))) bytes in
-    let renewed = renewed_inside c.self.inside link c.self.invariant c.renew.ensures.server c.renew.ensures.client in
-    let same = renewed_view c.self.inside link c.renew.ensures.server c.renew.ensures.client ∙ c.self.view_is in
-    sent_view (with_link c.self.inside link) c.send.new.link c.args.request.now renewed c.requires.message written
-    ∙ ap (λ (v : ExchangeView). record v { requests = v.requests ++ c.args.request.now ∷ [] }) same
+pub returns : goal.returns
+returns c =
+    let new = view_of (with_link c.self.inside c.send.new.link) in
+    record {
+      ok = subst (λ (v : ExchangeView). OnOk c.send.result (new ≡ record v { requests = v.requests ++ c.args.request.now ∷ [] })) c.self.view_is
+          (request_seen c.send.result c.self.inside c.send.new.link c.args.request.now c.self.invariant c.requires.message c.send.ensures.ok);
+      err = subst (λ (v : ExchangeView). OnErr c.send.result (new ≡ v)) c.self.view_is (unsent_seen c.send.result c.self.inside c.send.new.link c.send.ensures.err);
+    }

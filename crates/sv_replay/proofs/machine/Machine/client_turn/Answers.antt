@@ -4,7 +4,7 @@ use Rattle.std.proofs.lemmas.Result.{on_ok_weaker}
 use Rattle.std.proofs.lemmas.List.{get_or_read}
 use Rattle.sv_scenario.specs.declared.scenario.Turn.TheVariants as turns
 use Rattle.sv_schedule.specs.Schedule.{player_turn}
-use Rattle.sv_replay.specs.Channel.{ChannelView, new_channel}
+use Rattle.sv_exchange.specs.View.{ExchangeView, new_exchange}
 use Rattle.sv_replay.specs.Players.{session_of}
 use Rattle.sv_replay.specs.Machine.{player_of, Moved}
 use Rattle.sv_replay.proofs.Machines.{clients_are, player_read, player_flags, player_known, player_fits, player_fits_after, get_map, moved_became}
@@ -54,9 +54,9 @@ turn-requires-clause-open c =
     let at = get_map player_of m.players.items k p (player_read m k p is c.requires.client c.index_mut-player.ensures.value) in
     let fit = player_known m k p is c.requires.client c.index_mut-player.ensures.value in
     let known : c.session-session.result < length m.channels.items = omega (arith, fit.known, is.count, here) in
-    let read : c.index_mut.result.now ≡ get_or m.channels.items (session_of (player_of p)) new_channel =
-    get_or_read m.channels.items c.session-session.result _ known c.index_mut.ensures.value new_channel ∙ ap (λ n. get_or m.channels.items n new_channel) here in
-    λ linked. ap (λ (v : ChannelView). v.closed) read ∙ link_open m k (player_of p) is c.requires.client at linked
+    let read : c.index_mut.result.now ≡ get_or m.channels.items (session_of (player_of p)) new_exchange =
+    get_or_read m.channels.items c.session-session.result _ known c.index_mut.ensures.value new_exchange ∙ ap (λ n. get_or m.channels.items n new_exchange) here in
+    λ linked. ap (λ (v : ExchangeView). v.closed) read ∙ link_open m k (player_of p) is c.requires.client at linked
 
 pub returns : goal.returns
 returns c =
@@ -70,10 +70,10 @@ returns c =
     let here = c.session-session.ensures in
     let fit = player_known m k p is c.requires.client c.index_mut-player.ensures.value in
     let known : c.session-session.result < length m.channels.items = omega (arith, fit.known, is.count, here) in
-    let read : c.index_mut.result.now ≡ get_or m.channels.items (session_of (player_of p)) new_channel =
-    get_or_read m.channels.items c.session-session.result _ known c.index_mut.ensures.value new_channel ∙ ap (λ n. get_or m.channels.items n new_channel) here in
+    let read : c.index_mut.result.now ≡ get_or m.channels.items (session_of (player_of p)) new_exchange =
+    get_or_read m.channels.items c.session-session.result _ known c.index_mut.ensures.value new_exchange ∙ ap (λ n. get_or m.channels.items n new_exchange) here in
     on_ok_weaker c.turn.result
     (λ did. moved_became m w k p q d is (player_read m k p is c.requires.client c.index_mut-player.ensures.value) player_turn (turns.Client k)
-    (subst (λ (v : ChannelView). Moved (player_turn (player_of p)) p q v d) read did) refl c.requires.client refl refl refl
+    (subst (λ (v : ExchangeView). Moved (player_turn (player_of p)) p q v d) read did) refl c.requires.client refl refl refl
     (ap (λ n. set m.channels.items n d) here))
     c.turn.ensures

@@ -4,7 +4,7 @@ use Rattle.std.proofs.lemmas.Result.{on_ok_weaker}
 use Rattle.std.proofs.lemmas.List.{get_or_read}
 use Rattle.sv_scenario.specs.declared.scenario.Turn.TheVariants as turns
 use Rattle.sv_schedule.specs.Schedule.{Player, take_turn}
-use Rattle.sv_replay.specs.Channel.{ChannelView, new_channel}
+use Rattle.sv_exchange.specs.View.{ExchangeView, new_exchange}
 use Rattle.sv_replay.specs.Players.{session_of, taken_from}
 use Rattle.sv_replay.specs.Machine.{player_of, Moved, run_of}
 use Rattle.sv_client.proofs.Shifts.{up_fault}
@@ -47,9 +47,9 @@ take-requires-clause-after c =
     let at = get_map player_of m.players.items k p (player_read m k p is c.requires.client c.index_mut-player.ensures.value) in
     let fit = player_known m k p is c.requires.client c.index_mut-player.ensures.value in
     let known : c.session-session.result < length m.channels.items = omega (arith, fit.known, is.count, here) in
-    let read : c.index_mut.result.now ≡ get_or m.channels.items (session_of (player_of p)) new_channel =
-    get_or_read m.channels.items c.session-session.result _ known c.index_mut.ensures.value new_channel ∙ ap (λ n. get_or m.channels.items n new_channel) here in
-    subst AsksMessages (sym (ap (λ (v : ChannelView). taken_from v.replies (player_of p)) read ∙ taken_is m k (player_of p) is at))
+    let read : c.index_mut.result.now ≡ get_or m.channels.items (session_of (player_of p)) new_exchange =
+    get_or_read m.channels.items c.session-session.result _ known c.index_mut.ensures.value new_exchange ∙ ap (λ n. get_or m.channels.items n new_exchange) here in
+    subst AsksMessages (sym (ap (λ (v : ExchangeView). taken_from v.replies (player_of p)) read ∙ taken_is m k (player_of p) is at))
     (take_asks m k (player_of p) is c.requires.client at c.runs_are_messages.ensures.asked)
 
 pub take-requires-clause-open : goal.take-requires-clause-open
@@ -62,9 +62,9 @@ take-requires-clause-open c =
     let at = get_map player_of m.players.items k p (player_read m k p is c.requires.client c.index_mut-player.ensures.value) in
     let fit = player_known m k p is c.requires.client c.index_mut-player.ensures.value in
     let known : c.session-session.result < length m.channels.items = omega (arith, fit.known, is.count, here) in
-    let read : c.index_mut.result.now ≡ get_or m.channels.items (session_of (player_of p)) new_channel =
-    get_or_read m.channels.items c.session-session.result _ known c.index_mut.ensures.value new_channel ∙ ap (λ n. get_or m.channels.items n new_channel) here in
-    λ linked _. ap (λ (v : ChannelView). v.closed) read ∙ link_open m k (player_of p) is c.requires.client at linked
+    let read : c.index_mut.result.now ≡ get_or m.channels.items (session_of (player_of p)) new_exchange =
+    get_or_read m.channels.items c.session-session.result _ known c.index_mut.ensures.value new_exchange ∙ ap (λ n. get_or m.channels.items n new_exchange) here in
+    λ linked _. ap (λ (v : ExchangeView). v.closed) read ∙ link_open m k (player_of p) is c.requires.client at linked
 
 pub take-requires-clause-fine : goal.take-requires-clause-fine
 take-requires-clause-fine c =
@@ -76,12 +76,12 @@ take-requires-clause-fine c =
     let at = get_map player_of m.players.items k p (player_read m k p is c.requires.client c.index_mut-player.ensures.value) in
     let fit = player_known m k p is c.requires.client c.index_mut-player.ensures.value in
     let known : c.session-session.result < length m.channels.items = omega (arith, fit.known, is.count, here) in
-    let read : c.index_mut.result.now ≡ get_or m.channels.items (session_of (player_of p)) new_channel =
-    get_or_read m.channels.items c.session-session.result _ known c.index_mut.ensures.value new_channel ∙ ap (λ n. get_or m.channels.items n new_channel) here in
+    let read : c.index_mut.result.now ≡ get_or m.channels.items (session_of (player_of p)) new_exchange =
+    get_or_read m.channels.items c.session-session.result _ known c.index_mut.ensures.value new_exchange ∙ ap (λ n. get_or m.channels.items n new_exchange) here in
     λ linked joined reply first.
     sym (up_fault p.first p.client.who p.client.events reply)
     ∙ reply_fine m k (player_of p) is c.requires.client at linked (up_must p.first p.client.events ∙ joined) reply
-    (sym (ap (λ (v : ChannelView). slice_get v.replies 0) read) ∙ first)
+    (sym (ap (λ (v : ExchangeView). slice_get v.replies 0) read) ∙ first)
 
 pub returns-clause-became : goal.returns-clause-became
 returns-clause-became c =
@@ -96,12 +96,12 @@ returns-clause-became c =
     let at = player_read m k p is c.requires.client c.index_mut-player.ensures.value in
     let fit = player_known m k p is c.requires.client c.index_mut-player.ensures.value in
     let known : c.session-session.result < length m.channels.items = omega (arith, fit.known, is.count, here) in
-    let read : c.index_mut.result.now ≡ get_or m.channels.items (session_of (player_of p)) new_channel =
-    get_or_read m.channels.items c.session-session.result _ known c.index_mut.ensures.value new_channel ∙ ap (λ n. get_or m.channels.items n new_channel) here in
+    let read : c.index_mut.result.now ≡ get_or m.channels.items (session_of (player_of p)) new_exchange =
+    get_or_read m.channels.items c.session-session.result _ known c.index_mut.ensures.value new_exchange ∙ ap (λ n. get_or m.channels.items n new_exchange) here in
     on_ok_weaker c.take.result
     (λ did. moved_became m w k p q d is at (take_turn (run_of m).history) (turns.Take k)
-    (subst (λ (x : Player). Moved x p q (get_or m.channels.items (session_of (player_of p)) new_channel) d) (taken_is m k (player_of p) is (get_map player_of m.players.items k p at))
-    (subst (λ (v : ChannelView). Moved (taken_from v.replies (player_of p)) p q v d) read did)) refl c.requires.client refl refl refl
+    (subst (λ (x : Player). Moved x p q (get_or m.channels.items (session_of (player_of p)) new_exchange) d) (taken_is m k (player_of p) is (get_map player_of m.players.items k p at))
+    (subst (λ (v : ExchangeView). Moved (taken_from v.replies (player_of p)) p q v d) read did)) refl c.requires.client refl refl refl
     (ap (λ n. set m.channels.items n d) here))
     c.take.ensures.taken
 
@@ -118,10 +118,10 @@ returns-clause-found c =
     let at = player_read m k p is c.requires.client c.index_mut-player.ensures.value in
     let fit = player_known m k p is c.requires.client c.index_mut-player.ensures.value in
     let known : c.session-session.result < length m.channels.items = omega (arith, fit.known, is.count, here) in
-    let read : c.index_mut.result.now ≡ get_or m.channels.items (session_of (player_of p)) new_channel =
-    get_or_read m.channels.items c.session-session.result _ known c.index_mut.ensures.value new_channel ∙ ap (λ n. get_or m.channels.items n new_channel) here in
+    let read : c.index_mut.result.now ≡ get_or m.channels.items (session_of (player_of p)) new_exchange =
+    get_or_read m.channels.items c.session-session.result _ known c.index_mut.ensures.value new_exchange ∙ ap (λ n. get_or m.channels.items n new_exchange) here in
     both_told c.take.result (Moved (taken_from c.index_mut.result.now.replies (player_of p)) p q c.index_mut.result.now d)
     (λ found. length q.client.events ≡ length p.client.events + one_if found) (Found (work_of_client k) (run_of m) (run_of w))
     (λ found did long. client_found m w k p q found at
-    (did.player ∙ ap (λ (v : ChannelView). taken_from v.replies (player_of p)) read ∙ taken_is m k (player_of p) is (get_map player_of m.players.items k p at)) refl refl long)
+    (did.player ∙ ap (λ (v : ExchangeView). taken_from v.replies (player_of p)) read ∙ taken_is m k (player_of p) is (get_map player_of m.players.items k p at)) refl refl long)
     c.take.ensures.taken c.take.ensures.found

@@ -1,0 +1,95 @@
+//! Writing messages as frames, several at once.
+ghost use Rattle.std.specs.Prelude.{◌≡◌, ◌≢◌, ◌+◌, ◌≤◌, [], false, IfOk, length};
+ghost use Rattle.sv_link.specs.Ends.{Sends, SentCause};
+ghost use Rattle.sv_frame.specs.Frames.{frame};
+ghost use Rattle.sv_exchange.specs.Outgoing.{Posts, LeavesUnsent};
+
+use crate::message::Message;
+use std::alloc::{AllocError, Global};
+use std::marker::Model;
+use sv_frame::{PREFIX, ROOM, put_frame};
+use sv_link::{End, Sent, send_all};
+
+/// Messages that are to be sent together. Contracts see the bytes of their frames.
+///
+/// Its room, for one frame of the greatest length, is taken once, by `new`.
+#[derive(Drop)]
+pub struct Outbox {
+    bytes: Vec<u8>,
+}
+
+impl Model for Outbox {
+    ghost use Rattle.std.specs.Prelude.{List, ℕ, ◌≤◌};
+    ghost use Rattle.std.specs.Vec.{vec_len, vec_capacity};
+
+    ghost Value = { List ℕ };
+
+    ghost view = { λ o. o.bytes.items };
+
+    ghost invariant = { λ o. (vec_len o.bytes ≤ 65540) × (65540 ≤ vec_capacity o.bytes) };
+}
+
+impl Outbox {
+    /// Nothing waits.
+    pub fn new(alloc: Global) -> Result<Outbox, AllocError>
+        ensures { IfOk result (λ outbox. outbox ≡ []) }
+    {
+        Ok(Outbox {
+            bytes: Vec::with_capacity(alloc, ROOM)?,
+        })
+    }
+
+    /// Puts a message's frame behind what waits. Where it does not fit, what waits is sent first.
+    pub fn put<M: Message, E: End>(&mut self, alloc: Global, message: &M, end: &mut E) -> Sent
+        requires open { (E.told end.old).closed ≡ false }
+        requires message { M.is_message message.now }
+        ensures posts { Posts (E.told end.old) self.old (frame (M.spelled message.now)) result (E.told end.new) self.new }
+        ensures cause { SentCause (E.faults end.old) (E.faults end.new) result }
+        ensures calm { E.calm end.old → (result ≢ Sent.Failed) × E.calm end.new }
+    {
+        let Ok(payload) = message.encode(alloc) else {
+            return Sent::Memory;
+        };
+        match self.make_room(PREFIX + payload.len(), end) {
+            Sent::Whole => {
+                put_frame(&payload, &mut self.bytes).unwrap();
+                Sent::Whole
+            }
+            Sent::Failed => Sent::Failed,
+            Sent::Memory => Sent::Memory,
+        }
+    }
+
+    /// Sends what waits, where so many bytes more do not fit.
+    fn make_room<E: End>(&mut self, size: usize, end: &mut E) -> Sent
+        requires open { (E.told end.old).closed ≡ false }
+        requires size { size ≤ 65540 }
+        ensures posts { Posts (E.told end.old) self.old [] result (E.told end.new) self.new }
+        ensures room { result ≡ Sent.Whole → length self.new + size ≤ 65540 }
+        ensures cause { SentCause (E.faults end.old) (E.faults end.new) result }
+        ensures calm { E.calm end.old → (result ≢ Sent.Failed) × E.calm end.new }
+    {
+        if size <= ROOM - self.bytes.len() {
+            return Sent::Whole;
+        }
+        self.flush(end)
+    }
+
+    /// Sends all that waits.
+    pub fn flush<E: End>(&mut self, end: &mut E) -> Sent
+        requires open { (E.told end.old).closed ≡ false }
+        ensures sends { Sends (E.told end.old) self.old result (E.told end.new) }
+        ensures left { LeavesUnsent result self.old self.new }
+        ensures cause { SentCause (E.faults end.old) (E.faults end.new) result }
+        ensures calm { E.calm end.old → (result ≢ Sent.Failed) × E.calm end.new }
+    {
+        match send_all(end, &self.bytes) {
+            Sent::Whole => {
+                self.bytes.clear();
+                Sent::Whole
+            }
+            Sent::Failed => Sent::Failed,
+            Sent::Memory => Sent::Memory,
+        }
+    }
+}

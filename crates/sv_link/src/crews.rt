@@ -1,0 +1,97 @@
+//! Crews, which run jobs on threads.
+ghost use Rattle.std.specs.Prelude.{◌≡◌, ℕ, ◌+◌, ◌<◌, List, [], ◌∷◌, ◌++◌, OnOk, vec_len};
+ghost use Rattle.std.specs.List.{AllByRecursion, AllZip};
+ghost use Rattle.sv_bytes.specs.Faults.{Rose};
+ghost use Rattle.sv_link.specs.Crews.{IfDone, RanMore, CrewCause};
+
+use crate::starting::run_each;
+use std::alloc::AllocError;
+use std::sync::Wait;
+use std::thread::Threads;
+
+/// What `run_all` answers.
+#[derive(Debug, Drop)]
+pub enum Ran<T> {
+    /// Every job ran. Here is what they gave, in the order of the jobs.
+    Done(Vec<T>),
+
+    /// A thread could not be started. The jobs that had been started were waited for, and the others did not run.
+    Failed,
+
+    /// There was no memory.
+    Memory,
+}
+
+/// What one thread does, once.
+pub trait Job: Send + Drop {
+    type Out: Send + Drop;
+
+    // What the job needs.
+    ghost ready: { Self → Type 0 };
+
+    // What the job promises of what it gives.
+    ghost keeps: { Self → Self.Out → Type 0 };
+
+    /// Does the job.
+    fn run<R: Threads + Wait + Sync>(self, rt: &R) -> Self::Out
+        requires ready { ready self }
+        ensures kept { keeps self result };
+}
+
+/// Runs jobs at once, each on a thread of its own.
+///
+/// Contracts see how many jobs each `run_all` ran that answered Done.
+pub trait Crew {
+    ghost ran: { Self → List ℕ };
+
+    ghost faults: { Self → ℕ };
+
+    // How many numbers can be noted without memory.
+    ghost room: { Self → ℕ };
+
+    /// Takes the room for one number more.
+    fn make_room(&mut self) -> Result<(), AllocError>
+        ensures ok { OnOk result (0 < room self.new) }
+        ensures same { (ran self.new ≡ ran self.old) × (faults self.new ≡ faults self.old) };
+
+    /// Notes that so many jobs ran.
+    fn note(&mut self, count: usize)
+        requires room { 0 < room self.old }
+        ensures noted { ran self.new ≡ ran self.old ++ count ∷ [] }
+        ensures same { faults self.new ≡ faults self.old };
+
+    /// Counts a start that was refused.
+    fn count_fault(&mut self)
+        ensures counted { Rose (faults self.old) (faults self.new) }
+        ensures same { ran self.new ≡ ran self.old };
+
+    /// The start that the crew refuses itself, if one: its place among the jobs, from 0.
+    fn refused(&self) -> Option<usize>;
+
+    /// Runs all jobs at once, each on a thread of its own, and waits for all of them.
+    ///
+    /// Where a thread can't be started, the jobs that were not started are dropped.
+    final fn run_all<J: Job, R: Threads + Wait + Sync>(
+        &mut self,
+        rt: &R,
+        jobs: Vec<J>,
+    ) -> Ran<J::Out>
+        requires ready { AllByRecursion J.ready jobs.items }
+        ensures kept { IfDone result (λ outs. AllZip J.keeps jobs.items outs) }
+        ensures ran { RanMore (ran self.old) (ran self.new) (vec_len jobs) result }
+        ensures cause { CrewCause (faults self.old) (faults self.new) result }
+    {
+        if self.make_room().is_err() {
+            return Ran::Memory;
+        }
+        let count = jobs.len();
+        let refused = self.refused();
+        let ran = run_each(rt, jobs, refused);
+        match &ran {
+            Ran::Done(_) => self.note(count),
+            Ran::Failed => self.count_fault(),
+            Ran::Memory => {}
+        }
+        ran
+    }
+}

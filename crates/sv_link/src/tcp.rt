@@ -1,0 +1,224 @@
+//! A net over TCP, between threads of one process.
+ghost use Rattle.std.specs.Prelude.{◌≡◌, []};
+ghost use Rattle.std.specs.Io.{ReadsAtMost, WritesAtMost};
+
+use crate::book::Book;
+use crate::ends::{End, EndRead, EndWrote};
+use crate::log::EndLog;
+use crate::nets::{Net, Pair, Settle};
+use std::alloc::Global;
+use std::io;
+use std::io::{ErrorKind, Read, Write};
+use std::net::{Net as Sockets, Shutdown, TcpListener, TcpStream};
+
+/// An end of a TCP connection that a [`TcpNet`] made.
+#[derive(Drop)]
+pub struct TcpEnd {
+    stream: TcpStream,
+    log: EndLog,
+}
+
+impl End for TcpEnd {
+    ghost use Rattle.sv_link.specs.Logs.{told_of};
+
+    ghost told = { λ e. told_of e.log };
+
+    ghost faults = { λ e. e.log.faults };
+
+    ghost calm = { λ _. ⊥ };
+
+    fn read(&mut self, into: &mut [u8]) -> EndRead {
+        if self.log.received.reserve(into.len()).is_err() {
+            return EndRead::Memory;
+        }
+        match read_again(&mut self.stream, into) {
+            Ok(0) => {
+                self.log.ended = true;
+                EndRead::Ended
+            }
+            Ok(count) => {
+                self.log.received.extend_from_slice(&into[..count]).unwrap();
+                EndRead::Got(count)
+            }
+            Err(error) if error.kind() == ErrorKind::OutOfMemory => EndRead::Memory,
+            Err(_) => self.log.read_failed(),
+        }
+    }
+
+    fn write(&mut self, piece: &[u8]) -> EndWrote {
+        if self.log.sent.reserve(piece.len()).is_err() {
+            return EndWrote::Memory;
+        }
+        match write_again(&mut self.stream, piece) {
+            Ok(0) => self.log.write_failed(),
+            Ok(count) => {
+                self.log.sent.extend_from_slice(&piece[..count]).unwrap();
+                EndWrote::Took(count)
+            }
+            Err(error) if error.kind() == ErrorKind::OutOfMemory => EndWrote::Memory,
+            Err(_) => self.log.write_failed(),
+        }
+    }
+
+    fn close(&mut self) {
+        self.log.closed = true;
+        let _ = self.stream.shutdown(Shutdown::Both);
+    }
+}
+
+/// Connections over TCP on this machine's loopback, whose ends go to two threads.
+#[derive(Drop)]
+pub struct TcpNet<'r, R: Sockets<Listener = TcpListener, Stream = TcpStream>> {
+    alloc: Global,
+    rt: &'r R,
+    listener: Option<TcpListener>,
+    book: Book,
+}
+
+impl<'r, R: Sockets<Listener = TcpListener, Stream = TcpStream>> TcpNet<'r, R> {
+    ghost use Rattle.sv_link.specs.Tcp.{IsNewNet};
+
+    /// No pair was made. The first one binds a port.
+    pub fn new(alloc: Global, rt: &'r R) -> TcpNet<'r, R>
+        ensures { IsNewNet result }
+    {
+        TcpNet {
+            alloc,
+            rt,
+            listener: None,
+            book: Book::new(alloc),
+        }
+    }
+
+    fn connect(&mut self) -> io::Result<(TcpStream, TcpStream)>
+        ensures { self.new.book ≡ self.old.book }
+    {
+        if self.listener.is_none() {
+            self.listener = Some(TcpListener::bind(self.rt, "127.0.0.1:0")?);
+        }
+        let Some(listener) = &self.listener else {
+            unreachable!()
+        };
+        connected(self.rt, listener)
+    }
+}
+
+impl<'r, R: Sockets<Listener = TcpListener, Stream = TcpStream>> Net for TcpNet<'r, R> {
+    type E = TcpEnd;
+
+    ghost settled = { λ n. n.book.settled.items };
+
+    ghost made = { λ n. n.book.made };
+
+    ghost owed = { λ n. n.book.owed };
+
+    ghost faults = { λ n. n.book.faults.value };
+
+    ghost calm = { λ _. ⊥ };
+
+    fn pair(&mut self) -> Pair<TcpEnd> {
+        if !self.book.takes_room() {
+            return Pair::Memory;
+        }
+        match self.connect() {
+            Ok((at_server, at_client)) => {
+                let (server, client) = self.book.open(self.alloc);
+                let server = TcpEnd {
+                    stream: at_server,
+                    log: server,
+                };
+                let client = TcpEnd {
+                    stream: at_client,
+                    log: client,
+                };
+                Pair::Made(server, client)
+            }
+            Err(error) if error.kind() == ErrorKind::OutOfMemory => Pair::Memory,
+            Err(_) => {
+                self.book.count_fault();
+                Pair::Failed
+            }
+        }
+    }
+
+    fn settle(&mut self, server: TcpEnd, client: TcpEnd, cut: bool) -> Settle {
+        let TcpEnd {
+            stream: _,
+            log: server,
+        } = server;
+        let TcpEnd {
+            stream: _,
+            log: client,
+        } = client;
+        self.book.settle(server, client, cut, false)
+    }
+}
+
+// Connects to the listener, and gives the server's stream and the client's. They have to name each other.
+fn connected<R: Sockets<Listener = TcpListener, Stream = TcpStream>>(
+    rt: &R,
+    listener: &TcpListener,
+) -> io::Result<(TcpStream, TcpStream)> {
+    let client = connect_again(rt, listener)?;
+    let server = accept_again(listener)?;
+    let is_pair = server.peer_addr()? == client.local_addr()?
+        && client.peer_addr()? == server.local_addr()?;
+    if !is_pair {
+        return Err(io::Error::from(ErrorKind::ConnectionRefused));
+    }
+    server.set_nodelay(true)?;
+    client.set_nodelay(true)?;
+    Ok((server, client))
+}
+
+// How often a call is made anew that a signal broke off.
+const TRIES: u32 = 1000;
+
+fn connect_again<R: Sockets<Listener = TcpListener, Stream = TcpStream>>(
+    rt: &R,
+    listener: &TcpListener,
+) -> io::Result<TcpStream> {
+    let address = listener.local_addr()?;
+    for _ in 1..TRIES {
+        match TcpStream::connect(rt, address) {
+            Err(error) if error.kind() == ErrorKind::Interrupted => {}
+            answer => return answer,
+        }
+    }
+    TcpStream::connect(rt, address)
+}
+
+fn accept_again(listener: &TcpListener) -> io::Result<TcpStream> {
+    for _ in 1..TRIES {
+        match listener.accept() {
+            Ok((stream, _)) => return Ok(stream),
+            Err(error) if error.kind() == ErrorKind::Interrupted => {}
+            Err(error) => return Err(error),
+        }
+    }
+    Err(io::Error::from(ErrorKind::Interrupted))
+}
+
+fn read_again(stream: &mut TcpStream, into: &mut [u8]) -> io::Result<usize>
+    ensures { ReadsAtMost result into.new }
+{
+    for _ in 1..TRIES {
+        match stream.read(into) {
+            Err(error) if error.kind() == ErrorKind::Interrupted => {}
+            answer => return answer,
+        }
+    }
+    stream.read(into)
+}
+
+fn write_again(stream: &mut TcpStream, piece: &[u8]) -> io::Result<usize>
+    ensures { WritesAtMost result piece.now }
+{
+    for _ in 1..TRIES {
+        match stream.write(piece) {
+            Err(error) if error.kind() == ErrorKind::Interrupted => {}
+            answer => return answer,
+        }
+    }
+    stream.write(piece)
+}

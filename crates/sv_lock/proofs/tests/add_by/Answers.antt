@@ -1,0 +1,7 @@
+use Rattle.std.proofs.Common.{rules, ◌≡◌, arith}
+use Rattle.sv_lock.proofs.tests.add_by.Goals as goal
+
+pub close-requires-clause-ended : goal.close-requires-clause-ended
+close-requires-clause-ended g c = λ n lt.
+    let none_made : c.in-Ok.made.1.made ≡ 0 = search rules in
+    c.crowd-keeper.ensures.ended n (omega arith) lt

@@ -1,0 +1,80 @@
+-- Replies in full stay the same while the history goes on.
+use Rattle.std.proofs.Common.{◌≡◌, ℕ, ◌+◌, ◌≤◌, List, [], ◌∷◌, ◌++◌, map, length, refl, sym, ap, subst, ◌∙◌, append_assoc, append-nil, length-append, get_or, arith}
+use Rattle.std.specs.Prelude.{reverse, All, suc, if◌then◌else◌}
+use Rattle.std.specs.List.{flat_map, AllByRecursion}
+use Rattle.std.proofs.lemmas.Grind.{flat_map-append}
+use Rattle.std.proofs.lemmas.List.{map-append, reverse-append, reverse-reverse}
+use Rattle.std.proofs.lemmas.List.Elements.{All-append, All-head, All-tail, All-nil, All-from_recursion, recursion_from_All}
+use mathlib.Core.List.{IsPrefix}
+use Rattle.sv_frame.specs.Frames.{frame, frames_of}
+use Rattle.sv_wire.specs.Spelling.{reply_bytes}
+use Rattle.sv_journal.specs.declared.entry.Entry.{Entry}
+use Rattle.sv_journal.specs.declared.entry.Logged.{Logged}
+use Rattle.sv_journal.specs.declared.entry.Logged.TheVariants as logged
+use Rattle.sv_journal.specs.History.{Authored, is_relay, client_of, outcomes_of, new_action, accepted, full_reply}
+use Rattle.sv_journal.specs.Text.{NamesAccepted}
+use Rattle.sv_journal.specs.Laws.{FullRepliesStay}
+use Rattle.sv_session.specs.Requests.{reply_payload, reply_frames}
+use Rattle.sv_session.specs.Rounds.{AreNamed}
+
+-- ---- Frames
+
+pub frames_of_both : (seen a b : List Entry) → reply_frames seen (a ++ b) ≡ reply_frames seen a ++ reply_frames seen b
+unfolding reply_frames
+frames_of_both seen a b = ap (flat_map frame) (map-append (reply_payload seen) a b) ∙ flat_map-append frame (map (reply_payload seen) a) (map (reply_payload seen) b)
+
+pub frames_of_one : (seen : List Entry) (e : Entry) → reply_frames seen (e ∷ []) ≡ frame (reply_payload seen e)
+unfolding reply_frames
+frames_of_one seen e = append-nil (frame (reply_payload seen e))
+
+pub frames_of_none : (seen : List Entry) → reply_frames seen [] ≡ []
+unfolding reply_frames
+frames_of_none seen = refl
+
+-- ---- The history goes on
+
+abbrev added : Entry → List Entry → List Authored
+added e h = if is_relay e.reply then new_action (client_of h e.session) (λ k. suc (length (outcomes_of h k))) e.request else []
+
+accepted_more : (later earlier : List Entry) → (more : List Authored) × (accepted (later ++ earlier) ≡ accepted earlier ++ more)
+accepted_more [] earlier = ([], sym (append-nil (accepted earlier)))
+accepted_more (e ∷ later) earlier =
+    let rest = accepted_more later earlier in
+    (rest.0 ++ added e (later ++ earlier), ap (λ (A : List Authored). A ++ added e (later ++ earlier)) rest.1 ∙ append_assoc (accepted earlier) rest.0 (added e (later ++ earlier)))
+
+-- what was accepted so far is accepted still
+accepted_on : (before after : List Entry) → IsPrefix before after → (more : List Authored) × (accepted (reverse after) ≡ accepted (reverse before) ++ more)
+accepted_on before after p =
+    let grown = accepted_more (reverse p.0) (reverse before) in
+    (grown.0, ap (λ (h : List Entry). accepted (reverse h)) (sym p.1) ∙ (ap accepted (reverse-append before p.0) ∙ grown.1))
+
+names_more : (A more : List Authored) (l : Logged) → NamesAccepted (length A) l → NamesAccepted (length (A ++ more)) l
+names_more A more (logged.Relay seq commit head positions) f = λ k d low. let at = f k d low in (at.0, omega (arith, at.1, length-append A more))
+names_more A more (logged.Welcome commit head) f = tt
+names_more A more (logged.Dropped seq chain far) f = tt
+names_more A more (logged.Settled seq pos) f = tt
+names_more A more (logged.Noted commit) f = tt
+names_more A more logged.Idle f = tt
+names_more A more (logged.Refused code detail) f = tt
+names_more A more logged.Bye f = tt
+
+-- what was named so far is named still
+pub named_on : (before after entries : List Entry) → IsPrefix before after → AreNamed before entries → AreNamed after entries
+named_on before after entries p named =
+    let grown = accepted_on before after p in
+    λ k d low. subst (λ (A : List Authored). NamesAccepted (length A) (get_or entries k d).reply) (sym grown.1) (names_more (accepted (reverse before)) grown.0 (get_or entries k d).reply (named k d low))
+
+payload_on : FullRepliesStay → (before after : List Entry) (e : Entry) → IsPrefix before after → NamesAccepted (length (accepted (reverse before))) e.reply → reply_payload after e ≡ reply_payload before e
+payload_on law before after e p named =
+    ap (λ (h : List Entry). reply_bytes (full_reply (accepted (reverse h)) e.reply)) (sym p.1)
+    ∙ (ap (λ (h : List Entry). reply_bytes (full_reply (accepted h) e.reply)) (reverse-append before p.0) ∙ ap reply_bytes (law (reverse p.0) (reverse before) e.reply named))
+
+payloads_on : FullRepliesStay → (before after entries : List Entry) → IsPrefix before after → AllByRecursion (λ (e : Entry). NamesAccepted (length (accepted (reverse before))) e.reply) entries →
+    map (reply_payload after) entries ≡ map (reply_payload before) entries
+payloads_on law before after [] p named = refl
+payloads_on law before after (e ∷ entries) p named = rw (payload_on law before after e p named.0, payloads_on law before after entries p named.1) refl
+
+-- the frames of replies stay the same
+pub frames_on : FullRepliesStay → (before after entries : List Entry) → IsPrefix before after → AreNamed before entries → reply_frames after entries ≡ reply_frames before entries
+unfolding reply_frames
+frames_on law before after entries p named = ap frames_of (payloads_on law before after entries p (recursion_from_All _ entries named))

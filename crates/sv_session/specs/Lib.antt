@@ -1,0 +1,4 @@
+pub mod Requests
+pub mod Serving
+pub mod Rounds
+pub mod Answers

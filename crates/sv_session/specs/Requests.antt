@@ -1,0 +1,73 @@
+-- The requests in the bytes that come, the bytes of the replies, and which replies stop a session.
+use Rattle.std.specs.Prelude.{◌≡◌, ℕ, ◌==◌, ◌++◌, List, [], ◌∷◌, map, reverse, Option, Some, None, Result, Ok, Err, if◌then◌else◌}
+use Rattle.sv_frame.specs.Frames.{frames_of}
+use Rattle.sv_frame.specs.Streams.{Incoming, incoming_items}
+use Rattle.sv_frame.specs.Streams.Incoming.{Payload, TooLong}
+use Rattle.sv_wire.specs.declared.fault.Malformed.{Malformed}
+use Rattle.sv_wire.specs.declared.message.Reply.{Reply}
+use Rattle.sv_wire.specs.declared.message.Request.{Request}
+use Rattle.sv_wire.specs.declared.message.Request.TheVariants as requests
+use Rattle.sv_wire.specs.Messages.{request_at}
+use Rattle.sv_wire.specs.Spelling.{reply_bytes}
+use Rattle.sv_journal.specs.declared.entry.Entry.{Entry}
+use Rattle.sv_journal.specs.declared.entry.Logged.{Logged}
+use Rattle.sv_journal.specs.declared.entry.Logged.TheVariants as logged
+use Rattle.sv_journal.specs.History.{either, accepted, full_reply}
+use Rattle.sv_session.specs.declared.outcome.SessionOut.{SessionOut}
+use Rattle.sv_session.specs.declared.outcome.SessionOut.TheVariants as outs
+
+-- ---- Requests
+
+-- the request that was read; a malformed payload is taken for Bad
+abbrev pub read_or_bad : Result Request Malformed → Request
+read_or_bad (Ok request) = request
+read_or_bad (Err fault) = requests.Bad
+
+-- the request that is taken for what came: for a payload, or for a length over the limit
+abbrev pub request_for : Incoming → Request
+request_for (Payload payload) = read_or_bad (request_at payload)
+request_for (TooLong n) = requests.Bad
+
+-- the requests in a stream, in order
+unfoldable pub requests_in : List ℕ → List Request
+requests_in stream = map request_for (incoming_items stream)
+
+-- the requests of entries
+abbrev pub requests_of : List Entry → List Request
+requests_of entries = map (λ (e : Entry). e.request) entries
+
+-- ---- Replies
+
+-- the bytes of the reply of an entry, in full. `seen` is a history that has it, the earliest entry first
+abbrev pub reply_payload : List Entry → Entry → List ℕ
+reply_payload seen e = reply_bytes (full_reply (accepted (reverse seen)) e.reply)
+
+-- the frames of the replies of these entries, one after the other
+unfoldable pub reply_frames : List Entry → List Entry → List ℕ
+reply_frames seen entries = frames_of (map (reply_payload seen) entries)
+
+-- ---- Stops
+
+-- why a session stops after a refusal
+abbrev pub stop_for_code : ℕ → Option SessionOut
+stop_for_code code = if code == 1 then Some outs.Malformed else if code == 4 then Some outs.Ended else if code == 9 then Some outs.Spent else None
+
+-- why a session stops after a reply, where it does
+abbrev pub stop_of : Logged → Option SessionOut
+stop_of logged.Bye = Some outs.Left
+stop_of (logged.Refused code detail) = stop_for_code code
+stop_of _ = None
+
+-- why a session stops after these entries: the first of their replies that stops it
+abbrev pub stop_after : List Entry → Option SessionOut
+stop_after [] = None
+stop_after (e ∷ entries) = either (stop_of e.reply) (stop_after entries)
+
+-- the last of these entries stops the session for this reason, and none before it does. Only a Leave is answered Bye
+pub record StopsFor (reason : SessionOut) (entries : List Entry) : Type 0 where
+  pub before : List Entry
+  pub last : Entry
+  pub are : entries ≡ before ++ last ∷ []
+  pub on : stop_after before ≡ None
+  pub stop : stop_of last.reply ≡ Some reason
+  pub leave : reason ≡ outs.Left → last.request ≡ requests.Leave

@@ -1,0 +1,70 @@
+//! Posting replies.
+ghost use Rattle.std.specs.Prelude.{◌≡◌, ◌≢◌, ◌++◌, false, IfSome, Some};
+ghost use Rattle.sv_frame.specs.Frames.{frame};
+ghost use Rattle.sv_wire.specs.Grammar.{IsWireReply};
+ghost use Rattle.sv_wire.specs.Spelling.{reply_bytes};
+ghost use Rattle.sv_sequencer.specs.Shared.{logged_of};
+ghost use Rattle.sv_session.specs.Requests.{stop_for_code, stop_of};
+ghost use Rattle.sv_session.specs.Answers.{IsPosted, RoundCause};
+
+use crate::numbers::read_reply;
+use crate::outcome::SessionOut;
+use std::alloc::Global;
+use sv_exchange::Outbox;
+use sv_link::{End, Sent};
+use sv_wire::Reply;
+
+/// Why a session stops after a refusal of this code, if it does.
+fn stop_for_refusal(code: u8) -> Option<SessionOut>
+    ensures stop { result ≡ stop_for_code code }
+    ensures reason { IfSome result (λ out. out ≢ SessionOut.LinkFault) }
+{
+    match code {
+        1 => Some(SessionOut::Malformed),
+        4 => Some(SessionOut::Ended),
+        9 => Some(SessionOut::Spent),
+        _ => None,
+    }
+}
+
+/// Why a session stops after a reply, if it does.
+fn stop_for(reply: &Reply) -> Option<SessionOut>
+    ensures stop { result ≡ stop_of (logged_of reply.now) }
+    ensures reason { IfSome result (λ out. out ≢ SessionOut.LinkFault) }
+{
+    match reply {
+        Reply::Bye => Some(SessionOut::Left),
+        Reply::Refused { code, .. } => stop_for_refusal(*code),
+        _ => None,
+    }
+}
+
+/// Puts a reply into the outbox. After a last reply all that waits is sent.
+pub(crate) fn post<E: End>(
+    alloc: Global,
+    reply: &Reply,
+    outbox: &mut Outbox,
+    end: &mut E,
+) -> Option<SessionOut>
+    requires open { (E.told end.old).closed ≡ false }
+    requires message { IsWireReply reply.now }
+    ensures posts { IsPosted result (stop_of (logged_of reply.now)) (E.told end.old) (outbox.old ++ frame (reply_bytes reply.now)) (E.told end.new) outbox.new }
+    ensures cause { RoundCause (E.faults end.old) (E.faults end.new) result }
+    ensures calm { E.calm end.old → (result ≢ Some SessionOut.LinkFault) × E.calm end.new }
+{
+    let stop = stop_for(reply);
+    read_reply(reply);
+    match outbox.put(alloc, reply, end) {
+        Sent::Whole => {}
+        Sent::Failed => return Some(SessionOut::LinkFault),
+        Sent::Memory => return Some(SessionOut::Memory),
+    }
+    let Some(reason) = stop else {
+        return None;
+    };
+    match outbox.flush(end) {
+        Sent::Whole => Some(reason),
+        Sent::Failed => Some(SessionOut::LinkFault),
+        Sent::Memory => Some(SessionOut::Memory),
+    }
+}

@@ -1,0 +1,152 @@
+//! What each side of an exchange takes, in tables of steps.
+ghost use Rattle.std.specs.Prelude.{◌≡◌, false};
+ghost use Rattle.sv_wire.specs.Laws.{IsRequest, IsReply};
+
+use crate::great::great_relay;
+use std::alloc::{AllocError, Global};
+use std::process::Abort;
+use std::test::Fail;
+use sv_exchange::Exchange;
+use sv_wire::{Reply, Request, encode_reply};
+
+/// A step of one side. Messages are of a kind: 1 is Poll or Idle, 2 is Leave or Bye, and 0 is none.
+#[derive(Clone, Copy)]
+enum Step {
+    Polls,
+    Leaves,
+    SendsIdle,
+    SendsBye,
+    TakesRequest(u8),
+    TakesReply(u8),
+    Closes,
+    Stops,
+    /// Whether the client's side is closed, and the server's.
+    Tells(bool, bool),
+}
+
+fn request_kind(request: Option<Request>) -> u8 {
+    match request {
+        Some(Request::Poll) => 1,
+        Some(Request::Leave) => 2,
+        Some(_) => 3,
+        None => 0,
+    }
+}
+
+fn reply_kind(reply: Option<Reply>) -> u8 {
+    match reply {
+        Some(Reply::Idle) => 1,
+        Some(Reply::Bye) => 2,
+        Some(_) => 3,
+        None => 0,
+    }
+}
+
+fn ask(rt: &impl Abort, exchange: &mut Exchange, request: &Request) -> Result<(), AllocError>
+    requires { IsRequest request.now }
+{
+    assert!(rt; !exchange.is_closed());
+    exchange.send_request(request)
+}
+
+fn answer(rt: &impl Abort, exchange: &mut Exchange, reply: &Reply) -> Result<(), AllocError>
+    requires { IsReply reply.now }
+{
+    assert!(rt; !exchange.is_stopped());
+    exchange.send_reply(reply)
+}
+
+fn play(rt: &impl Abort, exchange: &mut Exchange, step: Step) -> Result<(), AllocError> {
+    match step {
+        Step::Polls => ask(rt, exchange, &Request::Poll)?,
+        Step::Leaves => ask(rt, exchange, &Request::Leave)?,
+        Step::SendsIdle => answer(rt, exchange, &Reply::Idle)?,
+        Step::SendsBye => answer(rt, exchange, &Reply::Bye)?,
+        Step::TakesRequest(kind) => {
+            assert!(rt; request_kind(exchange.next_request()?) == kind);
+        }
+        Step::TakesReply(kind) => {
+            assert!(rt; reply_kind(exchange.next_reply()?) == kind);
+        }
+        Step::Closes => exchange.close(),
+        Step::Stops => exchange.stop(),
+        Step::Tells(closed, stopped) => {
+            assert!(rt; exchange.is_closed() == closed);
+            assert!(rt; exchange.is_stopped() == stopped);
+        }
+    }
+    Ok(())
+}
+
+fn play_all(rt: &impl Abort, alloc: Global, steps: &[Step]) -> Result<(), AllocError> {
+    let mut exchange = Exchange::new(alloc)?;
+    for step in steps {
+        play(rt, &mut exchange, *step)?;
+    }
+    Ok(())
+}
+
+/// Both sides send before either takes; a closed side's messages still come; and what is sent when all was read goes through a new link,
+/// whose closed sides are those of the old one.
+#[test]
+fn messages_wait_in_order(rt: HostRuntime) -> Result<(), Fail> {
+    let several = [
+        Step::Tells(false, false),
+        Step::Polls,
+        Step::Polls,
+        Step::Leaves,
+        Step::SendsIdle,
+        Step::SendsBye,
+        Step::TakesRequest(1),
+        Step::TakesReply(1),
+        Step::TakesRequest(1),
+        Step::Closes,
+        Step::Tells(true, false),
+        Step::TakesRequest(2),
+        Step::TakesRequest(0),
+        Step::TakesReply(2),
+        Step::TakesReply(0),
+        Step::SendsBye,
+        Step::Tells(true, false),
+        Step::Stops,
+        Step::Tells(true, true),
+        Step::TakesReply(2),
+        Step::TakesReply(0),
+    ];
+    play_all(&rt, rt.alloc(), &several)?;
+    let one = [
+        Step::TakesReply(0),
+        Step::Stops,
+        Step::Tells(false, true),
+        Step::Leaves,
+        Step::TakesRequest(2),
+        Step::Tells(false, true),
+    ];
+    play_all(&rt, rt.alloc(), &one)?;
+    Ok(())
+}
+
+/// Takes a reply that is a great relay.
+fn takes_great(rt: &impl Abort, alloc: Global, exchange: &mut Exchange) -> Result<(), Fail> {
+    let taken = exchange.next_reply()?.ok_or("a relay waits")?;
+    let written = encode_reply(alloc, &taken)?;
+    assert!(rt; written.len() == 32_946);
+    assert!(rt; written.starts_with(&[0x89, 0, 0, 0, 1, 0, 0, 0, 0, 2, 16, 0, 0, 4, 0x7f, 0xff]));
+    Ok(())
+}
+
+/// Three of them are more bytes than a reader has room for.
+#[test]
+fn great_relays_wait(rt: HostRuntime) -> Result<(), Fail> {
+    let alloc = rt.alloc();
+    let mut exchange = Exchange::new(alloc)?;
+    let relay = great_relay(alloc)?;
+    answer(&rt, &mut exchange, &relay)?;
+    answer(&rt, &mut exchange, &relay)?;
+    answer(&rt, &mut exchange, &relay)?;
+    for _ in 0..3u8 {
+        takes_great(&rt, alloc, &mut exchange)?;
+    }
+    play(&rt, &mut exchange, Step::TakesReply(0))?;
+    Ok(())
+}

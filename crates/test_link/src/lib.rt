@@ -1,0 +1,11 @@
+//! Tests of links, gates and crews.
+#![tactic(auto)]
+
+#[cfg(test)]
+mod crews;
+#[cfg(test)]
+mod gates;
+#[cfg(test)]
+mod mem_link;
+#[cfg(test)]
+mod nets;

@@ -1,0 +1,11 @@
+//! Tests of a session's loop, over ends in memory and over sockets.
+#![tactic(auto)]
+
+#[cfg(test)]
+mod ends;
+#[cfg(test)]
+mod frames;
+#[cfg(test)]
+mod opening;
+#[cfg(test)]
+mod tests;

@@ -1,0 +1,174 @@
+//! Tables of the bytes of a session.
+ghost use Rattle.std.specs.Prelude.{◌≡◌, ◌<◌, Some, IfOk};
+
+use crate::ends::Script;
+use crate::frames::*;
+use crate::opening::open;
+use std::alloc::Global;
+use std::sync::Wait;
+use std::test::Fail;
+use sv_link::OpenGate;
+use sv_session::{SessionOut, serve_session};
+
+/// The payloads that come, each in a frame of its own where `framed`, the outcome, and the frames of the replies.
+type Row<'a> = (&'a [&'a [u8]], SessionOut, &'a [&'a [u8]]);
+
+fn joined(alloc: Global, pieces: &[&[u8]]) -> Result<Vec<u8>, Fail> {
+    let mut bytes = Vec::new(alloc);
+    for piece in pieces {
+        bytes.extend_from_slice(piece)?;
+    }
+    Ok(bytes)
+}
+
+/// A session over an end that gives these bytes, at most `step` at a time, and whose call of number `failing` fails. It tells the outcome,
+/// and what was sent.
+fn serve<R: Wait>(
+    rt: &R,
+    alloc: Global,
+    coming: &[u8],
+    step: usize,
+    failing: u64,
+) -> Result<(SessionOut, Vec<u8>), Fail>
+    requires { 0 < step }
+{
+    let mut opened = open(alloc)?;
+    let mut end = Script::new(alloc, coming, failing)?;
+    end.move_at_most(step);
+    let out = serve_session(
+        rt,
+        alloc,
+        &opened.lock,
+        &mut opened.first,
+        &mut end,
+        &OpenGate,
+    );
+    if !end.is_closed() {
+        return Err(Fail::new("the end is open"));
+    }
+    Ok((out, end.sent))
+}
+
+fn check<R: Wait>(rt: &R, alloc: Global, rows: &[Row]) -> Result<(), Fail> {
+    for (coming, outcome, replies) in rows {
+        let coming = joined(alloc, coming)?;
+        let replies = joined(alloc, replies)?;
+        for step in [1usize, 3, 100_000] {
+            let (out, sent) = serve(rt, alloc, &coming, step, 0)?;
+            if out != *outcome || sent != replies {
+                return Err(Fail::new(format_args!("{out:?}, and not {outcome:?}")));
+            }
+        }
+    }
+    Ok(())
+}
+
+const ROWS: &[Row] = &[
+    (&[], SessionOut::Closed, &[]),
+    (&[POLL], SessionOut::Closed, &[REFUSED_2]),
+    (&[LEAVE, POLL], SessionOut::Closed, &[REFUSED_2, REFUSED_2]),
+    (&[JOIN_0, POLL], SessionOut::Closed, &[WELCOME, IDLE]),
+    (&[JOIN_0, LEAVE], SessionOut::Left, &[WELCOME, BYE]),
+    (&[JOIN_0, LEAVE, POLL], SessionOut::Left, &[WELCOME, BYE]),
+    (
+        &[JOIN_0, SUBMIT_INC_0, LEAVE],
+        SessionOut::Left,
+        &[WELCOME, RELAY_INC_0, BYE],
+    ),
+    // A frame that the end cuts off.
+    (&[JOIN_0, &[0]], SessionOut::Closed, &[WELCOME]),
+    (&[JOIN_0, &[0, 0, 0, 1]], SessionOut::Closed, &[WELCOME]),
+    (
+        &[POLL, &[0, 1, 0, 0, 4]],
+        SessionOut::Closed,
+        &[REFUSED_2],
+    ),
+    // Lengths over the limit.
+    (&[&[0, 1, 0, 1]], SessionOut::Malformed, &[REFUSED_1]),
+    (
+        &[JOIN_0, &[0xff, 0xff, 0xff, 0xff], POLL],
+        SessionOut::Malformed,
+        &[WELCOME, REFUSED_1],
+    ),
+    // What follows a malformed payload is not looked at.
+    (
+        &[POLL, &[0, 0, 0, 0], POLL],
+        SessionOut::Malformed,
+        &[REFUSED_2, REFUSED_1],
+    ),
+];
+
+#[test]
+fn sessions_are_served(rt: HostRuntime) -> Result<(), Fail> {
+    check(&rt, rt.alloc(), ROWS)
+}
+
+/// Payloads of no request, one of each cause and more.
+const MALFORMED: &[&[u8]] = &[
+    &[],
+    &[0x06],
+    &[0x02],
+    &[0x07, 1, 2],
+    &[0x81, 0, 0, 0, 0, 0, 0],
+    &[0x04, 0x00],
+    &[0x06, 0, 0, 0, 1, 0],
+    &[0x06, 0, 0, 0, 1, 2, 0, 1, 0, 0, 0, 3],
+    &[0x06, 0, 0, 0, 1, 1, 0, 0, 0, 2],
+    &[0x01, 0, 0, 0, 0],
+    &[0x03, 0x00],
+    &[
+        0x06, 0, 0, 0, 1, 1, 0, 0, 0, 0, 0, 0, 0, 0, 0, 0, 0, 0, 1, 0x11, 0x35, 0x35, 0x35, 0x35,
+        0x35, 0x35, 0x35, 0x35,
+    ],
+];
+
+#[test]
+fn malformed_payloads_end_their_session(rt: HostRuntime) -> Result<(), Fail> {
+    for payload in MALFORMED {
+        let length = payload.len() as u8;
+        let rows: [Row; 1] = [(
+            &[POLL, &[0, 0, 0, length], payload],
+            SessionOut::Malformed,
+            &[REFUSED_2, REFUSED_1],
+        )];
+        check(&rt, rt.alloc(), &rows)?;
+    }
+    Ok(())
+}
+
+fn repeated(alloc: Global, frame: &[u8], count: usize) -> Result<Vec<u8>, Fail> {
+    let mut bytes = Vec::new(alloc);
+    for _ in 0..count {
+        bytes.extend_from_slice(frame)?;
+    }
+    Ok(bytes)
+}
+
+#[test]
+fn a_session_makes_so_many_requests(rt: HostRuntime) -> Result<(), Fail> {
+    let polls = repeated(rt.alloc(), POLL, 2_000)?;
+    let mut replies = repeated(rt.alloc(), REFUSED_2, 1_024)?;
+    replies.extend_from_slice(REFUSED_9)?;
+    let (out, sent) = serve(&rt, rt.alloc(), &polls, 100_000, 0)?;
+    assert_eq!(rt; out, SessionOut::Spent);
+    assert!(rt; sent == replies);
+    Ok(())
+}
+
+/// Each call of the end fails in turn.
+#[test]
+fn links_fail(rt: HostRuntime) -> Result<(), Fail> {
+    let coming = joined(rt.alloc(), &[JOIN_0, POLL, LEAVE])?;
+    let whole = joined(rt.alloc(), &[WELCOME, IDLE, BYE])?;
+    for failing in 1..200u64 {
+        let (out, sent) = serve(&rt, rt.alloc(), &coming, 3, failing)?;
+        if out == SessionOut::Left {
+            assert!(rt; sent == whole);
+            assert!(rt; failing > 10);
+            return Ok(());
+        }
+        assert_eq!(rt; out, SessionOut::LinkFault);
+        assert!(rt; whole.starts_with(&sent) && sent.len() < whole.len());
+    }
+    Err(Fail::new("a call fails for ever"))
+}
