@@ -1,13 +1,11 @@
 -- What a payload is decoded as is never an End.
-use Rattle.std.proofs.Common.{◌≡◌, ℕ, Bool, true, false, List, ◌++◌, length, Result, Ok, Err, refl, ◌==◌, cond, subst, sym}
+use Rattle.std.proofs.Common.{◌≡◌, ℕ, Bool, true, false, List, length, Result, Ok, Err, refl, ◌==◌, subst}
 use Rattle.std.specs.Prelude.{IfOk, if◌then◌else◌}
 use Rattle.sv_wire.specs.declared.fault.Stop.{Stop}
-use Rattle.sv_wire.specs.declared.fault.Malformed.{Malformed}
 use Rattle.sv_wire.specs.declared.fault.WireCause.TheVariants.{Rest}
 use Rattle.sv_wire.specs.declared.kinds.RequestKind.{RequestKind}
 use Rattle.sv_wire.specs.declared.kinds.RequestKind.TheVariants as kinds
 use Rattle.sv_wire.specs.declared.message.Request.{Request}
-use Rattle.sv_wire.specs.declared.message.Request.TheVariants as requests
 use Rattle.sv_wire.specs.Steps.{Read, ◌>>=◌, stop, several}
 use Rattle.sv_wire.specs.Fields.{byte_at, number_at, count_at, objects_at, result_at}
 use Rattle.sv_wire.specs.Nodes.{kind_in}

@@ -1,12 +1,11 @@
 -- The End is stepped, after all rounds.
-use Rattle.std.proofs.Common.{◌≡◌, ℕ, List, [], ◌∷◌, ◌++◌, Some, refl, sym, ap, subst, ◌∙◌, append_assoc}
-use Rattle.std.specs.Prelude.{All, true, reverse, unwrap_or}
+use Rattle.std.proofs.Common.{◌≡◌, List, [], ◌∷◌, ◌++◌, sym, ap, subst, ◌∙◌}
+use Rattle.std.specs.Prelude.{true, reverse, unwrap_or}
 use mathlib.Core.List.{IsPrefix}
 use Rattle.sv_lock.proofs.Histories.{prefix_trans}
 use Rattle.sv_wire.specs.declared.message.Reply.{Reply}
 use Rattle.sv_wire.specs.declared.message.Request.TheVariants as requests
 use Rattle.sv_journal.specs.declared.entry.Entry.{Entry}
-use Rattle.sv_journal.specs.declared.entry.Logged.{Logged}
 use Rattle.sv_journal.specs.declared.entry.Logged.TheVariants as logged
 use Rattle.sv_journal.specs.Answer.{Legal}
 use Rattle.sv_journal.specs.Laws.{FullRepliesStay}
@@ -15,9 +14,9 @@ use Rattle.sv_sequencer.specs.Step.{entry_of}
 use Rattle.sv_lock.specs.Histories.{entries_of, GoesOn}
 use Rattle.sv_lock.specs.Passes.{session_number}
 use Rattle.sv_link.specs.Ends.{Told}
-use Rattle.sv_session.specs.Requests.{reply_frames, stop_after}
-use Rattle.sv_session.specs.Serving.{SessionPass, IsSamePass, Explains, ended_by, Served}
-use Rattle.sv_session.specs.Rounds.{Stand, stand, Halts}
+use Rattle.sv_session.specs.Requests.{reply_frames}
+use Rattle.sv_session.specs.Serving.{SessionPass, IsSamePass, Explains, Served}
+use Rattle.sv_session.specs.Rounds.{stand, Halts}
 use Rattle.sv_session.specs.declared.outcome.SessionOut.{SessionOut}
 use Rattle.sv_session.proofs.Replies.{frames_on}
 use Rattle.sv_session.proofs.Joined.{same_twice}

@@ -1,12 +1,11 @@
 -- Rounds one after the other.
-use Rattle.std.proofs.Common.{◌≡◌, ◌≢◌, ℕ, ◌+◌, ◌≤◌, List, [], ◌∷◌, ◌++◌, map, length, Option, Some, None, refl, sym, ap, subst, ◌∙◌, append_assoc, append-nil, length-append, arith}
+use Rattle.std.proofs.Common.{◌≡◌, ℕ, List, [], ◌∷◌, ◌++◌, length, None, refl, sym, ap, subst, ◌∙◌, append_assoc, append-nil}
 use Rattle.std.specs.Prelude.{All, reverse, Bool, false, ◌<◌, unwrap_or, IsSome}
 use Rattle.std.proofs.lemmas.List.{map-append, append_cancel_left}
 use Rattle.std.proofs.lemmas.List.Elements.{All-append, All-nil}
 use mathlib.Core.List.{IsPrefix}
 use Rattle.sv_frame.specs.Frames.{too_long}
 use Rattle.sv_frame.specs.Streams.{split_frames}
-use Rattle.sv_wire.specs.declared.message.Request.{Request}
 use Rattle.sv_journal.specs.declared.entry.Entry.{Entry}
 use Rattle.sv_journal.specs.Sessions.{is_end}
 use Rattle.sv_journal.specs.History.{accepted}
@@ -18,7 +17,7 @@ use Rattle.sv_lock.proofs.Histories.{prefix_self, prefix_trans}
 use Rattle.sv_link.specs.Ends.{Told}
 use Rattle.sv_session.specs.Requests.{requests_in, requests_of, reply_frames, stop_after, StopsFor}
 use Rattle.sv_session.specs.Serving.{SessionPass, IsSamePass, MayServe, BreaksOff, TookAll, Explains, ended_by}
-use Rattle.sv_session.specs.Rounds.{Stand, BeginsWith, AreNamed, StepsOn, Onward, Halts}
+use Rattle.sv_session.specs.Rounds.{Stand, BeginsWith, StepsOn, Onward, Halts}
 use Rattle.sv_session.specs.declared.outcome.SessionOut.{SessionOut}
 use Rattle.sv_session.specs.declared.outcome.SessionOut.TheVariants as outs
 use Rattle.sv_session.proofs.Streams.{begins_with_none, begins_and_more, begins_twice, begins_so, leaves_so}

@@ -1,15 +1,15 @@
 -- Bytes that are sent, and bytes that are not.
-use Rattle.std.proofs.Common.{◌≡◌, ◌≢◌, ◌⊎◌, inl, inr, Bool, true, ℕ, ◌+◌, ◌<◌, ◌≤◌, List, [], ◌∷◌, ◌++◌, length, take, drop, Option, Some, None, refl, sym, ap, subst, ◌∙◌, append_assoc, append-nil, length-append, length-take, arith}
+use Rattle.std.proofs.Common.{◌≡◌, ◌≢◌, inl, inr, Bool, true, ℕ, ◌<◌, ◌≤◌, List, [], ◌++◌, length, take, drop, Option, Some, refl, sym, ap, ◌∙◌, append_assoc, append-nil, length-append, length-take, arith}
 use Rattle.std.proofs.lemmas.List.{take-append-drop, take_all}
 use mathlib.Core.List.{IsPrefix}
 use Rattle.sv_frame.specs.Frames.{frame}
 use Rattle.sv_frame.proofs.Fronts.{length-frame}
-use Rattle.sv_link.specs.Ends.{Told, sending, receiving, Sends}
+use Rattle.sv_link.specs.Ends.{Told, sending, Sends}
 use Rattle.sv_link.specs.declared.ends.Sent.{Sent}
 use Rattle.sv_link.specs.declared.ends.Sent.TheVariants as answers
 use Rattle.sv_exchange.specs.Outgoing.{Posts as Puts}
 use Rattle.sv_session.specs.Serving.{ended_by}
-use Rattle.sv_session.specs.Rounds.{IsBroken, Posts, PostsLast, ReadsOn, ReadsLast}
+use Rattle.sv_session.specs.Rounds.{IsBroken, Posts, PostsLast, ReadsLast}
 use Rattle.sv_session.specs.declared.outcome.SessionOut.{SessionOut}
 use Rattle.sv_session.specs.declared.outcome.SessionOut.TheVariants as outs
 

@@ -1,9 +1,9 @@
 -- What one round makes of a session: a request is answered, or the end is read.
-use Rattle.std.proofs.Common.{◌≡◌, ◌≢◌, ℕ, ◌<◌, ◌≤◌, List, [], ◌∷◌, ◌++◌, map, length, Option, Some, None, Result, Ok, Err, ◌⊎◌, inl, inr, refl, sym, ap, subst, ◌∙◌, append_assoc, append-nil, arith}
-use Rattle.std.specs.Prelude.{All, Bool, true, false, IsSome, IfOk, reverse}
+use Rattle.std.proofs.Common.{◌≡◌, ◌≢◌, ℕ, List, [], ◌∷◌, ◌++◌, length, Option, Some, None, Result, Ok, Err, ◌⊎◌, inl, inr, refl, sym, ap, subst, ◌∙◌, append_assoc, append-nil, arith}
+use Rattle.std.specs.Prelude.{All, Bool, false, IsSome, IfOk, reverse}
 use Rattle.std.specs.List.{AllByRecursion}
 use Rattle.std.proofs.lemmas.List.{reverse-append, reverse-reverse}
-use Rattle.std.proofs.lemmas.List.Elements.{All-append, All-nil, All-from_recursion, recursion_from_All}
+use Rattle.std.proofs.lemmas.List.Elements.{All-nil, All-from_recursion, recursion_from_All}
 use mathlib.Core.List.{IsPrefix}
 use Rattle.sv_frame.specs.Frames.{frame, first_frame, too_long}
 use Rattle.sv_frame.specs.Streams.{split_frames}
@@ -13,8 +13,6 @@ use Rattle.sv_wire.specs.declared.message.Request.TheVariants as requests
 use Rattle.sv_wire.specs.Grammar.{IsWireReply}
 use Rattle.sv_wire.specs.Spelling.{reply_bytes}
 use Rattle.sv_journal.specs.declared.entry.Entry.{Entry}
-use Rattle.sv_journal.specs.declared.entry.Logged.{Logged}
-use Rattle.sv_journal.specs.declared.entry.Logged.TheVariants as logged
 use Rattle.sv_journal.specs.History.{accepted, full_reply}
 use Rattle.sv_journal.specs.Sessions.{is_end}
 use Rattle.sv_journal.specs.Answer.{Rules, Legal, reply_to}
@@ -22,18 +20,18 @@ use Rattle.sv_journal.specs.Laws.{AreWithinLimits, LegalRelaysNameAccepted, Lega
 use Rattle.sv_journal.specs.Text.{NamesAccepted, RelaysNameAccepted}
 use Rattle.sv_sequencer.specs.Shared.{logged_of, IsFullReply, IsWhole}
 use Rattle.sv_sequencer.specs.Step.{entry_of}
-use Rattle.sv_lock.specs.Histories.{entries_of, GoesOn}
+use Rattle.sv_lock.specs.Histories.{GoesOn}
 use Rattle.sv_lock.specs.Passes.{session_number}
-use Rattle.sv_link.specs.Ends.{Told, sending, receiving}
-use Rattle.sv_session.specs.Requests.{requests_in, requests_of, reply_payload, reply_frames, stop_of, stop_after, StopsFor}
-use Rattle.sv_session.specs.Serving.{SessionPass, IsSamePass, BreaksOff, TookAll, Explains, ended_by, Served}
+use Rattle.sv_link.specs.Ends.{Told}
+use Rattle.sv_session.specs.Requests.{requests_in, reply_frames, stop_of, stop_after, StopsFor}
+use Rattle.sv_session.specs.Serving.{SessionPass, IsSamePass, BreaksOff, Explains, ended_by}
 use Rattle.sv_session.specs.Answers.{IsPosted, IsRead, IsRound}
-use Rattle.sv_session.specs.Rounds.{Stand, stand, BeginsWith, Takes, AreNamed, StepsOn, Steps, IsBroken, Posts, PostsLast, ReadsOn, ReadsLast, Onward, Halts}
+use Rattle.sv_session.specs.Rounds.{Stand, stand, BeginsWith, Takes, StepsOn, Steps, IsBroken, Posts, PostsLast, ReadsOn, ReadsLast, Onward, Halts}
 use Rattle.sv_session.specs.declared.outcome.SessionOut.{SessionOut}
 use Rattle.sv_session.specs.declared.outcome.SessionOut.TheVariants as outs
-use Rattle.sv_session.proofs.Streams.{begins_with_none, begins_and_more, none_yet, none_left}
+use Rattle.sv_session.proofs.Streams.{begins_with_none, none_yet, none_left}
 use Rattle.sv_session.proofs.Stops.{left_by_leave, bad_stops, stop_alone, each_reason}
-use Rattle.sv_session.proofs.Replies.{frames_of_one, frames_of_none, frames_on}
+use Rattle.sv_session.proofs.Replies.{frames_of_one, frames_of_none}
 use Rattle.sv_session.proofs.Joined.{steps_none}
 
 -- ---- A step

@@ -1,5 +1,5 @@
 -- Which replies stop a session, and which requests they answer.
-use Rattle.std.proofs.Common.{◌≡◌, ◌≢◌, ◌⊎◌, inl, inr, ℕ, Bool, true, false, ◌||◌, ◌==◌, cond, List, [], ◌∷◌, ◌++◌, map, Option, Some, None, refl, sym, ap, subst, ◌∙◌}
+use Rattle.std.proofs.Common.{◌≡◌, ◌≢◌, ◌⊎◌, inl, inr, ℕ, Bool, true, false, ◌||◌, ◌==◌, List, [], ◌∷◌, ◌++◌, map, Option, Some, None, refl, sym, ap, subst, ◌∙◌}
 use Rattle.std.specs.Prelude.{if◌then◌else◌, nat_le, nat_lt, IsSome}
 use Rattle.std.proofs.lemmas.Bool.{cond_both}
 use Rattle.sv_world.specs.declared.action.Action.{Action}
@@ -14,7 +14,7 @@ use Rattle.sv_journal.specs.declared.entry.Logged.{Logged}
 use Rattle.sv_journal.specs.declared.entry.Logged.TheVariants as logged
 use Rattle.sv_journal.specs.History.{client_of, Outcome, Accepted, Dropped, actions_of, next_seq, commit_of, either}
 use Rattle.sv_journal.specs.Sessions.{is_over, is_live, is_end, asked_in, life_of, kept_outcome}
-use Rattle.sv_journal.specs.Answer.{Rules, is_over_reach, is_bad_done, is_good_interest, orphans, most_requests, reply_to, reply_to_request, reply_to_open, reply_to_member, reply_to_client, reply_to_join, reply_to_submit, reply_to_new, reply_to_checked, reply_to_good, reply_to_done, reply_to_poll}
+use Rattle.sv_journal.specs.Answer.{Rules, is_over_reach, is_bad_done, is_good_interest, orphans, most_requests, reply_to, reply_to_request, reply_to_open, reply_to_member, reply_to_client, reply_to_join, reply_to_submit, reply_to_checked, reply_to_poll}
 use Rattle.sv_session.specs.Requests.{stop_of, stop_after}
 use Rattle.sv_session.specs.declared.outcome.SessionOut.{SessionOut}
 use Rattle.sv_session.specs.declared.outcome.SessionOut.TheVariants as outs

@@ -1,8 +1,8 @@
 -- Which requests a stream begins with.
-use Rattle.std.proofs.Common.{◌≡◌, ℕ, List, [], ◌∷◌, ◌++◌, map, Some, None, Result, Ok, Err, refl, sym, ap, ◌∙◌, append_assoc, append-nil}
+use Rattle.std.proofs.Common.{◌≡◌, ℕ, List, [], ◌∷◌, ◌++◌, map, Some, None, refl, sym, ap, ◌∙◌, append_assoc, append-nil}
 use Rattle.sv_frame.specs.Frames.{first_frame, too_long}
 use Rattle.sv_frame.specs.Streams.{split_frames, with_first, incoming_items, last_item}
-use Rattle.sv_frame.specs.Streams.Incoming.{Payload, TooLong}
+use Rattle.sv_frame.specs.Streams.Incoming.{Payload}
 use Rattle.sv_frame.proofs.Fronts.{first_frame-append, no_frame_if_too_long}
 use Rattle.sv_frame.proofs.Splitting.{split-none, split-some}
 use Rattle.sv_wire.specs.declared.message.Request.{Request}

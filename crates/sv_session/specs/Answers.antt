@@ -2,7 +2,7 @@
 use Rattle.std.specs.Prelude.{◌≡◌, ℕ, ◌<◌, List, [], length, Option, Some, None}
 use Rattle.sv_frame.specs.Frames.{first_frame, too_long}
 use Rattle.sv_link.specs.Ends.{Told}
-use Rattle.sv_session.specs.Serving.{SessionPass, SessionCause}
+use Rattle.sv_session.specs.Serving.{SessionCause}
 use Rattle.sv_session.specs.Rounds.{Stand, Takes, Posts, PostsLast, ReadsOn, ReadsLast, Onward, Halts}
 use Rattle.sv_session.specs.declared.outcome.SessionOut.{SessionOut}
 use Rattle.sv_session.specs.declared.taking.Taken.{Taken}

@@ -4,7 +4,6 @@ use Rattle.sv_frame.specs.Frames.{frames_of}
 use Rattle.sv_frame.specs.Streams.{Incoming, incoming_items}
 use Rattle.sv_frame.specs.Streams.Incoming.{Payload, TooLong}
 use Rattle.sv_wire.specs.declared.fault.Malformed.{Malformed}
-use Rattle.sv_wire.specs.declared.message.Reply.{Reply}
 use Rattle.sv_wire.specs.declared.message.Request.{Request}
 use Rattle.sv_wire.specs.declared.message.Request.TheVariants as requests
 use Rattle.sv_wire.specs.Messages.{request_at}

@@ -1,7 +1,6 @@
 -- Where a session's loop stands, and what one round makes of it: a request is answered, or the end is read.
 use Rattle.std.specs.Prelude.{◌≡◌, ◌≢◌, ◌⊎◌, ℕ, false, List, [], ◌∷◌, ◌++◌, length, reverse, All, Option, Some, None, IsSome}
 use mathlib.Core.List.{IsPrefix}
-use Rattle.sv_frame.specs.Frames.{frame}
 use Rattle.sv_frame.specs.Streams.{split_frames}
 use Rattle.sv_wire.specs.declared.message.Reply.{Reply}
 use Rattle.sv_wire.specs.declared.message.Request.{Request}

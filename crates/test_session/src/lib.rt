@@ -9,3 +9,5 @@ mod frames;
 mod opening;
 #[cfg(test)]
 mod tests;
+#[cfg(test)]
+mod threads;

@@ -1,19 +1,22 @@
 //! Tables of the bytes of a session.
-ghost use Rattle.std.specs.Prelude.{◌≡◌, ◌<◌, Some, IfOk};
+ghost use Rattle.std.specs.Prelude.{◌≡◌, ◌<◌, false};
+ghost use Rattle.sv_session.specs.Serving.{MayServe};
 
 use crate::ends::Script;
 use crate::frames::*;
-use crate::opening::open;
+use crate::opening::opened;
 use std::alloc::Global;
 use std::sync::Wait;
 use std::test::Fail;
 use sv_link::OpenGate;
+use sv_lock::{Pass, SeqLock};
+use sv_sequencer::Sequencer;
 use sv_session::{SessionOut, serve_session};
 
-/// The payloads that come, each in a frame of its own where `framed`, the outcome, and the frames of the replies.
+/// What comes, in pieces, the outcome, and the frames of the replies.
 type Row<'a> = (&'a [&'a [u8]], SessionOut, &'a [&'a [u8]]);
 
-fn joined(alloc: Global, pieces: &[&[u8]]) -> Result<Vec<u8>, Fail> {
+pub fn joined(alloc: Global, pieces: &[&[u8]]) -> Result<Vec<u8>, Fail> {
     let mut bytes = Vec::new(alloc);
     for piece in pieces {
         bytes.extend_from_slice(piece)?;
@@ -23,6 +26,24 @@ fn joined(alloc: Global, pieces: &[&[u8]]) -> Result<Vec<u8>, Fail> {
 
 /// A session over an end that gives these bytes, at most `step` at a time, and whose call of number `failing` fails. It tells the outcome,
 /// and what was sent.
+fn serve_by<R: Wait>(
+    rt: &R,
+    alloc: Global,
+    lock: &SeqLock<Sequencer>,
+    pass: &mut Pass<Sequencer>,
+    mut end: Script,
+) -> Result<(SessionOut, Vec<u8>), Fail>
+    requires may { MayServe lock.now pass.old }
+    requires open { end.closed ≡ false }
+    ensures same { (pass.new.lock ≡ pass.old.lock) × (pass.new.session ≡ pass.old.session) }
+{
+    let out = serve_session(rt, alloc, lock, pass, &mut end, &OpenGate);
+    if !end.is_closed() {
+        return Err(Fail::new("the end is open"));
+    }
+    Ok((out, end.sent))
+}
+
 fn serve<R: Wait>(
     rt: &R,
     alloc: Global,
@@ -32,21 +53,18 @@ fn serve<R: Wait>(
 ) -> Result<(SessionOut, Vec<u8>), Fail>
     requires { 0 < step }
 {
-    let mut opened = open(alloc)?;
     let mut end = Script::new(alloc, coming, failing)?;
     end.move_at_most(step);
-    let out = serve_session(
-        rt,
-        alloc,
-        &opened.lock,
-        &mut opened.first,
-        &mut end,
-        &OpenGate,
-    );
-    if !end.is_closed() {
-        return Err(Fail::new("the end is open"));
-    }
-    Ok((out, end.sent))
+    let sequencer = opened(alloc)?;
+    let (lock, mut keeper) = match SeqLock::new(alloc, sequencer, 1) {
+        Ok(made) => made,
+        Err((_, error)) => return Err(Fail::from(error)),
+    };
+    let mut pass = lock.split(&mut keeper);
+    let served = serve_by(rt, alloc, &lock, &mut pass, end);
+    lock.join(&mut keeper, pass);
+    let _sequencer = lock.close(keeper);
+    served
 }
 
 fn check<R: Wait>(rt: &R, alloc: Global, rows: &[Row]) -> Result<(), Fail> {
@@ -78,11 +96,7 @@ const ROWS: &[Row] = &[
     // A frame that the end cuts off.
     (&[JOIN_0, &[0]], SessionOut::Closed, &[WELCOME]),
     (&[JOIN_0, &[0, 0, 0, 1]], SessionOut::Closed, &[WELCOME]),
-    (
-        &[POLL, &[0, 1, 0, 0, 4]],
-        SessionOut::Closed,
-        &[REFUSED_2],
-    ),
+    (&[POLL, &[0, 1, 0, 0, 4]], SessionOut::Closed, &[REFUSED_2]),
     // Lengths over the limit.
     (&[&[0, 1, 0, 1]], SessionOut::Malformed, &[REFUSED_1]),
     (

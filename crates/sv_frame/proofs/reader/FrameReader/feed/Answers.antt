@@ -1,4 +1,4 @@
-use Rattle.std.proofs.Common.{◌≡◌, List, ℕ, ◌+◌, ◌-◌, ◌≤◌, ◌++◌, take, drop, length, vec_len, sym, ap, subst, ◌∙◌, arith, length-take, length-drop, length-take-le}
+use Rattle.std.proofs.Common.{◌≡◌, List, ℕ, ◌+◌, ◌-◌, ◌++◌, take, drop, length, ap, ◌∙◌, arith}
 use Rattle.std.specs.Vec.{with_items}
 use Rattle.std.proofs.Math.Seq.{take-length}
 use Rattle.std.proofs.lemmas.List.{with_items_is}

@@ -1,4 +1,4 @@
-use Rattle.std.proofs.Common.{◌≡◌, List, ℕ, ◌+◌, ◌-◌, ◌≤◌, ◌++◌, take, drop, length, vec_len, sym, ap, subst, ◌∙◌, arith, length-take-le}
+use Rattle.std.proofs.Common.{◌≡◌, List, ℕ, ◌+◌, ◌-◌, ◌++◌, take, drop, length, ap, ◌∙◌, arith, length-take-le}
 use Rattle.std.specs.Vec.{with_items}
 use Rattle.std.proofs.lemmas.List.{with_items_is}
 use Rattle.sv_frame.proofs.Room.{part, Written, rest-written, rest-kept, length-fed, tail-size}

@@ -1,4 +1,4 @@
-use Rattle.std.proofs.Common.{◌≡◌, refl, ap, ◌∙◌}
+use Rattle.std.proofs.Common.{refl, ap, ◌∙◌}
 use Rattle.sv_link.specs.Ends.{Told}
 use Rattle.sv_session.specs.Rounds.{stand, Onward}
 use Rattle.sv_session.proofs.Joined.{may_go_on, onward_self, onward_twice, halts_later}
