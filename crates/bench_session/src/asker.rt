@@ -23,6 +23,11 @@ fn send<E: End>(end: &mut E, out: &mut Vec<u8>) -> anyhow::Result<()>
     Ok(())
 }
 
+fn nanos_since<R: Clock>(rt: &R, start: Instant) -> anyhow::Result<u64> {
+    let nanos = start.elapsed(rt)?.as_nanos();
+    Ok(u64::try_from(nanos).unwrap_or(u64::MAX))
+}
+
 /// Reads on until so many frames came.
 fn await_frames<R: Wait, E: End>(
     rt: &R,
@@ -79,14 +84,14 @@ pub(crate) fn ask<R: Wait + Clock, E: End>(
         let written = Instant::now(rt)?;
         send(end, &mut out)?;
         await_frames(rt, end, &mut reader, together)?;
-        measured.submits.push(written.elapsed(rt)?.as_nanos() as u64)?;
-        put_done(first, together as u8, &mut out)?;
+        measured.submits.push(nanos_since(rt, written)?)?;
+        put_done(first, u8::try_from(together).unwrap_or(1), &mut out)?;
         let written = Instant::now(rt)?;
         send(end, &mut out)?;
         await_frames(rt, end, &mut reader, 1)?;
-        measured.dones.push(written.elapsed(rt)?.as_nanos() as u64)?;
+        measured.dones.push(nanos_since(rt, written)?)?;
     }
-    measured.count(rounds, together, start.elapsed(rt)?.as_nanos() as u64);
+    measured.count(rounds, together, nanos_since(rt, start)?);
     put_leave(&mut out)?;
     send(end, &mut out)?;
     await_frames(rt, end, &mut reader, 1)
