@@ -1,0 +1,29 @@
+#!/bin/sh
+# Times one session's loop over links in memory and over loopback TCP, beside the plain Rust peer and a bare ping-pong of the same sizes,
+# and prints a table. README.md says what is measured.
+#
+#   PEER=FOLDER bench/session.sh [ROUNDS [REQUESTS]]
+set -eu
+here=$(cd "$(dirname "$0")" && pwd)
+top=$(dirname "$here")
+crate=$top/crates/bench_session
+peer=${PEER:-$top/../shared/peer}
+rounds=${1:-7}
+requests=${2:-4000}
+work=$(mktemp -d)
+trap 'rm -rf "$work"' EXIT
+cp -r "$peer" "$work/peer"
+(cd "$work/peer" && cargo build --release --offline >"$work/log" 2>&1)
+(cd "$crate" && rt run >"$work/log" 2>&1)
+for _ in $(seq "$rounds"); do
+    for kind in pipe tcp; do
+        for together in 1 16; do
+            echo "ours $(timeout 120 "$crate/out/bench_session" "$kind" "$requests" "$together")"
+        done
+    done
+    # A Submit's frame has 39 bytes, and that of its Relay 56.
+    timeout 120 "$work/peer/target/release/peer" bench pingpong "$requests" 39 56 | sed 's/^/pingpong /'
+    timeout 120 "$work/peer/target/release/peer" bench latency 1 "$((requests / 2))" | sed 's/^/peer-pipe /'
+    timeout 120 "$work/peer/target/release/peer" bench latency 1 "$((requests / 2))" --tcp | sed 's/^/peer-tcp /'
+done >"$work/figures"
+python3 "$here/session.py" "$work/figures"
