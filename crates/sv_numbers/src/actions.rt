@@ -89,7 +89,7 @@ fn read_object(object: ObjectId)
     let _object = object;
 }
 
-fn read_objects(objects: &[ObjectId])
+pub(crate) fn read_objects(objects: &[ObjectId])
     ensures { All ObjectFits objects.now }
 {
     for object in objects {

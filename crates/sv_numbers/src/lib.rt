@@ -5,9 +5,11 @@
 #![tactic(auto)]
 
 mod actions;
+mod requests;
 mod scenarios;
 #[cfg(test)]
 mod tests;
 
 pub use actions::read_action;
+pub use requests::read_request;
 pub use scenarios::read_scenario_numbers;

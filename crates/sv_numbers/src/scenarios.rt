@@ -22,7 +22,7 @@ fn read_value(value: &Value)
     read_numbers(value.as_slice());
 }
 
-fn read_values(values: &[Value])
+pub(crate) fn read_values(values: &[Value])
     ensures { All ValueFits values.now }
 {
     for value in values {

@@ -1,0 +1,123 @@
+-- Events that a player does, and what they tell.
+use Rattle.std.proofs.Common.{◌≡◌, ℕ, suc, ◌<◌, Bool, true, false, List, [], ◌∷◌, ◌++◌, length, map, ℤ, Option, Some, None, refl, sym, ap, ap₂, subst, ◌∙◌}
+use Rattle.std.specs.Prelude.{All, if◌then◌else◌}
+use Rattle.std.specs.Option.{IfSome}
+use Rattle.std.specs.List.{AllByRecursion, flat_map}
+use Rattle.std.proofs.lemmas.List.{map-append}
+use Rattle.std.proofs.lemmas.List.Elements.{All-nil, All-cons, All-append, recursion_from_All}
+use Rattle.sv_world.specs.declared.world.ObjectId.{ObjectId}
+use Rattle.sv_world.specs.declared.world.Shape.{Shape}
+use Rattle.sv_pending.specs.Shapes.{IsLong}
+use Rattle.sv_watch.specs.declared.change.Change.{Change}
+use Rattle.sv_watch.specs.Told.{change_line, HasLength, IsChangeIn}
+use Rattle.sv_client.specs.declared.trace.Event.{Event}
+use Rattle.sv_client.specs.Traces.{view_of}
+use Rattle.sv_client.specs.Taking.{Identity}
+use Rattle.sv_client.specs.Proper.{IsGoodIdentity, AreProper, MayFollow}
+use Rattle.sv_client.specs.declared.trace.Mark.{Mark}
+use Rattle.sv_client.specs.declared.trace.Mark.TheVariants as marks
+use Rattle.sv_client.specs.Seen.{ClientView, event_of}
+use Rattle.sv_scenario.specs.declared.scenario.Step.{Step}
+use Rattle.sv_script.specs.Telling.{same_view, change_by, change_of, changes_of}
+use Rattle.sv_script.specs.Laws.{may_tell}
+use Rattle.sv_script.proofs.Told.{others-quiet}
+use Rattle.sv_player.specs.declared.playing.Player.{Player}
+use Rattle.sv_player.specs.Seen.{seen_of, seen_by, change_since, changes_since}
+use Rattle.sv_player.specs.Going.{AreTold, IsGoing, Did}
+use Rattle.sv_player.specs.declared.telling.Seen.{Seen}
+use Rattle.sv_player.proofs.Sizes.{views_long}
+
+-- ---- The changes of an event
+
+one_change : (c : ClientView) (n : ℕ) (t : List Event) (e : Event) (x : ObjectId) → c.events ≡ e ∷ t → n ≡ length (e ∷ t) → change_since c n (seen_of t x) ≡ change_of c.who.client t e x
+one_change c n t e x es count = rw (es, count) refl
+
+pub changes_are : (c : ClientView) (n : ℕ) (t : List Event) (e : Event) (xs : List ObjectId) → c.events ≡ e ∷ t → n ≡ length (e ∷ t) →
+    changes_since c n (seen_by t xs) ≡ flat_map (change_of c.who.client t e) xs
+changes_are c n t e [] es count = refl
+changes_are c n t e (x ∷ xs) es count = ap₂ (λ (a b : List Change). a ++ b) (one_change c n t e x es count) (changes_are c n t e xs es count)
+
+has_length : (n : ℕ) (o : Option (List ℤ)) → IfSome o (IsLong n) → HasLength n o
+has_length n None h = tt
+has_length n (Some v) h = h
+
+change_in : (who : Identity) (t : List Event) (e : Event) (x : ObjectId) → AreProper who 0 t → AreProper who 0 (e ∷ t) → x.0 < who.shape.objects → All (IsChangeIn who.shape) (change_of who.client t e x)
+change_in who t e x p q l = go (same_view (view_of t x.0) (view_of (e ∷ t) x.0))
+  where
+    go : (b : Bool) → All (IsChangeIn who.shape) (if b then [] else change_by who.client t e x ∷ [])
+    go true = All-nil (IsChangeIn who.shape)
+    go false =
+        All-cons (IsChangeIn who.shape) (change_by who.client t e x) []
+        (record { object = l; old = has_length who.shape.attrs (view_of t x.0) (views_long who 0 t p x.0); new = has_length who.shape.attrs (view_of (e ∷ t) x.0) (views_long who 0 (e ∷ t) q x.0) })
+        (All-nil (IsChangeIn who.shape))
+
+changes_from : (who : Identity) (t : List Event) (e : Event) (xs : List ObjectId) → AreProper who 0 t → AreProper who 0 (e ∷ t) → AllByRecursion (λ (o : ObjectId). o.0 < who.shape.objects) xs →
+    All (IsChangeIn who.shape) (flat_map (change_of who.client t e) xs)
+changes_from who t e [] p q all = All-nil (IsChangeIn who.shape)
+changes_from who t e (x ∷ xs) p q all =
+    All-append (IsChangeIn who.shape) (change_of who.client t e x) (flat_map (change_of who.client t e) xs) (change_in who t e x p q all.0) (changes_from who t e xs p q all.1)
+
+-- The changes of an event of a proper trace are those of its world.
+pub changes_in : (who : Identity) (t : List Event) (e : Event) → IsGoodIdentity who → AreProper who 0 t → AreProper who 0 (e ∷ t) → All (IsChangeIn who.shape) (flat_map (change_of who.client t e) who.interest)
+changes_in who t e good p q = changes_from who t e who.interest p q (recursion_from_All (λ (o : ObjectId). o.0 < who.shape.objects) who.interest good.objects)
+
+-- ---- Events that were done
+
+pub quiet_told : (who : Identity) (t : List Event) (e : Event) (old new : List (List ℕ)) → may_tell e ≡ false → new ≡ old → AreTold who t old → AreTold who (e ∷ t) new
+quiet_told who t e old new quiet same told =
+    same ∙ told ∙ ap (λ (cs : List Change). map change_line cs) (sym (others-quiet who.client who.interest e t quiet))
+
+pub changes_told : (who : Identity) (t : List Event) (e : Event) (old new : List (List ℕ)) → new ≡ old ++ map change_line (flat_map (change_of who.client t e) who.interest) → AreTold who t old → AreTold who (e ∷ t) new
+changes_told who t e old new more told =
+    let changes = flat_map (change_of who.client t e) who.interest in
+    more ∙ ap (λ (ls : List (List ℕ)). ls ++ map change_line changes) told ∙ sym (map-append change_line (changes_of who.client who.interest t) changes)
+
+-- An event that changes no view.
+pub did_quiet : (e : Event) (left : List Step) (p q : Player) → q.client.who ≡ p.client.who → q.client.events ≡ e ∷ p.client.events → q.script.now ≡ p.script.now → q.first ≡ p.first → q.left.now ≡ left →
+    q.lines.items ≡ p.lines.items → q.count ≡ suc p.count → may_tell e ≡ false → Did e left p q
+did_quiet e left p q who es script first l lines count quiet =
+    record {
+      who = who;
+      events = es;
+      script = script;
+      first = first;
+      left_is = l;
+      told = quiet_told p.client.who p.client.events e p.lines.items q.lines.items quiet lines;
+      count = count;
+    }
+
+-- A mark changes no view.
+pub mark_quiet : (mark : Mark) → may_tell (event_of mark) ≡ false
+mark_quiet marks.Cut = refl
+mark_quiet marks.Quit = refl
+mark_quiet (marks.Show objects) = refl
+
+-- ---- Events that change views
+
+module _ (p : Player) (going : IsGoing p) (c : ClientView) (e : Event) (seen : List Seen) (who : c.who ≡ p.client.who) (es : c.events ≡ e ∷ p.client.events)
+    (saw : seen ≡ seen_by p.client.events p.client.who.interest) where
+  same_changes : changes_since c (suc p.count) seen ≡ flat_map (change_of p.client.who.client p.client.events e) p.client.who.interest
+  same_changes =
+      ap (changes_since c (suc p.count)) saw
+      ∙ changes_are c (suc p.count) p.client.events e p.client.who.interest es (ap suc going.count)
+      ∙ ap (λ (w : Identity). flat_map (change_of w.client p.client.events e) p.client.who.interest) who
+
+  -- The changes are those of the watch's worlds.
+  pub event_changes : (shape : Shape) → shape ≡ p.client.who.shape → MayFollow p.client.who 0 p.client.events e → All (IsChangeIn shape) (changes_since c (suc p.count) seen)
+  event_changes shape is may =
+      subst (λ (s : Shape). All (IsChangeIn s) (changes_since c (suc p.count) seen)) (sym is)
+      (subst (All (IsChangeIn p.client.who.shape)) (sym same_changes) (changes_in p.client.who p.client.events e going.may.identity going.proper (may, going.proper)))
+
+  -- They were told.
+  pub did_told : (left : List Step) (q : Player) → q.client ≡ c → q.script.now ≡ p.script.now → q.first ≡ p.first → q.left.now ≡ left →
+      q.lines.items ≡ p.lines.items ++ map change_line (changes_since c (suc p.count) seen) → q.count ≡ suc p.count → Did e left p q
+  did_told left q client script first l lines count =
+      record {
+        who = ap (λ (v : ClientView). v.who) client ∙ who;
+        events = ap (λ (v : ClientView). v.events) client ∙ es;
+        script = script;
+        first = first;
+        left_is = l;
+        told = changes_told p.client.who p.client.events e p.lines.items q.lines.items (lines ∙ ap (λ (cs : List Change). p.lines.items ++ map change_line cs) same_changes);
+        count = count;
+      }

@@ -1,0 +1,240 @@
+-- A player's events keep what is true of it.
+use Rattle.std.proofs.Common.{◌≡◌, ◌⊎◌, inl, inr, ℕ, suc, ◌+◌, ◌<◌, ◌≤◌, true, false, List, [], ◌∷◌, ◌++◌, length, Some, None, refl, sym, ap, subst, ◌∙◌, arith, true≢false}
+use Rattle.std.specs.List.{AllByRecursion}
+use Rattle.std.proofs.lemmas.Option.{none-some, same_Some}
+use Rattle.sv_world.specs.declared.action.Action.{Action}
+use Rattle.sv_world.proofs.Good.{none_of_good}
+use Rattle.sv_world.specs.declared.world.Shape.{Shape}
+use Rattle.sv_wire.specs.declared.message.Request.{Request}
+use Rattle.sv_wire.specs.declared.message.Request.TheVariants as requests
+use Rattle.sv_wire.specs.declared.message.Reply.{Reply}
+use Rattle.sv_wire.specs.declared.message.Reply.TheVariants as replies
+use Rattle.sv_client.specs.declared.trace.Event.{Event}
+use Rattle.sv_client.specs.declared.trace.Event.TheVariants as events
+use Rattle.sv_client.specs.Traces.{joins, makes, pending_of}
+use Rattle.sv_client.specs.Taking.{Identity, outstanding, allows, first_fault_of_reply}
+use Rattle.sv_client.specs.Proper.{AreProper, MayFollow, MayMake, in_session}
+use Rattle.sv_client.proofs.Outstanding.{outstanding_left}
+use Rattle.sv_scenario.specs.declared.scenario.Step.{Step}
+use Rattle.sv_scenario.specs.declared.scenario.Step.TheVariants as steps
+use Rattle.sv_scenario.specs.Limits.{IsGoodStep}
+use Rattle.sv_scenario.specs.Sessions.{cuts_by, cuts_in}
+use Rattle.sv_script.specs.Following.{DoesStep, MayCome, FollowsTo, must_join, is_finished, after_syncs, passed_syncs, unsynced, event_of}
+use Rattle.sv_script.proofs.Counts.{events-few}
+use Rattle.sv_player.specs.declared.playing.Player.{Player}
+use Rattle.sv_player.specs.Going.{one_more_if, IsBudget, IsGoing, Did, IsHere, IsReady}
+use Rattle.sv_player.specs.Carried.{is_bye}
+use Rattle.sv_player.proofs.Well.{is_well}
+
+-- ---- The steps that are left
+
+good_synced : (shape : Shape) (ss : List Step) → AllByRecursion (IsGoodStep shape) ss → AllByRecursion (IsGoodStep shape) (after_syncs ss)
+good_synced shape [] all = tt
+good_synced shape (steps.Act action ∷ ss) all = all
+good_synced shape (steps.Poll ∷ ss) all = all
+good_synced shape (steps.Sync ∷ ss) all = good_synced shape ss all.1
+good_synced shape (steps.Show objects ∷ ss) all = all
+good_synced shape (steps.Cut ∷ ss) all = all
+good_synced shape (steps.Quit ∷ ss) all = all
+
+good_passed : (shape : Shape) (os : List Request) (ss : List Step) → AllByRecursion (IsGoodStep shape) ss → AllByRecursion (IsGoodStep shape) (passed_syncs os ss)
+good_passed shape [] ss all = good_synced shape ss all
+good_passed shape (o ∷ os) ss all = all
+
+-- The next step, and those after it, are good.
+pub good_next : (who : Identity) (t : List Event) (left : List Step) (step : Step) (rest : List Step) → AllByRecursion (IsGoodStep who.shape) left → unsynced who t left ≡ step ∷ rest →
+    IsGoodStep who.shape step × AllByRecursion (IsGoodStep who.shape) rest
+good_next who t left step rest all e = subst (AllByRecursion (IsGoodStep who.shape)) e (good_passed who.shape (outstanding who t) left all)
+
+fewer_synced : (ss : List Step) → length (after_syncs ss) ≤ length ss
+fewer_synced [] = omega arith
+fewer_synced (steps.Act action ∷ ss) = omega arith
+fewer_synced (steps.Poll ∷ ss) = omega arith
+fewer_synced (steps.Sync ∷ ss) = omega (arith, fewer_synced ss)
+fewer_synced (steps.Show objects ∷ ss) = omega arith
+fewer_synced (steps.Cut ∷ ss) = omega arith
+fewer_synced (steps.Quit ∷ ss) = omega arith
+
+fewer_passed : (os : List Request) (ss : List Step) → length (passed_syncs os ss) ≤ length ss
+fewer_passed [] ss = fewer_synced ss
+fewer_passed (o ∷ os) ss = omega arith
+
+cuts_synced : (ss : List Step) → cuts_in (after_syncs ss) ≡ cuts_in ss
+cuts_synced [] = refl
+cuts_synced (steps.Act action ∷ ss) = refl
+cuts_synced (steps.Poll ∷ ss) = refl
+cuts_synced (steps.Sync ∷ ss) = omega (arith, cuts_synced ss)
+cuts_synced (steps.Show objects ∷ ss) = refl
+cuts_synced (steps.Cut ∷ ss) = refl
+cuts_synced (steps.Quit ∷ ss) = refl
+
+cuts_passed : (os : List Request) (ss : List Step) → cuts_in (passed_syncs os ss) ≡ cuts_in ss
+cuts_passed [] ss = cuts_synced ss
+cuts_passed (o ∷ os) ss = refl
+
+step_shorter : (who : Identity) (t : List Event) (before : List Step) (e : Event) (left : List Step) → DoesStep who t before e left → suc (length left) ≤ length before
+step_shorter who t before e left d = omega (arith, fewer_passed (outstanding who t) before, ap (λ (ss : List Step). length ss) d.next)
+
+step_cuts : (who : Identity) (t : List Event) (before : List Step) (e : Event) (left : List Step) → (d : DoesStep who t before e left) → cuts_by d.step + cuts_in left ≡ cuts_in before
+step_cuts who t before e left d = sym (ap cuts_in d.next) ∙ cuts_passed (outstanding who t) before
+
+is_cut_step : (step : Step) → event_of step ≡ Some events.Cut → cuts_by step ≡ 1
+is_cut_step (steps.Act action) e = (let g : events.Make action ≡ events.Cut = same_Some _ _ e in cc)
+is_cut_step steps.Poll e = (let g : events.Poll ≡ events.Cut = same_Some _ _ e in cc)
+is_cut_step steps.Sync e = absurd (none-some _ e)
+is_cut_step (steps.Show objects) e = (let g : events.Show objects ≡ events.Cut = same_Some _ _ e in cc)
+is_cut_step steps.Cut e = refl
+is_cut_step steps.Quit e = (let g : events.Quit ≡ events.Cut = same_Some _ _ e in cc)
+
+step_good : (who : Identity) (t : List Event) (before : List Step) (e : Event) (left : List Step) → DoesStep who t before e left → AllByRecursion (IsGoodStep who.shape) before →
+    AllByRecursion (IsGoodStep who.shape) left
+step_good who t before e left d all = (good_next who t before d.step left all d.next).1
+
+-- An event that does a step, and is no Cut.
+by_step : (who : Identity) (script : List Step) (t : List Event) (before : List Step) (e : Event) (left : List Step) → DoesStep who t before e left → IsBudget who script t before →
+    makes (e ∷ t) ≤ suc (makes t) → joins (e ∷ t) ≡ joins t → must_join (e ∷ t) ≡ false → IsBudget who script (e ∷ t) left
+by_step who script t before e left d b m j n =
+    record {
+      good = step_good who t before e left d b.good;
+      few = omega (arith, b.few, m, step_shorter who t before e left d);
+      sessions = omega (arith, b.sessions, j, step_cuts who t before e left d, ap one_more_if n, ap one_more_if d.joined);
+    }
+
+pub budget_on : (who : Identity) (script : List Step) (t : List Event) (before : List Step) (e : Event) (left : List Step) → MayCome who t before e left → IsBudget who script t before →
+    IsBudget who script (e ∷ t) left
+budget_on who script t before (events.Join s) left c b =
+    record {
+      good = subst (AllByRecursion (IsGoodStep who.shape)) (sym c.same) b.good;
+      few = omega (arith, b.few, ap (λ (ss : List Step). length ss) c.same);
+      sessions = omega (arith, b.sessions, ap cuts_in c.same, ap one_more_if c.needed);
+    }
+budget_on who script t before (events.Got s reply) left c b =
+    record {
+      good = subst (AllByRecursion (IsGoodStep who.shape)) (sym c.same) b.good;
+      few = omega (arith, b.few, ap (λ (ss : List Step). length ss) c.same);
+      sessions = omega (arith, b.sessions, ap cuts_in c.same, ap one_more_if c.joined);
+    }
+budget_on who script t before events.Leave left c b =
+    record {
+      good = subst (AllByRecursion (IsGoodStep who.shape)) (sym c.same) tt;
+      few = omega (arith, b.few, ap (λ (ss : List Step). length ss) c.same);
+      sessions = omega (arith, b.sessions, ap cuts_in c.same, ap one_more_if c.joined);
+    }
+budget_on who script t before (events.Make action) left c b = by_step who script t before (events.Make action) left c b (omega arith) refl refl
+budget_on who script t before events.Poll left c b = by_step who script t before events.Poll left c b (omega arith) refl refl
+budget_on who script t before (events.Show objects) left c b = by_step who script t before (events.Show objects) left c b (omega arith) refl refl
+budget_on who script t before events.Quit left c b = by_step who script t before events.Quit left c b (omega arith) refl refl
+budget_on who script t before events.Cut left c b =
+    record {
+      good = step_good who t before events.Cut left c b.good;
+      few = omega (arith, b.few, step_shorter who t before events.Cut left c);
+      sessions = omega (arith, b.sessions, step_cuts who t before events.Cut left c, is_cut_step c.step c.event, ap one_more_if c.joined);
+    }
+
+-- ---- Going on
+
+pub few_events : (p : Player) → IsGoing p → length p.client.events ≤ 2048
+few_events p g = events-few p.client.who 0 p.script.now p.client.events p.left.now g.may.plan.few_steps g.proper g.follows
+
+pub few_counted : (p : Player) → IsGoing p → p.count ≤ 2048
+few_counted p g = omega (arith, few_events p g, g.count)
+
+pub follows_as : (who w : Identity) (script s : List Step) (t u : List Event) (left l : List Step) → w ≡ who → s ≡ script → u ≡ t → l ≡ left → FollowsTo who script t left → FollowsTo w s u l
+follows_as who w script s t u left l a b c d f =
+    subst (λ (x : Identity). FollowsTo x s u l) (sym a) (subst (λ (x : List Step). FollowsTo who x u l) (sym b) (subst (λ (x : List Event). FollowsTo who script x l) (sym c) (subst (λ (x : List Step). FollowsTo who script t x) (sym d) f)))
+
+pub going_on : (p q : Player) (e : Event) (left : List Step) → IsGoing p → MayFollow p.client.who 0 p.client.events e → MayCome p.client.who p.client.events p.left.now e left → Did e left p q → IsGoing q
+going_on p q e left g may come d =
+    record {
+      may = rw (d.who, d.script) g.may;
+      first = rw d.first g.first;
+      proper = rw (d.who, d.events) (may, g.proper);
+      follows = follows_as p.client.who q.client.who p.script.now q.script.now (e ∷ p.client.events) q.client.events left q.left.now d.who d.script d.events d.left_is (p.left.now, (g.follows, come));
+      budget = rw (d.who, d.events, d.script, d.left_is) (budget_on p.client.who p.script.now p.client.events p.left.now e left come g.budget);
+      told = rw (d.who, d.events) (d.told g.told);
+      count = rw d.events (d.count ∙ ap suc g.count);
+    }
+
+-- ---- A player that is ready
+
+unsynced_none : (os : List Request) → passed_syncs os [] ≡ []
+unsynced_none [] = refl
+unsynced_none (o ∷ os) = refl
+
+-- With a step to do, it did not leave.
+pub still_within : (who : Identity) (t : List Event) (left : List Step) (step : Step) (rest : List Step) → IsReady who t left → unsynced who t left ≡ step ∷ rest → in_session t ≡ true
+still_within who t left step rest r e = go r.here_is.within
+  where
+    go : (in_session t ≡ true) ⊎ ((outstanding who t ≡ requests.Leave ∷ []) × (left ≡ [])) → in_session t ≡ true
+    go (inl y) = y
+    go (inr n) = (let none : step ∷ rest ≡ [] = sym e ∙ ap (passed_syncs (outstanding who t)) n.1 ∙ unsynced_none (outstanding who t) in cc)
+
+pub does_step : (who : Identity) (t : List Event) (left : List Step) (step : Step) (rest : List Step) (e : Event) → IsReady who t left → unsynced who t left ≡ step ∷ rest → event_of step ≡ Some e →
+    DoesStep who t left e rest
+does_step who t left step rest e r n v =
+    record { joined = r.here_is.joined; welcomed = r.welcomed; here = r.here_is.here; step = step; next = n; event = v }
+
+-- With nothing outstanding, it did not leave.
+pub within_settled : (who : Identity) (t : List Event) (left : List Step) → IsReady who t left → outstanding who t ≡ [] → in_session t ≡ true
+within_settled who t left r e = go r.here_is.within
+  where
+    go : (in_session t ≡ true) ⊎ ((outstanding who t ≡ requests.Leave ∷ []) × (left ≡ [])) → in_session t ≡ true
+    go (inl y) = y
+    go (inr n) = (let none : requests.Leave ∷ [] ≡ [] = sym n.0 ∙ e in cc)
+
+-- ---- Replies
+
+pub bye_finishes : (s : ℕ) (reply : Reply) (t : List Event) → is_finished (events.Got s reply ∷ t) ≡ is_bye reply
+bye_finishes s (replies.Welcome commit head) t = refl
+bye_finishes s (replies.Relay seq commit head items) t = refl
+bye_finishes s (replies.Dropped seq chain far) t = refl
+bye_finishes s (replies.Settled seq pos) t = refl
+bye_finishes s (replies.Noted commit) t = refl
+bye_finishes s replies.Idle t = refl
+bye_finishes s (replies.Refused code detail) t = refl
+bye_finishes s replies.Bye t = refl
+
+leave_answered : (reply : Reply) → allows requests.Leave reply ≡ true → is_bye reply ≡ true
+leave_answered (replies.Welcome commit head) e = cc
+leave_answered (replies.Relay seq commit head items) e = cc
+leave_answered (replies.Dropped seq chain far) e = cc
+leave_answered (replies.Settled seq pos) e = cc
+leave_answered (replies.Noted commit) e = cc
+leave_answered replies.Idle e = cc
+leave_answered (replies.Refused code detail) e = cc
+leave_answered replies.Bye e = refl
+
+first_same : (a b : Request) (xs ys : List Request) → a ∷ xs ≡ b ∷ ys → a ≡ b
+first_same a b xs ys e = cc
+
+-- After a reply that is no Bye it goes on.
+pub got_here : (who : Identity) (t : List Event) (left : List Step) (s : ℕ) (reply : Reply) → IsHere who t left → first_fault_of_reply who t reply ≡ None → is_bye reply ≡ false →
+    IsHere who (events.Got s reply ∷ t) left
+got_here who t left s reply h f b =
+    record { joined = refl; here = bye_finishes s reply t ∙ b; within = go h.within }
+  where
+    go : (in_session t ≡ true) ⊎ ((outstanding who t ≡ requests.Leave ∷ []) × (left ≡ [])) → (in_session (events.Got s reply ∷ t) ≡ true) ⊎ ((outstanding who (events.Got s reply ∷ t) ≡ requests.Leave ∷ []) × (left ≡ []))
+    go (inl y) = inl y
+    go (inr n) =
+        (let w = is_well who t reply f in
+        let same : requests.Leave ≡ w.request = first_same requests.Leave w.request [] w.rest (sym n.0 ∙ w.asked) in
+        let bye = leave_answered reply (subst (λ (q : Request). allows q reply ≡ true) (sym same) w.allowed) in
+        absurd (true≢false (sym bye ∙ b)))
+
+pub left_here : (who : Identity) (t : List Event) → AreProper who 0 t → in_session t ≡ true → outstanding who t ≡ [] → IsHere who (events.Leave ∷ t) []
+left_here who t p j e =
+    record { joined = refl; here = refl; within = inr (outstanding_left who 0 t p j ∙ ap (λ (os : List Request). os ++ requests.Leave ∷ []) e, refl) }
+
+-- The action of the next step may be made.
+pub may_make : (p : Player) (action : Action) (rest : List Step) → IsGoing p → IsReady p.client.who p.client.events p.left.now → unsynced p.client.who p.client.events p.left.now ≡ steps.Act action ∷ rest →
+    length (pending_of p.client.events) < 8 → length (outstanding p.client.who p.client.events) < 16 → MayMake p.client.who p.client.events action
+may_make p action rest g r next room calm =
+    let good = good_next p.client.who p.client.events p.left.now (steps.Act action) rest g.budget.good next in
+    let some = fewer_passed (outstanding p.client.who p.client.events) p.left.now in
+    record {
+      joined = still_within p.client.who p.client.events p.left.now (steps.Act action) rest r next;
+      good = none_of_good p.client.who.shape action good.0;
+      room = room;
+      calm = calm;
+      few = omega (arith, g.budget.few, some, ap (λ (ss : List Step). length ss) next);
+    }

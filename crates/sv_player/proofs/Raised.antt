@@ -1,0 +1,212 @@
+-- What a client did, where its first session has another number.
+use Rattle.std.proofs.Common.{◌≡◌, ◌≢◌, ◌⊎◌, inl, inr, ℕ, suc, ◌+◌, Bool, true, false, ◌||◌, eqb, ℤ, List, [], ◌∷◌, ◌++◌, length, Option, Some, None, option_map, refl, sym, ap, ap₂, subst, ◌∙◌, arith}
+use Rattle.std.specs.Prelude.{IfSome, if◌then◌else◌}
+use Rattle.std.specs.List.{flat_map}
+use mathlib.Core.Path.{fun_ext}
+use Rattle.std.proofs.lemmas.Bool.{ne_eqb, eq-eqb}
+use Rattle.std.proofs.lemmas.Bool.Decides.{eqb_tells}
+use Rattle.std.proofs.lemmas.List.{length-map}
+use Rattle.sv_world.specs.declared.world.ClientId.{ClientId}
+use Rattle.sv_world.specs.declared.world.ObjectId.{ObjectId}
+use Rattle.sv_watch.specs.declared.change.Change.{Change}
+use Rattle.sv_versions.specs.Held.{Held}
+use Rattle.sv_pending.specs.Pending.{PendingAction, view_over}
+use Rattle.sv_wire.specs.declared.message.Request.{Request}
+use Rattle.sv_wire.specs.declared.message.Reply.{Reply}
+use Rattle.sv_wire.specs.declared.message.Reply.TheVariants as replies
+use Rattle.sv_link.specs.Ends.{Told}
+use Rattle.sv_client.specs.declared.fault.TakeFault.{TakeFault}
+use Rattle.sv_client.specs.declared.trace.Event.{Event}
+use Rattle.sv_client.specs.declared.trace.Event.TheVariants as events
+use Rattle.sv_client.specs.Traces.{current_session, is_session, view_of}
+use Rattle.sv_client.specs.Taking.{Identity, Fault}
+use Rattle.sv_client.specs.Answers.{IsTakeFault}
+use Rattle.sv_client.specs.Seen.{raised, fault_named}
+use Rattle.sv_client.proofs.Shifts.{Up, up_held, up_pending, up_current, up_got, up_asked, up_outstanding, up_fault}
+use Rattle.sv_scenario.specs.declared.scenario.Step.{Step}
+use Rattle.sv_script.specs.Following.{DoesStep, MayCome, FollowsTo, must_join, is_welcomed, is_finished, passed_syncs}
+use Rattle.sv_script.specs.Telling.{same_view, change_of, changes_of}
+use Rattle.sv_player.specs.declared.outcome.ReplyFault.{ReplyFault}
+use Rattle.sv_player.specs.declared.outcome.ReplyFault.TheVariants as faults
+use Rattle.sv_player.specs.Carried.{BeginsWith, is_bye}
+use Rattle.sv_player.specs.Stops.{IsBad, IsBadRest, IsShut, is_cut}
+use Rattle.sv_player.specs.Played.{has_quit, has_left}
+use Rattle.sv_player.specs.Ends.{IsOpen}
+use Rattle.sv_player.proofs.Going.{bye_finishes}
+
+bye_leaves : (s : ℕ) (reply : Reply) (t : List Event) → has_left (events.Got s reply ∷ t) ≡ is_bye reply
+bye_leaves s (replies.Welcome commit head) t = refl
+bye_leaves s (replies.Relay seq commit head items) t = refl
+bye_leaves s (replies.Dropped seq chain far) t = refl
+bye_leaves s (replies.Settled seq pos) t = refl
+bye_leaves s (replies.Noted commit) t = refl
+bye_leaves s replies.Idle t = refl
+bye_leaves s (replies.Refused code detail) t = refl
+bye_leaves s replies.Bye t = refl
+
+-- one change of a view, if there is one
+abbrev change_at : ClientId → ObjectId → ℕ → Option (List ℤ) → Option (List ℤ) → List Change
+change_at client object n old new = if same_view old new then [] else record { client = client; object = object; event = n; old = old; new = new } ∷ []
+
+module _ (first : ℕ) where
+  same_number : (n k : ℕ) → eqb (n + first) (k + first) ≡ eqb n k
+  same_number n k = go (eqb_tells n k)
+    where
+      go : ((eqb n k ≡ true) × (n ≡ k)) ⊎ ((eqb n k ≡ false) × (n ≢ k)) → eqb (n + first) (k + first) ≡ eqb n k
+      go (inl y) = eq-eqb (n + first) (k + first) (ap (λ (m : ℕ). m + first) y.1) ∙ sym y.0
+      go (inr m) = ne_eqb (n + first) (k + first) (λ e. m.1 (omega (arith, e))) ∙ sym m.0
+
+  is_up : (o : Option ℕ) (k : ℕ) → is_session (option_map (λ s. s + first) o) (k + first) ≡ is_session o k
+  is_up None k = refl
+  is_up (Some s) k = same_number s k
+
+  up_is : (t : List Event) (k : ℕ) → is_session (current_session (Up first t)) (k + first) ≡ is_session (current_session t) k
+  up_is t k = ap (λ (o : Option ℕ). is_session o (k + first)) (up_current first t) ∙ is_up (current_session t) k
+
+  pub up_cut : (t : List Event) (k : ℕ) → is_cut (Up first t) (k + first) ≡ is_cut t k
+  up_cut [] k = refl
+  up_cut (events.Join s ∷ t) k = up_cut t k
+  up_cut (events.Make a ∷ t) k = up_cut t k
+  up_cut (events.Poll ∷ t) k = up_cut t k
+  up_cut (events.Leave ∷ t) k = up_cut t k
+  up_cut (events.Got s reply ∷ t) k = up_cut t k
+  up_cut (events.Cut ∷ t) k = ap₂ (λ (a b : Bool). a || b) (up_is t k) (up_cut t k)
+  up_cut (events.Quit ∷ t) k = ap₂ (λ (a b : Bool). a || b) (up_is t k) (up_cut t k)
+  up_cut (events.Show objects ∷ t) k = up_cut t k
+
+  up_must_join : (t : List Event) → must_join (Up first t) ≡ must_join t
+  up_must_join [] = refl
+  up_must_join (events.Join s ∷ t) = refl
+  up_must_join (events.Make a ∷ t) = refl
+  up_must_join (events.Poll ∷ t) = refl
+  up_must_join (events.Leave ∷ t) = refl
+  up_must_join (events.Got s reply ∷ t) = refl
+  up_must_join (events.Cut ∷ t) = refl
+  up_must_join (events.Quit ∷ t) = refl
+  up_must_join (events.Show objects ∷ t) = refl
+
+  up_welcomed : (t : List Event) → is_welcomed (Up first t) ≡ is_welcomed t
+  up_welcomed [] = refl
+  up_welcomed (events.Join s ∷ t) = refl
+  up_welcomed (events.Make a ∷ t) = up_welcomed t
+  up_welcomed (events.Poll ∷ t) = up_welcomed t
+  up_welcomed (events.Leave ∷ t) = up_welcomed t
+  up_welcomed (events.Got s reply ∷ t) = refl
+  up_welcomed (events.Cut ∷ t) = up_welcomed t
+  up_welcomed (events.Quit ∷ t) = up_welcomed t
+  up_welcomed (events.Show objects ∷ t) = up_welcomed t
+
+  pub up_finished : (t : List Event) → is_finished (Up first t) ≡ is_finished t
+  up_finished [] = refl
+  up_finished (events.Join s ∷ t) = refl
+  up_finished (events.Make a ∷ t) = refl
+  up_finished (events.Poll ∷ t) = refl
+  up_finished (events.Leave ∷ t) = refl
+  up_finished (events.Got s reply ∷ t) = bye_finishes (s + first) reply (Up first t) ∙ sym (bye_finishes s reply t)
+  up_finished (events.Cut ∷ t) = refl
+  up_finished (events.Quit ∷ t) = refl
+  up_finished (events.Show objects ∷ t) = refl
+
+  pub up_quit : (t : List Event) → has_quit (Up first t) ≡ has_quit t
+  up_quit [] = refl
+  up_quit (events.Join s ∷ t) = refl
+  up_quit (events.Make a ∷ t) = refl
+  up_quit (events.Poll ∷ t) = refl
+  up_quit (events.Leave ∷ t) = refl
+  up_quit (events.Got s reply ∷ t) = refl
+  up_quit (events.Cut ∷ t) = refl
+  up_quit (events.Quit ∷ t) = refl
+  up_quit (events.Show objects ∷ t) = refl
+
+  pub up_left : (t : List Event) → has_left (Up first t) ≡ has_left t
+  up_left [] = refl
+  up_left (events.Join s ∷ t) = refl
+  up_left (events.Make a ∷ t) = refl
+  up_left (events.Poll ∷ t) = refl
+  up_left (events.Leave ∷ t) = refl
+  up_left (events.Got s reply ∷ t) = bye_leaves (s + first) reply (Up first t) ∙ sym (bye_leaves s reply t)
+  up_left (events.Cut ∷ t) = refl
+  up_left (events.Quit ∷ t) = refl
+  up_left (events.Show objects ∷ t) = refl
+
+  -- ---- Following
+
+  up_does : (who : Identity) (t : List Event) (before : List Step) (e : Event) (left : List Step) → DoesStep who t before e left → DoesStep who (Up first t) before e left
+  up_does who t before e left d =
+      record {
+        joined = up_must_join t ∙ d.joined;
+        welcomed = up_welcomed t ∙ d.welcomed;
+        here = up_finished t ∙ d.here;
+        step = d.step;
+        next = ap (λ (os : List Request). passed_syncs os before) (up_outstanding first who t) ∙ d.next;
+        event = d.event;
+      }
+
+  up_come : (who : Identity) (t : List Event) (before : List Step) (e : Event) (left : List Step) → MayCome who t before e left → MayCome who (Up first t) before (raised first e) left
+  up_come who t before (events.Join s) left m = record { needed = up_must_join t ∙ m.needed; same = m.same }
+  up_come who t before (events.Got s reply) left m = record { joined = up_must_join t ∙ m.joined; here = up_finished t ∙ m.here; same = m.same }
+  up_come who t before events.Leave left m =
+      record {
+        joined = up_must_join t ∙ m.joined;
+        welcomed = up_welcomed t ∙ m.welcomed;
+        here = up_finished t ∙ m.here;
+        settled = up_outstanding first who t ∙ m.settled;
+        done = m.done;
+        same = m.same;
+      }
+  up_come who t before (events.Make a) left m = up_does who t before (events.Make a) left m
+  up_come who t before events.Poll left m = up_does who t before events.Poll left m
+  up_come who t before events.Cut left m = up_does who t before events.Cut left m
+  up_come who t before events.Quit left m = up_does who t before events.Quit left m
+  up_come who t before (events.Show objects) left m = up_does who t before (events.Show objects) left m
+
+  pub up_follows : (who : Identity) (script : List Step) (t : List Event) (left : List Step) → FollowsTo who script t left → FollowsTo who script (Up first t) left
+  up_follows who script [] left f = f
+  up_follows who script (e ∷ t) left f = (f.0, (up_follows who script t f.0 f.1.0, up_come who t f.0 e left f.1.1))
+
+  -- ---- Telling
+
+  up_view : (t : List Event) (x : ℕ) → view_of (Up first t) x ≡ view_of t x
+  up_view t x = ap₂ (λ (hs : List Held) (ps : List PendingAction). view_over hs ps x) (up_held first t) (up_pending first t)
+
+  up_change : (client : ClientId) (t : List Event) (e : Event) (object : ObjectId) → change_of client (Up first t) (raised first e) object ≡ change_of client t e object
+  up_change client t e object =
+      ap (λ (n : ℕ). change_at client object (suc n) (view_of (Up first t) object.0) (view_of (Up first (e ∷ t)) object.0)) (length-map t (raised first))
+      ∙ ap₂ (λ (old new : Option (List ℤ)). change_at client object (suc (length t)) old new) (up_view t object.0) (up_view (e ∷ t) object.0)
+
+  pub up_changes : (client : ClientId) (interest : List ObjectId) (t : List Event) → changes_of client interest (Up first t) ≡ changes_of client interest t
+  up_changes client interest [] = refl
+  up_changes client interest (e ∷ t) =
+      ap₂ (λ (cs ds : List Change). cs ++ ds) (up_changes client interest t) (ap (λ (f : ObjectId → List Change). flat_map f interest) (fun_ext (up_change client t e)))
+
+  -- ---- Why it stopped
+
+  pub up_open : (t : List Event) (k : ℕ) → IsOpen t k → IsOpen (Up first t) (k + first)
+  up_open t k o = record { current = up_current first t ∙ ap (option_map (λ (n : ℕ). n + first)) o.current; open_is = up_cut t k ∙ o.open_is }
+
+  pub up_shut : (who : Identity) (t : List Event) (k : ℕ) (end : Told) → IsShut who t k end → IsShut who (Up first t) (k + first) end
+  up_shut who t k end s =
+      record {
+        awaited = rw (up_got first t k, up_asked first who t k) s.awaited;
+        ended = s.ended;
+        rest = s.rest;
+        received = subst (λ (rs : List Reply). BeginsWith end.received rs s.rest) (sym (up_got first t k)) s.received;
+        none = s.none;
+      }
+
+  up_take : (who : Identity) (t : List Event) (reply : Reply) (fault : TakeFault) → IsTakeFault who t reply fault → IsTakeFault who (Up first t) reply fault
+  up_take who t reply fault h = subst (λ (o : Option Fault). IfSome (fault_named fault) (λ f. o ≡ Some f)) (sym (up_fault first who t reply)) h
+
+  up_bad_rest : (who : Identity) (t : List Event) (rest payload : List ℕ) (fault : ReplyFault) → IsBadRest who t rest payload fault → IsBadRest who (Up first t) rest payload fault
+  up_bad_rest who t rest payload (faults.Take fault) b =
+      (b.0, record { reply = b.1.reply; read = b.1.read; fault_is = up_take who t b.1.reply fault b.1.fault_is; some = b.1.some })
+  up_bad_rest who t rest payload (faults.Wire fault) b = b
+  up_bad_rest who t rest payload (faults.TooLong n) b = b
+
+  pub up_bad : (who : Identity) (t : List Event) (k : ℕ) (end : Told) (payload : List ℕ) (fault : ReplyFault) → IsBad who t k end payload fault → IsBad who (Up first t) (k + first) end payload fault
+  up_bad who t k end payload fault b =
+      record {
+        rest = b.rest;
+        received = subst (λ (rs : List Reply). BeginsWith end.received rs b.rest) (sym (up_got first t k)) b.received;
+        bad = up_bad_rest who t b.rest payload fault b.bad;
+      }

@@ -1,0 +1,211 @@
+-- Awaiting a reply, and what stops a player there.
+use Rattle.std.proofs.Common.{◌≡◌, ◌≢◌, ◌⊎◌, inl, inr, ℕ, ◌+◌, ◌<◌, Bool, true, false, eqb, List, [], ◌∷◌, ◌++◌, length, drop, Option, Some, None, refl, sym, ap, subst, ◌∙◌, arith, append-nil}
+use Rattle.std.specs.Prelude.{Ok, Err, if◌then◌else◌}
+use Rattle.std.proofs.lemmas.List.{length-drop}
+use Rattle.std.specs.Global.{Vec}
+use Rattle.std.proofs.Common.{Bor}
+use Rattle.std.specs.Prelude.{option_map}
+use Rattle.sv_frame.specs.Frames.{first_frame, too_long}
+use Rattle.sv_frame.specs.Answers.{IsAnswer}
+use Rattle.sv_frame.specs.declared.reader.Next.{Next}
+use Rattle.sv_frame.specs.declared.reader.Next.TheVariants.{Frame, NotYet, TooLong}
+use Rattle.sv_frame.proofs.Fronts.{no_frame_if_too_long}
+use Rattle.sv_link.specs.Ends.{Told, sending}
+use Rattle.sv_link.specs.declared.ends.Sent.{Sent}
+use Rattle.sv_link.specs.declared.ends.Sent.TheVariants as answers
+use Rattle.sv_wire.specs.declared.message.Request.{Request}
+use Rattle.sv_wire.specs.declared.message.Reply.{Reply}
+use Rattle.sv_wire.specs.declared.message.Reply.TheVariants as replies
+use Rattle.sv_client.specs.declared.trace.Event.{Event}
+use Rattle.sv_client.specs.declared.trace.Event.TheVariants as events
+use Rattle.sv_client.specs.Traces.{asked, got}
+use Rattle.sv_client.specs.Taking.{Identity, outstanding}
+use Rattle.sv_client.specs.Seen.{latest_session, newly_asked}
+use Rattle.sv_client.proofs.Outstanding.{outstanding_in}
+use Rattle.sv_player.specs.Stops.{IsShut, NoneCame, first_payload}
+use Rattle.sv_player.specs.declared.buffers.Buffers.{Buffers}
+use Rattle.sv_player.specs.declared.outcome.PlayerCause.{PlayerCause}
+use Rattle.sv_player.specs.declared.outcome.PlayerCause.TheVariants as causes
+use Rattle.sv_player.specs.declared.playing.Player.{Player}
+use Rattle.sv_player.specs.Carried.{request_frames, BeginsWith, PostedPart, is_bye}
+use Rattle.sv_player.specs.Going.{IsHere}
+use Rattle.sv_player.specs.declared.outcome.ReplyFault.TheVariants as faults
+use Rattle.sv_player.specs.Waiting.{IsFlushed, Grew, GrewToEnd}
+use Rattle.sv_player.specs.Sessions.{IsAt, Stopped, IsReason, IsFrameFault, IsSent}
+use Rattle.sv_player.proofs.Linking.{frames_none, begins_more, linked_part}
+use Rattle.sv_player.proofs.Turns.{onward_self, begun_idle}
+
+-- ---- What waits is sent, and bytes come
+
+pub flushed_at : (s : ℕ) (p : Player) (b c : Buffers) (old new : Told) → IsAt s p b old → new ≡ sending old b.outbox → c.outbox ≡ [] → c.reader ≡ b.reader → IsAt s p c new
+flushed_at s p b c old new at sent none same =
+    record {
+      going = at.going;
+      current = at.current;
+      open_is = at.open_is;
+      linked =
+          record {
+            open_is = ap (λ (t : Told). t.closed) sent ∙ at.linked.open_is;
+            sent = rw (sent, none) (append-nil (old.sent ++ b.outbox) ∙ at.linked.sent);
+            messages = at.linked.messages;
+            received = rw (sent, same) at.linked.received;
+          };
+    }
+
+pub grew_at : (s : ℕ) (p : Player) (b c : Buffers) (old new : Told) → IsAt s p b old → Grew old b.reader new c.reader → c.outbox ≡ b.outbox → IsAt s p c new
+grew_at s p b c old new at grew same =
+    record {
+      going = at.going;
+      current = at.current;
+      open_is = at.open_is;
+      linked =
+          record {
+            open_is = ap (λ (t : Told). t.closed) grew.told ∙ at.linked.open_is;
+            sent = rw (grew.told, same) at.linked.sent;
+            messages = at.linked.messages;
+            received = rw (grew.told, grew.rest) (begins_more old.received b.reader grew.bytes (got p.client.events s) at.linked.received);
+          };
+    }
+
+pub ended_at : (s : ℕ) (p : Player) (b : Buffers) (old new : Told) → IsAt s p b old → new ≡ record old { ended = true } → IsAt s p b new
+ended_at s p b old new at e =
+    record {
+      going = at.going;
+      current = at.current;
+      open_is = at.open_is;
+      linked = rw e (record { open_is = at.linked.open_is; sent = at.linked.sent; messages = at.linked.messages; received = at.linked.received });
+    }
+
+-- ---- Stops
+
+-- With all sent, something stops the player where it stands.
+pub stops_at : (s : ℕ) (p : Player) (b : Buffers) (end : Told) (cause : PlayerCause) → IsAt s p b end → IsHere p.client.who p.client.events p.left.now → b.outbox ≡ [] → IsReason p.client.who p.client.events p.first s end cause → Stopped s p p end cause
+stops_at s p b end cause at here none reason =
+    let sent : end.sent ≡ request_frames (asked p.client.who.client p.client.who.interest p.client.events s) = sym (append-nil end.sent) ∙ ap (λ (w : List ℕ). end.sent ++ w) (sym none) ∙ at.linked.sent in
+    record {
+      onward = onward_self s p;
+      proper = at.going.proper;
+      left = p.left.now;
+      follows = at.going.follows;
+      current = λ n. at.current;
+      open_is = at.open_is;
+      part = record { sent = ([], append-nil end.sent ∙ sent); rest = b.reader; received = at.linked.received };
+      whole = λ x y. sent;
+      messages = λ x y. at.linked.messages;
+      told = λ n. at.going.told;
+      going_on = λ n. here.here;
+      idle = begun_idle p.client.who p.client.events s end.received at.going.proper at.current;
+      reason = reason;
+    }
+
+-- Sending what waits ended early.
+pub stops_sending : (s : ℕ) (p : Player) (b : Buffers) (end new : Told) (cause : PlayerCause) → IsAt s p b end → IsHere p.client.who p.client.events p.left.now → (cause ≡ causes.LinkFault) ⊎ (cause ≡ causes.Memory) →
+    PostedPart end b.outbox [] new → Stopped s p p new cause
+stops_sending s p b end new cause at here why posted =
+    let t = p.client.events in
+    record {
+      onward = onward_self s p;
+      proper = at.going.proper;
+      left = p.left.now;
+      follows = at.going.follows;
+      current = λ n. at.current;
+      open_is = at.open_is;
+      part =
+          linked_part p.client.who t t s [] (sym (append-nil (asked p.client.who.client p.client.who.interest t s))) end new b.reader b.outbox refl at.linked
+          (subst (λ (bytes : List ℕ). PostedPart end b.outbox bytes new) (sym frames_none) posted);
+      whole = λ x y. absurd (elim why [ inl l ↦ x l | inr m ↦ y m ]);
+      messages = λ x y. absurd (elim why [ inl l ↦ x l | inr m ↦ y m ]);
+      told = λ n. at.going.told;
+      going_on = λ n. here.here;
+      idle = begun_idle p.client.who t s new.received at.going.proper at.current;
+      reason = elim why [
+        | inl l ↦ subst (IsReason p.client.who t p.first s new) (sym l) tt
+        | inr m ↦ subst (IsReason p.client.who t p.first s new) (sym m) tt
+      ];
+    }
+
+pub frame_reason : (who : Identity) (t : List Event) (first s : ℕ) (end : Told) (rest : List ℕ) (cause : PlayerCause) → BeginsWith end.received (got t s) rest → IsFrameFault who t (s + first) rest cause → IsReason who t first s end cause
+frame_reason who t first s end rest causes.Finished b f = absurd f
+frame_reason who t first s end rest causes.Quit b f = absurd f
+frame_reason who t first s end rest causes.LinkFault b f = absurd f
+frame_reason who t first s end rest causes.Closed b f = absurd f
+frame_reason who t first s end rest (causes.BadReply session payload fault) b f = (f.0, record { rest = rest; received = b; bad = f.1 })
+frame_reason who t first s end rest causes.Memory b f = tt
+
+-- A reply is awaited in the session.
+pub awaited_in : (s : ℕ) (p : Player) (b : Buffers) (end : Told) → IsAt s p b end → 0 < length (outstanding p.client.who p.client.events) →
+    length (got p.client.events s) < length (asked p.client.who.client p.client.who.interest p.client.events s)
+awaited_in s p b end at some =
+    let n = length (got p.client.events s) in
+    let all = asked p.client.who.client p.client.who.interest p.client.events s in
+    let more : 0 < length (drop n all) = subst (λ (rs : List Request). 0 < length rs) (outstanding_in p.client.who p.client.events s at.current) some in
+    omega (arith, more, length-drop n all)
+
+pub shut_reason : (s : ℕ) (p : Player) (b : Buffers) (end : Told) → IsAt s p b end → 0 < length (outstanding p.client.who p.client.events) → end.ended ≡ true → NoneCame b.reader → IsShut p.client.who p.client.events s end
+shut_reason s p b end at some ended none =
+    record { awaited = awaited_in s p b end at some; ended = ended; rest = b.reader; received = at.linked.received; none = none }
+
+-- A try to send what waits did not send it all.
+pub flush_stops : (s : ℕ) (p : Player) (b : Buffers) (end new : Told) (left : List ℕ) (sent : Sent) (cause : PlayerCause) → IsAt s p b end → IsHere p.client.who p.client.events p.left.now →
+    IsFlushed sent end b.outbox new left → IsSent sent (Err cause) → Stopped s p p new cause
+flush_stops s p b end new left answers.Whole cause at here flushed is = cc
+flush_stops s p b end new left answers.Failed cause at here flushed is = stops_sending s p b end new cause at here (inl cc) flushed
+flush_stops s p b end new left answers.Memory cause at here flushed is = stops_sending s p b end new cause at here (inr cc) flushed
+
+-- It did.
+pub flush_sends : (s : ℕ) (p : Player) (b c : Buffers) (end new : Told) (sent : Sent) → IsAt s p b end → IsFlushed sent end b.outbox new c.outbox → IsSent sent (Ok tt) → c.reader ≡ b.reader →
+    IsAt s p c new × (c.outbox ≡ [])
+flush_sends s p b c end new answers.Whole at flushed is same = (flushed_at s p b c end new at flushed.0 flushed.1 same, flushed.1)
+flush_sends s p b c end new answers.Failed at flushed is same = cc
+flush_sends s p b c end new answers.Memory at flushed is same = cc
+
+-- ---- The first frame
+
+pub frame_first : (answer : Next) (rest : List ℕ) → IsAnswer answer rest → first_frame rest ≢ None → ((payload : Bor (List ℕ)) → answer ≡ Frame payload → ⊥) → ⊥
+frame_first (Frame payload) rest is came never = never payload refl
+frame_first NotYet rest is came never = came is.0
+frame_first (TooLong n) rest is came never = came (no_frame_if_too_long rest n is)
+
+pub frame_came : (rest payload : List ℕ) → first_payload rest ≡ Some payload → first_frame rest ≢ None
+frame_came rest payload e n =
+    (let none : ◌≡◌ {A = Option (List ℕ)} None (Some payload) = ap (λ (o : Option (List ℕ × List ℕ)). option_map (λ (f : List ℕ × List ℕ). f.0) o) (sym n) ∙ e in cc)
+
+-- ---- What ends a wait
+
+module _ (s : ℕ) (p : Player) (b c : Buffers) (old new : Told) (at : IsAt s p b old) (here : IsHere p.client.who p.client.events p.left.now) (none : b.outbox ≡ []) (same : c.outbox ≡ b.outbox) where
+  pub wait_stops : (cause : PlayerCause) → Grew old b.reader new c.reader → IsReason p.client.who p.client.events p.first s new cause → Stopped s p p new cause
+  wait_stops cause grew reason = stops_at s p c new cause (grew_at s p b c old new at grew same) here (same ∙ none) reason
+
+  -- The next frame is too long.
+  pub long_stops : (session n : ℕ) (payload : Vec ℕ) → session ≡ s + p.first → payload.items ≡ [] → Grew old b.reader new c.reader → too_long c.reader ≡ Some n →
+      Stopped s p p new (causes.BadReply session payload (faults.TooLong n))
+  long_stops session n payload number empty grew long =
+      wait_stops (causes.BadReply session payload (faults.TooLong n)) grew
+      (number, record { rest = c.reader; received = (grew_at s p b c old new at grew same).linked.received; bad = (empty, long) })
+
+  -- No more will come.
+  pub shut_stops : 0 < length (outstanding p.client.who p.client.events) → GrewToEnd old b.reader new c.reader → Stopped s p p new causes.Closed
+  shut_stops some g =
+      let there = ended_at s p c g.last new (grew_at s p b c old g.last at g.grew same) g.ended in
+      stops_at s p c new causes.Closed there here (same ∙ none) (shut_reason s p c new there some (ap (λ (t : Told). t.ended) g.ended) g.none)
+
+-- The first frame holds no reply that is taken.
+pub frame_stops : (s : ℕ) (p : Player) (b : Buffers) (end : Told) (cause : PlayerCause) → IsAt s p b end → IsHere p.client.who p.client.events p.left.now → b.outbox ≡ [] →
+    IsFrameFault p.client.who p.client.events (s + p.first) b.reader cause → Stopped s p p end cause
+frame_stops s p b end cause at here none fault = stops_at s p b end cause at here none (frame_reason p.client.who p.client.events p.first s end b.reader cause at.linked.received fault)
+
+-- ---- A Bye asks nothing
+
+either_none : (b : Bool) → ◌≡◌ {A = List Request} (if b then [] else []) []
+either_none true = refl
+either_none false = refl
+
+pub bye_asks_none : (who : Identity) (t : List Event) (s : ℕ) (reply : Reply) → is_bye reply ≡ true → newly_asked who t (events.Got s reply) ≡ []
+bye_asks_none who t s replies.Bye e = either_none (eqb s (latest_session (events.Got s replies.Bye ∷ t)))
+bye_asks_none who t s (replies.Welcome commit head) e = cc
+bye_asks_none who t s (replies.Relay seq commit head items) e = cc
+bye_asks_none who t s (replies.Dropped seq chain far) e = cc
+bye_asks_none who t s (replies.Settled seq pos) e = cc
+bye_asks_none who t s (replies.Noted commit) e = cc
+bye_asks_none who t s replies.Idle e = cc
+bye_asks_none who t s (replies.Refused code detail) e = cc

@@ -1,0 +1,9 @@
+use Rattle.sv_player.proofs.Posting.{posted_by}
+use Rattle.sv_player.proofs.buffers.Buffers.post.Goals as goal
+
+pub put-requires-clause-message : goal.put-requires-clause-message
+put-requires-clause-message g c = record { within = c.requires.message; fits = c.read_request.ensures }
+
+pub returns-clause-posts : goal.returns-clause-posts
+returns-clause-posts g c =
+    posted_by c.put.result (g.E.End.told c.args.end.now) (g.E.End.told c.put.new.end) c.args.self.now.outbox c.put.new.self c.args.request.now c.put.ensures.posts

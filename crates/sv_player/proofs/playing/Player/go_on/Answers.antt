@@ -1,0 +1,40 @@
+use Rattle.std.proofs.lemmas.Result.{err_from_is_err_and}
+use Rattle.sv_client.specs.declared.trace.Event.TheVariants as events
+use Rattle.sv_client.specs.Seen.{latest_session}
+use Rattle.sv_player.proofs.Turns.{before_move, show_due, did_nothing, stops_early}
+use Rattle.sv_player.proofs.Moving.{got_moves, left_on, shown_on}
+use Rattle.sv_player.proofs.playing.Player.go_on.Goals as goal
+
+pub returns-in_err-do_show-in-Show-clause-moved : goal.returns-in_err-do_show-in-Show-clause-moved
+returns-in_err-do_show-in-Show-clause-moved g c =
+    let p = c.args.self.now in
+    let b = c.args.buffers.now in
+    let end = g.E.End.told c.args.end.now in
+    let s = latest_session p.client.events in
+    let failed = err_from_is_err_and c.from_residual-in_err-do_show-in-Show.result c.from_residual-in_err-do_show-in-Show.ensures.1 in
+    rw (failed.1, failed.2, c.in_err-do_show-in-Show.ensures.memory)
+    (stops_early s (events.Show c.in-Show.objects.now) c.in-Show.rest.now p c.do_show.new.self end b.reader b.outbox (before_move s p b end c.requires.at c.requires.ready)
+    (show_due s p b end c.requires.at c.requires.ready c.in-Show.objects.now c.in-Show.rest.now c.in-Show.ensures)
+    (did_nothing (events.Show c.in-Show.objects.now) p c.do_show.new.self c.in_err-do_show-in-Show.ensures.err) c.requires.at.open_is)
+
+pub returns-in_ok-receive-in-Wait-clause-moved : goal.returns-in_ok-receive-in-Wait-clause-moved
+returns-in_ok-receive-in-Wait-clause-moved g c =
+    got_moves (latest_session c.args.self.now.client.events) c.in_ok-receive-in-Wait.field-0 c.ending_of.result c.args.self.now c.receive.new.self c.receive.new.buffers (g.E.End.told c.receive.new.end)
+    c.ending_of.ensures c.in_ok-receive-in-Wait.ensures.received
+
+pub returns-in_ok-do_leave-in-Leave-clause-moved : goal.returns-in_ok-do_leave-in-Leave-clause-moved
+returns-in_ok-do_leave-in-Leave-clause-moved g c =
+    let p = c.args.self.now in
+    let b = c.args.buffers.now in
+    let end = g.E.End.told c.args.end.now in
+    let s = latest_session p.client.events in
+    left_on s p c.do_leave.new.self b c.do_leave.new.buffers end (g.E.End.told c.do_leave.new.end) c.requires.at c.requires.ready c.in-Leave.ensures.0 c.in_ok-do_leave-in-Leave.ensures.turn
+    c.in_ok-do_leave-in-Leave.ensures.left
+
+pub returns-in_ok-do_show-in-Show-clause-moved : goal.returns-in_ok-do_show-in-Show-clause-moved
+returns-in_ok-do_show-in-Show-clause-moved g c =
+    let p = c.args.self.now in
+    let b = c.args.buffers.now in
+    let end = g.E.End.told c.args.end.now in
+    let s = latest_session p.client.events in
+    shown_on s p c.do_show.new.self b b end end c.requires.at c.requires.ready c.in-Show.objects.now c.in-Show.rest.now c.in-Show.ensures c.in_ok-do_show-in-Show.ensures.ok

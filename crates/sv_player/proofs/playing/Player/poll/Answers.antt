@@ -1,0 +1,8 @@
+use Rattle.std.proofs.Common.{refl, ap, arith}
+use Rattle.sv_client.specs.Seen.{ClientView}
+use Rattle.sv_player.proofs.Doing.{did_quiet}
+use Rattle.sv_player.proofs.playing.Player.poll.Goals as goal
+
+pub returns-clause-ok : goal.returns-clause-ok
+returns-clause-ok c =
+    did_quiet _ _ _ _ (ap (λ (v : ClientView). v.who) c.in-Ok.ensures.ok) (ap (λ (v : ClientView). v.events) c.in-Ok.ensures.ok) refl refl refl refl (omega arith) refl

@@ -1,0 +1,5 @@
+use Rattle.sv_player.proofs.Choosing.{sync_waits}
+use Rattle.sv_player.proofs.playing.Player.wait_at_sync.Goals as goal
+
+pub returns : goal.returns
+returns c = sync_waits _ _ _ c.requires.next

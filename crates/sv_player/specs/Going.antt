@@ -1,0 +1,108 @@
+-- A client on its way through its script.
+-- Events stand with the latest first: `e ∷ t` is t, and then e.
+use Rattle.std.specs.Prelude.{◌≡◌, ◌⊎◌, ℕ, suc, ◌+◌, ◌<◌, ◌≤◌, Bool, true, false, List, [], ◌∷◌, map, length}
+use Rattle.std.specs.List.{AllByRecursion}
+use Rattle.sv_world.specs.declared.world.Shape.{Shape}
+use Rattle.sv_watch.specs.Told.{change_line}
+use Rattle.sv_wire.specs.declared.message.Request.TheVariants as requests
+use Rattle.sv_client.specs.declared.trace.Event.{Event}
+use Rattle.sv_client.specs.Traces.{joins, makes, pending_of}
+use Rattle.sv_client.specs.Taking.{Identity, outstanding}
+use Rattle.sv_client.specs.Proper.{IsGoodIdentity, AreProper, in_session}
+use Rattle.sv_scenario.specs.declared.scenario.Plan.{Plan}
+use Rattle.sv_scenario.specs.declared.scenario.Step.{Step}
+use Rattle.sv_scenario.specs.declared.scenario.Step.TheVariants as steps
+use Rattle.sv_scenario.specs.Limits.{IsGoodStep, IsGoodPlan}
+use Rattle.sv_scenario.specs.Sessions.{cuts_in}
+use Rattle.sv_script.specs.Following.{FollowsTo, unsynced, after_syncs, must_join, is_welcomed, is_finished}
+use Rattle.sv_script.specs.Telling.{changes_of}
+use Rattle.sv_player.specs.declared.moves.Move.{Move}
+use Rattle.sv_player.specs.declared.moves.Move.TheVariants as moves
+use Rattle.sv_player.specs.declared.playing.Player.{Player}
+
+-- a world within the limits
+pub record IsGoodShape (shape : Shape) : Type 0 where
+  pub some_objects : 1 ≤ shape.objects
+  pub few_objects : shape.objects ≤ 4096
+  pub some_attrs : 1 ≤ shape.attrs
+  pub few_attrs : shape.attrs ≤ 4
+
+abbrev pub plan_of : Identity → List Step → Plan
+plan_of who script = record { interest = who.interest; steps = script }
+
+-- a client that may play a script
+pub record MayPlay (who : Identity) (script : List Step) : Type 0 where
+  pub identity : IsGoodIdentity who
+  pub shape : IsGoodShape who.shape
+  pub plan : IsGoodPlan who.shape (plan_of who script)
+
+-- the lines tell the changes that the events made
+abbrev pub AreTold : Identity → List Event → List (List ℕ) → Type 0
+AreTold who t lines = lines ≡ map change_line (changes_of who.client who.interest t)
+
+abbrev pub one_more_if : Bool → ℕ
+one_more_if true = 0
+one_more_if false = 1
+
+-- The steps that are left are good ones, few enough to be made, and cut as many sessions as may still begin.
+pub record IsBudget (who : Identity) (script : List Step) (t : List Event) (left : List Step) : Type 0 where
+  pub good : AllByRecursion (IsGoodStep who.shape) left
+  pub few : makes t + length left ≤ 256
+  pub sessions : joins t + cuts_in left ≤ cuts_in script + one_more_if (must_join t)
+
+-- What the player did is proper, follows the script so far, with these steps left, and was told.
+pub record IsGoing (p : Player) : Type 0 where
+  pub may : MayPlay p.client.who p.script.now
+  pub first : p.first < 64
+  pub proper : AreProper p.client.who 0 p.client.events
+  pub follows : FollowsTo p.client.who p.script.now p.client.events p.left.now
+  pub budget : IsBudget p.client.who p.script.now p.client.events p.left.now
+  pub told : AreTold p.client.who p.client.events p.lines.items
+  pub count : p.count ≡ length p.client.events
+
+-- The player did an event, told it, and has these steps left.
+pub record Did (e : Event) (left : List Step) (old new : Player) : Type 0 where
+  pub who : new.client.who ≡ old.client.who
+  pub events : new.client.events ≡ e ∷ old.client.events
+  pub script : new.script.now ≡ old.script.now
+  pub first : new.first ≡ old.first
+  pub left_is : new.left.now ≡ left
+  pub told : AreTold old.client.who old.client.events old.lines.items → AreTold old.client.who (e ∷ old.client.events) new.lines.items
+  pub count : new.count ≡ suc old.count
+
+-- Memory ended before the event, or after it.
+pub record DidInPart (e : Event) (old new : Player) : Type 0 where
+  pub who : new.client.who ≡ old.client.who
+  pub script : new.script.now ≡ old.script.now
+  pub first : new.first ≡ old.first
+  pub events : (new.client.events ≡ old.client.events) ⊎ (new.client.events ≡ e ∷ old.client.events)
+
+-- ---- A player in a session
+
+-- A player that joined, and has not ended its session. Once it left, it waits for the Bye alone, with no step left.
+pub record IsHere (who : Identity) (t : List Event) (left : List Step) : Type 0 where
+  pub joined : must_join t ≡ false
+  pub here : is_finished t ≡ false
+  pub within : (in_session t ≡ true) ⊎ ((outstanding who t ≡ requests.Leave ∷ []) × (left ≡ []))
+
+-- It has the Welcome besides.
+pub record IsReady (who : Identity) (t : List Event) (left : List Step) : Type 0 where
+  pub here_is : IsHere who t left
+  pub welcomed : is_welcomed t ≡ true
+
+-- ---- The next move
+
+abbrev pub is_sync : Step → Bool
+is_sync steps.Sync = true
+is_sync _ = false
+
+-- what a player does next, in a session that has its Welcome
+abbrev pub IsMove : Move → Identity → List Event → List Step → Type 0
+IsMove moves.Wait who t left = 0 < length (outstanding who t)
+IsMove moves.Leave who t left = (outstanding who t ≡ []) × (after_syncs left ≡ [])
+IsMove (moves.Make action rest) who t left =
+    (unsynced who t left ≡ steps.Act action.now ∷ rest.now) × (length (pending_of t) < 8) × (length (outstanding who t) < 16)
+IsMove (moves.Poll rest) who t left = (unsynced who t left ≡ steps.Poll ∷ rest.now) × (length (outstanding who t) < 16)
+IsMove (moves.Show objects rest) who t left = unsynced who t left ≡ steps.Show objects.now ∷ rest.now
+IsMove (moves.Cut rest) who t left = unsynced who t left ≡ steps.Cut ∷ rest.now
+IsMove (moves.Quit rest) who t left = unsynced who t left ≡ steps.Quit ∷ rest.now

@@ -1,0 +1,8 @@
+pub mod Carried
+pub mod Seen
+pub mod Going
+pub mod Waiting
+pub mod Stops
+pub mod Sessions
+pub mod Played
+pub mod Ends

@@ -1,0 +1,13 @@
+//! Clients that play their scripts over links.
+#![tactic(auto)]
+
+mod buffers;
+mod moves;
+mod outcome;
+mod play;
+mod playing;
+mod session;
+mod telling;
+
+pub use outcome::{PlayerCause, PlayerOut, ReplyFault};
+pub use play::play_client;

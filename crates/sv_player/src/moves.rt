@@ -1,0 +1,119 @@
+//! What a player does next.
+ghost use Rattle.std.specs.Prelude.{◌≡◌, [], ◌∷◌};
+ghost use Rattle.sv_scenario.specs.declared.scenario.Step.TheVariants as steps;
+ghost use Rattle.sv_script.specs.Following.{after_syncs, unsynced};
+ghost use Rattle.sv_player.specs.Going.{IsMove, IsGoing, IsReady, is_sync};
+
+use crate::playing::Player;
+use sv_scenario::Step;
+use sv_world::{Action, List, ObjectId};
+
+/// A player's next move, in a session that has its Welcome, with the steps that it leaves.
+pub(crate) enum Move<'a> {
+    /// It awaits a reply.
+    Wait,
+
+    /// All steps are done.
+    Leave,
+
+    Make(&'a Action, &'a [Step]),
+    Poll(&'a [Step]),
+    Show(&'a List<ObjectId>, &'a [Step]),
+    Cut(&'a [Step]),
+    Quit(&'a [Step]),
+}
+
+fn is_sync(step: &Step) -> bool
+    ensures { result ≡ is_sync step.now }
+{
+    matches!(step, Step::Sync)
+}
+
+/// The steps from the first that is no sync.
+fn skip_syncs<'a>(steps: &'a [Step]) -> &'a [Step]
+    ensures { result.now ≡ after_syncs steps.now }
+{
+    let mut left = steps;
+    while let Some((step, rest)) = left.split_first() {
+        if !is_sync(step) {
+            return left;
+        }
+        left = rest;
+    }
+    left
+}
+
+impl<'a> Player<'a> {
+    /// The steps that are left, without the syncs that may be passed now.
+    fn unsynced(&self) -> &'a [Step]
+        ensures { result.now ≡ unsynced self.now.client.who self.now.client.events self.now.left.now }
+    {
+        if self.client.outstanding() == 0 {
+            skip_syncs(self.left)
+        } else {
+            self.left
+        }
+    }
+
+    /// The next move. A step that can't be done yet waits for a reply.
+    pub(crate) fn next_move(&self) -> Move<'a>
+        requires { IsGoing self.now }
+        ensures { IsMove result self.now.client.who self.now.client.events self.now.left.now }
+    {
+        let Some((step, rest)) = self.unsynced().split_first() else {
+            return self.last_move();
+        };
+        match step {
+            Step::Act(action) => self.make_or_wait(action, rest),
+            Step::Poll => self.poll_or_wait(rest),
+            Step::Sync => self.wait_at_sync(rest),
+            Step::Show(objects) => Move::Show(objects, rest),
+            Step::Cut => Move::Cut(rest),
+            Step::Quit => Move::Quit(rest),
+        }
+    }
+
+    /// A sync that can't be passed yet waits.
+    fn wait_at_sync(&self, rest: &'a [Step]) -> Move<'a>
+        requires next { unsynced self.now.client.who self.now.client.events self.now.left.now ≡ steps.Sync ∷ rest.now }
+        ensures { IsMove result self.now.client.who self.now.client.events self.now.left.now }
+    {
+        let _ = rest;
+        Move::Wait
+    }
+
+    /// The move once no step is left.
+    fn last_move(&self) -> Move<'a>
+        requires none { unsynced self.now.client.who self.now.client.events self.now.left.now ≡ [] }
+        ensures { IsMove result self.now.client.who self.now.client.events self.now.left.now }
+    {
+        if self.client.outstanding() == 0 {
+            Move::Leave
+        } else {
+            Move::Wait
+        }
+    }
+
+    fn make_or_wait(&self, action: &'a Action, rest: &'a [Step]) -> Move<'a>
+        requires going { IsGoing self.now }
+        requires next { unsynced self.now.client.who self.now.client.events self.now.left.now ≡ steps.Act action.now ∷ rest.now }
+        ensures { IsMove result self.now.client.who self.now.client.events self.now.left.now }
+    {
+        if self.client.pending() < 8 && self.client.outstanding() < 16 {
+            Move::Make(action, rest)
+        } else {
+            Move::Wait
+        }
+    }
+
+    fn poll_or_wait(&self, rest: &'a [Step]) -> Move<'a>
+        requires next { unsynced self.now.client.who self.now.client.events self.now.left.now ≡ steps.Poll ∷ rest.now }
+        ensures { IsMove result self.now.client.who self.now.client.events self.now.left.now }
+    {
+        if self.client.outstanding() < 16 {
+            Move::Poll(rest)
+        } else {
+            Move::Wait
+        }
+    }
+}

@@ -1,0 +1,120 @@
+//! Playing a script over the ends of its client's sessions.
+ghost use Rattle.std.specs.Prelude.{◌≡◌, ◌≢◌, ◌+◌, ◌<◌, ◌≤◌, true, [], length};
+ghost use Rattle.std.specs.List.{AllByRecursion};
+ghost use Rattle.sv_client.specs.Seen.{new_client};
+ghost use Rattle.sv_client.specs.Traces.{joins};
+ghost use Rattle.sv_scenario.specs.Sessions.{cuts_in};
+ghost use Rattle.sv_script.specs.Following.{must_join};
+ghost use Rattle.sv_script.specs.Telling.{told_lines};
+ghost use Rattle.sv_player.specs.Going.{IsGoing, MayPlay};
+ghost use Rattle.sv_player.specs.Sessions.{IsFresh, IsSameEnd};
+ghost use Rattle.sv_player.specs.Ends.{IsNext, NextCause, AreKept, IsClosed, HasPlayed};
+ghost use Rattle.sv_player.specs.Played.{IsTraceOf, HasFollowed, AreDone, IsCause, IsExact};
+
+use crate::outcome::{Ending, PlayerCause, PlayerOut};
+use crate::playing::Player;
+use std::alloc::Global;
+use sv_client::Client;
+use sv_link::End;
+use sv_scenario::Step;
+use sv_watch::Watch;
+
+impl<'a> Player<'a> {
+    /// Plays its first or next session over an end, which is closed where the session is cut. Why the player stopped, if it did.
+    fn play_next<E: End>(&mut self, watch: &Watch, end: &mut E) -> Option<PlayerCause>
+        requires watch { watch.now.shape ≡ self.old.client.who.shape }
+        requires going { IsGoing self.old }
+        requires needed { must_join self.old.client.events ≡ true }
+        requires few { joins self.old.client.events < 64 }
+        requires fresh { IsFresh (E.told end.old) }
+        ensures next { IsNext result (joins self.old.client.events) self.old self.new (E.told end.new) }
+        ensures end { IsSameEnd (E.told end.old) (E.told end.new) }
+        ensures cause { NextCause (E.faults end.old) (E.faults end.new) result }
+        ensures calm { E.calm end.old → E.calm end.new }
+    {
+        match self.play_session(watch, end) {
+            Ok(Ending::Cut) => {
+                end.close();
+                None
+            }
+            Ok(Ending::Quit) => Some(PlayerCause::Quit),
+            Ok(Ending::Left) => Some(PlayerCause::Finished),
+            Err(cause) => Some(cause),
+        }
+    }
+
+    /// Plays its sessions, each over the end at its place.
+    fn play<E: End>(&mut self, watch: &Watch, ends: &mut [E]) -> PlayerCause
+        requires watch { watch.now.shape ≡ self.old.client.who.shape }
+        requires going { IsGoing self.old }
+        requires new { self.old.client.events ≡ [] }
+        // There is one end for each of its sessions.
+        requires count { length ends.old ≡ 1 + cuts_in self.old.script.now }
+        requires few { length ends.old ≤ 64 }
+        requires fresh { AllByRecursion (λ end. IsFresh (E.told end)) ends.old }
+        ensures { HasPlayed E.told E.faults E.calm self.old self.new ends.old ends.new result }
+    {
+        for place in 0..ends.len() {
+            if let Some(cause) = self.play_next(watch, &mut ends[place]) {
+                return cause;
+            }
+        }
+        unreachable!()
+    }
+}
+
+/// Closes all ends.
+fn close_all<E: End>(ends: &mut [E])
+    ensures { AreKept (λ n. IsClosed E.told E.faults E.calm) ends.old ends.new }
+{
+    for place in 0..ends.len() {
+        ends[place].close();
+    }
+}
+
+/// Plays a client's script over the ends of its sessions, until it is finished or something stops it. It closes all ends.
+///
+/// It waits for a reply only where its next step can't be done yet.
+pub fn play_client<E: End>(
+    alloc: Global,
+    client: Client,
+    script: &[Step],
+    first: u16,
+    ends: Vec<E>,
+    watch: &Watch,
+) -> PlayerOut<E>
+    // The client did nothing yet, and the script keeps the rules of a scenario for its world.
+    requires client { client ≡ new_client client.who.client client.who.shape client.who.interest }
+    requires script { MayPlay client.who script.now }
+    requires watch { watch.now.shape ≡ client.who.shape }
+    // There is one end for each of its sessions, which are numbered from `first`, and nothing was sent or received over them.
+    requires count { length ends.items ≡ 1 + cuts_in script.now }
+    requires numbers { first + length ends.items ≤ 64 }
+    requires fresh { AllByRecursion (λ end. IsFresh (E.told end)) ends.items }
+    ensures trace { IsTraceOf client first result.trace }
+    ensures follows { HasFollowed client.who.shape script.now result.trace result.cause }
+    ensures ends { AreDone E.told E.faults E.calm result.trace result.cause first ends.items result.ends.items }
+    ensures lines { result.cause ≢ PlayerCause.Memory → result.lines.items ≡ told_lines result.trace }
+    ensures cause { IsCause E.told E.faults E.calm client.who.shape result.trace first ends.items result.ends.items result.cause }
+    ensures exact { IsExact result.trace result.cause }
+{
+    let mut ends = ends;
+    let mut player = Player {
+        alloc,
+        client,
+        first,
+        script,
+        left: script,
+        lines: Vec::new(alloc),
+        count: 0,
+    };
+    let cause = player.play(watch, &mut ends);
+    close_all(&mut ends);
+    let Player { client, lines, .. } = player;
+    PlayerOut {
+        cause,
+        trace: client.into_trace(first),
+        lines,
+        ends,
+    }
+}

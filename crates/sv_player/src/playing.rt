@@ -1,0 +1,164 @@
+//! A client that does the steps of its script, and tells what they change of its views.
+ghost use Rattle.std.specs.Prelude.{◌≡◌, ◌≢◌, ℕ, suc, ◌<◌, ◌≤◌, ◌∷◌, ◌++◌, map, option_to_list, All, IfOk, IfErr, OnOk, OnErr, None, []};
+ghost use Rattle.sv_client.specs.declared.trace.Event.TheVariants as events;
+ghost use Rattle.sv_client.specs.declared.fault.TakeFault.TheVariants as faults;
+ghost use Rattle.sv_client.specs.Traces.{joins};
+ghost use Rattle.sv_client.specs.Taking.{first_fault_of_reply};
+ghost use Rattle.sv_client.specs.Proper.{MayMake, MayPoll, MayLeave};
+ghost use Rattle.sv_client.specs.Seen.{event_of, newly_asked, with_event};
+ghost use Rattle.sv_client.specs.Answers.{IsTakeFault, got_now};
+ghost use Rattle.sv_watch.specs.Told.{change_line, IsChangeIn};
+ghost use Rattle.sv_player.specs.Seen.{changes_since};
+ghost use Rattle.sv_player.specs.Going.{IsGoing, Did, DidInPart};
+
+use crate::telling::{Seen, seen_now, tell_since};
+use std::alloc::{AllocError, Global};
+use sv_client::{Client, MakeFault, Mark, PollFault, TakeFault};
+use sv_scenario::Step;
+use sv_watch::{Line, Watch};
+use sv_wire::{Reply, Request};
+use sv_world::{Action, copy_action};
+
+/// A client on its way through its script.
+#[derive(Drop)]
+pub(crate) struct Player<'a> {
+    pub(crate) alloc: Global,
+    pub(crate) client: Client,
+    /// The number of its first session.
+    pub(crate) first: u16,
+    pub(crate) script: &'a [Step],
+    /// The steps that are not done yet.
+    pub(crate) left: &'a [Step],
+    /// The lines told so far.
+    pub(crate) lines: Vec<Line>,
+    /// How many events there were.
+    pub(crate) count: u32,
+}
+
+impl<'a> Player<'a> {
+    /// Begins the first or the next session.
+    pub(crate) fn join(&mut self) -> Result<Vec<Request>, AllocError>
+        requires few { joins self.old.client.events < 64 }
+        requires count { self.old.count ≤ 2048 }
+        ensures requests { IfOk result (λ requests. requests.items ≡ newly_asked self.old.client.who self.old.client.events (events.Join (joins self.old.client.events))) }
+        ensures ok { OnOk result (Did (events.Join (joins self.old.client.events)) self.old.left.now self.old self.new) }
+        ensures err { OnErr result (self.new ≡ self.old) }
+    {
+        let requests = self.client.join()?;
+        self.count += 1;
+        Ok(requests)
+    }
+
+    /// Tells what the event that was done last changed since the objects were seen.
+    fn tell(&mut self, seen: Vec<Seen>, watch: &Watch) -> Result<(), AllocError>
+        requires count { self.old.count ≤ 2048 }
+        requires changes { All (IsChangeIn watch.now.shape) (changes_since self.old.client (suc self.old.count) seen.items) }
+        ensures same { (self.new.client ≡ self.old.client) × (self.new.script.now ≡ self.old.script.now) × (self.new.left.now ≡ self.old.left.now) × (self.new.first ≡ self.old.first) }
+        ensures count { self.new.count ≡ suc self.old.count }
+        ensures told { OnOk result (self.new.lines.items ≡ self.old.lines.items ++ map change_line (changes_since self.old.client (suc self.old.count) seen.items)) }
+    {
+        self.count += 1;
+        tell_since(
+            self.alloc,
+            &self.client,
+            self.count,
+            seen,
+            watch,
+            &mut self.lines,
+        )
+    }
+
+    /// Makes the action of its next step.
+    pub(crate) fn make(
+        &mut self,
+        action: &Action,
+        rest: &'a [Step],
+        watch: &Watch,
+    ) -> Result<Request, AllocError>
+        requires watch { watch.now.shape ≡ self.old.client.who.shape }
+        requires going { IsGoing self.old }
+        requires may { MayMake self.old.client.who self.old.client.events action.now }
+        requires count { self.old.count ≤ 2048 }
+        ensures request { IfOk result (λ request. request ∷ [] ≡ newly_asked self.old.client.who self.old.client.events (events.Make action.now)) }
+        ensures ok { OnOk result (Did (events.Make action.now) rest.now self.old self.new) }
+        ensures err { OnErr result (DidInPart (events.Make action.now) self.old self.new) }
+    {
+        let copy = copy_action(self.alloc, action)?;
+        let seen = seen_now(self.alloc, &self.client)?;
+        let request = match self.client.make(copy) {
+            Ok(request) => request,
+            Err(MakeFault::Memory) => return Err(AllocError),
+            Err(_) => unreachable!(),
+        };
+        self.left = rest;
+        self.tell(seen, watch)?;
+        Ok(request)
+    }
+
+    /// Asks for an abandoned action.
+    pub(crate) fn poll(&mut self, rest: &'a [Step]) -> Result<Request, AllocError>
+        requires may { MayPoll self.old.client.who self.old.client.events }
+        requires count { self.old.count ≤ 2048 }
+        ensures request { IfOk result (λ request. request ∷ [] ≡ newly_asked self.old.client.who self.old.client.events events.Poll) }
+        ensures ok { OnOk result (Did events.Poll rest.now self.old self.new) }
+        ensures err { OnErr result (self.new ≡ self.old) }
+    {
+        let request = match self.client.poll() {
+            Ok(request) => request,
+            Err(PollFault::Memory) => return Err(AllocError),
+            Err(PollFault::Busy) => unreachable!(),
+        };
+        self.count += 1;
+        self.left = rest;
+        Ok(request)
+    }
+
+    /// Leaves, with all steps done.
+    pub(crate) fn leave(&mut self) -> Result<Request, AllocError>
+        requires may { MayLeave self.old.client.who self.old.client.events }
+        requires count { self.old.count ≤ 2048 }
+        ensures request { IfOk result (λ request. request ∷ [] ≡ newly_asked self.old.client.who self.old.client.events events.Leave) }
+        ensures ok { OnOk result (Did events.Leave [] self.old self.new) }
+        ensures err { OnErr result (self.new ≡ self.old) }
+    {
+        let request = self.client.leave()?;
+        self.count += 1;
+        self.left = &[];
+        Ok(request)
+    }
+
+    /// Does a step that asks for nothing: a show, a cut or a quit.
+    pub(crate) fn note(&mut self, mark: Mark, rest: &'a [Step]) -> Result<(), AllocError>
+        requires count { self.old.count ≤ 2048 }
+        ensures ok { OnOk result (Did (event_of mark) rest.now self.old self.new) }
+        ensures err { OnErr result (self.new ≡ self.old) }
+    {
+        self.client.note(mark)?;
+        self.count += 1;
+        self.left = rest;
+        Ok(())
+    }
+
+    /// Takes a reply, and answers the Done of a relay.
+    pub(crate) fn take(
+        &mut self,
+        reply: &Reply,
+        watch: &Watch,
+    ) -> Result<Option<Request>, TakeFault>
+        requires watch { watch.now.shape ≡ self.old.client.who.shape }
+        requires going { IsGoing self.old }
+        requires count { self.old.count ≤ 2048 }
+        ensures fine { OnOk result (first_fault_of_reply self.old.client.who self.old.client.events reply.now ≡ None) }
+        ensures done { IfOk result (λ done. option_to_list done ≡ newly_asked self.old.client.who self.old.client.events (got_now self.old.client.events reply.now)) }
+        ensures ok { OnOk result (Did (got_now self.old.client.events reply.now) self.old.left.now self.old self.new) }
+        ensures fault { IfErr result (IsTakeFault self.old.client.who self.old.client.events reply.now) }
+        ensures refused { IfErr result (λ fault. fault ≢ faults.Memory → self.new ≡ self.old) }
+        ensures part { OnErr result (DidInPart (got_now self.old.client.events reply.now) self.old self.new) }
+        ensures known { OnErr result (self.new.client.events ≡ got_now self.old.client.events reply.now ∷ self.old.client.events → first_fault_of_reply self.old.client.who self.old.client.events reply.now ≡ None) }
+    {
+        let seen = seen_now(self.alloc, &self.client)?;
+        let done = self.client.take(reply)?;
+        self.tell(seen, watch)?;
+        Ok(done)
+    }
+}
