@@ -33,9 +33,11 @@ use Rattle.sv_system.specs.Fronts.{IsFront}
 use Rattle.sv_system.specs.Fits.{requests_in, replies_in, FitsIn}
 use Rattle.sv_system.specs.Records.{ends_in}
 use Rattle.sv_system.proofs.Fronts.{front-append}
-use Rattle.law_traffic.specs.Carried.{request_frames, reply_frames, is_cut, replies_of}
+use Rattle.sv_player.specs.Carried.{request_frames}
+use Rattle.sv_player.specs.Stops.{is_cut}
+use Rattle.sv_player.specs.Played.{replies_of}
 use Rattle.law_traffic.specs.Sessions.{Over, transcript, IsSessionDone}
-use Rattle.law_traffic.specs.Traffic.{is_stop, EndsWithStop, TookAll, IsTraffic}
+use Rattle.law_traffic.specs.Traffic.{reply_frames, is_stop, EndsWithStop, TookAll, IsTraffic}
 use Rattle.law_traffic.proofs.Ours.{mine, requests_are, replies_are, one_end, end_is_last}
 use Rattle.law_traffic.proofs.Dues.{full_over, due_is}
 use Rattle.law_traffic.proofs.Messages.{request_frames_both, front_all, AreTaken, taken, AreGot, got_first}

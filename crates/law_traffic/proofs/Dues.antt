@@ -17,7 +17,7 @@ use Rattle.sv_session.specs.Requests.{reply_payload, reply_frames as due_frames}
 use Rattle.sv_session.specs.Rounds.{AreNamed}
 use Rattle.sv_session.proofs.Replies.{frames_on}
 use Rattle.sv_asked.proofs.Every.{each-left}
-use Rattle.law_traffic.specs.Carried.{reply_frames}
+use Rattle.law_traffic.specs.Traffic.{reply_frames}
 use Rattle.law_traffic.proofs.Ours.{mine}
 
 -- the replies of entries in full, over a journal

@@ -17,7 +17,8 @@ use Rattle.sv_wire.specs.Laws.{IsRequest, IsReply}
 use Rattle.sv_exchange.proofs.Sizes.{request_short, reply_short, request_back, reply_back}
 use Rattle.sv_session.specs.Requests.{read_or_bad, request_for, requests_in}
 use Rattle.law_traffic.specs.Cuts.{IsCut}
-use Rattle.law_traffic.specs.Carried.{request_frames, reply_frames, was_read, BeginsWith}
+use Rattle.sv_player.specs.Carried.{request_frames, was_read, BeginsWith}
+use Rattle.law_traffic.specs.Traffic.{reply_frames}
 use Rattle.law_traffic.proofs.Cuts.{cut_frames_are_front_frames}
 
 -- ---- Parts of lists

@@ -32,9 +32,11 @@ use Rattle.sv_client.specs.declared.trace.Event.TheVariants as events
 use Rattle.sv_asked.proofs.Every.{each-right}
 use Rattle.sv_session.specs.declared.outcome.SessionOut.TheVariants as outs
 use Rattle.sv_exchange.proofs.Sizes.{reply_short, reply_back}
-use Rattle.law_traffic.specs.Carried.{reply_frames, BeginsWith, NoneCame, is_cut, replies_of}
+use Rattle.sv_player.specs.Carried.{BeginsWith}
+use Rattle.sv_player.specs.Stops.{NoneCame, is_cut}
+use Rattle.sv_player.specs.Played.{replies_of}
 use Rattle.law_traffic.specs.Sessions.{Over, IsSessionDone}
-use Rattle.law_traffic.specs.Traffic.{is_stop, EndsWithStop, TookAll}
+use Rattle.law_traffic.specs.Traffic.{reply_frames, is_stop, EndsWithStop, TookAll}
 use Rattle.law_traffic.specs.Stuck.{IsTakeable}
 use Rattle.law_traffic.proofs.Cuts.{front_none, empty_short, not_long}
 use Rattle.law_traffic.proofs.Messages.{requests_fit, request_frames_are, reply_frames_both, AreGot, got_first}

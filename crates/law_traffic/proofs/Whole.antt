@@ -1,5 +1,5 @@
 -- The open sessions of a run, and the traffic of all sessions.
-use Rattle.std.proofs.Common.{◌≡◌, ℕ, zero, suc, ◌+◌, ◌-◌, ◌≤◌, Bool, true, List, [], ◌∷◌, length, map, reverse, Some, None, slice_get, Result, Ok, Err, inl, inr, ◌⊎◌, ℤ, sym, ap, subst, ◌∙◌, arith, refl}
+use Rattle.std.proofs.Common.{◌≡◌, ℕ, zero, suc, ◌+◌, ◌-◌, ◌≤◌, Bool, true, List, [], ◌∷◌, length, map, reverse, Some, None, slice_get, Option, option_map, Result, Ok, Err, ◌≢◌, inl, inr, ◌⊎◌, ℤ, sym, ap, subst, ◌∙◌, arith, refl}
 use Rattle.std.specs.Prelude.{All}
 use Rattle.std.specs.List.{AllByRecursion}
 use Rattle.std.proofs.lemmas.List.{length-map}
@@ -14,7 +14,14 @@ use Rattle.sv_journal.specs.Answer.{Rules, Legal}
 use Rattle.sv_journal.specs.Laws.{FullRepliesStay, LegalRelaysNameAccepted}
 use Rattle.sv_client.specs.declared.trace.Trace.{Trace}
 use Rattle.sv_client.specs.Traces.{current_session, requests_of, got}
-use Rattle.sv_client.specs.Taking.{first_fault_of_reply}
+use Rattle.sv_client.specs.Seen.{fault_named}
+use Rattle.sv_client.specs.Taking.{Identity, Fault, first_fault_of_reply}
+use Rattle.sv_client.specs.declared.fault.TakeFault.{TakeFault}
+use Rattle.sv_client.specs.declared.fault.TakeFault.TheVariants as take_faults
+use Rattle.sv_client.specs.declared.trace.Event.{Event}
+use Rattle.sv_client.specs.Answers.{IsTakeFault}
+use Rattle.sv_world.specs.declared.world.Shape.{Shape}
+use Rattle.sv_frame.specs.Frames.{first_frame}
 use Rattle.sv_client.specs.Proper.{identity_of}
 use Rattle.sv_scenario.specs.declared.scenario.Plan.{Plan}
 use Rattle.sv_scenario.specs.declared.scenario.Scenario.{Scenario}
@@ -23,10 +30,14 @@ use Rattle.sv_system.specs.Records.{rules_of, EachTrace, ScriptsAreFollowed}
 use Rattle.sv_script.specs.Following.{FollowsToEnd}
 use Rattle.sv_system.proofs.Asked.{any-reverse, current-joined}
 use Rattle.sv_asked.specs.Asked.{RepliesAreMessages}
-use Rattle.law_traffic.specs.Carried.{BeginsWith, replies_of}
+use Rattle.sv_player.specs.Carried.{BeginsWith}
+use Rattle.sv_player.specs.Stops.{IsShut, IsBad, IsBadRest, IsRefused, first_payload}
+use Rattle.sv_player.specs.Played.{replies_of}
+use Rattle.sv_player.specs.declared.outcome.ReplyFault.{ReplyFault}
+use Rattle.sv_player.specs.declared.outcome.ReplyFault.TheVariants as reply_faults
 use Rattle.law_traffic.specs.Sessions.{Over, transcript, IsSessionDone}
 use Rattle.law_traffic.specs.Traffic.{IsTraffic}
-use Rattle.law_traffic.specs.Stuck.{IsShut, IsBadRest, NotRead, Refused, TooLong, IsStopped, IsTakeable}
+use Rattle.law_traffic.specs.Stuck.{HasBad, IsStopped, IsTakeable}
 use Rattle.law_traffic.specs.Runs.{EachSession, IsRun, IsGoodRun, IsOpenIn, TrafficIsRecorded, EndOrAreStopped, UncutSessionsHaveNoFault}
 use Rattle.law_traffic.proofs.Asking.{few_asked}
 use Rattle.law_traffic.proofs.Bytes.{all, all_are, traffic_of}
@@ -64,6 +75,23 @@ same_reply x y e = ap value e
     value : Result Reply Malformed → Reply
     value (Ok w) = w
     value _ = x
+
+-- the frame whose payload comes first
+framed : (rest payload : List ℕ) → first_payload rest ≡ Some payload → (after : List ℕ) × (first_frame rest ≡ Some (payload, after))
+framed rest payload e = go (first_frame rest) e
+  where
+    go : (o : Option (List ℕ × List ℕ)) → option_map (λ (f : List ℕ × List ℕ). f.0) o ≡ Some payload → (after : List ℕ) × (o ≡ Some (payload, after))
+    go None e = absurd (none-some payload e)
+    go (Some f) e = (f.1, ap (λ (p : List ℕ). Some (p, f.1)) (same_Some f.0 payload e))
+
+-- a reply that is refused has a fault
+not_fine : (who : Identity) (t : List Event) (reply : Reply) (fault : TakeFault) → fault ≢ take_faults.Memory → IsTakeFault who t reply fault → first_fault_of_reply who t reply ≡ None → ⊥
+not_fine who t reply take_faults.Unasked some is none = cc
+not_fine who t reply take_faults.WrongKind some is none = cc
+not_fine who t reply take_faults.BadOrder some is none = cc
+not_fine who t reply take_faults.BadItem some is none = cc
+not_fine who t reply (take_faults.Missing pos object) some is none = cc
+not_fine who t reply take_faults.Memory some is none = some refl
 
 map_there : {X Y : Type 0} (f : X → Y) (xs : List X) (i : ℕ) (x : X) → slice_get xs i ≡ Some x → slice_get (map f xs) i ≡ Some (f x)
 map_there f [] i x e = absurd (none-some x e)
@@ -123,8 +151,8 @@ module _ (stay : FullRepliesStay) (name : LegalRelaysNameAccepted) (messages : R
     can_be_sent =
         subst (AllByRecursion IsReply) (all_are stay name journal L s x open_done) (sendable stay name messages scenario journal Ls sessions good run s)
 
-    pub not_shut : IsShut L s x.client → ⊥
-    not_shut shut =
+    pub not_shut : (shape : Shape) → IsShut (identity_of shape L) (reverse L.events) s x.client → ⊥
+    not_shut shape shut =
         let same = none_is_awaited stay name journal L s x open_done can_be_sent shut.rest shut.received scenario.world.shape mine_well.1.proper o.session.open_is shut.ended shut.none in
         let awaited = shut.awaited in
         omega (arith, same, awaited)
@@ -141,23 +169,28 @@ module _ (stay : FullRepliesStay) (name : LegalRelaysNameAccepted) (messages : R
 
   -- ---- The ends of traces
 
-  not_bad : NeverRefused → (L : Trace) (s : ℕ) (x : Over) → IsOpenIn Ls sessions L s x → (rest : List ℕ) → BeginsWith x.client.received (replies_of L s) rest → IsBadRest scenario.world.shape L rest → ⊥
-  not_bad law L s x o rest begins (NotRead payload after fault first err) =
-      let n = (next_taken L s x o law rest begins).next payload after first in
-      let same : Ok n.0 ≡ Err fault = sym n.1.0 ∙ err in
+  not_bad : NeverRefused → (L : Trace) (s : ℕ) (x : Over) → IsOpenIn Ls sessions L s x → (rest : List ℕ) → BeginsWith x.client.received (replies_of L s) rest → (payload : List ℕ) (fault : ReplyFault) →
+      IsBadRest (identity_of scenario.world.shape L) (reverse L.events) rest payload fault → ⊥
+  not_bad law L s x o rest begins payload (reply_faults.Wire fault) bad =
+      let first = framed rest payload bad.0 in
+      let n = (next_taken L s x o law rest begins).next payload first.0 first.1 in
+      let same : Ok n.0 ≡ Err fault = sym n.1.0 ∙ bad.1 in
       cc
-  not_bad law L s x o rest begins (Refused payload after reply fault first read some) =
-      let n = (next_taken L s x o law rest begins).next payload after first in
-      let same : n.0 ≡ reply = same_reply n.0 reply (sym n.1.0 ∙ read) in
-      none-some fault (sym n.1.1 ∙ (ap (first_fault_of_reply (identity_of scenario.world.shape L) (reverse L.events)) same ∙ some))
-  not_bad law L s x o rest begins (TooLong n long) = none-some n (sym (next_taken L s x o law rest begins).short ∙ long)
+  not_bad law L s x o rest begins payload (reply_faults.Take fault) bad =
+      let first = framed rest payload bad.0 in
+      let n = (next_taken L s x o law rest begins).next payload first.0 first.1 in
+      let refused = bad.1 in
+      let same : n.0 ≡ refused.reply = same_reply n.0 refused.reply (sym n.1.0 ∙ refused.read) in
+      not_fine (identity_of scenario.world.shape L) (reverse L.events) refused.reply fault refused.some refused.fault_is
+      (sym (ap (first_fault_of_reply (identity_of scenario.world.shape L) (reverse L.events)) same) ∙ n.1.1)
+  not_bad law L s x o rest begins payload (reply_faults.TooLong n) bad = none-some n (sym (next_taken L s x o law rest begins).short ∙ bad.1)
 
   not_stopped : NeverRefused → (i : ℕ) (L : Trace) → slice_get Ls i ≡ Some L → IsStopped scenario.world.shape L sessions → ⊥
   not_stopped law i L member stop =
       let o : IsOpenIn Ls sessions L stop.session stop.over = record { place = i; member = member; session = stop.open_is; there = stop.there } in
       elim stop.how [
-        | inl shut ↦ not_shut L stop.session stop.over o shut
-        | inr bad ↦ not_bad law L stop.session stop.over o bad.rest bad.received bad.bad
+        | inl shut ↦ not_shut L stop.session stop.over o scenario.world.shape shut
+        | inr bad ↦ not_bad law L stop.session stop.over o bad.bad.rest bad.bad.received bad.payload bad.fault bad.bad.bad
       ]
 
   to_the_end : NeverRefused → (i : ℕ) (plan : Plan) (L : Trace) → slice_get Ls i ≡ Some L → FollowsToEnd scenario.world.shape plan.steps L ⊎ IsStopped scenario.world.shape L sessions →

@@ -1,4 +1,3 @@
-pub mod Carried
 pub mod Cuts
 pub mod Sessions
 pub mod Traffic

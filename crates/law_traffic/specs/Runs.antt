@@ -7,17 +7,19 @@ use Rattle.sv_journal.specs.declared.entry.Entry.{Entry}
 use Rattle.sv_journal.specs.Answer.{Legal}
 use Rattle.sv_lock.specs.Histories.{AreBelow}
 use Rattle.sv_client.specs.declared.trace.Trace.{Trace}
-use Rattle.sv_client.specs.Proper.{Proper}
+use Rattle.sv_client.specs.Proper.{Proper, identity_of}
 use Rattle.sv_scenario.specs.declared.scenario.Plan.{Plan}
 use Rattle.sv_scenario.specs.declared.scenario.Scenario.{Scenario}
 use Rattle.sv_scenario.specs.Limits.{IsGoodScenario}
 use Rattle.sv_scenario.specs.Sessions.{sessions_of_plan, session_count}
 use Rattle.sv_script.specs.Following.{Follows, FollowsToEnd}
 use Rattle.sv_system.specs.Records.{rules_of, AreTracesOf, EachTrace, ScriptsAreFollowed, IsRecordOf, IsFullRecord}
-use Rattle.law_traffic.specs.Carried.{BeginsWith, is_cut, replies_of}
+use Rattle.sv_player.specs.Carried.{BeginsWith}
+use Rattle.sv_player.specs.Stops.{is_cut, IsShut}
+use Rattle.sv_player.specs.Played.{replies_of, IsOpenSession}
 use Rattle.law_traffic.specs.Sessions.{Over, transcript, IsSettled, IsSessionDone}
 use Rattle.law_traffic.specs.Traffic.{IsTraffic}
-use Rattle.law_traffic.specs.Stuck.{IsOpenSession, IsShut, IsStopped, IsTakeable}
+use Rattle.law_traffic.specs.Stuck.{IsStopped, IsTakeable}
 
 -- There is one for each session of a client, at its number in the list, and this holds of it.
 abbrev pub EachSession : {X : Type 0} → (ℕ → X → Type 0) → List X → Plan → Trace → Type 0
@@ -80,7 +82,8 @@ pub record IsOpenIn (Ls : List Trace) (sessions : List Over) (L : Trace) (s : �
 -- No client awaits a reply at an end that told that no more will come.
 abbrev pub NoClientIsShut : Type 0
 NoClientIsShut = (scenario : Scenario) (journal : List Entry) (Ls : List Trace) (sessions : List Over) (L : Trace) (s : ℕ) (x : Over) →
-    IsGoodRun scenario → IsRun scenario journal Ls sessions → IsOpenIn Ls sessions L s x → IsShut L s x.client → ⊥
+    IsGoodRun scenario → IsRun scenario journal Ls sessions → IsOpenIn Ls sessions L s x →
+    IsShut (identity_of scenario.world.shape L) (reverse L.events) s x.client → ⊥
 
 -- Each reply that comes next in an open session is one that its client takes.
 abbrev pub NextRepliesAreTaken : Type 0

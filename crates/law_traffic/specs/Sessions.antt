@@ -14,7 +14,9 @@ use Rattle.sv_lock.specs.Passes.{session_number}
 use Rattle.sv_session.specs.Serving.{SessionPass, Served, SessionCause}
 use Rattle.sv_session.specs.declared.outcome.SessionOut.{SessionOut}
 use Rattle.sv_session.specs.declared.outcome.SessionOut.TheVariants as outs
-use Rattle.law_traffic.specs.Carried.{request_frames, BeginsWith, is_cut, replies_of}
+use Rattle.sv_player.specs.Carried.{request_frames, BeginsWith}
+use Rattle.sv_player.specs.Stops.{is_cut}
+use Rattle.sv_player.specs.Played.{replies_of}
 
 -- A session that is over: its two ends with their counts of faults, and why its loop stopped.
 pub record Over : Type 0 where

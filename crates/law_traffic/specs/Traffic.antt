@@ -2,19 +2,26 @@
 -- A history is the list of a journal's entries with the latest first.
 use Rattle.std.specs.Prelude.{◌≡◌, ◌⊎◌, ℕ, Bool, true, false, ◌==◌, ◌||◌, List, [], ◌∷◌, ◌++◌, map, reverse}
 use mathlib.Core.List.{IsPrefix}
+use Rattle.sv_frame.specs.Frames.{frames_of}
 use Rattle.sv_frame.specs.Streams.{incoming_items}
 use Rattle.sv_frame.specs.Streams.Incoming.{Payload}
 use Rattle.sv_link.specs.Nets.{Transcript}
 use Rattle.sv_wire.specs.declared.message.Request.{Request}
 use Rattle.sv_wire.specs.declared.message.Reply.{Reply}
 use Rattle.sv_wire.specs.declared.message.Reply.TheVariants as replies
-use Rattle.sv_wire.specs.Spelling.{request_bytes}
+use Rattle.sv_wire.specs.Spelling.{request_bytes, reply_bytes}
 use Rattle.sv_journal.specs.declared.entry.Entry.{Entry}
 use Rattle.sv_journal.specs.History.{accepted}
 use Rattle.sv_client.specs.declared.trace.Trace.{Trace}
 use Rattle.sv_client.specs.Traces.{requests_of}
 use Rattle.sv_system.specs.Fits.{requests_in, replies_in}
-use Rattle.law_traffic.specs.Carried.{request_frames, reply_frames, is_cut, replies_of}
+use Rattle.sv_player.specs.Carried.{request_frames}
+use Rattle.sv_player.specs.Stops.{is_cut}
+use Rattle.sv_player.specs.Played.{replies_of}
+
+-- the frames of replies, one after the other
+unfoldable pub reply_frames : List Reply → List ℕ
+reply_frames replies = frames_of (map reply_bytes replies)
 
 -- the replies after which a session's loop stops: Bye, and Refused for a malformed payload, an ended session and a spent one
 abbrev pub is_stop : Reply → Bool

@@ -4,7 +4,7 @@ use Rattle.law_traffic.proofs.runs.open_sessions_go_on.Goals as goal
 pub returns-clause-shut : goal.returns-clause-shut
 returns-clause-shut c =
     λ scenario journal Ls sessions L s x good run here shut.
-    not_shut c.full_replies_stay.ensures c.legal_relays_name_accepted.ensures c.replies_are_messages.ensures scenario journal Ls sessions good run L s x here shut
+    not_shut c.full_replies_stay.ensures c.legal_relays_name_accepted.ensures c.replies_are_messages.ensures scenario journal Ls sessions good run L s x here scenario.world.shape shut
 
 pub returns-clause-taken : goal.returns-clause-taken
 returns-clause-taken c =

@@ -1,0 +1,128 @@
+-- One task's out more.
+use Rattle.std.proofs.Common.{◌≡◌, ℕ, ◌+◌, ◌<◌, Bool, true, false, ◌||◌, List, [], ◌∷◌, ◌++◌, map, length, refl, sym, ap, subst, ◌∙◌, append_assoc, append-nil, true≢false, arith}
+use Rattle.std.specs.List.{AllByRecursion, flat_map}
+use Rattle.std.proofs.lemmas.List.{map-append}
+use Rattle.std.proofs.lemmas.List.Concat.{flat_map-append}
+use mathlib.Core.List.{IsPrefix}
+use Rattle.sv_journal.specs.declared.entry.Entry.{Entry}
+use Rattle.sv_lock.proofs.Histories.{prefix_trans}
+use Rattle.sv_client.specs.declared.trace.Trace.{Trace}
+use Rattle.sv_session.specs.Serving.{SessionPass}
+use Rattle.sv_player.specs.declared.outcome.PlayerOut.{PlayerOut}
+use Rattle.sv_asked.proofs.Every.{each-append}
+use Rattle.sv_play.specs.declared.tasks.Serviced.{Serviced}
+use Rattle.sv_play.specs.declared.tasks.TaskOut.{TaskOut}
+use Rattle.sv_play.specs.declared.tasks.TaskOut.TheVariants as outs
+use Rattle.sv_play.specs.declared.gathering.ClientEnd.{ClientEnd}
+use Rattle.sv_play.specs.declared.gathering.Left.{Left}
+use Rattle.sv_play.specs.Tasks.{serviced_of, played_of}
+use Rattle.sv_play.specs.Left.{own_of, ends_of, is_memory, is_unplayed, Gathered, Knows, Joined}
+
+neither : (a b : Bool) → (a || b) ≡ false → (a ≡ false) × (b ≡ false)
+neither true b e = absurd (true≢false e)
+neither false b e = (refl, e)
+
+each_more : {X : Type 0} (P : X → Type 0) (xs : List X) (x : X) → AllByRecursion P xs → P x → AllByRecursion P (xs ++ x ∷ [])
+each_more P xs x all one = each-append P xs (x ∷ []) all (one, tt)
+
+module _ {E : Type 0} where
+  served_more : (os : List (TaskOut E)) (y : Serviced E) → serviced_of (os ++ outs.Served y ∷ []) ≡ serviced_of os ++ y ∷ []
+  served_more [] y = refl
+  served_more (outs.Served x ∷ os) y = ap (λ (l : List (Serviced E)). x ∷ l) (served_more os y)
+  served_more (outs.Played x ∷ os) y = served_more os y
+
+  served_same : (os : List (TaskOut E)) (y : PlayerOut E) → serviced_of (os ++ outs.Played y ∷ []) ≡ serviced_of os
+  served_same [] y = refl
+  served_same (outs.Served x ∷ os) y = ap (λ (l : List (Serviced E)). x ∷ l) (served_same os y)
+  served_same (outs.Played x ∷ os) y = served_same os y
+
+  played_same : (os : List (TaskOut E)) (y : Serviced E) → played_of (os ++ outs.Served y ∷ []) ≡ played_of os
+  played_same [] y = refl
+  played_same (outs.Served x ∷ os) y = played_same os y
+  played_same (outs.Played x ∷ os) y = ap (λ (l : List (PlayerOut E)). x ∷ l) (played_same os y)
+
+  played_more : (os : List (TaskOut E)) (y : PlayerOut E) → played_of (os ++ outs.Played y ∷ []) ≡ played_of os ++ y ∷ []
+  played_more [] y = refl
+  played_more (outs.Served x ∷ os) y = played_more os y
+  played_more (outs.Played x ∷ os) y = ap (λ (l : List (PlayerOut E)). x ∷ l) (played_more os y)
+
+  pub gathered_server : (os : List (TaskOut E)) (y : Serviced E) (a b : Left E) → Gathered os a → b.servers.items ≡ a.servers.items ++ y.end ∷ [] → b.lacked ≡ (a.lacked || is_memory y.out) →
+      b.clients.items ≡ a.clients.items → b.traces.items ≡ a.traces.items → b.lines.items ≡ a.lines.items → Gathered (os ++ outs.Served y ∷ []) b
+  gathered_server os y a b g servers lacked clients traces lines =
+      record {
+        servers =
+          servers ∙ ap (λ (l : List E). l ++ y.end ∷ []) g.servers
+          ∙ sym (map-append (λ (x : Serviced E). x.end) (serviced_of os) (y ∷ [])) ∙ ap (map (λ (x : Serviced E). x.end)) (sym (served_more os y));
+        clients = clients ∙ g.clients ∙ ap (flat_map ends_of) (sym (played_same os y));
+        traces = traces ∙ g.traces ∙ ap (map (λ (x : PlayerOut E). x.trace)) (sym (played_same os y));
+        lines = lines ∙ g.lines ∙ ap (map (λ (x : PlayerOut E). x.lines)) (sym (played_same os y));
+        served = λ none.
+          let both = neither a.lacked (is_memory y.out) (sym lacked ∙ none) in
+          subst (AllByRecursion (λ (x : Serviced E). is_memory x.out ≡ false)) (sym (served_more os y))
+          (each_more (λ (x : Serviced E). is_memory x.out ≡ false) (serviced_of os) y (g.served both.0) both.1);
+        played = λ none.
+          let both = neither a.lacked (is_memory y.out) (sym lacked ∙ none) in
+          subst (AllByRecursion (λ (x : PlayerOut E). is_unplayed x.cause ≡ false)) (sym (played_same os y)) (g.played both.0);
+      }
+
+  pub gathered_client : (os : List (TaskOut E)) (y : PlayerOut E) (a b : Left E) → Gathered os a → b.clients.items ≡ a.clients.items ++ ends_of y → b.traces.items ≡ a.traces.items ++ y.trace ∷ [] →
+      b.lines.items ≡ a.lines.items ++ y.lines ∷ [] → b.lacked ≡ (a.lacked || is_unplayed y.cause) → b.servers.items ≡ a.servers.items → Gathered (os ++ outs.Played y ∷ []) b
+  gathered_client os y a b g clients traces lines lacked servers =
+      record {
+        servers = servers ∙ g.servers ∙ ap (map (λ (x : Serviced E). x.end)) (sym (served_same os y));
+        clients =
+          clients ∙ ap (λ (l : List (ClientEnd E)). l ++ ends_of y) g.clients
+          ∙ ap (λ (l : List (ClientEnd E)). flat_map ends_of (played_of os) ++ l) (sym (append-nil (ends_of y)))
+          ∙ sym (flat_map-append ends_of (played_of os) (y ∷ [])) ∙ ap (flat_map ends_of) (sym (played_more os y));
+        traces =
+          traces ∙ ap (λ (l : List Trace). l ++ y.trace ∷ []) g.traces
+          ∙ sym (map-append (λ (x : PlayerOut E). x.trace) (played_of os) (y ∷ [])) ∙ ap (map (λ (x : PlayerOut E). x.trace)) (sym (played_more os y));
+        lines =
+          lines ∙ ap (λ l. l ++ y.lines ∷ []) g.lines
+          ∙ sym (map-append (λ (x : PlayerOut E). x.lines) (played_of os) (y ∷ [])) ∙ ap (map (λ (x : PlayerOut E). x.lines)) (sym (played_more os y));
+        served = λ none.
+          let both = neither a.lacked (is_unplayed y.cause) (sym lacked ∙ none) in
+          subst (AllByRecursion (λ (x : Serviced E). is_memory x.out ≡ false)) (sym (served_same os y)) (g.served both.0);
+        played = λ none.
+          let both = neither a.lacked (is_unplayed y.cause) (sym lacked ∙ none) in
+          subst (AllByRecursion (λ (x : PlayerOut E). is_unplayed x.cause ≡ false)) (sym (played_more os y))
+          (each_more (λ (x : PlayerOut E). is_unplayed x.cause ≡ false) (played_of os) y (g.played both.0) both.1);
+      }
+
+  -- ---- The keeper
+
+  all_seen : (ys : List (Serviced E)) (old new : List Entry) → IsPrefix old new → AllByRecursion (λ (y : Serviced E). IsPrefix y.pass.seen old) ys → AllByRecursion (λ (y : Serviced E). IsPrefix y.pass.seen new) ys
+  all_seen [] old new on all = tt
+  all_seen (y ∷ ys) old new on all = (prefix_trans y.pass.seen old new all.0 on, all_seen ys old new on all.1)
+
+  pub joined_none : (k : SessionPass) → Joined {E = E} [] k k
+  joined_none k = record { lock = refl; session = refl; base = refl; made = refl; ended = sym (append-nil k.ended); seen = tt; knows = λ some. absurd (omega (arith, some)) }
+
+  pub joined_server : (os : List (TaskOut E)) (y : Serviced E) (k a b : SessionPass) → Joined os k a → b.lock ≡ a.lock → b.session ≡ a.session → b.base ≡ a.base → b.made ≡ a.made →
+      b.ended ≡ a.ended ++ own_of y ∷ [] → IsPrefix a.seen b.seen → IsPrefix y.pass.seen b.seen → Knows b → Joined (os ++ outs.Served y ∷ []) k b
+  joined_server os y k a b j lock session base made ended on own knows =
+      record {
+        lock = lock ∙ j.lock;
+        session = session ∙ j.session;
+        base = base ∙ j.base;
+        made = made ∙ j.made;
+        ended =
+          ended ∙ ap (λ (l : List (ℕ × List Entry)). l ++ own_of y ∷ []) j.ended ∙ append_assoc k.ended (map own_of (serviced_of os)) (own_of y ∷ [])
+          ∙ ap (λ (l : List (ℕ × List Entry)). k.ended ++ l) (sym (map-append own_of (serviced_of os) (y ∷ [])) ∙ ap (map own_of) (sym (served_more os y)));
+        seen =
+          subst (AllByRecursion (λ (x : Serviced E). IsPrefix x.pass.seen b.seen)) (sym (served_more os y))
+          (each_more (λ (x : Serviced E). IsPrefix x.pass.seen b.seen) (serviced_of os) y (all_seen (serviced_of os) a.seen b.seen on j.seen) own);
+        knows = λ some. knows;
+      }
+
+  pub joined_client : (os : List (TaskOut E)) (y : PlayerOut E) (k a : SessionPass) → Joined os k a → Joined (os ++ outs.Played y ∷ []) k a
+  joined_client os y k a j =
+      record {
+        lock = j.lock;
+        session = j.session;
+        base = j.base;
+        made = j.made;
+        ended = j.ended ∙ ap (λ (l : List (Serviced E)). k.ended ++ map own_of l) (sym (served_same os y));
+        seen = subst (AllByRecursion (λ (x : Serviced E). IsPrefix x.pass.seen a.seen)) (sym (served_same os y)) j.seen;
+        knows = λ some. j.knows (subst (λ (l : List (Serviced E)). 0 < length l) (served_same os y) some);
+      }

@@ -1,0 +1,15 @@
+use Rattle.std.proofs.Common.{◌≡◌, ◌++◌, []}
+use Rattle.sv_play.specs.Tasks.{services_of, parts_of}
+use Rattle.sv_play.proofs.opening.make_tasks.Given as goal
+
+abbrev pub invariant-loop-service : goal.invariant-loop-service
+invariant-loop-service g l = record {
+  services : services_of l.tasks.items ++ l.service-iterator.rest.items ≡ l.fn.services.items;
+  parts : parts_of l.tasks.items ≡ [];
+}
+
+abbrev pub invariant-loop-part : goal.invariant-loop-part
+invariant-loop-part g l = record {
+  services : services_of l.tasks.items ≡ l.fn.services.items;
+  parts : parts_of l.tasks.items ++ l.part-iterator.rest.items ≡ l.fn.parts.items;
+}

@@ -1,0 +1,7 @@
+pub mod Places
+pub mod Tasks
+pub mod Given
+pub mod Left
+pub mod Opening
+pub mod Settling
+pub mod Playing

@@ -1,0 +1,130 @@
+//! A scenario's run on threads.
+ghost use Rattle.std.specs.Prelude.{◌≡◌, ◌≢◌, ◌+◌, reverse, length, IfOk, IsOk, Err};
+ghost use Rattle.std.specs.List.{flat_map};
+ghost use Rattle.sv_scenario.specs.Limits.{IsGoodScenario};
+ghost use Rattle.sv_scenario.specs.Sessions.{session_count};
+ghost use Rattle.sv_script.specs.Telling.{told_lines};
+ghost use Rattle.sv_play.specs.Given.{keeper_after};
+ghost use Rattle.sv_play.specs.Settling.{SomeDiffer};
+ghost use Rattle.sv_play.specs.Playing.{IsThreadedRun, TookAllIn, PlayCause};
+
+use crate::gathering::{Left, gather};
+use crate::opening::Hall;
+use crate::outcome::{PlayFault, Playing};
+use crate::settling::settle_all;
+use crate::tasks::Teller;
+use law_traffic::threaded_runs_leave_records;
+use std::alloc::{AllocError, Global};
+use std::sync::Wait;
+use std::thread::Threads;
+use sv_link::{Crew, Gate, Net, Ran};
+use sv_lock::{Pass, SeqLock};
+use sv_numbers::read_scenario_numbers;
+use sv_scenario::{Scenario, sessions_of};
+use sv_sequencer::Sequencer;
+use sv_watch::{Line, Watch};
+use sv_world::List;
+
+/// Runs a scenario on threads: one job for each session, over the locked sequencer, and one for each client.
+///
+/// Each session has a pair of ends and a pass, made in the order of the sessions' numbers. Once all jobs are done, the keeper takes all passes
+/// in, and all pairs are settled. Where a thread can't be started the answer is Start, where a pair can't be made or does not match it is
+/// Link, and else where anything had no memory it is Memory.
+pub fn play_all<N: Net, C: Crew, G: Gate + Sync, R: Threads + Wait + Sync>(
+    alloc: Global,
+    rt: &R,
+    scenario: &Scenario,
+    lock: &SeqLock<Sequencer>,
+    keeper: &mut Pass<Sequencer>,
+    net: &mut N,
+    crew: &mut C,
+    gate: &G,
+    watch: &Watch,
+) -> Result<Playing, PlayFault>
+    requires good { IsGoodScenario scenario.now }
+    requires passes { lock.now.passes ≡ session_count scenario.now }
+    requires keeper { keeper.old ≡ keeper_after 0 lock.now scenario.now }
+    requires watch { watch.now.shape ≡ scenario.now.world.shape }
+    ensures run { IfOk result (λ p. IsThreadedRun scenario.now (reverse keeper.new.seen) p.traces (N.settled net.old) (N.settled net.new) (C.ran crew.old) (C.ran crew.new)) }
+    ensures lines { IfOk result (λ p. p.lines.items ≡ flat_map told_lines p.traces) }
+    ensures keeper { IfOk result (λ p. TookAllIn scenario.now keeper.old keeper.new) }
+    ensures cause { PlayCause (C.faults crew.old) (C.faults crew.new) (N.faults net.old) (N.faults net.new) result }
+    ensures calm { N.calm net.old → N.calm net.new }
+    ensures certain { N.calm net.old → result ≡ Err PlayFault.Link → SomeDiffer N.E.told N.E.calm (N.made net.old) (N.made net.new) }
+{
+    play_with(
+        alloc, rt, scenario, lock, keeper, net, crew, gate, watch,
+    )
+}
+
+/// The run, with whatever tells the changes.
+fn play_with<N: Net, C: Crew, G: Gate + Sync, W: Teller + Sync, R: Threads + Wait + Sync>(
+    alloc: Global,
+    rt: &R,
+    scenario: &Scenario,
+    lock: &SeqLock<Sequencer>,
+    keeper: &mut Pass<Sequencer>,
+    net: &mut N,
+    crew: &mut C,
+    gate: &G,
+    teller: &W,
+) -> Result<Playing, PlayFault>
+    requires good { IsGoodScenario scenario.now }
+    requires passes { lock.now.passes ≡ session_count scenario.now }
+    requires keeper { keeper.old ≡ keeper_after 0 lock.now scenario.now }
+    requires teller { W.shape teller.now ≡ scenario.now.world.shape }
+    ensures run { IfOk result (λ p. IsThreadedRun scenario.now (reverse keeper.new.seen) p.traces (N.settled net.old) (N.settled net.new) (C.ran crew.old) (C.ran crew.new)) }
+    ensures lines { IfOk result (λ p. p.lines.items ≡ flat_map told_lines p.traces) }
+    ensures keeper { IfOk result (λ p. TookAllIn scenario.now keeper.old keeper.new) }
+    ensures cause { PlayCause (C.faults crew.old) (C.faults crew.new) (N.faults net.old) (N.faults net.new) result }
+    ensures calm { N.calm net.old → N.calm net.new }
+    ensures certain { N.calm net.old → result ≡ Err PlayFault.Link → SomeDiffer N.E.told N.E.calm (N.made net.old) (N.made net.new) }
+{
+    read_scenario_numbers(scenario);
+    threaded_runs_leave_records();
+    let hall = Hall {
+        alloc,
+        scenario,
+        lock,
+        gate,
+        teller,
+    };
+    let tasks = hall.open(net, keeper)?;
+    let mut left = Left::new(alloc, sessions_of(scenario), scenario.clients.len())?;
+    let outs = match crew.run_all(rt, tasks) {
+        Ran::Done(outs) => outs,
+        Ran::Failed => return Err(PlayFault::Start),
+        Ran::Memory => return Err(PlayFault::Memory),
+    };
+    gather(lock, keeper, outs, &mut left);
+    let Left {
+        servers,
+        clients,
+        traces,
+        lines,
+        lacked,
+    } = left;
+    if !settle_all(net, servers, clients) {
+        return Err(PlayFault::Link);
+    }
+    if lacked {
+        return Err(PlayFault::Memory);
+    }
+    Ok(Playing {
+        traces: List::from_vec(traces),
+        lines: all_lines(alloc, lines)?,
+    })
+}
+
+/// The lines of all clients, one after the other.
+fn all_lines(alloc: Global, lines: Vec<Vec<Line>>) -> Result<Vec<Line>, AllocError>
+    ensures { IfOk result (λ all. all.items ≡ flat_map (λ v. v.items) lines.items) }
+{
+    let mut all = Vec::new(alloc);
+    for own in lines {
+        for line in own {
+            all.push(line)?;
+        }
+    }
+    Ok(all)
+}

@@ -1,0 +1,146 @@
+//! What the threads of a run do: serve a session, or play a client.
+ghost use Rattle.std.specs.Prelude.{◌≡◌, false};
+ghost use Rattle.sv_world.specs.declared.world.Shape.{Shape};
+ghost use Rattle.sv_session.specs.Serving.{MayServe};
+ghost use Rattle.sv_play.specs.Tasks.{MayTakePart, TookPart, WasServed};
+
+use std::alloc::Global;
+use std::sync::Wait;
+use std::thread::Threads;
+use sv_client::Client;
+use sv_link::{End, Gate, Job};
+use sv_lock::{Pass, SeqLock};
+use sv_player::{PlayerOut, play_client};
+use sv_scenario::Step;
+use sv_sequencer::Sequencer;
+use sv_session::{SessionOut, serve_session};
+use sv_watch::Watch;
+
+/// A session that is to be served.
+#[derive(Drop)]
+pub(crate) struct Service<'a, E, G> {
+    pub(crate) alloc: Global,
+    pub(crate) lock: &'a SeqLock<Sequencer>,
+    pub(crate) pass: Pass<Sequencer>,
+    pub(crate) end: E,
+    pub(crate) gate: &'a G,
+}
+
+/// What tells the changes of views, where clients play. It stands for `Watch`, so that no type of a task has its callback.
+pub(crate) trait Teller {
+    ghost shape: { Self → Shape };
+
+    /// Plays a client's script over the ends of its sessions, and tells what changes.
+    fn play<E: End>(
+        &self,
+        alloc: Global,
+        client: Client,
+        script: &[Step],
+        first: u16,
+        ends: Vec<E>,
+    ) -> PlayerOut<E>
+        requires { MayTakePart E.told (shape self.now) client script.now first ends.items }
+        ensures { TookPart E.told E.faults E.calm client script.now first ends.items result };
+}
+
+impl Teller for Watch {
+    ghost shape = { λ w. w.shape };
+
+    fn play<E: End>(
+        &self,
+        alloc: Global,
+        client: Client,
+        script: &[Step],
+        first: u16,
+        ends: Vec<E>,
+    ) -> PlayerOut<E> {
+        play_client(alloc, client, script, first, ends, self)
+    }
+}
+
+/// A client that is to play its script.
+#[derive(Drop)]
+pub(crate) struct Part<'a, E, W> {
+    pub(crate) alloc: Global,
+    pub(crate) client: Client,
+    pub(crate) script: &'a [Step],
+    pub(crate) first: u16,
+    pub(crate) ends: Vec<E>,
+    pub(crate) teller: &'a W,
+}
+
+/// What one thread does.
+#[derive(Drop)]
+pub(crate) enum Task<'a, E, G, W> {
+    Serve(Service<'a, E, G>),
+    Play(Part<'a, E, W>),
+}
+
+/// A session that was served.
+#[derive(Drop)]
+pub(crate) struct Serviced<E> {
+    pub(crate) pass: Pass<Sequencer>,
+    pub(crate) end: E,
+    pub(crate) out: SessionOut,
+}
+
+/// What became of a task.
+#[derive(Drop)]
+pub(crate) enum TaskOut<E> {
+    Served(Serviced<E>),
+    Played(PlayerOut<E>),
+}
+
+impl<'a, E: End, G: Gate> Service<'a, E, G> {
+    /// Serves the session, to its End.
+    fn serve<R: Wait>(self, rt: &R) -> Serviced<E>
+        requires may { MayServe self.lock.now self.pass }
+        requires open { (E.told self.end).closed ≡ false }
+        ensures { WasServed E.told E.faults E.calm self.entry result }
+    {
+        let Service {
+            alloc,
+            lock,
+            mut pass,
+            mut end,
+            gate,
+        } = self;
+        let out = serve_session(rt, alloc, lock, &mut pass, &mut end, gate);
+        Serviced { pass, end, out }
+    }
+}
+
+impl<'a, E: End, W: Teller> Part<'a, E, W> {
+    /// Plays the script, until the client is finished or something stops it.
+    fn play(self) -> PlayerOut<E>
+        requires { MayTakePart E.told (W.shape self.teller.now) self.client self.script.now self.first self.ends.items }
+        ensures { TookPart E.told E.faults E.calm self.entry.client self.entry.script.now self.entry.first self.entry.ends.items result }
+    {
+        let Part {
+            alloc,
+            client,
+            script,
+            first,
+            ends,
+            teller,
+        } = self;
+        teller.play(alloc, client, script, first, ends)
+    }
+}
+
+impl<'a, E: End + Send, G: Gate + Sync, W: Teller + Sync> Job for Task<'a, E, G, W> {
+    ghost use Rattle.sv_play.specs.Tasks.{IsReady, Keeps};
+
+    type Out = TaskOut<E>;
+
+    ghost ready = { IsReady E.told W.shape };
+
+    ghost keeps = { Keeps E.told E.faults E.calm };
+
+    fn run<R: Threads + Wait + Sync>(self, rt: &R) -> TaskOut<E> {
+        match self {
+            Task::Serve(service) => TaskOut::Served(service.serve(rt)),
+            Task::Play(part) => TaskOut::Played(part.play()),
+        }
+    }
+}
