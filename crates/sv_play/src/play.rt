@@ -31,8 +31,8 @@ use sv_world::List;
 /// in, and all pairs are settled. Where a thread can't be started the answer is Start, where a pair can't be made or does not match it is
 /// Link, and else where anything had no memory it is Memory.
 pub fn play_all<N: Net, C: Crew, G: Gate + Sync, R: Threads + Wait + Sync>(
-    alloc: Global,
     rt: &R,
+    alloc: Global,
     scenario: &Scenario,
     lock: &SeqLock<Sequencer>,
     keeper: &mut Pass<Sequencer>,
@@ -53,14 +53,14 @@ pub fn play_all<N: Net, C: Crew, G: Gate + Sync, R: Threads + Wait + Sync>(
     ensures certain { N.calm net.old → result ≡ Err PlayFault.Link → SomeDiffer N.E.told N.E.calm (N.made net.old) (N.made net.new) }
 {
     play_with(
-        alloc, rt, scenario, lock, keeper, net, crew, gate, watch,
+        rt, alloc, scenario, lock, keeper, net, crew, gate, watch,
     )
 }
 
 /// The run, with whatever tells the changes.
 fn play_with<N: Net, C: Crew, G: Gate + Sync, W: Teller + Sync, R: Threads + Wait + Sync>(
-    alloc: Global,
     rt: &R,
+    alloc: Global,
     scenario: &Scenario,
     lock: &SeqLock<Sequencer>,
     keeper: &mut Pass<Sequencer>,
