@@ -1,6 +1,6 @@
 -- A run from its tasks to its record.
 use Rattle.std.proofs.Common.{◌≡◌, ℕ, ◌+◌, ◌<◌, ◌≤◌, false, List, [], ◌∷◌, ◌++◌, map, length, reverse, refl, sym, ap, subst, ◌∙◌, arith}
-use Rattle.std.specs.Prelude.{All, Contains}
+use Rattle.std.specs.Prelude.{Contains}
 use Rattle.std.specs.List.{AllByRecursion, AllZip, flat_map, range_with_len}
 use Rattle.sv_world.specs.declared.world.Shape.{Shape}
 use Rattle.sv_link.specs.Ends.{Told}
@@ -20,7 +20,6 @@ use Rattle.law_traffic.specs.Runs.{IsGoodRun, IsRun, TrafficIsRecorded, RunsLeav
 use Rattle.sv_play.specs.declared.tasks.Serviced.{Serviced}
 use Rattle.sv_play.specs.declared.tasks.Task.{Task}
 use Rattle.sv_play.specs.declared.tasks.TaskOut.{TaskOut}
-use Rattle.sv_play.specs.declared.gathering.ClientEnd.{ClientEnd}
 use Rattle.sv_play.specs.declared.gathering.Left.{Left}
 use Rattle.sv_play.specs.Places.{EachPlace, EachClient}
 use Rattle.sv_play.specs.Tasks.{services_of, parts_of, serviced_of, played_of, Keeps}
@@ -130,7 +129,7 @@ module _ {E G W : Type 0} (told : E → Told) (faults : E → ℕ) (calm : E →
             made = joined.made;
             numbers = numbers_in;
             ended = λ n low.
-              subst (λ (l : List ℕ). Contains l n) (sym numbers_in) (in_range (session_count run.scenario) n (subst (λ m. n < m) joined.made low));
+                subst (λ (l : List ℕ). Contains l n) (sym numbers_in) (in_range (session_count run.scenario) n (subst (λ m. n < m) joined.made low));
             just = knows.just;
             below = below;
             legal = legal;
@@ -166,8 +165,8 @@ module _ {E G W : Type 0} (told : E → Told) (faults : E → ℕ) (calm : E →
             subst (λ (traces : List Trace). IsThreadedRun run.scenario (reverse k.seen) traces settled_before settled_now ran_before ran_now) (sym gathered.traces)
             (record {
               full =
-                full run.scenario k.seen Ls all_overs good threaded_run
-                (all_end told faults calm run k.seen ys ps served all_served played (gathered.served lacked) (gathered.played lacked) agree_is joined.seen just enough);
+                  full run.scenario k.seen Ls all_overs good threaded_run
+                  (all_end told faults calm run k.seen ys ps served all_served played (gathered.served lacked) (gathered.played lacked) agree_is joined.seen just enough);
               transcripts = transcripts_of told faults left.servers.items left.clients.items;
               added = settled;
               traffic = subst (TrafficIsRecorded run.scenario (reverse k.seen) Ls) recorded (traffic run.scenario k.seen Ls all_overs good threaded_run);

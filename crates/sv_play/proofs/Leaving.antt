@@ -1,21 +1,18 @@
 -- What the threads of a run leave, by what they were given.
-use Rattle.std.proofs.Common.{◌≡◌, ◌≢◌, ℕ, zero, suc, ◌+◌, ◌<◌, ◌≤◌, Bool, List, [], ◌∷◌, ◌++◌, map, length, reverse, slice_get, Some, None, inl, inr, ◌⊎◌, refl, sym, ap, subst, ◌∙◌, arith, zero-add, add-zero}
+use Rattle.std.proofs.Common.{◌≡◌, ℕ, zero, suc, ◌+◌, List, [], ◌∷◌, map, length, reverse, slice_get, Some, inl, inr, refl, sym, ap, subst, ◌∙◌, arith, zero-add, add-zero}
 use Rattle.std.specs.List.{AllByRecursion, AllZip, flat_map}
 use Rattle.std.proofs.lemmas.List.{length-map}
 use Rattle.std.proofs.lemmas.Option.{none-some, same_Some, slice_get_within}
 use Rattle.std.proofs.lemmas.Slice.Zip.{AllZip-long}
 use Rattle.std.specs.Prelude.{IsSome}
 use Rattle.sv_world.specs.declared.world.Shape.{Shape}
-use Rattle.sv_link.specs.Ends.{Told, new_end}
-use Rattle.sv_link.specs.Nets.{BothArrived}
-use Rattle.sv_link.specs.declared.side.Side.{Side}
+use Rattle.sv_link.specs.Ends.{Told}
 use Rattle.sv_link.specs.declared.side.Side.TheVariants.{Server, Client}
-use Rattle.sv_lock.specs.Passes.{LockView, session_number}
 use Rattle.sv_client.specs.declared.trace.Trace.{Trace}
 use Rattle.sv_client.specs.Seen.{ClientView}
 use Rattle.sv_scenario.specs.declared.scenario.Plan.{Plan}
 use Rattle.sv_scenario.specs.declared.scenario.Step.{Step}
-use Rattle.sv_scenario.specs.Sessions.{sessions_of_plan, sessions_in, session_count}
+use Rattle.sv_scenario.specs.Sessions.{sessions_of_plan, session_count}
 use Rattle.sv_session.specs.Serving.{SessionPass, Served, SessionCause}
 use Rattle.sv_player.specs.Stops.{is_cut}
 use Rattle.sv_player.specs.Played.{IsTraceOf, HasFollowed, AreDone, IsCause}
@@ -30,7 +27,7 @@ use Rattle.sv_play.specs.declared.tasks.TaskOut.TheVariants as outs
 use Rattle.sv_play.specs.declared.gathering.ClientEnd.{ClientEnd}
 use Rattle.sv_play.specs.Places.{EachPlace, EachClient}
 use Rattle.sv_play.specs.Tasks.{services_of, parts_of, serviced_of, played_of, TookPart, WasServed, Keeps}
-use Rattle.sv_play.specs.Given.{Setting, IsEndOf, IsPart, IsService, pass_of}
+use Rattle.sv_play.specs.Given.{Setting, IsPart, IsService, pass_of}
 use Rattle.sv_play.specs.Left.{ends_from, ends_of, HasFewSessions, IsOfLock, IsServiced, HasPlayed}
 use Rattle.sv_play.specs.Settling.{AnyZip, Differ, ArePair, AreCalm, SomeDiffer}
 use Rattle.sv_play.proofs.Places.{each_all, each_zip, each_client_zip, each_client_all, each_client_map, at_place, unmap_at, zip_from, flat_length, flat_each}
@@ -50,13 +47,13 @@ module _ {E W : Type 0} (told : E → Told) (faults : E → ℕ) (calm : E → T
         new = p.ends;
         trace = subst (λ (c : ClientView). IsTraceOf c s y.trace) p.part.client (subst (λ n. IsTraceOf x.client n y.trace) p.part.first w.trace);
         follows =
-          subst (λ h. HasFollowed h plan.steps y.trace y.cause) shape (subst (λ (steps : List Step). HasFollowed x.client.who.shape steps y.trace y.cause) p.part.script w.follows);
+            subst (λ h. HasFollowed h plan.steps y.trace y.cause) shape (subst (λ (steps : List Step). HasFollowed x.client.who.shape steps y.trace y.cause) p.part.script w.follows);
         ends = subst (λ n. AreDone told faults calm y.trace y.cause n x.ends.items y.ends.items) p.part.first w.done;
         last = p.part.last;
         lines = w.lines;
         cause =
-          subst (λ h. IsCause told faults calm h y.trace s x.ends.items y.ends.items y.cause) shape
-          (subst (λ n. IsCause told faults calm x.client.who.shape y.trace n x.ends.items y.ends.items y.cause) p.part.first w.cause);
+            subst (λ h. IsCause told faults calm h y.trace s x.ends.items y.ends.items y.cause) shape
+            (subst (λ n. IsCause told faults calm x.client.who.shape y.trace n x.ends.items y.ends.items y.cause) p.part.first w.cause);
       }
 
 module _ {E G : Type 0} (told : E → Told) (faults : E → ℕ) (calm : E → Type 0) where
@@ -64,8 +61,8 @@ module _ {E G : Type 0} (told : E → Told) (faults : E → ℕ) (calm : E → T
   service_left run s x y p w =
       record {
         served =
-          subst (λ (t : Told). Served t (pass_of s run.lock run.scenario) y.out (told y.end) y.pass) p.end.told_is
-          (subst (λ (b : SessionPass). Served (told x.end) b y.out (told y.end) y.pass) p.pass w.served);
+            subst (λ (t : Told). Served t (pass_of s run.lock run.scenario) y.out (told y.end) y.pass) p.end.told_is
+            (subst (λ (b : SessionPass). Served (told x.end) b y.out (told y.end) y.pass) p.pass w.served);
         cause = subst (λ n. SessionCause n (faults y.end) y.out) p.end.faultless w.cause;
         calm_is = λ q. w.calm_is (p.end.calm_is q);
       }

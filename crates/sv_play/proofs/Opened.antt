@@ -1,16 +1,13 @@
 -- Opening a run, one thing more at a time.
-use Rattle.std.proofs.Common.{◌≡◌, ℕ, suc, ◌+◌, ◌<◌, ◌≤◌, List, [], ◌∷◌, ◌++◌, length, map, drop, get_or, slice_get, Some, refl, sym, ap, subst, ◌∙◌, arith, append_assoc, append-nil, add-one, zero-add}
-use Rattle.std.specs.List.{AllByRecursion, flat_map}
+use Rattle.std.proofs.Common.{◌≡◌, ℕ, ◌+◌, ◌<◌, List, [], ◌∷◌, ◌++◌, length, drop, get_or, slice_get, Some, refl, sym, ap, subst, ◌∙◌, add-one}
+use Rattle.std.specs.List.{flat_map}
 use Rattle.std.proofs.lemmas.List.{drop_more}
-use Rattle.std.proofs.lemmas.List.Concat.{flat_map-append}
 use Rattle.sv_link.specs.Ends.{Told}
 use Rattle.sv_link.specs.declared.side.Side.{Side}
 use Rattle.sv_link.specs.declared.side.Side.TheVariants.{Client}
 use Rattle.sv_world.specs.declared.world.Shape.{Shape}
 use Rattle.sv_scenario.specs.declared.scenario.Plan.{Plan}
-use Rattle.sv_scenario.specs.Limits.{IsGoodPlan}
 use Rattle.sv_scenario.specs.Sessions.{sessions_of_plan, sessions_in}
-use Rattle.sv_asked.proofs.Every.{each-at}
 use Rattle.sv_play.specs.declared.tasks.Service.{Service}
 use Rattle.sv_play.specs.declared.tasks.Part.{Part}
 use Rattle.sv_play.specs.declared.tasks.Task.{Task}

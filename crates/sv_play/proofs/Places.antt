@@ -1,5 +1,5 @@
 -- Lists by their places, and one thing for each client.
-use Rattle.std.proofs.Common.{◌≡◌, ℕ, zero, suc, ◌+◌, ◌<◌, List, [], ◌∷◌, ◌++◌, map, length, slice_get, Some, None, option_map, refl, sym, ap, subst, ◌∙◌, arith, append_assoc, length-append}
+use Rattle.std.proofs.Common.{◌≡◌, ℕ, zero, suc, ◌+◌, ◌<◌, List, [], ◌∷◌, ◌++◌, map, length, slice_get, Some, option_map, refl, sym, ap, subst, ◌∙◌, arith, append_assoc, length-append}
 use Rattle.std.specs.List.{AllByRecursion, AllZip, flat_map}
 use Rattle.std.proofs.lemmas.Option.{none-some, same_Some, slice_get-map}
 use Rattle.sv_client.specs.declared.trace.Trace.{Trace}
@@ -152,15 +152,14 @@ module _ {X Y : Type 0} (g : X → List Y) where
   flat_place whole k s [] [] before long are all = tt
   flat_place whole k s [] (x ∷ xs) before long are all = absurd all
   flat_place whole k s (plan ∷ plans) [] before long are all = absurd all
-  flat_place whole k s (plan ∷ plans) (x ∷ xs) before long are all =
-      (
-        λ j y e.
+  flat_place whole k s (plan ∷ plans) (x ∷ xs) before long are all = (
+    λ j y e.
         ap (λ (l : List Y). slice_get l (s + j)) are
         ∙ (right_at before (g x ++ flat_map g xs) (s + j) j (omega (arith, long)) ∙ left_at (g x) (flat_map g xs) j y e),
-        flat_place whole (suc k) (s + sessions_of_plan plan) plans xs (before ++ g x)
+    flat_place whole (suc k) (s + sessions_of_plan plan) plans xs (before ++ g x)
         (let own = all.0 in let both = length-append before (g x) in omega (arith, long, own, both))
         (are ∙ sym (append_assoc before (g x) (flat_map g xs))) all.1,
-      )
+  )
 
   pub flat_each : (P : ℕ → Y → Type 0) (k s : ℕ) (plans : List Plan) (xs : List X) → EachClient HasAll k s plans xs → EachClient (λ k s plan x. EachPlace (λ j. P (s + j)) (g x)) k s plans xs →
       (j : ℕ) (y : Y) → slice_get (flat_map g xs) j ≡ Some y → P (s + j) y

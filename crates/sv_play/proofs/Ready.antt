@@ -1,5 +1,5 @@
 -- What is given to the threads of a run can be done.
-use Rattle.std.proofs.Common.{◌≡◌, ℕ, ◌+◌, ◌<◌, ◌≤◌, false, List, [], ◌∷◌, length, refl, sym, ap, subst, ◌∙◌, arith}
+use Rattle.std.proofs.Common.{◌≡◌, ℕ, ◌+◌, ◌<◌, false, List, [], ◌∷◌, refl, sym, ap, subst, ◌∙◌, arith}
 use Rattle.std.specs.List.{AllByRecursion}
 use Rattle.std.proofs.lemmas.List.Elements.{All-from_recursion, All-nil}
 use Rattle.sv_world.specs.declared.world.ObjectId.{ObjectId}
@@ -39,19 +39,19 @@ module _ {E W : Type 0} (told : E → Told) (faults : E → ℕ) (calm : E → T
       let may : MayPlay who plan.steps =
       record {
         identity =
-          record {
-            client = p.part.number;
-            few = p.part.good.few_objects;
-            ascending = p.part.good.ascending;
-            objects = All-from_recursion (λ (o : ObjectId). o.0 < run.scenario.world.shape.objects) plan.interest p.part.good.known;
-          };
+            record {
+              client = p.part.number;
+              few = p.part.good.few_objects;
+              ascending = p.part.good.ascending;
+              objects = All-from_recursion (λ (o : ObjectId). o.0 < run.scenario.world.shape.objects) plan.interest p.part.good.known;
+            };
         shape =
-          record {
-            some_objects = good.world.some_objects;
-            few_objects = good.world.few_objects;
-            some_attrs = good.world.some_attrs;
-            few_attrs = good.world.few_attrs;
-          };
+            record {
+              some_objects = good.world.some_objects;
+              few_objects = good.world.few_objects;
+              some_attrs = good.world.some_attrs;
+              few_attrs = good.world.few_attrs;
+            };
         plan = p.part.good;
       } in
       let same : x.client.who ≡ who = ap (λ (c : ClientView). c.who) p.part.client in
@@ -65,8 +65,8 @@ module _ {E W : Type 0} (told : E → Told) (faults : E → ℕ) (calm : E → T
         count = p.part.count ∙ ap (λ (steps : List Step). 1 + cuts_in steps) (sym p.part.script);
         numbers = omega (arith, count, first, last);
         fresh =
-          each_all (λ j end. IsEndOf told faults calm run Client (s + j) end) (λ end. IsFresh (told end)) x.ends.items p.ends
-          (λ j end new. subst IsFresh (sym new.told_is) (record { open_is = refl; sent = refl; received = refl }));
+            each_all (λ j end. IsEndOf told faults calm run Client (s + j) end) (λ end. IsFresh (told end)) x.ends.items p.ends
+            (λ j end new. subst IsFresh (sym new.told_is) (record { open_is = refl; sent = refl; received = refl }));
       }
 
 module _ {E G : Type 0} (told : E → Told) where
@@ -75,13 +75,12 @@ module _ {E G : Type 0} (told : E → Told) where
 
 module _ {E G : Type 0} (told : E → Told) (faults : E → ℕ) (calm : E → Type 0) (run : Setting) (good : IsGoodScenario run.scenario) where
   service_ready : (s : ℕ) (x : Service E G) → IsService told faults calm run s x → IsServiceReady told x
-  service_ready s x p =
-      (
-        subst (λ (l : LockView). MayServe l x.pass) (sym p.lock)
+  service_ready s x p = (
+    subst (λ (l : LockView). MayServe l x.pass) (sym p.lock)
         (subst (MayServe run.lock) (sym p.pass)
         (record { own = refl; session = refl; number = p.low; limits = limits_of run.scenario good; unended = All-nil (λ (e : Entry). is_end e.request ≡ false) })),
-        ap (λ (t : Told). t.closed) p.end.told_is,
-      )
+    ap (λ (t : Told). t.closed) p.end.told_is,
+  )
 
 module _ {E G W : Type 0} (told : E → Told) (faults : E → ℕ) (calm : E → Type 0) (shape_of : W → Shape) (run : Setting) (good : IsGoodScenario run.scenario) where
   all_ready : (ts : List (Task E G W)) → AllByRecursion (IsServiceReady told) (services_of ts) → AllByRecursion (IsPartReady told shape_of) (parts_of ts) → AllByRecursion (IsReady told shape_of) ts

@@ -1,8 +1,6 @@
 -- What tasks are made of, and what they give back, may go to another thread.
 use denote.Param.Send.{IsSend, IsSync, sendable}
 use Rattle.std.proofs.Crossing.{crosses}
-use Rattle.sv_world.specs.contracts.action.Expr as expr
-use Rattle.sv_world.specs.contracts.action.Cond as condition
 use Rattle.sv_world.specs.contracts.action.Stmt as stmt
 use Rattle.sv_world.specs.contracts.action.Action as action
 use Rattle.sv_world.proofs.action.Expr.TheLaws.TheKnot as expr_knot

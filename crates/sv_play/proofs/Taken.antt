@@ -1,5 +1,5 @@
 -- One task's out more.
-use Rattle.std.proofs.Common.{◌≡◌, ℕ, ◌+◌, ◌<◌, Bool, true, false, ◌||◌, List, [], ◌∷◌, ◌++◌, map, length, refl, sym, ap, subst, ◌∙◌, append_assoc, append-nil, true≢false, arith}
+use Rattle.std.proofs.Common.{◌≡◌, ℕ, ◌<◌, Bool, true, false, ◌||◌, List, [], ◌∷◌, ◌++◌, map, length, refl, sym, ap, subst, ◌∙◌, append_assoc, append-nil, true≢false, arith}
 use Rattle.std.specs.List.{AllByRecursion, flat_map}
 use Rattle.std.proofs.lemmas.List.{map-append}
 use Rattle.std.proofs.lemmas.List.Concat.{flat_map-append}
@@ -51,18 +51,18 @@ module _ {E : Type 0} where
   gathered_server os y a b g servers lacked clients traces lines =
       record {
         servers =
-          servers ∙ ap (λ (l : List E). l ++ y.end ∷ []) g.servers
-          ∙ sym (map-append (λ (x : Serviced E). x.end) (serviced_of os) (y ∷ [])) ∙ ap (map (λ (x : Serviced E). x.end)) (sym (served_more os y));
+            servers ∙ ap (λ (l : List E). l ++ y.end ∷ []) g.servers
+            ∙ sym (map-append (λ (x : Serviced E). x.end) (serviced_of os) (y ∷ [])) ∙ ap (map (λ (x : Serviced E). x.end)) (sym (served_more os y));
         clients = clients ∙ g.clients ∙ ap (flat_map ends_of) (sym (played_same os y));
         traces = traces ∙ g.traces ∙ ap (map (λ (x : PlayerOut E). x.trace)) (sym (played_same os y));
         lines = lines ∙ g.lines ∙ ap (map (λ (x : PlayerOut E). x.lines)) (sym (played_same os y));
         served = λ none.
-          let both = neither a.lacked (is_memory y.out) (sym lacked ∙ none) in
-          subst (AllByRecursion (λ (x : Serviced E). is_memory x.out ≡ false)) (sym (served_more os y))
-          (each_more (λ (x : Serviced E). is_memory x.out ≡ false) (serviced_of os) y (g.served both.0) both.1);
+            let both = neither a.lacked (is_memory y.out) (sym lacked ∙ none) in
+            subst (AllByRecursion (λ (x : Serviced E). is_memory x.out ≡ false)) (sym (served_more os y))
+            (each_more (λ (x : Serviced E). is_memory x.out ≡ false) (serviced_of os) y (g.served both.0) both.1);
         played = λ none.
-          let both = neither a.lacked (is_memory y.out) (sym lacked ∙ none) in
-          subst (AllByRecursion (λ (x : PlayerOut E). is_unplayed x.cause ≡ false)) (sym (played_same os y)) (g.played both.0);
+            let both = neither a.lacked (is_memory y.out) (sym lacked ∙ none) in
+            subst (AllByRecursion (λ (x : PlayerOut E). is_unplayed x.cause ≡ false)) (sym (played_same os y)) (g.played both.0);
       }
 
   pub gathered_client : (os : List (TaskOut E)) (y : PlayerOut E) (a b : Left E) → Gathered os a → b.clients.items ≡ a.clients.items ++ ends_of y → b.traces.items ≡ a.traces.items ++ y.trace ∷ [] →
@@ -71,22 +71,22 @@ module _ {E : Type 0} where
       record {
         servers = servers ∙ g.servers ∙ ap (map (λ (x : Serviced E). x.end)) (sym (served_same os y));
         clients =
-          clients ∙ ap (λ (l : List (ClientEnd E)). l ++ ends_of y) g.clients
-          ∙ ap (λ (l : List (ClientEnd E)). flat_map ends_of (played_of os) ++ l) (sym (append-nil (ends_of y)))
-          ∙ sym (flat_map-append ends_of (played_of os) (y ∷ [])) ∙ ap (flat_map ends_of) (sym (played_more os y));
+            clients ∙ ap (λ (l : List (ClientEnd E)). l ++ ends_of y) g.clients
+            ∙ ap (λ (l : List (ClientEnd E)). flat_map ends_of (played_of os) ++ l) (sym (append-nil (ends_of y)))
+            ∙ sym (flat_map-append ends_of (played_of os) (y ∷ [])) ∙ ap (flat_map ends_of) (sym (played_more os y));
         traces =
-          traces ∙ ap (λ (l : List Trace). l ++ y.trace ∷ []) g.traces
-          ∙ sym (map-append (λ (x : PlayerOut E). x.trace) (played_of os) (y ∷ [])) ∙ ap (map (λ (x : PlayerOut E). x.trace)) (sym (played_more os y));
+            traces ∙ ap (λ (l : List Trace). l ++ y.trace ∷ []) g.traces
+            ∙ sym (map-append (λ (x : PlayerOut E). x.trace) (played_of os) (y ∷ [])) ∙ ap (map (λ (x : PlayerOut E). x.trace)) (sym (played_more os y));
         lines =
-          lines ∙ ap (λ l. l ++ y.lines ∷ []) g.lines
-          ∙ sym (map-append (λ (x : PlayerOut E). x.lines) (played_of os) (y ∷ [])) ∙ ap (map (λ (x : PlayerOut E). x.lines)) (sym (played_more os y));
+            lines ∙ ap (λ l. l ++ y.lines ∷ []) g.lines
+            ∙ sym (map-append (λ (x : PlayerOut E). x.lines) (played_of os) (y ∷ [])) ∙ ap (map (λ (x : PlayerOut E). x.lines)) (sym (played_more os y));
         served = λ none.
-          let both = neither a.lacked (is_unplayed y.cause) (sym lacked ∙ none) in
-          subst (AllByRecursion (λ (x : Serviced E). is_memory x.out ≡ false)) (sym (served_same os y)) (g.served both.0);
+            let both = neither a.lacked (is_unplayed y.cause) (sym lacked ∙ none) in
+            subst (AllByRecursion (λ (x : Serviced E). is_memory x.out ≡ false)) (sym (served_same os y)) (g.served both.0);
         played = λ none.
-          let both = neither a.lacked (is_unplayed y.cause) (sym lacked ∙ none) in
-          subst (AllByRecursion (λ (x : PlayerOut E). is_unplayed x.cause ≡ false)) (sym (played_more os y))
-          (each_more (λ (x : PlayerOut E). is_unplayed x.cause ≡ false) (played_of os) y (g.played both.0) both.1);
+            let both = neither a.lacked (is_unplayed y.cause) (sym lacked ∙ none) in
+            subst (AllByRecursion (λ (x : PlayerOut E). is_unplayed x.cause ≡ false)) (sym (played_more os y))
+            (each_more (λ (x : PlayerOut E). is_unplayed x.cause ≡ false) (played_of os) y (g.played both.0) both.1);
       }
 
   -- ---- The keeper
@@ -107,11 +107,11 @@ module _ {E : Type 0} where
         base = base ∙ j.base;
         made = made ∙ j.made;
         ended =
-          ended ∙ ap (λ (l : List (ℕ × List Entry)). l ++ own_of y ∷ []) j.ended ∙ append_assoc k.ended (map own_of (serviced_of os)) (own_of y ∷ [])
-          ∙ ap (λ (l : List (ℕ × List Entry)). k.ended ++ l) (sym (map-append own_of (serviced_of os) (y ∷ [])) ∙ ap (map own_of) (sym (served_more os y)));
+            ended ∙ ap (λ (l : List (ℕ × List Entry)). l ++ own_of y ∷ []) j.ended ∙ append_assoc k.ended (map own_of (serviced_of os)) (own_of y ∷ [])
+            ∙ ap (λ (l : List (ℕ × List Entry)). k.ended ++ l) (sym (map-append own_of (serviced_of os) (y ∷ [])) ∙ ap (map own_of) (sym (served_more os y)));
         seen =
-          subst (AllByRecursion (λ (x : Serviced E). IsPrefix x.pass.seen b.seen)) (sym (served_more os y))
-          (each_more (λ (x : Serviced E). IsPrefix x.pass.seen b.seen) (serviced_of os) y (all_seen (serviced_of os) a.seen b.seen on j.seen) own);
+            subst (AllByRecursion (λ (x : Serviced E). IsPrefix x.pass.seen b.seen)) (sym (served_more os y))
+            (each_more (λ (x : Serviced E). IsPrefix x.pass.seen b.seen) (serviced_of os) y (all_seen (serviced_of os) a.seen b.seen on j.seen) own);
         knows = λ some. knows;
       }
 

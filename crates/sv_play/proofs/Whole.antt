@@ -1,16 +1,13 @@
 -- A run whose tasks had memory and whose pairs matched, as the laws of threaded play see it.
-use Rattle.std.proofs.Common.{◌≡◌, ◌≢◌, ℕ, zero, suc, ◌+◌, ◌<◌, ◌≤◌, Bool, true, false, List, [], ◌∷◌, ◌++◌, map, length, reverse, slice_get, Some, None, inl, inr, ◌⊎◌, refl, sym, ap, subst, ◌∙◌, arith, zero-add, get_or}
-use Rattle.std.specs.Prelude.{All, Contains, Option, unwrap_or}
+use Rattle.std.proofs.Common.{◌≡◌, ◌≢◌, ℕ, zero, suc, ◌+◌, ◌<◌, Bool, false, List, [], ◌∷◌, ◌++◌, map, length, reverse, slice_get, Some, inl, inr, ◌⊎◌, refl, sym, ap, subst, ◌∙◌, arith, zero-add}
+use Rattle.std.specs.Prelude.{Contains, Option, unwrap_or}
 use Rattle.std.specs.List.{AllByRecursion, AllZip, flat_map, range_with_len}
-use Rattle.std.proofs.lemmas.List.{length-map}
-use Rattle.std.proofs.lemmas.List.Elements.{All-from_recursion, recursion_from_All, All-map}
+use Rattle.std.proofs.lemmas.List.Elements.{All-from_recursion, recursion_from_All}
 use Rattle.std.proofs.lemmas.List.FromFn.{length-range_with_len, get_or-range_with_len}
 use Rattle.std.proofs.lemmas.Option.{none-some, same_Some, slice_get_within}
 use mathlib.Core.List.{IsPrefix}
-use Rattle.sv_world.specs.declared.world.Shape.{Shape}
-use Rattle.sv_link.specs.Ends.{Told, new_end}
+use Rattle.sv_link.specs.Ends.{Told}
 use Rattle.sv_link.specs.Nets.{Transcript, counted}
-use Rattle.sv_link.specs.declared.side.Side.TheVariants.{Server}
 use Rattle.sv_journal.specs.declared.entry.Entry.{Entry}
 use Rattle.sv_journal.specs.Answer.{Legal}
 use Rattle.sv_lock.specs.Histories.{entries_of, AreJust, AreBelow}
@@ -18,20 +15,19 @@ use Rattle.sv_lock.specs.Passes.{session_number}
 use Rattle.sv_client.specs.declared.trace.Trace.{Trace}
 use Rattle.sv_client.specs.Proper.{Proper}
 use Rattle.sv_scenario.specs.declared.scenario.Plan.{Plan}
-use Rattle.sv_scenario.specs.declared.scenario.Scenario.{Scenario}
 use Rattle.sv_scenario.specs.Sessions.{sessions_of_plan, session_count}
 use Rattle.sv_script.specs.Following.{Follows, FollowsToEnd}
 use Rattle.sv_script.specs.Telling.{told_lines}
 use Rattle.sv_session.specs.declared.outcome.SessionOut.{SessionOut}
 use Rattle.sv_session.specs.declared.outcome.SessionOut.TheVariants as session_outs
-use Rattle.sv_system.specs.Records.{rules_of, AreTracesOf, EachTrace}
+use Rattle.sv_system.specs.Records.{rules_of, AreTracesOf}
 use Rattle.sv_player.specs.Stops.{is_cut}
 use Rattle.sv_player.specs.Played.{IsWhole, IsCause}
 use Rattle.sv_player.specs.declared.outcome.PlayerOut.{PlayerOut}
 use Rattle.sv_player.specs.declared.outcome.PlayerCause.{PlayerCause}
 use Rattle.sv_player.specs.declared.outcome.PlayerCause.TheVariants as causes
 use Rattle.sv_asked.proofs.Every.{each-at}
-use Rattle.law_traffic.specs.Sessions.{Over, transcript, IsServed, IsCarried, IsSessionDone}
+use Rattle.law_traffic.specs.Sessions.{Over, transcript, IsServed, IsSessionDone}
 use Rattle.law_traffic.specs.Stuck.{IsStopped}
 use Rattle.law_traffic.specs.Runs.{EachSession, IsRun, EndOrAreStopped}
 use Rattle.sv_play.specs.declared.tasks.Serviced.{Serviced}
@@ -225,8 +221,7 @@ module _ {E : Type 0} (told : E → Told) (faults : E → ℕ) (calm : E → Typ
           let t = at j b.0 b.1 in
           let z : ClientEnd E = record { end = b.0; cut = t.cut } in
           let d = h.played_is.ends.each j t.before b.0 t.was b.1 in
-          let whole : IsWhole p.cause = record { link = no_fault p.cause h.played_is.cause; memory = has_memory p.cause h.with_memory } in
-          (
+          let whole : IsWhole p.cause = record { link = no_fault p.cause h.played_is.cause; memory = has_memory p.cause h.with_memory } in (
             over_of told faults t.server z,
             (
               overs_at told faults ys ends (s + j) t.server z t.server_at t.client_at,
@@ -234,10 +229,10 @@ module _ {E : Type 0} (told : E → Told) (faults : E → ℕ) (calm : E → Typ
                 served = is_served (s + j) t.server z t.server_at;
                 carried = record { sent = d.whole whole; messages = d.messages whole; rest = d.rest; received = d.received };
                 settled =
-                  record {
-                    arrived = t.agrees.arrived;
-                    faultless = ap (λ c. counted c (faults t.server.end) (faults b.0)) (sym t.cut_is) ∙ t.agrees.faultless;
-                  };
+                    record {
+                      arrived = t.agrees.arrived;
+                      faultless = ap (λ c. counted c (faults t.server.end) (faults b.0)) (sym t.cut_is) ∙ t.agrees.faultless;
+                    };
               },
             ),
           )
@@ -279,15 +274,15 @@ module _ {E : Type 0} (told : E → Told) (faults : E → ℕ) (calm : E → Typ
           below = below;
           clients = traces_are 0 0 run.scenario.clients ps played;
           proper =
-            All-from_recursion (Proper run.scenario.world.shape) Ls
-            (all_mapped (Proper run.scenario.world.shape) (λ (y : PlayerOut E). y.trace) ps
-            (each_client_all (HasPlayed told faults calm run) (λ (y : PlayerOut E). Proper run.scenario.world.shape y.trace) 0 0 run.scenario.clients ps played (λ k s plan y h. h.trace.proper)));
+              All-from_recursion (Proper run.scenario.world.shape) Ls
+              (all_mapped (Proper run.scenario.world.shape) (λ (y : PlayerOut E). y.trace) ps
+              (each_client_all (HasPlayed told faults calm run) (λ (y : PlayerOut E). Proper run.scenario.world.shape y.trace) 0 0 run.scenario.clients ps played (λ k s plan y h. h.trace.proper)));
           follows =
-            each_client_trace (HasPlayed told faults calm run) (λ plan L. Follows run.scenario.world.shape plan.steps L) (λ (y : PlayerOut E). y.trace) 0 0 run.scenario.clients ps played
-            (λ k s plan y h. h.follows.follows);
+              each_client_trace (HasPlayed told faults calm run) (λ plan L. Follows run.scenario.world.shape plan.steps L) (λ (y : PlayerOut E). y.trace) 0 0 run.scenario.clients ps played
+              (λ k s plan y h. h.follows.follows);
           count = overs_count told faults ys ends same_count ∙ count;
           done =
-            each_client_trace HasDone (λ plan L. EachSession (IsSessionDone J L) overs plan L) (λ (y : PlayerOut E). y.trace) 0 0 run.scenario.clients ps all_done client_done;
+              each_client_trace HasDone (λ plan L. EachSession (IsSessionDone J L) overs plan L) (λ (y : PlayerOut E). y.trace) 0 0 run.scenario.clients ps all_done client_done;
         }
 
     pub all_end : EndOrAreStopped run.scenario Ls overs

@@ -13,7 +13,7 @@ use Rattle.sv_lock.specs.Passes.{LockView, session_number}
 use Rattle.sv_client.specs.declared.trace.Trace.{Trace}
 use Rattle.sv_client.specs.Seen.{new_client}
 use Rattle.sv_scenario.specs.declared.scenario.Plan.{Plan}
-use Rattle.sv_scenario.specs.Sessions.{sessions_of_plan, session_count}
+use Rattle.sv_scenario.specs.Sessions.{sessions_of_plan}
 use Rattle.sv_script.specs.Telling.{told_lines}
 use Rattle.sv_session.specs.Serving.{SessionPass, Served, SessionCause}
 use Rattle.sv_session.specs.declared.outcome.SessionOut.{SessionOut}

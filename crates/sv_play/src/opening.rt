@@ -187,7 +187,11 @@ fn make_tasks<'a, E: Drop, G, W>(
 }
 
 /// The next ends, so many.
-fn take_ends<E: Drop>(alloc: Global, left: &mut IntoIter<E>, count: u16) -> Result<Vec<E>, AllocError>
+fn take_ends<E: Drop>(
+    alloc: Global,
+    left: &mut IntoIter<E>,
+    count: u16,
+) -> Result<Vec<E>, AllocError>
     requires { count ≤ length (into_iter_items left.old) }
     ensures count { IfOk result (λ taken. length taken.items ≡ count) }
     ensures ends { IfOk result (λ taken. into_iter_items left.old ≡ taken.items ++ into_iter_items left.new) }

@@ -52,9 +52,7 @@ pub fn play_all<N: Net, C: Crew, G: Gate + Sync, R: Threads + Wait + Sync>(
     ensures calm { N.calm net.old → N.calm net.new }
     ensures certain { N.calm net.old → result ≡ Err PlayFault.Link → SomeDiffer N.E.told N.E.calm (N.made net.old) (N.made net.new) }
 {
-    play_with(
-        rt, alloc, scenario, lock, keeper, net, crew, gate, watch,
-    )
+    play_with(rt, alloc, scenario, lock, keeper, net, crew, gate, watch)
 }
 
 /// The run, with whatever tells the changes.

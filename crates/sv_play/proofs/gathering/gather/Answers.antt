@@ -1,7 +1,6 @@
-use Rattle.std.proofs.Common.{◌≡◌, ◌+◌, ◌≤◌, ◌++◌, [], ◌∷◌, List, length, vec_len, sym, ap, subst, ◌∙◌, append_assoc, arith, rules, length-append}
+use Rattle.std.proofs.Common.{◌+◌, ◌≤◌, ◌++◌, [], ◌∷◌, length, vec_len, sym, ap, subst, ◌∙◌, append_assoc, arith, length-append}
 use Rattle.std.specs.Vec.{vec_capacity}
 use Rattle.std.specs.List.{AllByRecursion, flat_map}
-use Rattle.sv_play.specs.declared.tasks.TaskOut.TheVariants.{Served, Played}
 use Rattle.sv_play.specs.Tasks.{serviced_of, played_of}
 use Rattle.sv_play.specs.Left.{ends_of, HasRoom, HasFewSessions, Gathered, Joined, IsOfLock}
 use Rattle.sv_play.proofs.Leaving.{ends_count}
@@ -26,21 +25,21 @@ loop-out-preserved-in-Served g c =
     record {
       all = append_assoc yielded (c.in-Some.out ∷ []) rest ∙ (ap (λ l. yielded ++ l) (sym s.0) ∙ i.all);
       gathered =
-        subst (λ o. Gathered (yielded ++ o ∷ []) left) (sym f.is)
-        (gathered_server yielded f.field-0 c.loop-out.left left i.gathered t.server t.lacked (ap (λ v. v.items) t.same.0) (ap (λ v. v.items) t.same.1) (ap (λ v. v.items) t.same.2));
+          subst (λ o. Gathered (yielded ++ o ∷ []) left) (sym f.is)
+          (gathered_server yielded f.field-0 c.loop-out.left left i.gathered t.server t.lacked (ap (λ v. v.items) t.same.0) (ap (λ v. v.items) t.same.1) (ap (λ v. v.items) t.same.2));
       joined =
-        subst (λ o. Joined (yielded ++ o ∷ []) c.args.keeper.now c.join.new.keeper) (sym f.is)
-        (joined_server yielded f.field-0 c.args.keeper.now c.loop-out.keeper c.join.new.keeper i.joined j.same.0 j.same.1 j.same.2 j.same.4 j.ended j.seen.0 j.seen.1
-        (record { just = j.just; below = j.below; legal = j.lawful }));
+          subst (λ o. Joined (yielded ++ o ∷ []) c.args.keeper.now c.join.new.keeper) (sym f.is)
+          (joined_server yielded f.field-0 c.args.keeper.now c.loop-out.keeper c.join.new.keeper i.joined j.same.0 j.same.1 j.same.2 j.same.4 j.ended j.seen.0 j.seen.1
+          (record { just = j.just; below = j.below; legal = j.lawful }));
       passes = (subst (λ os. AllByRecursion (IsOfLock c.args.lock.now) (serviced_of os)) e i.passes).1;
       numbers = subst (λ os. AllByRecursion HasFewSessions (played_of os)) e i.numbers;
       room =
-        record {
-          servers_fit = omega (arith, fit, size, room);
-          ends_fit = subst (λ v. vec_len v + length (flat_map ends_of (played_of rest)) ≤ vec_capacity v) (sym t.same.0) r.ends_fit;
-          traces_fit = subst (λ v. vec_len v + length (played_of rest) ≤ vec_capacity v) (sym t.same.1) r.traces_fit;
-          lines_fit = subst (λ v. vec_len v + length (played_of rest) ≤ vec_capacity v) (sym t.same.2) r.lines_fit;
-        };
+          record {
+            servers_fit = omega (arith, fit, size, room);
+            ends_fit = subst (λ v. vec_len v + length (flat_map ends_of (played_of rest)) ≤ vec_capacity v) (sym t.same.0) r.ends_fit;
+            traces_fit = subst (λ v. vec_len v + length (played_of rest) ≤ vec_capacity v) (sym t.same.1) r.traces_fit;
+            lines_fit = subst (λ v. vec_len v + length (played_of rest) ≤ vec_capacity v) (sym t.same.2) r.lines_fit;
+          };
     }
 
 pub take_client-requires-clause-clients : goal.take_client-requires-clause-clients
@@ -78,16 +77,16 @@ loop-out-preserved g c =
     record {
       all = append_assoc yielded (c.in-Some.out ∷ []) rest ∙ (ap (λ l. yielded ++ l) (sym s.0) ∙ i.all);
       gathered =
-        subst (λ o. Gathered (yielded ++ o ∷ []) left) (sym f.is)
-        (gathered_client yielded p c.loop-out.left left i.gathered t.ends t.trace t.lines t.lacked (ap (λ v. v.items) t.same));
+          subst (λ o. Gathered (yielded ++ o ∷ []) left) (sym f.is)
+          (gathered_client yielded p c.loop-out.left left i.gathered t.ends t.trace t.lines t.lacked (ap (λ v. v.items) t.same));
       joined = subst (λ o. Joined (yielded ++ o ∷ []) c.args.keeper.now c.loop-out.keeper) (sym f.is) (joined_client yielded p c.args.keeper.now c.loop-out.keeper i.joined);
       passes = subst (λ os. AllByRecursion (IsOfLock c.args.lock.now) (serviced_of os)) e i.passes;
       numbers = (subst (λ os. AllByRecursion HasFewSessions (played_of os)) e i.numbers).1;
       room =
-        record {
-          servers_fit = subst (λ v. vec_len v + length (serviced_of rest) ≤ vec_capacity v) (sym t.same) r.servers_fit;
-          ends_fit = (let n = size.0 in let m = room.0 in omega (arith, ends_fit, both, own, n, m));
-          traces_fit = (let n = size.1 in let m = room.1 in omega (arith, traces_fit, n, m));
-          lines_fit = (let n = size.2 in let m = room.2 in omega (arith, lines_fit, n, m));
-        };
+          record {
+            servers_fit = subst (λ v. vec_len v + length (serviced_of rest) ≤ vec_capacity v) (sym t.same) r.servers_fit;
+            ends_fit = (let n = size.0 in let m = room.0 in omega (arith, ends_fit, both, own, n, m));
+            traces_fit = (let n = size.1 in let m = room.1 in omega (arith, traces_fit, n, m));
+            lines_fit = (let n = size.2 in let m = room.2 in omega (arith, lines_fit, n, m));
+          };
     }

@@ -1,4 +1,4 @@
-use Rattle.std.proofs.Common.{◌≡◌, [], ◌∷◌, ◌++◌, List, sym, ap, ◌∙◌, append_assoc, append-nil, rules}
+use Rattle.std.proofs.Common.{[], ◌∷◌, ◌++◌, sym, ap, ◌∙◌, append_assoc, append-nil, rules}
 use Rattle.std.proofs.lemmas.List.{nil_from_length}
 use Rattle.sv_play.specs.Tasks.{services_of, parts_of}
 use Rattle.sv_play.proofs.Opened.{services_more, services_same, parts_more, parts_same}
@@ -12,9 +12,9 @@ loop-service-preserved g c =
     let rest = c.next.new.self.rest.items in
     record {
       services =
-        ap (λ l. services_of l ++ rest) c.in_ok-push.ensures.items
-        ∙ (ap (λ l. l ++ rest) (services_more ts x)
-        ∙ (append_assoc (services_of ts) (x ∷ []) rest ∙ (ap (λ l. services_of ts ++ l) (sym c.in-Some.ensures.steps.0) ∙ i.services)));
+          ap (λ l. services_of l ++ rest) c.in_ok-push.ensures.items
+          ∙ (ap (λ l. l ++ rest) (services_more ts x)
+          ∙ (append_assoc (services_of ts) (x ∷ []) rest ∙ (ap (λ l. services_of ts ++ l) (sym c.in-Some.ensures.steps.0) ∙ i.services)));
       parts = ap parts_of c.in_ok-push.ensures.items ∙ (parts_same ts x ∙ i.parts);
     }
 
@@ -36,9 +36,9 @@ loop-part-preserved g c =
     record {
       services = ap services_of c.in_ok-push-2.ensures.items ∙ (services_same ts x ∙ i.services);
       parts =
-        ap (λ l. parts_of l ++ rest) c.in_ok-push-2.ensures.items
-        ∙ (ap (λ l. l ++ rest) (parts_more ts x)
-        ∙ (append_assoc (parts_of ts) (x ∷ []) rest ∙ (ap (λ l. parts_of ts ++ l) (sym c.in-Some-part.ensures.steps.0) ∙ i.parts)));
+          ap (λ l. parts_of l ++ rest) c.in_ok-push-2.ensures.items
+          ∙ (ap (λ l. l ++ rest) (parts_more ts x)
+          ∙ (append_assoc (parts_of ts) (x ∷ []) rest ∙ (ap (λ l. parts_of ts ++ l) (sym c.in-Some-part.ensures.steps.0) ∙ i.parts)));
     }
 
 pub returns-clause-parts : goal.returns-clause-parts

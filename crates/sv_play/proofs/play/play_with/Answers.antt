@@ -1,14 +1,12 @@
-use Rattle.std.proofs.Common.{rules, ◌≡◌, ◌+◌, ◌<◌, ◌++◌, [], ◌∷◌, length, reverse, false, List, refl, sym, ap, subst, ◌∙◌, arith}
+use Rattle.std.proofs.Common.{rules, ◌++◌, [], ◌∷◌, length, reverse, sym, ap, subst, ◌∙◌, arith}
 use Rattle.std.specs.List.{flat_map}
-use denote.Param.Send.{sendable, param_send}
+use denote.Param.Send.{sendable}
 use Rattle.std.proofs.Crossing.{crosses}
 use Rattle.sv_sequencer.proofs.Sent.{lock-syncs, pass-sends}
-use Rattle.sv_client.specs.declared.trace.Trace.{Trace}
 use Rattle.sv_script.specs.Telling.{told_lines}
 use Rattle.law_traffic.specs.Runs.{IsGoodRun}
 use Rattle.sv_play.specs.Given.{setting}
 use Rattle.sv_play.specs.Left.{transcripts_of, HasRoom, Joined}
-use Rattle.sv_play.specs.Settling.{SomeDiffer}
 use Rattle.sv_play.specs.Playing.{IsThreadedRun, TookAllIn}
 use Rattle.sv_play.proofs.Ready.{tasks_ready}
 use Rattle.sv_play.proofs.Sent.{client-field-sends, trace-field-sends, step-syncs}

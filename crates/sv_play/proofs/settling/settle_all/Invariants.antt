@@ -1,4 +1,4 @@
-use Rattle.std.proofs.Common.{◌≡◌, ℕ, ◌≤◌, true, false, length, ◌++◌}
+use Rattle.std.proofs.Common.{◌≡◌, ◌≤◌, true, false, length, ◌++◌}
 use Rattle.std.specs.List.{AllZip}
 use Rattle.std.specs.Vec.Iter.{into_iter_items}
 use Rattle.sv_play.specs.Left.{transcripts_of, Agrees}

@@ -1,4 +1,4 @@
-use Rattle.std.proofs.Common.{◌≡◌, length, slice_get, sym, ap, subst, ◌∙◌, rules}
+use Rattle.std.proofs.Common.{slice_get, sym, ap, subst, ◌∙◌}
 use Rattle.sv_play.specs.Places.{EachClient}
 use Rattle.sv_play.specs.Given.{setting, IsPart}
 use Rattle.sv_play.proofs.Opened.{parts_over}

@@ -1,9 +1,8 @@
-use Rattle.std.proofs.Common.{◌≡◌, ◌+◌, ◌<◌, ◌≤◌, get_or, ◌++◌, [], ◌∷◌, List, length, drop, sym, ap, subst, ◌∙◌, append_assoc, append-nil, length-append, arith, rules}
+use Rattle.std.proofs.Common.{◌≡◌, ◌+◌, ◌<◌, ◌≤◌, get_or, ◌++◌, [], ◌∷◌, length, drop, sym, ap, subst, ◌∙◌, append_assoc, append-nil, length-append, arith, rules}
 use Rattle.std.specs.List.{flat_map}
 use Rattle.std.specs.Vec.Iter.{into_iter_items}
 use Rattle.std.proofs.lemmas.List.{drop_all}
 use Rattle.std.proofs.lemmas.List.Concat.{flat_map-append}
-use Rattle.sv_scenario.specs.Sessions.{sessions_of_plan}
 use Rattle.sv_play.specs.Given.{ends_given, IsPartOf}
 use Rattle.sv_play.specs.Places.{EachClient}
 use Rattle.sv_play.proofs.Opened.{one_more, sessions_next}
@@ -31,16 +30,16 @@ loop-plan-preserved g c =
     let rest = into_iter_items c.take_ends.new.left in
     record {
       parts = λ more others.
-        subst (λ l. EachClient (IsPartOf g.W.Teller.shape shape) 0 0 plans l) (sym (ap (λ l. l ++ more) c.in_ok-push.ensures.items ∙ append_assoc c.loop-plan.parts.items (x ∷ []) more))
-        (i.parts (x ∷ more)
-        (one_more (IsPartOf g.W.Teller.shape shape) c.loop-plan.number c.loop-plan.first n plans plan x more low is part
-        (subst (λ s. EachClient (IsPartOf g.W.Teller.shape shape) (c.loop-plan.number + 1) (c.loop-plan.first + s) (drop (n + 1) plans) more) count others)));
+          subst (λ l. EachClient (IsPartOf g.W.Teller.shape shape) 0 0 plans l) (sym (ap (λ l. l ++ more) c.in_ok-push.ensures.items ∙ append_assoc c.loop-plan.parts.items (x ∷ []) more))
+          (i.parts (x ∷ more)
+          (one_more (IsPartOf g.W.Teller.shape shape) c.loop-plan.number c.loop-plan.first n plans plan x more low is part
+          (subst (λ s. EachClient (IsPartOf g.W.Teller.shape shape) (c.loop-plan.number + 1) (c.loop-plan.first + s) (drop (n + 1) plans) more) count others)));
       ends =
-        ap (λ l. flat_map ends_given l ++ rest) c.in_ok-push.ensures.items
-        ∙ (ap (λ l. l ++ rest) (flat_map-append ends_given c.loop-plan.parts.items (x ∷ []))
-        ∙ (ap (λ l. (flat_map ends_given c.loop-plan.parts.items ++ l) ++ rest) (append-nil x.ends.items ∙ c.in_ok-open_part.ensures.ends)
-        ∙ (append_assoc (flat_map ends_given c.loop-plan.parts.items) c.in_ok-own.own.items rest
-        ∙ (ap (λ l. flat_map ends_given c.loop-plan.parts.items ++ l) (sym taken) ∙ i.ends))));
+          ap (λ l. flat_map ends_given l ++ rest) c.in_ok-push.ensures.items
+          ∙ (ap (λ l. l ++ rest) (flat_map-append ends_given c.loop-plan.parts.items (x ∷ []))
+          ∙ (ap (λ l. (flat_map ends_given c.loop-plan.parts.items ++ l) ++ rest) (append-nil x.ends.items ∙ c.in_ok-open_part.ensures.ends)
+          ∙ (append_assoc (flat_map ends_given c.loop-plan.parts.items) c.in_ok-own.own.items rest
+          ∙ (ap (λ l. flat_map ends_given c.loop-plan.parts.items ++ l) (sym taken) ∙ i.ends))));
       number = search rules;
       first = omega (arith, first, next, count);
       left = omega (arith, left, next, long, own, count);

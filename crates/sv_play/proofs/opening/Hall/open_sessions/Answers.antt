@@ -27,21 +27,21 @@ loop-preserved g c =
       service_count = search rules;
       end_count = search rules;
       services = λ k x e.
-        each_push (IsService told faults calm run) c.loop.services.items c.in_ok-service.service i.services
-        (record {
-          lock = opened.service.0;
-          pass = opened.service.1 ∙ ap (λ n. pass_of n lock scenario) (made ∙ service_at);
-          low = omega (arith, service_at, low, most);
-          end =
-            new_end_as told faults calm run (g.N.Net.calm c.loop.net) (g.N.Net.calm c.args.net.now) Server (g.N.Net.made c.loop.net) (pairs + length c.loop.services.items) c.in_ok-service.service.end i.calm
-            (i.made ∙ ap (λ n. pairs + n) service_at) opened.server;
-        })
-        k x (sym (ap (λ l. slice_get l k) c.in_ok-push.ensures.items) ∙ e);
+          each_push (IsService told faults calm run) c.loop.services.items c.in_ok-service.service i.services
+          (record {
+            lock = opened.service.0;
+            pass = opened.service.1 ∙ ap (λ n. pass_of n lock scenario) (made ∙ service_at);
+            low = omega (arith, service_at, low, most);
+            end =
+                new_end_as told faults calm run (g.N.Net.calm c.loop.net) (g.N.Net.calm c.args.net.now) Server (g.N.Net.made c.loop.net) (pairs + length c.loop.services.items) c.in_ok-service.service.end i.calm
+                (i.made ∙ ap (λ n. pairs + n) service_at) opened.server;
+          })
+          k x (sym (ap (λ l. slice_get l k) c.in_ok-push.ensures.items) ∙ e);
       ends = λ k x e.
-        each_push (IsEndOf told faults calm run Client) c.loop.ends.items c.in_ok-service.end i.ends
-        (new_end_as told faults calm run (g.N.Net.calm c.loop.net) (g.N.Net.calm c.args.net.now) Client (g.N.Net.made c.loop.net) (pairs + length c.loop.ends.items) c.in_ok-service.end i.calm
-        (i.made ∙ ap (λ n. pairs + n) end_at) opened.client)
-        k x (sym (ap (λ l. slice_get l k) c.in_ok-push-2.ensures.items) ∙ e);
+          each_push (IsEndOf told faults calm run Client) c.loop.ends.items c.in_ok-service.end i.ends
+          (new_end_as told faults calm run (g.N.Net.calm c.loop.net) (g.N.Net.calm c.args.net.now) Client (g.N.Net.made c.loop.net) (pairs + length c.loop.ends.items) c.in_ok-service.end i.calm
+          (i.made ∙ ap (λ n. pairs + n) end_at) opened.client)
+          k x (sym (ap (λ l. slice_get l k) c.in_ok-push-2.ensures.items) ∙ e);
       made = search rules;
       owed = search rules;
       settled = search rules;
