@@ -8,8 +8,6 @@ mod plan;
 mod reading;
 mod stored;
 mod system;
-#[cfg(test)]
-mod tests;
 mod writing;
 
 pub use faults::FaultCount;

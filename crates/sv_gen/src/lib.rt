@@ -6,6 +6,3 @@ mod scripts;
 mod whole;
 
 pub use whole::generate;
-
-#[cfg(test)]
-mod tests;

@@ -7,8 +7,6 @@
 mod actions;
 mod requests;
 mod scenarios;
-#[cfg(test)]
-mod tests;
 
 pub use actions::read_action;
 pub use requests::read_request;

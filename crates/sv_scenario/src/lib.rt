@@ -21,6 +21,3 @@ pub use line::append_fault_line;
 pub use read::read_scenario;
 pub use scenario::{Plan, Scenario, Step, Turn};
 pub use sessions::{sessions_of, sessions_of_plan};
-
-#[cfg(test)]
-mod tests;

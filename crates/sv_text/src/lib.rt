@@ -21,6 +21,3 @@ pub use laws::{
 };
 pub use parser::parse_action;
 pub use printer::{append_action, print_action};
-
-#[cfg(test)]
-mod tests;

@@ -1,9 +1,9 @@
+//! Tests of the generated scenarios.
 ghost use Rattle.std.specs.Prelude.{◌≤◌};
 
-use super::generate;
 use std::alloc::Global;
-use std::process::Abort;
 use std::test::Fail;
+use sv_gen::generate;
 use sv_scenario::{Plan, Scenario, Step, read_scenario, sessions_of};
 
 /// The scenario of load 1 as a file, with `'` for each `"`.
@@ -39,39 +39,47 @@ fn all_acts(scenario: &Scenario) -> u32 {
     count
 }
 
+/// Whether each plan has so many steps and an interest of four objects.
+fn have_steps(plans: &[Plan], steps: usize) -> bool {
+    for plan in plans {
+        if plan.steps.len() != steps || plan.interest.len() != 4 {
+            return false;
+        }
+    }
+    true
+}
+
 /// A load has so many clients, objects and acts, each client has so many steps, and attribute 0 adds up to so much.
 fn has_sums(
-    rt: &impl Abort,
     alloc: Global,
     n: u32,
     counts: (usize, usize, u32, usize),
     sum: i128,
-) -> Result<(), Fail>
+) -> Result<bool, Fail>
     requires some { 1 ≤ n }
     requires most { n ≤ 192 }
 {
-    let (clients, objects, made, steps) = counts;
     let scenario = generate(alloc, n)?;
-    assert_eq!(rt; scenario.clients.len(), clients);
-    assert_eq!(rt; sessions_of(&scenario) as usize, clients);
-    assert_eq!(rt; scenario.world.values.len(), objects);
-    assert_eq!(rt; all_acts(&scenario), made);
-    assert_eq!(rt; total(&scenario, 0), sum);
-    assert_eq!(rt; total(&scenario, 1), 0);
-    for plan in scenario.clients.as_slice() {
-        assert_eq!(rt; plan.steps.len(), steps);
-        assert_eq!(rt; plan.interest.len(), 4);
-    }
-    Ok(())
+    let (clients, objects, made, steps) = counts;
+    Ok(
+        scenario.clients.len() == clients
+            && sessions_of(&scenario) as usize == clients
+            && scenario.world.values.len() == objects
+            && all_acts(&scenario) == made
+            && total(&scenario, 0) == sum
+            && total(&scenario, 1) == 0
+            && have_steps(scenario.clients.as_slice(), steps),
+    )
 }
 
 #[test]
 fn loads_have_the_stated_sums(rt: HostRuntime) -> Result<(), Fail> {
-    has_sums(&rt, rt.alloc(), 1, (2, 4, 32, 17), 406)?;
-    has_sums(&rt, rt.alloc(), 2, (4, 8, 64, 17), 828)?;
-    has_sums(&rt, rt.alloc(), 16, (32, 64, 512, 17), 8416)?;
-    has_sums(&rt, rt.alloc(), 17, (2, 8, 64, 34), 828)?;
-    has_sums(&rt, rt.alloc(), 192, (32, 768, 6144, 204), 371_328)
+    assert!(rt; has_sums(rt.alloc(), 1, (2, 4, 32, 17), 406)?);
+    assert!(rt; has_sums(rt.alloc(), 2, (4, 8, 64, 17), 828)?);
+    assert!(rt; has_sums(rt.alloc(), 16, (32, 64, 512, 17), 8416)?);
+    assert!(rt; has_sums(rt.alloc(), 17, (2, 8, 64, 34), 828)?);
+    assert!(rt; has_sums(rt.alloc(), 192, (32, 768, 6144, 204), 371_328)?);
+    Ok(())
 }
 
 fn quoted(alloc: Global, text: &str) -> Result<Vec<u8>, Fail> {
@@ -82,15 +90,21 @@ fn quoted(alloc: Global, text: &str) -> Result<Vec<u8>, Fail> {
     Ok(bytes)
 }
 
+fn read_as_text(alloc: Global, file: &str) -> Result<String, Fail> {
+    let bytes = quoted(alloc, file)?;
+    let read = read_scenario(alloc, &bytes).ok().ok_or("it is a scenario")?;
+    Ok(format!(in alloc; "{read:?}")?)
+}
+
+fn load_as_text(alloc: Global) -> Result<String, Fail> {
+    let made = generate(alloc, 1)?;
+    Ok(format!(in alloc; "{made:?}")?)
+}
+
 #[test]
 fn load_1_is_the_scenario_of_its_file(rt: HostRuntime) -> Result<(), Fail> {
-    let bytes = quoted(rt.alloc(), LOAD_1)?;
-    let read = read_scenario(rt.alloc(), &bytes)
-        .ok()
-        .ok_or("it is a scenario")?;
-    let made = generate(rt.alloc(), 1)?;
-    let read = format!(in rt.alloc(); "{read:?}")?;
-    let made = format!(in rt.alloc(); "{made:?}")?;
-    assert_eq!(rt; made.as_str(), read.as_str());
+    let read = read_as_text(rt.alloc(), LOAD_1)?;
+    let made = load_as_text(rt.alloc())?;
+    assert!(rt; made.as_str() == read.as_str());
     Ok(())
 }

@@ -1,9 +1,10 @@
+//! Tests of files and sinks, in memory and of the system.
 ghost use Rattle.std.specs.Prelude.{◌<◌};
 
-use super::*;
 use std::alloc::{AllocError, Global};
 use std::fs;
 use std::test::Fail;
+use sv_bytes::{FileFault, MemFiles, MemSink, OsFiles, OsSink, read_all, write_all, write_pieces};
 
 fn greeting(alloc: Global, step: usize, failing: u64) -> Result<MemFiles, AllocError>
     requires { 0 < step }

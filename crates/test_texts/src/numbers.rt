@@ -1,5 +1,6 @@
-use crate::read_scenario_numbers;
+//! A test that all numbers of a scenario can be read.
 use std::test::Fail;
+use sv_numbers::read_scenario_numbers;
 use sv_scenario::read_scenario;
 
 const SMALL: &[u8] =

@@ -1,6 +1,7 @@
-use super::*;
+//! Tests of the action language: each refused text with its place, and canonical texts.
 use std::alloc::Global;
 use std::test::Fail;
+use sv_text::{ParseFault, TextCause, TextFault, append_action, parse_action, print_action};
 
 /// A refused text on each line, behind its cause and its place.
 const REFUSED: &str = "\

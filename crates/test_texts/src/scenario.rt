@@ -1,10 +1,14 @@
+//! Tests of scenario files: each refusal with its path, and what a file means.
 ghost use Rattle.std.specs.Prelude.{IfOk};
 ghost use Rattle.sv_scenario.specs.Limits.{IsGoodScenario};
 
-use super::*;
 use std::alloc::Global;
 use std::process::Abort;
 use std::test::Fail;
+use sv_scenario::{
+    Plan, ReadFault, Scenario, Step, Turn, append_fault_line, read_scenario, sessions_of,
+    sessions_of_plan,
+};
 use sv_world::{ObjectId, Shape};
 
 /// A path and a cause, and a text with that fault, with `'` for each `"`.
@@ -283,28 +287,35 @@ fn line_of(alloc: Global, bytes: &[u8]) -> Result<String, Fail> {
     Ok(line)
 }
 
-/// A line of the tables: what is printed, and the text.
-fn split(alloc: Global, line: &str) -> Result<(String, Vec<u8>), Fail> {
-    let (fault, text) = line.split_once('|').ok_or("no bar")?;
+/// Whether this is printed of bytes.
+fn is_line(alloc: Global, bytes: &[u8], printed: &str) -> Result<bool, Fail> {
+    let line = line_of(alloc, bytes)?;
+    Ok(line.as_str() == printed)
+}
+
+/// Whether the text of a line of the tables is refused as it says.
+fn is_refused(alloc: Global, fault: &str, text: &str) -> Result<bool, Fail> {
+    let bytes = quoted(alloc, text)?;
     let printed = format!(in alloc; "scenario: {fault}\n")?;
-    Ok((printed, quoted(alloc, text)?))
+    is_line(alloc, &bytes, &printed)
+}
+
+/// Whether a text is no JSON without its last byte, if it has one.
+fn is_whole(alloc: Global, text: &str) -> Result<bool, Fail> {
+    let bytes = quoted(alloc, text)?;
+    let count = bytes.len().saturating_sub(1);
+    is_line(alloc, &bytes[..count], "scenario: : json\n")
+}
+
+fn holds(alloc: Global, line: &str) -> Result<bool, Fail> {
+    let (fault, text) = line.split_once('|').ok_or("no bar")?;
+    Ok(is_refused(alloc, fault, text)? && is_whole(alloc, text)?)
 }
 
 /// Each text of a table is refused as the table says, and without its last byte it is no JSON.
 fn are_refused(rt: &impl Abort, alloc: Global, table: &str) -> Result<(), Fail> {
     for line in table.lines() {
-        let (printed, mut bytes) = split(alloc, line)?;
-        assert_eq!(rt;
-            line_of(alloc, &bytes)?.as_str(),
-            printed.as_str(),
-            "{line}"
-        );
-        bytes.pop();
-        assert_eq!(rt;
-            line_of(alloc, &bytes)?.as_str(),
-            "scenario: : json\n",
-            "{line}"
-        );
+        assert!(rt; holds(alloc, line)?, "{line}");
     }
     Ok(())
 }
@@ -324,25 +335,24 @@ fn the_last_of_two_keys_counts(rt: HostRuntime) -> Result<(), Fail> {
     are_refused(&rt, rt.alloc(), DOUBLED)
 }
 
+fn is_read(alloc: Global, text: &str) -> Result<bool, Fail> {
+    let bytes = quoted(alloc, text)?;
+    is_line(alloc, &bytes, "read")
+}
+
 #[test]
 fn reads_scenarios(rt: HostRuntime) -> Result<(), Fail> {
     for line in READ.lines() {
-        let bytes = quoted(rt.alloc(), line)?;
-        assert_eq!(rt; line_of(rt.alloc(), &bytes)?.as_str(), "read", "{line}");
+        assert!(rt; is_read(rt.alloc(), line)?, "{line}");
     }
     Ok(())
 }
 
-/// So much is printed of a head, so many times an item with commas between, and a tail.
-fn is_printed(
-    rt: &impl Abort,
-    alloc: Global,
-    head: &str,
-    item: &str,
-    count: usize,
-    tail: &str,
-    printed: &str,
-) -> Result<(), Fail> {
+/// A head, so many times an item with commas between, and a tail.
+type Long = (&'static str, &'static str, usize, &'static str);
+
+fn written(alloc: Global, long: Long) -> Result<String, Fail> {
+    let (head, item, count, tail) = long;
     let mut text = String::from_str(alloc, head)?;
     for index in 0..count {
         if index > 0 {
@@ -351,9 +361,13 @@ fn is_printed(
         text.push_str(item)?;
     }
     text.push_str(tail)?;
+    Ok(text)
+}
+
+fn is_printed(alloc: Global, long: Long, printed: &str) -> Result<bool, Fail> {
+    let text = written(alloc, long)?;
     let bytes = quoted(alloc, &text)?;
-    assert_eq!(rt; line_of(alloc, &bytes)?.as_str(), printed);
-    Ok(())
+    is_line(alloc, &bytes, printed)
 }
 
 /// Up to the clients, to one client's steps, and to its interest.
@@ -363,151 +377,108 @@ const STEPS: &str = "{'attrs':1,'objects':[[5]],'bound':4,'clients':[{'interest'
 
 const INTEREST: &str = "{'attrs':1,'objects':[[5]],'bound':4,'clients':[{'steps':[],'interest':[";
 
+const WORLD: &str = "{'bound':4,'clients':[{'interest':[],'steps':[]}],'attrs':1,'objects':[";
+
+const TURNS: &str =
+    "{'attrs':1,'objects':[[5]],'bound':4,'clients':[{'interest':[],'steps':[]}],'schedule':[";
+
+const SHOW: &str =
+    "{'attrs':1,'objects':[[5]],'bound':4,'clients':[{'interest':[],'steps':[{'show':[";
+
+const CLIENT: &str = "{'interest':[],'steps':[]}";
+
 #[test]
 fn keeps_the_limits_of_lists(rt: HostRuntime) -> Result<(), Fail> {
-    let alloc = rt.alloc();
-    let world = "{'bound':4,'clients':[{'interest':[],'steps':[]}],'attrs':1,'objects':[";
-    let turns =
-        "{'attrs':1,'objects':[[5]],'bound':4,'clients':[{'interest':[],'steps':[]}],'schedule':[";
-    let show = "{'attrs':1,'objects':[[5]],'bound':4,'clients':[{'interest':[],'steps':[{'show':[";
-    let client = "{'interest':[],'steps':[]}";
-    is_printed(&rt, alloc, world, "[5]", 4096, "]}", "read")?;
-    is_printed(
-        &rt,
-        alloc,
-        world,
-        "[5]",
-        4097,
-        "]}",
-        "scenario: /objects: range\n",
-    )?;
-    is_printed(&rt, alloc, CLIENTS, client, 32, "]}", "read")?;
-    is_printed(
-        &rt,
-        alloc,
-        CLIENTS,
-        client,
-        33,
-        "]}",
-        "scenario: /clients: range\n",
-    )?;
-    is_printed(
-        &rt,
-        alloc,
-        INTEREST,
-        "0",
-        64,
-        "]}]}",
-        "scenario: /clients/0/interest/1: order\n",
-    )?;
-    is_printed(
-        &rt,
-        alloc,
-        INTEREST,
-        "0",
-        65,
-        "]}]}",
-        "scenario: /clients/0/interest: range\n",
-    )?;
-    is_printed(&rt, alloc, STEPS, "'sync'", 256, "]}]}", "read")?;
-    is_printed(
-        &rt,
-        alloc,
-        STEPS,
-        "'sync'",
-        257,
-        "]}]}",
-        "scenario: /clients/0/steps: range\n",
-    )?;
-    is_printed(&rt, alloc, show, "0", 16, "]}]}]}", "read")?;
-    is_printed(
-        &rt,
-        alloc,
-        show,
-        "0",
-        17,
-        "]}]}]}",
-        "scenario: /clients/0/steps/0/show: range\n",
-    )?;
-    is_printed(&rt, alloc, turns, "'s0'", 16_384, "]}", "read")?;
-    is_printed(
-        &rt,
-        alloc,
-        turns,
-        "'s0'",
-        16_385,
-        "]}",
-        "scenario: /schedule: range\n",
-    )?;
+    for (long, printed) in [
+        ((WORLD, "[5]", 4096, "]}"), "read"),
+        ((WORLD, "[5]", 4097, "]}"), "scenario: /objects: range\n"),
+        ((CLIENTS, CLIENT, 32, "]}"), "read"),
+        ((CLIENTS, CLIENT, 33, "]}"), "scenario: /clients: range\n"),
+        (
+            (INTEREST, "0", 64, "]}]}"),
+            "scenario: /clients/0/interest/1: order\n",
+        ),
+        (
+            (INTEREST, "0", 65, "]}]}"),
+            "scenario: /clients/0/interest: range\n",
+        ),
+        ((STEPS, "'sync'", 256, "]}]}"), "read"),
+        (
+            (STEPS, "'sync'", 257, "]}]}"),
+            "scenario: /clients/0/steps: range\n",
+        ),
+        ((SHOW, "0", 16, "]}]}]}"), "read"),
+        (
+            (SHOW, "0", 17, "]}]}]}"),
+            "scenario: /clients/0/steps/0/show: range\n",
+        ),
+        ((TURNS, "'s0'", 16_384, "]}"), "read"),
+        (
+            (TURNS, "'s0'", 16_385, "]}"),
+            "scenario: /schedule: range\n",
+        ),
+    ] {
+        assert!(rt; is_printed(rt.alloc(), long, printed)?, "{printed}");
+    }
     Ok(())
 }
 
+/// What may stand behind the steps of the first client: another client, one with a fault, and turns with one.
+const MORE: &str = "]},{'interest':[],'steps':[]}]}";
+
+const FAULTY: &str = "]},{'interest':[],'steps':['wait']}]}";
+
+const FAULTY_TURNS: &str = "]}],'schedule':[5]}";
+
 #[test]
 fn counts_sessions_behind_the_clients(rt: HostRuntime) -> Result<(), Fail> {
-    let alloc = rt.alloc();
-    let more = "]},{'interest':[],'steps':[]}]}";
-    let faulty = "]},{'interest':[],'steps':['wait']}]}";
-    let turns = "]}],'schedule':[5]}";
-    is_printed(&rt, alloc, STEPS, "'cut'", 63, "]}]}", "read")?;
-    is_printed(
-        &rt,
-        alloc,
-        STEPS,
-        "'cut'",
-        64,
-        "]}]}",
-        "scenario: /clients: range\n",
-    )?;
-    is_printed(&rt, alloc, STEPS, "'cut'", 62, more, "read")?;
-    is_printed(
-        &rt,
-        alloc,
-        STEPS,
-        "'cut'",
-        63,
-        more,
-        "scenario: /clients: range\n",
-    )?;
-    is_printed(
-        &rt,
-        alloc,
-        STEPS,
-        "'cut'",
-        64,
-        faulty,
-        "scenario: /clients/1/steps/0: kind\n",
-    )?;
-    is_printed(
-        &rt,
-        alloc,
-        STEPS,
-        "'cut'",
-        64,
-        turns,
-        "scenario: /clients: range\n",
-    )?;
+    for (long, printed) in [
+        ((STEPS, "'cut'", 63, "]}]}"), "read"),
+        ((STEPS, "'cut'", 64, "]}]}"), "scenario: /clients: range\n"),
+        ((STEPS, "'cut'", 62, MORE), "read"),
+        ((STEPS, "'cut'", 63, MORE), "scenario: /clients: range\n"),
+        (
+            (STEPS, "'cut'", 64, FAULTY),
+            "scenario: /clients/1/steps/0: kind\n",
+        ),
+        (
+            (STEPS, "'cut'", 64, FAULTY_TURNS),
+            "scenario: /clients: range\n",
+        ),
+    ] {
+        assert!(rt; is_printed(rt.alloc(), long, printed)?, "{printed}");
+    }
     Ok(())
+}
+
+/// So many brackets open and close.
+fn nested(alloc: Global, depth: u8) -> Result<Vec<u8>, Fail> {
+    let mut bytes = Vec::new(alloc);
+    for _ in 0..depth {
+        bytes.push(b'[')?;
+    }
+    for _ in 0..depth {
+        bytes.push(b']')?;
+    }
+    Ok(bytes)
+}
+
+fn is_nested(alloc: Global, depth: u8, printed: &str) -> Result<bool, Fail> {
+    let bytes = nested(alloc, depth)?;
+    is_line(alloc, &bytes, printed)
 }
 
 #[test]
 fn nests_no_deeper_than_127(rt: HostRuntime) -> Result<(), Fail> {
-    for (depth, printed) in [(127, "scenario: : kind\n"), (128, "scenario: : json\n")] {
-        let mut bytes = Vec::new(rt.alloc());
-        for _ in 0..depth {
-            bytes.push(b'[')?;
-        }
-        for _ in 0..depth {
-            bytes.push(b']')?;
-        }
-        assert_eq!(rt; line_of(rt.alloc(), &bytes)?.as_str(), printed);
-    }
+    assert!(rt; is_nested(rt.alloc(), 127, "scenario: : kind\n")?);
+    assert!(rt; is_nested(rt.alloc(), 128, "scenario: : json\n")?);
     Ok(())
 }
 
 #[test]
 fn refuses_what_is_no_text(rt: HostRuntime) -> Result<(), Fail> {
     for bytes in [[0xFF, 0x7B], [b'"', 0x80], [0xC3, 0x28]] {
-        assert_eq!(rt; line_of(rt.alloc(), &bytes)?.as_str(), "scenario: : json\n");
+        assert!(rt; is_line(rt.alloc(), &bytes, "scenario: : json\n")?);
     }
     Ok(())
 }
@@ -517,41 +488,44 @@ fn refuses_what_is_no_text(rt: HostRuntime) -> Result<(), Fail> {
 fn prints_keys_as_they_are(rt: HostRuntime) -> Result<(), Fail> {
     let text = "{'attrs':1,'objects':[[5]],'bound':4,'clients':[],'a\\n/b':0}";
     let bytes = quoted(rt.alloc(), text)?;
-    assert_eq!(rt;
-        line_of(rt.alloc(), &bytes)?.as_str(),
-        "scenario: /a\n/b: key\n"
-    );
+    assert!(rt; is_line(rt.alloc(), &bytes, "scenario: /a\n/b: key\n")?);
     Ok(())
 }
 
+const GOOD: &str = "{'attrs':1,'objects':[[5]],'bound':4,'clients':[{'interest':[],'steps':[]}]}";
+
 /// So much is printed of a text with a byte behind it so often that there are so many in all.
 fn is_filled(
-    rt: &impl Abort,
     alloc: Global,
     text: &str,
     byte: u8,
     size: usize,
     printed: &str,
-) -> Result<(), Fail> {
+) -> Result<bool, Fail> {
     let mut bytes = quoted(alloc, text)?;
     for _ in bytes.len()..size {
         bytes.push(byte)?;
     }
-    assert_eq!(rt; line_of(alloc, &bytes)?.as_str(), printed);
-    Ok(())
+    is_line(alloc, &bytes, printed)
 }
 
 #[test]
 fn refuses_more_than_four_mebibytes(rt: HostRuntime) -> Result<(), Fail> {
-    let alloc = rt.alloc();
-    let good = "{'attrs':1,'objects':[[5]],'bound':4,'clients':[{'interest':[],'steps':[]}]}";
-    is_filled(&rt, alloc, good, b' ', 4_194_304, "read")?;
-    is_filled(&rt, alloc, good, b' ', 4_194_305, "scenario: : size\n")?;
-    is_filled(&rt, alloc, good, 0xFF, 4_194_304, "scenario: : json\n")?;
-    is_filled(&rt, alloc, good, 0xFF, 4_194_305, "scenario: : size\n")?;
-    is_filled(&rt, alloc, "", b' ', 4_194_305, "scenario: : size\n")?;
-    is_filled(&rt, alloc, "[]", b' ', 4_194_304, "scenario: : kind\n")?;
-    is_filled(&rt, alloc, "[]", b' ', 4_194_305, "scenario: : size\n")
+    for (text, byte, size, printed) in [
+        (GOOD, b' ', 4_194_304, "read"),
+        (GOOD, b' ', 4_194_305, "scenario: : size\n"),
+        (GOOD, 0xFF, 4_194_304, "scenario: : json\n"),
+        (GOOD, 0xFF, 4_194_305, "scenario: : size\n"),
+        ("", b' ', 4_194_305, "scenario: : size\n"),
+        ("[]", b' ', 4_194_304, "scenario: : kind\n"),
+        ("[]", b' ', 4_194_305, "scenario: : size\n"),
+    ] {
+        assert!(rt;
+            is_filled(rt.alloc(), text, byte, size, printed)?,
+            "{printed}"
+        );
+    }
+    Ok(())
 }
 
 /// The conflict of two clients, whose turns are fixed.
@@ -567,38 +541,46 @@ fn scenario(alloc: Global, bytes: &[u8]) -> Result<Scenario, Fail>
     }
 }
 
-#[test]
-fn reads_what_the_text_says(rt: HostRuntime) -> Result<(), Fail> {
-    let bytes = quoted(rt.alloc(), CONFLICT)?;
-    let scenario = scenario(rt.alloc(), &bytes)?;
-    assert_eq!(rt; sessions_of(&scenario), 3);
-    assert_eq!(rt; scenario.bound, 4);
-    assert_eq!(rt; scenario.reach, None);
-    assert_eq!(rt;
-        scenario.world.shape,
-        Shape {
-            objects: 1,
-            attrs: 1
-        }
-    );
-    let turns = [Turn::Client(0), Turn::Session(2), Turn::Take(1)];
-    assert!(rt; scenario.schedule.as_slice() == turns.as_slice());
-    let [first, second] = scenario.clients.as_slice() else {
-        return Err(Fail::from("there are two clients"));
-    };
-    assert!(rt; matches!(first.steps.as_slice(), [Step::Act(_)]));
-    assert_eq!(rt; sessions_of_plan(second), 2);
-    assert!(rt; second.interest.as_slice() == [ObjectId(0)].as_slice());
+fn is_first_plan(plan: &Plan) -> bool {
+    matches!(plan.steps.as_slice(), [Step::Act(_)])
+}
+
+fn is_second_plan(plan: &Plan) -> bool {
     let [
         Step::Act(_),
         Step::Cut,
         Step::Poll,
         Step::Show(shown),
         Step::Quit,
-    ] = second.steps.as_slice()
+    ] = plan.steps.as_slice()
     else {
-        return Err(Fail::from("there are five steps"));
+        return false;
     };
-    assert!(rt; shown.as_slice() == [ObjectId(0), ObjectId(0)].as_slice());
+    shown.as_slice() == [ObjectId(0), ObjectId(0)].as_slice()
+        && plan.interest.as_slice() == [ObjectId(0)].as_slice()
+        && sessions_of_plan(plan) == 2
+}
+
+fn are_plans(plans: &[Plan]) -> bool {
+    match plans {
+        [first, second] => is_first_plan(first) && is_second_plan(second),
+        _ => false,
+    }
+}
+
+#[test]
+fn reads_what_the_text_says(rt: HostRuntime) -> Result<(), Fail> {
+    let bytes = quoted(rt.alloc(), CONFLICT)?;
+    let scenario = scenario(rt.alloc(), &bytes)?;
+    let shape = Shape {
+        objects: 1,
+        attrs: 1,
+    };
+    assert!(rt; scenario.bound == 4 && scenario.reach.is_none());
+    assert!(rt; scenario.world.shape == shape);
+    let turns = [Turn::Client(0), Turn::Session(2), Turn::Take(1)];
+    assert!(rt; scenario.schedule.as_slice() == turns.as_slice());
+    assert!(rt; are_plans(scenario.clients.as_slice()));
+    assert!(rt; sessions_of(&scenario) == 3);
     Ok(())
 }

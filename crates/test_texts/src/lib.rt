@@ -1,0 +1,13 @@
+//! Tests of what is read and printed as text, and of files: the action language, scenario files, generated scenarios, sources and sinks.
+#![tactic(auto)]
+
+#[cfg(test)]
+mod bytes;
+#[cfg(test)]
+mod loads;
+#[cfg(test)]
+mod numbers;
+#[cfg(test)]
+mod scenario;
+#[cfg(test)]
+mod text;
