@@ -86,8 +86,14 @@ fn if_at(
     ensures few { IfOk result (λ x. x.1 ≤ 64) }
 {
     let (cond, nodes) = cond_at(alloc, depth, nodes, reads, cursor)?;
-    let ((then, other), nodes) = branches_at(alloc, depth, nodes, reads, cursor)?;
-    Ok((Stmt::If { cond, then, other }, nodes))
+    match branches_at(alloc, depth, nodes, reads, cursor) {
+        Ok(((then, other), nodes)) => Ok((Stmt::If { cond, then, other }, nodes)),
+        Err(fault) => {
+            // A tree that is let go at the end of its scope makes a long proof; a call that takes it, none.
+            drop(cond);
+            Err(fault)
+        }
+    }
 }
 
 /// Both blocks of an `if`.
