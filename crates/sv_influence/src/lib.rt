@@ -13,6 +13,3 @@ pub use answers::{Chain, Closure};
 pub use influence::chain;
 pub use lacking::closure;
 pub use plain::plain_closure;
-
-#[cfg(test)]
-mod tests;

@@ -1,5 +1,4 @@
 pub mod Entries
-pub mod GoodActions
 pub mod Installs
 pub mod Kept
 pub mod Members

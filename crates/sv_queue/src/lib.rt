@@ -6,8 +6,6 @@ mod queued;
 mod sessions;
 mod sources;
 mod steps;
-#[cfg(test)]
-mod tests;
 mod writers;
 mod written;
 

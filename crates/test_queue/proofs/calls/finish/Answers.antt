@@ -1,7 +1,7 @@
 use Rattle.std.proofs.Common.{◌≡◌, ℕ, List, [], ◌∷◌, length, map, sym, ap, arith}
 use Rattle.sv_world.specs.declared.world.ObjectId.{ObjectId}
 use Rattle.sv_world.specs.Sets.{at_mask}
-use Rattle.sv_influence.proofs.tests.finish.Goals as goal
+use Rattle.test_queue.proofs.calls.finish.Goals as goal
 
 -- An action that reads one object, with mask 1, writes one.
 one_written : (reads : List ObjectId) (mask : ℕ) → length reads ≡ 1 → mask ≡ 1 → length (at_mask mask 0 (map (λ (o : ObjectId). o.0) reads)) ≡ 1

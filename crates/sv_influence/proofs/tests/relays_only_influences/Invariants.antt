@@ -1,4 +1,0 @@
-use Rattle.sv_influence.proofs.tests.relays_only_influences.Given as goal
-
-abbrev pub ghosts-lacking_of_four : goal.ghosts-lacking_of_four
-ghosts-lacking_of_four g a = record { name = a.blank.name; parts = a.blank.parts }

@@ -1,4 +1,0 @@
-use Rattle.sv_queue.proofs.tests.evaluates_late_older_action_at_its_place.Given as goal
-
-abbrev pub ghosts-writers : goal.ghosts-writers
-ghosts-writers g a = record { name = a.blank.name; parts = a.blank.parts }

@@ -1,4 +1,0 @@
-use Rattle.sv_queue.proofs.tests.pop_undoes_push.Given as goal
-
-abbrev pub ghosts-pushes_and_pops : goal.ghosts-pushes_and_pops
-ghosts-pushes_and_pops g a = record { name = a.blank.name; parts = a.blank.parts }

@@ -1,4 +1,0 @@
-use Rattle.sv_queue.proofs.tests.sources_are_last_writers.Given as goal
-
-abbrev pub ghosts-sources : goal.ghosts-sources
-ghosts-sources g a = record { name = a.blank.name; parts = a.blank.parts }
