@@ -5,15 +5,11 @@
 #![tactic(auto)]
 
 mod beds;
-#[cfg(test)]
-mod counter;
 mod desk;
 mod lock;
 mod object;
 mod pass;
 mod plays;
-#[cfg(test)]
-mod tests;
 mod view;
 
 pub use lock::SeqLock;

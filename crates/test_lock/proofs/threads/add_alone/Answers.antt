@@ -1,6 +1,6 @@
 use Rattle.std.proofs.Common.{rules, ◌≡◌, [], ◌∷◌, map, subst, ◌<◌, ℕ}
 use Rattle.sv_lock.proofs.Ended.{one_ended}
-use Rattle.sv_lock.proofs.tests.add_alone.Goals as goal
+use Rattle.test_lock.proofs.threads.add_alone.Goals as goal
 
 pub close-requires-clause-ended : goal.close-requires-clause-ended
 close-requires-clause-ended g c =

@@ -1,5 +1,5 @@
 use Rattle.std.proofs.Common.{◌≡◌}
-use Rattle.sv_lock.proofs.tests.add_up.Given as goal
+use Rattle.test_lock.proofs.threads.add_up.Given as goal
 
 abbrev pub invariant-loop-amount : goal.invariant-loop-amount
 invariant-loop-amount g l =

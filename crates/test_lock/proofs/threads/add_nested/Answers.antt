@@ -1,5 +1,5 @@
 use Rattle.std.proofs.Common.{rules, ◌≡◌, arith}
-use Rattle.sv_lock.proofs.tests.add_nested.Goals as goal
+use Rattle.test_lock.proofs.threads.add_nested.Goals as goal
 
 pub close-requires-clause-ended : goal.close-requires-clause-ended
 close-requires-clause-ended g c = λ n lt.

@@ -1,5 +1,5 @@
 use Rattle.std.proofs.Common.{◌+◌, ◌*◌}
-use Rattle.sv_lock.proofs.tests.+crowd+fn-crowd-join+arg3.Given as goal
+use Rattle.test_lock.proofs.threads.+crowd+fn-crowd-join+arg3.Given as goal
 
 abbrev pub decreases-crowd : goal.decreases-crowd
 decreases-crowd g l = 2 * l.threads

@@ -1,4 +1,4 @@
-use Rattle.sv_lock.proofs.tests.+nest.Given as goal
+use Rattle.test_lock.proofs.threads.+nest.Given as goal
 
 abbrev pub decreases-nest : goal.decreases-nest
 decreases-nest g l = l.left

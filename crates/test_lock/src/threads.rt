@@ -2,13 +2,13 @@ ghost use Rattle.std.specs.Prelude.{◌≡◌, ℕ, ◌+◌, ◌<◌, ◌≤◌,
 ghost use Rattle.std.specs.Thread.{IsSync};
 ghost use Rattle.sv_lock.specs.Passes.{session_number};
 
-use super::counter::{Added, Counter};
-use super::*;
+use crate::counter::{Added, Counter};
 use std::alloc::{AllocError, Global};
 use std::sync::{Arc, Wait};
 use std::test::Fail;
 use std::thread;
 use std::thread::Threads;
+use sv_lock::{Pass, SeqLock};
 
 // Adds 0, 1, 2 and so on, and says how many of these calls were answered.
 fn add_up<R: Wait>(

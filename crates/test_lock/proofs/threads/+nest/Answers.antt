@@ -1,6 +1,6 @@
 use Rattle.std.proofs.Common.{rules, ◌≡◌, ◌+◌, [], ◌∷◌, ◌++◌}
 use Rattle.sv_lock.proofs.Ended.{one_more_ended}
-use Rattle.sv_lock.proofs.tests.+nest.Goals as goal
+use Rattle.test_lock.proofs.threads.+nest.Goals as goal
 
 pub returns-clause-ended : goal.returns-clause-ended
 returns-clause-ended g t c =

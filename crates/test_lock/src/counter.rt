@@ -1,10 +1,10 @@
-//! A small object for the tests: a counter that lists what was added by whom.
+//! A small object: a counter that lists what was added by whom.
 ghost use Rattle.std.specs.Prelude.{◌≡◌, ℕ, ◌%◌, ◌^◌, ◌<◌, List, [], All, sum_by, refl};
 
-use crate::Object;
 use std::alloc::{AllocError, Global};
 use std::hint;
 use std::sync::Arc;
+use sv_lock::Object;
 
 /// So much was added, by the caller of this number.
 #[derive(Clone, Copy)]
