@@ -1,9 +1,10 @@
 #!/usr/bin/env python3
 """Says which parts of a crate's proofs took long, by when a check saved each: python3 profile.py crates/NAME/out/incremental [COUNT]
 
-A function's proof is saved in modules, one after the other: Lts follows owned values and borrows, Tie ties the contract to the code, and Proof is what
-the tactics found. The time of one is what passed since the module before it of the same function was saved. So it includes what else the machine did
-meanwhile, and what the module waited for: compare figures of one run, and take a Tie or a Proof with care. Delete crates/NAME/out for a run from nothing.
+A check with one job saves its modules one after the other, so the time of a module is what passed since the one saved before it. Of a function Lts follows
+owned values and borrows, Tie ties the contract to the code, and Proof is what the tactics found; lemmas stand by the names of their files. The times are
+those of the clock: on a busy machine compare the figures of one run alone. A check of many functions is made by several processes, and the first module
+that a new one saves has the time that it took to begin. Delete crates/NAME/out for a run from nothing, and give `rt check` the words --jobs 1.
 """
 import os
 import re
@@ -15,25 +16,34 @@ def saved(folder):
     found = []
     for at, _, names in os.walk(folder):
         for name in names:
-            module = re.fullmatch(r"Rattle-\w+-proofs\.(.+)\.oantt", name)
-            if module and not name.endswith(".decls.oantt"):
-                found.append((os.stat(f"{at}/{name}").st_mtime, module[1]))
+            if name.endswith(".oantt"):
+                found.append((os.stat(f"{at}/{name}").st_mtime, name.removesuffix(".oantt").removesuffix(".decls")))
     return sorted(found)
 
 
+def summed(pairs):
+    sums = {}
+    for key, seconds in pairs:
+        sums[key] = sums.get(key, 0.0) + seconds
+    return sorted(sums.items(), key=lambda pair: -pair[1])
+
+
 def main(folder, count):
-    last, parts, sums = {}, [], {}
-    for time, name in saved(folder):
-        function, _, part = name.rpartition(".")
-        kind = re.match(r"Lts|Tie|Proof", part)
-        if kind and function in last:
-            parts.append((time - last[function], name))
-            sums[kind[0]] = sums.get(kind[0], 0.0) + time - last[function]
-        last[function] = time
-    print(", ".join(f"{kind} {seconds:.0f} s" for kind, seconds in sorted(sums.items())))
-    for seconds, name in sorted(parts, reverse=True)[:count]:
-        print(f"{seconds:8.1f} s  {name}")
+    modules = saved(folder)
+    times = [(name, time - before) for (before, _), (time, name) in zip(modules, modules[1:])]
+    kinds, functions, parts = [], [], []
+    for name, seconds in times:
+        found = re.fullmatch(r"Rattle-\w+-proofs\.(.+?)(?:\.((?:Lts|Tie|Proof|Goals|Layout|Answers)\b.*))?", name)
+        function, part = (found[1], found[2] or "-") if found else (name, "-")
+        kinds.append((re.sub(r"[-.].*", "", part) or "other", seconds))
+        functions.append((function, seconds))
+        parts.append((name, seconds))
+    print(f"{len(modules)} modules in {modules[-1][0] - modules[0][0]:.0f} s: " + ", ".join(f"{kind} {seconds:.0f} s" for kind, seconds in summed(kinds)[:6]))
+    for title, pairs in (("functions", functions), ("modules", parts)):
+        print(f"\n{title}:")
+        for name, seconds in summed(pairs)[:count]:
+            print(f"{seconds:8.1f} s  {name}")
 
 
 if __name__ == "__main__":
-    main(sys.argv[1], int(sys.argv[2]) if len(sys.argv) > 2 else 25)
+    main(sys.argv[1], int(sys.argv[2]) if len(sys.argv) > 2 else 15)
