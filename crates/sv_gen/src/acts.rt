@@ -1,7 +1,7 @@
 //! Acts that move an amount from one object to another.
 
-ghost use Rattle.std.specs.Prelude.{◌≡◌, ◌≤◌, ◌<◌, IfOk};
-ghost use Rattle.sv_gen.specs.Generated.{slot_of, taken, added, transfer, act};
+ghost use Rattle.std.specs.Prelude.{◌≡◌, ◌≤◌, ◌<◌, min, max, [], ◌∷◌, IfOk};
+ghost use Rattle.sv_gen.specs.Generated.{object, slot_of, taken, added, transfer, act};
 
 use std::alloc::{AllocError, Global};
 use sv_world::{Action, Boxed, Expr, List, ObjectId, Point, Reads, Shared, Stmt};
@@ -38,22 +38,38 @@ fn added(alloc: Global, slot: u8, attr: u8, amount: u16) -> Result<Stmt, AllocEr
     })
 }
 
-/// Moves an amount of attribute 0 between two objects, and counts it on attribute 1 of the first one.
-fn transfer(alloc: Global, from: u16, to: u16, amount: u16) -> Result<Action, AllocError>
-    ensures { IfOk result (λ a. a ≡ transfer from to amount) }
+/// What an act reads: two objects, in order.
+fn both(alloc: Global, from: u16, to: u16) -> Result<Reads, AllocError>
+    ensures { IfOk result (λ reads. reads ≡ object (min from to) ∷ object (max from to) ∷ []) }
 {
     let mut reads = Reads::new(alloc);
     reads.push(ObjectId(from.min(to)))?;
     reads.push(ObjectId(from.max(to)))?;
+    Ok(reads)
+}
+
+/// What an act does.
+fn moves(alloc: Global, from: u16, to: u16, amount: u16) -> Result<List<Stmt>, AllocError>
+    ensures { IfOk result (λ body. body ≡ taken (slot_of from to) amount ∷ added (slot_of to from) 0 amount ∷ added (slot_of from to) 1 1 ∷ []) }
+{
     let mut body = List::new(alloc);
     body.push(taken(alloc, slot_of(from, to), amount)?)?;
     body.push(added(alloc, slot_of(to, from), 0, amount)?)?;
     body.push(added(alloc, slot_of(from, to), 1, 1)?)?;
+    Ok(body)
+}
+
+/// Moves an amount of attribute 0 between two objects, and counts it on attribute 1 of the first one.
+fn transfer(alloc: Global, from: u16, to: u16, amount: u16) -> Result<Action, AllocError>
+    ensures { IfOk result (λ a. a ≡ transfer from to amount) }
+{
+    let body = Shared::from_list(moves(alloc, from, to, amount)?)?;
+    let reads = both(alloc, from, to)?;
     Ok(Action {
         reads,
         mask: 3,
         origin: Point { x: 0, y: 0 },
-        body: Shared::from_list(body)?,
+        body,
     })
 }
 
