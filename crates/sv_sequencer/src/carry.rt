@@ -46,8 +46,8 @@ impl Sequencer {
         ensures ok { OnOk result (Grew self.old self.new (entry_of session request.now reply)) }
         ensures err { OnErr result (Stayed self.old self.new) }
     {
-        let request = copy_request(self.alloc, request)?;
         self.reserve()?;
+        let request = copy_request(self.alloc, request)?;
         let entry = Entry {
             session,
             request,

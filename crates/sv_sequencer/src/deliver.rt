@@ -127,8 +127,8 @@ impl Sequencer {
         ensures ok { IfOk result (Answered self.old self.new session request.now) }
         ensures err { OnErr result (Stayed self.old self.new) }
     {
-        let copy = copy_request(self.alloc, request)?;
         self.reserve()?;
+        let copy = copy_request(self.alloc, request)?;
         let head = base_values(self.alloc, &self.queue, interest_of(request))?;
         let sent = copy_head(self.alloc, head.as_slice())?;
         self.clients.join(client, life)?;
@@ -160,10 +160,17 @@ impl Sequencer {
         ensures ok { IfOk result (Answered self.old self.new session request.now) }
         ensures err { OnErr result (Stayed self.old self.new) }
     {
-        let copy = copy_request(self.alloc, request)?;
         self.reserve()?;
-        self.clients
-            .settle(client, Outcome::Dropped { chain, far })?;
+        let copy = copy_request(self.alloc, request)?;
+        let outcome = Outcome::Dropped { chain, far };
+        match self.clients.settle(client, outcome) {
+            Ok(()) => {}
+            Err(error) => {
+                // A tree that is let go at the end of its scope makes a long proof; a call that takes it, none.
+                drop(copy);
+                return Err(error);
+            }
+        }
         let entry = Entry {
             session,
             request: copy,
@@ -190,9 +197,15 @@ impl Sequencer {
         ensures ok { IfOk result (Answered self.old self.new session request.now) }
         ensures err { OnErr result (Stayed self.old self.new) }
     {
-        let copy = copy_request(self.alloc, request)?;
         self.reserve()?;
-        let relayed = relay_in(self.alloc, &self.queue, session, pos)?;
+        let copy = copy_request(self.alloc, request)?;
+        let relayed = match relay_in(self.alloc, &self.queue, session, pos) {
+            Ok(relayed) => relayed,
+            Err(error) => {
+                drop(copy);
+                return Err(error);
+            }
+        };
         let commit = self.queue.commit();
         deliver(&mut self.queue, &relayed, session);
         let Relayed {
@@ -238,10 +251,16 @@ impl Sequencer {
         ensures ok { IfOk result (Answered self.old self.new session request.now) }
         ensures err { OnErr result (Stayed self.old self.new) }
     {
-        let copy = copy_request(self.alloc, request)?;
-        let action = copy_action(self.alloc, action)?;
         self.reserve()?;
-        let relayed = take_in(
+        let action = copy_action(self.alloc, action)?;
+        let copy = match copy_request(self.alloc, request) {
+            Ok(copy) => copy,
+            Err(error) => {
+                drop(action);
+                return Err(error);
+            }
+        };
+        let relayed = match take_in(
             self.alloc,
             &mut self.queue,
             &mut self.clients,
@@ -249,7 +268,13 @@ impl Sequencer {
             client,
             seq,
             action,
-        )?;
+        ) {
+            Ok(relayed) => relayed,
+            Err(error) => {
+                drop(copy);
+                return Err(error);
+            }
+        };
         let commit = self.queue.commit();
         deliver(&mut self.queue, &relayed, session);
         let Relayed {
@@ -290,9 +315,9 @@ impl Sequencer {
         ensures ok { IfOk result (Answered self.old self.new session request.now) }
         ensures err { OnErr result (Stayed self.old self.new) }
     {
-        let copy = copy_request(self.alloc, request)?;
         self.reserve()?;
         let results = copy_missing(self.alloc, &self.queue, results_of(request))?;
+        let copy = copy_request(self.alloc, request)?;
         set_reports(&mut self.queue, results);
         self.queue.install();
         let commit = self.queue.commit();
