@@ -6,8 +6,6 @@
 pub mod laws;
 mod limits;
 mod reader;
-#[cfg(test)]
-mod tests;
 mod writing;
 
 pub use limits::{GREATEST_PAYLOAD, PREFIX, ROOM};

@@ -1,6 +1,8 @@
-//! Tests of exchanges, by their public calls alone.
+//! Tests of frames and of exchanges, by their public calls alone.
 #![tactic(auto)]
 
+#[cfg(test)]
+mod frames;
 #[cfg(test)]
 mod great;
 #[cfg(test)]

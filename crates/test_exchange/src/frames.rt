@@ -1,7 +1,7 @@
-use crate::limits::ROOM;
-use crate::{FrameReader, Next, put_frame};
+//! Tests of frames on a stream, however it is cut.
 use std::process::Abort;
 use std::test::Fail;
+use sv_frame::{FrameReader, Next, ROOM, put_frame};
 
 /// Gives the reader a piece, and takes the payloads that are due as far as they have come. Answers how many have come
 /// since the stream began.
