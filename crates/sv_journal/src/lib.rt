@@ -17,6 +17,3 @@ pub use laws::{
 };
 pub use print::{print_journal, relays_name_accepted};
 pub use text::{append_held, append_objects, append_value};
-
-#[cfg(test)]
-mod tests;

@@ -7,14 +7,14 @@ use std::alloc::{AllocError, Global};
 use sv_world::List;
 
 /// What came of an action: it was accepted at a position; or it was dropped, with so many actions that influence it, the farthest so far.
-#[derive(Clone, Copy, Debug, Drop)]
+#[derive(Clone, Copy, Drop)]
 pub enum Outcome {
     Accepted { pos: u32 },
     Dropped { chain: u32, far: u32 },
 }
 
 /// What the sequencer keeps of a client.
-#[derive(Debug, Drop)]
+#[derive(Drop)]
 pub struct ClientRow {
     /// The greatest life that it joined with.
     pub life: u32,

@@ -1,5 +1,5 @@
 /// What is done on a request, where it is not an End.
-#[derive(Clone, Copy, Debug, Drop)]
+#[derive(Clone, Copy, Drop)]
 pub enum Decision {
     Refuse {
         code: u8,

@@ -14,8 +14,6 @@ mod reports;
 mod sequencer;
 mod sessions;
 mod step;
-#[cfg(test)]
-mod tests;
 
 pub use object::Opened;
 pub use sequencer::Sequencer;

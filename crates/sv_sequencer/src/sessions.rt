@@ -9,7 +9,7 @@ use sv_journal::{Entry, Logged};
 use sv_wire::Request;
 
 /// What the sequencer keeps of a session.
-#[derive(Clone, Copy, Debug, Drop)]
+#[derive(Clone, Copy, Drop)]
 pub struct SessionRow {
     /// The number of its client, once it has joined.
     pub client: Option<u16>,

@@ -4,7 +4,6 @@ ghost use Rattle.sv_lock.specs.Passes.{session_number};
 
 use super::opened;
 use super::shared::{call, join_of};
-use crate::Sequencer;
 use std::alloc::Global;
 use std::sync::Wait;
 use std::test::Fail;
@@ -12,6 +11,7 @@ use std::thread;
 use std::thread::Threads;
 use sv_journal::{Entry, Logged};
 use sv_lock::{Pass, SeqLock};
+use sv_sequencer::Sequencer;
 use sv_wire::Request;
 
 /// Joins as a client, and polls 100 times.
@@ -27,7 +27,9 @@ fn visit<R: Wait>(
     requires number { session_number pass < pass.base.sessions }
     ensures same { (result.lock ≡ pass.lock) × (result.session ≡ pass.session) }
 {
-    call(rt, lock, &mut pass, &join_of(alloc, client));
+    let join = join_of(alloc, client);
+    call(rt, lock, &mut pass, &join);
+    drop(join);
     for _ in 0..100 {
         call(rt, lock, &mut pass, &Request::Poll);
     }

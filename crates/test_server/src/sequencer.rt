@@ -13,11 +13,11 @@ mod scans;
 mod shared;
 mod threads;
 
-use crate::Sequencer;
 use asked::{Ask, request_of, world_of};
 use std::alloc::Global;
 use std::test::Fail;
 use sv_journal::{Journal, print_journal, relays_name_accepted};
+use sv_sequencer::Sequencer;
 use sv_wire::Request;
 use sv_world::Shape;
 
@@ -58,7 +58,10 @@ fn ask(sequencer: &mut Sequencer, session: u16, request: &Request) -> Result<(),
 
 fn ask_row(alloc: Global, sequencer: &mut Sequencer, session: u16, row: Ask) -> Result<(), Fail> {
     let request = request_of(alloc, row)?;
-    ask(sequencer, session, &request)
+    let answered = ask(sequencer, session, &request);
+    // At the end of its scope it would make a long proof; a call that takes it makes none.
+    drop(request);
+    answered
 }
 
 /// The text of a journal of a world of objects of one number each.
@@ -115,13 +118,25 @@ fn check_text(
 /// Plays some rows in a server whose journal has so many entries before them.
 fn check_from(
     alloc: Global,
-    mut sequencer: Sequencer,
+    sequencer: &mut Sequencer,
     objects: u16,
     entries: usize,
     rows: &[Row],
 ) -> Result<(), Fail> {
-    play(alloc, &mut sequencer, rows)?;
-    check_text(alloc, &sequencer, objects, entries, rows)
+    play(alloc, sequencer, rows)?;
+    check_text(alloc, sequencer, objects, entries, rows)
+}
+
+/// The same, after the Joins.
+fn check_joined(
+    alloc: Global,
+    sequencer: &mut Sequencer,
+    objects: u16,
+    joined: u16,
+    rows: &[Row],
+) -> Result<(), Fail> {
+    join_all(alloc, sequencer, joined)?;
+    check_from(alloc, sequencer, objects, usize::from(joined), rows)
 }
 
 /// After the Joins, each of the rows is answered by its reply.
@@ -136,13 +151,9 @@ fn check(
     requires bound { bound ≤ 32 }
     requires reach { IfSome reach (λ far. far ≤ 2000000) }
 {
+    let objects = u16::try_from(numbers.len()).unwrap_or(u16::MAX);
     let mut sequencer = opened(rt.alloc(), numbers, bound, reach)?;
-    join_all(rt.alloc(), &mut sequencer, joined)?;
-    check_from(
-        rt.alloc(),
-        sequencer,
-        u16::try_from(numbers.len()).unwrap_or(u16::MAX),
-        usize::from(joined),
-        rows,
-    )
+    let told = check_joined(rt.alloc(), &mut sequencer, objects, joined, rows);
+    drop(sequencer);
+    told
 }

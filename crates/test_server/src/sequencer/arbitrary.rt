@@ -7,14 +7,15 @@ use super::scans::{
     accepted, action_at, client_of, commit_with, is_sent, last, next_seq, number, outcomes, written,
 };
 use super::{ask, may_ask, printed};
-use crate::Sequencer;
+use crate::journal::add;
 use std::alloc::{AllocError, Global};
 use std::test::Fail;
-use sv_journal::{Entry, Journal};
+use sv_journal::{Entry, Journal, Logged};
+use sv_sequencer::Sequencer;
 use sv_wire::{Done1, Request};
 use sv_world::{Action, ClientId, List, ObjectId, Point, Reads, Shape, Shared, Value};
 
-const JOURNALS: u64 = 200;
+const JOURNALS: u64 = 40;
 
 const REQUESTS: u32 = 60;
 
@@ -219,6 +220,22 @@ fn some_request(
     }
 }
 
+/// The definition's reply, where the request may be made.
+fn answer_both(
+    alloc: Global,
+    rules: Rules,
+    sequencer: &mut Sequencer,
+    entries: &[Entry],
+    session: u16,
+    request: &Request,
+) -> Result<Option<Logged>, Fail> {
+    if !may_ask(sequencer, session, request) {
+        return Ok(None);
+    }
+    ask(sequencer, session, request)?;
+    Ok(Some(reply_to(alloc, rules, entries, session, request)?))
+}
+
 /// One request to the sequencer, and to the definition over the journal beside it.
 fn ask_both(
     alloc: Global,
@@ -229,18 +246,24 @@ fn ask_both(
 ) -> Result<(), Fail> {
     let session = dice.below(SESSIONS);
     let request = some_request(alloc, journal.entries(), session, dice)?;
-    if !may_ask(sequencer, session, &request) {
-        return Ok(());
-    }
-    ask(sequencer, session, &request)?;
-    let reply = reply_to(alloc, rules, journal.entries(), session, &request)?;
-    journal.reserve(1)?;
-    journal.push(Entry {
+    match answer_both(
+        alloc,
+        rules,
+        sequencer,
+        journal.entries(),
         session,
-        request,
-        reply,
-    });
-    Ok(())
+        &request,
+    ) {
+        Ok(Some(reply)) => add(journal, session, request, reply),
+        Ok(None) => {
+            drop(request);
+            Ok(())
+        }
+        Err(fail) => {
+            drop(request);
+            Err(fail)
+        }
+    }
 }
 
 fn play_both(
@@ -275,8 +298,13 @@ fn answer(alloc: Global, rules: Rules, dice: &mut Dice, all: &mut String) -> Res
     let world = world_of(alloc, &OPENING)?;
     let mut sequencer = Sequencer::new(alloc, world, rules.bound, rules.reach, SESSIONS)?;
     let mut journal = Journal::new(alloc);
-    play_both(alloc, rules, &mut sequencer, &mut journal, dice)?;
-    compare(alloc, sequencer.journal(), &journal, all)
+    let told = match play_both(alloc, rules, &mut sequencer, &mut journal, dice) {
+        Ok(()) => compare(alloc, sequencer.journal(), &journal, all),
+        Err(fail) => Err(fail),
+    };
+    drop(sequencer);
+    drop(journal);
+    told
 }
 
 fn answer_all(alloc: Global, values: &[Value], all: &mut String) -> Result<(), Fail> {

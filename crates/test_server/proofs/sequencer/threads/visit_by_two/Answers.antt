@@ -10,9 +10,9 @@ use Rattle.std.specs.contracts.alloc.Global as Global
 use Rattle.sv_lock.proofs.Ended.{two_ended}
 use Rattle.sv_lock.proofs.pass.Pass.TheSendSync as passes
 use Rattle.sv_sequencer.proofs.Sent.{sequencer-sends, lock-row, pass-row, lock-syncs, pass-sends, four-send}
-use Rattle.sv_sequencer.proofs.tests.threads.visit_by_two.Given.{Over}
-use Rattle.sv_sequencer.proofs.tests.threads.visit_by_two.Goals as goal
-use Rattle.sv_sequencer.proofs.tests.threads.visit_by_two.Lts.{arg-17-1}
+use Rattle.test_server.proofs.sequencer.threads.visit_by_two.Given.{Over}
+use Rattle.test_server.proofs.sequencer.threads.visit_by_two.Goals as goal
+use Rattle.test_server.proofs.sequencer.threads.visit_by_two.Lts.{arg-17-1}
 
 -- The first closure, which captures a handle, the heap, the lock and a pass, may go to another thread.
 visit-sends : (g : Over) (κs : Lfts 10) → IsSync (param 0 g.row.R) → IsSend (arg-17-1 g.row.R g.R.laws g.R.Threads-dict g.R.Wait-dict κs)

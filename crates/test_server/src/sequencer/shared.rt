@@ -5,11 +5,11 @@ ghost use Rattle.sv_lock.specs.Passes.{session_number};
 use super::asked::Ask::{Done, Submit};
 use super::asked::request_of;
 use super::{Row, check_text, opened};
-use crate::Sequencer;
 use std::alloc::Global;
 use std::sync::Wait;
 use std::test::Fail;
 use sv_lock::{Pass, SeqLock};
+use sv_sequencer::Sequencer;
 use sv_wire::Request;
 use sv_world::{ClientId, List};
 
@@ -54,10 +54,13 @@ fn call_all<R: Wait>(
     requires number { session_number pass.old < pass.old.base.sessions }
     ensures same { (pass.new.lock ≡ pass.old.lock) × (pass.new.session ≡ pass.old.session) × (pass.new.base ≡ pass.old.base) }
 {
-    call(rt, lock, pass, &join_of(alloc, 0));
+    let join = join_of(alloc, 0);
+    call(rt, lock, pass, &join);
+    drop(join);
     for (_, ask, _) in rows {
         let request = request_of(alloc, *ask)?;
         call(rt, lock, pass, &request);
+        drop(request);
     }
     Ok(())
 }
@@ -79,8 +82,13 @@ fn through_a_pass<R: Wait>(
     let answer = call_all(rt, alloc, &lock, &mut pass, rows);
     lock.join(&mut keeper, pass);
     let sequencer = lock.close(keeper);
-    answer?;
-    Ok(sequencer)
+    match answer {
+        Ok(()) => Ok(sequencer),
+        Err(fail) => {
+            drop(sequencer);
+            Err(fail)
+        }
+    }
 }
 
 const ROWS: [Row; 7] = [
@@ -97,5 +105,7 @@ const ROWS: [Row; 7] = [
 fn bound_1_through_a_pass(rt: HostRuntime) -> Result<(), Fail> {
     let sequencer = opened(rt.alloc(), &[0], 1, None)?;
     let sequencer = through_a_pass(&rt, rt.alloc(), sequencer, &ROWS)?;
-    check_text(rt.alloc(), &sequencer, 1, 1, &ROWS)
+    let told = check_text(rt.alloc(), &sequencer, 1, 1, &ROWS);
+    drop(sequencer);
+    told
 }

@@ -1,9 +1,9 @@
 //! What is refused.
 use super::asked::Ask::{Bad, Done, Join, Poll, Submit};
 use super::{Row, ask, check, check_from, join_all, opened};
-use crate::Sequencer;
 use std::alloc::Global;
 use std::test::Fail;
+use sv_sequencer::Sequencer;
 use sv_wire::Request;
 
 const ADDS_1: &str = "reads 0 writes 0 { set @0.0 (@0.0 + 1); }";
@@ -61,25 +61,41 @@ fn bad_dones(rt: HostRuntime) -> Result<(), Fail> {
     )
 }
 
-/// A session that joined and then polled, with so many entries in all.
-fn after_polls(alloc: Global, entries: u32) -> Result<Sequencer, Fail> {
-    let mut sequencer = opened(alloc, &[0], 8, None)?;
-    join_all(alloc, &mut sequencer, 1)?;
-    for _ in 1..entries {
-        ask(&mut sequencer, 0, &Request::Poll)?;
+/// So many Joins, and then Polls of a session, up to so many entries in all; and then some rows.
+fn check_polled(
+    alloc: Global,
+    sequencer: &mut Sequencer,
+    joined: u16,
+    session: u16,
+    entries: u16,
+    rows: &[Row],
+) -> Result<(), Fail> {
+    join_all(alloc, sequencer, joined)?;
+    for _ in joined..entries {
+        ask(sequencer, session, &Request::Poll)?;
     }
-    Ok(sequencer)
+    check_from(alloc, sequencer, 1, usize::from(entries), rows)
 }
 
-fn check_after_polls(rt: &HostRuntime, entries: u32, rows: &[Row]) -> Result<(), Fail> {
-    let sequencer = after_polls(rt.alloc(), entries)?;
-    check_from(rt.alloc(), sequencer, 1, entries as usize, rows)
+fn check_after_polls(
+    rt: &HostRuntime,
+    joined: u16,
+    session: u16,
+    entries: u16,
+    rows: &[Row],
+) -> Result<(), Fail> {
+    let mut sequencer = opened(rt.alloc(), &[0], 8, None)?;
+    let told = check_polled(rt.alloc(), &mut sequencer, joined, session, entries, rows);
+    drop(sequencer);
+    told
 }
 
 #[test]
 fn last_request(rt: HostRuntime) -> Result<(), Fail> {
     check_after_polls(
         &rt,
+        1,
+        0,
         1023,
         &[
             (0, Poll, "idle"),
@@ -94,6 +110,8 @@ fn last_request(rt: HostRuntime) -> Result<(), Fail> {
 fn malformed_request_of_a_spent_session(rt: HostRuntime) -> Result<(), Fail> {
     check_after_polls(
         &rt,
+        1,
+        0,
         1024,
         &[(0, Bad, "refused 9 0"), (0, Bad, "refused 4 0")],
     )
@@ -102,13 +120,9 @@ fn malformed_request_of_a_spent_session(rt: HostRuntime) -> Result<(), Fail> {
 /// A session that never joined is spent too.
 #[test]
 fn spent_before_a_join(rt: HostRuntime) -> Result<(), Fail> {
-    let mut sequencer = opened(rt.alloc(), &[0], 8, None)?;
-    for _ in 0..1024 {
-        ask(&mut sequencer, 1, &Request::Poll)?;
-    }
-    check_from(
-        rt.alloc(),
-        sequencer,
+    check_after_polls(
+        &rt,
+        0,
         1,
         1024,
         &[

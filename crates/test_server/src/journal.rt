@@ -1,0 +1,376 @@
+//! Tests of the printed journal, and of which actions it accepts.
+use std::alloc::{AllocError, Global};
+use std::test::Fail;
+use sv_journal::{
+    Entry, Journal, Logged, append_held, append_objects, append_value, print_journal,
+    relays_name_accepted,
+};
+use sv_wire::{Done1, Held, Request};
+use sv_world::{Action, ClientId, List, ObjectId, Point, Reads, Shape, Shared, Value};
+
+#[test]
+fn values_and_objects_are_printed(rt: HostRuntime) -> Result<(), Fail> {
+    let mut out = String::new(rt.alloc());
+    append_value(&[5, -1], &mut out)?;
+    append_held(ObjectId(3), &[-7], &mut out)?;
+    append_objects(&[], &mut out)?;
+    append_objects(&[ObjectId(0), ObjectId(12)], &mut out)?;
+    assert_eq!(rt; out.as_str(), "(5,-1)3=(-7)[][0 12]");
+    Ok(())
+}
+
+/// `reads OBJECT writes OBJECT { }`
+fn act(alloc: Global, object: u16) -> Result<Action, AllocError> {
+    let mut reads = Reads::new(alloc);
+    reads.push(ObjectId(object))?;
+    Ok(Action {
+        reads,
+        mask: 1,
+        origin: Point { x: 0, y: 0 },
+        body: Shared::from_list(List::new(alloc))?,
+    })
+}
+
+fn join(alloc: Global, client: u16, life: u32) -> Request {
+    Request::Join {
+        client: ClientId(client),
+        life,
+        interest: List::new(alloc),
+    }
+}
+
+fn submit(alloc: Global, seq: u32, object: u16) -> Result<Request, AllocError> {
+    Ok(Request::Submit {
+        seq,
+        action: act(alloc, object)?,
+    })
+}
+
+fn value(alloc: Global, number: i64) -> Result<Value, AllocError> {
+    let mut value = Value::new(alloc);
+    value.push(number)?;
+    Ok(value)
+}
+
+fn welcome(alloc: Global) -> Logged {
+    Logged::Welcome {
+        commit: 0,
+        head: List::new(alloc),
+    }
+}
+
+/// A relay without base values.
+fn relay(alloc: Global, seq: u32, positions: &[u32]) -> Result<Logged, AllocError> {
+    Ok(Logged::Relay {
+        seq,
+        commit: 0,
+        head: List::new(alloc),
+        positions: List::from_vec(Vec::from_slice(alloc, positions)?),
+    })
+}
+
+// A tree that is let go at the end of its scope makes a long proof; a call that takes it makes none.
+pub fn add(
+    journal: &mut Journal,
+    session: u16,
+    request: Request,
+    reply: Logged,
+) -> Result<(), Fail> {
+    let entry = Entry {
+        session,
+        request,
+        reply,
+    };
+    match journal.reserve(1) {
+        Ok(()) => {
+            journal.push(entry);
+            Ok(())
+        }
+        Err(error) => {
+            drop(entry);
+            Err(Fail::from(error))
+        }
+    }
+}
+
+/// The same of what may have failed.
+fn add_made(
+    journal: &mut Journal,
+    session: u16,
+    request: Request,
+    reply: Result<Logged, AllocError>,
+) -> Result<(), Fail> {
+    match reply {
+        Ok(reply) => add(journal, session, request, reply),
+        Err(error) => {
+            drop(request);
+            Err(Fail::from(error))
+        }
+    }
+}
+
+fn add_joined(alloc: Global, journal: &mut Journal, session: u16, client: u16) -> Result<(), Fail> {
+    add(journal, session, join(alloc, client, 1), welcome(alloc))
+}
+
+/// A Submit that is answered by a relay of the same number.
+fn add_relayed(
+    alloc: Global,
+    journal: &mut Journal,
+    session: u16,
+    seq: u32,
+    positions: &[u32],
+) -> Result<(), Fail> {
+    let request = submit(alloc, seq, 0)?;
+    add_made(journal, session, request, relay(alloc, seq, positions))
+}
+
+/// A Submit of an action on an object that is answered otherwise.
+fn add_answered(
+    alloc: Global,
+    journal: &mut Journal,
+    seq: u32,
+    object: u16,
+    reply: Result<Logged, AllocError>,
+) -> Result<(), Fail> {
+    match submit(alloc, seq, object) {
+        Ok(request) => add_made(journal, 3, request, reply),
+        Err(error) => {
+            drop(reply);
+            Err(Fail::from(error))
+        }
+    }
+}
+
+fn printed(alloc: Global, journal: &Journal) -> Result<String, Fail> {
+    let mut out = String::new(alloc);
+    out.push_str("> ")?;
+    if !relays_name_accepted(journal) {
+        return Err(Fail::from("a relay names what was not accepted"));
+    }
+    let shape = Shape {
+        objects: 1,
+        attrs: 1,
+    };
+    print_journal(shape, journal, &mut out)?;
+    Ok(out)
+}
+
+#[test]
+fn room_is_reserved(rt: HostRuntime) -> Result<(), Fail> {
+    let mut journal = Journal::new(rt.alloc());
+    assert!(rt; journal.spare() == 0 && journal.len() == 0);
+    journal.reserve(2)?;
+    let spare = journal.spare();
+    assert!(rt; spare >= 2);
+    journal.push(Entry {
+        session: 7,
+        request: Request::End,
+        reply: Logged::Bye,
+    });
+    assert!(rt; journal.spare() == spare - 1 && journal.len() == 1);
+    assert!(rt; journal.entry(0).session == 7);
+    Ok(())
+}
+
+/// One client makes an action and leaves. Whether the journal has this text.
+fn is_one_action(alloc: Global, journal: &mut Journal, wanted: &str) -> Result<bool, Fail> {
+    add_join_with_interest(alloc, journal)?;
+    add_relayed(alloc, journal, 0, 1, &[1])?;
+    add_done(alloc, journal)?;
+    add(journal, 0, Request::Leave, Logged::Bye)?;
+    add(journal, 0, Request::End, Logged::Bye)?;
+    is_text(alloc, journal, wanted)
+}
+
+/// Whether a journal has that text.
+fn is_text(alloc: Global, journal: &Journal, wanted: &str) -> Result<bool, Fail> {
+    let text = printed(alloc, journal)?;
+    Ok(text.as_str() == wanted)
+}
+
+#[test]
+fn one_action_is_printed(rt: HostRuntime) -> Result<(), Fail> {
+    let mut journal = Journal::new(rt.alloc());
+    let is_told = is_one_action(rt.alloc(), &mut journal, ONE_ACTION);
+    drop(journal);
+    assert!(rt; is_told?);
+    Ok(())
+}
+
+const ONE_ACTION: &str = "\
+> journal 5
+1 s0 join c0 1 [0] -> welcome 0 [0=(5)]
+2 s0 submit 1 reads 0 writes 0 { } -> relay 1 at 0 [] [1:c0.1]
+3 s0 done [1:(6)] -> noted 1
+4 s0 leave -> bye
+5 s0 end -> bye
+";
+
+fn add_join_with_interest(alloc: Global, journal: &mut Journal) -> Result<(), Fail> {
+    let mut interest = List::new(alloc);
+    interest.push(ObjectId(0))?;
+    let request = Request::Join {
+        client: ClientId(0),
+        life: 1,
+        interest,
+    };
+    add_made(journal, 0, request, welcome_with_value(alloc))
+}
+
+fn welcome_with_value(alloc: Global) -> Result<Logged, AllocError> {
+    let value = value(alloc, 5)?;
+    let mut head = List::new(alloc);
+    head.push(Held {
+        object: ObjectId(0),
+        value,
+    })?;
+    Ok(Logged::Welcome { commit: 0, head })
+}
+
+fn one_result(alloc: Global) -> Result<Request, Fail> {
+    let mut values = List::new(alloc);
+    values.push(value(alloc, 6)?)?;
+    let mut results = List::new(alloc);
+    results.push(Done1 { pos: 1, values })?;
+    Ok(Request::Done { results })
+}
+
+fn add_done(alloc: Global, journal: &mut Journal) -> Result<(), Fail> {
+    let request = one_result(alloc)?;
+    add(journal, 0, request, Logged::Noted { commit: 1 })
+}
+
+fn dropped() -> Logged {
+    Logged::Dropped {
+        seq: 2,
+        chain: 3,
+        far: 11,
+    }
+}
+
+fn refused(code: u8, detail: u32) -> Logged {
+    Logged::Refused { code, detail }
+}
+
+/// Every other request and reply, and an action on an object that the world has not. Whether the journal has this text.
+fn is_of_others(alloc: Global, journal: &mut Journal, wanted: &str) -> Result<bool, Fail> {
+    add(journal, 12, Request::Poll, refused(2, 0))?;
+    add_answered(alloc, journal, 1, 1, Ok(refused(6, 4)))?;
+    add_answered(alloc, journal, 2, 0, Ok(dropped()))?;
+    add_answered(alloc, journal, 4, 0, Ok(Logged::Settled { seq: 4, pos: 5 }))?;
+    add(journal, 3, Request::Poll, Logged::Idle)?;
+    add(journal, 3, Request::Bad, refused(1, 0))?;
+    is_text(alloc, journal, wanted)
+}
+
+#[test]
+fn other_entries_are_printed(rt: HostRuntime) -> Result<(), Fail> {
+    let mut journal = Journal::new(rt.alloc());
+    let is_told = is_of_others(rt.alloc(), &mut journal, OTHER_ENTRIES);
+    drop(journal);
+    assert!(rt; is_told?);
+    Ok(())
+}
+
+const OTHER_ENTRIES: &str = "\
+> journal 6
+1 s12 poll -> refused 2 0
+2 s3 submit 1 bad -> refused 6 4
+3 s3 submit 2 reads 0 writes 0 { } -> dropped 2 chain 3 far 11
+4 s3 submit 4 reads 0 writes 0 { } -> settled 4 at 5
+5 s3 poll -> idle
+6 s3 bad -> refused 1 0
+";
+
+/// What each of these entries is: a Join as that client, or a Submit of that number that is answered by a relay of these positions.
+enum Added {
+    Joined(u16),
+    Relayed(u32, &'static [u32]),
+}
+
+/// The journal of no server: only a new Submit of a client that was welcomed is accepted.
+const STRANGE: [(u16, Added); 8] = [
+    (0, Added::Relayed(1, &[])),
+    (0, Added::Joined(1)),
+    (0, Added::Joined(2)),
+    (0, Added::Relayed(2, &[])),
+    (0, Added::Relayed(1, &[1])),
+    (0, Added::Relayed(1, &[])),
+    (5, Added::Joined(1)),
+    (5, Added::Relayed(2, &[2, 1])),
+];
+
+fn add_each(alloc: Global, journal: &mut Journal, all: &[(u16, Added)]) -> Result<(), Fail> {
+    for (session, added) in all {
+        match added {
+            Added::Joined(client) => add_joined(alloc, journal, *session, *client)?,
+            Added::Relayed(seq, positions) => {
+                add_relayed(alloc, journal, *session, *seq, positions)?
+            }
+        }
+    }
+    Ok(())
+}
+
+/// A Poll that is answered as a Join comes second. The text, where two actions are accepted.
+fn strange(alloc: Global, journal: &mut Journal) -> Result<String, Fail> {
+    add_each(alloc, journal, &STRANGE[..1])?;
+    add(journal, 0, Request::Poll, welcome(alloc))?;
+    add_each(alloc, journal, &STRANGE[1..])?;
+    if journal.accepted_count() != 2 {
+        return Err(Fail::from("two actions are accepted"));
+    }
+    printed(alloc, journal)
+}
+
+#[test]
+fn repeated_and_strange_relays_accept_nothing(rt: HostRuntime) -> Result<(), Fail> {
+    let mut journal = Journal::new(rt.alloc());
+    let text = strange(rt.alloc(), &mut journal);
+    drop(journal);
+    assert!(rt;
+        text?
+            .as_str()
+            .ends_with(" -> relay 2 at 0 [] [2:c1.2 1:c1.1]\n")
+    );
+    Ok(())
+}
+
+/// Two actions of one client, on different objects.
+fn add_two(alloc: Global, journal: &mut Journal) -> Result<(), Fail> {
+    add_joined(alloc, journal, 3, 4)?;
+    add_answered(alloc, journal, 1, 30, relay(alloc, 1, &[1]))?;
+    add(journal, 3, Request::Poll, Logged::Idle)?;
+    add_answered(alloc, journal, 2, 20, relay(alloc, 2, &[2]))
+}
+
+/// The object that an accepted action reads first, or 0.
+fn first_read(journal: &Journal, pos: u32) -> u16 {
+    if pos == 0 || journal.accepted_count() < pos as usize {
+        return 0;
+    }
+    match journal.accepted(pos).reads.as_slice() {
+        [object, ..] => object.0,
+        [] => 0,
+    }
+}
+
+/// Whether they are found where they were accepted, with the author of the second.
+fn are_found(alloc: Global, journal: &mut Journal) -> Result<bool, Fail> {
+    add_two(alloc, journal)?;
+    if journal.accepted_count() != 2 {
+        return Ok(false);
+    }
+    let is_read = first_read(journal, 1) == 30 && first_read(journal, 2) == 20;
+    Ok(is_read && journal.author(2) == ClientId(4) && journal.author_seq(2) == 2)
+}
+
+#[test]
+fn accepted_actions_are_found(rt: HostRuntime) -> Result<(), Fail> {
+    let mut journal = Journal::new(rt.alloc());
+    let is_told = are_found(rt.alloc(), &mut journal);
+    drop(journal);
+    assert!(rt; is_told?);
+    Ok(())
+}
