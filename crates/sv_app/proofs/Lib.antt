@@ -1,1 +1,4 @@
 pub mod Endings
+pub mod Making
+pub mod Sizes
+pub mod Threads

@@ -1,8 +1,9 @@
 //! The top call of the program.
 #![tactic(auto)]
 
-#[cfg(test)]
-mod tests;
+mod ending;
+mod playing;
+mod texts;
 mod top;
 mod words;
 

@@ -1,178 +1,91 @@
-ghost use Rattle.std.specs.Prelude.{◌≡◌, ◌≢◌, ◌↔◌, ◌⊎◌, ℕ, List, take, map, codes, string_bytes, Some, None, IfOk, IfSome, option_and_then};
-ghost use Rattle.std.specs.Option.{option_copied};
-ghost use Rattle.sv_bytes.specs.Faults.{Rose};
-ghost use Rattle.sv_bytes.specs.Writing.{Told};
-ghost use Rattle.sv_scenario.specs.Limits.{IsGoodScenario};
-ghost use Rattle.sv_scenario.specs.Lines.{fault_line};
-ghost use Rattle.sv_scenario.specs.Scenarios.{scenario_of};
-ghost use Rattle.sv_app.specs.Statuses.{read_limit, Replays, TellsFaults, ReportOrFault, IsPrinted, IsCutShort, IsRefused, IsScenario, IsNoScenario, IsRun, TellsStatus, held_by, file_line, line_of, status_of};
-ghost use Rattle.sv_app.specs.Words.{named_file};
+ghost use Rattle.std.specs.Prelude.{◌≡◌, ◌≢◌, ◌↔◌, ◌⊎◌, ◌≤◌, ℕ, take, map, option_map, string_bytes, None, IfSome};
+ghost use Rattle.sv_play.specs.Settling.{SomeDiffer};
+ghost use Rattle.sv_app.specs.Words.{IsSized, asked_by, command_of, named_by};
+ghost use Rattle.sv_app.specs.Runs.{read_limit, moved};
+ghost use Rattle.sv_app.specs.Statuses.{counts, CanRun, Ends, IsCutShort, IsNoScenario, IsPrinted, LeavesAlone, NoneRose, Raises, TellsFaults, TellsStatus, held_by, status_of};
 
-use crate::words::named_file;
-use std::alloc::{AllocError, Global};
-use sv_bytes::{FileFault, Files, Sink, read_all, write_all, write_pieces};
-use sv_replay::run_schedule;
-use sv_report::report;
-use sv_scenario::{ReadFault, Scenario, ScenarioFault, append_fault_line, read_scenario};
+use crate::ending::{Ending, status_of, tell};
+use crate::texts::text_for;
+use crate::words::{Command, command_of, file_of};
+use std::alloc::Global;
+use std::sync::Wait;
+use std::thread::Threads;
+use sv_bytes::{Files, Sink, write_all};
+use sv_link::{Crew, Gate, Net};
 
-/// A file is read so far and no further: one byte more than a scenario may have.
-const READ_LIMIT: usize = 4_194_305;
-
-/// How a call of the program ends.
-#[derive(Debug, Drop)]
-pub enum Ending {
-    Done,
-    /// The words are none that the program knows.
-    Words,
-    /// The file is no scenario. The line tells where and why.
-    Scenario(String),
-    /// The file can't be read.
-    File,
-    /// The output failed.
-    Out,
-    /// There was no memory.
-    Memory,
-}
-
-/// The report of a scenario's run.
-fn replayed(alloc: Global, scenario: &Scenario) -> Result<String, AllocError>
-    requires { IsGoodScenario scenario.now }
-    ensures { IfOk result (λ text. IsRun scenario.now (string_bytes text)) }
-{
-    let played = run_schedule(alloc, scenario)?;
-    report(alloc, scenario, &played)
-}
-
-/// The report of a file's contents.
-fn report_of(alloc: Global, bytes: &[u8]) -> Result<String, ReadFault>
-    ensures { ReportOrFault bytes.now result }
-{
-    let scenario = read_scenario(alloc, bytes)?;
-    Ok(replayed(alloc, &scenario)?)
-}
-
-/// The line that tells of a fault.
-fn line_of_fault(alloc: Global, fault: &ScenarioFault) -> Result<String, AllocError>
-    ensures { IfOk result (λ line. string_bytes line ≡ fault_line fault.now) }
-{
-    let mut line = String::new(alloc);
-    append_fault_line(fault, &mut line)?;
-    Ok(line)
-}
-
-fn replay<F: Files, K: Sink>(alloc: Global, name: &str, files: &mut F, out: &mut K) -> Ending
-    ensures ends { Replays (F.contents files.old name.now) (K.taken out.old) (K.taken out.new) result }
-    ensures faults { TellsFaults (F.faults files.old) (F.faults files.new) (K.faults out.old) (K.faults out.new) result }
-    ensures certain { F.sure files.old name.now → result ≢ Ending.File }
-    ensures words { result ≢ Ending.Words }
-{
-    let bytes = match read_all(alloc, files, name, READ_LIMIT) {
-        Ok(bytes) => bytes,
-        Err(FileFault::Failed) => return Ending::File,
-        Err(FileFault::Memory) => return Ending::Memory,
-    };
-    let text = match report_of(alloc, &bytes) {
-        Ok(text) => text,
-        Err(ReadFault::Scenario(fault)) => {
-            return match line_of_fault(alloc, &fault) {
-                Ok(line) => Ending::Scenario(line),
-                Err(_) => Ending::Memory,
-            };
-        }
-        Err(ReadFault::Memory) => return Ending::Memory,
-    };
-    if write_all(out, text.as_bytes()) {
-        Ending::Done
-    } else {
-        Ending::Out
-    }
-}
-
-fn decide<F: Files, K: Sink>(
+/// Does what is asked for, and tells how it ended.
+fn decide<F: Files, N: Net, C: Crew, G: Gate + Sync, K: Sink, R: Threads + Wait + Sync>(
+    rt: &R,
     alloc: Global,
-    named: Option<&str>,
+    command: Option<Command<'_>>,
     files: &mut F,
+    net: &mut N,
+    crew: &mut C,
+    gate: &G,
     out: &mut K,
 ) -> Ending
-    ensures words { (result ≡ Ending.Words) ↔ (option_copied named.entry ≡ None) }
-    ensures ends { Replays (held_by (F.contents files.old) (option_copied named.entry)) (K.taken out.old) (K.taken out.new) result }
-    ensures faults { TellsFaults (F.faults files.old) (F.faults files.new) (K.faults out.old) (K.faults out.new) result }
-    ensures certain { IfSome (option_copied named.entry) (λ name. F.sure files.old name → result ≢ Ending.File) }
+    requires sized { IfSome command IsSized }
+    ensures words { (result ≡ Ending.Words) ↔ (option_map asked_by command.entry ≡ None) }
+    ensures ends { Ends (option_map asked_by command.entry) (held_by (F.contents files.old) (option_map asked_by command.entry))
+        (moved (N.settled net.old) (N.settled net.new) (C.ran crew.old) (C.ran crew.new)) (K.taken out.old) (K.taken out.new) result }
+    ensures raises { Raises (counts (F.faults files.old) (C.faults crew.old) (N.faults net.old) (K.faults out.old))
+        (counts (F.faults files.new) (C.faults crew.new) (N.faults net.new) (K.faults out.new)) result }
+    ensures sure { IfSome (named_by (option_map asked_by command.entry)) (λ name. F.sure files.old name → result ≢ Ending.File) }
+    ensures apart { LeavesAlone (option_map asked_by command.entry) (status_of result) files.old files.new net.old net.new crew.old crew.new }
+    ensures calm { N.calm net.old → result ≡ Ending.Link → SomeDiffer N.E.told N.E.calm (N.made net.old) (N.made net.new) }
 {
-    match named {
-        None => Ending::Words,
-        Some(name) => replay(alloc, name, files, out),
-    }
-}
-
-/// The line that tells of an ending, in pieces.
-fn tell<E: Sink>(ending: &Ending, named: Option<&str>, err: &mut E)
-    ensures { Told (E.taken err.old) (E.taken err.new) (E.faults err.old) (E.faults err.new) (line_of ending.now (option_copied named.entry)) }
-{
-    let _ = match ending {
-        Ending::Done => write_all(err, b""),
-        Ending::Words => write_all(
-            err,
-            b"words: play FILE [--brief | --watch] | replay FILE | load N\n",
-        ),
-        Ending::Scenario(line) => write_all(err, line.as_bytes()),
-        Ending::File => tell_file(named.unwrap_or(""), err),
-        Ending::Out => write_all(err, b"out\n"),
-        Ending::Memory => write_all(err, b"memory\n"),
+    let Some(command) = command else {
+        return Ending::Words;
     };
-}
-
-fn tell_file<E: Sink>(name: &str, err: &mut E) -> bool
-    ensures { Told (E.taken err.old) (E.taken err.new) (E.faults err.old) (E.faults err.new) (file_line name.now) }
-{
-    write_pieces(err, &[b"file: ", name.as_bytes(), b"\n"])
-}
-
-/// The status of an ending.
-fn status_of(ending: &Ending) -> u8
-    ensures { result ≡ status_of ending.now }
-{
-    match ending {
-        Ending::Done => 0,
-        Ending::Words => 2,
-        Ending::Scenario(_) => 3,
-        Ending::File => 4,
-        Ending::Out => 5,
-        Ending::Memory => 8,
+    match text_for(rt, alloc, command, files, net, crew, gate) {
+        Ok(text) if write_all(out, text.as_bytes()) => Ending::Done,
+        Ok(_) => Ending::Out,
+        Err(ending) => ending,
     }
 }
 
 /// Does what the words ask for, and answers the status with which the program ends.
 ///
-/// The words leave out the program's own name. For now the only ones are `replay FILE`.
+/// The words leave out the program's own name. They are `play FILE`, `play FILE --brief`, `play FILE --watch`, `replay FILE`, or `load N` with
+/// N from 1 to 192. A file is read up to one byte more than a scenario may have.
 ///
-/// The status is the first of these that applies: 2 where the words are others, 4 where the file can't be read, 3 where it is no scenario, 8
-/// where memory ran out, and 5 where the output failed; else it is 0. So a fault of the files or of the output is told as what it is, and
-/// never as "out of memory".
-pub fn run<F: Files, K: Sink, E: Sink>(
+/// The status is the first of these that applies: 2 where the words are others, 4 where the file can't be read, 3 where it is no scenario, 7
+/// where a thread can't be started, 6 where a link failed, and 5 where the output failed; else it is 0, or 8 where memory ran out. So a fault
+/// is told as what it is, and never as "out of memory". All of the text is made before any of it is printed.
+pub fn run<F: Files, N: Net, C: Crew, G: Gate + Sync, K: Sink, E: Sink, R: Threads + Wait + Sync>(
+    rt: &R,
     alloc: Global,
     words: &[String],
     files: &mut F,
+    net: &mut N,
+    crew: &mut C,
+    gate: &G,
     out: &mut K,
     err: &mut E,
 ) -> u8
-    ensures range { (result ≡ 0) ⊎ (result ≡ 2) ⊎ (result ≡ 3) ⊎ (result ≡ 4) ⊎ (result ≡ 5) ⊎ (result ≡ 8) }
-    ensures words { (result ≡ 2) ↔ (named_file (map string_bytes words.now) ≡ None) }
-    ensures file { (result ≡ 4) ↔ Rose (F.faults files.old) (F.faults files.new) }
-    ensures certain { IfSome (named_file (map string_bytes words.now)) (λ name. F.sure files.old name → result ≢ 4) }
-    ensures faulty { IfSome (held_by (F.contents files.old) (named_file (map string_bytes words.now)))
+    ensures range { (result ≡ 0) ⊎ ((2 ≤ result) × (result ≤ 8)) }
+    ensures words { (result ≡ 2) ↔ (command_of (map string_bytes words.now) ≡ None) }
+    ensures faults { TellsFaults result (counts (F.faults files.old) (C.faults crew.old) (N.faults net.old) (K.faults out.old))
+        (counts (F.faults files.new) (C.faults crew.new) (N.faults net.new) (K.faults out.new)) }
+    ensures sure { IfSome (named_by (command_of (map string_bytes words.now))) (λ name. F.sure files.old name → result ≢ 4) }
+    ensures apart { LeavesAlone (command_of (map string_bytes words.now)) result files.old files.new net.old net.new crew.old crew.new }
+    ensures calm { N.calm net.old → result ≡ 6 → SomeDiffer N.E.told N.E.calm (N.made net.old) (N.made net.new) }
+    ensures faulty { IfSome (held_by (F.contents files.old) (command_of (map string_bytes words.now)))
         (λ all. IsNoScenario (take read_limit all) → (result ≡ 3) ⊎ (result ≡ 4) ⊎ (result ≡ 8)) }
-    ensures out { (result ≡ 5) ↔ Rose (K.faults out.old) (K.faults out.new) }
-    ensures printed { result ≡ 0 → IsPrinted (held_by (F.contents files.old) (named_file (map string_bytes words.now))) (K.taken out.old) (K.taken out.new) }
-    ensures part { result ≡ 5 → IsCutShort (held_by (F.contents files.old) (named_file (map string_bytes words.now))) (K.taken out.old) (K.taken out.new) }
+    ensures printed { result ≡ 0 → IsPrinted (command_of (map string_bytes words.now)) (held_by (F.contents files.old) (command_of (map string_bytes words.now)))
+        (moved (N.settled net.old) (N.settled net.new) (C.ran crew.old) (C.ran crew.new)) (K.taken out.old) (K.taken out.new) }
+    ensures part { result ≡ 5 → IsCutShort (command_of (map string_bytes words.now)) (held_by (F.contents files.old) (command_of (map string_bytes words.now)))
+        (moved (N.settled net.old) (N.settled net.new) (C.ran crew.old) (C.ran crew.new)) (K.taken out.old) (K.taken out.new) }
     ensures nothing { result ≢ 0 → result ≢ 5 → K.taken out.new ≡ K.taken out.old }
-    ensures told { TellsStatus result (held_by (F.contents files.old) (named_file (map string_bytes words.now))) (named_file (map string_bytes words.now)) (E.taken err.old) (E.taken err.new) (E.faults err.old) (E.faults err.new) }
-    ensures complete { IfSome (held_by (F.contents files.old) (named_file (map string_bytes words.now)))
-        (λ all. IsScenario (take read_limit all) → ¬ Rose (F.faults files.old) (F.faults files.new)
-        → ¬ Rose (K.faults out.old) (K.faults out.new) → (result ≡ 0) ⊎ (result ≡ 8)) }
+    ensures told { TellsStatus result (held_by (F.contents files.old) (command_of (map string_bytes words.now))) (named_by (command_of (map string_bytes words.now)))
+        (E.taken err.old) (E.taken err.new) (E.faults err.old) (E.faults err.new) }
+    ensures complete { CanRun (command_of (map string_bytes words.now)) (held_by (F.contents files.old) (command_of (map string_bytes words.now)))
+        → NoneRose (counts (F.faults files.old) (C.faults crew.old) (N.faults net.old) (K.faults out.old))
+        (counts (F.faults files.new) (C.faults crew.new) (N.faults net.new) (K.faults out.new))
+        → (result ≡ 0) ⊎ (result ≡ 8) }
 {
-    let named = named_file(words);
-    let ending = decide(alloc, named, files, out);
-    tell(&ending, named, err);
+    let command = command_of(words);
+    let ending = decide(rt, alloc, command, files, net, crew, gate, out);
+    tell(&ending, file_of(command), err);
     status_of(&ending)
 }

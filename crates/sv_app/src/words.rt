@@ -1,13 +1,109 @@
-ghost use Rattle.std.specs.Prelude.{◌≡◌, map, string_bytes};
+//! What the words of a call ask for.
+ghost use Rattle.std.specs.Prelude.{◌≡◌, map, string_bytes, option_map, IfSome};
 ghost use Rattle.std.specs.Option.{option_copied};
-ghost use Rattle.sv_app.specs.Words.{named_file};
+ghost use Rattle.sv_app.specs.Words.{IsSize, IsSized, asked_by, size_of, form_of, of_two, of_three, command_of, named_by};
 
-/// The file that the words `replay FILE` name.
-pub fn named_file(words: &[String]) -> Option<&str>
-    ensures { option_copied result ≡ named_file (map string_bytes words.now) }
+/// How a run on threads is told.
+#[derive(Clone, Copy, Debug, Drop, PartialEq, Eq)]
+pub enum Form {
+    /// By the report.
+    Report,
+
+    /// By the brief summary.
+    Brief,
+
+    /// By the report, and then a line for each change of a client's view.
+    Watch,
+}
+
+/// What the program is to do.
+#[derive(Clone, Copy, Debug, Drop)]
+pub enum Command<'a> {
+    /// To run a file's scenario on threads.
+    Play { file: &'a str, form: Form },
+
+    /// To run its schedule on one thread.
+    Replay { file: &'a str },
+
+    /// To run the generated scenario of this size on threads.
+    Load { size: u32 },
+}
+
+/// The greatest size of a load.
+const MOST: u32 = 192;
+
+/// The size that a text writes, without leading zeros.
+fn size_of(text: &str) -> Option<u32>
+    ensures size { result ≡ size_of text.now }
+    ensures range { IfSome result IsSize }
+{
+    let (b'1'..=b'9') = text.as_bytes().first()? else {
+        return None;
+    };
+    match text.parse::<u32>() {
+        Ok(size) if size <= MOST => Some(size),
+        _ => None,
+    }
+}
+
+fn form_of(text: &str) -> Option<Form>
+    ensures { result ≡ form_of text.now }
+{
+    match text {
+        "--brief" => Some(Form::Brief),
+        "--watch" => Some(Form::Watch),
+        _ => None,
+    }
+}
+
+fn of_two<'a>(word: &str, text: &'a str) -> Option<Command<'a>>
+    ensures asked { option_map asked_by result ≡ of_two word.now text.entry.now }
+    ensures sized { IfSome result IsSized }
+{
+    match word {
+        "play" => Some(Command::Play {
+            file: text,
+            form: Form::Report,
+        }),
+        "replay" => Some(Command::Replay { file: text }),
+        "load" => Some(Command::Load {
+            size: size_of(text)?,
+        }),
+        _ => None,
+    }
+}
+
+fn of_three<'a>(word: &str, file: &'a str, form: &str) -> Option<Command<'a>>
+    ensures asked { option_map asked_by result ≡ of_three word.now file.entry.now form.now }
+    ensures sized { IfSome result IsSized }
+{
+    if word != "play" {
+        return None;
+    }
+    Some(Command::Play {
+        file,
+        form: form_of(form)?,
+    })
+}
+
+/// What the words ask for: `play FILE`, `play FILE --brief`, `play FILE --watch`, `replay FILE` or `load N`.
+pub(crate) fn command_of(words: &[String]) -> Option<Command<'_>>
+    ensures asked { option_map asked_by result ≡ command_of (map string_bytes words.now) }
+    ensures sized { IfSome result IsSized }
 {
     match words {
-        [word, file] if word.as_str() == "replay" => Some(file.as_str()),
+        [word, text] => of_two(word.as_str(), text.as_str()),
+        [word, file, form] => of_three(word.as_str(), file.as_str(), form.as_str()),
         _ => None,
+    }
+}
+
+/// The file that is named.
+pub(crate) fn file_of<'a>(command: Option<Command<'a>>) -> Option<&'a str>
+    ensures { option_copied result ≡ named_by (option_map asked_by command.entry) }
+{
+    match command? {
+        Command::Play { file, .. } | Command::Replay { file } => Some(file),
+        Command::Load { .. } => None,
     }
 }

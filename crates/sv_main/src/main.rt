@@ -1,10 +1,15 @@
 //! The program `dimboetu`: it does what its words ask for, and ends with the status that `run` answers.
 #![tactic(auto)]
 
+use std::alloc::Global;
+use std::net::{Net as Sockets, TcpListener, TcpStream};
 use std::process::ExitCode;
+use std::sync::Wait;
+use std::thread::Threads;
 use std::{env, io};
 use sv_app::run;
-use sv_bytes::{OsFiles, OsSink, write_all};
+use sv_bytes::{Files, OsFiles, OsSink, Sink, write_all};
+use sv_link::{OpenGate, TcpNet, ThreadCrew};
 
 /// The status of want of memory.
 const MEMORY: u8 = 8;
@@ -15,6 +20,25 @@ fn words(rt: &HostRuntime) -> io::Result<Vec<String>> {
         words.push(word)?;
     }
     Ok(words)
+}
+
+/// The status of a call of the program, over connections on this machine and a thread for each job.
+fn answer<R, F: Files, K: Sink, E: Sink>(
+    rt: &R,
+    alloc: Global,
+    words: &[String],
+    files: &mut F,
+    out: &mut K,
+    err: &mut E,
+) -> u8
+where
+    R: Threads + Wait + Sync + Sockets<Listener = TcpListener, Stream = TcpStream>,
+{
+    let mut net = TcpNet::new(alloc, rt);
+    let mut crew = ThreadCrew::new(alloc);
+    run(
+        rt, alloc, words, files, &mut net, &mut crew, &OpenGate, out, err,
+    )
 }
 
 fn main(rt: HostRuntime) -> ExitCode {
@@ -30,5 +54,5 @@ fn main(rt: HostRuntime) -> ExitCode {
         // A word that is no text is none that the program knows.
         Err(_) => Vec::new(rt.alloc()),
     };
-    ExitCode::from(run(rt.alloc(), &words, &mut files, &mut out, &mut err))
+    ExitCode::from(answer(&rt, rt.alloc(), &words, &mut files, &mut out, &mut err))
 }

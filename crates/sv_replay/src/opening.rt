@@ -17,7 +17,8 @@ use sv_scenario::{Plan, Scenario, sessions_of, sessions_of_plan};
 use sv_sequencer::Sequencer;
 use sv_world::{ClientId, Shape, World, copy_objects, copy_values};
 
-fn open_sequencer(alloc: Global, scenario: &Scenario) -> Result<Sequencer, AllocError>
+/// Opens a scenario's server, which no one has asked anything yet.
+pub fn open_sequencer(alloc: Global, scenario: &Scenario) -> Result<Sequencer, AllocError>
     requires { IsGoodScenario scenario.now }
     ensures rules { IfOk result (λ s. s.rules ≡ rules_of scenario.now) }
     ensures empty { IfOk result (λ s. s.journal.entries ≡ []) }

@@ -1,7 +1,6 @@
-ghost use Rattle.std.specs.Prelude.{◌≡◌, ◌<◌, ◌∷◌, [], length, map, reverse, IfOk, All};
+ghost use Rattle.std.specs.Prelude.{◌≡◌, ◌<◌, map, reverse, IfOk, All};
 ghost use Rattle.sv_journal.specs.History.{commit_of, committed_of};
 ghost use Rattle.sv_scenario.specs.Limits.{IsGoodScenario};
-ghost use Rattle.sv_sequencer.specs.Step.{history};
 ghost use Rattle.sv_system.specs.Records.{IsPlayed};
 ghost use Rattle.sv_schedule.specs.Schedule.{trace_of_player, scheduled_run, traces_of};
 ghost use Rattle.sv_schedule.specs.Records.{IsReplay};
@@ -10,14 +9,14 @@ ghost use Rattle.sv_replay.specs.Machine.{player_of, run_of, IsMachine};
 
 use crate::machine::Machine;
 use crate::opening::open_machine;
+use crate::played::played_of;
 use crate::playing::Playing;
 use std::alloc::{AllocError, Global};
 use sv_client::Trace;
 use sv_scenario::Scenario;
 use sv_schedule::scheduled_runs_are_replays;
-use sv_sequencer::Sequencer;
 use sv_system::Played;
-use sv_world::{List, ObjectId, Value, copy_value};
+use sv_world::List;
 
 /// So many rounds are always enough.
 const MOST_ROUNDS: u16 = 1000;
@@ -55,29 +54,8 @@ fn played(machine: Machine<'_>) -> Result<Played, AllocError>
         players,
         ..
     } = machine;
-    let committed = committed(alloc, &sequencer, scenario.world.shape.objects)?;
     let traces = traces(alloc, players)?;
-    let commit = sequencer.commit();
-    Ok(Played {
-        shape: scenario.world.shape,
-        journal: sequencer.into_journal(),
-        traces,
-        commit,
-        committed,
-    })
-}
-
-/// The committed value of each object.
-fn committed(alloc: Global, sequencer: &Sequencer, objects: u16) -> Result<List<Value>, AllocError>
-    requires objects { objects ≡ sequencer.now.rules.world.shape.objects }
-    requires values { length sequencer.now.rules.world.values ≡ objects }
-    ensures { IfOk result (λ values. values ≡ committed_of sequencer.now.rules.world.values (history sequencer.now)) }
-{
-    let mut values = List::new(alloc);
-    for object in 0..objects {
-        values.push(copy_value(alloc, sequencer.committed(ObjectId(object)))?)?;
-    }
-    Ok(values)
+    played_of(alloc, scenario.world.shape, sequencer, traces)
 }
 
 /// What each client did.

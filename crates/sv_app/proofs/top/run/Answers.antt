@@ -1,29 +1,44 @@
-use Rattle.std.proofs.Common.{None}
-use Rattle.sv_app.proofs.Endings.{status_range, status_words, status_file, status_certain, status_out, status_printed, status_part, status_nothing, status_told, faulty_is, complete_is}
+use Rattle.sv_app.proofs.Endings.{range_is, words_is, sure_is, link_is, faults_are, printed_is, part_is, nothing_is, told_is, faulty_is, complete_is}
 use Rattle.sv_app.proofs.top.run.Goals as goal
 
-pub returns-clause-file : goal.returns-clause-file
-returns-clause-file g c = rw c.status_of.ensures (status_file _ _ _ _ _ c.decide-ending.ensures.faults)
+pub returns-clause-range : goal.returns-clause-range
+returns-clause-range g c = rw c.status_of.ensures (range_is c.decide-ending.result)
 
-pub returns-clause-out : goal.returns-clause-out
-returns-clause-out g c = rw c.status_of.ensures (status_out _ _ _ _ _ c.decide-ending.ensures.faults)
+pub returns-clause-words : goal.returns-clause-words
+returns-clause-words g c = rw c.status_of.ensures (words_is _ (rw c.command_of-command.ensures.asked at c.decide-ending.ensures.words))
 
-pub returns-clause-certain : goal.returns-clause-certain
-returns-clause-certain g c = rw c.status_of.ensures (status_certain None _ None None _ _ (rw c.named_file-named.ensures at c.decide-ending.ensures.certain))
+pub returns-clause-faults : goal.returns-clause-faults
+returns-clause-faults g c = rw c.status_of.ensures (faults_are _ _ _ c.decide-ending.ensures.raises)
+
+pub returns-clause-sure : goal.returns-clause-sure
+returns-clause-sure g c = rw c.status_of.ensures (sure_is _ _ _ (rw c.command_of-command.ensures.asked at c.decide-ending.ensures.sure))
+
+pub returns-clause-apart : goal.returns-clause-apart
+returns-clause-apart g c = rw c.status_of.ensures (rw c.command_of-command.ensures.asked at c.decide-ending.ensures.apart)
+
+pub returns-clause-calm : goal.returns-clause-calm
+returns-clause-calm g c = rw c.status_of.ensures (λ calm six. c.decide-ending.ensures.calm calm (link_is _ six))
 
 pub returns-clause-faulty : goal.returns-clause-faulty
-returns-clause-faulty g c = rw c.status_of.ensures (faulty_is _ _ _ _ _ (rw c.named_file-named.ensures at c.decide-ending.ensures.words) (rw c.named_file-named.ensures at c.decide-ending.ensures.ends))
+returns-clause-faulty g c =
+    rw c.status_of.ensures (faulty_is _ _ _ _ _ _ (rw c.command_of-command.ensures.asked at c.decide-ending.ensures.words) (rw c.command_of-command.ensures.asked at c.decide-ending.ensures.ends))
 
 pub returns-clause-printed : goal.returns-clause-printed
-returns-clause-printed g c = rw c.status_of.ensures (status_printed _ None _ _ _ (rw c.named_file-named.ensures at c.decide-ending.ensures.ends))
+returns-clause-printed g c = rw c.status_of.ensures (printed_is _ _ _ _ _ _ (rw c.command_of-command.ensures.asked at c.decide-ending.ensures.ends))
 
 pub returns-clause-part : goal.returns-clause-part
-returns-clause-part g c = rw c.status_of.ensures (status_part _ None _ _ _ (rw c.named_file-named.ensures at c.decide-ending.ensures.ends))
+returns-clause-part g c = rw c.status_of.ensures (part_is _ _ _ _ _ _ (rw c.command_of-command.ensures.asked at c.decide-ending.ensures.ends))
+
+pub returns-clause-nothing : goal.returns-clause-nothing
+returns-clause-nothing g c = rw c.status_of.ensures (nothing_is _ _ _ _ _ _ (rw c.command_of-command.ensures.asked at c.decide-ending.ensures.ends))
 
 pub returns-clause-told : goal.returns-clause-told
-returns-clause-told g c = rw c.status_of.ensures (status_told _ _ _ _ _ _ _ _ _ (rw c.named_file-named.ensures at c.decide-ending.ensures.ends) (rw c.named_file-named.ensures at c.tell.ensures))
+returns-clause-told g c =
+    rw c.status_of.ensures
+    (told_is _ _ _ _ _ _ _ _ _ _ (rw c.command_of-command.ensures.asked at c.decide-ending.ensures.ends) (rw c.command_of-command.ensures.asked at (rw c.file_of.ensures at c.tell.ensures)))
 
 pub returns-clause-complete : goal.returns-clause-complete
 returns-clause-complete g c =
     rw c.status_of.ensures
-    (complete_is _ _ _ _ _ (rw c.named_file-named.ensures at c.decide-ending.ensures.words) (rw c.named_file-named.ensures at c.decide-ending.ensures.ends) _ _ _ _ c.decide-ending.ensures.faults)
+    (complete_is _ _ _ _ _ _ _ _ _ _ _ _ _ _ (rw c.command_of-command.ensures.asked at c.decide-ending.ensures.words) (rw c.command_of-command.ensures.asked at c.decide-ending.ensures.ends)
+    (rw c.command_of-command.ensures.asked at c.decide-ending.ensures.apart) c.decide-ending.ensures.raises)

@@ -4,7 +4,7 @@ use Rattle.sv_journal.specs.History.{committed_of}
 use Rattle.sv_replay.proofs.Committed.{committed_length}
 use Rattle.sv_sequencer.specs.Step.{history}
 use Rattle.sv_replay.proofs.Heading.{drop_past}
-use Rattle.sv_replay.proofs.schedule.committed.Goals as goal
+use Rattle.sv_replay.proofs.played.committed.Goals as goal
 
 pub loop-object-preserved : goal.loop-object-preserved
 loop-object-preserved c =

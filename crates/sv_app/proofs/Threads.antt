@@ -1,0 +1,38 @@
+-- What is left of a run on threads.
+use Rattle.std.proofs.Common.{◌≡◌, ◌≤◌, List, [], ◌∷◌, length, reverse, sym, ap, ◌∙◌, arith}
+use Rattle.std.specs.List.{flat_map}
+use Rattle.sv_journal.specs.declared.entry.Entry.{Entry}
+use Rattle.sv_journal.specs.Answer.{Rules}
+use Rattle.sv_journal.specs.History.{commit_of, committed_of}
+use Rattle.sv_client.specs.declared.trace.Trace.{Trace}
+use Rattle.sv_scenario.specs.declared.scenario.Plan.{Plan}
+use Rattle.sv_scenario.specs.declared.scenario.Scenario.{Scenario}
+use Rattle.sv_scenario.specs.Sessions.{sessions_in}
+use Rattle.sv_system.specs.Records.{rules_of}
+use Rattle.sv_play.specs.Playing.{IsThreadedRun}
+use Rattle.sv_script.specs.Telling.{told_lines}
+use Rattle.sv_app.specs.declared.playing.Threaded.{Threaded}
+use Rattle.sv_app.specs.Runs.{Moved, IsThreaded}
+
+pub some_sessions : (plans : List Plan) → 1 ≤ length plans → 1 ≤ sessions_in plans
+some_sessions [] l = absurd (omega arith)
+some_sessions (plan ∷ plans) l = omega arith
+
+module _ (scenario : Scenario) (m : Moved) (threaded : Threaded) (entries seen : List Entry) (Ls : List Trace)
+    (run : IsThreadedRun scenario (reverse seen) Ls m.settled_before m.settled_now m.ran_before m.ran_now) (took : entries ≡ seen) (same : threaded.played.journal.entries ≡ entries)
+    (traces : threaded.played.traces ≡ Ls) where
+  run_is : IsThreadedRun scenario (reverse threaded.played.journal.entries) threaded.played.traces m.settled_before m.settled_now m.ran_before m.ran_now
+  run_is = rw (same ∙ took) (rw traces run)
+
+  pub threaded_is : (rules : Rules) → rules ≡ rules_of scenario → threaded.played.shape ≡ scenario.world.shape → threaded.played.commit ≡ commit_of (reverse entries)
+      → threaded.played.committed ≡ committed_of rules.world.values (reverse entries) → threaded.lines.items ≡ flat_map told_lines Ls → IsThreaded scenario m threaded
+  threaded_is rules rules_is shape commit committed lines = record {
+    run = run_is;
+    played = record {
+      traffic = run_is.full.traffic;
+      shape = shape;
+      commit = commit ∙ ap (λ (es : List Entry). commit_of (reverse es)) (sym same);
+      committed = committed ∙ ap (λ (rs : Rules). committed_of rs.world.values (reverse entries)) rules_is ∙ ap (λ (es : List Entry). committed_of scenario.world.values (reverse es)) (sym same);
+    };
+    lines = lines ∙ ap (λ (ts : List Trace). flat_map told_lines ts) (sym traces);
+  }

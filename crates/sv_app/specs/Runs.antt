@@ -1,0 +1,108 @@
+-- What is run, the record that it leaves, and the text that tells it.
+-- A journal `h` has its latest entry first.
+use Rattle.std.specs.Prelude.{◌≡◌, ℕ, List, [], ◌∷◌, ◌++◌, take, reverse, Option, Some, None, codes, Ok, Err}
+use Rattle.std.specs.Fmt.{decimal}
+use Rattle.std.specs.List.{flat_map}
+use Rattle.sv_link.specs.Nets.{Transcript}
+use Rattle.sv_journal.specs.declared.entry.Entry.{Entry}
+use Rattle.sv_client.specs.declared.trace.Trace.{Trace}
+use Rattle.sv_scenario.specs.declared.fault.ScenarioFault.{ScenarioFault}
+use Rattle.sv_scenario.specs.declared.scenario.Scenario.{Scenario}
+use Rattle.sv_scenario.specs.Lines.{fault_line}
+use Rattle.sv_scenario.specs.Scenarios.{scenario_of}
+use Rattle.sv_gen.specs.Generated.{generated}
+use Rattle.sv_script.specs.Telling.{told_lines}
+use Rattle.sv_system.specs.Records.{IsPlayed}
+use Rattle.sv_schedule.specs.Records.{IsReplay}
+use Rattle.sv_report.specs.Report.{report_text}
+use Rattle.sv_report.specs.Summary.{summary_text}
+use Rattle.sv_play.specs.Playing.{IsThreadedRun}
+use Rattle.sv_app.specs.declared.playing.Threaded.{Threaded}
+use Rattle.sv_app.specs.declared.words.Form.{Form}
+use Rattle.sv_app.specs.declared.words.Form.TheVariants as forms
+use Rattle.sv_app.specs.Words.{Asked, Play, Replay, Load}
+
+-- ---- The scenario
+
+-- A file is read so far and no further: one byte more than a scenario may have.
+abbrev pub read_limit : ℕ
+read_limit = 4194305
+
+-- The bytes that were read of a file, by what it holds, where that is told.
+abbrev pub IsFront : Option (List ℕ) → List ℕ → Type 0
+IsFront (Some all) bytes = bytes ≡ take read_limit all
+IsFront None bytes = Unit {0}
+
+-- What was read of the file is this scenario.
+pub record IsRead (held : Option (List ℕ)) (scenario : Scenario) : Type 0 where
+  pub bytes : List ℕ
+  pub front : IsFront held bytes
+  pub read : scenario_of bytes ≡ Ok scenario
+
+-- What was read of the file is no scenario, and this line tells of its first fault.
+pub record IsRefused (held : Option (List ℕ)) (line : List ℕ) : Type 0 where
+  pub bytes : List ℕ
+  pub front : IsFront held bytes
+  pub fault : ScenarioFault
+  pub faulty : scenario_of bytes ≡ Err fault
+  pub told : line ≡ fault_line fault
+
+-- The scenario that is to be run, by what the file holds: the file's, or the generated one of the size.
+abbrev pub IsScenarioFor : Asked → Option (List ℕ) → Scenario → Type 0
+IsScenarioFor (Play file form) held scenario = IsRead held scenario
+IsScenarioFor (Replay file) held scenario = IsRead held scenario
+IsScenarioFor (Load size) held scenario = scenario ≡ generated size
+
+-- ---- The record
+
+-- What a net and a crew tell, before a run and after it: the transcripts of the pairs that were settled, and the numbers of jobs that ran.
+pub record Moved : Type 0 where
+  pub settled_before : List Transcript
+  pub settled_now : List Transcript
+  pub ran_before : List ℕ
+  pub ran_now : List ℕ
+
+abbrev pub moved : List Transcript → List Transcript → List ℕ → List ℕ → Moved
+moved settled_before settled_now ran_before ran_now =
+    record { settled_before = settled_before; settled_now = settled_now; ran_before = ran_before; ran_now = ran_now }
+
+-- The record of the run: of the scenario's schedule for a replay, and else of threads, whose net has each session's transcript more.
+abbrev pub IsRecordFor : Asked → Moved → Scenario → List Entry → List Trace → Type 0
+IsRecordFor (Play file form) m scenario h Ls = IsThreadedRun scenario h Ls m.settled_before m.settled_now m.ran_before m.ran_now
+IsRecordFor (Replay file) m scenario h Ls = IsReplay scenario h Ls
+IsRecordFor (Load size) m scenario h Ls = IsThreadedRun scenario h Ls m.settled_before m.settled_now m.ran_before m.ran_now
+
+-- ---- The text
+
+abbrev pub ended_line : List ℕ → List ℕ
+ended_line line = line ++ 10 ∷ []
+
+-- The lines that tell what changed of the clients' views, client by client.
+abbrev pub told_text : List Trace → List ℕ
+told_text Ls = flat_map ended_line (flat_map told_lines Ls)
+
+abbrev pub form_text : Form → Scenario → List Entry → List Trace → List ℕ
+form_text forms.Report scenario h Ls = report_text scenario.world (reverse h) Ls
+form_text forms.Watch scenario h Ls = report_text scenario.world (reverse h) Ls ++ told_text Ls
+form_text forms.Brief scenario h Ls = summary_text scenario (reverse h) Ls
+
+abbrev pub text_for : Asked → Scenario → List Entry → List Trace → List ℕ
+text_for (Play file form) scenario h Ls = form_text form scenario h Ls
+text_for (Replay file) scenario h Ls = form_text forms.Report scenario h Ls
+text_for (Load size) scenario h Ls = codes "load " ++ decimal size ++ codes "\n" ++ form_text forms.Brief scenario h Ls
+
+-- The text tells the run that is asked for: its journal and its clients' traces are a record of the scenario's traffic, with serial values,
+-- sufficient relays and each script carried out.
+pub record IsText (asked : Asked) (held : Option (List ℕ)) (m : Moved) (text : List ℕ) : Type 0 where
+  pub scenario : Scenario
+  pub h : List Entry
+  pub Ls : List Trace
+  pub scenario_is : IsScenarioFor asked held scenario
+  pub record_is : IsRecordFor asked m scenario h Ls
+  pub text_is : text ≡ text_for asked scenario h Ls
+
+-- What is left of a run on threads.
+pub record IsThreaded (scenario : Scenario) (m : Moved) (threaded : Threaded) : Type 0 where
+  pub run : IsThreadedRun scenario (reverse threaded.played.journal.entries) threaded.played.traces m.settled_before m.settled_now m.ran_before m.ran_now
+  pub played : IsPlayed scenario threaded.played
+  pub lines : threaded.lines.items ≡ flat_map told_lines threaded.played.traces

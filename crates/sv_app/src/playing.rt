@@ -1,0 +1,122 @@
+//! Runs on threads, and how they are told.
+ghost use Rattle.std.specs.Prelude.{◌≡◌, ◌++◌, reverse, codes, string_bytes, IfOk, OnOk, Err};
+ghost use Rattle.std.specs.Fmt.{decimal};
+ghost use Rattle.std.specs.List.{flat_map};
+ghost use Rattle.sv_watch.specs.Told.{change_line};
+ghost use Rattle.sv_scenario.specs.Limits.{IsGoodScenario};
+ghost use Rattle.sv_play.specs.Playing.{PlayCause};
+ghost use Rattle.sv_play.specs.Settling.{SomeDiffer};
+ghost use Rattle.sv_app.specs.Runs.{moved, IsThreaded, ended_line, form_text};
+
+use crate::words::Form;
+use std::alloc::{AllocError, Global};
+use std::sync::Wait;
+use std::thread::Threads;
+use sv_link::{Crew, Gate, Net};
+use sv_lock::SeqLock;
+use sv_play::{PlayFault, Playing, play_all};
+use sv_replay::{open_sequencer, played_of};
+use sv_report::{brief, report};
+use sv_scenario::{Scenario, sessions_of};
+use sv_system::Played;
+use sv_watch::{Change, Line, Watch, told_line};
+
+/// What a run on threads leaves.
+#[derive(Debug, Drop)]
+pub struct Threaded {
+    pub played: Played,
+    /// They tell each change of a client's view, client by client.
+    pub lines: Vec<Line>,
+}
+
+/// Runs a scenario on threads: one for each session, and one for each client.
+pub(crate) fn run_on_threads<N: Net, C: Crew, G: Gate + Sync, R: Threads + Wait + Sync>(
+    rt: &R,
+    alloc: Global,
+    scenario: &Scenario,
+    net: &mut N,
+    crew: &mut C,
+    gate: &G,
+) -> Result<Threaded, PlayFault>
+    requires { IsGoodScenario scenario.now }
+    ensures threaded { IfOk result (λ threaded. IsThreaded scenario.now (moved (N.settled net.old) (N.settled net.new) (C.ran crew.old) (C.ran crew.new)) threaded) }
+    ensures cause { PlayCause (C.faults crew.old) (C.faults crew.new) (N.faults net.old) (N.faults net.new) result }
+    ensures calm { N.calm net.old → result ≡ Err PlayFault.Link → SomeDiffer N.E.told N.E.calm (N.made net.old) (N.made net.new) }
+{
+    let callback = Box::new(
+        alloc,
+        move |change: &Change| -> Result<Line, AllocError>
+            ensures { IfOk result (λ line. line ≡ change_line change.now) }
+        { told_line(alloc, change) },
+    )?;
+    let shape = scenario.world.shape;
+    let watch = Watch::new(shape, callback);
+    let sequencer = open_sequencer(alloc, scenario)?;
+    let Ok((lock, mut keeper)) = SeqLock::new(alloc, sequencer, sessions_of(scenario)) else {
+        return Err(PlayFault::Memory);
+    };
+    let Playing { traces, lines } = play_all(
+        rt,
+        alloc,
+        scenario,
+        &lock,
+        &mut keeper,
+        net,
+        crew,
+        gate,
+        &watch,
+    )?;
+    let played = played_of(alloc, shape, lock.close(keeper), traces)?;
+    Ok(Threaded { played, lines })
+}
+
+/// Appends lines, each with its end.
+fn append_lines(lines: &[Line], text: &mut String) -> Result<(), AllocError>
+    ensures { OnOk result (string_bytes text.new ≡ string_bytes text.old ++ flat_map ended_line lines.now) }
+{
+    for line in lines {
+        text.push_str(line.as_str())?;
+        text.push_str("\n")?;
+    }
+    Ok(())
+}
+
+/// How a run is told.
+pub(crate) fn form_text(
+    alloc: Global,
+    scenario: &Scenario,
+    form: Form,
+    threaded: &Threaded,
+) -> Result<String, AllocError>
+    requires good { IsGoodScenario scenario.now }
+    requires threaded { (m : _) × IsThreaded scenario.now m threaded.now }
+    ensures { IfOk result (λ text. string_bytes text ≡ form_text form scenario.now (reverse threaded.now.played.journal.entries) threaded.now.played.traces) }
+{
+    match form {
+        Form::Report => report(alloc, scenario, &threaded.played),
+        Form::Brief => brief(alloc, scenario, &threaded.played),
+        Form::Watch => {
+            let mut text = report(alloc, scenario, &threaded.played)?;
+            append_lines(&threaded.lines, &mut text)?;
+            Ok(text)
+        }
+    }
+}
+
+/// How a load is told: its size, and the summary.
+pub(crate) fn load_text(
+    alloc: Global,
+    size: u32,
+    scenario: &Scenario,
+    threaded: &Threaded,
+) -> Result<String, AllocError>
+    requires good { IsGoodScenario scenario.now }
+    requires threaded { (m : _) × IsThreaded scenario.now m threaded.now }
+    ensures { IfOk result (λ text. string_bytes text ≡ codes "load " ++ decimal size ++ codes "\n"
+        ++ form_text Form.Brief scenario.now (reverse threaded.now.played.journal.entries) threaded.now.played.traces) }
+{
+    let summary = form_text(alloc, scenario, Form::Brief, threaded)?;
+    let mut text = format!(in alloc; "load {size}\n")?;
+    text.push_str(summary.as_str())?;
+    Ok(text)
+}

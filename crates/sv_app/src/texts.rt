@@ -1,0 +1,127 @@
+//! The text that tells what is asked for.
+ghost use Rattle.std.specs.Prelude.{◌≡◌, ◌≢◌, ℕ, None, Some, Err, IfOk, IfSome, string_bytes};
+ghost use Rattle.sv_scenario.specs.Lines.{fault_line};
+ghost use Rattle.sv_play.specs.Settling.{SomeDiffer};
+ghost use Rattle.sv_app.specs.Words.{Play, Replay, Load, IsSize, IsSized, asked_by, file_of};
+ghost use Rattle.sv_app.specs.Runs.{Moved, moved};
+ghost use Rattle.sv_app.specs.Statuses.{Counts, counts, IsMade, IsScenarioRead, Raises, LeavesAlone, ending_of, held_by, status_of};
+
+use crate::ending::Ending;
+use crate::playing::{form_text, load_text, run_on_threads};
+use crate::words::{Command, Form};
+use std::alloc::{AllocError, Global};
+use std::sync::Wait;
+use std::thread::Threads;
+use sv_bytes::{FileFault, Files, read_all};
+use sv_gen::generate;
+use sv_link::{Crew, Gate, Net};
+use sv_replay::run_schedule;
+use sv_report::report;
+use sv_scenario::{ReadFault, Scenario, ScenarioFault, append_fault_line, read_scenario};
+
+/// A file is read so far and no further: one byte more than a scenario may have.
+const READ_LIMIT: usize = 4_194_305;
+
+/// The line that tells of a fault.
+fn line_of_fault(alloc: Global, fault: &ScenarioFault) -> Result<String, AllocError>
+    ensures { IfOk result (λ line. string_bytes line ≡ fault_line fault.now) }
+{
+    let mut line = String::new(alloc);
+    append_fault_line(fault, &mut line)?;
+    Ok(line)
+}
+
+/// The scenario of a file.
+fn scenario_in<F: Files>(alloc: Global, file: &str, files: &mut F) -> Result<Scenario, Ending>
+    ensures read { IsScenarioRead (F.contents files.old file.now) result }
+    ensures raises { (k : Counts) → Raises (record k { files = F.faults files.old }) (record k { files = F.faults files.new }) (ending_of result) }
+    ensures sure { F.sure files.old file.now → result ≢ Err Ending.File }
+{
+    let bytes = match read_all(alloc, files, file, READ_LIMIT) {
+        Ok(bytes) => bytes,
+        Err(FileFault::Failed) => return Err(Ending::File),
+        Err(FileFault::Memory) => return Err(Ending::Memory),
+    };
+    match read_scenario(alloc, &bytes) {
+        Ok(scenario) => Ok(scenario),
+        Err(ReadFault::Scenario(fault)) => Err(Ending::Scenario(line_of_fault(alloc, &fault)?)),
+        Err(ReadFault::Memory) => Err(Ending::Memory),
+    }
+}
+
+/// The report of the run of a file's schedule.
+fn replay<F: Files>(alloc: Global, file: &str, files: &mut F) -> Result<String, Ending>
+    ensures made { (m : Moved) → IsMade (Replay file.now) (F.contents files.old file.now) m result }
+    ensures raises { (k : Counts) → Raises (record k { files = F.faults files.old }) (record k { files = F.faults files.new }) (ending_of result) }
+    ensures sure { F.sure files.old file.now → result ≢ Err Ending.File }
+{
+    let scenario = scenario_in(alloc, file, files)?;
+    let played = run_schedule(alloc, &scenario)?;
+    Ok(report(alloc, &scenario, &played)?)
+}
+
+/// How a run of a file's scenario on threads is told.
+fn play<F: Files, N: Net, C: Crew, G: Gate + Sync, R: Threads + Wait + Sync>(
+    rt: &R,
+    alloc: Global,
+    file: &str,
+    form: Form,
+    files: &mut F,
+    net: &mut N,
+    crew: &mut C,
+    gate: &G,
+) -> Result<String, Ending>
+    ensures made { IsMade (Play file.now form) (F.contents files.old file.now) (moved (N.settled net.old) (N.settled net.new) (C.ran crew.old) (C.ran crew.new)) result }
+    ensures raises { (k : ℕ) → Raises (counts (F.faults files.old) (C.faults crew.old) (N.faults net.old) k) (counts (F.faults files.new) (C.faults crew.new) (N.faults net.new) k) (ending_of result) }
+    ensures sure { F.sure files.old file.now → result ≢ Err Ending.File }
+    ensures calm { N.calm net.old → result ≡ Err Ending.Link → SomeDiffer N.E.told N.E.calm (N.made net.old) (N.made net.new) }
+{
+    let scenario = scenario_in(alloc, file, files)?;
+    let threaded = run_on_threads(rt, alloc, &scenario, net, crew, gate)?;
+    Ok(form_text(alloc, &scenario, form, &threaded)?)
+}
+
+/// How a run of the generated scenario of a size is told.
+fn load<N: Net, C: Crew, G: Gate + Sync, R: Threads + Wait + Sync>(
+    rt: &R,
+    alloc: Global,
+    size: u32,
+    net: &mut N,
+    crew: &mut C,
+    gate: &G,
+) -> Result<String, Ending>
+    requires { IsSize size }
+    ensures made { IsMade (Load size) None (moved (N.settled net.old) (N.settled net.new) (C.ran crew.old) (C.ran crew.new)) result }
+    ensures raises { (f k : ℕ) → Raises (counts f (C.faults crew.old) (N.faults net.old) k) (counts f (C.faults crew.new) (N.faults net.new) k) (ending_of result) }
+    ensures never { (status_of (ending_of result) ≢ 3) × (status_of (ending_of result) ≢ 4) }
+    ensures calm { N.calm net.old → result ≡ Err Ending.Link → SomeDiffer N.E.told N.E.calm (N.made net.old) (N.made net.new) }
+{
+    let scenario = generate(alloc, size)?;
+    let threaded = run_on_threads(rt, alloc, &scenario, net, crew, gate)?;
+    Ok(load_text(alloc, size, &scenario, &threaded)?)
+}
+
+/// The text that tells what is asked for. Whatever it is, it is whole before any of it is printed.
+pub(crate) fn text_for<F: Files, N: Net, C: Crew, G: Gate + Sync, R: Threads + Wait + Sync>(
+    rt: &R,
+    alloc: Global,
+    command: Command<'_>,
+    files: &mut F,
+    net: &mut N,
+    crew: &mut C,
+    gate: &G,
+) -> Result<String, Ending>
+    requires sized { IsSized command }
+    ensures made { IsMade (asked_by command.entry) (held_by (F.contents files.old) (Some (asked_by command.entry)))
+        (moved (N.settled net.old) (N.settled net.new) (C.ran crew.old) (C.ran crew.new)) result }
+    ensures raises { (k : ℕ) → Raises (counts (F.faults files.old) (C.faults crew.old) (N.faults net.old) k) (counts (F.faults files.new) (C.faults crew.new) (N.faults net.new) k) (ending_of result) }
+    ensures sure { IfSome (file_of (asked_by command.entry)) (λ name. F.sure files.old name → result ≢ Err Ending.File) }
+    ensures apart { LeavesAlone (Some (asked_by command.entry)) (status_of (ending_of result)) files.old files.new net.old net.new crew.old crew.new }
+    ensures calm { N.calm net.old → result ≡ Err Ending.Link → SomeDiffer N.E.told N.E.calm (N.made net.old) (N.made net.new) }
+{
+    match command {
+        Command::Play { file, form } => play(rt, alloc, file, form, files, net, crew, gate),
+        Command::Replay { file } => replay(alloc, file, files),
+        Command::Load { size } => load(rt, alloc, size, net, crew, gate),
+    }
+}

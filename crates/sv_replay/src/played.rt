@@ -1,0 +1,49 @@
+//! What a run leaves.
+ghost use Rattle.std.specs.Prelude.{◌≡◌, length, IfOk};
+ghost use Rattle.sv_journal.specs.History.{commit_of, committed_of};
+ghost use Rattle.sv_sequencer.specs.Step.{history};
+
+use std::alloc::{AllocError, Global};
+use sv_client::Trace;
+use sv_sequencer::Sequencer;
+use sv_system::Played;
+use sv_world::{List, ObjectId, Shape, Value, copy_value};
+
+/// What is left of a run over worlds of this shape: its sequencer's journal and committed values, and what each client did.
+pub fn played_of(
+    alloc: Global,
+    shape: Shape,
+    sequencer: Sequencer,
+    traces: List<Trace>,
+) -> Result<Played, AllocError>
+    requires shape { shape ≡ sequencer.rules.world.shape }
+    requires values { length sequencer.rules.world.values ≡ shape.objects }
+    ensures shape { IfOk result (λ played. played.shape ≡ shape) }
+    ensures entries { IfOk result (λ played. played.journal.entries ≡ sequencer.journal.entries) }
+    ensures traces { IfOk result (λ played. played.traces ≡ traces) }
+    ensures commit { IfOk result (λ played. played.commit ≡ commit_of (history sequencer)) }
+    ensures committed { IfOk result (λ played. played.committed ≡ committed_of sequencer.rules.world.values (history sequencer)) }
+{
+    let committed = committed(alloc, &sequencer, shape.objects)?;
+    let commit = sequencer.commit();
+    Ok(Played {
+        shape,
+        journal: sequencer.into_journal(),
+        traces,
+        commit,
+        committed,
+    })
+}
+
+/// The committed value of each object.
+fn committed(alloc: Global, sequencer: &Sequencer, objects: u16) -> Result<List<Value>, AllocError>
+    requires objects { objects ≡ sequencer.now.rules.world.shape.objects }
+    requires values { length sequencer.now.rules.world.values ≡ objects }
+    ensures { IfOk result (λ values. values ≡ committed_of sequencer.now.rules.world.values (history sequencer.now)) }
+{
+    let mut values = List::new(alloc);
+    for object in 0..objects {
+        values.push(copy_value(alloc, sequencer.committed(ObjectId(object)))?)?;
+    }
+    Ok(values)
+}

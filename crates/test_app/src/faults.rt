@@ -1,0 +1,164 @@
+//! Files, outputs, links and threads that fail.
+
+use crate::calls::{Printed, called, called_well, held, words};
+use crate::texts::*;
+use std::alloc::{AllocError, Global};
+use std::sync::Wait;
+use std::test::Fail;
+use std::thread::Threads;
+use sv_app::run;
+use sv_bytes::MemSink;
+use sv_link::{FewCrew, OpenGate, PipeNet, ThreadCrew};
+
+/// What has a call that fails.
+#[derive(Clone, Copy)]
+enum Failing {
+    Net,
+    ServerEnd,
+    ClientEnd,
+
+    /// No call: a settling in which one byte is taken as changed.
+    Settling,
+}
+
+/// The first example, played over a net in memory one of whose calls fails, by its number from 1.
+fn played<R: Threads + Wait + Sync>(
+    rt: &R,
+    alloc: Global,
+    failing: Failing,
+    call: u64,
+) -> Result<Printed, AllocError> {
+    let mut files = held(alloc, FIRST)?;
+    let mut net = PipeNet::new(alloc, rt);
+    match failing {
+        Failing::Net => net.fail_at(call)?,
+        Failing::ServerEnd => net.fail_server_at(call)?,
+        Failing::ClientEnd => net.fail_client_at(call)?,
+        Failing::Settling => net.change_at(call)?,
+    }
+    let mut crew = ThreadCrew::new(alloc);
+    called(
+        rt, alloc, "play a", &mut files, &mut net, &mut crew, &OpenGate,
+    )
+}
+
+/// Whether each of the first calls ends the run with status 6 and nothing printed if it fails, up to one that does not come, where all is
+/// printed. There are at least so many of them.
+fn faults_are_told<R: Threads + Wait + Sync>(
+    rt: &R,
+    alloc: Global,
+    failing: Failing,
+    least: u64,
+) -> Result<bool, AllocError> {
+    for call in 1..60 {
+        let printed = played(rt, alloc, failing, call)?;
+        if printed.is(0, FIRST_REPORT, b"") {
+            return Ok(least < call);
+        }
+        if !printed.is(6, b"", b"link\n") {
+            return Ok(false);
+        }
+    }
+    Ok(false)
+}
+
+/// Each kind of call, with the least number of them: a pair and its settling; and of each end four reads and four writes at the least.
+const LINKS: [(Failing, u64); 4] = [
+    (Failing::Net, 2),
+    (Failing::ServerEnd, 4),
+    (Failing::ClientEnd, 4),
+    (Failing::Settling, 1),
+];
+
+#[test]
+fn failing_links_are_told(rt: HostRuntime) -> Result<(), Fail> {
+    for (failing, least) in LINKS {
+        assert!(rt; faults_are_told(&rt, rt.alloc(), failing, least)?);
+    }
+    Ok(())
+}
+
+/// The first example, played by a crew that refuses this start.
+fn refused<R: Threads + Wait + Sync>(
+    rt: &R,
+    alloc: Global,
+    start: usize,
+) -> Result<Printed, AllocError> {
+    let mut files = held(alloc, FIRST)?;
+    let mut net = PipeNet::new(alloc, rt);
+    let mut crew = FewCrew::new(alloc, start);
+    called(
+        rt, alloc, "play a", &mut files, &mut net, &mut crew, &OpenGate,
+    )
+}
+
+#[test]
+fn refused_starts_are_told(rt: HostRuntime) -> Result<(), Fail> {
+    for start in 0..2 {
+        assert!(rt; refused(&rt, rt.alloc(), start)?.is(7, b"", b"start\n"));
+    }
+    // There are two jobs.
+    assert!(rt; refused(&rt, rt.alloc(), 2)?.is(0, FIRST_REPORT, b""));
+    Ok(())
+}
+
+#[test]
+fn unknown_files_are_told(rt: HostRuntime) -> Result<(), Fail> {
+    for line in ["replay b", "play b", "play b --brief", "play b --watch"] {
+        let printed = called_well(&rt, rt.alloc(), line, FIRST)?;
+        assert!(rt; printed.is(4, b"", b"file: b\n"));
+    }
+    Ok(())
+}
+
+/// The first example, read nine bytes at a time from a file whose third call fails.
+fn cut_in_the_middle<R: Threads + Wait + Sync>(
+    rt: &R,
+    alloc: Global,
+    line: &str,
+) -> Result<Printed, AllocError> {
+    let mut files = held(alloc, FIRST)?;
+    files.give_at_most(9);
+    files.fail_at(3)?;
+    let mut net = PipeNet::new(alloc, rt);
+    let mut crew = ThreadCrew::new(alloc);
+    called(rt, alloc, line, &mut files, &mut net, &mut crew, &OpenGate)
+}
+
+#[test]
+fn files_that_fail_in_the_middle_are_told(rt: HostRuntime) -> Result<(), Fail> {
+    for line in ["replay a", "play a"] {
+        assert!(rt; cut_in_the_middle(&rt, rt.alloc(), line)?.is(4, b"", b"file: a\n"));
+    }
+    Ok(())
+}
+
+/// The first example, with an output that takes at most ten bytes at a time, and whose call of this number fails.
+fn written_in_part<R: Threads + Wait + Sync>(
+    rt: &R,
+    alloc: Global,
+    line: &str,
+    call: u64,
+) -> Result<Printed, AllocError> {
+    let words = words(alloc, line)?;
+    let mut files = held(alloc, FIRST)?;
+    let mut net = PipeNet::new(alloc, rt);
+    let mut crew = ThreadCrew::new(alloc);
+    let mut out = MemSink::with_room(alloc, 4096)?;
+    out.take_at_most(10);
+    out.fail_at(call)?;
+    let mut err = MemSink::with_room(alloc, 4096)?;
+    let status = run(
+        rt, alloc, &words, &mut files, &mut net, &mut crew, &OpenGate, &mut out, &mut err,
+    );
+    Ok(Printed { status, out, err })
+}
+
+#[test]
+fn failing_outputs_are_told(rt: HostRuntime) -> Result<(), Fail> {
+    for line in ["replay a", "play a"] {
+        assert!(rt; written_in_part(&rt, rt.alloc(), line, 1)?.is(5, b"", b"out\n"));
+        assert!(rt; written_in_part(&rt, rt.alloc(), line, 2)?.is(5, b"journal 5\n", b"out\n"));
+    }
+    Ok(())
+}

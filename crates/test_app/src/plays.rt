@@ -1,0 +1,114 @@
+//! Plays and loads: threads over links in memory, and over loopback TCP.
+
+use crate::calls::{Printed, called, called_well, held};
+use crate::texts::*;
+use std::alloc::{AllocError, Global};
+use std::net::{Net as Sockets, TcpListener, TcpStream};
+use std::sync::Wait;
+use std::test::Fail;
+use std::thread::Threads;
+use sv_link::{HoldGate, OpenGate, PipeNet, TcpNet, ThreadCrew};
+
+/// Words, the scenario, and what is printed.
+type Row<'a> = (&'a str, &'a str, &'a [u8]);
+
+/// Runs that print the same at each call.
+const ROWS: [Row<'static>; 11] = [
+    ("play a", FIRST, FIRST_REPORT),
+    ("play a --brief", FIRST, FIRST_BRIEF),
+    ("play a --watch", FIRST, FIRST_WATCHED),
+    ("play a", EMPTY, EMPTY_REPORT),
+    ("play a --watch", EMPTY, EMPTY_REPORT),
+    ("play a", UNKNOWN, UNKNOWN_REPORT),
+    ("play a --brief", BOUND_0, BOUND_0_BRIEF),
+    ("play a --brief", APART, APART_BRIEF),
+    ("load 1", FIRST, LOAD_1),
+    ("load 16", FIRST, LOAD_16),
+    ("load 192", FIRST, LOAD_192),
+];
+
+/// The program's answer over loopback TCP.
+fn called_over_tcp<R>(rt: &R, alloc: Global, line: &str, text: &str) -> Result<Printed, AllocError>
+where
+    R: Threads + Wait + Sync + Sockets<Listener = TcpListener, Stream = TcpStream>,
+{
+    let mut files = held(alloc, text)?;
+    let mut net = TcpNet::new(alloc, rt);
+    let mut crew = ThreadCrew::new(alloc);
+    called(rt, alloc, line, &mut files, &mut net, &mut crew, &OpenGate)
+}
+
+#[test]
+fn plays_print_their_reports(rt: HostRuntime) -> Result<(), Fail> {
+    for (line, text, out) in ROWS {
+        let printed = called_well(&rt, rt.alloc(), line, text)?;
+        assert!(rt; printed.is(0, out, b""));
+    }
+    Ok(())
+}
+
+#[test]
+fn plays_print_their_reports_over_sockets(rt: HostRuntime) -> Result<(), Fail> {
+    for (line, text, out) in ROWS {
+        let printed = called_over_tcp(&rt, rt.alloc(), line, text)?;
+        assert!(rt; printed.is(0, out, b""));
+    }
+    Ok(())
+}
+
+/// The double comes before the three other actions, after some, or last.
+const WORLDS: [&[u8]; 3] = [
+    b"\nworld 4\n0=(58)\n",
+    b"\nworld 4\n0=(61)\n",
+    b"\nworld 4\n0=(56)\n",
+];
+
+fn ends_in_a_world(printed: &Printed) -> bool {
+    printed.status == 0
+        && WORLDS
+            .iter()
+            .any(|world| printed.out.bytes().ends_with(world))
+}
+
+#[test]
+fn conflicts_end_in_a_serial_world(rt: HostRuntime) -> Result<(), Fail> {
+    for _ in 0..20 {
+        let printed = called_well(&rt, rt.alloc(), "play a", CONFLICT)?;
+        assert!(rt; ends_in_a_world(&printed));
+    }
+    Ok(())
+}
+
+/// Both actions of the first client are accepted, each once, although it rejoined twice.
+const REJOINED: &[u8] =
+    b"clients 3\nsessions 6\nobjects 1\nmade 2\naccepted 2\ndropped 0\ncommit 2\ntotal 0: 2\n";
+
+#[test]
+fn clients_cut_rejoin_and_quit(rt: HostRuntime) -> Result<(), Fail> {
+    for _ in 0..20 {
+        let printed = called_well(&rt, rt.alloc(), "play a --brief", REJOINING)?;
+        assert!(rt; printed.is(0, REJOINED, b""));
+    }
+    Ok(())
+}
+
+#[test]
+fn sessions_run_at_once(rt: HostRuntime) -> Result<(), Fail> {
+    let mut files = held(rt.alloc(), APART)?;
+    let mut net = PipeNet::new(rt.alloc(), &rt);
+    let mut crew = ThreadCrew::new(rt.alloc());
+    let gate = HoldGate::new(0, 2, 1, 3);
+    let printed = called(
+        &rt,
+        rt.alloc(),
+        "play a --brief",
+        &mut files,
+        &mut net,
+        &mut crew,
+        &gate,
+    )?;
+    assert!(rt; printed.is(0, APART_BRIEF, b""));
+    assert!(rt; gate.met());
+    assert!(rt; !gate.gave_up());
+    Ok(())
+}
