@@ -1,6 +1,6 @@
 #!/bin/sh
 # Times one session's loop over links in memory and over loopback TCP, beside the plain Rust peer and a bare ping-pong of the same sizes,
-# and prints a table. README.md says what is measured.
+# and then 1, 8 and 32 clients at once over TCP beside the peer's, and prints two tables. README.md says what is measured.
 #
 #   PEER=FOLDER bench/session.sh [ROUNDS [REQUESTS]]
 set -eu
@@ -24,6 +24,10 @@ for _ in $(seq "$rounds"); do
     # A Submit's frame has 39 bytes, and that of its Relay 56.
     timeout 120 "$work/peer/target/release/peer" bench pingpong "$requests" 39 56 | sed 's/^/pingpong /'
     timeout 120 "$work/peer/target/release/peer" bench latency 1 "$((requests / 2))" | sed 's/^/peer-pipe /'
-    timeout 120 "$work/peer/target/release/peer" bench latency 1 "$((requests / 2))" --tcp | sed 's/^/peer-tcp /'
+    for clients in 1 8 32; do
+        # One client and one Submit at a time were timed above.
+        [ "$clients" = 1 ] || echo "ours $(timeout 120 "$crate/out/bench_session" tcp "$requests" 1 "$clients")"
+        timeout 120 "$work/peer/target/release/peer" bench latency "$clients" "$((requests / 2))" --tcp | sed "s/^/peer-tcp-$clients /"
+    done
 done >"$work/figures"
 python3 "$here/session.py" "$work/figures"

@@ -1,14 +1,27 @@
--- What a session on a thread of its own captures may go there.
-use mir.Syntax.{Sym}
+-- What a thread of a round is given may go there.
+use denote.Ref.{NamedLft}
 use denote.RattleType.{RattleType}
-use denote.Struct.Field.{row_field}
-use denote.Struct.Tuple.{TupleAt, type_at}
-use denote.Param.Send.{IsSend}
-use denote.Param.SendFields.{as_row_send, declared_send}
-use Rattle.std.proofs.Common.{[], ◌∷◌}
+use denote.Param.Send.{IsSend, IsSync, sendable}
+use denote.Param.SendFields.{as_row_send, declared_send, variants_send}
+use Rattle.std.proofs.Crossing.{send, crosses}
+use Rattle.sv_sequencer.proofs.Sent.{lock-syncs, pass-sends}
+use Rattle.bench_session.specs.contracts.tasks.Service as service
+use Rattle.bench_session.specs.contracts.tasks.Task as task
+use Rattle.bench_session.proofs.asker.Asker.TheSendSync as asker
 
--- A closure that captures five values may go to another thread where each of them may.
-pub five-send : (ν : Sym) (A B C D E : RattleType) → IsSend A → IsSend B → IsSend C → IsSend D → IsSend E → IsSend (TupleAt ν (A ∷ B ∷ C ∷ D ∷ E ∷ []))
-five-send ν A B C D E a b c d e =
-    declared_send (type_at ν (A ∷ B ∷ C ∷ D ∷ E ∷ []))
-    (as_row_send (row_field A) a, (as_row_send (row_field B) b, (as_row_send (row_field C) c, (as_row_send (row_field D) d, (as_row_send (row_field E) e, tt)))))
+-- what a session is served with: the heap, the lock, a pass and an end
+service-sends : (κ : NamedLft) (E : RattleType) → IsSend E → IsSend (service.the_row κ E)
+service-sends κ E e =
+    declared_send (service.the_type κ E) (
+      search (send, sendable, crosses) depth 10,
+      (
+        search (lock-syncs, as_row_send, sendable) depth 10,
+        (
+          pass-sends,
+          (search (e, as_row_send) depth 4, tt),
+        ),
+      ),
+    )
+
+pub task-sends : (κ : NamedLft) (E C : RattleType) → IsSend E → IsSync C → IsSend (task.the_row κ E C)
+task-sends κ E C e c = variants_send (task.enum κ E C) ((service-sends κ E e, tt), ((asker.the_send κ E C e c, tt), tt))

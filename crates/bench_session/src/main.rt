@@ -1,11 +1,14 @@
-//! Times one session: how many requests its loop answers in a second, and how long a client waits for each.
+//! Times sessions: how many requests their loops answer in a second, and how long clients wait for each.
 #![tactic(auto)]
 
 mod asker;
 mod frames;
+mod measured;
 mod round;
+mod tasks;
 
-use round::{Measured, measure};
+use measured::Measured;
+use round::measure;
 use std::env;
 use std::net::{Net as Sockets, TcpListener, TcpStream};
 use std::rt::Clock;
@@ -14,7 +17,9 @@ use std::thread::Threads;
 use sv_link::{PipeNet, TcpNet};
 
 fn usage<R: Print>(rt: &R) -> anyhow::Result<()> {
-    println!(rt; "words: pipe or tcp REQUESTS TOGETHER, of which at most 16")?;
+    println!(rt;
+        "words: pipe or tcp REQUESTS TOGETHER, of which at most 16, and where wanted CLIENTS, at most 32"
+    )?;
     Ok(())
 }
 
@@ -23,56 +28,69 @@ fn percentile(sorted: &[u64], hundredths: usize) -> u64 {
     sorted.get(at).copied().unwrap_or(0)
 }
 
-/// One line: the kind of link, how many Submits were written together, how many requests were answered, the nanoseconds in all, and how
-/// long a Submit and a Done took, at the middle and at the 99th of a hundred.
-fn print<R: Print>(
-    rt: &R,
-    kind: &str,
-    together: u32,
-    mut measured: Measured,
-) -> anyhow::Result<()> {
-    measured.submits.sort()?;
-    measured.dones.sort()?;
-    let requests = measured.requests;
-    let nanos = measured.nanos;
-    let submit = percentile(measured.submits.as_slice(), 50);
-    let submit_late = percentile(measured.submits.as_slice(), 99);
-    let done = percentile(measured.dones.as_slice(), 50);
-    let done_late = percentile(measured.dones.as_slice(), 99);
-    println!(rt; "{kind} {together} {requests} {nanos} {submit} {submit_late} {done} {done_late}")?;
+fn print_times<R: Print>(rt: &R, sorted: &[u64]) -> anyhow::Result<()> {
+    let middle = percentile(sorted, 50);
+    let late = percentile(sorted, 99);
+    print!(rt; " {middle} {late}")?;
     Ok(())
 }
 
-fn act<R>(rt: &R, alloc: std::alloc::Global, words: &[String]) -> anyhow::Result<()>
+/// One line: the kind of link, how many Submits each client wrote together, how many clients there were, how many requests were answered,
+/// the nanoseconds in all, and how long Submits, Dones and whole turns took, each at the middle and at the 99th of a hundred.
+fn print<R: Print>(
+    rt: &R,
+    kind: &str,
+    words: (u32, u32, u16),
+    mut measured: Measured,
+) -> anyhow::Result<()> {
+    let (_, together, clients) = words;
+    measured.times.sort()?;
+    let requests = measured.requests;
+    let nanos = measured.nanos;
+    print!(rt; "{kind} {together} {clients} {requests} {nanos}")?;
+    print_times(rt, measured.times.submits.as_slice())?;
+    print_times(rt, measured.times.dones.as_slice())?;
+    print_times(rt, measured.times.turns.as_slice())?;
+    println!(rt; "")?;
+    Ok(())
+}
+
+/// The numbers among the words. With no number of clients there is one.
+fn numbers_of(words: &[String]) -> anyhow::Result<Option<(u32, u32, u16)>> {
+    match words {
+        [requests, together] => Ok(Some((requests.parse()?, together.parse()?, 1))),
+        [requests, together, clients] => Ok(Some((
+            requests.parse()?,
+            together.parse()?,
+            clients.parse()?,
+        ))),
+        _ => Ok(None),
+    }
+}
+
+fn act<R>(
+    rt: &R,
+    alloc: std::alloc::Global,
+    kind: &str,
+    numbers: (u32, u32, u16),
+) -> anyhow::Result<()>
 where
     R: Threads + Wait + Sync + Print + Clock + Sockets<Listener = TcpListener, Stream = TcpStream>,
 {
-    let [kind, requests, together] = words else {
-        return usage(rt);
-    };
-    let requests: u32 = requests.parse()?;
-    let together: u32 = together.parse()?;
-    if together == 0 || together > 16 {
+    let (_, together, clients) = numbers;
+    if together == 0 || together > 16 || clients == 0 || clients > 32 {
         return usage(rt);
     }
-    match kind.as_str() {
+    match kind {
         "pipe" => {
             let mut net = PipeNet::new(alloc, rt);
-            print(
-                rt,
-                "pipe",
-                together,
-                measure(rt, alloc, &mut net, requests, together)?,
-            )
+            let measured = measure(rt, alloc, &mut net, numbers)?;
+            print(rt, "pipe", numbers, measured)
         }
         "tcp" => {
             let mut net = TcpNet::new(alloc, rt);
-            print(
-                rt,
-                "tcp",
-                together,
-                measure(rt, alloc, &mut net, requests, together)?,
-            )
+            let measured = measure(rt, alloc, &mut net, numbers)?;
+            print(rt, "tcp", numbers, measured)
         }
         _ => usage(rt),
     }
@@ -83,5 +101,11 @@ fn main(rt: HostRuntime) -> anyhow::Result<()> {
     for word in env::args(&rt)?.skip(1) {
         words.push(word)?;
     }
-    act(&rt, rt.alloc(), &words)
+    let [kind, numbers @ ..] = words.as_slice() else {
+        return usage(&rt);
+    };
+    match numbers_of(numbers)? {
+        Some(numbers) => act(&rt, rt.alloc(), kind.as_str(), numbers),
+        None => usage(&rt),
+    }
 }

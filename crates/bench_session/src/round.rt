@@ -1,125 +1,177 @@
-//! Rounds of fresh servers with one session each.
-ghost use Rattle.std.specs.Prelude.{◌≡◌, ◌≤◌, false};
+//! Rounds of fresh servers, with one session for each client.
+ghost use Rattle.std.specs.Prelude.{◌≡◌, ◌≤◌, ◌<◌, ◌+◌, false, IfOk, OnOk};
+ghost use Rattle.std.specs.List.{AllByRecursion};
 ghost use Rattle.sv_session.specs.Serving.{MayServe};
+ghost use Rattle.bench_session.specs.Tasks.{keeper_after, IsServer, IsReady};
 
-use crate::asker::ask;
-use std::alloc::{AllocError, Global};
+use crate::asker::Asker;
+use crate::measured::{Measured, Plan, Stay};
+use crate::tasks::{Service, Task, TaskOut};
+use std::alloc::Global;
 use std::rt::Clock;
-use std::sync::Wait;
-use std::thread;
+use std::sync::{Barrier, Wait};
 use std::thread::Threads;
+use std::time::Instant;
 use sv_gen::generate;
-use sv_link::{End, Net, OpenGate, Pair};
-use sv_lock::SeqLock;
+use sv_link::{Crew, End, Net, Pair, Ran, ThreadCrew};
+use sv_lock::{Pass, SeqLock};
 use sv_sequencer::Sequencer;
-use sv_session::{SessionOut, serve_session};
+use sv_session::SessionOut;
 
 /// A session makes at most so many requests of those that it may make.
 const REQUESTS: u32 = 1000;
 
-/// What was measured: how long each group of Submits and each Done took, how many requests were answered, and the nanoseconds in all.
+/// Beside others a client makes at most so many Submits on its 16 objects in a round, so that no chain is over 31 however long another
+/// client holds up the commit.
+const SUBMITS: u32 = 512;
+
+/// The load whose world has 16 objects for each of 32 clients.
+const LOAD: u32 = 128;
+
+/// What the threads of a round share.
 #[derive(Drop)]
-pub(crate) struct Measured {
-    pub(crate) submits: Vec<u64>,
-    pub(crate) dones: Vec<u64>,
-    pub(crate) requests: u64,
-    pub(crate) nanos: u64,
+struct Hall<'a, C> {
+    alloc: Global,
+    clock: &'a C,
+    lock: &'a SeqLock<Sequencer>,
+    meeting: &'a Barrier,
+    opened: Instant,
+    plan: Plan,
 }
 
-impl Measured {
-    fn new(alloc: Global) -> Measured {
-        Measured {
-            submits: Vec::new(alloc),
-            dones: Vec::new(alloc),
-            requests: 0,
-            nanos: 0,
+impl<'a, C: Clock> Hall<'a, C> {
+    /// Opens a client's session: what serves it, and what asks it.
+    fn open_session<N: Net>(
+        &self,
+        net: &mut N,
+        keeper: &mut Pass<Sequencer>,
+        client: u16,
+    ) -> anyhow::Result<(Service<'a, N::E>, Asker<'a, N::E, C>)>
+        requires keeper { keeper.old ≡ keeper_after client self.now.lock.now keeper.old.base }
+        requires server { IsServer self.now.lock.now keeper.old.base self.now.plan.clients }
+        requires client { client < self.now.plan.clients }
+        ensures keeper { OnOk result (keeper.new ≡ keeper_after (client + 1) self.now.lock.now keeper.old.base) }
+        ensures service { IfOk result (λ r. MayServe r.0.lock.now r.0.pass × ((N.E.told r.0.end).closed ≡ false)) }
+        ensures asker { IfOk result (λ r. (N.E.told r.1.end).closed ≡ false) }
+    {
+        let Pair::Made(server, end) = net.pair() else {
+            return Err(anyhow::anyhow!("no connection"));
+        };
+        let service = Service {
+            alloc: self.alloc,
+            lock: self.lock,
+            pass: self.lock.split(keeper),
+            end: server,
+        };
+        let asker = Asker {
+            alloc: self.alloc,
+            clock: self.clock,
+            meeting: self.meeting,
+            opened: self.opened,
+            end,
+            client,
+            plan: self.plan,
+        };
+        Ok((service, asker))
+    }
+
+    /// Opens all sessions: two tasks for each.
+    fn open<N: Net>(
+        &self,
+        net: &mut N,
+        keeper: &mut Pass<Sequencer>,
+    ) -> anyhow::Result<Vec<Task<'a, N::E, C>>>
+        requires keeper { keeper.old ≡ keeper_after 0 self.now.lock.now keeper.old.base }
+        requires server { IsServer self.now.lock.now keeper.old.base self.now.plan.clients }
+        ensures { IfOk result (λ tasks. AllByRecursion (IsReady N.E.told) tasks.items) }
+    {
+        let mut tasks = Vec::new(self.alloc);
+        for client in 0..self.plan.clients {
+            let (service, asker) = self.open_session(net, keeper, client)?;
+            tasks.push(Task::Serve(service))?;
+            tasks.push(Task::Ask(asker))?;
+        }
+        Ok(tasks)
+    }
+}
+
+/// What the clients measured, if all of them came to their Leave.
+fn stays_of(alloc: Global, outs: Vec<TaskOut>) -> anyhow::Result<Vec<Stay>> {
+    let mut stays = Vec::new(alloc);
+    for out in outs {
+        match out {
+            TaskOut::Served(SessionOut::Left) => {}
+            TaskOut::Asked(Some(stay)) => stays.push(stay)?,
+            _ => return Err(anyhow::anyhow!("a session did not come to its Leave")),
         }
     }
-
-    /// What another session came to is added.
-    fn add(&mut self, other: Measured) -> Result<(), AllocError> {
-        self.submits.extend_from_slice(other.submits.as_slice())?;
-        self.dones.extend_from_slice(other.dones.as_slice())?;
-        self.requests = self.requests.saturating_add(other.requests);
-        self.nanos = self.nanos.saturating_add(other.nanos);
-        Ok(())
-    }
-
-    pub(crate) fn count(&mut self, rounds: u32, together: u32, nanos: u64) {
-        let requests = u64::from(rounds).saturating_mul(u64::from(together) + 1);
-        self.requests = self.requests.saturating_add(requests);
-        self.nanos = self.nanos.saturating_add(nanos);
-    }
+    Ok(stays)
 }
 
-/// One server, whose one session is asked by a client on another thread.
-fn serve_and_ask<R: Threads + Wait + Sync + Clock, E: End + Send>(
-    rt: &R,
-    alloc: Global,
-    ends: (E, E),
-    rounds: u32,
-    together: u32,
-) -> anyhow::Result<(Measured, bool)>
-    requires { ((E.told ends.0).closed ≡ false) × ((E.told ends.1).closed ≡ false) }
-{
-    let world = generate(alloc, 1)?.world;
-    let sequencer = Sequencer::new(alloc, world, 32, None, 1)?;
-    let (lock, mut keeper) = match SeqLock::new(alloc, sequencer, 1) {
-        Ok(made) => made,
-        Err((_, error)) => return Err(anyhow::Error::from(error)),
-    };
-    let mut pass = lock.split(&mut keeper);
-    let shared = &lock;
-    let (mut server, mut client) = ends;
-    let mut measured = Measured::new(alloc);
-    let (out, (measured, is_asked)) = thread::join(
-        rt,
-        move || -> SessionOut
-            requires { MayServe shared.now pass × ((E.told server).closed ≡ false) }
-        { serve_session(rt, alloc, shared, &mut pass, &mut server, &OpenGate) },
-        move || -> (Measured, bool)
-            requires { (E.told client).closed ≡ false }
-        {
-            let asked = ask(rt, alloc, &mut client, rounds, together, &mut measured);
-            (measured, asked.is_ok())
-        },
-    );
-    Ok((measured, is_asked && out == SessionOut::Left))
-}
-
-/// The same over a connection of the net.
-fn one<R: Threads + Wait + Sync + Clock, N: Net>(
+/// One server, each of whose sessions is asked by a client on another thread.
+fn round<R: Threads + Wait + Sync + Clock, N: Net>(
     rt: &R,
     alloc: Global,
     net: &mut N,
-    rounds: u32,
-    together: u32,
-) -> anyhow::Result<Measured> {
-    let Pair::Made(server, client) = net.pair() else {
-        return Err(anyhow::anyhow!("no connection"));
+    plan: Plan,
+) -> anyhow::Result<Vec<Stay>>
+    requires { (1 ≤ plan.clients) × (plan.clients ≤ 32) }
+{
+    let world = generate(alloc, LOAD)?.world;
+    let sequencer = Sequencer::new(alloc, world, 32, None, plan.clients)?;
+    let (lock, mut keeper) = match SeqLock::new(alloc, sequencer, plan.clients) {
+        Ok(made) => made,
+        Err((_, error)) => return Err(anyhow::Error::from(error)),
     };
-    let (measured, is_whole) = serve_and_ask(rt, alloc, (server, client), rounds, together)?;
-    if !is_whole {
-        return Err(anyhow::anyhow!("the session did not come to its Leave"));
-    }
-    Ok(measured)
+    let meeting = Barrier::new(usize::from(plan.clients));
+    let hall = Hall {
+        alloc,
+        clock: rt,
+        lock: &lock,
+        meeting: &meeting,
+        opened: Instant::now(rt)?,
+        plan,
+    };
+    let tasks = hall.open(net, &mut keeper)?;
+    let mut crew = ThreadCrew::new(alloc);
+    let Ran::Done(outs) = crew.run_all(rt, tasks) else {
+        return Err(anyhow::anyhow!("a thread did not start"));
+    };
+    stays_of(alloc, outs)
 }
 
-/// So many requests, by sessions of at most 1,000 each.
+/// The turns of a client in a round.
+fn turns_of(together: u32, clients: u16) -> u32
+    requires { (1 ≤ together) × (together ≤ 16) }
+{
+    let most = REQUESTS / (together + 1);
+    if clients == 1 {
+        return most;
+    }
+    most.min(SUBMITS / together)
+}
+
+/// So many requests of each client or some more, in rounds of at most 1,000 each.
 pub(crate) fn measure<R: Threads + Wait + Sync + Clock, N: Net>(
     rt: &R,
     alloc: Global,
     net: &mut N,
-    requests: u32,
-    together: u32,
+    words: (u32, u32, u16),
 ) -> anyhow::Result<Measured>
-    requires { together ≤ 16 }
+    requires together { (1 ≤ words.1) × (words.1 ≤ 16) }
+    requires clients { (1 ≤ words.2) × (words.2 ≤ 32) }
 {
+    let (requests, together, clients) = words;
+    let plan = Plan {
+        clients,
+        turns: turns_of(together, clients),
+        together,
+    };
+    let each = plan.turns.saturating_mul(together + 1).max(1);
     let mut measured = Measured::new(alloc);
-    let each = (REQUESTS / (together + 1)).max(1);
-    let sessions = requests / REQUESTS + 1;
-    for _ in 0..sessions {
-        measured.add(one(rt, alloc, net, each, together)?)?;
+    for _ in 0..requests.div_ceil(each) {
+        let stays = round(rt, alloc, net, plan)?;
+        measured.add(plan, stays)?;
     }
     Ok(measured)
 }
