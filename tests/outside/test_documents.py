@@ -1,0 +1,402 @@
+#!/usr/bin/env python3
+"""Checks the examples of the documents for makers of games, with no program of the product.
+
+    python3 tests/outside/test_documents.py [DOCUMENT ..]
+
+Takes the fenced blocks out of docs/ACTIONS.md, docs/ERRORS.md and docs/TUTORIAL.md, or out of the
+documents that are named, and checks each by the word behind its opening fence:
+
+    action          an action text, which must be read
+    canonical       pairs of lines: an action text, and its canonical text
+    gives           an action text, then lines `VALUES -> VALUES`: the values of the objects that it
+                    reads, and those of the objects that it writes, after it
+    refused         pairs of lines: an action text, and the line that the program prints where the
+                    text is the first step of the first client in a world of one object and one
+                    attribute, or of as many as `refused OBJECTS ATTRIBUTES` names
+    no-scenario     pairs of lines: a file, and the line that the program prints of it; `(empty)`
+                    stands for an empty file
+    scenario NAME   a scenario file; where examples/NAME.json is there, the two are the same, and
+                    its replay's report is examples/NAME.out
+    change NEW OLD  pairs of lines: in the scenario OLD each first line stands once; with the second
+                    ones in place of them it is the scenario NEW
+    report NAME     the whole report of that scenario's replay
+    part NAME       lines that stand together in that report
+    told NAME       lines that stand together in the told lines of that replay
+    brief NAME      lines that stand together in the brief summary of that replay
+    played NAME S   lines that stand together in the report of a run whose turns are taken at random
+                    from the seed S, with its told lines
+    played-brief NAME S     the same of the brief summary of such a run
+    answers         lines `sS REQUEST -> REPLY`: what a server answers that has one object with the
+                    one attribute 0, and a bound of 8
+    text, sh        not checked
+
+Every fenced block must have one of these words. Each pair, each line of a `gives` block behind its
+text, and every other block counts as one thing. Closes with `N passed, M failed`.
+"""
+
+import json
+import os
+import re
+import sys
+
+import simulate
+from actions import (GREATEST, LEAST, TextFault, action_text, evaluate, fault_of_action,
+                     read_action)
+from report import reply_text, request_of
+from scenario import NoScenario, Plan, Scenario, scenario_of
+from server import Server
+
+HERE = os.path.dirname(os.path.abspath(__file__))
+TOP = os.path.join(HERE, "..", "..")
+DOCUMENTS = ("ACTIONS", "ERRORS", "TUTORIAL")
+LARGEST = 4_194_304
+UNSIGNED = 2 ** 64 - 1
+HELD = re.compile(r"([0-9]+)=\((-?[0-9]+(?:,-?[0-9]+)*)\)")
+
+
+class Refused(Exception):
+    """A file is no scenario: the path of its first fault, and the cause."""
+
+    def __init__(self, path, cause):
+        super().__init__(f"scenario: {path}: {cause}")
+
+
+def whole(value, least, greatest, path):
+    """A whole number of this range. One that has no 64 bits at all is of another kind."""
+    if type(value) is not int or not LEAST <= value <= UNSIGNED:
+        raise Refused(path, "kind")
+    if not least <= value <= greatest:
+        raise Refused(path, "range")
+    return value
+
+
+def listed(value, least, greatest, path):
+    """A list of such a length."""
+    if type(value) is not list:
+        raise Refused(path, "kind")
+    if not least <= len(value) <= greatest:
+        raise Refused(path, "range")
+    return value
+
+
+def keyed(value, needed, others, path):
+    """An object with the needed keys, and with no keys but these and the others."""
+    if type(value) is not dict:
+        raise Refused(path, "kind")
+    for key in needed:
+        if key not in value:
+            raise Refused(f"{path}/{key}", "key")
+    for key in sorted(value, key=lambda each: each.encode("utf-8")):
+        if key not in needed + others:
+            raise Refused(f"{path}/{key}", "key")
+
+
+def look_at_interest(value, objects, path):
+    """An interest: objects of the world, ascending."""
+    before = -1
+    for place, one in enumerate(listed(value, 0, 64, path)):
+        whole(one, 0, 65535, f"{path}/{place}")
+        if one <= before:
+            raise Refused(f"{path}/{place}", "order")
+        if one >= objects:
+            raise Refused(f"{path}/{place}", "object")
+        before = one
+
+
+def look_at_step(value, shape, path):
+    """A step: one of four words, an act or a show."""
+    if type(value) is str and value in ("poll", "sync", "cut", "quit"):
+        return
+    if type(value) is not dict or list(value) not in (["act"], ["show"]):
+        raise Refused(path, "kind")
+    if "show" in value:
+        for place, one in enumerate(listed(value["show"], 1, 16, f"{path}/show")):
+            if whole(one, 0, 65535, f"{path}/show/{place}") >= shape[0]:
+                raise Refused(f"{path}/show/{place}", "object")
+        return
+    if type(value["act"]) is not str:
+        raise Refused(f"{path}/act", "kind")
+    try:
+        cause = fault_of_action(read_action(value["act"]), *shape)
+    except TextFault as fault:
+        raise Refused(f"{path}/act", str(fault)) from fault
+    if cause is not None:
+        raise Refused(f"{path}/act", f"action {cause}")
+
+
+def look_at_client(value, shape, path):
+    """A client: its interest, and its steps, of which only the last may be a quit."""
+    keyed(value, ("interest", "steps"), (), path)
+    look_at_interest(value["interest"], shape[0], f"{path}/interest")
+    steps = listed(value["steps"], 0, 256, f"{path}/steps")
+    for place, step in enumerate(steps):
+        look_at_step(step, shape, f"{path}/steps/{place}")
+        if step == "quit" and place + 1 < len(steps):
+            raise Refused(f"{path}/steps/{place}", "last")
+
+
+def look_at_turn(value, clients, sessions, path):
+    """A turn: a letter, and the number of a client or a session that there is."""
+    if type(value) is not str or re.fullmatch(r"[cst](0|[1-9][0-9]{0,4})", value) is None \
+            or int(value[1:]) >= (sessions if value[0] == "s" else clients):
+        raise Refused(path, "kind")
+
+
+def no_number(text):
+    """What the reader of JSON does at a number that is none, as NaN."""
+    raise ValueError(text)
+
+
+def finite(text):
+    """A number with a fraction or an exponent. One that is too great is none."""
+    number = float(text)
+    return no_number(text) if number in (float("inf"), float("-inf")) else number
+
+
+def integer(text):
+    """A whole number; `-0` is read as one with a fraction."""
+    return -0.0 if text == "-0" else int(text)
+
+
+def look_at_file(data):
+    """Raises the first fault of these bytes, if they are no scenario."""
+    if len(data) > LARGEST:
+        raise Refused("", "size")
+    try:
+        value = json.loads(data.decode("utf-8"), parse_constant=no_number, parse_float=finite,
+                           parse_int=integer)
+    except (ValueError, RecursionError) as fault:
+        raise Refused("", "json") from fault
+    keyed(value, ("attrs", "objects", "bound", "clients"), ("reach", "schedule"), "")
+    attributes = whole(value["attrs"], 1, 4, "/attrs")
+    objects = listed(value["objects"], 1, 4096, "/objects")
+    for place, each in enumerate(objects):
+        for inner, one in enumerate(listed(each, attributes, attributes, f"/objects/{place}")):
+            whole(one, LEAST, GREATEST, f"/objects/{place}/{inner}")
+    whole(value["bound"], 0, 32, "/bound")
+    if "reach" in value:
+        whole(value["reach"], 0, 2_000_000, "/reach")
+    clients = listed(value["clients"], 1, 32, "/clients")
+    for place, client in enumerate(clients):
+        look_at_client(client, (len(objects), attributes), f"/clients/{place}")
+    sessions = len(clients) + sum(client["steps"].count("cut") for client in clients)
+    if sessions > 64:
+        raise Refused("/clients", "range")
+    if "schedule" in value:
+        for place, turn in enumerate(listed(value["schedule"], 0, 16384, "/schedule")):
+            look_at_turn(turn, len(clients), sessions, f"/schedule/{place}")
+
+
+def line_of_file(text):
+    """The line that the program prints of a file, or None where it is a scenario."""
+    try:
+        look_at_file(text.encode("utf-8"))
+    except Refused as refused:
+        return str(refused)
+    return None
+
+
+def file_with(text, objects, attributes):
+    """A file whose first client's first step is this act."""
+    return json.dumps({"attrs": attributes, "objects": [[5] * attributes] * objects, "bound": 4,
+                       "clients": [{"interest": [], "steps": [{"act": text}]}]})
+
+
+def values_in(text):
+    """The objects and their values in a text as `0=(5) 1=(7)`."""
+    words = text.split()
+    found = [HELD.fullmatch(word) for word in words]
+    if not all(found):
+        raise ValueError(f"no values: {text}")
+    return {int(each[1]): tuple(map(int, each[2].split(","))) for each in found}
+
+
+def brief(scenario, report):
+    """The brief summary of a run, counted in its report."""
+    entries = [line for line in report if re.match(r"[0-9]+ s[0-9]+ ", line)]
+    dropped = {(line.split()[1], line.split(" -> ")[1]) for line in entries
+               if " -> dropped " in line}
+    accepted = {item for line in entries if " -> relay " in line
+                for item in re.findall(r"[0-9]+:c[0-9]+\.[0-9]+", line)}
+    start = next(place for place, line in enumerate(report) if line.startswith("world "))
+    world = [values_in(line) for line in report[start + 1:start + 1 + len(scenario.opening)]]
+    made = sum(1 for line in report if line.startswith("make "))
+    lines = [f"clients {len(scenario.plans)}", f"sessions {scenario.sessions}",
+             f"objects {len(scenario.opening)}", f"made {made}", f"accepted {len(accepted)}",
+             f"dropped {len(dropped)}", f"commit {report[start].split()[1]}"]
+    for place in range(scenario.attributes):
+        total = sum(value[place] for each in world for value in each.values())
+        lines.append(f"total {place}: {total}")
+    return lines
+
+
+def stands_in(lines, whole_text):
+    """Whether the lines stand together, in order, somewhere in the text."""
+    return any(whole_text[start:start + len(lines)] == lines for start in range(len(whole_text)))
+
+
+class Checker:
+    """Checks blocks, and counts what held."""
+
+    def __init__(self):
+        self.passed = 0
+        self.failed = 0
+        self.texts = {}
+        self.scenarios = {}
+
+    def expect(self, holds, name):
+        """One thing tried."""
+        if holds:
+            self.passed += 1
+        else:
+            self.failed += 1
+            print(f"failed: {name}")
+
+    def check_pairs(self, lines, name, second_of):
+        """Pairs of lines: of the first one the second is said."""
+        self.expect(len(lines) % 2 == 0 and lines, f"{name}: no pairs")
+        for first, second in zip(lines[::2], lines[1::2]):
+            found = second_of(first)
+            self.expect(found == second, f"{name}: {first}: {found}")
+
+    def check_action(self, lines, name):
+        """A text that is read."""
+        try:
+            read_action("\n".join(lines))
+        except TextFault as fault:
+            self.expect(False, f"{name}: {fault}")
+        else:
+            self.expect(True, name)
+
+    def check_canonical(self, lines, name):
+        """Texts and their canonical texts, each of which is its own."""
+        self.check_pairs(lines, name, lambda text: action_text(read_action(text)))
+        for text in lines[1::2]:
+            self.expect(action_text(read_action(text)) == text, f"{name}: {text}")
+
+    def check_gives(self, lines, name):
+        """What an action gives."""
+        action = read_action(lines[0])
+        self.expect(len(lines) > 1, f"{name}: no values")
+        for line in lines[1:]:
+            before, after = line.split("->")
+            values = values_in(before)
+            same = tuple(values) == action.reads
+            width = max(len(value) for value in values.values())
+            fault = fault_of_action(action, max(action.reads) + 1, width)
+            given = dict(zip(action.writes, evaluate(action, values))) if same else None
+            self.expect(fault is None and given == values_in(after), f"{name}: {line}: {given}")
+
+    def check_scenario(self, lines, name, key):
+        """A file that is a scenario, and the example of that name."""
+        text = "\n".join(lines) + "\n"
+        path = os.path.join(TOP, "examples", f"{key}.json")
+        line = line_of_file(text)
+        try:
+            self.scenarios[key] = scenario_of(text.encode("utf-8"))
+        except NoScenario as fault:
+            line = line or str(fault)
+        self.expect(line is None and key not in self.texts, f"{name}: {line}")
+        self.texts[key] = text
+        if os.path.exists(path):
+            with open(path, encoding="utf-8") as file:
+                self.expect(file.read() == text, f"{name}: not {path}")
+            with open(path[:-5] + ".out", encoding="utf-8") as file:
+                self.expect(file.read() == simulate.replay(self.scenarios[key]),
+                            f"{name}: not the report beside {path}")
+
+    def check_change(self, lines, name, key, old):
+        """Changes of a scenario, which give another one."""
+        text = self.texts[old]
+        self.expect(len(lines) % 2 == 0 and lines, f"{name}: no pairs")
+        for first, second in zip(lines[::2], lines[1::2]):
+            self.expect(text.count(first) == 1, f"{name}: {first}")
+            text = text.replace(first, second)
+        self.check_scenario(text.split("\n")[:-1], name, key)
+
+    def check_answers(self, lines, name):
+        """What a server answers to requests, one after the other."""
+        plan = Plan((), ())
+        server = Server(Scenario(1, ((0,),), 8, None, (plan, plan, plan), ()))
+        for line in lines:
+            session, rest = line.split(" ", 1)
+            request, reply = rest.split(" -> ")
+            found = reply_text(server.step(int(session[1:]), request_of(request, 0)))
+            self.expect(found == reply, f"{name}: {line}: {found}")
+
+    def check_report(self, lines, name, key):
+        """A whole report, and the example of that name."""
+        text = "\n".join(lines) + "\n"
+        self.expect(simulate.replay(self.scenarios[key]) == text, f"{name}: another report")
+
+    def run_of(self, key, seed):
+        """The lines of a scenario's report with its told lines, and how many the told ones are."""
+        scenario = self.scenarios[key]
+        if seed is None:
+            plain, watched = simulate.replay(scenario), simulate.replay(scenario, True)
+        else:
+            plain = simulate.play(scenario, seed, False, True)
+            watched = simulate.play(scenario, seed, True, True)
+        return watched.split("\n")[:-1], watched.count("\n") - plain.count("\n")
+
+    def check_run(self, lines, name, word, key, seed=None):
+        """A part of what a run prints."""
+        report, told = self.run_of(key, seed)
+        if word.endswith("brief"):
+            report = brief(self.scenarios[key], report)
+        elif word == "told":
+            report = report[len(report) - told:]
+        self.expect(bool(lines) and stands_in(lines, report), f"{name}: not in the report")
+
+    def check_block(self, words, lines, name):
+        """One block."""
+        word, more = words[0], words[1:]
+        if word in ("text", "sh"):
+            return
+        if word in ("action", "canonical", "gives", "answers") and not more:
+            getattr(self, f"check_{word}")(lines, name)
+        elif word == "refused":
+            shape = [int(one) for one in more] or [1, 1]
+            self.check_pairs(lines, name, lambda text: line_of_file(file_with(text, *shape)))
+        elif word == "no-scenario":
+            self.check_pairs(lines, name,
+                             lambda text: line_of_file("" if text == "(empty)" else text))
+        elif word in ("scenario", "change", "report"):
+            getattr(self, f"check_{word}")(lines, name, *more)
+        elif word in ("part", "told", "brief", "played", "played-brief"):
+            self.check_run(lines, name, word, *more)
+        else:
+            self.expect(False, f"{name}: no such word")
+
+    def check_document(self, path):
+        """All blocks of a document."""
+        with open(path, encoding="utf-8") as file:
+            text = file.read().split("\n")
+        words, start, blocks = None, 0, 0
+        for number, line in enumerate(text, 1):
+            if not line.startswith("```"):
+                continue
+            if words is None:
+                words, start = line[3:].split(), number
+                continue
+            name = f"{os.path.basename(path)}:{start}"
+            blocks += 1
+            try:
+                self.check_block(words or ["none"], text[start:number - 1], name)
+            except (TextFault, ValueError, KeyError, IndexError, TypeError) as fault:
+                self.expect(False, f"{name}: {type(fault).__name__}: {fault}")
+            words = None
+        self.expect(words is None and blocks > 0, f"{path}: fences")
+
+
+def main(paths):
+    """The status of all checks."""
+    checker = Checker()
+    for path in paths or [os.path.join(TOP, "docs", f"{name}.md") for name in DOCUMENTS]:
+        checker.check_document(path)
+    print(f"{checker.passed} passed, {checker.failed} failed")
+    return 0 if checker.failed == 0 else 1
+
+
+if __name__ == "__main__":
+    sys.exit(main(sys.argv[1:]))
