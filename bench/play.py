@@ -1,4 +1,4 @@
-"""Times loads of some sizes over TCP and over links in memory: the program, and the plain Rust peer, in turn."""
+"""Times loads of some sizes over TCP: the program, and the plain Rust peer, in turn."""
 
 import shutil
 import statistics
@@ -25,30 +25,27 @@ def run(words):
     return time.perf_counter() - start, printed
 
 
-def main(program, piped, sources, rounds):
+def main(program, sources, rounds):
     with tempfile.TemporaryDirectory() as folder:
         peer = peer_of(folder, sources)
-        print("| Link | Size | Actions | Here: actions/s, best | median | µs an action, best | Peer: actions/s, best | median | Here / peer, best | median |")
-        print("|---|---|---|---|---|---|---|---|---|---|")
-        for link in ("tcp", "memory"):
-            for n in SIZES:
-                ours, theirs = [], []
-                here_words = [program, "load", str(n)] if link == "tcp" else [piped, str(n)]
-                peer_words = [peer, "load", str(n)] + (["--tcp"] if link == "tcp" else [])
-                for _ in range(rounds):
-                    here, said = run(here_words)
-                    there, wanted = run(peer_words)
-                    if said != wanted:
-                        sys.exit(f"load {n} over {link}: the summaries differ")
-                    ours.append(here)
-                    theirs.append(there)
-                _, actions = load(n)
-                best, middle = min(theirs) / min(ours), statistics.median(theirs) / statistics.median(ours)
-                print(
-                    f"| {link} | {n} | {actions} | {actions / min(ours):,.0f} | {actions / statistics.median(ours):,.0f} | {min(ours) * 1e6 / actions:.1f} "
-                    f"| {actions / min(theirs):,.0f} | {actions / statistics.median(theirs):,.0f} | {best:.2f} | {middle:.2f} |",
-                    flush=True,
-                )
+        print("| Size | Actions | Here: actions/s, best | median | µs an action, best | Peer: actions/s, best | median | Here / peer, best | median |")
+        print("|---|---|---|---|---|---|---|---|---|")
+        for n in SIZES:
+            ours, theirs = [], []
+            for _ in range(rounds):
+                here, said = run([program, "load", str(n)])
+                there, wanted = run([peer, "load", str(n), "--tcp"])
+                if said != wanted:
+                    sys.exit(f"load {n}: the summaries differ")
+                ours.append(here)
+                theirs.append(there)
+            _, actions = load(n)
+            best, middle = min(theirs) / min(ours), statistics.median(theirs) / statistics.median(ours)
+            print(
+                f"| {n} | {actions} | {actions / min(ours):,.0f} | {actions / statistics.median(ours):,.0f} | {min(ours) * 1e6 / actions:.1f} "
+                f"| {actions / min(theirs):,.0f} | {actions / statistics.median(theirs):,.0f} | {best:.2f} | {middle:.2f} |",
+                flush=True,
+            )
 
 
-main(sys.argv[1], sys.argv[2], sys.argv[3], int(sys.argv[4]))
+main(sys.argv[1], sys.argv[2], int(sys.argv[3]))
