@@ -1,8 +1,8 @@
 #!/bin/sh
-# Times the ticket lock beside the mutex of the toolchain's standard library and that of Rust's, on one small object, and
+# Times the lock beside the mutex of the toolchain's standard library and that of Rust's, on one small object, and
 # prints a table: nanoseconds a call, best and median. README.md says what is measured.
 #
-#   bench/lock.sh [ROUNDS [CALLS]]
+#   [BEFORE=PROGRAM] bench/lock.sh [ROUNDS [CALLS]]
 set -eu
 here=$(cd "$(dirname "$0")" && pwd)
 crate=$(dirname "$here")/crates/sv_lock_bench
@@ -18,6 +18,9 @@ for _ in $(seq "$rounds"); do
             timeout 60 "$crate/out/sv_lock_bench" "$kind" "$threads" "$calls" || echo "$kind $threads 1 0 60000000000"
         done
         timeout 60 "$work/rust" "$threads" "$calls"
+        if [ -n "${BEFORE:-}" ]; then
+            timeout 60 "$BEFORE" lock "$threads" "$calls" | sed 's/^lock/before/'
+        fi
     done
 done >"$work/figures"
 python3 - "$work/figures" <<'END'
@@ -28,9 +31,11 @@ figures = {}
 for line in open(sys.argv[1]):
     kind, threads, calls, _, nanos = line.split()
     figures.setdefault((kind, int(threads)), []).append(int(nanos) / int(calls))
-print("| Threads | Ticket lock | Mutex here | Mutex of Rust |")
-print("|---|---|---|---|")
+columns = {"lock": "The lock", "mutex": "Mutex here", "rust": "Mutex of Rust", "before": "The lock before"}
+kinds = [kind for kind in columns if (kind, 1) in figures]
+print("| Threads | " + " | ".join(columns[kind] for kind in kinds) + " |")
+print("|---|" + "---|" * len(kinds))
 for threads in (1, 2, 4, 8, 64):
-    cells = [figures[kind, threads] for kind in ("lock", "mutex", "rust")]
+    cells = [figures[kind, threads] for kind in kinds]
     print(f"| {threads} | " + " | ".join(f"{min(cell):,.0f} ({statistics.median(cell):,.0f})" for cell in cells) + " |")
 END

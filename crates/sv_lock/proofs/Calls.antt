@@ -7,7 +7,7 @@ use Rattle.atomic_table.specs.Table.{Me}
 use Rattle.sv_lock.specs.declared.view.View.{View}
 use Rattle.sv_lock.specs.declared.view.Stage.TheVariants.{Idle, Holds}
 use Rattle.sv_lock.specs.Histories.{entries_of, GoesOn}
-use Rattle.sv_lock.specs.Line.{staged, renewed, Took, Follows, MayReturn, Ran}
+use Rattle.sv_lock.specs.Holding.{staged, renewed, Took, Follows, MayReturn, Ran}
 use Rattle.sv_lock.specs.Rest.{the, ended_in}
 use Rattle.sv_lock.proofs.Histories.{one_more_entry}
 use Rattle.sv_lock.proofs.Keeps.{held_or}
@@ -20,22 +20,22 @@ module _ {S B E : Type 0} (base_of : S → B) (history_of : S → List E) (numbe
   M = Me S (View B E)
 
   -- the object in hand is the one that was taken
-  same_object : (t : ℕ) (m m1 : M) (k : Took base_of history_of number_of t m m1) (x : S) → m1.1 ≡ (0, x) ∷ [] → k.object ≡ x
-  same_object t m m1 k x hand = ap (held_or k.object) (ap (λ (q : M). q.1) (sym k.seat) ∙ hand)
+  same_object : (m m1 : M) (k : Took base_of history_of number_of m m1) (x : S) → m1.1 ≡ (0, x) ∷ [] → k.object ≡ x
+  same_object m m1 k x hand = ap (held_or k.object) (ap (λ (q : M). q.1) (sym k.seat) ∙ hand)
 
   -- in it, the number has what its pass has
-  same_list : (t n : ℕ) (mine : List E) (m m1 : M) (k : Took base_of history_of number_of t m m1) → m.0.lists ≡ (n, mine) ∷ [] → entries_of number_of n (history_of k.object) ≡ mine
-  same_list t n mine m m1 k own =
+  same_list : (n : ℕ) (mine : List E) (m m1 : M) (k : Took base_of history_of number_of m m1) → m.0.lists ≡ (n, mine) ∷ [] → entries_of number_of n (history_of k.object) ≡ mine
+  same_list n mine m m1 k own =
       let P : ℕ × List E → Type 0 = λ x. entries_of number_of x.0 (history_of k.object) ≡ x.1 in
       All-head P (n, mine) [] (subst (All P) own k.just)
 
   -- so the step may be made where the pass may make it
-  pub held : (can : B → List E → Type 0) (t n : ℕ) (mine : List E) (b : B) (m m1 : M) → Took base_of history_of number_of t m m1 → m.1 ≡ [] → m.0.base ≡ Some b → m.0.lists ≡ (n, mine) ∷ [] → can b mine
+  pub held : (can : B → List E → Type 0) (n : ℕ) (mine : List E) (b : B) (m m1 : M) → Took base_of history_of number_of m m1 → m.1 ≡ [] → m.0.base ≡ Some b → m.0.lists ≡ (n, mine) ∷ [] → can b mine
       → (x : S) × (m1.1 ≡ (0, x) ∷ []) × can (base_of x) (entries_of number_of n (history_of x))
-  held can t n mine b m m1 k empty based own h = (
+  held can n mine b m m1 k empty based own h = (
     k.object,
     ap (λ (q : M). q.1) k.seat ∙ ap (λ (l : List (ℕ × S)). (0, k.object) ∷ l) empty,
-    subst (λ (q : B × List E). can q.0 q.1) (λ i. (some_same m.0.base b (base_of k.object) based k.base i, sym (same_list t n mine m m1 k own) i)) h,
+    subst (λ (q : B × List E). can q.0 q.1) (λ i. (some_same m.0.base b (base_of k.object) based k.base i, sym (same_list n mine m m1 k own) i)) h,
   )
 
 module _ {S B E R X : Type 0} (base_of : S → B) (history_of : S → List E) (lawful : B → List E → Type 0) (number_of : E → ℕ) (entry : R → E) (whole : R → List E → Type 0) (result : Result R X) where
@@ -51,12 +51,11 @@ module _ {S B E R X : Type 0} (base_of : S → B) (history_of : S → List E) (l
   follows n of_number a b (Ok r) ok err = inr (entry r, ok, of_number r)
   follows n of_number a b (Err e) ok err = inl err
 
-  pub may_return : (t n : ℕ) (mine : List E) (m m1 m2 : Mine) → ((r : R) → number_of (entry r) ≡ n) → Took base_of history_of number_of t m m1 → m.0.lists ≡ (n, mine) ∷ [] → Stepped m1 m2
+  pub may_return : (n : ℕ) (mine : List E) (m m1 m2 : Mine) → ((r : R) → number_of (entry r) ≡ n) → Took base_of history_of number_of m m1 → m.0.lists ≡ (n, mine) ∷ [] → Stepped m1 m2
       → MayReturn base_of history_of lawful number_of m2
-  may_return t n mine m m1 m2 of_number k own f =
-      let same = same_object base_of history_of number_of t m m1 k f.0 f.2 in
-      let back : m2.0 ≡ staged m.0 (Holds t) (history_of k.object) m.0.lists = ap (λ (q : Mine). q.0) f.3 ∙ ap (λ (q : Mine). q.0) k.seat in record {
-        turn = t;
+  may_return n mine m m1 m2 of_number k own f =
+      let same = same_object base_of history_of number_of m m1 k f.0 f.2 in
+      let back : m2.0 ≡ staged m.0 Holds (history_of k.object) m.0.lists = ap (λ (q : Mine). q.0) f.3 ∙ ap (λ (q : Mine). q.0) k.seat in record {
         number = n;
         mine = mine;
         object = f.1;
@@ -78,15 +77,15 @@ module _ {S B E R X : Type 0} (base_of : S → B) (history_of : S → List E) (l
   has_now n mine a b of_number had (Ok r) ok err = ap (entries_of number_of n) ok ∙ (one_more_entry number_of n a (entry r) (of_number r) ∙ ap (λ l. l ++ entry r ∷ []) had)
   has_now n mine a b of_number had (Err e) ok err = ap (entries_of number_of n) err ∙ had
 
-  pub ran : (t n : ℕ) (mine : List E) (m m1 m2 m3 : Mine) → ((r : R) → number_of (entry r) ≡ n) → Took base_of history_of number_of t m m1 → m.0.lists ≡ (n, mine) ∷ [] → Stepped m1 m2
+  pub ran : (n : ℕ) (mine : List E) (m m1 m2 m3 : Mine) → ((r : R) → number_of (entry r) ≡ n) → Took base_of history_of number_of m m1 → m.0.lists ≡ (n, mine) ∷ [] → Stepped m1 m2
       → ((y : S) → m2.1 ≡ (0, y) ∷ [] → m3 ≡ (staged m2.0 Idle (history_of y) (renewed number_of (history_of y) m2.0.lists), []))
       → Ran lawful number_of n mine entry whole m m3 result
-  ran t n mine m m1 m2 m3 of_number k own f back =
+  ran n mine m m1 m2 m3 of_number k own f back =
       let h : List E = history_of f.1 in
-      let same = same_object base_of history_of number_of t m m1 k f.0 f.2 in
+      let same = same_object base_of history_of number_of m m1 k f.0 f.2 in
       let begins : IsPrefix m.0.seen (history_of f.0) = subst (λ (x : S). IsPrefix m.0.seen (history_of x)) same k.seen in
-      let had : entries_of number_of n (history_of f.0) ≡ mine = subst (λ (x : S). entries_of number_of n (history_of x) ≡ mine) same (same_list base_of history_of number_of t n mine m m1 k own) in
-      let now : m2.0 ≡ staged m.0 (Holds t) (history_of k.object) m.0.lists = ap (λ (q : Mine). q.0) f.3 ∙ ap (λ (q : Mine). q.0) k.seat in record {
+      let had : entries_of number_of n (history_of f.0) ≡ mine = subst (λ (x : S). entries_of number_of n (history_of x) ≡ mine) same (same_list base_of history_of number_of n mine m m1 k own) in
+      let now : m2.0 ≡ staged m.0 Holds (history_of k.object) m.0.lists = ap (λ (q : Mine). q.0) f.3 ∙ ap (λ (q : Mine). q.0) k.seat in record {
         log = h;
         seat = back f.1 (ap (λ (q : Mine). q.1) f.3) ∙ ap (λ (v : View B E). (staged v Idle h (renewed number_of h v.lists), [])) now;
         legal = λ b is. subst (λ (c : B). lawful c h) (f.4 ∙ (ap base_of (sym same) ∙ some_same m.0.base (base_of k.object) b k.base is)) f.5;

@@ -1,5 +1,5 @@
 pub mod Histories
-pub mod Lines
+pub mod Seats
 pub mod Keeps
 pub mod Calls
 pub mod Ended

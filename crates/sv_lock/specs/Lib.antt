@@ -1,4 +1,4 @@
 pub mod Histories
-pub mod Line
+pub mod Holding
 pub mod Passes
 pub mod Rest

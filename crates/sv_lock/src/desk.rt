@@ -1,125 +1,146 @@
-//! The table with its line of callers: the steps of one seat, each on its own.
-ghost use Rattle.std.specs.Prelude.{◌≡◌, ℕ, ◌+◌, ◌%◌, ◌^◌, ◌<◌, ◌==◌, List, [], ◌∷◌, ◌++◌, map, Contains, Option, Some, None, IfOk, IfErr, OnErr, IsOk, IsSome, MatchBool, MatchResult, true, length};
+//! The table of the lock: the steps of one seat, each on its own.
+ghost use Rattle.std.specs.Prelude.{◌≡◌, ℕ, ◌<◌, ◌==◌, List, [], ◌∷◌, ◌++◌, map, Contains, Option, Some, None, IfOk, IfErr, OnErr, IsOk, IsSome, MatchBool, MatchResult, true, length};
 ghost use mathlib.Core.List.{IsPrefix};
-ghost use Rattle.sv_lock.specs.declared.view.Stage.TheVariants.{Idle, Waits, Holds};
+ghost use Rattle.sv_lock.specs.declared.view.Stage.TheVariants.{Idle, Holds};
 ghost use Rattle.sv_lock.specs.Histories.{entries_of, AreJust, AreBelow, GoesOn};
-ghost use Rattle.sv_lock.specs.Line.{staged, renewed, one_more, next_pass, taken_in, first_keeper, Took, MayReturn, Ran, Learned, Closes};
+ghost use Rattle.sv_lock.specs.Holding.{staged, renewed, one_more, next_pass, taken_in, first_keeper, Took, MayReturn, Ran, Learned, Closes};
 ghost use Rattle.sv_lock.specs.Rest.{first_list};
 
-use crate::beds::Beds;
 use crate::object::Object;
-use crate::plays::{Cut, Draw, Glue, Learn, Line, Look, Place, Return};
+use crate::plays::{Cut, Glue, Learn, LockTable, Place, Return, Take};
 use atomic_table::{Refused, Table};
 use std::alloc::{AllocError, Global};
 use std::hint;
 use std::snapshot::Snapshot;
 use std::sync::Wait;
 
-// How often a thread looks before it lies down to sleep.
+// The word of the table says whether the object is taken, and whether somebody may sleep until it is given back.
+const FREE: u64 = 0;
+
+const HELD: u64 = 1;
+
+const AWAITED: u64 = 2;
+
+// How often a thread looks before it sleeps.
 const LOOKS: u32 = 100;
 
-// Who is further back in the line sleeps at once.
-const NEAR: u64 = 4;
-
+/// Who is about to sleep makes the word `AWAITED`, and sleeps only while it is that. Who gives the object back makes it `FREE`,
+/// and wakes one sleeper where it was `AWAITED`. So no wake is lost:
+///
+/// - As long as somebody sleeps, the word is `AWAITED`, or one who was woken, or is being woken, has yet to make it so again.
+///   For only a giving back takes the word away from `AWAITED`, and it wakes one.
+/// - Who was woken makes the word `AWAITED` before anything else, whether it then takes the object or sleeps again. So the
+///   giving back that comes next wakes one more, and no sleeper is left behind.
+///
+/// Others may take the object and give it back before one who was woken looks. Then that one sleeps again, or finds it free.
 #[derive(Drop)]
 pub struct Desk<O: Object> {
-    pub table: Line<O>,
-    beds: Beds,
-    pub ghost sized: { (table.shared.table_id.words ≡ 2) × (table.shared.table_id.slots ≡ 1) },
+    pub table: LockTable<O>,
+    pub ghost sized: { (table.shared.table_id.words ≡ 1) × (table.shared.table_id.slots ≡ 1) },
 }
 
 impl<O: Object> Desk<O> {
-    fn draw(&self, seat: &mut Place<O>) -> u64
+    // Takes the object if it is free, and says whether it did.
+    fn try_take(&self, seat: &mut Place<O>) -> bool
         requires table { seat.old.table_id ≡ self.now.table.shared.table_id }
         requires idle { seat.old.me.0.stage ≡ Idle }
         requires number { (x : ℕ × List O.Entry) × (seat.old.me.0.lists ≡ x ∷ []) }
-        ensures table { seat.new.table_id ≡ seat.old.table_id }
-        ensures drew { (t : ℕ) × (t % 2 ^ 64 ≡ result) × (seat.new.me ≡ (staged seat.old.me.0 (Waits t) seat.old.me.0.seen seat.old.me.0.lists, seat.old.me.1)) }
-    {
-        self.table.shared.fetch_add::<Draw>(seat, 0, 1)
-    }
-
-    // The ticket that is served. If it is the seat's, the seat has taken the object.
-    fn look(&self, seat: &mut Place<O>, ticket: u64) -> u64
-        requires table { seat.old.table_id ≡ self.now.table.shared.table_id }
-        requires waits { (t : ℕ) × (t % 2 ^ 64 ≡ ticket) × (seat.old.me.0.stage ≡ Waits t) }
         requires based { (b : O.Base) × (seat.old.me.0.base ≡ Some b) }
         ensures table { seat.new.table_id ≡ seat.old.table_id }
-        ensures looked { MatchBool (result == ticket) ((t : ℕ) × Took O.base O.history O.number_of t seat.old.me seat.new.me) (seat.new.me ≡ seat.old.me) }
+        ensures took { MatchBool result (Took O.base O.history O.number_of seat.old.me seat.new.me) (seat.new.me ≡ seat.old.me) }
     {
-        self.table.shared.load::<Look>(seat, 1)
+        self.table
+            .shared
+            .compare_exchange::<Take>(seat, 0, FREE, HELD)
+            == FREE
     }
 
-    // Looks for a short while, if the turn is near, and says whether it took the object.
-    fn spin(&self, seat: &mut Place<O>, ticket: u64) -> bool
+    // The same, and says to whoever has it that somebody may sleep.
+    fn take_or_ask(&self, seat: &mut Place<O>) -> bool
         requires table { seat.old.table_id ≡ self.now.table.shared.table_id }
-        requires waits { (t : ℕ) × (t % 2 ^ 64 ≡ ticket) × (seat.old.me.0.stage ≡ Waits t) }
+        requires idle { seat.old.me.0.stage ≡ Idle }
+        requires number { (x : ℕ × List O.Entry) × (seat.old.me.0.lists ≡ x ∷ []) }
         requires based { (b : O.Base) × (seat.old.me.0.base ≡ Some b) }
         ensures table { seat.new.table_id ≡ seat.old.table_id }
-        ensures looked { MatchBool result ((t : ℕ) × Took O.base O.history O.number_of t seat.old.me seat.new.me) (seat.new.me ≡ seat.old.me) }
+        ensures took { MatchBool result (Took O.base O.history O.number_of seat.old.me seat.new.me) (seat.new.me ≡ seat.old.me) }
+    {
+        self.table.shared.swap::<Take>(seat, 0, AWAITED) == FREE
+    }
+
+    // Looks for a short while, unless others sleep already, and says whether it took the object.
+    fn spin(&self, seat: &mut Place<O>) -> bool
+        requires table { seat.old.table_id ≡ self.now.table.shared.table_id }
+        requires idle { seat.old.me.0.stage ≡ Idle }
+        requires number { (x : ℕ × List O.Entry) × (seat.old.me.0.lists ≡ x ∷ []) }
+        requires based { (b : O.Base) × (seat.old.me.0.base ≡ Some b) }
+        ensures table { seat.new.table_id ≡ seat.old.table_id }
+        ensures took { MatchBool result (Took O.base O.history O.number_of seat.old.me seat.new.me) (seat.new.me ≡ seat.old.me) }
     {
         for _ in 0..LOOKS {
-            let served = self.look(seat, ticket);
-            if served == ticket {
-                return true;
-            }
-            if ticket.wrapping_sub(served) > NEAR {
+            let word = self.table.shared.peek(0);
+            if word == AWAITED {
                 return false;
+            }
+            if word == FREE && self.try_take(seat) {
+                return true;
             }
             hint::spin_loop();
         }
         false
     }
 
-    // Sleeps until the ticket is served, so that many threads on few processors leave these to the one that is.
-    fn sleep<R: Wait>(&self, rt: &R, seat: &mut Place<O>, ticket: u64)
+    // Sleeps until it finds the object free, so that many threads on few processors leave these to the one that has it.
+    fn sleep<R: Wait>(&self, rt: &R, seat: &mut Place<O>)
         requires table { seat.old.table_id ≡ self.now.table.shared.table_id }
-        requires waits { (t : ℕ) × (t % 2 ^ 64 ≡ ticket) × (seat.old.me.0.stage ≡ Waits t) }
+        requires idle { seat.old.me.0.stage ≡ Idle }
+        requires number { (x : ℕ × List O.Entry) × (seat.old.me.0.lists ≡ x ∷ []) }
         requires based { (b : O.Base) × (seat.old.me.0.base ≡ Some b) }
         ensures table { seat.new.table_id ≡ seat.old.table_id }
-        ensures took { (t : ℕ) × Took O.base O.history O.number_of t seat.old.me seat.new.me }
+        ensures took { Took O.base O.history O.number_of seat.old.me seat.new.me }
     {
         for _ in rt.forever() {
-            self.beds.lie_down(ticket);
-            if self.look(seat, ticket) == ticket {
+            if self.take_or_ask(seat) {
                 return;
             }
-            self.beds.sleep(rt, ticket);
+            self.table.shared.park(rt, 0, AWAITED as u32);
         }
         unreachable!()
     }
 
-    fn wait<R: Wait>(&self, rt: &R, seat: &mut Place<O>, ticket: u64)
+    /// Has the object in hand, once no other seat has it.
+    pub fn take<R: Wait>(&self, rt: &R, seat: &mut Place<O>)
         requires table { seat.old.table_id ≡ self.now.table.shared.table_id }
-        requires waits { (t : ℕ) × (t % 2 ^ 64 ≡ ticket) × (seat.old.me.0.stage ≡ Waits t) }
+        requires idle { seat.old.me.0.stage ≡ Idle }
+        requires number { (x : ℕ × List O.Entry) × (seat.old.me.0.lists ≡ x ∷ []) }
         requires based { (b : O.Base) × (seat.old.me.0.base ≡ Some b) }
         ensures table { seat.new.table_id ≡ seat.old.table_id }
-        ensures took { (t : ℕ) × Took O.base O.history O.number_of t seat.old.me seat.new.me }
+        ensures took { Took O.base O.history O.number_of seat.old.me seat.new.me }
     {
-        if !self.spin(seat, ticket) {
-            self.sleep(rt, seat, ticket);
+        if !self.try_take(seat) && !self.spin(seat) {
+            self.sleep(rt, seat);
         }
     }
 
-    // Gives the object back, and answers which ticket was served.
-    fn serve_next(&self, seat: &mut Place<O>) -> u64
+    // Gives the object back, and answers what the word was.
+    fn release(&self, seat: &mut Place<O>) -> u64
         requires table { seat.old.table_id ≡ self.now.table.shared.table_id }
         requires may { MayReturn O.base O.history O.lawful O.number_of seat.old.me }
         ensures table { seat.new.table_id ≡ seat.old.table_id }
         ensures returned { (y : O) → seat.old.me.1 ≡ (0, y) ∷ [] → seat.new.me ≡ (staged seat.old.me.0 Idle (O.history y) (renewed O.number_of (O.history y) seat.old.me.0.lists), []) }
     {
-        self.table.shared.fetch_add::<Return>(seat, 1, 1)
+        self.table.shared.swap::<Return>(seat, 0, FREE)
     }
 
-    /// Gives the object back, and serves the next ticket.
+    /// Gives the object back, and wakes one who sleeps, if anyone does.
     pub fn give_back(&self, seat: &mut Place<O>)
         requires table { seat.old.table_id ≡ self.now.table.shared.table_id }
         requires may { MayReturn O.base O.history O.lawful O.number_of seat.old.me }
         ensures table { seat.new.table_id ≡ seat.old.table_id }
         ensures returned { (y : O) → seat.old.me.1 ≡ (0, y) ∷ [] → seat.new.me ≡ (staged seat.old.me.0 Idle (O.history y) (renewed O.number_of (O.history y) seat.old.me.0.lists), []) }
     {
-        let served = self.serve_next(seat);
-        self.beds.wake(served.wrapping_add(1));
+        if self.release(seat) == AWAITED {
+            self.table.shared.wake_one(0);
+        }
     }
 
     /// One step of the object in hand.
@@ -140,19 +161,6 @@ impl<O: Object> Desk<O> {
         let reply = object.step(number, request);
         object.certify();
         reply
-    }
-
-    /// Waits for its turn, and has the object in hand then.
-    pub fn take<R: Wait>(&self, rt: &R, seat: &mut Place<O>)
-        requires table { seat.old.table_id ≡ self.now.table.shared.table_id }
-        requires idle { seat.old.me.0.stage ≡ Idle }
-        requires number { (x : ℕ × List O.Entry) × (seat.old.me.0.lists ≡ x ∷ []) }
-        requires based { (b : O.Base) × (seat.old.me.0.base ≡ Some b) }
-        ensures table { seat.new.table_id ≡ seat.old.table_id }
-        ensures took { (t : ℕ) × Took O.base O.history O.number_of t seat.old.me seat.new.me }
-    {
-        let ticket = self.draw(seat);
-        self.wait(rt, seat, ticket);
     }
 
     /// One call by the seat of a session's pass.
@@ -181,7 +189,6 @@ impl<O: Object> Desk<O> {
     pub fn cut(&self, keeper: &mut Place<O>) -> Place<O>
         requires table { keeper.old.table_id ≡ self.now.table.shared.table_id }
         requires keeper { (keeper.old.me.0.stage ≡ Idle) × (keeper.old.me.0.keeps ≡ true) }
-        requires room { keeper.old.me.0.made < 64 }
         ensures keeper { (keeper.new.table_id ≡ keeper.old.table_id) × (keeper.new.me ≡ (one_more keeper.old.me.0, keeper.old.me.1)) }
         ensures pass { (result.table_id ≡ keeper.old.table_id) × (result.me ≡ (next_pass keeper.old.me.0, [])) }
     {
@@ -219,11 +226,8 @@ impl<O: Object> Desk<O> {
         object.certify();
         let opening = Snapshot::of(&object);
         let slots = one_slot(alloc, object)?;
-        match Table::new(alloc, [0, 0].as_slice(), slots, &opening) {
-            Ok((table, seat)) => {
-                let beds = Beds::new();
-                Ok((Desk { table, beds }, seat))
-            }
+        match Table::new(alloc, [FREE].as_slice(), slots, &opening) {
+            Ok((table, seat)) => Ok((Desk { table }, seat)),
             Err(Refused { slots }) => Err(only(slots)),
         }
     }
@@ -236,7 +240,7 @@ impl<O: Object> Desk<O> {
         requires all { (n : ℕ) → n < keeper.me.0.made → Contains (map (λ x. x.0) keeper.me.0.lists) n }
         ensures { Closes O.base O.history O.lawful O.number_of keeper.me.0 result }
     {
-        let Desk { table, beds: _ } = self;
+        let Desk { table } = self;
         let mut closed = table.close_with(keeper);
         let object = closed.take(0);
         closed.free();

@@ -1,10 +1,9 @@
-//! A ticket lock round an object whose steps have one history, whatever threads call them.
+//! A lock round an object whose steps have one history, whatever threads call them.
 //!
-//! An object is taken in turn. Each caller has a pass, in which a proof sees how much of the history
+//! A thread that runs takes the object as soon as it is free. Each caller has a pass, in which a proof sees how much of the history
 //! the caller has seen, and which entries in it are its own.
 #![tactic(auto)]
 
-mod beds;
 mod desk;
 mod lock;
 mod object;

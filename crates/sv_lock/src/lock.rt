@@ -10,7 +10,7 @@ use std::alloc::{AllocError, Global};
 use std::marker::Model;
 use std::sync::Wait;
 
-/// A lock round an object, which any number of threads share by reference. Its callers are served in the order of their tickets.
+/// A lock round an object, which any number of threads share by reference. Whoever runs when it is free takes it: it keeps no order among its callers.
 ///
 /// It may be let go where its object may, whatever became of its passes. `close` gives the object back instead.
 ///
@@ -76,7 +76,7 @@ impl<O: Object> SeqLock<O> {
         }
     }
 
-    /// Calls the object in turn, once no one else has it.
+    /// Calls the object, once no one else has it.
     pub fn call<R: Wait>(
         &self,
         rt: &R,

@@ -5,11 +5,11 @@ use atomic_table::{Join, Play, Seat, Split, Table, TableRule};
 use std::alloc::Global;
 use std::snapshot::Snapshot;
 
-/// Word 0 is the ticket word and word 1 the serving word. The one slot has the object.
-pub struct OneLine;
+/// The one word is 0 exactly where the one slot has the object.
+pub struct OneHolder;
 
-impl<O: Object> TableRule<O, View<O::Base, O::Entry>, Snapshot<O>> for OneLine {
-    ghost use Rattle.sv_lock.specs.Line.{OneHistory, first_keeper};
+impl<O: Object> TableRule<O, View<O::Base, O::Entry>, Snapshot<O>> for OneHolder {
+    ghost use Rattle.sv_lock.specs.Holding.{OneHistory, first_keeper};
 
     ghost holds = { λ key. OneHistory O.base O.history O.lawful O.number_of (O.base key.value) };
 
@@ -18,49 +18,40 @@ impl<O: Object> TableRule<O, View<O::Base, O::Entry>, Snapshot<O>> for OneLine {
 
 pub type Place<O: Object> = Seat<O, View<O::Base, O::Entry>>;
 
-pub type Line<O: Object> = Table<O, View<O::Base, O::Entry>, Snapshot<O>, OneLine, Global>;
+pub type LockTable<O: Object> = Table<O, View<O::Base, O::Entry>, Snapshot<O>, OneHolder, Global>;
 
-/// Draws a ticket.
-pub struct Draw;
+/// Takes the object, if it is at home.
+pub struct Take;
 
-impl<O: Object> Play<O, View<O::Base, O::Entry>> for Draw {
-    ghost use Rattle.sv_lock.specs.Line.{drew};
+impl<O: Object> Play<O, View<O::Base, O::Entry>> for Take {
+    ghost use Rattle.sv_lock.specs.Holding.{tried};
 
-    ghost then = { drew };
+    ghost then = { λ _. tried O.base O.history O.number_of };
 }
 
-/// Looks who is served, and takes the object if it is the seat's turn.
-pub struct Look;
-
-impl<O: Object> Play<O, View<O::Base, O::Entry>> for Look {
-    ghost use Rattle.sv_lock.specs.Line.{looked};
-
-    ghost then = { looked O.base O.history O.number_of };
-}
-
-/// Brings the object home, and serves the next ticket.
+/// Brings the object home.
 pub struct Return;
 
 impl<O: Object> Play<O, View<O::Base, O::Entry>> for Return {
-    ghost use Rattle.sv_lock.specs.Line.{returned};
+    ghost use Rattle.sv_lock.specs.Holding.{returned};
 
-    ghost then = { returned O.history O.number_of };
+    ghost then = { λ _. returned O.history O.number_of };
 }
 
 /// Sees the whole history.
 pub struct Learn;
 
 impl<O: Object> Play<O, View<O::Base, O::Entry>> for Learn {
-    ghost use Rattle.sv_lock.specs.Line.{learned};
+    ghost use Rattle.sv_lock.specs.Holding.{learned};
 
-    ghost then = { learned O.lawful O.number_of };
+    ghost then = { λ _. learned O.lawful O.number_of };
 }
 
 /// Makes the pass of the next number.
 pub struct Cut;
 
 impl<B, E> Split<View<B, E>> for Cut {
-    ghost use Rattle.sv_lock.specs.Line.{one_more, next_pass};
+    ghost use Rattle.sv_lock.specs.Holding.{one_more, next_pass};
 
     ghost left = { one_more };
 
@@ -71,7 +62,7 @@ impl<B, E> Split<View<B, E>> for Cut {
 pub struct Glue;
 
 impl<B, E> Join<View<B, E>> for Glue {
-    ghost use Rattle.sv_lock.specs.Line.{taken_in, spent};
+    ghost use Rattle.sv_lock.specs.Holding.{taken_in, spent};
 
     ghost both = { taken_in };
 

@@ -1,11 +1,10 @@
 //! What a seat at the table knows. No value of these types is ever made.
 use std::collections::LinkedList;
 
-/// Where a seat stands in the line. Tickets count on and on, and the words of the table are their remainders.
+/// Whether a seat holds the object.
 pub enum Stage {
     Idle,
-    Waits(u64),
-    Holds(u64),
+    Holds,
 }
 
 pub struct View<B, E> {

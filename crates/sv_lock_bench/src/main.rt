@@ -1,4 +1,4 @@
-//! Times calls of the ticket lock by several threads, beside the standard library's mutex on the same object.
+//! Times calls of the lock by several threads, beside the standard library's mutex on the same object.
 #![tactic(auto)]
 
 mod counter;

@@ -5,4 +5,4 @@ use Rattle.sv_lock.proofs.desk.Desk.cut.Goals as goal
 pub split_seat-requires : goal.split_seat-requires
 split_seat-requires g c =
     let o = g.O.Object in let r = c.requires in
-    (search rules, search rules, splits o.base o.history o.lawful o.number_of _ _ _ r.keeper.0 r.keeper.1 r.room)
+    (search rules, search rules, splits o.base o.history o.lawful o.number_of _ _ _ r.keeper.0 r.keeper.1)

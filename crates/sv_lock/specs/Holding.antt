@@ -1,82 +1,68 @@
 -- The rule of the lock's table: one history, which the object at home or the seat that holds it has, and in which each number's entries stand with
 -- just one seat. And what each step tells.
--- Tickets are drawn from `next` on, and the ticket `turn` is served. `queue` is the seat of each ticket that is out, `owner` the seat that stands
--- for each number.
-use Rattle.std.specs.Prelude.{◌≡◌, ◌⊎◌, ℕ, ◌+◌, ◌%◌, ◌^◌, ◌<◌, ◌≤◌, ◌==◌, true, false, MatchBool, List, [], ◌∷◌, ◌++◌, map, length, All, Some, None, Result, MatchResult, IfOk}
+-- `holder` is the seat that holds the object, if one does, and `owner` the seat that stands for each number.
+use Rattle.std.specs.Prelude.{◌≡◌, ◌⊎◌, ℕ, ◌+◌, ◌<◌, ◌==◌, true, false, MatchBool, List, [], ◌∷◌, ◌++◌, map, All, Option, Some, None, Result, MatchResult, IfOk}
 use mathlib.Core.List.{IsPrefix}
 use mathlib.Core.Option.{some, none}
 use lib.ListN.{get_elem?}
-use Rattle.atomic_table.specs.Table.{State, Me, Step}
+use Rattle.atomic_table.specs.Table.{State, Me}
 use Rattle.sv_lock.specs.declared.view.View.{View}
 use Rattle.sv_lock.specs.declared.view.Stage.{Stage}
-use Rattle.sv_lock.specs.declared.view.Stage.TheVariants.{Idle, Waits, Holds}
+use Rattle.sv_lock.specs.declared.view.Stage.TheVariants.{Idle, Holds}
 use Rattle.sv_lock.specs.Histories.{entries_of, AreJust, AreBelow, GoesOn}
-
--- How many tickets of a seat are out, and of all seats.
-abbrev pub tickets : Stage → ℕ
-tickets Idle = 0
-tickets (Waits t) = 1
-tickets (Holds t) = 1
-
-abbrev pub out : {B E : Type 0} → List (View B E) → ℕ
-out [] = 0
-out (v ∷ vs) = tickets v.stage + out vs
 
 -- The seat stands for some number.
 abbrev pub IsBusy : ℕ → (ℕ → ℕ) → ℕ → Type 0
 IsBusy made owner j = (n : ℕ) × (n < made) × (owner n ≡ j)
 
--- What a seat in the line knows of its ticket.
-abbrev pub InLine : {E : Type 0} → List E → (next turn made : ℕ) → (queue owner : ℕ → ℕ) → ℕ → List E → Stage → Type 0
-InLine log next turn made queue owner j seen Idle = Unit {0}
-InLine log next turn made queue owner j seen (Waits t) = (turn ≤ t) × (t < next) × (queue t ≡ j) × IsBusy made owner j
-InLine log next turn made queue owner j seen (Holds t) = (t ≡ turn) × (t < next) × (queue t ≡ j) × IsBusy made owner j × (seen ≡ log)
+-- A seat that holds the object is the only one, stands for some number, and has seen the whole history.
+abbrev pub Hand : {E : Type 0} → List E → Option ℕ → ℕ → (ℕ → ℕ) → ℕ → List E → Stage → Type 0
+Hand log holder made owner j seen Idle = Unit {0}
+Hand log holder made owner j seen Holds = (holder ≡ Some j) × IsBusy made owner j × (seen ≡ log)
 
 -- The seat stands for this number, with all its entries.
 abbrev pub IsOwn : {E : Type 0} → (E → ℕ) → List E → ℕ → (ℕ → ℕ) → ℕ → ℕ × List E → Type 0
 IsOwn number_of log made owner j x = (owner x.0 ≡ j) × (x.0 < made) × (entries_of number_of x.0 log ≡ x.1)
 
 -- What is true of what the seat j knows.
-pub record Knows {B E : Type 0} (lawful : B → List E → Type 0) (number_of : E → ℕ) (base : B) (log : List E) (next turn keeper made : ℕ) (queue owner : ℕ → ℕ) (j : ℕ) (v : View B E) : Type 0 where
+pub record Knows {B E : Type 0} (lawful : B → List E → Type 0) (number_of : E → ℕ) (base : B) (log : List E) (holder : Option ℕ) (keeper made : ℕ) (owner : ℕ → ℕ) (j : ℕ) (v : View B E) : Type 0 where
   pub same : (b : B) → v.base ≡ Some b → b ≡ base
   pub seen : IsPrefix v.seen log
   pub told : IsPrefix v.told log
   pub legal : lawful base v.seen
-  pub line : InLine log next turn made queue owner j v.seen v.stage
+  pub hand : Hand log holder made owner j v.seen v.stage
   pub own : All (IsOwn number_of log made owner j) v.lists
   pub keeps : v.keeps ≡ true → (j ≡ keeper) × (v.made ≡ made)
 
--- The object is at home, with this base and history.
-abbrev pub IsHome : {S B E : Type 0} → (S → B) → (S → List E) → B → List E → List (mathlib.Core.Option.Option S) → Type 0
-IsHome {S} base_of history_of base log homes = (x : S) × (homes ≡ some x ∷ []) × (base_of x ≡ base) × (history_of x ≡ log)
+-- The lock is free: its word is 0, and the object is at home, with this base and history.
+abbrev pub IsFree : {S B E : Type 0} → (S → B) → (S → List E) → B → List E → State S (View B E) → Type 0
+IsFree {S} base_of history_of base log s = (s.words ≡ 0 ∷ []) × (x : S) × (s.homes ≡ some x ∷ []) × (base_of x ≡ base) × (history_of x ≡ log)
 
--- The object is out with the seat whose ticket is served.
-abbrev pub IsOut : {S B E : Type 0} → ℕ → List (mathlib.Core.Option.Option S) → List (View B E) → Type 0
-IsOut {S} {B} {E} turn homes views = (homes ≡ none ∷ []) × (j : ℕ) × (v : View B E) × (get_elem? views j ≡ some v) × (v.stage ≡ Holds turn)
+-- The lock is taken: its word is not 0, and the object is out with the seat j.
+abbrev pub IsTaken : {S B E : Type 0} → ℕ → State S (View B E) → Type 0
+IsTaken {S} {B} {E} j s = (word : ℕ) × (0 < word) × (s.words ≡ word ∷ []) × (s.homes ≡ none ∷ []) × (v : View B E) × (get_elem? s.views j ≡ some v) × (v.stage ≡ Holds)
+
+abbrev pub Stands : {S B E : Type 0} → (S → B) → (S → List E) → B → List E → Option ℕ → State S (View B E) → Type 0
+Stands base_of history_of base log None s = IsFree base_of history_of base log s
+Stands base_of history_of base log (Some j) s = IsTaken j s
 
 -- The rule, for an object of this base.
 pub record OneHistory {S B E : Type 0} (base_of : S → B) (history_of : S → List E) (lawful : B → List E → Type 0) (number_of : E → ℕ) (base : B) (s : State S (View B E)) : Type 0 where
   pub log : List E
-  pub next : ℕ
-  pub turn : ℕ
+  pub holder : Option ℕ
   pub keeper : ℕ
   pub made : ℕ
-  pub queue : ℕ → ℕ
   pub owner : ℕ → ℕ
-  pub words : s.words ≡ next % 2 ^ 64 ∷ turn % 2 ^ 64 ∷ []
-  pub count : out s.views + turn ≡ next
-  pub few : made ≤ 64
-  pub seats : length s.views ≡ made + 1
   pub start : lawful base []
   pub legal : lawful base log
   pub below : AreBelow number_of made log
-  pub each_seat : (j : ℕ) (v : View B E) → get_elem? s.views j ≡ some v → Knows lawful number_of base log next turn keeper made queue owner j v
-  pub slot : IsHome base_of history_of base log s.homes ⊎ IsOut turn s.homes s.views
+  pub each_seat : (j : ℕ) (v : View B E) → get_elem? s.views j ≡ some v → Knows lawful number_of base log holder keeper made owner j v
+  pub stands : Stands base_of history_of base log holder s
 
 -- ---- Views
 
 module _ {B E : Type 0} where
-  -- The view with another place in the line, and with more seen.
+  -- The view at another stage, and with more seen.
   abbrev pub staged : View B E → Stage → List E → List (ℕ × List E) → View B E
   staged v stage seen lists = record { base = v.base; stage = stage; seen = seen; told = v.told; lists = lists; keeps = v.keeps; made = v.made }
 
@@ -99,23 +85,17 @@ module _ {B E : Type 0} where
 
 -- ---- What the steps tell
 
-module _ {S B E : Type 0} where
-  -- A ticket was drawn.
-  abbrev pub drew : Step S → Me S (View B E) → ℕ → Me S (View B E) → Type 0
-  drew step m found m' = (t : ℕ) × (t % 2 ^ 64 ≡ found) × (m' ≡ (staged m.0 (Waits t) m.0.seen m.0.lists, m.1))
-
 -- The object was taken, and its history is now seen.
-pub record Took {S B E : Type 0} (base_of : S → B) (history_of : S → List E) (number_of : E → ℕ) (t : ℕ) (m m' : Me S (View B E)) : Type 0 where
+pub record Took {S B E : Type 0} (base_of : S → B) (history_of : S → List E) (number_of : E → ℕ) (m m' : Me S (View B E)) : Type 0 where
   pub object : S
-  pub seat : m' ≡ (staged m.0 (Holds t) (history_of object) m.0.lists, (0, object) ∷ m.1)
+  pub seat : m' ≡ (staged m.0 Holds (history_of object) m.0.lists, (0, object) ∷ m.1)
   pub base : m.0.base ≡ Some (base_of object)
   pub seen : IsPrefix m.0.seen (history_of object)
   pub just : AreJust number_of (history_of object) m.0.lists
 
--- Where the seat's ticket is served, the object was taken; else nothing changed.
-abbrev pub looked : {S B E : Type 0} → (S → B) → (S → List E) → (E → ℕ) → Step S → Me S (View B E) → ℕ → Me S (View B E) → Type 0
-looked base_of history_of number_of step m found m' =
-    (t : ℕ) → m.0.stage ≡ Waits t → MatchBool (found == t % 2 ^ 64) (Took base_of history_of number_of t m m') (m' ≡ m)
+-- Where the lock was found free, the object was taken; else nothing changed.
+abbrev pub tried : {S B E : Type 0} → (S → B) → (S → List E) → (E → ℕ) → Me S (View B E) → ℕ → Me S (View B E) → Type 0
+tried base_of history_of number_of m found m' = MatchBool (found == 0) (Took base_of history_of number_of m m') (m' ≡ m)
 
 -- After a step of this number the history is the same, or it has one entry more, of that number.
 abbrev pub Follows : {E : Type 0} → (E → ℕ) → ℕ → List E → List E → Type 0
@@ -123,11 +103,10 @@ Follows {E} number_of n seen h = (h ≡ seen) ⊎ ((e : E) × (h ≡ seen ++ e �
 
 -- A seat that stands for one number holds the object y after its step.
 pub record MayReturn {S B E : Type 0} (base_of : S → B) (history_of : S → List E) (lawful : B → List E → Type 0) (number_of : E → ℕ) (m : Me S (View B E)) : Type 0 where
-  pub turn : ℕ
   pub number : ℕ
   pub mine : List E
   pub object : S
-  pub holds : m.0.stage ≡ Holds turn
+  pub holds : m.0.stage ≡ Holds
   pub own : m.0.lists ≡ (number, mine) ∷ []
   pub based : m.0.base ≡ Some (base_of object)
   pub hand : m.1 ≡ (0, object) ∷ []
@@ -139,8 +118,8 @@ abbrev pub renewed : {E : Type 0} → (E → ℕ) → List E → List (ℕ × Li
 renewed number_of log lists = map (λ x. (x.0, entries_of number_of x.0 log)) lists
 
 -- The object in hand was given back, and its history is what is seen.
-abbrev pub returned : {S B E : Type 0} → (S → List E) → (E → ℕ) → Step S → Me S (View B E) → ℕ → Me S (View B E) → Type 0
-returned {S} history_of number_of step m found m' =
+abbrev pub returned : {S B E : Type 0} → (S → List E) → (E → ℕ) → Me S (View B E) → ℕ → Me S (View B E) → Type 0
+returned {S} history_of number_of m found m' =
     (y : S) → m.1 ≡ (0, y) ∷ [] → m' ≡ (staged m.0 Idle (history_of y) (renewed number_of (history_of y) m.0.lists), [])
 
 -- The whole history was seen. It begins with all that was seen and told.
@@ -153,8 +132,8 @@ pub record Learned {S B E : Type 0} (lawful : B → List E → Type 0) (number_o
   pub legal : (b : B) → m.0.base ≡ Some b → lawful b log
   pub below : m.0.keeps ≡ true → AreBelow number_of m.0.made log
 
-abbrev pub learned : {S B E : Type 0} → (B → List E → Type 0) → (E → ℕ) → Step S → Me S (View B E) → ℕ → Me S (View B E) → Type 0
-learned lawful number_of step m found m' = Learned lawful number_of m m'
+abbrev pub learned : {S B E : Type 0} → (B → List E → Type 0) → (E → ℕ) → Me S (View B E) → ℕ → Me S (View B E) → Type 0
+learned lawful number_of m found m' = Learned lawful number_of m m'
 
 -- A call was carried through, or memory ran out. The seat has seen the whole history as it was then, and in it its number n has just what it
 -- had, and after a reply the reply's entry. `mine` is what the number had before.
