@@ -5,6 +5,8 @@ mod book;
 mod doors;
 mod hall;
 mod pipe_door;
+mod tcp_door;
 
 pub use doors::{Door, Made};
 pub use pipe_door::PipeDoor;
+pub use tcp_door::TcpDoor;
