@@ -1,6 +1,12 @@
 //! Doors: how a server and its clients, as two programs, come by the ends of their connections.
 #![tactic(auto)]
 
+mod book;
 mod doors;
+mod hall;
+mod pipe_door;
+mod tcp_door;
 
 pub use doors::{Door, Made};
+pub use pipe_door::PipeDoor;
+pub use tcp_door::TcpDoor;

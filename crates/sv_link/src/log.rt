@@ -9,7 +9,7 @@ use std::alloc::Global;
 
 /// The bytes that an end's own calls moved, and how these calls went.
 #[derive(Drop)]
-pub(crate) struct EndLog {
+pub struct EndLog {
     pub(crate) sent: Vec<u8>,
     pub(crate) received: Vec<u8>,
     pub(crate) ended: bool,
@@ -21,7 +21,7 @@ pub(crate) struct EndLog {
 
 impl EndLog {
     /// A new end's: no call was made.
-    pub(crate) fn new(alloc: Global, pair: u64, side: Side) -> EndLog
+    pub fn new(alloc: Global, pair: u64, side: Side) -> EndLog
         ensures told { told_of result ≡ new_end pair side }
         ensures faults { result.faults ≡ 0 }
     {

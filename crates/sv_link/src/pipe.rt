@@ -109,15 +109,16 @@ impl Lane {
     }
 }
 
-/// Both ways.
+/// A connection in memory, which the two ends share.
 #[derive(Drop)]
-pub(crate) struct Pipe {
+pub struct Pipe {
     to_server: Lane,
     to_client: Lane,
 }
 
 impl Pipe {
-    pub(crate) fn new(alloc: Global) -> Pipe {
+    /// Nothing was written, and both sides are open.
+    pub fn new(alloc: Global) -> Pipe {
         Pipe {
             to_server: Lane::new(alloc),
             to_client: Lane::new(alloc),

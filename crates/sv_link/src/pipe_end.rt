@@ -8,9 +8,9 @@ use std::alloc::Global;
 use std::sync::{Arc, Wait};
 use sv_bytes::Plan;
 
-/// An end of a connection that a [`PipeNet`](crate::PipeNet) made.
+/// An end of a connection in memory.
 ///
-/// Its reads and writes are counted together, from 1, and those in the net's list fail. A write towards an other side that is closed is
+/// Its reads and writes are counted together, from 1, and those in its list fail. A write towards an other side that is closed is
 /// taken, and goes nowhere.
 pub struct PipeEnd<'r, R: Wait> {
     rt: &'r R,
@@ -20,7 +20,8 @@ pub struct PipeEnd<'r, R: Wait> {
 }
 
 impl<'r, R: Wait> PipeEnd<'r, R> {
-    pub(crate) fn new(rt: &'r R, pipe: Arc<Pipe, Global>, plan: Plan, log: EndLog) -> PipeEnd<'r, R>
+    /// The end of the log's side.
+    pub fn new(rt: &'r R, pipe: Arc<Pipe, Global>, plan: Plan, log: EndLog) -> PipeEnd<'r, R>
         ensures log { result.log ≡ log }
         ensures plan { result.plan ≡ plan }
     {
@@ -33,7 +34,7 @@ impl<'r, R: Wait> PipeEnd<'r, R> {
     }
 
     /// Closes the end, and gives what it tells.
-    pub(crate) fn into_log(self) -> EndLog
+    pub fn into_log(self) -> EndLog
         ensures { result ≡ self.entry.log }
     {
         let PipeEnd {

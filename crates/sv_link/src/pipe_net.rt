@@ -114,10 +114,10 @@ impl<'r, R: Wait + Sync> Net for PipeNet<'r, R> {
         let Ok(shared) = Arc::try_clone(&pipe) else {
             return Pair::Memory;
         };
-        let Ok(server_plan) = copied(self.alloc, &self.server) else {
+        let Ok(server_plan) = copied_plan(self.alloc, &self.server) else {
             return Pair::Memory;
         };
-        let Ok(client_plan) = copied(self.alloc, &self.client) else {
+        let Ok(client_plan) = copied_plan(self.alloc, &self.client) else {
             return Pair::Memory;
         };
         if !self.book.takes_room() {
@@ -139,8 +139,8 @@ impl<'r, R: Wait + Sync> Net for PipeNet<'r, R> {
     }
 }
 
-// A plan that fails at the same calls, for another object.
-fn copied(alloc: Global, plan: &Plan) -> Result<Plan, AllocError>
+/// A plan that fails at the same calls, for another object.
+pub fn copied_plan(alloc: Global, plan: &Plan) -> Result<Plan, AllocError>
     ensures { IfOk result (λ copy. copy.failing.items ≡ plan.now.failing.items) }
 {
     Ok(Plan {

@@ -9,13 +9,30 @@ use crate::nets::{Net, Pair, Settle};
 use std::alloc::Global;
 use std::io;
 use std::io::{ErrorKind, Read, Write};
-use std::net::{Net as Sockets, Shutdown, TcpListener, TcpStream};
+use std::net::{Net as Sockets, Shutdown, SocketAddr, TcpListener, TcpStream};
 
-/// An end of a TCP connection that a [`TcpNet`] made.
+/// An end of a TCP connection.
 #[derive(Drop)]
 pub struct TcpEnd {
     stream: TcpStream,
     log: EndLog,
+}
+
+impl TcpEnd {
+    /// The end that a stream is.
+    pub fn new(stream: TcpStream, log: EndLog) -> TcpEnd
+        ensures { result.log ≡ log }
+    {
+        TcpEnd { stream, log }
+    }
+
+    /// Closes the end, and gives what it tells.
+    pub fn into_log(self) -> EndLog
+        ensures { result ≡ self.log }
+    {
+        let TcpEnd { stream: _, log } = self;
+        log
+    }
 }
 
 impl End for TcpEnd {
@@ -123,14 +140,8 @@ impl<'r, R: Sockets<Listener = TcpListener, Stream = TcpStream>> Net for TcpNet<
         match self.connect() {
             Ok((at_server, at_client)) => {
                 let (server, client) = self.book.open(self.alloc);
-                let server = TcpEnd {
-                    stream: at_server,
-                    log: server,
-                };
-                let client = TcpEnd {
-                    stream: at_client,
-                    log: client,
-                };
+                let server = TcpEnd::new(at_server, server);
+                let client = TcpEnd::new(at_client, client);
                 Pair::Made(server, client)
             }
             Err(error) if error.kind() == ErrorKind::OutOfMemory => Pair::Memory,
@@ -142,15 +153,8 @@ impl<'r, R: Sockets<Listener = TcpListener, Stream = TcpStream>> Net for TcpNet<
     }
 
     fn settle(&mut self, server: TcpEnd, client: TcpEnd, cut: bool) -> Settle {
-        let TcpEnd {
-            stream: _,
-            log: server,
-        } = server;
-        let TcpEnd {
-            stream: _,
-            log: client,
-        } = client;
-        self.book.settle(server, client, cut, false)
+        self.book
+            .settle(server.into_log(), client.into_log(), cut, false)
     }
 }
 
@@ -159,7 +163,7 @@ fn connected<R: Sockets<Listener = TcpListener, Stream = TcpStream>>(
     rt: &R,
     listener: &TcpListener,
 ) -> io::Result<(TcpStream, TcpStream)> {
-    let client = connect_again(rt, listener)?;
+    let client = connect_again(rt, listener.local_addr()?)?;
     let server = accept_again(listener)?;
     let is_pair = server.peer_addr()? == client.local_addr()?
         && client.peer_addr()? == server.local_addr()?;
@@ -174,11 +178,11 @@ fn connected<R: Sockets<Listener = TcpListener, Stream = TcpStream>>(
 // How often a call is made anew that a signal broke off.
 const TRIES: u32 = 1000;
 
-fn connect_again<R: Sockets<Listener = TcpListener, Stream = TcpStream>>(
+/// Connects to an address, anew where a signal broke the call off.
+pub fn connect_again<R: Sockets<Listener = TcpListener, Stream = TcpStream>>(
     rt: &R,
-    listener: &TcpListener,
+    address: SocketAddr,
 ) -> io::Result<TcpStream> {
-    let address = listener.local_addr()?;
     for _ in 1..TRIES {
         match TcpStream::connect(rt, address) {
             Err(error) if error.kind() == ErrorKind::Interrupted => {}
@@ -188,7 +192,8 @@ fn connect_again<R: Sockets<Listener = TcpListener, Stream = TcpStream>>(
     TcpStream::connect(rt, address)
 }
 
-fn accept_again(listener: &TcpListener) -> io::Result<TcpStream> {
+/// Accepts a connection, anew where a signal broke the call off.
+pub fn accept_again(listener: &TcpListener) -> io::Result<TcpStream> {
     for _ in 1..TRIES {
         match listener.accept() {
             Ok((stream, _)) => return Ok(stream),

@@ -1,0 +1,44 @@
+-- Doors in memory: their lists of calls that fail.
+use Rattle.std.specs.Prelude.{◌≡◌, ℕ, List, []}
+use Rattle.sv_door.specs.declared.book.Book.{Book}
+use Rattle.sv_door.specs.declared.pipe_door.PipeDoor.{PipeDoor}
+
+-- the numbers of the calls that fail, of the door and of each end; and how many bytes a call of an end moves at most
+pub record Plans : Type 0 where
+  pub calls : List ℕ
+  pub ends : List ℕ
+  pub step : ℕ
+
+-- nothing fails
+pub record HasNoPlan (plans : Plans) : Type 0 where
+  pub calls : plans.calls ≡ []
+  pub ends : plans.ends ≡ []
+
+module _ {R : Type 0} where
+  abbrev pub plans_of : PipeDoor R → Plans
+  plans_of door =
+      record {
+        calls = door.calls.failing.items;
+        ends = door.ends.failing.items;
+        step = door.ends.step;
+      }
+
+  -- the door's ends: those that were given back, how many were made, how many are owed, and the count of faults
+  abbrev pub book_of : PipeDoor R → Book
+  book_of door = door.book
+
+  abbrev pub port_of : PipeDoor R → ℕ
+  port_of door = door.port
+
+  -- the door is at this port, and nothing fails there
+  pub record IsSureOf (door : PipeDoor R) (port : ℕ) : Type 0 where
+    pub here : port_of door ≡ port
+    pub plans : HasNoPlan (plans_of door)
+
+  -- no end was made, and nothing fails at this port
+  pub record IsNewDoor (port : ℕ) (door : PipeDoor R) : Type 0 where
+    pub given : door.book.given.items ≡ []
+    pub made : door.book.made ≡ 0
+    pub owed : door.book.owed ≡ 0
+    pub faultless : door.book.faults.value ≡ 0
+    pub sure : IsSureOf door port

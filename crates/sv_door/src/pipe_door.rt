@@ -1,0 +1,164 @@
+//! A door in memory, for threads.
+ghost use Rattle.std.specs.Prelude.{◌≡◌, ◌+◌, ◌<◌, [], ◌∷◌, ◌++◌, IfOk, IfSome, IsTrue, OnOk, OnErr, true, false, if◌then◌else◌};
+ghost use Rattle.sv_link.specs.Rooms.{HasRoom};
+
+use crate::book::Book;
+use crate::doors::{Door, Made};
+use crate::hall::Hall;
+use std::alloc::{AllocError, Global};
+use std::sync::{Arc, Wait};
+use sv_bytes::Plan;
+use sv_link::{Pipe, PipeEnd, Side, copied_plan};
+
+/// Connections in memory at one port, between threads that have a door each: [`another`](PipeDoor::another) makes the next thread's.
+/// Of all these doors, the n-th `connect` meets the n-th `accept`, whichever comes first. A client does not wait for its server to
+/// connect, but it waits for ever to read where no server accepts it.
+///
+/// Each door has lists of calls that fail. Its own calls of `accept` and `connect` are counted together, from 1; so are the reads and
+/// writes of each of its ends, for itself.
+#[derive(Drop)]
+pub struct PipeDoor<'r, R: Wait> {
+    alloc: Global,
+    rt: &'r R,
+    hall: Arc<Hall, Global>,
+    port: u16,
+    book: Book,
+    calls: Plan,
+    ends: Plan,
+}
+
+impl<'r, R: Wait> PipeDoor<'r, R> {
+    ghost use Rattle.std.specs.Vec.{vec_len};
+    ghost use Rattle.sv_door.specs.Pipes.{IsNewDoor, IsSureOf, book_of, plans_of, port_of};
+
+    /// The first door of its port. No end was made, and no call fails.
+    pub fn new(alloc: Global, rt: &'r R, port: u16) -> Result<PipeDoor<'r, R>, AllocError>
+        ensures { IfOk result (IsNewDoor port) }
+    {
+        let hall = Arc::new(alloc, Hall::new(alloc))?;
+        Ok(PipeDoor::at(alloc, rt, hall, port))
+    }
+
+    /// Another door at the same place, for another thread. It has made no end, and none of its calls fails.
+    pub fn another(&self) -> Result<PipeDoor<'r, R>, AllocError>
+        ensures { IfOk result (IsNewDoor (port_of self.now)) }
+    {
+        let hall = Arc::try_clone(&self.hall)?;
+        Ok(PipeDoor::at(self.alloc, self.rt, hall, self.port))
+    }
+
+    fn at(alloc: Global, rt: &'r R, hall: Arc<Hall, Global>, port: u16) -> PipeDoor<'r, R>
+        ensures { IsNewDoor port result }
+    {
+        PipeDoor {
+            alloc,
+            rt,
+            hall,
+            port,
+            book: Book::new(alloc),
+            calls: Plan::new(alloc),
+            ends: Plan::new(alloc),
+        }
+    }
+
+    /// Lets this call of `accept` or `connect` fail.
+    pub fn fail_at(&mut self, call: u64) -> Result<(), AllocError>
+        ensures ok { OnOk result (plans_of self.new ≡ record (plans_of self.old) { calls = (plans_of self.old).calls ++ call ∷ [] }) }
+        ensures err { OnErr result (plans_of self.new ≡ plans_of self.old) }
+        ensures same { (book_of self.new ≡ book_of self.old) × (port_of self.new ≡ port_of self.old) }
+    {
+        self.calls.fail_at(call)
+    }
+
+    /// Lets this call of each end fail that is made from now on.
+    pub fn fail_end_at(&mut self, call: u64) -> Result<(), AllocError>
+        ensures ok { OnOk result (plans_of self.new ≡ record (plans_of self.old) { ends = (plans_of self.old).ends ++ call ∷ [] }) }
+        ensures err { OnErr result (plans_of self.new ≡ plans_of self.old) }
+        ensures same { (book_of self.new ≡ book_of self.old) × (port_of self.new ≡ port_of self.old) }
+    {
+        self.ends.fail_at(call)
+    }
+
+    /// Lets each call of ends that are made from now on move at most `step` bytes.
+    pub fn move_at_most(&mut self, step: usize)
+        requires { 0 < step }
+        ensures plans { plans_of self.new ≡ record (plans_of self.old) { step = step } }
+        ensures same { (book_of self.new ≡ book_of self.old) × (port_of self.new ≡ port_of self.old) }
+    {
+        self.ends.step = step;
+    }
+
+    // Counts the call, and answers whether it fails.
+    fn refuses(&mut self, port: u16) -> bool
+        ensures sure { IsSureOf self.old port → result ≡ false }
+        ensures same { (book_of self.new ≡ book_of self.old) × (port_of self.new ≡ port_of self.old) × (plans_of self.new ≡ plans_of self.old) }
+    {
+        let is_listed = self.calls.next_fails();
+        is_listed || port != self.port
+    }
+
+    // Takes the room for an end, and gives the plan of its calls. None where there is no memory.
+    fn prepares(&mut self) -> Option<Plan>
+        ensures plan { IfSome result (λ plan. plan.failing.items ≡ (plans_of self.old).ends) }
+        ensures room { IfSome result (λ plan. HasRoom self.new.book.given self.new.book.owed self.new.book.made) }
+        ensures book { (self.new.book.given.items ≡ self.old.book.given.items) × (self.new.book.made ≡ self.old.book.made) × (self.new.book.owed ≡ self.old.book.owed) × (self.new.book.faults ≡ self.old.book.faults) }
+        ensures same { (port_of self.new ≡ port_of self.old) × (plans_of self.new ≡ plans_of self.old) }
+    {
+        let plan = copied_plan(self.alloc, &self.ends).ok()?;
+        self.book.takes_room().then_some(plan)
+    }
+}
+
+impl<'r, R: Wait + Sync> Door for PipeDoor<'r, R> {
+    ghost use Rattle.sv_door.specs.Pipes.{IsSureOf};
+
+    type E = PipeEnd<'r, R>;
+
+    ghost given = { λ d. d.book.given.items };
+
+    ghost made = { λ d. d.book.made };
+
+    ghost owed = { λ d. d.book.owed };
+
+    ghost faults = { λ d. d.book.faults.value };
+
+    ghost sure = { IsSureOf };
+
+    fn accept(&mut self, port: u16) -> Made<PipeEnd<'r, R>> {
+        if self.refuses(port) {
+            self.book.count_fault();
+            return Made::Failed;
+        }
+        let Some(plan) = self.prepares() else {
+            return Made::Memory;
+        };
+        let pipe = self.hall.take(self.rt);
+        let log = self.book.open(self.alloc, Side::Server);
+        Made::End(PipeEnd::new(self.rt, pipe, plan, log))
+    }
+
+    fn connect(&mut self, port: u16) -> Made<PipeEnd<'r, R>> {
+        if self.refuses(port) {
+            self.book.count_fault();
+            return Made::Failed;
+        }
+        let Some(plan) = self.prepares() else {
+            return Made::Memory;
+        };
+        let Ok(pipe) = Arc::new(self.alloc, Pipe::new(self.alloc)) else {
+            return Made::Memory;
+        };
+        let Ok(shared) = Arc::try_clone(&pipe) else {
+            return Made::Memory;
+        };
+        if self.hall.put(self.rt, shared).is_err() {
+            return Made::Memory;
+        }
+        let log = self.book.open(self.alloc, Side::Client);
+        Made::End(PipeEnd::new(self.rt, pipe, plan, log))
+    }
+
+    fn give_back(&mut self, end: PipeEnd<'r, R>) {
+        self.book.take_back(end.into_log());
+    }
+}

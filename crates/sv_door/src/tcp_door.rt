@@ -1,0 +1,155 @@
+//! A door over TCP on this machine.
+ghost use Rattle.std.specs.Prelude.{◌≡◌, ◌+◌, ◌<◌, []};
+ghost use Rattle.sv_link.specs.Rooms.{HasRoom};
+ghost use Rattle.sv_door.specs.Doors.{MakesEnd, OwesEnd, MadeCause};
+
+use crate::book::Book;
+use crate::doors::{Door, Made};
+use std::alloc::Global;
+use std::io::{ErrorKind, Write};
+use std::net::{Ipv4Addr, Net as Sockets, SocketAddr, TcpListener, TcpStream};
+use std::rt::Clock;
+use std::time::Duration;
+use std::{io, thread};
+use sv_link::{Side, TcpEnd, accept_again, connect_again};
+
+/// Connections over TCP on this machine's loopback.
+///
+/// It listens from its first `accept` on, at that call's port, and fails to accept at any other. A `connect` tries for ten seconds where
+/// nobody listens yet, so server and client may be started in either order.
+#[derive(Drop)]
+pub struct TcpDoor<'r, R: Sockets<Listener = TcpListener, Stream = TcpStream> + Clock> {
+    alloc: Global,
+    rt: &'r R,
+    bound: Option<Bound>,
+    book: Book,
+}
+
+#[derive(Drop)]
+struct Bound {
+    port: u16,
+    listener: TcpListener,
+}
+
+impl<'r, R: Sockets<Listener = TcpListener, Stream = TcpStream> + Clock> TcpDoor<'r, R> {
+    ghost use Rattle.sv_door.specs.Tcp.{IsNewDoor, told_by, faults_of};
+
+    /// No end was made, and no port is bound.
+    pub fn new(alloc: Global, rt: &'r R) -> TcpDoor<'r, R>
+        ensures { IsNewDoor result }
+    {
+        TcpDoor {
+            alloc,
+            rt,
+            bound: None,
+            book: Book::new(alloc),
+        }
+    }
+
+    fn accepted(&mut self, port: u16) -> io::Result<TcpStream>
+        ensures { self.new.book ≡ self.old.book }
+    {
+        if self.bound.is_none() {
+            let listener = TcpListener::bind(self.rt, (Ipv4Addr::LOCALHOST, port))?;
+            self.bound = Some(Bound { port, listener });
+        }
+        match &self.bound {
+            Some(bound) if bound.port == port => {
+                let stream = accept_again(&bound.listener)?;
+                stream.set_nodelay(true)?;
+                Ok(stream)
+            }
+            _ => Err(io::Error::from(ErrorKind::AddrNotAvailable)),
+        }
+    }
+
+    // The end that a new stream is, or why there is none.
+    fn entered(&mut self, stream: io::Result<TcpStream>, side: Side) -> Made<TcpEnd>
+        requires room { HasRoom self.old.book.given self.old.book.owed self.old.book.made }
+        ensures made { MakesEnd told_by faults_of side self.old.book.made self.new.book.made result }
+        ensures owed { OwesEnd self.old.book.owed self.new.book.owed result }
+        ensures given { self.new.book.given.items ≡ self.old.book.given.items }
+        ensures cause { MadeCause self.old.book.faults.value self.new.book.faults.value result }
+    {
+        match stream {
+            Ok(stream) => {
+                let log = self.book.open(self.alloc, side);
+                Made::End(TcpEnd::new(stream, log))
+            }
+            Err(error) if error.kind() == ErrorKind::OutOfMemory => Made::Memory,
+            Err(_) => {
+                self.book.count_fault();
+                Made::Failed
+            }
+        }
+    }
+}
+
+impl<'r, R: Sockets<Listener = TcpListener, Stream = TcpStream> + Clock> Door for TcpDoor<'r, R> {
+    type E = TcpEnd;
+
+    ghost given = { λ d. d.book.given.items };
+
+    ghost made = { λ d. d.book.made };
+
+    ghost owed = { λ d. d.book.owed };
+
+    ghost faults = { λ d. d.book.faults.value };
+
+    ghost sure = { λ _ _. ⊥ };
+
+    fn accept(&mut self, port: u16) -> Made<TcpEnd> {
+        if !self.book.takes_room() {
+            return Made::Memory;
+        }
+        let stream = self.accepted(port);
+        self.entered(stream, Side::Server)
+    }
+
+    fn connect(&mut self, port: u16) -> Made<TcpEnd> {
+        if !self.book.takes_room() {
+            return Made::Memory;
+        }
+        let stream = connected(self.rt, port);
+        self.entered(stream, Side::Client)
+    }
+
+    fn give_back(&mut self, end: TcpEnd) {
+        self.book.take_back(end.into_log());
+    }
+}
+
+// How often `connect` tries, and how long it waits between two tries: ten seconds in all.
+const TRIES: u32 = 501;
+
+const PAUSE_MILLIS: u64 = 20;
+
+fn connected<R: Sockets<Listener = TcpListener, Stream = TcpStream> + Clock>(
+    rt: &R,
+    port: u16,
+) -> io::Result<TcpStream> {
+    for _ in 1..TRIES {
+        match connected_at_once(rt, port) {
+            Err(error) if error.kind() == ErrorKind::ConnectionRefused => {
+                thread::sleep(rt, Duration::from_millis(PAUSE_MILLIS))
+            },
+            answer => return answer,
+        }
+    }
+    connected_at_once(rt, port)
+}
+
+// Where nobody listens, the system may choose the very port as the stream's own, and connect it to itself. That is as good as refused. A
+// byte that is never read frees the port as the stream is closed. Else no server could bind it for a minute.
+fn connected_at_once<R: Sockets<Listener = TcpListener, Stream = TcpStream>>(
+    rt: &R,
+    port: u16,
+) -> io::Result<TcpStream> {
+    let mut stream = connect_again(rt, SocketAddr::from((Ipv4Addr::LOCALHOST, port)))?;
+    if stream.local_addr()? == stream.peer_addr()? {
+        let _ = stream.write(&[0]);
+        return Err(io::Error::from(ErrorKind::ConnectionRefused));
+    }
+    stream.set_nodelay(true)?;
+    Ok(stream)
+}

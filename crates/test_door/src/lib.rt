@@ -1,0 +1,9 @@
+//! Tests of doors.
+#![tactic(auto)]
+
+#[cfg(test)]
+mod pipes;
+#[cfg(test)]
+mod talk;
+#[cfg(test)]
+mod tcp;

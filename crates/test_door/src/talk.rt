@@ -1,0 +1,93 @@
+//! What a server and a client do at their doors: each makes an end, says a byte, hears one, and gives the end back.
+ghost use Rattle.std.specs.Prelude.{◌≡◌, false};
+
+use std::alloc::AllocError;
+use std::rt::Clock;
+use std::sync::Wait;
+use std::thread;
+use std::thread::Threads;
+use std::time::Duration;
+use sv_door::{Door, Made};
+use sv_link::{End, EndRead, EndWrote};
+
+/// The byte that comes, if one does.
+pub(crate) fn hears<E: End>(end: &mut E) -> Option<u8>
+    requires open { (E.told end.old).closed ≡ false }
+    ensures pair { (E.told end.new).pair ≡ (E.told end.old).pair }
+    ensures open { (E.told end.new).closed ≡ false }
+{
+    let mut into = [0];
+    match end.read(&mut into) {
+        EndRead::Got(_) => Some(into[0]),
+        EndRead::Ended => None,
+        EndRead::Failed => None,
+        EndRead::Memory => None,
+    }
+}
+
+/// Whether the byte was taken.
+pub(crate) fn says<E: End>(end: &mut E, byte: u8) -> bool
+    requires open { (E.told end.old).closed ≡ false }
+    ensures pair { (E.told end.new).pair ≡ (E.told end.old).pair }
+    ensures open { (E.told end.new).closed ≡ false }
+{
+    match end.write(&[byte]) {
+        EndWrote::Took(_) => true,
+        EndWrote::Failed => false,
+        EndWrote::Memory => false,
+    }
+}
+
+/// What a server hears that then says a byte.
+fn serves<D: Door>(door: &mut D, port: u16, byte: u8) -> Option<u8> {
+    let Made::End(mut end) = door.accept(port) else {
+        return None;
+    };
+    let heard = hears(&mut end);
+    let _ = says(&mut end, byte);
+    door.give_back(end);
+    heard
+}
+
+/// What a client hears that first says a byte.
+fn visits<D: Door>(door: &mut D, port: u16, byte: u8) -> Option<u8> {
+    let Made::End(mut end) = door.connect(port) else {
+        return None;
+    };
+    let _ = says(&mut end, byte);
+    let heard = hears(&mut end);
+    door.give_back(end);
+    heard
+}
+
+fn waits(rt: &impl Clock, millis: u64) {
+    thread::sleep(rt, Duration::from_millis(millis));
+}
+
+/// How long a server and a client wait before they come to their doors.
+#[derive(Clone, Copy)]
+pub(crate) struct Delays {
+    pub(crate) server: u64,
+    pub(crate) client: u64,
+}
+
+/// Two meetings of a server and a client, each on a thread of its own: what the server heard, and the client.
+pub(crate) fn meet_twice<R: Threads + Wait + Clock + Sync, D: Door + Send + Drop>(
+    rt: &R,
+    server: D,
+    client: D,
+    port: u16,
+    delays: Delays,
+) -> Result<([Option<u8>; 2], [Option<u8>; 2]), AllocError> {
+    thread::scope(thread::scope_env(), rt, move |scope| {
+        let serving = scope.spawn(move || {
+            let mut door = server;
+            waits(rt, delays.server);
+            [serves(&mut door, port, 11), serves(&mut door, port, 12)]
+        })?;
+        let mut door = client;
+        waits(rt, delays.client);
+        let at_client = [visits(&mut door, port, 1), visits(&mut door, port, 2)];
+        Ok((serving.join(rt), at_client))
+    })
+}
