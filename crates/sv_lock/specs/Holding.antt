@@ -42,6 +42,7 @@ IsFree {S} base_of history_of base log s = (s.words ≡ 0 ∷ []) × (x : S) × 
 abbrev pub IsTaken : {S B E : Type 0} → ℕ → State S (View B E) → Type 0
 IsTaken {S} {B} {E} j s = (word : ℕ) × (0 < word) × (s.words ≡ word ∷ []) × (s.homes ≡ none ∷ []) × (v : View B E) × (get_elem? s.views j ≡ some v) × (v.stage ≡ Holds)
 
+-- How the lock stands, by who holds the object.
 abbrev pub Stands : {S B E : Type 0} → (S → B) → (S → List E) → B → List E → Option ℕ → State S (View B E) → Type 0
 Stands base_of history_of base log None s = IsFree base_of history_of base log s
 Stands base_of history_of base log (Some j) s = IsTaken j s
@@ -101,7 +102,7 @@ tried base_of history_of number_of m found m' = MatchBool (found == 0) (Took bas
 abbrev pub Follows : {E : Type 0} → (E → ℕ) → ℕ → List E → List E → Type 0
 Follows {E} number_of n seen h = (h ≡ seen) ⊎ ((e : E) × (h ≡ seen ++ e ∷ []) × (number_of e ≡ n))
 
--- A seat that stands for one number holds the object y after its step.
+-- A seat that stands for one number holds the object after its step.
 pub record MayReturn {S B E : Type 0} (base_of : S → B) (history_of : S → List E) (lawful : B → List E → Type 0) (number_of : E → ℕ) (m : Me S (View B E)) : Type 0 where
   pub number : ℕ
   pub mine : List E

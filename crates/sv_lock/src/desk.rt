@@ -24,6 +24,8 @@ const AWAITED: u64 = 2;
 // How often a thread looks before it sleeps.
 const LOOKS: u32 = 100;
 
+/// The table of the lock, and how its callers wait.
+///
 /// Who is about to sleep makes the word `AWAITED`, and sleeps only while it is that. Who gives the object back makes it `FREE`,
 /// and wakes one sleeper where it was `AWAITED`. So no wake is lost:
 ///

@@ -1,7 +1,6 @@
 //! A lock round an object whose steps have one history, whatever threads call them.
 //!
-//! A thread that runs takes the object as soon as it is free. Each caller has a pass, in which a proof sees how much of the history
-//! the caller has seen, and which entries in it are its own.
+//! Each caller has a pass, in which a proof sees how much of the history the caller has seen, and which entries in it are its own.
 #![tactic(auto)]
 
 mod desk;

@@ -10,7 +10,8 @@ use std::alloc::{AllocError, Global};
 use std::marker::Model;
 use std::sync::Wait;
 
-/// A lock round an object, which any number of threads share by reference. Whoever runs when it is free takes it: it keeps no order among its callers.
+/// A lock round an object, which any number of threads share by reference. Whoever runs when the object is free takes it. So
+/// the lock keeps no order among its callers, and one of them may be passed by others any number of times.
 ///
 /// It may be let go where its object may, whatever became of its passes. `close` gives the object back instead.
 ///
