@@ -5,17 +5,16 @@
 #   [BEFORE=PROGRAM] bench/lock.sh [ROUNDS [CALLS]]
 set -eu
 here=$(cd "$(dirname "$0")" && pwd)
-crate=$(dirname "$here")/crates/sv_lock_bench
 rounds=${1:-5}
 calls=${2:-100000}
 work=$(mktemp -d)
 trap 'rm -rf "$work"' EXIT
-(cd "$crate" && nice -n 10 rt run >"$work/log" 2>&1)
+program=$("$here/build.sh" sv_lock_bench)
 rustc -C opt-level=3 -o "$work/rust" "$here/lock.rs"
 for _ in $(seq "$rounds"); do
     for threads in 1 2 4 8 64; do
         for kind in lock mutex; do
-            timeout 60 "$crate/out/sv_lock_bench" "$kind" "$threads" "$calls" || echo "$kind $threads 1 0 60000000000"
+            timeout 60 "$program" "$kind" "$threads" "$calls" || echo "$kind $threads 1 0 60000000000"
         done
         timeout 60 "$work/rust" "$threads" "$calls"
         if [ -n "${BEFORE:-}" ]; then

@@ -5,6 +5,5 @@
 #   bench/read.sh [ROUNDS]
 set -eu
 here=$(cd "$(dirname "$0")" && pwd)
-root=$(dirname "$here")
-(cd "$root/crates/sv_read_bench" && rt run >/dev/null 2>&1)
-exec python3 "$here/read.py" "$root/crates/sv_read_bench/out/sv_read_bench" "${1:-15}"
+program=$("$here/build.sh" sv_read_bench)
+exec python3 "$here/read.py" "$program" "${1:-15}"

@@ -5,18 +5,17 @@
 #   bench/take.sh [ROUNDS]
 set -eu
 here=$(cd "$(dirname "$0")" && pwd)
-crate=$(dirname "$here")/crates/sv_bench
 rounds=${1:-15}
 work=$(mktemp -d)
 trap 'rm -rf "$work"' EXIT
-(cd "$crate" && nice -n 10 rt run >"$work/log" 2>&1)
+program=$("$here/build.sh" sv_bench)
 rustc -C opt-level=3 -o "$work/rust" "$here/take.rs"
 for _ in $(seq "$rounds"); do
     for work_of in "1 20000" "33 1000"; do
         # shellcheck disable=SC2086
         "$work/rust" $work_of | sed "s/^take/rust ${work_of% *}/"
         # shellcheck disable=SC2086
-        "$crate/out/sv_bench" take $work_of | sed "s/^take/here ${work_of% *}/"
+        "$program" take $work_of | sed "s/^take/here ${work_of% *}/"
     done
 done >"$work/figures"
 python3 - "$work/figures" <<'END'

@@ -3,7 +3,7 @@
 
     python3 tests/outside/test_check_report.py [--long]
 
-The checker must accept the examples of crates/sv_examples and what simulate.py prints for random
+The checker must accept the reports of the folder examples/ and what simulate.py prints for random
 scenarios. It must refuse each report with anything changed in it, and what the servers and players
 of wrong_runs.py print, each of which breaks one rule. Its table of replies is compared with worked
 examples, and with that of the simulation on requests of careless clients. The driver play_many.sh
@@ -31,8 +31,8 @@ from scenario import NoScenario, Plan, Scenario, read_scenario, scenario_of
 from server import Server
 
 HERE = os.path.dirname(os.path.abspath(__file__))
-DATA = os.path.join(HERE, "..", "..", "crates", "sv_examples", "data")
-PRINTED = ("one_action", "empty_script", "conflict", "unknown_view", "sixteen_reads", "bound",
+DATA = os.path.join(HERE, "..", "..", "examples")
+PRINTED = ("first", "empty_script", "conflict", "trade", "unknown_view", "sixteen_reads", "bound",
            "reach", "retry", "orphan", "marketplace", "looks")
 REFUSED = ("written_object_not_read", "no_such_object", "seventeen_reads", "number_after_object",
            "origin_too_far")

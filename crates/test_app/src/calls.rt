@@ -8,7 +8,7 @@ use sv_bytes::{Files, MemFiles, MemSink};
 use sv_link::{Crew, Gate, Net, OpenGate, PipeNet, ThreadCrew};
 
 /// Room for the longest output.
-const ROOM: usize = 8_192;
+const ROOM: usize = 65_536;
 
 /// What a call of the program printed on its two outputs, and its status.
 #[derive(Drop)]

@@ -4,10 +4,14 @@
 #[cfg(test)]
 mod calls;
 #[cfg(test)]
+mod examples;
+#[cfg(test)]
 mod faults;
 #[cfg(test)]
 mod plays;
 #[cfg(test)]
 mod replays;
+#[cfg(test)]
+mod shown;
 #[cfg(test)]
 mod texts;
