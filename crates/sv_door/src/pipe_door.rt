@@ -1,5 +1,5 @@
 //! A door in memory, for threads.
-ghost use Rattle.std.specs.Prelude.{◌≡◌, ◌+◌, ◌<◌, [], ◌∷◌, ◌++◌, IfOk, IfSome, IsTrue, OnOk, OnErr, true, false, if◌then◌else◌};
+ghost use Rattle.std.specs.Prelude.{◌≡◌, ◌<◌, [], ◌∷◌, ◌++◌, IfOk, IfSome, OnOk, OnErr, false};
 ghost use Rattle.sv_link.specs.Rooms.{HasRoom};
 
 use crate::book::Book;
@@ -28,7 +28,6 @@ pub struct PipeDoor<'r, R: Wait> {
 }
 
 impl<'r, R: Wait> PipeDoor<'r, R> {
-    ghost use Rattle.std.specs.Vec.{vec_len};
     ghost use Rattle.sv_door.specs.Pipes.{IsNewDoor, IsSureOf, book_of, plans_of, port_of};
 
     /// The first door of its port. No end was made, and no call fails.

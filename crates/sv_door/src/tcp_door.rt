@@ -1,5 +1,5 @@
 //! A door over TCP on this machine.
-ghost use Rattle.std.specs.Prelude.{◌≡◌, ◌+◌, ◌<◌, []};
+ghost use Rattle.std.specs.Prelude.{◌≡◌};
 ghost use Rattle.sv_link.specs.Rooms.{HasRoom};
 ghost use Rattle.sv_door.specs.Doors.{MakesEnd, OwesEnd, MadeCause};
 
