@@ -12,6 +12,3 @@ mod serving;
 pub use opening::open_sequencer;
 pub use played::played_of;
 pub use schedule::run_schedule;
-
-#[cfg(test)]
-mod tests;

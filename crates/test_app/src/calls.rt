@@ -67,14 +67,36 @@ where
 }
 
 /// The same over a net and a crew by which nothing fails.
-pub fn called_well<R: Threads + Wait + Sync>(
+pub fn called_well<R: Threads + Wait + Sync, G: Gate + Sync>(
     rt: &R,
     alloc: Global,
     line: &str,
     text: &str,
+    gate: &G,
 ) -> Result<Printed, AllocError> {
     let mut files = held(alloc, text)?;
     let mut net = PipeNet::new(alloc, rt);
     let mut crew = ThreadCrew::new(alloc);
-    called(rt, alloc, line, &mut files, &mut net, &mut crew, &OpenGate)
+    called(rt, alloc, line, &mut files, &mut net, &mut crew, gate)
+}
+
+/// Whether such a call is answered so. (What is printed is let go by a call, not where a test's scope ends: that makes a long proof.)
+pub fn answers<R: Threads + Wait + Sync>(
+    rt: &R,
+    alloc: Global,
+    line: &str,
+    text: &str,
+    status: u8,
+    out: &[u8],
+    err: &[u8],
+) -> Result<bool, AllocError> {
+    let printed = called_well(rt, alloc, line, text, &OpenGate)?;
+    Ok(is_answer(printed, status, out, err))
+}
+
+/// Whether an answer, which is let go, is this status with just these outputs.
+pub fn is_answer(printed: Printed, status: u8, out: &[u8], err: &[u8]) -> bool {
+    let is_so = printed.is(status, out, err);
+    drop(printed);
+    is_so
 }

@@ -1,6 +1,6 @@
 //! Files, outputs, links and threads that fail.
 
-use crate::calls::{Printed, called, called_well, held, words};
+use crate::calls::{Printed, answers, called, held, is_answer, words};
 use crate::texts::*;
 use std::alloc::{AllocError, Global};
 use std::sync::Wait;
@@ -42,6 +42,25 @@ fn played<R: Threads + Wait + Sync>(
     )
 }
 
+/// Whether all is printed, or else the run ends with status 6 and nothing printed; None where neither is so.
+fn is_whole<R: Threads + Wait + Sync>(
+    rt: &R,
+    alloc: Global,
+    failing: Failing,
+    call: u64,
+) -> Result<Option<bool>, AllocError> {
+    let printed = played(rt, alloc, failing, call)?;
+    let found = if printed.is(0, FIRST_REPORT, b"") {
+        Some(true)
+    } else if printed.is(6, b"", b"link\n") {
+        Some(false)
+    } else {
+        None
+    };
+    drop(printed);
+    Ok(found)
+}
+
 /// Whether each of the first calls ends the run with status 6 and nothing printed if it fails, up to one that does not come, where all is
 /// printed. There are at least so many of them.
 fn faults_are_told<R: Threads + Wait + Sync>(
@@ -51,12 +70,10 @@ fn faults_are_told<R: Threads + Wait + Sync>(
     least: u64,
 ) -> Result<bool, AllocError> {
     for call in 1..60 {
-        let printed = played(rt, alloc, failing, call)?;
-        if printed.is(0, FIRST_REPORT, b"") {
-            return Ok(least < call);
-        }
-        if !printed.is(6, b"", b"link\n") {
-            return Ok(false);
+        match is_whole(rt, alloc, failing, call)? {
+            Some(true) => return Ok(least < call),
+            Some(false) => {}
+            None => return Ok(false),
         }
     }
     Ok(false)
@@ -95,18 +112,19 @@ fn refused<R: Threads + Wait + Sync>(
 #[test]
 fn refused_starts_are_told(rt: HostRuntime) -> Result<(), Fail> {
     for start in 0..2 {
-        assert!(rt; refused(&rt, rt.alloc(), start)?.is(7, b"", b"start\n"));
+        let printed = refused(&rt, rt.alloc(), start);
+        assert!(rt; is_answer(printed?, 7, b"", b"start\n"));
     }
     // There are two jobs.
-    assert!(rt; refused(&rt, rt.alloc(), 2)?.is(0, FIRST_REPORT, b""));
+    let printed = refused(&rt, rt.alloc(), 2);
+    assert!(rt; is_answer(printed?, 0, FIRST_REPORT, b""));
     Ok(())
 }
 
 #[test]
 fn unknown_files_are_told(rt: HostRuntime) -> Result<(), Fail> {
     for line in ["replay b", "play b", "play b --brief", "play b --watch"] {
-        let printed = called_well(&rt, rt.alloc(), line, FIRST)?;
-        assert!(rt; printed.is(4, b"", b"file: b\n"));
+        assert!(rt; answers(&rt, rt.alloc(), line, FIRST, 4, b"", b"file: b\n")?);
     }
     Ok(())
 }
@@ -128,7 +146,8 @@ fn cut_in_the_middle<R: Threads + Wait + Sync>(
 #[test]
 fn files_that_fail_in_the_middle_are_told(rt: HostRuntime) -> Result<(), Fail> {
     for line in ["replay a", "play a"] {
-        assert!(rt; cut_in_the_middle(&rt, rt.alloc(), line)?.is(4, b"", b"file: a\n"));
+        let printed = cut_in_the_middle(&rt, rt.alloc(), line);
+        assert!(rt; is_answer(printed?, 4, b"", b"file: a\n"));
     }
     Ok(())
 }
@@ -142,12 +161,12 @@ fn written_in_part<R: Threads + Wait + Sync>(
 ) -> Result<Printed, AllocError> {
     let words = words(alloc, line)?;
     let mut files = held(alloc, FIRST)?;
-    let mut net = PipeNet::new(alloc, rt);
-    let mut crew = ThreadCrew::new(alloc);
+    let mut err = MemSink::with_room(alloc, 4096)?;
     let mut out = MemSink::with_room(alloc, 4096)?;
     out.take_at_most(10);
     out.fail_at(call)?;
-    let mut err = MemSink::with_room(alloc, 4096)?;
+    let mut net = PipeNet::new(alloc, rt);
+    let mut crew = ThreadCrew::new(alloc);
     let status = run(
         rt, alloc, &words, &mut files, &mut net, &mut crew, &OpenGate, &mut out, &mut err,
     );
@@ -157,8 +176,10 @@ fn written_in_part<R: Threads + Wait + Sync>(
 #[test]
 fn failing_outputs_are_told(rt: HostRuntime) -> Result<(), Fail> {
     for line in ["replay a", "play a"] {
-        assert!(rt; written_in_part(&rt, rt.alloc(), line, 1)?.is(5, b"", b"out\n"));
-        assert!(rt; written_in_part(&rt, rt.alloc(), line, 2)?.is(5, b"journal 5\n", b"out\n"));
+        let printed = written_in_part(&rt, rt.alloc(), line, 1);
+        assert!(rt; is_answer(printed?, 5, b"", b"out\n"));
+        let printed = written_in_part(&rt, rt.alloc(), line, 2);
+        assert!(rt; is_answer(printed?, 5, b"journal 5\n", b"out\n"));
     }
     Ok(())
 }

@@ -1,13 +1,13 @@
 //! Plays and loads: threads over links in memory, and over loopback TCP.
 
-use crate::calls::{Printed, called, called_well, held};
+use crate::calls::{Printed, answers, called, called_well, held, is_answer};
 use crate::texts::*;
 use std::alloc::{AllocError, Global};
 use std::net::{Net as Sockets, TcpListener, TcpStream};
 use std::sync::Wait;
 use std::test::Fail;
 use std::thread::Threads;
-use sv_link::{HoldGate, OpenGate, PipeNet, TcpNet, ThreadCrew};
+use sv_link::{HoldGate, OpenGate, TcpNet, ThreadCrew};
 
 /// Words, the scenario, and what is printed.
 type Row<'a> = (&'a str, &'a str, &'a [u8]);
@@ -28,7 +28,12 @@ const ROWS: [Row<'static>; 11] = [
 ];
 
 /// The program's answer over loopback TCP.
-fn called_over_tcp<R>(rt: &R, alloc: Global, line: &str, text: &str) -> Result<Printed, AllocError>
+pub fn called_over_tcp<R>(
+    rt: &R,
+    alloc: Global,
+    line: &str,
+    text: &str,
+) -> Result<Printed, AllocError>
 where
     R: Threads + Wait + Sync + Sockets<Listener = TcpListener, Stream = TcpStream>,
 {
@@ -41,8 +46,7 @@ where
 #[test]
 fn plays_print_their_reports(rt: HostRuntime) -> Result<(), Fail> {
     for (line, text, out) in ROWS {
-        let printed = called_well(&rt, rt.alloc(), line, text)?;
-        assert!(rt; printed.is(0, out, b""));
+        assert!(rt; answers(&rt, rt.alloc(), line, text, 0, out, b"")?);
     }
     Ok(())
 }
@@ -50,8 +54,8 @@ fn plays_print_their_reports(rt: HostRuntime) -> Result<(), Fail> {
 #[test]
 fn plays_print_their_reports_over_sockets(rt: HostRuntime) -> Result<(), Fail> {
     for (line, text, out) in ROWS {
-        let printed = called_over_tcp(&rt, rt.alloc(), line, text)?;
-        assert!(rt; printed.is(0, out, b""));
+        let printed = called_over_tcp(&rt, rt.alloc(), line, text);
+        assert!(rt; is_answer(printed?, 0, out, b""));
     }
     Ok(())
 }
@@ -63,18 +67,24 @@ const WORLDS: [&[u8]; 3] = [
     b"\nworld 4\n0=(56)\n",
 ];
 
-fn ends_in_a_world(printed: &Printed) -> bool {
+fn is_in_a_world(printed: &Printed) -> bool {
     printed.status == 0
         && WORLDS
             .iter()
             .any(|world| printed.out.bytes().ends_with(world))
 }
 
+fn ends_in_a_world<R: Threads + Wait + Sync>(rt: &R, alloc: Global) -> Result<bool, AllocError> {
+    let printed = called_well(rt, alloc, "play a", CONFLICT, &OpenGate)?;
+    let is_so = is_in_a_world(&printed);
+    drop(printed);
+    Ok(is_so)
+}
+
 #[test]
 fn conflicts_end_in_a_serial_world(rt: HostRuntime) -> Result<(), Fail> {
     for _ in 0..20 {
-        let printed = called_well(&rt, rt.alloc(), "play a", CONFLICT)?;
-        assert!(rt; ends_in_a_world(&printed));
+        assert!(rt; ends_in_a_world(&rt, rt.alloc())?);
     }
     Ok(())
 }
@@ -86,29 +96,27 @@ const REJOINED: &[u8] =
 #[test]
 fn clients_cut_rejoin_and_quit(rt: HostRuntime) -> Result<(), Fail> {
     for _ in 0..20 {
-        let printed = called_well(&rt, rt.alloc(), "play a --brief", REJOINING)?;
-        assert!(rt; printed.is(0, REJOINED, b""));
+        assert!(rt;
+            answers(
+                &rt,
+                rt.alloc(),
+                "play a --brief",
+                REJOINING,
+                0,
+                REJOINED,
+                b""
+            )?
+        );
     }
     Ok(())
 }
 
 #[test]
 fn sessions_run_at_once(rt: HostRuntime) -> Result<(), Fail> {
-    let mut files = held(rt.alloc(), APART)?;
-    let mut net = PipeNet::new(rt.alloc(), &rt);
-    let mut crew = ThreadCrew::new(rt.alloc());
     let gate = HoldGate::new(0, 2, 1, 3);
-    let printed = called(
-        &rt,
-        rt.alloc(),
-        "play a --brief",
-        &mut files,
-        &mut net,
-        &mut crew,
-        &gate,
-    )?;
-    assert!(rt; printed.is(0, APART_BRIEF, b""));
-    assert!(rt; gate.met());
-    assert!(rt; !gate.gave_up());
+    let printed = called_well(&rt, rt.alloc(), "play a --brief", APART, &gate);
+    let has_met = gate.met() && !gate.gave_up();
+    assert!(rt; is_answer(printed?, 0, APART_BRIEF, b""));
+    assert!(rt; has_met);
     Ok(())
 }

@@ -1,14 +1,14 @@
 //! The scenarios of the folder examples/, replayed and played.
 
-use crate::calls::{Printed, called, called_well, held};
+use crate::calls::{Printed, answers, called_well};
 use crate::examples::*;
+use crate::plays::called_over_tcp;
 use std::alloc::{AllocError, Global};
-use std::net::{Net as Sockets, TcpListener, TcpStream};
 use std::str;
 use std::sync::Wait;
 use std::test::Fail;
 use std::thread::Threads;
-use sv_link::{OpenGate, TcpNet, ThreadCrew};
+use sv_link::OpenGate;
 
 /// Words, the scenario, the status, and the two outputs.
 type Row<'a> = (&'a str, &'a str, u8, &'a str, &'a str);
@@ -55,8 +55,17 @@ const ROWS: [Row<'static>; 23] = [
 #[test]
 fn examples_print_what_stands_beside_them(rt: HostRuntime) -> Result<(), Fail> {
     for (line, text, status, out, err) in ROWS {
-        let printed = called_well(&rt, rt.alloc(), line, text)?;
-        assert!(rt; printed.is(status, out.as_bytes(), err.as_bytes()));
+        assert!(rt;
+            answers(
+                &rt,
+                rt.alloc(),
+                line,
+                text,
+                status,
+                out.as_bytes(),
+                err.as_bytes()
+            )?
+        );
     }
     Ok(())
 }
@@ -64,11 +73,21 @@ fn examples_print_what_stands_beside_them(rt: HostRuntime) -> Result<(), Fail> {
 /// Scenarios whose clients come in any order: a run of them ends well.
 const MIXED: [&str; 6] = [CONFLICT, BOUND, REACH, RETRY, ORPHAN, LOOKS];
 
+fn ends_well<R: Threads + Wait + Sync>(
+    rt: &R,
+    alloc: Global,
+    text: &str,
+) -> Result<bool, AllocError> {
+    let printed = called_well(rt, alloc, "play a", text, &OpenGate)?;
+    let is_so = printed.status == 0 && printed.err.bytes().is_empty();
+    drop(printed);
+    Ok(is_so)
+}
+
 #[test]
 fn plays_in_any_order_end_well(rt: HostRuntime) -> Result<(), Fail> {
     for text in MIXED {
-        let printed = called_well(&rt, rt.alloc(), "play a", text)?;
-        assert!(rt; printed.status == 0 && printed.err.bytes().is_empty());
+        assert!(rt; ends_well(&rt, rt.alloc(), text)?);
     }
     Ok(())
 }
@@ -85,42 +104,29 @@ fn number_after(text: &str, begin: &str) -> u32 {
 
 /// Whether a summary of the marketplace has its counts and sums, whichever actions were dropped: each action has an outcome, and no gold is
 /// made or lost.
-fn is_market(printed: &Printed) -> bool {
-    let Ok(text) = str::from_utf8(printed.out.bytes()) else {
-        return false;
-    };
+fn is_market_text(text: &str) -> bool {
     let accepted = number_after(text, "accepted ");
     let dropped = number_after(text, "dropped ");
-    printed.status == 0
-        && printed.err.bytes().is_empty()
-        && text.starts_with("clients 8\nsessions 16\nobjects 64\nmade 96\naccepted ")
+    text.starts_with("clients 8\nsessions 16\nobjects 64\nmade 96\naccepted ")
         && text.ends_with("\ntotal 2: 3200\n")
         && accepted.saturating_add(dropped) == 96
 }
 
-/// The marketplace's summary of a play over loopback TCP.
-fn market_over_tcp<R>(rt: &R, alloc: Global) -> Result<Printed, AllocError>
-where
-    R: Threads + Wait + Sync + Sockets<Listener = TcpListener, Stream = TcpStream>,
-{
-    let mut files = held(alloc, MARKETPLACE)?;
-    let mut net = TcpNet::new(alloc, rt);
-    let mut crew = ThreadCrew::new(alloc);
-    called(
-        rt,
-        alloc,
-        "play a --brief",
-        &mut files,
-        &mut net,
-        &mut crew,
-        &OpenGate,
-    )
+/// Whether an answer, which is let go, is such a summary.
+fn is_market(printed: Printed) -> bool {
+    let is_so = match str::from_utf8(printed.out.bytes()) {
+        Ok(text) => printed.status == 0 && printed.err.bytes().is_empty() && is_market_text(text),
+        Err(_) => false,
+    };
+    drop(printed);
+    is_so
 }
 
 #[test]
 fn the_marketplace_makes_and_loses_nothing(rt: HostRuntime) -> Result<(), Fail> {
-    let printed = called_well(&rt, rt.alloc(), "play a --brief", MARKETPLACE)?;
-    assert!(rt; is_market(&printed));
-    assert!(rt; is_market(&market_over_tcp(&rt, rt.alloc())?));
+    let printed = called_well(&rt, rt.alloc(), "play a --brief", MARKETPLACE, &OpenGate);
+    assert!(rt; is_market(printed?));
+    let printed = called_over_tcp(&rt, rt.alloc(), "play a --brief", MARKETPLACE);
+    assert!(rt; is_market(printed?));
     Ok(())
 }

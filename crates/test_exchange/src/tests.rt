@@ -58,10 +58,10 @@ fn answer(rt: &impl Abort, exchange: &mut Exchange, reply: &Reply) -> Result<(),
 
 fn play(rt: &impl Abort, exchange: &mut Exchange, step: Step) -> Result<(), AllocError> {
     match step {
-        Step::Polls => ask(rt, exchange, &Request::Poll)?,
-        Step::Leaves => ask(rt, exchange, &Request::Leave)?,
-        Step::SendsIdle => answer(rt, exchange, &Reply::Idle)?,
-        Step::SendsBye => answer(rt, exchange, &Reply::Bye)?,
+        Step::Polls => return ask(rt, exchange, &Request::Poll),
+        Step::Leaves => return ask(rt, exchange, &Request::Leave),
+        Step::SendsIdle => return answer(rt, exchange, &Reply::Idle),
+        Step::SendsBye => return answer(rt, exchange, &Reply::Bye),
         Step::TakesRequest(kind) => {
             assert!(rt; request_kind(exchange.next_request()?) == kind);
         }
@@ -78,12 +78,18 @@ fn play(rt: &impl Abort, exchange: &mut Exchange, step: Step) -> Result<(), Allo
     Ok(())
 }
 
-fn play_all(rt: &impl Abort, alloc: Global, steps: &[Step]) -> Result<(), AllocError> {
-    let mut exchange = Exchange::new(alloc)?;
+fn play_each(rt: &impl Abort, exchange: &mut Exchange, steps: &[Step]) -> Result<(), AllocError> {
     for step in steps {
-        play(rt, &mut exchange, *step)?;
+        play(rt, exchange, *step)?;
     }
     Ok(())
+}
+
+fn play_all(rt: &impl Abort, alloc: Global, steps: &[Step]) -> Result<(), AllocError> {
+    let mut exchange = Exchange::new(alloc)?;
+    let played = play_each(rt, &mut exchange, steps);
+    drop(exchange);
+    played
 }
 
 /// Both sides send before either takes; a closed side's messages still come; and what is sent when all was read goes through a new link,
@@ -126,27 +132,45 @@ fn messages_wait_in_order(rt: HostRuntime) -> Result<(), Fail> {
     Ok(())
 }
 
-/// Takes a reply that is a great relay.
-fn takes_great(rt: &impl Abort, alloc: Global, exchange: &mut Exchange) -> Result<(), Fail> {
-    let taken = exchange.next_reply()?.ok_or("a relay waits")?;
-    let written = encode_reply(alloc, &taken)?;
-    assert!(rt; written.len() == 32_946);
-    assert!(rt; written.starts_with(&[0x89, 0, 0, 0, 1, 0, 0, 0, 0, 2, 16, 0, 0, 4, 0x7f, 0xff]));
-    Ok(())
+/// How a great relay's payload begins.
+const GREAT: [u8; 16] = [0x89, 0, 0, 0, 1, 0, 0, 0, 0, 2, 16, 0, 0, 4, 0x7f, 0xff];
+
+/// Whether the next reply is a great relay.
+fn takes_great(alloc: Global, exchange: &mut Exchange) -> Result<bool, AllocError> {
+    let Some(taken) = exchange.next_reply()? else {
+        return Ok(false);
+    };
+    let written = encode_reply(alloc, &taken);
+    drop(taken);
+    let written = written?;
+    Ok(written.len() == 32_946 && written.starts_with(&GREAT))
+}
+
+fn send_three(rt: &impl Abort, exchange: &mut Exchange, relay: &Reply) -> Result<(), AllocError>
+    requires { IsReply relay.now }
+{
+    answer(rt, exchange, relay)?;
+    answer(rt, exchange, relay)?;
+    answer(rt, exchange, relay)
+}
+
+/// Three great relays are sent, then taken, and no reply is left.
+fn carry_three(rt: &impl Abort, alloc: Global, exchange: &mut Exchange) -> Result<(), Fail> {
+    let relay = great_relay(alloc)?;
+    let sent = send_three(rt, exchange, &relay);
+    drop(relay);
+    sent?;
+    for _ in 0..3u8 {
+        assert!(rt; takes_great(alloc, exchange)?);
+    }
+    Ok(play(rt, exchange, Step::TakesReply(0))?)
 }
 
 /// Three of them are more bytes than a reader has room for.
 #[test]
 fn great_relays_wait(rt: HostRuntime) -> Result<(), Fail> {
-    let alloc = rt.alloc();
-    let mut exchange = Exchange::new(alloc)?;
-    let relay = great_relay(alloc)?;
-    answer(&rt, &mut exchange, &relay)?;
-    answer(&rt, &mut exchange, &relay)?;
-    answer(&rt, &mut exchange, &relay)?;
-    for _ in 0..3u8 {
-        takes_great(&rt, alloc, &mut exchange)?;
-    }
-    play(&rt, &mut exchange, Step::TakesReply(0))?;
-    Ok(())
+    let mut exchange = Exchange::new(rt.alloc())?;
+    let carried = carry_three(&rt, rt.alloc(), &mut exchange);
+    drop(exchange);
+    carried
 }

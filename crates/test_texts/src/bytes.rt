@@ -31,21 +31,40 @@ fn hello_written(
     Ok((is_whole, sink))
 }
 
+/// Whether just these bytes are read up to a limit.
+fn is_read(
+    alloc: Global,
+    files: &mut MemFiles,
+    limit: usize,
+    wanted: &[u8],
+) -> Result<bool, FileFault> {
+    Ok(read_all(alloc, files, "greeting", limit)?.as_slice() == wanted)
+}
+
 #[test]
 fn reads_up_to_the_limit(rt: HostRuntime) -> Result<(), Fail> {
     let mut files = greeting(rt.alloc(), 2, 0)?;
-    let front = read_all(rt.alloc(), &mut files, "greeting", 3)?;
-    assert_eq!(rt; front.as_slice(), b"hel".as_slice());
-    let all = read_all(rt.alloc(), &mut files, "greeting", 9)?;
-    assert_eq!(rt; all.as_slice(), b"hello".as_slice());
+    let front = is_read(rt.alloc(), &mut files, 3, b"hel");
+    let all = is_read(rt.alloc(), &mut files, 9, b"hello");
+    drop(files);
+    assert!(rt; front?);
+    assert!(rt; all?);
     Ok(())
+}
+
+/// Whether the reading of a file fails.
+fn fails(alloc: Global, step: usize, failing: u64, name: &str) -> Result<bool, AllocError>
+    requires { 0 < step }
+{
+    let mut files = greeting(alloc, step, failing)?;
+    let answer = read_all(alloc, &mut files, name, 9);
+    drop(files);
+    Ok(matches!(answer, Err(FileFault::Failed)))
 }
 
 #[test]
 fn fails_at_an_unknown_name(rt: HostRuntime) -> Result<(), Fail> {
-    let mut files = greeting(rt.alloc(), 9, 0)?;
-    let answer = read_all(rt.alloc(), &mut files, "farewell", 9);
-    assert!(rt; matches!(answer, Err(FileFault::Failed)));
+    assert!(rt; fails(rt.alloc(), 9, 0, "farewell")?);
     Ok(())
 }
 
@@ -53,55 +72,57 @@ fn fails_at_an_unknown_name(rt: HostRuntime) -> Result<(), Fail> {
 #[test]
 fn fails_at_each_call(rt: HostRuntime) -> Result<(), Fail> {
     for call in 1..6 {
-        let mut files = greeting(rt.alloc(), 2, call)?;
-        let answer = read_all(rt.alloc(), &mut files, "greeting", 9);
-        assert!(rt; matches!(answer, Err(FileFault::Failed)), "at {call}");
+        assert!(rt; fails(rt.alloc(), 2, call, "greeting")?, "at {call}");
     }
     Ok(())
 }
 
+/// The bytes that a sink of so much room has after such a write, which is told as whole or not.
+fn leaves(
+    alloc: Global,
+    room: usize,
+    step: usize,
+    failing: u64,
+    wanted: (bool, &[u8]),
+) -> Result<bool, AllocError>
+    requires { 0 < step }
+{
+    let (is_whole, sink) = hello_written(alloc, room, step, failing)?;
+    let (is_told, bytes) = wanted;
+    let is_so = is_whole == is_told && sink.bytes() == bytes;
+    drop(sink);
+    Ok(is_so)
+}
+
 #[test]
 fn writes_all(rt: HostRuntime) -> Result<(), Fail> {
-    let (is_whole, sink) = hello_written(rt.alloc(), 5, 2, 4)?;
-    assert!(rt; is_whole);
-    assert_eq!(rt; sink.bytes(), b"hello".as_slice());
+    assert!(rt; leaves(rt.alloc(), 5, 2, 4, (true, b"hello"))?);
     Ok(())
 }
 
 #[test]
-fn fails_at_the_first_write(rt: HostRuntime) -> Result<(), Fail> {
-    let (is_whole, sink) = hello_written(rt.alloc(), 5, 9, 1)?;
-    assert!(rt; !is_whole);
-    assert_eq!(rt; sink.bytes(), b"".as_slice());
+fn keeps_what_was_written_before_a_fault(rt: HostRuntime) -> Result<(), Fail> {
+    assert!(rt; leaves(rt.alloc(), 5, 9, 1, (false, b""))?);
+    assert!(rt; leaves(rt.alloc(), 5, 2, 2, (false, b"he"))?);
+    // There is no room for the last byte.
+    assert!(rt; leaves(rt.alloc(), 4, 9, 0, (false, b"hell"))?);
     Ok(())
 }
 
-#[test]
-fn keeps_a_front_part(rt: HostRuntime) -> Result<(), Fail> {
-    let (is_whole, sink) = hello_written(rt.alloc(), 5, 2, 2)?;
-    assert!(rt; !is_whole);
-    assert_eq!(rt; sink.bytes(), b"he".as_slice());
-    Ok(())
-}
-
-#[test]
-fn fails_without_room(rt: HostRuntime) -> Result<(), Fail> {
-    let (is_whole, sink) = hello_written(rt.alloc(), 4, 9, 0)?;
-    assert!(rt; !is_whole);
-    assert_eq!(rt; sink.bytes(), b"hell".as_slice());
-    Ok(())
+fn writes_pieces(alloc: Global) -> Result<bool, AllocError> {
+    let mut sink = MemSink::with_room(alloc, 20)?;
+    let is_whole = write_pieces(
+        &mut sink,
+        &[b"file: ".as_slice(), b"a.json".as_slice(), b"\n".as_slice()],
+    );
+    let is_so = is_whole && sink.bytes() == b"file: a.json\n".as_slice();
+    drop(sink);
+    Ok(is_so)
 }
 
 #[test]
 fn writes_pieces_in_a_row(rt: HostRuntime) -> Result<(), Fail> {
-    let mut sink = MemSink::with_room(rt.alloc(), 20)?;
-    assert!(rt;
-        write_pieces(
-            &mut sink,
-            &[b"file: ".as_slice(), b"a.json".as_slice(), b"\n".as_slice()]
-        )
-    );
-    assert_eq!(rt; sink.bytes(), b"file: a.json\n".as_slice());
+    assert!(rt; writes_pieces(rt.alloc())?);
     Ok(())
 }
 

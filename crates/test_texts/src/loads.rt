@@ -61,15 +61,15 @@ fn has_sums(
 {
     let scenario = generate(alloc, n)?;
     let (clients, objects, made, steps) = counts;
-    Ok(
-        scenario.clients.len() == clients
-            && sessions_of(&scenario) as usize == clients
-            && scenario.world.values.len() == objects
-            && all_acts(&scenario) == made
-            && total(&scenario, 0) == sum
-            && total(&scenario, 1) == 0
-            && have_steps(scenario.clients.as_slice(), steps),
-    )
+    let is_so = scenario.clients.len() == clients
+        && sessions_of(&scenario) as usize == clients
+        && scenario.world.values.len() == objects
+        && all_acts(&scenario) == made
+        && total(&scenario, 0) == sum
+        && total(&scenario, 1) == 0
+        && have_steps(scenario.clients.as_slice(), steps);
+    drop(scenario);
+    Ok(is_so)
 }
 
 #[test]
@@ -93,12 +93,16 @@ fn quoted(alloc: Global, text: &str) -> Result<Vec<u8>, Fail> {
 fn read_as_text(alloc: Global, file: &str) -> Result<String, Fail> {
     let bytes = quoted(alloc, file)?;
     let read = read_scenario(alloc, &bytes).ok().ok_or("it is a scenario")?;
-    Ok(format!(in alloc; "{read:?}")?)
+    let text = format!(in alloc; "{read:?}");
+    drop(read);
+    Ok(text?)
 }
 
 fn load_as_text(alloc: Global) -> Result<String, Fail> {
     let made = generate(alloc, 1)?;
-    Ok(format!(in alloc; "{made:?}")?)
+    let text = format!(in alloc; "{made:?}");
+    drop(made);
+    Ok(text?)
 }
 
 #[test]

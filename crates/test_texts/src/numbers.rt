@@ -11,6 +11,7 @@ fn scenarios_are_read(rt: HostRuntime) -> Result<(), Fail> {
     match read_scenario(rt.alloc(), SMALL) {
         Ok(scenario) => {
             read_scenario_numbers(&scenario);
+            drop(scenario);
             Ok(())
         }
         Err(_fault) => Err(Fail::from("it is no scenario")),

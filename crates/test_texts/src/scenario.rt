@@ -272,7 +272,11 @@ fn quoted(alloc: Global, text: &str) -> Result<Vec<u8>, Fail> {
 
 fn tell(fault: ReadFault, line: &mut String) -> Result<(), Fail> {
     match fault {
-        ReadFault::Scenario(fault) => Ok(append_fault_line(&fault, line)?),
+        ReadFault::Scenario(fault) => {
+            let done = append_fault_line(&fault, line);
+            drop(fault);
+            Ok(done?)
+        }
         ReadFault::Memory => Err(Fail::from("out of memory")),
     }
 }
@@ -281,7 +285,10 @@ fn tell(fault: ReadFault, line: &mut String) -> Result<(), Fail> {
 fn line_of(alloc: Global, bytes: &[u8]) -> Result<String, Fail> {
     let mut line = String::new(alloc);
     match read_scenario(alloc, bytes) {
-        Ok(_scenario) => line.push_str("read")?,
+        Ok(scenario) => {
+            drop(scenario);
+            line.push_str("read")?
+        }
         Err(fault) => tell(fault, &mut line)?,
     }
     Ok(line)
@@ -568,19 +575,34 @@ fn are_plans(plans: &[Plan]) -> bool {
     }
 }
 
-#[test]
-fn reads_what_the_text_says(rt: HostRuntime) -> Result<(), Fail> {
-    let bytes = quoted(rt.alloc(), CONFLICT)?;
-    let scenario = scenario(rt.alloc(), &bytes)?;
+const TURNS: [Turn; 3] = [Turn::Client(0), Turn::Session(2), Turn::Take(1)];
+
+fn is_conflict(scenario: &Scenario) -> bool
+    requires { IsGoodScenario scenario.now }
+{
     let shape = Shape {
         objects: 1,
         attrs: 1,
     };
-    assert!(rt; scenario.bound == 4 && scenario.reach.is_none());
-    assert!(rt; scenario.world.shape == shape);
-    let turns = [Turn::Client(0), Turn::Session(2), Turn::Take(1)];
-    assert!(rt; scenario.schedule.as_slice() == turns.as_slice());
-    assert!(rt; are_plans(scenario.clients.as_slice()));
-    assert!(rt; sessions_of(&scenario) == 3);
+    scenario.bound == 4
+        && scenario.reach.is_none()
+        && scenario.world.shape == shape
+        && scenario.schedule.as_slice() == TURNS.as_slice()
+        && are_plans(scenario.clients.as_slice())
+        && sessions_of(scenario) == 3
+}
+
+/// Whether the conflict is read as it stands.
+fn is_conflict_read(alloc: Global) -> Result<bool, Fail> {
+    let bytes = quoted(alloc, CONFLICT)?;
+    let scenario = scenario(alloc, &bytes)?;
+    let is_so = is_conflict(&scenario);
+    drop(scenario);
+    Ok(is_so)
+}
+
+#[test]
+fn reads_what_the_text_says(rt: HostRuntime) -> Result<(), Fail> {
+    assert!(rt; is_conflict_read(rt.alloc())?);
     Ok(())
 }

@@ -147,7 +147,13 @@ fn printed(alloc: Global, text: &str) -> Result<String, Fail> {
         return Err(Fail::from("the text is long"));
     }
     let action = parse_action(alloc, text)?;
-    Ok(print_action(alloc, &action)?)
+    let printed = print_action(alloc, &action);
+    drop(action);
+    Ok(printed?)
+}
+
+fn is_printed(alloc: Global, text: &str, wanted: &str) -> Result<bool, Fail> {
+    Ok(printed(alloc, text)?.as_str() == wanted)
 }
 
 #[test]
@@ -165,17 +171,24 @@ fn refuses_each_text_at_its_place(rt: HostRuntime) -> Result<(), Fail> {
 fn reads_and_prints_canonical_texts(rt: HostRuntime) -> Result<(), Fail> {
     for line in ACCEPTED.lines() {
         let (text, wanted) = line.split_once('|').ok_or("no bar")?;
-        assert_eq!(rt; printed(rt.alloc(), text)?.as_str(), wanted);
-        assert_eq!(rt; printed(rt.alloc(), wanted)?.as_str(), wanted);
+        assert!(rt; is_printed(rt.alloc(), text, wanted)?, "{text}");
+        assert!(rt; is_printed(rt.alloc(), wanted, wanted)?, "{wanted}");
     }
     Ok(())
 }
 
+/// Puts the canonical text of an action behind what stands there.
+fn append(alloc: Global, out: &mut String) -> Result<(), Fail> {
+    let action = parse_action(alloc, "reads 1 writes { }")?;
+    let done = append_action(&action, out);
+    drop(action);
+    Ok(done?)
+}
+
 #[test]
 fn appends_to_a_text(rt: HostRuntime) -> Result<(), Fail> {
-    let action = parse_action(rt.alloc(), "reads 1 writes { }")?;
     let mut out = String::from_str(rt.alloc(), "submit 1 ")?;
-    append_action(&action, &mut out)?;
+    append(rt.alloc(), &mut out)?;
     assert_eq!(rt; out.as_str(), "submit 1 reads 1 writes { }");
     Ok(())
 }
