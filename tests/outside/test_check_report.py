@@ -33,7 +33,7 @@ from server import Server
 HERE = os.path.dirname(os.path.abspath(__file__))
 DATA = os.path.join(HERE, "..", "..", "examples")
 PRINTED = ("first", "empty_script", "conflict", "trade", "unknown_view", "sixteen_reads", "bound",
-           "reach", "retry", "orphan", "marketplace", "looks")
+           "reach", "retry", "orphan", "marketplace", "looks", "great_totals", "two_views")
 REFUSED = ("written_object_not_read", "no_such_object", "seventeen_reads", "number_after_object",
            "origin_too_far")
 SEEDS = 40

@@ -1,8 +1,8 @@
 #!/usr/bin/env python3
 """Notes, each second, the processor time of each check of a running `rt ci`: python3 sampler.py SAMPLES.json
 
-It runs beside the gate until it is stopped, and writes the file every 20 seconds: for each process its command (shortened), its folder, when it
-was seen first and last, its processor seconds and its greatest size in megabytes. table.py makes a table of it.
+It runs beside the gate until it is stopped, and writes the file every 20 seconds: for each process its command (shortened), its folder, the folder
+of the `rt` that started it, when it was seen first and last, its processor seconds and its greatest size in megabytes. table.py makes a table of it.
 """
 import json
 import os
@@ -24,6 +24,19 @@ def shortened(words):
     return " ".join(it for it in kept if not it.startswith("/opt") and "=" not in it)[:600]
 
 
+def starter(process):
+    """The folder in which the nearest `rt` above a process runs; empty where there is none."""
+    for _ in range(6):
+        with open(f"/proc/{process}/stat", encoding="utf-8", errors="replace") as it:
+            process = it.read().rsplit(")", 1)[1].split()[1]
+        if process in ("0", "1"):
+            return ""
+        with open(f"/proc/{process}/cmdline", "rb") as it:
+            if any(os.path.basename(word) == b"rt" for word in it.read().split(b"\0")[:3]):
+                return os.readlink(f"/proc/{process}/cwd")
+    return ""
+
+
 def look(process):
     """The key of a process of the gate, and what there is to note of it; None for any other."""
     with open(f"/proc/{process}/cmdline", "rb") as it:
@@ -34,6 +47,7 @@ def look(process):
         fields = it.read().rsplit(")", 1)[1].split()
     found = {
         "cmd": shortened(words),
+        "rt": starter(process),
         "cwd": os.readlink(f"/proc/{process}/cwd"),
         "cpu": (int(fields[11]) + int(fields[12])) / TICKS,
         "rss": int(fields[21]) * 4096 >> 20,

@@ -1,9 +1,10 @@
 #!/usr/bin/env python3
 """Makes a table, by crate and kind of check, of the processor minutes of one run of `rt ci`, from what sampler.py wrote.
 
-    python3 table.py SAMPLES.json [--gate FOLDER] [--edits] [--repository FOLDER] [--markdown]
+    python3 table.py SAMPLES.json [--gate FOLDER] [--run PROCESS] [--edits] [--repository FOLDER] [--markdown]
 
---gate: the folder in which `rt ci` ran (else any folder). --edits lists each must-fail edit with its seconds.
+--gate: the folder in which `rt ci` ran (else any folder). --run: the number of its process, where the samples do not tell who started a check, and checks of others
+were seen too. --edits lists each must-fail edit with its seconds.
 --repository: a checkout, whose edits that were not tried yet are counted too, each at the mean of its crate, or of all where its crate has none.
 --markdown: prints the table as one for a document.
 """
@@ -17,10 +18,10 @@ KINDS = ("proof", "tests", "seed", "edits", "runs")
 
 
 def options(words):
-    given = {"--gate": None, "--repository": None, "--edits": False, "--markdown": False}
+    given = {"--gate": None, "--run": None, "--repository": None, "--edits": False, "--markdown": False}
     files, at = [], 0
     while at < len(words):
-        if words[at] in ("--gate", "--repository"):
+        if words[at] in ("--gate", "--run", "--repository"):
             given[words[at]], at = words[at + 1], at + 1
         elif words[at] in given:
             given[words[at]] = True
@@ -36,10 +37,13 @@ def runner(sample):
     return found and found[1]
 
 
-def sorted_out(samples, gate):
+def sorted_out(samples, gate, mine):
     """Gives each sample of the run its crate, its kind and, for an edit, its number."""
+    if gate:
+        samples = [it for it in samples if it.get("rt") in (None, "", gate)]
     runners = collections.Counter(runner(it) for it in samples if runner(it))
-    mine = runners.most_common(1)[0][0] if runners else None
+    if not mine and runners:
+        mine = runners.most_common(1)[0][0]
     for it in samples:
         cmd, cwd = it["cmd"], it["cwd"]
         named = re.search(r"--crate-name (\w+)", cmd)
@@ -56,6 +60,8 @@ def sorted_out(samples, gate):
                 continue
             yield named[1], "tests" if "--test " in cmd else "proof", None, it
         else:
+            if gate and it.get("rt") != gate:
+                continue
             ran = re.search(r"(?:^|/)((?:sv|test)_\w+?)(?:_tests)?(?:\.by-rattle)?(?: |$)", cmd.split(" -", 1)[0])
             if ran and not named and not cmd.startswith("fmt"):
                 yield ran[1], "runs", None, it
@@ -76,7 +82,7 @@ def main():
     spent = collections.defaultdict(lambda: dict.fromkeys(KINDS, 0.0))
     of_edits = collections.defaultdict(lambda: collections.defaultdict(float))
     begun, ended = [], []
-    for crate, kind, number, it in sorted_out(samples, gate):
+    for crate, kind, number, it in sorted_out(samples, gate, given["--run"]):
         spent[crate][kind] += it["cpu"]
         begun.append(it["t0"])
         ended.append(it["t1"])
@@ -87,10 +93,10 @@ def main():
         return
     every = [it for numbers in of_edits.values() for it in numbers.values()]
     mean, guessed, total = sum(every) / len(every) if every else 0.0, 0.0, dict.fromkeys(KINDS, 0.0)
-    row = "| {} | {} | {} | {} | {} | {} | {} |" if given["--markdown"] else "{:<16}{:>8}{:>8}{:>8}{:>8}{:>12}{:>8}"
-    print(row.format("crate", "proof", "tests", "seed", "edits", "count, mean", "runs"))
+    row = "| {} | {} | {} | {} | {} | {} | {} | {} |" if given["--markdown"] else "{:<16}{:>8}{:>8}{:>8}{:>8}{:>12}{:>8}{:>8}"
+    print(row.format("crate", "proof", "tests", "seed", "edits", "count, mean", "runs", "all"))
     if given["--markdown"]:
-        print("|---|--:|--:|--:|--:|--:|--:|")
+        print("|---|--:|--:|--:|--:|--:|--:|--:|")
     names = sorted(spent, key=lambda it: -sum(spent[it].values()))
     if given["--repository"]:
         listed = sorted(os.listdir(f"{given['--repository']}/crates"))
@@ -106,11 +112,11 @@ def main():
         count = f"{len(tried) + more}, {each:.0f} s" if len(tried) + more else ""
         if more:
             cells[3] = f"{(own['edits'] + more * each) / 60:.1f}*"
-        print(row.format(crate, *cells[:4], count, cells[4]))
+        print(row.format(crate, *cells[:4], count, cells[4], f"{(sum(own.values()) + more * each) / 60:.1f}"))
     cells = [f"{total[it] / 60:.1f}" for it in KINDS]
     if guessed:
         cells[3] = f"{(total['edits'] + guessed) / 60:.1f}*"
-    print(row.format("all", *cells[:4], f"{len(every)} tried, {mean:.0f} s", cells[4]))
+    print(row.format("all", *cells[:4], f"{len(every)} tried, {mean:.0f} s", cells[4], f"{(sum(total.values()) + guessed) / 60:.1f}"))
     print(f"\n{(sum(total.values()) + guessed) / 60:.0f} processor minutes, seen over {(max(ended) - min(begun)) / 60:.0f} minutes.")
     if guessed:
         print("* with edits that were not tried yet, each at the mean of its crate, or of all where its crate has none.")

@@ -24,6 +24,12 @@ pub const FIRST: &str =
 pub const FIRST_REPORT: &str =
     "journal 5\n1 s0 join c0 1 [0] -> welcome 0 [0=(5)]\n2 s0 submit 1 reads 0 writes 0 { set @0.0 (@0.0 + 1); } -> relay 1 at 0 [] [1:c0.1]\n3 s0 done [1:(6)] -> noted 1\n4 s0 leave -> bye\n5 s0 end -> bye\nclient 0\njoin s0\ngot s0 #1\nmake 1 kept [0=(6)]\ngot s0 #2\ngot s0 #3\nshow [0=(6)]\nleave\ngot s0 #4\nworld 1\n0=(6)\n";
 
+pub const GREAT_TOTALS: &str =
+    "{\"attrs\":2,\"objects\":[[9223372036854775807,1],[9223372036854775807,-3]],\"bound\":4,\"clients\":[{\"interest\":[],\"steps\":[]}]}\n";
+
+pub const GREAT_TOTALS_REPORT: &str =
+    "journal 3\n1 s0 join c0 1 [] -> welcome 0 []\n2 s0 leave -> bye\n3 s0 end -> bye\nclient 0\njoin s0\ngot s0 #1\nleave\ngot s0 #2\nworld 0\n0=(9223372036854775807,1)\n1=(9223372036854775807,-3)\n";
+
 pub const LOOKS: &str =
     "{\"attrs\":1,\"objects\":[[10],[20]],\"bound\":4,\"clients\":[{\"interest\":[],\"steps\":[{\"act\":\"reads 0 writes 0 { set @0.0 (@0.0 + 1); }\"},{\"act\":\"reads 0 1 writes { }\"},{\"act\":\"reads 1 writes 1 { set @1.0 (@1.0 + 1); }\"}]}]}\n";
 
@@ -85,6 +91,12 @@ pub const TRADE: &str =
 
 pub const TRADE_REPORT: &str =
     "journal 23\n1 s0 join c0 1 [0 1 3] -> welcome 0 [0=(3,10,20) 1=(2,10,10) 3=(3,0,30)]\n2 s1 join c1 1 [1 3] -> welcome 0 [1=(2,10,10) 3=(3,0,30)]\n3 s2 join c2 1 [1 2] -> welcome 0 [1=(2,10,10) 2=(2,10,5)]\n4 s2 submit 1 reads 1 2 writes 1 { if [@1.0 == @2.0] { set @1.1 ((@1.1 - 4) max 0); } } -> relay 1 at 0 [] [1:c2.1]\n5 s1 submit 1 reads 1 writes 1 { set @1.0 3; } -> relay 1 at 0 [2=(2,10,5)] [1:c2.1 2:c1.1]\n6 s1 done [1:(2,6,10) 2:(3,6,10)] -> noted 2\n7 s0 submit 1 reads 0 3 writes 0 3 { set @0.2 (@0.2 + @3.2); set @3.2 0; } -> relay 1 at 2 [] [3:c0.1]\n8 s1 submit 2 reads 1 3 writes 1 3 { set @1.2 (@1.2 + @3.2); set @3.2 0; } -> relay 2 at 2 [0=(3,10,20)] [3:c0.1 4:c1.2]\n9 s2 end -> bye\n10 s3 join c2 2 [1 2] -> welcome 2 [1=(3,6,10) 2=(2,10,5)]\n11 s3 submit 1 reads 1 2 writes 1 { if [@1.0 == @2.0] { set @1.1 ((@1.1 - 4) max 0); } } -> settled 1 at 1\n12 s0 done [3:(3,10,50)(3,0,0)] -> noted 3\n13 s0 submit 2 reads 0 1 writes 0 1 { if ([@0.0 == @1.0] and [5 <= @0.2]) { set @0.2 (@0.2 - 5); set @1.2 (@1.2 + 5); set @0.1 (@0.1 + 2); } } -> relay 2 at 3 [1=(3,6,10)] [4:c1.2 5:c0.2]\n14 s1 done [3:(3,10,50)(3,0,0) 4:(3,6,10)(3,0,0)] -> noted 4\n15 s0 done [4:(3,6,10)(3,0,0) 5:(3,12,45)(3,6,15)] -> noted 5\n16 s3 submit 2 reads 0 1 writes { } -> relay 2 at 5 [0=(3,12,45) 1=(3,6,15)] [6:c2.2]\n17 s3 done [6:] -> noted 6\n18 s1 leave -> bye\n19 s1 end -> bye\n20 s0 leave -> bye\n21 s0 end -> bye\n22 s3 leave -> bye\n23 s3 end -> bye\nclient 0\njoin s0\ngot s0 #1\nmake 1 kept [0=(3,10,50) 3=(3,0,0)]\ngot s0 #7\nmake 2 kept [0=(3,10,50) 1=(2,10,10)]\ngot s0 #12\ngot s0 #13\ngot s0 #15\nshow [0=(3,12,45) 1=(3,6,15) 3=(3,0,0)]\nleave\ngot s0 #20\nclient 1\njoin s1\ngot s1 #2\nmake 1 kept [1=(3,10,10)]\ngot s1 #5\nmake 2 kept [1=(3,6,40) 3=(3,0,0)]\ngot s1 #6\ngot s1 #8\ngot s1 #14\nshow [1=(3,6,10) 3=(3,0,0)]\nleave\ngot s1 #18\nclient 2\njoin s2\ngot s2 #3\nmake 1 kept [1=(2,6,10)]\ncut\njoin s3\ngot s3 #10\ngot s3 #11\nshow [0=? 1=(3,6,10)]\nmake 2 kept none\ngot s3 #16\ngot s3 #17\nshow [0=(3,12,45) 1=(3,6,15)]\nleave\ngot s3 #22\nworld 6\n0=(3,12,45)\n1=(3,6,15)\n2=(2,10,5)\n3=(3,0,0)\n";
+
+pub const TWO_VIEWS: &str =
+    "{\"attrs\":1,\"objects\":[[5],[7]],\"bound\":4,\"clients\":[{\"interest\":[0],\"steps\":[{\"act\":\"reads 0 writes 0 { set @0.0 (@0.0 + 1); }\"},{\"show\":[1,0]}]}]}\n";
+
+pub const TWO_VIEWS_REPORT: &str =
+    "journal 5\n1 s0 join c0 1 [0] -> welcome 0 [0=(5)]\n2 s0 submit 1 reads 0 writes 0 { set @0.0 (@0.0 + 1); } -> relay 1 at 0 [] [1:c0.1]\n3 s0 done [1:(6)] -> noted 1\n4 s0 leave -> bye\n5 s0 end -> bye\nclient 0\njoin s0\ngot s0 #1\nmake 1 kept [0=(6)]\ngot s0 #2\nshow [1=? 0=(6)]\ngot s0 #3\nleave\ngot s0 #4\nworld 1\n0=(6)\n1=(7)\n";
 
 pub const UNKNOWN_VIEW: &str =
     "{\"attrs\":1,\"objects\":[[5]],\"bound\":4,\"clients\":[{\"interest\":[],\"steps\":[{\"act\":\"reads 0 writes 0 { set @0.0 (@0.0 + 1); }\"},{\"show\":[0]},\"sync\",{\"show\":[0]}]}],\"schedule\":[\"c0\",\"s0\",\"t0\",\"c0\",\"c0\"]}\n";

@@ -13,8 +13,12 @@ use sv_link::OpenGate;
 /// Words, the scenario, the status, and the two outputs.
 type Row<'a> = (&'a str, &'a str, u8, &'a str, &'a str);
 
+/// The sums of the opening world, one of which is no number of 64 bits.
+const GREAT_TOTALS_BRIEF: &str =
+    "clients 1\nsessions 1\nobjects 2\nmade 0\naccepted 0\ndropped 0\ncommit 0\ntotal 0: 18446744073709551614\ntotal 1: -2\n";
+
 /// Runs that print the same at each call.
-const ROWS: [Row<'static>; 23] = [
+const ROWS: [Row<'static>; 26] = [
     ("replay a", FIRST, 0, FIRST_REPORT, ""),
     ("replay a", EMPTY_SCRIPT, 0, EMPTY_SCRIPT_REPORT, ""),
     ("replay a", CONFLICT, 0, CONFLICT_REPORT, ""),
@@ -27,6 +31,8 @@ const ROWS: [Row<'static>; 23] = [
     ("replay a", ORPHAN, 0, ORPHAN_REPORT, ""),
     ("replay a", MARKETPLACE, 0, MARKETPLACE_REPORT, ""),
     ("replay a", LOOKS, 0, LOOKS_REPORT, ""),
+    ("replay a", GREAT_TOTALS, 0, GREAT_TOTALS_REPORT, ""),
+    ("replay a", TWO_VIEWS, 0, TWO_VIEWS_REPORT, ""),
     (
         "replay a",
         WRITTEN_OBJECT_NOT_READ,
@@ -44,6 +50,7 @@ const ROWS: [Row<'static>; 23] = [
         NUMBER_AFTER_OBJECT_LINE,
     ),
     ("replay a", ORIGIN_TOO_FAR, 3, "", ORIGIN_TOO_FAR_LINE),
+    ("play a --brief", GREAT_TOTALS, 0, GREAT_TOTALS_BRIEF, ""),
     ("play a", FIRST, 0, FIRST_REPORT, ""),
     ("play a", EMPTY_SCRIPT, 0, EMPTY_SCRIPT_REPORT, ""),
     ("play a", UNKNOWN_VIEW, 0, UNKNOWN_VIEW_REPORT, ""),

@@ -575,7 +575,7 @@ fn are_plans(plans: &[Plan]) -> bool {
     }
 }
 
-const TURNS: [Turn; 3] = [Turn::Client(0), Turn::Session(2), Turn::Take(1)];
+const PLANNED_TURNS: [Turn; 3] = [Turn::Client(0), Turn::Session(2), Turn::Take(1)];
 
 fn is_conflict(scenario: &Scenario) -> bool
     requires { IsGoodScenario scenario.now }
@@ -587,7 +587,7 @@ fn is_conflict(scenario: &Scenario) -> bool
     scenario.bound == 4
         && scenario.reach.is_none()
         && scenario.world.shape == shape
-        && scenario.schedule.as_slice() == TURNS.as_slice()
+        && scenario.schedule.as_slice() == PLANNED_TURNS.as_slice()
         && are_plans(scenario.clients.as_slice())
         && sessions_of(scenario) == 3
 }
