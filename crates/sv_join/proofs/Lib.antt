@@ -1,0 +1,5 @@
+pub mod Unwrapping
+pub mod Lawful
+pub mod Played
+pub mod Answering
+pub mod Endings
