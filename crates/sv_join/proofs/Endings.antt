@@ -11,6 +11,8 @@ use Rattle.sv_scenario.specs.Scenarios.{scenario_of}
 use Rattle.sv_command.specs.declared.ending.Ending.TheVariants as plain
 use Rattle.sv_command.specs.Reading.{IsRead, IsRefused, IsNoScenario, HoldsScenario, held_of, read_limit}
 use Rattle.sv_command.specs.Statuses.{Counts}
+use Rattle.sv_command.proofs.Held.{read_is, holds_none}
+use Rattle.sv_command.proofs.Statuses.{words_is as plain_words_is, link_is as plain_link_is}
 use Rattle.sv_join.specs.declared.ending.JoinEnding.{JoinEnding}
 use Rattle.sv_join.specs.declared.ending.JoinEnding.TheVariants as endings
 use Rattle.sv_join.specs.Joining.{Passed}
@@ -20,14 +22,7 @@ use Rattle.sv_join.specs.Statuses.{status_of, Raises, TellsFaults, NoneRose, Lac
 -- ---- Statuses
 
 words_of : (e : JoinEnding) → status_of e ≡ 2 → e ≡ endings.Plain plain.Words
-words_of (endings.Plain plain.Words) s = refl
-words_of (endings.Plain plain.Done) s = absurd (omega arith)
-words_of (endings.Plain (plain.Scenario line)) s = absurd (omega arith)
-words_of (endings.Plain plain.File) s = absurd (omega arith)
-words_of (endings.Plain plain.Start) s = absurd (omega arith)
-words_of (endings.Plain plain.Link) s = absurd (omega arith)
-words_of (endings.Plain plain.Out) s = absurd (omega arith)
-words_of (endings.Plain plain.Memory) s = absurd (omega arith)
+words_of (endings.Plain e) s = ap endings.Plain ((plain_words_is e (λ x. x, λ x. x)).0 s)
 words_of endings.Range s = absurd (omega arith)
 words_of (endings.Reply fault) s = absurd (omega arith)
 words_of endings.Closed s = absurd (omega arith)
@@ -49,14 +44,7 @@ file_is (endings.Reply fault) s = absurd (omega arith)
 file_is endings.Closed s = absurd (omega arith)
 
 link_is : (e : JoinEnding) → status_of e ≡ 6 → e ≡ endings.Plain plain.Link
-link_is (endings.Plain plain.Link) s = refl
-link_is (endings.Plain plain.Done) s = absurd (omega arith)
-link_is (endings.Plain plain.Words) s = absurd (omega arith)
-link_is (endings.Plain (plain.Scenario line)) s = absurd (omega arith)
-link_is (endings.Plain plain.File) s = absurd (omega arith)
-link_is (endings.Plain plain.Start) s = absurd (omega arith)
-link_is (endings.Plain plain.Out) s = absurd (omega arith)
-link_is (endings.Plain plain.Memory) s = absurd (omega arith)
+link_is (endings.Plain e) s = ap endings.Plain (plain_link_is e s)
 link_is endings.Range s = absurd (omega arith)
 link_is (endings.Reply fault) s = absurd (omega arith)
 link_is endings.Closed s = absurd (omega arith)
@@ -123,13 +111,6 @@ module _ (P : Type 0) where
   always None p = tt
   always (Some all) p = λ q. p
 
-  -- What was read is a scenario.
-  not_none : (held : Option (List ℕ)) (scenario : Scenario) → IsRead held scenario → IfSome held (λ all. IsNoScenario (take read_limit all) → P)
-  not_none None scenario r = tt
-  not_none (Some all) scenario r = λ none.
-      let faulty : scenario_of r.bytes ≡ Err none.fault = rw r.front none.faulty in
-      absurd (both scenario none.fault r.bytes r.read faulty)
-
   -- It has the client.
   not_lacking : (k : ℕ) (held : Option (List ℕ)) (scenario : Scenario) → IsRead held scenario → k < length scenario.clients → IfSome held (λ all. LacksClient k (take read_limit all) → P)
   not_lacking k None scenario r low = tt
@@ -145,12 +126,6 @@ module _ (P : Type 0) where
   refused_lacks k (Some all) line r = λ lacks.
       let read : scenario_of r.bytes ≡ Ok lacks.scenario = rw r.front lacks.read in
       absurd (both lacks.scenario r.fault r.bytes read r.faulty)
-
-  refused_holds : (held : Option (List ℕ)) (line : List ℕ) → IsRefused held line → HoldsScenario held → P
-  refused_holds None line r h = absurd h
-  refused_holds (Some all) line r h =
-      let read : scenario_of r.bytes ≡ Ok h.scenario = rw r.front h.read in
-      absurd (both h.scenario r.fault r.bytes read r.faulty)
 
 -- ---- What is left of a join, by its status
 
@@ -172,7 +147,7 @@ module _ {E : Type 0} (told : E → Told) (faults : E → ℕ) (calm : E → Typ
           outside = λ s. absurd (omega arith);
           lost = λ s. absurd (omega arith);
           shut_out = λ s. absurd (omega arith);
-          faulty = not_none (Faulty 0) held r.scenario r.read;
+          faulty = read_is held (Faulty 0) r.scenario r.read;
           lacking = not_lacking (Lacking 0) asked.number held r.scenario r.read (slice_get_within r.scenario.clients asked.number r.play.play.plan r.play.play.plan_is);
         }
     leaves_is (endings.Plain plain.Out) h =
@@ -184,7 +159,7 @@ module _ {E : Type 0} (told : E → Told) (faults : E → ℕ) (calm : E → Typ
           outside = λ s. absurd (omega arith);
           lost = λ s. absurd (omega arith);
           shut_out = λ s. absurd (omega arith);
-          faulty = not_none (Faulty 5) held r.scenario r.read;
+          faulty = read_is held (Faulty 5) r.scenario r.read;
           lacking = not_lacking (Lacking 5) asked.number held r.scenario r.read (slice_get_within r.scenario.clients asked.number r.play.play.plan r.play.play.plan_is);
         }
     leaves_is (endings.Plain (plain.Scenario line)) h =
@@ -229,7 +204,7 @@ module _ {E : Type 0} (told : E → Told) (faults : E → ℕ) (calm : E → Typ
           outside = λ s. absurd (omega arith);
           lost = λ s. r;
           shut_out = λ s. absurd (omega arith);
-          faulty = not_none (Faulty 6) held r.scenario r.read;
+          faulty = read_is held (Faulty 6) r.scenario r.read;
           lacking = not_lacking (Lacking 6) asked.number held r.scenario r.read r.within;
         }
     leaves_is endings.Range h =
@@ -241,7 +216,7 @@ module _ {E : Type 0} (told : E → Told) (faults : E → ℕ) (calm : E → Typ
           outside = λ s. r;
           lost = λ s. absurd (omega arith);
           shut_out = λ s. absurd (omega arith);
-          faulty = not_none (Faulty 10) held r.scenario r.read;
+          faulty = read_is held (Faulty 10) r.scenario r.read;
           lacking = always (Lacking 10) held (inr (inr refl));
         }
     leaves_is (endings.Reply fault) h =
@@ -253,7 +228,7 @@ module _ {E : Type 0} (told : E → Told) (faults : E → ℕ) (calm : E → Typ
           outside = λ s. absurd (omega arith);
           lost = λ s. absurd (omega arith);
           shut_out = λ s. absurd (omega arith);
-          faulty = not_none (Faulty 11) held r.scenario r.read;
+          faulty = read_is held (Faulty 11) r.scenario r.read;
           lacking = not_lacking (Lacking 11) asked.number held r.scenario r.read (slice_get_within r.scenario.clients asked.number r.play.play.plan r.play.play.plan_is);
         }
     leaves_is endings.Closed h =
@@ -265,7 +240,7 @@ module _ {E : Type 0} (told : E → Told) (faults : E → ℕ) (calm : E → Typ
           outside = λ s. absurd (omega arith);
           lost = λ s. absurd (omega arith);
           shut_out = λ s. r;
-          faulty = not_none (Faulty 12) held r.scenario r.read;
+          faulty = read_is held (Faulty 12) r.scenario r.read;
           lacking = not_lacking (Lacking 12) asked.number held r.scenario r.read (slice_get_within r.scenario.clients asked.number r.play.play.plan r.play.play.plan_is);
         }
     leaves_is (endings.Plain plain.Words) h = absurd h.0
@@ -308,7 +283,7 @@ module _ {E : Type 0} (told : E → Told) (faults : E → ℕ) (calm : E → Typ
     complete_of : (b a : Counts) (e : JoinEnding) → Ends told faults calm asked held door before now old new e → Raises b a e → HoldsScenario held → NoneRose b a → Complete (status_of e)
     complete_of b a (endings.Plain plain.Done) h r can none = inl refl
     complete_of b a (endings.Plain plain.Words) h r can none = absurd h.0
-    complete_of b a (endings.Plain (plain.Scenario line)) h r can none = refused_holds (Complete 3) held (string_bytes line) h.0 can
+    complete_of b a (endings.Plain (plain.Scenario line)) h r can none = holds_none held (Complete 3) (string_bytes line) h.0 can
     complete_of b a (endings.Plain plain.File) h r can none = absurd (none.0 r.0)
     complete_of b a (endings.Plain plain.Start) h r can none = absurd h.0
     complete_of b a (endings.Plain plain.Link) h r can none = inr (inl refl)

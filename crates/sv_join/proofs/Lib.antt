@@ -1,3 +1,4 @@
+pub mod Places
 pub mod Unwrapping
 pub mod Lawful
 pub mod Played

@@ -6,7 +6,6 @@ use Rattle.std.specs.List.{AllByRecursion}
 use Rattle.std.proofs.lemmas.List.{length-map}
 use Rattle.std.proofs.lemmas.Option.{none-some, same_Some}
 use Rattle.sv_link.specs.Ends.{Told}
-use Rattle.sv_link.specs.declared.side.Side.TheVariants.{Client}
 use Rattle.sv_wire.specs.Ranges.{ValueFits}
 use Rattle.sv_client.specs.declared.trace.Trace.{Trace}
 use Rattle.sv_client.specs.Seen.{ClientView, new_client}
@@ -22,13 +21,11 @@ use Rattle.sv_player.specs.declared.outcome.PlayerCause.{PlayerCause}
 use Rattle.sv_player.specs.declared.outcome.PlayerCause.TheVariants as causes
 use Rattle.sv_player.specs.declared.outcome.ReplyFault.{ReplyFault}
 use Rattle.law_traffic.proofs.Whole.{NeverRefused}
-use Rattle.sv_play.specs.Places.{EachPlace}
-use Rattle.sv_play.specs.Given.{IsNewEnd}
-use Rattle.sv_play.proofs.Places.{map_at}
 use Rattle.sv_door.specs.Doors.{Passage, passage_of}
 use Rattle.sv_join.specs.declared.steady.Steady.{Steady}
 use Rattle.sv_join.specs.Legal.{IsLegalServer}
-use Rattle.sv_join.specs.Joining.{Passed, passed, passages_of, IsPlay}
+use Rattle.sv_join.specs.Joining.{Passed, passed, passages_of, IsPlay, IsNewEnd}
+use Rattle.sv_join.proofs.Places.{EachPlace, map_at}
 use Rattle.sv_join.proofs.Unwrapping.{inner, steady_told, steady_faults, steady_calm, done_inside, cause_inside, new_inside}
 use Rattle.sv_join.proofs.Lawful.{not_refused}
 
@@ -44,7 +41,7 @@ module _ {E : Type 0} (told : E → Told) (faults : E → ℕ) (calm : E → Typ
 
   pub play_of : (S : Type 0) (scenario : Scenario) (k made : ℕ) (before now : List Passage) (plan : Plan) (trace : Trace) (cause : PlayerCause) (old new : List (Steady E))
       → slice_get scenario.clients k ≡ Some plan → length old ≡ sessions_of_plan plan
-      → EachPlace (λ j (s : Steady E). IsNewEnd told faults calm S Client (made + j) s.end) old
+      → EachPlace (λ j (s : Steady E). IsNewEnd told faults calm S (made + j) s.end) old
       → AreDone (steady_told told faults calm) (steady_faults told faults calm) (steady_calm told faults calm) trace cause 0 old new
       → now ≡ before ++ passages_of (λ (s : Steady E). told s.end) (λ (s : Steady E). faults s.end) new
       → IsTraceOf (new_client (record { 0 = k }) scenario.world.shape plan.interest) 0 trace
@@ -59,7 +56,7 @@ module _ {E : Type 0} (told : E → Told) (faults : E → ℕ) (calm : E → Typ
         count = length-map old inner ∙ count;
         new = new_inside told faults calm S made old news;
         left = map inner new;
-        done = done_inside told faults calm trace cause old new done (λ j s e. (news j s e).faultless);
+        done = done_inside told faults calm trace cause old new done (λ j s e. (news j s e).is.1);
         given = given ∙ ap (λ (l : List Passage). before ++ l) (same_passages new);
         trace_is = trace_is;
         follows = follows;

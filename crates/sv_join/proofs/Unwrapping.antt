@@ -6,17 +6,14 @@ use Rattle.std.proofs.lemmas.Option.{slice_get_within}
 use Rattle.sv_bytes.specs.Faults.{Rose}
 use Rattle.sv_world.specs.declared.world.Shape.{Shape}
 use Rattle.sv_link.specs.Ends.{Told, new_end}
-use Rattle.sv_link.specs.declared.side.Side.TheVariants.{Client}
 use Rattle.sv_client.specs.declared.trace.Trace.{Trace}
 use Rattle.sv_player.specs.Played.{IsDone, IsIdle, IsOpenSession, AreDone, HasFault, HasOpen, IsCause}
 use Rattle.sv_player.specs.Sessions.{IsFresh}
 use Rattle.sv_player.specs.declared.outcome.PlayerCause.{PlayerCause}
 use Rattle.sv_player.specs.declared.outcome.PlayerCause.TheVariants as causes
-use Rattle.sv_play.specs.Places.{EachPlace}
-use Rattle.sv_play.specs.Given.{IsNewEnd}
-use Rattle.sv_play.proofs.Places.{each_all, at_place, map_at, unmap_at}
 use Rattle.sv_join.specs.declared.steady.Steady.{Steady}
-use Rattle.sv_join.specs.Joining.{IsNewAt}
+use Rattle.sv_join.specs.Joining.{IsNewAt, IsNewEnd}
+use Rattle.sv_join.proofs.Places.{EachPlace, each_all, at_place, map_at, unmap_at}
 
 abbrev pub inner : {E : Type 0} → Steady E → E
 inner s = s.end
@@ -55,16 +52,16 @@ module _ {E : Type 0} (told : E → Told) (faults : E → ℕ) (calm : E → Typ
   }
 
   -- Where its calls can't fail, no end has a fault.
-  pub no_fault : (S : Type 0) (made : ℕ) → EachPlace (λ j (s : Steady E). IsNewEnd told faults calm S Client (made + j) s.end) old → S
+  pub no_fault : (S : Type 0) (made : ℕ) → EachPlace (λ j (s : Steady E). IsNewEnd told faults calm S (made + j) s.end) old → S
       → HasFault (steady_told told faults calm) (steady_faults told faults calm) (steady_calm told faults calm) trace 0 old new → ⊥
   no_fault S made news sure fault =
       let was = news fault.place fault.before fault.was in
-      let still = (done.calm_is fault.place fault.before fault.after fault.was fault.is (was.calm_is sure, was.faultless)).1 in
+      let still = (done.calm_is fault.place fault.before fault.after fault.was fault.is (was.calm_is sure, was.is.1)).1 in
       let rose = fault.rose in
       omega (arith, still, rose)
 
   -- The ends can be given back: the door made them.
-  pub all_own : (S : Type 0) (made : ℕ) → EachPlace (λ j (s : Steady E). IsNewEnd told faults calm S Client (made + j) s.end) old
+  pub all_own : (S : Type 0) (made : ℕ) → EachPlace (λ j (s : Steady E). IsNewEnd told faults calm S (made + j) s.end) old
       → AllByRecursion (λ (s : Steady E). (told s.end).pair < made + length old) new
   all_own S made news =
       each_all (λ k (s : Steady E). (told s.end).pair < made + length old) (λ (s : Steady E). (told s.end).pair < made + length old) new
@@ -72,7 +69,7 @@ module _ {E : Type 0} (told : E → Told) (faults : E → ℕ) (calm : E → Typ
       let low = slice_get_within new k b eb in
       let count = done.count in
       let x = at_place old k (omega (arith, low, count)) in
-      let was = ap (λ (t : Told). t.pair) (news k x.0 x.1).told_is in
+      let was = ap (λ (t : Told). t.pair) (news k x.0 x.1).is.0 in
       let same = (done.each k x.0 b x.1 eb).pair in
       omega (arith, was, same, low, count))
       (λ k s own. own)
@@ -99,16 +96,16 @@ module _ {E : Type 0} (told : E → Told) (faults : E → ℕ) (calm : E → Typ
       record { place = c.place; after = c.after.end; is = map_at inner new c.place c.after c.is; session = c.session; shows = c.shows }
   cause_inside shape trace causes.Memory old new c = tt
 
-  pub new_inside : (S : Type 0) (made : ℕ) (old : List (Steady E)) → EachPlace (λ j (s : Steady E). IsNewEnd told faults calm S Client (made + j) s.end) old
+  pub new_inside : (S : Type 0) (made : ℕ) (old : List (Steady E)) → EachPlace (λ j (s : Steady E). IsNewEnd told faults calm S (made + j) s.end) old
       → EachPlace (λ j end. IsNewAt told faults (made + j) end) (map inner old)
   new_inside S made old news = λ k a ea.
       let x = unmap_at inner old k a ea in
       let is = news k x.0 x.1 in
-      subst (λ (e : E). IsNewAt told faults (made + k) e) x.2 (is.told_is, is.faultless)
+      subst (λ (e : E). IsNewAt told faults (made + k) e) x.2 is.is
 
   -- Nothing was sent or received over new ends.
-  pub all_fresh : (S : Type 0) (made : ℕ) (old : List (Steady E)) → EachPlace (λ j (s : Steady E). IsNewEnd told faults calm S Client (made + j) s.end) old
+  pub all_fresh : (S : Type 0) (made : ℕ) (old : List (Steady E)) → EachPlace (λ j (s : Steady E). IsNewEnd told faults calm S (made + j) s.end) old
       → AllByRecursion (λ (s : Steady E). IsFresh (told s.end)) old
   all_fresh S made old news =
-      each_all (λ k (s : Steady E). IsNewEnd told faults calm S Client (made + k) s.end) (λ (s : Steady E). IsFresh (told s.end)) old news
-      (λ k s is. subst IsFresh (sym is.told_is) (record { open_is = refl; sent = refl; received = refl }))
+      each_all (λ k (s : Steady E). IsNewEnd told faults calm S (made + k) s.end) (λ (s : Steady E). IsFresh (told s.end)) old news
+      (λ k s is. subst IsFresh (sym is.is.0) (record { open_is = refl; sent = refl; received = refl }))

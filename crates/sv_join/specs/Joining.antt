@@ -15,7 +15,6 @@ use Rattle.sv_player.specs.Played.{IsTraceOf, HasFollowed, AreDone, IsCause}
 use Rattle.sv_player.specs.declared.outcome.PlayerCause.{PlayerCause}
 use Rattle.sv_player.specs.declared.outcome.PlayerCause.TheVariants as causes
 use Rattle.sv_player.specs.declared.outcome.ReplyFault.{ReplyFault}
-use Rattle.sv_play.specs.Places.{EachPlace}
 use Rattle.sv_door.specs.Doors.{Passage, passage_of}
 use Rattle.sv_join.specs.Legal.{IsLegalServer}
 use Rattle.sv_join.specs.declared.outcome.Joined.{Joined}
@@ -41,6 +40,11 @@ module _ {E : Type 0} (told : E → Told) (faults : E → ℕ) where
   IsNewAt number end = (told end ≡ new_end number Client) × (faults end ≡ 0)
 
 module _ {E : Type 0} (told : E → Told) (faults : E → ℕ) (calm : E → Type 0) where
+  -- It is calm besides, where the door is sure of the port.
+  pub record IsNewEnd (sure : Type 0) (number : ℕ) (end : E) : Type 0 where
+    pub is : IsNewAt told faults number end
+    pub calm_is : sure → calm end
+
   -- Client k of the scenario played its script, until this cause stopped it, over new ends, one for each of its sessions in order; and these
   -- were given back in that order.
   pub record IsPlay (scenario : Scenario) (k : ℕ) (door : Passed) (trace : Trace) (cause : PlayerCause) : Type 0 where
@@ -48,7 +52,7 @@ module _ {E : Type 0} (told : E → Told) (faults : E → ℕ) (calm : E → Typ
     pub plan_is : slice_get scenario.clients k ≡ Some plan
     pub ends : List E
     pub count : length ends ≡ sessions_of_plan plan
-    pub new : EachPlace (λ j end. IsNewAt told faults (door.made + j) end) ends
+    pub new : (j : ℕ) (end : E) → slice_get ends j ≡ Some end → IsNewAt told faults (door.made + j) end
     pub left : List E
     pub done : AreDone told faults calm trace cause 0 ends left
     pub given : door.now ≡ door.before ++ passages_of told faults left

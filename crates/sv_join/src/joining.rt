@@ -1,15 +1,12 @@
 //! Playing a client over ends that a door makes.
-ghost use Rattle.std.specs.Prelude.{◌≡◌, ◌≢◌, ◌+◌, ◌<◌, ◌≤◌, ◌++◌, [], length, slice_get, Some, None, Err, IfOk, OnOk};
+ghost use Rattle.std.specs.Prelude.{◌≡◌, ◌≢◌, ℕ, ◌+◌, ◌<◌, ◌≤◌, ◌++◌, [], length, slice_get, Some, None, Err, IfOk, OnOk};
 ghost use Rattle.std.specs.List.{AllByRecursion};
 ghost use Rattle.std.specs.Vec.{vec_capacity};
-ghost use Rattle.sv_link.specs.declared.side.Side.TheVariants.{Client as ClientSide};
 ghost use Rattle.sv_watch.specs.Told.{change_line};
 ghost use Rattle.sv_client.specs.Seen.{new_client};
 ghost use Rattle.sv_scenario.specs.Limits.{IsGoodPlan, IsGoodScenario};
 ghost use Rattle.sv_scenario.specs.Sessions.{sessions_of_plan};
-ghost use Rattle.sv_play.specs.Places.{EachPlace};
-ghost use Rattle.sv_play.specs.Given.{IsNewEnd};
-ghost use Rattle.sv_join.specs.Joining.{passed, passages_of, answer_of, ConnectCause, DoorCause, IsClientOf, IsLeft};
+ghost use Rattle.sv_join.specs.Joining.{passed, passages_of, answer_of, ConnectCause, DoorCause, IsClientOf, IsLeft, IsNewEnd};
 
 use crate::outcome::{JoinFault, Joined};
 use crate::steady::Steady;
@@ -34,7 +31,7 @@ fn connect_all<D: Door>(
     requires empty { ends.old.items ≡ [] }
     requires room { count ≤ vec_capacity ends.old }
     ensures count { OnOk result (length ends.new.items ≡ count) }
-    ensures new { EachPlace (λ j s. IsNewEnd D.E.told D.E.faults D.E.calm (D.sure door.old port) ClientSide (D.made door.old + j) s.end) ends.new.items }
+    ensures new { (j : ℕ) (s : _) → slice_get ends.new.items j ≡ Some s → IsNewEnd D.E.told D.E.faults D.E.calm (D.sure door.old port) (D.made door.old + j) s.end }
     ensures made { D.made door.new ≡ D.made door.old + length ends.new.items }
     ensures owed { D.owed door.new ≡ D.owed door.old + length ends.new.items }
     ensures given { D.given door.new ≡ D.given door.old }

@@ -1,8 +1,8 @@
 use Rattle.std.proofs.Common.{rules, ◌≡◌, ◌+◌, length, slice_get, sym, ap, ◌∙◌}
 use Rattle.sv_link.specs.Ends.{new_end}
 use Rattle.sv_link.specs.declared.side.Side.TheVariants.{Client}
-use Rattle.sv_play.specs.Given.{IsNewEnd}
-use Rattle.sv_play.proofs.Places.{each_push}
+use Rattle.sv_join.specs.Joining.{IsNewEnd}
+use Rattle.sv_join.proofs.Places.{each_push}
 use Rattle.sv_join.specs.declared.steady.Steady.{Steady}
 use Rattle.sv_join.proofs.joining.connect_all.Goals as goal
 
@@ -17,8 +17,8 @@ loop-preserved g c =
     record {
       count = search rules;
       new = λ k x e.
-          each_push (λ j (s : Steady g.row.D-E.Denot). IsNewEnd E.told E.faults E.calm sure Client (first + j) s.end) c.loop.ends.items (record { end = c.in-End.end }) i.new
-          (record { told_is = made.1 ∙ ap (λ n. new_end n Client) there; faultless = made.2; calm_is = λ s. c.in-End.ensures.certain (i.sure s) })
+          each_push (λ j (s : Steady g.row.D-E.Denot). IsNewEnd E.told E.faults E.calm sure (first + j) s.end) c.loop.ends.items (record { end = c.in-End.end }) i.new
+          (record { is = (made.1 ∙ ap (λ n. new_end n Client) there, made.2); calm_is = λ s. c.in-End.ensures.certain (i.sure s) })
           k x (sym (ap (λ l. slice_get l k) c.push_reserved.ensures.items) ∙ e);
       made = search rules;
       owed = search rules;
