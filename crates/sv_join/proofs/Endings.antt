@@ -107,9 +107,9 @@ same : (x y : Scenario) (bytes : List ℕ) → scenario_of bytes ≡ Ok x → sc
 same x y bytes e f = cc
 
 module _ (P : Type 0) where
-  always : {Q : List ℕ → Type 0} (held : Option (List ℕ)) → P → IfSome held (λ all. Q all → P)
-  always None p = tt
-  always (Some all) p = λ q. p
+  always : (Q : List ℕ → Type 0) (held : Option (List ℕ)) → P → IfSome held (λ all. Q all → P)
+  always Q None p = tt
+  always Q (Some all) p = λ q. p
 
   -- It has the client.
   not_lacking : (k : ℕ) (held : Option (List ℕ)) (scenario : Scenario) → IsRead held scenario → k < length scenario.clients → IfSome held (λ all. LacksClient k (take read_limit all) → P)
@@ -170,7 +170,7 @@ module _ {E : Type 0} (told : E → Told) (faults : E → ℕ) (calm : E → Typ
           outside = λ s. absurd (omega arith);
           lost = λ s. absurd (omega arith);
           shut_out = λ s. absurd (omega arith);
-          faulty = always (Faulty 3) held (inl refl);
+          faulty = always (Faulty 3) _ held (inl refl);
           lacking = refused_lacks (Lacking 3) asked.number held (string_bytes line) h.0;
         }
     leaves_is (endings.Plain plain.File) h =
@@ -181,8 +181,8 @@ module _ {E : Type 0} (told : E → Told) (faults : E → ℕ) (calm : E → Typ
           outside = λ s. absurd (omega arith);
           lost = λ s. absurd (omega arith);
           shut_out = λ s. absurd (omega arith);
-          faulty = always (Faulty 4) held (inr (inl refl));
-          lacking = always (Lacking 4) held (inl refl);
+          faulty = always (Faulty 4) _ held (inr (inl refl));
+          lacking = always (Lacking 4) _ held (inl refl);
         }
     leaves_is (endings.Plain plain.Memory) h =
         record {
@@ -192,8 +192,8 @@ module _ {E : Type 0} (told : E → Told) (faults : E → ℕ) (calm : E → Typ
           outside = λ s. absurd (omega arith);
           lost = λ s. absurd (omega arith);
           shut_out = λ s. absurd (omega arith);
-          faulty = always (Faulty 8) held (inr (inr refl));
-          lacking = always (Lacking 8) held (inr (inl refl));
+          faulty = always (Faulty 8) _ held (inr (inr refl));
+          lacking = always (Lacking 8) _ held (inr (inl refl));
         }
     leaves_is (endings.Plain plain.Link) h =
         let r = h.0 in
@@ -217,7 +217,7 @@ module _ {E : Type 0} (told : E → Told) (faults : E → ℕ) (calm : E → Typ
           lost = λ s. absurd (omega arith);
           shut_out = λ s. absurd (omega arith);
           faulty = read_is held (Faulty 10) r.scenario r.read;
-          lacking = always (Lacking 10) held (inr (inr refl));
+          lacking = always (Lacking 10) _ held (inr (inr refl));
         }
     leaves_is (endings.Reply fault) h =
         let r = h.0 in

@@ -1,4 +1,3 @@
-pub mod Legal
 pub mod Joining
 pub mod Words
 pub mod Texts

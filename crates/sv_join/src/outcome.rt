@@ -36,3 +36,14 @@ impl From<AllocError> for JoinFault {
         JoinFault::Memory
     }
 }
+
+impl<T: Drop> From<AllocFailed<T>> for JoinFault {
+    ghost use Rattle.std.specs.Prelude.{◌≡◌};
+    ghost use Rattle.sv_join.specs.declared.outcome.JoinFault.TheVariants as faults;
+
+    ghost from_gives = { λ _ e. e ≡ faults.Memory };
+
+    fn from(_e: AllocFailed<T>) -> JoinFault {
+        JoinFault::Memory
+    }
+}
