@@ -1,6 +1,6 @@
 -- What the status of an ending says.
-use Rattle.std.proofs.Common.{◌≡◌, ◌≢◌, ◌↔◌, ◌⊎◌, inl, inr, refl, arith, ℕ, ◌+◌, ◌<◌, ◌≤◌, List, length, take, Option, Some, None, slice_get, sym, ap, subst, ◌∙◌}
-use Rattle.std.specs.Prelude.{string_bytes, IfSome, Ok, Err, option_map}
+use Rattle.std.proofs.Common.{◌≡◌, ◌≢◌, ◌↔◌, ◌⊎◌, inl, inr, refl, arith, ℕ, ◌<◌, ◌≤◌, List, length, take, Option, Some, None, ap}
+use Rattle.std.specs.Prelude.{string_bytes, IfSome, Ok, Err}
 use Rattle.std.proofs.lemmas.Option.{slice_get_within}
 use Rattle.sv_bytes.specs.Faults.{Rose}
 use Rattle.sv_bytes.specs.Writing.{Told as IsTold}
@@ -9,7 +9,7 @@ use Rattle.sv_scenario.specs.declared.fault.ScenarioFault.{ScenarioFault}
 use Rattle.sv_scenario.specs.declared.scenario.Scenario.{Scenario}
 use Rattle.sv_scenario.specs.Scenarios.{scenario_of}
 use Rattle.sv_command.specs.declared.ending.Ending.TheVariants as plain
-use Rattle.sv_command.specs.Reading.{IsRead, IsRefused, IsNoScenario, HoldsScenario, held_of, read_limit}
+use Rattle.sv_command.specs.Reading.{IsRead, IsRefused, HoldsScenario, held_of, read_limit}
 use Rattle.sv_command.specs.Statuses.{Counts}
 use Rattle.sv_command.proofs.Held.{read_is, holds_none}
 use Rattle.sv_command.proofs.Statuses.{words_is as plain_words_is, link_is as plain_link_is}
@@ -17,7 +17,7 @@ use Rattle.sv_join.specs.declared.ending.JoinEnding.{JoinEnding}
 use Rattle.sv_join.specs.declared.ending.JoinEnding.TheVariants as endings
 use Rattle.sv_join.specs.Joining.{Passed}
 use Rattle.sv_join.specs.Words.{Asked, file_of}
-use Rattle.sv_join.specs.Statuses.{status_of, Raises, TellsFaults, NoneRose, LacksClient, EndsEarly, Ends, Leaves, line_of, TellsReply, TellsStatus, CanJoin}
+use Rattle.sv_join.specs.Statuses.{status_of, Raises, TellsFaults, NoneRose, LacksClient, Ends, Leaves, line_of, TellsStatus, CanJoin}
 
 -- ---- Statuses
 

@@ -1,5 +1,6 @@
 pub mod Places
 pub mod Unwrapping
+pub mod Lawful
 pub mod Played
 pub mod Answering
 pub mod Raising

@@ -1,5 +1,5 @@
 -- The play of a client over steady ends.
-use Rattle.std.proofs.Common.{◌≡◌, ◌≢◌, ℕ, zero, suc, ◌+◌, ◌<◌, ◌≤◌, List, [], ◌∷◌, ◌++◌, map, length, slice_get, get_or, Some, refl, sym, ap, subst, ◌∙◌, zero-add, arith}
+use Rattle.std.proofs.Common.{◌≡◌, ℕ, zero, suc, ◌+◌, ◌<◌, ◌≤◌, List, [], ◌∷◌, ◌++◌, map, length, reverse, slice_get, get_or, Some, refl, sym, ap, subst, ◌∙◌, zero-add, arith}
 use Rattle.std.specs.Prelude.{All, Vec}
 use Rattle.std.specs.declared.alloc.Global.{Global}
 use Rattle.std.specs.List.{AllByRecursion}
@@ -20,16 +20,19 @@ use Rattle.sv_scenario.specs.Limits.{IsGoodPlan, IsGoodScenario}
 use Rattle.sv_scenario.specs.Sessions.{sessions_of_plan, sessions_in}
 use Rattle.sv_asked.specs.Asked.{RepliesAreMessages}
 use Rattle.sv_player.specs.Going.{MayPlay}
-use Rattle.sv_player.specs.Played.{IsTraceOf, HasFollowed, AreDone, IsCause, IsOpenSession, replies_of}
+use Rattle.sv_player.specs.Played.{IsTraceOf, HasFollowed, AreDone, IsCause, IsOpenSession}
 use Rattle.sv_player.specs.Stops.{IsBad}
 use Rattle.sv_client.specs.Proper.{identity_of}
 use Rattle.sv_player.specs.declared.outcome.PlayerCause.{PlayerCause}
 use Rattle.sv_player.specs.declared.outcome.PlayerCause.TheVariants as causes
 use Rattle.sv_player.specs.declared.outcome.ReplyFault.{ReplyFault}
+use Rattle.law_traffic.proofs.Whole.{NeverRefused}
 use Rattle.sv_door.specs.Doors.{Passage, passage_of}
 use Rattle.sv_join.specs.declared.steady.Steady.{Steady}
+use Rattle.sv_join.specs.Legal.{IsLegalServer}
 use Rattle.sv_join.specs.Joining.{Passed, passed, passages_of, IsPlay, IsNewEnd, IsClientOf}
 use Rattle.sv_join.proofs.Places.{EachPlace, map_at}
+use Rattle.sv_join.proofs.Lawful.{not_refused}
 use Rattle.sv_join.proofs.Unwrapping.{inner, steady_told, steady_faults, steady_calm, done_inside, cause_inside, new_inside}
 
 plan_at : (P : Plan → Type 0) (plans : List Plan) (k : ℕ) (plan : Plan) → AllByRecursion P plans → slice_get plans k ≡ Some plan → P plan
@@ -137,3 +140,16 @@ module _ {E : Type 0} (told : E → Told) (faults : E → ℕ) (calm : E → Typ
       play_of S scenario k made before now plan trace cause old new is count news done given (subst (λ (c : ClientView). IsTraceOf c 0 trace) own trace_is)
       (subst (λ (h : Shape). HasFollowed h plan.steps trace cause) shape (subst (λ (s : List Step). HasFollowed client.who.shape s trace cause) same follows))
       (subst (λ (h : Shape). IsCause (steady_told told faults calm) (steady_faults told faults calm) (steady_calm told faults calm) h trace 0 old new cause) shape shows)
+
+  -- A legal server's reply is never the one that is refused.
+  pub never_lawful : NeverRefused → RepliesAreMessages → (scenario : Scenario) → IsGoodScenario scenario → All ValueFits scenario.world.values → (k : ℕ) (door : Passed) (trace : Trace)
+      (session : ℕ) (payload : Vec ℕ Global) (fault : ReplyFault) (play : IsPlay told faults calm scenario k door trace (causes.BadReply session payload fault))
+      → IsLegalServer scenario trace (passages_of told faults play.left) → ⊥
+  never_lawful law messages scenario good opening k door trace session payload fault play server =
+      let stuck = play.shows in
+      let s = stuck.place in
+      let here : IsOpenSession trace s = subst (IsOpenSession trace) (zero-add s) stuck.session in
+      let bad = subst (λ n. IsBad (identity_of scenario.world.shape trace) (reverse trace.events) n (told stuck.after) payload.items fault) (zero-add s) stuck.shows.1 in
+      let fine = plan_at (IsGoodPlan scenario.world.shape) scenario.clients k play.plan good.plans play.plan_is in
+      not_refused law messages scenario good opening trace play.plan.steps fine.few_steps play.trace_is.proper play.follows.follows (passages_of told faults play.left) server s
+      (passage_of (told stuck.after) (faults stuck.after)) (map_at (λ end. passage_of (told end) (faults end)) play.left s stuck.after stuck.is) here bad.rest bad.received payload.items fault bad.bad

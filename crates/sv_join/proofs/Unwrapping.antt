@@ -1,13 +1,12 @@
 -- What a player left of steady ends, told of the ends themselves.
-use Rattle.std.proofs.Common.{◌≡◌, ◌≢◌, ◌⊎◌, inl, inr, ℕ, ◌+◌, ◌<◌, List, map, length, slice_get, Some, refl, sym, ap, subst, ◌∙◌, arith}
+use Rattle.std.proofs.Common.{◌≡◌, ◌⊎◌, ℕ, ◌+◌, ◌<◌, List, map, length, slice_get, Some, refl, sym, ap, subst, ◌∙◌, arith}
 use Rattle.std.specs.List.{AllByRecursion}
 use Rattle.std.proofs.lemmas.List.{length-map}
 use Rattle.std.proofs.lemmas.Option.{slice_get_within}
-use Rattle.sv_bytes.specs.Faults.{Rose}
 use Rattle.sv_world.specs.declared.world.Shape.{Shape}
-use Rattle.sv_link.specs.Ends.{Told, new_end}
+use Rattle.sv_link.specs.Ends.{Told}
 use Rattle.sv_client.specs.declared.trace.Trace.{Trace}
-use Rattle.sv_player.specs.Played.{IsDone, IsIdle, IsOpenSession, AreDone, HasFault, HasOpen, IsCause}
+use Rattle.sv_player.specs.Played.{IsDone, IsIdle, IsOpenSession, AreDone, HasFault, IsCause}
 use Rattle.sv_player.specs.Sessions.{IsFresh}
 use Rattle.sv_player.specs.declared.outcome.PlayerCause.{PlayerCause}
 use Rattle.sv_player.specs.declared.outcome.PlayerCause.TheVariants as causes

@@ -1,5 +1,5 @@
 -- A client's play against the server of another program, over ends that a door makes and takes back.
-use Rattle.std.specs.Prelude.{◌≡◌, ◌⊎◌, ℕ, ◌+◌, ◌<◌, ◌++◌, List, map, length, Some, slice_get, Result, Ok, Err, Vec}
+use Rattle.std.specs.Prelude.{◌≡◌, ◌⊎◌, ℕ, ◌+◌, ◌++◌, List, map, length, Some, slice_get, Result, Ok, Err, Vec}
 use Rattle.std.specs.declared.alloc.Global.{Global}
 use Rattle.sv_bytes.specs.Faults.{Rose}
 use Rattle.sv_link.specs.Ends.{Told, new_end}
@@ -16,6 +16,7 @@ use Rattle.sv_player.specs.declared.outcome.PlayerCause.{PlayerCause}
 use Rattle.sv_player.specs.declared.outcome.PlayerCause.TheVariants as causes
 use Rattle.sv_player.specs.declared.outcome.ReplyFault.{ReplyFault}
 use Rattle.sv_door.specs.Doors.{Passage, passage_of}
+use Rattle.sv_join.specs.Legal.{IsLegalServer}
 use Rattle.sv_join.specs.declared.outcome.Joined.{Joined}
 use Rattle.sv_join.specs.declared.outcome.JoinFault.{JoinFault}
 use Rattle.sv_join.specs.declared.outcome.JoinFault.TheVariants as join_faults
@@ -78,6 +79,8 @@ module _ {E : Type 0} (told : E → Told) (faults : E → ℕ) (calm : E → Typ
     pub session : ℕ
     pub payload : Vec ℕ Global
     pub play : IsPlay scenario k door trace (causes.BadReply session payload fault)
+    -- a legal server sends no such reply
+    pub lawless : IsLegalServer scenario trace (passages_of told faults play.left) → ⊥
 
   -- Client k awaits a reply over an end that told that no more will come, in the session that it has open.
   pub record IsClosed (scenario : Scenario) (k : ℕ) (door : Passed) : Type 0 where

@@ -1,3 +1,4 @@
+pub mod Legal
 pub mod Joining
 pub mod Words
 pub mod Texts

@@ -1,5 +1,5 @@
 -- How a join ends, and what each status says.
-use Rattle.std.specs.Prelude.{◌≡◌, ◌≢◌, ◌↔◌, ◌⊎◌, ℕ, ◌+◌, ◌<◌, ◌≤◌, ◌==◌, List, [], length, take, Option, Some, None, codes, if◌then◌else◌, Result, Ok, Err, String, string_bytes, IfSome}
+use Rattle.std.specs.Prelude.{◌≡◌, ◌≢◌, ◌↔◌, ◌⊎◌, ℕ, ◌<◌, ◌≤◌, ◌==◌, List, length, take, Option, Some, None, codes, if◌then◌else◌, Result, Ok, Err, String, string_bytes, IfSome}
 use Rattle.std.specs.declared.alloc.Global.{Global}
 use Rattle.sv_bytes.specs.Faults.{Rose}
 use Rattle.sv_bytes.specs.Writing.{Grew, GrewByPart, Told as IsTold}

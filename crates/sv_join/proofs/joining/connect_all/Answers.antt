@@ -1,4 +1,4 @@
-use Rattle.std.proofs.Common.{rules, ◌≡◌, ◌+◌, length, slice_get, sym, ap, ◌∙◌}
+use Rattle.std.proofs.Common.{rules, ◌+◌, slice_get, sym, ap, ◌∙◌}
 use Rattle.sv_link.specs.Ends.{new_end}
 use Rattle.sv_link.specs.declared.side.Side.TheVariants.{Client}
 use Rattle.sv_join.specs.Joining.{IsNewEnd}

@@ -1,10 +1,10 @@
-use Rattle.std.proofs.Common.{◌≡◌, ◌<◌, ◌++◌, length, slice_get, get_or, Some, sym, ap, subst, ◌∙◌, arith}
+use Rattle.std.proofs.Common.{◌≡◌, ◌<◌, ◌++◌, slice_get, get_or, Some, sym, ap, subst, ◌∙◌, arith}
 use Rattle.std.specs.List.{AllByRecursion}
 use Rattle.sv_player.specs.Played.{IsCause}
 use Rattle.sv_join.specs.declared.steady.Steady.{Steady}
 use Rattle.sv_join.specs.Joining.{passed, passages_of, IsLeft}
 use Rattle.sv_join.proofs.Unwrapping.{steady_told, steady_faults, steady_calm, no_fault, all_own, all_fresh}
-use Rattle.sv_join.proofs.Played.{plan_there, few_sessions, may_play, played}
+use Rattle.sv_join.proofs.Played.{plan_there, few_sessions, may_play, played, never_lawful}
 use Rattle.sv_join.proofs.Answering.{left_of, broken_by}
 use Rattle.sv_join.proofs.joining.play_over.Goals as goal
 
@@ -54,7 +54,8 @@ returns-clause-left g c =
     subst
     (λ r. IsLeft E.told E.faults E.calm scenario c.args.number (passed (g.D.Door.made c.args.door.now) (g.D.Door.given c.args.door.now) (g.D.Door.given c.give_all_back-2.new.door)) (g.D.Door.faults c.args.door.now)
     (g.D.Door.faults c.give_all_back-2.new.door) r)
-    (sym c.answer.ensures) (left_of E.told E.faults E.calm scenario c.args.number _ _ _ out.trace out.cause out.lines play c.play_client-cause.ensures.lines)
+    (sym c.answer.ensures) (left_of E.told E.faults E.calm scenario c.args.number _ _ _ out.trace out.cause out.lines play c.play_client-cause.ensures.lines
+    (never_lawful E.told E.faults E.calm c.honest_clients_are_never_refused.ensures.faults c.replies_are_messages.ensures scenario c.requires.good c.read_scenario_numbers.ensures.values c.args.number _ out.trace))
 
 pub returns-clause-sure : goal.returns-clause-sure
 returns-clause-sure g c =

@@ -1,4 +1,4 @@
-use Rattle.sv_join.proofs.Endings.{range_is, words_is, sure_file_is, sure_door_is, faults_are, left_is, nothing_is, told_is, complete_is}
+use Rattle.sv_join.proofs.Endings.{range_is, words_is, sure_file_is, sure_door_is, faults_are, left_is, told_is, complete_is}
 use Rattle.sv_join.proofs.top.run_join.Goals as goal
 
 pub returns-clause-range : goal.returns-clause-range
