@@ -11,7 +11,8 @@ use sv_link::{End, send_all};
 pub const PORT: u16 = 7000;
 
 /// One client, that adds 1 to object 0, waits for the result and looks at it.
-const SCENARIO: &str = r#"{"attrs":1,"objects":[[5]],"bound":4,"clients":[{"interest":[0],"steps":[{"act":"reads 0 writes 0 { set @0.0 (@0.0 + 1); }"},"sync",{"show":[0]}]}]}"#;
+const SCENARIO: &str =
+    r#"{"attrs":1,"objects":[[5]],"bound":4,"clients":[{"interest":[0],"steps":[{"act":"reads 0 writes 0 { set @0.0 (@0.0 + 1); }"},"sync",{"show":[0]}]}]}"#;
 
 const ROOM: usize = 1_024;
 
