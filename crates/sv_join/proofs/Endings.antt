@@ -1,0 +1,325 @@
+-- What the status of an ending says.
+use Rattle.std.proofs.Common.{◌≡◌, ◌≢◌, ◌↔◌, ◌⊎◌, inl, inr, refl, arith, ℕ, ◌<◌, ◌≤◌, List, length, take, Option, Some, None, ap}
+use Rattle.std.specs.Prelude.{string_bytes, IfSome, Ok, Err}
+use Rattle.std.proofs.lemmas.Option.{slice_get_within}
+use Rattle.sv_bytes.specs.Faults.{Rose}
+use Rattle.sv_bytes.specs.Writing.{Told as IsTold}
+use Rattle.sv_link.specs.Ends.{Told}
+use Rattle.sv_scenario.specs.declared.fault.ScenarioFault.{ScenarioFault}
+use Rattle.sv_scenario.specs.declared.scenario.Scenario.{Scenario}
+use Rattle.sv_scenario.specs.Scenarios.{scenario_of}
+use Rattle.sv_command.specs.declared.ending.Ending.TheVariants as plain
+use Rattle.sv_command.specs.Reading.{IsRead, IsRefused, HoldsScenario, held_of, read_limit}
+use Rattle.sv_command.specs.Statuses.{Counts}
+use Rattle.sv_command.proofs.Held.{read_is, holds_none}
+use Rattle.sv_command.proofs.Statuses.{words_is as plain_words_is, link_is as plain_link_is}
+use Rattle.sv_join.specs.declared.ending.JoinEnding.{JoinEnding}
+use Rattle.sv_join.specs.declared.ending.JoinEnding.TheVariants as endings
+use Rattle.sv_join.specs.Joining.{Passed}
+use Rattle.sv_join.specs.Words.{Asked, file_of}
+use Rattle.sv_join.specs.Statuses.{status_of, Raises, TellsFaults, NoneRose, LacksClient, Ends, Leaves, line_of, TellsStatus, CanJoin}
+
+-- ---- Statuses
+
+words_of : (e : JoinEnding) → status_of e ≡ 2 → e ≡ endings.Plain plain.Words
+words_of (endings.Plain e) s = ap endings.Plain ((plain_words_is e (λ x. x, λ x. x)).0 s)
+words_of endings.Range s = absurd (omega arith)
+words_of (endings.Reply fault) s = absurd (omega arith)
+words_of endings.Closed s = absurd (omega arith)
+
+pub words_is : {A : Type 0} (e : JoinEnding) → ((e ≡ endings.Plain plain.Words) ↔ A) → (status_of e ≡ 2) ↔ A
+words_is e w = (λ s. w.0 (words_of e s), λ n. ap status_of (w.1 n))
+
+file_is : (e : JoinEnding) → status_of e ≡ 4 → e ≡ endings.Plain plain.File
+file_is (endings.Plain plain.File) s = refl
+file_is (endings.Plain plain.Done) s = absurd (omega arith)
+file_is (endings.Plain plain.Words) s = absurd (omega arith)
+file_is (endings.Plain (plain.Scenario line)) s = absurd (omega arith)
+file_is (endings.Plain plain.Start) s = absurd (omega arith)
+file_is (endings.Plain plain.Link) s = absurd (omega arith)
+file_is (endings.Plain plain.Out) s = absurd (omega arith)
+file_is (endings.Plain plain.Memory) s = absurd (omega arith)
+file_is endings.Range s = absurd (omega arith)
+file_is (endings.Reply fault) s = absurd (omega arith)
+file_is endings.Closed s = absurd (omega arith)
+
+link_is : (e : JoinEnding) → status_of e ≡ 6 → e ≡ endings.Plain plain.Link
+link_is (endings.Plain e) s = ap endings.Plain (plain_link_is e s)
+link_is endings.Range s = absurd (omega arith)
+link_is (endings.Reply fault) s = absurd (omega arith)
+link_is endings.Closed s = absurd (omega arith)
+
+pub sure_file_is : (sure : List ℕ → Type 0) (a : Option Asked) (e : JoinEnding) → IfSome a (λ (x : Asked). sure x.file → e ≢ endings.Plain plain.File) → IfSome a (λ (x : Asked). sure x.file → status_of e ≢ 4)
+sure_file_is sure None e h = tt
+sure_file_is sure (Some x) e h = λ s f. h s (file_is e f)
+
+pub sure_door_is : (sure : ℕ → Type 0) (a : Option Asked) (e : JoinEnding) → IfSome a (λ (x : Asked). sure x.port → e ≢ endings.Plain plain.Link) → IfSome a (λ (x : Asked). sure x.port → status_of e ≢ 6)
+sure_door_is sure None e h = tt
+sure_door_is sure (Some x) e h = λ s l. h s (link_is e l)
+
+-- ---- Faults
+
+quiet : (b a : ℕ) → a ≡ b → Rose b a → ⊥
+quiet b a e rose = omega (arith, e, rose)
+
+untold : (n m b a : ℕ) → (n ≡ m → ⊥) → a ≡ b → (n ≡ m) ↔ Rose b a
+untold n m b a other e = (λ s. absurd (other s), λ rose. absurd (quiet b a e rose))
+
+module _ (before now : Counts) where
+  none_told : (n : ℕ) → (n ≡ 4 → ⊥) → (n ≡ 5 → ⊥) → now ≡ before → TellsFaults n before now
+  none_told n file out e = record {
+    file = untold n 4 _ _ file (ap (λ (k : Counts). k.files) e);
+    out = untold n 5 _ _ out (ap (λ (k : Counts). k.out) e);
+    link = λ rose. absurd (quiet _ _ (ap (λ (k : Counts). k.net) e) rose);
+  }
+
+  pub faults_are : (e : JoinEnding) → Raises before now e → TellsFaults (status_of e) before now
+  faults_are (endings.Plain plain.Done) h = none_told 0 (λ s. absurd (omega arith)) (λ s. absurd (omega arith)) h
+  faults_are (endings.Plain plain.Words) h = none_told 2 (λ s. absurd (omega arith)) (λ s. absurd (omega arith)) h
+  faults_are (endings.Plain (plain.Scenario line)) h = none_told 3 (λ s. absurd (omega arith)) (λ s. absurd (omega arith)) h
+  faults_are (endings.Plain plain.Start) h = none_told 7 (λ s. absurd (omega arith)) (λ s. absurd (omega arith)) h
+  faults_are (endings.Plain plain.Memory) h = none_told 8 (λ s. absurd (omega arith)) (λ s. absurd (omega arith)) h
+  faults_are endings.Range h = none_told 10 (λ s. absurd (omega arith)) (λ s. absurd (omega arith)) h
+  faults_are (endings.Reply fault) h = none_told 11 (λ s. absurd (omega arith)) (λ s. absurd (omega arith)) h
+  faults_are endings.Closed h = none_told 12 (λ s. absurd (omega arith)) (λ s. absurd (omega arith)) h
+  faults_are (endings.Plain plain.File) h = record {
+    file = (λ s. h.0, λ rose. refl);
+    out = untold 4 5 _ _ (λ s. absurd (omega arith)) (ap (λ (k : Counts). k.out) h.1);
+    link = λ rose. absurd (quiet _ _ (ap (λ (k : Counts). k.net) h.1) rose);
+  }
+  faults_are (endings.Plain plain.Out) h = record {
+    file = untold 5 4 _ _ (λ s. absurd (omega arith)) (ap (λ (k : Counts). k.files) h.1);
+    out = (λ s. h.0, λ rose. refl);
+    link = λ rose. absurd (quiet _ _ (ap (λ (k : Counts). k.net) h.1) rose);
+  }
+  faults_are (endings.Plain plain.Link) h = record {
+    file = untold 6 4 _ _ (λ s. absurd (omega arith)) (ap (λ (k : Counts). k.files) h);
+    out = untold 6 5 _ _ (λ s. absurd (omega arith)) (ap (λ (k : Counts). k.out) h);
+    link = λ rose. refl;
+  }
+
+-- ---- What was read
+
+both : (scenario : Scenario) (fault : ScenarioFault) (bytes : List ℕ) → scenario_of bytes ≡ Ok scenario → scenario_of bytes ≡ Err fault → ⊥
+both scenario fault bytes e f = cc
+
+same : (x y : Scenario) (bytes : List ℕ) → scenario_of bytes ≡ Ok x → scenario_of bytes ≡ Ok y → x ≡ y
+same x y bytes e f = cc
+
+module _ (P : Type 0) where
+  always : (Q : List ℕ → Type 0) (held : Option (List ℕ)) → P → IfSome held (λ all. Q all → P)
+  always Q None p = tt
+  always Q (Some all) p = λ q. p
+
+  -- It has the client.
+  not_lacking : (k : ℕ) (held : Option (List ℕ)) (scenario : Scenario) → IsRead held scenario → k < length scenario.clients → IfSome held (λ all. LacksClient k (take read_limit all) → P)
+  not_lacking k None scenario r low = tt
+  not_lacking k (Some all) scenario r low = λ lacks.
+      let read : scenario_of r.bytes ≡ Ok lacks.scenario = rw r.front lacks.read in
+      let over = lacks.over in
+      let counted : length scenario.clients ≡ length lacks.scenario.clients = ap (λ (x : Scenario). length x.clients) (same scenario lacks.scenario r.bytes r.read read) in
+      absurd (omega (arith, over, counted, low))
+
+  -- What was refused is none.
+  refused_lacks : (k : ℕ) (held : Option (List ℕ)) (line : List ℕ) → IsRefused held line → IfSome held (λ all. LacksClient k (take read_limit all) → P)
+  refused_lacks k None line r = tt
+  refused_lacks k (Some all) line r = λ lacks.
+      let read : scenario_of r.bytes ≡ Ok lacks.scenario = rw r.front lacks.read in
+      absurd (both lacks.scenario r.fault r.bytes read r.faulty)
+
+-- ---- What is left of a join, by its status
+
+module _ {E : Type 0} (told : E → Told) (faults : E → ℕ) (calm : E → Type 0) (door : Passed) (before now : ℕ) (old new : Option (List ℕ)) where
+  module _ (asked : Asked) (held : Option (List ℕ)) where
+    abbrev Faulty : ℕ → Type 0
+    Faulty n = (n ≡ 3) ⊎ (n ≡ 4) ⊎ (n ≡ 8)
+
+    abbrev Lacking : ℕ → Type 0
+    Lacking n = (n ≡ 4) ⊎ (n ≡ 8) ⊎ (n ≡ 10)
+
+    leaves_is : (e : JoinEnding) → Ends told faults calm asked held door before now old new e → Leaves told faults calm asked held door before now old new (status_of e)
+    leaves_is (endings.Plain plain.Done) h =
+        let r = h.tells in
+        record {
+          printed = λ s. h;
+          part = λ s. absurd (omega arith);
+          nothing = λ z f. absurd (z refl);
+          outside = λ s. absurd (omega arith);
+          lost = λ s. absurd (omega arith);
+          shut_out = λ s. absurd (omega arith);
+          faulty = read_is held (Faulty 0) r.scenario r.read;
+          lacking = not_lacking (Lacking 0) asked.number held r.scenario r.read (slice_get_within r.scenario.clients asked.number r.play.play.plan r.play.play.plan_is);
+        }
+    leaves_is (endings.Plain plain.Out) h =
+        let r = h.tells in
+        record {
+          printed = λ s. absurd (omega arith);
+          part = λ s. h;
+          nothing = λ z f. absurd (f refl);
+          outside = λ s. absurd (omega arith);
+          lost = λ s. absurd (omega arith);
+          shut_out = λ s. absurd (omega arith);
+          faulty = read_is held (Faulty 5) r.scenario r.read;
+          lacking = not_lacking (Lacking 5) asked.number held r.scenario r.read (slice_get_within r.scenario.clients asked.number r.play.play.plan r.play.play.plan_is);
+        }
+    leaves_is (endings.Plain (plain.Scenario line)) h =
+        record {
+          printed = λ s. absurd (omega arith);
+          part = λ s. absurd (omega arith);
+          nothing = λ z f. h.1;
+          outside = λ s. absurd (omega arith);
+          lost = λ s. absurd (omega arith);
+          shut_out = λ s. absurd (omega arith);
+          faulty = always (Faulty 3) _ held (inl refl);
+          lacking = refused_lacks (Lacking 3) asked.number held (string_bytes line) h.0;
+        }
+    leaves_is (endings.Plain plain.File) h =
+        record {
+          printed = λ s. absurd (omega arith);
+          part = λ s. absurd (omega arith);
+          nothing = λ z f. h.1;
+          outside = λ s. absurd (omega arith);
+          lost = λ s. absurd (omega arith);
+          shut_out = λ s. absurd (omega arith);
+          faulty = always (Faulty 4) _ held (inr (inl refl));
+          lacking = always (Lacking 4) _ held (inl refl);
+        }
+    leaves_is (endings.Plain plain.Memory) h =
+        record {
+          printed = λ s. absurd (omega arith);
+          part = λ s. absurd (omega arith);
+          nothing = λ z f. h.1;
+          outside = λ s. absurd (omega arith);
+          lost = λ s. absurd (omega arith);
+          shut_out = λ s. absurd (omega arith);
+          faulty = always (Faulty 8) _ held (inr (inr refl));
+          lacking = always (Lacking 8) _ held (inr (inl refl));
+        }
+    leaves_is (endings.Plain plain.Link) h =
+        let r = h.0 in
+        record {
+          printed = λ s. absurd (omega arith);
+          part = λ s. absurd (omega arith);
+          nothing = λ z f. h.1;
+          outside = λ s. absurd (omega arith);
+          lost = λ s. r;
+          shut_out = λ s. absurd (omega arith);
+          faulty = read_is held (Faulty 6) r.scenario r.read;
+          lacking = not_lacking (Lacking 6) asked.number held r.scenario r.read r.within;
+        }
+    leaves_is endings.Range h =
+        let r = h.0 in
+        record {
+          printed = λ s. absurd (omega arith);
+          part = λ s. absurd (omega arith);
+          nothing = λ z f. h.1;
+          outside = λ s. r;
+          lost = λ s. absurd (omega arith);
+          shut_out = λ s. absurd (omega arith);
+          faulty = read_is held (Faulty 10) r.scenario r.read;
+          lacking = always (Lacking 10) _ held (inr (inr refl));
+        }
+    leaves_is (endings.Reply fault) h =
+        let r = h.0 in
+        record {
+          printed = λ s. absurd (omega arith);
+          part = λ s. absurd (omega arith);
+          nothing = λ z f. h.1;
+          outside = λ s. absurd (omega arith);
+          lost = λ s. absurd (omega arith);
+          shut_out = λ s. absurd (omega arith);
+          faulty = read_is held (Faulty 11) r.scenario r.read;
+          lacking = not_lacking (Lacking 11) asked.number held r.scenario r.read (slice_get_within r.scenario.clients asked.number r.play.play.plan r.play.play.plan_is);
+        }
+    leaves_is endings.Closed h =
+        let r = h.0 in
+        record {
+          printed = λ s. absurd (omega arith);
+          part = λ s. absurd (omega arith);
+          nothing = λ z f. h.1;
+          outside = λ s. absurd (omega arith);
+          lost = λ s. absurd (omega arith);
+          shut_out = λ s. r;
+          faulty = read_is held (Faulty 12) r.scenario r.read;
+          lacking = not_lacking (Lacking 12) asked.number held r.scenario r.read (slice_get_within r.scenario.clients asked.number r.play.play.plan r.play.play.plan_is);
+        }
+    leaves_is (endings.Plain plain.Words) h = absurd h.0
+    leaves_is (endings.Plain plain.Start) h = absurd h.0
+
+    abbrev Range : ℕ → Type 0
+    Range n = (n ≡ 0) ⊎ ((2 ≤ n) × (n ≤ 6)) ⊎ (n ≡ 8) ⊎ ((10 ≤ n) × (n ≤ 12))
+
+    range_of : (e : JoinEnding) → Ends told faults calm asked held door before now old new e → Range (status_of e)
+    range_of (endings.Plain plain.Done) h = inl refl
+    range_of (endings.Plain plain.Words) h = inr (inl (omega arith, omega arith))
+    range_of (endings.Plain (plain.Scenario line)) h = inr (inl (omega arith, omega arith))
+    range_of (endings.Plain plain.File) h = inr (inl (omega arith, omega arith))
+    range_of (endings.Plain plain.Start) h = absurd h.0
+    range_of (endings.Plain plain.Link) h = inr (inl (omega arith, omega arith))
+    range_of (endings.Plain plain.Out) h = inr (inl (omega arith, omega arith))
+    range_of (endings.Plain plain.Memory) h = inr (inr (inl refl))
+    range_of endings.Range h = inr (inr (inr (omega arith, omega arith)))
+    range_of (endings.Reply fault) h = inr (inr (inr (omega arith, omega arith)))
+    range_of endings.Closed h = inr (inr (inr (omega arith, omega arith)))
+
+    told_of : (t0 t1 : Option (List ℕ)) (n0 n1 : ℕ) (named : Option (List ℕ)) (e : JoinEnding) → Ends told faults calm asked held door before now old new e → IsTold t0 t1 n0 n1 (line_of e named)
+        → TellsStatus told faults calm (Some asked) held named door (status_of e) t0 t1 n0 n1
+    told_of t0 t1 n0 n1 named (endings.Plain plain.Done) h t = record { line = line_of (endings.Plain plain.Done) named; faulty = λ s. absurd (omega arith); reply = λ s. absurd (omega arith); plain_is = λ x y. refl; told_is = t }
+    told_of t0 t1 n0 n1 named (endings.Plain plain.Words) h t = absurd h.0
+    told_of t0 t1 n0 n1 named (endings.Plain (plain.Scenario line)) h t = record { line = string_bytes line; faulty = λ s. h.0; reply = λ s. absurd (omega arith); plain_is = λ x y. absurd (x refl); told_is = t }
+    told_of t0 t1 n0 n1 named (endings.Plain plain.File) h t = record { line = line_of (endings.Plain plain.File) named; faulty = λ s. absurd (omega arith); reply = λ s. absurd (omega arith); plain_is = λ x y. refl; told_is = t }
+    told_of t0 t1 n0 n1 named (endings.Plain plain.Start) h t = absurd h.0
+    told_of t0 t1 n0 n1 named (endings.Plain plain.Link) h t = record { line = line_of (endings.Plain plain.Link) named; faulty = λ s. absurd (omega arith); reply = λ s. absurd (omega arith); plain_is = λ x y. refl; told_is = t }
+    told_of t0 t1 n0 n1 named (endings.Plain plain.Out) h t = record { line = line_of (endings.Plain plain.Out) named; faulty = λ s. absurd (omega arith); reply = λ s. absurd (omega arith); plain_is = λ x y. refl; told_is = t }
+    told_of t0 t1 n0 n1 named (endings.Plain plain.Memory) h t = record { line = line_of (endings.Plain plain.Memory) named; faulty = λ s. absurd (omega arith); reply = λ s. absurd (omega arith); plain_is = λ x y. refl; told_is = t }
+    told_of t0 t1 n0 n1 named endings.Range h t = record { line = line_of endings.Range named; faulty = λ s. absurd (omega arith); reply = λ s. absurd (omega arith); plain_is = λ x y. refl; told_is = t }
+    told_of t0 t1 n0 n1 named (endings.Reply fault) h t =
+        record { line = line_of (endings.Reply fault) named; faulty = λ s. absurd (omega arith); reply = λ s. record { fault = fault; refused = h.0; line_is = refl }; plain_is = λ x y. absurd (y refl); told_is = t }
+    told_of t0 t1 n0 n1 named endings.Closed h t = record { line = line_of endings.Closed named; faulty = λ s. absurd (omega arith); reply = λ s. absurd (omega arith); plain_is = λ x y. refl; told_is = t }
+
+    abbrev Complete : ℕ → Type 0
+    Complete n = (n ≡ 0) ⊎ (n ≡ 6) ⊎ (n ≡ 8) ⊎ ((10 ≤ n) × (n ≤ 12))
+
+    complete_of : (b a : Counts) (e : JoinEnding) → Ends told faults calm asked held door before now old new e → Raises b a e → HoldsScenario held → NoneRose b a → Complete (status_of e)
+    complete_of b a (endings.Plain plain.Done) h r can none = inl refl
+    complete_of b a (endings.Plain plain.Words) h r can none = absurd h.0
+    complete_of b a (endings.Plain (plain.Scenario line)) h r can none = holds_none held (Complete 3) (string_bytes line) h.0 can
+    complete_of b a (endings.Plain plain.File) h r can none = absurd (none.0 r.0)
+    complete_of b a (endings.Plain plain.Start) h r can none = absurd h.0
+    complete_of b a (endings.Plain plain.Link) h r can none = inr (inl refl)
+    complete_of b a (endings.Plain plain.Out) h r can none = absurd (none.2 r.0)
+    complete_of b a (endings.Plain plain.Memory) h r can none = inr (inr (inl refl))
+    complete_of b a endings.Range h r can none = inr (inr (inr (omega arith, omega arith)))
+    complete_of b a (endings.Reply fault) h r can none = inr (inr (inr (omega arith, omega arith)))
+    complete_of b a endings.Closed h r can none = inr (inr (inr (omega arith, omega arith)))
+
+  module _ (contents : List ℕ → Option (List ℕ)) where
+    abbrev AllEnds : Option Asked → JoinEnding → Type 0
+    AllEnds a e = IfSome a (λ (x : Asked). Ends told faults calm x (contents x.file) door before now old new e)
+
+    pub left_is : (a : Option Asked) (e : JoinEnding) → AllEnds a e → IfSome a (λ (x : Asked). Leaves told faults calm x (contents x.file) door before now old new (status_of e))
+    left_is None e h = tt
+    left_is (Some x) e h = leaves_is x (contents x.file) e h
+
+    pub range_is : (a : Option Asked) (e : JoinEnding) → ((e ≡ endings.Plain plain.Words) ↔ (a ≡ None)) → AllEnds a e → (status_of e ≡ 0) ⊎ ((2 ≤ status_of e) × (status_of e ≤ 6)) ⊎ (status_of e ≡ 8) ⊎ ((10 ≤ status_of e) × (status_of e ≤ 12))
+    range_is None e w h =
+        let two : status_of e ≡ 2 = ap status_of (w.1 refl) in
+        inr (inl (omega (arith, two), omega (arith, two)))
+    range_is (Some x) e w h = range_of x (contents x.file) e h
+
+    pub told_is : (t0 t1 : Option (List ℕ)) (n0 n1 : ℕ) (a : Option Asked) (e : JoinEnding) → ((e ≡ endings.Plain plain.Words) ↔ (a ≡ None)) → AllEnds a e → IsTold t0 t1 n0 n1 (line_of e (file_of a))
+        → TellsStatus told faults calm a (held_of contents (file_of a)) (file_of a) door (status_of e) t0 t1 n0 n1
+    told_is t0 t1 n0 n1 None e w h t =
+        let is = w.1 refl in
+        let two : status_of e ≡ 2 = ap status_of is in
+        record { line = line_of e None; faulty = λ s. absurd (omega (arith, two, s)); reply = λ s. tt; plain_is = λ x y. rw is refl; told_is = t }
+    told_is t0 t1 n0 n1 (Some x) e w h t = told_of x (contents x.file) t0 t1 n0 n1 (Some x.file) e h t
+
+    pub nothing_is : (a : Option Asked) (e : JoinEnding) → AllEnds a e → (a ≡ None → new ≡ old) → status_of e ≢ 0 → status_of e ≢ 5 → new ≡ old
+    nothing_is None e h alone z f = alone refl
+    nothing_is (Some x) e h alone z f = (leaves_is x (contents x.file) e h).nothing z f
+
+    pub complete_is : (b c : Counts) (a : Option Asked) (e : JoinEnding) → AllEnds a e → Raises b c e → CanJoin a (held_of contents (file_of a)) → NoneRose b c
+        → (status_of e ≡ 0) ⊎ (status_of e ≡ 6) ⊎ (status_of e ≡ 8) ⊎ ((10 ≤ status_of e) × (status_of e ≤ 12))
+    complete_is b c None e h r can none = absurd can
+    complete_is b c (Some x) e h r can none = complete_of x (contents x.file) b c e h r can none

@@ -1,0 +1,7 @@
+pub mod Places
+pub mod Unwrapping
+pub mod Lawful
+pub mod Played
+pub mod Answering
+pub mod Raising
+pub mod Endings

@@ -1,0 +1,6 @@
+pub mod Legal
+pub mod Joining
+pub mod Words
+pub mod Texts
+pub mod Faults
+pub mod Statuses

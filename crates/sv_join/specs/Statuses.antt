@@ -1,0 +1,187 @@
+-- How a join ends, and what each status says.
+use Rattle.std.specs.Prelude.{◌≡◌, ◌≢◌, ◌↔◌, ◌⊎◌, ℕ, ◌<◌, ◌≤◌, ◌==◌, List, length, take, Option, Some, None, codes, if◌then◌else◌, Result, Ok, Err, String, string_bytes, IfSome}
+use Rattle.std.specs.declared.alloc.Global.{Global}
+use Rattle.sv_bytes.specs.Faults.{Rose}
+use Rattle.sv_bytes.specs.Writing.{Grew, GrewByPart, Told as IsTold}
+use Rattle.sv_link.specs.Ends.{Told}
+use Rattle.sv_scenario.specs.declared.scenario.Scenario.{Scenario}
+use Rattle.sv_scenario.specs.Scenarios.{scenario_of}
+use Rattle.sv_player.specs.declared.outcome.ReplyFault.{ReplyFault}
+use Rattle.sv_command.specs.declared.ending.Ending.TheVariants as plain
+use Rattle.sv_command.specs.Reading.{IsRead, IsRefused, HoldsScenario, IsNoScenario, read_limit}
+use Rattle.sv_command.specs.Statuses.{Counts, status_of as plain_status, line_of as plain_line, status_line as plain_status_line}
+use Rattle.sv_join.specs.declared.outcome.Joined.{Joined}
+use Rattle.sv_join.specs.declared.outcome.JoinFault.{JoinFault}
+use Rattle.sv_join.specs.declared.outcome.JoinFault.TheVariants as faults
+use Rattle.sv_join.specs.declared.ending.JoinEnding.{JoinEnding}
+use Rattle.sv_join.specs.declared.ending.JoinEnding.TheVariants as endings
+use Rattle.sv_join.specs.Faults.{reply_line}
+use Rattle.sv_join.specs.Joining.{Passed, IsJoined, IsBroken, IsRefusing, IsClosed}
+use Rattle.sv_join.specs.Texts.{join_text}
+use Rattle.sv_join.specs.Words.{Asked}
+
+-- ---- Endings
+
+abbrev pub status_of : JoinEnding → ℕ
+status_of (endings.Plain ending) = plain_status ending
+status_of endings.Range = 10
+status_of (endings.Reply fault) = 11
+status_of endings.Closed = 12
+
+abbrev pub ending_of_fault : JoinFault → JoinEnding
+ending_of_fault faults.Link = endings.Plain plain.Link
+ending_of_fault (faults.Reply fault) = endings.Reply fault
+ending_of_fault faults.Closed = endings.Closed
+ending_of_fault faults.Memory = endings.Plain plain.Memory
+
+-- what a part of a join ends with
+abbrev pub ending_of : {A : Type 0} → Result A JoinEnding → JoinEnding
+ending_of (Ok made) = endings.Plain plain.Done
+ending_of (Err ending) = ending
+
+-- ---- Faults
+
+-- The counts of faults before and after, where the net's is the door's: the count of what the ending tells of rose, and no other. A link
+-- is told of besides where an end failed.
+abbrev pub Raises : Counts → Counts → JoinEnding → Type 0
+Raises before now (endings.Plain plain.File) = Rose before.files now.files × (now ≡ record before { files = now.files })
+Raises before now (endings.Plain plain.Out) = Rose before.out now.out × (now ≡ record before { out = now.out })
+Raises before now (endings.Plain plain.Link) = now ≡ record before { net = now.net }
+Raises before now _ = now ≡ before
+
+-- A status tells of the files and of the output exactly where their counts rose, and of a link always where the door's count rose.
+pub record TellsFaults (status : ℕ) (before now : Counts) : Type 0 where
+  pub file : (status ≡ 4) ↔ Rose before.files now.files
+  pub out : (status ≡ 5) ↔ Rose before.out now.out
+  pub link : Rose before.net now.net → status ≡ 6
+
+abbrev pub NoneRose : Counts → Counts → Type 0
+NoneRose before now = (¬ Rose before.files now.files) × (¬ Rose before.net now.net) × (¬ Rose before.out now.out)
+
+-- ---- What was read
+
+-- What was read of the file is a scenario that has no client of this number.
+pub record IsOutside (held : Option (List ℕ)) (number : ℕ) : Type 0 where
+  pub scenario : Scenario
+  pub read : IsRead held scenario
+  pub over : length scenario.clients ≤ number
+
+-- The bytes are a scenario that has no client of this number.
+pub record LacksClient (number : ℕ) (bytes : List ℕ) : Type 0 where
+  pub scenario : Scenario
+  pub read : scenario_of bytes ≡ Ok scenario
+  pub over : length scenario.clients ≤ number
+
+-- ---- What was played
+
+module _ {E : Type 0} (told : E → Told) (faults : E → ℕ) (calm : E → Type 0) where
+  -- The text tells the play of the client that is asked for, in the scenario of the file, which came to the end of its script.
+  pub record IsText (asked : Asked) (held : Option (List ℕ)) (door : Passed) (text : List ℕ) : Type 0 where
+    pub scenario : Scenario
+    pub read : IsRead held scenario
+    pub joined : Joined
+    pub play : IsJoined told faults calm scenario asked.number door joined
+    pub text_is : text ≡ join_text joined.trace
+
+  -- The door's count of faults rose, or an end of the client that is asked for failed, in the session that it has open.
+  pub record IsLost (asked : Asked) (held : Option (List ℕ)) (door : Passed) (before now : ℕ) : Type 0 where
+    pub scenario : Scenario
+    pub read : IsRead held scenario
+    pub within : asked.number < length scenario.clients
+    pub cause : Rose before now ⊎ IsBroken told faults calm scenario asked.number door
+
+  -- The client that is asked for was stopped by a reply that it does not take, for this fault.
+  pub record IsReplyRefused (asked : Asked) (held : Option (List ℕ)) (door : Passed) (fault : ReplyFault) : Type 0 where
+    pub scenario : Scenario
+    pub read : IsRead held scenario
+    pub play : IsRefusing told faults calm scenario asked.number door fault
+
+  -- The client that is asked for awaits a reply over an end that told that no more will come.
+  pub record IsShutOut (asked : Asked) (held : Option (List ℕ)) (door : Passed) : Type 0 where
+    pub scenario : Scenario
+    pub read : IsRead held scenario
+    pub play : IsClosed told faults calm scenario asked.number door
+
+  -- an ending without a text
+  abbrev pub EndsEarly : Asked → Option (List ℕ) → Passed → (before now : ℕ) → JoinEnding → Type 0
+  EndsEarly asked held door before now (endings.Plain (plain.Scenario line)) = IsRefused held (string_bytes line)
+  EndsEarly asked held door before now (endings.Plain plain.File) = Unit {0}
+  EndsEarly asked held door before now (endings.Plain plain.Link) = IsLost asked held door before now
+  EndsEarly asked held door before now (endings.Plain plain.Memory) = Unit {0}
+  EndsEarly asked held door before now endings.Range = IsOutside held asked.number
+  EndsEarly asked held door before now (endings.Reply fault) = IsReplyRefused asked held door fault
+  EndsEarly asked held door before now endings.Closed = IsShutOut asked held door
+  EndsEarly asked held door before now _ = ⊥
+
+  -- the text that tells the play, or why there is none
+  abbrev pub IsMade : Asked → Option (List ℕ) → Passed → (before now : ℕ) → Result (String Global) JoinEnding → Type 0
+  IsMade asked held door before now (Ok text) = IsText asked held door (string_bytes text)
+  IsMade asked held door before now (Err ending) = EndsEarly asked held door before now ending
+
+  -- The output grew by just the text.
+  pub record IsPrinted (asked : Asked) (held : Option (List ℕ)) (door : Passed) (old new : Option (List ℕ)) : Type 0 where
+    pub text : List ℕ
+    pub tells : IsText asked held door text
+    pub grew : Grew old new text
+
+  -- The output grew by a front part of the text.
+  pub record IsCutShort (asked : Asked) (held : Option (List ℕ)) (door : Passed) (old new : Option (List ℕ)) : Type 0 where
+    pub text : List ℕ
+    pub tells : IsText asked held door text
+    pub part : GrewByPart old new text
+
+  -- what is left of a join, by its ending
+  abbrev pub Ends : Asked → Option (List ℕ) → Passed → (before now : ℕ) → (old new : Option (List ℕ)) → JoinEnding → Type 0
+  Ends asked held door before now old new (endings.Plain plain.Done) = IsPrinted asked held door old new
+  Ends asked held door before now old new (endings.Plain plain.Out) = IsCutShort asked held door old new
+  Ends asked held door before now old new ending = EndsEarly asked held door before now ending × (new ≡ old)
+
+  -- What each status says of a join that is asked for.
+  pub record Leaves (asked : Asked) (held : Option (List ℕ)) (door : Passed) (before now : ℕ) (old new : Option (List ℕ)) (status : ℕ) : Type 0 where
+    pub printed : status ≡ 0 → IsPrinted asked held door old new
+    pub part : status ≡ 5 → IsCutShort asked held door old new
+    pub nothing : status ≢ 0 → status ≢ 5 → new ≡ old
+    pub outside : status ≡ 10 → IsOutside held asked.number
+    pub lost : status ≡ 6 → IsLost asked held door before now
+    pub shut_out : status ≡ 12 → IsShutOut asked held door
+    -- where the file is told to hold none, or a scenario without the client
+    pub faulty : IfSome held (λ all. IsNoScenario (take read_limit all) → (status ≡ 3) ⊎ (status ≡ 4) ⊎ (status ≡ 8))
+    pub lacking : IfSome held (λ all. LacksClient asked.number (take read_limit all) → (status ≡ 4) ⊎ (status ≡ 8) ⊎ (status ≡ 10))
+
+-- ---- The line beside the output
+
+abbrev pub words_line : List ℕ
+words_line = codes "words: join FILE K PORT\n"
+
+-- The line that tells of an ending.
+abbrev pub line_of : JoinEnding → Option (List ℕ) → List ℕ
+line_of (endings.Plain ending) named = plain_line words_line ending named
+line_of endings.Range named = codes "range\n"
+line_of (endings.Reply fault) named = reply_line fault
+line_of endings.Closed named = codes "closed\n"
+
+-- The line of a status other than 3 and 11.
+abbrev pub status_line : ℕ → Option (List ℕ) → List ℕ
+status_line status named = if status == 10 then codes "range\n" else (if status == 12 then codes "closed\n" else plain_status_line words_line status named)
+
+module _ {E : Type 0} (told : E → Told) (faults : E → ℕ) (calm : E → Type 0) where
+  -- The reply that was refused, and the line that tells why.
+  pub record TellsReply (asked : Asked) (held : Option (List ℕ)) (door : Passed) (line : List ℕ) : Type 0 where
+    pub fault : ReplyFault
+    pub refused : IsReplyRefused told faults calm asked held door fault
+    pub line_is : line ≡ reply_line fault
+
+  -- The sink was given just the line of the status. At 3 it tells of the first fault of what was read of the file, and at 11 of the reply.
+  pub record TellsStatus (asked : Option Asked) (held named : Option (List ℕ)) (door : Passed) (status : ℕ) (old new : Option (List ℕ)) (before after : ℕ) : Type 0 where
+    pub line : List ℕ
+    pub faulty : status ≡ 3 → IsRefused held line
+    pub reply : status ≡ 11 → IfSome asked (λ a. TellsReply a held door line)
+    pub plain_is : status ≢ 3 → status ≢ 11 → line ≡ status_line status named
+    pub told_is : IsTold old new before after line
+
+-- ---- What can be joined
+
+-- What is asked for can be played: the file is told to hold a scenario.
+abbrev pub CanJoin : Option Asked → Option (List ℕ) → Type 0
+CanJoin None held = ⊥
+CanJoin (Some asked) held = HoldsScenario held

@@ -1,0 +1,184 @@
+//! How a join ends.
+ghost use Rattle.std.specs.Prelude.{◌≡◌, ◌++◌, codes};
+ghost use Rattle.std.specs.Fmt.{decimal};
+ghost use Rattle.std.specs.Option.{option_copied};
+ghost use Rattle.sv_bytes.specs.Writing.{Told};
+ghost use Rattle.sv_join.specs.Faults.{cause_number, reply_line, take_line};
+ghost use Rattle.sv_join.specs.Statuses.{line_of, status_of};
+
+use crate::outcome::JoinFault;
+use itoa::Buffer;
+use std::alloc::AllocError;
+use sv_bytes::{Sink, write_all, write_pieces};
+use sv_client::TakeFault;
+use sv_command::Ending;
+use sv_player::ReplyFault;
+use sv_wire::WireCause;
+
+/// How a join ends.
+#[derive(Debug, Drop)]
+pub(crate) enum JoinEnding {
+    /// As any call of the program may.
+    Plain(Ending),
+
+    /// The scenario has no client of the number.
+    Range,
+
+    /// The server gave a reply that the client does not take.
+    Reply(ReplyFault),
+
+    /// The server closed a connection over which a reply was awaited.
+    Closed,
+}
+
+impl From<Ending> for JoinEnding {
+    ghost use Rattle.std.specs.Prelude.{◌≡◌};
+    ghost use Rattle.sv_join.specs.declared.ending.JoinEnding.TheVariants as endings;
+
+    ghost from_gives = { λ ending e. e ≡ endings.Plain ending };
+
+    fn from(ending: Ending) -> JoinEnding {
+        JoinEnding::Plain(ending)
+    }
+}
+
+impl From<AllocError> for JoinEnding {
+    ghost use Rattle.std.specs.Prelude.{◌≡◌};
+    ghost use Rattle.sv_command.specs.declared.ending.Ending.TheVariants as plain;
+    ghost use Rattle.sv_join.specs.declared.ending.JoinEnding.TheVariants as endings;
+
+    ghost from_gives = { λ _ e. e ≡ endings.Plain plain.Memory };
+
+    fn from(_e: AllocError) -> JoinEnding {
+        JoinEnding::Plain(Ending::Memory)
+    }
+}
+
+impl From<JoinFault> for JoinEnding {
+    ghost use Rattle.std.specs.Prelude.{◌≡◌};
+    ghost use Rattle.sv_join.specs.Statuses.{ending_of_fault};
+
+    ghost from_gives = { λ fault e. e ≡ ending_of_fault fault };
+
+    fn from(fault: JoinFault) -> JoinEnding {
+        match fault {
+            JoinFault::Link => JoinEnding::Plain(Ending::Link),
+            JoinFault::Reply(fault) => JoinEnding::Reply(fault),
+            JoinFault::Closed => JoinEnding::Closed,
+            JoinFault::Memory => JoinEnding::Plain(Ending::Memory),
+        }
+    }
+}
+
+/// The number of a cause in the message grammar.
+fn cause_number(cause: WireCause) -> u8
+    ensures { result ≡ cause_number cause }
+{
+    match cause {
+        WireCause::Short => 1,
+        WireCause::Kind => 2,
+        WireCause::Count => 3,
+        WireCause::Order => 4,
+        WireCause::Mask => 5,
+        WireCause::Code => 6,
+        WireCause::Large => 7,
+        WireCause::Deep => 8,
+        WireCause::Rest => 9,
+    }
+}
+
+/// Writes a line that ends with two numbers.
+fn tell_two<E: Sink>(words: &[u8], first: u32, second: u32, err: &mut E)
+    ensures { Told (E.taken err.old) (E.taken err.new) (E.faults err.old) (E.faults err.new) (words.now ++ decimal first ++ codes " " ++ decimal second ++ codes "\n") }
+{
+    let mut one = Buffer::new();
+    let mut other = Buffer::new();
+    write_pieces(
+        err,
+        &[
+            words,
+            one.format(first).as_bytes(),
+            b" ",
+            other.format(second).as_bytes(),
+            b"\n",
+        ],
+    );
+}
+
+/// Writes a line that ends with a number.
+fn tell_one<E: Sink>(words: &[u8], number: u32, err: &mut E)
+    ensures { Told (E.taken err.old) (E.taken err.new) (E.faults err.old) (E.faults err.new) (words.now ++ decimal number ++ codes "\n") }
+{
+    let mut buffer = Buffer::new();
+    write_pieces(err, &[words, buffer.format(number).as_bytes(), b"\n"]);
+}
+
+fn tell_take<E: Sink>(fault: TakeFault, err: &mut E)
+    ensures { Told (E.taken err.old) (E.taken err.new) (E.faults err.old) (E.faults err.new) (take_line fault) }
+{
+    match fault {
+        TakeFault::Unasked => {
+            write_all(err, b"reply: unasked\n");
+        }
+        TakeFault::WrongKind => {
+            write_all(err, b"reply: wrongkind\n");
+        }
+        TakeFault::BadOrder => {
+            write_all(err, b"reply: badorder\n");
+        }
+        TakeFault::BadItem => {
+            write_all(err, b"reply: baditem\n");
+        }
+        TakeFault::Missing { pos, object } => {
+            tell_two(b"reply: missing ", pos, object.0 as u32, err);
+        }
+        TakeFault::Memory => {
+            write_all(err, b"memory\n");
+        }
+    }
+}
+
+fn tell_reply<E: Sink>(fault: ReplyFault, err: &mut E)
+    ensures { Told (E.taken err.old) (E.taken err.new) (E.faults err.old) (E.faults err.new) (reply_line fault) }
+{
+    match fault {
+        ReplyFault::Take(fault) => tell_take(fault, err),
+        ReplyFault::Wire(fault) => tell_two(
+            b"reply: malformed ",
+            fault.at,
+            cause_number(fault.cause) as u32,
+            err,
+        ),
+        ReplyFault::TooLong(size) => tell_one(b"reply: toolong ", size, err),
+    }
+}
+
+/// Writes the line that tells of an ending. It takes no memory.
+pub(crate) fn tell<E: Sink>(ending: &JoinEnding, named: Option<&str>, err: &mut E)
+    ensures { Told (E.taken err.old) (E.taken err.new) (E.faults err.old) (E.faults err.new) (line_of ending.now (option_copied named.entry)) }
+{
+    match ending {
+        JoinEnding::Plain(ending) => {
+            sv_command::tell(ending, b"words: join FILE K PORT\n", named, err)
+        }
+        JoinEnding::Range => {
+            write_all(err, b"range\n");
+        }
+        JoinEnding::Reply(fault) => tell_reply(*fault, err),
+        JoinEnding::Closed => {
+            write_all(err, b"closed\n");
+        }
+    }
+}
+
+/// The status with which the program ends.
+pub(crate) fn status_of(ending: &JoinEnding) -> u8
+    ensures { result ≡ status_of ending.now }
+{
+    match ending {
+        JoinEnding::Plain(ending) => sv_command::status_of(ending),
+        JoinEnding::Range => 10,
+        JoinEnding::Reply(_) => 11,
+        JoinEnding::Closed => 12,
+    }
+}

@@ -1,0 +1,54 @@
+//! The text that tells a client's play.
+ghost use Rattle.std.specs.Prelude.{◌≡◌, ◌++◌, string_bytes, IfOk, OnOk};
+ghost use Rattle.std.specs.List.{flat_map};
+ghost use Rattle.sv_client.specs.Traces.{is_make};
+ghost use Rattle.sv_script.specs.Telling.{told_lines};
+ghost use Rattle.sv_join.specs.Texts.{ended_line, join_text, made_by};
+
+use crate::outcome::Joined;
+use std::alloc::{AllocError, Global};
+use sv_client::{Event, Trace};
+use sv_watch::Line;
+
+fn is_make(event: &Event) -> bool
+    ensures { result ≡ is_make event.now }
+{
+    matches!(event, Event::Make(_))
+}
+
+/// How many actions a client made.
+fn made_by(trace: &Trace) -> usize
+    ensures { result ≡ made_by trace.now }
+{
+    let mut count = 0;
+    for event in trace.events.as_slice() {
+        if is_make(event) {
+            count += 1;
+        }
+    }
+    count
+}
+
+/// Appends lines, each with its end.
+fn append_lines(lines: &[Line], text: &mut String) -> Result<(), AllocError>
+    ensures { OnOk result (string_bytes text.new ≡ string_bytes text.old ++ flat_map ended_line lines.now) }
+{
+    for line in lines {
+        text.push_str(line.as_str())?;
+        text.push_str("\n")?;
+    }
+    Ok(())
+}
+
+/// A line for each change of the client's views, and then how many actions it made.
+pub(crate) fn join_text(alloc: Global, joined: &Joined) -> Result<String, AllocError>
+    requires { joined.now.lines.items ≡ told_lines joined.now.trace }
+    ensures { IfOk result (λ text. string_bytes text ≡ join_text joined.now.trace) }
+{
+    let made = made_by(&joined.trace);
+    let last = format!(in alloc; "made {made}\n")?;
+    let mut text = String::new(alloc);
+    append_lines(&joined.lines, &mut text)?;
+    text.push_str(last.as_str())?;
+    Ok(text)
+}
