@@ -27,7 +27,7 @@ below() {
         END { visit(top) }'
 }
 
-# Puts the sources of a crate into the copy, over those of an earlier call, without touching what has not changed.
+# Puts the sources of a crate into the copy, in place of those of an earlier call.
 place() {
     from=$1 to=$2
     mkdir -p "$to"
@@ -55,9 +55,9 @@ cp "$here/programs/$name/stdout" "$copy/crates/$name/stdout"
 find "$copy/crates/$name" -path "$copy/crates/$name/out" -prune -o -name '*.in' -print | while read -r file; do
     mv "$file" "${file%.in}"
 done
-# Run with no words it prints how it is called, and ends with an error.
-(cd "$copy/crates/$name" && nice -n 10 rt run >"$copy/log" 2>&1) || :
-if [ ! -x "$copy/crates/$name/out/$name" ]; then
+# An older program is never taken for one that could not be built. With no words it prints how it is called.
+rm -f "$copy/crates/$name/out/$name"
+if ! (cd "$copy/crates/$name" && nice -n 10 rt run >"$copy/log" 2>&1 </dev/null); then
     tail -n 20 "$copy/log" >&2
     exit 1
 fi
