@@ -1,4 +1,3 @@
 pub mod Endings
 pub mod Making
-pub mod Sizes
 pub mod Threads

@@ -1,15 +1,12 @@
 -- What is run, the record that it leaves, and the text that tells it.
 -- A journal `h` has its latest entry first.
-use Rattle.std.specs.Prelude.{◌≡◌, ℕ, List, [], ◌∷◌, ◌++◌, take, reverse, Option, Some, None, codes, Ok, Err}
+use Rattle.std.specs.Prelude.{◌≡◌, ℕ, List, [], ◌∷◌, ◌++◌, reverse, Option, codes}
 use Rattle.std.specs.Fmt.{decimal}
 use Rattle.std.specs.List.{flat_map}
 use Rattle.sv_link.specs.Nets.{Transcript}
 use Rattle.sv_journal.specs.declared.entry.Entry.{Entry}
 use Rattle.sv_client.specs.declared.trace.Trace.{Trace}
-use Rattle.sv_scenario.specs.declared.fault.ScenarioFault.{ScenarioFault}
 use Rattle.sv_scenario.specs.declared.scenario.Scenario.{Scenario}
-use Rattle.sv_scenario.specs.Lines.{fault_line}
-use Rattle.sv_scenario.specs.Scenarios.{scenario_of}
 use Rattle.sv_gen.specs.Generated.{generated}
 use Rattle.sv_script.specs.Telling.{told_lines}
 use Rattle.sv_system.specs.Records.{IsPlayed}
@@ -17,35 +14,13 @@ use Rattle.sv_schedule.specs.Records.{IsReplay}
 use Rattle.sv_report.specs.Report.{report_text}
 use Rattle.sv_report.specs.Summary.{summary_text}
 use Rattle.sv_play.specs.Playing.{IsThreadedRun}
+use Rattle.sv_command.specs.Reading.{IsRead}
 use Rattle.sv_app.specs.declared.playing.Threaded.{Threaded}
 use Rattle.sv_app.specs.declared.words.Form.{Form}
 use Rattle.sv_app.specs.declared.words.Form.TheVariants as forms
 use Rattle.sv_app.specs.Words.{Asked, Play, Replay, Load}
 
 -- ---- The scenario
-
--- A file is read so far and no further: one byte more than a scenario may have.
-abbrev pub read_limit : ℕ
-read_limit = 4194305
-
--- The bytes that were read of a file, by what it holds, where that is told.
-abbrev pub IsFront : Option (List ℕ) → List ℕ → Type 0
-IsFront (Some all) bytes = bytes ≡ take read_limit all
-IsFront None bytes = Unit {0}
-
--- What was read of the file is this scenario.
-pub record IsRead (held : Option (List ℕ)) (scenario : Scenario) : Type 0 where
-  pub bytes : List ℕ
-  pub front : IsFront held bytes
-  pub read : scenario_of bytes ≡ Ok scenario
-
--- What was read of the file is no scenario, and this line tells of its first fault.
-pub record IsRefused (held : Option (List ℕ)) (line : List ℕ) : Type 0 where
-  pub bytes : List ℕ
-  pub front : IsFront held bytes
-  pub fault : ScenarioFault
-  pub faulty : scenario_of bytes ≡ Err fault
-  pub told : line ≡ fault_line fault
 
 -- The scenario that is to be run, by what the file holds: the file's, or the generated one of the size.
 abbrev pub IsScenarioFor : Asked → Option (List ℕ) → Scenario → Type 0

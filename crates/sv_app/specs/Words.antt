@@ -1,8 +1,7 @@
 -- What the words that the program is called with ask for.
-use Rattle.std.specs.Prelude.{ℕ, ◌≤◌, List, [], ◌∷◌, Option, Some, None, option_map, option_and_then, codes, nat_le, ◌&&◌, if◌then◌else◌}
-use Rattle.std.specs.Fmt.{decimal}
+use Rattle.std.specs.Prelude.{ℕ, ◌≤◌, List, [], ◌∷◌, Option, Some, None, option_map, option_and_then, codes, if◌then◌else◌}
 use Rattle.std.specs.Str.{bytes_eq}
-use Rattle.std.specs.Str.Parse.{digits_value}
+use Rattle.sv_command.specs.Numbers.{number_between}
 use Rattle.sv_app.specs.declared.words.Command.{Command}
 use Rattle.sv_app.specs.declared.words.Command.TheVariants as commands
 use Rattle.sv_app.specs.declared.words.Form.{Form}
@@ -26,13 +25,9 @@ abbrev pub IsSized : Command → Type 0
 IsSized (commands.Load size) = IsSize size
 IsSized _ = Unit {0}
 
--- The number, where it is a size and this text is its decimal.
-abbrev pub size_if : ℕ → List ℕ → Option ℕ
-size_if n text = if nat_le 1 n && nat_le n 192 && bytes_eq text (decimal n) then Some n else None
-
 -- The size that a text writes: 1 to 192, without leading zeros.
 abbrev pub size_of : List ℕ → Option ℕ
-size_of text = size_if (digits_value 10 text) text
+size_of text = number_between 1 192 text
 
 abbrev pub form_of : List ℕ → Option Form
 form_of text = if bytes_eq text (codes "--brief") then Some forms.Brief

@@ -1,7 +1,6 @@
 //! The top call of the program.
 #![tactic(auto)]
 
-mod ending;
 mod playing;
 mod texts;
 mod top;

@@ -1,51 +1,32 @@
 //! The text that tells what is asked for.
-ghost use Rattle.std.specs.Prelude.{◌≡◌, ◌≢◌, ℕ, None, Some, Err, IfOk, IfSome, string_bytes};
-ghost use Rattle.sv_scenario.specs.Lines.{fault_line};
+ghost use Rattle.std.specs.Prelude.{◌≡◌, ◌≢◌, ℕ, None, Some, Err, IfSome};
+ghost use Rattle.sv_command.specs.Statuses.{Counts, counts, Raises, ending_of, status_of};
 ghost use Rattle.sv_play.specs.Settling.{SomeDiffer};
 ghost use Rattle.sv_app.specs.Words.{Play, Replay, Load, IsSize, IsSized, asked_by, file_of};
 ghost use Rattle.sv_app.specs.Runs.{Moved, moved};
-ghost use Rattle.sv_app.specs.Statuses.{Counts, counts, IsMade, IsScenarioRead, Raises, LeavesAlone, ending_of, held_by, status_of};
+ghost use Rattle.sv_app.specs.Statuses.{IsMade, LeavesAlone, ending_of_fault, held_by};
 
-use crate::ending::Ending;
 use crate::playing::{form_text, load_text, run_on_threads};
 use crate::words::{Command, Form};
-use std::alloc::{AllocError, Global};
+use std::alloc::Global;
 use std::sync::Wait;
 use std::thread::Threads;
-use sv_bytes::{FileFault, Files, read_all};
+use sv_bytes::Files;
+use sv_command::{Ending, scenario_in};
 use sv_gen::generate;
 use sv_link::{Crew, Gate, Net};
+use sv_play::PlayFault;
 use sv_replay::run_schedule;
 use sv_report::report;
-use sv_scenario::{ReadFault, Scenario, ScenarioFault, append_fault_line, read_scenario};
 
-/// A file is read so far and no further: one byte more than a scenario may have.
-const READ_LIMIT: usize = 4_194_305;
-
-/// The line that tells of a fault.
-fn line_of_fault(alloc: Global, fault: &ScenarioFault) -> Result<String, AllocError>
-    ensures { IfOk result (λ line. string_bytes line ≡ fault_line fault.now) }
+/// How a call ends where its run on threads failed.
+fn ending_of_fault(fault: PlayFault) -> Ending
+    ensures { result ≡ ending_of_fault fault }
 {
-    let mut line = String::new(alloc);
-    append_fault_line(fault, &mut line)?;
-    Ok(line)
-}
-
-/// The scenario of a file.
-fn scenario_in<F: Files>(alloc: Global, file: &str, files: &mut F) -> Result<Scenario, Ending>
-    ensures read { IsScenarioRead (F.contents files.old file.now) result }
-    ensures raises { (k : Counts) → Raises (record k { files = F.faults files.old }) (record k { files = F.faults files.new }) (ending_of result) }
-    ensures sure { F.sure files.old file.now → result ≢ Err Ending.File }
-{
-    let bytes = match read_all(alloc, files, file, READ_LIMIT) {
-        Ok(bytes) => bytes,
-        Err(FileFault::Failed) => return Err(Ending::File),
-        Err(FileFault::Memory) => return Err(Ending::Memory),
-    };
-    match read_scenario(alloc, &bytes) {
-        Ok(scenario) => Ok(scenario),
-        Err(ReadFault::Scenario(fault)) => Err(Ending::Scenario(line_of_fault(alloc, &fault)?)),
-        Err(ReadFault::Memory) => Err(Ending::Memory),
+    match fault {
+        PlayFault::Start => Ending::Start,
+        PlayFault::Link => Ending::Link,
+        PlayFault::Memory => Ending::Memory,
     }
 }
 
@@ -77,7 +58,10 @@ fn play<F: Files, N: Net, C: Crew, G: Gate + Sync, R: Threads + Wait + Sync>(
     ensures calm { N.calm net.old → result ≡ Err Ending.Link → SomeDiffer N.E.told N.E.calm (N.made net.old) (N.made net.new) }
 {
     let scenario = scenario_in(alloc, file, files)?;
-    let threaded = run_on_threads(rt, alloc, &scenario, net, crew, gate)?;
+    let threaded = match run_on_threads(rt, alloc, &scenario, net, crew, gate) {
+        Ok(threaded) => threaded,
+        Err(fault) => return Err(ending_of_fault(fault)),
+    };
     Ok(form_text(alloc, &scenario, form, &threaded)?)
 }
 
@@ -97,7 +81,10 @@ fn load<N: Net, C: Crew, G: Gate + Sync, R: Threads + Wait + Sync>(
     ensures calm { N.calm net.old → result ≡ Err Ending.Link → SomeDiffer N.E.told N.E.calm (N.made net.old) (N.made net.new) }
 {
     let scenario = generate(alloc, size)?;
-    let threaded = run_on_threads(rt, alloc, &scenario, net, crew, gate)?;
+    let threaded = match run_on_threads(rt, alloc, &scenario, net, crew, gate) {
+        Ok(threaded) => threaded,
+        Err(fault) => return Err(ending_of_fault(fault)),
+    };
     Ok(load_text(alloc, size, &scenario, &threaded)?)
 }
 

@@ -1,17 +1,22 @@
 ghost use Rattle.std.specs.Prelude.{◌≡◌, ◌≢◌, ◌↔◌, ◌⊎◌, ◌≤◌, ℕ, take, map, option_map, string_bytes, None, IfSome};
 ghost use Rattle.sv_play.specs.Settling.{SomeDiffer};
 ghost use Rattle.sv_app.specs.Words.{IsSized, asked_by, command_of, named_by};
-ghost use Rattle.sv_app.specs.Runs.{read_limit, moved};
-ghost use Rattle.sv_app.specs.Statuses.{counts, CanRun, Ends, IsCutShort, IsNoScenario, IsPrinted, LeavesAlone, NoneRose, Raises, TellsFaults, TellsStatus, held_by, status_of};
+ghost use Rattle.sv_command.specs.Reading.{read_limit, IsNoScenario};
+ghost use Rattle.sv_command.specs.Statuses.{counts, NoneRose, Raises, TellsFaults, TellsStatus, status_of};
+ghost use Rattle.sv_app.specs.Runs.{moved};
+ghost use Rattle.sv_app.specs.Statuses.{CanRun, Ends, IsCutShort, IsPrinted, LeavesAlone, held_by, words_line};
 
-use crate::ending::{Ending, status_of, tell};
 use crate::texts::text_for;
 use crate::words::{Command, command_of, file_of};
 use std::alloc::Global;
 use std::sync::Wait;
 use std::thread::Threads;
 use sv_bytes::{Files, Sink, write_all};
+use sv_command::{Ending, status_of, tell};
 use sv_link::{Crew, Gate, Net};
+
+/// The line that tells which words there are.
+const WORDS_LINE: &[u8] = b"words: play FILE [--brief | --watch] | replay FILE | load N\n";
 
 /// Does what is asked for, and tells how it ended.
 fn decide<F: Files, N: Net, C: Crew, G: Gate + Sync, K: Sink, R: Threads + Wait + Sync>(
@@ -77,7 +82,7 @@ pub fn run<F: Files, N: Net, C: Crew, G: Gate + Sync, K: Sink, E: Sink, R: Threa
     ensures part { result ≡ 5 → IsCutShort (command_of (map string_bytes words.now)) (held_by (F.contents files.old) (command_of (map string_bytes words.now)))
         (moved (N.settled net.old) (N.settled net.new) (C.ran crew.old) (C.ran crew.new)) (K.taken out.old) (K.taken out.new) }
     ensures nothing { result ≢ 0 → result ≢ 5 → K.taken out.new ≡ K.taken out.old }
-    ensures told { TellsStatus result (held_by (F.contents files.old) (command_of (map string_bytes words.now))) (named_by (command_of (map string_bytes words.now)))
+    ensures told { TellsStatus words_line result (held_by (F.contents files.old) (command_of (map string_bytes words.now))) (named_by (command_of (map string_bytes words.now)))
         (E.taken err.old) (E.taken err.new) (E.faults err.old) (E.faults err.new) }
     ensures complete { CanRun (command_of (map string_bytes words.now)) (held_by (F.contents files.old) (command_of (map string_bytes words.now)))
         → NoneRose (counts (F.faults files.old) (C.faults crew.old) (N.faults net.old) (K.faults out.old))
@@ -86,6 +91,6 @@ pub fn run<F: Files, N: Net, C: Crew, G: Gate + Sync, K: Sink, E: Sink, R: Threa
 {
     let command = command_of(words);
     let ending = decide(rt, alloc, command, files, net, crew, gate, out);
-    tell(&ending, file_of(command), err);
+    tell(&ending, WORDS_LINE, file_of(command), err);
     status_of(&ending)
 }

@@ -3,6 +3,8 @@ ghost use Rattle.std.specs.Prelude.{◌≡◌, map, string_bytes, option_map, If
 ghost use Rattle.std.specs.Option.{option_copied};
 ghost use Rattle.sv_app.specs.Words.{IsSize, IsSized, asked_by, size_of, form_of, of_two, of_three, command_of, named_by};
 
+use sv_command::number_in;
+
 /// How a run on threads is told.
 #[derive(Clone, Copy, Debug, Drop, PartialEq, Eq)]
 pub enum Form {
@@ -29,21 +31,12 @@ pub enum Command<'a> {
     Load { size: u32 },
 }
 
-/// The greatest size of a load.
-const MOST: u32 = 192;
-
-/// The size that a text writes, without leading zeros.
+/// The size that a text writes: 1 to 192.
 fn size_of(text: &str) -> Option<u32>
     ensures size { result ≡ size_of text.now }
     ensures range { IfSome result IsSize }
 {
-    let (b'1'..=b'9') = text.as_bytes().first()? else {
-        return None;
-    };
-    match text.parse::<u32>() {
-        Ok(size) if size <= MOST => Some(size),
-        _ => None,
-    }
+    number_in(text, 1, 192)
 }
 
 fn form_of(text: &str) -> Option<Form>

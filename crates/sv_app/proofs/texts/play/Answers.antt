@@ -1,7 +1,8 @@
 use Rattle.std.proofs.Common.{ap}
-use Rattle.sv_app.specs.declared.ending.Ending.TheVariants as endings
-use Rattle.sv_app.specs.Statuses.{Counts, counts, ending_of_fault}
-use Rattle.sv_app.proofs.Making.{raised_by, fault_raises, same_counts}
+use Rattle.sv_command.specs.declared.ending.Ending.TheVariants as endings
+use Rattle.sv_command.specs.Statuses.{Counts, counts}
+use Rattle.sv_command.proofs.Counts.{raised_by, same_counts}
+use Rattle.sv_app.proofs.Making.{fault_raises}
 use Rattle.sv_app.proofs.texts.play.Goals as goal
 
 pub returns-in_err-scenario-clause-raises : goal.returns-in_err-scenario-clause-raises
@@ -9,16 +10,16 @@ returns-in_err-scenario-clause-raises g c =
     λ k. raised_by c.from_residual.result c.in_err-scenario.field-0.0 c.from_residual.ensures.1 _ _
     (c.in_err-scenario.ensures.raises (counts 0 (g.C.Crew.faults c.args.crew.now) (g.N.Net.faults c.args.net.now) k))
 
-pub returns-in_err-threaded-clause-raises : goal.returns-in_err-threaded-clause-raises
-returns-in_err-threaded-clause-raises g c =
-    λ k. raised_by c.from_residual-in_err-threaded.result (ending_of_fault c.in_err-threaded.field-0.0) c.from_residual-in_err-threaded.ensures.1 _ _
-    (fault_raises _ _ _ _ _ _ k c.in_err-threaded.field-0.0 (ap (λ (x : Counts). x.files) (c.in_ok-scenario.ensures.raises (counts 0 0 0 0))) c.in_err-threaded.ensures.cause)
+pub returns-in-Err-clause-raises : goal.returns-in-Err-clause-raises
+returns-in-Err-clause-raises g c =
+    λ k. rw c.ending_of_fault.ensures
+    (fault_raises _ _ _ _ _ _ k c.in-Err.fault (ap (λ (x : Counts). x.files) (c.in_ok-scenario.ensures.raises (counts 0 0 0 0))) c.in-Err.ensures.cause)
 
 pub returns-in_err-form_text-clause-raises : goal.returns-in_err-form_text-clause-raises
 returns-in_err-form_text-clause-raises g c =
     λ k. raised_by c.from_residual-in_err-form_text.result endings.Memory c.from_residual-in_err-form_text.ensures.1 _ _
-    (same_counts _ _ _ _ _ _ k (ap (λ (x : Counts). x.files) (c.in_ok-scenario.ensures.raises (counts 0 0 0 0))) c.in_ok-threaded.ensures.cause.0 c.in_ok-threaded.ensures.cause.1)
+    (same_counts _ _ _ _ _ _ k (ap (λ (x : Counts). x.files) (c.in_ok-scenario.ensures.raises (counts 0 0 0 0))) c.in-Ok.ensures.cause.0 c.in-Ok.ensures.cause.1)
 
 pub returns-clause-raises : goal.returns-clause-raises
 returns-clause-raises g c =
-    λ k. same_counts _ _ _ _ _ _ k (ap (λ (x : Counts). x.files) (c.in_ok-scenario.ensures.raises (counts 0 0 0 0))) c.in_ok-threaded.ensures.cause.0 c.in_ok-threaded.ensures.cause.1
+    λ k. same_counts _ _ _ _ _ _ k (ap (λ (x : Counts). x.files) (c.in_ok-scenario.ensures.raises (counts 0 0 0 0))) c.in-Ok.ensures.cause.0 c.in-Ok.ensures.cause.1

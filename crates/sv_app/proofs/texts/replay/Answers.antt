@@ -1,5 +1,6 @@
-use Rattle.sv_app.specs.declared.ending.Ending.TheVariants as endings
-use Rattle.sv_app.proofs.Making.{raised_by, early_by, unlike, replayed}
+use Rattle.sv_command.specs.declared.ending.Ending.TheVariants as endings
+use Rattle.sv_command.proofs.Counts.{raised_by, unlike}
+use Rattle.sv_app.proofs.Making.{early_by, replayed}
 use Rattle.sv_app.proofs.texts.replay.Goals as goal
 
 pub returns-in_err-scenario-clause-raises : goal.returns-in_err-scenario-clause-raises

@@ -1,4 +1,4 @@
-use Rattle.sv_app.proofs.Making.{wrote, broke}
+use Rattle.sv_command.proofs.Counts.{wrote, broke}
 use Rattle.sv_app.proofs.top.decide.Goals as goal
 
 pub returns-in-Ok-clause-raises : goal.returns-in-Ok-clause-raises
