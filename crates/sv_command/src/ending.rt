@@ -1,0 +1,85 @@
+//! How a call of the program ends.
+ghost use Rattle.std.specs.Prelude.{◌≡◌};
+ghost use Rattle.std.specs.Option.{option_copied};
+ghost use Rattle.sv_bytes.specs.Writing.{Told};
+ghost use Rattle.sv_command.specs.Statuses.{file_line, line_of, status_of};
+
+use std::alloc::AllocError;
+use sv_bytes::{Sink, write_all, write_pieces};
+
+/// How a call of the program ends.
+#[derive(Debug, Drop)]
+pub enum Ending {
+    Done,
+
+    /// The words are none that the call knows.
+    Words,
+
+    /// The file is no scenario. The line tells where and why.
+    Scenario(String),
+
+    /// The file can't be read.
+    File,
+
+    /// A thread could not be started.
+    Start,
+
+    /// A link failed.
+    Link,
+
+    /// The output failed.
+    Out,
+
+    /// There was no memory.
+    Memory,
+}
+
+impl From<AllocError> for Ending {
+    ghost use Rattle.std.specs.Prelude.{◌≡◌};
+    ghost use Rattle.sv_command.specs.declared.ending.Ending.TheVariants as endings;
+
+    ghost from_gives = { λ _ e. e ≡ endings.Memory };
+
+    fn from(_e: AllocError) -> Ending {
+        Ending::Memory
+    }
+}
+
+/// Writes the line that tells of an ending. `words_line` is the whole line that tells which words the call knows, with its line's end, and
+/// `named` is the file that the words name. Where the writing fails, a front part of the line was written, and nobody is told.
+pub fn tell<E: Sink>(ending: &Ending, words_line: &[u8], named: Option<&str>, err: &mut E)
+    ensures { Told (E.taken err.old) (E.taken err.new) (E.faults err.old) (E.faults err.new) (line_of words_line.now ending.now (option_copied named.entry)) }
+{
+    let _ = match ending {
+        Ending::Done => write_all(err, b""),
+        Ending::Words => write_all(err, words_line),
+        Ending::Scenario(line) => write_all(err, line.as_bytes()),
+        Ending::File => tell_file(named.unwrap_or(""), err),
+        Ending::Start => write_all(err, b"start\n"),
+        Ending::Link => write_all(err, b"link\n"),
+        Ending::Out => write_all(err, b"out\n"),
+        Ending::Memory => write_all(err, b"memory\n"),
+    };
+}
+
+fn tell_file<E: Sink>(name: &str, err: &mut E) -> bool
+    ensures { Told (E.taken err.old) (E.taken err.new) (E.faults err.old) (E.faults err.new) (file_line name.now) }
+{
+    write_pieces(err, &[b"file: ", name.as_bytes(), b"\n"])
+}
+
+/// The status with which the program ends.
+pub fn status_of(ending: &Ending) -> u8
+    ensures { result ≡ status_of ending.now }
+{
+    match ending {
+        Ending::Done => 0,
+        Ending::Words => 2,
+        Ending::Scenario(_) => 3,
+        Ending::File => 4,
+        Ending::Out => 5,
+        Ending::Link => 6,
+        Ending::Start => 7,
+        Ending::Memory => 8,
+    }
+}

@@ -1,0 +1,10 @@
+//! What the top calls of the program share: how a call ends and how that is told, the scenario of a file, and the numbers among the words.
+#![tactic(auto)]
+
+mod ending;
+mod numbers;
+mod reading;
+
+pub use ending::{Ending, status_of, tell};
+pub use numbers::number_in;
+pub use reading::scenario_in;
