@@ -1,16 +1,14 @@
 -- A run from its tasks to its record.
-use Rattle.std.proofs.Common.{◌≡◌, ℕ, ◌+◌, ◌<◌, ◌≤◌, false, List, [], ◌∷◌, ◌++◌, map, length, reverse, refl, sym, ap, subst, ◌∙◌, arith}
-use Rattle.std.specs.Prelude.{Contains}
-use Rattle.std.specs.List.{AllByRecursion, AllZip, flat_map, range_with_len}
+use Rattle.std.proofs.Common.{◌≡◌, ℕ, ◌+◌, false, List, [], ◌∷◌, ◌++◌, map, length, reverse, refl, sym, ap, subst, ◌∙◌, arith}
+use Rattle.std.specs.List.{AllByRecursion, AllZip, flat_map}
 use Rattle.sv_world.specs.declared.world.Shape.{Shape}
 use Rattle.sv_link.specs.Ends.{Told}
 use Rattle.sv_link.specs.Nets.{Transcript}
 use Rattle.sv_journal.specs.declared.entry.Entry.{Entry}
-use Rattle.sv_journal.specs.Answer.{Rules, Legal}
+use Rattle.sv_journal.specs.Answer.{Legal}
 use Rattle.sv_lock.specs.Histories.{AreJust, AreBelow}
 use Rattle.sv_client.specs.declared.trace.Trace.{Trace}
-use Rattle.sv_scenario.specs.declared.scenario.Plan.{Plan}
-use Rattle.sv_scenario.specs.Sessions.{sessions_in, session_count}
+use Rattle.sv_scenario.specs.Sessions.{session_count}
 use Rattle.sv_script.specs.Telling.{told_lines}
 use Rattle.sv_session.specs.Serving.{SessionPass}
 use Rattle.sv_system.specs.Records.{rules_of}
@@ -24,7 +22,7 @@ use Rattle.sv_play.specs.declared.gathering.Left.{Left}
 use Rattle.sv_play.specs.Places.{EachPlace, EachClient}
 use Rattle.sv_play.specs.Tasks.{services_of, parts_of, serviced_of, played_of, Keeps}
 use Rattle.sv_play.specs.Given.{Setting, keeper_after, IsPart, IsService}
-use Rattle.sv_play.specs.Left.{own_of, ends_of, transcripts_of, Agrees, HasRoom, HasFewSessions, Gathered, Knows, Joined, IsOfLock, IsServiced, HasPlayed}
+use Rattle.sv_play.specs.Left.{own_of, ends_of, transcripts_of, Agrees, HasRoom, HasFewSessions, Gathered, Joined, IsOfLock, IsServiced, HasPlayed}
 use Rattle.sv_play.specs.Settling.{AnyZip, Differ, ArePair, AreCalm, SomeDiffer}
 use Rattle.sv_play.specs.Playing.{IsThreadedRun, TookAllIn}
 use Rattle.sv_play.proofs.Places.{clients_count}
