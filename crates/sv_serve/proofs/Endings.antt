@@ -1,13 +1,17 @@
 -- What the status of an ending says.
 use Rattle.std.proofs.Common.{◌≡◌, ◌≢◌, ◌↔◌, ◌⊎◌, inl, inr, refl, arith, ℕ, ◌≤◌, List, [], take, append-nil, subst, sym, Option, Some, None}
-use Rattle.std.specs.Prelude.{string_bytes, length, IfSome, Result, Ok, Err}
+use Rattle.std.specs.Prelude.{string_bytes, length, IfSome, OnErr, Result, Ok, Err}
 use Rattle.sv_command.specs.declared.ending.Ending.{Ending}
 use Rattle.sv_command.specs.declared.ending.Ending.TheVariants as endings
 use Rattle.sv_command.specs.Reading.{read_limit, IsRead, IsRefused, IsNoScenario, HoldsScenario}
-use Rattle.sv_command.specs.Statuses.{status_of, Counts, Raises, NoneRose}
-use Rattle.sv_command.proofs.Reads.{read_is, holds_none}
+use Rattle.sv_command.specs.Statuses.{status_of, Counts, counts, Raises, NoneRose}
+use Rattle.sv_command.proofs.Counts.{same_counts}
+use Rattle.sv_command.proofs.Statuses.{link_is}
+use Rattle.sv_command.proofs.Held.{read_is, holds_none}
+use Rattle.sv_sequencer.specs.Step.{SequencerView}
 use Rattle.sv_play.specs.declared.outcome.PlayFault.{PlayFault}
 use Rattle.sv_play.specs.declared.outcome.PlayFault.TheVariants as faults
+use Rattle.sv_play.specs.Playing.{PlayCause}
 use Rattle.sv_serve.specs.Words.{Asked}
 use Rattle.sv_serve.specs.Giving.{Doorway, GaveAllBack, GivesBack}
 use Rattle.sv_serve.specs.Hosting.{Moved}
@@ -15,22 +19,34 @@ use Rattle.sv_serve.specs.Statuses.{ending_of_fault, held_by, IsReady, IsPrinted
 
 -- ---- The ends
 
-none_made : (d : Doorway) → GaveAllBack d d
+pub on_err : {A B : Type 0} (r : Result A B) (P : Type 0) → P → OnErr r P
+on_err (Ok a) P p = tt
+on_err (Err e) P p = p
+
+pub none_made : (d : Doorway) → GaveAllBack d d
 none_made d = record { passages = []; given = sym (append-nil d.given); made = omega arith; owed = refl }
 
 pub untouched_back : (status : ℕ) (ran_before ran_now : List ℕ) (old new : Doorway) → new ≡ old → GivesBackBut status ran_before ran_now old new
 untouched_back status ran_before ran_now old new same = inl (rw same (none_made old))
 
-pub fault_back : {A : Type 0} (fault : PlayFault) (ran_before ran_now : List ℕ) (old new : Doorway) → GivesBack {A = A} ran_before ran_now old new (Err fault) →
+pub fault_back : (fault : PlayFault) (ran_before ran_now : List ℕ) (old new : Doorway) → GivesBack {A = SequencerView} ran_before ran_now old new (Err fault) →
     GivesBackBut (status_of (ending_of_fault fault)) ran_before ran_now old new
 fault_back faults.Start ran_before ran_now old new h = inr (inl refl, h)
 fault_back faults.Link ran_before ran_now old new h = inl h
 fault_back faults.Memory ran_before ran_now old new (inl h) = inl h
 fault_back faults.Memory ran_before ran_now old new (inr h) = inr (inr refl, h)
 
+-- ---- Counts
+
+pub fault_raises : (f0 f1 c0 c1 d0 d1 k : ℕ) (fault : PlayFault) → f1 ≡ f0 → PlayCause {A = SequencerView} c0 c1 d0 d1 (Err fault) →
+    Raises (counts f0 c0 d0 k) (counts f1 c1 d1 k) (ending_of_fault fault)
+fault_raises f0 f1 c0 c1 d0 d1 k faults.Start f p = (p.0, same_counts f0 f1 c1 c1 d0 d1 k f refl p.1)
+fault_raises f0 f1 c0 c1 d0 d1 k faults.Link f p = (p.1, same_counts f0 f1 c0 c1 d1 d1 k f p.0 refl)
+fault_raises f0 f1 c0 c1 d0 d1 k faults.Memory f p = same_counts f0 f1 c0 c1 d0 d1 k f p.0 p.1
+
 -- ---- What a status excludes
 
-pub early_status : (fault : PlayFault) → status_of (ending_of_fault fault) ≤ 4 → ⊥
+early_status : (fault : PlayFault) → status_of (ending_of_fault fault) ≤ 4 → ⊥
 early_status faults.Start low = omega (arith, low)
 early_status faults.Link low = omega (arith, low)
 early_status faults.Memory low = omega (arith, low)
@@ -38,6 +54,13 @@ early_status faults.Memory low = omega (arith, low)
 pub touched : {F D C : Type 0} (status : ℕ) (f0 f1 : F) (d0 d1 : D) (c0 c1 : C) → (2 ≤ status → status ≤ 4 → ⊥) → LeavesAlone status f0 f1 d0 d1 c0 c1
 touched status f0 f1 d0 d1 c0 c1 away =
     record { files = λ s. absurd (away (omega (arith, s)) (omega (arith, s))); door = λ s. absurd (away s.0 s.1); crew = λ s. absurd (away s.0 s.1) }
+
+pub fault_touched : {F D C : Type 0} (fault : PlayFault) (f0 f1 : F) (d0 d1 : D) (c0 c1 : C) → LeavesAlone (status_of (ending_of_fault fault)) f0 f1 d0 d1 c0 c1
+fault_touched fault f0 f1 d0 d1 c0 c1 = touched (status_of (ending_of_fault fault)) f0 f1 d0 d1 c0 c1 (λ l h. early_status fault h)
+
+pub certain_is : (sure : ℕ → Type 0) (a : Option Asked) (e : Ending) → IfSome a (λ x. sure x.port → e ≢ endings.Link) → IfSome a (λ x. sure x.port → status_of e ≢ 6)
+certain_is sure None e h = tt
+certain_is sure (Some x) e h = λ s six. h s (link_is e six)
 
 -- ---- What is left of a call, by its status
 
@@ -54,10 +77,7 @@ unasked : (contents : List ℕ → Option (List ℕ)) (a : Option Asked) → a �
 unasked contents None n can = can
 unasked contents (Some a) n can = cc
 
-module _ (a : Option Asked) (contents : List ℕ → Option (List ℕ)) (m : Moved) (old now : Option (List ℕ)) where
-  abbrev held : Option (List ℕ)
-  held = held_by contents a
-
+module _ (held : Option (List ℕ)) (m : Moved) (old now : Option (List ℕ)) where
   pub printed_is : (e : Ending) → Ends held m old now e → status_of e ≡ 0 → IsPrinted held m old now
   printed_is endings.Done h s = h
   printed_is endings.Words h s = absurd (omega arith)
@@ -90,6 +110,10 @@ module _ (a : Option Asked) (contents : List ℕ → Option (List ℕ)) (m : Mov
 
   pub refused_is : (e : Ending) → Ends held m old now e → (line : _) → e ≡ endings.Scenario line → IsRefused held (string_bytes line)
   refused_is e h line is = (subst (Ends held m old now) is h).0
+
+module _ (a : Option Asked) (contents : List ℕ → Option (List ℕ)) (m : Moved) (old now : Option (List ℕ)) where
+  abbrev held : Option (List ℕ)
+  held = held_by contents a
 
   pub faulty_is : (e : Ending) → ((e ≡ endings.Words) ↔ (a ≡ None)) → Ends held m old now e
       → IfSome held (λ all. IsNoScenario (take read_limit all) → (status_of e ≡ 3) ⊎ (status_of e ≡ 4) ⊎ (status_of e ≡ 8))

@@ -99,9 +99,9 @@ impl<'a, G: Gate> Host<'a, G> {
 fn give_back_all<D: Door, G>(door: &mut D, services: Vec<Service<'_, D::E, G>>)
     requires own { AllByRecursion (IsUnservedOf D.E.told (D.made door.old)) services.items }
     requires owed { length services.items ≤ D.owed door.old }
-    ensures given { D.given door.new ≡ D.given door.old ++ kept_unserved D.E.told D.E.faults services.items }
+    ensures given { D.given door.new ≡ D.given door.old ++ kept_unserved D.E.told D.E.faults services.entry.items }
     ensures made { D.made door.new ≡ D.made door.old }
-    ensures owed { D.owed door.old ≡ D.owed door.new + length services.items }
+    ensures owed { D.owed door.old ≡ D.owed door.new + length services.entry.items }
     ensures faults { D.faults door.new ≡ D.faults door.old }
 {
     for service in services {

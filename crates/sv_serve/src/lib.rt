@@ -4,5 +4,9 @@
 mod accepting;
 mod hosting;
 mod taking;
+mod texts;
+mod top;
+mod words;
 
 pub use hosting::serve_scenario;
+pub use top::run_serve;

@@ -1,5 +1,5 @@
 //! Taking in what the sessions left.
-ghost use Rattle.std.specs.Prelude.{◌≡◌, ◌+◌, ◌≤◌, ◌++◌, false, length, None};
+ghost use Rattle.std.specs.Prelude.{◌≡◌, ◌+◌, ◌≤◌, ◌++◌, ◌||◌, false, length, None};
 ghost use Rattle.std.specs.List.{AllByRecursion};
 ghost use Rattle.sv_play.specs.Left.{is_memory, IsOfLock, Joined};
 ghost use Rattle.sv_play.specs.declared.tasks.Serviced.{Serviced as Left};
@@ -10,6 +10,16 @@ use sv_lock::{Pass, SeqLock};
 use sv_play::Serviced;
 use sv_sequencer::Sequencer;
 use sv_session::SessionOut;
+
+/// Whether memory was lacking before, or in a session that ended so.
+fn lacks(lacked: bool, out: SessionOut) -> bool
+    ensures { result ≡ (lacked || is_memory out) }
+{
+    match out {
+        SessionOut::Memory => true,
+        _ => lacked,
+    }
+}
 
 /// Has the keeper take all passes in and gives all ends back, in the order of the sessions. Whether a session had no memory.
 pub(crate) fn take_in<D: Door>(
@@ -34,9 +44,7 @@ pub(crate) fn take_in<D: Door>(
         let Serviced { pass, end, out } = session;
         lock.join(keeper, pass);
         door.give_back(end);
-        if let SessionOut::Memory = out {
-            lacked = true;
-        }
+        lacked = lacks(lacked, out);
     }
     lacked
 }

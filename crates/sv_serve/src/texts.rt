@@ -31,11 +31,7 @@ fn ending_of_fault(fault: PlayFault) -> Ending
 }
 
 /// The journal part of the report, and the commit.
-fn hosted_text(
-    alloc: Global,
-    shape: Shape,
-    sequencer: &Sequencer,
-) -> Result<String, AllocError>
+fn hosted_text(alloc: Global, shape: Shape, sequencer: &Sequencer) -> Result<String, AllocError>
     ensures { IfOk result (λ text. string_bytes text ≡ hosted_text shape (history sequencer.now)) }
 {
     legal_relays_name_accepted();
@@ -64,8 +60,9 @@ pub(crate) fn served_text<F: Files, D: Door, C: Crew, G: Gate + Sync, R: Threads
     ensures back { GivesBackBut (status_of (ending_of result)) (C.ran crew.old) (C.ran crew.new) (doorway (D.given door.old) (D.made door.old) (D.owed door.old)) (doorway (D.given door.new) (D.made door.new) (D.owed door.new)) }
 {
     let scenario = scenario_in(alloc, command.file, files)?;
-    match serve_scenario(rt, alloc, &scenario, command.port, door, crew, gate) {
-        Ok(sequencer) => Ok(hosted_text(alloc, scenario.world.shape, &sequencer)?),
-        Err(fault) => Err(ending_of_fault(fault)),
-    }
+    let sequencer = match serve_scenario(rt, alloc, &scenario, command.port, door, crew, gate) {
+        Ok(sequencer) => sequencer,
+        Err(fault) => return Err(ending_of_fault(fault)),
+    };
+    Ok(hosted_text(alloc, scenario.world.shape, &sequencer)?)
 }

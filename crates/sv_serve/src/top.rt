@@ -101,6 +101,11 @@ pub fn run_serve<
 {
     let command = command_of(words);
     let ending = decide(rt, alloc, command, files, door, crew, gate, out);
-    tell(&ending, b"words: serve FILE PORT\n", command.map(|c| c.file), err);
+    tell(
+        &ending,
+        b"words: serve FILE PORT\n",
+        command.map(|c| c.file),
+        err,
+    );
     status_of(&ending)
 }

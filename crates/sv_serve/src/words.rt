@@ -1,6 +1,8 @@
 //! What the words of a call ask for.
 ghost use Rattle.std.specs.Prelude.{◌≡◌, map, string_bytes, option_map};
+ghost use Rattle.std.specs.Option.{option_copied};
 ghost use Rattle.sv_serve.specs.Words.{asked_by, command_of};
+ghost use Rattle.sv_serve.specs.Statuses.{named_by};
 
 use sv_command::number_in;
 
@@ -25,4 +27,12 @@ pub(crate) fn command_of(words: &[String]) -> Option<Command<'_>>
         file: file.as_str(),
         port: number_in(port.as_str(), 1, 65_535)? as u16,
     })
+}
+
+/// The file that is named.
+pub(crate) fn file_of<'a>(command: Option<Command<'a>>) -> Option<&'a str>
+    ensures { option_copied result ≡ named_by (option_map asked_by command.entry) }
+{
+    let Command { file, .. } = command?;
+    Some(file)
 }

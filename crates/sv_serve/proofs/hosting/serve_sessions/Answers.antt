@@ -65,6 +65,35 @@ returns-clause-keeper g c =
     subst (λ b. TookAllIn c.args.host.now.scenario.now b k) (sym c.requires.keeper)
     (took_all g.D.E.End.told g.D.E.End.faults g.D.E.End.calm run c.in_ok-services.services.items ys t.count t.services c.in-Done.ensures.kept k joined good)
 
+pub returns-then-take_in-clause-back : goal.returns-then-take_in-clause-back
+returns-then-take_in-clause-back g c =
+    let run = setting c.args.host.now.lock.now c.args.host.now.scenario.now (g.D.Door.made c.args.door.now) (g.D.Door.sure c.args.door.now c.args.port) in
+    let t = c.in_ok-services.ensures in
+    let left = c.take_in.ensures in
+    let ys = c.in-Done.served.items in
+    let count = all_served g.D.E.End.told g.D.E.End.faults g.D.E.End.calm run c.in_ok-services.services.items ys t.count t.services c.in-Done.ensures.kept in
+    let more = t.owed in
+    let less = left.owed in
+    inl
+    (served_back g.D.E.End.told g.D.E.End.faults (g.D.Door.given c.args.door.now) (g.D.Door.given c.take_in.new.door) (g.D.Door.made c.args.door.now) (g.D.Door.made c.take_in.new.door)
+    (g.D.Door.owed c.args.door.now) (g.D.Door.owed c.take_in.new.door) ys
+    (left.given ∙ ap (λ l. l ++ kept_served g.D.E.End.told g.D.E.End.faults ys) t.given)
+    (left.made ∙ (t.made ∙ ap (λ n. g.D.Door.made c.args.door.now + n) (sym count))) (omega (arith, count, more, less)))
+
+pub returns-clause-back : goal.returns-clause-back
+returns-clause-back g c =
+    let run = setting c.args.host.now.lock.now c.args.host.now.scenario.now (g.D.Door.made c.args.door.now) (g.D.Door.sure c.args.door.now c.args.port) in
+    let t = c.in_ok-services.ensures in
+    let left = c.take_in.ensures in
+    let ys = c.in-Done.served.items in
+    let count = all_served g.D.E.End.told g.D.E.End.faults g.D.E.End.calm run c.in_ok-services.services.items ys t.count t.services c.in-Done.ensures.kept in
+    let more = t.owed in
+    let less = left.owed in
+    served_back g.D.E.End.told g.D.E.End.faults (g.D.Door.given c.args.door.now) (g.D.Door.given c.take_in.new.door) (g.D.Door.made c.args.door.now) (g.D.Door.made c.take_in.new.door)
+    (g.D.Door.owed c.args.door.now) (g.D.Door.owed c.take_in.new.door) ys
+    (left.given ∙ ap (λ l. l ++ kept_served g.D.E.End.told g.D.E.End.faults ys) t.given)
+    (left.made ∙ (t.made ∙ ap (λ n. g.D.Door.made c.args.door.now + n) (sym count))) (omega (arith, count, more, less))
+
 pub run_all-requires-send-J : goal.run_all-requires-send-J
 run_all-requires-send-J g c κs within = let y = c.type_bounds.sync-G in let e = c.type_bounds.send-D-E in search (lock-syncs, pass-sends, sendable, crosses) depth 40 fits 10000
 
