@@ -1,9 +1,9 @@
 -- What the status of an ending says.
 use Rattle.std.proofs.Common.{◌≡◌, ◌≢◌, ◌↔◌, ◌⊎◌, inl, inr, refl, arith, ℕ, ◌≤◌, List, [], take, append-nil, subst, sym, Option, Some, None}
-use Rattle.std.specs.Prelude.{string_bytes, length, IfSome, OnErr, Result, Ok, Err}
+use Rattle.std.specs.Prelude.{string_bytes, IfSome, OnErr, Result, Ok, Err}
 use Rattle.sv_command.specs.declared.ending.Ending.{Ending}
 use Rattle.sv_command.specs.declared.ending.Ending.TheVariants as endings
-use Rattle.sv_command.specs.Reading.{read_limit, IsRead, IsRefused, IsNoScenario, HoldsScenario}
+use Rattle.sv_command.specs.Reading.{read_limit, IsRefused, IsNoScenario, HoldsScenario}
 use Rattle.sv_command.specs.Statuses.{status_of, Counts, counts, Raises, NoneRose}
 use Rattle.sv_command.proofs.Counts.{same_counts}
 use Rattle.sv_command.proofs.Statuses.{link_is}
@@ -15,7 +15,7 @@ use Rattle.sv_play.specs.Playing.{PlayCause}
 use Rattle.sv_serve.specs.Words.{Asked}
 use Rattle.sv_serve.specs.Giving.{Doorway, GaveAllBack, GivesBack}
 use Rattle.sv_serve.specs.Hosting.{Moved}
-use Rattle.sv_serve.specs.Statuses.{ending_of_fault, held_by, IsReady, IsPrinted, IsCutShort, Ends, LeavesAlone, GivesBackBut}
+use Rattle.sv_serve.specs.Statuses.{ending_of_fault, held_by, IsPrinted, IsCutShort, Ends, LeavesAlone, GivesBackBut}
 
 -- ---- The ends
 

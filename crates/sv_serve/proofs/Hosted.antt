@@ -1,8 +1,7 @@
 -- All sessions of a scenario that were served.
-use Rattle.std.proofs.Common.{◌≡◌, ◌≢◌, ℕ, ◌+◌, ◌<◌, ◌≤◌, false, List, [], ◌∷◌, ◌++◌, map, length, reverse, slice_get, Some, refl, sym, ap, subst, ◌∙◌, arith}
-use Rattle.std.specs.Prelude.{All}
+use Rattle.std.proofs.Common.{◌≡◌, ◌≢◌, ℕ, ◌+◌, ◌<◌, ◌≤◌, false, List, [], ◌∷◌, ◌++◌, length, reverse, slice_get, Some, refl, ap, subst, ◌∙◌, arith}
 use Rattle.std.specs.List.{AllByRecursion, AllZip}
-use Rattle.std.proofs.lemmas.List.{length-map, reverse-reverse}
+use Rattle.std.proofs.lemmas.List.{length-map}
 use Rattle.std.proofs.lemmas.List.Elements.{All-from_recursion, recursion_from_All}
 use Rattle.std.proofs.lemmas.Option.{slice_get_within}
 use Rattle.std.proofs.lemmas.Slice.Zip.{AllZip-long}
@@ -23,14 +22,13 @@ use Rattle.sv_play.specs.Tasks.{WasServed}
 use Rattle.sv_play.specs.Given.{Setting, keeper_after, pass_of, IsService}
 use Rattle.sv_play.specs.Left.{is_memory, IsOfLock, Joined, IsServiced}
 use Rattle.sv_play.specs.Playing.{TookAllIn}
-use Rattle.sv_play.proofs.Places.{each_all, at_place, map_at, unmap_at}
+use Rattle.sv_play.proofs.Places.{each_all, at_place, unmap_at}
 use Rattle.sv_play.proofs.Leaving.{served_left, all_of_lock}
 use Rattle.sv_play.proofs.Whole.{just_at}
 use Rattle.sv_play.proofs.Keepers.{just_of, below_of, legal_of, all_taken_in}
-use Rattle.sv_door.specs.Doors.{Passage}
 use Rattle.sv_serve.specs.Giving.{kept_of, kept_served, IsUnservedOf, IsServedOf}
 use Rattle.sv_serve.specs.Passages.{IsPassageOf}
-use Rattle.sv_serve.specs.Hosting.{Moved, moved, IsHosted}
+use Rattle.sv_serve.specs.Hosting.{Moved, IsHosted}
 use Rattle.sv_serve.proofs.Passages.{WasHosted, passage_is, one_end_is}
 
 -- What a fact of a place and its bound gives of all.

@@ -1,6 +1,6 @@
 -- What a call says, and what is left of it, by its status.
 -- A journal `h` has its latest entry first.
-use Rattle.std.specs.Prelude.{◌≡◌, ◌⊎◌, ℕ, ◌≤◌, List, ◌++◌, reverse, Option, Some, None, codes, option_map, option_and_then, Result, Ok, Err, String, string_bytes}
+use Rattle.std.specs.Prelude.{◌≡◌, ◌⊎◌, ℕ, ◌≤◌, List, ◌++◌, reverse, Option, codes, option_map, option_and_then, Result, Ok, Err, String, string_bytes}
 use Rattle.std.specs.declared.alloc.Global.{Global}
 use Rattle.std.specs.Fmt.{decimal}
 use Rattle.sv_world.specs.declared.world.Shape.{Shape}

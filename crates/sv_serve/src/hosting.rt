@@ -1,8 +1,7 @@
 //! The sessions of a scenario, served to whoever connects.
-ghost use Rattle.std.specs.Prelude.{◌≡◌, ◌≢◌, reverse, IfOk, Err, []};
+ghost use Rattle.std.specs.Prelude.{◌≡◌, ◌≢◌, reverse, IfOk, Err};
 ghost use Rattle.sv_scenario.specs.Limits.{IsGoodScenario};
 ghost use Rattle.sv_scenario.specs.Sessions.{session_count};
-ghost use Rattle.sv_system.specs.Records.{rules_of};
 ghost use Rattle.sv_sequencer.specs.Step.{history};
 ghost use Rattle.sv_play.specs.Given.{keeper_after};
 ghost use Rattle.sv_play.specs.Playing.{PlayCause, TookAllIn};
@@ -11,7 +10,7 @@ ghost use Rattle.sv_serve.specs.Hosting.{moved, IsHosted};
 
 use crate::accepting::Host;
 use crate::taking::take_in;
-use std::alloc::{AllocError, Global};
+use std::alloc::Global;
 use std::sync::Wait;
 use std::thread::Threads;
 use sv_door::Door;
@@ -20,28 +19,9 @@ use sv_link::{Crew, Gate, Ran};
 use sv_lock::{Pass, SeqLock};
 use sv_numbers::read_scenario_numbers;
 use sv_play::PlayFault;
+use sv_replay::open_sequencer;
 use sv_scenario::{Scenario, sessions_of};
 use sv_sequencer::Sequencer;
-use sv_world::{World, copy_values};
-
-/// TEMP
-pub fn open_sequencer(alloc: Global, scenario: &Scenario) -> Result<Sequencer, AllocError>
-    requires { IsGoodScenario scenario.now }
-    ensures rules { IfOk result (λ s. s.rules ≡ rules_of scenario.now) }
-    ensures empty { IfOk result (λ s. s.journal.entries ≡ []) }
-{
-    let world = World {
-        shape: scenario.world.shape,
-        values: copy_values(alloc, scenario.world.values.as_slice())?,
-    };
-    Sequencer::new(
-        alloc,
-        world,
-        scenario.bound,
-        scenario.reach,
-        sessions_of(scenario),
-    )
-}
 
 /// Serves each session over a connection of its own, all at once, and waits for all of them.
 fn serve_sessions<D: Door, C: Crew, G: Gate + Sync, R: Threads + Wait + Sync>(

@@ -7,7 +7,7 @@ ghost use Rattle.sv_serve.specs.Hosting.{moved};
 ghost use Rattle.sv_serve.specs.Statuses.{held_by, named_by, Ends, GivesBackBut, IsCutShort, IsPrinted, LeavesAlone};
 
 use crate::texts::served_text;
-use crate::words::{Command, command_of};
+use crate::words::{Command, command_of, file_of};
 use std::alloc::Global;
 use std::sync::Wait;
 use std::thread::Threads;
@@ -32,7 +32,7 @@ fn decide<F: Files, D: Door, C: Crew, G: Gate + Sync, K: Sink, R: Threads + Wait
         (moved (D.given door.old) (D.given door.new) (C.ran crew.old) (C.ran crew.new)) (K.taken out.old) (K.taken out.new) result }
     ensures raises { Raises (counts (F.faults files.old) (C.faults crew.old) (D.faults door.old) (K.faults out.old))
         (counts (F.faults files.new) (C.faults crew.new) (D.faults door.new) (K.faults out.new)) result }
-    ensures sure { IfSome (option_map asked_by command.entry) (λ asked. F.sure files.old asked.file → result ≢ Ending.File) }
+    ensures sure { IfSome (named_by (option_map asked_by command.entry)) (λ name. F.sure files.old name → result ≢ Ending.File) }
     ensures certain { IfSome (option_map asked_by command.entry) (λ asked. D.sure door.old asked.port → result ≢ Ending.Link) }
     ensures apart { LeavesAlone (status_of result) files.old files.new door.old door.new crew.old crew.new }
     ensures back { GivesBackBut (status_of result) (C.ran crew.old) (C.ran crew.new)
@@ -80,7 +80,7 @@ pub fn run_serve<
     ensures words { (result ≡ 2) ↔ (command_of (map string_bytes words.now) ≡ None) }
     ensures faults { TellsFaults result (counts (F.faults files.old) (C.faults crew.old) (D.faults door.old) (K.faults out.old))
         (counts (F.faults files.new) (C.faults crew.new) (D.faults door.new) (K.faults out.new)) }
-    ensures sure { IfSome (command_of (map string_bytes words.now)) (λ asked. F.sure files.old asked.file → result ≢ 4) }
+    ensures sure { IfSome (named_by (command_of (map string_bytes words.now))) (λ name. F.sure files.old name → result ≢ 4) }
     ensures certain { IfSome (command_of (map string_bytes words.now)) (λ asked. D.sure door.old asked.port → result ≢ 6) }
     ensures apart { LeavesAlone result files.old files.new door.old door.new crew.old crew.new }
     ensures back { GivesBackBut result (C.ran crew.old) (C.ran crew.new)
@@ -101,11 +101,6 @@ pub fn run_serve<
 {
     let command = command_of(words);
     let ending = decide(rt, alloc, command, files, door, crew, gate, out);
-    tell(
-        &ending,
-        b"words: serve FILE PORT\n",
-        command.map(|c| c.file),
-        err,
-    );
+    tell(&ending, b"words: serve FILE PORT\n", file_of(command), err);
     status_of(&ending)
 }

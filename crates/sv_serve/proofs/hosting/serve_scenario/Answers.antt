@@ -1,5 +1,4 @@
-use Rattle.std.proofs.Common.{reverse, sym, subst, arith}
-use Rattle.sv_serve.specs.Hosting.{moved, IsHosted}
+use Rattle.std.proofs.Common.{arith}
 use Rattle.sv_serve.proofs.Steps.{some_sessions}
 use Rattle.sv_serve.proofs.hosting.serve_scenario.Goals as goal
 

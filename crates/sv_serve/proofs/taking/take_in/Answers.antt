@@ -1,4 +1,4 @@
-use Rattle.std.proofs.Common.{◌+◌, ◌++◌, [], ◌∷◌, sym, ap, subst, ◌∙◌, append_assoc, false, ◌≡◌, length, arith}
+use Rattle.std.proofs.Common.{◌++◌, [], ◌∷◌, sym, ap, subst, ◌∙◌, append_assoc, false, ◌≡◌, length, arith}
 use Rattle.std.specs.List.{AllByRecursion}
 use Rattle.std.proofs.lemmas.List.{map-append}
 use Rattle.sv_play.specs.Left.{is_memory, IsOfLock}
@@ -47,6 +47,6 @@ loop-session-preserved g c =
       made = b.made ∙ i.made;
       faults = b.faults ∙ i.faults;
       lacked = λ none.
-          let both = neither c.loop-session.lacked (is_memory y.out) (sym c.lacks.ensures ∙ none) in
+          let both = neither c.loop-session.lacked (is_memory y.out) (sym c.lacks-lacked.ensures ∙ none) in
           each_more (λ x. is_memory x.out ≡ false) yielded y (i.lacked both.0) both.1;
     }

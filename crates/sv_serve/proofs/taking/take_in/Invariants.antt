@@ -1,6 +1,5 @@
 use Rattle.std.proofs.Common.{◌≡◌, ◌+◌, ◌≤◌, ◌++◌, false, length}
 use Rattle.std.specs.List.{AllByRecursion}
-use Rattle.sv_play.specs.declared.tasks.Serviced.{Serviced}
 use Rattle.sv_play.specs.Left.{is_memory, IsOfLock, Joined}
 use Rattle.sv_serve.specs.Giving.{kept_served, IsServedOf}
 use Rattle.sv_serve.proofs.taking.take_in.Given as goal
