@@ -1,16 +1,14 @@
 -- A run from its tasks to its record.
-use Rattle.std.proofs.Common.{◌≡◌, ℕ, ◌+◌, ◌<◌, ◌≤◌, false, List, [], ◌∷◌, ◌++◌, map, length, reverse, refl, sym, ap, subst, ◌∙◌, arith}
-use Rattle.std.specs.Prelude.{Contains}
-use Rattle.std.specs.List.{AllByRecursion, AllZip, flat_map, range_with_len}
+use Rattle.std.proofs.Common.{◌≡◌, ℕ, ◌+◌, false, List, [], ◌∷◌, ◌++◌, map, length, reverse, refl, sym, ap, subst, ◌∙◌, arith}
+use Rattle.std.specs.List.{AllByRecursion, AllZip, flat_map}
 use Rattle.sv_world.specs.declared.world.Shape.{Shape}
 use Rattle.sv_link.specs.Ends.{Told}
 use Rattle.sv_link.specs.Nets.{Transcript}
 use Rattle.sv_journal.specs.declared.entry.Entry.{Entry}
-use Rattle.sv_journal.specs.Answer.{Rules, Legal}
+use Rattle.sv_journal.specs.Answer.{Legal}
 use Rattle.sv_lock.specs.Histories.{AreJust, AreBelow}
 use Rattle.sv_client.specs.declared.trace.Trace.{Trace}
-use Rattle.sv_scenario.specs.declared.scenario.Plan.{Plan}
-use Rattle.sv_scenario.specs.Sessions.{sessions_in, session_count}
+use Rattle.sv_scenario.specs.Sessions.{session_count}
 use Rattle.sv_script.specs.Telling.{told_lines}
 use Rattle.sv_session.specs.Serving.{SessionPass}
 use Rattle.sv_system.specs.Records.{rules_of}
@@ -24,16 +22,13 @@ use Rattle.sv_play.specs.declared.gathering.Left.{Left}
 use Rattle.sv_play.specs.Places.{EachPlace, EachClient}
 use Rattle.sv_play.specs.Tasks.{services_of, parts_of, serviced_of, played_of, Keeps}
 use Rattle.sv_play.specs.Given.{Setting, keeper_after, IsPart, IsService}
-use Rattle.sv_play.specs.Left.{own_of, ends_of, transcripts_of, Agrees, HasRoom, HasFewSessions, Gathered, Knows, Joined, IsOfLock, IsServiced, HasPlayed}
+use Rattle.sv_play.specs.Left.{own_of, ends_of, transcripts_of, Agrees, HasRoom, HasFewSessions, Gathered, Joined, IsOfLock, IsServiced, HasPlayed}
 use Rattle.sv_play.specs.Settling.{AnyZip, Differ, ArePair, AreCalm, SomeDiffer}
 use Rattle.sv_play.specs.Playing.{IsThreadedRun, TookAllIn}
 use Rattle.sv_play.proofs.Places.{clients_count}
 use Rattle.sv_play.proofs.Leaving.{services_left, parts_left, served_count, task_count, all_of_lock, all_few, ends_are_all, as_many, all_pairs, all_calm, some_differ}
-use Rattle.sv_play.proofs.Whole.{overs, transcripts_are, numbers_are, in_range, number_of, is_run, all_end, lines_are}
-
-some_sessions : (plans : List Plan) → 1 ≤ length plans → 0 < sessions_in plans
-some_sessions [] l = absurd (omega (arith, l))
-some_sessions (plan ∷ plans) l = omega arith
+use Rattle.sv_play.proofs.Whole.{overs, transcripts_are, is_run, all_end, lines_are}
+use Rattle.sv_play.proofs.Keepers.{just_of, below_of, legal_of, all_taken_in}
 
 module _ {E G W : Type 0} (told : E → Told) (faults : E → ℕ) (calm : E → Type 0) (shape_of : W → Shape) (run : Setting)
     (ts : List (Task E G W)) (os : List (TaskOut E)) (count : length (services_of ts) ≡ session_count run.scenario)
@@ -74,7 +69,7 @@ module _ {E G W : Type 0} (told : E → Told) (faults : E → ℕ) (calm : E →
       ∙ (ap (λ n. n + length (parts_of ts)) count
       ∙ ap (λ n. session_count run.scenario + n) (clients_count (IsPart told faults calm shape_of run) 0 0 run.scenario.clients (parts_of ts) parts))
 
-  module _ (left : Left E) (k : SessionPass) (gathered : Gathered os left) (joined : Joined os (keeper_after (session_count run.scenario) run.lock run.scenario) k) where
+  module _ (left : Left E) (k : SessionPass) (gathered : Gathered os left) (joined : Joined ys (keeper_after (session_count run.scenario) run.lock run.scenario) k) where
     pub are_pairs : (made : ℕ) → made ≡ run.pairs + session_count run.scenario → AllZip (ArePair told made) left.servers.items left.clients.items
     are_pairs made is =
         subst (λ servers. AllZip (ArePair told made) servers left.clients.items) (sym gathered.servers)
@@ -97,43 +92,18 @@ module _ {E G W : Type 0} (told : E → Told) (faults : E → ℕ) (calm : E →
         lengths [] = refl
         lengths (x ∷ xs) = let rest = lengths xs in omega (arith, rest)
 
-    -- ---- The keeper
-
     module _ (good : IsGoodRun run.scenario) where
-      knows : Knows k
-      knows = joined.knows (subst (λ n. 0 < n) (sym all_served) (some_sessions run.scenario.clients good.good.some_clients))
-
-      ended_is : k.ended ≡ map own_of ys
-      ended_is = joined.ended
-
       just : AreJust (λ (e : Entry). e.session) k.seen (map own_of ys)
-      just = subst (AreJust (λ (e : Entry). e.session) k.seen) ended_is knows.just
+      just = just_of told faults calm run ys served all_served k joined good
 
       below : AreBelow (λ (e : Entry). e.session) (session_count run.scenario) k.seen
-      below = subst (λ n. AreBelow (λ (e : Entry). e.session) n k.seen) joined.made knows.below
+      below = below_of told faults calm run ys served all_served k joined good
 
       legal : Legal (rules_of run.scenario) (reverse k.seen)
-      legal = subst (λ (r : Rules). Legal r (reverse k.seen)) joined.base knows.legal
-
-      numbers_in : map (λ (x : ℕ × List Entry). x.0) k.ended ≡ range_with_len 0 (session_count run.scenario)
-      numbers_in =
-          ap (map (λ (x : ℕ × List Entry). x.0)) ended_is
-          ∙ (numbers_are 0 ys (λ s y e. number_of told faults calm run s y (served s y e) ∙ omega arith) ∙ ap (range_with_len 0) all_served)
+      legal = legal_of told faults calm run ys served all_served k joined good
 
       pub took_all : TookAllIn run.scenario (keeper_after 0 run.lock run.scenario) k
-      took_all =
-          record {
-            lock = joined.lock;
-            session = joined.session;
-            base = joined.base;
-            made = joined.made;
-            numbers = numbers_in;
-            ended = λ n low.
-                subst (λ (l : List ℕ). Contains l n) (sym numbers_in) (in_range (session_count run.scenario) n (subst (λ m. n < m) joined.made low));
-            just = knows.just;
-            below = below;
-            legal = legal;
-          }
+      took_all = all_taken_in told faults calm run ys served all_served k joined good
 
       -- ---- The record
 

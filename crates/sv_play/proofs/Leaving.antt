@@ -67,6 +67,10 @@ module _ {E G : Type 0} (told : E → Told) (faults : E → ℕ) (calm : E → T
         calm_is = λ q. w.calm_is (p.end.calm_is q);
       }
 
+  pub served_left : (run : Setting) (xs : List (Service E G)) (ys : List (Serviced E)) → EachPlace (IsService told faults calm run) xs → AllZip (WasServed told faults calm) xs ys →
+      (s : ℕ) (y : Serviced E) → slice_get ys s ≡ Some y → IsServiced told faults calm run s y
+  served_left run xs ys given all = each_zip (IsService told faults calm run) (WasServed told faults calm) (IsServiced told faults calm run) xs ys given all (service_left run)
+
 module _ {E G W : Type 0} (told : E → Told) (faults : E → ℕ) (calm : E → Type 0) where
   pub split_served : (ts : List (Task E G W)) (os : List (TaskOut E)) → AllZip (Keeps told faults calm) ts os → AllZip (WasServed told faults calm) (services_of ts) (serviced_of os)
   split_served [] [] all = tt
@@ -88,8 +92,7 @@ module _ {E G W : Type 0} (told : E → Told) (faults : E → ℕ) (calm : E →
 
   pub services_left : (run : Setting) (ts : List (Task E G W)) (os : List (TaskOut E)) → EachPlace (IsService told faults calm run) (services_of ts) → AllZip (Keeps told faults calm) ts os →
       (s : ℕ) (y : Serviced E) → slice_get (serviced_of os) s ≡ Some y → IsServiced told faults calm run s y
-  services_left run ts os given all =
-      each_zip (IsService told faults calm run) (WasServed told faults calm) (IsServiced told faults calm run) (services_of ts) (serviced_of os) given (split_served ts os all) (service_left told faults calm run)
+  services_left run ts os given all = served_left told faults calm run (services_of ts) (serviced_of os) given (split_served ts os all)
 
   pub parts_left : (run : Setting) (shape_of : W → Shape) (ts : List (Task E G W)) (os : List (TaskOut E)) → EachClient (IsPart told faults calm shape_of run) 0 0 run.scenario.clients (parts_of ts) → AllZip (Keeps told faults calm) ts os →
       EachClient (HasPlayed told faults calm run) 0 0 run.scenario.clients (played_of os)

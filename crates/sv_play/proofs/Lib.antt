@@ -4,5 +4,6 @@ pub mod Ready
 pub mod Taken
 pub mod Leaving
 pub mod Whole
+pub mod Keepers
 pub mod Done
 pub mod Sent

@@ -24,7 +24,7 @@ use Rattle.sv_play.specs.declared.tasks.Part.{Part}
 use Rattle.sv_play.specs.declared.tasks.Task.{Task}
 use Rattle.sv_play.specs.declared.tasks.Task.TheVariants as tasks
 use Rattle.sv_play.specs.Places.{EachPlace, EachClient}
-use Rattle.sv_play.specs.Tasks.{services_of, parts_of, MayTakePart, IsReady}
+use Rattle.sv_play.specs.Tasks.{services_of, parts_of, MayBeServed, MayTakePart, IsReady}
 use Rattle.sv_play.specs.Given.{Setting, IsEndOf, IsPart, IsService}
 use Rattle.sv_play.proofs.Places.{each_all, each_client_all}
 
@@ -69,12 +69,8 @@ module _ {E W : Type 0} (told : E → Told) (faults : E → ℕ) (calm : E → T
             (λ j end new. subst IsFresh (sym new.told_is) (record { open_is = refl; sent = refl; received = refl }));
       }
 
-module _ {E G : Type 0} (told : E → Told) where
-  abbrev IsServiceReady : Service E G → Type 0
-  IsServiceReady x = MayServe x.lock.now x.pass × ((told x.end).closed ≡ false)
-
 module _ {E G : Type 0} (told : E → Told) (faults : E → ℕ) (calm : E → Type 0) (run : Setting) (good : IsGoodScenario run.scenario) where
-  service_ready : (s : ℕ) (x : Service E G) → IsService told faults calm run s x → IsServiceReady told x
+  service_ready : (s : ℕ) (x : Service E G) → IsService told faults calm run s x → MayBeServed told x
   service_ready s x p = (
     subst (λ (l : LockView). MayServe l x.pass) (sym p.lock)
         (subst (MayServe run.lock) (sym p.pass)
@@ -82,13 +78,16 @@ module _ {E G : Type 0} (told : E → Told) (faults : E → ℕ) (calm : E → T
     ap (λ (t : Told). t.closed) p.end.told_is,
   )
 
+  pub services_ready : (xs : List (Service E G)) → EachPlace (IsService told faults calm run) xs → AllByRecursion (MayBeServed told) xs
+  services_ready xs services = each_all (IsService told faults calm run) (MayBeServed told) xs services service_ready
+
 module _ {E G W : Type 0} (told : E → Told) (faults : E → ℕ) (calm : E → Type 0) (shape_of : W → Shape) (run : Setting) (good : IsGoodScenario run.scenario) where
-  all_ready : (ts : List (Task E G W)) → AllByRecursion (IsServiceReady told) (services_of ts) → AllByRecursion (IsPartReady told shape_of) (parts_of ts) → AllByRecursion (IsReady told shape_of) ts
+  all_ready : (ts : List (Task E G W)) → AllByRecursion (MayBeServed told) (services_of ts) → AllByRecursion (IsPartReady told shape_of) (parts_of ts) → AllByRecursion (IsReady told shape_of) ts
   all_ready [] services parts = tt
   all_ready (tasks.Serve x ∷ ts) services parts = (services.0, all_ready ts services.1 parts)
   all_ready (tasks.Play x ∷ ts) services parts = (parts.0, all_ready ts services parts.1)
 
   pub tasks_ready : (ts : List (Task E G W)) → EachPlace (IsService told faults calm run) (services_of ts) → EachClient (IsPart told faults calm shape_of run) 0 0 run.scenario.clients (parts_of ts) → AllByRecursion (IsReady told shape_of) ts
   tasks_ready ts services parts =
-      all_ready ts (each_all (IsService told faults calm run) (IsServiceReady told) (services_of ts) services (service_ready told faults calm run good))
+      all_ready ts (services_ready told faults calm run good (services_of ts) services)
       (each_client_all (IsPart told faults calm shape_of run) (IsPartReady told shape_of) 0 0 run.scenario.clients (parts_of ts) parts (part_ready told faults calm shape_of run good))

@@ -1,5 +1,5 @@
 -- One task's out more.
-use Rattle.std.proofs.Common.{◌≡◌, ℕ, ◌<◌, Bool, true, false, ◌||◌, List, [], ◌∷◌, ◌++◌, map, length, refl, sym, ap, subst, ◌∙◌, append_assoc, append-nil, true≢false, arith}
+use Rattle.std.proofs.Common.{◌≡◌, ℕ, Bool, true, false, ◌||◌, List, [], ◌∷◌, ◌++◌, map, refl, sym, ap, subst, ◌∙◌, append_assoc, append-nil, true≢false, arith}
 use Rattle.std.specs.List.{AllByRecursion, flat_map}
 use Rattle.std.proofs.lemmas.List.{map-append}
 use Rattle.std.proofs.lemmas.List.Concat.{flat_map-append}
@@ -98,31 +98,25 @@ module _ {E : Type 0} where
   pub joined_none : (k : SessionPass) → Joined {E = E} [] k k
   joined_none k = record { lock = refl; session = refl; base = refl; made = refl; ended = sym (append-nil k.ended); seen = tt; knows = λ some. absurd (omega (arith, some)) }
 
-  pub joined_server : (os : List (TaskOut E)) (y : Serviced E) (k a b : SessionPass) → Joined os k a → b.lock ≡ a.lock → b.session ≡ a.session → b.base ≡ a.base → b.made ≡ a.made →
-      b.ended ≡ a.ended ++ own_of y ∷ [] → IsPrefix a.seen b.seen → IsPrefix y.pass.seen b.seen → Knows b → Joined (os ++ outs.Served y ∷ []) k b
-  joined_server os y k a b j lock session base made ended on own knows =
+  pub joined_more : (ys : List (Serviced E)) (y : Serviced E) (k a b : SessionPass) → Joined ys k a → b.lock ≡ a.lock → b.session ≡ a.session → b.base ≡ a.base → b.made ≡ a.made →
+      b.ended ≡ a.ended ++ own_of y ∷ [] → IsPrefix a.seen b.seen → IsPrefix y.pass.seen b.seen → Knows b → Joined (ys ++ y ∷ []) k b
+  joined_more ys y k a b j lock session base made ended on own knows =
       record {
         lock = lock ∙ j.lock;
         session = session ∙ j.session;
         base = base ∙ j.base;
         made = made ∙ j.made;
         ended =
-            ended ∙ ap (λ (l : List (ℕ × List Entry)). l ++ own_of y ∷ []) j.ended ∙ append_assoc k.ended (map own_of (serviced_of os)) (own_of y ∷ [])
-            ∙ ap (λ (l : List (ℕ × List Entry)). k.ended ++ l) (sym (map-append own_of (serviced_of os) (y ∷ [])) ∙ ap (map own_of) (sym (served_more os y)));
-        seen =
-            subst (AllByRecursion (λ (x : Serviced E). IsPrefix x.pass.seen b.seen)) (sym (served_more os y))
-            (each_more (λ (x : Serviced E). IsPrefix x.pass.seen b.seen) (serviced_of os) y (all_seen (serviced_of os) a.seen b.seen on j.seen) own);
+            ended ∙ ap (λ (l : List (ℕ × List Entry)). l ++ own_of y ∷ []) j.ended ∙ append_assoc k.ended (map own_of ys) (own_of y ∷ [])
+            ∙ ap (λ (l : List (ℕ × List Entry)). k.ended ++ l) (sym (map-append own_of ys (y ∷ [])));
+        seen = each_more (λ (x : Serviced E). IsPrefix x.pass.seen b.seen) ys y (all_seen ys a.seen b.seen on j.seen) own;
         knows = λ some. knows;
       }
 
-  pub joined_client : (os : List (TaskOut E)) (y : PlayerOut E) (k a : SessionPass) → Joined os k a → Joined (os ++ outs.Played y ∷ []) k a
-  joined_client os y k a j =
-      record {
-        lock = j.lock;
-        session = j.session;
-        base = j.base;
-        made = j.made;
-        ended = j.ended ∙ ap (λ (l : List (Serviced E)). k.ended ++ map own_of l) (sym (served_same os y));
-        seen = subst (AllByRecursion (λ (x : Serviced E). IsPrefix x.pass.seen a.seen)) (sym (served_same os y)) j.seen;
-        knows = λ some. j.knows (subst (λ (l : List (Serviced E)). 0 < length l) (served_same os y) some);
-      }
+  pub joined_server : (os : List (TaskOut E)) (y : Serviced E) (k a b : SessionPass) → Joined (serviced_of os) k a → b.lock ≡ a.lock → b.session ≡ a.session → b.base ≡ a.base → b.made ≡ a.made →
+      b.ended ≡ a.ended ++ own_of y ∷ [] → IsPrefix a.seen b.seen → IsPrefix y.pass.seen b.seen → Knows b → Joined (serviced_of (os ++ outs.Served y ∷ [])) k b
+  joined_server os y k a b j lock session base made ended on own knows =
+      subst (λ (ys : List (Serviced E)). Joined ys k b) (sym (served_more os y)) (joined_more (serviced_of os) y k a b j lock session base made ended on own knows)
+
+  pub joined_client : (os : List (TaskOut E)) (y : PlayerOut E) (k a : SessionPass) → Joined (serviced_of os) k a → Joined (serviced_of (os ++ outs.Played y ∷ [])) k a
+  joined_client os y k a j = subst (λ (ys : List (Serviced E)). Joined ys k a) (sym (served_same os y)) j

@@ -74,6 +74,14 @@ module _ {E : Type 0} (told : E → Told) (faults : E → ℕ) (calm : E → Typ
   pub number_of : (s : ℕ) (y : Serviced E) → IsServiced told faults calm run s y → session_number y.pass ≡ s
   number_of s y h = ap (λ (o : Option ℕ). unwrap_or o 0) h.served.same.session
 
+  -- The journal has, of each session, just its pass's entries.
+  pub just_at : (J : List Entry) (ys : List (Serviced E)) → EachPlace (IsServiced told faults calm run) ys → AreJust (λ (e : Entry). e.session) J (map own_of ys) →
+      (s : ℕ) (y : Serviced E) → slice_get ys s ≡ Some y → entries_of (λ (e : Entry). e.session) s J ≡ y.pass.mine
+  just_at J ys served just s y e =
+      let own = each-at (λ (x : ℕ × List Entry). entries_of (λ (e : Entry). e.session) x.0 J ≡ x.1) (map own_of ys) s (own_of y)
+      (recursion_from_All (λ (x : ℕ × List Entry). entries_of (λ (e : Entry). e.session) x.0 J ≡ x.1) (map own_of ys) just) (map_at own_of ys s y e) in
+      subst (λ n. entries_of (λ (e : Entry). e.session) n J ≡ y.pass.mine) (number_of s y (served s y e)) own
+
   -- ---- The run
 
   module _ (J : List Entry) (ys : List (Serviced E)) (ps : List (PlayerOut E))
@@ -103,12 +111,6 @@ module _ {E : Type 0} (told : E → Told) (faults : E → ℕ) (calm : E → Typ
     memory_not session_outs.Spent none same = cc
     memory_not session_outs.LinkFault none same = cc
 
-    just_at : (s : ℕ) (y : Serviced E) → slice_get ys s ≡ Some y → entries_of (λ (e : Entry). e.session) s J ≡ y.pass.mine
-    just_at s y e =
-        let own = each-at (λ (x : ℕ × List Entry). entries_of (λ (e : Entry). e.session) x.0 J ≡ x.1) (map own_of ys) s (own_of y)
-        (recursion_from_All (λ (x : ℕ × List Entry). entries_of (λ (e : Entry). e.session) x.0 J ≡ x.1) (map own_of ys) just) (map_at own_of ys s y e) in
-        subst (λ n. entries_of (λ (e : Entry). e.session) n J ≡ y.pass.mine) (number_of s y (served s y e)) own
-
     is_served : (s : ℕ) (y : Serviced E) (z : ClientEnd E) → slice_get ys s ≡ Some y → IsServed J s (over_of told faults y z)
     is_served s y z e =
         let h = served s y e in
@@ -122,7 +124,7 @@ module _ {E : Type 0} (told : E → Told) (faults : E → ℕ) (calm : E → Typ
           cause = h.cause;
           memory = memory_not y.out (each-at (λ (x : Serviced E). is_memory x.out ≡ false) ys s y served_with e);
           seen = each-at (λ (x : Serviced E). IsPrefix x.pass.seen J) ys s y seen e;
-          just = just_at s y e;
+          just = just_at J ys served just s y e;
         }
 
     -- ---- One client

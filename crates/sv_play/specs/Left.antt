@@ -85,15 +85,15 @@ pub record Knows (keeper : SessionPass) : Type 0 where
   pub below : AreBelow (λ (e : Entry). e.session) keeper.made keeper.seen
   pub legal : Legal keeper.base (reverse keeper.seen)
 
--- the keeper took in the passes of the sessions that these tasks served, in order
-pub record Joined {E : Type 0} (os : List (TaskOut E)) (old new : SessionPass) : Type 0 where
+-- the keeper took in the passes of these sessions, in order
+pub record Joined {E : Type 0} (ys : List (Serviced E)) (old new : SessionPass) : Type 0 where
   pub lock : new.lock ≡ old.lock
   pub session : new.session ≡ old.session
   pub base : new.base ≡ old.base
   pub made : new.made ≡ old.made
-  pub ended : new.ended ≡ old.ended ++ map own_of (serviced_of os)
-  pub seen : AllByRecursion (λ (y : Serviced E). IsPrefix y.pass.seen new.seen) (serviced_of os)
-  pub knows : 0 < length (serviced_of os) → Knows new
+  pub ended : new.ended ≡ old.ended ++ map own_of ys
+  pub seen : AllByRecursion (λ (y : Serviced E). IsPrefix y.pass.seen new.seen) ys
+  pub knows : 0 < length ys → Knows new
 
 module _ {E : Type 0} (told : E → Told) (faults : E → ℕ) where
   -- a session that is over

@@ -57,9 +57,14 @@ module _ {E : Type 0} (told : E → Told) where
     pub numbers : first + length ends ≤ 64
     pub fresh : AllByRecursion (λ end. IsFresh (told end)) ends
 
+module _ {E G : Type 0} (told : E → Told) where
+  -- A session may be served by this pass, over an open end.
+  abbrev pub MayBeServed : Service E G → Type 0
+  MayBeServed x = MayServe x.lock.now x.pass × ((told x.end).closed ≡ false)
+
 module _ {E G W : Type 0} (told : E → Told) (shape_of : W → Shape) where
   abbrev pub IsReady : Task E G W → Type 0
-  IsReady (tasks.Serve x) = MayServe x.lock.now x.pass × ((told x.end).closed ≡ false)
+  IsReady (tasks.Serve x) = MayBeServed told x
   IsReady (tasks.Play x) = MayTakePart told (shape_of x.teller.now) x.client x.script.now x.first x.ends.items
 
 -- ---- What they promise

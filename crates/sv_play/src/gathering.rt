@@ -158,7 +158,7 @@ pub(crate) fn gather<E: End>(
     requires empty { Gathered [] left.old }
     requires room { HasRoom (length (serviced_of outs.items)) (length (flat_map ends_of (played_of outs.items))) (length (played_of outs.items)) left.old }
     ensures gathered { Gathered outs.items left.new }
-    ensures joined { Joined outs.items keeper.old keeper.new }
+    ensures joined { Joined (serviced_of outs.items) keeper.old keeper.new }
 {
     for out in outs {
         match out {

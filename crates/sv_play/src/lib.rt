@@ -10,3 +10,4 @@ mod tasks;
 
 pub use outcome::{PlayFault, Playing};
 pub use play::play_all;
+pub use tasks::{Service, Serviced};

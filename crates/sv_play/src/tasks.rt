@@ -1,8 +1,6 @@
 //! What the threads of a run do: serve a session, or play a client.
-ghost use Rattle.std.specs.Prelude.{◌≡◌, false};
 ghost use Rattle.sv_world.specs.declared.world.Shape.{Shape};
-ghost use Rattle.sv_session.specs.Serving.{MayServe};
-ghost use Rattle.sv_play.specs.Tasks.{MayTakePart, TookPart, WasServed};
+ghost use Rattle.sv_play.specs.Tasks.{MayBeServed, MayTakePart, TookPart, WasServed};
 
 use std::alloc::Global;
 use std::sync::Wait;
@@ -16,14 +14,14 @@ use sv_sequencer::Sequencer;
 use sv_session::{SessionOut, serve_session};
 use sv_watch::Watch;
 
-/// A session that is to be served.
+/// A session that is to be served, over one end and by one pass.
 #[derive(Drop)]
-pub(crate) struct Service<'a, E, G> {
-    pub(crate) alloc: Global,
-    pub(crate) lock: &'a SeqLock<Sequencer>,
-    pub(crate) pass: Pass<Sequencer>,
-    pub(crate) end: E,
-    pub(crate) gate: &'a G,
+pub struct Service<'a, E, G> {
+    pub alloc: Global,
+    pub lock: &'a SeqLock<Sequencer>,
+    pub pass: Pass<Sequencer>,
+    pub end: E,
+    pub gate: &'a G,
 }
 
 /// What tells the changes of views, where clients play. It stands for `Watch`, so that no type of a task has its callback.
@@ -78,10 +76,10 @@ pub(crate) enum Task<'a, E, G, W> {
 
 /// A session that was served.
 #[derive(Drop)]
-pub(crate) struct Serviced<E> {
-    pub(crate) pass: Pass<Sequencer>,
-    pub(crate) end: E,
-    pub(crate) out: SessionOut,
+pub struct Serviced<E> {
+    pub pass: Pass<Sequencer>,
+    pub end: E,
+    pub out: SessionOut,
 }
 
 /// What became of a task.
@@ -94,8 +92,7 @@ pub(crate) enum TaskOut<E> {
 impl<'a, E: End, G: Gate> Service<'a, E, G> {
     /// Serves the session, to its End.
     fn serve<R: Wait>(self, rt: &R) -> Serviced<E>
-        requires may { MayServe self.lock.now self.pass }
-        requires open { (E.told self.end).closed ≡ false }
+        requires may { MayBeServed E.told self }
         ensures { WasServed E.told E.faults E.calm self.entry result }
     {
         let Service {
@@ -107,6 +104,20 @@ impl<'a, E: End, G: Gate> Service<'a, E, G> {
         } = self;
         let out = serve_session(rt, alloc, lock, &mut pass, &mut end, gate);
         Serviced { pass, end, out }
+    }
+}
+
+impl<'a, E: End + Send, G: Gate + Sync> Job for Service<'a, E, G> {
+    ghost use Rattle.sv_play.specs.Tasks.{MayBeServed, WasServed};
+
+    type Out = Serviced<E>;
+
+    ghost ready = { MayBeServed E.told };
+
+    ghost keeps = { WasServed E.told E.faults E.calm };
+
+    fn run<R: Threads + Wait + Sync>(self, rt: &R) -> Serviced<E> {
+        self.serve(rt)
     }
 }
 

@@ -10,7 +10,7 @@ invariant-loop-out g l =
     record {
       all : l.yielded ++ rest ≡ l.fn.outs.items;
       gathered : Gathered l.yielded l.left;
-      joined : Joined l.yielded l.initial.keeper l.keeper;
+      joined : Joined (serviced_of l.yielded) l.initial.keeper l.keeper;
       passes : AllByRecursion (IsOfLock l.lock) (serviced_of rest);
       numbers : AllByRecursion HasFewSessions (played_of rest);
       room : HasRoom (length (serviced_of rest)) (length (flat_map ends_of (played_of rest))) (length (played_of rest)) l.left;

@@ -1,0 +1,4 @@
+pub mod Passages
+pub mod Hosted
+pub mod Steps
+pub mod Endings

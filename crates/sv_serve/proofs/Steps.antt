@@ -1,0 +1,44 @@
+-- One session more, and giving all ends back.
+use Rattle.std.proofs.Common.{◌≡◌, ℕ, ◌+◌, ◌≤◌, Bool, true, false, ◌||◌, List, [], ◌∷◌, ◌++◌, length, reverse, refl, sym, ap, subst, ◌∙◌, arith, true≢false}
+use Rattle.std.specs.List.{AllByRecursion}
+use Rattle.std.proofs.lemmas.List.{length-map, reverse-reverse}
+use Rattle.sv_link.specs.Ends.{Told}
+use Rattle.sv_journal.specs.declared.entry.Entry.{Entry}
+use Rattle.sv_journal.specs.Answer.{Rules, Legal}
+use Rattle.sv_journal.specs.Laws.{LegalRelaysNameAccepted}
+use Rattle.sv_journal.specs.Text.{RelaysNameAccepted}
+use Rattle.sv_scenario.specs.declared.scenario.Plan.{Plan}
+use Rattle.sv_scenario.specs.Sessions.{sessions_in}
+use Rattle.sv_asked.proofs.Every.{each-append}
+use Rattle.sv_play.specs.declared.tasks.Service.{Service}
+use Rattle.sv_play.specs.declared.tasks.Serviced.{Serviced}
+use Rattle.sv_door.specs.Doors.{Passage}
+use Rattle.sv_serve.specs.Giving.{doorway, kept_of, kept_unserved, kept_served, GaveAllBack}
+
+pub some_sessions : (plans : List Plan) → 1 ≤ length plans → 1 ≤ sessions_in plans
+some_sessions [] l = absurd (omega arith)
+some_sessions (plan ∷ plans) l = omega arith
+
+-- A legal journal can be printed.
+pub named : LegalRelaysNameAccepted → (r : Rules) (entries : List Entry) → Legal r (reverse entries) → RelaysNameAccepted entries
+named law r entries legal = subst RelaysNameAccepted (reverse-reverse entries) (law r (reverse entries) legal)
+
+pub neither : (a b : Bool) → (a || b) ≡ false → (a ≡ false) × (b ≡ false)
+neither true b e = absurd (true≢false e)
+neither false b e = (refl, e)
+
+pub each_more : {X : Type 0} (P : X → Type 0) (xs : List X) (x : X) → AllByRecursion P xs → P x → AllByRecursion P (xs ++ x ∷ [])
+each_more P xs x all one = each-append P xs (x ∷ []) all (one, tt)
+
+module _ {E : Type 0} (told : E → Told) (faults : E → ℕ) (given0 given1 : List Passage) (made0 made1 owed0 owed1 : ℕ) where
+  pub unserved_back : {G : Type 0} (xs : List (Service E G)) → given1 ≡ given0 ++ kept_unserved told faults xs → made1 ≡ made0 + length xs → owed1 ≡ owed0 →
+      GaveAllBack (doorway given0 made0 owed0) (doorway given1 made1 owed1)
+  unserved_back xs given made owed =
+      let same = length-map xs (λ (x : Service E _). kept_of told faults x.end) in
+      record { passages = kept_unserved told faults xs; given = given; made = made ∙ ap (λ (n : ℕ). made0 + n) (sym same); owed = owed }
+
+  pub served_back : (ys : List (Serviced E)) → given1 ≡ given0 ++ kept_served told faults ys → made1 ≡ made0 + length ys → owed1 ≡ owed0 →
+      GaveAllBack (doorway given0 made0 owed0) (doorway given1 made1 owed1)
+  served_back ys given made owed =
+      let same = length-map ys (λ (y : Serviced E). kept_of told faults y.end) in
+      record { passages = kept_served told faults ys; given = given; made = made ∙ ap (λ (n : ℕ). made0 + n) (sym same); owed = owed }

@@ -1,0 +1,101 @@
+use Rattle.std.proofs.Common.{rules, ◌+◌, ◌++◌, [], ◌∷◌, inl, sym, ap, subst, ◌∙◌, arith}
+use denote.Param.Send.{sendable}
+use Rattle.std.proofs.Crossing.{crosses}
+use Rattle.sv_sequencer.proofs.Sent.{lock-syncs, pass-sends}
+use Rattle.law_traffic.specs.Runs.{IsGoodRun}
+use Rattle.sv_play.specs.Given.{setting}
+use Rattle.sv_play.specs.Left.{Joined}
+use Rattle.sv_play.specs.Playing.{TookAllIn}
+use Rattle.sv_play.proofs.Ready.{services_ready}
+use Rattle.sv_serve.specs.Giving.{kept_served}
+use Rattle.sv_serve.specs.Hosting.{moved}
+use Rattle.sv_serve.proofs.Steps.{served_back}
+use Rattle.sv_serve.proofs.Hosted.{all_served, passes, served_own, took_all, hosted}
+use Rattle.sv_serve.proofs.hosting.serve_sessions.Goals as goal
+
+pub run_all-requires-clause-ready : goal.run_all-requires-clause-ready
+run_all-requires-clause-ready g c κs within =
+    let run = setting c.args.host.now.lock.now c.args.host.now.scenario.now (g.D.Door.made c.args.door.now) (g.D.Door.sure c.args.door.now c.args.port) in
+    services_ready g.D.E.End.told g.D.E.End.faults g.D.E.End.calm run c.requires.good c.in_ok-services.services.items c.in_ok-services.ensures.services
+
+pub take_in-requires-clause-passes : goal.take_in-requires-clause-passes
+take_in-requires-clause-passes g c κs within =
+    let run = setting c.args.host.now.lock.now c.args.host.now.scenario.now (g.D.Door.made c.args.door.now) (g.D.Door.sure c.args.door.now c.args.port) in
+    let t = c.in_ok-services.ensures in
+    passes g.D.E.End.told g.D.E.End.faults g.D.E.End.calm run c.in_ok-services.services.items c.in-Done.served.items t.count t.services c.in-Done.ensures.kept
+
+pub take_in-requires-clause-own : goal.take_in-requires-clause-own
+take_in-requires-clause-own g c κs within =
+    let run = setting c.args.host.now.lock.now c.args.host.now.scenario.now (g.D.Door.made c.args.door.now) (g.D.Door.sure c.args.door.now c.args.port) in
+    let t = c.in_ok-services.ensures in
+    served_own g.D.E.End.told g.D.E.End.faults g.D.E.End.calm run c.in_ok-services.services.items c.in-Done.served.items t.count t.services c.in-Done.ensures.kept
+    (g.D.Door.made c.accept_all.new.door) t.made
+
+pub take_in-requires-clause-owed : goal.take_in-requires-clause-owed
+take_in-requires-clause-owed g c κs within =
+    let run = setting c.args.host.now.lock.now c.args.host.now.scenario.now (g.D.Door.made c.args.door.now) (g.D.Door.sure c.args.door.now c.args.port) in
+    let t = c.in_ok-services.ensures in
+    let enough = all_served g.D.E.End.told g.D.E.End.faults g.D.E.End.calm run c.in_ok-services.services.items c.in-Done.served.items t.count t.services c.in-Done.ensures.kept in
+    let owed = t.owed in
+    omega (arith, enough, owed)
+
+pub returns-clause-hosted : goal.returns-clause-hosted
+returns-clause-hosted g c =
+    let run = setting c.args.host.now.lock.now c.args.host.now.scenario.now (g.D.Door.made c.args.door.now) (g.D.Door.sure c.args.door.now c.args.port) in
+    let t = c.in_ok-services.ensures in
+    let left = c.take_in.ensures in
+    let ys = c.in-Done.served.items in
+    let k = c.take_in.new.keeper in
+    let joined = subst (λ b. Joined ys b k) t.keeper left.joined in
+    let good : IsGoodRun c.args.host.now.scenario.now = record { good = c.requires.good; opening = c.read_scenario_numbers.ensures.values } in
+    hosted g.D.E.End.told g.D.E.End.faults g.D.E.End.calm run c.in_ok-services.services.items ys t.count t.services c.in-Done.ensures.kept k joined good
+    c.full_replies_stay.ensures c.legal_relays_name_accepted.ensures (left.lacked (search rules))
+    (moved (g.D.Door.given c.args.door.now) (g.D.Door.given c.take_in.new.door) (g.C.Crew.ran c.args.crew.now) (g.C.Crew.ran c.run_all.new.self))
+    (left.given ∙ ap (λ l. l ++ kept_served g.D.E.End.told g.D.E.End.faults ys) t.given)
+    (c.in-Done.ensures.ran ∙ ap (λ n. g.C.Crew.ran c.args.crew.now ++ n ∷ []) c.in_ok-services.services.ok.0)
+
+pub returns-clause-keeper : goal.returns-clause-keeper
+returns-clause-keeper g c =
+    let run = setting c.args.host.now.lock.now c.args.host.now.scenario.now (g.D.Door.made c.args.door.now) (g.D.Door.sure c.args.door.now c.args.port) in
+    let t = c.in_ok-services.ensures in
+    let ys = c.in-Done.served.items in
+    let k = c.take_in.new.keeper in
+    let joined = subst (λ b. Joined ys b k) t.keeper c.take_in.ensures.joined in
+    let good : IsGoodRun c.args.host.now.scenario.now = record { good = c.requires.good; opening = c.read_scenario_numbers.ensures.values } in
+    subst (λ b. TookAllIn c.args.host.now.scenario.now b k) (sym c.requires.keeper)
+    (took_all g.D.E.End.told g.D.E.End.faults g.D.E.End.calm run c.in_ok-services.services.items ys t.count t.services c.in-Done.ensures.kept k joined good)
+
+pub returns-then-take_in-clause-back : goal.returns-then-take_in-clause-back
+returns-then-take_in-clause-back g c =
+    let run = setting c.args.host.now.lock.now c.args.host.now.scenario.now (g.D.Door.made c.args.door.now) (g.D.Door.sure c.args.door.now c.args.port) in
+    let t = c.in_ok-services.ensures in
+    let left = c.take_in.ensures in
+    let ys = c.in-Done.served.items in
+    let count = all_served g.D.E.End.told g.D.E.End.faults g.D.E.End.calm run c.in_ok-services.services.items ys t.count t.services c.in-Done.ensures.kept in
+    let more = t.owed in
+    let less = left.owed in
+    inl
+    (served_back g.D.E.End.told g.D.E.End.faults (g.D.Door.given c.args.door.now) (g.D.Door.given c.take_in.new.door) (g.D.Door.made c.args.door.now) (g.D.Door.made c.take_in.new.door)
+    (g.D.Door.owed c.args.door.now) (g.D.Door.owed c.take_in.new.door) ys
+    (left.given ∙ ap (λ l. l ++ kept_served g.D.E.End.told g.D.E.End.faults ys) t.given)
+    (left.made ∙ (t.made ∙ ap (λ n. g.D.Door.made c.args.door.now + n) (sym count))) (omega (arith, count, more, less)))
+
+pub returns-clause-back : goal.returns-clause-back
+returns-clause-back g c =
+    let run = setting c.args.host.now.lock.now c.args.host.now.scenario.now (g.D.Door.made c.args.door.now) (g.D.Door.sure c.args.door.now c.args.port) in
+    let t = c.in_ok-services.ensures in
+    let left = c.take_in.ensures in
+    let ys = c.in-Done.served.items in
+    let count = all_served g.D.E.End.told g.D.E.End.faults g.D.E.End.calm run c.in_ok-services.services.items ys t.count t.services c.in-Done.ensures.kept in
+    let more = t.owed in
+    let less = left.owed in
+    served_back g.D.E.End.told g.D.E.End.faults (g.D.Door.given c.args.door.now) (g.D.Door.given c.take_in.new.door) (g.D.Door.made c.args.door.now) (g.D.Door.made c.take_in.new.door)
+    (g.D.Door.owed c.args.door.now) (g.D.Door.owed c.take_in.new.door) ys
+    (left.given ∙ ap (λ l. l ++ kept_served g.D.E.End.told g.D.E.End.faults ys) t.given)
+    (left.made ∙ (t.made ∙ ap (λ n. g.D.Door.made c.args.door.now + n) (sym count))) (omega (arith, count, more, less))
+
+pub run_all-requires-send-J : goal.run_all-requires-send-J
+run_all-requires-send-J g c κs within = let y = c.type_bounds.sync-G in let e = c.type_bounds.send-D-E in search (lock-syncs, pass-sends, sendable, crosses) depth 40 fits 10000
+
+pub run_all-requires-send-J-Out : goal.run_all-requires-send-J-Out
+run_all-requires-send-J-Out g c κs within = let e = c.type_bounds.send-D-E in search (pass-sends, sendable, crosses) depth 40 fits 10000

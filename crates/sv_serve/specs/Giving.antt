@@ -1,0 +1,50 @@
+-- Giving the ends of connections back.
+use Rattle.std.specs.Prelude.{◌≡◌, ◌⊎◌, ℕ, ◌+◌, ◌<◌, List, ◌++◌, map, length, Result, Ok, Err}
+use Rattle.sv_link.specs.Ends.{Told}
+use Rattle.sv_play.specs.declared.outcome.PlayFault.{PlayFault}
+use Rattle.sv_play.specs.declared.outcome.PlayFault.TheVariants as faults
+use Rattle.sv_play.specs.declared.tasks.Service.{Service}
+use Rattle.sv_play.specs.declared.tasks.Serviced.{Serviced}
+use Rattle.sv_door.specs.Doors.{Passage, passage_of}
+
+-- What a door tells of its ends: what was given back, how many were made, and how many of these are owed.
+pub record Doorway : Type 0 where
+  pub given : List Passage
+  pub made : ℕ
+  pub owed : ℕ
+
+abbrev pub doorway : List Passage → ℕ → ℕ → Doorway
+doorway given made owed = record { given = given; made = made; owed = owed }
+
+-- Each end that was made was given back.
+pub record GaveAllBack (old new : Doorway) : Type 0 where
+  pub passages : List Passage
+  pub given : new.given ≡ old.given ++ passages
+  pub made : new.made ≡ old.made + length passages
+  pub owed : new.owed ≡ old.owed
+
+-- Each end that was made was given back; or jobs were not done, for a start that was refused or since there was no memory.
+abbrev pub GivesBack : {A : Type 0} → List ℕ → List ℕ → Doorway → Doorway → Result A PlayFault → Type 0
+GivesBack ran_before ran_now old new (Ok made) = GaveAllBack old new
+GivesBack ran_before ran_now old new (Err faults.Link) = GaveAllBack old new
+GivesBack ran_before ran_now old new (Err faults.Start) = ran_now ≡ ran_before
+GivesBack ran_before ran_now old new (Err faults.Memory) = GaveAllBack old new ⊎ (ran_now ≡ ran_before)
+
+module _ {E : Type 0} (told : E → Told) (faults : E → ℕ) where
+  abbrev pub kept_of : E → Passage
+  kept_of end = passage_of (told end) (faults end)
+
+  -- what is kept of the ends of sessions that are to be served, and of those that were
+  abbrev pub kept_unserved : {G : Type 0} → List (Service E G) → List Passage
+  kept_unserved xs = map (λ (x : Service E _). kept_of x.end) xs
+
+  abbrev pub kept_served : List (Serviced E) → List Passage
+  kept_served ys = map (λ (y : Serviced E). kept_of y.end) ys
+
+module _ {E : Type 0} (told : E → Told) where
+  -- a door that made so many ends made these
+  abbrev pub IsUnservedOf : {G : Type 0} → ℕ → Service E G → Type 0
+  IsUnservedOf made x = (told x.end).pair < made
+
+  abbrev pub IsServedOf : ℕ → Serviced E → Type 0
+  IsServedOf made y = (told y.end).pair < made

@@ -1,0 +1,5 @@
+pub mod Passages
+pub mod Hosting
+pub mod Giving
+pub mod Words
+pub mod Statuses

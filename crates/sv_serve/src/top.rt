@@ -1,0 +1,106 @@
+ghost use Rattle.std.specs.Prelude.{◌≡◌, ◌≢◌, ◌↔◌, ◌⊎◌, ◌≤◌, ℕ, take, map, option_map, string_bytes, None, IfSome};
+ghost use Rattle.sv_command.specs.Reading.{read_limit, HoldsScenario, IsNoScenario};
+ghost use Rattle.sv_command.specs.Statuses.{counts, NoneRose, Raises, TellsFaults, TellsStatus, status_of};
+ghost use Rattle.sv_serve.specs.Words.{asked_by, command_of, words_line};
+ghost use Rattle.sv_serve.specs.Giving.{doorway};
+ghost use Rattle.sv_serve.specs.Hosting.{moved};
+ghost use Rattle.sv_serve.specs.Statuses.{held_by, named_by, Ends, GivesBackBut, IsCutShort, IsPrinted, LeavesAlone};
+
+use crate::texts::served_text;
+use crate::words::{Command, command_of, file_of};
+use std::alloc::Global;
+use std::sync::Wait;
+use std::thread::Threads;
+use sv_bytes::{Files, Sink, write_all};
+use sv_command::{Ending, status_of, tell};
+use sv_door::Door;
+use sv_link::{Crew, Gate};
+
+/// Serves what is asked for, and tells how it ended.
+fn decide<F: Files, D: Door, C: Crew, G: Gate + Sync, K: Sink, R: Threads + Wait + Sync>(
+    rt: &R,
+    alloc: Global,
+    command: Option<Command<'_>>,
+    files: &mut F,
+    door: &mut D,
+    crew: &mut C,
+    gate: &G,
+    out: &mut K,
+) -> Ending
+    ensures words { (result ≡ Ending.Words) ↔ (option_map asked_by command.entry ≡ None) }
+    ensures ends { Ends (held_by (F.contents files.old) (option_map asked_by command.entry))
+        (moved (D.given door.old) (D.given door.new) (C.ran crew.old) (C.ran crew.new)) (K.taken out.old) (K.taken out.new) result }
+    ensures raises { Raises (counts (F.faults files.old) (C.faults crew.old) (D.faults door.old) (K.faults out.old))
+        (counts (F.faults files.new) (C.faults crew.new) (D.faults door.new) (K.faults out.new)) result }
+    ensures sure { IfSome (named_by (option_map asked_by command.entry)) (λ name. F.sure files.old name → result ≢ Ending.File) }
+    ensures certain { IfSome (option_map asked_by command.entry) (λ asked. D.sure door.old asked.port → result ≢ Ending.Link) }
+    ensures apart { LeavesAlone (status_of result) files.old files.new door.old door.new crew.old crew.new }
+    ensures back { GivesBackBut (status_of result) (C.ran crew.old) (C.ran crew.new)
+        (doorway (D.given door.old) (D.made door.old) (D.owed door.old)) (doorway (D.given door.new) (D.made door.new) (D.owed door.new)) }
+{
+    let Some(command) = command else {
+        return Ending::Words;
+    };
+    match served_text(rt, alloc, command, files, door, crew, gate) {
+        Ok(text) if write_all(out, text.as_bytes()) => Ending::Done,
+        Ok(_) => Ending::Out,
+        Err(ending) => ending,
+    }
+}
+
+/// Serves the sessions of a file's scenario to whoever connects, and answers the status with which the program ends.
+///
+/// The words leave out the program's own name. They are `serve FILE PORT`, with PORT from 1 to 65535. It accepts a connection for each
+/// session, in the order of their numbers, serves all of them at once, and prints the journal and the commit once all are over. It waits for
+/// its peers. What a peer sends, or a fault at its connection, ends its session alone and gives no status.
+///
+/// The status is the first of these that applies: 2 where the words are others, 4 where the file can't be read, 3 where it is no scenario, 7
+/// where a thread can't be started, 6 where a connection could not be made, and 5 where the output failed; else it is 0, or 8 where memory ran
+/// out, here or in a session. All of the text is made before any of it is printed.
+pub fn run_serve<
+    F: Files,
+    D: Door,
+    C: Crew,
+    G: Gate + Sync,
+    K: Sink,
+    E: Sink,
+    R: Threads + Wait + Sync,
+>(
+    rt: &R,
+    alloc: Global,
+    words: &[String],
+    files: &mut F,
+    door: &mut D,
+    crew: &mut C,
+    gate: &G,
+    out: &mut K,
+    err: &mut E,
+) -> u8
+    ensures range { (result ≡ 0) ⊎ ((2 ≤ result) × (result ≤ 8)) }
+    ensures words { (result ≡ 2) ↔ (command_of (map string_bytes words.now) ≡ None) }
+    ensures faults { TellsFaults result (counts (F.faults files.old) (C.faults crew.old) (D.faults door.old) (K.faults out.old))
+        (counts (F.faults files.new) (C.faults crew.new) (D.faults door.new) (K.faults out.new)) }
+    ensures sure { IfSome (named_by (command_of (map string_bytes words.now))) (λ name. F.sure files.old name → result ≢ 4) }
+    ensures certain { IfSome (command_of (map string_bytes words.now)) (λ asked. D.sure door.old asked.port → result ≢ 6) }
+    ensures apart { LeavesAlone result files.old files.new door.old door.new crew.old crew.new }
+    ensures back { GivesBackBut result (C.ran crew.old) (C.ran crew.new)
+        (doorway (D.given door.old) (D.made door.old) (D.owed door.old)) (doorway (D.given door.new) (D.made door.new) (D.owed door.new)) }
+    ensures faulty { IfSome (held_by (F.contents files.old) (command_of (map string_bytes words.now)))
+        (λ all. IsNoScenario (take read_limit all) → (result ≡ 3) ⊎ (result ≡ 4) ⊎ (result ≡ 8)) }
+    ensures printed { result ≡ 0 → IsPrinted (held_by (F.contents files.old) (command_of (map string_bytes words.now)))
+        (moved (D.given door.old) (D.given door.new) (C.ran crew.old) (C.ran crew.new)) (K.taken out.old) (K.taken out.new) }
+    ensures part { result ≡ 5 → IsCutShort (held_by (F.contents files.old) (command_of (map string_bytes words.now)))
+        (moved (D.given door.old) (D.given door.new) (C.ran crew.old) (C.ran crew.new)) (K.taken out.old) (K.taken out.new) }
+    ensures nothing { result ≢ 0 → result ≢ 5 → K.taken out.new ≡ K.taken out.old }
+    ensures told { TellsStatus words_line result (held_by (F.contents files.old) (command_of (map string_bytes words.now))) (named_by (command_of (map string_bytes words.now)))
+        (E.taken err.old) (E.taken err.new) (E.faults err.old) (E.faults err.new) }
+    ensures complete { HoldsScenario (held_by (F.contents files.old) (command_of (map string_bytes words.now)))
+        → NoneRose (counts (F.faults files.old) (C.faults crew.old) (D.faults door.old) (K.faults out.old))
+        (counts (F.faults files.new) (C.faults crew.new) (D.faults door.new) (K.faults out.new))
+        → (result ≡ 0) ⊎ (result ≡ 8) }
+{
+    let command = command_of(words);
+    let ending = decide(rt, alloc, command, files, door, crew, gate, out);
+    tell(&ending, b"words: serve FILE PORT\n", file_of(command), err);
+    status_of(&ending)
+}
