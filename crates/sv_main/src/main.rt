@@ -1,15 +1,22 @@
-//! The program `dimboetu`: it does what its words ask for, and ends with the status that `run` answers.
+//! The program `dimboetu`: it hands its words to the top call that they are for, and ends with the status that this answers.
 #![tactic(auto)]
 
+mod commands;
+
+use crate::commands::{Command, command};
 use std::alloc::Global;
 use std::net::{Net as Sockets, TcpListener, TcpStream};
 use std::process::ExitCode;
+use std::rt::Clock;
 use std::sync::Wait;
 use std::thread::Threads;
 use std::{env, io};
 use sv_app::run;
 use sv_bytes::{Files, OsFiles, OsSink, Sink, write_all};
+use sv_door::TcpDoor;
+use sv_join::run_join;
 use sv_link::{OpenGate, TcpNet, ThreadCrew};
+use sv_serve::run_serve;
 
 /// The status of want of memory.
 const MEMORY: u8 = 8;
@@ -22,8 +29,8 @@ fn words(rt: &HostRuntime) -> io::Result<Vec<String>> {
     Ok(words)
 }
 
-/// The status of a call of the program, over connections on this machine and a thread for each job.
-fn answer<R, F: Files, K: Sink, E: Sink>(
+/// The status of `run`, over connections on this machine and a thread for each job.
+fn run_here<R, F: Files, K: Sink, E: Sink>(
     rt: &R,
     alloc: Global,
     words: &[String],
@@ -39,6 +46,60 @@ where
     run(
         rt, alloc, words, files, &mut net, &mut crew, &OpenGate, out, err,
     )
+}
+
+/// The status of `serve`, to whoever connects on this machine, and with a thread for each session.
+fn serve_here<R, F: Files, K: Sink, E: Sink>(
+    rt: &R,
+    alloc: Global,
+    words: &[String],
+    files: &mut F,
+    out: &mut K,
+    err: &mut E,
+) -> u8
+where
+    R: Threads + Wait + Sync + Clock + Sockets<Listener = TcpListener, Stream = TcpStream>,
+{
+    let mut door = TcpDoor::new(alloc, rt);
+    let mut crew = ThreadCrew::new(alloc);
+    run_serve(
+        rt, alloc, words, files, &mut door, &mut crew, &OpenGate, out, err,
+    )
+}
+
+/// The status of `join`, at a server on this machine.
+fn join_here<R, F: Files, K: Sink, E: Sink>(
+    rt: &R,
+    alloc: Global,
+    words: &[String],
+    files: &mut F,
+    out: &mut K,
+    err: &mut E,
+) -> u8
+where
+    R: Clock + Sockets<Listener = TcpListener, Stream = TcpStream>,
+{
+    let mut door = TcpDoor::new(alloc, rt);
+    run_join(alloc, words, files, &mut door, out, err)
+}
+
+/// The status of the call that the words are for.
+fn answer<R, F: Files, K: Sink, E: Sink>(
+    rt: &R,
+    alloc: Global,
+    words: &[String],
+    files: &mut F,
+    out: &mut K,
+    err: &mut E,
+) -> u8
+where
+    R: Threads + Wait + Sync + Clock + Sockets<Listener = TcpListener, Stream = TcpStream>,
+{
+    match command(words) {
+        Command::Run => run_here(rt, alloc, words, files, out, err),
+        Command::Serve => serve_here(rt, alloc, words, files, out, err),
+        Command::Join => join_here(rt, alloc, words, files, out, err),
+    }
 }
 
 fn main(rt: HostRuntime) -> ExitCode {
