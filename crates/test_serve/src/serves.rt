@@ -1,0 +1,165 @@
+//! Calls of the server by itself.
+
+use crate::doors::{Script, ScriptDoor};
+use std::alloc::{AllocError, Global};
+use std::sync::Wait;
+use std::test::Fail;
+use std::thread::Threads;
+use sv_bytes::{MemFiles, MemSink};
+use sv_link::{Crew, FewCrew, OpenGate, ThreadCrew};
+use sv_serve::run_serve;
+
+/// Room for the longest output.
+const ROOM: usize = 8_192;
+
+/// One client increments an object, and shows it after a sync.
+const FIRST: &str =
+    "{\"attrs\":1,\"objects\":[[5]],\"bound\":4,\"clients\":[{\"interest\":[0],\"steps\":[{\"act\":\"reads 0 writes 0 { set @0.0 (@0.0 + 1); }\"},\"sync\",{\"show\":[0]}]}]}";
+
+/// What its client sends: a Join, the Submit of its action, a Done and a Leave.
+const FIRST_BYTES: &[u8] = &[
+    0, 0, 0, 10, 0x01, 0, 0, 0, 0, 0, 1, 1, 0, 0, 0, 0, 0, 0x23, 0x06, 0, 0, 0, 1, 1, 0, 0, 0, 1,
+    0, 0, 0, 0, 0, 0, 0, 0, 1, 0x10, 0, 0, 0x22, 0x21, 0, 0, 0x20, 0, 0, 0, 0, 0, 0, 0, 1, 0, 0, 0,
+    0x10, 0x03, 1, 0, 0, 0, 1, 1, 1, 0, 0, 0, 0, 0, 0, 0, 6, 0, 0, 0, 1, 0x05,
+];
+
+const FIRST_TEXT: &[u8] =
+    b"journal 5\n1 s0 join c0 1 [0] -> welcome 0 [0=(5)]\n2 s0 submit 1 reads 0 writes 0 { set @0.0 (@0.0 + 1); } -> relay 1 at 0 [] [1:c0.1]\n3 s0 done [1:(6)] -> noted 1\n4 s0 leave -> bye\n5 s0 end -> bye\ncommit 1\n";
+
+/// Only the End of the one session.
+const ENDED_TEXT: &[u8] = b"journal 1\n1 s0 end -> bye\ncommit 0\n";
+
+/// What a call printed on its two outputs, and its status.
+#[derive(Drop)]
+struct Printed {
+    status: u8,
+    out: MemSink,
+    err: MemSink,
+}
+
+impl Printed {
+    fn is(&self, status: u8, out: &[u8], err: &[u8]) -> bool {
+        self.status == status && self.out.bytes() == out && self.err.bytes() == err
+    }
+}
+
+/// The answer to a line of words, over the file `a` with the first example, and clients that send these bytes.
+fn called<R: Threads + Wait + Sync, C: Crew>(
+    rt: &R,
+    alloc: Global,
+    line: &str,
+    scripts: &[Script],
+    crew: &mut C,
+) -> Result<Printed, AllocError> {
+    let mut words = Vec::new(alloc);
+    for word in line.split_whitespace() {
+        words.push(String::from_str(alloc, word)?)?;
+    }
+    let mut files = MemFiles::new(alloc);
+    files.add("a", FIRST.as_bytes())?;
+    let mut door = ScriptDoor::new(alloc, scripts);
+    let mut out = MemSink::with_room(alloc, ROOM)?;
+    let mut err = MemSink::with_room(alloc, ROOM)?;
+    let status = run_serve(
+        rt, alloc, &words, &mut files, &mut door, crew, &OpenGate, &mut out, &mut err,
+    );
+    Ok(Printed { status, out, err })
+}
+
+/// Whether the server prints this where its one client sends these bytes.
+fn prints<R: Threads + Wait + Sync>(
+    rt: &R,
+    alloc: Global,
+    coming: &'static [u8],
+    failing: u64,
+    text: &[u8],
+) -> Result<bool, AllocError> {
+    let scripts = [Script { coming, failing }];
+    let mut crew = ThreadCrew::new(alloc);
+    Ok(called(rt, alloc, "serve a 1", &scripts, &mut crew)?.is(0, text, b""))
+}
+
+#[test]
+fn serves_one_action(rt: HostRuntime) -> Result<(), Fail> {
+    assert!(rt; prints(&rt, rt.alloc(), FIRST_BYTES, 0, FIRST_TEXT)?);
+    Ok(())
+}
+
+/// What a peer sends, the call of its end that fails, and what is printed.
+const PEERS: &[(&[u8], u64, &[u8])] = &[
+    // It closes at once, or after half a frame, or its end fails.
+    (&[], 0, ENDED_TEXT),
+    (&[0, 0, 0, 8, 0x01, 0], 0, ENDED_TEXT),
+    (FIRST_BYTES, 1, ENDED_TEXT),
+    // A kind that is none, and a length over the limit.
+    (
+        &[0, 0, 0, 1, 0xff],
+        0,
+        b"journal 2\n1 s0 bad -> refused 1 0\n2 s0 end -> bye\ncommit 0\n",
+    ),
+    (
+        &[0xff, 0xff, 0xff, 0xff, 1],
+        0,
+        b"journal 2\n1 s0 bad -> refused 1 0\n2 s0 end -> bye\ncommit 0\n",
+    ),
+    // It joins under another's number, and closes.
+    (
+        &[0, 0, 0, 8, 0x01, 0, 7, 0, 0, 0, 1, 0],
+        0,
+        b"journal 2\n1 s0 join c7 1 [] -> welcome 0 []\n2 s0 end -> bye\ncommit 0\n",
+    ),
+];
+
+#[test]
+fn peers_may_send_anything(rt: HostRuntime) -> Result<(), Fail> {
+    for (coming, failing, text) in PEERS {
+        assert!(rt; prints(&rt, rt.alloc(), *coming, *failing, *text)?);
+    }
+    Ok(())
+}
+
+/// A line of words, and whether it is one that the call takes.
+const LINES: &[(&str, bool)] = &[
+    ("serve a 1", true),
+    ("serve a 65535", true),
+    ("serve a 0", false),
+    ("serve a 65536", false),
+    ("serve a 01", false),
+    ("serve a", false),
+    ("serve a 1 1", false),
+    ("join a 1", false),
+    ("", false),
+];
+
+#[test]
+fn takes_its_own_words(rt: HostRuntime) -> Result<(), Fail> {
+    let scripts = [Script {
+        coming: &[],
+        failing: 0,
+    }];
+    for (line, taken) in LINES {
+        let mut crew = ThreadCrew::new(rt.alloc());
+        let printed = called(&rt, rt.alloc(), *line, &scripts, &mut crew)?;
+        if *taken {
+            assert!(rt; printed.is(0, ENDED_TEXT, b""));
+        } else {
+            assert!(rt; printed.is(2, b"", b"words: serve FILE PORT\n"));
+        }
+    }
+    Ok(())
+}
+
+#[test]
+fn faults_have_their_statuses(rt: HostRuntime) -> Result<(), Fail> {
+    let mut crew = ThreadCrew::new(rt.alloc());
+    let refused = called(&rt, rt.alloc(), "serve a 1", &[], &mut crew)?;
+    let scripts = [Script {
+        coming: FIRST_BYTES,
+        failing: 0,
+    }];
+    let mut few = FewCrew::new(rt.alloc(), 0);
+    let unstarted = called(&rt, rt.alloc(), "serve a 1", &scripts, &mut few)?;
+    assert!(rt; refused.is(6, b"", b"link\n"));
+    assert!(rt; unstarted.is(7, b"", b"start\n"));
+    Ok(())
+}
