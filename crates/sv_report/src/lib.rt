@@ -19,6 +19,3 @@ mod written;
 pub use laws::drops_are_outcomes;
 pub use summary::brief;
 pub use whole::report;
-
-#[cfg(test)]
-mod tests;
