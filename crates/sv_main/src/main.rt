@@ -1,15 +1,24 @@
-//! The program `dimboetu`: it does what its words ask for, and ends with the status that `run` answers.
+//! The program `dimboetu`: it does what its words ask for, and ends with the status that the top call answers which the words are for.
 #![tactic(auto)]
 
+mod choice;
+mod commands;
+
+use crate::choice::command;
+use crate::commands::Command;
 use std::alloc::Global;
 use std::net::{Net as Sockets, TcpListener, TcpStream};
 use std::process::ExitCode;
+use std::rt::Clock;
 use std::sync::Wait;
 use std::thread::Threads;
 use std::{env, io};
 use sv_app::run;
 use sv_bytes::{Files, OsFiles, OsSink, Sink, write_all};
+use sv_door::TcpDoor;
+use sv_join::run_join;
 use sv_link::{OpenGate, TcpNet, ThreadCrew};
+use sv_serve::run_serve;
 
 /// The status of want of memory.
 const MEMORY: u8 = 8;
@@ -32,13 +41,27 @@ fn answer<R, F: Files, K: Sink, E: Sink>(
     err: &mut E,
 ) -> u8
 where
-    R: Threads + Wait + Sync + Sockets<Listener = TcpListener, Stream = TcpStream>,
+    R: Threads + Wait + Sync + Clock + Sockets<Listener = TcpListener, Stream = TcpStream>,
 {
-    let mut net = TcpNet::new(alloc, rt);
     let mut crew = ThreadCrew::new(alloc);
-    run(
-        rt, alloc, words, files, &mut net, &mut crew, &OpenGate, out, err,
-    )
+    match command(words) {
+        Command::Run => {
+            let mut net = TcpNet::new(alloc, rt);
+            run(
+                rt, alloc, words, files, &mut net, &mut crew, &OpenGate, out, err,
+            )
+        }
+        Command::Serve => {
+            let mut door = TcpDoor::new(alloc, rt);
+            run_serve(
+                rt, alloc, words, files, &mut door, &mut crew, &OpenGate, out, err,
+            )
+        }
+        Command::Join => {
+            let mut door = TcpDoor::new(alloc, rt);
+            run_join(alloc, words, files, &mut door, out, err)
+        }
+    }
 }
 
 fn main(rt: HostRuntime) -> ExitCode {

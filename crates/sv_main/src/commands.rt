@@ -1,0 +1,14 @@
+//! The top calls of the program.
+
+/// A top call of the program.
+#[derive(Clone, Copy, Debug, Drop, PartialEq, Eq)]
+pub enum Command {
+    /// It plays, replays, or makes a load, and tells words that it does not know.
+    Run,
+
+    /// It serves a scenario's sessions to other programs.
+    Serve,
+
+    /// It plays one client over another program's server.
+    Join,
+}
