@@ -1,27 +1,14 @@
-//! Which top call the words of the program are for.
-ghost use Rattle.std.specs.Prelude.{◌≡◌, map, string_bytes};
-ghost use Rattle.sv_main.specs.Commands.{command_for};
+//! The top calls of the program.
 
-/// The top calls, each of which knows its own words.
-#[derive(Clone, Copy, Debug, PartialEq, Eq)]
+/// A top call of the program.
+#[derive(Clone, Copy, Debug, Drop, PartialEq, Eq)]
 pub enum Command {
-    /// `play`, `replay` and `load`, and words that no call knows.
+    /// It plays, replays, or makes a load, and tells words that it does not know.
     Run,
 
-    /// `serve`.
+    /// It serves a scenario's sessions to other programs.
     Serve,
 
-    /// `join`.
+    /// It plays one client over another program's server.
     Join,
-}
-
-/// Which call the words are for, by the first of them. It takes no memory.
-pub fn command(words: &[String]) -> Command
-    ensures { result ≡ command_for (map string_bytes words.now) }
-{
-    match words {
-        [word, ..] if word.as_str() == "serve" => Command::Serve,
-        [word, ..] if word.as_str() == "join" => Command::Join,
-        _ => Command::Run,
-    }
 }

@@ -1,9 +1,11 @@
 //! The program `dimboetu`: it hands its words to the top call that they are for, and ends with the status that this answers.
 #![tactic(auto)]
 
+mod choice;
 mod commands;
 
-use crate::commands::{Command, command};
+use crate::choice::command;
+use crate::commands::Command;
 use std::alloc::Global;
 use std::net::{Net as Sockets, TcpListener, TcpStream};
 use std::process::ExitCode;
