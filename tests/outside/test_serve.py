@@ -188,7 +188,7 @@ def test_python_client(test):
     while client.view(0)[0] < 10 + 3 + 40 - 5:
         client.make(action(reads=(0,)))
         client.finish()
-        time.sleep(0.01)
+        time.sleep(0.05)
     client.leave()
     journal = test.served(path, server, "Python client")
     test.printed(journal, 1, join, "Python client")
@@ -202,7 +202,7 @@ def test_python_client(test):
     test.same([journal.serial.value(one, journal.commit) for one in (0, 1)], [(48,), (0,)], "Python client: the world")
     test.same((client.view(0), client.view(1)), ((48,), (0,)), "Python client: its views at last")
     iron_seen = [(old, new) for target, old, new in changes if target == 1]
-    test.same(iron_seen, [(None, (20,)), ((20,), (40,)), ((40,), (0,))], "Python client: changes of an object of its own")
+    test.same(iron_seen, [(None, (20,)), ((20,), (40,)), ((40,), (0,))], "Python client: changes of its own object")
     seen = {0: None, 1: None}
     for target, old, new in changes:
         test.expect(seen[target] == old != new, f"Python client: a change of {target} from {old} to {new}")
@@ -252,7 +252,8 @@ def test_order(test):
     journal = test.served(path, server, "order")
     if journal:
         test.same([journal.requests(session) for session in range(3)],
-                  [["join c2 1 []", "leave"], ["join c0 1 []", "leave"], ["join c1 1 [0 1]", "leave"]], "order: sessions")
+                  [["join c2 1 []", "leave"], ["join c0 1 []", "leave"], ["join c1 1 [0 1]", "leave"]],
+                  "order: sessions")
         test.same((journal.commit, len(journal.entries)), (0, 9), "order: nothing else")
 
 
@@ -380,7 +381,8 @@ def test_silence(test):
         link.close()
     journal, _ = beside_honest(test, "a peer that never reads", deaf)
     if journal:
-        test.same(journal.requests(0), (["join c0 1 [0]"] + ["poll"] * 1022)[:len(journal.requests(0))], "deaf: requests")
+        asked = ["join c0 1 [0]"] + ["poll"] * 1022
+        test.same(journal.requests(0), asked[:len(journal.requests(0))], "deaf: requests")
 
 
 def test_lives(test):
@@ -477,7 +479,8 @@ LIES = (
     ((WELCOME, said(RELAY + b"\x00")), f"malformed {len(RELAY)} 9"),
     ((WELCOME, said(RELAY), said(reply_bytes_of("refused 7 0"))), "wrongkind"),
     ((WELCOME, said(RELAY), NOTED, said(reply_bytes_of("idle"))), "wrongkind"),
-    ((said(reply_bytes_of("welcome 3 []")), said(reply_bytes_of("relay 1 at 2 [0=(0)] [4:c0.1]", ADD_ONE))), "badorder"),
+    ((said(reply_bytes_of("welcome 3 []")), said(reply_bytes_of("relay 1 at 2 [0=(0)] [4:c0.1]", ADD_ONE))),
+     "badorder"),
 )
 # The same, where the server says no more after it: a reply is awaited then.
 CLOSINGS = ((), (WELCOME[:2],), (WELCOME[:-1],), (WELCOME,), (WELCOME, said(RELAY)), (WELCOME, said(RELAY)[:40]),
@@ -538,10 +541,10 @@ def test_words(test):
     rows += [(("join", *words), 2, JOIN_WORDS) for words in (
         (), (first,), (first, 0), (first, 0, port, 0), *((first, 0, number) for number in wrong_numbers),
         *((first, number, port) for number in wrong_numbers[1:]), (missing, 0, 0))]
-    rows += [(("serve", missing, port), 4, f"file: {missing}\n"), (("serve", test.room, port), 4, f"file: {test.room}\n"),
-             (("join", missing, 0, port), 4, f"file: {missing}\n"), (("join", missing, 9, port), 4, f"file: {missing}\n"),
-             (("join", test.room, 0, port), 4, f"file: {test.room}\n"),
-             (("join", faulty, 9, port), 3, "scenario: : kind\n"), (("serve", faulty, port), 3, "scenario: : kind\n")]
+    for path in (missing, test.room):
+        rows += [((*words, port), 4, f"file: {path}\n") for words in (
+            ("serve", path), ("join", path, 0), ("join", path, 9))]
+    rows += [(("join", faulty, 9, port), 3, "scenario: : kind\n"), (("serve", faulty, port), 3, "scenario: : kind\n")]
     rows += [(("join", first, client, port), 10, "range\n") for client in (1, 31, 32, 65535)]
     rows += [(("join", example("conflict"), 2, port), 10, "range\n")]
     for text, line in documented_files():
