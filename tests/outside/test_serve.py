@@ -169,8 +169,8 @@ def test_examples(test):
     for name, wanted in (("retry", 2), ("orphan", None), ("bound", None), ("empty_script", 0), ("unknown_view", 1),
                          ("marketplace", None)):
         play(test, os.path.join(data, f"{name}.json"), name, wanted)
-    play(test, test.file(world(*[([0, 1], ADD_ONE, "cut", SET_ONE, "cut", "poll", "sync", ADD_ONE, "quit")] * 16)),
-         "16 clients with two cuts and a quit")
+    steps = (ADD_ONE, "cut", SET_ONE, "poll", "sync", ADD_ONE)
+    play(test, test.file(world(*[([0, 1], *steps), ([1], *steps, "quit")] * 16)), "32 clients with a cut each")
 
 
 def test_python_client(test):
@@ -385,6 +385,25 @@ def test_silence(test):
         test.same(journal.requests(0), asked[:len(journal.requests(0))], "deaf: requests")
 
 
+def test_reset_in_queue(test):
+    """A connection that vanished before it was accepted is a session all the same."""
+    path, port = test.file(world(([0],), ([0],), ([1], SET_ONE))), free_port()
+    server = test.run("serve", path, port)
+    first = connect(port)
+    server.process.send_signal(signal.SIGSTOP)
+    gone = connect(port)
+    gone.sendall(said(JOIN))
+    reset(gone)
+    join = test.run("join", path, 2, port)
+    time.sleep(0.2)
+    server.process.send_signal(signal.SIGCONT)
+    finish(first)
+    journal = test.served(path, server, "reset in the queue")
+    test.printed(journal, 2, join, "reset in the queue")
+    if journal:
+        test.same(journal.requests(0), [], "reset in the queue: a session without requests")
+
+
 def test_lives(test):
     """Lives out of order, a session that a later one ends, and one client's two sessions at once."""
     path, port = test.file(world(([0], "cut", "cut", "cut"), ([1], SET_ONE))), free_port()
@@ -554,6 +573,7 @@ def test_words(test):
         runs = [test.run(*words) for words, _, _ in rows[group:group + 16]]
         for (words, status, line), run in zip(rows[group:group + 16], runs):
             test.same(run.end(), (status, "", line), f"the words {words}")
+            test.expect(run.seconds < 9, f"the words {words}: refused before anything is connected")
 
 
 def test_ports(test):
@@ -610,7 +630,7 @@ def run_all(test):
     """Each test; one that can't go on counts as failed."""
     judge = nobody(test)
     for one in (test_words, test_first_example, test_examples, test_python_client, test_python_example, test_order,
-                test_bad_peers, test_noise, test_silence, test_lives, test_lying_result, test_stolen_numbers,
+                test_bad_peers, test_noise, test_silence, test_reset_in_queue, test_lives, test_lying_result, test_stolen_numbers,
                 test_lying_servers, test_ports, test_outputs, lambda _: judge()):
         begun, failed = time.monotonic(), test.failed
         try:
