@@ -11,18 +11,22 @@ from journal import SerialWorld, check_journal, check_outcomes, check_serial_val
 from players import Player
 from report import NATURAL, Entry, Fault, Lines, Request, entry_of, reply_of, request_text
 
-# A refused action is printed as `bad`. Here it stands for one that names an object no world has, which is cause 4.
-REFUSED = Action((4096,), (), (0, 0), ())
+# A refused action is printed as `bad`. In its place stands one that is refused for the same cause in every world.
+SET = ("set", 0, 0, ("number", 1))
+REFUSED = {4: Action((4096,), (), (0, 0), ()), 7: Action((0,), (), (0, 0), (SET,)),
+           8: Action((0,), (0,), (0, 0), (("set", 0, 4, ("number", 1)),))}
 
 
 def served_entry(lines, number):
     """The entry that the line at hand prints; its action may be one that was refused."""
-    found = re.fullmatch(rf"{number} s({NATURAL}) submit ({NATURAL}) bad -> (refused 6 4)", lines.peek())
+    found = re.fullmatch(rf"{number} s({NATURAL}) submit ({NATURAL}) bad -> (.*)", lines.peek())
     if found is None:
         return entry_of(lines, number)
     lines.take()
-    request = Request("submit", number=int(found[2]), action=REFUSED)
-    return Entry(number + 1, int(found[1]), request, reply_of(found[3], number), found[3])
+    reply = reply_of(found[3], number + 1)
+    action = REFUSED.get(reply.detail if reply.code == 6 else 4, REFUSED[4])
+    request = Request("submit", number=int(found[2]), action=action)
+    return Entry(number + 1, int(found[1]), request, reply, found[3])
 
 
 class Served:

@@ -29,9 +29,11 @@ from actions import read_action
 from dimboetu import Client, action, obj, request_bytes
 from players import Wrong
 from programs import Between, Fake, Peer, Run, connect, finish, free_port, reset, stop_all
-from report import Fault, reply_of
+from report import Fault, Request, reply_of
+from rows import random_requests
 from scenario import read_scenario
 from served import Served
+from stand_in import LAST_WORDS, WireServer
 
 WHOLE_RUN = 58
 SERVE_WORDS, JOIN_WORDS = "words: serve FILE PORT\n", "words: join FILE K PORT\n"
@@ -385,6 +387,43 @@ def test_silence(test):
         test.same(journal.requests(0), asked[:len(journal.requests(0))], "deaf: requests")
 
 
+def payload_of(request):
+    """The payload of a request, whether anybody may send it or not."""
+    if request.kind == "submit":
+        return b"\x06" + request.number.to_bytes(4, "big") + wire.action_bytes(request.action)
+    if request.kind == "join":
+        return request_bytes("join", request.client, request.life, request.interest)
+    return {"bad": b"\x02"}.get(request.kind) or request_bytes(request.kind, request.results)
+
+
+def test_careless(test):
+    """Random requests of careless clients, one at a time: each reply is the stand-in's, byte by byte."""
+    plan = world(*[([],)] * 6, objects=((1,), (2,), (3,)), bound=3)
+    for seed in range(4):
+        path, port = test.file(plan), free_port()
+        server, model = test.run("serve", path, port), WireServer(read_scenario(path))
+        peers, over = [Peer(port) for _ in range(6)], set()
+        for session, request in random_requests(seed, 6, 3, 1):
+            if request.kind == "end" or session in over:
+                continue
+            payload = payload_of(request)
+            try:
+                read = wire.request_of(payload)
+            except wire.NoRequest:
+                read = Request("bad")
+            reply = model.step(session, read)
+            wanted = wire.reply_bytes(reply, lambda place: model.queue[place - 1].action)
+            test.same(peers[session].ask(payload), wanted.hex(), f"careless {seed}: s{session} {payload.hex()}")
+            if (reply.kind, reply.code) in LAST_WORDS:
+                over.add(session)
+                test.same(peers[session].next(), None, f"careless {seed}: s{session} is closed")
+        for peer in peers:
+            finish(peer.link)
+        journal = test.served(path, server, f"careless {seed}", is_honest=False)
+        if journal:
+            test.same((len(journal.entries), journal.commit), (len(model.steps) + 6, model.commit), f"careless {seed}")
+
+
 def test_reset_in_queue(test):
     """A connection that vanished before it was accepted is a session all the same."""
     path, port = test.file(world(([0],), ([0],), ([1], SET_ONE))), free_port()
@@ -630,8 +669,9 @@ def run_all(test):
     """Each test; one that can't go on counts as failed."""
     judge = nobody(test)
     for one in (test_words, test_first_example, test_examples, test_python_client, test_python_example, test_order,
-                test_bad_peers, test_noise, test_silence, test_reset_in_queue, test_lives, test_lying_result, test_stolen_numbers,
-                test_lying_servers, test_ports, test_outputs, lambda _: judge()):
+                test_bad_peers, test_noise, test_silence, test_careless, test_reset_in_queue, test_lives,
+                test_lying_result, test_stolen_numbers, test_lying_servers, test_ports, test_outputs,
+                lambda _: judge()):
         begun, failed = time.monotonic(), test.failed
         try:
             one(test)
