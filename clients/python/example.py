@@ -3,33 +3,40 @@
 
     python3 clients/python/example.py FILE NUMBER PORT [COUNT]
 
-Plays client NUMBER of the scenario FILE on 127.0.0.1: the world's shape and the client's interest come from
-FILE, and its script is passed over. The client adds 1 to attribute 0 of each object of its interest in turn,
-COUNT times in all (6), and looks at all of them at last. A line is printed for each change of a view: `expects`
-while an action of its own stands over the object, and `sees` once all have their outcome.
+Plays client NUMBER of the scenario FILE on 127.0.0.1, in the place of its script: it adds 1 to attribute 0 of each
+object of its interest in turn, COUNT times in all (6), and looks at all of them at last.
 """
 
 import json
 import socket
 import sys
+import time
 
 from dimboetu import Client, Fault, action, obj
 
 
-def play(path, number, port, count):
-    """Plays one session, and prints what changes in it."""
+def connect(port, tries=100):
+    """A connection to the server, which may come up to ten seconds later."""
+    for _ in range(tries):
+        try:
+            return socket.create_connection(("127.0.0.1", port))
+        except ConnectionRefusedError:
+            time.sleep(0.1)
+    return socket.create_connection(("127.0.0.1", port))
+
+
+def play(path, number, port, count=6):
+    """One session. A line is printed for each change of a view: what the client expects, until it sees the outcome."""
     with open(path, encoding="utf-8") as file:
         scenario = json.load(file)
-    interest = tuple(scenario["clients"][number]["interest"])
+    interest = scenario["clients"][number]["interest"]
 
-    def show(target, _, new):
+    def show(target, old, new):
         word = "expects" if any(target in act.writes for _, act, _ in client.pending) else "sees"
-        print(f"client {number} {word} {target} = {new}", flush=True)
+        print(f"client {number} {word} object {target}: {old} -> {new}", flush=True)
 
     client = Client(number, len(scenario["objects"]), scenario["attrs"], interest, show)
-    link = socket.create_connection(("127.0.0.1", port))
-    link.setsockopt(socket.IPPROTO_TCP, socket.TCP_NODELAY, 1)
-    client.join(link)
+    client.join(connect(port))
     client.finish()
     for place in range(count if interest else 0):
         target = obj(interest[place % len(interest)])
@@ -40,21 +47,13 @@ def play(path, number, port, count):
     for first in range(0, len(interest), 16):
         client.make(action(reads=interest[first:first + 16]))
     client.leave()
-    print(f"client {number} made {client.made}, and was told of the commit {client.told}")
-
-
-def main(words):
-    """The status of these words."""
-    if len(words) not in (3, 4) or not all(word.isdigit() for word in words[1:]):
-        print("words: FILE NUMBER PORT [COUNT]", file=sys.stderr)
-        return 2
-    try:
-        play(words[0], *map(int, words[1:3]), int(words[3]) if len(words) == 4 else 6)
-    except (Fault, OSError) as fault:
-        print(f"stopped: {fault}", file=sys.stderr)
-        return 1
-    return 0
+    print(f"client {number} made {client.made} actions; the last commit that it was told is {client.told}")
 
 
 if __name__ == "__main__":
-    sys.exit(main(sys.argv[1:]))
+    if len(sys.argv) not in (4, 5) or not all(word.isdigit() for word in sys.argv[2:]):
+        sys.exit("words: FILE NUMBER PORT [COUNT]")
+    try:
+        play(sys.argv[1], *map(int, sys.argv[2:]))
+    except (Fault, OSError) as fault:
+        sys.exit(f"stopped: {fault}")

@@ -909,9 +909,7 @@ def test_programs(count):
         count.same([serial.value(target, 12)[0] for target in range(3)], [5 + 3, 7 + 2 + 3, 9 + 2], "the world at last")
         for words in ((), (path, "0"), (path, "0", "no")):
             done = subprocess.run([sys.executable, example, *words], capture_output=True, check=False)
-            count.same(done.returncode, 2, f"example {words}")
-        done = subprocess.run([sys.executable, example, path, "0", port], capture_output=True, check=False)
-        count.same(done.returncode, 1, "example without a server")
+            count.same((done.returncode, done.stdout), (1, b""), f"example {words}")
     size = sum(1 for _ in open(os.path.join(CLIENTS, "dimboetu.py"), encoding="utf-8"))
     count.expect(size <= 400, f"the client has {size} lines")
     count.expect(dimboetu.__doc__.count("\n") > 3, "the client says how it is used")
