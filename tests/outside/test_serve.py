@@ -167,10 +167,9 @@ def test_examples(test):
         test.expect(journal.serial.value(0, 4) in ((56,), (58,), (61,)), "conflict: the world at last")
         test.same(sorted(journal.replies(session)[-1] for session in range(2)), ["bye", "bye"], "conflict: both left")
     play(test, example("trade"), "trade", 6)
-    data = os.path.join(ROOT, "crates", "sv_examples", "data")
     for name, wanted in (("retry", 2), ("orphan", None), ("bound", None), ("empty_script", 0), ("unknown_view", 1),
                          ("marketplace", None)):
-        play(test, os.path.join(data, f"{name}.json"), name, wanted)
+        play(test, example(name), name, wanted)
     steps = (ADD_ONE, "cut", SET_ONE, "poll", "sync", ADD_ONE)
     play(test, test.file(world(*[([0, 1], *steps), ([1], *steps, "quit")] * 16)), "32 clients with a cut each")
 
