@@ -265,9 +265,9 @@ def said(*payloads):
     return b"".join(map(wire.frame, payloads))
 
 
-def noise(seed):
+def noise(seed, size=700):
     """Bytes without sense."""
-    return random.Random(seed).randbytes(700)
+    return random.Random(seed).randbytes(size)
 
 
 JOIN = request_bytes("join", 0, 1, (0,))
@@ -301,6 +301,10 @@ BAD_PEERS = (
     ("an action that is refused, and results of nothing", said(JOIN, BAD_SUBMIT, request_bytes("done", ((9, ()),))),
      ["join c0 1 [0]", "submit 1 reads 4096 writes { }", "done [9:]"],
      ["welcome 0 [0=(0)]", "refused 6 4", "refused 7 0"]),
+    ("noise and more", noise(1), ["bad"], ["refused 1 0"]),
+    ("other noise and more", noise(2), ["bad"], ["refused 1 0"]),
+    ("a Join, and noise in frames and more", said(JOIN, *[noise(one, 5 + one) for one in range(9)]),
+     ["join c0 1 [0]", "bad"], ["welcome 0 [0=(0)]", "refused 1 0"]),
     ("1,025 requests", said(*[b"\x04"] * 1025), ["poll"] * 1025, ["refused 2 0"] * 1024 + ["refused 9 0"]),
 )
 
@@ -312,78 +316,57 @@ def reply_bytes_of(text, *acts):
     return wire.reply_bytes(read, actions.get)
 
 
-def beside_honest(test, name, misbehave, is_honest=True):
-    """A bad peer in session 0 beside the join of client 1 on an object of its own, which comes to no harm."""
-    path, port = test.file(world(([0],), ([1], "reads 1 writes 1 { set @1.0 (@1.0 + 1); }", "sync"))), free_port()
-    server = test.run("serve", path, port)
-    link = connect(port)
-    join = test.run("join", path, 1, port)
-    came = misbehave(link, join)
-    journal = test.served(path, server, name, is_honest)
-    test.printed(journal, 1, join, name)
-    if journal:
-        test.same(journal.replies(1)[0::3], ["welcome 0 [1=(0)]", "bye"], f"{name}: the honest session")
-    return journal, came
+class Beside:
+    """A server with a bad peer in session 0, beside the join of client 1 on an object of its own."""
+
+    def __init__(self, test, name):
+        self.test, self.name, port = test, name, free_port()
+        self.path = test.file(world(([0],), ([1], "reads 1 writes 1 { set @1.0 (@1.0 + 1); }", "sync")))
+        self.server = test.run("serve", self.path, port)
+        self.link = connect(port)
+        self.join = test.run("join", self.path, 1, port)
+
+    def judge(self):
+        """The journal; the honest client came to no harm."""
+        journal = self.test.served(self.path, self.server, self.name)
+        self.test.printed(journal, 1, self.join, self.name)
+        if journal:
+            self.test.same((journal.replies(1)[0], journal.replies(1)[-1]), ("welcome 0 [1=(0)]", "bye"),
+                           f"{self.name}: the honest session")
+            self.test.same(journal.commit, 1, f"{self.name}: commit")
+        return journal
 
 
 def test_bad_peers(test):
     """Each bad peer ends its own session alone, and is answered by the table of answers until then."""
-    for name, sent, requests, replies in BAD_PEERS:
-        def misbehave(link, _, sent=sent):
-            link.sendall(sent)
-            return finish(link)
-        journal, came = beside_honest(test, name, misbehave)
-        if journal:
-            test.same(journal.requests(0), requests, f"{name}: requests")
-            test.same(journal.replies(0), replies, f"{name}: replies")
-            wanted = said(*map(reply_bytes_of, replies))
-            test.same(wanted[:len(came)] if name.endswith("more") else wanted, came, f"{name}: bytes that came")
-            test.same(journal.commit, 1, f"{name}: commit")
-
-
-def test_noise(test):
-    """Bytes without sense: the requests in the journal are those that the bytes are."""
-    for seed in range(3):
-        sent = noise(seed) if seed else said(JOIN, *[noise(one)[:5 + one] for one in range(9)])
-
-        def misbehave(link, _, sent=sent):
-            link.sendall(sent)
-            return finish(link)
-        journal, came = beside_honest(test, f"noise {seed}", misbehave)
-        if journal:
-            wanted = ["bad"] if seed else ["join c0 1 [0]", "bad"]
-            test.same(journal.requests(0), wanted, f"noise {seed}: requests")
-            test.same(journal.replies(0)[-1], "refused 1 0", f"noise {seed}: the last reply")
-            wanted = said(*map(reply_bytes_of, journal.replies(0)))
-            test.same(came, wanted[:len(came)], f"noise {seed}: bytes that came")
+    runs = [(Beside(test, row[0]), *row[1:]) for row in BAD_PEERS]
+    for run, sent, requests, replies in runs:
+        run.link.sendall(sent)
+        came = finish(run.link)
+        if journal := run.judge():
+            told = journal.replies(0)
+            test.same(journal.requests(0), requests, f"{run.name}: requests")
+            # The honest client's action may be committed by the time of the Welcome.
+            test.same([text.replace("welcome 1 ", "welcome 0 ") for text in told], replies, f"{run.name}: replies")
+            wanted = said(*map(reply_bytes_of, told))
+            test.same(came, wanted[:len(came)] if run.name.endswith("more") else wanted, f"{run.name}: bytes")
 
 
 def test_silence(test):
     """A peer that is silent keeps nobody waiting but the server; one that vanishes is no fault of the server's."""
-    def silent(link, join):
-        ended = join.end()
-        test.same(ended[0], 0, "silence: the honest client ends before")
-        join.end = lambda: ended
-        return finish(link)
-    journal, came = beside_honest(test, "silence", silent)
-    test.same((came, journal and journal.requests(0)), (b"", []), "silence: nothing was said")
-
-    def vanish(link, _):
-        link.sendall(said(JOIN, *[b"\x04"] * 200))
-        reset(link)
-    journal, _ = beside_honest(test, "a connection that is reset", vanish)
-    if journal:
-        asked = ["join c0 1 [0]"] + ["poll"] * 200
-        test.same(journal.requests(0), asked[:len(journal.requests(0))], "reset: requests")
-
-    def deaf(link, join):
-        link.sendall(said(JOIN, *[b"\x04"] * 1022))
-        join.process.wait(20)
-        link.close()
-    journal, _ = beside_honest(test, "a peer that never reads", deaf)
-    if journal:
-        asked = ["join c0 1 [0]"] + ["poll"] * 1022
-        test.same(journal.requests(0), asked[:len(journal.requests(0))], "deaf: requests")
+    silent, gone, deaf = (Beside(test, name) for name in ("silence", "a connection that is reset", "no reading"))
+    gone.link.sendall(said(JOIN, *[b"\x04"] * 200))
+    reset(gone.link)
+    deaf.link.sendall(said(JOIN, *[b"\x04"] * 1022))
+    for run in (silent, deaf):
+        test.same(run.join.process.wait(20), 0, f"{run.name}: the honest client ends before")
+    deaf.link.close()
+    test.same(finish(silent.link), b"", "silence: nothing was said")
+    for run, asked in ((silent, []), (gone, ["join c0 1 [0]"] + ["poll"] * 200),
+                       (deaf, ["join c0 1 [0]"] + ["poll"] * 1022)):
+        if journal := run.judge():
+            requests = journal.requests(0)
+            test.same(requests, asked[:len(requests)], f"{run.name}: requests")
 
 
 def payload_of(request):
@@ -668,7 +651,7 @@ def run_all(test):
     """Each test; one that can't go on counts as failed."""
     judge = nobody(test)
     for one in (test_words, test_first_example, test_examples, test_python_client, test_python_example, test_order,
-                test_bad_peers, test_noise, test_silence, test_careless, test_reset_in_queue, test_lives,
+                test_bad_peers, test_silence, test_careless, test_reset_in_queue, test_lives,
                 test_lying_result, test_stolen_numbers, test_lying_servers, test_ports, test_outputs,
                 lambda _: judge()):
         begun, failed = time.monotonic(), test.failed
