@@ -36,6 +36,7 @@ from served import Served
 from stand_in import LAST_WORDS, WireServer
 
 WHOLE_RUN = 58
+PLAY_WORDS = "words: play FILE [--brief | --watch] | replay FILE | load N\n"
 SERVE_WORDS, JOIN_WORDS = "words: serve FILE PORT\n", "words: join FILE K PORT\n"
 ADD_ONE = "reads 0 writes 0 { set @0.0 (@0.0 + 1); }"
 SET_ONE = "reads 1 writes 1 { set @1.0 7; }"
@@ -74,7 +75,7 @@ class Test:
 
     def run(self, *words, **kinds):
         """Starts the program."""
-        return Run(self.program, [str(word) for word in words], **kinds)
+        return Run(self.program, [word if isinstance(word, bytes) else str(word) for word in words], **kinds)
 
     def file(self, value):
         """A file with this text, or with this value as JSON."""
@@ -170,8 +171,8 @@ def test_examples(test):
     for name, wanted in (("retry", 2), ("orphan", None), ("bound", None), ("empty_script", 0), ("unknown_view", 1),
                          ("marketplace", None)):
         play(test, example(name), name, wanted)
-    steps = (ADD_ONE, "cut", SET_ONE, "poll", "sync", ADD_ONE)
-    play(test, test.file(world(*[([0, 1], *steps), ([1], *steps, "quit")] * 16)), "32 clients with a cut each")
+    steps = (ADD_ONE, "cut", SET_ONE, "poll", "sync", "cut", "cut", ADD_ONE, "cut", "cut", SET_ONE, *["cut"] * 2, ADD_ONE)
+    play(test, test.file(world(*[([0, 1], *steps), ([1], *steps, "quit")] * 4)), "8 clients with 7 cuts: 64 sessions")
 
 
 def test_python_client(test):
@@ -581,6 +582,7 @@ def test_words(test):
     rows += [(("join", *words), 2, JOIN_WORDS) for words in (
         (), (first,), (first, 0), (first, 0, port, 0), *((first, 0, number) for number in wrong_numbers),
         *((first, number, port) for number in wrong_numbers[1:]), (missing, 0, 0))]
+    rows += [(words, 2, PLAY_WORDS) for words in (("serve", b"\xff", port), ("join", first, b"\xff", port))]
     for path in (missing, test.room):
         rows += [((*words, port), 4, f"file: {path}\n") for words in (
             ("serve", path), ("join", path, 0), ("join", path, 9))]
@@ -619,14 +621,15 @@ def test_ports(test):
 
 
 def test_outputs(test):
-    """Standard output that is full or that nobody reads, and standard error that is full."""
+    """Standard output that is full, closed or read by nobody, and standard error that is full."""
     path, port = example("first"), free_port()
     gone, end = os.pipe()
     os.close(gone)
     with open("/dev/full", "wb") as full, os.fdopen(end, "wb") as broken:
-        for name, out in (("full", full), ("broken pipe", broken)):
+        for name, kind in (("full", {"stdout": full}), ("broken pipe", {"stdout": broken}),
+                           ("closed", {"stdout": None, "preexec_fn": lambda: os.close(1)})):
             for words in ("serve", "join"):
-                kinds = {word: {"stdout": out} if word == words else {} for word in ("serve", "join")}
+                kinds = {word: kind if word == words else {} for word in ("serve", "join")}
                 server = test.run("serve", path, port, **kinds["serve"])
                 join = test.run("join", path, 0, port, **kinds["join"])
                 ends = {"serve": server.end(), "join": join.end()}
