@@ -50,6 +50,24 @@ const MEETINGS: &[Meeting] = &[
             },
         ],
     },
+    // One of two clients cuts before it took a reply, and joins again: it has two sessions.
+    Meeting {
+        scenario: r#"{"attrs":1,"objects":[[0]],"bound":8,"clients":[{"interest":[0],"steps":[{"act":"reads 0 writes 0 { set @0.0 (@0.0 + 1); }"},"cut",{"show":[0]}]},{"interest":[],"steps":[{"act":"reads 0 writes 0 { set @0.0 (@0.0 + 1); }"},"sync",{"show":[0]}]}]}"#,
+        calls: &[
+            Call {
+                line: "join a 1",
+                prints: Prints::Last("made 1\n"),
+            },
+            Call {
+                line: "serve a",
+                prints: Prints::Last("\ncommit 2\n"),
+            },
+            Call {
+                line: "join a 0",
+                prints: Prints::Last("\nmade 1\n"),
+            },
+        ],
+    },
 ];
 
 const PORT: u16 = 4000;
