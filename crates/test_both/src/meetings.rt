@@ -9,37 +9,36 @@ use std::test::Fail;
 use std::thread::Threads;
 use sv_door::{PipeDoor, TcpDoor};
 
-/// A scenario, and the programs that play it, in the order in which they are started.
+/// A scenario, and the programs that play it.
 struct Meeting {
     scenario: &'static str,
-    calls: &'static [Call],
+    server: Call,
+    clients: &'static [Call],
 }
 
 const MEETINGS: &[Meeting] = &[
     // One client adds 1 to an object, waits for the result and looks at it.
     Meeting {
         scenario: r#"{"attrs":1,"objects":[[5]],"bound":4,"clients":[{"interest":[0],"steps":[{"act":"reads 0 writes 0 { set @0.0 (@0.0 + 1); }"},"sync",{"show":[0]}]}]}"#,
-        calls: &[
-            Call {
-                line: "join a 0",
-                prints: Prints::All("told c0 2 0 ? -> (5)\ntold c0 3 0 (5) -> (6)\nmade 1\n"),
-            },
-            Call {
-                line: "serve a",
-                prints: Prints::All(
-                    "journal 5\n1 s0 join c0 1 [0] -> welcome 0 [0=(5)]\n2 s0 submit 1 reads 0 writes 0 { set @0.0 (@0.0 + 1); } -> relay 1 at 0 [] [1:c0.1]\n3 s0 done [1:(6)] -> noted 1\n4 s0 leave -> bye\n5 s0 end -> bye\ncommit 1\n",
-                ),
-            },
-        ],
+        server: Call {
+            line: "serve a",
+            prints: Prints::All(
+                "journal 5\n1 s0 join c0 1 [0] -> welcome 0 [0=(5)]\n2 s0 submit 1 reads 0 writes 0 { set @0.0 (@0.0 + 1); } -> relay 1 at 0 [] [1:c0.1]\n3 s0 done [1:(6)] -> noted 1\n4 s0 leave -> bye\n5 s0 end -> bye\ncommit 1\n",
+            ),
+        },
+        clients: &[Call {
+            line: "join a 0",
+            prints: Prints::All("told c0 2 0 ? -> (5)\ntold c0 3 0 (5) -> (6)\nmade 1\n"),
+        }],
     },
     // Two clients write one object, in an order that the threads decide.
     Meeting {
         scenario: r#"{"attrs":1,"objects":[[10]],"bound":4,"clients":[{"interest":[],"steps":[{"act":"reads 0 writes 0 { set @0.0 (@0.0 * 2); }"}]},{"interest":[0],"steps":[{"act":"reads 0 writes 0 { set @0.0 (@0.0 + 1); }"},{"act":"reads 0 writes 0 { set @0.0 (@0.0 * 3); }"},{"act":"reads 0 writes 0 { set @0.0 (@0.0 - 5); }"},{"show":[0]},{"show":[0]}]}]}"#,
-        calls: &[
-            Call {
-                line: "serve a",
-                prints: Prints::Last("\ncommit 4\n"),
-            },
+        server: Call {
+            line: "serve a",
+            prints: Prints::Last("\ncommit 4\n"),
+        },
+        clients: &[
             Call {
                 line: "join a 0",
                 prints: Prints::Last("made 1\n"),
@@ -53,14 +52,14 @@ const MEETINGS: &[Meeting] = &[
     // One of two clients cuts before it took a reply, and joins again: it has two sessions.
     Meeting {
         scenario: r#"{"attrs":1,"objects":[[0]],"bound":8,"clients":[{"interest":[0],"steps":[{"act":"reads 0 writes 0 { set @0.0 (@0.0 + 1); }"},"cut",{"show":[0]}]},{"interest":[],"steps":[{"act":"reads 0 writes 0 { set @0.0 (@0.0 + 1); }"},"sync",{"show":[0]}]}]}"#,
-        calls: &[
+        server: Call {
+            line: "serve a",
+            prints: Prints::Last("\ncommit 2\n"),
+        },
+        clients: &[
             Call {
                 line: "join a 1",
                 prints: Prints::Last("made 1\n"),
-            },
-            Call {
-                line: "serve a",
-                prints: Prints::Last("\ncommit 2\n"),
             },
             Call {
                 line: "join a 0",
@@ -72,6 +71,22 @@ const MEETINGS: &[Meeting] = &[
 
 const PORT: u16 = 4000;
 
+fn program<D: Drop>(
+    alloc: Global,
+    meeting: &Meeting,
+    call: Call,
+    port: u16,
+    door: D,
+) -> Program<D> {
+    Program {
+        alloc,
+        scenario: meeting.scenario,
+        call,
+        port,
+        door,
+    }
+}
+
 /// Whether a meeting over doors in memory goes as it is to go.
 fn meets_in_memory<R: Threads + Wait + Sync>(
     rt: &R,
@@ -79,17 +94,12 @@ fn meets_in_memory<R: Threads + Wait + Sync>(
     meeting: &Meeting,
 ) -> Result<bool, AllocError> {
     let hall = PipeDoor::new(alloc, rt, PORT)?;
-    let mut programs = Vec::with_capacity(alloc, meeting.calls.len())?;
-    for call in meeting.calls {
-        programs.push(Program {
-            alloc,
-            scenario: meeting.scenario,
-            call: *call,
-            port: PORT,
-            door: hall.another()?,
-        })?;
+    let mut clients = Vec::with_capacity(alloc, meeting.clients.len())?;
+    for call in meeting.clients {
+        clients.push(program(alloc, meeting, *call, PORT, hall.another()?))?;
     }
-    Ok(all_end_well(rt, alloc, programs))
+    let server = program(alloc, meeting, meeting.server, PORT, hall);
+    Ok(all_end_well(rt, server, clients))
 }
 
 #[test]
@@ -120,17 +130,18 @@ fn meets_over_tcp<R>(
 where
     R: Sockets<Listener = TcpListener, Stream = TcpStream> + Clock + Threads + Wait + Sync,
 {
-    let mut programs = Vec::with_capacity(alloc, meeting.calls.len())?;
-    for call in meeting.calls {
-        programs.push(Program {
-            alloc,
-            scenario: meeting.scenario,
-            call: *call,
-            port,
-            door: TcpDoor::new(alloc, rt),
-        })?;
+    let mut clients = Vec::with_capacity(alloc, meeting.clients.len())?;
+    for call in meeting.clients {
+        clients.push(program(alloc, meeting, *call, port, TcpDoor::new(alloc, rt)))?;
     }
-    Ok(all_end_well(rt, alloc, programs))
+    let server = program(
+        alloc,
+        meeting,
+        meeting.server,
+        port,
+        TcpDoor::new(alloc, rt),
+    );
+    Ok(all_end_well(rt, server, clients))
 }
 
 #[test]

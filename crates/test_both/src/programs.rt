@@ -1,11 +1,12 @@
 //! The programs that meet: one of the top calls each, on a thread of its own.
 use std::alloc::{AllocError, Global};
 use std::sync::Wait;
-use std::thread::Threads;
+use std::thread;
+use std::thread::{Scope, Threads};
 use sv_bytes::{MemFiles, MemSink};
 use sv_door::Door;
 use sv_join::run_join;
-use sv_link::{Crew, Job, OpenGate, Ran, ThreadCrew};
+use sv_link::{OpenGate, ThreadCrew};
 use sv_serve::run_serve;
 
 /// Room for the longest output.
@@ -66,43 +67,7 @@ fn words(alloc: Global, line: &str, port: u16) -> Result<Vec<String>, AllocError
     Ok(words)
 }
 
-/// The status of the call that the first word names.
-fn status<R: Threads + Wait + Sync, D: Door>(
-    rt: &R,
-    alloc: Global,
-    words: &[String],
-    files: &mut MemFiles,
-    door: &mut D,
-    out: &mut MemSink,
-    err: &mut MemSink,
-) -> u8 {
-    match words {
-        [word, ..] if word.as_str() == "serve" => {
-            let mut crew = ThreadCrew::new(alloc);
-            run_serve(
-                rt, alloc, words, files, door, &mut crew, &OpenGate, out, err,
-            )
-        }
-        _ => run_join(alloc, words, files, door, out, err),
-    }
-}
-
-fn called<R: Threads + Wait + Sync, D: Door>(
-    rt: &R,
-    alloc: Global,
-    scenario: &str,
-    words: &[String],
-    door: &mut D,
-) -> Result<Printed, AllocError> {
-    let mut files = MemFiles::new(alloc);
-    files.add("a", scenario.as_bytes())?;
-    let mut out = MemSink::with_room(alloc, ROOM)?;
-    let mut err = MemSink::with_room(alloc, ROOM)?;
-    let status = status(rt, alloc, words, &mut files, door, &mut out, &mut err);
-    Ok(Printed { status, out, err })
-}
-
-/// Whether it ended well, with just this output. What it printed is let go.
+/// Whether a call ended well, with just this output. What it printed is let go.
 fn is_well(printed: Printed, prints: Prints) -> bool {
     let is_so = printed.status == 0
         && prints.is(printed.out.bytes())
@@ -112,36 +77,98 @@ fn is_well(printed: Printed, prints: Prints) -> bool {
 }
 
 impl<D: Door> Program<D> {
-    fn ends_well<R: Threads + Wait + Sync>(&mut self, rt: &R) -> Result<bool, AllocError> {
+    fn files(&self) -> Result<MemFiles, AllocError> {
+        let mut files = MemFiles::new(self.alloc);
+        files.add("a", self.scenario.as_bytes())?;
+        Ok(files)
+    }
+
+    fn served<R: Threads + Wait + Sync>(&mut self, rt: &R) -> Result<Printed, AllocError> {
         let words = words(self.alloc, self.call.line, self.port)?;
-        let printed = called(rt, self.alloc, self.scenario, &words, &mut self.door)?;
-        Ok(is_well(printed, self.call.prints))
+        let mut files = self.files()?;
+        let mut out = MemSink::with_room(self.alloc, ROOM)?;
+        let mut err = MemSink::with_room(self.alloc, ROOM)?;
+        let mut crew = ThreadCrew::new(self.alloc);
+        let status = run_serve(
+            rt,
+            self.alloc,
+            &words,
+            &mut files,
+            &mut self.door,
+            &mut crew,
+            &OpenGate,
+            &mut out,
+            &mut err,
+        );
+        Ok(Printed { status, out, err })
+    }
+
+    fn joined(&mut self) -> Result<Printed, AllocError> {
+        let words = words(self.alloc, self.call.line, self.port)?;
+        let mut files = self.files()?;
+        let mut out = MemSink::with_room(self.alloc, ROOM)?;
+        let mut err = MemSink::with_room(self.alloc, ROOM)?;
+        let status = run_join(
+            self.alloc,
+            &words,
+            &mut files,
+            &mut self.door,
+            &mut out,
+            &mut err,
+        );
+        Ok(Printed { status, out, err })
     }
 }
 
-impl<D: Door + Send + Drop> Job for Program<D> {
-    /// Whether it ended well and printed what it was to print.
-    type Out = bool;
-
-    ghost ready = { λ _. Unit {0} };
-
-    ghost keeps = { λ _ _. Unit {0} };
-
-    fn run<R: Threads + Wait + Sync>(self, rt: &R) -> bool {
-        let mut program = self;
-        program.ends_well(rt) == Ok(true)
+/// Whether a server ends well.
+fn serves_well<D: Door + Drop, R: Threads + Wait + Sync>(rt: &R, server: Program<D>) -> bool {
+    let mut server = server;
+    match server.served(rt) {
+        Ok(printed) => is_well(printed, server.call.prints),
+        Err(_) => false,
     }
 }
 
-/// Whether all programs, run at once, end well and print what they are to print.
+/// Whether a client ends well.
+fn joins_well<D: Door + Drop>(client: Program<D>) -> bool {
+    let mut client = client;
+    match client.joined() {
+        Ok(printed) => is_well(printed, client.call.prints),
+        Err(_) => false,
+    }
+}
+
+/// Whether a server and its clients end well, each client on a thread of its own.
 pub fn all_end_well<R: Threads + Wait + Sync, D: Door + Send + Drop>(
     rt: &R,
-    alloc: Global,
-    programs: Vec<Program<D>>,
+    server: Program<D>,
+    clients: Vec<Program<D>>,
 ) -> bool {
-    let mut crew = ThreadCrew::new(alloc);
-    match crew.run_all(rt, programs) {
-        Ran::Done(well) => well.iter().all(|is_well| *is_well),
-        Ran::Failed | Ran::Memory => false,
+    thread::scope(thread::scope_env(), rt, move |scope| -> bool {
+        meet_in(scope, rt, server, clients)
+    })
+}
+
+fn meet_in<'s, E: 's, D: Door + Send + Drop + 's, R: Threads + Wait + Sync>(
+    scope: &'s Scope<'s, E>,
+    rt: &'s R,
+    server: Program<D>,
+    clients: Vec<Program<D>>,
+) -> bool {
+    let Ok(mut handles) = Vec::with_capacity(*clients.allocator(), clients.len()) else {
+        return false;
+    };
+    for client in clients {
+        let Ok(handle) = scope.spawn(move || joins_well(client)) else {
+            return false;
+        };
+        if handles.push(handle).is_err() {
+            return false;
+        }
     }
+    let mut is_well = serves_well(rt, server);
+    for handle in handles {
+        is_well = handle.join(rt) && is_well;
+    }
+    is_well
 }
