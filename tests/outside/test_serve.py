@@ -35,7 +35,7 @@ from scenario import read_scenario
 from served import Served
 from stand_in import LAST_WORDS, WireServer
 
-WHOLE_RUN = 58
+WHOLE_RUN = 240
 PLAY_WORDS = "words: play FILE [--brief | --watch] | replay FILE | load N\n"
 SERVE_WORDS, JOIN_WORDS = "words: serve FILE PORT\n", "words: join FILE K PORT\n"
 ADD_ONE = "reads 0 writes 0 { set @0.0 (@0.0 + 1); }"
