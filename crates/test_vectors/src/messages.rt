@@ -1,4 +1,6 @@
 //! Tests of the messages' vectors, and of payloads that are refused at the right place.
+ghost use Rattle.sv_wire.specs.Grammar.{IsWireRequest, IsWireReply};
+
 use std::alloc::Global;
 use std::process::Abort;
 use std::test::Fail;
@@ -32,29 +34,33 @@ const FIRST_RELAY: [u8; 52] = [
 
 // A tree that is let go at the end of its scope makes a long proof; a call that takes it makes none.
 /// Whether a request is written as that payload.
-pub fn request_is_written(alloc: Global, request: &Request, payload: &[u8]) -> Result<bool, Fail> {
+pub fn request_is_written(alloc: Global, request: &Request, payload: &[u8]) -> Result<bool, Fail>
+    requires { IsWireRequest request.now }
+{
     let written = encode_request(alloc, request)?;
     Ok(written.as_slice() == payload)
 }
 
 /// Whether a reply is written as that payload.
-pub fn reply_is_written(alloc: Global, reply: &Reply, payload: &[u8]) -> Result<bool, Fail> {
+pub fn reply_is_written(alloc: Global, reply: &Reply, payload: &[u8]) -> Result<bool, Fail>
+    requires { IsWireReply reply.now }
+{
     let written = encode_reply(alloc, reply)?;
     Ok(written.as_slice() == payload)
 }
 
-fn copied_request_is_written(
-    alloc: Global,
-    request: &Request,
-    payload: &[u8],
-) -> Result<bool, Fail> {
+fn copied_request_is_written(alloc: Global, request: &Request, payload: &[u8]) -> Result<bool, Fail>
+    requires { IsWireRequest request.now }
+{
     let copy = copy_request(alloc, request)?;
     let told = request_is_written(alloc, &copy, payload);
     drop(copy);
     told
 }
 
-fn copied_reply_is_written(alloc: Global, reply: &Reply, payload: &[u8]) -> Result<bool, Fail> {
+fn copied_reply_is_written(alloc: Global, reply: &Reply, payload: &[u8]) -> Result<bool, Fail>
+    requires { IsWireReply reply.now }
+{
     let copy = copy_reply(alloc, reply)?;
     let told = reply_is_written(alloc, &copy, payload);
     drop(copy);
