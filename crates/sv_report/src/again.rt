@@ -75,10 +75,8 @@ fn show_again(alloc: Global, client: &mut Client, objects: &[ObjectId]) -> Resul
     client.note(Mark::Show(copy))
 }
 
-/// Does an event of a trace again, which the client may do next. Only want of memory can hinder it.
-///
-/// The client counts its sessions from 0, whatever the session's number is in the trace.
-pub fn do_again(alloc: Global, client: &mut Client, event: &Event) -> Result<(), AllocError>
+/// Does an event. Only want of memory can hinder it.
+pub(crate) fn do_again(alloc: Global, client: &mut Client, event: &Event) -> Result<(), AllocError>
     requires { MayDo client.old.who client.old.events event.now }
     ensures who { OnOk result (client.new.who ≡ client.old.who) }
     ensures events { OnOk result (client.new.events ≡ again client.old.events event.now ∷ client.old.events) }

@@ -16,7 +16,6 @@ mod values;
 mod whole;
 mod written;
 
-pub use again::do_again;
 pub use laws::drops_are_outcomes;
 pub use summary::brief;
 pub use whole::report;

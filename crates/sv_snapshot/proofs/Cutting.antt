@@ -1,7 +1,7 @@
 -- Where values are serial and relays are sufficient, each snapshot is one cut.
-use Rattle.std.proofs.Common.{◌≡◌, ℕ, zero, suc, ◌-◌, ◌<◌, ◌≤◌, Bool, true, false, ◌==◌, List, [], ◌∷◌, ◌++◌, map, reverse, length, ℤ, Option, Some, None, IfSome, option_map, slice_index_or, refl, sym, ap, ◌∙◌, subst, arith}
-use Rattle.std.specs.Prelude.{All, unwrap_or, option_to_list, if◌then◌else◌}
-use Rattle.std.specs.List.{AllByRecursion, list_any}
+use Rattle.std.proofs.Common.{◌≡◌, ℕ, zero, suc, ◌-◌, ◌<◌, ◌≤◌, true, ◌==◌, List, [], ◌∷◌, ◌++◌, map, reverse, length, ℤ, Option, Some, None, IfSome, option_map, slice_index_or, refl, sym, ap, ◌∙◌, subst, arith}
+use Rattle.std.specs.Prelude.{All, unwrap_or, option_to_list}
+use Rattle.std.specs.List.{AllByRecursion}
 use Rattle.std.proofs.lemmas.Bool.{cond_both}
 use Rattle.std.proofs.lemmas.List.Elements.{All-from_recursion, All-map, recursion_from_All}
 use Rattle.sv_world.specs.Control.{last_writer}
@@ -23,7 +23,7 @@ use Rattle.sv_client.specs.declared.trace.Event.{Event}
 use Rattle.sv_client.specs.declared.trace.Event.TheVariants as events
 use Rattle.sv_client.specs.declared.trace.Trace.{Trace}
 use Rattle.sv_client.specs.Traces.{head_held, held_of, item_held, with_items, with_reply}
-use Rattle.sv_client.specs.Taking.{Identity, items_of, told}
+use Rattle.sv_client.specs.Taking.{Identity, told}
 use Rattle.sv_client.specs.Evaluating.{AreAbove, ItemsReadWithin}
 use Rattle.sv_client.specs.Proper.{AreProper, MayGet, Proper, identity_of}
 use Rattle.sv_client.specs.Answers.{got_now}

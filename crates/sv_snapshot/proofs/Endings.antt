@@ -1,6 +1,6 @@
 -- What the status of an ending says.
-use Rattle.std.proofs.Common.{◌≡◌, ◌≢◌, ◌↔◌, ◌⊎◌, inl, inr, refl, arith, ℕ, ◌≤◌, List, [], reverse, take, subst, sym, ap, ◌∙◌, Option, Some, None}
-use Rattle.std.specs.Prelude.{string_bytes, IfSome, IsErrAnd, Result, Ok, Err, String}
+use Rattle.std.proofs.Common.{◌≡◌, ◌≢◌, ◌↔◌, ◌⊎◌, inl, inr, refl, arith, ℕ, ◌≤◌, List, take, subst, sym, Option, Some, None}
+use Rattle.std.specs.Prelude.{string_bytes, IfSome, IsErrAnd, Result, String}
 use Rattle.std.specs.declared.alloc.Global.{Global}
 use Rattle.sv_command.specs.declared.ending.Ending.{Ending}
 use Rattle.sv_command.specs.declared.ending.Ending.TheVariants as endings
@@ -8,10 +8,22 @@ use Rattle.sv_command.specs.Reading.{read_limit, held_of, IsRefused, IsNoScenari
 use Rattle.sv_command.specs.Statuses.{status_of, Counts, Raises, NoneRose}
 use Rattle.sv_command.proofs.Counts.{came}
 use Rattle.sv_command.proofs.Held.{read_is, holds_none}
-use Rattle.sv_snapshot.specs.Statuses.{Ends, EndsEarly, IsCutShort, IsMade, IsPrinted}
+use Rattle.sv_bytes.specs.Writing.{Grew, GrewByPart}
+use Rattle.sv_snapshot.specs.Statuses.{Ends, EndsEarly, IsCutShort, IsMade, IsPrinted, IsText}
 
 pub early_by : (held : Option (List ℕ)) (r : Result (String Global) Ending) (e : Ending) → IsErrAnd r (λ x. x ≡ e) → EndsEarly held e → IsMade held r
 early_by held r e by h = rw (came r e by) h
+
+-- The text of the file that is named was written, or a front part of it.
+pub printed_by : (contents : List ℕ → Option (List ℕ)) (named : Option (List ℕ)) (name text bytes : List ℕ) (old now : Option (List ℕ)) → named ≡ Some name → bytes ≡ text →
+    IsText (contents name) text → Grew old now bytes → IsPrinted (held_of contents named) old now
+printed_by contents named name text bytes old now n b t g =
+    subst (λ (o : Option (List ℕ)). IsPrinted (held_of contents o) old now) (sym n) (record { text = text; told = t; grew = subst (λ (xs : List ℕ). Grew old now xs) b g })
+
+pub cut_by : (contents : List ℕ → Option (List ℕ)) (named : Option (List ℕ)) (name text bytes : List ℕ) (old now : Option (List ℕ)) → named ≡ Some name → bytes ≡ text →
+    IsText (contents name) text → GrewByPart old now bytes → IsCutShort (held_of contents named) old now
+cut_by contents named name text bytes old now n b t g =
+    subst (λ (o : Option (List ℕ)). IsCutShort (held_of contents o) old now) (sym n) (record { text = text; told = t; part = subst (λ (xs : List ℕ). GrewByPart old now xs) b g })
 
 always : {P : List ℕ → Type 0} (o : Option (List ℕ)) → ((all : List ℕ) → P all) → IfSome o P
 always None f = tt

@@ -1,9 +1,10 @@
 -- The snapshots of a scheduled run.
-use Rattle.std.proofs.Common.{◌≡◌, ℕ, ◌<◌, ℤ, List, reverse, length, Option, sym, subst}
+use Rattle.std.proofs.Common.{◌≡◌, ℕ, ◌<◌, ℤ, List, length, slice_index_or, Option, sym, subst}
 use Rattle.std.specs.Prelude.{All}
 use Rattle.std.proofs.lemmas.List.Elements.{All-from_recursion, All-map}
 use Rattle.sv_world.specs.declared.action.Action.{Action}
 use Rattle.sv_world.specs.declared.world.Shape.{Shape}
+use Rattle.sv_world.specs.Faults.{IsGoodAction}
 use Rattle.sv_world.specs.Sets.{read_set}
 use Rattle.sv_world.proofs.Good.{good_of_none}
 use Rattle.sv_eval.proofs.Serials.{serial_length, serial_shaped}
@@ -37,8 +38,9 @@ module _ (scenario : Scenario) (h : List Entry) (Ls : List Trace) (good : IsGood
   reads_within law =
       All-map (λ (a : Action). All (λ x. x < length scenario.world.values) (read_set a)) (λ (a : Authored). a.action) (accepted h)
       (λ k d l.
-      let checked = law (rules_of scenario) h replay.full.traffic.legal k d l in
-      subst (λ (n : ℕ). All (λ x. x < n) _) (sym good.world.objects) (good_of_none scenario.world.shape _ checked).objects)
+      let a : Authored = slice_index_or (accepted h) k d in
+      let checked : IsGoodAction scenario.world.shape a.action = good_of_none scenario.world.shape a.action (law (rules_of scenario) h replay.full.traffic.legal k d l) in
+      subst (λ (n : ℕ). All (λ x. x < n) (read_set a.action)) (sym good.world.objects) checked.objects)
 
   -- Each value has as many numbers as objects have attributes.
   pub shaped_of_run : LegalActionsAreGood → All (IsShaped scenario.world.shape) (snapshots_of Ls)

@@ -1,5 +1,5 @@
 -- The line that tells a snapshot.
-use Rattle.std.specs.Prelude.{ℕ, List, [], ◌∷◌, ◌++◌, codes}
+use Rattle.std.specs.Prelude.{ℕ, List, [], ◌∷◌, ◌++◌, map, codes}
 use Rattle.std.specs.Fmt.{decimal}
 use Rattle.std.specs.List.{flat_map}
 use Rattle.sv_journal.specs.Pieces.{head_text}
@@ -16,4 +16,4 @@ ended_line line = line ++ 10 ∷ []
 
 -- The lines of the snapshots that traces tell, in order, each with its end.
 abbrev pub looks_text : List Trace → List ℕ
-looks_text Ls = flat_map (λ s. ended_line (look_line s)) (snapshots_of Ls)
+looks_text Ls = flat_map ended_line (map look_line (snapshots_of Ls))

@@ -14,11 +14,11 @@ ghost use Rattle.sv_snapshot.specs.Snapshots.{last_item, read_all_below, snapsho
 ghost use Rattle.sv_snapshot.specs.Cuts.{IsCut};
 ghost use Rattle.sv_snapshot.specs.Again.{IsReadable};
 
+use crate::again::do_again;
 use crate::looks::is_look;
 use crate::snapshot::Snapshot;
 use std::alloc::{AllocError, Global};
 use sv_client::{Client, Event, Trace, View};
-use sv_report::do_again;
 use sv_system::{Played, replicas_equal_serial_execution};
 use sv_wire::{Held, Item, Reply};
 use sv_world::{List, ObjectId, Shape, Value, copy_objects, copy_value};
@@ -150,6 +150,17 @@ fn append_trace(
     append_told(alloc, &mut client, trace, snapshots)
 }
 
+fn told_by(alloc: Global, played: &Played) -> Result<Vec<Snapshot>, AllocError>
+    requires { All (Proper played.now.shape) played.now.traces }
+    ensures { IfOk result (λ snapshots. snapshots.items ≡ snapshots_of played.now.traces) }
+{
+    let mut snapshots = Vec::new(alloc);
+    for trace in played.traces.as_slice() {
+        append_trace(alloc, played.shape, trace, &mut snapshots)?;
+    }
+    Ok(snapshots)
+}
+
 /// The snapshots that the clients of a run were told by their looks: client by client, and each client's in the order in which it was told.
 ///
 /// A look that was dropped, or settled without a relay, tells none; nor does another client's, though it is among the items of a relay.
@@ -164,9 +175,6 @@ pub fn snapshots(alloc: Global, played: &Played) -> Result<Vec<Snapshot>, AllocE
         → IfOk result (λ snapshots. All (IsCut r.world.values (actions_of (reverse played.now.journal.entries))) snapshots.items) }
 {
     replicas_equal_serial_execution();
-    let mut snapshots = Vec::new(alloc);
-    for trace in played.traces.as_slice() {
-        append_trace(alloc, played.shape, trace, &mut snapshots)?;
-    }
-    Ok(snapshots)
+    let told = told_by(alloc, played)?;
+    Ok(told)
 }

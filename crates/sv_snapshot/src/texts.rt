@@ -1,5 +1,5 @@
 //! The text that tells the snapshots of a scheduled run.
-ghost use Rattle.std.specs.Prelude.{◌≡◌, ◌≢◌, ◌++◌, All, Err, IfOk, OnOk, string_bytes};
+ghost use Rattle.std.specs.Prelude.{◌≡◌, ◌≢◌, ◌++◌, All, Err, map, IfOk, OnOk, string_bytes};
 ghost use Rattle.std.specs.List.{flat_map};
 ghost use Rattle.sv_client.specs.Proper.{Proper};
 ghost use Rattle.sv_command.specs.Statuses.{Counts, Raises, ending_of};
@@ -19,6 +19,7 @@ use sv_journal::legal_actions_are_good;
 use sv_replay::run_schedule;
 use sv_system::Played;
 use sv_watch::Line;
+use sv_world::Shape;
 
 /// Appends lines, each with its end.
 fn append_lines(lines: &[Line], text: &mut String) -> Result<(), AllocError>
@@ -31,6 +32,23 @@ fn append_lines(lines: &[Line], text: &mut String) -> Result<(), AllocError>
     Ok(())
 }
 
+/// A line for each of some snapshots of a world of this shape.
+fn lines_of(alloc: Global, shape: Shape, snapshots: &[Snapshot]) -> Result<Vec<Line>, AllocError>
+    requires { All (IsShaped shape) snapshots.now }
+    ensures { IfOk result (λ lines. lines.items ≡ map look_line snapshots.now) }
+{
+    let callback = Box::new(
+        alloc,
+        move |snapshot: &Snapshot| -> Result<Line, AllocError>
+            ensures { IfOk result (λ line. line ≡ look_line snapshot.now) }
+        { look_line(alloc, snapshot) },
+    )?;
+    let looker = Looker::new(shape, callback);
+    let mut lines = Vec::new(alloc);
+    looker.tell(snapshots, &mut lines)?;
+    Ok(lines)
+}
+
 /// The lines of the snapshots of what was played.
 fn played_text(alloc: Global, played: &Played) -> Result<String, AllocError>
     requires proper { All (Proper played.now.shape) played.now.traces }
@@ -38,26 +56,14 @@ fn played_text(alloc: Global, played: &Played) -> Result<String, AllocError>
     ensures { IfOk result (λ text. string_bytes text ≡ looks_text played.now.traces) }
 {
     let told = snapshots(alloc, played)?;
-    let callback = Box::new(
-        alloc,
-        move |snapshot: &Snapshot| -> Result<Line, AllocError>
-            ensures { IfOk result (λ line. line ≡ look_line snapshot.now) }
-        { look_line(alloc, snapshot) },
-    )?;
-    let looker = Looker::new(played.shape, callback);
-    let mut lines = Vec::new(alloc);
-    looker.tell(&told, &mut lines)?;
+    let lines = lines_of(alloc, played.shape, &told)?;
     let mut text = String::new(alloc);
     append_lines(&lines, &mut text)?;
     Ok(text)
 }
 
 /// The lines of the snapshots of a file's scheduled run. They are whole before any of them is printed.
-pub(crate) fn text_for<F: Files>(
-    alloc: Global,
-    file: &str,
-    files: &mut F,
-) -> Result<String, Ending>
+pub(crate) fn text_for<F: Files>(alloc: Global, file: &str, files: &mut F) -> Result<String, Ending>
     ensures made { IsMade (F.contents files.old file.now) result }
     ensures raises { (k : Counts) → Raises (record k { files = F.faults files.old }) (record k { files = F.faults files.new }) (ending_of result) }
     ensures sure { F.sure files.old file.now → result ≢ Err Ending.File }

@@ -58,7 +58,11 @@ fn cause_of(alloc: Global, count: u16, step: u16, x: i32) -> Result<u8, AllocErr
 #[test]
 fn looks_are_made(rt: HostRuntime) -> Result<(), Fail> {
     for (count, step, x, cause) in LOOKS {
-        assert_eq!(&rt; cause_of(rt.alloc(), *count, *step, *x)?, *cause, "{count} {step} {x}");
+        assert_eq!(&rt;
+            cause_of(rt.alloc(), *count, *step, *x)?,
+            *cause,
+            "{count} {step} {x}"
+        );
     }
     Ok(())
 }

@@ -5,7 +5,8 @@ use std::test::Fail;
 
 const WORDS_LINE: &str = "words: looks FILE\n";
 
-const LOOK: &str = r#"{"attrs":1,"objects":[[5]],"bound":4,"clients":[{"interest":[],"steps":[{"act":"reads 0 writes { }"}]}]}"#;
+const LOOK: &str =
+    r#"{"attrs":1,"objects":[[5]],"bound":4,"clients":[{"interest":[],"steps":[{"act":"reads 0 writes { }"}]}]}"#;
 
 const LINE: &str = "look c0 1 at 1 [0=(5)]\n";
 
@@ -26,7 +27,10 @@ const ROWS: &[(&str, &str, u8, &str, &str)] = &[
 #[test]
 fn calls_are_answered(rt: HostRuntime) -> Result<(), Fail> {
     for (line, text, status, out, err) in ROWS {
-        assert!(&rt; answers(rt.alloc(), line, text, *status, out, err)?, "{line}");
+        assert!(&rt;
+            answers(rt.alloc(), line, text, *status, out, err)?,
+            "{line}"
+        );
     }
     Ok(())
 }
@@ -44,7 +48,11 @@ fn is_cut_short(alloc: Global, step: usize, failing: u64, front: &str) -> Result
 
 #[test]
 fn failing_outputs_are_told(rt: HostRuntime) -> Result<(), Fail> {
-    for (step, failing, front) in [(100, 1, ""), (5, 2, "look "), (11, 3, "look c0 1 at 1 [0=(5")] {
+    for (step, failing, front) in [
+        (100, 1, ""),
+        (5, 2, "look "),
+        (11, 3, "look c0 1 at 1 [0=(5"),
+    ] {
         assert!(&rt; is_cut_short(rt.alloc(), step, failing, front)?, "{front}");
     }
     Ok(())

@@ -4,7 +4,8 @@ use std::alloc::{AllocError, Global};
 use std::test::Fail;
 
 /// Client 0 writes object 0, client 1 looks at both objects, and client 2 writes object 1. All three have asked when the last turns come.
-const BEFORE: &str = r#"{"attrs":1,"objects":[[10],[20]],"bound":4,"clients":[{"interest":[],"steps":[{"act":"reads 0 writes 0 { set @0.0 (@0.0 + 1); }"}]},{"interest":[],"steps":[{"act":"reads 0 1 writes { }"}]},{"interest":[],"steps":[{"act":"reads 1 writes 1 { set @1.0 (@1.0 + 1); }"}]}],"schedule":["c0","c1","c2","s0","s1","s2","t0","t1","t2","c0","c1","c2","#;
+const BEFORE: &str =
+    r#"{"attrs":1,"objects":[[10],[20]],"bound":4,"clients":[{"interest":[],"steps":[{"act":"reads 0 writes 0 { set @0.0 (@0.0 + 1); }"}]},{"interest":[],"steps":[{"act":"reads 0 1 writes { }"}]},{"interest":[],"steps":[{"act":"reads 1 writes 1 { set @1.0 (@1.0 + 1); }"}]}],"schedule":["c0","c1","c2","s0","s1","s2","t0","t1","t2","c0","c1","c2","#;
 
 /// The sessions' turns, and the line of the look.
 const ORDERS: &[(&str, &str)] = &[

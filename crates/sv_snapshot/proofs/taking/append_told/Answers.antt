@@ -1,11 +1,10 @@
-use Rattle.std.proofs.Common.{◌≡◌, ◌+◌, List, [], ◌++◌, reverse, drop, refl, sym, ap, subst, ◌∙◌}
+use Rattle.std.proofs.Common.{◌+◌, List, [], ◌++◌, reverse, drop, refl, sym, ap, subst, ◌∙◌}
 use Rattle.std.proofs.lemmas.List.{append-nil, at_drop_all}
-use Rattle.sv_world.specs.declared.world.ClientId.{ClientId}
 use Rattle.sv_client.specs.declared.trace.Event.{Event}
 use Rattle.sv_client.specs.Traces.{held_of}
 use Rattle.sv_client.specs.Taking.{Identity}
 use Rattle.sv_client.specs.Proper.{AreProper}
-use Rattle.sv_report.specs.Again.{MayComeAfter, again, numbered}
+use Rattle.sv_report.specs.Again.{MayComeAfter, numbered}
 use Rattle.sv_report.proofs.Doing.{may_do}
 use Rattle.sv_report.proofs.Standing.{begins, left_more}
 use Rattle.sv_snapshot.specs.declared.snapshot.Snapshot.{Snapshot}
@@ -36,8 +35,8 @@ do_again-requires c =
     let after = subst (λ xs. MayComeAfter l.client.who first (numbered first l.client.events) xs) (left_more es l.event-index e c.loop-event-test.true c.event-item.is) l.invariant.after in
     may_do first l.client.who l.client.events e after.0
 
-pub snapshot_by-more-requires : goal.snapshot_by-more-requires
-snapshot_by-more-requires c =
+pub snapshot_by-requires : goal.snapshot_by-requires
+snapshot_by-requires c =
     let l = c.loop-event in
     let first = c.args.trace.now.first in
     let e = c.event-item.result in

@@ -1,6 +1,6 @@
 use Rattle.std.proofs.Common.{◌≡◌, ◌++◌, drop}
 use Rattle.sv_snapshot.specs.Snapshots.{snapshots_of}
-use Rattle.sv_snapshot.proofs.taking.snapshots.Given as goal
+use Rattle.sv_snapshot.proofs.taking.told_by.Given as goal
 
 -- the snapshots so far and those of the traces left are all
 abbrev pub invariant-loop-trace : goal.invariant-loop-trace
