@@ -37,7 +37,16 @@ fn is_look_at(action: &Action, objects: &[ObjectId]) -> bool {
     is_look(action) && action.reads.as_slice() == objects
 }
 
-/// The cause for which a client's first look is refused: 0 where it is made, and 255 where it is another request or fault.
+/// The cause of a refusal: 0 for the Submit 1 of a look at these objects, and 255 for any other answer.
+fn cause_in(made: &Result<Request, MakeFault>, objects: &[ObjectId]) -> u8 {
+    match made {
+        Ok(Request::Submit { seq, action }) if *seq == 1 && is_look_at(action, objects) => 0,
+        Err(MakeFault::BadAction(cause)) => cause.code(),
+        _ => 255,
+    }
+}
+
+/// The cause for which a client's first look is refused, as above.
 fn cause_of(alloc: Global, count: u16, step: u16, x: i32) -> Result<u8, AllocError> {
     let objects = objects(alloc, count, step)?;
     let mut client = Client::new(alloc, ClientId(0), SHAPE, List::new(alloc))?;
@@ -48,11 +57,8 @@ fn cause_of(alloc: Global, count: u16, step: u16, x: i32) -> Result<u8, AllocErr
     if !client.in_session() || client.made() >= 65536 {
         return Ok(255);
     }
-    match look(alloc, &mut client, &objects, Point { x, y: 0 }) {
-        Ok(Request::Submit { seq: 1, action }) if is_look_at(&action, &objects) => Ok(0),
-        Err(MakeFault::BadAction(cause)) => Ok(cause.code()),
-        _ => Ok(255),
-    }
+    let made = look(alloc, &mut client, &objects, Point { x, y: 0 });
+    Ok(cause_in(&made, &objects))
 }
 
 #[test]

@@ -43,7 +43,7 @@ fn is_cut_short(alloc: Global, step: usize, failing: u64, front: &str) -> Result
     out.fail_at(failing)?;
     let mut err = sink(alloc)?;
     let status = status_of(alloc, "looks a", &mut files, &mut out, &mut err)?;
-    Ok(status == 5 && out.bytes() == front.as_bytes() && err.bytes() == b"out\n")
+    Ok(status == 5 && out.bytes() == front.as_bytes() && err.bytes() == "out\n".as_bytes())
 }
 
 #[test]
@@ -51,7 +51,7 @@ fn failing_outputs_are_told(rt: HostRuntime) -> Result<(), Fail> {
     for (step, failing, front) in [
         (100, 1, ""),
         (5, 2, "look "),
-        (11, 3, "look c0 1 at 1 [0=(5"),
+        (11, 3, "look c0 1 at 1 [0=(5)]"),
     ] {
         assert!(&rt; is_cut_short(rt.alloc(), step, failing, front)?, "{front}");
     }
@@ -66,7 +66,7 @@ fn is_unread(alloc: Global, failing: u64) -> Result<bool, AllocError> {
     let mut out = sink(alloc)?;
     let mut err = sink(alloc)?;
     let status = status_of(alloc, "looks a", &mut files, &mut out, &mut err)?;
-    Ok(status == 4 && out.bytes().is_empty() && err.bytes() == b"file: a\n")
+    Ok(status == 4 && out.bytes().is_empty() && err.bytes() == "file: a\n".as_bytes())
 }
 
 #[test]
