@@ -19,6 +19,7 @@ use sv_door::TcpDoor;
 use sv_join::run_join;
 use sv_link::{OpenGate, TcpNet, ThreadCrew};
 use sv_serve::run_serve;
+use sv_snapshot::run_looks;
 
 /// The status of want of memory.
 const MEMORY: u8 = 8;
@@ -99,6 +100,7 @@ where
 {
     match command(words) {
         Command::Run => run_here(rt, alloc, words, files, out, err),
+        Command::Looks => run_looks(alloc, words, files, out, err),
         Command::Serve => serve_here(rt, alloc, words, files, out, err),
         Command::Join => join_here(rt, alloc, words, files, out, err),
     }
