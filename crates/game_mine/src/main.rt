@@ -1,0 +1,66 @@
+//! A small game over the libraries: two players dig a mine in turns, and who takes the last nugget wins.
+//!
+//! The server runs here, with a thread for each session, over TCP on this machine. Each player is a client on a thread of its own. No script
+//! drives it: it looks at the world, decides, and acts. `docs/EMBEDDING.md` goes through this program line by line.
+#![tactic(auto)]
+
+mod connection;
+mod diary;
+mod game;
+mod messages;
+mod player;
+mod trouble;
+
+use crate::game::{Meeting, WORLD, meet};
+use crate::trouble::Trouble;
+use std::net::{Net as Sockets, TcpListener, TcpStream};
+use std::process::ExitCode;
+use std::rt::Clock;
+use std::sync::Wait;
+use std::thread::Threads;
+use sv_door::TcpDoor;
+use sv_scenario::read_scenario;
+
+/// A port at which nobody listens.
+fn free_port<R: Sockets<Listener = TcpListener, Stream = TcpStream>>(
+    rt: &R,
+) -> Result<u16, Trouble> {
+    let Ok(listener) = TcpListener::bind(rt, "127.0.0.1:0") else {
+        return Err(Trouble::Link);
+    };
+    match listener.local_addr() {
+        Ok(address) => Ok(address.port()),
+        Err(_) => Err(Trouble::Link),
+    }
+}
+
+/// Plays the game over TCP, and gives all that is to be printed.
+fn played<R>(rt: &R, alloc: std::alloc::Global) -> Result<String, Trouble>
+where
+    R: Sockets<Listener = TcpListener, Stream = TcpStream> + Clock + Threads + Wait + Sync,
+{
+    let Ok(scenario) = read_scenario(alloc, WORLD.as_bytes()) else {
+        return Err(Trouble::Memory);
+    };
+    let meeting = Meeting {
+        alloc,
+        port: free_port(rt)?,
+        scenario: &scenario,
+    };
+    let ann = TcpDoor::new(alloc, rt);
+    let bob = TcpDoor::new(alloc, rt);
+    meet(rt, &meeting, TcpDoor::new(alloc, rt), ann, bob)
+}
+
+fn main(rt: HostRuntime) -> ExitCode {
+    match played(&rt, rt.alloc()) {
+        Ok(text) => match print!(&rt; "{text}") {
+            Ok(()) => ExitCode::SUCCESS,
+            Err(_) => ExitCode::FAILURE,
+        },
+        Err(trouble) => {
+            let _ = eprintln!(&rt; "{trouble}");
+            ExitCode::FAILURE
+        }
+    }
+}
