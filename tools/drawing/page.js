@@ -378,8 +378,9 @@ byId("legend").innerHTML = [
   [`<rect x="0" y="2" width="16" height="10" fill="#d9f0e4"/>`, "finished"],
 ].map(([inside, name]) => `<span>${icon(inside)}${name}</span>`).join("");
 const NAMES = { clients: "clients", sessions: "sessions", entries: "entries", made: "made", accepted: "accepted", dropped: "dropped", commit: "finished", corrected: "guessed wrong", unguessed: "no guess", rejoined: "joined again", refused: "refused" };
+const ONE = { clients: "client", sessions: "session", entries: "entry" };
 const CLASSES = { dropped: "bad", refused: "bad", corrected: "warn" };
-byId("counts").innerHTML = Object.entries(NAMES).filter(([key]) => counts[key] || !["unguessed", "rejoined", "refused"].includes(key)).map(([key, name]) => `<li class="${counts[key] ? CLASSES[key] || "" : ""}"><b id="count-${key}">${counts[key]}</b> ${name}</li>`).join("");
+byId("counts").innerHTML = Object.entries(NAMES).filter(([key]) => counts[key] || !["unguessed", "rejoined", "refused"].includes(key)).map(([key, name]) => `<li class="${counts[key] ? CLASSES[key] || "" : ""}"><b id="count-${key}">${counts[key]}</b> ${counts[key] === 1 && ONE[key] || name}</li>`).join("");
 
 worldTable(100);
 actionTable(100);
