@@ -263,7 +263,7 @@ def all_documents():
 
 def help_text():
     """What `--help` prints."""
-    return re.search(r'HELP: &str = r#"(.*?)"#;', text_of("crates/sv_main/src/help.rt"), re.S)[1]
+    return re.search(r'HELP: &str =\s*r#"(.*?)"#;', text_of("crates/sv_main/src/help.rt"), re.S)[1]
 
 
 def forms_of_help():

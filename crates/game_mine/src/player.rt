@@ -31,6 +31,40 @@ pub struct Player<E, L> {
     listener: L,
 }
 
+/// The listener was called for none of these objects yet.
+fn unseen(alloc: Global, objects: &[ObjectId]) -> Result<Vec<Seen>, AllocError> {
+    let mut seen = Vec::new(alloc);
+    for object in objects {
+        seen.push(Seen {
+            object: *object,
+            value: None,
+        })?;
+    }
+    Ok(seen)
+}
+
+/// Calls the listener for each object that the client sees otherwise than before.
+fn tell<L: Listener>(
+    alloc: Global,
+    client: &Client,
+    seen: &mut Vec<Seen>,
+    listener: &mut L,
+) -> Result<(), Trouble> {
+    for each in seen {
+        if let View::Known(value) = client.view(each.object) {
+            let is_same = match &each.value {
+                Some(before) => before.as_slice() == value.as_slice(),
+                None => false,
+            };
+            if !is_same {
+                listener.changed(each.object, value)?;
+                each.value = Some(copy_value(alloc, value)?);
+            }
+        }
+    }
+    Ok(())
+}
+
 /// How many replies may be due at once, with the Done of each.
 const REPLIES: u32 = 32;
 
@@ -46,13 +80,7 @@ impl<E: End, L: Listener> Player<E, L> {
         requires open { (E.told end).closed ≡ false }
         ensures open { IfOk result (λ p. (E.told p.connection.end).closed ≡ false) }
     {
-        let mut seen = Vec::new(alloc);
-        for object in client.interest() {
-            seen.push(Seen {
-                object: *object,
-                value: None,
-            })?;
-        }
+        let seen = unseen(alloc, client.interest())?;
         let mut player = Player {
             alloc,
             client,
@@ -82,7 +110,12 @@ impl<E: End, L: Listener> Player<E, L> {
             return Err(Trouble::Game);
         };
         let request = self.client.make(action)?;
-        self.tell()?;
+        tell(
+            self.alloc,
+            &self.client,
+            &mut self.seen,
+            &mut self.listener,
+        )?;
         self.connection.send(&request)?;
         self.settle()
     }
@@ -110,24 +143,12 @@ impl<E: End, L: Listener> Player<E, L> {
         if let Some(done) = self.client.take(&reply)? {
             self.connection.send(&done)?;
         }
-        self.tell()
-    }
-
-    /// Calls the listener for each object of the interest that is seen otherwise than before.
-    fn tell(&mut self) -> Result<(), Trouble> {
-        for seen in &mut self.seen {
-            if let View::Known(value) = self.client.view(seen.object) {
-                let is_same = match &seen.value {
-                    Some(before) => before.as_slice() == value.as_slice(),
-                    None => false,
-                };
-                if !is_same {
-                    self.listener.changed(seen.object, value)?;
-                    seen.value = Some(copy_value(self.alloc, value)?);
-                }
-            }
-        }
-        Ok(())
+        tell(
+            self.alloc,
+            &self.client,
+            &mut self.seen,
+            &mut self.listener,
+        )
     }
 
     /// A number of an object as the player sees it, and 0 where it knows none.

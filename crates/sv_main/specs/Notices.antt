@@ -1,8 +1,8 @@
 -- What words ask the program to tell of itself.
 use Rattle.std.specs.Prelude.{ℕ, List, [], ◌∷◌, Option, Some, None, codes, if◌then◌else◌}
 use Rattle.std.specs.Str.{bytes_eq}
-use Rattle.sv_main.specs.declared.notices.Notice.{Notice}
-use Rattle.sv_main.specs.declared.notices.Notice.TheVariants as notices
+use Rattle.sv_main.specs.declared.help.Notice.{Notice}
+use Rattle.sv_main.specs.declared.help.Notice.TheVariants as notices
 
 abbrev pub notice_for : List ℕ → Option Notice
 notice_for word = if bytes_eq word (codes "--help") then Some notices.Help

@@ -1,7 +1,18 @@
-//! The texts of the program's notices. Each command has its two lines here, and nowhere else.
+//! What the program can tell of itself. Each command has its two lines here, and nowhere else.
+
+/// What is asked for by one word alone.
+#[derive(Clone, Copy, Debug, Drop, PartialEq, Eq)]
+pub enum Notice {
+    /// `--help`: the commands, the statuses, and where to read on.
+    Help,
+
+    /// `--version`.
+    Version,
+}
 
 /// What `--help` prints. `./dimboetu` prints it from this file too, where the program is not built yet.
-pub const HELP: &str = r#"Dimboetu runs shared worlds. It puts what the players do in one order, sends each player what its own
+pub const HELP: &str =
+    r#"Dimboetu runs shared worlds. It puts what the players do in one order, sends each player what its own
 actions need, and keeps the one world that comes out.
 
   dimboetu replay FILE           runs a scenario turn by turn, always the same, and prints the report

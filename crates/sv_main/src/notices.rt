@@ -4,18 +4,8 @@ ghost use Rattle.sv_bytes.specs.Faults.{Rose};
 ghost use Rattle.sv_bytes.specs.Writing.{Grew};
 ghost use Rattle.sv_main.specs.Notices.{notice_for, notice_of};
 
-use crate::help::{HELP, VERSION};
+use crate::help::{HELP, Notice, VERSION};
 use sv_bytes::{Sink, write_all};
-
-/// What is asked for by one word alone.
-#[derive(Clone, Copy, Debug, Drop, PartialEq, Eq)]
-pub enum Notice {
-    /// `--help`: the commands, the statuses, and where to read on.
-    Help,
-
-    /// `--version`.
-    Version,
-}
 
 fn notice_for(word: &str) -> Option<Notice>
     ensures { result ≡ notice_for word.now }
