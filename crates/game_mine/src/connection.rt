@@ -16,7 +16,7 @@ pub struct Connection<E> {
     shape: Shape,
     inbox: Inbox,
     outbox: Outbox,
-    end: E,
+    pub(crate) end: E,
 }
 
 fn whole(sent: Sent) -> Result<(), Trouble> {

@@ -1,9 +1,8 @@
 //! The game: its world, its rules, what its two players do, and the server that they meet at.
-ghost use Rattle.std.specs.Prelude.{◌≡◌};
-ghost use Rattle.sv_scenario.specs.Limits.{IsGoodScenario};
+ghost use Rattle.std.specs.Prelude.{◌≡◌, false};
 
 use crate::diary::Diary;
-use crate::player::Player;
+use crate::player::{Listener, Player};
 use crate::trouble::Trouble;
 use std::alloc::{AllocError, Global};
 use std::rt::Clock;
@@ -13,8 +12,9 @@ use std::thread::{Scope, Threads};
 use std::time::Duration;
 use sv_client::Client;
 use sv_door::{Door, Made};
-use sv_link::{OpenGate, ThreadCrew};
-use sv_scenario::Scenario;
+use sv_link::{End, OpenGate, ThreadCrew};
+use sv_scenario::read_scenario;
+use sv_sequencer::Sequencer;
 use sv_serve::serve_scenario;
 use sv_world::{ClientId, List, ObjectId, Shape};
 
@@ -41,14 +41,6 @@ const LOOKS: u32 = 480;
 
 const PAUSE_MILLIS: u64 = 25;
 
-/// What the players meet over.
-#[derive(Drop)]
-pub struct Meeting<'a> {
-    pub alloc: Global,
-    pub port: u16,
-    pub scenario: &'a Scenario,
-}
-
 /// The action of digging so many nuggets. It does nothing where it is another's turn, or fewer are there.
 fn digging(alloc: Global, me: u16, nuggets: i64) -> Result<String, AllocError> {
     let purse = if me == 0 { 1 } else { 2 };
@@ -68,16 +60,65 @@ fn choice(me: u16, nuggets: i64) -> i64 {
     }
 }
 
-fn interest(alloc: Global) -> Result<List<ObjectId>, AllocError> {
-    let mut objects = List::new(alloc);
-    objects.push(ObjectId(0))?;
-    objects.push(ObjectId(1))?;
-    objects.push(ObjectId(2))?;
-    Ok(objects)
+/// The client of a player, which is told all three objects when it joins.
+fn client_of(alloc: Global, me: u16) -> Result<Client, Trouble> {
+    if 1 < me {
+        return Err(Trouble::Game);
+    }
+    let mut interest = List::new(alloc);
+    interest.push(MINE)?;
+    interest.push(ObjectId(1))?;
+    interest.push(ObjectId(2))?;
+    Ok(Client::new(alloc, ClientId(me), SHAPE, interest)?)
 }
 
-/// One player's whole game. What it saw.
-fn dig<D: Door + Drop, R: Clock>(
+/// What a player does next: it digs where it is at turn, and else waits a while and looks. Whether the mine is empty.
+fn turn<E: End, L: Listener, R: Clock>(
+    rt: &R,
+    alloc: Global,
+    me: u16,
+    player: &mut Player<E, L>,
+) -> Result<bool, Trouble>
+    requires open { (E.told player.old.connection.end).closed ≡ false }
+    ensures open { (E.told player.new.connection.end).closed ≡ false }
+{
+    let nuggets = player.number(MINE, 0);
+    if nuggets <= 0 {
+        return Ok(true);
+    }
+    if player.number(MINE, 1) == i64::from(me) {
+        let text = digging(alloc, me, choice(me, nuggets))?;
+        player.act(text.as_str())?;
+    } else {
+        thread::sleep(rt, Duration::from_millis(PAUSE_MILLIS));
+        player.act(LOOK)?;
+    }
+    Ok(false)
+}
+
+/// Turns, until the mine is empty.
+fn dig<E: End, L: Listener, R: Clock>(
+    rt: &R,
+    alloc: Global,
+    me: u16,
+    player: &mut Player<E, L>,
+) -> Result<(), Trouble>
+    requires open { (E.told player.old.connection.end).closed ≡ false }
+    ensures open { (E.told player.new.connection.end).closed ≡ false }
+{
+    if me == 1 {
+        player.act(OPENING)?;
+    }
+    for _ in 0..LOOKS {
+        if turn(rt, alloc, me, player)? {
+            return Ok(());
+        }
+    }
+    Err(Trouble::Game)
+}
+
+/// One player's whole game, over a connection of its own. What it saw.
+fn play<D: Door + Drop, R: Clock>(
     rt: &R,
     alloc: Global,
     port: u16,
@@ -88,33 +129,34 @@ fn dig<D: Door + Drop, R: Clock>(
     let Made::End(end) = door.connect(port) else {
         return Err(Trouble::Link);
     };
-    let name = if me == 0 { "Ann" } else { "Bob" };
-    let client = Client::new(alloc, ClientId(me), SHAPE, interest(alloc)?)?;
-    let mut player = Player::join(alloc, client, SHAPE, end, Diary::new(alloc, name))?;
-    if me == 1 {
-        player.act(OPENING)?;
+    let diary = Diary::new(alloc, if me == 0 { "Ann" } else { "Bob" });
+    let mut player = Player::join(alloc, client_of(alloc, me)?, SHAPE, end, diary)?;
+    dig(rt, alloc, me, &mut player)?;
+    Ok(player.leave()?.into_text())
+}
+
+/// Serves the world to whoever comes to the port, until both sessions are over.
+fn serve<D: Door, R: Threads + Wait + Sync>(
+    rt: &R,
+    alloc: Global,
+    port: u16,
+    hall: &mut D,
+) -> Result<Sequencer, Trouble> {
+    let Ok(scenario) = read_scenario(alloc, WORLD.as_bytes()) else {
+        return Err(Trouble::Memory);
+    };
+    let mut crew = ThreadCrew::new(alloc);
+    match serve_scenario(rt, alloc, &scenario, port, hall, &mut crew, &OpenGate) {
+        Ok(sequencer) => Ok(sequencer),
+        Err(_) => Err(Trouble::Link),
     }
-    for _ in 0..LOOKS {
-        let nuggets = player.number(MINE, 0);
-        if nuggets <= 0 {
-            break;
-        }
-        if player.number(MINE, 1) == i64::from(me) {
-            let text = digging(alloc, me, choice(me, nuggets))?;
-            player.act(text.as_str())?;
-        } else {
-            thread::sleep(rt, Duration::from_millis(PAUSE_MILLIS));
-            player.act(LOOK)?;
-        }
-    }
-    let diary = player.leave()?;
-    Ok(diary.into_text())
 }
 
 /// Serves the world, and has both players play. What they saw, one after the other.
 pub fn meet<D: Door + Send + Drop, R: Threads + Wait + Clock + Sync>(
     rt: &R,
-    meeting: &Meeting<'_>,
+    alloc: Global,
+    port: u16,
     hall: D,
     ann: D,
     bob: D,
@@ -122,42 +164,29 @@ pub fn meet<D: Door + Send + Drop, R: Threads + Wait + Clock + Sync>(
     thread::scope(
         thread::scope_env(),
         rt,
-        move |scope| -> Result<String, Trouble> { meet_in(scope, rt, meeting, hall, ann, bob) },
+        move |scope| -> Result<String, Trouble> { meet_in(scope, rt, alloc, port, hall, ann, bob) },
     )
 }
 
 fn meet_in<'s, E: 's, D: Door + Send + Drop + 's, R: Threads + Wait + Clock + Sync>(
     scope: &'s Scope<'s, E>,
     rt: &'s R,
-    meeting: &Meeting<'_>,
+    alloc: Global,
+    port: u16,
     hall: D,
     ann: D,
     bob: D,
 ) -> Result<String, Trouble> {
-    let alloc = meeting.alloc;
-    let port = meeting.port;
-    let Ok(first) = scope.spawn(move || dig(rt, alloc, port, 0, ann)) else {
+    let Ok(first) = scope.spawn(move || play(rt, alloc, port, 0, ann)) else {
         return Err(Trouble::Start);
     };
-    let Ok(second) = scope.spawn(move || dig(rt, alloc, port, 1, bob)) else {
+    let Ok(second) = scope.spawn(move || play(rt, alloc, port, 1, bob)) else {
         return Err(Trouble::Start);
     };
     let mut hall = hall;
-    let mut crew = ThreadCrew::new(alloc);
-    let served = serve_scenario(
-        rt,
-        alloc,
-        meeting.scenario,
-        port,
-        &mut hall,
-        &mut crew,
-        &OpenGate,
-    );
+    let served = serve(rt, alloc, port, &mut hall);
     let mut text = first.join(rt)?;
-    let more = second.join(rt)?;
-    text.push_str(more.as_str())?;
-    if served.is_err() {
-        return Err(Trouble::Link);
-    }
+    text.push_str(second.join(rt)?.as_str())?;
+    drop(served?);
     Ok(text)
 }

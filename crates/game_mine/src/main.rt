@@ -11,15 +11,15 @@ mod messages;
 mod player;
 mod trouble;
 
-use crate::game::{Meeting, WORLD, meet};
+use crate::game::meet;
 use crate::trouble::Trouble;
+use std::alloc::Global;
 use std::net::{Net as Sockets, TcpListener, TcpStream};
 use std::process::ExitCode;
 use std::rt::Clock;
 use std::sync::Wait;
 use std::thread::Threads;
 use sv_door::TcpDoor;
-use sv_scenario::read_scenario;
 
 /// A port at which nobody listens.
 fn free_port<R: Sockets<Listener = TcpListener, Stream = TcpStream>>(
@@ -35,21 +35,15 @@ fn free_port<R: Sockets<Listener = TcpListener, Stream = TcpStream>>(
 }
 
 /// Plays the game over TCP, and gives all that is to be printed.
-fn played<R>(rt: &R, alloc: std::alloc::Global) -> Result<String, Trouble>
+fn played<R>(rt: &R, alloc: Global) -> Result<String, Trouble>
 where
     R: Sockets<Listener = TcpListener, Stream = TcpStream> + Clock + Threads + Wait + Sync,
 {
-    let Ok(scenario) = read_scenario(alloc, WORLD.as_bytes()) else {
-        return Err(Trouble::Memory);
-    };
-    let meeting = Meeting {
-        alloc,
-        port: free_port(rt)?,
-        scenario: &scenario,
-    };
+    let port = free_port(rt)?;
+    let hall = TcpDoor::new(alloc, rt);
     let ann = TcpDoor::new(alloc, rt);
     let bob = TcpDoor::new(alloc, rt);
-    meet(rt, &meeting, TcpDoor::new(alloc, rt), ann, bob)
+    meet(rt, alloc, port, hall, ann, bob)
 }
 
 fn main(rt: HostRuntime) -> ExitCode {

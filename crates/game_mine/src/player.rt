@@ -26,7 +26,7 @@ struct Seen {
 pub struct Player<E, L> {
     alloc: Global,
     client: Client,
-    connection: Connection<E>,
+    pub(crate) connection: Connection<E>,
     seen: Vec<Seen>,
     listener: L,
 }
@@ -110,12 +110,7 @@ impl<E: End, L: Listener> Player<E, L> {
             return Err(Trouble::Game);
         };
         let request = self.client.make(action)?;
-        tell(
-            self.alloc,
-            &self.client,
-            &mut self.seen,
-            &mut self.listener,
-        )?;
+        tell(self.alloc, &self.client, &mut self.seen, &mut self.listener)?;
         self.connection.send(&request)?;
         self.settle()
     }
@@ -143,12 +138,7 @@ impl<E: End, L: Listener> Player<E, L> {
         if let Some(done) = self.client.take(&reply)? {
             self.connection.send(&done)?;
         }
-        tell(
-            self.alloc,
-            &self.client,
-            &mut self.seen,
-            &mut self.listener,
-        )
+        tell(self.alloc, &self.client, &mut self.seen, &mut self.listener)
     }
 
     /// A number of an object as the player sees it, and 0 where it knows none.
