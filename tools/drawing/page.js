@@ -380,7 +380,8 @@ byId("legend").innerHTML = [
 const NAMES = { clients: "clients", sessions: "sessions", entries: "entries", made: "made", accepted: "accepted", dropped: "dropped", commit: "finished", corrected: "guessed wrong", unguessed: "no guess", rejoined: "joined again", refused: "refused" };
 const ONE = { clients: "client", sessions: "session", entries: "entry" };
 const CLASSES = { dropped: "bad", refused: "bad", corrected: "warn" };
-byId("counts").innerHTML = Object.entries(NAMES).filter(([key]) => counts[key] || !["unguessed", "rejoined", "refused"].includes(key)).map(([key, name]) => `<li class="${counts[key] ? CLASSES[key] || "" : ""}"><b id="count-${key}">${counts[key]}</b> ${counts[key] === 1 && ONE[key] || name}</li>`).join("");
+const guesses = actions.some((each) => each.k !== null);
+byId("counts").innerHTML = Object.entries(NAMES).filter(([key]) => (guesses || key !== "corrected") && (counts[key] || !["unguessed", "rejoined", "refused"].includes(key))).map(([key, name]) => `<li class="${counts[key] ? CLASSES[key] || "" : ""}"><b id="count-${key}">${counts[key]}</b> ${counts[key] === 1 && ONE[key] || name}</li>`).join("");
 
 worldTable(100);
 actionTable(100);
