@@ -4,6 +4,7 @@ use crate::system::Turn::{Fails, Moves};
 use crate::system::{OneFile, Slow, Turn};
 use std::alloc::Global;
 use std::io::ErrorKind;
+use std::rt::Files as System;
 use std::test::Fail;
 use sv_bytes::{FileFault, OsFiles, OsSink, read_all, write_all};
 
@@ -74,7 +75,25 @@ const READS: &[Reads] = &[
     ),
 ];
 
-/// Whether the file is read so: its front, in as many bytes as are wanted, or this fault.
+/// What is read of a system's one file.
+fn front_of<R: System>(alloc: Global, system: &R) -> Result<Vec<u8>, FileFault> {
+    let mut files = OsFiles::new(system);
+    read_all(alloc, &mut files, "a", 4_500)
+}
+
+/// Whether just so much of the front of these bytes was read, or this fault was told.
+fn is_front(
+    read: Result<Vec<u8>, FileFault>,
+    bytes: &[u8],
+    wanted: Result<usize, FileFault>,
+) -> bool {
+    match (read, wanted) {
+        (Ok(read), Ok(count)) => read.len() == count && bytes.starts_with(read.as_slice()),
+        (Err(fault), Err(other)) => fault == other,
+        _ => false,
+    }
+}
+
 fn is_read(alloc: Global, row: Reads) -> bool {
     let (opening, turns, bytes, wanted) = row;
     let system = OneFile {
@@ -83,12 +102,7 @@ fn is_read(alloc: Global, row: Reads) -> bool {
         turns,
         bytes,
     };
-    let mut files = OsFiles::new(&system);
-    match (read_all(alloc, &mut files, "a", 4_500), wanted) {
-        (Ok(read), Ok(count)) => read.len() == count && bytes.starts_with(read.as_slice()),
-        (Err(fault), Err(other)) => fault == other,
-        _ => false,
-    }
+    is_front(front_of(alloc, &system), bytes, wanted)
 }
 
 #[test]
@@ -104,7 +118,11 @@ type Writes = (&'static [Turn], bool, &'static [u8]);
 
 const WRITES: &[Writes] = &[
     (&[], true, b"hello"),
-    (&[Moves(1), Moves(1), Moves(1), Moves(1), Moves(1)], true, b"hello"),
+    (
+        &[Moves(1), Moves(1), Moves(1), Moves(1), Moves(1)],
+        true,
+        b"hello",
+    ),
     (&[Moves(2), Moves(2)], true, b"hello"),
     (
         &[
@@ -149,7 +167,12 @@ const INTERRUPTED: &[Turn] = &[Fails(ErrorKind::Interrupted); 1_000];
 #[test]
 fn calls_are_not_made_anew_for_ever(rt: HostRuntime) -> Result<(), Fail> {
     assert!(rt; is_read(rt.alloc(), (None, &INTERRUPTED[..999], b"hello", Ok(5))));
-    assert!(rt; is_read(rt.alloc(), (None, INTERRUPTED, b"hello", Err(FileFault::Failed))));
+    assert!(rt;
+        is_read(
+            rt.alloc(),
+            (None, INTERRUPTED, b"hello", Err(FileFault::Failed))
+        )
+    );
     assert!(rt; is_written(rt.alloc(), (&INTERRUPTED[..999], true, b"hello")));
     assert!(rt; is_written(rt.alloc(), (INTERRUPTED, false, b"")));
     Ok(())

@@ -1,14 +1,13 @@
 //! Two threads that call one object in turn, each of them while the other has it.
-ghost use Rattle.std.specs.Prelude.{◌≡◌, ℕ, List, [], ◌∷◌, ◌++◌, Some, None, IsSome, All, refl};
+ghost use Rattle.std.specs.Prelude.{◌≡◌, ℕ, List, [], ◌∷◌, ◌++◌, Some, None, IsSome, All, refl, ⊤};
 ghost use Rattle.sv_lock.specs.Passes.{session_number};
 
 use std::alloc::{AllocError, Global};
-use std::hint;
-use std::sync::{Arc, Wait};
 use std::sync::atomic::{AtomicU64, Ordering};
+use std::sync::{Arc, Wait};
 use std::test::Fail;
-use std::thread;
 use std::thread::Threads;
+use std::{hint, thread};
 use sv_lock::{Object, Pass, SeqLock};
 
 /// So many calls each of the two threads makes.
@@ -51,7 +50,10 @@ impl Places {
     /// The step of this number: it ends a while after the next call was begun.
     fn step(&self, number: u64) {
         self.stepping.store(number, Ordering::SeqCst);
-        self.wait_for(&self.calling, number.saturating_add(1).min(CALLS.wrapping_mul(2)));
+        self.wait_for(
+            &self.calling,
+            number.saturating_add(1).min(CALLS.wrapping_mul(2)),
+        );
         for _ in 0..PAUSE {
             hint::spin_loop();
             thread::yield_now();
@@ -79,9 +81,9 @@ impl Object for Steps {
 
     type Entry = u16;
 
-    type Base = ();
+    type Base = u8;
 
-    ghost base = { λ s. () };
+    ghost base = { λ s. 0 };
 
     ghost history = { λ s. s.made.items };
 
@@ -127,7 +129,33 @@ fn call_in_turn<R: Wait>(
     pass
 }
 
-/// The two threads, and whose steps were made.
+/// The two threads.
+fn call_both<R: Threads + Wait + Sync>(
+    rt: &R,
+    lock: &SeqLock<Steps>,
+    one: Pass<Steps>,
+    other: Pass<Steps>,
+    places: &Places,
+) -> (Pass<Steps>, Pass<Steps>)
+    requires one { (one.lock ≡ lock.now.id) × (one.session ≡ Some 0) }
+    requires other { (other.lock ≡ lock.now.id) × (other.session ≡ Some 1) }
+    ensures one { (result.0.lock ≡ lock.now.id) × (result.0.session ≡ Some 0) }
+    ensures other { (result.1.lock ≡ lock.now.id) × (result.1.session ≡ Some 1) }
+{
+    thread::join(
+        rt,
+        || -> Pass<Steps>
+            requires { (one.lock ≡ lock.now.id) × (one.session ≡ Some 0) }
+            ensures { (result.lock ≡ lock.entry.now.id) × (result.session ≡ Some 0) }
+        { call_in_turn(rt, lock, one, places, 1) },
+        || -> Pass<Steps>
+            requires { (other.lock ≡ lock.now.id) × (other.session ≡ Some 1) }
+            ensures { (result.lock ≡ lock.entry.now.id) × (result.session ≡ Some 1) }
+        { call_in_turn(rt, lock, other, places, 2) },
+    )
+}
+
+/// Whose steps were made.
 fn take_turns<R: Threads + Wait + Sync>(
     rt: &R,
     alloc: Global,
@@ -143,17 +171,7 @@ fn take_turns<R: Threads + Wait + Sync>(
     };
     let one = lock.split(&mut keeper);
     let other = lock.split(&mut keeper);
-    let (one, other) = thread::join(
-        rt,
-        || -> Pass<Steps>
-            requires pass { (one.lock ≡ lock.now.id) × (one.session ≡ Some 0) }
-            ensures { (result.lock ≡ lock.entry.now.id) × (result.session ≡ Some 0) }
-        { call_in_turn(rt, &lock, one, places, 1) },
-        || -> Pass<Steps>
-            requires pass { (other.lock ≡ lock.now.id) × (other.session ≡ Some 1) }
-            ensures { (result.lock ≡ lock.entry.now.id) × (result.session ≡ Some 1) }
-        { call_in_turn(rt, &lock, other, places, 2) },
-    );
+    let (one, other) = call_both(rt, &lock, one, other, places);
     lock.join(&mut keeper, one);
     lock.join(&mut keeper, other);
     let Steps { places: _, made } = lock.close(keeper);
