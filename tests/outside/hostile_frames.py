@@ -133,11 +133,15 @@ class World:
             file.write(scenario_text(self.chance))
         self.model = WireServer(read_scenario(path))
         self.requests = Requests(self.chance, self.model)
-        port = free_port()
-        self.server = Run(campaign.program, ["serve", path, str(port)])
-        self.links = [connect(port, 30) for _ in range(SESSIONS)]
         self.frames = [wire.Frames() for _ in range(SESSIONS)]
         self.open = list(range(SESSIONS))
+        self.begin(path)
+
+    def begin(self, path):
+        """Starts the server, and connects all sessions."""
+        port = free_port()
+        self.server = Run(self.campaign.program, ["serve", path, str(port)])
+        self.links = [connect(port, 30) for _ in range(SESSIONS)]
 
     def memory(self):
         """Bytes of the server that are in memory."""
@@ -208,8 +212,8 @@ class World:
         self.model.step(session, END)
         self.open.remove(session)
 
-    def burst(self):
-        """Some frames to one session, and the replies to them."""
+    def compose(self):
+        """Some frames for one session: the session, the bytes, the replies that are due, and whether the session goes on."""
         session = self.chance.choice(self.open)
         sent, due, goes_on = b"", [], True
         for _ in range(self.chance.randrange(1, 9)):
@@ -221,6 +225,11 @@ class World:
             due += more
             if not goes_on:
                 break
+        return session, sent, b"".join(due), goes_on
+
+    def burst(self):
+        """Some frames to one session, and the replies to them."""
+        session, sent, due, goes_on = self.compose()
         cut = self.chance.randrange(len(sent) + 1) if self.chance.random() < 0.1 else 0
         try:
             for piece in (sent[:cut], sent[cut:]):
@@ -229,7 +238,7 @@ class World:
         except OSError as fault:
             if goes_on:
                 self.campaign.tell(f"{self.name}: s{session} takes nothing more: {fault!r}")
-        self.receive(session, b"".join(due), goes_on)
+        self.receive(session, due, goes_on)
         if not goes_on:
             self.finish(session)
 
@@ -286,6 +295,10 @@ class Campaign:
             steps = max(1, len(world.model.steps))
             self.grown.append(((world.memory() - before) / steps, steps))
         world.close()
+        self.count(world)
+
+    def count(self, world):
+        """What a world came to."""
         for _, _, reply in world.model.steps:
             self.replies[" ".join(reply_text(reply).split()[:2 if reply.kind == "refused" else 1])] += 1
         self.worlds += 1

@@ -87,7 +87,7 @@ def test_files(test):
         test.ends((*start, faulty, *behind), (3, b"", b"scenario: : kind\n"), "a faulty file")
         test.ends((*start, "/dev/null", *behind), (3, b"", b"scenario: : json\n"), "an empty file")
         test.ends((*start, unfinished, *behind), (3, b"", b"scenario: : json\n"), "an unfinished file")
-        test.ends((*start, act, *behind), (3, b"", b"scenario: /clients/0/steps/0/act: text 18 4\n"), "a faulty action")
+        test.ends((*start, act, *behind), (3, b"", b"scenario: /clients/0/steps/0/act: text 18 3\n"), "a faulty action")
         test.ends((*start, "/dev/zero", *behind), (3, b"", b"scenario: : size\n"), "a file without end")
     for option in ("--brief", "--watch"):
         test.ends(("play", missing, option), (4, b"", f"file: {missing}\n".encode()), "no such file")

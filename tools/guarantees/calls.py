@@ -114,7 +114,7 @@ def columns(owner, function, front, result, clauses):
     elif "AllocError" in result and not [label for label in named if label != "err"]:
         refusals = "memory alone" + (f": {list_of(named)}" if named else "")
     else:
-        refusals = list_of(named or [label for label, _ in ensured]) or "memory alone"
+        refusals = list_of(named or [label for label, _ in ensured]) or ("no clause" if "io::Result" in result else "memory alone")
     kept = [label for label, text in ensured if re.search(r"[.\s]new\b", text)]
     if "&mut" not in front:
         state = "nothing is changed"
