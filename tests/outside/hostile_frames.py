@@ -311,6 +311,10 @@ class Campaign:
             if self.worlds % 50 == 0:
                 print(f"{sum(self.kinds.values())} frames, {self.worlds} worlds, {self.wrong} wrong, "
                       f"{time.monotonic() - begun:.0f} s", flush=True)
+        self.print_figures(time.monotonic() - begun)
+
+    def print_figures(self, seconds):
+        """The figures of all worlds."""
         print(f"{sum(self.kinds.values())} frames in {self.worlds} worlds: {dict(self.kinds)}")
         print(f"{self.answered} payloads answered, {self.malformed} of them malformed; {self.entries} entries of journals; "
               f"{self.reset} connections reset behind their last reply, {self.lost} before it was read whole")
@@ -319,7 +323,7 @@ class Campaign:
         if grown:
             print(f"memory of the server, bytes for each entry of its journal: median {grown[len(grown) // 2][0]:.0f}, "
                   f"most {grown[-1][0]:.0f} (over {grown[-1][1]} entries)")
-        print(f"{time.monotonic() - begun:.0f} s, {self.wrong} wrong")
+        print(f"{seconds:.0f} s, {self.wrong} wrong")
 
 
 def main(words):

@@ -1,7 +1,7 @@
 #!/usr/bin/env python3
-"""The parts of the product alone: refused memory in each of them, and mutated frames to session loops over links in memory.
+"""The parts of the product alone: refused memory in each of them.
 
-    python3 tests/outside/hostile_parts.py PARTS [FRAMES [SEED]]
+    python3 tests/outside/hostile_parts.py PARTS
 
 PARTS is the program bench/programs/sv_hostile, which bench/build.sh builds. In it the sequencer, each client, each session's
 loop and each player of the examples `conflict` and `bound` are alone: what comes to them stands in a file. Every single
@@ -10,9 +10,6 @@ client's calls are made again where memory ran out, and every answer must then b
 a loop and a player stop, and what they sent must be a beginning of it. A program that could not begin for want of memory
 prints nothing, and says so. The run in which nothing fails is compared with the models of simulate.py, which were written
 from the documents alone.
-
-FRAMES (1,000,000 if left out; with 0 none) mutated frames of the generator of hostile_frames.py go to 64 session loops at
-once over links in memory, and every reply and the journal are compared with the slow program's.
 
 Prints what differs, and at the end the figures. The status is 1 where something was lost or wrong.
 """
@@ -32,7 +29,7 @@ sys.path.insert(0, HERE)
 import wire
 from actions import action_text
 from failing_memory import Shim
-from hostile_frames import Campaign, Journal, World, parts
+from hostile_frames import Journal
 from report import Request
 from scenario import read_scenario
 from simulate import ROUNDS, Run
@@ -231,76 +228,20 @@ class Alone:
             print(f"WRONG: {text[:1500]}", flush=True)
 
 
-class Piped(World):
-    """A world whose sessions are loops in one process, over links in memory."""
-
-    def begin(self, path):
-        """Nothing is sent yet."""
-        self.path, self.lines, self.due = path, [], []
-
-    def burst(self):
-        """Some frames to one session, and the replies to them."""
-        session, sent, due, goes_on = self.compose()
-        self.lines.append(f"{session} {sent.hex()} {len(due)}")
-        self.due.append(due.hex())
-        if not goes_on:
-            self.model.step(session, Request("end"))
-            self.open.remove(session)
-
-    def close(self):
-        """Runs it all, and compares."""
-        for session in self.open:
-            self.model.step(session, Request("end"))
-        file = os.path.join(self.campaign.room, "lines")
-        with open(file, "w", encoding="ascii") as it:
-            it.write("".join(line + "\n" for line in self.lines))
-        run = subprocess.run([self.campaign.program, "pipe", file, self.path], stdout=subprocess.PIPE, stderr=subprocess.PIPE,
-                             check=False, timeout=300)
-        lines = run.stdout.decode().split("\n")
-        start = next((place for place, line in enumerate(lines) if line.startswith("journal ")), len(lines))
-        told = [line for line in lines[:start] if not line.isalpha() or len(line) % 2 == 0 and not line[:1].isupper()]
-        if run.returncode != 0 or told != self.due:
-            wrong = next((f"{one!r}, and {other!r} is due" for one, other in zip(told, self.due) if one != other), "another number")
-            self.campaign.tell(f"{self.name}: status {run.returncode}, {run.stderr!r}: {wrong}")
-        given, due = parts("\n".join(lines[start:])), parts(journal_of(self.model))
-        if given != due:
-            wrong = next((f"{one!r}, and {other!r} is due" for one, other in zip(given[0], due[0]) if one != other), "its Ends")
-            self.campaign.tell(f"{self.name}: the journal: {wrong}")
-        self.campaign.entries += len(self.model.steps)
-
-
-class PipeCampaign(Campaign):
-    """The same campaign over links in memory."""
-
-    def world(self, seed, frames):
-        """One world."""
-        world = Piped(self, seed)
-        while world.open and sum(self.kinds.values()) < frames:
-            world.burst()
-        world.close()
-        self.count(world)
-
-
 def main(words):
     """The status of the whole campaign."""
-    if not 1 <= len(words) <= 3 or not all(word.isdigit() for word in words[1:]):
-        print("words: PARTS [FRAMES [SEED]]", file=sys.stderr)
+    if len(words) != 1:
+        print("words: PARTS", file=sys.stderr)
         return 2
-    frames, seed = (int(word) for word in (words[1:] + ["1000000", "1"][len(words) - 1:]))
-    program = os.path.abspath(words[0])
     with tempfile.TemporaryDirectory() as room:
         library = os.path.join(room, "failing_memory.so")
         subprocess.run(["cc", "-O2", "-shared", "-fPIC", "-o", library, os.path.join(HERE, "failing_memory.c")], check=True)
-        alone = Alone(library, program)
-        for example, ways in (("conflict", (False,)), ("bound", (False, True))):
-            for pairs in ways:
-                for part in Parts(room, example).parts:
-                    print(f"{example}, {part[0]}: {alone.go(part, pairs)}", flush=True)
-        print(f"parts alone: {alone.wrong} wrong", flush=True)
-        campaign = PipeCampaign(program, room)
-        if frames:
-            campaign.go(frames, seed)
-    return 1 if campaign.wrong or alone.wrong else 0
+        alone = Alone(library, os.path.abspath(words[0]))
+        for example, pairs in (("conflict", False), ("bound", False), ("bound", True)):
+            for part in Parts(room, example).parts:
+                print(f"{example}, {part[0]}: {alone.go(part, pairs)}", flush=True)
+    print(f"{alone.wrong} wrong")
+    return 1 if alone.wrong else 0
 
 
 if __name__ == "__main__":
