@@ -10,9 +10,6 @@ anywhere. The slow program is the server of stand_in.py, which was written from 
 compared byte by byte as it comes, and at the end of each world the whole journal that `serve` prints with the slow
 program's.
 
-The server's memory is read before a world's first frame and at its end. It may grow by its rows alone: what a session's
-requests and replies hold.
-
 Prints what differs, and at the end the figures. The status is 1 where something was lost or wrong.
 """
 
@@ -143,11 +140,6 @@ class World:
         self.server = Run(self.campaign.program, ["serve", path, str(port)])
         self.links = [connect(port, 30) for _ in range(SESSIONS)]
 
-    def memory(self):
-        """Bytes of the server that are in memory."""
-        with open(f"/proc/{self.server.process.pid}/statm", encoding="ascii") as file:
-            return int(file.read().split()[1]) * 4096
-
     def frame(self, session):
         """The next frame, and what kind it is of."""
         chance, kind = self.chance, self.chance.random()
@@ -277,7 +269,6 @@ class Campaign:
         self.answered = self.malformed = self.entries = self.reset = self.lost = self.wrong = self.worlds = 0
         self.kinds = collections.Counter()
         self.replies = collections.Counter()
-        self.grown = []
 
     def tell(self, text):
         """Something is lost or wrong."""
@@ -288,12 +279,8 @@ class Campaign:
     def world(self, seed, frames):
         """One world, until its sessions are over or so many frames were sent in all."""
         world = World(self, seed)
-        before = world.memory()
         while world.open and sum(self.kinds.values()) < frames:
             world.burst()
-        if world.server.process.poll() is None:
-            steps = max(1, len(world.model.steps))
-            self.grown.append(((world.memory() - before) / steps, steps))
         world.close()
         self.count(world)
 
@@ -319,10 +306,6 @@ class Campaign:
         print(f"{self.answered} payloads answered, {self.malformed} of them malformed; {self.entries} entries of journals; "
               f"{self.reset} connections reset behind their last reply, {self.lost} before it was read whole")
         print(f"replies: {dict(sorted(self.replies.items()))}")
-        grown = sorted(self.grown)
-        if grown:
-            print(f"memory of the server, bytes for each entry of its journal: median {grown[len(grown) // 2][0]:.0f}, "
-                  f"most {grown[-1][0]:.0f} (over {grown[-1][1]} entries)")
         print(f"{seconds:.0f} s, {self.wrong} wrong")
 
 

@@ -1,9 +1,10 @@
 #!/usr/bin/env python3
 """Tests of the program as a process: each status with its line on standard error and nothing on standard output.
 
-    python3 tests/outside/test_main.py PROGRAM
+    python3 tests/outside/test_main.py [PROGRAM]
 
-Every expected line is typed from docs/ERRORS.md. `serve` and `join` have more in test_serve.py. Closes with
+PROGRAM is the built program; without it the repository's own is taken, and where that is not built yet nothing is
+tested. Every expected line is typed from docs/ERRORS.md. `serve` and `join` have more in test_serve.py. Closes with
 `N passed, M failed`.
 """
 
@@ -20,6 +21,7 @@ sys.path.insert(0, HERE)
 
 from programs import free_port
 
+BUILT = os.path.join(ROOT, "crates", "sv_main", "out", "sv_main")
 PLAY = b"words: play FILE [--brief | --watch] | replay FILE | load N\n"
 SERVE, JOIN = b"words: serve FILE PORT\n", b"words: join FILE K PORT\n"
 NO_TEXT = b"\xff\xfe"
@@ -152,12 +154,16 @@ def read(path):
 
 def main(words):
     """The status of all tests."""
-    if len(words) != 1:
-        print("words: PROGRAM", file=sys.stderr)
+    program = words[0] if words else BUILT
+    if len(words) > 1 or (words and not os.access(program, os.X_OK)):
+        print(f"words: [PROGRAM]; {program} is no program", file=sys.stderr)
         return 2
+    if not os.access(program, os.X_OK):
+        print(f"{os.path.relpath(program, ROOT)} is not built: nothing is tested")
+        return 0
     with tempfile.TemporaryDirectory() as room:
         os.chmod(room, 0o755)
-        test = Test(os.path.abspath(words[0]), room)
+        test = Test(os.path.abspath(program), room)
         for one in (test_words, test_files, test_outputs, test_limits):
             one(test)
     print(f"{test.passed} passed, {test.failed} failed")

@@ -2,7 +2,8 @@
 """Lists the public calls of the crates with the clauses of their contracts, for docs/GUARANTEES.md.
 
     python3 tools/guarantees/calls.py          prints the table
-    python3 tools/guarantees/calls.py --check  fails where docs/GUARANTEES.md lacks a row of it, or has one more
+    python3 tools/guarantees/calls.py --write  puts it into docs/GUARANTEES.md
+    python3 tools/guarantees/calls.py --check  fails where docs/GUARANTEES.md has another one
 
 A call is public where its crate exports it: a function or a type that lib.rt names by `pub use` (or has itself as `pub fn`),
 with the type's `pub fn`s, and the methods of an exported trait. Laws, which are functions without code for proofs, are left out.
@@ -143,14 +144,19 @@ def table():
 
 
 def main(words):
-    """Prints the table, or compares it with the page's."""
-    if words != ["--check"]:
+    """Prints the table, writes it, or compares it with the page's."""
+    if words not in (["--check"], ["--write"]):
         print(table())
         return 0
     with open(PAGE, encoding="utf-8") as file:
         page = file.read()
-    if page[page.index(BEGIN) + len(BEGIN):page.index(END)].strip() != table().strip():
-        print("docs/GUARANTEES.md is not what tools/guarantees/calls.py prints", file=sys.stderr)
+    begin, end = page.index(BEGIN) + len(BEGIN), page.index(END)
+    fresh = page[:begin] + "\n" + table() + "\n" + page[end:]
+    if words == ["--write"]:
+        with open(PAGE, "w", encoding="utf-8") as file:
+            file.write(fresh)
+    elif page != fresh:
+        print("docs/GUARANTEES.md is not what tools/guarantees/calls.py writes", file=sys.stderr)
         return 1
     return 0
 
