@@ -11,6 +11,8 @@ tested. Every expected line is typed from docs/ERRORS.md. `serve` and `join` hav
 import json
 import os
 import resource
+import shutil
+import signal
 import subprocess
 import sys
 import tempfile
@@ -141,7 +143,6 @@ def test_limits(test):
 
 def small():
     """Files of 100 bytes at most; what is more is an error and no signal."""
-    import signal
     signal.signal(signal.SIGXFSZ, signal.SIG_IGN)
     resource.setrlimit(resource.RLIMIT_FSIZE, (100, 100))
 
@@ -163,7 +164,10 @@ def main(words):
         return 0
     with tempfile.TemporaryDirectory() as room:
         os.chmod(room, 0o755)
-        test = Test(os.path.abspath(program), room)
+        # A copy, which others than its owner can reach too.
+        copy = shutil.copy(program, os.path.join(room, "program"))
+        os.chmod(copy, 0o755)
+        test = Test(copy, room)
         for one in (test_words, test_files, test_outputs, test_limits):
             one(test)
     print(f"{test.passed} passed, {test.failed} failed")
