@@ -3,14 +3,15 @@
 
     python3 tests/outside/hostile_connections.py PROGRAM [CONNECTIONS]
 
-CONNECTIONS (10,000 if left out) go to `serve` over TCP, world after world of 64 sessions, one world with one honest client
-beside 63 others. Each other connection is closed at once, reset at once, or sends a part of a frame and is closed or reset;
-a part of them comes behind a Join. The honest client's output, and the whole journal of each world, are compared with
-what is due.
+CONNECTIONS (10,000 if left out) go to `serve` over TCP, world after world of 64 sessions, 62 of them beside an honest
+client. Each is closed at once, reset at once, or sends a part of a frame and is closed or reset; a part of them comes
+behind a Join. The honest client's output and session are compared with what is due, and so are the entries of each other
+session; of a connection that was reset all that it sent may be lost.
 
-Then as many to one server that has its 64 already, and its memory before and behind. And one server more: its memory once its 64 connections are there, and again once 63 of them have sent as many requests as a
-session may (1,024) and were answered. It may grow by its rows alone: for each request the journal's entry and the bytes
-that the end keeps of both sides. At last the memory of the process with all connections closed but one.
+Then as many go to one server that has its 64 already, whose memory is read before and behind. And of one server more the
+memory is read once its 64 connections are there, and again while 63 of them send as many requests as a session may, and
+are answered. It may grow by its rows alone: for each request the journal's entry, and the bytes that the end keeps of
+both sides. At last it is read once these have closed.
 
 Prints what differs, and at the end the figures. The status is 1 where something was lost or wrong.
 """
@@ -80,7 +81,7 @@ class Campaign:
         return link, kind, ([f"join c{client} 1 [] ->"] if behind else []) + ["end -> bye"]
 
     def world(self, seed, most):
-        """One world: 63 bad connections at most, and an honest client."""
+        """One world: 62 bad connections at most, and an honest client."""
         chance, port = random.Random(seed), free_port()
         server = Run(self.program, ["serve", self.path, str(port)])
         bad = [self.open(port, chance, 1 + place % 31) for place in range(min(most, SESSIONS - 2))]
