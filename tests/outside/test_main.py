@@ -25,10 +25,11 @@ from programs import free_port
 
 BUILT = os.path.join(ROOT, "crates", "sv_main", "out", "sv_main")
 PLAY = b"words: play FILE [--brief | --watch] | replay FILE | load N\n"
-SERVE, JOIN = b"words: serve FILE PORT\n", b"words: join FILE K PORT\n"
+SERVE, JOIN, LOOKS = b"words: serve FILE PORT\n", b"words: join FILE K PORT\n", b"words: looks FILE\n"
 NO_TEXT = b"\xff\xfe"
 FIRST = os.path.join(ROOT, "examples", "first.json")
-RUNS = (("play", FIRST), ("play", FIRST, "--brief"), ("play", FIRST, "--watch"), ("replay", FIRST), ("load", "1"))
+SEEN = os.path.join(ROOT, "examples", "looks.json")
+RUNS = (("play", FIRST), ("play", FIRST, "--brief"), ("play", FIRST, "--watch"), ("replay", FIRST), ("load", "1"), ("looks", SEEN))
 
 
 class Test:
@@ -64,11 +65,14 @@ def test_words(test):
     first = FIRST
     for words in ((), ("",), ("plays", first), ("play",), ("play", first, "--Brief"), ("play", first, "--brief", "--watch"),
                   ("play", "--brief", first), ("replay",), ("replay", first, "--brief"), ("replay", first, first), ("load",),
-                  ("load", "0"), ("load", "193"), ("load", "01"), ("load", "+1"), ("load", "1", "1"), ("--version",), ("check", first),
+                  ("load", "0"), ("load", "193"), ("load", "01"), ("load", "+1"), ("load", "1", "1"), ("--version", "--help"), ("--Version",), ("check", first),
                   (NO_TEXT,), (NO_TEXT, first), ("replay", NO_TEXT), ("play", NO_TEXT), ("play", first, NO_TEXT), ("load", NO_TEXT)):
         test.ends(words, (2, b"", PLAY), "words")
-    for words, line in ((("serve",), SERVE), (("serve", first, "0"), SERVE), (("join", first, "x", "1"), JOIN), (("join",), JOIN)):
+    for words, line in ((("serve",), SERVE), (("serve", first, "0"), SERVE), (("join", first, "x", "1"), JOIN), (("join",), JOIN),
+                        (("looks",), LOOKS), (("looks", first, "--brief"), LOOKS), (("looks", first, first), LOOKS)):
         test.ends(words, (2, b"", line), "words")
+    test.ends(("--version",), (0, b"dimboetu 0.9.0\n", b""), "notices")
+    test.ends(("looks", SEEN), (0, b"look c0 2 at 2 [0=(11) 1=(20)]\n", b""), "looks")
 
 
 def test_files(test):
