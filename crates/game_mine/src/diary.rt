@@ -1,6 +1,6 @@
 //! A listener that writes down what its player sees.
-use crate::player::Listener;
 use std::alloc::{AllocError, Global};
+use sv_pilot::Listener;
 use sv_world::{ObjectId, Value};
 
 #[derive(Drop)]

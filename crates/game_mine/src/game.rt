@@ -1,21 +1,15 @@
-//! The game: its world, its rules, what its two players do, and the server that they meet at.
-ghost use Rattle.std.specs.Prelude.{◌≡◌, false};
+//! The game: its world, its rules, and what its two players do.
+ghost use Rattle.std.specs.Prelude.{◌≡◌, false, IfOk};
 
 use crate::diary::Diary;
-use crate::player::{Listener, Player};
-use crate::trouble::Trouble;
 use std::alloc::{AllocError, Global};
 use std::rt::Clock;
-use std::sync::Wait;
 use std::thread;
-use std::thread::{Scope, Threads};
 use std::time::Duration;
 use sv_client::Client;
 use sv_door::{Door, Made};
-use sv_link::{End, OpenGate, ThreadCrew};
-use sv_scenario::read_scenario;
-use sv_sequencer::Sequencer;
-use sv_serve::serve_scenario;
+use sv_link::End;
+use sv_pilot::{Listener, Pilot, Trouble};
 use sv_world::{ClientId, List, ObjectId, Shape};
 
 /// The mine has 21 nuggets, and is closed: it is nobody's turn, -1. Each purse has the nuggets of a player, and how often it dug. Two clients
@@ -72,28 +66,19 @@ fn client_of(alloc: Global, me: u16) -> Result<Client, Trouble> {
     Ok(Client::new(alloc, ClientId(me), SHAPE, interest)?)
 }
 
-/// What a player does next: it digs where it is at turn, and else waits a while and looks. Whether the mine is empty.
+/// What a player does next: it digs where it is at turn, and else waits a while and looks.
 fn turn<E: End, L: Listener, R: Clock>(
     rt: &R,
     alloc: Global,
     me: u16,
-    player: &mut Player<E, L>,
-) -> Result<bool, Trouble>
-    requires open { (E.told player.old.connection.end).closed ≡ false }
-    ensures open { (E.told player.new.connection.end).closed ≡ false }
-{
-    let nuggets = player.number(MINE, 0);
-    if nuggets <= 0 {
-        return Ok(true);
-    }
-    if player.number(MINE, 1) == i64::from(me) {
-        let text = digging(alloc, me, choice(me, nuggets))?;
-        player.act(text.as_str())?;
-    } else {
+    pilot: &mut Pilot<E, L>,
+) -> Result<(), Trouble> {
+    if pilot.number(MINE, 1) != i64::from(me) {
         thread::sleep(rt, Duration::from_millis(PAUSE_MILLIS));
-        player.act(LOOK)?;
+        return pilot.act(LOOK);
     }
-    Ok(false)
+    let text = digging(alloc, me, choice(me, pilot.number(MINE, 0)))?;
+    pilot.act(text.as_str())
 }
 
 /// Turns, until the mine is empty.
@@ -101,24 +86,54 @@ fn dig<E: End, L: Listener, R: Clock>(
     rt: &R,
     alloc: Global,
     me: u16,
-    player: &mut Player<E, L>,
-) -> Result<(), Trouble>
-    requires open { (E.told player.old.connection.end).closed ≡ false }
-    ensures open { (E.told player.new.connection.end).closed ≡ false }
-{
-    if me == 1 {
-        player.act(OPENING)?;
-    }
+    pilot: &mut Pilot<E, L>,
+) -> Result<(), Trouble> {
     for _ in 0..LOOKS {
-        if turn(rt, alloc, me, player)? {
+        if pilot.number(MINE, 0) <= 0 {
             return Ok(());
         }
+        turn(rt, alloc, me, pilot)?;
     }
     Err(Trouble::Game)
 }
 
+/// One player's whole game, from when it joins until it leaves.
+fn visit<E: End, L: Listener, R: Clock>(
+    rt: &R,
+    alloc: Global,
+    me: u16,
+    pilot: &mut Pilot<E, L>,
+) -> Result<(), Trouble> {
+    pilot.join()?;
+    if me == 1 {
+        pilot.act(OPENING)?;
+    }
+    dig(rt, alloc, me, pilot)?;
+    pilot.leave()
+}
+
+/// A new end of a connection to the server.
+fn connected<D: Door>(door: &mut D, port: u16) -> Result<D::E, Trouble>
+    ensures open { IfOk result (λ end. (D.E.told end).closed ≡ false) }
+{
+    match door.connect(port) {
+        Made::End(end) => Ok(end),
+        Made::Failed => Err(Trouble::Link),
+        Made::Memory => Err(Trouble::Memory),
+    }
+}
+
+/// A player's pilot, with a diary, over a new end.
+fn seated<E: End>(alloc: Global, me: u16, end: E) -> Result<Pilot<E, Diary>, Trouble>
+    requires open { (E.told end).closed ≡ false }
+{
+    let client = client_of(alloc, me)?;
+    let diary = Diary::new(alloc, if me == 0 { "Ann" } else { "Bob" });
+    Pilot::new(alloc, client, end, diary)
+}
+
 /// One player's whole game, over a connection of its own. What it saw.
-fn play<D: Door + Drop, R: Clock>(
+pub fn play<D: Door + Drop, R: Clock>(
     rt: &R,
     alloc: Global,
     port: u16,
@@ -126,67 +141,8 @@ fn play<D: Door + Drop, R: Clock>(
     door: D,
 ) -> Result<String, Trouble> {
     let mut door = door;
-    let Made::End(end) = door.connect(port) else {
-        return Err(Trouble::Link);
-    };
-    let diary = Diary::new(alloc, if me == 0 { "Ann" } else { "Bob" });
-    let mut player = Player::join(alloc, client_of(alloc, me)?, SHAPE, end, diary)?;
-    dig(rt, alloc, me, &mut player)?;
-    Ok(player.leave()?.into_text())
-}
-
-/// Serves the world to whoever comes to the port, until both sessions are over.
-fn serve<D: Door, R: Threads + Wait + Sync>(
-    rt: &R,
-    alloc: Global,
-    port: u16,
-    hall: &mut D,
-) -> Result<Sequencer, Trouble> {
-    let Ok(scenario) = read_scenario(alloc, WORLD.as_bytes()) else {
-        return Err(Trouble::Memory);
-    };
-    let mut crew = ThreadCrew::new(alloc);
-    match serve_scenario(rt, alloc, &scenario, port, hall, &mut crew, &OpenGate) {
-        Ok(sequencer) => Ok(sequencer),
-        Err(_) => Err(Trouble::Link),
-    }
-}
-
-/// Serves the world, and has both players play. What they saw, one after the other.
-pub fn meet<D: Door + Send + Drop, R: Threads + Wait + Clock + Sync>(
-    rt: &R,
-    alloc: Global,
-    port: u16,
-    hall: D,
-    ann: D,
-    bob: D,
-) -> Result<String, Trouble> {
-    thread::scope(
-        thread::scope_env(),
-        rt,
-        move |scope| -> Result<String, Trouble> { meet_in(scope, rt, alloc, port, hall, ann, bob) },
-    )
-}
-
-fn meet_in<'s, E: 's, D: Door + Send + Drop + 's, R: Threads + Wait + Clock + Sync>(
-    scope: &'s Scope<'s, E>,
-    rt: &'s R,
-    alloc: Global,
-    port: u16,
-    hall: D,
-    ann: D,
-    bob: D,
-) -> Result<String, Trouble> {
-    let Ok(first) = scope.spawn(move || play(rt, alloc, port, 0, ann)) else {
-        return Err(Trouble::Start);
-    };
-    let Ok(second) = scope.spawn(move || play(rt, alloc, port, 1, bob)) else {
-        return Err(Trouble::Start);
-    };
-    let mut hall = hall;
-    let served = serve(rt, alloc, port, &mut hall);
-    let mut text = first.join(rt)?;
-    text.push_str(second.join(rt)?.as_str())?;
-    drop(served?);
-    Ok(text)
+    let end = connected(&mut door, port)?;
+    let mut pilot = seated(alloc, me, end)?;
+    visit(rt, alloc, me, &mut pilot)?;
+    Ok(pilot.into_listener().into_text())
 }

@@ -4,15 +4,13 @@
 //! drives it: it looks at the world, decides, and acts. `docs/EMBEDDING.md` goes through this program line by line.
 #![tactic(auto)]
 
-mod connection;
 mod diary;
+mod fault;
 mod game;
-mod messages;
-mod player;
-mod trouble;
+mod hosting;
 
-use crate::game::meet;
-use crate::trouble::Trouble;
+use crate::fault::Fault;
+use crate::hosting::{Doors, meet};
 use std::alloc::Global;
 use std::net::{Net as Sockets, TcpListener, TcpStream};
 use std::process::ExitCode;
@@ -22,28 +20,28 @@ use std::thread::Threads;
 use sv_door::TcpDoor;
 
 /// A port at which nobody listens.
-fn free_port<R: Sockets<Listener = TcpListener, Stream = TcpStream>>(
-    rt: &R,
-) -> Result<u16, Trouble> {
+fn free_port<R: Sockets<Listener = TcpListener, Stream = TcpStream>>(rt: &R) -> Result<u16, Fault> {
     let Ok(listener) = TcpListener::bind(rt, "127.0.0.1:0") else {
-        return Err(Trouble::Link);
+        return Err(Fault::Port);
     };
     match listener.local_addr() {
         Ok(address) => Ok(address.port()),
-        Err(_) => Err(Trouble::Link),
+        Err(_) => Err(Fault::Port),
     }
 }
 
 /// Plays the game over TCP, and gives all that is to be printed.
-fn played<R>(rt: &R, alloc: Global) -> Result<String, Trouble>
+fn played<R>(rt: &R, alloc: Global) -> Result<String, Fault>
 where
     R: Sockets<Listener = TcpListener, Stream = TcpStream> + Clock + Threads + Wait + Sync,
 {
     let port = free_port(rt)?;
-    let hall = TcpDoor::new(alloc, rt);
-    let ann = TcpDoor::new(alloc, rt);
-    let bob = TcpDoor::new(alloc, rt);
-    meet(rt, alloc, port, hall, ann, bob)
+    let doors = Doors {
+        hall: TcpDoor::new(alloc, rt),
+        ann: TcpDoor::new(alloc, rt),
+        bob: TcpDoor::new(alloc, rt),
+    };
+    meet(rt, alloc, port, doors)
 }
 
 fn main(rt: HostRuntime) -> ExitCode {
@@ -52,8 +50,8 @@ fn main(rt: HostRuntime) -> ExitCode {
             Ok(()) => ExitCode::SUCCESS,
             Err(_) => ExitCode::FAILURE,
         },
-        Err(trouble) => {
-            let _ = eprintln!(&rt; "{trouble}");
+        Err(fault) => {
+            let _ = eprintln!(&rt; "{fault}");
             ExitCode::FAILURE
         }
     }

@@ -6,6 +6,12 @@ ghost use Rattle.sv_wire.specs.Grammar.{IsWireRequest, IsWireResult, IsWireValue
 use sv_wire::{Done1, Request};
 use sv_world::{Shape, Value, check_action, is_ascending};
 
+/// The largest world. What is an action in any world is one in this.
+const LARGEST: Shape = Shape {
+    objects: 4096,
+    attrs: 4,
+};
+
 fn are_values(values: &[Value]) -> bool
     ensures { result ≡ true → AllByRecursion IsWireValue values.now }
 {
@@ -25,14 +31,14 @@ fn are_results(results: &[Done1]) -> bool
 }
 
 /// Whether a request is a message that a server takes.
-pub fn is_message(shape: Shape, request: &Request) -> bool
+pub(crate) fn is_message(request: &Request) -> bool
     ensures { result ≡ true → IsWireRequest request.now }
 {
     match request {
         Request::Join { interest, .. } => {
             interest.len() <= 64 && is_ascending(interest.as_slice())
         }
-        Request::Submit { action, .. } => check_action(shape, action).is_ok(),
+        Request::Submit { action, .. } => check_action(LARGEST, action).is_ok(),
         Request::Done { results } => {
             1 <= results.len() && results.len() <= 33 && are_results(results.as_slice())
         }

@@ -1,7 +1,0 @@
-use Rattle.std.proofs.Common.{◌≡◌, false}
-use Rattle.game_mine.proofs.connection.Connection.receive.Given as goal
-
-abbrev pub invariant-loop : goal.invariant-loop
-invariant-loop g l = record {
-  open_still : (g.E.End.told l.self.end).closed ≡ false;
-}
