@@ -61,6 +61,7 @@ fn joined(ann: String, bob: &str) -> Result<String, Fault> {
 }
 
 /// Where connections come from: for the server, and for each player.
+#[derive(Drop)]
 pub struct Doors<D> {
     pub hall: D,
     pub ann: D,
