@@ -3,7 +3,7 @@
 
     python3 tests/outside/test_documents.py [--program PROGRAM] [DOCUMENT ..]
 
-Takes the fenced blocks out of README.md and of docs/ACTIONS.md, ERRORS.md, PICTURE.md
+Takes the fenced blocks out of README.md and of docs/ACTIONS.md, EMBEDDING.md, ERRORS.md, PICTURE.md
 and TUTORIAL.md, or out of the documents that are named, and checks each by the word behind its
 opening fence:
 
@@ -61,7 +61,7 @@ from server import Server
 
 HERE = os.path.dirname(os.path.abspath(__file__))
 TOP = os.path.join(HERE, "..", "..")
-DOCUMENTS = ("README.md", "docs/ACTIONS.md", "docs/ERRORS.md", "docs/PICTURE.md",
+DOCUMENTS = ("README.md", "docs/ACTIONS.md", "docs/EMBEDDING.md", "docs/ERRORS.md", "docs/PICTURE.md",
              "docs/TUTORIAL.md")
 LARGEST = 4_194_304
 UNSIGNED = 2 ** 64 - 1
