@@ -3,6 +3,7 @@ pub mod AgainMessages
 pub mod AgainTrees
 pub mod Append
 pub mod Decoded
+pub mod Flat
 pub mod Found
 pub mod FoundMessages
 pub mod FoundTrees
