@@ -16,19 +16,20 @@ use Rattle.sv_world.specs.declared.action.Stmt.{Stmt}
 use Rattle.sv_world.specs.declared.action.Stmt.TheVariants as stmt
 use Rattle.sv_world.specs.declared.action.Stmt.TheOpen.{Stmt-F}
 use Rattle.sv_world.specs.declared.action.Stmt.TheFolds.{fold-Stmt, fold-roll-Stmt}
-use Rattle.sv_text.specs.declared.parts.Op.{Op}
-use Rattle.sv_text.specs.declared.parts.Op.TheVariants as ops
-use Rattle.sv_text.specs.declared.parts.Comparison.{Comparison}
-use Rattle.sv_text.specs.declared.parts.Comparison.TheVariants as comparisons
-use Rattle.sv_text.specs.declared.parts.Joint.{Joint}
-use Rattle.sv_text.specs.declared.parts.Joint.TheVariants as joints
-use Rattle.sv_text.specs.Reading.{with_op, with_comparison, with_joint}
+use Rattle.sv_flat.specs.declared.node.Operator.{Operator}
+use Rattle.sv_flat.specs.declared.node.Operator.TheVariants as ops
+use Rattle.sv_flat.specs.declared.node.Comparison.{Comparison}
+use Rattle.sv_flat.specs.declared.node.Comparison.TheVariants as comparisons
+use Rattle.sv_flat.specs.declared.node.Connective.{Connective}
+use Rattle.sv_flat.specs.declared.node.Connective.TheVariants as joints
+use Rattle.sv_flat.specs.Parts.{binary_by as with_op, compare_by as with_comparison, join_by as with_joint}
+use Rattle.sv_text.specs.Reading.{}
 use Rattle.sv_text.specs.Canonical.{ref_text, pair_text, test_text, expr_text_step, expr_text, cond_text_step, cond_text, set_text, block_text, else_text, stmt_text_step, stmt_text}
 use Rattle.sv_text.specs.Printable.{is_i64, expr_fits_step, expr_fits, cond_fits_step, cond_fits, stmt_fits_step, stmt_fits, body_fits}
 
 -- ---- expressions
 
-abbrev pub op_text : Op → List ℕ
+abbrev pub op_text : Operator → List ℕ
 op_text ops.Add = codes " + "
 op_text ops.Sub = codes " - "
 op_text ops.Mul = codes " * "
@@ -37,7 +38,7 @@ op_text ops.Rem = codes " % "
 op_text ops.Min = codes " min "
 op_text ops.Max = codes " max "
 
-abbrev layer_by : {A : Type 0} → Op → A → A → Expr-F A
+abbrev layer_by : {A : Type 0} → Operator → A → A → Expr-F A
 layer_by ops.Add a b = Expr-F.Add a b
 layer_by ops.Sub a b = Expr-F.Sub a b
 layer_by ops.Mul a b = Expr-F.Mul a b
@@ -46,7 +47,7 @@ layer_by ops.Rem a b = Expr-F.Rem a b
 layer_by ops.Min a b = Expr-F.Min a b
 layer_by ops.Max a b = Expr-F.Max a b
 
-fold_by : (A : Type 0) (step : Expr-F A → A) (o : Op) (a b : Expr) → fold-Expr A step (with_op o a b) ≡ step (layer_by o (fold-Expr A step a) (fold-Expr A step b))
+fold_by : (A : Type 0) (step : Expr-F A → A) (o : Operator) (a b : Expr) → fold-Expr A step (with_op o a b) ≡ step (layer_by o (fold-Expr A step a) (fold-Expr A step b))
 fold_by A step ops.Add a b = ap (fold-Expr A step) (sym (expr.rolls-Add a b)) ∙ fold-roll-Expr A step (Expr-F.Add a b)
 fold_by A step ops.Sub a b = ap (fold-Expr A step) (sym (expr.rolls-Sub a b)) ∙ fold-roll-Expr A step (Expr-F.Sub a b)
 fold_by A step ops.Mul a b = ap (fold-Expr A step) (sym (expr.rolls-Mul a b)) ∙ fold-roll-Expr A step (Expr-F.Mul a b)
@@ -61,7 +62,7 @@ lit_fold A step z = ap (fold-Expr A step) (sym (expr.rolls-Lit z)) ∙ fold-roll
 attr_fold : (A : Type 0) (step : Expr-F A → A) (slot attr : ℕ) → fold-Expr A step (expr.Attr slot attr) ≡ step (Expr-F.Attr slot attr)
 attr_fold A step slot attr = ap (fold-Expr A step) (sym (expr.rolls-Attr slot attr)) ∙ fold-roll-Expr A step (Expr-F.Attr slot attr)
 
-text_layer : (reads : List ObjectId) (o : Op) (x y : List ℕ) → expr_text_step reads (layer_by o x y) ≡ pair_text x (op_text o) y
+text_layer : (reads : List ObjectId) (o : Operator) (x y : List ℕ) → expr_text_step reads (layer_by o x y) ≡ pair_text x (op_text o) y
 text_layer reads ops.Add x y = refl
 text_layer reads ops.Sub x y = refl
 text_layer reads ops.Mul x y = refl
@@ -71,7 +72,7 @@ text_layer reads ops.Min x y = refl
 text_layer reads ops.Max x y = refl
 
 -- what a test or a measure gives of two operands
-by_layer : {A : Type 0} (lit : A) (attr : ℕ → ℕ → A) (both : A → A → A) (o : Op) (x y : A) → expr_by lit attr both (layer_by o x y) ≡ both x y
+by_layer : {A : Type 0} (lit : A) (attr : ℕ → ℕ → A) (both : A → A → A) (o : Operator) (x y : A) → expr_by lit attr both (layer_by o x y) ≡ both x y
 by_layer lit attr both ops.Add x y = refl
 by_layer lit attr both ops.Sub x y = refl
 by_layer lit attr both ops.Mul x y = refl
@@ -80,7 +81,7 @@ by_layer lit attr both ops.Rem x y = refl
 by_layer lit attr both ops.Min x y = refl
 by_layer lit attr both ops.Max x y = refl
 
-fits_layer : (o : Op) (x y : Bool) → expr_fits_step (layer_by o x y) ≡ (x && y)
+fits_layer : (o : Operator) (x y : Bool) → expr_fits_step (layer_by o x y) ≡ (x && y)
 fits_layer ops.Add x y = refl
 fits_layer ops.Sub x y = refl
 fits_layer ops.Mul x y = refl
@@ -90,7 +91,7 @@ fits_layer ops.Min x y = refl
 fits_layer ops.Max x y = refl
 
 -- an expression of two parts
-module _ (o : Op) (a b : Expr) where
+module _ (o : Operator) (a b : Expr) where
   pub pair_text_is : (reads : List ObjectId) → expr_text reads (with_op o a b) ≡ pair_text (expr_text reads a) (op_text o) (expr_text reads b)
   pair_text_is reads = fold_by (List ℕ) (expr_text_step reads) o a b ∙ text_layer reads o (expr_text reads a) (expr_text reads b)
 
@@ -136,29 +137,29 @@ attr_fits slot attr = attr_fold Bool expr_fits_step slot attr
 -- ---- conditions
 
 abbrev pub comparison_text : Comparison → List ℕ
-comparison_text comparisons.Equal = codes " == "
-comparison_text comparisons.Less = codes " < "
-comparison_text comparisons.LessEqual = codes " <= "
+comparison_text comparisons.Eq = codes " == "
+comparison_text comparisons.Lt = codes " < "
+comparison_text comparisons.Le = codes " <= "
 
-abbrev pub joint_text : Joint → List ℕ
+abbrev pub joint_text : Connective → List ℕ
 joint_text joints.And = codes " and "
 joint_text joints.Or = codes " or "
 
 abbrev test_layer : {A : Type 0} → Comparison → Expr → Expr → Cond-F A
-test_layer comparisons.Equal a b = Cond-F.Eq a b
-test_layer comparisons.Less a b = Cond-F.Lt a b
-test_layer comparisons.LessEqual a b = Cond-F.Le a b
+test_layer comparisons.Eq a b = Cond-F.Eq a b
+test_layer comparisons.Lt a b = Cond-F.Lt a b
+test_layer comparisons.Le a b = Cond-F.Le a b
 
-abbrev joint_layer : {A : Type 0} → Joint → A → A → Cond-F A
+abbrev joint_layer : {A : Type 0} → Connective → A → A → Cond-F A
 joint_layer joints.And a b = Cond-F.And a b
 joint_layer joints.Or a b = Cond-F.Or a b
 
 test_fold : (A : Type 0) (step : Cond-F A → A) (o : Comparison) (a b : Expr) → fold-Cond A step (with_comparison o a b) ≡ step (test_layer o a b)
-test_fold A step comparisons.Equal a b = ap (fold-Cond A step) (sym (test.rolls-Eq a b)) ∙ fold-roll-Cond A step (Cond-F.Eq a b)
-test_fold A step comparisons.Less a b = ap (fold-Cond A step) (sym (test.rolls-Lt a b)) ∙ fold-roll-Cond A step (Cond-F.Lt a b)
-test_fold A step comparisons.LessEqual a b = ap (fold-Cond A step) (sym (test.rolls-Le a b)) ∙ fold-roll-Cond A step (Cond-F.Le a b)
+test_fold A step comparisons.Eq a b = ap (fold-Cond A step) (sym (test.rolls-Eq a b)) ∙ fold-roll-Cond A step (Cond-F.Eq a b)
+test_fold A step comparisons.Lt a b = ap (fold-Cond A step) (sym (test.rolls-Lt a b)) ∙ fold-roll-Cond A step (Cond-F.Lt a b)
+test_fold A step comparisons.Le a b = ap (fold-Cond A step) (sym (test.rolls-Le a b)) ∙ fold-roll-Cond A step (Cond-F.Le a b)
 
-joint_fold : (A : Type 0) (step : Cond-F A → A) (o : Joint) (a b : Cond) → fold-Cond A step (with_joint o a b) ≡ step (joint_layer o (fold-Cond A step a) (fold-Cond A step b))
+joint_fold : (A : Type 0) (step : Cond-F A → A) (o : Connective) (a b : Cond) → fold-Cond A step (with_joint o a b) ≡ step (joint_layer o (fold-Cond A step a) (fold-Cond A step b))
 joint_fold A step joints.And a b = ap (fold-Cond A step) (sym (test.rolls-And a b)) ∙ fold-roll-Cond A step (Cond-F.And a b)
 joint_fold A step joints.Or a b = ap (fold-Cond A step) (sym (test.rolls-Or a b)) ∙ fold-roll-Cond A step (Cond-F.Or a b)
 
@@ -166,29 +167,29 @@ not_fold : (A : Type 0) (step : Cond-F A → A) (a : Cond) → fold-Cond A step 
 not_fold A step a = ap (fold-Cond A step) (sym (test.rolls-Not a)) ∙ fold-roll-Cond A step (Cond-F.Not a)
 
 test_text_layer : (reads : List ObjectId) (o : Comparison) (a b : Expr) → cond_text_step reads (test_layer o a b) ≡ test_text (expr_text reads a) (comparison_text o) (expr_text reads b)
-test_text_layer reads comparisons.Equal a b = refl
-test_text_layer reads comparisons.Less a b = refl
-test_text_layer reads comparisons.LessEqual a b = refl
+test_text_layer reads comparisons.Eq a b = refl
+test_text_layer reads comparisons.Lt a b = refl
+test_text_layer reads comparisons.Le a b = refl
 
-joint_text_layer : (reads : List ObjectId) (o : Joint) (x y : List ℕ) → cond_text_step reads (joint_layer o x y) ≡ pair_text x (joint_text o) y
+joint_text_layer : (reads : List ObjectId) (o : Connective) (x y : List ℕ) → cond_text_step reads (joint_layer o x y) ≡ pair_text x (joint_text o) y
 joint_text_layer reads joints.And x y = refl
 joint_text_layer reads joints.Or x y = refl
 
 test_by : {A : Type 0} (value : Expr → A) (both : A → A → A) (one : A → A) (o : Comparison) (a b : Expr) → cond_by value both one (test_layer o a b) ≡ both (value a) (value b)
-test_by value both one comparisons.Equal a b = refl
-test_by value both one comparisons.Less a b = refl
-test_by value both one comparisons.LessEqual a b = refl
+test_by value both one comparisons.Eq a b = refl
+test_by value both one comparisons.Lt a b = refl
+test_by value both one comparisons.Le a b = refl
 
-joint_by : {A : Type 0} (value : Expr → A) (both : A → A → A) (one : A → A) (o : Joint) (x y : A) → cond_by value both one (joint_layer o x y) ≡ both x y
+joint_by : {A : Type 0} (value : Expr → A) (both : A → A → A) (one : A → A) (o : Connective) (x y : A) → cond_by value both one (joint_layer o x y) ≡ both x y
 joint_by value both one joints.And x y = refl
 joint_by value both one joints.Or x y = refl
 
 test_fits_layer : (o : Comparison) (a b : Expr) → cond_fits_step (test_layer o a b) ≡ (expr_fits a && expr_fits b)
-test_fits_layer comparisons.Equal a b = refl
-test_fits_layer comparisons.Less a b = refl
-test_fits_layer comparisons.LessEqual a b = refl
+test_fits_layer comparisons.Eq a b = refl
+test_fits_layer comparisons.Lt a b = refl
+test_fits_layer comparisons.Le a b = refl
 
-joint_fits_layer : (o : Joint) (x y : Bool) → cond_fits_step (joint_layer o x y) ≡ (x && y)
+joint_fits_layer : (o : Connective) (x y : Bool) → cond_fits_step (joint_layer o x y) ≡ (x && y)
 joint_fits_layer joints.And x y = refl
 joint_fits_layer joints.Or x y = refl
 
@@ -216,7 +217,7 @@ module _ (o : Comparison) (a b : Expr) where
   test_fits = test_fold Bool cond_fits_step o a b ∙ test_fits_layer o a b
 
 -- a condition of two parts
-module _ (o : Joint) (a b : Cond) where
+module _ (o : Connective) (a b : Cond) where
   pub joint_text_is : (reads : List ObjectId) → cond_text reads (with_joint o a b) ≡ pair_text (cond_text reads a) (joint_text o) (cond_text reads b)
   joint_text_is reads = joint_fold (List ℕ) (cond_text_step reads) o a b ∙ joint_text_layer reads o (cond_text reads a) (cond_text reads b)
 
