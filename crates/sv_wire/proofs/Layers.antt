@@ -21,19 +21,10 @@ use Rattle.sv_wire.specs.declared.nodes.CondKind.TheVariants as cond_kind
 use Rattle.sv_flat.specs.Parts.{binary_by as expr_by, compare_by, join_by}
 use Rattle.sv_flat.proofs.Layers.{binary_layer, compare_layer, join_layer, lit_fold, attr_fold, binary_fold, compare_fold, join_fold, not_fold, set_fold, if_fold}
 use Rattle.sv_wire.specs.Nodes.{expr_kind_of, cond_kind_of}
-use Rattle.sv_wire.specs.Spelling.{int_bytes, expr_bytes_step, expr_bytes, cond_bytes_step, cond_bytes, counted, stmt_bytes_step, stmt_bytes}
+use Rattle.sv_wire.specs.Spelling.{operator_byte, comparison_byte, connective_byte, int_bytes, expr_bytes_step, expr_bytes, cond_bytes_step, cond_bytes, counted, stmt_bytes_step, stmt_bytes}
 use Rattle.sv_wire.specs.Ranges.{is_i64, is_byte, expr_fits_step, expr_fits, cond_fits_step, cond_fits, stmt_fits_step, stmt_fits}
 
 -- ---- expressions
-
-abbrev pub operator_byte : Operator → ℕ
-operator_byte Add = 0x22
-operator_byte Sub = 0x23
-operator_byte Mul = 0x24
-operator_byte Div = 0x25
-operator_byte Rem = 0x26
-operator_byte Min = 0x27
-operator_byte Max = 0x28
 
 bytes_layer : (o : Operator) (x y : List ℕ) → expr_bytes_step (binary_layer o x y) ≡ operator_byte o ∷ (x ++ y)
 bytes_layer Add x y = refl
@@ -94,15 +85,6 @@ kind_by Min = refl
 kind_by Max = refl
 
 -- ---- conditions
-
-abbrev pub comparison_byte : Comparison → ℕ
-comparison_byte Eq = 0x30
-comparison_byte Lt = 0x31
-comparison_byte Le = 0x32
-
-abbrev pub connective_byte : Connective → ℕ
-connective_byte And = 0x33
-connective_byte Or = 0x34
 
 compare_bytes_layer : (o : Comparison) (a b : Expr) → cond_bytes_step (compare_layer o a b) ≡ comparison_byte o ∷ (expr_bytes a ++ expr_bytes b)
 compare_bytes_layer Eq a b = refl

@@ -14,3 +14,4 @@ pub mod NearFields
 pub mod NearMessages
 pub mod NearTrees
 pub mod Trees
+pub mod Written

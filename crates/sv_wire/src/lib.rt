@@ -15,6 +15,7 @@ mod message;
 mod nodes;
 mod put;
 mod put_body;
+mod put_nodes;
 mod replies;
 mod requests;
 mod stmts;
