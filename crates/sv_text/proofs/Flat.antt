@@ -10,14 +10,14 @@ use Rattle.sv_world.specs.declared.action.Cond.TheVariants as test
 use Rattle.sv_world.specs.declared.action.Stmt.{Stmt}
 use Rattle.sv_world.specs.declared.action.Stmt.TheVariants as stmt
 use Rattle.sv_world.specs.declared.world.ObjectId.{ObjectId}
-use Rattle.sv_flat.specs.declared.node.Node.{Node}
-use Rattle.sv_flat.specs.declared.node.Node.TheVariants as node
-use Rattle.sv_flat.specs.declared.node.Operator.{Operator}
-use Rattle.sv_flat.specs.declared.node.Comparison.{Comparison}
-use Rattle.sv_flat.specs.declared.node.Connective.{Connective}
-use Rattle.sv_flat.specs.Parts.{binary_by as with_op, compare_by as with_comparison, join_by as with_joint}
-use Rattle.sv_flat.specs.Spelled.{expr_spelled, cond_spelled, stmt_spelled, run_spelled, body_spelled}
-use Rattle.sv_flat.proofs.Layers.{lit_spelled, attr_spelled, binary_spelled, compare_spelled, join_spelled, not_spelled, set_spelled, if_spelled}
+use Rattle.sv_world.specs.declared.node.Node.{Node}
+use Rattle.sv_world.specs.declared.node.Node.TheVariants as node
+use Rattle.sv_world.specs.declared.node.Operator.{Operator}
+use Rattle.sv_world.specs.declared.node.Comparison.{Comparison}
+use Rattle.sv_world.specs.declared.node.Connective.{Connective}
+use Rattle.sv_world.specs.Parts.{binary_by as with_op, compare_by as with_comparison, join_by as with_joint}
+use Rattle.sv_world.specs.Spelled.{expr_spelled, cond_spelled, stmt_spelled, run_spelled, body_spelled}
+use Rattle.sv_world.proofs.Layers.{lit_spelled, attr_spelled, binary_spelled, compare_spelled, join_spelled, not_spelled, set_spelled, if_spelled}
 use Rattle.sv_text.specs.declared.fault.TextCause.TheVariants as causes
 use Rattle.sv_text.specs.declared.fault.TextFault.{TextFault}
 use Rattle.sv_text.specs.declared.fault.ParseFault.{ParseFault}

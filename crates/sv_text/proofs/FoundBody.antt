@@ -7,17 +7,17 @@ use Rattle.sv_world.specs.declared.action.Cond.{Cond}
 use Rattle.sv_world.specs.declared.action.Cond.TheVariants as test
 use Rattle.sv_world.specs.declared.action.Stmt.{Stmt}
 use Rattle.sv_world.specs.declared.action.Stmt.TheVariants as stmt
-use Rattle.sv_flat.specs.Parts.{compare_by as with_comparison, join_by as with_joint}
+use Rattle.sv_world.specs.Parts.{compare_by as with_comparison, join_by as with_joint}
 use Rattle.sv_text.specs.declared.fault.TextCause.TheVariants as causes
 use Rattle.sv_text.specs.declared.token.Mark.{Mark}
 use Rattle.sv_text.specs.declared.token.Mark.TheVariants as marks
 use Rattle.sv_text.specs.declared.token.Token.{Token}
 use Rattle.sv_text.specs.declared.token.Token.TheVariants as tokens
 use Rattle.sv_text.specs.declared.token.Lexeme.{Lexeme}
-use Rattle.sv_flat.specs.declared.node.Comparison.{Comparison}
-use Rattle.sv_flat.specs.declared.node.Comparison.TheVariants as comparisons
-use Rattle.sv_flat.specs.declared.node.Connective.{Connective}
-use Rattle.sv_flat.specs.declared.node.Connective.TheVariants as joints
+use Rattle.sv_world.specs.declared.node.Comparison.{Comparison}
+use Rattle.sv_world.specs.declared.node.Comparison.TheVariants as comparisons
+use Rattle.sv_world.specs.declared.node.Connective.{Connective}
+use Rattle.sv_world.specs.declared.node.Connective.TheVariants as joints
 use Rattle.sv_text.specs.Reading.{◌>>=◌, Read, is_at, front, rest_of, fault, unexpected, expect, slot_at, start, marked, comparison_of, comparison_at, joint_of, joint_at, closed_by, compare_by, joined_by, join_by, not_by, cond_by, nowhere, expr_at, cond_at, target_by, target_at, set_by, else_by, branches_by, if_by, stmts_by, block_by, stmt_by, stmt_at}
 use Rattle.sv_text.specs.Grammar.{Place, Form, IsMark, IsNode, IsRef, comparison_mark, joint_mark, IsTest, IsJoined, IsNot, IsExpr, IsCond, AreAll, IsBlock, IsSet, MayBeElse, IsIf, IsStmt}
 use Rattle.sv_text.proofs.Found.{bind_ok, chosen, ok_is, no_err, some_is, is_at_is, expect_is, part_is, marked_is, slot_at_is, node_is, Finds, nowhere_finds, closed_found, expr_found}

@@ -1,15 +1,14 @@
 //! Conditions. Depth is how deep a node may go that starts here.
 
 ghost use Rattle.std.specs.Prelude.{◌≡◌, ◌≤◌, length, OnOk};
-ghost use Rattle.sv_flat.specs.Spelled.{cond_spelled};
+ghost use Rattle.sv_world.specs.Spelled.{cond_spelled};
 ghost use Rattle.sv_text.specs.Reading.{Gives, comparison_of, comparison_at, joint_of, joint_at, compare_by, join_by, not_by, expr_at, cond_at, appended};
 
 use crate::cursor::Cursor;
 use crate::expression::{Parser, expr_at, start};
 use crate::token::Mark;
 use crate::{ParseFault, TextFault};
-use sv_flat::{Comparison, Connective, Node};
-use sv_world::ObjectId;
+use sv_world::{Comparison, Connective, Node, ObjectId};
 
 fn comparison_of(mark: Mark) -> Option<Comparison>
     ensures { result ≡ comparison_of mark }

@@ -1,15 +1,14 @@
 //! Expressions. Depth is how deep a node may go that starts here.
 
 ghost use Rattle.std.specs.Prelude.{◌≡◌, ◌≤◌, ◌<◌, [], ◌∷◌, length, IfOk, OnOk};
-ghost use Rattle.sv_flat.specs.Spelled.{expr_spelled};
+ghost use Rattle.sv_world.specs.Spelled.{expr_spelled};
 ghost use Rattle.sv_text.specs.Reading.{Gives, seen, start, op_of, op_at, leaf_at, pair_by, expr_at, appended};
 
 use crate::cursor::Cursor;
 use crate::header::slot_at;
 use crate::token::{Mark, Token};
 use crate::{ParseFault, TextCause, TextFault};
-use sv_flat::{Node, Operator};
-use sv_world::ObjectId;
+use sv_world::{Node, ObjectId, Operator};
 
 /// A body that is being read.
 #[derive(Drop)]

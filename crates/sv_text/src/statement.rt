@@ -1,7 +1,7 @@
 //! Statements and blocks of them. Depth is how deep a node may go that starts here.
 
 ghost use Rattle.std.specs.Prelude.{◌≡◌, ◌≤◌, ◌<◌, length, OnOk};
-ghost use Rattle.sv_flat.specs.Spelled.{stmt_spelled, body_spelled};
+ghost use Rattle.sv_world.specs.Spelled.{stmt_spelled, body_spelled};
 ghost use Rattle.sv_text.specs.Reading.{Gives, target_at, set_by, else_by, if_by, block_by, expr_at, cond_at, stmt_at, appended};
 
 use crate::condition::cond_at;
@@ -10,8 +10,7 @@ use crate::expression::{Parser, expr_at, start};
 use crate::header::slot_at;
 use crate::token::{Mark, Token};
 use crate::{ParseFault, TextCause, TextFault};
-use sv_flat::Node;
-use sv_world::ObjectId;
+use sv_world::{Node, ObjectId};
 
 /// The slot and attribute of the ref behind `set`, which is no node.
 #[tactic(auto, using(crate::proofs::Next::target_at_is))]

@@ -20,18 +20,18 @@ use Rattle.sv_world.specs.declared.action.Stmt.TheVariants as stmt
 use Rattle.sv_world.specs.declared.action.Stmt.TheOpen.{Stmt-F}
 use Rattle.sv_world.specs.declared.action.Stmt.TheViews.{roll-Stmt}
 use Rattle.sv_world.specs.declared.action.Stmt.TheFolds.{ind-Stmt}
-use Rattle.sv_flat.specs.declared.node.Operator.{Operator}
-use Rattle.sv_flat.specs.declared.node.Operator.TheVariants.{Add, Sub, Mul, Div, Rem, Min, Max}
+use Rattle.sv_world.specs.declared.node.Operator.{Operator}
+use Rattle.sv_world.specs.declared.node.Operator.TheVariants.{Add, Sub, Mul, Div, Rem, Min, Max}
 use Rattle.sv_wire.specs.declared.nodes.ExprKind.TheVariants as expr_kind
-use Rattle.sv_flat.specs.declared.node.Comparison.{Comparison}
-use Rattle.sv_flat.specs.declared.node.Comparison.TheVariants.{Eq, Lt, Le}
-use Rattle.sv_flat.specs.declared.node.Connective.{Connective}
-use Rattle.sv_flat.specs.declared.node.Connective.TheVariants.{And, Or}
+use Rattle.sv_world.specs.declared.node.Comparison.{Comparison}
+use Rattle.sv_world.specs.declared.node.Comparison.TheVariants.{Eq, Lt, Le}
+use Rattle.sv_world.specs.declared.node.Connective.{Connective}
+use Rattle.sv_world.specs.declared.node.Connective.TheVariants.{And, Or}
 use Rattle.sv_wire.specs.declared.nodes.CondKind.TheVariants as cond_kind
 use Rattle.sv_wire.specs.declared.nodes.StmtKind.TheVariants as stmt_kind
 use Rattle.sv_wire.specs.Steps.{Turn, in_turn}
 use Rattle.sv_wire.specs.Fields.{byte_at}
-use Rattle.sv_flat.specs.Parts.{binary_by as expr_by, compare_by, join_by}
+use Rattle.sv_world.specs.Parts.{binary_by as expr_by, compare_by, join_by}
 use Rattle.sv_wire.specs.Nodes.{room_at, node_at, expr_kind_of, cond_kind_of, stmt_kind_of}
 use Rattle.sv_wire.specs.Trees.{lit_at, attr_at, pair_at, expr_step, expr_at, compare_at, join_at, not_at, cond_step, cond_at, set_at, list_by, other_at, lists_at, if_at, stmt_step, stmt_at, body_at}
 use Rattle.sv_wire.specs.Spelling.{operator_byte, comparison_byte, connective_byte, int_bytes, expr_bytes, cond_bytes, counted, stmt_bytes, body_bytes}

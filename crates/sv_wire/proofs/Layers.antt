@@ -10,16 +10,16 @@ use Rattle.sv_world.specs.declared.action.Cond.TheVariants as test
 use Rattle.sv_world.specs.declared.action.Cond.TheOpen.{Cond-F}
 use Rattle.sv_world.specs.declared.action.Stmt.{Stmt}
 use Rattle.sv_world.specs.declared.action.Stmt.TheVariants as stmt
-use Rattle.sv_flat.specs.declared.node.Operator.{Operator}
-use Rattle.sv_flat.specs.declared.node.Operator.TheVariants.{Add, Sub, Mul, Div, Rem, Min, Max}
+use Rattle.sv_world.specs.declared.node.Operator.{Operator}
+use Rattle.sv_world.specs.declared.node.Operator.TheVariants.{Add, Sub, Mul, Div, Rem, Min, Max}
 use Rattle.sv_wire.specs.declared.nodes.ExprKind.TheVariants as expr_kind
-use Rattle.sv_flat.specs.declared.node.Comparison.{Comparison}
-use Rattle.sv_flat.specs.declared.node.Comparison.TheVariants.{Eq, Lt, Le}
-use Rattle.sv_flat.specs.declared.node.Connective.{Connective}
-use Rattle.sv_flat.specs.declared.node.Connective.TheVariants.{And, Or}
+use Rattle.sv_world.specs.declared.node.Comparison.{Comparison}
+use Rattle.sv_world.specs.declared.node.Comparison.TheVariants.{Eq, Lt, Le}
+use Rattle.sv_world.specs.declared.node.Connective.{Connective}
+use Rattle.sv_world.specs.declared.node.Connective.TheVariants.{And, Or}
 use Rattle.sv_wire.specs.declared.nodes.CondKind.TheVariants as cond_kind
-use Rattle.sv_flat.specs.Parts.{binary_by as expr_by, compare_by, join_by}
-use Rattle.sv_flat.proofs.Layers.{binary_layer, compare_layer, join_layer, lit_fold, attr_fold, binary_fold, compare_fold, join_fold, not_fold, set_fold, if_fold}
+use Rattle.sv_world.specs.Parts.{binary_by as expr_by, compare_by, join_by}
+use Rattle.sv_world.proofs.Layers.{binary_layer, compare_layer, join_layer, lit_fold, attr_fold, binary_fold, compare_fold, join_fold, not_fold, set_fold, if_fold}
 use Rattle.sv_wire.specs.Nodes.{expr_kind_of, cond_kind_of}
 use Rattle.sv_wire.specs.Spelling.{operator_byte, comparison_byte, connective_byte, int_bytes, expr_bytes_step, expr_bytes, cond_bytes_step, cond_bytes, counted, stmt_bytes_step, stmt_bytes}
 use Rattle.sv_wire.specs.Ranges.{is_i64, is_byte, expr_fits_step, expr_fits, cond_fits_step, cond_fits, stmt_fits_step, stmt_fits}

@@ -19,17 +19,17 @@ use Rattle.sv_world.specs.declared.action.Stmt.TheVariants as stmt
 use Rattle.sv_world.specs.declared.action.Stmt.TheOpen.{Stmt-F}
 use Rattle.sv_world.specs.declared.action.Stmt.TheViews.{roll-Stmt}
 use Rattle.sv_world.specs.declared.action.Stmt.TheFolds.{ind-Stmt}
-use Rattle.sv_flat.specs.declared.node.Node.{Node}
-use Rattle.sv_flat.specs.declared.node.Node.TheVariants as node
-use Rattle.sv_flat.specs.declared.node.Operator.{Operator}
-use Rattle.sv_flat.specs.declared.node.Operator.TheVariants.{Add, Sub, Mul, Div, Rem, Min, Max}
-use Rattle.sv_flat.specs.declared.node.Comparison.{Comparison}
-use Rattle.sv_flat.specs.declared.node.Comparison.TheVariants.{Eq, Lt, Le}
-use Rattle.sv_flat.specs.declared.node.Connective.{Connective}
-use Rattle.sv_flat.specs.declared.node.Connective.TheVariants.{And, Or}
-use Rattle.sv_flat.specs.Parts.{binary_by, compare_by, join_by}
-use Rattle.sv_flat.specs.Spelled.{expr_spelled, cond_spelled, stmt_spelled, run_spelled, body_spelled}
-use Rattle.sv_flat.proofs.Layers.{lit_spelled, attr_spelled, binary_spelled, compare_spelled, join_spelled, not_spelled, set_spelled, if_spelled}
+use Rattle.sv_world.specs.declared.node.Node.{Node}
+use Rattle.sv_world.specs.declared.node.Node.TheVariants as node
+use Rattle.sv_world.specs.declared.node.Operator.{Operator}
+use Rattle.sv_world.specs.declared.node.Operator.TheVariants.{Add, Sub, Mul, Div, Rem, Min, Max}
+use Rattle.sv_world.specs.declared.node.Comparison.{Comparison}
+use Rattle.sv_world.specs.declared.node.Comparison.TheVariants.{Eq, Lt, Le}
+use Rattle.sv_world.specs.declared.node.Connective.{Connective}
+use Rattle.sv_world.specs.declared.node.Connective.TheVariants.{And, Or}
+use Rattle.sv_world.specs.Parts.{binary_by, compare_by, join_by}
+use Rattle.sv_world.specs.Spelled.{expr_spelled, cond_spelled, stmt_spelled, run_spelled, body_spelled}
+use Rattle.sv_world.proofs.Layers.{lit_spelled, attr_spelled, binary_spelled, compare_spelled, join_spelled, not_spelled, set_spelled, if_spelled}
 use Rattle.sv_wire.specs.Spelling.{expr_bytes, cond_bytes, stmt_bytes, body_bytes, node_bytes}
 use Rattle.sv_wire.proofs.Append.{body_is}
 use Rattle.sv_wire.proofs.Layers.{lit_bytes, attr_bytes, bytes_by, compare_bytes, join_bytes, not_bytes, set_bytes, if_bytes}

@@ -2,11 +2,11 @@
 use Rattle.std.specs.Prelude.{ℕ, List, [], ◌∷◌, Result, Ok, Option, Some, None, ◌==◌, nat_lt, if◌then◌else◌}
 use Rattle.sv_wire.specs.declared.fault.Stop.{Stop}
 use Rattle.sv_wire.specs.declared.fault.WireCause.TheVariants.{Kind, Large, Deep}
-use Rattle.sv_flat.specs.declared.node.Operator.TheVariants.{Add, Sub, Mul, Div, Rem, Min, Max}
+use Rattle.sv_world.specs.declared.node.Operator.TheVariants.{Add, Sub, Mul, Div, Rem, Min, Max}
 use Rattle.sv_wire.specs.declared.nodes.ExprKind.{ExprKind}
 use Rattle.sv_wire.specs.declared.nodes.ExprKind.TheVariants as expr_kind
-use Rattle.sv_flat.specs.declared.node.Comparison.TheVariants.{Eq, Lt, Le}
-use Rattle.sv_flat.specs.declared.node.Connective.TheVariants.{And, Or}
+use Rattle.sv_world.specs.declared.node.Comparison.TheVariants.{Eq, Lt, Le}
+use Rattle.sv_world.specs.declared.node.Connective.TheVariants.{And, Or}
 use Rattle.sv_wire.specs.declared.nodes.CondKind.{CondKind}
 use Rattle.sv_wire.specs.declared.nodes.CondKind.TheVariants as cond_kind
 use Rattle.sv_wire.specs.declared.nodes.StmtKind.{StmtKind}

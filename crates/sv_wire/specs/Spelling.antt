@@ -15,14 +15,14 @@ use Rattle.sv_world.specs.declared.action.Stmt.{Stmt}
 use Rattle.sv_world.specs.declared.action.Stmt.TheOpen.{Stmt-F}
 use Rattle.sv_world.specs.declared.action.Stmt.TheFolds.{fold-Stmt}
 use Rattle.sv_world.specs.declared.world.ObjectId.{ObjectId}
-use Rattle.sv_flat.specs.declared.node.Node.{Node}
-use Rattle.sv_flat.specs.declared.node.Node.TheVariants as node
-use Rattle.sv_flat.specs.declared.node.Operator.{Operator}
-use Rattle.sv_flat.specs.declared.node.Operator.TheVariants.{Add, Sub, Mul, Div, Rem, Min, Max}
-use Rattle.sv_flat.specs.declared.node.Comparison.{Comparison}
-use Rattle.sv_flat.specs.declared.node.Comparison.TheVariants.{Eq, Lt, Le}
-use Rattle.sv_flat.specs.declared.node.Connective.{Connective}
-use Rattle.sv_flat.specs.declared.node.Connective.TheVariants.{And, Or}
+use Rattle.sv_world.specs.declared.node.Node.{Node}
+use Rattle.sv_world.specs.declared.node.Node.TheVariants as node
+use Rattle.sv_world.specs.declared.node.Operator.{Operator}
+use Rattle.sv_world.specs.declared.node.Operator.TheVariants.{Add, Sub, Mul, Div, Rem, Min, Max}
+use Rattle.sv_world.specs.declared.node.Comparison.{Comparison}
+use Rattle.sv_world.specs.declared.node.Comparison.TheVariants.{Eq, Lt, Le}
+use Rattle.sv_world.specs.declared.node.Connective.{Connective}
+use Rattle.sv_world.specs.declared.node.Connective.TheVariants.{And, Or}
 use Rattle.sv_wire.specs.declared.message.Held.{Held}
 use Rattle.sv_wire.specs.declared.message.Done1.{Done1}
 use Rattle.sv_wire.specs.declared.message.Item.{Item}

@@ -1,13 +1,13 @@
 //! Reading conditions. The depth is the number of levels that are left, and nodes the number of nodes so far. What is read is appended.
 ghost use Rattle.std.specs.Prelude.{◌≡◌, ◌≤◌, IfOk};
-ghost use Rattle.sv_flat.specs.Spelled.{cond_spelled};
+ghost use Rattle.sv_world.specs.Spelled.{cond_spelled};
 ghost use Rattle.sv_wire.specs.Steps.{Gives};
 ghost use Rattle.sv_wire.specs.Trees.{appended, expr_at, compare_at, join_at, not_at, cond_at};
 
 use crate::exprs::expr_next;
 use crate::fault::ReadFault;
 use crate::nodes::{CondKind, cond_node};
-use sv_flat::{Comparison, Connective, Node};
+use sv_world::{Comparison, Connective, Node};
 
 #[tactic(auto, using(crate::proofs::Flat::compare_appended))]
 fn compare_next<'a>(

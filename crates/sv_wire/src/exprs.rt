@@ -1,13 +1,13 @@
 //! Reading expressions. The depth is the number of levels that are left, and nodes the number of nodes so far. What is read is appended.
 ghost use Rattle.std.specs.Prelude.{◌≡◌, ◌≤◌, IfOk};
-ghost use Rattle.sv_flat.specs.Spelled.{expr_spelled};
+ghost use Rattle.sv_world.specs.Spelled.{expr_spelled};
 ghost use Rattle.sv_wire.specs.Steps.{Gives};
 ghost use Rattle.sv_wire.specs.Trees.{appended, lit_at, attr_at, pair_at, expr_at};
 
 use crate::fault::ReadFault;
 use crate::fields::{byte_of, i64_of};
 use crate::nodes::{ExprKind, expr_node};
-use sv_flat::{Node, Operator};
+use sv_world::{Node, Operator};
 
 #[tactic(auto, using(crate::proofs::Flat::lit_appended))]
 fn lit_next<'a>(

@@ -5,7 +5,7 @@ ghost use Rattle.sv_wire.specs.Nodes.{room_at, node_at, expr_kind_of, cond_kind_
 
 use crate::fault::{ReadFault, WireCause, stop_at};
 use crate::fields::byte_of;
-use sv_flat::{Comparison, Connective, Operator};
+use sv_world::{Comparison, Connective, Operator};
 
 #[derive(Clone, Copy)]
 pub enum ExprKind {

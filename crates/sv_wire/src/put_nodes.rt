@@ -2,12 +2,12 @@
 ghost use Rattle.std.specs.Prelude.{◌≡◌, ◌++◌, ◌∷◌, List, OnOk};
 ghost use Rattle.std.specs.List.{flat_map};
 ghost use Rattle.sv_wire.specs.Spelling.{operator_byte, comparison_byte, connective_byte, node_bytes, body_bytes};
-ghost use Rattle.sv_flat.specs.Spelled.{body_spelled};
+ghost use Rattle.sv_world.specs.Spelled.{body_spelled};
 ghost use Rattle.sv_world.specs.declared.action.Stmt.{Stmt};
 
 use crate::put::put_i64;
 use std::alloc::AllocError;
-use sv_flat::{Comparison, Connective, Node, Operator};
+use sv_world::{Comparison, Connective, Node, Operator};
 
 fn operator_byte(operator: Operator) -> u8
     ensures { result ≡ operator_byte operator }

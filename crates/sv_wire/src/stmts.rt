@@ -1,6 +1,6 @@
 //! Reading statements. The depth is the number of levels that are left, and nodes the number of nodes so far. What is read is appended.
 ghost use Rattle.std.specs.Prelude.{◌≡◌, ◌≤◌, IfOk};
-ghost use Rattle.sv_flat.specs.Spelled.{stmt_spelled, run_spelled, body_spelled};
+ghost use Rattle.sv_world.specs.Spelled.{stmt_spelled, run_spelled, body_spelled};
 ghost use Rattle.sv_wire.specs.Steps.{Gives, in_turn};
 ghost use Rattle.sv_wire.specs.Trees.{appended, expr_at, cond_at, set_at, list_by, if_at, stmt_at, body_at};
 
@@ -10,8 +10,7 @@ use crate::fault::ReadFault;
 use crate::fields::byte_of;
 use crate::nodes::{StmtKind, stmt_node};
 use std::alloc::Global;
-use sv_flat::Node;
-use sv_world::{Shared, Stmt};
+use sv_world::{Node, Shared, Stmt};
 
 #[tactic(auto, using(crate::proofs::Flat::set_appended))]
 fn set_next<'a>(

@@ -1,6 +1,6 @@
 use Rattle.std.proofs.Common.{◌≡◌, length, refl, sym, subst, ◌∙◌, List, arith}
 use Rattle.std.proofs.lemmas.Result.{err_from_is_err_and}
-use Rattle.sv_flat.specs.declared.node.Node.{Node}
+use Rattle.sv_world.specs.declared.node.Node.{Node}
 use Rattle.sv_text.specs.Reading.{Read, Fails, stmt_at}
 use Rattle.sv_text.proofs.Flat.{block_goes_on, run_ends, run_goes_on, run_fails, run_is_full}
 use Rattle.sv_text.proofs.statement.+statement.Goals as goal

@@ -1,5 +1,5 @@
 use Rattle.std.proofs.lemmas.Result.{err_from_is_err_and}
-use Rattle.sv_flat.specs.Spelled.{expr_spelled}
+use Rattle.sv_world.specs.Spelled.{expr_spelled}
 use Rattle.sv_wire.specs.Trees.{expr_at}
 use Rattle.sv_wire.proofs.Flat.{appended_fails}
 use Rattle.sv_wire.proofs.Trees.{expr_fails}

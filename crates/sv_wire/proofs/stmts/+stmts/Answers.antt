@@ -1,5 +1,5 @@
 use Rattle.std.proofs.lemmas.Result.{err_from_is_err_and}
-use Rattle.sv_flat.specs.Spelled.{stmt_spelled, run_spelled}
+use Rattle.sv_world.specs.Spelled.{stmt_spelled, run_spelled}
 use Rattle.sv_wire.specs.Steps.{in_turn}
 use Rattle.sv_wire.specs.Trees.{appended, stmt_at}
 use Rattle.sv_wire.proofs.Flat.{appended_fails, run_goes_on, run_ends, run_is_done}

@@ -1,5 +1,5 @@
 use Rattle.std.proofs.Common.{◌≡◌, ◌≤◌, ◌+◌, ◌-◌, ◌*◌}
-use Rattle.sv_flat.specs.Spelled.{run_spelled}
+use Rattle.sv_world.specs.Spelled.{run_spelled}
 use Rattle.sv_wire.specs.Steps.{in_turn}
 use Rattle.sv_wire.specs.Trees.{appended, stmt_at}
 use Rattle.sv_wire.proofs.stmts.+stmts.Given as goal
