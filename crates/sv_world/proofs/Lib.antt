@@ -2,8 +2,10 @@ pub mod Ascending
 pub mod Bases
 pub mod Good
 pub mod Influences
+pub mod Layers
 pub mod Masks
 pub mod Members
 pub mod Needs
+pub mod Spells
 pub mod Sweeps
 pub mod Writers

@@ -10,8 +10,10 @@ mod laws;
 mod list;
 mod measure;
 mod names;
+mod node;
 mod shared;
 mod short;
+mod spelling;
 mod text;
 mod world;
 
@@ -26,7 +28,9 @@ pub use laws::{
 };
 pub use list::List;
 pub use names::is_in_mask;
+pub use node::{Comparison, Connective, Node, Operator};
 pub use shared::Shared;
 pub use short::Short;
+pub use spelling::bodies_are_spelled;
 pub use text::Text;
 pub use world::{ClientId, ObjectId, Reads, Shape, Value, World};
