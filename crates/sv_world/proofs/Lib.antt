@@ -1,4 +1,5 @@
 pub mod Ascending
+pub mod Back
 pub mod Bases
 pub mod Good
 pub mod Influences
