@@ -1,6 +1,6 @@
 -- The way back: nodes that spell good parts are the nodes of these parts, one after the other.
-use Rattle.std.proofs.Common.{◌≡◌, ℕ, zero, suc, ◌+◌, Bool, true, false, List, [], ◌∷◌, ◌++◌, length, take, drop, nat_eq, refl, sym, ap, ◌∙◌, subst, append_assoc, arith, eqb-true, eq-eqb}
-use Rattle.std.proofs.Math.Seq.{drop-append_seam}
+use Rattle.std.proofs.Common.{◌≡◌, ℕ, zero, suc, ◌+◌, ◌-◌, ◌≤◌, ℤ, pos, Bool, true, false, List, [], ◌∷◌, ◌++◌, length, take, drop, get_or, nat_eq, refl, sym, ap, ◌∙◌, subst, append_assoc, arith, length-append, length-drop, eqb-true, eq-eqb}
+use Rattle.std.proofs.Math.Seq.{drop-append_seam, take-length}
 use Rattle.std.proofs.lemmas.List.{drop-drop, drop-take, append-nil}
 use Rattle.sv_world.specs.declared.action.Expr.{Expr}
 use Rattle.sv_world.specs.declared.action.Cond.{Cond}
@@ -262,7 +262,6 @@ body_back ns xs e =
     let none : f.behind ≡ [] = no_nodes f.behind (f.parts_are ∙ ap (drop 1) e) in
     f.nodes ∙ ap (λ (ms : List Node). all_spelled (take 1 (parts ns)) ++ ms) none ∙ append-nil (all_spelled (take 1 (parts ns))) ∙ ap all_spelled one ∙ append-nil (body_spelled xs)
 
--- A block is passed over by its size.
 good_of_block : (p : Part) → is_block p ≡ true → IsGoodPart p
 good_of_block (Block xs) e = tt
 good_of_block p e = absurd (cc)
@@ -270,19 +269,58 @@ good_of_block p e = absurd (cc)
 taken_all : (k : ℕ) (ps : List Part) → drop k (take k ps) ≡ []
 taken_all k ps = let e : k ≡ k + 0 = omega arith in ap (λ (n : ℕ). drop k (take n ps)) e ∙ drop-take k 0 ps
 
-pub passed : (count size : ℕ) (ns : List Node) → is_block (sized size (block count (parts ns))) ≡ true → parts (drop size ns) ≡ drop count (parts ns)
-passed count size ns e =
+-- What stands behind the statements of a block of this size.
+record IsPassed (count size : ℕ) (ns : List Node) : Type 0 where
+  behind : List Node
+  run : List Node
+  whole : ns ≡ run ++ behind
+  right : size ≡ length run
+  parts_are : parts behind ≡ drop count (parts ns)
+
+pass : (count size : ℕ) (ns : List Node) → is_block (sized size (block count (parts ns))) ≡ true → IsPassed count size ns
+pass count size ns e =
     let s = sized_good size (block count (parts ns)) (good_of_block (sized size (block count (parts ns))) e) in
-    let qs = take count (parts ns) in
     let e0 : count + 0 ≡ count = omega arith in
     let cut : block count (take count (parts ns)) ≡ Block s.statements =
-        ap (λ (n : ℕ). block count (take n (parts ns))) (sym e0) ∙ block_same count 0 (parts ns) ∙ s.is in
+    ap (λ (n : ℕ). block count (take n (parts ns))) (sym e0) ∙ block_same count 0 (parts ns) ∙ s.is in
     let none : drop count (take count (parts ns)) ≡ [] = taken_all count (parts ns) in
     let t = taken count (take count (parts ns)) s.statements cut (subst AreGood (sym none) tt) in
     let f = front count ns t.good in
     let run : all_spelled (take count (parts ns)) ≡ run_spelled s.statements =
-        sym t.nodes ∙ ap (λ (ps : List Part). run_spelled s.statements ++ all_spelled ps) none ∙ append-nil (run_spelled s.statements) in
-    let whole : ns ≡ run_spelled s.statements ++ f.behind = f.nodes ∙ ap (λ (ms : List Node). ms ++ f.behind) run in
-    let rest : drop size ns ≡ f.behind =
-        ap (λ (n : ℕ). drop n ns) s.right ∙ ap (drop (length (run_spelled s.statements))) whole ∙ drop-append_seam (run_spelled s.statements) f.behind in
-    ap parts rest ∙ f.parts_are
+    sym t.nodes ∙ ap (λ (ps : List Part). run_spelled s.statements ++ all_spelled ps) none ∙ append-nil (run_spelled s.statements) in
+    record {
+      behind = f.behind;
+      run = run_spelled s.statements;
+      whole = f.nodes ∙ ap (λ (ms : List Node). ms ++ f.behind) run;
+      right = s.right;
+      parts_are = f.parts_are;
+    }
+
+passed_by : (count size : ℕ) (ns : List Node) → IsPassed count size ns → (size ≤ length ns) × (parts (drop size ns) ≡ drop count (parts ns))
+passed_by count size ns p =
+    let long : length ns ≡ length (p.run ++ p.behind) = ap length p.whole in
+    let rest : drop size ns ≡ p.behind =
+    ap (λ (n : ℕ). drop n ns) p.right ∙ ap (drop (length p.run)) p.whole ∙ drop-append_seam p.run p.behind in
+    (omega (arith, long, length-append p.run p.behind, p.right), ap parts rest ∙ p.parts_are)
+
+abbrev no_node : Node
+no_node = node.Lit (pos 0)
+
+-- A block is passed over by its size.
+passed : (nodes : List Node) (count size : ℕ) → get_or nodes 0 no_node ≡ node.Block count size → is_block (first (parts nodes)) ≡ true
+    → (size + 1 ≤ length nodes) × (parts (drop (size + 1) nodes) ≡ drop 1 (parts nodes))
+passed [] count size is e = absurd (cc)
+passed (n ∷ ns) count size is e =
+    let p = passed_by count size ns (pass count size ns (subst (λ (m : Node). is_block (part_of m (parts ns)) ≡ true) is e)) in
+    let within : size ≤ length ns = p.0 in
+    let next : size + 1 ≡ suc size = omega arith in
+    (omega arith, ap (λ (k : ℕ). parts (drop k (n ∷ ns))) next ∙ p.1 ∙ sym (ap (λ (m : Node). drop (arity m) (parts ns)) is))
+
+pub skip_within : (nodes : List Node) (count size : ℕ) → get_or nodes 0 no_node ≡ node.Block count size → is_block (first (parts nodes)) ≡ true → size + 1 ≤ length nodes
+skip_within nodes count size is e = (passed nodes count size is e).0
+
+pub skip_parts : (nodes : List Node) (count size : ℕ) → get_or nodes 0 no_node ≡ node.Block count size → is_block (first (parts nodes)) ≡ true
+    → parts (take (length nodes - (size + 1)) (drop (size + 1) nodes)) ≡ drop 1 (parts nodes)
+skip_parts nodes count size is e =
+    let cut : length nodes - (size + 1) ≡ length (drop (size + 1) nodes) = sym (length-drop (size + 1) nodes) in
+    ap (λ (k : ℕ). parts (take k (drop (size + 1) nodes))) cut ∙ ap parts (take-length (drop (size + 1) nodes)) ∙ (passed nodes count size is e).1

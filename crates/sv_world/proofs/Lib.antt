@@ -7,6 +7,8 @@ pub mod Layers
 pub mod Masks
 pub mod Members
 pub mod Needs
+pub mod Places
+pub mod Sorted
 pub mod Spells
 pub mod Sweeps
 pub mod Writers

@@ -1,5 +1,6 @@
 -- The nodes that spell a tree spell that tree, whatever stands behind them.
 use Rattle.std.proofs.Common.{◌≡◌, ℕ, zero, suc, true, List, [], ◌∷◌, ◌++◌, length, map, drop, nat_eq, refl, sym, ap, ◌∙◌, subst, append_assoc, eq-eqb}
+use Rattle.std.proofs.lemmas.List.{append-nil}
 use Rattle.std.specs.List.{flat_map}
 use Rattle.sv_world.specs.declared.action.Expr.{Expr, map-Expr}
 use Rattle.sv_world.specs.declared.action.Expr.TheVariants as expr
@@ -24,7 +25,7 @@ use Rattle.sv_world.specs.declared.node.Comparison.{Comparison}
 use Rattle.sv_world.specs.declared.node.Comparison.TheVariants.{Eq, Lt, Le}
 use Rattle.sv_world.specs.declared.node.Connective.{Connective}
 use Rattle.sv_world.specs.declared.node.Connective.TheVariants.{And, Or}
-use Rattle.sv_world.specs.Parts.{binary_by, compare_by, join_by, Part, Expression, Condition, Statement, Block, first, second, third, binary, comparison, joining, negated, setting, choice, with_statement, block, kept, sized, parts}
+use Rattle.sv_world.specs.Parts.{binary_by, compare_by, join_by, Part, Expression, Condition, Statement, Block, first, second, third, binary, comparison, joining, negated, setting, choice, with_statement, block, kept, sized, parts, block_in, IsBody}
 use Rattle.sv_world.specs.Spelled.{expr_spelled, cond_spelled, stmt_spelled, run_spelled, body_spelled}
 use Rattle.sv_world.proofs.Layers.{lit_spelled, attr_spelled, binary_spelled, compare_spelled, join_spelled, not_spelled, set_spelled, if_spelled}
 
@@ -132,7 +133,7 @@ record IsRun (xs : List Stmt) (ns : List Node) : Type 0 where
 run_more : (s : Stmt) (xs : List Stmt) → StmtSpells s → (ns : List Node) → IsRun xs ns → IsRun (s ∷ xs) ns
 run_more s xs one ns run =
     let front : parts ((stmt_spelled s ++ run_spelled xs) ++ ns) ≡ Statement s ∷ parts (run_spelled xs ++ ns) =
-        ap parts (append_assoc (stmt_spelled s) (run_spelled xs) ns) ∙ one (run_spelled xs ++ ns) in
+    ap parts (append_assoc (stmt_spelled s) (run_spelled xs) ns) ∙ one (run_spelled xs ++ ns) in
     record {
       makes = ap (λ (ps : List Part). block (suc (length xs)) ps) front ∙ ap (λ (p : Part). with_statement (Statement s) p) run.makes;
       behind = ap (λ (ps : List Part). drop (suc (length xs)) ps) front ∙ run.behind;
@@ -166,3 +167,12 @@ block_spells xs ns = (run_spells xs ns).makes
 
 pub body_spells : (xs : List Stmt) (ns : List Node) → parts (body_spelled xs ++ ns) ≡ Block xs ∷ parts ns
 body_spells xs ns = body_by xs ns (run_spells xs ns)
+
+alone : (xs : List Stmt) → parts (body_spelled xs) ≡ Block xs ∷ []
+alone xs = ap parts (sym (append-nil (body_spelled xs))) ∙ body_spells xs []
+
+pub body_view : (ns : List Node) (xs : List Stmt) → ns ≡ body_spelled xs → block_in (first (parts ns)) ≡ xs
+body_view ns xs e = ap (λ (ms : List Node). block_in (first (parts ms))) e ∙ ap (λ (ps : List Part). block_in (first ps)) (alone xs)
+
+pub body_is : (ns : List Node) (xs : List Stmt) → ns ≡ body_spelled xs → IsBody ns
+body_is ns xs e = ap parts e ∙ alone xs ∙ ap (λ (ys : List Stmt). Block ys ∷ []) (sym (body_view ns xs e))
