@@ -1,9 +1,14 @@
 pub mod Ascending
+pub mod Back
 pub mod Bases
 pub mod Good
 pub mod Influences
+pub mod Layers
 pub mod Masks
 pub mod Members
 pub mod Needs
+pub mod Places
+pub mod Sorted
+pub mod Spells
 pub mod Sweeps
 pub mod Writers

@@ -1,0 +1,139 @@
+-- What is known of nodes that begin with a part of some kind.
+use Rattle.std.proofs.Common.{◌≡◌, ℕ, ◌≤◌, Bool, true, false, List, [], ◌∷◌, length, nat_eq, refl, arith}
+use Rattle.sv_world.specs.declared.action.Stmt.{Stmt}
+use Rattle.sv_world.specs.declared.node.Node.{Node}
+use Rattle.sv_world.specs.declared.node.Operator.{Operator}
+use Rattle.sv_world.specs.declared.node.Comparison.{Comparison}
+use Rattle.sv_world.specs.declared.node.Connective.{Connective}
+use Rattle.sv_world.specs.Parts.{Part, Expression, Condition, Statement, Block, Bad, first, binary, comparison, joining, negated, setting, choice, kept, sized, parts, is_expr, is_cond, is_stmt, is_block}
+use Rattle.sv_world.specs.Spelled.{run_spelled}
+
+pub expr_there : (ns : List Node) → is_expr (first (parts ns)) ≡ true → 1 ≤ length ns
+expr_there [] e = cc
+expr_there (n ∷ ns) e = omega arith
+
+pub cond_there : (ns : List Node) → is_cond (first (parts ns)) ≡ true → 1 ≤ length ns
+cond_there [] e = cc
+cond_there (n ∷ ns) e = omega arith
+
+pub stmt_there : (ns : List Node) → is_stmt (first (parts ns)) ≡ true → 1 ≤ length ns
+stmt_there [] e = cc
+stmt_there (n ∷ ns) e = omega arith
+
+pub block_there : (ns : List Node) → is_block (first (parts ns)) ≡ true → 1 ≤ length ns
+block_there [] e = cc
+block_there (n ∷ ns) e = omega arith
+
+-- A block keeps its statements under its size.
+kept_block : (b : Bool) (xs : List Stmt) → is_block (kept b xs) ≡ true → kept b xs ≡ Block xs
+kept_block true xs e = refl
+kept_block false xs e = cc
+
+pub sized_block : (size : ℕ) (p : Part) → is_block (sized size p) ≡ true → sized size p ≡ p
+sized_block size (Block xs) e = kept_block (nat_eq size (length (run_spelled xs))) xs e
+sized_block size p e = cc
+
+-- What a node makes has the node's kind, or none.
+pub kept_no_expr : (b : Bool) (xs : List Stmt) → is_expr (kept b xs) ≡ false
+kept_no_expr true xs = refl
+kept_no_expr false xs = refl
+
+pub kept_no_cond : (b : Bool) (xs : List Stmt) → is_cond (kept b xs) ≡ false
+kept_no_cond true xs = refl
+kept_no_cond false xs = refl
+
+pub kept_no_stmt : (b : Bool) (xs : List Stmt) → is_stmt (kept b xs) ≡ false
+kept_no_stmt true xs = refl
+kept_no_stmt false xs = refl
+
+pub comparison_no_expr : (o : Comparison) (p q : Part) → is_expr (comparison o p q) ≡ false
+comparison_no_expr o (Expression a) (Expression b) = refl
+comparison_no_expr o p q = refl
+
+pub joining_no_expr : (o : Connective) (p q : Part) → is_expr (joining o p q) ≡ false
+joining_no_expr o (Condition a) (Condition b) = refl
+joining_no_expr o p q = refl
+
+pub negated_no_expr : (p : Part) → is_expr (negated p) ≡ false
+negated_no_expr (Condition a) = refl
+negated_no_expr p = refl
+
+pub setting_no_expr : (slot attr : ℕ) (p : Part) → is_expr (setting slot attr p) ≡ false
+setting_no_expr slot attr (Expression a) = refl
+setting_no_expr slot attr p = refl
+
+pub choice_no_expr : (p q r : Part) → is_expr (choice p q r) ≡ false
+choice_no_expr (Condition c) (Block xs) (Block ys) = refl
+choice_no_expr p q r = refl
+
+pub sized_no_expr : (size : ℕ) (p : Part) → is_expr (sized size p) ≡ false
+sized_no_expr size (Block xs) = kept_no_expr (nat_eq size (length (run_spelled xs))) xs
+sized_no_expr size p = refl
+
+pub binary_no_cond : (o : Operator) (p q : Part) → is_cond (binary o p q) ≡ false
+binary_no_cond o (Expression a) (Expression b) = refl
+binary_no_cond o p q = refl
+
+pub setting_no_cond : (slot attr : ℕ) (p : Part) → is_cond (setting slot attr p) ≡ false
+setting_no_cond slot attr (Expression a) = refl
+setting_no_cond slot attr p = refl
+
+pub choice_no_cond : (p q r : Part) → is_cond (choice p q r) ≡ false
+choice_no_cond (Condition c) (Block xs) (Block ys) = refl
+choice_no_cond p q r = refl
+
+pub sized_no_cond : (size : ℕ) (p : Part) → is_cond (sized size p) ≡ false
+sized_no_cond size (Block xs) = kept_no_cond (nat_eq size (length (run_spelled xs))) xs
+sized_no_cond size p = refl
+
+pub binary_no_stmt : (o : Operator) (p q : Part) → is_stmt (binary o p q) ≡ false
+binary_no_stmt o (Expression a) (Expression b) = refl
+binary_no_stmt o p q = refl
+
+pub comparison_no_stmt : (o : Comparison) (p q : Part) → is_stmt (comparison o p q) ≡ false
+comparison_no_stmt o (Expression a) (Expression b) = refl
+comparison_no_stmt o p q = refl
+
+pub joining_no_stmt : (o : Connective) (p q : Part) → is_stmt (joining o p q) ≡ false
+joining_no_stmt o (Condition a) (Condition b) = refl
+joining_no_stmt o p q = refl
+
+pub negated_no_stmt : (p : Part) → is_stmt (negated p) ≡ false
+negated_no_stmt (Condition a) = refl
+negated_no_stmt p = refl
+
+pub sized_no_stmt : (size : ℕ) (p : Part) → is_stmt (sized size p) ≡ false
+sized_no_stmt size (Block xs) = kept_no_stmt (nat_eq size (length (run_spelled xs))) xs
+sized_no_stmt size p = refl
+
+pub binary_no_block : (o : Operator) (p q : Part) → is_block (binary o p q) ≡ false
+binary_no_block o (Expression a) (Expression b) = refl
+binary_no_block o p q = refl
+
+pub comparison_no_block : (o : Comparison) (p q : Part) → is_block (comparison o p q) ≡ false
+comparison_no_block o (Expression a) (Expression b) = refl
+comparison_no_block o p q = refl
+
+pub joining_no_block : (o : Connective) (p q : Part) → is_block (joining o p q) ≡ false
+joining_no_block o (Condition a) (Condition b) = refl
+joining_no_block o p q = refl
+
+pub negated_no_block : (p : Part) → is_block (negated p) ≡ false
+negated_no_block (Condition a) = refl
+negated_no_block p = refl
+
+pub setting_no_block : (slot attr : ℕ) (p : Part) → is_block (setting slot attr p) ≡ false
+setting_no_block slot attr (Expression a) = refl
+setting_no_block slot attr p = refl
+
+pub choice_no_block : (p q r : Part) → is_block (choice p q r) ≡ false
+choice_no_block (Condition c) (Block xs) (Block ys) = refl
+choice_no_block p q r = refl
+
+pub ruleset no_expr = (comparison_no_expr, joining_no_expr, negated_no_expr, setting_no_expr, choice_no_expr, sized_no_expr)
+
+pub ruleset no_cond = (binary_no_cond, setting_no_cond, choice_no_cond, sized_no_cond)
+
+pub ruleset no_stmt = (binary_no_stmt, comparison_no_stmt, joining_no_stmt, negated_no_stmt, sized_no_stmt)
+
+pub ruleset no_block = (binary_no_block, comparison_no_block, joining_no_block, negated_no_block, setting_no_block, choice_no_block)
