@@ -15,8 +15,9 @@ use Rattle.sv_world.specs.declared.node.Node.TheVariants as node
 use Rattle.sv_world.specs.declared.node.Operator.{Operator}
 use Rattle.sv_world.specs.declared.node.Comparison.{Comparison}
 use Rattle.sv_world.specs.declared.node.Connective.{Connective}
-use Rattle.sv_world.specs.Parts.{binary_by as with_op, compare_by as with_comparison, join_by as with_joint}
+use Rattle.sv_world.specs.Parts.{binary_by as with_op, compare_by as with_comparison, join_by as with_joint, first, parts, block_in, IsBody}
 use Rattle.sv_world.specs.Spelled.{expr_spelled, cond_spelled, stmt_spelled, run_spelled, body_spelled}
+use Rattle.sv_world.proofs.Spells.{body_is, body_view}
 use Rattle.sv_world.proofs.Layers.{lit_spelled, attr_spelled, binary_spelled, compare_spelled, join_spelled, not_spelled, set_spelled, if_spelled}
 use Rattle.sv_text.specs.declared.fault.TextCause.TheVariants as causes
 use Rattle.sv_text.specs.declared.fault.TextFault.{TextFault}
@@ -384,3 +385,17 @@ module _ (stmts : Reader Stmt) (turns place i : ℕ) (out : List Node) (nodes : 
   run_is_full le =
       let none : turns - i ≡ 0 = omega arith in
       sym told ∙ run_by_is stmts (turns - i) place i out nodes ts ∙ rw none refl
+
+-- A body that was read is what its nodes spell.
+read_found : (out : List Node) (read : Read (List Stmt)) (nodes : ℕ) (rest : List Lexeme) → appended body_spelled [] read ≡ Ok (out, nodes, rest) → IsBody out × (read ≡ Ok (block_in (first (parts out)), nodes, rest))
+read_found out (Ok x) nodes rest h =
+    let p : (body_spelled x.0, x.1, x.2) ≡ (out, nodes, rest) = cc in
+    let is : out ≡ body_spelled x.0 = sym (ap (λ (q : List Node × ℕ × List Lexeme). q.0) p) in
+    let n : x.1 ≡ nodes = ap (λ (q : List Node × ℕ × List Lexeme). q.1) p in
+    let r : x.2 ≡ rest = ap (λ (q : List Node × ℕ × List Lexeme). q.2) p in
+    (body_is out x.0 is, rw (body_view out x.0 is, ← n, ← r) refl)
+read_found out (Err e) nodes rest h = absurd cc
+
+pub body_found : (out : List Node) (stmts : Reader Stmt) (started : ℕ) (ts : List Lexeme) (nodes : ℕ) (rest : List Lexeme) → appended body_spelled [] (block_by stmts started ts) ≡ Ok (out, nodes, rest)
+    → IsBody out × (block_by stmts started ts ≡ Ok (block_in (first (parts out)), nodes, rest))
+body_found out stmts started ts nodes rest h = read_found out (block_by stmts started ts) nodes rest h

@@ -6,6 +6,7 @@ pub mod Depth
 pub mod Flat
 pub mod Turns
 pub mod Printing
+pub mod Printed
 pub mod Found
 pub mod FoundBody
 pub mod FoundAction

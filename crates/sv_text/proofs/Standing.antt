@@ -28,10 +28,11 @@ use Rattle.sv_world.specs.declared.node.Connective.TheVariants as joints
 use Rattle.sv_text.specs.Tokens.{is_word}
 use Rattle.sv_text.specs.Reading.{front, rest_of, slot_from}
 use Rattle.sv_text.specs.Grammar.{Place, Form, IsMark, IsNode, IsNumber, IsRef, op_mark, comparison_mark, joint_mark, IsExpr, IsCond}
-use Rattle.sv_text.specs.Canonical.{object_in, ref_text, expr_text, cond_text}
-use Rattle.sv_text.specs.Printable.{expr_fits, cond_fits}
+use Rattle.sv_text.specs.Canonical.{object_in, ref_text, expr_text, cond_text, op_text, comparison_text, joint_text}
+use Rattle.sv_world.specs.Ranges.{is_byte, expr_fits, cond_fits}
 use Rattle.sv_text.proofs.Lexing.{blank_front}
-use Rattle.sv_text.proofs.Layers.{op_text, pair_text_is, pair_nodes, pair_depth, pair_passes, pair_fits, lit_text, lit_nodes, lit_depth, lit_fits, attr_text, attr_nodes, attr_depth, attr_passes, attr_fits, comparison_text, joint_text, test_text_is, test_nodes, test_depth, test_passes, test_fits, joint_text_is, joint_nodes, joint_depth, joint_passes, joint_fits, not_text, not_nodes, not_depth, not_passes, not_fits}
+use Rattle.sv_world.proofs.Ranged.{binary_fits as pair_fits, lit_fits, attr_fits, compare_fits as test_fits, join_fits as joint_fits, not_fits}
+use Rattle.sv_text.proofs.Layers.{pair_text_is, pair_nodes, pair_depth, pair_passes, lit_text, lit_nodes, lit_depth, attr_text, attr_nodes, attr_depth, attr_passes, test_text_is, test_nodes, test_depth, test_passes, joint_text_is, joint_nodes, joint_depth, joint_passes, not_text, not_nodes, not_depth, not_passes}
 use Rattle.sv_text.proofs.Spelled.{toks, lexeme, Stops, spelled, spaced_stands, is_bracket, bracket_stands, number_stands, ref_bytes, ref_stands}
 
 -- ---- one token
@@ -148,7 +149,7 @@ module _ (reads : List ObjectId) (own : HasSlots reads) where
   attr_stands slot attr (suc depth) nodes place rest fits passes deep few stop =
       let count = attr_nodes slot attr in
       let low : slot < length reads = ltb-true slot (length reads) (sym (attr_passes (below (length reads)) slot attr) ∙ passes) in
-      let byte : attr < 256 = ltb-true attr 256 (sym (attr_fits slot attr) ∙ fits) in
+      let byte : attr < 256 = ltb-true attr 256 (and_parts (is_byte slot) (is_byte attr) (sym (attr_fits slot attr) ∙ fits)).1 in
       let object = object_in reads slot in
       let t = ref_bytes object attr in
       let r = ref_stands object attr rest (own slot low).0 byte stop place false in (

@@ -13,30 +13,27 @@ use crate::header::{header_at, origin_at, writes_at};
 use crate::statement::block_at;
 use crate::token::Mark;
 use std::alloc::Global;
-use sv_world::{Action, ObjectId, Shared, Stmt};
+use sv_world::{Action, Body, ObjectId};
 
 /// The deepest that a node may stand, counted from the outermost statements.
 const DEPTH: u8 = 8;
 
-// SHIM until the action's body is nodes.
-#[tactic(auto, unfolding(crate::specs::Reading::body_at))]
-fn body_at(
-    alloc: Global,
-    reads: &[ObjectId],
-    cursor: Cursor<'_>,
-) -> Result<Shared<Stmt>, ParseFault>
+/// The most nodes of a body, but for those of its blocks. So one vector mostly suffices, and becomes the body's list.
+const ROOM: usize = 64;
+
+#[tactic(auto, using(crate::proofs::Flat::body_found), unfolding(crate::specs::Reading::body_at))]
+fn body_at(alloc: Global, reads: &[ObjectId], cursor: Cursor<'_>) -> Result<Body, ParseFault>
     requires { length reads.now ≤ 16 }
     ensures { Gives (λ body. body) result (body_at reads.now cursor) }
 {
-    let out = Vec::with_capacity(alloc, 64)?;
     let mut parser = Parser {
         cursor,
-        out,
+        out: Vec::with_capacity(alloc, ROOM)?,
         started: 0,
     };
     block_at(&mut parser, reads, DEPTH)?;
     parser.cursor.expect(Mark::End)?;
-    Err(ParseFault::Memory)
+    Ok(Body::from_nodes(parser.out)?)
 }
 
 #[tactic(auto, unfolding(crate::specs::Reading::reading))]

@@ -15,8 +15,9 @@ use Rattle.sv_world.specs.declared.node.Node.TheVariants as node
 use Rattle.sv_world.specs.declared.node.Operator.{Operator}
 use Rattle.sv_world.specs.declared.node.Comparison.{Comparison}
 use Rattle.sv_world.specs.declared.node.Connective.{Connective}
-use Rattle.sv_world.specs.Parts.{binary_by, compare_by, join_by}
+use Rattle.sv_world.specs.Parts.{binary_by, compare_by, join_by, first, parts, block_in, IsBody}
 use Rattle.sv_world.specs.Spelled.{expr_spelled, cond_spelled, stmt_spelled, run_spelled, body_spelled}
+use Rattle.sv_world.proofs.Spells.{body_is, body_view}
 use Rattle.sv_world.proofs.Layers.{lit_spelled, attr_spelled, binary_spelled, compare_spelled, join_spelled, not_spelled, set_spelled, if_spelled}
 use Rattle.sv_wire.specs.declared.fault.Stop.{Stop}
 use Rattle.sv_wire.specs.declared.fault.ReadFault.{ReadFault}
@@ -249,3 +250,17 @@ pub list_appended : (old : List Node) (stmts : Reader Stmt) (nodes : ℕ) (bytes
     ≡ (byte_at bytes >>= λ n. appended run_spelled (old ++ node.Block n.0 0 ∷ []) (in_turn stmts n.0 nodes n.1) >>= λ a. Ok (set a.0 (length old) (node.Block n.0 (length a.0 - length old - 1)), a.1, a.2))
 unfolding list_by
 list_appended old stmts nodes bytes = list_read old stmts nodes (byte_at bytes)
+
+-- A body that was read is what its nodes spell.
+read_found : (out : List Node) (read : Turn (List Stmt)) (nodes : ℕ) (rest : List ℕ) → appended body_spelled [] read ≡ Ok (out, nodes, rest) → IsBody out × (read ≡ Ok (block_in (first (parts out)), nodes, rest))
+read_found out (Ok x) nodes rest h =
+    let p : (body_spelled x.0, x.1, x.2) ≡ (out, nodes, rest) = cc in
+    let is : out ≡ body_spelled x.0 = sym (ap (λ (q : List Node × ℕ × List ℕ). q.0) p) in
+    let n : x.1 ≡ nodes = ap (λ (q : List Node × ℕ × List ℕ). q.1) p in
+    let r : x.2 ≡ rest = ap (λ (q : List Node × ℕ × List ℕ). q.2) p in
+    (body_is out x.0 is, rw (body_view out x.0 is, ← n, ← r) refl)
+read_found out (Err e) nodes rest h = absurd cc
+
+pub body_found : (out : List Node) (stmts : Reader Stmt) (from : ℕ) (bytes : List ℕ) (nodes : ℕ) (rest : List ℕ) → appended body_spelled [] (list_by stmts from bytes) ≡ Ok (out, nodes, rest)
+    → IsBody out × (list_by stmts from bytes ≡ Ok (block_in (first (parts out)), nodes, rest))
+body_found out stmts from bytes nodes rest h = read_found out (list_by stmts from bytes) nodes rest h

@@ -22,7 +22,6 @@ use Rattle.sv_world.specs.Parts.{binary_by as expr_by, compare_by, join_by}
 use Rattle.sv_world.proofs.Layers.{binary_layer, compare_layer, join_layer, lit_fold, attr_fold, binary_fold, compare_fold, join_fold, not_fold, set_fold, if_fold}
 use Rattle.sv_wire.specs.Nodes.{expr_kind_of, cond_kind_of}
 use Rattle.sv_wire.specs.Spelling.{operator_byte, comparison_byte, connective_byte, int_bytes, expr_bytes_step, expr_bytes, cond_bytes_step, cond_bytes, counted, stmt_bytes_step, stmt_bytes}
-use Rattle.sv_wire.specs.Ranges.{is_i64, is_byte, expr_fits_step, expr_fits, cond_fits_step, cond_fits, stmt_fits_step, stmt_fits}
 
 -- ---- expressions
 
@@ -53,15 +52,6 @@ depth_layer Rem x y = refl
 depth_layer Min x y = refl
 depth_layer Max x y = refl
 
-fits_layer : (o : Operator) (x y : Bool) → expr_fits_step (binary_layer o x y) ≡ (x && y)
-fits_layer Add x y = refl
-fits_layer Sub x y = refl
-fits_layer Mul x y = refl
-fits_layer Div x y = refl
-fits_layer Rem x y = refl
-fits_layer Min x y = refl
-fits_layer Max x y = refl
-
 pub bytes_by : (o : Operator) (a b : Expr) → expr_bytes (expr_by o a b) ≡ operator_byte o ∷ (expr_bytes a ++ expr_bytes b)
 bytes_by o a b = binary_fold (List ℕ) expr_bytes_step o a b ∙ bytes_layer o (expr_bytes a) (expr_bytes b)
 
@@ -70,9 +60,6 @@ nodes_by o a b = binary_fold ℕ (expr_value 1 (λ _ _. 1) (λ x y. 1 + x + y)) 
 
 pub depth_by : (o : Operator) (a b : Expr) → expr_depth (expr_by o a b) ≡ 1 + max (expr_depth a) (expr_depth b)
 depth_by o a b = binary_fold ℕ (expr_value 1 (λ _ _. 1) (λ x y. 1 + max x y)) o a b ∙ depth_layer o (expr_depth a) (expr_depth b)
-
-pub fits_by : (o : Operator) (a b : Expr) → expr_fits (expr_by o a b) ≡ (expr_fits a && expr_fits b)
-fits_by o a b = binary_fold Bool expr_fits_step o a b ∙ fits_layer o (expr_fits a) (expr_fits b)
 
 pub kind_by : (o : Operator) → expr_kind_of (operator_byte o) ≡ Some (expr_kind.Both o)
 unfolding expr_kind_of
@@ -131,21 +118,6 @@ join_depth_layer Or x y = refl
 pub join_depth : (o : Connective) (a b : Cond) → cond_depth (join_by o a b) ≡ 1 + max (cond_depth a) (cond_depth b)
 join_depth o a b = join_fold (ℕ) (cond_value expr_depth (λ x y. 1 + max x y) (λ x. 1 + x)) o a b ∙ join_depth_layer o (cond_depth a) (cond_depth b)
 
-compare_fits_layer : (o : Comparison) (a b : Expr) → cond_fits_step (compare_layer o a b) ≡ (expr_fits a && expr_fits b)
-compare_fits_layer Eq a b = refl
-compare_fits_layer Lt a b = refl
-compare_fits_layer Le a b = refl
-
-pub compare_fits : (o : Comparison) (a b : Expr) → cond_fits (compare_by o a b) ≡ (expr_fits a && expr_fits b)
-compare_fits o a b = compare_fold (Bool) cond_fits_step o a b ∙ compare_fits_layer o a b
-
-join_fits_layer : (o : Connective) (x y : Bool) → cond_fits_step (join_layer o x y) ≡ (x && y)
-join_fits_layer And x y = refl
-join_fits_layer Or x y = refl
-
-pub join_fits : (o : Connective) (a b : Cond) → cond_fits (join_by o a b) ≡ (cond_fits a && cond_fits b)
-join_fits o a b = join_fold (Bool) cond_fits_step o a b ∙ join_fits_layer o (cond_fits a) (cond_fits b)
-
 pub compare_kind : (o : Comparison) → cond_kind_of (comparison_byte o) ≡ Some (cond_kind.Compare o)
 unfolding cond_kind_of
 compare_kind Eq = refl
@@ -180,9 +152,6 @@ lit_nodes n = lit_fold ℕ expr_counts n
 pub lit_depth : (n : ℤ) → expr_depth (expr.Lit n) ≡ 1
 lit_depth n = lit_fold ℕ expr_levels n
 
-pub lit_fits : (n : ℤ) → expr_fits (expr.Lit n) ≡ is_i64 n
-lit_fits n = lit_fold Bool expr_fits_step n
-
 pub attr_bytes : (slot attr : ℕ) → expr_bytes (expr.Attr slot attr) ≡ 0x21 ∷ slot ∷ attr ∷ []
 attr_bytes slot attr = attr_fold (List ℕ) expr_bytes_step slot attr
 
@@ -201,9 +170,6 @@ not_nodes a = not_fold ℕ cond_counts a
 pub not_depth : (a : Cond) → cond_depth (test.Not a) ≡ 1 + cond_depth a
 not_depth a = not_fold ℕ cond_levels a
 
-pub not_fits : (a : Cond) → cond_fits (test.Not a) ≡ cond_fits a
-not_fits a = not_fold Bool cond_fits_step a
-
 pub set_bytes : (slot attr : ℕ) (value : Expr) → stmt_bytes (stmt.Set slot attr value) ≡ 0x10 ∷ slot ∷ attr ∷ expr_bytes value
 set_bytes slot attr value = set_fold (List ℕ) stmt_bytes_step slot attr value
 
@@ -213,9 +179,6 @@ set_nodes slot attr value = set_fold ℕ stmt_nodes_step slot attr value
 pub set_depth : (slot attr : ℕ) (value : Expr) → stmt_depth (stmt.Set slot attr value) ≡ 1 + expr_depth value
 set_depth slot attr value = set_fold ℕ stmt_depth_step slot attr value
 
-pub set_fits : (slot attr : ℕ) (value : Expr) → stmt_fits (stmt.Set slot attr value) ≡ (is_byte slot && (is_byte attr && expr_fits value))
-set_fits slot attr value = set_fold Bool stmt_fits_step slot attr value
-
 pub if_bytes : (c : Cond) (xs ys : List Stmt) → stmt_bytes (stmt.If c xs ys) ≡ 0x11 ∷ (cond_bytes c ++ counted (map stmt_bytes xs) ++ counted (map stmt_bytes ys))
 if_bytes c xs ys = if_fold (List ℕ) stmt_bytes_step c xs ys
 
@@ -224,6 +187,3 @@ if_nodes c xs ys = if_fold ℕ stmt_nodes_step c xs ys
 
 pub if_depth : (c : Cond) (xs ys : List Stmt) → stmt_depth (stmt.If c xs ys) ≡ 1 + max (cond_depth c) (max (body_depth xs) (body_depth ys))
 if_depth c xs ys = if_fold ℕ stmt_depth_step c xs ys
-
-pub if_fits : (c : Cond) (xs ys : List Stmt) → stmt_fits (stmt.If c xs ys) ≡ (cond_fits c && (all_true (map stmt_fits xs) && all_true (map stmt_fits ys)))
-if_fits c xs ys = if_fold Bool stmt_fits_step c xs ys

@@ -27,9 +27,10 @@ use Rattle.sv_world.specs.declared.node.Comparison.{Comparison}
 use Rattle.sv_world.specs.declared.node.Comparison.TheVariants.{Eq, Lt, Le}
 use Rattle.sv_world.specs.declared.node.Connective.{Connective}
 use Rattle.sv_world.specs.declared.node.Connective.TheVariants.{And, Or}
-use Rattle.sv_world.specs.Parts.{binary_by, compare_by, join_by}
+use Rattle.sv_world.specs.Parts.{binary_by, compare_by, join_by, Block, parts}
 use Rattle.sv_world.specs.Spelled.{expr_spelled, cond_spelled, stmt_spelled, run_spelled, body_spelled}
 use Rattle.sv_world.proofs.Layers.{lit_spelled, attr_spelled, binary_spelled, compare_spelled, join_spelled, not_spelled, set_spelled, if_spelled}
+use Rattle.sv_world.proofs.Back.{body_back}
 use Rattle.sv_wire.specs.Spelling.{expr_bytes, cond_bytes, stmt_bytes, body_bytes, node_bytes}
 use Rattle.sv_wire.proofs.Append.{body_is}
 use Rattle.sv_wire.proofs.Layers.{lit_bytes, attr_bytes, bytes_by, compare_bytes, join_bytes, not_bytes, set_bytes, if_bytes}
@@ -132,5 +133,9 @@ run_written : (xs : List Stmt) → RunWritten xs
 run_written [] = refl
 run_written (s ∷ xs) = run_more s xs (stmt_written s) (run_written xs)
 
-pub body_written : (xs : List Stmt) → flat_map node_bytes (body_spelled xs) ≡ body_bytes xs
+body_written : (xs : List Stmt) → flat_map node_bytes (body_spelled xs) ≡ body_bytes xs
 body_written xs = body_by xs (run_written xs)
+
+-- The nodes that spell a body, in bytes.
+pub nodes_written : (ns : List Node) (xs : List Stmt) → parts ns ≡ Block xs ∷ [] → flat_map node_bytes ns ≡ body_bytes xs
+nodes_written ns xs h = ap written (body_back ns xs h) ∙ body_written xs

@@ -10,7 +10,7 @@ use crate::fault::ReadFault;
 use crate::fields::byte_of;
 use crate::nodes::{StmtKind, stmt_node};
 use std::alloc::Global;
-use sv_world::{Node, Shared, Stmt};
+use sv_world::{Body, Node};
 
 #[tactic(auto, using(crate::proofs::Flat::set_appended))]
 fn set_next<'a>(
@@ -107,11 +107,14 @@ fn stmt_next<'a>(
     }
 }
 
-// SHIM until the action's body is nodes.
-pub fn body_of(alloc: Global, bytes: &[u8]) -> Result<(Shared<Stmt>, &[u8]), ReadFault>
+/// The most nodes of a body, but for those of its blocks. So one vector mostly suffices, and becomes the body's list.
+const ROOM: usize = 64;
+
+#[tactic(auto, using(crate::proofs::Flat::body_found), unfolding(crate::specs::Trees::body_at))]
+pub fn body_of(alloc: Global, bytes: &[u8]) -> Result<(Body, &[u8]), ReadFault>
     ensures { Gives (λ x. (x.0, x.1.now)) result (body_at bytes.now) }
 {
-    let mut out = Vec::new(alloc);
-    list_next(&mut out, 8, 0, bytes)?;
-    Err(ReadFault::Memory)
+    let mut out = Vec::with_capacity(alloc, ROOM)?;
+    let (_, rest) = list_next(&mut out, 8, 0, bytes)?;
+    Ok((Body::from_nodes(out)?, rest))
 }
