@@ -8,6 +8,7 @@ pub mod Masks
 pub mod Members
 pub mod Needs
 pub mod Places
+pub mod Ranged
 pub mod Sorted
 pub mod Spells
 pub mod Sweeps

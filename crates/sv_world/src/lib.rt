@@ -15,6 +15,7 @@ mod list;
 mod measure;
 mod names;
 mod node;
+mod numbers;
 mod shared;
 mod short;
 mod spelling;
