@@ -5,7 +5,7 @@ use Rattle.sv_world.specs.declared.node.Node.{Node}
 use Rattle.sv_world.specs.declared.node.Operator.{Operator}
 use Rattle.sv_world.specs.declared.node.Comparison.{Comparison}
 use Rattle.sv_world.specs.declared.node.Connective.{Connective}
-use Rattle.sv_world.specs.Parts.{Part, Expression, Condition, Statement, Block, Bad, first, binary, comparison, joining, negated, setting, choice, kept, sized, parts, is_expr, is_cond, is_stmt, is_block}
+use Rattle.sv_world.specs.Parts.{Part, Expression, Condition, Statement, Block, Bad, first, binary, comparison, joining, negated, setting, choice, with_statement, kept, sized, parts, is_expr, is_cond, is_stmt, is_block}
 use Rattle.sv_world.specs.Spelled.{run_spelled}
 
 pub expr_there : (ns : List Node) → is_expr (first (parts ns)) ≡ true → 1 ≤ length ns
@@ -137,3 +137,35 @@ pub ruleset no_cond = (binary_no_cond, setting_no_cond, choice_no_cond, sized_no
 pub ruleset no_stmt = (binary_no_stmt, comparison_no_stmt, joining_no_stmt, negated_no_stmt, sized_no_stmt)
 
 pub ruleset no_block = (binary_no_block, comparison_no_block, joining_no_block, negated_no_block, setting_no_block, choice_no_block)
+
+-- ---- the kinds of parts, where that of the whole is known
+
+pub binary_exprs : (o : Operator) (p q : Part) → is_expr (binary o p q) ≡ true → (is_expr p ≡ true) × (is_expr q ≡ true)
+binary_exprs o (Expression a) (Expression b) e = (refl, refl)
+binary_exprs o p q e = absurd (cc)
+
+pub compare_exprs : (o : Comparison) (p q : Part) → is_cond (comparison o p q) ≡ true → (is_expr p ≡ true) × (is_expr q ≡ true)
+compare_exprs o (Expression a) (Expression b) e = (refl, refl)
+compare_exprs o p q e = absurd (cc)
+
+pub join_conds : (o : Connective) (p q : Part) → is_cond (joining o p q) ≡ true → (is_cond p ≡ true) × (is_cond q ≡ true)
+join_conds o (Condition a) (Condition b) e = (refl, refl)
+join_conds o p q e = absurd (cc)
+
+pub not_cond : (p : Part) → is_cond (negated p) ≡ true → is_cond p ≡ true
+not_cond (Condition a) e = refl
+not_cond p e = absurd (cc)
+
+pub set_expr : (slot attr : ℕ) (p : Part) → is_stmt (setting slot attr p) ≡ true → is_expr p ≡ true
+set_expr slot attr (Expression a) e = refl
+set_expr slot attr p e = absurd (cc)
+
+pub if_parts : (p q r : Part) → is_stmt (choice p q r) ≡ true → (is_cond p ≡ true) × (is_block q ≡ true) × (is_block r ≡ true)
+if_parts (Condition c) (Block xs) (Block ys) e = (refl, refl, refl)
+if_parts p q r e = absurd (cc)
+
+pub more_parts : (p q : Part) → is_block (with_statement p q) ≡ true → (is_stmt p ≡ true) × (is_block q ≡ true)
+more_parts (Statement s) (Block xs) e = (refl, refl)
+more_parts p q e = absurd (cc)
+
+pub ruleset part_kinds = (binary_exprs, compare_exprs, join_conds, not_cond, set_expr, if_parts)
