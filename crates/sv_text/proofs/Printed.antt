@@ -1,8 +1,6 @@
--- What the parts of a node are, where the node has a kind, and its text by theirs.
-use Rattle.std.proofs.Common.{◌≡◌, ℕ, zero, suc, ◌+◌, ◌-◌, ◌<◌, ◌≤◌, ℤ, Bool, true, false, cond, eqb, List, [], ◌∷◌, ◌++◌, map, drop, refl, sym, ap, ◌∙◌, append_assoc, arith}
-use Rattle.std.specs.Prelude.{codes}
+-- The text of a node by those of its parts, where it has a kind.
+use Rattle.std.proofs.Common.{◌≡◌, ℕ, zero, suc, ◌<◌, ℤ, true, List, [], ◌∷◌, ◌++◌, map, drop, refl, sym, ap, ◌∙◌, append_assoc, arith}
 use Rattle.std.specs.Fmt.{signed_decimal}
-use Rattle.std.proofs.lemmas.Bool.{ne_eqb}
 use Rattle.std.proofs.lemmas.List.Concat.{flat_map-cons}
 use Rattle.sv_world.specs.declared.world.ObjectId.{ObjectId}
 use Rattle.sv_world.specs.declared.action.Stmt.{Stmt}
@@ -10,37 +8,9 @@ use Rattle.sv_world.specs.declared.node.Operator.{Operator}
 use Rattle.sv_world.specs.declared.node.Comparison.{Comparison}
 use Rattle.sv_world.specs.declared.node.Connective.{Connective}
 use Rattle.sv_world.specs.declared.action.Expr.TheVariants as expr
-use Rattle.sv_world.specs.Parts.{Part, Expression, Condition, Statement, Block, Bad, first, binary, comparison, joining, negated, setting, choice, with_statement, block, is_expr, is_cond, is_stmt, is_block}
-use Rattle.sv_text.specs.Canonical.{ref_text, pair_text, test_text, op_text, comparison_text, joint_text, spaced, block_text, stmt_text, set_part, if_part, part_text, else_part}
+use Rattle.sv_world.specs.Parts.{Part, Expression, Condition, Statement, Block, first, binary, comparison, joining, negated, setting, choice, with_statement, block, is_expr, is_cond, is_stmt, is_block}
+use Rattle.sv_text.specs.Canonical.{ref_text, pair_text, test_text, op_text, comparison_text, joint_text, stmt_text, part_text, else_part, set_part, not_part, if_part, run_text, block_part, other_part}
 use Rattle.sv_text.proofs.Layers.{pair_text_is, lit_text, attr_text, test_text_is, joint_text_is, not_text, set_text_is, if_text}
-
--- ---- kinds
-
-pub binary_exprs : (o : Operator) (p q : Part) → is_expr (binary o p q) ≡ true → (is_expr p ≡ true) × (is_expr q ≡ true)
-binary_exprs o (Expression a) (Expression b) h = (refl, refl)
-binary_exprs o p q h = absurd cc
-
-pub comparison_exprs : (o : Comparison) (p q : Part) → is_cond (comparison o p q) ≡ true → (is_expr p ≡ true) × (is_expr q ≡ true)
-comparison_exprs o (Expression a) (Expression b) h = (refl, refl)
-comparison_exprs o p q h = absurd cc
-
-pub joining_conds : (o : Connective) (p q : Part) → is_cond (joining o p q) ≡ true → (is_cond p ≡ true) × (is_cond q ≡ true)
-joining_conds o (Condition a) (Condition b) h = (refl, refl)
-joining_conds o p q h = absurd cc
-
-pub negated_cond : (p : Part) → is_cond (negated p) ≡ true → is_cond p ≡ true
-negated_cond (Condition a) h = refl
-negated_cond p h = absurd cc
-
-pub setting_expr : (slot attr : ℕ) (p : Part) → is_stmt (setting slot attr p) ≡ true → is_expr p ≡ true
-setting_expr slot attr (Expression a) h = refl
-setting_expr slot attr p h = absurd cc
-
-pub choice_kinds : (p q r : Part) → is_stmt (choice p q r) ≡ true → (is_cond p ≡ true) × (is_block q ≡ true) × (is_block r ≡ true)
-choice_kinds (Condition c) (Block xs) (Block ys) h = (refl, refl, refl)
-choice_kinds p q r h = absurd cc
-
-pub ruleset kinds = (binary_exprs, comparison_exprs, joining_conds, negated_cond, setting_expr, choice_kinds)
 
 -- ---- texts
 
@@ -62,7 +32,7 @@ pub joining_part : (reads : List ObjectId) (o : Connective) (p q : Part) → is_
 joining_part reads o (Condition a) (Condition b) h = joint_text_is o a b reads
 joining_part reads o p q h = absurd cc
 
-pub negated_part : (reads : List ObjectId) (p : Part) → is_cond (negated p) ≡ true → part_text reads (negated p) ≡ codes "not " ++ part_text reads p
+pub negated_part : (reads : List ObjectId) (p : Part) → is_cond (negated p) ≡ true → part_text reads (negated p) ≡ not_part (part_text reads p)
 negated_part reads (Condition a) h = not_text a reads
 negated_part reads p h = absurd cc
 
@@ -78,24 +48,19 @@ pub ruleset texts = (lit_part, attr_part, binary_part, comparison_part, joining_
 
 -- ---- blocks
 
+pub braced : (reads : List ObjectId) (p : Part) → is_block p ≡ true → part_text reads p ≡ block_part (run_text reads p)
+braced reads (Block xs) h = refl
+braced reads p h = absurd cc
+
 -- An empty block behind the first has no text.
-else_more : (reads : List ObjectId) (p q : Part) → is_block (with_statement p q) ≡ true → else_part reads (with_statement p q) ≡ codes " else " ++ part_text reads (with_statement p q)
+else_more : (reads : List ObjectId) (p q : Part) → is_block (with_statement p q) ≡ true → else_part reads (with_statement p q) ≡ other_part (run_text reads (with_statement p q))
 else_more reads (Statement s) (Block xs) h = refl
 else_more reads p q h = absurd cc
 
-pub else_of : (reads : List ObjectId) (n : ℕ) (ps : List Part) → is_block (block n ps) ≡ true → else_part reads (block n ps) ≡ cond (eqb n 0) [] (codes " else " ++ part_text reads (block n ps))
-else_of reads zero ps h = refl
-else_of reads (suc n) [] h = absurd cc
-else_of reads (suc n) (p ∷ ps) h = else_more reads p (block n ps) h ∙ (let some : eqb (suc n) 0 ≡ false = ne_eqb (suc n) 0 (λ e. absurd (omega arith)) in rw some refl)
-
--- the statements' texts, each behind a space
-abbrev pub run_text : List ObjectId → Part → List ℕ
-run_text reads (Block xs) = spaced (map (stmt_text reads) xs)
-run_text reads p = []
-
-pub braced : (reads : List ObjectId) (p : Part) → is_block p ≡ true → part_text reads p ≡ codes "{" ++ run_text reads p ++ codes " }"
-braced reads (Block xs) h = refl
-braced reads p h = absurd cc
+pub else_some : (reads : List ObjectId) (n : ℕ) (ps : List Part) → 0 < n → is_block (block n ps) ≡ true → else_part reads (block n ps) ≡ other_part (run_text reads (block n ps))
+else_some reads zero ps some h = absurd (omega (arith, some))
+else_some reads (suc n) [] some h = absurd cc
+else_some reads (suc n) (p ∷ ps) some h = else_more reads p (block n ps) h
 
 -- One statement more of a block.
 pub record IsMore (reads : List ObjectId) (n : ℕ) (ps : List Part) : Type 0 where
@@ -111,3 +76,12 @@ more_with reads p q h = absurd cc
 pub more : (reads : List ObjectId) (n : ℕ) (ps : List Part) → is_block (block (suc n) ps) ≡ true → IsMore reads n ps
 more reads n [] h = absurd cc
 more reads n (p ∷ ps) h = let m = more_with reads p (block n ps) h in record { stmt = m.0; others = m.1; text = m.2; behind = refl }
+
+-- what is printed so far and what is left are all
+pub run_turn : (reads : List ObjectId) (n : ℕ) (ps qs : List Part) (front mid after total : List ℕ) → IsMore reads n ps → qs ≡ drop 1 ps → mid ≡ front ++ 32 ∷ [] → after ≡ mid ++ part_text reads (first ps)
+    → front ++ run_text reads (block (suc n) ps) ≡ total → after ++ run_text reads (block n qs) ≡ total
+run_turn reads n ps qs front mid after total m rest space put told =
+    let t = part_text reads (first ps) in
+    let r = run_text reads (block n (drop 1 ps)) in
+    let all : ((front ++ 32 ∷ []) ++ t) ++ r ≡ total = append_assoc (front ++ 32 ∷ []) t r ∙ append_assoc front (32 ∷ []) (t ++ r) ∙ ap (λ (l : List ℕ). front ++ l) (sym m.text) ∙ told in
+    rw (put, space, rest) all

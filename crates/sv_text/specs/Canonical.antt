@@ -127,6 +127,21 @@ else_part reads p = []
 abbrev pub set_part : List ObjectId → ℕ → ℕ → List ℕ → List ℕ
 set_part reads slot attr value = codes "set " ++ ref_text reads slot attr ++ codes " " ++ value ++ codes ";"
 
+abbrev pub not_part : List ℕ → List ℕ
+not_part test = codes "not " ++ test
+
+-- the statements' texts, each behind a space
+abbrev pub run_text : List ObjectId → Part → List ℕ
+run_text reads (Block xs) = spaced (map (stmt_text reads) xs)
+run_text reads p = []
+
+-- a block, and one behind the first of an `if`, by its statements' texts
+abbrev pub block_part : List ℕ → List ℕ
+block_part run = codes "{" ++ run ++ codes " }"
+
+abbrev pub other_part : List ℕ → List ℕ
+other_part run = codes " else " ++ block_part run
+
 abbrev pub if_part : List ℕ → List ℕ → List ℕ → List ℕ
 if_part test body other = codes "if " ++ test ++ codes " " ++ body ++ other
 

@@ -1,12 +1,12 @@
 //! From an action to its canonical text.
 
 ghost use Rattle.std.specs.Prelude.{◌≡◌, ◌++◌, ◌<◌, ◌≤◌, [], ◌&&◌, true, cond, All, length, drop, string_bytes, Ok, OnOk, OnErr, IfOk};
-ghost use Rattle.std.specs.Fmt.{signed_decimal};
+ghost use Rattle.sv_world.specs.Heads.{expr_over, expr_arity};
 ghost use Rattle.sv_world.specs.Parts.{first, second, third, parts, block, is_expr, is_cond, is_stmt, is_block};
 ghost use Rattle.sv_text.specs.Tokens.{tokens_of};
 ghost use Rattle.sv_text.specs.Reading.{reading};
 ghost use Rattle.sv_text.specs.Printable.{ObjectFits, IsWithinGrammar};
-ghost use Rattle.sv_text.specs.Canonical.{object_in, ref_text, pair_text, test_text, op_text, comparison_text, joint_text, set_part, if_part, part_text, else_part, body_text, object_text, objects_text, written, is_zero, origin_text, canonical};
+ghost use Rattle.sv_text.specs.Canonical.{object_in, ref_text, pair_text, test_text, op_text, comparison_text, joint_text, set_part, not_part, if_part, run_text, block_part, other_part, part_text, else_part, body_text, object_text, objects_text, written, is_zero, origin_text, canonical};
 
 use std::alloc::{AllocError, Global};
 use std::fmt::Write;
@@ -63,24 +63,39 @@ fn joint_text(joint: Connective) -> &'static str
     }
 }
 
-fn put_number(out: &mut String, number: i64) -> Result<(), AllocError>
-    ensures { OnOk result (string_bytes out.new ≡ string_bytes out.old ++ signed_decimal number) }
-{
-    write!(out, "{number}")
-}
-
 // Each of these prints what the next nodes spell, and goes behind them.
 
 #[cycle(expression)]
-#[tactic(auto, using(crate::proofs::Printed::kinds, crate::proofs::Printed::texts))]
-fn put_expr(out: &mut String, reads: &[ObjectId], nodes: &mut NodeCursor<'_>) -> Result<(), AllocError>
+fn put_expr(
+    out: &mut String,
+    reads: &[ObjectId],
+    nodes: &mut NodeCursor<'_>,
+) -> Result<(), AllocError>
     requires { is_expr (first (parts nodes.old)) ≡ true }
     ensures text { OnOk result (string_bytes out.new ≡ string_bytes out.old ++ part_text reads.now (first (parts nodes.old))) }
     ensures rest { OnOk result (parts nodes.new ≡ drop 1 (parts nodes.old)) }
     ensures shorter { OnOk result (length nodes.new < length nodes.old) }
 {
-    match nodes.expr() {
-        ExprHead::Lit(number) => put_number(out, number),
+    let head = nodes.expr();
+    put_head(out, reads, head, nodes)
+}
+
+/// An expression whose first node was taken.
+#[cycle(expression)]
+#[tactic(auto, using(sv_world::proofs::Sorted::part_kinds, crate::proofs::Printed::texts))]
+fn put_head(
+    out: &mut String,
+    reads: &[ObjectId],
+    head: ExprHead,
+    nodes: &mut NodeCursor<'_>,
+) -> Result<(), AllocError>
+    requires { is_expr (expr_over head (parts nodes.old)) ≡ true }
+    ensures text { OnOk result (string_bytes out.new ≡ string_bytes out.old ++ part_text reads.now (expr_over head (parts nodes.old))) }
+    ensures rest { OnOk result (parts nodes.new ≡ drop (expr_arity head) (parts nodes.old)) }
+    ensures shorter { OnOk result (length nodes.new ≤ length nodes.old) }
+{
+    match head {
+        ExprHead::Lit(number) => write!(out, "{number}"),
         ExprHead::Attr { slot, attr } => put_ref(out, reads, slot, attr),
         ExprHead::Binary(operator) => put_pair(out, reads, operator, nodes),
     }
@@ -126,7 +141,7 @@ fn put_test(
 }
 
 #[cycle(condition)]
-#[tactic(auto, using(crate::proofs::Printed::kinds, crate::proofs::Printed::texts))]
+#[tactic(auto, using(sv_world::proofs::Sorted::part_kinds, crate::proofs::Printed::texts))]
 fn put_cond(out: &mut String, reads: &[ObjectId], nodes: &mut NodeCursor<'_>) -> Result<(), AllocError>
     requires { is_cond (first (parts nodes.old)) ≡ true }
     ensures text { OnOk result (string_bytes out.new ≡ string_bytes out.old ++ part_text reads.now (first (parts nodes.old))) }
@@ -136,11 +151,23 @@ fn put_cond(out: &mut String, reads: &[ObjectId], nodes: &mut NodeCursor<'_>) ->
     match nodes.cond() {
         CondHead::Compare(comparison) => put_test(out, reads, comparison, nodes),
         CondHead::Join(joint) => put_joined(out, reads, joint, nodes),
-        CondHead::Not => {
-            out.push_str("not ")?;
-            put_cond(out, reads, nodes)
-        }
+        CondHead::Not => put_not(out, reads, nodes),
     }
+}
+
+#[cycle(condition)]
+fn put_not(
+    out: &mut String,
+    reads: &[ObjectId],
+    nodes: &mut NodeCursor<'_>,
+) -> Result<(), AllocError>
+    requires { is_cond (first (parts nodes.old)) ≡ true }
+    ensures text { OnOk result (string_bytes out.new ≡ string_bytes out.old ++ not_part (part_text reads.now (first (parts nodes.old)))) }
+    ensures rest { OnOk result (parts nodes.new ≡ drop 1 (parts nodes.old)) }
+    ensures shorter { OnOk result (length nodes.new < length nodes.old) }
+{
+    out.push_str("not ")?;
+    put_cond(out, reads, nodes)
 }
 
 #[cycle(condition)]
@@ -183,7 +210,7 @@ fn put_set(
 }
 
 #[cycle(statement)]
-#[tactic(auto, using(crate::proofs::Printed::kinds, crate::proofs::Printed::texts))]
+#[tactic(auto, using(sv_world::proofs::Sorted::part_kinds, crate::proofs::Printed::texts))]
 fn put_stmt(out: &mut String, reads: &[ObjectId], nodes: &mut NodeCursor<'_>) -> Result<(), AllocError>
     requires { is_stmt (first (parts nodes.old)) ≡ true }
     ensures text { OnOk result (string_bytes out.new ≡ string_bytes out.old ++ part_text reads.now (first (parts nodes.old))) }
@@ -214,7 +241,12 @@ fn put_choice(out: &mut String, reads: &[ObjectId], nodes: &mut NodeCursor<'_>) 
 }
 
 #[cycle(statement)]
-fn put_block(out: &mut String, reads: &[ObjectId], nodes: &mut NodeCursor<'_>) -> Result<(), AllocError>
+#[tactic(auto, using(crate::proofs::Printed::braced))]
+fn put_block(
+    out: &mut String,
+    reads: &[ObjectId],
+    nodes: &mut NodeCursor<'_>,
+) -> Result<(), AllocError>
     requires { is_block (first (parts nodes.old)) ≡ true }
     ensures text { OnOk result (string_bytes out.new ≡ string_bytes out.old ++ part_text reads.now (first (parts nodes.old))) }
     ensures rest { OnOk result (parts nodes.new ≡ drop 1 (parts nodes.old)) }
@@ -226,8 +258,12 @@ fn put_block(out: &mut String, reads: &[ObjectId], nodes: &mut NodeCursor<'_>) -
 
 /// The block behind the first of an `if`. An empty one is not printed.
 #[cycle(statement)]
-#[tactic(auto, using(crate::proofs::Printed::else_of))]
-fn put_else(out: &mut String, reads: &[ObjectId], nodes: &mut NodeCursor<'_>) -> Result<(), AllocError>
+#[tactic(auto, using(crate::proofs::Printed::else_some))]
+fn put_else(
+    out: &mut String,
+    reads: &[ObjectId],
+    nodes: &mut NodeCursor<'_>,
+) -> Result<(), AllocError>
     requires { is_block (first (parts nodes.old)) ≡ true }
     ensures text { OnOk result (string_bytes out.new ≡ string_bytes out.old ++ else_part reads.now (first (parts nodes.old))) }
     ensures rest { OnOk result (parts nodes.new ≡ drop 1 (parts nodes.old)) }
@@ -237,6 +273,21 @@ fn put_else(out: &mut String, reads: &[ObjectId], nodes: &mut NodeCursor<'_>) ->
     if count == 0 {
         return Ok(());
     }
+    put_other(out, reads, count, nodes)
+}
+
+#[cycle(statement)]
+fn put_other(
+    out: &mut String,
+    reads: &[ObjectId],
+    count: u8,
+    nodes: &mut NodeCursor<'_>,
+) -> Result<(), AllocError>
+    requires { is_block (block count (parts nodes.old)) ≡ true }
+    ensures text { OnOk result (string_bytes out.new ≡ string_bytes out.old ++ other_part (run_text reads.now (block count (parts nodes.old)))) }
+    ensures rest { OnOk result (parts nodes.new ≡ drop count (parts nodes.old)) }
+    ensures shorter { OnOk result (length nodes.new ≤ length nodes.old) }
+{
     out.push_str(" else ")?;
     put_stmts(out, reads, count, nodes)
 }
@@ -250,16 +301,33 @@ fn put_stmts(
     nodes: &mut NodeCursor<'_>,
 ) -> Result<(), AllocError>
     requires { is_block (block count (parts nodes.old)) ≡ true }
-    ensures text { OnOk result (string_bytes out.new ≡ string_bytes out.old ++ part_text reads.now (block count (parts nodes.old))) }
+    ensures text { OnOk result (string_bytes out.new ≡ string_bytes out.old ++ block_part (run_text reads.now (block count (parts nodes.old)))) }
     ensures rest { OnOk result (parts nodes.new ≡ drop count (parts nodes.old)) }
     ensures shorter { OnOk result (length nodes.new ≤ length nodes.old) }
 {
     out.push_str("{")?;
+    put_run(out, reads, count, nodes)?;
+    out.push_str(" }")
+}
+
+/// So many statements, each behind a space.
+#[cycle(statement)]
+fn put_run(
+    out: &mut String,
+    reads: &[ObjectId],
+    count: u8,
+    nodes: &mut NodeCursor<'_>,
+) -> Result<(), AllocError>
+    requires { is_block (block count (parts nodes.old)) ≡ true }
+    ensures text { OnOk result (string_bytes out.new ≡ string_bytes out.old ++ run_text reads.now (block count (parts nodes.old))) }
+    ensures rest { OnOk result (parts nodes.new ≡ drop count (parts nodes.old)) }
+    ensures shorter { OnOk result (length nodes.new ≤ length nodes.old) }
+{
     for _ in 0..count {
         out.push_str(" ")?;
         put_stmt(out, reads, nodes)?;
     }
-    out.push_str(" }")
+    Ok(())
 }
 
 /// All of a body.

@@ -6,3 +6,6 @@ decreases-put_cond l = 2 * length l.nodes.now
 
 abbrev pub decreases-put_joined : goal.decreases-put_joined
 decreases-put_joined l = 2 * length l.nodes.now + 1
+
+abbrev pub decreases-put_not : goal.decreases-put_not
+decreases-put_not l = 2 * length l.nodes.now + 1
