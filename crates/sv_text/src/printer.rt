@@ -1,6 +1,7 @@
 //! From an action to its canonical text.
 
 ghost use Rattle.std.specs.Prelude.{◌≡◌, ◌++◌, ◌<◌, ◌≤◌, [], ◌&&◌, true, cond, All, length, drop, string_bytes, Ok, OnOk, OnErr, IfOk};
+ghost use Rattle.std.specs.Fmt.{signed_decimal};
 ghost use Rattle.sv_world.specs.Heads.{expr_over, expr_arity};
 ghost use Rattle.sv_world.specs.Parts.{first, second, third, parts, block, is_expr, is_cond, is_stmt, is_block};
 ghost use Rattle.sv_text.specs.Tokens.{tokens_of};
@@ -63,6 +64,12 @@ fn joint_text(joint: Connective) -> &'static str
     }
 }
 
+fn put_number(out: &mut String, number: i64) -> Result<(), AllocError>
+    ensures { OnOk result (string_bytes out.new ≡ string_bytes out.old ++ signed_decimal number) }
+{
+    write!(out, "{number}")
+}
+
 // Each of these prints what the next nodes spell, and goes behind them.
 
 #[cycle(expression)]
@@ -95,7 +102,7 @@ fn put_head(
     ensures shorter { OnOk result (length nodes.new ≤ length nodes.old) }
 {
     match head {
-        ExprHead::Lit(number) => write!(out, "{number}"),
+        ExprHead::Lit(number) => put_number(out, number),
         ExprHead::Attr { slot, attr } => put_ref(out, reads, slot, attr),
         ExprHead::Binary(operator) => put_pair(out, reads, operator, nodes),
     }
