@@ -1,5 +1,5 @@
-//! Reading expressions. The depth is the number of levels that are left, and nodes the number of nodes so far. What is read is appended.
-ghost use Rattle.std.specs.Prelude.{◌≡◌, ◌≤◌, IfOk};
+//! Reading expressions. The depth is the number of levels that are left. What is read is appended.
+ghost use Rattle.std.specs.Prelude.{◌≡◌, ◌≤◌, OnOk};
 ghost use Rattle.sv_world.specs.Spelled.{expr_spelled};
 ghost use Rattle.sv_wire.specs.Steps.{Gives};
 ghost use Rattle.sv_wire.specs.Trees.{appended, lit_at, attr_at, pair_at, expr_at};
@@ -9,67 +9,63 @@ use crate::fields::{byte_of, i64_of};
 use crate::nodes::{ExprKind, expr_node};
 use sv_world::{Node, Operator};
 
+/// A body that is being read.
+#[derive(Drop)]
+pub struct Reader<'a> {
+    /// The bytes that are left.
+    pub rest: &'a [u8],
+    /// The nodes so far.
+    pub out: Vec<Node>,
+    /// How many of the language's nodes there are so far. A block is none of them.
+    pub nodes: u8,
+}
+
 #[tactic(auto, using(crate::proofs::Flat::lit_appended))]
-fn lit_next<'a>(
-    out: &mut Vec<Node>,
-    nodes: u8,
-    bytes: &'a [u8],
-) -> Result<(u8, &'a [u8]), ReadFault>
-    ensures gives { Gives (λ x. (out.new.items, x.0, x.1.now)) result (appended expr_spelled out.old.items (lit_at nodes bytes.now)) }
-    ensures few { IfOk result (λ x. x.0 ≡ nodes) }
+fn lit_next(reader: &mut Reader<'_>) -> Result<(), ReadFault>
+    ensures gives { Gives (λ _. (reader.new.out.items, reader.new.nodes, reader.new.rest.now)) result (appended expr_spelled reader.old.out.items (lit_at reader.old.nodes reader.old.rest.now)) }
+    ensures few { OnOk result (reader.new.nodes ≡ reader.old.nodes) }
 {
-    let (number, rest) = i64_of(bytes)?;
-    out.push(Node::Lit(number))?;
-    Ok((nodes, rest))
+    let (number, rest) = i64_of(reader.rest)?;
+    reader.rest = rest;
+    reader.out.push(Node::Lit(number))?;
+    Ok(())
 }
 
 #[tactic(auto, using(crate::proofs::Flat::attr_appended))]
-fn attr_next<'a>(
-    out: &mut Vec<Node>,
-    nodes: u8,
-    bytes: &'a [u8],
-) -> Result<(u8, &'a [u8]), ReadFault>
-    ensures gives { Gives (λ x. (out.new.items, x.0, x.1.now)) result (appended expr_spelled out.old.items (attr_at nodes bytes.now)) }
-    ensures few { IfOk result (λ x. x.0 ≡ nodes) }
+fn attr_next(reader: &mut Reader<'_>) -> Result<(), ReadFault>
+    ensures gives { Gives (λ _. (reader.new.out.items, reader.new.nodes, reader.new.rest.now)) result (appended expr_spelled reader.old.out.items (attr_at reader.old.nodes reader.old.rest.now)) }
+    ensures few { OnOk result (reader.new.nodes ≡ reader.old.nodes) }
 {
-    let (slot, rest) = byte_of(bytes)?;
+    let (slot, rest) = byte_of(reader.rest)?;
     let (attr, rest) = byte_of(rest)?;
-    out.push(Node::Attr { slot, attr })?;
-    Ok((nodes, rest))
+    reader.rest = rest;
+    reader.out.push(Node::Attr { slot, attr })?;
+    Ok(())
 }
 
 #[cycle(exprs)]
 #[tactic(auto, using(crate::proofs::Flat::pair_appended))]
-fn pair_next<'a>(
-    out: &mut Vec<Node>,
-    depth: u8,
-    operator: Operator,
-    nodes: u8,
-    bytes: &'a [u8],
-) -> Result<(u8, &'a [u8]), ReadFault>
-    ensures gives { Gives (λ x. (out.new.items, x.0, x.1.now)) result (appended expr_spelled out.old.items (pair_at (λ n rest. expr_at depth n rest) operator nodes bytes.now)) }
-    ensures few { IfOk result (λ x. x.0 ≤ 64) }
+fn pair_next(reader: &mut Reader<'_>, depth: u8, operator: Operator) -> Result<(), ReadFault>
+    ensures gives { Gives (λ _. (reader.new.out.items, reader.new.nodes, reader.new.rest.now)) result (appended expr_spelled reader.old.out.items (pair_at (λ n rest. expr_at depth n rest) operator reader.old.nodes reader.old.rest.now)) }
+    ensures few { OnOk result (reader.new.nodes ≤ 64) }
 {
-    out.push(Node::Binary(operator))?;
-    let (nodes, rest) = expr_next(out, depth, nodes, bytes)?;
-    expr_next(out, depth, nodes, rest)
+    reader.out.push(Node::Binary(operator))?;
+    expr_next(reader, depth)?;
+    expr_next(reader, depth)
 }
 
 #[cycle(exprs)]
 #[tactic(auto, using(crate::proofs::Trees::expr_at_is, crate::proofs::Flat::expr_step_appended))]
-pub fn expr_next<'a>(
-    out: &mut Vec<Node>,
-    depth: u8,
-    nodes: u8,
-    bytes: &'a [u8],
-) -> Result<(u8, &'a [u8]), ReadFault>
-    ensures gives { Gives (λ x. (out.new.items, x.0, x.1.now)) result (appended expr_spelled out.old.items (expr_at depth nodes bytes.now)) }
-    ensures few { IfOk result (λ x. x.0 ≤ 64) }
+pub fn expr_next(reader: &mut Reader<'_>, depth: u8) -> Result<(), ReadFault>
+    ensures gives { Gives (λ _. (reader.new.out.items, reader.new.nodes, reader.new.rest.now)) result (appended expr_spelled reader.old.out.items (expr_at depth reader.old.nodes reader.old.rest.now)) }
+    ensures few { OnOk result (reader.new.nodes ≤ 64) }
 {
-    let (kind, rest) = expr_node(depth, nodes, bytes)?;
+    let (kind, rest) = expr_node(depth, reader.nodes, reader.rest)?;
+    reader.rest = rest;
+    reader.nodes += 1;
     match kind {
-        ExprKind::Lit => lit_next(out, nodes + 1, rest),
-        ExprKind::Attr => attr_next(out, nodes + 1, rest),
-        ExprKind::Both(operator) => pair_next(out, depth - 1, operator, nodes + 1, rest),
+        ExprKind::Lit => lit_next(reader),
+        ExprKind::Attr => attr_next(reader),
+        ExprKind::Both(operator) => pair_next(reader, depth - 1, operator),
     }
 }

@@ -19,6 +19,6 @@ decreases-if_next l = 8 * l.depth + 3
 abbrev pub invariant-stmts_next-loop : goal.invariant-stmts_next-loop
 invariant-stmts_next-loop l =
     record {
-      few : l.so_far ≤ 64;
-      read : appended run_spelled l.out.items (in_turn (λ n rest. stmt_at l.depth n rest) (l.count - l.counter) l.so_far l.rest) ≡ appended run_spelled l.fn.out.items (in_turn (λ n rest. stmt_at l.depth n rest) l.count l.nodes l.bytes);
+      few : l.reader.nodes ≤ 64;
+      read : appended run_spelled l.reader.out.items (in_turn (λ n rest. stmt_at l.depth n rest) (l.count - l.counter) l.reader.nodes l.reader.rest.now) ≡ appended run_spelled l.fn.reader.out.items (in_turn (λ n rest. stmt_at l.depth n rest) l.count l.fn.reader.nodes l.fn.reader.rest.now);
     }
