@@ -12,10 +12,8 @@ mod flatten;
 mod heads;
 mod laws;
 mod list;
-mod measure;
 mod names;
 mod node;
-mod shared;
 mod short;
 mod spelling;
 mod text;
@@ -38,7 +36,6 @@ pub use laws::{
 pub use list::List;
 pub use names::is_in_mask;
 pub use node::{Comparison, Connective, Node, Operator};
-pub use shared::Shared;
 pub use short::Short;
 pub use spelling::bodies_are_spelled;
 pub use text::Text;
