@@ -10,6 +10,7 @@ pub mod Members
 pub mod Needs
 pub mod NodeTests
 pub mod Places
+pub mod Same
 pub mod Sorted
 pub mod Sound
 pub mod Spells

@@ -7,6 +7,7 @@ mod boxed;
 mod check;
 mod copy;
 mod cursor;
+mod equal;
 mod fits;
 mod flatten;
 mod heads;
@@ -25,6 +26,8 @@ pub use boxed::Boxed;
 pub use check::{BadAction, check_action, good_actions_have_no_fault, is_ascending};
 pub use copy::{copy_action, copy_objects, copy_value, copy_values};
 pub use cursor::NodeCursor;
+pub use equal::{same_bodies_are_equal, same_body};
+pub use flatten::has_short_blocks;
 pub use heads::{
     CondHead, ExprHead, StmtHead, block_head, cond_head, expr_head, skip_block, stmt_head,
 };
