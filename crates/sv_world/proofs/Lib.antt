@@ -5,11 +5,15 @@ pub mod Good
 pub mod Influences
 pub mod Layers
 pub mod Masks
+pub mod Measured
 pub mod Members
 pub mod Needs
+pub mod NodeTests
 pub mod Places
 pub mod Ranged
+pub mod Same
 pub mod Sorted
+pub mod Sound
 pub mod Spells
 pub mod Sweeps
 pub mod Writers

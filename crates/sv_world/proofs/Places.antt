@@ -1,10 +1,11 @@
 -- Nodes that are written at a place which was kept for them.
-use Rattle.std.proofs.Common.{◌≡◌, ℕ, zero, suc, ◌+◌, ◌-◌, ◌<◌, List, [], ◌∷◌, ◌++◌, length, set, refl, sym, ap, ◌∙◌, append_assoc, length-append, arith}
+use Rattle.std.proofs.Common.{◌≡◌, ℕ, zero, suc, ◌+◌, ◌-◌, ◌<◌, List, [], ◌∷◌, ◌++◌, length, map, set, refl, sym, ap, ◌∙◌, append_assoc, length-append, arith}
 use Rattle.sv_world.specs.declared.action.Cond.{Cond}
 use Rattle.sv_world.specs.declared.action.Stmt.{Stmt}
 use Rattle.sv_world.specs.declared.action.Stmt.TheVariants as stmt
 use Rattle.sv_world.specs.declared.node.Node.{Node}
 use Rattle.sv_world.specs.declared.node.Node.TheVariants as node
+use Rattle.sv_world.specs.Short.{stmt_is_short}
 use Rattle.sv_world.specs.Spelled.{cond_spelled, stmt_spelled, body_spelled}
 use Rattle.sv_world.proofs.Layers.{if_spelled}
 
@@ -40,3 +41,7 @@ block_at_end old out run count place len e p l =
     ∙ ap (λ (k : ℕ). set out k (node.Block count (length run))) p
     ∙ ap (λ (ns : List Node). set ns (length old) (node.Block count (length run))) e
     ∙ set_reserved old (node.Block count 0) (node.Block count (length run)) run
+
+pub length_tests : (xs : List Stmt) → length (map stmt_is_short xs) ≡ length xs
+length_tests [] = refl
+length_tests (x ∷ xs) = ap suc (length_tests xs)

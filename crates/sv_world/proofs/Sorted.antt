@@ -1,11 +1,12 @@
 -- What is known of nodes that begin with a part of some kind.
-use Rattle.std.proofs.Common.{◌≡◌, ℕ, ◌≤◌, Bool, true, false, List, [], ◌∷◌, length, nat_eq, refl, arith}
+use Rattle.std.proofs.Common.{◌≡◌, ℕ, zero, suc, ◌≤◌, Bool, true, false, List, [], ◌∷◌, length, drop, nat_eq, refl, sym, ap, ◌∙◌, subst, arith}
+use Rattle.std.proofs.Math.Seq.{drop-nil}
 use Rattle.sv_world.specs.declared.action.Stmt.{Stmt}
 use Rattle.sv_world.specs.declared.node.Node.{Node}
 use Rattle.sv_world.specs.declared.node.Operator.{Operator}
 use Rattle.sv_world.specs.declared.node.Comparison.{Comparison}
 use Rattle.sv_world.specs.declared.node.Connective.{Connective}
-use Rattle.sv_world.specs.Parts.{Part, Expression, Condition, Statement, Block, Bad, first, binary, comparison, joining, negated, setting, choice, with_statement, kept, sized, parts, is_expr, is_cond, is_stmt, is_block}
+use Rattle.sv_world.specs.Parts.{Part, Expression, Condition, Statement, Block, Bad, first, binary, comparison, joining, negated, setting, choice, with_statement, block, kept, sized, parts, is_expr, is_cond, is_stmt, is_block}
 use Rattle.sv_world.specs.Spelled.{run_spelled}
 
 pub expr_there : (ns : List Node) → is_expr (first (parts ns)) ≡ true → 1 ≤ length ns
@@ -167,5 +168,23 @@ if_parts p q r e = absurd (cc)
 pub more_parts : (p q : Part) → is_block (with_statement p q) ≡ true → (is_stmt p ≡ true) × (is_block q ≡ true)
 more_parts (Statement s) (Block xs) e = (refl, refl)
 more_parts p q e = absurd (cc)
+
+-- ---- one more statement of a block
+
+pub next_kind : (n m : ℕ) (ps qs : List Part) → n ≡ suc m → qs ≡ drop 1 ps → is_block (block n ps) ≡ true → is_block (block m qs) ≡ true
+next_kind n m [] qs e f k =
+    let bad : is_block (block (suc m) []) ≡ true = subst (λ (i : ℕ). is_block (block i []) ≡ true) e k in absurd (cc)
+next_kind n m (p ∷ ps) qs e f k =
+    let whole : is_block (block (suc m) (p ∷ ps)) ≡ true = subst (λ (i : ℕ). is_block (block i (p ∷ ps)) ≡ true) e k in
+    ap (λ (rs : List Part). is_block (block m rs)) f ∙ (more_parts p (block m ps) whole).1
+
+pub next_behind : (n m : ℕ) (ps qs : List Part) → n ≡ suc m → qs ≡ drop 1 ps → drop m qs ≡ drop n ps
+next_behind n m [] qs e f = ap (drop m) f ∙ drop-nil m ∙ sym (drop-nil n)
+next_behind n m (p ∷ ps) qs e f = ap (drop m) f ∙ ap (λ (i : ℕ). drop i (p ∷ ps)) (sym e)
+
+pub first_kind : (n : ℕ) (ps : List Part) → 1 ≤ n → is_block (block n ps) ≡ true → is_stmt (first ps) ≡ true
+first_kind zero ps l k = absurd (omega arith)
+first_kind (suc n) [] l k = absurd (cc)
+first_kind (suc n) (p ∷ ps) l k = (more_parts p (block n ps) k).0
 
 pub ruleset part_kinds = (binary_exprs, compare_exprs, join_conds, not_cond, set_expr, if_parts)

@@ -128,3 +128,32 @@ pub(crate) fn push_block(out: &mut Vec<Node>, body: &[Stmt]) -> Result<(), Alloc
     out[place] = Node::Block { count, size };
     Ok(())
 }
+
+#[cycle(short)]
+fn stmt_is_short(stmt: &Stmt) -> bool
+    ensures { result ≡ stmt_is_short stmt.now }
+{
+    match stmt {
+        Stmt::Set { .. } => true,
+        Stmt::If { then, other, .. } => {
+            has_short_blocks(then.as_slice()) && has_short_blocks(other.as_slice())
+        }
+    }
+}
+
+/// Whether nodes can hold these statements: there are at most 255 of them, and so in each block inside.
+#[cycle(short)]
+#[tactic(auto, using(crate::proofs::Places::length_tests))]
+pub fn has_short_blocks(stmts: &[Stmt]) -> bool
+    ensures { result ≡ has_short_blocks stmts.now }
+{
+    if stmts.len() > 255 {
+        return false;
+    }
+    for stmt in stmts {
+        if !stmt_is_short(stmt) {
+            return false;
+        }
+    }
+    true
+}

@@ -7,16 +7,15 @@ mod boxed;
 mod check;
 mod copy;
 mod cursor;
+mod equal;
 mod fits;
 mod flatten;
 mod heads;
 mod laws;
 mod list;
-mod measure;
 mod names;
 mod node;
 mod numbers;
-mod shared;
 mod short;
 mod spelling;
 mod text;
@@ -28,6 +27,8 @@ pub use boxed::Boxed;
 pub use check::{BadAction, check_action, good_actions_have_no_fault, is_ascending};
 pub use copy::{copy_action, copy_objects, copy_value, copy_values};
 pub use cursor::NodeCursor;
+pub use equal::{same_bodies_are_equal, same_body};
+pub use flatten::has_short_blocks;
 pub use heads::{
     CondHead, ExprHead, StmtHead, block_head, cond_head, expr_head, skip_block, stmt_head,
 };
@@ -39,7 +40,6 @@ pub use laws::{
 pub use list::List;
 pub use names::is_in_mask;
 pub use node::{Comparison, Connective, Node, Operator};
-pub use shared::Shared;
 pub use short::Short;
 pub use spelling::bodies_are_spelled;
 pub use text::Text;
