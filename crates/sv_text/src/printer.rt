@@ -12,7 +12,8 @@ ghost use Rattle.sv_text.specs.Canonical.{object_in, ref_text, pair_text, test_t
 use std::alloc::{AllocError, Global};
 use std::fmt::Write;
 use sv_world::{
-    Action, Body, Comparison, CondHead, Connective, ExprHead, NodeCursor, ObjectId, Operator, Point, StmtHead,
+    Action, Body, Comparison, CondHead, Connective, ExprHead, NodeCursor, ObjectId, Operator,
+    Point, StmtHead,
 };
 
 /// The object in a slot, and 0 where the slot is none.
@@ -149,7 +150,11 @@ fn put_test(
 
 #[cycle(condition)]
 #[tactic(auto, using(sv_world::proofs::Sorted::part_kinds, crate::proofs::Printed::texts))]
-fn put_cond(out: &mut String, reads: &[ObjectId], nodes: &mut NodeCursor<'_>) -> Result<(), AllocError>
+fn put_cond(
+    out: &mut String,
+    reads: &[ObjectId],
+    nodes: &mut NodeCursor<'_>,
+) -> Result<(), AllocError>
     requires { is_cond (first (parts nodes.old)) ≡ true }
     ensures text { OnOk result (string_bytes out.new ≡ string_bytes out.old ++ part_text reads.now (first (parts nodes.old))) }
     ensures rest { OnOk result (parts nodes.new ≡ drop 1 (parts nodes.old)) }
@@ -218,7 +223,11 @@ fn put_set(
 
 #[cycle(statement)]
 #[tactic(auto, using(sv_world::proofs::Sorted::part_kinds, crate::proofs::Printed::texts))]
-fn put_stmt(out: &mut String, reads: &[ObjectId], nodes: &mut NodeCursor<'_>) -> Result<(), AllocError>
+fn put_stmt(
+    out: &mut String,
+    reads: &[ObjectId],
+    nodes: &mut NodeCursor<'_>,
+) -> Result<(), AllocError>
     requires { is_stmt (first (parts nodes.old)) ≡ true }
     ensures text { OnOk result (string_bytes out.new ≡ string_bytes out.old ++ part_text reads.now (first (parts nodes.old))) }
     ensures rest { OnOk result (parts nodes.new ≡ drop 1 (parts nodes.old)) }
@@ -232,7 +241,11 @@ fn put_stmt(out: &mut String, reads: &[ObjectId], nodes: &mut NodeCursor<'_>) ->
 
 /// An `if`, whose condition and blocks come next.
 #[cycle(statement)]
-fn put_choice(out: &mut String, reads: &[ObjectId], nodes: &mut NodeCursor<'_>) -> Result<(), AllocError>
+fn put_choice(
+    out: &mut String,
+    reads: &[ObjectId],
+    nodes: &mut NodeCursor<'_>,
+) -> Result<(), AllocError>
     requires cond { is_cond (first (parts nodes.old)) ≡ true }
     requires then { is_block (second (parts nodes.old)) ≡ true }
     requires other { is_block (third (parts nodes.old)) ≡ true }

@@ -371,9 +371,7 @@ fn greatest_results(rt: HostRuntime) -> Result<(), Fail> {
 }
 
 /// An `if` whose first block has one statement, as far as that statement: four nodes and the block's count.
-const NESTING: [u8; 15] = [
-    0x11, 0x31, 0x21, 15, 0, 0x20, 0, 0, 0, 0, 0, 0, 0, 1, 1,
-];
+const NESTING: [u8; 15] = [0x11, 0x31, 0x21, 15, 0, 0x20, 0, 0, 0, 0, 0, 0, 0, 1, 1];
 
 /// A submit whose body has 64 nodes on eight levels: six `if` in one another, each with statements behind it where it does not hold.
 fn deepest_submit(alloc: Global) -> Result<Vec<u8>, Fail> {
