@@ -24,7 +24,7 @@ const ROOM: usize = 64;
 #[tactic(auto, using(crate::proofs::Flat::body_found), unfolding(crate::specs::Reading::body_at))]
 fn body_at(alloc: Global, reads: &[ObjectId], cursor: Cursor<'_>) -> Result<Body, ParseFault>
     requires { length reads.now ≤ 16 }
-    ensures { Gives (λ body. body) result (body_at reads.now cursor) }
+    ensures { Gives (λ body. body) result (body_at reads.now cursor.entry) }
 {
     let mut parser = Parser {
         cursor,
@@ -38,7 +38,7 @@ fn body_at(alloc: Global, reads: &[ObjectId], cursor: Cursor<'_>) -> Result<Body
 
 #[tactic(auto, unfolding(crate::specs::Reading::reading))]
 fn action_at(alloc: Global, mut cursor: Cursor<'_>) -> Result<Action, ParseFault>
-    ensures { Gives (λ action. action) result (reading cursor) }
+    ensures { Gives (λ action. action) result (reading cursor.entry) }
 {
     let reads = header_at(alloc, &mut cursor)?;
     let mask = writes_at(reads.as_slice(), &mut cursor)?;
