@@ -2,8 +2,8 @@
 use std::alloc::{AllocError, Global};
 use std::test::Fail;
 use sv_world::{
-    Action, Body, Boxed, ClientId, Cond, Expr, List, ObjectId, Point, Reads, Shape, Short, Stmt, Text,
-    Value, World, check_action, copy_action, copy_objects, copy_value, copy_values,
+    Action, Body, Boxed, ClientId, Cond, Expr, List, ObjectId, Point, Reads, Shape, Short, Stmt,
+    Text, Value, World, check_action, copy_action, copy_objects, copy_value, copy_values,
     good_actions_have_no_fault, has_short_blocks, is_ascending, is_in_mask, same_bodies_are_equal,
     same_body,
 };
