@@ -1,12 +1,8 @@
 -- The measures and tests of what a node makes of its parts.
-use Rattle.std.proofs.Common.{◌≡◌, ℕ, zero, suc, ◌+◌, ◌≤◌, max, Bool, true, false, ◌&&◌, List, [], ◌∷◌, map, sum, drop, refl, ap, sym, ◌∙◌, subst, arith}
+use Rattle.std.proofs.Common.{◌≡◌, ℕ, zero, suc, ◌+◌, ◌≤◌, max, Bool, true, false, ◌&&◌, List, [], ◌∷◌, map, drop, refl, ap, sym, ◌∙◌, subst, arith}
 use Rattle.std.proofs.lemmas.List.Sums.{sum_by-cons}
 use Rattle.sv_world.specs.declared.action.Expr.{Expr}
 use Rattle.sv_world.specs.declared.action.Expr.TheVariants as expr
-use Rattle.sv_world.specs.declared.action.Cond.{Cond}
-use Rattle.sv_world.specs.declared.action.Cond.TheVariants as test
-use Rattle.sv_world.specs.declared.action.Stmt.{Stmt}
-use Rattle.sv_world.specs.declared.action.Stmt.TheVariants as stmt
 use Rattle.sv_world.specs.declared.node.Operator.{Operator}
 use Rattle.sv_world.specs.declared.node.Operator.TheVariants.{Add, Sub, Mul, Div, Rem, Min, Max}
 use Rattle.sv_world.specs.declared.node.Comparison.{Comparison}
@@ -14,9 +10,9 @@ use Rattle.sv_world.specs.declared.node.Comparison.TheVariants.{Eq, Lt, Le}
 use Rattle.sv_world.specs.declared.node.Connective.{Connective}
 use Rattle.sv_world.specs.declared.node.Connective.TheVariants.{And, Or}
 use Rattle.sv_world.specs.declared.fits.Limits.{Limits}
-use Rattle.sv_world.specs.Parts.{Part, Expression, Condition, Statement, Block, Bad, first, second, third, binary_by, compare_by, join_by, binary, comparison, joining, negated, setting, choice, with_statement, block, is_expr, is_cond, is_stmt, is_block}
+use Rattle.sv_world.specs.Parts.{Part, Expression, Condition, Statement, Block, first, binary, comparison, joining, negated, setting, choice, with_statement, block, is_expr, is_cond, is_stmt, is_block}
 use Rattle.sv_world.specs.PartTrees.{part_nodes, part_depth, part_passes, may_set, may_get, fits}
-use Rattle.sv_world.specs.Trees.{expr_by as expr_value, cond_by as cond_value, expr_nodes, cond_nodes, stmt_nodes_step, stmt_nodes, body_nodes, expr_depth, cond_depth, stmt_depth_step, stmt_depth, body_depth, all_true, expr_passes, cond_passes, stmt_passes_step, stmt_passes, body_passes}
+use Rattle.sv_world.specs.Trees.{expr_by as expr_value, cond_by as cond_value, expr_nodes, cond_nodes, stmt_nodes_step, stmt_nodes, expr_depth, cond_depth, stmt_depth_step, expr_passes, cond_passes, stmt_passes_step}
 use Rattle.sv_world.proofs.Layers.{binary_layer, compare_layer, join_layer, lit_fold, attr_fold, binary_fold, compare_fold, join_fold, not_fold, set_fold, if_fold}
 use Rattle.sv_world.proofs.Sorted.{more_parts, next_kind, next_behind, first_kind, binary_exprs, compare_exprs, join_conds, not_cond, set_expr, if_parts}
 

@@ -16,14 +16,13 @@ use Rattle.sv_world.specs.declared.action.Stmt.TheOpen.{Stmt-F}
 use Rattle.sv_world.specs.declared.action.Stmt.TheViews.{roll-Stmt}
 use Rattle.sv_world.specs.declared.action.Stmt.TheFolds.{ind-Stmt}
 use Rattle.sv_world.specs.declared.node.Node.{Node}
-use Rattle.sv_world.specs.declared.node.Node.TheVariants as node
 use Rattle.sv_world.specs.declared.node.Operator.{Operator}
 use Rattle.sv_world.specs.declared.node.Operator.TheVariants.{Add, Sub, Mul, Div, Rem, Min, Max}
 use Rattle.sv_world.specs.declared.node.Comparison.{Comparison}
 use Rattle.sv_world.specs.declared.node.Comparison.TheVariants.{Eq, Lt, Le}
 use Rattle.sv_world.specs.declared.node.Connective.{Connective}
 use Rattle.sv_world.specs.declared.node.Connective.TheVariants.{And, Or}
-use Rattle.sv_world.specs.NodeTests.{node_passes, nodes_pass, node_weight, nodes_weight}
+use Rattle.sv_world.specs.NodeTests.{node_passes, nodes_pass, nodes_weight}
 use Rattle.sv_world.specs.Parts.{Part, Expression, Condition, Statement, Block, binary_by, compare_by, join_by, parts}
 use Rattle.sv_world.specs.PartTrees.{part_nodes, part_passes}
 use Rattle.sv_world.specs.Spelled.{expr_spelled, cond_spelled, stmt_spelled, run_spelled, body_spelled}

@@ -1,5 +1,5 @@
 -- Nodes that are written at a place which was kept for them.
-use Rattle.std.proofs.Common.{◌≡◌, ℕ, zero, suc, ◌+◌, ◌-◌, ◌<◌, List, [], ◌∷◌, ◌++◌, length, map, set, refl, sym, ap, ◌∙◌, append_assoc, length-append, arith}
+use Rattle.std.proofs.Common.{◌≡◌, ℕ, suc, ◌+◌, ◌-◌, List, [], ◌∷◌, ◌++◌, length, map, set, refl, sym, ap, ◌∙◌, append_assoc, length-append, arith}
 use Rattle.sv_world.specs.declared.action.Cond.{Cond}
 use Rattle.sv_world.specs.declared.action.Stmt.{Stmt}
 use Rattle.sv_world.specs.declared.action.Stmt.TheVariants as stmt

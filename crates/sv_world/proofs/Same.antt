@@ -12,7 +12,7 @@ use Rattle.sv_world.specs.declared.node.Comparison.{Comparison}
 use Rattle.sv_world.specs.declared.node.Comparison.TheVariants.{Eq, Lt, Le}
 use Rattle.sv_world.specs.declared.node.Connective.{Connective}
 use Rattle.sv_world.specs.declared.node.Connective.TheVariants.{And, Or}
-use Rattle.sv_world.specs.Parts.{Part, Block, first, block_in, parts}
+use Rattle.sv_world.specs.Parts.{Block, first, block_in, parts}
 use Rattle.sv_world.specs.Same.{operator_number, comparison_number, connective_number, node_kind, node_field, last_field, is_same_node, are_same_nodes, is_same_body}
 use Rattle.sv_world.specs.Spelled.{body_spelled}
 use Rattle.sv_world.proofs.Back.{body_back}

@@ -6,7 +6,7 @@ use Rattle.sv_world.specs.declared.node.Node.{Node}
 use Rattle.sv_world.specs.declared.node.Operator.{Operator}
 use Rattle.sv_world.specs.declared.node.Comparison.{Comparison}
 use Rattle.sv_world.specs.declared.node.Connective.{Connective}
-use Rattle.sv_world.specs.Parts.{Part, Expression, Condition, Statement, Block, Bad, first, binary, comparison, joining, negated, setting, choice, with_statement, block, kept, sized, parts, is_expr, is_cond, is_stmt, is_block}
+use Rattle.sv_world.specs.Parts.{Part, Expression, Condition, Statement, Block, first, binary, comparison, joining, negated, setting, choice, with_statement, block, kept, sized, parts, is_expr, is_cond, is_stmt, is_block}
 use Rattle.sv_world.specs.Spelled.{run_spelled}
 
 pub expr_there : (ns : List Node) → is_expr (first (parts ns)) ≡ true → 1 ≤ length ns

@@ -2,7 +2,7 @@
 use Rattle.std.proofs.Common.{◌≡◌, ℕ, ◌≤◌, Bool, true, false, ◌&&◌, not, nat_lt, List, [], ◌∷◌, refl, sym, ap, ◌∙◌, arith}
 use Rattle.std.proofs.lemmas.Bool.Decides.{nat_tests}
 use Rattle.sv_world.specs.Sets.{is_in_mask}
-use Rattle.sv_world.specs.NodeTests.{node_passes, nodes_pass}
+use Rattle.sv_world.specs.NodeTests.{nodes_pass}
 use Rattle.sv_world.specs.Parts.{Block}
 use Rattle.sv_world.specs.PartTrees.{may_get, may_set, fits}
 use Rattle.sv_world.specs.Spelled.{body_spelled}

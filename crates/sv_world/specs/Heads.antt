@@ -1,6 +1,5 @@
 -- What the first of some nodes says.
-use Rattle.std.specs.Prelude.{◌≡◌, ℕ, Bool, true, false, List, [], ◌∷◌, drop}
-use Rattle.std.specs.Int.{w64}
+use Rattle.std.specs.Prelude.{ℕ, List}
 use Rattle.sv_world.specs.declared.action.Expr.TheVariants as expr
 use Rattle.sv_world.specs.declared.heads.ExprHead.{ExprHead}
 use Rattle.sv_world.specs.declared.heads.ExprHead.TheVariants as expr_head

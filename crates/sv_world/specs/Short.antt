@@ -1,5 +1,5 @@
 -- Whether the blocks of statements are short enough for nodes.
-use Rattle.std.specs.Prelude.{ℕ, Bool, true, ◌&&◌, nat_le, List, length, map}
+use Rattle.std.specs.Prelude.{Bool, true, ◌&&◌, nat_le, List, length, map}
 use Rattle.sv_world.specs.Trees.{all_true}
 use Rattle.sv_world.specs.declared.action.Stmt.{Stmt}
 use Rattle.sv_world.specs.declared.action.Stmt.TheOpen.{Stmt-F}

@@ -1,6 +1,6 @@
-use Rattle.std.proofs.Common.{◌≡◌, ℕ, suc, ◌+◌, ◌-◌, ◌≤◌, max, Bool, true, ◌&&◌, drop, refl, sym, ap, ◌∙◌, arith}
+use Rattle.std.proofs.Common.{◌≡◌, suc, ◌+◌, ◌-◌, ◌≤◌, Bool, true, ◌&&◌, drop, refl, sym, ◌∙◌, arith}
 use Rattle.sv_world.specs.Parts.{first, parts, block}
-use Rattle.sv_world.specs.PartTrees.{part_nodes, part_depth, fits}
+use Rattle.sv_world.specs.PartTrees.{fits}
 use Rattle.sv_world.proofs.Measured.{next_fits, next_nodes, next_depth, first_fits, first_nodes, first_depth}
 use Rattle.sv_world.proofs.Sorted.{next_kind, next_behind}
 use Rattle.sv_world.proofs.fits.+statements.Goals as goal

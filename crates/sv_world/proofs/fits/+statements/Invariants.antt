@@ -1,4 +1,4 @@
-use Rattle.std.proofs.Common.{◌≡◌, ◌+◌, ◌-◌, ◌<◌, ◌≤◌, max, Bool, true, ◌&&◌, length, drop}
+use Rattle.std.proofs.Common.{◌≡◌, ◌+◌, ◌-◌, ◌<◌, max, true, length, drop}
 use Rattle.sv_world.specs.Parts.{first, parts, block, is_block}
 use Rattle.sv_world.specs.PartTrees.{part_nodes, part_depth, fits}
 use Rattle.sv_world.proofs.fits.+statements.Given as goal
