@@ -1,4 +1,4 @@
-"""Times loads of some sizes over TCP: the program, and the plain Rust peer, in turn."""
+"""Times loads of some sizes over TCP and over links in memory: the program, and the plain Rust peer, in turn."""
 
 import shutil
 import statistics
@@ -25,27 +25,37 @@ def run(words):
     return time.perf_counter() - start, printed
 
 
-def main(program, sources, rounds):
+def times(n, mine, theirs, rounds):
+    """The seconds of ours and of the peer, each run in turn, with the same printed."""
+    ours, peers = [], []
+    for _ in range(rounds):
+        here, said = run(mine)
+        there, wanted = run(theirs)
+        if said != wanted:
+            sys.exit(f"load {n}: the summaries differ")
+        ours.append(here)
+        peers.append(there)
+    return ours, peers
+
+
+def print_row(n, link, ours, theirs):
+    _, actions = load(n)
+    best, middle = min(theirs) / min(ours), statistics.median(theirs) / statistics.median(ours)
+    print(
+        f"| {link} | {n} | {actions} | {actions / min(ours):,.0f} | {actions / statistics.median(ours):,.0f} | {min(ours) * 1e6 / actions:.1f} "
+        f"| {actions / min(theirs):,.0f} | {actions / statistics.median(theirs):,.0f} | {best:.2f} | {middle:.2f} |",
+        flush=True,
+    )
+
+
+def main(program, in_memory, sources, rounds):
     with tempfile.TemporaryDirectory() as folder:
         peer = peer_of(folder, sources)
-        print("| Size | Actions | Here: actions/s, best | median | µs an action, best | Peer: actions/s, best | median | Here / peer, best | median |")
-        print("|---|---|---|---|---|---|---|---|---|")
+        print("| Links | Size | Actions | Here: actions/s, best | median | µs an action, best | Peer: actions/s, best | median | Here / peer, best | median |")
+        print("|---|---|---|---|---|---|---|---|---|---|")
         for n in SIZES:
-            ours, theirs = [], []
-            for _ in range(rounds):
-                here, said = run([program, "load", str(n)])
-                there, wanted = run([peer, "load", str(n), "--tcp"])
-                if said != wanted:
-                    sys.exit(f"load {n}: the summaries differ")
-                ours.append(here)
-                theirs.append(there)
-            _, actions = load(n)
-            best, middle = min(theirs) / min(ours), statistics.median(theirs) / statistics.median(ours)
-            print(
-                f"| {n} | {actions} | {actions / min(ours):,.0f} | {actions / statistics.median(ours):,.0f} | {min(ours) * 1e6 / actions:.1f} "
-                f"| {actions / min(theirs):,.0f} | {actions / statistics.median(theirs):,.0f} | {best:.2f} | {middle:.2f} |",
-                flush=True,
-            )
+            print_row(n, "TCP", *times(n, [program, "load", str(n)], [peer, "load", str(n), "--tcp"], rounds))
+            print_row(n, "memory", *times(n, [in_memory, str(n)], [peer, "load", str(n)], rounds))
 
 
-main(sys.argv[1], sys.argv[2], int(sys.argv[3]))
+main(sys.argv[1], sys.argv[2], sys.argv[3], int(sys.argv[4]))
