@@ -1,10 +1,11 @@
 #!/usr/bin/env python3
 """Checks the examples of the documents for makers of games, with no program of the product.
 
-    python3 tests/outside/test_documents.py [DOCUMENT ..]
+    python3 tests/outside/test_documents.py [--program PROGRAM] [DOCUMENT ..]
 
-Takes the fenced blocks out of docs/ACTIONS.md, docs/ERRORS.md and docs/TUTORIAL.md, or out of the
-documents that are named, and checks each by the word behind its opening fence:
+Takes the fenced blocks out of README.md and of docs/ACTIONS.md, EMBEDDING.md, ERRORS.md, PICTURE.md
+and TUTORIAL.md, or out of the documents that are named, and checks each by the word behind its
+opening fence:
 
     action          an action text, which must be read
     canonical       pairs of lines: an action text, and its canonical text
@@ -28,7 +29,18 @@ documents that are named, and checks each by the word behind its opening fence:
     played-brief NAME S     the same of the brief summary of such a run
     answers         lines `sS REQUEST -> REPLY`: what a server answers that has one object with the
                     one attribute 0, and a bound of 8
+    file PATH       lines that stand together in that file of the repository
     text, sh        not checked
+
+Where no document is named, it looks at more:
+
+- each line of docs and README that names a file of the repository by a link names one that is there;
+- each command line `./dimboetu ..` of these documents is one that `--help` has, and names files that
+  are there; with --program each of them that ends by itself is run, and must end with status 0, a
+  replay of an example with the text beside it;
+- each line that the program can print on standard error, each cause of a refused file and each
+  status stands in docs/ERRORS.md, and each refusal of docs/PROTOCOL.md has its row there;
+- `--help` has each command of README.md, each status, and names documents that are there.
 
 Every fenced block must have one of these words. Each pair, each line of a `gives` block behind its
 text, and every other block counts as one thing. Closes with `N passed, M failed`.
@@ -37,6 +49,7 @@ text, and every other block counts as one thing. Closes with `N passed, M failed
 import json
 import os
 import re
+import subprocess
 import sys
 
 import simulate
@@ -48,7 +61,8 @@ from server import Server
 
 HERE = os.path.dirname(os.path.abspath(__file__))
 TOP = os.path.join(HERE, "..", "..")
-DOCUMENTS = ("ACTIONS", "ERRORS", "TUTORIAL")
+DOCUMENTS = ("README.md", "docs/ACTIONS.md", "docs/EMBEDDING.md", "docs/ERRORS.md", "docs/PICTURE.md",
+             "docs/TUTORIAL.md")
 LARGEST = 4_194_304
 UNSIGNED = 2 ** 64 - 1
 HELD = re.compile(r"([0-9]+)=\((-?[0-9]+(?:,-?[0-9]+)*)\)")
@@ -235,6 +249,55 @@ def stands_in(lines, whole_text):
     return any(whole_text[start:start + len(lines)] == lines for start in range(len(whole_text)))
 
 
+def text_of(path):
+    """A file of the repository."""
+    with open(os.path.join(TOP, path), encoding="utf-8") as file:
+        return file.read()
+
+
+def all_documents():
+    """README and each page of docs, by their paths in the repository."""
+    pages = sorted(name for name in os.listdir(os.path.join(TOP, "docs")) if name.endswith(".md"))
+    return ["README.md"] + [f"docs/{name}" for name in pages]
+
+
+def help_text():
+    """What `--help` prints."""
+    return re.search(r'HELP: &str =\s*r#"(.*?)"#;', text_of("crates/sv_main/src/help.rt"), re.S)[1]
+
+
+def forms_of_help():
+    """The commands of `--help`, each as its words; words in capitals stand for any."""
+    forms = [line.split("  ")[1] for line in help_text().split("\n") if re.match(r"  dimboetu [a-z]", line)]
+    return [form.split()[1:] for form in forms]
+
+
+def is_command(words, forms):
+    """Whether words are those of a command that `--help` has."""
+    if words in (["build"], ["--help"], ["--version"]):
+        return True
+    return any(len(words) == len(form) and all(each.isupper() or each == word
+                                               for word, each in zip(words, form)) for form in forms)
+
+
+def command_lines(path):
+    """The calls of ./dimboetu in a document: what follows it up to a comment, a bar or a quote."""
+    return [found[1].split() for found in re.finditer(r"\./dimboetu((?: [^\s`#|>&,;:]+)+)", text_of(path))]
+
+
+def error_texts():
+    """The beginnings of the lines that the program writes on standard error, from its sources."""
+    found = set()
+    for crate in sorted(os.listdir(os.path.join(TOP, "crates"))):
+        source = os.path.join(TOP, "crates", crate, "src")
+        if not crate.startswith("sv_") or not os.path.isdir(source):
+            continue
+        for name in sorted(os.listdir(source)):
+            with open(os.path.join(source, name), encoding="utf-8") as file:
+                found |= set(re.findall(r'\bb"([a-z][^"]*?)(?:\\n| )"', file.read()))
+    return sorted(found)
+
+
 class Checker:
     """Checks blocks, and counts what held."""
 
@@ -361,12 +424,84 @@ class Checker:
         elif word == "no-scenario":
             self.check_pairs(lines, name,
                              lambda text: line_of_file("" if text == "(empty)" else text))
-        elif word in ("scenario", "change", "report"):
+        elif word in ("scenario", "change", "report", "file"):
             getattr(self, f"check_{word}")(lines, name, *more)
         elif word in ("part", "told", "brief", "played", "played-brief"):
             self.check_run(lines, name, word, *more)
         else:
             self.expect(False, f"{name}: no such word")
+
+    def check_file(self, lines, name, path):
+        """Lines that stand in a file of the repository."""
+        self.expect(bool(lines) and stands_in(lines, text_of(path).split("\n")), f"{name}: not in {path}")
+
+    def check_links(self):
+        """Links to files of the repository."""
+        for page in all_documents():
+            for target in re.findall(r"\]\(([^)#\s]+)(?:#[^)]*)?\)", text_of(page)):
+                if "://" not in target:
+                    path = os.path.join(TOP, os.path.dirname(page), target)
+                    self.expect(os.path.exists(path), f"{page}: no {target}")
+
+    def check_commands(self, program):
+        """The calls of the program in the documents."""
+        forms = forms_of_help()
+        self.expect(len(forms) > 6, f"the commands of --help: {forms}")
+        tried = set()
+        for page in all_documents():
+            for words in command_lines(page):
+                line = " ".join(words)
+                self.expect(is_command(words, forms), f"{page}: ./dimboetu {line}")
+                files = [word for word in words if word.startswith("examples/")]
+                self.expect(all(os.path.exists(os.path.join(TOP, each)) for each in files), f"{page}: {line}")
+                ends = words[0] in ("play", "replay", "load", "--help", "--version")
+                if program and ends and (files or len(words) < 2 or words[0] == "load") and line not in tried:
+                    tried.add(line)
+                    self.check_run_of(program, words, files)
+
+    def check_run_of(self, program, words, files):
+        """A call that ends by itself."""
+        found = subprocess.run([program] + words, capture_output=True, text=True, cwd=TOP, check=False)
+        line = " ".join(words)
+        self.expect(found.returncode == 0 and found.stderr == "", f"{line}: {found.returncode} {found.stderr}")
+        if words[0] == "replay":
+            self.expect(found.stdout == text_of(files[0].replace(".json", ".out")), f"{line}: another text")
+        if words == ["--help"]:
+            self.expect(found.stdout == help_text(), "--help prints another text")
+
+    def check_faults(self):
+        """What ERRORS.md has of the lines, the causes, the statuses and the refusals."""
+        errors = text_of("docs/ERRORS.md")
+        texts = error_texts()
+        self.expect(len(texts) >= 15, f"lines on standard error: {texts}")
+        for each in texts:
+            stands = f"`{each}`" in errors or f"`{each} " in errors \
+                or (each.startswith("reply: ") and f"`{each[7:]}" in errors)
+            self.expect(stands, f"ERRORS.md has no line {each!r}")
+        causes = re.findall(r'format!\(in alloc; "([a-z]+)', text_of("crates/sv_scenario/src/line.rt"))
+        for cause in causes:
+            if cause != "scenario":
+                self.expect(re.search(rf"\*\*`{cause}[ `]", errors), f"ERRORS.md has no cause {cause}")
+        for status in re.findall(r"^\| ([0-9]+) \|", text_of("README.md"), re.M):
+            self.expect(re.search(rf"^\| {status} \| ", errors, re.M), f"ERRORS.md has no status {status}")
+            self.expect(re.search(rf"(^|\s){status} [a-z]", help_text()), f"--help has no status {status}")
+        for code in range(1, 12):
+            self.expect(re.search(rf"^\| {code} \| [a-z]", errors, re.M), f"ERRORS.md has no refusal {code}")
+
+    def check_help(self):
+        """What `--help` has."""
+        forms = forms_of_help()
+        for form in re.findall(r"^\| `([a-z]+[^`]*)` \|", text_of("README.md"), re.M):
+            if form.split()[0] in ("play", "replay", "load", "serve", "join", "looks", "check", "why"):
+                self.expect(form.split() in forms, f"--help has no {form}")
+        for page in re.findall(r"[A-Za-z/]+\.md", help_text()):
+            self.expect(os.path.exists(os.path.join(TOP, page)), f"--help names {page}")
+        examples = re.findall(r"^ +dimboetu (.*)$", help_text(), re.M)
+        for line in examples:
+            words = line.split("  ")[0].split()
+            if "examples/" in line:
+                self.expect(is_command(words, forms), f"--help: the example {line}")
+                self.expect(os.path.exists(os.path.join(TOP, words[1])), f"--help: {line}")
 
     def check_document(self, path):
         """All blocks of a document."""
@@ -392,8 +527,16 @@ class Checker:
 def main(paths):
     """The status of all checks."""
     checker = Checker()
-    for path in paths or [os.path.join(TOP, "docs", f"{name}.md") for name in DOCUMENTS]:
+    program = None
+    if paths[:1] == ["--program"]:
+        program, paths = os.path.abspath(paths[1]), paths[2:]
+    for path in paths or [os.path.join(TOP, name) for name in DOCUMENTS]:
         checker.check_document(path)
+    if not paths:
+        checker.check_links()
+        checker.check_commands(program)
+        checker.check_faults()
+        checker.check_help()
     print(f"{checker.passed} passed, {checker.failed} failed")
     return 0 if checker.failed == 0 else 1
 

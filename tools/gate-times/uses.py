@@ -1,8 +1,7 @@
 """Which crates a line of crates.txt names without need: python3 tools/gate-times/uses.py [--write CRATE ...]
 
-A crate needs those that its files name, and their lines name what stands below. What is named twice over costs time: before each check the
-toolchain sums up the files of all crates below along each path of crates.txt, some thousand paths for the upper crates. With --write the lines
-of the crates that are named after it are shortened; each of them, and all above it, is then proved anew.
+A crate needs those that its files name, and their lines name what stands below. A line that names more says what is not so: that the crate
+itself uses them. With --write the lines of the crates that are named after it are shortened; each of them, and all above it, is then proved anew.
 """
 
 import os

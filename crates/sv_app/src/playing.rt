@@ -52,8 +52,13 @@ pub(crate) fn run_on_threads<N: Net, C: Crew, G: Gate + Sync, R: Threads + Wait 
     let shape = scenario.world.shape;
     let watch = Watch::new(shape, callback);
     let sequencer = open_sequencer(alloc, scenario)?;
-    let Ok((lock, mut keeper)) = SeqLock::new(alloc, sequencer, sessions_of(scenario)) else {
-        return Err(PlayFault::Memory);
+    let (lock, mut keeper) = match SeqLock::new(alloc, sequencer, sessions_of(scenario)) {
+        Ok(made) => made,
+        Err((refused, _)) => {
+            // A tree that is let go at the end of its scope makes a long proof.
+            drop(refused);
+            return Err(PlayFault::Memory);
+        }
     };
     let Playing { traces, lines } = play_all(
         rt,

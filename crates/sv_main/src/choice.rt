@@ -8,6 +8,7 @@ fn call_of(word: &str) -> Command
     ensures { result ≡ call_of word.now }
 {
     match word {
+        "looks" => Command::Looks,
         "serve" => Command::Serve,
         "join" => Command::Join,
         _ => Command::Run,

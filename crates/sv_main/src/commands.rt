@@ -6,6 +6,9 @@ pub enum Command {
     /// It plays, replays, or makes a load, and tells words that it does not know.
     Run,
 
+    /// It prints what the looks of a scenario's scheduled run were told.
+    Looks,
+
     /// It serves a scenario's sessions to other programs.
     Serve,
 

@@ -1,11 +1,15 @@
-//! The program `dimboetu`: it hands its words to the top call that they are for, and ends with the status that this answers.
+//! The program `dimboetu`: it hands its words to the top call that they are for, and ends with the status that this answers. `--help` and
+//! `--version` it answers itself.
 #![tactic(auto)]
 
 mod choice;
 mod commands;
+mod help;
+mod notices;
 
 use crate::choice::command;
 use crate::commands::Command;
+use crate::notices::{notice, print_text, text_of};
 use std::alloc::Global;
 use std::net::{Net as Sockets, TcpListener, TcpStream};
 use std::process::ExitCode;
@@ -19,6 +23,7 @@ use sv_door::TcpDoor;
 use sv_join::run_join;
 use sv_link::{OpenGate, TcpNet, ThreadCrew};
 use sv_serve::run_serve;
+use sv_snapshot::run_looks;
 
 /// The status of want of memory.
 const MEMORY: u8 = 8;
@@ -99,6 +104,7 @@ where
 {
     match command(words) {
         Command::Run => run_here(rt, alloc, words, files, out, err),
+        Command::Looks => run_looks(alloc, words, files, out, err),
         Command::Serve => serve_here(rt, alloc, words, files, out, err),
         Command::Join => join_here(rt, alloc, words, files, out, err),
     }
@@ -117,5 +123,8 @@ fn main(rt: HostRuntime) -> ExitCode {
         // A word that is no text is none that the program knows.
         Err(_) => Vec::new(rt.alloc()),
     };
+    if let Some(notice) = notice(&words) {
+        return ExitCode::from(print_text(text_of(notice), &mut out, &mut err));
+    }
     ExitCode::from(answer(&rt, rt.alloc(), &words, &mut files, &mut out, &mut err))
 }

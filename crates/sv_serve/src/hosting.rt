@@ -78,8 +78,13 @@ pub fn serve_scenario<D: Door, C: Crew, G: Gate + Sync, R: Threads + Wait + Sync
     ensures certain { D.sure door.old port → result ≢ Err PlayFault.Link }
 {
     let sequencer = open_sequencer(alloc, scenario)?;
-    let Ok((lock, mut keeper)) = SeqLock::new(alloc, sequencer, sessions_of(scenario)) else {
-        return Err(PlayFault::Memory);
+    let (lock, mut keeper) = match SeqLock::new(alloc, sequencer, sessions_of(scenario)) {
+        Ok(made) => made,
+        Err((refused, _)) => {
+            // A tree that is let go at the end of its scope makes a long proof.
+            drop(refused);
+            return Err(PlayFault::Memory);
+        }
     };
     let host = Host {
         alloc,

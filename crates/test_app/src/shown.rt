@@ -18,7 +18,7 @@ const GREAT_TOTALS_BRIEF: &str =
     "clients 1\nsessions 1\nobjects 2\nmade 0\naccepted 0\ndropped 0\ncommit 0\ntotal 0: 18446744073709551614\ntotal 1: -2\n";
 
 /// Runs that print the same at each call.
-const ROWS: [Row<'static>; 26] = [
+const ROWS: [Row<'static>; 27] = [
     ("replay a", FIRST, 0, FIRST_REPORT, ""),
     ("replay a", EMPTY_SCRIPT, 0, EMPTY_SCRIPT_REPORT, ""),
     ("replay a", CONFLICT, 0, CONFLICT_REPORT, ""),
@@ -33,6 +33,7 @@ const ROWS: [Row<'static>; 26] = [
     ("replay a", LOOKS, 0, LOOKS_REPORT, ""),
     ("replay a", GREAT_TOTALS, 0, GREAT_TOTALS_REPORT, ""),
     ("replay a", TWO_VIEWS, 0, TWO_VIEWS_REPORT, ""),
+    ("replay a", EDGES, 0, EDGES_REPORT, ""),
     (
         "replay a",
         WRITTEN_OBJECT_NOT_READ,
@@ -78,7 +79,7 @@ fn examples_print_what_stands_beside_them(rt: HostRuntime) -> Result<(), Fail> {
 }
 
 /// Scenarios whose clients come in any order: a run of them ends well.
-const MIXED: [&str; 6] = [CONFLICT, BOUND, REACH, RETRY, ORPHAN, LOOKS];
+const MIXED: [&str; 7] = [CONFLICT, BOUND, REACH, RETRY, ORPHAN, LOOKS, EDGES];
 
 fn ends_well<R: Threads + Wait + Sync>(
     rt: &R,

@@ -97,6 +97,7 @@ const ROWS: &[Row] = &[
     (&[], SessionOut::Closed, &[]),
     (&[POLL], SessionOut::Closed, &[REFUSED_2]),
     (&[LEAVE, POLL], SessionOut::Closed, &[REFUSED_2, REFUSED_2]),
+    (&[POLL, LEAVE], SessionOut::Closed, &[REFUSED_2, REFUSED_2]),
     (&[JOIN_0, POLL], SessionOut::Closed, &[WELCOME, IDLE]),
     (&[JOIN_0, LEAVE], SessionOut::Left, &[WELCOME, BYE]),
     (&[JOIN_0, LEAVE, POLL], SessionOut::Left, &[WELCOME, BYE]),
@@ -186,6 +187,14 @@ fn a_session_makes_so_many_requests(rt: HostRuntime) -> Result<(), Fail> {
     assert_eq!(rt; out, SessionOut::Spent);
     assert!(rt; sent == replies);
     Ok(())
+}
+
+/// A frame of the greatest length comes whole. Its payload is no request.
+#[test]
+fn the_greatest_frame_is_malformed(rt: HostRuntime) -> Result<(), Fail> {
+    let payload = repeated(rt.alloc(), &[0], 65_536)?;
+    let coming = joined(rt.alloc(), &[&[0, 1, 0, 0], &payload, POLL])?;
+    check_stream(&rt, rt.alloc(), &coming, SessionOut::Malformed, REFUSED_1)
 }
 
 /// Each call of the end fails in turn.

@@ -535,6 +535,31 @@ fn refuses_more_than_four_mebibytes(rt: HostRuntime) -> Result<(), Fail> {
     Ok(())
 }
 
+/// What stands in a file before and behind the blanks of an action's text.
+const AROUND: [&str; 2] = [
+    "{'attrs':1,'objects':[[5]],'bound':4,'clients':[{'interest':[],'steps':[{'act':'reads 0 writes 0 {",
+    "set @0.0 1; }'}]}]}",
+];
+
+/// So much is printed of a file of so many bytes, of which all but these are blanks in an action's text.
+fn is_stretched(alloc: Global, size: usize, printed: &str) -> Result<bool, Fail> {
+    let mut bytes = quoted(alloc, AROUND[0])?;
+    let behind = quoted(alloc, AROUND[1])?;
+    for _ in bytes.len()..size.saturating_sub(behind.len()) {
+        bytes.push(b' ')?;
+    }
+    bytes.extend_from_slice(&behind)?;
+    is_line(alloc, &bytes, printed)
+}
+
+/// No file can have a longer text of an action.
+#[test]
+fn reads_the_longest_text_of_an_action(rt: HostRuntime) -> Result<(), Fail> {
+    assert!(rt; is_stretched(rt.alloc(), 4_194_304, "read")?);
+    assert!(rt; is_stretched(rt.alloc(), 4_194_305, "scenario: : size\n")?);
+    Ok(())
+}
+
 /// The conflict of two clients, whose turns are fixed.
 const CONFLICT: &str =
     "{'attrs':1,'objects':[[10]],'bound':4,'clients':[{'interest':[],'steps':[{'act':'reads 0 writes 0 { set @0.0 (@0.0 * 2); }'}]},{'interest':[0],'steps':[{'act':'reads 0 writes 0 { set @0.0 (@0.0 + 1); }'},'cut','poll',{'show':[0,0]},'quit']}],'schedule':['c0','s2','t1']}";

@@ -1,4 +1,6 @@
 //! Tests of the messages' vectors, and of payloads that are refused at the right place.
+ghost use Rattle.sv_wire.specs.Grammar.{IsWireRequest, IsWireReply};
+
 use std::alloc::Global;
 use std::process::Abort;
 use std::test::Fail;
@@ -30,22 +32,59 @@ const FIRST_RELAY: [u8; 52] = [
     0, 0, 0, 0, 1, 0x10, 0, 0, 0x22, 0x21, 0, 0, 0x20, 0, 0, 0, 0, 0, 0, 0, 1,
 ];
 
+// A tree that is let go at the end of its scope makes a long proof; a call that takes it makes none.
+/// Whether a request is written as that payload.
+pub fn request_is_written(alloc: Global, request: &Request, payload: &[u8]) -> Result<bool, Fail>
+    requires { IsWireRequest request.now }
+{
+    let written = encode_request(alloc, request)?;
+    Ok(written.as_slice() == payload)
+}
+
+/// Whether a reply is written as that payload.
+pub fn reply_is_written(alloc: Global, reply: &Reply, payload: &[u8]) -> Result<bool, Fail>
+    requires { IsWireReply reply.now }
+{
+    let written = encode_reply(alloc, reply)?;
+    Ok(written.as_slice() == payload)
+}
+
+fn copied_request_is_written(alloc: Global, request: &Request, payload: &[u8]) -> Result<bool, Fail>
+    requires { IsWireRequest request.now }
+{
+    let copy = copy_request(alloc, request)?;
+    let told = request_is_written(alloc, &copy, payload);
+    drop(copy);
+    told
+}
+
+fn copied_reply_is_written(alloc: Global, reply: &Reply, payload: &[u8]) -> Result<bool, Fail>
+    requires { IsWireReply reply.now }
+{
+    let copy = copy_reply(alloc, reply)?;
+    let told = reply_is_written(alloc, &copy, payload);
+    drop(copy);
+    told
+}
+
 /// A request's payload is read, and its copy written as the same payload.
 fn request_comes_back(rt: &impl Abort, alloc: Global, payload: &[u8]) -> Result<(), Fail> {
-    let request = decode_request(alloc, payload)
-        .ok()
-        .ok_or("it is a request")?;
-    let copy = copy_request(alloc, &request)?;
-    let written = encode_request(alloc, &copy)?;
-    assert!(rt; written.as_slice() == payload);
+    let Ok(request) = decode_request(alloc, payload) else {
+        return Err(Fail::from("it is a request"));
+    };
+    let told = copied_request_is_written(alloc, &request, payload);
+    drop(request);
+    assert!(rt; told?);
     Ok(())
 }
 
 fn reply_comes_back(rt: &impl Abort, alloc: Global, payload: &[u8]) -> Result<(), Fail> {
-    let reply = decode_reply(alloc, payload).ok().ok_or("it is a reply")?;
-    let copy = copy_reply(alloc, &reply)?;
-    let written = encode_reply(alloc, &copy)?;
-    assert!(rt; written.as_slice() == payload);
+    let Ok(reply) = decode_reply(alloc, payload) else {
+        return Err(Fail::from("it is a reply"));
+    };
+    let told = copied_reply_is_written(alloc, &reply, payload);
+    drop(reply);
+    assert!(rt; told?);
     Ok(())
 }
 
@@ -59,42 +98,63 @@ fn reply_is_refused(rt: &impl Abort, alloc: Global, payload: &[u8], at: u32, cau
     assert!(rt; fault == Some(WireFault::Malformed(Malformed { at, cause })));
 }
 
+const REQUESTS: [&[u8]; 5] = [&JOIN, &SUBMIT, &DONE, &[4], &[5]];
+
+const REPLIES: [&[u8]; 8] = [
+    &WELCOME,
+    &RELAY,
+    &FIRST_RELAY,
+    &[0x84, 0, 0, 0, 7, 0, 0, 0, 9],
+    &[0x85, 0, 0, 0, 1],
+    &[0x86],
+    &[0x87, 11, 0, 0, 0, 3],
+    &[0x88],
+];
+
 #[test]
-fn message_vectors(rt: HostRuntime) -> Result<(), Fail> {
-    request_comes_back(&rt, rt.alloc(), &JOIN)?;
-    request_comes_back(&rt, rt.alloc(), &SUBMIT)?;
-    request_comes_back(&rt, rt.alloc(), &DONE)?;
-    request_comes_back(&rt, rt.alloc(), &[4])?;
-    request_comes_back(&rt, rt.alloc(), &[5])?;
-    reply_comes_back(&rt, rt.alloc(), &WELCOME)?;
-    reply_comes_back(&rt, rt.alloc(), &RELAY)?;
-    reply_comes_back(&rt, rt.alloc(), &FIRST_RELAY)?;
-    reply_comes_back(&rt, rt.alloc(), &[0x84, 0, 0, 0, 7, 0, 0, 0, 9])?;
-    reply_comes_back(&rt, rt.alloc(), &[0x85, 0, 0, 0, 1])?;
-    reply_comes_back(&rt, rt.alloc(), &[0x86])?;
-    reply_comes_back(&rt, rt.alloc(), &[0x87, 11, 0, 0, 0, 3])?;
-    reply_comes_back(&rt, rt.alloc(), &[0x88])?;
+fn request_vectors(rt: HostRuntime) -> Result<(), Fail> {
+    for payload in &REQUESTS {
+        request_comes_back(&rt, rt.alloc(), payload)?;
+    }
     Ok(())
 }
 
 #[test]
-fn messages_are_written(rt: HostRuntime) -> Result<(), Fail> {
-    let dropped = Reply::Dropped {
-        seq: 3,
-        chain: 2,
-        far: 0,
-    };
-    let written = encode_reply(rt.alloc(), &dropped)?;
-    assert!(rt; written.as_slice() == [0x8a, 0, 0, 0, 3, 0, 0, 0, 2, 0, 0, 0, 0].as_slice());
-    let mut interest = List::new(rt.alloc());
+fn reply_vectors(rt: HostRuntime) -> Result<(), Fail> {
+    for payload in &REPLIES {
+        reply_comes_back(&rt, rt.alloc(), payload)?;
+    }
+    Ok(())
+}
+
+fn join_is_written(alloc: Global) -> Result<bool, Fail> {
+    let mut interest = List::new(alloc);
     interest.push(ObjectId(0))?;
     let join = Request::Join {
         client: ClientId(0),
         life: 1,
         interest,
     };
-    let written = encode_request(rt.alloc(), &join)?;
-    assert!(rt; written.as_slice() == JOIN.as_slice());
+    let told = request_is_written(alloc, &join, &JOIN);
+    drop(join);
+    told
+}
+
+fn dropped_is_written(alloc: Global) -> Result<bool, Fail> {
+    let dropped = Reply::Dropped {
+        seq: 3,
+        chain: 2,
+        far: 0,
+    };
+    let told = reply_is_written(alloc, &dropped, &[0x8a, 0, 0, 0, 3, 0, 0, 0, 2, 0, 0, 0, 0]);
+    drop(dropped);
+    told
+}
+
+#[test]
+fn messages_are_written(rt: HostRuntime) -> Result<(), Fail> {
+    assert!(rt; dropped_is_written(rt.alloc())?);
+    assert!(rt; join_is_written(rt.alloc())?);
     Ok(())
 }
 

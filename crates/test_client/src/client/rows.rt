@@ -126,10 +126,10 @@ fn unknown_view(rt: HostRuntime) -> Result<(), Fail> {
     )
 }
 
-/// After each refusal the client is as before.
+/// After each refusal the client is as before: what it counts, and its trace, which has no event of a refused reply.
 #[test]
 fn lying_server(rt: HostRuntime) -> Result<(), Fail> {
-    check(
+    check_trace(
         rt.alloc(),
         0,
         false,
@@ -172,6 +172,8 @@ fn lying_server(rt: HostRuntime) -> Result<(), Fail> {
             ),
             Show(0, Some(1)),
         ],
+        0,
+        &[('j', 0), ('g', 0), ('m', 0), ('s', 0), ('g', 0), ('s', 0)],
     )
 }
 

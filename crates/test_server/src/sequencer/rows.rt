@@ -271,3 +271,37 @@ fn lying_client(rt: HostRuntime) -> Result<(), Fail> {
         ],
     )
 }
+
+/// Values are no longer those of serial execution then (which gives 1, 2, 3 and 4 at these positions). All else is as ever: what is relayed,
+/// which reports are refused or come too late, numbers, retries, the order of commits, and who has which session.
+#[test]
+fn a_lying_client_changes_values_alone(rt: HostRuntime) -> Result<(), Fail> {
+    check(
+        &rt,
+        &[0],
+        8,
+        None,
+        1,
+        &[
+            (0, Submit(1, ADDS_1), "relay 1 at 0 [0=(0)] [1:c0.1]"),
+            (0, Done(&[(1, &[9])]), "noted 1"),
+            (1, Join(1, 1, &[0]), "welcome 1 [0=(9)]"),
+            (1, Submit(1, ADDS_1), "relay 1 at 1 [] [2:c1.1]"),
+            (0, Done(&[(2, &[7])]), "refused 7 0"),
+            (1, Done(&[(2, &[10])]), "noted 2"),
+            (0, Done(&[(2, &[7])]), "noted 2"),
+            (0, Done(&[(3, &[7])]), "refused 7 0"),
+            (0, Submit(2, ADDS_1), "relay 2 at 2 [0=(10)] [3:c0.2]"),
+            (1, Done(&[(3, &[7])]), "refused 7 0"),
+            (1, Submit(2, ADDS_1), "relay 2 at 2 [] [3:c0.2 4:c1.2]"),
+            (1, Done(&[(4, &[12])]), "noted 2"),
+            (0, Done(&[(3, &[-5])]), "noted 4"),
+            (1, Done(&[(3, &[11])]), "noted 4"),
+            (0, Submit(9, ADDS_1), "refused 5 3"),
+            (0, Submit(1, ADDS_1), "settled 1 at 1"),
+            (2, Join(0, 2, &[0]), "welcome 4 [0=(12)]"),
+            (0, Submit(3, ADDS_1), "refused 4 0"),
+            (2, Poll, "idle"),
+        ],
+    )
+}

@@ -76,7 +76,10 @@ fn through_a_pass<R: Wait>(
 {
     let (lock, mut keeper) = match SeqLock::new(alloc, sequencer, 1) {
         Ok(made) => made,
-        Err((_, error)) => return Err(Fail::from(error)),
+        Err((refused, error)) => {
+            drop(refused);
+            return Err(Fail::from(error));
+        }
     };
     let mut pass = lock.split(&mut keeper);
     let answer = call_all(rt, alloc, &lock, &mut pass, rows);

@@ -1,0 +1,47 @@
+//! What the program can tell of itself. Each command has its two lines here, and nowhere else.
+
+/// What is asked for by one word alone.
+#[derive(Clone, Copy, Debug, Drop, PartialEq, Eq)]
+pub enum Notice {
+    /// `--help`: the commands, the statuses, and where to read on.
+    Help,
+
+    /// `--version`.
+    Version,
+}
+
+/// What `--help` prints. `./dimboetu` prints it from this file too, where the program is not built yet.
+pub const HELP: &str =
+    r#"Dimboetu runs shared worlds. It puts what the players do in one order, sends each player what its own
+actions need, and keeps the one world that comes out.
+
+  dimboetu replay FILE           runs a scenario turn by turn, always the same, and prints the report
+                                 dimboetu replay examples/trade.json
+  dimboetu play FILE             runs it with threads and connections of this machine, and prints the report
+                                 dimboetu play examples/trade.json
+  dimboetu play FILE --brief     the same, and prints counts and sums alone
+                                 dimboetu play examples/marketplace.json --brief
+  dimboetu play FILE --watch     the report, and a line for each change of what a player sees
+                                 dimboetu play examples/trade.json --watch
+  dimboetu looks FILE            runs a scenario as replay does, and prints what its looks at several objects saw
+                                 dimboetu looks examples/looks.json
+  dimboetu load N                plays a made-up world of size N, 1 to 192, and prints counts and sums
+                                 dimboetu load 4
+  dimboetu serve FILE PORT       waits for the players of a world at a port of this machine, and serves them
+                                 dimboetu serve examples/conflict.json 4000
+  dimboetu join FILE K PORT      plays client K of a scenario at such a server
+                                 dimboetu join examples/conflict.json 0 4000
+  dimboetu --help, --version     prints this, or the version
+
+A run ends with a status, and each but 0 with one line on standard error:
+  0 all was printed              5 standard output failed           10 join: there is no client K
+  2 the words are no command     6 a connection failed              11 join: the server sent a wrong reply
+  3 the file is no scenario      7 a thread could not be started    12 join: the server closed too early
+  4 a file can't be read         8 out of memory
+
+Read on: README.md (what this is good for), docs/TUTORIAL.md (a first game), docs/ACTIONS.md (the language of
+actions), docs/ERRORS.md (what can go wrong, and what to do).
+"#;
+
+/// What `--version` prints.
+pub const VERSION: &str = "dimboetu 0.9.0\n";

@@ -1,0 +1,9 @@
+use Rattle.std.proofs.Common.{inr, sym, ◌∙◌}
+use Rattle.sv_pilot.proofs.Making.{same_read, none_read}
+use Rattle.sv_pilot.proofs.pilot.Pilot.read.Goals as goal
+
+pub returns-in-Ok-clause-only : goal.returns-in-Ok-clause-only
+returns-in-Ok-clause-only g c = λ other is. same_read c.in-Ok.action other (c.in-Ok.ensures.only other is)
+
+pub returns-in-Err-clause-refused : goal.returns-in-Err-clause-refused
+returns-in-Err-clause-refused g c = λ game. inr (λ other is may. none_read c.in-Err.fault other (sym c.trouble_of.ensures ∙ game) (c.in-Err.ensures.only other is))

@@ -1,0 +1,13 @@
+//! A client over one connection that game code drives: it joins, acts, looks and leaves. A listener is called for each change of what it
+//! sees.
+#![tactic(auto)]
+
+mod connection;
+mod messages;
+mod pilot;
+mod seen;
+mod trouble;
+
+pub use pilot::Pilot;
+pub use seen::Listener;
+pub use trouble::Trouble;

@@ -1,0 +1,6 @@
+pub mod Lasts
+pub mod Readable
+pub mod Telling
+pub mod Cutting
+pub mod Printing
+pub mod Endings

@@ -1,0 +1,13 @@
+use Rattle.std.proofs.Common.{◌≡◌, [], ◌++◌, drop}
+use Rattle.sv_report.specs.Again.{MayComeAfter, numbered}
+use Rattle.sv_snapshot.specs.Again.{snapshots_after}
+use Rattle.sv_snapshot.proofs.taking.append_told.Given as goal
+
+-- the client did the events before those left; the snapshots so far and those of the events left are all
+abbrev pub invariant-loop-event : goal.invariant-loop-event
+invariant-loop-event l = record {
+  who : l.client.who ≡ l.fn.client.who;
+  after : MayComeAfter l.client.who l.trace.first (numbered l.trace.first l.client.events) (drop l.event-index l.events);
+  told : l.snapshots.items ++ snapshots_after l.fn.client.who.client (numbered l.trace.first l.client.events) (drop l.event-index l.events)
+      ≡ l.fn.snapshots.items ++ snapshots_after l.fn.client.who.client [] l.events;
+}

@@ -1,0 +1,6 @@
+pub mod Snapshots
+pub mod Cuts
+pub mod Lines
+pub mod Again
+pub mod Words
+pub mod Statuses

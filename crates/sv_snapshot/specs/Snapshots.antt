@@ -1,0 +1,63 @@
+-- Looks, which write nothing, and the snapshots that the clients that make them are told.
+-- Events stand with the latest first: `e ∷ t` is t, and then e.
+use Rattle.std.specs.Prelude.{ℕ, Bool, ◌==◌, ◌&&◌, List, [], ◌∷◌, ◌++◌, map, length, reverse, Option, Some, None, unwrap_or, option_to_list, if◌then◌else◌}
+use Rattle.std.specs.List.{flat_map}
+use Rattle.sv_world.specs.declared.action.Action.{Action}
+use Rattle.sv_world.specs.declared.action.Point.{Point}
+use Rattle.sv_world.specs.declared.world.ClientId.{ClientId}
+use Rattle.sv_world.specs.declared.world.ObjectId.{ObjectId}
+use Rattle.sv_versions.specs.Held.{Held, read_below}
+use Rattle.sv_wire.specs.declared.message.Held.{Held as Sent}
+use Rattle.sv_wire.specs.declared.message.Item.{Item}
+use Rattle.sv_wire.specs.declared.message.Reply.TheVariants as replies
+use Rattle.sv_client.specs.declared.trace.Event.{Event}
+use Rattle.sv_client.specs.declared.trace.Event.TheVariants as events
+use Rattle.sv_client.specs.declared.trace.Trace.{Trace}
+use Rattle.sv_client.specs.Traces.{held_of}
+use Rattle.sv_snapshot.specs.declared.snapshot.Snapshot.{Snapshot}
+
+-- ---- Looks
+
+-- An action that may write nothing and has no statements.
+abbrev pub is_look : Action → Bool
+is_look action = (action.mask == 0) && (length action.body == 0)
+
+-- The look at objects.
+abbrev pub look_at : List ObjectId → Point → Action
+look_at objects origin = record { reads = objects; mask = 0; origin = origin; body = [] }
+
+-- ---- Snapshots
+
+-- The values of objects below a position, where these values are held.
+abbrev pub read_all_below : List Held → ℕ → List ObjectId → List Sent
+read_all_below held pos objects = map (λ (o : ObjectId). record { object = o; value = unwrap_or (read_below held o.0 pos) [] }) objects
+
+abbrev pub last_item : List Item → Option Item
+last_item [] = None
+last_item (item ∷ []) = Some item
+last_item (item ∷ next ∷ items) = last_item (next ∷ items)
+
+-- The snapshot of an item that is a look, where these values are held: what its action reads, below its position.
+abbrev pub snapshot_at : ClientId → ℕ → List Held → Option Item → Option Snapshot
+snapshot_at client seq held None = None
+snapshot_at client seq held (Some item) = if is_look item.action
+    then Some (record { client = client; seq = seq; pos = item.pos; values = read_all_below held item.pos item.action.reads })
+    else None
+
+-- The snapshot that an event tells, where these values are held after it: a relay that answers a Submit does where its last item, which is
+-- the action of that Submit, is a look. A relay of the sequence number 0 answers a Poll.
+abbrev pub snapshot_by : ClientId → List Held → Event → Option Snapshot
+snapshot_by client held (events.Got s (replies.Relay seq commit head items)) = if seq == 0 then None else snapshot_at client seq held (last_item items)
+snapshot_by client held _ = None
+
+-- The snapshots that a client is told by events, in their order.
+abbrev pub snapshots_in : ClientId → List Event → List Snapshot
+snapshots_in client [] = []
+snapshots_in client (e ∷ t) = snapshots_in client t ++ option_to_list (snapshot_by client (held_of (e ∷ t)) e)
+
+abbrev pub snapshots_of_trace : Trace → List Snapshot
+snapshots_of_trace L = snapshots_in L.client (reverse L.events)
+
+-- The snapshots that traces tell: client by client, and in the order of each trace.
+abbrev pub snapshots_of : List Trace → List Snapshot
+snapshots_of Ls = flat_map snapshots_of_trace Ls

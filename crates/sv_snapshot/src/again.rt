@@ -1,0 +1,96 @@
+//! The events of a trace, done again by a client.
+ghost use Rattle.std.specs.Prelude.{◌≡◌, ◌∷◌, ◌<◌, true, None, OnOk};
+ghost use Rattle.sv_client.specs.declared.trace.Event.TheVariants as events;
+ghost use Rattle.sv_client.specs.Traces.{joins};
+ghost use Rattle.sv_client.specs.Taking.{first_fault_of_reply};
+ghost use Rattle.sv_client.specs.Proper.{MayMake, MayPoll, MayLeave};
+ghost use Rattle.sv_client.specs.Answers.{got_now};
+ghost use Rattle.sv_report.specs.Again.{MayDo, again};
+
+use std::alloc::{AllocError, Global};
+use sv_client::{Client, Event, MakeFault, Mark, PollFault, TakeFault};
+use sv_wire::Reply;
+use sv_world::{Action, List, ObjectId, copy_action, copy_objects};
+
+fn join_again(client: &mut Client) -> Result<(), AllocError>
+    requires { joins client.old.events < 64 }
+    ensures who { OnOk result (client.new.who ≡ client.old.who) }
+    ensures events { OnOk result (client.new.events ≡ events.Join (joins client.old.events) ∷ client.old.events) }
+{
+    let _ = client.join()?;
+    Ok(())
+}
+
+fn make_again(alloc: Global, client: &mut Client, action: &Action) -> Result<(), AllocError>
+    requires { MayMake client.old.who client.old.events action.now }
+    ensures who { OnOk result (client.new.who ≡ client.old.who) }
+    ensures events { OnOk result (client.new.events ≡ events.Make action.now ∷ client.old.events) }
+{
+    let copy = copy_action(alloc, action)?;
+    match client.make(copy) {
+        Ok(_) => Ok(()),
+        Err(MakeFault::Memory) => Err(AllocError),
+        Err(_) => unreachable!(),
+    }
+}
+
+fn poll_again(client: &mut Client) -> Result<(), AllocError>
+    requires { MayPoll client.old.who client.old.events }
+    ensures who { OnOk result (client.new.who ≡ client.old.who) }
+    ensures events { OnOk result (client.new.events ≡ events.Poll ∷ client.old.events) }
+{
+    match client.poll() {
+        Ok(_) => Ok(()),
+        Err(PollFault::Memory) => Err(AllocError),
+        Err(PollFault::Busy) => unreachable!(),
+    }
+}
+
+fn leave_again(client: &mut Client) -> Result<(), AllocError>
+    requires { MayLeave client.old.who client.old.events }
+    ensures who { OnOk result (client.new.who ≡ client.old.who) }
+    ensures events { OnOk result (client.new.events ≡ events.Leave ∷ client.old.events) }
+{
+    let _ = client.leave()?;
+    Ok(())
+}
+
+fn take_again(client: &mut Client, reply: &Reply) -> Result<(), AllocError>
+    requires { first_fault_of_reply client.old.who client.old.events reply.now ≡ None }
+    ensures who { OnOk result (client.new.who ≡ client.old.who) }
+    ensures events { OnOk result (client.new.events ≡ got_now client.old.events reply.now ∷ client.old.events) }
+{
+    match client.take(reply) {
+        Ok(_) => Ok(()),
+        Err(TakeFault::Memory) => Err(AllocError),
+        Err(_) => unreachable!(),
+    }
+}
+
+fn show_again(alloc: Global, client: &mut Client, objects: &[ObjectId]) -> Result<(), AllocError>
+    ensures who { OnOk result (client.new.who ≡ client.old.who) }
+    ensures events { OnOk result (client.new.events ≡ events.Show objects.now ∷ client.old.events) }
+{
+    let copy = copy_objects(alloc, objects)?;
+    client.note(Mark::Show(copy))
+}
+
+/// Does an event of a trace again, which the client may do next. Only want of memory can hinder it.
+///
+/// The client counts its sessions from 0, whatever the session's number is in the trace.
+pub(crate) fn do_again(alloc: Global, client: &mut Client, event: &Event) -> Result<(), AllocError>
+    requires { MayDo client.old.who client.old.events event.now }
+    ensures who { OnOk result (client.new.who ≡ client.old.who) }
+    ensures events { OnOk result (client.new.events ≡ again client.old.events event.now ∷ client.old.events) }
+{
+    match event {
+        Event::Join(_) => join_again(client),
+        Event::Make(action) => make_again(alloc, client, action),
+        Event::Poll => poll_again(client),
+        Event::Leave => leave_again(client),
+        Event::Got(_, reply) => take_again(client, reply),
+        Event::Cut => client.note(Mark::Cut),
+        Event::Quit => client.note(Mark::Quit),
+        Event::Show(objects) => show_again(alloc, client, objects.as_slice()),
+    }
+}

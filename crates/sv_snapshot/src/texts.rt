@@ -1,0 +1,75 @@
+//! The text that tells the snapshots of a scheduled run.
+ghost use Rattle.std.specs.Prelude.{◌≡◌, ◌≢◌, ◌++◌, All, Err, map, IfOk, OnOk, string_bytes};
+ghost use Rattle.std.specs.List.{flat_map};
+ghost use Rattle.sv_client.specs.Proper.{Proper};
+ghost use Rattle.sv_command.specs.Statuses.{Counts, Raises, ending_of};
+ghost use Rattle.sv_snapshot.specs.Snapshots.{snapshots_of};
+ghost use Rattle.sv_snapshot.specs.Cuts.{IsShaped};
+ghost use Rattle.sv_snapshot.specs.Lines.{ended_line, look_line, looks_text};
+ghost use Rattle.sv_snapshot.specs.Statuses.{IsMade};
+
+use crate::line::look_line;
+use crate::looker::Looker;
+use crate::snapshot::Snapshot;
+use crate::taking::snapshots;
+use std::alloc::{AllocError, Global};
+use sv_bytes::Files;
+use sv_command::{Ending, scenario_in};
+use sv_journal::legal_actions_are_good;
+use sv_replay::run_schedule;
+use sv_system::Played;
+use sv_watch::Line;
+use sv_world::Shape;
+
+/// Appends lines, each with its end.
+fn append_lines(lines: &[Line], text: &mut String) -> Result<(), AllocError>
+    ensures { OnOk result (string_bytes text.new ≡ string_bytes text.old ++ flat_map ended_line lines.now) }
+{
+    for line in lines {
+        text.push_str(line.as_str())?;
+        text.push_str("\n")?;
+    }
+    Ok(())
+}
+
+/// A line for each of some snapshots of a world of this shape.
+fn lines_of(alloc: Global, shape: Shape, snapshots: &[Snapshot]) -> Result<Vec<Line>, AllocError>
+    requires { All (IsShaped shape) snapshots.now }
+    ensures { IfOk result (λ lines. lines.items ≡ map look_line snapshots.now) }
+{
+    let callback = Box::new(
+        alloc,
+        move |snapshot: &Snapshot| -> Result<Line, AllocError>
+            ensures { IfOk result (λ line. line ≡ look_line snapshot.now) }
+        { look_line(alloc, snapshot) },
+    )?;
+    let looker = Looker::new(shape, callback);
+    let mut lines = Vec::new(alloc);
+    looker.tell(snapshots, &mut lines)?;
+    Ok(lines)
+}
+
+/// The lines of the snapshots of what was played.
+fn played_text(alloc: Global, played: &Played) -> Result<String, AllocError>
+    requires proper { All (Proper played.now.shape) played.now.traces }
+    requires shaped { All (IsShaped played.now.shape) (snapshots_of played.now.traces) }
+    ensures { IfOk result (λ text. string_bytes text ≡ looks_text played.now.traces) }
+{
+    let told = snapshots(alloc, played)?;
+    let lines = lines_of(alloc, played.shape, &told)?;
+    let mut text = String::new(alloc);
+    append_lines(&lines, &mut text)?;
+    Ok(text)
+}
+
+/// The lines of the snapshots of a file's scheduled run. They are whole before any of them is printed.
+pub(crate) fn text_for<F: Files>(alloc: Global, file: &str, files: &mut F) -> Result<String, Ending>
+    ensures made { IsMade (F.contents files.old file.now) result }
+    ensures raises { (k : Counts) → Raises (record k { files = F.faults files.old }) (record k { files = F.faults files.new }) (ending_of result) }
+    ensures sure { F.sure files.old file.now → result ≢ Err Ending.File }
+{
+    legal_actions_are_good();
+    let scenario = scenario_in(alloc, file, files)?;
+    let played = run_schedule(alloc, &scenario)?;
+    Ok(played_text(alloc, &played)?)
+}

@@ -1,0 +1,10 @@
+//! Tests of what stands between the crates and the system: files and writers that move little, refuse or are interrupted, and threads that
+//! sleep at a lock.
+#![tactic(auto)]
+
+#[cfg(test)]
+mod adapters;
+#[cfg(test)]
+mod sleepers;
+#[cfg(test)]
+mod system;

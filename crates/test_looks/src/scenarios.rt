@@ -1,0 +1,71 @@
+//! What is printed of whole scenarios. The expected lines are typed from the rules of the server and its clients.
+use crate::calls::answers;
+use std::test::Fail;
+
+/// A client that writes, looks at two objects, and writes the other one.
+const LOOKS: &str =
+    r#"{"attrs":1,"objects":[[10],[20]],"bound":4,"clients":[{"interest":[],"steps":[{"act":"reads 0 writes 0 { set @0.0 (@0.0 + 1); }"},{"act":"reads 0 1 writes { }"},{"act":"reads 1 writes 1 { set @1.0 (@1.0 + 1); }"}]}]}"#;
+
+/// Two clients in conflict, neither of which looks.
+const CONFLICT: &str =
+    r#"{"attrs":1,"objects":[[10]],"bound":4,"clients":[{"interest":[],"steps":[{"act":"reads 0 writes 0 { set @0.0 (@0.0 * 2); }"}]},{"interest":[0],"steps":[{"act":"reads 0 writes 0 { set @0.0 (@0.0 + 1); }"},{"act":"reads 0 writes 0 { set @0.0 (@0.0 * 3); }"},{"act":"reads 0 writes 0 { set @0.0 (@0.0 - 5); }"},{"show":[0]},{"show":[0]}]}],"schedule":["c0","s0","t0","c0","s0","c1","s1","t1","c1","c1","c1","c1","s1","t1","c1"]}"#;
+
+/// Three players who trade and fight, as in `examples/trade.json`. The third one looks at the other two at the end.
+const TRADE: &str =
+    r#"{"attrs":3,"objects":[[3,10,20],[2,10,10],[2,10,5],[3,0,30]],"bound":5,"clients":[{"interest":[0,1,3],"steps":[{"act":"reads 0 3 writes 0 3 { set @0.2 (@0.2 + @3.2); set @3.2 0; }"},{"act":"reads 0 1 writes 0 1 { if ([@0.0 == @1.0] and [5 <= @0.2]) { set @0.2 (@0.2 - 5); set @1.2 (@1.2 + 5); set @0.1 (@0.1 + 2); } }"},"sync",{"show":[0,1,3]}]},{"interest":[1,3],"steps":[{"act":"reads 1 writes 1 { set @1.0 3; }"},{"act":"reads 1 3 writes 1 3 { set @1.2 (@1.2 + @3.2); set @3.2 0; }"},"sync",{"show":[1,3]}]},{"interest":[1,2],"steps":[{"act":"reads 1 2 writes 1 { if [@1.0 == @2.0] { set @1.1 ((@1.1 - 4) max 0); } }"},"cut",{"show":[0,1]},{"act":"reads 0 1 writes { }"},"sync",{"show":[0,1]}]}],"schedule":["c0","c1","c2","s0","s1","s2","t0","t1","t2","c2","s2","c2","c1","s1","t1","s1"]}"#;
+
+/// A look of sixteen objects, after a write of object 3.
+const SIXTEEN: &str =
+    r#"{"attrs":2,"objects":[[0,1],[1,1],[2,1],[3,1],[4,1],[5,1],[6,1],[7,1],[8,1],[9,1],[10,1],[11,1],[12,1],[13,1],[14,1],[-15,1],[16,1]],"bound":4,"clients":[{"interest":[],"steps":[{"act":"reads 3 writes 3 { set @3.1 (@3.1 + 7); }"},{"act":"reads 0 1 2 3 4 5 6 7 8 9 10 11 12 13 14 15 writes { }"}]}]}"#;
+
+/// A look, then another session, a write, and another look.
+const REJOIN: &str =
+    r#"{"attrs":1,"objects":[[1]],"bound":4,"clients":[{"interest":[],"steps":[{"act":"reads 0 writes { }"},"sync","cut",{"act":"reads 0 writes 0 { set @0.0 (@0.0 + 1); }"},{"act":"reads 0 writes { }"}]}]}"#;
+
+/// A look whose relay is lost with its session. The next session asks for it again.
+const LOST_RELAY: &str =
+    r#"{"attrs":1,"objects":[[1]],"bound":4,"clients":[{"interest":[],"steps":[{"act":"reads 0 writes { }"},"cut","sync"]}],"schedule":["c0","s0","t0","c0","s0","c0"]}"#;
+
+/// A look whose relay is lost, and that another client completes before the next session asks for it again: it is settled.
+const SETTLED: &str =
+    r#"{"attrs":1,"objects":[[1]],"bound":4,"clients":[{"interest":[],"steps":[{"act":"reads 0 writes { }"},"cut","sync"]},{"interest":[],"steps":["poll"]}],"schedule":["c0","s0","t0","c1","s2","t1","c0","s0","c0","c0","s1","c1","s2","t1","s2"]}"#;
+
+/// A look that is dropped, since a write that influences it is not committed yet; and one that comes after.
+const DROPPED: &str =
+    r#"{"attrs":1,"objects":[[1]],"bound":0,"clients":[{"interest":[],"steps":[{"act":"reads 0 writes 0 { set @0.0 (@0.0 + 1); }"},{"act":"reads 0 writes { }"},"sync",{"act":"reads 0 writes { }"}]}],"schedule":["c0","s0","t0","c0","c0","s0","s0"]}"#;
+
+/// The second client's look is accepted before the first one's.
+const TWO_LOOKERS: &str =
+    r#"{"attrs":1,"objects":[[1]],"bound":4,"clients":[{"interest":[],"steps":[{"act":"reads 0 writes 0 { set @0.0 (@0.0 + 1); }"},{"act":"reads 0 writes { }"}]},{"interest":[],"steps":[{"act":"reads 0 writes { }"},{"act":"reads 0 writes 0 { set @0.0 (@0.0 * 9); }"},{"act":"reads 0 writes { }"}]}],"schedule":["c0","c1","s0","s1","t0","t1","c1","s1","c0","s0","c0","s0","c1","s1","c1","s1"]}"#;
+
+/// An action that writes nothing, but has statements, and one that may write but has none.
+const NO_LOOKS: &str =
+    r#"{"attrs":1,"objects":[[1]],"bound":4,"clients":[{"interest":[],"steps":[{"act":"reads 0 writes { if [@0.0 == 1] { } }"},{"act":"reads 0 writes 0 { }"}]}]}"#;
+
+/// A scenario, and what is printed of it.
+const ROWS: &[(&str, &str)] = &[
+    (LOOKS, "look c0 2 at 2 [0=(11) 1=(20)]\n"),
+    (CONFLICT, ""),
+    (TRADE, "look c2 2 at 6 [0=(3,12,45) 1=(3,6,15)]\n"),
+    (
+        SIXTEEN,
+        "look c0 2 at 2 [0=(0,1) 1=(1,1) 2=(2,1) 3=(3,8) 4=(4,1) 5=(5,1) 6=(6,1) 7=(7,1) 8=(8,1) 9=(9,1) 10=(10,1) 11=(11,1) 12=(12,1) 13=(13,1) 14=(14,1) 15=(-15,1)]\n",
+    ),
+    (REJOIN, "look c0 1 at 1 [0=(1)]\nlook c0 3 at 3 [0=(2)]\n"),
+    (LOST_RELAY, "look c0 1 at 1 [0=(1)]\n"),
+    (SETTLED, ""),
+    (DROPPED, "look c0 3 at 2 [0=(2)]\n"),
+    (
+        TWO_LOOKERS,
+        "look c0 2 at 3 [0=(2)]\nlook c1 1 at 1 [0=(1)]\nlook c1 3 at 5 [0=(18)]\n",
+    ),
+    (NO_LOOKS, ""),
+];
+
+#[test]
+fn scenarios_tell_their_looks(rt: HostRuntime) -> Result<(), Fail> {
+    for (text, out) in ROWS {
+        assert!(&rt; answers(rt.alloc(), "looks a", text, 0, out, "")?, "{out}");
+    }
+    Ok(())
+}

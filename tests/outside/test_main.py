@@ -1,0 +1,193 @@
+#!/usr/bin/env python3
+"""Tests of the program as a process: each status with its line on standard error and nothing on standard output.
+
+    python3 tests/outside/test_main.py [PROGRAM]
+
+PROGRAM is the built program; without it the repository's own is taken, and where that is not built yet nothing is
+tested. Every expected line is typed from docs/ERRORS.md. `serve` and `join` have more in test_serve.py. Closes with
+`N passed, M failed`.
+"""
+
+import json
+import os
+import resource
+import shutil
+import signal
+import subprocess
+import sys
+import tempfile
+
+HERE = os.path.dirname(os.path.abspath(__file__))
+ROOT = os.path.normpath(os.path.join(HERE, "..", ".."))
+sys.path.insert(0, HERE)
+
+from programs import free_port
+
+BUILT = os.path.join(ROOT, "crates", "sv_main", "out", "sv_main")
+PLAY = b"words: play FILE [--brief | --watch] | replay FILE | load N\n"
+SERVE, JOIN, LOOKS = b"words: serve FILE PORT\n", b"words: join FILE K PORT\n", b"words: looks FILE\n"
+NO_TEXT = b"\xff\xfe"
+OTHER = {"user": 65534, "group": 65534}
+FIRST = os.path.join(ROOT, "examples", "first.json")
+SEEN = os.path.join(ROOT, "examples", "looks.json")
+RUNS = (("play", FIRST), ("play", FIRST, "--brief"), ("play", FIRST, "--watch"), ("replay", FIRST), ("load", "1"), ("looks", SEEN))
+
+
+class Test:
+    """The program, and what passed and failed."""
+
+    def __init__(self, program, room):
+        self.program, self.room = program, room
+        self.passed = self.failed = 0
+        self.changes_users = os.geteuid() == 0 and self.runs_as_others()
+
+    def runs_as_others(self):
+        """Whether root may start the program as another user here, who can reach it."""
+        try:
+            return subprocess.run([self.program, "--version"], check=False, stdout=subprocess.DEVNULL, timeout=60, **OTHER).returncode == 0
+        except (OSError, subprocess.SubprocessError):
+            print("the program can't be started as another user here: what needs one is not tested")
+            return False
+
+    def ends(self, words, wanted, name, **kinds):
+        """Runs the program with these words; status and outputs are just those wanted. An output that is elsewhere is None."""
+        options = {"stdin": subprocess.DEVNULL, "stdout": subprocess.PIPE, "stderr": subprocess.PIPE, "timeout": 60, **kinds}
+        try:
+            run = subprocess.run([self.program, *words], check=False, **options)
+            given = (run.returncode, run.stdout, run.stderr)
+        except subprocess.TimeoutExpired:
+            given = "no end"
+        self.passed += given == wanted
+        if given != wanted:
+            self.failed += 1
+            print(f"failed: {name}: {words}:\n  got    {given!r}\n  wanted {wanted!r}", flush=True)
+
+    def file(self, name, data):
+        """A file with these bytes."""
+        path = os.path.join(self.room, name)
+        with open(path, "wb") as file:
+            file.write(data)
+        return path
+
+
+def test_words(test):
+    """Words that the program does not know, and a word that is no text in each place."""
+    first = FIRST
+    for words in ((), ("",), ("plays", first), ("play",), ("play", first, "--Brief"), ("play", first, "--brief", "--watch"),
+                  ("play", "--brief", first), ("replay",), ("replay", first, "--brief"), ("replay", first, first), ("load",),
+                  ("load", "0"), ("load", "193"), ("load", "01"), ("load", "+1"), ("load", "1", "1"), ("--version", "--help"), ("--Version",), ("check", first),
+                  (NO_TEXT,), (NO_TEXT, first), ("replay", NO_TEXT), ("play", NO_TEXT), ("play", first, NO_TEXT), ("load", NO_TEXT)):
+        test.ends(words, (2, b"", PLAY), "words")
+    for words, line in ((("serve",), SERVE), (("serve", first, "0"), SERVE), (("join", first, "x", "1"), JOIN), (("join",), JOIN),
+                        (("looks",), LOOKS), (("looks", first, "--brief"), LOOKS), (("looks", first, first), LOOKS)):
+        test.ends(words, (2, b"", line), "words")
+    test.ends(("--version",), (0, b"dimboetu 0.9.0\n", b""), "notices")
+    test.ends(("looks", SEEN), (0, b"look c0 2 at 2 [0=(11) 1=(20)]\n", b""), "looks")
+
+
+def test_files(test):
+    """Files that are not there, can't be read or are no scenario."""
+    port = str(free_port())
+    missing, locked = os.path.join(test.room, "missing"), test.file("locked", b"{}")
+    os.chmod(locked, 0)
+    faulty = test.file("faulty", b"[]")
+    unfinished = test.file("unfinished", b'{"attrs":1,')
+    act = test.file("act", json.dumps({"attrs": 1, "objects": [[0]], "bound": 1, "clients": [
+        {"interest": [], "steps": [{"act": "reads 0 writes 0 {"}]}]}).encode())
+    # A process without a reader's right: root may read any file.
+    kinds = OTHER if test.changes_users else {}
+    for start in (("play",), ("replay",), ("serve",), ("join",)):
+        behind = {"serve": (port,), "join": ("0", port)}.get(start[0], ())
+        test.ends((*start, missing, *behind), (4, b"", f"file: {missing}\n".encode()), "no such file")
+        test.ends((*start, test.room, *behind), (4, b"", f"file: {test.room}\n".encode()), "a folder")
+        test.ends((*start, "", *behind), (4, b"", b"file: \n"), "a name without letters")
+        if test.changes_users or os.geteuid() != 0:
+            test.ends((*start, locked, *behind), (4, b"", f"file: {locked}\n".encode()), "an unreadable file", **kinds)
+        test.ends((*start, faulty, *behind), (3, b"", b"scenario: : kind\n"), "a faulty file")
+        test.ends((*start, "/dev/null", *behind), (3, b"", b"scenario: : json\n"), "an empty file")
+        test.ends((*start, unfinished, *behind), (3, b"", b"scenario: : json\n"), "an unfinished file")
+        test.ends((*start, act, *behind), (3, b"", b"scenario: /clients/0/steps/0/act: text 18 3\n"), "a faulty action")
+        test.ends((*start, "/dev/zero", *behind), (3, b"", b"scenario: : size\n"), "a file without end")
+    for option in ("--brief", "--watch"):
+        test.ends(("play", missing, option), (4, b"", f"file: {missing}\n".encode()), "no such file")
+
+
+def closed(number):
+    """What a process does before it begins: it closes this file of its own."""
+    return {"preexec_fn": lambda: os.close(number)}
+
+
+def test_outputs(test):
+    """A full disk, a closed pipe and a closed output: told as `out`, and never as success."""
+    gone, broken = os.pipe()
+    os.close(gone)
+    with open("/dev/full", "wb") as full, os.fdopen(broken, "wb") as pipe, open(os.devnull, "rb") as unwritable:
+        for words in RUNS:
+            for name, output in (("a full disk", full), ("a closed pipe", pipe), ("a file only to be read", unwritable)):
+                test.ends(words, (5, None, b"out\n"), name, stdout=output)
+            test.ends(words, (5, b"", b"out\n"), "a closed output", **closed(1))
+            test.ends(words, (5, None, None), "both outputs on a full disk", stdout=full, stderr=full)
+        for words, status in ((("plays",), 2), (("replay", os.path.join(test.room, "missing")), 4), (("replay", "/dev/null"), 3)):
+            test.ends(words, (status, b"", None), "errors on a full disk", stderr=full)
+            test.ends(words, (status, b"", None), "errors to a closed pipe", stderr=pipe)
+            test.ends(words, (status, b"", b""), "a closed error output", **closed(2))
+            test.ends(words, (status, None, {2: PLAY, 3: b"scenario: : json\n"}.get(
+                status, f"file: {os.path.join(test.room, 'missing')}\n".encode())), "an error beside a full disk", stdout=full)
+
+
+def limited(kind, amount):
+    """What a process does before it begins: it limits itself."""
+    return {"preexec_fn": lambda: resource.setrlimit(kind, (amount, amount))}
+
+
+def test_limits(test):
+    """No connection and no thread to be had, and a disk that fills up in the middle."""
+    test.ends(("play", FIRST), (6, b"", b"link\n"), "no more files", **limited(resource.RLIMIT_NOFILE, 4))
+    if test.changes_users:
+        test.ends(("play", "/dev/stdin"), (7, b"", b"start\n"), "no more threads", user=65533, group=65533,
+                  stdin=open(FIRST, "rb"), **limited(resource.RLIMIT_NPROC, 1))
+    path = os.path.join(test.room, "some")
+    with open(path, "wb") as some:
+        test.ends(("replay", FIRST), (5, None, b"out\n"), "a file that may have 100 bytes", stdout=some, preexec_fn=small)
+    with open(path, "rb") as some, open(FIRST.replace(".json", ".out"), "rb") as whole:
+        wanted = whole.read()[:100]
+        test.passed += (is_front := some.read() == wanted)
+        test.failed += not is_front
+    test.ends(("replay", FIRST), (0, wanted[:0] + read(FIRST.replace(".json", ".out")), b""), "nothing wrong")
+
+
+def small():
+    """Files of 100 bytes at most; what is more is an error and no signal."""
+    signal.signal(signal.SIGXFSZ, signal.SIG_IGN)
+    resource.setrlimit(resource.RLIMIT_FSIZE, (100, 100))
+
+
+def read(path):
+    """The bytes of a file."""
+    with open(path, "rb") as file:
+        return file.read()
+
+
+def main(words):
+    """The status of all tests."""
+    program = words[0] if words else BUILT
+    if len(words) > 1 or (words and not os.access(program, os.X_OK)):
+        print(f"words: [PROGRAM]; {program} is no program", file=sys.stderr)
+        return 2
+    if not os.access(program, os.X_OK):
+        print(f"{os.path.relpath(program, ROOT)} is not built: nothing is tested")
+        return 0
+    with tempfile.TemporaryDirectory() as room:
+        os.chmod(room, 0o755)
+        # A copy, which others than its owner can reach too.
+        copy = shutil.copy(program, os.path.join(room, "program"))
+        os.chmod(copy, 0o755)
+        test = Test(copy, room)
+        for one in (test_words, test_files, test_outputs, test_limits):
+            one(test)
+    print(f"{test.passed} passed, {test.failed} failed")
+    return 0 if test.failed == 0 else 1
+
+
+if __name__ == "__main__":
+    sys.exit(main(sys.argv[1:]))

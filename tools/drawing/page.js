@@ -1,0 +1,395 @@
+"use strict";
+const data = JSON.parse(document.getElementById("data").textContent);
+const { actions, clients, texts, counts } = data;
+const LAST = counts.entries + 1;
+const GUTTER = 82, AXIS = 22, CHART = 118, EDGE = 14;
+const COLOURS = ["#2f6fed", "#d9632a", "#1f9d6b", "#8a4fd3", "#c2377f", "#0d8ea8", "#8f7300", "#5a6b85"];
+const byId = (id) => document.getElementById(id);
+const colourOf = (client) => COLOURS[Math.max(0, clients.indexOf(client)) % COLOURS.length];
+
+// ---- What follows from the actions
+
+const accepted = [];            // by position
+const writers = new Map();      // for each object, the positions that write it
+const influenced = new Map();   // for each position, the actions that read what it wrote
+for (const action of actions) { if (action.p) accepted[action.p] = action; }
+for (const action of accepted) {
+  if (!action) continue;
+  for (const object of action.w) { if (!writers.has(object)) writers.set(object, []); writers.get(object).push(action.p); }
+}
+for (const action of actions) {
+  for (const [, place] of action.f) {
+    if (!place) continue;
+    if (!influenced.has(place)) influenced.set(place, new Set());
+    influenced.get(place).add(action);
+  }
+}
+
+const nameOf = (action) => `c${action.c}.${action.n}`;
+const textOf = (action) => texts[action.t] || "(it never reached the server)";
+const isOpen = (action) => action.p && action.e === null;
+
+// The positions that an action's values come from, back to the opening world; or the unfinished ones alone.
+function sourcesOf(places, floor) {
+  const found = new Set(), left = places.slice();
+  while (left.length) {
+    const place = left.pop();
+    if (place <= floor || found.has(place)) continue;
+    found.add(place);
+    for (const [, next] of accepted[place].f) left.push(next);
+  }
+  return [...found].sort((a, b) => a - b);
+}
+const chainOf = (action) => sourcesOf(action.f.map((each) => each[1]), action.b);
+
+// The value of an object after the action at this position wrote it.
+function valueAfter(object, place) {
+  if (!place) return object in data.opening ? data.opening[object] : "?";
+  const action = accepted[place];
+  return action.v ? action.v[action.w.indexOf(object)] : "not reported";
+}
+
+// ---- Lanes: each action has a row in its client's lane
+
+const ends = (action) => action.p ? (action.e ?? LAST) : (action.g ?? action.a ?? action.m + 1);
+const rows = new Map(), depth = new Map();
+for (const client of clients) {
+  const busy = [];
+  for (const action of actions.filter((each) => each.c === client)) {
+    let row = busy.findIndex((end) => end <= action.m);
+    if (row < 0 && busy.length < 10) row = busy.length;
+    if (row < 0) row = busy.indexOf(Math.min(...busy));
+    busy[row] = ends(action) + 0.05;
+    rows.set(action, row);
+  }
+  depth.set(client, Math.max(1, busy.length));
+}
+const allRows = [...depth.values()].reduce((sum, each) => sum + each, 0);
+const PITCH = allRows <= 24 ? 19 : allRows <= 70 ? 12 : allRows <= 140 ? 8 : 6;
+const tops = new Map();
+let height = AXIS + CHART + 8;
+for (const client of clients) { tops.set(client, height); height += depth.get(client) * PITCH + 24; }
+const rowY = (action) => tops.get(action.c) + 10 + (rows.get(action) + 0.5) * PITCH;
+
+// ---- The view
+
+const canvas = byId("lanes"), pen = canvas.getContext("2d");
+let width = 800, scale = 1, left = 0, chosen = null, pointed = null, due = false;
+const least = () => (width - GUTTER - EDGE) / LAST;
+const xOf = (time) => GUTTER + (time - left) * scale;
+const timeOf = (x) => left + (x - GUTTER) / scale;
+function settle() {
+  scale = Math.min(Math.max(scale, least()), Math.max(190, least()));
+  left = Math.min(Math.max(left, 0), Math.max(0, LAST - (width - GUTTER - EDGE) / scale));
+  if (!due) { due = true; requestAnimationFrame(paint); }
+}
+function zoom(factor, x) {
+  const time = timeOf(x);
+  scale = Math.min(Math.max(scale * factor, least()), Math.max(190, least()));
+  left = time - (x - GUTTER) / scale;
+  settle();
+}
+function wholeRun() { scale = least(); left = 0; settle(); }
+function bringIn(action) {
+  const x = xOf(action.a ?? action.m);
+  if (x < GUTTER + 40 || x > width - 60) left = (action.a ?? action.m) - (width - GUTTER) / 2 / scale;
+  settle();
+}
+function measure() {
+  const before = width, wasWhole = scale <= least() * 1.001;
+  width = Math.max(320, byId("stage").clientWidth);
+  const ratio = window.devicePixelRatio || 1;
+  canvas.width = width * ratio; canvas.height = height * ratio; canvas.style.height = `${height}px`;
+  pen.setTransform(ratio, 0, 0, ratio, 0, 0);
+  if (wasWhole || before !== width && scale < least()) scale = least();
+  settle();
+}
+
+// ---- Painting
+
+const yOfPlace = (place) => AXIS + CHART - 8 - (CHART - 22) * (accepted.length > 1 ? place / (accepted.length - 1) : 0);
+function line(x1, y1, x2, y2, colour, thick = 1) { pen.strokeStyle = colour; pen.lineWidth = thick; pen.beginPath(); pen.moveTo(x1, y1); pen.lineTo(x2, y2); pen.stroke(); }
+function disc(x, y, r, colour, hollow) { pen.beginPath(); pen.arc(x, y, r, 0, 7); if (hollow) { pen.fillStyle = "#fff"; pen.fill(); pen.strokeStyle = colour; pen.lineWidth = 1.6; pen.stroke(); } else { pen.fillStyle = colour; pen.fill(); } }
+function cross(x, y, r, colour) { line(x - r, y - r, x + r, y + r, colour, 2); line(x - r, y + r, x + r, y - r, colour, 2); }
+function label(text, x, y, colour, font = "11px system-ui, sans-serif", align = "left") { pen.fillStyle = colour; pen.font = font; pen.textAlign = align; pen.textBaseline = "middle"; pen.fillText(text, x, y); }
+
+function paintAxis() {
+  const steps = [1, 2, 5, 10, 20, 50, 100, 200, 500, 1000, 2000, 5000, 10000];
+  const step = steps.find((each) => each * scale >= 46) || 20000;
+  for (let time = Math.max(step, Math.ceil(left / step) * step); time <= LAST - 1 && xOf(time) < width; time += step) {
+    line(xOf(time), AXIS, xOf(time), height, "#eef1f5");
+    label(String(time), xOf(time), AXIS / 2, "#667085", undefined, "center");
+  }
+}
+
+function paintChart() {
+  const bottom = yOfPlace(0);
+  const steps = (points, upTo) => { let y = bottom; for (const [time, place] of points) { pen.lineTo(xOf(time), y); y = yOfPlace(place); pen.lineTo(xOf(time), y); } pen.lineTo(xOf(upTo), y); };
+  const takes = accepted.filter(Boolean).map((each) => [each.a, each.p]);
+  const end = Math.min(LAST, timeOf(width));
+  const shape = (points, fill, stroke) => {
+    pen.beginPath(); pen.moveTo(xOf(0), bottom); steps(points, LAST);
+    if (stroke) { pen.strokeStyle = stroke; pen.lineWidth = 1.5; pen.stroke(); }
+    if (fill) { pen.lineTo(xOf(LAST), bottom); pen.closePath(); pen.fillStyle = fill; pen.fill(); }
+  };
+  shape(takes, "#fff1d6", null);
+  shape(data.commits, "#d9f0e4", null);
+  shape(takes, null, "#c98a1b");
+  shape(data.commits, null, "#12805c");
+  const wide = scale >= 20;
+  for (const action of actions) {
+    if (action.a === null || action.a < left - 1 || action.a > end + 1) continue;
+    const x = xOf(action.a);
+    if (action.p) {
+      disc(x, yOfPlace(action.p), wide ? 5 : 2.2, colourOf(action.c));
+      if (wide) label(String(action.p), x, yOfPlace(action.p) - 11, "#1c2330", undefined, "center");
+    } else if (action.d) { cross(x, bottom - 5, wide ? 4.5 : 3, "#d02b3b"); }
+  }
+}
+
+function paintStays() {
+  for (const stay of data.sessions) {
+    const top = tops.get(stay.client), tall = depth.get(stay.client) * PITCH + 20;
+    const x1 = Math.max(GUTTER, xOf(stay.from)), x2 = Math.min(width - EDGE + 6, xOf(stay.to));
+    if (x2 < GUTTER || x1 > width) continue;
+    pen.fillStyle = colourOf(stay.client) + "12"; pen.beginPath(); pen.roundRect(x1, top, Math.max(2, x2 - x1), tall, 5); pen.fill();
+    if (scale >= 20) label(`s${stay.session}`, x1 + 3, top + 6, "#98a1b0", "10px system-ui, sans-serif");
+  }
+  for (const [time, client, kind] of data.marks) {
+    if (!tops.has(client) || time < left - 1 || xOf(time) > width) continue;
+    const x = xOf(time) + (kind === "join" ? 2 : kind === "cut" ? -2 : 0), top = tops.get(client), low = top + depth.get(client) * PITCH + 20;
+    if (kind === "cut" || kind === "quit") { line(x, top, x, low, "#d02b3b", 1.5); if (scale >= 14) label(kind, x - 3, low - 6, "#d02b3b", "10px system-ui, sans-serif", "right"); }
+    else if (kind === "join" && time > 1) line(x, top, x, low, "#12805c", 1.5);
+    else if (kind === "refused") cross(x, low - 6, 3, "#98a1b0");
+    else if (kind === "adopt" && scale >= 14) label("poll", x - 8, low - 6, "#667085", "10px system-ui, sans-serif");
+    else if (kind === "show" && scale >= 20) { pen.strokeStyle = "#98a1b0"; pen.lineWidth = 1.2; pen.beginPath(); pen.ellipse(x, low - 6, 5, 3, 0, 0, 7); pen.stroke(); disc(x, low - 6, 1.2, "#98a1b0"); }
+  }
+}
+
+function paintAction(action, faint) {
+  const colour = colourOf(action.c), y = rowY(action), thin = PITCH <= 8;
+  const made = xOf(action.m), answered = action.a === null ? null : xOf(action.a);
+  const took = xOf(action.g ?? (action.a === null ? LAST : Math.min(LAST, action.a + 0.5)));
+  pen.globalAlpha = faint ? 0.22 : 1;
+  pen.fillStyle = action.d ? "#d02b3b40" : colour + "45";
+  const tall = Math.max(2, PITCH * 0.5);
+  pen.beginPath(); pen.roundRect(made, y - tall / 2, Math.max(1, took - made), tall, Math.min(3, tall / 2)); pen.fill();
+  if (action.p) line(took, y, xOf(action.e ?? LAST), y, colour + (action.e ? "90" : "40"), thin ? 1 : 1.5);
+  if (scale < 3) {
+    if (answered !== null) { if (action.d) cross(answered, y, 2.5, "#d02b3b"); else { pen.fillStyle = action.r ? "#c77700" : colour; pen.fillRect(answered - 0.7, y - tall / 2, 1.6, tall); } }
+    pen.globalAlpha = 1; return;
+  }
+  const r = PITCH >= 19 ? 4 : PITCH >= 12 ? 3 : 2.2;
+  disc(made, y, r, colour, true);
+  if (answered !== null && action.p) disc(answered, y, r, colour);
+  if (action.d) cross(answered, y, r, "#d02b3b");
+  for (const again of action.q) disc(xOf(again), y, r * 0.8, colour, true);
+  if (action.o !== null) { pen.fillStyle = action.y === null ? colour : colourOf(action.y); pen.fillRect(xOf(action.o) - r * 0.85, y - r * 0.85, r * 1.7, r * 1.7); }
+  if (action.e !== null) { const x = xOf(action.e) + (action.e === action.o ? r * 2.6 : 0); pen.strokeStyle = "#12805c"; pen.lineWidth = 1.8; pen.beginPath(); pen.moveTo(x - r, y + 1); pen.lineTo(x - r * 0.2, y + r); pen.lineTo(x + r * 1.1, y - r - 1); pen.stroke(); }
+  if (action.r && action.g !== null) { pen.fillStyle = "#c77700"; pen.beginPath(); pen.moveTo(took, y - r - 2.5); pen.lineTo(took + r + 1, y + r); pen.lineTo(took - r - 1, y + r); pen.closePath(); pen.fill(); }
+  if (PITCH >= 12 && scale >= 34) label(action.p ? `${action.n}` : nameOf(action), made + r + 3, y - (PITCH >= 19 ? 0 : 0.5), "#1c2330", PITCH >= 19 ? "11px system-ui, sans-serif" : "9px system-ui, sans-serif");
+  pen.globalAlpha = 1;
+}
+
+function arrow(from, to, colour, thick) {
+  const x1 = xOf(from.a), y1 = rowY(from), x2 = xOf(to.a ?? to.m), y2 = rowY(to);
+  const bend = Math.max(18, Math.abs(x2 - x1) * 0.35), same = Math.abs(y1 - y2) < 2;
+  pen.strokeStyle = colour; pen.lineWidth = thick; pen.beginPath(); pen.moveTo(x1, y1);
+  if (same) pen.quadraticCurveTo((x1 + x2) / 2, y1 - Math.min(40, 12 + (x2 - x1) * 0.15), x2, y2);
+  else pen.bezierCurveTo(x1 + bend, y1, x2 - bend, y2, x2, y2);
+  pen.stroke();
+  pen.fillStyle = colour; pen.beginPath(); pen.moveTo(x2, y2); pen.lineTo(x2 - 8, y2 - 4); pen.lineTo(x2 - 8, y2 + 4); pen.fill();
+}
+
+function paintShown(action) {
+  const direct = new Set(action.f.map((each) => each[1]).filter(Boolean));
+  for (const place of chainOf(action)) if (!direct.has(place)) for (const [, next] of accepted[place].f) if (next > action.b) arrow(accepted[next], accepted[place], "#0b5fff55", 1.2);
+  for (const place of chainOf(action)) for (const [, next] of accepted[place].f) if (next > action.b) arrow(accepted[next], accepted[place], "#0b5fff55", 1.2);
+  for (const place of direct) arrow(accepted[place], action, place > action.b ? "#0b5fff" : "#0b5fff88", place > action.b ? 2 : 1.2);
+  if (action.p) for (const next of influenced.get(action.p) || []) arrow(action, next, "#8a4fd3aa", 1.4);
+  const y = rowY(action);
+  pen.strokeStyle = "#1c2330"; pen.lineWidth = 1.4; pen.beginPath(); pen.roundRect(xOf(action.m) - 6, y - PITCH / 2, Math.max(12, xOf(ends(action)) - xOf(action.m) + 12), PITCH, 5); pen.stroke();
+}
+
+function paint() {
+  due = false;
+  pen.clearRect(0, 0, width, height);
+  pen.save(); pen.beginPath(); pen.rect(GUTTER - 8, 0, width - GUTTER + 8, height); pen.clip();
+  paintAxis(); paintChart(); paintStays();
+  const shown = pointed || chosen, to = timeOf(width), from = timeOf(GUTTER - 8);
+  const near = shown ? new Set([shown, ...shown.f.map((each) => accepted[each[1]]), ...chainOf(shown).map((place) => accepted[place]), ...(influenced.get(shown.p) || [])]) : null;
+  let drawn = 0;
+  for (const action of actions) {
+    if (ends(action) < from || action.m > to) continue;
+    paintAction(action, near && !near.has(action));
+    drawn += 1;
+  }
+  if (shown) paintShown(shown);
+  pen.restore();
+  label("position", 4, AXIS + CHART / 2, "#667085"); label(String(Math.max(0, accepted.length - 1)), GUTTER - 12, yOfPlace(accepted.length - 1), "#667085", undefined, "right");
+  label("0", GUTTER - 12, yOfPlace(0), "#667085", undefined, "right"); label("entry", 4, AXIS / 2, "#667085");
+  for (const client of clients) { disc(10, tops.get(client) + 14, 5, colourOf(client)); label(`client ${client}`, 20, tops.get(client) + 14, "#1c2330", "12px system-ui, sans-serif"); }
+  document.body.dataset.drawn = drawn;
+}
+
+// ---- What is pointed at and chosen
+
+function actionAt(x, y) {
+  let best = null, nearest = 15;
+  for (const action of actions) {
+    const row = rowY(action), made = xOf(action.m), end = xOf(ends(action));
+    if (Math.abs(y - row) <= Math.max(4, PITCH / 2) && x >= made - 6 && x <= end + 6) {
+      const off = Math.abs(y - row) + Math.min(Math.abs(x - made), Math.abs(x - xOf(action.a ?? action.m)), Math.abs(x - end)) / 60;
+      if (off < nearest) { nearest = off; best = action; }
+    }
+    if (action.a !== null && y < AXIS + CHART) {
+      const off = Math.hypot(x - xOf(action.a), y - (action.p ? yOfPlace(action.p) : yOfPlace(0) - 5));
+      if (off < Math.min(nearest, 12)) { nearest = off; best = action; }
+    }
+  }
+  return best;
+}
+function point(action) { if (action === pointed) return; pointed = action; tell(pointed || chosen); settle(); }
+function choose(action) { chosen = action; pointed = null; tell(chosen); if (action) { bringIn(action); history.replaceState(null, "", `#action=${nameOf(action)}`); } settle(); }
+const order = actions.slice().sort((a, b) => (a.a ?? a.m) - (b.a ?? b.m));
+function stepTo(by) { if (!order.length) return; const at = chosen ? order.indexOf(chosen) + by : 0; choose(order[Math.min(Math.max(at, 0), order.length - 1)]); }
+
+let drag = null;
+const fingers = new Map();
+canvas.addEventListener("pointerdown", (event) => { fingers.set(event.pointerId, event.offsetX); drag = { x: event.offsetX, left, moved: false }; });
+canvas.addEventListener("pointermove", (event) => {
+  if (fingers.has(event.pointerId) && fingers.size === 2) {
+    const before = [...fingers.values()]; fingers.set(event.pointerId, event.offsetX); const now = [...fingers.values()];
+    const was = Math.abs(before[0] - before[1]), is = Math.abs(now[0] - now[1]);
+    if (was > 10 && is > 10) zoom(is / was, (now[0] + now[1]) / 2);
+    drag = null; return;
+  }
+  if (drag && event.buttons) {
+    if (Math.abs(event.offsetX - drag.x) > 4) drag.moved = true;
+    if (drag.moved) { left = drag.left - (event.offsetX - drag.x) / scale; settle(); return; }
+  }
+  point(actionAt(event.offsetX, event.offsetY));
+});
+canvas.addEventListener("pointerup", (event) => { fingers.delete(event.pointerId); if (drag && !drag.moved) { const found = actionAt(event.offsetX, event.offsetY); if (found) choose(found); else { chosen = null; tell(null); settle(); } } drag = null; });
+canvas.addEventListener("pointercancel", (event) => { fingers.delete(event.pointerId); drag = null; });
+canvas.addEventListener("pointerleave", () => { fingers.clear(); drag = null; point(null); });
+canvas.addEventListener("wheel", (event) => { event.preventDefault(); if (Math.abs(event.deltaX) > Math.abs(event.deltaY)) { left += event.deltaX / scale; settle(); } else zoom(Math.exp(-event.deltaY / 400), event.offsetX); }, { passive: false });
+canvas.addEventListener("keydown", (event) => {
+  const does = { ArrowLeft: () => stepTo(-1), ArrowRight: () => stepTo(1), "+": () => zoom(1.5, width / 2), "=": () => zoom(1.5, width / 2), "-": () => zoom(1 / 1.5, width / 2), "0": wholeRun, Escape: () => { chosen = null; tell(null); settle(); } }[event.key];
+  if (does) { event.preventDefault(); does(); }
+});
+byId("whole").onclick = wholeRun;
+byId("in").onclick = () => zoom(1.7, width / 2);
+byId("out").onclick = () => zoom(1 / 1.7, width / 2);
+byId("before").onclick = () => stepTo(-1);
+byId("after").onclick = () => stepTo(1);
+
+// ---- Words
+
+const safe = (text) => String(text).replace(/[&<>"]/g, (each) => ({ "&": "&amp;", "<": "&lt;", ">": "&gt;", '"': "&quot;" })[each]);
+const link = (action) => `<a data-action="${nameOf(action)}"><span class="dot" style="background:${colourOf(action.c)}"></span>${nameOf(action)}</a>`;
+const placed = (place) => `${link(accepted[place])} at ${place}`;
+const listed = (pairs) => pairs.map(([object, value]) => `${object}=${value}`).join(" ") || "nothing: it writes no object";
+const fact = (name, said) => `<dt>${name}</dt><dd>${said}</dd>`;
+
+function outcomeOf(action) {
+  if (action.d) return `<span class="badge bad">dropped</span>`;
+  if (action.a === null) return `<span class="badge">no answer</span>`;
+  if (isOpen(action)) return `<span class="badge warn">accepted, not finished</span>`;
+  return `<span class="badge good">finished</span>`;
+}
+
+function tell(action) {
+  if (!action) { byId("said").innerHTML = `<p class="quiet">None is chosen.</p>`; return; }
+  const facts = [];
+  if (action.k !== null) facts.push(fact("expected", action.k === "none" ? "no guess: its client did not know all that it reads" : safe(listed(action.k))));
+  if (action.p) facts.push(fact("accepted", `at position ${action.p}, by entry ${action.a} of session ${action.s}, when ${action.b} were finished`));
+  if (action.x.length > 1) facts.push(fact("brought with it", action.x.filter((place) => place !== action.p).map(placed).join(", ")));
+  if (action.d) {
+    facts.push(fact("dropped", `by entry ${action.a}: ${action.d[0]} unfinished actions mattered to it, the farthest at a distance of ${action.d[1]}`));
+    facts.push(fact("its chain", chainOf(action).map(placed).join(", ") || "none"));
+  }
+  if (action.q.length) facts.push(fact("asked again", `by entry ${action.q.join(", ")}`));
+  if (action.o !== null) facts.push(fact("result", `${safe(listed(action.w.map((object, at) => [object, action.v[at]])))}, reported by client ${action.y} in entry ${action.o}`));
+  if (action.r) facts.push(fact("guess", `<span class="badge warn">wrong</span> taken back when its client took the answer`));
+  if (action.e !== null) facts.push(fact("finished", `by entry ${action.e}`));
+  const from = action.f.map(([object, place]) => `object ${object}: ${place ? placed(place) + (place > action.b ? ", unfinished then" : "") : "the opening value"}`);
+  facts.push(fact("influenced by", from.join("<br>") || "nothing"));
+  if (action.p) facts.push(fact("influences", [...(influenced.get(action.p) || [])].map(link).join(", ") || "nothing that was asked"));
+  byId("said").innerHTML = `<p><b>${link(action)}</b> ${outcomeOf(action)}</p><div class="text">${safe(textOf(action))}</div><dl>${facts.join("")}</dl>`;
+}
+
+function whyOf(place) {
+  const found = sourcesOf([place], 0);
+  return `<div class="why">${found.map((each) => `<div><code>${each} ${link(accepted[each])} ${safe(textOf(accepted[each]))}</code></div>`).join("")}</div>`;
+}
+
+function story(word) {
+  const object = Number(word), all = writers.get(object) || [], known = data.world[object];
+  byId("object").value = word;
+  if (!/^[0-9]+$/.test(word) || (data.world.length && object >= data.world.length)) { byId("story").innerHTML = `<p class="quiet">There is no object ${safe(word)}.</p>`; return; }
+  const shown = all.slice(0, 500);
+  const rowsOf = [`<tr><td class="number">0</td><td>the opening world</td><td class="number">${safe(all.length ? valueAfter(object, 0) : known ?? valueAfter(object, 0))}</td><td></td></tr>`];
+  for (const place of shown) rowsOf.push(`<tr><td class="number">${place}</td><td>${link(accepted[place])}${place > counts.commit ? " <span class=\"badge warn\">not finished</span>" : ""}</td><td class="number">${safe(valueAfter(object, place))}</td><td><a data-why="${place}">why</a></td></tr>`);
+  const more = all.length > shown.length ? `<p class="quiet">and ${all.length - shown.length} more</p>` : "";
+  byId("story").innerHTML = `<p>Object ${object} was written ${all.length} times${known ? `, and is <b>${safe(known)}</b> at the end` : ""}.</p><div class="scroll"><table><tr><th>position</th><th>by</th><th>value</th><th></th></tr>${rowsOf.join("")}</table></div>${more}`;
+}
+byId("search").addEventListener("submit", (event) => { event.preventDefault(); story(byId("object").value.trim()); });
+
+function worldTable(limit) {
+  if (!data.world.length) { byId("objects").innerHTML = `<p class="quiet">The report has no world. ${counts.commit} actions are finished.</p>`; return; }
+  const body = data.world.slice(0, limit).map((value, object) => `<tr><td class="number"><a data-object="${object}">${object}</a></td><td class="number">${safe(value)}</td><td>${(writers.get(object) || []).length || ""}</td></tr>`).join("");
+  const more = data.world.length > limit ? `<p><a data-more="world">all ${data.world.length} objects</a></p>` : "";
+  byId("objects").innerHTML = `<p class="quiet">after ${counts.commit} finished actions</p><div class="scroll"><table><tr><th>object</th><th>value</th><th>writes</th></tr>${body}</table></div>${more}`;
+}
+
+function actionTable(limit) {
+  const kind = byId("kind").value, who = byId("who").value;
+  const tests = { all: () => true, dropped: (each) => each.d, corrected: (each) => each.r, open: isOpen, repeated: (each) => each.q.length };
+  const found = order.filter((each) => tests[kind](each) && (who === "all" || each.c === Number(who)));
+  const body = found.slice(0, limit).map((each) => `<tr><td class="number">${each.p || ""}</td><td class="number">${link(each)}</td><td><code>${safe(textOf(each))}</code></td></tr>`).join("");
+  const more = found.length > limit ? `<p><a data-more="list">all ${found.length}</a></p>` : "";
+  byId("rows").innerHTML = found.length ? `<div class="scroll"><table><tr><th>position</th><th>action</th><th>text</th></tr>${body}</table></div>${more}` : `<p class="quiet">There are none.</p>`;
+}
+byId("who").innerHTML = `<option value="all">all clients</option>` + clients.map((client) => `<option value="${client}">client ${client}</option>`).join("");
+byId("kind").onchange = byId("who").onchange = () => actionTable(100);
+
+document.addEventListener("click", (event) => {
+  const at = event.target.closest("a");
+  if (!at) return;
+  if (at.dataset.action) { const found = actions.find((each) => nameOf(each) === at.dataset.action); if (found) choose(found); }
+  if (at.dataset.object) story(at.dataset.object);
+  if (at.dataset.why) { const row = at.closest("tr"), next = row.nextElementSibling; if (next && next.dataset.open) next.remove(); else row.insertAdjacentHTML("afterend", `<tr data-open="1"><td colspan="4">${whyOf(Number(at.dataset.why))}</td></tr>`); }
+  if (at.dataset.more === "world") worldTable(4096);
+  if (at.dataset.more === "list") actionTable(100000);
+});
+
+function icon(inside) { return `<svg width="16" height="14" viewBox="0 0 16 14">${inside}</svg>`; }
+byId("legend").innerHTML = [
+  [`<circle cx="8" cy="7" r="4" fill="#fff" stroke="#2f6fed" stroke-width="2"/>`, "made"],
+  [`<rect x="0" y="4" width="16" height="6" rx="3" fill="#2f6fed55"/>`, "pending"],
+  [`<circle cx="8" cy="7" r="4" fill="#2f6fed"/>`, "accepted and relayed"],
+  [`<rect x="4" y="3" width="8" height="8" fill="#2f6fed"/>`, "result reported"],
+  [`<path d="M3 8l3 3 7-9" fill="none" stroke="#12805c" stroke-width="2"/>`, "finished (committed)"],
+  [`<path d="M8 2l6 10H2z" fill="#c77700"/>`, "guess was wrong"],
+  [`<path d="M3 2l9 9M12 2l-9 9" stroke="#d02b3b" stroke-width="2"/>`, "dropped"],
+  [`<path d="M4 0v14" stroke="#d02b3b" stroke-width="2"/><path d="M11 0v14" stroke="#12805c" stroke-width="2"/>`, "cut, joined again"],
+  [`<rect x="0" y="2" width="16" height="10" fill="#fff1d6"/>`, "not finished"],
+  [`<rect x="0" y="2" width="16" height="10" fill="#d9f0e4"/>`, "finished"],
+].map(([inside, name]) => `<span>${icon(inside)}${name}</span>`).join("");
+const NAMES = { clients: "clients", sessions: "sessions", entries: "entries", made: "made", accepted: "accepted", dropped: "dropped", commit: "finished", corrected: "guessed wrong", unguessed: "no guess", rejoined: "joined again", refused: "refused" };
+const ONE = { clients: "client", sessions: "session", entries: "entry" };
+const CLASSES = { dropped: "bad", refused: "bad", corrected: "warn" };
+const guesses = actions.some((each) => each.k !== null);
+byId("counts").innerHTML = Object.entries(NAMES).filter(([key]) => (guesses || key !== "corrected") && (counts[key] || !["unguessed", "rejoined", "refused"].includes(key))).map(([key, name]) => `<li class="${counts[key] ? CLASSES[key] || "" : ""}"><b id="count-${key}">${counts[key]}</b> ${counts[key] === 1 && ONE[key] || name}</li>`).join("");
+
+worldTable(100);
+actionTable(100);
+window.addEventListener("resize", measure);
+measure();
+wholeRun();
+const asked = /^#(action|position|object)=(.+)$/.exec(decodeURIComponent(location.hash));
+if (asked && asked[1] === "object") story(asked[2]);
+if (asked && asked[1] !== "object") { const found = asked[1] === "action" ? actions.find((each) => nameOf(each) === asked[2]) : accepted[Number(asked[2])]; if (found) choose(found); }
+paint();
+document.body.dataset.ready = "1";
