@@ -1,11 +1,59 @@
 //! The check of a whole text.
-ghost use Rattle.std.specs.Prelude.{◌<◌, ◌^◌, length, IfOk};
+ghost use Rattle.std.specs.Prelude.{◌≡◌, ◌<◌, ◌^◌, length, IfOk};
 ghost use Rattle.sv_scenario.specs.Limits.{IsGoodScenario};
-ghost use Rattle.sv_check.specs.Verdicts.{IsVerdict};
+ghost use Rattle.sv_check.specs.Consistent.{IsReportOf};
+ghost use Rattle.sv_check.specs.Yes.{IsRightYes, IsRightPlayed};
 
 use crate::Verdict;
+use crate::clients::take_clients;
+use crate::journal::{Served, take_journal};
+use crate::lines::{line_ends, take_lines};
+use crate::stop::Stop;
 use std::alloc::{AllocError, Global};
+use sv_replay::played_of;
+use sv_report::{append_world, report};
 use sv_scenario::Scenario;
+use sv_system::Played;
+
+/// What the lines of the whole text tell, where none is wrong.
+fn read_report(alloc: Global, scenario: &Scenario, text: &[u8]) -> Result<Played, Stop>
+    requires { IsGoodScenario scenario.now }
+    ensures { IfOk result (λ played. IsRightPlayed scenario.now played) }
+{
+    let (served, rest) = take_journal(alloc, scenario, text)?;
+    let (traces, rest) = take_clients(alloc, scenario, &served, rest)?;
+    let Served { sequencer, .. } = served;
+    let played = played_of(alloc, scenario.world.shape, sequencer, traces)?;
+    take_world(alloc, &played, rest)?;
+    Ok(played)
+}
+
+/// Takes the world's lines, after which nothing may come.
+fn take_world(alloc: Global, played: &Played, text: &[u8]) -> Result<(), Stop> {
+    let mut lines = String::new(alloc);
+    append_world(played.commit, played.committed.as_slice(), &mut lines)?;
+    let rest = take_lines(text, lines.as_bytes())?;
+    if rest.is_empty() {
+        Ok(())
+    } else {
+        Err(Stop::Wrong { left: rest.len() })
+    }
+}
+
+/// Whether a text is the report of what was played.
+fn is_report(
+    alloc: Global,
+    scenario: &Scenario,
+    text: &[u8],
+    played: &Played,
+) -> Result<bool, AllocError>
+    requires good { IsGoodScenario scenario.now }
+    requires played { IsRightPlayed scenario.now played.now }
+    ensures { IfOk result (λ is. is ≡ true → IsReportOf scenario.now text.now played.now) }
+{
+    let printed = report(alloc, scenario, played)?;
+    Ok(printed.as_bytes() == text)
+}
 
 /// Whether a text is the report of a consistent run of the scenario: yes, with the journal and the traces of that run; or the first wrong line.
 ///
@@ -13,8 +61,29 @@ use sv_scenario::Scenario;
 pub fn check(alloc: Global, scenario: &Scenario, text: &[u8]) -> Result<Verdict, AllocError>
     requires good { IsGoodScenario scenario.now }
     requires short { length text.now < 2 ^ 32 }
-    ensures { IfOk result (λ verdict. IsVerdict scenario.now text.now verdict) }
+    ensures yes { IfOk result (λ verdict. IsRightYes scenario.now text.now verdict) }
 {
-    let _ = (alloc, scenario, text);
-    Err(AllocError)
+    match read_report(alloc, scenario, text) {
+        Ok(played) => {
+            if is_report(alloc, scenario, text, &played)? {
+                Ok(Verdict::Yes(played))
+            } else {
+                Ok(Verdict::No { line: 1 })
+            }
+        }
+        Err(Stop::Wrong { left }) => Ok(Verdict::No {
+            line: line_number(text, left),
+        }),
+        Err(Stop::Memory) => Err(AllocError),
+    }
+}
+
+/// The number of the line with which so many last bytes of a text begin.
+fn line_number(text: &[u8], left: usize) -> u32 {
+    let front = if left <= text.len() {
+        &text[..text.len() - left]
+    } else {
+        text
+    };
+    line_ends(front).wrapping_add(1)
 }

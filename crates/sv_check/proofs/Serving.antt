@@ -1,0 +1,76 @@
+-- The server that a report's journal tells of, with one request more.
+use Rattle.std.proofs.Common.{◌≡◌, ℕ, zero, suc, ◌+◌, ◌<◌, ◌≤◌, Bool, true, false, ◌&&◌, ◌||◌, eqb, List, [], ◌∷◌, ◌++◌, map, length, reverse, refl, sym, ap, ap₂, subst, ◌∙◌, arith, true≢false}
+use Rattle.std.specs.Prelude.{if◌then◌else◌, All}
+use Rattle.std.proofs.lemmas.Bool.{or_cases, or_parts, cases_Bool, and_parts, eqb-true, eq-eqb}
+use Rattle.std.proofs.lemmas.List.{reverse-append, reverse-reverse, map-append}
+use Rattle.std.specs.List.{AllByRecursion}
+use Rattle.std.proofs.lemmas.List.Elements.{All-cons, recursion_from_All}
+use Rattle.sv_wire.specs.declared.message.Request.{Request}
+use Rattle.sv_wire.specs.declared.message.Reply.{Reply}
+use Rattle.sv_journal.specs.declared.entry.Entry.{Entry}
+use Rattle.sv_journal.specs.History.{accepted, full_reply}
+use Rattle.sv_journal.specs.Sessions.{is_end}
+use Rattle.sv_journal.specs.Laws.{FullRepliesStay, LegalRelaysNameAccepted}
+use Rattle.sv_journal.specs.Text.{NamesAccepted}
+use Rattle.sv_journal.specs.Answer.{Rules, Legal, reply_to}
+use Rattle.sv_sequencer.specs.Step.{SequencerView, history, Answered, entry_of}
+use Rattle.sv_sequencer.specs.Rows.{is_ended}
+use Rattle.sv_scenario.specs.declared.scenario.Scenario.{Scenario}
+use Rattle.sv_scenario.specs.Sessions.{session_count}
+use Rattle.sv_system.specs.Records.{rules_of, ends_in}
+use Rattle.sv_check.specs.Serving.{full_replies}
+
+-- A session that had no End has none.
+pub none_ended : (h : List Entry) (s : ℕ) → is_ended h s ≡ false → ends_in h s ≡ 0
+none_ended [] s e = refl
+none_ended (d ∷ h) s e =
+    let p = or_parts (is_ended h s) (eqb d.session s && is_end d.request) e in
+    rw p.1 (none_ended h s p.0)
+
+-- A session that had its End has one at least.
+pub some_ended : (h : List Entry) (s : ℕ) → is_ended h s ≡ true → 1 ≤ ends_in h s
+some_ended [] s e = cc
+some_ended (d ∷ h) s e = go (eqb d.session s && is_end d.request) refl
+  where
+    go : (b : Bool) → (eqb d.session s && is_end d.request) ≡ b → 1 ≤ ends_in (d ∷ h) s
+    go true q = rw q (omega arith)
+    go false q =
+        elim (or_cases (is_ended h s) (eqb d.session s && is_end d.request) e) [
+          | inl x ↦ rw q (some_ended h s x)
+          | inr x ↦ absurd (true≢false (sym x ∙ q))
+        ]
+
+-- No session has two, with one more entry.
+pub once_more : (h : List Entry) (e : Entry) → ((s : ℕ) → ends_in h s ≤ 1) → (is_end e.request ≡ true → is_ended h e.session ≡ false) → (s : ℕ) → ends_in (e ∷ h) s ≤ 1
+once_more h e once first s = go (eqb e.session s && is_end e.request) refl
+  where
+    go : (b : Bool) → (eqb e.session s && is_end e.request) ≡ b → ends_in (e ∷ h) s ≤ 1
+    go true q =
+        (let p = and_parts (eqb e.session s) (is_end e.request) q in
+        let none = none_ended h s (subst (λ (n : ℕ). is_ended h n ≡ false) (eqb-true e.session s p.0) (first p.1)) in
+        rw q (omega (arith, none)))
+    go false q = rw q (once s)
+
+-- The whole replies of earlier entries stay.
+all_stay : (g : List Entry) (h : List Entry) → FullRepliesStay → (e : Entry) →
+    All (λ (d : Entry). NamesAccepted (length (accepted h)) d.reply) g →
+    map (λ (d : Entry). full_reply (accepted (e ∷ h)) d.reply) g ≡ map (λ (d : Entry). full_reply (accepted h) d.reply) g
+all_stay g h stay e names = go g (recursion_from_All (λ (d : Entry). NamesAccepted (length (accepted h)) d.reply) g names)
+  where
+    go : (ds : List Entry) → AllByRecursion (λ (d : Entry). NamesAccepted (length (accepted h)) d.reply) ds →
+        map (λ (d : Entry). full_reply (accepted (e ∷ h)) d.reply) ds ≡ map (λ (d : Entry). full_reply (accepted h) d.reply) ds
+    go [] n = refl
+    go (d ∷ ds) n = ap₂ (λ (r : Reply) (rs : List Reply). r ∷ rs) (stay (e ∷ []) h d.reply n.0) (go ds n.1)
+
+-- The replies so far, and the new one, are those of the entries.
+pub replies_more : FullRepliesStay → LegalRelaysNameAccepted → (r : Rules) (entries : List Entry) (e : Entry) → Legal r (reverse entries) →
+    full_replies (entries ++ e ∷ []) ≡ full_replies entries ++ full_reply (accepted (e ∷ reverse entries)) e.reply ∷ []
+replies_more stay names r entries e legal =
+    let turned : reverse (entries ++ e ∷ []) ≡ e ∷ reverse entries = reverse-append entries (e ∷ []) in
+    let named = names r (reverse entries) legal in
+    let in_order : All (λ (d : Entry). NamesAccepted (length (accepted (reverse entries))) d.reply) entries =
+        subst (λ (ds : List Entry). All (λ (d : Entry). NamesAccepted (length (accepted (reverse ds))) d.reply) ds) (reverse-reverse entries)
+        (subst (λ (h : List Entry). All (λ (d : Entry). NamesAccepted (length (accepted h)) d.reply) (reverse (reverse entries))) (sym (reverse-reverse (reverse entries))) named) in
+    ap (λ (h : List Entry). map (λ (d : Entry). full_reply (accepted h) d.reply) (entries ++ e ∷ [])) turned
+    ∙ map-append (λ (d : Entry). full_reply (accepted (e ∷ reverse entries)) d.reply) entries (e ∷ [])
+    ∙ ap (λ (rs : List Reply). rs ++ full_reply (accepted (e ∷ reverse entries)) e.reply ∷ []) (all_stay entries (reverse entries) stay e in_order)
