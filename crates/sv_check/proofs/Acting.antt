@@ -374,3 +374,33 @@ gets entries a b s p reply g m n is next r d =
       gets = rw d.done (got_gets entries a.first a.client.events a.place p s reply current next r g.gets);
       asks = rw (d.who, d.done) (got_asks entries a.first a.client.who a.client.events reply a.asked.items b.asked.items a.fits here.0 here.1 g.asks d.asked_is);
     })
+
+-- ---- Going on
+
+pub went_joined : (entries : List Entry) (a m b : Actor) → IsActing entries a → must_join a.client.events ≡ true → joins a.client.events < 64 → Settles entries a m → Joined m b → WentOn entries a b
+went_joined entries a m b g n l d j = record {
+  acting = joined entries m b (settled_keeps entries a m g d) (ap (λ (x : Actor). must_join x.client.events) d.same ∙ n)
+      (subst (λ (x : Actor). joins x.client.events < 64) (sym d.same) l) (settled_latest entries a m g d) j;
+  who = ap (λ (c : ClientView). c.who) j.client ∙ ap (λ (x : Actor). x.client.who) d.same;
+  first = ap (λ (x : Actor). x.first) j.same ∙ ap (λ (x : Actor). x.first) d.same;
+  script = ap (λ (x : Actor). x.script.now) j.same ∙ ap (λ (x : Actor). x.script.now) d.same;
+}
+
+pub went_got : (entries : List Entry) (a b : Actor) (s p : ℕ) (reply : Reply) → IsActing entries a → must_join a.client.events ≡ false → is_finished a.client.events ≡ false →
+    a.session ≡ Some s → IsNextPlace entries a.place s p → slice_get (full_replies entries) p ≡ Some reply → GotReply reply p a b → WentOn entries a b
+went_got entries a b s p reply g m n is next r d = record {
+  acting = gets entries a b s p reply g m n is next r d;
+  who = d.who;
+  first = ap (λ (x : Actor). x.first) d.same;
+  script = ap (λ (x : Actor). x.script.now) d.same;
+}
+
+pub went_did : (entries : List Entry) (a b : Actor) (e : Event) → IsActing entries a → must_join a.client.events ≡ false → is_finished a.client.events ≡ false →
+    is_other e ≡ true → (left : Ref (List Step)) → IsNextEvent a.client.who a.client.events a.left.now e left.now → Made e a b → WentOn entries a (record b { left = left })
+went_did entries a b e g m n o left next d = record {
+  acting = did entries a b e g m n o next.may left next.comes d;
+  who = ap (λ (c : ClientView). c.who) d.client;
+  first = ap (λ (x : Actor). x.first) d.same;
+  script = ap (λ (x : Actor). x.script.now) d.same;
+}
+

@@ -4,3 +4,4 @@ pub mod Acting
 pub mod Serving
 pub mod Gathering
 pub mod Whole
+pub mod Moving

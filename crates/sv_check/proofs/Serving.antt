@@ -11,7 +11,7 @@ use Rattle.sv_journal.specs.declared.entry.Entry.{Entry}
 use Rattle.sv_journal.specs.History.{accepted, full_reply}
 use Rattle.sv_journal.specs.Sessions.{is_end}
 use Rattle.sv_journal.specs.Laws.{FullRepliesStay, LegalRelaysNameAccepted}
-use Rattle.sv_journal.specs.Text.{NamesAccepted}
+use Rattle.sv_journal.specs.Text.{NamesAccepted, RelaysNameAccepted}
 use Rattle.sv_journal.specs.Answer.{Rules, Legal, reply_to}
 use Rattle.sv_sequencer.specs.Step.{SequencerView, history, Answered, entry_of}
 use Rattle.sv_sequencer.specs.Rows.{is_ended}
@@ -74,3 +74,7 @@ replies_more stay names r entries e legal =
     ap (λ (h : List Entry). map (λ (d : Entry). full_reply (accepted h) d.reply) (entries ++ e ∷ [])) turned
     ∙ map-append (λ (d : Entry). full_reply (accepted (e ∷ reverse entries)) d.reply) entries (e ∷ [])
     ∙ ap (λ (rs : List Reply). rs ++ full_reply (accepted (e ∷ reverse entries)) e.reply ∷ []) (all_stay entries (reverse entries) stay e in_order)
+
+-- The relays of a legal journal name accepted actions, its entries in order.
+pub named : LegalRelaysNameAccepted → (r : Rules) (entries : List Entry) → Legal r (reverse entries) → RelaysNameAccepted entries
+named names r entries legal = subst RelaysNameAccepted (reverse-reverse entries) (names r (reverse entries) legal)

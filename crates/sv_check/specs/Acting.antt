@@ -88,8 +88,15 @@ abbrev pub is_sync : Step → Bool
 is_sync steps.Sync = true
 is_sync _ = false
 
+-- An event that is no Join and no Got.
+abbrev pub is_other : Event → Bool
+is_other (events.Join s) = false
+is_other (events.Got s reply) = false
+is_other _ = true
+
 -- An event that a client may do next, which is no Join and no Got, with the steps that it leaves.
 pub record IsNextEvent (who : Identity) (t : List Event) (before : List Step) (e : Event) (left : List Step) : Type 0 where
+  pub other : is_other e ≡ true
   pub may : MayDo who t e
   pub comes : MayCome who t before e left
 
@@ -133,12 +140,6 @@ is_cut _ = false
 abbrev pub is_quit : Event → Bool
 is_quit events.Quit = true
 is_quit _ = false
-
--- An event that is no Join and no Got.
-abbrev pub is_other : Event → Bool
-is_other (events.Join s) = false
-is_other (events.Got s reply) = false
-is_other _ = true
 
 -- It did such an event.
 pub record Made (e : Event) (old new : Actor) : Type 0 where

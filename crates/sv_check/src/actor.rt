@@ -10,11 +10,10 @@ ghost use Rattle.sv_check.specs.Serving.{HasReplies, entries_of};
 ghost use Rattle.sv_check.specs.Acting.{IsActing, WentOn, IsNextPlace, Settles, Joined, GotReply, Made, is_bye, is_other};
 
 use crate::journal::Served;
-use crate::lines::take_line;
 use crate::moves::next_event;
 use crate::settled::is_settled;
-use crate::stop::Stop;
 use std::alloc::{AllocError, Global};
+use sv_lines::{Stop, take_line};
 use sv_client::{Client, Event, MakeFault, Mark, PollFault, TakeFault, Trace};
 use sv_journal::Entry;
 use sv_report::append_event;
@@ -293,8 +292,8 @@ impl<'a> Actor<'a> {
     /// What it did.
     pub(crate) fn into_trace(self) -> Trace
         requires { self.first < 64 }
-        ensures trace { result ≡ trace_from self.first self.client }
-        ensures proper { Proper self.client.who.shape result }
+        ensures trace { result ≡ trace_from self.entry.first self.entry.client }
+        ensures proper { Proper self.entry.client.who.shape result }
     {
         let Actor { client, first, .. } = self;
         client.into_trace(first)

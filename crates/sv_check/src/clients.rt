@@ -9,9 +9,8 @@ ghost use Rattle.sv_check.specs.Acting.{IsActing, WentOn, identity};
 
 use crate::actor::Actor;
 use crate::journal::Served;
-use crate::lines::take_line;
-use crate::stop::Stop;
 use std::alloc::{AllocError, Global};
+use sv_lines::{Stop, take_line};
 use sv_client::{Client, Trace};
 use sv_scenario::{Plan, Scenario, sessions_of_plan};
 use sv_world::{ClientId, List, Shape, copy_objects};
@@ -66,7 +65,7 @@ fn take_events<'a>(
 ) -> Result<&'a [u8], Stop>
     requires acting { IsActing (entries_of served.now) actor.old }
     requires replies { HasReplies served.now }
-    ensures { OnOk result (WentOn (entries_of served.now) actor.old actor.new) }
+    ensures on { OnOk result (WentOn (entries_of served.now) actor.old actor.new) }
     ensures done { OnOk result (actor.new.finished ≡ true) }
 {
     let mut rest = text;
@@ -94,8 +93,8 @@ fn take_client<'a>(
     requires number { part.now.number < 32 }
     requires first { part.now.first < 64 }
     requires plan { IsGoodPlan part.now.shape part.now.plan.now }
-    ensures { IfOk result (λ r. IsWholeTrace part.now.shape (reverse (entries_of served.now)) part.now.plan.now r.0) }
-    ensures { IfOk result (λ r. IsOf part.now.number part.now.first part.now.plan.now r.0) }
+    ensures whole { IfOk result (λ r. IsWholeTrace part.now.shape (reverse (entries_of served.now)) part.now.plan.now r.0) }
+    ensures of_it { IfOk result (λ r. IsOf part.now.number part.now.first part.now.plan.now r.0) }
 {
     let number = part.number;
     let line = format!(in alloc; "client {number}\n")?;

@@ -7,11 +7,8 @@ ghost use Rattle.sv_sequencer.specs.Rows.{is_ended};
 ghost use Rattle.sv_sequencer.specs.Step.{history};
 ghost use Rattle.sv_check.specs.Serving.{IsServed, AreEnded};
 
-use crate::lines::{line_length, take_line, take_lines};
-use crate::numbers::{expect, number_at};
-use crate::request::{Asked, asked_at};
-use crate::stop::{Stop, Unread};
 use std::alloc::{AllocError, Global};
+use sv_lines::{Asked, Stop, Unread, asked_at, expect, line_length, number_at, take_line, take_lines};
 use sv_journal::{full_replies_stay, legal_relays_name_accepted, print_journal};
 use sv_replay::open_sequencer;
 use sv_scenario::Scenario;

@@ -2,18 +2,12 @@
 #![tactic(auto)]
 
 mod actor;
-mod check;
+mod checking;
 mod clients;
 mod journal;
-mod lines;
-mod lists;
 mod moves;
-mod numbers;
-mod request;
-mod same;
 mod settled;
-mod stop;
 mod verdict;
 
-pub use check::check;
+pub use checking::check;
 pub use verdict::Verdict;

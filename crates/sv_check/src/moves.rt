@@ -123,6 +123,7 @@ fn leaving(client: &Client) -> Option<Event>
 }
 
 /// The next event of a client in a session that has its Welcome, with the steps that it leaves; none where it has to wait for a reply.
+#[tactic(auto, using(crate::proofs::Moving::next_step, crate::proofs::Moving::next_leave))]
 pub(crate) fn next_event<'a>(
     alloc: Global,
     shape: Shape,

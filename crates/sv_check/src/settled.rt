@@ -2,7 +2,7 @@
 ghost use Rattle.std.specs.Prelude.{◌≡◌, true, reverse};
 ghost use Rattle.sv_check.specs.Acting.{IsSettled};
 
-use crate::same::same_request;
+use sv_lines::same_request;
 use sv_journal::Entry;
 use sv_wire::Request;
 

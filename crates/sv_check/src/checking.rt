@@ -1,5 +1,5 @@
 //! The check of a whole text.
-ghost use Rattle.std.specs.Prelude.{◌≡◌, ◌<◌, ◌^◌, length, IfOk};
+ghost use Rattle.std.specs.Prelude.{◌≡◌, ◌<◌, ◌^◌, true, length, IfOk};
 ghost use Rattle.sv_scenario.specs.Limits.{IsGoodScenario};
 ghost use Rattle.sv_check.specs.Consistent.{IsReportOf};
 ghost use Rattle.sv_check.specs.Yes.{IsRightYes, IsRightPlayed};
@@ -7,9 +7,8 @@ ghost use Rattle.sv_check.specs.Yes.{IsRightYes, IsRightPlayed};
 use crate::Verdict;
 use crate::clients::take_clients;
 use crate::journal::{Served, take_journal};
-use crate::lines::{line_ends, take_lines};
-use crate::stop::Stop;
 use std::alloc::{AllocError, Global};
+use sv_lines::{Stop, line_ends, take_lines};
 use sv_replay::played_of;
 use sv_report::{append_world, report};
 use sv_scenario::Scenario;

@@ -21,6 +21,7 @@ fn join_at(alloc: Global, text: &[u8]) -> Result<Request, Unread> {
 /// The text up to ` -> `, whose `>` no action has.
 fn before_arrow(text: &[u8]) -> Result<&[u8], Unread> {
     let count = text.iter().take_while(|byte| **byte != b'>').count();
+    let count = count.min(text.len());
     if count < 2 {
         return Err(Unread::Wrong);
     }
@@ -32,6 +33,9 @@ fn action_at(alloc: Global, shape: Shape, text: &[u8]) -> Result<Action, Unread>
     let Ok(text) = str::from_utf8(text) else {
         return Err(Unread::Wrong);
     };
+    if text.len() >= 1 << 32 {
+        return Err(Unread::Wrong);
+    }
     match parse_action(alloc, text) {
         Ok(action) => match check_action(shape, &action) {
             Ok(()) => Ok(action),
@@ -54,7 +58,7 @@ fn done_at(alloc: Global, text: &[u8]) -> Result<Request, Unread> {
 }
 
 /// The request that a text begins with. A payload that is no request, and an action that is refused, are not read.
-pub(crate) fn request_at(alloc: Global, shape: Shape, text: &[u8]) -> Result<Request, Unread> {
+pub fn request_at(alloc: Global, shape: Shape, text: &[u8]) -> Result<Request, Unread> {
     match text {
         [b'j', b'o', b'i', b'n', b' ', b'c', rest @ ..] => join_at(alloc, rest),
         [b's', b'u', b'b', b'm', b'i', b't', b' ', rest @ ..] => submit_at(alloc, shape, rest),
@@ -68,13 +72,13 @@ pub(crate) fn request_at(alloc: Global, shape: Shape, text: &[u8]) -> Result<Req
 
 /// What a line of the journal tells: the session and its request.
 #[derive(Drop)]
-pub(crate) struct Asked {
+pub struct Asked {
     pub session: u16,
     pub request: Request,
 }
 
 /// The session and the request of a line of the journal.
-pub(crate) fn asked_at(alloc: Global, shape: Shape, line: &[u8]) -> Result<Asked, Unread> {
+pub fn asked_at(alloc: Global, shape: Shape, line: &[u8]) -> Result<Asked, Unread> {
     let (_, rest) = number_at(line)?;
     let (session, rest) = small_at(expect(rest, b" s")?)?;
     let request = request_at(alloc, shape, expect(rest, b" ")?)?;

@@ -5,14 +5,14 @@ use std::alloc::{AllocError, AllocFailed};
 
 /// Why reading stopped.
 #[derive(Clone, Copy, Debug, Drop)]
-pub(crate) enum Stop {
+pub enum Stop {
     /// The line that comes next, with so many bytes left of the text, is wrong.
     Wrong { left: usize },
     Memory,
 }
 
 impl From<AllocError> for Stop {
-    ghost use Rattle.sv_check.specs.declared.stop.Stop.TheVariants.{Memory};
+    ghost use Rattle.sv_lines.specs.declared.stop.Stop.TheVariants.{Memory};
 
     ghost from_gives = { λ _ e. e ≡ Memory };
 
@@ -22,7 +22,7 @@ impl From<AllocError> for Stop {
 }
 
 impl<T: Drop> From<AllocFailed<T>> for Stop {
-    ghost use Rattle.sv_check.specs.declared.stop.Stop.TheVariants.{Memory};
+    ghost use Rattle.sv_lines.specs.declared.stop.Stop.TheVariants.{Memory};
 
     ghost from_gives = { λ _ e. e ≡ Memory };
 
@@ -33,14 +33,14 @@ impl<T: Drop> From<AllocFailed<T>> for Stop {
 
 /// Why a line could not be read.
 #[derive(Clone, Copy, Debug, Drop)]
-pub(crate) enum Unread {
+pub enum Unread {
     /// It is none of those that are wanted here.
     Wrong,
     Memory,
 }
 
 impl From<AllocError> for Unread {
-    ghost use Rattle.sv_check.specs.declared.stop.Unread.TheVariants.{Memory};
+    ghost use Rattle.sv_lines.specs.declared.stop.Unread.TheVariants.{Memory};
 
     ghost from_gives = { λ _ e. e ≡ Memory };
 
@@ -50,7 +50,7 @@ impl From<AllocError> for Unread {
 }
 
 impl<T: Drop> From<AllocFailed<T>> for Unread {
-    ghost use Rattle.sv_check.specs.declared.stop.Unread.TheVariants.{Memory};
+    ghost use Rattle.sv_lines.specs.declared.stop.Unread.TheVariants.{Memory};
 
     ghost from_gives = { λ _ e. e ≡ Memory };
 

@@ -20,7 +20,7 @@ fn next_after<'a>(text: &'a [u8], end: u8, between: u8) -> Result<After<'a>, Unr
 }
 
 /// A list of objects, as `[0 2]`.
-pub(crate) fn objects_at(
+pub fn objects_at(
     alloc: Global,
     text: &[u8],
 ) -> Result<(List<ObjectId>, &[u8]), Unread> {
@@ -82,7 +82,7 @@ fn result_at(alloc: Global, text: &[u8]) -> Result<(Done1, &[u8]), Unread> {
 }
 
 /// A list of results, as `[1:(6) 2:(7)(8)]`.
-pub(crate) fn results_at(alloc: Global, text: &[u8]) -> Result<(List<Done1>, &[u8]), Unread> {
+pub fn results_at(alloc: Global, text: &[u8]) -> Result<(List<Done1>, &[u8]), Unread> {
     let mut rest = expect(text, b"[")?;
     let mut results = List::new(alloc);
     if let [b']', rest @ ..] = rest {

@@ -67,7 +67,7 @@ fn same_clients(client: ClientId, other: ClientId) -> bool
 }
 
 /// Whether two requests that clients send are equal.
-pub(crate) fn same_request(request: &Request, other: &Request) -> bool
+pub fn same_request(request: &Request, other: &Request) -> bool
     ensures { result ≡ true → request.now ≡ other.now }
 {
     match (request, other) {

@@ -1,8 +1,10 @@
 //! The lines of a text.
+ghost use Rattle.std.specs.Prelude.{◌<◌, ◌≤◌, length};
+
 use crate::stop::Stop;
 
 /// What comes after a line that has to come next.
-pub(crate) fn take_line<'a>(text: &'a [u8], line: &[u8]) -> Result<&'a [u8], Stop> {
+pub fn take_line<'a>(text: &'a [u8], line: &[u8]) -> Result<&'a [u8], Stop> {
     match text.strip_prefix(line) {
         Some(rest) => Ok(rest),
         None => Err(Stop::Wrong { left: text.len() }),
@@ -10,13 +12,17 @@ pub(crate) fn take_line<'a>(text: &'a [u8], line: &[u8]) -> Result<&'a [u8], Sto
 }
 
 /// How many bytes the first line has, with its line end.
-pub(crate) fn line_length(text: &[u8]) -> usize {
+pub fn line_length(text: &[u8]) -> usize
+    ensures within { result ≤ length text.now }
+    ensures some { 0 < length text.now → 0 < result }
+{
     let count = text.iter().take_while(|byte| **byte != b'\n').count();
+    let count = count.min(text.len());
     if count < text.len() { count + 1 } else { count }
 }
 
 /// What comes after lines that have to come next.
-pub(crate) fn take_lines<'a>(text: &'a [u8], lines: &[u8]) -> Result<&'a [u8], Stop> {
+pub fn take_lines<'a>(text: &'a [u8], lines: &[u8]) -> Result<&'a [u8], Stop> {
     let mut rest = text;
     let mut left = lines;
     while !left.is_empty() {
@@ -28,7 +34,7 @@ pub(crate) fn take_lines<'a>(text: &'a [u8], lines: &[u8]) -> Result<&'a [u8], S
 }
 
 /// How many line ends a text has.
-pub(crate) fn line_ends(text: &[u8]) -> u32 {
+pub fn line_ends(text: &[u8]) -> u32 {
     let mut count = 0u32;
     for byte in text {
         if *byte == b'\n' {
