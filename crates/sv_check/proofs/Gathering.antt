@@ -1,9 +1,9 @@
 -- From whole traces and a whole journal to the record of a run.
-use Rattle.std.proofs.Common.{◌≡◌, ℕ, zero, suc, ◌+◌, ◌<◌, ◌≤◌, ◌⊎◌, inl, inr, Bool, true, false, ◌&&◌, ◌||◌, eqb, List, [], ◌∷◌, ◌++◌, map, length, reverse, refl, sym, ap, subst, ◌∙◌, arith, true≢false, append-nil}
+use Rattle.std.proofs.Common.{◌≡◌, ℕ, zero, suc, ◌+◌, ◌<◌, ◌≤◌, ◌⊎◌, inl, inr, Bool, true, false, ◌&&◌, ◌||◌, eqb, List, [], ◌∷◌, ◌++◌, map, length, take, drop, get_or, reverse, refl, sym, ap, subst, ◌∙◌, arith, true≢false, append-nil}
 use Rattle.std.specs.Prelude.{All}
 use Rattle.std.specs.List.{list_any, AllByRecursion}
 use Rattle.std.proofs.lemmas.Bool.{cases_lt, or_left, or_right}
-use Rattle.std.proofs.lemmas.List.{reverse-reverse}
+use Rattle.std.proofs.lemmas.List.{reverse-reverse, take_more, length-take}
 use Rattle.std.proofs.lemmas.List.Elements.{All-nil, All-cons, All_from_recursion, recursion_from_All}
 use Rattle.sv_world.specs.declared.world.ClientId.{ClientId}
 use Rattle.sv_world.specs.declared.world.Shape.{Shape}
@@ -183,3 +183,27 @@ first_more shape h plans Ls plan L a o w = record {
   clients = traces_more shape h 0 0 plans Ls plan L a.clients o;
   whole = each_more (IsWholeTrace shape h) plans Ls plan L a.whole w;
 }
+
+-- ---- The first traces, by their number
+
+sessions_append : (ps qs : List Plan) → sessions_in (ps ++ qs) ≡ sessions_in ps + sessions_in qs
+sessions_append [] qs = refl
+sessions_append (p ∷ ps) qs = let more = sessions_append ps qs in omega (arith, more)
+
+front_more : (plans : List Plan) (i : ℕ) (plan : Plan) → i < length plans → plan ≡ get_or plans i plan → take (i + 1) plans ≡ take i plans ++ plan ∷ []
+front_more plans i plan l is = take_more plans i plan l ∙ ap (λ (p : Plan). take i plans ++ p ∷ []) (sym is)
+
+pub clients_more : (shape : Shape) (h : List Entry) (plans : List Plan) (i : ℕ) (plan : Plan) (Ls : List Trace) (L : Trace) (number first : ℕ) → i < length plans → plan ≡ get_or plans i plan →
+    AreFirstTraces shape h (take i plans) Ls → number ≡ i → first ≡ sessions_in (take i plans) → IsOf number first plan L → IsWholeTrace shape h plan L →
+    AreFirstTraces shape h (take (i + 1) plans) (Ls ++ L ∷ [])
+clients_more shape h plans i plan Ls L number first l is t n f o w =
+    subst (λ (ps : List Plan). AreFirstTraces shape h ps (Ls ++ L ∷ [])) (sym (front_more plans i plan l is))
+    (first_more shape h (take i plans) Ls plan L t
+    (record { client = o.client ∙ ap (λ m. record { 0 = m }) (n ∙ sym (let long = length-take i plans in let same : length (take i plans) ≡ i = omega (arith, long, l) in same)); interest = o.interest; first_is = o.first_is ∙ f }) w)
+
+pub start_more : (plans : List Plan) (i : ℕ) (plan : Plan) (first : ℕ) → i < length plans → plan ≡ get_or plans i plan → first ≡ sessions_in (take i plans) →
+    first + sessions_of_plan plan ≡ sessions_in (take (i + 1) plans)
+start_more plans i plan first l is f =
+    let more = ap sessions_in (front_more plans i plan l is) in
+    let sum = sessions_append (take i plans) (plan ∷ []) in
+    omega (arith, more, sum, f)

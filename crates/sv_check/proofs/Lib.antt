@@ -5,3 +5,4 @@ pub mod Serving
 pub mod Gathering
 pub mod Whole
 pub mod Moving
+pub mod Reporting

@@ -20,9 +20,9 @@ use Rattle.sv_system.specs.Fits.{is_join_of, requests_in, replies_in, has_sessio
 use Rattle.sv_system.specs.Fronts.{IsFront}
 use Rattle.sv_schedule.proofs.DoneFacts.{any-turned}
 use Rattle.sv_check.specs.declared.actor.Actor.{Actor}
-use Rattle.sv_check.specs.Parts.{IsWholeTrace}
-use Rattle.sv_check.specs.Acting.{IsActing, numbered}
-use Rattle.sv_check.proofs.Acting.{LatestFits, begun_settled}
+use Rattle.sv_check.specs.Parts.{IsWholeTrace, IsOf}
+use Rattle.sv_check.specs.Acting.{IsActing, Settles, identity, numbered}
+use Rattle.sv_check.proofs.Acting.{LatestFits, begun_settled, settled_keeps, settled_latest}
 
 pub whole : (entries : List Entry) (a : Actor) (shape : Shape) (plan : Plan) (L : Trace) → IsActing entries a → a.finished ≡ true → a.fits ≡ true → LatestFits entries a →
     a.client.who.shape ≡ shape → a.script.now ≡ plan.steps → L ≡ trace_from a.first a.client → Proper shape L → IsWholeTrace shape (reverse entries) plan L
@@ -55,3 +55,21 @@ whole entries a shape plan L g done fits late same script is proper = subst (λ 
 
     who_is : a.client.who ≡ identity_of shape M
     who_is = ap (λ (x : Shape). record { client = a.client.who.client; interest = a.client.who.interest; shape = x }) same
+
+pub finished : (entries : List Entry) (a b : Actor) (number : ℕ) (shape : Shape) (plan : Plan) (L : Trace) → IsActing entries a → a.finished ≡ true → Settles entries a b → b.fits ≡ true →
+    a.client.who ≡ identity number shape plan → a.script.now ≡ plan.steps → L ≡ trace_from b.first b.client → Proper b.client.who.shape L → IsWholeTrace shape (reverse entries) plan L
+finished entries a b number shape plan L g done d fits who script is proper =
+    let who_is : b.client.who ≡ identity number shape plan = ap (λ (x : Actor). x.client.who) d.same ∙ who in
+    let shape_is : b.client.who.shape ≡ shape = ap (λ (w : Identity). w.shape) who_is in
+    whole entries b shape plan L (settled_keeps entries a b g d) (ap (λ (x : Actor). x.finished) d.same ∙ done) fits (settled_latest entries a b g d)
+    shape_is (ap (λ (x : Actor). x.script.now) d.same ∙ script) is (subst (λ (x : Shape). Proper x L) shape_is proper)
+
+pub of_part : (entries : List Entry) (a b : Actor) (number first : ℕ) (shape : Shape) (plan : Plan) (L : Trace) → Settles entries a b → a.client.who ≡ identity number shape plan → a.first ≡ first →
+    L ≡ trace_from b.first b.client → IsOf number first plan L
+of_part entries a b number first shape plan L d who from is =
+    let who_is : b.client.who ≡ identity number shape plan = ap (λ (x : Actor). x.client.who) d.same ∙ who in
+    record {
+      client = ap (λ (M : Trace). M.client) is ∙ ap (λ (w : Identity). w.client) who_is;
+      interest = ap (λ (M : Trace). M.interest) is ∙ ap (λ (w : Identity). w.interest) who_is;
+      first_is = ap (λ (M : Trace). M.first) is ∙ ap (λ (x : Actor). x.first) d.same ∙ from;
+    }

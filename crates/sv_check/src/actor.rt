@@ -7,7 +7,7 @@ ghost use Rattle.sv_client.specs.Seen.{trace_from};
 ghost use Rattle.sv_report.specs.Again.{MayDo};
 ghost use Rattle.sv_script.specs.Following.{must_join, is_welcomed, is_finished};
 ghost use Rattle.sv_check.specs.Serving.{HasReplies, entries_of};
-ghost use Rattle.sv_check.specs.Acting.{IsActing, WentOn, IsNextPlace, Settles, Joined, GotReply, Made, is_bye, is_other};
+ghost use Rattle.sv_check.specs.Acting.{IsActing, WentOn, IsNextEvent, IsNextPlace, Settles, Joined, GotReply, Made, is_bye, is_other};
 
 use crate::journal::Served;
 use crate::moves::next_event;
@@ -240,6 +240,25 @@ impl<'a> Actor<'a> {
         }
     }
 
+    /// Does its next step, or its Leave, with the steps that it leaves.
+    fn do_next(
+        &mut self,
+        served: &Served,
+        event: Event,
+        left: &'a [Step],
+    ) -> Result<(), AllocError>
+        requires acting { IsActing (entries_of served.now) self.old }
+        requires joined { must_join self.old.client.events ≡ false }
+        requires here { is_finished self.old.client.events ≡ false }
+        requires next { IsNextEvent self.old.client.who self.old.client.events self.old.left.now event left.now }
+        ensures { OnOk result (WentOn (entries_of served.now) self.old self.new) }
+    {
+        let _ = served;
+        self.act(event)?;
+        self.left = left;
+        Ok(())
+    }
+
     /// Takes the line of its next step, or of its Leave.
     fn take_step<'b>(
         &mut self,
@@ -253,15 +272,13 @@ impl<'a> Actor<'a> {
         requires here { is_finished self.old.client.events ≡ false }
         ensures { OnOk result (WentOn (entries_of served.now) self.old self.new) }
     {
-        let _ = served;
         let Some((event, left)) = next_event(alloc, self.shape, &self.client, self.left)? else {
             return Err(Stop::Wrong { left: text.len() });
         };
         let mut line = String::new(alloc);
         append_event(alloc, &self.client, 0, &event, &mut line)?;
         let rest = take_line(text, line.as_bytes())?;
-        self.act(event)?;
-        self.left = left;
+        self.do_next(served, event, left)?;
         Ok(rest)
     }
 

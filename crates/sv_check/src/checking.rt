@@ -1,18 +1,44 @@
 //! The check of a whole text.
-ghost use Rattle.std.specs.Prelude.{◌≡◌, ◌<◌, ◌^◌, true, length, IfOk};
+ghost use Rattle.std.specs.Prelude.{◌≡◌, ◌<◌, ◌^◌, true, length, reverse, IfOk};
 ghost use Rattle.sv_scenario.specs.Limits.{IsGoodScenario};
 ghost use Rattle.sv_check.specs.Consistent.{IsReportOf};
+ghost use Rattle.sv_sequencer.specs.Step.{history};
+ghost use Rattle.sv_check.specs.Serving.{IsServed, AreEnded, entries_of};
+ghost use Rattle.sv_check.specs.Parts.{AreFirstTraces};
 ghost use Rattle.sv_check.specs.Yes.{IsRightYes, IsRightPlayed};
 
 use crate::Verdict;
 use crate::clients::take_clients;
 use crate::journal::{Served, take_journal};
 use std::alloc::{AllocError, Global};
+use sv_client::Trace;
 use sv_lines::{Stop, line_ends, take_lines};
 use sv_replay::played_of;
 use sv_report::{append_world, report};
 use sv_scenario::Scenario;
+use sv_script::steps_are_done_in_order;
 use sv_system::Played;
+use sv_world::List;
+
+/// What is left of the server and the clients.
+#[tactic(auto, using(crate::proofs::Serving::shape_is, crate::proofs::Serving::values_are, crate::proofs::Reporting::right))]
+fn played_by(
+    alloc: Global,
+    scenario: &Scenario,
+    served: Served,
+    traces: List<Trace>,
+) -> Result<Played, AllocError>
+    requires good { IsGoodScenario scenario.now }
+    requires served { IsServed scenario.now served }
+    requires ended { AreEnded scenario.now (history served.sequencer) }
+    requires traces { AreFirstTraces scenario.now.world.shape (reverse (entries_of served)) scenario.now.clients traces }
+    ensures { IfOk result (λ played. IsRightPlayed scenario.now played) }
+{
+    steps_are_done_in_order();
+    served.is_legal();
+    let Served { sequencer, .. } = served;
+    played_of(alloc, scenario.world.shape, sequencer, traces)
+}
 
 /// What the lines of the whole text tell, where none is wrong.
 fn read_report(alloc: Global, scenario: &Scenario, text: &[u8]) -> Result<Played, Stop>
@@ -21,8 +47,7 @@ fn read_report(alloc: Global, scenario: &Scenario, text: &[u8]) -> Result<Played
 {
     let (served, rest) = take_journal(alloc, scenario, text)?;
     let (traces, rest) = take_clients(alloc, scenario, &served, rest)?;
-    let Served { sequencer, .. } = served;
-    let played = played_of(alloc, scenario.world.shape, sequencer, traces)?;
+    let played = played_by(alloc, scenario, served, traces)?;
     take_world(alloc, &played, rest)?;
     Ok(played)
 }
@@ -39,7 +64,14 @@ fn take_world(alloc: Global, played: &Played, text: &[u8]) -> Result<(), Stop> {
     }
 }
 
+fn same_bytes(bytes: &[u8], other: &[u8]) -> bool
+    ensures { result ≡ true → bytes.now ≡ other.now }
+{
+    bytes == other
+}
+
 /// Whether a text is the report of what was played.
+#[tactic(auto, using(crate::proofs::Reporting::report_is))]
 fn is_report(
     alloc: Global,
     scenario: &Scenario,
@@ -51,7 +83,7 @@ fn is_report(
     ensures { IfOk result (λ is. is ≡ true → IsReportOf scenario.now text.now played.now) }
 {
     let printed = report(alloc, scenario, played)?;
-    Ok(printed.as_bytes() == text)
+    Ok(same_bytes(printed.as_bytes(), text))
 }
 
 /// Whether a text is the report of a consistent run of the scenario: yes, with the journal and the traces of that run; or the first wrong line.

@@ -1,5 +1,5 @@
 //! The clients' parts of a report.
-ghost use Rattle.std.specs.Prelude.{◌≡◌, ◌+◌, ◌<◌, ◌≤◌, true, [], reverse, IfOk, OnOk};
+ghost use Rattle.std.specs.Prelude.{◌≡◌, ◌+◌, ◌<◌, ◌≤◌, true, [], reverse, IfOk, IfSome, OnOk};
 ghost use Rattle.sv_client.specs.declared.trace.Trace.{Trace};
 ghost use Rattle.sv_scenario.specs.Limits.{IsGoodScenario, IsGoodPlan};
 ghost use Rattle.sv_script.specs.Following.{is_finished};
@@ -82,6 +82,26 @@ fn take_events<'a>(
     }
 }
 
+/// What a finished client did, where the journal has the first requests of each of its sessions.
+#[tactic(auto, using(crate::proofs::Whole::finished, crate::proofs::Whole::of_part))]
+fn finish(served: &Served, part: &Part<'_>, actor: Actor<'_>) -> Option<Trace>
+    requires acting { IsActing (entries_of served.now) actor }
+    requires done { actor.finished ≡ true }
+    requires who { actor.client.who ≡ identity part.now.number part.now.shape part.now.plan.now }
+    requires first { actor.first ≡ part.now.first }
+    requires script { actor.script.now ≡ part.now.plan.now.steps }
+    ensures whole { IfSome result (λ trace. IsWholeTrace part.now.shape (reverse (entries_of served.now)) part.now.plan.now trace) }
+    ensures of_it { IfSome result (λ trace. IsOf part.now.number part.now.first part.now.plan.now trace) }
+{
+    let _ = part;
+    let mut actor = actor;
+    actor.settle(served.sequencer.journal().entries());
+    if !actor.fits {
+        return None;
+    }
+    Some(actor.into_trace())
+}
+
 /// Takes the part of a client. Its sessions are looked at when it is finished.
 fn take_client<'a>(
     alloc: Global,
@@ -101,15 +121,14 @@ fn take_client<'a>(
     let rest = take_line(text, line.as_bytes())?;
     let mut actor = open_actor(alloc, served, part)?;
     let rest = take_events(alloc, served, &mut actor, rest)?;
-    actor.settle(served.sequencer.journal().entries());
-    if actor.fits {
-        Ok((actor.into_trace(), rest))
-    } else {
-        Err(Stop::Wrong { left: rest.len() })
+    match finish(served, part, actor) {
+        Some(trace) => Ok((trace, rest)),
+        None => Err(Stop::Wrong { left: rest.len() }),
     }
 }
 
 /// Takes the parts of all clients.
+#[tactic(auto, using(crate::proofs::Gathering::clients_more, crate::proofs::Gathering::start_more))]
 pub(crate) fn take_clients<'a>(
     alloc: Global,
     scenario: &Scenario,

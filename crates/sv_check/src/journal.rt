@@ -3,6 +3,7 @@ ghost use Rattle.std.specs.Prelude.{◌≡◌, ℕ, ◌<◌, true, false, IfOk, 
 
 ghost use Rattle.sv_scenario.specs.Limits.{IsGoodScenario};
 ghost use Rattle.sv_journal.specs.Sessions.{is_end};
+ghost use Rattle.sv_journal.specs.Answer.{Legal};
 ghost use Rattle.sv_sequencer.specs.Rows.{is_ended};
 ghost use Rattle.sv_sequencer.specs.Step.{history};
 ghost use Rattle.sv_check.specs.Serving.{IsServed, AreEnded};
@@ -67,6 +68,13 @@ impl Served {
         }
     }
 
+    /// A law: the journal of its server is legal.
+    pub(crate) fn is_legal(&self)
+        ensures { Legal self.now.sequencer.rules (history self.now.sequencer) }
+    {
+        let _ = self.sequencer.journal();
+    }
+
     /// Answers a request that it may answer.
     fn answer(&mut self, scenario: &Scenario, asked: &Asked) -> Result<(), AllocError>
         requires served { IsServed scenario.now self.old }
@@ -77,6 +85,7 @@ impl Served {
         let _ = scenario;
         full_replies_stay();
         legal_relays_name_accepted();
+        self.is_legal();
         let reply = self.sequencer.step(asked.session, &asked.request)?;
         self.replies.push(reply)?;
         Ok(())
@@ -159,6 +168,7 @@ impl Served {
 }
 
 /// The server that a text's journal tells of, and what comes after the journal.
+#[tactic(auto, using(crate::proofs::Serving::ended_all))]
 pub(crate) fn take_journal<'a>(
     alloc: Global,
     scenario: &Scenario,
