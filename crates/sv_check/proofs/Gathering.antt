@@ -4,7 +4,7 @@ use Rattle.std.specs.Prelude.{All}
 use Rattle.std.specs.List.{list_any, AllByRecursion}
 use Rattle.std.proofs.lemmas.Bool.{cases_lt, or_left, or_right}
 use Rattle.std.proofs.lemmas.List.{reverse-reverse, take_more, length-take}
-use Rattle.std.proofs.lemmas.List.Elements.{All-nil, All-cons, All_from_recursion, recursion_from_All}
+use Rattle.std.proofs.lemmas.List.Elements.{All-nil, All-cons, All-from_recursion, recursion_from_All}
 use Rattle.sv_world.specs.declared.world.ClientId.{ClientId}
 use Rattle.sv_world.specs.declared.world.Shape.{Shape}
 use Rattle.sv_journal.specs.declared.entry.Entry.{Entry}
@@ -39,17 +39,17 @@ no_cuts : (ss : List Step) → events_of ss ≡ [] → cuts_in ss ≡ 0
 no_cuts [] e = refl
 no_cuts (steps.Act action ∷ ss) e = cc
 no_cuts (steps.Poll ∷ ss) e = cc
-no_cuts (steps.Sync ∷ ss) e = no_cuts ss e
+no_cuts (steps.Sync ∷ ss) e = omega (arith, no_cuts ss e)
 no_cuts (steps.Show objects ∷ ss) e = cc
 no_cuts (steps.Cut ∷ ss) e = cc
 no_cuts (steps.Quit ∷ ss) e = cc
 
+same_rest : {X : Type 0} (x : X) (xs ys : List X) → x ∷ xs ≡ x ∷ ys → xs ≡ ys
+same_rest x xs ys e = cc
+
 same_left : {X : Type 0} (xs ys : List X) → xs ++ ys ≡ xs → ys ≡ []
 same_left [] ys e = e
-same_left (x ∷ xs) ys e = same_left xs ys (rest_same x (xs ++ ys) xs e)
-  where
-    rest_same : {X : Type 0} (x : X) (as bs : List X) → x ∷ as ≡ x ∷ bs → as ≡ bs
-    rest_same x as bs e = cc
+same_left (x ∷ xs) ys e = same_left xs ys (same_rest x (xs ++ ys) xs e)
 
 -- A finished trace joined each session of its plan.
 all_joined : StepsAreDoneInOrder → EndsDoAllSteps → (shape : Shape) (plan : Plan) (L : Trace) → Proper shape L → quits_last plan.steps ≡ true → FollowsToEnd shape plan.steps L →
@@ -105,18 +105,18 @@ later_apart shape h k s (q ∷ qs) (M ∷ Ms) plan L a w c e p f =
       sessions = λ n mine other.
           let here = has_within shape plan L n p f mine in
           let there = has_within shape q M n w.0.proper w.0.follows other in
-          absurd (omega (arith, here.1, there.0, a.1.1.0, e));
+          absurd (omega (arith, here.1, there.0, a.2, e));
     })
-    (later_apart shape h (suc k) (s + sessions_of_plan q) qs Ms plan L a.1.1.1 w.1 (omega (arith, c)) (omega (arith, e)) p f)
+    (later_apart shape h (suc k) (s + sessions_of_plan q) qs Ms plan L a.3 w.1 (omega (arith, c)) (omega (arith, e)) p f)
 
 all_apart : (shape : Shape) (h : List Entry) (k s : ℕ) (plans : List Plan) (Ls : List Trace) → AreTracesOf k s plans Ls → EachTrace (IsWholeTrace shape h) plans Ls → AreAllApart Ls
 all_apart shape h k s [] [] a w = tt
 all_apart shape h k s [] (L ∷ Ls) a w = absurd a
 all_apart shape h k s (plan ∷ plans) [] a w = absurd a
 all_apart shape h k s (plan ∷ plans) (L ∷ Ls) a w = (
-  later_apart shape h (suc k) (s + sessions_of_plan plan) plans Ls plan L a.1.1.1 w.1 (let number : L.client.0 ≡ k = ap (λ (x : ClientId). x.0) a.0 in omega (arith, number))
-      (omega (arith, a.1.1.0)) w.0.proper w.0.follows,
-  all_apart shape h (suc k) (s + sessions_of_plan plan) plans Ls a.1.1.1 w.1,
+  later_apart shape h (suc k) (s + sessions_of_plan plan) plans Ls plan L a.3 w.1 (let number : L.client.0 ≡ k = ap (λ (x : ClientId). x.0) a.0 in omega (arith, number))
+      (omega (arith, a.2)) w.0.proper w.0.follows,
+  all_apart shape h (suc k) (s + sessions_of_plan plan) plans Ls a.3 w.1,
 )
 
 -- Each session is one of a trace.
@@ -128,9 +128,9 @@ some_has begun whole shape h k s (plan ∷ plans) [] a w g n low high = absurd a
 some_has begun whole shape h k s (plan ∷ plans) (L ∷ Ls) a w g n low high =
     elim (cases_lt n (s + sessions_of_plan plan)) [
       | inl mine ↦ or_left (has_session L n) (list_any (λ (M : Trace). has_session M n) Ls)
-          (has_each begun whole shape plan L n w.0.proper g.0.quit w.0.follows (omega (arith, low, a.1.1.0)) (omega (arith, mine, a.1.1.0)))
+          (has_each begun whole shape plan L n w.0.proper g.0.quit w.0.follows (omega (arith, low, a.2)) (omega (arith, mine, a.2)))
       | inr later ↦ or_right (has_session L n) (list_any (λ (M : Trace). has_session M n) Ls)
-          (some_has begun whole shape h (suc k) (s + sessions_of_plan plan) plans Ls a.1.1.1 w.1 g.1 n later (omega (arith, high)))
+          (some_has begun whole shape h (suc k) (s + sessions_of_plan plan) plans Ls a.3 w.1 g.1 n later (omega (arith, high)))
     ]
 
 all_owned : (h : List Entry) (Ls : List Trace) (count : ℕ) → ((n : ℕ) → n < count → list_any (λ (L : Trace). has_session L n) Ls ≡ true) →
@@ -146,8 +146,8 @@ is_record begun whole scenario h Ls good legal sessions ended t = record {
   fits = record {
     each = each_fits scenario.world.shape h scenario.clients Ls t.whole;
     apart = all_apart scenario.world.shape h 0 0 scenario.clients Ls t.clients t.whole;
-    owned = All_from_recursion (λ (e : Entry). is_owned Ls e ≡ true) h (all_owned h Ls (session_count scenario)
-        (λ n l. some_has begun whole scenario.world.shape h 0 0 scenario.clients Ls t.clients t.whole good.plans n (omega arith) l)
+    owned = All-from_recursion (λ (e : Entry). is_owned Ls e ≡ true) h (all_owned h Ls (session_count scenario)
+        (λ n l. some_has begun whole scenario.world.shape h 0 0 scenario.clients Ls t.clients t.whole good.plans n (omega arith) (omega (arith, l)))
         (recursion_from_All (λ (e : Entry). e.session < session_count scenario) h sessions));
   };
   sessions = sessions;
@@ -160,16 +160,16 @@ is_record begun whole scenario h Ls good legal sessions ended t = record {
 pub traces_more : (shape : Shape) (h : List Entry) (k s : ℕ) (plans : List Plan) (Ls : List Trace) (plan : Plan) (L : Trace) → AreTracesOf k s plans Ls → IsOf (k + length plans) (s + sessions_in plans) plan L →
     AreTracesOf k s (plans ++ plan ∷ []) (Ls ++ L ∷ [])
 traces_more shape h k s [] [] plan L a o =
-    (o.client ∙ ap (λ n. record { 0 = n }) (let plain : k + 0 ≡ k = omega arith in plain), (o.interest, (o.first_is ∙ (let plain : s + 0 ≡ s = omega arith in plain), tt)))
+    (o.client ∙ ap (λ n. record { 0 = n }) (let plain : k + 0 ≡ k = omega arith in plain), o.interest, o.first_is ∙ (let plain : s + 0 ≡ s = omega arith in plain), tt)
 traces_more shape h k s [] (M ∷ Ms) plan L a o = absurd a
 traces_more shape h k s (q ∷ qs) [] plan L a o = absurd a
 traces_more shape h k s (q ∷ qs) (M ∷ Ms) plan L a o =
-    (a.0, (a.1.0, (a.1.1.0, traces_more shape h (suc k) (s + sessions_of_plan q) qs Ms plan L a.1.1.1
+    (a.0, a.1, a.2, traces_more shape h (suc k) (s + sessions_of_plan q) qs Ms plan L a.3
     (record {
       client = o.client ∙ ap (λ n. record { 0 = n }) (let plus : k + suc (length qs) ≡ suc k + length qs = omega arith in plus);
       interest = o.interest;
       first_is = o.first_is ∙ (let plus : s + (sessions_of_plan q + sessions_in qs) ≡ s + sessions_of_plan q + sessions_in qs = omega arith in plus);
-    }))))
+    }))
 
 pub each_more : (P : Plan → Trace → Type 0) (plans : List Plan) (Ls : List Trace) (plan : Plan) (L : Trace) → EachTrace P plans Ls → P plan L → EachTrace P (plans ++ plan ∷ []) (Ls ++ L ∷ [])
 each_more P [] [] plan L w p = (p, tt)
@@ -180,14 +180,18 @@ each_more P (q ∷ qs) (M ∷ Ms) plan L w p = (w.0, each_more P qs Ms plan L w.
 pub first_more : (shape : Shape) (h : List Entry) (plans : List Plan) (Ls : List Trace) (plan : Plan) (L : Trace) → AreFirstTraces shape h plans Ls → IsOf (length plans) (sessions_in plans) plan L →
     IsWholeTrace shape h plan L → AreFirstTraces shape h (plans ++ plan ∷ []) (Ls ++ L ∷ [])
 first_more shape h plans Ls plan L a o w = record {
-  clients = traces_more shape h 0 0 plans Ls plan L a.clients o;
+  clients = traces_more shape h 0 0 plans Ls plan L a.clients (record {
+      client = o.client ∙ ap (λ n. record { 0 = n }) (let plain : length plans ≡ 0 + length plans = omega arith in plain);
+      interest = o.interest;
+      first_is = o.first_is ∙ (let plain : sessions_in plans ≡ 0 + sessions_in plans = omega arith in plain);
+    });
   whole = each_more (IsWholeTrace shape h) plans Ls plan L a.whole w;
 }
 
 -- ---- The first traces, by their number
 
 sessions_append : (ps qs : List Plan) → sessions_in (ps ++ qs) ≡ sessions_in ps + sessions_in qs
-sessions_append [] qs = refl
+sessions_append [] qs = omega arith
 sessions_append (p ∷ ps) qs = let more = sessions_append ps qs in omega (arith, more)
 
 front_more : (plans : List Plan) (i : ℕ) (plan : Plan) → i < length plans → plan ≡ get_or plans i plan → take (i + 1) plans ≡ take i plans ++ plan ∷ []

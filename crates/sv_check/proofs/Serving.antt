@@ -32,13 +32,13 @@ none_ended (d ∷ h) s e =
 -- A session that had its End has one at least.
 pub some_ended : (h : List Entry) (s : ℕ) → is_ended h s ≡ true → 1 ≤ ends_in h s
 some_ended [] s e = cc
-some_ended (d ∷ h) s e = go (eqb d.session s && is_end d.request) refl
+some_ended (d ∷ h) s e = go (eqb d.session s && is_end d.request) refl (some_ended h s)
   where
-    go : (b : Bool) → (eqb d.session s && is_end d.request) ≡ b → 1 ≤ ends_in (d ∷ h) s
-    go true q = rw q (omega arith)
-    go false q =
+    go : (b : Bool) → (eqb d.session s && is_end d.request) ≡ b → (is_ended h s ≡ true → 1 ≤ ends_in h s) → 1 ≤ ends_in (d ∷ h) s
+    go true q earlier = rw q (omega arith)
+    go false q earlier =
         elim (or_cases (is_ended h s) (eqb d.session s && is_end d.request) e) [
-          | inl x ↦ rw q (some_ended h s x)
+          | inl x ↦ rw q (earlier x)
           | inr x ↦ absurd (true≢false (sym x ∙ q))
         ]
 

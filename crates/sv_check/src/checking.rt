@@ -21,7 +21,6 @@ use sv_system::Played;
 use sv_world::List;
 
 /// What is left of the server and the clients.
-#[tactic(auto, using(crate::proofs::Serving::shape_is, crate::proofs::Serving::values_are, crate::proofs::Reporting::right))]
 fn played_by(
     alloc: Global,
     scenario: &Scenario,
@@ -37,7 +36,8 @@ fn played_by(
     steps_are_done_in_order();
     served.is_legal();
     let Served { sequencer, .. } = served;
-    played_of(alloc, scenario.world.shape, sequencer, traces)
+    let played = played_of(alloc, scenario.world.shape, sequencer, traces)?;
+    Ok(played)
 }
 
 /// What the lines of the whole text tell, where none is wrong.

@@ -83,7 +83,7 @@ fn take_events<'a>(
 }
 
 /// What a finished client did, where the journal has the first requests of each of its sessions.
-#[tactic(auto, using(crate::proofs::Whole::finished, crate::proofs::Whole::of_part))]
+#[tactic(auto, using(crate::proofs::Whole::of_part))]
 fn finish(served: &Served, part: &Part<'_>, actor: Actor<'_>) -> Option<Trace>
     requires acting { IsActing (entries_of served.now) actor }
     requires done { actor.finished ≡ true }
