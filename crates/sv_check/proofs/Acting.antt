@@ -33,7 +33,7 @@ use Rattle.sv_client.specs.Seen.{ClientView}
 use Rattle.sv_check.specs.declared.actor.Actor.{Actor}
 use Rattle.sv_check.specs.Serving.{full_replies}
 use Rattle.sv_check.specs.Acting.{IsActing, HasAsked, HasGot, AreFlags, IsSettled, WentOn, Settles, Joined, GotReply, Made, IsNextPlace, IsNextEvent, numbered, replies_before, is_bye, is_cut, is_quit, is_other}
-use Rattle.sv_check.proofs.Settling.{turned_more, got_there, map_there, same_Some, take_drop}
+use Rattle.sv_check.proofs.Settling.{turned_more, got_there, there_got, map_there, same_Some, take_drop}
 
 -- ---- The latest session
 
@@ -404,3 +404,17 @@ went_did entries a b e g m n o left next d = record {
   script = ap (λ (x : Actor). x.script.now) d.same;
 }
 
+
+-- The reply stands among those of the entries.
+reply_there : (entries : List Entry) (items : List Reply) (from s p : ℕ) (reply : Reply) → IsNextPlace entries from s p → items ≡ full_replies entries → reply ≡ get_or items p reply →
+    slice_get (full_replies entries) p ≡ Some reply
+reply_there entries items from s p reply n same is =
+    let whole = map_there (λ (d : Entry). full_reply (accepted (reverse entries)) d.reply) entries p n.entry n.found in
+    let within = (got_there (full_replies entries) p (full_reply (accepted (reverse entries)) n.entry.reply) whole).0 in
+    there_got (full_replies entries) p reply within (is ∙ ap (λ (rs : List Reply). get_or rs p reply) same)
+
+pub went_reply : (entries es : List Entry) (items : List Reply) (a b : Actor) (s p : ℕ) (reply : Reply) → es ≡ entries → IsActing entries a → must_join a.client.events ≡ false →
+    is_finished a.client.events ≡ false → a.session ≡ Some s → IsNextPlace es a.place s p → items ≡ full_replies entries → reply ≡ get_or items p reply → GotReply reply p a b → WentOn entries a b
+went_reply entries es items a b s p reply e g m n is next same at d =
+    let next_is = subst (λ (xs : List Entry). IsNextPlace xs a.place s p) e next in
+    went_got entries a b s p reply g m n is next_is (reply_there entries items a.place s p reply next_is same at) d

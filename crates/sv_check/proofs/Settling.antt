@@ -85,3 +85,8 @@ pub take_drop : {X : Type 0} (n : ℕ) (xs : List X) → take n xs ++ drop n xs 
 take_drop zero xs = refl
 take_drop (suc n) [] = refl
 take_drop (suc n) (x ∷ xs) = ap (λ ys. x ∷ ys) (take_drop n xs)
+
+pub there_got : {X : Type 0} (xs : List X) (i : ℕ) (x : X) → i < length xs → x ≡ get_or xs i x → slice_get xs i ≡ Some x
+there_got [] i x l e = absurd (omega (arith, l))
+there_got (y ∷ ys) zero x l e = ap (λ z. Some z) (sym e)
+there_got (y ∷ ys) (suc i) x l e = there_got ys i x (omega (arith, l)) e

@@ -128,7 +128,6 @@ fn take_client<'a>(
 }
 
 /// Takes the parts of all clients.
-#[tactic(auto, using(crate::proofs::Gathering::clients_more, crate::proofs::Gathering::start_more))]
 pub(crate) fn take_clients<'a>(
     alloc: Global,
     scenario: &Scenario,
