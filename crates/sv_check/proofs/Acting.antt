@@ -43,14 +43,14 @@ LatestFits entries a = a.fits ≡ true → (s : ℕ) → current_session (number
 
 pub settled_keeps : (entries : List Entry) (a m : Actor) → IsActing entries a → Settles entries a m → IsActing entries m
 settled_keeps entries a m g d = subst (IsActing entries) (sym d.same) (record {
-    few = g.few;
-    shape = g.shape;
-    proper = g.proper;
-    follows = g.follows;
-    flags = record { session = g.flags.session; between = g.flags.between; welcomed = g.flags.welcomed; finished = g.flags.finished };
-    gets = g.gets;
-    asks = record { latest = g.asks.latest; earlier = λ f. g.asks.earlier (d.fits f).0 };
-  })
+  few = g.few;
+  shape = g.shape;
+  proper = g.proper;
+  follows = g.follows;
+  flags = record { session = g.flags.session; between = g.flags.between; welcomed = g.flags.welcomed; finished = g.flags.finished };
+  gets = g.gets;
+  asks = record { latest = g.asks.latest; earlier = λ f. g.asks.earlier (d.fits f).0 };
+})
 
 pub settled_latest : (entries : List Entry) (a m : Actor) → IsActing entries a → Settles entries a m → LatestFits entries m
 settled_latest entries a m g d = subst (LatestFits entries) (sym d.same)
@@ -112,7 +112,7 @@ joined_asks entries first who t requests more fits p h late is = record {
   latest = λ s e.
       let same : joins t + first ≡ s = cc in
       let none : asked who.client who.interest (Up first t) s ≡ [] =
-          ap (λ (k : ℕ). asked who.client who.interest (Up first t) k) (sym same) ∙ up_asked first who t (joins t) ∙ no_asked who 0 t p (joins t) (omega arith) in
+      ap (λ (k : ℕ). asked who.client who.interest (Up first t) k) (sym same) ∙ up_asked first who t (joins t) ∙ no_asked who 0 t p (joins t) (omega arith) in
       is ∙ sym (asked_more first who t (events.Join (joins t)) refl s
       ∙ here_more (asked who.client who.interest (Up first t) s) (newly_asked who t (events.Join (joins t))) (joins t + first) s same
       ∙ ap (λ (rs : List Request). rs ++ newly_asked who t (events.Join (joins t))) none);
@@ -137,17 +137,17 @@ joined_gets entries first who t place p g = record {
 pub joined : (entries : List Entry) (a b : Actor) → IsActing entries a → must_join a.client.events ≡ true → joins a.client.events < 64 → LatestFits entries a → Joined a b →
     IsActing entries b
 joined entries a b g m l late d = subst (IsActing entries) (sym d.same) (record {
-    few = g.few;
-    shape = g.shape ∙ who_same;
-    proper = subst (λ (c : ClientView). AreProper c.who 0 c.events) (sym d.client) (record { next = let plus : joins t ≡ 0 + joins t = omega arith in plus; few = l }, g.proper);
-    follows = subst (λ (c : ClientView). FollowsTo c.who a.script.now c.events a.left.now) (sym d.client)
-        (a.left.now, (g.follows, record { needed = m; same = refl }));
-    flags = subst (λ (c : ClientView). AreFlags (record a { client = c; asked = b.asked; session = Some (a.first + joins t); place = 0; between = false; welcomed = false; finished = false })) (sym d.client)
-        (record { session = ap (λ (k : ℕ). Some k) (let plus : a.first + joins t ≡ joins t + a.first = omega arith in plus); between = refl; welcomed = refl; finished = refl });
-    gets = subst (λ (c : ClientView). HasGot entries (map (raised a.first) c.events) 0) (sym d.client) (joined_gets entries a.first a.client.who t a.place g.proper g.gets);
-    asks = subst (λ (c : ClientView). HasAsked entries c.who (map (raised a.first) c.events) b.asked.items a.fits) (sym d.client)
-        (joined_asks entries a.first a.client.who t a.asked.items b.asked.items a.fits g.proper g.asks late d.asked_is);
-  })
+  few = g.few;
+  shape = g.shape ∙ who_same;
+  proper = subst (λ (c : ClientView). AreProper c.who 0 c.events) (sym d.client) (record { next = let plus : joins t ≡ 0 + joins t = omega arith in plus; few = l }, g.proper);
+  follows = subst (λ (c : ClientView). FollowsTo c.who a.script.now c.events a.left.now) (sym d.client)
+      (a.left.now, (g.follows, record { needed = m; same = refl }));
+  flags = subst (λ (c : ClientView). AreFlags (record a { client = c; asked = b.asked; session = Some (a.first + joins t); place = 0; between = false; welcomed = false; finished = false })) (sym d.client)
+      (record { session = ap (λ (k : ℕ). Some k) (let plus : a.first + joins t ≡ joins t + a.first = omega arith in plus); between = refl; welcomed = refl; finished = refl });
+  gets = subst (λ (c : ClientView). HasGot entries (map (raised a.first) c.events) 0) (sym d.client) (joined_gets entries a.first a.client.who t a.place g.proper g.gets);
+  asks = subst (λ (c : ClientView). HasAsked entries c.who (map (raised a.first) c.events) b.asked.items a.fits) (sym d.client)
+      (joined_asks entries a.first a.client.who t a.asked.items b.asked.items a.fits g.proper g.asks late d.asked_is);
+})
   where
     t : List Event
     t = a.client.events
@@ -235,7 +235,7 @@ other_asks entries first who t e requests more fits k o c h is = record {
       ∙ sym (asked_more first who t e o.got_none s ∙ here_more (asked who.client who.interest (Up first t) s) (newly_asked who t e) (latest_session (e ∷ t) + first) s number);
   earlier = λ f s j apart_now.
       let other : eqb (latest_session (e ∷ t) + first) s ≡ false =
-          ap (λ (x : Option ℕ). eqb (unwrap_or x 0 + first) s) o.current ∙ not_latest first t s k c (λ x. apart_now (o.current_up ∙ x)) in
+      ap (λ (x : Option ℕ). eqb (unwrap_or x 0 + first) s) o.current ∙ not_latest first t s k c (λ x. apart_now (o.current_up ∙ x)) in
       subst (λ (rs : List Request). IsSettled (reverse entries) rs s)
       (sym (asked_more first who t e o.got_none s ∙ there_none (asked who.client who.interest (Up first t) s) (newly_asked who t e) (latest_session (e ∷ t) + first) s other))
       (h.earlier f s (sym (o.joined_same s) ∙ j) (λ x. apart_now (o.current_up ∙ x)));
@@ -403,7 +403,6 @@ went_did entries a b e g m n o left next d = record {
   first = ap (λ (x : Actor). x.first) d.same;
   script = ap (λ (x : Actor). x.script.now) d.same;
 }
-
 
 -- The reply stands among those of the entries.
 reply_there : (entries : List Entry) (items : List Reply) (from s p : ℕ) (reply : Reply) → IsNextPlace entries from s p → items ≡ full_replies entries → reply ≡ get_or items p reply →

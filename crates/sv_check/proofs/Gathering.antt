@@ -163,13 +163,17 @@ traces_more shape h k s [] [] plan L a o =
     (o.client ∙ ap (λ n. record { 0 = n }) (let plain : k + 0 ≡ k = omega arith in plain), o.interest, o.first_is ∙ (let plain : s + 0 ≡ s = omega arith in plain), tt)
 traces_more shape h k s [] (M ∷ Ms) plan L a o = absurd a
 traces_more shape h k s (q ∷ qs) [] plan L a o = absurd a
-traces_more shape h k s (q ∷ qs) (M ∷ Ms) plan L a o =
-    (a.0, a.1, a.2, traces_more shape h (suc k) (s + sessions_of_plan q) qs Ms plan L a.3
-    (record {
-      client = o.client ∙ ap (λ n. record { 0 = n }) (let plus : k + suc (length qs) ≡ suc k + length qs = omega arith in plus);
-      interest = o.interest;
-      first_is = o.first_is ∙ (let plus : s + (sessions_of_plan q + sessions_in qs) ≡ s + sessions_of_plan q + sessions_in qs = omega arith in plus);
-    }))
+traces_more shape h k s (q ∷ qs) (M ∷ Ms) plan L a o = (
+  a.0,
+  a.1,
+  a.2,
+  traces_more shape h (suc k) (s + sessions_of_plan q) qs Ms plan L a.3
+      (record {
+        client = o.client ∙ ap (λ n. record { 0 = n }) (let plus : k + suc (length qs) ≡ suc k + length qs = omega arith in plus);
+        interest = o.interest;
+        first_is = o.first_is ∙ (let plus : s + (sessions_of_plan q + sessions_in qs) ≡ s + sessions_of_plan q + sessions_in qs = omega arith in plus);
+      }),
+)
 
 pub each_more : (P : Plan → Trace → Type 0) (plans : List Plan) (Ls : List Trace) (plan : Plan) (L : Trace) → EachTrace P plans Ls → P plan L → EachTrace P (plans ++ plan ∷ []) (Ls ++ L ∷ [])
 each_more P [] [] plan L w p = (p, tt)
@@ -181,10 +185,10 @@ pub first_more : (shape : Shape) (h : List Entry) (plans : List Plan) (Ls : List
     IsWholeTrace shape h plan L → AreFirstTraces shape h (plans ++ plan ∷ []) (Ls ++ L ∷ [])
 first_more shape h plans Ls plan L a o w = record {
   clients = traces_more shape h 0 0 plans Ls plan L a.clients (record {
-      client = o.client ∙ ap (λ n. record { 0 = n }) (let plain : length plans ≡ 0 + length plans = omega arith in plain);
-      interest = o.interest;
-      first_is = o.first_is ∙ (let plain : sessions_in plans ≡ 0 + sessions_in plans = omega arith in plain);
-    });
+    client = o.client ∙ ap (λ n. record { 0 = n }) (let plain : length plans ≡ 0 + length plans = omega arith in plain);
+    interest = o.interest;
+    first_is = o.first_is ∙ (let plain : sessions_in plans ≡ 0 + sessions_in plans = omega arith in plain);
+  });
   whole = each_more (IsWholeTrace shape h) plans Ls plan L a.whole w;
 }
 

@@ -41,14 +41,14 @@ next_step who t before step left e j w h n v may = record { other = other step e
 pub next_leave : (who : Identity) (t : List Event) (before left : List Step) (e : Event) → must_join t ≡ false → is_welcomed t ≡ true → is_finished t ≡ false →
     left ≡ unsynced who t before → left ≡ [] → e ≡ events.Leave → MayLeave who t → IsNextEvent who t before e left
 next_leave who t before left e j w h n none is may = subst (λ (x : Event). IsNextEvent who t before x left) (sym is) (record {
-    other = refl;
-    may = may;
-    comes = record {
-      joined = j;
-      welcomed = w;
-      here = h;
-      settled = may.settled;
-      done = ap (λ (rs : List Request). passed_syncs rs before) (sym may.settled) ∙ sym n ∙ none;
-      same = none;
-    };
-  })
+  other = refl;
+  may = may;
+  comes = record {
+    joined = j;
+    welcomed = w;
+    here = h;
+    settled = may.settled;
+    done = ap (λ (rs : List Request). passed_syncs rs before) (sym may.settled) ∙ sym n ∙ none;
+    same = none;
+  };
+})

@@ -41,13 +41,13 @@ pub right : StepsAreDoneInOrder → EndsDoAllSteps → (scenario : Scenario) (se
 right begun whole scenario served Ls played good g ended legal t shape entries traces commit committed =
     let h : reverse played.journal.entries ≡ history served.sequencer = ap reverse entries in
     let one = λ (s : ℕ) (l : s < session_count scenario).
-        let most = g.once s in
-        let some = some_ended (history served.sequencer) s (ended s l) in
-        (let same : ends_in (history served.sequencer) s ≡ 1 = omega (arith, most, some) in same) in
+    let most = g.once s in
+    let some = some_ended (history served.sequencer) s (ended s l) in
+    (let same : ends_in (history served.sequencer) s ≡ 1 = omega (arith, most, some) in same) in
     let record_of : IsRecordOf scenario (history served.sequencer) Ls =
-        is_record begun whole scenario (history served.sequencer) Ls good (subst (λ (r : Rules). Legal r (history served.sequencer)) g.rules legal) g.sessions one t in
+    is_record begun whole scenario (history served.sequencer) Ls good (subst (λ (r : Rules). Legal r (history served.sequencer)) g.rules legal) g.sessions one t in
     let traffic : IsRecordOf scenario (reverse played.journal.entries) played.traces =
-        subst (λ (x : List Entry). IsRecordOf scenario x played.traces) (sym h) (subst (IsRecordOf scenario (history served.sequencer)) (sym traces) record_of) in
+    subst (λ (x : List Entry). IsRecordOf scenario x played.traces) (sym h) (subst (IsRecordOf scenario (history served.sequencer)) (sym traces) record_of) in
     record {
       played_is = record {
         traffic = traffic;

@@ -27,25 +27,25 @@ use Rattle.sv_check.proofs.Acting.{LatestFits, begun_settled, settled_keeps, set
 pub whole : (entries : List Entry) (a : Actor) (shape : Shape) (plan : Plan) (L : Trace) → IsActing entries a → a.finished ≡ true → a.fits ≡ true → LatestFits entries a →
     a.client.who.shape ≡ shape → a.script.now ≡ plan.steps → L ≡ trace_from a.first a.client → Proper shape L → IsWholeTrace shape (reverse entries) plan L
 whole entries a shape plan L g done fits late same script is proper = subst (λ (M : Trace). IsWholeTrace shape (reverse entries) plan M) (sym is) (record {
-    proper = subst (Proper shape) is proper;
+  proper = subst (Proper shape) is proper;
+  follows = record {
     follows = record {
-      follows = record {
-        left = a.left.now;
-        follows = subst (λ (u : List Event). FollowsTo (identity_of shape M) plan.steps u a.left.now) (sym back)
-            (subst (λ ss. FollowsTo (identity_of shape M) ss (numbered a) a.left.now) script
-            (subst (λ (w : Identity). FollowsTo w a.script.now (numbered a) a.left.now) who_is (up_follows a.first a.client.who a.script.now a.client.events a.left.now g.follows)));
-      };
-      finished = ap is_finished back ∙ up_finished a.first a.client.events ∙ sym g.flags.finished ∙ done;
+      left = a.left.now;
+      follows = subst (λ (u : List Event). FollowsTo (identity_of shape M) plan.steps u a.left.now) (sym back)
+          (subst (λ ss. FollowsTo (identity_of shape M) ss (numbered a) a.left.now) script
+          (subst (λ (w : Identity). FollowsTo w a.script.now (numbered a) a.left.now) who_is (up_follows a.first a.client.who a.script.now a.client.events a.left.now g.follows)));
     };
-    fits = λ s h.
-        let has = subst (λ (u : List Event). list_any (is_join_of s) u ≡ true) back (any-turned (is_join_of s) M.events h) in
-        let settled = begun_settled entries a.client.who (numbered a) a.asked.items a.fits g.asks (late fits) fits s has in
-        record {
-          got = subst (λ (u : List Event). IsFront (got u s) (replies_in (accepted (reverse entries)) (reverse entries) s)) (sym back) (g.gets.fronts s);
-          asked = subst (λ (u : List Event). IsFront (requests_in (reverse entries) s) (asked a.client.who.client a.client.who.interest u s)) (sym back) settled.front;
-          ended = settled.ended;
-        };
-  })
+    finished = ap is_finished back ∙ up_finished a.first a.client.events ∙ sym g.flags.finished ∙ done;
+  };
+  fits = λ s h.
+      let has = subst (λ (u : List Event). list_any (is_join_of s) u ≡ true) back (any-turned (is_join_of s) M.events h) in
+      let settled = begun_settled entries a.client.who (numbered a) a.asked.items a.fits g.asks (late fits) fits s has in
+      record {
+        got = subst (λ (u : List Event). IsFront (got u s) (replies_in (accepted (reverse entries)) (reverse entries) s)) (sym back) (g.gets.fronts s);
+        asked = subst (λ (u : List Event). IsFront (requests_in (reverse entries) s) (asked a.client.who.client a.client.who.interest u s)) (sym back) settled.front;
+        ended = settled.ended;
+      };
+})
   where
     M : Trace
     M = trace_from a.first a.client

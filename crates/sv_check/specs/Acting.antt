@@ -119,7 +119,13 @@ pub record Settles (entries : List Entry) (old new : Actor) : Type 0 where
 pub record Joined (old new : Actor) : Type 0 where
   pub client : new.client ≡ with_event old.client (events.Join (joins old.client.events))
   pub same : new ≡ record old {
-    client = new.client; asked = new.asked; session = Some (old.first + joins old.client.events); place = 0; between = false; welcomed = false; finished = false;
+    client = new.client;
+    asked = new.asked;
+    session = Some (old.first + joins old.client.events);
+    place = 0;
+    between = false;
+    welcomed = false;
+    finished = false;
   }
   pub asked_is : new.asked.items ≡ newly_asked old.client.who old.client.events (events.Join (joins old.client.events))
 
@@ -129,7 +135,11 @@ pub record GotReply (reply : Reply) (place : ℕ) (old new : Actor) : Type 0 whe
   pub done : new.client.events ≡ got_now old.client.events reply ∷ old.client.events
   pub fine : first_fault_of_reply old.client.who old.client.events reply ≡ None
   pub same : new ≡ record old {
-    client = new.client; asked = new.asked; place = place + 1; welcomed = true; finished = is_bye reply;
+    client = new.client;
+    asked = new.asked;
+    place = place + 1;
+    welcomed = true;
+    finished = is_bye reply;
   }
   pub asked_is : new.asked.items ≡ old.asked.items ++ newly_asked old.client.who old.client.events (got_now old.client.events reply)
 
@@ -145,6 +155,9 @@ is_quit _ = false
 pub record Made (e : Event) (old new : Actor) : Type 0 where
   pub client : new.client ≡ with_event old.client e
   pub same : new ≡ record old {
-    client = new.client; asked = new.asked; between = old.between || is_cut e; finished = old.finished || is_quit e;
+    client = new.client;
+    asked = new.asked;
+    between = old.between || is_cut e;
+    finished = old.finished || is_quit e;
   }
   pub asked_is : new.asked.items ≡ old.asked.items ++ newly_asked old.client.who old.client.events e

@@ -1,4 +1,4 @@
--- What a check says of a text.
+-- What a check is to say of a text. Its contract has the half of it that a yes is right.
 use Rattle.std.specs.Prelude.{ℕ, List}
 use Rattle.sv_scenario.specs.declared.scenario.Scenario.{Scenario}
 use Rattle.sv_check.specs.declared.verdict.Verdict.{Verdict}

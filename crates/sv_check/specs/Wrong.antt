@@ -1,4 +1,4 @@
--- The first wrong line of a text that is no report.
+-- The first wrong line of a text that is no report. No contract cites it yet.
 use Rattle.std.specs.Prelude.{◌≡◌, ◌≢◌, ℕ, suc, Bool, ◌==◌, List, [], ◌∷◌, ◌++◌, All, if◌then◌else◌}
 use Rattle.sv_scenario.specs.declared.scenario.Scenario.{Scenario}
 use Rattle.sv_check.specs.Consistent.{IsReport}

@@ -13,9 +13,9 @@ use crate::journal::Served;
 use crate::moves::next_event;
 use crate::settled::is_settled;
 use std::alloc::{AllocError, Global};
-use sv_lines::{Stop, take_line};
 use sv_client::{Client, Event, MakeFault, Mark, PollFault, TakeFault, Trace};
 use sv_journal::Entry;
+use sv_lines::{Stop, take_line};
 use sv_report::append_event;
 use sv_scenario::Step;
 use sv_wire::{Reply, Request};
@@ -241,12 +241,7 @@ impl<'a> Actor<'a> {
     }
 
     /// Does its next step, or its Leave, with the steps that it leaves.
-    fn do_next(
-        &mut self,
-        served: &Served,
-        event: Event,
-        left: &'a [Step],
-    ) -> Result<(), AllocError>
+    fn do_next(&mut self, served: &Served, event: Event, left: &'a [Step]) -> Result<(), AllocError>
         requires acting { IsActing (entries_of served.now) self.old }
         requires joined { must_join self.old.client.events ≡ false }
         requires here { is_finished self.old.client.events ≡ false }

@@ -88,7 +88,8 @@ fn is_report(
 
 /// Whether a text is the report of a consistent run of the scenario: yes, with the journal and the traces of that run; or the first wrong line.
 ///
-/// `text` are the bytes of the report, as `replay` and `play` print it without told lines. The time is in proportion to its length.
+/// `text` are the bytes of the report, as `replay` and `play` print it without told lines. The time is in proportion to its length. A yes is
+/// proved to be right; that a no names the first wrong line is tested and not proved.
 pub fn check(alloc: Global, scenario: &Scenario, text: &[u8]) -> Result<Verdict, AllocError>
     requires good { IsGoodScenario scenario.now }
     requires short { length text.now < 2 ^ 32 }

@@ -10,8 +10,8 @@ ghost use Rattle.sv_check.specs.Acting.{IsActing, WentOn, identity};
 use crate::actor::Actor;
 use crate::journal::Served;
 use std::alloc::{AllocError, Global};
-use sv_lines::{Stop, take_line};
 use sv_client::{Client, Trace};
+use sv_lines::{Stop, take_line};
 use sv_scenario::{Plan, Scenario, sessions_of_plan};
 use sv_world::{ClientId, List, Shape, copy_objects};
 
@@ -24,11 +24,7 @@ struct Part<'a> {
     plan: &'a Plan,
 }
 
-fn open_actor<'a>(
-    alloc: Global,
-    served: &Served,
-    part: &Part<'a>,
-) -> Result<Actor<'a>, AllocError>
+fn open_actor<'a>(alloc: Global, served: &Served, part: &Part<'a>) -> Result<Actor<'a>, AllocError>
     requires number { part.now.number < 32 }
     requires first { part.now.first < 64 }
     requires plan { IsGoodPlan part.now.shape part.now.plan.now }

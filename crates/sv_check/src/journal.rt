@@ -1,6 +1,5 @@
 //! The journal's part of a report.
 ghost use Rattle.std.specs.Prelude.{◌≡◌, ℕ, ◌<◌, true, false, IfOk, OnOk};
-
 ghost use Rattle.sv_scenario.specs.Limits.{IsGoodScenario};
 ghost use Rattle.sv_journal.specs.Sessions.{is_end};
 ghost use Rattle.sv_journal.specs.Answer.{Legal};
@@ -9,8 +8,10 @@ ghost use Rattle.sv_sequencer.specs.Step.{history};
 ghost use Rattle.sv_check.specs.Serving.{IsServed, AreEnded};
 
 use std::alloc::{AllocError, Global};
-use sv_lines::{Asked, Stop, Unread, asked_at, expect, line_length, number_at, take_line, take_lines};
 use sv_journal::{full_replies_stay, legal_relays_name_accepted, print_journal};
+use sv_lines::{
+    Asked, Stop, Unread, asked_at, expect, line_length, number_at, take_line, take_lines,
+};
 use sv_replay::open_sequencer;
 use sv_scenario::Scenario;
 use sv_sequencer::Sequencer;
@@ -92,12 +93,7 @@ impl Served {
     }
 
     /// Answers the request of a line. Whether it has one.
-    fn serve(
-        &mut self,
-        alloc: Global,
-        scenario: &Scenario,
-        line: &[u8],
-    ) -> Result<bool, AllocError>
+    fn serve(&mut self, alloc: Global, scenario: &Scenario, line: &[u8]) -> Result<bool, AllocError>
         requires { IsServed scenario.now self.old }
         ensures { OnOk result (IsServed scenario.now self.new) }
     {
@@ -148,9 +144,7 @@ impl Served {
         legal_relays_name_accepted();
         let mut printed = String::new(alloc);
         print_journal(scenario.world.shape, self.sequencer.journal(), &mut printed)?;
-        let (_, lines) = printed
-            .as_bytes()
-            .split_at(line_length(printed.as_bytes()));
+        let (_, lines) = printed.as_bytes().split_at(line_length(printed.as_bytes()));
         take_lines(text, lines)
     }
 

@@ -2,8 +2,8 @@
 ghost use Rattle.std.specs.Prelude.{◌≡◌, true, reverse};
 ghost use Rattle.sv_check.specs.Acting.{IsSettled};
 
-use sv_lines::same_request;
 use sv_journal::Entry;
+use sv_lines::same_request;
 use sv_wire::Request;
 
 /// Whether the requests of a session are the first of those asked, with at most one End after them, and nothing else.

@@ -20,10 +20,7 @@ fn next_after<'a>(text: &'a [u8], end: u8, between: u8) -> Result<After<'a>, Unr
 }
 
 /// A list of objects, as `[0 2]`.
-pub fn objects_at(
-    alloc: Global,
-    text: &[u8],
-) -> Result<(List<ObjectId>, &[u8]), Unread> {
+pub fn objects_at(alloc: Global, text: &[u8]) -> Result<(List<ObjectId>, &[u8]), Unread> {
     let mut rest = expect(text, b"[")?;
     let mut objects = List::new(alloc);
     if let [b']', rest @ ..] = rest {

@@ -34,12 +34,7 @@ pub fn wrong_line(alloc: Global, scenario: &Scenario, text: &[u8]) -> Result<u32
 }
 
 /// Whether a text has this first wrong line, against the scenario that the other text is.
-pub fn has_line(
-    alloc: Global,
-    scenario: &str,
-    text: &[u8],
-    line: u32,
-) -> Result<bool, AllocError> {
+pub fn has_line(alloc: Global, scenario: &str, text: &[u8], line: u32) -> Result<bool, AllocError> {
     match scenario_in(alloc, scenario)? {
         None => Ok(false),
         Some(scenario) => {

@@ -1,6 +1,6 @@
 //! A report cut at every byte, and one with lines doubled, dropped and moved.
 use crate::calls::has_line;
-use crate::examples::{FIRST, FIRST_REPORT, CONFLICT, CONFLICT_REPORT};
+use crate::examples::{CONFLICT, CONFLICT_REPORT, FIRST, FIRST_REPORT};
 use std::alloc::{AllocError, Global};
 use std::process::Abort;
 use std::test::Fail;
