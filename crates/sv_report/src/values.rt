@@ -7,11 +7,7 @@ use sv_journal::append_value;
 use sv_world::Value;
 
 /// Appends the commit, and the values of all objects, each on a line, as `0=(5)`.
-pub(crate) fn append_world(
-    commit: u32,
-    values: &[Value],
-    out: &mut String,
-) -> Result<(), AllocError>
+pub fn append_world(commit: u32, values: &[Value], out: &mut String) -> Result<(), AllocError>
     ensures { OnOk result (string_bytes out.new ≡ string_bytes out.old ++ world_text commit values.now) }
 {
     write!(out, "world {commit}\n")?;
