@@ -1,0 +1,4 @@
+pub mod Consistent
+pub mod Parts
+pub mod Wrong
+pub mod Verdicts
