@@ -1,2 +1,4 @@
 pub mod Walks
 pub mod Alone
+pub mod Masked
+pub mod Wanting

@@ -1,5 +1,5 @@
 -- The walk down the positions with a set of wanted objects takes just the positions that a value comes from.
-use Rattle.std.proofs.Common.{◌≡◌, ℕ, zero, suc, ◌<◌, ◌≤◌, inl, inr, Bool, true, false, ◌||◌, List, [], ◌∷◌, ◌++◌, refl, sym, ◌∙◌, ap, ap₂, subst, arith, nat_eq, eq-eqb, eqb-true}
+use Rattle.std.proofs.Common.{◌≡◌, ℕ, zero, suc, ◌+◌, ◌<◌, ◌≤◌, inl, inr, Bool, true, false, ◌||◌, List, [], ◌∷◌, ◌++◌, refl, sym, ◌∙◌, ap, ap₂, subst, arith, nat_eq, eq-eqb, eqb-true}
 use Rattle.std.specs.Prelude.{if◌then◌else◌}
 use Rattle.std.specs.List.{list_any}
 use Rattle.std.proofs.lemmas.Bool.{cases_eq, cases_Bool, false_from_ne_true, or_cases, or_left, or_right, cond_both, cond-true, cond-false}
@@ -63,9 +63,9 @@ walk-left A n p t = cond-false (list_any p (write_set (action_at A (suc n)))) (w
 masked_in : (mask k x : ℕ) (xs : List ℕ) → is_in x (at_mask mask k xs) ≡ true → is_in x xs ≡ true
 masked_in mask k x [] h = h
 masked_in mask k x (y ∷ ys) h =
-    let rest = masked_in mask (suc k) x ys in
-    cond_both (is_in_mask mask k) (y ∷ at_mask mask (suc k) ys) (at_mask mask (suc k) ys) (λ (zs : List ℕ). is_in x zs ≡ true → is_in x (y ∷ ys) ≡ true)
-    (λ e g. elim (is_in-cons_cases x y (at_mask mask (suc k) ys) g) [
+    let rest = masked_in mask (k + 1) x ys in
+    cond_both (is_in_mask mask k) (y ∷ at_mask mask (k + 1) ys) (at_mask mask (k + 1) ys) (λ (zs : List ℕ). is_in x zs ≡ true → is_in x (y ∷ ys) ≡ true)
+    (λ e g. elim (is_in-cons_cases x y (at_mask mask (k + 1) ys) g) [
       | inl s ↦ subst (λ (z : ℕ). is_in x (z ∷ ys) ≡ true) s (is_in-head x ys)
       | inr r ↦ is_in-tail x y ys (rest r)
     ])

@@ -1,0 +1,87 @@
+-- Sets of objects, one flag for each number, and how the walk goes on with them.
+use Rattle.std.proofs.Common.{◌≡◌, ℕ, zero, suc, ◌<◌, ◌≤◌, ◌-◌, inl, inr, Bool, true, false, ◌||◌, List, [], ◌∷◌, ◌++◌, reverse, length, get_or, set, refl, sym, ◌∙◌, ap, subst, arith, nat_eq, eq-eqb, ne_eqb, append_assoc}
+use Rattle.std.specs.Prelude.{All, slice_index_or}
+use Rattle.std.specs.List.{list_any}
+use Rattle.std.proofs.lemmas.Bool.{cases_eq, or_left}
+use Rattle.std.proofs.lemmas.List.{get_or-set_same, get_or-set_other, reverse-append}
+use Rattle.sv_world.specs.declared.action.Action.{Action}
+use Rattle.sv_world.specs.Sets.{read_set, write_set}
+use Rattle.sv_world.specs.Control.{is_in, action_at}
+use Rattle.sv_world.proofs.Members.{is_in-head, is_in-tail}
+use Rattle.sv_world.proofs.Needs.{needed-bounds}
+use Rattle.sv_world.proofs.Writers.{last_writer-most}
+use Rattle.sv_why.specs.Reasons.{writer_by, reasons_of}
+use Rattle.sv_why.proofs.Walks.{walk, walk-same, walk-taken, walk-left, walk_is_reasons}
+
+-- ---- Flags
+
+pub mark : (ws : List Bool) (o x : ℕ) → o < length ws → get_or (set ws o true) x false ≡ (nat_eq x o || get_or ws x false)
+mark ws o x l =
+    elim (cases_eq x o) [
+      | inl e ↦
+          subst (λ (y : ℕ). get_or (set ws o true) y false ≡ (nat_eq y o || get_or ws y false)) (sym e)
+          (get_or-set_same ws o true false l ∙ sym (or_left (nat_eq o o) (get_or ws o false) (eq-eqb o o refl)))
+      | inr n ↦ get_or-set_other ws o x true false n ∙ sym (ap (λ (b : Bool). b || get_or ws x false) (ne_eqb x o n))
+    ]
+
+pub or_move : (a b c : Bool) → ((a || b) || c) ≡ (b || (a || c))
+or_move true true c = refl
+or_move true false c = refl
+or_move false true c = refl
+or_move false false c = refl
+
+or_none : (b : Bool) → (b || false) ≡ b
+or_none true = refl
+or_none false = refl
+
+-- ---- The walk
+
+-- At first the object alone is wanted.
+pub walk-first : (A : List Action) (x pos : ℕ) (p q : ℕ → Bool) → ((y : ℕ) → p y ≡ false) → ((y : ℕ) → q y ≡ (nat_eq y x || p y)) → walk A pos q ≡ reasons_of A x pos
+walk-first A x pos p q none marked =
+    walk-same A pos q (λ y. nat_eq y x) (λ y. marked y ∙ ap (λ (b : Bool). nat_eq y x || b) (none y) ∙ or_none (nat_eq y x)) ∙ walk_is_reasons A x pos
+
+-- A position that writes a wanted object is found.
+pub walk-found : (A : List Action) (at : ℕ) (p q : ℕ → Bool) (found : List ℕ) → 0 < at → list_any p (write_set (action_at A at)) ≡ true →
+    ((y : ℕ) → q y ≡ (is_in y (read_set (action_at A at)) || p y)) → walk A (at - 1) q ++ reverse (found ++ at ∷ []) ≡ walk A at p ++ reverse found
+walk-found A zero p q found low t more = absurd (omega arith)
+walk-found A (suc n) p q found low t more =
+    let e : suc n - 1 ≡ n = omega arith in
+    ap (λ (m : ℕ). walk A m q ++ reverse (found ++ suc n ∷ [])) e
+    ∙ ap (λ (ks : List ℕ). ks ++ reverse (found ++ suc n ∷ [])) (walk-same A n q (λ y. is_in y (read_set (action_at A (suc n))) || p y) more)
+    ∙ ap (λ (ks : List ℕ). walk A n (λ y. is_in y (read_set (action_at A (suc n))) || p y) ++ ks) (reverse-append found (suc n ∷ []))
+    ∙ sym (append_assoc (walk A n (λ y. is_in y (read_set (action_at A (suc n))) || p y)) (suc n ∷ []) (reverse found))
+    ∙ sym (ap (λ (ks : List ℕ). ks ++ reverse found) (walk-taken A n p t))
+
+-- Another one is passed.
+pub walk-passed : (A : List Action) (at : ℕ) (p q : ℕ → Bool) (found : List ℕ) → 0 < at → list_any p (write_set (action_at A at)) ≡ false →
+    ((y : ℕ) → q y ≡ p y) → walk A (at - 1) q ++ reverse found ≡ walk A at p ++ reverse found
+walk-passed A zero p q found low t same = absurd (omega arith)
+walk-passed A (suc n) p q found low t same =
+    let e : suc n - 1 ≡ n = omega arith in
+    ap (λ (ks : List ℕ). ks ++ reverse found) (ap (λ (m : ℕ). walk A m q) e ∙ walk-same A n q p same ∙ sym (walk-left A n p t))
+
+-- ---- The positions
+
+pub no-reasons : (A : List Action) (x pos : ℕ) → writer_by A x pos ≡ 0 → reasons_of A x pos ≡ []
+no-reasons A x pos e = rw e refl
+
+all-members : (P : ℕ → Type 0) (xs : List ℕ) → ((j : ℕ) → is_in j xs ≡ true → P j) → All P xs
+all-members P [] h k d l = absurd (omega arith)
+all-members P (x ∷ xs) h zero d l = h x (is_in-head x xs)
+all-members P (x ∷ xs) h (suc k) d l = all-members P xs (λ j m. h j (is_in-tail j x xs m)) k d (omega arith)
+
+-- They are positions up to the last one asked for.
+pub reasons-bounded : (A : List Action) (x pos most : ℕ) → pos ≤ most → All (λ p. (1 ≤ p) × (p ≤ most)) (reasons_of A x pos)
+reasons-bounded A x pos most high =
+    all-members (λ p. (1 ≤ p) × (p ≤ most)) (reasons_of A x pos)
+    (λ j m. elim (cases_eq (writer_by A x pos) 0) [
+      | inl e ↦ (let none : is_in j [] ≡ true = subst (λ (ks : List ℕ). is_in j ks ≡ true) (no-reasons A x pos e) m in cc)
+      | inr n ↦
+          (let low : 0 < writer_by A x pos = omega arith in
+          let b = needed-bounds A 0 [] (writer_by A x pos) low j m in
+          let above : 0 < j = b.0 in
+          let below : j ≤ writer_by A x pos = b.1 in
+          let top : writer_by A x pos ≤ pos = last_writer-most A x pos in
+          (omega arith, omega arith))
+    ])
