@@ -1,7 +1,7 @@
 //! Executing one action on a whole world.
 ghost use Rattle.std.specs.Prelude.{◌≡◌, [], map, slice_index_or, slice_set, IfOk, OnOk};
 ghost use Rattle.sv_world.specs.declared.world.ObjectId.{ObjectId};
-ghost use Rattle.sv_world.specs.Sets.{write_set};
+ghost use Rattle.sv_world.specs.Sets.{at_mask, write_set};
 ghost use Rattle.sv_eval.specs.Serial.{put_all, values_at, world_after};
 
 use std::alloc::{AllocError, Global};
@@ -37,16 +37,25 @@ fn values_at(
     Ok(List::from_vec(values))
 }
 
+/// Those of some objects that stand at the slots in a mask.
+fn masked(alloc: Global, mask: u16, objects: &[ObjectId]) -> Result<Vec<ObjectId>, AllocError>
+    ensures { IfOk result (λ chosen. chosen.items ≡ at_mask mask 0 objects.now) }
+{
+    let mut chosen = Vec::new(alloc);
+    for (slot, object) in objects.iter().enumerate() {
+        if is_in_mask(mask, slot) {
+            chosen.push(*object)?;
+        }
+    }
+    Ok(chosen)
+}
+
 /// The objects that an action writes, in order.
+#[tactic(auto, using(crate::proofs::Masked::map_masked))]
 fn written_objects(alloc: Global, action: &Action) -> Result<Vec<ObjectId>, AllocError>
     ensures { IfOk result (λ written. map (λ (o : ObjectId). o.0) written.items ≡ write_set action.now) }
 {
-    let mut written = Vec::new(alloc);
-    for (slot, object) in action.reads.as_slice().iter().enumerate() {
-        if is_in_mask(action.mask, slot) {
-            written.push(*object)?;
-        }
-    }
+    let written = masked(alloc, action.mask, action.reads.as_slice())?;
     Ok(written)
 }
 
