@@ -111,9 +111,14 @@ IsJudged scenario bytes (Err (endings.Wrong line)) = IsWrongIn scenario bytes li
 IsJudged scenario bytes (Err (endings.Plain plain.Memory)) = Unit {0}
 IsJudged scenario bytes (Err _) = ⊥
 
+-- the run has no such place, where one is asked for
+abbrev pub IsOverAt : Scenario → Played → Option Asking → Type 0
+IsOverAt scenario played None = ⊥
+IsOverAt scenario played (Some place) = IsOver scenario played place
+
 -- the answer, or why there is none
 abbrev pub IsAnswered : Scenario → Played → Option Asking → Result (String Global) AuditEnding → Type 0
 IsAnswered scenario played place (Ok text) = IsAnswer scenario played place (string_bytes text)
-IsAnswered scenario played (Some place) (Err endings.Range) = IsOver scenario played place
+IsAnswered scenario played place (Err endings.Range) = IsOverAt scenario played place
 IsAnswered scenario played place (Err (endings.Plain plain.Memory)) = Unit {0}
 IsAnswered scenario played place (Err _) = ⊥

@@ -10,6 +10,7 @@ fn call_of(word: &str) -> Command
     match word {
         "serve" => Command::Serve,
         "join" => Command::Join,
+        "check" | "why" => Command::Check,
         _ => Command::Run,
     }
 }

@@ -12,7 +12,8 @@ use Rattle.sv_eval.specs.Evaluation.{outcome_of}
 use Rattle.sv_eval.specs.Serial.{values_at, put_all, world_after, world_after_some, serial_world}
 use Rattle.sv_eval.proofs.Serials.{put_all_elsewhere, serial_length}
 use Rattle.sv_why.specs.Reasons.{reasons_of, world_by}
-use Rattle.sv_why.proofs.Walks.{walk, any_from, walk_is_reasons}
+use Rattle.sv_why.specs.Walks.{walk}
+use Rattle.sv_why.proofs.Walks.{any_from, walk_is_reasons}
 
 -- ---- Worlds that agree
 
@@ -69,6 +70,19 @@ by-push opening A ks k =
     (length-append ks (k ∷ []) ∙ (let e : length ks + 1 ≡ suc (length B) = omega arith in e))
     ∙ ap₂ (λ (world : List (List ℤ)) (o : Option Action). world_after_some world o) (serial-front opening B (a ∷ []) (length B) (omega arith)) (get-last B a)
     ∙ ap (λ (m : ℕ). world_after (serial_world opening B m) a) n
+
+get-mapped : (A : List Action) (ks : List ℕ) (i d : ℕ) → i < length ks → slice_get (map (action_at A) ks) i ≡ Some (action_at A (get_or ks i d))
+get-mapped A [] i d l = absurd (omega arith)
+get-mapped A (k ∷ ks) zero d l = refl
+get-mapped A (k ∷ ks) (suc i) d l = get-mapped A ks i d (omega arith)
+
+-- The world of one position more of a list of them.
+pub by-next : (opening : List (List ℤ)) (A : List Action) (ks : List ℕ) (i d : ℕ) → i < length ks →
+    world_after (serial_world opening (map (action_at A) ks) i) (action_at A (get_or ks i d)) ≡ serial_world opening (map (action_at A) ks) (i + 1)
+by-next opening A ks i d l =
+    let e : suc i ≡ i + 1 = omega arith in
+    sym (ap (λ (o : Option Action). world_after_some (serial_world opening (map (action_at A) ks) i) o) (get-mapped A ks i d l))
+    ∙ ap (λ (m : ℕ). serial_world opening (map (action_at A) ks) m) e
 
 -- ---- The value
 

@@ -1,4 +1,3 @@
 pub mod Walks
 pub mod Alone
-pub mod Masked
 pub mod Wanting

@@ -9,13 +9,7 @@ use Rattle.sv_world.specs.Control.{is_in, action_at, last_writer, missing_writer
 use Rattle.sv_world.proofs.Members.{is_in-head, is_in-tail, is_in-cons_cases, is_in-one, is_in-append_left, is_in-append_right, is_in-append_cases}
 use Rattle.sv_world.proofs.Writers.{last_writer-most, last_writer-writes, missing_writers-parts, missing_writers-has}
 use Rattle.sv_why.specs.Reasons.{writer_by, reasons_of}
-
--- From position n down: a position that writes a wanted object is taken, and what it reads is wanted too.
-abbrev pub walk : List Action → ℕ → (ℕ → Bool) → List ℕ
-walk A zero p = []
-walk A (suc n) p = if list_any p (write_set (action_at A (suc n)))
-    then walk A n (λ x. is_in x (read_set (action_at A (suc n))) || p x) ++ suc n ∷ []
-    else walk A n p
+use Rattle.sv_why.specs.Walks.{walk}
 
 -- ---- Tests of the members of a list
 

@@ -1,5 +1,5 @@
 -- Sets of objects, one flag for each number, and how the walk goes on with them.
-use Rattle.std.proofs.Common.{◌≡◌, ℕ, zero, suc, ◌<◌, ◌≤◌, ◌-◌, inl, inr, Bool, true, false, ◌||◌, List, [], ◌∷◌, ◌++◌, reverse, length, get_or, set, refl, sym, ◌∙◌, ap, subst, arith, nat_eq, eq-eqb, ne_eqb, append_assoc}
+use Rattle.std.proofs.Common.{◌≡◌, ℕ, zero, suc, ◌<◌, ◌≤◌, ◌-◌, inl, inr, Bool, true, false, ◌||◌, List, [], ◌∷◌, ◌++◌, reverse, length, get_or, set, refl, sym, ◌∙◌, ap, subst, arith, nat_eq, eq-eqb, ne_eqb, append_assoc, replicate}
 use Rattle.std.specs.Prelude.{All, slice_index_or}
 use Rattle.std.specs.List.{list_any}
 use Rattle.std.proofs.lemmas.Bool.{cases_eq, or_left}
@@ -11,7 +11,8 @@ use Rattle.sv_world.proofs.Members.{is_in-head, is_in-tail}
 use Rattle.sv_world.proofs.Needs.{needed-bounds}
 use Rattle.sv_world.proofs.Writers.{last_writer-most}
 use Rattle.sv_why.specs.Reasons.{writer_by, reasons_of}
-use Rattle.sv_why.proofs.Walks.{walk, walk-same, walk-taken, walk-left, walk_is_reasons}
+use Rattle.sv_why.specs.Walks.{walk}
+use Rattle.sv_why.proofs.Walks.{walk-same, walk-taken, walk-left, walk_is_reasons}
 
 -- ---- Flags
 
@@ -34,12 +35,20 @@ or_none : (b : Bool) → (b || false) ≡ b
 or_none true = refl
 or_none false = refl
 
+none-set : (n x : ℕ) → get_or (replicate n false) x false ≡ false
+none-set zero x = refl
+none-set (suc n) zero = refl
+none-set (suc n) (suc x) = none-set n x
+
+-- Of flags that were not set, the object's alone is.
+pub mark-one : (n o x : ℕ) (fs : List Bool) → get_or fs x false ≡ (nat_eq x o || get_or (replicate n false) x false) → get_or fs x false ≡ nat_eq x o
+mark-one n o x fs e = e ∙ ap (λ (b : Bool). nat_eq x o || b) (none-set n x) ∙ or_none (nat_eq x o)
+
 -- ---- The walk
 
 -- At first the object alone is wanted.
-pub walk-first : (A : List Action) (x pos : ℕ) (p q : ℕ → Bool) → ((y : ℕ) → p y ≡ false) → ((y : ℕ) → q y ≡ (nat_eq y x || p y)) → walk A pos q ≡ reasons_of A x pos
-walk-first A x pos p q none marked =
-    walk-same A pos q (λ y. nat_eq y x) (λ y. marked y ∙ ap (λ (b : Bool). nat_eq y x || b) (none y) ∙ or_none (nat_eq y x)) ∙ walk_is_reasons A x pos
+pub walk-first : (A : List Action) (x pos : ℕ) (q : ℕ → Bool) → ((y : ℕ) → q y ≡ nat_eq y x) → walk A pos q ≡ reasons_of A x pos
+walk-first A x pos q marked = walk-same A pos q (λ y. nat_eq y x) marked ∙ walk_is_reasons A x pos
 
 -- A position that writes a wanted object is found.
 pub walk-found : (A : List Action) (at : ℕ) (p q : ℕ → Bool) (found : List ℕ) → 0 < at → list_any p (write_set (action_at A at)) ≡ true →

@@ -1,5 +1,5 @@
 //! Executing one action on a whole world.
-ghost use Rattle.std.specs.Prelude.{◌≡◌, [], map, slice_index_or, slice_set, IfOk, OnOk};
+ghost use Rattle.std.specs.Prelude.{◌≡◌, ◌+◌, ◌^◌, ◌<◌, [], ◌++◌, length, map, slice_index_or, IfOk, OnOk};
 ghost use Rattle.sv_world.specs.declared.world.ObjectId.{ObjectId};
 ghost use Rattle.sv_world.specs.Sets.{at_mask, write_set};
 ghost use Rattle.sv_eval.specs.Serial.{put_all, values_at, world_after};
@@ -37,35 +37,34 @@ fn values_at(
     Ok(List::from_vec(values))
 }
 
-/// Those of some objects that stand at the slots in a mask.
-fn masked(alloc: Global, mask: u16, objects: &[ObjectId]) -> Result<Vec<ObjectId>, AllocError>
-    ensures { IfOk result (λ chosen. chosen.items ≡ at_mask mask 0 objects.now) }
+/// Adds those of the reads, whose slots begin with `slot`, that the mask has.
+fn add_written(
+    mask: u16,
+    slot: usize,
+    reads: &[ObjectId],
+    written: &mut Vec<ObjectId>,
+) -> Result<(), AllocError>
+    requires { slot + length reads.now < 2 ^ 64 }
+    ensures { OnOk result (map (λ (o : ObjectId). o.0) written.new.items
+        ≡ map (λ (o : ObjectId). o.0) written.old.items ++ at_mask mask slot (map (λ (o : ObjectId). o.0) reads.now)) }
 {
-    let mut chosen = Vec::new(alloc);
-    for (slot, object) in objects.iter().enumerate() {
-        if is_in_mask(mask, slot) {
-            chosen.push(*object)?;
-        }
+    let [object, rest @ ..] = reads else {
+        return Ok(());
+    };
+    if is_in_mask(mask, slot) {
+        written.push(*object)?;
+        return add_written(mask, slot + 1, rest, written);
     }
-    Ok(chosen)
+    add_written(mask, slot + 1, rest, written)
 }
 
 /// The objects that an action writes, in order.
-#[tactic(auto, using(crate::proofs::Masked::map_masked))]
 fn written_objects(alloc: Global, action: &Action) -> Result<Vec<ObjectId>, AllocError>
     ensures { IfOk result (λ written. map (λ (o : ObjectId). o.0) written.items ≡ write_set action.now) }
 {
-    let written = masked(alloc, action.mask, action.reads.as_slice())?;
+    let mut written = Vec::new(alloc);
+    add_written(action.mask, 0, action.reads.as_slice(), &mut written)?;
     Ok(written)
-}
-
-fn set_value(world: &mut [Value], object: ObjectId, value: Value)
-    ensures { world.new ≡ slice_set world.old object.0 value }
-{
-    let place = usize::from(object.0);
-    if place < world.len() {
-        world[place] = value;
-    }
 }
 
 /// Puts values on objects, one on each, in order.
@@ -73,7 +72,7 @@ fn put_all(
     alloc: Global,
     objects: &[ObjectId],
     values: &[Value],
-    world: &mut [Value],
+    world: &mut List<Value>,
 ) -> Result<(), AllocError>
     ensures { OnOk result (world.new ≡ put_all world.old (map (λ (o : ObjectId). o.0) objects.now) values.now) }
 {
@@ -83,7 +82,7 @@ fn put_all(
     let [value, values @ ..] = values else {
         return Ok(());
     };
-    set_value(world, *object, copy_value(alloc, value)?);
+    world.set(usize::from(object.0), copy_value(alloc, value)?);
     put_all(alloc, objects, values, world)
 }
 
@@ -91,11 +90,11 @@ fn put_all(
 pub(crate) fn execute(
     alloc: Global,
     action: &Action,
-    world: &mut [Value],
+    world: &mut List<Value>,
 ) -> Result<(), AllocError>
     ensures { OnOk result (world.new ≡ world_after world.old action.now) }
 {
-    let values = values_at(alloc, world, action.reads.as_slice())?;
+    let values = values_at(alloc, world.as_slice(), action.reads.as_slice())?;
     let outcome = eval(alloc, action, values.as_slice())?;
     let written = written_objects(alloc, action)?;
     put_all(alloc, &written, outcome.writes.as_slice(), world)

@@ -23,11 +23,11 @@ fn value_alone(
     requires { All (λ p. (1 ≤ p) × (p ≤ length (accepted (reverse journal.now.entries)))) positions.now }
     ensures { IfOk result (λ value. value ≡ slice_index_or (world_by opening.now (actions_of (reverse journal.now.entries)) positions.now) object.0 []) }
 {
-    let mut world = copy_values(alloc, opening)?.into_vec();
+    let mut world = copy_values(alloc, opening)?;
     for pos in positions {
         execute(alloc, journal.accepted(*pos), &mut world)?;
     }
-    value_of(alloc, &world, object)
+    value_of(alloc, world.as_slice(), object)
 }
 
 /// Why an object has its value after the first `pos` accepted actions of what was played: the positions of the actions that the value comes

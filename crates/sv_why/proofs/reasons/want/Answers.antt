@@ -1,3 +1,4 @@
+use Rattle.std.proofs.Common.{◌∙◌, arith, sym, ap, rules}
 use Rattle.sv_why.proofs.Wanting.{mark}
 use Rattle.sv_why.proofs.reasons.want.Goals as goal
 

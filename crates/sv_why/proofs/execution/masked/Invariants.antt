@@ -1,6 +1,0 @@
-use Rattle.std.proofs.Common.{◌≡◌, ◌++◌, drop}
-use Rattle.sv_world.specs.Sets.{at_mask}
-use Rattle.sv_why.proofs.execution.masked.Given as goal
-
-abbrev pub invariant-loop-slot : goal.invariant-loop-slot
-invariant-loop-slot l = l.chosen.items ++ at_mask l.mask l.slot (drop l.slot l.objects) ≡ at_mask l.mask 0 l.objects
