@@ -221,12 +221,33 @@ module _ (held told : Option (List ℕ)) (place : Option Asking) (old new : Opti
   complete_of b a (endings.Wrong line) h r can none = inr (omega arith, omega arith)
   complete_of b a endings.Range h r can none = inr (omega arith, omega arith)
 
+-- What is left of a call, if something is asked for.
+abbrev AllEnds : (List ℕ → Option (List ℕ)) → (old new : Option (List ℕ)) → Option Asked → AuditEnding → Type 0
+AllEnds contents old new a e = IfSome a (λ (x : Asked). Ends (contents x.scenario) (contents x.report) x.place old new e)
+
+module _ (contents : List ℕ → Option (List ℕ)) (old new : Option (List ℕ)) where
+  pub left_is : (a : Option Asked) (e : AuditEnding) → AllEnds contents old new a e → IfSome a (λ (x : Asked). Leaves (contents x.scenario) (contents x.report) x.place old new (status_of e))
+  left_is None e h = tt
+  left_is (Some x) e h = leaves_is (contents x.scenario) (contents x.report) x.place old new e h
+
+  pub range_is : (a : Option Asked) (e : AuditEnding) → ((e ≡ endings.Plain plain.Words) ↔ (a ≡ None)) → AllEnds contents old new a e → (status_of e ≡ 0) ⊎ ((2 ≤ status_of e) × (status_of e ≤ 5)) ⊎ ((8 ≤ status_of e) × (status_of e ≤ 10))
+  range_is None e w h =
+      let two : status_of e ≡ 2 = ap status_of (w.1 refl) in
+      inr (inl (omega (arith, two), omega (arith, two)))
+  range_is (Some x) e w h = range_of (contents x.scenario) (contents x.report) x.place old new e h
+
+  pub nothing_is : (a : Option Asked) (e : AuditEnding) → AllEnds contents old new a e → (a ≡ None → new ≡ old) → status_of e ≢ 0 → status_of e ≢ 5 → new ≡ old
+  nothing_is None e h alone z f = alone refl
+  nothing_is (Some x) e h alone z f = (leaves_is (contents x.scenario) (contents x.report) x.place old new e h).nothing z f
+
+  pub complete_is : (b c : Counts) (a : Option Asked) (e : AuditEnding) → AllEnds contents old new a e → Raises b c e →
+      IfSome a (λ (x : Asked). HoldsScenario (contents x.scenario) → NoneRose b c → (status_of e ≡ 0) ⊎ ((8 ≤ status_of e) × (status_of e ≤ 10)))
+  complete_is b c None e h r = tt
+  complete_is b c (Some x) e h r = λ can none. complete_of (contents x.scenario) (contents x.report) x.place old new b c e h r can none
+
 -- ---- The line
 
 module _ (sure : List ℕ → Type 0) (contents : List ℕ → Option (List ℕ)) (words_line : List ℕ) (old new t0 t1 : Option (List ℕ)) (n0 n1 : ℕ) where
-  abbrev AllEnds : Option Asked → AuditEnding → Type 0
-  AllEnds a e = IfSome a (λ (x : Asked). Ends (contents x.scenario) (contents x.report) x.place old new e)
-
   -- An ending whose line is that of its status.
   told_plain : (a : Option Asked) (e : AuditEnding) → (status_of e ≡ 3 → ⊥) → (status_of e ≡ 4 → ⊥) → (status_of e ≡ 9 → ⊥) →
       line_of words_line a e ≡ status_line words_line (status_of e) → IsTold t0 t1 n0 n1 (line_of words_line a e) → TellsStatus sure contents words_line a (status_of e) t0 t1 n0 n1
@@ -282,7 +303,7 @@ module _ (sure : List ℕ → Type 0) (contents : List ℕ → Option (List ℕ)
     told_of (endings.Plain plain.Start) h p q t = absurd h.0
     told_of (endings.Plain plain.Link) h p q t = absurd h.0
 
-  pub told_is : (a : Option Asked) (e : AuditEnding) → ((e ≡ endings.Plain plain.Words) ↔ (a ≡ None)) → AllEnds a e → IfSome a (λ (x : Asked). sure x.scenario → e ≢ endings.Plain plain.File) →
+  pub told_is : (a : Option Asked) (e : AuditEnding) → ((e ≡ endings.Plain plain.Words) ↔ (a ≡ None)) → AllEnds contents old new a e → IfSome a (λ (x : Asked). sure x.scenario → e ≢ endings.Plain plain.File) →
       IfSome a (λ (x : Asked). sure x.report → e ≢ endings.Report) → IsTold t0 t1 n0 n1 (line_of words_line a e) → TellsStatus sure contents words_line a (status_of e) t0 t1 n0 n1
   told_is None e w h p q t = no_words e (w.1 refl) t
     where
@@ -291,22 +312,3 @@ module _ (sure : List ℕ → Type 0) (contents : List ℕ → Option (List ℕ)
           let two : status_of e ≡ 2 = ap status_of is in
           told_plain None e (λ s. omega (arith, two, s)) (λ s. omega (arith, two, s)) (λ s. omega (arith, two, s)) (rw is refl) t
   told_is (Some x) e w h p q t = told_of x e h p q t
-
-  pub left_is : (a : Option Asked) (e : AuditEnding) → AllEnds a e → IfSome a (λ (x : Asked). Leaves (contents x.scenario) (contents x.report) x.place old new (status_of e))
-  left_is None e h = tt
-  left_is (Some x) e h = leaves_is (contents x.scenario) (contents x.report) x.place old new e h
-
-  pub range_is : (a : Option Asked) (e : AuditEnding) → ((e ≡ endings.Plain plain.Words) ↔ (a ≡ None)) → AllEnds a e → (status_of e ≡ 0) ⊎ ((2 ≤ status_of e) × (status_of e ≤ 5)) ⊎ ((8 ≤ status_of e) × (status_of e ≤ 10))
-  range_is None e w h =
-      let two : status_of e ≡ 2 = ap status_of (w.1 refl) in
-      inr (inl (omega (arith, two), omega (arith, two)))
-  range_is (Some x) e w h = range_of (contents x.scenario) (contents x.report) x.place old new e h
-
-  pub nothing_is : (a : Option Asked) (e : AuditEnding) → AllEnds a e → (a ≡ None → new ≡ old) → status_of e ≢ 0 → status_of e ≢ 5 → new ≡ old
-  nothing_is None e h alone z f = alone refl
-  nothing_is (Some x) e h alone z f = (leaves_is (contents x.scenario) (contents x.report) x.place old new e h).nothing z f
-
-  pub complete_is : (b c : Counts) (a : Option Asked) (e : AuditEnding) → AllEnds a e → Raises b c e →
-      IfSome a (λ (x : Asked). HoldsScenario (contents x.scenario) → NoneRose b c → (status_of e ≡ 0) ⊎ ((8 ≤ status_of e) × (status_of e ≤ 10)))
-  complete_is b c None e h r = tt
-  complete_is b c (Some x) e h r = λ can none. complete_of (contents x.scenario) (contents x.report) x.place old new b c e h r can none

@@ -1,6 +1,6 @@
 -- The text of an answer, or why there is none, from the parts of the call; and the counts of faults.
-use Rattle.std.proofs.Common.{◌≡◌, ◌≢◌, ◌⊎◌, inl, inr, refl, sym, ap, ◌∙◌, arith, ℕ, ◌<◌, ◌≤◌, List, length, take, reverse, Option, Some, None}
-use Rattle.std.specs.Prelude.{IsErrAnd, IfErr, Result, Ok, Err, String, string_bytes}
+use Rattle.std.proofs.Common.{◌≡◌, refl, sym, ap, ◌∙◌, subst, ℕ, ◌<◌, ◌≤◌, List, length, Option, Some, None}
+use Rattle.std.specs.Prelude.{IsErrAnd, Result, Ok, Err, String, string_bytes}
 use Rattle.std.specs.declared.alloc.Global.{Global}
 use Rattle.sv_scenario.specs.declared.scenario.Scenario.{Scenario}
 use Rattle.sv_scenario.specs.Limits.{IsGoodScenario}
@@ -169,3 +169,9 @@ answer_calm scenario played place (Err (endings.Plain plain.Link)) h = absurd h
 answer_calm scenario played place (Err (endings.Plain plain.Start)) h = absurd h
 answer_calm scenario played place (Err endings.Report) h = absurd h
 answer_calm scenario played place (Err (endings.Wrong line)) h = absurd h
+
+-- ---- One part after another
+
+-- The first part raised no count.
+pub then_raises : (a b c : Counts) (e : AuditEnding) → b ≡ a → Raises b c e → Raises a c e
+then_raises a b c e same h = subst (λ (k : Counts). Raises k c e) same h

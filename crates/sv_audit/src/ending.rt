@@ -1,5 +1,6 @@
 //! How a call ends.
-ghost use Rattle.std.specs.Prelude.{◌≡◌};
+ghost use Rattle.std.specs.Prelude.{◌≡◌, ◌++◌, codes};
+ghost use Rattle.std.specs.Fmt.{decimal};
 ghost use Rattle.std.specs.Option.{option_copied, option_map};
 ghost use Rattle.sv_bytes.specs.Writing.{Told};
 ghost use Rattle.sv_command.specs.Statuses.{file_line};
@@ -57,14 +58,18 @@ fn tell_file<E: Sink>(name: &str, err: &mut E)
     write_pieces(err, &[b"file: ", name.as_bytes(), b"\n"]);
 }
 
+/// Writes a line that ends with a number.
+fn tell_number<E: Sink>(words: &[u8], number: u32, err: &mut E)
+    ensures { Told (E.taken err.old) (E.taken err.new) (E.faults err.old) (E.faults err.new) (words.now ++ decimal number ++ codes "\n") }
+{
+    let mut buffer = Buffer::new();
+    write_pieces(err, &[words, buffer.format(number).as_bytes(), b"\n"]);
+}
+
 fn tell_wrong<E: Sink>(line: u32, err: &mut E)
     ensures { Told (E.taken err.old) (E.taken err.new) (E.faults err.old) (E.faults err.new) (wrong_line line) }
 {
-    let mut buffer = Buffer::new();
-    write_pieces(
-        err,
-        &[b"wrong line ", buffer.format(line).as_bytes(), b"\n"],
-    );
+    tell_number(b"wrong line ", line, err)
 }
 
 /// Writes the line that tells of an ending. It takes no memory.

@@ -33,9 +33,9 @@ pub(crate) fn scenario_of(alloc: Global, bytes: &[u8]) -> Result<Scenario, Audit
 {
     match read_scenario(alloc, bytes) {
         Ok(scenario) => Ok(scenario),
-        Err(ReadFault::Scenario(fault)) => Err(AuditEnding::Plain(Ending::Scenario(
-            line_of_fault(alloc, &fault)?,
-        ))),
+        Err(ReadFault::Scenario(fault)) => Err(AuditEnding::Plain(Ending::Scenario(line_of_fault(
+            alloc, &fault,
+        )?))),
         Err(ReadFault::Memory) => Err(AuditEnding::Plain(Ending::Memory)),
     }
 }

@@ -46,11 +46,7 @@ fn scenario_bytes<F: Files>(
     }
 }
 
-fn report_bytes<F: Files>(
-    alloc: Global,
-    file: &str,
-    files: &mut F,
-) -> Result<Vec<u8>, AuditEnding>
+fn report_bytes<F: Files>(alloc: Global, file: &str, files: &mut F) -> Result<Vec<u8>, AuditEnding>
     ensures front { IfOk result (λ bytes. IsReportFront (F.contents files.old file.now) bytes.items) }
     ensures bound { IfOk result (λ bytes. length bytes.items ≤ 67108865) }
     ensures unread { IfErr result IsUnread }

@@ -25,11 +25,7 @@ fn append_reason(journal: &Journal, pos: u32, out: &mut String) -> Result<(), Al
     out.push_str("\n")
 }
 
-fn append_reasons(
-    journal: &Journal,
-    positions: &[u32],
-    out: &mut String,
-) -> Result<(), AllocError>
+fn append_reasons(journal: &Journal, positions: &[u32], out: &mut String) -> Result<(), AllocError>
     requires { All (λ p. (1 ≤ p) × (p ≤ length (accepted (reverse journal.now.entries)))) positions.now }
     ensures { OnOk result (string_bytes out.new ≡ string_bytes out.old ++ flat_map (reason_line (accepted (reverse journal.now.entries))) positions.now) }
 {

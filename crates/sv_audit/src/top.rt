@@ -17,11 +17,7 @@ use sv_bytes::{Files, Sink, write_all};
 use sv_command::Ending;
 
 /// The text that answers what is asked. It is whole before any of it is printed.
-fn text_for<F: Files>(
-    alloc: Global,
-    audit: Audit<'_>,
-    files: &mut F,
-) -> Result<String, AuditEnding>
+fn text_for<F: Files>(alloc: Global, audit: Audit<'_>, files: &mut F) -> Result<String, AuditEnding>
     ensures made { IsMade (F.contents files.old audit.entry.scenario.now) (F.contents files.old audit.entry.report.now) (asked_by audit.entry).place result }
     ensures raises { (k : ℕ) → Raises (counts (F.faults files.old) 0 0 k) (counts (F.faults files.new) 0 0 k) (ending_of result) }
     ensures sure_scenario { F.sure files.old audit.entry.scenario.now → result ≢ Err (endings.Plain plain.File) }

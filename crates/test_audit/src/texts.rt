@@ -29,5 +29,4 @@ pub const CONFLICT_WHY: &str =
     "1 c0.1 reads 0 writes 0 { set @0.0 (@0.0 * 2); }\n2 c1.1 reads 0 writes 0 { set @0.0 (@0.0 + 1); }\nvalue 0=(21)\n";
 
 /// Why object 1 of the third scenario has its value at position 3.
-pub const LOOKS_WHY: &str =
-    "3 c0.3 reads 1 writes 1 { set @1.0 (@1.0 + 1); }\nvalue 1=(21)\n";
+pub const LOOKS_WHY: &str = "3 c0.3 reads 1 writes 1 { set @1.0 (@1.0 + 1); }\nvalue 1=(21)\n";

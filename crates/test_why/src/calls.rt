@@ -24,12 +24,7 @@ fn told_of(
 }
 
 /// What is told of the run, none where it has no such position.
-fn told(
-    alloc: Global,
-    scenario: &str,
-    object: u16,
-    pos: u32,
-) -> Result<Option<Why>, AllocError> {
+fn told(alloc: Global, scenario: &str, object: u16, pos: u32) -> Result<Option<Why>, AllocError> {
     match read_scenario(alloc, scenario.as_bytes()) {
         Ok(scenario) => told_of(alloc, &scenario, object, pos),
         Err(ReadFault::Memory) => Err(AllocError),
