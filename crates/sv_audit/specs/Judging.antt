@@ -11,7 +11,7 @@ use Rattle.sv_scenario.specs.Scenarios.{scenario_of}
 use Rattle.sv_command.specs.declared.ending.Ending.TheVariants as plain
 use Rattle.sv_command.specs.Reading.{IsRead, IsFront}
 use Rattle.sv_check.specs.Consistent.{IsReportOf}
-use Rattle.sv_check.specs.Verdicts.{IsVerdict}
+use Rattle.sv_check.specs.Yes.{IsRightYes}
 use Rattle.sv_check.specs.declared.verdict.Verdict.TheVariants as verdicts
 use Rattle.sv_why.specs.Reasons.{Explains}
 use Rattle.sv_audit.specs.declared.ending.AuditEnding.{AuditEnding}
@@ -48,9 +48,10 @@ pub record IsApproved (held told : Option (List ℕ)) (scenario : Scenario) (pla
   pub short : length bytes ≤ report_size
   pub report : IsReportOf scenario bytes played
 
--- The bytes are no report of the scenario: there are too many, which is told as line 0, or this is their first wrong line.
+-- The bytes were not taken as a report of the scenario: there are too many, which is told as line 0, or `check` answered this line; what it
+-- promises of the line stands in its own contract.
 abbrev pub IsWrongIn : Scenario → List ℕ → ℕ → Type 0
-IsWrongIn scenario bytes line = ((report_size < length bytes) × (line ≡ 0)) ⊎ ((length bytes ≤ report_size) × IsVerdict scenario bytes (verdicts.No line))
+IsWrongIn scenario bytes line = ((report_size < length bytes) × (line ≡ 0)) ⊎ ((length bytes ≤ report_size) × IsRightYes scenario bytes (verdicts.No line))
 
 -- The report is none of the scenario, and this is the line that is told.
 pub record IsWrong (held told : Option (List ℕ)) (line : ℕ) : Type 0 where

@@ -69,21 +69,21 @@ pub record IsTraceSoFar (scenario : Scenario) (h : List Entry) (plan : Plan) (L 
   pub got_is : (s : ℕ) → has_session L s ≡ true → IsFront (got (reverse L.events) s) (replies_in (accepted h) h s)
 
 -- A trace is right to its end: it follows the script to the end, and each of its sessions fits the journal.
-pub record IsWholeTrace (scenario : Scenario) (h : List Entry) (plan : Plan) (L : Trace) : Type 0 where
-  pub proper : Proper scenario.world.shape L
-  pub follows : FollowsToEnd scenario.world.shape plan.steps L
+pub record IsWholeTrace (shape : Shape) (h : List Entry) (plan : Plan) (L : Trace) : Type 0 where
+  pub proper : Proper shape L
+  pub follows : FollowsToEnd shape plan.steps L
   pub fits : (s : ℕ) → has_session L s ≡ true → FitsIn h L s
 
 -- The traces of the first clients, whose plans these are, whole.
-pub record AreFirstTraces (scenario : Scenario) (h : List Entry) (plans : List Plan) (Ls : List Trace) : Type 0 where
+pub record AreFirstTraces (shape : Shape) (h : List Entry) (plans : List Plan) (Ls : List Trace) : Type 0 where
   pub clients : AreTracesOf 0 0 plans Ls
-  pub whole : EachTrace (IsWholeTrace scenario h) plans Ls
+  pub whole : EachTrace (IsWholeTrace shape h) plans Ls
 
--- A trace of the next client, after clients with these plans.
-pub record IsOfNext (plans : List Plan) (plan : Plan) (L : Trace) : Type 0 where
-  pub client : L.client ≡ record { 0 = length plans }
+-- The trace is of the client with this number and plan, whose first session has this number.
+pub record IsOf (number first : ℕ) (plan : Plan) (L : Trace) : Type 0 where
+  pub client : L.client ≡ record { 0 = number }
   pub interest : L.interest ≡ plan.interest
-  pub first : L.first ≡ sessions_in plans
+  pub first_is : L.first ≡ first
 
 -- The whole journal, whole traces of some first clients, and the first lines of the next client's part.
 pub record IsClientPart (scenario : Scenario) (text : List ℕ) : Type 0 where
@@ -94,9 +94,9 @@ pub record IsClientPart (scenario : Scenario) (text : List ℕ) : Type 0 where
   pub after : List Plan
   pub plans : scenario.clients ≡ before ++ plan ∷ after
   pub Ls : List Trace
-  pub done : AreFirstTraces scenario h before Ls
+  pub done : AreFirstTraces scenario.world.shape h before Ls
   pub L : Trace
-  pub next : IsOfNext before plan L
+  pub next : IsOf (length before) (sessions_in before) plan L
   pub so_far : IsTraceSoFar scenario h plan L
   pub text_is : text ≡ journal_text scenario.world.shape (reverse h) ++ flat_map (trace_text (reverse h)) Ls ++ trace_text (reverse h) L
 
@@ -107,7 +107,7 @@ pub record IsWorldPart (scenario : Scenario) (text : List ℕ) : Type 0 where
   pub h : List Entry
   pub journal : IsWholeJournal scenario h
   pub Ls : List Trace
-  pub traces : AreFirstTraces scenario h scenario.clients Ls
+  pub traces : AreFirstTraces scenario.world.shape h scenario.clients Ls
   pub count : ℕ
   pub within : count ≤ scenario.world.shape.objects
   pub text_is : text ≡ journal_text scenario.world.shape (reverse h) ++ flat_map (trace_text (reverse h)) Ls

@@ -1,8 +1,13 @@
 //! The checker of reports: whether a text is the report of a consistent run of a scenario.
 #![tactic(auto)]
 
-mod check;
+mod actor;
+mod checking;
+mod clients;
+mod journal;
+mod moves;
+mod settled;
 mod verdict;
 
-pub use check::check;
+pub use checking::check;
 pub use verdict::Verdict;

@@ -63,7 +63,7 @@ fn append_text(
 }
 
 /// Appends the line of the event.
-pub(crate) fn append_event(
+pub fn append_event(
     alloc: Global,
     client: &Client,
     number: usize,

@@ -7,7 +7,7 @@ use sv_journal::append_value;
 use sv_world::Value;
 
 /// Appends the commit, and the values of all objects, each on a line, as `0=(5)`.
-pub(crate) fn append_world(
+pub fn append_world(
     commit: u32,
     values: &[Value],
     out: &mut String,
