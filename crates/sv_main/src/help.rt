@@ -25,6 +25,10 @@ actions need, and keeps the one world that comes out.
                                  dimboetu play examples/trade.json --watch
   dimboetu looks FILE            runs a scenario as replay does, and prints what its looks at several objects saw
                                  dimboetu looks examples/looks.json
+  dimboetu check FILE REPORT     tells whether a report is that of a consistent run of the scenario, or its first wrong line
+                                 dimboetu check examples/conflict.json report
+  dimboetu why FILE REPORT K P   prints the actions of such a report that object K's value at position P comes from
+                                 dimboetu why examples/conflict.json report 0 2
   dimboetu load N                plays a made-up world of size N, 1 to 192, and prints counts and sums
                                  dimboetu load 4
   dimboetu serve FILE PORT       waits for the players of a world at a port of this machine, and serves them
@@ -34,10 +38,11 @@ actions need, and keeps the one world that comes out.
   dimboetu --help, --version     prints this, or the version
 
 A run ends with a status, and each but 0 with one line on standard error:
-  0 all was printed              5 standard output failed           10 join: there is no client K
-  2 the words are no command     6 a connection failed              11 join: the server sent a wrong reply
-  3 the file is no scenario      7 a thread could not be started    12 join: the server closed too early
-  4 a file can't be read         8 out of memory
+  0 all was printed              6 a connection failed              10 join: no client K; why: no such place
+  2 the words are no command     7 a thread could not be started    11 join: the server sent a wrong reply
+  3 the file is no scenario      8 out of memory                    12 join: the server closed too early
+  4 a file can't be read         9 check: a line is wrong
+  5 standard output failed
 
 Read on: README.md (what this is good for), docs/TUTORIAL.md (a first game), docs/ACTIONS.md (the language of
 actions), docs/ERRORS.md (what can go wrong, and what to do).
