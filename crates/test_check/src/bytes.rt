@@ -1,7 +1,7 @@
-//! Each report of the folder examples/, and the same with one byte changed, cut, or with lines doubled, dropped and moved.
+//! Each report of the folder examples/, and the same with one byte changed.
 ghost use Rattle.sv_scenario.specs.Limits.{IsGoodScenario};
 
-use crate::calls::{scenario_in, wrong_line};
+use crate::calls::{has_line, scenario_in, wrong_line};
 use crate::examples::*;
 use std::alloc::{AllocError, Global};
 use std::process::Abort;
@@ -9,7 +9,7 @@ use std::test::Fail;
 use sv_scenario::Scenario;
 
 /// Scenarios, with the reports of their replays.
-const REPORTS: [(&str, &str); 14] = [
+const REPORTS: [(&str, &str); 15] = [
     (FIRST, FIRST_REPORT),
     (EMPTY_SCRIPT, EMPTY_SCRIPT_REPORT),
     (CONFLICT, CONFLICT_REPORT),
@@ -24,7 +24,16 @@ const REPORTS: [(&str, &str); 14] = [
     (LOOKS, LOOKS_REPORT),
     (GREAT_TOTALS, GREAT_TOTALS_REPORT),
     (TWO_VIEWS, TWO_VIEWS_REPORT),
+    (EDGES, EDGES_REPORT),
 ];
+
+#[test]
+fn reports_are_right(rt: HostRuntime) -> Result<(), Fail> {
+    for (scenario, text) in REPORTS {
+        assert!(rt; has_line(rt.alloc(), scenario, text.as_bytes(), 0)?);
+    }
+    Ok(())
+}
 
 /// The number of the line in which a byte stands.
 fn line_at(text: &[u8], place: usize) -> u32 {
@@ -37,22 +46,18 @@ fn line_at(text: &[u8], place: usize) -> u32 {
     line
 }
 
-/// Whether a report is one, and with one byte changed, at so many places spread over it, is wrong in the line of that byte or a later one.
-fn is_kept(
+/// Whether a text with one byte changed, at each place that is a multiple of the step, is wrong in the line of that byte or a later one.
+fn is_wrong_changed(
     alloc: Global,
     scenario: &Scenario,
     text: &[u8],
-    places: usize,
+    step: usize,
 ) -> Result<bool, AllocError>
     requires good { IsGoodScenario scenario.now }
 {
-    if wrong_line(alloc, scenario, text)? != 0 {
-        return Ok(false);
-    }
-    let step = text.len() / places.max(1) + 1;
     let mut changed = Vec::from_slice(alloc, text)?;
     for place in 0..text.len() {
-        if place % step == 0 {
+        if place % step.max(1) == 0 {
             let byte = text[place];
             changed[place] = byte ^ 1;
             let line = wrong_line(alloc, scenario, changed.as_slice())?;
@@ -65,12 +70,18 @@ fn is_kept(
     Ok(true)
 }
 
-fn are_kept(alloc: Global, scenario: &str, text: &str) -> Result<bool, AllocError> {
+/// The same at so many places at least, spread over the report of a scenario.
+fn are_wrong_changed(
+    alloc: Global,
+    scenario: &str,
+    text: &str,
+    places: usize,
+) -> Result<bool, AllocError> {
     match scenario_in(alloc, scenario)? {
         None => Ok(false),
         Some(scenario) => {
-            let places = if text.len() > 10000 { 20 } else { 200 };
-            let is_so = is_kept(alloc, &scenario, text.as_bytes(), places)?;
+            let step = text.len() / places.max(1);
+            let is_so = is_wrong_changed(alloc, &scenario, text.as_bytes(), step)?;
             drop(scenario);
             Ok(is_so)
         }
@@ -78,9 +89,91 @@ fn are_kept(alloc: Global, scenario: &str, text: &str) -> Result<bool, AllocErro
 }
 
 #[test]
-fn reports_are_right_and_changed_ones_wrong(rt: HostRuntime) -> Result<(), Fail> {
-    for (scenario, text) in REPORTS {
-        assert!(rt; are_kept(rt.alloc(), scenario, text)?);
-    }
+fn first_with_a_byte_changed_is_wrong(rt: HostRuntime) -> Result<(), Fail> {
+    assert!(rt; are_wrong_changed(rt.alloc(), FIRST, FIRST_REPORT, 200)?);
+    Ok(())
+}
+
+#[test]
+fn empty_script_with_a_byte_changed_is_wrong(rt: HostRuntime) -> Result<(), Fail> {
+    assert!(rt; are_wrong_changed(rt.alloc(), EMPTY_SCRIPT, EMPTY_SCRIPT_REPORT, 200)?);
+    Ok(())
+}
+
+#[test]
+fn conflict_with_a_byte_changed_is_wrong(rt: HostRuntime) -> Result<(), Fail> {
+    assert!(rt; are_wrong_changed(rt.alloc(), CONFLICT, CONFLICT_REPORT, 200)?);
+    Ok(())
+}
+
+#[test]
+fn trade_with_a_byte_changed_is_wrong(rt: HostRuntime) -> Result<(), Fail> {
+    assert!(rt; are_wrong_changed(rt.alloc(), TRADE, TRADE_REPORT, 200)?);
+    Ok(())
+}
+
+#[test]
+fn unknown_view_with_a_byte_changed_is_wrong(rt: HostRuntime) -> Result<(), Fail> {
+    assert!(rt; are_wrong_changed(rt.alloc(), UNKNOWN_VIEW, UNKNOWN_VIEW_REPORT, 200)?);
+    Ok(())
+}
+
+#[test]
+fn sixteen_reads_with_a_byte_changed_is_wrong(rt: HostRuntime) -> Result<(), Fail> {
+    assert!(rt; are_wrong_changed(rt.alloc(), SIXTEEN_READS, SIXTEEN_READS_REPORT, 200)?);
+    Ok(())
+}
+
+#[test]
+fn bound_with_a_byte_changed_is_wrong(rt: HostRuntime) -> Result<(), Fail> {
+    assert!(rt; are_wrong_changed(rt.alloc(), BOUND, BOUND_REPORT, 200)?);
+    Ok(())
+}
+
+#[test]
+fn reach_with_a_byte_changed_is_wrong(rt: HostRuntime) -> Result<(), Fail> {
+    assert!(rt; are_wrong_changed(rt.alloc(), REACH, REACH_REPORT, 200)?);
+    Ok(())
+}
+
+#[test]
+fn retry_with_a_byte_changed_is_wrong(rt: HostRuntime) -> Result<(), Fail> {
+    assert!(rt; are_wrong_changed(rt.alloc(), RETRY, RETRY_REPORT, 200)?);
+    Ok(())
+}
+
+#[test]
+fn orphan_with_a_byte_changed_is_wrong(rt: HostRuntime) -> Result<(), Fail> {
+    assert!(rt; are_wrong_changed(rt.alloc(), ORPHAN, ORPHAN_REPORT, 200)?);
+    Ok(())
+}
+
+#[test]
+fn marketplace_with_a_byte_changed_is_wrong(rt: HostRuntime) -> Result<(), Fail> {
+    assert!(rt; are_wrong_changed(rt.alloc(), MARKETPLACE, MARKETPLACE_REPORT, 20)?);
+    Ok(())
+}
+
+#[test]
+fn looks_with_a_byte_changed_is_wrong(rt: HostRuntime) -> Result<(), Fail> {
+    assert!(rt; are_wrong_changed(rt.alloc(), LOOKS, LOOKS_REPORT, 200)?);
+    Ok(())
+}
+
+#[test]
+fn great_totals_with_a_byte_changed_is_wrong(rt: HostRuntime) -> Result<(), Fail> {
+    assert!(rt; are_wrong_changed(rt.alloc(), GREAT_TOTALS, GREAT_TOTALS_REPORT, 200)?);
+    Ok(())
+}
+
+#[test]
+fn two_views_with_a_byte_changed_is_wrong(rt: HostRuntime) -> Result<(), Fail> {
+    assert!(rt; are_wrong_changed(rt.alloc(), TWO_VIEWS, TWO_VIEWS_REPORT, 200)?);
+    Ok(())
+}
+
+#[test]
+fn edges_with_a_byte_changed_is_wrong(rt: HostRuntime) -> Result<(), Fail> {
+    assert!(rt; are_wrong_changed(rt.alloc(), EDGES, EDGES_REPORT, 40)?);
     Ok(())
 }
