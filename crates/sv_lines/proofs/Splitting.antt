@@ -35,10 +35,10 @@ decimal_passes p q n small = digits_pass p q (decimal n) (decimal_digits n small
 abbrev pub Ends : (ℕ → Bool) → List ℕ → Type 0
 Ends p rest = p (get_or rest 0 0) ≡ false
 
-first_is : (c d : ℕ) (s t : List ℕ) → c ∷ s ≡ d ∷ t → c ≡ d
+pub first_is : (c d : ℕ) (s t : List ℕ) → c ∷ s ≡ d ∷ t → c ≡ d
 first_is c d s t e = ap (λ (l : List ℕ). get_or l 0 0) e
 
-others_are : (c d : ℕ) (s t : List ℕ) → c ∷ s ≡ d ∷ t → s ≡ t
+pub others_are : (c d : ℕ) (s t : List ℕ) → c ∷ s ≡ d ∷ t → s ≡ t
 others_are c d s t e = cc
 
 not_begun : (p : ℕ → Bool) (c : ℕ) (s x : List ℕ) → p c ≡ true → Ends p x → x ≡ c ∷ s → ⊥
@@ -79,7 +79,7 @@ Anything rest = Unit {0}
 
 module _ {A : Type 0} (P : A → Type 0) (text : A → List ℕ) (Stop : List ℕ → Type 0) (tells : Tells P text Stop) (byte close : ℕ) (differ : byte ≡ close → ⊥)
     (next : (l : List ℕ) → Stop (byte ∷ l)) (last : (l : List ℕ) → Stop (close ∷ l)) where
-  abbrev behind : List A → List ℕ
+  abbrev pub behind : List A → List ℕ
   behind xs = flat_map (λ e. byte ∷ text e) xs
 
   behind_stops : (xs : List A) (x : List ℕ) → Stop (behind xs ++ close ∷ x)
