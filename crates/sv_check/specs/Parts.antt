@@ -1,13 +1,9 @@
 -- Parts of reports: as much of one as some first lines can tell, with nothing wrong so far.
 -- A history is the list of a journal's entries with the latest first; the events of a trace stand in order.
-use Rattle.std.specs.Prelude.{◌≡◌, ◌⊎◌, ℕ, ◌+◌, ◌^◌, ◌<◌, ◌≤◌, true, false, List, [], ◌∷◌, ◌++◌, length, reverse, take, None, codes}
+use Rattle.std.specs.Prelude.{◌≡◌, ◌⊎◌, ℕ, ◌+◌, ◌^◌, ◌<◌, ◌≤◌, true, false, List, [], ◌∷◌, ◌++◌, length, reverse, take, codes}
 use Rattle.std.specs.List.{flat_map}
 use Rattle.std.specs.Fmt.{decimal}
 use Rattle.sv_world.specs.declared.world.Shape.{Shape}
-use Rattle.sv_world.specs.Faults.{first_fault_of_action}
-use Rattle.sv_wire.specs.Ranges.{RequestFits}
-use Rattle.sv_wire.specs.declared.message.Request.{Request}
-use Rattle.sv_wire.specs.declared.message.Request.TheVariants as requests
 use Rattle.sv_journal.specs.declared.entry.Entry.{Entry}
 use Rattle.sv_journal.specs.History.{accepted, commit_of, committed_of}
 use Rattle.sv_journal.specs.Sessions.{is_end}
@@ -23,16 +19,10 @@ use Rattle.sv_script.specs.Following.{Follows, FollowsToEnd}
 use Rattle.sv_system.specs.Fits.{replies_in, is_ended, has_session, FitsIn}
 use Rattle.sv_system.specs.Fronts.{IsFront}
 use Rattle.sv_system.specs.Records.{rules_of, ends_in, AreTracesOf, EachTrace}
+use Rattle.sv_lines.specs.Told.{IsTold}
 use Rattle.sv_report.specs.Report.{trace_text, report_text, value_lines}
 
 -- ---- The journal
-
--- A request that the line of an entry may have: its numbers are those of their types, and it is neither a malformed payload nor an action that
--- is refused in the shape, whose texts do not tell what they were.
-abbrev pub IsTold : Shape → Request → Type 0
-IsTold shape (requests.Submit seq action) = RequestFits (requests.Submit seq action) × (first_fault_of_action shape action ≡ None)
-IsTold shape requests.Bad = ⊥
-IsTold shape request = RequestFits request
 
 -- The entry may come after the entries h: it is of a session of the scenario, has a request that can be told, is no second End of its session,
 -- and the reply is the one that the entries before it give.
