@@ -290,7 +290,8 @@ def error_texts():
     found = set()
     for crate in sorted(os.listdir(os.path.join(TOP, "crates"))):
         source = os.path.join(TOP, "crates", crate, "src")
-        if not crate.startswith("sv_") or not os.path.isdir(source):
+        # `sv_check` has the beginnings of lines that it reads.
+        if not crate.startswith("sv_") or crate == "sv_check" or not os.path.isdir(source):
             continue
         for name in sorted(os.listdir(source)):
             with open(os.path.join(source, name), encoding="utf-8") as file:

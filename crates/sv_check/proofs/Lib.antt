@@ -6,3 +6,4 @@ pub mod Gathering
 pub mod Whole
 pub mod Moving
 pub mod Reporting
+pub mod Entries

@@ -1,9 +1,9 @@
 -- The canonical text of an action ends no line, and has no arrow.
-use Rattle.std.proofs.Common.{◌≡◌, ℕ, zero, suc, ◌+◌, ◌/◌, ◌%◌, ◌^◌, ◌<◌, ◌≤◌, eqb, Bool, true, false, ◌&&◌, not, cond, ℤ, pos, negsuc, int_le, List, [], ◌∷◌, ◌++◌, length, map, get_or, refl, sym, ap, subst, ◌∙◌, arith, true≢false, decimal, append_assoc}
+use Rattle.std.proofs.Common.{◌≡◌, ℕ, zero, suc, ◌/◌, ◌%◌, ◌^◌, ◌<◌, eqb, Bool, true, false, ◌&&◌, not, cond, ℤ, pos, negsuc, int_le, List, [], ◌∷◌, ◌++◌, map, refl, sym, subst, ◌∙◌, arith, decimal}
 use Rattle.std.specs.Prelude.{codes}
 use Rattle.std.specs.Fmt.{signed_decimal}
 use Rattle.std.specs.Char.{is_ascii_digit}
-use Rattle.std.specs.List.{AllByRecursion, flat_map}
+use Rattle.std.specs.List.{AllByRecursion}
 use Rattle.std.proofs.lemmas.Bool.{and_parts, leb-true, ltb-true}
 use Rattle.std.proofs.lemmas.Bool.Decides.{nat_tests}
 use Rattle.sv_world.specs.declared.world.ObjectId.{ObjectId}
@@ -32,10 +32,10 @@ use Rattle.sv_text.specs.declared.parts.Comparison.TheVariants as comparisons
 use Rattle.sv_text.specs.declared.parts.Joint.{Joint}
 use Rattle.sv_text.specs.declared.parts.Joint.TheVariants as joints
 use Rattle.sv_text.specs.Reading.{with_op, with_comparison, with_joint}
-use Rattle.sv_text.specs.Canonical.{object_in, ref_text, between, expr_text, cond_text, spaced, block_text, else_text, set_text, stmt_text, object_text, objects_text, written, is_zero, origin_text, body_text, canonical}
+use Rattle.sv_text.specs.Canonical.{object_in, ref_text, between, expr_text, cond_text, spaced, block_text, else_text, stmt_text, object_text, objects_text, written, is_zero, origin_text, body_text, canonical}
 use Rattle.sv_text.specs.Printable.{is_i64, expr_fits, cond_fits, stmt_fits, body_fits, ObjectFits, IsPrintable}
 use Rattle.sv_text.proofs.Layers.{op_text, pair_text_is, pair_fits, lit_text, lit_fits, attr_text, attr_fits, comparison_text, joint_text, test_text_is, test_fits, joint_text_is, joint_fits, not_text, not_fits, set_text_is, set_fits, if_text, if_fits}
-use Rattle.sv_lines.proofs.Splitting.{all_pass, both_pass, pass_append, decimal_passes, Ends, class_split}
+use Rattle.sv_lines.proofs.Splitting.{all_pass, pass_append, decimal_passes}
 
 -- A byte that is no line end, and no `>`.
 abbrev pub is_plain : ℕ → Bool

@@ -1,8 +1,6 @@
 -- A request's text, before the arrow and the reply, tells the request.
-use Rattle.std.proofs.Common.{◌≡◌, ℕ, ◌+◌, ◌^◌, ◌<◌, Bool, true, false, List, [], ◌∷◌, ◌++◌, get_or, None, refl, sym, ap, subst, ◌∙◌, arith, decimal, append_assoc}
-use Rattle.std.specs.Prelude.{codes, is_none, if◌then◌else◌}
-use Rattle.std.specs.List.{AllByRecursion}
-use Rattle.std.specs.Char.{is_ascii_digit}
+use Rattle.std.proofs.Common.{◌≡◌, ℕ, List, [], ◌∷◌, ◌++◌, get_or, None, refl, sym, ap, ◌∙◌, arith, decimal, append_assoc}
+use Rattle.std.specs.Prelude.{codes}
 use Rattle.std.proofs.lemmas.List.{append_cancel_left, append_cancel_right}
 use Rattle.sv_world.specs.declared.world.Shape.{Shape}
 use Rattle.sv_world.specs.declared.world.ObjectId.{ObjectId}
@@ -17,7 +15,7 @@ use Rattle.sv_text.proofs.StandingAction.{canonical_injective}
 use Rattle.sv_journal.specs.Pieces.{bracketed, objects_text, result_text}
 use Rattle.sv_journal.specs.Text.{action_text, request_text}
 use Rattle.sv_lines.specs.Told.{IsTold}
-use Rattle.sv_lines.proofs.Splitting.{first_is, others_are, class_split, number_split}
+use Rattle.sv_lines.proofs.Splitting.{others_are, class_split, number_split}
 use Rattle.sv_lines.proofs.Telling.{objects_tell, results_tell}
 use Rattle.sv_lines.proofs.Plain.{is_plain, IsPlain, then_plain, plain_action}
 use Rattle.sv_lines.proofs.Printable.{printable}
@@ -77,7 +75,7 @@ before_arrow s x = sym (append_assoc s (32 ∷ 45 ∷ []) (62 ∷ 32 ∷ x))
 pub plain_texts_split : (s t x y : List ℕ) → IsPlain s → IsPlain t → s ++ arrow x ≡ t ++ arrow y → (s ≡ t) × (x ≡ y)
 plain_texts_split s t x y f g e =
     let parts = class_split is_plain (s ++ (32 ∷ 45 ∷ [])) (t ++ (32 ∷ 45 ∷ [])) (62 ∷ 32 ∷ x) (62 ∷ 32 ∷ y) (then_plain s (32 ∷ 45 ∷ []) f refl) (then_plain t (32 ∷ 45 ∷ []) g refl) refl refl
-        (sym (before_arrow s x) ∙ e ∙ before_arrow t y) in
+    (sym (before_arrow s x) ∙ e ∙ before_arrow t y) in
     (append_cancel_right s t (32 ∷ 45 ∷ []) parts.0, append_cancel_left (62 ∷ 32 ∷ []) x y parts.1)
 
 submits_tell : (shape : Shape) (seq seq2 : ℕ) (a b : Action) (x y : List ℕ) → IsTold shape (requests.Submit seq a) → IsTold shape (requests.Submit seq2 b) →
@@ -98,7 +96,7 @@ dones_tell : (shape : Shape) (ds es : List Done1) (x y : List ℕ) → IsTold sh
     request_text shape (requests.Done ds) ++ arrow x ≡ request_text shape (requests.Done es) ++ arrow y → (requests.Done ds ≡ requests.Done es) × (x ≡ y)
 dones_tell shape ds es x y p q e =
     let inner = append_cancel_left (codes "done ") (bracketed result_text ds ++ arrow x) (bracketed result_text es ++ arrow y)
-        (sym (append_assoc (codes "done ") (bracketed result_text ds) (arrow x)) ∙ e ∙ append_assoc (codes "done ") (bracketed result_text es) (arrow y)) in
+    (sym (append_assoc (codes "done ") (bracketed result_text ds) (arrow x)) ∙ e ∙ append_assoc (codes "done ") (bracketed result_text es) (arrow y)) in
     let one = results_tell ds es (arrow x) (arrow y) p q tt tt inner in
     (ap (λ (rs : List Done1). requests.Done rs) one.0, under_arrow x y one.1)
 

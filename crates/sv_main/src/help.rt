@@ -25,10 +25,12 @@ actions need, and keeps the one world that comes out.
                                  dimboetu play examples/trade.json --watch
   dimboetu looks FILE            runs a scenario as replay does, and prints what its looks at several objects saw
                                  dimboetu looks examples/looks.json
-  dimboetu check FILE REPORT     tells whether a report is that of a consistent run of the scenario, or its first wrong line
-                                 dimboetu check examples/conflict.json report
-  dimboetu why FILE REPORT K P   prints the actions of such a report that object K's value at position P comes from
-                                 dimboetu why examples/conflict.json report 0 2
+  dimboetu check SCENARIO REPORT
+                                 tells whether a report is that of a consistent run, or its first wrong line
+                                 dimboetu check examples/conflict.json examples/conflict.out
+  dimboetu why SCENARIO REPORT OBJECT POSITION
+                                 prints the actions of such a report that a value comes from, and the value
+                                 dimboetu why examples/conflict.json examples/conflict.out 0 2
   dimboetu load N                plays a made-up world of size N, 1 to 192, and prints counts and sums
                                  dimboetu load 4
   dimboetu serve FILE PORT       waits for the players of a world at a port of this machine, and serves them
