@@ -71,7 +71,7 @@ AreEntriesAfter scenario k [] = Unit {0}
 AreEntriesAfter scenario k (e ∷ es) = IsEntryAfter scenario k e × AreEntriesAfter scenario (e ∷ k) es
 
 turned_more : (e : Entry) (es k : List Entry) → reverse (e ∷ es) ++ k ≡ reverse es ++ (e ∷ k)
-turned_more e es k = append_assoc (reverse es) (e ∷ []) k
+turned_more e es k = ap (λ (l : List Entry). l ++ k) (reverse-append (e ∷ []) es) ∙ append_assoc (reverse es) (e ∷ []) k
 
 pub in_order : (scenario : Scenario) (es k : List Entry) → AreEntries scenario (reverse es ++ k) → AreEntries scenario k × AreEntriesAfter scenario k es
 in_order scenario [] k a = (a, tt)
@@ -91,7 +91,8 @@ names_of : LegalRelaysNameAccepted → (scenario : Scenario) (e : Entry) (k : Li
 names_of names scenario e k a =
     let P : Entry → Type 0 = λ (d : Entry). NamesAccepted (length (accepted (reverse (reverse (e ∷ k))))) d.reply in
     let all = recursion_from_All P (reverse (e ∷ k)) (names (rules_of scenario) (e ∷ k) (are_legal scenario (e ∷ k) a)) in
-    subst (λ (h : List Entry). NamesAccepted (length (accepted h)) e.reply) (reverse-reverse (e ∷ k)) (last_of P (reverse k) e all)
+    subst (λ (h : List Entry). NamesAccepted (length (accepted h)) e.reply) (reverse-reverse (e ∷ k))
+    (last_of P (reverse k) e (subst (AllByRecursion P) (reverse-append (e ∷ []) k) all))
 
 -- ---- The lines
 
