@@ -7,3 +7,4 @@ pub mod Whole
 pub mod Moving
 pub mod Reporting
 pub mod Entries
+pub mod Journals
