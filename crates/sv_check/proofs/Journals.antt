@@ -35,11 +35,12 @@ journal_rest : FullRepliesStay → LegalRelaysNameAccepted → (scenario : Scena
 journal_rest stay names scenario few es fs x y p q long same =
     let shape = scenario.world.shape in
     let goes = entries_tell stay names scenario few es fs [] 1 x y tt (after_none scenario es p) (after_none scenario fs q) (omega (arith, long))
-        (plain_lines shape es x ∙ same ∙ sym (plain_lines shape fs y)) in
+    (plain_lines shape es x ∙ same ∙ sym (plain_lines shape fs y)) in
     let counts : length fs ≡ length es + length goes.more = ap length goes.entries ∙ length-append es goes.more in
-    let none : goes.more ≡ [] = none_left goes.more (omega (arith, counts, long)) in
-    (sym (goes.entries ∙ ap (λ (m : List Entry). es ++ m) none ∙ append-nil es),
-    goes.text ∙ ap (λ (m : List Entry). entry_lines shape (accepted (reverse fs ++ [])) (1 + length es) m ++ y) none)
+    let none : goes.more ≡ [] = none_left goes.more (omega (arith, counts, long)) in (
+      sym (goes.entries ∙ ap (λ (m : List Entry). es ++ m) none ∙ append-nil es),
+      goes.text ∙ ap (λ (m : List Entry). entry_lines shape (accepted (reverse fs ++ [])) (1 + length es) m ++ y) none,
+    )
 
 pub journals_tell : FullRepliesStay → LegalRelaysNameAccepted → (scenario : Scenario) → session_count scenario ≤ 64 → (es fs : List Entry) (x y : List ℕ) →
     AreEntries scenario (reverse es) → AreEntries scenario (reverse fs) → length es < 2 ^ 64 → length fs < 2 ^ 64 →

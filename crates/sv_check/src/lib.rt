@@ -5,9 +5,11 @@ mod actor;
 mod checking;
 mod clients;
 mod journal;
+mod laws;
 mod moves;
 mod settled;
 mod verdict;
 
 pub use checking::check;
+pub use laws::journals_are_told;
 pub use verdict::Verdict;
