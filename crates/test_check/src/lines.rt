@@ -38,21 +38,22 @@ fn with_lines(
     number: usize,
     times: usize,
     after: usize,
-) -> Result<String, AllocError> {
-    let mut out = String::new(alloc);
-    let mut moved = "";
+) -> Result<Vec<u8>, AllocError> {
+    let mut out = Vec::new(alloc);
+    let mut moved: &[u8] = b"";
     for (at, line) in text.lines().enumerate() {
+        let line = line.as_bytes();
         if at == number {
             moved = line;
         }
         let count = if at == number { times } else { 1 };
         for _ in 0..count {
-            out.push_str(line)?;
-            out.push_str("\n")?;
+            out.extend_from_slice(line)?;
+            out.push(b'\n')?;
         }
         if at == after {
-            out.push_str(moved)?;
-            out.push_str("\n")?;
+            out.extend_from_slice(moved)?;
+            out.push(b'\n')?;
         }
     }
     Ok(out)
@@ -74,7 +75,7 @@ const MOVED: [(usize, usize, usize, u32); 9] = [
 fn are_moved_well(alloc: Global) -> Result<bool, AllocError> {
     for (number, times, after, line) in MOVED {
         let text = with_lines(alloc, FIRST_REPORT, number, times, after)?;
-        if !has_line(alloc, FIRST, text.as_bytes(), line)? {
+        if !has_line(alloc, FIRST, text.as_slice(), line)? {
             return Ok(false);
         }
     }
