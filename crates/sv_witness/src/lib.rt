@@ -12,7 +12,7 @@ mod words;
 
 pub use laws::{
     agreed_results_are_those_of_two_clients, clients_of_a_witness_are_never_refused,
-    one_lying_client_is_tolerated,
+    one_lying_client_is_tolerated, witnessed_examples_hold,
 };
 pub use report::{Dispute, Report};
 pub use top::run_witness;
