@@ -2,7 +2,8 @@
 ghost use Rattle.std.specs.Prelude.{◌≡◌, ◌≤◌, ℕ, ℤ, List, All, length, reverse, slice_get, None, Some};
 ghost use Rattle.sv_wire.specs.declared.message.Reply.{Reply};
 ghost use Rattle.sv_journal.specs.declared.entry.Entry.{Entry};
-ghost use Rattle.sv_journal.specs.History.{accepted, result_at};
+ghost use Rattle.sv_journal.specs.History.{client_of, outcomes_of, accepted, result_at};
+ghost use Rattle.sv_journal.specs.Sessions.{sent_to};
 ghost use Rattle.sv_journal.specs.Answer.{Rules};
 ghost use Rattle.sv_client.specs.declared.trace.Trace.{Trace};
 ghost use Rattle.sv_client.specs.Traces.{current_session, requests_of, got};
@@ -14,11 +15,18 @@ ghost use Rattle.sv_witness.specs.Witnessed.{IsWitnessed};
 ghost use Rattle.sv_witness.specs.Tolerance.{FitsBut, IsTolerated, IsLiar};
 ghost use Rattle.sv_witness.specs.Examples.{ExamplesAreWitnessed};
 
-/// The history of what was agreed says what it should: in it a position has just the result that two clients' reports agree on, and just the
-/// same actions are accepted.
+/// The history of what was agreed says what it should: in it a position has just the result that two clients' reports agree on.
 pub fn agreed_results_are_those_of_two_clients()
     ensures results { (r : Rules) (h : List Entry) (p : ℕ) → IsWitnessed r h → result_at (agreed_history h) p ≡ agreed_result h p }
+{}
+
+/// The history of what was agreed is that of the same sessions: it has the same accepted actions, the same outcomes of each client, and each
+/// session has the same client and was sent the same positions.
+pub fn agreed_histories_are_alike()
     ensures accepted { (h : List Entry) → accepted (agreed_history h) ≡ accepted h }
+    ensures outcomes { (h : List Entry) (k : ℕ) → outcomes_of (agreed_history h) k ≡ outcomes_of h k }
+    ensures clients { (h : List Entry) (s : ℕ) → client_of (agreed_history h) s ≡ client_of h s }
+    ensures sent { (h : List Entry) (s : ℕ) → sent_to (agreed_history h) s ≡ sent_to h s }
 {}
 
 /// One lying client is tolerated: whatever one client reports, the committed world is the serial one, honest clients hold serial values alone,

@@ -40,7 +40,7 @@ pub fn run_witness<F: Files, K: Sink, E: Sink>(
         → NoneRose (counts (F.faults files.old) 0 0 (K.faults out.old)) (counts (F.faults files.new) 0 0 (K.faults out.new))
         → (result ≡ 0) ⊎ (result ≡ 8) ⊎ (result ≡ 10) }
 {
-    let _ = (alloc, files, out);
+    let _ = (alloc, &files, &out);
     let asked = witnessing_of(words);
     let ending = match asked {
         Some(_) => WitnessEnding::Plain(Ending::Memory),
