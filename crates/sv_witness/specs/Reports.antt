@@ -2,13 +2,12 @@
 -- A history is the list of a journal's entries with the latest first: `e ∷ h` is h, and then e. Reports stand with the latest first too.
 use Rattle.std.specs.Prelude.{ℕ, suc, Bool, true, false, ◌&&◌, ◌||◌, not, ◌==◌, nat_lt, ℤ, List, [], ◌∷◌, length, filter, Option, Some, None, is_some, is_none, if◌then◌else◌}
 use Rattle.std.specs.List.{list_any}
-use Rattle.sv_world.specs.Control.{is_in, below, action_at}
-use Rattle.sv_world.specs.Sets.{write_set}
+use Rattle.sv_world.specs.Control.{is_in, below}
 use Rattle.sv_wire.specs.declared.message.Done1.{Done1}
 use Rattle.sv_wire.specs.declared.message.Request.{Request}
 use Rattle.sv_wire.specs.declared.message.Request.TheVariants as requests
 use Rattle.sv_journal.specs.declared.entry.Entry.{Entry}
-use Rattle.sv_journal.specs.History.{either, is_noted, client_of, accepted, actions_of, reports, result_at, commit_of, committed_of}
+use Rattle.sv_journal.specs.History.{either, is_noted, client_of, accepted, reports, result_at, commit_of, committed_of}
 use Rattle.sv_journal.specs.Sessions.{sent_to}
 use Rattle.sv_client.specs.Same.{are_same_values}
 use Rattle.sv_witness.specs.declared.report.Report.{Report}
@@ -37,19 +36,19 @@ counted_in commit p e = if is_noted e.reply && nat_lt commit p then reports p e.
 
 -- ---- Agreement
 
--- The result that reports agree on: the values that two of them give, by the first report that repeats an earlier one's. Where one report is
--- enough, it is what the first one gives.
-abbrev pub agreed_values : Bool → List Report → Option (List (List ℤ))
-agreed_values alone [] = None
-agreed_values alone (r ∷ rs) = either (agreed_values alone rs) (if alone || list_any (gives r.values) rs then Some r.values else None)
+-- The values are none: the position's action writes nothing, so there is nothing to disagree on.
+abbrev pub is_nothing : List (List ℤ) → Bool
+is_nothing [] = true
+is_nothing (v ∷ vs) = false
 
--- One report is enough for an action that writes nothing: it has no values to disagree on.
-abbrev pub needs_one : List Entry → ℕ → Bool
-needs_one h p = length (write_set (action_at (actions_of h) p)) == 0
+-- The result that reports agree on: what the first report gives that repeats an earlier one, or that gives nothing.
+abbrev pub agreed_values : List Report → Option (List (List ℤ))
+agreed_values [] = None
+agreed_values (r ∷ rs) = either (agreed_values rs) (if is_nothing r.values || list_any (gives r.values) rs then Some r.values else None)
 
 -- The reports have no result yet, and have one once the client gives these values.
-abbrev pub brings_agreement : Bool → Option ℕ → Option (List (List ℤ)) → List Report → Bool
-brings_agreement alone client values rs = is_none (agreed_values alone rs) && is_some (agreed_values alone (with_report client values rs))
+abbrev pub brings_agreement : Option ℕ → Option (List (List ℤ)) → List Report → Bool
+brings_agreement client values rs = is_none (agreed_values rs) && is_some (agreed_values (with_report client values rs))
 
 -- A Done with those of its results alone that pass a test; any other request as it is.
 abbrev pub with_results : (Done1 → Bool) → Request → Request
@@ -67,13 +66,13 @@ abbrev mutual
   pub agreed_history : List Entry → List Entry
   agreed_history [] = []
   agreed_history (e ∷ h) = record e {
-    request = with_results (λ (d : Done1). brings_agreement (needs_one h d.pos) (client_of h e.session)
-        (counted_in (commit_of (agreed_history h)) d.pos e) (reports_of h d.pos)) e.request;
+    request = with_results (λ (d : Done1). brings_agreement (client_of h e.session) (counted_in (commit_of (agreed_history h)) d.pos e)
+        (reports_of h d.pos)) e.request;
   } ∷ agreed_history h
 
 -- The result of a position: what two clients' reports of it agree on. A law says that it is the result that the history of what was agreed has.
 abbrev pub agreed_result : List Entry → ℕ → Option (List (List ℤ))
-agreed_result h p = agreed_values (needs_one h p) (reports_of h p)
+agreed_result h p = agreed_values (reports_of h p)
 
 -- The greatest accepted position up to which all have results that are agreed, and the world there.
 abbrev pub agreed_commit : List Entry → ℕ

@@ -23,6 +23,11 @@ abbrev pub status_of : WitnessEnding → ℕ
 status_of (endings.Plain ending) = plain_status ending
 status_of endings.Range = 10
 
+-- what a part of a call ends with
+abbrev pub ending_of : {A : Type 0} → Result A WitnessEnding → WitnessEnding
+ending_of (Ok made) = endings.Plain plain.Done
+ending_of (Err ending) = ending
+
 -- The count of what the ending tells of rose, and no other.
 abbrev pub Raises : Counts → Counts → WitnessEnding → Type 0
 Raises before now (endings.Plain ending) = plain_raises before now ending
@@ -34,15 +39,19 @@ Raises before now endings.Range = now ≡ before
 abbrev pub IsWithin : ℕ → Option ℕ → Type 0
 IsWithin clients liar = IfSome liar (λ k. k < clients)
 
--- The text has the lines of the witnessed run that the schedule of the file's scenario gives.
-pub record IsText (asked : Asked) (held : Option (List ℕ)) (text : List ℕ) : Type 0 where
-  pub scenario : Scenario
+-- The text has the lines of the witnessed run that the scenario's schedule gives.
+pub record IsRunText (scenario : Scenario) (liar : Option ℕ) (text : List ℕ) : Type 0 where
   pub h : List Entry
   pub Ls : List Trace
+  pub run : IsWitnessedRun scenario liar h Ls
+  pub text_is : text ≡ witness_text scenario.world h
+
+-- It has those of the file's scenario, of which the liar is a client.
+pub record IsText (asked : Asked) (held : Option (List ℕ)) (text : List ℕ) : Type 0 where
+  pub scenario : Scenario
   pub read : IsRead held scenario
   pub within : IsWithin (length scenario.clients) asked.liar
-  pub run : IsWitnessedRun scenario asked.liar h Ls
-  pub text_is : text ≡ witness_text scenario.world h
+  pub run : IsRunText scenario asked.liar text
 
 -- The liar is none of so many clients.
 abbrev pub IsOver : ℕ → Option ℕ → Type 0

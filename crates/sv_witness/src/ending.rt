@@ -4,6 +4,7 @@ ghost use Rattle.std.specs.Option.{option_copied};
 ghost use Rattle.sv_bytes.specs.Writing.{Told};
 ghost use Rattle.sv_witness.specs.Statuses.{line_of, status_of};
 
+use std::alloc::AllocError;
 use sv_bytes::{Sink, write_all};
 use sv_command::Ending;
 
@@ -25,6 +26,18 @@ impl From<Ending> for WitnessEnding {
 
     fn from(ending: Ending) -> WitnessEnding {
         WitnessEnding::Plain(ending)
+    }
+}
+
+impl From<AllocError> for WitnessEnding {
+    ghost use Rattle.std.specs.Prelude.{◌≡◌};
+    ghost use Rattle.sv_command.specs.declared.ending.Ending.TheVariants as plain;
+    ghost use Rattle.sv_witness.specs.declared.ending.WitnessEnding.TheVariants as endings;
+
+    ghost from_gives = { λ _ e. e ≡ endings.Plain plain.Memory };
+
+    fn from(_e: AllocError) -> WitnessEnding {
+        WitnessEnding::Plain(Ending::Memory)
     }
 }
 

@@ -17,7 +17,7 @@ ghost use Rattle.sv_witness.specs.Examples.{ExamplesAreWitnessed};
 
 /// The history of what was agreed says what it should: in it a position has just the result that two clients' reports agree on.
 pub fn agreed_results_are_those_of_two_clients()
-    ensures results { (r : Rules) (h : List Entry) (p : ℕ) → IsWitnessed r h → result_at (agreed_history h) p ≡ agreed_result h p }
+    ensures { (h : List Entry) (p : ℕ) → result_at (agreed_history h) p ≡ agreed_result h p }
 {}
 
 /// The history of what was agreed is that of the same sessions: it has the same accepted actions, the same outcomes of each client, and each
