@@ -1,4 +1,5 @@
 pub mod Reports
+pub mod Agreement
 pub mod Witnessed
 pub mod Disputes
 pub mod Step

@@ -11,13 +11,16 @@ ghost use Rattle.sv_client.specs.Taking.{first_fault_of_reply};
 ghost use Rattle.sv_client.specs.Proper.{identity_of};
 ghost use Rattle.sv_system.specs.Fits.{replies_in};
 ghost use Rattle.sv_witness.specs.Reports.{agreed_history, agreed_result};
+ghost use Rattle.sv_witness.specs.Agreement.{TwoAgree};
 ghost use Rattle.sv_witness.specs.Witnessed.{IsWitnessed};
 ghost use Rattle.sv_witness.specs.Tolerance.{FitsBut, IsTolerated, IsLiar};
 ghost use Rattle.sv_witness.specs.Examples.{ExamplesAreWitnessed};
 
-/// The history of what was agreed says what it should: in it a position has just the result that two clients' reports agree on.
+/// The history of what was agreed says what it should: in it a position has just the result that the reports of it
+/// agree on, and two different clients gave that, unless the position's action writes nothing.
 pub fn agreed_results_are_those_of_two_clients()
-    ensures { (h : List Entry) (p : ℕ) → result_at (agreed_history h) p ≡ agreed_result h p }
+    ensures results { (h : List Entry) (p : ℕ) → result_at (agreed_history h) p ≡ agreed_result h p }
+    ensures two { TwoAgree }
 {}
 
 /// The history of what was agreed is that of the same sessions: it has the same accepted actions, the same outcomes of each client, and each
