@@ -16,7 +16,7 @@ Values = Option (List (List ℤ))
 
 -- Of results that a test of their positions passes, a position has what it had, where it passes.
 reported-filter : (test : ℕ → Bool) (p : ℕ) (ds : List Done1) → reported p (filter (λ (d : Done1). test d.pos) ds) ≡ (if test p then reported p ds else None)
-reported-filter test p [] = elim (cases_Bool (test p)) [ | inl t ↦ sym (cond-true (test p) None None t) | inr t ↦ sym (cond-false (test p) None None t) ]
+reported-filter test p [] = elim (cases_Bool (test p)) [ inl t ↦ sym (cond-true (test p) None None t) | inr t ↦ sym (cond-false (test p) None None t) ]
 reported-filter test p (d ∷ ds) = go (test d.pos) refl (d.pos == p) refl (test p) refl (reported-filter test p ds)
   where
     go : (a : Bool) → test d.pos ≡ a → (b : Bool) → (d.pos == p) ≡ b → (c : Bool) → test p ≡ c →

@@ -42,7 +42,7 @@ any-among : (test : Report → Bool) (rs : List Report) → list_any test rs ≡
 any-among test [] e = absurd (true≢false (sym e))
 any-among test (r ∷ rs) e =
     let rest = any-among test rs in
-    elim (or_cases (test r) (list_any test rs) e) [ | inl t ↦ (r, (here, t)) | inr t ↦ (let q = rest t in (q.0, (there q.1.0, q.1.1))) ]
+    elim (or_cases (test r) (list_any test rs) e) [ inl t ↦ (r, (here, t)) | inr t ↦ (let q = rest t in (q.0, (there q.1.0, q.1.1))) ]
 
 none-among : (test : Report → Bool) (q : Report) (rs : List Report) → IsAmong q rs → list_any test rs ≡ false → test q ≡ false
 none-among test q whole (here {rs}) e = (or_parts (test q) (list_any test rs) e).0

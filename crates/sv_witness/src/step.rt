@@ -25,7 +25,8 @@ impl Witness {
         ensures legal { IsWitnessed self.new.rules (history self.new) }
         ensures end { is_end request.now ≡ true → IsOk result }
     {
-        let _ = (session, request);
+        let _ = session;
+        let _ = request;
         Err(AllocError)
     }
 }
