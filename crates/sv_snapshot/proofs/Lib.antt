@@ -4,3 +4,4 @@ pub mod Telling
 pub mod Cutting
 pub mod Printing
 pub mod Endings
+pub mod Blocks

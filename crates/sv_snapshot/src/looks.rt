@@ -1,5 +1,5 @@
 //! Actions that only look.
-ghost use Rattle.std.specs.Prelude.{◌≡◌, ◌∷◌, ◌<◌, [], true, IfOk, OnOk, OnErr, MatchResult};
+ghost use Rattle.std.specs.Prelude.{◌≡◌, ◌∷◌, ◌<◌, ◌==◌, [], true, length, IfOk, OnOk, OnErr, MatchResult};
 ghost use Rattle.sv_client.specs.declared.trace.Event.TheVariants as events;
 ghost use Rattle.sv_client.specs.Traces.{makes};
 ghost use Rattle.sv_client.specs.Proper.{MayMake, in_session};
@@ -10,13 +10,20 @@ ghost use Rattle.sv_snapshot.specs.Snapshots.{is_look, look_at};
 use std::alloc::{AllocError, Global};
 use sv_client::{Client, MakeFault};
 use sv_wire::Request;
-use sv_world::{Action, List, ObjectId, Point, Reads, Shared};
+use sv_world::{Action, Body, ObjectId, Point, Reads, block_head};
+
+fn is_empty(body: &Body) -> bool
+    ensures { result ≡ (length body.now == 0) }
+{
+    let (count, _) = block_head(body.nodes());
+    count == 0
+}
 
 /// Whether an action only looks: it may write nothing, and has no statements.
 pub fn is_look(action: &Action) -> bool
     ensures { result ≡ is_look action.now }
 {
-    action.mask == 0 && action.body.len() == 0
+    action.mask == 0 && is_empty(&action.body)
 }
 
 fn look_at(alloc: Global, objects: &[ObjectId], origin: Point) -> Result<Action, AllocError>
@@ -26,7 +33,7 @@ fn look_at(alloc: Global, objects: &[ObjectId], origin: Point) -> Result<Action,
         reads: Reads::from_slice(alloc, objects)?,
         mask: 0,
         origin,
-        body: Shared::from_list(List::new(alloc))?,
+        body: Body::from_stmts(alloc, &[])?,
     })
 }
 
