@@ -1,5 +1,5 @@
 -- The great relay is within the grammar, and its numbers are those of their types.
-use Rattle.std.proofs.Common.{◌≡◌, ℕ, zero, suc, ◌+◌, ◌*◌, ◌<◌, ◌≤◌, true, List, [], ◌∷◌, ◌++◌, length, map, max, pos, refl, ap, ◌∙◌, arith, add-one, ◌^◌, length-append, FitsSigned}
+use Rattle.std.proofs.Common.{◌≡◌, ℕ, zero, suc, ◌+◌, ◌*◌, ◌<◌, ◌≤◌, Bool, true, List, [], ◌∷◌, ◌++◌, length, map, max, pos, refl, ap, ◌∙◌, arith, add-one, ◌^◌, length-append, FitsSigned}
 use Rattle.std.specs.List.{AllByRecursion}
 use Rattle.std.specs.Int.{w32, w64}
 use Rattle.std.proofs.lemmas.Int.{fits_signed_from_abs}
@@ -17,9 +17,10 @@ use Rattle.sv_wire.specs.declared.message.Held.{Held}
 use Rattle.sv_wire.specs.declared.message.Item.{Item}
 use Rattle.sv_wire.specs.declared.message.Reply.TheVariants as replies
 use Rattle.sv_wire.proofs.Append.{nodes_more}
-use Rattle.sv_wire.proofs.Layers.{lit_nodes, lit_depth, lit_fits, set_nodes, set_depth, set_fits}
+use Rattle.sv_wire.proofs.Layers.{lit_nodes, lit_depth, set_nodes, set_depth}
+use Rattle.sv_world.proofs.Layers.{lit_fold, set_fold}
 use Rattle.sv_wire.specs.Grammar.{IsWireValue, IsWireAction, IsWireHead}
-use Rattle.sv_world.specs.Ranges.{stmt_fits}
+use Rattle.sv_world.specs.Ranges.{expr_fits_step, stmt_fits_step, stmt_fits}
 use Rattle.sv_wire.specs.Ranges.{ObjectFits, HeldFits, ActionFits, ItemFits}
 use Rattle.sv_wire.specs.Laws.{IsReply}
 use Rattle.test_exchange.specs.Worked.{greatest, great_held, great_heads, great_reads, great_stmt, great_body, great_action, great_item, great_items}
@@ -86,7 +87,7 @@ stmt_levels : stmt_depth great_stmt ≡ 2
 stmt_levels = set_depth 0 0 (exprs.Lit greatest) ∙ ap (λ (n : ℕ). 1 + n) (lit_depth greatest)
 
 stmt_fit : stmt_fits great_stmt ≡ true
-stmt_fit = set_fits 0 0 (exprs.Lit greatest) ∙ lit_fits greatest
+stmt_fit = set_fold Bool stmt_fits_step 0 0 (exprs.Lit greatest) ∙ lit_fold Bool expr_fits_step greatest
 
 nodes-push : (xs : List Stmt) (x : Stmt) → body_nodes (xs ++ x ∷ []) ≡ body_nodes xs + stmt_nodes x
 nodes-push [] x = omega (arith, nodes_more x [])
