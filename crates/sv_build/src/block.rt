@@ -13,51 +13,49 @@ use thiserror::Error;
 pub trait Block: Copy {
     ghost statements: { Self → List Stmt };
 
-    /// Appends the statements.
-    fn push(self, alloc: Global, out: &mut List<Stmt>) -> Result<(), AllocError>
-        ensures { OnOk result (out.new ≡ out.old ++ statements self) };
+    /// The statements behind those of a list.
+    fn behind(self, alloc: Global, list: List<Stmt>) -> Result<List<Stmt>, AllocError>
+        ensures { IfOk result (λ all. all ≡ list ++ statements self) };
 }
 
 fn list_of<B: Block>(alloc: Global, block: B) -> Result<List<Stmt>, AllocError>
     ensures { IfOk result (λ list. list ≡ B.statements block) }
 {
-    let mut out = List::new(alloc);
-    block.push(alloc, &mut out)?;
-    Ok(out)
+    block.behind(alloc, List::new(alloc))
 }
 
 impl Block for () {
     ghost statements = { λ _. [] };
 
-    fn push(self, _alloc: Global, _out: &mut List<Stmt>) -> Result<(), AllocError> {
-        Ok(())
+    fn behind(self, _alloc: Global, list: List<Stmt>) -> Result<List<Stmt>, AllocError> {
+        Ok(list)
     }
 }
 
 impl<A: Block, B: Block> Block for (A, B) {
     ghost statements = { λ x. A.statements x.0 ++ B.statements x.1 };
 
-    fn push(self, alloc: Global, out: &mut List<Stmt>) -> Result<(), AllocError> {
-        self.0.push(alloc, out)?;
-        self.1.push(alloc, out)
+    fn behind(self, alloc: Global, list: List<Stmt>) -> Result<List<Stmt>, AllocError> {
+        let list = self.0.behind(alloc, list)?;
+        self.1.behind(alloc, list)
     }
 }
 
 impl<A: Block, B: Block, C: Block> Block for (A, B, C) {
     ghost statements = { λ x. A.statements x.0 ++ B.statements x.1 ++ C.statements x.2 };
 
-    fn push(self, alloc: Global, out: &mut List<Stmt>) -> Result<(), AllocError> {
-        (self.0, self.1).push(alloc, out)?;
-        self.2.push(alloc, out)
+    fn behind(self, alloc: Global, list: List<Stmt>) -> Result<List<Stmt>, AllocError> {
+        let list = (self.0, self.1).behind(alloc, list)?;
+        self.2.behind(alloc, list)
     }
 }
 
 impl<A: Block, B: Block, C: Block, D: Block> Block for (A, B, C, D) {
     ghost statements = { λ x. A.statements x.0 ++ B.statements x.1 ++ C.statements x.2 ++ D.statements x.3 };
 
-    fn push(self, alloc: Global, out: &mut List<Stmt>) -> Result<(), AllocError> {
-        (self.0, self.1, self.2).push(alloc, out)?;
-        self.3.push(alloc, out)
+    fn behind(self, alloc: Global, list: List<Stmt>) -> Result<List<Stmt>, AllocError> {
+        let list = (self.0, self.1, self.2).behind(alloc, list)?;
+        self.3.behind(alloc, list)
     }
 }
 
@@ -72,10 +70,12 @@ pub struct Setting<T> {
 impl<T: Term> Block for Setting<T> {
     ghost statements = { λ s. stmts.Set s.slot s.attr (T.expr s.value) ∷ [] };
 
-    fn push(self, alloc: Global, out: &mut List<Stmt>) -> Result<(), AllocError> {
+    fn behind(self, alloc: Global, list: List<Stmt>) -> Result<List<Stmt>, AllocError> {
         let Setting { slot, attr, value } = self;
+        let mut list = list;
         let expr = value.expr(alloc)?;
-        out.push(Stmt::Set { slot, attr, expr })
+        list.push(Stmt::Set { slot, attr, expr })?;
+        Ok(list)
     }
 }
 
@@ -90,12 +90,23 @@ pub struct Choice<C, A, B> {
 impl<C: Condition, A: Block, B: Block> Block for Choice<C, A, B> {
     ghost statements = { λ s. stmts.If (C.cond s.condition) (A.statements s.then) (B.statements s.other) ∷ [] };
 
-    fn push(self, alloc: Global, out: &mut List<Stmt>) -> Result<(), AllocError> {
-        let then = list_of(alloc, self.then)?;
-        let other = list_of(alloc, self.other)?;
-        let stmt = choice_of(alloc, self.condition, then, other)?;
-        out.push(stmt)
+    fn behind(self, alloc: Global, list: List<Stmt>) -> Result<List<Stmt>, AllocError> {
+        let stmt = chosen(alloc, self)?;
+        let mut list = list;
+        list.push(stmt)?;
+        Ok(list)
     }
+}
+
+fn chosen<C: Condition, A: Block, B: Block>(
+    alloc: Global,
+    choice: Choice<C, A, B>,
+) -> Result<Stmt, AllocError>
+    ensures { IfOk result (λ stmt. stmt ≡ stmts.If (C.cond choice.condition) (A.statements choice.then) (B.statements choice.other)) }
+{
+    let then = list_of(alloc, choice.then)?;
+    let other = list_of(alloc, choice.other)?;
+    choice_of(alloc, choice.condition, then, other)
 }
 
 fn choice_of<C: Condition>(
