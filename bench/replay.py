@@ -1,4 +1,4 @@
-"""Times replays of the generated load of some sizes: the program, and the plain Rust peer, in turn."""
+"""Times replays of the generated load of some sizes: the program, and the plain Rust peer, which prints a summary or its journal too, in turn."""
 
 import json
 import shutil
@@ -28,21 +28,26 @@ def seconds(words):
 def main(program, sources, rounds):
     with tempfile.TemporaryDirectory() as folder:
         peer = peer_of(folder, sources)
-        print("| Size | Actions | Here: actions/s, best | median | µs an action, best | Peer: actions/s, best | median | Here / peer, best |")
-        print("|---|---|---|---|---|---|---|---|")
+        print(
+            "| Size | Actions | Here: actions/s, best | median | µs an action, best | Peer with its journal: actions/s, best | median | Here / peer, best | median "
+            "| Peer without: actions/s, best | Here / peer, best |"
+        )
+        print("|---|---|---|---|---|---|---|---|---|---|---|")
         for n in SIZES:
             scenario, actions = load(n)
             path = f"{folder}/{n}.json"
             with open(path, "w") as it:
                 json.dump(scenario, it)
-            ours, theirs = [], []
+            ours, theirs, brief = [], [], []
             for _ in range(rounds):
                 ours.append(seconds([program, "replay", path]))
-                theirs.append(seconds([peer, "replay-load", str(n)]))
-            here, there = actions / min(ours), actions / min(theirs)
+                theirs.append(seconds([peer, "replay-load", str(n), "--journal"]))
+                brief.append(seconds([peer, "replay-load", str(n)]))
+            middle = statistics.median(theirs) / statistics.median(ours)
             print(
-                f"| {n} | {actions} | {here:,.0f} | {actions / statistics.median(ours):,.0f} | {min(ours) * 1e6 / actions:.1f} "
-                f"| {there:,.0f} | {actions / statistics.median(theirs):,.0f} | {here / there:.2f} |"
+                f"| {n} | {actions} | {actions / min(ours):,.0f} | {actions / statistics.median(ours):,.0f} | {min(ours) * 1e6 / actions:.1f} "
+                f"| {actions / min(theirs):,.0f} | {actions / statistics.median(theirs):,.0f} | {min(theirs) / min(ours):.2f} | {middle:.2f} "
+                f"| {actions / min(brief):,.0f} | {min(brief) / min(ours):.2f} |"
             )
 
 
