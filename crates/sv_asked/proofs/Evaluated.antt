@@ -18,7 +18,8 @@ use Rattle.sv_world.specs.declared.action.Stmt.TheViews.{roll-Stmt}
 use Rattle.sv_world.specs.declared.action.Stmt.TheFolds.{fold-roll-Stmt, ind-Stmt}
 use Rattle.sv_eval.specs.Numbers.{is_i64, in_i64, is_zero, sum_of, difference_of, product_of, quotient_of, remainder_of}
 use Rattle.sv_eval.specs.Evaluation.{Slots, number_at, with_number, both, expr_step, expr_number, cond_holds, choose, in_order, stmt_step, stmt_after, body_after, outcome_by, outcome_of}
-use Rattle.sv_wire.specs.Ranges.{ValueFits, expr_fits_step, expr_fits, cond_fits, stmt_fits_step, stmt_fits}
+use Rattle.sv_world.specs.Ranges.{expr_fits_step, expr_fits, cond_fits, stmt_fits_step, stmt_fits}
+use Rattle.sv_wire.specs.Ranges.{ValueFits}
 
 -- ---- Numbers
 

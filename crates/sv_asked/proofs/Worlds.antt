@@ -8,7 +8,8 @@ use Rattle.sv_world.specs.declared.action.Action.{Action}
 use Rattle.sv_eval.specs.Evaluation.{Slots, outcome_of}
 use Rattle.sv_eval.specs.Serial.{values_at, put_all, world_after_some, serial_world}
 use Rattle.sv_eval.proofs.Serials.{serial_length, serial_shaped}
-use Rattle.sv_wire.specs.Ranges.{ValueFits, stmt_fits}
+use Rattle.sv_world.specs.Ranges.{stmt_fits}
+use Rattle.sv_wire.specs.Ranges.{ValueFits}
 use Rattle.sv_asked.proofs.Every.{each-get}
 use Rattle.sv_asked.proofs.Evaluated.{AreNumbers, all_set, outcome_fits}
 

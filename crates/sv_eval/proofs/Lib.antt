@@ -3,3 +3,4 @@ pub mod Lists
 pub mod Masks
 pub mod Outcomes
 pub mod Serials
+pub mod Walks

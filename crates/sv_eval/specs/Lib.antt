@@ -1,3 +1,4 @@
 pub mod Evaluation
 pub mod Numbers
 pub mod Serial
+pub mod Walks

@@ -24,7 +24,7 @@ fn evaluate(alloc: Global, action: &Action, values: &[Value]) -> Result<Outcome,
     ensures { IfOk result (λ outcome. outcome ≡ outcome_of action.now values.now) }
 {
     let mut slots = copy_values(alloc, values)?.into_vec();
-    if run_body(action.body.as_slice(), slots.as_mut_slice()) {
+    if run_body(&action.body, slots.as_mut_slice()) {
         let writes = copy_masked(alloc, action.mask, slots.as_slice())?;
         Ok(Outcome {
             void: false,

@@ -4,7 +4,7 @@ ghost use Rattle.std.specs.Prelude.{◌≡◌, ◌≤◌, ◌<◌, min, max, [],
 ghost use Rattle.sv_gen.specs.Generated.{object, slot_of, taken, added, transfer, act};
 
 use std::alloc::{AllocError, Global};
-use sv_world::{Action, Boxed, Expr, List, ObjectId, Point, Reads, Shared, Stmt};
+use sv_world::{Action, Body, Boxed, Expr, List, ObjectId, Point, Reads, Stmt};
 
 fn slot_of(object: u16, other: u16) -> u8
     ensures { result ≡ slot_of object other }
@@ -60,10 +60,12 @@ fn moves(alloc: Global, from: u16, to: u16, amount: u16) -> Result<List<Stmt>, A
 }
 
 /// Moves an amount of attribute 0 between two objects, and counts it on attribute 1 of the first one.
+#[tactic(auto, using(crate::proofs::Short::moves_are_short))]
 fn transfer(alloc: Global, from: u16, to: u16, amount: u16) -> Result<Action, AllocError>
     ensures { IfOk result (λ a. a ≡ transfer from to amount) }
 {
-    let body = Shared::from_list(moves(alloc, from, to, amount)?)?;
+    let moves = moves(alloc, from, to, amount)?;
+    let body = Body::from_stmts(alloc, moves.as_slice())?;
     let reads = both(alloc, from, to)?;
     Ok(Action {
         reads,

@@ -1,10 +1,10 @@
 -- What pending actions say, one after another.
-use Rattle.std.proofs.Common.{◌≡◌, ℕ, zero, suc, ◌+◌, ◌<◌, List, [], ◌∷◌, ◌++◌, length, get_or, drop, Option, None, option_map, refl, sym, ap, ◌∙◌, arith}
+use Rattle.std.proofs.Common.{◌≡◌, ℕ, zero, suc, ◌+◌, ◌<◌, List, [], ◌∷◌, ◌++◌, length, get_or, drop, take, ◌⊎◌, inl, inr, Option, None, option_map, refl, sym, ap, ◌∙◌, arith}
 use Rattle.std.specs.Prelude.{ℤ}
 use Rattle.sv_versions.specs.Held.{Held}
-use Rattle.sv_pending.specs.Pending.{PendingAction, kept_of, redone_after}
+use Rattle.sv_pending.specs.Pending.{PendingAction, Overlaid, Unwritten, Unknown, Kept, kept_of, last_of, overlay_of, redone_after}
 use Rattle.sv_pending.specs.declared.made.Made.{Made}
-use Rattle.sv_pending.specs.Made.{paired, IsWhole, AreWhole}
+use Rattle.sv_pending.specs.Made.{paired, overlay_by, IsWhole, AreWhole}
 
 abbrev Result : Type 0
 Result = Option (List (List ℤ))
@@ -69,3 +69,64 @@ redo_more held ms ks done k d l h e =
 -- views, one after another
 abbrev pub with_views : List (List ℤ) → Option (List (List ℤ)) → Option (List (List ℤ))
 with_views vs rest = option_map (λ ws. vs ++ ws) rest
+
+-- ---- The last of the first ones
+
+last_alone : (o : Overlaid) → last_of Unwritten o ≡ o
+last_alone Unwritten = refl
+last_alone Unknown = refl
+last_alone (Kept v) = refl
+
+last_again : (a b c : Overlaid) → last_of a (last_of b c) ≡ last_of (last_of a b) c
+last_again a b Unwritten = refl
+last_again a b Unknown = refl
+last_again a b (Kept v) = refl
+
+-- one more of the first actions
+pub overlay_more : (ms : List Made) (ks : List (Option (List (List ℤ)))) (n x : ℕ) (d : Made) (e : Option (List (List ℤ))) → n < length ms → n < length ks →
+    overlay_of (take (suc n) (paired ms ks)) x ≡ last_of (overlay_of (take n (paired ms ks)) x) (overlay_by (entry (get_or ms n d) (get_or ks n e)) x)
+overlay_more [] ks n x d e h g = absurd (omega arith)
+overlay_more (m ∷ ms) [] n x d e h g = absurd (omega arith)
+overlay_more (m ∷ ms) (k ∷ ks) zero x d e h g = sym (last_alone (overlay_by (entry m k) x))
+overlay_more (m ∷ ms) (k ∷ ks) (suc n) x d e h g = let less : n < length ms = omega arith in
+    let few : n < length ks = omega arith in
+    ap (λ o. last_of (overlay_by (entry m k) x) o) (overlay_more ms ks n x d e less few)
+    ∙ last_again (overlay_by (entry m k) x) (overlay_of (take n (paired ms ks)) x) (overlay_by (entry (get_or ms n d) (get_or ks n e)) x)
+
+-- what one of the first actions says where it writes nothing of the object, and where it does
+pub overlay_passed : (ms : List Made) (ks : List (Option (List (List ℤ)))) (n x : ℕ) (d : Made) (e : Option (List (List ℤ))) → n < length ms → n < length ks →
+    overlay_by (entry (get_or ms n d) (get_or ks n e)) x ≡ Unwritten → overlay_of (take (suc n) (paired ms ks)) x ≡ overlay_of (take n (paired ms ks)) x
+overlay_passed ms ks n x d e h g u = overlay_more ms ks n x d e h g ∙ ap (λ o. last_of (overlay_of (take n (paired ms ks)) x) o) u
+
+pub overlay_unknown : (ms : List Made) (ks : List (Option (List (List ℤ)))) (n x : ℕ) (d : Made) (e : Option (List (List ℤ))) → n < length ms → n < length ks →
+    overlay_by (entry (get_or ms n d) (get_or ks n e)) x ≡ Unknown → overlay_of (take (suc n) (paired ms ks)) x ≡ Unknown
+overlay_unknown ms ks n x d e h g u = overlay_more ms ks n x d e h g ∙ ap (λ o. last_of (overlay_of (take n (paired ms ks)) x) o) u
+
+pub overlay_kept : (ms : List Made) (ks : List (Option (List (List ℤ)))) (n x : ℕ) (d : Made) (e : Option (List (List ℤ))) (v : List ℤ) → n < length ms → n < length ks →
+    overlay_by (entry (get_or ms n d) (get_or ks n e)) x ≡ Kept v → overlay_of (take (suc n) (paired ms ks)) x ≡ Kept v
+overlay_kept ms ks n x d e v h g u = overlay_more ms ks n x d e h g ∙ ap (λ o. last_of (overlay_of (take n (paired ms ks)) x) o) u
+
+pub whole_at : (ms : List Made) (ks : List (Option (List (List ℤ)))) (n : ℕ) (d : Made) (e : Option (List (List ℤ))) → n < length ms → n < length ks → AreWhole ms ks →
+    IsWhole (get_or ms n d).action (get_or ks n e)
+whole_at [] ks n d e h g a = absurd (omega arith)
+whole_at (m ∷ ms) [] n d e h g a = absurd (omega arith)
+whole_at (m ∷ ms) (k ∷ ks) zero d e h g a = a.0
+whole_at (m ∷ ms) (k ∷ ks) (suc n) d e h g a = let less : n < length ms = omega arith in
+    let few : n < length ks = omega arith in
+    whole_at ms ks n d e less few a.1
+
+abbrev no_actions : List PendingAction
+no_actions = []
+
+take_none : (n : ℕ) → take n no_actions ≡ no_actions
+take_none zero = refl
+take_none (suc n) = refl
+
+-- all of them
+pub paired_within : (ms : List Made) (ks : List (Option (List (List ℤ)))) (n : ℕ) → (n ≡ length ms) ⊎ (n ≡ length ks) → take n (paired ms ks) ≡ paired ms ks
+paired_within [] ks n h = take_none n
+paired_within (m ∷ ms) [] n h = take_none n
+paired_within (m ∷ ms) (k ∷ ks) zero (inl h) = absurd (omega arith)
+paired_within (m ∷ ms) (k ∷ ks) zero (inr h) = absurd (omega arith)
+paired_within (m ∷ ms) (k ∷ ks) (suc n) (inl h) = let e : n ≡ length ms = omega arith in ap (λ ps. entry m k ∷ ps) (paired_within ms ks n (inl e))
+paired_within (m ∷ ms) (k ∷ ks) (suc n) (inr h) = let e : n ≡ length ks = omega arith in ap (λ ps. entry m k ∷ ps) (paired_within ms ks n (inr e))

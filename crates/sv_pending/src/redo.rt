@@ -1,4 +1,4 @@
-ghost use Rattle.std.specs.Prelude.{◌≡◌, ◌<◌, ◌≤◌, map, length, option_copied, IfOk, IfSome, All, List, Option, ℤ};
+ghost use Rattle.std.specs.Prelude.{◌≡◌, ◌<◌, ◌≤◌, map, length, take, option_copied, IfOk, IfSome, All, List, Option, ℤ};
 ghost use Rattle.sv_world.specs.declared.world.ObjectId.{ObjectId};
 ghost use Rattle.sv_world.specs.Sets.{write_set};
 ghost use Rattle.sv_pending.specs.Pending.{overlay_of, view_over, views_over, kept_of, redone};
@@ -43,22 +43,43 @@ fn overlay_by<'a>(made: &'a Made, kept: &'a Kept, object: ObjectId) -> Overlay<'
     }
 }
 
+/// What the last of the first actions that writes an object says of it. The search begins at the last of them, since a client's latest actions
+/// are those that mostly decide.
+#[tactic(auto, using(crate::proofs::Overlays::overlay_passed, crate::proofs::Overlays::overlay_unknown, crate::proofs::Overlays::overlay_kept, crate::proofs::Overlays::whole_at))]
+fn overlay_before<'a>(
+    made: &'a [Made],
+    kept: &'a [Kept],
+    count: usize,
+    object: ObjectId,
+) -> Overlay<'a>
+    requires whole { AreWhole made.now kept.now }
+    requires made { count ≤ length made.now }
+    requires kept { count ≤ length kept.now }
+    ensures { overlay_seen result ≡ overlay_of (take count (paired made.now kept.now)) object.0 }
+{
+    if count == 0 {
+        return Overlay::Unwritten;
+    }
+    let last = count - 1;
+    match overlay_by(&made[last], &kept[last], object) {
+        Overlay::Unwritten => overlay_before(made, kept, last, object),
+        Overlay::Unknown => Overlay::Unknown,
+        Overlay::Kept(value) => Overlay::Kept(value),
+    }
+}
+
 /// What the last of the actions that writes an object says of it.
+#[tactic(auto, using(crate::proofs::Overlays::paired_within))]
 pub fn overlay_in<'a>(made: &'a [Made], kept: &'a [Kept], object: ObjectId) -> Overlay<'a>
     requires { AreWhole made.now kept.now }
     ensures { overlay_seen result ≡ overlay_of (paired made.now kept.now) object.0 }
 {
-    let Some((first, rest)) = made.split_first() else {
-        return Overlay::Unwritten;
+    let count = if made.len() < kept.len() {
+        made.len()
+    } else {
+        kept.len()
     };
-    let Some((first_kept, rest_kept)) = kept.split_first() else {
-        return Overlay::Unwritten;
-    };
-    match overlay_in(rest, rest_kept, object) {
-        Overlay::Unwritten => overlay_by(first, first_kept, object),
-        Overlay::Unknown => Overlay::Unknown,
-        Overlay::Kept(value) => Overlay::Kept(value),
-    }
+    overlay_before(made, kept, count, object)
 }
 
 /// An object's value over these actions, where it is known.

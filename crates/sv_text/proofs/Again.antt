@@ -7,6 +7,7 @@ use Rattle.sv_world.specs.declared.action.Expr.{Expr}
 use Rattle.sv_world.specs.declared.action.Expr.TheVariants as expr
 use Rattle.sv_world.specs.declared.action.Cond.{Cond}
 use Rattle.sv_world.specs.declared.action.Cond.TheVariants as test
+use Rattle.sv_world.specs.Parts.{binary_by as with_op, compare_by as with_comparison, join_by as with_joint}
 use Rattle.sv_text.specs.declared.fault.TextCause.TheVariants as causes
 use Rattle.sv_text.specs.declared.fault.TextFault.{TextFault}
 use Rattle.sv_text.specs.declared.token.Mark.{Mark}
@@ -14,13 +15,13 @@ use Rattle.sv_text.specs.declared.token.Mark.TheVariants as marks
 use Rattle.sv_text.specs.declared.token.Token.{Token}
 use Rattle.sv_text.specs.declared.token.Token.TheVariants as tokens
 use Rattle.sv_text.specs.declared.token.Lexeme.{Lexeme}
-use Rattle.sv_text.specs.declared.parts.Op.{Op}
-use Rattle.sv_text.specs.declared.parts.Op.TheVariants as ops
-use Rattle.sv_text.specs.declared.parts.Comparison.{Comparison}
-use Rattle.sv_text.specs.declared.parts.Comparison.TheVariants as comparisons
-use Rattle.sv_text.specs.declared.parts.Joint.{Joint}
-use Rattle.sv_text.specs.declared.parts.Joint.TheVariants as joints
-use Rattle.sv_text.specs.Reading.{◌>>=◌, Read, mark_code, is_same, is_mark, is_at, mark_of, front_of, front, rest_of, fault, unexpected, expect, slot_from, slot_or, slot_at, start, part_or, marked, op_of, op_at, with_op, leaf_by, leaf_at, closed_by, pair_by, expr_by, expr_at, with_comparison, comparison_of, comparison_at, with_joint, joint_of, joint_at, compare_by, joined_by, join_by, not_by, cond_by, cond_at}
+use Rattle.sv_world.specs.declared.node.Operator.{Operator}
+use Rattle.sv_world.specs.declared.node.Operator.TheVariants as ops
+use Rattle.sv_world.specs.declared.node.Comparison.{Comparison}
+use Rattle.sv_world.specs.declared.node.Comparison.TheVariants as comparisons
+use Rattle.sv_world.specs.declared.node.Connective.{Connective}
+use Rattle.sv_world.specs.declared.node.Connective.TheVariants as joints
+use Rattle.sv_text.specs.Reading.{◌>>=◌, Read, mark_code, is_same, is_mark, is_at, mark_of, front_of, front, rest_of, fault, unexpected, expect, slot_from, slot_or, slot_at, start, part_or, marked, op_of, op_at, leaf_by, leaf_at, closed_by, pair_by, expr_by, expr_at, comparison_of, comparison_at, joint_of, joint_at, compare_by, joined_by, join_by, not_by, cond_by, cond_at}
 use Rattle.sv_text.specs.Grammar.{Place, Form, IsMark, IsNode, IsNumber, IsRef, op_mark, comparison_mark, joint_mark, AreTwo, IsPair, IsExpr, IsTest, IsJoined, IsNot, IsCond}
 
 -- a step that does not fail
@@ -68,7 +69,7 @@ pub started : {A : Type 0} (m : Mark) (depth : ℕ) (p inside : Place) (f : ℕ 
 started m depth p inside f z i h =
     then_ok (start (suc depth) p.0 p.1) (λ n. f n (rest_of p.1)) (p.0 + 1) z (start_again (suc depth) p.0 p.1 (omega arith) i.1) (ap (λ (s : Place). f s.0 s.1) i.2 ∙ h)
 
-op_back : (o : Op) → op_of (op_mark o) ≡ Some o
+op_back : (o : Operator) → op_of (op_mark o) ≡ Some o
 op_back ops.Add = refl
 op_back ops.Sub = refl
 op_back ops.Mul = refl
@@ -77,7 +78,7 @@ op_back ops.Rem = refl
 op_back ops.Min = refl
 op_back ops.Max = refl
 
-op_again : (o : Op) (ts : List Lexeme) → front ts ≡ Some (op_mark o) → op_at ts ≡ Ok o
+op_again : (o : Operator) (ts : List Lexeme) → front ts ≡ Some (op_mark o) → op_at ts ≡ Ok o
 unfolding op_at
 op_again o ts h = ap (λ (f : Option Mark). part_or (unexpected ts) (marked op_of f)) h ∙ ap (part_or (unexpected ts)) (op_back o)
 
@@ -114,7 +115,7 @@ closed_again {A = A} below m a p three q e c =
     then_ok (below p.0 p.1) (λ a. expect m a.2 >>= λ rest. Ok (a.0, a.1, rest)) (a, three.0, three.1) (gives a q) e
     (then_ok (expect m three.1) (λ rest. Ok (a, three.0, rest)) (rest_of three.1) (gives a q) (expect_again m three.1 c.0) (ap (gives a) c.1))
 
-pair_again : (below : ℕ → List Lexeme → Read Expr) (form : Form Expr) → Reads below form → (op : Op) (a b : Expr) (p q : Place) → AreTwo form a (op_mark op) b marks.Close p q → pair_by below p.0 p.1 ≡ gives (with_op op a b) q
+pair_again : (below : ℕ → List Lexeme → Read Expr) (form : Form Expr) → Reads below form → (op : Operator) (a b : Expr) (p q : Place) → AreTwo form a (op_mark op) b marks.Close p q → pair_by below p.0 p.1 ≡ gives (with_op op a b) q
 unfolding pair_by
 pair_again below form again op a b p q t =
     then_ok (below p.0 p.1) (λ a. op_at a.2 >>= λ o. below a.1 (rest_of a.2) >>= λ b. expect marks.Close b.2 >>= λ rest. Ok (with_op o a.0 b.0, b.1, rest)) (a, t.one.0, t.one.1) (gives (with_op op a b) q) (again a p t.one t.left)
@@ -171,19 +172,19 @@ expr_grows reads (suc depth) e p q (inr (inr i)) = let c : p.0 + 1 ≡ q.0 = i.c
 -- ---- conditions
 
 comparison_back : (o : Comparison) → comparison_of (comparison_mark o) ≡ Some o
-comparison_back comparisons.Equal = refl
-comparison_back comparisons.Less = refl
-comparison_back comparisons.LessEqual = refl
+comparison_back comparisons.Eq = refl
+comparison_back comparisons.Lt = refl
+comparison_back comparisons.Le = refl
 
 comparison_again : (o : Comparison) (ts : List Lexeme) → front ts ≡ Some (comparison_mark o) → comparison_at ts ≡ Ok o
 unfolding comparison_at
 comparison_again o ts h = ap (λ (f : Option Mark). part_or (unexpected ts) (marked comparison_of f)) h ∙ ap (part_or (unexpected ts)) (comparison_back o)
 
-joint_back : (o : Joint) → joint_of (joint_mark o) ≡ Some o
+joint_back : (o : Connective) → joint_of (joint_mark o) ≡ Some o
 joint_back joints.And = refl
 joint_back joints.Or = refl
 
-joint_again : (o : Joint) (ts : List Lexeme) → front ts ≡ Some (joint_mark o) → joint_at ts ≡ Ok o
+joint_again : (o : Connective) (ts : List Lexeme) → front ts ≡ Some (joint_mark o) → joint_at ts ≡ Ok o
 unfolding joint_at
 joint_again o ts h = ap (λ (f : Option Mark). part_or (unexpected ts) (marked joint_of f)) h ∙ ap (part_or (unexpected ts)) (joint_back o)
 
@@ -195,7 +196,7 @@ compare_again exprs form again c a b p q t =
     (then_ok (closed_by exprs marks.CloseTest t.one.0 (rest_of t.one.1)) (λ b. Ok (with_comparison c a b.0, b.1, b.2)) (b, q.0, q.1) (gives (with_comparison c a b) q)
     (ap (λ (s : Place). closed_by exprs marks.CloseTest s.0 s.1) t.between.1 ∙ closed_again exprs marks.CloseTest b t.two t.three q (again b t.two t.three t.right) t.closed) refl))
 
-join_again : (below : ℕ → List Lexeme → Read Cond) (form : Form Cond) → Reads below form → (j : Joint) (a b : Cond) (p q : Place) → AreTwo form a (joint_mark j) b marks.Close p q → join_by below p.0 p.1 ≡ gives (with_joint j a b) q
+join_again : (below : ℕ → List Lexeme → Read Cond) (form : Form Cond) → Reads below form → (j : Connective) (a b : Cond) (p q : Place) → AreTwo form a (joint_mark j) b marks.Close p q → join_by below p.0 p.1 ≡ gives (with_joint j a b) q
 unfolding join_by joined_by
 join_again below form again j a b p q t =
     then_ok (below p.0 p.1) (λ a. joint_at a.2 >>= λ j. joined_by below j a.0 a.1 (rest_of a.2)) (a, t.one.0, t.one.1) (gives (with_joint j a b) q) (again a p t.one t.left)

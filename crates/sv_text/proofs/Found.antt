@@ -5,6 +5,7 @@ use Rattle.std.proofs.lemmas.Bool.{eqb-true, ltb-true}
 use Rattle.sv_world.specs.declared.world.ObjectId.{ObjectId}
 use Rattle.sv_world.specs.declared.action.Expr.{Expr}
 use Rattle.sv_world.specs.declared.action.Expr.TheVariants as expr
+use Rattle.sv_world.specs.Parts.{binary_by as with_op}
 use Rattle.sv_text.specs.declared.fault.TextCause.TheVariants as causes
 use Rattle.sv_text.specs.declared.fault.TextFault.{TextFault}
 use Rattle.sv_text.specs.declared.token.Mark.{Mark}
@@ -12,9 +13,9 @@ use Rattle.sv_text.specs.declared.token.Mark.TheVariants as marks
 use Rattle.sv_text.specs.declared.token.Token.{Token}
 use Rattle.sv_text.specs.declared.token.Token.TheVariants as tokens
 use Rattle.sv_text.specs.declared.token.Lexeme.{Lexeme}
-use Rattle.sv_text.specs.declared.parts.Op.{Op}
-use Rattle.sv_text.specs.declared.parts.Op.TheVariants as ops
-use Rattle.sv_text.specs.Reading.{◌>>=◌, Read, mark_code, is_same, is_mark, is_at, front, rest_of, fault, unexpected, expect, slot_from, slot_or, slot_at, start, part_or, marked, op_of, op_at, with_op, leaf_by, leaf_at, closed_by, pair_by, expr_by, nowhere, expr_at}
+use Rattle.sv_world.specs.declared.node.Operator.{Operator}
+use Rattle.sv_world.specs.declared.node.Operator.TheVariants as ops
+use Rattle.sv_text.specs.Reading.{◌>>=◌, Read, mark_code, is_same, is_mark, is_at, front, rest_of, fault, unexpected, expect, slot_from, slot_or, slot_at, start, part_or, marked, op_of, op_at, leaf_by, leaf_at, closed_by, pair_by, expr_by, nowhere, expr_at}
 use Rattle.sv_text.specs.Grammar.{Place, Form, IsMark, IsNode, IsNumber, IsRef, op_mark, IsPair, IsLiteral, IsAttr, IsExpr}
 
 -- the value of a step that did not fail
@@ -106,7 +107,7 @@ pub marked_is : {A : Type 0} (f : Mark → Option A) (o : Option Mark) (x : A) �
 marked_is f None x e = absurd cc
 marked_is f (Some m) x e = (m, refl, e)
 
-op_mark_is : (m : Mark) (o : Op) → op_of m ≡ Some o → m ≡ op_mark o
+op_mark_is : (m : Mark) (o : Operator) → op_of m ≡ Some o → m ≡ op_mark o
 op_mark_is marks.Plus o e = ap op_mark (some_is ops.Add o e)
 op_mark_is marks.Minus o e = ap op_mark (some_is ops.Sub o e)
 op_mark_is marks.Times o e = ap op_mark (some_is ops.Mul o e)
@@ -116,7 +117,7 @@ op_mark_is marks.Min o e = ap op_mark (some_is ops.Min o e)
 op_mark_is marks.Max o e = ap op_mark (some_is ops.Max o e)
 op_mark_is _ o e = absurd cc
 
-pub op_at_is : (ts : List Lexeme) (o : Op) → op_at ts ≡ Ok o → front ts ≡ Some (op_mark o)
+pub op_at_is : (ts : List Lexeme) (o : Operator) → op_at ts ≡ Ok o → front ts ≡ Some (op_mark o)
 unfolding op_at
 op_at_is ts o e =
     let q = marked_is op_of (front ts) o (part_is (unexpected ts) (marked op_of (front ts)) o e) in

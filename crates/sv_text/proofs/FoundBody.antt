@@ -7,17 +7,18 @@ use Rattle.sv_world.specs.declared.action.Cond.{Cond}
 use Rattle.sv_world.specs.declared.action.Cond.TheVariants as test
 use Rattle.sv_world.specs.declared.action.Stmt.{Stmt}
 use Rattle.sv_world.specs.declared.action.Stmt.TheVariants as stmt
+use Rattle.sv_world.specs.Parts.{compare_by as with_comparison, join_by as with_joint}
 use Rattle.sv_text.specs.declared.fault.TextCause.TheVariants as causes
 use Rattle.sv_text.specs.declared.token.Mark.{Mark}
 use Rattle.sv_text.specs.declared.token.Mark.TheVariants as marks
 use Rattle.sv_text.specs.declared.token.Token.{Token}
 use Rattle.sv_text.specs.declared.token.Token.TheVariants as tokens
 use Rattle.sv_text.specs.declared.token.Lexeme.{Lexeme}
-use Rattle.sv_text.specs.declared.parts.Comparison.{Comparison}
-use Rattle.sv_text.specs.declared.parts.Comparison.TheVariants as comparisons
-use Rattle.sv_text.specs.declared.parts.Joint.{Joint}
-use Rattle.sv_text.specs.declared.parts.Joint.TheVariants as joints
-use Rattle.sv_text.specs.Reading.{◌>>=◌, Read, is_at, front, rest_of, fault, unexpected, expect, slot_at, start, marked, with_comparison, comparison_of, comparison_at, with_joint, joint_of, joint_at, closed_by, compare_by, joined_by, join_by, not_by, cond_by, nowhere, expr_at, cond_at, target_by, target_at, set_by, else_by, branches_by, if_by, stmts_by, block_by, stmt_by, stmt_at}
+use Rattle.sv_world.specs.declared.node.Comparison.{Comparison}
+use Rattle.sv_world.specs.declared.node.Comparison.TheVariants as comparisons
+use Rattle.sv_world.specs.declared.node.Connective.{Connective}
+use Rattle.sv_world.specs.declared.node.Connective.TheVariants as joints
+use Rattle.sv_text.specs.Reading.{◌>>=◌, Read, is_at, front, rest_of, fault, unexpected, expect, slot_at, start, marked, comparison_of, comparison_at, joint_of, joint_at, closed_by, compare_by, joined_by, join_by, not_by, cond_by, nowhere, expr_at, cond_at, target_by, target_at, set_by, else_by, branches_by, if_by, stmts_by, block_by, stmt_by, stmt_at}
 use Rattle.sv_text.specs.Grammar.{Place, Form, IsMark, IsNode, IsRef, comparison_mark, joint_mark, IsTest, IsJoined, IsNot, IsExpr, IsCond, AreAll, IsBlock, IsSet, MayBeElse, IsIf, IsStmt}
 use Rattle.sv_text.proofs.Found.{bind_ok, chosen, ok_is, no_err, some_is, is_at_is, expect_is, part_is, marked_is, slot_at_is, node_is, Finds, nowhere_finds, closed_found, expr_found}
 
@@ -27,9 +28,9 @@ Never a p q = ⊥
 -- ---- conditions
 
 comparison_mark_is : (m : Mark) (o : Comparison) → comparison_of m ≡ Some o → m ≡ comparison_mark o
-comparison_mark_is marks.Equal o e = ap comparison_mark (some_is comparisons.Equal o e)
-comparison_mark_is marks.Less o e = ap comparison_mark (some_is comparisons.Less o e)
-comparison_mark_is marks.LessEqual o e = ap comparison_mark (some_is comparisons.LessEqual o e)
+comparison_mark_is marks.Equal o e = ap comparison_mark (some_is comparisons.Eq o e)
+comparison_mark_is marks.Less o e = ap comparison_mark (some_is comparisons.Lt o e)
+comparison_mark_is marks.LessEqual o e = ap comparison_mark (some_is comparisons.Le o e)
 comparison_mark_is _ o e = absurd cc
 
 comparison_at_is : (ts : List Lexeme) (o : Comparison) → comparison_at ts ≡ Ok o → front ts ≡ Some (comparison_mark o)
@@ -38,12 +39,12 @@ comparison_at_is ts o e =
     let q = marked_is comparison_of (front ts) o (part_is (unexpected ts) (marked comparison_of (front ts)) o e) in
     q.1 ∙ ap Some (comparison_mark_is q.0 o q.2)
 
-joint_mark_is : (m : Mark) (o : Joint) → joint_of m ≡ Some o → m ≡ joint_mark o
+joint_mark_is : (m : Mark) (o : Connective) → joint_of m ≡ Some o → m ≡ joint_mark o
 joint_mark_is marks.And o e = ap joint_mark (some_is joints.And o e)
 joint_mark_is marks.Or o e = ap joint_mark (some_is joints.Or o e)
 joint_mark_is _ o e = absurd cc
 
-joint_at_is : (ts : List Lexeme) (o : Joint) → joint_at ts ≡ Ok o → front ts ≡ Some (joint_mark o)
+joint_at_is : (ts : List Lexeme) (o : Connective) → joint_at ts ≡ Ok o → front ts ≡ Some (joint_mark o)
 unfolding joint_at
 joint_at_is ts o e =
     let q = marked_is joint_of (front ts) o (part_is (unexpected ts) (marked joint_of (front ts)) o e) in

@@ -1,5 +1,5 @@
 -- What the canonical text, the measures and the tests of a body are at each kind of node.
-use Rattle.std.proofs.Common.{◌≡◌, ℕ, ◌+◌, max, Bool, true, ◌&&◌, ℤ, List, ◌++◌, map, nat_lt, refl, sym, ap, ◌∙◌}
+use Rattle.std.proofs.Common.{◌≡◌, ℕ, ◌+◌, max, Bool, true, ◌&&◌, ℤ, List, ◌++◌, map, nat_lt, refl, ◌∙◌}
 use Rattle.std.specs.Prelude.{codes}
 use Rattle.std.specs.Fmt.{signed_decimal}
 use Rattle.sv_world.specs.Trees.{expr_by, cond_by, expr_nodes, cond_nodes, stmt_nodes, stmt_nodes_step, body_nodes, expr_depth, cond_depth, stmt_depth, stmt_depth_step, body_depth, expr_passes, cond_passes, stmt_passes, stmt_passes_step, body_passes}
@@ -7,61 +7,24 @@ use Rattle.sv_world.specs.declared.world.ObjectId.{ObjectId}
 use Rattle.sv_world.specs.declared.action.Expr.{Expr}
 use Rattle.sv_world.specs.declared.action.Expr.TheVariants as expr
 use Rattle.sv_world.specs.declared.action.Expr.TheOpen.{Expr-F}
-use Rattle.sv_world.specs.declared.action.Expr.TheFolds.{fold-Expr, fold-roll-Expr}
 use Rattle.sv_world.specs.declared.action.Cond.{Cond}
 use Rattle.sv_world.specs.declared.action.Cond.TheVariants as test
 use Rattle.sv_world.specs.declared.action.Cond.TheOpen.{Cond-F}
-use Rattle.sv_world.specs.declared.action.Cond.TheFolds.{fold-Cond, fold-roll-Cond}
 use Rattle.sv_world.specs.declared.action.Stmt.{Stmt}
 use Rattle.sv_world.specs.declared.action.Stmt.TheVariants as stmt
-use Rattle.sv_world.specs.declared.action.Stmt.TheOpen.{Stmt-F}
-use Rattle.sv_world.specs.declared.action.Stmt.TheFolds.{fold-Stmt, fold-roll-Stmt}
-use Rattle.sv_text.specs.declared.parts.Op.{Op}
-use Rattle.sv_text.specs.declared.parts.Op.TheVariants as ops
-use Rattle.sv_text.specs.declared.parts.Comparison.{Comparison}
-use Rattle.sv_text.specs.declared.parts.Comparison.TheVariants as comparisons
-use Rattle.sv_text.specs.declared.parts.Joint.{Joint}
-use Rattle.sv_text.specs.declared.parts.Joint.TheVariants as joints
-use Rattle.sv_text.specs.Reading.{with_op, with_comparison, with_joint}
-use Rattle.sv_text.specs.Canonical.{ref_text, pair_text, test_text, expr_text_step, expr_text, cond_text_step, cond_text, set_text, block_text, else_text, stmt_text_step, stmt_text}
-use Rattle.sv_text.specs.Printable.{is_i64, expr_fits_step, expr_fits, cond_fits_step, cond_fits, stmt_fits_step, stmt_fits, body_fits}
+use Rattle.sv_world.specs.declared.node.Operator.{Operator}
+use Rattle.sv_world.specs.declared.node.Operator.TheVariants as ops
+use Rattle.sv_world.specs.declared.node.Comparison.{Comparison}
+use Rattle.sv_world.specs.declared.node.Comparison.TheVariants as comparisons
+use Rattle.sv_world.specs.declared.node.Connective.{Connective}
+use Rattle.sv_world.specs.declared.node.Connective.TheVariants as joints
+use Rattle.sv_world.specs.Parts.{binary_by as with_op, compare_by as with_comparison, join_by as with_joint}
+use Rattle.sv_world.proofs.Layers.{binary_layer, compare_layer, join_layer, lit_fold, attr_fold, binary_fold, compare_fold, join_fold, not_fold, set_fold, if_fold}
+use Rattle.sv_text.specs.Canonical.{op_text, comparison_text, joint_text, ref_text, pair_text, test_text, expr_text_step, expr_text, cond_text_step, cond_text, set_text, block_text, else_text, stmt_text_step, stmt_text}
 
 -- ---- expressions
 
-abbrev pub op_text : Op → List ℕ
-op_text ops.Add = codes " + "
-op_text ops.Sub = codes " - "
-op_text ops.Mul = codes " * "
-op_text ops.Div = codes " / "
-op_text ops.Rem = codes " % "
-op_text ops.Min = codes " min "
-op_text ops.Max = codes " max "
-
-abbrev layer_by : {A : Type 0} → Op → A → A → Expr-F A
-layer_by ops.Add a b = Expr-F.Add a b
-layer_by ops.Sub a b = Expr-F.Sub a b
-layer_by ops.Mul a b = Expr-F.Mul a b
-layer_by ops.Div a b = Expr-F.Div a b
-layer_by ops.Rem a b = Expr-F.Rem a b
-layer_by ops.Min a b = Expr-F.Min a b
-layer_by ops.Max a b = Expr-F.Max a b
-
-fold_by : (A : Type 0) (step : Expr-F A → A) (o : Op) (a b : Expr) → fold-Expr A step (with_op o a b) ≡ step (layer_by o (fold-Expr A step a) (fold-Expr A step b))
-fold_by A step ops.Add a b = ap (fold-Expr A step) (sym (expr.rolls-Add a b)) ∙ fold-roll-Expr A step (Expr-F.Add a b)
-fold_by A step ops.Sub a b = ap (fold-Expr A step) (sym (expr.rolls-Sub a b)) ∙ fold-roll-Expr A step (Expr-F.Sub a b)
-fold_by A step ops.Mul a b = ap (fold-Expr A step) (sym (expr.rolls-Mul a b)) ∙ fold-roll-Expr A step (Expr-F.Mul a b)
-fold_by A step ops.Div a b = ap (fold-Expr A step) (sym (expr.rolls-Div a b)) ∙ fold-roll-Expr A step (Expr-F.Div a b)
-fold_by A step ops.Rem a b = ap (fold-Expr A step) (sym (expr.rolls-Rem a b)) ∙ fold-roll-Expr A step (Expr-F.Rem a b)
-fold_by A step ops.Min a b = ap (fold-Expr A step) (sym (expr.rolls-Min a b)) ∙ fold-roll-Expr A step (Expr-F.Min a b)
-fold_by A step ops.Max a b = ap (fold-Expr A step) (sym (expr.rolls-Max a b)) ∙ fold-roll-Expr A step (Expr-F.Max a b)
-
-lit_fold : (A : Type 0) (step : Expr-F A → A) (z : ℤ) → fold-Expr A step (expr.Lit z) ≡ step (Expr-F.Lit z)
-lit_fold A step z = ap (fold-Expr A step) (sym (expr.rolls-Lit z)) ∙ fold-roll-Expr A step (Expr-F.Lit z)
-
-attr_fold : (A : Type 0) (step : Expr-F A → A) (slot attr : ℕ) → fold-Expr A step (expr.Attr slot attr) ≡ step (Expr-F.Attr slot attr)
-attr_fold A step slot attr = ap (fold-Expr A step) (sym (expr.rolls-Attr slot attr)) ∙ fold-roll-Expr A step (Expr-F.Attr slot attr)
-
-text_layer : (reads : List ObjectId) (o : Op) (x y : List ℕ) → expr_text_step reads (layer_by o x y) ≡ pair_text x (op_text o) y
+text_layer : (reads : List ObjectId) (o : Operator) (x y : List ℕ) → expr_text_step reads (binary_layer o x y) ≡ pair_text x (op_text o) y
 text_layer reads ops.Add x y = refl
 text_layer reads ops.Sub x y = refl
 text_layer reads ops.Mul x y = refl
@@ -71,7 +34,7 @@ text_layer reads ops.Min x y = refl
 text_layer reads ops.Max x y = refl
 
 -- what a test or a measure gives of two operands
-by_layer : {A : Type 0} (lit : A) (attr : ℕ → ℕ → A) (both : A → A → A) (o : Op) (x y : A) → expr_by lit attr both (layer_by o x y) ≡ both x y
+by_layer : {A : Type 0} (lit : A) (attr : ℕ → ℕ → A) (both : A → A → A) (o : Operator) (x y : A) → expr_by lit attr both (binary_layer o x y) ≡ both x y
 by_layer lit attr both ops.Add x y = refl
 by_layer lit attr both ops.Sub x y = refl
 by_layer lit attr both ops.Mul x y = refl
@@ -80,31 +43,19 @@ by_layer lit attr both ops.Rem x y = refl
 by_layer lit attr both ops.Min x y = refl
 by_layer lit attr both ops.Max x y = refl
 
-fits_layer : (o : Op) (x y : Bool) → expr_fits_step (layer_by o x y) ≡ (x && y)
-fits_layer ops.Add x y = refl
-fits_layer ops.Sub x y = refl
-fits_layer ops.Mul x y = refl
-fits_layer ops.Div x y = refl
-fits_layer ops.Rem x y = refl
-fits_layer ops.Min x y = refl
-fits_layer ops.Max x y = refl
-
 -- an expression of two parts
-module _ (o : Op) (a b : Expr) where
+module _ (o : Operator) (a b : Expr) where
   pub pair_text_is : (reads : List ObjectId) → expr_text reads (with_op o a b) ≡ pair_text (expr_text reads a) (op_text o) (expr_text reads b)
-  pair_text_is reads = fold_by (List ℕ) (expr_text_step reads) o a b ∙ text_layer reads o (expr_text reads a) (expr_text reads b)
+  pair_text_is reads = binary_fold (List ℕ) (expr_text_step reads) o a b ∙ text_layer reads o (expr_text reads a) (expr_text reads b)
 
   pub pair_nodes : expr_nodes (with_op o a b) ≡ 1 + expr_nodes a + expr_nodes b
-  pair_nodes = fold_by ℕ (expr_by 1 (λ _ _. 1) (λ x y. 1 + x + y)) o a b ∙ by_layer 1 (λ _ _. 1) (λ x y. 1 + x + y) o (expr_nodes a) (expr_nodes b)
+  pair_nodes = binary_fold ℕ (expr_by 1 (λ _ _. 1) (λ x y. 1 + x + y)) o a b ∙ by_layer 1 (λ _ _. 1) (λ x y. 1 + x + y) o (expr_nodes a) (expr_nodes b)
 
   pub pair_depth : expr_depth (with_op o a b) ≡ 1 + max (expr_depth a) (expr_depth b)
-  pair_depth = fold_by ℕ (expr_by 1 (λ _ _. 1) (λ x y. 1 + max x y)) o a b ∙ by_layer 1 (λ _ _. 1) (λ x y. 1 + max x y) o (expr_depth a) (expr_depth b)
+  pair_depth = binary_fold ℕ (expr_by 1 (λ _ _. 1) (λ x y. 1 + max x y)) o a b ∙ by_layer 1 (λ _ _. 1) (λ x y. 1 + max x y) o (expr_depth a) (expr_depth b)
 
   pub pair_passes : (get : ℕ → ℕ → Bool) → expr_passes get (with_op o a b) ≡ (expr_passes get a && expr_passes get b)
-  pair_passes get = fold_by Bool (expr_by true get (λ x y. x && y)) o a b ∙ by_layer true get (λ x y. x && y) o (expr_passes get a) (expr_passes get b)
-
-  pub pair_fits : expr_fits (with_op o a b) ≡ (expr_fits a && expr_fits b)
-  pair_fits = fold_by Bool expr_fits_step o a b ∙ fits_layer o (expr_fits a) (expr_fits b)
+  pair_passes get = binary_fold Bool (expr_by true get (λ x y. x && y)) o a b ∙ by_layer true get (λ x y. x && y) o (expr_passes get a) (expr_passes get b)
 
 pub lit_text : (reads : List ObjectId) (z : ℤ) → expr_text reads (expr.Lit z) ≡ signed_decimal z
 lit_text reads z = lit_fold (List ℕ) (expr_text_step reads) z
@@ -114,9 +65,6 @@ lit_nodes z = lit_fold ℕ (expr_by 1 (λ _ _. 1) (λ x y. 1 + x + y)) z
 
 pub lit_depth : (z : ℤ) → expr_depth (expr.Lit z) ≡ 1
 lit_depth z = lit_fold ℕ (expr_by 1 (λ _ _. 1) (λ x y. 1 + max x y)) z
-
-pub lit_fits : (z : ℤ) → expr_fits (expr.Lit z) ≡ is_i64 z
-lit_fits z = lit_fold Bool expr_fits_step z
 
 pub attr_text : (reads : List ObjectId) (slot attr : ℕ) → expr_text reads (expr.Attr slot attr) ≡ ref_text reads slot attr
 attr_text reads slot attr = attr_fold (List ℕ) (expr_text_step reads) slot attr
@@ -130,67 +78,25 @@ attr_depth slot attr = attr_fold ℕ (expr_by 1 (λ _ _. 1) (λ x y. 1 + max x y
 pub attr_passes : (get : ℕ → ℕ → Bool) (slot attr : ℕ) → expr_passes get (expr.Attr slot attr) ≡ get slot attr
 attr_passes get slot attr = attr_fold Bool (expr_by true get (λ x y. x && y)) slot attr
 
-pub attr_fits : (slot attr : ℕ) → expr_fits (expr.Attr slot attr) ≡ nat_lt attr 256
-attr_fits slot attr = attr_fold Bool expr_fits_step slot attr
-
 -- ---- conditions
 
-abbrev pub comparison_text : Comparison → List ℕ
-comparison_text comparisons.Equal = codes " == "
-comparison_text comparisons.Less = codes " < "
-comparison_text comparisons.LessEqual = codes " <= "
+test_text_layer : (reads : List ObjectId) (o : Comparison) (a b : Expr) → cond_text_step reads (compare_layer o a b) ≡ test_text (expr_text reads a) (comparison_text o) (expr_text reads b)
+test_text_layer reads comparisons.Eq a b = refl
+test_text_layer reads comparisons.Lt a b = refl
+test_text_layer reads comparisons.Le a b = refl
 
-abbrev pub joint_text : Joint → List ℕ
-joint_text joints.And = codes " and "
-joint_text joints.Or = codes " or "
-
-abbrev test_layer : {A : Type 0} → Comparison → Expr → Expr → Cond-F A
-test_layer comparisons.Equal a b = Cond-F.Eq a b
-test_layer comparisons.Less a b = Cond-F.Lt a b
-test_layer comparisons.LessEqual a b = Cond-F.Le a b
-
-abbrev joint_layer : {A : Type 0} → Joint → A → A → Cond-F A
-joint_layer joints.And a b = Cond-F.And a b
-joint_layer joints.Or a b = Cond-F.Or a b
-
-test_fold : (A : Type 0) (step : Cond-F A → A) (o : Comparison) (a b : Expr) → fold-Cond A step (with_comparison o a b) ≡ step (test_layer o a b)
-test_fold A step comparisons.Equal a b = ap (fold-Cond A step) (sym (test.rolls-Eq a b)) ∙ fold-roll-Cond A step (Cond-F.Eq a b)
-test_fold A step comparisons.Less a b = ap (fold-Cond A step) (sym (test.rolls-Lt a b)) ∙ fold-roll-Cond A step (Cond-F.Lt a b)
-test_fold A step comparisons.LessEqual a b = ap (fold-Cond A step) (sym (test.rolls-Le a b)) ∙ fold-roll-Cond A step (Cond-F.Le a b)
-
-joint_fold : (A : Type 0) (step : Cond-F A → A) (o : Joint) (a b : Cond) → fold-Cond A step (with_joint o a b) ≡ step (joint_layer o (fold-Cond A step a) (fold-Cond A step b))
-joint_fold A step joints.And a b = ap (fold-Cond A step) (sym (test.rolls-And a b)) ∙ fold-roll-Cond A step (Cond-F.And a b)
-joint_fold A step joints.Or a b = ap (fold-Cond A step) (sym (test.rolls-Or a b)) ∙ fold-roll-Cond A step (Cond-F.Or a b)
-
-not_fold : (A : Type 0) (step : Cond-F A → A) (a : Cond) → fold-Cond A step (test.Not a) ≡ step (Cond-F.Not (fold-Cond A step a))
-not_fold A step a = ap (fold-Cond A step) (sym (test.rolls-Not a)) ∙ fold-roll-Cond A step (Cond-F.Not a)
-
-test_text_layer : (reads : List ObjectId) (o : Comparison) (a b : Expr) → cond_text_step reads (test_layer o a b) ≡ test_text (expr_text reads a) (comparison_text o) (expr_text reads b)
-test_text_layer reads comparisons.Equal a b = refl
-test_text_layer reads comparisons.Less a b = refl
-test_text_layer reads comparisons.LessEqual a b = refl
-
-joint_text_layer : (reads : List ObjectId) (o : Joint) (x y : List ℕ) → cond_text_step reads (joint_layer o x y) ≡ pair_text x (joint_text o) y
+joint_text_layer : (reads : List ObjectId) (o : Connective) (x y : List ℕ) → cond_text_step reads (join_layer o x y) ≡ pair_text x (joint_text o) y
 joint_text_layer reads joints.And x y = refl
 joint_text_layer reads joints.Or x y = refl
 
-test_by : {A : Type 0} (value : Expr → A) (both : A → A → A) (one : A → A) (o : Comparison) (a b : Expr) → cond_by value both one (test_layer o a b) ≡ both (value a) (value b)
-test_by value both one comparisons.Equal a b = refl
-test_by value both one comparisons.Less a b = refl
-test_by value both one comparisons.LessEqual a b = refl
+test_by : {A : Type 0} (value : Expr → A) (both : A → A → A) (one : A → A) (o : Comparison) (a b : Expr) → cond_by value both one (compare_layer o a b) ≡ both (value a) (value b)
+test_by value both one comparisons.Eq a b = refl
+test_by value both one comparisons.Lt a b = refl
+test_by value both one comparisons.Le a b = refl
 
-joint_by : {A : Type 0} (value : Expr → A) (both : A → A → A) (one : A → A) (o : Joint) (x y : A) → cond_by value both one (joint_layer o x y) ≡ both x y
+joint_by : {A : Type 0} (value : Expr → A) (both : A → A → A) (one : A → A) (o : Connective) (x y : A) → cond_by value both one (join_layer o x y) ≡ both x y
 joint_by value both one joints.And x y = refl
 joint_by value both one joints.Or x y = refl
-
-test_fits_layer : (o : Comparison) (a b : Expr) → cond_fits_step (test_layer o a b) ≡ (expr_fits a && expr_fits b)
-test_fits_layer comparisons.Equal a b = refl
-test_fits_layer comparisons.Less a b = refl
-test_fits_layer comparisons.LessEqual a b = refl
-
-joint_fits_layer : (o : Joint) (x y : Bool) → cond_fits_step (joint_layer o x y) ≡ (x && y)
-joint_fits_layer joints.And x y = refl
-joint_fits_layer joints.Or x y = refl
 
 abbrev cond_counts : Cond-F ℕ → ℕ
 cond_counts = cond_by expr_nodes (λ x y. 1 + x + y) (λ x. 1 + x)
@@ -201,36 +107,30 @@ cond_levels = cond_by expr_depth (λ x y. 1 + max x y) (λ x. 1 + x)
 -- a comparison
 module _ (o : Comparison) (a b : Expr) where
   pub test_text_is : (reads : List ObjectId) → cond_text reads (with_comparison o a b) ≡ test_text (expr_text reads a) (comparison_text o) (expr_text reads b)
-  test_text_is reads = test_fold (List ℕ) (cond_text_step reads) o a b ∙ test_text_layer reads o a b
+  test_text_is reads = compare_fold (List ℕ) (cond_text_step reads) o a b ∙ test_text_layer reads o a b
 
   pub test_nodes : cond_nodes (with_comparison o a b) ≡ 1 + expr_nodes a + expr_nodes b
-  test_nodes = test_fold ℕ cond_counts o a b ∙ test_by expr_nodes (λ x y. 1 + x + y) (λ x. 1 + x) o a b
+  test_nodes = compare_fold ℕ cond_counts o a b ∙ test_by expr_nodes (λ x y. 1 + x + y) (λ x. 1 + x) o a b
 
   pub test_depth : cond_depth (with_comparison o a b) ≡ 1 + max (expr_depth a) (expr_depth b)
-  test_depth = test_fold ℕ cond_levels o a b ∙ test_by expr_depth (λ x y. 1 + max x y) (λ x. 1 + x) o a b
+  test_depth = compare_fold ℕ cond_levels o a b ∙ test_by expr_depth (λ x y. 1 + max x y) (λ x. 1 + x) o a b
 
   pub test_passes : (get : ℕ → ℕ → Bool) → cond_passes get (with_comparison o a b) ≡ (expr_passes get a && expr_passes get b)
-  test_passes get = test_fold Bool (cond_by (expr_passes get) (λ x y. x && y) (λ x. x)) o a b ∙ test_by (expr_passes get) (λ x y. x && y) (λ x. x) o a b
-
-  pub test_fits : cond_fits (with_comparison o a b) ≡ (expr_fits a && expr_fits b)
-  test_fits = test_fold Bool cond_fits_step o a b ∙ test_fits_layer o a b
+  test_passes get = compare_fold Bool (cond_by (expr_passes get) (λ x y. x && y) (λ x. x)) o a b ∙ test_by (expr_passes get) (λ x y. x && y) (λ x. x) o a b
 
 -- a condition of two parts
-module _ (o : Joint) (a b : Cond) where
+module _ (o : Connective) (a b : Cond) where
   pub joint_text_is : (reads : List ObjectId) → cond_text reads (with_joint o a b) ≡ pair_text (cond_text reads a) (joint_text o) (cond_text reads b)
-  joint_text_is reads = joint_fold (List ℕ) (cond_text_step reads) o a b ∙ joint_text_layer reads o (cond_text reads a) (cond_text reads b)
+  joint_text_is reads = join_fold (List ℕ) (cond_text_step reads) o a b ∙ joint_text_layer reads o (cond_text reads a) (cond_text reads b)
 
   pub joint_nodes : cond_nodes (with_joint o a b) ≡ 1 + cond_nodes a + cond_nodes b
-  joint_nodes = joint_fold ℕ cond_counts o a b ∙ joint_by expr_nodes (λ x y. 1 + x + y) (λ x. 1 + x) o (cond_nodes a) (cond_nodes b)
+  joint_nodes = join_fold ℕ cond_counts o a b ∙ joint_by expr_nodes (λ x y. 1 + x + y) (λ x. 1 + x) o (cond_nodes a) (cond_nodes b)
 
   pub joint_depth : cond_depth (with_joint o a b) ≡ 1 + max (cond_depth a) (cond_depth b)
-  joint_depth = joint_fold ℕ cond_levels o a b ∙ joint_by expr_depth (λ x y. 1 + max x y) (λ x. 1 + x) o (cond_depth a) (cond_depth b)
+  joint_depth = join_fold ℕ cond_levels o a b ∙ joint_by expr_depth (λ x y. 1 + max x y) (λ x. 1 + x) o (cond_depth a) (cond_depth b)
 
   pub joint_passes : (get : ℕ → ℕ → Bool) → cond_passes get (with_joint o a b) ≡ (cond_passes get a && cond_passes get b)
-  joint_passes get = joint_fold Bool (cond_by (expr_passes get) (λ x y. x && y) (λ x. x)) o a b ∙ joint_by (expr_passes get) (λ x y. x && y) (λ x. x) o (cond_passes get a) (cond_passes get b)
-
-  pub joint_fits : cond_fits (with_joint o a b) ≡ (cond_fits a && cond_fits b)
-  joint_fits = joint_fold Bool cond_fits_step o a b ∙ joint_fits_layer o (cond_fits a) (cond_fits b)
+  joint_passes get = join_fold Bool (cond_by (expr_passes get) (λ x y. x && y) (λ x. x)) o a b ∙ joint_by (expr_passes get) (λ x y. x && y) (λ x. x) o (cond_passes get a) (cond_passes get b)
 
 -- the contrary of a condition
 module _ (a : Cond) where
@@ -246,16 +146,7 @@ module _ (a : Cond) where
   pub not_passes : (get : ℕ → ℕ → Bool) → cond_passes get (test.Not a) ≡ cond_passes get a
   not_passes get = not_fold Bool (cond_by (expr_passes get) (λ x y. x && y) (λ x. x)) a
 
-  pub not_fits : cond_fits (test.Not a) ≡ cond_fits a
-  not_fits = not_fold Bool cond_fits_step a
-
 -- ---- statements
-
-set_fold : (A : Type 0) (step : Stmt-F A → A) (slot attr : ℕ) (e : Expr) → fold-Stmt A step (stmt.Set slot attr e) ≡ step (Stmt-F.Set slot attr e)
-set_fold A step slot attr e = ap (fold-Stmt A step) (sym (stmt.rolls-Set slot attr e)) ∙ fold-roll-Stmt A step (Stmt-F.Set slot attr e)
-
-if_fold : (A : Type 0) (step : Stmt-F A → A) (c : Cond) (xs ys : List Stmt) → fold-Stmt A step (stmt.If c xs ys) ≡ step (Stmt-F.If c (map (fold-Stmt A step) xs) (map (fold-Stmt A step) ys))
-if_fold A step c xs ys = ap (fold-Stmt A step) (sym (stmt.rolls-If c xs ys)) ∙ fold-roll-Stmt A step (Stmt-F.If c xs ys)
 
 module _ (slot attr : ℕ) (e : Expr) where
   pub set_text_is : (reads : List ObjectId) → stmt_text reads (stmt.Set slot attr e) ≡ set_text reads slot attr e
@@ -270,9 +161,6 @@ module _ (slot attr : ℕ) (e : Expr) where
   pub set_passes : (set get : ℕ → ℕ → Bool) → stmt_passes set get (stmt.Set slot attr e) ≡ (set slot attr && expr_passes get e)
   set_passes set get = set_fold Bool (stmt_passes_step set get) slot attr e
 
-  pub set_fits : stmt_fits (stmt.Set slot attr e) ≡ (nat_lt attr 256 && expr_fits e)
-  set_fits = set_fold Bool stmt_fits_step slot attr e
-
 module _ (c : Cond) (xs ys : List Stmt) where
   pub if_text : (reads : List ObjectId) → stmt_text reads (stmt.If c xs ys) ≡ codes "if " ++ cond_text reads c ++ codes " " ++ block_text (map (stmt_text reads) xs) ++ else_text (map (stmt_text reads) ys)
   if_text reads = if_fold (List ℕ) (stmt_text_step reads) c xs ys
@@ -285,6 +173,3 @@ module _ (c : Cond) (xs ys : List Stmt) where
 
   pub if_passes : (set get : ℕ → ℕ → Bool) → stmt_passes set get (stmt.If c xs ys) ≡ (cond_passes get c && (body_passes set get xs && body_passes set get ys))
   if_passes set get = if_fold Bool (stmt_passes_step set get) c xs ys
-
-  pub if_fits : stmt_fits (stmt.If c xs ys) ≡ (cond_fits c && (body_fits xs && body_fits ys))
-  if_fits = if_fold Bool stmt_fits_step c xs ys

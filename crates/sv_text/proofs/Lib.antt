@@ -3,8 +3,10 @@ pub mod Words
 pub mod Lexing
 pub mod Next
 pub mod Depth
+pub mod Flat
 pub mod Turns
 pub mod Printing
+pub mod Printed
 pub mod Found
 pub mod FoundBody
 pub mod FoundAction

@@ -1,14 +1,8 @@
--- One turn of the loop over the slots of a mask, and how far a printed tree goes.
+-- One turn of the loop over the slots of a mask, and the object in a slot.
 use Rattle.std.proofs.Common.{◌≡◌, ℕ, zero, suc, ◌+◌, ◌/◌, ◌%◌, ◌<◌, ◌≤◌, true, false, cond, eqb, List, [], ◌∷◌, ◌++◌, length, drop, get_or, refl, sym, ap, ◌∙◌, append_assoc, arith}
 use Rattle.std.proofs.Math.Seq.{drop-cons}
 use Rattle.std.proofs.lemmas.List.Concat.{flat_map-cons}
 use Rattle.sv_world.specs.declared.world.ObjectId.{ObjectId}
-use Rattle.sv_world.specs.declared.action.Expr.{Expr}
-use Rattle.sv_world.specs.declared.action.Expr.TheOpen.{Expr-F}
-use Rattle.sv_world.specs.declared.action.Expr.TheFolds.{fold-Expr}
-use Rattle.sv_world.specs.declared.action.Cond.{Cond}
-use Rattle.sv_world.specs.declared.action.Cond.TheOpen.{Cond-F}
-use Rattle.sv_world.specs.declared.action.Cond.TheFolds.{fold-Cond}
 use Rattle.sv_text.specs.Canonical.{object_in, object_text, objects_text, written}
 
 objects_text-written : (r : ObjectId) (rs : List ObjectId) (mask : ℕ) → objects_text (written (r ∷ rs) mask) ≡ cond (eqb (mask % 2) 1) (object_text r) [] ++ objects_text (written rs (mask / 2))
@@ -28,31 +22,6 @@ written_turn reads i mask d front after total lt new told =
     let here : front ++ objects_text (written (drop i reads) mask) ≡ front ++ (cond (eqb (mask % 2) 1) (object_text r) [] ++ objects_text rest) =
     ap (λ (l : List ObjectId). front ++ objects_text (written l mask)) (drop-cons reads i d lt) ∙ ap (λ (l : List ℕ). front ++ l) (objects_text-written r (drop (suc i) reads) mask) in
     rw (new, one) (append_assoc front (cond (eqb (mask % 2) 1) (object_text r) []) (objects_text rest) ∙ sym here ∙ told)
-
-abbrev expr_weight_step : Expr-F ℕ → ℕ
-expr_weight_step (Expr-F.Lit z) = 1
-expr_weight_step (Expr-F.Attr slot attr) = 1
-expr_weight_step (Expr-F.Add a b) = 1 + a + b
-expr_weight_step (Expr-F.Sub a b) = 1 + a + b
-expr_weight_step (Expr-F.Mul a b) = 1 + a + b
-expr_weight_step (Expr-F.Div a b) = 1 + a + b
-expr_weight_step (Expr-F.Rem a b) = 1 + a + b
-expr_weight_step (Expr-F.Min a b) = 1 + a + b
-expr_weight_step (Expr-F.Max a b) = 1 + a + b
-
-abbrev pub expr_weight : Expr → ℕ
-expr_weight = fold-Expr ℕ expr_weight_step
-
-abbrev cond_weight_step : Cond-F ℕ → ℕ
-cond_weight_step (Cond-F.Eq a b) = 1
-cond_weight_step (Cond-F.Lt a b) = 1
-cond_weight_step (Cond-F.Le a b) = 1
-cond_weight_step (Cond-F.And a b) = 1 + a + b
-cond_weight_step (Cond-F.Or a b) = 1 + a + b
-cond_weight_step (Cond-F.Not a) = 1 + a
-
-abbrev pub cond_weight : Cond → ℕ
-cond_weight = fold-Cond ℕ cond_weight_step
 
 pub object_in_at : (reads : List ObjectId) (k : ℕ) (d : ObjectId) → k < length reads → object_in reads k ≡ (get_or reads k d).0
 object_in_at [] k d lt = absurd (omega arith)

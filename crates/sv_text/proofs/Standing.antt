@@ -14,23 +14,25 @@ use Rattle.sv_world.specs.declared.action.Cond.TheVariants as test
 use Rattle.sv_world.specs.declared.action.Cond.TheOpen.{Cond-F}
 use Rattle.sv_world.specs.declared.action.Cond.TheViews.{roll-Cond}
 use Rattle.sv_world.specs.declared.action.Cond.TheFolds.{ind-Cond}
+use Rattle.sv_world.specs.Parts.{binary_by as with_op, compare_by as with_comparison, join_by as with_joint}
 use Rattle.sv_text.specs.declared.token.Mark.{Mark}
 use Rattle.sv_text.specs.declared.token.Mark.TheVariants as marks
 use Rattle.sv_text.specs.declared.token.Token.TheVariants as tokens
 use Rattle.sv_text.specs.declared.token.Lexeme.{Lexeme}
-use Rattle.sv_text.specs.declared.parts.Op.{Op}
-use Rattle.sv_text.specs.declared.parts.Op.TheVariants as ops
-use Rattle.sv_text.specs.declared.parts.Comparison.{Comparison}
-use Rattle.sv_text.specs.declared.parts.Comparison.TheVariants as comparisons
-use Rattle.sv_text.specs.declared.parts.Joint.{Joint}
-use Rattle.sv_text.specs.declared.parts.Joint.TheVariants as joints
+use Rattle.sv_world.specs.declared.node.Operator.{Operator}
+use Rattle.sv_world.specs.declared.node.Operator.TheVariants as ops
+use Rattle.sv_world.specs.declared.node.Comparison.{Comparison}
+use Rattle.sv_world.specs.declared.node.Comparison.TheVariants as comparisons
+use Rattle.sv_world.specs.declared.node.Connective.{Connective}
+use Rattle.sv_world.specs.declared.node.Connective.TheVariants as joints
 use Rattle.sv_text.specs.Tokens.{is_word}
-use Rattle.sv_text.specs.Reading.{front, rest_of, slot_from, with_op, with_comparison, with_joint}
+use Rattle.sv_text.specs.Reading.{front, rest_of, slot_from}
 use Rattle.sv_text.specs.Grammar.{Place, Form, IsMark, IsNode, IsNumber, IsRef, op_mark, comparison_mark, joint_mark, IsExpr, IsCond}
-use Rattle.sv_text.specs.Canonical.{object_in, ref_text, expr_text, cond_text}
-use Rattle.sv_text.specs.Printable.{expr_fits, cond_fits}
+use Rattle.sv_text.specs.Canonical.{object_in, ref_text, expr_text, cond_text, op_text, comparison_text, joint_text}
+use Rattle.sv_world.specs.Ranges.{is_byte, expr_fits, cond_fits}
 use Rattle.sv_text.proofs.Lexing.{blank_front}
-use Rattle.sv_text.proofs.Layers.{op_text, pair_text_is, pair_nodes, pair_depth, pair_passes, pair_fits, lit_text, lit_nodes, lit_depth, lit_fits, attr_text, attr_nodes, attr_depth, attr_passes, attr_fits, comparison_text, joint_text, test_text_is, test_nodes, test_depth, test_passes, test_fits, joint_text_is, joint_nodes, joint_depth, joint_passes, joint_fits, not_text, not_nodes, not_depth, not_passes, not_fits}
+use Rattle.sv_world.proofs.Ranged.{binary_fits as pair_fits, lit_fits, attr_fits, compare_fits as test_fits, join_fits as joint_fits, not_fits}
+use Rattle.sv_text.proofs.Layers.{pair_text_is, pair_nodes, pair_depth, pair_passes, lit_text, lit_nodes, lit_depth, attr_text, attr_nodes, attr_depth, attr_passes, test_text_is, test_nodes, test_depth, test_passes, joint_text_is, joint_nodes, joint_depth, joint_passes, not_text, not_nodes, not_depth, not_passes}
 use Rattle.sv_text.proofs.Spelled.{toks, lexeme, Stops, spelled, spaced_stands, is_bracket, bracket_stands, number_stands, ref_bytes, ref_stands}
 
 -- ---- one token
@@ -100,7 +102,7 @@ abbrev pub ExprStands : List ObjectId → Expr → Type 0
 ExprStands reads e = (depth nodes place : ℕ) (rest : List ℕ) → expr_fits e ≡ true → expr_passes (below (length reads)) e ≡ true → expr_depth e ≤ depth → nodes + expr_nodes e ≤ 64 → Stops rest
     → (next : ℕ) × (glued : Bool) × IsExpr reads depth e (nodes, toks place false (expr_text reads e ++ rest)) (nodes + expr_nodes e, toks next glued rest)
 
-op_spelled : (o : Op) (rest : List ℕ) → op_text o ++ rest ≡ 32 ∷ (spelled (op_mark o) ++ (32 ∷ rest))
+op_spelled : (o : Operator) (rest : List ℕ) → op_text o ++ rest ≡ 32 ∷ (spelled (op_mark o) ++ (32 ∷ rest))
 op_spelled ops.Add rest = refl
 op_spelled ops.Sub rest = refl
 op_spelled ops.Mul rest = refl
@@ -109,7 +111,7 @@ op_spelled ops.Rem rest = refl
 op_spelled ops.Min rest = refl
 op_spelled ops.Max rest = refl
 
-op_some : (o : Op) → 0 < length (spelled (op_mark o))
+op_some : (o : Operator) → 0 < length (spelled (op_mark o))
 op_some ops.Add = omega arith
 op_some ops.Sub = omega arith
 op_some ops.Mul = omega arith
@@ -147,7 +149,7 @@ module _ (reads : List ObjectId) (own : HasSlots reads) where
   attr_stands slot attr (suc depth) nodes place rest fits passes deep few stop =
       let count = attr_nodes slot attr in
       let low : slot < length reads = ltb-true slot (length reads) (sym (attr_passes (below (length reads)) slot attr) ∙ passes) in
-      let byte : attr < 256 = ltb-true attr 256 (sym (attr_fits slot attr) ∙ fits) in
+      let byte : attr < 256 = ltb-true attr 256 (and_parts (is_byte slot) (is_byte attr) (sym (attr_fits slot attr) ∙ fits)).1 in
       let object = object_in reads slot in
       let t = ref_bytes object attr in
       let r = ref_stands object attr rest (own slot low).0 byte stop place false in (
@@ -158,7 +160,7 @@ module _ (reads : List ObjectId) (own : HasSlots reads) where
             (inr (inr (record { slot = slot; attr = attr; made = refl; few = omega arith; count = refl; here = subst (λ (k : List Lexeme). IsRef reads slot attr k (toks r.0 false rest)) (sym r.1) (object, (own slot low).1, refl, refl) }))),
       )
 
-  pair_stands : (o : Op) (a b : Expr) → ExprStands reads a → ExprStands reads b → ExprStands reads (with_op o a b)
+  pair_stands : (o : Operator) (a b : Expr) → ExprStands reads a → ExprStands reads b → ExprStands reads (with_op o a b)
   pair_stands o a b p q zero nodes place rest fits passes deep few stop = absurd (omega (arith, pair_depth o a b))
   pair_stands o a b p q (suc depth) nodes place rest fits passes deep few stop =
       let count = pair_nodes o a b in
@@ -216,20 +218,20 @@ module _ (reads : List ObjectId) (own : HasSlots reads) where
 -- ---- conditions
 
 comparison_spelled : (o : Comparison) (rest : List ℕ) → comparison_text o ++ rest ≡ 32 ∷ (spelled (comparison_mark o) ++ (32 ∷ rest))
-comparison_spelled comparisons.Equal rest = refl
-comparison_spelled comparisons.Less rest = refl
-comparison_spelled comparisons.LessEqual rest = refl
+comparison_spelled comparisons.Eq rest = refl
+comparison_spelled comparisons.Lt rest = refl
+comparison_spelled comparisons.Le rest = refl
 
 comparison_some : (o : Comparison) → 0 < length (spelled (comparison_mark o))
-comparison_some comparisons.Equal = omega arith
-comparison_some comparisons.Less = omega arith
-comparison_some comparisons.LessEqual = omega arith
+comparison_some comparisons.Eq = omega arith
+comparison_some comparisons.Lt = omega arith
+comparison_some comparisons.Le = omega arith
 
-joint_spelled : (o : Joint) (rest : List ℕ) → joint_text o ++ rest ≡ 32 ∷ (spelled (joint_mark o) ++ (32 ∷ rest))
+joint_spelled : (o : Connective) (rest : List ℕ) → joint_text o ++ rest ≡ 32 ∷ (spelled (joint_mark o) ++ (32 ∷ rest))
 joint_spelled joints.And rest = refl
 joint_spelled joints.Or rest = refl
 
-joint_some : (o : Joint) → 0 < length (spelled (joint_mark o))
+joint_some : (o : Connective) → 0 < length (spelled (joint_mark o))
 joint_some joints.And = omega arith
 joint_some joints.Or = omega arith
 
@@ -277,7 +279,7 @@ module _ (reads : List ObjectId) (own : HasSlots reads) where
             })),
       )
 
-  joint_stands : (o : Joint) (a b : Cond) → CondStands reads a → CondStands reads b → CondStands reads (with_joint o a b)
+  joint_stands : (o : Connective) (a b : Cond) → CondStands reads a → CondStands reads b → CondStands reads (with_joint o a b)
   joint_stands o a b p q zero nodes place rest fits passes deep few = absurd (omega (arith, joint_depth o a b))
   joint_stands o a b p q (suc depth) nodes place rest fits passes deep few =
       let count = joint_nodes o a b in
@@ -339,9 +341,9 @@ module _ (reads : List ObjectId) (own : HasSlots reads) where
       )
 
   cond_layer : {Z : Type 0} (p : Z → Cond) → ((z : Z) → CondStands reads (p z)) → (y : Cond-F Z) → CondStands reads (roll-Cond (map-Cond Z Cond p y))
-  cond_layer p q (Cond-F.Eq a b) = subst (λ (c : Cond). CondStands reads c) (sym (test.rolls-Eq a b)) (test_stands comparisons.Equal a b)
-  cond_layer p q (Cond-F.Lt a b) = subst (λ (c : Cond). CondStands reads c) (sym (test.rolls-Lt a b)) (test_stands comparisons.Less a b)
-  cond_layer p q (Cond-F.Le a b) = subst (λ (c : Cond). CondStands reads c) (sym (test.rolls-Le a b)) (test_stands comparisons.LessEqual a b)
+  cond_layer p q (Cond-F.Eq a b) = subst (λ (c : Cond). CondStands reads c) (sym (test.rolls-Eq a b)) (test_stands comparisons.Eq a b)
+  cond_layer p q (Cond-F.Lt a b) = subst (λ (c : Cond). CondStands reads c) (sym (test.rolls-Lt a b)) (test_stands comparisons.Lt a b)
+  cond_layer p q (Cond-F.Le a b) = subst (λ (c : Cond). CondStands reads c) (sym (test.rolls-Le a b)) (test_stands comparisons.Le a b)
   cond_layer p q (Cond-F.And a b) = subst (λ (c : Cond). CondStands reads c) (sym (test.rolls-And (p a) (p b))) (joint_stands joints.And (p a) (p b) (q a) (q b))
   cond_layer p q (Cond-F.Or a b) = subst (λ (c : Cond). CondStands reads c) (sym (test.rolls-Or (p a) (p b))) (joint_stands joints.Or (p a) (p b) (q a) (q b))
   cond_layer p q (Cond-F.Not a) = subst (λ (c : Cond). CondStands reads c) (sym (test.rolls-Not (p a))) (not_stands (p a) (q a))

@@ -19,7 +19,10 @@ use Rattle.sv_text.specs.Tokens.{tokens_from, tokens_of, word_of, token_at, word
 use Rattle.sv_text.specs.Reading.{front, rest_of, slot_from, reading}
 use Rattle.sv_text.specs.Grammar.{Place, IsMark, IsWord, IsObject, IsAscending, IsMask, AreAll, IsCoordinate, MayBeOrigin, IsBlock, IsStmt, IsActionText}
 use Rattle.sv_text.specs.Canonical.{object_in, objects_text, written, is_zero, origin_text, body_text, canonical}
-use Rattle.sv_text.specs.Printable.{is_i64, ObjectFits, IsPrintable}
+use Rattle.sv_world.specs.Ranges.{is_i64, body_fits}
+use Rattle.std.proofs.lemmas.List.Elements.{recursion_from_All}
+use Rattle.std.specs.Prelude.{All}
+use Rattle.sv_text.specs.Printable.{ObjectFits, IsWithinGrammar, IsPrintable}
 use Rattle.sv_text.proofs.AgainAction.{action_again}
 use Rattle.sv_text.proofs.Found.{ok_is}
 use Rattle.sv_text.proofs.Spelled.{toks, lexeme, Stops, spelled, spaced_stands, number_stands}
@@ -274,8 +277,8 @@ canonical_stands a p =
     let third = 32 ∷ b in
     let second = o ++ third in
     let first = w ++ second in
-    let own = has_own a.reads p.objects p.ascending in
-    let plane = and_parts (is_in_plane a.origin.x) (is_in_plane a.origin.y) p.origin in
+    let own = has_own a.reads p.objects p.within.ascending in
+    let plane = and_parts (is_in_plane a.origin.x) (is_in_plane a.origin.y) p.within.origin in
     let blank_three : Blank third = (b, refl) in
     let blank_two : Blank second = origin_begins a.origin third blank_three in
     let blank_one : Blank first = objects_begin objects second blank_two in
@@ -286,8 +289,8 @@ canonical_stands a p =
     let word = writes_word os.0 os.1 first blank_one in
     let ws = objects_stand objects (written_fits a.reads a.mask p.objects) word.0 true second blank_two in
     let origin = origin_stands a.origin plane.0 plane.1 ws.0 ws.1 b in
-    let body = block_stands a.reads a.body (all_stand a.reads own a.body) 8 0 origin.0 false [] p.numbers p.slots p.shallow (let few : 0 + body_nodes a.body ≤ 64 = omega (arith, p.few_nodes) in few) in
-    let up : IsAscending 0 a.reads = ascends a.reads 0 p.ascending (λ _ _ _. omega arith) in
+    let body = block_stands a.reads a.body (all_stand a.reads own a.body) 8 0 origin.0 false [] p.numbers p.within.slots p.within.shallow (let few : 0 + body_nodes a.body ≤ 64 = omega (arith, p.within.few_nodes) in few) in
+    let up : IsAscending 0 a.reads = ascends a.reads 0 p.within.ascending (λ _ _ _. omega arith) in
     let nodes = 0 + body_nodes a.body in
     let four : Place = (nodes, toks body.0 false []) in
     let block : IsBlock (IsStmt a.reads 8) a.body (0, toks origin.0 false b) four = subst (λ (t : List ℕ). IsBlock (IsStmt a.reads 8) a.body (0, toks origin.0 false t) four) (append-nil b) body.1 in
@@ -304,14 +307,14 @@ canonical_stands a p =
         objects = os.2;
         behind = word.1;
         ascending = up;
-        some = p.some_reads;
-        few = p.few_reads;
+        some = p.within.some_reads;
+        few = p.within.few_reads;
       };
       writes = record {
         objects = objects;
         here = ws.2;
         ascending = written_ascends a.reads a.mask 0 up;
-        bits = mask_stands a.reads a.mask own p.mask;
+        bits = mask_stands a.reads a.mask own p.within.mask;
       };
       origin = origin.1;
       body = block;
@@ -329,6 +332,7 @@ printed_again a text is p = subst (λ (t : List ℕ). reading (tokens_of t) ≡ 
 pub canonical_injective : (a b : Action) → IsPrintable a → IsPrintable b → canonical a ≡ canonical b → a ≡ b
 canonical_injective a b p q e = ok_is a b (sym (canonical_again a p) ∙ printed_again b (canonical a) e q)
 
-pub again_if_ok : {S E : Type 0} (bytes : S → List ℕ) (a : Action) (r : Result S E) → IfOk r (λ t. bytes t ≡ canonical a) → IfOk r (λ t. IsPrintable a → reading (tokens_of (bytes t)) ≡ Ok a)
-again_if_ok bytes a (Ok t) given = printed_again a (bytes t) given
-again_if_ok bytes a (Err e) given = tt
+pub again_if_ok : {S E : Type 0} (bytes : S → List ℕ) (a : Action) (r : Result S E) → All ObjectFits a.reads → body_fits a.body ≡ true → IfOk r (λ t. bytes t ≡ canonical a)
+    → IfOk r (λ t. IsWithinGrammar a → reading (tokens_of (bytes t)) ≡ Ok a)
+again_if_ok bytes a (Ok t) objects numbers given = λ p. printed_again a (bytes t) given (record { within = p; objects = recursion_from_All ObjectFits a.reads objects; numbers = numbers })
+again_if_ok bytes a (Err e) objects numbers given = tt

@@ -18,8 +18,9 @@ use Rattle.sv_text.specs.declared.token.Lexeme.{Lexeme}
 use Rattle.sv_text.specs.Tokens.{is_word}
 use Rattle.sv_text.specs.Grammar.{Place, IsMark, IsRef, AreAll, IsBlock, MayBeElse, IsStmt}
 use Rattle.sv_text.specs.Canonical.{object_in, ref_text, expr_text, cond_text, spaced, block_text, else_text, stmt_text}
-use Rattle.sv_text.specs.Printable.{expr_fits, cond_fits, stmt_fits, body_fits}
-use Rattle.sv_text.proofs.Layers.{set_text_is, set_nodes, set_depth, set_passes, set_fits, if_text, if_nodes, if_depth, if_passes, if_fits}
+use Rattle.sv_world.specs.Ranges.{is_byte, expr_fits, cond_fits, stmt_fits, body_fits}
+use Rattle.sv_world.proofs.Ranged.{set_fits, if_fits}
+use Rattle.sv_text.proofs.Layers.{set_text_is, set_nodes, set_depth, set_passes, if_text, if_nodes, if_depth, if_passes}
 use Rattle.sv_text.proofs.Spelled.{toks, spelled, is_bracket, ref_bytes, ref_stands}
 use Rattle.sv_text.proofs.Standing.{blank_at, between_stands, word_node, bracket_mark, along, regroup, ref_text_is, below, HasSlots, expr_stands, cond_stands}
 
@@ -98,7 +99,7 @@ module _ (reads : List ObjectId) where
       let s = stmt.Set slot attr e in
       let count = set_nodes slot attr e in
       let level = set_depth slot attr e in
-      let fit = and_parts (nat_lt attr 256) (expr_fits e) (sym (set_fits slot attr e) ∙ fits) in
+      let fit = and_parts (is_byte attr) (expr_fits e) (and_parts (is_byte slot) (is_byte attr && expr_fits e) (sym (set_fits slot attr e) ∙ fits)).1 in
       let go = and_parts (nat_lt slot (length reads)) (expr_passes (below (length reads)) e) (sym (set_passes slot attr e (below (length reads)) (below (length reads))) ∙ pass) in
       let low : slot < length reads = ltb-true slot (length reads) go.0 in
       let byte : attr < 256 = ltb-true attr 256 fit.0 in

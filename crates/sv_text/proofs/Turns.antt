@@ -39,15 +39,6 @@ unfolding writes_from is_number_at
 writes_from_is reads mask least [] = refl
 writes_from_is reads mask least (t ∷ ts) = refl
 
-pub stmts_by_is : (stmts : ℕ → List Lexeme → Read Stmt) (turns : ℕ) (before : List Stmt) (nodes : ℕ) (ts : List Lexeme) → stmts_by stmts turns before nodes ts ≡
-    cond (eqb turns 0) (Err (fault ts causes.TooLarge)) (cond (is_at marks.CloseBlock ts) (Ok (before, nodes, rest_of ts)) (stmts nodes ts >>= λ s. stmts_by stmts (turns - 1) (before ++ s.0 ∷ []) s.1 s.2))
-unfolding stmts_by
-stmts_by_is stmts zero before nodes ts = refl
-stmts_by_is stmts (suc turns) before nodes ts =
-    let one : suc turns - 1 ≡ turns = omega arith in
-    let some : eqb (suc turns) 0 ≡ false = ne_eqb (suc turns) 0 (λ e. absurd (omega arith)) in
-    rw (one, some) refl
-
 rest_shorter : (ts : List Lexeme) → 0 < length ts → length (rest_of ts) < length ts
 rest_shorter [] some = some
 rest_shorter (t ∷ ts) some = omega arith
@@ -76,21 +67,3 @@ writes_turn reads mask least o k ts total here write low told =
     let bit : 1 * 2 ^ k % 65536 ≡ 2 ^ k = (one_shifted k 65535 refl low).0 in
     let one : writes_from reads mask least ts ≡ writes_from reads (bit_or mask (2 ^ k)) (o + 1) (rest_of ts) = writes_from_is reads mask least ts ∙ rw (here, write) refl in
     rw bit (sym one ∙ told)
-
--- one more statement
-module _ (stmts : ℕ → List Lexeme → Read Stmt) (turns i : ℕ) (before : List Stmt) (nodes : ℕ) (ts : List Lexeme) (total : Read (List Stmt)) (lt : i < turns) (told : stmts_by stmts (turns - i) before nodes ts ≡ total) where
-  left : eqb (turns - i) 0 ≡ false
-  left = ne_eqb (turns - i) 0 (λ e. omega arith)
-
-  pub stmts_end : is_at marks.CloseBlock ts ≡ true → total ≡ Ok (before, nodes, rest_of ts)
-  stmts_end h = sym told ∙ stmts_by_is stmts (turns - i) before nodes ts ∙ rw (left, h) refl
-
-  pub stmts_turn : (s : Stmt × ℕ × List Lexeme) → is_at marks.CloseBlock ts ≡ false → stmts nodes ts ≡ Ok s → stmts_by stmts (turns - (i + 1)) (before ++ s.0 ∷ []) s.1 s.2 ≡ total
-  stmts_turn s h is =
-      let fewer : turns - i - 1 ≡ turns - (i + 1) = omega arith in
-      let one : stmts_by stmts (turns - i) before nodes ts ≡ stmts_by stmts (turns - i - 1) (before ++ s.0 ∷ []) s.1 s.2 = stmts_by_is stmts (turns - i) before nodes ts ∙ rw (left, h, is) refl in
-      ap (λ (k : ℕ). stmts_by stmts k (before ++ s.0 ∷ []) s.1 s.2) (sym fewer) ∙ sym one ∙ told
-
-  pub stmts_fail : (e : ParseFault) → is_at marks.CloseBlock ts ≡ false → Fails e (stmts nodes ts) → Fails e total
-  stmts_fail faults.Memory h is = tt
-  stmts_fail (faults.Text f) h is = sym told ∙ stmts_by_is stmts (turns - i) before nodes ts ∙ rw (left, h, is) refl

@@ -14,6 +14,13 @@ use Rattle.sv_world.specs.declared.action.Cond.TheFolds.{fold-Cond}
 use Rattle.sv_world.specs.declared.action.Stmt.{Stmt}
 use Rattle.sv_world.specs.declared.action.Stmt.TheOpen.{Stmt-F}
 use Rattle.sv_world.specs.declared.action.Stmt.TheFolds.{fold-Stmt}
+use Rattle.sv_world.specs.declared.node.Operator.{Operator}
+use Rattle.sv_world.specs.declared.node.Operator.TheVariants as ops
+use Rattle.sv_world.specs.declared.node.Comparison.{Comparison}
+use Rattle.sv_world.specs.declared.node.Comparison.TheVariants as comparisons
+use Rattle.sv_world.specs.declared.node.Connective.{Connective}
+use Rattle.sv_world.specs.declared.node.Connective.TheVariants as joints
+use Rattle.sv_world.specs.Parts.{Part, Expression, Condition, Statement, Block, Bad}
 
 -- the object in a slot, and 0 where the slot is none
 abbrev pub object_in : List ObjectId → ℕ → ℕ
@@ -32,6 +39,25 @@ pair_text a middle b = between (codes "(") a middle b (codes ")")
 
 abbrev pub test_text : List ℕ → List ℕ → List ℕ → List ℕ
 test_text a middle b = between (codes "[") a middle b (codes "]")
+
+-- what stands between two parts
+abbrev pub op_text : Operator → List ℕ
+op_text ops.Add = codes " + "
+op_text ops.Sub = codes " - "
+op_text ops.Mul = codes " * "
+op_text ops.Div = codes " / "
+op_text ops.Rem = codes " % "
+op_text ops.Min = codes " min "
+op_text ops.Max = codes " max "
+
+abbrev pub comparison_text : Comparison → List ℕ
+comparison_text comparisons.Eq = codes " == "
+comparison_text comparisons.Lt = codes " < "
+comparison_text comparisons.Le = codes " <= "
+
+abbrev pub joint_text : Connective → List ℕ
+joint_text joints.And = codes " and "
+joint_text joints.Or = codes " or "
 
 abbrev pub expr_text_step : List ObjectId → Expr-F (List ℕ) → List ℕ
 expr_text_step reads (Expr-F.Lit z) = signed_decimal z
@@ -83,6 +109,41 @@ stmt_text reads = fold-Stmt (List ℕ) (stmt_text_step reads)
 
 abbrev pub body_text : List ObjectId → List Stmt → List ℕ
 body_text reads body = block_text (map (stmt_text reads) body)
+
+-- the text of what some nodes spell
+abbrev pub part_text : List ObjectId → Part → List ℕ
+part_text reads (Expression e) = expr_text reads e
+part_text reads (Condition c) = cond_text reads c
+part_text reads (Statement s) = stmt_text reads s
+part_text reads (Block xs) = body_text reads xs
+part_text reads Bad = []
+
+-- the text of a block behind the first of an `if`
+abbrev pub else_part : List ObjectId → Part → List ℕ
+else_part reads (Block xs) = else_text (map (stmt_text reads) xs)
+else_part reads p = []
+
+-- a statement by its parts' texts
+abbrev pub set_part : List ObjectId → ℕ → ℕ → List ℕ → List ℕ
+set_part reads slot attr value = codes "set " ++ ref_text reads slot attr ++ codes " " ++ value ++ codes ";"
+
+abbrev pub not_part : List ℕ → List ℕ
+not_part test = codes "not " ++ test
+
+-- the statements' texts, each behind a space
+abbrev pub run_text : List ObjectId → Part → List ℕ
+run_text reads (Block xs) = spaced (map (stmt_text reads) xs)
+run_text reads p = []
+
+-- a block, and one behind the first of an `if`, by its statements' texts
+abbrev pub block_part : List ℕ → List ℕ
+block_part run = codes "{" ++ run ++ codes " }"
+
+abbrev pub other_part : List ℕ → List ℕ
+other_part run = codes " else " ++ block_part run
+
+abbrev pub if_part : List ℕ → List ℕ → List ℕ → List ℕ
+if_part test body other = codes "if " ++ test ++ codes " " ++ body ++ other
 
 abbrev pub object_text : ObjectId → List ℕ
 object_text o = 32 ∷ decimal o.0

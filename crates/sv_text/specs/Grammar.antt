@@ -9,17 +9,18 @@ use Rattle.sv_world.specs.declared.action.Cond.{Cond}
 use Rattle.sv_world.specs.declared.action.Cond.TheVariants as test
 use Rattle.sv_world.specs.declared.action.Stmt.{Stmt}
 use Rattle.sv_world.specs.declared.action.Stmt.TheVariants as stmt
+use Rattle.sv_world.specs.Parts.{binary_by as with_op, compare_by as with_comparison, join_by as with_joint}
 use Rattle.sv_text.specs.declared.token.Mark.{Mark}
 use Rattle.sv_text.specs.declared.token.Mark.TheVariants as marks
 use Rattle.sv_text.specs.declared.token.Token.TheVariants as tokens
 use Rattle.sv_text.specs.declared.token.Lexeme.{Lexeme}
-use Rattle.sv_text.specs.declared.parts.Op.{Op}
-use Rattle.sv_text.specs.declared.parts.Op.TheVariants as ops
-use Rattle.sv_text.specs.declared.parts.Comparison.{Comparison}
-use Rattle.sv_text.specs.declared.parts.Comparison.TheVariants as comparisons
-use Rattle.sv_text.specs.declared.parts.Joint.{Joint}
-use Rattle.sv_text.specs.declared.parts.Joint.TheVariants as joints
-use Rattle.sv_text.specs.Reading.{front, rest_of, slot_from, with_op, with_comparison, with_joint}
+use Rattle.sv_world.specs.declared.node.Operator.{Operator}
+use Rattle.sv_world.specs.declared.node.Operator.TheVariants as ops
+use Rattle.sv_world.specs.declared.node.Comparison.{Comparison}
+use Rattle.sv_world.specs.declared.node.Comparison.TheVariants as comparisons
+use Rattle.sv_world.specs.declared.node.Connective.{Connective}
+use Rattle.sv_world.specs.declared.node.Connective.TheVariants as joints
+use Rattle.sv_text.specs.Reading.{front, rest_of, slot_from}
 
 -- A place: how many nodes were started before it, and the tokens from it on.
 abbrev pub Place : Type 0
@@ -47,7 +48,7 @@ abbrev pub IsRef : List ObjectId → ℕ → ℕ → List Lexeme → List Lexeme
 IsRef reads slot attr [] rest = ⊥
 IsRef reads slot attr (t ∷ ts) rest = (object : ℕ) × (slot_from 0 reads object ≡ Some slot) × (t.token ≡ tokens.Ref object attr) × (ts ≡ rest)
 
-abbrev pub op_mark : Op → Mark
+abbrev pub op_mark : Operator → Mark
 op_mark ops.Add = marks.Plus
 op_mark ops.Sub = marks.Minus
 op_mark ops.Mul = marks.Times
@@ -57,11 +58,11 @@ op_mark ops.Min = marks.Min
 op_mark ops.Max = marks.Max
 
 abbrev pub comparison_mark : Comparison → Mark
-comparison_mark comparisons.Equal = marks.Equal
-comparison_mark comparisons.Less = marks.Less
-comparison_mark comparisons.LessEqual = marks.LessEqual
+comparison_mark comparisons.Eq = marks.Equal
+comparison_mark comparisons.Lt = marks.Less
+comparison_mark comparisons.Le = marks.LessEqual
 
-abbrev pub joint_mark : Joint → Mark
+abbrev pub joint_mark : Connective → Mark
 joint_mark joints.And = marks.And
 joint_mark joints.Or = marks.Or
 
@@ -77,7 +78,7 @@ pub record AreTwo {A : Type 0} (form : Form A) (a : A) (middle : Mark) (b : A) (
 
 -- ( expr op expr )
 pub record IsPair (form : Form Expr) (e : Expr) (p q : Place) : Type 0 where
-  pub op : Op
+  pub op : Operator
   pub a : Expr
   pub b : Expr
   pub made : with_op op a b ≡ e
@@ -117,7 +118,7 @@ pub record IsTest (form : Form Expr) (c : Cond) (p q : Place) : Type 0 where
 
 -- ( cond and cond )
 pub record IsJoined (form : Form Cond) (c : Cond) (p q : Place) : Type 0 where
-  pub joint : Joint
+  pub joint : Connective
   pub a : Cond
   pub b : Cond
   pub made : with_joint joint a b ≡ c

@@ -10,6 +10,7 @@ use Rattle.sv_world.specs.declared.action.Cond.{Cond}
 use Rattle.sv_world.specs.declared.action.Cond.TheVariants as test
 use Rattle.sv_world.specs.declared.action.Stmt.{Stmt}
 use Rattle.sv_world.specs.declared.action.Stmt.TheVariants as stmt
+use Rattle.sv_world.specs.Parts.{binary_by as with_op, compare_by as with_comparison, join_by as with_joint}
 use Rattle.sv_text.specs.declared.fault.TextCause.{TextCause}
 use Rattle.sv_text.specs.declared.fault.TextCause.TheVariants as causes
 use Rattle.sv_text.specs.declared.fault.TextFault.{TextFault}
@@ -20,12 +21,13 @@ use Rattle.sv_text.specs.declared.token.Mark.TheVariants as marks
 use Rattle.sv_text.specs.declared.token.Token.{Token}
 use Rattle.sv_text.specs.declared.token.Token.TheVariants as tokens
 use Rattle.sv_text.specs.declared.token.Lexeme.{Lexeme}
-use Rattle.sv_text.specs.declared.parts.Op.{Op}
-use Rattle.sv_text.specs.declared.parts.Op.TheVariants as ops
-use Rattle.sv_text.specs.declared.parts.Comparison.{Comparison}
-use Rattle.sv_text.specs.declared.parts.Comparison.TheVariants as comparisons
-use Rattle.sv_text.specs.declared.parts.Joint.{Joint}
-use Rattle.sv_text.specs.declared.parts.Joint.TheVariants as joints
+use Rattle.sv_world.specs.declared.node.Node.{Node}
+use Rattle.sv_world.specs.declared.node.Operator.{Operator}
+use Rattle.sv_world.specs.declared.node.Operator.TheVariants as ops
+use Rattle.sv_world.specs.declared.node.Comparison.{Comparison}
+use Rattle.sv_world.specs.declared.node.Comparison.TheVariants as comparisons
+use Rattle.sv_world.specs.declared.node.Connective.{Connective}
+use Rattle.sv_world.specs.declared.node.Connective.TheVariants as joints
 use Rattle.sv_text.specs.Tokens.{is_word}
 
 infixl 10 ◌>>=◌
@@ -228,16 +230,7 @@ Read A = Result (A × ℕ × List Lexeme) TextFault
 unfoldable pub start : ℕ → ℕ → List Lexeme → Result ℕ TextFault
 start depth nodes ts = cond (nat_lt nodes 64) (cond (nat_lt 0 depth) (Ok (nodes + 1)) (Err (fault ts causes.TooDeep))) (Err (fault ts causes.TooLarge))
 
-abbrev pub with_op : Op → Expr → Expr → Expr
-with_op ops.Add a b = expr.Add a b
-with_op ops.Sub a b = expr.Sub a b
-with_op ops.Mul a b = expr.Mul a b
-with_op ops.Div a b = expr.Div a b
-with_op ops.Rem a b = expr.Rem a b
-with_op ops.Min a b = expr.Min a b
-with_op ops.Max a b = expr.Max a b
-
-abbrev pub op_of : Mark → Option Op
+abbrev pub op_of : Mark → Option Operator
 op_of marks.Plus = Some ops.Add
 op_of marks.Minus = Some ops.Sub
 op_of marks.Times = Some ops.Mul
@@ -255,7 +248,7 @@ abbrev pub marked : {A : Type 0} → (Mark → Option A) → Option Mark → Opt
 marked f None = None
 marked f (Some m) = f m
 
-unfoldable pub op_at : List Lexeme → Result Op TextFault
+unfoldable pub op_at : List Lexeme → Result Operator TextFault
 op_at ts = part_or (unexpected ts) (marked op_of (front ts))
 
 abbrev pub leaf_by : List ObjectId → List Lexeme → Bool → Token → Result Expr TextFault
@@ -304,30 +297,21 @@ expr_at reads (suc depth) nodes ts = expr_by reads (expr_at reads depth) (suc de
 
 -- ---- conditions
 
-abbrev pub with_comparison : Comparison → Expr → Expr → Cond
-with_comparison comparisons.Equal a b = test.Eq a b
-with_comparison comparisons.Less a b = test.Lt a b
-with_comparison comparisons.LessEqual a b = test.Le a b
-
 abbrev pub comparison_of : Mark → Option Comparison
-comparison_of marks.Equal = Some comparisons.Equal
-comparison_of marks.Less = Some comparisons.Less
-comparison_of marks.LessEqual = Some comparisons.LessEqual
+comparison_of marks.Equal = Some comparisons.Eq
+comparison_of marks.Less = Some comparisons.Lt
+comparison_of marks.LessEqual = Some comparisons.Le
 comparison_of _ = None
 
 unfoldable pub comparison_at : List Lexeme → Result Comparison TextFault
 comparison_at ts = part_or (unexpected ts) (marked comparison_of (front ts))
 
-abbrev pub with_joint : Joint → Cond → Cond → Cond
-with_joint joints.And a b = test.And a b
-with_joint joints.Or a b = test.Or a b
-
-abbrev pub joint_of : Mark → Option Joint
+abbrev pub joint_of : Mark → Option Connective
 joint_of marks.And = Some joints.And
 joint_of marks.Or = Some joints.Or
 joint_of _ = None
 
-unfoldable pub joint_at : List Lexeme → Result Joint TextFault
+unfoldable pub joint_at : List Lexeme → Result Connective TextFault
 joint_at ts = part_or (unexpected ts) (marked joint_of (front ts))
 
 unfoldable pub compare_by : (ℕ → List Lexeme → Read Expr) → ℕ → List Lexeme → Read Cond
@@ -337,7 +321,7 @@ compare_by exprs nodes ts = do
   b ← closed_by exprs marks.CloseTest a.1 (rest_of a.2)
   Ok (with_comparison c a.0 b.0, b.1, b.2)
 
-unfoldable pub joined_by : (ℕ → List Lexeme → Read Cond) → Joint → Cond → ℕ → List Lexeme → Read Cond
+unfoldable pub joined_by : (ℕ → List Lexeme → Read Cond) → Connective → Cond → ℕ → List Lexeme → Read Cond
 joined_by below j a nodes ts = do
   b ← closed_by below marks.Close nodes ts
   Ok (with_joint j a b.0, b.1, b.2)
@@ -436,3 +420,8 @@ reading ts = do
   p ← origin_at w.1
   body ← body_at r.0 p.1
   Ok (record { reads = r.0; mask = w.0; origin = p.0; body = body })
+
+-- What reading a tree gives, with its nodes behind older ones in place of the tree.
+abbrev pub appended : {A : Type 0} → (A → List Node) → List Node → Read A → Read (List Node)
+appended spelled old (Ok x) = Ok (old ++ spelled x.0, x.1, x.2)
+appended spelled old (Err e) = Err e

@@ -1,64 +1,59 @@
-//! Expressions. Depth is how deep a node may go that starts here, and nodes how many were started so far.
+//! Expressions. Depth is how deep a node may go that starts here.
 
-ghost use Rattle.std.specs.Prelude.{◌≡◌, ◌≤◌, ◌<◌, length, Ok, IfOk, OnOk};
-ghost use Rattle.sv_text.specs.Reading.{Gives, start, with_op, op_of, op_at, leaf_at, closed_by, pair_by, expr_at};
+ghost use Rattle.std.specs.Prelude.{◌≡◌, ◌≤◌, ◌<◌, [], ◌∷◌, length, IfOk, OnOk};
+ghost use Rattle.sv_world.specs.Spelled.{expr_spelled};
+ghost use Rattle.sv_text.specs.Reading.{Gives, seen, start, op_of, op_at, leaf_at, pair_by, expr_at, appended};
 
 use crate::cursor::Cursor;
 use crate::header::slot_at;
-use crate::parts::Op;
 use crate::token::{Mark, Token};
 use crate::{ParseFault, TextCause, TextFault};
-use std::alloc::Global;
-use sv_world::{Boxed, Expr, ObjectId};
+use sv_world::{Node, ObjectId, Operator};
+
+/// A body that is being read.
+#[derive(Drop)]
+pub struct Parser<'a> {
+    /// What is left of the text.
+    pub cursor: Cursor<'a>,
+    /// The nodes so far.
+    pub out: Vec<Node>,
+    /// How many of the language's nodes were started so far. A block is none of them.
+    pub started: usize,
+}
 
 /// Starts a node, and counts it.
 #[tactic(auto, unfolding(crate::specs::Reading::start))]
-pub fn start(cursor: &Cursor<'_>, depth: u8, nodes: usize) -> Result<usize, TextFault>
-    ensures value { result ≡ start depth nodes cursor.now }
+pub fn start(parser: &Parser<'_>, depth: u8) -> Result<usize, TextFault>
+    ensures value { result ≡ start depth parser.now.started parser.now.cursor }
     ensures few { IfOk result (λ n. n ≤ 64) }
     ensures deep { OnOk result (0 < depth) }
 {
-    if nodes >= 64 {
-        return Err(cursor.fault(TextCause::TooLarge));
+    if parser.started >= 64 {
+        return Err(parser.cursor.fault(TextCause::TooLarge));
     }
     if depth == 0 {
-        return Err(cursor.fault(TextCause::TooDeep));
+        return Err(parser.cursor.fault(TextCause::TooDeep));
     }
-    Ok(nodes + 1)
+    Ok(parser.started + 1)
 }
 
-#[inline(always)]
-fn with_op(op: Op, left: Boxed<Expr>, right: Boxed<Expr>) -> Expr
-    ensures { result ≡ with_op op left right }
-{
-    match op {
-        Op::Add => Expr::Add(left, right),
-        Op::Sub => Expr::Sub(left, right),
-        Op::Mul => Expr::Mul(left, right),
-        Op::Div => Expr::Div(left, right),
-        Op::Rem => Expr::Rem(left, right),
-        Op::Min => Expr::Min(left, right),
-        Op::Max => Expr::Max(left, right),
-    }
-}
-
-fn op_of(mark: Mark) -> Option<Op>
+fn op_of(mark: Mark) -> Option<Operator>
     ensures { result ≡ op_of mark }
 {
     match mark {
-        Mark::Plus => Some(Op::Add),
-        Mark::Minus => Some(Op::Sub),
-        Mark::Times => Some(Op::Mul),
-        Mark::Divide => Some(Op::Div),
-        Mark::Remainder => Some(Op::Rem),
-        Mark::Min => Some(Op::Min),
-        Mark::Max => Some(Op::Max),
+        Mark::Plus => Some(Operator::Add),
+        Mark::Minus => Some(Operator::Sub),
+        Mark::Times => Some(Operator::Mul),
+        Mark::Divide => Some(Operator::Div),
+        Mark::Remainder => Some(Operator::Rem),
+        Mark::Min => Some(Operator::Min),
+        Mark::Max => Some(Operator::Max),
         _ => None,
     }
 }
 
 #[tactic(auto, unfolding(crate::specs::Reading::op_at))]
-fn op_at(cursor: &Cursor<'_>) -> Result<Op, TextFault>
+fn op_at(cursor: &Cursor<'_>) -> Result<Operator, TextFault>
     ensures { result ≡ op_at cursor.now }
 {
     match cursor.front() {
@@ -71,19 +66,19 @@ fn op_at(cursor: &Cursor<'_>) -> Result<Op, TextFault>
 }
 
 /// A literal, or the attribute of an object that is read.
-#[tactic(auto, using(crate::proofs::Next::leaf_at_is))]
-fn leaf_at(reads: &[ObjectId], cursor: &Cursor<'_>) -> Result<Expr, TextFault>
+#[tactic(auto, using(crate::proofs::Flat::leaf_seen))]
+fn leaf_at(reads: &[ObjectId], cursor: &Cursor<'_>) -> Result<Node, TextFault>
     requires { length reads.now ≤ 16 }
-    ensures { result ≡ leaf_at reads.now cursor.now }
+    ensures { seen (λ n. n ∷ []) result ≡ seen expr_spelled (leaf_at reads.now cursor.now) }
 {
     let next = cursor.next();
     match next.token {
         Token::Number(_) if next.glued => Err(cursor.fault(TextCause::Expected)),
-        Token::Number(number) => Ok(Expr::Lit(number)),
+        Token::Number(number) => Ok(Node::Lit(number)),
         Token::Wide => Err(cursor.fault(TextCause::Number)),
         Token::Ref { object, attr } => {
             let slot = slot_at(reads, object, cursor)?;
-            Ok(Expr::Attr { slot, attr })
+            Ok(Node::Attr { slot, attr })
         }
         Token::Mark(_) => Err(cursor.fault(TextCause::Expected)),
         Token::Bad(cause) => Err(cursor.fault(cause)),
@@ -91,82 +86,41 @@ fn leaf_at(reads: &[ObjectId], cursor: &Cursor<'_>) -> Result<Expr, TextFault>
 }
 
 #[cycle(expression)]
-#[tactic(auto, using(crate::proofs::Depth::expr_at_is), unfolding(crate::specs::Reading::expr_by))]
-pub fn expr_at(
-    alloc: Global,
-    depth: u8,
-    nodes: usize,
-    reads: &[ObjectId],
-    cursor: &mut Cursor<'_>,
-) -> Result<(Expr, usize), ParseFault>
+#[tactic(auto, using(crate::proofs::Depth::expr_at_is, crate::proofs::Flat::expr_appended, crate::proofs::Flat::appended_longer))]
+pub fn expr_at(parser: &mut Parser<'_>, reads: &[ObjectId], depth: u8) -> Result<(), ParseFault>
     requires { length reads.now ≤ 16 }
-    ensures gives { Gives (λ x. (x.0, x.1, cursor.new)) result (expr_at reads.now depth nodes cursor.old) }
-    ensures few { IfOk result (λ x. x.1 ≤ 64) }
+    ensures gives { Gives (λ _. (parser.new.out.items, parser.new.started, parser.new.cursor)) result (appended expr_spelled parser.old.out.items (expr_at reads.now depth parser.old.started parser.old.cursor)) }
+    ensures few { OnOk result (parser.new.started ≤ 64) }
+    ensures longer { OnOk result (length parser.old.out.items ≤ length parser.new.out.items) }
 {
-    if cursor.is_at(Mark::Open) {
-        let nodes = start(cursor, depth, nodes)?;
-        cursor.advance();
-        return pair_at(alloc, depth - 1, nodes, reads, cursor);
+    if parser.cursor.is_at(Mark::Open) {
+        parser.started = start(parser, depth)?;
+        parser.cursor.advance();
+        return pair_at(parser, reads, depth - 1);
     }
-    let leaf = leaf_at(reads, cursor)?;
-    let nodes = start(cursor, depth, nodes)?;
-    cursor.advance();
-    Ok((leaf, nodes))
+    let leaf = leaf_at(reads, &parser.cursor)?;
+    parser.started = start(parser, depth)?;
+    parser.cursor.advance();
+    parser.out.push(leaf)?;
+    Ok(())
 }
 
-// An operand is boxed before what stands behind it is read: two owned trees at each `?` cost a proof of minutes.
+// The operator's place is kept open until the operator is read.
 #[cycle(expression)]
-fn boxed_expr_at(
-    alloc: Global,
-    depth: u8,
-    nodes: usize,
-    reads: &[ObjectId],
-    cursor: &mut Cursor<'_>,
-) -> Result<(Boxed<Expr>, usize), ParseFault>
+#[tactic(auto, using(crate::proofs::Flat::pair_appended, crate::proofs::Flat::appended_longer))]
+fn pair_at(parser: &mut Parser<'_>, reads: &[ObjectId], depth: u8) -> Result<(), ParseFault>
     requires { length reads.now ≤ 16 }
-    ensures gives { Gives (λ x. (x.0, x.1, cursor.new)) result (expr_at reads.now depth nodes cursor.old) }
-    ensures few { IfOk result (λ x. x.1 ≤ 64) }
+    ensures gives { Gives (λ _. (parser.new.out.items, parser.new.started, parser.new.cursor)) result (appended expr_spelled parser.old.out.items (pair_by (expr_at reads.now depth) parser.old.started parser.old.cursor)) }
+    ensures few { OnOk result (parser.new.started ≤ 64) }
+    ensures longer { OnOk result (length parser.old.out.items ≤ length parser.new.out.items) }
 {
-    let (expr, nodes) = expr_at(alloc, depth, nodes, reads, cursor)?;
-    Ok((Boxed::new(alloc, expr)?, nodes))
-}
-
-#[cycle(expression)]
-#[tactic(auto, unfolding(crate::specs::Reading::pair_by))]
-fn pair_at(
-    alloc: Global,
-    depth: u8,
-    nodes: usize,
-    reads: &[ObjectId],
-    cursor: &mut Cursor<'_>,
-) -> Result<(Expr, usize), ParseFault>
-    requires { length reads.now ≤ 16 }
-    ensures gives { Gives (λ x. (x.0, x.1, cursor.new)) result (pair_by (expr_at reads.now depth) nodes cursor.old) }
-    ensures few { IfOk result (λ x. x.1 ≤ 64) }
-{
-    let (left, nodes) = boxed_expr_at(alloc, depth, nodes, reads, cursor)?;
-    let op = op_at(cursor)?;
-    cursor.advance();
-    let (right, nodes) = boxed_expr_at(alloc, depth, nodes, reads, cursor)?;
-    cursor.expect(Mark::Close)?;
-    Ok((with_op(op, left, right), nodes))
-}
-
-/// An expression and a sign behind it.
-#[tactic(auto, unfolding(crate::specs::Reading::closed_by))]
-pub fn closed_expr_at(
-    alloc: Global,
-    mark: Mark,
-    depth: u8,
-    nodes: usize,
-    reads: &[ObjectId],
-    cursor: &mut Cursor<'_>,
-) -> Result<(Expr, usize), ParseFault>
-    requires { length reads.now ≤ 16 }
-    ensures gives { Gives (λ x. (x.0, x.1, cursor.new)) result (closed_by (expr_at reads.now depth) mark nodes cursor.old) }
-    ensures few { IfOk result (λ x. x.1 ≤ 64) }
-{
-    let (expr, nodes) = expr_at(alloc, depth, nodes, reads, cursor)?;
-    cursor.expect(mark)?;
-    Ok((expr, nodes))
+    let place = parser.out.len();
+    parser.out.push(Node::Not)?;
+    expr_at(parser, reads, depth)?;
+    let operator = op_at(&parser.cursor)?;
+    parser.cursor.advance();
+    expr_at(parser, reads, depth)?;
+    parser.cursor.expect(Mark::Close)?;
+    parser.out[place] = Node::Binary(operator);
+    Ok(())
 }

@@ -9,7 +9,6 @@ mod header;
 mod laws;
 mod lexer;
 mod parser;
-mod parts;
 mod printer;
 mod statement;
 mod token;

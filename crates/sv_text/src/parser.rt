@@ -8,36 +8,41 @@ ghost use Rattle.sv_text.specs.Reading.{Gives, body_at, reading};
 
 use crate::ParseFault;
 use crate::cursor::Cursor;
+use crate::expression::Parser;
 use crate::header::{header_at, origin_at, writes_at};
 use crate::statement::block_at;
 use crate::token::Mark;
 use std::alloc::Global;
-use sv_world::{Action, ObjectId, Shared, Stmt};
+use sv_world::{Action, Body, ObjectId};
 
 /// The deepest that a node may stand, counted from the outermost statements.
 const DEPTH: u8 = 8;
 
-#[tactic(auto, unfolding(crate::specs::Reading::body_at))]
-fn body_at(
-    alloc: Global,
-    reads: &[ObjectId],
-    cursor: &mut Cursor<'_>,
-) -> Result<Shared<Stmt>, ParseFault>
+/// The most nodes of a body, but for those of its blocks. So one vector mostly suffices, and becomes the body's list.
+const ROOM: usize = 64;
+
+#[tactic(auto, using(crate::proofs::Flat::body_found), unfolding(crate::specs::Reading::body_at))]
+fn body_at(alloc: Global, reads: &[ObjectId], cursor: Cursor<'_>) -> Result<Body, ParseFault>
     requires { length reads.now ≤ 16 }
-    ensures { Gives (λ body. body) result (body_at reads.now cursor.old) }
+    ensures { Gives (λ body. body) result (body_at reads.now cursor.entry) }
 {
-    let (body, _) = block_at(alloc, DEPTH, 0, reads, cursor)?;
-    cursor.expect(Mark::End)?;
-    Ok(Shared::from_list(body)?)
+    let mut parser = Parser {
+        cursor,
+        out: Vec::with_capacity(alloc, ROOM)?,
+        started: 0,
+    };
+    block_at(&mut parser, reads, DEPTH)?;
+    parser.cursor.expect(Mark::End)?;
+    Ok(Body::from_nodes(parser.out)?)
 }
 
 #[tactic(auto, unfolding(crate::specs::Reading::reading))]
-fn action_at(alloc: Global, cursor: &mut Cursor<'_>) -> Result<Action, ParseFault>
-    ensures { Gives (λ action. action) result (reading cursor.old) }
+fn action_at(alloc: Global, mut cursor: Cursor<'_>) -> Result<Action, ParseFault>
+    ensures { Gives (λ action. action) result (reading cursor.entry) }
 {
-    let reads = header_at(alloc, cursor)?;
-    let mask = writes_at(reads.as_slice(), cursor)?;
-    let origin = origin_at(cursor)?;
+    let reads = header_at(alloc, &mut cursor)?;
+    let mask = writes_at(reads.as_slice(), &mut cursor)?;
+    let origin = origin_at(&mut cursor)?;
     let body = body_at(alloc, reads.as_slice(), cursor)?;
     Ok(Action {
         reads,
@@ -51,8 +56,7 @@ fn read_action(alloc: Global, text: &str) -> Result<Action, ParseFault>
     requires { length text.now < 2 ^ 32 }
     ensures { Gives (λ action. action) result (reading (tokens_of text.now)) }
 {
-    let mut cursor = Cursor::new(text.as_bytes());
-    action_at(alloc, &mut cursor)
+    action_at(alloc, Cursor::new(text.as_bytes()))
 }
 
 /// The action that a text writes.

@@ -1,14 +1,20 @@
 //! From an action to its canonical text.
 
-ghost use Rattle.std.specs.Prelude.{◌≡◌, ◌++◌, [], ◌&&◌, cond, string_bytes, Ok, OnOk, OnErr, IfOk};
+ghost use Rattle.std.specs.Prelude.{◌≡◌, ◌++◌, ◌<◌, ◌≤◌, [], ◌&&◌, true, cond, All, length, drop, string_bytes, Ok, OnOk, OnErr, IfOk};
+ghost use Rattle.std.specs.Fmt.{signed_decimal};
+ghost use Rattle.sv_world.specs.Heads.{expr_over, expr_arity};
+ghost use Rattle.sv_world.specs.Parts.{first, second, third, parts, block, is_expr, is_cond, is_stmt, is_block};
 ghost use Rattle.sv_text.specs.Tokens.{tokens_of};
 ghost use Rattle.sv_text.specs.Reading.{reading};
-ghost use Rattle.sv_text.specs.Printable.{IsPrintable};
-ghost use Rattle.sv_text.specs.Canonical.{object_in, ref_text, pair_text, test_text, expr_text, cond_text, set_text, stmt_text, body_text, object_text, objects_text, written, is_zero, origin_text, canonical};
+ghost use Rattle.sv_text.specs.Printable.{ObjectFits, IsWithinGrammar};
+ghost use Rattle.sv_text.specs.Canonical.{object_in, ref_text, pair_text, test_text, op_text, comparison_text, joint_text, set_part, not_part, if_part, run_text, block_part, other_part, part_text, else_part, body_text, object_text, objects_text, written, is_zero, origin_text, canonical};
 
 use std::alloc::{AllocError, Global};
 use std::fmt::Write;
-use sv_world::{Action, Cond, Expr, ObjectId, Point, Stmt};
+use sv_world::{
+    Action, Body, Comparison, CondHead, Connective, ExprHead, NodeCursor, ObjectId, Operator,
+    Point, StmtHead,
+};
 
 /// The object in a slot, and 0 where the slot is none.
 #[tactic(auto, using(crate::proofs::Printing::object_in_at, crate::proofs::Printing::object_in_past))]
@@ -26,20 +32,80 @@ fn put_ref(out: &mut String, reads: &[ObjectId], slot: u8, attr: u8) -> Result<(
     write!(out, "@{object}.{attr}")
 }
 
-#[cycle(expression)]
-fn put_expr(out: &mut String, reads: &[ObjectId], expr: &Expr) -> Result<(), AllocError>
-    ensures { OnOk result (string_bytes out.new ≡ string_bytes out.old ++ expr_text reads.now expr.now) }
+fn op_text(operator: Operator) -> &'static str
+    ensures { result.now ≡ op_text operator }
 {
-    match expr {
-        Expr::Lit(number) => write!(out, "{number}"),
-        Expr::Attr { slot, attr } => put_ref(out, reads, *slot, *attr),
-        Expr::Add(left, right) => put_pair(out, reads, left.get(), " + ", right.get()),
-        Expr::Sub(left, right) => put_pair(out, reads, left.get(), " - ", right.get()),
-        Expr::Mul(left, right) => put_pair(out, reads, left.get(), " * ", right.get()),
-        Expr::Div(left, right) => put_pair(out, reads, left.get(), " / ", right.get()),
-        Expr::Rem(left, right) => put_pair(out, reads, left.get(), " % ", right.get()),
-        Expr::Min(left, right) => put_pair(out, reads, left.get(), " min ", right.get()),
-        Expr::Max(left, right) => put_pair(out, reads, left.get(), " max ", right.get()),
+    match operator {
+        Operator::Add => " + ",
+        Operator::Sub => " - ",
+        Operator::Mul => " * ",
+        Operator::Div => " / ",
+        Operator::Rem => " % ",
+        Operator::Min => " min ",
+        Operator::Max => " max ",
+    }
+}
+
+fn comparison_text(comparison: Comparison) -> &'static str
+    ensures { result.now ≡ comparison_text comparison }
+{
+    match comparison {
+        Comparison::Eq => " == ",
+        Comparison::Lt => " < ",
+        Comparison::Le => " <= ",
+    }
+}
+
+fn joint_text(joint: Connective) -> &'static str
+    ensures { result.now ≡ joint_text joint }
+{
+    match joint {
+        Connective::And => " and ",
+        Connective::Or => " or ",
+    }
+}
+
+fn put_number(out: &mut String, number: i64) -> Result<(), AllocError>
+    ensures { OnOk result (string_bytes out.new ≡ string_bytes out.old ++ signed_decimal number) }
+{
+    write!(out, "{number}")
+}
+
+// Each of these prints what the next nodes spell, and goes behind them.
+
+#[cycle(expression)]
+fn put_expr(
+    out: &mut String,
+    reads: &[ObjectId],
+    nodes: &mut NodeCursor<'_>,
+) -> Result<(), AllocError>
+    requires { is_expr (first (parts nodes.old)) ≡ true }
+    ensures text { OnOk result (string_bytes out.new ≡ string_bytes out.old ++ part_text reads.now (first (parts nodes.old))) }
+    ensures rest { OnOk result (parts nodes.new ≡ drop 1 (parts nodes.old)) }
+    ensures shorter { OnOk result (length nodes.new < length nodes.old) }
+{
+    let head = nodes.expr();
+    put_head(out, reads, head, nodes)
+}
+
+/// An expression whose first node was taken.
+#[cycle(expression)]
+#[tactic(auto, using(sv_world::proofs::Sorted::part_kinds, crate::proofs::Printed::texts))]
+fn put_head(
+    out: &mut String,
+    reads: &[ObjectId],
+    head: ExprHead,
+    nodes: &mut NodeCursor<'_>,
+) -> Result<(), AllocError>
+    requires { is_expr (expr_over head (parts nodes.old)) ≡ true }
+    ensures text { OnOk result (string_bytes out.new ≡ string_bytes out.old ++ part_text reads.now (expr_over head (parts nodes.old))) }
+    ensures rest { OnOk result (parts nodes.new ≡ drop (expr_arity head) (parts nodes.old)) }
+    ensures shorter { OnOk result (length nodes.new ≤ length nodes.old) }
+{
+    match head {
+        ExprHead::Lit(number) => put_number(out, number),
+        ExprHead::Attr { slot, attr } => put_ref(out, reads, slot, attr),
+        ExprHead::Binary(operator) => put_pair(out, reads, operator, nodes),
     }
 }
 
@@ -47,66 +113,92 @@ fn put_expr(out: &mut String, reads: &[ObjectId], expr: &Expr) -> Result<(), All
 fn put_pair(
     out: &mut String,
     reads: &[ObjectId],
-    left: &Expr,
-    middle: &str,
-    right: &Expr,
+    operator: Operator,
+    nodes: &mut NodeCursor<'_>,
 ) -> Result<(), AllocError>
-    ensures { OnOk result (string_bytes out.new ≡ string_bytes out.old ++ pair_text (expr_text reads.now left.now) middle.now (expr_text reads.now right.now)) }
+    requires left { is_expr (first (parts nodes.old)) ≡ true }
+    requires right { is_expr (second (parts nodes.old)) ≡ true }
+    ensures text { OnOk result (string_bytes out.new ≡ string_bytes out.old ++ pair_text (part_text reads.now (first (parts nodes.old))) (op_text operator) (part_text reads.now (second (parts nodes.old)))) }
+    ensures rest { OnOk result (parts nodes.new ≡ drop 2 (parts nodes.old)) }
+    ensures shorter { OnOk result (length nodes.new < length nodes.old) }
 {
     out.push_str("(")?;
-    put_expr(out, reads, left)?;
-    out.push_str(middle)?;
-    put_expr(out, reads, right)?;
+    put_expr(out, reads, nodes)?;
+    out.push_str(op_text(operator))?;
+    put_expr(out, reads, nodes)?;
     out.push_str(")")
 }
 
 fn put_test(
     out: &mut String,
     reads: &[ObjectId],
-    left: &Expr,
-    middle: &str,
-    right: &Expr,
+    comparison: Comparison,
+    nodes: &mut NodeCursor<'_>,
 ) -> Result<(), AllocError>
-    ensures { OnOk result (string_bytes out.new ≡ string_bytes out.old ++ test_text (expr_text reads.now left.now) middle.now (expr_text reads.now right.now)) }
+    requires left { is_expr (first (parts nodes.old)) ≡ true }
+    requires right { is_expr (second (parts nodes.old)) ≡ true }
+    ensures text { OnOk result (string_bytes out.new ≡ string_bytes out.old ++ test_text (part_text reads.now (first (parts nodes.old))) (comparison_text comparison) (part_text reads.now (second (parts nodes.old)))) }
+    ensures rest { OnOk result (parts nodes.new ≡ drop 2 (parts nodes.old)) }
+    ensures shorter { OnOk result (length nodes.new < length nodes.old) }
 {
     out.push_str("[")?;
-    put_expr(out, reads, left)?;
-    out.push_str(middle)?;
-    put_expr(out, reads, right)?;
+    put_expr(out, reads, nodes)?;
+    out.push_str(comparison_text(comparison))?;
+    put_expr(out, reads, nodes)?;
     out.push_str("]")
 }
 
 #[cycle(condition)]
-fn put_cond(out: &mut String, reads: &[ObjectId], cond: &Cond) -> Result<(), AllocError>
-    ensures { OnOk result (string_bytes out.new ≡ string_bytes out.old ++ cond_text reads.now cond.now) }
+#[tactic(auto, using(sv_world::proofs::Sorted::part_kinds, crate::proofs::Printed::texts))]
+fn put_cond(
+    out: &mut String,
+    reads: &[ObjectId],
+    nodes: &mut NodeCursor<'_>,
+) -> Result<(), AllocError>
+    requires { is_cond (first (parts nodes.old)) ≡ true }
+    ensures text { OnOk result (string_bytes out.new ≡ string_bytes out.old ++ part_text reads.now (first (parts nodes.old))) }
+    ensures rest { OnOk result (parts nodes.new ≡ drop 1 (parts nodes.old)) }
+    ensures shorter { OnOk result (length nodes.new < length nodes.old) }
 {
-    match cond {
-        Cond::Eq(left, right) => put_test(out, reads, left, " == ", right),
-        Cond::Lt(left, right) => put_test(out, reads, left, " < ", right),
-        Cond::Le(left, right) => put_test(out, reads, left, " <= ", right),
-        Cond::And(left, right) => put_joined(out, reads, left.get(), " and ", right.get()),
-        Cond::Or(left, right) => put_joined(out, reads, left.get(), " or ", right.get()),
-        Cond::Not(inner) => {
-            out.push_str("not ")?;
-            put_cond(out, reads, inner.get())
-        }
+    match nodes.cond() {
+        CondHead::Compare(comparison) => put_test(out, reads, comparison, nodes),
+        CondHead::Join(joint) => put_joined(out, reads, joint, nodes),
+        CondHead::Not => put_not(out, reads, nodes),
     }
+}
+
+#[cycle(condition)]
+fn put_not(
+    out: &mut String,
+    reads: &[ObjectId],
+    nodes: &mut NodeCursor<'_>,
+) -> Result<(), AllocError>
+    requires { is_cond (first (parts nodes.old)) ≡ true }
+    ensures text { OnOk result (string_bytes out.new ≡ string_bytes out.old ++ not_part (part_text reads.now (first (parts nodes.old)))) }
+    ensures rest { OnOk result (parts nodes.new ≡ drop 1 (parts nodes.old)) }
+    ensures shorter { OnOk result (length nodes.new < length nodes.old) }
+{
+    out.push_str("not ")?;
+    put_cond(out, reads, nodes)
 }
 
 #[cycle(condition)]
 fn put_joined(
     out: &mut String,
     reads: &[ObjectId],
-    left: &Cond,
-    middle: &str,
-    right: &Cond,
+    joint: Connective,
+    nodes: &mut NodeCursor<'_>,
 ) -> Result<(), AllocError>
-    ensures { OnOk result (string_bytes out.new ≡ string_bytes out.old ++ pair_text (cond_text reads.now left.now) middle.now (cond_text reads.now right.now)) }
+    requires left { is_cond (first (parts nodes.old)) ≡ true }
+    requires right { is_cond (second (parts nodes.old)) ≡ true }
+    ensures text { OnOk result (string_bytes out.new ≡ string_bytes out.old ++ pair_text (part_text reads.now (first (parts nodes.old))) (joint_text joint) (part_text reads.now (second (parts nodes.old)))) }
+    ensures rest { OnOk result (parts nodes.new ≡ drop 2 (parts nodes.old)) }
+    ensures shorter { OnOk result (length nodes.new < length nodes.old) }
 {
     out.push_str("(")?;
-    put_cond(out, reads, left)?;
-    out.push_str(middle)?;
-    put_cond(out, reads, right)?;
+    put_cond(out, reads, nodes)?;
+    out.push_str(joint_text(joint))?;
+    put_cond(out, reads, nodes)?;
     out.push_str(")")
 }
 
@@ -115,47 +207,154 @@ fn put_set(
     reads: &[ObjectId],
     slot: u8,
     attr: u8,
-    expr: &Expr,
+    nodes: &mut NodeCursor<'_>,
 ) -> Result<(), AllocError>
-    ensures { OnOk result (string_bytes out.new ≡ string_bytes out.old ++ set_text reads.now slot attr expr.now) }
+    requires { is_expr (first (parts nodes.old)) ≡ true }
+    ensures text { OnOk result (string_bytes out.new ≡ string_bytes out.old ++ set_part reads.now slot attr (part_text reads.now (first (parts nodes.old)))) }
+    ensures rest { OnOk result (parts nodes.new ≡ drop 1 (parts nodes.old)) }
+    ensures shorter { OnOk result (length nodes.new < length nodes.old) }
 {
     out.push_str("set ")?;
     put_ref(out, reads, slot, attr)?;
     out.push_str(" ")?;
-    put_expr(out, reads, expr)?;
+    put_expr(out, reads, nodes)?;
     out.push_str(";")
 }
 
 #[cycle(statement)]
-fn put_stmt(out: &mut String, reads: &[ObjectId], stmt: &Stmt) -> Result<(), AllocError>
-    ensures { OnOk result (string_bytes out.new ≡ string_bytes out.old ++ stmt_text reads.now stmt.now) }
+#[tactic(auto, using(sv_world::proofs::Sorted::part_kinds, crate::proofs::Printed::texts))]
+fn put_stmt(
+    out: &mut String,
+    reads: &[ObjectId],
+    nodes: &mut NodeCursor<'_>,
+) -> Result<(), AllocError>
+    requires { is_stmt (first (parts nodes.old)) ≡ true }
+    ensures text { OnOk result (string_bytes out.new ≡ string_bytes out.old ++ part_text reads.now (first (parts nodes.old))) }
+    ensures rest { OnOk result (parts nodes.new ≡ drop 1 (parts nodes.old)) }
+    ensures shorter { OnOk result (length nodes.new < length nodes.old) }
 {
-    match stmt {
-        Stmt::Set { slot, attr, expr } => put_set(out, reads, *slot, *attr, expr),
-        Stmt::If { cond, then, other } => {
-            out.push_str("if ")?;
-            put_cond(out, reads, cond)?;
-            out.push_str(" ")?;
-            put_block(out, reads, then.as_slice())?;
-            if other.len() == 0 {
-                return Ok(());
-            }
-            out.push_str(" else ")?;
-            put_block(out, reads, other.as_slice())
-        }
+    match nodes.stmt() {
+        StmtHead::Set { slot, attr } => put_set(out, reads, slot, attr, nodes),
+        StmtHead::If => put_choice(out, reads, nodes),
     }
 }
 
+/// An `if`, whose condition and blocks come next.
 #[cycle(statement)]
-fn put_block(out: &mut String, reads: &[ObjectId], body: &[Stmt]) -> Result<(), AllocError>
-    ensures { OnOk result (string_bytes out.new ≡ string_bytes out.old ++ body_text reads.now body.now) }
+fn put_choice(
+    out: &mut String,
+    reads: &[ObjectId],
+    nodes: &mut NodeCursor<'_>,
+) -> Result<(), AllocError>
+    requires cond { is_cond (first (parts nodes.old)) ≡ true }
+    requires then { is_block (second (parts nodes.old)) ≡ true }
+    requires other { is_block (third (parts nodes.old)) ≡ true }
+    ensures text { OnOk result (string_bytes out.new ≡ string_bytes out.old ++ if_part (part_text reads.now (first (parts nodes.old))) (part_text reads.now (second (parts nodes.old))) (else_part reads.now (third (parts nodes.old)))) }
+    ensures rest { OnOk result (parts nodes.new ≡ drop 3 (parts nodes.old)) }
+    ensures shorter { OnOk result (length nodes.new < length nodes.old) }
+{
+    out.push_str("if ")?;
+    put_cond(out, reads, nodes)?;
+    out.push_str(" ")?;
+    put_block(out, reads, nodes)?;
+    put_else(out, reads, nodes)
+}
+
+#[cycle(statement)]
+#[tactic(auto, using(crate::proofs::Printed::braced))]
+fn put_block(
+    out: &mut String,
+    reads: &[ObjectId],
+    nodes: &mut NodeCursor<'_>,
+) -> Result<(), AllocError>
+    requires { is_block (first (parts nodes.old)) ≡ true }
+    ensures text { OnOk result (string_bytes out.new ≡ string_bytes out.old ++ part_text reads.now (first (parts nodes.old))) }
+    ensures rest { OnOk result (parts nodes.new ≡ drop 1 (parts nodes.old)) }
+    ensures shorter { OnOk result (length nodes.new < length nodes.old) }
+{
+    let count = nodes.block();
+    put_stmts(out, reads, count, nodes)
+}
+
+/// The block behind the first of an `if`. An empty one is not printed.
+#[cycle(statement)]
+#[tactic(auto, using(crate::proofs::Printed::else_some))]
+fn put_else(
+    out: &mut String,
+    reads: &[ObjectId],
+    nodes: &mut NodeCursor<'_>,
+) -> Result<(), AllocError>
+    requires { is_block (first (parts nodes.old)) ≡ true }
+    ensures text { OnOk result (string_bytes out.new ≡ string_bytes out.old ++ else_part reads.now (first (parts nodes.old))) }
+    ensures rest { OnOk result (parts nodes.new ≡ drop 1 (parts nodes.old)) }
+    ensures shorter { OnOk result (length nodes.new < length nodes.old) }
+{
+    let count = nodes.block();
+    if count == 0 {
+        return Ok(());
+    }
+    put_other(out, reads, count, nodes)
+}
+
+#[cycle(statement)]
+fn put_other(
+    out: &mut String,
+    reads: &[ObjectId],
+    count: u8,
+    nodes: &mut NodeCursor<'_>,
+) -> Result<(), AllocError>
+    requires { is_block (block count (parts nodes.old)) ≡ true }
+    ensures text { OnOk result (string_bytes out.new ≡ string_bytes out.old ++ other_part (run_text reads.now (block count (parts nodes.old)))) }
+    ensures rest { OnOk result (parts nodes.new ≡ drop count (parts nodes.old)) }
+    ensures shorter { OnOk result (length nodes.new ≤ length nodes.old) }
+{
+    out.push_str(" else ")?;
+    put_stmts(out, reads, count, nodes)
+}
+
+/// So many statements, as a block.
+#[cycle(statement)]
+fn put_stmts(
+    out: &mut String,
+    reads: &[ObjectId],
+    count: u8,
+    nodes: &mut NodeCursor<'_>,
+) -> Result<(), AllocError>
+    requires { is_block (block count (parts nodes.old)) ≡ true }
+    ensures text { OnOk result (string_bytes out.new ≡ string_bytes out.old ++ block_part (run_text reads.now (block count (parts nodes.old)))) }
+    ensures rest { OnOk result (parts nodes.new ≡ drop count (parts nodes.old)) }
+    ensures shorter { OnOk result (length nodes.new ≤ length nodes.old) }
 {
     out.push_str("{")?;
-    for stmt in body {
-        out.push_str(" ")?;
-        put_stmt(out, reads, stmt)?;
-    }
+    put_run(out, reads, count, nodes)?;
     out.push_str(" }")
+}
+
+/// So many statements, each behind a space.
+#[cycle(statement)]
+fn put_run(
+    out: &mut String,
+    reads: &[ObjectId],
+    count: u8,
+    nodes: &mut NodeCursor<'_>,
+) -> Result<(), AllocError>
+    requires { is_block (block count (parts nodes.old)) ≡ true }
+    ensures text { OnOk result (string_bytes out.new ≡ string_bytes out.old ++ run_text reads.now (block count (parts nodes.old))) }
+    ensures rest { OnOk result (parts nodes.new ≡ drop count (parts nodes.old)) }
+    ensures shorter { OnOk result (length nodes.new ≤ length nodes.old) }
+{
+    for _ in 0..count {
+        out.push_str(" ")?;
+        put_stmt(out, reads, nodes)?;
+    }
+    Ok(())
+}
+
+/// All of a body.
+fn put_body(out: &mut String, reads: &[ObjectId], body: &Body) -> Result<(), AllocError>
+    ensures { OnOk result (string_bytes out.new ≡ string_bytes out.old ++ body_text reads.now body.now) }
+{
+    put_block(out, reads, &mut NodeCursor::new(body.nodes()))
 }
 
 fn put_objects(out: &mut String, objects: &[ObjectId]) -> Result<(), AllocError>
@@ -226,7 +425,7 @@ fn put_action(out: &mut String, action: &Action) -> Result<(), AllocError>
     put_written(out, reads, action.mask)?;
     put_origin(out, action.origin)?;
     out.push_str(" ")?;
-    put_block(out, reads, action.body.as_slice())
+    put_body(out, reads, &action.body)
 }
 
 fn canonical_text(alloc: Global, action: &Action) -> Result<String, AllocError>
@@ -237,14 +436,31 @@ fn canonical_text(alloc: Global, action: &Action) -> Result<String, AllocError>
     Ok(text)
 }
 
+/// The objects' numbers are those of their type. They always are, but a contract knows it only of a number that is read.
+fn read_objects(objects: &[ObjectId])
+    ensures { All ObjectFits objects.now }
+{
+    for object in objects {
+        read_object(*object);
+    }
+}
+
+fn read_object(object: ObjectId)
+    ensures { ObjectFits object }
+{
+    let _object = object;
+}
+
 /// The canonical text of an action: its tokens by one space each, with none after `(` and `[`, and none before `)`, `]` and `;`.
 ///
 /// It has no `else` for an empty block, and no origin where that is (0, 0). A slot that the reads lack is printed as object 0.
 pub fn print_action(alloc: Global, action: &Action) -> Result<String, AllocError>
     ensures text { IfOk result (λ text. string_bytes text ≡ canonical action.now) }
     // The text of an action that the check refuses at most for what its world lacks is read as that action.
-    ensures again { IfOk result (λ text. IsPrintable action.now → reading (tokens_of (string_bytes text)) ≡ Ok action.now) }
+    ensures again { IfOk result (λ text. IsWithinGrammar action.now → reading (tokens_of (string_bytes text)) ≡ Ok action.now) }
 {
+    read_objects(action.reads.as_slice());
+    action.body.read_numbers();
     canonical_text(alloc, action)
 }
 

@@ -1,16 +1,16 @@
-//! Statements and blocks of them.
+//! Statements and blocks of them. Depth is how deep a node may go that starts here.
 
-ghost use Rattle.std.specs.Prelude.{◌≡◌, ◌≤◌, ◌<◌, [], length, Ok, IfOk};
-ghost use Rattle.sv_text.specs.Reading.{Gives, seen, target_at, set_by, else_by, branches_by, if_by, stmts_by, block_by, expr_at, cond_at, stmt_at};
+ghost use Rattle.std.specs.Prelude.{◌≡◌, ◌≤◌, ◌<◌, length, OnOk};
+ghost use Rattle.sv_world.specs.Spelled.{stmt_spelled, body_spelled};
+ghost use Rattle.sv_text.specs.Reading.{Gives, target_at, set_by, else_by, if_by, block_by, expr_at, cond_at, stmt_at, appended};
 
 use crate::condition::cond_at;
 use crate::cursor::Cursor;
-use crate::expression::{closed_expr_at, start};
+use crate::expression::{Parser, expr_at, start};
 use crate::header::slot_at;
 use crate::token::{Mark, Token};
 use crate::{ParseFault, TextCause, TextFault};
-use std::alloc::Global;
-use sv_world::{List, ObjectId, Stmt};
+use sv_world::{Node, ObjectId};
 
 /// The slot and attribute of the ref behind `set`, which is no node.
 #[tactic(auto, using(crate::proofs::Next::target_at_is))]
@@ -28,160 +28,96 @@ fn target_at(reads: &[ObjectId], cursor: &Cursor<'_>) -> Result<(u8, u8), TextFa
     }
 }
 
-#[tactic(auto, unfolding(crate::specs::Reading::set_by))]
-fn set_at(
-    alloc: Global,
-    depth: u8,
-    nodes: usize,
-    reads: &[ObjectId],
-    cursor: &mut Cursor<'_>,
-) -> Result<(Stmt, usize), ParseFault>
+#[tactic(auto, using(crate::proofs::Flat::set_appended))]
+fn set_at(parser: &mut Parser<'_>, reads: &[ObjectId], depth: u8) -> Result<(), ParseFault>
     requires { length reads.now ≤ 16 }
-    ensures gives { Gives (λ x. (x.0, x.1, cursor.new)) result (set_by reads.now (expr_at reads.now depth) nodes cursor.old) }
-    ensures few { IfOk result (λ x. x.1 ≤ 64) }
+    ensures gives { Gives (λ _. (parser.new.out.items, parser.new.started, parser.new.cursor)) result (appended stmt_spelled parser.old.out.items (set_by reads.now (expr_at reads.now depth) parser.old.started parser.old.cursor)) }
+    ensures few { OnOk result (parser.new.started ≤ 64) }
+    ensures longer { OnOk result (length parser.old.out.items ≤ length parser.new.out.items) }
 {
-    let (slot, attr) = target_at(reads, cursor)?;
-    cursor.advance();
-    let (expr, nodes) = closed_expr_at(alloc, Mark::Semicolon, depth, nodes, reads, cursor)?;
-    Ok((Stmt::Set { slot, attr, expr }, nodes))
+    let (slot, attr) = target_at(reads, &parser.cursor)?;
+    parser.cursor.advance();
+    parser.out.push(Node::Set { slot, attr })?;
+    expr_at(parser, reads, depth)?;
+    parser.cursor.expect(Mark::Semicolon)?;
+    Ok(())
 }
 
 #[cycle(statement)]
-#[tactic(auto, using(crate::proofs::Depth::stmt_at_is), unfolding(crate::specs::Reading::stmt_by))]
-fn stmt_at(
-    alloc: Global,
-    depth: u8,
-    nodes: usize,
-    reads: &[ObjectId],
-    cursor: &mut Cursor<'_>,
-) -> Result<(Stmt, usize), ParseFault>
+#[tactic(auto, using(crate::proofs::Depth::stmt_at_is, crate::proofs::Flat::stmt_appended))]
+fn stmt_at(parser: &mut Parser<'_>, reads: &[ObjectId], depth: u8) -> Result<(), ParseFault>
     requires { length reads.now ≤ 16 }
-    ensures gives { Gives (λ x. (x.0, x.1, cursor.new)) result (stmt_at reads.now depth nodes cursor.old) }
-    ensures few { IfOk result (λ x. x.1 ≤ 64) }
+    ensures gives { Gives (λ _. (parser.new.out.items, parser.new.started, parser.new.cursor)) result (appended stmt_spelled parser.old.out.items (stmt_at reads.now depth parser.old.started parser.old.cursor)) }
+    ensures few { OnOk result (parser.new.started ≤ 64) }
+    ensures longer { OnOk result (length parser.old.out.items ≤ length parser.new.out.items) }
 {
-    if cursor.is_at(Mark::Set) {
-        let nodes = start(cursor, depth, nodes)?;
-        cursor.advance();
-        return set_at(alloc, depth - 1, nodes, reads, cursor);
+    if parser.cursor.is_at(Mark::Set) {
+        parser.started = start(parser, depth)?;
+        parser.cursor.advance();
+        return set_at(parser, reads, depth - 1);
     }
-    if cursor.is_at(Mark::If) {
-        let nodes = start(cursor, depth, nodes)?;
-        cursor.advance();
-        return if_at(alloc, depth - 1, nodes, reads, cursor);
+    if parser.cursor.is_at(Mark::If) {
+        parser.started = start(parser, depth)?;
+        parser.cursor.advance();
+        return if_at(parser, reads, depth - 1);
     }
-    Err(ParseFault::Text(cursor.unexpected()))
+    Err(ParseFault::Text(parser.cursor.unexpected()))
 }
 
 #[cycle(statement)]
-#[tactic(auto, unfolding(crate::specs::Reading::if_by))]
-fn if_at(
-    alloc: Global,
-    depth: u8,
-    nodes: usize,
-    reads: &[ObjectId],
-    cursor: &mut Cursor<'_>,
-) -> Result<(Stmt, usize), ParseFault>
+#[tactic(auto, using(crate::proofs::Flat::if_appended))]
+fn if_at(parser: &mut Parser<'_>, reads: &[ObjectId], depth: u8) -> Result<(), ParseFault>
     requires { length reads.now ≤ 16 }
-    ensures gives { Gives (λ x. (x.0, x.1, cursor.new)) result (if_by (cond_at reads.now depth) (block_by (stmt_at reads.now depth)) nodes cursor.old) }
-    ensures few { IfOk result (λ x. x.1 ≤ 64) }
+    ensures gives { Gives (λ _. (parser.new.out.items, parser.new.started, parser.new.cursor)) result (appended stmt_spelled parser.old.out.items (if_by (cond_at reads.now depth) (block_by (stmt_at reads.now depth)) parser.old.started parser.old.cursor)) }
+    ensures few { OnOk result (parser.new.started ≤ 64) }
+    ensures longer { OnOk result (length parser.old.out.items ≤ length parser.new.out.items) }
 {
-    let (cond, nodes) = cond_at(alloc, depth, nodes, reads, cursor)?;
-    match branches_at(alloc, depth, nodes, reads, cursor) {
-        Ok(((then, other), nodes)) => Ok((Stmt::If { cond, then, other }, nodes)),
-        Err(fault) => {
-            // A tree that is let go at the end of its scope makes a long proof; a call that takes it, none.
-            drop(cond);
-            Err(fault)
-        }
-    }
-}
-
-/// Both blocks of an `if`.
-#[cycle(statement)]
-#[tactic(auto, unfolding(crate::specs::Reading::branches_by))]
-fn branches_at(
-    alloc: Global,
-    depth: u8,
-    nodes: usize,
-    reads: &[ObjectId],
-    cursor: &mut Cursor<'_>,
-) -> Result<((List<Stmt>, List<Stmt>), usize), ParseFault>
-    requires reads { length reads.now ≤ 16 }
-    requires few { nodes ≤ 64 }
-    ensures gives { Gives (λ x. (x.0, x.1, cursor.new)) result (branches_by (block_by (stmt_at reads.now depth)) nodes cursor.old) }
-    ensures few { IfOk result (λ x. x.1 ≤ 64) }
-{
-    let (then, nodes) = block_at(alloc, depth, nodes, reads, cursor)?;
-    let (other, nodes) = else_at(alloc, depth, nodes, reads, cursor)?;
-    Ok(((then, other), nodes))
+    parser.out.push(Node::If)?;
+    cond_at(parser, reads, depth)?;
+    block_at(parser, reads, depth)?;
+    else_at(parser, reads, depth)
 }
 
 /// The block behind `else`, and an empty one where there is none.
 #[cycle(statement)]
-#[tactic(auto, unfolding(crate::specs::Reading::else_by))]
-fn else_at(
-    alloc: Global,
-    depth: u8,
-    nodes: usize,
-    reads: &[ObjectId],
-    cursor: &mut Cursor<'_>,
-) -> Result<(List<Stmt>, usize), ParseFault>
+#[tactic(auto, using(crate::proofs::Flat::else_appended))]
+fn else_at(parser: &mut Parser<'_>, reads: &[ObjectId], depth: u8) -> Result<(), ParseFault>
     requires reads { length reads.now ≤ 16 }
-    requires few { nodes ≤ 64 }
-    ensures gives { Gives (λ x. (x.0, x.1, cursor.new)) result (else_by (block_by (stmt_at reads.now depth)) nodes cursor.old) }
-    ensures few { IfOk result (λ x. x.1 ≤ 64) }
+    requires few { parser.old.started ≤ 64 }
+    ensures gives { Gives (λ _. (parser.new.out.items, parser.new.started, parser.new.cursor)) result (appended body_spelled parser.old.out.items (else_by (block_by (stmt_at reads.now depth)) parser.old.started parser.old.cursor)) }
+    ensures few { OnOk result (parser.new.started ≤ 64) }
+    ensures longer { OnOk result (length parser.old.out.items ≤ length parser.new.out.items) }
 {
-    if cursor.is_at(Mark::Else) {
-        cursor.advance();
-        block_at(alloc, depth, nodes, reads, cursor)
-    } else {
-        Ok((List::new(alloc), nodes))
+    if parser.cursor.is_at(Mark::Else) {
+        parser.cursor.advance();
+        return block_at(parser, reads, depth);
     }
+    parser.out.push(Node::Block { count: 0, size: 0 })?;
+    Ok(())
 }
 
+/// Statements up to the end of their block, of which the first place tells at its end how many they are. Each starts a node, so the 65th
+/// is refused.
 #[cycle(statement)]
-#[tactic(auto, unfolding(crate::specs::Reading::block_by))]
-pub fn block_at(
-    alloc: Global,
-    depth: u8,
-    nodes: usize,
-    reads: &[ObjectId],
-    cursor: &mut Cursor<'_>,
-) -> Result<(List<Stmt>, usize), ParseFault>
+#[tactic(auto, using(crate::proofs::Flat::block_appended))]
+pub fn block_at(parser: &mut Parser<'_>, reads: &[ObjectId], depth: u8) -> Result<(), ParseFault>
     requires reads { length reads.now ≤ 16 }
-    requires few { nodes ≤ 64 }
-    ensures gives { Gives (λ x. (x.0, x.1, cursor.new)) result (block_by (stmt_at reads.now depth) nodes cursor.old) }
-    ensures few { IfOk result (λ x. x.1 ≤ 64) }
+    requires few { parser.old.started ≤ 64 }
+    ensures gives { Gives (λ _. (parser.new.out.items, parser.new.started, parser.new.cursor)) result (appended body_spelled parser.old.out.items (block_by (stmt_at reads.now depth) parser.old.started parser.old.cursor)) }
+    ensures few { OnOk result (parser.new.started ≤ 64) }
+    ensures longer { OnOk result (length parser.old.out.items ≤ length parser.new.out.items) }
 {
-    cursor.expect(Mark::OpenBlock)?;
-    stmts_at(alloc, depth, nodes, reads, cursor)
-}
-
-/// Statements up to the end of their block. Each starts a node, so the 65th is refused.
-#[cycle(statement)]
-#[tactic(auto, using(crate::proofs::Turns::stmts_by_is))]
-fn stmts_at(
-    alloc: Global,
-    depth: u8,
-    nodes: usize,
-    reads: &[ObjectId],
-    cursor: &mut Cursor<'_>,
-) -> Result<(List<Stmt>, usize), ParseFault>
-    requires reads { length reads.now ≤ 16 }
-    requires few { nodes ≤ 64 }
-    ensures gives { Gives (λ x. (x.0, x.1, cursor.new)) result (stmts_by (stmt_at reads.now depth) 65 [] nodes cursor.old) }
-    ensures few { IfOk result (λ x. x.1 ≤ 64) }
-{
-    let mut body = List::new(alloc);
-    let mut count = nodes;
-    for _ in 0..65u8 {
-        if cursor.is_at(Mark::CloseBlock) {
-            cursor.advance();
-            return Ok((body, count));
+    parser.cursor.expect(Mark::OpenBlock)?;
+    let place = parser.out.len();
+    parser.out.push(Node::Block { count: 0, size: 0 })?;
+    for count in 0..65u8 {
+        if parser.cursor.is_at(Mark::CloseBlock) {
+            parser.cursor.advance();
+            let size = parser.out.len() - place - 1;
+            parser.out[place] = Node::Block { count, size };
+            return Ok(());
         }
-        let (stmt, more) = stmt_at(alloc, depth, count, reads, cursor)?;
-        body.push(stmt)?;
-        count = more;
+        stmt_at(parser, reads, depth)?;
     }
-    Err(ParseFault::Text(cursor.fault(TextCause::TooLarge)))
+    Err(ParseFault::Text(parser.cursor.fault(TextCause::TooLarge)))
 }

@@ -20,25 +20,27 @@ use Rattle.sv_world.specs.declared.action.Stmt.TheVariants as stmt
 use Rattle.sv_world.specs.declared.action.Stmt.TheOpen.{Stmt-F}
 use Rattle.sv_world.specs.declared.action.Stmt.TheViews.{roll-Stmt}
 use Rattle.sv_world.specs.declared.action.Stmt.TheFolds.{ind-Stmt}
-use Rattle.sv_wire.specs.declared.nodes.Operator.{Operator}
-use Rattle.sv_wire.specs.declared.nodes.Operator.TheVariants.{Add, Sub, Mul, Div, Rem, Min, Max}
+use Rattle.sv_world.specs.declared.node.Operator.{Operator}
+use Rattle.sv_world.specs.declared.node.Operator.TheVariants.{Add, Sub, Mul, Div, Rem, Min, Max}
 use Rattle.sv_wire.specs.declared.nodes.ExprKind.TheVariants as expr_kind
-use Rattle.sv_wire.specs.declared.nodes.Comparison.{Comparison}
-use Rattle.sv_wire.specs.declared.nodes.Comparison.TheVariants.{Eq, Lt, Le}
-use Rattle.sv_wire.specs.declared.nodes.Connective.{Connective}
-use Rattle.sv_wire.specs.declared.nodes.Connective.TheVariants.{And, Or}
+use Rattle.sv_world.specs.declared.node.Comparison.{Comparison}
+use Rattle.sv_world.specs.declared.node.Comparison.TheVariants.{Eq, Lt, Le}
+use Rattle.sv_world.specs.declared.node.Connective.{Connective}
+use Rattle.sv_world.specs.declared.node.Connective.TheVariants.{And, Or}
 use Rattle.sv_wire.specs.declared.nodes.CondKind.TheVariants as cond_kind
 use Rattle.sv_wire.specs.declared.nodes.StmtKind.TheVariants as stmt_kind
 use Rattle.sv_wire.specs.Steps.{Turn, in_turn}
 use Rattle.sv_wire.specs.Fields.{byte_at}
-use Rattle.sv_wire.specs.Nodes.{room_at, node_at, expr_kind_of, cond_kind_of, stmt_kind_of, expr_by, compare_by, join_by}
+use Rattle.sv_world.specs.Parts.{binary_by as expr_by, compare_by, join_by}
+use Rattle.sv_wire.specs.Nodes.{room_at, node_at, expr_kind_of, cond_kind_of, stmt_kind_of}
 use Rattle.sv_wire.specs.Trees.{lit_at, attr_at, pair_at, expr_step, expr_at, compare_at, join_at, not_at, cond_step, cond_at, set_at, list_by, other_at, lists_at, if_at, stmt_step, stmt_at, body_at}
-use Rattle.sv_wire.specs.Spelling.{int_bytes, expr_bytes, cond_bytes, counted, stmt_bytes, body_bytes}
-use Rattle.sv_wire.specs.Ranges.{is_i64, is_byte, expr_fits, cond_fits, stmt_fits}
+use Rattle.sv_wire.specs.Spelling.{operator_byte, comparison_byte, connective_byte, int_bytes, expr_bytes, cond_bytes, counted, stmt_bytes, body_bytes}
+use Rattle.sv_world.specs.Ranges.{is_i64, is_byte, expr_fits, cond_fits, stmt_fits}
 use Rattle.sv_wire.proofs.Trees.{expr_at_is, cond_at_is, stmt_at_is}
 use Rattle.sv_wire.proofs.Append.{nodes_more}
 use Rattle.sv_wire.proofs.Again.{int64_again, and_left, and_right}
-use Rattle.sv_wire.proofs.Layers.{operator_byte, bytes_by, nodes_by, depth_by, fits_by, kind_by, lit_bytes, lit_nodes, lit_depth, lit_fits, attr_bytes, attr_nodes, attr_depth, comparison_byte, connective_byte, compare_bytes, compare_nodes, compare_depth, compare_fits, compare_kind, join_bytes, join_nodes, join_depth, join_fits, join_kind, not_bytes, not_nodes, not_depth, not_fits, set_bytes, set_nodes, set_depth, set_fits, if_bytes, if_nodes, if_depth, if_fits}
+use Rattle.sv_world.proofs.Ranged.{binary_fits as fits_by, lit_fits, compare_fits, join_fits, not_fits, set_fits, if_fits}
+use Rattle.sv_wire.proofs.Layers.{bytes_by, nodes_by, depth_by, kind_by, lit_bytes, lit_nodes, lit_depth, attr_bytes, attr_nodes, attr_depth, compare_bytes, compare_nodes, compare_depth, compare_kind, join_bytes, join_nodes, join_depth, join_kind, not_bytes, not_nodes, not_depth, set_bytes, set_nodes, set_depth, if_bytes, if_nodes, if_depth}
 
 node_again : {K : Type 0} (kind_of : ℕ → Option K) (kind : K) (b : ℕ) → kind_of b ≡ Some kind → (depth nodes : ℕ) (rest : List ℕ) → 0 < depth → nodes < 64 → node_at kind_of depth nodes (b ∷ rest) ≡ Ok (kind, rest)
 unfolding node_at byte_at room_at

@@ -1,14 +1,11 @@
 -- Writing parts one after the other, and the parts of a body.
-use Rattle.std.proofs.Common.{◌≡◌, ℕ, ◌+◌, ◌<◌, ◌≤◌, List, [], ◌∷◌, ◌++◌, length, map, get_or, take, sym, ap, ◌∙◌, append_assoc, arith}
+use Rattle.std.proofs.Common.{◌≡◌, ℕ, ◌+◌, ◌<◌, List, [], ◌∷◌, ◌++◌, length, map, get_or, take, sym, ap, ◌∙◌, append_assoc}
 use Rattle.std.specs.List.{flat_map}
 use Rattle.std.proofs.lemmas.List.{take_more, flat_map_more, length-map}
 use Rattle.std.proofs.lemmas.List.Folds.{flat_map-map}
 use Rattle.std.proofs.lemmas.List.Sums.{sum_by-cons}
-use Rattle.sv_world.specs.Trees.{stmt_nodes, stmt_nodes_step, body_nodes}
+use Rattle.sv_world.specs.Trees.{stmt_nodes, body_nodes}
 use Rattle.sv_world.specs.declared.action.Stmt.{Stmt}
-use Rattle.sv_world.specs.declared.action.Stmt.TheOpen.{Stmt-F}
-use Rattle.sv_world.specs.declared.action.Stmt.TheViews.{roll-Stmt}
-use Rattle.sv_world.specs.declared.action.Stmt.TheFolds.{fold-roll-Stmt, ind-Stmt}
 use Rattle.sv_wire.specs.Spelling.{stmt_bytes, body_bytes}
 
 pub appended : {A : Type 0} (spell : A → List ℕ) (xs : List A) (i : ℕ) (x d : A) (old before new : List ℕ) → i < length xs → x ≡ get_or xs i d → before ≡ old ++ flat_map spell (take i xs) → new ≡ before ++ spell x
@@ -17,21 +14,8 @@ appended {A = A} spell xs i x d old before new lt is so_far put =
     let more : take i xs ++ x ∷ [] ≡ take (i + 1) xs = ap (λ (y : A). take i xs ++ y ∷ []) is ∙ sym (take_more xs i d lt) in
     put ∙ ap (λ (t : List ℕ). t ++ spell x) so_far ∙ flat_map_more spell old (take i xs) x ∙ ap (λ (ys : List A). old ++ flat_map spell ys) more
 
--- Each statement is a node.
-some_layer : (y : Stmt-F Stmt) → 1 ≤ stmt_nodes (roll-Stmt y)
-some_layer (Stmt-F.Set slot attr value) = let e = fold-roll-Stmt ℕ stmt_nodes_step (Stmt-F.Set slot attr value) in omega (arith, e)
-some_layer (Stmt-F.If c xs ys) = let e = fold-roll-Stmt ℕ stmt_nodes_step (Stmt-F.If c xs ys) in omega (arith, e)
-
-some_node : (s : Stmt) → 1 ≤ stmt_nodes s
-some_node = ind-Stmt (λ s. 1 ≤ stmt_nodes s) (λ x y is. some_layer x)
-
 pub nodes_more : (s : Stmt) (body : List Stmt) → body_nodes (s ∷ body) ≡ stmt_nodes s + body_nodes body
 nodes_more s body = sum_by-cons (λ (n : ℕ). n) (stmt_nodes s) (map stmt_nodes body)
-
-pub length_within : (body : List Stmt) → length body ≤ body_nodes body
-length_within [] = omega arith
-length_within (s ∷ body) =
-    omega (arith, nodes_more s body, some_node s, length_within body)
 
 pub body_is : (body : List Stmt) → length body ∷ flat_map stmt_bytes body ≡ body_bytes body
 body_is body = ap (λ (n : ℕ). n ∷ flat_map stmt_bytes body) (sym (length-map body stmt_bytes)) ∙ ap (λ (t : List ℕ). length (map stmt_bytes body) ∷ t) (sym (flat_map-map (λ (x : List ℕ). x) stmt_bytes body))

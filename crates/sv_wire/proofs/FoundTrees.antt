@@ -12,28 +12,29 @@ use Rattle.sv_world.specs.declared.action.Cond.TheVariants as test
 use Rattle.sv_world.specs.declared.action.Stmt.{Stmt}
 use Rattle.sv_world.specs.declared.action.Stmt.TheVariants as stmt
 use Rattle.sv_wire.specs.declared.fault.Stop.{Stop}
-use Rattle.sv_wire.specs.declared.nodes.Operator.{Operator}
-use Rattle.sv_wire.specs.declared.nodes.Operator.TheVariants.{Add, Sub, Mul, Div, Rem, Min, Max}
-use Rattle.sv_wire.specs.declared.nodes.Comparison.{Comparison}
-use Rattle.sv_wire.specs.declared.nodes.Comparison.TheVariants.{Eq, Lt, Le}
-use Rattle.sv_wire.specs.declared.nodes.Connective.{Connective}
-use Rattle.sv_wire.specs.declared.nodes.Connective.TheVariants.{And, Or}
+use Rattle.sv_world.specs.declared.node.Operator.{Operator}
+use Rattle.sv_world.specs.declared.node.Operator.TheVariants.{Add, Sub, Mul, Div, Rem, Min, Max}
+use Rattle.sv_world.specs.declared.node.Comparison.{Comparison}
+use Rattle.sv_world.specs.declared.node.Comparison.TheVariants.{Eq, Lt, Le}
+use Rattle.sv_world.specs.declared.node.Connective.{Connective}
+use Rattle.sv_world.specs.declared.node.Connective.TheVariants.{And, Or}
 use Rattle.sv_wire.specs.declared.nodes.ExprKind.{ExprKind}
 use Rattle.sv_wire.specs.declared.nodes.ExprKind.TheVariants as expr_kind
 use Rattle.sv_wire.specs.declared.nodes.CondKind.{CondKind}
 use Rattle.sv_wire.specs.declared.nodes.CondKind.TheVariants as cond_kind
 use Rattle.sv_wire.specs.declared.nodes.StmtKind.{StmtKind}
 use Rattle.sv_wire.specs.declared.nodes.StmtKind.TheVariants as stmt_kind
+use Rattle.sv_world.specs.Parts.{binary_by as expr_by, compare_by, join_by}
 use Rattle.sv_wire.specs.Steps.{◌>>=◌, in_turn}
 use Rattle.sv_wire.specs.Fields.{byte_at, int_at}
-use Rattle.sv_wire.specs.Nodes.{among, kind_in, room_at, node_at, expr_kind_of, cond_kind_of, stmt_kind_of, expr_by, compare_by, join_by}
+use Rattle.sv_wire.specs.Nodes.{among, kind_in, room_at, node_at, expr_kind_of, cond_kind_of, stmt_kind_of}
 use Rattle.sv_wire.specs.Trees.{Reader, nothing, lit_at, attr_at, pair_at, expr_of, expr_step, expr_at, compare_at, join_at, not_at, cond_of, cond_step, cond_at, set_at, list_by, other_at, lists_at, if_at, stmt_of, stmt_step, stmt_at}
-use Rattle.sv_wire.specs.Spelling.{int_bytes, expr_bytes, cond_bytes, stmt_bytes, body_bytes}
+use Rattle.sv_wire.specs.Spelling.{operator_byte, comparison_byte, connective_byte, int_bytes, expr_bytes, cond_bytes, stmt_bytes, body_bytes}
 use Rattle.sv_wire.proofs.Near.{ok_is}
 use Rattle.sv_wire.proofs.NearFields.{bind_ok}
 use Rattle.sv_wire.proofs.Append.{nodes_more}
 use Rattle.sv_wire.proofs.Found.{IsBytes, Takes, after, takes_nothing, byte_takes, int64_takes}
-use Rattle.sv_wire.proofs.Layers.{operator_byte, bytes_by, nodes_by, depth_by, lit_bytes, lit_nodes, lit_depth, attr_bytes, attr_nodes, attr_depth, comparison_byte, connective_byte, compare_bytes, compare_nodes, compare_depth, join_bytes, join_nodes, join_depth, not_bytes, not_nodes, not_depth, set_bytes, set_nodes, set_depth, if_bytes, if_nodes, if_depth}
+use Rattle.sv_wire.proofs.Layers.{bytes_by, nodes_by, depth_by, lit_bytes, lit_nodes, lit_depth, attr_bytes, attr_nodes, attr_depth, compare_bytes, compare_nodes, compare_depth, join_bytes, join_nodes, join_depth, not_bytes, not_nodes, not_depth, set_bytes, set_nodes, set_depth, if_bytes, if_nodes, if_depth}
 
 -- ---- the table of kinds
 

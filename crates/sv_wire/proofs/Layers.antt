@@ -1,61 +1,31 @@
 -- What the measures and the spelling of a body are at each kind of node.
-use Rattle.std.proofs.Common.{◌≡◌, ℕ, ◌+◌, max, Bool, ◌&&◌, ℤ, List, [], ◌∷◌, ◌++◌, map, Some, refl, sym, ap, ◌∙◌}
+use Rattle.std.proofs.Common.{◌≡◌, ℕ, ◌+◌, max, Bool, ◌&&◌, ℤ, List, [], ◌∷◌, ◌++◌, map, Some, refl, ◌∙◌}
 use Rattle.std.specs.Int.{w64}
 use Rattle.sv_world.specs.Trees.{expr_by as expr_value, cond_by as cond_value, expr_nodes, cond_nodes, stmt_nodes, stmt_nodes_step, body_nodes, expr_depth, cond_depth, stmt_depth, stmt_depth_step, body_depth, all_true}
 use Rattle.sv_world.specs.declared.action.Expr.{Expr}
 use Rattle.sv_world.specs.declared.action.Expr.TheVariants as expr
 use Rattle.sv_world.specs.declared.action.Expr.TheOpen.{Expr-F}
-use Rattle.sv_world.specs.declared.action.Expr.TheFolds.{fold-Expr, fold-roll-Expr}
 use Rattle.sv_world.specs.declared.action.Cond.{Cond}
 use Rattle.sv_world.specs.declared.action.Cond.TheVariants as test
 use Rattle.sv_world.specs.declared.action.Cond.TheOpen.{Cond-F}
-use Rattle.sv_world.specs.declared.action.Cond.TheFolds.{fold-Cond, fold-roll-Cond}
 use Rattle.sv_world.specs.declared.action.Stmt.{Stmt}
 use Rattle.sv_world.specs.declared.action.Stmt.TheVariants as stmt
-use Rattle.sv_world.specs.declared.action.Stmt.TheOpen.{Stmt-F}
-use Rattle.sv_world.specs.declared.action.Stmt.TheFolds.{fold-Stmt, fold-roll-Stmt}
-use Rattle.sv_wire.specs.declared.nodes.Operator.{Operator}
-use Rattle.sv_wire.specs.declared.nodes.Operator.TheVariants.{Add, Sub, Mul, Div, Rem, Min, Max}
+use Rattle.sv_world.specs.declared.node.Operator.{Operator}
+use Rattle.sv_world.specs.declared.node.Operator.TheVariants.{Add, Sub, Mul, Div, Rem, Min, Max}
 use Rattle.sv_wire.specs.declared.nodes.ExprKind.TheVariants as expr_kind
-use Rattle.sv_wire.specs.declared.nodes.Comparison.{Comparison}
-use Rattle.sv_wire.specs.declared.nodes.Comparison.TheVariants.{Eq, Lt, Le}
-use Rattle.sv_wire.specs.declared.nodes.Connective.{Connective}
-use Rattle.sv_wire.specs.declared.nodes.Connective.TheVariants.{And, Or}
+use Rattle.sv_world.specs.declared.node.Comparison.{Comparison}
+use Rattle.sv_world.specs.declared.node.Comparison.TheVariants.{Eq, Lt, Le}
+use Rattle.sv_world.specs.declared.node.Connective.{Connective}
+use Rattle.sv_world.specs.declared.node.Connective.TheVariants.{And, Or}
 use Rattle.sv_wire.specs.declared.nodes.CondKind.TheVariants as cond_kind
-use Rattle.sv_wire.specs.Nodes.{expr_kind_of, cond_kind_of, expr_by, compare_by, join_by}
-use Rattle.sv_wire.specs.Spelling.{int_bytes, expr_bytes_step, expr_bytes, cond_bytes_step, cond_bytes, counted, stmt_bytes_step, stmt_bytes}
-use Rattle.sv_wire.specs.Ranges.{is_i64, is_byte, expr_fits_step, expr_fits, cond_fits_step, cond_fits, stmt_fits_step, stmt_fits}
+use Rattle.sv_world.specs.Parts.{binary_by as expr_by, compare_by, join_by}
+use Rattle.sv_world.proofs.Layers.{binary_layer, compare_layer, join_layer, lit_fold, attr_fold, binary_fold, compare_fold, join_fold, not_fold, set_fold, if_fold}
+use Rattle.sv_wire.specs.Nodes.{expr_kind_of, cond_kind_of}
+use Rattle.sv_wire.specs.Spelling.{operator_byte, comparison_byte, connective_byte, int_bytes, expr_bytes_step, expr_bytes, cond_bytes_step, cond_bytes, counted, stmt_bytes_step, stmt_bytes}
 
 -- ---- expressions
 
-abbrev layer_by : {A : Type 0} → Operator → A → A → Expr-F A
-layer_by Add a b = Expr-F.Add a b
-layer_by Sub a b = Expr-F.Sub a b
-layer_by Mul a b = Expr-F.Mul a b
-layer_by Div a b = Expr-F.Div a b
-layer_by Rem a b = Expr-F.Rem a b
-layer_by Min a b = Expr-F.Min a b
-layer_by Max a b = Expr-F.Max a b
-
-abbrev pub operator_byte : Operator → ℕ
-operator_byte Add = 0x22
-operator_byte Sub = 0x23
-operator_byte Mul = 0x24
-operator_byte Div = 0x25
-operator_byte Rem = 0x26
-operator_byte Min = 0x27
-operator_byte Max = 0x28
-
-expr_fold_by : (A : Type 0) (step : Expr-F A → A) (o : Operator) (a b : Expr) → fold-Expr A step (expr_by o a b) ≡ step (layer_by o (fold-Expr A step a) (fold-Expr A step b))
-expr_fold_by A step Add a b = ap (fold-Expr A step) (sym (expr.rolls-Add a b)) ∙ fold-roll-Expr A step (Expr-F.Add a b)
-expr_fold_by A step Sub a b = ap (fold-Expr A step) (sym (expr.rolls-Sub a b)) ∙ fold-roll-Expr A step (Expr-F.Sub a b)
-expr_fold_by A step Mul a b = ap (fold-Expr A step) (sym (expr.rolls-Mul a b)) ∙ fold-roll-Expr A step (Expr-F.Mul a b)
-expr_fold_by A step Div a b = ap (fold-Expr A step) (sym (expr.rolls-Div a b)) ∙ fold-roll-Expr A step (Expr-F.Div a b)
-expr_fold_by A step Rem a b = ap (fold-Expr A step) (sym (expr.rolls-Rem a b)) ∙ fold-roll-Expr A step (Expr-F.Rem a b)
-expr_fold_by A step Min a b = ap (fold-Expr A step) (sym (expr.rolls-Min a b)) ∙ fold-roll-Expr A step (Expr-F.Min a b)
-expr_fold_by A step Max a b = ap (fold-Expr A step) (sym (expr.rolls-Max a b)) ∙ fold-roll-Expr A step (Expr-F.Max a b)
-
-bytes_layer : (o : Operator) (x y : List ℕ) → expr_bytes_step (layer_by o x y) ≡ operator_byte o ∷ (x ++ y)
+bytes_layer : (o : Operator) (x y : List ℕ) → expr_bytes_step (binary_layer o x y) ≡ operator_byte o ∷ (x ++ y)
 bytes_layer Add x y = refl
 bytes_layer Sub x y = refl
 bytes_layer Mul x y = refl
@@ -64,7 +34,7 @@ bytes_layer Rem x y = refl
 bytes_layer Min x y = refl
 bytes_layer Max x y = refl
 
-nodes_layer : (o : Operator) (x y : ℕ) → expr_value 1 (λ _ _. 1) (λ x y. 1 + x + y) (layer_by o x y) ≡ 1 + x + y
+nodes_layer : (o : Operator) (x y : ℕ) → expr_value 1 (λ _ _. 1) (λ x y. 1 + x + y) (binary_layer o x y) ≡ 1 + x + y
 nodes_layer Add x y = refl
 nodes_layer Sub x y = refl
 nodes_layer Mul x y = refl
@@ -73,7 +43,7 @@ nodes_layer Rem x y = refl
 nodes_layer Min x y = refl
 nodes_layer Max x y = refl
 
-depth_layer : (o : Operator) (x y : ℕ) → expr_value 1 (λ _ _. 1) (λ x y. 1 + max x y) (layer_by o x y) ≡ 1 + max x y
+depth_layer : (o : Operator) (x y : ℕ) → expr_value 1 (λ _ _. 1) (λ x y. 1 + max x y) (binary_layer o x y) ≡ 1 + max x y
 depth_layer Add x y = refl
 depth_layer Sub x y = refl
 depth_layer Mul x y = refl
@@ -82,26 +52,14 @@ depth_layer Rem x y = refl
 depth_layer Min x y = refl
 depth_layer Max x y = refl
 
-fits_layer : (o : Operator) (x y : Bool) → expr_fits_step (layer_by o x y) ≡ (x && y)
-fits_layer Add x y = refl
-fits_layer Sub x y = refl
-fits_layer Mul x y = refl
-fits_layer Div x y = refl
-fits_layer Rem x y = refl
-fits_layer Min x y = refl
-fits_layer Max x y = refl
-
 pub bytes_by : (o : Operator) (a b : Expr) → expr_bytes (expr_by o a b) ≡ operator_byte o ∷ (expr_bytes a ++ expr_bytes b)
-bytes_by o a b = expr_fold_by (List ℕ) expr_bytes_step o a b ∙ bytes_layer o (expr_bytes a) (expr_bytes b)
+bytes_by o a b = binary_fold (List ℕ) expr_bytes_step o a b ∙ bytes_layer o (expr_bytes a) (expr_bytes b)
 
 pub nodes_by : (o : Operator) (a b : Expr) → expr_nodes (expr_by o a b) ≡ 1 + expr_nodes a + expr_nodes b
-nodes_by o a b = expr_fold_by ℕ (expr_value 1 (λ _ _. 1) (λ x y. 1 + x + y)) o a b ∙ nodes_layer o (expr_nodes a) (expr_nodes b)
+nodes_by o a b = binary_fold ℕ (expr_value 1 (λ _ _. 1) (λ x y. 1 + x + y)) o a b ∙ nodes_layer o (expr_nodes a) (expr_nodes b)
 
 pub depth_by : (o : Operator) (a b : Expr) → expr_depth (expr_by o a b) ≡ 1 + max (expr_depth a) (expr_depth b)
-depth_by o a b = expr_fold_by ℕ (expr_value 1 (λ _ _. 1) (λ x y. 1 + max x y)) o a b ∙ depth_layer o (expr_depth a) (expr_depth b)
-
-pub fits_by : (o : Operator) (a b : Expr) → expr_fits (expr_by o a b) ≡ (expr_fits a && expr_fits b)
-fits_by o a b = expr_fold_by Bool expr_fits_step o a b ∙ fits_layer o (expr_fits a) (expr_fits b)
+depth_by o a b = binary_fold ℕ (expr_value 1 (λ _ _. 1) (λ x y. 1 + max x y)) o a b ∙ depth_layer o (expr_depth a) (expr_depth b)
 
 pub kind_by : (o : Operator) → expr_kind_of (operator_byte o) ≡ Some (expr_kind.Both o)
 unfolding expr_kind_of
@@ -113,43 +71,7 @@ kind_by Rem = refl
 kind_by Min = refl
 kind_by Max = refl
 
-pub lit_fold : (A : Type 0) (step : Expr-F A → A) (n : ℤ) → fold-Expr A step (expr.Lit n) ≡ step (Expr-F.Lit n)
-lit_fold A step n = ap (fold-Expr A step) (sym (expr.rolls-Lit n)) ∙ fold-roll-Expr A step (Expr-F.Lit n)
-
-pub attr_fold : (A : Type 0) (step : Expr-F A → A) (slot attr : ℕ) → fold-Expr A step (expr.Attr slot attr) ≡ step (Expr-F.Attr slot attr)
-attr_fold A step slot attr = ap (fold-Expr A step) (sym (expr.rolls-Attr slot attr)) ∙ fold-roll-Expr A step (Expr-F.Attr slot attr)
-
 -- ---- conditions
-
-abbrev pub comparison_byte : Comparison → ℕ
-comparison_byte Eq = 0x30
-comparison_byte Lt = 0x31
-comparison_byte Le = 0x32
-
-abbrev pub connective_byte : Connective → ℕ
-connective_byte And = 0x33
-connective_byte Or = 0x34
-
-abbrev compare_layer : {A : Type 0} → Comparison → Expr → Expr → Cond-F A
-compare_layer Eq a b = Cond-F.Eq a b
-compare_layer Lt a b = Cond-F.Lt a b
-compare_layer Le a b = Cond-F.Le a b
-
-abbrev join_layer : {A : Type 0} → Connective → A → A → Cond-F A
-join_layer And a b = Cond-F.And a b
-join_layer Or a b = Cond-F.Or a b
-
-compare_fold : (A : Type 0) (step : Cond-F A → A) (o : Comparison) (a b : Expr) → fold-Cond A step (compare_by o a b) ≡ step (compare_layer o a b)
-compare_fold A step Eq a b = ap (fold-Cond A step) (sym (test.rolls-Eq a b)) ∙ fold-roll-Cond A step (Cond-F.Eq a b)
-compare_fold A step Lt a b = ap (fold-Cond A step) (sym (test.rolls-Lt a b)) ∙ fold-roll-Cond A step (Cond-F.Lt a b)
-compare_fold A step Le a b = ap (fold-Cond A step) (sym (test.rolls-Le a b)) ∙ fold-roll-Cond A step (Cond-F.Le a b)
-
-join_fold : (A : Type 0) (step : Cond-F A → A) (o : Connective) (a b : Cond) → fold-Cond A step (join_by o a b) ≡ step (join_layer o (fold-Cond A step a) (fold-Cond A step b))
-join_fold A step And a b = ap (fold-Cond A step) (sym (test.rolls-And a b)) ∙ fold-roll-Cond A step (Cond-F.And a b)
-join_fold A step Or a b = ap (fold-Cond A step) (sym (test.rolls-Or a b)) ∙ fold-roll-Cond A step (Cond-F.Or a b)
-
-pub not_fold : (A : Type 0) (step : Cond-F A → A) (a : Cond) → fold-Cond A step (test.Not a) ≡ step (Cond-F.Not (fold-Cond A step a))
-not_fold A step a = ap (fold-Cond A step) (sym (test.rolls-Not a)) ∙ fold-roll-Cond A step (Cond-F.Not a)
 
 compare_bytes_layer : (o : Comparison) (a b : Expr) → cond_bytes_step (compare_layer o a b) ≡ comparison_byte o ∷ (expr_bytes a ++ expr_bytes b)
 compare_bytes_layer Eq a b = refl
@@ -196,21 +118,6 @@ join_depth_layer Or x y = refl
 pub join_depth : (o : Connective) (a b : Cond) → cond_depth (join_by o a b) ≡ 1 + max (cond_depth a) (cond_depth b)
 join_depth o a b = join_fold (ℕ) (cond_value expr_depth (λ x y. 1 + max x y) (λ x. 1 + x)) o a b ∙ join_depth_layer o (cond_depth a) (cond_depth b)
 
-compare_fits_layer : (o : Comparison) (a b : Expr) → cond_fits_step (compare_layer o a b) ≡ (expr_fits a && expr_fits b)
-compare_fits_layer Eq a b = refl
-compare_fits_layer Lt a b = refl
-compare_fits_layer Le a b = refl
-
-pub compare_fits : (o : Comparison) (a b : Expr) → cond_fits (compare_by o a b) ≡ (expr_fits a && expr_fits b)
-compare_fits o a b = compare_fold (Bool) cond_fits_step o a b ∙ compare_fits_layer o a b
-
-join_fits_layer : (o : Connective) (x y : Bool) → cond_fits_step (join_layer o x y) ≡ (x && y)
-join_fits_layer And x y = refl
-join_fits_layer Or x y = refl
-
-pub join_fits : (o : Connective) (a b : Cond) → cond_fits (join_by o a b) ≡ (cond_fits a && cond_fits b)
-join_fits o a b = join_fold (Bool) cond_fits_step o a b ∙ join_fits_layer o (cond_fits a) (cond_fits b)
-
 pub compare_kind : (o : Comparison) → cond_kind_of (comparison_byte o) ≡ Some (cond_kind.Compare o)
 unfolding cond_kind_of
 compare_kind Eq = refl
@@ -221,14 +128,6 @@ pub join_kind : (o : Connective) → cond_kind_of (connective_byte o) ≡ Some (
 unfolding cond_kind_of
 join_kind And = refl
 join_kind Or = refl
-
--- ---- statements
-
-pub set_fold : (A : Type 0) (step : Stmt-F A → A) (slot attr : ℕ) (value : Expr) → fold-Stmt A step (stmt.Set slot attr value) ≡ step (Stmt-F.Set slot attr value)
-set_fold A step slot attr value = ap (fold-Stmt A step) (sym (stmt.rolls-Set slot attr value)) ∙ fold-roll-Stmt A step (Stmt-F.Set slot attr value)
-
-pub if_fold : (A : Type 0) (step : Stmt-F A → A) (c : Cond) (xs ys : List Stmt) → fold-Stmt A step (stmt.If c xs ys) ≡ step (Stmt-F.If c (map (fold-Stmt A step) xs) (map (fold-Stmt A step) ys))
-if_fold A step c xs ys = ap (fold-Stmt A step) (sym (stmt.rolls-If c xs ys)) ∙ fold-roll-Stmt A step (Stmt-F.If c xs ys)
 
 -- ---- each measure at the other nodes
 
@@ -253,9 +152,6 @@ lit_nodes n = lit_fold ℕ expr_counts n
 pub lit_depth : (n : ℤ) → expr_depth (expr.Lit n) ≡ 1
 lit_depth n = lit_fold ℕ expr_levels n
 
-pub lit_fits : (n : ℤ) → expr_fits (expr.Lit n) ≡ is_i64 n
-lit_fits n = lit_fold Bool expr_fits_step n
-
 pub attr_bytes : (slot attr : ℕ) → expr_bytes (expr.Attr slot attr) ≡ 0x21 ∷ slot ∷ attr ∷ []
 attr_bytes slot attr = attr_fold (List ℕ) expr_bytes_step slot attr
 
@@ -274,9 +170,6 @@ not_nodes a = not_fold ℕ cond_counts a
 pub not_depth : (a : Cond) → cond_depth (test.Not a) ≡ 1 + cond_depth a
 not_depth a = not_fold ℕ cond_levels a
 
-pub not_fits : (a : Cond) → cond_fits (test.Not a) ≡ cond_fits a
-not_fits a = not_fold Bool cond_fits_step a
-
 pub set_bytes : (slot attr : ℕ) (value : Expr) → stmt_bytes (stmt.Set slot attr value) ≡ 0x10 ∷ slot ∷ attr ∷ expr_bytes value
 set_bytes slot attr value = set_fold (List ℕ) stmt_bytes_step slot attr value
 
@@ -286,9 +179,6 @@ set_nodes slot attr value = set_fold ℕ stmt_nodes_step slot attr value
 pub set_depth : (slot attr : ℕ) (value : Expr) → stmt_depth (stmt.Set slot attr value) ≡ 1 + expr_depth value
 set_depth slot attr value = set_fold ℕ stmt_depth_step slot attr value
 
-pub set_fits : (slot attr : ℕ) (value : Expr) → stmt_fits (stmt.Set slot attr value) ≡ (is_byte slot && (is_byte attr && expr_fits value))
-set_fits slot attr value = set_fold Bool stmt_fits_step slot attr value
-
 pub if_bytes : (c : Cond) (xs ys : List Stmt) → stmt_bytes (stmt.If c xs ys) ≡ 0x11 ∷ (cond_bytes c ++ counted (map stmt_bytes xs) ++ counted (map stmt_bytes ys))
 if_bytes c xs ys = if_fold (List ℕ) stmt_bytes_step c xs ys
 
@@ -297,6 +187,3 @@ if_nodes c xs ys = if_fold ℕ stmt_nodes_step c xs ys
 
 pub if_depth : (c : Cond) (xs ys : List Stmt) → stmt_depth (stmt.If c xs ys) ≡ 1 + max (cond_depth c) (max (body_depth xs) (body_depth ys))
 if_depth c xs ys = if_fold ℕ stmt_depth_step c xs ys
-
-pub if_fits : (c : Cond) (xs ys : List Stmt) → stmt_fits (stmt.If c xs ys) ≡ (cond_fits c && (all_true (map stmt_fits xs) && all_true (map stmt_fits ys)))
-if_fits c xs ys = if_fold Bool stmt_fits_step c xs ys

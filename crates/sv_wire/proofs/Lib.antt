@@ -3,6 +3,7 @@ pub mod AgainMessages
 pub mod AgainTrees
 pub mod Append
 pub mod Decoded
+pub mod Flat
 pub mod Found
 pub mod FoundMessages
 pub mod FoundTrees
@@ -13,3 +14,4 @@ pub mod NearFields
 pub mod NearMessages
 pub mod NearTrees
 pub mod Trees
+pub mod Written

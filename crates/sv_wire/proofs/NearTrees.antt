@@ -7,9 +7,9 @@ use Rattle.sv_world.specs.declared.action.Cond.{Cond}
 use Rattle.sv_world.specs.declared.action.Stmt.{Stmt}
 use Rattle.sv_wire.specs.declared.fault.Stop.{Stop}
 use Rattle.sv_wire.specs.declared.fault.WireCause.TheVariants.{Short, Kind, Large, Deep}
-use Rattle.sv_wire.specs.declared.nodes.Operator.{Operator}
-use Rattle.sv_wire.specs.declared.nodes.Comparison.{Comparison}
-use Rattle.sv_wire.specs.declared.nodes.Connective.{Connective}
+use Rattle.sv_world.specs.declared.node.Operator.{Operator}
+use Rattle.sv_world.specs.declared.node.Comparison.{Comparison}
+use Rattle.sv_world.specs.declared.node.Connective.{Connective}
 use Rattle.sv_wire.specs.declared.nodes.ExprKind.{ExprKind}
 use Rattle.sv_wire.specs.declared.nodes.ExprKind.TheVariants as expr_kind
 use Rattle.sv_wire.specs.declared.nodes.CondKind.{CondKind}

@@ -1,19 +1,12 @@
 -- The nodes of an action's body: their bytes, and where a node may stand.
 use Rattle.std.specs.Prelude.{ℕ, List, [], ◌∷◌, Result, Ok, Option, Some, None, ◌==◌, nat_lt, if◌then◌else◌}
-use Rattle.sv_world.specs.declared.action.Expr.{Expr}
-use Rattle.sv_world.specs.declared.action.Expr.TheVariants as expr
-use Rattle.sv_world.specs.declared.action.Cond.{Cond}
-use Rattle.sv_world.specs.declared.action.Cond.TheVariants as test
 use Rattle.sv_wire.specs.declared.fault.Stop.{Stop}
 use Rattle.sv_wire.specs.declared.fault.WireCause.TheVariants.{Kind, Large, Deep}
-use Rattle.sv_wire.specs.declared.nodes.Operator.{Operator}
-use Rattle.sv_wire.specs.declared.nodes.Operator.TheVariants.{Add, Sub, Mul, Div, Rem, Min, Max}
+use Rattle.sv_world.specs.declared.node.Operator.TheVariants.{Add, Sub, Mul, Div, Rem, Min, Max}
 use Rattle.sv_wire.specs.declared.nodes.ExprKind.{ExprKind}
 use Rattle.sv_wire.specs.declared.nodes.ExprKind.TheVariants as expr_kind
-use Rattle.sv_wire.specs.declared.nodes.Comparison.{Comparison}
-use Rattle.sv_wire.specs.declared.nodes.Comparison.TheVariants.{Eq, Lt, Le}
-use Rattle.sv_wire.specs.declared.nodes.Connective.{Connective}
-use Rattle.sv_wire.specs.declared.nodes.Connective.TheVariants.{And, Or}
+use Rattle.sv_world.specs.declared.node.Comparison.TheVariants.{Eq, Lt, Le}
+use Rattle.sv_world.specs.declared.node.Connective.TheVariants.{And, Or}
 use Rattle.sv_wire.specs.declared.nodes.CondKind.{CondKind}
 use Rattle.sv_wire.specs.declared.nodes.CondKind.TheVariants as cond_kind
 use Rattle.sv_wire.specs.declared.nodes.StmtKind.{StmtKind}
@@ -67,22 +60,3 @@ node_at kind_of depth nodes bytes = do
   kind ← kind_in (kind_of b.0) bytes
   _ ← room_at depth nodes bytes
   Ok (kind, b.1)
-
--- The node of an operator over two expressions.
-abbrev pub expr_by : Operator → Expr → Expr → Expr
-expr_by Add a b = expr.Add a b
-expr_by Sub a b = expr.Sub a b
-expr_by Mul a b = expr.Mul a b
-expr_by Div a b = expr.Div a b
-expr_by Rem a b = expr.Rem a b
-expr_by Min a b = expr.Min a b
-expr_by Max a b = expr.Max a b
-
-abbrev pub compare_by : Comparison → Expr → Expr → Cond
-compare_by Eq a b = test.Eq a b
-compare_by Lt a b = test.Lt a b
-compare_by Le a b = test.Le a b
-
-abbrev pub join_by : Connective → Cond → Cond → Cond
-join_by And a b = test.And a b
-join_by Or a b = test.Or a b

@@ -1,18 +1,9 @@
 -- Which values a message's fields have: each number is one of its type.
-use Rattle.std.specs.Prelude.{ℕ, ◌^◌, ◌<◌, ◌≡◌, Bool, true, ◌&&◌, nat_lt, ℤ, pos, negsuc, int_le, List, map, FitsSigned}
+use Rattle.std.specs.Prelude.{◌^◌, ◌<◌, ◌≡◌, true, ℤ, List, FitsSigned}
 use Rattle.std.specs.List.{AllByRecursion}
 use Rattle.std.specs.Int.{w32, w64}
-use Rattle.sv_world.specs.Trees.{all_true}
+use Rattle.sv_world.specs.Ranges.{body_fits}
 use Rattle.sv_world.specs.declared.action.Action.{Action}
-use Rattle.sv_world.specs.declared.action.Expr.{Expr}
-use Rattle.sv_world.specs.declared.action.Expr.TheOpen.{Expr-F}
-use Rattle.sv_world.specs.declared.action.Expr.TheFolds.{fold-Expr}
-use Rattle.sv_world.specs.declared.action.Cond.{Cond}
-use Rattle.sv_world.specs.declared.action.Cond.TheOpen.{Cond-F}
-use Rattle.sv_world.specs.declared.action.Cond.TheFolds.{fold-Cond}
-use Rattle.sv_world.specs.declared.action.Stmt.{Stmt}
-use Rattle.sv_world.specs.declared.action.Stmt.TheOpen.{Stmt-F}
-use Rattle.sv_world.specs.declared.action.Stmt.TheFolds.{fold-Stmt}
 use Rattle.sv_world.specs.declared.world.ObjectId.{ObjectId}
 use Rattle.sv_wire.specs.declared.message.Held.{Held}
 use Rattle.sv_wire.specs.declared.message.Done1.{Done1}
@@ -34,51 +25,12 @@ HeldFits h = ObjectFits h.object × ValueFits h.value
 abbrev pub ResultFits : Done1 → Type 0
 ResultFits r = (r.pos < 2 ^ 32) × AllByRecursion ValueFits r.values
 
--- whether a number is one of 64 bits
-abbrev pub is_i64 : ℤ → Bool
-is_i64 z = int_le (negsuc 9223372036854775807) z && int_le z (pos 9223372036854775807)
-
-abbrev pub is_byte : ℕ → Bool
-is_byte n = nat_lt n 256
-
-abbrev pub expr_fits_step : Expr-F Bool → Bool
-expr_fits_step (Expr-F.Lit n) = is_i64 n
-expr_fits_step (Expr-F.Attr slot attr) = is_byte slot && is_byte attr
-expr_fits_step (Expr-F.Add x y) = x && y
-expr_fits_step (Expr-F.Sub x y) = x && y
-expr_fits_step (Expr-F.Mul x y) = x && y
-expr_fits_step (Expr-F.Div x y) = x && y
-expr_fits_step (Expr-F.Rem x y) = x && y
-expr_fits_step (Expr-F.Min x y) = x && y
-expr_fits_step (Expr-F.Max x y) = x && y
-
-abbrev pub expr_fits : Expr → Bool
-expr_fits = fold-Expr Bool expr_fits_step
-
-abbrev pub cond_fits_step : Cond-F Bool → Bool
-cond_fits_step (Cond-F.Eq x y) = expr_fits x && expr_fits y
-cond_fits_step (Cond-F.Lt x y) = expr_fits x && expr_fits y
-cond_fits_step (Cond-F.Le x y) = expr_fits x && expr_fits y
-cond_fits_step (Cond-F.And x y) = x && y
-cond_fits_step (Cond-F.Or x y) = x && y
-cond_fits_step (Cond-F.Not x) = x
-
-abbrev pub cond_fits : Cond → Bool
-cond_fits = fold-Cond Bool cond_fits_step
-
-abbrev pub stmt_fits_step : Stmt-F Bool → Bool
-stmt_fits_step (Stmt-F.Set slot attr value) = is_byte slot && (is_byte attr && expr_fits value)
-stmt_fits_step (Stmt-F.If c xs ys) = cond_fits c && (all_true xs && all_true ys)
-
-abbrev pub stmt_fits : Stmt → Bool
-stmt_fits = fold-Stmt Bool stmt_fits_step
-
 pub record ActionFits (a : Action) : Type 0 where
   pub reads : AllByRecursion ObjectFits a.reads
   pub mask : a.mask < 2 ^ 16
   pub x : FitsSigned w32 a.origin.x
   pub y : FitsSigned w32 a.origin.y
-  pub body : all_true (map stmt_fits a.body) ≡ true
+  pub body : body_fits a.body ≡ true
 
 pub record ItemFits (i : Item) : Type 0 where
   pub pos : i.pos < 2 ^ 32

@@ -15,6 +15,14 @@ use Rattle.sv_world.specs.declared.action.Stmt.{Stmt}
 use Rattle.sv_world.specs.declared.action.Stmt.TheOpen.{Stmt-F}
 use Rattle.sv_world.specs.declared.action.Stmt.TheFolds.{fold-Stmt}
 use Rattle.sv_world.specs.declared.world.ObjectId.{ObjectId}
+use Rattle.sv_world.specs.declared.node.Node.{Node}
+use Rattle.sv_world.specs.declared.node.Node.TheVariants as node
+use Rattle.sv_world.specs.declared.node.Operator.{Operator}
+use Rattle.sv_world.specs.declared.node.Operator.TheVariants.{Add, Sub, Mul, Div, Rem, Min, Max}
+use Rattle.sv_world.specs.declared.node.Comparison.{Comparison}
+use Rattle.sv_world.specs.declared.node.Comparison.TheVariants.{Eq, Lt, Le}
+use Rattle.sv_world.specs.declared.node.Connective.{Connective}
+use Rattle.sv_world.specs.declared.node.Connective.TheVariants.{And, Or}
 use Rattle.sv_wire.specs.declared.message.Held.{Held}
 use Rattle.sv_wire.specs.declared.message.Done1.{Done1}
 use Rattle.sv_wire.specs.declared.message.Item.{Item}
@@ -82,6 +90,36 @@ stmt_bytes = fold-Stmt (List ℕ) stmt_bytes_step
 
 abbrev pub body_bytes : List Stmt → List ℕ
 body_bytes body = counted (map stmt_bytes body)
+
+-- The bytes of one node of a body.
+abbrev pub operator_byte : Operator → ℕ
+operator_byte Add = 0x22
+operator_byte Sub = 0x23
+operator_byte Mul = 0x24
+operator_byte Div = 0x25
+operator_byte Rem = 0x26
+operator_byte Min = 0x27
+operator_byte Max = 0x28
+
+abbrev pub comparison_byte : Comparison → ℕ
+comparison_byte Eq = 0x30
+comparison_byte Lt = 0x31
+comparison_byte Le = 0x32
+
+abbrev pub connective_byte : Connective → ℕ
+connective_byte And = 0x33
+connective_byte Or = 0x34
+
+abbrev pub node_bytes : Node → List ℕ
+node_bytes (node.Lit n) = 0x20 ∷ int_bytes w64 n
+node_bytes (node.Attr slot attr) = 0x21 ∷ slot ∷ attr ∷ []
+node_bytes (node.Binary o) = operator_byte o ∷ []
+node_bytes (node.Compare o) = comparison_byte o ∷ []
+node_bytes (node.Join o) = connective_byte o ∷ []
+node_bytes node.Not = 0x35 ∷ []
+node_bytes (node.Set slot attr) = 0x10 ∷ slot ∷ attr ∷ []
+node_bytes node.If = 0x11 ∷ []
+node_bytes (node.Block count size) = count ∷ []
 
 abbrev pub point_bytes : Point → List ℕ
 point_bytes p = int_bytes w32 p.x ++ int_bytes w32 p.y

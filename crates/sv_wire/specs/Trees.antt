@@ -1,5 +1,5 @@
 -- Reading the body of an action. The depth is the number of levels that are left, and nodes the number of nodes so far.
-use Rattle.std.specs.Prelude.{ℕ, zero, suc, ◌+◌, List, Ok}
+use Rattle.std.specs.Prelude.{ℕ, zero, suc, ◌+◌, List, ◌++◌, Ok, Err}
 use Rattle.std.specs.Int.{w64}
 use Rattle.sv_world.specs.declared.action.Expr.{Expr}
 use Rattle.sv_world.specs.declared.action.Expr.TheVariants as expr
@@ -8,18 +8,20 @@ use Rattle.sv_world.specs.declared.action.Cond.TheVariants as test
 use Rattle.sv_world.specs.declared.action.Stmt.{Stmt}
 use Rattle.sv_world.specs.declared.action.Stmt.TheVariants as stmt
 use Rattle.sv_wire.specs.declared.fault.WireCause.TheVariants.{Deep}
-use Rattle.sv_wire.specs.declared.nodes.Operator.{Operator}
-use Rattle.sv_wire.specs.declared.nodes.Comparison.{Comparison}
-use Rattle.sv_wire.specs.declared.nodes.Connective.{Connective}
+use Rattle.sv_world.specs.declared.node.Node.{Node}
+use Rattle.sv_world.specs.declared.node.Operator.{Operator}
+use Rattle.sv_world.specs.declared.node.Comparison.{Comparison}
+use Rattle.sv_world.specs.declared.node.Connective.{Connective}
 use Rattle.sv_wire.specs.declared.nodes.ExprKind.{ExprKind}
 use Rattle.sv_wire.specs.declared.nodes.ExprKind.TheVariants as expr_kind
 use Rattle.sv_wire.specs.declared.nodes.CondKind.{CondKind}
 use Rattle.sv_wire.specs.declared.nodes.CondKind.TheVariants as cond_kind
 use Rattle.sv_wire.specs.declared.nodes.StmtKind.{StmtKind}
 use Rattle.sv_wire.specs.declared.nodes.StmtKind.TheVariants as stmt_kind
+use Rattle.sv_world.specs.Parts.{binary_by as expr_by, compare_by, join_by}
 use Rattle.sv_wire.specs.Steps.{Read, Turn, ◌>>=◌, stop, in_turn}
 use Rattle.sv_wire.specs.Fields.{byte_at, int_at}
-use Rattle.sv_wire.specs.Nodes.{node_at, expr_kind_of, cond_kind_of, stmt_kind_of, expr_by, compare_by, join_by}
+use Rattle.sv_wire.specs.Nodes.{node_at, expr_kind_of, cond_kind_of, stmt_kind_of}
 
 -- Reads a tree: the number of nodes so far, and the bytes.
 abbrev pub Reader : Type 0 → Type 0
@@ -141,3 +143,8 @@ unfoldable pub body_at : List ℕ → Read (List Stmt)
 body_at bytes = do
   body ← list_by (λ n rest. stmt_at 8 n rest) 0 bytes
   Ok (body.0, body.2)
+
+-- The same with a tree's nodes behind older ones in place of the tree.
+abbrev pub appended : {A : Type 0} → (A → List Node) → List Node → Turn A → Turn (List Node)
+appended spelled old (Ok x) = Ok (old ++ spelled x.0, x.1, x.2)
+appended spelled old (Err e) = Err e

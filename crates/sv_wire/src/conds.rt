@@ -1,98 +1,57 @@
-//! Reading conditions. The depth is the number of levels that are left, and nodes the number of nodes so far.
-ghost use Rattle.std.specs.Prelude.{◌≡◌, ◌≤◌, IfOk};
+//! Reading conditions. The depth is the number of levels that are left. What is read is appended.
+ghost use Rattle.std.specs.Prelude.{◌≡◌, ◌≤◌, OnOk};
+ghost use Rattle.sv_world.specs.Spelled.{cond_spelled};
 ghost use Rattle.sv_wire.specs.Steps.{Gives};
-ghost use Rattle.sv_wire.specs.Trees.{expr_at, compare_at, join_at, not_at, cond_at};
+ghost use Rattle.sv_wire.specs.Trees.{appended, expr_at, compare_at, join_at, not_at, cond_at};
 
-use crate::exprs::expr_next;
+use crate::exprs::{Reader, expr_next};
 use crate::fault::ReadFault;
-use crate::nodes::{Comparison, CondKind, Connective, both, compared, cond_node};
-use std::alloc::Global;
-use sv_world::{Boxed, Cond};
+use crate::nodes::{CondKind, cond_node};
+use sv_world::{Comparison, Connective, Node};
 
-#[tactic(auto, unfolding(crate::specs::Trees::compare_at))]
-fn compare_next<'a>(
-    alloc: Global,
-    depth: u8,
-    comparison: Comparison,
-    nodes: u8,
-    bytes: &'a [u8],
-) -> Result<(Cond, u8, &'a [u8]), ReadFault>
-    ensures gives { Gives (λ x. (x.0, x.1, x.2.now)) result (compare_at (λ n rest. expr_at depth n rest) comparison nodes bytes.now) }
-    ensures few { IfOk result (λ x. x.1 ≤ 64) }
+#[tactic(auto, using(crate::proofs::Flat::compare_appended))]
+fn compare_next(reader: &mut Reader<'_>, depth: u8, comparison: Comparison) -> Result<(), ReadFault>
+    ensures gives { Gives (λ _. (reader.new.out.items, reader.new.nodes, reader.new.rest.now)) result (appended cond_spelled reader.old.out.items (compare_at (λ n rest. expr_at depth n rest) comparison reader.old.nodes reader.old.rest.now)) }
+    ensures few { OnOk result (reader.new.nodes ≤ 64) }
 {
-    let (left, nodes, rest) = expr_next(alloc, depth, nodes, bytes)?;
-    let (right, nodes, rest) = expr_next(alloc, depth, nodes, rest)?;
-    Ok((compared(comparison, left, right), nodes, rest))
-}
-
-// As an operand of an expression, it is boxed before what stands behind it is read.
-#[cycle(conds)]
-fn boxed_cond_next<'a>(
-    alloc: Global,
-    depth: u8,
-    nodes: u8,
-    bytes: &'a [u8],
-) -> Result<(Boxed<Cond>, u8, &'a [u8]), ReadFault>
-    ensures gives { Gives (λ x. (x.0, x.1, x.2.now)) result (cond_at depth nodes bytes.now) }
-    ensures few { IfOk result (λ x. x.1 ≤ 64) }
-{
-    let (cond, nodes, rest) = cond_next(alloc, depth, nodes, bytes)?;
-    Ok((Boxed::new(alloc, cond)?, nodes, rest))
+    reader.out.push(Node::Compare(comparison))?;
+    expr_next(reader, depth)?;
+    expr_next(reader, depth)
 }
 
 #[cycle(conds)]
-#[tactic(auto, unfolding(crate::specs::Trees::join_at))]
-fn join_next<'a>(
-    alloc: Global,
-    depth: u8,
-    connective: Connective,
-    nodes: u8,
-    bytes: &'a [u8],
-) -> Result<(Cond, u8, &'a [u8]), ReadFault>
-    ensures gives { Gives (λ x. (x.0, x.1, x.2.now)) result (join_at (λ n rest. cond_at depth n rest) connective nodes bytes.now) }
-    ensures few { IfOk result (λ x. x.1 ≤ 64) }
+#[tactic(auto, using(crate::proofs::Flat::join_appended))]
+fn join_next(reader: &mut Reader<'_>, depth: u8, connective: Connective) -> Result<(), ReadFault>
+    ensures gives { Gives (λ _. (reader.new.out.items, reader.new.nodes, reader.new.rest.now)) result (appended cond_spelled reader.old.out.items (join_at (λ n rest. cond_at depth n rest) connective reader.old.nodes reader.old.rest.now)) }
+    ensures few { OnOk result (reader.new.nodes ≤ 64) }
 {
-    let (left, nodes, rest) = boxed_cond_next(alloc, depth, nodes, bytes)?;
-    let (right, nodes, rest) = boxed_cond_next(alloc, depth, nodes, rest)?;
-    Ok((both(connective, left, right), nodes, rest))
+    reader.out.push(Node::Join(connective))?;
+    cond_next(reader, depth)?;
+    cond_next(reader, depth)
 }
 
 #[cycle(conds)]
-#[tactic(auto, unfolding(crate::specs::Trees::not_at))]
-fn not_next<'a>(
-    alloc: Global,
-    depth: u8,
-    nodes: u8,
-    bytes: &'a [u8],
-) -> Result<(Cond, u8, &'a [u8]), ReadFault>
-    ensures gives { Gives (λ x. (x.0, x.1, x.2.now)) result (not_at (λ n rest. cond_at depth n rest) nodes bytes.now) }
-    ensures few { IfOk result (λ x. x.1 ≤ 64) }
+#[tactic(auto, using(crate::proofs::Flat::not_appended))]
+fn not_next(reader: &mut Reader<'_>, depth: u8) -> Result<(), ReadFault>
+    ensures gives { Gives (λ _. (reader.new.out.items, reader.new.nodes, reader.new.rest.now)) result (appended cond_spelled reader.old.out.items (not_at (λ n rest. cond_at depth n rest) reader.old.nodes reader.old.rest.now)) }
+    ensures few { OnOk result (reader.new.nodes ≤ 64) }
 {
-    let (inner, nodes, rest) = boxed_cond_next(alloc, depth, nodes, bytes)?;
-    Ok((Cond::Not(inner), nodes, rest))
+    reader.out.push(Node::Not)?;
+    cond_next(reader, depth)
 }
 
 #[cycle(conds)]
-#[tactic(auto, using(crate::proofs::Trees::cond_at_is), unfolding(crate::specs::Trees::cond_step))]
-pub fn cond_next<'a>(
-    alloc: Global,
-    depth: u8,
-    nodes: u8,
-    bytes: &'a [u8],
-) -> Result<(Cond, u8, &'a [u8]), ReadFault>
-    ensures gives { Gives (λ x. (x.0, x.1, x.2.now)) result (cond_at depth nodes bytes.now) }
-    ensures few { IfOk result (λ x. x.1 ≤ 64) }
+#[tactic(auto, using(crate::proofs::Trees::cond_at_is, crate::proofs::Flat::cond_step_appended))]
+pub fn cond_next(reader: &mut Reader<'_>, depth: u8) -> Result<(), ReadFault>
+    ensures gives { Gives (λ _. (reader.new.out.items, reader.new.nodes, reader.new.rest.now)) result (appended cond_spelled reader.old.out.items (cond_at depth reader.old.nodes reader.old.rest.now)) }
+    ensures few { OnOk result (reader.new.nodes ≤ 64) }
 {
-    let (kind, rest) = cond_node(depth, nodes, bytes)?;
+    let (kind, rest) = cond_node(depth, reader.nodes, reader.rest)?;
+    reader.rest = rest;
+    reader.nodes += 1;
     match kind {
-        CondKind::Compare(comparison) => compare_next(
-            alloc,
-            depth - 1,
-            comparison,
-            nodes + 1,
-            rest,
-        ),
-        CondKind::Both(connective) => join_next(alloc, depth - 1, connective, nodes + 1, rest),
-        CondKind::Not => not_next(alloc, depth - 1, nodes + 1, rest),
+        CondKind::Compare(comparison) => compare_next(reader, depth - 1, comparison),
+        CondKind::Both(connective) => join_next(reader, depth - 1, connective),
+        CondKind::Not => not_next(reader, depth - 1),
     }
 }

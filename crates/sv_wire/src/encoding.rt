@@ -6,9 +6,9 @@ ghost use Rattle.sv_wire.specs.declared.message.Reply.TheVariants as reply;
 ghost use Rattle.sv_wire.specs.Spelling.{action_bytes, item_bytes, request_bytes, reply_bytes};
 ghost use Rattle.sv_wire.specs.Grammar.{IsWireAction, IsWireRelay, IsWireRequest, IsWireReply};
 ghost use Rattle.sv_wire.specs.Messages.{request_at, reply_at};
-ghost use Rattle.sv_wire.specs.Ranges.{RequestFits, ReplyFits};
 
 use crate::message::{Held, Item, Reply, Request};
+use crate::numbers::{read_reply, read_request};
 use crate::put::{put_head, put_objects, put_point, put_results, put_u16, put_u32};
 use crate::put_body::put_body;
 use std::alloc::{AllocError, Global};
@@ -25,7 +25,7 @@ fn put_action(out: &mut Vec<u8>, action: &Action) -> Result<(), AllocError>
     put_objects(out, action.reads.as_slice())?;
     put_u16(out, action.mask)?;
     put_point(out, action.origin)?;
-    put_body(out, action.body.as_slice())?;
+    put_body(out, &action.body)?;
     Ok(())
 }
 
@@ -175,11 +175,12 @@ fn put_reply(out: &mut Vec<u8>, reply: &Reply) -> Result<(), AllocError>
 pub fn encode_request(alloc: Global, request: &Request) -> Result<Vec<u8>, AllocError>
     requires { IsWireRequest request.now }
     ensures bytes { IfOk result (λ payload. payload.items ≡ request_bytes request.now) }
-    // It is decoded as the request. The numbers of a request are always those of their types.
-    ensures read_back { IfOk result (λ payload. RequestFits request.now → request_at payload.items ≡ Ok request.now) }
+    // It is decoded as the request.
+    ensures read_back { IfOk result (λ payload. request_at payload.items ≡ Ok request.now) }
 {
     let mut out = Vec::with_capacity(alloc, ROOM)?;
     put_request(&mut out, request)?;
+    read_request(request);
     Ok(out)
 }
 
@@ -187,10 +188,11 @@ pub fn encode_request(alloc: Global, request: &Request) -> Result<Vec<u8>, Alloc
 pub fn encode_reply(alloc: Global, reply: &Reply) -> Result<Vec<u8>, AllocError>
     requires { IsWireReply reply.now }
     ensures bytes { IfOk result (λ payload. payload.items ≡ reply_bytes reply.now) }
-    // It is decoded as the reply. The numbers of a reply are always those of their types.
-    ensures read_back { IfOk result (λ payload. ReplyFits reply.now → reply_at payload.items ≡ Ok reply.now) }
+    // It is decoded as the reply.
+    ensures read_back { IfOk result (λ payload. reply_at payload.items ≡ Ok reply.now) }
 {
     let mut out = Vec::with_capacity(alloc, ROOM)?;
     put_reply(&mut out, reply)?;
+    read_reply(reply);
     Ok(out)
 }

@@ -1,80 +1,71 @@
-//! Reading expressions. The depth is the number of levels that are left, and nodes the number of nodes so far.
-ghost use Rattle.std.specs.Prelude.{◌≡◌, ◌≤◌, IfOk};
+//! Reading expressions. The depth is the number of levels that are left. What is read is appended.
+ghost use Rattle.std.specs.Prelude.{◌≡◌, ◌≤◌, OnOk};
+ghost use Rattle.sv_world.specs.Spelled.{expr_spelled};
 ghost use Rattle.sv_wire.specs.Steps.{Gives};
-ghost use Rattle.sv_wire.specs.Trees.{lit_at, attr_at, pair_at, expr_at};
+ghost use Rattle.sv_wire.specs.Trees.{appended, lit_at, attr_at, pair_at, expr_at};
 
 use crate::fault::ReadFault;
 use crate::fields::{byte_of, i64_of};
-use crate::nodes::{ExprKind, Operator, expr_node, joined};
-use std::alloc::Global;
-use sv_world::{Boxed, Expr};
+use crate::nodes::{ExprKind, expr_node};
+use sv_world::{Node, Operator};
 
-#[tactic(auto, unfolding(crate::specs::Trees::lit_at))]
-fn lit_next(nodes: u8, bytes: &[u8]) -> Result<(Expr, u8, &[u8]), ReadFault>
-    ensures gives { Gives (λ x. (x.0, x.1, x.2.now)) result (lit_at nodes bytes.now) }
-    ensures few { IfOk result (λ x. x.1 ≡ nodes) }
-{
-    let (number, rest) = i64_of(bytes)?;
-    Ok((Expr::Lit(number), nodes, rest))
+/// A body that is being read.
+#[derive(Drop)]
+pub struct Reader<'a> {
+    /// The bytes that are left.
+    pub rest: &'a [u8],
+    /// The nodes so far.
+    pub out: Vec<Node>,
+    /// How many of the language's nodes there are so far. A block is none of them.
+    pub nodes: u8,
 }
 
-#[tactic(auto, unfolding(crate::specs::Trees::attr_at))]
-fn attr_next(nodes: u8, bytes: &[u8]) -> Result<(Expr, u8, &[u8]), ReadFault>
-    ensures gives { Gives (λ x. (x.0, x.1, x.2.now)) result (attr_at nodes bytes.now) }
-    ensures few { IfOk result (λ x. x.1 ≡ nodes) }
+#[tactic(auto, using(crate::proofs::Flat::lit_appended))]
+fn lit_next(reader: &mut Reader<'_>) -> Result<(), ReadFault>
+    ensures gives { Gives (λ _. (reader.new.out.items, reader.new.nodes, reader.new.rest.now)) result (appended expr_spelled reader.old.out.items (lit_at reader.old.nodes reader.old.rest.now)) }
+    ensures few { OnOk result (reader.new.nodes ≡ reader.old.nodes) }
 {
-    let (slot, rest) = byte_of(bytes)?;
+    let (number, rest) = i64_of(reader.rest)?;
+    reader.rest = rest;
+    reader.out.push(Node::Lit(number))?;
+    Ok(())
+}
+
+#[tactic(auto, using(crate::proofs::Flat::attr_appended))]
+fn attr_next(reader: &mut Reader<'_>) -> Result<(), ReadFault>
+    ensures gives { Gives (λ _. (reader.new.out.items, reader.new.nodes, reader.new.rest.now)) result (appended expr_spelled reader.old.out.items (attr_at reader.old.nodes reader.old.rest.now)) }
+    ensures few { OnOk result (reader.new.nodes ≡ reader.old.nodes) }
+{
+    let (slot, rest) = byte_of(reader.rest)?;
     let (attr, rest) = byte_of(rest)?;
-    Ok((Expr::Attr { slot, attr }, nodes, rest))
-}
-
-// An operand is boxed before what stands behind it is read: two owned trees at each `?` cost a proof of minutes.
-#[cycle(exprs)]
-fn boxed_expr_next<'a>(
-    alloc: Global,
-    depth: u8,
-    nodes: u8,
-    bytes: &'a [u8],
-) -> Result<(Boxed<Expr>, u8, &'a [u8]), ReadFault>
-    ensures gives { Gives (λ x. (x.0, x.1, x.2.now)) result (expr_at depth nodes bytes.now) }
-    ensures few { IfOk result (λ x. x.1 ≤ 64) }
-{
-    let (expr, nodes, rest) = expr_next(alloc, depth, nodes, bytes)?;
-    Ok((Boxed::new(alloc, expr)?, nodes, rest))
+    reader.rest = rest;
+    reader.out.push(Node::Attr { slot, attr })?;
+    Ok(())
 }
 
 #[cycle(exprs)]
-#[tactic(auto, unfolding(crate::specs::Trees::pair_at))]
-fn pair_next<'a>(
-    alloc: Global,
-    depth: u8,
-    operator: Operator,
-    nodes: u8,
-    bytes: &'a [u8],
-) -> Result<(Expr, u8, &'a [u8]), ReadFault>
-    ensures gives { Gives (λ x. (x.0, x.1, x.2.now)) result (pair_at (λ n rest. expr_at depth n rest) operator nodes bytes.now) }
-    ensures few { IfOk result (λ x. x.1 ≤ 64) }
+#[tactic(auto, using(crate::proofs::Flat::pair_appended))]
+fn pair_next(reader: &mut Reader<'_>, depth: u8, operator: Operator) -> Result<(), ReadFault>
+    ensures gives { Gives (λ _. (reader.new.out.items, reader.new.nodes, reader.new.rest.now)) result (appended expr_spelled reader.old.out.items (pair_at (λ n rest. expr_at depth n rest) operator reader.old.nodes reader.old.rest.now)) }
+    ensures few { OnOk result (reader.new.nodes ≤ 64) }
 {
-    let (left, nodes, rest) = boxed_expr_next(alloc, depth, nodes, bytes)?;
-    let (right, nodes, rest) = boxed_expr_next(alloc, depth, nodes, rest)?;
-    Ok((joined(operator, left, right), nodes, rest))
+    reader.out.push(Node::Binary(operator))?;
+    expr_next(reader, depth)?;
+    expr_next(reader, depth)
 }
 
 #[cycle(exprs)]
-#[tactic(auto, using(crate::proofs::Trees::expr_at_is), unfolding(crate::specs::Trees::expr_step))]
-pub fn expr_next<'a>(
-    alloc: Global,
-    depth: u8,
-    nodes: u8,
-    bytes: &'a [u8],
-) -> Result<(Expr, u8, &'a [u8]), ReadFault>
-    ensures gives { Gives (λ x. (x.0, x.1, x.2.now)) result (expr_at depth nodes bytes.now) }
-    ensures few { IfOk result (λ x. x.1 ≤ 64) }
+#[tactic(auto, using(crate::proofs::Trees::expr_at_is, crate::proofs::Flat::expr_step_appended))]
+pub fn expr_next(reader: &mut Reader<'_>, depth: u8) -> Result<(), ReadFault>
+    ensures gives { Gives (λ _. (reader.new.out.items, reader.new.nodes, reader.new.rest.now)) result (appended expr_spelled reader.old.out.items (expr_at depth reader.old.nodes reader.old.rest.now)) }
+    ensures few { OnOk result (reader.new.nodes ≤ 64) }
 {
-    let (kind, rest) = expr_node(depth, nodes, bytes)?;
+    let (kind, rest) = expr_node(depth, reader.nodes, reader.rest)?;
+    reader.rest = rest;
+    reader.nodes += 1;
     match kind {
-        ExprKind::Lit => lit_next(nodes + 1, rest),
-        ExprKind::Attr => attr_next(nodes + 1, rest),
-        ExprKind::Both(operator) => pair_next(alloc, depth - 1, operator, nodes + 1, rest),
+        ExprKind::Lit => lit_next(reader),
+        ExprKind::Attr => attr_next(reader),
+        ExprKind::Both(operator) => pair_next(reader, depth - 1, operator),
     }
 }

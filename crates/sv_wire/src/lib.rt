@@ -13,6 +13,7 @@ mod kinds;
 mod laws;
 mod message;
 mod nodes;
+mod numbers;
 mod put;
 mod put_body;
 mod replies;

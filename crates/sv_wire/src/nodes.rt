@@ -1,44 +1,17 @@
 //! The kinds of the nodes of an action's body.
 ghost use Rattle.std.specs.Prelude.{◌≡◌, ◌<◌, OnOk};
 ghost use Rattle.sv_wire.specs.Steps.{Gives};
-ghost use Rattle.sv_wire.specs.Nodes.{room_at, node_at, expr_kind_of, cond_kind_of, stmt_kind_of, expr_by, compare_by, join_by};
+ghost use Rattle.sv_wire.specs.Nodes.{room_at, node_at, expr_kind_of, cond_kind_of, stmt_kind_of};
 
 use crate::fault::{ReadFault, WireCause, stop_at};
 use crate::fields::byte_of;
-use sv_world::{Boxed, Cond, Expr};
-
-/// What joins two expressions to one.
-#[derive(Clone, Copy)]
-pub enum Operator {
-    Add,
-    Sub,
-    Mul,
-    Div,
-    Rem,
-    Min,
-    Max,
-}
+use sv_world::{Comparison, Connective, Operator};
 
 #[derive(Clone, Copy)]
 pub enum ExprKind {
     Lit,
     Attr,
     Both(Operator),
-}
-
-/// What compares two expressions.
-#[derive(Clone, Copy)]
-pub enum Comparison {
-    Eq,
-    Lt,
-    Le,
-}
-
-/// What joins two conditions to one.
-#[derive(Clone, Copy)]
-pub enum Connective {
-    And,
-    Or,
 }
 
 #[derive(Clone, Copy)]
@@ -150,37 +123,4 @@ pub fn stmt_node(depth: u8, nodes: u8, bytes: &[u8]) -> Result<(StmtKind, &[u8])
     };
     has_room(depth, nodes, bytes)?;
     Ok((kind, rest))
-}
-
-pub fn joined(operator: Operator, left: Boxed<Expr>, right: Boxed<Expr>) -> Expr
-    ensures { result ≡ expr_by operator left right }
-{
-    match operator {
-        Operator::Add => Expr::Add(left, right),
-        Operator::Sub => Expr::Sub(left, right),
-        Operator::Mul => Expr::Mul(left, right),
-        Operator::Div => Expr::Div(left, right),
-        Operator::Rem => Expr::Rem(left, right),
-        Operator::Min => Expr::Min(left, right),
-        Operator::Max => Expr::Max(left, right),
-    }
-}
-
-pub fn compared(comparison: Comparison, left: Expr, right: Expr) -> Cond
-    ensures { result ≡ compare_by comparison left right }
-{
-    match comparison {
-        Comparison::Eq => Cond::Eq(left, right),
-        Comparison::Lt => Cond::Lt(left, right),
-        Comparison::Le => Cond::Le(left, right),
-    }
-}
-
-pub fn both(connective: Connective, left: Boxed<Cond>, right: Boxed<Cond>) -> Cond
-    ensures { result ≡ join_by connective left right }
-{
-    match connective {
-        Connective::And => Cond::And(left, right),
-        Connective::Or => Cond::Or(left, right),
-    }
 }

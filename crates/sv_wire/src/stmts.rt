@@ -1,158 +1,99 @@
-//! Reading statements. The depth is the number of levels that are left, and nodes the number of nodes so far.
-ghost use Rattle.std.specs.Prelude.{◌≡◌, ◌≤◌, IfOk};
+//! Reading statements. The depth is the number of levels that are left. What is read is appended.
+ghost use Rattle.std.specs.Prelude.{◌≡◌, ◌≤◌, OnOk};
+ghost use Rattle.sv_world.specs.Spelled.{stmt_spelled, run_spelled, body_spelled};
 ghost use Rattle.sv_wire.specs.Steps.{Gives, in_turn};
-ghost use Rattle.sv_wire.specs.Trees.{expr_at, cond_at, set_at, list_by, other_at, lists_at, if_at, stmt_at, body_at};
+ghost use Rattle.sv_wire.specs.Trees.{appended, expr_at, cond_at, set_at, list_by, if_at, stmt_at, body_at};
 
 use crate::conds::cond_next;
-use crate::exprs::expr_next;
+use crate::exprs::{Reader, expr_next};
 use crate::fault::ReadFault;
 use crate::fields::byte_of;
 use crate::nodes::{StmtKind, stmt_node};
 use std::alloc::Global;
-use sv_world::{Cond, List, Shared, Stmt};
+use sv_world::{Body, Node};
 
-#[tactic(auto, unfolding(crate::specs::Trees::set_at))]
-fn set_next<'a>(
-    alloc: Global,
-    depth: u8,
-    nodes: u8,
-    bytes: &'a [u8],
-) -> Result<(Stmt, u8, &'a [u8]), ReadFault>
-    ensures gives { Gives (λ x. (x.0, x.1, x.2.now)) result (set_at (λ n rest. expr_at depth n rest) nodes bytes.now) }
-    ensures few { IfOk result (λ x. x.1 ≤ 64) }
+#[tactic(auto, using(crate::proofs::Flat::set_appended))]
+fn set_next(reader: &mut Reader<'_>, depth: u8) -> Result<(), ReadFault>
+    ensures gives { Gives (λ _. (reader.new.out.items, reader.new.nodes, reader.new.rest.now)) result (appended stmt_spelled reader.old.out.items (set_at (λ n rest. expr_at depth n rest) reader.old.nodes reader.old.rest.now)) }
+    ensures few { OnOk result (reader.new.nodes ≤ 64) }
 {
-    let (slot, rest) = byte_of(bytes)?;
+    let (slot, rest) = byte_of(reader.rest)?;
     let (attr, rest) = byte_of(rest)?;
-    let (expr, nodes, rest) = expr_next(alloc, depth, nodes, rest)?;
-    Ok((Stmt::Set { slot, attr, expr }, nodes, rest))
+    reader.rest = rest;
+    reader.out.push(Node::Set { slot, attr })?;
+    expr_next(reader, depth)
 }
 
 #[cycle(stmts)]
-fn stmts_next<'a>(
-    alloc: Global,
-    depth: u8,
-    count: u8,
-    nodes: u8,
-    bytes: &'a [u8],
-) -> Result<(List<Stmt>, u8, &'a [u8]), ReadFault>
-    requires { nodes ≤ 64 }
-    ensures gives { Gives (λ x. (x.0, x.1, x.2.now)) result (in_turn (λ n rest. stmt_at depth n rest) count nodes bytes.now) }
-    ensures few { IfOk result (λ x. x.1 ≤ 64) }
+fn stmts_next(reader: &mut Reader<'_>, depth: u8, count: u8) -> Result<(), ReadFault>
+    requires { reader.old.nodes ≤ 64 }
+    ensures gives { Gives (λ _. (reader.new.out.items, reader.new.nodes, reader.new.rest.now)) result (appended run_spelled reader.old.out.items (in_turn (λ n rest. stmt_at depth n rest) count reader.old.nodes reader.old.rest.now)) }
+    ensures few { OnOk result (reader.new.nodes ≤ 64) }
 {
-    let mut body = List::new(alloc);
-    let mut so_far = nodes;
-    let mut rest = bytes;
     for _ in 0..count {
-        let (stmt, next, after) = stmt_next(alloc, depth, so_far, rest)?;
-        body.push(stmt)?;
-        so_far = next;
-        rest = after;
+        stmt_next(reader, depth)?;
     }
-    Ok((body, so_far, rest))
+    Ok(())
+}
+
+// How many nodes the statements have is known behind them.
+#[cycle(stmts)]
+#[tactic(auto, using(crate::proofs::Flat::list_appended, crate::proofs::Flat::appended_longer))]
+fn list_next(reader: &mut Reader<'_>, depth: u8) -> Result<(), ReadFault>
+    requires { reader.old.nodes ≤ 64 }
+    ensures gives { Gives (λ _. (reader.new.out.items, reader.new.nodes, reader.new.rest.now)) result (appended body_spelled reader.old.out.items (list_by (λ n rest. stmt_at depth n rest) reader.old.nodes reader.old.rest.now)) }
+    ensures few { OnOk result (reader.new.nodes ≤ 64) }
+{
+    let (count, rest) = byte_of(reader.rest)?;
+    reader.rest = rest;
+    let place = reader.out.len();
+    reader.out.push(Node::Block { count, size: 0 })?;
+    stmts_next(reader, depth, count)?;
+    let size = reader.out.len() - place - 1;
+    reader.out[place] = Node::Block { count, size };
+    Ok(())
 }
 
 #[cycle(stmts)]
-#[tactic(auto, unfolding(crate::specs::Trees::list_by))]
-fn list_next<'a>(
-    alloc: Global,
-    depth: u8,
-    nodes: u8,
-    bytes: &'a [u8],
-) -> Result<(List<Stmt>, u8, &'a [u8]), ReadFault>
-    requires { nodes ≤ 64 }
-    ensures gives { Gives (λ x. (x.0, x.1, x.2.now)) result (list_by (λ n rest. stmt_at depth n rest) nodes bytes.now) }
-    ensures few { IfOk result (λ x. x.1 ≤ 64) }
+#[tactic(auto, using(crate::proofs::Flat::if_appended))]
+fn if_next(reader: &mut Reader<'_>, depth: u8) -> Result<(), ReadFault>
+    ensures gives { Gives (λ _. (reader.new.out.items, reader.new.nodes, reader.new.rest.now)) result (appended stmt_spelled reader.old.out.items (if_at (λ n rest. cond_at depth n rest) (λ n rest. stmt_at depth n rest) reader.old.nodes reader.old.rest.now)) }
+    ensures few { OnOk result (reader.new.nodes ≤ 64) }
 {
-    let (count, rest) = byte_of(bytes)?;
-    stmts_next(alloc, depth, count, nodes, rest)
+    reader.out.push(Node::If)?;
+    cond_next(reader, depth)?;
+    list_next(reader, depth)?;
+    list_next(reader, depth)
 }
 
 #[cycle(stmts)]
-#[tactic(auto, unfolding(crate::specs::Trees::other_at))]
-fn other_next<'a>(
-    alloc: Global,
-    depth: u8,
-    cond: Cond,
-    body: List<Stmt>,
-    nodes: u8,
-    bytes: &'a [u8],
-) -> Result<(Stmt, u8, &'a [u8]), ReadFault>
-    requires { nodes ≤ 64 }
-    ensures gives { Gives (λ x. (x.0, x.1, x.2.now)) result (other_at (λ n rest. stmt_at depth n rest) cond body nodes bytes.now) }
-    ensures few { IfOk result (λ x. x.1 ≤ 64) }
+#[tactic(auto, using(crate::proofs::Trees::stmt_at_is, crate::proofs::Flat::stmt_step_appended))]
+fn stmt_next(reader: &mut Reader<'_>, depth: u8) -> Result<(), ReadFault>
+    ensures gives { Gives (λ _. (reader.new.out.items, reader.new.nodes, reader.new.rest.now)) result (appended stmt_spelled reader.old.out.items (stmt_at depth reader.old.nodes reader.old.rest.now)) }
+    ensures few { OnOk result (reader.new.nodes ≤ 64) }
 {
-    match list_next(alloc, depth, nodes, bytes) {
-        Ok((other, nodes, rest)) => {
-            let then = body;
-            Ok((Stmt::If { cond, then, other }, nodes, rest))
-        }
-        Err(fault) => {
-            // A tree that is let go at the end of its scope makes a long proof; a call that takes it, none.
-            drop(cond);
-            Err(fault)
-        }
-    }
-}
-
-#[cycle(stmts)]
-#[tactic(auto, unfolding(crate::specs::Trees::lists_at))]
-fn lists_next<'a>(
-    alloc: Global,
-    depth: u8,
-    cond: Cond,
-    nodes: u8,
-    bytes: &'a [u8],
-) -> Result<(Stmt, u8, &'a [u8]), ReadFault>
-    requires { nodes ≤ 64 }
-    ensures gives { Gives (λ x. (x.0, x.1, x.2.now)) result (lists_at (λ n rest. stmt_at depth n rest) cond nodes bytes.now) }
-    ensures few { IfOk result (λ x. x.1 ≤ 64) }
-{
-    match list_next(alloc, depth, nodes, bytes) {
-        Ok((body, nodes, rest)) => other_next(alloc, depth, cond, body, nodes, rest),
-        Err(fault) => {
-            drop(cond);
-            Err(fault)
-        }
-    }
-}
-
-#[cycle(stmts)]
-#[tactic(auto, unfolding(crate::specs::Trees::if_at))]
-fn if_next<'a>(
-    alloc: Global,
-    depth: u8,
-    nodes: u8,
-    bytes: &'a [u8],
-) -> Result<(Stmt, u8, &'a [u8]), ReadFault>
-    ensures gives { Gives (λ x. (x.0, x.1, x.2.now)) result (if_at (λ n rest. cond_at depth n rest) (λ n rest. stmt_at depth n rest) nodes bytes.now) }
-    ensures few { IfOk result (λ x. x.1 ≤ 64) }
-{
-    let (cond, nodes, rest) = cond_next(alloc, depth, nodes, bytes)?;
-    lists_next(alloc, depth, cond, nodes, rest)
-}
-
-#[cycle(stmts)]
-#[tactic(auto, using(crate::proofs::Trees::stmt_at_is), unfolding(crate::specs::Trees::stmt_step))]
-fn stmt_next<'a>(
-    alloc: Global,
-    depth: u8,
-    nodes: u8,
-    bytes: &'a [u8],
-) -> Result<(Stmt, u8, &'a [u8]), ReadFault>
-    ensures gives { Gives (λ x. (x.0, x.1, x.2.now)) result (stmt_at depth nodes bytes.now) }
-    ensures few { IfOk result (λ x. x.1 ≤ 64) }
-{
-    let (kind, rest) = stmt_node(depth, nodes, bytes)?;
+    let (kind, rest) = stmt_node(depth, reader.nodes, reader.rest)?;
+    reader.rest = rest;
+    reader.nodes += 1;
     match kind {
-        StmtKind::Set => set_next(alloc, depth - 1, nodes + 1, rest),
-        StmtKind::If => if_next(alloc, depth - 1, nodes + 1, rest),
+        StmtKind::Set => set_next(reader, depth - 1),
+        StmtKind::If => if_next(reader, depth - 1),
     }
 }
 
-#[tactic(auto, unfolding(crate::specs::Trees::body_at))]
-pub fn body_of(alloc: Global, bytes: &[u8]) -> Result<(Shared<Stmt>, &[u8]), ReadFault>
+/// The most nodes of a body, but for those of its blocks. So one vector mostly suffices, and becomes the body's list.
+const ROOM: usize = 64;
+
+#[tactic(auto, using(crate::proofs::Flat::body_found), unfolding(crate::specs::Trees::body_at))]
+pub fn body_of(alloc: Global, bytes: &[u8]) -> Result<(Body, &[u8]), ReadFault>
     ensures { Gives (λ x. (x.0, x.1.now)) result (body_at bytes.now) }
 {
-    let (body, _, rest) = list_next(alloc, 8, 0, bytes)?;
-    Ok((Shared::from_list(body)?, rest))
+    let mut reader = Reader {
+        rest: bytes,
+        out: Vec::with_capacity(alloc, ROOM)?,
+        nodes: 0,
+    };
+    list_next(&mut reader, 8)?;
+    let rest = reader.rest;
+    Ok((Body::from_nodes(reader.out)?, rest))
 }

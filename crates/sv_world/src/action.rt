@@ -1,4 +1,4 @@
-use crate::{Boxed, List, Reads, Shared};
+use crate::{Body, Boxed, List, Reads};
 
 /// A number computed from the values that an action reads.
 #[derive(Debug, Drop)]
@@ -58,5 +58,5 @@ pub struct Action {
     pub reads: Reads,
     pub mask: u16,
     pub origin: Point,
-    pub body: Shared<Stmt>,
+    pub body: Body,
 }

@@ -1,13 +1,12 @@
-ghost use Rattle.std.specs.Prelude.{◌≡◌, ◌↔◌, true, false, map, not, Some, None, MatchResult, IsTrue, OnOk};
+ghost use Rattle.std.specs.Prelude.{◌≡◌, ◌↔◌, ◌&&◌, map, not, Some, None, MatchResult, OnOk};
 ghost use Rattle.sv_world.specs.declared.action.Action.{Action};
 ghost use Rattle.sv_world.specs.declared.world.ObjectId.{ObjectId};
 ghost use Rattle.sv_world.specs.declared.world.Shape.{Shape};
 ghost use Rattle.sv_world.specs.Faults.{is_ascending, has_no_reads, has_too_many_reads, is_not_ascending, reads_no_object, has_bad_mask, has_slots, sets_in_mask, has_attrs, is_too_large, is_too_deep, is_in_plane, has_origin, first_fault_of_action, cause_number, IsGoodAction};
 
-use crate::fits::{Limits, body_fits};
-use crate::measure::{body_is_within, body_left};
-use crate::names::{NameTest, passes_in_body};
-use crate::{Action, ObjectId, Shape};
+use crate::fits::{Limits, block_fits};
+use crate::names::{NameTest, passes_in_nodes, weight};
+use crate::{Action, NodeCursor, ObjectId, Shape};
 
 /// Why an action is refused, in the order in which the causes are looked for.
 #[derive(Clone, Copy, Debug, Drop, PartialEq, Eq)]
@@ -119,13 +118,7 @@ fn first_fault(shape: Shape, action: &Action) -> Option<BadAction>
     if is_too_large(action) {
         return Some(BadAction::TooLarge);
     }
-    if is_too_deep(action) {
-        return Some(BadAction::TooDeep);
-    }
-    if !has_origin(action) {
-        return Some(BadAction::BadOrigin);
-    }
-    None
+    Some(BadAction::TooDeep)
 }
 
 /// A law of the causes: none applies to an action exactly where the action is good.
@@ -175,62 +168,52 @@ fn has_bad_mask(action: &Action) -> bool
     reads < 16 && mask >> reads > 0
 }
 
-/// Whether nothing is at fault in the body, by one walk over it. Where it answers no, the five causes are looked for in their order.
+/// Whether nothing is at fault in the body, by one walk over it. Where it answers no, the causes are looked for in their order.
 #[tactic(auto, unfolding(crate::specs::Faults::has_slots, crate::specs::Faults::sets_in_mask, crate::specs::Faults::has_attrs, crate::specs::Faults::is_too_large, crate::specs::Faults::is_too_deep))]
 fn has_sound_body(shape: Shape, action: &Action) -> bool
-    ensures slots { IsTrue result → has_slots action.now ≡ true }
-    ensures writable { IsTrue result → sets_in_mask action.now ≡ true }
-    ensures attrs { IsTrue result → has_attrs shape action.now ≡ true }
-    ensures nodes { IsTrue result → is_too_large action.now ≡ false }
-    ensures depth { IsTrue result → is_too_deep action.now ≡ false }
+    ensures { result ≡ ((has_slots action.now && (sets_in_mask action.now && has_attrs shape action.now)) && (not (is_too_large action.now) && not (is_too_deep action.now))) }
 {
     let limits = Limits {
         reads: action.reads.len(),
         mask: action.mask,
         attrs: shape.attrs,
     };
-    match body_fits(&limits, 8, 64, action.body.as_slice()) {
+    let mut nodes = NodeCursor::new(action.body.nodes());
+    match block_fits(&mut nodes, &limits, 8, 64) {
         Some(_) => true,
         None => false,
     }
 }
 
-#[tactic(auto, unfolding(crate::specs::Faults::has_slots))]
+#[tactic(auto, using(crate::proofs::NodeTests::body_pass), unfolding(crate::specs::Faults::has_slots))]
 fn has_slots(action: &Action) -> bool
     ensures { result ≡ has_slots action.now }
 {
     let reads = action.reads.len();
-    passes_in_body(NameTest::Slot { reads }, action.body.as_slice())
+    passes_in_nodes(NameTest::Slot { reads }, action.body.nodes())
 }
 
-#[tactic(auto, unfolding(crate::specs::Faults::sets_in_mask))]
+#[tactic(auto, using(crate::proofs::NodeTests::body_pass), unfolding(crate::specs::Faults::sets_in_mask))]
 fn sets_in_mask(action: &Action) -> bool
     ensures { result ≡ sets_in_mask action.now }
 {
     let mask = action.mask;
-    passes_in_body(NameTest::Writable { mask }, action.body.as_slice())
+    passes_in_nodes(NameTest::Writable { mask }, action.body.nodes())
 }
 
-#[tactic(auto, unfolding(crate::specs::Faults::has_attrs))]
+#[tactic(auto, using(crate::proofs::NodeTests::body_pass), unfolding(crate::specs::Faults::has_attrs))]
 fn has_attrs(shape: Shape, action: &Action) -> bool
     ensures { result ≡ has_attrs shape action.now }
 {
     let attrs = shape.attrs;
-    passes_in_body(NameTest::Attr { attrs }, action.body.as_slice())
+    passes_in_nodes(NameTest::Attr { attrs }, action.body.nodes())
 }
 
-#[tactic(auto, unfolding(crate::specs::Faults::is_too_large))]
+#[tactic(auto, using(crate::proofs::NodeTests::body_weight), unfolding(crate::specs::Faults::is_too_large))]
 fn is_too_large(action: &Action) -> bool
     ensures { result ≡ is_too_large action.now }
 {
-    body_left(64, action.body.as_slice()).is_none()
-}
-
-#[tactic(auto, unfolding(crate::specs::Faults::is_too_deep))]
-fn is_too_deep(action: &Action) -> bool
-    ensures { result ≡ is_too_deep action.now }
-{
-    !body_is_within(8, action.body.as_slice())
+    weight(action.body.nodes()) > 64
 }
 
 fn is_in_plane(coordinate: i32) -> bool

@@ -1,10 +1,11 @@
-//! One walk over a body that finds whether nothing in it is at fault. Which cause comes first it does not say.
-ghost use Rattle.std.specs.Prelude.{◌≡◌, ◌+◌, ◌≤◌, ◌&&◌, nat_lt, true, IfSome};
+//! One walk over the nodes of a body that finds whether nothing in it is at fault.
+ghost use Rattle.std.specs.Prelude.{◌≡◌, ◌+◌, ◌<◌, ◌≤◌, ◌&&◌, true, None, drop, length, IfSome};
 ghost use Rattle.sv_world.specs.Sets.{is_in_mask};
-ghost use Rattle.sv_world.specs.Trees.{expr_passes, cond_passes, stmt_passes, body_passes, expr_nodes, cond_nodes, stmt_nodes, body_nodes, expr_depth, cond_depth, stmt_depth, body_depth};
+ghost use Rattle.sv_world.specs.Parts.{first, second, parts, is_expr, is_cond, is_stmt, is_block};
+ghost use Rattle.sv_world.specs.PartTrees.{part_nodes, part_depth, may_get, may_set, fits};
 
 use crate::names::is_in_mask;
-use crate::{Cond, Expr, Stmt};
+use crate::{CondHead, ExprHead, NodeCursor, StmtHead};
 
 /// What the slots and attributes that a body names keep to.
 #[derive(Clone, Copy, Drop)]
@@ -18,104 +19,161 @@ pub(crate) struct Limits {
 }
 
 impl Limits {
+    #[inline(always)]
     fn allow_get(&self, slot: u8, attr: u8) -> bool
-        ensures { result ≡ (nat_lt slot self.now.reads && nat_lt attr self.now.attrs) }
+        ensures { result ≡ may_get self.now slot attr }
     {
         usize::from(slot) < self.reads && attr < self.attrs
     }
 
+    #[inline(always)]
     fn allow_set(&self, slot: u8, attr: u8) -> bool
-        ensures { result ≡ (is_in_mask self.now.mask slot && (nat_lt slot self.now.reads && nat_lt attr self.now.attrs)) }
+        ensures { result ≡ may_set self.now slot attr }
     {
         is_in_mask(self.mask, usize::from(slot)) && self.allow_get(slot, attr)
     }
 }
 
-// Each of these gives what is left of a number of nodes, where the part has no more of them, is nested at most `depth` deep, and keeps to the limits.
-
-fn expr_fits(limits: &Limits, depth: u8, left: u8, expr: &Expr) -> Option<u8>
-    ensures slots { IfSome result (λ _. expr_passes (λ slot _. nat_lt slot limits.now.reads) expr.now ≡ true) }
-    ensures writable { IfSome result (λ _. expr_passes (λ _ _. true) expr.now ≡ true) }
-    ensures attrs { IfSome result (λ _. expr_passes (λ _ attr. nat_lt attr limits.now.attrs) expr.now ≡ true) }
-    ensures nodes { IfSome result (λ rest. rest + expr_nodes expr.now ≡ left) }
-    ensures depth { IfSome result (λ _. expr_depth expr.now ≤ depth) }
+/// What is left of a number of nodes behind one more, where there is room for it.
+#[inline(always)]
+fn room(depth: u8, left: u8) -> Option<u8>
+    ensures left { IfSome result (λ rest. rest + 1 ≡ left) }
+    ensures depth { IfSome result (λ _. 1 ≤ depth) }
+    ensures refuses { result ≡ None → 1 ≤ left → 1 ≤ depth → ⊥ }
 {
-    let depth = depth.checked_sub(1)?;
-    let left = left.checked_sub(1)?;
-    match expr {
-        Expr::Lit(_) => Some(left),
-        Expr::Attr { slot, attr } => limits.allow_get(*slot, *attr).then_some(left),
-        Expr::Add(a, b)
-        | Expr::Sub(a, b)
-        | Expr::Mul(a, b)
-        | Expr::Div(a, b)
-        | Expr::Rem(a, b)
-        | Expr::Min(a, b)
-        | Expr::Max(a, b) => {
-            let left = expr_fits(limits, depth, left, a.get())?;
-            expr_fits(limits, depth, left, b.get())
-        }
+    if depth == 0 {
+        return None;
     }
+    left.checked_sub(1)
 }
 
-fn cond_fits(limits: &Limits, depth: u8, left: u8, cond: &Cond) -> Option<u8>
-    ensures slots { IfSome result (λ _. cond_passes (λ slot _. nat_lt slot limits.now.reads) cond.now ≡ true) }
-    ensures writable { IfSome result (λ _. cond_passes (λ _ _. true) cond.now ≡ true) }
-    ensures attrs { IfSome result (λ _. cond_passes (λ _ attr. nat_lt attr limits.now.attrs) cond.now ≡ true) }
-    ensures nodes { IfSome result (λ rest. rest + cond_nodes cond.now ≡ left) }
-    ensures depth { IfSome result (λ _. cond_depth cond.now ≤ depth) }
-{
-    let depth = depth.checked_sub(1)?;
-    let left = left.checked_sub(1)?;
-    match cond {
-        Cond::Eq(a, b) | Cond::Lt(a, b) | Cond::Le(a, b) => {
-            let left = expr_fits(limits, depth, left, a)?;
-            expr_fits(limits, depth, left, b)
-        }
-        Cond::And(a, b) | Cond::Or(a, b) => {
-            let left = cond_fits(limits, depth, left, a.get())?;
-            cond_fits(limits, depth, left, b.get())
-        }
-        Cond::Not(a) => cond_fits(limits, depth, left, a.get()),
-    }
-}
+// Each of these takes a tree from the cursor and gives what is left of a number of nodes, where the tree has no more of them, is nested at
+// most `depth` deep, and keeps to the limits. Else it gives none, and the cursor is left in the middle.
 
-#[cycle(fits)]
-fn stmt_fits(limits: &Limits, depth: u8, left: u8, stmt: &Stmt) -> Option<u8>
-    ensures slots { IfSome result (λ _. stmt_passes (λ slot _. nat_lt slot limits.now.reads) (λ slot _. nat_lt slot limits.now.reads) stmt.now ≡ true) }
-    ensures writable { IfSome result (λ _. stmt_passes (λ slot _. is_in_mask limits.now.mask slot) (λ _ _. true) stmt.now ≡ true) }
-    ensures attrs { IfSome result (λ _. stmt_passes (λ _ attr. nat_lt attr limits.now.attrs) (λ _ attr. nat_lt attr limits.now.attrs) stmt.now ≡ true) }
-    ensures nodes { IfSome result (λ rest. rest + stmt_nodes stmt.now ≡ left) }
-    ensures depth { IfSome result (λ _. stmt_depth stmt.now ≤ depth) }
+#[cycle(exprs)]
+#[inline(always)]
+#[tactic(auto, using(crate::proofs::Measured::expr_measures))]
+fn expr_fits(nodes: &mut NodeCursor<'_>, limits: &Limits, depth: u8, left: u8) -> Option<u8>
+    requires { is_expr (first (parts nodes.old)) ≡ true }
+    ensures fits { IfSome result (λ _. fits limits.now (first (parts nodes.old)) ≡ true) }
+    ensures nodes { IfSome result (λ rest. rest + part_nodes (first (parts nodes.old)) ≡ left) }
+    ensures depth { IfSome result (λ _. part_depth (first (parts nodes.old)) ≤ depth) }
+    ensures refuses { result ≡ None → fits limits.now (first (parts nodes.old)) ≡ true → part_nodes (first (parts nodes.old)) ≤ left → part_depth (first (parts nodes.old)) ≤ depth → ⊥ }
+    ensures rest { IfSome result (λ _. parts nodes.new ≡ drop 1 (parts nodes.old)) }
+    ensures shorter { IfSome result (λ _. length nodes.new < length nodes.old) }
 {
-    let depth = depth.checked_sub(1)?;
-    let left = left.checked_sub(1)?;
-    match stmt {
-        Stmt::Set { slot, attr, expr } => {
-            if !limits.allow_set(*slot, *attr) {
+    match nodes.expr() {
+        ExprHead::Lit(_) => {
+            let left = room(depth, left)?;
+            Some(left)
+        }
+        ExprHead::Attr { slot, attr } => {
+            let left = room(depth, left)?;
+            if !limits.allow_get(slot, attr) {
                 return None;
             }
-            expr_fits(limits, depth, left, expr)
+            Some(left)
         }
-        Stmt::If { cond, then, other } => {
-            let left = cond_fits(limits, depth, left, cond)?;
-            let left = body_fits(limits, depth, left, then.as_slice())?;
-            body_fits(limits, depth, left, other.as_slice())
+        ExprHead::Binary(_) => {
+            let left = room(depth, left)?;
+            pair_fits(nodes, limits, depth - 1, left)
         }
     }
 }
 
-#[cycle(fits)]
-pub(crate) fn body_fits(limits: &Limits, depth: u8, left: u8, body: &[Stmt]) -> Option<u8>
-    ensures slots { IfSome result (λ _. body_passes (λ slot _. nat_lt slot limits.now.reads) (λ slot _. nat_lt slot limits.now.reads) body.now ≡ true) }
-    ensures writable { IfSome result (λ _. body_passes (λ slot _. is_in_mask limits.now.mask slot) (λ _ _. true) body.now ≡ true) }
-    ensures attrs { IfSome result (λ _. body_passes (λ _ attr. nat_lt attr limits.now.attrs) (λ _ attr. nat_lt attr limits.now.attrs) body.now ≡ true) }
-    ensures nodes { IfSome result (λ rest. rest + body_nodes body.now ≡ left) }
-    ensures depth { IfSome result (λ _. body_depth body.now ≤ depth) }
+#[cycle(exprs)]
+#[tactic(auto, using(crate::proofs::Measured::expr_measures))]
+fn pair_fits(nodes: &mut NodeCursor<'_>, limits: &Limits, depth: u8, left: u8) -> Option<u8>
+    requires left { is_expr (first (parts nodes.old)) ≡ true }
+    requires right { is_expr (second (parts nodes.old)) ≡ true }
+    ensures fits { IfSome result (λ _. (fits limits.now (first (parts nodes.old)) && fits limits.now (second (parts nodes.old))) ≡ true) }
+    ensures nodes { IfSome result (λ rest. rest + part_nodes (first (parts nodes.old)) + part_nodes (second (parts nodes.old)) ≡ left) }
+    ensures depth { IfSome result (λ _. (part_depth (first (parts nodes.old)) ≤ depth) × (part_depth (second (parts nodes.old)) ≤ depth)) }
+    ensures refuses { result ≡ None → fits limits.now (first (parts nodes.old)) ≡ true → fits limits.now (second (parts nodes.old)) ≡ true → part_nodes (first (parts nodes.old)) + part_nodes (second (parts nodes.old)) ≤ left
+        → part_depth (first (parts nodes.old)) ≤ depth → part_depth (second (parts nodes.old)) ≤ depth → ⊥ }
+    ensures rest { IfSome result (λ _. parts nodes.new ≡ drop 2 (parts nodes.old)) }
+    ensures shorter { IfSome result (λ _. length nodes.new < length nodes.old) }
+{
+    let left = expr_fits(nodes, limits, depth, left)?;
+    expr_fits(nodes, limits, depth, left)
+}
+
+#[tactic(auto, using(crate::proofs::Measured::cond_measures))]
+fn cond_fits(nodes: &mut NodeCursor<'_>, limits: &Limits, depth: u8, left: u8) -> Option<u8>
+    requires { is_cond (first (parts nodes.old)) ≡ true }
+    ensures fits { IfSome result (λ _. fits limits.now (first (parts nodes.old)) ≡ true) }
+    ensures nodes { IfSome result (λ rest. rest + part_nodes (first (parts nodes.old)) ≡ left) }
+    ensures depth { IfSome result (λ _. part_depth (first (parts nodes.old)) ≤ depth) }
+    ensures refuses { result ≡ None → fits limits.now (first (parts nodes.old)) ≡ true → part_nodes (first (parts nodes.old)) ≤ left → part_depth (first (parts nodes.old)) ≤ depth → ⊥ }
+    ensures rest { IfSome result (λ _. parts nodes.new ≡ drop 1 (parts nodes.old)) }
+    ensures shorter { IfSome result (λ _. length nodes.new < length nodes.old) }
+{
+    match nodes.cond() {
+        CondHead::Compare(_) => {
+            let left = room(depth, left)?;
+            pair_fits(nodes, limits, depth - 1, left)
+        }
+        CondHead::Join(_) => {
+            let left = room(depth, left)?;
+            let left = cond_fits(nodes, limits, depth - 1, left)?;
+            cond_fits(nodes, limits, depth - 1, left)
+        }
+        CondHead::Not => {
+            let left = room(depth, left)?;
+            cond_fits(nodes, limits, depth - 1, left)
+        }
+    }
+}
+
+#[cycle(statements)]
+#[tactic(auto, using(crate::proofs::Measured::stmt_measures))]
+fn stmt_fits(nodes: &mut NodeCursor<'_>, limits: &Limits, depth: u8, left: u8) -> Option<u8>
+    requires { is_stmt (first (parts nodes.old)) ≡ true }
+    ensures fits { IfSome result (λ _. fits limits.now (first (parts nodes.old)) ≡ true) }
+    ensures nodes { IfSome result (λ rest. rest + part_nodes (first (parts nodes.old)) ≡ left) }
+    ensures depth { IfSome result (λ _. part_depth (first (parts nodes.old)) ≤ depth) }
+    ensures refuses { result ≡ None → fits limits.now (first (parts nodes.old)) ≡ true → part_nodes (first (parts nodes.old)) ≤ left → part_depth (first (parts nodes.old)) ≤ depth → ⊥ }
+    ensures rest { IfSome result (λ _. parts nodes.new ≡ drop 1 (parts nodes.old)) }
+    ensures shorter { IfSome result (λ _. length nodes.new < length nodes.old) }
+{
+    match nodes.stmt() {
+        StmtHead::Set { slot, attr } => {
+            let left = room(depth, left)?;
+            if limits.allow_set(slot, attr) {
+                expr_fits(nodes, limits, depth - 1, left)
+            } else {
+                None
+            }
+        }
+        StmtHead::If => {
+            let left = room(depth, left)?;
+            let left = cond_fits(nodes, limits, depth - 1, left)?;
+            let left = block_fits(nodes, limits, depth - 1, left)?;
+            block_fits(nodes, limits, depth - 1, left)
+        }
+    }
+}
+
+#[cycle(statements)]
+#[tactic(auto, using(crate::proofs::Measured::block_measures))]
+pub(crate) fn block_fits(
+    nodes: &mut NodeCursor<'_>,
+    limits: &Limits,
+    depth: u8,
+    left: u8,
+) -> Option<u8>
+    requires { is_block (first (parts nodes.old)) ≡ true }
+    ensures fits { IfSome result (λ _. fits limits.now (first (parts nodes.old)) ≡ true) }
+    ensures nodes { IfSome result (λ rest. rest + part_nodes (first (parts nodes.old)) ≡ left) }
+    ensures depth { IfSome result (λ _. part_depth (first (parts nodes.old)) ≤ depth) }
+    ensures refuses { result ≡ None → fits limits.now (first (parts nodes.old)) ≡ true → part_nodes (first (parts nodes.old)) ≤ left → part_depth (first (parts nodes.old)) ≤ depth → ⊥ }
+    ensures rest { IfSome result (λ _. parts nodes.new ≡ drop 1 (parts nodes.old)) }
+    ensures shorter { IfSome result (λ _. length nodes.new < length nodes.old) }
 {
     let mut left = left;
-    for stmt in body {
-        left = stmt_fits(limits, depth, left, stmt)?;
+    let count = nodes.block();
+    for _ in 0..count {
+        left = stmt_fits(nodes, limits, depth, left)?;
     }
     Some(left)
 }

@@ -2,23 +2,36 @@
 #![tactic(auto)]
 
 mod action;
+mod body;
 mod boxed;
 mod check;
 mod copy;
+mod cursor;
+mod equal;
 mod fits;
+mod flatten;
+mod heads;
 mod laws;
 mod list;
-mod measure;
 mod names;
-mod shared;
+mod node;
+mod numbers;
 mod short;
+mod spelling;
 mod text;
 mod world;
 
 pub use action::{Action, Cond, Expr, Point, Stmt};
+pub use body::Body;
 pub use boxed::Boxed;
 pub use check::{BadAction, check_action, good_actions_have_no_fault, is_ascending};
 pub use copy::{copy_action, copy_objects, copy_value, copy_values};
+pub use cursor::NodeCursor;
+pub use equal::{same_bodies_are_equal, same_body};
+pub use flatten::has_short_blocks;
+pub use heads::{
+    CondHead, ExprHead, StmtHead, block_head, cond_head, expr_head, skip_block, stmt_head,
+};
 pub use laws::{
     base_values_are_those_read_as_committed, committed_actions_do_not_count,
     influence_is_the_least_set, missing_influences_are_the_least_set, missing_influences_ascend,
@@ -26,7 +39,8 @@ pub use laws::{
 };
 pub use list::List;
 pub use names::is_in_mask;
-pub use shared::Shared;
+pub use node::{Comparison, Connective, Node, Operator};
 pub use short::Short;
+pub use spelling::bodies_are_spelled;
 pub use text::Text;
 pub use world::{ClientId, ObjectId, Reads, Shape, Value, World};

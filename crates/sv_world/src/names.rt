@@ -1,9 +1,9 @@
-ghost use Rattle.std.specs.Prelude.{◌≡◌};
+ghost use Rattle.std.specs.Prelude.{◌≡◌, MatchBool};
 ghost use Rattle.sv_world.specs.Sets.{is_in_mask};
-ghost use Rattle.sv_world.specs.Trees.{expr_passes, cond_passes, stmt_passes, body_passes};
+ghost use Rattle.sv_world.specs.NodeTests.{node_passes, nodes_pass, node_weight, nodes_weight};
 ghost use Rattle.sv_world.specs.Names.{set_passes, get_passes};
 
-use crate::{Cond, Expr, Stmt};
+use crate::Node;
 
 /// Whether an action with this mask may write the object in a slot.
 pub fn is_in_mask(mask: u16, slot: usize) -> bool
@@ -43,59 +43,61 @@ impl NameTest {
             NameTest::Attr { attrs } => attr < attrs,
         }
     }
-}
 
-fn passes_in_expr(test: NameTest, expr: &Expr) -> bool
-    ensures { result ≡ expr_passes (get_passes test) expr.now }
-{
-    match expr {
-        Expr::Lit(_) => true,
-        Expr::Attr { slot, attr } => test.allows_get(*slot, *attr),
-        Expr::Add(a, b)
-        | Expr::Sub(a, b)
-        | Expr::Mul(a, b)
-        | Expr::Div(a, b)
-        | Expr::Rem(a, b)
-        | Expr::Min(a, b)
-        | Expr::Max(a, b) => passes_in_expr(test, a.get()) && passes_in_expr(test, b.get()),
-    }
-}
-
-fn passes_in_cond(test: NameTest, cond: &Cond) -> bool
-    ensures { result ≡ cond_passes (get_passes test) cond.now }
-{
-    match cond {
-        Cond::Eq(a, b) | Cond::Lt(a, b) | Cond::Le(a, b) => passes_in_expr(test, a)
-            && passes_in_expr(test, b),
-        Cond::And(a, b) | Cond::Or(a, b) => passes_in_cond(test, a.get())
-            && passes_in_cond(test, b.get()),
-        Cond::Not(a) => passes_in_cond(test, a.get()),
-    }
-}
-
-#[cycle(names)]
-fn passes_in_stmt(test: NameTest, stmt: &Stmt) -> bool
-    ensures { result ≡ stmt_passes (set_passes test) (get_passes test) stmt.now }
-{
-    match stmt {
-        Stmt::Set { slot, attr, expr } => test.allows_set(*slot, *attr)
-            && passes_in_expr(test, expr),
-        Stmt::If { cond, then, other } => {
-            passes_in_cond(test, cond)
-                && passes_in_body(test, then.as_slice())
-                && passes_in_body(test, other.as_slice())
+    fn allows(self, node: Node) -> bool
+        ensures { result ≡ node_passes (set_passes self) (get_passes self) node }
+    {
+        match node {
+            Node::Attr { slot, attr } => self.allows_get(slot, attr),
+            Node::Set { slot, attr } => self.allows_set(slot, attr),
+            Node::Lit(_)
+            | Node::Binary(_)
+            | Node::Compare(_)
+            | Node::Join(_)
+            | Node::Not
+            | Node::If
+            | Node::Block { .. } => true,
         }
     }
 }
 
-#[cycle(names)]
-pub(crate) fn passes_in_body(test: NameTest, body: &[Stmt]) -> bool
-    ensures { result ≡ body_passes (set_passes test) (get_passes test) body.now }
+/// Whether each slot and attribute that these nodes name passes.
+pub(crate) fn passes_in_nodes(test: NameTest, nodes: &[Node]) -> bool
+    ensures { result ≡ nodes_pass (set_passes test) (get_passes test) nodes.now }
 {
-    for stmt in body {
-        if !passes_in_stmt(test, stmt) {
+    for node in nodes {
+        if !test.allows(*node) {
             return false;
         }
     }
     true
+}
+
+/// How many nodes there are without those of blocks.
+pub(crate) fn weight(nodes: &[Node]) -> usize
+    ensures { result ≡ nodes_weight nodes.now }
+{
+    let mut weight = 0;
+    for node in nodes {
+        if weighs(*node) {
+            weight += 1;
+        }
+    }
+    weight
+}
+
+fn weighs(node: Node) -> bool
+    ensures { MatchBool result (node_weight node ≡ 1) (node_weight node ≡ 0) }
+{
+    match node {
+        Node::Block { .. } => false,
+        Node::Lit(_)
+        | Node::Attr { .. }
+        | Node::Binary(_)
+        | Node::Compare(_)
+        | Node::Join(_)
+        | Node::Not
+        | Node::Set { .. }
+        | Node::If => true,
+    }
 }

@@ -19,7 +19,8 @@ use Rattle.sv_wire.specs.declared.message.Reply.TheVariants as replies
 use Rattle.sv_wire.proofs.Append.{nodes_more}
 use Rattle.sv_wire.proofs.Layers.{lit_nodes, lit_depth, lit_fits, set_nodes, set_depth, set_fits}
 use Rattle.sv_wire.specs.Grammar.{IsWireValue, IsWireAction, IsWireHead}
-use Rattle.sv_wire.specs.Ranges.{ObjectFits, HeldFits, stmt_fits, ActionFits, ItemFits}
+use Rattle.sv_world.specs.Ranges.{stmt_fits}
+use Rattle.sv_wire.specs.Ranges.{ObjectFits, HeldFits, ActionFits, ItemFits}
 use Rattle.sv_wire.specs.Laws.{IsReply}
 use Rattle.test_exchange.specs.Worked.{greatest, great_held, great_heads, great_reads, great_stmt, great_body, great_action, great_item, great_items}
 

@@ -5,7 +5,9 @@ ghost use Rattle.test_exchange.specs.Worked.{greatest, great_heads, great_reads,
 
 use std::alloc::{AllocError, Global};
 use sv_wire::{Held, Item, Reply};
-use sv_world::{Action, ClientId, Expr, List, ObjectId, Point, Reads, Shared, Stmt, Value};
+use sv_world::{
+    Action, Body, ClientId, Expr, List, ObjectId, Point, Reads, Stmt, Value, has_short_blocks,
+};
 
 fn great_value(alloc: Global) -> Result<Value, AllocError>
     ensures { IfOk result (λ value. value ≡ greatest ∷ greatest ∷ greatest ∷ greatest ∷ []) }
@@ -58,6 +60,16 @@ fn great_statements(alloc: Global) -> Result<List<Stmt>, AllocError>
     Ok(body)
 }
 
+/// The body of these statements, where nodes can hold them.
+fn flat(alloc: Global, stmts: &[Stmt]) -> Result<Body, AllocError>
+    ensures { IfOk result (λ body. body ≡ stmts.now) }
+{
+    if !has_short_blocks(stmts) {
+        return Err(AllocError);
+    }
+    Body::from_stmts(alloc, stmts)
+}
+
 fn great_acting(alloc: Global) -> Result<Action, AllocError>
     ensures { IfOk result (λ action. action ≡ great_action) }
 {
@@ -65,7 +77,7 @@ fn great_acting(alloc: Global) -> Result<Action, AllocError>
         reads: great_reading(alloc)?,
         mask: 65_535,
         origin: Point { x: 0, y: 0 },
-        body: Shared::from_list(great_statements(alloc)?)?,
+        body: flat(alloc, great_statements(alloc)?.as_slice())?,
     })
 }
 

@@ -3,7 +3,7 @@ ghost use Rattle.std.specs.Prelude.{◌≡◌, ◌≤◌, [], ◌∷◌, IfOk};
 ghost use Rattle.sv_queue.specs.Worlds.{IsGoodWorld};
 
 use std::alloc::{AllocError, Global};
-use sv_world::{Action, List, ObjectId, Point, Reads, Shape, Shared, Value, World};
+use sv_world::{Action, Body, List, ObjectId, Point, Reads, Shape, Value, World};
 
 pub fn value(alloc: Global, number: i64) -> Result<Value, AllocError>
     ensures { IfOk result (λ value. value ≡ number ∷ []) }
@@ -29,7 +29,7 @@ pub fn world(alloc: Global, objects: u16) -> Result<World, AllocError>
 
 /// An action that reads these objects and writes those of a mask.
 fn acting(alloc: Global, reads: Reads, mask: u16, x: i32, y: i32) -> Result<Action, AllocError> {
-    let body = Shared::from_list(List::new(alloc))?;
+    let body = Body::from_stmts(alloc, &[])?;
     Ok(Action {
         reads,
         mask,

@@ -6,7 +6,7 @@ use sv_journal::{
     relays_name_accepted,
 };
 use sv_wire::{Done1, Held, Request};
-use sv_world::{Action, ClientId, List, ObjectId, Point, Reads, Shape, Shared, Value};
+use sv_world::{Action, Body, ClientId, List, ObjectId, Point, Reads, Shape, Value};
 
 #[test]
 fn values_and_objects_are_printed(rt: HostRuntime) -> Result<(), Fail> {
@@ -27,7 +27,7 @@ fn act(alloc: Global, object: u16) -> Result<Action, AllocError> {
         reads,
         mask: 1,
         origin: Point { x: 0, y: 0 },
-        body: Shared::from_list(List::new(alloc))?,
+        body: Body::from_stmts(alloc, &[])?,
     })
 }
 

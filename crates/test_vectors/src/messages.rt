@@ -429,3 +429,38 @@ fn greatest_results(rt: HostRuntime) -> Result<(), Fail> {
     assert!(rt; done.len() <= 65_536);
     request_comes_back(&rt, rt.alloc(), &done)
 }
+
+/// An `if` whose first block has one statement, as far as that statement: four nodes and the block's count.
+const NESTING: [u8; 15] = [0x11, 0x31, 0x21, 15, 0, 0x20, 0, 0, 0, 0, 0, 0, 0, 1, 1];
+
+/// A submit whose body has 64 nodes on eight levels: six `if` in one another, each with statements behind it where it does not hold.
+fn deepest_submit(alloc: Global) -> Result<Vec<u8>, Fail> {
+    let mut payload = Vec::from_slice(alloc, &[6, 0, 0, 0, 1, 16])?;
+    for object in 0..16u8 {
+        payload.extend_from_slice(&[0, object])?;
+    }
+    payload.extend_from_slice(&[0xff, 0xff, 0, 0, 0, 0, 0, 0, 0, 0, 1])?;
+    for _ in 0..6u8 {
+        payload.extend_from_slice(&NESTING)?;
+    }
+    put_sets(&mut payload, 1)?;
+    for _ in 0..5u8 {
+        payload.push(3)?;
+        put_sets(&mut payload, 3)?;
+    }
+    payload.push(4)?;
+    put_sets(&mut payload, 4)?;
+    Ok(payload)
+}
+
+#[test]
+fn deepest_bodies(rt: HostRuntime) -> Result<(), Fail> {
+    let mut submit = deepest_submit(rt.alloc())?;
+    request_comes_back(&rt, rt.alloc(), &submit)?;
+    // A spare node behind the last statement.
+    submit.push(0x10)?;
+    let end = submit.len() - 1;
+    assert!(rt; end == 385);
+    request_is_refused(&rt, rt.alloc(), &submit, 385, WireCause::Rest);
+    Ok(())
+}

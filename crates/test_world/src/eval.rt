@@ -2,7 +2,9 @@
 use std::alloc::{AllocError, Global};
 use std::test::Fail;
 use sv_eval::eval;
-use sv_world::{Action, Boxed, Cond, Expr, List, ObjectId, Point, Reads, Shared, Stmt, Value};
+use sv_world::{
+    Action, Body, Boxed, Cond, Expr, List, ObjectId, Point, Reads, Stmt, Value, has_short_blocks,
+};
 
 /// An operator, its two operands and the result on each line. A result outside 64 bits is void, and so is division by zero.
 const OPERATIONS: &str = "\
@@ -92,6 +94,14 @@ fn first_number(values: &[Value]) -> i64 {
     }
 }
 
+/// The body of these statements, where nodes can hold them.
+fn flat(alloc: Global, stmts: &[Stmt]) -> Result<Body, AllocError> {
+    if !has_short_blocks(stmts) {
+        return Err(AllocError);
+    }
+    Body::from_stmts(alloc, stmts)
+}
+
 /// An action that reads and writes one object.
 fn action(alloc: Global, body: List<Stmt>) -> Result<Action, AllocError> {
     let mut reads = Reads::new(alloc);
@@ -101,7 +111,7 @@ fn action(alloc: Global, body: List<Stmt>) -> Result<Action, AllocError> {
         reads,
         mask: 1,
         origin,
-        body: Shared::from_list(body)?,
+        body: flat(alloc, body.as_slice())?,
     })
 }
 

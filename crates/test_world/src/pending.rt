@@ -6,7 +6,8 @@ use std::test::Fail;
 use sv_pending::{Overlay, Pending};
 use sv_versions::Versions;
 use sv_world::{
-    Action, Boxed, Expr, List, ObjectId, Point, Reads, Shape, Shared, Stmt, Value, check_action,
+    Action, Body, Boxed, Expr, List, ObjectId, Point, Reads, Shape, Stmt, Value, check_action,
+    has_short_blocks,
 };
 
 const FIRST: ObjectId = ObjectId(0);
@@ -27,6 +28,14 @@ enum Deed {
     Keep,
 }
 
+/// The body of these statements, where nodes can hold them.
+fn flat(alloc: Global, stmts: &[Stmt]) -> Result<Body, AllocError> {
+    if !has_short_blocks(stmts) {
+        return Err(AllocError);
+    }
+    Body::from_stmts(alloc, stmts)
+}
+
 fn action(
     alloc: Global,
     reads: &[ObjectId],
@@ -37,7 +46,7 @@ fn action(
         reads: Reads::from_slice(alloc, reads)?,
         mask,
         origin: Point { x: 0, y: 0 },
-        body: Shared::from_list(body)?,
+        body: flat(alloc, body.as_slice())?,
     })
 }
 

@@ -2,9 +2,10 @@
 use std::alloc::{AllocError, Global};
 use std::test::Fail;
 use sv_world::{
-    Action, Boxed, ClientId, Cond, Expr, List, ObjectId, Point, Reads, Shape, Shared, Short, Stmt,
+    Action, Body, Boxed, ClientId, Cond, Expr, List, ObjectId, Point, Reads, Shape, Short, Stmt,
     Text, Value, World, check_action, copy_action, copy_objects, copy_value, copy_values,
-    good_actions_have_no_fault, is_ascending, is_in_mask,
+    good_actions_have_no_fault, has_short_blocks, is_ascending, is_in_mask, same_bodies_are_equal,
+    same_body,
 };
 
 const ONE: Shape = Shape {
@@ -20,6 +21,14 @@ fn ids(alloc: Global, numbers: &[u16]) -> Result<List<ObjectId>, AllocError> {
     Ok(ids)
 }
 
+/// The body of these statements, where nodes can hold them.
+fn flat(alloc: Global, stmts: &[Stmt]) -> Result<Body, AllocError> {
+    if !has_short_blocks(stmts) {
+        return Err(AllocError);
+    }
+    Body::from_stmts(alloc, stmts)
+}
+
 fn action(alloc: Global, reads: &[u16], mask: u16, body: List<Stmt>) -> Result<Action, AllocError> {
     let reads = Reads::from_slice(alloc, ids(alloc, reads)?.as_slice())?;
     let origin = Point { x: 0, y: 0 };
@@ -27,7 +36,7 @@ fn action(alloc: Global, reads: &[u16], mask: u16, body: List<Stmt>) -> Result<A
         reads,
         mask,
         origin,
-        body: Shared::from_list(body)?,
+        body: flat(alloc, body.as_slice())?,
     })
 }
 
@@ -222,11 +231,32 @@ fn sees_short_lists(rt: HostRuntime) -> Result<(), Fail> {
 }
 
 #[test]
-fn sees_shared_lists(rt: HostRuntime) -> Result<(), Fail> {
-    let shared = Shared::from_list(List::from_vec(vec![in rt.alloc(); 3, 4]?))?;
-    let other = shared.share()?;
-    drop(shared);
-    assert!(rt; other.len() == 2 && other.as_slice() == [3, 4].as_slice());
+fn shares_bodies(rt: HostRuntime) -> Result<(), Fail> {
+    let body = flat(rt.alloc(), sets(rt.alloc(), 2)?.as_slice())?;
+    let other = body.share()?;
+    assert!(rt; same_body(&body, &other));
+    drop(body);
+    assert!(rt; other.nodes().len() == 5);
+    let longer = flat(rt.alloc(), sets(rt.alloc(), 3)?.as_slice())?;
+    assert!(rt; !same_body(&longer, &other) && !same_body(&other, &longer));
+    same_bodies_are_equal();
+    Ok(())
+}
+
+#[test]
+fn holds_at_most_255_statements(rt: HostRuntime) -> Result<(), Fail> {
+    let most = sets(rt.alloc(), 255)?;
+    assert!(rt; has_short_blocks(most.as_slice()));
+    let mut more = sets(rt.alloc(), 255)?;
+    more.push(set(0, 0))?;
+    assert!(rt; !has_short_blocks(more.as_slice()));
+    let mut inside = List::new(rt.alloc());
+    inside.push(Stmt::If {
+        cond: Cond::Eq(Expr::Lit(1), Expr::Lit(2)),
+        then: List::new(rt.alloc()),
+        other: more,
+    })?;
+    assert!(rt; !has_short_blocks(inside.as_slice()));
     Ok(())
 }
 

@@ -1,8 +1,10 @@
 //! Actions and replies as plain data, and what they stand for.
-use std::alloc::Global;
+use std::alloc::{AllocError, Global};
 use std::test::Fail;
 use sv_wire::{Held, Item, Reply};
-use sv_world::{Action, Boxed, ClientId, Expr, List, ObjectId, Point, Reads, Shared, Stmt, Value};
+use sv_world::{
+    Action, Body, Boxed, ClientId, Expr, List, ObjectId, Point, Reads, Stmt, Value, has_short_blocks,
+};
 
 /// What an action sets its first object to, in a world of one number for each object.
 #[derive(Clone, Copy)]
@@ -86,6 +88,14 @@ fn reads_of(alloc: Global, deed: Deed) -> Result<Reads, Fail> {
     }
 }
 
+/// The body of these statements, where nodes can hold them.
+fn flat(alloc: Global, stmts: &[Stmt]) -> Result<Body, AllocError> {
+    if !has_short_blocks(stmts) {
+        return Err(AllocError);
+    }
+    Body::from_stmts(alloc, stmts)
+}
+
 pub fn action_of(alloc: Global, deed: Deed) -> Result<Action, Fail> {
     let reads = reads_of(alloc, deed)?;
     let body = body_of(alloc, deed)?;
@@ -93,7 +103,7 @@ pub fn action_of(alloc: Global, deed: Deed) -> Result<Action, Fail> {
         reads,
         mask: 1,
         origin: Point { x: 0, y: 0 },
-        body: Shared::from_list(body)?,
+        body: flat(alloc, body.as_slice())?,
     })
 }
 

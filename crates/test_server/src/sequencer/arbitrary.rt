@@ -13,7 +13,7 @@ use std::test::Fail;
 use sv_journal::{Entry, Journal, Logged};
 use sv_sequencer::Sequencer;
 use sv_wire::{Done1, Request};
-use sv_world::{Action, ClientId, List, ObjectId, Point, Reads, Shape, Shared, Value};
+use sv_world::{Action, Body, ClientId, List, ObjectId, Point, Reads, Shape, Value};
 
 const JOURNALS: u64 = 40;
 
@@ -98,7 +98,7 @@ fn some_action(alloc: Global, dice: &mut Dice) -> Result<Action, AllocError> {
             x: i32::from(dice.below(9)),
             y: i32::from(dice.below(3)),
         },
-        body: Shared::from_list(List::new(alloc))?,
+        body: Body::from_stmts(alloc, &[])?,
     })
 }
 

@@ -2,10 +2,7 @@ use Rattle.std.proofs.Common.{◌+◌, ◌*◌}
 use Rattle.sv_text.proofs.expression.+expression.Given as goal
 
 abbrev pub decreases-expr_at : goal.decreases-expr_at
-decreases-expr_at l = 3 * l.depth
-
-abbrev pub decreases-boxed_expr_at : goal.decreases-boxed_expr_at
-decreases-boxed_expr_at l = 3 * l.depth + 1
+decreases-expr_at l = 2 * l.depth
 
 abbrev pub decreases-pair_at : goal.decreases-pair_at
-decreases-pair_at l = 3 * l.depth + 2
+decreases-pair_at l = 2 * l.depth + 1

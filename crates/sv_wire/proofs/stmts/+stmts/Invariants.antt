@@ -1,7 +1,7 @@
 use Rattle.std.proofs.Common.{◌≡◌, ◌≤◌, ◌+◌, ◌-◌, ◌*◌}
+use Rattle.sv_world.specs.Spelled.{run_spelled}
 use Rattle.sv_wire.specs.Steps.{in_turn}
-use Rattle.sv_wire.specs.Trees.{stmt_at}
-use Rattle.sv_wire.proofs.Loop.{turn_front}
+use Rattle.sv_wire.specs.Trees.{appended, stmt_at}
 use Rattle.sv_wire.proofs.stmts.+stmts.Given as goal
 
 abbrev pub decreases-stmt_next : goal.decreases-stmt_next
@@ -13,18 +13,12 @@ decreases-stmts_next l = 8 * l.depth + 1
 abbrev pub decreases-list_next : goal.decreases-list_next
 decreases-list_next l = 8 * l.depth + 2
 
-abbrev pub decreases-other_next : goal.decreases-other_next
-decreases-other_next l = 8 * l.depth + 3
-
-abbrev pub decreases-lists_next : goal.decreases-lists_next
-decreases-lists_next l = 8 * l.depth + 4
-
 abbrev pub decreases-if_next : goal.decreases-if_next
-decreases-if_next l = 8 * l.depth + 5
+decreases-if_next l = 8 * l.depth + 3
 
 abbrev pub invariant-stmts_next-loop : goal.invariant-stmts_next-loop
 invariant-stmts_next-loop l =
     record {
-      few : l.so_far ≤ 64;
-      read : turn_front l.body (in_turn (λ n rest. stmt_at l.depth n rest) (l.count - l.counter) l.so_far l.rest) ≡ in_turn (λ n rest. stmt_at l.depth n rest) l.count l.nodes l.bytes;
+      few : l.reader.nodes ≤ 64;
+      read : appended run_spelled l.reader.out.items (in_turn (λ n rest. stmt_at l.depth n rest) (l.count - l.counter) l.reader.nodes l.reader.rest.now) ≡ appended run_spelled l.fn.reader.out.items (in_turn (λ n rest. stmt_at l.depth n rest) l.count l.fn.reader.nodes l.fn.reader.rest.now);
     }

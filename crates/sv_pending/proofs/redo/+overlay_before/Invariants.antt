@@ -1,0 +1,4 @@
+use Rattle.sv_pending.proofs.redo.+overlay_before.Given as goal
+
+abbrev pub decreases-overlay_before : goal.decreases-overlay_before
+decreases-overlay_before l = l.count

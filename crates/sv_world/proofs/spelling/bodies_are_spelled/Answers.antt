@@ -1,0 +1,6 @@
+use Rattle.sv_world.proofs.Back.{body_back}
+use Rattle.sv_world.proofs.Spells.{body_spells}
+use Rattle.sv_world.proofs.spelling.bodies_are_spelled.Goals as goal
+
+pub returns : goal.returns
+returns c = record { spelled = body_spells; alone = λ body nodes e. body_back nodes body e }
