@@ -24,7 +24,7 @@ abbrev pub view_seen : View → Option (List ℤ)
 view_seen (views.Known value) = Some value.now
 view_seen views.Unknown = None
 
--- Why an action was not made: the first of these that applies, or want of memory.
+-- Why an action was not made: the first of these that applies, or memory ran out.
 abbrev pub IsMakeFault : Identity → List Event → Action → MakeFault → Type 0
 IsMakeFault who t action (make_faults.BadAction cause) = first_fault_of_action who.shape action ≡ Some cause
 IsMakeFault who t action make_faults.Full = (first_fault_of_action who.shape action ≡ None) × (length (pending_of t) ≡ 8)
@@ -36,7 +36,7 @@ abbrev pub IsPollFault : Identity → List Event → PollFault → Type 0
 IsPollFault who t poll_faults.Busy = length (outstanding who t) ≡ 16
 IsPollFault who t poll_faults.Memory = Unit {0}
 
--- A reply was not taken: for the first of its faults, or for want of memory.
+-- A reply was not taken: for the first of its faults, or for memory ran out.
 abbrev pub IsTakeFault : Identity → List Event → Reply → TakeFault → Type 0
 IsTakeFault who t reply fault = IfSome (fault_named fault) (λ f. first_fault_of_reply who t reply ≡ Some f)
 

@@ -37,7 +37,7 @@ latest_session t = unwrap_or (current_session t) 0
 abbrev pub newly_asked : Identity → List Event → Event → List Request
 newly_asked who t e = asked_by who.client who.interest t e (latest_session (e ∷ t))
 
--- The fault of a reply that a refusal names. Want of memory is no fault of the reply.
+-- The fault of a reply that a refusal names. Running out of memory is no fault of the reply.
 abbrev pub fault_named : TakeFault → Option Fault
 fault_named faults.Unasked = Some Unasked
 fault_named faults.WrongKind = Some WrongKind

@@ -20,7 +20,7 @@ cause_number causes.Large = 7
 cause_number causes.Deep = 8
 cause_number causes.Rest = 9
 
--- Want of memory is no fault of a reply.
+-- Running out of memory is no fault of a reply.
 abbrev pub take_line : TakeFault → List ℕ
 take_line takes.Unasked = codes "reply: unasked\n"
 take_line takes.WrongKind = codes "reply: wrongkind\n"

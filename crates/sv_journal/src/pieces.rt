@@ -1,4 +1,4 @@
-//! Heads, results and items as the journal prints them. On want of memory a part of what is appended may be left.
+//! Heads, results and items as the journal prints them. Where memory runs out a part of what is appended may be left.
 ghost use Rattle.std.specs.Prelude.{◌≡◌, ◌≤◌, ◌∷◌, ◌++◌, All, length, reverse, string_bytes, OnOk};
 ghost use Rattle.std.specs.List.{flat_map};
 ghost use Rattle.sv_wire.specs.declared.message.Done1.{Done1};

@@ -203,7 +203,7 @@ pub fn relays_name_accepted(journal: &Journal) -> bool
 
 /// Appends the text of a journal, a line for each entry after one with their number.
 ///
-/// An action that is refused in the shape is printed as `bad`. On want of memory `out` is as it was.
+/// An action that is refused in the shape is printed as `bad`. Where memory runs out `out` is as it was.
 pub fn print_journal(shape: Shape, journal: &Journal, out: &mut String) -> Result<(), AllocError>
     requires { RelaysNameAccepted journal.now.entries }
     ensures ok { OnOk result (string_bytes out.new ≡ string_bytes out.old ++ journal_text shape journal.now.entries) }

@@ -7,7 +7,7 @@ ghost use Rattle.sv_journal.specs.Pieces.{joined, value_text, held_text, objects
 use std::alloc::AllocError;
 use sv_world::ObjectId;
 
-/// Appends a value, as `(5,-1)`. Like all that append here, on want of memory it may leave a part of it.
+/// Appends a value, as `(5,-1)`. Like all that append here, where memory runs out it may leave a part of it.
 pub fn append_value(value: &[i64], out: &mut String) -> Result<(), AllocError>
     ensures { OnOk result (string_bytes out.new ≡ string_bytes out.old ++ value_text value.now) }
 {

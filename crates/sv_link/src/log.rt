@@ -36,7 +36,7 @@ impl EndLog {
         }
     }
 
-    // False where the count is full, which stands for want of memory: no run counts so many.
+    // False where the count is full, which stands for running out of memory: no run counts so many.
     fn counts_fault(&mut self) -> bool
         ensures told { told_of self.new ≡ told_of self.old }
         ensures faults { self.new.faults ≡ (if result then self.old.faults + 1 else self.old.faults) }

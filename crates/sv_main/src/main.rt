@@ -25,7 +25,7 @@ use sv_link::{OpenGate, TcpNet, ThreadCrew};
 use sv_serve::run_serve;
 use sv_snapshot::run_looks;
 
-/// The status of want of memory.
+/// The status where memory ran out.
 const MEMORY: u8 = 8;
 
 fn words(rt: &HostRuntime) -> io::Result<Vec<String>> {

@@ -114,7 +114,7 @@ impl Writers {
         list.first()
     }
 
-    /// Appends a position to the list of each object that an action writes. After want of memory the lists are as before.
+    /// Appends a position to the list of each object that an action writes. After running out of memory the lists are as before.
     pub fn add(&mut self, action: &Action, pos: u32) -> Result<(), AllocError>
         requires { CanWrite (length self.old) action.now }
         ensures ok { OnOk result (IsChangedAt [] (λ list. list ++ pos ∷ []) (write_set action.now) self.old self.new) }

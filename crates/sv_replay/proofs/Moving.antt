@@ -238,7 +238,7 @@ closed_moved p c d ready flags is =
 
 -- ---- Replies
 
--- A fault that is no want of memory is one of the reply.
+-- A fault other than running out of memory is one of the reply.
 refuses : (who : Identity) (t : List Event) (reply : Reply) (fault : TakeFault) → (fault ≡ faults.Memory → ⊥) → IsTakeFault who t reply fault →
     (f : Fault) × (first_fault_of_reply who t reply ≡ Some f)
 refuses who t reply faults.Unasked other is = (Unasked, is)
@@ -301,7 +301,7 @@ took_moved p q c b d reply fit linked joined h fine who es first left closed fla
       stopped = ap (λ (v : ExchangeView). v.stopped) sent ∙ ap (λ (v : ExchangeView). v.stopped) (sym h);
     })
 
--- A reply without a fault is refused for want of memory alone.
+-- A reply without a fault is refused only where memory runs out.
 pub takes_fine : (who : Identity) (t : List Event) (reply : Reply) (fault : TakeFault) → (fault ≡ faults.Memory → ⊥) → IsTakeFault who t reply fault → first_fault_of_reply who t reply ≡ None → ⊥
 takes_fine who t reply fault other is fine = let f = refuses who t reply fault other is in none-some f.0 (sym fine ∙ f.1)
 

@@ -75,7 +75,7 @@ fn show_again(alloc: Global, client: &mut Client, objects: &[ObjectId]) -> Resul
     client.note(Mark::Show(copy))
 }
 
-/// Does an event. Only want of memory can hinder it.
+/// Does an event. It fails only where memory runs out.
 pub(crate) fn do_again(alloc: Global, client: &mut Client, event: &Event) -> Result<(), AllocError>
     requires { MayDo client.old.who client.old.events event.now }
     ensures who { OnOk result (client.new.who ≡ client.old.who) }

@@ -28,7 +28,7 @@ fn append_report(
     append_world(played.commit, played.committed.as_slice(), out)
 }
 
-/// The report of what was played: the journal, what each client did, and the committed world. Only want of memory can hinder it.
+/// The report of what was played: the journal, what each client did, and the committed world. It fails only where memory runs out.
 ///
 /// Each client does its trace again, so that what it kept and saw at each event is told as it was then.
 pub fn report(alloc: Global, scenario: &Scenario, played: &Played) -> Result<String, AllocError>

@@ -1,4 +1,4 @@
-//! What is decided is done: whatever may fail for want of memory comes first.
+//! What is decided is done: whatever may run out of memory comes first.
 ghost use Rattle.std.specs.Prelude.{◌≡◌, ℕ, ◌+◌, ◌-◌, ◌<◌, ◌≤◌, false, [], ◌∷◌, ◌++◌, length, slice_index_or, IfOk, OnOk, OnErr};
 ghost use Rattle.sv_wire.specs.declared.message.Request.TheVariants as requests;
 ghost use Rattle.sv_journal.specs.declared.entry.Logged.TheVariants as logged;

@@ -48,7 +48,7 @@ fn results_of(request: &Request) -> &[Done1]
     }
 }
 
-/// Takes in a new action, with what a relay of it has. After want of memory the queue and the clients' rows are as before.
+/// Takes in a new action, with what a relay of it has. After running out of memory the queue and the clients' rows are as before.
 fn take_in(
     alloc: Global,
     queue: &mut Queue,

@@ -16,7 +16,7 @@ use sv_wire::{Reply, Request};
 impl Sequencer {
     /// Answers a request of a session, whose End comes at most once, and enters both into the journal.
     ///
-    /// After want of memory everything is as it was, but for room in the journal. An End takes no memory.
+    /// After running out of memory everything is as it was, but for room in the journal. An End takes no memory.
     pub fn step(&mut self, session: u16, request: &Request) -> Result<Reply, AllocError>
         requires session { session < self.old.rules.sessions }
         requires first { is_end request.now ≡ true → is_ended (history self.old) session ≡ false }

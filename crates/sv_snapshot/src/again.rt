@@ -75,7 +75,7 @@ fn show_again(alloc: Global, client: &mut Client, objects: &[ObjectId]) -> Resul
     client.note(Mark::Show(copy))
 }
 
-/// Does an event of a trace again, which the client may do next. Only want of memory can hinder it.
+/// Does an event of a trace again, which the client may do next. It fails only where memory runs out.
 ///
 /// The client counts its sessions from 0, whatever the session's number is in the trace.
 pub(crate) fn do_again(alloc: Global, client: &mut Client, event: &Event) -> Result<(), AllocError>
