@@ -17,7 +17,7 @@ use Rattle.sv_text.specs.declared.token.Token.{Token}
 use Rattle.sv_text.specs.declared.token.Token.TheVariants as tokens
 use Rattle.sv_text.specs.declared.token.Lexeme.{Lexeme}
 use Rattle.sv_text.specs.Tokens.{is_blank, digits_at, value_after, value_of, has_leading_zero, number_of, word_of, sign_of, sign_at, ref_of, ref_at, word_at, number_at, negative_at, token_at, is_joint, tokens_from}
-use Rattle.sv_text.specs.Printable.{is_i64}
+use Rattle.sv_world.specs.Ranges.{is_i64}
 use Rattle.sv_text.proofs.Lexing.{first, token_front}
 
 -- the tokens of what is left of a text
