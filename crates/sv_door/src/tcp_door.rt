@@ -11,7 +11,7 @@ use std::net::{Ipv4Addr, Net as Sockets, SocketAddr, TcpListener, TcpStream};
 use std::rt::Clock;
 use std::time::Duration;
 use std::{io, thread};
-use sv_link::{Side, TcpEnd, accept_again, connect_again};
+use sv_link::{Side, TcpEnd};
 
 /// Connections over TCP on this machine's loopback.
 ///
@@ -55,7 +55,7 @@ impl<'r, R: Sockets<Listener = TcpListener, Stream = TcpStream> + Clock> TcpDoor
         }
         match &self.bound {
             Some(bound) if bound.port == port => {
-                let stream = accept_again(&bound.listener)?;
+                let (stream, _) = bound.listener.accept()?;
                 stream.set_nodelay(true)?;
                 Ok(stream)
             }
@@ -145,7 +145,7 @@ fn connected_at_once<R: Sockets<Listener = TcpListener, Stream = TcpStream>>(
     rt: &R,
     port: u16,
 ) -> io::Result<TcpStream> {
-    let mut stream = connect_again(rt, SocketAddr::from((Ipv4Addr::LOCALHOST, port)))?;
+    let mut stream = TcpStream::connect(rt, SocketAddr::from((Ipv4Addr::LOCALHOST, port)))?;
     if stream.local_addr()? == stream.peer_addr()? {
         let _ = stream.write(&[0]);
         return Err(io::Error::from(ErrorKind::ConnectionRefused));

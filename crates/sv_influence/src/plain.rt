@@ -1,4 +1,4 @@
-ghost use Rattle.std.specs.Prelude.{◌≡◌, ℕ, ◌-◌, ◌<◌, ◌≤◌, ◌&&◌, ◌||◌, not, [], ◌∷◌, ◌++◌, map, filter, nat_eq, IfOk, OnOk, if◌then◌else◌};
+ghost use Rattle.std.specs.Prelude.{◌≡◌, ℕ, ◌+◌, ◌*◌, ◌-◌, ◌<◌, ◌≤◌, ◌&&◌, ◌||◌, not, [], ◌∷◌, ◌++◌, map, filter, nat_eq, IfOk, OnOk, if◌then◌else◌};
 ghost use Rattle.sv_world.specs.declared.world.ObjectId.{ObjectId};
 ghost use Rattle.sv_world.specs.Control.{is_in, below, action_at};
 ghost use Rattle.sv_world.specs.Sets.{read_set, write_set};
@@ -17,7 +17,7 @@ use sv_world::{List, ObjectId};
 /// The same as [`closure`](crate::closure), by a walk over the queue from the position downwards with the set of the objects that are
 /// still to be had. A position that writes one of them is an item, unless it was sent: then its objects leave the set.
 ///
-/// Its work grows with the queue. It is there to compare with.
+/// Its work grows with the queue: at most three look-ups for each position above the commit. It is there to compare with.
 pub fn plain_closure<L: Ledger>(
     alloc: Global,
     queue: &Queue,
@@ -28,6 +28,7 @@ pub fn plain_closure<L: Ledger>(
     requires { IsUncommitted queue.now pos }
     ensures items { IfOk result (λ c. c.items ≡ lacking queue.now session pos) }
     ensures head { IfOk result (λ c. map (λ (o : ObjectId). o.0) c.head ≡ base_objects queue.now session pos) }
+    ensures ticks { steps.new ≤ steps.old + 3 * (pos - queue.now.commit) }
 {
     let commit = queue.commit();
     let mut objects = ObjectSet::new();
@@ -56,7 +57,8 @@ fn is_wanted<L: Ledger>(
     steps: &mut Steps<L>,
 ) -> bool
     requires { IsUncommitted queue.now at }
-    ensures { result ≡ (nat_eq at pos || list_any (λ x. has_object objects.now.words x) (write_set (action_at (queue_actions queue.now) at))) }
+    ensures wanted { result ≡ (nat_eq at pos || list_any (λ x. has_object objects.now.words x) (write_set (action_at (queue_actions queue.now) at))) }
+    ensures ticks { steps.new ≡ steps.old + 1 }
 {
     let shape = queue.shape();
     prove!(shape.objects <= 4096);
@@ -76,6 +78,7 @@ fn visit<L: Ledger>(
     requires at { IsUncommitted queue.now at }
     ensures items { OnOk result (items.new.items ≡ (if is_in at (sent_positions queue.now session) then items.old.items else items.old.items ++ at ∷ [])) }
     ensures objects { OnOk result ((x : ℕ) → has_object objects.new.words x ≡ (if is_in at (sent_positions queue.now session) then has_object objects.old.words x && not (is_in x (write_set (action_at (queue_actions queue.now) at))) else is_in x (read_set (action_at (queue_actions queue.now) at)) || has_object objects.old.words x)) }
+    ensures ticks { steps.new ≡ steps.old + 2 }
 {
     let shape = queue.shape();
     prove!(shape.objects <= 4096);

@@ -27,5 +27,5 @@ pub use pipe::Pipe;
 pub use pipe_end::PipeEnd;
 pub use pipe_net::{PipeNet, copied_plan};
 pub use side::Side;
-pub use tcp::{TcpEnd, TcpNet, accept_again, connect_again};
+pub use tcp::{TcpEnd, TcpNet};
 pub use thread_crew::{FewCrew, ThreadCrew};

@@ -9,7 +9,7 @@ use crate::nets::{Net, Pair, Settle};
 use std::alloc::Global;
 use std::io;
 use std::io::{ErrorKind, Read, Write};
-use std::net::{Net as Sockets, Shutdown, SocketAddr, TcpListener, TcpStream};
+use std::net::{Net as Sockets, Shutdown, TcpListener, TcpStream};
 
 /// An end of a TCP connection.
 #[derive(Drop)]
@@ -163,8 +163,8 @@ fn connected<R: Sockets<Listener = TcpListener, Stream = TcpStream>>(
     rt: &R,
     listener: &TcpListener,
 ) -> io::Result<(TcpStream, TcpStream)> {
-    let client = connect_again(rt, listener.local_addr()?)?;
-    let server = accept_again(listener)?;
+    let client = TcpStream::connect(rt, listener.local_addr()?)?;
+    let (server, _) = listener.accept()?;
     let is_pair = server.peer_addr()? == client.local_addr()?
         && client.peer_addr()? == server.local_addr()?;
     if !is_pair {
@@ -177,32 +177,6 @@ fn connected<R: Sockets<Listener = TcpListener, Stream = TcpStream>>(
 
 // How often a call is made anew that a signal broke off.
 const TRIES: u32 = 1000;
-
-/// Connects to an address, anew where a signal broke the call off.
-pub fn connect_again<R: Sockets<Listener = TcpListener, Stream = TcpStream>>(
-    rt: &R,
-    address: SocketAddr,
-) -> io::Result<TcpStream> {
-    for _ in 1..TRIES {
-        match TcpStream::connect(rt, address) {
-            Err(error) if error.kind() == ErrorKind::Interrupted => {}
-            answer => return answer,
-        }
-    }
-    TcpStream::connect(rt, address)
-}
-
-/// Accepts a connection, anew where a signal broke the call off.
-pub fn accept_again(listener: &TcpListener) -> io::Result<TcpStream> {
-    for _ in 1..TRIES {
-        match listener.accept() {
-            Ok((stream, _)) => return Ok(stream),
-            Err(error) if error.kind() == ErrorKind::Interrupted => {}
-            Err(error) => return Err(error),
-        }
-    }
-    Err(io::Error::from(ErrorKind::Interrupted))
-}
 
 fn read_again(stream: &mut TcpStream, into: &mut [u8]) -> io::Result<usize>
     ensures { ReadsAtMost result into.new }

@@ -22,6 +22,7 @@ loop-at-init g c =
       high = omega arith;
       items = c.new-items.ensures.items ∙ sym (ap reverse none);
       objects = λ x. c.new-objects.ensures x ∙ sym (ap (λ (ks : List ℕ). reads_committed (queue_actions v) c.args.pos x ks) none);
+      ticks = omega arith;
     }
 
 pub loop-at-preserved : goal.loop-at-preserved
@@ -43,20 +44,24 @@ loop-at-preserved g c =
         | then-is_wanted+in_ok-visit w ↦
             ap (λ (u : Vec ℕ Global). u.items) w.items-is
             ∙ (visited v s pos at f (has_object w.visit.new.objects.words) c.loop-at.items.items w.visit.new.items.items low high c.loop-at.invariant.objects
-            (sym c.is_wanted.ensures ∙ w.if-is_wanted.true) w.in_ok-visit.ensures.items w.in_ok-visit.ensures.objects c.loop-at.invariant.items).0
+            (sym c.is_wanted.ensures.wanted ∙ w.if-is_wanted.true) w.in_ok-visit.ensures.items w.in_ok-visit.ensures.objects c.loop-at.invariant.items).0
         | else-is_wanted w ↦
             ap (λ (u : Vec ℕ Global). u.items) w.items-is
-            ∙ (passed v s pos at f c.loop-at.items.items low high c.loop-at.invariant.objects (sym c.is_wanted.ensures ∙ w.if-is_wanted.false) c.loop-at.invariant.items).0
+            ∙ (passed v s pos at f c.loop-at.items.items low high c.loop-at.invariant.objects (sym c.is_wanted.ensures.wanted ∙ w.if-is_wanted.false) c.loop-at.invariant.items).0
       ];
       objects = elim c.if-is_wanted.branch [
         | then-is_wanted+in_ok-visit w ↦ (λ x.
             ap (λ (o : ObjectSet). has_object o.words x) w.objects-is
             ∙ (visited v s pos at f (has_object w.visit.new.objects.words) c.loop-at.items.items w.visit.new.items.items low high c.loop-at.invariant.objects
-            (sym c.is_wanted.ensures ∙ w.if-is_wanted.true) w.in_ok-visit.ensures.items w.in_ok-visit.ensures.objects c.loop-at.invariant.items).1 x)
+            (sym c.is_wanted.ensures.wanted ∙ w.if-is_wanted.true) w.in_ok-visit.ensures.items w.in_ok-visit.ensures.objects c.loop-at.invariant.items).1 x)
         | else-is_wanted w ↦ (λ x.
             ap (λ (o : ObjectSet). has_object o.words x) w.objects-is
-            ∙ (passed v s pos at f c.loop-at.items.items low high c.loop-at.invariant.objects (sym c.is_wanted.ensures ∙ w.if-is_wanted.false) c.loop-at.invariant.items).1 x)
+            ∙ (passed v s pos at f c.loop-at.items.items low high c.loop-at.invariant.objects (sym c.is_wanted.ensures.wanted ∙ w.if-is_wanted.false) c.loop-at.invariant.items).1 x)
       ];
+      ticks = (let was = c.loop-at.invariant.ticks in let one = c.is_wanted.ensures.ticks in elim c.if-is_wanted.branch [
+        | then-is_wanted+in_ok-visit w ↦ (let two = w.visit.ensures.ticks in let is = w.steps-is in omega arith)
+        | else-is_wanted w ↦ (let is = w.steps-is in omega arith)
+      ]);
     }
 
 pub returns-clause-items : goal.returns-clause-items

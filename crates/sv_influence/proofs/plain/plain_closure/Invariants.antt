@@ -1,4 +1,4 @@
-use Rattle.std.proofs.Common.{◌≡◌, ◌≤◌, reverse}
+use Rattle.std.proofs.Common.{◌≡◌, ◌≤◌, ◌+◌, ◌*◌, reverse}
 use Rattle.sv_influence.specs.Lacking.{lacking}
 use Rattle.sv_influence.specs.Objects.{has_object}
 use Rattle.sv_influence.proofs.Counts.{above}
@@ -12,6 +12,7 @@ invariant-loop-at g l = record {
   high : l.at ≤ l.pos;
   items : l.items.items ≡ reverse (above l.at (lacking l.queue l.session l.pos));
   objects : AreToBeHad l.queue l.session l.pos l.at (has_object l.objects.words);
+  ticks : l.steps + 3 * l.at ≤ l.fn.steps + 3 * l.pos;
 }
 
 abbrev pub decreases-loop-at : goal.decreases-loop-at
