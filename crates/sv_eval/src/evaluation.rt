@@ -25,7 +25,7 @@ fn evaluate(alloc: Global, action: &Action, values: &[Value]) -> Result<Outcome,
 {
     let mut slots = copy_values(alloc, values)?.into_vec();
     if run_body(&action.body, slots.as_mut_slice()) {
-        let writes = copy_masked(alloc, action.mask, slots.as_slice())?;
+        let writes = take_masked(alloc, action.mask, slots)?;
         Ok(Outcome {
             void: false,
             writes,
@@ -47,4 +47,17 @@ fn copy_masked(alloc: Global, mask: u16, values: &[Value]) -> Result<List<Value>
         }
     }
     Ok(copies)
+}
+
+/// The values at the slots in the mask, out of all.
+fn take_masked(alloc: Global, mask: u16, slots: Vec<Value>) -> Result<List<Value>, AllocError>
+    ensures { IfOk result (λ taken. taken ≡ at_mask mask 0 slots.items) }
+{
+    let mut taken = List::new(alloc);
+    for (place, value) in slots.into_iter().enumerate() {
+        if is_in_mask(mask, place) {
+            taken.push(value)?;
+        }
+    }
+    Ok(taken)
 }
