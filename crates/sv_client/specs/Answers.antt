@@ -36,7 +36,7 @@ abbrev pub IsPollFault : Identity → List Event → PollFault → Type 0
 IsPollFault who t poll_faults.Busy = length (outstanding who t) ≡ 16
 IsPollFault who t poll_faults.Memory = Unit {0}
 
--- A reply was not taken: for the first of its faults, or for memory ran out.
+-- A reply was not taken: for the first of its faults, or because memory ran out.
 abbrev pub IsTakeFault : Identity → List Event → Reply → TakeFault → Type 0
 IsTakeFault who t reply fault = IfSome (fault_named fault) (λ f. first_fault_of_reply who t reply ≡ Some f)
 
