@@ -2,7 +2,6 @@
 use Rattle.std.proofs.Common.{◌≡◌, ℕ, Bool, true, ◌&&◌, [], ◌∷◌}
 use Rattle.sv_world.specs.Short.{stmt_is_short_step, stmt_is_short, has_short_blocks}
 use Rattle.sv_world.specs.declared.action.Expr.{Expr}
-use Rattle.sv_world.specs.declared.action.Expr.TheVariants as expr
 use Rattle.sv_world.specs.declared.action.Stmt.TheVariants as stmt
 use Rattle.sv_world.proofs.Layers.{set_fold}
 use Rattle.sv_gen.specs.Generated.{taken, added}
