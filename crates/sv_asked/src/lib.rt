@@ -1,6 +1,8 @@
-//! What honest clients ask, and what they are replied, are messages.
+//! What honest clients ask, and what they are replied, are messages; and the numbers of a scenario are those of their types.
 #![tactic(auto)]
 
 mod laws;
+mod numbers;
 
 pub use laws::{accepted_are_few, replies_are_messages, requests_are_messages};
+pub use numbers::read_scenario_numbers;

@@ -8,8 +8,7 @@ use std::alloc::Global;
 use std::marker::Model;
 use sv_exchange::{Inbox, Incoming, Outbox};
 use sv_link::{End, EndRead, Sent};
-use sv_numbers::read_request;
-use sv_wire::{Reply, Request};
+use sv_wire::{Reply, Request, read_request};
 
 /// A connection. Contracts see what its end tells, which is open.
 #[derive(Drop)]

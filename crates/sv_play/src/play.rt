@@ -19,7 +19,7 @@ use std::sync::Wait;
 use std::thread::Threads;
 use sv_link::{Crew, Gate, Net, Ran};
 use sv_lock::{Pass, SeqLock};
-use sv_numbers::read_scenario_numbers;
+use sv_asked::read_scenario_numbers;
 use sv_scenario::{Scenario, sessions_of};
 use sv_sequencer::Sequencer;
 use sv_watch::{Line, Watch};

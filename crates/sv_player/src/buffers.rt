@@ -10,8 +10,7 @@ use std::alloc::{AllocError, Global};
 use sv_exchange::Outbox;
 use sv_frame::{FrameReader, Next};
 use sv_link::{End, EndRead, Sent};
-use sv_numbers::read_request;
-use sv_wire::Request;
+use sv_wire::{Request, read_request};
 
 /// What came and was not taken yet, and what is to be sent.
 #[derive(Drop)]

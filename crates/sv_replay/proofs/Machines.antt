@@ -17,7 +17,7 @@ use Rattle.sv_scenario.specs.declared.scenario.Turn.{Turn}
 use Rattle.sv_scenario.specs.declared.scenario.Turn.TheVariants as turns
 use Rattle.sv_scenario.specs.Limits.{IsGoodScenario, IsGoodTurn}
 use Rattle.sv_scenario.specs.Sessions.{sessions_of_plan, session_count}
-use Rattle.sv_numbers.specs.Numbers.{ScenarioFits}
+use Rattle.sv_asked.specs.Numbers.{ScenarioFits}
 use Rattle.sv_script.specs.Following.{must_join}
 use Rattle.sv_sequencer.specs.Step.{SequencerView, history}
 use Rattle.sv_system.specs.Fits.{replies_in}

@@ -26,7 +26,7 @@ use Rattle.sv_scenario.specs.declared.scenario.Step.{Step}
 use Rattle.sv_scenario.specs.declared.scenario.Step.TheVariants as steps
 use Rattle.sv_scenario.specs.Limits.{IsGoodScenario}
 use Rattle.sv_scenario.specs.Sessions.{sessions_of_plan, session_count}
-use Rattle.sv_numbers.specs.Numbers.{StepFits, PlanFits, ScenarioFits}
+use Rattle.sv_asked.specs.Numbers.{StepFits, PlanFits, ScenarioFits}
 use Rattle.sv_script.specs.Following.{DoesStep, FollowsTo, after_syncs, passed_syncs, event_of}
 use Rattle.sv_system.specs.Fits.{requests_in}
 use Rattle.sv_system.proofs.Histories.{IsEarlier, same, earlier-rest}

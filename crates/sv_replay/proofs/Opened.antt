@@ -10,7 +10,7 @@ use Rattle.sv_scenario.specs.declared.scenario.Plan.{Plan}
 use Rattle.sv_scenario.specs.declared.scenario.Scenario.{Scenario}
 use Rattle.sv_scenario.specs.Limits.{IsGoodScenario}
 use Rattle.sv_scenario.specs.Sessions.{sessions_of_plan, sessions_in, session_count}
-use Rattle.sv_numbers.specs.Numbers.{ScenarioFits}
+use Rattle.sv_asked.specs.Numbers.{ScenarioFits}
 use Rattle.sv_schedule.specs.Schedule.{Player, Run, rules_of, players_from, opening_run, asked_in_run, closed_by}
 use Rattle.sv_schedule.specs.Sound.{IsSound}
 use Rattle.sv_schedule.proofs.SoundLaws.{opening-sound}

@@ -8,7 +8,7 @@ use Rattle.sv_client.specs.Seen.{raised, newly_asked}
 use Rattle.sv_scenario.specs.declared.scenario.Step.{Step}
 use Rattle.sv_scenario.specs.Limits.{IsGoodScenario}
 use Rattle.sv_scenario.specs.Sessions.{session_count}
-use Rattle.sv_numbers.specs.Numbers.{ScenarioFits}
+use Rattle.sv_asked.specs.Numbers.{ScenarioFits}
 use Rattle.sv_script.specs.Following.{must_join, is_welcomed}
 use Rattle.sv_journal.specs.Answer.{Rules}
 use Rattle.sv_schedule.specs.Schedule.{Player, Run, rules_of, session_turns, at_player, take_turns}

@@ -12,7 +12,7 @@ use crate::playing::Playing;
 use std::alloc::{AllocError, Global};
 use sv_client::Client;
 use sv_exchange::Exchange;
-use sv_numbers::read_scenario_numbers;
+use sv_asked::read_scenario_numbers;
 use sv_scenario::{Plan, Scenario, sessions_of, sessions_of_plan};
 use sv_sequencer::Sequencer;
 use sv_world::{ClientId, Shape, World, copy_objects, copy_values};

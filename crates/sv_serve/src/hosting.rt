@@ -17,7 +17,7 @@ use sv_door::Door;
 use sv_journal::{full_replies_stay, legal_relays_name_accepted};
 use sv_link::{Crew, Gate, Ran};
 use sv_lock::{Pass, SeqLock};
-use sv_numbers::read_scenario_numbers;
+use sv_asked::read_scenario_numbers;
 use sv_play::PlayFault;
 use sv_replay::open_sequencer;
 use sv_scenario::{Scenario, sessions_of};

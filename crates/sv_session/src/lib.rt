@@ -1,7 +1,6 @@
 //! One session of the server: its loop reads a client's frames, has the sequencer answer each request in turn, and writes the replies.
 #![tactic(auto)]
 
-mod numbers;
 mod outcome;
 mod posting;
 mod reading;

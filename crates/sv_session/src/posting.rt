@@ -7,12 +7,11 @@ ghost use Rattle.sv_sequencer.specs.Shared.{logged_of};
 ghost use Rattle.sv_session.specs.Requests.{stop_for_code, stop_of};
 ghost use Rattle.sv_session.specs.Answers.{IsPosted, RoundCause};
 
-use crate::numbers::read_reply;
 use crate::outcome::SessionOut;
 use std::alloc::Global;
 use sv_exchange::Outbox;
 use sv_link::{End, Sent};
-use sv_wire::Reply;
+use sv_wire::{Reply, read_reply};
 
 /// Why a session stops after a refusal of this code, if it does.
 fn stop_for_refusal(code: u8) -> Option<SessionOut>

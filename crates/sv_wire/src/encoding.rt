@@ -1,5 +1,5 @@
 //! Encoding messages.
-ghost use Rattle.std.specs.Prelude.{◌≡◌, ◌≤◌, ◌++◌, ◌∷◌, length, All, IfOk, OnOk, Ok};
+ghost use Rattle.std.specs.Prelude.{◌≡◌, ◌≤◌, [], ◌++◌, ◌∷◌, length, All, IfOk, OnOk, OnErr, Ok};
 ghost use Rattle.std.specs.List.{flat_map};
 ghost use Rattle.byteorder.specs.Endian.{big_bytes};
 ghost use Rattle.sv_wire.specs.declared.message.Reply.TheVariants as reply;
@@ -171,6 +171,61 @@ fn put_reply(out: &mut Vec<u8>, reply: &Reply) -> Result<(), AllocError>
     }
 }
 
+fn write_request(out: &mut Vec<u8>, request: &Request) -> Result<(), AllocError>
+    requires message { IsWireRequest request.now }
+    requires empty { out.old.items ≡ [] }
+    ensures bytes { OnOk result (out.new.items ≡ request_bytes request.now) }
+    ensures read_back { OnOk result (request_at out.new.items ≡ Ok request.now) }
+{
+    put_request(out, request)?;
+    read_request(request);
+    Ok(())
+}
+
+/// Writes the payload of a request, which is not `Bad` or `End`, in place of what `out` holds. Its lists keep the limits of the format.
+/// Where memory runs out, `out` is empty.
+pub fn encode_request_into(out: &mut Vec<u8>, request: &Request) -> Result<(), AllocError>
+    requires { IsWireRequest request.now }
+    ensures bytes { OnOk result (out.new.items ≡ request_bytes request.now) }
+    // It is decoded as the request.
+    ensures read_back { OnOk result (request_at out.new.items ≡ Ok request.now) }
+    ensures err { OnErr result (out.new.items ≡ []) }
+{
+    out.clear();
+    let written = write_request(out, request);
+    if written.is_err() {
+        out.clear();
+    }
+    written
+}
+
+fn write_reply(out: &mut Vec<u8>, reply: &Reply) -> Result<(), AllocError>
+    requires message { IsWireReply reply.now }
+    requires empty { out.old.items ≡ [] }
+    ensures bytes { OnOk result (out.new.items ≡ reply_bytes reply.now) }
+    ensures read_back { OnOk result (reply_at out.new.items ≡ Ok reply.now) }
+{
+    put_reply(out, reply)?;
+    read_reply(reply);
+    Ok(())
+}
+
+/// Writes the payload of a reply in place of what `out` holds. Its lists keep the limits of the format. Where memory runs out, `out` is empty.
+pub fn encode_reply_into(out: &mut Vec<u8>, reply: &Reply) -> Result<(), AllocError>
+    requires { IsWireReply reply.now }
+    ensures bytes { OnOk result (out.new.items ≡ reply_bytes reply.now) }
+    // It is decoded as the reply.
+    ensures read_back { OnOk result (reply_at out.new.items ≡ Ok reply.now) }
+    ensures err { OnErr result (out.new.items ≡ []) }
+{
+    out.clear();
+    let written = write_reply(out, reply);
+    if written.is_err() {
+        out.clear();
+    }
+    written
+}
+
 /// The payload of a request, which is not `Bad` or `End`. Its lists keep the limits of the format.
 pub fn encode_request(alloc: Global, request: &Request) -> Result<Vec<u8>, AllocError>
     requires { IsWireRequest request.now }
@@ -179,8 +234,7 @@ pub fn encode_request(alloc: Global, request: &Request) -> Result<Vec<u8>, Alloc
     ensures read_back { IfOk result (λ payload. request_at payload.items ≡ Ok request.now) }
 {
     let mut out = Vec::with_capacity(alloc, ROOM)?;
-    put_request(&mut out, request)?;
-    read_request(request);
+    encode_request_into(&mut out, request)?;
     Ok(out)
 }
 
@@ -192,7 +246,6 @@ pub fn encode_reply(alloc: Global, reply: &Reply) -> Result<Vec<u8>, AllocError>
     ensures read_back { IfOk result (λ payload. reply_at payload.items ≡ Ok reply.now) }
 {
     let mut out = Vec::with_capacity(alloc, ROOM)?;
-    put_reply(&mut out, reply)?;
-    read_reply(reply);
+    encode_reply_into(&mut out, reply)?;
     Ok(out)
 }

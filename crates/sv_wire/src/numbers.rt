@@ -60,7 +60,8 @@ fn read_value(value: &Value)
     read_numbers(value.as_slice());
 }
 
-fn read_values(values: &[Value])
+/// The numbers of values are those of their type.
+pub fn read_values(values: &[Value])
     ensures { All ValueFits values.now }
 {
     for value in values {
@@ -98,7 +99,8 @@ fn read_results(results: &[Done1])
     }
 }
 
-fn read_action(action: &Action)
+/// The numbers of an action are those of their types.
+pub fn read_action(action: &Action)
     ensures { ActionFits action.now }
 {
     read_objects(action.reads.as_slice());
@@ -124,6 +126,7 @@ fn read_items(items: &[Item])
     }
 }
 
+/// The numbers of a request are those of their types.
 pub fn read_request(request: &Request)
     ensures { RequestFits request.now }
 {
@@ -146,6 +149,7 @@ pub fn read_request(request: &Request)
     }
 }
 
+/// The numbers of a reply are those of their types.
 pub fn read_reply(reply: &Reply)
     ensures { ReplyFits reply.now }
 {

@@ -6,7 +6,6 @@ mod bytes;
 #[cfg(test)]
 mod loads;
 #[cfg(test)]
-mod numbers;
 #[cfg(test)]
 mod scenario;
 #[cfg(test)]

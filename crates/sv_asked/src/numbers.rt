@@ -1,34 +1,10 @@
-//! The numbers of scenarios.
-ghost use Rattle.std.specs.Prelude.{All, FitsSigned};
-ghost use Rattle.std.specs.Int.{w64};
-ghost use Rattle.sv_wire.specs.Ranges.{ValueFits};
-ghost use Rattle.sv_numbers.specs.Numbers.{StepFits, PlanFits, ScenarioFits};
+//! That the numbers which a scenario holds are those of their types. They always are, but contracts know it only of a value that is read. So
+//! these functions read all numbers, and do nothing else.
+ghost use Rattle.std.specs.Prelude.{All};
+ghost use Rattle.sv_asked.specs.Numbers.{StepFits, PlanFits, ScenarioFits};
 
-use crate::actions::read_action;
 use sv_scenario::{Plan, Scenario, Step};
-use sv_world::Value;
-
-fn read_numbers(numbers: &[i64])
-    ensures { All (FitsSigned w64) numbers.now }
-{
-    for number in numbers {
-        let _number = *number;
-    }
-}
-
-fn read_value(value: &Value)
-    ensures { ValueFits value.now }
-{
-    read_numbers(value.as_slice());
-}
-
-pub(crate) fn read_values(values: &[Value])
-    ensures { All ValueFits values.now }
-{
-    for value in values {
-        read_value(value);
-    }
-}
+use sv_wire::{read_action, read_values};
 
 fn read_step(step: &Step)
     ensures { StepFits step.now }

@@ -1,7 +1,0 @@
-use Rattle.std.proofs.Common.{ℕ, ◌<◌, get_or}
-use Rattle.sv_wire.specs.declared.message.Item.{Item}
-use Rattle.sv_wire.specs.Ranges.{ItemFits}
-use Rattle.sv_session.proofs.numbers.read_items.Given as goal
-
-abbrev pub invariant-loop-item : goal.invariant-loop-item
-invariant-loop-item l = (k : ℕ) (d : Item) → k < l.item-index → ItemFits (get_or l.items k d)
