@@ -1,6 +1,6 @@
 -- Payloads are short, and are read as their messages.
 use Rattle.std.proofs.Common.{◌≡◌, ℕ, ◌≤◌, List, [], ◌∷◌, ◌++◌, length, Result, Ok, Err, refl, ap, arith, length-append}
-use Rattle.std.specs.Prelude.{IfOk}
+use Rattle.std.specs.Prelude.{OnOk}
 use Rattle.std.specs.Global.{Vec}
 use Rattle.std.specs.Vec.{vec_len}
 use Rattle.sv_wire.specs.declared.fault.WireCause.TheVariants.{Rest}
@@ -44,6 +44,6 @@ pub replies_spelled : Spells IsReply reply_bytes reply_at
 replies_spelled = record { back = λ m is. reply_is_read m is.within is.fits; fits = reply_short }
 
 -- what was encoded is as short as its bytes
-pub encoded_short : {F : Type 0} (r : Result (Vec ℕ) F) (bytes : List ℕ) → IfOk r (λ payload. payload.items ≡ bytes) → length bytes ≤ 65536 → IfOk r (λ payload. vec_len payload ≤ 65536)
-encoded_short (Ok payload) bytes is short = omega (arith, payload.ok.0, ap length is)
-encoded_short (Err f) bytes is short = tt
+pub encoded_short : {A F : Type 0} (r : Result A F) (payload : Vec ℕ Global) (bytes : List ℕ) → OnOk r (payload.items ≡ bytes) → length bytes ≤ 65536 → OnOk r (vec_len payload ≤ 65536)
+encoded_short (Ok done) payload bytes is short = omega (arith, payload.ok.0, ap length is)
+encoded_short (Err f) payload bytes is short = tt

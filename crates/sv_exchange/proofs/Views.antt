@@ -9,6 +9,7 @@ use Rattle.sv_wire.specs.declared.message.Reply.{Reply}
 use Rattle.sv_wire.specs.Laws.{IsRequest, IsReply}
 use Rattle.sv_wire.specs.Messages.{request_at, reply_at}
 use Rattle.sv_wire.specs.Spelling.{request_bytes, reply_bytes}
+use Rattle.sv_exchange.specs.declared.carrying.Buffers.{Buffers}
 use Rattle.sv_exchange.specs.declared.exchange.Exchange.TheInside.{Inside}
 use Rattle.sv_exchange.specs.Streams.{IsReadOn, IsSameLink, Wrote}
 use Rattle.sv_exchange.specs.Carried.{waiting, TakesFirst}
@@ -25,7 +26,14 @@ same_view q q' p p' a a' b b' e f g h = cc
 
 -- with another link
 abbrev pub with_link : Inside → LinkView → Inside
-with_link e link = record { alloc = e.alloc; link = link; server = e.server; client = e.client }
+with_link e link = record { alloc = e.alloc; link = link; server = e.server; client = e.client; buffers = e.buffers }
+
+-- with other buffers, which no one sees
+abbrev pub with_buffers : Inside → Buffers → Inside
+with_buffers e buffers = record { alloc = e.alloc; link = e.link; server = e.server; client = e.client; buffers = buffers }
+
+pub buffers_kept : (e : Inside) (buffers : Buffers) → IsExchange e → IsExchange (with_buffers e buffers)
+buffers_kept e buffers is = record { requests = is.requests; replies = is.replies }
 
 -- ---- The same is left of the link
 
@@ -67,7 +75,7 @@ reply_sent e link m is message wrote =
 -- ---- The first that waits is taken
 
 abbrev pub server_read : Inside → LinkView → List ℕ → Inside
-server_read e link server = record { alloc = e.alloc; link = link; server = server; client = e.client }
+server_read e link server = record { alloc = e.alloc; link = link; server = server; client = e.client; buffers = e.buffers }
 
 pub request_taken : {F : Type 0} (e : Inside) (link : LinkView) (server : List ℕ) (r : Result (Option Request) F) → IsReadOn e.link link Server →
     IfOk r (λ answer. TakesFirst answer (waiting request_at e.server e.link.client) (waiting request_at server link.client)) →
@@ -85,7 +93,7 @@ request_stays e link server (Err f) on same =
     same_view _ _ _ _ _ _ _ _ same (ap (waiting reply_at e.client) on.own) on.closed (ap (λ (x : SideView). x.closed) on.own)
 
 abbrev pub client_read : Inside → LinkView → List ℕ → Inside
-client_read e link client = record { alloc = e.alloc; link = link; server = e.server; client = client }
+client_read e link client = record { alloc = e.alloc; link = link; server = e.server; client = client; buffers = e.buffers }
 
 pub reply_taken : {F : Type 0} (e : Inside) (link : LinkView) (client : List ℕ) (r : Result (Option Reply) F) → IsReadOn e.link link Client →
     IfOk r (λ answer. TakesFirst answer (waiting reply_at e.client e.link.server) (waiting reply_at client link.server)) →

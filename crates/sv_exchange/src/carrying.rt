@@ -12,9 +12,26 @@ use std::alloc::{AllocError, Global};
 use sv_frame::put_frame;
 use sv_link::{MemLink, Side};
 
+/// Room for the message that is being sent, which is kept from one to the next.
+#[derive(Drop)]
+pub(crate) struct Buffers {
+    payload: Vec<u8>,
+    framed: Vec<u8>,
+}
+
+impl Buffers {
+    pub(crate) fn new(alloc: Global) -> Buffers {
+        Buffers {
+            payload: Vec::new(alloc),
+            framed: Vec::new(alloc),
+        }
+    }
+}
+
 /// Sends a message for a side. Without memory nothing is sent.
 pub(crate) fn send<M: Message>(
     alloc: Global,
+    buffers: &mut Buffers,
     link: &mut MemLink,
     side: Side,
     message: &M,
@@ -23,11 +40,11 @@ pub(crate) fn send<M: Message>(
     ensures ok { OnOk result (Wrote link.old link.new side (frame (M.spelled message.now))) }
     ensures err { OnErr result (IsSameLink link.old link.new) }
 {
-    let payload = message.encode(alloc)?;
-    let mut framed = Vec::new(alloc);
-    put_frame(&payload, &mut framed)?;
+    message.encode_into(&mut buffers.payload)?;
+    buffers.framed.clear();
+    put_frame(&buffers.payload, &mut buffers.framed)?;
     renew(alloc, link);
-    link.write(side, &framed)
+    link.write(side, &buffers.framed)
 }
 
 /// Takes the first message that waits for a side, where one does. Without memory none is taken.

@@ -3,7 +3,7 @@ ghost use Rattle.std.specs.Prelude.{◌≡◌, false, true, [], ◌∷◌, ◌++
 ghost use Rattle.sv_wire.specs.Laws.{IsRequest, IsReply};
 ghost use Rattle.sv_exchange.specs.View.{new_exchange, TakesRequest, TakesReply};
 
-use crate::carrying::{send, take};
+use crate::carrying::{Buffers, send, take};
 use crate::inbox::Inbox;
 use std::alloc::{AllocError, Global};
 use std::marker::Model;
@@ -22,6 +22,7 @@ pub struct Exchange {
     link: MemLink,
     server: Inbox,
     client: Inbox,
+    buffers: Buffers,
 }
 
 impl Model for Exchange {
@@ -51,6 +52,7 @@ impl Exchange {
             link: MemLink::new(alloc),
             server: Inbox::new(alloc)?,
             client: Inbox::new(alloc)?,
+            buffers: Buffers::new(alloc),
         })
     }
 
@@ -61,7 +63,13 @@ impl Exchange {
         ensures ok { OnOk result (self.new ≡ record self.old { requests = self.old.requests ++ request.now ∷ [] }) }
         ensures err { OnErr result (self.new ≡ self.old) }
     {
-        send(self.alloc, &mut self.link, Side::Client, request)
+        send(
+            self.alloc,
+            &mut self.buffers,
+            &mut self.link,
+            Side::Client,
+            request,
+        )
     }
 
     /// The server sends a reply. Without memory nothing is sent.
@@ -71,7 +79,13 @@ impl Exchange {
         ensures ok { OnOk result (self.new ≡ record self.old { replies = self.old.replies ++ reply.now ∷ [] }) }
         ensures err { OnErr result (self.new ≡ self.old) }
     {
-        send(self.alloc, &mut self.link, Side::Server, reply)
+        send(
+            self.alloc,
+            &mut self.buffers,
+            &mut self.link,
+            Side::Server,
+            reply,
+        )
     }
 
     /// The server takes the first request that waits, where one does. Without memory none is taken.

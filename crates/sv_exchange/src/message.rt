@@ -1,5 +1,5 @@
 //! The two kinds of message: requests, which clients send, and replies, which the server sends.
-ghost use Rattle.std.specs.Prelude.{◌≡◌, ◌≤◌, List, ℕ, Result, Ok, IfOk, length};
+ghost use Rattle.std.specs.Prelude.{◌≡◌, ◌≤◌, List, [], ℕ, Result, Ok, OnOk, OnErr, length};
 ghost use Rattle.std.specs.Vec.{vec_len};
 ghost use Rattle.sv_wire.specs.declared.fault.Malformed as wire;
 ghost use Rattle.sv_wire.specs.declared.message.Request as requests;
@@ -10,7 +10,7 @@ ghost use Rattle.sv_wire.specs.Spelling.{request_bytes, reply_bytes};
 
 use std::alloc::{AllocError, Global};
 use sv_wire::{
-    Reply, Request, WireFault, decode_reply, decode_request, encode_reply, encode_request,
+    Reply, Request, WireFault, decode_reply, decode_request, encode_reply_into, encode_request_into,
 };
 
 /// A kind of message that is sent as the payload of a frame.
@@ -28,11 +28,12 @@ pub trait Message: Drop {
     fn decode(alloc: Global, payload: &[u8]) -> Result<Self, WireFault>
         ensures { Decodes result (read_at payload.now) };
 
-    /// The payload of a message.
-    fn encode(&self, alloc: Global) -> Result<Vec<u8>, AllocError>
+    /// Writes the payload of a message in place of what `out` holds. Where memory runs out, `out` is empty.
+    fn encode_into(&self, out: &mut Vec<u8>) -> Result<(), AllocError>
         requires { is_message self.now }
-        ensures bytes { IfOk result (λ payload. payload.items ≡ spelled self.now) }
-        ensures short { IfOk result (λ payload. vec_len payload ≤ 65536) };
+        ensures bytes { OnOk result (out.new.items ≡ spelled self.now) }
+        ensures short { OnOk result (vec_len out.new ≤ 65536) }
+        ensures err { OnErr result (out.new.items ≡ []) };
 
     /// Each message is read back from its payload, and has a frame. It does nothing.
     fn is_read_back()
@@ -51,8 +52,8 @@ impl Message for Request {
         decode_request(alloc, payload)
     }
 
-    fn encode(&self, alloc: Global) -> Result<Vec<u8>, AllocError> {
-        encode_request(alloc, self)
+    fn encode_into(&self, out: &mut Vec<u8>) -> Result<(), AllocError> {
+        encode_request_into(out, self)
     }
 
     fn is_read_back() {}
@@ -69,8 +70,8 @@ impl Message for Reply {
         decode_reply(alloc, payload)
     }
 
-    fn encode(&self, alloc: Global) -> Result<Vec<u8>, AllocError> {
-        encode_reply(alloc, self)
+    fn encode_into(&self, out: &mut Vec<u8>) -> Result<(), AllocError> {
+        encode_reply_into(out, self)
     }
 
     fn is_read_back() {}

@@ -12,10 +12,11 @@ use sv_link::{End, Sent, send_all};
 
 /// Messages that are to be sent together. Contracts see the bytes of their frames.
 ///
-/// Its room, for one frame of the greatest length, is taken once, by `new`.
+/// Its room, for one frame of the greatest length, is taken once, by `new`. Each payload is written into one buffer, which grows to the longest.
 #[derive(Drop)]
 pub struct Outbox {
     bytes: Vec<u8>,
+    payload: Vec<u8>,
 }
 
 impl Model for Outbox {
@@ -36,23 +37,24 @@ impl Outbox {
     {
         Ok(Outbox {
             bytes: Vec::with_capacity(alloc, ROOM)?,
+            payload: Vec::new(alloc),
         })
     }
 
     /// Puts a message's frame behind what waits. Where it does not fit, what waits is sent first.
-    pub fn put<M: Message, E: End>(&mut self, alloc: Global, message: &M, end: &mut E) -> Sent
+    pub fn put<M: Message, E: End>(&mut self, message: &M, end: &mut E) -> Sent
         requires open { (E.told end.old).closed ≡ false }
         requires message { M.is_message message.now }
         ensures posts { Posts (E.told end.old) self.old (frame (M.spelled message.now)) result (E.told end.new) self.new }
         ensures cause { SentCause (E.faults end.old) (E.faults end.new) result }
         ensures calm { E.calm end.old → (result ≢ Sent.Failed) × E.calm end.new }
     {
-        let Ok(payload) = message.encode(alloc) else {
+        if message.encode_into(&mut self.payload).is_err() {
             return Sent::Memory;
-        };
-        match self.make_room(PREFIX + payload.len(), end) {
+        }
+        match self.make_room(PREFIX + self.payload.len(), end) {
             Sent::Whole => {
-                put_frame(&payload, &mut self.bytes).unwrap();
+                put_frame(&self.payload, &mut self.bytes).unwrap();
                 Sent::Whole
             }
             Sent::Failed => Sent::Failed,

@@ -64,7 +64,7 @@ impl<E: End> Connection<E> {
             return Err(Trouble::Reply);
         }
         read_request(request);
-        whole(self.outbox.put(self.alloc, request, &mut self.end))
+        whole(self.outbox.put(request, &mut self.end))
     }
 
     /// Puts requests behind those that wait to be sent.

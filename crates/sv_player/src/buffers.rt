@@ -47,7 +47,7 @@ impl Buffers {
     }
 
     /// Puts the frame of a request behind what waits to be sent.
-    pub(crate) fn post<E: End>(&mut self, alloc: Global, request: &Request, end: &mut E) -> Sent
+    pub(crate) fn post<E: End>(&mut self, request: &Request, end: &mut E) -> Sent
         requires open { (E.told end.old).closed ≡ false }
         requires message { IsWireRequest request.now }
         ensures posts { IsPosted result (E.told end.old) self.old.outbox (request_frames (request.now ∷ [])) (E.told end.new) self.new.outbox }
@@ -58,16 +58,11 @@ impl Buffers {
         ensures calm { E.calm end.old → (result ≢ Sent.Failed) × E.calm end.new }
     {
         read_request(request);
-        self.outbox.put(alloc, request, end)
+        self.outbox.put(request, end)
     }
 
     /// Puts the frames of requests behind what waits to be sent.
-    pub(crate) fn post_all<E: End>(
-        &mut self,
-        alloc: Global,
-        requests: &[Request],
-        end: &mut E,
-    ) -> Sent
+    pub(crate) fn post_all<E: End>(&mut self, requests: &[Request], end: &mut E) -> Sent
         requires open { (E.told end.old).closed ≡ false }
         requires messages { All IsWireRequest requests.now }
         ensures posts { IsPosted result (E.told end.old) self.old.outbox (request_frames requests.now) (E.told end.new) self.new.outbox }
@@ -78,7 +73,7 @@ impl Buffers {
         ensures calm { E.calm end.old → (result ≢ Sent.Failed) × E.calm end.new }
     {
         for request in requests {
-            match self.post(alloc, request, end) {
+            match self.post(request, end) {
                 Sent::Whole => {}
                 Sent::Failed => return Sent::Failed,
                 Sent::Memory => return Sent::Memory,

@@ -54,7 +54,7 @@ impl<'a> Player<'a> {
         ensures calm { E.calm end.old → E.calm end.new }
     {
         let requests = self.join()?;
-        sent_whole(buffers.post_all(self.alloc, &requests, end))
+        sent_whole(buffers.post_all(&requests, end))
     }
 
     /// Makes an action, and sends it.
@@ -77,7 +77,7 @@ impl<'a> Player<'a> {
         ensures calm { E.calm end.old → E.calm end.new }
     {
         let request = self.make(action, rest, watch)?;
-        sent_whole(buffers.post(self.alloc, &request, end))
+        sent_whole(buffers.post(&request, end))
     }
 
     /// Asks for an abandoned action.
@@ -97,7 +97,7 @@ impl<'a> Player<'a> {
         ensures calm { E.calm end.old → E.calm end.new }
     {
         let request = self.poll(rest)?;
-        sent_whole(buffers.post(self.alloc, &request, end))
+        sent_whole(buffers.post(&request, end))
     }
 
     /// Leaves, with all steps done.
@@ -113,7 +113,7 @@ impl<'a> Player<'a> {
         ensures calm { E.calm end.old → E.calm end.new }
     {
         let request = self.leave()?;
-        sent_whole(buffers.post(self.alloc, &request, end))
+        sent_whole(buffers.post(&request, end))
     }
 
     /// Shows what it sees of objects.
@@ -274,7 +274,7 @@ impl<'a> Player<'a> {
         ensures calm { E.calm end.old → E.calm end.new }
     {
         match done {
-            Some(request) => sent_whole(buffers.post(self.alloc, &request, end)),
+            Some(request) => sent_whole(buffers.post(&request, end)),
             None => Ok(()),
         }
     }

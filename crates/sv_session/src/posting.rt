@@ -8,7 +8,6 @@ ghost use Rattle.sv_session.specs.Requests.{stop_for_code, stop_of};
 ghost use Rattle.sv_session.specs.Answers.{IsPosted, RoundCause};
 
 use crate::outcome::SessionOut;
-use std::alloc::Global;
 use sv_exchange::Outbox;
 use sv_link::{End, Sent};
 use sv_wire::{Reply, read_reply};
@@ -39,12 +38,7 @@ fn stop_for(reply: &Reply) -> Option<SessionOut>
 }
 
 /// Puts a reply into the outbox. After a last reply all that waits is sent.
-pub(crate) fn post<E: End>(
-    alloc: Global,
-    reply: &Reply,
-    outbox: &mut Outbox,
-    end: &mut E,
-) -> Option<SessionOut>
+pub(crate) fn post<E: End>(reply: &Reply, outbox: &mut Outbox, end: &mut E) -> Option<SessionOut>
     requires open { (E.told end.old).closed ≡ false }
     requires message { IsWireReply reply.now }
     ensures posts { IsPosted result (stop_of (logged_of reply.now)) (E.told end.old) (outbox.old ++ frame (reply_bytes reply.now)) (E.told end.new) outbox.new }
@@ -53,7 +47,7 @@ pub(crate) fn post<E: End>(
 {
     let stop = stop_for(reply);
     read_reply(reply);
-    match outbox.put(alloc, reply, end) {
+    match outbox.put(reply, end) {
         Sent::Whole => {}
         Sent::Failed => return Some(SessionOut::LinkFault),
         Sent::Memory => return Some(SessionOut::Memory),

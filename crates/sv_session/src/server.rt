@@ -71,7 +71,7 @@ impl<R: Wait, G: Gate> Server<'_, R, G> {
         let Ok(reply) = self.step(pass, *turn, &request) else {
             return Some(SessionOut::Memory);
         };
-        post(self.alloc, &reply, &mut buffers.outbox, end)
+        post(&reply, &mut buffers.outbox, end)
     }
 
     /// All rounds of a session, up to the one that ends it.

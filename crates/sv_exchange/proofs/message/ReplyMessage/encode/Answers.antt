@@ -1,6 +1,0 @@
-use Rattle.sv_wire.specs.Spelling.{reply_bytes}
-use Rattle.sv_exchange.proofs.Sizes.{reply_short, encoded_short}
-use Rattle.sv_exchange.proofs.message.ReplyMessage.encode.Goals as goal
-
-pub returns-clause-short : goal.returns-clause-short
-returns-clause-short c = encoded_short c.encode_reply.result (reply_bytes c.args.self.now) c.encode_reply.ensures.bytes (reply_short c.args.self.now c.requires)
