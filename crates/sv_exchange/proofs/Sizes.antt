@@ -1,8 +1,8 @@
 -- Payloads are short, and are read as their messages.
 use Rattle.std.proofs.Common.{◌≡◌, ℕ, ◌≤◌, List, [], ◌∷◌, ◌++◌, length, Result, Ok, Err, refl, ap, arith, length-append}
 use Rattle.std.specs.Prelude.{OnOk}
-use Rattle.std.specs.Global.{Vec}
 use Rattle.std.specs.Vec.{vec_len}
+use Rattle.std.proofs.Common.{Global, Vec}
 use Rattle.sv_wire.specs.declared.fault.WireCause.TheVariants.{Rest}
 use Rattle.sv_wire.specs.declared.message.Request.{Request}
 use Rattle.sv_wire.specs.declared.message.Reply.{Reply}

@@ -1,5 +1,5 @@
 //! Writing messages as frames, several at once.
-ghost use Rattle.std.specs.Prelude.{◌≡◌, ◌≢◌, ◌+◌, ◌≤◌, [], false, IfOk, length};
+ghost use Rattle.std.specs.Prelude.{◌≡◌, ◌≢◌, ◌+◌, ◌≤◌, [], false, IfOk, length, vec_len, vec_capacity};
 ghost use Rattle.sv_link.specs.Ends.{Sends, SentCause};
 ghost use Rattle.sv_frame.specs.Frames.{frame};
 ghost use Rattle.sv_exchange.specs.Outgoing.{Posts, LeavesUnsent};
@@ -52,7 +52,7 @@ impl Outbox {
         if message.encode_into(&mut self.payload).is_err() {
             return Sent::Memory;
         }
-        match self.make_room(PREFIX + self.payload.len(), end) {
+        match make_room(&mut self.bytes, PREFIX + self.payload.len(), end) {
             Sent::Whole => {
                 put_frame(&self.payload, &mut self.bytes).unwrap();
                 Sent::Whole
@@ -60,21 +60,6 @@ impl Outbox {
             Sent::Failed => Sent::Failed,
             Sent::Memory => Sent::Memory,
         }
-    }
-
-    /// Sends what waits, where so many bytes more do not fit.
-    fn make_room<E: End>(&mut self, size: usize, end: &mut E) -> Sent
-        requires open { (E.told end.old).closed ≡ false }
-        requires size { size ≤ 65540 }
-        ensures posts { Posts (E.told end.old) self.old [] result (E.told end.new) self.new }
-        ensures room { result ≡ Sent.Whole → length self.new + size ≤ 65540 }
-        ensures cause { SentCause (E.faults end.old) (E.faults end.new) result }
-        ensures calm { E.calm end.old → (result ≢ Sent.Failed) × E.calm end.new }
-    {
-        if size <= ROOM - self.bytes.len() {
-            return Sent::Whole;
-        }
-        self.flush(end)
     }
 
     /// Sends all that waits.
@@ -85,13 +70,42 @@ impl Outbox {
         ensures cause { SentCause (E.faults end.old) (E.faults end.new) result }
         ensures calm { E.calm end.old → (result ≢ Sent.Failed) × E.calm end.new }
     {
-        match send_all(end, &self.bytes) {
-            Sent::Whole => {
-                self.bytes.clear();
-                Sent::Whole
-            }
-            Sent::Failed => Sent::Failed,
-            Sent::Memory => Sent::Memory,
+        send_off(&mut self.bytes, end)
+    }
+}
+
+/// Sends bytes that wait, where so many more do not fit behind them.
+fn make_room<E: End>(bytes: &mut Vec<u8>, size: usize, end: &mut E) -> Sent
+    requires open { (E.told end.old).closed ≡ false }
+    requires size { size ≤ 65540 }
+    requires waiting { vec_len bytes.old ≤ 65540 }
+    ensures posts { Posts (E.told end.old) bytes.old.items [] result (E.told end.new) bytes.new.items }
+    ensures room { result ≡ Sent.Whole → length bytes.new.items + size ≤ 65540 }
+    ensures capacity { vec_capacity bytes.new ≡ vec_capacity bytes.old }
+    ensures cause { SentCause (E.faults end.old) (E.faults end.new) result }
+    ensures calm { E.calm end.old → (result ≢ Sent.Failed) × E.calm end.new }
+{
+    if size <= ROOM - bytes.len() {
+        return Sent::Whole;
+    }
+    send_off(bytes, end)
+}
+
+/// Sends all bytes that wait.
+fn send_off<E: End>(bytes: &mut Vec<u8>, end: &mut E) -> Sent
+    requires open { (E.told end.old).closed ≡ false }
+    ensures sends { Sends (E.told end.old) bytes.old.items result (E.told end.new) }
+    ensures left { LeavesUnsent result bytes.old.items bytes.new.items }
+    ensures capacity { vec_capacity bytes.new ≡ vec_capacity bytes.old }
+    ensures cause { SentCause (E.faults end.old) (E.faults end.new) result }
+    ensures calm { E.calm end.old → (result ≢ Sent.Failed) × E.calm end.new }
+{
+    match send_all(end, bytes) {
+        Sent::Whole => {
+            bytes.clear();
+            Sent::Whole
         }
+        Sent::Failed => Sent::Failed,
+        Sent::Memory => Sent::Memory,
     }
 }
