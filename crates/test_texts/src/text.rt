@@ -102,6 +102,9 @@ reads 3 writes 3 at -1000000 1000000 { }|reads 3 writes 3 at -1000000 1000000 { 
 reads 3 writes 3 { if [1 < 2] { } else { } }|reads 3 writes 3 { if [1 < 2] { } }
 reads 0 writes 0 { if [0 < 1] { } else { set @0.0 1; } }|reads 0 writes 0 { if [0 < 1] { } else { set @0.0 1; } }
 reads 0 writes 0{set@0.0-1;}|reads 0 writes 0 { set @0.0 -1; }
+reads 0 writes 0{if[0<1]{if[1<2]{}else{}}else{if[2<3]{}else{}}}|reads 0 writes 0 { if [0 < 1] { if [1 < 2] { } } else { if [2 < 3] { } } }
+reads 0 writes 0{if[1<=2]{if not[1<2]{set@0.0(1 max 2);}set@0.1 3;}else{set@0.2(4%5);}set@0.3 6;}|reads 0 writes 0 { if [1 <= 2] { if not [1 < 2] { set @0.0 (1 max 2); } set @0.1 3; } else { set @0.2 (4 % 5); } set @0.3 6; }
+reads 0 writes{if not not([1==2]or not([3<4]and[5<=6])){}}|reads 0 writes { if not not ([1 == 2] or not ([3 < 4] and [5 <= 6])) { } }
 reads\t7  writes\r{ }|reads 7 writes { }
 reads 65535 writes 65535 { set @65535.255 -9223372036854775808; }|reads 65535 writes 65535 { set @65535.255 -9223372036854775808; }
 reads 0 writes { set @0.0 9223372036854775807; }|reads 0 writes { set @0.0 9223372036854775807; }
