@@ -26,7 +26,7 @@ use Rattle.sv_world.proofs.action.Cond.TheLaws.TheKnot as condition_knot
 use Rattle.sv_world.proofs.action.Stmt.TheLaws.TheKnot as stmt_knot
 use Rattle.sv_world.proofs.list.List.TheSendSync as lists
 use Rattle.sv_world.proofs.short.Short.TheSendSync as shorts
-use Rattle.sv_world.proofs.shared.Shared.TheSendSync as shared
+use Rattle.sv_world.proofs.body.Body.TheSendSync as bodies
 use Rattle.sv_lock.specs.contracts.lock.SeqLock as lock
 use Rattle.sv_lock.specs.contracts.pass.Pass as pass
 use Rattle.sv_lock.proofs.lock.SeqLock.TheSendSync as locks
@@ -54,10 +54,10 @@ stmt-syncs : IsSync stmt.the_row
 stmt-syncs = search (expr_knot.crosses, condition_knot.crosses, stmt_knot.crosses, sendable, crosses) depth 20
 
 action-sends : IsSend action.the_row
-action-sends = search (shorts.the_send, shared.the_send, stmt-sends, stmt-syncs, sendable, crosses) depth 30
+action-sends = search (shorts.the_send, bodies.the_send, sendable, crosses) depth 30
 
 action-field-sends : IsSend (action.the_field).row
-action-field-sends = search (shorts.the_send, shared.the_send, stmt-sends, stmt-syncs, sendable, crosses) depth 30
+action-field-sends = search (shorts.the_send, bodies.the_send, sendable, crosses) depth 30
 
 queued-sends : IsSend queued.the_row
 queued-sends = search (action-field-sends, lists.the_send, shorts.the_send, sendable, crosses) depth 30
