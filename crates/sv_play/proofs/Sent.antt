@@ -8,7 +8,7 @@ use Rattle.sv_world.proofs.action.Cond.TheLaws.TheKnot as condition_knot
 use Rattle.sv_world.proofs.action.Stmt.TheLaws.TheKnot as stmt_knot
 use Rattle.sv_world.proofs.list.List.TheSendSync as lists
 use Rattle.sv_world.proofs.short.Short.TheSendSync as shorts
-use Rattle.sv_world.proofs.shared.Shared.TheSendSync as shared
+use Rattle.sv_world.proofs.body.Body.TheSendSync as bodies
 use Rattle.sv_wire.specs.contracts.message.Reply as reply
 use Rattle.sv_versions.specs.contracts.store.Versions as versions
 use Rattle.sv_versions.specs.contracts.history.Version as version
@@ -28,10 +28,10 @@ stmt-syncs : IsSync stmt.the_row
 stmt-syncs = search (expr_knot.crosses, condition_knot.crosses, stmt_knot.crosses, sendable, crosses) depth 20
 
 action-field-sends : IsSend (action.the_field).row
-action-field-sends = search (shorts.the_send, shared.the_send, stmt-sends, stmt-syncs, sendable, crosses) depth 30
+action-field-sends = search (shorts.the_send, bodies.the_send, sendable, crosses) depth 30
 
 action-field-syncs : IsSync (action.the_field).row
-action-field-syncs = search (shorts.the_sync, shared.the_sync, stmt-sends, stmt-syncs, sendable, crosses) depth 30
+action-field-syncs = search (shorts.the_sync, bodies.the_sync, sendable, crosses) depth 30
 
 reply-field-sends : IsSend (reply.the_field).row
 reply-field-sends = search (lists.the_send, shorts.the_send, action-field-sends, sendable, crosses) depth 30 fits 10000
