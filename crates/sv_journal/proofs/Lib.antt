@@ -1,6 +1,7 @@
 mod Checked
 mod Counts
 mod Filling
+mod Fronts
 mod Heads
 mod Messages
 mod Named
