@@ -1,6 +1,6 @@
 -- Text that is written behind another, and taken back.
 use mathlib.Core.List.{IsPrefix}
-use Rattle.std.proofs.Common.{◌≡◌, ℕ, ◌≤◌, ◌++◌, IsUtf8, length, take, String, string_bytes, string_len, sym, subst, ap, ◌∙◌, length-append, arith}
+use Rattle.std.proofs.Common.{◌≡◌, ℕ, ◌≤◌, IsUtf8, length, take, String, string_bytes, string_len, sym, subst, ap, ◌∙◌, length-append, arith}
 use Rattle.std.specs.String.Boundary.{IsSplitPoint}
 use Rattle.std.proofs.lemmas.Str.{IsUtf8-string_bytes, IsCharBoundary-from_take}
 use Rattle.std.proofs.Math.Seq.{take-append_seam}
