@@ -1,11 +1,7 @@
 -- What tasks are made of, and what they give back, may go to another thread.
 use denote.Param.Send.{IsSend, IsSync, sendable}
 use Rattle.std.proofs.Crossing.{crosses}
-use Rattle.sv_world.specs.contracts.action.Stmt as stmt
 use Rattle.sv_world.specs.contracts.action.Action as action
-use Rattle.sv_world.proofs.action.Expr.TheLaws.TheKnot as expr_knot
-use Rattle.sv_world.proofs.action.Cond.TheLaws.TheKnot as condition_knot
-use Rattle.sv_world.proofs.action.Stmt.TheLaws.TheKnot as stmt_knot
 use Rattle.sv_world.proofs.list.List.TheSendSync as lists
 use Rattle.sv_world.proofs.short.Short.TheSendSync as shorts
 use Rattle.sv_world.proofs.body.Body.TheSendSync as bodies
@@ -20,12 +16,6 @@ use Rattle.sv_client.specs.contracts.client.Client as client
 use Rattle.sv_client.specs.contracts.trace.Event as event
 use Rattle.sv_client.specs.contracts.trace.Trace as trace
 use Rattle.sv_scenario.specs.contracts.scenario.Step as step
-
-stmt-sends : IsSend stmt.the_row
-stmt-sends = search (expr_knot.crosses, condition_knot.crosses, stmt_knot.crosses, sendable, crosses) depth 20
-
-stmt-syncs : IsSync stmt.the_row
-stmt-syncs = search (expr_knot.crosses, condition_knot.crosses, stmt_knot.crosses, sendable, crosses) depth 20
 
 action-field-sends : IsSend (action.the_field).row
 action-field-sends = search (shorts.the_send, bodies.the_send, sendable, crosses) depth 30

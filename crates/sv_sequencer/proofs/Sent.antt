@@ -7,9 +7,6 @@ use denote.Param.Send.{IsSend, IsSync, sendable}
 use denote.Param.SendFields.{as_row_send, declared_send}
 use Rattle.std.proofs.Common.{[], ◌∷◌}
 use Rattle.std.proofs.Crossing.{crosses}
-use Rattle.sv_world.specs.contracts.action.Expr as expr
-use Rattle.sv_world.specs.contracts.action.Cond as condition
-use Rattle.sv_world.specs.contracts.action.Stmt as stmt
 use Rattle.sv_world.specs.contracts.action.Action as action
 use Rattle.sv_wire.specs.contracts.message.Request as request
 use Rattle.sv_wire.specs.contracts.message.Reply as reply
@@ -21,9 +18,6 @@ use Rattle.sv_queue.proofs.sources.Sources.TheSendSync as sources
 use Rattle.sv_queue.proofs.writers.Writers.TheSendSync as writers
 use Rattle.sv_queue.proofs.sessions.Sessions.TheSendSync as sessions
 use Rattle.sv_journal.specs.contracts.journal.Journal as journal
-use Rattle.sv_world.proofs.action.Expr.TheLaws.TheKnot as expr_knot
-use Rattle.sv_world.proofs.action.Cond.TheLaws.TheKnot as condition_knot
-use Rattle.sv_world.proofs.action.Stmt.TheLaws.TheKnot as stmt_knot
 use Rattle.sv_world.proofs.list.List.TheSendSync as lists
 use Rattle.sv_world.proofs.short.Short.TheSendSync as shorts
 use Rattle.sv_world.proofs.body.Body.TheSendSync as bodies
@@ -34,24 +28,6 @@ use Rattle.sv_lock.proofs.pass.Pass.TheSendSync as passes
 use Rattle.sv_sequencer.specs.contracts.object.Opened as opened
 use Rattle.sv_sequencer.specs.contracts.object.SequencerObject.TheImpl.{ghosts}
 use Rattle.sv_sequencer.specs.contracts.sequencer.Sequencer as sequencer
-
-expr-sends : IsSend expr.the_row
-expr-sends = search (expr_knot.crosses, sendable, crosses) depth 20
-
-condition-sends : IsSend condition.the_row
-condition-sends = search (expr_knot.crosses, condition_knot.crosses, sendable, crosses) depth 20
-
-stmt-sends : IsSend stmt.the_row
-stmt-sends = search (expr_knot.crosses, condition_knot.crosses, stmt_knot.crosses, sendable, crosses) depth 20
-
-expr-syncs : IsSync expr.the_row
-expr-syncs = search (expr_knot.crosses, sendable, crosses) depth 20
-
-condition-syncs : IsSync condition.the_row
-condition-syncs = search (expr_knot.crosses, condition_knot.crosses, sendable, crosses) depth 20
-
-stmt-syncs : IsSync stmt.the_row
-stmt-syncs = search (expr_knot.crosses, condition_knot.crosses, stmt_knot.crosses, sendable, crosses) depth 20
 
 action-sends : IsSend action.the_row
 action-sends = search (shorts.the_send, bodies.the_send, sendable, crosses) depth 30
