@@ -1,5 +1,5 @@
 -- What a relay makes of the values held and of the pending actions.
-use Rattle.std.proofs.Common.{◌≡◌, ℕ, List, [], ◌∷◌, ◌++◌, Some, None, Ok, eqb, ap, ◌∙◌}
+use Rattle.std.proofs.Common.{◌≡◌, ℕ, List, [], ◌∷◌, ◌++◌, drop, Some, None, Ok, eqb, refl, ap, ◌∙◌}
 use Rattle.std.specs.Prelude.{if◌then◌else◌}
 use Rattle.sv_versions.specs.Held.{Held, AnswersAbove}
 use Rattle.sv_pending.specs.Pending.{PendingAction}
@@ -8,7 +8,7 @@ use Rattle.sv_wire.specs.declared.message.Item.{Item}
 use Rattle.sv_wire.specs.declared.message.Done1.{Done1}
 use Rattle.sv_wire.specs.declared.message.Request.TheVariants as requests
 use Rattle.sv_wire.specs.declared.message.Reply.TheVariants as replies
-use Rattle.sv_client.specs.Traces.{head_held, with_items, results_of, last_values, settled_by}
+use Rattle.sv_client.specs.Traces.{head_held, with_items, results_of, last_values, settled_by, without_front}
 use Rattle.sv_client.specs.Taking.{first_missing_of}
 use Rattle.sv_client.specs.Evaluating.{IsApplied}
 use Rattle.sv_client.proofs.Standing.{settled_same}
@@ -25,3 +25,7 @@ relay_applied told seq commit all kept head items results before after s m r e =
       e ∙ ap (λ (qs : List PendingAction). if eqb seq 0 then before else qs) (settled_same s (last_values results) before ∙ own),
       s,
     )
+
+pub rest_is : (ps : List PendingAction) → drop 1 ps ≡ without_front ps
+rest_is [] = refl
+rest_is (p ∷ ps) = refl

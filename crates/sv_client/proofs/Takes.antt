@@ -9,7 +9,6 @@ use Rattle.sv_wire.specs.declared.message.Reply.{Reply}
 use Rattle.sv_wire.specs.declared.message.Reply.TheVariants as replies
 use Rattle.sv_wire.specs.declared.message.Request.{Request}
 use Rattle.sv_client.specs.declared.kinds.Awaited.{Awaited}
-use Rattle.sv_client.specs.declared.taken.Taken.{Taken}
 use Rattle.sv_client.specs.declared.trace.Event.{Event}
 use Rattle.sv_client.specs.declared.trace.Event.TheVariants as events
 use Rattle.sv_client.specs.Traces.{current_session, held_of, pending_of, with_reply, done_for}
@@ -78,28 +77,35 @@ asked_some os r rs e = rw e (omega arith)
 
 pub taken_is : (who : Identity) (t : List Event) (reply : Reply) (store : Store) (pending : PendingList) (ks : List Awaited) (sessions made commit : ℕ) (joined : Bool)
     → IsClientOf who t store pending ks sessions made commit joined → IsFine who t reply
-    → (taken : Taken) (after : Store) (kept : List Held) → IsApplied (told t) (held_of t) reply (pending_of t) (Ok taken.done) kept taken.pending.items
-    → taken.pending.shape ≡ who.shape → after.shape ≡ who.shape
-    → ((n : ℕ) (all : List Held) → n ≤ taken.told → AnswersAbove n kept all → AnswersAbove taken.told after.held all)
-    → ((x : ℕ) → count_up_to after.held x taken.told ≤ 1)
-    → taken.awaited.items ≡ drop 1 ks ++ done_kinds reply → taken.told ≡ told_by reply (told t)
-    → IsTaken who t reply taken after
-taken_is who t reply store pending ks sessions made commit joined is fine taken after kept a shape versions prune few awaited c =
+    → (done : Option Request) (store_after : Store) (pending_after : PendingList) (kinds : List Awaited) (commit_after : ℕ) (kept : List Held)
+    → IsApplied (told t) (held_of t) reply (pending_of t) (Ok done) kept pending_after.items
+    → pending_after.shape ≡ who.shape → store_after.shape ≡ who.shape
+    → ((n : ℕ) (all : List Held) → n ≤ commit_after → AnswersAbove n kept all → AnswersAbove commit_after store_after.held all)
+    → ((x : ℕ) → count_up_to store_after.held x commit_after ≤ 1)
+    → kinds ≡ drop 1 ks ++ done_kinds reply → commit_after ≡ told_by reply (told t)
+    → IsTaken who t reply done store_after pending_after kinds commit_after
+taken_is who t reply store pending ks sessions made commit joined is fine done store_after pending_after kinds commit_after kept a shape versions prune few awaited c =
     let none : first_fault_of_reply who t reply ≡ None = fine_misses who t reply fine ∙ ap missing_fault a.0 in
     let may : MayGet who t (latest_session t) reply = record { current = latest_is who t reply none; taken = none } in
-    let below : told t ≤ taken.told = rw c (told_least reply (told t)) in
+    let below : told t ≤ commit_after = rw c (told_least reply (told t)) in
     record {
       fine = none;
       held = record {
         shape = versions;
-        answers = subst (λ (n : ℕ). AnswersAbove n after.held (with_reply (held_of t) reply)) c (prune (told t) (with_reply (held_of t) reply) below a.3);
-        few = subst (λ (n : ℕ). (x : ℕ) → count_up_to after.held x n ≤ 1) c few;
+        answers = subst (λ (n : ℕ). AnswersAbove n store_after.held (with_reply (held_of t) reply)) c (prune (told t) (with_reply (held_of t) reply) below a.3);
+        few = subst (λ (n : ℕ). (x : ℕ) → count_up_to store_after.held x n ≤ 1) c few;
       };
       actions = λ i. record { shape = shape i; items = a.2 i };
-      kinds = awaited_got who t reply ks taken.awaited.items is.awaited (asked_some (outstanding who t) fine.request fine.rest fine.asked) (outstanding_got who 0 t (latest_session t) reply is.proper may) awaited;
-      commit = c;
+      awaited = awaited_got who t reply ks kinds is.awaited (asked_some (outstanding who t) fine.request fine.rest fine.asked) (outstanding_got who 0 t (latest_session t) reply is.proper may) awaited;
+      commit_is = c;
       asked = a.1 ∙ sym (newly_got who t reply);
     }
+
+-- A client that takes a reply awaits one.
+pub awaits_one : (who : Identity) (t : List Event) (reply : Reply) (store : Store) (pending : PendingList) (ks : List Awaited) (sessions made commit : ℕ) (joined : Bool)
+    → IsClientOf who t store pending ks sessions made commit joined → IsFine who t reply → 0 < length ks
+awaits_one who t reply store pending ks sessions made commit joined is fine =
+    omega (arith, same_long ks (outstanding who t) is.awaited.same, asked_some (outstanding who t) fine.request fine.rest fine.asked)
 
 -- A value that is missing is the fault of a reply in which nothing else is wrong.
 pub missing_is : (who : Identity) (t : List Event) (reply : Reply) (fault : TakeFault) → IsFine who t reply → IsMissing (missing_in (held_of t) reply) fault → IsTakeFault who t reply fault

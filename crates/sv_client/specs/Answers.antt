@@ -1,8 +1,9 @@
 -- What a client's calls answer.
-use Rattle.std.specs.Prelude.{◌≡◌, ◌<◌, true, false, ℤ, List, ◌∷◌, length, Option, Some, None, IfSome, option_to_list}
+use Rattle.std.specs.Prelude.{◌≡◌, ℕ, ◌<◌, true, false, ℤ, List, ◌∷◌, length, Option, Some, None, IfSome, option_to_list}
 use Rattle.sv_world.specs.declared.action.Action.{Action}
 use Rattle.sv_world.specs.Faults.{first_fault_of_action}
 use Rattle.sv_versions.specs.Held.{Store}
+use Rattle.sv_pending.specs.Made.{PendingList}
 use Rattle.sv_wire.specs.declared.message.Reply.{Reply}
 use Rattle.sv_wire.specs.declared.message.Request.{Request}
 use Rattle.sv_client.specs.declared.fault.MakeFault.{MakeFault}
@@ -10,9 +11,9 @@ use Rattle.sv_client.specs.declared.fault.MakeFault.TheVariants as make_faults
 use Rattle.sv_client.specs.declared.fault.PollFault.{PollFault}
 use Rattle.sv_client.specs.declared.fault.PollFault.TheVariants as poll_faults
 use Rattle.sv_client.specs.declared.fault.TakeFault.{TakeFault}
+use Rattle.sv_client.specs.declared.kinds.Awaited.{Awaited}
 use Rattle.sv_client.specs.declared.trace.Event.{Event}
 use Rattle.sv_client.specs.declared.trace.Event.TheVariants as events
-use Rattle.sv_client.specs.declared.taken.Taken.{Taken}
 use Rattle.sv_client.specs.declared.view.View.{View}
 use Rattle.sv_client.specs.declared.view.View.TheVariants as views
 use Rattle.sv_client.specs.Traces.{pending_of}
@@ -44,14 +45,14 @@ IsTakeFault who t reply fault = IfSome (fault_named fault) (λ f. first_fault_of
 abbrev pub got_now : List Event → Reply → Event
 got_now t reply = events.Got (latest_session t) reply
 
--- What a reply makes of a client: it has no fault, and the parts and the store are those of the trace with the reply.
-pub record IsTaken (who : Identity) (t : List Event) (reply : Reply) (taken : Taken) (store : Store) : Type 0 where
+-- What a reply makes of a client: it has no fault, and the answer, the store and the parts are those of the trace with the reply.
+pub record IsTaken (who : Identity) (t : List Event) (reply : Reply) (done : Option Request) (store : Store) (pending : PendingList) (kinds : List Awaited) (commit : ℕ) : Type 0 where
   pub fine : first_fault_of_reply who t reply ≡ None
   pub held : StandsFor who (got_now t reply ∷ t) store
-  pub actions : taken.pending ≡ record { shape = who.shape; items = pending_of (got_now t reply ∷ t) }
-  pub kinds : AreAwaited who (got_now t reply ∷ t) taken.awaited.items
-  pub commit : taken.told ≡ told (got_now t reply ∷ t)
-  pub asked : option_to_list taken.done ≡ newly_asked who t (got_now t reply)
+  pub actions : pending ≡ record { shape = who.shape; items = pending_of (got_now t reply ∷ t) }
+  pub awaited : AreAwaited who (got_now t reply ∷ t) kinds
+  pub commit_is : commit ≡ told (got_now t reply ∷ t)
+  pub asked : option_to_list done ≡ newly_asked who t (got_now t reply)
 
 -- A reply that is asked, allowed and in order, with no bad item. A value that its items read may still be missing.
 pub record IsFine (who : Identity) (t : List Event) (reply : Reply) : Type 0 where

@@ -58,13 +58,14 @@ fn drop_front(pending: &mut Pending)
 }
 
 /// Takes the front action out and computes the others again.
+#[tactic(auto, using(crate::proofs::Applies::rest_is))]
 fn reconcile_rest(pending: &mut Pending, versions: &Versions) -> Result<(), AllocError>
     requires { versions.now.shape ≡ pending.old.shape }
     ensures shape { pending.new.shape ≡ pending.old.shape }
     ensures items { OnOk result (pending.new.items ≡ redone versions.now.held (without_front pending.old.items)) }
+    ensures err { OnErr result (pending.new ≡ pending.old) }
 {
-    drop_front(pending);
-    pending.reconcile(versions)
+    pending.settle_and_reconcile(versions)
 }
 
 fn is_front_kept(pending: &Pending, own: Option<&[Value]>) -> bool
@@ -85,6 +86,7 @@ fn settle_own(
     requires { versions.now.shape ≡ pending.old.shape }
     ensures shape { pending.new.shape ≡ pending.old.shape }
     ensures items { OnOk result (pending.new.items ≡ settled_by versions.now.held (option_copied own.entry) pending.old.items) }
+    ensures err { OnErr result (pending.new ≡ pending.old) }
 {
     if is_front_kept(pending, own) {
         drop_front(pending);
@@ -103,6 +105,7 @@ fn settle_by(
     requires { versions.now.shape ≡ pending.old.shape }
     ensures shape { pending.new.shape ≡ pending.old.shape }
     ensures items { OnOk result (pending.new.items ≡ (if seq == 0 then pending.old.items else settled_by versions.now.held (last_values results.now) pending.old.items)) }
+    ensures err { OnErr result (pending.new ≡ pending.old) }
 {
     if seq == 0 {
         return Ok(());
@@ -127,6 +130,7 @@ fn apply_relay(
     ensures undone { undone undo.new versions.new.held ≡ undone undo.old versions.old.held }
     ensures shape { pending.new.shape ≡ pending.old.shape }
     ensures applied { (told : ℕ) (all : List Kept) → AnswersAbove told versions.old.held all → AreAbove told items.now → IsApplied told all (replies.Relay seq commit head.now items.now) pending.old.items result versions.new.held pending.new.items }
+    ensures err { OnErr result (pending.new ≡ pending.old) }
 {
     hold_head(alloc, versions, undo, commit, head)?;
     let mut results = Vec::with_capacity(alloc, items.len())?;
@@ -159,12 +163,14 @@ fn apply_without(versions: &Versions, pending: &mut Pending) -> Result<Option<Re
     ensures none { IfOk result (λ done. done ≡ None) }
     ensures fault { IfErr result (λ fault. fault ≡ faults.Memory) }
     ensures items { OnOk result (pending.new.items ≡ redone versions.now.held (without_front pending.old.items)) }
+    ensures err { OnErr result (pending.new ≡ pending.old) }
 {
     reconcile_rest(pending, versions)?;
     Ok(None)
 }
 
-/// Puts a reply into the values held and the pending actions, and answers the Done of a relay. After a refusal they are in the middle.
+/// Puts a reply into the values held and the pending actions, and answers the Done of a relay. After a refusal the values held are in the
+/// middle.
 fn apply(
     alloc: Global,
     versions: &mut Versions,
@@ -179,6 +185,7 @@ fn apply(
     ensures undone { undone undo.new versions.new.held ≡ undone undo.old versions.old.held }
     ensures shape { pending.new.shape ≡ pending.old.shape }
     ensures applied { (all : List Kept) → AnswersAbove told versions.old.held all → IsApplied told all reply.now pending.old.items result versions.new.held pending.new.items }
+    ensures err { OnErr result (pending.new ≡ pending.old) }
 {
     match reply {
         Reply::Welcome { commit, head } => {
@@ -204,7 +211,7 @@ fn apply(
     }
 }
 
-/// Puts a reply into the values held and the pending actions. After a refusal the values held are as before.
+/// Puts a reply into the values held and the pending actions. After a refusal both are as before.
 pub(crate) fn try_apply(
     alloc: Global,
     versions: &mut Versions,
@@ -217,7 +224,8 @@ pub(crate) fn try_apply(
     ensures versions { versions.new.shape ≡ versions.old.shape }
     ensures shape { pending.new.shape ≡ pending.old.shape }
     ensures applied { (all : List Kept) → AnswersAbove told versions.old.held all → IsApplied told all reply.now pending.old.items result versions.new.held pending.new.items }
-    ensures err { OnErr result (versions.new ≡ versions.old) }
+    ensures undone { OnErr result (versions.new ≡ versions.old) }
+    ensures err { OnErr result (pending.new ≡ pending.old) }
 {
     let mut undo = Undo::new(alloc);
     let applied = apply(alloc, versions, &mut undo, pending, told, reply);

@@ -1,11 +1,12 @@
 //! The requests of a client, and what is kept of those that have no reply yet.
-ghost use Rattle.std.specs.Prelude.{◌≡◌, ◌++◌, [], ◌∷◌, map, take, drop, replicate, IfOk, OnOk};
+ghost use Rattle.std.specs.Prelude.{◌≡◌, ◌<◌, ◌++◌, [], ◌∷◌, map, length, take, drop, replicate, IfOk, OnOk, OnErr};
 ghost use Rattle.sv_wire.specs.declared.message.Request.TheVariants as requests;
 ghost use Rattle.sv_client.specs.declared.kinds.Awaited.TheVariants as kinds;
 ghost use Rattle.sv_client.specs.Traces.{submit_of};
 ghost use Rattle.sv_client.specs.Kinds.{is_relay, done_kinds};
 
 use crate::kinds::Awaited;
+use crate::trace::Event;
 use std::alloc::{AllocError, Global};
 use sv_pending::Pending;
 use sv_wire::{Reply, Request};
@@ -66,17 +67,22 @@ pub(crate) fn awaited_at_join(alloc: Global, count: usize) -> Result<Vec<Awaited
     Ok(awaited)
 }
 
-/// What is awaited with one more request.
-pub(crate) fn with_awaited(
-    alloc: Global,
-    awaited: &[Awaited],
-    next: Awaited,
-) -> Result<Vec<Awaited>, AllocError>
-    ensures { IfOk result (λ all. all.items ≡ awaited.now ++ next ∷ []) }
+/// Notes an event that asks a request, which is awaited from then on. Without memory for both, neither is noted.
+pub(crate) fn note_asked(
+    events: &mut Vec<Event>,
+    awaited: &mut Vec<Awaited>,
+    event: Event,
+    kind: Awaited,
+) -> Result<(), AllocError>
+    ensures events { OnOk result (events.new.items ≡ events.old.items ++ event ∷ []) }
+    ensures awaited { OnOk result (awaited.new.items ≡ awaited.old.items ++ kind ∷ []) }
+    ensures no_event { OnErr result (events.new.items ≡ events.old.items) }
+    ensures none_awaited { OnErr result (awaited.new.items ≡ awaited.old.items) }
 {
-    let mut all = Vec::from_slice(alloc, awaited)?;
-    all.push(next)?;
-    Ok(all)
+    awaited.reserve(1)?;
+    events.push(event)?;
+    awaited.push_reserved(kind);
+    Ok(())
 }
 
 fn is_relay(reply: &Reply) -> bool
@@ -94,25 +100,13 @@ fn is_relay(reply: &Reply) -> bool
     }
 }
 
-/// What is awaited after a reply to the oldest request: a relay is answered by a Done.
-pub(crate) fn awaited_after(
-    alloc: Global,
-    awaited: &[Awaited],
-    reply: &Reply,
-) -> Result<Vec<Awaited>, AllocError>
-    ensures { IfOk result (λ all. all.items ≡ drop 1 awaited.now ++ done_kinds reply.now) }
+/// Takes the oldest request off, and awaits the Done of a relay.
+pub(crate) fn await_after(awaited: &mut Vec<Awaited>, reply: &Reply)
+    requires { 0 < length awaited.old.items }
+    ensures { awaited.new.items ≡ drop 1 awaited.old.items ++ done_kinds reply.now }
 {
-    let [_, rest @ ..] = awaited else {
-        return with_done(alloc, awaited, reply);
-    };
-    with_done(alloc, rest, reply)
-}
-
-fn with_done(alloc: Global, awaited: &[Awaited], reply: &Reply) -> Result<Vec<Awaited>, AllocError>
-    ensures { IfOk result (λ all. all.items ≡ awaited.now ++ done_kinds reply.now) }
-{
+    let _ = awaited.remove(0);
     if is_relay(reply) {
-        return with_awaited(alloc, awaited, Awaited::Done);
+        awaited.push_reserved(Awaited::Done);
     }
-    Vec::from_slice(alloc, awaited)
 }

@@ -7,7 +7,7 @@ ghost use Rattle.sv_client.specs.Proper.{IsGoodIdentity, MayMake, MayPoll, MayLe
 ghost use Rattle.sv_client.specs.Seen.{new_client, with_event, newly_asked, event_of, trace_from};
 ghost use Rattle.sv_client.specs.Answers.{view_seen, IsMakeFault, IsPollFault, IsTakeFault, IsFine, got_now};
 
-use crate::asking::{awaited_at_join, joining, with_awaited};
+use crate::asking::{awaited_at_join, joining, note_asked};
 use crate::checks::{is_out_of_order, is_unfit};
 use crate::fault::{MakeFault, PollFault, TakeFault};
 use crate::kinds::{Awaited, allows_kind};
@@ -254,13 +254,12 @@ impl Client {
         ensures ok { OnOk result (self.new ≡ with_event self.old (events.Make action)) }
         ensures err { OnErr result (self.new ≡ self.old) }
     {
-        let awaited = with_awaited(self.alloc, &self.awaited, Awaited::Submit)?;
         let noted = copy_action(self.alloc, &action)?;
-        let mut pending = self.pending.copy()?;
-        pending.add(self.made + 1, action, &self.versions)?;
-        self.events.push(Event::Make(noted))?;
-        self.pending = pending;
-        self.awaited = awaited;
+        self.events.reserve(1)?;
+        self.awaited.reserve(1)?;
+        self.pending.add(self.made + 1, action, &self.versions)?;
+        self.events.push_reserved(Event::Make(noted));
+        self.awaited.push_reserved(Awaited::Submit);
         self.made += 1;
         Ok(())
     }
@@ -276,9 +275,12 @@ impl Client {
         if self.awaited.len() >= 16 {
             return Err(PollFault::Busy);
         }
-        let awaited = with_awaited(self.alloc, &self.awaited, Awaited::Poll)?;
-        self.events.push(Event::Poll)?;
-        self.awaited = awaited;
+        note_asked(
+            &mut self.events,
+            &mut self.awaited,
+            Event::Poll,
+            Awaited::Poll,
+        )?;
         Ok(Request::Poll)
     }
 
@@ -289,9 +291,12 @@ impl Client {
         ensures ok { OnOk result (self.new ≡ with_event self.old events.Leave) }
         ensures err { OnErr result (self.new ≡ self.old) }
     {
-        let awaited = with_awaited(self.alloc, &self.awaited, Awaited::Leave)?;
-        self.events.push(Event::Leave)?;
-        self.awaited = awaited;
+        note_asked(
+            &mut self.events,
+            &mut self.awaited,
+            Event::Leave,
+            Awaited::Leave,
+        )?;
         self.joined = false;
         Ok(Request::Leave)
     }
@@ -311,27 +316,18 @@ impl Client {
     {
         self.look_at(reply)?;
         let copy = copy_reply(self.alloc, reply)?;
-        let session = self.sessions - 1;
-        self.events.push(Event::Got(session, copy))?;
-        match take_reply(
+        self.events.reserve(1)?;
+        let done = take_reply(
             self.alloc,
             &mut self.versions,
-            &self.pending,
-            &self.awaited,
-            self.told,
+            &mut self.pending,
+            &mut self.awaited,
+            &mut self.told,
             reply,
-        ) {
-            Ok(taken) => {
-                self.pending = taken.pending;
-                self.awaited = taken.awaited;
-                self.told = taken.told;
-                Ok(taken.done)
-            }
-            Err(fault) => {
-                let _ = self.events.pop();
-                Err(fault)
-            }
-        }
+        )?;
+        let session = self.sessions - 1;
+        self.events.push_reserved(Event::Got(session, copy));
+        Ok(done)
     }
 
     /// Refuses a reply for a fault that is seen before any item is evaluated.

@@ -111,6 +111,21 @@ impl Pending {
         Ok(())
     }
 
+    /// Takes the action that was made first out, if there is one, and computes the results of the others again.
+    pub fn settle_and_reconcile(&mut self, versions: &Versions) -> Result<(), AllocError>
+        requires { versions.now.shape ≡ self.old.shape }
+        ensures ok { OnOk result (self.new ≡ record self.old { items = redone versions.now.held (drop 1 self.old.items) }) }
+        ensures err { OnErr result (self.new ≡ self.old) }
+    {
+        if self.made.is_empty() {
+            return Ok(());
+        }
+        let kept = results_in(self.alloc, &self.made[1..], versions)?;
+        let _ = self.made.remove(0);
+        self.kept = kept;
+        Ok(())
+    }
+
     /// What these actions say of an object: the last one that writes it decides.
     pub fn overlay(&self, object: ObjectId) -> Overlay<'_>
         ensures { overlay_seen result ≡ overlay_of self.now.items object.0 }

@@ -2,7 +2,6 @@ use Rattle.std.proofs.Common.{◌≡◌, ℕ, List, Ok, sym, ap, subst, ◌∙�
 use Rattle.sv_versions.specs.Held.{Store, AnswersAbove}
 use Rattle.sv_pending.specs.Made.{PendingList}
 use Rattle.sv_pending.specs.Pending.{PendingAction}
-use Rattle.sv_client.specs.declared.taken.Taken.{Taken}
 use Rattle.sv_client.specs.Traces.{pending_of, held_of}
 use Rattle.sv_client.specs.Taking.{told_by}
 use Rattle.sv_client.specs.Evaluating.{IsApplied}
@@ -13,13 +12,13 @@ pub returns-clause-ok : goal.returns-clause-ok
 returns-clause-ok c = λ who t sessions made joined is fine.
     let reply = c.args.reply.now in
     let store = c.args.versions.now in
-    let stands : AnswersAbove c.args.told store.held (held_of t) = subst (λ (n : ℕ). AnswersAbove n store.held (held_of t)) (sym is.counts.commit_is) is.held.answers in
+    let told = c.args.told.now in
+    let stands : AnswersAbove told store.held (held_of t) = subst (λ (n : ℕ). AnswersAbove n store.held (held_of t)) (sym is.counts.commit_is) is.held.answers in
     let raw = c.in_ok-done.ensures.applied (held_of t) stands in
-    let items : c.in_ok-pending.pending.items ≡ pending_of t = ap (λ (p : PendingList). p.items) (c.in_ok-pending.ensures ∙ is.actions) in
+    let items : c.args.pending.now.items ≡ pending_of t = ap (λ (p : PendingList). p.items) is.actions in
     let applied = subst (λ (n : ℕ). IsApplied n (held_of t) reply (pending_of t) (Ok c.in_ok-done.done) c.try_apply.new.versions.held c.try_apply.new.pending.items) is.counts.commit_is
-    (subst (λ (ps : List PendingAction). IsApplied c.args.told (held_of t) reply ps (Ok c.in_ok-done.done) c.try_apply.new.versions.held c.try_apply.new.pending.items) items raw) in
-    let pending_shape = c.in_ok-done.ensures.shape ∙ ap (λ (p : PendingList). p.shape) (c.in_ok-pending.ensures ∙ is.actions) in
+    (subst (λ (ps : List PendingAction). IsApplied told (held_of t) reply ps (Ok c.in_ok-done.done) c.try_apply.new.versions.held c.try_apply.new.pending.items) items raw) in
+    let pending_shape = c.in_ok-done.ensures.shape ∙ ap (λ (p : PendingList). p.shape) is.actions in
     let versions_shape = ap (λ (s : Store). s.shape) c.prune.ensures.kept ∙ c.in_ok-done.ensures.versions ∙ is.held.shape in
-    let commit = c.told_by-told.ensures ∙ ap (told_by reply) is.counts.commit_is in
-    let taken : Taken = record { pending = c.try_apply.new.pending; awaited = c.in_ok-awaited.awaited; told = c.told_by-told.result; done = c.in_ok-done.done } in
-    taken_is who t reply store c.args.pending.now c.args.awaited.now sessions made c.args.told joined is fine taken c.prune.new.self c.try_apply.new.versions.held applied pending_shape versions_shape c.prune.ensures.answers c.prune.ensures.few c.in_ok-awaited.ensures commit
+    let commit = c.told_by-commit.ensures ∙ ap (told_by reply) is.counts.commit_is in
+    taken_is who t reply store c.args.pending.now c.args.awaited.now.items sessions made told joined is fine c.in_ok-done.done c.prune.new.self c.try_apply.new.pending c.await_after.new.awaited.items c.told_by-commit.result c.try_apply.new.versions.held applied pending_shape versions_shape c.prune.ensures.answers c.prune.ensures.few c.await_after.ensures commit

@@ -18,7 +18,7 @@ use Rattle.sv_client.proofs.client.Client.add_made.Goals as goal
 
 pub add-requires-clause-good : goal.add-requires-clause-good
 add-requires-clause-good c =
-    let p : c.in_ok-pending.pending.shape ≡ c.self.inside.shape = ap (λ (p : PendingList). p.shape) (c.in_ok-pending.ensures ∙ c.self.invariant.actions) in
+    let p : c.self.inside.pending.shape ≡ c.self.inside.shape = ap (λ (p : PendingList). p.shape) c.self.invariant.actions in
     subst (λ (s : Shape). IsGoodAction s c.args.action) (sym p)
     (good_of_none c.self.inside.shape c.args.action (subst (λ (v : ClientView). first_fault_of_action v.who.shape c.args.action ≡ None) (sym c.self.view_is) c.requires.good))
 
@@ -29,9 +29,9 @@ invariant_of-self-2 c =
     let is = c.self.invariant in
     let long = same_long c.self.inside.awaited.items (outstanding who t) is.awaited.same in
     let may : MayMake who t c.args.action = subst (λ (v : ClientView). MayMake v.who v.events c.args.action) (sym c.self.view_is) c.requires in
-    let ks = c.in_ok-awaited.ensures ∙ ap (λ (ks : List Awaited). ks ++ kinds.Submit ∷ []) c.deref.ensures.value in
+    let ks = c.push_reserved-2.ensures.items ∙ ap (λ (ks : List Awaited). ks ++ kinds.Submit ∷ []) c.in_ok-reserve-2.ensures.items in
     let few : length c.self.inside.awaited.items < 16 = omega (arith, long, may.calm) in
-    let after = c.in_ok-add.ensures.ok ∙ ap (λ (p : PendingList). record p { items = p.items ++ record { seq = c.self.inside.made + 1; action = c.args.action; kept = kept_of c.self.inside.versions.held p.items c.args.action } ∷ [] }) c.in_ok-pending.ensures in
-    subst (λ (es : List Event). IsClientOf who es c.self.inside.versions c.add.new.self c.in_ok-awaited.awaited.items c.self.inside.sessions (c.self.inside.made + 1) c.self.inside.told c.self.inside.joined)
-    (sym (reverse_push c.self.inside.events.items c.push.new.self.items (events.Make c.args.action) (c.in_ok-push.ensures.items ∙ ap (λ (a : Action). c.self.inside.events.items ++ events.Make a ∷ []) c.in_ok-noted.ensures)))
-    (made_keeps who t c.self.inside.versions c.self.inside.pending c.self.inside.awaited.items c.self.inside.sessions c.self.inside.made c.self.inside.told c.self.inside.joined is c.args.action c.add.new.self c.in_ok-awaited.awaited.items may after ks few)
+    let noted = c.push_reserved.ensures.items ∙ ap (λ (es : List Event). es ++ events.Make c.in_ok-noted.noted ∷ []) c.in_ok-reserve.ensures.items ∙ ap (λ (a : Action). c.self.inside.events.items ++ events.Make a ∷ []) c.in_ok-noted.ensures in
+    subst (λ (es : List Event). IsClientOf who es c.self.inside.versions c.add.new.self c.push_reserved-2.new.self.items c.self.inside.sessions (c.self.inside.made + 1) c.self.inside.told c.self.inside.joined)
+    (sym (reverse_push c.self.inside.events.items c.push_reserved.new.self.items (events.Make c.args.action) noted))
+    (made_keeps who t c.self.inside.versions c.self.inside.pending c.self.inside.awaited.items c.self.inside.sessions c.self.inside.made c.self.inside.told c.self.inside.joined is c.args.action c.add.new.self c.push_reserved-2.new.self.items may c.in_ok-add.ensures.ok ks few)

@@ -1,8 +1,6 @@
-use Rattle.std.proofs.Common.{false, List, [], ◌∷◌, ◌++◌, length, reverse, sym, ap, subst, ◌∙◌, arith}
+use Rattle.std.proofs.Common.{false, List, length, reverse, sym, ap, subst, arith}
 use Rattle.sv_wire.specs.declared.message.Request.{Request}
 use Rattle.sv_wire.specs.declared.message.Request.TheVariants as requests
-use Rattle.sv_client.specs.declared.kinds.Awaited.{Awaited}
-use Rattle.sv_client.specs.declared.kinds.Awaited.TheVariants as kinds
 use Rattle.sv_client.specs.declared.trace.Event.{Event}
 use Rattle.sv_client.specs.declared.trace.Event.TheVariants as events
 use Rattle.sv_client.specs.Taking.{outstanding}
@@ -19,10 +17,9 @@ invariant_of-self-2 c =
     let is = c.self.invariant in
     let long = same_long c.self.inside.awaited.items (outstanding who t) is.awaited.same in
     let may : MayLeave who t = subst (λ (v : ClientView). MayLeave v.who v.events) (sym c.self.view_is) c.requires in
-    let ks = c.in_ok-awaited.ensures ∙ ap (λ (ks : List Awaited). ks ++ kinds.Leave ∷ []) c.deref.ensures.value in
-    subst (λ (es : List Event). IsClientOf who es c.self.inside.versions c.self.inside.pending c.in_ok-awaited.awaited.items c.self.inside.sessions c.self.inside.made c.self.inside.told false)
-    (sym (reverse_push c.self.inside.events.items c.push.new.self.items events.Leave c.in_ok-push.ensures.items))
-    (left_keeps who t c.self.inside.versions c.self.inside.pending c.self.inside.awaited.items c.self.inside.sessions c.self.inside.made c.self.inside.told c.self.inside.joined is c.in_ok-awaited.awaited.items may ks (omega (arith, long, ap (λ (os : List Request). length os) may.settled)))
+    subst (λ (es : List Event). IsClientOf who es c.self.inside.versions c.self.inside.pending c.note_asked.new.awaited.items c.self.inside.sessions c.self.inside.made c.self.inside.told false)
+    (sym (reverse_push c.self.inside.events.items c.note_asked.new.events.items events.Leave c.in_ok-note_asked.ensures.events))
+    (left_keeps who t c.self.inside.versions c.self.inside.pending c.self.inside.awaited.items c.self.inside.sessions c.self.inside.made c.self.inside.told c.self.inside.joined is c.note_asked.new.awaited.items may c.in_ok-note_asked.ensures.awaited (omega (arith, long, ap (λ (os : List Request). length os) may.settled)))
 
 pub returns-clause-request : goal.returns-clause-request
 returns-clause-request c = asks_one c.args.self.now.events requests.Leave c.requires.joined

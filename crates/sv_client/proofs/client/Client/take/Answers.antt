@@ -1,8 +1,9 @@
-use Rattle.std.proofs.Common.{ℕ, ◌≤◌, List, [], ◌∷◌, ◌++◌, reverse, sym, ap, subst, ◌∙◌, arith}
+use Rattle.std.proofs.Common.{ℕ, ◌-◌, ◌≤◌, List, [], ◌∷◌, ◌++◌, reverse, sym, ap, subst, ◌∙◌, arith}
+use Rattle.std.proofs.lemmas.Result.{err_from_is_err_and}
 use Rattle.sv_world.specs.declared.world.Shape.{Shape}
 use Rattle.sv_versions.specs.Held.{AnswersAbove, count_up_to}
-use Rattle.sv_client.specs.declared.kinds.Awaited.{Awaited}
 use Rattle.sv_client.specs.declared.trace.Event.{Event}
+use Rattle.sv_client.specs.declared.trace.Event.TheVariants as events
 use Rattle.sv_client.specs.Traces.{held_of}
 use Rattle.sv_client.specs.Taking.{told}
 use Rattle.sv_client.specs.Seen.{ClientView}
@@ -11,15 +12,16 @@ use Rattle.sv_client.specs.Invariant.{who_is, IsClientOf}
 use Rattle.sv_client.specs.Answers.{IsFine, IsTaken, IsTakeFault, got_now}
 use Rattle.sv_client.proofs.Keeping.{reverse_push, got_keeps}
 use Rattle.sv_client.proofs.Looking.{fitting}
-use Rattle.sv_client.proofs.Takes.{sessions_are, got_event}
+use Rattle.sv_client.proofs.Takes.{awaits_one, sessions_are, got_event}
 use Rattle.sv_client.proofs.client.Client.take.Goals as goal
 
 pub overflow_sub-session : goal.overflow_sub-session
 overflow_sub-session c =
     let who = who_is c.self.inside in
     let t = reverse c.self.inside.events.items in
-    let fine : IsFine who t c.args.reply.now = subst (λ (v : ClientView). IsFine v.who v.events c.args.reply.now) (sym c.self.view_is) c.in_ok-look_at.ensures.ok in
-    let count = sessions_are who t c.args.reply.now c.self.inside.versions c.self.inside.pending c.self.inside.awaited.items c.self.inside.sessions c.self.inside.made c.self.inside.told c.self.inside.joined c.self.invariant fine in
+    let reply = c.args.reply.now in
+    let fine : IsFine who t reply = subst (λ (v : ClientView). IsFine v.who v.events reply) (sym c.self.view_is) c.in_ok-look_at.ensures.ok in
+    let count = sessions_are who t reply c.self.inside.versions c.self.inside.pending c.self.inside.awaited.items c.self.inside.sessions c.self.inside.made c.self.inside.told c.self.inside.joined c.self.invariant fine in
     omega (arith, count)
 
 pub take_reply-requires-clause-fits : goal.take_reply-requires-clause-fits
@@ -31,73 +33,91 @@ take_reply-requires-clause-fits c =
     subst (λ (s : Shape). IsFitting s.objects c.self.inside.told reply) (sym c.self.invariant.held.shape)
     (subst (λ (n : ℕ). IsFitting c.self.inside.shape.objects n reply) (sym c.self.invariant.counts.commit_is) (fitting who t reply fine))
 
-pub invariant_of-self-in-Ok : goal.invariant_of-self-in-Ok
-invariant_of-self-in-Ok c =
+pub take_reply-requires-clause-awaited : goal.take_reply-requires-clause-awaited
+take_reply-requires-clause-awaited c =
     let who = who_is c.self.inside in
     let t = reverse c.self.inside.events.items in
     let reply = c.args.reply.now in
     let fine : IsFine who t reply = subst (λ (v : ClientView). IsFine v.who v.events reply) (sym c.self.view_is) c.in_ok-look_at.ensures.ok in
-    let is = subst (λ (ks : List Awaited). IsClientOf who t c.self.inside.versions c.self.inside.pending ks c.self.inside.sessions c.self.inside.made c.self.inside.told c.self.inside.joined) (sym c.deref.ensures.value) c.self.invariant in
-    let taken : IsTaken who t reply c.in-Ok.taken c.take_reply.new.versions = c.in-Ok.ensures.ok who t c.self.inside.sessions c.self.inside.made c.self.inside.joined is fine in
+    awaits_one who t reply c.self.inside.versions c.self.inside.pending c.self.inside.awaited.items c.self.inside.sessions c.self.inside.made c.self.inside.told c.self.inside.joined c.self.invariant fine
+
+pub invariant_of-self-2 : goal.invariant_of-self-2
+invariant_of-self-2 c =
+    let who = who_is c.self.inside in
+    let t = reverse c.self.inside.events.items in
+    let reply = c.args.reply.now in
+    let fine : IsFine who t reply = subst (λ (v : ClientView). IsFine v.who v.events reply) (sym c.self.view_is) c.in_ok-look_at.ensures.ok in
+    let taken : IsTaken who t reply c.in_ok-done.done c.take_reply.new.versions c.take_reply.new.pending c.take_reply.new.awaited.items c.take_reply.new.told = c.in_ok-done.ensures.ok who t c.self.inside.sessions c.self.inside.made c.self.inside.joined c.self.invariant fine in
     let count = sessions_are who t reply c.self.inside.versions c.self.inside.pending c.self.inside.awaited.items c.self.inside.sessions c.self.inside.made c.self.inside.told c.self.inside.joined c.self.invariant fine in
     let event = got_event c.self.inside.sessions t reply c.in_ok-copy.copy count c.in_ok-copy.ensures in
-    let all = reverse_push c.self.inside.events.items c.push.new.self.items (got_now t reply) (c.in_ok-push.ensures.items ∙ ap (λ (e : Event). c.self.inside.events.items ++ e ∷ []) event) in
-    subst (λ (es : List Event). IsClientOf who es c.take_reply.new.versions c.in-Ok.taken.pending c.in-Ok.taken.awaited.items c.self.inside.sessions c.self.inside.made c.in-Ok.taken.told c.self.inside.joined) (sym all)
-    (got_keeps who t reply c.self.inside.versions c.self.inside.pending c.self.inside.awaited.items c.in-Ok.taken.awaited.items c.self.inside.sessions c.self.inside.made c.self.inside.told c.in-Ok.taken.told c.self.inside.joined c.take_reply.new.versions c.in-Ok.taken.pending c.self.invariant taken.fine taken.held taken.actions taken.kinds taken.commit)
+    let all = reverse_push c.self.inside.events.items c.push_reserved.new.self.items (got_now t reply)
+    (c.push_reserved.ensures.items ∙ ap (λ (es : List Event). es ++ events.Got (c.self.inside.sessions - 1) c.in_ok-copy.copy ∷ []) c.in_ok-reserve.ensures.items ∙ ap (λ (e : Event). c.self.inside.events.items ++ e ∷ []) event) in
+    subst (λ (es : List Event). IsClientOf who es c.take_reply.new.versions c.take_reply.new.pending c.take_reply.new.awaited.items c.self.inside.sessions c.self.inside.made c.take_reply.new.told c.self.inside.joined) (sym all)
+    (got_keeps who t reply c.self.inside.versions c.self.inside.pending c.self.inside.awaited.items c.take_reply.new.awaited.items c.self.inside.sessions c.self.inside.made c.self.inside.told c.take_reply.new.told c.self.inside.joined c.take_reply.new.versions c.take_reply.new.pending c.self.invariant taken.fine taken.held taken.actions taken.awaited taken.commit_is)
 
-pub returns-in-Ok-clause-done : goal.returns-in-Ok-clause-done
-returns-in-Ok-clause-done c =
+pub returns-clause-done : goal.returns-clause-done
+returns-clause-done c =
     let who = who_is c.self.inside in
     let t = reverse c.self.inside.events.items in
     let reply = c.args.reply.now in
     let fine : IsFine who t reply = subst (λ (v : ClientView). IsFine v.who v.events reply) (sym c.self.view_is) c.in_ok-look_at.ensures.ok in
-    let is = subst (λ (ks : List Awaited). IsClientOf who t c.self.inside.versions c.self.inside.pending ks c.self.inside.sessions c.self.inside.made c.self.inside.told c.self.inside.joined) (sym c.deref.ensures.value) c.self.invariant in
-    let taken : IsTaken who t reply c.in-Ok.taken c.take_reply.new.versions = c.in-Ok.ensures.ok who t c.self.inside.sessions c.self.inside.made c.self.inside.joined is fine in
+    let taken : IsTaken who t reply c.in_ok-done.done c.take_reply.new.versions c.take_reply.new.pending c.take_reply.new.awaited.items c.take_reply.new.told = c.in_ok-done.ensures.ok who t c.self.inside.sessions c.self.inside.made c.self.inside.joined c.self.invariant fine in
     rw (← c.self.view_is) taken.asked
 
-pub returns-in-Ok-clause-got : goal.returns-in-Ok-clause-got
-returns-in-Ok-clause-got c =
+pub returns-clause-fine : goal.returns-clause-fine
+returns-clause-fine c =
     let who = who_is c.self.inside in
     let t = reverse c.self.inside.events.items in
     let reply = c.args.reply.now in
     let fine : IsFine who t reply = subst (λ (v : ClientView). IsFine v.who v.events reply) (sym c.self.view_is) c.in_ok-look_at.ensures.ok in
-    let count = sessions_are who t reply c.self.inside.versions c.self.inside.pending c.self.inside.awaited.items c.self.inside.sessions c.self.inside.made c.self.inside.told c.self.inside.joined c.self.invariant fine in
-    let event = got_event c.self.inside.sessions t reply c.in_ok-copy.copy count c.in_ok-copy.ensures in
-    reverse_push c.self.inside.events.items c.push.new.self.items (got_now t reply) (c.in_ok-push.ensures.items ∙ ap (λ (e : Event). c.self.inside.events.items ++ e ∷ []) event)
-    ∙ ap (λ (v : ClientView). got_now v.events reply ∷ v.events) c.self.view_is
+    let taken : IsTaken who t reply c.in_ok-done.done c.take_reply.new.versions c.take_reply.new.pending c.take_reply.new.awaited.items c.take_reply.new.told = c.in_ok-done.ensures.ok who t c.self.inside.sessions c.self.inside.made c.self.inside.joined c.self.invariant fine in
+    rw (← c.self.view_is) taken.fine
 
-pub returns-in-Ok-clause-kept : goal.returns-in-Ok-clause-kept
-returns-in-Ok-clause-kept c =
+pub returns-clause-got : goal.returns-clause-got
+returns-clause-got c =
     let who = who_is c.self.inside in
     let t = reverse c.self.inside.events.items in
     let reply = c.args.reply.now in
     let fine : IsFine who t reply = subst (λ (v : ClientView). IsFine v.who v.events reply) (sym c.self.view_is) c.in_ok-look_at.ensures.ok in
-    let is = subst (λ (ks : List Awaited). IsClientOf who t c.self.inside.versions c.self.inside.pending ks c.self.inside.sessions c.self.inside.made c.self.inside.told c.self.inside.joined) (sym c.deref.ensures.value) c.self.invariant in
-    let taken : IsTaken who t reply c.in-Ok.taken c.take_reply.new.versions = c.in-Ok.ensures.ok who t c.self.inside.sessions c.self.inside.made c.self.inside.joined is fine in
     let count = sessions_are who t reply c.self.inside.versions c.self.inside.pending c.self.inside.awaited.items c.self.inside.sessions c.self.inside.made c.self.inside.told c.self.inside.joined c.self.invariant fine in
     let event = got_event c.self.inside.sessions t reply c.in_ok-copy.copy count c.in_ok-copy.ensures in
-    let all = reverse_push c.self.inside.events.items c.push.new.self.items (got_now t reply) (c.in_ok-push.ensures.items ∙ ap (λ (e : Event). c.self.inside.events.items ++ e ∷ []) event) in
+    let all = reverse_push c.self.inside.events.items c.push_reserved.new.self.items (got_now t reply)
+    (c.push_reserved.ensures.items ∙ ap (λ (es : List Event). es ++ events.Got (c.self.inside.sessions - 1) c.in_ok-copy.copy ∷ []) c.in_ok-reserve.ensures.items ∙ ap (λ (e : Event). c.self.inside.events.items ++ e ∷ []) event) in
+    all ∙ ap (λ (v : ClientView). got_now v.events reply ∷ v.events) c.self.view_is
+
+pub returns-clause-kept : goal.returns-clause-kept
+returns-clause-kept c =
+    let who = who_is c.self.inside in
+    let t = reverse c.self.inside.events.items in
+    let reply = c.args.reply.now in
+    let fine : IsFine who t reply = subst (λ (v : ClientView). IsFine v.who v.events reply) (sym c.self.view_is) c.in_ok-look_at.ensures.ok in
+    let taken : IsTaken who t reply c.in_ok-done.done c.take_reply.new.versions c.take_reply.new.pending c.take_reply.new.awaited.items c.take_reply.new.told = c.in_ok-done.ensures.ok who t c.self.inside.sessions c.self.inside.made c.self.inside.joined c.self.invariant fine in
+    let count = sessions_are who t reply c.self.inside.versions c.self.inside.pending c.self.inside.awaited.items c.self.inside.sessions c.self.inside.made c.self.inside.told c.self.inside.joined c.self.invariant fine in
+    let event = got_event c.self.inside.sessions t reply c.in_ok-copy.copy count c.in_ok-copy.ensures in
+    let all = reverse_push c.self.inside.events.items c.push_reserved.new.self.items (got_now t reply)
+    (c.push_reserved.ensures.items ∙ ap (λ (es : List Event). es ++ events.Got (c.self.inside.sessions - 1) c.in_ok-copy.copy ∷ []) c.in_ok-reserve.ensures.items ∙ ap (λ (e : Event). c.self.inside.events.items ++ e ∷ []) event) in
     subst (λ (es : List Event). AnswersAbove (told es) c.take_reply.new.versions.held (held_of es)) (sym all) taken.held.answers
 
-pub returns-in-Ok-clause-few : goal.returns-in-Ok-clause-few
-returns-in-Ok-clause-few c =
+pub returns-clause-few : goal.returns-clause-few
+returns-clause-few c =
     let who = who_is c.self.inside in
     let t = reverse c.self.inside.events.items in
     let reply = c.args.reply.now in
     let fine : IsFine who t reply = subst (λ (v : ClientView). IsFine v.who v.events reply) (sym c.self.view_is) c.in_ok-look_at.ensures.ok in
-    let is = subst (λ (ks : List Awaited). IsClientOf who t c.self.inside.versions c.self.inside.pending ks c.self.inside.sessions c.self.inside.made c.self.inside.told c.self.inside.joined) (sym c.deref.ensures.value) c.self.invariant in
-    let taken : IsTaken who t reply c.in-Ok.taken c.take_reply.new.versions = c.in-Ok.ensures.ok who t c.self.inside.sessions c.self.inside.made c.self.inside.joined is fine in
+    let taken : IsTaken who t reply c.in_ok-done.done c.take_reply.new.versions c.take_reply.new.pending c.take_reply.new.awaited.items c.take_reply.new.told = c.in_ok-done.ensures.ok who t c.self.inside.sessions c.self.inside.made c.self.inside.joined c.self.invariant fine in
     let count = sessions_are who t reply c.self.inside.versions c.self.inside.pending c.self.inside.awaited.items c.self.inside.sessions c.self.inside.made c.self.inside.told c.self.inside.joined c.self.invariant fine in
     let event = got_event c.self.inside.sessions t reply c.in_ok-copy.copy count c.in_ok-copy.ensures in
-    let all = reverse_push c.self.inside.events.items c.push.new.self.items (got_now t reply) (c.in_ok-push.ensures.items ∙ ap (λ (e : Event). c.self.inside.events.items ++ e ∷ []) event) in
+    let all = reverse_push c.self.inside.events.items c.push_reserved.new.self.items (got_now t reply)
+    (c.push_reserved.ensures.items ∙ ap (λ (es : List Event). es ++ events.Got (c.self.inside.sessions - 1) c.in_ok-copy.copy ∷ []) c.in_ok-reserve.ensures.items ∙ ap (λ (e : Event). c.self.inside.events.items ++ e ∷ []) event) in
     subst (λ (es : List Event). (x : ℕ) → count_up_to c.take_reply.new.versions.held x (told es) ≤ 1) (sym all) taken.held.few
 
-pub returns-in-Err-clause-fault : goal.returns-in-Err-clause-fault
-returns-in-Err-clause-fault c =
+pub returns-in_err-done-clause-fault : goal.returns-in_err-done-clause-fault
+returns-in_err-done-clause-fault c =
     let who = who_is c.self.inside in
     let t = reverse c.self.inside.events.items in
     let reply = c.args.reply.now in
     let fine : IsFine who t reply = subst (λ (v : ClientView). IsFine v.who v.events reply) (sym c.self.view_is) c.in_ok-look_at.ensures.ok in
-    let is = subst (λ (ks : List Awaited). IsClientOf who t c.self.inside.versions c.self.inside.pending ks c.self.inside.sessions c.self.inside.made c.self.inside.told c.self.inside.joined) (sym c.deref.ensures.value) c.self.invariant in
-    subst (λ (v : ClientView). IsTakeFault v.who v.events reply c.in-Err.fault) c.self.view_is
-    (c.in-Err.ensures.fault who t c.self.inside.sessions c.self.inside.made c.self.inside.joined is fine)
+    let failed = err_from_is_err_and c.from_residual-in_err-done.result c.from_residual-in_err-done.ensures.1 in
+    rw (failed.1, failed.2)
+    (subst (λ (v : ClientView). IsTakeFault v.who v.events reply c.in_err-done.field-0.0) c.self.view_is
+    (c.in_err-done.ensures.fault who t c.self.inside.sessions c.self.inside.made c.self.inside.joined c.self.invariant fine))
