@@ -1,5 +1,6 @@
-ghost use Rattle.std.specs.Prelude.{◌≡◌, ℕ, ◌<◌, ◌≤◌, true, ◌∷◌, [], length, option_to_list, IfOk, IfErr, OnOk, OnErr, MatchResult};
+ghost use Rattle.std.specs.Prelude.{◌≡◌, ℕ, ◌-◌, ◌<◌, ◌≤◌, true, ◌∷◌, [], length, option_map, option_to_list, slice_get, IfOk, IfErr, OnOk, OnErr, MatchResult};
 ghost use Rattle.sv_versions.specs.Held.{AnswersAbove, count_up_to, latest, read_below};
+ghost use Rattle.sv_pending.specs.Seen.{item_seen};
 ghost use Rattle.sv_client.specs.declared.trace.Event.TheVariants as events;
 ghost use Rattle.sv_client.specs.Traces.{joins, makes, held_of, pending_of, view_of};
 ghost use Rattle.sv_client.specs.Taking.{outstanding, told, first_fault_of_reply};
@@ -17,7 +18,7 @@ use crate::trace::{Event, Mark, Trace};
 use crate::view::View;
 use std::alloc::{AllocError, Global};
 use std::marker::Model;
-use sv_pending::{Overlay, Pending};
+use sv_pending::{Overlay, Pending, PendingItem};
 use sv_versions::Versions;
 use sv_wire::{Reply, Request, copy_reply};
 use sv_world::{Action, ClientId, List, ObjectId, Shape, check_action, copy_action, copy_objects};
@@ -101,6 +102,13 @@ impl Client {
         ensures { result ≡ length (pending_of self.now.events) }
     {
         self.pending.len()
+    }
+
+    /// The action that was made last of those that are not settled, with the result that the client keeps of it.
+    pub fn made_last(&self) -> Option<PendingItem<'_>>
+        ensures { option_map item_seen result ≡ slice_get (pending_of self.now.events) (length (pending_of self.now.events) - 1) }
+    {
+        self.pending.back()
     }
 
     /// How many requests have no reply yet, at most 16.

@@ -1,5 +1,5 @@
 -- What pending actions say, one after another.
-use Rattle.std.proofs.Common.{◌≡◌, ℕ, zero, suc, ◌+◌, ◌<◌, List, [], ◌∷◌, ◌++◌, length, get_or, drop, take, ◌⊎◌, inl, inr, Option, None, option_map, refl, sym, ap, ◌∙◌, arith}
+use Rattle.std.proofs.Common.{◌≡◌, ℕ, zero, suc, ◌+◌, ◌-◌, ◌<◌, List, [], ◌∷◌, ◌++◌, length, slice_get, get_or, drop, take, ◌⊎◌, inl, inr, Option, Some, None, option_map, refl, sym, ap, ◌∙◌, arith}
 use Rattle.std.specs.Prelude.{ℤ}
 use Rattle.sv_versions.specs.Held.{Held}
 use Rattle.sv_pending.specs.Pending.{PendingAction, Overlaid, Unwritten, Unknown, Kept, kept_of, last_of, overlay_of, redone_after}
@@ -50,6 +50,21 @@ pub length-paired : (ms : List Made) (ks : List (Option (List (List ℤ)))) → 
 length-paired [] ks e = refl
 length-paired (m ∷ ms) [] e = absurd (omega arith)
 length-paired (m ∷ ms) (k ∷ ks) e = ap suc (length-paired ms ks (omega arith))
+
+-- the last action with its result
+pub last_paired : (ms : List Made) (ks : List (Option (List (List ℤ)))) (m : Made) (k : Option (List (List ℤ))) → length ks ≡ length ms
+    → slice_get ms (length ms - 1) ≡ Some m → slice_get ks (length ks - 1) ≡ Some k → slice_get (paired ms ks) (length (paired ms ks) - 1) ≡ Some (entry m k)
+last_paired [] ks m k e f g = cc
+last_paired (n ∷ ms) [] m k e f g = cc
+last_paired (n ∷ []) (j ∷ []) m k e f g = let same : n ≡ m = cc in let kept : j ≡ k = cc in ap (λ (x : Made). Some (entry x j)) same ∙ ap (λ (x : Option (List (List ℤ))). Some (entry m x)) kept
+last_paired (n ∷ []) (j ∷ l ∷ ks) m k e f g = absurd (omega arith)
+last_paired (n ∷ o ∷ ms) (j ∷ []) m k e f g = absurd (omega arith)
+last_paired (n ∷ o ∷ ms) (j ∷ l ∷ ks) m k e f g =
+    let a : length (n ∷ o ∷ ms) - 1 ≡ suc (length (o ∷ ms) - 1) = omega arith in
+    let b : length (j ∷ l ∷ ks) - 1 ≡ suc (length (l ∷ ks) - 1) = omega arith in
+    let c : length (entry n j ∷ entry o l ∷ paired ms ks) - 1 ≡ suc (length (entry o l ∷ paired ms ks) - 1) = omega arith in
+    ap (slice_get (paired (n ∷ o ∷ ms) (j ∷ l ∷ ks))) c
+    ∙ last_paired (o ∷ ms) (l ∷ ks) m k (omega arith) (ap (slice_get (n ∷ o ∷ ms)) (sym a) ∙ f) (ap (slice_get (j ∷ l ∷ ks)) (sym b) ∙ g)
 
 -- the rest of the list to redo, with the next of it
 pub drop_paired : (ms : List Made) (ks : List (Option (List (List ℤ)))) (i : ℕ) (d : Made) (e : Option (List (List ℤ))) → length ks ≡ length ms → i < length ms → drop i (paired ms ks) ≡ entry (get_or ms i d) (get_or ks i e) ∷ drop (i + 1) (paired ms ks)

@@ -1,4 +1,4 @@
-ghost use Rattle.std.specs.Prelude.{◌≡◌, ◌<◌, ◌≤◌, [], ◌∷◌, ◌++◌, drop, length, option_map, slice_get, IfOk, OnOk, OnErr};
+ghost use Rattle.std.specs.Prelude.{◌≡◌, ◌-◌, ◌<◌, ◌≤◌, [], ◌∷◌, ◌++◌, drop, length, option_map, slice_get, IfOk, OnOk, OnErr};
 ghost use Rattle.sv_world.specs.Faults.{IsGoodAction};
 ghost use Rattle.sv_pending.specs.Pending.{kept_of, redone, overlay_of};
 ghost use Rattle.sv_pending.specs.Seen.{overlay_seen, item_seen};
@@ -82,14 +82,16 @@ impl Pending {
     {
         let made = self.made.first()?;
         let kept = self.kept.first()?;
-        Some(PendingItem {
-            seq: made.seq,
-            action: &made.action,
-            kept: match kept {
-                Some(values) => Some(values.as_slice()),
-                None => None,
-            },
-        })
+        Some(item_of(made, kept))
+    }
+
+    /// The action that was made last, if there is one.
+    pub fn back(&self) -> Option<PendingItem<'_>>
+        ensures { option_map item_seen result ≡ slice_get self.now.items (length self.now.items - 1) }
+    {
+        let made = self.made.last()?;
+        let kept = self.kept.last()?;
+        Some(item_of(made, kept))
     }
 
     /// Takes the action that was made first out. The others keep their results.
@@ -144,5 +146,18 @@ impl Pending {
             made,
             kept,
         })
+    }
+}
+
+fn item_of<'a>(made: &'a Made, kept: &'a Kept) -> PendingItem<'a>
+    ensures { item_seen result ≡ record { seq = made.now.seq; action = made.now.action; kept = kept.now } }
+{
+    PendingItem {
+        seq: made.seq,
+        action: &made.action,
+        kept: match kept {
+            Some(values) => Some(values.as_slice()),
+            None => None,
+        },
     }
 }
