@@ -2,10 +2,11 @@
 #![tactic(auto)]
 
 #[cfg(test)]
+mod built;
+#[cfg(test)]
 mod bytes;
 #[cfg(test)]
 mod loads;
-#[cfg(test)]
 #[cfg(test)]
 mod scenario;
 #[cfg(test)]
