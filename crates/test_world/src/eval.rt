@@ -1,10 +1,10 @@
 //! Tests of the evaluator: each operator, branches, and void actions.
+use crate::bodies::Built::{Chained, Negated, Nested, Sets, Sums};
+use crate::bodies::{Built, body_of, flat, one};
 use std::alloc::{AllocError, Global};
 use std::test::Fail;
 use sv_eval::eval;
-use sv_world::{
-    Action, Body, Boxed, Cond, Expr, List, ObjectId, Point, Reads, Stmt, Value, has_short_blocks,
-};
+use sv_world::{Action, Body, Boxed, Cond, Expr, List, ObjectId, Point, Reads, Stmt, Value};
 
 /// An operator, its two operands and the result on each line. A result outside 64 bits is void, and so is division by zero.
 const OPERATIONS: &str = "\
@@ -70,20 +70,6 @@ max -2 2 2
 max 4 4 4
 max -9223372036854775808 9223372036854775807 9223372036854775807";
 
-fn set(expr: Expr) -> Stmt {
-    Stmt::Set {
-        slot: 0,
-        attr: 0,
-        expr,
-    }
-}
-
-fn one(alloc: Global, expr: Expr) -> Result<List<Stmt>, AllocError> {
-    let mut body = List::new(alloc);
-    body.push(set(expr))?;
-    Ok(body)
-}
-
 fn first_number(values: &[Value]) -> i64 {
     match values {
         [value, ..] => match value.as_slice() {
@@ -94,24 +80,15 @@ fn first_number(values: &[Value]) -> i64 {
     }
 }
 
-/// The body of these statements, where nodes can hold them.
-fn flat(alloc: Global, stmts: &[Stmt]) -> Result<Body, AllocError> {
-    if !has_short_blocks(stmts) {
-        return Err(AllocError);
-    }
-    Body::from_stmts(alloc, stmts)
-}
-
 /// An action that reads and writes one object.
-fn action(alloc: Global, body: List<Stmt>) -> Result<Action, AllocError> {
-    let mut reads = Reads::new(alloc);
-    reads.push(ObjectId(0))?;
+fn action(alloc: Global, body: Body) -> Result<Action, AllocError> {
+    let reads = Reads::from_slice(alloc, &[ObjectId(0)])?;
     let origin = Point { x: 0, y: 0 };
     Ok(Action {
         reads,
         mask: 1,
         origin,
-        body: flat(alloc, body.as_slice())?,
+        body,
     })
 }
 
@@ -123,12 +100,25 @@ fn five(alloc: Global) -> Result<List<Value>, AllocError> {
     Ok(values)
 }
 
-/// Whether the body is void on 5, and what it makes of it.
-fn run(alloc: Global, body: List<Stmt>) -> Result<(bool, i64), AllocError> {
-    let action = action(alloc, body)?;
+/// Whether the action is void on 5, and what it makes of it.
+fn outcome_of(alloc: Global, action: &Action) -> Result<(bool, i64), AllocError> {
     let values = five(alloc)?;
-    let outcome = eval(alloc, &action, values.as_slice())?;
+    let outcome = eval(alloc, action, values.as_slice())?;
     Ok((outcome.void, first_number(outcome.writes.as_slice())))
+}
+
+fn run_body(alloc: Global, body: Body) -> Result<(bool, i64), AllocError> {
+    let action = action(alloc, body)?;
+    let told = outcome_of(alloc, &action);
+    drop(action);
+    told
+}
+
+/// The same of an action with these statements.
+fn run(alloc: Global, stmts: List<Stmt>) -> Result<(bool, i64), AllocError> {
+    let body = flat(alloc, stmts.as_slice());
+    drop(stmts);
+    run_body(alloc, body?)
 }
 
 fn operation(operator: &str, left: Boxed<Expr>, right: Boxed<Expr>) -> Expr {
@@ -172,9 +162,36 @@ fn choice(alloc: Global) -> Result<Stmt, AllocError> {
     Ok(Stmt::If { cond, then, other })
 }
 
+/// Sets the first number.
+fn set(expr: Expr) -> Stmt {
+    Stmt::Set {
+        slot: 0,
+        attr: 0,
+        expr,
+    }
+}
+
+/// The number and 1, added.
+fn more(alloc: Global) -> Result<Stmt, AllocError> {
+    let a = Boxed::new(alloc, Expr::Attr { slot: 0, attr: 0 })?;
+    let b = Boxed::new(alloc, Expr::Lit(1))?;
+    Ok(set(Expr::Add(a, b)))
+}
+
+/// The number is set, a block chosen by it, and 1 added behind.
 fn chosen(alloc: Global, number: i64) -> Result<(bool, i64), AllocError> {
     let mut body = one(alloc, Expr::Lit(number))?;
     body.push(choice(alloc)?)?;
+    body.push(more(alloc)?)?;
+    run(alloc, body)
+}
+
+/// So many times 1 is added, in four nodes each.
+fn raised(alloc: Global, count: u8) -> Result<(bool, i64), AllocError> {
+    let mut body = List::new(alloc);
+    for _ in 0..count {
+        body.push(more(alloc)?)?;
+    }
     run(alloc, body)
 }
 
@@ -189,6 +206,10 @@ fn set_before_void(alloc: Global) -> Result<(bool, i64), AllocError> {
     let mut body = one(alloc, Expr::Lit(7))?;
     body.push(set(void(alloc)?))?;
     run(alloc, body)
+}
+
+fn built(alloc: Global, built: Built) -> Result<(bool, i64), AllocError> {
+    run_body(alloc, body_of(alloc, built)?)
 }
 
 #[test]
@@ -212,7 +233,21 @@ fn operators_give_their_numbers(rt: HostRuntime) -> Result<(), Fail> {
 #[test]
 fn runs_one_branch_on_what_was_set(rt: HostRuntime) -> Result<(), Fail> {
     let alloc = rt.alloc();
-    assert_eq!(rt; chosen(alloc, 1)?, (false, 30));
-    assert_eq!(rt; chosen(alloc, 2)?, (false, 40));
+    assert_eq!(rt; chosen(alloc, 1)?, (false, 31));
+    assert_eq!(rt; chosen(alloc, 2)?, (false, 41));
+    Ok(())
+}
+
+/// Bodies of 64 nodes, and of eight levels.
+#[test]
+fn runs_the_greatest_bodies(rt: HostRuntime) -> Result<(), Fail> {
+    let alloc = rt.alloc();
+    assert_eq!(rt; raised(alloc, 16)?, (false, 21));
+    assert_eq!(rt; built(alloc, Sets(32))?, (false, 7));
+    assert_eq!(rt; built(alloc, Negated(5, 27))?, (false, 7));
+    assert_eq!(rt; built(alloc, Negated(5, 0))?, (false, 5));
+    assert_eq!(rt; built(alloc, Nested(6))?, (false, 7));
+    assert_eq!(rt; built(alloc, Chained(6))?, (false, 7));
+    assert_eq!(rt; built(alloc, Sums(6))?, (false, 7));
     Ok(())
 }

@@ -1,13 +1,13 @@
 //! Tests of pending actions and what is computed again.
 ghost use Rattle.std.specs.Prelude.{◌≡◌, ◌<◌, IfOk};
 
+use crate::bodies::{flat, one};
 use std::alloc::{AllocError, Global};
 use std::test::Fail;
 use sv_pending::{Overlay, Pending};
 use sv_versions::Versions;
 use sv_world::{
-    Action, Body, Boxed, Expr, List, ObjectId, Point, Reads, Shape, Stmt, Value, check_action,
-    has_short_blocks,
+    Action, Boxed, Expr, List, ObjectId, Point, Reads, Shape, Stmt, Value, check_action,
 };
 
 const FIRST: ObjectId = ObjectId(0);
@@ -28,40 +28,25 @@ enum Deed {
     Keep,
 }
 
-/// The body of these statements, where nodes can hold them.
-fn flat(alloc: Global, stmts: &[Stmt]) -> Result<Body, AllocError> {
-    if !has_short_blocks(stmts) {
-        return Err(AllocError);
-    }
-    Body::from_stmts(alloc, stmts)
-}
-
 fn action(
     alloc: Global,
     reads: &[ObjectId],
     mask: u16,
-    body: List<Stmt>,
+    stmts: List<Stmt>,
 ) -> Result<Action, AllocError> {
+    let body = flat(alloc, stmts.as_slice());
+    drop(stmts);
+    let body = body?;
     Ok(Action {
         reads: Reads::from_slice(alloc, reads)?,
         mask,
         origin: Point { x: 0, y: 0 },
-        body: flat(alloc, body.as_slice())?,
+        body,
     })
 }
 
 fn present(alloc: Global) -> Result<Boxed<Expr>, AllocError> {
     Boxed::new(alloc, Expr::Attr { slot: 0, attr: 0 })
-}
-
-fn set(alloc: Global, expr: Expr) -> Result<List<Stmt>, AllocError> {
-    let mut body = List::new(alloc);
-    body.push(Stmt::Set {
-        slot: 0,
-        attr: 0,
-        expr,
-    })?;
-    Ok(body)
 }
 
 fn sum(alloc: Global, by: i64) -> Result<Expr, AllocError> {
@@ -76,8 +61,8 @@ fn product(alloc: Global, by: i64) -> Result<Expr, AllocError> {
 
 fn action_of(alloc: Global, deed: Deed) -> Result<Action, AllocError> {
     match deed {
-        Deed::Plus(by) => action(alloc, &[FIRST], 1, set(alloc, sum(alloc, by)?)?),
-        Deed::Times(by) => action(alloc, &[FIRST], 1, set(alloc, product(alloc, by)?)?),
+        Deed::Plus(by) => action(alloc, &[FIRST], 1, one(alloc, sum(alloc, by)?)?),
+        Deed::Times(by) => action(alloc, &[FIRST], 1, one(alloc, product(alloc, by)?)?),
         Deed::Look => action(alloc, &[FIRST], 0, List::new(alloc)),
         Deed::Keep => action(alloc, &[FIRST, SECOND], 1, List::new(alloc)),
     }
