@@ -1,6 +1,7 @@
 //! Tests of the messages' vectors, and of payloads that are refused at the right place.
 ghost use Rattle.sv_wire.specs.Grammar.{IsWireRequest, IsWireReply};
 
+use crate::bodies::put_sets;
 use std::alloc::Global;
 use std::process::Abort;
 use std::test::Fail;
@@ -12,7 +13,7 @@ use sv_world::{ClientId, List, ObjectId};
 
 const JOIN: [u8; 10] = [1, 0, 0, 0, 0, 0, 1, 1, 0, 0];
 
-const SUBMIT: [u8; 35] = [
+pub const SUBMIT: [u8; 35] = [
     6, 0, 0, 0, 1, 1, 0, 0, 0, 1, 0, 0, 0, 0, 0, 0, 0, 0, 1, 0x10, 0, 0, 0x22, 0x21, 0, 0, 0x20, 0,
     0, 0, 0, 0, 0, 0, 1,
 ];
@@ -68,7 +69,7 @@ fn copied_reply_is_written(alloc: Global, reply: &Reply, payload: &[u8]) -> Resu
 }
 
 /// A request's payload is read, and its copy written as the same payload.
-fn request_comes_back(rt: &impl Abort, alloc: Global, payload: &[u8]) -> Result<(), Fail> {
+pub fn request_comes_back(rt: &impl Abort, alloc: Global, payload: &[u8]) -> Result<(), Fail> {
     let Ok(request) = decode_request(alloc, payload) else {
         return Err(Fail::from("it is a request"));
     };
@@ -88,7 +89,13 @@ fn reply_comes_back(rt: &impl Abort, alloc: Global, payload: &[u8]) -> Result<()
     Ok(())
 }
 
-fn request_is_refused(rt: &impl Abort, alloc: Global, payload: &[u8], at: u32, cause: WireCause) {
+pub fn request_is_refused(
+    rt: &impl Abort,
+    alloc: Global,
+    payload: &[u8],
+    at: u32,
+    cause: WireCause,
+) {
     let fault = decode_request(alloc, payload).err();
     assert!(rt; fault == Some(WireFault::Malformed(Malformed { at, cause })));
 }
@@ -207,7 +214,7 @@ fn changed(alloc: Global, payload: &[u8], place: usize, other: u8) -> Result<Vec
 }
 
 /// A request with one byte changed is refused at a place.
-fn changed_request_is_refused(
+pub fn changed_request_is_refused(
     rt: &impl Abort,
     alloc: Global,
     payload: &[u8],
@@ -326,47 +333,6 @@ fn refused_replies(rt: HostRuntime) {
     reply_is_refused(&rt, alloc, &[0x87, 12, 0, 0, 0, 0], 1, WireCause::Code);
 }
 
-/// Appends `count` statements that set a number to a literal: two nodes each, in twelve bytes.
-fn put_sets(payload: &mut Vec<u8>, count: u8) -> Result<(), Fail> {
-    for _ in 0..count {
-        payload.extend_from_slice(&[0x10, 0, 0, 0x20, 0, 0, 0, 0, 0, 0, 0, 1])?;
-    }
-    Ok(())
-}
-
-/// Eight negations, one in the other, in an `if`.
-const DEEP: [u8; 9] = [0x11, 0x35, 0x35, 0x35, 0x35, 0x35, 0x35, 0x35, 0x35];
-
-/// The submit with this many statements: so many that set a number, and the deep one behind them where there is one more.
-fn submit_of(alloc: Global, count: u8, sets: u8) -> Result<Vec<u8>, Fail> {
-    let mut payload = Vec::from_slice(alloc, &SUBMIT[..18])?;
-    payload.push(count)?;
-    put_sets(&mut payload, sets)?;
-    if sets < count {
-        payload.extend_from_slice(&DEEP)?;
-    }
-    Ok(payload)
-}
-
-fn submit_is_refused(
-    rt: &impl Abort,
-    alloc: Global,
-    statements: (u8, u8),
-    at: u32,
-    cause: WireCause,
-) -> Result<(), Fail> {
-    let payload = submit_of(alloc, statements.0, statements.1)?;
-    request_is_refused(rt, alloc, &payload, at, cause);
-    Ok(())
-}
-
-#[test]
-fn refused_nodes(rt: HostRuntime) -> Result<(), Fail> {
-    submit_is_refused(&rt, rt.alloc(), (1, 0), 27, WireCause::Deep)?;
-    submit_is_refused(&rt, rt.alloc(), (33, 33), 403, WireCause::Large)?;
-    submit_is_refused(&rt, rt.alloc(), (29, 28), 363, WireCause::Large)
-}
-
 /// Appends a value of four numbers.
 fn put_value(payload: &mut Vec<u8>) -> Result<(), Fail> {
     payload.push(4)?;
@@ -428,39 +394,4 @@ fn greatest_results(rt: HostRuntime) -> Result<(), Fail> {
     let done = greatest_done(rt.alloc())?;
     assert!(rt; done.len() <= 65_536);
     request_comes_back(&rt, rt.alloc(), &done)
-}
-
-/// An `if` whose first block has one statement, as far as that statement: four nodes and the block's count.
-const NESTING: [u8; 15] = [0x11, 0x31, 0x21, 15, 0, 0x20, 0, 0, 0, 0, 0, 0, 0, 1, 1];
-
-/// A submit whose body has 64 nodes on eight levels: six `if` in one another, each with statements behind it where it does not hold.
-fn deepest_submit(alloc: Global) -> Result<Vec<u8>, Fail> {
-    let mut payload = Vec::from_slice(alloc, &[6, 0, 0, 0, 1, 16])?;
-    for object in 0..16u8 {
-        payload.extend_from_slice(&[0, object])?;
-    }
-    payload.extend_from_slice(&[0xff, 0xff, 0, 0, 0, 0, 0, 0, 0, 0, 1])?;
-    for _ in 0..6u8 {
-        payload.extend_from_slice(&NESTING)?;
-    }
-    put_sets(&mut payload, 1)?;
-    for _ in 0..5u8 {
-        payload.push(3)?;
-        put_sets(&mut payload, 3)?;
-    }
-    payload.push(4)?;
-    put_sets(&mut payload, 4)?;
-    Ok(payload)
-}
-
-#[test]
-fn deepest_bodies(rt: HostRuntime) -> Result<(), Fail> {
-    let mut submit = deepest_submit(rt.alloc())?;
-    request_comes_back(&rt, rt.alloc(), &submit)?;
-    // A spare node behind the last statement.
-    submit.push(0x10)?;
-    let end = submit.len() - 1;
-    assert!(rt; end == 385);
-    request_is_refused(&rt, rt.alloc(), &submit, 385, WireCause::Rest);
-    Ok(())
 }
