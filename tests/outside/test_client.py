@@ -915,13 +915,36 @@ def test_programs(count):
     count.expect(dimboetu.__doc__.count("\n") > 3, "the client says how it is used")
 
 
+def test_mine(count):
+    """The game of two players, against the stand-in."""
+    path, mine = (os.path.join(CLIENTS, name) for name in ("mine.json", "mine.py"))
+    server = subprocess.Popen([sys.executable, os.path.join(HERE, "stand_in.py"), path, "0"], stdout=subprocess.PIPE, text=True)
+    port = server.stdout.readline().split()[1]
+    players = [subprocess.Popen([sys.executable, mine, str(number), port], stdout=subprocess.PIPE,
+                                stderr=subprocess.STDOUT, text=True) for number in range(2)]
+    shown = [player.communicate(timeout=LONGEST)[0] for player in players]
+    text = server.communicate(timeout=LONGEST)[0]
+    count.same([player.returncode for player in players] + [server.returncode], [0, 0, 0], "statuses of the game")
+    with open(path, "rb") as file:
+        history, serial = history_of(scenario_of(file.read()), text.rsplit("commit ", 1)[0])
+    last = [serial.value(target, len(history.accepted)) for target in range(3)]
+    count.same((last[0][0], last[1][0] + last[2][0]), (0, 21), "all nuggets are in the purses")
+    for number, lines in enumerate(shown):
+        for target in range(3):
+            seen = [line for line in lines.split("\n") if f"player {number} sees object {target}: " in line]
+            count.expect(bool(seen) and seen[-1].endswith(f": {last[target]}"), f"player {number}, object {target}: {seen[-1:]}")
+    for words in ((), ("0",), ("2", port), ("0", "no")):
+        done = subprocess.run([sys.executable, mine, *words], capture_output=True, check=False)
+        count.same((done.returncode, done.stdout), (1, b""), f"mine {words}")
+
+
 def main():
     """The status of all tests."""
     signal.alarm(4 * LONGEST)
     count = Count()
     for test in (test_vectors, test_refused_payloads, test_streams, test_actions, test_builder, test_beside_players,
                  test_two_at_once, test_rejoin, test_dropped, test_limits, test_random_runs, test_malformed, test_lies, test_late_items,
-                 test_programs):
+                 test_programs, test_mine):
         test(count)
     print(f"{count.passed} passed, {count.failed} failed")
     return 0 if count.failed == 0 else 1

@@ -34,7 +34,8 @@ opening fence:
 
 Where no document is named, it looks at more:
 
-- each line of docs and README that names a file of the repository by a link names one that is there;
+- each line of docs and README that names a file of the repository by a link names one that is there, and a
+  heading that it has;
 - each command line `./dimboetu ..` of these documents is one that `--help` has, and names files that
   are there; with --program each of them that ends by itself is run, and must end with status 0, a
   replay of an example with the text beside it;
@@ -261,6 +262,12 @@ def all_documents():
     return ["README.md"] + [f"docs/{name}" for name in pages]
 
 
+def marks_of(text):
+    """The marks of a page's headings, by which links name them: small letters, with `-` for each blank."""
+    headings = re.findall(r"^#+ (.*)$", re.sub(r"^```.*?^```$", "", text, flags=re.S | re.M), re.M)
+    return [re.sub(r"[^\w -]", "", each).strip().lower().replace(" ", "-") for each in headings]
+
+
 def help_text():
     """What `--help` prints."""
     return re.search(r'HELP: &str =\s*r#"(.*?)"#;', text_of("crates/sv_main/src/help.rt"), re.S)[1]
@@ -436,12 +443,15 @@ class Checker:
         self.expect(bool(lines) and stands_in(lines, text_of(path).split("\n")), f"{name}: not in {path}")
 
     def check_links(self):
-        """Links to files of the repository."""
+        """Links to files of the repository, and to headings of them."""
         for page in all_documents():
-            for target in re.findall(r"\]\(([^)#\s]+)(?:#[^)]*)?\)", text_of(page)):
-                if "://" not in target:
-                    path = os.path.join(TOP, os.path.dirname(page), target)
-                    self.expect(os.path.exists(path), f"{page}: no {target}")
+            for target, heading in re.findall(r"\]\(([^)#\s]*)(?:#([^)]*))?\)", text_of(page)):
+                if "://" in target:
+                    continue
+                path = os.path.normpath(os.path.join(os.path.dirname(page), target)) if target else page
+                self.expect(os.path.exists(os.path.join(TOP, path)), f"{page}: no {target}")
+                if heading:
+                    self.expect(path.endswith(".md") and heading in marks_of(text_of(path)), f"{page}: {target} has no #{heading}")
 
     def check_commands(self, program):
         """The calls of the program in the documents."""

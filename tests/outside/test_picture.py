@@ -6,7 +6,8 @@
 The reports are those beside the examples, and one of a made-up market (5,000 actions with --large,
 else 300). What the page's data says is counted again from each report, by the tests' own reader of
 reports. Where Chromium is installed (Debian's package chromium), it loads the pages without a
-window, and what they show is compared too; --shots has it take pictures of two pages.
+window, and what they show is compared too; --shots has it take pictures of two pages. Each way to
+end without a page is tried, too.
 Closes with `N passed, M failed`.
 """
 
@@ -28,7 +29,7 @@ HERE = os.path.dirname(os.path.abspath(__file__))
 TOP = os.path.join(HERE, "..", "..")
 PICTURE = os.path.join(TOP, "tools", "picture")
 EXAMPLES = ("first", "conflict", "trade", "bound", "reach", "retry", "orphan", "looks", "marketplace")
-SHOTS = (("trade", "#action=c1.2", "1120,860"), ("marketplace", "#action=c3.9", "1120,760"))
+SHOTS = (("trade", "#action=c1.2", "1120,860"), ("marketplace", "#action=c3.9", "1120,1040"))
 
 
 def market(actions, clients):
@@ -137,6 +138,34 @@ class Checker:
             self.check_shown(name, path, expected, writes, browser)
         return path
 
+    def check_endings(self):
+        """What is no report, no file or no word, and an output that fails."""
+        missing = os.path.join(HERE, "missing")
+        good = os.path.join(TOP, "examples", "first.out")
+        for words, text, ending in (
+                (["-"], b"", (3, "report: line 1 is missing\n")),
+                (["-"], b"{}\n", (3, "report: line 1 is none of a report: {}\n")),
+                (["-"], b"journal 1\nno entry\n", (3, "report: line 2 is none of a report: no entry\n")),
+                (["-"], b"journal 0\nclient 0\nlaughs\nworld 0\n", (3, "report: line 3 is none of a report: laughs\n")),
+                (["-"], b"journal 0\nclient 0\n", (3, "report: line 3 is missing\n")),
+                (["-"], b"journal 0\nclient 0\ngot s0 #7\nworld 0\n", (3, "report: its lines are no report\n")),
+                (["-"], b"\xff\xfe", (3, "report: its lines are no report\n")),
+                ([], b"", (2, "words: tools/picture REPORT > PAGE\n")),
+                (["--large"], b"", (2, "words: tools/picture REPORT > PAGE\n")),
+                ([good, good], b"", (2, "words: tools/picture REPORT > PAGE\n")),
+                ([missing], b"", (4, f"file: {missing}: No such file or directory\n")),
+                ([HERE], b"", (4, f"file: {HERE}: Is a directory\n"))):
+            found = subprocess.run([sys.executable, PICTURE, *words], input=text, capture_output=True, check=False)
+            self.expect((found.returncode, found.stderr.decode()) == ending and found.stdout == b"",
+                        f"{words} {text!r}: {found.returncode} {found.stderr!r}")
+        for word in ("--help", "-h"):
+            found = subprocess.run([sys.executable, PICTURE, word], capture_output=True, text=True, check=False)
+            self.expect(found.returncode == 0 and "tools/picture trade.report > trade.html" in found.stdout, word)
+        with open("/dev/full", "wb") as full:
+            for word in (good, "--help"):
+                found = subprocess.run([sys.executable, PICTURE, word], stdout=full, stderr=subprocess.PIPE, check=False)
+                self.expect((found.returncode, found.stderr) == (5, b"out\n"), f"{word} on a full disk: {found.stderr!r}")
+
     def check_chains(self, name, data):
         """Of a dropped action as many unfinished actions are shown as the report counts."""
         accepted = {each["p"]: each for each in data["actions"] if each["p"]}
@@ -188,10 +217,7 @@ def main(words):
             pages[name] = checker.check_page(name, text, scenario, browser, folder)
         scenario = market(5000 if large else 300, 25 if large else 6)
         pages["market"] = checker.check_page("market", simulate.replay(scenario), scenario, browser, folder)
-        for text, status in (("", 3), ("journal 1\nno entry\n", 3), ("journal 0\nclient 0\nlaughs\nworld 0\n", 3)):
-            found = subprocess.run([sys.executable, PICTURE, "-"], input=text, capture_output=True, text=True,
-                                   check=False)
-            checker.expect(found.returncode == status and found.stdout == "", f"no report: {text!r}")
+        checker.check_endings()
         if "--shots" in words and browser.path:
             target = os.path.abspath(words[words.index("--shots") + 1])
             for name, mark, size in SHOTS:

@@ -52,6 +52,8 @@ function valueAfter(object, place) {
 // ---- Lanes: each action has a row in its client's lane
 
 const ends = (action) => action.p ? (action.e ?? LAST) : (action.g ?? action.a ?? action.m + 1);
+// Between two actions of a row is room for the tick of the first one; none where marks are small anyway.
+const ROOM = LAST <= 400 ? LAST / 45 : 0.05;
 const rows = new Map(), depth = new Map();
 for (const client of clients) {
   const busy = [];
@@ -59,7 +61,7 @@ for (const client of clients) {
     let row = busy.findIndex((end) => end <= action.m);
     if (row < 0 && busy.length < 10) row = busy.length;
     if (row < 0) row = busy.indexOf(Math.min(...busy));
-    busy[row] = ends(action) + 0.05;
+    busy[row] = ends(action) + ROOM;
     rows.set(action, row);
   }
   depth.set(client, Math.max(1, busy.length));
@@ -203,12 +205,11 @@ function arrow(from, to, colour, thick) {
 
 function paintShown(action) {
   const direct = new Set(action.f.map((each) => each[1]).filter(Boolean));
-  for (const place of chainOf(action)) if (!direct.has(place)) for (const [, next] of accepted[place].f) if (next > action.b) arrow(accepted[next], accepted[place], "#0b5fff55", 1.2);
   for (const place of chainOf(action)) for (const [, next] of accepted[place].f) if (next > action.b) arrow(accepted[next], accepted[place], "#0b5fff55", 1.2);
   for (const place of direct) arrow(accepted[place], action, place > action.b ? "#0b5fff" : "#0b5fff88", place > action.b ? 2 : 1.2);
   if (action.p) for (const next of influenced.get(action.p) || []) arrow(action, next, "#8a4fd3aa", 1.4);
   const y = rowY(action);
-  pen.strokeStyle = "#1c2330"; pen.lineWidth = 1.4; pen.beginPath(); pen.roundRect(xOf(action.m) - 6, y - PITCH / 2, Math.max(12, xOf(ends(action)) - xOf(action.m) + 12), PITCH, 5); pen.stroke();
+  pen.strokeStyle = "#1c2330"; pen.lineWidth = 1.4; pen.beginPath(); pen.roundRect(xOf(action.m) - 6, y - PITCH / 2, Math.max(12, xOf(ends(action)) - xOf(action.m) + (action.e !== null && action.e === action.o ? 24 : 12)), PITCH, 5); pen.stroke();
 }
 
 function paint() {
@@ -300,7 +301,7 @@ function outcomeOf(action) {
 }
 
 function tell(action) {
-  if (!action) { byId("said").innerHTML = `<p class="quiet">None is chosen.</p>`; return; }
+  if (!action) { byId("said").innerHTML = `<p class="quiet">None is chosen. Point at one in the picture, or choose one in the list.</p>`; return; }
   const facts = [];
   if (action.k !== null) facts.push(fact("expected", action.k === "none" ? "no guess: its client did not know all that it reads" : safe(listed(action.k))));
   if (action.p) facts.push(fact("accepted", `at position ${action.p}, by entry ${action.a} of session ${action.s}, when ${action.b} were finished`));
@@ -374,6 +375,8 @@ byId("legend").innerHTML = [
   [`<path d="M8 2l6 10H2z" fill="#c77700"/>`, "guess was wrong"],
   [`<path d="M3 2l9 9M12 2l-9 9" stroke="#d02b3b" stroke-width="2"/>`, "dropped"],
   [`<path d="M4 0v14" stroke="#d02b3b" stroke-width="2"/><path d="M11 0v14" stroke="#12805c" stroke-width="2"/>`, "cut, joined again"],
+  [`<path d="M0 7h16" stroke="#2f6fed88" stroke-width="2"/><circle cx="8" cy="7" r="3" fill="#fff" stroke="#2f6fed" stroke-width="1.6"/>`, "asked again"],
+  [`<ellipse cx="8" cy="7" rx="6" ry="4" fill="none" stroke="#98a1b0" stroke-width="1.4"/><circle cx="8" cy="7" r="1.6" fill="#98a1b0"/>`, "show"],
   [`<rect x="0" y="2" width="16" height="10" fill="#fff1d6"/>`, "not finished"],
   [`<rect x="0" y="2" width="16" height="10" fill="#d9f0e4"/>`, "finished"],
 ].map(([inside, name]) => `<span>${icon(inside)}${name}</span>`).join("");
@@ -383,6 +386,7 @@ const CLASSES = { dropped: "bad", refused: "bad", corrected: "warn" };
 const guesses = actions.some((each) => each.k !== null);
 byId("counts").innerHTML = Object.entries(NAMES).filter(([key]) => (guesses || key !== "corrected") && (counts[key] || !["unguessed", "rejoined", "refused"].includes(key))).map(([key, name]) => `<li class="${counts[key] ? CLASSES[key] || "" : ""}"><b id="count-${key}">${counts[key]}</b> ${counts[key] === 1 && ONE[key] || name}</li>`).join("");
 
+tell(null);
 worldTable(100);
 actionTable(100);
 window.addEventListener("resize", measure);

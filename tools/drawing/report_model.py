@@ -27,10 +27,11 @@ RESULT = re.compile(r"([0-9]+):((?:\([^)]*\))*)")
 
 
 class NoReport(Exception):
-    """A line that stands in no report, counted from 1."""
+    """A line that stands in no report, counted from 1; of None the report ends before it."""
 
     def __init__(self, line, text):
-        super().__init__(f"line {line} is none of a report: {text[:60]}")
+        super().__init__(f"line {line} is missing" if text is None
+                         else f"line {line} is none of a report: {text[:60]}")
 
 
 def numbers_in(text):
@@ -246,13 +247,13 @@ class Model:
         """All lines of a report."""
         head = re.fullmatch(r"journal ([0-9]+)", lines[0]) if lines else None
         if head is None:
-            raise NoReport(1, lines[0] if lines else "")
+            raise NoReport(1, lines[0] if lines else None)
         self.entries = int(head[1])
         self.asked = {}
         for place in range(1, self.entries + 1):
             found = ENTRY.fullmatch(lines[place]) if place < len(lines) else None
             if found is None or int(found[1]) != place:
-                raise NoReport(place + 1, lines[place] if place < len(lines) else "")
+                raise NoReport(place + 1, lines[place] if place < len(lines) else None)
             session, request = int(found[2]), found[3]
             submitted = SUBMIT.fullmatch(request)
             self.asked[place] = (request.split()[0], session, int(submitted[1]) if submitted else 0)
@@ -270,7 +271,7 @@ class Model:
             self.take_trace(int(lines[start - 1].split()[1]), lines[start:at])
         found = re.fullmatch(r"(?:world|commit) ([0-9]+)", lines[at]) if at < len(lines) else None
         if found is None:
-            raise NoReport(at + 1, lines[at] if at < len(lines) else "")
+            raise NoReport(at + 1, lines[at] if at < len(lines) else None)
         self.commit = int(found[1])
         at += 1
         while at < len(lines) and HELD.fullmatch(lines[at]):
@@ -345,5 +346,6 @@ class Model:
 def model_of(text):
     """The model of a report's text."""
     model = Model()
-    model.take_lines(text.split("\n")[:-1] if text.endswith("\n") else text.split("\n"))
+    lines = text.split("\n")
+    model.take_lines(lines[:-1] if lines[-1] == "" else lines)
     return model
