@@ -11,10 +11,9 @@ ghost use Rattle.sv_join.specs.Joining.{passed, passages_of, answer_of, ConnectC
 use crate::outcome::{JoinFault, Joined};
 use crate::steady::Steady;
 use std::alloc::{AllocError, Global};
-use sv_asked::replies_are_messages;
+use sv_asked::{read_scenario_numbers, replies_are_messages};
 use sv_client::{Client, Trace};
 use sv_door::{Door, Made};
-use sv_asked::read_scenario_numbers;
 use sv_player::{PlayerCause, PlayerOut, play_client};
 use sv_scenario::{Plan, Scenario, sessions_of_plan};
 use sv_system::honest_clients_are_never_refused;

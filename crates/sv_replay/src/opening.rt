@@ -10,9 +10,9 @@ ghost use Rattle.sv_replay.specs.Machine.{player_of, AreFlags, run_of, IsMachine
 use crate::machine::Machine;
 use crate::playing::Playing;
 use std::alloc::{AllocError, Global};
+use sv_asked::read_scenario_numbers;
 use sv_client::Client;
 use sv_exchange::Exchange;
-use sv_asked::read_scenario_numbers;
 use sv_scenario::{Plan, Scenario, sessions_of, sessions_of_plan};
 use sv_sequencer::Sequencer;
 use sv_world::{ClientId, Shape, World, copy_objects, copy_values};

@@ -10,7 +10,8 @@ const PAYS: &str =
     "reads 3 7 writes 3 7 { if [5 <= @3.2] { set @3.2 (@3.2 - 5); set @7.2 (@7.2 + 5); } }";
 
 /// An `else`, three statements, and the operators that `PAYS` has not.
-const MIXES: &str = "reads 3 7 writes 3 7 { if (not [(@3.0 % 2) == 1] or ([@3.0 < 1] and [@3.1 <= @3.0])) { } else { set @3.0 ((@3.0 * 3) / @3.1); set @3.1 (@3.0 min 1); set @7.0 (1 max @7.0); } }";
+const MIXES: &str =
+    "reads 3 7 writes 3 7 { if (not [(@3.0 % 2) == 1] or ([@3.0 < 1] and [@3.1 <= @3.0])) { } else { set @3.0 ((@3.0 * 3) / @3.1); set @3.1 (@3.0 min 1); set @7.0 (1 max @7.0); } }";
 
 fn is_text<B: Block>(alloc: Global, block: B, text: &str) -> Result<bool, Fail> {
     if text.len() > 4096 {
@@ -44,7 +45,10 @@ fn what_is_built_is_what_the_text_says(rt: HostRuntime) -> Result<(), Fail> {
         set(0, 1, a.min(1)),
         set(1, 0, number(1).max(get(1, 0))),
     );
-    assert!(rt; is_text(rt.alloc(), when(far, (), changes), MIXES)?, "mixes");
+    assert!(rt;
+        is_text(rt.alloc(), when(far, (), changes), MIXES)?,
+        "mixes"
+    );
     assert!(rt; !is_text(rt.alloc(), when(far, (), ()), MIXES)?, "another");
     Ok(())
 }

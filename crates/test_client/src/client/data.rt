@@ -3,7 +3,8 @@ use std::alloc::{AllocError, Global};
 use std::test::Fail;
 use sv_wire::{Held, Item, Reply};
 use sv_world::{
-    Action, Body, Boxed, ClientId, Expr, List, ObjectId, Point, Reads, Stmt, Value, has_short_blocks,
+    Action, Body, Boxed, ClientId, Expr, List, ObjectId, Point, Reads, Stmt, Value,
+    has_short_blocks,
 };
 
 /// What an action sets its first object to, in a world of one number for each object.
