@@ -1,6 +1,7 @@
 pub mod Lines
 pub mod Seeking
 pub mod Doing
+pub mod Telling
 pub mod Standing
 pub mod Counting
 pub mod Dropping

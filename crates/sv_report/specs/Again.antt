@@ -1,12 +1,12 @@
 -- A trace done again by a client, event by event. The client counts its sessions from 0.
 -- Events stand with the latest first.
-use Rattle.std.specs.Prelude.{◌≡◌, ℕ, ◌+◌, ◌<◌, ◌≤◌, ◌==◌, List, [], ◌∷◌, ◌++◌, map, drop, length, Some, None, if◌then◌else◌, codes}
+use Rattle.std.specs.Prelude.{◌≡◌, ℕ, ◌+◌, ◌-◌, ◌<◌, ◌≤◌, ◌==◌, List, [], ◌∷◌, ◌++◌, map, drop, length, slice_get, Option, Some, None, if◌then◌else◌, codes}
 use Rattle.std.specs.Fmt.{decimal}
 use Rattle.sv_world.specs.declared.world.ObjectId.{ObjectId}
 use Rattle.sv_world.specs.Sets.{write_set}
 use Rattle.sv_journal.specs.declared.entry.Entry.{Entry}
 use Rattle.sv_journal.specs.Pieces.{bracketed}
-use Rattle.sv_pending.specs.Pending.{kept_of}
+use Rattle.sv_pending.specs.Pending.{PendingAction, kept_of}
 use Rattle.sv_client.specs.declared.trace.Event.{Event}
 use Rattle.sv_client.specs.declared.trace.Event.TheVariants as events
 use Rattle.sv_client.specs.Traces.{joins, makes, current_session, held_of, pending_of, view_of, got}
@@ -55,6 +55,21 @@ text_of number t (events.Got s reply) = codes "got s" ++ decimal s ++ codes " #"
 text_of number t events.Cut = codes "cut"
 text_of number t events.Quit = codes "quit"
 text_of number t (events.Show objects) = codes "show " ++ bracketed (λ (o : ObjectId). shown_text o.0 (view_of t o.0)) objects
+
+-- What of it the client tells before it does the event: of an action all but what it keeps.
+abbrev pub text_before : ℕ → List Event → Event → List ℕ
+text_before number t (events.Make action) = codes "make " ++ decimal (makes t + 1) ++ codes " kept "
+text_before number t e = text_of number t e
+
+-- What the client keeps of the action that it made last.
+abbrev pub last_kept_text : Option PendingAction → List ℕ
+last_kept_text None = []
+last_kept_text (Some p) = kept_text (write_set p.action) p.kept
+
+-- What of it the client tells after it did the events t, whose latest is that event.
+abbrev pub text_after : List Event → Event → List ℕ
+text_after t (events.Make action) = last_kept_text (slice_get (pending_of t) (length (pending_of t) - 1))
+text_after t e = []
 
 -- The lines of events, in order, that come after the events t.
 abbrev pub lines_after : List Entry → List Event → List Event → List ℕ

@@ -1,5 +1,5 @@
 //! The events of a trace, done again by a client.
-ghost use Rattle.std.specs.Prelude.{◌≡◌, ◌∷◌, ◌<◌, true, None, OnOk};
+ghost use Rattle.std.specs.Prelude.{◌≡◌, ◌∷◌, ◌<◌, true, None, OnOk, OnErr};
 ghost use Rattle.sv_client.specs.declared.trace.Event.TheVariants as events;
 ghost use Rattle.sv_client.specs.Traces.{joins};
 ghost use Rattle.sv_client.specs.Taking.{first_fault_of_reply};
@@ -16,6 +16,7 @@ fn join_again(client: &mut Client) -> Result<(), AllocError>
     requires { joins client.old.events < 64 }
     ensures who { OnOk result (client.new.who ≡ client.old.who) }
     ensures events { OnOk result (client.new.events ≡ events.Join (joins client.old.events) ∷ client.old.events) }
+    ensures err { OnErr result (client.new ≡ client.old) }
 {
     let _ = client.join()?;
     Ok(())
@@ -25,6 +26,7 @@ fn make_again(alloc: Global, client: &mut Client, action: &Action) -> Result<(),
     requires { MayMake client.old.who client.old.events action.now }
     ensures who { OnOk result (client.new.who ≡ client.old.who) }
     ensures events { OnOk result (client.new.events ≡ events.Make action.now ∷ client.old.events) }
+    ensures err { OnErr result (client.new ≡ client.old) }
 {
     let copy = copy_action(alloc, action)?;
     match client.make(copy) {
@@ -38,6 +40,7 @@ fn poll_again(client: &mut Client) -> Result<(), AllocError>
     requires { MayPoll client.old.who client.old.events }
     ensures who { OnOk result (client.new.who ≡ client.old.who) }
     ensures events { OnOk result (client.new.events ≡ events.Poll ∷ client.old.events) }
+    ensures err { OnErr result (client.new ≡ client.old) }
 {
     match client.poll() {
         Ok(_) => Ok(()),
@@ -50,6 +53,7 @@ fn leave_again(client: &mut Client) -> Result<(), AllocError>
     requires { MayLeave client.old.who client.old.events }
     ensures who { OnOk result (client.new.who ≡ client.old.who) }
     ensures events { OnOk result (client.new.events ≡ events.Leave ∷ client.old.events) }
+    ensures err { OnErr result (client.new ≡ client.old) }
 {
     let _ = client.leave()?;
     Ok(())
@@ -59,6 +63,7 @@ fn take_again(client: &mut Client, reply: &Reply) -> Result<(), AllocError>
     requires { first_fault_of_reply client.old.who client.old.events reply.now ≡ None }
     ensures who { OnOk result (client.new.who ≡ client.old.who) }
     ensures events { OnOk result (client.new.events ≡ got_now client.old.events reply.now ∷ client.old.events) }
+    ensures err { OnErr result (client.new ≡ client.old) }
 {
     match client.take(reply) {
         Ok(_) => Ok(()),
@@ -70,16 +75,20 @@ fn take_again(client: &mut Client, reply: &Reply) -> Result<(), AllocError>
 fn show_again(alloc: Global, client: &mut Client, objects: &[ObjectId]) -> Result<(), AllocError>
     ensures who { OnOk result (client.new.who ≡ client.old.who) }
     ensures events { OnOk result (client.new.events ≡ events.Show objects.now ∷ client.old.events) }
+    ensures err { OnErr result (client.new ≡ client.old) }
 {
     let copy = copy_objects(alloc, objects)?;
     client.note(Mark::Show(copy))
 }
 
-/// Does an event. It fails only where memory runs out.
-pub(crate) fn do_again(alloc: Global, client: &mut Client, event: &Event) -> Result<(), AllocError>
+/// Does an event of a trace again, which the client may do next. It fails only where memory runs out, and then the client is as it was.
+///
+/// The client counts its sessions from 0, whatever the session's number is in the trace.
+pub fn do_again(alloc: Global, client: &mut Client, event: &Event) -> Result<(), AllocError>
     requires { MayDo client.old.who client.old.events event.now }
     ensures who { OnOk result (client.new.who ≡ client.old.who) }
     ensures events { OnOk result (client.new.events ≡ again client.old.events event.now ∷ client.old.events) }
+    ensures err { OnErr result (client.new ≡ client.old) }
 {
     match event {
         Event::Join(_) => join_again(client),

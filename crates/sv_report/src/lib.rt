@@ -16,6 +16,8 @@ mod values;
 mod whole;
 mod written;
 
+pub use again::do_again;
 pub use laws::drops_are_outcomes;
 pub use summary::brief;
+pub use values::append_world;
 pub use whole::report;

@@ -4,8 +4,7 @@ ghost use Rattle.std.specs.List.{flat_map};
 ghost use Rattle.sv_client.specs.Proper.{AreProper, Proper};
 ghost use Rattle.sv_report.specs.Report.{event_lines, trace_text};
 
-use crate::again::do_again;
-use crate::event::append_event;
+use crate::event::tell_again;
 use crate::next::next_for;
 use std::alloc::{AllocError, Global};
 use sv_client::{Client, Trace};
@@ -30,8 +29,7 @@ fn append_events(
     let mut place = 0;
     for event in events {
         let next = next_for(entries, place, event);
-        append_event(alloc, client, next.number, event, out)?;
-        do_again(alloc, client, event)?;
+        tell_again(alloc, client, next.number, event, out)?;
         place = next.behind;
     }
     Ok(())

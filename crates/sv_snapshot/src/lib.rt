@@ -1,7 +1,6 @@
 //! Looks, by which a client is told the values of several objects at one position, and the snapshots that a run tells of them.
 #![tactic(auto)]
 
-mod again;
 mod line;
 mod looker;
 mod looks;

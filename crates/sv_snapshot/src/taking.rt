@@ -14,11 +14,11 @@ ghost use Rattle.sv_snapshot.specs.Snapshots.{last_item, read_all_below, snapsho
 ghost use Rattle.sv_snapshot.specs.Cuts.{IsCut};
 ghost use Rattle.sv_snapshot.specs.Again.{IsReadable};
 
-use crate::again::do_again;
 use crate::looks::is_look;
 use crate::snapshot::Snapshot;
 use std::alloc::{AllocError, Global};
 use sv_client::{Client, Event, Trace, View};
+use sv_report::do_again;
 use sv_system::{Played, replicas_equal_serial_execution};
 use sv_wire::{Held, Item, Reply};
 use sv_world::{List, ObjectId, Shape, Value, copy_objects, copy_value};

@@ -23,16 +23,8 @@ loop-event-init c =
       text = ap (λ (xs : List Event). string_bytes c.args.out.now ++ lines_after entries (numbered first xs) es) c.requires.start;
     }
 
-pub append_event-requires : goal.append_event-requires
-append_event-requires c =
-    let l = c.loop-event in
-    let first = c.args.trace.now.first in
-    let here = stands_at c.args.entries.now first l.client.who (numbered first l.client.events) c.as_slice-events.result.now l.place l.event-index c.event-item.result
-    c.loop-event-test.true c.event-item.is l.invariant.stands in
-    may_do first l.client.who l.client.events c.event-item.result here.after.0
-
-pub do_again-requires : goal.do_again-requires
-do_again-requires c =
+pub tell_again-requires : goal.tell_again-requires
+tell_again-requires c =
     let l = c.loop-event in
     let first = c.args.trace.now.first in
     let here = stands_at c.args.entries.now first l.client.who (numbered first l.client.events) c.as_slice-events.result.now l.place l.event-index c.event-item.result
@@ -46,8 +38,8 @@ loop-event-preserved c =
     let first = c.args.trace.now.first in
     let es = c.as_slice-events.result.now in
     let e = c.event-item.result in
-    let done = c.in_ok-do_again.ensures in
-    let u = c.do_again.new.client.events in
+    let done = c.in_ok-tell_again.ensures in
+    let u = c.tell_again.new.client.events in
     let left = drop (l.event-index + 1) es in
     let here = stands_at entries first l.client.who (numbered first l.client.events) es l.place l.event-index e c.loop-event-test.true c.event-item.is l.invariant.stands in
     record {
@@ -56,8 +48,8 @@ loop-event-preserved c =
           (subst (λ (p : ℕ). Stands entries first l.client.who (numbered first u) p left) (sym c.next_for-next.ensures.behind)
           (goes_on entries first l.client.who l.client.events u left l.place e here done.events));
       text = told_on entries first l.client.who l.client.events u es l.place c.next_for-next.result.number l.event-index e
-          (string_bytes l.out) (string_bytes c.append_event.new.out) _ c.loop-event-test.true c.event-item.is l.invariant.stands
-          c.next_for-next.ensures.number done.events c.in_ok-append_event.ensures l.invariant.text;
+          (string_bytes l.out) (string_bytes c.tell_again.new.out) _ c.loop-event-test.true c.event-item.is l.invariant.stands
+          c.next_for-next.ensures.number done.events done.line l.invariant.text;
     }
 
 pub returns : goal.returns
