@@ -22,10 +22,10 @@ use Rattle.sv_script.specs.Telling.{same_view, change_by, change_of, changes_of}
 use Rattle.sv_script.specs.Laws.{may_tell}
 use Rattle.sv_script.proofs.Told.{others-quiet}
 use Rattle.sv_player.specs.declared.playing.Player.{Player}
-use Rattle.sv_player.specs.Seen.{seen_of, seen_by, change_since, changes_since}
+use Rattle.sv_player.specs.Seen.{seen_of, seen_by, seen_again, change_since, changes_since}
 use Rattle.sv_player.specs.Going.{AreTold, IsGoing, Did}
-use Rattle.sv_player.specs.declared.telling.Seen.{Seen}
 use Rattle.sv_player.proofs.Sizes.{views_long}
+use Rattle.sv_player.proofs.Seeing.{seen_anew, quiet_seen}
 
 -- ---- The changes of an event
 
@@ -74,8 +74,8 @@ changes_told who t e old new more told =
 
 -- An event that changes no view.
 pub did_quiet : (e : Event) (left : List Step) (p q : Player) → q.client.who ≡ p.client.who → q.client.events ≡ e ∷ p.client.events → q.script.now ≡ p.script.now → q.first ≡ p.first → q.left.now ≡ left →
-    q.lines.items ≡ p.lines.items → q.count ≡ suc p.count → may_tell e ≡ false → Did e left p q
-did_quiet e left p q who es script first l lines count quiet =
+    q.lines.items ≡ p.lines.items → q.seen.items ≡ p.seen.items → q.count ≡ suc p.count → may_tell e ≡ false → Did e left p q
+did_quiet e left p q who es script first l lines same count quiet =
     record {
       who = who;
       events = es;
@@ -83,6 +83,7 @@ did_quiet e left p q who es script first l lines count quiet =
       first = first;
       left_is = l;
       told = quiet_told p.client.who p.client.events e p.lines.items q.lines.items quiet lines;
+      seen = λ saw. same ∙ saw ∙ quiet_seen e p.client.events p.client.who.interest quiet;
       count = count;
     }
 
@@ -94,24 +95,23 @@ mark_quiet (marks.Show objects) = refl
 
 -- ---- Events that change views
 
-module _ (p : Player) (going : IsGoing p) (c : ClientView) (e : Event) (seen : List Seen) (who : c.who ≡ p.client.who) (es : c.events ≡ e ∷ p.client.events)
-    (saw : seen ≡ seen_by p.client.events p.client.who.interest) where
-  same_changes : changes_since c (suc p.count) seen ≡ flat_map (change_of p.client.who.client p.client.events e) p.client.who.interest
+module _ (p : Player) (going : IsGoing p) (c : ClientView) (e : Event) (who : c.who ≡ p.client.who) (es : c.events ≡ e ∷ p.client.events) where
+  same_changes : changes_since c (suc p.count) p.seen.items ≡ flat_map (change_of p.client.who.client p.client.events e) p.client.who.interest
   same_changes =
-      ap (changes_since c (suc p.count)) saw
+      ap (changes_since c (suc p.count)) going.seen
       ∙ changes_are c (suc p.count) p.client.events e p.client.who.interest es (ap suc going.count)
       ∙ ap (λ (w : Identity). flat_map (change_of w.client p.client.events e) p.client.who.interest) who
 
   -- The changes are those of the watch's worlds.
-  pub event_changes : (shape : Shape) → shape ≡ p.client.who.shape → MayFollow p.client.who 0 p.client.events e → All (IsChangeIn shape) (changes_since c (suc p.count) seen)
+  pub event_changes : (shape : Shape) → shape ≡ p.client.who.shape → MayFollow p.client.who 0 p.client.events e → All (IsChangeIn shape) (changes_since c (suc p.count) p.seen.items)
   event_changes shape is may =
-      subst (λ (s : Shape). All (IsChangeIn s) (changes_since c (suc p.count) seen)) (sym is)
+      subst (λ (s : Shape). All (IsChangeIn s) (changes_since c (suc p.count) p.seen.items)) (sym is)
       (subst (All (IsChangeIn p.client.who.shape)) (sym same_changes) (changes_in p.client.who p.client.events e going.may.identity going.proper (may, going.proper)))
 
   -- They were told.
   pub did_told : (left : List Step) (q : Player) → q.client ≡ c → q.script.now ≡ p.script.now → q.first ≡ p.first → q.left.now ≡ left →
-      q.lines.items ≡ p.lines.items ++ map change_line (changes_since c (suc p.count) seen) → q.count ≡ suc p.count → Did e left p q
-  did_told left q client script first l lines count =
+      q.lines.items ≡ p.lines.items ++ map change_line (changes_since c (suc p.count) p.seen.items) → q.seen.items ≡ seen_again c.events p.seen.items → q.count ≡ suc p.count → Did e left p q
+  did_told left q client script first l lines again count =
       record {
         who = ap (λ (v : ClientView). v.who) client ∙ who;
         events = ap (λ (v : ClientView). v.events) client ∙ es;
@@ -119,5 +119,6 @@ module _ (p : Player) (going : IsGoing p) (c : ClientView) (e : Event) (seen : L
         first = first;
         left_is = l;
         told = changes_told p.client.who p.client.events e p.lines.items q.lines.items (lines ∙ ap (λ (cs : List Change). p.lines.items ++ map change_line cs) same_changes);
+        seen = λ saw. again ∙ ap (seen_again c.events) saw ∙ seen_anew p.client.events c.events p.client.who.interest ∙ ap (λ (t : List Event). seen_by t p.client.who.interest) es;
         count = count;
       }

@@ -152,6 +152,7 @@ going_on p q e left g may come d =
       follows = follows_as p.client.who q.client.who p.script.now q.script.now (e ∷ p.client.events) q.client.events left q.left.now d.who d.script d.events d.left_is (p.left.now, (g.follows, come));
       budget = rw (d.who, d.events, d.script, d.left_is) (budget_on p.client.who p.script.now p.client.events p.left.now e left come g.budget);
       told = rw (d.who, d.events) (d.told g.told);
+      seen = rw (d.who, d.events) (d.seen g.seen);
       count = rw d.events (d.count ∙ ap suc g.count);
     }
 

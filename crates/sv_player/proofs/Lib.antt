@@ -5,6 +5,8 @@ pub mod Awaited
 pub mod Linking
 pub mod Posting
 pub mod Going
+pub mod Mapped
+pub mod Seeing
 pub mod Doing
 pub mod Choosing
 pub mod Onward

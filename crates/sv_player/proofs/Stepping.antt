@@ -26,7 +26,7 @@ use Rattle.sv_player.specs.declared.outcome.PlayerCause.{PlayerCause}
 use Rattle.sv_player.specs.declared.outcome.PlayerCause.TheVariants as causes
 use Rattle.sv_player.specs.declared.playing.Player.{Player}
 use Rattle.sv_player.specs.Carried.{request_frames, BeginsWith}
-use Rattle.sv_player.specs.Going.{one_more_if, IsGoing}
+use Rattle.sv_player.specs.Going.{one_more_if, IsGoing, IsNew}
 use Rattle.sv_player.specs.Stops.{is_cut}
 use Rattle.sv_player.specs.Sessions.{IsFresh, IsSameEnd, IsReason, HasEnded, Ended, Stopped}
 use Rattle.sv_player.specs.Played.{IsWhole, has_quit, has_left}
@@ -175,6 +175,29 @@ module _ {E : Type 0} (told : E → Told) (faults : E → ℕ) (calm : E → Typ
         script = refl;
         first = refl;
         ends = record { count = refl; each = first_end p ends none fresh };
+      }
+
+  -- Before it, memory ended.
+  pub none_played : (p : Player) (ends : List E) → IsNew p → AllByRecursion (λ end. IsFresh (told end)) ends → HasPlayed told faults calm p p ends ends causes.Memory
+  none_played p ends new fresh =
+      record {
+        who = refl;
+        proper = subst (AreProper p.client.who 0) (sym new.none) tt;
+        left = p.left.now;
+        follows = subst (λ (t : List Event). FollowsTo p.client.who p.script.now t p.left.now) (sym new.none) new.left;
+        lines = λ some. absurd (some refl);
+        ends =
+            record {
+              count = refl;
+              each = λ n a b was is.
+                  let r = first_end p ends new.none fresh n a b was is in
+                  record {
+                    carried = carried_on (Unit {0}) (IsWhole causes.Memory) (λ _. tt) p.client.who p.client.who p.client.events p.client.events n (told a) (told b) refl refl refl r.carried;
+                    faults_are = inl r.faults_are;
+                    calm_is = r.calm_is;
+                  };
+            };
+        why = tt;
       }
 
   -- ---- One session more

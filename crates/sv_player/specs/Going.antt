@@ -19,6 +19,8 @@ use Rattle.sv_script.specs.Telling.{changes_of}
 use Rattle.sv_player.specs.declared.moves.Move.{Move}
 use Rattle.sv_player.specs.declared.moves.Move.TheVariants as moves
 use Rattle.sv_player.specs.declared.playing.Player.{Player}
+use Rattle.sv_player.specs.declared.telling.Seen.{Seen}
+use Rattle.sv_player.specs.Seen.{seen_by}
 
 -- a world within the limits
 pub record IsGoodShape (shape : Shape) : Type 0 where
@@ -40,6 +42,10 @@ pub record MayPlay (who : Identity) (script : List Step) : Type 0 where
 abbrev pub AreTold : Identity → List Event → List (List ℕ) → Type 0
 AreTold who t lines = lines ≡ map change_line (changes_of who.client who.interest t)
 
+-- these are its views of the objects of its interest
+abbrev pub AreSeen : Identity → List Event → List Seen → Type 0
+AreSeen who t seen = seen ≡ seen_by t who.interest
+
 abbrev pub one_more_if : Bool → ℕ
 one_more_if true = 0
 one_more_if false = 1
@@ -50,7 +56,7 @@ pub record IsBudget (who : Identity) (script : List Step) (t : List Event) (left
   pub few : makes t + length left ≤ 256
   pub sessions : joins t + cuts_in left ≤ cuts_in script + one_more_if (must_join t)
 
--- What the player did is proper, follows the script so far, with these steps left, and was told.
+-- What the player did is proper, follows the script so far, with these steps left, and was told; and its views are those that it saw last.
 pub record IsGoing (p : Player) : Type 0 where
   pub may : MayPlay p.client.who p.script.now
   pub first : p.first < 64
@@ -58,7 +64,17 @@ pub record IsGoing (p : Player) : Type 0 where
   pub follows : FollowsTo p.client.who p.script.now p.client.events p.left.now
   pub budget : IsBudget p.client.who p.script.now p.client.events p.left.now
   pub told : AreTold p.client.who p.client.events p.lines.items
+  pub seen : AreSeen p.client.who p.client.events p.seen.items
   pub count : p.count ≡ length p.client.events
+
+-- The player did nothing yet.
+pub record IsNew (p : Player) : Type 0 where
+  pub may : MayPlay p.client.who p.script.now
+  pub first : p.first < 64
+  pub none : p.client.events ≡ []
+  pub left : p.left.now ≡ p.script.now
+  pub lines : p.lines.items ≡ []
+  pub count : p.count ≡ 0
 
 -- The player did an event, told it, and has these steps left.
 pub record Did (e : Event) (left : List Step) (old new : Player) : Type 0 where
@@ -68,6 +84,7 @@ pub record Did (e : Event) (left : List Step) (old new : Player) : Type 0 where
   pub first : new.first ≡ old.first
   pub left_is : new.left.now ≡ left
   pub told : AreTold old.client.who old.client.events old.lines.items → AreTold old.client.who (e ∷ old.client.events) new.lines.items
+  pub seen : AreSeen old.client.who old.client.events old.seen.items → AreSeen old.client.who (e ∷ old.client.events) new.seen.items
   pub count : new.count ≡ suc old.count
 
 -- Memory ended before the event, or after it.

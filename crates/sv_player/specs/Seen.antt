@@ -17,6 +17,10 @@ seen_of t object = record { object = object; view = view_of t object.0 }
 abbrev pub seen_by : List Event → List ObjectId → List Seen
 seen_by t objects = map (seen_of t) objects
 
+-- what is seen of the same objects after the events t
+abbrev pub seen_again : List Event → List Seen → List Seen
+seen_again t seen = map (λ (s : Seen). seen_of t s.object) seen
+
 -- the change of an object's view since it was seen, by the event with this number
 abbrev pub change_since : ClientView → ℕ → Seen → List Change
 change_since c event seen =

@@ -6,13 +6,14 @@ ghost use Rattle.sv_client.specs.Traces.{joins};
 ghost use Rattle.sv_scenario.specs.Sessions.{cuts_in};
 ghost use Rattle.sv_script.specs.Following.{must_join};
 ghost use Rattle.sv_script.specs.Telling.{told_lines};
-ghost use Rattle.sv_player.specs.Going.{IsGoing, MayPlay};
+ghost use Rattle.sv_player.specs.Going.{IsGoing, IsNew, MayPlay};
 ghost use Rattle.sv_player.specs.Sessions.{IsFresh, IsSameEnd};
 ghost use Rattle.sv_player.specs.Ends.{IsNext, NextCause, AreKept, IsClosed, HasPlayed};
 ghost use Rattle.sv_player.specs.Played.{IsTraceOf, HasFollowed, AreDone, IsCause, IsExact};
 
 use crate::outcome::{Ending, PlayerCause, PlayerOut};
 use crate::playing::Player;
+use crate::telling::seen_now;
 use std::alloc::Global;
 use sv_client::Client;
 use sv_link::End;
@@ -61,6 +62,24 @@ impl<'a> Player<'a> {
         }
         unreachable!()
     }
+
+    /// Sees what it sees at first, and plays its sessions, each over the end at its place.
+    fn start<E: End>(&mut self, watch: &Watch, ends: &mut [E]) -> PlayerCause
+        requires watch { watch.now.shape ≡ self.old.client.who.shape }
+        requires new { IsNew self.old }
+        requires count { length ends.old ≡ 1 + cuts_in self.old.script.now }
+        requires few { length ends.old ≤ 64 }
+        requires fresh { AllByRecursion (λ end. IsFresh (E.told end)) ends.old }
+        ensures { HasPlayed E.told E.faults E.calm self.old self.new ends.old ends.new result }
+    {
+        match seen_now(self.alloc, &self.client) {
+            Ok(seen) => {
+                self.seen = seen;
+                self.play(watch, ends)
+            }
+            Err(_) => PlayerCause::Memory,
+        }
+    }
 }
 
 /// Closes all ends.
@@ -105,10 +124,11 @@ pub fn play_client<E: End>(
         first,
         script,
         left: script,
+        seen: Vec::new(alloc),
         lines: Vec::new(alloc),
         count: 0,
     };
-    let cause = player.play(watch, &mut ends);
+    let cause = player.start(watch, &mut ends);
     close_all(&mut ends);
     let Player { client, lines, .. } = player;
     PlayerOut {

@@ -8,10 +8,10 @@ ghost use Rattle.sv_client.specs.Proper.{MayMake, MayPoll, MayLeave};
 ghost use Rattle.sv_client.specs.Seen.{event_of, newly_asked, with_event};
 ghost use Rattle.sv_client.specs.Answers.{IsTakeFault, got_now};
 ghost use Rattle.sv_watch.specs.Told.{change_line, IsChangeIn};
-ghost use Rattle.sv_player.specs.Seen.{changes_since};
+ghost use Rattle.sv_player.specs.Seen.{changes_since, seen_again};
 ghost use Rattle.sv_player.specs.Going.{IsGoing, Did, DidInPart};
 
-use crate::telling::{Seen, seen_now, tell_since};
+use crate::telling::{Seen, tell_changes};
 use std::alloc::{AllocError, Global};
 use sv_client::{Client, MakeFault, Mark, PollFault, TakeFault};
 use sv_scenario::Step;
@@ -29,6 +29,8 @@ pub(crate) struct Player<'a> {
     pub(crate) script: &'a [Step],
     /// The steps that are not done yet.
     pub(crate) left: &'a [Step],
+    /// What it sees of the objects of its interest.
+    pub(crate) seen: Vec<Seen>,
     /// The lines told so far.
     pub(crate) lines: Vec<Line>,
     /// How many events there were.
@@ -49,20 +51,21 @@ impl<'a> Player<'a> {
         Ok(requests)
     }
 
-    /// Tells what the event that was done last changed since the objects were seen.
-    fn tell(&mut self, seen: Vec<Seen>, watch: &Watch) -> Result<(), AllocError>
+    /// Tells what the event that was done last changed since the objects were seen, and sees them as they are now.
+    fn tell(&mut self, watch: &Watch) -> Result<(), AllocError>
         requires count { self.old.count ≤ 2048 }
-        requires changes { All (IsChangeIn watch.now.shape) (changes_since self.old.client (suc self.old.count) seen.items) }
+        requires changes { All (IsChangeIn watch.now.shape) (changes_since self.old.client (suc self.old.count) self.old.seen.items) }
         ensures same { (self.new.client ≡ self.old.client) × (self.new.script.now ≡ self.old.script.now) × (self.new.left.now ≡ self.old.left.now) × (self.new.first ≡ self.old.first) }
         ensures count { self.new.count ≡ suc self.old.count }
-        ensures told { OnOk result (self.new.lines.items ≡ self.old.lines.items ++ map change_line (changes_since self.old.client (suc self.old.count) seen.items)) }
+        ensures told { OnOk result (self.new.lines.items ≡ self.old.lines.items ++ map change_line (changes_since self.old.client (suc self.old.count) self.old.seen.items)) }
+        ensures seen { OnOk result (self.new.seen.items ≡ seen_again self.old.client.events self.old.seen.items) }
     {
         self.count += 1;
-        tell_since(
+        tell_changes(
             self.alloc,
             &self.client,
             self.count,
-            seen,
+            &mut self.seen,
             watch,
             &mut self.lines,
         )
@@ -84,14 +87,13 @@ impl<'a> Player<'a> {
         ensures err { OnErr result (DidInPart (events.Make action.now) self.old self.new) }
     {
         let copy = copy_action(self.alloc, action)?;
-        let seen = seen_now(self.alloc, &self.client)?;
         let request = match self.client.make(copy) {
             Ok(request) => request,
             Err(MakeFault::Memory) => return Err(AllocError),
             Err(_) => unreachable!(),
         };
         self.left = rest;
-        self.tell(seen, watch)?;
+        self.tell(watch)?;
         Ok(request)
     }
 
@@ -156,9 +158,8 @@ impl<'a> Player<'a> {
         ensures part { OnErr result (DidInPart (got_now self.old.client.events reply.now) self.old self.new) }
         ensures known { OnErr result (self.new.client.events ≡ got_now self.old.client.events reply.now ∷ self.old.client.events → first_fault_of_reply self.old.client.who self.old.client.events reply.now ≡ None) }
     {
-        let seen = seen_now(self.alloc, &self.client)?;
         let done = self.client.take(reply)?;
-        self.tell(seen, watch)?;
+        self.tell(watch)?;
         Ok(done)
     }
 }

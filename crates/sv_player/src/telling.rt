@@ -3,9 +3,10 @@ ghost use Rattle.std.specs.Prelude.{◌≡◌, ◌<◌, ◌++◌, map, All, IfOk
 ghost use Rattle.sv_client.specs.Answers.{view_seen};
 ghost use Rattle.sv_script.specs.Telling.{same_view};
 ghost use Rattle.sv_watch.specs.Told.{change_line, IsChangeIn};
-ghost use Rattle.sv_player.specs.Seen.{seen_by, change_since, changes_since};
+ghost use Rattle.sv_player.specs.Seen.{seen_of, seen_by, seen_again, change_since, changes_since};
 
 use std::alloc::{AllocError, Global};
+use std::slice;
 use sv_client::{Client, View};
 use sv_watch::{Change, Line, Watch};
 use sv_world::{ObjectId, Value, copy_value};
@@ -53,59 +54,51 @@ fn is_same(old: &Option<Value>, now: &View<'_>) -> bool
     }
 }
 
-/// Adds the change of an object's view since it was seen, if there is one.
-fn push_change(
+/// Tells the change of an object's view since it was seen, if there is one, and sees the view as it is now.
+fn tell_change(
     alloc: Global,
     client: &Client,
     event: u32,
-    seen: Seen,
-    changes: &mut Vec<Change>,
+    seen: &mut Seen,
+    watch: &Watch,
+    lines: &mut Vec<Line>,
 ) -> Result<(), AllocError>
-    ensures { OnOk result (changes.new.items ≡ changes.old.items ++ change_since client.now event seen) }
+    requires { All (IsChangeIn watch.now.shape) (change_since client.now event seen.old) }
+    ensures told { OnOk result (lines.new.items ≡ lines.old.items ++ map change_line (change_since client.now event seen.old)) }
+    ensures seen { OnOk result (seen.new ≡ seen_of client.now.events seen.old.object) }
 {
     let now = client.view(seen.object);
     if is_same(&seen.view, &now) {
         return Ok(());
     }
     let new = known(alloc, now)?;
-    changes.push(Change {
+    let change = Change {
         client: client.id(),
         object: seen.object,
         event,
-        old: seen.view,
+        old: seen.view.take(),
         new,
-    })?;
+    };
+    watch.tell(slice::from_ref(&change), lines)?;
+    seen.view = change.new;
     Ok(())
 }
 
-/// The changes of views since they were seen.
-fn changes(
+/// Tells the changes of views since they were seen, which the event with this number made, and sees the views as they are now.
+pub(crate) fn tell_changes(
     alloc: Global,
     client: &Client,
     event: u32,
-    seen: Vec<Seen>,
-) -> Result<Vec<Change>, AllocError>
-    ensures { IfOk result (λ changes. changes.items ≡ changes_since client.now event seen.items) }
-{
-    let mut changes = Vec::new(alloc);
-    for object in seen {
-        push_change(alloc, client, event, object, &mut changes)?;
-    }
-    Ok(changes)
-}
-
-/// Tells the changes of views since they were seen, which the event with this number made.
-pub(crate) fn tell_since(
-    alloc: Global,
-    client: &Client,
-    event: u32,
-    seen: Vec<Seen>,
+    seen: &mut [Seen],
     watch: &Watch,
     lines: &mut Vec<Line>,
 ) -> Result<(), AllocError>
-    requires { All (IsChangeIn watch.now.shape) (changes_since client.now event seen.items) }
-    ensures { OnOk result (lines.new.items ≡ lines.old.items ++ map change_line (changes_since client.now event seen.items)) }
+    requires { All (IsChangeIn watch.now.shape) (changes_since client.now event seen.old) }
+    ensures told { OnOk result (lines.new.items ≡ lines.old.items ++ map change_line (changes_since client.now event seen.old)) }
+    ensures seen { OnOk result (seen.new ≡ seen_again client.now.events seen.old) }
 {
-    let changes = changes(alloc, client, event, seen)?;
-    watch.tell(&changes, lines)
+    for one in seen.iter_mut() {
+        tell_change(alloc, client, event, one, watch, lines)?;
+    }
+    Ok(())
 }

@@ -7,10 +7,10 @@ use Rattle.sv_player.proofs.playing.Player.make.Goals as goal
 
 pub tell-requires-clause-changes : goal.tell-requires-clause-changes
 tell-requires-clause-changes g c =
-    event_changes c.args.self.now c.requires.going c.make.new.self (events.Make c.args.action.now) c.in_ok-seen.seen.items (ap (λ (v : ClientView). v.who) c.in-Ok.ensures.ok) (ap (λ (v : ClientView). v.events) c.in-Ok.ensures.ok ∙ ap (λ (a : Action). events.Make a ∷ c.args.self.now.client.events) c.in_ok-copy.ensures)
-    c.in_ok-seen.ensures c.args.watch.now.shape c.requires.watch c.requires.may
+    event_changes c.args.self.now c.requires.going c.make.new.self (events.Make c.args.action.now) (ap (λ (v : ClientView). v.who) c.in-Ok.ensures.ok) (ap (λ (v : ClientView). v.events) c.in-Ok.ensures.ok ∙ ap (λ (a : Action). events.Make a ∷ c.args.self.now.client.events) c.in_ok-copy.ensures)
+    c.args.watch.now.shape c.requires.watch c.requires.may
 
 pub returns-clause-ok : goal.returns-clause-ok
 returns-clause-ok g c =
-    did_told c.args.self.now c.requires.going c.make.new.self (events.Make c.args.action.now) c.in_ok-seen.seen.items (ap (λ (v : ClientView). v.who) c.in-Ok.ensures.ok) (ap (λ (v : ClientView). v.events) c.in-Ok.ensures.ok ∙ ap (λ (a : Action). events.Make a ∷ c.args.self.now.client.events) c.in_ok-copy.ensures)
-    c.in_ok-seen.ensures c.args.rest.now c.tell.new.self c.tell.ensures.same.0 c.tell.ensures.same.1 c.tell.ensures.same.3 c.tell.ensures.same.2 c.in_ok-tell.ensures.told c.tell.ensures.count
+    did_told c.args.self.now c.requires.going c.make.new.self (events.Make c.args.action.now) (ap (λ (v : ClientView). v.who) c.in-Ok.ensures.ok) (ap (λ (v : ClientView). v.events) c.in-Ok.ensures.ok ∙ ap (λ (a : Action). events.Make a ∷ c.args.self.now.client.events) c.in_ok-copy.ensures)
+    c.args.rest.now c.tell.new.self c.tell.ensures.same.0 c.tell.ensures.same.1 c.tell.ensures.same.3 c.tell.ensures.same.2 c.in_ok-tell.ensures.told c.in_ok-tell.ensures.seen c.tell.ensures.count
