@@ -1,0 +1,14 @@
+use Rattle.std.proofs.Common.{rules, List, ap, subst, ◌∙◌}
+use Rattle.sv_journal.specs.declared.entry.Entry.{Entry}
+use Rattle.sv_journal.specs.View.{JournalView}
+use Rattle.sv_check.specs.Serving.{entries_of}
+use Rattle.sv_check.specs.Acting.{Settles}
+use Rattle.sv_check.proofs.Whole.{finished}
+use Rattle.sv_check.proofs.clients.finish.Goals as goal
+
+pub returns-clause-whole : goal.returns-clause-whole
+returns-clause-whole c =
+    finished (entries_of c.args.served.now) c.args.actor c.settle.new.self c.args.part.now.number c.args.part.now.shape c.args.part.now.plan.now c.into_trace.result
+    c.requires.acting c.requires.done
+    (subst (λ (es : List Entry). Settles es c.args.actor c.settle.new.self) (c.entries.ensures ∙ ap (λ (j : JournalView). j.entries) c.journal.ensures.journal) c.settle.ensures)
+    (search rules) c.requires.who c.requires.script c.into_trace.ensures.trace c.into_trace.ensures.proper

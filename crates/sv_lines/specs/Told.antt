@@ -1,0 +1,14 @@
+-- Requests whose lines tell them.
+use Rattle.std.specs.Prelude.{◌≡◌, None}
+use Rattle.sv_world.specs.declared.world.Shape.{Shape}
+use Rattle.sv_world.specs.Faults.{first_fault_of_action}
+use Rattle.sv_wire.specs.Ranges.{RequestFits}
+use Rattle.sv_wire.specs.declared.message.Request.{Request}
+use Rattle.sv_wire.specs.declared.message.Request.TheVariants as requests
+
+-- A request that the line of an entry may have: its numbers are those of their types, and it is neither a malformed payload nor an action that
+-- is refused in the shape, whose texts do not tell what they were.
+abbrev pub IsTold : Shape → Request → Type 0
+IsTold shape (requests.Submit seq action) = RequestFits (requests.Submit seq action) × (first_fault_of_action shape action ≡ None)
+IsTold shape requests.Bad = ⊥
+IsTold shape request = RequestFits request

@@ -1,0 +1,13 @@
+//! Tests of the checker of reports.
+#![tactic(auto)]
+
+#[cfg(test)]
+mod bytes;
+#[cfg(test)]
+mod calls;
+#[cfg(test)]
+mod examples;
+#[cfg(test)]
+mod lines;
+#[cfg(test)]
+mod rows;
