@@ -24,17 +24,19 @@ use Rattle.sv_world.specs.declared.action.Stmt.TheVariants as stmt
 use Rattle.sv_world.specs.declared.action.Stmt.TheOpen.{Stmt-F}
 use Rattle.sv_world.specs.declared.action.Stmt.TheViews.{roll-Stmt}
 use Rattle.sv_world.specs.declared.action.Stmt.TheFolds.{ind-Stmt}
+use Rattle.sv_world.specs.declared.node.Operator.{Operator}
+use Rattle.sv_world.specs.declared.node.Operator.TheVariants as ops
+use Rattle.sv_world.specs.declared.node.Comparison.{Comparison}
+use Rattle.sv_world.specs.declared.node.Comparison.TheVariants as comparisons
+use Rattle.sv_world.specs.declared.node.Connective.{Connective}
+use Rattle.sv_world.specs.declared.node.Connective.TheVariants as joints
 use Rattle.sv_world.specs.Faults.{is_in_plane, has_origin}
-use Rattle.sv_text.specs.declared.parts.Op.{Op}
-use Rattle.sv_text.specs.declared.parts.Op.TheVariants as ops
-use Rattle.sv_text.specs.declared.parts.Comparison.{Comparison}
-use Rattle.sv_text.specs.declared.parts.Comparison.TheVariants as comparisons
-use Rattle.sv_text.specs.declared.parts.Joint.{Joint}
-use Rattle.sv_text.specs.declared.parts.Joint.TheVariants as joints
-use Rattle.sv_text.specs.Reading.{with_op, with_comparison, with_joint}
-use Rattle.sv_text.specs.Canonical.{object_in, ref_text, between, expr_text, cond_text, spaced, block_text, else_text, stmt_text, object_text, objects_text, written, is_zero, origin_text, body_text, canonical}
-use Rattle.sv_text.specs.Printable.{is_i64, expr_fits, cond_fits, stmt_fits, body_fits, ObjectFits, IsPrintable}
-use Rattle.sv_text.proofs.Layers.{op_text, pair_text_is, pair_fits, lit_text, lit_fits, attr_text, attr_fits, comparison_text, joint_text, test_text_is, test_fits, joint_text_is, joint_fits, not_text, not_fits, set_text_is, set_fits, if_text, if_fits}
+use Rattle.sv_world.specs.Parts.{binary_by, compare_by, join_by}
+use Rattle.sv_world.specs.Ranges.{is_i64, is_byte, expr_fits, cond_fits, stmt_fits, body_fits}
+use Rattle.sv_world.proofs.Ranged.{lit_fits, attr_fits, binary_fits, compare_fits, join_fits, not_fits, set_fits, if_fits}
+use Rattle.sv_text.specs.Canonical.{object_in, ref_text, between, op_text, comparison_text, joint_text, expr_text, cond_text, spaced, block_text, else_text, stmt_text, object_text, objects_text, written, is_zero, origin_text, body_text, canonical}
+use Rattle.sv_text.specs.Printable.{ObjectFits, IsPrintable}
+use Rattle.sv_text.proofs.Layers.{pair_text_is, lit_text, attr_text, test_text_is, joint_text_is, not_text, set_text_is, if_text}
 use Rattle.sv_lines.proofs.Splitting.{all_pass, pass_append, decimal_passes}
 
 -- A byte that is no line end, and no `>`.
@@ -65,7 +67,7 @@ plain_between before a middle b after f g h i j =
 
 -- ---- Expressions and conditions
 
-op_plain : (o : Op) → IsPlain (op_text o)
+op_plain : (o : Operator) → IsPlain (op_text o)
 op_plain ops.Add = refl
 op_plain ops.Sub = refl
 op_plain ops.Mul = refl
@@ -75,11 +77,11 @@ op_plain ops.Min = refl
 op_plain ops.Max = refl
 
 comparison_plain : (o : Comparison) → IsPlain (comparison_text o)
-comparison_plain comparisons.Equal = refl
-comparison_plain comparisons.Less = refl
-comparison_plain comparisons.LessEqual = refl
+comparison_plain comparisons.Eq = refl
+comparison_plain comparisons.Lt = refl
+comparison_plain comparisons.Le = refl
 
-joint_plain : (o : Joint) → IsPlain (joint_text o)
+joint_plain : (o : Connective) → IsPlain (joint_text o)
 joint_plain joints.And = refl
 joint_plain joints.Or = refl
 
@@ -97,11 +99,11 @@ module _ (reads : List ObjectId) (small : (slot : ℕ) → object_in reads slot 
   lit_plain z f = subst IsPlain (sym (lit_text reads z)) (plain_signed z (sym (lit_fits z) ∙ f))
 
   attr_plain : (slot attr : ℕ) → ExprPlain (expr.Attr slot attr)
-  attr_plain slot attr f = subst IsPlain (sym (attr_text reads slot attr)) (ref_plain slot attr (ltb-true attr 256 (sym (attr_fits slot attr) ∙ f)))
+  attr_plain slot attr f = subst IsPlain (sym (attr_text reads slot attr)) (ref_plain slot attr (ltb-true attr 256 (and_parts (is_byte slot) (is_byte attr) (sym (attr_fits slot attr) ∙ f)).1))
 
-  pair_plain : (o : Op) (a b : Expr) → ExprPlain a → ExprPlain b → ExprPlain (with_op o a b)
+  pair_plain : (o : Operator) (a b : Expr) → ExprPlain a → ExprPlain b → ExprPlain (binary_by o a b)
   pair_plain o a b p q f =
-      let fit = and_parts (expr_fits a) (expr_fits b) (sym (pair_fits o a b) ∙ f) in
+      let fit = and_parts (expr_fits a) (expr_fits b) (sym (binary_fits o a b) ∙ f) in
       subst IsPlain (sym (pair_text_is o a b reads)) (plain_between (codes "(") (expr_text reads a) (op_text o) (expr_text reads b) (codes ")") refl (p fit.0) (op_plain o) (q fit.1) refl)
 
   expr_layer : {Z : Type 0} (p : Z → Expr) → ((z : Z) → ExprPlain (p z)) → (y : Expr-F Z) → ExprPlain (roll-Expr (map-Expr Z Expr p y))
@@ -121,24 +123,24 @@ module _ (reads : List ObjectId) (small : (slot : ℕ) → object_in reads slot 
   abbrev CondPlain : Cond → Type 0
   CondPlain c = cond_fits c ≡ true → IsPlain (cond_text reads c)
 
-  test_plain : (o : Comparison) (a b : Expr) → CondPlain (with_comparison o a b)
+  test_plain : (o : Comparison) (a b : Expr) → CondPlain (compare_by o a b)
   test_plain o a b f =
-      let fit = and_parts (expr_fits a) (expr_fits b) (sym (test_fits o a b) ∙ f) in
+      let fit = and_parts (expr_fits a) (expr_fits b) (sym (compare_fits o a b) ∙ f) in
       subst IsPlain (sym (test_text_is o a b reads))
       (plain_between (codes "[") (expr_text reads a) (comparison_text o) (expr_text reads b) (codes "]") refl (expr_plain a fit.0) (comparison_plain o) (expr_plain b fit.1) refl)
 
-  both_plain : (o : Joint) (a b : Cond) → CondPlain a → CondPlain b → CondPlain (with_joint o a b)
+  both_plain : (o : Connective) (a b : Cond) → CondPlain a → CondPlain b → CondPlain (join_by o a b)
   both_plain o a b p q f =
-      let fit = and_parts (cond_fits a) (cond_fits b) (sym (joint_fits o a b) ∙ f) in
+      let fit = and_parts (cond_fits a) (cond_fits b) (sym (join_fits o a b) ∙ f) in
       subst IsPlain (sym (joint_text_is o a b reads)) (plain_between (codes "(") (cond_text reads a) (joint_text o) (cond_text reads b) (codes ")") refl (p fit.0) (joint_plain o) (q fit.1) refl)
 
   not_plain : (a : Cond) → CondPlain a → CondPlain (test.Not a)
   not_plain a p f = subst IsPlain (sym (not_text a reads)) (then_plain (codes "not ") (cond_text reads a) refl (p (sym (not_fits a) ∙ f)))
 
   cond_layer : {Z : Type 0} (p : Z → Cond) → ((z : Z) → CondPlain (p z)) → (y : Cond-F Z) → CondPlain (roll-Cond (map-Cond Z Cond p y))
-  cond_layer p q (Cond-F.Eq a b) = subst (λ (c : Cond). CondPlain c) (sym (test.rolls-Eq a b)) (test_plain comparisons.Equal a b)
-  cond_layer p q (Cond-F.Lt a b) = subst (λ (c : Cond). CondPlain c) (sym (test.rolls-Lt a b)) (test_plain comparisons.Less a b)
-  cond_layer p q (Cond-F.Le a b) = subst (λ (c : Cond). CondPlain c) (sym (test.rolls-Le a b)) (test_plain comparisons.LessEqual a b)
+  cond_layer p q (Cond-F.Eq a b) = subst (λ (c : Cond). CondPlain c) (sym (test.rolls-Eq a b)) (test_plain comparisons.Eq a b)
+  cond_layer p q (Cond-F.Lt a b) = subst (λ (c : Cond). CondPlain c) (sym (test.rolls-Lt a b)) (test_plain comparisons.Lt a b)
+  cond_layer p q (Cond-F.Le a b) = subst (λ (c : Cond). CondPlain c) (sym (test.rolls-Le a b)) (test_plain comparisons.Le a b)
   cond_layer p q (Cond-F.And a b) = subst (λ (c : Cond). CondPlain c) (sym (test.rolls-And (p a) (p b))) (both_plain joints.And (p a) (p b) (q a) (q b))
   cond_layer p q (Cond-F.Or a b) = subst (λ (c : Cond). CondPlain c) (sym (test.rolls-Or (p a) (p b))) (both_plain joints.Or (p a) (p b) (q a) (q b))
   cond_layer p q (Cond-F.Not a) = subst (λ (c : Cond). CondPlain c) (sym (test.rolls-Not (p a))) (not_plain (p a) (q a))
@@ -169,7 +171,8 @@ module _ (reads : List ObjectId) (small : (slot : ℕ) → object_in reads slot 
 
   set_plain : (slot attr : ℕ) (e : Expr) → StmtPlain (stmt.Set slot attr e)
   set_plain slot attr e f =
-      let fit = and_parts _ (expr_fits e) (sym (set_fits slot attr e) ∙ f) in
+      let all = and_parts (is_byte slot) (is_byte attr && expr_fits e) (sym (set_fits slot attr e) ∙ f) in
+      let fit = and_parts (is_byte attr) (expr_fits e) all.1 in
       let head = codes "set " ++ ref_text reads slot attr in
       subst IsPlain (sym (set_text_is slot attr e reads))
       (then_plain (head ++ codes " " ++ expr_text reads e) (codes ";")
@@ -242,7 +245,7 @@ plain_origin p f g = go (is_zero p.x && is_zero p.y)
 pub plain_action : (a : Action) → IsPrintable a → IsPlain (canonical a)
 unfolding canonical has_origin
 plain_action a p =
-    let plane = and_parts (is_in_plane a.origin.x) (is_in_plane a.origin.y) p.origin in
+    let plane = and_parts (is_in_plane a.origin.x) (is_in_plane a.origin.y) p.within.origin in
     let one = codes "reads" ++ objects_text a.reads in
     let two = one ++ codes " writes" in
     let three = two ++ objects_text (written a.reads a.mask) in
