@@ -8,3 +8,8 @@ pub mod Moving
 pub mod Reporting
 pub mod Entries
 pub mod Journals
+pub mod Events
+pub mod Told
+pub mod Traces
+pub mod Asking
+pub mod Pairs

@@ -16,10 +16,10 @@ use std::alloc::{AllocError, Global};
 use sv_client::{Client, Event, MakeFault, Mark, PollFault, TakeFault, Trace};
 use sv_journal::Entry;
 use sv_lines::{Stop, take_line};
-use sv_report::append_event;
+use sv_report::{append_after, append_before};
 use sv_scenario::Step;
 use sv_wire::{Reply, Request};
-use sv_world::{Action, List, ObjectId, Shape};
+use sv_world::{Action, ObjectId, Shape, copy_action, copy_objects};
 
 /// A client that does its script.
 #[derive(Drop)]
@@ -164,11 +164,12 @@ impl<'a> Actor<'a> {
         }
     }
 
-    fn make(&mut self, action: Action) -> Result<(), AllocError>
-        requires { MayDo self.old.client.who self.old.client.events (events.Make action) }
-        ensures { OnOk result (Made (events.Make action) self.old self.new) }
+    fn make(&mut self, alloc: Global, action: &Action) -> Result<(), AllocError>
+        requires { MayDo self.old.client.who self.old.client.events (events.Make action.now) }
+        ensures { OnOk result (Made (events.Make action.now) self.old self.new) }
     {
-        match self.client.make(action) {
+        let copy = copy_action(alloc, action)?;
+        match self.client.make(copy) {
             Ok(request) => {
                 self.asked.push(request)?;
                 Ok(())
@@ -201,10 +202,11 @@ impl<'a> Actor<'a> {
         Ok(())
     }
 
-    fn show(&mut self, objects: List<ObjectId>) -> Result<(), AllocError>
-        ensures { OnOk result (Made (events.Show objects) self.old self.new) }
+    fn show(&mut self, alloc: Global, objects: &[ObjectId]) -> Result<(), AllocError>
+        ensures { OnOk result (Made (events.Show objects.now) self.old self.new) }
     {
-        self.client.note(Mark::Show(objects))
+        let copy = copy_objects(alloc, objects)?;
+        self.client.note(Mark::Show(copy))
     }
 
     fn cut(&mut self) -> Result<(), AllocError>
@@ -224,16 +226,16 @@ impl<'a> Actor<'a> {
     }
 
     /// Does an event that it may do, which is no Join and no Got.
-    fn act(&mut self, event: Event) -> Result<(), AllocError>
-        requires may { MayDo self.old.client.who self.old.client.events event }
-        requires other { is_other event ≡ true }
-        ensures { OnOk result (Made event self.old self.new) }
+    fn act(&mut self, alloc: Global, event: &Event) -> Result<(), AllocError>
+        requires may { MayDo self.old.client.who self.old.client.events event.now }
+        requires other { is_other event.now ≡ true }
+        ensures { OnOk result (Made event.now self.old self.new) }
     {
         match event {
-            Event::Make(action) => self.make(action),
+            Event::Make(action) => self.make(alloc, action),
             Event::Poll => self.poll(),
             Event::Leave => self.leave(),
-            Event::Show(objects) => self.show(objects),
+            Event::Show(objects) => self.show(alloc, objects.as_slice()),
             Event::Cut => self.cut(),
             Event::Quit => self.quit(),
             Event::Join(_) | Event::Got(_, _) => unreachable!(),
@@ -241,20 +243,26 @@ impl<'a> Actor<'a> {
     }
 
     /// Does its next step, or its Leave, with the steps that it leaves.
-    fn do_next(&mut self, served: &Served, event: Event, left: &'a [Step]) -> Result<(), AllocError>
+    fn do_next(
+        &mut self,
+        alloc: Global,
+        served: &Served,
+        event: &Event,
+        left: &'a [Step],
+    ) -> Result<(), AllocError>
         requires acting { IsActing (entries_of served.now) self.old }
         requires joined { must_join self.old.client.events ≡ false }
         requires here { is_finished self.old.client.events ≡ false }
-        requires next { IsNextEvent self.old.client.who self.old.client.events self.old.left.now event left.now }
+        requires next { IsNextEvent self.old.client.who self.old.client.events self.old.left.now event.now left.now }
         ensures { OnOk result (WentOn (entries_of served.now) self.old self.new) }
     {
         let _ = served;
-        self.act(event)?;
+        self.act(alloc, event)?;
         self.left = left;
         Ok(())
     }
 
-    /// Takes the line of its next step, or of its Leave.
+    /// Takes the line of its next step, or of its Leave. Where the line is wrong, it is done all the same.
     fn take_step<'b>(
         &mut self,
         alloc: Global,
@@ -271,10 +279,11 @@ impl<'a> Actor<'a> {
             return Err(Stop::Wrong { left: text.len() });
         };
         let mut line = String::new(alloc);
-        append_event(alloc, &self.client, 0, &event, &mut line)?;
-        let rest = take_line(text, line.as_bytes())?;
-        self.do_next(served, event, left)?;
-        Ok(rest)
+        append_before(&self.client, 0, &event, &mut line)?;
+        self.do_next(alloc, served, &event, left)?;
+        append_after(alloc, &self.client, &event, &mut line)?;
+        line.push_str("\n")?;
+        take_line(text, line.as_bytes())
     }
 
     /// Takes the line of its next event.

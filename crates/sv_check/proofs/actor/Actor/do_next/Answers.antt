@@ -4,4 +4,4 @@ use Rattle.sv_check.proofs.actor.Actor.do_next.Goals as goal
 
 pub returns : goal.returns
 returns c =
-    went_did (entries_of c.args.served.now) c.args.self.now c.act.new.self c.args.event c.requires.acting c.requires.joined c.requires.here c.requires.next.other c.args.left c.requires.next c.in_ok-act.ensures
+    went_did (entries_of c.args.served.now) c.args.self.now c.act.new.self c.args.event.now c.requires.acting c.requires.joined c.requires.here c.requires.next.other c.args.left c.requires.next c.in_ok-act.ensures
