@@ -3,3 +3,9 @@ pub mod Telling
 pub mod Plain
 pub mod Printable
 pub mod Requests
+pub mod Numerals
+pub mod Turns
+pub mod ReadLists
+pub mod Counting
+pub mod Short
+pub mod ReadRequests

@@ -1,5 +1,5 @@
 -- The canonical text of an action ends no line, and has no arrow.
-use Rattle.std.proofs.Common.{◌≡◌, ℕ, zero, suc, ◌/◌, ◌%◌, ◌^◌, ◌<◌, eqb, Bool, true, false, ◌&&◌, not, cond, ℤ, pos, negsuc, int_le, List, [], ◌∷◌, ◌++◌, map, refl, sym, subst, ◌∙◌, arith, decimal}
+use Rattle.std.proofs.Common.{◌≡◌, ℕ, zero, suc, ◌/◌, ◌%◌, ◌^◌, ◌<◌, eqb, Bool, true, false, ◌&&◌, cond, ℤ, pos, negsuc, int_le, List, [], ◌∷◌, ◌++◌, map, refl, sym, subst, ◌∙◌, arith, decimal}
 use Rattle.std.specs.Prelude.{codes}
 use Rattle.std.specs.Fmt.{signed_decimal}
 use Rattle.std.specs.Char.{is_ascii_digit}
@@ -37,11 +37,8 @@ use Rattle.sv_world.proofs.Ranged.{lit_fits, attr_fits, binary_fits, compare_fit
 use Rattle.sv_text.specs.Canonical.{object_in, ref_text, between, op_text, comparison_text, joint_text, expr_text, cond_text, spaced, block_text, else_text, stmt_text, object_text, objects_text, written, is_zero, origin_text, body_text, canonical}
 use Rattle.sv_text.specs.Printable.{ObjectFits, IsPrintable}
 use Rattle.sv_text.proofs.Layers.{pair_text_is, lit_text, attr_text, test_text_is, joint_text_is, not_text, set_text_is, if_text}
+use Rattle.sv_lines.specs.Asking.{is_plain}
 use Rattle.sv_lines.proofs.Splitting.{all_pass, pass_append, decimal_passes}
-
--- A byte that is no line end, and no `>`.
-abbrev pub is_plain : ℕ → Bool
-is_plain c = not (eqb c 62) && not (eqb c 10)
 
 abbrev pub IsPlain : List ℕ → Type 0
 IsPlain s = all_pass is_plain s ≡ true
@@ -209,7 +206,7 @@ module _ (reads : List ObjectId) (small : (slot : ℕ) → object_in reads slot 
 
 -- ---- Whole actions
 
-object_small : (reads : List ObjectId) → AllByRecursion ObjectFits reads → (slot : ℕ) → object_in reads slot < 65536
+pub object_small : (reads : List ObjectId) → AllByRecursion ObjectFits reads → (slot : ℕ) → object_in reads slot < 65536
 object_small [] f slot = omega arith
 object_small (r ∷ rs) f zero = f.0
 object_small (r ∷ rs) f (suc slot) = object_small rs f.1 slot
@@ -222,7 +219,7 @@ kept_small : (r : ObjectId) (rest : List ObjectId) (b : Bool) → ObjectFits r �
 kept_small r rest true f g = (f, g)
 kept_small r rest false f g = g
 
-written_small : (reads : List ObjectId) (mask : ℕ) → AllByRecursion ObjectFits reads → AllByRecursion ObjectFits (written reads mask)
+pub written_small : (reads : List ObjectId) (mask : ℕ) → AllByRecursion ObjectFits reads → AllByRecursion ObjectFits (written reads mask)
 written_small [] mask f = tt
 written_small (r ∷ rs) mask f = kept_small r (written rs (mask / 2)) (eqb (mask % 2) 1) f.0 (written_small rs (mask / 2) f.1)
 

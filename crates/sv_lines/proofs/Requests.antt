@@ -17,7 +17,8 @@ use Rattle.sv_journal.specs.Text.{action_text, request_text}
 use Rattle.sv_lines.specs.Told.{IsTold}
 use Rattle.sv_lines.proofs.Splitting.{others_are, class_split, number_split}
 use Rattle.sv_lines.proofs.Telling.{objects_tell, results_tell}
-use Rattle.sv_lines.proofs.Plain.{is_plain, IsPlain, then_plain, plain_action}
+use Rattle.sv_lines.specs.Asking.{is_plain}
+use Rattle.sv_lines.proofs.Plain.{IsPlain, then_plain, plain_action}
 use Rattle.sv_lines.proofs.Printable.{printable}
 
 -- The arrow, and what comes behind it.
@@ -32,7 +33,7 @@ first_byte s t e = ap (λ (l : List ℕ). get_or l 0 0) e
 
 -- ---- Joins
 
-join_parts : (client life : ℕ) (interest : List ObjectId) (z : List ℕ) →
+pub join_parts : (client life : ℕ) (interest : List ObjectId) (z : List ℕ) →
     (codes "join c" ++ decimal client ++ codes " " ++ decimal life ++ codes " " ++ objects_text interest) ++ z
     ≡ codes "join c" ++ (decimal client ++ (32 ∷ (decimal life ++ (32 ∷ (objects_text interest ++ z)))))
 join_parts client life interest z =
@@ -61,7 +62,7 @@ joins_tell shape c d l m i j x y p q e =
 
 -- ---- Submits
 
-submit_parts : (shape : Shape) (seq : ℕ) (a : Action) (z : List ℕ) → first_fault_of_action shape a ≡ None →
+pub submit_parts : (shape : Shape) (seq : ℕ) (a : Action) (z : List ℕ) → first_fault_of_action shape a ≡ None →
     request_text shape (requests.Submit seq a) ++ z ≡ codes "submit " ++ (decimal seq ++ (32 ∷ (canonical a ++ z)))
 submit_parts shape seq a z none =
     let two = codes "submit " ++ decimal seq in
@@ -69,13 +70,13 @@ submit_parts shape seq a z none =
     ap (λ (t : List ℕ). (two ++ codes " " ++ t) ++ z) good ∙ append_assoc (two ++ codes " ") (canonical a) z ∙ append_assoc two (codes " ") (canonical a ++ z)
     ∙ append_assoc (codes "submit ") (decimal seq) (32 ∷ (canonical a ++ z))
 
-before_arrow : (s x : List ℕ) → s ++ arrow x ≡ (s ++ (32 ∷ 45 ∷ [])) ++ (62 ∷ 32 ∷ x)
-before_arrow s x = sym (append_assoc s (32 ∷ 45 ∷ []) (62 ∷ 32 ∷ x))
+pub split_arrow : (s x : List ℕ) → s ++ arrow x ≡ (s ++ (32 ∷ 45 ∷ [])) ++ (62 ∷ 32 ∷ x)
+split_arrow s x = sym (append_assoc s (32 ∷ 45 ∷ []) (62 ∷ 32 ∷ x))
 
 pub plain_texts_split : (s t x y : List ℕ) → IsPlain s → IsPlain t → s ++ arrow x ≡ t ++ arrow y → (s ≡ t) × (x ≡ y)
 plain_texts_split s t x y f g e =
     let parts = class_split is_plain (s ++ (32 ∷ 45 ∷ [])) (t ++ (32 ∷ 45 ∷ [])) (62 ∷ 32 ∷ x) (62 ∷ 32 ∷ y) (then_plain s (32 ∷ 45 ∷ []) f refl) (then_plain t (32 ∷ 45 ∷ []) g refl) refl refl
-    (sym (before_arrow s x) ∙ e ∙ before_arrow t y) in
+    (sym (split_arrow s x) ∙ e ∙ split_arrow t y) in
     (append_cancel_right s t (32 ∷ 45 ∷ []) parts.0, append_cancel_left (62 ∷ 32 ∷ []) x y parts.1)
 
 submits_tell : (shape : Shape) (seq seq2 : ℕ) (a b : Action) (x y : List ℕ) → IsTold shape (requests.Submit seq a) → IsTold shape (requests.Submit seq2 b) →

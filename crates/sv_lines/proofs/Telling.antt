@@ -10,12 +10,10 @@ use Rattle.sv_world.specs.declared.world.ObjectId.{ObjectId}
 use Rattle.sv_wire.specs.declared.message.Done1.{Done1}
 use Rattle.sv_wire.specs.Ranges.{ObjectFits, ValueFits, ResultFits}
 use Rattle.sv_journal.specs.Pieces.{joined, bracketed, value_text, objects_text, result_text}
+use Rattle.sv_lines.specs.Reading.{is_numeric}
 use Rattle.sv_lines.proofs.Splitting.{all_pass, both_pass, decimal_passes, Ends, first_is, others_are, class_split, number_split, number_begins, Tells, Anything, behind_tells}
 
 -- ---- Signed numbers
-
-abbrev pub is_numeric : ℕ → Bool
-is_numeric c = is_ascii_digit c || eqb c 45
 
 digit_numeric : (c : ℕ) → is_ascii_digit c ≡ true → is_numeric c ≡ true
 digit_numeric c h = rw h refl
@@ -24,7 +22,7 @@ abbrev pub IsLong : ℤ → Type 0
 IsLong (pos n) = n < 2 ^ 63
 IsLong (negsuc n) = n < 2 ^ 63
 
-signed_passes : (z : ℤ) → IsLong z → all_pass is_numeric (signed_decimal z) ≡ true
+pub signed_passes : (z : ℤ) → IsLong z → all_pass is_numeric (signed_decimal z) ≡ true
 signed_passes (pos n) f = decimal_passes is_numeric digit_numeric n (omega (arith, f))
 signed_passes (negsuc n) f = both_pass true (all_pass is_numeric (decimal (suc n))) refl (decimal_passes is_numeric digit_numeric (suc n) (omega (arith, f)))
 
@@ -45,7 +43,7 @@ signed_tells y z a b f g stop end e =
     let parts = class_split is_numeric (signed_decimal y) (signed_decimal z) a b (signed_passes y f) (signed_passes z g) stop end e in
     (signed_same y z f g parts.0, parts.1)
 
-signed_begins : (z : ℤ) (x : List ℕ) (b : ℕ) (y : List ℕ) → IsLong z → is_numeric b ≡ false → signed_decimal z ++ x ≡ b ∷ y → ⊥
+pub signed_begins : (z : ℤ) (x : List ℕ) (b : ℕ) (y : List ℕ) → IsLong z → is_numeric b ≡ false → signed_decimal z ++ x ≡ b ∷ y → ⊥
 signed_begins (pos n) x b y f g e = number_begins n x b y (omega (arith, f)) (no_digit b g) e
   where
     no_digit : (c : ℕ) → is_numeric c ≡ false → is_ascii_digit c ≡ false
@@ -102,7 +100,7 @@ long_of : (z : ℤ) → FitsSigned w64 z → IsLong z
 long_of (pos n) f = omega (arith, f)
 long_of (negsuc n) f = omega (arith, f)
 
-all_long : (v : List ℤ) → ValueFits v → AllByRecursion IsLong v
+pub all_long : (v : List ℤ) → ValueFits v → AllByRecursion IsLong v
 all_long [] f = tt
 all_long (z ∷ v) f = (long_of z f.0, all_long v f.1)
 
@@ -129,7 +127,7 @@ values_tell (v ∷ vs) (w ∷ ws) x y p q stop end e =
     let more = values_tell vs ws x y p.1 q.1 stop end one.1 in
     (ap (λ (c : List ℤ). c ∷ vs) one.0 ∙ ap (λ (l : List (List ℤ)). w ∷ l) more.0, more.1)
 
-result_parts : (d : Done1) (x : List ℕ) → result_text d ++ x ≡ decimal d.pos ++ 58 ∷ (flat_map value_text d.values ++ x)
+pub result_parts : (d : Done1) (x : List ℕ) → result_text d ++ x ≡ decimal d.pos ++ 58 ∷ (flat_map value_text d.values ++ x)
 result_parts d x =
     append_assoc (decimal d.pos ++ 58 ∷ []) (flat_map value_text d.values) x ∙ append_assoc (decimal d.pos) (58 ∷ []) (flat_map value_text d.values ++ x)
 

@@ -1,28 +1,39 @@
 //! The lines of a text.
-ghost use Rattle.std.specs.Prelude.{◌<◌, ◌≤◌, length};
+ghost use Rattle.std.specs.Prelude.{◌≡◌, ◌≢◌, ◌<◌, ◌≤◌, ◌^◌, ◌%◌, ◌++◌, List, ℕ, length, IfOk, IfErr};
+ghost use Rattle.sv_lines.specs.declared.stop.Stop.TheVariants.{Wrong};
+ghost use Rattle.sv_lines.specs.Lines.{line_width, line_ends, StopsAt};
 
+use crate::numbers::behind;
 use crate::stop::Stop;
 
 /// What comes after a line that has to come next.
-pub fn take_line<'a>(text: &'a [u8], line: &[u8]) -> Result<&'a [u8], Stop> {
-    match text.strip_prefix(line) {
+pub fn take_line<'a>(text: &'a [u8], line: &[u8]) -> Result<&'a [u8], Stop>
+    ensures taken { IfOk result (λ rest. text.now ≡ line.now ++ rest.now) }
+    ensures wrong { IfErr result (λ e. e ≡ Wrong (length text.now)) }
+    ensures differs { IfErr result (λ _. (rest : List ℕ) → text.now ≢ line.now ++ rest) }
+{
+    match behind(text, line) {
         Some(rest) => Ok(rest),
         None => Err(Stop::Wrong { left: text.len() }),
     }
 }
 
 /// How many bytes the first line has, with its line end.
+#[tactic(auto, using(crate::proofs::Counting::inner_within))]
 pub fn line_length(text: &[u8]) -> usize
+    ensures width { result ≡ line_width text.now }
     ensures within { result ≤ length text.now }
     ensures some { 0 < length text.now → 0 < result }
 {
     let count = text.iter().take_while(|byte| **byte != b'\n').count();
-    let count = count.min(text.len());
     if count < text.len() { count + 1 } else { count }
 }
 
 /// What comes after lines that have to come next.
-pub fn take_lines<'a>(text: &'a [u8], lines: &[u8]) -> Result<&'a [u8], Stop> {
+pub fn take_lines<'a>(text: &'a [u8], lines: &[u8]) -> Result<&'a [u8], Stop>
+    ensures taken { IfOk result (λ rest. text.now ≡ lines.now ++ rest.now) }
+    ensures stops { IfErr result (λ e. StopsAt text.now lines.now e) }
+{
     let mut rest = text;
     let mut left = lines;
     while !left.is_empty() {
@@ -33,8 +44,10 @@ pub fn take_lines<'a>(text: &'a [u8], lines: &[u8]) -> Result<&'a [u8], Stop> {
     Ok(rest)
 }
 
-/// How many line ends a text has.
-pub fn line_ends(text: &[u8]) -> u32 {
+/// How many line ends a text has, in 32 bits.
+pub fn line_ends(text: &[u8]) -> u32
+    ensures { result ≡ line_ends text.now % 2 ^ 32 }
+{
     let mut count = 0u32;
     for byte in text {
         if *byte == b'\n' {
