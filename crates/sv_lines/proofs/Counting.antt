@@ -1,7 +1,9 @@
 -- The lines that were taken so far, and the line ends of a text.
-use Rattle.std.proofs.Common.{◌≡◌, ℕ, zero, suc, ◌+◌, ◌<◌, ◌≤◌, List, [], ◌∷◌, ◌++◌, length, take, drop, refl, sym, ap, subst, ◌∙◌, arith, append_assoc, append-nil}
+use Rattle.std.proofs.Common.{◌≡◌, ℕ, zero, suc, ◌+◌, ◌<◌, ◌≤◌, ltb, Bool, true, false, List, [], ◌∷◌, ◌++◌, length, take, drop, refl, sym, ap, subst, ◌∙◌, arith, append_assoc, append-nil}
 use Rattle.std.specs.Prelude.{◌≢◌}
 use Rattle.std.specs.List.{prefix_len}
+use Rattle.std.proofs.lemmas.Bool.{lt-ltb}
+use Rattle.std.proofs.lemmas.Bool.Decides.{nat_tests}
 use Rattle.std.proofs.lemmas.List.{take-append-drop}
 use Rattle.std.proofs.lemmas.List.Sums.{prefix_len-le-length}
 use Rattle.sv_lines.specs.Lines.{is_inner, line_width, after_lines, Differs}
@@ -56,3 +58,13 @@ took_all text lines rest (b ∷ left) took none = absurd (omega (arith, none))
 
 pub inner_within : (text : List ℕ) → prefix_len is_inner text ≤ length text
 inner_within text = prefix_len-le-length is_inner text
+
+pub width_within : (text : List ℕ) (n : ℕ) → n ≡ prefix_len is_inner text → n < length text → n + 1 ≡ line_width text
+width_within text n is lt =
+    let some : ltb (prefix_len is_inner text) (length text) ≡ true = lt-ltb (prefix_len is_inner text) (length text) (omega (arith, is, lt)) in
+    rw some (omega (arith, is))
+
+pub width_whole : (text : List ℕ) (n : ℕ) → n ≡ prefix_len is_inner text → length text ≤ n → n ≡ line_width text
+width_whole text n is le =
+    let none : ltb (prefix_len is_inner text) (length text) ≡ false = grind (arith, nat_tests, is, le) in
+    rw none is

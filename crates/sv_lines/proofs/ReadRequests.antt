@@ -77,13 +77,25 @@ join_is_read shape client life interest x f =
         objects_are_read interest (arrow x) f.2 tt
       ) refl
 
+submit_no_join : (rest : List ℕ) → behind_front (codes "join c") (codes "submit " ++ rest) ≡ None
+unfolding behind_front
+submit_no_join rest = refl
+
+done_no_join : (rest : List ℕ) → behind_front (codes "join c") (codes "done " ++ rest) ≡ None
+unfolding behind_front
+done_no_join rest = refl
+
+done_no_submit : (rest : List ℕ) → behind_front (codes "submit ") (codes "done " ++ rest) ≡ None
+unfolding behind_front
+done_no_submit rest = refl
+
 submit_is_read : (shape : Shape) (seq : ℕ) (a : Action) (x : List ℕ) → IsTold shape (requests.Submit seq a) →
     request_read shape (request_text shape (requests.Submit seq a) ++ arrow x) ≡ Some (requests.Submit seq a)
 unfolding request_read submit_read
 submit_is_read shape seq a x f =
     let last = canonical a ++ arrow x in
     let rest = decimal seq ++ (32 ∷ last) in
-    let none : behind_front (codes "join c") (codes "submit " ++ rest) ≡ None = no_join rest in
+    let none : behind_front (codes "join c") (codes "submit " ++ rest) ≡ None = submit_no_join rest in
     ap (request_read shape) (submit_parts shape seq a (arrow x) f.1)
     ∙ rw (
         none,
@@ -93,25 +105,13 @@ submit_is_read shape seq a x f =
         arrow_is_found (canonical a) x (plain_action a (printable shape a f.0.1 f.1)),
         action_is_read shape a ((omega arith, f.0.1), f.1)
       ) refl
-  where
-    no_join : (rest : List ℕ) → behind_front (codes "join c") (codes "submit " ++ rest) ≡ None
-    unfolding behind_front
-    no_join rest = refl
 
 done_is_read : (shape : Shape) (ds : List Done1) (x : List ℕ) → IsTold shape (requests.Done ds) → request_read shape (request_text shape (requests.Done ds) ++ arrow x) ≡ Some (requests.Done ds)
 unfolding request_read done_read
 done_is_read shape ds x f =
     let rest = bracketed result_text ds ++ arrow x in
     ap (request_read shape) (append_assoc (codes "done ") (bracketed result_text ds) (arrow x))
-    ∙ rw (no_join rest, no_submit rest, front_there (codes "done ") rest, results_are_read ds (arrow x) f tt) refl
-  where
-    no_join : (rest : List ℕ) → behind_front (codes "join c") (codes "done " ++ rest) ≡ None
-    unfolding behind_front
-    no_join rest = refl
-
-    no_submit : (rest : List ℕ) → behind_front (codes "submit ") (codes "done " ++ rest) ≡ None
-    unfolding behind_front
-    no_submit rest = refl
+    ∙ rw (done_no_join rest, done_no_submit rest, front_there (codes "done ") rest, results_are_read ds (arrow x) f tt) refl
 
 pub request_is_read : (shape : Shape) (r : Request) (x : List ℕ) → IsTold shape r → request_read shape (request_text shape r ++ arrow x) ≡ Some r
 unfolding request_read plain_read behind_front

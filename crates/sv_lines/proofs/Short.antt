@@ -34,7 +34,7 @@ use Rattle.sv_world.specs.Parts.{binary_by, compare_by, join_by}
 use Rattle.sv_world.specs.Ranges.{is_i64, is_byte, expr_fits, cond_fits, stmt_fits, body_fits}
 use Rattle.sv_world.specs.Trees.{expr_nodes, cond_nodes, stmt_nodes, body_nodes}
 use Rattle.sv_world.proofs.Ranged.{lit_fits, attr_fits, binary_fits, compare_fits, join_fits, not_fits, set_fits, if_fits}
-use Rattle.sv_text.specs.Canonical.{object_in, ref_text, between, op_text, comparison_text, joint_text, expr_text, cond_text, spaced, block_text, else_text, stmt_text, object_text, objects_text, written, is_zero, origin_text, body_text, canonical}
+use Rattle.sv_text.specs.Canonical.{object_in, ref_text, between, op_text, comparison_text, joint_text, expr_text, cond_text, spaced, block_part, block_text, else_text, stmt_text, object_text, objects_text, written, is_zero, origin_text, body_text, canonical}
 use Rattle.sv_text.specs.Printable.{ObjectFits, IsPrintable}
 use Rattle.sv_text.proofs.Layers.{pair_text_is, pair_nodes, lit_text, lit_nodes, attr_text, attr_nodes, test_text_is, test_nodes, joint_text_is, joint_nodes, not_text, not_nodes, set_text_is, set_nodes, if_text, if_nodes}
 use Rattle.sv_lines.proofs.Plain.{object_small, written_small}
@@ -51,6 +51,12 @@ signed_short (negsuc n) f =
 -- The length of five texts in a row.
 five : (a b c d e : List ℕ) → length (a ++ b ++ c ++ d ++ e) ≡ length a + length b + length c + length d + length e
 five a b c d e = omega (arith, length-append (a ++ b ++ c ++ d) e, length-append (a ++ b ++ c) d, length-append (a ++ b) c, length-append a b)
+
+one_more : (s r : List ℕ) (m n : ℕ) → 1 + length s ≤ 60 * m → length r ≤ 60 * n → length (32 ∷ (s ++ r)) ≤ 60 * (m + n)
+one_more s r m n f g = omega (arith, f, g, length-append s r)
+
+in_braces : (r : List ℕ) (n : ℕ) → length r ≤ 60 * n → length (block_part r) ≤ 3 + 60 * n
+in_braces r n f = omega (arith, f, length-append r (codes " }"))
 
 -- ---- Expressions and conditions
 
@@ -160,10 +166,10 @@ module _ (reads : List ObjectId) (small : (slot : ℕ) → object_in reads slot 
   run_short [] each f = omega arith
   run_short (x ∷ xs) each f =
       let fit = and_parts (stmt_fits x) (body_fits xs) f in
-      omega (arith, each.0 fit.0, run_short xs each.1 fit.1, length-append (32 ∷ stmt_text reads x) (spaced (texts xs)))
+      one_more (stmt_text reads x) (spaced (texts xs)) (stmt_nodes x) (body_nodes xs) (each.0 fit.0) (run_short xs each.1 fit.1)
 
   block_short : (xs : List Stmt) → AllByRecursion StmtShort xs → body_fits xs ≡ true → length (block_text (texts xs)) ≤ 3 + 60 * body_nodes xs
-  block_short xs each f = omega (arith, run_short xs each f, length-append (codes "{" ++ spaced (texts xs)) (codes " }"), length-append (codes "{") (spaced (texts xs)))
+  block_short xs each f = in_braces (spaced (texts xs)) (body_nodes xs) (run_short xs each f)
 
   else_short : (xs : List Stmt) → AllByRecursion StmtShort xs → body_fits xs ≡ true → length (else_text (texts xs)) ≤ 9 + 60 * body_nodes xs
   else_short [] each f = omega arith

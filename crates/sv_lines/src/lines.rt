@@ -1,7 +1,8 @@
 //! The lines of a text.
 ghost use Rattle.std.specs.Prelude.{◌≡◌, ◌≢◌, ◌<◌, ◌≤◌, ◌^◌, ◌%◌, ◌++◌, List, ℕ, length, IfOk, IfErr};
 ghost use Rattle.sv_lines.specs.declared.stop.Stop.TheVariants.{Wrong};
-ghost use Rattle.sv_lines.specs.Lines.{line_width, line_ends, StopsAt};
+ghost use Rattle.std.specs.List.{prefix_len};
+ghost use Rattle.sv_lines.specs.Lines.{is_inner, line_width, line_ends, StopsAt};
 
 use crate::numbers::behind;
 use crate::stop::Stop;
@@ -18,6 +19,13 @@ pub fn take_line<'a>(text: &'a [u8], line: &[u8]) -> Result<&'a [u8], Stop>
     }
 }
 
+/// How many bytes the first line has before its line end.
+fn inner_width(text: &[u8]) -> usize
+    ensures { result ≡ prefix_len is_inner text.now }
+{
+    text.iter().take_while(|byte| **byte != b'\n').count()
+}
+
 /// How many bytes the first line has, with its line end.
 #[tactic(auto, using(crate::proofs::Counting::inner_within))]
 pub fn line_length(text: &[u8]) -> usize
@@ -25,7 +33,7 @@ pub fn line_length(text: &[u8]) -> usize
     ensures within { result ≤ length text.now }
     ensures some { 0 < length text.now → 0 < result }
 {
-    let count = text.iter().take_while(|byte| **byte != b'\n').count();
+    let count = inner_width(text);
     if count < text.len() { count + 1 } else { count }
 }
 

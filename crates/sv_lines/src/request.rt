@@ -157,7 +157,7 @@ fn read_asked(alloc: Global, shape: Shape, line: &[u8]) -> Result<Asked, Unread>
 pub fn asked_at(alloc: Global, shape: Shape, line: &[u8]) -> Result<Asked, Unread>
     ensures told { IfOk result (λ asked. IsTold shape asked.request) }
     ensures read { (n session : ℕ) (request : Request) (reply : List ℕ) → n < 2 ^ 32 → session < 2 ^ 16 → IsTold shape request →
-        line.now ≡ asking_text shape n session request ++ reply → Gives (λ asked. (asked.session, asked.request)) result (Some (session, request)) }
+        line.now ≡ asking_text shape n session request ++ reply → Gives {Y = ℕ × Request} (λ asked. (asked.session, asked.request)) result (Some (session, request)) }
 {
     let asked = read_asked(alloc, shape, line)?;
     read_request(&asked.request);
