@@ -175,7 +175,7 @@ module _ (who : Identity) (first : ℕ) (R : ℕ → List Reply) (t : List Event
   -- ---- By the lines
 
   -- Only the line of a reply that is got begins with a g.
-  letter : (entries : List Entry) (e : Event) (x : List ℕ) → eqb (get_or (event_text entries t e ++ x) 0 0) 103 ≡ is_got e
+  pub letter : (entries : List Entry) (e : Event) (x : List ℕ) → eqb (get_or (event_text entries t e ++ x) 0 0) 103 ≡ is_got e
   letter entries (events.Join s) x = refl
   letter entries (events.Make action) x = refl
   letter entries events.Poll x = refl
@@ -188,15 +188,16 @@ module _ (who : Identity) (first : ℕ) (R : ℕ → List Reply) (t : List Event
   same_kind : (entries : List Entry) (e f : Event) (x y : List ℕ) → event_text entries t e ++ x ≡ event_text entries t f ++ y → is_got e ≡ is_got f
   same_kind entries e f x y same = sym (letter entries e x) ∙ ap (λ (l : List ℕ). eqb (get_or l 0 0) 103) same ∙ letter entries f y
 
-  -- Two events that may come next, with the same line, are one.
-  pub event_tells : (entries : List Entry) (e f : Event) (left more : List Step) (x y : List ℕ) → Next e left → Next f more →
-      event_text entries t e ++ x ≡ event_text entries t f ++ y → e ≡ f
-  event_tells entries e f left more x y m n same = go (is_got e) (must_join t) refl refl
+  -- Two events that may come next are one where both are replies that are got, or neither is.
+  pub same_event : (e f : Event) (left more : List Step) → Next e left → Next f more → is_got e ≡ is_got f → e ≡ f
+  same_event e f left more m n kinds = go (is_got e) (must_join t) refl refl
     where
-      kinds : is_got e ≡ is_got f
-      kinds = same_kind entries e f x y same
-
       go : (g j : Bool) → is_got e ≡ g → must_join t ≡ j → e ≡ f
       go true j h i = same_gots e f (got_is e h m.follows m.gets) (got_is f (sym kinds ∙ h) n.follows n.gets)
       go false true h i = same_joins e f (joined_at e left m.comes ∙ i) (joined_at f more n.comes ∙ i) m.follows n.follows
       go false false h i = same_others_done e f left more (joined_at e left m.comes ∙ i) (joined_at f more n.comes ∙ i) h (sym kinds ∙ h) m.comes n.comes
+
+  -- Two events that may come next, with the same line, are one.
+  pub event_tells : (entries : List Entry) (e f : Event) (left more : List Step) (x y : List ℕ) → Next e left → Next f more →
+      event_text entries t e ++ x ≡ event_text entries t f ++ y → e ≡ f
+  event_tells entries e f left more x y m n same = same_event e f left more m n (same_kind entries e f x y same)

@@ -13,3 +13,4 @@ pub mod Told
 pub mod Traces
 pub mod Asking
 pub mod Pairs
+pub mod Wrong

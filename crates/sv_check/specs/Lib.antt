@@ -5,3 +5,4 @@ pub mod Verdicts
 pub mod Serving
 pub mod Acting
 pub mod Yes
+pub mod Moves

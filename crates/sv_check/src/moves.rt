@@ -1,12 +1,13 @@
 //! What a client that follows its script does next, other than to join and to get a reply.
-ghost use Rattle.std.specs.Prelude.{◌≡◌, ◌<◌, true, false, length, Some, None, IfOk, IfSome};
+ghost use Rattle.std.specs.Prelude.{◌≡◌, ◌<◌, true, false, length, Some, None, IfOk, MatchOption};
 ghost use Rattle.sv_world.specs.Faults.{first_fault_of_action};
 ghost use Rattle.sv_client.specs.declared.trace.Event.TheVariants as events;
 ghost use Rattle.sv_client.specs.Taking.{outstanding};
-ghost use Rattle.sv_client.specs.Proper.{MayMake, MayLeave, in_session};
+ghost use Rattle.sv_client.specs.Proper.{MayMake, MayPoll, MayLeave, in_session};
 ghost use Rattle.sv_script.specs.Following.{after_syncs, unsynced, event_of, must_join, is_welcomed, is_finished};
 ghost use Rattle.sv_report.specs.Again.{MayDo};
 ghost use Rattle.sv_check.specs.Acting.{IsNextEvent, is_sync};
+ghost use Rattle.sv_check.specs.Moves.{NotNow, NoNextEvent};
 
 use std::alloc::{AllocError, Global};
 use sv_client::{Client, Event};
@@ -45,13 +46,15 @@ fn unsynced<'a>(client: &Client, steps: &'a [Step]) -> &'a [Step]
 }
 
 fn may_ask(client: &Client) -> bool
-    ensures { result ≡ true → (in_session client.now.events ≡ true) × (length (outstanding client.now.who client.now.events) < 16) }
+    ensures all { in_session client.now.events ≡ true → length (outstanding client.now.who client.now.events) < 16 → result ≡ true }
+    ensures right { result ≡ true → (in_session client.now.events ≡ true) × (length (outstanding client.now.who client.now.events) < 16) }
 {
     client.in_session() && client.outstanding() < 16
 }
 
 fn is_good(shape: Shape, action: &Action) -> bool
-    ensures { result ≡ true → first_fault_of_action shape action.now ≡ None }
+    ensures all { first_fault_of_action shape action.now ≡ None → result ≡ true }
+    ensures right { result ≡ true → first_fault_of_action shape action.now ≡ None }
 {
     match check_action(shape, action) {
         Ok(()) => true,
@@ -61,7 +64,8 @@ fn is_good(shape: Shape, action: &Action) -> bool
 
 fn may_make(client: &Client, shape: Shape, action: &Action) -> bool
     requires shape { shape ≡ client.now.who.shape }
-    ensures { result ≡ true → MayMake client.now.who client.now.events action.now }
+    ensures all { MayMake client.now.who client.now.events action.now → result ≡ true }
+    ensures right { result ≡ true → MayMake client.now.who client.now.events action.now }
 {
     may_ask(client) && client.pending() < 8 && client.made() < 65536 && is_good(shape, action)
 }
@@ -73,7 +77,7 @@ fn made(
     action: &Action,
 ) -> Result<Option<Event>, AllocError>
     requires shape { shape ≡ client.now.who.shape }
-    ensures { IfOk result (λ found. IfSome found (λ e. (e ≡ events.Make action.now) × MayDo client.now.who client.now.events e)) }
+    ensures { IfOk result (λ found. MatchOption found (MayMake client.now.who client.now.events action.now → ⊥) (λ e. (e ≡ events.Make action.now) × MayDo client.now.who client.now.events e)) }
 {
     if !may_make(client, shape, action) {
         return Ok(None);
@@ -82,7 +86,7 @@ fn made(
 }
 
 fn polled(client: &Client) -> Option<Event>
-    ensures { IfSome result (λ e. (e ≡ events.Poll) × MayDo client.now.who client.now.events e) }
+    ensures { MatchOption result (MayPoll client.now.who client.now.events → ⊥) (λ e. (e ≡ events.Poll) × MayDo client.now.who client.now.events e) }
 {
     if may_ask(client) {
         Some(Event::Poll)
@@ -99,7 +103,7 @@ fn event_of(
     step: &Step,
 ) -> Result<Option<Event>, AllocError>
     requires shape { shape ≡ client.now.who.shape }
-    ensures { IfOk result (λ found. IfSome found (λ e. (event_of step.now ≡ Some e) × MayDo client.now.who client.now.events e)) }
+    ensures { IfOk result (λ found. MatchOption found (NotNow client.now.who client.now.events step.now) (λ e. (event_of step.now ≡ Some e) × MayDo client.now.who client.now.events e)) }
 {
     match step {
         Step::Act(action) => made(alloc, shape, client, action),
@@ -113,7 +117,7 @@ fn event_of(
 
 /// A client's Leave, where it may leave.
 fn leaving(client: &Client) -> Option<Event>
-    ensures { IfSome result (λ e. (e ≡ events.Leave) × MayLeave client.now.who client.now.events) }
+    ensures { MatchOption result (MayLeave client.now.who client.now.events → ⊥) (λ e. (e ≡ events.Leave) × MayLeave client.now.who client.now.events) }
 {
     if client.in_session() && client.outstanding() == 0 {
         Some(Event::Leave)
@@ -123,7 +127,7 @@ fn leaving(client: &Client) -> Option<Event>
 }
 
 /// The next event of a client in a session that has its Welcome, with the steps that it leaves; none where it has to wait for a reply.
-#[tactic(auto, using(crate::proofs::Moving::next_step, crate::proofs::Moving::next_leave))]
+#[tactic(auto, using(crate::proofs::Moving::next_step, crate::proofs::Moving::next_leave, crate::proofs::Moving::none_leaves, crate::proofs::Moving::none_does))]
 pub(crate) fn next_event<'a>(
     alloc: Global,
     shape: Shape,
@@ -134,7 +138,7 @@ pub(crate) fn next_event<'a>(
     requires joined { must_join client.now.events ≡ false }
     requires welcomed { is_welcomed client.now.events ≡ true }
     requires here { is_finished client.now.events ≡ false }
-    ensures { IfOk result (λ found. IfSome found (λ x. IsNextEvent client.now.who client.now.events steps.now x.0 x.1.now)) }
+    ensures { IfOk result (λ found. MatchOption found (NoNextEvent client.now.who client.now.events steps.now) (λ x. IsNextEvent client.now.who client.now.events steps.now x.0 x.1.now)) }
 {
     let left = unsynced(client, steps);
     let Some((step, rest)) = left.split_first() else {
