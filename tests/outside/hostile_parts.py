@@ -196,9 +196,9 @@ class Alone:
         lines, due = out.split(b"\n"), wanted.split(b"\n")
         if name.startswith("session") and lines[0] == b"Memory true" and due[1].startswith(lines[1]) \
                 and out.endswith(b" end -> bye\n"):
-            return "stopped for want of memory, and its End was stepped"
+            return "stopped out of memory, and its End was stepped"
         if name.startswith("player") and lines[0].startswith(b"Memory ") and due[1].startswith(lines[1]):
-            return "stopped for want of memory"
+            return "stopped out of memory"
         return None
 
     def go(self, part, pairs):
