@@ -86,7 +86,7 @@ def calls_of(crate):
                 owner = found[3] if found and not found[2] else None
                 if found and found[2]:
                     owner = ""
-            is_call = re.match(r"(    )?pub (?:const )?fn ", line) or (is_trait and re.match(r"    fn ", line))
+            is_call = re.match(r"(    )?pub (?:const )?fn ", line) or (is_trait and re.match(r"    (?:final )?fn ", line))
             if not is_call:
                 continue
             mine = owner if line.startswith("    ") else None
@@ -116,7 +116,7 @@ def columns(owner, function, front, result, clauses):
         refusals = "memory alone" + (f": {list_of(named)}" if named else "")
     else:
         refusals = list_of(named or [label for label, _ in ensured]) or ("no clause" if "io::Result" in result else "memory alone")
-    kept = [label for label, text in ensured if re.search(r"[.\s]new\b", text)]
+    kept = [label for label, text in ensured if re.search(r"[.\s]new\b|\.entry\b", text)]
     if "&mut" not in front:
         state = "nothing is changed"
     else:
