@@ -23,7 +23,7 @@ fn append_show(client: &Client, objects: &[ObjectId], out: &mut String) -> Resul
 }
 
 /// Appends the text of the event that a client does next, but for what it then keeps of an action.
-fn append_before(
+pub fn append_before(
     client: &Client,
     number: usize,
     event: &Event,
@@ -54,7 +54,7 @@ fn append_make(client: &Client, out: &mut String) -> Result<(), AllocError>
 }
 
 /// Appends what a client keeps of the action that it made, where the event that it did last is one.
-fn append_after(
+pub fn append_after(
     alloc: Global,
     client: &Client,
     event: &Event,

@@ -17,6 +17,7 @@ mod whole;
 mod written;
 
 pub use again::do_again;
+pub use event::{append_after, append_before};
 pub use laws::drops_are_outcomes;
 pub use summary::brief;
 pub use values::append_world;
