@@ -44,7 +44,7 @@ pub trait End: Drop {
     // Its calls can't fail.
     ghost calm: { Self → Type 0 };
 
-    /// Waits for bytes, and reads as many as have come and fit.
+    /// Waits for bytes, and reads what has come, or a front part of it, as much as fits.
     fn read(&mut self, into: &mut [u8]) -> EndRead
         requires open { (told self.old).closed ≡ false }
         requires room { 0 < length into.old }

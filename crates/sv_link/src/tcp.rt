@@ -4,7 +4,7 @@ ghost use Rattle.std.specs.Io.{ReadsAtMost, WritesAtMost};
 
 use crate::book::Book;
 use crate::ends::{End, EndRead, EndWrote};
-use crate::log::EndLog;
+use crate::log::{EndLog, PIECE};
 use crate::nets::{Net, Pair, Settle};
 use std::alloc::Global;
 use std::io;
@@ -45,10 +45,11 @@ impl End for TcpEnd {
     ghost calm = { λ _. ⊥ };
 
     fn read(&mut self, into: &mut [u8]) -> EndRead {
-        if self.log.received.reserve(into.len()).is_err() {
+        let most = into.len().min(PIECE);
+        if self.log.received.reserve(most).is_err() {
             return EndRead::Memory;
         }
-        match read_again(&mut self.stream, into) {
+        match read_again(&mut self.stream, &mut into[..most]) {
             Ok(0) => {
                 self.log.ended = true;
                 EndRead::Ended

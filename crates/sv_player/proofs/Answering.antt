@@ -25,7 +25,7 @@ if_never false never = refl
 
 -- The reply was taken, its frame was taken off, and the client asked this for it.
 module _ (s : ℕ) (reply : Reply) (p q : Player) (b : Buffers) (end : Told) (at : IsAt s p b end) (here : IsHere p.client.who p.client.events p.left.now) (first : IsFirst b.reader reply)
-    (none : b.outbox ≡ []) (fine : first_fault_of_reply p.client.who p.client.events reply ≡ None) (did : Did (events.Got s reply) p.left.now p q) (done : Option Request)
+    (none : is_bye reply ≡ true → b.outbox ≡ []) (fine : first_fault_of_reply p.client.who p.client.events reply ≡ None) (did : Did (events.Got s reply) p.left.now p q) (done : Option Request)
     (asks : option_to_list done ≡ newly_asked p.client.who p.client.events (events.Got s reply)) (mid c : Buffers) (new : Told) (skips : Skips b.reader mid.reader) (same : mid.outbox ≡ b.outbox) where
   quiet_bye : is_bye reply ≡ true → option_to_list done ≡ []
   quiet_bye bye = asks ∙ bye_asks_none p.client.who p.client.events s reply bye
@@ -37,7 +37,7 @@ module _ (s : ℕ) (reply : Reply) (p q : Player) (b : Buffers) (end : Told) (at
       (got_goes s reply p q b end at here first fine new c did (subst (Skips b.reader) (sym reader) skips)
       (subst (λ (w : List ℕ). Posted end w (request_frames (newly_asked p.client.who p.client.events (events.Got s reply))) new c.outbox) same
       (subst (λ (rs : List Request). Posted end mid.outbox (request_frames rs) new c.outbox) asks posted)) (subst (All IsRequest) asks messages)
-      (λ (e : is_bye reply ≡ true). ap (λ (x : Buffers). x.outbox) (quiet (quiet_bye e)) ∙ same ∙ none))
+      (λ (e : is_bye reply ≡ true). ap (λ (x : Buffers). x.outbox) (quiet (quiet_bye e)) ∙ same ∙ none e))
 
   stops_posting : (cause : PlayerCause) → (cause ≡ causes.LinkFault) ⊎ (cause ≡ causes.Memory) → PostedPart end mid.outbox (request_frames (option_to_list done)) new → option_to_list done ≢ [] → Stopped s p q new cause
   stops_posting cause why posted some =

@@ -1,5 +1,6 @@
 //! What a player sends and receives over the end of one session.
-ghost use Rattle.std.specs.Prelude.{◌≡◌, ◌≢◌, ◌<◌, ◌∷◌, [], false, length, All, IfOk};
+ghost use Rattle.std.specs.Prelude.{◌≡◌, ◌≢◌, ◌<◌, ◌∷◌, [], None, false, true, length, All, IfOk};
+ghost use Rattle.sv_frame.specs.Frames.{first_frame};
 ghost use Rattle.sv_link.specs.Ends.{SentCause, EndReadCause};
 ghost use Rattle.sv_wire.specs.Grammar.{IsWireRequest};
 ghost use Rattle.sv_wire.specs.Laws.{IsRequest};
@@ -103,6 +104,13 @@ impl Buffers {
             Next::NotYet => None,
             Next::TooLong(size) => Some(Waited::TooLong(size)),
         }
+    }
+
+    /// Whether a whole frame has come.
+    pub(crate) fn has_frame(&self) -> bool
+        ensures { result ≡ true → first_frame self.now.reader ≢ None }
+    {
+        matches!(self.reader.first(), Next::Frame(_))
     }
 
     /// Waits for more bytes.

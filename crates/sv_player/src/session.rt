@@ -1,5 +1,5 @@
 //! Playing one session over its end.
-ghost use Rattle.std.specs.Prelude.{◌≡◌, ◌≢◌, ◌<◌, ◌+◌, [], ◌∷◌, Some, None, false, true, length, option_to_list, All, IfOk, IfErr, OnOk, OnErr, if◌then◌else◌};
+ghost use Rattle.std.specs.Prelude.{◌≡◌, ◌≢◌, ◌<◌, ◌+◌, [], ◌∷◌, Some, None, false, true, length, option_to_list, All, IfOk, IfErr, IfSome, OnOk, OnErr, if◌then◌else◌};
 ghost use Rattle.sv_frame.specs.Frames.{first_frame};
 ghost use Rattle.sv_wire.specs.declared.message.Reply as reply_rows;
 ghost use Rattle.sv_wire.specs.Grammar.{IsWireRequest};
@@ -279,7 +279,79 @@ impl<'a> Player<'a> {
         }
     }
 
-    /// Sends what waits, and takes the next reply. Whether it was the Bye.
+    /// Sends what waits, and takes the reply in the first frame that came. Whether it was the Bye.
+    fn take_flushed<E: End>(
+        &mut self,
+        watch: &Watch,
+        buffers: &mut Buffers,
+        end: &mut E,
+    ) -> Result<bool, PlayerCause>
+        requires watch { watch.now.shape ≡ self.old.client.who.shape }
+        requires at { IsAt (latest_session self.old.client.events) self.old buffers.old (E.told end.old) }
+        requires here { IsHere self.old.client.who self.old.client.events self.old.left.now }
+        requires came { first_frame buffers.old.reader ≢ None }
+        ensures received { IsReceived result (latest_session self.old.client.events) self.old self.new buffers.new (E.told end.new) }
+        ensures same_end { which_end (E.told end.new) ≡ which_end (E.told end.old) }
+        ensures cause { FaultCause (E.faults end.old) (E.faults end.new) result }
+        ensures calm { E.calm end.old → E.calm end.new }
+    {
+        sent_whole(buffers.flush(end))?;
+        self.take_first(watch, buffers, end)
+    }
+
+    /// The reply in the first frame that came, where it can be read and is not the Bye.
+    fn plain_first(&self, reader: &FrameReader) -> Option<Reply>
+        requires going { IsGoing self.now }
+        requires joined { must_join self.now.client.events ≡ false }
+        requires came { first_frame reader.now ≢ None }
+        ensures reply { IfSome result (IsFirst reader.now) }
+        ensures other { IfSome result (λ reply. is_bye reply ≡ false) }
+    {
+        let Ok(reply) = self.read_first(reader) else {
+            return None;
+        };
+        if is_bye(&reply) { None } else { Some(reply) }
+    }
+
+    /// Takes the reply in the first frame that came. Whether it was the Bye.
+    ///
+    /// What waits goes out together with what the replies that came lead to. Before the Bye, and before a fault is told, all is sent.
+    fn take_ready<E: End>(
+        &mut self,
+        watch: &Watch,
+        buffers: &mut Buffers,
+        end: &mut E,
+    ) -> Result<bool, PlayerCause>
+        requires watch { watch.now.shape ≡ self.old.client.who.shape }
+        requires at { IsAt (latest_session self.old.client.events) self.old buffers.old (E.told end.old) }
+        requires here { IsHere self.old.client.who self.old.client.events self.old.left.now }
+        requires came { first_frame buffers.old.reader ≢ None }
+        ensures received { IsReceived result (latest_session self.old.client.events) self.old self.new buffers.new (E.told end.new) }
+        ensures same_end { which_end (E.told end.new) ≡ which_end (E.told end.old) }
+        ensures cause { FaultCause (E.faults end.old) (E.faults end.new) result }
+        ensures calm { E.calm end.old → E.calm end.new }
+    {
+        let Some(reply) = self.plain_first(&buffers.reader) else {
+            return self.take_flushed(watch, buffers, end);
+        };
+        match self.take(&reply, watch) {
+            Ok(done) => {
+                buffers.reader.skip();
+                self.answer(done, buffers, end)?;
+                Ok(false)
+            }
+            Err(TakeFault::Memory) => {
+                buffers.reader.skip();
+                Err(PlayerCause::Memory)
+            }
+            Err(fault) => {
+                sent_whole(buffers.flush(end))?;
+                Err(self.refusal(&buffers.reader, fault))
+            }
+        }
+    }
+
+    /// Takes the next reply. What waits is sent before it waits for one. Whether it was the Bye.
     fn receive<E: End>(
         &mut self,
         watch: &Watch,
@@ -295,6 +367,9 @@ impl<'a> Player<'a> {
         ensures cause { FaultCause (E.faults end.old) (E.faults end.new) result }
         ensures calm { E.calm end.old → E.calm end.new }
     {
+        if buffers.has_frame() {
+            return self.take_ready(watch, buffers, end);
+        }
         sent_whole(buffers.flush(end))?;
         match buffers.wait(end) {
             Waited::Came => self.take_first(watch, buffers, end),

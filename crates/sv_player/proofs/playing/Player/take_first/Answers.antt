@@ -41,7 +41,7 @@ returns-in_err-answer-in-Ok-clause-received g c =
     let mid : Buffers = record { reader = c.skip.new.self; outbox = b.outbox } in
     let failed = err_from_is_err_and c.from_residual-in_err-answer-in-Ok.result c.from_residual-in_err-answer-in-Ok.ensures.1 in
     rw (failed.1, failed.2)
-    (answer_stops s c.in_ok-reply.reply p c.take.new.self b end c.requires.at c.requires.here c.in_ok-reply.ensures.reply c.requires.flushed c.in-Ok.ensures.fine c.in-Ok.ensures.ok c.in-Ok.done
+    (answer_stops s c.in_ok-reply.reply p c.take.new.self b end c.requires.at c.requires.here c.in_ok-reply.ensures.reply (λ e. c.requires.flushed) c.in-Ok.ensures.fine c.in-Ok.ensures.ok c.in-Ok.done
     c.in-Ok.ensures.done mid c.answer.new.buffers (g.E.End.told c.answer.new.end) c.skip.ensures refl c.in_err-answer-in-Ok.field-0.0 c.in_err-answer-in-Ok.ensures.posted
     c.in_err-answer-in-Ok.ensures.some)
 
@@ -52,7 +52,7 @@ returns-in-Ok-clause-received g c =
     let end = g.E.End.told c.args.end.now in
     let s = latest_session p.client.events in
     let mid : Buffers = record { reader = c.skip.new.self; outbox = b.outbox } in
-    answer_goes s c.in_ok-reply.reply p c.take.new.self b end c.requires.at c.requires.here c.in_ok-reply.ensures.reply c.requires.flushed c.in-Ok.ensures.fine c.in-Ok.ensures.ok c.in-Ok.done
+    answer_goes s c.in_ok-reply.reply p c.take.new.self b end c.requires.at c.requires.here c.in_ok-reply.ensures.reply (λ e. c.requires.flushed) c.in-Ok.ensures.fine c.in-Ok.ensures.ok c.in-Ok.done
     c.in-Ok.ensures.done mid c.answer.new.buffers (g.E.End.told c.answer.new.end) c.skip.ensures refl c.is_bye.result c.is_bye.ensures c.answer.ensures.reader
     c.in_ok-answer-in-Ok.ensures.posted c.in_ok-answer-in-Ok.ensures.are_messages c.answer.ensures.quiet
 
