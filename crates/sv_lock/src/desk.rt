@@ -21,8 +21,9 @@ const HELD: u64 = 1;
 
 const AWAITED: u64 = 2;
 
-// How often a thread looks before it sleeps.
-const LOOKS: u32 = 100;
+// How often a thread looks before it sleeps. A look takes about a nanosecond, so it looks as long as some steps of the object take; to sleep
+// and to be woken takes longer.
+const LOOKS: u32 = 4_000;
 
 /// The table of the lock, and how its callers wait.
 ///
@@ -69,7 +70,7 @@ impl<O: Object> Desk<O> {
         self.table.shared.swap::<Take>(seat, 0, AWAITED) == FREE
     }
 
-    // Looks for a short while, unless others sleep already, and says whether it took the object.
+    // Looks for a short while, and says whether it took the object.
     fn spin(&self, seat: &mut Place<O>) -> bool
         requires table { seat.old.table_id ≡ self.now.table.shared.table_id }
         requires idle { seat.old.me.0.stage ≡ Idle }
@@ -79,11 +80,7 @@ impl<O: Object> Desk<O> {
         ensures took { MatchBool result (Took O.base O.history O.number_of seat.old.me seat.new.me) (seat.new.me ≡ seat.old.me) }
     {
         for _ in 0..LOOKS {
-            let word = self.table.shared.peek(0);
-            if word == AWAITED {
-                return false;
-            }
-            if word == FREE && self.try_take(seat) {
+            if self.table.shared.peek(0) == FREE && self.try_take(seat) {
                 return true;
             }
             hint::spin_loop();
