@@ -21,9 +21,8 @@ const HELD: u64 = 1;
 
 const AWAITED: u64 = 2;
 
-// How often a thread looks before it sleeps. A look takes about a nanosecond, so it looks as long as some steps of the object take; to sleep
-// and to be woken takes longer.
-const LOOKS: u32 = 4_000;
+// How often a thread looks before it sleeps. A look takes about a nanosecond, and to sleep and be woken takes longer than all of them.
+const LOOKS: u32 = 16_000;
 
 /// The table of the lock, and how its callers wait.
 ///
