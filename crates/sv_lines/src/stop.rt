@@ -1,0 +1,60 @@
+//! Why the reading of a report stops before its end.
+ghost use Rattle.std.specs.Prelude.{◌≡◌};
+
+use std::alloc::{AllocError, AllocFailed};
+
+/// Why reading stopped.
+#[derive(Clone, Copy, Debug, Drop)]
+pub enum Stop {
+    /// The line that comes next, with so many bytes left of the text, is wrong.
+    Wrong { left: usize },
+    Memory,
+}
+
+impl From<AllocError> for Stop {
+    ghost use Rattle.sv_lines.specs.declared.stop.Stop.TheVariants.{Memory};
+
+    ghost from_gives = { λ _ e. e ≡ Memory };
+
+    fn from(_error: AllocError) -> Stop {
+        Stop::Memory
+    }
+}
+
+impl<T: Drop> From<AllocFailed<T>> for Stop {
+    ghost use Rattle.sv_lines.specs.declared.stop.Stop.TheVariants.{Memory};
+
+    ghost from_gives = { λ _ e. e ≡ Memory };
+
+    fn from(_error: AllocFailed<T>) -> Stop {
+        Stop::Memory
+    }
+}
+
+/// Why a line could not be read.
+#[derive(Clone, Copy, Debug, Drop)]
+pub enum Unread {
+    /// It is none of those that are wanted here.
+    Wrong,
+    Memory,
+}
+
+impl From<AllocError> for Unread {
+    ghost use Rattle.sv_lines.specs.declared.stop.Unread.TheVariants.{Memory};
+
+    ghost from_gives = { λ _ e. e ≡ Memory };
+
+    fn from(_error: AllocError) -> Unread {
+        Unread::Memory
+    }
+}
+
+impl<T: Drop> From<AllocFailed<T>> for Unread {
+    ghost use Rattle.sv_lines.specs.declared.stop.Unread.TheVariants.{Memory};
+
+    ghost from_gives = { λ _ e. e ≡ Memory };
+
+    fn from(_error: AllocFailed<T>) -> Unread {
+        Unread::Memory
+    }
+}
