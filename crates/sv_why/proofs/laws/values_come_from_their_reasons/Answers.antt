@@ -1,0 +1,5 @@
+use Rattle.sv_why.proofs.Alone.{reasons-give}
+use Rattle.sv_why.proofs.laws.values_come_from_their_reasons.Goals as goal
+
+pub returns : goal.returns
+returns c = reasons-give

@@ -1,0 +1,7 @@
+//! Tests of why objects have their values.
+#![tactic(auto)]
+
+#[cfg(test)]
+mod calls;
+#[cfg(test)]
+mod rows;
