@@ -1,0 +1,272 @@
+-- Where the world's lines stop being right, the next line is the first wrong one. A history is the list of a journal's entries with the latest first.
+use Rattle.std.proofs.Common.{◌≡◌, ◌⊎◌, inl, inr, ℕ, suc, ◌+◌, ◌^◌, ◌<◌, ◌≤◌, ℤ, List, [], ◌∷◌, ◌++◌, length, length-append, reverse, take, drop, refl, sym, ap, subst, ◌∙◌, arith, append_assoc, append-nil}
+use Rattle.std.specs.List.{AllByRecursion, flat_map}
+use Rattle.std.proofs.lemmas.List.{append_cancel_left, reverse-reverse, take-append-drop}
+use Rattle.std.proofs.lemmas.List.Elements.{recursion_from_All}
+use Rattle.sv_world.specs.declared.world.Shape.{Shape}
+use Rattle.sv_wire.specs.Ranges.{ValueFits, RequestFits}
+use Rattle.sv_wire.specs.declared.message.Request.{Request}
+use Rattle.sv_wire.specs.declared.message.Request.TheVariants as requests
+use Rattle.sv_journal.specs.declared.entry.Entry.{Entry}
+use Rattle.sv_journal.specs.History.{commit_of, committed_of}
+use Rattle.sv_journal.specs.Laws.{FullRepliesStay, LegalRelaysNameAccepted}
+use Rattle.sv_journal.specs.Text.{journal_text}
+use Rattle.sv_replay.proofs.Committed.{committed_length}
+use Rattle.sv_client.specs.declared.trace.Trace.{Trace}
+use Rattle.sv_scenario.specs.declared.scenario.Plan.{Plan}
+use Rattle.sv_scenario.specs.declared.scenario.Scenario.{Scenario}
+use Rattle.sv_scenario.specs.Limits.{IsGoodScenario}
+use Rattle.sv_scenario.specs.Sessions.{sessions_of_plan, sessions_in, session_count}
+use Rattle.sv_script.specs.Laws.{StepsAreDoneInOrder}
+use Rattle.sv_system.specs.Records.{rules_of, AreTracesOf, EachTrace}
+use Rattle.sv_system.proofs.Histories.{commit-most}
+use Rattle.sv_asked.specs.Asked.{RequestsAreMessages, AcceptedAreFew}
+use Rattle.sv_asked.specs.Numbers.{ScenarioFits}
+use Rattle.sv_asked.proofs.Facts.{RequestsFit, committed-fits}
+use Rattle.sv_report.specs.Report.{trace_text, value_lines, world_text}
+use Rattle.sv_lines.specs.Lines.{line_width, after_lines, Differs}
+use Rattle.sv_lines.specs.Told.{IsTold}
+use Rattle.sv_check.specs.Parts.{AreEntries, IsWholeJournal, IsWholeTrace, AreFirstTraces, IsOf, IsPart}
+use Rattle.sv_check.specs.Consistent.{IsConsistent, IsReportOfPair, IsReport}
+use Rattle.sv_check.specs.Stopping.{IsStop}
+use Rattle.sv_check.proofs.Reports.{traffic_text, front_apart, all_values, journal_whole, traces_whole, report_full}
+use Rattle.sv_check.proofs.WorldLines.{world_line, world_front, IsWorldFront, front_world, front_of, next_line, inner_of}
+use Rattle.sv_check.proofs.WorldParts.{IsWorldOf, so_far, world_part, part_goes}
+
+-- ---- The numbers of the world
+
+told_fits : (shape : Shape) (q : Request) → IsTold shape q → RequestFits q
+told_fits shape (requests.Join client life interest) t = t
+told_fits shape (requests.Submit seq action) t = t.0
+told_fits shape (requests.Done results) t = t
+told_fits shape requests.Poll t = tt
+told_fits shape requests.Leave t = tt
+told_fits shape requests.Bad t = absurd t
+told_fits shape requests.End t = tt
+
+requests_fit : (scenario : Scenario) (h : List Entry) → AreEntries scenario h → RequestsFit h
+requests_fit scenario [] a = tt
+requests_fit scenario (e ∷ h) a = (told_fits scenario.world.shape e.request a.0.told, requests_fit scenario h a.1)
+
+-- ---- The last trace
+
+-- The traces are those of some clients and the last one's.
+record IsSplit (P : Plan → Trace → Type 0) (k s : ℕ) (plans : List Plan) (Ls : List Trace) : Type 0 where
+  before : List Plan
+  plan : Plan
+  Ms : List Trace
+  L : Trace
+  plans_are : plans ≡ before ++ plan ∷ []
+  traces_are : Ls ≡ Ms ++ L ∷ []
+  clients : AreTracesOf k s before Ms
+  each : EachTrace P before Ms
+  of : IsOf (k + length before) (s + sessions_in before) plan L
+  it : P plan L
+
+split_last : (P : Plan → Trace → Type 0) (k s : ℕ) (plan : Plan) (plans : List Plan) (Ls : List Trace) → AreTracesOf k s (plan ∷ plans) Ls → EachTrace P (plan ∷ plans) Ls → IsSplit P k s (plan ∷ plans) Ls
+split_last P k s plan plans [] a e = absurd a
+split_last P k s plan [] (L ∷ []) a e =
+    let number : k ≡ k + 0 = omega arith in
+    let start : s ≡ s + 0 = omega arith in
+    record {
+      before = [];
+      plan = plan;
+      Ms = [];
+      L = L;
+      plans_are = refl;
+      traces_are = refl;
+      clients = tt;
+      each = tt;
+      of = record { client = a.0 ∙ ap (λ (m : ℕ). record { 0 = m }) number; interest = a.1; first_is = a.2 ∙ start };
+      it = e.0;
+    }
+split_last P k s plan [] (L ∷ M ∷ Ls) a e = absurd a.3
+split_last P k s plan (q ∷ qs) (L ∷ Ls) a e =
+    let m = split_last P (suc k) (s + sessions_of_plan plan) q qs Ls a.3 e.1 in
+    let number : suc k + length m.before ≡ k + suc (length m.before) = omega arith in
+    let start : s + sessions_of_plan plan + sessions_in m.before ≡ s + (sessions_of_plan plan + sessions_in m.before) = omega arith in
+    record {
+      before = plan ∷ m.before;
+      plan = m.plan;
+      Ms = L ∷ m.Ms;
+      L = m.L;
+      plans_are = ap (λ (ps : List Plan). plan ∷ ps) m.plans_are;
+      traces_are = ap (λ (Ns : List Trace). L ∷ Ns) m.traces_are;
+      clients = (a.0, a.1, a.2, m.clients);
+      each = (e.0, m.each);
+      of = record { client = m.of.client ∙ ap (λ (n : ℕ). record { 0 = n }) number; interest = m.of.interest; first_is = m.of.first_is ∙ start };
+      it = m.it;
+    }
+
+last_text : (entries : List Entry) (Ms : List Trace) (L : Trace) → flat_map (trace_text entries) (Ms ++ L ∷ []) ≡ flat_map (trace_text entries) Ms ++ trace_text entries L
+last_text entries [] L = append-nil (trace_text entries L)
+last_text entries (M ∷ Ms) L =
+    ap (λ (l : List ℕ). trace_text entries M ++ l) (last_text entries Ms L) ∙ sym (append_assoc (trace_text entries M) (flat_map (trace_text entries) Ms) (trace_text entries L))
+
+-- ---- The stops
+
+module _ (stay : FullRepliesStay) (names : LegalRelaysNameAccepted) (order : StepsAreDoneInOrder) (few : AcceptedAreFew) (messages : RequestsAreMessages)
+    (scenario : Scenario) (good : IsGoodScenario scenario) (numbers : ScenarioFits scenario) (h : List Entry) (Ls : List Trace) (c : IsConsistent scenario h Ls) where
+  abbrev X : List ℕ
+  X = traffic_text scenario.world.shape h Ls
+
+  abbrev values : List (List ℤ)
+  values = committed_of scenario.world.values h
+
+  abbrev W : List ℕ
+  W = world_text (commit_of h) values
+
+  journal : IsWholeJournal scenario h
+  journal = journal_whole order few messages scenario good numbers h Ls c
+
+  traces : AreFirstTraces scenario.world.shape h scenario.clients Ls
+  traces = traces_whole order few messages scenario good numbers h Ls c
+
+  small : commit_of h < 2 ^ 64
+  small =
+      let most = commit-most h in
+      let accepts = few (rules_of scenario) h (session_count scenario) c.traffic.legal c.traffic.sessions in
+      let sessions = good.sessions in
+      omega (arith, most, accepts, sessions)
+
+  size : length values ≡ scenario.world.shape.objects
+  size = committed_length scenario.world.values h ∙ good.world.objects
+
+  few_values : length values < 2 ^ 32
+  few_values = let objects = good.world.few_objects in let is = size in omega (arith, objects, is)
+
+  fits : AllByRecursion ValueFits values
+  fits = committed-fits scenario.world.values h (requests_fit scenario h journal.entries) (recursion_from_All ValueFits scenario.world.values numbers.values)
+
+  full : world_front (commit_of h) values scenario.world.shape.objects ≡ W
+  full = ap (λ (vs : List (List ℤ)). world_line (commit_of h) ++ 10 ∷ value_lines 0 vs) (all_values scenario h good)
+
+  front : (k : ℕ) → W ≡ world_front (commit_of h) values k ++ value_lines k (drop k values)
+  front k = front_world (commit_of h) values small few_values fits k
+
+  goes : (z : List ℕ) → length (X ++ z) < 2 ^ 64 → IsPart scenario (X ++ z) → (z ≡ []) ⊎ IsWorldOf scenario h z
+  goes z short p = part_goes stay names scenario good.sessions h journal Ls traces z short p
+
+  -- A report has the whole world.
+  report_goes : (z : List ℕ) → length (X ++ z) < 2 ^ 64 → IsReport scenario (X ++ z) → z ≡ W
+  report_goes z short r =
+      let f = report_full order few messages scenario good numbers (X ++ z) r in
+      world_part stay names scenario good.sessions h journal Ls traces z short f.part ∙ ap (λ (n : ℕ). world_front (commit_of h) values n) f.all ∙ full
+
+  traces_part : (plans : List Plan) → scenario.clients ≡ plans → 1 ≤ length plans → IsPart scenario X
+  traces_part [] e some = absurd (omega (arith, some))
+  traces_part (plan ∷ plans) e some =
+      let t : AreFirstTraces scenario.world.shape h (plan ∷ plans) Ls = subst (λ (ps : List Plan). AreFirstTraces scenario.world.shape h ps Ls) e traces in
+      let m = split_last (IsWholeTrace scenario.world.shape h) 0 0 plan plans Ls t.clients t.whole in
+      let number : 0 + length m.before ≡ length m.before = omega arith in
+      let start : 0 + sessions_in m.before ≡ sessions_in m.before = omega arith in
+      let J = journal_text scenario.world.shape (reverse h) in
+      inr (inr (inl (record {
+        h = h;
+        journal = journal;
+        before = m.before;
+        plan = m.plan;
+        after = [];
+        plans = e ∙ m.plans_are;
+        Ls = m.Ms;
+        done = record { clients = m.clients; whole = m.each };
+        L = m.L;
+        next = record { client = m.of.client ∙ ap (λ (n : ℕ). record { 0 = n }) number; interest = m.of.interest; first_is = m.of.first_is ∙ start };
+        so_far = so_far scenario h m.plan m.L m.it;
+        text_is = ap (λ (Ns : List Trace). J ++ flat_map (trace_text (reverse h)) Ns) m.traces_are ∙ ap (λ (l : List ℕ). J ++ l) (last_text (reverse h) m.Ms m.L)
+            ∙ sym (append_assoc J (flat_map (trace_text (reverse h)) m.Ms) (trace_text (reverse h) m.L));
+      })))
+
+  world_is_part : (z : List ℕ) (count : ℕ) → count ≤ scenario.world.shape.objects → z ≡ world_front (commit_of h) values count → IsPart scenario (X ++ z)
+  world_is_part z count within e = inr (inr (inr (record {
+    h = h;
+    journal = journal;
+    Ls = Ls;
+    traces = traces;
+    count = count;
+    within = within;
+    text_is = ap (λ (l : List ℕ). X ++ l) e ∙ sym (front_apart X (commit_of h) (value_lines 0 (take count values)));
+  })))
+
+  -- What was taken is a part.
+  taken_part : (same : List ℕ) → (same ≡ []) ⊎ IsWorldFront (commit_of h) values same → IsPart scenario (X ++ same)
+  taken_part same (inl none) = subst (IsPart scenario) (sym (ap (λ (l : List ℕ). X ++ l) none ∙ append-nil X)) (traces_part scenario.clients refl good.some_clients)
+  taken_part same (inr w) = world_is_part same w.count (let within = w.within in let is = size in omega (arith, within, is)) w.text_is
+
+  -- A line behind what was taken that makes it a longer part is one of the world's.
+  piece_goes : (y same line next : List ℕ) → length (X ++ y) < 2 ^ 64 → y ≡ same ++ line ++ 10 ∷ next → IsPart scenario ((X ++ same) ++ line ++ 10 ∷ []) →
+      (more : List ℕ) × (W ≡ same ++ ((line ++ 10 ∷ []) ++ more))
+  piece_goes y same line next short e p =
+      let piece = line ++ 10 ∷ [] in
+      let z = same ++ piece in
+      let apart : (X ++ same) ++ line ++ 10 ∷ [] ≡ X ++ z = append_assoc (X ++ same) line (10 ∷ []) ∙ append_assoc X same piece in
+      let whole : y ≡ z ++ next =
+      e ∙ append_assoc same line (10 ∷ next) ∙ ap (λ (l : List ℕ). same ++ l) (sym (append_assoc line (10 ∷ []) next)) ∙ sym (append_assoc same piece next) in
+      let sum : length (X ++ y) ≡ length (X ++ z) + length next = ap length (ap (λ (l : List ℕ). X ++ l) whole ∙ sym (append_assoc X z next)) ∙ length-append (X ++ z) next in
+      elim (goes z (omega (arith, sum, short)) (subst (IsPart scenario) apart p)) [
+        | inl none ↦ (let a = ap length none in let b = length-append same piece in let d = length-append line (10 ∷ []) in absurd (omega (arith, a, b, d)))
+        | inr w ↦ (
+          value_lines w.count (drop w.count values),
+          front w.count ∙ ap (λ (l : List ℕ). l ++ value_lines w.count (drop w.count values)) (sym w.text_is) ∙ append_assoc same piece (value_lines w.count (drop w.count values)),
+        )
+      ]
+
+  -- Where a line differs from the world's next one, it is wrong.
+  pub differs_stop : (y : List ℕ) (left : ℕ) → length (X ++ y) < 2 ^ 64 → Differs y W left → IsStop scenario (X ++ y) left
+  differs_stop y left short d =
+      let D = after_lines d.n W in
+      record {
+        before = X ++ d.same;
+        rest = d.after;
+        split = ap (λ (l : List ℕ). X ++ l) d.text_is ∙ sym (append_assoc X d.same d.after);
+        left_is = d.left_is;
+        part = taken_part d.same (front_of (commit_of h) values small few_values fits d.n d.same d.lines_are d.more);
+        wrong = record {
+          line = λ line next all e p.
+              let g = piece_goes y d.same line next short (d.text_is ∙ ap (λ (l : List ℕ). d.same ++ l) e ∙ sym (append_assoc d.same line (10 ∷ next))) p in
+              let is : D ≡ (line ++ 10 ∷ []) ++ g.0 = append_cancel_left d.same D ((line ++ 10 ∷ []) ++ g.0) (sym d.lines_are ∙ g.1) in
+              d.differ next (e ∙ sym (append_assoc line (10 ∷ []) next) ∙ ap (λ (l : List ℕ). l ++ next) (sym (next_line line D g.0 (inner_of line all) is)));
+          unfinished = λ e r.
+              let text : y ≡ d.same = d.text_is ∙ ap (λ (l : List ℕ). d.same ++ l) e ∙ append-nil d.same in
+              let world = report_goes d.same (subst (λ (l : List ℕ). length (X ++ l) < 2 ^ 64) text short) r in
+              let same = ap length (world ∙ d.lines_are) in
+              let sum = length-append d.same D in
+              let some = d.more in
+              absurd (omega (arith, same, sum, some));
+        };
+        none = λ r.
+            let world = report_goes y short r in
+            let is : d.after ≡ D = append_cancel_left d.same d.after D (sym d.text_is ∙ world ∙ d.lines_are) in
+            d.differ (drop (line_width D) D) (is ∙ sym (take-append-drop (line_width D) D));
+      }
+
+  -- Behind the whole world each line is wrong.
+  pub more_stop : (y rest : List ℕ) → length (X ++ y) < 2 ^ 64 → y ≡ W ++ rest → 0 < length rest → IsStop scenario (X ++ y) (length rest)
+  more_stop y rest short e some = record {
+    before = X ++ W;
+    rest = rest;
+    split = ap (λ (l : List ℕ). X ++ l) e ∙ sym (append_assoc X W rest);
+    left_is = refl;
+    part = world_is_part W scenario.world.shape.objects (omega arith) (sym full);
+    wrong = record {
+      line = λ line next all d p.
+          let g = piece_goes y W line next short (e ∙ ap (λ (l : List ℕ). W ++ l) d ∙ sym (append_assoc W line (10 ∷ next))) p in
+          let same = ap length g.1 in
+          let sum = length-append W ((line ++ 10 ∷ []) ++ g.0) in
+          let both = length-append (line ++ 10 ∷ []) g.0 in
+          let one = length-append line (10 ∷ []) in
+          absurd (omega (arith, same, sum, both, one));
+      unfinished = λ none r. (let no = ap length none in absurd (omega (arith, no, some)));
+    };
+    none = λ r.
+        let same = ap length (sym (report_goes y short r) ∙ e) in
+        let sum = length-append W rest in
+        absurd (omega (arith, same, sum, some));
+  }
+
+  -- Where the world's lines are all that is left, the text is the report.
+  pub whole_report : (y : List ℕ) → y ≡ W → IsReportOfPair scenario (X ++ y) h Ls
+  whole_report y e = record {
+    consistent = c;
+    text_is = ap (λ (l : List ℕ). X ++ l) e ∙ ap (λ (g : List Entry). X ++ world_text (commit_of g) (committed_of scenario.world.values g)) (sym (reverse-reverse h));
+  }

@@ -1,0 +1,6 @@
+use Rattle.sv_check.specs.Serving.{entries_of}
+use Rattle.sv_check.proofs.Acted.{Takes}
+use Rattle.sv_check.proofs.clients.take_events.Given as goal
+
+abbrev pub invariant-loop : goal.invariant-loop
+invariant-loop l = Takes (entries_of l.served) l.fn.actor l.actor l.text l.rest l.counter

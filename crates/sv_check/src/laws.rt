@@ -1,0 +1,38 @@
+//! Laws of reports. Each is the contract of a function that does nothing.
+ghost use Rattle.std.specs.Prelude.{◌≡◌, ℕ, ◌<◌, ◌^◌, List, ◌++◌, length, reverse};
+ghost use Rattle.sv_journal.specs.declared.entry.Entry.{Entry};
+ghost use Rattle.sv_journal.specs.Text.{journal_text};
+ghost use Rattle.sv_client.specs.declared.trace.Trace.{Trace};
+ghost use Rattle.sv_scenario.specs.declared.scenario.Scenario.{Scenario};
+ghost use Rattle.sv_scenario.specs.Limits.{IsGoodScenario};
+ghost use Rattle.sv_asked.specs.Numbers.{ScenarioFits};
+ghost use Rattle.sv_check.specs.Consistent.{IsReportOfPair};
+ghost use Rattle.sv_check.specs.Parts.{AreEntries};
+
+use sv_asked::{accepted_are_few, requests_are_messages};
+use sv_journal::{full_replies_stay, legal_relays_name_accepted};
+use sv_script::steps_are_done_in_order;
+
+/// The text of a journal tells its entries, and where it ends: right entries with the same text are the same. The entries stand in order.
+pub fn journals_are_told()
+    ensures { (scenario : Scenario) (entries others : List Entry) (behind rest : List ℕ) → IsGoodScenario scenario →
+        AreEntries scenario (reverse entries) → AreEntries scenario (reverse others) → length entries < 2 ^ 64 → length others < 2 ^ 64 →
+        journal_text scenario.world.shape entries ++ behind ≡ journal_text scenario.world.shape others ++ rest → (entries ≡ others) × (behind ≡ rest) }
+{
+    full_replies_stay();
+    legal_relays_name_accepted();
+}
+
+/// The text of a report tells its journal and its traces: two consistent pairs with the same text are equal.
+///
+/// The scenario's numbers are those of their types, as `read_scenario_numbers` shows of each, and the text is not longer than a memory.
+pub fn reports_are_told()
+    ensures { (scenario : Scenario) (text : List ℕ) (h g : List Entry) (Ls Ms : List Trace) → IsGoodScenario scenario → ScenarioFits scenario → length text < 2 ^ 64 →
+        IsReportOfPair scenario text h Ls → IsReportOfPair scenario text g Ms → (h ≡ g) × (Ls ≡ Ms) }
+{
+    full_replies_stay();
+    legal_relays_name_accepted();
+    steps_are_done_in_order();
+    accepted_are_few();
+    requests_are_messages();
+}

@@ -1,0 +1,15 @@
+//! The checker of reports: whether a text is the report of a consistent run of a scenario.
+#![tactic(auto)]
+
+mod actor;
+mod checking;
+mod clients;
+mod journal;
+mod laws;
+mod moves;
+mod settled;
+mod verdict;
+
+pub use checking::check;
+pub use laws::{journals_are_told, reports_are_told};
+pub use verdict::Verdict;

@@ -1,0 +1,153 @@
+//! What a client that follows its script does next, other than to join and to get a reply.
+ghost use Rattle.std.specs.Prelude.{◌≡◌, ◌<◌, true, false, length, Some, None, IfOk, MatchOption};
+ghost use Rattle.sv_world.specs.Faults.{first_fault_of_action};
+ghost use Rattle.sv_client.specs.declared.trace.Event.TheVariants as events;
+ghost use Rattle.sv_client.specs.Taking.{outstanding};
+ghost use Rattle.sv_client.specs.Proper.{MayMake, MayPoll, MayLeave, in_session};
+ghost use Rattle.sv_script.specs.Following.{after_syncs, unsynced, event_of, must_join, is_welcomed, is_finished};
+ghost use Rattle.sv_report.specs.Again.{MayDo};
+ghost use Rattle.sv_check.specs.Acting.{IsNextEvent, NoNextEvent, NotNow, is_sync};
+
+use std::alloc::{AllocError, Global};
+use sv_client::{Client, Event};
+use sv_scenario::Step;
+use sv_world::{Action, Shape, check_action, copy_action, copy_objects};
+
+fn is_sync(step: &Step) -> bool
+    ensures { result ≡ is_sync step.now }
+{
+    matches!(step, Step::Sync)
+}
+
+/// The steps from the first that is no sync.
+fn skip_syncs(steps: &[Step]) -> &[Step]
+    ensures { result.now ≡ after_syncs steps.now }
+{
+    let mut left = steps;
+    while let Some((step, rest)) = left.split_first() {
+        if !is_sync(step) {
+            return left;
+        }
+        left = rest;
+    }
+    left
+}
+
+/// The steps that are left, without the syncs that may be passed now.
+fn unsynced<'a>(client: &Client, steps: &'a [Step]) -> &'a [Step]
+    ensures { result.now ≡ unsynced client.now.who client.now.events steps.now }
+{
+    if client.outstanding() == 0 {
+        skip_syncs(steps)
+    } else {
+        steps
+    }
+}
+
+fn may_ask(client: &Client) -> bool
+    ensures all { in_session client.now.events ≡ true → length (outstanding client.now.who client.now.events) < 16 → result ≡ true }
+    ensures right { result ≡ true → (in_session client.now.events ≡ true) × (length (outstanding client.now.who client.now.events) < 16) }
+{
+    client.in_session() && client.outstanding() < 16
+}
+
+fn is_good(shape: Shape, action: &Action) -> bool
+    ensures all { first_fault_of_action shape action.now ≡ None → result ≡ true }
+    ensures right { result ≡ true → first_fault_of_action shape action.now ≡ None }
+{
+    match check_action(shape, action) {
+        Ok(()) => true,
+        Err(_) => false,
+    }
+}
+
+fn may_make(client: &Client, shape: Shape, action: &Action) -> bool
+    requires shape { shape ≡ client.now.who.shape }
+    ensures all { MayMake client.now.who client.now.events action.now → result ≡ true }
+    ensures right { result ≡ true → MayMake client.now.who client.now.events action.now }
+{
+    may_ask(client) && client.pending() < 8 && client.made() < 65536 && is_good(shape, action)
+}
+
+fn made(
+    alloc: Global,
+    shape: Shape,
+    client: &Client,
+    action: &Action,
+) -> Result<Option<Event>, AllocError>
+    requires shape { shape ≡ client.now.who.shape }
+    ensures { IfOk result (λ found. MatchOption found (MayMake client.now.who client.now.events action.now → ⊥) (λ e. (e ≡ events.Make action.now) × MayDo client.now.who client.now.events e)) }
+{
+    if !may_make(client, shape, action) {
+        return Ok(None);
+    }
+    Ok(Some(Event::Make(copy_action(alloc, action)?)))
+}
+
+fn polled(client: &Client) -> Option<Event>
+    ensures { MatchOption result (MayPoll client.now.who client.now.events → ⊥) (λ e. (e ≡ events.Poll) × MayDo client.now.who client.now.events e) }
+{
+    if may_ask(client) {
+        Some(Event::Poll)
+    } else {
+        None
+    }
+}
+
+/// The event of a step, where it may be done now. A sync does none.
+fn event_of(
+    alloc: Global,
+    shape: Shape,
+    client: &Client,
+    step: &Step,
+) -> Result<Option<Event>, AllocError>
+    requires shape { shape ≡ client.now.who.shape }
+    ensures { IfOk result (λ found. MatchOption found (NotNow client.now.who client.now.events step.now) (λ e. (event_of step.now ≡ Some e) × MayDo client.now.who client.now.events e)) }
+{
+    match step {
+        Step::Act(action) => made(alloc, shape, client, action),
+        Step::Poll => Ok(polled(client)),
+        Step::Sync => Ok(None),
+        Step::Show(objects) => Ok(Some(Event::Show(copy_objects(alloc, objects.as_slice())?))),
+        Step::Cut => Ok(Some(Event::Cut)),
+        Step::Quit => Ok(Some(Event::Quit)),
+    }
+}
+
+/// A client's Leave, where it may leave.
+fn leaving(client: &Client) -> Option<Event>
+    ensures { MatchOption result (MayLeave client.now.who client.now.events → ⊥) (λ e. (e ≡ events.Leave) × MayLeave client.now.who client.now.events) }
+{
+    if client.in_session() && client.outstanding() == 0 {
+        Some(Event::Leave)
+    } else {
+        None
+    }
+}
+
+/// The next event of a client in a session that has its Welcome, with the steps that it leaves; none where it has to wait for a reply.
+#[tactic(auto, using(crate::proofs::Moving::next_step, crate::proofs::Moving::next_leave, crate::proofs::Moving::none_leaves, crate::proofs::Moving::none_does))]
+pub(crate) fn next_event<'a>(
+    alloc: Global,
+    shape: Shape,
+    client: &Client,
+    steps: &'a [Step],
+) -> Result<Option<(Event, &'a [Step])>, AllocError>
+    requires shape { shape ≡ client.now.who.shape }
+    requires joined { must_join client.now.events ≡ false }
+    requires welcomed { is_welcomed client.now.events ≡ true }
+    requires here { is_finished client.now.events ≡ false }
+    ensures { IfOk result (λ found. MatchOption found (NoNextEvent client.now.who client.now.events steps.now) (λ x. IsNextEvent client.now.who client.now.events steps.now x.0 x.1.now)) }
+{
+    let left = unsynced(client, steps);
+    let Some((step, rest)) = left.split_first() else {
+        return Ok(match leaving(client) {
+            Some(event) => Some((event, left)),
+            None => None,
+        });
+    };
+    match event_of(alloc, shape, client, step)? {
+        Some(event) => Ok(Some((event, rest))),
+        None => Ok(None),
+    }
+}
