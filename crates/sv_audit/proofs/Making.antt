@@ -1,0 +1,177 @@
+-- The text of an answer, or why there is none, from the parts of the call; and the counts of faults.
+use Rattle.std.proofs.Common.{◌≡◌, refl, sym, ap, ◌∙◌, subst, ℕ, ◌<◌, ◌≤◌, List, length, Option, Some, None}
+use Rattle.std.specs.Prelude.{IsErrAnd, Result, Ok, Err, String, string_bytes}
+use Rattle.std.specs.declared.alloc.Global.{Global}
+use Rattle.sv_scenario.specs.declared.scenario.Scenario.{Scenario}
+use Rattle.sv_scenario.specs.Limits.{IsGoodScenario}
+use Rattle.sv_scenario.specs.Scenarios.{scenario_of}
+use Rattle.sv_system.specs.declared.played.Played.{Played}
+use Rattle.sv_command.specs.declared.ending.Ending.{Ending}
+use Rattle.sv_command.specs.declared.ending.Ending.TheVariants as plain
+use Rattle.sv_command.specs.Reading.{IsRead, IsRefused}
+use Rattle.sv_command.specs.Statuses.{Counts}
+use Rattle.sv_check.specs.Consistent.{IsReportOf}
+use Rattle.sv_audit.specs.declared.ending.AuditEnding.{AuditEnding}
+use Rattle.sv_audit.specs.declared.ending.AuditEnding.TheVariants as endings
+use Rattle.sv_audit.specs.Judging.{IsReportFront, IsScenarioFront, AreRead, IsApproved, IsGiven, IsJudged, IsAnswered, IsOverAt, report_size}
+use Rattle.sv_audit.specs.Statuses.{Raises, EndsEarly, IsMade, IsUnread, ending_of}
+use Rattle.sv_audit.specs.Words.{Asking}
+
+-- ---- Answers that come by a `?`
+
+module _ {T : Type 0} (r : Result T AuditEnding) (e : AuditEnding) (by : IsErrAnd r (λ x. x ≡ e)) where
+  pub came : r ≡ Err e
+  came = go r by
+    where
+      go : (q : Result T AuditEnding) → IsErrAnd q (λ x. x ≡ e) → q ≡ Err e
+      go (Ok t) i = absurd i
+      go (Err x) i = ap (λ (y : AuditEnding). Err y) i
+
+  pub raised_by : (before now : Counts) → Raises before now e → Raises before now (ending_of r)
+  raised_by before now h = rw came h
+
+-- ---- The answer
+
+module _ (held told : Option (List ℕ)) (place : Option Asking) where
+  pub unread_made : (e : AuditEnding) → IsUnread e → EndsEarly held told place e
+  unread_made (endings.Plain plain.File) h = tt
+  unread_made (endings.Plain plain.Memory) h = tt
+  unread_made (endings.Plain plain.Done) h = absurd h
+  unread_made (endings.Plain plain.Words) h = absurd h
+  unread_made (endings.Plain (plain.Scenario line)) h = absurd h
+  unread_made (endings.Plain plain.Out) h = absurd h
+  unread_made (endings.Plain plain.Link) h = absurd h
+  unread_made (endings.Plain plain.Start) h = absurd h
+  unread_made endings.Report h = tt
+  unread_made (endings.Wrong line) h = absurd h
+  unread_made endings.Range h = absurd h
+
+  pub refused_made : (bytes : List ℕ) (e : AuditEnding) → IsScenarioFront held bytes → IsGiven bytes (Err e) → EndsEarly held told place e
+  refused_made bytes (endings.Plain (plain.Scenario line)) front h = record { bytes = bytes; front = front; fault = h.fault; faulty = h.faulty; told = h.told_is }
+  refused_made bytes (endings.Plain plain.Memory) front h = tt
+  refused_made bytes (endings.Plain plain.File) front h = absurd h
+  refused_made bytes (endings.Plain plain.Done) front h = absurd h
+  refused_made bytes (endings.Plain plain.Words) front h = absurd h
+  refused_made bytes (endings.Plain plain.Out) front h = absurd h
+  refused_made bytes (endings.Plain plain.Link) front h = absurd h
+  refused_made bytes (endings.Plain plain.Start) front h = absurd h
+  refused_made bytes endings.Report front h = absurd h
+  refused_made bytes (endings.Wrong line) front h = absurd h
+  refused_made bytes endings.Range front h = absurd h
+
+  module _ (source bytes : List ℕ) (scenario : Scenario) (front : IsScenarioFront held source) (is : scenario_of source ≡ Ok scenario) (report : IsReportFront told bytes) where
+    pub are_read : AreRead held told scenario bytes
+    are_read = record { scenario_is = record { bytes = source; front = front; read = is }; report_is = report }
+
+    pub wrong_made : (e : AuditEnding) → IsJudged scenario bytes (Err e) → EndsEarly held told place e
+    wrong_made (endings.Wrong line) h = record { scenario = scenario; bytes = bytes; are_read = are_read; cause = h }
+    wrong_made (endings.Plain plain.Memory) h = tt
+    wrong_made (endings.Plain plain.File) h = absurd h
+    wrong_made (endings.Plain plain.Done) h = absurd h
+    wrong_made (endings.Plain plain.Words) h = absurd h
+    wrong_made (endings.Plain (plain.Scenario line)) h = absurd h
+    wrong_made (endings.Plain plain.Out) h = absurd h
+    wrong_made (endings.Plain plain.Link) h = absurd h
+    wrong_made (endings.Plain plain.Start) h = absurd h
+    wrong_made endings.Report h = absurd h
+    wrong_made endings.Range h = absurd h
+
+    pub approved_is : (played : Played) → IsJudged scenario bytes (Ok played) → IsApproved held told scenario played
+    approved_is played h = record { bytes = bytes; are_read = are_read; short = h.0; report = h.1 }
+
+-- The run was approved; it has no such place, or its answer is told.
+module _ (held told : Option (List ℕ)) (scenario : Scenario) (played : Played) (approved : IsApproved held told scenario played) where
+  over_made : (place : Option Asking) → IsOverAt scenario played place → EndsEarly held told place endings.Range
+  over_made None h = absurd h
+  over_made (Some asking) h = record { scenario = scenario; played = played; approved = approved; over = h }
+
+  pub answer_made : (place : Option Asking) (r : Result (String Global) AuditEnding) → IsAnswered scenario played place r → IsMade held told place r
+  answer_made place (Ok text) h = record { scenario = scenario; played = played; approved = approved; answer = h }
+  answer_made place (Err endings.Range) h = over_made place h
+  answer_made place (Err (endings.Plain plain.Memory)) h = tt
+  answer_made place (Err (endings.Plain plain.File)) h = absurd h
+  answer_made place (Err (endings.Plain plain.Done)) h = absurd h
+  answer_made place (Err (endings.Plain plain.Words)) h = absurd h
+  answer_made place (Err (endings.Plain (plain.Scenario line))) h = absurd h
+  answer_made place (Err (endings.Plain plain.Out)) h = absurd h
+  answer_made place (Err (endings.Plain plain.Link)) h = absurd h
+  answer_made place (Err (endings.Plain plain.Start)) h = absurd h
+  answer_made place (Err endings.Report) h = absurd h
+  answer_made place (Err (endings.Wrong line)) h = absurd h
+
+-- ---- Endings that tell of no fault
+
+-- The ending tells of no file that can't be read, nor of the output.
+abbrev pub IsCalm : AuditEnding → Type 0
+IsCalm (endings.Plain plain.Done) = Unit {0}
+IsCalm (endings.Plain (plain.Scenario line)) = Unit {0}
+IsCalm (endings.Plain plain.Memory) = Unit {0}
+IsCalm (endings.Plain _) = ⊥
+IsCalm endings.Report = ⊥
+IsCalm (endings.Wrong line) = Unit {0}
+IsCalm endings.Range = Unit {0}
+
+pub calm_raises : (before now : Counts) (e : AuditEnding) → IsCalm e → now ≡ before → Raises before now e
+calm_raises before now (endings.Plain plain.Done) c h = h
+calm_raises before now (endings.Plain (plain.Scenario line)) c h = h
+calm_raises before now (endings.Plain plain.Memory) c h = h
+calm_raises before now (endings.Plain plain.File) c h = absurd c
+calm_raises before now (endings.Plain plain.Words) c h = absurd c
+calm_raises before now (endings.Plain plain.Out) c h = absurd c
+calm_raises before now (endings.Plain plain.Link) c h = absurd c
+calm_raises before now (endings.Plain plain.Start) c h = absurd c
+calm_raises before now endings.Report c h = absurd c
+calm_raises before now (endings.Wrong line) c h = h
+calm_raises before now endings.Range c h = h
+
+pub calm_file : (e : AuditEnding) → IsCalm e → e ≡ endings.Plain plain.File → ⊥
+calm_file e c is = rw is at c
+
+pub calm_report : (e : AuditEnding) → IsCalm e → e ≡ endings.Report → ⊥
+calm_report e c is = rw is at c
+
+pub given_calm : (bytes : List ℕ) (e : AuditEnding) → IsGiven bytes (Err e) → IsCalm e
+given_calm bytes (endings.Plain (plain.Scenario line)) h = tt
+given_calm bytes (endings.Plain plain.Memory) h = tt
+given_calm bytes (endings.Plain plain.File) h = absurd h
+given_calm bytes (endings.Plain plain.Done) h = absurd h
+given_calm bytes (endings.Plain plain.Words) h = absurd h
+given_calm bytes (endings.Plain plain.Out) h = absurd h
+given_calm bytes (endings.Plain plain.Link) h = absurd h
+given_calm bytes (endings.Plain plain.Start) h = absurd h
+given_calm bytes endings.Report h = absurd h
+given_calm bytes (endings.Wrong line) h = absurd h
+given_calm bytes endings.Range h = absurd h
+
+pub judged_calm : (scenario : Scenario) (bytes : List ℕ) (e : AuditEnding) → IsJudged scenario bytes (Err e) → IsCalm e
+judged_calm scenario bytes (endings.Wrong line) h = tt
+judged_calm scenario bytes (endings.Plain plain.Memory) h = tt
+judged_calm scenario bytes (endings.Plain plain.File) h = absurd h
+judged_calm scenario bytes (endings.Plain plain.Done) h = absurd h
+judged_calm scenario bytes (endings.Plain plain.Words) h = absurd h
+judged_calm scenario bytes (endings.Plain (plain.Scenario line)) h = absurd h
+judged_calm scenario bytes (endings.Plain plain.Out) h = absurd h
+judged_calm scenario bytes (endings.Plain plain.Link) h = absurd h
+judged_calm scenario bytes (endings.Plain plain.Start) h = absurd h
+judged_calm scenario bytes endings.Report h = absurd h
+judged_calm scenario bytes endings.Range h = absurd h
+
+pub answer_calm : (scenario : Scenario) (played : Played) (place : Option Asking) (r : Result (String Global) AuditEnding) → IsAnswered scenario played place r → IsCalm (ending_of r)
+answer_calm scenario played place (Ok text) h = tt
+answer_calm scenario played place (Err endings.Range) h = tt
+answer_calm scenario played place (Err (endings.Plain plain.Memory)) h = tt
+answer_calm scenario played place (Err (endings.Plain plain.File)) h = absurd h
+answer_calm scenario played place (Err (endings.Plain plain.Done)) h = absurd h
+answer_calm scenario played place (Err (endings.Plain plain.Words)) h = absurd h
+answer_calm scenario played place (Err (endings.Plain (plain.Scenario line))) h = absurd h
+answer_calm scenario played place (Err (endings.Plain plain.Out)) h = absurd h
+answer_calm scenario played place (Err (endings.Plain plain.Link)) h = absurd h
+answer_calm scenario played place (Err (endings.Plain plain.Start)) h = absurd h
+answer_calm scenario played place (Err endings.Report) h = absurd h
+answer_calm scenario played place (Err (endings.Wrong line)) h = absurd h
+
+-- ---- One part after another
+
+-- The first part raised no count.
+pub then_raises : (a b c : Counts) (e : AuditEnding) → b ≡ a → Raises b c e → Raises a c e
+then_raises a b c e same h = subst (λ (k : Counts). Raises k c e) same h

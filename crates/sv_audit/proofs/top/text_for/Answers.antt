@@ -1,0 +1,24 @@
+use Rattle.std.specs.Option.{option_map}
+use Rattle.sv_audit.specs.Statuses.{ending_of}
+use Rattle.sv_audit.specs.Words.{place_by}
+use Rattle.sv_audit.proofs.Making.{raised_by, calm_raises, given_calm, judged_calm, answer_calm}
+use Rattle.sv_audit.proofs.top.text_for.Goals as goal
+
+pub returns-in_err-both-clause-raises : goal.returns-in_err-both-clause-raises
+returns-in_err-both-clause-raises g c =
+    λ k. raised_by c.from_residual.result c.in_err-both.field-0.0 c.from_residual.ensures.1 _ _ (c.in_err-both.ensures.raises k)
+
+pub returns-in_err-scenario-clause-raises : goal.returns-in_err-scenario-clause-raises
+returns-in_err-scenario-clause-raises g c =
+    λ k. raised_by c.from_residual-in_err-scenario.result c.in_err-scenario.field-0.0 c.from_residual-in_err-scenario.ensures.1 _ _
+    (calm_raises _ _ c.in_err-scenario.field-0.0 (given_calm c.deref.result.now c.in_err-scenario.field-0.0 c.in_err-scenario.ensures) (c.in_ok-both.ensures.raises k))
+
+pub returns-in_err-played-clause-raises : goal.returns-in_err-played-clause-raises
+returns-in_err-played-clause-raises g c =
+    λ k. raised_by c.from_residual-in_err-played.result c.in_err-played.field-0.0 c.from_residual-in_err-played.ensures.1 _ _
+    (calm_raises _ _ c.in_err-played.field-0.0 (judged_calm c.in_ok-scenario.scenario c.deref-2.result.now c.in_err-played.field-0.0 c.in_err-played.ensures) (c.in_ok-both.ensures.raises k))
+
+pub returns-clause-raises : goal.returns-clause-raises
+returns-clause-raises g c =
+    λ k. calm_raises _ _ (ending_of c.answered.result)
+    (answer_calm c.in_ok-scenario.scenario c.in_ok-played.played (option_map place_by c.args.audit.place) c.answered.result c.answered.ensures) (c.in_ok-both.ensures.raises k)

@@ -1,0 +1,106 @@
+//! How a call ends.
+ghost use Rattle.std.specs.Prelude.{◌≡◌, ◌++◌, codes};
+ghost use Rattle.std.specs.Fmt.{decimal};
+ghost use Rattle.std.specs.Option.{option_copied, option_map};
+ghost use Rattle.sv_bytes.specs.Writing.{Told};
+ghost use Rattle.sv_command.specs.Statuses.{file_line};
+ghost use Rattle.sv_audit.specs.Statuses.{line_of, status_of, wrong_line};
+ghost use Rattle.sv_audit.specs.Words.{asked_by};
+
+use crate::words::{Audit, report_named, scenario_named};
+use itoa::Buffer;
+use std::alloc::AllocError;
+use sv_bytes::{Sink, write_all, write_pieces};
+use sv_command::Ending;
+
+/// How a call ends.
+#[derive(Debug, Drop)]
+pub(crate) enum AuditEnding {
+    /// As any call of the program may. A file that can't be read is the scenario's.
+    Plain(Ending),
+
+    /// The report can't be read.
+    Report,
+
+    /// The report is none of a consistent run: its first wrong line, or 0 where it is too long.
+    Wrong(u32),
+
+    /// The run has no such object, or no such position.
+    Range,
+}
+
+impl From<Ending> for AuditEnding {
+    ghost use Rattle.std.specs.Prelude.{◌≡◌};
+    ghost use Rattle.sv_audit.specs.declared.ending.AuditEnding.TheVariants as endings;
+
+    ghost from_gives = { λ ending e. e ≡ endings.Plain ending };
+
+    fn from(ending: Ending) -> AuditEnding {
+        AuditEnding::Plain(ending)
+    }
+}
+
+impl From<AllocError> for AuditEnding {
+    ghost use Rattle.std.specs.Prelude.{◌≡◌};
+    ghost use Rattle.sv_command.specs.declared.ending.Ending.TheVariants as plain;
+    ghost use Rattle.sv_audit.specs.declared.ending.AuditEnding.TheVariants as endings;
+
+    ghost from_gives = { λ _ e. e ≡ endings.Plain plain.Memory };
+
+    fn from(_e: AllocError) -> AuditEnding {
+        AuditEnding::Plain(Ending::Memory)
+    }
+}
+
+fn tell_file<E: Sink>(name: &str, err: &mut E)
+    ensures { Told (E.taken err.old) (E.taken err.new) (E.faults err.old) (E.faults err.new) (file_line name.now) }
+{
+    write_pieces(err, &[b"file: ", name.as_bytes(), b"\n"]);
+}
+
+/// Writes a line that ends with a number.
+fn tell_number<E: Sink>(words: &[u8], number: u32, err: &mut E)
+    ensures { Told (E.taken err.old) (E.taken err.new) (E.faults err.old) (E.faults err.new) (words.now ++ decimal number ++ codes "\n") }
+{
+    let mut buffer = Buffer::new();
+    write_pieces(err, &[words, buffer.format(number).as_bytes(), b"\n"]);
+}
+
+fn tell_wrong<E: Sink>(line: u32, err: &mut E)
+    ensures { Told (E.taken err.old) (E.taken err.new) (E.faults err.old) (E.faults err.new) (wrong_line line) }
+{
+    tell_number(b"wrong line ", line, err)
+}
+
+/// Writes the line that tells of an ending. It takes no memory.
+pub(crate) fn tell<E: Sink>(
+    ending: &AuditEnding,
+    words_line: &[u8],
+    audit: Option<Audit<'_>>,
+    err: &mut E,
+)
+    ensures { Told (E.taken err.old) (E.taken err.new) (E.faults err.old) (E.faults err.new) (line_of words_line.now (option_map asked_by audit.entry) ending.now) }
+{
+    match ending {
+        AuditEnding::Plain(ending) => {
+            sv_command::tell(ending, words_line, scenario_named(audit), err)
+        }
+        AuditEnding::Report => tell_file(report_named(audit).unwrap_or(""), err),
+        AuditEnding::Wrong(line) => tell_wrong(*line, err),
+        AuditEnding::Range => {
+            write_all(err, b"range\n");
+        }
+    }
+}
+
+/// The status with which the program ends.
+pub(crate) fn status_of(ending: &AuditEnding) -> u8
+    ensures { result ≡ status_of ending.now }
+{
+    match ending {
+        AuditEnding::Plain(ending) => sv_command::status_of(ending),
+        AuditEnding::Report => 4,
+        AuditEnding::Wrong(_) => 9,
+        AuditEnding::Range => 10,
+    }
+}

@@ -1,0 +1,92 @@
+//! The top call of the checker of reports.
+ghost use Rattle.std.specs.Prelude.{◌≡◌, ◌≢◌, ◌↔◌, ◌⊎◌, ℕ, ◌≤◌, map, option_map, string_bytes, None, Err, IfSome};
+ghost use Rattle.sv_bytes.specs.Faults.{Rose};
+ghost use Rattle.sv_command.specs.Reading.{HoldsScenario};
+ghost use Rattle.sv_command.specs.Statuses.{counts};
+ghost use Rattle.sv_command.specs.declared.ending.Ending.TheVariants as plain;
+ghost use Rattle.sv_audit.specs.Statuses.{Ends, IsMade, Leaves, NoneRose, Raises, TellsStatus, ending_of};
+ghost use Rattle.sv_audit.specs.Words.{asked_by, asked_of, words_line};
+ghost use Rattle.sv_audit.specs.declared.ending.AuditEnding.TheVariants as endings;
+
+use crate::ending::{AuditEnding, status_of, tell};
+use crate::judging::{answered, judged, scenario_of};
+use crate::reading::read_both;
+use crate::words::{Audit, audit_of, words_line};
+use std::alloc::Global;
+use sv_bytes::{Files, Sink, write_all};
+use sv_command::Ending;
+
+/// The text that answers what is asked. It is whole before any of it is printed.
+fn text_for<F: Files>(alloc: Global, audit: Audit<'_>, files: &mut F) -> Result<String, AuditEnding>
+    ensures made { IsMade (F.contents files.old audit.entry.scenario.now) (F.contents files.old audit.entry.report.now) (asked_by audit.entry).place result }
+    ensures raises { (k : ℕ) → Raises (counts (F.faults files.old) 0 0 k) (counts (F.faults files.new) 0 0 k) (ending_of result) }
+    ensures sure_scenario { F.sure files.old audit.entry.scenario.now → result ≢ Err (endings.Plain plain.File) }
+    ensures sure_report { F.sure files.old audit.entry.report.now → result ≢ Err endings.Report }
+{
+    let both = read_both(alloc, audit, files)?;
+    let scenario = scenario_of(alloc, &both.scenario)?;
+    let played = judged(alloc, &scenario, &both.report)?;
+    answered(alloc, &scenario, &played, audit.place)
+}
+
+/// Does what is asked for, and tells how it ended.
+fn decide<F: Files, K: Sink>(
+    alloc: Global,
+    audit: Option<Audit<'_>>,
+    files: &mut F,
+    out: &mut K,
+) -> AuditEnding
+    ensures words { (result ≡ endings.Plain plain.Words) ↔ (option_map asked_by audit.entry ≡ None) }
+    ensures ends { IfSome (option_map asked_by audit.entry) (λ a. Ends (F.contents files.old a.scenario) (F.contents files.old a.report) a.place (K.taken out.old) (K.taken out.new) result) }
+    ensures raises { Raises (counts (F.faults files.old) 0 0 (K.faults out.old)) (counts (F.faults files.new) 0 0 (K.faults out.new)) result }
+    ensures sure_scenario { IfSome (option_map asked_by audit.entry) (λ a. F.sure files.old a.scenario → result ≢ endings.Plain plain.File) }
+    ensures sure_report { IfSome (option_map asked_by audit.entry) (λ a. F.sure files.old a.report → result ≢ endings.Report) }
+    ensures apart { option_map asked_by audit.entry ≡ None → (files.new ≡ files.old) × (K.taken out.new ≡ K.taken out.old) }
+{
+    let Some(audit) = audit else {
+        return AuditEnding::Plain(Ending::Words);
+    };
+    match text_for(alloc, audit, files) {
+        Ok(text) if write_all(out, text.as_bytes()) => AuditEnding::Plain(Ending::Done),
+        Ok(_) => AuditEnding::Plain(Ending::Out),
+        Err(ending) => ending,
+    }
+}
+
+/// Checks a report, or tells why an object has its value in one, and answers the status with which the program ends.
+///
+/// The words leave out the program's own name. They are `check SCENARIO REPORT` or `why SCENARIO REPORT OBJECT POSITION`, with both numbers
+/// without leading zeros. `check` prints `yes` where the report is that of a consistent run of the scenario, as `replay` and `play` print it.
+/// `why` prints, of such a report, the actions that the object's value at the position comes from, and the value.
+///
+/// The status is the first of these that applies: 2 where the words are others, 4 where a file can't be read, 3 where the first is no
+/// scenario, 9 where the report is no consistent one, or has more than 67,108,864 bytes, 10 where the world has no such object or the run has
+/// accepted no such position, and 5 where the output failed; else it is 0, or 8 where memory ran out. Both files are read before any of them
+/// is judged. With status 9 the report's first wrong line is told, where the place after the last line counts as a line, or line 0 of a report
+/// that has too many bytes.
+pub fn run_check<F: Files, K: Sink, E: Sink>(
+    alloc: Global,
+    words: &[String],
+    files: &mut F,
+    out: &mut K,
+    err: &mut E,
+) -> u8
+    ensures range { (result ≡ 0) ⊎ ((2 ≤ result) × (result ≤ 5)) ⊎ ((8 ≤ result) × (result ≤ 10)) }
+    ensures words { (result ≡ 2) ↔ (asked_of (map string_bytes words.now) ≡ None) }
+    ensures file { (result ≡ 4) ↔ Rose (F.faults files.old) (F.faults files.new) }
+    ensures output { (result ≡ 5) ↔ Rose (K.faults out.old) (K.faults out.new) }
+    ensures sure { IfSome (asked_of (map string_bytes words.now)) (λ a. F.sure files.old a.scenario → F.sure files.old a.report → result ≢ 4) }
+    ensures apart { result ≡ 2 → files.new ≡ files.old }
+    ensures nothing { result ≢ 0 → result ≢ 5 → K.taken out.new ≡ K.taken out.old }
+    ensures left { IfSome (asked_of (map string_bytes words.now)) (λ a. Leaves (F.contents files.old a.scenario) (F.contents files.old a.report) a.place (K.taken out.old) (K.taken out.new) result) }
+    ensures told { TellsStatus (F.sure files.old) (F.contents files.old) (words_line (map string_bytes words.now)) (asked_of (map string_bytes words.now)) result
+        (E.taken err.old) (E.taken err.new) (E.faults err.old) (E.faults err.new) }
+    ensures complete { IfSome (asked_of (map string_bytes words.now)) (λ a. HoldsScenario (F.contents files.old a.scenario)
+        → NoneRose (counts (F.faults files.old) 0 0 (K.faults out.old)) (counts (F.faults files.new) 0 0 (K.faults out.new))
+        → (result ≡ 0) ⊎ ((8 ≤ result) × (result ≤ 10))) }
+{
+    let audit = audit_of(words);
+    let ending = decide(alloc, audit, files, out);
+    tell(&ending, words_line(words), audit, err);
+    status_of(&ending)
+}

@@ -1,0 +1,149 @@
+//! What the checker answers to words, files and outputs.
+use crate::calls::{called, files};
+use crate::texts::{CONFLICT_WHY, FIRST, LOOKS_WHY};
+use std::alloc::{AllocError, Global};
+use std::test::Fail;
+use sv_bytes::MemFiles;
+
+const CHECK_WORDS: &str = "words: check SCENARIO REPORT\n";
+
+const WHY_WORDS: &str = "words: why SCENARIO REPORT OBJECT POSITION\n";
+
+/// A line of words, and the status with both outputs.
+const ROWS: [(&str, u8, &str, &str); 38] = [
+    ("check first.json first.out", 0, "yes\n", ""),
+    ("check conflict.json conflict.out", 0, "yes\n", ""),
+    ("check looks.json looks.out", 0, "yes\n", ""),
+    ("why conflict.json conflict.out 0 2", 0, CONFLICT_WHY, ""),
+    ("why looks.json looks.out 1 3", 0, LOOKS_WHY, ""),
+    ("why looks.json looks.out 1 2", 0, "value 1=(20)\n", ""),
+    ("why looks.json looks.out 0 0", 0, "value 0=(10)\n", ""),
+    // The words.
+    ("", 2, "", CHECK_WORDS),
+    ("check", 2, "", CHECK_WORDS),
+    ("check first.json", 2, "", CHECK_WORDS),
+    ("check first.json first.out 0", 2, "", CHECK_WORDS),
+    ("check first.json first.out 0 1", 2, "", CHECK_WORDS),
+    ("audit first.json first.out", 2, "", CHECK_WORDS),
+    ("why", 2, "", WHY_WORDS),
+    ("why first.json first.out", 2, "", WHY_WORDS),
+    ("why first.json first.out 0", 2, "", WHY_WORDS),
+    ("why first.json first.out 0 1 2", 2, "", WHY_WORDS),
+    ("why first.json first.out 00 1", 2, "", WHY_WORDS),
+    ("why first.json first.out 0 01", 2, "", WHY_WORDS),
+    ("why first.json first.out -1 1", 2, "", WHY_WORDS),
+    ("why first.json first.out 0 +1", 2, "", WHY_WORDS),
+    ("why first.json first.out 65536 1", 2, "", WHY_WORDS),
+    ("why first.json first.out 0 4294967296", 2, "", WHY_WORDS),
+    // The files: both are read before any is judged, and the first that can't be read is named.
+    ("check absent first.out", 4, "", "file: absent\n"),
+    ("check first.json absent", 4, "", "file: absent\n"),
+    ("check missing absent", 4, "", "file: missing\n"),
+    ("check none.json absent", 4, "", "file: absent\n"),
+    ("why first.json absent 0 1", 4, "", "file: absent\n"),
+    (
+        "check none.json first.out",
+        3,
+        "",
+        "scenario: /attrs: key\n",
+    ),
+    (
+        "why none.json first.out 0 1",
+        3,
+        "",
+        "scenario: /attrs: key\n",
+    ),
+    // The report of another scenario, and texts that are none.
+    ("check first.json conflict.out", 9, "", "wrong line 3\n"),
+    ("check first.json none.json", 9, "", "wrong line 1\n"),
+    ("why first.json conflict.out 0 1", 9, "", "wrong line 3\n"),
+    ("why first.json conflict.out 9 9", 9, "", "wrong line 3\n"),
+    // The place.
+    ("why looks.json looks.out 1 4", 10, "", "range\n"),
+    ("why looks.json looks.out 2 3", 10, "", "range\n"),
+    (
+        "why looks.json looks.out 65535 4294967295",
+        10,
+        "",
+        "range\n",
+    ),
+    (
+        "why conflict.json conflict.out 0 4294967295",
+        10,
+        "",
+        "range\n",
+    ),
+];
+
+#[test]
+fn words_are_answered(rt: HostRuntime) -> Result<(), Fail> {
+    for (line, status, out, err) in ROWS {
+        let printed = called(rt.alloc(), line, files(rt.alloc())?, &[])?;
+        assert!(&rt; printed.is(status, out, err), "{line}");
+    }
+    Ok(())
+}
+
+/// Files whose read of this number fails.
+fn failing(alloc: Global, call: u64) -> Result<MemFiles, AllocError> {
+    let mut files = files(alloc)?;
+    files.fail_at(call)?;
+    Ok(files)
+}
+
+/// Each call of the files is a begin or a read. Each file here is read by one piece, and one more read tells its end.
+#[test]
+fn the_file_whose_reading_failed_is_named(rt: HostRuntime) -> Result<(), Fail> {
+    let named = [
+        (1, "file: first.json\n"),
+        (2, "file: first.json\n"),
+        (3, "file: first.json\n"),
+        (4, "file: first.out\n"),
+        (5, "file: first.out\n"),
+        (6, "file: first.out\n"),
+    ];
+    for (call, err) in named {
+        let files = failing(rt.alloc(), call)?;
+        let printed = called(rt.alloc(), "check first.json first.out", files, &[])?;
+        assert!(&rt; printed.is(4, "", err), "call {call}");
+    }
+    Ok(())
+}
+
+#[test]
+fn failing_outputs_are_told(rt: HostRuntime) -> Result<(), Fail> {
+    let printed = called(
+        rt.alloc(),
+        "check first.json first.out",
+        files(rt.alloc())?,
+        &[1],
+    )?;
+    assert!(&rt; printed.is(5, "", "out\n"), "check");
+    let why = "why conflict.json conflict.out 0 2";
+    let printed = called(rt.alloc(), why, files(rt.alloc())?, &[1])?;
+    assert!(&rt; printed.is(5, "", "out\n"), "why");
+    Ok(())
+}
+
+/// 67,108,865 bytes: one more than a report may have.
+fn too_long(alloc: Global) -> Result<Vec<u8>, AllocError> {
+    let block = vec![in alloc; 48; 65_536]?;
+    let mut bytes = Vec::with_capacity(alloc, 67_108_865)?;
+    for _ in 0..1_024 {
+        bytes.extend_from_slice(&block)?;
+    }
+    bytes.push(48)?;
+    Ok(bytes)
+}
+
+#[test]
+fn too_long_reports_have_no_line(rt: HostRuntime) -> Result<(), Fail> {
+    let mut files = MemFiles::new(rt.alloc());
+    files.add("first.json", FIRST.as_bytes())?;
+    let bytes = too_long(rt.alloc())?;
+    files.add("long", &bytes)?;
+    drop(bytes);
+    let printed = called(rt.alloc(), "check first.json long", files, &[])?;
+    assert!(&rt; printed.is(9, "", "wrong line 0\n"));
+    Ok(())
+}
