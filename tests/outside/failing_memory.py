@@ -4,8 +4,8 @@
     python3 tests/outside/failing_memory.py PROGRAM
 
 Builds failing_memory.c with the system's C compiler; that file says which allocations it reaches. Singles: `replay` and
-`play` of the examples `conflict` and `bound`. Pairs: `replay` and `play` of `empty_script` and `replay` of `first`
-and `bound`; the second of two is counted after the first has failed.
+`play` of the examples `conflict` and `bound`, and `check` and `why` of their reports. Pairs: `replay` and `play` of
+`empty_script`, `replay` of `first` and `bound`, and `check` of `first`; the second of two is counted after the first has failed.
 
 A run may end with status 8, nothing printed and `memory` told; `play` also with 7 or 6, nothing printed and `start` or
 `link` told; where the allocation that should fail was not reached, with status 0 and the text of the whole run; and nothing
@@ -26,6 +26,8 @@ EXAMPLES = os.path.join(HERE, "..", "..", "examples")
 sys.path.insert(0, HERE)
 
 from check_report import check
+from first_wrong import Lines, take_journal
+from reasons import why_lines
 from report import Fault
 from scenario import read_scenario
 
@@ -34,7 +36,7 @@ MEMORY = (8, b"", b"memory\n")
 # out of memory closes its connection, which is a fault at the other end where something was not read yet.
 THREADS = {(7, b"", b"start\n"): "start", (6, b"", b"link\n"): "link"}
 # More calls than any run of these examples makes.
-BEHIND = {"replay": 0, "play": 60}
+BEHIND = {"replay": 0, "play": 60, "check": 0, "why": 0}
 
 
 class Shim:
@@ -71,6 +73,19 @@ def is_whole(path, text, known):
     return known[text]
 
 
+def text_of(word, path, report):
+    """What a call prints where nothing fails: of `replay` the report, which `play` too may print; of `why` what is so of object 0 at position 1."""
+    with open(report, "rb") as file:
+        text = file.read()
+    if word == "check":
+        return b"yes\n"
+    if word == "why":
+        scenario = read_scenario(path)
+        lines = why_lines(scenario, take_journal(scenario, Lines(text))[1].accepted, 0, 1)
+        return "".join(f"{line}\n" for line in lines).encode()
+    return text
+
+
 class Campaign:
     """The figures of all runs so far."""
 
@@ -93,10 +108,10 @@ class Campaign:
 
     def go(self, word, example, pairs):
         """All singles, or all pairs, of one call of the program. A pair whose second call is not reached is a single."""
-        path, name = os.path.join(EXAMPLES, example + ".json"), f"{word} {example}"
-        with open(os.path.join(EXAMPLES, example + ".out"), "rb") as file:
-            known = {file.read(): True}
-        shim, begun, ends = Shim(self.library, self.program, [word, path]), time.monotonic(), collections.Counter()
+        path, report, name = os.path.join(EXAMPLES, example + ".json"), os.path.join(EXAMPLES, example + ".out"), f"{word} {example}"
+        known = {text_of(word, path, report): True}
+        words = [word, path, *{"check": [report], "why": [report, "0", "1"]}.get(word, [])]
+        shim, begun, ends = Shim(self.library, self.program, words), time.monotonic(), collections.Counter()
         plain, least = shim.run()
         if plain[0] != 0:
             raise SystemExit(f"{name} ends with status {plain[0]} where nothing fails")
@@ -127,9 +142,9 @@ def main(words):
         subprocess.run(["cc", "-O2", "-shared", "-fPIC", "-o", library, os.path.join(HERE, "failing_memory.c")], check=True)
         campaign = Campaign(library, os.path.abspath(words[0]))
         for example in ("conflict", "bound"):
-            for word in ("replay", "play"):
+            for word in ("replay", "play", "check", "why"):
                 campaign.go(word, example, False)
-        for word, example in (("replay", "empty_script"), ("play", "empty_script"), ("replay", "first"), ("replay", "bound")):
+        for word, example in (("replay", "empty_script"), ("play", "empty_script"), ("replay", "first"), ("replay", "bound"), ("check", "first")):
             campaign.go(word, example, True)
     print(f"{campaign.wrong} wrong")
     return 1 if campaign.wrong else 0

@@ -3,9 +3,9 @@
 
     python3 tests/outside/test_documents.py [--program PROGRAM] [DOCUMENT ..]
 
-Takes the fenced blocks out of README.md and of docs/ACTIONS.md, EMBEDDING.md, ERRORS.md, PICTURE.md
-and TUTORIAL.md, or out of the documents that are named, and checks each by the word behind its
-opening fence:
+Takes the fenced blocks out of README.md and of docs/ACTIONS.md, CHECK.md, EMBEDDING.md, ERRORS.md,
+PICTURE.md and TUTORIAL.md, or out of the documents that are named, and checks each by the word behind
+its opening fence:
 
     action          an action text, which must be read
     canonical       pairs of lines: an action text, and its canonical text
@@ -27,6 +27,9 @@ opening fence:
     played NAME S   lines that stand together in the report of a run whose turns are taken at random
                     from the seed S, with its told lines
     played-brief NAME S     the same of the brief summary of such a run
+    wrong NAME      pairs of lines: a change of that replay's report, `line N: TEXT`, `line N left out`
+                    or `line N twice`, and what `check` answers of the changed report
+    why NAME O P    what `why` prints of that replay's report, of object O at position P
     answers         lines `sS REQUEST -> REPLY`: what a server answers that has one object with the
                     one attribute 0, and a bound of 8
     file PATH       lines that stand together in that file of the repository
@@ -56,14 +59,18 @@ import sys
 import simulate
 from actions import (GREATEST, LEAST, TextFault, action_text, evaluate, fault_of_action,
                      read_action)
+from first_wrong import Lines, answer, first_wrong, take_journal
+from reasons import why_lines
 from report import reply_text, request_of
-from scenario import NoScenario, Plan, Scenario, scenario_of
+from scenario import NoScenario, Plan, Scenario, read_scenario, scenario_of
 from server import Server
 
 HERE = os.path.dirname(os.path.abspath(__file__))
 TOP = os.path.join(HERE, "..", "..")
-DOCUMENTS = ("README.md", "docs/ACTIONS.md", "docs/EMBEDDING.md", "docs/ERRORS.md", "docs/PICTURE.md",
-             "docs/TUTORIAL.md")
+DOCUMENTS = ("README.md", "docs/ACTIONS.md", "docs/CHECK.md", "docs/EMBEDDING.md", "docs/ERRORS.md",
+             "docs/PICTURE.md", "docs/TUTORIAL.md")
+# Crates that read the lines of reports, and write none on standard error.
+READERS = ("sv_lines", "sv_check")
 LARGEST = 4_194_304
 UNSIGNED = 2 ** 64 - 1
 HELD = re.compile(r"([0-9]+)=\((-?[0-9]+(?:,-?[0-9]+)*)\)")
@@ -245,6 +252,15 @@ def brief(scenario, report):
     return lines
 
 
+def changed(report, change):
+    """A report with one line changed, left out or doubled."""
+    lines = report.splitlines(keepends=True)
+    found = re.fullmatch(r"line ([0-9]+)(: .*| left out| twice)", change)
+    place = int(found[1]) - 1
+    behind = {" left out": "", " twice": lines[place] * 2}.get(found[2], found[2][2:] + "\n")
+    return "".join(lines[:place]) + behind + "".join(lines[place + 1:])
+
+
 def stands_in(lines, whole_text):
     """Whether the lines stand together, in order, somewhere in the text."""
     return any(whole_text[start:start + len(lines)] == lines for start in range(len(whole_text)))
@@ -297,7 +313,7 @@ def error_texts():
     found = set()
     for crate in sorted(os.listdir(os.path.join(TOP, "crates"))):
         source = os.path.join(TOP, "crates", crate, "src")
-        if not crate.startswith("sv_") or not os.path.isdir(source):
+        if not crate.startswith("sv_") or crate in READERS or not os.path.isdir(source):
             continue
         for name in sorted(os.listdir(source)):
             with open(os.path.join(source, name), encoding="utf-8") as file:
@@ -418,6 +434,24 @@ class Checker:
             report = report[len(report) - told:]
         self.expect(bool(lines) and stands_in(lines, report), f"{name}: not in the report")
 
+    def report_of(self, key):
+        """The scenario of this name, of the document or of the folder examples/, and its replay's report."""
+        if key not in self.scenarios:
+            self.scenarios[key] = read_scenario(os.path.join(TOP, "examples", f"{key}.json"))
+        return self.scenarios[key], simulate.replay(self.scenarios[key])
+
+    def check_wrong(self, lines, name, key):
+        """Changes of a report, and its first wrong lines."""
+        scenario, report = self.report_of(key)
+        self.check_pairs(lines, name, lambda change: answer(first_wrong(scenario, changed(report, change).encode())))
+
+    def check_why(self, lines, name, key, target, position):
+        """Why an object has its value at a position."""
+        scenario, report = self.report_of(key)
+        _, history = take_journal(scenario, Lines(report.encode()))
+        found = why_lines(scenario, history.accepted, int(target), int(position))
+        self.expect(found == lines, f"{name}: {found}")
+
     def check_block(self, words, lines, name):
         """One block."""
         word, more = words[0], words[1:]
@@ -431,7 +465,7 @@ class Checker:
         elif word == "no-scenario":
             self.check_pairs(lines, name,
                              lambda text: line_of_file("" if text == "(empty)" else text))
-        elif word in ("scenario", "change", "report", "file"):
+        elif word in ("scenario", "change", "report", "file", "wrong", "why"):
             getattr(self, f"check_{word}")(lines, name, *more)
         elif word in ("part", "told", "brief", "played", "played-brief"):
             self.check_run(lines, name, word, *more)
@@ -465,6 +499,7 @@ class Checker:
                 files = [word for word in words if word.startswith("examples/")]
                 self.expect(all(os.path.exists(os.path.join(TOP, each)) for each in files), f"{page}: {line}")
                 ends = words[0] in ("play", "replay", "load", "--help", "--version")
+                ends |= words[0] in ("check", "why") and len(files) == 2
                 if program and ends and (files or len(words) < 2 or words[0] == "load") and line not in tried:
                     tried.add(line)
                     self.check_run_of(program, words, files)

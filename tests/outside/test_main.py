@@ -26,11 +26,15 @@ from programs import free_port
 BUILT = os.path.join(ROOT, "crates", "sv_main", "out", "sv_main")
 PLAY = b"words: play FILE [--brief | --watch] | replay FILE | load N\n"
 SERVE, JOIN, LOOKS = b"words: serve FILE PORT\n", b"words: join FILE K PORT\n", b"words: looks FILE\n"
+CHECK, WHY = b"words: check SCENARIO REPORT\n", b"words: why SCENARIO REPORT OBJECT POSITION\n"
 NO_TEXT = b"\xff\xfe"
 OTHER = {"user": 65534, "group": 65534}
 FIRST = os.path.join(ROOT, "examples", "first.json")
 SEEN = os.path.join(ROOT, "examples", "looks.json")
-RUNS = (("play", FIRST), ("play", FIRST, "--brief"), ("play", FIRST, "--watch"), ("replay", FIRST), ("load", "1"), ("looks", SEEN))
+REPORT = os.path.join(ROOT, "examples", "first.out")
+LONGEST_REPORT = 67_108_864
+RUNS = (("play", FIRST), ("play", FIRST, "--brief"), ("play", FIRST, "--watch"), ("replay", FIRST), ("load", "1"), ("looks", SEEN),
+        ("check", FIRST, REPORT), ("why", FIRST, REPORT, "0", "1"))
 
 
 class Test:
@@ -75,11 +79,13 @@ def test_words(test):
     first = FIRST
     for words in ((), ("",), ("plays", first), ("play",), ("play", first, "--Brief"), ("play", first, "--brief", "--watch"),
                   ("play", "--brief", first), ("replay",), ("replay", first, "--brief"), ("replay", first, first), ("load",),
-                  ("load", "0"), ("load", "193"), ("load", "01"), ("load", "+1"), ("load", "1", "1"), ("--version", "--help"), ("--Version",), ("check", first),
+                  ("load", "0"), ("load", "193"), ("load", "01"), ("load", "+1"), ("load", "1", "1"), ("--version", "--help"), ("--Version",), ("checks", first, first),
                   (NO_TEXT,), (NO_TEXT, first), ("replay", NO_TEXT), ("play", NO_TEXT), ("play", first, NO_TEXT), ("load", NO_TEXT)):
         test.ends(words, (2, b"", PLAY), "words")
     for words, line in ((("serve",), SERVE), (("serve", first, "0"), SERVE), (("join", first, "x", "1"), JOIN), (("join",), JOIN),
-                        (("looks",), LOOKS), (("looks", first, "--brief"), LOOKS), (("looks", first, first), LOOKS)):
+                        (("looks",), LOOKS), (("looks", first, "--brief"), LOOKS), (("looks", first, first), LOOKS),
+                        (("check",), CHECK), (("check", first), CHECK), (("check", first, REPORT, "0"), CHECK), (("why",), WHY),
+                        (("why", first, REPORT, "0"), WHY), (("why", first, REPORT, "0", "01"), WHY), (("why", first, REPORT, "65536", "1"), WHY)):
         test.ends(words, (2, b"", line), "words")
     test.ends(("--version",), (0, b"dimboetu 0.9.0\n", b""), "notices")
     test.ends(("looks", SEEN), (0, b"look c0 2 at 2 [0=(11) 1=(20)]\n", b""), "looks")
@@ -110,6 +116,28 @@ def test_files(test):
         test.ends((*start, "/dev/zero", *behind), (3, b"", b"scenario: : size\n"), "a file without end")
     for option in ("--brief", "--watch"):
         test.ends(("play", missing, option), (4, b"", f"file: {missing}\n".encode()), "no such file")
+    for word, behind in (("check", ()), ("why", ("0", "1"))):
+        for name in (missing, test.room, ""):
+            test.ends((word, name, REPORT, *behind), (4, b"", f"file: {name}\n".encode()), "a scenario that can't be read")
+            test.ends((word, faulty, name, *behind), (4, b"", f"file: {name}\n".encode()), "a report that can't be read, beside a faulty file")
+        test.ends((word, faulty, REPORT, *behind), (3, b"", b"scenario: : kind\n"), "a faulty file")
+        test.ends((word, "/dev/zero", REPORT, *behind), (3, b"", b"scenario: : size\n"), "a file without end")
+
+
+def test_reports(test):
+    """Reports, right and wrong, and places that a run has or has not."""
+    test.ends(("check", FIRST, REPORT), (0, b"yes\n", b""), "a right report")
+    test.ends(("why", FIRST, REPORT, "0", "1"), (0, b"1 c0.1 reads 0 writes 0 { set @0.0 (@0.0 + 1); }\nvalue 0=(6)\n", b""), "why")
+    for place in (("1", "1"), ("0", "2"), ("65535", "4294967295")):
+        test.ends(("why", FIRST, REPORT, *place), (10, b"", b"range\n"), "no such place")
+    long = test.file("long", b"")
+    for word, behind in (("check", ()), ("why", ("9", "9"))):
+        test.ends((word, FIRST, FIRST, *behind), (9, b"", b"wrong line 1\n"), "a scenario in place of a report")
+        test.ends((word, FIRST, "/dev/null", *behind), (9, b"", b"wrong line 1\n"), "an empty report")
+        test.ends((word, SEEN, REPORT, *behind), (9, b"", b"wrong line 2\n"), "the report of another scenario")
+        for size, line in ((LONGEST_REPORT, 1), (LONGEST_REPORT + 1, 0)):
+            os.truncate(long, size)
+            test.ends((word, FIRST, long, *behind), (9, b"", f"wrong line {line}\n".encode()), "a long report")
 
 
 def closed(number):
@@ -127,11 +155,12 @@ def test_outputs(test):
                 test.ends(words, (5, None, b"out\n"), name, stdout=output)
             test.ends(words, (5, b"", b"out\n"), "a closed output", **closed(1))
             test.ends(words, (5, None, None), "both outputs on a full disk", stdout=full, stderr=full)
-        for words, status in ((("plays",), 2), (("replay", os.path.join(test.room, "missing")), 4), (("replay", "/dev/null"), 3)):
+        for words, status in ((("plays",), 2), (("replay", os.path.join(test.room, "missing")), 4), (("replay", "/dev/null"), 3),
+                              (("check", FIRST, "/dev/null"), 9), (("why", FIRST, REPORT, "0", "2"), 10)):
             test.ends(words, (status, b"", None), "errors on a full disk", stderr=full)
             test.ends(words, (status, b"", None), "errors to a closed pipe", stderr=pipe)
             test.ends(words, (status, b"", b""), "a closed error output", **closed(2))
-            test.ends(words, (status, None, {2: PLAY, 3: b"scenario: : json\n"}.get(
+            test.ends(words, (status, None, {2: PLAY, 3: b"scenario: : json\n", 9: b"wrong line 1\n", 10: b"range\n"}.get(
                 status, f"file: {os.path.join(test.room, 'missing')}\n".encode())), "an error beside a full disk", stdout=full)
 
 
@@ -183,7 +212,7 @@ def main(words):
         copy = shutil.copy(program, os.path.join(room, "program"))
         os.chmod(copy, 0o755)
         test = Test(copy, room)
-        for one in (test_words, test_files, test_outputs, test_limits):
+        for one in (test_words, test_files, test_reports, test_outputs, test_limits):
             one(test)
     print(f"{test.passed} passed, {test.failed} failed")
     return 0 if test.failed == 0 else 1

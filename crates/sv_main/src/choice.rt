@@ -11,6 +11,7 @@ fn call_of(word: &str) -> Command
         "looks" => Command::Looks,
         "serve" => Command::Serve,
         "join" => Command::Join,
+        "check" | "why" => Command::Check,
         _ => Command::Run,
     }
 }

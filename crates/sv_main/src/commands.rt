@@ -14,4 +14,7 @@ pub enum Command {
 
     /// It plays one client over another program's server.
     Join,
+
+    /// It checks a report, or tells why an object has its value in one.
+    Check,
 }

@@ -31,13 +31,19 @@ actions need, and keeps the one world that comes out.
                                  dimboetu serve examples/conflict.json 4000
   dimboetu join FILE K PORT      plays client K of a scenario at such a server
                                  dimboetu join examples/conflict.json 0 4000
+  dimboetu check SCENARIO REPORT
+                                 says yes where a report is that of a run of the scenario, or names its first wrong line
+                                 dimboetu check examples/trade.json examples/trade.out
+  dimboetu why SCENARIO REPORT OBJECT POSITION
+                                 prints the actions that an object's value at a position comes from, and the value
+                                 dimboetu why examples/conflict.json examples/conflict.out 0 2
   dimboetu --help, --version     prints this, or the version
 
 A run ends with a status, and each but 0 with one line on standard error:
-  0 all was printed              5 standard output failed           10 join: there is no client K
-  2 the words are no command     6 a connection failed              11 join: the server sent a wrong reply
-  3 the file is no scenario      7 a thread could not be started    12 join: the server closed too early
-  4 a file can't be read         8 out of memory
+  0 all was printed              5 standard output failed            9 check, why: the report has a wrong line
+  2 the words are no command     6 a connection failed              10 join: no client K; why: no such object or position
+  3 the file is no scenario      7 a thread could not be started    11 join: the server sent a wrong reply
+  4 a file can't be read         8 out of memory                    12 join: the server closed too early
 
 Read on: README.md (what this is good for), docs/TUTORIAL.md (a first game), docs/ACTIONS.md (the language of
 actions), docs/ERRORS.md (what can go wrong, and what to do).

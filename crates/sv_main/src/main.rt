@@ -18,6 +18,7 @@ use std::sync::Wait;
 use std::thread::Threads;
 use std::{env, io};
 use sv_app::run;
+use sv_audit::run_check;
 use sv_bytes::{Files, OsFiles, OsSink, Sink, write_all};
 use sv_door::TcpDoor;
 use sv_join::run_join;
@@ -107,6 +108,7 @@ where
         Command::Looks => run_looks(alloc, words, files, out, err),
         Command::Serve => serve_here(rt, alloc, words, files, out, err),
         Command::Join => join_here(rt, alloc, words, files, out, err),
+        Command::Check => run_check(alloc, words, files, out, err),
     }
 }
 
