@@ -1,12 +1,13 @@
 //! Tests of the printed journal, and of which actions it accepts.
+use crate::sequencer::asked::{numbers_of, request_of};
 use std::alloc::{AllocError, Global};
 use std::test::Fail;
 use sv_journal::{
     Entry, Journal, Logged, append_held, append_objects, append_value, print_journal,
     relays_name_accepted,
 };
-use sv_wire::{Done1, Held, Request};
-use sv_world::{Action, Body, ClientId, List, ObjectId, Point, Reads, Shape, Value};
+use sv_wire::{Held, Request};
+use sv_world::{ClientId, List, ObjectId, Shape, Value};
 
 #[test]
 fn values_and_objects_are_printed(rt: HostRuntime) -> Result<(), Fail> {
@@ -17,143 +18,6 @@ fn values_and_objects_are_printed(rt: HostRuntime) -> Result<(), Fail> {
     append_objects(&[ObjectId(0), ObjectId(12)], &mut out)?;
     assert_eq!(rt; out.as_str(), "(5,-1)3=(-7)[][0 12]");
     Ok(())
-}
-
-/// `reads OBJECT writes OBJECT { }`
-fn act(alloc: Global, object: u16) -> Result<Action, AllocError> {
-    let mut reads = Reads::new(alloc);
-    reads.push(ObjectId(object))?;
-    Ok(Action {
-        reads,
-        mask: 1,
-        origin: Point { x: 0, y: 0 },
-        body: Body::from_stmts(alloc, &[])?,
-    })
-}
-
-fn join(alloc: Global, client: u16, life: u32) -> Request {
-    Request::Join {
-        client: ClientId(client),
-        life,
-        interest: List::new(alloc),
-    }
-}
-
-fn submit(alloc: Global, seq: u32, object: u16) -> Result<Request, AllocError> {
-    Ok(Request::Submit {
-        seq,
-        action: act(alloc, object)?,
-    })
-}
-
-fn value(alloc: Global, number: i64) -> Result<Value, AllocError> {
-    let mut value = Value::new(alloc);
-    value.push(number)?;
-    Ok(value)
-}
-
-fn welcome(alloc: Global) -> Logged {
-    Logged::Welcome {
-        commit: 0,
-        head: List::new(alloc),
-    }
-}
-
-/// A relay without base values.
-fn relay(alloc: Global, seq: u32, positions: &[u32]) -> Result<Logged, AllocError> {
-    Ok(Logged::Relay {
-        seq,
-        commit: 0,
-        head: List::new(alloc),
-        positions: List::from_vec(Vec::from_slice(alloc, positions)?),
-    })
-}
-
-// A tree that is let go at the end of its scope makes a long proof; a call that takes it makes none.
-pub fn add(
-    journal: &mut Journal,
-    session: u16,
-    request: Request,
-    reply: Logged,
-) -> Result<(), Fail> {
-    let entry = Entry {
-        session,
-        request,
-        reply,
-    };
-    match journal.reserve(1) {
-        Ok(()) => {
-            journal.push(entry);
-            Ok(())
-        }
-        Err(error) => {
-            drop(entry);
-            Err(Fail::from(error))
-        }
-    }
-}
-
-/// The same of what may have failed.
-fn add_made(
-    journal: &mut Journal,
-    session: u16,
-    request: Request,
-    reply: Result<Logged, AllocError>,
-) -> Result<(), Fail> {
-    match reply {
-        Ok(reply) => add(journal, session, request, reply),
-        Err(error) => {
-            drop(request);
-            Err(Fail::from(error))
-        }
-    }
-}
-
-fn add_joined(alloc: Global, journal: &mut Journal, session: u16, client: u16) -> Result<(), Fail> {
-    add(journal, session, join(alloc, client, 1), welcome(alloc))
-}
-
-/// A Submit that is answered by a relay of the same number.
-fn add_relayed(
-    alloc: Global,
-    journal: &mut Journal,
-    session: u16,
-    seq: u32,
-    positions: &[u32],
-) -> Result<(), Fail> {
-    let request = submit(alloc, seq, 0)?;
-    add_made(journal, session, request, relay(alloc, seq, positions))
-}
-
-/// A Submit of an action on an object that is answered otherwise.
-fn add_answered(
-    alloc: Global,
-    journal: &mut Journal,
-    seq: u32,
-    object: u16,
-    reply: Result<Logged, AllocError>,
-) -> Result<(), Fail> {
-    match submit(alloc, seq, object) {
-        Ok(request) => add_made(journal, 3, request, reply),
-        Err(error) => {
-            drop(reply);
-            Err(Fail::from(error))
-        }
-    }
-}
-
-fn printed(alloc: Global, journal: &Journal) -> Result<String, Fail> {
-    let mut out = String::new(alloc);
-    out.push_str("> ")?;
-    if !relays_name_accepted(journal) {
-        return Err(Fail::from("a relay names what was not accepted"));
-    }
-    let shape = Shape {
-        objects: 1,
-        attrs: 1,
-    };
-    print_journal(shape, journal, &mut out)?;
-    Ok(out)
 }
 
 /// Whether room for two entries is made, one of which is taken.
@@ -183,31 +47,173 @@ fn room_is_reserved(rt: HostRuntime) -> Result<(), Fail> {
     Ok(())
 }
 
-/// One client makes an action and leaves. Whether the journal has this text.
-fn is_one_action(alloc: Global, journal: &mut Journal, wanted: &str) -> Result<bool, Fail> {
-    add_join_with_interest(alloc, journal)?;
-    add_relayed(alloc, journal, 0, 1, &[1])?;
-    add_done(alloc, journal)?;
-    add(journal, 0, Request::Leave, Logged::Bye)?;
-    add(journal, 0, Request::End, Logged::Bye)?;
-    is_text(alloc, journal, wanted)
+/// The head of an object and its number, or of none.
+fn head_of(alloc: Global, numbers: &[u16]) -> Result<List<Held>, AllocError> {
+    let mut head = List::new(alloc);
+    if let [object, number] = numbers {
+        let mut value = Value::new(alloc);
+        value.push(i64::from(*number))?;
+        head.push(Held {
+            object: ObjectId(*object),
+            value,
+        })?;
+    }
+    Ok(head)
 }
 
-/// Whether a journal has that text.
-fn is_text(alloc: Global, journal: &Journal, wanted: &str) -> Result<bool, Fail> {
-    let text = printed(alloc, journal)?;
-    Ok(text.as_str() == wanted)
+fn welcome_of(alloc: Global, text: &str) -> Result<Logged, Fail> {
+    let (commit, head) = text.split_once(' ').ok_or("a welcome has a commit")?;
+    let commit = commit.parse()?;
+    let numbers = numbers_of(alloc, head)?;
+    let head = head_of(alloc, numbers.as_slice())?;
+    Ok(Logged::Welcome { commit, head })
 }
 
-#[test]
-fn one_action_is_printed(rt: HostRuntime) -> Result<(), Fail> {
-    let mut journal = Journal::new(rt.alloc());
-    let is_told = is_one_action(rt.alloc(), &mut journal, ONE_ACTION);
-    drop(journal);
-    assert!(rt; is_told?);
+/// The relay of `1 at 0 [] [2:c1.2 1:c1.1]`, without base values.
+fn relay_of(alloc: Global, text: &str) -> Result<Logged, Fail> {
+    let (seq, items) = text
+        .split_once(" at 0 [] [")
+        .ok_or("a relay has positions")?;
+    let seq = seq.parse()?;
+    let mut positions = List::new(alloc);
+    for item in items.trim_end_matches(']').split_whitespace() {
+        let (pos, _) = item.split_once(':').ok_or("an item has a position")?;
+        positions.push(pos.parse()?)?;
+    }
+    Ok(Logged::Relay {
+        seq,
+        commit: 0,
+        head: List::new(alloc),
+        positions,
+    })
+}
+
+fn plain_of(kind: &str, numbers: &[u16]) -> Result<Logged, Fail> {
+    Ok(match (kind, numbers) {
+        ("noted", [commit]) => Logged::Noted {
+            commit: u32::from(*commit),
+        },
+        ("settled", [seq, pos]) => Logged::Settled {
+            seq: u32::from(*seq),
+            pos: u32::from(*pos),
+        },
+        ("dropped", [seq, chain, far]) => Logged::Dropped {
+            seq: u32::from(*seq),
+            chain: u32::from(*chain),
+            far: u32::from(*far),
+        },
+        ("refused", [code, detail]) => Logged::Refused {
+            code: u8::try_from(*code).unwrap_or(0),
+            detail: u32::from(*detail),
+        },
+        ("idle", []) => Logged::Idle,
+        ("bye", []) => Logged::Bye,
+        _ => return Err(Fail::new("no such reply")),
+    })
+}
+
+fn logged_of(alloc: Global, text: &str) -> Result<Logged, Fail> {
+    let (kind, rest) = text.split_once(' ').unwrap_or((text, ""));
+    match kind {
+        "welcome" => welcome_of(alloc, rest),
+        "relay" => relay_of(alloc, rest),
+        _ => {
+            let numbers = numbers_of(alloc, rest)?;
+            plain_of(kind, numbers.as_slice())
+        }
+    }
+}
+
+// A tree that is let go at the end of its scope makes a long proof; a call that takes it makes none.
+fn add(
+    journal: &mut Journal,
+    session: u16,
+    request: Request,
+    reply: Logged,
+) -> Result<(), AllocError> {
+    let entry = Entry {
+        session,
+        request,
+        reply,
+    };
+    match journal.reserve(1) {
+        Ok(()) => {
+            journal.push(entry);
+            Ok(())
+        }
+        Err(error) => {
+            drop(entry);
+            Err(error)
+        }
+    }
+}
+
+/// What a bad action is in a world of one object.
+fn spelled(request: &str) -> &str {
+    match request {
+        "submit 1 bad" => "submit 1 reads 1 writes 1 { }",
+        _ => request,
+    }
+}
+
+/// Adds the entry of a line behind its number.
+fn add_line(alloc: Global, journal: &mut Journal, line: &str) -> Result<(), Fail> {
+    let (asked, reply) = line.split_once(" -> ").ok_or("a line has a reply")?;
+    let (session, request) = asked.split_once(' ').ok_or("a line has a request")?;
+    let session = session.trim_start_matches('s').parse()?;
+    let request = request_of(alloc, spelled(request))?;
+    match logged_of(alloc, reply) {
+        Ok(reply) => Ok(add(journal, session, request, reply)?),
+        Err(fail) => {
+            drop(request);
+            Err(fail)
+        }
+    }
+}
+
+/// Adds the entries of a journal's text.
+fn add_all(alloc: Global, journal: &mut Journal, text: &str) -> Result<(), Fail> {
+    for line in text.lines().skip(1) {
+        let (_, line) = line.split_once(' ').ok_or("a line has a number")?;
+        add_line(alloc, journal, line)?;
+    }
     Ok(())
 }
 
+fn printed(alloc: Global, journal: &Journal) -> Result<String, Fail> {
+    let mut out = String::new(alloc);
+    out.push_str("> ")?;
+    if !relays_name_accepted(journal) {
+        return Err(Fail::from("a relay names what was not accepted"));
+    }
+    let shape = Shape {
+        objects: 1,
+        attrs: 1,
+    };
+    print_journal(shape, journal, &mut out)?;
+    Ok(out)
+}
+
+/// Whether the journal of a text is printed as that text, and has so many accepted actions.
+fn is_printed(
+    alloc: Global,
+    journal: &mut Journal,
+    text: &str,
+    accepted: usize,
+) -> Result<bool, Fail> {
+    add_all(alloc, journal, text)?;
+    let printed = printed(alloc, journal)?;
+    Ok(printed.as_str() == text && journal.accepted_count() == accepted)
+}
+
+fn comes_back(alloc: Global, text: &str, accepted: usize) -> Result<bool, Fail> {
+    let mut journal = Journal::new(alloc);
+    let is_told = is_printed(alloc, &mut journal, text, accepted);
+    drop(journal);
+    is_told
+}
+
+/// One client makes an action and leaves.
 const ONE_ACTION: &str = "\
 > journal 5
 1 s0 join c0 1 [0] -> welcome 0 [0=(5)]
@@ -217,72 +223,7 @@ const ONE_ACTION: &str = "\
 5 s0 end -> bye
 ";
 
-fn add_join_with_interest(alloc: Global, journal: &mut Journal) -> Result<(), Fail> {
-    let mut interest = List::new(alloc);
-    interest.push(ObjectId(0))?;
-    let request = Request::Join {
-        client: ClientId(0),
-        life: 1,
-        interest,
-    };
-    add_made(journal, 0, request, welcome_with_value(alloc))
-}
-
-fn welcome_with_value(alloc: Global) -> Result<Logged, AllocError> {
-    let value = value(alloc, 5)?;
-    let mut head = List::new(alloc);
-    head.push(Held {
-        object: ObjectId(0),
-        value,
-    })?;
-    Ok(Logged::Welcome { commit: 0, head })
-}
-
-fn one_result(alloc: Global) -> Result<Request, Fail> {
-    let mut values = List::new(alloc);
-    values.push(value(alloc, 6)?)?;
-    let mut results = List::new(alloc);
-    results.push(Done1 { pos: 1, values })?;
-    Ok(Request::Done { results })
-}
-
-fn add_done(alloc: Global, journal: &mut Journal) -> Result<(), Fail> {
-    let request = one_result(alloc)?;
-    add(journal, 0, request, Logged::Noted { commit: 1 })
-}
-
-fn dropped() -> Logged {
-    Logged::Dropped {
-        seq: 2,
-        chain: 3,
-        far: 11,
-    }
-}
-
-fn refused(code: u8, detail: u32) -> Logged {
-    Logged::Refused { code, detail }
-}
-
-/// Every other request and reply, and an action on an object that the world has not. Whether the journal has this text.
-fn is_of_others(alloc: Global, journal: &mut Journal, wanted: &str) -> Result<bool, Fail> {
-    add(journal, 12, Request::Poll, refused(2, 0))?;
-    add_answered(alloc, journal, 1, 1, Ok(refused(6, 4)))?;
-    add_answered(alloc, journal, 2, 0, Ok(dropped()))?;
-    add_answered(alloc, journal, 4, 0, Ok(Logged::Settled { seq: 4, pos: 5 }))?;
-    add(journal, 3, Request::Poll, Logged::Idle)?;
-    add(journal, 3, Request::Bad, refused(1, 0))?;
-    is_text(alloc, journal, wanted)
-}
-
-#[test]
-fn other_entries_are_printed(rt: HostRuntime) -> Result<(), Fail> {
-    let mut journal = Journal::new(rt.alloc());
-    let is_told = is_of_others(rt.alloc(), &mut journal, OTHER_ENTRIES);
-    drop(journal);
-    assert!(rt; is_told?);
-    Ok(())
-}
-
+/// Every other request and reply, and an action on an object that the world has not.
 const OTHER_ENTRIES: &str = "\
 > journal 6
 1 s12 poll -> refused 2 0
@@ -293,67 +234,36 @@ const OTHER_ENTRIES: &str = "\
 6 s3 bad -> refused 1 0
 ";
 
-/// What each of these entries is: a Join as that client, or a Submit of that number that is answered by a relay of these positions.
-enum Added {
-    Joined(u16),
-    Relayed(u32, &'static [u32]),
-}
-
-/// The journal of no server: only a new Submit of a client that was welcomed is accepted.
-const STRANGE: [(u16, Added); 8] = [
-    (0, Added::Relayed(1, &[])),
-    (0, Added::Joined(1)),
-    (0, Added::Joined(2)),
-    (0, Added::Relayed(2, &[])),
-    (0, Added::Relayed(1, &[1])),
-    (0, Added::Relayed(1, &[])),
-    (5, Added::Joined(1)),
-    (5, Added::Relayed(2, &[2, 1])),
-];
-
-fn add_each(alloc: Global, journal: &mut Journal, all: &[(u16, Added)]) -> Result<(), Fail> {
-    for (session, added) in all {
-        match added {
-            Added::Joined(client) => add_joined(alloc, journal, *session, *client)?,
-            Added::Relayed(seq, positions) => {
-                add_relayed(alloc, journal, *session, *seq, positions)?
-            }
-        }
-    }
-    Ok(())
-}
-
-/// A Poll that is answered as a Join comes second. The text, where two actions are accepted.
-fn strange(alloc: Global, journal: &mut Journal) -> Result<String, Fail> {
-    add_each(alloc, journal, &STRANGE[..1])?;
-    add(journal, 0, Request::Poll, welcome(alloc))?;
-    add_each(alloc, journal, &STRANGE[1..])?;
-    if journal.accepted_count() != 2 {
-        return Err(Fail::from("two actions are accepted"));
-    }
-    printed(alloc, journal)
-}
+/// The journal of no server: only a new Submit of a client that was welcomed is accepted. A Poll that is answered as a Join comes second.
+const STRANGE: &str = "\
+> journal 9
+1 s0 submit 1 reads 0 writes 0 { } -> relay 1 at 0 [] []
+2 s0 poll -> welcome 0 []
+3 s0 join c1 1 [] -> welcome 0 []
+4 s0 join c2 1 [] -> welcome 0 []
+5 s0 submit 2 reads 0 writes 0 { } -> relay 2 at 0 [] []
+6 s0 submit 1 reads 0 writes 0 { } -> relay 1 at 0 [] [1:c1.1]
+7 s0 submit 1 reads 0 writes 0 { } -> relay 1 at 0 [] []
+8 s5 join c1 1 [] -> welcome 0 []
+9 s5 submit 2 reads 0 writes 0 { } -> relay 2 at 0 [] [2:c1.2 1:c1.1]
+";
 
 #[test]
-fn repeated_and_strange_relays_accept_nothing(rt: HostRuntime) -> Result<(), Fail> {
-    let mut journal = Journal::new(rt.alloc());
-    let text = strange(rt.alloc(), &mut journal);
-    drop(journal);
-    assert!(rt;
-        text?
-            .as_str()
-            .ends_with(" -> relay 2 at 0 [] [2:c1.2 1:c1.1]\n")
-    );
+fn journals_are_printed(rt: HostRuntime) -> Result<(), Fail> {
+    assert!(rt; comes_back(rt.alloc(), ONE_ACTION, 1)?);
+    assert!(rt; comes_back(rt.alloc(), OTHER_ENTRIES, 0)?);
+    assert!(rt; comes_back(rt.alloc(), STRANGE, 2)?);
     Ok(())
 }
 
 /// Two actions of one client, on different objects.
-fn add_two(alloc: Global, journal: &mut Journal) -> Result<(), Fail> {
-    add_joined(alloc, journal, 3, 4)?;
-    add_answered(alloc, journal, 1, 30, relay(alloc, 1, &[1]))?;
-    add(journal, 3, Request::Poll, Logged::Idle)?;
-    add_answered(alloc, journal, 2, 20, relay(alloc, 2, &[2]))
-}
+const TWO_ACTIONS: &str = "\
+> journal 4
+1 s3 join c4 1 [] -> welcome 0 []
+2 s3 submit 1 reads 30 writes 30 { } -> relay 1 at 0 [] [1:c4.1]
+3 s3 poll -> idle
+4 s3 submit 2 reads 20 writes 20 { } -> relay 2 at 0 [] [2:c4.2]
+";
 
 /// The object that an accepted action reads first, or 0.
 fn first_read(journal: &Journal, pos: u32) -> u16 {
@@ -368,7 +278,7 @@ fn first_read(journal: &Journal, pos: u32) -> u16 {
 
 /// Whether they are found where they were accepted, with the author of the second.
 fn are_found(alloc: Global, journal: &mut Journal) -> Result<bool, Fail> {
-    add_two(alloc, journal)?;
+    add_all(alloc, journal, TWO_ACTIONS)?;
     if journal.accepted_count() != 2 {
         return Ok(false);
     }

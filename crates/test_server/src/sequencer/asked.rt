@@ -1,34 +1,43 @@
-//! Requests as plain data, and what they stand for.
+//! Requests by their texts, which are those of a journal.
+//!
+//! A Submit of what is no action of the world is told as `submit SEQ bad MASK X Y [OBJECTS]`: it reads these objects and has no body.
 ghost use Rattle.std.specs.Prelude.{◌≡◌, ◌<◌, ◌≤◌, [], ◌∷◌, length, All, IfOk};
 ghost use Rattle.sv_queue.specs.Worlds.{IsGoodWorld};
 
-use std::alloc::Global;
+use std::alloc::{AllocError, Global};
 use std::test::Fail;
 use sv_text::parse_action;
 use sv_wire::{Done1, Request};
-use sv_world::{Action, ClientId, List, ObjectId, Shape, Value, World};
+use sv_world::{Action, Body, ClientId, List, ObjectId, Point, Reads, Shape, Value, World};
 
-/// A request, with the text of its action, and with a number for each written object of a result.
-#[derive(Clone, Copy)]
-pub enum Ask<'a> {
-    Join(u16, u32, &'a [u16]),
-    Submit(u32, &'a str),
-    Done(&'a [(u32, &'a [i64])]),
-    Poll,
-    Leave,
-    Bad,
-    End,
+/// The numbers of a text, whatever stands between them.
+pub fn numbers_of(alloc: Global, text: &str) -> Result<Vec<u16>, AllocError> {
+    let mut numbers = Vec::new(alloc);
+    let mut number: Option<u16> = None;
+    for byte in text.as_bytes() {
+        if let b'0'..=b'9' = *byte {
+            let digit = u16::from(byte.wrapping_sub(b'0'));
+            number = Some(number.unwrap_or(0).saturating_mul(10).saturating_add(digit));
+        } else if let Some(whole) = number {
+            numbers.push(whole)?;
+            number = None;
+        }
+    }
+    if let Some(whole) = number {
+        numbers.push(whole)?;
+    }
+    Ok(numbers)
 }
 
-fn value_of(alloc: Global, number: i64) -> Result<Value, Fail>
-    ensures { IfOk result (λ value. value ≡ number ∷ []) }
+fn value_of(alloc: Global, number: u16) -> Result<Value, AllocError>
+    ensures { IfOk result (λ value. length value ≡ 1) }
 {
     let mut value = Value::new(alloc);
-    value.push(number)?;
+    value.push(i64::from(number))?;
     Ok(value)
 }
 
-pub fn values_of(alloc: Global, numbers: &[i64]) -> Result<List<Value>, Fail>
+fn values_of(alloc: Global, numbers: &[u16]) -> Result<List<Value>, AllocError>
     ensures count { IfOk result (λ values. length values ≡ length numbers.now) }
     ensures attrs { IfOk result (λ values. All (λ value. length value ≡ 1) values) }
 {
@@ -40,7 +49,7 @@ pub fn values_of(alloc: Global, numbers: &[i64]) -> Result<List<Value>, Fail>
 }
 
 /// Objects of one number each.
-pub fn world_of(alloc: Global, numbers: &[i64]) -> Result<World, Fail>
+pub fn world_of(alloc: Global, numbers: &[u16]) -> Result<World, Fail>
     ensures { IfOk result IsGoodWorld }
 {
     if numbers.is_empty() || numbers.len() > 64 {
@@ -54,47 +63,101 @@ pub fn world_of(alloc: Global, numbers: &[i64]) -> Result<World, Fail>
     Ok(World { shape, values })
 }
 
-pub fn objects_of(alloc: Global, numbers: &[u16]) -> Result<List<ObjectId>, Fail> {
-    let mut objects = List::new(alloc);
-    for number in numbers {
-        objects.push(ObjectId(*number))?;
+fn join_of(alloc: Global, text: &str) -> Result<Request, Fail> {
+    let numbers = numbers_of(alloc, text)?;
+    let [client, life, objects @ ..] = numbers.as_slice() else {
+        return Err(Fail::new("a join has a client and a life"));
+    };
+    let mut interest = List::new(alloc);
+    for object in objects {
+        interest.push(ObjectId(*object))?;
     }
-    Ok(objects)
+    Ok(Request::Join {
+        client: ClientId(*client),
+        life: u32::from(*life),
+        interest,
+    })
 }
 
-pub fn action_of(alloc: Global, text: &str) -> Result<Action, Fail> {
+fn bad_action(alloc: Global, numbers: &[u16]) -> Result<Action, Fail> {
+    let [mask, x, y, objects @ ..] = numbers else {
+        return Err(Fail::new("a bad action has a mask and a point"));
+    };
+    let mut reads = Reads::new(alloc);
+    for object in objects {
+        reads.push(ObjectId(*object))?;
+    }
+    let body = Body::from_stmts(alloc, &[])?;
+    let origin = Point {
+        x: i32::from(*x),
+        y: i32::from(*y),
+    };
+    Ok(Action {
+        reads,
+        mask: *mask,
+        origin,
+        body,
+    })
+}
+
+fn action_of(alloc: Global, text: &str) -> Result<Action, Fail> {
+    if let Some(numbers) = text.strip_prefix("bad ") {
+        let numbers = numbers_of(alloc, numbers)?;
+        return bad_action(alloc, numbers.as_slice());
+    }
     if text.len() > 1000 {
         return Err(Fail::new("the text is too long"));
     }
     Ok(parse_action(alloc, text)?)
 }
 
-fn results_of(alloc: Global, results: &[(u32, &[i64])]) -> Result<List<Done1>, Fail> {
-    let mut list = List::new(alloc);
-    for (pos, numbers) in results {
-        let values = values_of(alloc, numbers)?;
-        list.push(Done1 { pos: *pos, values })?;
-    }
-    Ok(list)
+fn submit_of(alloc: Global, text: &str) -> Result<Request, Fail> {
+    let (seq, text) = text.split_once(' ').ok_or("a submit has an action")?;
+    let seq = seq.parse()?;
+    let action = action_of(alloc, text)?;
+    Ok(Request::Submit { seq, action })
 }
 
-pub fn request_of(alloc: Global, ask: Ask) -> Result<Request, Fail> {
-    Ok(match ask {
-        Ask::Join(client, life, interest) => Request::Join {
-            client: ClientId(client),
-            life,
-            interest: objects_of(alloc, interest)?,
-        },
-        Ask::Submit(seq, text) => Request::Submit {
-            seq,
-            action: action_of(alloc, text)?,
-        },
-        Ask::Done(results) => Request::Done {
-            results: results_of(alloc, results)?,
-        },
-        Ask::Poll => Request::Poll,
-        Ask::Leave => Request::Leave,
-        Ask::Bad => Request::Bad,
-        Ask::End => Request::End,
-    })
+/// A value of `5,-1)`, in a list.
+fn push_value(alloc: Global, text: &str, values: &mut List<Value>) -> Result<(), Fail> {
+    let mut value = Value::new(alloc);
+    for number in text.split(',') {
+        value.push(number.parse()?)?;
+    }
+    values.push(value)?;
+    Ok(())
+}
+
+/// A result of `3:(5,-1)(7)`, in a list.
+fn push_result(alloc: Global, text: &str, results: &mut List<Done1>) -> Result<(), Fail> {
+    let (pos, rest) = text.split_once(':').ok_or("a result has a position")?;
+    let pos = pos.parse()?;
+    let mut values = List::new(alloc);
+    for value in rest.split_terminator(')') {
+        push_value(alloc, value.trim_start_matches('('), &mut values)?;
+    }
+    results.push(Done1 { pos, values })?;
+    Ok(())
+}
+
+fn done_of(alloc: Global, text: &str) -> Result<Request, Fail> {
+    let mut results = List::new(alloc);
+    for result in text.trim_matches(['[', ']']).split_whitespace() {
+        push_result(alloc, result, &mut results)?;
+    }
+    Ok(Request::Done { results })
+}
+
+pub fn request_of(alloc: Global, text: &str) -> Result<Request, Fail> {
+    let (kind, rest) = text.split_once(' ').unwrap_or((text, ""));
+    match kind {
+        "join" => join_of(alloc, rest),
+        "submit" => submit_of(alloc, rest),
+        "done" => done_of(alloc, rest),
+        "poll" => Ok(Request::Poll),
+        "leave" => Ok(Request::Leave),
+        "bad" => Ok(Request::Bad),
+        "end" => Ok(Request::End),
+        _ => Err(Fail::new("no such request")),
+    }
 }
