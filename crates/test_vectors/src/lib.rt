@@ -4,11 +4,11 @@
 #![tactic(auto)]
 
 #[cfg(test)]
-mod bodies;
-#[cfg(test)]
 mod edited;
 #[cfg(test)]
 mod messages;
+#[cfg(test)]
+mod payloads;
 #[cfg(test)]
 mod replies;
 #[cfg(test)]

@@ -1,138 +1,10 @@
-//! Tests of the messages' vectors, and of payloads that are refused at the right place.
-ghost use Rattle.sv_wire.specs.Grammar.{IsWireRequest, IsWireReply};
-
-use crate::bodies::put_sets;
+//! Tests of messages that are built, of the nodes that are read, and of the lengths of the greatest messages.
+use crate::edited::{reply_is_written, request_is_written};
+use crate::payloads::payload_of;
 use std::alloc::Global;
-use std::process::Abort;
 use std::test::Fail;
-use sv_wire::{
-    Malformed, Reply, Request, WireCause, WireFault, copy_reply, copy_request, decode_reply,
-    decode_request, encode_reply, encode_request,
-};
-use sv_world::{ClientId, List, ObjectId};
-
-const JOIN: [u8; 10] = [1, 0, 0, 0, 0, 0, 1, 1, 0, 0];
-
-pub const SUBMIT: [u8; 35] = [
-    6, 0, 0, 0, 1, 1, 0, 0, 0, 1, 0, 0, 0, 0, 0, 0, 0, 0, 1, 0x10, 0, 0, 0x22, 0x21, 0, 0, 0x20, 0,
-    0, 0, 0, 0, 0, 0, 1,
-];
-
-const DONE: [u8; 16] = [3, 1, 0, 0, 0, 1, 1, 1, 0, 0, 0, 0, 0, 0, 0, 6];
-
-const WELCOME: [u8; 18] = [0x81, 0, 0, 0, 0, 0, 1, 0, 0, 1, 0, 0, 0, 0, 0, 0, 0, 5];
-
-const RELAY: [u8; 63] = [
-    0x89, 0, 0, 0, 1, 0, 0, 0, 0, 0, 1, 0, 0, 1, 0, 0, 0, 0, 0, 0, 0, 5, 1, 0, 0, 0, 1, 0, 0, 0, 0,
-    0, 1, 1, 0, 0, 0, 1, 0, 0, 0, 0, 0, 0, 0, 0, 1, 0x10, 0, 0, 0x22, 0x21, 0, 0, 0x20, 0, 0, 0, 0,
-    0, 0, 0, 1,
-];
-
-const FIRST_RELAY: [u8; 52] = [
-    0x89, 0, 0, 0, 1, 0, 0, 0, 0, 0, 0, 1, 0, 0, 0, 1, 0, 0, 0, 0, 0, 1, 1, 0, 0, 0, 1, 0, 0, 0, 0,
-    0, 0, 0, 0, 1, 0x10, 0, 0, 0x22, 0x21, 0, 0, 0x20, 0, 0, 0, 0, 0, 0, 0, 1,
-];
-
-// A tree that is let go at the end of its scope makes a long proof; a call that takes it makes none.
-/// Whether a request is written as that payload.
-pub fn request_is_written(alloc: Global, request: &Request, payload: &[u8]) -> Result<bool, Fail>
-    requires { IsWireRequest request.now }
-{
-    let written = encode_request(alloc, request)?;
-    Ok(written.as_slice() == payload)
-}
-
-/// Whether a reply is written as that payload.
-pub fn reply_is_written(alloc: Global, reply: &Reply, payload: &[u8]) -> Result<bool, Fail>
-    requires { IsWireReply reply.now }
-{
-    let written = encode_reply(alloc, reply)?;
-    Ok(written.as_slice() == payload)
-}
-
-fn copied_request_is_written(alloc: Global, request: &Request, payload: &[u8]) -> Result<bool, Fail>
-    requires { IsWireRequest request.now }
-{
-    let copy = copy_request(alloc, request)?;
-    let told = request_is_written(alloc, &copy, payload);
-    drop(copy);
-    told
-}
-
-fn copied_reply_is_written(alloc: Global, reply: &Reply, payload: &[u8]) -> Result<bool, Fail>
-    requires { IsWireReply reply.now }
-{
-    let copy = copy_reply(alloc, reply)?;
-    let told = reply_is_written(alloc, &copy, payload);
-    drop(copy);
-    told
-}
-
-/// A request's payload is read, and its copy written as the same payload.
-pub fn request_comes_back(rt: &impl Abort, alloc: Global, payload: &[u8]) -> Result<(), Fail> {
-    let Ok(request) = decode_request(alloc, payload) else {
-        return Err(Fail::from("it is a request"));
-    };
-    let told = copied_request_is_written(alloc, &request, payload);
-    drop(request);
-    assert!(rt; told?);
-    Ok(())
-}
-
-fn reply_comes_back(rt: &impl Abort, alloc: Global, payload: &[u8]) -> Result<(), Fail> {
-    let Ok(reply) = decode_reply(alloc, payload) else {
-        return Err(Fail::from("it is a reply"));
-    };
-    let told = copied_reply_is_written(alloc, &reply, payload);
-    drop(reply);
-    assert!(rt; told?);
-    Ok(())
-}
-
-pub fn request_is_refused(
-    rt: &impl Abort,
-    alloc: Global,
-    payload: &[u8],
-    at: u32,
-    cause: WireCause,
-) {
-    let fault = decode_request(alloc, payload).err();
-    assert!(rt; fault == Some(WireFault::Malformed(Malformed { at, cause })));
-}
-
-fn reply_is_refused(rt: &impl Abort, alloc: Global, payload: &[u8], at: u32, cause: WireCause) {
-    let fault = decode_reply(alloc, payload).err();
-    assert!(rt; fault == Some(WireFault::Malformed(Malformed { at, cause })));
-}
-
-const REQUESTS: [&[u8]; 5] = [&JOIN, &SUBMIT, &DONE, &[4], &[5]];
-
-const REPLIES: [&[u8]; 8] = [
-    &WELCOME,
-    &RELAY,
-    &FIRST_RELAY,
-    &[0x84, 0, 0, 0, 7, 0, 0, 0, 9],
-    &[0x85, 0, 0, 0, 1],
-    &[0x86],
-    &[0x87, 11, 0, 0, 0, 3],
-    &[0x88],
-];
-
-#[test]
-fn request_vectors(rt: HostRuntime) -> Result<(), Fail> {
-    for payload in &REQUESTS {
-        request_comes_back(&rt, rt.alloc(), payload)?;
-    }
-    Ok(())
-}
-
-#[test]
-fn reply_vectors(rt: HostRuntime) -> Result<(), Fail> {
-    for payload in &REPLIES {
-        reply_comes_back(&rt, rt.alloc(), payload)?;
-    }
-    Ok(())
-}
+use sv_wire::{Reply, Request, decode_request};
+use sv_world::{ClientId, List, Node, ObjectId, Operator};
 
 fn join_is_written(alloc: Global) -> Result<bool, Fail> {
     let mut interest = List::new(alloc);
@@ -142,7 +14,7 @@ fn join_is_written(alloc: Global) -> Result<bool, Fail> {
         life: 1,
         interest,
     };
-    let told = request_is_written(alloc, &join, &JOIN);
+    let told = request_is_written(alloc, &join, &[1, 0, 0, 0, 0, 0, 1, 1, 0, 0]);
     drop(join);
     told
 }
@@ -165,233 +37,78 @@ fn messages_are_written(rt: HostRuntime) -> Result<(), Fail> {
     Ok(())
 }
 
-#[test]
-fn refused_requests(rt: HostRuntime) {
-    let alloc = rt.alloc();
-    request_is_refused(&rt, alloc, &[], 0, WireCause::Short);
-    request_is_refused(&rt, alloc, &[6], 1, WireCause::Short);
-    request_is_refused(&rt, alloc, &[2, 0], 0, WireCause::Kind);
-    request_is_refused(&rt, alloc, &[7, 0], 0, WireCause::Kind);
-    request_is_refused(&rt, alloc, &[0x81, 0], 0, WireCause::Kind);
-    request_is_refused(&rt, alloc, &[4, 0], 1, WireCause::Rest);
-    request_is_refused(&rt, alloc, &[6, 0, 0, 0, 1, 0], 5, WireCause::Count);
-    request_is_refused(
-        &rt,
-        alloc,
-        &[6, 0, 0, 0, 1, 2, 0, 1, 0, 0, 9],
-        8,
-        WireCause::Order,
-    );
-    request_is_refused(
-        &rt,
-        alloc,
-        &[6, 0, 0, 0, 1, 1, 0, 0, 0, 2, 9],
-        8,
-        WireCause::Mask,
-    );
-    request_is_refused(&rt, alloc, &[1, 0, 0, 0, 0], 3, WireCause::Short);
-    request_is_refused(&rt, alloc, &[3, 0], 1, WireCause::Count);
+fn nodes_of(request: &Request) -> &[Node] {
+    match request {
+        Request::Submit { action, .. } => action.body.nodes(),
+        _ => &[],
+    }
 }
 
-/// A payload with the byte at a place left out.
-fn without(alloc: Global, payload: &[u8], place: usize) -> Result<Vec<u8>, Fail> {
-    let mut edited = Vec::new(alloc);
-    for (at, byte) in payload.iter().enumerate() {
-        if at != place {
-            edited.push(*byte)?;
+fn are_at(nodes: &[Node], rows: &[(usize, Node)]) -> bool {
+    for (place, node) in rows {
+        if nodes.get(*place) != Some(node) {
+            return false;
         }
     }
-    Ok(edited)
+    true
 }
 
-/// A payload with another byte at a place.
-fn changed(alloc: Global, payload: &[u8], place: usize, other: u8) -> Result<Vec<u8>, Fail> {
-    let mut edited = Vec::new(alloc);
-    for (at, byte) in payload.iter().enumerate() {
-        edited.push(if at == place { other } else { *byte })?;
-    }
-    Ok(edited)
-}
-
-/// A request with one byte changed is refused at a place.
-pub fn changed_request_is_refused(
-    rt: &impl Abort,
+/// Whether the body of a submit has so many nodes, and these at their places.
+fn has_nodes(
     alloc: Global,
-    payload: &[u8],
-    edit: (usize, u8),
-    at: u32,
-    cause: WireCause,
-) -> Result<(), Fail> {
-    let payload = changed(alloc, payload, edit.0, edit.1)?;
-    request_is_refused(rt, alloc, &payload, at, cause);
+    message: &str,
+    count: usize,
+    rows: &[(usize, Node)],
+) -> Result<bool, Fail> {
+    let payload = payload_of(alloc, message)?;
+    let Ok(request) = decode_request(alloc, payload.as_slice()) else {
+        return Err(Fail::from("it is a request"));
+    };
+    let nodes = nodes_of(&request);
+    let told = nodes.len() == count && are_at(nodes, rows);
+    drop(request);
+    Ok(told)
+}
+
+const SUBMIT_NODES: &[(usize, Node)] = &[
+    (0, Node::Block { count: 1, size: 4 }),
+    (1, Node::Set { slot: 0, attr: 0 }),
+    (2, Node::Binary(Operator::Add)),
+    (3, Node::Attr { slot: 0, attr: 0 }),
+    (4, Node::Lit(1)),
+];
+
+/// The blocks of the greatest body, and the nodes behind the last one.
+const DEEPEST_NODES: &[(usize, Node)] = &[
+    (0, Node::Block { count: 1, size: 76 }),
+    (5, Node::Block { count: 1, size: 62 }),
+    (10, Node::Block { count: 1, size: 50 }),
+    (15, Node::Block { count: 1, size: 38 }),
+    (20, Node::Block { count: 1, size: 26 }),
+    (25, Node::Block { count: 1, size: 14 }),
+    (30, Node::Block { count: 1, size: 2 }),
+    (33, Node::Block { count: 3, size: 6 }),
+    (61, Node::Block { count: 3, size: 6 }),
+    (68, Node::Block { count: 4, size: 8 }),
+    (75, Node::Set { slot: 0, attr: 0 }),
+    (76, Node::Lit(1)),
+];
+
+#[test]
+fn nodes_of_submits(rt: HostRuntime) -> Result<(), Fail> {
+    assert!(rt; has_nodes(rt.alloc(), "submit", 5, SUBMIT_NODES)?);
+    assert!(rt; has_nodes(rt.alloc(), "deepest", 77, DEEPEST_NODES)?);
     Ok(())
 }
 
-fn changed_relay_is_refused(
-    rt: &impl Abort,
-    alloc: Global,
-    edit: (usize, u8),
-    at: u32,
-    cause: WireCause,
-) -> Result<(), Fail> {
-    let payload = changed(alloc, &RELAY, edit.0, edit.1)?;
-    reply_is_refused(rt, alloc, &payload, at, cause);
-    Ok(())
-}
-
-fn join_without_is_refused(
-    rt: &impl Abort,
-    alloc: Global,
-    place: usize,
-    at: u32,
-    cause: WireCause,
-) -> Result<(), Fail> {
-    let payload = without(alloc, &JOIN, place)?;
-    request_is_refused(rt, alloc, &payload, at, cause);
-    Ok(())
+fn length(alloc: Global, message: &str) -> Result<usize, Fail> {
+    Ok(payload_of(alloc, message)?.len())
 }
 
 #[test]
-fn joins_without_a_byte(rt: HostRuntime) -> Result<(), Fail> {
-    for (place, at, cause) in [
-        (0, 0, WireCause::Kind),
-        (1, 8, WireCause::Rest),
-        (6, 8, WireCause::Rest),
-        (7, 8, WireCause::Rest),
-        (8, 8, WireCause::Short),
-        (9, 8, WireCause::Short),
-    ] {
-        join_without_is_refused(&rt, rt.alloc(), place, at, cause)?;
-    }
+fn lengths(rt: HostRuntime) -> Result<(), Fail> {
+    assert!(rt; length(rt.alloc(), "deepest")? == 385);
+    assert!(rt; length(rt.alloc(), "greatest_relay")? <= 65_536);
+    assert!(rt; length(rt.alloc(), "greatest_done")? <= 65_536);
     Ok(())
-}
-
-#[test]
-fn edited_submits(rt: HostRuntime) -> Result<(), Fail> {
-    for (edit, at, cause) in [
-        ((0, 2), 0, WireCause::Kind),
-        ((5, 0), 5, WireCause::Count),
-        ((5, 17), 5, WireCause::Count),
-        ((5, 2), 21, WireCause::Rest),
-        ((9, 2), 8, WireCause::Mask),
-        ((18, 0), 19, WireCause::Rest),
-        ((18, 2), 35, WireCause::Short),
-        ((19, 0x12), 19, WireCause::Kind),
-        ((22, 0x29), 22, WireCause::Kind),
-        ((22, 0x21), 25, WireCause::Rest),
-        ((23, 0x30), 23, WireCause::Kind),
-    ] {
-        changed_request_is_refused(&rt, rt.alloc(), &SUBMIT, edit, at, cause)?;
-    }
-    Ok(())
-}
-
-#[test]
-fn edited_results(rt: HostRuntime) -> Result<(), Fail> {
-    for (edit, at, cause) in [
-        ((1, 0), 1, WireCause::Count),
-        ((1, 34), 1, WireCause::Count),
-        ((1, 2), 16, WireCause::Short),
-        ((6, 17), 6, WireCause::Count),
-        ((6, 0), 7, WireCause::Rest),
-        ((7, 0), 7, WireCause::Count),
-        ((7, 5), 7, WireCause::Count),
-        ((7, 2), 16, WireCause::Short),
-    ] {
-        changed_request_is_refused(&rt, rt.alloc(), &DONE, edit, at, cause)?;
-    }
-    Ok(())
-}
-
-#[test]
-fn edited_relays(rt: HostRuntime) -> Result<(), Fail> {
-    for (edit, at, cause) in [
-        ((0, 0x82), 0, WireCause::Kind),
-        ((0, 0x83), 0, WireCause::Kind),
-        ((0, 0x01), 0, WireCause::Kind),
-        ((10, 0), 12, WireCause::Rest),
-        ((10, 2), 24, WireCause::Count),
-        ((13, 0), 13, WireCause::Count),
-        ((13, 5), 13, WireCause::Count),
-        ((22, 0), 23, WireCause::Rest),
-        ((22, 34), 22, WireCause::Count),
-        ((22, 2), 63, WireCause::Short),
-    ] {
-        changed_relay_is_refused(&rt, rt.alloc(), edit, at, cause)?;
-    }
-    Ok(())
-}
-
-#[test]
-fn refused_replies(rt: HostRuntime) {
-    let alloc = rt.alloc();
-    reply_is_refused(&rt, alloc, &WELCOME[..17], 10, WireCause::Short);
-    reply_is_refused(&rt, alloc, &[0x81, 0, 0, 0, 0, 2, 17], 5, WireCause::Count);
-    reply_is_refused(&rt, alloc, &[0x85, 0, 0, 0], 1, WireCause::Short);
-    reply_is_refused(&rt, alloc, &[0x85, 0, 0, 0, 1, 0], 5, WireCause::Rest);
-    reply_is_refused(&rt, alloc, &[0x87, 0, 0, 0, 0, 0], 1, WireCause::Code);
-    reply_is_refused(&rt, alloc, &[0x87, 12, 0, 0, 0, 0], 1, WireCause::Code);
-}
-
-/// Appends a value of four numbers.
-fn put_value(payload: &mut Vec<u8>) -> Result<(), Fail> {
-    payload.push(4)?;
-    for _ in 0..4u8 {
-        payload.extend_from_slice(&[0x80, 0, 0, 0, 0, 0, 0, 1])?;
-    }
-    Ok(())
-}
-
-/// Appends an item with 16 reads and 64 nodes.
-fn put_item(payload: &mut Vec<u8>) -> Result<(), Fail> {
-    payload.extend_from_slice(&[0, 0, 0, 9, 0, 3, 0, 0, 0, 4, 16])?;
-    for object in 0..16u8 {
-        payload.extend_from_slice(&[2, object])?;
-    }
-    payload.extend_from_slice(&[0xff, 0xff, 0x7f, 0xff, 0xff, 0xff, 0x80, 0, 0, 0, 32])?;
-    put_sets(payload, 32)
-}
-
-fn greatest_relay(alloc: Global) -> Result<Vec<u8>, Fail> {
-    let mut relay = Vec::from_slice(alloc, &[0x89, 0, 0, 0, 1, 0, 0, 0, 2, 2, 0x10])?;
-    for object in 0..528u16 {
-        relay.extend_from_slice(&object.to_be_bytes())?;
-        put_value(&mut relay)?;
-    }
-    relay.push(33)?;
-    for _ in 0..33u8 {
-        put_item(&mut relay)?;
-    }
-    Ok(relay)
-}
-
-/// Appends sixteen values for a position.
-fn put_result(payload: &mut Vec<u8>, pos: u8) -> Result<(), Fail> {
-    payload.extend_from_slice(&[0, 0, 0, pos, 16])?;
-    for _ in 0..16u8 {
-        put_value(payload)?;
-    }
-    Ok(())
-}
-
-fn greatest_done(alloc: Global) -> Result<Vec<u8>, Fail> {
-    let mut done = Vec::from_slice(alloc, &[3, 33])?;
-    for pos in 1..34u8 {
-        put_result(&mut done, pos)?;
-    }
-    Ok(done)
-}
-
-#[test]
-fn greatest_messages(rt: HostRuntime) -> Result<(), Fail> {
-    let relay = greatest_relay(rt.alloc())?;
-    assert!(rt; relay.len() <= 65_536);
-    reply_comes_back(&rt, rt.alloc(), &relay)
-}
-
-#[test]
-fn greatest_results(rt: HostRuntime) -> Result<(), Fail> {
-    let done = greatest_done(rt.alloc())?;
-    assert!(rt; done.len() <= 65_536);
-    request_comes_back(&rt, rt.alloc(), &done)
 }
