@@ -64,6 +64,55 @@ fn waits(rt: &impl Clock, millis: u64) {
     thread::sleep(rt, Duration::from_millis(millis));
 }
 
+/// Whether a door makes the server's end of a connection, which it takes back.
+pub(crate) fn accepts<D: Door>(door: &mut D, port: u16) -> bool {
+    match door.accept(port) {
+        Made::End(end) => {
+            door.give_back(end);
+            true
+        }
+        Made::Failed | Made::Memory => false,
+    }
+}
+
+/// The same of the client's end.
+pub(crate) fn connects<D: Door>(door: &mut D, port: u16) -> bool {
+    match door.connect(port) {
+        Made::End(end) => {
+            door.give_back(end);
+            true
+        }
+        Made::Failed | Made::Memory => false,
+    }
+}
+
+// What is owned at the end of its scope makes a long proof; a call that takes it makes none.
+fn serves_twice<D: Door + Drop>(
+    rt: &impl Clock,
+    door: D,
+    port: u16,
+    millis: u64,
+) -> [Option<u8>; 2] {
+    let mut door = door;
+    waits(rt, millis);
+    let heard = [serves(&mut door, port, 11), serves(&mut door, port, 12)];
+    drop(door);
+    heard
+}
+
+fn visits_twice<D: Door + Drop>(
+    rt: &impl Clock,
+    door: D,
+    port: u16,
+    millis: u64,
+) -> [Option<u8>; 2] {
+    let mut door = door;
+    waits(rt, millis);
+    let heard = [visits(&mut door, port, 1), visits(&mut door, port, 2)];
+    drop(door);
+    heard
+}
+
 /// How long a server and a client wait before they come to their doors.
 #[derive(Clone, Copy)]
 pub(crate) struct Delays {
@@ -71,23 +120,25 @@ pub(crate) struct Delays {
     pub(crate) client: u64,
 }
 
-/// Two meetings of a server and a client, each on a thread of its own: what the server heard, and the client.
+/// Two meetings of a server and a client, each on a thread of its own: whether each heard what the other said.
 pub(crate) fn meet_twice<R: Threads + Wait + Clock + Sync, D: Door + Send + Drop>(
     rt: &R,
     server: D,
     client: D,
     port: u16,
     delays: Delays,
-) -> Result<([Option<u8>; 2], [Option<u8>; 2]), AllocError> {
+) -> Result<bool, AllocError> {
     thread::scope(thread::scope_env(), rt, move |scope| {
-        let serving = scope.spawn(move || {
-            let mut door = server;
-            waits(rt, delays.server);
-            [serves(&mut door, port, 11), serves(&mut door, port, 12)]
-        })?;
-        let mut door = client;
-        waits(rt, delays.client);
-        let at_client = [visits(&mut door, port, 1), visits(&mut door, port, 2)];
-        Ok((serving.join(rt), at_client))
+        match scope.spawn(move || serves_twice(rt, server, port, delays.server)) {
+            Ok(serving) => {
+                let heard = visits_twice(rt, client, port, delays.client);
+                let at_server = serving.join(rt);
+                Ok(at_server == [Some(1), Some(2)] && heard == [Some(11), Some(12)])
+            }
+            Err(error) => {
+                drop(client);
+                Err(AllocError::from(error))
+            }
+        }
     })
 }

@@ -1,5 +1,5 @@
 //! Doors over TCP.
-use crate::talk::{Delays, meet_twice};
+use crate::talk::{Delays, accepts, connects, meet_twice};
 use std::alloc::{AllocError, Global};
 use std::net::{Net as Sockets, TcpListener, TcpStream};
 use std::rt::Clock;
@@ -18,21 +18,50 @@ fn listening<R: Sockets<Listener = TcpListener, Stream = TcpStream>>(
     Ok((listener, port))
 }
 
+// What is owned at the end of its scope makes a long proof; a call that takes it makes none.
+/// A port that no listener has.
+fn free_port<R: Sockets<Listener = TcpListener, Stream = TcpStream>>(rt: &R) -> io::Result<u16> {
+    let (listener, port) = listening(rt)?;
+    drop(listener);
+    Ok(port)
+}
+
 #[test]
 fn meets_over_tcp(rt: HostRuntime) -> Result<(), Fail> {
     for (server, client) in [(0, 100), (100, 0)] {
-        let (listener, port) = listening(&rt)?;
-        drop(listener);
+        let port = free_port(&rt)?;
         let at_server = TcpDoor::new(rt.alloc(), &rt);
         let at_client = TcpDoor::new(rt.alloc(), &rt);
         let delays = Delays { server, client };
-        let heard = meet_twice(&rt, at_server, at_client, port, delays)?;
-        assert!(&rt;
-            heard == ([Some(1), Some(2)], [Some(11), Some(12)]),
-            "{server} {client}"
-        );
+        let told = meet_twice(&rt, at_server, at_client, port, delays);
+        assert!(&rt; told?, "{server} {client}");
     }
     Ok(())
+}
+
+/// Whether a client connects.
+fn visits<R: Sockets<Listener = TcpListener, Stream = TcpStream> + Clock>(
+    rt: &R,
+    alloc: Global,
+    port: u16,
+) -> bool {
+    let mut door = TcpDoor::new(alloc, rt);
+    let told = connects(&mut door, port);
+    drop(door);
+    told
+}
+
+/// Whether a door accepts at a port, and then at another.
+fn accepts_both<R: Sockets<Listener = TcpListener, Stream = TcpStream> + Clock>(
+    rt: &R,
+    alloc: Global,
+    port: u16,
+    other: u16,
+) -> (bool, bool) {
+    let mut door = TcpDoor::new(alloc, rt);
+    let told = (accepts(&mut door, port), accepts(&mut door, other));
+    drop(door);
+    told
 }
 
 /// A client meets a server at `port`, which then is asked to accept at `other`. Whether it met the client, and whether it accepted again.
@@ -40,25 +69,49 @@ fn asks_for_another<
     R: Sockets<Listener = TcpListener, Stream = TcpStream> + Clock + Threads + Wait + Sync,
 >(rt: &R, alloc: Global, port: u16, other: u16) -> Result<(bool, bool), AllocError> {
     thread::scope(thread::scope_env(), rt, move |scope| {
-        let client = scope.spawn(move || {
-            let mut door = TcpDoor::new(alloc, rt);
-            matches!(door.connect(port), Made::End(_))
-        })?;
-        let mut door = TcpDoor::new(alloc, rt);
-        let is_met = matches!(door.accept(port), Made::End(_));
-        let accepts_again = matches!(door.accept(other), Made::End(_));
+        let client = scope.spawn(move || visits(rt, alloc, port))?;
+        let (is_met, accepts_again) = accepts_both(rt, alloc, port, other);
         Ok((client.join(rt) && is_met, accepts_again))
     })
+}
+
+/// Whether a door fails at a port.
+fn fails<D: Door>(door: &mut D, port: u16) -> bool {
+    match door.accept(port) {
+        Made::End(end) => {
+            door.give_back(end);
+            false
+        }
+        Made::Failed => true,
+        Made::Memory => false,
+    }
+}
+
+fn fails_at<R: Sockets<Listener = TcpListener, Stream = TcpStream> + Clock>(
+    rt: &R,
+    alloc: Global,
+    port: u16,
+) -> bool {
+    let mut door = TcpDoor::new(alloc, rt);
+    let told = fails(&mut door, port);
+    drop(door);
+    told
+}
+
+/// Whether a port is refused that another listener has, also by a door with another port.
+fn is_refused<
+    R: Sockets<Listener = TcpListener, Stream = TcpStream> + Clock + Threads + Wait + Sync,
+>(rt: &R, alloc: Global, taken: u16) -> Result<bool, Fail> {
+    let port = free_port(rt)?;
+    let is_failed = fails_at(rt, alloc, taken);
+    Ok(is_failed && asks_for_another(rt, alloc, port, taken)? == (true, false))
 }
 
 #[test]
 fn refuses_ports(rt: HostRuntime) -> Result<(), Fail> {
     let (listener, taken) = listening(&rt)?;
-    let mut door = TcpDoor::new(rt.alloc(), &rt);
-    assert!(&rt; matches!(door.accept(taken), Made::Failed));
-    let (free, port) = listening(&rt)?;
-    drop(free);
-    assert!(&rt; asks_for_another(&rt, rt.alloc(), port, taken)? == (true, false));
+    let told = is_refused(&rt, rt.alloc(), taken);
     drop(listener);
+    assert!(&rt; told?);
     Ok(())
 }
