@@ -152,39 +152,83 @@ fn settle(pending: &mut Pending, versions: &Versions) -> Result<(), AllocError>
     pending.reconcile(versions)
 }
 
+// What is owned at an assertion makes a long proof; a call that takes it makes none.
+/// Whether two actions are left, computed again.
+fn is_left(pending: &Pending) -> Result<bool, AllocError> {
+    let copy = pending.copy()?;
+    let is_so = copy.len() == 2 && front(&copy) == Some((2, Some(63))) && shown(&copy) == Some(58);
+    drop(copy);
+    Ok(is_so)
+}
+
+fn is_reconciled(
+    alloc: Global,
+    pending: &mut Pending,
+    versions: &mut Versions,
+) -> Result<bool, Fail>
+    requires some { 0 < versions.old.shape.objects }
+    requires same { versions.old.shape ≡ pending.old.shape }
+{
+    let are_made = make_three(alloc, pending, versions)?;
+    hold(alloc, versions, 2, 21)?;
+    settle(pending, versions)?;
+    Ok(are_made && is_left(pending)?)
+}
+
 #[test]
 fn reconciles_conflict(rt: HostRuntime) -> Result<(), Fail> {
     let mut versions = holding(rt.alloc(), 10)?;
     let mut pending = Pending::new(rt.alloc(), TWO_OBJECTS);
-    assert!(rt; make_three(rt.alloc(), &mut pending, &versions)?);
-    hold(rt.alloc(), &mut versions, 2, 21)?;
-    settle(&mut pending, &versions)?;
-    let copy = pending.copy()?;
-    assert!(rt; copy.len() == 2 && front(&copy) == Some((2, Some(63))));
-    assert!(rt; shown(&copy) == Some(58));
+    let told = is_reconciled(rt.alloc(), &mut pending, &mut versions);
+    drop(pending);
+    drop(versions);
+    assert!(rt; told?);
     Ok(())
+}
+
+fn keeps_nothing(
+    alloc: Global,
+    pending: &mut Pending,
+    versions: &mut Versions,
+) -> Result<bool, Fail>
+    requires some { 0 < versions.old.shape.objects }
+    requires same { versions.old.shape ≡ pending.old.shape }
+{
+    make(alloc, pending, versions, 1, Deed::Look)?;
+    let is_unknown = pending.len() == 1 && front_values(pending).is_none();
+    hold(alloc, versions, 0, 10)?;
+    pending.reconcile(versions)?;
+    let is_empty = front_values(pending) == Some(0);
+    Ok(is_unknown && is_empty && matches!(pending.overlay(FIRST), Overlay::Unwritten))
 }
 
 #[test]
 fn keeps_nothing_of_what_writes_nothing(rt: HostRuntime) -> Result<(), Fail> {
     let mut versions = Versions::new(rt.alloc(), TWO_OBJECTS)?;
     let mut pending = Pending::new(rt.alloc(), TWO_OBJECTS);
-    make(rt.alloc(), &mut pending, &versions, 1, Deed::Look)?;
-    assert!(rt; pending.len() == 1 && front_values(&pending).is_none());
-    hold(rt.alloc(), &mut versions, 0, 10)?;
-    pending.reconcile(&versions)?;
-    assert!(rt; front_values(&pending) == Some(0));
-    assert!(rt; matches!(pending.overlay(FIRST), Overlay::Unwritten));
+    let told = keeps_nothing(rt.alloc(), &mut pending, &mut versions);
+    drop(pending);
+    drop(versions);
+    assert!(rt; told?);
     Ok(())
+}
+
+fn is_decided(alloc: Global, pending: &mut Pending, versions: &Versions) -> Result<bool, Fail>
+    requires { versions.now.shape ≡ pending.old.shape }
+{
+    make(alloc, pending, versions, 1, Deed::Plus(1))?;
+    make(alloc, pending, versions, 2, Deed::Keep)?;
+    let is_unknown = matches!(pending.overlay(FIRST), Overlay::Unknown);
+    Ok(is_unknown && matches!(pending.overlay(SECOND), Overlay::Unwritten))
 }
 
 #[test]
 fn last_writer_decides(rt: HostRuntime) -> Result<(), Fail> {
     let versions = holding(rt.alloc(), 10)?;
     let mut pending = Pending::new(rt.alloc(), TWO_OBJECTS);
-    make(rt.alloc(), &mut pending, &versions, 1, Deed::Plus(1))?;
-    make(rt.alloc(), &mut pending, &versions, 2, Deed::Keep)?;
-    assert!(rt; matches!(pending.overlay(FIRST), Overlay::Unknown));
-    assert!(rt; matches!(pending.overlay(SECOND), Overlay::Unwritten));
+    let told = is_decided(rt.alloc(), &mut pending, &versions);
+    drop(pending);
+    drop(versions);
+    assert!(rt; told?);
     Ok(())
 }

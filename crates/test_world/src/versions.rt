@@ -44,25 +44,51 @@ fn reads(versions: &Versions, wanted: &[(u32, Option<i64>)]) -> bool
     true
 }
 
+// What is owned at an assertion makes a long proof; a call that takes it makes none.
+/// Whether the object has its numbers, and the other one none.
+fn is_read(versions: &Versions) -> bool
+    requires { versions.now.shape.objects ≡ 2 }
+{
+    reads(versions, &[(3, Some(6)), (1, Some(5)), (0, None)])
+        && number(versions.latest(OBJECT)) == Some(16)
+        && versions.latest(ObjectId(0)).is_none()
+}
+
 #[test]
 fn reads_below_a_position(rt: HostRuntime) -> Result<(), Fail> {
     let versions = filled(rt.alloc(), &[(1, 6), (3, 16), (0, 5)])?;
-    assert!(rt; reads(&versions, &[(3, Some(6)), (1, Some(5)), (0, None)]));
-    assert!(rt; number(versions.latest(OBJECT)) == Some(16));
-    assert!(rt; versions.latest(ObjectId(0)).is_none());
+    let told = is_read(&versions);
+    drop(versions);
+    assert!(rt; told);
     Ok(())
+}
+
+/// Whether a copy has what is left.
+fn is_left(copy: &Versions) -> bool
+    requires { copy.now.shape.objects ≡ 2 }
+{
+    copy.shape() == TWO_OBJECTS
+        && reads(copy, &[(1, None), (3, Some(6))])
+        && number(copy.latest(OBJECT)) == Some(17)
+}
+
+fn is_pruned(versions: &mut Versions) -> Result<bool, AllocError>
+    requires { versions.old.shape.objects ≡ 2 }
+{
+    versions.prune(2);
+    let is_so = versions.old_versions(OBJECT, 2) == 1 && versions.old_versions(OBJECT, 3) == 2;
+    let copy = versions.copy()?;
+    let told = is_left(&copy);
+    drop(copy);
+    Ok(is_so && told)
 }
 
 #[test]
 fn prunes_at_a_commit(rt: HostRuntime) -> Result<(), Fail> {
     let mut versions = filled(rt.alloc(), &[(0, 5), (1, 6), (3, 16), (3, 17)])?;
-    versions.prune(2);
-    assert!(rt; versions.old_versions(OBJECT, 2) == 1);
-    assert!(rt; versions.old_versions(OBJECT, 3) == 2);
-    let copy = versions.copy()?;
-    assert!(rt; copy.shape() == TWO_OBJECTS);
-    assert!(rt; reads(&copy, &[(1, None), (3, Some(6))]));
-    assert!(rt; number(copy.latest(OBJECT)) == Some(17));
+    let told = is_pruned(&mut versions);
+    drop(versions);
+    assert!(rt; told?);
     Ok(())
 }
 
@@ -94,16 +120,24 @@ fn put_four(alloc: Global, versions: &mut Versions) -> Result<Undo, AllocError>
     Ok(undo)
 }
 
+fn is_taken_back(alloc: Global, versions: &mut Versions) -> Result<bool, AllocError>
+    requires { versions.old.shape.objects ≡ 2 }
+{
+    let undo = put_four(alloc, versions)?;
+    let are_put = reads(versions, &[(3, Some(8))]) && number(versions.latest(OBJECT)) == Some(16);
+    versions.undo(undo);
+    let are_back = reads(versions, &[(3, Some(6)), (2, Some(5))])
+        && number(versions.latest(OBJECT)) == Some(6)
+        && versions.old_versions(OBJECT, 3) == 2
+        && versions.latest(ObjectId(0)).is_none();
+    Ok(are_put && are_back)
+}
+
 #[test]
 fn takes_puts_back(rt: HostRuntime) -> Result<(), Fail> {
     let mut versions = filled(rt.alloc(), &[(0, 5), (2, 6)])?;
-    let undo = put_four(rt.alloc(), &mut versions)?;
-    assert!(rt; reads(&versions, &[(3, Some(8))]));
-    assert!(rt; number(versions.latest(OBJECT)) == Some(16));
-    versions.undo(undo);
-    assert!(rt; reads(&versions, &[(3, Some(6)), (2, Some(5))]));
-    assert!(rt; number(versions.latest(OBJECT)) == Some(6));
-    assert!(rt; versions.old_versions(OBJECT, 3) == 2);
-    assert!(rt; versions.latest(ObjectId(0)).is_none());
+    let told = is_taken_back(rt.alloc(), &mut versions);
+    drop(versions);
+    assert!(rt; told?);
     Ok(())
 }
