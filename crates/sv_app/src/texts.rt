@@ -9,6 +9,7 @@ ghost use Rattle.sv_app.specs.Statuses.{IsMade, LeavesAlone, ending_of_fault, he
 use crate::playing::{form_text, load_text, run_on_threads};
 use crate::words::{Command, Form};
 use std::alloc::Global;
+use std::mem::forget;
 use std::sync::Wait;
 use std::thread::Threads;
 use sv_bytes::Files;
@@ -18,6 +19,7 @@ use sv_link::{Crew, Gate, Net};
 use sv_play::PlayFault;
 use sv_replay::run_schedule;
 use sv_report::report;
+use sv_scenario::Scenario;
 
 /// How a call ends where its run on threads failed.
 fn ending_of_fault(fault: PlayFault) -> Ending
@@ -30,6 +32,13 @@ fn ending_of_fault(fault: PlayFault) -> Ending
     }
 }
 
+/// Leaves a scenario and what its run kept to the system, which takes them back when the program ends. On one thread, to free them piece by
+/// piece takes up to a sixth of a load's time.
+fn leave<T: Drop>(scenario: Scenario, kept: T) {
+    forget(scenario);
+    forget(kept);
+}
+
 /// The report of the run of a file's schedule.
 fn replay<F: Files>(alloc: Global, file: &str, files: &mut F) -> Result<String, Ending>
     ensures made { (m : Moved) → IsMade (Replay file.now) (F.contents files.old file.now) m result }
@@ -38,7 +47,9 @@ fn replay<F: Files>(alloc: Global, file: &str, files: &mut F) -> Result<String, 
 {
     let scenario = scenario_in(alloc, file, files)?;
     let played = run_schedule(alloc, &scenario)?;
-    Ok(report(alloc, &scenario, &played)?)
+    let text = report(alloc, &scenario, &played)?;
+    leave(scenario, played);
+    Ok(text)
 }
 
 /// How a run of a file's scenario on threads is told.
@@ -62,7 +73,9 @@ fn play<F: Files, N: Net, C: Crew, G: Gate + Sync, R: Threads + Wait + Sync>(
         Ok(threaded) => threaded,
         Err(fault) => return Err(ending_of_fault(fault)),
     };
-    Ok(form_text(alloc, &scenario, form, &threaded)?)
+    let text = form_text(alloc, &scenario, form, &threaded)?;
+    leave(scenario, threaded);
+    Ok(text)
 }
 
 /// How a run of the generated scenario of a size is told.
@@ -85,7 +98,9 @@ fn load<N: Net, C: Crew, G: Gate + Sync, R: Threads + Wait + Sync>(
         Ok(threaded) => threaded,
         Err(fault) => return Err(ending_of_fault(fault)),
     };
-    Ok(load_text(alloc, size, &scenario, &threaded)?)
+    let text = load_text(alloc, size, &scenario, &threaded)?;
+    leave(scenario, threaded);
+    Ok(text)
 }
 
 /// The text that tells what is asked for. Whatever it is, it is whole before any of it is printed.

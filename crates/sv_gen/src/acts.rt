@@ -1,10 +1,12 @@
 //! Acts that move an amount from one object to another.
 
-ghost use Rattle.std.specs.Prelude.{◌≡◌, ◌≤◌, ◌<◌, min, max, [], ◌∷◌, IfOk};
+ghost use Rattle.std.specs.Prelude.{◌≡◌, ◌≤◌, ◌<◌, ◌++◌, min, max, [], ◌∷◌, IfOk, OnOk};
+ghost use Rattle.sv_world.specs.Spelled.{stmt_spelled};
 ghost use Rattle.sv_gen.specs.Generated.{object, slot_of, taken, added, transfer, act};
+ghost use Rattle.sv_gen.specs.Changes.{change};
 
 use std::alloc::{AllocError, Global};
-use sv_world::{Action, Body, Boxed, Expr, List, ObjectId, Point, Reads, Stmt};
+use sv_world::{Action, Body, Node, ObjectId, Operator, Point, Reads};
 
 fn slot_of(object: u16, other: u16) -> u8
     ensures { result ≡ slot_of object other }
@@ -12,30 +14,23 @@ fn slot_of(object: u16, other: u16) -> u8
     if object < other { 0 } else { 1 }
 }
 
-/// The attribute 0 of the object in a slot, less by an amount.
-fn taken(alloc: Global, slot: u8, amount: u16) -> Result<Stmt, AllocError>
-    ensures { IfOk result (λ s. s ≡ taken slot amount) }
+/// Appends a statement: an attribute of the object in a slot is made more or less by an amount.
+#[tactic(auto, using(crate::proofs::Moves::change_is_spelled))]
+fn push_change(
+    nodes: &mut Vec<Node>,
+    slot: u8,
+    attr: u8,
+    operator: Operator,
+    amount: u16,
+) -> Result<(), AllocError>
+    ensures { OnOk result (nodes.new.items ≡ nodes.old.items ++ stmt_spelled (change slot attr operator amount)) }
 {
-    let now = Boxed::new(alloc, Expr::Attr { slot, attr: 0 })?;
-    let amount = Boxed::new(alloc, Expr::Lit(i64::from(amount)))?;
-    Ok(Stmt::Set {
-        slot,
-        attr: 0,
-        expr: Expr::Sub(now, amount),
-    })
-}
-
-/// An attribute of the object in a slot, more by an amount.
-fn added(alloc: Global, slot: u8, attr: u8, amount: u16) -> Result<Stmt, AllocError>
-    ensures { IfOk result (λ s. s ≡ added slot attr amount) }
-{
-    let now = Boxed::new(alloc, Expr::Attr { slot, attr })?;
-    let amount = Boxed::new(alloc, Expr::Lit(i64::from(amount)))?;
-    Ok(Stmt::Set {
-        slot,
-        attr,
-        expr: Expr::Add(now, amount),
-    })
+    nodes.extend_from_slice(&[
+        Node::Set { slot, attr },
+        Node::Binary(operator),
+        Node::Attr { slot, attr },
+        Node::Lit(i64::from(amount)),
+    ])
 }
 
 /// What an act reads: two objects, in order.
@@ -48,24 +43,23 @@ fn both(alloc: Global, from: u16, to: u16) -> Result<Reads, AllocError>
     Ok(reads)
 }
 
-/// What an act does.
-fn moves(alloc: Global, from: u16, to: u16, amount: u16) -> Result<List<Stmt>, AllocError>
+/// Moves an amount of attribute 0 between two objects, and counts it on attribute 1 of the first one.
+#[tactic(auto, using(crate::proofs::Moves::moves_are_a_body, crate::proofs::Moves::moves_are_seen))]
+fn moves(alloc: Global, from: u16, to: u16, amount: u16) -> Result<Body, AllocError>
     ensures { IfOk result (λ body. body ≡ taken (slot_of from to) amount ∷ added (slot_of to from) 0 amount ∷ added (slot_of from to) 1 1 ∷ []) }
 {
-    let mut body = List::new(alloc);
-    body.push(taken(alloc, slot_of(from, to), amount)?)?;
-    body.push(added(alloc, slot_of(to, from), 0, amount)?)?;
-    body.push(added(alloc, slot_of(from, to), 1, 1)?)?;
-    Ok(body)
+    let mut nodes = Vec::with_capacity(alloc, 13)?;
+    nodes.push(Node::Block { count: 3, size: 12 })?;
+    push_change(&mut nodes, slot_of(from, to), 0, Operator::Sub, amount)?;
+    push_change(&mut nodes, slot_of(to, from), 0, Operator::Add, amount)?;
+    push_change(&mut nodes, slot_of(from, to), 1, Operator::Add, 1)?;
+    Body::from_nodes(nodes)
 }
 
-/// Moves an amount of attribute 0 between two objects, and counts it on attribute 1 of the first one.
-#[tactic(auto, using(crate::proofs::Short::moves_are_short))]
 fn transfer(alloc: Global, from: u16, to: u16, amount: u16) -> Result<Action, AllocError>
     ensures { IfOk result (λ a. a ≡ transfer from to amount) }
 {
-    let moves = moves(alloc, from, to, amount)?;
-    let body = Body::from_stmts(alloc, moves.as_slice())?;
+    let body = moves(alloc, from, to, amount)?;
     let reads = both(alloc, from, to)?;
     Ok(Action {
         reads,
