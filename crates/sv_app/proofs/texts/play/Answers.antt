@@ -15,9 +15,9 @@ returns-in-Err-clause-raises g c =
     λ k. rw c.ending_of_fault.ensures
     (fault_raises _ _ _ _ _ _ k c.in-Err.fault (ap (λ (x : Counts). x.files) (c.in_ok-scenario.ensures.raises (counts 0 0 0 0))) c.in-Err.ensures.cause)
 
-pub returns-in_err-form_text-clause-raises : goal.returns-in_err-form_text-clause-raises
-returns-in_err-form_text-clause-raises g c =
-    λ k. raised_by c.from_residual-in_err-form_text.result endings.Memory c.from_residual-in_err-form_text.ensures.1 _ _
+pub returns-in_err-text-clause-raises : goal.returns-in_err-text-clause-raises
+returns-in_err-text-clause-raises g c =
+    λ k. raised_by c.from_residual-in_err-text.result endings.Memory c.from_residual-in_err-text.ensures.1 _ _
     (same_counts _ _ _ _ _ _ k (ap (λ (x : Counts). x.files) (c.in_ok-scenario.ensures.raises (counts 0 0 0 0))) c.in-Ok.ensures.cause.0 c.in-Ok.ensures.cause.1)
 
 pub returns-clause-raises : goal.returns-clause-raises
