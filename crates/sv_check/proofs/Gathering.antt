@@ -32,7 +32,7 @@ use Rattle.sv_check.specs.Parts.{IsWholeTrace, AreFirstTraces, IsOf}
 
 -- ---- The sessions of a trace
 
-any_back : (t : Event → Bool) (xs : List Event) → list_any t (reverse xs) ≡ true → list_any t xs ≡ true
+pub any_back : (t : Event → Bool) (xs : List Event) → list_any t (reverse xs) ≡ true → list_any t xs ≡ true
 any_back t xs h = subst (λ (ys : List Event). list_any t ys ≡ true) (reverse-reverse xs) (any-turned t (reverse xs) h)
 
 no_cuts : (ss : List Step) → events_of ss ≡ [] → cuts_in ss ≡ 0

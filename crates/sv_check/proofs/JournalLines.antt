@@ -191,7 +191,7 @@ module _ (scenario : Scenario) (few : session_count scenario ≤ 64) (entries : 
 
 -- ---- What is printed
 
-told_fits : (shape : Shape) (r : Request) → IsTold shape r → RequestFits r
+pub told_fits : (shape : Shape) (r : Request) → IsTold shape r → RequestFits r
 told_fits shape (requests.Join client life interest) t = t
 told_fits shape (requests.Submit seq action) t = t.0
 told_fits shape (requests.Done results) t = t
@@ -240,7 +240,7 @@ module _ (stay : FullRepliesStay) (names : LegalRelaysNameAccepted) (scenario : 
       ∙ ap (λ (h : List Entry). entry_lines form (accepted h) (n + 1) es) (sym turned) in
       ap₂ (λ (x y : List ℕ). x ++ y) one others
 
-  front_lines : (front more : List Entry) → AreEntries scenario (reverse front) → entry_lines form (accepted (reverse (front ++ more))) 1 front ≡ lines_of form front
+  pub front_lines : (front more : List Entry) → AreEntries scenario (reverse front) → entry_lines form (accepted (reverse (front ++ more))) 1 front ≡ lines_of form front
   front_lines front more a =
       let plain = append-nil (reverse front) in
       ap (λ (h : List Entry). entry_lines form (accepted h) 1 front) (reverse-append front more ∙ ap (λ (h : List Entry). reverse more ++ h) (sym plain))

@@ -28,3 +28,12 @@ pub mod Acted
 pub mod Refusing
 pub mod Wrong
 pub mod Lines
+pub mod WholeLines
+pub mod InnerLines
+pub mod FrontParts
+pub mod LessJournal
+pub mod LessEvents
+pub mod LessClients
+pub mod LessWorld
+pub mod Closed
+pub mod FirstWrong

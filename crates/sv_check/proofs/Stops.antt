@@ -12,8 +12,7 @@ use Rattle.sv_client.specs.declared.trace.Trace.{Trace}
 use Rattle.sv_scenario.specs.declared.scenario.Plan.{Plan}
 use Rattle.sv_scenario.specs.declared.scenario.Scenario.{Scenario}
 use Rattle.sv_scenario.specs.declared.scenario.Step.{Step}
-use Rattle.sv_scenario.specs.Sessions.{sessions_of_plan, sessions_in, session_count}
-use Rattle.sv_system.specs.Records.{AreTracesOf, EachTrace}
+use Rattle.sv_scenario.specs.Sessions.{sessions_in, session_count}
 use Rattle.sv_report.specs.Report.{event_text, event_lines, trace_text, value_lines}
 use Rattle.sv_report.proofs.Standing.{left_more}
 use Rattle.sv_lines.proofs.Splitting.{others_are, number_split}
@@ -24,7 +23,8 @@ use Rattle.sv_check.specs.Clients.{PartStops, NoClient, IsClientStop}
 use Rattle.sv_check.proofs.Entries.{entries_tell}
 use Rattle.sv_check.proofs.Journals.{journal_parts, after_none, plain_lines, journals_tell}
 use Rattle.sv_check.proofs.Pairs.{longer, lines_long}
-use Rattle.sv_check.proofs.GoingOn.{Begins, client_line, none_behind, some_head, IsWholeOf, so_far, head_text, Rest, rest_begins, peel, GoesOn, going, is_of, client_rest, world_rest}
+use Rattle.sv_check.proofs.FrontParts.{lines_append, client_front, traces_front}
+use Rattle.sv_check.proofs.GoingOn.{Begins, client_line, none_behind, some_head, head_text, Rest, rest_begins, peel, GoesOn, going, client_rest, world_rest}
 
 -- ---- Texts
 
@@ -97,58 +97,6 @@ stop_at scenario text X y left On reports e short is g = record {
         let fits : length (X ++ []) < 2 ^ 64 = omega (arith, same, short, one, two) in
         g.some (g.worlds [] fits (subst (IsWorldPart scenario) (sym plain) (reports X r)))
 
--- ---- The last of the first traces
-
--- The last of some first traces, and those before it.
-record IsSplit (W : Plan → Trace → Type 0) (k s : ℕ) (before : List Plan) (Ls : List Trace) : Type 0 where
-  first : List Plan
-  plan : Plan
-  plans : before ≡ first ++ plan ∷ []
-  Ms : List Trace
-  L : Trace
-  traces : Ls ≡ Ms ++ L ∷ []
-  clients : AreTracesOf k s first Ms
-  each : EachTrace W first Ms
-  of : IsOf (k + length first) (s + sessions_in first) plan L
-  whole : W plan L
-
-split_last : (W : Plan → Trace → Type 0) (k s : ℕ) (p : Plan) (before : List Plan) (M : Trace) (Ls : List Trace) → AreTracesOf k s (p ∷ before) (M ∷ Ls) → EachTrace W (p ∷ before) (M ∷ Ls) →
-    IsSplit W k s (p ∷ before) (M ∷ Ls)
-split_last W k s p [] M [] a w = record {
-  first = [];
-  plan = p;
-  plans = refl;
-  Ms = [];
-  L = M;
-  traces = refl;
-  clients = tt;
-  each = tt;
-  of = is_of k s (k + 0) (s + 0) p M (omega arith) (omega arith) (record { client = a.0; interest = a.1; first_is = a.2 });
-  whole = w.0;
-}
-split_last W k s p [] M (N ∷ Ls) a w = absurd a.3
-split_last W k s p (q ∷ before) M [] a w = absurd a.3
-split_last W k s p (q ∷ before) M (N ∷ Ls) a w =
-    let more = split_last W (suc k) (s + sessions_of_plan p) q before N Ls a.3 w.1 in
-    record {
-      first = p ∷ more.first;
-      plan = more.plan;
-      plans = ap (λ (ps : List Plan). p ∷ ps) more.plans;
-      Ms = M ∷ more.Ms;
-      L = more.L;
-      traces = ap (λ (Ns : List Trace). M ∷ Ns) more.traces;
-      clients = (a.0, a.1, a.2, more.clients);
-      each = (w.0, more.each);
-      of = is_of (suc k + length more.first) (s + sessions_of_plan p + sessions_in more.first) (k + suc (length more.first)) (s + (sessions_of_plan p + sessions_in more.first)) more.plan more.L
-          (omega arith) (omega arith) more.of;
-      whole = more.whole;
-    }
-
-lines_append : (entries : List Entry) (Ls : List Trace) (L : Trace) → flat_map (trace_text entries) (Ls ++ L ∷ []) ≡ flat_map (trace_text entries) Ls ++ trace_text entries L
-lines_append entries [] L = append-nil (trace_text entries L)
-lines_append entries (M ∷ Ls) L =
-    ap (λ (l : List ℕ). trace_text entries M ++ l) (lines_append entries Ls L) ∙ sym (append_assoc (trace_text entries M) (flat_map (trace_text entries) Ls) (trace_text entries L))
-
 module _ (stay : FullRepliesStay) (names : LegalRelaysNameAccepted) (scenario : Scenario) (few : session_count scenario ≤ 64) (entries : List Entry)
     (journal : IsWholeJournal scenario (reverse entries)) (small : length entries < 2 ^ 32) where
   abbrev shape : Shape
@@ -156,6 +104,9 @@ module _ (stay : FullRepliesStay) (names : LegalRelaysNameAccepted) (scenario : 
 
   abbrev J : List ℕ
   J = journal_text shape entries
+
+  turned : entries ≡ reverse (reverse entries)
+  turned = sym (reverse-reverse entries)
 
   -- ---- Behind the journal
 
@@ -264,52 +215,6 @@ module _ (stay : FullRepliesStay) (names : LegalRelaysNameAccepted) (scenario : 
           | inr rest ↦ rest
         ]
 
-  -- ---- What was taken is a part
-
-  -- The client's first lines behind whole traces.
-  client_front : (before : List Plan) (plan : Plan) (plans : List Plan) (Ls : List Trace) (L : Trace) (text : List ℕ) → scenario.clients ≡ before ++ plan ∷ plans →
-      AreFirstTraces shape (reverse entries) before Ls → IsOf (length before) (sessions_in before) plan L → IsTraceSoFar scenario (reverse entries) plan L →
-      text ≡ (J ++ flat_map (trace_text entries) Ls) ++ trace_text entries L → IsPart scenario text
-  client_front before plan plans Ls L text c d o g e = inr (inr (inl (record {
-    h = reverse entries;
-    journal = journal;
-    before = before;
-    plan = plan;
-    after = plans;
-    plans = c;
-    Ls = Ls;
-    done = d;
-    L = L;
-    next = o;
-    so_far = g;
-    text_is = e ∙ ap (λ (es : List Entry). (journal_text shape es ++ flat_map (trace_text es) Ls) ++ trace_text es L) (sym (reverse-reverse entries));
-  })))
-
-  journal_front : IsPart scenario (J ++ [])
-  journal_front = inr (inl (record {
-    count = length entries;
-    h = reverse entries;
-    small = small;
-    within = let size = length-reverse entries in omega (arith, size);
-    entries = journal.entries;
-    text_is = append-nil J
-        ∙ ap (λ (es : List Entry). codes "journal " ++ decimal (length entries) ++ 10 ∷ entry_lines shape (accepted (reverse entries)) 1 es) (sym (reverse-reverse entries));
-  }))
-
-  traces_front : (before plans : List Plan) (Ls : List Trace) → scenario.clients ≡ before ++ plans → AreFirstTraces shape (reverse entries) before Ls →
-      IsPart scenario (J ++ flat_map (trace_text entries) Ls)
-  traces_front [] plans [] c d = journal_front
-  traces_front [] plans (L ∷ Ls) c d = absurd d.clients
-  traces_front (p ∷ before) plans [] c d = absurd d.clients
-  traces_front (p ∷ before) plans (L ∷ Ls) c d =
-      let s = split_last (IsWholeOf scenario entries) 0 0 p before L Ls d.clients d.whole in
-      client_front s.first s.plan plans s.Ms s.L (J ++ flat_map (trace_text entries) (L ∷ Ls)) (c ∙ ap (λ (ps : List Plan). ps ++ plans) s.plans ∙ append_assoc s.first (s.plan ∷ []) plans)
-      (record { clients = s.clients; whole = s.each })
-      (is_of (0 + length s.first) (0 + sessions_in s.first) (length s.first) (sessions_in s.first) s.plan s.L (omega arith) (omega arith) s.of)
-      (so_far scenario entries s.plan s.L s.whole)
-      (ap (λ (Ns : List Trace). J ++ flat_map (trace_text entries) Ns) s.traces ∙ ap (λ (l : List ℕ). J ++ l) (lines_append entries s.Ms s.L)
-      ∙ sym (append_assoc J (flat_map (trace_text entries) s.Ms) (trace_text entries s.L)))
-
   -- ---- The stops
 
   module _ (before : List Plan) (plan : Plan) (plans : List Plan) (clients : scenario.clients ≡ before ++ plan ∷ plans) (Ls : List Trace)
@@ -320,7 +225,7 @@ module _ (stay : FullRepliesStay) (names : LegalRelaysNameAccepted) (scenario : 
     -- The client's first line is missing.
     client_missing : (y : List ℕ) (left : ℕ) → NoClient (length before) y left → GoesNotOn scenario F y (Begins (client_line (length before)))
     client_missing y left n = record {
-      part = traces_front before (plan ∷ plans) Ls clients done;
+      part = traces_front scenario (reverse entries) entries turned journal small before (plan ∷ plans) Ls clients done;
       parts = λ z fits p. elim (part_behind before (plan ∷ plans) clients Ls done z fits p) [
         | inl none ↦ inl none
         | inr r ↦ inr (rest_begins scenario entries (Unit {0}) (length before) (sessions_in before) (plan ∷ plans) z r)
@@ -375,7 +280,7 @@ module _ (stay : FullRepliesStay) (names : LegalRelaysNameAccepted) (scenario : 
     part_stops : (y : List ℕ) (left : ℕ) (p : PartStops shape entries (length before) (sessions_in before) plan y left) →
         GoesNotOn scenario (F ++ trace_text entries p.L) p.rest (On p.L p.so_far.follows.left)
     part_stops y left p = record {
-      part = client_front before plan plans Ls p.L (F ++ trace_text entries p.L) clients done p.so_far.of (far y left p) refl;
+      part = client_front scenario (reverse entries) entries turned journal small before plan plans Ls p.L (F ++ trace_text entries p.L) clients done p.so_far.of (far y left p) refl;
       parts = λ z fits q. behind_part p.L z (far y left p) p.so_far.of (trace_text entries p.L) refl fits q;
       worlds = λ z fits q. behind_world p.L z (far y left p) p.so_far.of (trace_text entries p.L) refl fits q;
       more = λ z rest on. on_more p.L p.so_far.follows.left z rest on;

@@ -12,7 +12,8 @@ pub record IsWrongNext (scenario : Scenario) (before rest : List ℕ) : Type 0 w
   pub unfinished : rest ≡ [] → IsReport scenario before → ⊥
 
 -- Line n is the first wrong one, counted from 1, where the place after the last line counts as a line: the lines before it are a part of a
--- report, and it is wrong after them. So the text is no report.
+-- report, and it is wrong after them. So the text is no report. Of each text that `check` may be given only one line is this
+-- (`first_wrong_lines_are_equal`).
 pub record IsFirstWrong (scenario : Scenario) (text : List ℕ) (n : ℕ) : Type 0 where
   pub before : List ℕ
   pub rest : List ℕ

@@ -8,6 +8,7 @@ ghost use Rattle.sv_scenario.specs.Limits.{IsGoodScenario};
 ghost use Rattle.sv_asked.specs.Numbers.{ScenarioFits};
 ghost use Rattle.sv_check.specs.Consistent.{IsReportOfPair};
 ghost use Rattle.sv_check.specs.Parts.{AreEntries};
+ghost use Rattle.sv_check.specs.Wrong.{IsFirstWrong};
 
 use sv_asked::{accepted_are_few, requests_are_messages};
 use sv_journal::{full_replies_stay, legal_relays_name_accepted};
@@ -35,4 +36,15 @@ pub fn reports_are_told()
     steps_are_done_in_order();
     accepted_are_few();
     requests_are_messages();
+}
+
+/// A text has one first wrong line, so what `check` promises of the line that it names is true of no other line.
+///
+/// The text is as short as `check` wants it. Of a journal of 2 ^ 32 entries or more the first line would be wrong by itself, but not with the
+/// whole journal and a client's first line behind it.
+pub fn first_wrong_lines_are_equal()
+    ensures { (scenario : Scenario) (text : List ℕ) (m n : ℕ) → length text < 2 ^ 32 → IsFirstWrong scenario text m → IsFirstWrong scenario text n → m ≡ n }
+{
+    full_replies_stay();
+    legal_relays_name_accepted();
 }

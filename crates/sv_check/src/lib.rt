@@ -11,5 +11,5 @@ mod settled;
 mod verdict;
 
 pub use checking::check;
-pub use laws::{journals_are_told, reports_are_told};
+pub use laws::{first_wrong_lines_are_equal, journals_are_told, reports_are_told};
 pub use verdict::Verdict;

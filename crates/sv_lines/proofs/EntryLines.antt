@@ -91,7 +91,7 @@ module _ {A : Type 0} (text : A → List ℕ) (each : (a : A) → IsInner (text 
   inner_joined byte f [] = refl
   inner_joined byte f (x ∷ xs) = then_inner (text x) (flat_map (λ y. byte ∷ text y) xs) (each x) (inner_rest byte f xs)
 
-  inner_bracketed : (xs : List A) → IsInner (bracketed text xs)
+  pub inner_bracketed : (xs : List A) → IsInner (bracketed text xs)
   inner_bracketed xs = then_inner (codes "[" ++ joined 32 text xs) (codes "]") (then_inner (codes "[") (joined 32 text xs) refl (inner_joined 32 refl xs)) refl
 
 inner_value : (v : List ℤ) → IsInner (value_text v)
@@ -104,7 +104,7 @@ inner_result : (d : Done1) → IsInner (result_text d)
 inner_result d =
     then_inner (decimal d.pos ++ codes ":") (flat_map value_text d.values) (then_inner (decimal d.pos) (codes ":") (inner_decimal d.pos) refl) (inner_all value_text inner_value d.values)
 
-inner_held : (object : ℕ) (v : List ℤ) → IsInner (held_text object v)
+pub inner_held : (object : ℕ) (v : List ℤ) → IsInner (held_text object v)
 inner_held object v = then_inner (decimal object ++ codes "=") (value_text v) (then_inner (decimal object) (codes "=") (inner_decimal object) refl) (inner_value v)
 
 inner_head : (head : List Held) → IsInner (head_text head)
