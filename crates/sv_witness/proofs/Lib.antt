@@ -1,0 +1,4 @@
+mod Worked
+mod Same
+mod Agreed
+pub mod Two

@@ -1,0 +1,65 @@
+//! The laws of witnessed journals.
+ghost use Rattle.std.specs.Prelude.{◌≡◌, ◌≤◌, ℕ, ℤ, List, All, length, reverse, slice_get, None, Some};
+ghost use Rattle.sv_wire.specs.declared.message.Reply.{Reply};
+ghost use Rattle.sv_journal.specs.declared.entry.Entry.{Entry};
+ghost use Rattle.sv_journal.specs.History.{client_of, outcomes_of, accepted, result_at};
+ghost use Rattle.sv_journal.specs.Sessions.{sent_to};
+ghost use Rattle.sv_journal.specs.Answer.{Rules};
+ghost use Rattle.sv_client.specs.declared.trace.Trace.{Trace};
+ghost use Rattle.sv_client.specs.Traces.{current_session, requests_of, got};
+ghost use Rattle.sv_client.specs.Taking.{first_fault_of_reply};
+ghost use Rattle.sv_client.specs.Proper.{identity_of};
+ghost use Rattle.sv_system.specs.Fits.{replies_in};
+ghost use Rattle.sv_witness.specs.Reports.{agreed_history, agreed_result};
+ghost use Rattle.sv_witness.specs.Agreement.{TwoAgree};
+ghost use Rattle.sv_witness.specs.Witnessed.{IsWitnessed};
+ghost use Rattle.sv_witness.specs.Tolerance.{FitsBut, IsTolerated, IsLiar};
+ghost use Rattle.sv_witness.specs.Examples.{ExamplesAreWitnessed};
+
+/// The history of what was agreed says what it should: in it a position has just the result that the reports of it
+/// agree on, and two different clients gave that, unless the position's action writes nothing.
+pub fn agreed_results_are_those_of_two_clients()
+    ensures results { (h : List Entry) (p : ℕ) → result_at (agreed_history h) p ≡ agreed_result h p }
+    ensures two { TwoAgree }
+{}
+
+/// The history of what was agreed is that of the same sessions: it has the same accepted actions, the same outcomes of each client, and each
+/// session has the same client and was sent the same positions.
+pub fn agreed_histories_are_alike()
+    ensures accepted { (h : List Entry) → accepted (agreed_history h) ≡ accepted h }
+    ensures outcomes { (h : List Entry) (k : ℕ) → outcomes_of (agreed_history h) k ≡ outcomes_of h k }
+    ensures clients { (h : List Entry) (s : ℕ) → client_of (agreed_history h) s ≡ client_of h s }
+    ensures sent { (h : List Entry) (s : ℕ) → sent_to (agreed_history h) s ≡ sent_to h s }
+{}
+
+/// One lying client is tolerated: whatever one client reports, the committed world is the serial one, honest clients hold serial values alone,
+/// each of their relays brings what its items read, and each dispute names the liar.
+///
+/// `r` are the rules that the server was opened with, `h` are the journal's entries with the latest first, and `Ls` the traces of the honest
+/// clients. Nothing is promised of progress: where fewer than two clients report a position, its result is not installed.
+pub fn one_lying_client_is_tolerated()
+    ensures { (liar : ℕ) (r : Rules) (h : List Entry) (Ls : List Trace) → length r.world.values ≡ r.world.shape.objects → IsWitnessed r h →
+        FitsBut liar r.world.shape h Ls → IsTolerated liar r h Ls }
+{}
+
+/// Honest clients are never refused by a witnessing server, and no more is a client that differs from an honest one in the values of its Dones
+/// alone: the next reply of the session that it began last has none of the faults for which a client refuses a reply.
+pub fn clients_of_a_witness_are_never_refused()
+    ensures honest { (liar : ℕ) (r : Rules) (h : List Entry) (Ls : List Trace) (i : ℕ) (L : Trace) (s : ℕ) (reply : Reply) →
+        length r.world.values ≡ r.world.shape.objects → All (λ (v : List ℤ). length v ≡ r.world.shape.attrs) r.world.values → r.bound ≤ 32 →
+        IsWitnessed r h → FitsBut liar r.world.shape h Ls → slice_get Ls i ≡ Some L →
+        current_session (reverse L.events) ≡ Some s → length (requests_of L s) ≤ 1024 →
+        slice_get (replies_in (accepted h) h s) (length (got (reverse L.events) s)) ≡ Some reply →
+        first_fault_of_reply (identity_of r.world.shape L) (reverse L.events) reply ≡ None }
+    ensures lying { (r : Rules) (h : List Entry) (Ls : List Trace) (L : Trace) (s : ℕ) (reply : Reply) →
+        length r.world.values ≡ r.world.shape.objects → All (λ (v : List ℤ). length v ≡ r.world.shape.attrs) r.world.values → r.bound ≤ 32 →
+        IsWitnessed r h → FitsBut L.client.0 r.world.shape h Ls → IsLiar r.world.shape h Ls L →
+        current_session (reverse L.events) ≡ Some s → length (requests_of L s) ≤ 1024 →
+        slice_get (replies_in (accepted h) h s) (length (got (reverse L.events) s)) ≡ Some reply →
+        first_fault_of_reply (identity_of r.world.shape L) (reverse L.events) reply ≡ None }
+{}
+
+/// The worked examples are as they say.
+pub fn witnessed_examples_hold()
+    ensures { ExamplesAreWitnessed }
+{}
