@@ -16,12 +16,12 @@ abbrev Values : Type 0
 Values = Option (List (List ℤ))
 
 pub among-cases : (r x : Report) (rs all : List Report) → IsAmong r all → all ≡ x ∷ rs → (r ≡ x) ⊎ IsAmong r rs
-among-cases r x rs whole (here {ys}) is = inl (let e : r ≡ x = cc in e)
-among-cases r x rs whole (there {y} {ys} m) is = inr (let e : ys ≡ rs = cc in subst (IsAmong r) e m)
+among-cases r x rs whole (here {rs = ys}) is = inl (let e : r ≡ x = cc in e)
+among-cases r x rs whole (there {x = y} {rs = ys} m) is = inr (let e : ys ≡ rs = cc in subst (IsAmong r) e m)
 
 among-none : (r : Report) (all : List Report) → IsAmong r all → all ≡ [] → ⊥
-among-none r whole (here {ys}) is = cc
-among-none r whole (there {y} {ys} m) is = cc
+among-none r whole (here {rs = ys}) is = cc
+among-none r whole (there {x = y} {rs = ys} m) is = cc
 
 report-is : (client : Option ℕ) (v : Values) (rs : List Report) (r : Report) → IsAmong r (with_report client v rs) →
     IsAmong r rs ⊎ ((client ≡ Some r.client.0) × (v ≡ Some r.values))

@@ -100,13 +100,13 @@ listing-with d f placed (suc n) low = elim (cases_eq d.pos n) [
       with-behind d (listing f n) (option_to_list (f n)) (subst (λ m. AllByRecursion (λ (x : Dispute). x.pos < m) (listing f n)) (sym e) (listing-below f placed n))
       ∙ ap₂ (λ (xs ys : List Dispute). xs ++ ys) (listing-same f (also d f) n (λ p l. also-other d f p (λ same. omega arith))) (also-here d n (f n) e (placed n))
   | inr ne ↦
-      with-front d (listing f n) (option_to_list (f n)) (above (f n) refl)
+      with-front d (listing f n) (option_to_list (f n)) (above ne (f n) refl)
       ∙ ap₂ (λ (xs ys : List Dispute). xs ++ ys) (listing-with d f placed n (omega arith)) (ap (λ (o : Maybe). option_to_list o) (also-other d f n ne))
 ]
   where
-    above : (o : Maybe) → f n ≡ o → (d.pos ≡ n → ⊥) → AllByRecursion (λ (y : Dispute). d.pos < y.pos) (option_to_list o)
-    above None e ne = tt
-    above (Some x) e ne = let at : x.pos ≡ n = placed n x e in (omega arith, tt)
+    above : (d.pos ≡ n → ⊥) → (o : Maybe) → f n ≡ o → AllByRecursion (λ (y : Dispute). d.pos < y.pos) (option_to_list o)
+    above ne None e = tt
+    above ne (Some x) e = let at : x.pos ≡ n = placed n x e in (omega arith, tt)
 
 -- ---- More
 

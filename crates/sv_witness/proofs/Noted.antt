@@ -1,5 +1,5 @@
 -- What a noted Done makes of the reports that are kept, of the history of what was agreed, and of the disputes.
-use Rattle.std.proofs.Common.{◌≡◌, ℕ, suc, ◌<◌, ◌≤◌, Bool, true, false, ◌&&◌, ◌||◌, not, ◌==◌, nat_lt, inl, inr, List, [], ◌∷◌, ◌++◌, length, filter, reverse, ℤ, Option, Some, None, is_some, is_none, option_to_list, refl, sym, ap, ap₂, ◌∙◌, subst, arith, append-nil}
+use Rattle.std.proofs.Common.{◌≡◌, ℕ, suc, ◌<◌, ◌≤◌, Bool, true, false, ◌&&◌, ◌||◌, not, ◌==◌, nat_lt, inl, inr, ◌+◌, List, [], ◌∷◌, ◌++◌, length, filter, reverse, ℤ, Option, Some, None, is_some, is_none, option_to_list, refl, sym, ap, ap₂, ◌∙◌, subst, arith, append-nil}
 use Rattle.std.specs.Prelude.{if◌then◌else◌}
 use Rattle.std.specs.List.{list_any, flat_map, AllByRecursion}
 use Rattle.std.proofs.lemmas.Bool.{cases_lt, cases_eq, cond-true, cond-false, lt-ltb, le-ltb, eq-eqb, ne_eqb}
@@ -127,13 +127,16 @@ none-some-never None = refl
 
 brings-new : (k : ℕ) (vs : List (List ℤ)) (rs : List Report) →
     brings_agreement (Some k) (Some vs) rs ≡ (not (list_any (is_by k) rs) && (is_none (agreed_values rs) && agrees rs vs))
-brings-new k vs rs = go (list_any (is_by k) rs) (agreed_values rs)
+brings-new k vs rs = go (list_any (is_by k) rs)
   where
-    go : (b : Bool) (v : Values) →
-        (is_none v && is_some (if b then v else either v (if agrees rs vs then Some vs else None))) ≡ (not b && (is_none v && agrees rs vs))
-    go true v = none-some-never v
-    go false (Some ws) = refl
-    go false None = some-if (agrees rs vs) vs
+    last : (v : Values) → (is_none v && is_some (either v (if agrees rs vs then Some vs else None))) ≡ (is_none v && agrees rs vs)
+    last (Some ws) = refl
+    last None = some-if (agrees rs vs) vs
+
+    go : (b : Bool) → (is_none (agreed_values rs) && is_some (agreed_values (if b then rs else report_by k vs ∷ rs)))
+        ≡ (not b && (is_none (agreed_values rs) && agrees rs vs))
+    go true = none-some-never (agreed_values rs)
+    go false = last (agreed_values rs)
 
 dispute-new : (p k : ℕ) (vs : List (List ℤ)) (rs : List Report) →
     dispute_about p (report_by k vs ∷ rs) ≡ either (dispute_about p rs) (dispute_in p (reverse rs) (report_by k vs))
@@ -413,5 +416,5 @@ pub within-quiet : (e : Entry) (h : List Entry) → is_noted e.reply ≡ false �
     (p : ℕ) → length (accepted (e ∷ h)) < p → reports_of (e ∷ h) p ≡ []
 within-quiet e h quiet before p high =
     let new = if is_relay e.reply then new_action (client_of h e.session) (λ j. suc (length (outcomes_of h j))) e.request else [] in
-    let more : length (accepted h ++ new) ≡ length (accepted h) + length new = length-append (accepted h) new in
+    let more : length (accepted (e ∷ h)) ≡ length (accepted h) + length new = length-append (accepted h) new in
     reports-quiet e h p quiet ∙ before p (omega arith)

@@ -1,5 +1,5 @@
 //! What the results of a Done are to a server that installs only what two clients agree on.
-ghost use Rattle.std.specs.Prelude.{◌≡◌, ◌<◌, ◌≤◌, ◌&&◌, not, nat_lt, is_none, [], ◌∷◌, filter, reverse, All, IfOk, option_to_list};
+ghost use Rattle.std.specs.Prelude.{◌≡◌, ◌<◌, ◌≤◌, ◌&&◌, not, nat_lt, is_none, is_some, [], ◌∷◌, filter, reverse, All, IfOk, option_to_list};
 ghost use Rattle.std.specs.List.{list_any, flat_map};
 ghost use Rattle.sv_wire.specs.declared.message.Done1.{Done1};
 ghost use Rattle.sv_queue.specs.Queue.{IsUncommitted, entry_at};
@@ -85,7 +85,7 @@ fn brings<L: Ledger>(queue: &Queue, reports: &Reports, found: &Done1, blank: Bla
 /// Whether an uncommitted position has a result.
 pub fn has_result<L: Ledger>(queue: &Queue, pos: u32, steps: &mut Steps<L>) -> bool
     requires { IsUncommitted queue.now pos }
-    ensures { not result ≡ is_none (entry_at queue.now pos).result }
+    ensures { result ≡ is_some (entry_at queue.now pos).result }
 {
     let entry = queue.entry(pos, steps);
     entry.has_result
@@ -118,7 +118,7 @@ fn dispute_in(
 ) -> Result<Option<Dispute>, AllocError>
     ensures { IfOk result (λ dispute. dispute ≡ dispute_in found.now.pos earlier.now (report_by client found.now.values)) }
 {
-    let [first, ..] = earlier else {
+    let [first, _rest @ ..] = earlier else {
         return Ok(None);
     };
     if are_same_values(first.values.as_slice(), found.values.as_slice()) {

@@ -4,7 +4,7 @@ ghost use Rattle.std.specs.List.{list_any, AllByRecursion};
 ghost use Rattle.sv_wire.specs.declared.message.Done1.{Done1};
 ghost use Rattle.sv_journal.specs.History.{reported};
 ghost use Rattle.sv_client.specs.Same.{are_same_values};
-ghost use Rattle.sv_witness.specs.Reports.{is_by, gives};
+ghost use Rattle.sv_witness.specs.Reports.{is_by, gives, is_nothing};
 ghost use Rattle.sv_witness.specs.Kept.{no_row, kept_at, HasRoom, AreOnce, report_by, with_values, agrees};
 
 use crate::report::Report;
@@ -121,7 +121,7 @@ impl Reports {
     pub fn agrees(&self, pos: u32, values: &[Value]) -> bool
         ensures { result ≡ agrees (kept_at self.now pos) values.now }
     {
-        values.len() == 0 || are_given(self.of(pos), values)
+        is_nothing(values) || are_given(self.of(pos), values)
     }
 
     /// Makes room for one more report of a position.
@@ -192,6 +192,15 @@ fn clear_rows(alloc: Global, rows: &mut Vec<Row>, first: usize, last: usize)
             rows[place] = Row::new(alloc);
         }
     }
+}
+
+fn is_nothing(values: &[Value]) -> bool
+    ensures { result ≡ is_nothing values.now }
+{
+    let [_first, _rest @ ..] = values else {
+        return true;
+    };
+    false
 }
 
 /// Whether a client has one of the reports.
