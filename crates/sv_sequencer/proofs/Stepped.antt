@@ -1,5 +1,5 @@
 -- One step of a sequencer, put together.
-use Rattle.std.proofs.Common.{◌≡◌, ℕ, ◌<◌, ◌≤◌, false, ℤ, List, [], ◌∷◌, ◌++◌, map, reverse, All, Option, refl, sym, ◌∙◌, ap, subst, arith}
+use Rattle.std.proofs.Common.{◌≡◌, ℕ, ◌+◌, ◌<◌, ◌≤◌, false, ℤ, List, [], ◌∷◌, ◌++◌, map, reverse, All, Option, refl, sym, ◌∙◌, ap, subst, arith}
 use Rattle.std.proofs.lemmas.List.{reverse-append}
 use Rattle.sv_world.specs.declared.world.World.{World}
 use Rattle.sv_wire.specs.declared.message.Held.{Held}
@@ -75,6 +75,27 @@ after-none a core j is stays same room = record {
   legal = subst (λ (r : Rules). Legal r (reverse j.entries)) (sym stays.rules) (subst (λ (es : List Entry). Legal (rules_of a.core) (reverse es)) (sym same) is.legal);
   keeps = subst (λ (es : List Entry). Keeps core (reverse es)) (sym same) stays.keeps;
   room = (let owes : owed_by core ≡ owed_by a.core = stays.owed in omega arith);
+}
+
+-- Its fields once a session had its End.
+pub after-end : (a : Inside) (core : Core) (j : JournalView) (s : ℕ) → IsSequencer a → rules_of core ≡ rules_of a.core → owed_by core + 1 ≡ owed_by a.core →
+    Keeps core (entry_of s requests.End logged.Bye ∷ reverse a.journal.entries) → j.entries ≡ a.journal.entries ++ entry_of s requests.End logged.Bye ∷ [] → a.journal.spare ≤ j.spare + 1 →
+    IsSequencer (record { core = core; journal = j })
+after-end a core j s is same falls stands grown room = record {
+  legal = subst (λ (r : Rules). Legal r (reverse j.entries)) (sym same) (subst (Legal (rules_of a.core)) (sym past) (refl, is.legal));
+  keeps = subst (Keeps core) (sym past) stands;
+  room = (let enough : owed_by a.core ≤ a.journal.spare = is.room in omega arith);
+}
+  where
+    past : reverse j.entries ≡ entry_of s requests.End logged.Bye ∷ reverse a.journal.entries
+    past = ap reverse grown ∙ reverse-append a.journal.entries (entry_of s requests.End logged.Bye ∷ [])
+
+-- Its fields as it is opened.
+pub as-opened : (core : Core) (j : JournalView) → j.entries ≡ [] → Keeps core [] → owed_by core ≤ j.spare → IsSequencer (record { core = core; journal = j })
+as-opened core j none stands room = record {
+  legal = subst (λ (es : List Entry). Legal (rules_of core) (reverse es)) (sym none) tt;
+  keeps = subst (λ (es : List Entry). Keeps core (reverse es)) (sym none) stands;
+  room = room;
 }
 
 -- A relay in full, from what a fitting queue has at its positions.

@@ -102,14 +102,7 @@ impl Core {
     }
 
     /// Answers a repeated Submit whose action was dropped.
-    fn repeat(
-        &mut self,
-        session: u16,
-        request: &Request,
-        seq: u32,
-        chain: u32,
-        far: u32,
-    ) -> Answer
+    fn repeat(&mut self, session: u16, request: &Request, seq: u32, chain: u32, far: u32) -> Answer
         ghost h: { List Entry }
         requires keeps { Keeps self.old h }
         requires session { session < (rules_of self.old).sessions }

@@ -97,12 +97,7 @@ fn session_after(
 }
 
 /// The client of a session after a request and its reply, which may be its own.
-fn client_after(
-    request: &Request,
-    reply: &Logged,
-    is_own: bool,
-    client: Option<u16>,
-) -> Option<u16>
+fn client_after(request: &Request, reply: &Logged, is_own: bool, client: Option<u16>) -> Option<u16>
     ensures { result ≡ either client (if is_own && is_welcome reply.now then joining request.now else None) }
 {
     if client.is_some() {
