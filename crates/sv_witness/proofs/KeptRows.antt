@@ -1,15 +1,18 @@
 -- Rows of reports, one of which is changed.
-use Rattle.std.proofs.Common.{◌≡◌, ℕ, zero, suc, ◌<◌, ◌≤◌, true, ◌==◌, nat_lt, inl, inr, List, [], ◌∷◌, ◌++◌, map, length, get_or, set, ℤ, Option, Some, None, refl, sym, ap, ◌∙◌, subst, arith}
+use Rattle.std.proofs.Common.{◌≡◌, ℕ, zero, suc, ◌<◌, ◌≤◌, Bool, true, false, not, ◌==◌, nat_lt, All, inl, inr, List, [], ◌∷◌, ◌++◌, map, length, get_or, set, ℤ, Option, Some, None, refl, sym, ap, ◌∙◌, subst, arith}
 use Rattle.std.specs.Prelude.{if◌then◌else◌}
-use Rattle.std.specs.List.{AllByRecursion}
+use Rattle.std.specs.List.{list_any, AllByRecursion}
 use Rattle.std.proofs.lemmas.Bool.{cases_lt, cases_eq, cond-true, cond-false, eq-eqb, ne_eqb, and_parts, ltb-true}
 use Rattle.std.proofs.lemmas.List.{get_or_past, get_or-set_same, get_or-set_other}
+use Rattle.std.proofs.lemmas.List.Elements.{All-from_recursion, recursion_from_All}
 use Rattle.std.proofs.lemmas.Option.{none-some}
 use Rattle.sv_world.specs.Faults.{is_ascending}
 use Rattle.sv_wire.specs.declared.message.Done1.{Done1}
+use Rattle.sv_queue.specs.Queue.{QueueView, IsUncommitted, last_position}
 use Rattle.sv_journal.specs.History.{reported}
 use Rattle.sv_witness.specs.declared.report.Report.{Report}
-use Rattle.sv_witness.specs.Kept.{RowView, no_row, kept_at, HasRoom, AreOnce, report_by, with_values}
+use Rattle.sv_witness.specs.Reports.{is_by}
+use Rattle.sv_witness.specs.Kept.{RowView, no_row, kept_at, HasRoom, AreOnce, report_by, counts, counted_results, with_values}
 
 -- An empty row at the end is as none.
 pub grown : (xs : List RowView) (p : ℕ) → get_or (xs ++ no_row ∷ []) p no_row ≡ get_or xs p no_row
@@ -115,3 +118,20 @@ values-next old new k d ds once added others p = elim (cases_eq d.pos p) [
     here =
         ap (λ (o : Option (List (List ℤ))). with_values k o (kept_at new d.pos)) once ∙ added
         ∙ ap (λ (o : Option (List (List ℤ))). with_values k o (kept_at old d.pos)) (sym (cond-true (d.pos == d.pos) (Some d.values) (reported d.pos ds) (eq-eqb d.pos d.pos refl)))
+
+-- The results that count are of positions that are not committed.
+pub counted-uncommitted : (v : QueueView) (rows : List RowView) (k : ℕ) (results : List Done1) → All (λ (d : Done1). d.pos ≤ last_position v) results →
+    All (λ (d : Done1). IsUncommitted v d.pos) (counted_results v.commit rows k results)
+counted-uncommitted v rows k results low = All-from_recursion (λ (d : Done1). IsUncommitted v d.pos) (counted_results v.commit rows k results)
+    (go results (recursion_from_All (λ (d : Done1). d.pos ≤ last_position v) results low))
+  where
+    go : (ds : List Done1) → AllByRecursion (λ (d : Done1). d.pos ≤ last_position v) ds → AllByRecursion (λ (d : Done1). IsUncommitted v d.pos) (counted_results v.commit rows k ds)
+    go [] low = tt
+    go (d ∷ ds) low = one (counts v.commit rows k d.pos) refl (go ds low.1)
+      where
+        one : (b : Bool) → counts v.commit rows k d.pos ≡ b → AllByRecursion (λ (x : Done1). IsUncommitted v x.pos) (counted_results v.commit rows k ds) →
+            AllByRecursion (λ (x : Done1). IsUncommitted v x.pos) (if b then d ∷ counted_results v.commit rows k ds else counted_results v.commit rows k ds)
+        one true counted rest =
+            let both = and_parts (nat_lt v.commit d.pos) (not (list_any (is_by k) (kept_at rows d.pos))) counted in
+            ((ltb-true v.commit d.pos both.0, low.0), rest)
+        one false counted rest = rest

@@ -10,3 +10,4 @@ mod Inserted
 mod Listed
 mod Noted
 mod DuePositions
+mod Routes

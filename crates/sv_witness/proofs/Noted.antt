@@ -121,7 +121,7 @@ some-if : (b : Bool) (vs : List (List ℤ)) → is_some (if b then Some vs else 
 some-if true vs = refl
 some-if false vs = refl
 
-none-some-never : (v : Values) → (is_none v && is_some v) ≡ false
+pub none-some-never : (v : Values) → (is_none v && is_some v) ≡ false
 none-some-never (Some vs) = refl
 none-some-never None = refl
 

@@ -2,7 +2,7 @@
 ghost use Rattle.std.specs.Prelude.{◌≡◌, ◌<◌, ◌≤◌, ◌&&◌, not, nat_lt, is_none, is_some, [], ◌∷◌, filter, reverse, All, IfOk, option_to_list};
 ghost use Rattle.std.specs.List.{list_any, flat_map};
 ghost use Rattle.sv_wire.specs.declared.message.Done1.{Done1};
-ghost use Rattle.sv_queue.specs.Queue.{IsUncommitted, entry_at};
+ghost use Rattle.sv_queue.specs.Queue.{IsUncommitted, last_position, entry_at};
 ghost use Rattle.sv_witness.specs.Disputes.{dispute_in};
 ghost use Rattle.sv_witness.specs.Reports.{is_by};
 ghost use Rattle.sv_witness.specs.Kept.{kept_at, report_by, counts, counted_results, agrees, brings, agreed_results, new_disputes};
@@ -15,6 +15,37 @@ use std::sync::ledger::{Blank, Ledger};
 use sv_queue::{Queue, Steps};
 use sv_wire::Done1;
 use sv_world::{ClientId, copy_values};
+
+/// What the results of a client are: those that count as its reports, of these the ones that bring agreement, and the disputes that they make.
+#[derive(Drop)]
+pub struct Noting {
+    pub counted: Vec<Done1>,
+    pub agreed: Vec<Done1>,
+    pub disputes: Vec<Dispute>,
+}
+
+/// What the results of a client are to a queue and the reports that are kept. It changes neither.
+pub fn noting_of(
+    alloc: Global,
+    queue: &Queue,
+    reports: &Reports,
+    client: u16,
+    results: &[Done1],
+) -> Result<Noting, AllocError>
+    requires { All (λ (d : Done1). d.pos ≤ last_position queue.now) results.now }
+    ensures counted { IfOk result (λ noting. noting.counted.items ≡ counted_results queue.now.commit reports.now client results.now) }
+    ensures agreed { IfOk result (λ noting. noting.agreed.items ≡ agreed_results queue.now reports.now (counted_results queue.now.commit reports.now client results.now)) }
+    ensures disputes { IfOk result (λ noting. noting.disputes.items ≡ new_disputes reports.now client (counted_results queue.now.commit reports.now client results.now)) }
+{
+    let counted = copy_counted(alloc, reports, queue.commit(), client, results)?;
+    let agreed = copy_agreed(alloc, queue, reports, counted.as_slice())?;
+    let disputes = disputes_with(alloc, reports, client, counted.as_slice())?;
+    Ok(Noting {
+        counted,
+        agreed,
+        disputes,
+    })
+}
 
 fn copy_result(alloc: Global, found: &Done1) -> Result<Done1, AllocError>
     ensures { IfOk result (λ copy. copy ≡ found.now) }
@@ -33,7 +64,7 @@ fn counts(reports: &Reports, commit: u32, client: u16, pos: u32) -> bool
 }
 
 /// Equal copies of those results of a client that count as its reports.
-pub fn copy_counted(
+fn copy_counted(
     alloc: Global,
     reports: &Reports,
     commit: u32,
@@ -52,7 +83,7 @@ pub fn copy_counted(
 }
 
 /// Equal copies of those results that bring agreement.
-pub fn copy_agreed(
+fn copy_agreed(
     alloc: Global,
     queue: &Queue,
     reports: &Reports,
@@ -92,7 +123,7 @@ pub fn has_result<L: Ledger>(queue: &Queue, pos: u32, steps: &mut Steps<L>) -> b
 }
 
 /// The disputes that results of a client make with the first reports of their positions.
-pub fn disputes_with(
+fn disputes_with(
     alloc: Global,
     reports: &Reports,
     client: u16,
