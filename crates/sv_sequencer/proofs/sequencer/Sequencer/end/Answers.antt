@@ -8,11 +8,10 @@ use Rattle.sv_sequencer.specs.Step.{SequencerView, history, entry_of}
 use Rattle.sv_sequencer.proofs.Stepped.{after-end}
 use Rattle.sv_sequencer.proofs.sequencer.Sequencer.end.Goals as goal
 
-pub end-requires-clause-keeps : goal.end-requires-clause-keeps
-end-requires-clause-keeps g c = subst (Keeps c.self.inside.core) (ap history c.self.view_is ∙ sym c.requires.past) c.self.invariant.keeps
-
-pub end-requires-clause-session : goal.end-requires-clause-session
-end-requires-clause-session g c = subst (λ (v : SequencerView). c.args.session < v.rules.sessions) (sym c.self.view_is) c.requires.session
+pub end-requires : goal.end-requires
+end-requires g c =
+    (subst (Keeps c.self.inside.core) (ap history c.self.view_is ∙ sym c.requires.0) c.self.invariant.keeps,
+    (subst (λ (v : SequencerView). c.args.session < v.rules.sessions) (sym c.self.view_is) c.requires.1.0, c.requires.1.1))
 
 pub push-requires : goal.push-requires
 push-requires g c = omega (arith, c.end.ensures.owed, c.self.invariant.room)
@@ -20,7 +19,7 @@ push-requires g c = omega (arith, c.end.ensures.owed, c.self.invariant.room)
 pub invariant_of-self : goal.invariant_of-self
 invariant_of-self g c =
     let a = c.self.inside in
-    let at : g.h ≡ reverse a.journal.entries = c.requires.past ∙ sym (ap history c.self.view_is) in
+    let at : g.h ≡ reverse a.journal.entries = c.requires.0 ∙ sym (ap history c.self.view_is) in
     after-end a c.end.new.self c.push.new.self c.args.session c.self.invariant c.end.ensures.rules c.end.ensures.owed
     (subst (λ (h : List Entry). Keeps c.end.new.self (entry_of c.args.session requests.End logged.Bye ∷ h)) at c.end.ensures.keeps)
     (ap (λ (j : JournalView). j.entries) c.push.ensures)

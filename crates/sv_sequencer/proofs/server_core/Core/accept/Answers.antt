@@ -51,15 +51,15 @@ returns-clause-ok g c =
     let m = c.args.client in
     let author : ClientId = record { 0 = m } in
     let seq = c.args.seq in
-    let k = c.requires.keeps in
+    let k = c.requires.0 in
     let f = k.fits in
     let l = logged.Relay seq n x.head x.positions in
     let made = c.answer_of-answer.ensures in
     let next = c.note.new.rows.items in
     let w = with_action v author seq (action_in q) in
     let Q = c.take_in.new.queue in
-    let small : s < 64 = omega (arith, c.requires.session, k.few_sessions) in
-    let pushed : Q ≡ w = c.in_ok-relayed.ensures.queue ∙ ap (with_action v author seq) (c.in_ok-action.ensures ∙ c.requires.action) in
+    let small : s < 64 = omega (arith, c.requires.1.0, k.few_sessions) in
+    let pushed : Q ≡ w = c.in_ok-relayed.ensures.queue ∙ ap (with_action v author seq) (c.in_ok-action.ensures ∙ c.requires.1.1.1.1.0) in
     let fitted = fits-pushed a.opening (accepted h) (result_at h) (sent_to h) (named_to h) v author seq (action_in q)
     (k.sound.results (suc (length (accepted h))) (omega arith)) k.sound.sent f in
     let within : All (IsUncommitted w) x.positions =
@@ -76,12 +76,12 @@ returns-clause-ok g c =
     subst (λ (u : QueueView). x.items ≡ map (item_in u) x.positions) pushed
     (c.in_ok-relayed.ensures.items ∙ ap (map (item_in Q)) (sym c.in_ok-relayed.ensures.positions)) in
     let whole : replies.Relay seq n x.sent_head x.items ≡ full_reply (accepted (entry_of s q l ∷ h)) l =
-    subst (λ (A : List Authored). replies.Relay seq n x.sent_head x.items ≡ full_reply A l) (sym (accepted-next (entry_of s q l) h m seq refl c.requires.next))
+    subst (λ (A : List Authored). replies.Relay seq n x.sent_head x.items ≡ full_reply A l) (sym (accepted-next (entry_of s q l) h m seq refl c.requires.1.1.1.0))
     (relayed-whole a.opening (accepted h ++ authored_by m seq q ∷ []) (result_at h) (sent_to h) (named_to h) w seq n x.head x.sent_head x.positions x.items fitted
     (c.in_ok-relayed.ensures.sent_head ∙ sym c.in_ok-relayed.ensures.head) items within) in
     carried a _ h s q (decisions.Accept m seq) _ l (ap (rules_with a.opening a.bound a.reach) c.note.ensures.count) refl made.logged said
     (subst (λ (u : QueueView). Agrees (rules_of a) (entry_of s q l ∷ h) u next c.take_in.new.clients a.owed)
     (sym (c.deliver.ensures ∙ ap (λ (u : QueueView). given_all (marked_all u x.positions s) x.head s) pushed))
     (agree-accept (rules_of a) h v a.sessions.items next a.clients c.take_in.new.clients a.owed s q m seq n (suc (last_position v)) x.head x.positions
-    (c.commit-commit.ensures ∙ ap (λ (u : QueueView). u.commit) pushed) refl k refl c.requires.session c.requires.next c.requires.more rows c.in_ok-relayed.ensures.clients within))
+    (c.commit-commit.ensures ∙ ap (λ (u : QueueView). u.commit) pushed) refl k refl c.requires.1.0 c.requires.1.1.1.0 c.requires.1.1.0 rows c.in_ok-relayed.ensures.clients within))
     (made.reply ∙ whole)

@@ -8,7 +8,7 @@ use Rattle.sv_sequencer.proofs.server_core.Core.chain_of.Goals as goal
 pub returns-clause-count : goal.returns-clause-count
 returns-clause-count g c =
     let a = c.args.self.now in
-    let k = c.requires.keeps in
+    let k = c.requires.0 in
     c.chain.ensures.count
     ∙ ap length (influence-is a.opening (accepted g.h) (result_at g.h) (sent_to g.h) (named_to g.h) a.queue k.fits k.sound.sent c.args.action.now)
     ∙ ap (λ n. chain_length (actions_of g.h) n c.args.action.now) k.commit
@@ -16,7 +16,7 @@ returns-clause-count g c =
 pub returns-clause-far : goal.returns-clause-far
 returns-clause-far g c =
     let a = c.args.self.now in
-    let k = c.requires.keeps in
+    let k = c.requires.0 in
     c.chain.ensures.far
     ∙ distance-is a.opening (accepted g.h) (result_at g.h) (sent_to g.h) (named_to g.h) a.queue k.fits k.sound.sent c.args.action.now
     ∙ ap (λ n. influence_distance (actions_of g.h) n c.args.action.now) k.commit

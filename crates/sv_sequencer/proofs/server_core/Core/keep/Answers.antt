@@ -16,8 +16,8 @@ returns-clause-keeps g c =
     let s = c.args.session in
     let q = c.args.request.now in
     let l = c.args.reply.now in
-    let k = c.requires.keeps in
+    let k = c.requires.0 in
     let next = c.note.new.rows.items in
     subst (λ (n : ℕ). Agrees (rules_with a.opening a.bound a.reach n) (entry_of s q l ∷ g.h) a.queue next a.clients a.owed) (sym c.note.ensures.count)
-    (agree-quiet (rules_of a) g.h a.queue a.sessions.items next a.clients a.owed s q l k refl c.requires.session c.requires.quiet c.note.ensures.rows
-    a.owed (k.ends ∙ sym (owed-same (entry_of s q l) g.h (length a.sessions.items) c.requires.more)))
+    (agree-quiet (rules_of a) g.h a.queue a.sessions.items next a.clients a.owed s q l k refl c.requires.1.0 c.requires.1.1.1 c.note.ensures.rows
+    a.owed (k.ends ∙ sym (owed-same (entry_of s q l) g.h (length a.sessions.items) c.requires.1.1.0)))

@@ -19,5 +19,5 @@ returns-clause-keeps c =
     let count : length rows ≡ n = ap length c.in_ok-rows.ensures ∙ length-replicate n no_session in
     let queue : c.in_ok-queue.queue ≡ opening_queue c.args.world =
     c.in_ok-queue.ensures ∙ ap (λ (vs : List (List ℤ)). opening_queue (record { shape = c.args.world.shape; values = vs })) (c.in_ok-values.ensures ∙ c.as_slice.ensures) in
-    subst (λ (v : QueueView). Agrees r [] v rows c.new.result n) (sym queue)
-    (agree-opening r rows c.new.result n (omega (arith, count, c.requires.few)) (c.in_ok-rows.ensures ∙ ap (λ m. replicate m no_session) (sym count)) c.new.ensures (sym count))
+    subst (λ (v : QueueView). Agrees r [] v rows c.new-2.result n) (sym queue)
+    (agree-opening r rows c.new-2.result n (omega (arith, count, c.requires.few)) (c.in_ok-rows.ensures ∙ ap (λ m. replicate m no_session) (sym count)) c.new-2.ensures (sym count))
