@@ -38,14 +38,6 @@ needed_are law A commit sent i n above within = λ k d low.
     let at = law A commit sent i (get_or (needed_for A commit sent i) k d) above (in_list (needed_for A commit sent i) k d low) in
     (omega (arith, at.0), omega (arith, at.1, within))
 
-pub run_within : (test : ℕ → Bool) (n : ℕ) → run_length test n ≤ n
-run_within test zero = omega arith
-run_within test (suc n) = cond_both ((run_length test n == n) && test (suc n)) (suc n) (run_length test n) (λ m. m ≤ suc n)
-    (λ _. omega arith) (λ _. omega (arith, run_within test n))
-
-pub commit_within : (h : List Entry) → commit_of h ≤ length (accepted h)
-commit_within h = run_within (λ p. is_some (result_at h p)) (length (accepted h))
-
 -- An outcome that tells a position tells that of an accepted action.
 abbrev TellsWithin : ℕ → Outcome → Type 0
 TellsWithin n (Accepted p) = p ≤ n
@@ -62,10 +54,6 @@ all_later m n (o ∷ os) le h = (later_within m n o le h.0, all_later m n os le 
 all_append : (P : Outcome → Type 0) (xs ys : List Outcome) → AllByRecursion P xs → AllByRecursion P ys → AllByRecursion P (xs ++ ys)
 all_append P [] ys h k = k
 all_append P (x ∷ xs) ys h k = (h.0, all_append P xs ys h.1 k)
-
--- how many actions an entry adds
-pub accepted_grow : (e : Entry) (h : List Entry) → length (accepted h) ≤ length (accepted (e ∷ h))
-accepted_grow e h = omega (arith, length-append (accepted h) (if is_relay e.reply then new_action (client_of h e.session) (λ k. suc (length (outcomes_of h k))) e.request else []))
 
 -- the action of a client's Submit with its next number, answered by a relay
 pub accepted_one_more : (e : Entry) (h : List Entry) (k seq : ℕ) (a : Action) → is_relay e.reply ≡ true → client_of h e.session ≡ Some k →
