@@ -62,11 +62,14 @@ abbrev pub with_results : (Done1 → Bool) → Request → Request
 with_results test (requests.Done results) = requests.Done (filter test results)
 with_results test request = request
 
--- What is kept of an entry is all but some results of its Done, and stays as it is. A position that a Poll may be sent is one above the commit,
--- of an accepted action, which was not sent to the session before, unless the session is over.
+-- What is kept of an entry is all but some results of its Done, and stays as it is; the commit that a Noted tells makes no difference. A position
+-- that a Poll may be sent is one above the commit, of an accepted action, which was not sent to the session before, unless the session is over.
 pub record IsKeeping (k : Keeping) : Type 0 where
   pub none : k.kept [] ≡ []
   pub next : (e : Entry) (h : List Entry) → (test : Done1 → Bool) × (k.kept (e ∷ h) ≡ record e { request = with_results test e.request } ∷ k.kept h)
+  pub noted : (h : List Entry) (s commit : ℕ) (request : Request) →
+      commit_of (k.kept (record { session = s; request = request; reply = logged.Noted commit } ∷ h))
+      ≡ commit_of (k.kept (record { session = s; request = request; reply = logged.Noted 0 } ∷ h))
   pub above : (h : List Entry) (s p : ℕ) → is_in p (k.due h s) ≡ true → commit_of (k.kept h) < p
   pub within : (h : List Entry) (s p : ℕ) → is_in p (k.due h s) ≡ true → p ≤ length (accepted h)
   pub unsent : (h : List Entry) (s p : ℕ) → is_in p (k.due h s) ≡ true → is_over h s ≡ false → is_in p (sent_to h s) ≡ false
