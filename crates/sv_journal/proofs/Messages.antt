@@ -77,12 +77,13 @@ module _ (k : Keeping) (law : IsKeeping k) (r : Rules) (h : List Entry) (s : ℕ
 fits_here : HeadAscends → HeadWithin → GoodWhereNone → (k : Keeping) → IsKeeping k → (r : Rules) (h : List Entry) (s : ℕ) (q : Request) → AreWithinLimits r →
     AreGood r.world.shape h → AreResults r.world.shape.attrs (k.kept h) → Keeps k r h s q (reply_for k r h s q)
 fits_here ascends within none_good k law r h s q limits good results = each_row k law r h s (Keeps k r h s q) q (record {
-  refusal = λ code detail some few. quiet k law r h s q results (refused code detail) refl (some, few);
+  refusal = λ code detail some few told. quiet k law r h s q results (refused code detail) refl (some, few);
   bye = quiet k law r h s q results logged.Bye refl tt;
   welcome = λ client life interest asked open_still live later fine.
       let xs = map (λ (o : ObjectId). o.0) interest in
       quiet k law r h s q results (logged.Welcome (commit_of (k.kept h)) (committed_held r (k.kept h) xs)) refl (welcome_head r (k.kept h) xs limits results fine);
-  dropped = λ j seq a chain far client asked is. quiet k law r h s q results (logged.Dropped seq chain far) refl tt;
+  dropped = λ j seq a client asked next good. quiet k law r h s q results (logged.Dropped seq _ _) refl tt;
+  dropped_again = λ j seq a chain far client asked is. quiet k law r h s q results (logged.Dropped seq chain far) refl tt;
   settled = λ j seq p a client asked is. quiet k law r h s q results (logged.Settled seq p) refl tt;
   noted = λ ds asked fine. noted k law r h s q results ds asked fine (commit_of (k.kept (entry_of s q (logged.Noted 0) ∷ h)));
   idle = quiet k law r h s q results logged.Idle refl tt;

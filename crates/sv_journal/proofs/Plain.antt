@@ -68,6 +68,7 @@ pub plain-keeping : IsKeeping plain
 plain-keeping = record {
   none = refl;
   next = λ e h. ((λ d. true), ap (λ (q : Request). record e { request = q } ∷ h) (sym (all-results e.request)));
+  noted = λ h s commit request. refl;
   above = λ h s p e. (orphan-parts h p e).0;
   within = λ h s p e. (orphan-parts h p e).1.0;
   unsent = λ h s p e on. false_from_ne_true (is_in p (sent_to h s)) (not-sent (is_over h) h s p (orphan-parts h p e).1.1 on);

@@ -29,6 +29,7 @@ agreed-keeping = record {
     (λ (d : Done1). brings_agreement (client_of h e.session) (counted_in (commit_of (agreed_history h)) d.pos e) (reports_of h d.pos)),
     refl,
   );
+  noted = λ h s commit request. refl;
   above = λ h s p e. (due-parts h s p e).0;
   within = λ h s p e. (due-parts h s p e).1.0;
   unsent = λ h s p e on. (due-parts h s p e).1.1;
