@@ -18,7 +18,7 @@ use Rattle.sv_journal.specs.History.{is_relay, client_of, outcomes_of, Outcome, 
 use Rattle.sv_journal.specs.Sessions.{kept_count, outcome_at, kept_outcome, sent_to}
 use Rattle.sv_journal.specs.Answer.{Rules, relay_of}
 use Rattle.sv_journal.specs.Serving.{Keeping, plain, reply_for, LegalFor, IsKeeping}
-use Rattle.sv_journal.specs.Text.{NamesAccepted}
+use Rattle.sv_journal.specs.Text.{NamesAccepted, RelaysNameAccepted}
 use Rattle.sv_journal.specs.Laws.{LegalRelaysNameAccepted, ServedRelaysNameAccepted}
 use Rattle.sv_journal.proofs.Commits.{accepted_grow}
 use Rattle.sv_journal.proofs.Kept.{commit_within-kept}
@@ -193,10 +193,13 @@ all_named needed k law r (e ∷ h) legal = (
 
 pub served_relays_name_accepted : NeededWithin → ServedRelaysNameAccepted
 served_relays_name_accepted needed k r h law legal =
-    let all = All-from_recursion (λ (e : Entry). NamesAccepted (length (accepted h)) e.reply) h (all_named needed k law r h legal) in
-    rw (reverse-reverse h) (λ i d low.
-    let short : i < length h = omega (arith, low, length-reverse h) in
-    rw (get_or-reverse h i d short) (all (length h - 1 - i) d (omega (arith, short))))
+    All-from_recursion (λ (e : Entry). NamesAccepted (length (accepted h)) e.reply) h (all_named needed k law r h legal)
+
+in_order : (h : List Entry) → All (λ (e : Entry). NamesAccepted (length (accepted h)) e.reply) h → RelaysNameAccepted (reverse h)
+in_order h all =
+    rw (reverse-reverse h) (λ k d low.
+    let short : k < length h = omega (arith, low, length-reverse h) in
+    rw (get_or-reverse h k d short) (all (length h - 1 - k) d (omega (arith, short))))
 
 pub legal_relays_name_accepted : NeededWithin → LegalRelaysNameAccepted
-legal_relays_name_accepted needed r h legal = served_relays_name_accepted needed plain r h plain-keeping (plain-legal r h legal)
+legal_relays_name_accepted needed r h legal = in_order h (served_relays_name_accepted needed plain r h plain-keeping (plain-legal r h legal))

@@ -49,7 +49,7 @@ pub record PlainIsLegal : Type 0 where
   pub same : (r : Rules) (h : List Entry) → Legal r h ↔ LegalFor plain r h
 
 abbrev pub ServedRelaysNameAccepted : Type 0
-ServedRelaysNameAccepted = (k : Keeping) (r : Rules) (h : List Entry) → IsKeeping k → LegalFor k r h → RelaysNameAccepted (reverse h)
+ServedRelaysNameAccepted = (k : Keeping) (r : Rules) (h : List Entry) → IsKeeping k → LegalFor k r h → All (λ (e : Entry). NamesAccepted (length (accepted h)) e.reply) h
 
 abbrev pub ServedRelaysAreSmall : Type 0
 ServedRelaysAreSmall = (k : Keeping) (r : Rules) (h : List Entry) → IsKeeping k → LegalFor k r h → All (λ (e : Entry). length (positions_in e.reply) ≤ r.bound + 1) h
