@@ -1,5 +1,5 @@
--- Each reply of a legal journal has numbers of its types, where its requests have.
-use Rattle.std.proofs.Common.{◌≡◌, ℕ, zero, suc, ◌^◌, ◌<◌, ◌≤◌, Bool, true, false, ◌&&◌, not, cond, inl, inr, List, [], ◌∷◌, ◌++◌, length, map, filter, Option, Some, None, subst, arith}
+-- Each reply of a server has numbers of its types, where its requests have, whatever results it keeps.
+use Rattle.std.proofs.Common.{◌≡◌, ℕ, zero, suc, ◌^◌, ◌<◌, ◌≤◌, Bool, true, false, ◌&&◌, not, cond, inl, inr, List, [], ◌∷◌, ◌++◌, length, map, filter, Some, None, subst, arith}
 use Rattle.std.specs.List.{AllByRecursion}
 use Rattle.sv_world.specs.declared.action.Action.{Action}
 use Rattle.sv_world.specs.declared.world.ClientId.{ClientId}

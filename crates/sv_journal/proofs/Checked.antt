@@ -1,4 +1,4 @@
--- The accepted actions of a legal journal are good.
+-- The actions that a server accepted are good, whatever results it keeps.
 use Rattle.std.proofs.Common.{◌≡◌, ℕ, suc, List, [], ◌∷◌, ◌++◌, length, None, refl, sym, subst, arith}
 use Rattle.std.specs.List.{AllByRecursion}
 use Rattle.std.proofs.lemmas.Bool.{eq-eqb, ne_eqb}

@@ -1,5 +1,5 @@
 -- The replies of a server, row by row: what holds of the reply of each row holds of every reply.
-use Rattle.std.proofs.Common.{◌≡◌, ℕ, suc, ◌<◌, ◌≤◌, Bool, true, false, ◌||◌, ◌⊎◌, inl, inr, List, [], ◌∷◌, ◌++◌, length, Option, Some, None, refl, sym, subst, ◌∙◌, arith}
+use Rattle.std.proofs.Common.{◌≡◌, ℕ, suc, ◌<◌, ◌≤◌, true, false, ◌||◌, ◌⊎◌, inl, inr, List, [], ◌∷◌, ◌++◌, length, Option, Some, None, refl, sym, subst, ◌∙◌, arith}
 use Rattle.std.specs.Prelude.{if◌then◌else◌, nat_le, nat_lt, ◌==◌, map}
 use Rattle.std.proofs.lemmas.Bool.{cond_both, ltb-false, leb-false, eqb-true, or_parts}
 use Rattle.sv_world.specs.declared.action.Action.{Action}

@@ -1,4 +1,4 @@
--- The results of a legal journal have a number for each attribute, and so have the committed values.
+-- Results that are noted have a number for each attribute, and so have the committed values.
 use Rattle.std.proofs.Common.{◌≡◌, ℕ, zero, suc, ◌<◌, ◌≤◌, Bool, true, false, not, ◌&&◌, ◌||◌, ◌⊎◌, inl, inr, ℤ, List, [], ◌∷◌, filter, length, Option, Some, None, refl, sym, ap, ap₂, subst, ◌∙◌, arith}
 use Rattle.std.specs.Prelude.{if◌then◌else◌, nat_lt, ◌==◌, is_some, slice_set, unwrap_or}
 use Rattle.std.specs.List.{AllByRecursion, list_any, list_all}

@@ -1,8 +1,8 @@
--- The relays of a legal journal have at most one item more than the bound.
-use Rattle.std.proofs.Common.{◌≡◌, ℕ, zero, suc, ◌+◌, ◌<◌, ◌≤◌, Bool, true, false, ◌&&◌, List, [], ◌∷◌, ◌++◌, map, length, Option, Some, None, ◌⊎◌, inl, inr, refl, sym, ap, subst, ◌∙◌, arith, append_assoc, length-append}
-use Rattle.std.specs.Prelude.{if◌then◌else◌, nat_le, ◌==◌, is_some}
+-- The relays of a server have at most one item more than the bound, whatever results it keeps.
+use Rattle.std.proofs.Common.{◌≡◌, ℕ, zero, suc, ◌+◌, ◌<◌, ◌≤◌, false, List, [], ◌∷◌, ◌++◌, map, length, Option, Some, None, ◌⊎◌, inl, inr, refl, sym, ap, subst, ◌∙◌, arith, append_assoc, length-append}
+use Rattle.std.specs.Prelude.{nat_le}
 use Rattle.std.specs.List.{AllByRecursion}
-use Rattle.std.proofs.lemmas.Bool.{cond_both, cases_lt, cases_Bool, cond-true, eq-eqb, ne_eqb, eqb-true, and_parts, and_from}
+use Rattle.std.proofs.lemmas.Bool.{cond_both, cases_lt, eq-eqb, ne_eqb}
 use Rattle.std.proofs.lemmas.List.{length-map, map-append}
 use Rattle.std.proofs.lemmas.List.Elements.{All-from_recursion}
 use Rattle.std.proofs.lemmas.Option.{slice_get_within}
@@ -13,7 +13,7 @@ use Rattle.sv_wire.specs.declared.message.Request.TheVariants as requests
 use Rattle.sv_journal.specs.declared.entry.Entry.{Entry}
 use Rattle.sv_journal.specs.declared.entry.Logged.{Logged}
 use Rattle.sv_journal.specs.declared.entry.Logged.TheVariants as logged
-use Rattle.sv_journal.specs.History.{either, is_relay, is_noted, reports, client_of, outcomes_of, Outcome, Accepted, Authored, new_action, accepted, actions_of, next_seq, result_at, run_length, commit_of}
+use Rattle.sv_journal.specs.History.{is_relay, client_of, outcomes_of, Outcome, Accepted, Authored, new_action, accepted, actions_of, next_seq, commit_of}
 use Rattle.sv_journal.specs.Sessions.{kept_count, outcome_at, kept_outcome, sent_to, positions_in}
 use Rattle.sv_journal.specs.Answer.{Rules, relay_of}
 use Rattle.sv_journal.specs.Serving.{Keeping, plain, reply_for, LegalFor, IsKeeping}

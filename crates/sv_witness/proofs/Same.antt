@@ -1,5 +1,5 @@
 -- What clients agree on is a keeping, so the history of it has the same sessions, clients, outcomes, accepted actions and sent positions as the journal's.
-use Rattle.std.proofs.Common.{◌≡◌, ℕ, suc, ◌<◌, ◌≤◌, Bool, true, false, ◌&&◌, not, List, length, is_none, refl, arith, nat_lt, ltb-true}
+use Rattle.std.proofs.Common.{◌≡◌, ℕ, suc, ◌<◌, ◌≤◌, true, false, ◌&&◌, not, List, length, is_none, refl, arith, nat_lt, ltb-true}
 use Rattle.std.proofs.lemmas.Bool.{and_parts, not-true}
 use Rattle.sv_world.specs.Control.{is_in, below}
 use Rattle.sv_world.proofs.Members.{is_in-filter_parts}

@@ -5,7 +5,7 @@ use Rattle.std.specs.List.{list_any}
 use Rattle.sv_world.specs.Control.{is_in, below}
 use Rattle.sv_wire.specs.declared.message.Done1.{Done1}
 use Rattle.sv_journal.specs.declared.entry.Entry.{Entry}
-use Rattle.sv_journal.specs.History.{either, is_noted, client_of, accepted, reports, result_at, commit_of, committed_of}
+use Rattle.sv_journal.specs.History.{either, is_noted, client_of, accepted, reports, commit_of, committed_of}
 use Rattle.sv_journal.specs.Sessions.{sent_to}
 use Rattle.sv_journal.specs.Serving.{with_results}
 use Rattle.sv_client.specs.Same.{are_same_values}
