@@ -1,5 +1,5 @@
 -- A server that trusts its clients has a keeping, and replies as the table says.
-use Rattle.std.proofs.Common.{◌≡◌, ℕ, zero, suc, ◌<◌, ◌≤◌, Bool, true, false, ◌&&◌, ◌||◌, not, ◌==◌, ◌⊎◌, inl, inr, ◌↔◌, List, [], ◌∷◌, ◌++◌, filter, length, map, Option, Some, None, refl, sym, ap, ap₂, ◌∙◌, arith, eqb-true, nat_le, nat_lt, ltb-true, true≢false}
+use Rattle.std.proofs.Common.{◌≡◌, ℕ, suc, ◌<◌, ◌≤◌, Bool, true, false, ◌&&◌, ◌||◌, not, ◌==◌, ◌⊎◌, inl, inr, List, [], ◌∷◌, ◌++◌, filter, length, map, Option, Some, None, refl, sym, ap, ◌∙◌, arith, eqb-true, nat_le, nat_lt, ltb-true, true≢false}
 use Rattle.std.specs.Prelude.{if◌then◌else◌, is_none}
 use Rattle.std.specs.List.{list_all}
 use Rattle.std.proofs.lemmas.Bool.{cond_both, and_parts, or_cases, not-true, false_from_ne_true}
@@ -10,7 +10,6 @@ use Rattle.sv_world.specs.Control.{is_in, below, chain_length, influence_distanc
 use Rattle.sv_world.specs.Faults.{first_fault_of_action}
 use Rattle.sv_world.proofs.Members.{is_in-append_cases, is_in-filter_parts}
 use Rattle.sv_world.proofs.Bases.{below-is_in}
-use Rattle.sv_wire.specs.declared.message.Done1.{Done1}
 use Rattle.sv_wire.specs.declared.message.Request.{Request}
 use Rattle.sv_wire.specs.declared.message.Request.TheVariants as requests
 use Rattle.sv_journal.specs.declared.entry.Entry.{Entry}
@@ -68,6 +67,7 @@ pub plain-keeping : IsKeeping plain
 plain-keeping = record {
   none = refl;
   next = λ e h. ((λ d. true), ap (λ (q : Request). record e { request = q } ∷ h) (sym (all-results e.request)));
+  noted = λ h s commit request. refl;
   above = λ h s p e. (orphan-parts h p e).0;
   within = λ h s p e. (orphan-parts h p e).1.0;
   unsent = λ h s p e on. false_from_ne_true (is_in p (sent_to h s)) (not-sent (is_over h) h s p (orphan-parts h p e).1.1 on);
