@@ -48,7 +48,7 @@ use Rattle.sv_system.proofs.Asked.{get-append_cases, proper-part, got-part, done
 use Rattle.sv_system.proofs.BoundedRelays.{all-small}
 use Rattle.sv_system.proofs.Pendings.{Numbered, keys, without_first, settles, keys-with, keys-made}
 use Rattle.sv_system.proofs.Leaving.{is_join_request}
-use Rattle.sv_system.proofs.Order.{got-served, welcome-legal, earlier-strict}
+use Rattle.sv_system.proofs.Order.{got-replied, welcome-legal, earlier-strict}
 use Rattle.sv_system.proofs.Asking.{IsServed, is_done, done-other, done-form}
 use Rattle.sv_system.proofs.Induction.{accepted-good, plain-acts, well-after}
 use Rattle.sv_system.proofs.Opened.{asks, asks-other}
@@ -281,7 +281,7 @@ module _ (K : Keeping) (r : Rules) (H : List Entry) (L : Trace) (served : IsServ
       let small : length ks ≤ r.bound + 1 = (all-small K keeps r (x.entry ∷ x.before) lx).0 in
       let session : x.entry.session ≡ s = (of-parts x.entry s x.of_it).0 in
       let well = well-after K keeps r H count legal H same serial v
-      (λ o. front-then (got v o) (got whole o) (replies_in A H o) (got-part who L.first v whole d.part o) (got-served K r H L served o)) in
+      (λ o. front-then (got v o) (got whole o) (replies_in A H o) (got-part who L.first v whole d.part o) (got-replied K r H L served o)) in
       let held = held_of t ++ head_held d.commit d.head in
       let results_are : results ≡ results_of held (map (item_at A) ks) = d.results_are ∙ ap (results_of held) items in
       subst (λ (rs : List Done1). is_bad_done r (K.kept g) s rs ≡ false) (sym results_are)

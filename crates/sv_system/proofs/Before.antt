@@ -27,7 +27,7 @@ use Rattle.sv_system.proofs.Asking.{IsServed, request-other}
 use Rattle.sv_system.proofs.Commits.{commit-grows}
 use Rattle.sv_system.proofs.Entered.{earlier-cases, is_of, of-parts, replies-earlier, IsEntered, entered, over-stays}
 use Rattle.sv_system.proofs.Asked.{IsPart, part-rest, asked-part, got-part, got-when, got-answers, begun-or_not, current-last}
-use Rattle.sv_system.proofs.Order.{get-some, got-served, IsWelcomed, welcomed-at, older-over, earlier-strict, got-not_over}
+use Rattle.sv_system.proofs.Order.{get-some, got-replied, IsWelcomed, welcomed-at, older-over, earlier-strict, got-not_over}
 use Rattle.sv_system.proofs.Opened.{asks}
 use Rattle.sv_system.proofs.Begun.{join-welcomed}
 
@@ -93,7 +93,7 @@ module _ (K : Keeping) (r : Rules) (H : List Entry) (L : Trace) (served : IsServ
 
   -- What was got in the session is just what it was answered before.
   pub got-same : got whole s ≡ replies_in A g s
-  got-same = fronts-same (got whole s) (replies_in A g s) (replies_in A H s) (got-served K r H L served s) (replies-earlier A g H earlier s) (sym next)
+  got-same = fronts-same (got whole s) (replies_in A g s) (replies_in A H s) (got-replied K r H L served s) (replies-earlier A g H earlier s) (sym next)
 
   first-welcomed : length (got whole s) ≡ 0 → IsWelcomed K r H L served (e ∷ g) s
   first-welcomed z =
@@ -151,7 +151,7 @@ module _ (K : Keeping) (r : Rules) (H : List Entry) (L : Trace) (served : IsServ
 
   got-other : (o n : ℕ) (reply : Reply) → (o ≡ s → ⊥) → slice_get (got whole o) n ≡ Some reply → IsGotAt o n reply
   got-other o n reply other is =
-      let x = entered A H o n reply (got-served K r H L served o n reply is) in
+      let x = entered A H o n reply (got-replied K r H L served o n reply is) in
       let apart : x.entry.session ≡ e.session → ⊥ = λ q. other (sym (of-parts x.entry o x.of_it).0 ∙ q ∙ (of-parts e s mine).0) in
       elim (earlier-cases (x.entry ∷ x.before) (e ∷ g) H x.earlier b) [
         | inl c ↦ elim (earlier-strict (x.entry ∷ x.before) e g c) [
@@ -172,7 +172,7 @@ module _ (K : Keeping) (r : Rules) (H : List Entry) (L : Trace) (served : IsServ
       too-late o n reply other is x d =
           let w = welcomed-now in
           let zero' = get-some (got whole o) 0 (let l : n < length (got whole o) = slice_get_within (got whole o) n reply is in omega arith) in
-          let v = welcomed-at K r H L served H same o zero'.0 zero'.1 (got-served K r H L served o 0 zero'.0 zero'.1) in
+          let v = welcomed-at K r H L served H same o zero'.0 zero'.1 (got-replied K r H L served o 0 zero'.0 zero'.1) in
           let gw = got-when who L.first whole o n reply is in
           let ans = got-answers who L.first whole this_one.proper.events o n reply gw in
           elim (begun-or_not who L.first whole this_one.proper.events o) [

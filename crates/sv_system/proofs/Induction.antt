@@ -43,11 +43,11 @@ use Rattle.sv_system.proofs.Taken.{plain-at, IsWell, all-well}
 use Rattle.sv_system.proofs.Histories.{IsEarlier, same, after, earlier-rest, earlier-served}
 use Rattle.sv_system.proofs.Replies.{TellsFor, served-tells}
 use Rattle.sv_system.proofs.Replied.{front-flat, front-shorter, tellings-got, tellings-replied}
-use Rattle.sv_system.proofs.Lawful.{results-earlier, installed-serial, served-lawful}
+use Rattle.sv_system.proofs.Lawful.{results-earlier, installed-serial, legal-lawful}
 use Rattle.sv_system.proofs.Entered.{is_of, of-from, as-many, replies-earlier, request-there}
 use Rattle.sv_system.proofs.Asked.{proper-part, got-part, done-when, may-answer}
 use Rattle.sv_system.proofs.Asking.{IsServed, fits-but_values}
-use Rattle.sv_system.proofs.Order.{got-served, all-before}
+use Rattle.sv_system.proofs.Order.{got-replied, all-before}
 
 -- ---- Accepted actions are good
 
@@ -98,7 +98,7 @@ module _ (K : Keeping) (keeps : IsKeeping K) (r : Rules) (H : List Entry) (count
       (front-flat telling_in (got t s) (replies_in A h s) f))
 
   abbrev pub lawful_at : (h : List Entry) → IsEarlier h H → ResultsAreSerial r.world.values acts (K.kept h) → AreLawful r.world.shape.objects r.world.values acts (deliveries_of h)
-  lawful_at h b serial = served-lawful K keeps r H h b (earlier-served K r h H b legal) serial
+  lawful_at h b serial = legal-lawful K keeps r H h b (earlier-served K r h H b legal) serial
 
   pub well-after : (h : List Entry) → (b : IsEarlier h H) → (serial : ResultsAreSerial r.world.values acts (K.kept h)) → (t : List Event) → ((s : ℕ) → IsFront (got t s) (replies_in A h s)) →
       IsWell r.world.shape.objects r.world.values count A plain-acts (deliveries_of h) (lawful_at h b serial) t
@@ -127,7 +127,7 @@ module _ (K : Keeping) (keeps : IsKeeping K) (r : Rules) (H : List Entry) (count
       let one_more : length (got v s) ≡ length (got d.before s) + 1 = ap length (cond-true (s == s) _ _ (eq-eqb s s refl)) ∙ length-append (got d.before s) (reply ∷ []) in
       let front : IsFront (got v s) (replies_in A h s) =
       front-shorter (got v s) (replies_in A h s) (replies_in A H s)
-      (front-then (got v s) (got whole s) (replies_in A H s) (got-part who L.first v whole d.part s) (got-served K r H L served s))
+      (front-then (got v s) (got whole s) (replies_in A H s) (got-part who L.first v whole d.part s) (got-replied K r H L served s))
       (replies-earlier A h H earlier s) (omega arith) in
       let well = well-after h earlier before v (all-before K r H L served h earlier s reply d.before d.part front) in
       subst (AllByRecursion (IsSerialResult r.world.values acts)) (sym d.results_are) well.reported.0
@@ -137,7 +137,7 @@ module _ (K : Keeping) (keeps : IsKeeping K) (r : Rules) (H : List Entry) (count
       IsWell r.world.shape.objects r.world.values count A plain-acts (deliveries_of H) (lawful_at H same serial) (reverse L.events)
   whole-well serial L fits =
       let served : IsServed K r H L = record { keeps = keeps; legal = legal; fits = fits } in
-      well-after H same serial (reverse L.events) (got-served K r H L served)
+      well-after H same serial (reverse L.events) (got-replied K r H L served)
 
   pub reply-all-held : (s n : ℕ) (reply : Logged) (ds : List Delivery) → AreLawful r.world.shape.objects r.world.values acts (delivery_by s n reply ++ ds) →
       AreSerial r.world.values acts (reply_held reply) × AreLawful r.world.shape.objects r.world.values acts ds

@@ -19,10 +19,9 @@ use Rattle.sv_journal.specs.declared.entry.Logged.{Logged}
 use Rattle.sv_journal.specs.declared.entry.Logged.TheVariants as logged
 use Rattle.sv_journal.specs.History.{Authored, accepted, actions_of, is_noted, reports, result_at, commit_of, installed, either}
 use Rattle.sv_journal.specs.Sessions.{positions_in, sent_to, named_in, named_to, given_at, committed_writer, is_given, already_given}
-use Rattle.sv_journal.specs.Answer.{Rules, committed_held, Legal}
-use Rattle.sv_journal.specs.Serving.{Keeping, plain, LegalFor, with_results, IsKeeping}
+use Rattle.sv_journal.specs.Answer.{Rules, committed_held}
+use Rattle.sv_journal.specs.Serving.{Keeping, LegalFor, with_results, IsKeeping}
 use Rattle.sv_journal.proofs.Kept.{actions-kept, given-kept, commit_within-kept}
-use Rattle.sv_journal.proofs.Plain.{plain-keeping, plain-legal}
 use Rattle.sv_client.specs.Traces.{head_held}
 use Rattle.sv_system.specs.Serial.{AreSerial}
 use Rattle.sv_system.specs.Delivery.{Delivery, told_positions, head_objects, told_commits, known_at, known_values, IsLawful, AreLawful}
@@ -124,11 +123,11 @@ positions-within K keeps r e h l (logged.Refused code detail) is p m = absurd (t
 positions-within K keeps r e h l logged.Bye is p m = absurd (true≢false (sym m))
 
 -- Each position that was sent was accepted.
-pub served-within : (K : Keeping) (keeps : IsKeeping K) (r : Rules) (h : List Entry) → LegalFor K r h → (s p : ℕ) → is_in p (sent_to h s) ≡ true → p ≤ length (accepted h)
-served-within K keeps r [] l s p m = absurd (true≢false (sym m))
-served-within K keeps r (e ∷ h) l s p m =
+pub sent-within : (K : Keeping) (keeps : IsKeeping K) (r : Rules) (h : List Entry) → LegalFor K r h → (s p : ℕ) → is_in p (sent_to h s) ≡ true → p ≤ length (accepted h)
+sent-within K keeps r [] l s p m = absurd (true≢false (sym m))
+sent-within K keeps r (e ∷ h) l s p m =
     let grows : length (accepted h) ≤ length (accepted (e ∷ h)) = accepted-grows h (e ∷ h) (after e same) in
-    let before : is_in p (sent_to h s) ≡ true → p ≤ length (accepted (e ∷ h)) = λ n. (let b : p ≤ length (accepted h) = served-within K keeps r h l.1 s p n in omega arith) in
+    let before : is_in p (sent_to h s) ≡ true → p ≤ length (accepted (e ∷ h)) = λ n. (let b : p ≤ length (accepted h) = sent-within K keeps r h l.1 s p n in omega arith) in
     cond_both (e.session == s) (sent_to h s ++ positions_in e.reply) (sent_to h s) (λ (ks : List ℕ). is_in p ks ≡ true → p ≤ length (accepted (e ∷ h)))
     (λ f n. elim (is_in-append_cases p (sent_to h s) (positions_in e.reply) n) [ inl a ↦ before a | inr a ↦ positions-within K keeps r e h l e.reply refl p a ])
     (λ f n. before n)
@@ -205,7 +204,7 @@ module _ (K : Keeping) (keeps : IsKeeping K) (r : Rules) (H : List Entry) where
       ap₂ (λ (cs ps : List ℕ). cs ++ filter (λ p. is_in x (write_set (action_at acts p))) ps) (told-named h s x) (told-sent h s)
       ∙ ap (λ (ps : List ℕ). named_to h s x ++ ps)
       (filter-members (λ p. is_in x (write_set (action_at acts p))) (λ p. is_in x (write_set (action_at (actions_of h) p))) (sent_to h s)
-      (λ p m. ap (λ (a : Action). is_in x (write_set a)) (action_at-earlier h H b p (served-within K keeps r h l s p m))))
+      (λ p m. ap (λ (a : Action). is_in x (write_set a)) (action_at-earlier h H b p (sent-within K keeps r h l s p m))))
       ∙ sym (given-kept K keeps h s x)
 
   writer-earlier : (h : List Entry) → IsEarlier h H → (x : ℕ) → last_writer acts x (commit_of (K.kept h) + 1) ≡ committed_writer (K.kept h) x
@@ -299,13 +298,8 @@ module _ (K : Keeping) (keeps : IsKeeping K) (r : Rules) (H : List Entry) where
   one-lawful e h b l serial rest logged.Bye is = rest
 
   -- The deliveries of an earlier history are lawful, among the actions that were accepted at last.
-  pub served-lawful : (h : List Entry) → IsEarlier h H → LegalFor K r h → ResultsAreSerial opening acts (K.kept h) → AreLawful r.world.shape.objects opening acts (deliveries_of h)
-  served-lawful [] b l serial = tt
-  served-lawful (e ∷ h) b l serial =
+  pub legal-lawful : (h : List Entry) → IsEarlier h H → LegalFor K r h → ResultsAreSerial opening acts (K.kept h) → AreLawful r.world.shape.objects opening acts (deliveries_of h)
+  legal-lawful [] b l serial = tt
+  legal-lawful (e ∷ h) b l serial =
       let before : ResultsAreSerial opening acts (K.kept h) = results-earlier K keeps opening acts e h serial in
-      one-lawful e h b l before (served-lawful h (earlier-rest h e H b) l.1 before) e.reply refl
-
--- ---- A server that trusts its clients
-
-pub sent-within : (r : Rules) (h : List Entry) → Legal r h → (s p : ℕ) → is_in p (sent_to h s) ≡ true → p ≤ length (accepted h)
-sent-within r h l s p m = served-within plain plain-keeping r h (plain-legal r h l) s p m
+      one-lawful e h b l before (legal-lawful h (earlier-rest h e H b) l.1 before) e.reply refl

@@ -20,7 +20,7 @@ use Rattle.sv_system.specs.Fits.{replies_in, Fits}
 use Rattle.sv_system.specs.Served.{OwnsSessions}
 use Rattle.sv_system.proofs.Histories.{IsEarlier, earlier-rest, earlier-served, actions-count, kept-is}
 use Rattle.sv_system.proofs.Replies.{TellsFor, IsRelayReply, new_of, served-tells}
-use Rattle.sv_system.proofs.Lawful.{served-within}
+use Rattle.sv_system.proofs.Lawful.{sent-within}
 use Rattle.sv_system.proofs.Entered.{is_of, of-parts, entered}
 use Rattle.sv_system.proofs.Asking.{IsServed}
 use Rattle.sv_system.proofs.Opened.{has, session-client}
@@ -58,7 +58,7 @@ module _ (K : Keeping) (r : Rules) (H : List Entry) (L : Trace) (served : IsServ
               never-sent K r H L served owns s current e g b mine next z.0 z.1.0 z.1.1.0 t.target
               (acceptance-of g L.client.0 z.0 t.target (kept-is g L.client.0 z.0 (Accepted t.target) (subst (λ (c : ℕ). kept_outcome g c z.0 ≡ Some (Accepted t.target)) own kept))) m
           | inr fresh ↦
-              (let within : t.target ≤ length (accepted g) = served-within K keeps r g (earlier-served K r g H earlier legal) s t.target m in
+              (let within : t.target ≤ length (accepted g) = sent-within K keeps r g (earlier-served K r g H earlier legal) s t.target m in
               let count : length (actions_of g) ≡ length (accepted g) = actions-count g in
               let place : t.target ≡ suc (length (actions_of g)) = fresh.1.0 in
               absurd (omega arith))

@@ -35,7 +35,7 @@ use Rattle.sv_system.proofs.Entered.{is_of, of-parts, of-from, as-many, replies-
 use Rattle.sv_system.proofs.Asking.{IsServed, is_done, asked-there}
 use Rattle.sv_system.proofs.Asked.{all, part-rest, asked-part, got-when, got-answers, current-last, current-joined}
 use Rattle.sv_system.proofs.Leaving.{IsJoinAsked, join-asked, leave-last}
-use Rattle.sv_system.proofs.Order.{get-some, never-refused, got-served, joined-has, welcome-legal}
+use Rattle.sv_system.proofs.Order.{get-some, never-refused, got-replied, joined-has, welcome-legal}
 
 -- ---- Where a session's client comes from
 
@@ -247,7 +247,7 @@ module _ (K : Keeping) (r : Rules) (H : List Entry) (L : Trace) (served : IsServ
         let there : slice_get (replies_in A (d ∷ h) s) m ≡ Some (full_reply A d.reply) =
         ap (λ (l : List Reply). slice_get l m) (cond-true (is_of d s) _ _ t) ∙ get-last (replies_in A h s) (full_reply A d.reply) in
         let full : slice_get (replies_in A H s) m ≡ Some (full_reply A d.reply) = replies-earlier A (d ∷ h) H (earlier-then (d ∷ h) g H c earlier) s m (full_reply A d.reply) there in
-        found.1 ∙ ap Some (same_Some found.0 (full_reply A d.reply) (sym (got-served K r H L served s m found.0 found.1) ∙ full))
+        found.1 ∙ ap Some (same_Some found.0 (full_reply A d.reply) (sym (got-replied K r H L served s m found.0 found.1) ∙ full))
 
     not-left : (d : Entry) (h : List Entry) → IsEarlier (d ∷ h) g → is_of d s ≡ true → is_last d.reply ≡ true → ⊥
     not-left d h c t last =

@@ -17,9 +17,8 @@ use Rattle.sv_journal.specs.declared.entry.Logged.{Logged}
 use Rattle.sv_journal.specs.declared.entry.Logged.TheVariants as logged
 use Rattle.sv_journal.specs.History.{Authored, accepted, client_of, joining, full_reply}
 use Rattle.sv_journal.specs.Sessions.{is_over, life_in, life_of}
-use Rattle.sv_journal.specs.Answer.{Rules, refused, Legal}
-use Rattle.sv_journal.specs.Serving.{Keeping, plain, LegalFor, IsKeeping}
-use Rattle.sv_journal.proofs.Plain.{plain-keeping, plain-legal}
+use Rattle.sv_journal.specs.Answer.{Rules, refused}
+use Rattle.sv_journal.specs.Serving.{Keeping, LegalFor, IsKeeping}
 use Rattle.sv_client.specs.declared.trace.Event.{Event}
 use Rattle.sv_client.specs.declared.trace.Event.TheVariants as events
 use Rattle.sv_client.specs.declared.trace.Trace.{Trace}
@@ -27,14 +26,14 @@ use Rattle.sv_client.specs.Traces.{joins, asked, got}
 use Rattle.sv_client.specs.Taking.{Identity, allows}
 use Rattle.sv_client.specs.Proper.{AreProper, identity_of}
 use Rattle.sv_system.specs.Fronts.{IsFront}
-use Rattle.sv_system.specs.Fits.{requests_in, replies_in, is_join_of, has_session, FitsOne}
+use Rattle.sv_system.specs.Fits.{requests_in, replies_in, is_join_of, has_session}
 use Rattle.sv_system.specs.Served.{FitsButValues}
 use Rattle.sv_system.proofs.Fronts.{front-then}
 use Rattle.sv_system.proofs.Histories.{IsEarlier, same, after, earlier-then, earlier-served}
 use Rattle.sv_system.proofs.Replies.{TellsFor, IsWelcomeReply, over-refused, served-tells}
 use Rattle.sv_system.proofs.Replied.{front-shorter}
 use Rattle.sv_system.proofs.Entered.{earlier-cases, is_of, of-parts, as-many, replies-earlier, front-length, request-there, entered, client-stays, over-stays, life-grows, IsWelcome, welcome-life, welcome-over, welcome-client}
-use Rattle.sv_system.proofs.Asking.{IsServed, entered-as, fits-but_values}
+use Rattle.sv_system.proofs.Asking.{IsServed, entered-as}
 use Rattle.sv_system.proofs.Asked.{IsPart, part-rest, asked-part, proper-part, got-part, got-when, got-answers, may-answer, IsBegun, begun-or_not, current-last, current-joined, any-part, any-reverse}
 
 pub get-some : {X : Type 0} (xs : List X) (i : ℕ) → i < length xs → (x : X) × (slice_get xs i ≡ Some x)
@@ -102,8 +101,8 @@ module _ (K : Keeping) (r : Rules) (H : List Entry) (L : Trace) (served : IsServ
       joined-has g.before (part-rest g.before (events.Got s reply) whole g.part) s (current-joined g.before s a.current)
 
   -- What the trace got in any session is a front of the session's replies.
-  pub got-served : (s : ℕ) → IsFront (got whole s) (replies_in A H s)
-  got-served s n reply is = (fits.sessions s (got-has s n reply is)).got n reply is
+  pub got-replied : (s : ℕ) → IsFront (got whole s) (replies_in A H s)
+  got-replied s n reply is = (fits.sessions s (got-has s n reply is)).got n reply is
 
   -- A session in which a reply was got was welcomed with the life that its number tells.
   pub record IsWelcomed (h : List Entry) (s : ℕ) : Type 0 where
@@ -209,7 +208,7 @@ module _ (K : Keeping) (r : Rules) (H : List Entry) (L : Trace) (served : IsServ
   all-before h b s reply t part front o =
       let v : List Event = events.Got s reply ∷ t in
       let proper : AreProper who L.first v = proper-part who L.first v whole part fits.proper.events in
-      let full : IsFront (got v o) (replies_in A H o) = front-then (got v o) (got whole o) (replies_in A H o) (got-part who L.first v whole part o) (got-served o) in
+      let full : IsFront (got v o) (replies_in A H o) = front-then (got v o) (got whole o) (replies_in A H o) (got-part who L.first v whole part o) (got-replied o) in
       elim (cases_eq o s) [
         | inl e ↦ subst (λ (n : ℕ). IsFront (got v n) (replies_in A h n)) (sym e) front
         | inr e ↦ elim (cases_lt (length (replies_in A h o)) (length (got v o))) [
@@ -250,9 +249,3 @@ module _ (K : Keeping) (r : Rules) (H : List Entry) (L : Trace) (served : IsServ
               | inr d ↦ got-not_over o m late.0 late_whole i.entry i.before i.earlier i.of_it i.replied (over-stays h i.before d o over')
             ]
           ]
-
--- ---- A server that trusts its clients
-
-pub got-replied : (r : Rules) (H : List Entry) → Legal r H → (L : Trace) → FitsOne r.world.shape H L → (s : ℕ) → IsFront (got (reverse L.events) s) (replies_in (accepted H) H s)
-got-replied r H legal L one =
-    got-served plain r H L (record { keeps = plain-keeping; legal = plain-legal r H legal; fits = fits-but_values r.world.shape H L one })

@@ -42,7 +42,7 @@ use Rattle.sv_system.proofs.Asking.{IsServed}
 use Rattle.sv_system.proofs.Lawful.{IsLegalRelay, legal-relay, objects-named}
 use Rattle.sv_system.proofs.Entered.{is_of, replies-earlier}
 use Rattle.sv_system.proofs.Asked.{all}
-use Rattle.sv_system.proofs.Order.{got-served}
+use Rattle.sv_system.proofs.Order.{got-replied}
 use Rattle.sv_system.proofs.Induction.{well-after}
 use Rattle.sv_system.proofs.Begun.{join-welcomed}
 use Rattle.sv_system.proofs.Before.{noted-commit, got-same, told-before}
@@ -174,7 +174,7 @@ module _ (K : Keeping) (r : Rules) (H : List Entry) (L : Trace) (served : IsServ
   with-next o =
       let reply = full_reply A e.reply in
       elim (cases_eq s o) [
-        | inr n ↦ subst (λ (xs : List Reply). IsFront xs (replies_in A H o)) (sym (cond-false (s == o) (got whole o ++ reply ∷ []) (got whole o) (ne_eqb s o n))) (got-served K r H L served o)
+        | inr n ↦ subst (λ (xs : List Reply). IsFront xs (replies_in A H o)) (sym (cond-false (s == o) (got whole o ++ reply ∷ []) (got whole o) (ne_eqb s o n))) (got-replied K r H L served o)
         | inl q ↦ subst (λ (m : ℕ). IsFront (got (events.Got s reply ∷ whole) m) (replies_in A H m)) q
             (subst (λ (xs : List Reply). IsFront xs (replies_in A H s))
             (sym (cond-true (s == s) (got whole s ++ reply ∷ []) (got whole s) (eq-eqb s s refl) ∙ ap (λ (xs : List Reply). xs ++ reply ∷ []) (got-same K r H L served owns s current few e g b mine next)))

@@ -150,7 +150,7 @@ module _ (K : Keeping) (keeps : IsKeeping K) (r : Rules) (h : List Entry) (s : �
 
   pub reply-tells : (q : Request) → TellsFor K r h s q (reply_for K r h s q)
   reply-tells q = each_row K keeps r h s (TellsFor K r h s q) q (record {
-    refusal = λ code detail some few. tt;
+    refusal = λ code detail some few told. tt;
     bye = tt;
     welcome = λ client life interest asked open_still live later good. record {
       client = client;
@@ -163,7 +163,8 @@ module _ (K : Keeping) (keeps : IsKeeping K) (r : Rules) (h : List Entry) (s : �
       commit_is = refl;
       head_is = refl;
     };
-    dropped = λ k seq a chain far client asked is. (k, (client, (a, (asked, elim is [ | inl kept ↦ inl (Dropped chain far, kept) | inr next ↦ inr next ]))));
+    dropped = λ k seq a client asked next good. (k, (client, (a, (asked, inr next))));
+    dropped_again = λ k seq a chain far client asked is. (k, (client, (a, (asked, inl (Dropped chain far, is)))));
     settled = λ k seq p a client asked is. (k, (client, (a, (asked, (Accepted p, is)))));
     fresh = λ k seq a client asked next good few. new-relay k seq a q client asked next good few;
     again = λ k seq p a client asked is above.
