@@ -1,8 +1,7 @@
 -- A trace that fits the journal of a server but for the values that its Dones report: its other requests are those that it asked.
-use Rattle.std.proofs.Common.{◌≡◌, ℕ, ◌==◌, Bool, true, false, ◌||◌, ◌&&◌, not, nat_lt, List, [], ◌∷◌, map, length, ℤ, Some, slice_get, refl, sym, ap, ap₂, ◌∙◌, true≢false}
+use Rattle.std.proofs.Common.{◌≡◌, ℕ, ◌==◌, Bool, true, false, ◌||◌, ◌&&◌, not, nat_lt, List, [], ◌∷◌, map, length, ℤ, Some, slice_get, refl, sym, ap, ap₂, ◌∙◌, true≢false, subst}
 use Rattle.std.specs.List.{list_any, list_all}
 use Rattle.std.proofs.lemmas.List.{length-map}
-use Rattle.std.proofs.lemmas.List.Elements.{All-from_recursion, recursion_from_All}
 use Rattle.std.proofs.lemmas.Option.{same_Some}
 use Rattle.sv_world.specs.declared.world.Shape.{Shape}
 use Rattle.sv_world.specs.Control.{is_in, action_at}
@@ -22,7 +21,7 @@ use Rattle.sv_journal.specs.Serving.{Keeping, LegalFor, IsKeeping}
 use Rattle.sv_client.specs.declared.trace.Trace.{Trace}
 use Rattle.sv_client.specs.Traces.{requests_of}
 use Rattle.sv_client.specs.Taking.{Identity, allows, has_bad_item}
-use Rattle.sv_system.specs.Fits.{requests_in, has_session, FitsIn, FitsOne}
+use Rattle.sv_system.specs.Fits.{requests_in, FitsIn, FitsOne}
 use Rattle.sv_system.specs.Served.{HaveSameForm, AreSameButValues, FitsInButValues, FitsButValues}
 
 -- A journal that is legal for a keeping, and a trace that fits it but for the values that its Dones report.

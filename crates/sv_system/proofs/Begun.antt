@@ -1,5 +1,5 @@
 -- A client's Join is answered Welcome, and what it got in older sessions was answered before its next request.
-use Rattle.std.proofs.Common.{◌≡◌, ℕ, suc, ◌+◌, ◌<◌, ◌≤◌, max, true, false, ◌&&◌, not, nat_le, nat_lt, inl, inr, List, [], ◌∷◌, map, reverse, length, Option, Some, None, is_some, slice_get, refl, sym, ap, ap₂, ◌∙◌, arith, eqb-true, true≢false, lt-ltb, le-leb}
+use Rattle.std.proofs.Common.{◌≡◌, ℕ, suc, ◌+◌, ◌<◌, ◌≤◌, max, true, false, ◌&&◌, not, nat_le, nat_lt, inl, inr, List, [], ◌∷◌, map, reverse, length, Option, Some, None, is_some, refl, sym, ap, ap₂, ◌∙◌, arith, eqb-true, true≢false, lt-ltb, le-leb, subst}
 use Rattle.std.specs.List.{list_all, AllByRecursion}
 use Rattle.std.proofs.lemmas.Bool.{cond-true, cond-false, cases_Bool, cases_lt, and_parts, and_from, and_left, lt-leb}
 use Rattle.std.proofs.lemmas.List.{length-append, length-map}

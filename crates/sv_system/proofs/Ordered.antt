@@ -1,5 +1,5 @@
 -- The next reply to a client is in order, and brings each value that its items read.
-use Rattle.std.proofs.Common.{◌≡◌, ℕ, ◌<◌, ◌≤◌, Bool, true, false, not, ◌||◌, ◌==◌, inl, inr, List, [], ◌∷◌, ◌++◌, map, reverse, length, Option, Some, None, option_map, is_none, slice_get, refl, sym, ap, ◌∙◌, subst, arith, eq-eqb, true≢false, le-ltb}
+use Rattle.std.proofs.Common.{◌≡◌, ℕ, ◌<◌, ◌≤◌, Bool, true, false, not, ◌||◌, ◌==◌, inl, inr, List, [], ◌∷◌, ◌++◌, map, reverse, length, Option, Some, None, option_map, is_none, refl, sym, ap, ◌∙◌, subst, arith, eq-eqb, true≢false, le-ltb}
 use Rattle.std.specs.List.{AllByRecursion}
 use Rattle.std.proofs.lemmas.Bool.{cond-true, cond-false, cases_eq, lt-leb, not_from_true, ne_eqb}
 use Rattle.std.proofs.lemmas.List.Elements.{recursion_from_All}

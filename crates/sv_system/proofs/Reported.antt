@@ -9,7 +9,6 @@ use Rattle.sv_world.specs.declared.action.Action.{Action}
 use Rattle.sv_world.proofs.Ascending.{ascending-tail}
 use Rattle.sv_eval.specs.Evaluation.{outcome_of}
 use Rattle.sv_versions.specs.Held.{Held, read_below}
-use Rattle.sv_wire.specs.declared.message.Done1.{Done1}
 use Rattle.sv_journal.specs.History.{Authored, item_at}
 use Rattle.sv_client.specs.Traces.{item_result, item_held, results_of}
 use Rattle.sv_system.specs.Serial.{IsSerial, AreSerial, is_covered}
