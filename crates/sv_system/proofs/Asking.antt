@@ -165,7 +165,7 @@ module _ (r : Rules) (g : List Entry) (s : ℕ) where
   form-of : (d : Done1) → is_bad_result r g s d ≡ bad_form d.pos (map (λ (v : List ℤ). length v) d.values)
   form-of d =
       ap₂ (λ (n : ℕ) (b : Bool). d.pos == 0 || nat_lt (length (accepted g)) d.pos || (nat_lt (commit_of g) d.pos && (not (is_in d.pos (sent_to g s))
-          || not (n == length (write_set (action_at (actions_of g) d.pos))) || not b)))
+      || not (n == length (write_set (action_at (actions_of g) d.pos))) || not b)))
       (sym (length-map d.values (λ (v : List ℤ). length v))) (lengths-of r.world.shape.attrs d.values)
 
   results-form : (xs ys : List Done1) → HaveSameForm xs ys → list_any (is_bad_result r g s) xs ≡ list_any (is_bad_result r g s) ys
