@@ -1,35 +1,33 @@
 -- Each action of a client that left has one outcome.
-use Rattle.std.proofs.Common.{◌≡◌, ℕ, zero, suc, ◌+◌, ◌<◌, ◌≤◌, Bool, true, false, ◌&&◌, ◌||◌, ◌==◌, ◌⊎◌, inl, inr, List, [], ◌∷◌, ◌++◌, map, drop, reverse, length, Option, Some, None, All, slice_get, refl, sym, ap, ◌∙◌, subst, arith, eqb-true, eq-eqb, true≢false}
+use Rattle.std.proofs.Common.{◌≡◌, ℕ, zero, suc, ◌+◌, ◌<◌, ◌≤◌, Bool, true, false, ◌==◌, inl, inr, List, [], ◌∷◌, ◌++◌, drop, reverse, length, Option, Some, None, slice_get, refl, sym, ap, ◌∙◌, subst, arith, eq-eqb, true≢false}
 use Rattle.std.specs.Prelude.{if◌then◌else◌}
 use Rattle.std.specs.List.{list_any}
 use Rattle.std.proofs.lemmas.Bool.{cond-true, cond-false, cases_Bool}
 use Rattle.std.proofs.lemmas.List.{length-append}
-use Rattle.std.proofs.lemmas.Option.{none-some, same_Some}
-use Rattle.sv_world.specs.declared.action.Action.{Action}
-use Rattle.sv_pending.specs.Pending.{PendingAction, redone}
+use Rattle.std.proofs.lemmas.Option.{none-some}
+use Rattle.sv_pending.specs.Pending.{PendingAction}
 use Rattle.sv_versions.specs.Held.{Held}
-use Rattle.sv_wire.specs.declared.message.Done1.{Done1}
 use Rattle.sv_wire.specs.declared.message.Request.{Request}
 use Rattle.sv_wire.specs.declared.message.Request.TheVariants as requests
 use Rattle.sv_wire.specs.declared.message.Reply.{Reply}
 use Rattle.sv_wire.specs.declared.message.Reply.TheVariants as replies
 use Rattle.sv_journal.specs.declared.entry.Entry.{Entry}
-use Rattle.sv_journal.specs.History.{Authored, Outcome, accepted, client_of, outcomes_of, next_seq}
+use Rattle.sv_journal.specs.History.{Authored, accepted, client_of, outcomes_of, next_seq}
 use Rattle.sv_journal.specs.Sessions.{is_end}
 use Rattle.sv_journal.specs.Answer.{Rules}
 use Rattle.sv_journal.specs.Serving.{Keeping, LegalFor, IsKeeping}
 use Rattle.sv_client.specs.declared.trace.Event.{Event}
 use Rattle.sv_client.specs.declared.trace.Event.TheVariants as events
 use Rattle.sv_client.specs.declared.trace.Trace.{Trace}
-use Rattle.sv_client.specs.Traces.{makes, current_session, held_of, with_reply, results_of, last_values, are_same, settled_by, without_front, pending_with, pending_of, asked_by, asked, got}
+use Rattle.sv_client.specs.Traces.{makes, current_session, held_of, with_reply, pending_with, pending_of, asked, got}
 use Rattle.sv_client.specs.Taking.{Identity, outstanding, unanswered, allows}
-use Rattle.sv_client.specs.Proper.{AreProper, MayLeave, in_session, identity_of}
+use Rattle.sv_client.specs.Proper.{AreProper, in_session, identity_of}
 use Rattle.sv_script.specs.Following.{is_finished}
 use Rattle.sv_system.specs.Outcomes.{is_quit, HasOutcomes}
 use Rattle.sv_system.specs.Fits.{requests_in, has_session}
 use Rattle.sv_system.specs.Served.{OwnsSessions, FitsButValues}
 use Rattle.sv_system.proofs.Fronts.{get-last}
-use Rattle.sv_system.proofs.Histories.{IsEarlier, same, earlier-then, earlier-rest, earlier-served}
+use Rattle.sv_system.proofs.Histories.{earlier-rest, earlier-served}
 use Rattle.sv_system.proofs.Commits.{next-grows, outcome-when}
 use Rattle.sv_system.proofs.Entered.{of-parts, of-from, as-many, request-there, entered}
 use Rattle.sv_system.proofs.Asked.{IsPart, all, part-rest, asked-part, got-part, proper-part, may-answer, current-joined, any-reverse}

@@ -290,9 +290,9 @@ module _ (K : Keeping) (r : Rules) (H : List Entry) (L : Trace) (served : IsServ
         low.1 j m,
         (
           (let w : j ≤ length (accepted (x.entry ∷ x.before)) = positions-within K keeps r x.entry x.before lx x.entry.reply refl j m in
-          let grows : length (accepted (x.entry ∷ x.before)) ≤ length (accepted g) = accepted-grows (x.entry ∷ x.before) g x.there in
-          let all : length (accepted (K.kept g)) ≡ length (accepted g) = ap length (accepted-kept K keeps g) in
-          omega arith),
+              let grows : length (accepted (x.entry ∷ x.before)) ≤ length (accepted g) = accepted-grows (x.entry ∷ x.before) g x.there in
+              let all : length (accepted (K.kept g)) ≡ length (accepted g) = ap length (accepted-kept K keeps g) in
+              omega arith),
           ap (is_in j) (sent-kept K keeps g s) ∙ sent-stays (x.entry ∷ x.before) g x.there s j (sent-now x.entry x.before s j session m),
         ),
       ))

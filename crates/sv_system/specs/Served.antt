@@ -43,7 +43,7 @@ OwnsSessions h L = (s : ℕ) → client_of h s ≡ Some L.client.0 → has_sessi
 abbrev pub HaveSameForm : List Done1 → List Done1 → Type 0
 HaveSameForm [] [] = Unit {0}
 HaveSameForm (x ∷ xs) (y ∷ ys) =
-    (x.pos ≡ y.pos) × (map (λ (v : List ℤ). length v) x.values ≡ map (λ (v : List ℤ). length v) y.values) × HaveSameForm xs ys
+    (x.pos ≡ y.pos) × ((map (λ (v : List ℤ). length v) x.values ≡ map (λ (v : List ℤ). length v) y.values) × HaveSameForm xs ys)
 HaveSameForm _ _ = ⊥
 
 -- The second request is the first one, but for the values that a Done reports.

@@ -1,4 +1,4 @@
-use Rattle.std.proofs.Common.{◌⊎◌, inl, inr, ◌≡◌, ℕ, Bool, true, false, ◌<◌, List, reverse, Option, Some, None, slice_get, sym, ap, ◌∙◌, true≢false}
+use Rattle.std.proofs.Common.{inl, inr, ◌≡◌, ℕ, true, false, ◌<◌, List, Option, None, sym, ap, ◌∙◌, true≢false}
 use Rattle.sv_world.specs.declared.action.Action.{Action}
 use Rattle.sv_journal.specs.declared.entry.Entry.{Entry}
 use Rattle.sv_journal.specs.Answer.{Rules, is_over_reach}

@@ -7,5 +7,5 @@ use Rattle.sv_system.proofs.truth.committed_world_is_serial.Goals as goal
 
 pub returns : goal.returns
 returns c = record {
-  world = λ r h Ls count legal fits. committed-serial plain plain-keeping r h count (plain-legal r h legal) (noted-serial r h Ls count legal fits) h same
+  world = λ r h Ls count legal fits. committed-serial plain plain-keeping r h count (plain-legal r h legal) (noted-serial r h Ls count legal fits) h same;
 }
