@@ -11,3 +11,5 @@ mod Listed
 mod Noted
 mod DuePositions
 mod Routes
+pub mod Values
+mod Forms
