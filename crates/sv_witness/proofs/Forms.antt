@@ -28,7 +28,7 @@ use Rattle.sv_witness.specs.declared.report.Report.{Report}
 use Rattle.sv_witness.specs.Reports.{reports_of, agreed_history, due_to}
 use Rattle.sv_witness.specs.Witnessed.{with_last_rows, witnessed_reply, IsWitnessed}
 use Rattle.sv_witness.specs.Agreement.{IsAmong}
-use Rattle.sv_witness.specs.Honesty.{NoneGiveNone}
+use Rattle.sv_witness.specs.Honesty.{IsReported, NoneGiveNone}
 use Rattle.sv_witness.proofs.Honest.{report-reported, entry-earlier}
 use Rattle.sv_witness.proofs.Routes.{noted-may}
 use Rattle.sv_witness.proofs.Same.{accepted-agreed}
@@ -111,6 +111,7 @@ report-form r h legal p x m =
     form.count ∙ ap (λ (A : List Authored). length (write_set (action_at (map (λ (a : Authored). a.action) A) p))) (accepted-agreed b)
     ∙ ap (λ (a : Action). length (write_set a)) (sym (action_at-earlier b h (earlier-rest b e h part) p top))
   where
+    i : IsReported h p x
     i = report-reported h p x m
 
     e : Entry

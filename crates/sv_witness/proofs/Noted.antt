@@ -59,11 +59,11 @@ keeps-quiet rows e h quiet kept p above =
 new-few : (client : Option ℕ) (next : ℕ → ℕ) (q : Request) (b : Bool) → length (if b then new_action client next q else []) ≤ 1
 new-few client next q false = omega arith
 new-few None next q true = omega arith
-new-few (Some k) next (requests.Submit seq a) true = go (seq == next k)
+new-few (Some k) next (requests.Submit seq a) true = go (seq == next k) (record { client = k; seq = seq; action = a })
   where
-    go : (b : Bool) → length (if b then record { client = k; seq = seq; action = a } ∷ [] else []) ≤ 1
-    go true = omega arith
-    go false = omega arith
+    go : (b : Bool) (x : Authored) → length (if b then x ∷ [] else []) ≤ 1
+    go true x = omega arith
+    go false x = omega arith
 new-few (Some k) next (requests.Join client life interest) true = omega arith
 new-few (Some k) next (requests.Done results) true = omega arith
 new-few (Some k) next requests.Poll true = omega arith
