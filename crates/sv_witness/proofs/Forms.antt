@@ -26,7 +26,8 @@ use Rattle.sv_system.specs.Journals.{serial_result}
 use Rattle.sv_system.proofs.Histories.{IsEarlier, same, after, earlier-rest, action_at-earlier}
 use Rattle.sv_witness.specs.declared.report.Report.{Report}
 use Rattle.sv_witness.specs.Reports.{reports_of, agreed_history, due_to}
-use Rattle.sv_witness.specs.Witnessed.{with_last_rows, witnessed_reply, IsWitnessed}
+use Rattle.sv_journal.specs.Serving.{with_last_rows}
+use Rattle.sv_witness.specs.Witnessed.{agreed, witnessed_reply, IsWitnessed}
 use Rattle.sv_witness.specs.Agreement.{IsAmong}
 use Rattle.sv_witness.specs.Honesty.{IsReported, NoneGiveNone}
 use Rattle.sv_witness.proofs.Honest.{report-reported, entry-earlier}
@@ -39,7 +40,7 @@ polled-quiet : (r : Rules) (h : List Entry) (s : ℕ) (ps : List ℕ) → is_not
 polled-quiet r h s [] = refl
 polled-quiet r h s (p ∷ ps) = refl
 
-pub done-noted : (r : Rules) (h : List Entry) (s : ℕ) (results : List Done1) (w : Logged) → is_noted (with_last_rows r h s (requests.Done results) w) ≡ true → is_noted w ≡ true
+pub done-noted : (r : Rules) (h : List Entry) (s : ℕ) (results : List Done1) (w : Logged) → is_noted (with_last_rows agreed r h s (requests.Done results) w) ≡ true → is_noted w ≡ true
 done-noted r h s results (logged.Noted commit) e = refl
 done-noted r h s results (logged.Welcome commit head) e = e
 done-noted r h s results (logged.Relay seq commit head positions) e = e
@@ -126,7 +127,7 @@ report-form r h legal p x m =
     d : IsDoneOf p e.request x.values
     d = done-of p e.request x.values i.given
 
-    noted : is_noted (with_last_rows r b e.session (requests.Done d.results) (reply_to_request r (agreed_history b) e.session (requests.Done d.results))) ≡ true
+    noted : is_noted (with_last_rows agreed r b e.session (requests.Done d.results) (reply_to_request r (agreed_history b) e.session (requests.Done d.results))) ≡ true
     noted = sym (ap is_noted (witnessed-at r e b h part legal ∙ ap (λ (q : Request). witnessed_reply r b e.session q) d.done)) ∙ i.noted
 
     good : list_any (is_bad_result r (agreed_history b) e.session) d.results ≡ false

@@ -18,7 +18,8 @@ use Rattle.sv_system.proofs.Commits.{commit-grows}
 use Rattle.sv_system.proofs.Histories.{IsEarlier, same, after}
 use Rattle.sv_witness.specs.declared.report.Report.{Report}
 use Rattle.sv_witness.specs.declared.report.Dispute.{Dispute}
-use Rattle.sv_witness.specs.Reports.{is_by, gives, with_report, counted_in, is_nothing, agreed_values, brings_agreement, with_results, reports_of, agreed_history, agreed_result, agreed_commit}
+use Rattle.sv_journal.specs.Serving.{with_results}
+use Rattle.sv_witness.specs.Reports.{is_by, gives, with_report, counted_in, is_nothing, agreed_values, brings_agreement, reports_of, agreed_history, agreed_result, agreed_commit}
 use Rattle.sv_witness.specs.Disputes.{first_report, dispute_about, disputes_of, dispute_in, with_disputes}
 use Rattle.sv_witness.specs.Kept.{RowView, kept_at, KeepsReports, report_by, counts, counted_results, AreOnce, with_values, agrees, brings, agreed_results, new_disputes}
 use Rattle.sv_witness.proofs.Agreed.{reported-filter, without, either-none}
