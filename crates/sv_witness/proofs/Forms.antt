@@ -54,12 +54,12 @@ witnessed-at : (r : Rules) (e : Entry) (b whole : List Entry) → IsEarlier (e �
 witnessed-at r e b whole same l = l.0
 witnessed-at r e b whole (after {g} d m) l = witnessed-at r e b g m l.1
 
-record IsDoneOf (p : ℕ) (q : Request) (vs : List (List ℤ)) : Type 0 where
+pub record IsDoneOf (p : ℕ) (q : Request) (vs : List (List ℤ)) : Type 0 where
   pub results : List Done1
   pub done : q ≡ requests.Done results
   pub given : reported p results ≡ Some vs
 
-done-of : (p : ℕ) (q : Request) (vs : List (List ℤ)) → reports p q ≡ Some vs → IsDoneOf p q vs
+pub done-of : (p : ℕ) (q : Request) (vs : List (List ℤ)) → reports p q ≡ Some vs → IsDoneOf p q vs
 done-of p (requests.Done results) vs is = record { results = results; done = refl; given = is }
 done-of p (requests.Join client life interest) vs is = absurd (none-some vs is)
 done-of p (requests.Submit seq a) vs is = absurd (none-some vs is)

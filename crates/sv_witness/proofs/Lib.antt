@@ -13,3 +13,5 @@ mod DuePositions
 mod Routes
 pub mod Values
 mod Forms
+pub mod Tolerated
+mod Lying
