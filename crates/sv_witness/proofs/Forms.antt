@@ -1,6 +1,6 @@
 -- Each report has as many values as its position's action writes, since a noted Done is not bad. So one without values is of an action that
 -- writes nothing, and what the serial execution gives there is nothing too.
-use Rattle.std.proofs.Common.{◌≡◌, ℕ, zero, suc, ◌<◌, ◌≤◌, Bool, true, false, ◌&&◌, ◌||◌, not, ◌==◌, nat_lt, List, [], ◌∷◌, map, length, ℤ, Option, Some, None, refl, sym, ap, ◌∙◌, subst, arith, true≢false}
+use Rattle.std.proofs.Common.{◌≡◌, ℕ, zero, suc, ◌<◌, ◌≤◌, Bool, true, false, ◌&&◌, ◌||◌, not, ◌==◌, nat_lt, List, [], ◌∷◌, map, length, ℤ, Some, refl, sym, ap, ◌∙◌, subst, arith, true≢false}
 use Rattle.std.specs.Prelude.{if◌then◌else◌}
 use Rattle.std.specs.List.{list_any, list_all}
 use Rattle.std.proofs.lemmas.Bool.{or_parts, ltb-false, lt-ltb, not-false, eqb-true}
@@ -21,7 +21,7 @@ use Rattle.sv_journal.specs.declared.entry.Logged.{Logged}
 use Rattle.sv_journal.specs.declared.entry.Logged.TheVariants as logged
 use Rattle.sv_journal.specs.History.{Authored, is_noted, accepted, actions_of, reported, reports, commit_of}
 use Rattle.sv_journal.specs.Sessions.{sent_to}
-use Rattle.sv_journal.specs.Answer.{Rules, is_bad_result, is_bad_done, reply_to_poll, reply_to_request}
+use Rattle.sv_journal.specs.Answer.{Rules, is_bad_result, reply_to_poll, reply_to_request}
 use Rattle.sv_system.specs.Journals.{serial_result}
 use Rattle.sv_system.proofs.Histories.{IsEarlier, same, after, earlier-rest, action_at-earlier}
 use Rattle.sv_witness.specs.declared.report.Report.{Report}
@@ -50,7 +50,7 @@ done-noted r h s results logged.Idle e = absurd (true≢false (sym e ∙ polled-
 done-noted r h s results (logged.Refused code detail) e = e
 done-noted r h s results logged.Bye e = e
 
-witnessed-at : (r : Rules) (e : Entry) (b whole : List Entry) → IsEarlier (e ∷ b) whole → IsWitnessed r whole → e.reply ≡ witnessed_reply r b e.session e.request
+pub witnessed-at : (r : Rules) (e : Entry) (b whole : List Entry) → IsEarlier (e ∷ b) whole → IsWitnessed r whole → e.reply ≡ witnessed_reply r b e.session e.request
 witnessed-at r e b whole same l = l.0
 witnessed-at r e b whole (after {g} d m) l = witnessed-at r e b g m l.1
 

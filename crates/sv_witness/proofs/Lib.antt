@@ -15,3 +15,4 @@ pub mod Values
 mod Forms
 pub mod Tolerated
 mod Lying
+mod Calm

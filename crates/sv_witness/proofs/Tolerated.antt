@@ -1,7 +1,6 @@
 -- One lying client is tolerated: honest clients report what the serial execution gives, and nothing is agreed without one of them, so all that is
 -- agreed is that, whatever the liar reports.
-use Rattle.std.proofs.Common.{◌≡◌, ℕ, ◌<◌, true, false, ◌&&◌, ◌==◌, inl, inr, List, [], ◌∷◌, reverse, length, ℤ, Some, All, refl, sym, ap, ◌∙◌, arith, eqb-true, true≢false}
-use Rattle.std.specs.Prelude.{if◌then◌else◌}
+use Rattle.std.proofs.Common.{◌≡◌, ℕ, ◌<◌, true, ◌&&◌, ◌==◌, inl, inr, List, [], ◌∷◌, reverse, length, ℤ, Some, sym, ap, ◌∙◌, arith, eqb-true, true≢false}
 use Rattle.std.specs.List.{AllByRecursion}
 use Rattle.std.proofs.lemmas.Bool.{cond-true, cond-false, cases_Bool, or_cases, and_parts}
 use Rattle.std.proofs.lemmas.List.Elements.{recursion_from_All, All-weaker}

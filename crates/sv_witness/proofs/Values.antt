@@ -1,18 +1,18 @@
 -- By induction over the entries: what is agreed is what the serial execution gives. Of two different clients one is honest, and an honest one
 -- reports what the serial execution gives where all that was agreed before is that.
-use Rattle.std.proofs.Common.{◌≡◌, ℕ, ◌<◌, Bool, true, false, ◌⊎◌, inl, inr, List, [], ◌∷◌, ℤ, Option, Some, None, All, refl, sym, ap, ◌∙◌, subst, arith}
+use Rattle.std.proofs.Common.{◌≡◌, ℕ, ◌<◌, Bool, true, false, ◌⊎◌, inl, inr, List, [], ◌∷◌, ℤ, Option, Some, None, All, refl, sym, ◌∙◌, subst, arith}
 use Rattle.std.specs.Prelude.{if◌then◌else◌}
 use Rattle.std.specs.List.{list_any}
 use Rattle.sv_world.specs.declared.action.Action.{Action}
 use Rattle.sv_journal.specs.declared.entry.Entry.{Entry}
-use Rattle.sv_journal.specs.History.{client_of, reports, result_at, commit_of}
+use Rattle.sv_journal.specs.History.{client_of, reports, commit_of}
 use Rattle.sv_system.specs.Journals.{serial_result, ResultsAreSerial}
 use Rattle.sv_system.proofs.Histories.{IsEarlier, same, after, earlier-then, earlier-rest}
 use Rattle.sv_witness.specs.declared.report.Report.{Report}
 use Rattle.sv_witness.specs.Reports.{is_by, with_report, counted_in, reports_of, agreed_history, agreed_commit}
-use Rattle.sv_witness.specs.Agreement.{IsAmong, here, there}
+use Rattle.sv_witness.specs.Agreement.{IsAmong, there}
 use Rattle.sv_witness.specs.Disputes.{disputes_of, NamesClient}
-use Rattle.sv_witness.specs.Honesty.{IsReported, AllGiveBut, NoneGiveNone}
+use Rattle.sv_witness.specs.Honesty.{AllGiveBut, NoneGiveNone}
 use Rattle.sv_witness.proofs.Agreed.{results-agreed}
 use Rattle.sv_witness.proofs.Disputed.{agreed-true, all-name}
 use Rattle.sv_witness.proofs.Honest.{report-reported, entry-earlier}

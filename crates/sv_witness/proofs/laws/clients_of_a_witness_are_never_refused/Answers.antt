@@ -18,3 +18,8 @@ returns-clause-lying c r h Ls L s reply count shaped bound legal fits liar curre
     served-no_fault agreed r h L
     (record { keeps = agreed-keeping; legal = legal; fits = liar-fits r.world.shape h Ls L liar })
     liar.joined s reply count shaped bound (results-tolerated L.client.0 r h Ls count legal fits) current few is
+
+pub returns-clause-values : goal.returns-clause-values
+returns-clause-values c r h Ls L s reply count shaped bound legal fits own owns current few is =
+    served-no_fault agreed r h L (record { keeps = agreed-keeping; legal = legal; fits = own }) owns s reply count shaped bound
+    (results-tolerated L.client.0 r h Ls count legal fits) current few is
