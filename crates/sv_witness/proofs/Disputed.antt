@@ -1,5 +1,5 @@
 -- A dispute is of two reports that differ, of different clients. So where all clients but one give the same values, that one is named.
-use Rattle.std.proofs.Common.{◌≡◌, ℕ, Bool, true, false, ◌||◌, ◌==◌, ◌⊎◌, inl, inr, List, [], ◌∷◌, ◌++◌, length, All, ℤ, Option, Some, None, option_to_list, refl, sym, ap, ◌∙◌, subst, suc, true≢false}
+use Rattle.std.proofs.Common.{◌≡◌, ℕ, Bool, true, false, ◌||◌, inl, inr, List, [], ◌∷◌, ◌++◌, length, All, ℤ, Option, Some, None, option_to_list, refl, sym, ap, ◌∙◌, subst, suc, true≢false}
 use Rattle.std.specs.Prelude.{if◌then◌else◌}
 use Rattle.std.specs.List.{list_any, flat_map, AllByRecursion}
 use Rattle.std.specs.Ordering.{int_eq}

@@ -11,3 +11,8 @@ mod Listed
 mod Noted
 mod DuePositions
 mod Routes
+pub mod Values
+mod Forms
+pub mod Tolerated
+mod Lying
+mod Calm

@@ -18,7 +18,8 @@ use Rattle.sv_system.proofs.Commits.{commit-grows}
 use Rattle.sv_system.proofs.Histories.{IsEarlier, same, after}
 use Rattle.sv_witness.specs.declared.report.Report.{Report}
 use Rattle.sv_witness.specs.declared.report.Dispute.{Dispute}
-use Rattle.sv_witness.specs.Reports.{is_by, gives, with_report, counted_in, is_nothing, agreed_values, brings_agreement, with_results, reports_of, agreed_history, agreed_result, agreed_commit}
+use Rattle.sv_journal.specs.Serving.{with_results}
+use Rattle.sv_witness.specs.Reports.{is_by, gives, with_report, counted_in, is_nothing, agreed_values, brings_agreement, reports_of, agreed_history, agreed_result, agreed_commit}
 use Rattle.sv_witness.specs.Disputes.{first_report, dispute_about, disputes_of, dispute_in, with_disputes}
 use Rattle.sv_witness.specs.Kept.{RowView, kept_at, KeepsReports, report_by, counts, counted_results, AreOnce, with_values, agrees, brings, agreed_results, new_disputes}
 use Rattle.sv_witness.proofs.Agreed.{reported-filter, without, either-none}
@@ -59,11 +60,11 @@ keeps-quiet rows e h quiet kept p above =
 new-few : (client : Option ℕ) (next : ℕ → ℕ) (q : Request) (b : Bool) → length (if b then new_action client next q else []) ≤ 1
 new-few client next q false = omega arith
 new-few None next q true = omega arith
-new-few (Some k) next (requests.Submit seq a) true = go (seq == next k)
+new-few (Some k) next (requests.Submit seq a) true = go (seq == next k) (record { client = k; seq = seq; action = a })
   where
-    go : (b : Bool) → length (if b then record { client = k; seq = seq; action = a } ∷ [] else []) ≤ 1
-    go true = omega arith
-    go false = omega arith
+    go : (b : Bool) (x : Authored) → length (if b then x ∷ [] else []) ≤ 1
+    go true x = omega arith
+    go false x = omega arith
 new-few (Some k) next (requests.Join client life interest) true = omega arith
 new-few (Some k) next (requests.Done results) true = omega arith
 new-few (Some k) next requests.Poll true = omega arith

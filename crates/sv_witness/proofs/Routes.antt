@@ -17,8 +17,9 @@ use Rattle.sv_sequencer.specs.declared.decision.Decision.{Decision}
 use Rattle.sv_sequencer.specs.declared.decision.Decision.TheVariants as decisions
 use Rattle.sv_sequencer.specs.Decisions.{reply_by, IsOld}
 use Rattle.sv_witness.specs.declared.report.Report.{Report}
-use Rattle.sv_witness.specs.Reports.{has_reported, with_report, counted_in, agreed_values, brings_agreement, with_results, reports_of, agreed_history, agreed_result, agreed_commit, is_due, due_to}
-use Rattle.sv_witness.specs.Witnessed.{is_poll, with_last_rows}
+use Rattle.sv_witness.specs.Reports.{has_reported, with_report, counted_in, agreed_values, brings_agreement, reports_of, agreed_history, agreed_result, agreed_commit, is_due, due_to}
+use Rattle.sv_journal.specs.Serving.{is_poll, with_last_rows, with_results}
+use Rattle.sv_witness.specs.Witnessed.{agreed}
 use Rattle.sv_witness.proofs.Agreed.{without}
 use Rattle.sv_witness.proofs.Noted.{none-some-never}
 
@@ -38,7 +39,7 @@ IsPlain q (decisions.Settle seq pos) = Unit {0}
 IsPlain q decisions.Leave = Unit {0}
 
 pub plain-reply : (r : Rules) (h : List Entry) (s : ℕ) (q : Request) (d : Decision) → IsPlain q d →
-    with_last_rows r h s q (reply_by r (agreed_history h) s q d) ≡ reply_by r (agreed_history h) s q d
+    with_last_rows agreed r h s q (reply_by r (agreed_history h) s q d) ≡ reply_by r (agreed_history h) s q d
 plain-reply r h s q decisions.Note plain = absurd plain
 plain-reply r h s q decisions.Idle plain = absurd plain
 plain-reply r h s q (decisions.Relay seq pos) plain = cond-false (is_poll q) _ _ plain

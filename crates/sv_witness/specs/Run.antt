@@ -13,7 +13,7 @@ use Rattle.sv_schedule.specs.Schedule.{Run, rules_of, traces_of}
 use Rattle.sv_witness.specs.Reports.{agreed_commit, agreed_world}
 use Rattle.sv_witness.specs.Witnessed.{witnessed_reply, IsWitnessed}
 use Rattle.sv_witness.specs.Disputes.{disputes_of, NamesClient}
-use Rattle.sv_witness.specs.Tolerance.{no_client}
+use Rattle.sv_system.specs.Served.{no_client}
 use Rattle.sv_witness.specs.Lies.{lied}
 use Rattle.sv_witness.specs.Serving.{Server, run_served}
 
