@@ -17,3 +17,4 @@ pub mod Tolerated
 mod Lying
 mod Calm
 mod Steps
+mod Stepped

@@ -9,9 +9,10 @@ ghost use Rattle.sv_journal.specs.Answer.{is_bad_done};
 ghost use Rattle.sv_sequencer.specs.Decisions.{Holds, reply_by, results_in};
 ghost use Rattle.sv_sequencer.specs.Rows.{is_ended};
 ghost use Rattle.sv_sequencer.specs.Step.{history, entry_of, Grew, Stayed};
-ghost use Rattle.sv_witness.specs.Reports.{agreed_history, with_results};
+ghost use Rattle.sv_journal.specs.Serving.{is_poll, with_results, noted_after, polled_after};
+ghost use Rattle.sv_witness.specs.Reports.{agreed_history};
 ghost use Rattle.sv_witness.specs.Step.{Witnesses};
-ghost use Rattle.sv_witness.specs.Witnessed.{is_poll, IsWitnessed, witnessed_reply, polled_after, noted_after};
+ghost use Rattle.sv_witness.specs.Witnessed.{agreed, IsWitnessed, witnessed_reply};
 
 use crate::disputes::enter_all;
 use crate::due::first_due;
@@ -167,11 +168,11 @@ impl Witness {
         requires past { h ≡ history self.old }
         requires session { session < self.old.rules.sessions }
         requires poll { request.now ≡ requests.Poll }
-        requires reply { witnessed_reply self.old.rules h session request.now ≡ polled_after self.old.rules h session }
+        requires reply { witnessed_reply self.old.rules h session request.now ≡ polled_after agreed self.old.rules h session }
         ensures ok { IfOk result (Witnesses self.old self.new session request.now) }
         ensures err { OnErr result (Stayed self.old self.new) }
     {
-        let Some(client) = self.core.client_of(session) else {
+        let Some(client) = self.core.joined_by(session) else {
             return Err(AllocError);
         };
         let decision = match first_due(self.core.queue(), &self.reports, client, session) {
@@ -189,11 +190,11 @@ impl Witness {
         requires session { session < self.old.rules.sessions }
         requires done { request.now ≡ requests.Done (results_in request.now) }
         requires good { is_bad_done self.old.rules (agreed_history h) session (results_in request.now) ≡ false }
-        requires reply { witnessed_reply self.old.rules h session request.now ≡ noted_after h session request.now }
+        requires reply { witnessed_reply self.old.rules h session request.now ≡ noted_after agreed h session request.now }
         ensures ok { IfOk result (Witnesses self.old self.new session request.now) }
         ensures err { OnErr result (Stayed self.old self.new) }
     {
-        let Some(client) = self.core.client_of(session) else {
+        let Some(client) = self.core.joined_by(session) else {
             return Err(AllocError);
         };
         let noting = self.note_ahead(client, results_of(request))?;
