@@ -26,15 +26,15 @@ use Rattle.sv_witness.proofs.Routes.{emptied, quiet-entry}
 use Rattle.sv_witness.proofs.Steps.{quiet-stands, quiet-whole, noted-stands, noted-entry, noted-reply}
 
 -- What a server keeps of a journal with these entries, the latest first.
-pub record Holds (core : Core) (rows : List RowView) (disputes : List Dispute) (h : List Entry) : Type 0 where
+pub record Standing (core : Core) (rows : List RowView) (disputes : List Dispute) (h : List Entry) : Type 0 where
   pub keeps : Keeps core (agreed_history h)
   pub stands : Stands (rules_of core) rows disputes h
 
 -- The core stands where the entry leads, in which a Done has no results.
-pub after-quiet : (old core : Core) (rows : List RowView) (ds : List Dispute) (h : List Entry) (s : ℕ) (q : Request) (d : Decision) (x : Answer) → Holds old rows ds h →
+pub after-quiet : (old core : Core) (rows : List RowView) (ds : List Dispute) (h : List Entry) (s : ℕ) (q : Request) (d : Decision) (x : Answer) → Standing old rows ds h →
     CarriedOut old core (agreed_history h) s (emptied q) d x →
     reply_by (rules_of old) (agreed_history h) s (emptied q) d ≡ witnessed_reply (rules_of old) h s q → is_noted (witnessed_reply (rules_of old) h s q) ≡ false →
-    Holds core rows ds (entry_of s q x.logged ∷ h)
+    Standing core rows ds (entry_of s q x.logged ∷ h)
 after-quiet old core rows ds h s q d x is done told quiet = record {
   keeps = subst (Keeps core) (ap (λ (w : Logged). entry_of s (emptied q) w ∷ agreed_history h) (sym done.logged) ∙ sym (quiet-entry (entry_of s q x.logged) h silent)) done.keeps;
   stands = subst (λ (r : Rules). Stands r rows ds (entry_of s q x.logged ∷ h)) (sym done.rules)
@@ -53,7 +53,7 @@ whole-quiet old core h s q d x done told quiet =
     ∙ quiet-whole (entry_of s q (witnessed_reply (rules_of old) h s q)) h (witnessed_reply (rules_of old) h s q) quiet
 
 -- The core stands where a noted Done leads, which in its history has the results that brought agreement.
-module _ (old core : Core) (rows : List RowView) (ds : List Dispute) (h : List Entry) (s k : ℕ) (results : List Done1) (x : Answer) (is : Holds old rows ds h)
+module _ (old core : Core) (rows : List RowView) (ds : List Dispute) (h : List Entry) (s k : ℕ) (results : List Done1) (x : Answer) (is : Standing old rows ds h)
     (joined : client_of h s ≡ Some k) (good : is_bad_done (rules_of old) (agreed_history h) s results ≡ false)
     (reply : witnessed_reply (rules_of old) h s (requests.Done results) ≡ noted_after agreed h s (requests.Done results))
     (done : CarriedOut old core (agreed_history h) s (requests.Done (agreed_results (queue_of old) rows (counted_results (agreed_commit h) rows k results))) decisions.Note x) where
@@ -63,7 +63,7 @@ module _ (old core : Core) (rows : List RowView) (ds : List Dispute) (h : List E
   pub after-noted : (c : ℕ) → x.logged ≡ logged.Noted c → (new : List RowView) →
       ((p : ℕ) → agreed_commit (entry_of s (requests.Done results) (logged.Noted c) ∷ h) < p →
       kept_at new p ≡ with_values k (reported p (counted_results (agreed_commit h) rows k results)) (kept_at rows p)) →
-      Holds core new (with_disputes (new_disputes rows k (counted_results (agreed_commit h) rows k results)) ds) (entry_of s (requests.Done results) (logged.Noted c) ∷ h)
+      Standing core new (with_disputes (new_disputes rows k (counted_results (agreed_commit h) rows k results)) ds) (entry_of s (requests.Done results) (logged.Noted c) ∷ h)
   after-noted c noted new now = record {
     keeps = subst (Keeps core)
         (ap (λ (w : Logged). entry_of s (requests.Done (agreed_results (queue_of old) rows (counted_results (agreed_commit h) rows k results))) w ∷ agreed_history h) (sym done.logged ∙ noted)
