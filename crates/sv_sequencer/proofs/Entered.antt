@@ -38,19 +38,6 @@ carried old new' h s q d x l same owes is told agrees whole = record {
   whole = whole ∙ ap (λ (m : Logged). full_reply (accepted (entry_of s q m ∷ h)) m) told;
 }
 
--- A core all of whose fields are as they were, but for how the rows of clients are kept.
-pub agree-same : (r : Rules) (h : List Entry) (old new' : Core) → Agrees r h old.queue old.sessions.items old.clients old.owed →
-    ((k : ℕ) → client_row new'.clients k ≡ client_row old.clients k) → Agrees r h old.queue old.sessions.items new'.clients old.owed
-agree-same r h old new' a same = record {
-  sound = a.sound;
-  few_sessions = a.few_sessions;
-  fits = a.fits;
-  commit = a.commit;
-  session_rows = a.session_rows;
-  client_rows = λ k. subst (IsClientRow h k) (sym (same k)) (a.client_rows k);
-  ends = a.ends;
-}
-
 -- A session whose End has not come is owed one.
 pub owed-some : (h : List Entry) (s n : ℕ) → is_ended h s ≡ false → s < n → 1 ≤ ends_owed h n
 owed-some h s n first low = (let after = owed-end (entry_of s requests.End logged.Bye) h n refl first low in omega arith)

@@ -1,4 +1,4 @@
-use Rattle.std.proofs.Common.{◌≡◌, ◌<◌, ◌+◌, ◌≤◌, List, ◌∷◌, reverse, sym, ◌∙◌, ap, subst, arith}
+use Rattle.std.proofs.Common.{◌≡◌, ◌<◌, List, ◌∷◌, reverse, sym, ◌∙◌, ap, subst, arith}
 use Rattle.sv_wire.specs.declared.message.Request.TheVariants as requests
 use Rattle.sv_journal.specs.declared.entry.Entry.{Entry}
 use Rattle.sv_journal.specs.declared.entry.Logged.TheVariants as logged
@@ -9,9 +9,10 @@ use Rattle.sv_sequencer.proofs.Stepped.{after-end}
 use Rattle.sv_sequencer.proofs.sequencer.Sequencer.end.Goals as goal
 
 pub end-requires : goal.end-requires
-end-requires g c =
-    (subst (Keeps c.self.inside.core) (ap history c.self.view_is ∙ sym c.requires.0) c.self.invariant.keeps,
-    (subst (λ (v : SequencerView). c.args.session < v.rules.sessions) (sym c.self.view_is) c.requires.1.0, c.requires.1.1))
+end-requires g c = (
+  subst (Keeps c.self.inside.core) (ap history c.self.view_is ∙ sym c.requires.0) c.self.invariant.keeps,
+  (subst (λ (v : SequencerView). c.args.session < v.rules.sessions) (sym c.self.view_is) c.requires.1.0, c.requires.1.1),
+)
 
 pub push-requires : goal.push-requires
 push-requires g c = omega (arith, c.end.ensures.owed, c.self.invariant.room)
