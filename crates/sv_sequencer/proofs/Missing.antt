@@ -1,5 +1,5 @@
 -- What a core's queue says of a position, against the history that the core keeps.
-use Rattle.std.proofs.Common.{◌≡◌, ℕ, ◌<◌, ◌≤◌, Bool, true, false, ◌&&◌, nat_lt, is_none, List, length, refl, ◌∙◌, ap}
+use Rattle.std.proofs.Common.{◌≡◌, ℕ, ◌≤◌, Bool, true, false, ◌&&◌, nat_lt, is_none, List, length, refl, ◌∙◌, ap}
 use Rattle.std.proofs.lemmas.Bool.{ltb-true}
 use Rattle.sv_journal.specs.declared.entry.Entry.{Entry}
 use Rattle.sv_journal.specs.History.{accepted, result_at, commit_of}

@@ -1,32 +1,25 @@
 -- One step of a sequencer, put together.
-use Rattle.std.proofs.Common.{◌≡◌, ℕ, ◌+◌, ◌<◌, ◌≤◌, false, ℤ, List, [], ◌∷◌, ◌++◌, map, reverse, All, Option, refl, sym, ◌∙◌, ap, subst, arith}
+use Rattle.std.proofs.Common.{◌≡◌, ℕ, ◌+◌, ◌<◌, ◌≤◌, ℤ, List, [], ◌∷◌, ◌++◌, map, reverse, All, Option, refl, sym, ◌∙◌, ap, subst, arith}
 use Rattle.std.proofs.lemmas.List.{reverse-append}
 use Rattle.sv_world.specs.declared.world.World.{World}
 use Rattle.sv_wire.specs.declared.message.Held.{Held}
 use Rattle.sv_wire.specs.declared.message.Item.{Item}
-use Rattle.sv_wire.specs.declared.message.Reply.{Reply}
 use Rattle.sv_wire.specs.declared.message.Reply.TheVariants as replies
-use Rattle.sv_wire.specs.declared.message.Request.{Request}
 use Rattle.sv_wire.specs.declared.message.Request.TheVariants as requests
 use Rattle.sv_journal.specs.declared.entry.Entry.{Entry}
-use Rattle.sv_journal.specs.declared.entry.Logged.{Logged}
 use Rattle.sv_journal.specs.declared.entry.Logged.TheVariants as logged
 use Rattle.sv_journal.specs.View.{JournalView}
-use Rattle.sv_journal.specs.History.{Authored, accepted, full_reply}
-use Rattle.sv_journal.specs.Sessions.{is_end}
-use Rattle.sv_journal.specs.Answer.{Rules, Legal, reply_to_request, reply_to}
+use Rattle.sv_journal.specs.History.{Authored, full_reply}
+use Rattle.sv_journal.specs.Answer.{Rules, Legal}
 use Rattle.sv_influence.proofs.Places.{members-all}
 use Rattle.sv_queue.specs.Queue.{QueueView, IsUncommitted}
-use Rattle.sv_sequencer.specs.declared.answer.Answer.{Answer}
-use Rattle.sv_sequencer.specs.declared.decision.Decision.{Decision}
 use Rattle.sv_sequencer.specs.declared.sequencer.Sequencer.TheInside.{Inside}
 use Rattle.sv_sequencer.specs.declared.server_core.Core.{Core}
-use Rattle.sv_sequencer.specs.Cores.{rules_of, owed_by, Keeps, CarriedOut, Remained}
-use Rattle.sv_sequencer.specs.Decisions.{reply_by}
+use Rattle.sv_sequencer.specs.Cores.{rules_of, owed_by, Keeps}
 use Rattle.sv_sequencer.specs.Fits.{Fits}
-use Rattle.sv_sequencer.specs.Invariant.{view_of, IsSequencer}
+use Rattle.sv_sequencer.specs.Invariant.{IsSequencer}
 use Rattle.sv_sequencer.specs.Relays.{item_in}
-use Rattle.sv_sequencer.specs.Step.{SequencerView, history, entry_of, Answered}
+use Rattle.sv_sequencer.specs.Step.{entry_of}
 use Rattle.sv_sequencer.proofs.Replies.{items-are}
 
 -- A sequencer's fields once a session had its End.
