@@ -1,5 +1,5 @@
 -- A core's fields once positions are sent to a session, and once one begins.
-use Rattle.std.proofs.Common.{◌≡◌, ℕ, zero, suc, ◌+◌, ◌<◌, ◌≤◌, Bool, true, false, ◌&&◌, cond, nat_eq, max, List, [], ◌∷◌, ◌++◌, map, length, All, is_some, slice_get, refl, sym, ◌∙◌, ap, subst, arith, length-append}
+use Rattle.std.proofs.Common.{◌≡◌, ℕ, zero, suc, ◌+◌, ◌<◌, Bool, true, false, ◌&&◌, cond, nat_eq, max, List, [], ◌∷◌, ◌++◌, map, length, All, is_some, slice_get, refl, sym, ◌∙◌, ap, subst, arith, length-append}
 use Rattle.std.proofs.lemmas.Bool.{both_ways, cond_both, cond-false, eqb-true, and_right}
 use Rattle.sv_world.specs.Control.{is_in}
 use Rattle.sv_world.proofs.Members.{is_in-one}

@@ -9,13 +9,10 @@ use Rattle.sv_journal.specs.declared.entry.Logged.TheVariants as logged
 use Rattle.sv_journal.specs.History.{accepted, full_reply}
 use Rattle.sv_journal.specs.Answer.{Rules}
 use Rattle.sv_sequencer.specs.declared.answer.Answer.{Answer}
-use Rattle.sv_sequencer.specs.declared.clients.ClientRow.{ClientRow}
-use Rattle.sv_sequencer.specs.declared.clients.Clients.{Clients}
 use Rattle.sv_sequencer.specs.declared.decision.Decision.{Decision}
 use Rattle.sv_sequencer.specs.declared.server_core.Core.{Core}
-use Rattle.sv_sequencer.specs.Agreement.{IsClientRow, Agrees, ends_owed}
-use Rattle.sv_sequencer.specs.Clients.{client_row}
-use Rattle.sv_sequencer.specs.Cores.{rules_of, owed_by, Keeps, CarriedOut, Remained}
+use Rattle.sv_sequencer.specs.Agreement.{Agrees, ends_owed}
+use Rattle.sv_sequencer.specs.Cores.{rules_of, owed_by, CarriedOut}
 use Rattle.sv_sequencer.specs.Decisions.{reply_by}
 use Rattle.sv_sequencer.specs.Rows.{is_ended}
 use Rattle.sv_sequencer.specs.Step.{entry_of}
@@ -36,19 +33,6 @@ carried old new' h s q d x l same owes is told agrees whole = record {
       (subst (λ (m : Logged). Agrees (rules_of old) (entry_of s q m ∷ h) new'.queue new'.sessions.items new'.clients new'.owed) told agrees);
   logged = is ∙ told;
   whole = whole ∙ ap (λ (m : Logged). full_reply (accepted (entry_of s q m ∷ h)) m) told;
-}
-
--- A core all of whose fields are as they were, but for how the rows of clients are kept.
-pub agree-same : (r : Rules) (h : List Entry) (old new' : Core) → Agrees r h old.queue old.sessions.items old.clients old.owed →
-    ((k : ℕ) → client_row new'.clients k ≡ client_row old.clients k) → Agrees r h old.queue old.sessions.items new'.clients old.owed
-agree-same r h old new' a same = record {
-  sound = a.sound;
-  few_sessions = a.few_sessions;
-  fits = a.fits;
-  commit = a.commit;
-  session_rows = a.session_rows;
-  client_rows = λ k. subst (IsClientRow h k) (sym (same k)) (a.client_rows k);
-  ends = a.ends;
 }
 
 -- A session whose End has not come is owed one.

@@ -1,11 +1,10 @@
 -- What a core keeps of a history, and what carrying out a decision makes of both.
 -- A history is the list of entries with the latest first. The core has none of them: a caller names the history that it keeps.
-use Rattle.std.specs.Prelude.{◌≡◌, ℕ, List, ◌∷◌, length}
+use Rattle.std.specs.Prelude.{◌≡◌, ℕ, ◌<◌, ◌≤◌, List, ◌∷◌, length}
 use Rattle.sv_wire.specs.declared.message.Request.{Request}
 use Rattle.sv_queue.specs.Queue.{QueueView}
 use Rattle.sv_journal.specs.declared.entry.Entry.{Entry}
-use Rattle.sv_journal.specs.declared.entry.Logged.{Logged}
-use Rattle.sv_journal.specs.History.{accepted, full_reply}
+use Rattle.sv_journal.specs.History.{accepted, commit_of, full_reply}
 use Rattle.sv_journal.specs.Answer.{Rules}
 use Rattle.sv_sequencer.specs.declared.answer.Answer.{Answer}
 use Rattle.sv_sequencer.specs.declared.decision.Decision.{Decision}
@@ -33,6 +32,14 @@ Keeps core h = Agrees (rules_of core) h core.queue core.sessions.items core.clie
 -- It stands where some history leads.
 abbrev pub IsKept : Core → Type 0
 IsKept core = (h : List Entry) × Keeps core h
+
+-- A position is accepted, by a history that the core keeps.
+abbrev pub IsAccepted : Core → ℕ → Type 0
+IsAccepted core p = (h : List Entry) × (Keeps core h × (p ≤ length (accepted h)))
+
+-- It is accepted, and above the commit.
+abbrev pub IsOpen : Core → ℕ → Type 0
+IsOpen core p = (h : List Entry) × (Keeps core h × ((commit_of h < p) × (p ≤ length (accepted h))))
 
 -- The entry of a request, with the reply that a decision stands for.
 abbrev pub decided_entry : Core → List Entry → ℕ → Request → Decision → Entry

@@ -9,6 +9,7 @@ mod decision;
 mod deliver;
 mod object;
 mod orphans;
+mod positions;
 mod relays;
 mod reports;
 mod sequencer;

@@ -1,12 +1,6 @@
-use Rattle.std.proofs.Common.{◌≡◌, ◌≤◌, ◌<◌, ◌+◌, List, [], ◌∷◌, ◌++◌, reverse, sym, ◌∙◌, ap, subst, arith}
-use Rattle.sv_wire.specs.declared.message.Request.{Request}
-use Rattle.sv_journal.specs.declared.entry.Entry.{Entry}
-use Rattle.sv_journal.specs.View.{JournalView}
-use Rattle.sv_journal.specs.Answer.{reply_to}
-use Rattle.sv_sequencer.specs.Cores.{rules_of, Keeps, CarriedOut, Remained}
-use Rattle.sv_sequencer.specs.Decisions.{reply_by}
-use Rattle.sv_sequencer.specs.Step.{SequencerView, history, entry_of, Answered}
-use Rattle.sv_sequencer.proofs.Stepped.{table-of, after-entry, answered, after-none}
+use Rattle.std.proofs.Common.{◌<◌, sym, ◌∙◌, ap, subst}
+use Rattle.sv_sequencer.specs.Cores.{Keeps}
+use Rattle.sv_sequencer.specs.Step.{SequencerView, history}
 use Rattle.sv_sequencer.proofs.sequencer.Sequencer.answer.Goals as goal
 
 pub decide-decision-requires : goal.decide-decision-requires

@@ -1,4 +1,4 @@
-use Rattle.std.proofs.Common.{◌≡◌, ◌≤◌, [], ◌∙◌, ap, arith}
+use Rattle.std.proofs.Common.{◌∙◌, ap, arith}
 use Rattle.sv_journal.specs.View.{JournalView}
 use Rattle.sv_sequencer.proofs.Stepped.{as-opened}
 use Rattle.sv_sequencer.proofs.sequencer.Sequencer.new.Goals as goal

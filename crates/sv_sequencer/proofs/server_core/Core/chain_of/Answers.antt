@@ -1,6 +1,6 @@
-use Rattle.std.proofs.Common.{◌≡◌, length, ◌∙◌, ap}
+use Rattle.std.proofs.Common.{length, ◌∙◌, ap}
 use Rattle.sv_world.specs.Control.{chain_length, influence_distance}
-use Rattle.sv_journal.specs.History.{accepted, actions_of, result_at, commit_of}
+use Rattle.sv_journal.specs.History.{accepted, actions_of, result_at}
 use Rattle.sv_journal.specs.Sessions.{sent_to, named_to}
 use Rattle.sv_sequencer.proofs.FitRelays.{influence-is, distance-is}
 use Rattle.sv_sequencer.proofs.server_core.Core.chain_of.Goals as goal

@@ -1,9 +1,9 @@
-use Rattle.std.proofs.Common.{◌≡◌, refl, ap}
+use Rattle.std.proofs.Common.{refl, ap}
 use Rattle.sv_journal.specs.declared.entry.Logged.TheVariants as logged
 use Rattle.sv_sequencer.specs.declared.decision.Decision.TheVariants as decisions
 use Rattle.sv_sequencer.specs.Cores.{rules_of}
 use Rattle.sv_sequencer.proofs.AgreeNext.{agree-drop}
-use Rattle.sv_sequencer.proofs.Entered.{rules_with, carried, agree-same}
+use Rattle.sv_sequencer.proofs.Entered.{rules_with, carried}
 use Rattle.sv_sequencer.proofs.server_core.Core.drop_new.Goals as goal
 
 pub returns-clause-ok : goal.returns-clause-ok

@@ -1,4 +1,4 @@
-use Rattle.std.proofs.Common.{◌≡◌, ◌-◌, ◌+◌, ℕ, length, refl, sym, ap, subst, arith, ◌∷◌}
+use Rattle.std.proofs.Common.{◌-◌, ℕ, length, refl, sym, ap, subst, arith, ◌∷◌}
 use Rattle.sv_wire.specs.declared.message.Request.TheVariants as requests
 use Rattle.sv_journal.specs.declared.entry.Logged.TheVariants as logged
 use Rattle.sv_sequencer.specs.Agreement.{Agrees}
