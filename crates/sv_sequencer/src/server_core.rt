@@ -110,14 +110,6 @@ impl Core {
         &self.queue
     }
 
-    /// The client of a session, once it has joined.
-    pub fn joined_by(&self, session: u16) -> Option<u16>
-        requires { session < (rules_of self.now).sessions }
-        ensures { (h : List Entry) → Keeps self.now h → result ≡ client_of h session }
-    {
-        self.sessions[session as usize].client
-    }
-
     /// How many Ends are to come.
     pub fn owed(&self) -> u16
         ensures { result ≡ owed_by self.now }

@@ -172,7 +172,7 @@ impl Witness {
         ensures ok { IfOk result (Witnesses self.old self.new session request.now) }
         ensures err { OnErr result (Stayed self.old self.new) }
     {
-        let Some(client) = self.core.joined_by(session) else {
+        let Some(client) = self.core.client(session) else {
             return Err(AllocError);
         };
         let decision = match first_due(self.core.queue(), &self.reports, client, session) {
@@ -194,7 +194,7 @@ impl Witness {
         ensures ok { IfOk result (Witnesses self.old self.new session request.now) }
         ensures err { OnErr result (Stayed self.old self.new) }
     {
-        let Some(client) = self.core.joined_by(session) else {
+        let Some(client) = self.core.client(session) else {
             return Err(AllocError);
         };
         let noting = self.note_ahead(client, results_of(request))?;
