@@ -1,5 +1,10 @@
 //! A step of a witnessing server. Its core decides by the history of what was agreed, but for what is noted and what is polled.
-ghost use Rattle.std.specs.Prelude.{◌≡◌, ◌≤◌, ◌<◌, List, ◌-◌, [], ◌∷◌, ◌++◌, true, false, Some, IfOk, IsOk, OnErr};
+ghost use Rattle.std.specs.Prelude.{◌≡◌, ℕ, ◌≤◌, ◌<◌, ◌+◌, List, ◌-◌, [], ◌∷◌, ◌++◌, length, true, false, Some, All, IfOk, IsOk, OnErr, OnOk, vec_len, vec_capacity};
+ghost use Rattle.std.specs.List.{AllByRecursion};
+ghost use Rattle.sv_wire.specs.declared.message.Done1.{Done1};
+ghost use Rattle.sv_queue.specs.Queue.{last_position};
+ghost use Rattle.sv_sequencer.specs.Cores.{owed_by, queue_of};
+ghost use Rattle.sv_witness.specs.Kept.{kept_at, HasRoom, counted_results, agreed_results, new_disputes};
 ghost use Rattle.sv_wire.specs.declared.message.Request.TheVariants as requests;
 ghost use Rattle.sv_journal.specs.declared.entry.Entry.{Entry};
 ghost use Rattle.sv_journal.specs.declared.entry.Logged.TheVariants as logged;
@@ -17,11 +22,12 @@ ghost use Rattle.sv_witness.specs.Witnessed.{agreed, IsWitnessed, witnessed_repl
 use crate::disputes::enter_all;
 use crate::due::first_due;
 use crate::noting::{Noting, noting_of};
-use crate::reports::{add_all, reserve_all};
+use crate::report::Dispute;
+use crate::reports::{Reports, add_all, reserve_all};
 use crate::witness::Witness;
-use std::alloc::AllocError;
+use std::alloc::{AllocError, Global};
 use sv_journal::{Entry, Journal, Logged};
-use sv_sequencer::{Answer, Decision};
+use sv_sequencer::{Answer, Core, Decision};
 use sv_wire::{Done1, Reply, Request, copy_request};
 use sv_world::List;
 
@@ -57,6 +63,35 @@ fn results_of(request: &Request) -> &[Done1]
         Request::Done { results } => results.as_slice(),
         _ => &[],
     }
+}
+
+/// What results of a client are, with room for all that they change. What is kept stays.
+fn note_ahead(
+    alloc: Global,
+    core: &Core,
+    journal: &mut Journal,
+    reports: &mut Reports,
+    disputes: &mut Vec<Dispute>,
+    client: u16,
+    results: &[Done1],
+) -> Result<Noting, AllocError>
+    requires { All (λ (d : Done1). d.pos ≤ last_position (queue_of core.now)) results.now }
+    ensures entries { journal.new.entries ≡ journal.old.entries }
+    ensures spare { journal.old.spare ≤ journal.new.spare }
+    ensures room { OnOk result (owed_by core.now + 1 ≤ journal.new.spare) }
+    ensures reports { (p : ℕ) → kept_at reports.new p ≡ kept_at reports.old p }
+    ensures rows { IfOk result (λ noting. AllByRecursion (λ (d : Done1). HasRoom reports.new d.pos) noting.counted.items) }
+    ensures disputes { disputes.new.items ≡ disputes.old.items }
+    ensures places { IfOk result (λ noting. vec_len disputes.new + length noting.disputes.items ≤ vec_capacity disputes.new) }
+    ensures counted { IfOk result (λ noting. noting.counted.items ≡ counted_results (queue_of core.now).commit reports.old client results.now) }
+    ensures agreed { IfOk result (λ noting. noting.agreed.items ≡ agreed_results (queue_of core.now) reports.old (counted_results (queue_of core.now).commit reports.old client results.now)) }
+    ensures made { IfOk result (λ noting. noting.disputes.items ≡ new_disputes reports.old client (counted_results (queue_of core.now).commit reports.old client results.now)) }
+{
+    let noting = noting_of(alloc, core.queue(), reports, client, results)?;
+    journal.reserve(core.owed() as usize + 1)?;
+    reserve_all(reports, noting.counted.as_slice())?;
+    disputes.reserve(noting.disputes.len())?;
+    Ok(noting)
 }
 
 impl Witness {
@@ -197,7 +232,15 @@ impl Witness {
         let Some(client) = self.core.client(session) else {
             return Err(AllocError);
         };
-        let noting = self.note_ahead(client, results_of(request))?;
+        let noting = note_ahead(
+            self.alloc,
+            &self.core,
+            &mut self.journal,
+            &mut self.reports,
+            &mut self.disputes,
+            client,
+            results_of(request),
+        )?;
         let copy = match copy_request(self.alloc, request) {
             Ok(copy) => copy,
             Err(error) => {
@@ -226,20 +269,5 @@ impl Witness {
                 Err(error)
             }
         }
-    }
-
-    /// What results of a client are, with room for all that they change.
-    fn note_ahead(&mut self, client: u16, results: &[Done1]) -> Result<Noting, AllocError> {
-        let noting = noting_of(
-            self.alloc,
-            self.core.queue(),
-            &self.reports,
-            client,
-            results,
-        )?;
-        self.journal.reserve(self.core.owed() as usize + 1)?;
-        reserve_all(&mut self.reports, noting.counted.as_slice())?;
-        self.disputes.reserve(noting.disputes.len())?;
-        Ok(noting)
     }
 }
