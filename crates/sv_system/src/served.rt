@@ -17,8 +17,8 @@ ghost use Rattle.sv_client.specs.declared.trace.Trace.{Trace};
 ghost use Rattle.sv_client.specs.Traces.{current_session, held_of, requests_of, got};
 ghost use Rattle.sv_client.specs.Taking.{first_fault_of_reply};
 ghost use Rattle.sv_client.specs.Proper.{identity_of};
-ghost use Rattle.sv_system.specs.Fits.{replies_in, has_session, FitsOne};
-ghost use Rattle.sv_system.specs.Served.{FitsBut, OwnsSessions, FitsButValues};
+ghost use Rattle.sv_system.specs.Fits.{replies_in, has_session, FitsOne, Fits};
+ghost use Rattle.sv_system.specs.Served.{FitsBut, no_client, OwnsSessions, FitsButValues};
 ghost use Rattle.sv_system.specs.Serial.{AreSerial, AreSufficient, reply_held};
 ghost use Rattle.sv_system.specs.Delivery.{AreLawful};
 ghost use Rattle.sv_system.specs.Journals.{deliveries_of, IsSerialResult, ResultsAreSerial};
@@ -66,8 +66,8 @@ pub fn served_values_are_serial()
 
 /// Clients are never refused, where the results that their server goes by are those of the serial execution: the next reply of the session
 /// that a client began last has none of the faults for which a client refuses a reply, and a relay has items. It is enough that the client's
-/// trace fits the journal but for the values that it reports, and has each session that was joined as the client; and where all clients but
-/// one are honest, each honest one's is such a trace.
+/// trace fits the journal but for the values that it reports, and has each session that was joined as the client; where all clients but one
+/// are honest, each honest one's is such a trace; and where all clients are honest, the one is a client that there is not.
 ///
 /// `k`, `r` and `h` are as above, `L` is the client's trace, and at most 1,024 requests are asked in the session `s`.
 pub fn served_clients_are_never_refused()
@@ -85,4 +85,5 @@ pub fn served_clients_are_never_refused()
         slice_get Ls i ≡ Some L → FitsButValues r.world.shape h L }
     ensures sessions { (liar : ℕ) (r : Rules) (h : List Entry) (Ls : List Trace) (i : ℕ) (L : Trace) → FitsBut liar r.world.shape h Ls →
         slice_get Ls i ≡ Some L → OwnsSessions h L }
+    ensures all { (r : Rules) (h : List Entry) (Ls : List Trace) → Fits r.world.shape h Ls → FitsBut no_client r.world.shape h Ls }
 {}

@@ -1,5 +1,5 @@
 use Rattle.sv_system.proofs.Asking.{fits-but_values}
-use Rattle.sv_system.proofs.Owned.{one-of, owns-but}
+use Rattle.sv_system.proofs.Owned.{one-of, owns-but, fits-none}
 use Rattle.sv_system.proofs.NextReply.{served-no_fault}
 use Rattle.sv_system.proofs.NonEmpty.{served-never_empty}
 use Rattle.sv_system.proofs.served.served_clients_are_never_refused.Goals as goal
@@ -17,3 +17,6 @@ returns-clause-honest c liar r h Ls i L fits member = fits-but_values r.world.sh
 
 pub returns-clause-sessions : goal.returns-clause-sessions
 returns-clause-sessions c liar r h Ls i L fits member = owns-but liar r.world.shape h Ls fits i L member
+
+pub returns-clause-all : goal.returns-clause-all
+returns-clause-all c r h Ls fits = fits-none r.world.shape h Ls fits
