@@ -13,7 +13,9 @@ use Rattle.sv_journal.specs.Sessions.{is_end}
 use Rattle.sv_journal.specs.Answer.{Rules, Legal, reply_to}
 use Rattle.sv_system.specs.Fits.{requests_in, replies_in, is_ended}
 use Rattle.sv_system.proofs.Entered.{is_of, of-from}
-use Rattle.sv_schedule.specs.Schedule.{Player, Run, asked_in_run, closed_by, is_stop, is_stopped, with_entry, steps_next, session_turn}
+use Rattle.sv_schedule.specs.Players.{Player, asked_in_run, closed_by}
+use Rattle.sv_schedule.specs.Serving.{Run, is_stop, is_stopped}
+use Rattle.sv_schedule.specs.Schedule.{with_entry, steps_next, session_turn}
 use Rattle.sv_exchange.specs.View.{ExchangeView}
 use Rattle.sv_replay.specs.Players.{got_in_run, IsChannel}
 use Rattle.sv_replay.specs.Serving.{next_history, next_channel}

@@ -15,7 +15,7 @@ use Rattle.sv_client.specs.Taking.{Identity}
 use Rattle.sv_client.specs.Proper.{AreProper, identity_of}
 use Rattle.sv_system.specs.Fits.{is_join_of, has_session, FitsOne, AreApart, AreAllApart}
 use Rattle.sv_system.proofs.Asked.{current-joined, any-reverse}
-use Rattle.sv_schedule.specs.Schedule.{Player, trace_of_player, asked_in_run, closed_by}
+use Rattle.sv_schedule.specs.Players.{Player, trace_of_player, asked_in_run, closed_by}
 use Rattle.sv_replay.specs.Players.{asked_by_player, got_in_run}
 
 -- ---- A session that was not begun

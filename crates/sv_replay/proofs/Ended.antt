@@ -8,7 +8,9 @@ use Rattle.sv_client.specs.declared.trace.Trace.{Trace}
 use Rattle.sv_scenario.specs.declared.scenario.Scenario.{Scenario}
 use Rattle.sv_system.specs.declared.played.Played.{Played}
 use Rattle.sv_system.specs.Records.{IsPlayed}
-use Rattle.sv_schedule.specs.Schedule.{Run, rules_of, opening_run, all_turned, repeated, round, traces_of}
+use Rattle.sv_schedule.specs.Players.{repeated}
+use Rattle.sv_schedule.specs.Serving.{Run, opening_run, traces_of}
+use Rattle.sv_schedule.specs.Schedule.{rules_of, all_turned, round}
 use Rattle.sv_schedule.specs.Records.{IsReplay}
 use Rattle.sv_replay.specs.declared.machine.Machine.{Machine}
 use Rattle.sv_replay.specs.Machine.{run_of, Became}

@@ -9,7 +9,9 @@ use Rattle.sv_world.specs.Control.{below}
 use Rattle.sv_journal.specs.Answer.{Rules}
 use Rattle.sv_scenario.specs.declared.scenario.Scenario.{Scenario}
 use Rattle.sv_scenario.specs.declared.scenario.Turn.TheVariants as turns
-use Rattle.sv_schedule.specs.Schedule.{Player, Run, session_turn, at_player, repeated, session_turns, sessions_turned, rules_of, turned, after_clients, after_sessions, after_takes, round}
+use Rattle.sv_schedule.specs.Players.{Player, at_player, repeated}
+use Rattle.sv_schedule.specs.Serving.{Run, after_clients, after_takes}
+use Rattle.sv_schedule.specs.Schedule.{session_turn, session_turns, sessions_turned, rules_of, turned, after_sessions, round}
 use Rattle.sv_replay.specs.declared.machine.Machine.{Machine}
 use Rattle.sv_replay.specs.declared.playing.Playing.{Playing}
 use Rattle.sv_replay.specs.Machine.{player_of, run_of, IsMachine, Became, Heads, after_session, after_take}

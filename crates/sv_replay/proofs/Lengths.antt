@@ -20,7 +20,8 @@ use Rattle.sv_scenario.specs.Sessions.{session_count}
 use Rattle.sv_script.specs.Following.{FollowsTo}
 use Rattle.sv_system.specs.Fits.{requests_in, is_ended, IsEndLast}
 use Rattle.sv_system.proofs.Entered.{front-length}
-use Rattle.sv_schedule.specs.Schedule.{Player, Run}
+use Rattle.sv_schedule.specs.Players.{Player}
+use Rattle.sv_schedule.specs.Serving.{Run}
 use Rattle.sv_schedule.specs.Sound.{IsSound, has_joined}
 use Rattle.sv_schedule.proofs.DoneCounts.{asked-few}
 use Rattle.sv_schedule.proofs.SoundCalls.{IsPlayer, player-at}

@@ -22,7 +22,9 @@ use Rattle.sv_script.specs.Following.{must_join}
 use Rattle.sv_sequencer.specs.Step.{SequencerView, history}
 use Rattle.sv_system.specs.Fits.{replies_in}
 use Rattle.sv_system.proofs.Asked.{current-joined}
-use Rattle.sv_schedule.specs.Schedule.{Player, Run, rules_of, at_player, player_turn, open_session, takes, take_in, take_turn, session_turn, turned}
+use Rattle.sv_schedule.specs.Players.{Player, at_player, player_turn, open_session, takes, take_in, take_turn}
+use Rattle.sv_schedule.specs.Serving.{Run}
+use Rattle.sv_schedule.specs.Schedule.{rules_of, session_turn, turned}
 use Rattle.sv_schedule.specs.Sound.{ArePlaying, IsSound}
 use Rattle.sv_schedule.proofs.SoundLaws.{turns-sound}
 use Rattle.sv_schedule.proofs.SoundCalls.{IsPlayer, player-at, session-next, session-last, turn-player}

@@ -34,7 +34,9 @@ use Rattle.sv_system.proofs.Entered.{of-from, request-there}
 use Rattle.sv_asked.specs.Asked.{EventFits, HasNumbers, RequestsAreMessages, RepliesAreMessages, AcceptedAreFew}
 use Rattle.sv_asked.proofs.Every.{each-at, each-reverse}
 use Rattle.sv_asked.proofs.Owned.{entry-at}
-use Rattle.sv_schedule.specs.Schedule.{Player, Run, rules_of, trace_of_player, traces_of}
+use Rattle.sv_schedule.specs.Players.{Player, trace_of_player}
+use Rattle.sv_schedule.specs.Serving.{Run, traces_of}
+use Rattle.sv_schedule.specs.Schedule.{rules_of}
 use Rattle.sv_schedule.specs.Sound.{IsPlaying, ArePlaying, IsSound, has_joined}
 use Rattle.sv_schedule.proofs.SoundCalls.{player-at}
 use Rattle.sv_replay.specs.Players.{asked_by_player}

@@ -11,7 +11,9 @@ use Rattle.sv_scenario.specs.declared.scenario.Scenario.{Scenario}
 use Rattle.sv_scenario.specs.Limits.{IsGoodScenario}
 use Rattle.sv_scenario.specs.Sessions.{sessions_of_plan, sessions_in, session_count}
 use Rattle.sv_asked.specs.Numbers.{ScenarioFits}
-use Rattle.sv_schedule.specs.Schedule.{Player, Run, rules_of, players_from, opening_run, asked_in_run, closed_by}
+use Rattle.sv_schedule.specs.Players.{Player, players_from, asked_in_run, closed_by}
+use Rattle.sv_schedule.specs.Serving.{Run, opening_run}
+use Rattle.sv_schedule.specs.Schedule.{rules_of}
 use Rattle.sv_schedule.specs.Sound.{IsSound}
 use Rattle.sv_schedule.proofs.SoundLaws.{opening-sound}
 use Rattle.sv_replay.specs.declared.machine.Machine.{Machine}

@@ -18,7 +18,9 @@ use Rattle.sv_script.specs.Following.{must_join}
 use Rattle.sv_sequencer.specs.Step.{SequencerView, history}
 use Rattle.sv_system.specs.Fits.{is_join_of}
 use Rattle.sv_system.proofs.Asked.{current-joined}
-use Rattle.sv_schedule.specs.Schedule.{Player, Run, rules_of, at_player, player_turn, take_turn, open_session, closed_by, with_entry, session_turn, turned, does}
+use Rattle.sv_schedule.specs.Players.{Player, at_player, player_turn, take_turn, open_session, closed_by, does}
+use Rattle.sv_schedule.specs.Serving.{Run}
+use Rattle.sv_schedule.specs.Schedule.{rules_of, with_entry, session_turn, turned}
 use Rattle.sv_schedule.specs.Sound.{IsSound}
 use Rattle.sv_system.proofs.NextReply.{no-fault}
 use Rattle.sv_schedule.proofs.SoundLaws.{turns-sound}

@@ -24,7 +24,9 @@ use Rattle.sv_sequencer.specs.Rows.{is_ended as is_ended_by_rows}
 use Rattle.sv_system.specs.Fits.{replies_in, is_ended}
 use Rattle.sv_system.proofs.Fronts.{fronts-same}
 use Rattle.sv_system.proofs.Entered.{as-many, replies-one}
-use Rattle.sv_schedule.specs.Schedule.{Player, asked_in_run, is_stop, with_entry}
+use Rattle.sv_schedule.specs.Players.{Player, asked_in_run}
+use Rattle.sv_schedule.specs.Serving.{is_stop}
+use Rattle.sv_schedule.specs.Schedule.{with_entry}
 use Rattle.sv_schedule.proofs.SoundReplies.{replies-grow}
 use Rattle.sv_sequencer.specs.Step.{SequencerView, history, entry_of, Grew, Answered}
 use Rattle.sv_exchange.specs.View.{ExchangeView, TakesRequest}

@@ -18,7 +18,9 @@ use Rattle.sv_client.specs.Taking.{Fault, first_fault_of_reply}
 use Rattle.sv_script.specs.Following.{must_join}
 use Rattle.sv_system.specs.Fits.{requests_in, replies_in, is_ended}
 use Rattle.sv_system.proofs.Entered.{is_of}
-use Rattle.sv_schedule.specs.Schedule.{Player, Run, asked_in_run, closed_by, is_stopped, with_entry, session_turn, open_session, takes, takes_if, take_in, take_turn, at_player, repeated, does, take_turns}
+use Rattle.sv_schedule.specs.Players.{Player, asked_in_run, closed_by, open_session, takes, takes_if, take_in, take_turn, at_player, repeated, does, take_turns}
+use Rattle.sv_schedule.specs.Serving.{Run, is_stopped}
+use Rattle.sv_schedule.specs.Schedule.{with_entry, session_turn}
 use Rattle.sv_replay.specs.Machine.{after_session, after_take}
 use Rattle.sv_replay.specs.Serving.{one_if}
 use Rattle.sv_replay.specs.Work.{work_left, work_in, work_for, work_of_session, work_of_client, Found}

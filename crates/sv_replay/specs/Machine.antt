@@ -11,7 +11,9 @@ use Rattle.sv_scenario.specs.Sessions.{session_count}
 use Rattle.sv_asked.specs.Numbers.{ScenarioFits}
 use Rattle.sv_script.specs.Following.{must_join, is_welcomed}
 use Rattle.sv_journal.specs.Answer.{Rules}
-use Rattle.sv_schedule.specs.Schedule.{Player, Run, rules_of, session_turns, at_player, take_turns}
+use Rattle.sv_schedule.specs.Players.{Player, at_player, take_turns}
+use Rattle.sv_schedule.specs.Serving.{Run}
+use Rattle.sv_schedule.specs.Schedule.{rules_of, session_turns}
 use Rattle.sv_schedule.specs.Sound.{IsSound}
 use Rattle.sv_replay.specs.declared.machine.Machine.{Machine}
 use Rattle.sv_replay.specs.declared.playing.Playing.{Playing}

@@ -7,7 +7,8 @@ use Rattle.sv_journal.specs.History.{accepted, full_reply}
 use Rattle.sv_scenario.specs.declared.scenario.Scenario.{Scenario}
 use Rattle.sv_scenario.specs.Limits.{IsGoodScenario}
 use Rattle.sv_asked.specs.Numbers.{ScenarioFits}
-use Rattle.sv_schedule.specs.Schedule.{Player, Run}
+use Rattle.sv_schedule.specs.Players.{Player}
+use Rattle.sv_schedule.specs.Serving.{Run}
 use Rattle.sv_schedule.specs.Sound.{IsSound}
 use Rattle.sv_replay.specs.Players.{asked_by_player, IsFit}
 

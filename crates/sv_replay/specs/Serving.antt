@@ -11,7 +11,8 @@ use Rattle.sv_journal.specs.History.{accepted, full_reply}
 use Rattle.sv_journal.specs.Answer.{Rules, reply_to}
 use Rattle.sv_sequencer.specs.Step.{SequencerView, history}
 use Rattle.sv_system.specs.Fits.{is_ended}
-use Rattle.sv_schedule.specs.Schedule.{is_stop, with_entry, steps_next}
+use Rattle.sv_schedule.specs.Serving.{is_stop}
+use Rattle.sv_schedule.specs.Schedule.{with_entry, steps_next}
 use Rattle.sv_exchange.specs.View.{ExchangeView}
 
 -- The reply stops its session's loop.

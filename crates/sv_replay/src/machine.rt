@@ -5,7 +5,9 @@ ghost use Rattle.sv_scenario.specs.declared.scenario.Turn.TheVariants as turns;
 ghost use Rattle.sv_scenario.specs.Limits.{IsGoodTurn};
 ghost use Rattle.sv_scenario.specs.Sessions.{session_count};
 ghost use Rattle.sv_system.specs.Fits.{is_ended};
-ghost use Rattle.sv_schedule.specs.Schedule.{Player, rules_of, turned, all_turned, after_clients, after_sessions, after_takes, round, repeated};
+ghost use Rattle.sv_schedule.specs.Players.{Player, repeated};
+ghost use Rattle.sv_schedule.specs.Serving.{after_clients, after_takes};
+ghost use Rattle.sv_schedule.specs.Schedule.{rules_of, turned, all_turned, after_sessions, round};
 ghost use Rattle.sv_replay.specs.Machine.{run_of, IsMachine, Became, after_session, after_take};
 ghost use Rattle.sv_replay.specs.Work.{Found, work_of_session, work_of_client};
 

@@ -3,7 +3,9 @@
 ghost use Rattle.std.specs.Prelude.{◌≡◌, ℕ, false, [], ◌+◌, ◌<◌, ◌≤◌, length, map, slice_index_or, All, IfOk};
 ghost use Rattle.sv_scenario.specs.Limits.{IsGoodScenario, IsGoodPlan};
 ghost use Rattle.sv_scenario.specs.Sessions.{session_count, sessions_of_plan};
-ghost use Rattle.sv_schedule.specs.Schedule.{rules_of, players_from, opening_run};
+ghost use Rattle.sv_schedule.specs.Players.{players_from};
+ghost use Rattle.sv_schedule.specs.Serving.{opening_run};
+ghost use Rattle.sv_schedule.specs.Schedule.{rules_of};
 ghost use Rattle.sv_exchange.specs.View.{new_exchange};
 ghost use Rattle.sv_replay.specs.Machine.{player_of, AreFlags, run_of, IsMachine};
 

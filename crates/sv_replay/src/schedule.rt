@@ -2,7 +2,9 @@ ghost use Rattle.std.specs.Prelude.{◌≡◌, ◌<◌, map, reverse, IfOk, All}
 ghost use Rattle.sv_journal.specs.History.{commit_of, committed_of};
 ghost use Rattle.sv_scenario.specs.Limits.{IsGoodScenario};
 ghost use Rattle.sv_system.specs.Records.{IsPlayed};
-ghost use Rattle.sv_schedule.specs.Schedule.{trace_of_player, scheduled_run, traces_of};
+ghost use Rattle.sv_schedule.specs.Players.{trace_of_player};
+ghost use Rattle.sv_schedule.specs.Serving.{traces_of};
+ghost use Rattle.sv_schedule.specs.Schedule.{scheduled_run};
 ghost use Rattle.sv_schedule.specs.Records.{IsReplay};
 ghost use Rattle.sv_replay.specs.declared.playing.Playing.{Playing};
 ghost use Rattle.sv_replay.specs.Machine.{player_of, run_of, IsMachine};

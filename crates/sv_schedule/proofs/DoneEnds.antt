@@ -17,13 +17,16 @@ use Rattle.sv_scenario.specs.Limits.{IsGoodPlan, IsGoodScenario}
 use Rattle.sv_scenario.specs.Sessions.{sessions_of_plan, sessions_in, session_count}
 use Rattle.sv_script.proofs.Ends.{none-left}
 use Rattle.sv_system.specs.Fits.{is_ended, IsEndLast, is_join_of}
-use Rattle.sv_schedule.specs.Schedule.{Player, Run, rules_of, open_session, closed_by, session_turn, session_turns, sessions_turned, asked_in_run, player_turn, take_turns, after_clients, after_sessions, after_takes, round, repeated}
+use Rattle.sv_schedule.specs.Players.{Player, open_session, closed_by, asked_in_run, player_turn, take_turns, repeated}
+use Rattle.sv_schedule.specs.Serving.{Run, after_clients, after_takes}
+use Rattle.sv_schedule.specs.Schedule.{rules_of, plain_server, round, after_sessions}
 use Rattle.sv_schedule.specs.Sound.{IsPlaying, ArePlaying, IsSound}
 use Rattle.sv_system.specs.Records.{ends_in}
 use Rattle.sv_schedule.specs.Done.{IsDone}
 use Rattle.sv_schedule.proofs.DoneGiven.{NeverRefused, StaySound}
 use Rattle.sv_schedule.proofs.DoneLists.{repeated-sum, repeated-still, map-from, any-there, each-found, each-from}
-use Rattle.sv_schedule.proofs.DoneSessions.{quiet-round, quiet-still}
+use Rattle.sv_schedule.proofs.DoneSessions.{quiet-round}
+use Rattle.sv_schedule.proofs.DoneStill.{round-still}
 use Rattle.sv_schedule.proofs.DoneFacts.{following}
 use Rattle.sv_schedule.proofs.DoneCounts.{low-joined, finished-joined, all-joined}
 use Rattle.sv_schedule.proofs.DoneTakes.{takes-none}
@@ -127,38 +130,6 @@ closed-done scenario good stay run g closed = record {
       ];
 }
 
--- ---- A round that changes nothing
-
-map-still : (f : Player → Player) (ps : List Player) → AllByRecursion (λ (p : Player). f p ≡ p) ps → map f ps ≡ ps
-map-still f [] a = refl
-map-still f (p ∷ ps) a = ap₂ (λ q qs. q ∷ qs) a.0 (map-still f ps a.1)
-
-still-each : (f : Player → Player) → ((p : Player) → p.closed ≡ true → f p ≡ p) → (ps : List Player) → AllByRecursion (λ (p : Player). p.closed ≡ true) ps →
-    AllByRecursion (λ (p : Player). f p ≡ p) ps
-still-each f keep [] a = tt
-still-each f keep (p ∷ ps) a = (keep p a.0, still-each f keep ps a.1)
-
-sessions-still : (r : Rules) (ps : List Player) (h : List Entry) (ss : List ℕ) → ((s : ℕ) → is_in s ss ≡ true → is_ended h s ≡ true) → sessions_turned r ps h ss ≡ h
-sessions-still r ps h [] ended = refl
-sessions-still r ps h (s ∷ ss) ended =
-    let now : session_turns r ps h s ≡ h =
-    repeated-still (suc (length (asked_in_run ps s))) (λ (g : List Entry). session_turn r ps g s) h (quiet-still r ps s h (inl (ended s (is_in-head s ss)))) in
-    ap (λ (g : List Entry). sessions_turned r ps g ss) now ∙ sessions-still r ps h ss (λ t m. ended t (is_in-tail t s ss m))
-
-pub round-still : (scenario : Scenario) (run : Run) → IsDone scenario run → round (rules_of scenario) run ≡ run
-round-still scenario run d =
-    let r = rules_of scenario in
-    let closed = recursion_from_All (λ (p : Player). p.closed ≡ true) run.players d.closed in
-    let clients : after_clients run ≡ run =
-    ap (λ (ps : List Player). record run { players = ps }) (map-still player_turn run.players (still-each player_turn turn-closed run.players closed)) in
-    let sessions : after_sessions r run ≡ run =
-    ap (λ (h : List Entry). record run { history = h })
-    (sessions-still r run.players run.history (below (session_count scenario)) (λ s m. d.ended s (below-is_in (session_count scenario) s m))) in
-    let takes : after_takes run ≡ run =
-    ap (λ (ps : List Player). record run { players = ps })
-    (map-still (take_turns run.history) run.players (still-each (take_turns run.history) (λ p c. takes-none run.history p (open-closed p c)) run.players closed)) in
-    ap (λ (x : Run). after_takes (after_sessions r x)) clients ∙ ap after_takes sessions ∙ takes
-
 -- ---- So many rounds are enough
 
 pub rounds-done : (scenario : Scenario) → IsGoodScenario scenario → NeverRefused → StaySound scenario → (run : Run) → IsGoing scenario run → (n : ℕ) → 777 ≤ n →
@@ -173,7 +144,7 @@ rounds-done scenario good honest stay run g n l =
     let done : IsDone scenario (f closing) = closed-done scenario good stay closing g2 closed in
     let split : n ≡ suc (775 + suc (n - 777)) = omega (arith, l) in
     let there : repeated n f run ≡ f closing =
-    ap (λ (k : ℕ). repeated k f run) split ∙ repeated-sum 775 (suc (n - 777)) f first ∙ repeated-still (n - 777) f (f closing) (round-still scenario (f closing) done) in
+    ap (λ (k : ℕ). repeated k f run) split ∙ repeated-sum 775 (suc (n - 777)) f first ∙ repeated-still (n - 777) f (f closing) (round-still (plain_server (rules_of scenario)) scenario (f closing) done) in
     subst (IsDone scenario) (sym there) done
 
 -- ---- Ends

@@ -4,7 +4,8 @@ ghost use Rattle.sv_scenario.specs.declared.scenario.Scenario.{Scenario};
 ghost use Rattle.sv_scenario.specs.declared.scenario.Turn.{Turn};
 ghost use Rattle.sv_scenario.specs.Limits.{IsGoodScenario, IsGoodTurn};
 ghost use Rattle.sv_scenario.specs.Sessions.{session_count};
-ghost use Rattle.sv_schedule.specs.Schedule.{Run, rules_of, opening_run, turned, round, scheduled_run};
+ghost use Rattle.sv_schedule.specs.Serving.{Run, opening_run};
+ghost use Rattle.sv_schedule.specs.Schedule.{rules_of, turned, round, scheduled_run};
 ghost use Rattle.sv_schedule.specs.Sound.{IsSound};
 
 /// The run of a good scenario is sound at its opening, after each turn and round, and at its end: its journal is legal, the traces of its

@@ -1,5 +1,6 @@
 use Rattle.std.proofs.Common.{◌≡◌}
-use Rattle.sv_schedule.specs.Schedule.{most_rounds, scheduled_run}
+use Rattle.sv_schedule.specs.Serving.{most_rounds}
+use Rattle.sv_schedule.specs.Schedule.{scheduled_run}
 use Rattle.sv_replay.specs.Machine.{run_of}
 use Rattle.sv_replay.proofs.Ended.{ran, still_of, journal_of, traces_are, played_of, replay_of}
 use Rattle.sv_replay.proofs.schedule.run_schedule.Goals as goal

@@ -1,4 +1,5 @@
-use Rattle.sv_schedule.specs.Schedule.{Run, player_turn, after_clients}
+use Rattle.sv_schedule.specs.Players.{player_turn}
+use Rattle.sv_schedule.specs.Serving.{Run, after_clients}
 use Rattle.sv_replay.specs.Machine.{run_of, Heads}
 use Rattle.sv_replay.proofs.Turns.{turned_from}
 use Rattle.sv_replay.proofs.machine.Machine.client_turns.Given as goal

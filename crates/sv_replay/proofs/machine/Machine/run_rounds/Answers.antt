@@ -1,6 +1,8 @@
 use Rattle.std.proofs.Common.{◌+◌, ◌-◌, refl, ap, ◌∙◌, arith}
 use Rattle.sv_scenario.specs.declared.scenario.Scenario.{Scenario}
-use Rattle.sv_schedule.specs.Schedule.{Run, rules_of, repeated, round}
+use Rattle.sv_schedule.specs.Players.{repeated}
+use Rattle.sv_schedule.specs.Serving.{Run}
+use Rattle.sv_schedule.specs.Schedule.{rules_of, round}
 use Rattle.sv_schedule.specs.Done.{IsDone}
 use Rattle.sv_replay.specs.Machine.{run_of}
 use Rattle.sv_replay.proofs.Heading.{heads_start, heads_next, heads_end, rounds_start, rounds_next, rounds_end, done_became}

@@ -1,5 +1,7 @@
 use Rattle.std.proofs.Common.{◌-◌}
-use Rattle.sv_schedule.specs.Schedule.{Run, rules_of, repeated, round}
+use Rattle.sv_schedule.specs.Players.{repeated}
+use Rattle.sv_schedule.specs.Serving.{Run}
+use Rattle.sv_schedule.specs.Schedule.{rules_of, round}
 use Rattle.sv_replay.specs.Machine.{run_of, Heads}
 use Rattle.sv_replay.proofs.machine.Machine.run_rounds.Given as goal
 

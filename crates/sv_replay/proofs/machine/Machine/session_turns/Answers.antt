@@ -3,7 +3,8 @@ use Rattle.sv_world.specs.Control.{below}
 use Rattle.sv_journal.specs.Answer.{Rules}
 use Rattle.sv_scenario.specs.declared.scenario.Scenario.{Scenario}
 use Rattle.sv_scenario.specs.Sessions.{session_count}
-use Rattle.sv_schedule.specs.Schedule.{Run, rules_of, sessions_turned, session_turns}
+use Rattle.sv_schedule.specs.Serving.{Run}
+use Rattle.sv_schedule.specs.Schedule.{rules_of, sessions_turned, session_turns}
 use Rattle.sv_replay.specs.Machine.{run_of}
 use Rattle.sv_replay.proofs.Heading.{heads_next, heads_end, sessions_next, sessions_end}
 use Rattle.sv_replay.proofs.machine.Machine.session_turns.Goals as goal

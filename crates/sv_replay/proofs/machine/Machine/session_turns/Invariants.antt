@@ -1,7 +1,8 @@
 use Rattle.std.proofs.Common.{drop}
 use Rattle.sv_world.specs.Control.{below}
 use Rattle.sv_scenario.specs.Sessions.{session_count}
-use Rattle.sv_schedule.specs.Schedule.{Run, rules_of, sessions_turned, after_sessions}
+use Rattle.sv_schedule.specs.Serving.{Run}
+use Rattle.sv_schedule.specs.Schedule.{rules_of, sessions_turned, after_sessions}
 use Rattle.sv_replay.specs.Machine.{run_of, Heads}
 use Rattle.sv_replay.proofs.machine.Machine.session_turns.Given as goal
 

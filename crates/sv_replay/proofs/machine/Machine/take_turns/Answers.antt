@@ -1,5 +1,6 @@
 use Rattle.std.proofs.Common.{◌+◌, arith}
-use Rattle.sv_schedule.specs.Schedule.{Run, take_turns}
+use Rattle.sv_schedule.specs.Players.{take_turns}
+use Rattle.sv_schedule.specs.Serving.{Run}
 use Rattle.sv_replay.specs.Machine.{run_of}
 use Rattle.sv_replay.proofs.Machines.{clients_are}
 use Rattle.sv_replay.proofs.Turns.{turned_from}

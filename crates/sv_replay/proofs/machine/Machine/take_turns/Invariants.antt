@@ -1,4 +1,5 @@
-use Rattle.sv_schedule.specs.Schedule.{Run, take_turns, after_takes}
+use Rattle.sv_schedule.specs.Players.{take_turns}
+use Rattle.sv_schedule.specs.Serving.{Run, after_takes}
 use Rattle.sv_replay.specs.Machine.{run_of, Heads}
 use Rattle.sv_replay.proofs.Turns.{turned_from}
 use Rattle.sv_replay.proofs.machine.Machine.take_turns.Given as goal
