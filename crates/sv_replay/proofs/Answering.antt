@@ -70,7 +70,7 @@ module _ (server : Server) (keeps : KeepsSound server) (h : List Entry) (ps : Li
       let left : drop (length (requests_in h s)) (asked_in_run ps s) ≡ q ∷ qs = sym is.requests ∙ waits in
       let asked : is_end q ≡ false = waiting_asked ps s (length (requests_in h s)) q qs left in
       let of_it : is_of e s ≡ true = of-from e s refl (keeps.ends h s q ∙ asked) in
-        let asks : requests_in (e ∷ h) s ≡ requests_in h s ++ server.hears h s q ∷ [] = cond-true (is_of e s) (requests_in h s ++ server.hears h s q ∷ []) (requests_in h s) of_it in
+      let asks : requests_in (e ∷ h) s ≡ requests_in h s ++ server.hears h s q ∷ [] = cond-true (is_of e s) (requests_in h s ++ server.hears h s q ∷ []) (requests_in h s) of_it in
       let gives : replies_in (accepted (e ∷ h)) (e ∷ h) s ≡ replies_in (accepted h) h s ++ whole_reply server h s q ∷ [] =
       cond-true (is_of e s) (replies_in (accepted (e ∷ h)) h s ++ whole_reply server h s q ∷ []) (replies_in (accepted (e ∷ h)) h s) of_it
       ∙ ap (λ (rs : List Reply). rs ++ whole_reply server h s q ∷ []) (sym (replies_stay e h s named)) in
