@@ -16,6 +16,7 @@ pub mod DoneWaits
 pub mod SoundCalls
 pub mod SoundEntries
 pub mod SoundLaws
+pub mod SoundOwned
 pub mod SoundPlain
 pub mod SoundPlayers
 pub mod SoundReplies

@@ -9,7 +9,7 @@ use Rattle.sv_wire.specs.declared.message.Request.TheVariants as requests
 use Rattle.sv_journal.specs.declared.entry.Entry.{Entry}
 use Rattle.sv_journal.specs.declared.entry.Logged.{Logged}
 use Rattle.sv_journal.specs.declared.entry.Logged.TheVariants as logged
-use Rattle.sv_journal.specs.History.{accepted}
+use Rattle.sv_journal.specs.History.{accepted, joining}
 use Rattle.sv_journal.specs.Sessions.{is_end}
 use Rattle.sv_client.specs.declared.trace.Trace.{Trace}
 use Rattle.sv_client.specs.Traces.{got, requests_of}
@@ -55,6 +55,10 @@ pub record KeepsSound (server : Server) : Type 0 where
   pub ends : (h : List Entry) (s : ℕ) (request : Request) → is_end (server.hears h s request) ≡ is_end request
   pub bye : (h : List Entry) (s : ℕ) → server.answers h s requests.End ≡ logged.Bye
   pub named : (h : List Entry) → IsServed server h → AreNamed h
+
+-- It hears who joins.
+abbrev pub HearsJoins : Server → Type 0
+HearsJoins server = (h : List Entry) (s : ℕ) (request : Request) → joining (server.hears h s request) ≡ joining request
 
 -- ---- Runs over a server
 
