@@ -1,12 +1,11 @@
 -- Once all clients have closed, a round ends all sessions, and a further one changes nothing.
-use Rattle.std.proofs.Common.{◌≡◌, ℕ, suc, ◌+◌, ◌-◌, ◌≤◌, ◌<◌, Bool, true, false, ◌&&◌, ◌||◌, ◌==◌, not, inl, inr, List, [], ◌∷◌, map, length, Option, Some, slice_get, refl, sym, ap, ap₂, ◌∙◌, subst, arith, eqb-true, true≢false}
-use Rattle.std.specs.List.{list_any, AllByRecursion}
+use Rattle.std.proofs.Common.{◌≡◌, ℕ, suc, ◌+◌, ◌-◌, ◌≤◌, ◌<◌, Bool, true, false, ◌&&◌, ◌||◌, ◌==◌, not, inl, inr, List, [], ◌∷◌, map, Option, Some, slice_get, refl, sym, ap, ◌∙◌, subst, arith, eqb-true, true≢false}
+use Rattle.std.specs.List.{list_any}
 use Rattle.std.proofs.lemmas.Bool.{cond-true, cond-false, cases_Bool, cases_lt, and_parts, and_from, or_cases}
-use Rattle.std.proofs.lemmas.List.Elements.{recursion_from_All, All-from_recursion}
+use Rattle.std.proofs.lemmas.List.Elements.{All-from_recursion}
 use Rattle.sv_world.specs.declared.world.Shape.{Shape}
-use Rattle.sv_world.specs.Control.{is_in, below}
-use Rattle.sv_world.proofs.Bases.{is_in-below, below-is_in}
-use Rattle.sv_world.proofs.Members.{is_in-head, is_in-tail}
+use Rattle.sv_world.specs.Control.{below}
+use Rattle.sv_world.proofs.Bases.{is_in-below}
 use Rattle.sv_journal.specs.declared.entry.Entry.{Entry}
 use Rattle.sv_journal.specs.Sessions.{is_end}
 use Rattle.sv_journal.specs.Answer.{Rules}
@@ -17,8 +16,8 @@ use Rattle.sv_scenario.specs.Limits.{IsGoodPlan, IsGoodScenario}
 use Rattle.sv_scenario.specs.Sessions.{sessions_of_plan, sessions_in, session_count}
 use Rattle.sv_script.proofs.Ends.{none-left}
 use Rattle.sv_system.specs.Fits.{is_ended, IsEndLast, is_join_of}
-use Rattle.sv_schedule.specs.Players.{Player, open_session, closed_by, asked_in_run, player_turn, take_turns, repeated}
-use Rattle.sv_schedule.specs.Serving.{Run, after_clients, after_takes}
+use Rattle.sv_schedule.specs.Players.{Player, open_session, closed_by, player_turn, take_turns, repeated}
+use Rattle.sv_schedule.specs.Serving.{Run, after_clients}
 use Rattle.sv_schedule.specs.Schedule.{rules_of, plain_server, round, after_sessions}
 use Rattle.sv_schedule.specs.Sound.{IsPlaying, ArePlaying, IsSound}
 use Rattle.sv_system.specs.Records.{ends_in}
@@ -29,7 +28,6 @@ use Rattle.sv_schedule.proofs.DoneSessions.{quiet-round}
 use Rattle.sv_schedule.proofs.DoneStill.{round-still}
 use Rattle.sv_schedule.proofs.DoneFacts.{following}
 use Rattle.sv_schedule.proofs.DoneCounts.{low-joined, finished-joined, all-joined}
-use Rattle.sv_schedule.proofs.DoneTakes.{takes-none}
 use Rattle.sv_schedule.proofs.DoneShut.{open-closed, turn-closed, stays-closed}
 use Rattle.sv_schedule.proofs.DoneRounds.{IsGoing, going-clients, going-round, going-rounds, falling-first, falling-rounds, fallen-closed}
 

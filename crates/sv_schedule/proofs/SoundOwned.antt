@@ -1,5 +1,5 @@
 -- In a sound run each session that was joined as a client is one that this client's player joined, where the server hears who joins.
-use Rattle.std.proofs.Common.{◌≡◌, ℕ, zero, suc, Bool, true, false, ◌==◌, ◌&&◌, not, inl, inr, List, [], ◌∷◌, ◌++◌, map, length, Option, Some, None, slice_get, refl, sym, ap, ap₂, subst, ◌∙◌, eqb-true, eq-eqb, true≢false}
+use Rattle.std.proofs.Common.{◌≡◌, ℕ, zero, suc, Bool, true, false, ◌==◌, ◌&&◌, not, inl, inr, List, [], ◌∷◌, ◌++◌, map, length, Option, Some, None, slice_get, refl, sym, ap, subst, ◌∙◌, eqb-true, eq-eqb, true≢false}
 use Rattle.std.specs.Prelude.{if◌then◌else◌}
 use Rattle.std.specs.List.{list_any, AllByRecursion}
 use Rattle.std.proofs.lemmas.Bool.{cases_Bool, cond-true, cond-false, and_parts, and_from, not_from_false}
@@ -129,7 +129,7 @@ client-heard server hears p (e ∷ h) s k heard c = go (client_of h s) refl (λ 
         let now = joins-now e s k (client_of h s) is c in
         let one = heard.0 (and_from (e.session == s) (not (is_end e.request)) (eq-eqb e.session s now.0) (not_from_false (is_end e.request) now.1.0)) in
         let joins = each-found (JoinsAs p.who.client.0) (asked p.who.client p.who.interest p.events s) (length (requests_in h s)) one.request
-            (trace-joins p.who.client p.who.interest p.events s) one.next in
+        (trace-joins p.who.client p.who.interest p.events s) one.next in
         joins k (sym (hears h s one.request) ∙ ap joining (sym one.heard) ∙ now.1.1)
 
 -- ---- Whose a session is
@@ -151,7 +151,7 @@ pub session-owned : (server : Server) → HearsJoins server → (scenario : Scen
     IsSoundOver server scenario run → (i : ℕ) (p : Player) → slice_get run.players i ≡ Some p → (s : ℕ) → client_of run.history s ≡ Some p.who.client.0 → has_joined p s ≡ true
 session-owned server hears scenario run good sound i p at s c =
     let begun = begun-client (λ (n : ℕ). list_any (λ (q : Player). has_joined q n) run.players) run.history s p.who.client.0
-        (recursion_from_All (λ (e : Entry). list_any (λ (q : Player). has_joined q e.session) run.players ≡ true) run.history sound.begun) c in
+    (recursion_from_All (λ (e : Entry). list_any (λ (q : Player). has_joined q e.session) run.players ≡ true) run.history sound.begun) c in
     let o = any-found (λ (q : Player). has_joined q s) run.players begun in
     let q = o.1.0 in
     let a = player-at server scenario run good sound o.0 q o.1.1.0 in

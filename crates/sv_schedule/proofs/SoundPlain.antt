@@ -22,7 +22,7 @@ use Rattle.sv_system.proofs.Fronts.{front-then}
 use Rattle.sv_system.proofs.Histories.{same}
 use Rattle.sv_system.proofs.Entered.{is_of, requests-one, request-there}
 use Rattle.sv_schedule.specs.Players.{Player, trace_of_player}
-use Rattle.sv_schedule.specs.Serving.{Run, entry_by, after_clients, after_takes, opening_run, traces_of}
+use Rattle.sv_schedule.specs.Serving.{Run, after_clients, after_takes, opening_run, traces_of}
 use Rattle.sv_schedule.specs.Schedule.{rules_of, plain_server, turned, after_sessions, round, scheduled_run}
 use Rattle.sv_schedule.specs.Sound.{IsSound}
 use Rattle.sv_schedule.specs.Served.{IsServed, AreHeard, KeepsSound, FitsServer, IsSoundOver}

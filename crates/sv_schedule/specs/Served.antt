@@ -1,6 +1,6 @@
 -- What is true of a run over any server at each moment, after whatever turns; and what a server must keep for it.
 -- A history is the list of a journal's entries with the latest first; events stand with the latest first too.
-use Rattle.std.specs.Prelude.{◌≡◌, ℕ, ◌<◌, ◌≤◌, Bool, true, ◌==◌, ◌&&◌, not, List, [], ◌∷◌, length, reverse, Some, slice_get, All}
+use Rattle.std.specs.Prelude.{◌≡◌, ℕ, ◌<◌, ◌≤◌, true, ◌==◌, ◌&&◌, not, List, [], ◌∷◌, length, reverse, Some, slice_get, All}
 use Rattle.std.specs.List.{list_any, AllByRecursion}
 use Rattle.sv_world.specs.declared.world.Shape.{Shape}
 use Rattle.sv_world.specs.Control.{is_in}
