@@ -115,7 +115,7 @@ begun-client begun (e ∷ h) s k all c = go (client_of h s) refl (begun-client b
     go None is earlier = ap begun (sym (joins-now e s k (client_of h s) is c).0) ∙ all.0
 
 -- It is the client of whom its requests were heard.
-client-heard : (server : Server) → HearsJoins server → (p : Player) (h : List Entry) (s k : ℕ) →
+pub client-heard : (server : Server) → HearsJoins server → (p : Player) (h : List Entry) (s k : ℕ) →
     AreHeard server h s (asked p.who.client p.who.interest p.events s) → client_of h s ≡ Some k → k ≡ p.who.client.0
 client-heard server hears p [] s k heard c = absurd (none-some k c)
 client-heard server hears p (e ∷ h) s k heard c = go (client_of h s) refl (λ j. client-heard server hears p h s j heard.1)
