@@ -1,5 +1,5 @@
 -- What a run over a server leaves, and that what a replay leaves is the record of the scheduled run.
-use Rattle.std.proofs.Common.{◌≡◌, ℕ, List, map, reverse, Result, Ok, Err, refl, sym, ap, subst, ◌∙◌}
+use Rattle.std.proofs.Common.{◌≡◌, ℕ, List, reverse, Result, Ok, Err, sym, ap, subst, ◌∙◌}
 use Rattle.std.specs.Prelude.{IfOk}
 use Rattle.std.specs.declared.alloc.AllocError.{AllocError}
 use Rattle.sv_journal.specs.declared.entry.Entry.{Entry}
@@ -12,7 +12,7 @@ use Rattle.sv_sequencer.specs.Step.{SequencerView, history}
 use Rattle.sv_system.specs.declared.played.Played.{Played}
 use Rattle.sv_system.specs.Records.{IsPlayed}
 use Rattle.sv_schedule.specs.Players.{repeated}
-use Rattle.sv_schedule.specs.Serving.{Run, Server, turns_served, round_served, opening_run, most_rounds, run_served, traces_of}
+use Rattle.sv_schedule.specs.Serving.{Run, Server, turns_served, round_served, opening_run, run_served, traces_of}
 use Rattle.sv_schedule.specs.Schedule.{rules_of, plain_server, scheduled_run}
 use Rattle.sv_schedule.specs.Records.{IsReplay}
 use Rattle.sv_replay.specs.declared.schedule.Ran.{Ran}
