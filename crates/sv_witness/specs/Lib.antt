@@ -9,7 +9,6 @@ pub mod Step
 pub mod Invariant
 pub mod Lies
 pub mod Tolerance
-pub mod Serving
 pub mod Run
 pub mod Lines
 pub mod Words

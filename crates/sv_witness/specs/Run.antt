@@ -8,22 +8,21 @@ use Rattle.sv_journal.specs.History.{client_of, is_client, actions_of}
 use Rattle.sv_journal.specs.Answer.{Rules}
 use Rattle.sv_client.specs.declared.trace.Trace.{Trace}
 use Rattle.sv_scenario.specs.declared.scenario.Scenario.{Scenario}
-use Rattle.sv_sequencer.specs.Step.{entry_of}
-use Rattle.sv_schedule.specs.Schedule.{Run, rules_of, traces_of}
+use Rattle.sv_schedule.specs.Serving.{Run, Server, run_served, traces_of}
+use Rattle.sv_schedule.specs.Schedule.{rules_of}
 use Rattle.sv_witness.specs.Reports.{agreed_commit, agreed_world}
 use Rattle.sv_witness.specs.Witnessed.{witnessed_reply, IsWitnessed}
 use Rattle.sv_witness.specs.Disputes.{disputes_of, NamesClient}
 use Rattle.sv_system.specs.Served.{no_client}
 use Rattle.sv_witness.specs.Lies.{lied}
-use Rattle.sv_witness.specs.Serving.{Server, run_served}
 
--- What the server is sent of what a session asks: where the liar joined it, each Done is a lie.
+-- What the server hears of what a session asks: where the liar joined it, each Done is a lie.
 abbrev pub heard_of : Option ℕ → List Entry → ℕ → Request → Request
 heard_of None h s request = request
 heard_of (Some liar) h s request = if is_client (client_of h s) liar then lied request else request
 
 abbrev pub witness_of : Rules → Option ℕ → Server
-witness_of r liar h s request = entry_of s (heard_of liar h s request) (witnessed_reply r h s (heard_of liar h s request))
+witness_of r liar = record { hears = heard_of liar; answers = λ h s request. witnessed_reply r h s (heard_of liar h s request) }
 
 abbrev pub witnessed_run : Scenario → Option ℕ → Run
 witnessed_run scenario liar = run_served (witness_of (rules_of scenario) liar) scenario
