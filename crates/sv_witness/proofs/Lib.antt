@@ -16,3 +16,4 @@ mod Forms
 pub mod Tolerated
 mod Lying
 mod Calm
+mod Steps

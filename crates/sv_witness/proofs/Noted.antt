@@ -208,10 +208,11 @@ module _ (rows : List RowView) (e : Entry) (h : List Entry) (k : ℕ) (results :
       ∙ without (client_of h e.session) (reports_of h p)
 
   pub keeps-noted : (new : List RowView) →
-      ((p : ℕ) → kept_at new p ≡ with_values k (reported p (counted_results (agreed_commit h) rows k results)) (kept_at rows p)) → KeepsReports new (e ∷ h)
+      ((p : ℕ) → agreed_commit (e ∷ h) < p → kept_at new p ≡ with_values k (reported p (counted_results (agreed_commit h) rows k results)) (kept_at rows p)) →
+      KeepsReports new (e ∷ h)
   keeps-noted new now p above =
       let grows : agreed_commit h ≤ agreed_commit (e ∷ h) = agreed-grows e h in
-      now p ∙ sym (reports-above p (omega arith))
+      now p above ∙ sym (reports-above p (omega arith))
 
   -- ---- What was agreed
 

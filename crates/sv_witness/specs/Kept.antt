@@ -1,15 +1,17 @@
 -- Which reports a witnessing server keeps, and what a client's results make of them.
 -- A history is the list of a journal's entries with the latest first, and reports stand with the latest first too.
-use Rattle.std.specs.Prelude.{◌≡◌, ℕ, ◌<◌, Bool, ◌&&◌, ◌||◌, not, nat_lt, ℤ, List, [], ◌∷◌, filter, reverse, slice_index_or, Option, Some, None, option_to_list, is_none, if◌then◌else◌}
+use Rattle.std.specs.Prelude.{◌≡◌, ℕ, ◌<◌, Bool, ◌&&◌, ◌||◌, not, nat_lt, ℤ, List, [], ◌∷◌, length, filter, reverse, slice_index_or, Option, Some, None, option_to_list, is_none, if◌then◌else◌}
 use Rattle.std.specs.List.{list_any, flat_map}
 use Rattle.sv_wire.specs.declared.message.Done1.{Done1}
 use Rattle.sv_queue.specs.Queue.{QueueView, entry_at}
 use Rattle.sv_journal.specs.declared.entry.Entry.{Entry}
-use Rattle.sv_journal.specs.History.{reported}
+use Rattle.sv_journal.specs.Answer.{Rules}
+use Rattle.sv_journal.specs.History.{accepted, reported}
 use Rattle.sv_witness.specs.declared.report.Report.{Report}
 use Rattle.sv_witness.specs.declared.report.Dispute.{Dispute}
 use Rattle.sv_witness.specs.Reports.{is_by, gives, is_nothing, reports_of, agreed_commit}
-use Rattle.sv_witness.specs.Disputes.{dispute_in}
+use Rattle.sv_witness.specs.Witnessed.{IsWitnessed}
+use Rattle.sv_witness.specs.Disputes.{disputes_of, dispute_in}
 
 -- ---- Rows
 
@@ -69,3 +71,13 @@ agreed_results v rows counted = filter (brings v rows) counted
 abbrev pub new_disputes : List RowView → ℕ → List Done1 → List Dispute
 new_disputes rows k counted =
     flat_map (λ (d : Done1). option_to_list (dispute_in d.pos (reverse (kept_at rows d.pos)) (report_by k d.values))) counted
+
+-- ---- Beside a core
+
+-- What a server keeps beside its core, of a journal with these entries: the journal is legal, the rows keep its reports, no position is reported
+-- that was not accepted, and its disputes are these.
+pub record Stands (r : Rules) (rows : List RowView) (disputes : List Dispute) (h : List Entry) : Type 0 where
+  pub legal : IsWitnessed r h
+  pub reports : KeepsReports rows h
+  pub within : (p : ℕ) → length (accepted h) < p → reports_of h p ≡ []
+  pub disputed : disputes ≡ disputes_of h
