@@ -21,6 +21,7 @@ type Row<'a> = (u16, Ask<'a>, &'a str);
 type Told<'a> = (u16, &'a [i64]);
 
 /// A server of objects of one number each, what it is asked, and how it then stands.
+#[derive(Clone, Copy)]
 struct Case<'a> {
     numbers: &'a [i64],
     rows: &'a [Row<'a>],
@@ -124,8 +125,8 @@ fn are_numbers(values: &[Value], numbers: &[i64]) -> bool {
     if values.len() != numbers.len() {
         return false;
     }
-    for (value, number) in values.iter().zip(numbers) {
-        if value.as_slice() != [*number] {
+    for (value, number) in values.iter().zip(numbers.iter()) {
+        if value.as_slice() != [*number].as_slice() {
             return false;
         }
     }
@@ -141,7 +142,7 @@ fn are_disputes(disputes: &[Dispute], expected: &[(u32, Told, Told)]) -> bool {
     if disputes.len() != expected.len() {
         return false;
     }
-    for (dispute, (pos, first, second)) in disputes.iter().zip(expected) {
+    for (dispute, (pos, first, second)) in disputes.iter().zip(expected.iter()) {
         if dispute.pos != *pos
             || !is_told(&dispute.first, *first)
             || !is_told(&dispute.second, *second)
@@ -165,7 +166,7 @@ fn compare_all(alloc: Global, witness: &Witness, case: &Case) -> Result<(), Fail
     if witness.commit() != case.commit {
         return Err(Fail::new("another commit"));
     }
-    if witness.committed(ObjectId(0)).as_slice() != [case.first] {
+    if witness.committed(ObjectId(0)).as_slice() != [case.first].as_slice() {
         return Err(Fail::new("another committed value"));
     }
     Ok(())
