@@ -2,14 +2,20 @@
 """What `witness FILE` and `witness FILE K` print, by a server in Python that was written from the rules alone.
 
     python3 tests/outside/witness.py FILE [K]
+    python3 tests/outside/witness.py --many N
+
+The second form runs N random scenarios, where none lies and with each client as the liar. The world must be that of doing the accepted
+actions one after the other, each dispute must name the liar, each client must take all replies, and the rounds must be enough.
 
 The server installs a result once two different clients reported it. It differs from the plain one in its Dones and Polls alone.
 """
 
 import sys
 
+from actions import evaluate
+from random_scenario import scenario_text
 from report import Reply
-from scenario import read_scenario
+from scenario import read_scenario, scenario_of
 from server import Server
 from simulate import ROUNDS, Run
 
@@ -103,9 +109,43 @@ def text_of(server):
     return "".join(line + "\n" for line in lines)
 
 
+def fault_of(scenario, liar):
+    """What is wrong with a run, or None."""
+    run = witnessed(scenario, liar)
+    world = list(map(tuple, scenario.opening))
+    for queued in run.server.queue[:run.server.commit]:
+        for target, value in zip(queued.action.writes, evaluate(queued.action, world)):
+            world[target] = value
+    if not run.is_over():
+        return "the rounds were not enough"
+    if list(map(tuple, run.server.committed)) != world:
+        return "the world is another"
+    if any(liar not in (first[0], second[0]) for _, first, second in run.server.disputes()):
+        return "a dispute names others"
+    return None
+
+
+def many(count):
+    """Random scenarios, with each client as the liar and with none. A client that refuses a reply raises Wrong."""
+    runs, wrong = 0, 0
+    for seed in range(count):
+        text = scenario_text(seed)
+        scenario = scenario_of(text if isinstance(text, bytes) else text.encode())
+        for liar in (None, *range(len(scenario.plans))):
+            fault, runs = fault_of(scenario, liar), runs + 1
+            if fault:
+                wrong += 1
+                print(f"seed {seed}, liar {liar}: {fault}")
+    print(f"{runs} runs of {count} scenarios, {wrong} wrong")
+    return 1 if wrong else 0
+
+
 def main(words):
+    if words[0] == "--many":
+        return many(int(words[1]))
     print(text_of(witnessed(read_scenario(words[0]), int(words[1]) if len(words) > 1 else None).server), end="")
+    return 0
 
 
 if __name__ == "__main__":
-    main(sys.argv[1:])
+    sys.exit(main(sys.argv[1:]))
