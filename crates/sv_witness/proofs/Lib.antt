@@ -17,4 +17,7 @@ pub mod Tolerated
 mod Lying
 mod Calm
 mod Steps
+<<<<<<< HEAD
 mod Stepped
+=======
+>>>>>>> origin/witness-g

@@ -1,8 +1,10 @@
 //! The laws of witnessed journals.
 ghost use Rattle.std.specs.Prelude.{◌≡◌, ◌≤◌, ℕ, ℤ, List, All, length, reverse, slice_get, None, Some, []};
+ghost use Rattle.sv_world.specs.Control.{action_at};
+ghost use Rattle.sv_world.specs.Sets.{write_set};
 ghost use Rattle.sv_wire.specs.declared.message.Reply.{Reply};
 ghost use Rattle.sv_journal.specs.declared.entry.Entry.{Entry};
-ghost use Rattle.sv_journal.specs.History.{client_of, outcomes_of, accepted, result_at};
+ghost use Rattle.sv_journal.specs.History.{client_of, outcomes_of, accepted, actions_of, result_at};
 ghost use Rattle.sv_journal.specs.Sessions.{sent_to};
 ghost use Rattle.sv_journal.specs.Answer.{Rules};
 ghost use Rattle.sv_client.specs.declared.trace.Trace.{Trace};
@@ -31,6 +33,13 @@ pub fn agreed_results_are_those_of_two_clients()
 /// report's client.
 pub fn reports_are_of_noted_dones()
     ensures { (h : List Entry) (p : ℕ) (r : Report) → IsAmong r (reports_of h p) → IsReported h p r }
+{}
+
+/// Each report that counts has a value for each object that the position's action writes. So its values are none just where the action writes
+/// nothing.
+pub fn reports_have_a_value_for_each_write()
+    ensures { (r : Rules) (h : List Entry) (p : ℕ) (report : Report) → IsWitnessed r h → IsAmong report (reports_of h p) →
+        length report.values ≡ length (write_set (action_at (actions_of h) p)) }
 {}
 
 /// Each dispute is of two reports of its position, which are of different clients and differ. So where all clients but one give the same
