@@ -17,7 +17,4 @@ pub mod Tolerated
 mod Lying
 mod Calm
 mod Steps
-<<<<<<< HEAD
 mod Stepped
-=======
->>>>>>> origin/witness-g
