@@ -8,8 +8,9 @@ use Rattle.sv_wire.specs.declared.message.Request.{Request}
 use Rattle.sv_wire.specs.declared.message.Request.TheVariants as requests
 use Rattle.sv_journal.specs.declared.entry.Entry.{Entry}
 use Rattle.sv_journal.specs.History.{either, is_noted, client_of, reported, reports, result_at, commit_of}
+use Rattle.sv_journal.specs.Serving.{with_results}
 use Rattle.sv_witness.specs.declared.report.Report.{Report}
-use Rattle.sv_witness.specs.Reports.{is_by, gives, with_report, counted_in, is_nothing, agreed_values, brings_agreement, with_results, reports_of, agreed_history, agreed_result}
+use Rattle.sv_witness.specs.Reports.{is_by, gives, with_report, counted_in, is_nothing, agreed_values, brings_agreement, reports_of, agreed_history, agreed_result}
 
 abbrev Values : Type 0
 Values = Option (List (List ℤ))

@@ -4,11 +4,10 @@ use Rattle.std.specs.Prelude.{ℕ, suc, Bool, true, false, ◌&&◌, ◌||◌, n
 use Rattle.std.specs.List.{list_any}
 use Rattle.sv_world.specs.Control.{is_in, below}
 use Rattle.sv_wire.specs.declared.message.Done1.{Done1}
-use Rattle.sv_wire.specs.declared.message.Request.{Request}
-use Rattle.sv_wire.specs.declared.message.Request.TheVariants as requests
 use Rattle.sv_journal.specs.declared.entry.Entry.{Entry}
-use Rattle.sv_journal.specs.History.{either, is_noted, client_of, accepted, reports, result_at, commit_of, committed_of}
+use Rattle.sv_journal.specs.History.{either, is_noted, client_of, accepted, reports, commit_of, committed_of}
 use Rattle.sv_journal.specs.Sessions.{sent_to}
+use Rattle.sv_journal.specs.Serving.{with_results}
 use Rattle.sv_client.specs.Same.{are_same_values}
 use Rattle.sv_witness.specs.declared.report.Report.{Report}
 
@@ -49,11 +48,6 @@ agreed_values (r ∷ rs) = either (agreed_values rs) (if is_nothing r.values || 
 -- The reports have no result yet, and have one once the client gives these values.
 abbrev pub brings_agreement : Option ℕ → Option (List (List ℤ)) → List Report → Bool
 brings_agreement client values rs = is_none (agreed_values rs) && is_some (agreed_values (with_report client values rs))
-
--- A Done with those of its results alone that pass a test; any other request as it is.
-abbrev pub with_results : (Done1 → Bool) → Request → Request
-with_results test (requests.Done results) = requests.Done (filter test results)
-with_results test request = request
 
 abbrev mutual
   -- The reports of a position that count: the first of each client, over all its sessions, that came while the position was above the commit.

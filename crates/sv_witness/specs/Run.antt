@@ -13,7 +13,7 @@ use Rattle.sv_schedule.specs.Schedule.{rules_of}
 use Rattle.sv_witness.specs.Reports.{agreed_commit, agreed_world}
 use Rattle.sv_witness.specs.Witnessed.{witnessed_reply, IsWitnessed}
 use Rattle.sv_witness.specs.Disputes.{disputes_of, NamesClient}
-use Rattle.sv_witness.specs.Tolerance.{no_client}
+use Rattle.sv_system.specs.Served.{no_client}
 use Rattle.sv_witness.specs.Lies.{lied}
 
 -- What the server hears of what a session asks: where the liar joined it, each Done is a lie.

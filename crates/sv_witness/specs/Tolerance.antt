@@ -1,7 +1,6 @@
 -- What holds of a witnessing server's journal where all clients but one are honest.
 -- A history is the list of a journal's entries with the latest first; events stand with the latest first too.
-use Rattle.std.specs.Prelude.{◌≡◌, ℕ, Bool, true, ◌==◌, ◌&&◌, List, map, reverse, All, Some}
-use Rattle.std.specs.List.{list_any}
+use Rattle.std.specs.Prelude.{◌≡◌, ℕ, true, List, map, reverse, All, Some}
 use Rattle.sv_world.specs.declared.world.Shape.{Shape}
 use Rattle.sv_eval.specs.Serial.{serial_world}
 use Rattle.sv_journal.specs.declared.entry.Entry.{Entry}
@@ -11,29 +10,11 @@ use Rattle.sv_client.specs.declared.trace.Trace.{Trace}
 use Rattle.sv_client.specs.Traces.{held_of, got, requests_of}
 use Rattle.sv_client.specs.Proper.{Proper}
 use Rattle.sv_system.specs.Fronts.{IsFront}
-use Rattle.sv_system.specs.Fits.{requests_in, replies_in, IsEndLast, has_session, FitsOne, AreApart, AreAllApart}
+use Rattle.sv_system.specs.Fits.{requests_in, replies_in, IsEndLast, has_session, AreApart}
 use Rattle.sv_system.specs.Serial.{AreSerial, reply_held, RelaysAreSufficient}
 use Rattle.sv_witness.specs.Reports.{agreed_commit, agreed_world}
 use Rattle.sv_witness.specs.Disputes.{disputes_of, NamesClient}
 use Rattle.sv_witness.specs.Lies.{lied}
-
--- ---- Who is honest
-
--- The session is one of the traces', whose client has this number.
-abbrev pub is_session_of : List Trace → ℕ → ℕ → Bool
-is_session_of Ls k s = list_any (λ (L : Trace). L.client.0 == k && has_session L s) Ls
-
--- Each client but the liar is honest: it has a trace that fits the journal, as a server's own clients do. Of the liar nothing is asked: it may
--- join any session, with any life, and ask and report whatever it likes there.
-pub record FitsBut (liar : ℕ) (shape : Shape) (h : List Entry) (Ls : List Trace) : Type 0 where
-  pub each : All (FitsOne shape h) Ls
-  pub apart : AreAllApart Ls
-  pub honest : All (λ (L : Trace). L.client.0 ≡ liar → ⊥) Ls
-  pub joined : (s k : ℕ) → client_of h s ≡ Some k → (k ≡ liar → ⊥) → is_session_of Ls k s ≡ true
-
--- No client has this number.
-abbrev pub no_client : ℕ
-no_client = 32
 
 -- ---- What is so for the honest
 

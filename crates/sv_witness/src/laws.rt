@@ -13,7 +13,8 @@ ghost use Rattle.sv_system.specs.Fits.{replies_in};
 ghost use Rattle.sv_witness.specs.Reports.{agreed_history, agreed_result};
 ghost use Rattle.sv_witness.specs.Agreement.{TwoAgree};
 ghost use Rattle.sv_witness.specs.Witnessed.{IsWitnessed};
-ghost use Rattle.sv_witness.specs.Tolerance.{FitsBut, IsTolerated, IsLiar};
+ghost use Rattle.sv_system.specs.Served.{FitsBut};
+ghost use Rattle.sv_witness.specs.Tolerance.{IsTolerated, IsLiar};
 ghost use Rattle.sv_witness.specs.Examples.{ExamplesAreWitnessed};
 
 /// The history of what was agreed says what it should: in it a position has just the result that the reports of it
