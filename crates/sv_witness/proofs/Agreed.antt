@@ -16,7 +16,7 @@ abbrev Values : Type 0
 Values = Option (List (List ℤ))
 
 -- Of results that a test of their positions passes, a position has what it had, where it passes.
-reported-filter : (test : ℕ → Bool) (p : ℕ) (ds : List Done1) → reported p (filter (λ (d : Done1). test d.pos) ds) ≡ (if test p then reported p ds else None)
+pub reported-filter : (test : ℕ → Bool) (p : ℕ) (ds : List Done1) → reported p (filter (λ (d : Done1). test d.pos) ds) ≡ (if test p then reported p ds else None)
 reported-filter test p [] = elim (cases_Bool (test p)) [ inl t ↦ sym (cond-true (test p) None None t) | inr t ↦ sym (cond-false (test p) None None t) ]
 reported-filter test p (d ∷ ds) = go (test d.pos) refl (d.pos == p) refl (test p) refl (reported-filter test p ds)
   where
@@ -52,7 +52,7 @@ reports-with test p requests.End = none-either (test p)
 
 -- ---- One report more
 
-either-none : (x : Values) → either x no-values ≡ x
+pub either-none : (x : Values) → either x no-values ≡ x
 either-none (Some w) = refl
 either-none None = refl
 
@@ -80,7 +80,7 @@ counted-step (Some k) (Some vs) rs = go (list_any (is_by k) rs)
     go true = unchanged (agreed_values rs) (Some vs)
     go false = one-more (agreed_values rs) vs (is_nothing vs || list_any (gives vs) rs)
 
-without : (client : Option ℕ) (rs : List Report) → with_report client None rs ≡ rs
+pub without : (client : Option ℕ) (rs : List Report) → with_report client None rs ≡ rs
 without None rs = refl
 without (Some k) rs = refl
 

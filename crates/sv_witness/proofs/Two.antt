@@ -44,7 +44,7 @@ any-among test (r ∷ rs) e =
     let rest = any-among test rs in
     elim (or_cases (test r) (list_any test rs) e) [ inl t ↦ (r, (here, t)) | inr t ↦ (let q = rest t in (q.0, (there q.1.0, q.1.1))) ]
 
-none-among : (test : Report → Bool) (q : Report) (rs : List Report) → IsAmong q rs → list_any test rs ≡ false → test q ≡ false
+pub none-among : (test : Report → Bool) (q : Report) (rs : List Report) → IsAmong q rs → list_any test rs ≡ false → test q ≡ false
 none-among test q whole (here {rs}) e = (or_parts (test q) (list_any test rs) e).0
 none-among test q whole (there {x} {rs} m) e = none-among test q rs m (or_parts (test x) (list_any test rs) e).1
 

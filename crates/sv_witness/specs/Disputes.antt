@@ -1,6 +1,6 @@
 -- Where clients' reports of a position differ.
 -- A history is the list of a journal's entries with the latest first, and reports stand with the latest first too.
-use Rattle.std.specs.Prelude.{◌≡◌, ◌⊎◌, ℕ, suc, List, [], ◌∷◌, length, Option, Some, None, option_to_list, if◌then◌else◌}
+use Rattle.std.specs.Prelude.{◌≡◌, ◌⊎◌, ℕ, suc, ◌==◌, nat_lt, List, [], ◌∷◌, length, Option, Some, None, option_to_list, if◌then◌else◌}
 use Rattle.std.specs.List.{flat_map}
 use Rattle.sv_world.specs.Control.{below}
 use Rattle.sv_journal.specs.declared.entry.Entry.{Entry}
@@ -23,6 +23,24 @@ dispute_about p (r ∷ rs) = either (dispute_about p rs) (if gives r.values (fir
 -- The disputes about all positions, ascending.
 abbrev pub disputes_of : List Entry → List Dispute
 disputes_of h = flat_map (λ p. option_to_list (dispute_about p (reports_of h p))) (below (suc (length (accepted h))))
+
+-- ---- One dispute more
+
+-- The dispute that one more report of a position makes with the first of the reports before it. These stand in the order in which they came.
+abbrev pub dispute_in : ℕ → List Report → Report → Option Dispute
+dispute_in p [] r = None
+dispute_in p (first ∷ rest) r = if gives r.values first then None else Some (record { pos = p; first = first; second = r })
+
+-- Disputes, which ascend by position, with one more. Where there is one about its position, that stays.
+abbrev pub with_dispute : Dispute → List Dispute → List Dispute
+with_dispute d [] = d ∷ []
+with_dispute d (x ∷ xs) = if nat_lt x.pos d.pos then x ∷ with_dispute d xs else if x.pos == d.pos then x ∷ xs else d ∷ x ∷ xs
+
+abbrev pub with_disputes : List Dispute → List Dispute → List Dispute
+with_disputes [] ds = ds
+with_disputes (d ∷ new) ds = with_disputes new (with_dispute d ds)
+
+-- ---- What a dispute says
 
 -- One of the two clients named is this one.
 abbrev pub NamesClient : ℕ → Dispute → Type 0

@@ -1,7 +1,10 @@
 pub mod Reports
 pub mod Agreement
+pub mod Honesty
 pub mod Witnessed
 pub mod Disputes
+pub mod Kept
+pub mod Due
 pub mod Step
 pub mod Invariant
 pub mod Lies

@@ -20,7 +20,11 @@ report_part r = codes "c" ++ decimal r.client.0 ++ codes " " ++ flat_map value_t
 abbrev pub dispute_line : Dispute → List ℕ
 dispute_line d = codes "dispute " ++ decimal d.pos ++ codes " " ++ report_part d.first ++ codes " " ++ report_part d.second ++ 10 ∷ []
 
--- How many actions were accepted, the disputes, and the committed world, over an opening world.
+-- How many actions were accepted, the disputes, and the committed world.
+abbrev pub run_lines : ℕ → List Dispute → ℕ → List (List ℤ) → List ℕ
+run_lines count disputes commit values =
+    codes "accepted " ++ decimal count ++ 10 ∷ [] ++ flat_map dispute_line disputes ++ world_text commit values
+
+-- The lines of a run over an opening world.
 abbrev pub witness_text : World → List Entry → List ℕ
-witness_text world h = codes "accepted " ++ decimal (length (accepted h)) ++ 10 ∷ flat_map dispute_line (disputes_of h)
-    ++ world_text (agreed_commit h) (agreed_world world.values h)
+witness_text world h = run_lines (length (accepted h)) (disputes_of h) (agreed_commit h) (agreed_world world.values h)

@@ -10,8 +10,11 @@ ghost use Rattle.sv_client.specs.Traces.{current_session, requests_of, got};
 ghost use Rattle.sv_client.specs.Taking.{first_fault_of_reply};
 ghost use Rattle.sv_client.specs.Proper.{identity_of};
 ghost use Rattle.sv_system.specs.Fits.{replies_in};
-ghost use Rattle.sv_witness.specs.Reports.{agreed_history, agreed_result};
-ghost use Rattle.sv_witness.specs.Agreement.{TwoAgree};
+ghost use Rattle.sv_witness.specs.declared.report.Report.{Report};
+ghost use Rattle.sv_witness.specs.Reports.{reports_of, agreed_history, agreed_result};
+ghost use Rattle.sv_witness.specs.Agreement.{IsAmong, TwoAgree};
+ghost use Rattle.sv_witness.specs.Disputes.{disputes_of, NamesClient};
+ghost use Rattle.sv_witness.specs.Honesty.{IsReported, IsDisputed, AllGiveBut, NoneGiveNone};
 ghost use Rattle.sv_witness.specs.Witnessed.{IsWitnessed};
 ghost use Rattle.sv_system.specs.Served.{FitsBut};
 ghost use Rattle.sv_witness.specs.Tolerance.{IsTolerated, IsLiar};
@@ -22,6 +25,25 @@ ghost use Rattle.sv_witness.specs.Examples.{ExamplesAreWitnessed};
 pub fn agreed_results_are_those_of_two_clients()
     ensures results { (h : List Entry) (p : ℕ) → result_at (agreed_history h) p ≡ agreed_result h p }
     ensures two { TwoAgree }
+{}
+
+/// Each report that counts is of a Done that was noted while the position was above the commit, in a session that had been joined as the
+/// report's client.
+pub fn reports_are_of_noted_dones()
+    ensures { (h : List Entry) (p : ℕ) (r : Report) → IsAmong r (reports_of h p) → IsReported h p r }
+{}
+
+/// Each dispute is of two reports of its position, which are of different clients and differ. So where all clients but one give the same
+/// values of each position, each dispute names that one.
+pub fn disputes_name_two_clients()
+    ensures two { (h : List Entry) → All (IsDisputed h) (disputes_of h) }
+    ensures liar { (liar : ℕ) (truth : ℕ → List (List ℤ)) (h : List Entry) → AllGiveBut liar truth h → All (NamesClient liar) (disputes_of h) }
+{}
+
+/// Where all clients but one give the same values of each position, these are what is agreed, whatever that one gives.
+pub fn agreed_results_are_true()
+    ensures { (liar : ℕ) (truth : ℕ → List (List ℤ)) (h : List Entry) → AllGiveBut liar truth h → NoneGiveNone truth h →
+        (p : ℕ) (values : List (List ℤ)) → agreed_result h p ≡ Some values → values ≡ truth p }
 {}
 
 /// The history of what was agreed is that of the same sessions: it has the same accepted actions, the same outcomes of each client, and each

@@ -1,18 +1,24 @@
 //! A server that tolerates one lying client: it installs a result only when two different clients reported it.
 #![tactic(auto)]
 
+mod disputes;
+mod due;
 mod ending;
 mod laws;
+mod lines;
+mod noting;
 mod open;
 mod report;
+mod reports;
 mod step;
 mod top;
 mod witness;
 mod words;
 
 pub use laws::{
-    agreed_histories_are_alike, agreed_results_are_those_of_two_clients,
-    clients_of_a_witness_are_never_refused, one_lying_client_is_tolerated, witnessed_examples_hold,
+    agreed_histories_are_alike, agreed_results_are_those_of_two_clients, agreed_results_are_true,
+    clients_of_a_witness_are_never_refused, disputes_name_two_clients,
+    one_lying_client_is_tolerated, reports_are_of_noted_dones, witnessed_examples_hold,
 };
 pub use report::{Dispute, Report};
 pub use top::run_witness;
