@@ -106,7 +106,7 @@ joins-now e s k o none c =
     ]
 
 -- A session with a client has an entry, so it was begun.
-begun-client : (begun : ℕ → Bool) (h : List Entry) (s k : ℕ) → AllByRecursion (λ (e : Entry). begun e.session ≡ true) h → client_of h s ≡ Some k → begun s ≡ true
+pub begun-client : (begun : ℕ → Bool) (h : List Entry) (s k : ℕ) → AllByRecursion (λ (e : Entry). begun e.session ≡ true) h → client_of h s ≡ Some k → begun s ≡ true
 begun-client begun [] s k all c = absurd (none-some k c)
 begun-client begun (e ∷ h) s k all c = go (client_of h s) refl (begun-client begun h s)
   where

@@ -13,3 +13,4 @@ mod DuePositions
 mod Routes
 pub mod Values
 mod Forms
+pub mod Running
