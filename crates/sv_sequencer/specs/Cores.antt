@@ -2,6 +2,7 @@
 -- A history is the list of entries with the latest first. The core has none of them: a caller names the history that it keeps.
 use Rattle.std.specs.Prelude.{◌≡◌, ℕ, ◌<◌, ◌≤◌, List, ◌∷◌, length}
 use Rattle.sv_wire.specs.declared.message.Request.{Request}
+use Rattle.sv_queue.specs.Queue.{QueueView}
 use Rattle.sv_journal.specs.declared.entry.Entry.{Entry}
 use Rattle.sv_journal.specs.History.{accepted, commit_of, full_reply}
 use Rattle.sv_journal.specs.Answer.{Rules}
@@ -19,6 +20,10 @@ rules_of core = record { world = core.opening; bound = core.bound; reach = core.
 -- How many Ends are to come.
 abbrev pub owed_by : Core → ℕ
 owed_by core = core.owed
+
+-- Its queue.
+abbrev pub queue_of : Core → QueueView
+queue_of core = core.queue
 
 -- The core stands where a history leads.
 abbrev pub Keeps : Core → List Entry → Type 0

@@ -11,7 +11,7 @@ ghost use Rattle.sv_journal.specs.History.{Accepted, client_of, accepted, action
 ghost use Rattle.sv_journal.specs.Sessions.{is_over, asked_in, life_of, kept_outcome};
 ghost use Rattle.sv_journal.specs.Answer.{is_bad_result, is_bad_done, is_over_reach, most_requests, orphans};
 ghost use Rattle.sv_sequencer.specs.Clients.{outcome_value};
-ghost use Rattle.sv_sequencer.specs.Cores.{rules_of, owed_by, Keeps, IsKept};
+ghost use Rattle.sv_sequencer.specs.Cores.{rules_of, owed_by, queue_of, Keeps, IsKept};
 ghost use Rattle.sv_sequencer.specs.Rows.{is_ended};
 
 use crate::clients::{Clients, Outcome};
@@ -101,6 +101,13 @@ impl Core {
         ensures { (h : List Entry) → Keeps self.now h → result ≡ is_ended h session }
     {
         self.sessions[session as usize].ended
+    }
+
+    /// The actions that it has not committed, and what was sent of them.
+    pub fn queue(&self) -> &Queue
+        ensures { result.now ≡ queue_of self.now }
+    {
+        &self.queue
     }
 
     /// How many Ends are to come.

@@ -14,3 +14,4 @@ mod Routes
 pub mod Values
 mod Forms
 mod Steps
+mod Stepped

@@ -1,9 +1,11 @@
 ghost use Rattle.std.specs.Prelude.{◌≡◌, ◌≤◌, [], IfOk, IfSome};
 ghost use Rattle.sv_queue.specs.Worlds.{IsGoodWorld};
 
+use crate::reports::Reports;
 use crate::witness::Witness;
 use std::alloc::{AllocError, Global};
 use sv_journal::Journal;
+use sv_sequencer::Core;
 use sv_world::World;
 
 impl Witness {
@@ -26,15 +28,14 @@ impl Witness {
         ensures rules { IfOk result (λ s. s.rules ≡ record { world = world; bound = bound; reach = reach; sessions = sessions }) }
         ensures empty { IfOk result (λ s. s.journal.entries ≡ []) }
     {
+        let core = Core::new(alloc, world, bound, reach, sessions)?;
         let mut journal = Journal::new(alloc);
         journal.reserve(sessions as usize)?;
         Ok(Witness {
             alloc,
-            opening: world,
-            bound,
-            reach,
-            sessions,
+            core,
             journal,
+            reports: Reports::new(alloc),
             disputes: Vec::new(alloc),
         })
     }

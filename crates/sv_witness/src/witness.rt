@@ -5,10 +5,12 @@ ghost use Rattle.sv_witness.specs.Witnessed.{IsWitnessed};
 ghost use Rattle.sv_witness.specs.Disputes.{disputes_of};
 
 use crate::report::Dispute;
+use crate::reports::Reports;
 use std::alloc::Global;
 use std::marker::Model;
 use sv_journal::Journal;
-use sv_world::{ObjectId, Value, World};
+use sv_sequencer::Core;
+use sv_world::{ObjectId, Value};
 
 /// A server's core that trusts no client alone: it installs a result once two different clients report it.
 ///
@@ -17,11 +19,10 @@ use sv_world::{ObjectId, Value, World};
 #[derive(Drop)]
 pub struct Witness {
     pub(crate) alloc: Global,
-    pub(crate) opening: World,
-    pub(crate) bound: u8,
-    pub(crate) reach: Option<u32>,
-    pub(crate) sessions: u16,
+    pub(crate) core: Core,
+    /// It has room for the Ends that are to come.
     pub(crate) journal: Journal,
+    pub(crate) reports: Reports,
     pub(crate) disputes: Vec<Dispute>,
 }
 
@@ -54,7 +55,7 @@ impl Witness {
     pub fn commit(&self) -> u32
         ensures { result ≡ agreed_commit (history self.now) }
     {
-        unreachable!()
+        self.core.commit()
     }
 
     /// The value of an object at the commit.
@@ -62,7 +63,7 @@ impl Witness {
         requires { object.0 < self.now.rules.world.shape.objects }
         ensures { result.now ≡ slice_index_or (agreed_world self.now.rules.world.values (history self.now)) object.0 [] }
     {
-        &self.opening.values.as_slice()[object.0 as usize]
+        self.core.committed(object)
     }
 
     /// The positions of which two clients' reports differ, ascending, with the first two such reports of each.
