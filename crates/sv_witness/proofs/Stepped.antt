@@ -1,5 +1,5 @@
 -- One step of a witnessing server, put together: what its fields keep once its core did what was decided and the journal has an entry more.
-use Rattle.std.proofs.Common.{◌≡◌, ℕ, ◌<◌, false, Some, List, [], ◌∷◌, ◌++◌, sym, ap, ◌∙◌, subst}
+use Rattle.std.proofs.Common.{◌≡◌, ℕ, ◌<◌, false, Some, List, [], ◌∷◌, ◌++◌, sym, ap, ◌∙◌, subst, reverse, refl}
 use Rattle.sv_wire.specs.declared.message.Done1.{Done1}
 use Rattle.sv_wire.specs.declared.message.Request.{Request}
 use Rattle.sv_wire.specs.declared.message.Request.TheVariants as requests
@@ -72,3 +72,20 @@ module _ (old core : Core) (rows : List RowView) (ds : List Dispute) (h : List E
         (sym done.rules)
         (noted-stands (rules_of old) h s k results joined good rows new ds c (sym noted ∙ told) now is.stands);
   }
+
+-- As a server is opened.
+pub as-opened : (core : Core) (rows : List RowView) (ds : List Dispute) (es : List Entry) → es ≡ [] → rows ≡ [] → ds ≡ [] → Keeps core [] → Standing core rows ds (reverse es)
+as-opened core rows ds es none no_rows no_disputes keeps =
+    subst (λ (l : List Entry). Standing core rows ds (reverse l)) (sym none) (record {
+      keeps = keeps;
+      stands = record { legal = tt; reports = λ p above. ap (λ (rs : List RowView). kept_at rs p) no_rows; within = λ p above. refl; disputed = no_disputes };
+    })
+
+-- Once a session had its End.
+pub after-end : (old core : Core) (rows : List RowView) (ds : List Dispute) (h : List Entry) (s : ℕ) → Standing old rows ds h → rules_of core ≡ rules_of old →
+    Keeps core (entry_of s requests.End logged.Bye ∷ agreed_history h) → Standing core rows ds (entry_of s requests.End logged.Bye ∷ h)
+after-end old core rows ds h s is same keeps = record {
+  keeps = subst (Keeps core) (sym (quiet-entry (entry_of s requests.End logged.Bye) h refl)) keeps;
+  stands = subst (λ (r : Rules). Stands r rows ds (entry_of s requests.End logged.Bye ∷ h)) (sym same)
+      (quiet-stands (rules_of old) rows ds (entry_of s requests.End logged.Bye) h refl refl is.stands);
+}
