@@ -1,5 +1,5 @@
 -- One step of a witnessing server, put together: what its fields keep once its core did what was decided and the journal has an entry more.
-use Rattle.std.proofs.Common.{◌≡◌, ℕ, ◌<◌, false, Some, List, [], ◌∷◌, ◌++◌, sym, ap, ◌∙◌, subst, reverse, refl}
+use Rattle.std.proofs.Common.{◌≡◌, ℕ, ◌<◌, false, Some, List, [], ◌∷◌, ◌++◌, sym, ap, ◌∙◌, subst, reverse, refl, Bool, ◌||◌, ◌&&◌, ◌==◌, ap₂}
 use Rattle.sv_wire.specs.declared.message.Done1.{Done1}
 use Rattle.sv_wire.specs.declared.message.Request.{Request}
 use Rattle.sv_wire.specs.declared.message.Request.TheVariants as requests
@@ -7,6 +7,7 @@ use Rattle.sv_journal.specs.declared.entry.Entry.{Entry}
 use Rattle.sv_journal.specs.declared.entry.Logged.{Logged}
 use Rattle.sv_journal.specs.declared.entry.Logged.TheVariants as logged
 use Rattle.sv_journal.specs.History.{is_noted, client_of, accepted, reported, full_reply}
+use Rattle.sv_journal.specs.Sessions.{is_end}
 use Rattle.sv_journal.specs.Answer.{Rules, is_bad_done}
 use Rattle.sv_sequencer.specs.declared.answer.Answer.{Answer}
 use Rattle.sv_sequencer.specs.declared.decision.Decision.{Decision}
@@ -14,10 +15,11 @@ use Rattle.sv_sequencer.specs.declared.decision.Decision.TheVariants as decision
 use Rattle.sv_sequencer.specs.declared.server_core.Core.{Core}
 use Rattle.sv_sequencer.specs.Cores.{rules_of, owed_by, queue_of, Keeps, CarriedOut, Remained}
 use Rattle.sv_sequencer.specs.Decisions.{reply_by}
+use Rattle.sv_sequencer.specs.Rows.{is_ended}
 use Rattle.sv_sequencer.specs.Step.{entry_of}
 use Rattle.sv_witness.specs.declared.report.Dispute.{Dispute}
 use Rattle.sv_witness.specs.declared.witness.Witness.TheInside.{Inside}
-use Rattle.sv_witness.specs.Reports.{agreed_history, agreed_commit}
+use Rattle.sv_witness.specs.Reports.{with_results, agreed_history, agreed_commit}
 use Rattle.sv_witness.specs.Witnessed.{noted_after, witnessed_reply}
 use Rattle.sv_witness.specs.Disputes.{with_disputes}
 use Rattle.sv_witness.specs.Kept.{RowView, kept_at, counted_results, with_values, agreed_results, new_disputes, Stands}
@@ -89,3 +91,18 @@ after-end old core rows ds h s is same keeps = record {
   stands = subst (λ (r : Rules). Stands r rows ds (entry_of s requests.End logged.Bye ∷ h)) (sym same)
       (quiet-stands (rules_of old) rows ds (entry_of s requests.End logged.Bye) h refl refl is.stands);
 }
+
+-- ---- Ends
+
+end-with : (test : Done1 → Bool) (q : Request) → is_end (with_results test q) ≡ is_end q
+end-with test (requests.Join client life interest) = refl
+end-with test (requests.Submit seq a) = refl
+end-with test (requests.Done results) = refl
+end-with test requests.Poll = refl
+end-with test requests.Leave = refl
+end-with test requests.Bad = refl
+end-with test requests.End = refl
+
+pub ended-agreed : (h : List Entry) (s : ℕ) → is_ended (agreed_history h) s ≡ is_ended h s
+ended-agreed [] s = refl
+ended-agreed (e ∷ h) s = ap₂ (λ (a b : Bool). a || (e.session == s && b)) (ended-agreed h s) (end-with _ e.request)
