@@ -10,8 +10,5 @@ ghost-note_results g a = g.h
 abbrev pub ghost-poll : goal.ghost-poll
 ghost-poll g a = g.h
 
-abbrev pub ghost-poll-2 : goal.ghost-poll-2
-ghost-poll-2 g a = g.h
-
 abbrev pub ghost-keep : goal.ghost-keep
 ghost-keep g a = g.h
