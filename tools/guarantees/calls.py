@@ -54,7 +54,7 @@ def signatures(lines, start):
 def parsed(head):
     """Name, arguments, result and clause names of a function's head."""
     name = re.search(r"fn ([A-Za-z_0-9]+)", head)[1]
-    contract = re.search(r"\s(requires|ensures)\*?\s", head)
+    contract = re.search(r"\s(ghost|requires|ensures)\*?\s", head)
     front = head[:contract.start()] if contract else head
     result = re.search(r"-> (.*?)(?: where .*)?(?:\s*\{\}?|;)?$", front.strip())
     clauses = []

@@ -1,30 +1,29 @@
--- Each reply of a legal journal has numbers of its types, where its requests have.
-use Rattle.std.proofs.Common.{◌≡◌, ℕ, zero, suc, ◌^◌, ◌<◌, ◌≤◌, Bool, true, false, ◌&&◌, ◌||◌, not, cond, eqb, List, [], ◌∷◌, ◌++◌, length, map, filter, Option, Some, None, refl, arith}
-use Rattle.std.specs.Prelude.{nat_le, nat_lt}
+-- Each reply of a server has numbers of its types, where its requests have, whatever results it keeps.
+use Rattle.std.proofs.Common.{◌≡◌, ℕ, zero, suc, ◌^◌, ◌<◌, ◌≤◌, Bool, true, false, ◌&&◌, not, cond, inl, inr, List, [], ◌∷◌, ◌++◌, length, map, filter, Some, None, subst, arith}
 use Rattle.std.specs.List.{AllByRecursion}
-use Rattle.std.proofs.lemmas.Bool.{cond_both}
 use Rattle.sv_world.specs.declared.action.Action.{Action}
-use Rattle.sv_world.specs.declared.check.BadAction.{BadAction}
-use Rattle.sv_world.specs.declared.check.BadAction.TheVariants.{NoReads, TooManyReads, NotAscending, NoSuchObject, BadMask, BadSlot, NotWritable, BadAttr, TooLarge, TooDeep, BadOrigin}
+use Rattle.sv_world.specs.declared.world.ClientId.{ClientId}
 use Rattle.sv_world.specs.declared.world.ObjectId.{ObjectId}
 use Rattle.sv_world.specs.Control.{is_in, below, needed_for, reads_committed, head_for, chain_length, influence_distance}
-use Rattle.sv_world.specs.Faults.{first_fault_of_action, cause_number}
+use Rattle.sv_world.specs.Faults.{first_fault_of_action}
 use Rattle.sv_world.proofs.Bases.{below-is_in}
 use Rattle.sv_world.proofs.Good.{good_of_none}
-use Rattle.sv_wire.specs.declared.message.Done1.{Done1}
 use Rattle.sv_wire.specs.declared.message.Request.{Request}
 use Rattle.sv_wire.specs.declared.message.Request.TheVariants as requests
 use Rattle.sv_wire.specs.Ranges.{ValueFits, HeldFits, RequestFits}
 use Rattle.sv_journal.specs.declared.entry.Entry.{Entry}
 use Rattle.sv_journal.specs.declared.entry.Logged.{Logged}
 use Rattle.sv_journal.specs.declared.entry.Logged.TheVariants as logged
-use Rattle.sv_journal.specs.History.{client_of, is_client, is_submit_of, Outcome, Accepted, Dropped, outcome_in, outcomes_of, next_seq, accepted, actions_of, commit_of, committed_of}
-use Rattle.sv_journal.specs.Sessions.{is_over, is_live, asked_in, life_of, kept_outcome, outcome_at, sent_to, already_given}
-use Rattle.sv_journal.specs.Answer.{Rules, refused, relay_of, committed_held, is_over_reach, reply_to_good, reply_to_checked, reply_to_submit, is_bad_done, commit_with, reply_to_done, orphans, reply_to_poll, is_good_interest, reply_to_join, reply_to_client, reply_to_member, most_requests, reply_to}
-use Rattle.sv_system.proofs.Histories.{commit-most, actions-count, kept-is, kept-within}
+use Rattle.sv_journal.specs.History.{client_of, is_client, is_submit_of, Outcome, Accepted, Dropped, outcome_in, outcomes_of, accepted, actions_of, commit_of, committed_of}
+use Rattle.sv_journal.specs.Sessions.{kept_outcome, outcome_at, sent_to, already_given}
+use Rattle.sv_journal.specs.Answer.{Rules, relay_of, committed_held}
+use Rattle.sv_journal.specs.Serving.{Keeping, reply_for, IsKeeping}
+use Rattle.sv_journal.proofs.Kept.{commit_within-kept}
+use Rattle.sv_journal.proofs.Replies.{IsDetail, each_row}
+use Rattle.sv_system.proofs.Histories.{actions-count, kept-is, kept-within}
 use Rattle.sv_asked.proofs.Every.{each-at, each-get, each-append, each-if, each-map, each-member}
 use Rattle.sv_asked.proofs.Evaluated.{AreNumbers}
-use Rattle.sv_asked.proofs.Facts.{RequestsFit, accepted-short, outcomes-short, life-fits, committed-fits, chain-short, IsInPlane, plane-of, far-near}
+use Rattle.sv_asked.proofs.Facts.{RequestsFit, requests-kept, accepted-short, outcomes-short, life-fits, committed-fits, chain-short, IsInPlane, plane-of, far-near}
 
 -- The numbers of a reply are those of their types; its positions are left out.
 abbrev pub LoggedFits : Logged → Type 0
@@ -80,107 +79,58 @@ each-kept P test (x ∷ xs) all = go (test x) (each-kept P test xs all.1)
     go true rest = (all.0, rest)
     go false rest = rest
 
-cause-few : (cause : BadAction) → cause_number cause ≤ 11
-cause-few NoReads = omega arith
-cause-few TooManyReads = omega arith
-cause-few NotAscending = omega arith
-cause-few NoSuchObject = omega arith
-cause-few BadMask = omega arith
-cause-few BadSlot = omega arith
-cause-few NotWritable = omega arith
-cause-few BadAttr = omega arith
-cause-few TooLarge = omega arith
-cause-few TooDeep = omega arith
-cause-few BadOrigin = omega arith
-
-module _ (r : Rules) (objects : r.world.shape.objects ≤ 2 ^ 16) (opening : AreNumbers r.world.values) (h : List Entry) (s : ℕ) (few : suc (suc (length h)) < 2 ^ 32)
+module _ (k : Keeping) (law : IsKeeping k) (r : Rules) (objects : r.world.shape.objects ≤ 2 ^ 16) (opening : AreNumbers r.world.values) (h : List Entry) (s : ℕ) (few : suc (suc (length h)) < 2 ^ 32)
     (asked : RequestsFit h) (replied : RepliesFit h) (plane : AllByRecursion IsInPlane (actions_of h)) where
-  commit-fits : commit_of h < 2 ^ 32
-  commit-fits = omega (arith, commit-most h, accepted-short h, few)
+  commit-fits : commit_of (k.kept h) < 2 ^ 32
+  commit-fits = omega (arith, commit_within-kept k law h, accepted-short h, few)
 
-  head-fits : (xs : List ℕ) → AllByRecursion (λ x. x < 2 ^ 16) xs → AllByRecursion HeldFits (committed_held r h xs)
+  head-fits : (xs : List ℕ) → AllByRecursion (λ x. x < 2 ^ 16) xs → AllByRecursion HeldFits (committed_held r (k.kept h) xs)
   head-fits [] all = tt
-  head-fits (x ∷ xs) all = ((all.0, each-get ValueFits (committed_of r.world.values h) x [] (committed-fits r.world.values h asked opening) tt), head-fits xs all.1)
+  head-fits (x ∷ xs) all = (
+    (all.0, each-get ValueFits (committed_of r.world.values (k.kept h)) x [] (committed-fits r.world.values (k.kept h) (requests-kept k law h asked) opening) tt),
+    head-fits xs all.1,
+  )
 
-  refusal-fits : (code detail : ℕ) → code ≤ 11 → detail < 2 ^ 32 → LoggedFits (refused code detail)
-  refusal-fits code detail low small = (omega (arith, low), small)
+  detail-fits : (n : ℕ) → IsDetail h n → n < 2 ^ 32
+  detail-fits n (inl small) = omega (arith, small)
+  detail-fits n (inr (j, inl next)) = omega (arith, next, outcomes-short h j, few)
+  detail-fits n (inr (j, inr life)) = omega (arith, life, life-fits h j asked)
 
-  plain-refusal : (code : ℕ) → code ≤ 11 → LoggedFits (refused code 0)
-  plain-refusal code low = refusal-fits code 0 low (omega arith)
-
-  relay-fits : (A : List Action) (seq i : ℕ) → seq < 2 ^ 32 → LoggedFits (relay_of r h A s seq i)
+  relay-fits : (A : List Action) (seq i : ℕ) → seq < 2 ^ 32 → LoggedFits (relay_of r (k.kept h) A s seq i)
   relay-fits A seq i small =
+      let g = k.kept h in
       let all = each-member (λ x. x < 2 ^ 16) (below r.world.shape.objects) (λ x m. omega (arith, below-is_in r.world.shape.objects x m, objects)) in
-      let given = already_given r.world.shape.objects h s in
-      let test = λ (x : ℕ). reads_committed A (commit_of h) x (needed_for A (commit_of h) (sent_to h s) i) && not (is_in x given) in
-      (small, commit-fits, head-fits (head_for r.world.shape.objects A (commit_of h) (sent_to h s) given i) (each-kept (λ x. x < 2 ^ 16) test (below r.world.shape.objects) all))
+      let given = already_given r.world.shape.objects g s in
+      let test = λ (x : ℕ). reads_committed A (commit_of g) x (needed_for A (commit_of g) (sent_to g s) i) && not (is_in x given) in
+      (small, commit-fits, head-fits (head_for r.world.shape.objects A (commit_of g) (sent_to g s) given i) (each-kept (λ x. x < 2 ^ 16) test (below r.world.shape.objects) all))
 
-  good-fits : (seq : ℕ) (a : Action) → seq < 2 ^ 32 → first_fault_of_action r.world.shape a ≡ None → LoggedFits (reply_to_good r h s seq a)
-  good-fits seq a small good =
-      let chain = chain_length (actions_of h) (commit_of h) a in
-      let far = influence_distance (actions_of h) (commit_of h) a in
-      let near = far-near (actions_of h) (commit_of h) a plane (plane-of a (good_of_none r.world.shape a good).origin) in
-      cond_both (nat_lt r.bound chain || is_over_reach r.reach far) (logged.Dropped seq chain far) (relay_of r h (actions_of h ++ a ∷ []) s seq (suc (length (actions_of h)))) LoggedFits
-      (λ _. (small, omega (arith, chain-short (actions_of h) (commit_of h) a, actions-count h, accepted-short h, few), omega (arith, near)))
-      (λ _. relay-fits (actions_of h ++ a ∷ []) seq (suc (length (actions_of h))) small)
+  seq-fits : (q : Request) (seq : ℕ) (a : Action) → q ≡ requests.Submit seq a → RequestFits q → seq < 2 ^ 32
+  seq-fits q seq a is fits = (subst RequestFits is fits).0
 
-  checked-fits : (seq : ℕ) (a : Action) → seq < 2 ^ 32 → (o : Option BadAction) → first_fault_of_action r.world.shape a ≡ o → LoggedFits (reply_to_checked r h s seq a o)
-  checked-fits seq a small (Some cause) is = refusal-fits 6 (cause_number cause) (omega arith) (omega (arith, cause-few cause))
-  checked-fits seq a small None is = good-fits seq a small is
+  welcome-fits : (q : Request) (client : ClientId) (life : ℕ) (interest : List ObjectId) → q ≡ requests.Join client life interest → RequestFits q →
+      LoggedFits (logged.Welcome (commit_of (k.kept h)) (committed_held r (k.kept h) (map (λ (o : ObjectId). o.0) interest)))
+  welcome-fits q client life interest is fits =
+      (commit-fits, head-fits (map (λ (o : ObjectId). o.0) interest) (each-map (λ (o : ObjectId). o.0) (λ x. x < 2 ^ 16) interest (subst RequestFits is fits).2))
 
-  submit-fits : (k seq : ℕ) (a : Action) → seq < 2 ^ 32 → (o : Option Outcome) → kept_outcome h k seq ≡ o → LoggedFits (reply_to_submit r h s k seq a o)
-  submit-fits k seq a small (Some (Dropped chain far)) is = (let f = kept-fits h k seq (Dropped chain far) is replied in (small, f.0, f.1))
-  submit-fits k seq a small (Some (Accepted p)) is =
-      cond_both (nat_le p (commit_of h)) (logged.Settled seq p) (relay_of r h (actions_of h) s seq p) LoggedFits
-      (λ _. (small, omega (arith, (kept-within h k seq p is).1, accepted-short h, few)))
-      (λ _. relay-fits (actions_of h) seq p small)
-  submit-fits k seq a small None is =
-      cond_both (eqb seq (next_seq h k)) (reply_to_checked r h s seq a (first_fault_of_action r.world.shape a)) (refused 5 (next_seq h k)) LoggedFits
-      (λ _. checked-fits seq a small (first_fault_of_action r.world.shape a) refl)
-      (λ _. refusal-fits 5 (next_seq h k) (omega arith) (omega (arith, outcomes-short h k, few)))
+  dropped-fits : (seq : ℕ) (a : Action) → seq < 2 ^ 32 → first_fault_of_action r.world.shape a ≡ None →
+      LoggedFits (logged.Dropped seq (chain_length (actions_of h) (commit_of (k.kept h)) a) (influence_distance (actions_of h) (commit_of (k.kept h)) a))
+  dropped-fits seq a small good =
+      let near = far-near (actions_of h) (commit_of (k.kept h)) a plane (plane-of a (good_of_none r.world.shape a good).origin) in
+      (small, omega (arith, chain-short (actions_of h) (commit_of (k.kept h)) a, actions-count h, accepted-short h, few), omega (arith, near))
 
-  poll-fits : (ps : List ℕ) → LoggedFits (reply_to_poll r h s ps)
-  poll-fits [] = tt
-  poll-fits (p ∷ ps) = relay-fits (actions_of h) 0 p (omega arith)
-
-  done-fits : (results : List Done1) → LoggedFits (reply_to_done r h s results)
-  done-fits results =
-      let later : Entry = record { session = s; request = requests.Done results; reply = logged.Noted 0 } in
-      cond_both (is_bad_done r h s results) (refused 7 0) (logged.Noted (commit_with h s results)) LoggedFits
-      (λ _. plain-refusal 7 (omega arith))
-      (λ _. omega (arith, commit-most (later ∷ h), accepted-short (later ∷ h), few))
-
-  client-case : (k : ℕ) (q : Request) → RequestFits q → LoggedFits (reply_to_client r h s k q)
-  client-case k (requests.Submit seq a) f = submit-fits k seq a f.0 (kept_outcome h k seq) refl
-  client-case k (requests.Done results) f = done-fits results
-  client-case k requests.Poll f = poll-fits (orphans h)
-  client-case k (requests.Join client life interest) f = tt
-  client-case k requests.Leave f = tt
-  client-case k requests.Bad f = tt
-  client-case k requests.End f = tt
-
-  member-case : (o : Option ℕ) (q : Request) → RequestFits q → LoggedFits (reply_to_member r h s o q)
-  member-case None q f = plain-refusal 2 (omega arith)
-  member-case (Some k) q f = client-case k q f
-
-  join-case : (k life : ℕ) (xs : List ℕ) → AllByRecursion (λ x. x < 2 ^ 16) xs → LoggedFits (reply_to_join r h s k life xs)
-  join-case k life xs all =
-      cond_both (is_live h s) _ _ LoggedFits (λ _. plain-refusal 3 (omega arith)) (λ _.
-      cond_both (nat_le 32 k) _ _ LoggedFits (λ _. plain-refusal 10 (omega arith)) (λ _.
-      cond_both (nat_le life (life_of h k)) _ _ LoggedFits (λ _. refusal-fits 11 (life_of h k) (omega arith) (life-fits h k asked)) (λ _.
-      cond_both (is_good_interest r.world.shape.objects xs) _ _ LoggedFits (λ _. (commit-fits, head-fits xs all)) (λ _. plain-refusal 8 (omega arith)))))
-
-  open-case : (w : Logged) → LoggedFits w → LoggedFits (cond (is_over h s) (refused 4 0) (cond (nat_le most_requests (asked_in h s)) (refused 9 0) w))
-  open-case w f =
-      cond_both (is_over h s) _ _ LoggedFits (λ _. plain-refusal 4 (omega arith))
-      (λ _. cond_both (nat_le most_requests (asked_in h s)) _ _ LoggedFits (λ _. plain-refusal 9 (omega arith)) (λ _. f))
-
-  pub reply-fits : (q : Request) → RequestFits q → LoggedFits (reply_to r h s q)
-  reply-fits (requests.Join client life interest) f =
-      open-case _ (join-case client.0 life (map (λ (o : ObjectId). o.0) interest) (each-map (λ (o : ObjectId). o.0) (λ x. x < 2 ^ 16) interest f.2))
-  reply-fits (requests.Submit seq a) f = open-case _ (member-case (client_of h s) (requests.Submit seq a) f)
-  reply-fits (requests.Done results) f = open-case _ (member-case (client_of h s) (requests.Done results) f)
-  reply-fits requests.Poll f = open-case _ (member-case (client_of h s) requests.Poll f)
-  reply-fits requests.Leave f = open-case _ (member-case (client_of h s) requests.Leave f)
-  reply-fits requests.Bad f = open-case _ (plain-refusal 1 (omega arith))
-  reply-fits requests.End f = tt
+  pub reply-fits : (q : Request) → RequestFits q → LoggedFits (reply_for k r h s q)
+  reply-fits q fits = each_row k law r h s LoggedFits q (record {
+    refusal = λ code detail some low told. (omega (arith, low), detail-fits detail told);
+    bye = tt;
+    welcome = λ client life interest is open_still live later good. welcome-fits q client life interest is fits;
+    dropped = λ j seq a client is next good. dropped-fits seq a (seq-fits q seq a is fits) good;
+    dropped_again = λ j seq a chain far client is kept. (let f = kept-fits h j seq (Dropped chain far) kept replied in (seq-fits q seq a is fits, f.0, f.1));
+    settled = λ j seq p a client is kept. (seq-fits q seq a is fits, omega (arith, (kept-within h j seq p kept).1, accepted-short h, few));
+    fresh = λ j seq a client is next good chain. relay-fits (actions_of h ++ a ∷ []) seq (suc (length (actions_of h))) (seq-fits q seq a is fits);
+    again = λ j seq p a client is kept above. relay-fits (actions_of h) seq p (seq-fits q seq a is fits);
+    noted = λ results is good.
+        let later : Entry = record { session = s; request = q; reply = logged.Noted 0 } in
+        omega (arith, commit_within-kept k law (later ∷ h), accepted-short (later ∷ h), few);
+    idle = tt;
+    poll = λ j p ps client is open_still first. relay-fits (actions_of h) 0 p (omega arith);
+  })

@@ -1,5 +1,5 @@
 -- What a journal tells has numbers of their types, where its requests have.
-use Rattle.std.proofs.Common.{◌≡◌, ℕ, zero, suc, ◌+◌, ◌^◌, ◌<◌, ◌≤◌, max, Bool, true, false, ◌&&◌, cond, eqb, List, [], ◌∷◌, ◌++◌, length, map, ℤ, pos, negsuc, Option, Some, None, refl, arith, length-append}
+use Rattle.std.proofs.Common.{◌≡◌, ℕ, zero, suc, ◌+◌, ◌^◌, ◌<◌, ◌≤◌, max, Bool, true, false, ◌&&◌, cond, eqb, List, [], ◌∷◌, ◌++◌, length, map, filter, ℤ, pos, negsuc, Option, Some, None, refl, sym, subst, arith, length-append}
 use Rattle.std.specs.Prelude.{IfSome, unwrap_or, ◌-ℤ◌, int_le, unsigned_abs as nat_abs}
 use Rattle.std.specs.List.{AllByRecursion}
 use Rattle.std.specs.Int.{w32}
@@ -22,6 +22,7 @@ use Rattle.sv_journal.specs.declared.entry.Logged.{Logged}
 use Rattle.sv_journal.specs.declared.entry.Logged.TheVariants as logged
 use Rattle.sv_journal.specs.History.{either, is_welcome, is_relay, is_noted, joining, client_of, is_client, is_submit_of, Outcome, outcome_in, new_action, outcomes_of, Authored, accepted, actions_of, reported, reports, result_at, commit_of, installed, committed_of}
 use Rattle.sv_journal.specs.Sessions.{welcomes, life_in, life_of}
+use Rattle.sv_journal.specs.Serving.{Keeping, with_results, IsKeeping}
 use Rattle.sv_asked.proofs.Every.{each-get, each-append, each-if}
 use Rattle.sv_asked.proofs.Evaluated.{AreNumbers}
 use Rattle.sv_asked.proofs.Worlds.{put_all_fits}
@@ -142,6 +143,32 @@ installed-fits opening h (suc p) f all =
 
 pub committed-fits : (opening : Slots) (h : List Entry) → RequestsFit h → AreNumbers opening → AreNumbers (committed_of opening h)
 committed-fits opening h f all = installed-fits opening h (commit_of h) f all
+
+-- ---- What is kept
+
+results-kept : (test : Done1 → Bool) (ds : List Done1) → AllByRecursion ResultFits ds → AllByRecursion ResultFits (filter test ds)
+results-kept test [] f = tt
+results-kept test (d ∷ ds) f = go (test d) (results-kept test ds f.1)
+  where
+    go : (b : Bool) → AllByRecursion ResultFits (filter test ds) → AllByRecursion ResultFits (cond b (d ∷ filter test ds) (filter test ds))
+    go true rest = (f.0, rest)
+    go false rest = rest
+
+request-kept : (test : Done1 → Bool) (q : Request) → RequestFits q → RequestFits (with_results test q)
+request-kept test (requests.Done results) f = results-kept test results f
+request-kept test (requests.Join client life interest) f = f
+request-kept test (requests.Submit seq a) f = f
+request-kept test requests.Poll f = f
+request-kept test requests.Leave f = f
+request-kept test requests.Bad f = f
+request-kept test requests.End f = f
+
+-- The requests of what is kept have numbers of their types, where all have.
+pub requests-kept : (k : Keeping) → IsKeeping k → (h : List Entry) → RequestsFit h → RequestsFit (k.kept h)
+requests-kept k law [] f = subst RequestsFit (sym law.none) tt
+requests-kept k law (e ∷ h) f =
+    let n = law.next e h in
+    subst RequestsFit (sym n.1) (request-kept n.0 e.request f.0, requests-kept k law h f.1)
 
 -- ---- Accepted actions
 

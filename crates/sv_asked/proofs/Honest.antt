@@ -1,5 +1,5 @@
 -- Each request that an honest client asks is a message.
-use Rattle.std.proofs.Common.{◌≡◌, ℕ, ◌^◌, ◌<◌, ◌≤◌, List, [], ◌∷◌, length, reverse, Some, None, slice_get, sym, subst, arith}
+use Rattle.std.proofs.Common.{◌≡◌, ℕ, ◌+◌, ◌^◌, ◌<◌, ◌≤◌, List, [], ◌∷◌, length, reverse, Some, None, slice_get, sym, subst, arith}
 use Rattle.std.specs.Prelude.{All, slice_index_or}
 use Rattle.std.specs.List.{AllByRecursion}
 use Rattle.std.proofs.lemmas.List.Elements.{recursion_from_All, All-from_recursion}
@@ -20,7 +20,11 @@ use Rattle.sv_wire.specs.Laws.{IsRequest}
 use Rattle.sv_journal.specs.declared.entry.Entry.{Entry}
 use Rattle.sv_journal.specs.History.{Authored, accepted, actions_of}
 use Rattle.sv_journal.specs.Answer.{Rules, Legal}
-use Rattle.sv_journal.specs.Laws.{AreWithinLimits, LegalRelaysAreSmall}
+use Rattle.sv_journal.specs.Serving.{plain}
+use Rattle.sv_journal.specs.Sessions.{positions_in}
+use Rattle.sv_journal.specs.Text.{NamesAccepted}
+use Rattle.sv_journal.specs.Laws.{AreWithinLimits, ServedRelaysNameAccepted, ServedRelaysAreSmall, ServedActionsAreGood}
+use Rattle.sv_journal.proofs.Plain.{plain-keeping, plain-legal}
 use Rattle.sv_client.specs.declared.trace.Event.{Event}
 use Rattle.sv_client.specs.declared.trace.Event.TheVariants as events
 use Rattle.sv_client.specs.declared.trace.Trace.{Trace}
@@ -32,18 +36,15 @@ use Rattle.sv_system.specs.Serial.{AreSerial, ValuesAreSerial}
 use Rattle.sv_system.proofs.Asked.{done-when}
 use Rattle.sv_system.proofs.Leaving.{join-asked}
 use Rattle.sv_system.proofs.Window.{submit-most}
-use Rattle.sv_asked.specs.Asked.{EventFits, HasNumbers, RequestsAreMessages}
+use Rattle.sv_asked.specs.Asked.{EventFits, HasNumbers, RequestsAreMessages, ServedRequestsFit}
 use Rattle.sv_asked.proofs.Every.{each-at, each-map, each-more, each-place, each-reverse}
-use Rattle.sv_asked.proofs.Worlds.{IsGoodValue, serial_good}
+use Rattle.sv_asked.proofs.Worlds.{HasFit, IsGoodValue, serial_good}
 use Rattle.sv_asked.proofs.Made.{Makes, Asks, asked-have}
 use Rattle.sv_asked.proofs.Owned.{actions-fit}
 use Rattle.sv_asked.proofs.Items.{relay-items}
 use Rattle.sv_asked.proofs.Reported.{IsFineItem, done-is}
 
--- Laws of the crates below.
-abbrev pub ActionsAreGood : Type 0
-ActionsAreGood = (r : Rules) (h : List Entry) → Legal r h → All (λ (a : Authored). IsGoodAction r.world.shape a.action) (accepted h)
-
+-- A law of the crate below.
 abbrev pub ReplicasAreSerial : Type 0
 ReplicasAreSerial = (r : Rules) (h : List Entry) (Ls : List Trace) → length r.world.values ≡ r.world.shape.objects → Legal r h → Fits r.world.shape h Ls → ValuesAreSerial r.world.values h Ls
 
@@ -115,39 +116,40 @@ join-is who life good objects few =
 submit-is : (shape : Shape) (n : ℕ) (a : Action) → n ≤ 65536 → IsMade shape a → IsRequest (requests.Submit n a)
 submit-is shape n a few m = record { within = wire-action shape a (good_of_none shape a m.0); fits = (omega (arith, few), m.1) }
 
-module _ (small : LegalRelaysAreSmall) (goods : ActionsAreGood) (serial : ReplicasAreSerial) (r : Rules) (H : List Entry) (Ls : List Trace) (i : ℕ) (L : Trace) (s : ℕ)
-    (limits : AreWithinLimits r) (numbers : HasNumbers r H Ls) (legal : Legal r H) (fits : Fits r.world.shape H Ls) (member : slice_get Ls i ≡ Some L) where
+module _ (r : Rules) (H : List Entry) (L : Trace) (s : ℕ) (limits : AreWithinLimits r) (numbers : HasNumbers r H (L ∷ [])) (one : FitsOne r.world.shape H L)
+    (named : All (λ (e : Entry). NamesAccepted (length (accepted H)) e.reply) H) (small : All (λ (e : Entry). length (positions_in e.reply) ≤ r.bound + 1) H)
+    (goods : All (λ (a : Authored). first_fault_of_action r.world.shape a.action ≡ None) (accepted H)) (fit : All ActionFits (actions_of H))
+    (held-serial : AreSerial r.world.values (actions_of H) (held_of (reverse L.events))) where
   abbrev whole : List Event
   whole = reverse L.events
 
   abbrev who : Identity
   who = identity_of r.world.shape L
 
-  one : FitsOne r.world.shape H L
-  one = each-at (FitsOne r.world.shape H) Ls i L (recursion_from_All (FitsOne r.world.shape H) Ls fits.each) member
+  events-fit : AllByRecursion EventFits L.events
+  events-fit = recursion_from_All EventFits L.events (recursion_from_All (λ (M : Trace). All EventFits M.events) (L ∷ []) numbers.made).0
 
-  held-serial : AreSerial r.world.values (actions_of H) (held_of whole)
-  held-serial =
-      let all = (serial r H Ls limits.objects legal fits).held in
-      each-at (λ (M : Trace). AreSerial r.world.values (actions_of H) (held_of (reverse M.events))) Ls i L (recursion_from_All (λ (M : Trace). AreSerial r.world.values (actions_of H) (held_of (reverse M.events))) Ls all) member
+  good-actions : AllByRecursion (λ (a : Authored). IsGoodAction r.world.shape a.action) (accepted H)
+  good-actions =
+      each-more (λ (a : Authored). first_fault_of_action r.world.shape a.action ≡ None) (λ (a : Authored). IsGoodAction r.world.shape a.action)
+      (λ a g. good_of_none r.world.shape a.action g) (accepted H) (recursion_from_All (λ (a : Authored). first_fault_of_action r.world.shape a.action ≡ None) (accepted H) goods)
 
   within : All (λ a. All (λ y. y < length r.world.values) (read_set a)) (actions_of H)
   within =
       All-from_recursion (λ a. All (λ y. y < length r.world.values) (read_set a)) (actions_of H)
       (each-map (λ (a : Authored). a.action) (λ a. All (λ y. y < length r.world.values) (read_set a)) (accepted H)
       (each-more (λ (a : Authored). IsGoodAction r.world.shape a.action) (λ (a : Authored). All (λ y. y < length r.world.values) (read_set a.action))
-      (λ a g. subst (λ (n : ℕ). All (λ y. y < n) (read_set a.action)) (sym limits.objects) g.objects)
-      (accepted H) (recursion_from_All (λ (a : Authored). IsGoodAction r.world.shape a.action) (accepted H) (goods r H legal))))
+      (λ a g. subst (λ (n : ℕ). All (λ y. y < n) (read_set a.action)) (sym limits.objects) g.objects) (accepted H) good-actions))
 
   good : (p x : ℕ) → x < length r.world.values → IsGoodValue r.world.shape.attrs (slice_index_or (serial_world r.world.values (actions_of H) p) x [])
   good p x below =
-      serial_good r.world.shape.attrs r.world.values (actions_of H) p x limits.attrs within (actions-fit r H Ls fits numbers.made)
+      serial_good r.world.shape.attrs r.world.values (actions_of H) p x limits.attrs within
+      (each-more ActionFits HasFit (λ a f. f.body) (actions_of H) (recursion_from_All ActionFits (actions_of H) fit))
       (recursion_from_All ValueFits r.world.values numbers.opening) below
 
   asks : (n : ℕ) (q : Request) → slice_get (requests_of L s) n ≡ Some q → Asks (IsMade r.world.shape) q
   asks n q there =
-      let events = recursion_from_All EventFits L.events (each-at (λ (M : Trace). All EventFits M.events) Ls i L (recursion_from_All (λ (M : Trace). All EventFits M.events) Ls numbers.made) member) in
-      let makings = made who L.first whole one.proper.events (each-reverse EventFits L.events events) in
+      let makings = made who L.first whole one.proper.events (each-reverse EventFits L.events events-fit) in
       each-at (Asks (IsMade r.world.shape)) (requests_of L s) n q (asked-have (IsMade r.world.shape) L.client L.interest whole s makings) there
 
   each : (n : ℕ) (q : Request) → slice_get (requests_of L s) n ≡ Some q → IsRequest q
@@ -161,7 +163,7 @@ module _ (small : LegalRelaysAreSmall) (goods : ActionsAreGood) (serial : Replic
       submit-is r.world.shape seq a (omega (arith, most, few-makes who L.first whole one.proper.events)) (asks n (requests.Submit seq a) there)
   each n (requests.Done results) there =
       let d = done-when who L.first whole s n results there in
-      let items = relay-items r H legal L one limits.bound numbers.positions (small r H legal) (goods r H legal) s d.seq d.commit d.head d.items d.before d.part in
+      let items = relay-items r H L one limits.bound numbers.positions named small (All-from_recursion (λ (a : Authored). IsGoodAction r.world.shape a.action) (accepted H) good-actions) s d.seq d.commit d.head d.items d.before d.part in
       subst (λ (l : List Done1). IsRequest (requests.Done l)) (sym d.results_are)
       (done-is r.world.shape.attrs r.world.values (actions_of H) limits.some_attrs limits.few_attrs good s d.seq d.commit d.head d.items d.before whole d.part held-serial
       (subst (λ (n : ℕ). AllByRecursion (IsFineItem n) d.items) (sym limits.objects) items.each) items.some items.few)
@@ -173,5 +175,25 @@ module _ (small : LegalRelaysAreSmall) (goods : ActionsAreGood) (serial : Replic
   all-requests : All IsRequest (requests_of L s)
   all-requests = All-from_recursion IsRequest (requests_of L s) (each-place IsRequest (requests_of L s) each)
 
-pub requests_are_messages : LegalRelaysAreSmall → ActionsAreGood → ReplicasAreSerial → RequestsAreMessages
-requests_are_messages small goods serial r H Ls i L s limits numbers legal fits member = all-requests small goods serial r H Ls i L s limits numbers legal fits member
+pub served_requests_fit : ServedRelaysNameAccepted → ServedRelaysAreSmall → ServedActionsAreGood → ServedRequestsFit
+served_requests_fit names small goods k r h L s law limits numbers fit legal one serial =
+    all-requests r h L s limits numbers one (names k r h law legal) (small k r h law legal) (goods k r h law legal) fit serial
+
+-- What a run is given has numbers of their types for each of its traces.
+for-one : (r : Rules) (h : List Entry) (Ls : List Trace) (i : ℕ) (L : Trace) → HasNumbers r h Ls → slice_get Ls i ≡ Some L → HasNumbers r h (L ∷ [])
+for-one r h Ls i L numbers member =
+    let P = λ (M : Trace). All EventFits M.events in
+    record {
+      objects = numbers.objects;
+      opening = numbers.opening;
+      made = All-from_recursion P (L ∷ []) (each-at P Ls i L (recursion_from_All P Ls numbers.made) member, tt);
+      positions = numbers.positions;
+    }
+
+pub requests_are_messages : ServedRelaysNameAccepted → ServedRelaysAreSmall → ServedActionsAreGood → ReplicasAreSerial → RequestsAreMessages
+requests_are_messages names small goods serial r h Ls i L s limits numbers legal fits member =
+    let one = each-at (FitsOne r.world.shape h) Ls i L (recursion_from_All (FitsOne r.world.shape h) Ls fits.each) member in
+    let P = λ (M : Trace). AreSerial r.world.values (actions_of h) (held_of (reverse M.events)) in
+    let held = each-at P Ls i L (recursion_from_All P Ls (serial r h Ls limits.objects legal fits).held) member in
+    let fit = All-from_recursion ActionFits (actions_of h) (actions-fit r h Ls fits numbers.made) in
+    served_requests_fit names small goods plain r h L s plain-keeping limits (for-one r h Ls i L numbers member) fit (plain-legal r h legal) one held

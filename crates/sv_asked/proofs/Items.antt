@@ -5,11 +5,10 @@ use Rattle.std.specs.List.{AllByRecursion}
 use Rattle.std.proofs.lemmas.Bool.{cond-true}
 use Rattle.std.proofs.lemmas.List.{length-map}
 use Rattle.std.proofs.lemmas.List.Elements.{recursion_from_All}
-use Rattle.sv_world.specs.Control.{is_in, blank}
+use Rattle.sv_world.specs.Control.{blank}
 use Rattle.sv_world.specs.Sets.{read_set}
 use Rattle.sv_world.specs.Faults.{IsGoodAction}
 use Rattle.sv_world.specs.declared.action.Action.{Action}
-use Rattle.sv_world.proofs.Members.{is_in-append_right}
 use Rattle.sv_pending.specs.Pending.{PendingAction}
 use Rattle.sv_wire.specs.declared.message.Held.{Held as Sent}
 use Rattle.sv_wire.specs.declared.message.Item.{Item}
@@ -20,22 +19,20 @@ use Rattle.sv_journal.specs.declared.entry.Entry.{Entry}
 use Rattle.sv_journal.specs.declared.entry.Logged.{Logged}
 use Rattle.sv_journal.specs.declared.entry.Logged.TheVariants as logged
 use Rattle.sv_journal.specs.History.{Authored, accepted, authored_at, item_at, full_reply}
-use Rattle.sv_journal.specs.Sessions.{positions_in, sent_to}
-use Rattle.sv_journal.specs.Answer.{Rules, Legal}
+use Rattle.sv_journal.specs.Sessions.{positions_in}
+use Rattle.sv_journal.specs.Text.{NamesAccepted}
+use Rattle.sv_journal.specs.Answer.{Rules}
 use Rattle.sv_client.specs.declared.trace.Event.{Event}
 use Rattle.sv_client.specs.declared.trace.Event.TheVariants as events
 use Rattle.sv_client.specs.declared.trace.Trace.{Trace}
 use Rattle.sv_client.specs.Traces.{pending_of, got}
 use Rattle.sv_client.specs.Taking.{Identity, items_of, is_bad_head, has_bad_item}
 use Rattle.sv_client.specs.Proper.{identity_of}
-use Rattle.sv_system.specs.Fits.{FitsOne}
+use Rattle.sv_system.specs.Fits.{is_join_of, has_session, FitsOne}
 use Rattle.sv_system.proofs.Fronts.{get-last}
-use Rattle.sv_system.proofs.Histories.{IsEarlier, earlier-legal, accepted-grows}
-use Rattle.sv_system.proofs.Lawful.{sent-within}
 use Rattle.sv_system.proofs.Entered.{entered}
-use Rattle.sv_system.proofs.Asked.{IsPart, proper-part, got-part, may-answer}
-use Rattle.sv_system.proofs.Order.{got-replied}
-use Rattle.sv_asked.proofs.Every.{each-get, each-map, each-member, each-more}
+use Rattle.sv_system.proofs.Asked.{IsPart, part-rest, proper-part, got-part, got-when, got-answers, may-answer, current-joined, any-part, any-reverse}
+use Rattle.sv_asked.proofs.Every.{each-get, each-map, each-more}
 use Rattle.sv_asked.proofs.Owned.{entry-at}
 use Rattle.sv_asked.proofs.Reported.{IsFineItem}
 
@@ -58,11 +55,6 @@ full-items A logged.Idle = refl
 full-items A (logged.Refused code detail) = refl
 full-items A logged.Bye = refl
 
-pub sent-here : (e : Entry) (h : List Entry) (p : ℕ) → is_in p (positions_in e.reply) ≡ true → is_in p (sent_to (e ∷ h) e.session) ≡ true
-sent-here e h p m =
-    subst (λ (l : List ℕ). is_in p l ≡ true) (sym (cond-true (e.session == e.session) (sent_to h e.session ++ positions_in e.reply) (sent_to h e.session) (eq-eqb e.session e.session refl)))
-    (is_in-append_right p (sent_to h e.session) (positions_in e.reply) m)
-
 -- An action with few reads, among so many objects.
 abbrev IsPlainAction : ℕ → Action → Type 0
 IsPlainAction objects a = (length a.reads ≤ 16) × AllByRecursion (λ x. x < objects) (read_set a)
@@ -77,8 +69,9 @@ authored-plain : (objects : ℕ) (A : List Authored) (p : ℕ) → AllByRecursio
 authored-plain objects A zero all = blank-plain objects
 authored-plain objects A (suc n) all = each-get (IsPlain objects) A n (record { client = 0; seq = 0; action = blank }) all (blank-plain objects)
 
-module _ (r : Rules) (H : List Entry) (legal : Legal r H) (L : Trace) (fits : FitsOne r.world.shape H L) (bound : r.bound ≤ 32) (positions : length (accepted H) < 2 ^ 32)
-    (small : All (λ (e : Entry). length (positions_in e.reply) ≤ r.bound + 1) H) (good : All (λ (a : Authored). IsGoodAction r.world.shape a.action) (accepted H)) where
+module _ (r : Rules) (H : List Entry) (L : Trace) (fits : FitsOne r.world.shape H L) (bound : r.bound ≤ 32) (positions : length (accepted H) < 2 ^ 32)
+    (named : All (λ (e : Entry). NamesAccepted (length (accepted H)) e.reply) H) (small : All (λ (e : Entry). length (positions_in e.reply) ≤ r.bound + 1) H)
+    (good : All (λ (a : Authored). IsGoodAction r.world.shape a.action) (accepted H)) where
   abbrev objects : ℕ
   objects = r.world.shape.objects
 
@@ -99,12 +92,27 @@ module _ (r : Rules) (H : List Entry) (legal : Legal r H) (L : Trace) (fits : Fi
       let a = authored-plain objects (accepted H) p plain in
       record { pos = omega (arith, within, positions); few = a.0; within = a.1 }
 
-  entry-items : (e : Entry) (g : List Entry) → IsEarlier (e ∷ g) H → AllByRecursion (IsFineItem objects) (map (item_at (accepted H)) (positions_in e.reply))
-  entry-items e g b =
-      each-map (item_at (accepted H)) (IsFineItem objects) (positions_in e.reply)
-      (each-member (λ p. IsFineItem objects (item_at (accepted H) p)) (positions_in e.reply)
-      (λ p m. let low = sent-within r (e ∷ g) (earlier-legal r (e ∷ g) H b legal) e.session p (sent-here e g p m) in
-      item-fine p (omega (arith, low, accepted-grows (e ∷ g) H b))))
+  reply-items : (w : Logged) → NamesAccepted (length (accepted H)) w → AllByRecursion (IsFineItem objects) (map (item_at (accepted H)) (positions_in w))
+  reply-items (logged.Relay seq commit head ps) among =
+      each-map (item_at (accepted H)) (IsFineItem objects) ps
+      (each-more (λ p. (1 ≤ p) × (p ≤ length (accepted H))) (λ p. IsFineItem objects (item_at (accepted H) p)) (λ p m. item-fine p m.1) ps
+      (recursion_from_All (λ p. (1 ≤ p) × (p ≤ length (accepted H))) ps among))
+  reply-items (logged.Welcome commit head) among = tt
+  reply-items (logged.Dropped seq chain far) among = tt
+  reply-items (logged.Settled seq pos) among = tt
+  reply-items (logged.Noted commit) among = tt
+  reply-items logged.Idle among = tt
+  reply-items (logged.Refused code detail) among = tt
+  reply-items logged.Bye among = tt
+
+  -- A reply was got in a session that the trace has.
+  got-has : (s n : ℕ) (reply : Reply) → slice_get (got (reverse L.events) s) n ≡ Some reply → has_session L s ≡ true
+  got-has s n reply is =
+      let whole = reverse L.events in
+      let who = identity_of r.world.shape L in
+      let g = got-when who L.first whole s n reply is in
+      let a = got-answers who L.first whole fits.proper.events s n reply g in
+      any-reverse (is_join_of s) L.events (any-part (is_join_of s) g.before whole (part-rest g.before (events.Got s reply) whole g.part) (current-joined g.before s a.current))
 
   pub relay-items : (s seq commit : ℕ) (head : List Sent) (items : List Item) (before : List Event) → IsPart (events.Got s (replies.Relay seq commit head items) ∷ before) (reverse L.events) → AreFine items
   relay-items s seq commit head items before part =
@@ -116,13 +124,14 @@ module _ (r : Rules) (H : List Entry) (legal : Legal r H) (L : Trace) (fits : Fi
       let last : slice_get (got t s) n ≡ Some reply =
       ap (λ (l : List Reply). slice_get l n) (cond-true (s == s) (got before s ++ reply ∷ []) (got before s) (eq-eqb s s refl)) ∙ get-last (got before s) reply in
       let there : slice_get (got whole s) n ≡ Some reply = got-part who L.first t whole part s n reply last in
-      let x = entered (accepted H) H s n reply (got-replied r H legal L fits s n reply there) in
+      let x = entered (accepted H) H s n reply ((fits.sessions s (got-has s n reply there)).got n reply there) in
       let is : items ≡ map (item_at (accepted H)) (positions_in x.entry.reply) = ap items_of x.replied ∙ full-items (accepted H) x.entry.reply in
       let a = may-answer who L.first before s reply (proper-part who L.first t whole part fits.proper.events).0 in
       let count : length items ≡ length (positions_in x.entry.reply) = ap length is ∙ length-map (positions_in x.entry.reply) (item_at (accepted H)) in
+      let among = entry-at (λ (e : Entry). NamesAccepted (length (accepted H)) e.reply) x.entry x.before H x.earlier (recursion_from_All (λ (e : Entry). NamesAccepted (length (accepted H)) e.reply) H named) in
       let few = entry-at (λ (e : Entry). length (positions_in e.reply) ≤ r.bound + 1) x.entry x.before H x.earlier (recursion_from_All (λ (e : Entry). length (positions_in e.reply) ≤ r.bound + 1) H small) in
       record {
-        each = subst (AllByRecursion (IsFineItem objects)) (sym is) (entry-items x.entry x.before x.earlier);
+        each = subst (AllByRecursion (IsFineItem objects)) (sym is) (reply-items x.entry.reply among);
         some = some-items who (pending_of before) a.request seq commit head items a.good;
         few = omega (arith, count, few, bound);
       }

@@ -7,6 +7,7 @@ use Rattle.std.proofs.lemmas.List.Elements.{recursion_from_All}
 use Rattle.sv_world.specs.declared.action.Action.{Action}
 use Rattle.sv_wire.specs.declared.message.Request.{Request}
 use Rattle.sv_wire.specs.declared.message.Request.TheVariants as requests
+use Rattle.sv_wire.specs.Ranges.{ActionFits}
 use Rattle.sv_journal.specs.declared.entry.Entry.{Entry}
 use Rattle.sv_journal.specs.History.{Authored, client_of, is_relay, new_action, outcomes_of, accepted, actions_of}
 use Rattle.sv_journal.specs.Sessions.{is_end}
@@ -20,7 +21,6 @@ use Rattle.sv_system.proofs.Histories.{IsEarlier, same, after, earlier-rest}
 use Rattle.sv_system.proofs.Entered.{of-from, request-there}
 use Rattle.sv_asked.specs.Asked.{EventFits}
 use Rattle.sv_asked.proofs.Every.{each-at, each-append, each-if, each-map, each-more, each-reverse}
-use Rattle.sv_asked.proofs.Worlds.{HasFit}
 use Rattle.sv_asked.proofs.Made.{Makes, Asks, asked-have}
 
 -- what holds of each entry holds of one of them
@@ -59,8 +59,8 @@ owner-of (L ∷ Ls) s h =
       | inr e ↦ (let f = owner-of Ls s e in (suc f.0, f.1))
     ]
 
-event-makes : (e : Event) → EventFits e → Makes HasFit e
-event-makes (events.Make a) f = f.body
+event-makes : (e : Event) → EventFits e → Makes ActionFits e
+event-makes (events.Make a) f = f
 event-makes (events.Join s) f = tt
 event-makes events.Poll f = tt
 event-makes events.Leave f = tt
@@ -69,8 +69,8 @@ event-makes events.Cut f = tt
 event-makes events.Quit f = tt
 event-makes (events.Show objects) f = tt
 
-new-fit : (o : Option ℕ) (next : ℕ → ℕ) (q : Request) → SubmitHas HasFit q → AllByRecursion (λ (a : Authored). HasFit a.action) (new_action o next q)
-new-fit (Some k) next (requests.Submit seq a) h = each-if (λ (x : Authored). HasFit x.action) (eqb seq (next k)) (record { client = k; seq = seq; action = a } ∷ []) (h, tt)
+new-fit : (o : Option ℕ) (next : ℕ → ℕ) (q : Request) → SubmitHas ActionFits q → AllByRecursion (λ (a : Authored). ActionFits a.action) (new_action o next q)
+new-fit (Some k) next (requests.Submit seq a) h = each-if (λ (x : Authored). ActionFits x.action) (eqb seq (next k)) (record { client = k; seq = seq; action = a } ∷ []) (h, tt)
 new-fit (Some k) next (requests.Join client life interest) h = tt
 new-fit (Some k) next (requests.Done results) h = tt
 new-fit (Some k) next requests.Poll h = tt
@@ -83,19 +83,19 @@ module _ (r : Rules) (H : List Entry) (Ls : List Trace) (fits : Fits r.world.sha
   trace-made : (j : ℕ) (M : Trace) → slice_get Ls j ≡ Some M → AllByRecursion EventFits M.events
   trace-made j M e = recursion_from_All EventFits M.events (each-at (λ (L : Trace). All EventFits L.events) Ls j M (recursion_from_All (λ (L : Trace). All EventFits L.events) Ls made) e)
 
-  asked-fit : (j : ℕ) (M : Trace) → slice_get Ls j ≡ Some M → (s n : ℕ) (q : Request) → slice_get (requests_of M s) n ≡ Some q → SubmitHas HasFit q
+  asked-fit : (j : ℕ) (M : Trace) → slice_get Ls j ≡ Some M → (s n : ℕ) (q : Request) → slice_get (requests_of M s) n ≡ Some q → SubmitHas ActionFits q
   asked-fit j M e s n q there =
-      let events = each-reverse (Makes HasFit) M.events (each-more EventFits (Makes HasFit) event-makes M.events (trace-made j M e)) in
-      submit-asked HasFit q (each-at (Asks HasFit) (requests_of M s) n q (asked-have HasFit M.client M.interest (reverse M.events) s events) there)
+      let events = each-reverse (Makes ActionFits) M.events (each-more EventFits (Makes ActionFits) event-makes M.events (trace-made j M e)) in
+      submit-asked ActionFits q (each-at (Asks ActionFits) (requests_of M s) n q (asked-have ActionFits M.client M.interest (reverse M.events) s events) there)
 
-  entry-fit : (e : Entry) (g : List Entry) → IsEarlier (e ∷ g) H → SubmitHas HasFit e.request
+  entry-fit : (e : Entry) (g : List Entry) → IsEarlier (e ∷ g) H → SubmitHas ActionFits e.request
   entry-fit e g b =
       elim (cases_Bool (is_end e.request)) [
-        | inl x ↦ end-submits HasFit e.request x
+        | inl x ↦ end-submits ActionFits e.request x
         | inr x ↦
             (let owned : is_owned Ls e ≡ true = entry-at (λ (d : Entry). is_owned Ls d ≡ true) e g H b (recursion_from_All (λ (d : Entry). is_owned Ls d ≡ true) H fits.owned) in
             elim (or_cases (is_end e.request) (list_any (λ (L : Trace). has_session L e.session) Ls) owned) [
-              | inl y ↦ end-submits HasFit e.request y
+              | inl y ↦ end-submits ActionFits e.request y
               | inr y ↦
                   (let o = owner-of Ls e.session y in
                   let one = each-at (FitsOne r.world.shape H) Ls o.0 o.1.0 (recursion_from_All (FitsOne r.world.shape H) Ls fits.each) o.1.1.0 in
@@ -104,12 +104,12 @@ module _ (r : Rules) (H : List Entry) (Ls : List Trace) (fits : Fits r.world.sha
             ])
       ]
 
-  accepted-fit : (g : List Entry) → IsEarlier g H → AllByRecursion (λ (a : Authored). HasFit a.action) (accepted g)
+  accepted-fit : (g : List Entry) → IsEarlier g H → AllByRecursion (λ (a : Authored). ActionFits a.action) (accepted g)
   accepted-fit [] b = tt
   accepted-fit (e ∷ g) b =
       let new = new_action (client_of g e.session) (λ k. suc (length (outcomes_of g k))) e.request in
-      each-append (λ (a : Authored). HasFit a.action) (accepted g) (cond (is_relay e.reply) new []) (accepted-fit g (earlier-rest g e H b))
-      (each-if (λ (a : Authored). HasFit a.action) (is_relay e.reply) new (new-fit (client_of g e.session) (λ k. suc (length (outcomes_of g k))) e.request (entry-fit e g b)))
+      each-append (λ (a : Authored). ActionFits a.action) (accepted g) (cond (is_relay e.reply) new []) (accepted-fit g (earlier-rest g e H b))
+      (each-if (λ (a : Authored). ActionFits a.action) (is_relay e.reply) new (new-fit (client_of g e.session) (λ k. suc (length (outcomes_of g k))) e.request (entry-fit e g b)))
 
-  pub actions-fit : AllByRecursion HasFit (actions_of H)
-  actions-fit = each-map (λ (a : Authored). a.action) HasFit (accepted H) (accepted-fit H same)
+  pub actions-fit : AllByRecursion ActionFits (actions_of H)
+  actions-fit = each-map (λ (a : Authored). a.action) ActionFits (accepted H) (accepted-fit H same)

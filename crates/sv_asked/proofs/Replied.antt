@@ -1,41 +1,44 @@
--- Each reply of a legal journal is a message.
-use Rattle.std.proofs.Common.{ℕ, zero, suc, ◌^◌, ◌<◌, ◌≤◌, List, [], ◌∷◌, length, sym, subst, arith}
+-- Each reply of a server is a message, whatever results it keeps.
+use Rattle.std.proofs.Common.{◌≡◌, ℕ, zero, suc, ◌^◌, ◌<◌, ◌≤◌, List, [], ◌∷◌, length, map, None, sym, subst, arith}
 use Rattle.std.specs.List.{AllByRecursion}
 use Rattle.std.proofs.lemmas.List.Elements.{recursion_from_All, All-from_recursion}
+use Rattle.sv_world.specs.declared.world.Shape.{Shape}
 use Rattle.sv_world.specs.Control.{blank}
-use Rattle.sv_world.specs.Faults.{IsGoodAction}
+use Rattle.sv_world.specs.Faults.{first_fault_of_action}
+use Rattle.sv_world.proofs.Good.{good_of_none}
 use Rattle.sv_wire.specs.Ranges.{ValueFits, ItemFits, RequestFits, ReplyFits}
 use Rattle.sv_wire.specs.Grammar.{IsWireReply}
 use Rattle.sv_wire.specs.Laws.{IsReply}
 use Rattle.sv_journal.specs.declared.entry.Entry.{Entry}
 use Rattle.sv_journal.specs.declared.entry.Logged.{Logged}
 use Rattle.sv_journal.specs.declared.entry.Logged.TheVariants as logged
-use Rattle.sv_journal.specs.History.{Authored, accepted, authored_at, actions_of, item_at, full_reply}
+use Rattle.sv_journal.specs.History.{Authored, accepted, authored_at, item_at, full_reply}
 use Rattle.sv_journal.specs.Sessions.{positions_in}
-use Rattle.sv_journal.specs.Answer.{Rules, Legal}
-use Rattle.sv_journal.specs.Laws.{LegalRepliesAreMessages}
-use Rattle.sv_system.proofs.Histories.{IsEarlier, same, earlier-rest, earlier-legal, accepted-grows}
-use Rattle.sv_system.proofs.Lawful.{sent-within}
-use Rattle.sv_asked.specs.Asked.{RepliesAreMessages}
-use Rattle.sv_asked.proofs.Every.{each-get, each-map, each-member, each-more}
+use Rattle.sv_journal.specs.Answer.{Rules}
+use Rattle.sv_journal.specs.Serving.{Keeping, plain, LegalFor, IsKeeping}
+use Rattle.sv_journal.specs.Text.{NamesAccepted}
+use Rattle.sv_journal.specs.Laws.{ServedRelaysNameAccepted, ServedActionsAreGood, ServedRepliesAreMessages}
+use Rattle.sv_journal.proofs.Plain.{plain-keeping, plain-legal}
+use Rattle.sv_asked.specs.Asked.{RepliesAreMessages, ServedRepliesFit}
+use Rattle.sv_asked.proofs.Every.{each-get, each-map, each-more}
 use Rattle.sv_asked.proofs.Evaluated.{AreNumbers}
 use Rattle.sv_asked.proofs.Facts.{RequestsFit, accepted-short, IsAuthoredFit, blank-fits, accepted-fits, IsInPlane, plane-of}
 use Rattle.sv_asked.proofs.Answered.{LoggedFits, RepliesFit, reply-fits}
-use Rattle.sv_asked.proofs.Items.{sent-here}
-use Rattle.sv_asked.proofs.Owned.{entry-at}
-use Rattle.sv_asked.proofs.Honest.{ActionsAreGood}
 
-plane-all : (goods : ActionsAreGood) (r : Rules) (h : List Entry) → Legal r h → AllByRecursion IsInPlane (actions_of h)
-plane-all goods r h legal =
-    each-map (λ (a : Authored). a.action) IsInPlane (accepted h)
-    (each-more (λ (a : Authored). IsGoodAction r.world.shape a.action) (λ (a : Authored). IsInPlane a.action) (λ a g. plane-of a.action g.origin) (accepted h)
-    (recursion_from_All (λ (a : Authored). IsGoodAction r.world.shape a.action) (accepted h) (goods r h legal)))
+plane-all : (shape : Shape) (A : List Authored) → AllByRecursion (λ (a : Authored). first_fault_of_action shape a.action ≡ None) A → AllByRecursion IsInPlane (map (λ (a : Authored). a.action) A)
+plane-all shape A goods =
+    each-map (λ (a : Authored). a.action) IsInPlane A
+    (each-more (λ (a : Authored). first_fault_of_action shape a.action ≡ None) (λ (a : Authored). IsInPlane a.action)
+    (λ a g. plane-of a.action (good_of_none shape a.action g).origin) A goods)
 
-replies-fit : (goods : ActionsAreGood) (r : Rules) → r.world.shape.objects ≤ 2 ^ 16 → AreNumbers r.world.values → (h : List Entry) → suc (length h) < 2 ^ 32 → RequestsFit h → Legal r h → RepliesFit h
-replies-fit goods r objects opening [] few asked legal = tt
-replies-fit goods r objects opening (e ∷ h) few asked legal =
-    let before = replies-fit goods r objects opening h (omega (arith, few)) asked.1 legal.1 in
-    (subst LoggedFits (sym legal.0) (reply-fits r objects opening h e.session few asked.1 before (plane-all goods r h legal.1) e.request asked.0), before)
+replies-fit : ServedActionsAreGood → (k : Keeping) → IsKeeping k → (r : Rules) → r.world.shape.objects ≤ 2 ^ 16 → AreNumbers r.world.values → (h : List Entry) →
+    suc (length h) < 2 ^ 32 → RequestsFit h → LegalFor k r h → RepliesFit h
+replies-fit goods k law r objects opening [] few asked legal = tt
+replies-fit goods k law r objects opening (e ∷ h) few asked legal =
+    let before = replies-fit goods k law r objects opening h (omega (arith, few)) asked.1 legal.1 in
+    let good = recursion_from_All (λ (a : Authored). first_fault_of_action r.world.shape a.action ≡ None) (accepted h) (goods k r h law legal.1) in
+    let plane = plane-all r.world.shape (accepted h) good in
+    (subst LoggedFits (sym legal.0) (reply-fits k law r objects opening h e.session few asked.1 before plane e.request asked.0), before)
 
 authored-fits : (A : List Authored) (p : ℕ) → AllByRecursion IsAuthoredFit A → IsAuthoredFit (authored_at A p)
 authored-fits A zero all = record { client = omega arith; seq = omega arith; action = blank-fits }
@@ -56,27 +59,36 @@ full-fits A logged.Idle all f low = tt
 full-fits A (logged.Refused code detail) all f low = f
 full-fits A logged.Bye all f low = tt
 
-module _ (goods : ActionsAreGood) (messages : LegalRepliesAreMessages) (r : Rules) (H : List Entry) (legal : Legal r H) (few : suc (length H) < 2 ^ 32) (asked : RequestsFit H) (replied : RepliesFit H)
-    (within : AllByRecursion (λ (e : Entry). IsWireReply (full_reply (accepted H) e.reply)) H) where
-  positions-fit : (e : Entry) (g : List Entry) → IsEarlier (e ∷ g) H → AllByRecursion (λ p. p < 2 ^ 32) (positions_in e.reply)
-  positions-fit e g b =
-      each-member (λ p. p < 2 ^ 32) (positions_in e.reply)
-      (λ p m. omega (arith, sent-within r (e ∷ g) (earlier-legal r (e ∷ g) H b legal) e.session p (sent-here e g p m), accepted-grows (e ∷ g) H b, accepted-short H, few))
+-- The positions that a reply names are numbers of their type, where it names accepted actions.
+positions-fit : (count : ℕ) (w : Logged) → count < 2 ^ 32 → NamesAccepted count w → AllByRecursion (λ p. p < 2 ^ 32) (positions_in w)
+positions-fit count (logged.Relay seq commit head positions) few named =
+    each-more (λ p. (1 ≤ p) × (p ≤ count)) (λ p. p < 2 ^ 32) (λ p n. omega (arith, n.1, few)) positions (recursion_from_All (λ p. (1 ≤ p) × (p ≤ count)) positions named)
+positions-fit count (logged.Welcome commit head) few named = tt
+positions-fit count (logged.Dropped seq chain far) few named = tt
+positions-fit count (logged.Settled seq place) few named = tt
+positions-fit count (logged.Noted commit) few named = tt
+positions-fit count logged.Idle few named = tt
+positions-fit count (logged.Refused code detail) few named = tt
+positions-fit count logged.Bye few named = tt
 
-  each-reply : (g : List Entry) → IsEarlier g H → AllByRecursion (λ (e : Entry). IsReply (full_reply (accepted H) e.reply)) g
-  each-reply [] b = tt
-  each-reply (e ∷ g) b = (
-    record {
-      within = entry-at (λ (d : Entry). IsWireReply (full_reply (accepted H) d.reply)) e g H b within;
-      fits = full-fits (accepted H) e.reply (accepted-fits H asked) (entry-at (λ (d : Entry). LoggedFits d.reply) e g H b replied) (positions-fit e g b);
-    },
-    each-reply g (earlier-rest g e H b),
-  )
+-- All of a list's replies are messages, among these accepted actions.
+replies-are : (A : List Authored) → length A < 2 ^ 32 → AllByRecursion IsAuthoredFit A → (h : List Entry) → AllByRecursion (λ (e : Entry). IsWireReply (full_reply A e.reply)) h →
+    RepliesFit h → AllByRecursion (λ (e : Entry). NamesAccepted (length A) e.reply) h → AllByRecursion (λ (e : Entry). IsReply (full_reply A e.reply)) h
+replies-are A few fits [] within replied named = tt
+replies-are A few fits (e ∷ h) within replied named = (
+  record { within = within.0; fits = full-fits A e.reply fits replied.0 (positions-fit (length A) e.reply few named.0) },
+  replies-are A few fits h within.1 replied.1 named.1,
+)
 
-pub replies_are_messages : ActionsAreGood → LegalRepliesAreMessages → RepliesAreMessages
-replies_are_messages goods messages r h limits objects opening asked few legal =
+pub served_replies_fit : ServedRelaysNameAccepted → ServedActionsAreGood → ServedRepliesAreMessages → ServedRepliesFit
+served_replies_fit names goods messages k r h law limits objects opening asked few legal =
     let requests = recursion_from_All (λ (e : Entry). RequestFits e.request) h asked in
-    let short : suc (length h) < 2 ^ 32 = omega (arith, few) in
-    let replied = replies-fit goods r objects (recursion_from_All ValueFits r.world.values opening) h short requests legal in
-    let within = recursion_from_All (λ (e : Entry). IsWireReply (full_reply (accepted h) e.reply)) h (messages r h limits legal) in
-    All-from_recursion (λ (e : Entry). IsReply (full_reply (accepted h) e.reply)) h (each-reply goods messages r h legal short requests replied within h same)
+    let replied = replies-fit goods k law r objects (recursion_from_All ValueFits r.world.values opening) h (omega (arith, few)) requests legal in
+    let within = recursion_from_All (λ (e : Entry). IsWireReply (full_reply (accepted h) e.reply)) h (messages k r h law limits legal) in
+    let named = recursion_from_All (λ (e : Entry). NamesAccepted (length (accepted h)) e.reply) h (names k r h law legal) in
+    All-from_recursion (λ (e : Entry). IsReply (full_reply (accepted h) e.reply)) h
+    (replies-are (accepted h) (omega (arith, accepted-short h, few)) (accepted-fits h requests) h within replied named)
+
+pub replies_are_messages : ServedRelaysNameAccepted → ServedActionsAreGood → ServedRepliesAreMessages → RepliesAreMessages
+replies_are_messages names goods messages r h limits objects opening asked few legal =
+    served_replies_fit names goods messages plain r h plain-keeping limits objects opening asked few (plain-legal r h legal)

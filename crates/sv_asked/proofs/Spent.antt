@@ -8,8 +8,12 @@ use Rattle.sv_wire.specs.declared.message.Request.TheVariants as requests
 use Rattle.sv_journal.specs.declared.entry.Entry.{Entry}
 use Rattle.sv_journal.specs.History.{Authored, client_of, is_relay, new_action, outcomes_of, accepted}
 use Rattle.sv_journal.specs.Sessions.{is_over, is_end, asked_in}
-use Rattle.sv_journal.specs.Answer.{Rules, refused, reply_to_open, reply_to_request, reply_to, Legal}
-use Rattle.sv_asked.specs.Asked.{AcceptedAreFew}
+use Rattle.sv_journal.specs.declared.entry.Logged.{Logged}
+use Rattle.sv_journal.specs.Answer.{Rules, refused}
+use Rattle.sv_journal.specs.Serving.{Keeping, plain, with_last_rows, reply_for, LegalFor, IsKeeping}
+use Rattle.sv_journal.proofs.Kept.{asked-kept}
+use Rattle.sv_journal.proofs.Plain.{plain-keeping, plain-legal}
+use Rattle.sv_asked.specs.Asked.{AcceptedAreFew, ServedAcceptedAreFew}
 
 -- How many requests the first n sessions made, of each at most so many as it may make.
 abbrev spent : ℕ → List Entry → ℕ
@@ -52,22 +56,24 @@ spent-more (suc n) e h low f few =
 
 -- ---- A relay
 
-open-few : (r : Rules) (h : List Entry) (s : ℕ) (q : Request) → is_relay (reply_to_request r h s q) ≡ true → asked_in h s < 1024
-open-few r h s q = go (is_over h s) (leb 1024 (asked_in h s)) refl
-  where
-    go : (b c : Bool) → leb 1024 (asked_in h s) ≡ c → is_relay (cond b (refused 4 0) (cond c (refused 9 0) (reply_to_open r h s q))) ≡ true → asked_in h s < 1024
-    go true c e f = absurd (true≢false (sym f))
-    go false true e f = absurd (true≢false (sym f))
-    go false false e f = omega (arith, leb-false 1024 (asked_in h s) e)
+module _ (k : Keeping) (law : IsKeeping k) (r : Rules) (h : List Entry) (s : ℕ) where
+  open-few : (q : Request) (w : Logged) →
+      is_relay (with_last_rows k r h s q (cond (is_over (k.kept h) s) (refused 4 0) (cond (leb 1024 (asked_in (k.kept h) s)) (refused 9 0) w))) ≡ true → asked_in h s < 1024
+  open-few q w = go (is_over (k.kept h) s) (leb 1024 (asked_in (k.kept h) s)) refl
+    where
+      go : (b c : Bool) → leb 1024 (asked_in (k.kept h) s) ≡ c → is_relay (with_last_rows k r h s q (cond b (refused 4 0) (cond c (refused 9 0) w))) ≡ true → asked_in h s < 1024
+      go true c e f = absurd (true≢false (sym f))
+      go false true e f = absurd (true≢false (sym f))
+      go false false e f = omega (arith, leb-false 1024 (asked_in (k.kept h) s) e, asked-kept k law h s)
 
-relay-few : (r : Rules) (h : List Entry) (s : ℕ) (q : Request) → is_relay (reply_to r h s q) ≡ true → (is_end q ≡ false) × (asked_in h s < 1024)
-relay-few r h s (requests.Join client life interest) f = (refl, open-few r h s (requests.Join client life interest) f)
-relay-few r h s (requests.Submit seq a) f = (refl, open-few r h s (requests.Submit seq a) f)
-relay-few r h s (requests.Done results) f = (refl, open-few r h s (requests.Done results) f)
-relay-few r h s requests.Poll f = (refl, open-few r h s requests.Poll f)
-relay-few r h s requests.Leave f = (refl, open-few r h s requests.Leave f)
-relay-few r h s requests.Bad f = (refl, open-few r h s requests.Bad f)
-relay-few r h s requests.End f = absurd (true≢false (sym f))
+  relay-few : (q : Request) → is_relay (reply_for k r h s q) ≡ true → (is_end q ≡ false) × (asked_in h s < 1024)
+  relay-few (requests.Join client life interest) f = (refl, open-few (requests.Join client life interest) _ f)
+  relay-few (requests.Submit seq a) f = (refl, open-few (requests.Submit seq a) _ f)
+  relay-few (requests.Done results) f = (refl, open-few (requests.Done results) _ f)
+  relay-few requests.Poll f = (refl, open-few requests.Poll _ f)
+  relay-few requests.Leave f = (refl, open-few requests.Leave _ f)
+  relay-few requests.Bad f = (refl, open-few requests.Bad _ f)
+  relay-few requests.End f = absurd (true≢false (sym f))
 
 one-if : {X : Type 0} (b : Bool) (x : X) → length (cond b (x ∷ []) []) ≤ 1
 one-if true x = omega arith
@@ -83,20 +89,23 @@ new-few (Some k) next requests.Bad = omega arith
 new-few (Some k) next requests.End = omega arith
 new-few None next q = omega arith
 
-accepted-spent : (r : Rules) (n : ℕ) (h : List Entry) → Legal r h → AllByRecursion (λ (e : Entry). e.session < n) h → length (accepted h) ≤ spent n h
-accepted-spent r n [] legal all = omega arith
-accepted-spent r n (e ∷ h) legal all = go (is_relay e.reply) refl (accepted-spent r n h legal.1 all.1)
+accepted-spent : (k : Keeping) → IsKeeping k → (r : Rules) (n : ℕ) (h : List Entry) → LegalFor k r h → AllByRecursion (λ (e : Entry). e.session < n) h → length (accepted h) ≤ spent n h
+accepted-spent k law r n [] legal all = omega arith
+accepted-spent k law r n (e ∷ h) legal all = go (is_relay e.reply) refl (accepted-spent k law r n h legal.1 all.1)
   where
     new : List Authored
-    new = new_action (client_of h e.session) (λ k. suc (length (outcomes_of h k))) e.request
+    new = new_action (client_of h e.session) (λ j. suc (length (outcomes_of h j))) e.request
 
     go : (b : Bool) → is_relay e.reply ≡ b → length (accepted h) ≤ spent n h → length (accepted h ++ cond b new []) ≤ spent n (e ∷ h)
     go true f before =
-        let few = relay-few r h e.session e.request (ap is_relay (sym legal.0) ∙ f) in
-        omega (arith, before, length-append (accepted h) new, new-few (client_of h e.session) (λ k. suc (length (outcomes_of h k))) e.request, spent-more n e h all.0 few.0 few.1)
+        let few = relay-few k law r h e.session e.request (ap is_relay (sym legal.0) ∙ f) in
+        omega (arith, before, length-append (accepted h) new, new-few (client_of h e.session) (λ j. suc (length (outcomes_of h j))) e.request, spent-more n e h all.0 few.0 few.1)
     go false f before = omega (arith, before, length-append (accepted h) [], spent-grows n e h)
 
-pub accepted-few : AcceptedAreFew
-accepted-few r h n legal all =
-    let within = accepted-spent r n h legal (recursion_from_All (λ (e : Entry). e.session < n) h all) in
+pub served-few : ServedAcceptedAreFew
+served-few k r h n law legal all =
+    let within = accepted-spent k law r n h legal (recursion_from_All (λ (e : Entry). e.session < n) h all) in
     omega (arith, within, spent-most n h)
+
+pub accepted-few : AcceptedAreFew
+accepted-few r h n legal all = served-few plain r h n plain-keeping (plain-legal r h legal) all

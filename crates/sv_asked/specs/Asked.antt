@@ -1,16 +1,18 @@
 -- What is said of the requests that honest clients ask.
-use Rattle.std.specs.Prelude.{◌≡◌, ℕ, ◌+◌, ◌*◌, ◌^◌, ◌<◌, ◌≤◌, List, length, slice_get, Some, All}
+use Rattle.std.specs.Prelude.{◌≡◌, ℕ, ◌+◌, ◌*◌, ◌^◌, ◌<◌, ◌≤◌, List, [], ◌∷◌, length, reverse, slice_get, Some, All}
 use Rattle.sv_wire.specs.Ranges.{ValueFits, ActionFits, RequestFits}
 use Rattle.sv_wire.specs.Laws.{IsRequest, IsReply}
 use Rattle.sv_journal.specs.declared.entry.Entry.{Entry}
-use Rattle.sv_journal.specs.History.{accepted, full_reply}
+use Rattle.sv_journal.specs.History.{accepted, actions_of, full_reply}
 use Rattle.sv_journal.specs.Answer.{Rules, Legal}
+use Rattle.sv_journal.specs.Serving.{Keeping, LegalFor, IsKeeping}
 use Rattle.sv_journal.specs.Laws.{AreWithinLimits}
 use Rattle.sv_client.specs.declared.trace.Event.{Event}
 use Rattle.sv_client.specs.declared.trace.Event.TheVariants as events
 use Rattle.sv_client.specs.declared.trace.Trace.{Trace}
-use Rattle.sv_client.specs.Traces.{requests_of}
-use Rattle.sv_system.specs.Fits.{Fits}
+use Rattle.sv_client.specs.Traces.{held_of, requests_of}
+use Rattle.sv_system.specs.Fits.{FitsOne, Fits}
+use Rattle.sv_system.specs.Serial.{AreSerial}
 
 -- The numbers of an action that is made are those of their types.
 abbrev pub EventFits : Event → Type 0
@@ -39,3 +41,20 @@ AcceptedAreFew = (r : Rules) (h : List Entry) (sessions : ℕ) → Legal r h →
 abbrev pub RepliesAreMessages : Type 0
 RepliesAreMessages = (r : Rules) (h : List Entry) → AreWithinLimits r → r.world.shape.objects ≤ 2 ^ 16 → All ValueFits r.world.values →
     All (λ (e : Entry). RequestFits e.request) h → length h + 1 < 2 ^ 32 → Legal r h → All (λ (e : Entry). IsReply (full_reply (accepted h) e.reply)) h
+
+-- ---- Any keeping
+
+-- Each request of a client whose trace fits the journal, and who holds serial values, is a message, with numbers of its types. Nothing is asked of
+-- the other clients, but that the actions that they made have numbers of their types.
+abbrev pub ServedRequestsFit : Type 0
+ServedRequestsFit = (k : Keeping) (r : Rules) (h : List Entry) (L : Trace) (s : ℕ) → IsKeeping k → AreWithinLimits r → HasNumbers r h (L ∷ []) →
+    All ActionFits (actions_of h) → LegalFor k r h → FitsOne r.world.shape h L → AreSerial r.world.values (actions_of h) (held_of (reverse L.events)) →
+    All IsRequest (requests_of L s)
+
+abbrev pub ServedAcceptedAreFew : Type 0
+ServedAcceptedAreFew = (k : Keeping) (r : Rules) (h : List Entry) (sessions : ℕ) → IsKeeping k → LegalFor k r h → All (λ (e : Entry). e.session < sessions) h →
+    length (accepted h) ≤ 1024 * sessions
+
+abbrev pub ServedRepliesFit : Type 0
+ServedRepliesFit = (k : Keeping) (r : Rules) (h : List Entry) → IsKeeping k → AreWithinLimits r → r.world.shape.objects ≤ 2 ^ 16 → All ValueFits r.world.values →
+    All (λ (e : Entry). RequestFits e.request) h → length h + 1 < 2 ^ 32 → LegalFor k r h → All (λ (e : Entry). IsReply (full_reply (accepted h) e.reply)) h

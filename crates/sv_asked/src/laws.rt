@@ -1,8 +1,12 @@
 //! Laws of what is asked and replied.
 ghost use Rattle.sv_asked.specs.Asked.{AcceptedAreFew, RepliesAreMessages, RequestsAreMessages};
+ghost use Rattle.sv_asked.specs.Asked.{ServedAcceptedAreFew, ServedRepliesFit, ServedRequestsFit};
 
-use sv_journal::{legal_relays_are_small, legal_replies_are_messages};
-use sv_system::{legal_journals_make_lawful_deliveries, replicas_equal_serial_execution};
+use sv_journal::{
+    served_actions_are_good, served_relays_are_small, served_relays_name_accepted,
+    served_replies_are_messages,
+};
+use sv_system::replicas_equal_serial_execution;
 
 /// Each request that an honest client asks in a session is a message: it is within the grammar, and its numbers are those of their types.
 ///
@@ -12,8 +16,9 @@ use sv_system::{legal_journals_make_lawful_deliveries, replicas_equal_serial_exe
 pub fn requests_are_messages()
     ensures { RequestsAreMessages }
 {
-    legal_relays_are_small();
-    legal_journals_make_lawful_deliveries();
+    served_relays_name_accepted();
+    served_relays_are_small();
+    served_actions_are_good();
     replicas_equal_serial_execution();
 }
 
@@ -23,11 +28,37 @@ pub fn requests_are_messages()
 pub fn replies_are_messages()
     ensures { RepliesAreMessages }
 {
-    legal_journals_make_lawful_deliveries();
-    legal_replies_are_messages();
+    served_relays_name_accepted();
+    served_actions_are_good();
+    served_replies_are_messages();
 }
 
 /// A legal journal of so many sessions accepts at most 1,024 actions for each of them, whatever its clients ask.
 pub fn accepted_are_few()
     ensures { AcceptedAreFew }
+{}
+
+/// Whatever results a server keeps, each request of an honest client that holds serial values is a message, with numbers of its types.
+///
+/// Nothing is asked of the other clients: they may be dishonest.
+pub fn served_requests_fit()
+    ensures { ServedRequestsFit }
+{
+    served_relays_name_accepted();
+    served_relays_are_small();
+    served_actions_are_good();
+}
+
+/// Whatever results a server keeps, each of its replies is a message, with numbers of its types.
+pub fn served_replies_fit()
+    ensures { ServedRepliesFit }
+{
+    served_relays_name_accepted();
+    served_actions_are_good();
+    served_replies_are_messages();
+}
+
+/// Whatever results a server keeps, it accepts at most 1,024 actions for each of its sessions.
+pub fn served_accepted_are_few()
+    ensures { ServedAcceptedAreFew }
 {}

@@ -4,5 +4,8 @@
 mod laws;
 mod numbers;
 
-pub use laws::{accepted_are_few, replies_are_messages, requests_are_messages};
+pub use laws::{
+    accepted_are_few, replies_are_messages, requests_are_messages, served_accepted_are_few,
+    served_replies_fit, served_requests_fit,
+};
 pub use numbers::read_scenario_numbers;

@@ -1,4 +1,4 @@
--- The accepted actions of a legal journal are good.
+-- The actions that a server accepted are good, whatever results it keeps.
 use Rattle.std.proofs.Common.{◌≡◌, ℕ, suc, List, [], ◌∷◌, ◌++◌, length, None, refl, sym, subst, arith}
 use Rattle.std.specs.List.{AllByRecursion}
 use Rattle.std.proofs.lemmas.Bool.{eq-eqb, ne_eqb}
@@ -9,10 +9,13 @@ use Rattle.sv_wire.specs.declared.message.Request.{Request}
 use Rattle.sv_journal.specs.declared.entry.Entry.{Entry}
 use Rattle.sv_journal.specs.declared.entry.Logged.{Logged}
 use Rattle.sv_journal.specs.History.{client_of, outcomes_of, Accepted, Authored, accepted, actions_of, next_seq}
-use Rattle.sv_journal.specs.Answer.{Rules, relay_of, reply_to, Legal}
-use Rattle.sv_journal.specs.Laws.{LegalActionsAreGood}
+use Rattle.sv_journal.specs.Answer.{Rules, relay_of}
+use Rattle.sv_journal.specs.Serving.{Keeping, plain, reply_for, LegalFor, IsKeeping}
+use Rattle.sv_journal.specs.Laws.{LegalActionsAreGood, ServedActionsAreGood}
+use Rattle.sv_journal.proofs.Commits.{new_by}
+use Rattle.sv_journal.proofs.Plain.{plain-keeping, plain-legal}
 use Rattle.sv_journal.proofs.Replies.{each_reply}
-use Rattle.sv_journal.proofs.Sizes.{new_by, entry_of, kept_known, not_by_poll}
+use Rattle.sv_journal.proofs.Sizes.{entry_of, kept_known, not_by_poll}
 
 abbrev pub IsGood : Shape → Authored → Type 0
 IsGood shape a = first_fault_of_action shape a.action ≡ None
@@ -28,24 +31,28 @@ with_new : (shape : Shape) (e : Entry) (h : List Entry) (new : List Authored) �
 with_new shape e h new is good inv =
     all_append (IsGood shape) (accepted h) (new_by e h) inv (subst (AllByRecursion (IsGood shape)) (sym is) good)
 
-good_kept : (r : Rules) (h : List Entry) (s : ℕ) (q : Request) → AreGood r.world.shape h → AreGood r.world.shape (entry_of s q (reply_to r h s q) ∷ h)
-good_kept r h s q inv = each_reply r h s q (λ w. AreGood r.world.shape (entry_of s q w ∷ h)) (record {
+good_kept : (k : Keeping) → IsKeeping k → (r : Rules) (h : List Entry) (s : ℕ) (q : Request) → AreGood r.world.shape h →
+    AreGood r.world.shape (entry_of s q (reply_for k r h s q) ∷ h)
+good_kept k law r h s q inv = each_reply k law r h s (λ w. AreGood r.world.shape (entry_of s q w ∷ h)) q (record {
   other = λ w e. with_new r.world.shape (entry_of s q w) h [] (rw e refl) tt inv;
-  fresh = λ k seq a client asked next good chain.
-      with_new r.world.shape (entry_of s q (relay_of r h (actions_of h ++ a ∷ []) s seq (suc (length (actions_of h))))) h (record { client = k; seq = seq; action = a } ∷ [])
-      (rw (client, asked, eq-eqb seq (next_seq h k) next) refl) (good, tt) inv;
-  again = λ k seq p a client asked kept above.
-      with_new r.world.shape (entry_of s q (relay_of r h (actions_of h) s seq p)) h []
-      (rw (client, asked, ne_eqb seq (next_seq h k) (λ e. omega (arith, e, kept_known h k seq (Accepted p) kept))) refl) tt inv;
-  poll = λ p ps asked first.
-      with_new r.world.shape (entry_of s q (relay_of r h (actions_of h) s 0 p)) h []
-      (rw asked (not_by_poll (client_of h s) (λ k. suc (length (outcomes_of h k))))) tt inv;
+  fresh = λ j seq a client asked next good chain.
+      with_new r.world.shape (entry_of s q (relay_of r (k.kept h) (actions_of h ++ a ∷ []) s seq (suc (length (actions_of h))))) h (record { client = j; seq = seq; action = a } ∷ [])
+      (rw (client, asked, eq-eqb seq (next_seq h j) next) refl) (good, tt) inv;
+  again = λ j seq p a client asked kept above.
+      with_new r.world.shape (entry_of s q (relay_of r (k.kept h) (actions_of h) s seq p)) h []
+      (rw (client, asked, ne_eqb seq (next_seq h j) (λ e. omega (arith, e, kept_known h j seq (Accepted p) kept))) refl) tt inv;
+  poll = λ j p ps client asked open_still first.
+      with_new r.world.shape (entry_of s q (relay_of r (k.kept h) (actions_of h) s 0 p)) h []
+      (rw asked (not_by_poll (client_of h s) (λ i. suc (length (outcomes_of h i))))) tt inv;
 })
 
-pub legal_good : (r : Rules) (h : List Entry) → Legal r h → AreGood r.world.shape h
-legal_good r [] legal = tt
-legal_good r (e ∷ h) legal =
-    subst (λ (w : Logged). AreGood r.world.shape (entry_of e.session e.request w ∷ h)) (sym legal.0) (good_kept r h e.session e.request (legal_good r h legal.1))
+pub served_good : (k : Keeping) → IsKeeping k → (r : Rules) (h : List Entry) → LegalFor k r h → AreGood r.world.shape h
+served_good k law r [] legal = tt
+served_good k law r (e ∷ h) legal =
+    subst (λ (w : Logged). AreGood r.world.shape (entry_of e.session e.request w ∷ h)) (sym legal.0) (good_kept k law r h e.session e.request (served_good k law r h legal.1))
+
+pub served_actions_are_good : ServedActionsAreGood
+served_actions_are_good k r h law legal = All-from_recursion (IsGood r.world.shape) (accepted h) (served_good k law r h legal)
 
 pub legal_actions_are_good : LegalActionsAreGood
-legal_actions_are_good r h legal = All-from_recursion (IsGood r.world.shape) (accepted h) (legal_good r h legal)
+legal_actions_are_good r h legal = served_actions_are_good plain r h plain-keeping (plain-legal r h legal)

@@ -1,12 +1,15 @@
 mod Checked
+pub mod Commits
 mod Counts
 mod Filling
 mod Fronts
 mod Heads
+pub mod Kept
 mod Messages
 mod Named
 mod Places
-mod Replies
+pub mod Plain
+pub mod Replies
 mod Results
 mod Sizes
 mod Stays

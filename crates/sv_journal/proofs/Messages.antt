@@ -1,29 +1,35 @@
--- The replies of a legal journal are messages.
-use Rattle.std.proofs.Common.{◌≡◌, ℕ, zero, suc, ◌+◌, ◌*◌, ◌≤◌, true, false, List, [], ◌∷◌, ◌++◌, map, length, None, refl, sym, subst, arith}
+-- The replies of a server are messages, whatever results it keeps.
+use Rattle.std.proofs.Common.{◌≡◌, ℕ, zero, suc, ◌+◌, ◌*◌, ◌≤◌, false, List, [], ◌∷◌, ◌++◌, map, filter, length, None, refl, sym, ap, subst, ◌∙◌, arith}
 use Rattle.std.specs.List.{AllByRecursion}
+use Rattle.std.proofs.lemmas.Bool.{or_parts}
 use Rattle.std.proofs.lemmas.List.{length-map}
 use Rattle.std.proofs.lemmas.List.Elements.{All-from_recursion, recursion_from_All}
 use Rattle.sv_world.specs.declared.action.Action.{Action}
+use Rattle.sv_world.specs.declared.world.ObjectId.{ObjectId}
 use Rattle.sv_world.specs.declared.world.Shape.{Shape}
 use Rattle.sv_world.specs.Control.{blank}
 use Rattle.sv_world.specs.Faults.{first_fault_of_action, IsGoodAction}
+use Rattle.sv_wire.specs.declared.message.Done1.{Done1}
 use Rattle.sv_wire.specs.declared.message.Item.{Item}
 use Rattle.sv_wire.specs.declared.message.Request.{Request}
+use Rattle.sv_wire.specs.declared.message.Request.TheVariants as requests
 use Rattle.sv_wire.specs.Grammar.{IsWireAction, IsWireReply}
 use Rattle.sv_journal.specs.declared.entry.Entry.{Entry}
 use Rattle.sv_journal.specs.declared.entry.Logged.{Logged}
 use Rattle.sv_journal.specs.declared.entry.Logged.TheVariants as logged
 use Rattle.sv_journal.specs.History.{is_noted, Authored, accepted, actions_of, commit_of, item_at, full_reply}
 use Rattle.sv_journal.specs.Sessions.{positions_in}
-use Rattle.sv_journal.specs.Answer.{Rules, refused, relay_of, committed_held, commit_with, reply_to, Legal}
+use Rattle.sv_journal.specs.Answer.{Rules, refused, relay_of, committed_held, is_bad_result, is_bad_done}
+use Rattle.sv_journal.specs.Serving.{Keeping, plain, reply_for, LegalFor, with_results, IsKeeping}
 use Rattle.sv_journal.specs.Text.{NamesAccepted}
-use Rattle.sv_journal.specs.Laws.{AreWithinLimits, LegalRepliesAreMessages}
-use Rattle.sv_journal.proofs.Replies.{is_plain, each_row}
+use Rattle.sv_journal.specs.Laws.{AreWithinLimits, LegalRepliesAreMessages, ServedRepliesAreMessages}
+use Rattle.sv_journal.proofs.Plain.{plain-keeping, plain-legal}
+use Rattle.sv_journal.proofs.Replies.{each_row}
 use Rattle.sv_journal.proofs.Named.{NeededWithin, all_named}
 use Rattle.sv_journal.proofs.Sizes.{SizeWithin, entry_of, all_small}
-use Rattle.sv_journal.proofs.Checked.{IsGood, AreGood, legal_good}
+use Rattle.sv_journal.proofs.Checked.{IsGood, AreGood, served_good}
 use Rattle.sv_journal.proofs.Counts.{FewReads}
-use Rattle.sv_journal.proofs.Results.{AreResults, results_quiet, results_noted}
+use Rattle.sv_journal.proofs.Results.{AreResults, results_quiet, results_noted, some_good}
 use Rattle.sv_journal.proofs.Heads.{HeadAscends, HeadWithin, IsHead, wire_head, relay_head, welcome_head}
 
 -- A law of sv_world: what holds of an action that no cause applies to.
@@ -38,26 +44,6 @@ Fits (logged.Relay seq commit head positions) = IsHead (16 * length positions) h
 Fits (logged.Refused code detail) = (1 ≤ code) × (code ≤ 11)
 Fits _ = Unit {0}
 
-plain_quiet : (w : Logged) → is_plain w ≡ true → is_noted w ≡ false
-plain_quiet (logged.Welcome commit head) e = refl
-plain_quiet (logged.Relay seq commit head positions) e = refl
-plain_quiet (logged.Dropped seq chain far) e = refl
-plain_quiet (logged.Settled seq pos) e = refl
-plain_quiet (logged.Noted commit) e = cc
-plain_quiet logged.Idle e = refl
-plain_quiet (logged.Refused code detail) e = refl
-plain_quiet logged.Bye e = refl
-
-plain_fits : (w : Logged) → is_plain w ≡ true → Fits w
-plain_fits (logged.Welcome commit head) e = absurd (cc)
-plain_fits (logged.Relay seq commit head positions) e = absurd (cc)
-plain_fits (logged.Dropped seq chain far) e = tt
-plain_fits (logged.Settled seq pos) e = tt
-plain_fits (logged.Noted commit) e = tt
-plain_fits logged.Idle e = tt
-plain_fits (logged.Refused code detail) e = absurd (cc)
-plain_fits logged.Bye e = tt
-
 few_reads : GoodWhereNone → (shape : Shape) (A : List Authored) → AllByRecursion (IsGood shape) A → FewReads (map (λ (x : Authored). x.action) A)
 few_reads law shape [] good = tt
 few_reads law shape (a ∷ A) good = ((law shape a.action good.0).few_reads, few_reads law shape A good.1)
@@ -66,43 +52,59 @@ one_more : (A : List Action) (a : Action) → FewReads A → length a.reads ≤ 
 one_more [] a few last = (last, tt)
 one_more (x ∷ A) a few last = (few.0, one_more A a few.1 last)
 
-abbrev Keeps : Rules → List Entry → ℕ → Request → Logged → Type 0
-Keeps r h s q w = AreResults r.world.shape.attrs (entry_of s q w ∷ h) × Fits w
+abbrev Keeps : Keeping → Rules → List Entry → ℕ → Request → Logged → Type 0
+Keeps k r h s q w = AreResults r.world.shape.attrs (k.kept (entry_of s q w ∷ h)) × Fits w
 
-fits_here : HeadAscends → HeadWithin → GoodWhereNone → (r : Rules) (h : List Entry) (s : ℕ) (q : Request) → AreWithinLimits r → AreGood r.world.shape h →
-    AreResults r.world.shape.attrs h → Keeps r h s q (reply_to r h s q)
-fits_here ascends within law r h s q limits good results = each_row r h s q (Keeps r h s q) (record {
-  refusal = λ code detail some few. (results_quiet n h s q (refused code detail) refl results, (some, few));
-  plain = λ w e. (results_quiet n h s q w (plain_quiet w e) results, plain_fits w e);
-  welcome = λ interest fine. (
-    results_quiet n h s q (logged.Welcome (commit_of h) (committed_held r h interest)) refl results,
-    welcome_head r h interest limits results fine,
-  );
-  noted = λ ds asked fine. (
-    subst (λ x. AreResults n (entry_of s x (logged.Noted (commit_with h s ds)) ∷ h)) (sym asked) (results_noted r h s ds (commit_with h s ds) fine results),
-    tt,
-  );
-  fresh = λ k seq a client asked next none chain.
-      relay (actions_of h ++ a ∷ []) seq (suc (length (actions_of h))) (one_more (actions_of h) a few (law r.world.shape a none).few_reads);
-  again = λ k seq p a client asked kept above. relay (actions_of h) seq p few;
-  poll = λ p ps asked first. relay (actions_of h) 0 p few;
+module _ (k : Keeping) (law : IsKeeping k) (r : Rules) (h : List Entry) (s : ℕ) (q : Request) (results : AreResults r.world.shape.attrs (k.kept h)) where
+  abbrev n : ℕ
+  n = r.world.shape.attrs
+
+  quiet : (w : Logged) → is_noted w ≡ false → Fits w → Keeps k r h s q w
+  quiet w is fits =
+      let next = law.next (entry_of s q w) h in
+      (subst (AreResults n) (sym next.1) (results_quiet n (k.kept h) s (with_results next.0 q) w is results), fits)
+
+  noted : (ds : List Done1) → q ≡ requests.Done ds → is_bad_done r (k.kept h) s ds ≡ false → (commit : ℕ) → Keeps k r h s q (logged.Noted commit)
+  noted ds asked fine commit =
+      let next = law.next (entry_of s q (logged.Noted commit)) h in
+      let good = some_good (is_bad_result r (k.kept h) s) next.0 ds (or_parts _ _ fine).1 in
+      let some : with_results next.0 q ≡ requests.Done (filter next.0 ds) = ap (with_results next.0) asked in (
+        subst (AreResults n) (sym (next.1 ∙ ap (λ (x : Request). entry_of s x (logged.Noted commit) ∷ k.kept h) some))
+            (results_noted r (k.kept h) s (filter next.0 ds) commit good results),
+        tt,
+      )
+
+fits_here : HeadAscends → HeadWithin → GoodWhereNone → (k : Keeping) → IsKeeping k → (r : Rules) (h : List Entry) (s : ℕ) (q : Request) → AreWithinLimits r →
+    AreGood r.world.shape h → AreResults r.world.shape.attrs (k.kept h) → Keeps k r h s q (reply_for k r h s q)
+fits_here ascends within none_good k law r h s q limits good results = each_row k law r h s (Keeps k r h s q) q (record {
+  refusal = λ code detail some few told. quiet k law r h s q results (refused code detail) refl (some, few);
+  bye = quiet k law r h s q results logged.Bye refl tt;
+  welcome = λ client life interest asked open_still live later fine.
+      let xs = map (λ (o : ObjectId). o.0) interest in
+      quiet k law r h s q results (logged.Welcome (commit_of (k.kept h)) (committed_held r (k.kept h) xs)) refl (welcome_head r (k.kept h) xs limits results fine);
+  dropped = λ j seq a client asked next good. quiet k law r h s q results (logged.Dropped seq _ _) refl tt;
+  dropped_again = λ j seq a chain far client asked is. quiet k law r h s q results (logged.Dropped seq chain far) refl tt;
+  settled = λ j seq p a client asked is. quiet k law r h s q results (logged.Settled seq p) refl tt;
+  noted = λ ds asked fine. noted k law r h s q results ds asked fine (commit_of (k.kept (entry_of s q (logged.Noted 0) ∷ h)));
+  idle = quiet k law r h s q results logged.Idle refl tt;
+  fresh = λ j seq a client asked next none chain.
+      relay (actions_of h ++ a ∷ []) seq (suc (length (actions_of h))) (one_more (actions_of h) a few (none_good r.world.shape a none).few_reads);
+  again = λ j seq p a client asked kept above. relay (actions_of h) seq p few;
+  poll = λ j p ps client asked open_still first. relay (actions_of h) 0 p few;
 })
   where
-    n : ℕ
-    n = r.world.shape.attrs
-
     few : FewReads (actions_of h)
-    few = few_reads law r.world.shape (accepted h) good
+    few = few_reads none_good r.world.shape (accepted h) good
 
-    relay : (A : List Action) (seq i : ℕ) → FewReads A → Keeps r h s q (relay_of r h A s seq i)
-    relay A seq i reads = (results_quiet r.world.shape.attrs h s q (relay_of r h A s seq i) refl results, relay_head ascends within r h A s i limits results reads)
+    relay : (A : List Action) (seq i : ℕ) → FewReads A → Keeps k r h s q (relay_of r (k.kept h) A s seq i)
+    relay A seq i reads = quiet k law r h s q results (relay_of r (k.kept h) A s seq i) refl (relay_head ascends within r (k.kept h) A s i limits results reads)
 
-all_fit : HeadAscends → HeadWithin → GoodWhereNone → (r : Rules) (h : List Entry) → AreWithinLimits r → Legal r h →
-    AreResults r.world.shape.attrs h × AllByRecursion (λ (e : Entry). Fits e.reply) h
-all_fit ascends within law r [] limits legal = ((λ p values is. absurd (cc)), tt)
-all_fit ascends within law r (e ∷ h) limits legal =
-    let rest = all_fit ascends within law r h limits legal.1 in
-    let here = subst (Keeps r h e.session e.request) (sym legal.0) (fits_here ascends within law r h e.session e.request limits (legal_good r h legal.1) rest.0) in
+all_fit : HeadAscends → HeadWithin → GoodWhereNone → (k : Keeping) → IsKeeping k → (r : Rules) (h : List Entry) → AreWithinLimits r → LegalFor k r h →
+    AreResults r.world.shape.attrs (k.kept h) × AllByRecursion (λ (e : Entry). Fits e.reply) h
+all_fit ascends within none_good k law r [] limits legal = (subst (AreResults r.world.shape.attrs) (sym law.none) (λ p values is. absurd (cc)), tt)
+all_fit ascends within none_good k law r (e ∷ h) limits legal =
+    let rest = all_fit ascends within none_good k law r h limits legal.1 in
+    let here = subst (Keeps k r h e.session e.request) (sym legal.0) (fits_here ascends within none_good k law r h e.session e.request limits (served_good k law r h legal.1) rest.0) in
     (here.0, (here.1, rest.1))
 
 -- ---- Whole replies
@@ -151,7 +153,12 @@ wire_replies law r A [] bound good named small fits = tt
 wire_replies law r A (e ∷ h) bound good named small fits =
     (wire_reply law r A e.reply bound good named.0 small.0 fits.0, wire_replies law r A h bound good named.1 small.1 fits.1)
 
-pub legal_replies_are_messages : NeededWithin → SizeWithin → HeadAscends → HeadWithin → GoodWhereNone → LegalRepliesAreMessages
-legal_replies_are_messages needed size ascends within law r h limits legal =
+pub served_replies_are_messages : NeededWithin → SizeWithin → HeadAscends → HeadWithin → GoodWhereNone → ServedRepliesAreMessages
+served_replies_are_messages needed size ascends within none_good k r h law limits legal =
     All-from_recursion (λ (e : Entry). IsWireReply (full_reply (accepted h) e.reply)) h
-    (wire_replies law r (accepted h) h limits.bound (legal_good r h legal) (all_named needed r h legal) (all_small size r h legal) (all_fit ascends within law r h limits legal).1)
+    (wire_replies none_good r (accepted h) h limits.bound (served_good k law r h legal) (all_named needed k law r h legal) (all_small size k law r h legal)
+    (all_fit ascends within none_good k law r h limits legal).1)
+
+pub legal_replies_are_messages : NeededWithin → SizeWithin → HeadAscends → HeadWithin → GoodWhereNone → LegalRepliesAreMessages
+legal_replies_are_messages needed size ascends within none_good r h limits legal =
+    served_replies_are_messages needed size ascends within none_good plain r h plain-keeping limits (plain-legal r h legal)

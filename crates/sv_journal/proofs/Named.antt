@@ -1,23 +1,28 @@
--- The relays of a legal journal name accepted actions.
-use Rattle.std.proofs.Common.{◌≡◌, ℕ, zero, suc, ◌+◌, ◌-◌, ◌<◌, ◌≤◌, Bool, true, false, ◌&&◌, ◌||◌, nat_eq, List, [], ◌∷◌, ◌++◌, filter, length, get_or, All, Option, Some, None, ◌⊎◌, inl, inr, refl, sym, ap, subst, ◌∙◌, arith, length-append}
-use Rattle.std.specs.Prelude.{if◌then◌else◌, nat_le, nat_lt, ◌==◌, slice_get, is_none, is_some}
+-- The relays of a server name accepted actions, whatever results it keeps.
+use Rattle.std.proofs.Common.{reverse, ◌≡◌, ℕ, zero, suc, ◌+◌, ◌-◌, ◌<◌, ◌≤◌, Bool, true, false, ◌&&◌, ◌||◌, nat_eq, List, [], ◌∷◌, ◌++◌, length, get_or, All, Option, Some, None, refl, sym, ap, subst, ◌∙◌, arith, length-append}
+use Rattle.std.specs.Prelude.{if◌then◌else◌, nat_le, slice_get}
 use Rattle.std.specs.List.{AllByRecursion}
-use Rattle.std.proofs.lemmas.Bool.{cond_both, eq-eqb, eqb-true, ltb-true, and_parts, or_cases}
+use Rattle.std.proofs.lemmas.Bool.{cond_both, eq-eqb, eqb-true, and_parts}
 use Rattle.std.proofs.lemmas.List.{length-map, reverse-reverse, length-reverse, get_or-reverse}
 use Rattle.std.proofs.lemmas.Option.{slice_get_within}
 use Rattle.std.proofs.lemmas.List.Elements.{All-from_recursion}
 use Rattle.sv_world.specs.declared.action.Action.{Action}
-use Rattle.sv_world.specs.Control.{is_in, below, needed_for}
+use Rattle.sv_world.specs.Control.{is_in, needed_for}
+use Rattle.sv_world.proofs.Members.{is_in-head}
 use Rattle.sv_wire.specs.declared.message.Request.{Request}
 use Rattle.sv_wire.specs.declared.message.Request.TheVariants as requests
 use Rattle.sv_journal.specs.declared.entry.Entry.{Entry}
 use Rattle.sv_journal.specs.declared.entry.Logged.{Logged}
 use Rattle.sv_journal.specs.declared.entry.Logged.TheVariants as logged
-use Rattle.sv_journal.specs.History.{is_relay, client_of, outcomes_of, Outcome, Accepted, Dropped, outcome_in, is_client, is_submit_of, Authored, new_action, accepted, actions_of, next_seq, result_at, run_length, commit_of}
+use Rattle.sv_journal.specs.History.{is_relay, client_of, outcomes_of, Outcome, Accepted, Dropped, outcome_in, is_client, is_submit_of, Authored, accepted, actions_of, next_seq, commit_of}
 use Rattle.sv_journal.specs.Sessions.{kept_count, outcome_at, kept_outcome, sent_to}
-use Rattle.sv_journal.specs.Answer.{Rules, relay_of, is_abandoned, orphans, reply_to, Legal}
-use Rattle.sv_journal.specs.Text.{NamesAccepted}
-use Rattle.sv_journal.specs.Laws.{LegalRelaysNameAccepted}
+use Rattle.sv_journal.specs.Answer.{Rules, relay_of}
+use Rattle.sv_journal.specs.Serving.{Keeping, plain, reply_for, LegalFor, IsKeeping}
+use Rattle.sv_journal.specs.Text.{NamesAccepted, RelaysNameAccepted}
+use Rattle.sv_journal.specs.Laws.{LegalRelaysNameAccepted, ServedRelaysNameAccepted}
+use Rattle.sv_journal.proofs.Commits.{accepted_grow}
+use Rattle.sv_journal.proofs.Kept.{commit_within-kept}
+use Rattle.sv_journal.proofs.Plain.{plain-keeping, plain-legal}
 use Rattle.sv_journal.proofs.Replies.{each_reply}
 
 -- A law of sv_world: the positions of a relay stand above the commit, and not past its own.
@@ -33,18 +38,14 @@ in_list (x ∷ xs) (suc k) d low = go (nat_eq (get_or xs k d) x) (in_list xs k d
     go true e = refl
     go false e = e
 
+-- The first of a list is in it.
+pub first_is_in : (xs : List ℕ) (x : ℕ) (rest : List ℕ) → xs ≡ x ∷ rest → is_in x xs ≡ true
+first_is_in xs x rest e = ap (is_in x) e ∙ is_in-head x rest
+
 needed_are : NeededWithin → (A : List Action) (commit : ℕ) (sent : List ℕ) (i n : ℕ) → commit < i → i ≤ n → All (λ p. (1 ≤ p) × (p ≤ n)) (needed_for A commit sent i)
 needed_are law A commit sent i n above within = λ k d low.
     let at = law A commit sent i (get_or (needed_for A commit sent i) k d) above (in_list (needed_for A commit sent i) k d low) in
     (omega (arith, at.0), omega (arith, at.1, within))
-
-pub run_within : (test : ℕ → Bool) (n : ℕ) → run_length test n ≤ n
-run_within test zero = omega arith
-run_within test (suc n) = cond_both ((run_length test n == n) && test (suc n)) (suc n) (run_length test n) (λ m. m ≤ suc n)
-    (λ _. omega arith) (λ _. omega (arith, run_within test n))
-
-pub commit_within : (h : List Entry) → commit_of h ≤ length (accepted h)
-commit_within h = run_within (λ p. is_some (result_at h p)) (length (accepted h))
 
 -- An outcome that tells a position tells that of an accepted action.
 abbrev TellsWithin : ℕ → Outcome → Type 0
@@ -62,10 +63,6 @@ all_later m n (o ∷ os) le h = (later_within m n o le h.0, all_later m n os le 
 all_append : (P : Outcome → Type 0) (xs ys : List Outcome) → AllByRecursion P xs → AllByRecursion P ys → AllByRecursion P (xs ++ ys)
 all_append P [] ys h k = k
 all_append P (x ∷ xs) ys h k = (h.0, all_append P xs ys h.1 k)
-
--- how many actions an entry adds
-pub accepted_grow : (e : Entry) (h : List Entry) → length (accepted h) ≤ length (accepted (e ∷ h))
-accepted_grow e h = omega (arith, length-append (accepted h) (if is_relay e.reply then new_action (client_of h e.session) (λ k. suc (length (outcomes_of h k))) e.request else []))
 
 -- the action of a client's Submit with its next number, answered by a relay
 pub accepted_one_more : (e : Entry) (h : List Entry) (k seq : ℕ) (a : Action) → is_relay e.reply ≡ true → client_of h e.session ≡ Some k →
@@ -133,56 +130,6 @@ kept_within h k seq p =
     at zero e = none e
     at (suc n) e = all_get (TellsWithin (length (accepted h))) (outcomes_of h k) n (Accepted p) (outcomes_within h k) e
 
-in_filter : (test : ℕ → Bool) (xs : List ℕ) (k : ℕ) → is_in k (filter test xs) ≡ true → (is_in k xs ≡ true) × (test k ≡ true)
-in_filter test [] k e = cc
-in_filter test (x ∷ xs) k e = go (test x) refl (in_filter test xs k) e
-  where
-    later : (b : Bool) → is_in k xs ≡ true → (b || is_in k xs) ≡ true
-    later true e = refl
-    later false e = e
-
-    go : (b : Bool) → test x ≡ b → (is_in k (filter test xs) ≡ true → (is_in k xs ≡ true) × (test k ≡ true)) →
-        is_in k (if b then x ∷ filter test xs else filter test xs) ≡ true → ((nat_eq k x || is_in k xs) ≡ true) × (test k ≡ true)
-    go true is ih f = here (or_cases (nat_eq k x) (is_in k (filter test xs)) f)
-      where
-        here : (nat_eq k x ≡ true) ⊎ (is_in k (filter test xs) ≡ true) → ((nat_eq k x || is_in k xs) ≡ true) × (test k ≡ true)
-        here (inl same) = (rw same refl, ap test (eqb-true k x same) ∙ is)
-        here (inr more) = (later (nat_eq k x) (ih more).0, (ih more).1)
-    go false is ih f = (later (nat_eq k x) (ih f).0, (ih f).1)
-
-in_append : (k : ℕ) (xs ys : List ℕ) → is_in k (xs ++ ys) ≡ true → (is_in k xs ≡ true) ⊎ (is_in k ys ≡ true)
-in_append k [] ys e = inr e
-in_append k (x ∷ xs) ys e = go (nat_eq k x) (in_append k xs ys) e
-  where
-    go : (b : Bool) → (is_in k (xs ++ ys) ≡ true → (is_in k xs ≡ true) ⊎ (is_in k ys ≡ true)) → (b || is_in k (xs ++ ys)) ≡ true →
-        ((b || is_in k xs) ≡ true) ⊎ (is_in k ys ≡ true)
-    go true ih f = inl refl
-    go false ih f = ih f
-
-in_below : (k n : ℕ) → is_in k (below n) ≡ true → k < n
-in_below k zero e = cc
-in_below k (suc n) e = go (in_append k (below n) (n ∷ []) e) (in_below k n)
-  where
-    one : (b : Bool) → (b || false) ≡ true → b ≡ true
-    one true f = refl
-    one false f = f
-
-    go : (is_in k (below n) ≡ true) ⊎ (is_in k (n ∷ []) ≡ true) → (is_in k (below n) ≡ true → k < n) → k < suc n
-    go (inl f) ih = omega (arith, ih f)
-    go (inr f) ih = omega (arith, eqb-true k n (one (nat_eq k n) f))
-
-abbrev is_orphan : List Entry → ℕ → Bool
-is_orphan h p = nat_lt (commit_of h) p && is_none (result_at h p) && is_abandoned h p
-
-pub orphan_within : (h : List Entry) (p : ℕ) (ps : List ℕ) → orphans h ≡ p ∷ ps → (commit_of h < p) × (p ≤ length (accepted h))
-orphan_within h p ps e =
-    let first : is_in p (p ∷ ps) ≡ true = rw (eq-eqb p p refl) refl in
-    let here = in_filter (is_orphan h) (below (suc (length (accepted h)))) p (ap (is_in p) e ∙ first) in
-    let open_still = and_parts (nat_lt (commit_of h) p && is_none (result_at h p)) (is_abandoned h p) here.1 in
-    let above = and_parts (nat_lt (commit_of h) p) (is_none (result_at h p)) open_still.0 in
-    let low = in_below p (suc (length (accepted h))) here.0 in
-    (ltb-true (commit_of h) p above.0, omega (arith, low))
-
 -- One reply after the entries h.
 abbrev entry_of : ℕ → Request → Logged → Entry
 entry_of s q w = record { session = s; request = q; reply = w }
@@ -200,25 +147,26 @@ not_relayed h s q logged.Idle e = tt
 not_relayed h s q (logged.Refused code detail) e = tt
 not_relayed h s q logged.Bye e = tt
 
-relay_named : NeededWithin → (r : Rules) (h : List Entry) (s : ℕ) (q : Request) (A : List Action) (seq i : ℕ) → commit_of h < i →
-    i ≤ length (accepted (entry_of s q (relay_of r h A s seq i) ∷ h)) → Named h s q (relay_of r h A s seq i)
-relay_named law r h s q A seq i above within =
-    needed_are law A (commit_of h) (sent_to h s) i (length (accepted (entry_of s q (relay_of r h A s seq i) ∷ h))) above within
+relay_named : NeededWithin → (r : Rules) (g h : List Entry) (s : ℕ) (q : Request) (A : List Action) (seq i : ℕ) → commit_of g < i →
+    i ≤ length (accepted (entry_of s q (relay_of r g A s seq i) ∷ h)) → Named h s q (relay_of r g A s seq i)
+relay_named needed r g h s q A seq i above within =
+    needed_are needed A (commit_of g) (sent_to g s) i (length (accepted (entry_of s q (relay_of r g A s seq i) ∷ h))) above within
 
-named_here : NeededWithin → (r : Rules) (h : List Entry) (s : ℕ) (q : Request) → Named h s q (reply_to r h s q)
-named_here law r h s q = each_reply r h s q (Named h s q) (record {
+named_here : NeededWithin → (k : Keeping) → IsKeeping k → (r : Rules) (h : List Entry) (s : ℕ) (q : Request) → Named h s q (reply_for k r h s q)
+named_here needed k law r h s q = each_reply k law r h s (Named h s q) q (record {
   other = not_relayed h s q;
-  fresh = λ k seq a client asked next good chain.
+  fresh = λ j seq a client asked next good chain.
       let i = suc (length (actions_of h)) in
-      let w = relay_of r h (actions_of h ++ a ∷ []) s seq i in
+      let w = relay_of r (k.kept h) (actions_of h ++ a ∷ []) s seq i in
       let count = length-map (accepted h) (λ (x : Authored). x.action) in
-      relay_named law r h s q (actions_of h ++ a ∷ []) seq i (omega (arith, count, commit_within h))
-      (omega (arith, count, accepted_one_more (entry_of s q w) h k seq a refl client asked next));
-  again = λ k seq p a client asked kept above. relay_named law r h s q (actions_of h) seq p above
-      (omega (arith, kept_within h k seq p kept, accepted_grow (entry_of s q (relay_of r h (actions_of h) s seq p)) h));
-  poll = λ p ps asked first.
-      let found = orphan_within h p ps first in
-      relay_named law r h s q (actions_of h) 0 p found.0 (omega (arith, found.1, accepted_grow (entry_of s q (relay_of r h (actions_of h) s 0 p)) h));
+      relay_named needed r (k.kept h) h s q (actions_of h ++ a ∷ []) seq i (omega (arith, count, commit_within-kept k law h))
+      (omega (arith, count, accepted_one_more (entry_of s q w) h j seq a refl client asked next));
+  again = λ j seq p a client asked kept above. relay_named needed r (k.kept h) h s q (actions_of h) seq p above
+      (omega (arith, kept_within h j seq p kept, accepted_grow (entry_of s q (relay_of r (k.kept h) (actions_of h) s seq p)) h));
+  poll = λ j p ps client asked open_still first.
+      let due = first_is_in (k.due h s) p ps first in
+      relay_named needed r (k.kept h) h s q (actions_of h) 0 p (law.above h s p due)
+      (omega (arith, law.within h s p due, accepted_grow (entry_of s q (relay_of r (k.kept h) (actions_of h) s 0 p)) h));
 })
 
 names_later : (m n : ℕ) (w : Logged) → m ≤ n → NamesAccepted m w → NamesAccepted n w
@@ -235,16 +183,23 @@ all_names_later : (m n : ℕ) (h : List Entry) → m ≤ n → AllByRecursion (�
 all_names_later m n [] le f = tt
 all_names_later m n (e ∷ h) le f = (names_later m n e.reply le f.0, all_names_later m n h le f.1)
 
-pub all_named : NeededWithin → (r : Rules) (h : List Entry) → Legal r h → AllByRecursion (λ (e : Entry). NamesAccepted (length (accepted h)) e.reply) h
-all_named law r [] legal = tt
-all_named law r (e ∷ h) legal = (
-  subst (Named h e.session e.request) (sym legal.0) (named_here law r h e.session e.request),
-  all_names_later (length (accepted h)) (length (accepted (e ∷ h))) h (accepted_grow e h) (all_named law r h legal.1),
+pub all_named : NeededWithin → (k : Keeping) → IsKeeping k → (r : Rules) (h : List Entry) → LegalFor k r h →
+    AllByRecursion (λ (e : Entry). NamesAccepted (length (accepted h)) e.reply) h
+all_named needed k law r [] legal = tt
+all_named needed k law r (e ∷ h) legal = (
+  subst (Named h e.session e.request) (sym legal.0) (named_here needed k law r h e.session e.request),
+  all_names_later (length (accepted h)) (length (accepted (e ∷ h))) h (accepted_grow e h) (all_named needed k law r h legal.1),
 )
 
-pub legal_relays_name_accepted : NeededWithin → LegalRelaysNameAccepted
-legal_relays_name_accepted law r h legal =
-    let all = All-from_recursion (λ (e : Entry). NamesAccepted (length (accepted h)) e.reply) h (all_named law r h legal) in
+pub served_relays_name_accepted : NeededWithin → ServedRelaysNameAccepted
+served_relays_name_accepted needed k r h law legal =
+    All-from_recursion (λ (e : Entry). NamesAccepted (length (accepted h)) e.reply) h (all_named needed k law r h legal)
+
+in_order : (h : List Entry) → All (λ (e : Entry). NamesAccepted (length (accepted h)) e.reply) h → RelaysNameAccepted (reverse h)
+in_order h all =
     rw (reverse-reverse h) (λ k d low.
     let short : k < length h = omega (arith, low, length-reverse h) in
     rw (get_or-reverse h k d short) (all (length h - 1 - k) d (omega (arith, short))))
+
+pub legal_relays_name_accepted : NeededWithin → LegalRelaysNameAccepted
+legal_relays_name_accepted needed r h legal = in_order h (served_relays_name_accepted needed plain r h plain-keeping (plain-legal r h legal))

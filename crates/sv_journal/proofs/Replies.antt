@@ -1,9 +1,11 @@
--- The table of replies, row by row: what holds of the replies of each row holds of every reply.
-use Rattle.std.proofs.Common.{◌≡◌, ℕ, suc, ◌<◌, ◌≤◌, Bool, true, false, ◌||◌, List, [], ◌∷◌, ◌++◌, length, Option, Some, None, refl, arith}
+-- The replies of a server, row by row: what holds of the reply of each row holds of every reply.
+use Rattle.std.proofs.Common.{◌≡◌, ℕ, suc, ◌<◌, ◌≤◌, true, false, ◌||◌, ◌⊎◌, inl, inr, List, [], ◌∷◌, ◌++◌, length, Option, Some, None, refl, sym, subst, ◌∙◌, arith}
 use Rattle.std.specs.Prelude.{if◌then◌else◌, nat_le, nat_lt, ◌==◌, map}
 use Rattle.std.proofs.lemmas.Bool.{cond_both, ltb-false, leb-false, eqb-true, or_parts}
 use Rattle.sv_world.specs.declared.action.Action.{Action}
 use Rattle.sv_world.specs.declared.check.BadAction.{BadAction}
+use Rattle.sv_world.specs.declared.check.BadAction.TheVariants.{NoReads, TooManyReads, NotAscending, NoSuchObject, BadMask, BadSlot, NotWritable, BadAttr, TooLarge, TooDeep, BadOrigin}
+use Rattle.sv_world.specs.declared.world.ClientId.{ClientId}
 use Rattle.sv_world.specs.declared.world.ObjectId.{ObjectId}
 use Rattle.sv_world.specs.Control.{chain_length, influence_distance}
 use Rattle.sv_world.specs.Faults.{first_fault_of_action, cause_number}
@@ -15,118 +17,163 @@ use Rattle.sv_journal.specs.declared.entry.Logged.{Logged}
 use Rattle.sv_journal.specs.declared.entry.Logged.TheVariants as logged
 use Rattle.sv_journal.specs.History.{is_relay, client_of, Outcome, Accepted, Dropped, actions_of, next_seq, commit_of}
 use Rattle.sv_journal.specs.Sessions.{is_over, is_live, asked_in, life_of, kept_outcome}
-use Rattle.sv_journal.specs.Answer.{Rules, refused, relay_of, is_over_reach, committed_held, reply_to_good, reply_to_checked, reply_to_submit, is_bad_done, commit_with, orphans, reply_to_poll, is_good_interest, reply_to_join, reply_to_client, reply_to_member, most_requests, reply_to}
+use Rattle.sv_journal.specs.Answer.{Rules, refused, relay_of, is_over_reach, committed_held, reply_to_good, reply_to_checked, reply_to_submit, is_bad_done, orphans, reply_to_poll, is_good_interest, reply_to_join, reply_to_client, reply_to_member, most_requests}
+use Rattle.sv_journal.specs.Serving.{Keeping, noted_after, polled_after, with_last_rows, reply_for, IsKeeping}
+use Rattle.sv_journal.proofs.Kept.{client-kept, actions-kept, next-kept, kept_outcome-kept, over-kept, live-kept, life-kept}
 
--- The replies that tell of no value, no object, no cause and no commit.
-abbrev pub is_plain : Logged → Bool
-is_plain (logged.Dropped seq chain far) = true
-is_plain (logged.Settled seq pos) = true
-is_plain logged.Idle = true
-is_plain logged.Bye = true
-is_plain _ = false
+-- What a refusal tells besides its code: a small number, or a client's next number or life.
+abbrev pub IsDetail : List Entry → ℕ → Type 0
+IsDetail h n = (n ≤ 11) ⊎ ((j : ℕ) × ((n ≡ next_seq h j) ⊎ (n ≡ life_of h j)))
 
-pub record HoldsByEachRow (r : Rules) (h : List Entry) (s : ℕ) (q : Request) (P : Logged → Type 0) : Type 0 where
-  pub refusal : (code detail : ℕ) → 1 ≤ code → code ≤ 11 → P (refused code detail)
-  pub plain : (w : Logged) → is_plain w ≡ true → P w
-  pub welcome : (interest : List ℕ) → is_good_interest r.world.shape.objects interest ≡ true → P (logged.Welcome (commit_of h) (committed_held r h interest))
-  pub noted : (results : List Done1) → q ≡ requests.Done results → is_bad_done r h s results ≡ false → P (logged.Noted (commit_with h s results))
-  pub fresh : (k seq : ℕ) (a : Action) → client_of h s ≡ Some k → q ≡ requests.Submit seq a → seq ≡ next_seq h k →
-      first_fault_of_action r.world.shape a ≡ None → chain_length (actions_of h) (commit_of h) a ≤ r.bound →
-      P (relay_of r h (actions_of h ++ a ∷ []) s seq (suc (length (actions_of h))))
-  pub again : (k seq p : ℕ) (a : Action) → client_of h s ≡ Some k → q ≡ requests.Submit seq a → kept_outcome h k seq ≡ Some (Accepted p) → commit_of h < p →
-      P (relay_of r h (actions_of h) s seq p)
-  pub poll : (p : ℕ) (ps : List ℕ) → q ≡ requests.Poll → orphans h ≡ p ∷ ps → P (relay_of r h (actions_of h) s 0 p)
+-- The reply of each row, with what the row knows of its request and of the history before it.
+pub record HoldsByEachRow (k : Keeping) (r : Rules) (h : List Entry) (s : ℕ) (q : Request) (P : Logged → Type 0) : Type 0 where
+  pub refusal : (code detail : ℕ) → 1 ≤ code → code ≤ 11 → IsDetail h detail → P (refused code detail)
+  pub bye : P logged.Bye
+  pub welcome : (client : ClientId) (life : ℕ) (interest : List ObjectId) → q ≡ requests.Join client life interest → is_over h s ≡ false → is_live h s ≡ false →
+      life_of h client.0 < life → is_good_interest r.world.shape.objects (map (λ (o : ObjectId). o.0) interest) ≡ true →
+      P (logged.Welcome (commit_of (k.kept h)) (committed_held r (k.kept h) (map (λ (o : ObjectId). o.0) interest)))
+  pub dropped : (j seq : ℕ) (a : Action) → client_of h s ≡ Some j → q ≡ requests.Submit seq a → seq ≡ next_seq h j → first_fault_of_action r.world.shape a ≡ None →
+      P (logged.Dropped seq (chain_length (actions_of h) (commit_of (k.kept h)) a) (influence_distance (actions_of h) (commit_of (k.kept h)) a))
+  pub dropped_again : (j seq : ℕ) (a : Action) (chain far : ℕ) → client_of h s ≡ Some j → q ≡ requests.Submit seq a → kept_outcome h j seq ≡ Some (Dropped chain far) →
+      P (logged.Dropped seq chain far)
+  pub settled : (j seq p : ℕ) (a : Action) → client_of h s ≡ Some j → q ≡ requests.Submit seq a → kept_outcome h j seq ≡ Some (Accepted p) → P (logged.Settled seq p)
+  pub fresh : (j seq : ℕ) (a : Action) → client_of h s ≡ Some j → q ≡ requests.Submit seq a → seq ≡ next_seq h j →
+      first_fault_of_action r.world.shape a ≡ None → chain_length (actions_of h) (commit_of (k.kept h)) a ≤ r.bound →
+      P (relay_of r (k.kept h) (actions_of h ++ a ∷ []) s seq (suc (length (actions_of h))))
+  pub again : (j seq p : ℕ) (a : Action) → client_of h s ≡ Some j → q ≡ requests.Submit seq a → kept_outcome h j seq ≡ Some (Accepted p) → commit_of (k.kept h) < p →
+      P (relay_of r (k.kept h) (actions_of h) s seq p)
+  pub noted : (results : List Done1) → q ≡ requests.Done results → is_bad_done r (k.kept h) s results ≡ false → P (noted_after k h s q)
+  pub idle : P logged.Idle
+  pub poll : (j p : ℕ) (ps : List ℕ) → client_of h s ≡ Some j → q ≡ requests.Poll → is_over h s ≡ false → k.due h s ≡ p ∷ ps → P (relay_of r (k.kept h) (actions_of h) s 0 p)
 
-good_case : (r : Rules) (h : List Entry) (s : ℕ) (q : Request) (P : Logged → Type 0) → HoldsByEachRow r h s q P → (k seq : ℕ) (a : Action) →
-    client_of h s ≡ Some k → q ≡ requests.Submit seq a → seq ≡ next_seq h k → first_fault_of_action r.world.shape a ≡ None → P (reply_to_good r h s seq a)
-good_case r h s q P rows k seq a client asked next good =
-    cond_both (nat_lt r.bound (chain_length (actions_of h) (commit_of h) a) || is_over_reach r.reach (influence_distance (actions_of h) (commit_of h) a)) _ _ P
-    (λ _. rows.plain _ refl)
-    (λ n. rows.fresh k seq a client asked next good (ltb-false _ _ (or_parts _ _ n).0))
+cause-few : (cause : BadAction) → cause_number cause ≤ 11
+cause-few NoReads = omega arith
+cause-few TooManyReads = omega arith
+cause-few NotAscending = omega arith
+cause-few NoSuchObject = omega arith
+cause-few BadMask = omega arith
+cause-few BadSlot = omega arith
+cause-few NotWritable = omega arith
+cause-few BadAttr = omega arith
+cause-few TooLarge = omega arith
+cause-few TooDeep = omega arith
+cause-few BadOrigin = omega arith
 
-checked_case : (r : Rules) (h : List Entry) (s : ℕ) (q : Request) (P : Logged → Type 0) → HoldsByEachRow r h s q P → (k seq : ℕ) (a : Action) →
-    client_of h s ≡ Some k → q ≡ requests.Submit seq a → seq ≡ next_seq h k → (o : Option BadAction) → first_fault_of_action r.world.shape a ≡ o → P (reply_to_checked r h s seq a o)
-checked_case r h s q P rows k seq a client asked next (Some cause) is = rows.refusal 6 (cause_number cause) (omega arith) (omega arith)
-checked_case r h s q P rows k seq a client asked next None is = good_case r h s q P rows k seq a client asked next is
+module _ (k : Keeping) (law : IsKeeping k) (r : Rules) (h : List Entry) (s : ℕ) (P : Logged → Type 0) where
+  abbrev Holds : Request → Type 0
+  Holds q = HoldsByEachRow k r h s q P
 
-submit_case : (r : Rules) (h : List Entry) (s : ℕ) (q : Request) (P : Logged → Type 0) → HoldsByEachRow r h s q P → (k seq : ℕ) (a : Action) →
-    client_of h s ≡ Some k → q ≡ requests.Submit seq a → (o : Option Outcome) → kept_outcome h k seq ≡ o → P (reply_to_submit r h s k seq a o)
-submit_case r h s q P rows k seq a client asked (Some (Dropped chain far)) is = rows.plain _ refl
-submit_case r h s q P rows k seq a client asked (Some (Accepted p)) is =
-    cond_both (nat_le p (commit_of h)) _ _ P (λ _. rows.plain _ refl) (λ n. rows.again k seq p a client asked is (leb-false _ _ n))
-submit_case r h s q P rows k seq a client asked None is =
-    cond_both (seq == next_seq h k) _ _ P
-    (λ e. checked_case r h s q P rows k seq a client asked (eqb-true _ _ e) (first_fault_of_action r.world.shape a) refl)
-    (λ _. rows.refusal 5 (next_seq h k) (omega arith) (omega arith))
+  -- What is to be shown of a reply of the table.
+  abbrev Shown : Request → Logged → Type 0
+  Shown q w = P (with_last_rows k r h s q w)
 
-poll_case : (r : Rules) (h : List Entry) (s : ℕ) (q : Request) (P : Logged → Type 0) → HoldsByEachRow r h s q P → q ≡ requests.Poll → (ps : List ℕ) → orphans h ≡ ps → P (reply_to_poll r h s ps)
-poll_case r h s q P rows asked [] is = rows.plain _ refl
-poll_case r h s q P rows asked (p ∷ ps) is = rows.poll p ps asked is
+  none_told : IsDetail h 0
+  none_told = inl (omega arith)
 
-client_case : (r : Rules) (h : List Entry) (s : ℕ) (q : Request) (P : Logged → Type 0) → HoldsByEachRow r h s q P → (k : ℕ) → client_of h s ≡ Some k → P (reply_to_client r h s k q)
-client_case r h s (requests.Submit seq a) P rows k client = submit_case r h s (requests.Submit seq a) P rows k seq a client refl (kept_outcome h k seq) refl
-client_case r h s (requests.Done results) P rows k client = cond_both (is_bad_done r h s results) _ _ P (λ _. rows.refusal 7 0 (omega arith) (omega arith)) (λ good. rows.noted results refl good)
-client_case r h s requests.Poll P rows k client = poll_case r h s requests.Poll P rows refl (orphans h) refl
-client_case r h s (requests.Join client life interest) P rows k known = rows.plain _ refl
-client_case r h s requests.Leave P rows k client = rows.plain _ refl
-client_case r h s requests.Bad P rows k client = rows.plain _ refl
-client_case r h s requests.End P rows k client = rows.plain _ refl
+  good_case : (j seq : ℕ) (a : Action) → Holds (requests.Submit seq a) → client_of h s ≡ Some j → seq ≡ next_seq h j → first_fault_of_action r.world.shape a ≡ None →
+      Shown (requests.Submit seq a) (reply_to_good r (k.kept h) s seq a)
+  good_case j seq a rows client next good =
+      cond_both (nat_lt r.bound (chain_length (actions_of (k.kept h)) (commit_of (k.kept h)) a)
+      || is_over_reach r.reach (influence_distance (actions_of (k.kept h)) (commit_of (k.kept h)) a)) _ _ (Shown (requests.Submit seq a))
+      (λ _. subst (λ (A : List Action). P (logged.Dropped seq (chain_length A (commit_of (k.kept h)) a) (influence_distance A (commit_of (k.kept h)) a)))
+      (sym (actions-kept k law h)) (rows.dropped j seq a client refl next good))
+      (λ n. subst (λ (A : List Action). nat_lt r.bound (chain_length A (commit_of (k.kept h)) a) ≡ false → P (relay_of r (k.kept h) (A ++ a ∷ []) s seq (suc (length A))))
+      (sym (actions-kept k law h)) (λ within. rows.fresh j seq a client refl next good (ltb-false _ _ within)) (or_parts _ _ n).0)
 
-member_case : (r : Rules) (h : List Entry) (s : ℕ) (q : Request) (P : Logged → Type 0) → HoldsByEachRow r h s q P → (o : Option ℕ) → client_of h s ≡ o → P (reply_to_member r h s o q)
-member_case r h s q P rows None is = rows.refusal 2 0 (omega arith) (omega arith)
-member_case r h s q P rows (Some k) is = client_case r h s q P rows k is
+  checked_case : (j seq : ℕ) (a : Action) → Holds (requests.Submit seq a) → client_of h s ≡ Some j → seq ≡ next_seq h j → (o : Option BadAction) →
+      first_fault_of_action r.world.shape a ≡ o → Shown (requests.Submit seq a) (reply_to_checked r (k.kept h) s seq a o)
+  checked_case j seq a rows client next (Some cause) is = rows.refusal 6 (cause_number cause) (omega arith) (omega arith) (inl (cause-few cause))
+  checked_case j seq a rows client next None is = good_case j seq a rows client next is
 
-join_case : (r : Rules) (h : List Entry) (s : ℕ) (q : Request) (P : Logged → Type 0) → HoldsByEachRow r h s q P → (k life : ℕ) (interest : List ℕ) → P (reply_to_join r h s k life interest)
-join_case r h s q P rows k life interest =
-    cond_both (is_live h s) _ _ P (λ _. rows.refusal 3 0 (omega arith) (omega arith)) (λ _.
-    cond_both (nat_le 32 k) _ _ P (λ _. rows.refusal 10 0 (omega arith) (omega arith)) (λ _.
-    cond_both (nat_le life (life_of h k)) _ _ P (λ _. rows.refusal 11 (life_of h k) (omega arith) (omega arith)) (λ _.
-    cond_both (is_good_interest r.world.shape.objects interest) _ _ P (λ good. rows.welcome interest good) (λ _. rows.refusal 8 0 (omega arith) (omega arith)))))
+  submit_case : (j seq : ℕ) (a : Action) → Holds (requests.Submit seq a) → client_of h s ≡ Some j → (o : Option Outcome) → kept_outcome h j seq ≡ o →
+      Shown (requests.Submit seq a) (reply_to_submit r (k.kept h) s j seq a o)
+  submit_case j seq a rows client (Some (Dropped chain far)) is = rows.dropped_again j seq a chain far client refl is
+  submit_case j seq a rows client (Some (Accepted p)) is =
+      cond_both (nat_le p (commit_of (k.kept h))) _ _ (Shown (requests.Submit seq a))
+      (λ _. rows.settled j seq p a client refl is)
+      (λ n. subst (λ (A : List Action). P (relay_of r (k.kept h) A s seq p)) (sym (actions-kept k law h)) (rows.again j seq p a client refl is (leb-false _ _ n)))
+  submit_case j seq a rows client None is =
+      cond_both (seq == next_seq (k.kept h) j) _ _ (Shown (requests.Submit seq a))
+      (λ e. checked_case j seq a rows client (eqb-true seq (next_seq (k.kept h) j) e ∙ next-kept k law h j) (first_fault_of_action r.world.shape a) refl)
+      (λ _. rows.refusal 5 (next_seq (k.kept h) j) (omega arith) (omega arith) (inr (j, inl (next-kept k law h j))))
 
-open_case : (r : Rules) (h : List Entry) (s : ℕ) (q : Request) (P : Logged → Type 0) → HoldsByEachRow r h s q P → (w : Logged) → P w →
-    P (if is_over h s then refused 4 0 else (if nat_le most_requests (asked_in h s) then refused 9 0 else w))
-open_case r h s q P rows w p =
-    cond_both (is_over h s) _ _ P (λ _. rows.refusal 4 0 (omega arith) (omega arith))
-    (λ _. cond_both (nat_le most_requests (asked_in h s)) _ _ P (λ _. rows.refusal 9 0 (omega arith) (omega arith)) (λ _. p))
+  due_case : (j : ℕ) → Holds requests.Poll → client_of h s ≡ Some j → is_over h s ≡ false → (ps : List ℕ) → k.due h s ≡ ps → P (reply_to_poll r (k.kept h) s ps)
+  due_case j rows client open_still [] is = rows.idle
+  due_case j rows client open_still (p ∷ ps) is =
+      subst (λ (A : List Action). P (relay_of r (k.kept h) A s 0 p)) (sym (actions-kept k law h)) (rows.poll j p ps client refl open_still is)
 
-pub each_row : (r : Rules) (h : List Entry) (s : ℕ) (q : Request) (P : Logged → Type 0) → HoldsByEachRow r h s q P → P (reply_to r h s q)
-each_row r h s (requests.Join client life interest) P rows =
-    open_case r h s (requests.Join client life interest) P rows _ (join_case r h s (requests.Join client life interest) P rows client.0 life (map (λ (o : ObjectId). o.0) interest))
-each_row r h s (requests.Submit seq a) P rows =
-    open_case r h s (requests.Submit seq a) P rows _ (member_case r h s (requests.Submit seq a) P rows (client_of h s) refl)
-each_row r h s (requests.Done results) P rows =
-    open_case r h s (requests.Done results) P rows _ (member_case r h s (requests.Done results) P rows (client_of h s) refl)
-each_row r h s requests.Poll P rows = open_case r h s requests.Poll P rows _ (member_case r h s requests.Poll P rows (client_of h s) refl)
-each_row r h s requests.Leave P rows = open_case r h s requests.Leave P rows _ (member_case r h s requests.Leave P rows (client_of h s) refl)
-each_row r h s requests.Bad P rows = open_case r h s requests.Bad P rows _ (rows.refusal 1 0 (omega arith) (omega arith))
-each_row r h s requests.End P rows = rows.plain _ refl
+  -- Whatever a server that trusts its clients would send, what is due is sent.
+  poll_case : (ps : List ℕ) → P (polled_after k r h s) → Shown requests.Poll (reply_to_poll r (k.kept h) s ps)
+  poll_case [] due = due
+  poll_case (p ∷ ps) due = due
 
-no_relay : (w : Logged) → is_plain w ≡ true → is_relay w ≡ false
-no_relay (logged.Welcome commit head) e = refl
-no_relay (logged.Relay seq commit head positions) e = cc
-no_relay (logged.Dropped seq chain far) e = refl
-no_relay (logged.Settled seq pos) e = refl
-no_relay (logged.Noted commit) e = refl
-no_relay logged.Idle e = refl
-no_relay (logged.Refused code detail) e = refl
-no_relay logged.Bye e = refl
+  client_case : (q : Request) → Holds q → (j : ℕ) → client_of h s ≡ Some j → is_over h s ≡ false → Shown q (reply_to_client r (k.kept h) s j q)
+  client_case (requests.Submit seq a) rows j client open_still =
+      submit_case j seq a rows client (kept_outcome (k.kept h) j seq) (sym (kept_outcome-kept k law h j seq))
+  client_case (requests.Done results) rows j client open_still =
+      cond_both (is_bad_done r (k.kept h) s results) _ _ (Shown (requests.Done results)) (λ _. rows.refusal 7 0 (omega arith) (omega arith) none_told) (λ good. rows.noted results refl good)
+  client_case requests.Poll rows j client open_still = poll_case (orphans (k.kept h)) (due_case j rows client open_still (k.due h s) refl)
+  client_case (requests.Join client life interest) rows j known open_still = rows.bye
+  client_case requests.Leave rows j client open_still = rows.bye
+  client_case requests.Bad rows j client open_still = rows.bye
+  client_case requests.End rows j client open_still = rows.bye
+
+  member_case : (q : Request) → Holds q → (o : Option ℕ) → client_of h s ≡ o → is_over h s ≡ false → Shown q (reply_to_member r (k.kept h) s o q)
+  member_case q rows None is open_still = rows.refusal 2 0 (omega arith) (omega arith) none_told
+  member_case q rows (Some j) is open_still = client_case q rows j is open_still
+
+  join_case : (client : ClientId) (life : ℕ) (interest : List ObjectId) → Holds (requests.Join client life interest) → is_over h s ≡ false →
+      Shown (requests.Join client life interest) (reply_to_join r (k.kept h) s client.0 life (map (λ (o : ObjectId). o.0) interest))
+  join_case client life interest rows open_still =
+      let Q : Logged → Type 0 = Shown (requests.Join client life interest) in
+      cond_both (is_live (k.kept h) s) _ _ Q (λ _. rows.refusal 3 0 (omega arith) (omega arith) none_told) (λ live.
+      cond_both (nat_le 32 client.0) _ _ Q (λ _. rows.refusal 10 0 (omega arith) (omega arith) none_told) (λ _.
+      cond_both (nat_le life (life_of (k.kept h) client.0)) _ _ Q (λ _. rows.refusal 11 (life_of (k.kept h) client.0) (omega arith) (omega arith) (inr (client.0, inr (life-kept k law h client.0)))) (λ later.
+      cond_both (is_good_interest r.world.shape.objects (map (λ (o : ObjectId). o.0) interest)) _ _ Q
+      (λ good. rows.welcome client life interest refl open_still (sym (live-kept k law h s) ∙ live)
+      (subst (λ m. m < life) (life-kept k law h client.0) (leb-false life (life_of (k.kept h) client.0) later)) good)
+      (λ _. rows.refusal 8 0 (omega arith) (omega arith) none_told))))
+
+  open_case : (q : Request) → Holds q → (w : Logged) → (is_over h s ≡ false → Shown q w) →
+      Shown q (if is_over (k.kept h) s then refused 4 0 else (if nat_le most_requests (asked_in (k.kept h) s) then refused 9 0 else w))
+  open_case q rows w p =
+      cond_both (is_over (k.kept h) s) _ _ (Shown q) (λ _. rows.refusal 4 0 (omega arith) (omega arith) none_told)
+      (λ f. cond_both (nat_le most_requests (asked_in (k.kept h) s)) _ _ (Shown q) (λ _. rows.refusal 9 0 (omega arith) (omega arith) none_told) (λ _. p (sym (over-kept k law h s) ∙ f)))
+
+  asked_case : (q : Request) → Holds q → Shown q (if is_over (k.kept h) s then refused 4 0
+      else (if nat_le most_requests (asked_in (k.kept h) s) then refused 9 0 else reply_to_member r (k.kept h) s (client_of (k.kept h) s) q))
+  asked_case q rows = open_case q rows _ (member_case q rows (client_of (k.kept h) s) (sym (client-kept k law h s)))
+
+  pub each_row : (q : Request) → Holds q → P (reply_for k r h s q)
+  each_row (requests.Join client life interest) rows =
+      open_case (requests.Join client life interest) rows (reply_to_join r (k.kept h) s client.0 life (map (λ (o : ObjectId). o.0) interest)) (join_case client life interest rows)
+  each_row (requests.Submit seq a) rows = asked_case (requests.Submit seq a) rows
+  each_row (requests.Done results) rows = asked_case (requests.Done results) rows
+  each_row requests.Poll rows = asked_case requests.Poll rows
+  each_row requests.Leave rows = asked_case requests.Leave rows
+  each_row requests.Bad rows = open_case requests.Bad rows (refused 1 0) (λ _. rows.refusal 1 0 (omega arith) (omega arith) none_told)
+  each_row requests.End rows = rows.bye
 
 -- With one case for all replies that are no relay.
-pub record HoldsByRow (r : Rules) (h : List Entry) (s : ℕ) (q : Request) (P : Logged → Type 0) : Type 0 where
+pub record HoldsByRow (k : Keeping) (r : Rules) (h : List Entry) (s : ℕ) (q : Request) (P : Logged → Type 0) : Type 0 where
   pub other : (w : Logged) → is_relay w ≡ false → P w
-  pub fresh : (k seq : ℕ) (a : Action) → client_of h s ≡ Some k → q ≡ requests.Submit seq a → seq ≡ next_seq h k →
-      first_fault_of_action r.world.shape a ≡ None → chain_length (actions_of h) (commit_of h) a ≤ r.bound →
-      P (relay_of r h (actions_of h ++ a ∷ []) s seq (suc (length (actions_of h))))
-  pub again : (k seq p : ℕ) (a : Action) → client_of h s ≡ Some k → q ≡ requests.Submit seq a → kept_outcome h k seq ≡ Some (Accepted p) → commit_of h < p →
-      P (relay_of r h (actions_of h) s seq p)
-  pub poll : (p : ℕ) (ps : List ℕ) → q ≡ requests.Poll → orphans h ≡ p ∷ ps → P (relay_of r h (actions_of h) s 0 p)
+  pub fresh : (j seq : ℕ) (a : Action) → client_of h s ≡ Some j → q ≡ requests.Submit seq a → seq ≡ next_seq h j →
+      first_fault_of_action r.world.shape a ≡ None → chain_length (actions_of h) (commit_of (k.kept h)) a ≤ r.bound →
+      P (relay_of r (k.kept h) (actions_of h ++ a ∷ []) s seq (suc (length (actions_of h))))
+  pub again : (j seq p : ℕ) (a : Action) → client_of h s ≡ Some j → q ≡ requests.Submit seq a → kept_outcome h j seq ≡ Some (Accepted p) → commit_of (k.kept h) < p →
+      P (relay_of r (k.kept h) (actions_of h) s seq p)
+  pub poll : (j p : ℕ) (ps : List ℕ) → client_of h s ≡ Some j → q ≡ requests.Poll → is_over h s ≡ false → k.due h s ≡ p ∷ ps → P (relay_of r (k.kept h) (actions_of h) s 0 p)
 
-pub each_reply : (r : Rules) (h : List Entry) (s : ℕ) (q : Request) (P : Logged → Type 0) → HoldsByRow r h s q P → P (reply_to r h s q)
-each_reply r h s q P rows = each_row r h s q P (record {
-  refusal = λ code detail some few. rows.other (refused code detail) refl;
-  plain = λ w e. rows.other w (no_relay w e);
-  welcome = λ interest good. rows.other _ refl;
+pub each_reply : (k : Keeping) → IsKeeping k → (r : Rules) (h : List Entry) (s : ℕ) (P : Logged → Type 0) (q : Request) → HoldsByRow k r h s q P → P (reply_for k r h s q)
+each_reply k law r h s P q rows = each_row k law r h s P q (record {
+  refusal = λ code detail some few told. rows.other (refused code detail) refl;
+  bye = rows.other logged.Bye refl;
+  welcome = λ client life interest asked open_still live later good. rows.other _ refl;
+  dropped = λ j seq a client asked next good. rows.other _ refl;
+  dropped_again = λ j seq a chain far client asked is. rows.other _ refl;
+  settled = λ j seq p a client asked is. rows.other _ refl;
   noted = λ results asked good. rows.other _ refl;
+  idle = rows.other logged.Idle refl;
   fresh = rows.fresh;
   again = rows.again;
   poll = rows.poll;

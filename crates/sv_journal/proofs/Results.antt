@@ -1,5 +1,5 @@
--- The results of a legal journal have a number for each attribute, and so have the committed values.
-use Rattle.std.proofs.Common.{◌≡◌, ℕ, zero, suc, ◌<◌, ◌≤◌, Bool, true, false, not, ◌&&◌, ◌||◌, ◌⊎◌, inl, inr, ℤ, List, [], ◌∷◌, length, Option, Some, None, refl, sym, ap, subst, ◌∙◌, arith}
+-- Results that are noted have a number for each attribute, and so have the committed values.
+use Rattle.std.proofs.Common.{◌≡◌, ℕ, zero, suc, ◌<◌, ◌≤◌, Bool, true, false, not, ◌&&◌, ◌||◌, ◌⊎◌, inl, inr, ℤ, List, [], ◌∷◌, filter, length, Option, Some, None, refl, sym, ap, ap₂, subst, ◌∙◌, arith}
 use Rattle.std.specs.Prelude.{if◌then◌else◌, nat_lt, ◌==◌, is_some, slice_set, unwrap_or}
 use Rattle.std.specs.List.{AllByRecursion, list_any, list_all}
 use Rattle.std.proofs.lemmas.Bool.{cases_eq, cases_lt, lt-ltb, eqb-true, and_parts, or_parts}
@@ -15,7 +15,7 @@ use Rattle.sv_journal.specs.declared.entry.Logged.{Logged}
 use Rattle.sv_journal.specs.declared.entry.Logged.TheVariants as logged
 use Rattle.sv_journal.specs.History.{either, is_noted, reported, reports, accepted, actions_of, result_at, run_length, commit_of, installed, committed_of}
 use Rattle.sv_journal.specs.Sessions.{sent_to}
-use Rattle.sv_journal.specs.Answer.{Rules, is_bad_result, is_bad_done}
+use Rattle.sv_journal.specs.Answer.{Rules, is_bad_result}
 use Rattle.sv_journal.proofs.Sizes.{entry_of}
 
 abbrev pub HaveNumbers : ℕ → List (List ℤ) → Type 0
@@ -148,10 +148,20 @@ found_good r h s p (d ∷ ds) values good open_still is =
         (good_result r h s d parts.0 (ap (result_at h) (eqb-true d.pos p here) ∙ open_still))
     go false here f parts ih = ih parts.1 open_still f
 
-pub results_noted : (r : Rules) (h : List Entry) (s : ℕ) (ds : List Done1) (commit : ℕ) → is_bad_done r h s ds ≡ false →
+pub results_noted : (r : Rules) (h : List Entry) (s : ℕ) (ds : List Done1) (commit : ℕ) → list_any (is_bad_result r h s) ds ≡ false →
     AreResults r.world.shape.attrs h → AreResults r.world.shape.attrs (entry_of s (requests.Done ds) (logged.Noted commit) ∷ h)
 results_noted r h s ds commit good results p values is = go (result_at h p) refl is
   where
     go : (o : Option (List (List ℤ))) → result_at h p ≡ o → either o (reported p ds) ≡ Some values → HaveNumbers r.world.shape.attrs values
     go (Some old) at f = results p values (at ∙ f)
-    go None at f = found_good r h s p ds values (or_parts _ _ good).1 at f
+    go None at f = found_good r h s p ds values good at f
+
+-- Of results that are none bad, some are none bad.
+pub some_good : (bad test : Done1 → Bool) (ds : List Done1) → list_any bad ds ≡ false → list_any bad (filter test ds) ≡ false
+some_good bad test [] good = refl
+some_good bad test (d ∷ ds) good = go (test d) (or_parts (bad d) (list_any bad ds) good) (some_good bad test ds)
+  where
+    go : (b : Bool) → (bad d ≡ false) × (list_any bad ds ≡ false) → (list_any bad ds ≡ false → list_any bad (filter test ds) ≡ false) →
+        list_any bad (if b then d ∷ filter test ds else filter test ds) ≡ false
+    go true parts more = ap₂ (λ (x y : Bool). x || y) parts.0 (more parts.1)
+    go false parts more = more parts.1

@@ -1,8 +1,8 @@
--- The relays of a legal journal have at most one item more than the bound.
-use Rattle.std.proofs.Common.{◌≡◌, ℕ, zero, suc, ◌+◌, ◌<◌, ◌≤◌, Bool, true, false, ◌&&◌, List, [], ◌∷◌, ◌++◌, map, length, Option, Some, None, ◌⊎◌, inl, inr, refl, sym, ap, subst, ◌∙◌, arith, append_assoc, length-append}
-use Rattle.std.specs.Prelude.{if◌then◌else◌, nat_le, ◌==◌, is_some}
+-- The relays of a server have at most one item more than the bound, whatever results it keeps.
+use Rattle.std.proofs.Common.{◌≡◌, ℕ, zero, suc, ◌+◌, ◌<◌, ◌≤◌, false, List, [], ◌∷◌, ◌++◌, map, length, Option, Some, None, ◌⊎◌, inl, inr, refl, sym, ap, subst, ◌∙◌, arith, append_assoc, length-append}
+use Rattle.std.specs.Prelude.{nat_le}
 use Rattle.std.specs.List.{AllByRecursion}
-use Rattle.std.proofs.lemmas.Bool.{cond_both, cases_lt, cases_Bool, cond-true, eq-eqb, ne_eqb, eqb-true, and_parts, and_from}
+use Rattle.std.proofs.lemmas.Bool.{cond_both, cases_lt, eq-eqb, ne_eqb}
 use Rattle.std.proofs.lemmas.List.{length-map, map-append}
 use Rattle.std.proofs.lemmas.List.Elements.{All-from_recursion}
 use Rattle.std.proofs.lemmas.Option.{slice_get_within}
@@ -13,69 +13,21 @@ use Rattle.sv_wire.specs.declared.message.Request.TheVariants as requests
 use Rattle.sv_journal.specs.declared.entry.Entry.{Entry}
 use Rattle.sv_journal.specs.declared.entry.Logged.{Logged}
 use Rattle.sv_journal.specs.declared.entry.Logged.TheVariants as logged
-use Rattle.sv_journal.specs.History.{either, is_relay, is_noted, reports, client_of, outcomes_of, Outcome, Accepted, Authored, new_action, accepted, actions_of, next_seq, result_at, run_length, commit_of}
+use Rattle.sv_journal.specs.History.{is_relay, client_of, outcomes_of, Outcome, Accepted, Authored, new_action, accepted, actions_of, next_seq, commit_of}
 use Rattle.sv_journal.specs.Sessions.{kept_count, outcome_at, kept_outcome, sent_to, positions_in}
-use Rattle.sv_journal.specs.Answer.{Rules, relay_of, reply_to, Legal}
-use Rattle.sv_journal.specs.Laws.{LegalRelaysAreSmall}
+use Rattle.sv_journal.specs.Answer.{Rules, relay_of}
+use Rattle.sv_journal.specs.Serving.{Keeping, plain, reply_for, LegalFor, IsKeeping}
+use Rattle.sv_journal.specs.Laws.{LegalRelaysAreSmall, ServedRelaysAreSmall}
+use Rattle.sv_journal.proofs.Commits.{new_by}
+use Rattle.sv_journal.proofs.Kept.{commit_within-kept, commit_grows-kept}
+use Rattle.sv_journal.proofs.Plain.{plain-keeping, plain-legal}
 use Rattle.sv_journal.proofs.Replies.{each_reply}
-use Rattle.sv_journal.proofs.Named.{run_within, commit_within, kept_within, orphan_within}
+use Rattle.sv_journal.proofs.Named.{first_is_in, kept_within}
 
 -- A law of sv_world: later a relay has no more items than its action had influences when it was accepted, and one.
 abbrev pub SizeWithin : Type 0
 SizeWithin = (A later : List Action) (early late : ℕ) (a : Action) (sent : List ℕ) → early ≤ late → late ≤ length A →
     length (needed_for (A ++ a ∷ later) late sent (length A + 1)) ≤ chain_length A early a + 1
-
--- ---- The commit never falls
-
-step_up : (f : ℕ → Bool) (n : ℕ) → run_length f n ≤ run_length f (suc n)
-step_up f n = cond_both ((run_length f n == n) && f (suc n)) (suc n) (run_length f n) (λ m. run_length f n ≤ m)
-    (λ _. omega (arith, run_within f n)) (λ _. omega arith)
-
-all_pass : (f g : ℕ → Bool) → ((p : ℕ) → f p ≡ true → g p ≡ true) → (n : ℕ) → run_length f n ≡ n → run_length g n ≡ n
-all_pass f g h zero e = refl
-all_pass f g h (suc n) e = go (cases_Bool ((run_length f n == n) && f (suc n))) (all_pass f g h n) e
-  where
-    go : (((run_length f n == n) && f (suc n)) ≡ true) ⊎ (((run_length f n == n) && f (suc n)) ≡ false) → (run_length f n ≡ n → run_length g n ≡ n) →
-        (if (run_length f n == n) && f (suc n) then suc n else run_length f n) ≡ suc n → (if (run_length g n == n) && g (suc n) then suc n else run_length g n) ≡ suc n
-    go (inl t) ih e =
-        let parts = and_parts (run_length f n == n) (f (suc n)) t in
-        let all : run_length g n ≡ n = ih (eqb-true (run_length f n) n parts.0) in
-        cond-true ((run_length g n == n) && g (suc n)) (suc n) (run_length g n) (and_from (run_length g n == n) (g (suc n)) (eq-eqb (run_length g n) n all) (h (suc n) parts.1))
-    go (inr t) ih e = absurd (omega (arith, rw t at e, run_within f n))
-
-more_pass : (f g : ℕ → Bool) → ((p : ℕ) → f p ≡ true → g p ≡ true) → (n : ℕ) → run_length f n ≤ run_length g n
-more_pass f g h zero = omega arith
-more_pass f g h (suc n) = go (cases_Bool ((run_length f n == n) && f (suc n))) (more_pass f g h n)
-  where
-    go : (((run_length f n == n) && f (suc n)) ≡ true) ⊎ (((run_length f n == n) && f (suc n)) ≡ false) → run_length f n ≤ run_length g n → run_length f (suc n) ≤ run_length g (suc n)
-    go (inl t) ih =
-        let all = all_pass f g h (suc n) (cond-true ((run_length f n == n) && f (suc n)) (suc n) (run_length f n) t) in
-        omega (arith, all, run_within f (suc n))
-    go (inr t) ih = rw t (omega (arith, ih, step_up g n))
-
-result_stays : {X : Type 0} (a b : Option X) → is_some a ≡ true → is_some (either a b) ≡ true
-result_stays None b e = cc
-result_stays (Some x) b e = refl
-
-more_numbers : (g : ℕ → Bool) (n m : ℕ) → n ≤ m → run_length g n ≤ run_length g m
-more_numbers g n zero le = let e : n ≡ 0 = omega (arith, le) in rw e (omega arith)
-more_numbers g n (suc m) le = go (cases_lt m n) (λ l. more_numbers g n m l)
-  where
-    go : (m < n) ⊎ (n ≤ m) → (n ≤ m → run_length g n ≤ run_length g m) → run_length g n ≤ run_length g (suc m)
-    go (inl over) ih = let e : n ≡ suc m = omega (arith, le, over) in omega (arith, ap (run_length g) e)
-    go (inr l) ih = omega (arith, ih l, step_up g m)
-
--- what an entry after h adds
-abbrev pub new_by : Entry → List Entry → List Authored
-new_by e h = if is_relay e.reply then new_action (client_of h e.session) (λ k. suc (length (outcomes_of h k))) e.request else []
-
-pub commit_grows : (e : Entry) (h : List Entry) → commit_of h ≤ commit_of (e ∷ h)
-commit_grows e h =
-    let f = λ (p : ℕ). is_some (result_at h p) in
-    let g = λ (p : ℕ). is_some (result_at (e ∷ h) p) in
-    let stays = more_pass f g (λ p t. result_stays (result_at h p) (if is_noted e.reply then reports p e.request else None) t) (length (accepted h)) in
-    let grows = more_numbers g (length (accepted h)) (length (accepted (e ∷ h))) (omega (arith, length-append (accepted h) (new_by e h))) in
-    omega (arith, stays, grows)
 
 -- ---- Accepted actions had a chain within the bound
 
@@ -89,8 +41,8 @@ record IsBounded (A : List Action) (commit bound p : ℕ) : Type 0 where
   before : early ≤ commit
   chain : chain_length earlier early action ≤ bound
 
-abbrev AreBounded : ℕ → List Entry → Type 0
-AreBounded bound h = (p : ℕ) → 1 ≤ p → p ≤ length (accepted h) → IsBounded (actions_of h) (commit_of h) bound p
+abbrev AreBounded : ℕ → Keeping → List Entry → Type 0
+AreBounded bound k h = (p : ℕ) → 1 ≤ p → p ≤ length (accepted h) → IsBounded (actions_of h) (commit_of (k.kept h)) bound p
 
 later_bounded : (A more : List Action) (commit after bound p : ℕ) → commit ≤ after → IsBounded A commit bound p → IsBounded (A ++ more) after bound p
 later_bounded A more commit after bound p le b = record {
@@ -105,8 +57,8 @@ later_bounded A more commit after bound p le b = record {
 }
 
 sized : SizeWithin → (A : List Action) (commit bound p : ℕ) (sent : List ℕ) → IsBounded A commit bound p → commit < p → length (needed_for A commit sent p) ≤ bound + 1
-sized law A commit bound p sent b above =
-    let fits = law b.earlier b.later b.early commit b.action sent b.before (omega (arith, above, b.placed)) in
+sized size A commit bound p sent b above =
+    let fits = size b.earlier b.later b.early commit b.action sent b.before (omega (arith, above, b.placed)) in
     let same = ap (λ (X : List Action). length (needed_for X commit sent p)) b.split
     ∙ ap (λ (m : ℕ). length (needed_for (b.earlier ++ b.action ∷ b.later) commit sent m)) b.placed in
     omega (arith, same, fits, b.chain)
@@ -114,37 +66,38 @@ sized law A commit bound p sent b above =
 abbrev acts : List Authored → List Action
 acts A = map (λ (x : Authored). x.action) A
 
-grown : (e : Entry) (h : List Entry) (bound p : ℕ) → IsBounded (actions_of h) (commit_of h) bound p → IsBounded (actions_of (e ∷ h)) (commit_of (e ∷ h)) bound p
-grown e h bound p b =
-    subst (λ (A : List Action). IsBounded A (commit_of (e ∷ h)) bound p) (sym (map-append (λ (x : Authored). x.action) (accepted h) (new_by e h)))
-    (later_bounded (actions_of h) (acts (new_by e h)) (commit_of h) (commit_of (e ∷ h)) bound p (commit_grows e h) b)
+module _ (k : Keeping) (law : IsKeeping k) (bound : ℕ) (e : Entry) (h : List Entry) where
+  grown : (p : ℕ) → IsBounded (actions_of h) (commit_of (k.kept h)) bound p → IsBounded (actions_of (e ∷ h)) (commit_of (k.kept (e ∷ h))) bound p
+  grown p b =
+      subst (λ (A : List Action). IsBounded A (commit_of (k.kept (e ∷ h))) bound p) (sym (map-append (λ (x : Authored). x.action) (accepted h) (new_by e h)))
+      (later_bounded (actions_of h) (acts (new_by e h)) (commit_of (k.kept h)) (commit_of (k.kept (e ∷ h))) bound p (commit_grows-kept k law e h) b)
 
-none_new : (bound : ℕ) (e : Entry) (h : List Entry) → new_by e h ≡ [] → AreBounded bound h → AreBounded bound (e ∷ h)
-none_new bound e h none inv p first last =
-    grown e h bound p (inv p first (omega (arith, last, length-append (accepted h) (new_by e h), ap (λ (N : List Authored). length N) none)))
+  none_new : new_by e h ≡ [] → AreBounded bound k h → AreBounded bound k (e ∷ h)
+  none_new none inv p first last =
+      grown p (inv p first (omega (arith, last, length-append (accepted h) (new_by e h), ap (λ (N : List Authored). length N) none)))
 
-one_new : (bound : ℕ) (e : Entry) (h : List Entry) (k seq : ℕ) (a : Action) → new_by e h ≡ record { client = k; seq = seq; action = a } ∷ [] →
-    chain_length (actions_of h) (commit_of h) a ≤ bound → AreBounded bound h → AreBounded bound (e ∷ h)
-one_new bound e h k seq a one chain inv p first last = go (cases_lt (length (accepted h)) p)
-  where
-    count : length (accepted (e ∷ h)) ≡ length (accepted h) + 1
-    count = length-append (accepted h) (new_by e h) ∙ ap (λ (N : List Authored). length (accepted h) + length N) one
+  one_new : (j seq : ℕ) (a : Action) → new_by e h ≡ record { client = j; seq = seq; action = a } ∷ [] →
+      chain_length (actions_of h) (commit_of (k.kept h)) a ≤ bound → AreBounded bound k h → AreBounded bound k (e ∷ h)
+  one_new j seq a one chain inv p first last = go (cases_lt (length (accepted h)) p)
+    where
+      count : length (accepted (e ∷ h)) ≡ length (accepted h) + 1
+      count = length-append (accepted h) (new_by e h) ∙ ap (λ (N : List Authored). length (accepted h) + length N) one
 
-    all : actions_of (e ∷ h) ≡ actions_of h ++ a ∷ []
-    all = map-append (λ (x : Authored). x.action) (accepted h) (new_by e h) ∙ ap (λ (N : List Authored). actions_of h ++ acts N) one
+      all : actions_of (e ∷ h) ≡ actions_of h ++ a ∷ []
+      all = map-append (λ (x : Authored). x.action) (accepted h) (new_by e h) ∙ ap (λ (N : List Authored). actions_of h ++ acts N) one
 
-    go : (length (accepted h) < p) ⊎ (p ≤ length (accepted h)) → IsBounded (actions_of (e ∷ h)) (commit_of (e ∷ h)) bound p
-    go (inr old) = grown e h bound p (inv p first old)
-    go (inl new) = record {
-      earlier = actions_of h;
-      action = a;
-      later = [];
-      split = all;
-      placed = omega (arith, new, last, count, length-map (accepted h) (λ (x : Authored). x.action));
-      early = commit_of h;
-      before = commit_grows e h;
-      chain = chain;
-    }
+      go : (length (accepted h) < p) ⊎ (p ≤ length (accepted h)) → IsBounded (actions_of (e ∷ h)) (commit_of (k.kept (e ∷ h))) bound p
+      go (inr old) = grown p (inv p first old)
+      go (inl new) = record {
+        earlier = actions_of h;
+        action = a;
+        later = [];
+        split = all;
+        placed = omega (arith, new, last, count, length-map (accepted h) (λ (x : Authored). x.action));
+        early = commit_of (k.kept h);
+        before = commit_grows-kept k law e h;
+        chain = chain;
+      }
 
 pub kept_known : (h : List Entry) (k seq : ℕ) (o : Outcome) → kept_outcome h k seq ≡ Some o → seq < next_seq h k
 kept_known h k seq o =
@@ -167,8 +120,8 @@ not_by_poll (Some k) next = refl
 abbrev pub entry_of : ℕ → Request → Logged → Entry
 entry_of s q w = record { session = s; request = q; reply = w }
 
-abbrev KeepsBound : ℕ → List Entry → ℕ → Request → Logged → Type 0
-KeepsBound bound h s q w = AreBounded bound (entry_of s q w ∷ h) × (length (positions_in w) ≤ bound + 1)
+abbrev KeepsBound : ℕ → Keeping → List Entry → ℕ → Request → Logged → Type 0
+KeepsBound bound k h s q w = AreBounded bound k (entry_of s q w ∷ h) × (length (positions_in w) ≤ bound + 1)
 
 no_items : (bound : ℕ) (w : Logged) → is_relay w ≡ false → length (positions_in w) ≤ bound + 1
 no_items bound (logged.Relay seq commit head positions) e = absurd (cc)
@@ -180,38 +133,47 @@ no_items bound logged.Idle e = omega arith
 no_items bound (logged.Refused code detail) e = omega arith
 no_items bound logged.Bye e = omega arith
 
-bound_kept : SizeWithin → (r : Rules) (h : List Entry) (s : ℕ) (q : Request) → AreBounded r.bound h → KeepsBound r.bound h s q (reply_to r h s q)
-bound_kept law r h s q inv = each_reply r h s q (KeepsBound r.bound h s q) (record {
-  other = λ w e. (none_new r.bound (entry_of s q w) h (rw e refl) inv, no_items r.bound w e);
-  fresh = λ k seq a client asked next good chain.
+bound_kept : SizeWithin → (k : Keeping) → IsKeeping k → (r : Rules) (h : List Entry) (s : ℕ) (q : Request) → AreBounded r.bound k h →
+    KeepsBound r.bound k h s q (reply_for k r h s q)
+bound_kept size k law r h s q inv = each_reply k law r h s (KeepsBound r.bound k h s q) q (record {
+  other = λ w e. (none_new k law r.bound (entry_of s q w) h (rw e refl) inv, no_items r.bound w e);
+  fresh = λ j seq a client asked next good chain.
       let count = length-map (accepted h) (λ (x : Authored). x.action) in (
-        one_new r.bound (entry_of s q (relay_of r h (actions_of h ++ a ∷ []) s seq (suc (length (actions_of h))))) h k seq a
-            (rw (client, asked, eq-eqb seq (next_seq h k) next) refl) chain inv,
-        sized law (actions_of h ++ a ∷ []) (commit_of h) r.bound (suc (length (actions_of h))) (sent_to h s)
-            (record { earlier = actions_of h; action = a; later = []; split = refl; placed = omega arith; early = commit_of h; before = omega arith; chain = chain })
-            (omega (arith, count, commit_within h)),
+        one_new k law r.bound (entry_of s q (relay_of r (k.kept h) (actions_of h ++ a ∷ []) s seq (suc (length (actions_of h))))) h j seq a
+            (rw (client, asked, eq-eqb seq (next_seq h j) next) refl) chain inv,
+        sized size (actions_of h ++ a ∷ []) (commit_of (k.kept h)) r.bound (suc (length (actions_of h))) (sent_to (k.kept h) s)
+            (record { earlier = actions_of h; action = a; later = []; split = refl; placed = omega arith; early = commit_of (k.kept h); before = omega arith; chain = chain })
+            (omega (arith, count, commit_within-kept k law h)),
       );
-  again = λ k seq p a client asked kept above. (
-    none_new r.bound (entry_of s q (relay_of r h (actions_of h) s seq p)) h
-        (rw (client, asked, ne_eqb seq (next_seq h k) (λ e. omega (arith, e, kept_known h k seq (Accepted p) kept))) refl) inv,
-    sized law (actions_of h) (commit_of h) r.bound p (sent_to h s) (inv p (omega (arith, above)) (kept_within h k seq p kept)) above,
+  again = λ j seq p a client asked kept above. (
+    none_new k law r.bound (entry_of s q (relay_of r (k.kept h) (actions_of h) s seq p)) h
+        (rw (client, asked, ne_eqb seq (next_seq h j) (λ e. omega (arith, e, kept_known h j seq (Accepted p) kept))) refl) inv,
+    sized size (actions_of h) (commit_of (k.kept h)) r.bound p (sent_to (k.kept h) s) (inv p (omega (arith, above)) (kept_within h j seq p kept)) above,
   );
-  poll = λ p ps asked first.
-      let found = orphan_within h p ps first in (
-        none_new r.bound (entry_of s q (relay_of r h (actions_of h) s 0 p)) h (rw asked (not_by_poll (client_of h s) (λ k. suc (length (outcomes_of h k))))) inv,
-        sized law (actions_of h) (commit_of h) r.bound p (sent_to h s) (inv p (omega (arith, found.0)) found.1) found.0,
+  poll = λ j p ps client asked open_still first.
+      let due = first_is_in (k.due h s) p ps first in
+      let above = law.above h s p due in (
+        none_new k law r.bound (entry_of s q (relay_of r (k.kept h) (actions_of h) s 0 p)) h (rw asked (not_by_poll (client_of h s) (λ i. suc (length (outcomes_of h i))))) inv,
+        sized size (actions_of h) (commit_of (k.kept h)) r.bound p (sent_to (k.kept h) s) (inv p (omega (arith, above)) (law.within h s p due)) above,
       );
 })
 
-legal_bounded : SizeWithin → (r : Rules) (h : List Entry) → Legal r h → AreBounded r.bound h × AllByRecursion (λ (e : Entry). length (positions_in e.reply) ≤ r.bound + 1) h
-legal_bounded law r [] legal = ((λ p first last. absurd (omega (arith, first, last))), tt)
-legal_bounded law r (e ∷ h) legal =
-    let rest = legal_bounded law r h legal.1 in
-    let here = subst (KeepsBound r.bound h e.session e.request) (sym legal.0) (bound_kept law r h e.session e.request rest.0) in
+abbrev AllSmall : ℕ → List Entry → Type 0
+AllSmall bound h = AllByRecursion (λ (e : Entry). length (positions_in e.reply) ≤ bound + 1) h
+
+served_bounded : SizeWithin → (k : Keeping) → IsKeeping k → (r : Rules) (h : List Entry) → LegalFor k r h → AreBounded r.bound k h × AllSmall r.bound h
+served_bounded size k law r [] legal = ((λ p first last. absurd (omega (arith, first, last))), tt)
+served_bounded size k law r (e ∷ h) legal =
+    let rest = served_bounded size k law r h legal.1 in
+    let here = subst (KeepsBound r.bound k h e.session e.request) (sym legal.0) (bound_kept size k law r h e.session e.request rest.0) in
     (here.0, (here.1, rest.1))
 
-pub all_small : SizeWithin → (r : Rules) (h : List Entry) → Legal r h → AllByRecursion (λ (e : Entry). length (positions_in e.reply) ≤ r.bound + 1) h
-all_small law r h legal = (legal_bounded law r h legal).1
+pub all_small : SizeWithin → (k : Keeping) → IsKeeping k → (r : Rules) (h : List Entry) → LegalFor k r h → AllSmall r.bound h
+all_small size k law r h legal = (served_bounded size k law r h legal).1
+
+pub served_relays_are_small : SizeWithin → ServedRelaysAreSmall
+served_relays_are_small size k r h law legal =
+    All-from_recursion (λ (e : Entry). length (positions_in e.reply) ≤ r.bound + 1) h (all_small size k law r h legal)
 
 pub legal_relays_are_small : SizeWithin → LegalRelaysAreSmall
-legal_relays_are_small law r h legal = All-from_recursion (λ (e : Entry). length (positions_in e.reply) ≤ r.bound + 1) h (all_small law r h legal)
+legal_relays_are_small size r h legal = served_relays_are_small size plain r h plain-keeping (plain-legal r h legal)

@@ -1,11 +1,12 @@
--- Laws of journals.
-use Rattle.std.specs.Prelude.{◌≡◌, ◌+◌, ◌≤◌, All, List, ◌++◌, length, reverse, None}
+-- Laws of journals: first those of a server that trusts its clients, and then the same of a server with any keeping.
+use Rattle.std.specs.Prelude.{◌≡◌, ◌+◌, ◌≤◌, ◌↔◌, All, List, ◌++◌, length, reverse, None}
 use Rattle.sv_world.specs.Faults.{first_fault_of_action}
 use Rattle.sv_wire.specs.Grammar.{IsWireReply}
 use Rattle.sv_journal.specs.declared.entry.Entry.{Entry}
 use Rattle.sv_journal.specs.declared.entry.Logged.{Logged}
 use Rattle.sv_journal.specs.History.{Authored, accepted, full_reply}
 use Rattle.sv_journal.specs.Answer.{Rules, Legal}
+use Rattle.sv_journal.specs.Serving.{Keeping, plain, LegalFor, IsKeeping}
 use Rattle.sv_journal.specs.Sessions.{positions_in}
 use Rattle.sv_journal.specs.Text.{NamesAccepted, RelaysNameAccepted}
 
@@ -38,4 +39,25 @@ pub record AreWithinLimits (r : Rules) : Type 0 where
 -- Each reply of a legal journal is a message, as it was sent.
 abbrev pub LegalRepliesAreMessages : Type 0
 LegalRepliesAreMessages = (r : Rules) (h : List Entry) → AreWithinLimits r → Legal r h →
+    All (λ (e : Entry). IsWireReply (full_reply (accepted h) e.reply)) h
+
+-- ---- Any keeping
+
+-- A server that trusts its clients has a keeping, and its legal journals are those that are legal for it.
+pub record PlainIsLegal : Type 0 where
+  pub keeping : IsKeeping plain
+  pub same : (r : Rules) (h : List Entry) → Legal r h ↔ LegalFor plain r h
+
+abbrev pub ServedRelaysNameAccepted : Type 0
+ServedRelaysNameAccepted = (k : Keeping) (r : Rules) (h : List Entry) → IsKeeping k → LegalFor k r h → All (λ (e : Entry). NamesAccepted (length (accepted h)) e.reply) h
+
+abbrev pub ServedRelaysAreSmall : Type 0
+ServedRelaysAreSmall = (k : Keeping) (r : Rules) (h : List Entry) → IsKeeping k → LegalFor k r h → All (λ (e : Entry). length (positions_in e.reply) ≤ r.bound + 1) h
+
+abbrev pub ServedActionsAreGood : Type 0
+ServedActionsAreGood = (k : Keeping) (r : Rules) (h : List Entry) → IsKeeping k → LegalFor k r h →
+    All (λ (a : Authored). first_fault_of_action r.world.shape a.action ≡ None) (accepted h)
+
+abbrev pub ServedRepliesAreMessages : Type 0
+ServedRepliesAreMessages = (k : Keeping) (r : Rules) (h : List Entry) → IsKeeping k → AreWithinLimits r → LegalFor k r h →
     All (λ (e : Entry). IsWireReply (full_reply (accepted h) e.reply)) h

@@ -1,4 +1,5 @@
 pub mod Answer
+pub mod Serving
 pub mod Examples
 pub mod History
 pub mod Pieces

@@ -1,6 +1,7 @@
 //! Laws of journals.
 ghost use Rattle.sv_journal.specs.Examples.{ExamplesAreAnswered};
 ghost use Rattle.sv_journal.specs.Laws.{FullRepliesStay, LegalActionsAreGood, LegalRelaysAreSmall, LegalRelaysNameAccepted, LegalRepliesAreMessages};
+ghost use Rattle.sv_journal.specs.Laws.{PlainIsLegal, ServedActionsAreGood, ServedRelaysAreSmall, ServedRelaysNameAccepted, ServedRepliesAreMessages};
 
 use sv_world::{
     base_values_are_those_read_as_committed, good_actions_have_no_fault, missing_influences_ascend,
@@ -40,6 +41,41 @@ pub fn legal_actions_are_good()
 /// rules are to be within the limits; how large a number of a reply may be is not part of the grammar.
 pub fn legal_replies_are_messages()
     ensures { LegalRepliesAreMessages }
+{
+    missing_influences_ascend();
+    missing_influences_only_shrink();
+    base_values_are_those_read_as_committed();
+    good_actions_have_no_fault();
+}
+
+/// A server that trusts its clients is one of those that the laws below speak of: it has a keeping, and the journals that are legal for this
+/// are the legal ones.
+pub fn legal_journals_are_plain()
+    ensures { PlainIsLegal }
+{}
+
+/// Whatever results a server keeps, its relays name accepted actions alone.
+pub fn served_relays_name_accepted()
+    ensures { ServedRelaysNameAccepted }
+{
+    missing_influences_ascend();
+}
+
+/// Whatever results a server keeps, its relays have at most one item more than the bound on chains.
+pub fn served_relays_are_small()
+    ensures { ServedRelaysAreSmall }
+{
+    missing_influences_only_shrink();
+}
+
+/// Whatever results a server keeps, it accepts no action that its shape refuses.
+pub fn served_actions_are_good()
+    ensures { ServedActionsAreGood }
+{}
+
+/// Whatever results a server keeps, each of its replies, with the items that it was sent with, is within the grammar of messages.
+pub fn served_replies_are_messages()
+    ensures { ServedRepliesAreMessages }
 {
     missing_influences_ascend();
     missing_influences_only_shrink();

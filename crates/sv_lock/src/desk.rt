@@ -21,7 +21,7 @@ const HELD: u64 = 1;
 
 const AWAITED: u64 = 2;
 
-// How often a thread looks before it sleeps. A look takes about a nanosecond, and to sleep and be woken takes longer than all of them.
+// How often a thread looks before it sleeps. A look takes about a nanosecond; the number was chosen by the time of whole loads.
 const LOOKS: u32 = 16_000;
 
 /// The table of the lock, and how its callers wait.

@@ -8,15 +8,16 @@ use Rattle.sv_wire.specs.declared.message.Reply.{Reply}
 use Rattle.sv_wire.specs.declared.message.Request.{Request}
 use Rattle.sv_wire.specs.declared.message.Request.TheVariants as requests
 use Rattle.sv_journal.specs.declared.entry.Entry.{Entry}
-use Rattle.sv_journal.specs.History.{accepted, full_reply}
+use Rattle.sv_journal.specs.History.{accepted}
 use Rattle.sv_journal.specs.Sessions.{is_end}
-use Rattle.sv_journal.specs.Answer.{Rules, Legal, reply_to}
 use Rattle.sv_system.specs.Fits.{requests_in, replies_in, is_ended}
 use Rattle.sv_system.proofs.Entered.{is_of, of-from}
-use Rattle.sv_schedule.specs.Schedule.{Player, Run, asked_in_run, closed_by, is_stop, is_stopped, with_entry, steps_next, session_turn}
+use Rattle.sv_schedule.specs.Players.{Player, asked_in_run, closed_by}
+use Rattle.sv_schedule.specs.Serving.{Run, Server, entry_by, served, serves_next, is_stop, is_stopped, session_served}
+use Rattle.sv_schedule.specs.Served.{AreNamed, KeepsSound}
 use Rattle.sv_exchange.specs.View.{ExchangeView}
 use Rattle.sv_replay.specs.Players.{got_in_run, IsChannel}
-use Rattle.sv_replay.specs.Serving.{next_history, next_channel}
+use Rattle.sv_replay.specs.Serving.{whole_reply, next_history, next_channel}
 use Rattle.sv_replay.proofs.Served.{waiting_asked, replies_stay, next_ended, next_stopped, next_closed, next_idle, next_asked}
 
 abbrev pub run_at : List Entry → List Player → Run
@@ -24,17 +25,17 @@ run_at h ps = record { history = h; players = ps }
 
 -- ---- Entries
 
-module _ (r : Rules) (h : List Entry) (ps : List Player) (s : ℕ) (q : Request) (legal : Legal r h) where
+module _ (server : Server) (keeps : KeepsSound server) (h : List Entry) (ps : List Player) (s : ℕ) (q : Request) (named : AreNamed h) where
   abbrev e : Entry
-  e = record { session = s; request = q; reply = reply_to r h s q }
+  e = entry_by server h s q
 
   not_of_requests : (n : ℕ) → is_of e n ≡ false → requests_in (e ∷ h) n ≡ requests_in h n
-  not_of_requests n f = cond-false (is_of e n) (requests_in h n ++ q ∷ []) (requests_in h n) f
+  not_of_requests n f = cond-false (is_of e n) (requests_in h n ++ server.hears h s q ∷ []) (requests_in h n) f
 
   not_of_replies : (n : ℕ) → is_of e n ≡ false → replies_in (accepted (e ∷ h)) (e ∷ h) n ≡ replies_in (accepted h) h n
   not_of_replies n f =
-      cond-false (is_of e n) (replies_in (accepted (e ∷ h)) h n ++ full_reply (accepted (e ∷ h)) (reply_to r h s q) ∷ []) (replies_in (accepted (e ∷ h)) h n) f
-      ∙ sym (replies_stay r e h n legal)
+      cond-false (is_of e n) (replies_in (accepted (e ∷ h)) h n ++ whole_reply server h s q ∷ []) (replies_in (accepted (e ∷ h)) h n) f
+      ∙ sym (replies_stay e h n named)
 
   -- An entry that adds no request and no reply to a session.
   not_of_channel : (n : ℕ) (c : ExchangeView) (stopped : Bool) → is_of e n ≡ false → stopped ≡ is_stopped (e ∷ h) n → IsChannel (run_at h ps) n c → IsChannel (run_at (e ∷ h) ps) n (record c { stopped = stopped })
@@ -58,33 +59,35 @@ module _ (r : Rules) (h : List Entry) (ps : List Player) (s : ℕ) (q : Request)
   pub end_entry : (c : ExchangeView) → q ≡ requests.End → IsChannel (run_at h ps) s c → IsChannel (run_at (e ∷ h) ps) s (record c { stopped = true })
   end_entry c end is =
       let here : (s == s) ≡ true = eq-eqb s s refl in
-      not_of_channel s c true (rw (here, end) refl) (sym (rw (here, end) refl)) is
+      let ends : is_end (server.hears h s q) ≡ true = keeps.ends h s q ∙ ap is_end end in
+      let stops : is_stop (server.answers h s q) ≡ true = ap (λ (x : Request). is_stop (server.answers h s x)) end ∙ ap is_stop (keeps.bye h s) in
+      not_of_channel s c true (rw (here, ends) refl) (sym (rw (here, stops) refl)) is
 
   -- The first request that waits, with its reply.
   pub asked_entry : (c : ExchangeView) (qs : List Request) → c.requests ≡ q ∷ qs → is_stopped h s ≡ false → IsChannel (run_at h ps) s c →
-      IsChannel (run_at (e ∷ h) ps) s (record c { requests = qs; replies = c.replies ++ full_reply (accepted (e ∷ h)) (reply_to r h s q) ∷ []; stopped = is_stop (reply_to r h s q) })
+      IsChannel (run_at (e ∷ h) ps) s (record c { requests = qs; replies = c.replies ++ whole_reply server h s q ∷ []; stopped = is_stop (server.answers h s q) })
   asked_entry c qs waits running is =
       let left : drop (length (requests_in h s)) (asked_in_run ps s) ≡ q ∷ qs = sym is.requests ∙ waits in
       let asked : is_end q ≡ false = waiting_asked ps s (length (requests_in h s)) q qs left in
-      let of_it : is_of e s ≡ true = of-from e s refl asked in
-      let asks : requests_in (e ∷ h) s ≡ requests_in h s ++ q ∷ [] = cond-true (is_of e s) (requests_in h s ++ q ∷ []) (requests_in h s) of_it in
-      let gives : replies_in (accepted (e ∷ h)) (e ∷ h) s ≡ replies_in (accepted h) h s ++ full_reply (accepted (e ∷ h)) (reply_to r h s q) ∷ [] =
-      cond-true (is_of e s) (replies_in (accepted (e ∷ h)) h s ++ full_reply (accepted (e ∷ h)) (reply_to r h s q) ∷ []) (replies_in (accepted (e ∷ h)) h s) of_it
-      ∙ ap (λ (rs : List Reply). rs ++ full_reply (accepted (e ∷ h)) (reply_to r h s q) ∷ []) (sym (replies_stay r e h s legal)) in
-      let one : length (requests_in h s ++ q ∷ []) ≡ length (requests_in h s) + 1 = length-append (requests_in h s) (q ∷ []) in
-      let more : length (replies_in (accepted h) h s ++ full_reply (accepted (e ∷ h)) (reply_to r h s q) ∷ []) ≡ length (replies_in (accepted h) h s) + 1 =
-      length-append (replies_in (accepted h) h s) (full_reply (accepted (e ∷ h)) (reply_to r h s q) ∷ []) in
+      let of_it : is_of e s ≡ true = of-from e s refl (keeps.ends h s q ∙ asked) in
+      let asks : requests_in (e ∷ h) s ≡ requests_in h s ++ server.hears h s q ∷ [] = cond-true (is_of e s) (requests_in h s ++ server.hears h s q ∷ []) (requests_in h s) of_it in
+      let gives : replies_in (accepted (e ∷ h)) (e ∷ h) s ≡ replies_in (accepted h) h s ++ whole_reply server h s q ∷ [] =
+      cond-true (is_of e s) (replies_in (accepted (e ∷ h)) h s ++ whole_reply server h s q ∷ []) (replies_in (accepted (e ∷ h)) h s) of_it
+      ∙ ap (λ (rs : List Reply). rs ++ whole_reply server h s q ∷ []) (sym (replies_stay e h s named)) in
+      let one : length (requests_in h s ++ server.hears h s q ∷ []) ≡ length (requests_in h s) + 1 = length-append (requests_in h s) (server.hears h s q ∷ []) in
+      let more : length (replies_in (accepted h) h s ++ whole_reply server h s q ∷ []) ≡ length (replies_in (accepted h) h s) + 1 =
+      length-append (replies_in (accepted h) h s) (whole_reply server h s q ∷ []) in
       record {
         asked = (let long : length (q ∷ qs) ≡ length (asked_in_run ps s) - length (requests_in h s) = ap length (sym left) ∙ length-drop (length (requests_in h s)) (asked_in_run ps s) in
             subst (λ (rs : List Request). length rs ≤ length (asked_in_run ps s)) (sym asks) (omega (arith, one, long)));
         requests = sym (next_left (length (requests_in h s)) (asked_in_run ps s) q qs left) ∙ ap (λ (n : ℕ). drop n (asked_in_run ps s)) (sym one)
             ∙ ap (λ (rs : List Request). drop (length rs) (asked_in_run ps s)) (sym asks);
         got = subst (λ (rs : List Reply). length (got_in_run ps s) ≤ length rs) (sym gives) (omega (arith, is.got, more));
-        replies = ap (λ (rs : List Reply). rs ++ full_reply (accepted (e ∷ h)) (reply_to r h s q) ∷ []) is.replies
-            ∙ sym (drop-append-le (length (got_in_run ps s)) (replies_in (accepted h) h s) (full_reply (accepted (e ∷ h)) (reply_to r h s q) ∷ []) is.got)
+        replies = ap (λ (rs : List Reply). rs ++ whole_reply server h s q ∷ []) is.replies
+            ∙ sym (drop-append-le (length (got_in_run ps s)) (replies_in (accepted h) h s) (whole_reply server h s q ∷ []) is.got)
             ∙ ap (λ (rs : List Reply). drop (length (got_in_run ps s)) rs) (sym gives);
         closed = is.closed;
-        stopped = sym (stops_here s h (is_stop (reply_to r h s q)) running);
+        stopped = sym (stops_here s h (is_stop (server.answers h s q)) running);
       }
     where
       stops_here : (s : ℕ) (h : List Entry) (b : Bool) → is_stopped h s ≡ false → ((s == s && b) || is_stopped h s) ≡ b
@@ -99,59 +102,59 @@ module _ (r : Rules) (h : List Entry) (ps : List Player) (s : ℕ) (q : Request)
 
 -- ---- Turns
 
-module _ (r : Rules) (h : List Entry) (ps : List Player) (s : ℕ) (c : ExchangeView) (is : IsChannel (run_at h ps) s c) where
-  pub session_turn_is : next_history r h s c ≡ session_turn r ps h s
+module _ (server : Server) (keeps : KeepsSound server) (h : List Entry) (ps : List Player) (s : ℕ) (c : ExchangeView) (is : IsChannel (run_at h ps) s c) where
+  pub session_turn_is : next_history server h s c ≡ session_served server ps h s
   session_turn_is =
-      ap (λ (b : Bool). if is_ended h s then h else if b then with_entry r h s requests.End else steps_next r h s c.closed c.requests) is.stopped
-      ∙ ap (λ (b : Bool). if is_ended h s then h else if is_stopped h s then with_entry r h s requests.End else steps_next r h s b c.requests) is.closed
-      ∙ ap (λ (qs : List Request). if is_ended h s then h else if is_stopped h s then with_entry r h s requests.End else steps_next r h s (list_any (closed_by s) ps) qs) is.requests
+      ap (λ (b : Bool). if is_ended h s then h else if b then served server h s requests.End else serves_next server h s c.closed c.requests) is.stopped
+      ∙ ap (λ (b : Bool). if is_ended h s then h else if is_stopped h s then served server h s requests.End else serves_next server h s b c.requests) is.closed
+      ∙ ap (λ (qs : List Request). if is_ended h s then h else if is_stopped h s then served server h s requests.End else serves_next server h s (list_any (closed_by s) ps) qs) is.requests
 
-  at_turn : (g : List Entry) (d : ExchangeView) → (next_history r h s c ≡ g) × (next_channel r h s c ≡ d) → IsChannel (run_at g ps) s d → IsChannel (run_at (next_history r h s c) ps) s (next_channel r h s c)
+  at_turn : (g : List Entry) (d : ExchangeView) → (next_history server h s c ≡ g) × (next_channel server h s c ≡ d) → IsChannel (run_at g ps) s d → IsChannel (run_at (next_history server h s c) ps) s (next_channel server h s c)
   at_turn g d n made =
-      subst (λ (x : ExchangeView). IsChannel (run_at (next_history r h s c) ps) s x) (sym n.1) (subst (λ (k : List Entry). IsChannel (run_at k ps) s d) (sym n.0) made)
+      subst (λ (x : ExchangeView). IsChannel (run_at (next_history server h s c) ps) s x) (sym n.1) (subst (λ (k : List Entry). IsChannel (run_at k ps) s d) (sym n.0) made)
 
   -- The session's own connection.
-  pub own_served : Legal r h → IsChannel (run_at (next_history r h s c) ps) s (next_channel r h s c)
-  own_served legal = elim (cases_Bool (is_ended h s)) [
-    | inl ended ↦ at_turn h c (next_ended r h s c ended) is
+  pub own_served : AreNamed h → IsChannel (run_at (next_history server h s c) ps) s (next_channel server h s c)
+  own_served named = elim (cases_Bool (is_ended h s)) [
+    | inl ended ↦ at_turn h c (next_ended server h s c ended) is
     | inr running ↦ elim (cases_Bool c.stopped) [
-      | inl stops ↦ at_turn _ _ (next_stopped r h s c running stops) (end_entry r h ps s requests.End legal c refl is)
+      | inl stops ↦ at_turn _ _ (next_stopped server h s c running stops) (end_entry server keeps h ps s requests.End named c refl is)
       | inr goes ↦ waits running goes c.requests refl
     ]
   ]
     where
-      closes : is_ended h s ≡ false → c.stopped ≡ false → c.requests ≡ [] → IsChannel (run_at (next_history r h s c) ps) s (next_channel r h s c)
+      closes : is_ended h s ≡ false → c.stopped ≡ false → c.requests ≡ [] → IsChannel (run_at (next_history server h s c) ps) s (next_channel server h s c)
       closes running goes none = elim (cases_Bool c.closed) [
-        | inl shut ↦ at_turn _ _ (next_closed r h s c running goes none shut) (end_entry r h ps s requests.End legal c refl is)
-        | inr linked ↦ at_turn h c (next_idle r h s c running goes none linked) is
+        | inl shut ↦ at_turn _ _ (next_closed server h s c running goes none shut) (end_entry server keeps h ps s requests.End named c refl is)
+        | inr linked ↦ at_turn h c (next_idle server h s c running goes none linked) is
       ]
 
-      waits : is_ended h s ≡ false → c.stopped ≡ false → (qs : List Request) → c.requests ≡ qs → IsChannel (run_at (next_history r h s c) ps) s (next_channel r h s c)
+      waits : is_ended h s ≡ false → c.stopped ≡ false → (qs : List Request) → c.requests ≡ qs → IsChannel (run_at (next_history server h s c) ps) s (next_channel server h s c)
       waits running goes [] none = closes running goes none
-      waits running goes (q ∷ qs) some = at_turn _ _ (next_asked r h s c q qs running goes some) (asked_entry r h ps s q legal c qs some (sym is.stopped ∙ goes) is)
+      waits running goes (q ∷ qs) some = at_turn _ _ (next_asked server h s c q qs running goes some) (asked_entry server keeps h ps s q named c qs some (sym is.stopped ∙ goes) is)
 
-  next_cases : (next_history r h s c ≡ h) ⊎ ((q : Request) × (next_history r h s c ≡ with_entry r h s q))
+  next_cases : (next_history server h s c ≡ h) ⊎ ((q : Request) × (next_history server h s c ≡ served server h s q))
   next_cases = elim (cases_Bool (is_ended h s)) [
-    | inl ended ↦ inl (next_ended r h s c ended).0
+    | inl ended ↦ inl (next_ended server h s c ended).0
     | inr running ↦ elim (cases_Bool c.stopped) [
-      | inl stops ↦ inr (requests.End, (next_stopped r h s c running stops).0)
+      | inl stops ↦ inr (requests.End, (next_stopped server h s c running stops).0)
       | inr goes ↦ waits running goes c.requests refl
     ]
   ]
     where
-      closes : is_ended h s ≡ false → c.stopped ≡ false → c.requests ≡ [] → (next_history r h s c ≡ h) ⊎ ((q : Request) × (next_history r h s c ≡ with_entry r h s q))
+      closes : is_ended h s ≡ false → c.stopped ≡ false → c.requests ≡ [] → (next_history server h s c ≡ h) ⊎ ((q : Request) × (next_history server h s c ≡ served server h s q))
       closes running goes none = elim (cases_Bool c.closed) [
-        | inl shut ↦ inr (requests.End, (next_closed r h s c running goes none shut).0)
-        | inr linked ↦ inl (next_idle r h s c running goes none linked).0
+        | inl shut ↦ inr (requests.End, (next_closed server h s c running goes none shut).0)
+        | inr linked ↦ inl (next_idle server h s c running goes none linked).0
       ]
 
-      waits : is_ended h s ≡ false → c.stopped ≡ false → (qs : List Request) → c.requests ≡ qs → (next_history r h s c ≡ h) ⊎ ((q : Request) × (next_history r h s c ≡ with_entry r h s q))
+      waits : is_ended h s ≡ false → c.stopped ≡ false → (qs : List Request) → c.requests ≡ qs → (next_history server h s c ≡ h) ⊎ ((q : Request) × (next_history server h s c ≡ served server h s q))
       waits running goes [] none = closes running goes none
-      waits running goes (q ∷ qs) some = inr (q, (next_asked r h s c q qs running goes some).0)
+      waits running goes (q ∷ qs) some = inr (q, (next_asked server h s c q qs running goes some).0)
 
   -- The connections of other sessions.
-  pub other_served : (n : ℕ) (d : ExchangeView) → (s == n) ≡ false → Legal r h → IsChannel (run_at h ps) n d → IsChannel (run_at (next_history r h s c) ps) n d
-  other_served n d f legal there = elim next_cases [
+  pub other_served : (n : ℕ) (d : ExchangeView) → (s == n) ≡ false → AreNamed h → IsChannel (run_at h ps) n d → IsChannel (run_at (next_history server h s c) ps) n d
+  other_served n d f named there = elim next_cases [
     | inl same ↦ subst (λ (k : List Entry). IsChannel (run_at k ps) n d) (sym same) there
-    | inr one ↦ subst (λ (k : List Entry). IsChannel (run_at k ps) n d) (sym one.1) (other_entry r h ps s one.0 legal n d f there)
+    | inr one ↦ subst (λ (k : List Entry). IsChannel (run_at k ps) n d) (sym one.1) (other_entry server keeps h ps s one.0 named n d f there)
   ]

@@ -10,12 +10,16 @@ use Rattle.sv_wire.specs.declared.message.Reply.{Reply}
 use Rattle.sv_journal.specs.declared.entry.Entry.{Entry}
 use Rattle.sv_client.specs.declared.trace.Event.{Event}
 use Rattle.sv_client.specs.declared.trace.Event.TheVariants as events
+use Rattle.sv_client.specs.declared.trace.Trace.{Trace}
 use Rattle.sv_client.specs.Traces.{current_session, is_session, asked, got, done_for, held_of}
 use Rattle.sv_client.specs.Taking.{Identity}
-use Rattle.sv_client.specs.Proper.{AreProper, identity_of}
-use Rattle.sv_system.specs.Fits.{is_join_of, has_session, FitsOne, AreApart, AreAllApart}
+use Rattle.sv_client.specs.Proper.{AreProper, Proper, identity_of}
+use Rattle.sv_scenario.specs.declared.scenario.Scenario.{Scenario}
+use Rattle.sv_system.specs.Fits.{is_join_of, has_session, AreApart, AreAllApart}
 use Rattle.sv_system.proofs.Asked.{current-joined, any-reverse}
-use Rattle.sv_schedule.specs.Schedule.{Player, trace_of_player, asked_in_run, closed_by}
+use Rattle.sv_schedule.specs.Players.{Player, trace_of_player, asked_in_run, closed_by}
+use Rattle.sv_schedule.specs.Serving.{Run, Server, traces_of}
+use Rattle.sv_schedule.specs.Served.{FitsServer, IsSoundOver}
 use Rattle.sv_replay.specs.Players.{asked_by_player, got_in_run}
 
 -- ---- A session that was not begun
@@ -86,18 +90,18 @@ OthersSilent n (suc k) (p ∷ ps) = IsSilent n p × OthersSilent n k ps
 joined_back : (p : Player) (n : ℕ) → list_any (is_join_of n) p.events ≡ true → has_session (trace_of_player p) n ≡ true
 joined_back p n e = any-reverse (is_join_of n) (reverse p.events) (ap (λ (es : List Event). list_any (is_join_of n) es) (reverse-reverse p.events) ∙ e)
 
-silent_from : (shape : Shape) (h : List Entry) (p : Player) (n : ℕ) → FitsOne shape h (trace_of_player p) → (has_session (trace_of_player p) n ≡ true → ⊥) → IsSilent n p
-silent_from shape h p n fits none =
+silent_from : (shape : Shape) (p : Player) (n : ℕ) → Proper shape (trace_of_player p) → (has_session (trace_of_player p) n ≡ true → ⊥) → IsSilent n p
+silent_from shape p n proper_of none =
     let who : Identity = identity_of shape (trace_of_player p) in
-    let proper : AreProper who p.first p.events = subst (AreProper who p.first) (reverse-reverse p.events) fits.proper.events in
+    let proper : AreProper who p.first p.events = subst (AreProper who p.first) (reverse-reverse p.events) proper_of.events in
     let free : list_any (is_join_of n) p.events ≡ false = elim (cases_Bool (list_any (is_join_of n) p.events)) [ inl y ↦ absurd (none (joined_back p n y)) | inr f ↦ f ] in
     record { asks = none_asked who p.first p.events proper n free; gets = none_got who p.first p.events proper n free; linked = rw free refl }
 
-later_silent : (shape : Shape) (h : List Entry) (q : Player) (n : ℕ) (ps : List Player) → AllByRecursion (FitsOne shape h) (map trace_of_player ps) →
+later_silent : (shape : Shape) (q : Player) (n : ℕ) (ps : List Player) → AllByRecursion (Proper shape) (map trace_of_player ps) →
     AllByRecursion (AreApart (trace_of_player q)) (map trace_of_player ps) → has_session (trace_of_player q) n ≡ true → AllByRecursion (IsSilent n) ps
-later_silent shape h q n [] fits apart has = tt
-later_silent shape h q n (p ∷ ps) fits apart has =
-    (silent_from shape h p n fits.0 (λ y. apart.0.sessions n has y), later_silent shape h q n ps fits.1 apart.1 has)
+later_silent shape q n [] proper_each apart has = tt
+later_silent shape q n (p ∷ ps) proper_each apart has =
+    (silent_from shape p n proper_each.0 (λ y. apart.0.sessions n has y), later_silent shape q n ps proper_each.1 apart.1 has)
 
 apart_at : (p : Player) (k : ℕ) (ps : List Player) (q : Player) → AllByRecursion (AreApart (trace_of_player p)) (map trace_of_player ps) → slice_get ps k ≡ Some q →
     AreApart (trace_of_player p) (trace_of_player q)
@@ -105,16 +109,28 @@ apart_at p k [] q apart e = cc
 apart_at p zero (r ∷ ps) q apart e = let same : r ≡ q = cc in subst (λ (x : Player). AreApart (trace_of_player p) (trace_of_player x)) same apart.0
 apart_at p (suc k) (r ∷ ps) q apart e = apart_at p k ps q apart.1 e
 
-pub others_silent : (shape : Shape) (h : List Entry) (n k : ℕ) (ps : List Player) (q : Player) → AllByRecursion (FitsOne shape h) (map trace_of_player ps) →
+others_silent : (shape : Shape) (n k : ℕ) (ps : List Player) (q : Player) → AllByRecursion (Proper shape) (map trace_of_player ps) →
     AreAllApart (map trace_of_player ps) → slice_get ps k ≡ Some q → list_any (is_join_of n) q.events ≡ true → OthersSilent n k ps
-others_silent shape h n k [] q fits apart e has = tt
-others_silent shape h n zero (p ∷ ps) q fits apart e has =
+others_silent shape n k [] q proper_each apart e has = tt
+others_silent shape n zero (p ∷ ps) q proper_each apart e has =
     let same : q ≡ p = cc in
-    later_silent shape h p n ps fits.1 (recursion_from_All _ (map trace_of_player ps) apart.0) (joined_back p n (subst (λ (x : Player). list_any (is_join_of n) x.events ≡ true) same has))
-others_silent shape h n (suc k) (p ∷ ps) q fits apart e has = (
-  silent_from shape h p n fits.0 (λ y. (apart_at p k ps q (recursion_from_All _ (map trace_of_player ps) apart.0) e).sessions n y (joined_back q n has)),
-  others_silent shape h n k ps q fits.1 apart.1 e has,
+    later_silent shape p n ps proper_each.1 (recursion_from_All _ (map trace_of_player ps) apart.0) (joined_back p n (subst (λ (x : Player). list_any (is_join_of n) x.events ≡ true) same has))
+others_silent shape n (suc k) (p ∷ ps) q proper_each apart e has = (
+  silent_from shape p n proper_each.0 (λ y. (apart_at p k ps q (recursion_from_All _ (map trace_of_player ps) apart.0) e).sessions n y (joined_back q n has)),
+  others_silent shape n k ps q proper_each.1 apart.1 e has,
 )
+
+-- So they are in a sound run, whatever the server.
+all_proper : (server : Server) (shape : Shape) (h : List Entry) (Ls : List Trace) → AllByRecursion (FitsServer server shape h) Ls → AllByRecursion (Proper shape) Ls
+all_proper server shape h [] fits = tt
+all_proper server shape h (L ∷ Ls) fits = (fits.0.proper, all_proper server shape h Ls fits.1)
+
+pub sound_silent : (server : Server) (scenario : Scenario) (run : Run) (n k : ℕ) (q : Player) → IsSoundOver server scenario run → slice_get run.players k ≡ Some q →
+    list_any (is_join_of n) q.events ≡ true → OthersSilent n k run.players
+sound_silent server scenario run n k q sound at has =
+    others_silent scenario.world.shape n k run.players q
+    (all_proper server scenario.world.shape run.history (traces_of run) (recursion_from_All (FitsServer server scenario.world.shape run.history) (traces_of run) sound.fits))
+    sound.apart at has
 
 -- ---- Of all players together
 

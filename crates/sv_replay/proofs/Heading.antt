@@ -1,30 +1,34 @@
 -- Phases of many turns: what is left to do at each turn.
-use Rattle.std.proofs.Common.{◌≡◌, inl, inr, ℕ, zero, suc, ◌+◌, ◌-◌, ◌<◌, ◌≤◌, ◌≢◌, true, eqb, List, [], ◌∷◌, ◌++◌, map, drop, length, get_or, refl, sym, ap, ◌∙◌, arith, eqb-true, eq-eqb, add-one}
+use Rattle.std.proofs.Common.{◌≡◌, inl, inr, ℕ, zero, suc, ◌+◌, ◌-◌, ◌<◌, ◌≤◌, ◌≢◌, true, eqb, List, [], ◌∷◌, ◌++◌, map, drop, length, get_or, refl, sym, ap, subst, ◌∙◌, arith, eqb-true, eq-eqb, add-one}
 use Rattle.std.specs.Prelude.{All}
 use Rattle.std.proofs.lemmas.List.Elements.{All-cons}
 use Rattle.std.proofs.lemmas.Bool.{cases_Bool}
 use Rattle.std.proofs.lemmas.List.{drop-append-le, length-append, length-map}
 use Rattle.std.proofs.Math.Seq.{drop-append_seam}
 use Rattle.sv_world.specs.Control.{below}
-use Rattle.sv_journal.specs.Answer.{Rules}
 use Rattle.sv_scenario.specs.declared.scenario.Scenario.{Scenario}
 use Rattle.sv_scenario.specs.declared.scenario.Turn.TheVariants as turns
-use Rattle.sv_schedule.specs.Schedule.{Player, Run, session_turn, at_player, repeated, session_turns, sessions_turned, rules_of, turned, after_clients, after_sessions, after_takes, round}
-use Rattle.sv_replay.specs.declared.machine.Machine.{Machine}
+use Rattle.sv_scenario.specs.Sessions.{session_count}
+use Rattle.sv_schedule.specs.Players.{Player, at_player, repeated}
+use Rattle.sv_schedule.specs.Serving.{Run, Server, session_served, all_served, sessions_served, turn_served, after_clients, after_served, after_takes, round_served}
+use Rattle.sv_schedule.specs.Served.{KeepsSound}
+use Rattle.sv_schedule.specs.Done.{IsDone}
+use Rattle.sv_schedule.proofs.DoneStill.{round-still}
 use Rattle.sv_replay.specs.declared.playing.Playing.{Playing}
-use Rattle.sv_replay.specs.Machine.{player_of, run_of, IsMachine, Became, Heads, after_session, after_take}
+use Rattle.sv_replay.specs.Machine.{player_of, Stage, run_of, IsMachine, Became, Heads, after_session, after_take}
 use Rattle.sv_replay.proofs.Turns.{repeated-still, turned_from, turned-next, turned-all}
 use Rattle.sv_replay.proofs.Machines.{clients_are}
 use Rattle.sv_replay.proofs.Working.{serve_again, serve_still, take_again, take_still}
 
-pub heads_start : (m : Machine) (left : Run → Run) (goal : Run) → IsMachine m → left (run_of m) ≡ goal → Heads m m left goal
-heads_start m left goal is e = record { scenario = refl; machine = is; arrives = e }
+pub heads_start : (m : Stage) (left : Run → Run) (goal : Run) → IsMachine m → left (run_of m) ≡ goal → Heads m m left goal
+heads_start m left goal is e = record { scenario = refl; server = refl; machine = is; arrives = e }
 
-pub heads_next : (start now after : Machine) (left rest : Run → Run) (goal next : Run) → Heads start now left goal → Became now after next → rest next ≡ left (run_of now) → Heads start after rest goal
-heads_next start now after left rest goal next h b e = record { scenario = b.scenario ∙ h.scenario; machine = b.machine; arrives = ap rest b.run_is ∙ e ∙ h.arrives }
+pub heads_next : (start now after : Stage) (left rest : Run → Run) (goal next : Run) → Heads start now left goal → Became now after next → rest next ≡ left (run_of now) → Heads start after rest goal
+heads_next start now after left rest goal next h b e =
+    record { scenario = b.scenario ∙ h.scenario; server = b.server ∙ h.server; machine = b.machine; arrives = ap rest b.run_is ∙ e ∙ h.arrives }
 
-pub heads_end : (start now : Machine) (left : Run → Run) (goal : Run) → Heads start now left goal → left (run_of now) ≡ run_of now → Became start now goal
-heads_end start now left goal h e = record { scenario = h.scenario; machine = h.machine; run_is = sym e ∙ h.arrives }
+pub heads_end : (start now : Stage) (left : Run → Run) (goal : Run) → Heads start now left goal → left (run_of now) ≡ run_of now → Became start now goal
+heads_end start now left goal h e = record { scenario = h.scenario; server = h.server; machine = h.machine; run_is = sym e ∙ h.arrives }
 
 -- ---- Sessions in order
 
@@ -62,8 +66,8 @@ below_next (suc n) k l = elim (cases_Bool (eqb k n)) [
 -- ---- Phases
 
 -- How many players there are.
-pub players_are : (m : Machine) → IsMachine m → length (run_of m).players ≡ length m.scenario.now.clients
-players_are m is = length-map m.players.items player_of ∙ sym (clients_are m is)
+pub players_are : (m : Stage) → IsMachine m → length (run_of m).players ≡ length m.scenario.clients
+players_are m is = length-map m.players player_of ∙ sym (clients_are m is)
 
 pub clients_next : (f : Player → Player) (run : Run) (k : ℕ) → record run { players = turned_from (k + 1) f (at_player run.players k f) } ≡ record run { players = turned_from k f run.players }
 clients_next f run k =
@@ -73,7 +77,7 @@ clients_next f run k =
 pub clients_all : (f : Player → Player) (run : Run) (k : ℕ) → length run.players ≤ k → record run { players = turned_from k f run.players } ≡ run
 clients_all f run k l = ap (λ (ps : List Player). record run { players = ps }) (turned-all f run.players k l)
 
-pub same_clients : (start now : Machine) (left : Run → Run) (goal : Run) → Heads start now left goal → length now.scenario.now.clients ≡ length start.scenario.now.clients
+pub same_clients : (start now : Stage) (left : Run → Run) (goal : Run) → Heads start now left goal → length now.scenario.clients ≡ length start.scenario.clients
 same_clients start now left goal h = ap (λ (x : Scenario). length x.clients) h.scenario
 
 one_fewer : (n i : ℕ) → i < n → suc (n - (i + 1)) ≡ n - i
@@ -84,62 +88,77 @@ none_left n i l = omega arith
 
 -- ---- All turns of a session, and all takes of a client
 
-pub served_next : (start now after : Machine) (s : ℕ) (goal : Run) → Heads start now (after_session (rules_of start.scenario.now) s) goal →
-    Became now after (turned (rules_of now.scenario.now) (run_of now) (turns.Session s)) → Heads start after (after_session (rules_of start.scenario.now) s) goal
+pub served_next : (start now after : Stage) (s : ℕ) (goal : Run) → Heads start now (after_session start.serves.server s) goal →
+    Became now after (turn_served now.serves.server (run_of now) (turns.Session s)) → Heads start after (after_session start.serves.server s) goal
 served_next start now after s goal h b =
-    let r = rules_of start.scenario.now in
+    let server = start.serves.server in
     let run = run_of now in
-    heads_next start now after (after_session r s) (after_session r s) goal _ h b
-    (ap (λ (x : Scenario). after_session r s (record run { history = session_turn (rules_of x) run.players run.history s })) h.scenario ∙ serve_again r s run)
+    heads_next start now after (after_session server s) (after_session server s) goal _ h b
+    (ap (λ (x : Server). after_session server s (record run { history = session_served x run.players run.history s })) h.server
+    ∙ serve_again server (subst KeepsSound h.server h.machine.playable.keeps) s run)
 
-pub served_end : (start now after : Machine) (s : ℕ) (goal : Run) → Heads start now (after_session (rules_of start.scenario.now) s) goal →
-    Became now after (turned (rules_of now.scenario.now) (run_of now) (turns.Session s)) → run_of after ≡ run_of now → Became start after goal
+pub served_end : (start now after : Stage) (s : ℕ) (goal : Run) → Heads start now (after_session start.serves.server s) goal →
+    Became now after (turn_served now.serves.server (run_of now) (turns.Session s)) → run_of after ≡ run_of now → Became start after goal
 served_end start now after s goal h b still =
-    let r = rules_of start.scenario.now in
+    let server = start.serves.server in
     let run = run_of now in
-    let same : record run { history = session_turn r run.players run.history s } ≡ run =
-    ap (λ (x : Scenario). record run { history = session_turn (rules_of x) run.players run.history s }) (sym h.scenario) ∙ sym b.run_is ∙ still in
-    heads_end start after (after_session r s) goal (served_next start now after s goal h b) (ap (after_session r s) still ∙ serve_still r s run same ∙ sym still)
+    let same : record run { history = session_served server run.players run.history s } ≡ run =
+    ap (λ (x : Server). record run { history = session_served x run.players run.history s }) (sym h.server) ∙ sym b.run_is ∙ still in
+    heads_end start after (after_session server s) goal (served_next start now after s goal h b) (ap (after_session server s) still ∙ serve_still server s run same ∙ sym still)
 
-pub taken_next : (start now after : Machine) (k : ℕ) (goal : Run) → Heads start now (after_take k) goal →
-    Became now after (turned (rules_of now.scenario.now) (run_of now) (turns.Take k)) → Heads start after (after_take k) goal
+pub taken_next : (start now after : Stage) (k : ℕ) (goal : Run) → Heads start now (after_take k) goal →
+    Became now after (turn_served now.serves.server (run_of now) (turns.Take k)) → Heads start after (after_take k) goal
 taken_next start now after k goal h b = heads_next start now after (after_take k) (after_take k) goal _ h b (take_again k (run_of now))
 
-pub taken_end : (start now after : Machine) (k : ℕ) (goal : Run) → Heads start now (after_take k) goal →
-    Became now after (turned (rules_of now.scenario.now) (run_of now) (turns.Take k)) → run_of after ≡ run_of now → Became start after goal
+pub taken_end : (start now after : Stage) (k : ℕ) (goal : Run) → Heads start now (after_take k) goal →
+    Became now after (turn_served now.serves.server (run_of now) (turns.Take k)) → run_of after ≡ run_of now → Became start after goal
 taken_end start now after k goal h b still =
     heads_end start after (after_take k) goal (taken_next start now after k goal h b)
     (ap (after_take k) still ∙ take_still k (run_of now) (sym b.run_is ∙ still) ∙ sym still)
 
 -- ---- Sessions one after the other
 
-pub sessions_next : (r : Rules) (run : Run) (n k : ℕ) → k < n →
-    record run { history = sessions_turned r run.players (session_turns r run.players run.history k) (drop (k + 1) (below n)) } ≡ record run { history = sessions_turned r run.players run.history (drop k (below n)) }
-sessions_next r run n k l =
-    ap (λ (i : ℕ). record run { history = sessions_turned r run.players (session_turns r run.players run.history k) (drop i (below n)) }) (add-one k)
-    ∙ ap (λ (ss : List ℕ). record run { history = sessions_turned r run.players run.history ss }) (sym (below_next n k l))
+pub sessions_next : (server : Server) (run : Run) (n k : ℕ) → k < n →
+    record run { history = sessions_served server run.players (all_served server run.players run.history k) (drop (k + 1) (below n)) } ≡ record run { history = sessions_served server run.players run.history (drop k (below n)) }
+sessions_next server run n k l =
+    ap (λ (i : ℕ). record run { history = sessions_served server run.players (all_served server run.players run.history k) (drop i (below n)) }) (add-one k)
+    ∙ ap (λ (ss : List ℕ). record run { history = sessions_served server run.players run.history ss }) (sym (below_next n k l))
 
-pub sessions_end : (r : Rules) (run : Run) (n k : ℕ) → n ≤ k → record run { history = sessions_turned r run.players run.history (drop k (below n)) } ≡ run
-sessions_end r run n k l = ap (λ (ss : List ℕ). record run { history = sessions_turned r run.players run.history ss }) (below_all n k l)
+pub sessions_end : (server : Server) (run : Run) (n k : ℕ) → n ≤ k → record run { history = sessions_served server run.players run.history (drop k (below n)) } ≡ run
+sessions_end server run n k l = ap (λ (ss : List ℕ). record run { history = sessions_served server run.players run.history ss }) (below_all n k l)
 
 -- ---- Rounds
 
-pub round_became : (m a b w : Machine) → Became m a (after_clients (run_of m)) → Became a b (after_sessions (rules_of a.scenario.now) (run_of a)) → Became b w (after_takes (run_of b)) →
-    Became m w (round (rules_of m.scenario.now) (run_of m))
+pub round_became : (m a b w : Stage) → Became m a (after_clients (run_of m)) → Became a b (after_served a.serves.server (session_count a.scenario) (run_of a)) → Became b w (after_takes (run_of b)) →
+    Became m w (round_served m.serves.server (session_count m.scenario) (run_of m))
 round_became m a b w x y z = record {
   scenario = z.scenario ∙ y.scenario ∙ x.scenario;
+  server = z.server ∙ y.server ∙ x.server;
   machine = z.machine;
-  run_is = z.run_is ∙ ap after_takes (y.run_is ∙ ap (λ (s : Scenario). after_sessions (rules_of s) (run_of a)) x.scenario ∙ ap (after_sessions (rules_of m.scenario.now)) x.run_is);
+  run_is = z.run_is ∙ ap after_takes (y.run_is ∙ ap (λ (s : Server). after_served s (session_count a.scenario) (run_of a)) x.server
+      ∙ ap (λ (s : Scenario). after_served m.serves.server (session_count s) (run_of a)) x.scenario ∙ ap (after_served m.serves.server (session_count m.scenario)) x.run_is);
 }
 
-pub rounds_next : (r : Rules) (run : Run) (n i : ℕ) → i < n → repeated (n - (i + 1)) (round r) (round r run) ≡ repeated (n - i) (round r) run
-rounds_next r run n i l = ap (λ (k : ℕ). repeated k (round r) run) (one_fewer n i l)
+module _ (server : Server) (sessions : ℕ) (run : Run) (n : ℕ) where
+  pub rounds_next : (i : ℕ) → i < n → repeated (n - (i + 1)) (round_served server sessions) (round_served server sessions run) ≡ repeated (n - i) (round_served server sessions) run
+  rounds_next i l = ap (λ (k : ℕ). repeated k (round_served server sessions) run) (one_fewer n i l)
 
-pub rounds_end : (r : Rules) (run : Run) (n i : ℕ) → n ≤ i → repeated (n - i) (round r) run ≡ run
-rounds_end r run n i l = ap (λ (k : ℕ). repeated k (round r) run) (none_left n i l)
+  pub rounds_end : (i : ℕ) → n ≤ i → repeated (n - i) (round_served server sessions) run ≡ run
+  rounds_end i l = ap (λ (k : ℕ). repeated k (round_served server sessions) run) (none_left n i l)
 
-pub rounds_start : (r : Rules) (run : Run) (n : ℕ) → repeated (n - 0) (round r) run ≡ repeated n (round r) run
-rounds_start r run n = let all : n - 0 ≡ n = omega arith in ap (λ (k : ℕ). repeated k (round r) run) all
+  pub rounds_start : repeated (n - 0) (round_served server sessions) run ≡ repeated n (round_served server sessions) run
+  rounds_start = let all : n - 0 ≡ n = omega arith in ap (λ (k : ℕ). repeated k (round_served server sessions) run) all
+
+-- After one more round it is still on its way.
+pub rounds_more : (start now after : Stage) (n i : ℕ) (goal : Run) → i < n → Heads start now (λ (run : Run). repeated (n - i) (round_served start.serves.server (session_count start.scenario)) run) goal →
+    Became now after (round_served now.serves.server (session_count now.scenario) (run_of now)) →
+    Heads start after (λ (run : Run). repeated (n - (i + 1)) (round_served start.serves.server (session_count start.scenario)) run) goal
+rounds_more start now after n i goal l h b =
+    let f = round_served start.serves.server (session_count start.scenario) in
+    heads_next start now after (λ (run : Run). repeated (n - i) f run) (λ (run : Run). repeated (n - (i + 1)) f run) goal _ h b
+    (ap (λ (x : Server). repeated (n - (i + 1)) f (round_served x (session_count now.scenario) (run_of now))) h.server
+    ∙ ap (λ (x : Scenario). repeated (n - (i + 1)) f (round_served start.serves.server (session_count x) (run_of now))) h.scenario
+    ∙ rounds_next start.serves.server (session_count start.scenario) (run_of now) n i l)
 
 -- ---- The end
 
@@ -148,8 +167,9 @@ all_closed [] h = λ k d l. absurd (omega arith)
 all_closed (p ∷ ps) h = All-cons (λ (q : Player). q.closed ≡ true) (player_of p) (map player_of ps) (h 0 p (omega arith)) (all_closed ps (λ k d l. h (suc k) d (omega arith)))
 
 -- Once all is done, rounds change nothing.
-pub done_became : (start now : Machine) (r : Rules) (n : ℕ) (goal : Run) → Heads start now (λ (run : Run). repeated n (round r) run) goal → r ≡ rules_of start.scenario.now →
-    round (rules_of now.scenario.now) (run_of now) ≡ run_of now → Became start now goal
-done_became start now r n goal h same still =
-    heads_end start now (λ (run : Run). repeated n (round r) run) goal h
-    (repeated-still n (round r) (run_of now) (ap (λ (x : Rules). round x (run_of now)) (same ∙ ap rules_of (sym h.scenario)) ∙ still))
+pub done_became : (start now : Stage) (n : ℕ) (goal : Run) → Heads start now (λ (run : Run). repeated n (round_served start.serves.server (session_count start.scenario)) run) goal →
+    IsDone now.scenario (run_of now) → Became start now goal
+done_became start now n goal h done =
+    let f = round_served start.serves.server (session_count start.scenario) in
+    heads_end start now (λ (run : Run). repeated n f run) goal h
+    (repeated-still n f (run_of now) (round-still start.serves.server start.scenario (run_of now) (subst (λ (x : Scenario). IsDone x (run_of now)) h.scenario done)))

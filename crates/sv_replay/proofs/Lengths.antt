@@ -2,9 +2,10 @@
 use Rattle.std.proofs.Common.{◌≡◌, ℕ, zero, suc, ◌+◌, ◌*◌, ◌<◌, ◌≤◌, Bool, true, false, ◌&&◌, ◌||◌, ◌==◌, not, inl, inr, List, [], ◌∷◌, ◌++◌, length, Option, Some, None, slice_get, refl, sym, ap, ◌∙◌, arith, eqb-true, eq-eqb, append-nil, true≢false}
 use Rattle.std.specs.Prelude.{if◌then◌else◌}
 use Rattle.std.specs.List.{list_any, AllByRecursion}
-use Rattle.std.proofs.lemmas.Bool.{cases_Bool, cases_eq, cond-true, cond-false, or_cases}
+use Rattle.std.proofs.lemmas.Bool.{cases_Bool, cases_eq, cond_both, cond-true, cond-false, or_cases}
 use Rattle.std.proofs.lemmas.List.{length-append}
 use Rattle.std.proofs.lemmas.List.Elements.{recursion_from_All}
+use Rattle.std.proofs.lemmas.Option.{slice_get_within}
 use Rattle.sv_wire.specs.declared.message.Request.{Request}
 use Rattle.sv_journal.specs.declared.entry.Entry.{Entry}
 use Rattle.sv_journal.specs.Sessions.{is_end}
@@ -19,9 +20,11 @@ use Rattle.sv_scenario.specs.Limits.{IsGoodScenario}
 use Rattle.sv_scenario.specs.Sessions.{session_count}
 use Rattle.sv_script.specs.Following.{FollowsTo}
 use Rattle.sv_system.specs.Fits.{requests_in, is_ended, IsEndLast}
-use Rattle.sv_system.proofs.Entered.{front-length}
-use Rattle.sv_schedule.specs.Schedule.{Player, Run}
-use Rattle.sv_schedule.specs.Sound.{IsSound, has_joined}
+use Rattle.sv_system.proofs.Entered.{is_of}
+use Rattle.sv_schedule.specs.Players.{Player}
+use Rattle.sv_schedule.specs.Serving.{Run, Server}
+use Rattle.sv_schedule.specs.Sound.{has_joined}
+use Rattle.sv_schedule.specs.Served.{AreHeard, IsSoundOver}
 use Rattle.sv_schedule.proofs.DoneCounts.{asked-few}
 use Rattle.sv_schedule.proofs.SoundCalls.{IsPlayer, player-at}
 use Rattle.sv_replay.specs.Players.{asked_by_player}
@@ -144,8 +147,16 @@ asked_most who first script (e ∷ t) left s few p f =
           let same = ap (λ (rs : List Request). length rs) none in omega (arith, before, same))
     ]
 
-player_asks : (scenario : Scenario) (run : Run) (p : Player) (s : ℕ) → IsPlayer scenario.world.shape (session_count scenario) run.history p → length (asked_by_player p s) ≤ 530
-player_asks scenario run p s a = asked_most p.who p.first a.plan.steps p.events a.playing.before s a.good.few_steps a.fitting.proper a.playing.follows
+player_asks : (server : Server) (scenario : Scenario) (run : Run) (p : Player) (s : ℕ) → IsPlayer server scenario.world.shape (session_count scenario) run.history p → length (asked_by_player p s) ≤ 530
+player_asks server scenario run p s a = asked_most p.who p.first a.plan.steps p.events a.playing.before s a.good.few_steps a.fitting.proper a.playing.follows
+
+-- The journal has no more requests of a session than are asked in it.
+heard_few : (server : Server) (h : List Entry) (s : ℕ) (qs : List Request) → AreHeard server h s qs → length (requests_in h s) ≤ length qs
+heard_few server [] s qs a = omega arith
+heard_few server (e ∷ h) s qs a =
+    cond_both (is_of e s) (requests_in h s ++ e.request ∷ []) (requests_in h s) (λ (rs : List Request). length rs ≤ length qs)
+    (λ t. let one = a.0 t in omega (arith, slice_get_within qs (length (requests_in h s)) one.request one.next, length-append (requests_in h s) (e.request ∷ [])))
+    (λ _. heard_few server h s qs a.1)
 
 -- ---- The journal
 
@@ -166,20 +177,20 @@ none_of begun (e ∷ h) s all f =
       | inr n ↦ cond-false (e.session == s) (suc (entries_of h s)) (entries_of h s) n ∙ none_of begun h s all.1 f
     ]
 
-session_few : (scenario : Scenario) (run : Run) → IsGoodScenario scenario → IsSound scenario run → (s : ℕ) → entries_of run.history s ≤ 531
-session_few scenario run good sound s =
+session_few : (server : Server) (scenario : Scenario) (run : Run) → IsGoodScenario scenario → IsSoundOver server scenario run → (s : ℕ) → entries_of run.history s ≤ 531
+session_few server scenario run good sound s =
     elim (cases_Bool (list_any (λ (p : Player). has_joined p s) run.players)) [
       | inr n ↦ omega (arith, none_of (λ (i : ℕ). list_any (λ (p : Player). has_joined p i) run.players) run.history s (recursion_from_All _ run.history sound.begun) n)
       | inl y ↦
           (let o = owner_of run.players s y in
-          let a = player-at scenario run good sound o.0 o.1.0 o.1.1.0 in
+          let a = player-at server scenario run good sound o.0 o.1.0 o.1.1.0 in
           let f = a.fitting.sessions s o.1.1.1 in
-          omega (arith, end_once run.history s f.ended, front-length (requests_in run.history s) (asked_by_player o.1.0 s) f.asked, player_asks scenario run o.1.0 s a))
+          omega (arith, end_once run.history s f.ended, heard_few server run.history s (asked_by_player o.1.0 s) f.heard, player_asks server scenario run o.1.0 s a))
     ]
 
--- A sound run has at most 33,984 entries.
-pub history_few : (scenario : Scenario) (run : Run) → IsGoodScenario scenario → IsSound scenario run → length run.history ≤ 33984
-history_few scenario run good sound =
+-- A sound run has at most 33,984 entries, whatever the server.
+pub history_few : (server : Server) (scenario : Scenario) (run : Run) → IsGoodScenario scenario → IsSoundOver server scenario run → length run.history ≤ 33984
+history_few server scenario run good sound =
     let all = all_below (session_count scenario) run.history (recursion_from_All (λ (e : Entry). e.session < session_count scenario) run.history sound.sessions) in
-    let few = few_below (session_count scenario) run.history (session_few scenario run good sound) in
+    let few = few_below (session_count scenario) run.history (session_few server scenario run good sound) in
     omega (arith, all, few, good.sessions)

@@ -9,7 +9,6 @@ use Rattle.sv_wire.specs.declared.message.Reply.{Reply}
 use Rattle.sv_world.specs.declared.world.Shape.{Shape}
 use Rattle.sv_journal.specs.declared.entry.Entry.{Entry}
 use Rattle.sv_journal.specs.History.{accepted}
-use Rattle.sv_journal.specs.Answer.{Rules}
 use Rattle.sv_client.specs.Traces.{joins, current_session, got}
 use Rattle.sv_scenario.specs.declared.scenario.Plan.{Plan}
 use Rattle.sv_scenario.specs.declared.scenario.Scenario.{Scenario}
@@ -17,22 +16,23 @@ use Rattle.sv_scenario.specs.declared.scenario.Turn.{Turn}
 use Rattle.sv_scenario.specs.declared.scenario.Turn.TheVariants as turns
 use Rattle.sv_scenario.specs.Limits.{IsGoodScenario, IsGoodTurn}
 use Rattle.sv_scenario.specs.Sessions.{sessions_of_plan, session_count}
-use Rattle.sv_asked.specs.Numbers.{ScenarioFits}
 use Rattle.sv_script.specs.Following.{must_join}
-use Rattle.sv_sequencer.specs.Step.{SequencerView, history}
 use Rattle.sv_system.specs.Fits.{replies_in}
 use Rattle.sv_system.proofs.Asked.{current-joined}
-use Rattle.sv_schedule.specs.Schedule.{Player, Run, rules_of, at_player, player_turn, open_session, takes, take_in, take_turn, session_turn, turned}
-use Rattle.sv_schedule.specs.Sound.{ArePlaying, IsSound}
+use Rattle.sv_schedule.specs.Players.{Player, at_player, player_turn, open_session, takes, take_in, take_turn}
+use Rattle.sv_schedule.specs.Serving.{Run, Server, session_served, turn_served}
+use Rattle.sv_schedule.specs.Schedule.{rules_of}
+use Rattle.sv_schedule.specs.Sound.{ArePlaying}
+use Rattle.sv_schedule.specs.Served.{AreNamed, IsSoundOver}
 use Rattle.sv_schedule.proofs.SoundLaws.{turns-sound}
 use Rattle.sv_schedule.proofs.SoundCalls.{IsPlayer, player-at, session-next, session-last, turn-player}
-use Rattle.sv_replay.specs.declared.machine.Machine.{Machine}
 use Rattle.sv_replay.specs.declared.playing.Playing.{Playing}
 use Rattle.sv_exchange.specs.View.{ExchangeView, new_exchange}
 use Rattle.sv_replay.specs.Players.{session_of, IsFit, IsChannel, taken_from}
-use Rattle.sv_replay.specs.Serving.{Served, next_history, next_channel}
-use Rattle.sv_replay.specs.Machine.{player_of, AreFlags, Moved, run_of, IsMachine, Became}
-use Rattle.sv_replay.proofs.Apart.{OthersSilent, others_silent, got_by_one}
+use Rattle.sv_replay.specs.Serving.{ServerView, Served, next_history, next_channel}
+use Rattle.sv_replay.specs.Playable.{IsPlayable}
+use Rattle.sv_replay.specs.Machine.{player_of, AreFlags, Moved, Stage, run_of, IsMachine, Became}
+use Rattle.sv_replay.proofs.Apart.{OthersSilent, sound_silent, got_by_one}
 use Rattle.sv_replay.proofs.Doing.{session_current}
 use Rattle.sv_replay.proofs.Moving.{take_shut, take_between, take_linked}
 use Rattle.sv_replay.proofs.Channels.{other_stays, own_moves}
@@ -42,23 +42,23 @@ use Rattle.sv_replay.proofs.Answering.{run_at, session_turn_is, own_served, othe
 
 -- ---- Players of sound runs
 
-player_fit : (shape : Shape) (n : ℕ) (h : List Entry) (p : Player) → IsPlayer shape n h p → IsFit n p
-player_fit shape n h p a = record {
+player_fit : (server : Server) (shape : Shape) (n : ℕ) (h : List Entry) (p : Player) → IsPlayer server shape n h p → IsFit n p
+player_fit server shape n h p a = record {
   proper = a.fitting.proper;
-  begun = λ m. (session-last shape n h p a m).0;
+  begun = λ m. (session-last server shape n h p a m).0;
   known = elim (cases_Bool (must_join p.events)) [
-    | inl y ↦ (let at : session_of p ≡ p.first + joins p.events = place_between p y in omega (arith, session-next shape n h p a y))
+    | inl y ↦ (let at : session_of p ≡ p.first + joins p.events = place_between p y in omega (arith, session-next server shape n h p a y))
     | inr f ↦ (let at : session_of p ≡ (p.first + joins p.events) - 1 = place_within p f in
-        let last : (1 ≤ joins p.events) × (p.first + joins p.events ≤ n) = session-last shape n h p a f in omega (arith, last.0, last.1))
+        let last : (1 ≤ joins p.events) × (p.first + joins p.events ≤ n) = session-last server shape n h p a f in omega (arith, last.0, last.1))
   ];
 }
 
-pub fit_at : (scenario : Scenario) (run : Run) → IsGoodScenario scenario → IsSound scenario run → (k : ℕ) (p : Player) → slice_get run.players k ≡ Some p → IsFit (session_count scenario) p
-fit_at scenario run good sound k p at = player_fit scenario.world.shape (session_count scenario) run.history p (player-at scenario run good sound k p at)
+pub fit_at : (server : Server) (scenario : Scenario) (run : Run) → IsGoodScenario scenario → IsSoundOver server scenario run → (k : ℕ) (p : Player) → slice_get run.players k ≡ Some p → IsFit (session_count scenario) p
+fit_at server scenario run good sound k p at = player_fit server scenario.world.shape (session_count scenario) run.history p (player-at server scenario run good sound k p at)
 
-pub fit_after : (scenario : Scenario) (run : Run) → IsGoodScenario scenario → IsSound scenario run → (k : ℕ) (p : Player) → slice_get run.players k ≡ Some p → IsFit (session_count scenario) (player_turn p)
-fit_after scenario run good sound k p at =
-    player_fit scenario.world.shape (session_count scenario) run.history (player_turn p) (turn-player scenario.world.shape (session_count scenario) run.history p (player-at scenario run good sound k p at))
+pub fit_after : (server : Server) (scenario : Scenario) (run : Run) → IsGoodScenario scenario → IsSoundOver server scenario run → (k : ℕ) (p : Player) → slice_get run.players k ≡ Some p → IsFit (session_count scenario) (player_turn p)
+fit_after server scenario run good sound k p at =
+    player_fit server scenario.world.shape (session_count scenario) run.history (player_turn p) (turn-player server scenario.world.shape (session_count scenario) run.history p (player-at server scenario run good sound k p at))
 
 same_count : (shape : Shape) (k s : ℕ) (plans : List Plan) (ps : List Player) → ArePlaying shape k s plans ps → length plans ≡ length ps
 same_count shape k s [] [] a = refl
@@ -67,8 +67,8 @@ same_count shape k s (plan ∷ plans) [] a = absurd a
 same_count shape k s (plan ∷ plans) (p ∷ ps) a = ap suc (same_count shape (suc k) (s + sessions_of_plan plan) plans ps a.1)
 
 -- There is a client for each plan.
-pub clients_are : (m : Machine) → IsMachine m → length m.scenario.now.clients ≡ length m.players.items
-clients_are m is = same_count m.scenario.now.world.shape 0 0 m.scenario.now.clients (run_of m).players is.sound.players ∙ length-map m.players.items player_of
+pub clients_are : (m : Stage) → IsMachine m → length m.scenario.clients ≡ length m.players
+clients_are m is = same_count m.scenario.world.shape 0 0 m.scenario.clients (run_of m).players is.sound.players ∙ length-map m.players player_of
 
 -- ---- Lists
 
@@ -117,79 +117,93 @@ silent_unset n k [] q h = tt
 silent_unset n zero (p ∷ ps) q h = h
 silent_unset n (suc k) (p ∷ ps) q h = (h.0, silent_unset n k ps q h.1)
 
-pub flags_at : (m : Machine) → IsMachine m → (k : ℕ) (p : Playing) → slice_get m.players.items k ≡ Some p → AreFlags p
-flags_at m is k p at = all_at AreFlags m.players.items k p (recursion_from_All AreFlags m.players.items is.flags) at
+pub flags_at : (m : Stage) → IsMachine m → (k : ℕ) (p : Playing) → slice_get m.players k ≡ Some p → AreFlags p
+flags_at m is k p at = all_at AreFlags m.players k p (recursion_from_All AreFlags m.players is.flags) at
+
+-- ---- The same scenario and server
+
+playable_after : (m w : Stage) → m.serves.server ≡ w.serves.server → m.scenario ≡ w.scenario → IsPlayable m.scenario m.serves.server → IsPlayable w.scenario w.serves.server
+playable_after m w server scenario may =
+    subst (λ (x : Scenario). IsPlayable x w.serves.server) scenario (subst (IsPlayable m.scenario) server may)
+
+sound_after : (m w : Stage) (run : Run) → m.serves.server ≡ w.serves.server → m.scenario ≡ w.scenario → run_of w ≡ run → IsSoundOver m.serves.server m.scenario run →
+    IsSoundOver w.serves.server w.scenario (run_of w)
+sound_after m w run server scenario is sound =
+    subst (λ (x : Scenario). IsSoundOver w.serves.server x (run_of w)) scenario
+    (subst (λ (x : Server). IsSoundOver x m.scenario (run_of w)) server (subst (IsSoundOver m.serves.server m.scenario) (sym is) sound))
 
 -- ---- A client's turn, of either kind
 
-module _ (m w : Machine) (k : ℕ) (p q : Playing) (d : ExchangeView) (is : IsMachine m) (at : slice_get m.players.items k ≡ Some p) where
+module _ (m w : Stage) (k : ℕ) (p q : Playing) (d : ExchangeView) (is : IsMachine m) (at : slice_get m.players k ≡ Some p) where
   abbrev n : ℕ
   n = session_of (player_of p)
 
   abbrev c : ExchangeView
-  c = get_or m.channels.items n new_exchange
+  c = get_or m.channels n new_exchange
 
   abbrev after : List Player
   after = set (run_of m).players k (player_of q)
 
   place : slice_get (run_of m).players k ≡ Some (player_of p)
-  place = get_map player_of m.players.items k p at
+  place = get_map player_of m.players k p at
 
-  known : n < session_count m.scenario.now
-  known = (fit_at m.scenario.now (run_of m) is.good is.sound k (player_of p) place).known
+  known : n < session_count m.scenario
+  known = (fit_at m.serves.server m.scenario (run_of m) is.good is.sound k (player_of p) place).known
 
   abbrev moved_run : Run
   moved_run = record { history = (run_of m).history; players = after }
 
-  quiet : IsSound m.scenario.now moved_run → (moves : Moved (player_of q) p q c d) → OthersSilent n k (run_of m).players ⊎ ((moves.sent ≡ []) × (moves.taken ≡ []))
+  quiet : IsSoundOver m.serves.server m.scenario moved_run → (moves : Moved (player_of q) p q c d) → OthersSilent n k (run_of m).players ⊎ ((moves.sent ≡ []) × (moves.taken ≡ []))
   quiet sound moves = elim moves.moves.begun [
     | inr none ↦ inr none
     | inl begun ↦ inl (silent_unset n k (run_of m).players (player_of q)
-        (others_silent m.scenario.now.world.shape (run_of m).history n k after (player_of q) (recursion_from_All _ _ sound.fits.each) sound.fits.apart
-        (get_set (run_of m).players k (player_of p) (player_of q) place) begun))
+        (sound_silent m.serves.server m.scenario moved_run n k (player_of q) sound (get_set (run_of m).players k (player_of p) (player_of q) place) begun))
   ]
 
-  channel_at : IsSound m.scenario.now moved_run → (moves : Moved (player_of q) p q c d) → (s : ℕ) → s < session_count m.scenario.now →
-      IsChannel moved_run s (get_or (set m.channels.items n d) s new_exchange)
+  channel_at : IsSoundOver m.serves.server m.scenario moved_run → (moves : Moved (player_of q) p q c d) → (s : ℕ) → s < session_count m.scenario →
+      IsChannel moved_run s (get_or (set m.channels n d) s new_exchange)
   channel_at sound moves s l = elim (cases_Bool (n == s)) [
     | inl y ↦ (let same : n ≡ s = eqb-true n s y in
-        subst (λ (i : ℕ). IsChannel moved_run i (get_or (set m.channels.items n d) i new_exchange)) same
-        (subst (λ (x : ExchangeView). IsChannel moved_run n x) (sym (get_or-set_same m.channels.items n d new_exchange (omega (arith, is.count, known))))
+        subst (λ (i : ℕ). IsChannel moved_run i (get_or (set m.channels n d) i new_exchange)) same
+        (subst (λ (x : ExchangeView). IsChannel moved_run n x) (sym (get_or-set_same m.channels n d new_exchange (omega (arith, is.count, known))))
         (own_moves (run_of m).history (run_of m).players k n (player_of p) (player_of q) moves.sent moves.taken moves.closing place moves.moves (quiet sound moves) c d
         (is.channels n known) moves.requests moves.replies moves.closed moves.stopped)))
     | inr f ↦ (let other : s ≢ n = λ e. (let t : (n == s) ≡ true = eq-eqb n s (sym e) in cc) in
-        subst (λ (x : ExchangeView). IsChannel moved_run s x) (sym (get_or-set_other m.channels.items n s d new_exchange other))
+        subst (λ (x : ExchangeView). IsChannel moved_run s x) (sym (get_or-set_other m.channels n s d new_exchange other))
         (other_stays (run_of m).history (run_of m).players k n (player_of p) (player_of q) moves.sent moves.taken moves.closing place moves.moves (quiet sound moves) s
-        (get_or m.channels.items s new_exchange) f (is.channels s l)))
+        (get_or m.channels s new_exchange) f (is.channels s l)))
   ]
 
   -- The machine after it is in step with the run after it.
   pub moved_became : (f : Player → Player) (turn : Turn) → Moved (f (player_of p)) p q c d →
-      turned (rules_of m.scenario.now) (run_of m) turn ≡ record { history = (run_of m).history; players = at_player (run_of m).players k f } →
-      IsGoodTurn (length m.scenario.now.clients) (session_count m.scenario.now) turn →
-      w.scenario.now ≡ m.scenario.now → w.sequencer ≡ m.sequencer → w.players.items ≡ set m.players.items k q → w.channels.items ≡ set m.channels.items n d →
-      Became m w (turned (rules_of m.scenario.now) (run_of m) turn)
-  moved_became f turn did turns good scenario sequencer players channels =
+      turn_served m.serves.server (run_of m) turn ≡ record { history = (run_of m).history; players = at_player (run_of m).players k f } →
+      IsGoodTurn (length m.scenario.clients) (session_count m.scenario) turn →
+      w.scenario ≡ m.scenario → w.serves ≡ m.serves → w.players ≡ set m.players k q → w.channels ≡ set m.channels n d →
+      Became m w (turn_served m.serves.server (run_of m) turn)
+  moved_became f turn did turns good scenario serves players channels =
       let moves : Moved (player_of q) p q c d = subst (λ (x : Player). Moved x p q c d) (sym did.player) did in
-      let next : turned (rules_of m.scenario.now) (run_of m) turn ≡ moved_run =
+      let next : turn_served m.serves.server (run_of m) turn ≡ moved_run =
       turns ∙ ap (λ (ps : List Player). record { history = (run_of m).history; players = ps })
       (place-is f (run_of m).players k (player_of p) place ∙ ap (λ (x : Player). set (run_of m).players k x) (sym did.player)) in
-      let sound : IsSound m.scenario.now moved_run = subst (IsSound m.scenario.now) next (turns-sound m.scenario.now (run_of m) turn is.good good is.sound) in
+      let sound : IsSoundOver m.serves.server m.scenario moved_run =
+      subst (IsSoundOver m.serves.server m.scenario) next (turns-sound m.serves.server is.playable.keeps m.scenario is.good (run_of m) turn good is.sound) in
       let new : run_of w ≡ moved_run =
-      ap (λ (v : SequencerView). run_at (history v) (map player_of w.players.items)) sequencer
+      ap (λ (v : ServerView). run_at v.history (map player_of w.players)) serves
       ∙ ap (λ (xs : List Playing). run_at (run_of m).history (map player_of xs)) players
-      ∙ ap (λ (ps : List Player). run_at (run_of m).history ps) (map_set player_of m.players.items k q) in
+      ∙ ap (λ (ps : List Player). run_at (run_of m).history ps) (map_set player_of m.players k q) in
+      let same : m.serves.server ≡ w.serves.server = sym (ap (λ (v : ServerView). v.server) serves) in
       record {
         scenario = scenario;
+        server = sym same;
         machine = record {
           good = subst IsGoodScenario (sym scenario) is.good;
-          numbers = subst ScenarioFits (sym scenario) is.numbers;
-          rules = ap (λ (v : SequencerView). v.rules) sequencer ∙ is.rules ∙ ap rules_of (sym scenario);
-          sound = subst (λ (x : Scenario). IsSound x (run_of w)) (sym scenario) (subst (IsSound m.scenario.now) (sym new) sound);
+          playable = playable_after m w same (sym scenario) is.playable;
+          rules = ap (λ (v : ServerView). v.rules) serves ∙ is.rules ∙ ap rules_of (sym scenario);
+          sound = sound_after m w moved_run same (sym scenario) new sound;
           flags = subst (All AreFlags) (sym players)
-              (All-from_recursion AreFlags _ (all_set AreFlags m.players.items k q did.flags (recursion_from_All AreFlags m.players.items is.flags)));
-          count = ap length channels ∙ length-set m.channels.items n d ∙ is.count ∙ ap session_count (sym scenario);
-          channels = λ s l. subst (λ (x : Run). IsChannel x s (get_or w.channels.items s new_exchange)) (sym new)
+              (All-from_recursion AreFlags _ (all_set AreFlags m.players k q did.flags (recursion_from_All AreFlags m.players is.flags)));
+          count = ap length channels ∙ length-set m.channels n d ∙ is.count ∙ ap session_count (sym scenario);
+          channels = λ s l. subst (λ (x : Run). IsChannel x s (get_or w.channels s new_exchange)) (sym new)
               (subst (λ (xs : List ExchangeView). IsChannel moved_run s (get_or xs s new_exchange)) (sym channels) (channel_at sound moves s (subst (λ (x : Scenario). s < session_count x) scenario l)));
         };
         run_is = new ∙ sym next;
@@ -197,12 +211,9 @@ module _ (m w : Machine) (k : ℕ) (p q : Playing) (d : ExchangeView) (is : IsMa
 
 -- ---- A session's turn
 
-module _ (m w : Machine) (s : ℕ) (d : ExchangeView) (is : IsMachine m) (l : s < session_count m.scenario.now) where
+module _ (m w : Stage) (s : ℕ) (d : ExchangeView) (is : IsMachine m) (l : s < session_count m.scenario) where
   abbrev own : ExchangeView
-  own = get_or m.channels.items s new_exchange
-
-  abbrev r : Rules
-  r = rules_of m.scenario.now
+  own = get_or m.channels s new_exchange
 
   abbrev h : List Entry
   h = (run_of m).history
@@ -210,40 +221,45 @@ module _ (m w : Machine) (s : ℕ) (d : ExchangeView) (is : IsMachine m) (l : s 
   abbrev ps : List Player
   ps = (run_of m).players
 
-  abbrev served_run : Run
-  served_run = record { history = session_turn r ps h s; players = ps }
+  abbrev after_turn : List Entry
+  after_turn = next_history m.serves.server h s own
 
-  served_at : (n : ℕ) → n < session_count m.scenario.now → IsChannel (run_at (next_history r h s own) ps) n (get_or (set m.channels.items s (next_channel r h s own)) n new_exchange)
+  abbrev served_run : Run
+  served_run = record { history = session_served m.serves.server ps h s; players = ps }
+
+  named : AreNamed h
+  named = is.playable.keeps.named h is.sound.served
+
+  served_at : (n : ℕ) → n < session_count m.scenario → IsChannel (run_at after_turn ps) n (get_or (set m.channels s (next_channel m.serves.server h s own)) n new_exchange)
   served_at n k = elim (cases_Bool (s == n)) [
     | inl y ↦ (let same : s ≡ n = eqb-true s n y in
-        subst (λ (i : ℕ). IsChannel (run_at (next_history r h s own) ps) i (get_or (set m.channels.items s (next_channel r h s own)) i new_exchange)) same
-        (subst (λ (x : ExchangeView). IsChannel (run_at (next_history r h s own) ps) s x) (sym (get_or-set_same m.channels.items s (next_channel r h s own) new_exchange (omega (arith, is.count, l))))
-        (own_served r h ps s own (is.channels s l) is.sound.legal)))
+        subst (λ (i : ℕ). IsChannel (run_at after_turn ps) i (get_or (set m.channels s (next_channel m.serves.server h s own)) i new_exchange)) same
+        (subst (λ (x : ExchangeView). IsChannel (run_at after_turn ps) s x) (sym (get_or-set_same m.channels s (next_channel m.serves.server h s own) new_exchange (omega (arith, is.count, l))))
+        (own_served m.serves.server is.playable.keeps h ps s own (is.channels s l) named)))
     | inr f ↦ (let other : n ≢ s = λ e. (let t : (s == n) ≡ true = eq-eqb s n (sym e) in cc) in
-        subst (λ (x : ExchangeView). IsChannel (run_at (next_history r h s own) ps) n x) (sym (get_or-set_other m.channels.items s n (next_channel r h s own) new_exchange other))
-        (other_served r h ps s own (is.channels s l) n (get_or m.channels.items n new_exchange) f is.sound.legal (is.channels n k)))
+        subst (λ (x : ExchangeView). IsChannel (run_at after_turn ps) n x) (sym (get_or-set_other m.channels s n (next_channel m.serves.server h s own) new_exchange other))
+        (other_served m.serves.server is.playable.keeps h ps s own (is.channels s l) n (get_or m.channels n new_exchange) f named (is.channels n k)))
   ]
 
-  pub served_became : Served s m.sequencer w.sequencer own d →
-      w.scenario.now ≡ m.scenario.now → w.players.items ≡ m.players.items → w.channels.items ≡ set m.channels.items s d → Became m w (turned r (run_of m) (turns.Session s))
+  pub served_became : Served s m.serves w.serves own d →
+      w.scenario ≡ m.scenario → w.players ≡ m.players → w.channels ≡ set m.channels s d → Became m w (turn_served m.serves.server (run_of m) (turns.Session s))
   served_became served scenario players channels =
-      let made : history w.sequencer ≡ next_history r h s own = served.entries ∙ ap (λ (x : Rules). next_history x h s own) is.rules in
-      let left : d ≡ next_channel r h s own = served.channel ∙ ap (λ (x : Rules). next_channel x h s own) is.rules in
-      let new : run_of w ≡ run_at (next_history r h s own) ps =
-      ap (λ (g : List Entry). run_at g (map player_of w.players.items)) made ∙ ap (λ (xs : List Playing). run_at (next_history r h s own) (map player_of xs)) players in
-      let next : run_at (next_history r h s own) ps ≡ served_run = ap (λ (g : List Entry). run_at g ps) (session_turn_is r h ps s own (is.channels s l)) in
-      let sound : IsSound m.scenario.now served_run = turns-sound m.scenario.now (run_of m) (turns.Session s) is.good l is.sound in
+      let new : run_of w ≡ run_at after_turn ps =
+      ap (λ (g : List Entry). run_at g (map player_of w.players)) served.entries ∙ ap (λ (xs : List Playing). run_at after_turn (map player_of xs)) players in
+      let next : run_at after_turn ps ≡ served_run = ap (λ (g : List Entry). run_at g ps) (session_turn_is m.serves.server is.playable.keeps h ps s own (is.channels s l)) in
+      let sound : IsSoundOver m.serves.server m.scenario served_run = turns-sound m.serves.server is.playable.keeps m.scenario is.good (run_of m) (turns.Session s) l is.sound in
       record {
         scenario = scenario;
+        server = served.server;
         machine = record {
           good = subst IsGoodScenario (sym scenario) is.good;
-          numbers = subst ScenarioFits (sym scenario) is.numbers;
+          playable = playable_after m w (sym served.server) (sym scenario) is.playable;
           rules = served.rules ∙ is.rules ∙ ap rules_of (sym scenario);
-          sound = subst (λ (x : Scenario). IsSound x (run_of w)) (sym scenario) (subst (IsSound m.scenario.now) (sym (new ∙ next)) sound);
+          sound = sound_after m w served_run (sym served.server) (sym scenario) (new ∙ next) sound;
           flags = subst (All AreFlags) (sym players) is.flags;
-          count = ap length channels ∙ length-set m.channels.items s d ∙ is.count ∙ ap session_count (sym scenario);
-          channels = λ n k. subst (λ (x : Run). IsChannel x n (get_or w.channels.items n new_exchange)) (sym new)
-              (subst (λ (xs : List ExchangeView). IsChannel (run_at (next_history r h s own) ps) n (get_or xs n new_exchange)) (sym (channels ∙ ap (λ (x : ExchangeView). set m.channels.items s x) left))
+          count = ap length channels ∙ length-set m.channels s d ∙ is.count ∙ ap session_count (sym scenario);
+          channels = λ n k. subst (λ (x : Run). IsChannel x n (get_or w.channels n new_exchange)) (sym new)
+              (subst (λ (xs : List ExchangeView). IsChannel (run_at after_turn ps) n (get_or xs n new_exchange)) (sym (channels ∙ ap (λ (x : ExchangeView). set m.channels s x) served.channel))
               (served_at n (subst (λ (x : Scenario). n < session_count x) scenario k)));
         };
         run_is = new ∙ next;
@@ -251,23 +267,23 @@ module _ (m w : Machine) (s : ℕ) (d : ExchangeView) (is : IsMachine m) (l : s 
 
 -- ---- The player that has its turn
 
-module _ (m : Machine) (k : ℕ) (p : Playing) (is : IsMachine m) (l : k < length m.scenario.now.clients) (read : p ≡ get_or m.players.items k p) where
-  pub player_read : slice_get m.players.items k ≡ Some p
-  player_read = read_at m.players.items k p (omega (arith, clients_are m is)) read
+module _ (m : Stage) (k : ℕ) (p : Playing) (is : IsMachine m) (l : k < length m.scenario.clients) (read : p ≡ get_or m.players k p) where
+  pub player_read : slice_get m.players k ≡ Some p
+  player_read = read_at m.players k p (omega (arith, clients_are m is)) read
 
   pub player_flags : AreFlags p
   player_flags = flags_at m is k p player_read
 
-  pub player_known : IsFit (session_count m.scenario.now) (player_of p)
-  player_known = fit_at m.scenario.now (run_of m) is.good is.sound k (player_of p) (get_map player_of m.players.items k p player_read)
+  pub player_known : IsFit (session_count m.scenario) (player_of p)
+  player_known = fit_at m.serves.server m.scenario (run_of m) is.good is.sound k (player_of p) (get_map player_of m.players k p player_read)
 
   pub player_fits : IsFit 64 (player_of p)
-  player_fits = fewer_fit (session_count m.scenario.now) (player_of p) is.good.sessions player_known
+  player_fits = fewer_fit (session_count m.scenario) (player_of p) is.good.sessions player_known
 
   pub player_fits_after : IsFit 64 (player_turn (player_of p))
   player_fits_after =
-      fewer_fit (session_count m.scenario.now) (player_turn (player_of p)) is.good.sessions
-      (fit_after m.scenario.now (run_of m) is.good is.sound k (player_of p) (get_map player_of m.players.items k p player_read))
+      fewer_fit (session_count m.scenario) (player_turn (player_of p)) is.good.sessions
+      (fit_after m.serves.server m.scenario (run_of m) is.good is.sound k (player_of p) (get_map player_of m.players k p player_read))
 
 -- ---- What a player takes
 
@@ -281,21 +297,21 @@ pub open_between : (p : Player) → p.closed ≡ false → must_join p.events �
 open_between p l j = rw (l, j) refl
 
 -- What waits first over a player's connection is the next reply of its session that it did not take.
-module _ (m : Machine) (k : ℕ) (p : Player) (is : IsMachine m) (at : slice_get (run_of m).players k ≡ Some p) (linked : p.closed ≡ false) (joined : must_join p.events ≡ false) where
+module _ (m : Stage) (k : ℕ) (p : Player) (is : IsMachine m) (at : slice_get (run_of m).players k ≡ Some p) (linked : p.closed ≡ false) (joined : must_join p.events ≡ false) where
   abbrev place_of : ℕ
   place_of = session_of p
 
   abbrev entries : List Entry
   entries = (run_of m).history
 
-  fit_here : IsFit (session_count m.scenario.now) p
-  fit_here = fit_at m.scenario.now (run_of m) is.good is.sound k p at
+  fit_here : IsFit (session_count m.scenario) p
+  fit_here = fit_at m.serves.server m.scenario (run_of m) is.good is.sound k p at
 
   current_here : current_session p.events ≡ Some place_of
   current_here = session_current p fit_here.proper joined (fit_here.begun joined)
 
   silent_here : OthersSilent place_of k (run_of m).players
-  silent_here = others_silent m.scenario.now.world.shape entries place_of k (run_of m).players p (recursion_from_All _ _ is.sound.fits.each) is.sound.fits.apart at
+  silent_here = sound_silent m.serves.server m.scenario (run_of m) place_of k p is.sound at
       (current-joined p.events place_of current_here)
 
   first_left : {X : Type 0} (g : ℕ) (xs : List X) → slice_get (drop g xs) 0 ≡ slice_get xs g
@@ -304,19 +320,19 @@ module _ (m : Machine) (k : ℕ) (p : Player) (is : IsMachine m) (at : slice_get
   first_left (suc g) [] = refl
   first_left (suc g) (x ∷ xs) = first_left g xs
 
-  pub waits_all : (get_or m.channels.items place_of new_exchange).replies ≡ drop (length (got p.events place_of)) (replies_in (accepted entries) entries place_of)
+  pub waits_all : (get_or m.channels place_of new_exchange).replies ≡ drop (length (got p.events place_of)) (replies_in (accepted entries) entries place_of)
   waits_all =
       (is.channels place_of fit_here.known).replies
       ∙ ap (λ (rs : List Reply). drop (length rs) (replies_in (accepted entries) entries place_of)) (got_by_one place_of k (run_of m).players p silent_here at)
 
-  pub waits_first : slice_get (get_or m.channels.items place_of new_exchange).replies 0 ≡ slice_get (replies_in (accepted entries) entries place_of) (length (got p.events place_of))
+  pub waits_first : slice_get (get_or m.channels place_of new_exchange).replies 0 ≡ slice_get (replies_in (accepted entries) entries place_of) (length (got p.events place_of))
   waits_first = ap (λ (rs : List Reply). slice_get rs 0) waits_all ∙ first_left (length (got p.events place_of)) (replies_in (accepted entries) entries place_of)
 
   pub open_here : open_session p ≡ Some place_of
   open_here = open_is p linked joined ∙ current_here
 
-pub taken_is : (m : Machine) (k : ℕ) (p : Player) → IsMachine m → slice_get (run_of m).players k ≡ Some p →
-    taken_from (get_or m.channels.items (session_of p) new_exchange).replies p ≡ take_turn (run_of m).history p
+pub taken_is : (m : Stage) (k : ℕ) (p : Player) → IsMachine m → slice_get (run_of m).players k ≡ Some p →
+    taken_from (get_or m.channels (session_of p) new_exchange).replies p ≡ take_turn (run_of m).history p
 taken_is m k p is at = elim (cases_Bool p.closed) [
   | inl shut ↦ take_shut p _ shut ∙ sym (ap (take_in (run_of m).history p) (open_shut p shut))
   | inr linked ↦ elim (cases_Bool (must_join p.events)) [
@@ -328,8 +344,8 @@ taken_is m k p is at = elim (cases_Bool p.closed) [
 ]
 
 -- Each player's first session is one of 64.
-pub firsts_few : (m : Machine) → IsMachine m → All (λ (p : Playing). p.first < 64) m.players.items
+pub firsts_few : (m : Stage) → IsMachine m → All (λ (p : Playing). p.first < 64) m.players
 firsts_few m is = λ k d l.
-    let p = get_or m.players.items k d in
-    let at = get_map player_of m.players.items k p (get_at m.players.items k d l) in
-    first_few (player_of p) (fewer_fit (session_count m.scenario.now) (player_of p) is.good.sessions (fit_at m.scenario.now (run_of m) is.good is.sound k (player_of p) at))
+    let p = get_or m.players k d in
+    let at = get_map player_of m.players k p (get_at m.players k d l) in
+    first_few (player_of p) (fewer_fit (session_count m.scenario) (player_of p) is.good.sessions (fit_at m.serves.server m.scenario (run_of m) is.good is.sound k (player_of p) at))

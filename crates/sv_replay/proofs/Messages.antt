@@ -1,5 +1,6 @@
--- Whatever is asked and replied in a sound run is a message.
-use Rattle.std.proofs.Common.{◌≡◌, ℕ, suc, ◌+◌, ◌^◌, ◌≤◌, true, inl, inr, List, [], ◌∷◌, map, length, reverse, Some, slice_get, refl, sym, subst, arith, true≢false}
+-- A scenario can be run over the server that answers by the table: whatever is asked and replied in a sound run is a message, and no client refuses its
+-- next reply.
+use Rattle.std.proofs.Common.{◌≡◌, ℕ, suc, ◌+◌, ◌^◌, ◌≤◌, true, inl, inr, List, [], ◌∷◌, map, length, reverse, Some, None, slice_get, refl, sym, subst, arith, true≢false}
 use Rattle.std.specs.Prelude.{All}
 use Rattle.std.specs.List.{list_any, AllByRecursion}
 use Rattle.std.proofs.lemmas.Bool.{cases_Bool}
@@ -9,17 +10,19 @@ use Rattle.std.proofs.lemmas.Option.{none-some, same_Some}
 use Rattle.sv_world.specs.declared.world.Shape.{Shape}
 use Rattle.sv_wire.specs.declared.message.Request.{Request}
 use Rattle.sv_wire.specs.declared.message.Request.TheVariants as requests
-use Rattle.sv_wire.specs.Laws.{IsRequest}
+use Rattle.sv_wire.specs.declared.message.Reply.{Reply}
+use Rattle.sv_wire.specs.Laws.{IsRequest, IsReply}
 use Rattle.sv_wire.specs.Ranges.{RequestFits}
 use Rattle.sv_journal.specs.declared.entry.Entry.{Entry}
+use Rattle.sv_journal.specs.History.{accepted, full_reply}
 use Rattle.sv_journal.specs.Sessions.{is_end}
 use Rattle.sv_journal.specs.Answer.{Rules}
 use Rattle.sv_journal.specs.Laws.{AreWithinLimits}
 use Rattle.sv_client.specs.declared.trace.Event.{Event}
 use Rattle.sv_client.specs.declared.trace.Event.TheVariants as events
 use Rattle.sv_client.specs.declared.trace.Trace.{Trace}
-use Rattle.sv_client.specs.Traces.{asked}
-use Rattle.sv_client.specs.Taking.{Identity, outstanding}
+use Rattle.sv_client.specs.Traces.{current_session, asked, got}
+use Rattle.sv_client.specs.Taking.{Identity, outstanding, first_fault_of_reply}
 use Rattle.sv_scenario.specs.declared.scenario.Plan.{Plan}
 use Rattle.sv_scenario.specs.declared.scenario.Scenario.{Scenario}
 use Rattle.sv_scenario.specs.declared.scenario.Step.{Step}
@@ -28,17 +31,25 @@ use Rattle.sv_scenario.specs.Limits.{IsGoodScenario}
 use Rattle.sv_scenario.specs.Sessions.{sessions_of_plan, session_count}
 use Rattle.sv_asked.specs.Numbers.{StepFits, PlanFits, ScenarioFits}
 use Rattle.sv_script.specs.Following.{DoesStep, FollowsTo, after_syncs, passed_syncs, event_of}
-use Rattle.sv_system.specs.Fits.{requests_in}
+use Rattle.sv_system.specs.Fits.{requests_in, replies_in}
 use Rattle.sv_system.proofs.Histories.{IsEarlier, same, earlier-rest}
 use Rattle.sv_system.proofs.Entered.{of-from, request-there}
 use Rattle.sv_asked.specs.Asked.{EventFits, HasNumbers, RequestsAreMessages, RepliesAreMessages, AcceptedAreFew}
 use Rattle.sv_asked.proofs.Every.{each-at, each-reverse}
 use Rattle.sv_asked.proofs.Owned.{entry-at}
-use Rattle.sv_schedule.specs.Schedule.{Player, Run, rules_of, trace_of_player, traces_of}
+use Rattle.sv_schedule.specs.Players.{Player, trace_of_player}
+use Rattle.sv_schedule.specs.Serving.{Run, Server, traces_of}
+use Rattle.sv_schedule.specs.Schedule.{rules_of, plain_server}
 use Rattle.sv_schedule.specs.Sound.{IsPlaying, ArePlaying, IsSound, has_joined}
+use Rattle.sv_schedule.specs.Served.{IsSoundOver}
+use Rattle.sv_schedule.proofs.SoundPlain.{plain-keeps, sound-plain}
+use Rattle.sv_schedule.proofs.DoneGiven.{NeverRefused}
+use Rattle.sv_schedule.proofs.DoneCounts.{asked-few}
+use Rattle.sv_schedule.proofs.DoneFacts.{following, next-taken}
 use Rattle.sv_schedule.proofs.SoundCalls.{player-at}
 use Rattle.sv_replay.specs.Players.{asked_by_player}
-use Rattle.sv_replay.specs.Messages.{AsksMessages, RunsAskMessages, RunsReplyMessages}
+use Rattle.sv_replay.specs.Messages.{AsksMessages}
+use Rattle.sv_replay.specs.Playable.{IsPlayable}
 use Rattle.sv_replay.proofs.Machines.{get_map}
 use Rattle.sv_replay.proofs.Lengths.{owner_of, history_few}
 
@@ -154,8 +165,8 @@ module _ (scenario : Scenario) (run : Run) (good : IsGoodScenario scenario) (num
           | inr n ↦
               (let begun = entry-at (λ (d : Entry). list_any (λ (p : Player). has_joined p d.session) run.players ≡ true) e g H b (recursion_from_All _ H sound.begun) in
               let o = owner_of run.players e.session begun in
-              let a = player-at scenario run good sound o.0 o.1.0 o.1.1.0 in
-              let there = (a.fitting.sessions e.session o.1.1.1).asked (length (requests_in g e.session)) e.request (request-there e g H e.session b (of-from e e.session refl n)) in
+              let f = following scenario good run sound o.0 o.1.0 o.1.1.0 in
+              let there = (f.fits e.session o.1.1.1).asked (length (requests_in g e.session)) e.request (request-there e g H e.session b (of-from e e.session refl n)) in
               let messages = recursion_from_All IsRequest (asked_by_player o.1.0 e.session) (asks law few o.0 o.1.0 o.1.1.0 e.session) in
               (each-at IsRequest (asked_by_player o.1.0 e.session) (length (requests_in g e.session)) e.request messages there).fits)
         ]
@@ -164,11 +175,30 @@ module _ (scenario : Scenario) (run : Run) (good : IsGoodScenario scenario) (num
     entries_fit [] b = tt
     entries_fit (e ∷ g) b = (entry_fits e g b, entries_fit g (earlier-rest g e H b))
 
-pub runs_ask : RequestsAreMessages → AcceptedAreFew → RunsAskMessages
-runs_ask law few scenario run k p good numbers sound at = asks scenario run good numbers sound law few k p at
+-- ---- The server that answers by the table
 
-pub runs_reply : RequestsAreMessages → AcceptedAreFew → RepliesAreMessages → RunsReplyMessages
-runs_reply law few replied scenario run good numbers sound =
-    let short = history_few scenario run good sound in
-    let asked = All-from_recursion (λ (e : Entry). RequestFits e.request) run.history (entries_fit scenario run good numbers sound law few run.history same) in
-    replied (rules_of scenario) run.history (limits scenario run good numbers sound) (objects_few scenario run good numbers sound) numbers.values asked (omega (arith, short)) sound.legal
+module _ (law : RequestsAreMessages) (few : AcceptedAreFew) (replied : RepliesAreMessages) (honest : NeverRefused) (scenario : Scenario) (good : IsGoodScenario scenario) (numbers : ScenarioFits scenario) where
+  abbrev plain : Server
+  plain = plain_server (rules_of scenario)
+
+  plain_replied : (run : Run) → IsSoundOver plain scenario run → All (λ (e : Entry). IsReply (full_reply (accepted run.history) e.reply)) run.history
+  plain_replied run over =
+      let sound = sound-plain scenario run over in
+      let short = history_few plain scenario run good over in
+      let asked = All-from_recursion (λ (e : Entry). RequestFits e.request) run.history (entries_fit scenario run good numbers sound law few run.history same) in
+      replied (rules_of scenario) run.history (limits scenario run good numbers sound) (objects_few scenario run good numbers sound) numbers.values asked (omega (arith, short)) sound.legal
+
+  plain_taken : (run : Run) (k : ℕ) (p : Player) (s : ℕ) (reply : Reply) → IsSoundOver plain scenario run → slice_get run.players k ≡ Some p →
+      current_session p.events ≡ Some s → slice_get (replies_in (accepted run.history) run.history s) (length (got p.events s)) ≡ Some reply → first_fault_of_reply p.who p.events reply ≡ None
+  plain_taken run k p s reply over at current waits =
+      let a = player-at plain scenario run good over k p at in
+      let most = asked-few p.who p.first a.plan.steps p.events a.playing.before s a.good.few_steps a.fitting.proper a.playing.follows current in
+      next-taken scenario good run (sound-plain scenario run over) k p at honest s reply current (omega (arith, most)) waits
+
+  pub plain_playable : IsPlayable scenario plain
+  plain_playable = record {
+    keeps = plain-keeps (rules_of scenario);
+    asked = λ run k p over at. asks scenario run good numbers (sound-plain scenario run over) law few k p at;
+    replied = plain_replied;
+    taken = plain_taken;
+  }

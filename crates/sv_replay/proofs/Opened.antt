@@ -1,5 +1,5 @@
 -- The machine at the opening is in step with the opening run.
-use Rattle.std.proofs.Common.{◌≡◌, ℕ, zero, suc, ◌+◌, ◌<◌, ◌≤◌, false, List, [], ◌∷◌, ◌++◌, map, drop, length, get_or, refl, sym, ap, subst, ◌∙◌, arith, append_assoc, add-one, reverse}
+use Rattle.std.proofs.Common.{◌≡◌, ℕ, zero, suc, ◌+◌, ◌<◌, ◌≤◌, false, List, [], ◌∷◌, ◌++◌, map, drop, length, get_or, refl, sym, ap, subst, ◌∙◌, arith, append_assoc, add-one}
 use Rattle.std.proofs.lemmas.List.{drop_more}
 use Rattle.std.specs.Prelude.{All}
 use Rattle.std.specs.List.{list_any}
@@ -10,14 +10,15 @@ use Rattle.sv_scenario.specs.declared.scenario.Plan.{Plan}
 use Rattle.sv_scenario.specs.declared.scenario.Scenario.{Scenario}
 use Rattle.sv_scenario.specs.Limits.{IsGoodScenario}
 use Rattle.sv_scenario.specs.Sessions.{sessions_of_plan, sessions_in, session_count}
-use Rattle.sv_asked.specs.Numbers.{ScenarioFits}
-use Rattle.sv_schedule.specs.Schedule.{Player, Run, rules_of, players_from, opening_run, asked_in_run, closed_by}
-use Rattle.sv_schedule.specs.Sound.{IsSound}
+use Rattle.sv_schedule.specs.Players.{Player, players_from, asked_in_run, closed_by}
+use Rattle.sv_schedule.specs.Serving.{Run, opening_run}
+use Rattle.sv_schedule.specs.Schedule.{rules_of}
+use Rattle.sv_schedule.specs.Served.{IsSoundOver}
 use Rattle.sv_schedule.proofs.SoundLaws.{opening-sound}
-use Rattle.sv_replay.specs.declared.machine.Machine.{Machine}
 use Rattle.sv_exchange.specs.View.{ExchangeView, new_exchange}
 use Rattle.sv_replay.specs.Players.{got_in_run, IsChannel}
-use Rattle.sv_replay.specs.Machine.{player_of, AreFlags, run_of, IsMachine}
+use Rattle.sv_replay.specs.Playable.{IsPlayable}
+use Rattle.sv_replay.specs.Machine.{player_of, AreFlags, Stage, run_of, IsMachine}
 
 pub some_sessions : (plans : List Plan) → 1 ≤ length plans → 1 ≤ sessions_in plans
 some_sessions [] l = absurd (omega arith)
@@ -48,19 +49,20 @@ opening_channel scenario n =
       stopped = refl;
     }
 
-pub opening_machine : (m : Machine) (scenario : Scenario) → IsGoodScenario scenario → ScenarioFits scenario → m.scenario.now ≡ scenario → m.sequencer.rules ≡ rules_of scenario → m.sequencer.journal.entries ≡ [] →
-    map player_of m.players.items ≡ players_from scenario.world.shape 0 0 scenario.clients → All AreFlags m.players.items → length m.channels.items ≡ session_count scenario →
-    ((s : ℕ) → get_or m.channels.items s new_exchange ≡ new_exchange) → (run_of m ≡ opening_run scenario) × IsMachine m
-opening_machine m scenario good numbers same rules empty players flags count new =
+pub opening_machine : (m : Stage) (scenario : Scenario) → IsGoodScenario scenario → IsPlayable scenario m.serves.server → m.scenario ≡ scenario → m.serves.rules ≡ rules_of scenario → m.serves.history ≡ [] →
+    map player_of m.players ≡ players_from scenario.world.shape 0 0 scenario.clients → All AreFlags m.players → length m.channels ≡ session_count scenario →
+    ((s : ℕ) → get_or m.channels s new_exchange ≡ new_exchange) → (run_of m ≡ opening_run scenario) × IsMachine m
+opening_machine m scenario good playable same rules empty players flags count new =
     let run : run_of m ≡ opening_run scenario =
-    ap (λ (es : List Entry). record { history = reverse es; players = map player_of m.players.items }) empty
+    ap (λ (h : List Entry). record { history = h; players = map player_of m.players }) empty
     ∙ ap (λ (ps : List Player). record { history = []; players = ps }) players in (
       run,
       record {
         good = subst IsGoodScenario (sym same) good;
-        numbers = subst ScenarioFits (sym same) numbers;
+        playable = subst (λ (x : Scenario). IsPlayable x m.serves.server) (sym same) playable;
         rules = rules ∙ ap rules_of (sym same);
-        sound = subst (λ (x : Scenario). IsSound x (run_of m)) (sym same) (subst (IsSound scenario) (sym run) (opening-sound scenario good));
+        sound = subst (λ (x : Scenario). IsSoundOver m.serves.server x (run_of m)) (sym same)
+            (subst (IsSoundOver m.serves.server scenario) (sym run) (opening-sound m.serves.server scenario good));
         flags = flags;
         count = count ∙ ap session_count (sym same);
         channels = λ s l. subst (λ (v : ExchangeView). IsChannel (run_of m) s v) (sym (new s)) (subst (λ (x : Run). IsChannel x s new_exchange) (sym run) (opening_channel scenario s));

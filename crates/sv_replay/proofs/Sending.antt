@@ -8,32 +8,26 @@ use Rattle.std.proofs.lemmas.List.Elements.{recursion_from_All}
 use Rattle.sv_wire.specs.Laws.{IsReply}
 use Rattle.sv_journal.specs.declared.entry.Entry.{Entry}
 use Rattle.sv_journal.specs.History.{accepted, full_reply}
-use Rattle.sv_journal.specs.Answer.{Rules}
 use Rattle.sv_client.specs.declared.trace.Event.TheVariants as events
 use Rattle.sv_client.specs.Seen.{raised}
 use Rattle.sv_client.specs.Traces.{joins, is_session}
 use Rattle.sv_scenario.specs.declared.scenario.Turn.TheVariants as turns
 use Rattle.sv_scenario.specs.Sessions.{session_count}
 use Rattle.sv_script.specs.Following.{must_join}
-use Rattle.sv_sequencer.specs.Step.{SequencerView, history}
 use Rattle.sv_system.specs.Fits.{is_join_of}
 use Rattle.sv_system.proofs.Asked.{current-joined}
-use Rattle.sv_schedule.specs.Schedule.{Player, Run, rules_of, at_player, player_turn, take_turn, open_session, closed_by, with_entry, session_turn, turned, does}
-use Rattle.sv_schedule.specs.Sound.{IsSound}
-use Rattle.sv_system.proofs.NextReply.{no-fault}
+use Rattle.sv_schedule.specs.Players.{Player, at_player, player_turn, take_turn, open_session, closed_by, does}
+use Rattle.sv_schedule.specs.Serving.{Run, Server, served, session_served, turn_served}
+use Rattle.sv_schedule.specs.Served.{IsSoundOver}
 use Rattle.sv_schedule.proofs.SoundLaws.{turns-sound}
-use Rattle.sv_schedule.proofs.SoundCalls.{player-at}
-use Rattle.sv_schedule.proofs.DoneCounts.{asked-few}
-use Rattle.sv_schedule.proofs.DoneFacts.{next-taken}
-use Rattle.sv_replay.specs.declared.machine.Machine.{Machine}
 use Rattle.sv_exchange.specs.View.{ExchangeView, new_exchange}
 use Rattle.sv_replay.specs.Players.{session_of, IsFit, IsNextFine}
-use Rattle.sv_replay.specs.Messages.{AsksMessages, RunsAskMessages, RunsReplyMessages}
-use Rattle.sv_replay.specs.Serving.{AnswersMessage, next_history, one_if, Served}
+use Rattle.sv_replay.specs.Messages.{AsksMessages}
+use Rattle.sv_replay.specs.Serving.{ServerView, AnswersMessage, one_if, Served}
 use Rattle.sv_replay.specs.Work.{work_of_session, work_of_client, Found}
 use Rattle.sv_replay.specs.declared.playing.Playing.{Playing}
-use Rattle.sv_replay.specs.Machine.{player_of, run_of, IsMachine}
-use Rattle.sv_replay.proofs.Apart.{OthersSilent, others_silent, open_by_one}
+use Rattle.sv_replay.specs.Machine.{player_of, Stage, run_of, IsMachine}
+use Rattle.sv_replay.proofs.Apart.{OthersSilent, sound_silent, open_by_one}
 use Rattle.sv_replay.proofs.Events.{not_begun}
 use Rattle.sv_replay.proofs.Doing.{session_current, session_next}
 use Rattle.sv_replay.proofs.Turns.{place-is}
@@ -56,7 +50,7 @@ and_false false = refl
 
 -- ---- A client's turn
 
-module _ (m : Machine) (k : ℕ) (p : Player) (is : IsMachine m) (l : k < length m.scenario.now.clients) (at : slice_get (run_of m).players k ≡ Some p) where
+module _ (m : Stage) (k : ℕ) (p : Player) (is : IsMachine m) (l : k < length m.scenario.clients) (at : slice_get (run_of m).players k ≡ Some p) where
   abbrev n : ℕ
   n = session_of p
 
@@ -66,26 +60,24 @@ module _ (m : Machine) (k : ℕ) (p : Player) (is : IsMachine m) (l : k < length
   abbrev h : List Entry
   h = (run_of m).history
 
-  fit : IsFit (session_count m.scenario.now) p
-  fit = fit_at m.scenario.now (run_of m) is.good is.sound k p at
+  fit : IsFit (session_count m.scenario) p
+  fit = fit_at m.serves.server m.scenario (run_of m) is.good is.sound k p at
 
-  turn_sound : IsSound m.scenario.now (turned (rules_of m.scenario.now) (run_of m) (turns.Client k))
-  turn_sound = turns-sound m.scenario.now (run_of m) (turns.Client k) is.good l is.sound
+  turn_sound : IsSoundOver m.serves.server m.scenario (turn_served m.serves.server (run_of m) (turns.Client k))
+  turn_sound = turns-sound m.serves.server is.playable.keeps m.scenario is.good (run_of m) (turns.Client k) l is.sound
 
-  take_sound : IsSound m.scenario.now (turned (rules_of m.scenario.now) (run_of m) (turns.Take k))
-  take_sound = turns-sound m.scenario.now (run_of m) (turns.Take k) is.good l is.sound
+  take_sound : IsSoundOver m.serves.server m.scenario (turn_served m.serves.server (run_of m) (turns.Take k))
+  take_sound = turns-sound m.serves.server is.playable.keeps m.scenario is.good (run_of m) (turns.Take k) l is.sound
 
-  pub turn_asks : RunsAskMessages → AsksMessages (player_turn p)
-  turn_asks law =
-      law m.scenario.now (turned (rules_of m.scenario.now) (run_of m) (turns.Client k)) k (player_turn p) is.good is.numbers turn_sound (place_turned player_turn ps k p at)
+  pub turn_asks : AsksMessages (player_turn p)
+  turn_asks = is.playable.asked (turn_served m.serves.server (run_of m) (turns.Client k)) k (player_turn p) turn_sound (place_turned player_turn ps k p at)
 
-  pub take_asks : RunsAskMessages → AsksMessages (take_turn h p)
-  take_asks law =
-      law m.scenario.now (turned (rules_of m.scenario.now) (run_of m) (turns.Take k)) k (take_turn h p) is.good is.numbers take_sound (place_turned (take_turn h) ps k p at)
+  pub take_asks : AsksMessages (take_turn h p)
+  take_asks = is.playable.asked (turn_served m.serves.server (run_of m) (turns.Take k)) k (take_turn h p) take_sound (place_turned (take_turn h) ps k p at)
 
   silent_in : must_join p.events ≡ false → OthersSilent n k ps
   silent_in joined =
-      others_silent m.scenario.now.world.shape h n k ps p (recursion_from_All _ _ is.sound.fits.each) is.sound.fits.apart at
+      sound_silent m.serves.server m.scenario (run_of m) n k p is.sound at
       (current-joined p.events n (session_current p fit.proper joined (fit.begun joined)))
 
   joins_now : p.closed ≡ false → must_join p.events ≡ true → player_turn p ≡ does p (events.Join (p.first + joins p.events)) p.left
@@ -97,8 +89,7 @@ module _ (m : Machine) (k : ℕ) (p : Player) (is : IsMachine m) (l : k < length
       ap (λ (q : Player). list_any (is_join_of n) q.events) (joins_now linked between)
       ∙ or_left (p.first + joins p.events == n) (list_any (is_join_of n) p.events) (eq-eqb (p.first + joins p.events) n (sym (session_next p between))) in
       silent_before n k player_turn ps
-      (others_silent m.scenario.now.world.shape h n k (at_player ps k player_turn) (player_turn p) (recursion_from_All _ _ turn_sound.fits.each) turn_sound.fits.apart
-      (place_turned player_turn ps k p at) joined)
+      (sound_silent m.serves.server m.scenario (turn_served m.serves.server (run_of m) (turns.Client k)) n k (player_turn p) turn_sound (place_turned player_turn ps k p at) joined)
 
   own_in : p.closed ≡ false → must_join p.events ≡ false → closed_by n p ≡ false
   own_in linked joined =
@@ -113,7 +104,7 @@ module _ (m : Machine) (k : ℕ) (p : Player) (is : IsMachine m) (l : k < length
       rw fresh refl
 
   -- The client's end of its session is open, or it has not begun it.
-  pub link_open : p.closed ≡ false → (get_or m.channels.items n new_exchange).closed ≡ false
+  pub link_open : p.closed ≡ false → (get_or m.channels n new_exchange).closed ≡ false
   link_open linked = (is.channels n fit.known).closed ∙ opened
     where
       opened : list_any (closed_by n) ps ≡ false
@@ -123,34 +114,31 @@ module _ (m : Machine) (k : ℕ) (p : Player) (is : IsMachine m) (l : k < length
       ]
 
   -- The next reply over its open link is one that it takes.
-  pub reply_fine : p.closed ≡ false → must_join p.events ≡ false → IsNextFine p.who p.events (get_or m.channels.items n new_exchange).replies
+  pub reply_fine : p.closed ≡ false → must_join p.events ≡ false → IsNextFine p.who p.events (get_or m.channels n new_exchange).replies
   reply_fine linked joined reply first =
-      let a = player-at m.scenario.now (run_of m) is.good is.sound k p at in
-      let current = session_current p fit.proper joined (fit.begun joined) in
-      let few = asked-few p.who p.first a.plan.steps p.events a.playing.before n a.good.few_steps a.fitting.proper a.playing.follows current in
-      next-taken m.scenario.now is.good (run_of m) is.sound k p at no-fault n reply current (omega (arith, few)) (sym (waits_first m k p is at linked joined) ∙ first)
+      is.playable.taken (run_of m) k p n reply is.sound at (session_current p fit.proper joined (fit.begun joined)) (sym (waits_first m k p is at linked joined) ∙ first)
 
 -- ---- A session's turn
 
-module _ (m : Machine) (s : ℕ) (is : IsMachine m) (l : s < session_count m.scenario.now) where
-  abbrev r : Rules
-  r = rules_of m.scenario.now
+module _ (m : Stage) (s : ℕ) (is : IsMachine m) (l : s < session_count m.scenario) where
+  abbrev server : Server
+  server = m.serves.server
 
   abbrev own : ExchangeView
-  own = get_or m.channels.items s new_exchange
+  own = get_or m.channels s new_exchange
 
   abbrev run : Run
   run = run_of m
 
-  pub answers : RunsReplyMessages → AnswersMessage r run.history s own
-  answers law request waiting running goes waits =
-      let entered : session_turn r run.players run.history s ≡ with_entry r run.history s request =
-      sym (session_turn_is r run.history run.players s own (is.channels s l)) ∙ (next_asked r run.history s own request waiting running goes waits).0 in
-      let sound = turns-sound m.scenario.now run (turns.Session s) is.good l is.sound in
-      let all = law m.scenario.now (turned r run (turns.Session s)) is.good is.numbers sound in
-      let there : All (λ (e : Entry). IsReply (full_reply (accepted (with_entry r run.history s request)) e.reply)) (with_entry r run.history s request) =
+  pub answers : AnswersMessage server run.history s own
+  answers request waiting running goes waits =
+      let entered : session_served server run.players run.history s ≡ served server run.history s request =
+      sym (session_turn_is server is.playable.keeps run.history run.players s own (is.channels s l)) ∙ (next_asked server run.history s own request waiting running goes waits).0 in
+      let sound = turns-sound server is.playable.keeps m.scenario is.good run (turns.Session s) l is.sound in
+      let all = is.playable.replied (turn_served server run (turns.Session s)) sound in
+      let there : All (λ (e : Entry). IsReply (full_reply (accepted (served server run.history s request)) e.reply)) (served server run.history s request) =
       subst (λ (g : List Entry). All (λ (e : Entry). IsReply (full_reply (accepted g) e.reply)) g) entered all in
-      (recursion_from_All (λ (e : Entry). IsReply (full_reply (accepted (with_entry r run.history s request)) e.reply)) (with_entry r run.history s request) there).0
+      (recursion_from_All (λ (e : Entry). IsReply (full_reply (accepted (served server run.history s request)) e.reply)) (served server run.history s request) there).0
 
 -- ---- Whether a turn found something to do
 
@@ -158,28 +146,28 @@ pub both_told : {A E : Type 0} (r : Result A E) (P : Type 0) (Q R : A → Type 0
 both_told (Ok x) P Q R f p q = f x p q
 both_told (Err e) P Q R f p q = tt
 
-pub session_found : (m w : Machine) (s : ℕ) (d : ExchangeView) (found : Bool) → IsMachine m → s < session_count m.scenario.now → Served s m.sequencer w.sequencer (get_or m.channels.items s new_exchange) d →
-    w.players.items ≡ m.players.items → length (history w.sequencer) ≡ length (history m.sequencer) + one_if found → Found (work_of_session s) (run_of m) (run_of w) found
+pub session_found : (m w : Stage) (s : ℕ) (d : ExchangeView) (found : Bool) → IsMachine m → s < session_count m.scenario → Served s m.serves w.serves (get_or m.channels s new_exchange) d →
+    w.players ≡ m.players → length w.serves.history ≡ length m.serves.history + one_if found → Found (work_of_session s) (run_of m) (run_of w) found
 session_found m w s d found is l served players long =
-    let r = rules_of m.scenario.now in
-    let c = get_or m.channels.items s new_exchange in
+    let server = m.serves.server in
+    let c = get_or m.channels s new_exchange in
     let h = (run_of m).history in
     let ps = (run_of m).players in
-    let made : history w.sequencer ≡ session_turn r ps h s = served.entries ∙ ap (λ (x : Rules). next_history x h s c) is.rules ∙ session_turn_is r h ps s c (is.channels s l) in
-    subst (λ (xs : List Playing). Found (work_of_session s) (run_of m) (record { history = history w.sequencer; players = map player_of xs }) found) (sym players)
-    (turn_found r ps s h (history w.sequencer) found made long)
+    let made : w.serves.history ≡ session_served server ps h s = served.entries ∙ session_turn_is server is.playable.keeps h ps s c (is.channels s l) in
+    subst (λ (xs : List Playing). Found (work_of_session s) (run_of m) (record { history = w.serves.history; players = map player_of xs }) found) (sym players)
+    (turn_found server is.playable.keeps ps s h w.serves.history found made long)
 
-pub client_found : (m w : Machine) (k : ℕ) (p q : Playing) (found : Bool) → slice_get m.players.items k ≡ Some p → player_of q ≡ take_turn (run_of m).history (player_of p) →
-    w.sequencer ≡ m.sequencer → w.players.items ≡ set m.players.items k q → length q.client.events ≡ length p.client.events + one_if found →
+pub client_found : (m w : Stage) (k : ℕ) (p q : Playing) (found : Bool) → slice_get m.players k ≡ Some p → player_of q ≡ take_turn (run_of m).history (player_of p) →
+    w.serves ≡ m.serves → w.players ≡ set m.players k q → length q.client.events ≡ length p.client.events + one_if found →
     Found (work_of_client k) (run_of m) (run_of w) found
-client_found m w k p q found at took sequencer players long =
+client_found m w k p q found at took serves players long =
     let h = (run_of m).history in
     let ps = (run_of m).players in
     let new : run_of w ≡ record { history = h; players = set ps k (player_of q) } =
-    ap (λ (v : SequencerView). run_at (history v) (map player_of w.players.items)) sequencer
+    ap (λ (v : ServerView). run_at v.history (map player_of w.players)) serves
     ∙ ap (λ (xs : List Playing). run_at h (map player_of xs)) players
-    ∙ ap (λ (xs : List Player). run_at h xs) (map_set player_of m.players.items k q) in
+    ∙ ap (λ (xs : List Player). run_at h xs) (map_set player_of m.players k q) in
     let more : length (player_of q).events ≡ length (player_of p).events + one_if found =
     length-map q.client.events (raised q.first) ∙ long ∙ ap (λ (n : ℕ). n + one_if found) (sym (length-map p.client.events (raised p.first))) in
     subst (λ (run : Run). Found (work_of_client k) (run_of m) run found) (sym new)
-    (take_found h ps k (player_of p) (player_of q) found (get_map player_of m.players.items k p at) took more)
+    (take_found h ps k (player_of p) (player_of q) found (get_map player_of m.players k p at) took more)

@@ -1,6 +1,7 @@
--- A session's turn by its connection is its turn in the run, and each connection stays in step.
-use Rattle.std.proofs.Common.{◌≡◌, ℕ, zero, suc, ◌+◌, Bool, true, false, ◌&&◌, ◌||◌, ◌==◌, List, [], ◌∷◌, ◌++◌, map, drop, length, reverse, Some, None, refl, sym, ap, subst, ◌∙◌, arith}
-use Rattle.std.specs.Prelude.{if◌then◌else◌}
+-- What a session's turn by its connection makes of a server, and that a sequencer answers as a server is to.
+use Rattle.std.proofs.Common.{◌≡◌, ℕ, zero, suc, ◌+◌, Bool, true, false, ◌&&◌, ◌||◌, ◌==◌, List, [], ◌∷◌, ◌++◌, map, drop, length, reverse, Some, None, Result, Ok, Err, refl, sym, ap, subst, ◌∙◌, arith}
+use Rattle.std.specs.Prelude.{if◌then◌else◌, IfOk}
+use Rattle.std.specs.declared.alloc.AllocError.{AllocError}
 use Rattle.std.specs.List.{AllByRecursion}
 use Rattle.std.proofs.lemmas.List.{reverse-append}
 use Rattle.sv_wire.specs.declared.message.Reply.{Reply}
@@ -16,7 +17,7 @@ use Rattle.sv_journal.specs.declared.entry.Logged.{Logged}
 use Rattle.sv_journal.specs.declared.entry.Logged.TheVariants as logged
 use Rattle.sv_journal.specs.History.{Authored, accepted, full_reply}
 use Rattle.sv_journal.specs.Sessions.{is_end}
-use Rattle.sv_journal.specs.Answer.{Rules, Legal, reply_to}
+use Rattle.sv_journal.specs.Answer.{reply_to}
 use Rattle.sv_client.specs.declared.trace.Event.{Event}
 use Rattle.sv_client.specs.declared.trace.Event.TheVariants as events
 use Rattle.sv_client.specs.Traces.{asked, asked_by, submit_of, pending_of, current_session, is_session, held_of, done_for}
@@ -24,11 +25,14 @@ use Rattle.sv_sequencer.specs.Rows.{is_ended as is_ended_by_rows}
 use Rattle.sv_system.specs.Fits.{replies_in, is_ended}
 use Rattle.sv_system.proofs.Fronts.{fronts-same}
 use Rattle.sv_system.proofs.Entered.{as-many, replies-one}
-use Rattle.sv_schedule.specs.Schedule.{Player, asked_in_run, is_stop, with_entry}
+use Rattle.sv_schedule.specs.Players.{Player, asked_in_run}
+use Rattle.sv_schedule.specs.Serving.{Server, is_stop, served}
+use Rattle.sv_schedule.specs.Schedule.{plain_server}
+use Rattle.sv_schedule.specs.Served.{AreNamed}
 use Rattle.sv_schedule.proofs.SoundReplies.{replies-grow}
 use Rattle.sv_sequencer.specs.Step.{SequencerView, history, entry_of, Grew, Answered}
 use Rattle.sv_exchange.specs.View.{ExchangeView, TakesRequest}
-use Rattle.sv_replay.specs.Serving.{is_stop_reply, whole_reply, next_history, next_channel, with_answer, Entered, Served, one_if}
+use Rattle.sv_replay.specs.Serving.{ServerView, Answers, sequencer_view, is_stop_reply, whole_reply, next_history, next_channel, with_answer, Entered, Served, one_if}
 
 -- ---- What is never asked
 
@@ -111,103 +115,113 @@ same_stop A logged.Bye = refl
 
 -- ---- Whole replies stay
 
-pub replies_stay : (r : Rules) (e : Entry) (h : List Entry) (s : ℕ) → Legal r h → replies_in (accepted h) h s ≡ replies_in (accepted (e ∷ h)) h s
-replies_stay r e h s legal =
-    fronts-same (replies_in (accepted h) h s) (replies_in (accepted (e ∷ h)) h s) (replies_in (accepted (e ∷ h)) (e ∷ h) s) (replies-grow r e h s legal) (replies-one (accepted (e ∷ h)) e h s)
+pub replies_stay : (e : Entry) (h : List Entry) (s : ℕ) → AreNamed h → replies_in (accepted h) h s ≡ replies_in (accepted (e ∷ h)) h s
+replies_stay e h s named =
+    fronts-same (replies_in (accepted h) h s) (replies_in (accepted (e ∷ h)) h s) (replies_in (accepted (e ∷ h)) (e ∷ h) s) (replies-grow e h s named) (replies-one (accepted (e ∷ h)) e h s)
     (as-many (accepted h) h s ∙ sym (as-many (accepted (e ∷ h)) h s))
 
 -- ---- Which turn it is
 
-module _ (r : Rules) (h : List Entry) (s : ℕ) (c : ExchangeView) where
-  pub next_ended : is_ended h s ≡ true → (next_history r h s c ≡ h) × (next_channel r h s c ≡ c)
+module _ (server : Server) (h : List Entry) (s : ℕ) (c : ExchangeView) where
+  pub next_ended : is_ended h s ≡ true → (next_history server h s c ≡ h) × (next_channel server h s c ≡ c)
   next_ended e = (rw e refl, rw e refl)
 
-  pub next_stopped : is_ended h s ≡ false → c.stopped ≡ true → (next_history r h s c ≡ with_entry r h s requests.End) × (next_channel r h s c ≡ record c { stopped = true })
+  pub next_stopped : is_ended h s ≡ false → c.stopped ≡ true → (next_history server h s c ≡ served server h s requests.End) × (next_channel server h s c ≡ record c { stopped = true })
   next_stopped e t = (rw (e, t) refl, rw (e, t) refl)
 
   pub next_closed : is_ended h s ≡ false → c.stopped ≡ false → c.requests ≡ [] → c.closed ≡ true →
-      (next_history r h s c ≡ with_entry r h s requests.End) × (next_channel r h s c ≡ record c { stopped = true })
+      (next_history server h s c ≡ served server h s requests.End) × (next_channel server h s c ≡ record c { stopped = true })
   next_closed e t q k = (rw (e, t, q, k) refl, rw (e, t, q, k) refl)
 
-  pub next_idle : is_ended h s ≡ false → c.stopped ≡ false → c.requests ≡ [] → c.closed ≡ false → (next_history r h s c ≡ h) × (next_channel r h s c ≡ c)
+  pub next_idle : is_ended h s ≡ false → c.stopped ≡ false → c.requests ≡ [] → c.closed ≡ false → (next_history server h s c ≡ h) × (next_channel server h s c ≡ c)
   next_idle e t q k = (rw (e, t, q, k) refl, rw (e, t, q, k) refl)
 
   pub next_asked : (q : Request) (qs : List Request) → is_ended h s ≡ false → c.stopped ≡ false → c.requests ≡ q ∷ qs →
-      (next_history r h s c ≡ with_entry r h s q) × (next_channel r h s c ≡ record c {
+      (next_history server h s c ≡ served server h s q) × (next_channel server h s c ≡ record c {
         requests = qs;
-        replies = c.replies ++ full_reply (accepted (with_entry r h s q)) (reply_to r h s q) ∷ [];
-        stopped = is_stop (reply_to r h s q);
+        replies = c.replies ++ whole_reply server h s q ∷ [];
+        stopped = is_stop (server.answers h s q);
       })
   next_asked q qs e t is = (rw (e, t, is) refl, rw (e, t, is) refl)
 
-pub serves_ended : (s : ℕ) (v : SequencerView) (c : ExchangeView) → true ≡ is_ended_by_rows (history v) s → Served s v v c c
+pub serves_ended : (s : ℕ) (v : ServerView) (c : ExchangeView) → true ≡ is_ended v.history s → Served s v v c c
 serves_ended s v c e =
-    let n = next_ended v.rules (history v) s c (sym (same_ended (history v) s) ∙ sym e) in
-    record { rules = refl; entries = sym n.0; channel = sym n.1 }
+    let n = next_ended v.server v.history s c (sym e) in
+    record { rules = refl; server = refl; entries = sym n.0; channel = sym n.1 }
 
-pub serves_end : (s : ℕ) (v w : SequencerView) (c d : ExchangeView) → is_ended_by_rows (history v) s ≡ false → c.stopped ≡ true →
+pub serves_end : (s : ℕ) (v w : ServerView) (c d : ExchangeView) → is_ended v.history s ≡ false → c.stopped ≡ true →
     Entered s requests.End v w d (record c { stopped = true }) → Served s v w c d
 serves_end s v w c d e t done =
-    let n = next_stopped v.rules (history v) s c (sym (same_ended (history v) s) ∙ e) t in
-    record { rules = done.rules; entries = done.entries ∙ sym n.0; channel = done.channel ∙ sym n.1 }
+    let n = next_stopped v.server v.history s c e t in
+    record { rules = done.rules; server = done.server; entries = done.entries ∙ sym n.0; channel = done.channel ∙ sym n.1 }
 
-pub serves_closed : (s : ℕ) (v w : SequencerView) (c b d : ExchangeView) → is_ended_by_rows (history v) s ≡ false → c.stopped ≡ false → TakesRequest c b None → b.closed ≡ true →
+pub serves_closed : (s : ℕ) (v w : ServerView) (c b d : ExchangeView) → is_ended v.history s ≡ false → c.stopped ≡ false → TakesRequest c b None → b.closed ≡ true →
     Entered s requests.End v w d (record b { stopped = true }) → Served s v w c d
 serves_closed s v w c b d e t none k done =
-    let n = next_closed v.rules (history v) s c (sym (same_ended (history v) s) ∙ e) t none.0 (ap (λ (x : ExchangeView). x.closed) (sym none.1) ∙ k) in
-    record { rules = done.rules; entries = done.entries ∙ sym n.0; channel = done.channel ∙ ap (λ (x : ExchangeView). record x { stopped = true }) none.1 ∙ sym n.1 }
-
-pub serves_idle : (s : ℕ) (v : SequencerView) (c b : ExchangeView) → is_ended_by_rows (history v) s ≡ false → c.stopped ≡ false → TakesRequest c b None → b.closed ≡ false → Served s v v c b
-serves_idle s v c b e t none k =
-    let n = next_idle v.rules (history v) s c (sym (same_ended (history v) s) ∙ e) t none.0 (ap (λ (x : ExchangeView). x.closed) (sym none.1) ∙ k) in
-    record { rules = refl; entries = sym n.0; channel = none.1 ∙ sym n.1 }
-
-pub serves_asked : (s : ℕ) (v w : SequencerView) (c b d : ExchangeView) (q : Request) → is_ended_by_rows (history v) s ≡ false → c.stopped ≡ false → TakesRequest c b (Some q) →
-    Entered s q v w d (with_answer v.rules (history v) s q b) → Served s v w c d
-serves_asked s v w c b d q e t some done =
-    let n = next_asked v.rules (history v) s c q b.requests (sym (same_ended (history v) s) ∙ e) t (ap (λ (x : ExchangeView). x.requests) some) in
+    let n = next_closed v.server v.history s c e t none.0 (ap (λ (x : ExchangeView). x.closed) (sym none.1) ∙ k) in
     record {
       rules = done.rules;
+      server = done.server;
+      entries = done.entries ∙ sym n.0;
+      channel = done.channel ∙ ap (λ (x : ExchangeView). record x { stopped = true }) none.1 ∙ sym n.1;
+    }
+
+pub serves_idle : (s : ℕ) (v : ServerView) (c b : ExchangeView) → is_ended v.history s ≡ false → c.stopped ≡ false → TakesRequest c b None → b.closed ≡ false → Served s v v c b
+serves_idle s v c b e t none k =
+    let n = next_idle v.server v.history s c e t none.0 (ap (λ (x : ExchangeView). x.closed) (sym none.1) ∙ k) in
+    record { rules = refl; server = refl; entries = sym n.0; channel = none.1 ∙ sym n.1 }
+
+pub serves_asked : (s : ℕ) (v w : ServerView) (c b d : ExchangeView) (q : Request) → is_ended v.history s ≡ false → c.stopped ≡ false → TakesRequest c b (Some q) →
+    Entered s q v w d (with_answer v.server v.history s q b) → Served s v w c d
+serves_asked s v w c b d q e t some done =
+    let n = next_asked v.server v.history s c q b.requests e t (ap (λ (x : ExchangeView). x.requests) some) in
+    record {
+      rules = done.rules;
+      server = done.server;
       entries = done.entries ∙ sym n.0;
       channel = done.channel
           ∙ ap (λ (x : ExchangeView). record x {
             requests = b.requests;
-            replies = x.replies ++ full_reply (accepted (with_entry v.rules (history v) s q)) (reply_to v.rules (history v) s q) ∷ [];
-            stopped = is_stop (reply_to v.rules (history v) s q);
+            replies = x.replies ++ whole_reply v.server v.history s q ∷ [];
+            stopped = is_stop (v.server.answers v.history s q);
           }) (sym some)
           ∙ sym n.1;
     }
 
+-- A history with one entry more is longer.
+pub entered_longer : (s : ℕ) (q : Request) (v w : ServerView) (c d : ExchangeView) → Entered s q v w c d → length w.history ≡ length v.history + one_if true
+entered_longer s q v w c d done = let long : length w.history ≡ length (served v.server v.history s q) = ap (λ (h : List Entry). length h) done.entries in omega (arith, long)
+
+-- A step entered a request with its reply.
+pub answer_entered : (v w : ServerView) (s : ℕ) (q : Request) (reply : Reply) (stops : Bool) (b d : ExchangeView) → Answers v w s q reply → stops ≡ is_stop_reply reply →
+    d ≡ record b { replies = b.replies ++ reply ∷ []; stopped = stops } → Entered s q v w d (with_answer v.server v.history s q b)
+answer_entered v w s q reply stops b d done stop sent =
+    let last : stops ≡ is_stop (v.server.answers v.history s q) =
+    stop ∙ ap is_stop_reply done.whole ∙ same_stop (accepted (served v.server v.history s q)) (v.server.answers v.history s q) in
+    record {
+      rules = done.rules;
+      server = done.server;
+      entries = done.entries;
+      channel = sent ∙ ap (λ (x : Reply). record b { replies = b.replies ++ x ∷ []; stopped = stops }) done.whole
+          ∙ ap (λ (x : Bool). record b { replies = b.replies ++ whole_reply v.server v.history s q ∷ []; stopped = x }) last;
+    }
+
+pub end_entered : (v w : ServerView) (s : ℕ) (reply : Reply) (b d : ExchangeView) → Answers v w s requests.End reply → d ≡ record b { stopped = true } →
+    Entered s requests.End v w d (record b { stopped = true })
+end_entered v w s reply b d done stop = record { rules = done.rules; server = done.server; entries = done.entries; channel = stop }
+
+-- ---- The sequencer
+
 grew_history : (v w : SequencerView) (e : Entry) → Grew v w e → history w ≡ e ∷ history v
 grew_history v w e g = ap reverse g.entries ∙ reverse-append v.journal.entries (e ∷ [])
 
-pub reply_whole : (v w : SequencerView) (s : ℕ) (q : Request) (reply : Reply) → Answered v w s q reply → reply ≡ whole_reply v.rules (history v) s q
-reply_whole v w s q reply done =
-    done.whole ∙ ap (λ (h : List Entry). full_reply (accepted h) (reply_to v.rules (history v) s q)) (grew_history v w (entry_of s q (reply_to v.rules (history v) s q)) done.grew)
-
--- A history with one entry more is longer.
-pub entered_longer : (s : ℕ) (q : Request) (v w : SequencerView) (c d : ExchangeView) → Entered s q v w c d → length (history w) ≡ length (history v) + one_if true
-entered_longer s q v w c d done = let long : length (history w) ≡ length (with_entry v.rules (history v) s q) = ap (λ (h : List Entry). length h) done.entries in omega (arith, long)
-
--- A step entered a request with its reply.
-pub answer_entered : (v w : SequencerView) (s : ℕ) (q : Request) (reply : Reply) (stops : Bool) (b d : ExchangeView) → Answered v w s q reply → stops ≡ is_stop_reply reply →
-    d ≡ record b { replies = b.replies ++ reply ∷ []; stopped = stops } → Entered s q v w d (with_answer v.rules (history v) s q b)
-answer_entered v w s q reply stops b d done stop sent =
-    let grown : history w ≡ with_entry v.rules (history v) s q = grew_history v w (entry_of s q (reply_to v.rules (history v) s q)) done.grew in
-    let whole : reply ≡ whole_reply v.rules (history v) s q = reply_whole v w s q reply done in
-    let last : stops ≡ is_stop (reply_to v.rules (history v) s q) =
-    stop ∙ ap is_stop_reply whole ∙ same_stop (accepted (with_entry v.rules (history v) s q)) (reply_to v.rules (history v) s q) in
+pub sequencer_answers : (v w : SequencerView) (s : ℕ) (q : Request) (r : Result Reply AllocError) → IfOk r (Answered v w s q) → IfOk r (Answers (sequencer_view v) (sequencer_view w) s q)
+sequencer_answers v w s q (Err e) done = tt
+sequencer_answers v w s q (Ok reply) done =
+    let grown : history w ≡ served (plain_server v.rules) (history v) s q = grew_history v w (entry_of s q (reply_to v.rules (history v) s q)) done.grew in
     record {
       rules = done.grew.rules;
+      server = ap plain_server done.grew.rules;
       entries = grown;
-      channel = sent ∙ ap (λ (x : Reply). record b { replies = b.replies ++ x ∷ []; stopped = stops }) whole
-          ∙ ap (λ (x : Bool). record b { replies = b.replies ++ full_reply (accepted (with_entry v.rules (history v) s q)) (reply_to v.rules (history v) s q) ∷ []; stopped = x }) last;
+      whole = done.whole ∙ ap (λ (h : List Entry). full_reply (accepted h) (reply_to v.rules (history v) s q)) grown;
     }
-
-pub end_entered : (v w : SequencerView) (s : ℕ) (reply : Reply) (b d : ExchangeView) → Answered v w s requests.End reply → d ≡ record b { stopped = true } →
-    Entered s requests.End v w d (record b { stopped = true })
-end_entered v w s reply b d done stop = record {
-  rules = done.grew.rules;
-  entries = grew_history v w (entry_of s requests.End (reply_to v.rules (history v) s requests.End)) done.grew;
-  channel = stop;
-}

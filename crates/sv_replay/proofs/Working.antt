@@ -11,14 +11,15 @@ use Rattle.sv_wire.specs.declared.message.Request.TheVariants as requests
 use Rattle.sv_journal.specs.declared.entry.Entry.{Entry}
 use Rattle.sv_journal.specs.History.{Authored, accepted, full_reply}
 use Rattle.sv_journal.specs.Sessions.{is_end}
-use Rattle.sv_journal.specs.Answer.{Rules}
 use Rattle.sv_client.specs.declared.trace.Event.TheVariants as events
 use Rattle.sv_client.specs.Traces.{current_session, got}
 use Rattle.sv_client.specs.Taking.{Fault, first_fault_of_reply}
 use Rattle.sv_script.specs.Following.{must_join}
 use Rattle.sv_system.specs.Fits.{requests_in, replies_in, is_ended}
 use Rattle.sv_system.proofs.Entered.{is_of}
-use Rattle.sv_schedule.specs.Schedule.{Player, Run, asked_in_run, closed_by, is_stopped, with_entry, session_turn, open_session, takes, takes_if, take_in, take_turn, at_player, repeated, does, take_turns}
+use Rattle.sv_schedule.specs.Players.{Player, asked_in_run, closed_by, open_session, takes, takes_if, take_in, take_turn, at_player, repeated, does, take_turns}
+use Rattle.sv_schedule.specs.Serving.{Run, Server, served, is_stopped, session_served}
+use Rattle.sv_schedule.specs.Served.{KeepsSound}
 use Rattle.sv_replay.specs.Machine.{after_session, after_take}
 use Rattle.sv_replay.specs.Serving.{one_if}
 use Rattle.sv_replay.specs.Work.{work_left, work_in, work_for, work_of_session, work_of_client, Found}
@@ -27,34 +28,36 @@ use Rattle.sv_replay.proofs.Machines.{get_set, set_same}
 
 -- ---- A session's turns
 
-entry_lessens : (r : Rules) (ps : List Player) (s : ℕ) (h : List Entry) (q : Request) → is_ended h s ≡ false →
-    (is_end q ≡ true) ⊎ ((is_end q ≡ false) × (length (requests_in h s) < length (asked_in_run ps s))) → work_left ps s (with_entry r h s q) < work_left ps s h
-entry_lessens r ps s h q running (inl end) =
+entry_lessens : (server : Server) (keeps : KeepsSound server) (ps : List Player) (s : ℕ) (h : List Entry) (q : Request) → is_ended h s ≡ false →
+    (is_end q ≡ true) ⊎ ((is_end q ≡ false) × (length (requests_in h s) < length (asked_in_run ps s))) → work_left ps s (served server h s q) < work_left ps s h
+entry_lessens server keeps ps s h q running (inl end) =
     let here : (s == s) ≡ true = eq-eqb s s refl in
-    let same : requests_in (with_entry r h s q) s ≡ requests_in h s = rw (here, end) refl in
-    let ended : is_ended (with_entry r h s q) s ≡ true = rw (here, end) refl in
+    let ends : is_end (server.hears h s q) ≡ true = keeps.ends h s q ∙ end in
+    let same : requests_in (served server h s q) s ≡ requests_in h s = rw (here, ends) refl in
+    let ended : is_ended (served server h s q) s ≡ true = rw (here, ends) refl in
     subst (λ (n : ℕ). n < work_left ps s h)
-    (sym (ap (λ (rs : List Request). length (drop (length rs) (asked_in_run ps s)) + (if is_ended (with_entry r h s q) s then 0 else 1)) same
+    (sym (ap (λ (rs : List Request). length (drop (length rs) (asked_in_run ps s)) + (if is_ended (served server h s q) s then 0 else 1)) same
     ∙ ap (λ (b : Bool). length (drop (length (requests_in h s)) (asked_in_run ps s)) + (if b then 0 else 1)) ended))
     (subst (λ (b : Bool). length (drop (length (requests_in h s)) (asked_in_run ps s)) + 0 < length (drop (length (requests_in h s)) (asked_in_run ps s)) + (if b then 0 else 1)) (sym running) (omega arith))
-entry_lessens r ps s h q running (inr asked) =
+entry_lessens server keeps ps s h q running (inr asked) =
     let here : (s == s) ≡ true = eq-eqb s s refl in
-    let more : requests_in (with_entry r h s q) s ≡ requests_in h s ++ q ∷ [] = rw (here, asked.0) refl in
-    let still : is_ended (with_entry r h s q) s ≡ false = rw (here, asked.0) running in
-    let long : length (requests_in h s ++ q ∷ []) ≡ length (requests_in h s) + 1 = length-append (requests_in h s) (q ∷ []) in
-    let a : length (drop (length (requests_in h s ++ q ∷ [])) (asked_in_run ps s)) ≡ length (asked_in_run ps s) - length (requests_in h s ++ q ∷ []) = length-drop (length (requests_in h s ++ q ∷ [])) (asked_in_run ps s) in
+    let goes : is_end (server.hears h s q) ≡ false = keeps.ends h s q ∙ asked.0 in
+    let more : requests_in (served server h s q) s ≡ requests_in h s ++ server.hears h s q ∷ [] = rw (here, goes) refl in
+    let still : is_ended (served server h s q) s ≡ false = rw (here, goes) running in
+    let long : length (requests_in h s ++ server.hears h s q ∷ []) ≡ length (requests_in h s) + 1 = length-append (requests_in h s) (server.hears h s q ∷ []) in
+    let a : length (drop (length (requests_in h s ++ server.hears h s q ∷ [])) (asked_in_run ps s)) ≡ length (asked_in_run ps s) - length (requests_in h s ++ server.hears h s q ∷ []) = length-drop (length (requests_in h s ++ server.hears h s q ∷ [])) (asked_in_run ps s) in
     let b : length (drop (length (requests_in h s)) (asked_in_run ps s)) ≡ length (asked_in_run ps s) - length (requests_in h s) = length-drop (length (requests_in h s)) (asked_in_run ps s) in
     subst (λ (n : ℕ). n < work_left ps s h)
-    (sym (ap (λ (rs : List Request). length (drop (length rs) (asked_in_run ps s)) + (if is_ended (with_entry r h s q) s then 0 else 1)) more
-    ∙ ap (λ (b : Bool). length (drop (length (requests_in h s ++ q ∷ [])) (asked_in_run ps s)) + (if b then 0 else 1)) still))
-    (subst (λ (x : Bool). length (drop (length (requests_in h s ++ q ∷ [])) (asked_in_run ps s)) + 1 < length (drop (length (requests_in h s)) (asked_in_run ps s)) + (if x then 0 else 1)) (sym running)
+    (sym (ap (λ (rs : List Request). length (drop (length rs) (asked_in_run ps s)) + (if is_ended (served server h s q) s then 0 else 1)) more
+    ∙ ap (λ (b : Bool). length (drop (length (requests_in h s ++ server.hears h s q ∷ [])) (asked_in_run ps s)) + (if b then 0 else 1)) still))
+    (subst (λ (x : Bool). length (drop (length (requests_in h s ++ server.hears h s q ∷ [])) (asked_in_run ps s)) + 1 < length (drop (length (requests_in h s)) (asked_in_run ps s)) + (if x then 0 else 1)) (sym running)
     (omega (arith, a, b, long, asked.1)))
 
 add_one_length : {X : Type 0} (x : X) (xs : List X) → length (x ∷ xs) ≡ length xs + 1
 add_one_length x xs = omega arith
 
-turn_lessens : (r : Rules) (ps : List Player) (s : ℕ) (h : List Entry) → (session_turn r ps h s ≡ h) ⊎ (work_left ps s (session_turn r ps h s) < work_left ps s h)
-turn_lessens r ps s h = elim (cases_Bool (is_ended h s)) [
+turn_lessens : (server : Server) (keeps : KeepsSound server) (ps : List Player) (s : ℕ) (h : List Entry) → (session_served server ps h s ≡ h) ⊎ (work_left ps s (session_served server ps h s) < work_left ps s h)
+turn_lessens server keeps ps s h = elim (cases_Bool (is_ended h s)) [
   | inl ended ↦ inl (rw ended refl)
   | inr running ↦ elim (cases_Bool (is_stopped h s)) [
     | inl stops ↦ inr (lessens running requests.End (rw (running, stops) refl) (inl refl))
@@ -62,9 +65,9 @@ turn_lessens r ps s h = elim (cases_Bool (is_ended h s)) [
   ]
 ]
   where
-    lessens : is_ended h s ≡ false → (q : Request) → session_turn r ps h s ≡ with_entry r h s q → (is_end q ≡ true) ⊎ ((is_end q ≡ false) × (length (requests_in h s) < length (asked_in_run ps s))) →
-        work_left ps s (session_turn r ps h s) < work_left ps s h
-    lessens running q is kind = subst (λ (g : List Entry). work_left ps s g < work_left ps s h) (sym is) (entry_lessens r ps s h q running kind)
+    lessens : is_ended h s ≡ false → (q : Request) → session_served server ps h s ≡ served server h s q → (is_end q ≡ true) ⊎ ((is_end q ≡ false) × (length (requests_in h s) < length (asked_in_run ps s))) →
+        work_left ps s (session_served server ps h s) < work_left ps s h
+    lessens running q is kind = subst (λ (g : List Entry). work_left ps s g < work_left ps s h) (sym is) (entry_lessens server keeps ps s h q running kind)
 
     kind : (q : Request) (qs : List Request) → drop (length (requests_in h s)) (asked_in_run ps s) ≡ q ∷ qs → (is_end q ≡ true) ⊎ ((is_end q ≡ false) × (length (requests_in h s) < length (asked_in_run ps s)))
     kind q qs e = elim (cases_Bool (is_end q)) [
@@ -76,18 +79,18 @@ turn_lessens r ps s h = elim (cases_Bool (is_ended h s)) [
       )
     ]
 
-    closes : is_ended h s ≡ false → is_stopped h s ≡ false → drop (length (requests_in h s)) (asked_in_run ps s) ≡ [] → (session_turn r ps h s ≡ h) ⊎ (work_left ps s (session_turn r ps h s) < work_left ps s h)
+    closes : is_ended h s ≡ false → is_stopped h s ≡ false → drop (length (requests_in h s)) (asked_in_run ps s) ≡ [] → (session_served server ps h s ≡ h) ⊎ (work_left ps s (session_served server ps h s) < work_left ps s h)
     closes running goes none = elim (cases_Bool (list_any (closed_by s) ps)) [
       | inl shut ↦ inr (lessens running requests.End (rw (running, goes, none, shut) refl) (inl refl))
       | inr linked ↦ inl (rw (running, goes, none, linked) refl)
     ]
 
-    waits : is_ended h s ≡ false → is_stopped h s ≡ false → (qs : List Request) → drop (length (requests_in h s)) (asked_in_run ps s) ≡ qs → (session_turn r ps h s ≡ h) ⊎ (work_left ps s (session_turn r ps h s) < work_left ps s h)
+    waits : is_ended h s ≡ false → is_stopped h s ≡ false → (qs : List Request) → drop (length (requests_in h s)) (asked_in_run ps s) ≡ qs → (session_served server ps h s ≡ h) ⊎ (work_left ps s (session_served server ps h s) < work_left ps s h)
     waits running goes [] none = closes running goes none
     waits running goes (q ∷ qs) some = inr (lessens running q (rw (running, goes, some) refl) (kind q qs some))
 
-turn_grows : (r : Rules) (ps : List Player) (s : ℕ) (h : List Entry) → (session_turn r ps h s ≡ h) ⊎ (length (session_turn r ps h s) ≡ length h + 1)
-turn_grows r ps s h = elim (cases_Bool (is_ended h s)) [
+turn_grows : (server : Server) (keeps : KeepsSound server) (ps : List Player) (s : ℕ) (h : List Entry) → (session_served server ps h s ≡ h) ⊎ (length (session_served server ps h s) ≡ length h + 1)
+turn_grows server keeps ps s h = elim (cases_Bool (is_ended h s)) [
   | inl ended ↦ inl (rw ended refl)
   | inr running ↦ elim (cases_Bool (is_stopped h s)) [
     | inl stops ↦ inr (grows requests.End (rw (running, stops) refl))
@@ -95,29 +98,29 @@ turn_grows r ps s h = elim (cases_Bool (is_ended h s)) [
   ]
 ]
   where
-    grows : (q : Request) → session_turn r ps h s ≡ with_entry r h s q → length (session_turn r ps h s) ≡ length h + 1
-    grows q is = let long : length (session_turn r ps h s) ≡ length (with_entry r h s q) = ap (λ (g : List Entry). length g) is in omega (arith, long)
+    grows : (q : Request) → session_served server ps h s ≡ served server h s q → length (session_served server ps h s) ≡ length h + 1
+    grows q is = let long : length (session_served server ps h s) ≡ length (served server h s q) = ap (λ (g : List Entry). length g) is in omega (arith, long)
 
-    closes : is_ended h s ≡ false → is_stopped h s ≡ false → drop (length (requests_in h s)) (asked_in_run ps s) ≡ [] → (session_turn r ps h s ≡ h) ⊎ (length (session_turn r ps h s) ≡ length h + 1)
+    closes : is_ended h s ≡ false → is_stopped h s ≡ false → drop (length (requests_in h s)) (asked_in_run ps s) ≡ [] → (session_served server ps h s ≡ h) ⊎ (length (session_served server ps h s) ≡ length h + 1)
     closes running goes none = elim (cases_Bool (list_any (closed_by s) ps)) [
       | inl shut ↦ inr (grows requests.End (rw (running, goes, none, shut) refl))
       | inr linked ↦ inl (rw (running, goes, none, linked) refl)
     ]
 
-    waits : is_ended h s ≡ false → is_stopped h s ≡ false → (qs : List Request) → drop (length (requests_in h s)) (asked_in_run ps s) ≡ qs → (session_turn r ps h s ≡ h) ⊎ (length (session_turn r ps h s) ≡ length h + 1)
+    waits : is_ended h s ≡ false → is_stopped h s ≡ false → (qs : List Request) → drop (length (requests_in h s)) (asked_in_run ps s) ≡ qs → (session_served server ps h s ≡ h) ⊎ (length (session_served server ps h s) ≡ length h + 1)
     waits running goes [] none = closes running goes none
     waits running goes (q ∷ qs) some = inr (grows q (rw (running, goes, some) refl))
 
 -- A turn that entered something left less to do, and one that did not changed nothing.
-pub turn_found : (r : Rules) (ps : List Player) (s : ℕ) (h g : List Entry) (found : Bool) → g ≡ session_turn r ps h s → length g ≡ length h + one_if found →
+pub turn_found : (server : Server) (keeps : KeepsSound server) (ps : List Player) (s : ℕ) (h g : List Entry) (found : Bool) → g ≡ session_served server ps h s → length g ≡ length h + one_if found →
     Found (work_of_session s) (record { history = h; players = ps }) (record { history = g; players = ps }) found
-turn_found r ps s h g true is long = elim (turn_lessens r ps s h) [
+turn_found server keeps ps s h g true is long = elim (turn_lessens server keeps ps s h) [
   | inl e ↦ absurd (let same : length g ≡ length h = ap (λ (x : List Entry). length x) (is ∙ e) in omega (arith, long, same))
   | inr less ↦ subst (λ (x : List Entry). work_left ps s x < work_left ps s h) (sym is) less
 ]
-turn_found r ps s h g false is long = elim (turn_grows r ps s h) [
+turn_found server keeps ps s h g false is long = elim (turn_grows server keeps ps s h) [
   | inl e ↦ ap (λ (x : List Entry). record { history = x; players = ps }) (is ∙ e)
-  | inr more ↦ absurd (let same : length g ≡ length (session_turn r ps h s) = ap (λ (x : List Entry). length x) is in omega (arith, long, same, more))
+  | inr more ↦ absurd (let same : length g ≡ length (session_served server ps h s) = ap (λ (x : List Entry). length x) is in omega (arith, long, same, more))
 ]
 
 at_most_one : (b : Bool) → (if b then 0 else 1) ≤ 1
@@ -125,21 +128,21 @@ at_most_one true = omega arith
 at_most_one false = omega arith
 
 -- A turn before all turns of a session is one of them.
-pub serve_again : (r : Rules) (s : ℕ) (run : Run) → after_session r s (record run { history = session_turn r run.players run.history s }) ≡ after_session r s run
-serve_again r s run =
+pub serve_again : (server : Server) (keeps : KeepsSound server) (s : ℕ) (run : Run) → after_session server s (record run { history = session_served server run.players run.history s }) ≡ after_session server s run
+serve_again server keeps s run =
     let ps = run.players in
     let h = run.history in
     let most : length (drop (length (requests_in h s)) (asked_in_run ps s)) ≡ length (asked_in_run ps s) - length (requests_in h s) = length-drop (length (requests_in h s)) (asked_in_run ps s) in
     let one : (if is_ended h s then 0 else 1) ≤ 1 = at_most_one (is_ended h s) in
     ap (λ (g : List Entry). record run { history = g })
-    (repeated-enough (work_left ps s) (λ h. session_turn r ps h s) (turn_lessens r ps s) (suc (suc (length (asked_in_run ps s)))) (suc (length (asked_in_run ps s))) h
+    (repeated-enough (work_left ps s) (λ h. session_served server ps h s) (turn_lessens server keeps ps s) (suc (suc (length (asked_in_run ps s)))) (suc (length (asked_in_run ps s))) h
     (omega (arith, most, one)) (omega (arith, most, one)))
 
 -- Where a turn changes nothing, all turns of a session change nothing.
-pub serve_still : (r : Rules) (s : ℕ) (run : Run) → record run { history = session_turn r run.players run.history s } ≡ run → after_session r s run ≡ run
-serve_still r s run e =
+pub serve_still : (server : Server) (s : ℕ) (run : Run) → record run { history = session_served server run.players run.history s } ≡ run → after_session server s run ≡ run
+serve_still server s run e =
     ap (λ (g : List Entry). record run { history = g })
-    (repeated-still (suc (length (asked_in_run run.players s))) (λ h. session_turn r run.players h s) run.history (ap (λ (x : Run). x.history) e))
+    (repeated-still (suc (length (asked_in_run run.players s))) (λ h. session_served server run.players h s) run.history (ap (λ (x : Run). x.history) e))
 
 -- ---- Replies that wait for a player
 

@@ -1,22 +1,25 @@
 -- The machine that plays a scenario, and the run that it stands for.
 -- A history is the list of a journal's entries with the latest first; events stand with the latest first too.
-use Rattle.std.specs.Prelude.{◌≡◌, ℕ, ◌<◌, Bool, true, false, ◌||◌, List, ◌∷◌, ◌++◌, map, length, reverse, slice_index_or, All}
+use Rattle.std.specs.Prelude.{◌≡◌, ℕ, ◌<◌, Bool, true, false, ◌||◌, List, ◌∷◌, ◌++◌, map, length, slice_index_or, All}
 use Rattle.sv_wire.specs.declared.message.Reply.{Reply}
 use Rattle.sv_wire.specs.declared.message.Request.{Request}
 use Rattle.sv_client.specs.declared.trace.Event.{Event}
 use Rattle.sv_client.specs.Seen.{raised, newly_asked}
+use Rattle.sv_scenario.specs.declared.scenario.Scenario.{Scenario}
 use Rattle.sv_scenario.specs.declared.scenario.Step.{Step}
 use Rattle.sv_scenario.specs.Limits.{IsGoodScenario}
 use Rattle.sv_scenario.specs.Sessions.{session_count}
-use Rattle.sv_asked.specs.Numbers.{ScenarioFits}
 use Rattle.sv_script.specs.Following.{must_join, is_welcomed}
-use Rattle.sv_journal.specs.Answer.{Rules}
-use Rattle.sv_schedule.specs.Schedule.{Player, Run, rules_of, session_turns, at_player, take_turns}
-use Rattle.sv_schedule.specs.Sound.{IsSound}
+use Rattle.sv_schedule.specs.Players.{Player, at_player, take_turns}
+use Rattle.sv_schedule.specs.Serving.{Run, Server, all_served}
+use Rattle.sv_schedule.specs.Schedule.{rules_of}
+use Rattle.sv_schedule.specs.Served.{IsSoundOver}
 use Rattle.sv_replay.specs.declared.machine.Machine.{Machine}
 use Rattle.sv_replay.specs.declared.playing.Playing.{Playing}
 use Rattle.sv_exchange.specs.View.{ExchangeView, new_exchange}
 use Rattle.sv_replay.specs.Players.{session_of, IsFit, Moves, is_closing, IsChannel}
+use Rattle.sv_replay.specs.Serving.{ServerView}
+use Rattle.sv_replay.specs.Playable.{IsPlayable}
 
 -- ---- Players
 
@@ -67,34 +70,51 @@ pub record Moved (next : Player) (old new : Playing) (c d : ExchangeView) : Type
 
 -- ---- The machine
 
-abbrev pub run_of : Machine → Run
-run_of m = record { history = reverse m.sequencer.journal.entries; players = map player_of m.players.items }
+-- A scenario's run so far: who serves it, the clients, and their connections.
+pub record Stage : Type 0 where
+  pub scenario : Scenario
+  pub serves : ServerView
+  pub players : List Playing
+  pub channels : List ExchangeView
 
--- The machine is in step with the run that it stands for, which is a sound one of its scenario.
-pub record IsMachine (m : Machine) : Type 0 where
-  pub good : IsGoodScenario m.scenario.now
-  pub numbers : ScenarioFits m.scenario.now
-  pub rules : m.sequencer.rules ≡ rules_of m.scenario.now
-  pub sound : IsSound m.scenario.now (run_of m)
-  pub flags : All AreFlags m.players.items
-  pub count : length m.channels.items ≡ session_count m.scenario.now
-  pub channels : (s : ℕ) → s < session_count m.scenario.now → IsChannel (run_of m) s (slice_index_or m.channels.items s new_exchange)
+-- What a machine has of a run, where this is seen of its server.
+abbrev pub stage_of : {S : Type 0} → (S → ServerView) → Machine S → Stage
+stage_of view m = record { scenario = m.scenario.now; serves = view m.server; players = m.players.items; channels = m.channels.items }
 
--- The machine went on to a run of the same scenario.
-pub record Became (old new : Machine) (run : Run) : Type 0 where
-  pub scenario : new.scenario.now ≡ old.scenario.now
+abbrev pub run_of : Stage → Run
+run_of m = record { history = m.serves.history; players = map player_of m.players }
+
+-- The machine is in step with the run that it stands for, which is a sound one of its scenario over its server.
+pub record IsMachine (m : Stage) : Type 0 where
+  pub good : IsGoodScenario m.scenario
+  pub playable : IsPlayable m.scenario m.serves.server
+  pub rules : m.serves.rules ≡ rules_of m.scenario
+  pub sound : IsSoundOver m.serves.server m.scenario (run_of m)
+  pub flags : All AreFlags m.players
+  pub count : length m.channels ≡ session_count m.scenario
+  pub channels : (s : ℕ) → s < session_count m.scenario → IsChannel (run_of m) s (slice_index_or m.channels s new_exchange)
+
+-- The machine went on to a run of the same scenario over the same server.
+pub record Became (old new : Stage) (run : Run) : Type 0 where
+  pub scenario : new.scenario ≡ old.scenario
+  pub server : new.serves.server ≡ old.serves.server
   pub machine : IsMachine new
   pub run_is : run_of new ≡ run
 
+-- It went on to what this makes of its run.
+abbrev pub Went : (Server → Scenario → Run → Run) → Stage → Stage → Type 0
+Went step old new = Became old new (step old.serves.server old.scenario (run_of old))
+
 -- On the way from one machine to a run: what is left to do makes it of the run so far.
-pub record Heads (start now : Machine) (left : Run → Run) (goal : Run) : Type 0 where
-  pub scenario : now.scenario.now ≡ start.scenario.now
+pub record Heads (start now : Stage) (left : Run → Run) (goal : Run) : Type 0 where
+  pub scenario : now.scenario ≡ start.scenario
+  pub server : now.serves.server ≡ start.serves.server
   pub machine : IsMachine now
   pub arrives : left (run_of now) ≡ goal
 
 -- All that a session has to do was done.
-abbrev pub after_session : Rules → ℕ → Run → Run
-after_session r s run = record run { history = session_turns r run.players run.history s }
+abbrev pub after_session : Server → ℕ → Run → Run
+after_session server s run = record run { history = all_served server run.players run.history s }
 
 -- All replies that wait for a client were taken.
 abbrev pub after_take : ℕ → Run → Run

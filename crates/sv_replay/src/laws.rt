@@ -1,12 +1,12 @@
-//! Laws of what is sent over the connections of a run.
-ghost use Rattle.sv_replay.specs.Messages.{RunsAskMessages, RunsReplyMessages};
+//! That a scenario can be run over a sequencer.
+ghost use Rattle.sv_replay.specs.Playable.{ScenariosArePlayable};
 
 use sv_asked::{accepted_are_few, replies_are_messages, requests_are_messages};
 
-/// Whatever is asked or replied in a sound run of a scenario is a message.
-pub(crate) fn runs_are_messages()
-    ensures asked { RunsAskMessages }
-    ensures replied { RunsReplyMessages }
+/// A scenario can be run over the server that answers by the table: its runs stay sound, and in a sound one whatever is asked or replied is a
+/// message, and no client refuses its next reply.
+pub(crate) fn scenarios_are_playable()
+    ensures { ScenariosArePlayable }
 {
     requests_are_messages();
     replies_are_messages();

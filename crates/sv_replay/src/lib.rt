@@ -7,8 +7,10 @@ mod opening;
 mod played;
 mod playing;
 mod schedule;
+mod server;
 mod serving;
 
 pub use opening::open_sequencer;
 pub use played::played_of;
-pub use schedule::run_schedule;
+pub use schedule::{Ran, run_over, run_schedule};
+pub use server::Server;

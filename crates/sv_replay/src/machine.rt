@@ -5,37 +5,35 @@ ghost use Rattle.sv_scenario.specs.declared.scenario.Turn.TheVariants as turns;
 ghost use Rattle.sv_scenario.specs.Limits.{IsGoodTurn};
 ghost use Rattle.sv_scenario.specs.Sessions.{session_count};
 ghost use Rattle.sv_system.specs.Fits.{is_ended};
-ghost use Rattle.sv_schedule.specs.Schedule.{Player, rules_of, turned, all_turned, after_clients, after_sessions, after_takes, round, repeated};
-ghost use Rattle.sv_replay.specs.Machine.{run_of, IsMachine, Became, after_session, after_take};
+ghost use Rattle.sv_schedule.specs.Players.{Player, repeated};
+ghost use Rattle.sv_schedule.specs.Serving.{turn_served, turns_served, after_clients, after_served, after_takes, round_served};
+ghost use Rattle.sv_replay.specs.Machine.{stage_of, run_of, IsMachine, Went, after_session, after_take};
 ghost use Rattle.sv_replay.specs.Work.{Found, work_of_session, work_of_client};
 
-use crate::laws::runs_are_messages;
 use crate::playing::Playing;
+use crate::server::Server;
 use crate::serving::serve;
 use std::alloc::{AllocError, Global};
 use sv_exchange::Exchange;
 use sv_scenario::{Scenario, Turn};
-use sv_schedule::scheduled_runs_end;
-use sv_sequencer::Sequencer;
 
 /// A scenario's run so far: the server, the clients and their connections, one for each session.
 #[derive(Drop)]
-pub(crate) struct Machine<'a> {
+pub(crate) struct Machine<'a, S: Server> {
     pub(crate) alloc: Global,
     pub(crate) scenario: &'a Scenario,
-    pub(crate) sequencer: Sequencer,
+    pub(crate) server: S,
     pub(crate) players: Vec<Playing<'a>>,
     pub(crate) channels: Vec<Exchange>,
 }
 
-impl<'a> Machine<'a> {
+impl<'a, S: Server> Machine<'a, S> {
     /// A client's turn: it joins its first or next session, or does its next step, if it can.
     fn client_turn(&mut self, client: usize) -> Result<(), AllocError>
-        requires machine { IsMachine self.old }
+        requires machine { IsMachine (stage_of S.view self.old) }
         requires client { client < length self.old.scenario.now.clients }
-        ensures { OnOk result (Became self.old self.new (turned (rules_of self.old.scenario.now) (run_of self.old) (turns.Client client))) }
+        ensures { OnOk result (Went (λ server scenario run. turn_served server run (turns.Client client)) (stage_of S.view self.old) (stage_of S.view self.new)) }
     {
-        runs_are_messages();
         let player = &mut self.players[client];
         let session = player.session() as usize;
         player.turn(self.alloc, &mut self.channels[session])
@@ -43,14 +41,13 @@ impl<'a> Machine<'a> {
 
     /// A session's turn: its next waiting request, or its End, if that is due. Whether it found something to do.
     fn session_turn(&mut self, session: u16) -> Result<bool, AllocError>
-        requires machine { IsMachine self.old }
+        requires machine { IsMachine (stage_of S.view self.old) }
         requires session { session < session_count self.old.scenario.now }
-        ensures became { OnOk result (Became self.old self.new (turned (rules_of self.old.scenario.now) (run_of self.old) (turns.Session session))) }
-        ensures found { IfOk result (Found (work_of_session session) (run_of self.old) (run_of self.new)) }
+        ensures became { OnOk result (Went (λ server scenario run. turn_served server run (turns.Session session)) (stage_of S.view self.old) (stage_of S.view self.new)) }
+        ensures found { IfOk result (Found (work_of_session session) (run_of (stage_of S.view self.old)) (run_of (stage_of S.view self.new))) }
     {
-        runs_are_messages();
         serve(
-            &mut self.sequencer,
+            &mut self.server,
             &mut self.channels[session as usize],
             session,
         )
@@ -58,12 +55,11 @@ impl<'a> Machine<'a> {
 
     /// A client takes the next reply that waits for it, if there is one. Whether it took one.
     fn take_turn(&mut self, client: usize) -> Result<bool, AllocError>
-        requires machine { IsMachine self.old }
+        requires machine { IsMachine (stage_of S.view self.old) }
         requires client { client < length self.old.scenario.now.clients }
-        ensures became { OnOk result (Became self.old self.new (turned (rules_of self.old.scenario.now) (run_of self.old) (turns.Take client))) }
-        ensures found { IfOk result (Found (work_of_client client) (run_of self.old) (run_of self.new)) }
+        ensures became { OnOk result (Went (λ server scenario run. turn_served server run (turns.Take client)) (stage_of S.view self.old) (stage_of S.view self.new)) }
+        ensures found { IfOk result (Found (work_of_client client) (run_of (stage_of S.view self.old)) (run_of (stage_of S.view self.new))) }
     {
-        runs_are_messages();
         let player = &mut self.players[client];
         let session = player.session() as usize;
         player.take(&mut self.channels[session])
@@ -71,9 +67,9 @@ impl<'a> Machine<'a> {
 
     /// The turn of a schedule.
     fn turn(&mut self, turn: Turn) -> Result<(), AllocError>
-        requires machine { IsMachine self.old }
+        requires machine { IsMachine (stage_of S.view self.old) }
         requires turn { IsGoodTurn (length self.old.scenario.now.clients) (session_count self.old.scenario.now) turn }
-        ensures { OnOk result (Became self.old self.new (turned (rules_of self.old.scenario.now) (run_of self.old) turn)) }
+        ensures { OnOk result (Went (λ server scenario run. turn_served server run turn) (stage_of S.view self.old) (stage_of S.view self.new)) }
     {
         match turn {
             Turn::Client(client) => self.client_turn(usize::from(client))?,
@@ -89,8 +85,8 @@ impl<'a> Machine<'a> {
 
     /// The turns of the scenario's schedule.
     pub(crate) fn run_turns(&mut self) -> Result<(), AllocError>
-        requires { IsMachine self.old }
-        ensures { OnOk result (Became self.old self.new (all_turned (rules_of self.old.scenario.now) (run_of self.old) self.old.scenario.now.schedule)) }
+        requires { IsMachine (stage_of S.view self.old) }
+        ensures { OnOk result (Went (λ server scenario run. turns_served server run scenario.schedule) (stage_of S.view self.old) (stage_of S.view self.new)) }
     {
         let scenario = self.scenario;
         for turn in scenario.schedule.as_slice() {
@@ -101,8 +97,8 @@ impl<'a> Machine<'a> {
 
     /// Each client's turn.
     fn client_turns(&mut self) -> Result<(), AllocError>
-        requires { IsMachine self.old }
-        ensures { OnOk result (Became self.old self.new (after_clients (run_of self.old))) }
+        requires { IsMachine (stage_of S.view self.old) }
+        ensures { OnOk result (Went (λ server scenario run. after_clients run) (stage_of S.view self.old) (stage_of S.view self.new)) }
     {
         for client in 0..self.players.len() {
             self.client_turn(client)?;
@@ -112,9 +108,9 @@ impl<'a> Machine<'a> {
 
     /// All that a session has to do: each waiting request, and the End.
     fn serve_all(&mut self, session: u16) -> Result<(), AllocError>
-        requires machine { IsMachine self.old }
+        requires machine { IsMachine (stage_of S.view self.old) }
         requires session { session < session_count self.old.scenario.now }
-        ensures { OnOk result (Became self.old self.new (after_session (rules_of self.old.scenario.now) session (run_of self.old))) }
+        ensures { OnOk result (Went (λ server scenario run. after_session server session run) (stage_of S.view self.old) (stage_of S.view self.new)) }
     {
         while self.session_turn(session)? {}
         Ok(())
@@ -122,10 +118,10 @@ impl<'a> Machine<'a> {
 
     /// All that each session has to do.
     fn session_turns(&mut self) -> Result<(), AllocError>
-        requires { IsMachine self.old }
-        ensures { OnOk result (Became self.old self.new (after_sessions (rules_of self.old.scenario.now) (run_of self.old))) }
+        requires { IsMachine (stage_of S.view self.old) }
+        ensures { OnOk result (Went (λ server scenario run. after_served server (session_count scenario) run) (stage_of S.view self.old) (stage_of S.view self.new)) }
     {
-        for session in 0..self.sequencer.sessions() {
+        for session in 0..self.server.sessions() {
             self.serve_all(session)?;
         }
         Ok(())
@@ -133,9 +129,9 @@ impl<'a> Machine<'a> {
 
     /// All replies that wait for a client.
     fn take_all(&mut self, client: usize) -> Result<(), AllocError>
-        requires machine { IsMachine self.old }
+        requires machine { IsMachine (stage_of S.view self.old) }
         requires client { client < length self.old.scenario.now.clients }
-        ensures { OnOk result (Became self.old self.new (after_take client (run_of self.old))) }
+        ensures { OnOk result (Went (λ server scenario run. after_take client run) (stage_of S.view self.old) (stage_of S.view self.new)) }
     {
         while self.take_turn(client)? {}
         Ok(())
@@ -143,8 +139,8 @@ impl<'a> Machine<'a> {
 
     /// All replies that wait for each client.
     fn take_turns(&mut self) -> Result<(), AllocError>
-        requires { IsMachine self.old }
-        ensures { OnOk result (Became self.old self.new (after_takes (run_of self.old))) }
+        requires { IsMachine (stage_of S.view self.old) }
+        ensures { OnOk result (Went (λ server scenario run. after_takes run) (stage_of S.view self.old) (stage_of S.view self.new)) }
     {
         for client in 0..self.players.len() {
             self.take_all(client)?;
@@ -154,8 +150,8 @@ impl<'a> Machine<'a> {
 
     /// A round: each client's turn, then each session until it finds nothing to do, then each client's replies until none waits.
     fn round(&mut self) -> Result<(), AllocError>
-        requires { IsMachine self.old }
-        ensures { OnOk result (Became self.old self.new (round (rules_of self.old.scenario.now) (run_of self.old))) }
+        requires { IsMachine (stage_of S.view self.old) }
+        ensures { OnOk result (Went (λ server scenario run. round_served server (session_count scenario) run) (stage_of S.view self.old) (stage_of S.view self.new)) }
     {
         self.client_turns()?;
         self.session_turns()?;
@@ -164,7 +160,7 @@ impl<'a> Machine<'a> {
 
     /// Whether each client closed its last link.
     fn are_closed(&self) -> bool
-        ensures { result ≡ true → All (λ (p : Player). p.closed ≡ true) (run_of self.now).players }
+        ensures { result ≡ true → All (λ (p : Player). p.closed ≡ true) (run_of (stage_of S.view self.now)).players }
     {
         for player in &self.players {
             if !player.closed {
@@ -176,11 +172,11 @@ impl<'a> Machine<'a> {
 
     /// Whether each session had its End.
     fn are_ended(&self) -> bool
-        requires { IsMachine self.now }
-        ensures { result ≡ true → (s : ℕ) → s < session_count self.now.scenario.now → is_ended (run_of self.now).history s ≡ true }
+        requires { IsMachine (stage_of S.view self.now) }
+        ensures { result ≡ true → (s : ℕ) → s < session_count self.now.scenario.now → is_ended (run_of (stage_of S.view self.now)).history s ≡ true }
     {
-        for session in 0..self.sequencer.sessions() {
-            if !self.sequencer.is_ended(session) {
+        for session in 0..self.server.sessions() {
+            if !self.server.is_ended(session) {
                 return false;
             }
         }
@@ -189,10 +185,9 @@ impl<'a> Machine<'a> {
 
     /// At most so many rounds, until all is done.
     pub(crate) fn run_rounds(&mut self, rounds: u16) -> Result<(), AllocError>
-        requires { IsMachine self.old }
-        ensures { OnOk result (Became self.old self.new (repeated rounds (round (rules_of self.old.scenario.now)) (run_of self.old))) }
+        requires { IsMachine (stage_of S.view self.old) }
+        ensures { OnOk result (Went (λ server scenario run. repeated rounds (round_served server (session_count scenario)) run) (stage_of S.view self.old) (stage_of S.view self.new)) }
     {
-        scheduled_runs_end();
         for _ in 0..rounds {
             if self.are_closed() && self.are_ended() {
                 return Ok(());

@@ -3,14 +3,17 @@
 ghost use Rattle.std.specs.Prelude.{◌≡◌, ℕ, false, [], ◌+◌, ◌<◌, ◌≤◌, length, map, slice_index_or, All, IfOk};
 ghost use Rattle.sv_scenario.specs.Limits.{IsGoodScenario, IsGoodPlan};
 ghost use Rattle.sv_scenario.specs.Sessions.{session_count, sessions_of_plan};
-ghost use Rattle.sv_schedule.specs.Schedule.{rules_of, players_from, opening_run};
+ghost use Rattle.sv_schedule.specs.Players.{players_from};
+ghost use Rattle.sv_schedule.specs.Serving.{opening_run};
+ghost use Rattle.sv_schedule.specs.Schedule.{rules_of};
 ghost use Rattle.sv_exchange.specs.View.{new_exchange};
-ghost use Rattle.sv_replay.specs.Machine.{player_of, AreFlags, run_of, IsMachine};
+ghost use Rattle.sv_replay.specs.Playable.{IsPlayable};
+ghost use Rattle.sv_replay.specs.Machine.{player_of, AreFlags, stage_of, run_of, IsMachine};
 
 use crate::machine::Machine;
 use crate::playing::Playing;
+use crate::server::Server;
 use std::alloc::{AllocError, Global};
-use sv_asked::read_scenario_numbers;
 use sv_client::Client;
 use sv_exchange::Exchange;
 use sv_scenario::{Plan, Scenario, sessions_of, sessions_of_plan};
@@ -80,25 +83,27 @@ fn open_channels(alloc: Global, sessions: u16) -> Result<Vec<Exchange>, AllocErr
     Ok(channels)
 }
 
-/// Opens the server, the clients and their connections.
-pub(crate) fn open_machine<'a>(
+/// Opens the clients of a scenario that this server serves, and their connections.
+pub(crate) fn open_machine<'a, S: Server>(
     alloc: Global,
     scenario: &'a Scenario,
-) -> Result<Machine<'a>, AllocError>
-    requires { IsGoodScenario scenario.now }
+    server: S,
+) -> Result<Machine<'a, S>, AllocError>
+    requires good { IsGoodScenario scenario.now }
+    requires playable { IsPlayable scenario.now (S.view server).server }
+    requires rules { (S.view server).rules ≡ rules_of scenario.now }
+    requires empty { (S.view server).history ≡ [] }
     ensures scenario { IfOk result (λ m. m.scenario.now ≡ scenario.now) }
-    ensures machine { IfOk result (λ m. IsMachine m) }
-    ensures run { IfOk result (λ m. run_of m ≡ opening_run scenario.now) }
+    ensures server { IfOk result (λ m. m.server ≡ server) }
+    ensures machine { IfOk result (λ m. IsMachine (stage_of S.view m)) }
+    ensures run { IfOk result (λ m. run_of (stage_of S.view m) ≡ opening_run scenario.now) }
 {
-    // A number is known to be of its type once it is read, and only such numbers can be sent.
-    read_scenario_numbers(scenario);
-    let sequencer = open_sequencer(alloc, scenario)?;
     let players = open_players(alloc, scenario)?;
-    let channels = open_channels(alloc, sequencer.sessions())?;
+    let channels = open_channels(alloc, server.sessions())?;
     Ok(Machine {
         alloc,
         scenario,
-        sequencer,
+        server,
         players,
         channels,
     })

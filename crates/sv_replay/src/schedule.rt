@@ -1,17 +1,22 @@
-ghost use Rattle.std.specs.Prelude.{◌≡◌, ◌<◌, map, reverse, IfOk, All};
-ghost use Rattle.sv_journal.specs.History.{commit_of, committed_of};
+ghost use Rattle.std.specs.Prelude.{◌≡◌, ◌<◌, [], map, reverse, IfOk, All};
 ghost use Rattle.sv_scenario.specs.Limits.{IsGoodScenario};
 ghost use Rattle.sv_system.specs.Records.{IsPlayed};
-ghost use Rattle.sv_schedule.specs.Schedule.{trace_of_player, scheduled_run, traces_of};
+ghost use Rattle.sv_schedule.specs.Players.{trace_of_player};
+ghost use Rattle.sv_schedule.specs.Serving.{run_served, traces_of};
+ghost use Rattle.sv_schedule.specs.Schedule.{rules_of, scheduled_run};
 ghost use Rattle.sv_schedule.specs.Records.{IsReplay};
 ghost use Rattle.sv_replay.specs.declared.playing.Playing.{Playing};
-ghost use Rattle.sv_replay.specs.Machine.{player_of, run_of, IsMachine};
+ghost use Rattle.sv_replay.specs.Playable.{IsPlayable};
+ghost use Rattle.sv_replay.specs.Machine.{player_of, stage_of, run_of, IsMachine};
 
+use crate::laws::scenarios_are_playable;
 use crate::machine::Machine;
-use crate::opening::open_machine;
+use crate::opening::{open_machine, open_sequencer};
 use crate::played::played_of;
 use crate::playing::Playing;
+use crate::server::Server;
 use std::alloc::{AllocError, Global};
+use sv_asked::read_scenario_numbers;
 use sv_client::Trace;
 use sv_scenario::Scenario;
 use sv_schedule::scheduled_runs_are_replays;
@@ -32,30 +37,56 @@ pub fn run_schedule(alloc: Global, scenario: &Scenario) -> Result<Played, AllocE
     ensures replay { IfOk result (λ played. IsReplay scenario.now (reverse played.journal.entries) played.traces) }
 {
     scheduled_runs_are_replays();
-    let mut machine = open_machine(alloc, scenario)?;
+    scenarios_are_playable();
+    // A number is known to be of its type once it is read, and only such numbers can be sent.
+    read_scenario_numbers(scenario);
+    let sequencer = open_sequencer(alloc, scenario)?;
+    let Ran { server, traces } = run_over(alloc, scenario, sequencer)?;
+    played_of(alloc, scenario.world.shape, server, traces)
+}
+
+/// A server after a run, and what each client did.
+#[derive(Drop)]
+pub struct Ran<S> {
+    pub server: S,
+    pub traces: List<Trace>,
+}
+
+/// Runs a scenario on one thread over a server that no one has asked anything yet, by the same turns and rounds as over a sequencer.
+pub fn run_over<S: Server>(
+    alloc: Global,
+    scenario: &Scenario,
+    server: S,
+) -> Result<Ran<S>, AllocError>
+    requires good { IsGoodScenario scenario.now }
+    requires playable { IsPlayable scenario.now (S.view server).server }
+    requires rules { (S.view server).rules ≡ rules_of scenario.now }
+    requires empty { (S.view server).history ≡ [] }
+    ensures rules { IfOk result (λ ran. (S.view ran.server).rules ≡ rules_of scenario.now) }
+    ensures server { IfOk result (λ ran. (S.view ran.server).server ≡ (S.view server).server) }
+    ensures journal { IfOk result (λ ran. (S.view ran.server).history ≡ (run_served (S.view server).server scenario.now).history) }
+    ensures traces { IfOk result (λ ran. ran.traces ≡ traces_of (run_served (S.view server).server scenario.now)) }
+{
+    let mut machine = open_machine(alloc, scenario, server)?;
     machine.run_turns()?;
     machine.run_rounds(MOST_ROUNDS)?;
-    played(machine)
+    left(machine)
 }
 
 /// What a machine's run leaves.
-fn played(machine: Machine<'_>) -> Result<Played, AllocError>
-    requires { IsMachine machine }
-    ensures shape { IfOk result (λ played. played.shape ≡ machine.entry.scenario.now.world.shape) }
-    ensures journal { IfOk result (λ played. reverse played.journal.entries ≡ (run_of machine.entry).history) }
-    ensures traces { IfOk result (λ played. played.traces ≡ traces_of (run_of machine.entry)) }
-    ensures commit { IfOk result (λ played. played.commit ≡ commit_of (run_of machine.entry).history) }
-    ensures committed { IfOk result (λ played. played.committed ≡ committed_of machine.entry.scenario.now.world.values (run_of machine.entry).history) }
+fn left<S: Server>(machine: Machine<'_, S>) -> Result<Ran<S>, AllocError>
+    requires { IsMachine (stage_of S.view machine) }
+    ensures server { IfOk result (λ ran. ran.server ≡ machine.entry.server) }
+    ensures traces { IfOk result (λ ran. ran.traces ≡ traces_of (run_of (stage_of S.view machine.entry))) }
 {
     let Machine {
         alloc,
-        scenario,
-        sequencer,
+        server,
         players,
         ..
     } = machine;
     let traces = traces(alloc, players)?;
-    played_of(alloc, scenario.world.shape, sequencer, traces)
+    Ok(Ran { server, traces })
 }
 
 /// What each client did.

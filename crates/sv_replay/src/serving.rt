@@ -3,13 +3,12 @@
 ghost use Rattle.std.specs.Prelude.{◌≡◌, ◌<◌, ◌+◌, [], ◌∷◌, ◌++◌, true, false, length, IfOk, OnOk};
 ghost use Rattle.sv_wire.specs.declared.message.Request.TheVariants as requests;
 ghost use Rattle.sv_wire.specs.Laws.{IsReply};
-ghost use Rattle.sv_sequencer.specs.Step.{history};
 ghost use Rattle.sv_system.specs.Fits.{is_ended};
 ghost use Rattle.sv_replay.specs.Serving.{is_stop_reply, whole_reply, with_answer, AnswersMessage, Entered, Served, one_if};
 
+use crate::server::Server;
 use std::alloc::AllocError;
 use sv_exchange::Exchange;
-use sv_sequencer::Sequencer;
 use sv_wire::{Reply, Request};
 
 /// Whether a session's loop stops after a reply.
@@ -25,30 +24,30 @@ fn is_stop(reply: &Reply) -> bool
 
 /// A session's turn: its next waiting request, or its End, which is due once its loop has stopped, or once the client's end is closed and no
 /// request waits. Whether it found something to do.
-pub(crate) fn serve(
-    sequencer: &mut Sequencer,
+pub(crate) fn serve<S: Server>(
+    server: &mut S,
     channel: &mut Exchange,
     session: u16,
 ) -> Result<bool, AllocError>
-    requires session { session < sequencer.old.rules.sessions }
-    requires message { AnswersMessage sequencer.old.rules (history sequencer.old) session channel.old }
-    ensures served { OnOk result (Served session sequencer.old sequencer.new channel.old channel.new) }
-    ensures found { IfOk result (λ found. length (history sequencer.new) ≡ length (history sequencer.old) + one_if found) }
+    requires session { session < (S.view server.old).rules.sessions }
+    requires message { AnswersMessage (S.view server.old).server (S.view server.old).history session channel.old }
+    ensures served { OnOk result (Served session (S.view server.old) (S.view server.new) channel.old channel.new) }
+    ensures found { IfOk result (λ found. length (S.view server.new).history ≡ length (S.view server.old).history + one_if found) }
 {
-    if sequencer.is_ended(session) {
+    if server.is_ended(session) {
         return Ok(false);
     }
     if channel.is_stopped() {
-        end(sequencer, channel, session)?;
+        end(server, channel, session)?;
         return Ok(true);
     }
     match channel.next_request()? {
         Some(request) => {
-            answer(sequencer, channel, session, &request)?;
+            answer(server, channel, session, &request)?;
             Ok(true)
         }
         None if channel.is_closed() => {
-            end(sequencer, channel, session)?;
+            end(server, channel, session)?;
             Ok(true)
         }
         None => Ok(false),
@@ -56,19 +55,20 @@ pub(crate) fn serve(
 }
 
 /// Answers a request, which was taken from the connection.
-fn answer(
-    sequencer: &mut Sequencer,
+fn answer<S: Server>(
+    server: &mut S,
     channel: &mut Exchange,
     session: u16,
     request: &Request,
 ) -> Result<(), AllocError>
-    requires session { session < sequencer.old.rules.sessions }
-    requires running { is_ended (history sequencer.old) session ≡ false }
+    requires session { session < (S.view server.old).rules.sessions }
+    requires running { is_ended (S.view server.old).history session ≡ false }
     requires unstopped { channel.old.stopped ≡ false }
-    requires message { IsReply (whole_reply sequencer.old.rules (history sequencer.old) session request.now) }
-    ensures { OnOk result (Entered session request.now sequencer.old sequencer.new channel.new (with_answer sequencer.old.rules (history sequencer.old) session request.now channel.old)) }
+    requires message { IsReply (whole_reply (S.view server.old).server (S.view server.old).history session request.now) }
+    ensures { OnOk result (Entered session request.now (S.view server.old) (S.view server.new) channel.new
+        (with_answer (S.view server.old).server (S.view server.old).history session request.now channel.old)) }
 {
-    let reply = sequencer.step(session, request)?;
+    let reply = server.step(session, request)?;
     let stops = is_stop(&reply);
     send_answer(channel, &reply, stops)
 }
@@ -87,12 +87,12 @@ fn send_answer(channel: &mut Exchange, reply: &Reply, stops: bool) -> Result<(),
 }
 
 /// Ends a session.
-fn end(sequencer: &mut Sequencer, channel: &mut Exchange, session: u16) -> Result<(), AllocError>
-    requires session { session < sequencer.old.rules.sessions }
-    requires running { is_ended (history sequencer.old) session ≡ false }
-    ensures { OnOk result (Entered session requests.End sequencer.old sequencer.new channel.new (record channel.old { stopped = true })) }
+fn end<S: Server>(server: &mut S, channel: &mut Exchange, session: u16) -> Result<(), AllocError>
+    requires session { session < (S.view server.old).rules.sessions }
+    requires running { is_ended (S.view server.old).history session ≡ false }
+    ensures { OnOk result (Entered session requests.End (S.view server.old) (S.view server.new) channel.new (record channel.old { stopped = true })) }
 {
-    sequencer.step(session, &Request::End)?;
+    server.step(session, &Request::End)?;
     channel.stop();
     Ok(())
 }

@@ -20,7 +20,9 @@ use Rattle.sv_client.specs.declared.trace.Event.TheVariants as events
 use Rattle.sv_client.specs.Traces.{submit_of, pending_of, held_of, done_for, is_session, current_session, makes, joins, asked_by, asked}
 use Rattle.sv_system.specs.Fits.{requests_in, is_ended}
 use Rattle.sv_system.proofs.Tests.{each-append}
-use Rattle.sv_schedule.specs.Schedule.{Player, asked_in_run, closed_by, is_stop, is_stopped, with_entry, session_turn, session_turns, sessions_turned}
+use Rattle.sv_schedule.specs.Players.{Player, asked_in_run, closed_by}
+use Rattle.sv_schedule.specs.Serving.{is_stop, is_stopped}
+use Rattle.sv_schedule.specs.Schedule.{with_entry, session_turn, session_turns, sessions_turned}
 use Rattle.sv_schedule.proofs.DoneLists.{repeated-keeps}
 use Rattle.sv_schedule.proofs.DoneSessions.{is_spent, IsTurn, over, stops, steps, closes, waits, turn-is, other-turn}
 

@@ -1,12 +1,11 @@
 -- Once all clients have closed, a round ends all sessions, and a further one changes nothing.
-use Rattle.std.proofs.Common.{◌≡◌, ℕ, suc, ◌+◌, ◌-◌, ◌≤◌, ◌<◌, Bool, true, false, ◌&&◌, ◌||◌, ◌==◌, not, inl, inr, List, [], ◌∷◌, map, length, Option, Some, slice_get, refl, sym, ap, ap₂, ◌∙◌, subst, arith, eqb-true, true≢false}
-use Rattle.std.specs.List.{list_any, AllByRecursion}
+use Rattle.std.proofs.Common.{◌≡◌, ℕ, suc, ◌+◌, ◌-◌, ◌≤◌, ◌<◌, Bool, true, false, ◌&&◌, ◌||◌, ◌==◌, not, inl, inr, List, [], ◌∷◌, map, Option, Some, slice_get, refl, sym, ap, ◌∙◌, subst, arith, eqb-true, true≢false}
+use Rattle.std.specs.List.{list_any}
 use Rattle.std.proofs.lemmas.Bool.{cond-true, cond-false, cases_Bool, cases_lt, and_parts, and_from, or_cases}
-use Rattle.std.proofs.lemmas.List.Elements.{recursion_from_All, All-from_recursion}
+use Rattle.std.proofs.lemmas.List.Elements.{All-from_recursion}
 use Rattle.sv_world.specs.declared.world.Shape.{Shape}
-use Rattle.sv_world.specs.Control.{is_in, below}
-use Rattle.sv_world.proofs.Bases.{is_in-below, below-is_in}
-use Rattle.sv_world.proofs.Members.{is_in-head, is_in-tail}
+use Rattle.sv_world.specs.Control.{below}
+use Rattle.sv_world.proofs.Bases.{is_in-below}
 use Rattle.sv_journal.specs.declared.entry.Entry.{Entry}
 use Rattle.sv_journal.specs.Sessions.{is_end}
 use Rattle.sv_journal.specs.Answer.{Rules}
@@ -17,16 +16,18 @@ use Rattle.sv_scenario.specs.Limits.{IsGoodPlan, IsGoodScenario}
 use Rattle.sv_scenario.specs.Sessions.{sessions_of_plan, sessions_in, session_count}
 use Rattle.sv_script.proofs.Ends.{none-left}
 use Rattle.sv_system.specs.Fits.{is_ended, IsEndLast, is_join_of}
-use Rattle.sv_schedule.specs.Schedule.{Player, Run, rules_of, open_session, closed_by, session_turn, session_turns, sessions_turned, asked_in_run, player_turn, take_turns, after_clients, after_sessions, after_takes, round, repeated}
+use Rattle.sv_schedule.specs.Players.{Player, open_session, closed_by, player_turn, take_turns, repeated}
+use Rattle.sv_schedule.specs.Serving.{Run, after_clients}
+use Rattle.sv_schedule.specs.Schedule.{rules_of, plain_server, round, after_sessions}
 use Rattle.sv_schedule.specs.Sound.{IsPlaying, ArePlaying, IsSound}
 use Rattle.sv_system.specs.Records.{ends_in}
 use Rattle.sv_schedule.specs.Done.{IsDone}
 use Rattle.sv_schedule.proofs.DoneGiven.{NeverRefused, StaySound}
 use Rattle.sv_schedule.proofs.DoneLists.{repeated-sum, repeated-still, map-from, any-there, each-found, each-from}
-use Rattle.sv_schedule.proofs.DoneSessions.{quiet-round, quiet-still}
+use Rattle.sv_schedule.proofs.DoneSessions.{quiet-round}
+use Rattle.sv_schedule.proofs.DoneStill.{round-still}
 use Rattle.sv_schedule.proofs.DoneFacts.{following}
 use Rattle.sv_schedule.proofs.DoneCounts.{low-joined, finished-joined, all-joined}
-use Rattle.sv_schedule.proofs.DoneTakes.{takes-none}
 use Rattle.sv_schedule.proofs.DoneShut.{open-closed, turn-closed, stays-closed}
 use Rattle.sv_schedule.proofs.DoneRounds.{IsGoing, going-clients, going-round, going-rounds, falling-first, falling-rounds, fallen-closed}
 
@@ -127,38 +128,6 @@ closed-done scenario good stay run g closed = record {
       ];
 }
 
--- ---- A round that changes nothing
-
-map-still : (f : Player → Player) (ps : List Player) → AllByRecursion (λ (p : Player). f p ≡ p) ps → map f ps ≡ ps
-map-still f [] a = refl
-map-still f (p ∷ ps) a = ap₂ (λ q qs. q ∷ qs) a.0 (map-still f ps a.1)
-
-still-each : (f : Player → Player) → ((p : Player) → p.closed ≡ true → f p ≡ p) → (ps : List Player) → AllByRecursion (λ (p : Player). p.closed ≡ true) ps →
-    AllByRecursion (λ (p : Player). f p ≡ p) ps
-still-each f keep [] a = tt
-still-each f keep (p ∷ ps) a = (keep p a.0, still-each f keep ps a.1)
-
-sessions-still : (r : Rules) (ps : List Player) (h : List Entry) (ss : List ℕ) → ((s : ℕ) → is_in s ss ≡ true → is_ended h s ≡ true) → sessions_turned r ps h ss ≡ h
-sessions-still r ps h [] ended = refl
-sessions-still r ps h (s ∷ ss) ended =
-    let now : session_turns r ps h s ≡ h =
-    repeated-still (suc (length (asked_in_run ps s))) (λ (g : List Entry). session_turn r ps g s) h (quiet-still r ps s h (inl (ended s (is_in-head s ss)))) in
-    ap (λ (g : List Entry). sessions_turned r ps g ss) now ∙ sessions-still r ps h ss (λ t m. ended t (is_in-tail t s ss m))
-
-pub round-still : (scenario : Scenario) (run : Run) → IsDone scenario run → round (rules_of scenario) run ≡ run
-round-still scenario run d =
-    let r = rules_of scenario in
-    let closed = recursion_from_All (λ (p : Player). p.closed ≡ true) run.players d.closed in
-    let clients : after_clients run ≡ run =
-    ap (λ (ps : List Player). record run { players = ps }) (map-still player_turn run.players (still-each player_turn turn-closed run.players closed)) in
-    let sessions : after_sessions r run ≡ run =
-    ap (λ (h : List Entry). record run { history = h })
-    (sessions-still r run.players run.history (below (session_count scenario)) (λ s m. d.ended s (below-is_in (session_count scenario) s m))) in
-    let takes : after_takes run ≡ run =
-    ap (λ (ps : List Player). record run { players = ps })
-    (map-still (take_turns run.history) run.players (still-each (take_turns run.history) (λ p c. takes-none run.history p (open-closed p c)) run.players closed)) in
-    ap (λ (x : Run). after_takes (after_sessions r x)) clients ∙ ap after_takes sessions ∙ takes
-
 -- ---- So many rounds are enough
 
 pub rounds-done : (scenario : Scenario) → IsGoodScenario scenario → NeverRefused → StaySound scenario → (run : Run) → IsGoing scenario run → (n : ℕ) → 777 ≤ n →
@@ -173,7 +142,7 @@ rounds-done scenario good honest stay run g n l =
     let done : IsDone scenario (f closing) = closed-done scenario good stay closing g2 closed in
     let split : n ≡ suc (775 + suc (n - 777)) = omega (arith, l) in
     let there : repeated n f run ≡ f closing =
-    ap (λ (k : ℕ). repeated k f run) split ∙ repeated-sum 775 (suc (n - 777)) f first ∙ repeated-still (n - 777) f (f closing) (round-still scenario (f closing) done) in
+    ap (λ (k : ℕ). repeated k f run) split ∙ repeated-sum 775 (suc (n - 777)) f first ∙ repeated-still (n - 777) f (f closing) (round-still (plain_server (rules_of scenario)) scenario (f closing) done) in
     subst (IsDone scenario) (sym there) done
 
 -- ---- Ends

@@ -14,7 +14,8 @@ use Rattle.sv_scenario.specs.declared.scenario.Turn.{Turn}
 use Rattle.sv_scenario.specs.Limits.{IsGoodTurn}
 use Rattle.sv_scenario.specs.Sessions.{session_count}
 use Rattle.sv_system.specs.Fits.{replies_in, Fits}
-use Rattle.sv_schedule.specs.Schedule.{Run, rules_of, opening_run, turned, after_clients, after_sessions, after_takes}
+use Rattle.sv_schedule.specs.Serving.{Run, opening_run, after_clients, after_takes}
+use Rattle.sv_schedule.specs.Schedule.{rules_of, turned, after_sessions}
 use Rattle.sv_schedule.specs.Sound.{IsSound}
 
 -- The next reply of the session that a client began last has no fault.

@@ -5,7 +5,7 @@ use Rattle.std.proofs.lemmas.Bool.{or_cases, or_left, or_right}
 use Rattle.std.proofs.lemmas.List.{length-append}
 use Rattle.std.proofs.lemmas.List.Concat.{flat_map-cons}
 use Rattle.std.proofs.lemmas.Option.{none-some, same_Some}
-use Rattle.sv_schedule.specs.Schedule.{Player, at_player, repeated}
+use Rattle.sv_schedule.specs.Players.{Player, at_player, repeated}
 
 -- ---- Repetition
 

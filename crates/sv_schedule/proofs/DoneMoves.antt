@@ -15,7 +15,7 @@ use Rattle.sv_scenario.specs.Sessions.{cuts_by, cuts_in}
 use Rattle.sv_script.specs.Following.{must_join, is_welcomed}
 use Rattle.sv_system.proofs.Aligned.{aligned}
 use Rattle.sv_system.proofs.Pendings.{key_of, keys, submits}
-use Rattle.sv_schedule.specs.Schedule.{Player, does, if_free, is_calm, is_settled, last_steps, next_step, player_turn}
+use Rattle.sv_schedule.specs.Players.{Player, does, if_free, is_calm, is_settled, last_steps, next_step, player_turn}
 use Rattle.sv_schedule.proofs.DoneCounts.{one_if}
 use Rattle.sv_schedule.proofs.DoneTakes.{IsOpen}
 use Rattle.sv_schedule.proofs.DoneShut.{turn-joins, turn-steps}

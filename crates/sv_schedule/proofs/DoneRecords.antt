@@ -12,7 +12,9 @@ use Rattle.sv_scenario.specs.Limits.{IsGoodScenario}
 use Rattle.sv_scenario.specs.Sessions.{sessions_of_plan}
 use Rattle.sv_script.specs.Following.{FollowsTo, FollowsToEnd, is_finished}
 use Rattle.sv_system.specs.Records.{AreTracesOf, IsRecordOf, ScriptsAreFollowed}
-use Rattle.sv_schedule.specs.Schedule.{Player, Run, rules_of, opening_run, all_turned, round, repeated, most_rounds, scheduled_run, trace_of_player, traces_of}
+use Rattle.sv_schedule.specs.Players.{Player, repeated, trace_of_player}
+use Rattle.sv_schedule.specs.Serving.{Run, opening_run, most_rounds, traces_of}
+use Rattle.sv_schedule.specs.Schedule.{rules_of, all_turned, round, scheduled_run}
 use Rattle.sv_schedule.specs.Sound.{IsPlaying, ArePlaying, IsSound}
 use Rattle.sv_schedule.specs.Done.{IsDone}
 use Rattle.sv_schedule.proofs.DoneGiven.{NeverRefused, StaySound}

@@ -12,7 +12,9 @@ use Rattle.sv_journal.specs.declared.entry.Entry.{Entry}
 use Rattle.sv_journal.specs.Sessions.{is_end}
 use Rattle.sv_journal.specs.Answer.{Rules}
 use Rattle.sv_system.specs.Fits.{requests_in, is_ended}
-use Rattle.sv_schedule.specs.Schedule.{Player, asked_in_run, closed_by, is_stop, is_stopped, with_entry, steps_next, session_turn, session_turns, sessions_turned, repeated}
+use Rattle.sv_schedule.specs.Players.{Player, asked_in_run, closed_by, repeated}
+use Rattle.sv_schedule.specs.Serving.{is_stop, is_stopped}
+use Rattle.sv_schedule.specs.Schedule.{with_entry, steps_next, session_turn, session_turns, sessions_turned}
 use Rattle.sv_schedule.proofs.DoneLists.{repeated-keeps}
 
 -- The session was answered a reply that stops its loop, to a request that is no End.

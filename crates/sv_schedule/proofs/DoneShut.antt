@@ -13,7 +13,7 @@ use Rattle.sv_scenario.specs.declared.scenario.Step.{Step}
 use Rattle.sv_scenario.specs.declared.scenario.Step.TheVariants as steps
 use Rattle.sv_script.specs.Following.{must_join, is_welcomed}
 use Rattle.sv_system.specs.Fits.{is_join_of}
-use Rattle.sv_schedule.specs.Schedule.{Player, does, is_settled, next_step, player_turn, open_session, takes_if, takes, take_in, take_turn, take_turns, closed_by, at_player}
+use Rattle.sv_schedule.specs.Players.{Player, does, is_settled, next_step, player_turn, open_session, takes_if, takes, take_in, take_turn, take_turns, closed_by, at_player}
 use Rattle.sv_schedule.proofs.DoneLists.{any-mapped, any-at}
 use Rattle.sv_schedule.proofs.DoneDue.{EndsAreDue}
 use Rattle.sv_schedule.proofs.DoneCounts.{joined-low}

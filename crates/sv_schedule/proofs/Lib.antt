@@ -10,11 +10,14 @@ pub mod DoneRounds
 pub mod DoneSessions
 pub mod DoneShut
 pub mod DoneSound
+pub mod DoneStill
 pub mod DoneTakes
 pub mod DoneWaits
 pub mod SoundCalls
 pub mod SoundEntries
 pub mod SoundLaws
+pub mod SoundOwned
+pub mod SoundPlain
 pub mod SoundPlayers
 pub mod SoundReplies
 pub mod SoundRuns

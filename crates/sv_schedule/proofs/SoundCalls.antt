@@ -18,8 +18,10 @@ use Rattle.sv_scenario.specs.Limits.{IsGoodPlan, IsGoodScenario}
 use Rattle.sv_scenario.specs.Sessions.{sessions_of_plan, sessions_in, session_count}
 use Rattle.sv_script.specs.Following.{must_join, is_welcomed}
 use Rattle.sv_script.proofs.Counts.{events-few}
-use Rattle.sv_schedule.specs.Schedule.{Player, Run, is_calm, is_settled, player_turn, take_turn}
-use Rattle.sv_schedule.specs.Sound.{IsPlaying, ArePlaying, has_joined, IsSound}
+use Rattle.sv_schedule.specs.Players.{Player, is_calm, is_settled, player_turn, take_turn}
+use Rattle.sv_schedule.specs.Serving.{Run, Server}
+use Rattle.sv_schedule.specs.Sound.{IsPlaying, ArePlaying, has_joined}
+use Rattle.sv_schedule.specs.Served.{IsSoundOver}
 use Rattle.sv_schedule.proofs.SoundTraces.{begun_more, joins-within, joined-once}
 use Rattle.sv_schedule.proofs.SoundPlayers.{IsFitting, IsKept, IsUnused, may-join, may-make, may-poll, may-leave, turn-kept, take-kept}
 use Rattle.sv_schedule.proofs.SoundEntries.{begun_by, unused-unless_begun}
@@ -27,7 +29,7 @@ use Rattle.sv_schedule.proofs.SoundRuns.{AreOwn, all-own}
 use Rattle.sv_schedule.proofs.SoundLaws.{sound-stands}
 
 -- A player of a run with so many sessions, with its number, its first session and its plan. No entry is of a session that it did not join yet.
-pub record IsPlayer (shape : Shape) (sessions : ℕ) (h : List Entry) (p : Player) : Type 0 where
+pub record IsPlayer (server : Server) (shape : Shape) (sessions : ℕ) (h : List Entry) (p : Player) : Type 0 where
   pub number : ℕ
   pub first : ℕ
   pub plan : Plan
@@ -35,16 +37,16 @@ pub record IsPlayer (shape : Shape) (sessions : ℕ) (h : List Entry) (p : Playe
   pub few : sessions_of_plan plan ≤ 64
   pub within : first + sessions_of_plan plan ≤ sessions
   pub playing : IsPlaying shape number first plan p
-  pub fitting : IsFitting h p
+  pub fitting : IsFitting server h p
   pub unused : (n : ℕ) → first ≤ n → n < first + sessions_of_plan plan → has_joined p n ≡ false → IsUnused h n
 
-player-in : (shape : Shape) (sessions : ℕ) (h : List Entry) (begun : ℕ → Bool) → ((n : ℕ) → begun n ≡ false → IsUnused h n) → (k s : ℕ) (plans : List Plan) (ps : List Player) → AllByRecursion (IsGoodPlan shape) plans →
-    sessions_in plans ≤ 64 → s + sessions_in plans ≤ sessions → AreOwn begun s plans ps → ArePlaying shape k s plans ps → AllByRecursion (IsFitting h) ps → (i : ℕ) (p : Player) → slice_get ps i ≡ Some p →
-    IsPlayer shape sessions h p
-player-in shape sessions h begun free k s plans [] good few within own w f i p e = absurd (none-some p e)
-player-in shape sessions h begun free k s [] (q ∷ qs) good few within own w f i p e = absurd w
-player-in shape sessions h begun free k s (plan ∷ plans) (q ∷ qs) good few within own w f zero p e =
-    subst (IsPlayer shape sessions h) (same_Some q p e) (record {
+player-in : (server : Server) (shape : Shape) (sessions : ℕ) (h : List Entry) (begun : ℕ → Bool) → ((n : ℕ) → begun n ≡ false → IsUnused h n) → (k s : ℕ) (plans : List Plan) (ps : List Player) → AllByRecursion (IsGoodPlan shape) plans →
+    sessions_in plans ≤ 64 → s + sessions_in plans ≤ sessions → AreOwn begun s plans ps → ArePlaying shape k s plans ps → AllByRecursion (IsFitting server h) ps → (i : ℕ) (p : Player) → slice_get ps i ≡ Some p →
+    IsPlayer server shape sessions h p
+player-in server shape sessions h begun free k s plans [] good few within own w f i p e = absurd (none-some p e)
+player-in server shape sessions h begun free k s [] (q ∷ qs) good few within own w f i p e = absurd w
+player-in server shape sessions h begun free k s (plan ∷ plans) (q ∷ qs) good few within own w f zero p e =
+    subst (IsPlayer server shape sessions h) (same_Some q p e) (record {
       number = k;
       first = s;
       plan = plan;
@@ -55,17 +57,17 @@ player-in shape sessions h begun free k s (plan ∷ plans) (q ∷ qs) good few w
       fitting = f.0;
       unused = λ n above under j. free n (own.0 n above under j);
     })
-player-in shape sessions h begun free k s (plan ∷ plans) (q ∷ qs) good few within own w f (suc i) p e =
-    player-in shape sessions h begun free (suc k) (s + sessions_of_plan plan) plans qs good.1 (omega (arith, few)) (omega (arith, within)) own.1 w.1 f.1 i p e
+player-in server shape sessions h begun free k s (plan ∷ plans) (q ∷ qs) good few within own w f (suc i) p e =
+    player-in server shape sessions h begun free (suc k) (s + sessions_of_plan plan) plans qs good.1 (omega (arith, few)) (omega (arith, within)) own.1 w.1 f.1 i p e
 
-pub player-at : (scenario : Scenario) (run : Run) → IsGoodScenario scenario → IsSound scenario run → (i : ℕ) (p : Player) → slice_get run.players i ≡ Some p →
-    IsPlayer scenario.world.shape (session_count scenario) run.history p
-player-at scenario run good sound i p e =
-    let a = sound-stands scenario run sound in
-    player-in scenario.world.shape (session_count scenario) run.history (begun_by run.players) (λ n b. unused-unless_begun run.players run.history n a.begun b) 0 0 scenario.clients run.players
-    good.plans good.sessions (omega arith) (all-own scenario.world.shape run.history 0 0 scenario.clients run.players a.playing a.fitting) a.playing a.fitting i p e
+pub player-at : (server : Server) (scenario : Scenario) (run : Run) → IsGoodScenario scenario → IsSoundOver server scenario run → (i : ℕ) (p : Player) → slice_get run.players i ≡ Some p →
+    IsPlayer server scenario.world.shape (session_count scenario) run.history p
+player-at server scenario run good sound i p at =
+    let a = sound-stands server scenario run sound in
+    player-in server scenario.world.shape (session_count scenario) run.history (begun_by run.players) (λ n b. unused-unless_begun run.players run.history n a.begun b) 0 0 scenario.clients run.players
+    good.plans good.sessions (omega arith) (all-own server scenario.world.shape run.history 0 0 scenario.clients run.players a.playing a.fitting) a.playing a.fitting i p at
 
-module _ (shape : Shape) (sessions : ℕ) (h : List Entry) (p : Player) (a : IsPlayer shape sessions h p) where
+module _ (server : Server) (shape : Shape) (sessions : ℕ) (h : List Entry) (p : Player) (a : IsPlayer server shape sessions h p) where
   -- Its client has at most 2,048 events.
   pub player-events_few : length p.events ≤ 2048
   player-events_few = events-few p.who p.first a.plan.steps p.events a.playing.before a.good.few_steps a.fitting.proper a.playing.follows
@@ -84,21 +86,21 @@ module _ (shape : Shape) (sessions : ℕ) (h : List Entry) (p : Player) (a : IsP
   -- ---- Each call
 
   pub call-join : must_join p.events ≡ true → MayJoin p.first p.events (p.first + joins p.events)
-  call-join m = may-join shape h a.number a.first a.plan p a.playing a.fitting m a.few
+  call-join m = may-join server shape h a.number a.first a.plan p a.playing a.fitting m a.few
 
   module _ (o : p.closed ≡ false) (m : must_join p.events ≡ false) (v : is_welcomed p.events ≡ true) where
     pub call-make : (action : Action) (ss : List Step) → p.left ≡ steps.Act action ∷ ss → (nat_lt (length (pending_of p.events)) 8 && is_calm p) ≡ true → MayMake p.who p.events action
-    call-make = may-make shape h a.number a.first a.plan p a.playing a.fitting a.good o m v
+    call-make = may-make server shape h a.number a.first a.plan p a.playing a.fitting a.good o m v
 
     pub call-poll : (ss : List Step) → p.left ≡ steps.Poll ∷ ss → is_calm p ≡ true → MayPoll p.who p.events
-    call-poll = may-poll shape h a.number a.first a.plan p a.playing a.fitting a.good o m v
+    call-poll = may-poll server shape h a.number a.first a.plan p a.playing a.fitting a.good o m v
 
     pub call-leave : is_settled p ≡ true → in_session p.events ≡ true → MayLeave p.who p.events
-    call-leave = may-leave shape h a.number a.first a.plan p a.playing a.fitting a.good o m v
+    call-leave = may-leave server shape h a.number a.first a.plan p a.playing a.fitting a.good o m v
 
   -- ---- The player after its turn
 
-  kept-player : (q : Player) → IsKept shape h a.number a.first a.plan p q → IsPlayer shape sessions h q
+  kept-player : (q : Player) → IsKept server shape h a.number a.first a.plan p q → IsPlayer server shape sessions h q
   kept-player q k = record {
     number = a.number;
     first = a.first;
@@ -111,21 +113,21 @@ module _ (shape : Shape) (sessions : ℕ) (h : List Entry) (p : Player) (a : IsP
     unused = λ n above under j. a.unused n above under (false_from_ne_true (has_joined p n) (λ b. true≢false (sym (k.more n b) ∙ j)));
   }
 
-  turn-is_kept : IsKept shape h a.number a.first a.plan p (player_turn p)
-  turn-is_kept = turn-kept shape h a.number a.first a.plan p a.playing a.fitting a.good a.few a.unused
+  turn-is_kept : IsKept server shape h a.number a.first a.plan p (player_turn p)
+  turn-is_kept = turn-kept server shape h a.number a.first a.plan p a.playing a.fitting a.good a.few a.unused
 
-  take-is_kept : IsKept shape h a.number a.first a.plan p (take_turn h p)
-  take-is_kept = take-kept shape h a.number a.first a.plan p a.playing a.fitting
+  take-is_kept : IsKept server shape h a.number a.first a.plan p (take_turn h p)
+  take-is_kept = take-kept server shape h a.number a.first a.plan p a.playing a.fitting
 
-  pub turn-player : IsPlayer shape sessions h (player_turn p)
+  pub turn-player : IsPlayer server shape sessions h (player_turn p)
   turn-player = kept-player (player_turn p) turn-is_kept
 
-  pub take-player : IsPlayer shape sessions h (take_turn h p)
+  pub take-player : IsPlayer server shape sessions h (take_turn h p)
   take-player = kept-player (take_turn h p) take-is_kept
 
   -- ---- Any event that a turn adds
 
-  may-follow : (q : Player) → IsKept shape h a.number a.first a.plan p q → (e : Event) → q.events ≡ e ∷ p.events → MayFollow p.who p.first p.events e
+  may-follow : (q : Player) → IsKept server shape h a.number a.first a.plan p q → (e : Event) → q.events ≡ e ∷ p.events → MayFollow p.who p.first p.events e
   may-follow q k e more =
       let proper : AreProper p.who p.first (e ∷ p.events) =
       subst (λ (t : List Event). AreProper p.who p.first t) more

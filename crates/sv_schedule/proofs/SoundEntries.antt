@@ -1,52 +1,58 @@
 -- An entry more of the history, and the players that fit it.
 use Rattle.std.proofs.Common.{◌≡◌, ℕ, zero, suc, Bool, true, false, ◌==◌, ◌&&◌, not, inl, inr, List, [], ◌∷◌, ◌++◌, drop, length, Some, slice_get, refl, sym, ap, subst, ◌∙◌, eqb-true, true≢false}
 use Rattle.std.specs.List.{list_any, AllByRecursion}
-use Rattle.std.proofs.lemmas.Bool.{or_cases, or_parts, or_left, or_right, cond_both, and_parts, not-true, ne_eqb}
+use Rattle.std.proofs.lemmas.Bool.{or_cases, or_parts, or_left, or_right, and_parts, not-true, ne_eqb}
 use Rattle.sv_wire.specs.declared.message.Request.{Request}
 use Rattle.sv_journal.specs.declared.entry.Entry.{Entry}
 use Rattle.sv_journal.specs.History.{accepted}
 use Rattle.sv_journal.specs.Sessions.{is_end}
-use Rattle.sv_journal.specs.Answer.{Rules, Legal}
 use Rattle.sv_client.specs.Traces.{asked, got}
-use Rattle.sv_system.specs.Fronts.{IsFront}
 use Rattle.sv_system.specs.Fits.{requests_in, replies_in, is_ended}
 use Rattle.sv_system.proofs.Fronts.{front-then}
-use Rattle.sv_schedule.specs.Schedule.{Player, asked_in_run, closed_by, is_stop, is_stopped, with_entry}
+use Rattle.sv_schedule.specs.Players.{Player, asked_in_run, closed_by}
+use Rattle.sv_schedule.specs.Serving.{Server, entry_by, served, is_stop, is_stopped}
 use Rattle.sv_schedule.specs.Sound.{has_joined}
+use Rattle.sv_schedule.specs.Served.{IsHeard, AreNamed, KeepsSound}
 use Rattle.sv_schedule.proofs.SoundTraces.{none-asked}
 use Rattle.sv_schedule.proofs.SoundReplies.{replies-grow}
-use Rattle.sv_schedule.proofs.SoundPlayers.{FitsAt, IsFitting, front-push}
+use Rattle.sv_schedule.proofs.SoundPlayers.{FitsAt, IsFitting}
 
 -- ---- One player
 
-module _ (r : Rules) (h : List Entry) (legal : Legal r h) (s : ℕ) (request : Request) (open-yet : is_ended h s ≡ false) (p : Player) where
+-- The request is the next one that the player asks in the session.
+abbrev pub IsNextOf : List Entry → ℕ → Request → Player → Type 0
+IsNextOf h s request p = has_joined p s ≡ true → is_end request ≡ false → slice_get (asked p.who.client p.who.interest p.events s) (length (requests_in h s)) ≡ Some request
+
+module _ (server : Server) (keeps : KeepsSound server) (h : List Entry) (named : AreNamed h) (s : ℕ) (request : Request) (open-yet : is_ended h s ≡ false) where
   abbrev grown : List Entry
-  grown = with_entry r h s request
+  grown = served server h s request
 
-  -- The request is the next one that the player asks in the session.
-  abbrev pub IsNextOf : Type 0
-  IsNextOf = has_joined p s ≡ true → is_end request ≡ false → slice_get (asked p.who.client p.who.interest p.events s) (length (requests_in h s)) ≡ Some request
+  heard-now : (p : Player) (n : ℕ) → has_joined p n ≡ true → IsNextOf h s request p → (s == n && not (is_end (server.hears h s request))) ≡ true →
+      IsHeard server (entry_by server h s request) h n (asked p.who.client p.who.interest p.events n)
+  heard-now p n j next t =
+      let parts = and_parts (s == n) (not (is_end (server.hears h s request))) t in
+      let same : s ≡ n = eqb-true s n parts.0 in
+      let asks : is_end request ≡ false = sym (keeps.ends h s request) ∙ not-true (is_end (server.hears h s request)) parts.1 in
+      record {
+        request = request;
+        next = subst (λ (i : ℕ). slice_get (asked p.who.client p.who.interest p.events i) (length (requests_in h i)) ≡ Some request) same
+            (next (subst (λ (i : ℕ). has_joined p i ≡ true) (sym same) j) asks);
+        heard = ap (λ (i : ℕ). server.hears h i request) same;
+      }
 
-  grown-at : (n : ℕ) → has_joined p n ≡ true → IsNextOf → FitsAt h p n → FitsAt grown p n
-  grown-at n j next f = record {
-    got = front-then (got p.events n) (replies_in (accepted h) h n) (replies_in (accepted grown) grown n) f.got (replies-grow r _ h n legal);
-    asked = cond_both ((s == n) && not (is_end request)) (requests_in h n ++ request ∷ []) (requests_in h n) (λ (qs : List Request). IsFront qs (asked p.who.client p.who.interest p.events n))
-        (λ t. let parts = and_parts (s == n) (not (is_end request)) t in
-        let same : s ≡ n = eqb-true s n parts.0 in
-        front-push (requests_in h n) (asked p.who.client p.who.interest p.events n) request f.asked
-        (subst (λ (i : ℕ). slice_get (asked p.who.client p.who.interest p.events i) (length (requests_in h i)) ≡ Some request) same
-        (next (subst (λ (i : ℕ). has_joined p i ≡ true) (sym same) j) (not-true (is_end request) parts.1))))
-        (λ _. f.asked);
+  grown-at : (p : Player) (n : ℕ) → has_joined p n ≡ true → IsNextOf h s request p → FitsAt server h p n → FitsAt server grown p n
+  grown-at p n j next f = record {
+    got = front-then (got p.events n) (replies_in (accepted h) h n) (replies_in (accepted grown) grown n) f.got (replies-grow (entry_by server h s request) h n named);
+    heard = (heard-now p n j next, f.heard);
     ended = (λ same. subst (λ (i : ℕ). is_ended h i ≡ false) same open-yet, f.ended);
   }
 
-  pub entry-fits : IsNextOf → IsFitting h p → IsFitting grown p
-  entry-fits next f = record { good = f.good; proper = f.proper; sessions = λ n j. grown-at n j next (f.sessions n j) }
+  entry-fits : (p : Player) → IsNextOf h s request p → IsFitting server h p → IsFitting server grown p
+  entry-fits p next f = record { good = f.good; proper = f.proper; sessions = λ n j. grown-at p n j next (f.sessions n j) }
 
-pub entries-fit : (r : Rules) (h : List Entry) (legal : Legal r h) (s : ℕ) (request : Request) (open-yet : is_ended h s ≡ false) (ps : List Player) →
-    AllByRecursion (λ (p : Player). IsNextOf r h legal s request open-yet p) ps → AllByRecursion (IsFitting h) ps → AllByRecursion (IsFitting (with_entry r h s request)) ps
-entries-fit r h legal s request open-yet [] next f = tt
-entries-fit r h legal s request open-yet (p ∷ ps) next f = (entry-fits r h legal s request open-yet p next.0 f.0, entries-fit r h legal s request open-yet ps next.1 f.1)
+  pub entries-fit : (ps : List Player) → AllByRecursion (IsNextOf h s request) ps → AllByRecursion (IsFitting server h) ps → AllByRecursion (IsFitting server grown) ps
+  entries-fit [] next f = tt
+  entries-fit (p ∷ ps) next f = (entry-fits p next.0 f.0, entries-fit ps next.1 f.1)
 
 -- ---- Sessions that no player joined
 
@@ -57,11 +63,11 @@ begun_by ps n = list_any (λ (p : Player). has_joined p n) ps
 both-empty : {X : Type 0} (xs ys : List X) → xs ≡ [] → ys ≡ [] → xs ++ ys ≡ []
 both-empty xs ys e f = rw (e, f) refl
 
-pub none-asked_in : (h : List Entry) (ps : List Player) (n : ℕ) → AllByRecursion (IsFitting h) ps → begun_by ps n ≡ false → asked_in_run ps n ≡ []
-none-asked_in h [] n f b = refl
-none-asked_in h (p ∷ ps) n f b =
+pub none-asked_in : (server : Server) (h : List Entry) (ps : List Player) (n : ℕ) → AllByRecursion (IsFitting server h) ps → begun_by ps n ≡ false → asked_in_run ps n ≡ []
+none-asked_in server h [] n f b = refl
+none-asked_in server h (p ∷ ps) n f b =
     let parts = or_parts (has_joined p n) (begun_by ps n) b in
-    both-empty (asked p.who.client p.who.interest p.events n) (asked_in_run ps n) (none-asked p.who p.first p.events n f.0.proper parts.0) (none-asked_in h ps n f.1 parts.1)
+    both-empty (asked p.who.client p.who.interest p.events n) (asked_in_run ps n) (none-asked p.who p.first p.events n f.0.proper parts.0) (none-asked_in server h ps n f.1 parts.1)
 
 pub closed-begun : (ps : List Player) (n : ℕ) → list_any (closed_by n) ps ≡ true → begun_by ps n ≡ true
 closed-begun [] n c = c

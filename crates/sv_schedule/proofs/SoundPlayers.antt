@@ -13,6 +13,7 @@ use Rattle.sv_wire.specs.declared.message.Request.{Request}
 use Rattle.sv_wire.specs.declared.message.Request.TheVariants as requests
 use Rattle.sv_journal.specs.declared.entry.Entry.{Entry}
 use Rattle.sv_journal.specs.History.{accepted}
+use Rattle.sv_journal.specs.Sessions.{is_end}
 use Rattle.sv_client.specs.declared.trace.Event.{Event}
 use Rattle.sv_client.specs.declared.trace.Event.TheVariants as events
 use Rattle.sv_client.specs.Traces.{joins, makes, current_session, pending_of, asked, asked_by, got}
@@ -27,37 +28,40 @@ use Rattle.sv_scenario.specs.Sessions.{sessions_of_plan}
 use Rattle.sv_script.specs.Following.{DoesStep, MayCome, must_join, is_welcomed, is_finished, after_syncs, passed_syncs, unsynced, event_of}
 use Rattle.sv_system.specs.Fronts.{IsFront}
 use Rattle.sv_system.specs.Fits.{is_join_of, requests_in, replies_in, IsEndLast}
-use Rattle.sv_system.proofs.Fronts.{front-then, front-append, get-push_cases}
-use Rattle.sv_schedule.specs.Schedule.{Player, does, is_calm, is_settled, last_steps, next_step, player_turn, open_session, takes_if, takes, take_in, take_turn, take_turns, repeated}
+use Rattle.sv_system.proofs.Fronts.{front-append, get-push_cases}
+use Rattle.sv_schedule.specs.Players.{Player, does, is_calm, is_settled, last_steps, next_step, player_turn, open_session, takes_if, takes, take_in, take_turn, take_turns, repeated}
+use Rattle.sv_schedule.specs.Serving.{Server}
 use Rattle.sv_schedule.specs.Sound.{ArePassed, none, sync, IsPlaying, has_joined}
+use Rattle.sv_schedule.specs.Served.{AreHeard}
 use Rattle.sv_schedule.proofs.SoundTraces.{IsNoQuit, nothing-left, left-or_finished, finished-settled, makes-within, joins-within, begun_more, all-left, joined-within}
 
 -- ---- What is true of a player beside the history
 
--- A session of a player fits the history.
-pub record FitsAt (h : List Entry) (p : Player) (s : ℕ) : Type 0 where
+-- A session of a player fits the history of a server.
+pub record FitsAt (server : Server) (h : List Entry) (p : Player) (s : ℕ) : Type 0 where
   pub got : IsFront (got p.events s) (replies_in (accepted h) h s)
-  pub asked : IsFront (requests_in h s) (asked p.who.client p.who.interest p.events s)
+  pub heard : AreHeard server h s (asked p.who.client p.who.interest p.events s)
   pub ended : IsEndLast h s
 
-pub record IsFitting (h : List Entry) (p : Player) : Type 0 where
+pub record IsFitting (server : Server) (h : List Entry) (p : Player) : Type 0 where
   pub good : IsGoodIdentity p.who
   pub proper : AreProper p.who p.first p.events
-  pub sessions : (s : ℕ) → has_joined p s ≡ true → FitsAt h p s
+  pub sessions : (s : ℕ) → has_joined p s ≡ true → FitsAt server h p s
 
 -- A player after a turn, of one before it.
-pub record IsKept (shape : Shape) (h : List Entry) (k s : ℕ) (plan : Plan) (p q : Player) : Type 0 where
+pub record IsKept (server : Server) (shape : Shape) (h : List Entry) (k s : ℕ) (plan : Plan) (p q : Player) : Type 0 where
   pub playing : IsPlaying shape k s plan q
-  pub fitting : IsFitting h q
+  pub fitting : IsFitting server h q
   pub more : (n : ℕ) → has_joined p n ≡ true → has_joined q n ≡ true
 
 -- The history has no entry of a session.
 abbrev pub IsUnused : List Entry → ℕ → Type 0
 IsUnused h n = AllByRecursion (λ (e : Entry). (e.session == n) ≡ false) h
 
-pub unused-requests : (h : List Entry) (n : ℕ) → IsUnused h n → requests_in h n ≡ []
-unused-requests [] n u = refl
-unused-requests (e ∷ h) n u = rw u.0 (unused-requests h n u.1)
+pub unused-heard : (server : Server) (h : List Entry) (n : ℕ) (qs : List Request) → IsUnused h n → AreHeard server h n qs
+unused-heard server [] n qs u = tt
+unused-heard server (e ∷ h) n qs u =
+    (λ t. absurd (true≢false (sym (and_parts (e.session == n) (not (is_end e.request)) t).0 ∙ u.0)), unused-heard server h n qs u.1)
 
 pub unused-end : (h : List Entry) (n : ℕ) → IsUnused h n → IsEndLast h n
 unused-end [] n u = tt
@@ -72,6 +76,14 @@ front-push xs ys y f e i x g =
       | inl old ↦ f i x old
       | inr new ↦ ap (slice_get ys) new.0 ∙ e ∙ ap Some (sym new.1)
     ]
+
+-- More is asked, and the same is heard of it.
+pub heard-more : (server : Server) (h : List Entry) (n : ℕ) (qs rs : List Request) → IsFront qs rs → AreHeard server h n qs → AreHeard server h n rs
+heard-more server [] n qs rs f a = tt
+heard-more server (e ∷ h) n qs rs f a = (
+  λ t. let one = a.0 t in record { request = one.request; next = f (length (requests_in h n)) one.request one.next; heard = one.heard },
+  heard-more server h n qs rs f a.1,
+)
 
 -- ---- Steps that are left
 
@@ -114,9 +126,9 @@ open-parts false false o s e = (refl, (refl, e))
 abbrev pub next : Player → Event → List Step → Bool → Player
 next p e l c = record { who = p.who; first = p.first; events = e ∷ p.events; left = l; closed = c }
 
-module _ (shape : Shape) (h : List Entry) (k s : ℕ) (plan : Plan) (p : Player) (w : IsPlaying shape k s plan p) (fit : IsFitting h p) where
+module _ (server : Server) (shape : Shape) (h : List Entry) (k s : ℕ) (plan : Plan) (p : Player) (w : IsPlaying shape k s plan p) (fit : IsFitting server h p) where
   abbrev Kept : Player → Type 0
-  Kept q = IsKept shape h k s plan p q
+  Kept q = IsKept server shape h k s plan p q
 
   pub stays : Kept p
   stays = record { playing = w; fitting = fit; more = λ n j. j }
@@ -136,16 +148,16 @@ module _ (shape : Shape) (h : List Entry) (k s : ℕ) (plan : Plan) (p : Player)
 
   fits-next : (e : Event) (l : List Step) (c : Bool) → MayFollow p.who p.first p.events e →
       ((n : ℕ) → has_joined (next p e l c) n ≡ true → IsFront (got (e ∷ p.events) n) (replies_in (accepted h) h n)) →
-      ((n : ℕ) → has_joined (next p e l c) n ≡ true → IsFront (requests_in h n) (asked p.who.client p.who.interest p.events n)) →
-      ((n : ℕ) → has_joined (next p e l c) n ≡ true → IsEndLast h n) → IsFitting h (next p e l c)
+      ((n : ℕ) → has_joined (next p e l c) n ≡ true → AreHeard server h n (asked p.who.client p.who.interest p.events n)) →
+      ((n : ℕ) → has_joined (next p e l c) n ≡ true → IsEndLast h n) → IsFitting server h (next p e l c)
   fits-next e l c m g a n = record {
     good = fit.good;
     proper = (m, fit.proper);
     sessions = λ i j. record {
       got = g i j;
-      asked =
-          front-then (requests_in h i) (asked p.who.client p.who.interest p.events i) (asked p.who.client p.who.interest (e ∷ p.events) i) (a i j)
-          (front-append (asked p.who.client p.who.interest p.events i) (asked_by p.who.client p.who.interest p.events e i));
+      heard =
+          heard-more server h i (asked p.who.client p.who.interest p.events i) (asked p.who.client p.who.interest (e ∷ p.events) i)
+          (front-append (asked p.who.client p.who.interest p.events i) (asked_by p.who.client p.who.interest p.events e i)) (a i j);
       ended = n i j;
     };
   }
@@ -163,19 +175,19 @@ module _ (shape : Shape) (h : List Entry) (k s : ℕ) (plan : Plan) (p : Player)
 
   -- An event that is no Join and no Got.
   quiet-next : (e : Event) (l : List Step) (c : Bool) → MayFollow p.who p.first p.events e → ((n : ℕ) → is_join_of n e ≡ false) → ((n : ℕ) → got (e ∷ p.events) n ≡ got p.events n) →
-      IsFitting h (next p e l c)
+      IsFitting server h (next p e l c)
   quiet-next e l c m f g =
       fits-next e l c m
       (λ n j. subst (λ (rs : List Reply). IsFront rs (replies_in (accepted h) h n)) (sym (g n)) (fit.sessions n (older e l c f n j)).got)
-      (λ n j. (fit.sessions n (older e l c f n j)).asked)
+      (λ n j. (fit.sessions n (older e l c f n j)).heard)
       (λ n j. (fit.sessions n (older e l c f n j)).ended)
 
   -- The same events, with other steps left or the last link closed.
-  same-events : (l : List Step) (c : Bool) → IsFitting h (record p { left = l; closed = c })
+  same-events : (l : List Step) (c : Bool) → IsFitting server h (record p { left = l; closed = c })
   same-events l c = record {
     good = fit.good;
     proper = fit.proper;
-    sessions = λ n j. record { got = (fit.sessions n j).got; asked = (fit.sessions n j).asked; ended = (fit.sessions n j).ended };
+    sessions = λ n j. record { got = (fit.sessions n j).got; heard = (fit.sessions n j).heard; ended = (fit.sessions n j).ended };
   }
 
   -- ---- A Join
@@ -195,7 +207,7 @@ module _ (shape : Shape) (h : List Entry) (k s : ℕ) (plan : Plan) (p : Player)
   joining : p.closed ≡ false → must_join p.events ≡ true → sessions_of_plan plan ≤ 64 → IsUnused h new_session → Kept (does p (events.Join new_session) p.left)
   joining o m few free = record {
     playing = plays-next (events.Join new_session) p.left p.closed (record { needed = m; same = w.apart m }) (λ c. absurd (true≢false (sym c ∙ o))) (λ t e. absurd (true≢false (sym (ap is_quit e))));
-    fitting = fits-next (events.Join new_session) p.left p.closed (may-join m few) new-got new-asked new-ended;
+    fitting = fits-next (events.Join new_session) p.left p.closed (may-join m few) new-got new-heard new-ended;
     more = more-next (events.Join new_session) p.left p.closed;
   }
     where
@@ -206,11 +218,11 @@ module _ (shape : Shape) (h : List Entry) (k s : ℕ) (plan : Plan) (p : Player)
             | inr old ↦ (fit.sessions n old).got
           ]
 
-      new-asked : (n : ℕ) → has_joined (next p (events.Join new_session) p.left p.closed) n ≡ true → IsFront (requests_in h n) (asked p.who.client p.who.interest p.events n)
-      new-asked n j =
+      new-heard : (n : ℕ) → has_joined (next p (events.Join new_session) p.left p.closed) n ≡ true → AreHeard server h n (asked p.who.client p.who.interest p.events n)
+      new-heard n j =
           elim (or_cases (new_session == n) (list_any (is_join_of n) p.events) j) [
-            | inl new ↦ front-none (requests_in h n) (asked p.who.client p.who.interest p.events n) (unused-requests h n (subst (IsUnused h) (eqb-true new_session n new) free))
-            | inr old ↦ (fit.sessions n old).asked
+            | inl new ↦ unused-heard server h n (asked p.who.client p.who.interest p.events n) (subst (IsUnused h) (eqb-true new_session n new) free)
+            | inr old ↦ (fit.sessions n old).heard
           ]
 
       new-ended : (n : ℕ) → has_joined (next p (events.Join new_session) p.left p.closed) n ≡ true → IsEndLast h n
@@ -417,7 +429,7 @@ module _ (shape : Shape) (h : List Entry) (k s : ℕ) (plan : Plan) (p : Player)
           })
           (λ x. absurd (true≢false (sym x ∙ o))) (λ t x. absurd (true≢false (sym (ap is_quit x))));
       fitting = fits-next (events.Got n reply) p.left p.closed (record { current = current; taken = taken }) new-got
-          (λ i j. (fit.sessions i j).asked) (λ i j. (fit.sessions i j).ended);
+          (λ i j. (fit.sessions i j).heard) (λ i j. (fit.sessions i j).ended);
       more = more-next (events.Got n reply) p.left p.closed;
     }
       where
@@ -455,15 +467,15 @@ module _ (shape : Shape) (h : List Entry) (k s : ℕ) (plan : Plan) (p : Player)
       (λ m. joining o m few (free new_session (omega (arith, w.first)) (omega (arith, w.first, joins-few m)) not-begun))
       (λ m. cond_both (is_welcomed p.events) (next_step p p.left) p Kept (λ v. next-kept good o m v p.left refl) (λ _. stays)))
 
-module _ (shape : Shape) (h : List Entry) (k s : ℕ) (plan : Plan) where
-  pub kept-then : (p q r : Player) → IsKept shape h k s plan p q → IsKept shape h k s plan q r → IsKept shape h k s plan p r
+module _ (server : Server) (shape : Shape) (h : List Entry) (k s : ℕ) (plan : Plan) where
+  pub kept-then : (p q r : Player) → IsKept server shape h k s plan p q → IsKept server shape h k s plan q r → IsKept server shape h k s plan p r
   kept-then p q r a b = record { playing = b.playing; fitting = b.fitting; more = λ n j. b.more n (a.more n j) }
 
-  pub taken-times : (n : ℕ) (p : Player) → IsPlaying shape k s plan p → IsFitting h p → IsKept shape h k s plan p (repeated n (take_turn h) p)
-  taken-times zero p w fit = stays shape h k s plan p w fit
+  pub taken-times : (n : ℕ) (p : Player) → IsPlaying shape k s plan p → IsFitting server h p → IsKept server shape h k s plan p (repeated n (take_turn h) p)
+  taken-times zero p w fit = stays server shape h k s plan p w fit
   taken-times (suc n) p w fit =
-      let one = take-kept shape h k s plan p w fit in
+      let one = take-kept server shape h k s plan p w fit in
       kept-then p (take_turn h p) (repeated n (take_turn h) (take_turn h p)) one (taken-times n (take_turn h p) one.playing one.fitting)
 
-  pub takes-all_kept : (p : Player) → IsPlaying shape k s plan p → IsFitting h p → IsKept shape h k s plan p (take_turns h p)
+  pub takes-all_kept : (p : Player) → IsPlaying shape k s plan p → IsFitting server h p → IsKept server shape h k s plan p (take_turns h p)
   takes-all_kept p w fit = taken-times (length h) p w fit

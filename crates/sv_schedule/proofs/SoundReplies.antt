@@ -1,4 +1,4 @@
--- The whole replies of a legal history stay the same with an entry more.
+-- The whole replies of a history stay the same with an entry more, where they name accepted actions alone; and so do those of a legal one.
 use Rattle.std.proofs.Common.{◌≡◌, ℕ, zero, suc, ◌+◌, ◌≤◌, true, List, [], ◌∷◌, ◌++◌, map, length, refl, ap, ap₂, subst, ◌∙◌, arith}
 use Rattle.std.specs.Prelude.{if◌then◌else◌}
 use Rattle.std.specs.List.{AllByRecursion}
@@ -21,13 +21,9 @@ use Rattle.sv_system.specs.Fits.{replies_in}
 use Rattle.sv_system.proofs.Entered.{replies-one}
 use Rattle.sv_system.proofs.Histories.{same, after, accepted-grows, actions-count}
 use Rattle.sv_system.proofs.Replies.{Tells, new_of, legal-tells}
+use Rattle.sv_schedule.specs.Served.{NamesUpTo, AreNamed}
 
 -- ---- Positions that a reply names
-
--- Each position that a relay names is at most n.
-abbrev NamesUpTo : ℕ → Logged → Type 0
-NamesUpTo n (logged.Relay seq commit head positions) = (j : ℕ) → is_in j positions ≡ true → j ≤ n
-NamesUpTo n _ = Unit {0}
 
 names-more : (m n : ℕ) (reply : Logged) → m ≤ n → NamesUpTo m reply → NamesUpTo n reply
 names-more m n (logged.Relay seq commit head positions) l f = λ j i. omega (arith, l, f j i)
@@ -68,7 +64,7 @@ names-here r e h l = go e.reply refl (legal-tells r e h l)
     go (logged.Refused code detail) is t = tt
     go logged.Bye is t = tt
 
-all-names : (r : Rules) (h : List Entry) → Legal r h → AllByRecursion (λ (e : Entry). NamesUpTo (length (accepted h)) e.reply) h
+pub all-names : (r : Rules) (h : List Entry) → Legal r h → AreNamed h
 all-names r [] l = tt
 all-names r (e ∷ h) l = (
   names-here r e h l,
@@ -105,8 +101,8 @@ replies-stay A more [] s f = refl
 replies-stay A more (e ∷ h) s f = rw (whole-stays A more e.reply f.0, replies-stay A more h s f.1) refl
 
 -- The replies of a session with an entry more begin as they were.
-pub replies-grow : (r : Rules) (e : Entry) (h : List Entry) (s : ℕ) → Legal r h → IsFront (replies_in (accepted h) h s) (replies_in (accepted (e ∷ h)) (e ∷ h) s)
-replies-grow r e h s legal =
+pub replies-grow : (e : Entry) (h : List Entry) (s : ℕ) → AreNamed h → IsFront (replies_in (accepted h) h s) (replies_in (accepted (e ∷ h)) (e ∷ h) s)
+replies-grow e h s named =
     subst (λ (rs : List Reply). IsFront rs (replies_in (accepted (e ∷ h)) (e ∷ h) s))
-    (replies-stay (accepted h) (if is_relay e.reply then new_at e h else []) h s (all-names r h legal))
+    (replies-stay (accepted h) (if is_relay e.reply then new_at e h else []) h s named)
     (replies-one (accepted (e ∷ h)) e h s)

@@ -10,7 +10,8 @@ use Rattle.sv_scenario.specs.declared.scenario.Plan.{Plan}
 use Rattle.sv_scenario.specs.Limits.{IsGoodPlan}
 use Rattle.sv_scenario.specs.Sessions.{sessions_of_plan, sessions_in}
 use Rattle.sv_script.specs.Following.{must_join}
-use Rattle.sv_schedule.specs.Schedule.{Player, asked_in_run, at_player}
+use Rattle.sv_schedule.specs.Players.{Player, asked_in_run, at_player}
+use Rattle.sv_schedule.specs.Serving.{Server}
 use Rattle.sv_schedule.specs.Sound.{IsPlaying, ArePlaying, has_joined}
 use Rattle.sv_schedule.proofs.SoundTraces.{joined-within, joins-within, begun_more, none-asked}
 use Rattle.sv_schedule.proofs.SoundPlayers.{IsFitting, IsKept}
@@ -19,9 +20,9 @@ use Rattle.sv_schedule.proofs.SoundEntries.{begun_by, none-asked_in}
 -- ---- Players have sessions of their own
 
 -- The sessions that a player joined are those of its plan.
-pub in-plan : (shape : Shape) (h : List Entry) (k s : ℕ) (plan : Plan) (p : Player) (n : ℕ) → IsPlaying shape k s plan p → IsFitting h p → has_joined p n ≡ true →
+pub in-plan : (server : Server) (shape : Shape) (h : List Entry) (k s : ℕ) (plan : Plan) (p : Player) (n : ℕ) → IsPlaying shape k s plan p → IsFitting server h p → has_joined p n ≡ true →
     (s ≤ n) × (n < s + sessions_of_plan plan)
-in-plan shape h k s plan p n w fit j =
+in-plan server shape h k s plan p n w fit j =
     let b = joined-within p.who p.first p.events n fit.proper j in
     let most = joins-within p.who plan.steps p.events w.before w.follows in
     let one : begun_more (must_join p.events) ≤ 1 = at-most-one (must_join p.events) in
@@ -31,15 +32,15 @@ in-plan shape h k s plan p n w fit j =
     at-most-one true = omega arith
     at-most-one false = omega arith
 
-pub begun-above : (shape : Shape) (h : List Entry) (k s : ℕ) (plans : List Plan) (ps : List Player) (n : ℕ) → ArePlaying shape k s plans ps → AllByRecursion (IsFitting h) ps →
+pub begun-above : (server : Server) (shape : Shape) (h : List Entry) (k s : ℕ) (plans : List Plan) (ps : List Player) (n : ℕ) → ArePlaying shape k s plans ps → AllByRecursion (IsFitting server h) ps →
     begun_by ps n ≡ true → s ≤ n
-begun-above shape h k s [] [] n w f b = absurd (true≢false (sym b))
-begun-above shape h k s [] (p ∷ ps) n w f b = absurd w
-begun-above shape h k s (plan ∷ plans) [] n w f b = absurd w
-begun-above shape h k s (plan ∷ plans) (p ∷ ps) n w f b =
+begun-above server shape h k s [] [] n w f b = absurd (true≢false (sym b))
+begun-above server shape h k s [] (p ∷ ps) n w f b = absurd w
+begun-above server shape h k s (plan ∷ plans) [] n w f b = absurd w
+begun-above server shape h k s (plan ∷ plans) (p ∷ ps) n w f b =
     elim (or_cases (has_joined p n) (begun_by ps n) b) [
-      | inl j ↦ (in-plan shape h k s plan p n w.0 f.0 j).0
-      | inr j ↦ (let above = begun-above shape h (suc k) (s + sessions_of_plan plan) plans ps n w.1 f.1 j in omega (arith, above))
+      | inl j ↦ (in-plan server shape h k s plan p n w.0 f.0 j).0
+      | inr j ↦ (let above = begun-above server shape h (suc k) (s + sessions_of_plan plan) plans ps n w.1 f.1 j in omega (arith, above))
     ]
 
 -- A session of a player's plan that it did not join was not begun at all.
@@ -60,60 +61,60 @@ own-more b c low s (plan ∷ plans) (p ∷ ps) l f a = (
   own-more b c low (s + sessions_of_plan plan) plans ps (omega (arith, l)) f a.1,
 )
 
-pub all-own : (shape : Shape) (h : List Entry) (k s : ℕ) (plans : List Plan) (ps : List Player) → ArePlaying shape k s plans ps → AllByRecursion (IsFitting h) ps →
+pub all-own : (server : Server) (shape : Shape) (h : List Entry) (k s : ℕ) (plans : List Plan) (ps : List Player) → ArePlaying shape k s plans ps → AllByRecursion (IsFitting server h) ps →
     AreOwn (begun_by ps) s plans ps
-all-own shape h k s [] [] w f = tt
-all-own shape h k s [] (p ∷ ps) w f = tt
-all-own shape h k s (plan ∷ plans) [] w f = tt
-all-own shape h k s (plan ∷ plans) (p ∷ ps) w f =
+all-own server shape h k s [] [] w f = tt
+all-own server shape h k s [] (p ∷ ps) w f = tt
+all-own server shape h k s (plan ∷ plans) [] w f = tt
+all-own server shape h k s (plan ∷ plans) (p ∷ ps) w f =
     let next = s + sessions_of_plan plan in (
       λ n above under j. or_from (has_joined p n) (begun_by ps n) j
-          (false_from_ne_true (begun_by ps n) (λ b. let late = begun-above shape h (suc k) next plans ps n w.1 f.1 b in absurd (omega (arith, late, under)))),
+          (false_from_ne_true (begun_by ps n) (λ b. let late = begun-above server shape h (suc k) next plans ps n w.1 f.1 b in absurd (omega (arith, late, under)))),
       own-more (begun_by ps) (begun_by (p ∷ ps)) next next plans ps (omega arith)
           (λ n above b. or_from (has_joined p n) (begun_by ps n)
-          (false_from_ne_true (has_joined p n) (λ j. let in_it = in-plan shape h k s plan p n w.0 f.0 j in absurd (omega (arith, in_it.1, above)))) b)
-          (all-own shape h (suc k) next plans ps w.1 f.1),
+          (false_from_ne_true (has_joined p n) (λ j. let in_it = in-plan server shape h k s plan p n w.0 f.0 j in absurd (omega (arith, in_it.1, above)))) b)
+          (all-own server shape h (suc k) next plans ps w.1 f.1),
     )
 
 -- What is asked in a session is what its own player asks.
 abbrev pub IsAlone : List Player → Player → Type 0
 IsAlone whole p = (n : ℕ) → has_joined p n ≡ true → asked_in_run whole n ≡ asked p.who.client p.who.interest p.events n
 
-alone-more : (shape : Shape) (h : List Entry) (k s low : ℕ) (plans : List Plan) (whole : List Player) (p : Player) (ps : List Player) → low ≤ s → ArePlaying shape k s plans ps → AllByRecursion (IsFitting h) ps →
+alone-more : (server : Server) (shape : Shape) (h : List Entry) (k s low : ℕ) (plans : List Plan) (whole : List Player) (p : Player) (ps : List Player) → low ≤ s → ArePlaying shape k s plans ps → AllByRecursion (IsFitting server h) ps →
     ((n : ℕ) → low ≤ n → asked p.who.client p.who.interest p.events n ≡ []) → AllByRecursion (IsAlone whole) ps → AllByRecursion (IsAlone (p ∷ whole)) ps
-alone-more shape h k s low plans whole p [] l w f none a = tt
-alone-more shape h k s low [] whole p (q ∷ qs) l w f none a = absurd w
-alone-more shape h k s low (plan ∷ plans) whole p (q ∷ qs) l w f none a = (
-  λ n j. ap (λ (rs : List Request). rs ++ asked_in_run whole n) (none n (let b = in-plan shape h k s plan q n w.0 f.0 j in omega (arith, b.0, l))) ∙ a.0 n j,
-  alone-more shape h (suc k) (s + sessions_of_plan plan) low plans whole p qs (omega (arith, l)) w.1 f.1 none a.1,
+alone-more server shape h k s low plans whole p [] l w f none a = tt
+alone-more server shape h k s low [] whole p (q ∷ qs) l w f none a = absurd w
+alone-more server shape h k s low (plan ∷ plans) whole p (q ∷ qs) l w f none a = (
+  λ n j. ap (λ (rs : List Request). rs ++ asked_in_run whole n) (none n (let b = in-plan server shape h k s plan q n w.0 f.0 j in omega (arith, b.0, l))) ∙ a.0 n j,
+  alone-more server shape h (suc k) (s + sessions_of_plan plan) low plans whole p qs (omega (arith, l)) w.1 f.1 none a.1,
 )
 
-pub all-alone : (shape : Shape) (h : List Entry) (k s : ℕ) (plans : List Plan) (ps : List Player) → ArePlaying shape k s plans ps → AllByRecursion (IsFitting h) ps →
+pub all-alone : (server : Server) (shape : Shape) (h : List Entry) (k s : ℕ) (plans : List Plan) (ps : List Player) → ArePlaying shape k s plans ps → AllByRecursion (IsFitting server h) ps →
     AllByRecursion (IsAlone ps) ps
-all-alone shape h k s plans [] w f = tt
-all-alone shape h k s [] (p ∷ ps) w f = absurd w
-all-alone shape h k s (plan ∷ plans) (p ∷ ps) w f =
+all-alone server shape h k s plans [] w f = tt
+all-alone server shape h k s [] (p ∷ ps) w f = absurd w
+all-alone server shape h k s (plan ∷ plans) (p ∷ ps) w f =
     let next = s + sessions_of_plan plan in (
       λ n j. ap (λ (rs : List Request). asked p.who.client p.who.interest p.events n ++ rs)
-          (none-asked_in h ps n f.1 (false_from_ne_true (begun_by ps n)
-          (λ b. let late = begun-above shape h (suc k) next plans ps n w.1 f.1 b in let mine = in-plan shape h k s plan p n w.0 f.0 j in absurd (omega (arith, late, mine.1)))))
+          (none-asked_in server h ps n f.1 (false_from_ne_true (begun_by ps n)
+          (λ b. let late = begun-above server shape h (suc k) next plans ps n w.1 f.1 b in let mine = in-plan server shape h k s plan p n w.0 f.0 j in absurd (omega (arith, late, mine.1)))))
           ∙ append-nil (asked p.who.client p.who.interest p.events n),
-      alone-more shape h (suc k) next next plans ps p ps (omega arith) w.1 f.1
+      alone-more server shape h (suc k) next next plans ps p ps (omega arith) w.1 f.1
           (λ n above. none-asked p.who p.first p.events n f.0.proper (false_from_ne_true (has_joined p n)
-          (λ j. let mine = in-plan shape h k s plan p n w.0 f.0 j in absurd (omega (arith, mine.1, above)))))
-          (all-alone shape h (suc k) next plans ps w.1 f.1),
+          (λ j. let mine = in-plan server shape h k s plan p n w.0 f.0 j in absurd (omega (arith, mine.1, above)))))
+          (all-alone server shape h (suc k) next plans ps w.1 f.1),
     )
 
 -- ---- Turns of players
 
 -- A turn of one player keeps what is true of it, whatever player it is.
-abbrev pub KeepsEach : Shape → List Entry → (ℕ → Bool) → (Player → Player) → Type 0
-KeepsEach shape h begun turn = (k s : ℕ) (plan : Plan) (p : Player) → IsGoodPlan shape plan → sessions_of_plan plan ≤ 64 → IsOwn begun s plan p → IsPlaying shape k s plan p → IsFitting h p →
-    IsKept shape h k s plan p (turn p)
+abbrev pub KeepsEach : Server → Shape → List Entry → (ℕ → Bool) → (Player → Player) → Type 0
+KeepsEach server shape h begun turn = (k s : ℕ) (plan : Plan) (p : Player) → IsGoodPlan shape plan → sessions_of_plan plan ≤ 64 → IsOwn begun s plan p → IsPlaying shape k s plan p → IsFitting server h p →
+    IsKept server shape h k s plan p (turn p)
 
-pub record AreKept (shape : Shape) (h : List Entry) (k s : ℕ) (plans : List Plan) (ps qs : List Player) : Type 0 where
+pub record AreKept (server : Server) (shape : Shape) (h : List Entry) (k s : ℕ) (plans : List Plan) (ps qs : List Player) : Type 0 where
   pub playing : ArePlaying shape k s plans qs
-  pub fitting : AllByRecursion (IsFitting h) qs
+  pub fitting : AllByRecursion (IsFitting server h) qs
   pub more : (n : ℕ) → begun_by ps n ≡ true → begun_by qs n ≡ true
 
 more-any : (p q : Player) (ps qs : List Player) (n : ℕ) → (has_joined p n ≡ true → has_joined q n ≡ true) → (begun_by ps n ≡ true → begun_by qs n ≡ true) →
@@ -124,9 +125,9 @@ more-any p q ps qs n f g b =
       | inr more ↦ or_right (has_joined q n) (begun_by qs n) (g more)
     ]
 
-module _ (shape : Shape) (h : List Entry) (begun : ℕ → Bool) (turn : Player → Player) (keeps : KeepsEach shape h begun turn) where
+module _ (server : Server) (shape : Shape) (h : List Entry) (begun : ℕ → Bool) (turn : Player → Player) (keeps : KeepsEach server shape h begun turn) where
   pub one-kept : (i k s : ℕ) (plans : List Plan) (ps : List Player) → AllByRecursion (IsGoodPlan shape) plans → sessions_in plans ≤ 64 → AreOwn begun s plans ps →
-      ArePlaying shape k s plans ps → AllByRecursion (IsFitting h) ps → AreKept shape h k s plans ps (at_player ps i turn)
+      ArePlaying shape k s plans ps → AllByRecursion (IsFitting server h) ps → AreKept server shape h k s plans ps (at_player ps i turn)
   one-kept i k s plans [] good few own w f = record { playing = w; fitting = tt; more = λ n b. b }
   one-kept i k s [] (p ∷ ps) good few own w f = absurd w
   one-kept zero k s (plan ∷ plans) (p ∷ ps) good few own w f =
@@ -145,7 +146,7 @@ module _ (shape : Shape) (h : List Entry) (begun : ℕ → Bool) (turn : Player 
       }
 
   pub each-kept : (k s : ℕ) (plans : List Plan) (ps : List Player) → AllByRecursion (IsGoodPlan shape) plans → sessions_in plans ≤ 64 → AreOwn begun s plans ps →
-      ArePlaying shape k s plans ps → AllByRecursion (IsFitting h) ps → AreKept shape h k s plans ps (map turn ps)
+      ArePlaying shape k s plans ps → AllByRecursion (IsFitting server h) ps → AreKept server shape h k s plans ps (map turn ps)
   each-kept k s plans [] good few own w f = record { playing = w; fitting = tt; more = λ n b. b }
   each-kept k s [] (p ∷ ps) good few own w f = absurd w
   each-kept k s (plan ∷ plans) (p ∷ ps) good few own w f =

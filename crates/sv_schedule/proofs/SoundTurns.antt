@@ -9,15 +9,16 @@ use Rattle.sv_world.specs.Control.{below}
 use Rattle.sv_wire.specs.declared.message.Request.{Request}
 use Rattle.sv_wire.specs.declared.message.Request.TheVariants as requests
 use Rattle.sv_journal.specs.declared.entry.Entry.{Entry}
-use Rattle.sv_journal.specs.Answer.{Rules, Legal}
 use Rattle.sv_scenario.specs.declared.scenario.Scenario.{Scenario}
 use Rattle.sv_scenario.specs.declared.scenario.Turn.{Turn}
 use Rattle.sv_scenario.specs.declared.scenario.Turn.TheVariants as turns
 use Rattle.sv_scenario.specs.Limits.{IsGoodScenario, IsGoodTurn}
 use Rattle.sv_scenario.specs.Sessions.{session_count}
 use Rattle.sv_system.specs.Fits.{requests_in, is_ended}
-use Rattle.sv_schedule.specs.Schedule.{Player, Run, player_turn, take_turn, take_turns, asked_in_run, closed_by, is_stopped, with_entry, steps_next, session_turn, session_turns, sessions_turned, repeated, at_player, turned, all_turned, after_clients, after_sessions, round, rules_of}
+use Rattle.sv_schedule.specs.Players.{Player, player_turn, take_turn, take_turns, asked_in_run, closed_by, repeated, at_player}
+use Rattle.sv_schedule.specs.Serving.{Run, Server, served, serves_next, is_stopped, session_served, all_served, sessions_served, turn_served, turns_served, after_clients, after_served, round_served}
 use Rattle.sv_schedule.specs.Sound.{ArePlaying}
+use Rattle.sv_schedule.specs.Served.{IsServed, KeepsSound}
 use Rattle.sv_schedule.proofs.SoundPlayers.{IsFitting, turn-kept, take-kept, takes-all_kept}
 use Rattle.sv_schedule.proofs.SoundEntries.{IsNextOf, entries-fit, begun_by, none-asked_in, closed-begun, stopped-begun, unused-unless_begun, drop-get}
 use Rattle.sv_schedule.proofs.SoundRuns.{IsAlone, all-alone, all-own, AreKept, KeepsEach, one-kept, each-kept}
@@ -31,117 +32,112 @@ below-known zero m l = tt
 below-known (suc n) m l = all-push (λ s. s < m) (below n) n (below-known n m (omega (arith, l))) (omega (arith, l))
 
 -- What is true of a history and players.
-pub record AreStanding (scenario : Scenario) (h : List Entry) (ps : List Player) : Type 0 where
-  pub legal : Legal (rules_of scenario) h
+pub record AreStanding (server : Server) (scenario : Scenario) (h : List Entry) (ps : List Player) : Type 0 where
+  pub served : IsServed server h
   pub sessions : AllByRecursion (λ (e : Entry). e.session < session_count scenario) h
   pub begun : AllByRecursion (λ (e : Entry). begun_by ps e.session ≡ true) h
   pub playing : ArePlaying scenario.world.shape 0 0 scenario.clients ps
-  pub fitting : AllByRecursion (IsFitting h) ps
+  pub fitting : AllByRecursion (IsFitting server h) ps
 
 all-begun : (ps qs : List Player) (h : List Entry) → ((n : ℕ) → begun_by ps n ≡ true → begun_by qs n ≡ true) → AllByRecursion (λ (e : Entry). begun_by ps e.session ≡ true) h →
     AllByRecursion (λ (e : Entry). begun_by qs e.session ≡ true) h
 all-begun ps qs [] f b = tt
 all-begun ps qs (e ∷ h) f b = (f e.session b.0, all-begun ps qs h f b.1)
 
-next-each : (r : Rules) (h : List Entry) (legal : Legal r h) (s : ℕ) (request : Request) (open-yet : is_ended h s ≡ false) (whole ps : List Player) →
-    slice_get (asked_in_run whole s) (length (requests_in h s)) ≡ Some request → AllByRecursion (IsAlone whole) ps →
-    AllByRecursion (λ (p : Player). IsNextOf r h legal s request open-yet p) ps
-next-each r h legal s request open-yet whole [] is a = tt
-next-each r h legal s request open-yet whole (p ∷ ps) is a = (
+next-each : (h : List Entry) (s : ℕ) (request : Request) (whole ps : List Player) →
+    slice_get (asked_in_run whole s) (length (requests_in h s)) ≡ Some request → AllByRecursion (IsAlone whole) ps → AllByRecursion (IsNextOf h s request) ps
+next-each h s request whole [] is a = tt
+next-each h s request whole (p ∷ ps) is a = (
   λ j e. ap (λ (rs : List Request). slice_get rs (length (requests_in h s))) (sym (a.0 s j)) ∙ is,
-  next-each r h legal s request open-yet whole ps is a.1,
+  next-each h s request whole ps is a.1,
 )
 
-next-end : (r : Rules) (h : List Entry) (legal : Legal r h) (s : ℕ) (open-yet : is_ended h s ≡ false) (ps : List Player) →
-    AllByRecursion (λ (p : Player). IsNextOf r h legal s requests.End open-yet p) ps
-next-end r h legal s open-yet [] = tt
-next-end r h legal s open-yet (p ∷ ps) = (λ j e. absurd (true≢false e), next-end r h legal s open-yet ps)
+next-end : (h : List Entry) (s : ℕ) (ps : List Player) → AllByRecursion (IsNextOf h s requests.End) ps
+next-end h s [] = tt
+next-end h s (p ∷ ps) = (λ j e. absurd (true≢false e), next-end h s ps)
 
-module _ (scenario : Scenario) where
-  abbrev rules : Rules
-  rules = rules_of scenario
-
+module _ (server : Server) (keeps : KeepsSound server) (scenario : Scenario) where
   abbrev shape : Shape
   shape = scenario.world.shape
 
   abbrev pub Standing : List Player → List Entry → Type 0
-  Standing ps h = AreStanding scenario h ps
+  Standing ps h = AreStanding server scenario h ps
 
   -- ---- Sessions
 
   module _ (ps : List Player) (s : ℕ) (known : s < session_count scenario) where
-    entry-stands : (h : List Entry) (a : Standing ps h) (request : Request) (open-yet : is_ended h s ≡ false) → begun_by ps s ≡ true →
-        AllByRecursion (λ (p : Player). IsNextOf rules h a.legal s request open-yet p) ps → Standing ps (with_entry rules h s request)
+    entry-stands : (h : List Entry) → Standing ps h → (request : Request) → is_ended h s ≡ false → begun_by ps s ≡ true → AllByRecursion (IsNextOf h s request) ps →
+        Standing ps (served server h s request)
     entry-stands h a request open-yet b next = record {
-      legal = (refl, a.legal);
+      served = ((request, refl), a.served);
       sessions = (known, a.sessions);
       begun = (b, a.begun);
       playing = a.playing;
-      fitting = entries-fit rules h a.legal s request open-yet ps next a.fitting;
+      fitting = entries-fit server keeps h (keeps.named h a.served) s request open-yet ps next a.fitting;
     }
 
-    end-stands : (h : List Entry) → Standing ps h → is_ended h s ≡ false → begun_by ps s ≡ true → Standing ps (with_entry rules h s requests.End)
-    end-stands h a open-yet b = entry-stands h a requests.End open-yet b (next-end rules h a.legal s open-yet ps)
+    end-stands : (h : List Entry) → Standing ps h → is_ended h s ≡ false → begun_by ps s ≡ true → Standing ps (served server h s requests.End)
+    end-stands h a open-yet b = entry-stands h a requests.End open-yet b (next-end h s ps)
 
     waiting-begun : (h : List Entry) → Standing ps h → (n : ℕ) (request : Request) → slice_get (asked_in_run ps s) n ≡ Some request → begun_by ps s ≡ true
     waiting-begun h a n request is =
         true_from_ne_false (begun_by ps s)
-        (λ b. absurd (none-some request (sym (ap (λ (rs : List Request). slice_get rs n) (none-asked_in h ps s a.fitting b)) ∙ is)))
+        (λ b. absurd (none-some request (sym (ap (λ (rs : List Request). slice_get rs n) (none-asked_in server h ps s a.fitting b)) ∙ is)))
 
     next-stands : (h : List Entry) → Standing ps h → is_ended h s ≡ false → (waiting : List Request) → drop (length (requests_in h s)) (asked_in_run ps s) ≡ waiting →
-        Standing ps (steps_next rules h s (list_any (closed_by s) ps) waiting)
+        Standing ps (serves_next server h s (list_any (closed_by s) ps) waiting)
     next-stands h a open-yet [] e =
-        cond_both (list_any (closed_by s) ps) (with_entry rules h s requests.End) h (Standing ps) (λ c. end-stands h a open-yet (closed-begun ps s c)) (λ c. a)
+        cond_both (list_any (closed_by s) ps) (served server h s requests.End) h (Standing ps) (λ c. end-stands h a open-yet (closed-begun ps s c)) (λ c. a)
     next-stands h a open-yet (request ∷ waiting) e =
         let is = drop-get (asked_in_run ps s) (length (requests_in h s)) request waiting e in
         entry-stands h a request open-yet (waiting-begun h a (length (requests_in h s)) request is)
-        (next-each rules h a.legal s request open-yet ps ps is (all-alone shape h 0 0 scenario.clients ps a.playing a.fitting))
+        (next-each h s request ps ps is (all-alone server shape h 0 0 scenario.clients ps a.playing a.fitting))
 
     -- A session's turn.
-    pub session-stands : (h : List Entry) → Standing ps h → Standing ps (session_turn rules ps h s)
+    pub session-stands : (h : List Entry) → Standing ps h → Standing ps (session_served server ps h s)
     session-stands h a =
-        cond_both (is_ended h s) h (if is_stopped h s then with_entry rules h s requests.End else steps_next rules h s (list_any (closed_by s) ps) (drop (length (requests_in h s)) (asked_in_run ps s))) (Standing ps)
+        cond_both (is_ended h s) h (if is_stopped h s then served server h s requests.End else serves_next server h s (list_any (closed_by s) ps) (drop (length (requests_in h s)) (asked_in_run ps s))) (Standing ps)
         (λ _. a)
-        (λ o. cond_both (is_stopped h s) (with_entry rules h s requests.End) (steps_next rules h s (list_any (closed_by s) ps) (drop (length (requests_in h s)) (asked_in_run ps s))) (Standing ps)
+        (λ o. cond_both (is_stopped h s) (served server h s requests.End) (serves_next server h s (list_any (closed_by s) ps) (drop (length (requests_in h s)) (asked_in_run ps s))) (Standing ps)
         (λ c. end-stands h a o (stopped-begun ps h s a.begun c))
         (λ _. next-stands h a o (drop (length (requests_in h s)) (asked_in_run ps s)) refl))
 
-    pub session-times : (n : ℕ) (h : List Entry) → Standing ps h → Standing ps (repeated n (λ g. session_turn rules ps g s) h)
+    pub session-times : (n : ℕ) (h : List Entry) → Standing ps h → Standing ps (repeated n (λ g. session_served server ps g s) h)
     session-times zero h a = a
-    session-times (suc n) h a = session-times n (session_turn rules ps h s) (session-stands h a)
+    session-times (suc n) h a = session-times n (session_served server ps h s) (session-stands h a)
 
-    pub session-all_stands : (h : List Entry) → Standing ps h → Standing ps (session_turns rules ps h s)
+    pub session-all_stands : (h : List Entry) → Standing ps h → Standing ps (all_served server ps h s)
     session-all_stands h a = session-times (suc (length (asked_in_run ps s))) h a
 
-  pub sessions-stand : (ps : List Player) (ss : List ℕ) (h : List Entry) → AllByRecursion (λ s. s < session_count scenario) ss → Standing ps h → Standing ps (sessions_turned rules ps h ss)
+  pub sessions-stand : (ps : List Player) (ss : List ℕ) (h : List Entry) → AllByRecursion (λ s. s < session_count scenario) ss → Standing ps h → Standing ps (sessions_served server ps h ss)
   sessions-stand ps [] h known a = a
-  sessions-stand ps (s ∷ ss) h known a = sessions-stand ps ss (session_turns rules ps h s) known.1 (session-all_stands ps s known.0 h a)
+  sessions-stand ps (s ∷ ss) h known a = sessions-stand ps ss (all_served server ps h s) known.1 (session-all_stands ps s known.0 h a)
 
   -- ---- Clients
 
-  kept-stands : (ps qs : List Player) (h : List Entry) → Standing ps h → AreKept shape h 0 0 scenario.clients ps qs → Standing qs h
-  kept-stands ps qs h a k = record { legal = a.legal; sessions = a.sessions; begun = all-begun ps qs h k.more a.begun; playing = k.playing; fitting = k.fitting }
+  kept-stands : (ps qs : List Player) (h : List Entry) → Standing ps h → AreKept server shape h 0 0 scenario.clients ps qs → Standing qs h
+  kept-stands ps qs h a k = record { served = a.served; sessions = a.sessions; begun = all-begun ps qs h k.more a.begun; playing = k.playing; fitting = k.fitting }
 
-  keeps-turn : (ps : List Player) (h : List Entry) → Standing ps h → KeepsEach shape h (begun_by ps) player_turn
+  keeps-turn : (ps : List Player) (h : List Entry) → Standing ps h → KeepsEach server shape h (begun_by ps) player_turn
   keeps-turn ps h a k s plan p good few own w f =
-      turn-kept shape h k s plan p w f good few (λ n above under j. unused-unless_begun ps h n a.begun (own n above under j))
+      turn-kept server shape h k s plan p w f good few (λ n above under j. unused-unless_begun ps h n a.begun (own n above under j))
 
-  keeps-take : (ps : List Player) (h : List Entry) → KeepsEach shape h (begun_by ps) (take_turn h)
-  keeps-take ps h k s plan p good few own w f = take-kept shape h k s plan p w f
+  keeps-take : (ps : List Player) (h : List Entry) → KeepsEach server shape h (begun_by ps) (take_turn h)
+  keeps-take ps h k s plan p good few own w f = take-kept server shape h k s plan p w f
 
-  keeps-takes : (ps : List Player) (h : List Entry) → KeepsEach shape h (begun_by ps) (take_turns h)
-  keeps-takes ps h k s plan p good few own w f = takes-all_kept shape h k s plan p w f
+  keeps-takes : (ps : List Player) (h : List Entry) → KeepsEach server shape h (begun_by ps) (take_turns h)
+  keeps-takes ps h k s plan p good few own w f = takes-all_kept server shape h k s plan p w f
 
   module _ (good : IsGoodScenario scenario) where
-    one-stands : (turn : Player → Player) (i : ℕ) (ps : List Player) (h : List Entry) → KeepsEach shape h (begun_by ps) turn → Standing ps h → Standing (at_player ps i turn) h
+    one-stands : (turn : Player → Player) (i : ℕ) (ps : List Player) (h : List Entry) → KeepsEach server shape h (begun_by ps) turn → Standing ps h → Standing (at_player ps i turn) h
     one-stands turn i ps h keeps a =
         kept-stands ps (at_player ps i turn) h a
-        (one-kept shape h (begun_by ps) turn keeps i 0 0 scenario.clients ps good.plans good.sessions (all-own shape h 0 0 scenario.clients ps a.playing a.fitting) a.playing a.fitting)
+        (one-kept server shape h (begun_by ps) turn keeps i 0 0 scenario.clients ps good.plans good.sessions (all-own server shape h 0 0 scenario.clients ps a.playing a.fitting) a.playing a.fitting)
 
-    each-stands : (turn : Player → Player) (ps : List Player) (h : List Entry) → KeepsEach shape h (begun_by ps) turn → Standing ps h → Standing (map turn ps) h
+    each-stands : (turn : Player → Player) (ps : List Player) (h : List Entry) → KeepsEach server shape h (begun_by ps) turn → Standing ps h → Standing (map turn ps) h
     each-stands turn ps h keeps a =
         kept-stands ps (map turn ps) h a
-        (each-kept shape h (begun_by ps) turn keeps 0 0 scenario.clients ps good.plans good.sessions (all-own shape h 0 0 scenario.clients ps a.playing a.fitting) a.playing a.fitting)
+        (each-kept server shape h (begun_by ps) turn keeps 0 0 scenario.clients ps good.plans good.sessions (all-own server shape h 0 0 scenario.clients ps a.playing a.fitting) a.playing a.fitting)
 
     pub client-stands : (i : ℕ) (ps : List Player) (h : List Entry) → Standing ps h → Standing (at_player ps i player_turn) h
     client-stands i ps h a = one-stands player_turn i ps h (keeps-turn ps h a) a
@@ -158,23 +154,24 @@ module _ (scenario : Scenario) where
     -- ---- Runs
 
     abbrev pub IsStanding : Run → Type 0
-    IsStanding run = AreStanding scenario run.history run.players
+    IsStanding run = AreStanding server scenario run.history run.players
 
-    pub turned-stands : (run : Run) (turn : Turn) → IsGoodTurn (length scenario.clients) (session_count scenario) turn → IsStanding run → IsStanding (turned rules run turn)
+    pub turned-stands : (run : Run) (turn : Turn) → IsGoodTurn (length scenario.clients) (session_count scenario) turn → IsStanding run → IsStanding (turn_served server run turn)
     turned-stands run (turns.Client k) g a = client-stands k run.players run.history a
     turned-stands run (turns.Session s) g a = session-stands run.players s g run.history a
     turned-stands run (turns.Take k) g a = take-stands k run.players run.history a
 
-    pub all-turned_stands : (run : Run) (ts : List Turn) → AllByRecursion (IsGoodTurn (length scenario.clients) (session_count scenario)) ts → IsStanding run → IsStanding (all_turned rules run ts)
+    pub all-turned_stands : (run : Run) (ts : List Turn) → AllByRecursion (IsGoodTurn (length scenario.clients) (session_count scenario)) ts → IsStanding run → IsStanding (turns_served server run ts)
     all-turned_stands run [] g a = a
-    all-turned_stands run (turn ∷ ts) g a = all-turned_stands (turned rules run turn) ts g.1 (turned-stands run turn g.0 a)
+    all-turned_stands run (turn ∷ ts) g a = all-turned_stands (turn_served server run turn) ts g.1 (turned-stands run turn g.0 a)
 
-    pub round-stands : (run : Run) → IsStanding run → IsStanding (round rules run)
+    pub round-stands : (run : Run) → IsStanding run → IsStanding (round_served server (session_count scenario) run)
     round-stands run a =
+        let n = session_count scenario in
         let clients : IsStanding (after_clients run) = clients-stand run.players run.history a in
-        let sessions : IsStanding (after_sessions rules (after_clients run)) = sessions-stand (after_clients run).players (below (session_count scenario)) run.history (below-known (session_count scenario) (session_count scenario) (omega arith)) clients in
-        takes-stand (after_sessions rules (after_clients run)).players (after_sessions rules (after_clients run)).history sessions
+        let sessions : IsStanding (after_served server n (after_clients run)) = sessions-stand (after_clients run).players (below n) run.history (below-known n n (omega arith)) clients in
+        takes-stand (after_served server n (after_clients run)).players (after_served server n (after_clients run)).history sessions
 
-    pub rounds-stand : (n : ℕ) (run : Run) → IsStanding run → IsStanding (repeated n (round rules) run)
+    pub rounds-stand : (n : ℕ) (run : Run) → IsStanding run → IsStanding (repeated n (round_served server (session_count scenario)) run)
     rounds-stand zero run a = a
-    rounds-stand (suc n) run a = rounds-stand n (round rules run) (round-stands run a)
+    rounds-stand (suc n) run a = rounds-stand n (round_served server (session_count scenario) run) (round-stands run a)

@@ -3,7 +3,8 @@ use Rattle.std.specs.Prelude.{◌≡◌, ℕ, ◌<◌, true, All}
 use Rattle.sv_scenario.specs.declared.scenario.Scenario.{Scenario}
 use Rattle.sv_scenario.specs.Sessions.{session_count}
 use Rattle.sv_system.specs.Fits.{is_ended}
-use Rattle.sv_schedule.specs.Schedule.{Player, Run}
+use Rattle.sv_schedule.specs.Players.{Player}
+use Rattle.sv_schedule.specs.Serving.{Run}
 
 -- Each player closed its last link, and each session had its End.
 pub record IsDone (scenario : Scenario) (run : Run) : Type 0 where

@@ -1,4 +1,7 @@
+pub mod Players
+pub mod Serving
 pub mod Schedule
 pub mod Sound
+pub mod Served
 pub mod Records
 pub mod Done

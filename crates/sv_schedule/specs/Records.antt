@@ -5,7 +5,8 @@ use Rattle.sv_journal.specs.declared.entry.Entry.{Entry}
 use Rattle.sv_client.specs.declared.trace.Trace.{Trace}
 use Rattle.sv_scenario.specs.declared.scenario.Scenario.{Scenario}
 use Rattle.sv_system.specs.Records.{IsFullRecord}
-use Rattle.sv_schedule.specs.Schedule.{scheduled_run, traces_of}
+use Rattle.sv_schedule.specs.Serving.{traces_of}
+use Rattle.sv_schedule.specs.Schedule.{scheduled_run}
 
 -- The journal and the traces are those of the scenario's scheduled run.
 pub record AreScheduled (scenario : Scenario) (h : List Entry) (Ls : List Trace) : Type 0 where

@@ -15,7 +15,9 @@ use Rattle.sv_scenario.specs.declared.scenario.Step.TheVariants as steps
 use Rattle.sv_scenario.specs.Sessions.{sessions_of_plan, session_count}
 use Rattle.sv_script.specs.Following.{FollowsTo, must_join, is_finished}
 use Rattle.sv_system.specs.Fits.{is_join_of, Fits}
-use Rattle.sv_schedule.specs.Schedule.{Player, Run, rules_of, traces_of}
+use Rattle.sv_schedule.specs.Players.{Player}
+use Rattle.sv_schedule.specs.Serving.{Run, traces_of}
+use Rattle.sv_schedule.specs.Schedule.{rules_of}
 
 -- The steps with some of the syncs that they begin with left out.
 pub data ArePassed : List Step → List Step → Type 0 where

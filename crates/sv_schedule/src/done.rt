@@ -3,7 +3,8 @@ ghost use Rattle.std.specs.Prelude.{◌≡◌};
 ghost use Rattle.sv_scenario.specs.declared.scenario.Scenario.{Scenario};
 ghost use Rattle.sv_scenario.specs.Limits.{IsGoodScenario};
 ghost use Rattle.sv_system.specs.Records.{IsRecordOf, ScriptsAreFollowed};
-ghost use Rattle.sv_schedule.specs.Schedule.{Run, round, rules_of, scheduled_run, traces_of};
+ghost use Rattle.sv_schedule.specs.Serving.{Run, traces_of};
+ghost use Rattle.sv_schedule.specs.Schedule.{round, rules_of, scheduled_run};
 ghost use Rattle.sv_schedule.specs.Sound.{IsSound};
 ghost use Rattle.sv_schedule.specs.Done.{IsDone};
 

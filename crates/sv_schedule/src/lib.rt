@@ -7,4 +7,4 @@ mod sound;
 
 pub use done::scheduled_runs_end;
 pub use replays::scheduled_runs_are_replays;
-pub use sound::turns_keep_runs_sound;
+pub use sound::{turns_keep_runs_sound, turns_keep_served_runs_sound};

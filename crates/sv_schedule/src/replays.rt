@@ -1,6 +1,7 @@
 ghost use Rattle.sv_scenario.specs.declared.scenario.Scenario.{Scenario};
 ghost use Rattle.sv_scenario.specs.Limits.{IsGoodScenario};
-ghost use Rattle.sv_schedule.specs.Schedule.{scheduled_run, traces_of};
+ghost use Rattle.sv_schedule.specs.Serving.{traces_of};
+ghost use Rattle.sv_schedule.specs.Schedule.{scheduled_run};
 ghost use Rattle.sv_schedule.specs.Records.{IsReplay};
 
 use crate::done::scheduled_runs_end;

@@ -1,4 +1,4 @@
--- The sequencer's fields once a new action has an outcome, and once positions are sent.
+-- A core's fields once a new action has an outcome.
 use Rattle.std.proofs.Common.{◌≡◌, ℕ, zero, suc, ◌+◌, ◌<◌, ◌≤◌, Bool, true, false, cond, nat_eq, ◌⊎◌, inl, inr, List, [], ◌∷◌, ◌++◌, map, length, Some, slice_get, refl, sym, ◌∙◌, ap, subst, arith, length-append}
 use Rattle.std.proofs.lemmas.Bool.{both_ways, eqb-true}
 use Rattle.std.proofs.lemmas.List.{map_push}
@@ -7,7 +7,7 @@ use Rattle.sv_journal.specs.declared.entry.Entry.{Entry}
 use Rattle.sv_journal.specs.declared.entry.Logged.TheVariants as logged
 use Rattle.sv_journal.specs.History.{Outcome, Accepted, Dropped, is_welcome, outcome_in, outcomes_of, accepted, result_at, commit_of}
 use Rattle.sv_journal.specs.Sessions.{is_end, life_of, sent_to, named_to}
-use Rattle.sv_journal.specs.Answer.{Rules, reply_to}
+use Rattle.sv_journal.specs.Answer.{Rules}
 use Rattle.sv_queue.specs.Queue.{QueueView}
 use Rattle.sv_sequencer.specs.declared.clients.ClientRow.{ClientRow}
 use Rattle.sv_sequencer.specs.declared.clients.Clients.{Clients}
@@ -76,16 +76,14 @@ placed-next h e k seq out m is q new' old j n p g =
     go false t = old j n p t
 
 -- A new action is dropped.
-pub agree-drop : (r : Rules) (h : List Entry) (v : QueueView) (rows next : List SessionRow) (clients after : Clients) (owed spare room : ℕ) (s : ℕ) (request : Request) (k seq chain far : ℕ)
+pub agree-drop : (r : Rules) (h : List Entry) (v : QueueView) (rows next : List SessionRow) (clients after : Clients) (owed s : ℕ) (request : Request) (k seq chain far : ℕ)
     (o : OutcomeRow) → outcome_value o ≡ Dropped chain far →
-    Agrees r h v rows clients owed spare → length rows ≡ r.sessions → s < r.sessions → IsNext h s request k seq → is_end request ≡ false →
-    logged.Dropped seq chain far ≡ reply_to r h s request → AreAfter (entry_of s request (logged.Dropped seq chain far)) rows next →
-    ((j : ℕ) → client_row after j ≡ settled_row (client_row clients) k o j) → owed ≤ room →
-    Agrees r (entry_of s request (logged.Dropped seq chain far) ∷ h) v next after owed room
-agree-drop r h v rows next clients after owed spare room s request k seq chain far o value a count low is more reply rows' clients' fits = record {
+    Agrees r h v rows clients owed → length rows ≡ r.sessions → s < r.sessions → IsNext h s request k seq → is_end request ≡ false →
+    AreAfter (entry_of s request (logged.Dropped seq chain far)) rows next → ((j : ℕ) → client_row after j ≡ settled_row (client_row clients) k o j) →
+    Agrees r (entry_of s request (logged.Dropped seq chain far) ∷ h) v next after owed
+agree-drop r h v rows next clients after owed s request k seq chain far o value a count low is more rows' clients' = record {
   sound = sound-next r h e 1 (record {
     session = low;
-    reply = reply;
     grows = omega (arith, ap length same);
     accepts = omega (arith, ap length same);
     settles = λ j. settles-next h e k seq j (Dropped chain far) is refl;
@@ -105,7 +103,6 @@ agree-drop r h v rows next clients after owed spare room s request k seq chain f
   session_rows = rows-next r e h rows next count rows' a.session_rows;
   client_rows = λ j. subst (IsClientRow (e ∷ h) j) (sym (clients' j)) (client-next h e k seq o (client_row clients) is (ap (λ x. x ∷ []) (sym value)) refl a.client_rows j);
   ends = a.ends ∙ sym (owed-same e h r.sessions more);
-  room = fits;
 }
   where
     e : Entry

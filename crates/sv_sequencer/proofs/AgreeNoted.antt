@@ -1,4 +1,4 @@
--- The sequencer's fields once results are noted and installed.
+-- A core's fields once results are noted and installed.
 use Rattle.std.proofs.Common.{◌≡◌, ℕ, zero, suc, ◌<◌, ◌≤◌, Bool, true, false, List, [], ◌∷◌, length, All, Option, ℤ, Some, None, is_some, slice_get, refl, sym, ◌∙◌, ap, subst, arith}
 use Rattle.std.proofs.lemmas.Bool.{both_ways, ne_eqb}
 use Rattle.sv_world.specs.Control.{is_in}
@@ -9,7 +9,7 @@ use Rattle.sv_journal.specs.declared.entry.Entry.{Entry}
 use Rattle.sv_journal.specs.declared.entry.Logged.TheVariants as logged
 use Rattle.sv_journal.specs.History.{either, is_relay, reported, reports, accepted, result_at, run_length, commit_of}
 use Rattle.sv_journal.specs.Sessions.{is_end, positions_in, named_in, sent_to, named_to}
-use Rattle.sv_journal.specs.Answer.{Rules, reply_to}
+use Rattle.sv_journal.specs.Answer.{Rules}
 use Rattle.sv_queue.specs.Queue.{QueueView, last_position, installed}
 use Rattle.sv_sequencer.specs.declared.clients.Clients.{Clients}
 use Rattle.sv_sequencer.specs.declared.sessions.SessionRow.{SessionRow}
@@ -90,15 +90,13 @@ noted r h v e c ds is asks low at sound f = (fitted, (commit, rises))
     rises = omega (arith, facts.0, commit, at, commit-reports v ds)
 
 -- Results are noted.
-pub agree-noted : (r : Rules) (h : List Entry) (v : QueueView) (old next : List SessionRow) (clients : Clients) (owed spare room : ℕ) (s : ℕ) (request : Request)
+pub agree-noted : (r : Rules) (h : List Entry) (v : QueueView) (old next : List SessionRow) (clients : Clients) (owed s : ℕ) (request : Request)
     (c : ℕ) (ds : List Done1) → c ≡ (installed (with_reports v ds)).commit → request ≡ requests.Done ds → All (λ (d : Done1). d.pos ≤ last_position v) ds →
-    Agrees r h v old clients owed spare → length old ≡ r.sessions → s < r.sessions →
-    logged.Noted c ≡ reply_to r h s request → AreAfter (entry_of s request (logged.Noted c)) old next → owed ≤ room →
-    Agrees r (entry_of s request (logged.Noted c) ∷ h) (installed (with_reports v ds)) next clients owed room
-agree-noted r h v old next clients owed spare room s request c ds at asks within a count low reply rows' fits = record {
+    Agrees r h v old clients owed → length old ≡ r.sessions → s < r.sessions → AreAfter (entry_of s request (logged.Noted c)) old next →
+    Agrees r (entry_of s request (logged.Noted c) ∷ h) (installed (with_reports v ds)) next clients owed
+agree-noted r h v old next clients owed s request c ds at asks within a count low rows' = record {
   sound = sound-next r h e 0 (record {
     session = low;
-    reply = reply;
     grows = omega (arith, ap length same);
     accepts = omega (arith, ap length same);
     settles = λ j. omega (arith, ap length (outcomes-quiet e h j refl));
@@ -115,7 +113,6 @@ agree-noted r h v old next clients owed spare room s request c ds at asks within
   session_rows = rows-next r e h old next count rows' a.session_rows;
   client_rows = λ j. record { life = (a.client_rows j).life ∙ sym (life-quiet e h j refl); outcomes = (a.client_rows j).outcomes ∙ sym (outcomes-quiet e h j refl) };
   ends = a.ends ∙ sym (owed-same e h r.sessions (ap is_end asks));
-  room = fits;
 }
   where
     e : Entry

@@ -1,5 +1,5 @@
--- The sequencer's fields once positions are sent to a session, and once one begins.
-use Rattle.std.proofs.Common.{◌≡◌, ℕ, zero, suc, ◌+◌, ◌<◌, ◌≤◌, Bool, true, false, ◌&&◌, cond, nat_eq, max, List, [], ◌∷◌, ◌++◌, map, length, All, is_some, slice_get, refl, sym, ◌∙◌, ap, subst, arith, length-append}
+-- A core's fields once positions are sent to a session, and once one begins.
+use Rattle.std.proofs.Common.{◌≡◌, ℕ, zero, suc, ◌+◌, ◌<◌, Bool, true, false, ◌&&◌, cond, nat_eq, max, List, [], ◌∷◌, ◌++◌, map, length, All, is_some, slice_get, refl, sym, ◌∙◌, ap, subst, arith, length-append}
 use Rattle.std.proofs.lemmas.Bool.{both_ways, cond_both, cond-false, eqb-true, and_right}
 use Rattle.sv_world.specs.Control.{is_in}
 use Rattle.sv_world.proofs.Members.{is_in-one}
@@ -10,7 +10,7 @@ use Rattle.sv_journal.specs.declared.entry.Entry.{Entry}
 use Rattle.sv_journal.specs.declared.entry.Logged.TheVariants as logged
 use Rattle.sv_journal.specs.History.{Accepted, is_client, is_noted, outcomes_of, accepted, result_at, run_length, commit_of}
 use Rattle.sv_journal.specs.Sessions.{is_end, life_in, life_of, names, sent_to, named_to}
-use Rattle.sv_journal.specs.Answer.{Rules, reply_to}
+use Rattle.sv_journal.specs.Answer.{Rules}
 use Rattle.sv_queue.specs.Queue.{QueueView, IsUncommitted, last_position, with_action, with_given}
 use Rattle.sv_sequencer.specs.declared.clients.ClientRow.{ClientRow}
 use Rattle.sv_sequencer.specs.declared.clients.Clients.{Clients}
@@ -51,16 +51,14 @@ fits-relay r h e v s seq head ps at is low f =
     (fits-marked r.world (accepted (e ∷ h)) (result_at h) (sent_to h) (named_to h) v ps s low f))
 
 -- A position that is there is sent, on a Poll or a repeated Submit.
-pub agree-relay : (r : Rules) (h : List Entry) (v : QueueView) (old next : List SessionRow) (clients : Clients) (owed spare room : ℕ) (s : ℕ) (request : Request)
+pub agree-relay : (r : Rules) (h : List Entry) (v : QueueView) (old next : List SessionRow) (clients : Clients) (owed s : ℕ) (request : Request)
     (seq c : ℕ) (head : List Held) (ps : List ℕ) → c ≡ v.commit →
-    Agrees r h v old clients owed spare → length old ≡ r.sessions → s < r.sessions → IsOld h s request → is_end request ≡ false →
-    logged.Relay seq c head ps ≡ reply_to r h s request → AreAfter (entry_of s request (logged.Relay seq c head ps)) old next →
-    All (IsUncommitted v) ps → owed ≤ room →
-    Agrees r (entry_of s request (logged.Relay seq c head ps) ∷ h) (given_all (marked_all v ps s) head s) next clients owed room
-agree-relay r h v old next clients owed spare room s request seq c head ps at a count low is more reply rows' within fits = record {
+    Agrees r h v old clients owed → length old ≡ r.sessions → s < r.sessions → IsOld h s request → is_end request ≡ false →
+    AreAfter (entry_of s request (logged.Relay seq c head ps)) old next → All (IsUncommitted v) ps →
+    Agrees r (entry_of s request (logged.Relay seq c head ps) ∷ h) (given_all (marked_all v ps s) head s) next clients owed
+agree-relay r h v old next clients owed s request seq c head ps at a count low is more rows' within = record {
   sound = sound-next r h e 0 (record {
     session = low;
-    reply = reply;
     grows = omega (arith, ap length same);
     accepts = omega (arith, ap length same);
     settles = λ k. omega (arith, ap length (outcomes-old e h k is));
@@ -78,7 +76,6 @@ agree-relay r h v old next clients owed spare room s request seq c head ps at a 
   session_rows = rows-next r e h old next count rows' a.session_rows;
   client_rows = λ k. record { life = (a.client_rows k).life ∙ sym (life-quiet e h k refl); outcomes = (a.client_rows k).outcomes ∙ sym (outcomes-old e h k is) };
   ends = a.ends ∙ sym (owed-same e h r.sessions more);
-  room = fits;
 }
   where
     e : Entry
@@ -91,17 +88,16 @@ agree-relay r h v old next clients owed spare room s request seq c head ps at a 
     commit = commit-same e h same (λ p. result-quiet e h p refl)
 
 -- A new action is accepted as the last one, and sent.
-pub agree-accept : (r : Rules) (h : List Entry) (v : QueueView) (old next : List SessionRow) (clients after : Clients) (owed spare room : ℕ) (s : ℕ) (request : Request)
+pub agree-accept : (r : Rules) (h : List Entry) (v : QueueView) (old next : List SessionRow) (clients after : Clients) (owed s : ℕ) (request : Request)
     (k seq c m : ℕ) (head : List Held) (ps : List ℕ) → c ≡ v.commit → m ≡ suc (last_position v) →
-    Agrees r h v old clients owed spare → length old ≡ r.sessions → s < r.sessions → IsNext h s request k seq → is_end request ≡ false →
-    logged.Relay seq c head ps ≡ reply_to r h s request → AreAfter (entry_of s request (logged.Relay seq c head ps)) old next →
+    Agrees r h v old clients owed → length old ≡ r.sessions → s < r.sessions → IsNext h s request k seq → is_end request ≡ false →
+    AreAfter (entry_of s request (logged.Relay seq c head ps)) old next →
     ((j : ℕ) → client_row after j ≡ settled_row (client_row clients) k (rows.Accepted m) j) →
-    All (IsUncommitted (with_action v (record { 0 = k }) seq (action_in request))) ps → owed ≤ room →
-    Agrees r (entry_of s request (logged.Relay seq c head ps) ∷ h) (given_all (marked_all (with_action v (record { 0 = k }) seq (action_in request)) ps s) head s) next after owed room
-agree-accept r h v old next clients after owed spare room s request k seq c m head ps at last a count low is more reply rows' clients' within fits = record {
+    All (IsUncommitted (with_action v (record { 0 = k }) seq (action_in request))) ps →
+    Agrees r (entry_of s request (logged.Relay seq c head ps) ∷ h) (given_all (marked_all (with_action v (record { 0 = k }) seq (action_in request)) ps s) head s) next after owed
+agree-accept r h v old next clients after owed s request k seq c m head ps at last a count low is more rows' clients' within = record {
   sound = sound-next r h e 1 (record {
     session = low;
-    reply = reply;
     grows = omega (arith, longer);
     accepts = omega (arith, longer);
     settles = λ j. settles-next h e k seq j (Accepted (suc (length (accepted h)))) is refl;
@@ -121,7 +117,6 @@ agree-accept r h v old next clients after owed spare room s request k seq c m he
   client_rows = λ j. subst (IsClientRow (e ∷ h) j) (sym (clients' j))
       (client-next h e k seq (rows.Accepted m) (client_row clients) is (ap (λ n. Accepted n ∷ []) (let p : suc (length (accepted h)) ≡ m = omega (arith, last, a.fits.last) in p)) refl a.client_rows j);
   ends = a.ends ∙ sym (owed-same e h r.sessions more);
-  room = fits;
 }
   where
     e : Entry
@@ -162,16 +157,14 @@ abbrev pub joined_row : (ℕ → ClientRow) → ℕ → ℕ → ℕ → ClientRo
 joined_row rows k life j = cond (nat_eq k j) (record (rows k) { life = life }) (rows j)
 
 -- A session begins.
-pub agree-welcome : (r : Rules) (h : List Entry) (v : QueueView) (old next : List SessionRow) (clients after : Clients) (owed spare room : ℕ) (s : ℕ) (request : Request)
+pub agree-welcome : (r : Rules) (h : List Entry) (v : QueueView) (old next : List SessionRow) (clients after : Clients) (owed s : ℕ) (request : Request)
     (k life c : ℕ) (head : List Held) → c ≡ v.commit →
-    Agrees r h v old clients owed spare → length old ≡ r.sessions → s < r.sessions → IsJoin r h request k life → is_end request ≡ false →
-    logged.Welcome c head ≡ reply_to r h s request → AreAfter (entry_of s request (logged.Welcome c head)) old next →
-    ((j : ℕ) → client_row after j ≡ joined_row (client_row clients) k life j) → owed ≤ room →
-    Agrees r (entry_of s request (logged.Welcome c head) ∷ h) (given_all v head s) next after owed room
-agree-welcome r h v old next clients after owed spare room s request k life c head at a count low is more reply rows' clients' fits = record {
+    Agrees r h v old clients owed → length old ≡ r.sessions → s < r.sessions → IsJoin r h request k life → is_end request ≡ false →
+    AreAfter (entry_of s request (logged.Welcome c head)) old next → ((j : ℕ) → client_row after j ≡ joined_row (client_row clients) k life j) →
+    Agrees r (entry_of s request (logged.Welcome c head) ∷ h) (given_all v head s) next after owed
+agree-welcome r h v old next clients after owed s request k life c head at a count low is more rows' clients' = record {
   sound = sound-next r h e 0 (record {
     session = low;
-    reply = reply;
     grows = omega (arith, ap length same);
     accepts = omega (arith, ap length same);
     settles = λ j. omega (arith, ap length (outcomes-quiet e h j refl));
@@ -192,7 +185,6 @@ agree-welcome r h v old next clients after owed spare room s request k life c he
   session_rows = rows-next r e h old next count rows' a.session_rows;
   client_rows = λ j. subst (IsClientRow (e ∷ h) j) (sym (clients' j)) (joined j);
   ends = a.ends ∙ sym (owed-same e h r.sessions more);
-  room = fits;
 }
   where
     e : Entry

@@ -1,5 +1,5 @@
--- The sequencer's fields against a history with one more entry.
-use Rattle.std.proofs.Common.{◌≡◌, ℕ, zero, suc, ◌<◌, ◌≤◌, Bool, true, false, ◌&&◌, cond, nat_eq, max, List, [], ◌∷◌, ◌++◌, length, get_or, is_some, slice_get, refl, sym, ◌∙◌, ap, subst, arith, append-nil}
+-- A core's fields against a history with one more entry.
+use Rattle.std.proofs.Common.{◌≡◌, ℕ, zero, suc, ◌<◌, Bool, true, false, ◌&&◌, cond, nat_eq, max, List, [], ◌∷◌, ◌++◌, length, get_or, is_some, slice_get, refl, sym, ◌∙◌, ap, subst, arith, append-nil}
 use Rattle.std.proofs.lemmas.Bool.{both_ways}
 use Rattle.sv_world.specs.Control.{is_in}
 use Rattle.sv_wire.specs.declared.message.Request.{Request}
@@ -7,7 +7,7 @@ use Rattle.sv_journal.specs.declared.entry.Entry.{Entry}
 use Rattle.sv_journal.specs.declared.entry.Logged.{Logged}
 use Rattle.sv_journal.specs.History.{is_welcome, is_noted, joining, is_client, accepted, result_at, run_length, commit_of}
 use Rattle.sv_journal.specs.Sessions.{life_in, life_of, positions_in, named_in, sent_to, named_to}
-use Rattle.sv_journal.specs.Answer.{Rules, reply_to}
+use Rattle.sv_journal.specs.Answer.{Rules}
 use Rattle.sv_queue.specs.Queue.{QueueView}
 use Rattle.sv_sequencer.specs.declared.clients.Clients.{Clients}
 use Rattle.sv_sequencer.specs.declared.sessions.SessionRow.{SessionRow}
@@ -56,14 +56,12 @@ rows-next r e h old new' count after rows s low =
     subst (IsSessionRow (e ∷ h) s) (sym (after s (omega (arith, low, count)))) (row-next e h s (get_or old s no_session) (rows s low))
 
 -- An entry that changes nothing but its own session.
-pub agree-quiet : (r : Rules) (h : List Entry) (v : QueueView) (rows next : List SessionRow) (clients : Clients) (owed spare room : ℕ) (s : ℕ) (request : Request) (reply : Logged) →
-    Agrees r h v rows clients owed spare → length rows ≡ r.sessions → s < r.sessions → IsQuiet h s request reply → reply ≡ reply_to r h s request →
-    AreAfter (entry_of s request reply) rows next →
-    (left : ℕ) → left ≡ ends_owed (entry_of s request reply ∷ h) r.sessions → left ≤ room → Agrees r (entry_of s request reply ∷ h) v next clients left room
-agree-quiet r h v rows next clients owed spare room s request reply a count low quiet is after left owes fits = record {
+pub agree-quiet : (r : Rules) (h : List Entry) (v : QueueView) (rows next : List SessionRow) (clients : Clients) (owed s : ℕ) (request : Request) (reply : Logged) →
+    Agrees r h v rows clients owed → length rows ≡ r.sessions → s < r.sessions → IsQuiet h s request reply → AreAfter (entry_of s request reply) rows next →
+    (left : ℕ) → left ≡ ends_owed (entry_of s request reply ∷ h) r.sessions → Agrees r (entry_of s request reply ∷ h) v next clients left
+agree-quiet r h v rows next clients owed s request reply a count low quiet after left owes = record {
   sound = sound-next r h e 0 (record {
     session = low;
-    reply = is;
     grows = omega (arith, ap length same);
     accepts = omega (arith, ap length same);
     settles = λ k. omega (arith, ap length (quiet.outcomes k));
@@ -82,7 +80,6 @@ agree-quiet r h v rows next clients owed spare room s request reply a count low 
   session_rows = rows-next r e h rows next count after a.session_rows;
   client_rows = λ k. record { life = (a.client_rows k).life ∙ sym (life-quiet e h k quiet.welcome); outcomes = (a.client_rows k).outcomes ∙ sym (quiet.outcomes k) };
   ends = owes;
-  room = fits;
 }
   where
     e : Entry

@@ -104,10 +104,14 @@ can_report_all v s (d ∷ ds) h = (let both = or_parts (is_bad_report v s d) (li
     all-cons here rest zero o low = here
     all-cons here rest (suc i) o low = rest i o (omega arith)
 
--- Of results that are not bad as a whole, each may be kept.
+-- Of results of which none is bad, each may be kept.
 pub can_report_done : (r : Rules) (h : List Entry) (v : QueueView) (s : ℕ) (ds : List Done1) → s < 64 → v.commit ≡ commit_of h →
     ((t q : ℕ) → is_in q (sent_to h t) ≡ true → q ≤ length (accepted h)) → Fits r.world (accepted h) (result_at h) (sent_to h) (named_to h) v →
-    is_bad_done r h s ds ≡ false → All (CanReport v) ds
+    list_any (is_bad_result r h s) ds ≡ false → All (CanReport v) ds
 can_report_done r h v s ds small at within f q =
-    can_report_all v s ds (or_parts (length ds == 0 || nat_lt 33 (length ds) || not (is_ascending (map (λ (d : Done1). d.pos) ds))) (list_any (is_bad_report v s) ds)
-    (bad-done r h v s ds small at within f ∙ q)).1
+    can_report_all v s ds (any-alike (is_bad_report v s) (is_bad_result r h s) ds (λ d. bad-is r h v s d small at within f) ∙ q)
+
+-- Of a Done that is not bad no result is.
+pub no-bad : (r : Rules) (h : List Entry) (s : ℕ) (ds : List Done1) → is_bad_done r h s ds ≡ false → list_any (is_bad_result r h s) ds ≡ false
+no-bad r h s ds q =
+    (or_parts (length ds == 0 || nat_lt 33 (length ds) || not (is_ascending (map (λ (d : Done1). d.pos) ds))) (list_any (is_bad_result r h s) ds) q).1

@@ -1,16 +1,19 @@
--- The sequencer's fields once an entry is in the journal.
-use Rattle.std.proofs.Common.{◌≡◌, ℕ, ◌<◌, ◌≤◌, false, List, [], ◌∷◌, ◌++◌, reverse, Option, refl, sym, ◌∙◌, ap, subst, arith}
-use Rattle.std.proofs.lemmas.List.{reverse-append}
+-- A core that did what was decided on a request.
+use Rattle.std.proofs.Common.{◌≡◌, ℕ, ◌<◌, ◌≤◌, false, List, ◌∷◌, Option, refl, sym, ◌∙◌, ap, subst, arith}
 use Rattle.sv_world.specs.declared.world.World.{World}
 use Rattle.sv_wire.specs.declared.message.Request.{Request}
 use Rattle.sv_wire.specs.declared.message.Request.TheVariants as requests
 use Rattle.sv_journal.specs.declared.entry.Entry.{Entry}
+use Rattle.sv_journal.specs.declared.entry.Logged.{Logged}
 use Rattle.sv_journal.specs.declared.entry.Logged.TheVariants as logged
+use Rattle.sv_journal.specs.History.{accepted, full_reply}
 use Rattle.sv_journal.specs.Answer.{Rules}
-use Rattle.sv_queue.specs.Queue.{QueueView}
-use Rattle.sv_sequencer.specs.declared.clients.Clients.{Clients}
-use Rattle.sv_sequencer.specs.declared.sessions.SessionRow.{SessionRow}
+use Rattle.sv_sequencer.specs.declared.answer.Answer.{Answer}
+use Rattle.sv_sequencer.specs.declared.decision.Decision.{Decision}
+use Rattle.sv_sequencer.specs.declared.server_core.Core.{Core}
 use Rattle.sv_sequencer.specs.Agreement.{Agrees, ends_owed}
+use Rattle.sv_sequencer.specs.Cores.{rules_of, owed_by, CarriedOut}
+use Rattle.sv_sequencer.specs.Decisions.{reply_by}
 use Rattle.sv_sequencer.specs.Rows.{is_ended}
 use Rattle.sv_sequencer.specs.Step.{entry_of}
 use Rattle.sv_sequencer.proofs.SoundSteps.{owed-end}
@@ -18,17 +21,19 @@ use Rattle.sv_sequencer.proofs.SoundSteps.{owed-end}
 abbrev pub rules_with : World → ℕ → Option ℕ → ℕ → Rules
 rules_with world bound reach sessions = record { world = world; bound = bound; reach = reach; sessions = sessions }
 
-pub reshaped : (world : World) (bound : ℕ) (reach : Option ℕ) (n m : ℕ) (es after : List Entry) (e : Entry) (v : QueueView) (rows : List SessionRow) (clients : Clients) (owed spare : ℕ) →
-    m ≡ n → after ≡ es ++ e ∷ [] → Agrees (rules_with world bound reach n) (e ∷ reverse es) v rows clients owed spare →
-    Agrees (rules_with world bound reach m) (reverse after) v rows clients owed spare
-reshaped world bound reach n m es after e v rows clients owed spare count grown a =
-    subst (λ k. Agrees (rules_with world bound reach k) (reverse after) v rows clients owed spare) (sym count)
-    (subst (λ h. Agrees (rules_with world bound reach n) h v rows clients owed spare) (sym (ap reverse grown ∙ reverse-append es (e ∷ []))) a)
-
--- What holds by the rules and entries that a view has holds by those that a second one has in common with it.
-pub moved : (P : Rules → List Entry → Request → Type 0) (r r' : Rules) (es es' : List Entry) (q q' : Request) → r ≡ r' → es ≡ es' → q ≡ q' → P r' (reverse es') q' → P r (reverse es) q
-moved P r r' es es' q q' same alike equal h =
-    subst (λ x. P x (reverse es) q) (sym same) (subst (λ x. P r' (reverse x) q) (sym alike) (subst (λ x. P r' (reverse es') x) (sym equal) h))
+-- A core whose fields agree with a history of one entry more did what was decided, where the entry has the reply that the decision stands for.
+pub carried : (old new' : Core) (h : List Entry) (s : ℕ) (q : Request) (d : Decision) (x : Answer) (l : Logged) → rules_of new' ≡ rules_of old → owed_by new' ≡ owed_by old →
+    x.logged ≡ l → l ≡ reply_by (rules_of old) h s q d →
+    Agrees (rules_of old) (entry_of s q l ∷ h) new'.queue new'.sessions.items new'.clients new'.owed →
+    x.reply ≡ full_reply (accepted (entry_of s q l ∷ h)) l → CarriedOut old new' h s q d x
+carried old new' h s q d x l same owes is told agrees whole = record {
+  rules = same;
+  owed = owes;
+  keeps = subst (λ (r : Rules). Agrees r (entry_of s q (reply_by (rules_of old) h s q d) ∷ h) new'.queue new'.sessions.items new'.clients new'.owed) (sym same)
+      (subst (λ (m : Logged). Agrees (rules_of old) (entry_of s q m ∷ h) new'.queue new'.sessions.items new'.clients new'.owed) told agrees);
+  logged = is ∙ told;
+  whole = whole ∙ ap (λ (m : Logged). full_reply (accepted (entry_of s q m ∷ h)) m) told;
+}
 
 -- A session whose End has not come is owed one.
 pub owed-some : (h : List Entry) (s n : ℕ) → is_ended h s ≡ false → s < n → 1 ≤ ends_owed h n

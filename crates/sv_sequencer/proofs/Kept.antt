@@ -1,5 +1,5 @@
 -- Kept outcomes, by the rows of clients.
-use Rattle.std.proofs.Common.{◌≡◌, ℕ, zero, suc, ◌+◌, ◌<◌, Bool, true, false, ◌&&◌, cond, nat_eq, nat_le, List, [], ◌∷◌, map, length, Some, None, slice_get, refl, sym, ◌∙◌, ap, arith}
+use Rattle.std.proofs.Common.{◌≡◌, ℕ, zero, suc, ◌+◌, ◌<◌, Bool, true, false, ◌&&◌, cond, nat_eq, nat_le, List, [], ◌∷◌, map, length, Option, Some, None, slice_get, refl, sym, ◌∙◌, ap, arith}
 use Rattle.std.proofs.lemmas.Bool.{cond_both, cond-false, eqb-true, ne_eqb, and_right}
 use Rattle.std.proofs.lemmas.List.{length-map}
 use Rattle.sv_world.specs.declared.action.Action.{Action}
@@ -46,8 +46,12 @@ old-submit h s k seq a is low = record {
         ne_eqb seq (next_seq h j) (λ t. (let e : next_seq h k ≡ next_seq h j = ap (next_seq h) same in omega arith)))
     go j false q = refl
 
-pub old-poll : (h : List Entry) (s k : ℕ) → client_of h s ≡ Some k → IsOld h s requests.Poll
-old-poll h s k is = record {
-  accepts = ap (λ c. new_action c (next_seq h) requests.Poll) is;
+pub old-poll : (h : List Entry) (s : ℕ) → IsOld h s requests.Poll
+old-poll h s = record {
+  accepts = go (client_of h s);
   outcomes = λ j. and_right (is_client (client_of h s) j) false refl;
 }
+  where
+    go : (k : Option ℕ) → new_action k (next_seq h) requests.Poll ≡ []
+    go None = refl
+    go (Some k) = refl

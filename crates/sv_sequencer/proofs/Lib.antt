@@ -20,5 +20,6 @@ pub mod Replies
 pub mod Kept
 pub mod Quiet
 pub mod Opening
+pub mod Missing
 pub mod Stepped
 pub mod Rows

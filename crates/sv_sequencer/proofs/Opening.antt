@@ -1,4 +1,4 @@
--- The sequencer's fields as it is opened.
+-- A core's fields as it is opened.
 use Rattle.std.proofs.Common.{◌≡◌, ℕ, zero, suc, ◌*◌, ◌≤◌, false, List, [], get_or, replicate, refl, sym, ◌∙◌, ap, subst, arith}
 use Rattle.std.proofs.lemmas.Bool.{both_ways}
 use Rattle.std.proofs.lemmas.List.{get_or-replicate}
@@ -24,11 +24,10 @@ no_session-is s = record { client = refl; over = refl; left = refl; ended = refl
 no_client-is : (k : ℕ) → IsClientRow [] k no_client
 no_client-is k = record { life = refl; outcomes = refl }
 
-pub agree-opening : (r : Rules) (rows : List SessionRow) (clients : Clients) (owed spare : ℕ) → r.sessions ≤ 64 → rows ≡ replicate r.sessions no_session →
-    ((k : ℕ) → client_row clients k ≡ no_client) → owed ≡ r.sessions → owed ≤ spare → Agrees r [] (opening_queue r.world) rows clients owed spare
-agree-opening r rows clients owed spare few are none owes room = record {
+pub agree-opening : (r : Rules) (rows : List SessionRow) (clients : Clients) (owed : ℕ) → r.sessions ≤ 64 → rows ≡ replicate r.sessions no_session →
+    ((k : ℕ) → client_row clients k ≡ no_client) → owed ≡ r.sessions → Agrees r [] (opening_queue r.world) rows clients owed
+agree-opening r rows clients owed few are none owes = record {
   sound = record {
-    legal = tt;
     results = λ p high. refl;
     sent = λ s p m. absurd (both_ways false refl m);
     named = λ s x q m. absurd (both_ways false refl m);
@@ -49,5 +48,4 @@ agree-opening r rows clients owed spare few are none owes room = record {
   session_rows = λ s low. subst (IsSessionRow [] s) (sym (ap (λ xs. get_or xs s no_session) are ∙ get_or-replicate r.sessions s no_session no_session low)) (no_session-is s);
   client_rows = λ k. subst (IsClientRow [] k) (sym (none k)) (no_client-is k);
   ends = owes ∙ sym (ends_owed-opening r.sessions);
-  room = room;
 }

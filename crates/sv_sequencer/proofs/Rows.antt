@@ -1,10 +1,13 @@
 -- What an entry that welcomes nobody leaves of the rows of other sessions.
 use Rattle.std.proofs.Common.{◌≡◌, ℕ, false, nat_eq, Option, Some, None, refl}
+use Rattle.sv_wire.specs.declared.message.Request.{Request}
 use Rattle.sv_journal.specs.declared.entry.Entry.{Entry}
+use Rattle.sv_journal.specs.declared.entry.Logged.{Logged}
 use Rattle.sv_journal.specs.History.{either, is_welcome}
 use Rattle.sv_journal.specs.Sessions.{welcomes}
 use Rattle.sv_sequencer.specs.declared.sessions.SessionRow.{SessionRow}
 use Rattle.sv_sequencer.specs.Rows.{session_after}
+use Rattle.sv_sequencer.specs.Step.{entry_of}
 use Rattle.sv_sequencer.proofs.FitMarks.{or_false}
 
 either-none : (c : Option ℕ) → either c None ≡ c
@@ -15,5 +18,9 @@ welcomes-none : (e : Entry) (c : Option ℕ) → is_welcome e.reply ≡ false �
 welcomes-none e None h = refl
 welcomes-none e (Some k) h = rw h refl
 
-pub other_row_stays : (e : Entry) (s : ℕ) (r : SessionRow) → is_welcome e.reply ≡ false → nat_eq e.session s ≡ false → session_after e s r ≡ r
-other_row_stays e s r h q = rw (q, welcomes-none e r.client h, either-none r.client, or_false r.over, or_false r.ended) refl
+row-stays : (e : Entry) (s : ℕ) (r : SessionRow) → is_welcome e.reply ≡ false → nat_eq e.session s ≡ false → session_after e s r ≡ r
+row-stays e s r h q = rw (q, welcomes-none e r.client h, either-none r.client, or_false r.over, or_false r.ended) refl
+
+pub other_row_stays : (asker : ℕ) (request : Request) (reply : Logged) (s : ℕ) (r : SessionRow) → is_welcome reply ≡ false → nat_eq asker s ≡ false →
+    session_after (entry_of asker request reply) s r ≡ r
+other_row_stays asker request reply s r h q = row-stays (entry_of asker request reply) s r h q

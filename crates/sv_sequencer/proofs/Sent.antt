@@ -1,4 +1,4 @@
--- What a sequencer is made of, the sequencer, and the right to a lock of it may go to another thread.
+-- What a core is made of, the core, the sequencer, and the right to a lock of it may go to another thread.
 use mir.Syntax.{Sym}
 use denote.RattleType.{RattleType}
 use denote.Struct.Field.{row_field}
@@ -28,6 +28,7 @@ use Rattle.sv_lock.proofs.pass.Pass.TheSendSync as passes
 use Rattle.sv_sequencer.specs.contracts.object.Opened as opened
 use Rattle.sv_sequencer.specs.contracts.object.SequencerObject.TheImpl.{ghosts}
 use Rattle.sv_sequencer.specs.contracts.sequencer.Sequencer as sequencer
+use Rattle.sv_sequencer.specs.contracts.server_core.Core as cores
 
 action-sends : IsSend action.the_row
 action-sends = search (shorts.the_send, bodies.the_send, sendable, crosses) depth 30
@@ -53,12 +54,18 @@ entry-sends = search (request-field-sends, logged-field-sends, sendable, crosses
 journal-sends : IsSend journal.the_row
 journal-sends = search (entry-sends, sendable, crosses) depth 40
 
--- A sequencer may go to another thread. It is too large for one search.
+-- A core may go to another thread. A sequencer is too large for one search.
+pub core-sends : IsSend cores.the_row
+core-sends = search (queue-sends, sendable, crosses) depth 40 fits 10000
+
+pub core-field-sends : IsSend (cores.the_field).row
+core-field-sends = search (queue-sends, sendable, crosses) depth 40 fits 10000
+
 pub sequencer-sends : IsSend sequencer.the_row
-sequencer-sends = search (queue-sends, journal-sends, sendable, crosses) depth 40 fits 10000
+sequencer-sends = search (core-field-sends, journal-sends, sendable, crosses) depth 40 fits 10000
 
 pub sequencer-field-sends : IsSend (sequencer.the_field).row
-sequencer-field-sends = search (queue-sends, journal-sends, sendable, crosses) depth 40 fits 10000
+sequencer-field-sends = search (core-field-sends, journal-sends, sendable, crosses) depth 40 fits 10000
 
 -- ---- A lock of a sequencer
 

@@ -1,4 +1,4 @@
--- What a legal journal keeps, entry by entry.
+-- What holds of each history that a core keeps, entry by entry.
 use Rattle.std.proofs.Common.{◌≡◌, ℕ, zero, suc, ◌+◌, ◌-◌, ◌<◌, ◌≤◌, Bool, true, false, ◌&&◌, ◌||◌, not, cond, nat_eq, inl, inr, List, ◌∷◌, ◌++◌, length, All, Some, None, slice_get, refl, ◌∙◌, ap, subst, arith}
 use Rattle.std.proofs.lemmas.Bool.{cases_eq, cases_Bool, eq-eqb, ne_eqb, cond_both, or_right}
 use Rattle.sv_world.specs.Control.{is_in}
@@ -6,7 +6,7 @@ use Rattle.sv_world.proofs.Members.{is_in-append_cases}
 use Rattle.sv_journal.specs.declared.entry.Entry.{Entry}
 use Rattle.sv_journal.specs.History.{Accepted, is_noted, reports, either, outcomes_of, accepted, result_at, commit_of}
 use Rattle.sv_journal.specs.Sessions.{is_end, asked_in, positions_in, named_in, sent_to, named_to}
-use Rattle.sv_journal.specs.Answer.{Rules, reply_to, most_requests}
+use Rattle.sv_journal.specs.Answer.{Rules, most_requests}
 use Rattle.sv_sequencer.specs.declared.sessions.SessionRow.{SessionRow}
 use Rattle.sv_sequencer.specs.Agreement.{IsSound, all_left, ends_owed}
 use Rattle.sv_sequencer.specs.Rows.{is_ended, requests_left, session_after, IsSessionRow}
@@ -81,12 +81,11 @@ owed-end e h (suc n) ends first low = elim (cases_eq e.session n) [
         or_nothing true = refl
         or_nothing false = refl
 
--- ---- Sound journals
+-- ---- Sound histories
 
 -- What the next entry may bring: g is how many requests it takes for what it accepts.
 pub record IsSoundStep (r : Rules) (h : List Entry) (e : Entry) (g : ℕ) : Type 0 where
   pub session : e.session < r.sessions
-  pub reply : e.reply ≡ reply_to r h e.session e.request
   pub grows : length (accepted h) ≤ length (accepted (e ∷ h))
   pub accepts : length (accepted (e ∷ h)) ≤ length (accepted h) + g
   pub settles : (k : ℕ) → length (outcomes_of (e ∷ h) k) ≤ length (outcomes_of h k) + g
@@ -99,7 +98,6 @@ pub record IsSoundStep (r : Rules) (h : List Entry) (e : Entry) (g : ℕ) : Type
 
 pub sound-next : (r : Rules) (h : List Entry) (e : Entry) (g : ℕ) → IsSoundStep r h e g → IsSound r h → IsSound r (e ∷ h)
 sound-next r h e g step sound = record {
-  legal = (step.reply, sound.legal);
   results = λ p high. result p (omega (arith, high, step.grows));
   sent = λ s p m. sent s p m;
   named = λ s x q m. named s x q m;

@@ -1,35 +1,46 @@
 -- One step of a sequencer, put together.
-use Rattle.std.proofs.Common.{◌≡◌, ℕ, ◌<◌, ℤ, List, [], ◌∷◌, ◌++◌, map, reverse, All, Option, sym, ◌∙◌, ap, arith}
+use Rattle.std.proofs.Common.{◌≡◌, ℕ, ◌+◌, ◌<◌, ◌≤◌, ℤ, List, [], ◌∷◌, ◌++◌, map, reverse, All, Option, refl, sym, ◌∙◌, ap, subst, arith}
 use Rattle.std.proofs.lemmas.List.{reverse-append}
 use Rattle.sv_world.specs.declared.world.World.{World}
 use Rattle.sv_wire.specs.declared.message.Held.{Held}
 use Rattle.sv_wire.specs.declared.message.Item.{Item}
-use Rattle.sv_wire.specs.declared.message.Reply.{Reply}
 use Rattle.sv_wire.specs.declared.message.Reply.TheVariants as replies
-use Rattle.sv_wire.specs.declared.message.Request.{Request}
-use Rattle.sv_journal.specs.declared.entry.Logged.{Logged}
+use Rattle.sv_wire.specs.declared.message.Request.TheVariants as requests
+use Rattle.sv_journal.specs.declared.entry.Entry.{Entry}
 use Rattle.sv_journal.specs.declared.entry.Logged.TheVariants as logged
-use Rattle.sv_journal.specs.History.{Authored, accepted, full_reply}
-use Rattle.sv_journal.specs.Answer.{reply_to}
+use Rattle.sv_journal.specs.View.{JournalView}
+use Rattle.sv_journal.specs.History.{Authored, full_reply}
+use Rattle.sv_journal.specs.Answer.{Rules, Legal}
 use Rattle.sv_influence.proofs.Places.{members-all}
 use Rattle.sv_queue.specs.Queue.{QueueView, IsUncommitted}
+use Rattle.sv_sequencer.specs.declared.sequencer.Sequencer.TheInside.{Inside}
+use Rattle.sv_sequencer.specs.declared.server_core.Core.{Core}
+use Rattle.sv_sequencer.specs.Cores.{rules_of, owed_by, Keeps}
 use Rattle.sv_sequencer.specs.Fits.{Fits}
+use Rattle.sv_sequencer.specs.Invariant.{IsSequencer}
 use Rattle.sv_sequencer.specs.Relays.{item_in}
-use Rattle.sv_sequencer.specs.Step.{SequencerView, history, entry_of, Answered}
+use Rattle.sv_sequencer.specs.Step.{entry_of}
 use Rattle.sv_sequencer.proofs.Replies.{items-are}
 
--- The journal grew by a copy of the request with the defined reply, and the answer is that reply in full.
-pub answered : (old new : SequencerView) (s : ℕ) (q copy : Request) (l : Logged) (r : Reply) → copy ≡ q → new.rules ≡ old.rules →
-    new.journal.entries ≡ old.journal.entries ++ entry_of s copy l ∷ [] → l ≡ reply_to old.rules (history old) s q →
-    r ≡ full_reply (accepted (entry_of s copy l ∷ history old)) l → Answered old new s q r
-answered old new s q copy l r copied same grown is whole = record {
-  grew = record {
-    rules = same;
-    entries = grown ∙ ap (λ e. old.journal.entries ++ e ∷ []) (ap (λ x. entry_of s x l) copied ∙ ap (entry_of s q) is);
-  };
-  whole = whole
-      ∙ ap (λ h. full_reply (accepted h) l) (sym (ap reverse grown ∙ reverse-append old.journal.entries (entry_of s copy l ∷ [])))
-      ∙ ap (full_reply (accepted (history new))) is;
+-- A sequencer's fields once a session had its End.
+pub after-end : (a : Inside) (core : Core) (j : JournalView) (s : ℕ) → IsSequencer a → rules_of core ≡ rules_of a.core → owed_by core + 1 ≡ owed_by a.core →
+    Keeps core (entry_of s requests.End logged.Bye ∷ reverse a.journal.entries) → j.entries ≡ a.journal.entries ++ entry_of s requests.End logged.Bye ∷ [] → a.journal.spare ≤ j.spare + 1 →
+    IsSequencer (record { core = core; journal = j })
+after-end a core j s is same falls stands grown room = record {
+  legal = subst (λ (r : Rules). Legal r (reverse j.entries)) (sym same) (subst (Legal (rules_of a.core)) (sym past) (refl, is.legal));
+  keeps = subst (Keeps core) (sym past) stands;
+  room = (let enough : owed_by a.core ≤ a.journal.spare = is.room in omega arith);
+}
+  where
+    past : reverse j.entries ≡ entry_of s requests.End logged.Bye ∷ reverse a.journal.entries
+    past = ap reverse grown ∙ reverse-append a.journal.entries (entry_of s requests.End logged.Bye ∷ [])
+
+-- Its fields as it is opened.
+pub as-opened : (core : Core) (j : JournalView) → j.entries ≡ [] → Keeps core [] → owed_by core ≤ j.spare → IsSequencer (record { core = core; journal = j })
+as-opened core j none stands room = record {
+  legal = subst (λ (es : List Entry). Legal (rules_of core) (reverse es)) (sym none) tt;
+  keeps = subst (λ (es : List Entry). Keeps core (reverse es)) (sym none) stands;
+  room = room;
 }
 
 -- A relay in full, from what a fitting queue has at its positions.

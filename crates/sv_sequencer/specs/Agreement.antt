@@ -1,11 +1,11 @@
--- What the sequencer's fields say of its journal's history.
+-- What a core's fields say of a history.
 use Rattle.std.specs.Prelude.{◌≡◌, ℕ, zero, suc, ◌+◌, ◌*◌, ◌<◌, ◌≤◌, true, Some, None, List, map, length, All, slice_get, slice_index_or, if◌then◌else◌}
 use Rattle.sv_world.specs.Control.{is_in}
 use Rattle.sv_queue.specs.Queue.{QueueView}
 use Rattle.sv_journal.specs.declared.entry.Entry.{Entry}
 use Rattle.sv_journal.specs.History.{Accepted, outcomes_of, accepted, result_at, commit_of}
 use Rattle.sv_journal.specs.Sessions.{life_of, sent_to, named_to}
-use Rattle.sv_journal.specs.Answer.{Rules, Legal, most_requests}
+use Rattle.sv_journal.specs.Answer.{Rules, most_requests}
 use Rattle.sv_sequencer.specs.declared.clients.ClientRow.{ClientRow}
 use Rattle.sv_sequencer.specs.declared.clients.Clients.{Clients}
 use Rattle.sv_sequencer.specs.declared.sessions.SessionRow.{SessionRow}
@@ -28,9 +28,8 @@ abbrev pub ends_owed : List Entry → ℕ → ℕ
 ends_owed h zero = 0
 ends_owed h (suc n) = ends_owed h n + (if is_ended h n then 0 else 1)
 
--- What a legal journal keeps.
+-- What holds of each history that a core keeps.
 pub record IsSound (r : Rules) (h : List Entry) : Type 0 where
-  pub legal : Legal r h
   pub results : (p : ℕ) → length (accepted h) < p → result_at h p ≡ None
   pub sent : (s p : ℕ) → is_in p (sent_to h s) ≡ true → p ≤ length (accepted h)
   pub named : (s x q : ℕ) → is_in q (named_to h s x) ≡ true → q ≤ commit_of h
@@ -39,8 +38,8 @@ pub record IsSound (r : Rules) (h : List Entry) : Type 0 where
   pub few : length (accepted h) + all_left h r.sessions ≤ most_requests * r.sessions
   pub few_outcomes : (k : ℕ) → length (outcomes_of h k) + all_left h r.sessions ≤ most_requests * r.sessions
 
--- The queue, the rows of sessions and clients, the number of Ends to come and the journal's room are those of a history.
-pub record Agrees (r : Rules) (h : List Entry) (v : QueueView) (rows : List SessionRow) (clients : Clients) (owed spare : ℕ) : Type 0 where
+-- The queue, the rows of sessions and clients, and the number of Ends to come are those of a history.
+pub record Agrees (r : Rules) (h : List Entry) (v : QueueView) (rows : List SessionRow) (clients : Clients) (owed : ℕ) : Type 0 where
   pub sound : IsSound r h
   pub few_sessions : r.sessions ≤ 64
   pub fits : Fits r.world (accepted h) (result_at h) (sent_to h) (named_to h) v
@@ -48,4 +47,3 @@ pub record Agrees (r : Rules) (h : List Entry) (v : QueueView) (rows : List Sess
   pub session_rows : (s : ℕ) → s < r.sessions → IsSessionRow h s (slice_index_or rows s no_session)
   pub client_rows : (k : ℕ) → IsClientRow h k (client_row clients k)
   pub ends : owed ≡ ends_owed h r.sessions
-  pub room : owed ≤ spare

@@ -1,4 +1,4 @@
--- What the sequencer keeps of each client.
+-- What a core keeps of each client.
 use Rattle.std.specs.Prelude.{ℕ, suc, ◌+◌, nat_eq, nat_le, List, [], map, length, Option, None, unwrap_or, if◌then◌else◌}
 use Rattle.indexmap.specs.IndexMap.{get}
 use Rattle.sv_journal.specs.History.{Outcome, Accepted, Dropped}

@@ -1,5 +1,6 @@
--- What the sequencer decides on a request, and the reply that this stands for.
+-- What a core decides on a request, and the reply that this stands for.
 use Rattle.std.specs.Prelude.{◌≡◌, ℕ, suc, ◌<◌, ◌≤◌, false, ◌&&◌, List, [], ◌∷◌, ◌++◌, map, length, All, Some, None}
+use Rattle.std.specs.List.{list_any}
 use Rattle.sv_world.specs.declared.action.Action.{Action}
 use Rattle.sv_world.specs.declared.world.ObjectId.{ObjectId}
 use Rattle.sv_world.specs.Control.{blank}
@@ -12,7 +13,7 @@ use Rattle.sv_journal.specs.declared.entry.Logged.{Logged}
 use Rattle.sv_journal.specs.declared.entry.Logged.TheVariants as logged
 use Rattle.sv_journal.specs.History.{joining, is_welcome, is_relay, is_noted, client_of, is_client, is_submit_of, new_action, outcomes_of, accepted, actions_of, next_seq, commit_of}
 use Rattle.sv_journal.specs.Sessions.{positions_in, named_in, asked_in, life_in, life_of}
-use Rattle.sv_journal.specs.Answer.{Rules, refused, committed_held, relay_of, commit_with, is_bad_done, most_requests}
+use Rattle.sv_journal.specs.Answer.{Rules, refused, committed_held, relay_of, commit_with, is_bad_result, most_requests}
 use Rattle.sv_sequencer.specs.declared.decision.Decision.{Decision}
 use Rattle.sv_sequencer.specs.declared.decision.Decision.TheVariants as decisions
 
@@ -60,7 +61,7 @@ pub record IsJoin (r : Rules) (h : List Entry) (request : Request) (k life : ℕ
   pub above : life_of h k < life
   pub interest : All (λ x. x < r.world.shape.objects) (interest_in request)
 
--- What holds where something was decided.
+-- What holds where something was decided. Results may be noted where none of them is bad, also where there are none.
 abbrev pub Holds : Rules → List Entry → ℕ → Request → Decision → Type 0
 Holds r h s request (decisions.Refuse code detail) = Unit {0}
 Holds r h s request (decisions.Welcome client life) = IsJoin r h request client life
@@ -69,7 +70,7 @@ Holds r h s request (decisions.Repeat seq chain far) = IsOld h s request
 Holds r h s request (decisions.Settle seq pos) = Unit {0}
 Holds r h s request (decisions.Relay seq pos) = IsOld h s request × ((commit_of h < pos) × (pos ≤ length (accepted h)))
 Holds r h s request (decisions.Accept client seq) = IsNext h s request client seq × (first_fault_of_action r.world.shape (action_in request) ≡ None)
-Holds r h s request decisions.Note = (request ≡ requests.Done (results_in request)) × (is_bad_done r h s (results_in request) ≡ false)
+Holds r h s request decisions.Note = (request ≡ requests.Done (results_in request)) × (list_any (is_bad_result r h s) (results_in request) ≡ false)
 Holds r h s request decisions.Idle = Unit {0}
 Holds r h s request decisions.Leave = Unit {0}
 

@@ -1,15 +1,15 @@
 -- What a sequencer's fields keep.
-use Rattle.std.specs.Prelude.{length, reverse}
-use Rattle.sv_journal.specs.Answer.{Rules}
+use Rattle.std.specs.Prelude.{◌≤◌, reverse}
+use Rattle.sv_journal.specs.Answer.{Legal}
 use Rattle.sv_sequencer.specs.declared.sequencer.Sequencer.TheInside.{Inside}
-use Rattle.sv_sequencer.specs.Agreement.{Agrees}
+use Rattle.sv_sequencer.specs.Cores.{rules_of, owed_by, Keeps}
 use Rattle.sv_sequencer.specs.Step.{SequencerView}
 
-abbrev pub rules_of : Inside → Rules
-rules_of a = record { world = a.opening; bound = a.bound; reach = a.reach; sessions = length a.sessions.items }
-
 abbrev pub view_of : Inside → SequencerView
-view_of a = record { rules = rules_of a; journal = a.journal }
+view_of a = record { rules = rules_of a.core; journal = a.journal }
 
-abbrev pub IsSequencer : Inside → Type 0
-IsSequencer a = Agrees (rules_of a) (reverse a.journal.entries) a.queue a.sessions.items a.clients a.owed a.journal.spare
+-- The journal is legal, the core stands where its history leads, and it has room for the Ends to come.
+pub record IsSequencer (a : Inside) : Type 0 where
+  pub legal : Legal (rules_of a.core) (reverse a.journal.entries)
+  pub keeps : Keeps a.core (reverse a.journal.entries)
+  pub room : owed_by a.core ≤ a.journal.spare

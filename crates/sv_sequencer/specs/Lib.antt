@@ -1,5 +1,6 @@
 pub mod Agreement
 pub mod Clients
+pub mod Cores
 pub mod Decisions
 pub mod Fits
 pub mod Invariant

@@ -1,4 +1,4 @@
--- What the sequencer keeps of each session, and what an entry makes of it.
+-- What a core keeps of each session, and what an entry makes of it.
 use Rattle.std.specs.Prelude.{◌≡◌, ℕ, ◌-◌, Bool, false, ◌&&◌, ◌||◌, not, ◌==◌, List, [], ◌∷◌, None, if◌then◌else◌}
 use Rattle.sv_journal.specs.declared.entry.Entry.{Entry}
 use Rattle.sv_journal.specs.History.{either, is_welcome, joining, client_of}

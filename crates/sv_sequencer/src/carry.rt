@@ -1,154 +1,166 @@
 //! What is decided is done: whatever may run out of memory comes first.
-ghost use Rattle.std.specs.Prelude.{◌≡◌, ℕ, ◌+◌, ◌-◌, ◌<◌, ◌≤◌, false, [], ◌∷◌, ◌++◌, length, slice_index_or, IfOk, OnOk, OnErr};
+ghost use Rattle.std.specs.Prelude.{◌≡◌, List, ◌+◌, ◌<◌, false, ◌∷◌, IfOk, OnErr};
 ghost use Rattle.sv_wire.specs.declared.message.Request.TheVariants as requests;
+ghost use Rattle.sv_journal.specs.declared.entry.Entry.{Entry};
 ghost use Rattle.sv_journal.specs.declared.entry.Logged.TheVariants as logged;
 ghost use Rattle.sv_journal.specs.Sessions.{is_end};
-ghost use Rattle.sv_journal.specs.Answer.{reply_to};
-ghost use Rattle.sv_sequencer.specs.Agreement.{ends_owed};
-ghost use Rattle.sv_sequencer.specs.Decisions.{IsOld, IsQuiet};
-ghost use Rattle.sv_sequencer.specs.Rows.{no_session, session_after, is_ended};
-ghost use Rattle.sv_sequencer.specs.Step.{history, entry_of, Grew, Answered, Stayed};
+ghost use Rattle.sv_sequencer.specs.declared.decision.Decision.TheVariants as decisions;
+ghost use Rattle.sv_sequencer.specs.Cores.{rules_of, owed_by, Keeps, CarriedOut, Remained};
+ghost use Rattle.sv_sequencer.specs.Decisions.{Holds, IsOld, IsQuiet};
+ghost use Rattle.sv_sequencer.specs.Rows.{is_ended};
+ghost use Rattle.sv_sequencer.specs.Step.{entry_of};
 
-use crate::sequencer::Sequencer;
-use crate::sessions::{SessionRow, note};
+use crate::answer::Answer;
+use crate::decision::Decision;
+use crate::server_core::Core;
+use crate::sessions::note;
 use std::alloc::AllocError;
-use sv_journal::{Entry, Journal, Logged};
-use sv_wire::{Reply, Request, copy_request};
+use sv_journal::Logged;
+use sv_wire::{Reply, Request};
 
-/// Appends an entry to a journal that has room, and notes it in the rows of the sessions.
-pub fn enter(journal: &mut Journal, sessions: &mut Vec<SessionRow>, entry: Entry)
-    requires room { 0 < journal.old.spare }
-    requires few { length sessions.old.items < 65536 }
-    ensures journal { journal.new ≡ record { entries = journal.old.entries ++ entry ∷ []; spare = journal.old.spare - 1 } }
-    ensures count { length sessions.new.items ≡ length sessions.old.items }
-    ensures rows { (s : ℕ) → s < length sessions.old.items → slice_index_or sessions.new.items s no_session ≡ session_after entry s (slice_index_or sessions.old.items s no_session) }
-{
-    note(sessions, &entry);
-    journal.push(entry);
-}
-
-impl Sequencer {
-    /// Takes the room of one entry, beside that of the Ends that are to come.
-    pub(crate) fn reserve(&mut self) -> Result<(), AllocError>
-        ensures rules { self.new.rules ≡ self.old.rules }
-        ensures entries { self.new.journal.entries ≡ self.old.journal.entries }
-        ensures ok { OnOk result (ends_owed (history self.new) self.new.rules.sessions + 1 ≤ self.new.journal.spare) }
-    {
-        self.journal.reserve(self.owed as usize + 1)
-    }
-
-    /// Keeps an entry that changes nothing but its own session.
-    fn keep(&mut self, session: u16, request: &Request, reply: Logged) -> Result<(), AllocError>
-        requires session { session < self.old.rules.sessions }
-        requires quiet { IsQuiet (history self.old) session request.now reply }
-        requires reply { reply ≡ reply_to self.old.rules (history self.old) session request.now }
+impl Core {
+    /// Does what was decided on a request. `h` is a history that the core keeps, by which the decision holds.
+    ///
+    /// After running out of memory everything is as it was.
+    pub fn carry_out(
+        &mut self,
+        session: u16,
+        request: &Request,
+        decision: Decision,
+    ) -> Result<Answer, AllocError>
+        ghost h: { List Entry }
+        requires keeps { Keeps self.old h }
+        requires session { session < (rules_of self.old).sessions }
         requires more { is_end request.now ≡ false }
-        ensures ok { OnOk result (Grew self.old self.new (entry_of session request.now reply)) }
-        ensures err { OnErr result (Stayed self.old self.new) }
+        requires holds { Holds (rules_of self.old) h session request.now decision }
+        ensures ok { IfOk result (CarriedOut self.old self.new h session request.now decision) }
+        ensures err { OnErr result (Remained self.old self.new h) }
     {
-        self.reserve()?;
-        let request = copy_request(self.alloc, request)?;
-        let entry = Entry {
-            session,
-            request,
-            reply,
-        };
-        enter(&mut self.journal, &mut self.sessions, entry);
-        Ok(())
+        match decision {
+            Decision::Welcome { client, life } => self.welcome(session, request, client, life),
+            Decision::Drop {
+                client,
+                seq,
+                chain,
+                far,
+            } => self.drop_new(session, request, client, seq, chain, far),
+            Decision::Relay { seq, pos } => self.relay(session, request, seq, pos),
+            Decision::Accept { client, seq } => self.accept_new(session, request, client, seq),
+            Decision::Note => self.note_results(session, request),
+            Decision::Refuse { code, detail } => Ok(self.refuse(session, request, code, detail)),
+            Decision::Repeat { seq, chain, far } => {
+                Ok(self.repeat(session, request, seq, chain, far))
+            }
+            Decision::Settle { seq, pos } => Ok(self.settle(session, request, seq, pos)),
+            Decision::Idle => Ok(self.idle(session, request)),
+            Decision::Leave => Ok(self.leave(session, request)),
+        }
     }
 
-    /// The End of a session: there is room for its entry.
-    pub(crate) fn end(&mut self, session: u16)
-        requires session { session < self.old.rules.sessions }
-        requires first { is_ended (history self.old) session ≡ false }
-        ensures { Grew self.old self.new (entry_of session requests.End logged.Bye) }
+    /// The End of a session. It takes no memory.
+    pub fn end(&mut self, session: u16)
+        ghost h: { List Entry }
+        requires keeps { Keeps self.old h }
+        requires session { session < (rules_of self.old).sessions }
+        requires first { is_ended h session ≡ false }
+        ensures rules { rules_of self.new ≡ rules_of self.old }
+        ensures owed { owed_by self.new + 1 ≡ owed_by self.old }
+        ensures keeps { Keeps self.new (entry_of session requests.End logged.Bye ∷ h) }
     {
-        let entry = Entry {
-            session,
-            request: Request::End,
-            reply: Logged::Bye,
-        };
-        enter(&mut self.journal, &mut self.sessions, entry);
+        note(&mut self.sessions, session, &Request::End, &Logged::Bye);
         self.owed -= 1;
     }
 
-    /// Refuses a request.
-    pub(crate) fn refuse(
-        &mut self,
-        session: u16,
-        request: &Request,
-        code: u8,
-        detail: u32,
-    ) -> Result<Reply, AllocError>
-        requires session { session < self.old.rules.sessions }
-        requires reply { logged.Refused code detail ≡ reply_to self.old.rules (history self.old) session request.now }
+    /// Keeps a reply that changes nothing but its own session.
+    fn keep(&mut self, session: u16, request: &Request, reply: &Logged)
+        ghost h: { List Entry }
+        requires keeps { Keeps self.old h }
+        requires session { session < (rules_of self.old).sessions }
         requires more { is_end request.now ≡ false }
-        ensures ok { IfOk result (Answered self.old self.new session request.now) }
-        ensures err { OnErr result (Stayed self.old self.new) }
+        requires quiet { IsQuiet h session request.now reply.now }
+        ensures rules { rules_of self.new ≡ rules_of self.old }
+        ensures owed { owed_by self.new ≡ owed_by self.old }
+        ensures keeps { Keeps self.new (entry_of session request.now reply.now ∷ h) }
     {
-        self.keep(session, request, Logged::Refused { code, detail })?;
-        Ok(Reply::Refused { code, detail })
+        note(&mut self.sessions, session, request, reply);
+    }
+
+    /// Refuses a request.
+    fn refuse(&mut self, session: u16, request: &Request, code: u8, detail: u32) -> Answer
+        ghost h: { List Entry }
+        requires keeps { Keeps self.old h }
+        requires session { session < (rules_of self.old).sessions }
+        requires more { is_end request.now ≡ false }
+        ensures { CarriedOut self.old self.new h session request.now (decisions.Refuse code detail) result }
+    {
+        let logged = Logged::Refused { code, detail };
+        self.keep(session, request, &logged);
+        Answer {
+            logged,
+            reply: Reply::Refused { code, detail },
+        }
     }
 
     /// Answers a repeated Submit whose action was dropped.
-    pub(crate) fn repeat(
-        &mut self,
-        session: u16,
-        request: &Request,
-        seq: u32,
-        chain: u32,
-        far: u32,
-    ) -> Result<Reply, AllocError>
-        requires session { session < self.old.rules.sessions }
-        requires old { IsOld (history self.old) session request.now }
-        requires reply { logged.Dropped seq chain far ≡ reply_to self.old.rules (history self.old) session request.now }
+    fn repeat(&mut self, session: u16, request: &Request, seq: u32, chain: u32, far: u32) -> Answer
+        ghost h: { List Entry }
+        requires keeps { Keeps self.old h }
+        requires session { session < (rules_of self.old).sessions }
         requires more { is_end request.now ≡ false }
-        ensures ok { IfOk result (Answered self.old self.new session request.now) }
-        ensures err { OnErr result (Stayed self.old self.new) }
+        requires old { IsOld h session request.now }
+        ensures { CarriedOut self.old self.new h session request.now (decisions.Repeat seq chain far) result }
     {
-        self.keep(session, request, Logged::Dropped { seq, chain, far })?;
-        Ok(Reply::Dropped { seq, chain, far })
+        let logged = Logged::Dropped { seq, chain, far };
+        self.keep(session, request, &logged);
+        Answer {
+            logged,
+            reply: Reply::Dropped { seq, chain, far },
+        }
     }
 
     /// Answers a repeated Submit whose action is committed.
-    pub(crate) fn settle(
-        &mut self,
-        session: u16,
-        request: &Request,
-        seq: u32,
-        pos: u32,
-    ) -> Result<Reply, AllocError>
-        requires session { session < self.old.rules.sessions }
-        requires reply { logged.Settled seq pos ≡ reply_to self.old.rules (history self.old) session request.now }
+    fn settle(&mut self, session: u16, request: &Request, seq: u32, pos: u32) -> Answer
+        ghost h: { List Entry }
+        requires keeps { Keeps self.old h }
+        requires session { session < (rules_of self.old).sessions }
         requires more { is_end request.now ≡ false }
-        ensures ok { IfOk result (Answered self.old self.new session request.now) }
-        ensures err { OnErr result (Stayed self.old self.new) }
+        ensures { CarriedOut self.old self.new h session request.now (decisions.Settle seq pos) result }
     {
-        self.keep(session, request, Logged::Settled { seq, pos })?;
-        Ok(Reply::Settled { seq, pos })
+        let logged = Logged::Settled { seq, pos };
+        self.keep(session, request, &logged);
+        Answer {
+            logged,
+            reply: Reply::Settled { seq, pos },
+        }
     }
 
     /// Answers that no action is abandoned.
-    pub(crate) fn idle(&mut self, session: u16, request: &Request) -> Result<Reply, AllocError>
-        requires session { session < self.old.rules.sessions }
-        requires reply { logged.Idle ≡ reply_to self.old.rules (history self.old) session request.now }
+    fn idle(&mut self, session: u16, request: &Request) -> Answer
+        ghost h: { List Entry }
+        requires keeps { Keeps self.old h }
+        requires session { session < (rules_of self.old).sessions }
         requires more { is_end request.now ≡ false }
-        ensures ok { IfOk result (Answered self.old self.new session request.now) }
-        ensures err { OnErr result (Stayed self.old self.new) }
+        ensures { CarriedOut self.old self.new h session request.now decisions.Idle result }
     {
-        self.keep(session, request, Logged::Idle)?;
-        Ok(Reply::Idle)
+        self.keep(session, request, &Logged::Idle);
+        Answer {
+            logged: Logged::Idle,
+            reply: Reply::Idle,
+        }
     }
 
     /// Ends a session as its client asks.
-    pub(crate) fn leave(&mut self, session: u16, request: &Request) -> Result<Reply, AllocError>
-        requires session { session < self.old.rules.sessions }
-        requires reply { logged.Bye ≡ reply_to self.old.rules (history self.old) session request.now }
+    fn leave(&mut self, session: u16, request: &Request) -> Answer
+        ghost h: { List Entry }
+        requires keeps { Keeps self.old h }
+        requires session { session < (rules_of self.old).sessions }
         requires more { is_end request.now ≡ false }
-        ensures ok { IfOk result (Answered self.old self.new session request.now) }
-        ensures err { OnErr result (Stayed self.old self.new) }
+        ensures { CarriedOut self.old self.new h session request.now decisions.Leave result }
     {
-        self.keep(session, request, Logged::Bye)?;
-        Ok(Reply::Bye)
+        self.keep(session, request, &Logged::Bye);
+        Answer {
+            logged: Logged::Bye,
+            reply: Reply::Bye,
+        }
     }
 }

@@ -1,27 +1,30 @@
 //! What is done on a request: the rows of the rules in order.
-ghost use Rattle.std.specs.Prelude.{◌≡◌, ℕ, ◌<◌, ◌≤◌, Some, None, [], ◌∷◌, map, length, nat_lt};
+ghost use Rattle.std.specs.Prelude.{◌≡◌, ℕ, List, ◌<◌, ◌≤◌, Some, None, [], ◌∷◌, map, length, nat_lt};
 ghost use Rattle.std.specs.List.{list_all};
 ghost use Rattle.sv_world.specs.declared.world.ObjectId.{ObjectId};
 ghost use Rattle.sv_world.specs.Faults.{first_fault_of_action, IsGoodAction};
 ghost use Rattle.sv_wire.specs.declared.message.Request.TheVariants as requests;
+ghost use Rattle.sv_journal.specs.declared.entry.Entry.{Entry};
 ghost use Rattle.sv_journal.specs.History.{Accepted, accepted, client_of, next_seq};
 ghost use Rattle.sv_journal.specs.Sessions.{asked_in, is_live, kept_outcome};
 ghost use Rattle.sv_journal.specs.Answer.{most_requests, reply_to_request, reply_to_open, reply_to_join, reply_to_member, reply_to_submit, reply_to_new, reply_to_good, reply_to_done, reply_to_poll, orphans, is_good_interest, is_over_reach};
 ghost use Rattle.sv_sequencer.specs.Decisions.{reply_by, Holds};
-ghost use Rattle.sv_sequencer.specs.Step.{history};
+ghost use Rattle.sv_sequencer.specs.Cores.{rules_of, Keeps};
 
 use crate::clients::Outcome;
 use crate::decision::Decision;
-use crate::sequencer::Sequencer;
+use crate::server_core::Core;
 use sv_wire::{Done1, Request};
 use sv_world::{Action, ClientId, List, ObjectId, check_action, is_ascending};
 
-impl Sequencer {
-    /// What is done on a request in a session.
-    pub(crate) fn decide(&self, session: u16, request: &Request) -> Decision
-        requires { session < self.now.rules.sessions }
-        ensures reply { reply_by self.now.rules (history self.now) session request.now result ≡ reply_to_request self.now.rules (history self.now) session request.now }
-        ensures holds { Holds self.now.rules (history self.now) session request.now result }
+impl Core {
+    /// What is done on a request in a session, where `h` is a history that the core keeps.
+    pub fn decide(&self, session: u16, request: &Request) -> Decision
+        ghost h: { List Entry }
+        requires keeps { Keeps self.now h }
+        requires session { session < (rules_of self.now).sessions }
+        ensures reply { reply_by (rules_of self.now) h session request.now result ≡ reply_to_request (rules_of self.now) h session request.now }
+        ensures holds { Holds (rules_of self.now) h session request.now result }
     {
         if self.is_over(session) {
             return Decision::Refuse { code: 4, detail: 0 };
@@ -34,10 +37,12 @@ impl Sequencer {
 
     /// In a session that is not over and not spent.
     fn decide_open(&self, session: u16, request: &Request) -> Decision
-        requires session { session < self.now.rules.sessions }
-        requires early { asked_in (history self.now) session < most_requests }
-        ensures reply { reply_by self.now.rules (history self.now) session request.now result ≡ reply_to_open self.now.rules (history self.now) session request.now }
-        ensures holds { Holds self.now.rules (history self.now) session request.now result }
+        ghost h: { List Entry }
+        requires keeps { Keeps self.now h }
+        requires session { session < (rules_of self.now).sessions }
+        requires early { asked_in h session < most_requests }
+        ensures reply { reply_by (rules_of self.now) h session request.now result ≡ reply_to_open (rules_of self.now) h session request.now }
+        ensures holds { Holds (rules_of self.now) h session request.now result }
     {
         match request {
             Request::Bad => Decision::Refuse { code: 1, detail: 0 },
@@ -57,9 +62,11 @@ impl Sequencer {
         life: u32,
         interest: &List<ObjectId>,
     ) -> Decision
-        requires session { session < self.now.rules.sessions }
-        ensures reply { reply_by self.now.rules (history self.now) session (requests.Join client life interest.now) result ≡ reply_to_join self.now.rules (history self.now) session client.0 life (map (λ (o : ObjectId). o.0) interest.now) }
-        ensures holds { Holds self.now.rules (history self.now) session (requests.Join client life interest.now) result }
+        ghost h: { List Entry }
+        requires keeps { Keeps self.now h }
+        requires session { session < (rules_of self.now).sessions }
+        ensures reply { reply_by (rules_of self.now) h session (requests.Join client life interest.now) result ≡ reply_to_join (rules_of self.now) h session client.0 life (map (λ (o : ObjectId). o.0) interest.now) }
+        ensures holds { Holds (rules_of self.now) h session (requests.Join client life interest.now) result }
     {
         if self.is_live(session) {
             return Decision::Refuse { code: 3, detail: 0 };
@@ -89,8 +96,10 @@ impl Sequencer {
     }
 
     fn is_live(&self, session: u16) -> bool
-        requires { session < self.now.rules.sessions }
-        ensures { result ≡ is_live (history self.now) session }
+        ghost h: { List Entry }
+        requires keeps { Keeps self.now h }
+        requires session { session < (rules_of self.now).sessions }
+        ensures { result ≡ is_live h session }
     {
         let client = self.client_of(session);
         client.is_some() && !self.is_over(session)
@@ -98,10 +107,12 @@ impl Sequencer {
 
     /// In a session that only a Join may begin.
     fn decide_member(&self, session: u16, request: &Request) -> Decision
-        requires session { session < self.now.rules.sessions }
-        requires early { asked_in (history self.now) session < most_requests }
-        ensures reply { reply_by self.now.rules (history self.now) session request.now result ≡ reply_to_member self.now.rules (history self.now) session (client_of (history self.now) session) request.now }
-        ensures holds { Holds self.now.rules (history self.now) session request.now result }
+        ghost h: { List Entry }
+        requires keeps { Keeps self.now h }
+        requires session { session < (rules_of self.now).sessions }
+        requires early { asked_in h session < most_requests }
+        ensures reply { reply_by (rules_of self.now) h session request.now result ≡ reply_to_member (rules_of self.now) h session (client_of h session) request.now }
+        ensures holds { Holds (rules_of self.now) h session request.now result }
     {
         let Some(client) = self.client_of(session) else {
             return Decision::Refuse { code: 2, detail: 0 };
@@ -116,11 +127,13 @@ impl Sequencer {
 
     /// A repeated action is answered by what came of it.
     fn decide_submit(&self, session: u16, client: u16, seq: u32, action: &Action) -> Decision
-        requires session { session < self.now.rules.sessions }
-        requires early { asked_in (history self.now) session < most_requests }
-        requires client { client_of (history self.now) session ≡ Some client }
-        ensures reply { reply_by self.now.rules (history self.now) session (requests.Submit seq action.now) result ≡ reply_to_submit self.now.rules (history self.now) session client seq action.now (kept_outcome (history self.now) client seq) }
-        ensures holds { Holds self.now.rules (history self.now) session (requests.Submit seq action.now) result }
+        ghost h: { List Entry }
+        requires keeps { Keeps self.now h }
+        requires session { session < (rules_of self.now).sessions }
+        requires early { asked_in h session < most_requests }
+        requires client { client_of h session ≡ Some client }
+        ensures reply { reply_by (rules_of self.now) h session (requests.Submit seq action.now) result ≡ reply_to_submit (rules_of self.now) h session client seq action.now (kept_outcome h client seq) }
+        ensures holds { Holds (rules_of self.now) h session (requests.Submit seq action.now) result }
     {
         match self.kept_outcome(client, seq) {
             Some(Outcome::Dropped { chain, far }) => Decision::Repeat { seq, chain, far },
@@ -139,13 +152,15 @@ impl Sequencer {
         pos: u32,
         action: &Action,
     ) -> Decision
-        requires client { client_of (history self.now) session ≡ Some client }
-        requires earlier { seq < next_seq (history self.now) client }
-        requires placed { pos ≤ length (accepted (history self.now)) }
-        ensures reply { reply_by self.now.rules (history self.now) session (requests.Submit seq action.now) result ≡ reply_to_submit self.now.rules (history self.now) session client seq action.now (Some (Accepted pos)) }
-        ensures holds { Holds self.now.rules (history self.now) session (requests.Submit seq action.now) result }
+        ghost h: { List Entry }
+        requires keeps { Keeps self.now h }
+        requires client { client_of h session ≡ Some client }
+        requires earlier { seq < next_seq h client }
+        requires placed { pos ≤ length (accepted h) }
+        ensures reply { reply_by (rules_of self.now) h session (requests.Submit seq action.now) result ≡ reply_to_submit (rules_of self.now) h session client seq action.now (Some (Accepted pos)) }
+        ensures holds { Holds (rules_of self.now) h session (requests.Submit seq action.now) result }
     {
-        if pos <= self.commit() {
+        if self.is_committed(pos) {
             Decision::Settle { seq, pos }
         } else {
             Decision::Relay { seq, pos }
@@ -153,10 +168,12 @@ impl Sequencer {
     }
 
     fn decide_new(&self, session: u16, client: u16, seq: u32, action: &Action) -> Decision
-        requires early { asked_in (history self.now) session < most_requests }
-        requires client { client_of (history self.now) session ≡ Some client }
-        ensures reply { reply_by self.now.rules (history self.now) session (requests.Submit seq action.now) result ≡ reply_to_new self.now.rules (history self.now) session client seq action.now }
-        ensures holds { Holds self.now.rules (history self.now) session (requests.Submit seq action.now) result }
+        ghost h: { List Entry }
+        requires keeps { Keeps self.now h }
+        requires early { asked_in h session < most_requests }
+        requires client { client_of h session ≡ Some client }
+        ensures reply { reply_by (rules_of self.now) h session (requests.Submit seq action.now) result ≡ reply_to_new (rules_of self.now) h session client seq action.now }
+        ensures holds { Holds (rules_of self.now) h session (requests.Submit seq action.now) result }
     {
         let next = self.next_seq(client);
         if seq != next {
@@ -175,13 +192,15 @@ impl Sequencer {
     }
 
     fn decide_good(&self, session: u16, client: u16, seq: u32, action: &Action) -> Decision
-        requires early { asked_in (history self.now) session < most_requests }
-        requires client { client_of (history self.now) session ≡ Some client }
-        requires next { seq ≡ next_seq (history self.now) client }
-        requires good { IsGoodAction self.now.rules.world.shape action.now }
-        requires fault { first_fault_of_action self.now.rules.world.shape action.now ≡ None }
-        ensures reply { reply_by self.now.rules (history self.now) session (requests.Submit seq action.now) result ≡ reply_to_good self.now.rules (history self.now) session seq action.now }
-        ensures holds { Holds self.now.rules (history self.now) session (requests.Submit seq action.now) result }
+        ghost h: { List Entry }
+        requires keeps { Keeps self.now h }
+        requires early { asked_in h session < most_requests }
+        requires client { client_of h session ≡ Some client }
+        requires next { seq ≡ next_seq h client }
+        requires good { IsGoodAction (rules_of self.now).world.shape action.now }
+        requires fault { first_fault_of_action (rules_of self.now).world.shape action.now ≡ None }
+        ensures reply { reply_by (rules_of self.now) h session (requests.Submit seq action.now) result ≡ reply_to_good (rules_of self.now) h session seq action.now }
+        ensures holds { Holds (rules_of self.now) h session (requests.Submit seq action.now) result }
     {
         let found = self.chain_of(action);
         if found.count > self.bound() || self.is_over_reach(found.far) {
@@ -197,9 +216,11 @@ impl Sequencer {
     }
 
     fn decide_done(&self, session: u16, results: &List<Done1>) -> Decision
-        requires { session < self.now.rules.sessions }
-        ensures reply { reply_by self.now.rules (history self.now) session (requests.Done results.now) result ≡ reply_to_done self.now.rules (history self.now) session results.now }
-        ensures holds { Holds self.now.rules (history self.now) session (requests.Done results.now) result }
+        ghost h: { List Entry }
+        requires keeps { Keeps self.now h }
+        requires session { session < (rules_of self.now).sessions }
+        ensures reply { reply_by (rules_of self.now) h session (requests.Done results.now) result ≡ reply_to_done (rules_of self.now) h session results.now }
+        ensures holds { Holds (rules_of self.now) h session (requests.Done results.now) result }
     {
         if self.is_bad_done(session, results.as_slice()) {
             Decision::Refuse { code: 7, detail: 0 }
@@ -209,9 +230,11 @@ impl Sequencer {
     }
 
     fn decide_poll(&self, session: u16, client: u16) -> Decision
-        requires { client_of (history self.now) session ≡ Some client }
-        ensures reply { reply_by self.now.rules (history self.now) session requests.Poll result ≡ reply_to_poll self.now.rules (history self.now) session (orphans (history self.now)) }
-        ensures holds { Holds self.now.rules (history self.now) session requests.Poll result }
+        ghost h: { List Entry }
+        requires keeps { Keeps self.now h }
+        requires client { client_of h session ≡ Some client }
+        ensures reply { reply_by (rules_of self.now) h session requests.Poll result ≡ reply_to_poll (rules_of self.now) h session (orphans h) }
+        ensures holds { Holds (rules_of self.now) h session requests.Poll result }
     {
         match self.orphan() {
             Some(pos) => Decision::Relay { seq: 0, pos },

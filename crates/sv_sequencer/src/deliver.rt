@@ -1,31 +1,35 @@
 //! What is decided is done, where a session is sent or gives something.
-ghost use Rattle.std.specs.Prelude.{◌≡◌, ℕ, suc, ◌+◌, ◌-◌, ◌<◌, ◌≤◌, false, nat_eq, [], ◌∷◌, ◌++◌, map, length, All, IfOk, OnOk, OnErr, if◌then◌else◌};
+ghost use Rattle.std.specs.Prelude.{◌≡◌, ℕ, List, suc, ◌<◌, ◌≤◌, false, nat_eq, [], ◌∷◌, ◌++◌, map, length, All, None, IfOk, OnOk, OnErr, if◌then◌else◌};
+ghost use Rattle.std.specs.List.{list_any};
 ghost use Rattle.sv_world.specs.declared.world.ObjectId.{ObjectId};
-ghost use Rattle.sv_world.specs.Faults.{IsGoodAction};
-ghost use Rattle.sv_queue.specs.Queue.{IsUncommitted, last_position, with_action, installed};
+ghost use Rattle.sv_world.specs.Faults.{first_fault_of_action, IsGoodAction};
+ghost use Rattle.sv_queue.specs.Queue.{IsUncommitted, last_position, with_action};
 ghost use Rattle.sv_influence.specs.Lacking.{lacking, base_objects};
 ghost use Rattle.sv_wire.specs.declared.message.Held.{Held};
+ghost use Rattle.sv_wire.specs.declared.message.Reply.TheVariants as replies;
 ghost use Rattle.sv_wire.specs.declared.message.Request.TheVariants as requests;
 ghost use Rattle.sv_journal.specs.declared.entry.Logged.TheVariants as logged;
-ghost use Rattle.sv_journal.specs.History.{accepted, actions_of, commit_of};
+ghost use Rattle.sv_journal.specs.declared.entry.Entry.{Entry};
+ghost use Rattle.sv_journal.specs.History.{accepted, commit_of};
 ghost use Rattle.sv_journal.specs.Sessions.{is_end};
-ghost use Rattle.sv_journal.specs.Answer.{relay_of, is_bad_done, commit_with, reply_to};
+ghost use Rattle.sv_journal.specs.Answer.{is_bad_result};
 ghost use Rattle.sv_sequencer.specs.declared.decision.Decision.TheVariants as decisions;
 ghost use Rattle.sv_sequencer.specs.declared.clients.Outcome.TheVariants as rows;
 ghost use Rattle.sv_sequencer.specs.Clients.{client_row};
-ghost use Rattle.sv_sequencer.specs.Decisions.{reply_by, IsJoin, IsNext, IsOld, interest_in, action_in, results_in};
+ghost use Rattle.sv_sequencer.specs.Cores.{rules_of, Keeps, CarriedOut, Remained};
+ghost use Rattle.sv_sequencer.specs.Decisions.{IsJoin, IsNext, IsOld, interest_in, action_in, results_in};
 ghost use Rattle.sv_sequencer.specs.Relays.{held_in, item_in, marked_all, given_all, with_reports, CanReport};
-ghost use Rattle.sv_sequencer.specs.Step.{history, Answered, Stayed};
 
-use crate::carry::enter;
+use crate::answer::Answer;
 use crate::clients::{Clients, Outcome};
 use crate::relays::{Relayed, base_values, give_all, mark_all, relay_in};
 use crate::reports::{copy_missing, set_reports};
-use crate::sequencer::Sequencer;
+use crate::server_core::Core;
+use crate::sessions::note;
 use std::alloc::{AllocError, Global};
-use sv_journal::{Entry, Logged};
+use sv_journal::Logged;
 use sv_queue::Queue;
-use sv_wire::{Done1, Reply, Request, copy_head, copy_request};
+use sv_wire::{Done1, Reply, Request, copy_head};
 use sv_world::{Action, ClientId, ObjectId, copy_action};
 
 /// The interest that a Join names.
@@ -111,7 +115,34 @@ fn deliver(queue: &mut Queue, relayed: &Relayed, session: u16)
     give_all(queue, relayed.head.as_slice(), session);
 }
 
-impl Sequencer {
+/// The answer that a relay is: nothing in it is copied.
+fn answer_of(seq: u32, commit: u32, relayed: Relayed) -> Answer
+    ensures logged { result.logged ≡ logged.Relay seq commit relayed.head relayed.positions }
+    ensures reply { result.reply ≡ replies.Relay seq commit relayed.sent_head relayed.items }
+{
+    let Relayed {
+        head,
+        positions,
+        sent_head,
+        items,
+    } = relayed;
+    Answer {
+        logged: Logged::Relay {
+            seq,
+            commit,
+            head,
+            positions,
+        },
+        reply: Reply::Relay {
+            seq,
+            commit,
+            head: sent_head,
+            items,
+        },
+    }
+}
+
+impl Core {
     /// Begins a session.
     pub(crate) fn welcome(
         &mut self,
@@ -119,28 +150,26 @@ impl Sequencer {
         request: &Request,
         client: u16,
         life: u32,
-    ) -> Result<Reply, AllocError>
-        requires session { session < self.old.rules.sessions }
-        requires join { IsJoin self.old.rules (history self.old) request.now client life }
-        requires reply { reply_by self.old.rules (history self.old) session request.now (decisions.Welcome client life) ≡ reply_to self.old.rules (history self.old) session request.now }
+    ) -> Result<Answer, AllocError>
+        ghost h: { List Entry }
+        requires keeps { Keeps self.old h }
+        requires session { session < (rules_of self.old).sessions }
         requires more { is_end request.now ≡ false }
-        ensures ok { IfOk result (Answered self.old self.new session request.now) }
-        ensures err { OnErr result (Stayed self.old self.new) }
+        requires join { IsJoin (rules_of self.old) h request.now client life }
+        ensures ok { IfOk result (CarriedOut self.old self.new h session request.now (decisions.Welcome client life)) }
+        ensures err { OnErr result (Remained self.old self.new h) }
     {
-        self.reserve()?;
-        let copy = copy_request(self.alloc, request)?;
         let head = base_values(self.alloc, &self.queue, interest_of(request))?;
         let sent = copy_head(self.alloc, head.as_slice())?;
         self.clients.join(client, life)?;
         let commit = self.queue.commit();
         give_all(&mut self.queue, head.as_slice(), session);
-        let entry = Entry {
-            session,
-            request: copy,
-            reply: Logged::Welcome { commit, head },
-        };
-        enter(&mut self.journal, &mut self.sessions, entry);
-        Ok(Reply::Welcome { commit, head: sent })
+        let logged = Logged::Welcome { commit, head };
+        note(&mut self.sessions, session, request, &logged);
+        Ok(Answer {
+            logged,
+            reply: Reply::Welcome { commit, head: sent },
+        })
     }
 
     /// Drops a new action.
@@ -152,32 +181,23 @@ impl Sequencer {
         seq: u32,
         chain: u32,
         far: u32,
-    ) -> Result<Reply, AllocError>
-        requires session { session < self.old.rules.sessions }
-        requires next { IsNext (history self.old) session request.now client seq }
-        requires reply { logged.Dropped seq chain far ≡ reply_to self.old.rules (history self.old) session request.now }
+    ) -> Result<Answer, AllocError>
+        ghost h: { List Entry }
+        requires keeps { Keeps self.old h }
+        requires session { session < (rules_of self.old).sessions }
         requires more { is_end request.now ≡ false }
-        ensures ok { IfOk result (Answered self.old self.new session request.now) }
-        ensures err { OnErr result (Stayed self.old self.new) }
+        requires next { IsNext h session request.now client seq }
+        ensures ok { IfOk result (CarriedOut self.old self.new h session request.now (decisions.Drop client seq chain far)) }
+        ensures err { OnErr result (Remained self.old self.new h) }
     {
-        self.reserve()?;
-        let copy = copy_request(self.alloc, request)?;
-        let outcome = Outcome::Dropped { chain, far };
-        match self.clients.settle(client, outcome) {
-            Ok(()) => {}
-            Err(error) => {
-                // A tree that is let go at the end of its scope makes a long proof; a call that takes it, none.
-                drop(copy);
-                return Err(error);
-            }
-        }
-        let entry = Entry {
-            session,
-            request: copy,
-            reply: Logged::Dropped { seq, chain, far },
-        };
-        enter(&mut self.journal, &mut self.sessions, entry);
-        Ok(Reply::Dropped { seq, chain, far })
+        self.clients
+            .settle(client, Outcome::Dropped { chain, far })?;
+        let logged = Logged::Dropped { seq, chain, far };
+        note(&mut self.sessions, session, request, &logged);
+        Ok(Answer {
+            logged,
+            reply: Reply::Dropped { seq, chain, far },
+        })
     }
 
     /// Sends an accepted action with what the session lacks of it.
@@ -187,80 +207,68 @@ impl Sequencer {
         request: &Request,
         seq: u32,
         pos: u32,
-    ) -> Result<Reply, AllocError>
-        requires session { session < self.old.rules.sessions }
-        requires old { IsOld (history self.old) session request.now }
-        requires low { commit_of (history self.old) < pos }
-        requires high { pos ≤ length (accepted (history self.old)) }
-        requires reply { relay_of self.old.rules (history self.old) (actions_of (history self.old)) session seq pos ≡ reply_to self.old.rules (history self.old) session request.now }
+    ) -> Result<Answer, AllocError>
+        ghost h: { List Entry }
+        requires keeps { Keeps self.old h }
+        requires session { session < (rules_of self.old).sessions }
         requires more { is_end request.now ≡ false }
-        ensures ok { IfOk result (Answered self.old self.new session request.now) }
-        ensures err { OnErr result (Stayed self.old self.new) }
+        requires old { IsOld h session request.now }
+        requires low { commit_of h < pos }
+        requires high { pos ≤ length (accepted h) }
+        ensures ok { IfOk result (CarriedOut self.old self.new h session request.now (decisions.Relay seq pos)) }
+        ensures err { OnErr result (Remained self.old self.new h) }
     {
-        self.reserve()?;
-        let copy = copy_request(self.alloc, request)?;
-        let relayed = match relay_in(self.alloc, &self.queue, session, pos) {
-            Ok(relayed) => relayed,
-            Err(error) => {
-                drop(copy);
-                return Err(error);
-            }
-        };
+        let relayed = relay_in(self.alloc, &self.queue, session, pos)?;
         let commit = self.queue.commit();
         deliver(&mut self.queue, &relayed, session);
-        let Relayed {
-            head,
-            positions,
-            sent_head,
-            items,
-        } = relayed;
-        let entry = Entry {
-            session,
-            request: copy,
-            reply: Logged::Relay {
-                seq,
-                commit,
-                head,
-                positions,
-            },
-        };
-        enter(&mut self.journal, &mut self.sessions, entry);
-        Ok(Reply::Relay {
-            seq,
-            commit,
-            head: sent_head,
-            items,
-        })
+        let answer = answer_of(seq, commit, relayed);
+        note(&mut self.sessions, session, request, &answer.logged);
+        Ok(answer)
     }
 
     /// Accepts a new action and sends it with what the session lacks of it.
-    pub(crate) fn accept(
+    pub(crate) fn accept_new(
+        &mut self,
+        session: u16,
+        request: &Request,
+        client: u16,
+        seq: u32,
+    ) -> Result<Answer, AllocError>
+        ghost h: { List Entry }
+        requires keeps { Keeps self.old h }
+        requires session { session < (rules_of self.old).sessions }
+        requires more { is_end request.now ≡ false }
+        requires next { IsNext h session request.now client seq }
+        requires fault { first_fault_of_action (rules_of self.old).world.shape (action_in request.now) ≡ None }
+        ensures ok { IfOk result (CarriedOut self.old self.new h session request.now (decisions.Accept client seq)) }
+        ensures err { OnErr result (Remained self.old self.new h) }
+    {
+        let Request::Submit { action, .. } = request else {
+            return Err(AllocError);
+        };
+        self.accept(session, request, client, seq, action)
+    }
+
+    fn accept(
         &mut self,
         session: u16,
         request: &Request,
         client: u16,
         seq: u32,
         action: &Action,
-    ) -> Result<Reply, AllocError>
-        requires session { session < self.old.rules.sessions }
-        requires next { IsNext (history self.old) session request.now client seq }
-        requires action { action.now ≡ action_in request.now }
-        requires good { IsGoodAction self.old.rules.world.shape action.now }
-        requires reply { relay_of self.old.rules (history self.old) (actions_of (history self.old) ++ action_in request.now ∷ []) session seq (suc (length (actions_of (history self.old)))) ≡ reply_to self.old.rules (history self.old) session request.now }
+    ) -> Result<Answer, AllocError>
+        ghost h: { List Entry }
+        requires keeps { Keeps self.old h }
+        requires session { session < (rules_of self.old).sessions }
         requires more { is_end request.now ≡ false }
-        ensures ok { IfOk result (Answered self.old self.new session request.now) }
-        ensures err { OnErr result (Stayed self.old self.new) }
+        requires next { IsNext h session request.now client seq }
+        requires action { action.now ≡ action_in request.now }
+        requires good { IsGoodAction (rules_of self.old).world.shape action.now }
+        ensures ok { IfOk result (CarriedOut self.old self.new h session request.now (decisions.Accept client seq)) }
+        ensures err { OnErr result (Remained self.old self.new h) }
     {
-        self.reserve()?;
         let action = copy_action(self.alloc, action)?;
-        let copy = match copy_request(self.alloc, request) {
-            Ok(copy) => copy,
-            Err(error) => {
-                drop(action);
-                return Err(error);
-            }
-        };
-        let relayed = match take_in(
+        let relayed = take_in(
             self.alloc,
             &mut self.queue,
             &mut self.clients,
@@ -268,38 +276,12 @@ impl Sequencer {
             client,
             seq,
             action,
-        ) {
-            Ok(relayed) => relayed,
-            Err(error) => {
-                drop(copy);
-                return Err(error);
-            }
-        };
+        )?;
         let commit = self.queue.commit();
         deliver(&mut self.queue, &relayed, session);
-        let Relayed {
-            head,
-            positions,
-            sent_head,
-            items,
-        } = relayed;
-        let entry = Entry {
-            session,
-            request: copy,
-            reply: Logged::Relay {
-                seq,
-                commit,
-                head,
-                positions,
-            },
-        };
-        enter(&mut self.journal, &mut self.sessions, entry);
-        Ok(Reply::Relay {
-            seq,
-            commit,
-            head: sent_head,
-            items,
-        })
+        let answer = answer_of(seq, commit, relayed);
+        note(&mut self.sessions, session, request, &answer.logged);
+        Ok(answer)
     }
 
     /// Notes reported results, and commits what may be.
@@ -307,26 +289,24 @@ impl Sequencer {
         &mut self,
         session: u16,
         request: &Request,
-    ) -> Result<Reply, AllocError>
-        requires session { session < self.old.rules.sessions }
+    ) -> Result<Answer, AllocError>
+        ghost h: { List Entry }
+        requires keeps { Keeps self.old h }
+        requires session { session < (rules_of self.old).sessions }
         requires done { request.now ≡ requests.Done (results_in request.now) }
-        requires bad { is_bad_done self.old.rules (history self.old) session (results_in request.now) ≡ false }
-        requires reply { logged.Noted (commit_with (history self.old) session (results_in request.now)) ≡ reply_to self.old.rules (history self.old) session request.now }
-        ensures ok { IfOk result (Answered self.old self.new session request.now) }
-        ensures err { OnErr result (Stayed self.old self.new) }
+        requires good { list_any (is_bad_result (rules_of self.old) h session) (results_in request.now) ≡ false }
+        ensures ok { IfOk result (CarriedOut self.old self.new h session request.now decisions.Note) }
+        ensures err { OnErr result (Remained self.old self.new h) }
     {
-        self.reserve()?;
         let results = copy_missing(self.alloc, &self.queue, results_of(request))?;
-        let copy = copy_request(self.alloc, request)?;
         set_reports(&mut self.queue, results);
         self.queue.install();
         let commit = self.queue.commit();
-        let entry = Entry {
-            session,
-            request: copy,
-            reply: Logged::Noted { commit },
-        };
-        enter(&mut self.journal, &mut self.sessions, entry);
-        Ok(Reply::Noted { commit })
+        let logged = Logged::Noted { commit };
+        note(&mut self.sessions, session, request, &logged);
+        Ok(Answer {
+            logged,
+            reply: Reply::Noted { commit },
+        })
     }
 }

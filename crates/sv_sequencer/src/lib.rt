@@ -1,19 +1,24 @@
-//! The sequencer: it puts the actions of all sessions in one order, and its journal is always a legal one.
+//! The core of a server, which puts the actions of all sessions in one order; and the sequencer, a core with a journal that is always a legal one.
 #![tactic(auto)]
 
+mod answer;
 mod carry;
 mod clients;
 mod decide;
 mod decision;
 mod deliver;
 mod object;
-mod open;
 mod orphans;
+mod positions;
 mod relays;
 mod reports;
 mod sequencer;
+mod server_core;
 mod sessions;
 mod step;
 
+pub use answer::Answer;
+pub use decision::Decision;
 pub use object::Opened;
 pub use sequencer::Sequencer;
+pub use server_core::Core;

@@ -135,7 +135,7 @@ fn copy_report(alloc: Global, found: &Done1) -> Result<Done1, AllocError>
 }
 
 /// Whether a position is not committed and has no result yet.
-fn is_missing<L: Ledger>(queue: &Queue, pos: u32, blank: Blank) -> bool
+pub fn is_missing<L: Ledger>(queue: &Queue, pos: u32, blank: Blank) -> bool
     requires name { blank.name ≡ L.name }
     requires parts { blank.parts ≡ L.parts }
     requires some { 0 < blank.parts }

@@ -1,41 +1,23 @@
-ghost use Rattle.std.specs.Prelude.{◌≡◌, ℕ, List, suc, ◌+◌, ◌*◌, ◌<◌, ◌≤◌, true, Some, [], ◌∷◌, length, slice_index_or, option_map, reverse, nat_lt, IfOk, IfSome, OnOk, MatchOption};
-ghost use Rattle.sv_world.specs.declared.world.World.{World};
-ghost use Rattle.sv_world.specs.Control.{chain_length, influence_distance};
-ghost use Rattle.sv_world.specs.Faults.{IsGoodAction};
+//! The server that takes what each client reports: a core, and the journal of all that it was asked.
+ghost use Rattle.std.specs.Prelude.{◌≡◌, ◌<◌, ◌≤◌, [], slice_index_or, IfOk, IfSome};
 ghost use Rattle.sv_queue.specs.Worlds.{IsGoodWorld};
-ghost use Rattle.sv_journal.specs.History.{Accepted, client_of, accepted, actions_of, next_seq, commit_of, committed_of};
-ghost use Rattle.sv_journal.specs.Sessions.{is_over, asked_in, life_of, kept_outcome};
-ghost use Rattle.sv_journal.specs.Answer.{Legal, is_bad_done, is_over_reach, most_requests, orphans};
-ghost use Rattle.sv_sequencer.specs.Clients.{outcome_value};
+ghost use Rattle.sv_journal.specs.History.{commit_of, committed_of};
+ghost use Rattle.sv_journal.specs.Answer.{Legal};
 ghost use Rattle.sv_sequencer.specs.Rows.{is_ended};
-ghost use Rattle.sv_sequencer.specs.Step.{history, Stayed};
-ghost use Rattle.sv_sequencer.specs.Agreement.{ends_owed};
+ghost use Rattle.sv_sequencer.specs.Step.{history};
 
-use crate::clients::{Clients, Outcome};
-use crate::orphans::first_orphan;
-use crate::reports::are_bad;
-use crate::sessions::{SessionRow, no_sessions};
+use crate::server_core::Core;
 use std::alloc::{AllocError, Global};
 use std::marker::Model;
-use sv_influence::{Chain, chain};
 use sv_journal::Journal;
-use sv_queue::Queue;
-use sv_wire::Done1;
-use sv_world::{Action, ObjectId, Shape, Value, World, copy_values};
+use sv_world::{ObjectId, Value, World};
 
-/// The server's core: it puts the actions of all sessions in one order, and keeps every request with its reply in its journal.
+/// The server's core with its journal: it puts the actions of all sessions in one order, and keeps every request with its reply.
 #[derive(Drop)]
 pub struct Sequencer {
-    pub(crate) alloc: Global,
-    pub(crate) opening: World,
-    pub(crate) bound: u8,
-    pub(crate) reach: Option<u32>,
-    pub(crate) queue: Queue,
-    pub(crate) sessions: Vec<SessionRow>,
-    pub(crate) clients: Clients,
+    pub(crate) core: Core,
+    /// It has room for the Ends that are to come.
     pub(crate) journal: Journal,
-    /// How many sessions have had no End yet: the journal has room for so many entries.
-    pub(crate) owed: u16,
 }
 
 impl Model for Sequencer {
@@ -55,107 +37,75 @@ impl Model for Sequencer {
 }
 
 impl Sequencer {
-    /// Whether a session is over.
-    pub(crate) fn is_over(&self, session: u16) -> bool
-        requires { session < self.now.rules.sessions }
-        ensures { result ≡ is_over (history self.now) session }
+    /// Opens a server for so many sessions.
+    ///
+    /// An action is dropped where more than `bound` actions influence it, or, where a reach is given, one that was made farther away.
+    /// The journal has room for the Ends of all sessions from the start.
+    pub fn new(
+        alloc: Global,
+        world: World,
+        bound: u8,
+        reach: Option<u32>,
+        sessions: u16,
+    ) -> Result<Sequencer, AllocError>
+        requires world { IsGoodWorld world }
+        requires bound { bound ≤ 32 }
+        requires reach { IfSome reach (λ far. far ≤ 2000000) }
+        requires some { 1 ≤ sessions }
+        requires few { sessions ≤ 64 }
+        ensures rules { IfOk result (λ s. s.rules ≡ record { world = world; bound = bound; reach = reach; sessions = sessions }) }
+        ensures empty { IfOk result (λ s. s.journal.entries ≡ []) }
     {
-        self.sessions[session as usize].over
+        let core = Core::new(alloc, world, bound, reach, sessions)?;
+        let mut journal = Journal::new(alloc);
+        journal.reserve(sessions as usize)?;
+        Ok(Sequencer { core, journal })
     }
 
-    /// Whether a session may make more requests.
-    pub(crate) fn has_more(&self, session: u16) -> bool
-        requires { session < self.now.rules.sessions }
-        ensures { result ≡ nat_lt (asked_in (history self.now) session) most_requests }
+    /// Every request so far with its reply.
+    pub fn journal(&self) -> &Journal
+        ensures journal { result.now ≡ self.now.journal }
+        ensures legal { Legal self.now.rules (history self.now) }
     {
-        self.sessions[session as usize].left > 0
+        &self.journal
     }
 
-    pub(crate) fn client_of(&self, session: u16) -> Option<u16>
-        requires { session < self.now.rules.sessions }
-        ensures { result ≡ client_of (history self.now) session }
+    /// Hands the journal out.
+    pub fn into_journal(self) -> Journal
+        ensures journal { result ≡ self.journal }
+        ensures legal { Legal self.rules (history self) }
     {
-        self.sessions[session as usize].client
-    }
-
-    pub(crate) fn life_of(&self, client: u16) -> u32
-        ensures { result ≡ life_of (history self.now) client }
-    {
-        self.clients.life(client)
-    }
-
-    /// The number that a client's next action has.
-    pub(crate) fn next_seq(&self, client: u16) -> u32
-        ensures { result ≡ next_seq (history self.now) client }
-    {
-        self.clients.count(client) as u32 + 1
-    }
-
-    /// What came of a client's action, where it is kept.
-    pub(crate) fn kept_outcome(&self, client: u16, seq: u32) -> Option<Outcome>
-        ensures kept { option_map outcome_value result ≡ kept_outcome (history self.now) client seq }
-        ensures earlier { IfSome result (λ _. seq < next_seq (history self.now) client) }
-        ensures placed { (p : ℕ) → kept_outcome (history self.now) client seq ≡ Some (Accepted p) → p ≤ length (accepted (history self.now)) }
-    {
-        self.clients.kept(client, seq)
+        let Sequencer { journal, .. } = self;
+        journal
     }
 
     /// The greatest position up to which all results are installed.
     pub fn commit(&self) -> u32
         ensures { result ≡ commit_of (history self.now) }
     {
-        self.queue.commit()
+        self.core.commit()
     }
 
-    /// The last accepted position.
-    pub(crate) fn last(&self) -> u32
-        ensures { result ≡ length (accepted (history self.now)) }
+    /// The value of an object at the commit.
+    pub fn committed(&self, object: ObjectId) -> &Value
+        requires { object.0 < self.now.rules.world.shape.objects }
+        ensures { result.now ≡ slice_index_or (committed_of self.now.rules.world.values (history self.now)) object.0 [] }
     {
-        self.queue.last()
+        self.core.committed(object)
     }
 
-    pub(crate) fn shape(&self) -> Shape
-        ensures { result ≡ self.now.rules.world.shape }
+    /// How many sessions there may be.
+    pub fn sessions(&self) -> u16
+        ensures { result ≡ self.now.rules.sessions }
     {
-        self.queue.shape()
+        self.core.sessions()
     }
 
-    /// How much influences a new action.
-    pub(crate) fn chain_of(&self, action: &Action) -> Chain
-        requires { IsGoodAction self.now.rules.world.shape action.now }
-        ensures count { result.count ≡ chain_length (actions_of (history self.now)) (commit_of (history self.now)) action.now }
-        ensures far { result.far ≡ influence_distance (actions_of (history self.now)) (commit_of (history self.now)) action.now }
-    {
-        chain(&self.queue, action)
-    }
-
-    /// The greatest chain of influence that an action may have.
-    pub(crate) fn bound(&self) -> u32
-        ensures { result ≡ self.now.rules.bound }
-    {
-        u32::from(self.bound)
-    }
-
-    pub(crate) fn is_over_reach(&self, far: u32) -> bool
-        ensures { result ≡ is_over_reach self.now.rules.reach far }
-    {
-        match self.reach {
-            Some(reach) => reach < far,
-            None => false,
-        }
-    }
-
-    pub(crate) fn is_bad_done(&self, session: u16, results: &[Done1]) -> bool
+    /// Whether a session had its End.
+    pub fn is_ended(&self, session: u16) -> bool
         requires { session < self.now.rules.sessions }
-        ensures { result ≡ is_bad_done self.now.rules (history self.now) session results.now }
+        ensures { result ≡ is_ended (history self.now) session }
     {
-        are_bad(&self.queue, session, results)
-    }
-
-    /// The lowest uncommitted position without a result that was sent to no session that is not over.
-    pub(crate) fn orphan(&self) -> Option<u32>
-        ensures { MatchOption result (orphans (history self.now) ≡ []) (λ p. (rest : List ℕ) × (orphans (history self.now) ≡ p ∷ rest)) }
-    {
-        first_orphan(&self.queue, &self.sessions)
+        self.core.is_ended(session)
     }
 }

@@ -1,14 +1,14 @@
-ghost use Rattle.std.specs.Prelude.{◌≡◌, ℕ, ◌<◌, ◌&&◌, false, None, length, slice_index_or, replicate, IfOk, if◌then◌else◌};
-ghost use Rattle.sv_journal.specs.declared.entry.Entry.{Entry};
+ghost use Rattle.std.specs.Prelude.{◌≡◌, ℕ, ◌<◌, ◌&&◌, ◌==◌, false, None, length, slice_index_or, replicate, IfOk, if◌then◌else◌};
 ghost use Rattle.sv_journal.specs.History.{either, is_welcome, joining};
 ghost use Rattle.sv_journal.specs.Sessions.{is_last, welcomes, is_end};
 ghost use Rattle.sv_sequencer.specs.Rows.{no_session, session_after};
+ghost use Rattle.sv_sequencer.specs.Step.{entry_of};
 
 use std::alloc::{AllocError, Global};
-use sv_journal::{Entry, Logged};
+use sv_journal::Logged;
 use sv_wire::Request;
 
-/// What the sequencer keeps of a session.
+/// What a core keeps of a session.
 #[derive(Clone, Copy, Drop)]
 pub struct SessionRow {
     /// The number of its client, once it has joined.
@@ -36,96 +36,108 @@ pub fn no_sessions(alloc: Global, sessions: u16) -> Result<Vec<SessionRow>, Allo
     Ok(rows)
 }
 
-/// Notes an entry of the journal in the rows of the sessions. Only a Join that is welcomed changes another row than its session's.
-pub fn note(rows: &mut Vec<SessionRow>, entry: &Entry)
+/// Notes in the rows of the sessions what one of them asked and was replied. Only a Join that is welcomed changes another row than the asker's.
+pub fn note(rows: &mut Vec<SessionRow>, asker: u16, request: &Request, reply: &Logged)
     requires { length rows.old.items < 65536 }
     ensures count { length rows.new.items ≡ length rows.old.items }
-    ensures rows { (s : ℕ) → s < length rows.old.items → slice_index_or rows.new.items s no_session ≡ session_after entry.now s (slice_index_or rows.old.items s no_session) }
+    ensures rows { (s : ℕ) → s < length rows.old.items → slice_index_or rows.new.items s no_session ≡ session_after (entry_of asker request.now reply.now) s (slice_index_or rows.old.items s no_session) }
 {
-    if is_welcome(&entry.reply) {
-        note_in_all(rows, entry);
+    if is_welcome(reply) {
+        note_in_all(rows, asker, request, reply);
     } else {
-        note_in_own(rows, entry);
+        note_in_own(rows, asker, request, reply);
     }
 }
 
-fn note_in_all(rows: &mut Vec<SessionRow>, entry: &Entry)
+fn note_in_all(rows: &mut Vec<SessionRow>, asker: u16, request: &Request, reply: &Logged)
     requires { length rows.old.items < 65536 }
     ensures count { length rows.new.items ≡ length rows.old.items }
-    ensures rows { (s : ℕ) → s < length rows.old.items → slice_index_or rows.new.items s no_session ≡ session_after entry.now s (slice_index_or rows.old.items s no_session) }
+    ensures rows { (s : ℕ) → s < length rows.old.items → slice_index_or rows.new.items s no_session ≡ session_after (entry_of asker request.now reply.now) s (slice_index_or rows.old.items s no_session) }
 {
     for session in 0..rows.len() {
-        rows[session] = session_after(entry, session as u16, &rows[session]);
+        rows[session] = session_after(asker, request, reply, session as u16, &rows[session]);
     }
 }
 
 #[tactic(auto, using(crate::proofs::Rows::other_row_stays))]
-fn note_in_own(rows: &mut Vec<SessionRow>, entry: &Entry)
-    requires { is_welcome entry.now.reply ≡ false }
+fn note_in_own(rows: &mut Vec<SessionRow>, asker: u16, request: &Request, reply: &Logged)
+    requires { is_welcome reply.now ≡ false }
     ensures count { length rows.new.items ≡ length rows.old.items }
-    ensures rows { (s : ℕ) → s < length rows.old.items → slice_index_or rows.new.items s no_session ≡ session_after entry.now s (slice_index_or rows.old.items s no_session) }
+    ensures rows { (s : ℕ) → s < length rows.old.items → slice_index_or rows.new.items s no_session ≡ session_after (entry_of asker request.now reply.now) s (slice_index_or rows.old.items s no_session) }
 {
-    let session = entry.session as usize;
-    if session < rows.len() {
-        rows[session] = session_after(entry, entry.session, &rows[session]);
+    let own = asker as usize;
+    if own < rows.len() {
+        rows[own] = session_after(asker, request, reply, asker, &rows[own]);
     }
 }
 
-/// The row of a session after an entry.
-fn session_after(entry: &Entry, session: u16, row: &SessionRow) -> SessionRow
-    ensures { result ≡ session_after entry.now session row.now }
+/// The row of a session after what the asker asked and was replied.
+fn session_after(
+    asker: u16,
+    request: &Request,
+    reply: &Logged,
+    session: u16,
+    row: &SessionRow,
+) -> SessionRow
+    ensures { result ≡ session_after (entry_of asker request.now reply.now) session row.now }
 {
-    let is_own = entry.session == session;
-    let ends = is_end(&entry.request);
+    let is_own = asker == session;
+    let ends = is_end(request);
     let left = if is_own && !ends {
         row.left.saturating_sub(1)
     } else {
         row.left
     };
     SessionRow {
-        client: client_after(entry, is_own, row.client),
-        over: row.over || is_over_by(entry, is_own, row.client),
+        client: client_after(request, reply, is_own, row.client),
+        over: row.over || is_over_by(asker, request, reply, session, row.client),
         left,
         ended: row.ended || (is_own && ends),
     }
 }
 
-/// The client of a session after an entry, which may be its own.
-fn client_after(entry: &Entry, is_own: bool, client: Option<u16>) -> Option<u16>
-    ensures { result ≡ either client (if is_own && is_welcome entry.now.reply then joining entry.now.request else None) }
+/// The client of a session after a request and its reply, which may be its own.
+fn client_after(request: &Request, reply: &Logged, is_own: bool, client: Option<u16>) -> Option<u16>
+    ensures { result ≡ either client (if is_own && is_welcome reply.now then joining request.now else None) }
 {
     if client.is_some() {
         return client;
     }
-    if is_own && is_welcome(&entry.reply) {
-        joining(&entry.request)
+    if is_own && is_welcome(reply) {
+        joining(request)
     } else {
         None
     }
 }
 
-/// Whether a session with this client is over by an entry, which may be its own.
-fn is_over_by(entry: &Entry, is_own: bool, client: Option<u16>) -> bool
-    ensures { result ≡ (if is_own then is_last entry.now.reply else welcomes entry.now client) }
+/// Whether a session with this client is over by what the asker asked and was replied.
+fn is_over_by(
+    asker: u16,
+    request: &Request,
+    reply: &Logged,
+    session: u16,
+    client: Option<u16>,
+) -> bool
+    ensures { result ≡ (if asker == session then is_last reply.now else welcomes (entry_of asker request.now reply.now) client) }
 {
-    if is_own {
-        is_last(&entry.reply)
+    if asker == session {
+        is_last(reply)
     } else {
-        welcomes(entry, client)
+        welcomes(request, reply, client)
     }
 }
 
-/// Whether an entry is a Join of this client that was welcomed.
-fn welcomes(entry: &Entry, client: Option<u16>) -> bool
-    ensures { result ≡ welcomes entry.now client }
+/// Whether a request is a Join of this client that was welcomed.
+fn welcomes(request: &Request, reply: &Logged, client: Option<u16>) -> bool
+    ensures { (asker : ℕ) → result ≡ welcomes (entry_of asker request.now reply.now) client }
 {
     let Some(client) = client else {
         return false;
     };
-    if !is_welcome(&entry.reply) {
+    if !is_welcome(reply) {
         return false;
     }
-    match joining(&entry.request) {
+    match joining(request) {
         Some(joined) => joined == client,
         None => false,
     }

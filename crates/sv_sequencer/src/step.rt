@@ -1,17 +1,33 @@
-ghost use Rattle.std.specs.Prelude.{◌≡◌, ◌<◌, true, false, IfOk, IsOk, OnErr};
+//! A step of the sequencer: what its core decides and does goes into its journal.
+ghost use Rattle.std.specs.Prelude.{◌≡◌, List, ◌-◌, ◌<◌, [], ◌∷◌, ◌++◌, true, false, IfOk, IsOk, OnErr};
 ghost use Rattle.sv_wire.specs.declared.message.Request.TheVariants as requests;
+ghost use Rattle.sv_journal.specs.declared.entry.Entry.{Entry};
+ghost use Rattle.sv_journal.specs.declared.entry.Logged.TheVariants as logged;
 ghost use Rattle.sv_journal.specs.Sessions.{is_end};
-ghost use Rattle.sv_journal.specs.Answer.{Legal, reply_to};
-ghost use Rattle.sv_sequencer.specs.declared.decision.Decision.TheVariants as decisions;
-ghost use Rattle.sv_sequencer.specs.Decisions.{reply_by, Holds};
+ghost use Rattle.sv_journal.specs.Answer.{Legal};
 ghost use Rattle.sv_sequencer.specs.Rows.{is_ended};
-ghost use Rattle.sv_sequencer.specs.Step.{history, Answered, Stayed};
+ghost use Rattle.sv_sequencer.specs.Step.{history, entry_of, Grew, Answered, Stayed};
 
-use crate::decision::Decision;
+use crate::answer::Answer;
 use crate::sequencer::Sequencer;
 use std::alloc::AllocError;
-use sv_journal::Logged;
-use sv_wire::{Reply, Request};
+use sv_journal::{Entry, Journal, Logged};
+use sv_wire::{Reply, Request, copy_request};
+
+/// Enters a request with its reply into a journal that has room, and gives the reply in full.
+fn enter(journal: &mut Journal, session: u16, request: Request, answer: Answer) -> Reply
+    requires { 0 < journal.old.spare }
+    ensures journal { journal.new ≡ record { entries = journal.old.entries ++ entry_of session request answer.logged ∷ []; spare = journal.old.spare - 1 } }
+    ensures reply { result ≡ answer.reply }
+{
+    let Answer { logged, reply } = answer;
+    journal.push(Entry {
+        session,
+        request,
+        reply: logged,
+    });
+    reply
+}
 
 impl Sequencer {
     /// Answers a request of a session, whose End comes at most once, and enters both into the journal.
@@ -30,8 +46,7 @@ impl Sequencer {
             self.is_legal();
             return Ok(Reply::Bye);
         }
-        let decision = self.decide(session, request);
-        let answer = self.carry_out(session, request, decision);
+        let answer = self.answer(session, request);
         self.is_legal();
         answer
     }
@@ -40,58 +55,44 @@ impl Sequencer {
     fn is_legal(&self)
         ensures { Legal self.now.rules (history self.now) }
     {
-        let _ = &self.alloc;
+        let _ = &self.core;
     }
 
-    fn carry_out(
-        &mut self,
-        session: u16,
-        request: &Request,
-        decision: Decision,
-    ) -> Result<Reply, AllocError>
+    /// The End of a session: the journal has room for its entry. `h` is the journal's history.
+    fn end(&mut self, session: u16)
+        ghost h: { List Entry }
+        requires past { h ≡ history self.old }
+        requires session { session < self.old.rules.sessions }
+        requires first { is_ended h session ≡ false }
+        ensures { Grew self.old self.new (entry_of session requests.End logged.Bye) }
+    {
+        self.core.end(session);
+        self.journal.push(Entry {
+            session,
+            request: Request::End,
+            reply: Logged::Bye,
+        });
+    }
+
+    /// Answers a request that is no End. `h` is the journal's history. The room for the Ends that are to come stays.
+    fn answer(&mut self, session: u16, request: &Request) -> Result<Reply, AllocError>
+        ghost h: { List Entry }
+        requires past { h ≡ history self.old }
         requires session { session < self.old.rules.sessions }
         requires more { is_end request.now ≡ false }
-        requires holds { Holds self.old.rules (history self.old) session request.now decision }
-        requires reply { reply_by self.old.rules (history self.old) session request.now decision ≡ reply_to self.old.rules (history self.old) session request.now }
         ensures ok { IfOk result (Answered self.old self.new session request.now) }
         ensures err { OnErr result (Stayed self.old self.new) }
     {
-        match decision {
-            Decision::Welcome { client, life } => self.welcome(session, request, client, life),
-            Decision::Drop {
-                client,
-                seq,
-                chain,
-                far,
-            } => self.drop_new(session, request, client, seq, chain, far),
-            Decision::Relay { seq, pos } => self.relay(session, request, seq, pos),
-            Decision::Accept { client, seq } => self.accept_new(session, request, client, seq),
-            Decision::Note => self.note_results(session, request),
-            Decision::Refuse { code, detail } => self.refuse(session, request, code, detail),
-            Decision::Repeat { seq, chain, far } => self.repeat(session, request, seq, chain, far),
-            Decision::Settle { seq, pos } => self.settle(session, request, seq, pos),
-            Decision::Idle => self.idle(session, request),
-            Decision::Leave => self.leave(session, request),
+        let decision = self.core.decide(session, request);
+        self.journal.reserve(self.core.owed as usize + 1)?;
+        let copy = copy_request(self.core.alloc, request)?;
+        match self.core.carry_out(session, request, decision) {
+            Ok(answer) => Ok(enter(&mut self.journal, session, copy, answer)),
+            Err(error) => {
+                // A tree that is let go at the end of its scope makes a long proof; a call that takes it, none.
+                drop(copy);
+                Err(error)
+            }
         }
-    }
-
-    fn accept_new(
-        &mut self,
-        session: u16,
-        request: &Request,
-        client: u16,
-        seq: u32,
-    ) -> Result<Reply, AllocError>
-        requires session { session < self.old.rules.sessions }
-        requires more { is_end request.now ≡ false }
-        requires holds { Holds self.old.rules (history self.old) session request.now (decisions.Accept client seq) }
-        requires reply { reply_by self.old.rules (history self.old) session request.now (decisions.Accept client seq) ≡ reply_to self.old.rules (history self.old) session request.now }
-        ensures ok { IfOk result (Answered self.old self.new session request.now) }
-        ensures err { OnErr result (Stayed self.old self.new) }
-    {
-        let Request::Submit { action, .. } = request else {
-            return Err(AllocError);
-        };
-        self.accept(session, request, client, seq, action)
     }
 }

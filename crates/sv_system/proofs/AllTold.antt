@@ -1,33 +1,33 @@
 -- Each action of a client that left has one outcome.
-use Rattle.std.proofs.Common.{◌≡◌, ℕ, zero, suc, ◌+◌, ◌<◌, ◌≤◌, Bool, true, false, ◌&&◌, ◌||◌, ◌==◌, ◌⊎◌, inl, inr, List, [], ◌∷◌, ◌++◌, map, drop, reverse, length, Option, Some, None, All, slice_get, refl, sym, ap, ◌∙◌, subst, arith, eqb-true, eq-eqb, true≢false}
+use Rattle.std.proofs.Common.{◌≡◌, ℕ, zero, suc, ◌+◌, ◌<◌, ◌≤◌, Bool, true, false, ◌==◌, inl, inr, List, [], ◌∷◌, ◌++◌, drop, reverse, length, Option, Some, None, slice_get, refl, sym, ap, ◌∙◌, subst, arith, eq-eqb, true≢false}
 use Rattle.std.specs.Prelude.{if◌then◌else◌}
 use Rattle.std.specs.List.{list_any}
 use Rattle.std.proofs.lemmas.Bool.{cond-true, cond-false, cases_Bool}
 use Rattle.std.proofs.lemmas.List.{length-append}
-use Rattle.std.proofs.lemmas.Option.{none-some, same_Some}
-use Rattle.sv_world.specs.declared.action.Action.{Action}
-use Rattle.sv_pending.specs.Pending.{PendingAction, redone}
+use Rattle.std.proofs.lemmas.Option.{none-some}
+use Rattle.sv_pending.specs.Pending.{PendingAction}
 use Rattle.sv_versions.specs.Held.{Held}
-use Rattle.sv_wire.specs.declared.message.Done1.{Done1}
 use Rattle.sv_wire.specs.declared.message.Request.{Request}
 use Rattle.sv_wire.specs.declared.message.Request.TheVariants as requests
 use Rattle.sv_wire.specs.declared.message.Reply.{Reply}
 use Rattle.sv_wire.specs.declared.message.Reply.TheVariants as replies
 use Rattle.sv_journal.specs.declared.entry.Entry.{Entry}
-use Rattle.sv_journal.specs.History.{Authored, Outcome, accepted, client_of, outcomes_of, next_seq}
+use Rattle.sv_journal.specs.History.{Authored, accepted, client_of, outcomes_of, next_seq}
 use Rattle.sv_journal.specs.Sessions.{is_end}
-use Rattle.sv_journal.specs.Answer.{Rules, Legal}
+use Rattle.sv_journal.specs.Answer.{Rules}
+use Rattle.sv_journal.specs.Serving.{Keeping, LegalFor, IsKeeping}
 use Rattle.sv_client.specs.declared.trace.Event.{Event}
 use Rattle.sv_client.specs.declared.trace.Event.TheVariants as events
 use Rattle.sv_client.specs.declared.trace.Trace.{Trace}
-use Rattle.sv_client.specs.Traces.{makes, current_session, held_of, with_reply, results_of, last_values, are_same, settled_by, without_front, pending_with, pending_of, asked_by, asked, got}
+use Rattle.sv_client.specs.Traces.{makes, current_session, held_of, with_reply, pending_with, pending_of, asked, got}
 use Rattle.sv_client.specs.Taking.{Identity, outstanding, unanswered, allows}
-use Rattle.sv_client.specs.Proper.{AreProper, MayLeave, in_session, identity_of}
+use Rattle.sv_client.specs.Proper.{AreProper, in_session, identity_of}
 use Rattle.sv_script.specs.Following.{is_finished}
 use Rattle.sv_system.specs.Outcomes.{is_quit, HasOutcomes}
-use Rattle.sv_system.specs.Fits.{requests_in, has_session, FitsOne, Fits}
+use Rattle.sv_system.specs.Fits.{requests_in, has_session}
+use Rattle.sv_system.specs.Served.{OwnsSessions, FitsButValues}
 use Rattle.sv_system.proofs.Fronts.{get-last}
-use Rattle.sv_system.proofs.Histories.{IsEarlier, same, earlier-then, earlier-rest, earlier-legal}
+use Rattle.sv_system.proofs.Histories.{earlier-rest, earlier-served}
 use Rattle.sv_system.proofs.Commits.{next-grows, outcome-when}
 use Rattle.sv_system.proofs.Entered.{of-parts, of-from, as-many, request-there, entered}
 use Rattle.sv_system.proofs.Asked.{IsPart, all, part-rest, asked-part, got-part, proper-part, may-answer, current-joined, any-reverse}
@@ -35,7 +35,8 @@ use Rattle.sv_system.proofs.Pendings.{Numbered, keys, without_first, settles, ke
 use Rattle.sv_system.proofs.Aligned.{settles-submit, aligned}
 use Rattle.sv_system.proofs.Leaving.{leave-last}
 use Rattle.sv_system.proofs.Order.{get-some, joined-has}
-use Rattle.sv_system.proofs.Opened.{one, own-join, session-client, welcomed-by}
+use Rattle.sv_system.proofs.Opened.{own-session, session-client}
+use Rattle.sv_system.proofs.Asking.{IsServed, is_done, asked-there, entered-as}
 use Rattle.sv_system.proofs.Window.{submit-of, submit-named, submit-most, next-front, answered-next, client-some}
 
 -- ---- Nothing is pending once a client left
@@ -132,7 +133,7 @@ not-reversed p xs e = elim (cases_Bool (list_any p (reverse xs))) [ inr f ↦ f 
 
 -- ---- As many outcomes as actions made
 
-module _ (r : Rules) (H : List Entry) (Ls : List Trace) (legal : Legal r H) (fits : Fits r.world.shape H Ls) (i : ℕ) (L : Trace) (member : slice_get Ls i ≡ Some L) where
+module _ (K : Keeping) (r : Rules) (H : List Entry) (L : Trace) (served : IsServed K r H L) (owns : OwnsSessions H L) where
   abbrev whole : List Event
   whole = reverse L.events
 
@@ -145,8 +146,14 @@ module _ (r : Rules) (H : List Entry) (Ls : List Trace) (legal : Legal r H) (fit
   abbrev k : ℕ
   k = L.client.0
 
-  abbrev this_one : FitsOne r.world.shape H L
-  this_one = one r H Ls legal fits i L member
+  abbrev this_one : FitsButValues r.world.shape H L
+  this_one = served.fits
+
+  abbrev keeps : IsKeeping K
+  keeps = served.keeps
+
+  abbrev legal : LegalFor K r H
+  legal = served.legal
 
   front-answered : (o : ℕ) (reply : Reply) (t : List Event) → IsPart (events.Got o reply ∷ t) whole → settles reply ≡ true → suc (settled t) < next_seq H k
   front-answered o reply t part s' =
@@ -156,18 +163,18 @@ module _ (r : Rules) (H : List Entry) (Ls : List Trace) (legal : Legal r H) (fit
       let m = length (got t o) in
       let q = submit-of a.request (sym (settles-submit who t a.request reply (counted who L.first t proper.1) a.kind a.good) ∙ s') in
       let front = next-front who L.first t proper.1 o q.0 q.1.0 a.current (a.asked_there ∙ ap Some q.1.1) in
-      let has_o : has_session L o ≡ true = joined-has r H legal L this_one t rest o (current-joined t o a.current) in
+      let has_o : has_session L o ≡ true = joined-has K r H L served t rest o (current-joined t o a.current) in
       let there : slice_get (got whole o) m ≡ Some reply =
       got-part who L.first (events.Got o reply ∷ t) whole part o m reply (ap (λ (rs : List Reply). slice_get rs m) (cond-true (o == o) (got t o ++ reply ∷ []) (got t o) (eq-eqb o o refl)) ∙ get-last (got t o) reply) in
       let x = entered A H o m reply ((this_one.sessions o has_o).got m reply there) in
-      let by_journal : slice_get (asked L.client L.interest whole o) m ≡ Some x.entry.request =
-      ap (slice_get (asked L.client L.interest whole o)) (x.place ∙ as-many A x.before o)
-      ∙ (this_one.sessions o has_o).asked (length (requests_in x.before o)) x.entry.request (request-there x.entry x.before H o x.earlier x.of_it) in
+      let by_journal : slice_get (requests_in H o) m ≡ Some x.entry.request =
+      ap (slice_get (requests_in H o)) (x.place ∙ as-many A x.before o) ∙ request-there x.entry x.before H o x.earlier x.of_it in
       let by_trace : slice_get (asked L.client L.interest whole o) m ≡ Some a.request = asked-part who L.first t whole rest o m a.request a.asked_there in
-      let request : x.entry.request ≡ requests.Submit q.0 q.1.0 = same_Some x.entry.request a.request (sym by_journal ∙ by_trace) ∙ q.1.1 in
-      let n = answered-next r A x.entry x.before (earlier-legal r (x.entry ∷ x.before) H x.earlier legal) q.0 q.1.0 request x.entry.reply refl (ap settles (sym x.replied) ∙ s') in
+      let request : x.entry.request ≡ requests.Submit q.0 q.1.0 =
+      entered-as H L o (this_one.sessions o has_o) m x.entry.request (requests.Submit q.0 q.1.0) by_journal (by_trace ∙ ap Some q.1.1) refl in
+      let n = answered-next K keeps r A x.entry x.before (earlier-served K r (x.entry ∷ x.before) H x.earlier legal) q.0 q.1.0 request x.entry.reply refl (ap settles (sym x.replied) ∙ s') in
       let session : x.entry.session ≡ o = (of-parts x.entry o x.of_it).0 in
-      let own : n.0 ≡ k = session-client r H Ls legal fits i L member o has_o x.before (earlier-rest x.before x.entry H x.earlier) n.0 (subst (λ (c : ℕ). client_of x.before c ≡ Some n.0) session n.1.0) in
+      let own : n.0 ≡ k = session-client K r H L served owns o has_o x.before (earlier-rest x.before x.entry H x.earlier) n.0 (subst (λ (c : ℕ). client_of x.before c ≡ Some n.0) session n.1.0) in
       let low : q.0 < next_seq (x.entry ∷ x.before) k = subst (λ (c : ℕ). q.0 < next_seq (x.entry ∷ x.before) c) own n.1.1 in
       let grows : next_seq (x.entry ∷ x.before) k ≤ next_seq H k = next-grows (x.entry ∷ x.before) H x.earlier k in
       let number : q.0 ≡ suc (settled t) = front.1.1 in
@@ -213,10 +220,8 @@ module _ (r : Rules) (H : List Entry) (Ls : List Trace) (legal : Legal r H) (fit
           let x = outcome-when H k m f.0 f.1 in
           let q = submit-named x.entry.request (suc m) x.submit in
           let c : client_of x.before x.entry.session ≡ Some k = client-some (client_of x.before x.entry.session) k x.client in
-          let w = welcomed-by x.before x.entry.session k c in
-          let j = own-join r H Ls legal fits i L member w.entry w.before (earlier-then (w.entry ∷ w.before) x.before H w.earlier (earlier-rest x.before x.entry H x.earlier)) w.client w.life w.welcome.interest w.welcome.request w.client_is in
-          let has_o : has_session L x.entry.session ≡ true = subst (λ (o : ℕ). has_session L o ≡ true) w.session j.0 in
-          let there = (this_one.sessions x.entry.session has_o).asked (length (requests_in x.before x.entry.session)) x.entry.request
+          let has_o : has_session L x.entry.session ≡ true = own-session K r H L served owns x.before (earlier-rest x.before x.entry H x.earlier) x.entry.session c in
+          let there = asked-there H L x.entry.session (this_one.sessions x.entry.session has_o) (length (requests_in x.before x.entry.session)) x.entry.request (ap is_done q.1)
           (request-there x.entry x.before H x.entry.session x.earlier (of-from x.entry x.entry.session refl (ap is_end q.1))) in
           let most : suc m ≤ makes whole = submit-most who L.first whole this_one.proper.events x.entry.session (length (requests_in x.before x.entry.session)) (suc m) q.0 (there ∙ ap Some q.1) in
           omega arith

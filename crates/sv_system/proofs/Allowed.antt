@@ -6,7 +6,7 @@ use Rattle.std.proofs.lemmas.Bool.{cond_both, cond-true, cond-false, or_parts}
 use Rattle.std.proofs.lemmas.List.{length-map}
 use Rattle.std.proofs.lemmas.List.Elements.{All-from_recursion}
 use Rattle.std.proofs.lemmas.Option.{none-some, same_Some}
-use Rattle.sv_world.specs.Control.{is_in, chain_length, influence_distance}
+use Rattle.sv_world.specs.Control.{is_in, action_at, chain_length, influence_distance}
 use Rattle.sv_world.specs.Faults.{first_fault_of_action, is_ascending, IsGoodAction}
 use Rattle.sv_world.specs.Sets.{read_set}
 use Rattle.sv_world.specs.declared.action.Action.{Action}
@@ -27,27 +27,31 @@ use Rattle.sv_journal.specs.declared.entry.Logged.{Logged}
 use Rattle.sv_journal.specs.declared.entry.Logged.TheVariants as logged
 use Rattle.sv_journal.specs.History.{Authored, Outcome, Accepted, Dropped, accepted, actions_of, client_of, next_seq, item_at, full_reply, commit_of}
 use Rattle.sv_journal.specs.Sessions.{is_end, kept_outcome, positions_in, sent_to}
-use Rattle.sv_journal.specs.Answer.{Rules, refused, is_over_reach, reply_to_checked, reply_to_submit, is_bad_done, commit_with, orphans, reply_to_poll, reply_to_client, reply_to_member, reply_to_open, Legal}
+use Rattle.sv_journal.specs.Answer.{Rules, refused, is_over_reach, reply_to_checked, reply_to_submit, is_bad_done, commit_with, orphans, reply_to_poll, reply_to_client, reply_to_member, reply_to_open}
+use Rattle.sv_journal.specs.Serving.{Keeping, with_last_rows, polled_after, LegalFor, IsKeeping}
+use Rattle.sv_journal.proofs.Kept.{client-kept, next-kept, kept_outcome-kept, accepted-kept, sent-kept}
 use Rattle.sv_client.specs.declared.trace.Event.{Event}
 use Rattle.sv_client.specs.declared.trace.Event.TheVariants as events
 use Rattle.sv_client.specs.declared.trace.Trace.{Trace}
 use Rattle.sv_client.specs.Traces.{joins, makes, current_session, is_session, held_of, with_reply, head_held, results_of, done_for, pending_of, submit_of, asked_by, asked, got}
 use Rattle.sv_client.specs.Taking.{Identity, allows, items_of, is_bad_head, is_bad_relay, is_good_relay, has_bad_item}
 use Rattle.sv_client.specs.Proper.{AreProper, identity_of}
-use Rattle.sv_system.specs.Fits.{replies_in, FitsOne, Fits}
+use Rattle.sv_system.specs.Fits.{replies_in}
+use Rattle.sv_system.specs.Served.{OwnsSessions, AreSameButValues, FitsButValues}
 use Rattle.sv_system.proofs.Fronts.{front-then, get-last}
 use Rattle.sv_system.proofs.Tests.{each-append}
-use Rattle.sv_system.proofs.Reported.{IsSerialResult}
-use Rattle.sv_system.proofs.Histories.{IsEarlier, same, earlier-then, earlier-rest, earlier-legal, accepted-grows}
-use Rattle.sv_system.proofs.Lawful.{legal-relay, positions-within}
+use Rattle.sv_system.specs.Journals.{IsSerialResult, ResultsAreSerial}
+use Rattle.sv_system.proofs.Histories.{IsEarlier, same, earlier-then, earlier-rest, earlier-served, accepted-grows}
+use Rattle.sv_system.proofs.Lawful.{legal-relay, positions-within, kept-action}
 use Rattle.sv_system.proofs.Entered.{is_of, of-parts, client-stays, welcome-client}
 use Rattle.sv_system.proofs.Asked.{get-append_cases, proper-part, got-part, done-when, may-answer}
 use Rattle.sv_system.proofs.BoundedRelays.{all-small}
 use Rattle.sv_system.proofs.Pendings.{Numbered, keys, without_first, settles, keys-with, keys-made}
 use Rattle.sv_system.proofs.Leaving.{is_join_request}
 use Rattle.sv_system.proofs.Order.{got-replied, welcome-legal, earlier-strict}
-use Rattle.sv_system.proofs.Induction.{accepted-good, plain, well-after, noted-serial}
-use Rattle.sv_system.proofs.Opened.{one, asks}
+use Rattle.sv_system.proofs.Asking.{IsServed, is_done, done-other, done-form}
+use Rattle.sv_system.proofs.Induction.{accepted-good, plain-acts, well-after}
+use Rattle.sv_system.proofs.Opened.{asks, asks-other}
 use Rattle.sv_system.proofs.Begun.{replied, join-welcomed}
 use Rattle.sv_system.proofs.Before.{got-at, welcomed-now}
 use Rattle.sv_system.proofs.Window.{numbered-well}
@@ -130,6 +134,11 @@ module _ (who : Identity) (first : ℕ) where
 
 -- ---- The relays of a journal
 
+-- A Poll that is not refused is sent what is due.
+pub polled : (K : Keeping) (r : Rules) (h : List Entry) (s : ℕ) (ps : List ℕ) → with_last_rows K r h s requests.Poll (reply_to_poll r (K.kept h) s ps) ≡ polled_after K r h s
+polled K r h s [] = refl
+polled K r h s (p ∷ ps) = refl
+
 items-logged : (A : List Authored) (reply : Logged) → items_of (full_reply A reply) ≡ map (item_at A) (positions_in reply)
 items-logged A (logged.Relay seq commit head positions) = refl
 items-logged A (logged.Welcome commit head) = refl
@@ -140,29 +149,30 @@ items-logged A logged.Idle = refl
 items-logged A (logged.Refused code detail) = refl
 items-logged A logged.Bye = refl
 
-pub positions-low : (r : Rules) (d : Entry) (h : List Entry) → Legal r (d ∷ h) → (reply : Logged) → d.reply ≡ reply → (is_ascending (positions_in reply) ≡ true) × ((k : ℕ) → is_in k (positions_in reply) ≡ true → 0 < k)
-positions-low r d h l (logged.Relay seq commit head positions) is =
-    let t = legal-relay r d h seq commit head positions l is in (
-      subst (λ (ks : List ℕ). is_ascending ks ≡ true) (sym t.positions_are) (needed-ascending (actions_of (d ∷ h)) (commit_of h) (sent_to h d.session) t.target),
-      λ k m. (let low : commit_of h < k = (needed-bounds (actions_of (d ∷ h)) (commit_of h) (sent_to h d.session) t.target t.above k (subst (λ (ks : List ℕ). is_in k ks ≡ true) t.positions_are m)).0 in omega arith),
+pub positions-low : (K : Keeping) (keeps : IsKeeping K) (r : Rules) (d : Entry) (h : List Entry) → LegalFor K r (d ∷ h) → (reply : Logged) → d.reply ≡ reply → (is_ascending (positions_in reply) ≡ true) × ((k : ℕ) → is_in k (positions_in reply) ≡ true → 0 < k)
+positions-low K keeps r d h l (logged.Relay seq commit head positions) is =
+    let t = legal-relay K keeps r d h seq commit head positions l is in (
+      subst (λ (ks : List ℕ). is_ascending ks ≡ true) (sym t.positions_are) (needed-ascending (actions_of (d ∷ h)) (commit_of (K.kept h)) (sent_to h d.session) t.target),
+      λ k m. (let low : commit_of (K.kept h) < k = (needed-bounds (actions_of (d ∷ h)) (commit_of (K.kept h)) (sent_to h d.session) t.target t.above k (subst (λ (ks : List ℕ). is_in k ks ≡ true) t.positions_are m)).0 in omega arith),
     )
-positions-low r d h l (logged.Welcome commit head) is = (refl, λ k m. absurd (true≢false (sym m)))
-positions-low r d h l (logged.Dropped seq chain far) is = (refl, λ k m. absurd (true≢false (sym m)))
-positions-low r d h l (logged.Settled seq pos) is = (refl, λ k m. absurd (true≢false (sym m)))
-positions-low r d h l (logged.Noted commit) is = (refl, λ k m. absurd (true≢false (sym m)))
-positions-low r d h l logged.Idle is = (refl, λ k m. absurd (true≢false (sym m)))
-positions-low r d h l (logged.Refused code detail) is = (refl, λ k m. absurd (true≢false (sym m)))
-positions-low r d h l logged.Bye is = (refl, λ k m. absurd (true≢false (sym m)))
+positions-low K keeps r d h l (logged.Welcome commit head) is = (refl, λ k m. absurd (true≢false (sym m)))
+positions-low K keeps r d h l (logged.Dropped seq chain far) is = (refl, λ k m. absurd (true≢false (sym m)))
+positions-low K keeps r d h l (logged.Settled seq pos) is = (refl, λ k m. absurd (true≢false (sym m)))
+positions-low K keeps r d h l (logged.Noted commit) is = (refl, λ k m. absurd (true≢false (sym m)))
+positions-low K keeps r d h l logged.Idle is = (refl, λ k m. absurd (true≢false (sym m)))
+positions-low K keeps r d h l (logged.Refused code detail) is = (refl, λ k m. absurd (true≢false (sym m)))
+positions-low K keeps r d h l logged.Bye is = (refl, λ k m. absurd (true≢false (sym m)))
 
 good-reads : (objects : ℕ) (shape_of : Action → Type 0) (xs : List Authored) → ((a : Action) → shape_of a → All (λ x. x < objects) (read_set a)) → AllByRecursion (λ (a : Authored). shape_of a.action) xs →
     AllByRecursion (λ (a : Action). All (λ x. x < objects) (read_set a)) (map (λ (a : Authored). a.action) xs)
 good-reads objects shape_of [] f h = tt
 good-reads objects shape_of (a ∷ xs) f h = (f a.action h.0, good-reads objects shape_of xs f h.1)
 
-module _ (r : Rules) (H : List Entry) (Ls : List Trace) (legal : Legal r H) (fits : Fits r.world.shape H Ls) (i : ℕ) (L : Trace) (member : slice_get Ls i ≡ Some L)
+module _ (K : Keeping) (r : Rules) (H : List Entry) (L : Trace) (served : IsServed K r H L) (owns : OwnsSessions H L)
     (s : ℕ) (current : current_session (reverse L.events) ≡ Some s) (few : length (asked L.client L.interest (reverse L.events) s) ≤ 1024)
     (e : Entry) (g : List Entry) (b : IsEarlier (e ∷ g) H) (mine : is_of e s ≡ true) (next : length (replies_in (accepted H) g s) ≡ length (got (reverse L.events) s))
-    (count : length r.world.values ≡ r.world.shape.objects) (shaped : All (λ (v : List ℤ). length v ≡ r.world.shape.attrs) r.world.values) (bound : r.bound ≤ 32) where
+    (count : length r.world.values ≡ r.world.shape.objects) (shaped : All (λ (v : List ℤ). length v ≡ r.world.shape.attrs) r.world.values) (bound : r.bound ≤ 32)
+    (serial : ResultsAreSerial r.world.values (actions_of H) (K.kept H)) where
   abbrev whole : List Event
   whole = reverse L.events
 
@@ -175,21 +185,28 @@ module _ (r : Rules) (H : List Entry) (Ls : List Trace) (legal : Legal r H) (fit
   abbrev k : ℕ
   k = L.client.0
 
-  abbrev this_one : FitsOne r.world.shape H L
-  this_one = one r H Ls legal fits i L member
+  abbrev this_one : FitsButValues r.world.shape H L
+  this_one = served.fits
+
+  abbrev keeps : IsKeeping K
+  keeps = served.keeps
+
+  abbrev legal : LegalFor K r H
+  legal = served.legal
 
   earlier : IsEarlier g H
   earlier = earlier-rest g e H b
 
-  asking : slice_get (asked L.client L.interest whole s) (length (got whole s)) ≡ Some e.request
-  asking = asks r H Ls legal fits i L member s current e g b mine next
+  -- A request but a Done is the one that is asked.
+  asking : (q : Request) → e.request ≡ q → is_done q ≡ false → slice_get (asked L.client L.interest whole s) (length (got whole s)) ≡ Some q
+  asking q is other = asks-other K r H L served owns s current e g b mine next q is other
 
   -- The session has this client, where the request is no Join.
   joined : is_join_request e.request ≡ false → client_of g s ≡ Some k
   joined f =
-      let w = welcomed-now r H Ls legal fits i L member s current few e g b mine next in
+      let w = welcomed-now K r H L served owns s current few e g b mine next in
       let early : IsEarlier (w.entry ∷ w.before) H = earlier-then (w.entry ∷ w.before) (e ∷ g) H w.earlier b in
-      let fresh = welcome-legal r H legal L this_one w.entry w.before L.client w.life early w.welcome in
+      let fresh = welcome-legal K r H L served w.entry w.before L.client w.life early w.welcome in
       elim (earlier-strict (w.entry ∷ w.before) e g w.earlier) [
         | inl d ↦ absurd (true≢false (sym (ap is_join_request w.welcome.request) ∙ ap (λ (h : List Entry). is_join_request (first_request h)) d ∙ f))
         | inr d ↦ client-stays (w.entry ∷ w.before) g d s k (subst (λ (n : ℕ). client_of (w.entry ∷ w.before) n ≡ Some k) w.session (welcome-client w.entry w.before L.client w.life w.welcome fresh.0))
@@ -199,46 +216,51 @@ module _ (r : Rules) (H : List Entry) (Ls : List Trace) (legal : Legal r H) (fit
       first_request [] = requests.Bad
       first_request (d ∷ h) = d.request
 
-  pub member-reply : (q : Request) → e.request ≡ q → is_join_request q ≡ false → reply_to_open r g s q ≡ reply_to_member r g s (client_of g s) q → e.reply ≡ reply_to_client r g s k q
+  -- The reply to a request that is no Join is that to this client.
+  pub member-reply : (q : Request) → e.request ≡ q → is_join_request q ≡ false → reply_to_open r (K.kept g) s q ≡ reply_to_member r (K.kept g) s (client_of (K.kept g) s) q →
+      e.reply ≡ with_last_rows K r g s q (reply_to_client r (K.kept g) s k q)
   member-reply q is f same_reply =
-      replied r H Ls legal fits i L member s current few e g b mine next ∙ ap (reply_to_open r g s) is ∙ same_reply
-      ∙ ap (λ (o : Option ℕ). reply_to_member r g s o q) (joined (ap is_join_request is ∙ f))
+      replied K r H L served owns s current few e g b mine next ∙ ap (λ (p : Request). with_last_rows K r g s p (reply_to_open r (K.kept g) s p)) is
+      ∙ ap (with_last_rows K r g s q)
+      (same_reply ∙ ap (λ (o : Option ℕ). reply_to_member r (K.kept g) s o q) (client-kept K keeps g s ∙ joined (ap is_join_request is ∙ f)))
 
   abbrev IsAllowed : Request → Logged → Type 0
-  IsAllowed q reply = allows q (full_reply A reply) ≡ true
+  IsAllowed q reply = allows q (full_reply A (with_last_rows K r g s q reply)) ≡ true
 
-  submit-allowed : (n : ℕ) (a : Action) → e.request ≡ requests.Submit n a → IsAllowed (requests.Submit n a) (reply_to_submit r g s k n a (kept_outcome g k n))
+  submit-allowed : (n : ℕ) (a : Action) → e.request ≡ requests.Submit n a → IsAllowed (requests.Submit n a) (reply_to_submit r (K.kept g) s k n a (kept_outcome (K.kept g) k n))
   submit-allowed n a is =
-      let w = numbered-well r H Ls legal fits i L member s current few e g b mine next n a is in
+      let w = numbered-well K r H L served owns s current few e g b mine next n a is in
       let P : Logged → Type 0 = IsAllowed (requests.Submit n a) in
+      let same_kept : kept_outcome (K.kept g) k n ≡ kept_outcome g k n = kept_outcome-kept K keeps g k n in
       elim w.outcome [
-        | inl o ↦ subst (λ (x : Option Outcome). P (reply_to_submit r g s k n a x)) (sym o.1) (kept-allowed o.0)
-        | inr o ↦ subst (λ (x : Option Outcome). P (reply_to_submit r g s k n a x)) (sym o.1)
-            (subst P (sym (cond-true (n == next_seq g k) _ (refused 5 (next_seq g k)) (eq-eqb n (next_seq g k) o.0)
-            ∙ ap (reply_to_checked r g s n a) (front-checked w.rest (subst (AllByRecursion (λ (j : Numbered). first_fault_of_action r.world.shape j.1 ≡ None)) w.front (pending-checked who L.first whole this_one.proper.events)))))
-            (cond_both (nat_lt r.bound (chain_length (actions_of g) (commit_of g) a) || is_over_reach r.reach (influence_distance (actions_of g) (commit_of g) a)) _ _ P (λ x. refl) (λ x. refl)))
+        | inl o ↦ subst (λ (x : Option Outcome). P (reply_to_submit r (K.kept g) s k n a x)) (sym (same_kept ∙ o.1)) (kept-allowed o.0)
+        | inr o ↦ subst (λ (x : Option Outcome). P (reply_to_submit r (K.kept g) s k n a x)) (sym (same_kept ∙ o.1))
+            (subst P (sym (cond-true (n == next_seq (K.kept g) k) _ (refused 5 (next_seq (K.kept g) k)) (eq-eqb n (next_seq (K.kept g) k) (o.0 ∙ sym (next-kept K keeps g k)))
+            ∙ ap (reply_to_checked r (K.kept g) s n a) (front-checked w.rest (subst (AllByRecursion (λ (j : Numbered). first_fault_of_action r.world.shape j.1 ≡ None)) w.front (pending-checked who L.first whole this_one.proper.events)))))
+            (cond_both (nat_lt r.bound (chain_length (actions_of (K.kept g)) (commit_of (K.kept g)) a) || is_over_reach r.reach (influence_distance (actions_of (K.kept g)) (commit_of (K.kept g)) a)) _ _ P (λ x. refl) (λ x. refl)))
       ]
     where
-      kept-allowed : (o : Outcome) → IsAllowed (requests.Submit n a) (reply_to_submit r g s k n a (Some o))
+      kept-allowed : (o : Outcome) → IsAllowed (requests.Submit n a) (reply_to_submit r (K.kept g) s k n a (Some o))
       kept-allowed (Dropped chain far) = refl
-      kept-allowed (Accepted p) = cond_both (nat_le p (commit_of g)) _ _ (IsAllowed (requests.Submit n a)) (λ x. refl) (λ x. refl)
+      kept-allowed (Accepted p) = cond_both (nat_le p (commit_of (K.kept g))) _ _ (IsAllowed (requests.Submit n a)) (λ x. refl) (λ x. refl)
 
       front-checked : (ks : List Numbered) → AllByRecursion (λ (j : Numbered). first_fault_of_action r.world.shape j.1 ≡ None) ((n, a) ∷ ks) → first_fault_of_action r.world.shape a ≡ None
       front-checked ks h = h.0
 
-  poll-allowed : (ps : List ℕ) → IsAllowed requests.Poll (reply_to_poll r g s ps)
-  poll-allowed [] = refl
-  poll-allowed (p ∷ ps) = refl
+  due-allowed : (ps : List ℕ) → allows requests.Poll (full_reply A (reply_to_poll r (K.kept g) s ps)) ≡ true
+  due-allowed [] = refl
+  due-allowed (p ∷ ps) = refl
 
   pub worlds-shaped : (p : ℕ) → All (λ (v : List ℤ). length v ≡ r.world.shape.attrs) (serial_world r.world.values (actions_of H) p)
   worlds-shaped p =
       serial_shaped r.world.shape.attrs r.world.values (actions_of H) p shaped
       (All-from_recursion (λ (a : Action). All (λ x. x < length r.world.values) (read_set a)) (actions_of H)
-      (good-reads (length r.world.values) (IsGoodAction r.world.shape) A (λ a good. subst (λ (n : ℕ). All (λ x. x < n) (read_set a)) (sym count) good.objects) (accepted-good r H legal)))
+      (good-reads (length r.world.values) (IsGoodAction r.world.shape) A (λ a good. subst (λ (n : ℕ). All (λ x. x < n) (read_set a)) (sym count) good.objects) (accepted-good K keeps r H legal)))
 
-  done-good : (results : List Done1) → e.request ≡ requests.Done results → is_bad_done r g s results ≡ false
-  done-good results is =
-      let d = done-when who L.first whole s (length (got whole s)) results (asking ∙ ap Some is) in
+  -- The results that the client itself reports of the relay that it got are not bad.
+  own-good : (results : List Done1) → slice_get (asked L.client L.interest whole s) (length (got whole s)) ≡ Some (requests.Done results) → is_bad_done r (K.kept g) s results ≡ false
+  own-good results is =
+      let d = done-when who L.first whole s (length (got whole s)) results is in
       let reply : Reply = replies.Relay d.seq d.commit d.head d.items in
       let t : List Event = d.before in
       let v : List Event = events.Got s reply ∷ t in
@@ -247,44 +269,60 @@ module _ (r : Rules) (H : List Entry) (Ls : List Trace) (legal : Legal r H) (fit
       let m = length (got t s) in
       let there : slice_get (got whole s) m ≡ Some reply =
       got-part who L.first v whole d.part s m reply (ap (λ (rs : List Reply). slice_get rs m) (cond-true (s == s) (got t s ++ reply ∷ []) (got t s) (eq-eqb s s refl)) ∙ get-last (got t s) reply) in
-      let x = got-at r H Ls legal fits i L member s current few e g b mine next s m reply there in
+      let x = got-at K r H L served owns s current few e g b mine next s m reply there in
       let bx : IsEarlier (x.entry ∷ x.before) H = earlier-then (x.entry ∷ x.before) g H x.there earlier in
-      let lx : Legal r (x.entry ∷ x.before) = earlier-legal r (x.entry ∷ x.before) H bx legal in
+      let lx : LegalFor K r (x.entry ∷ x.before) = earlier-served K r (x.entry ∷ x.before) H bx legal in
       let ks = positions_in x.entry.reply in
       let items : d.items ≡ map (item_at A) ks = ap items_of x.replied ∙ items-logged A x.entry.reply in
-      let low = positions-low r x.entry x.before lx x.entry.reply refl in
+      let low = positions-low K keeps r x.entry x.before lx x.entry.reply refl in
       let bad_relay : is_bad_relay who (pending_of t) a.request d.seq d.items ≡ false = relay-part a.request d.seq d.commit d.head d.items t a.good a.kind in
       let some_items : (length d.items == 0) ≡ false = (or_parts (length d.items == 0) _ (or_parts _ (not (is_good_relay who (pending_of t) a.request d.seq d.items)) bad_relay).0).0 in
       let many : length d.items ≡ length ks = ap length items ∙ length-map ks (item_at A) in
-      let small : length ks ≤ r.bound + 1 = (all-small r (x.entry ∷ x.before) lx).0 in
+      let small : length ks ≤ r.bound + 1 = (all-small K keeps r (x.entry ∷ x.before) lx).0 in
       let session : x.entry.session ≡ s = (of-parts x.entry s x.of_it).0 in
-      let well = well-after r H Ls count legal fits H same (noted-serial r H Ls count legal fits) v
-      (λ o. front-then (got v o) (got whole o) (replies_in A H o) (got-part who L.first v whole d.part o) (got-replied r H legal L this_one o)) in
+      let well = well-after K keeps r H count legal H same serial v
+      (λ o. front-then (got v o) (got whole o) (replies_in A H o) (got-part who L.first v whole d.part o) (got-replied K r H L served o)) in
       let held = held_of t ++ head_held d.commit d.head in
       let results_are : results ≡ results_of held (map (item_at A) ks) = d.results_are ∙ ap (results_of held) items in
-      subst (λ (rs : List Done1). is_bad_done r g s rs ≡ false) (sym results_are)
-      (good-done r H count shaped (plain r H Ls count legal fits) g earlier s worlds-shaped held ks low.0 (ap (λ (n : ℕ). n == 0) (sym many) ∙ some_items) (omega arith)
+      subst (λ (rs : List Done1). is_bad_done r (K.kept g) s rs ≡ false) (sym results_are)
+      (good-done r H count shaped (plain-acts K keeps r H count legal) (K.kept g) here s worlds-shaped held ks low.0 (ap (λ (n : ℕ). n == 0) (sym many) ∙ some_items) (omega arith)
       (λ j m. (
         low.1 j m,
         (
-          (let w : j ≤ length (accepted (x.entry ∷ x.before)) = positions-within r x.entry x.before lx x.entry.reply refl j m in let grows : length (accepted (x.entry ∷ x.before)) ≤ length (accepted g) = accepted-grows (x.entry ∷ x.before) g x.there in omega arith),
-          sent-stays (x.entry ∷ x.before) g x.there s j (sent-now x.entry x.before s j session m),
+          (let w : j ≤ length (accepted (x.entry ∷ x.before)) = positions-within K keeps r x.entry x.before lx x.entry.reply refl j m in
+              let grows : length (accepted (x.entry ∷ x.before)) ≤ length (accepted g) = accepted-grows (x.entry ∷ x.before) g x.there in
+              let all : length (accepted (K.kept g)) ≡ length (accepted g) = ap length (accepted-kept K keeps g) in
+              omega arith),
+          ap (is_in j) (sent-kept K keeps g s) ∙ sent-stays (x.entry ∷ x.before) g x.there s j (sent-now x.entry x.before s j session m),
         ),
       ))
       (subst (λ (is : List Item). AllByRecursion (IsSerialResult r.world.values (actions_of H)) (results_of held is)) items well.reported.0))
     where
+      here : (j : ℕ) → j ≤ length (accepted (K.kept g)) → action_at (actions_of H) j ≡ action_at (actions_of (K.kept g)) j
+      here j l = kept-action K keeps r H g earlier j (subst (λ (n : ℕ). j ≤ n) (ap length (accepted-kept K keeps g)) l)
+
       relay-part : (q : Request) (seq commit : ℕ) (head : List Sent) (items : List Item) (t : List Event) → has_bad_item who (pending_of t) q (replies.Relay seq commit head items) ≡ false →
           allows q (replies.Relay seq commit head items) ≡ true → is_bad_relay who (pending_of t) q seq items ≡ false
       relay-part q seq commit head items t f kind = (or_parts (is_bad_head who.shape head) (is_bad_relay who (pending_of t) q seq items) f).1
 
+  -- And so are those of a Done that differs from its own in the values alone.
+  done-good : (results : List Done1) → e.request ≡ requests.Done results → is_bad_done r (K.kept g) s results ≡ false
+  done-good results is =
+      let x = asks K r H L served owns s current e g b mine next in
+      let own = done-other x.0 results (subst (AreSameButValues x.0) is x.1.1) in
+      sym (done-form r (K.kept g) s own.0 results own.1.1) ∙ own-good own.0 (x.1.0 ∙ ap Some own.1.0)
+
   -- The reply is one that the request may have.
   pub allowed : (q : Request) → e.request ≡ q → allows q (full_reply A e.reply) ≡ true
   allowed (requests.Join client life interest) is =
-      subst (IsAllowed (requests.Join client life interest)) (sym (join-welcomed r H Ls legal fits i L member s current few e g b mine next client life interest is).0) refl
-  allowed (requests.Submit n a) is = subst (IsAllowed (requests.Submit n a)) (sym (member-reply (requests.Submit n a) is refl refl)) (submit-allowed n a is)
+      subst (λ (y : Logged). allows (requests.Join client life interest) (full_reply A y) ≡ true) (sym (join-welcomed K r H L served owns s current few e g b mine next client life interest is).0) refl
+  allowed (requests.Submit n a) is =
+      subst (λ (y : Logged). allows (requests.Submit n a) (full_reply A y) ≡ true) (sym (member-reply (requests.Submit n a) is refl refl)) (submit-allowed n a is)
   allowed (requests.Done results) is =
-      subst (IsAllowed (requests.Done results)) (sym (member-reply (requests.Done results) is refl refl ∙ cond-false (is_bad_done r g s results) (refused 7 0) (logged.Noted (commit_with g s results)) (done-good results is))) refl
-  allowed requests.Poll is = subst (IsAllowed requests.Poll) (sym (member-reply requests.Poll is refl refl)) (poll-allowed (orphans g))
-  allowed requests.Leave is = subst (IsAllowed requests.Leave) (sym (member-reply requests.Leave is refl refl)) refl
-  allowed requests.Bad is = absurd (never-bad who L.first whole s (length (got whole s)) (asking ∙ ap Some is))
+      subst (λ (y : Logged). allows (requests.Done results) (full_reply A y) ≡ true) (sym (member-reply (requests.Done results) is refl refl
+      ∙ ap (with_last_rows K r g s (requests.Done results)) (cond-false (is_bad_done r (K.kept g) s results) (refused 7 0) (logged.Noted (commit_with (K.kept g) s results)) (done-good results is)))) refl
+  allowed requests.Poll is =
+      subst (λ (y : Logged). allows requests.Poll (full_reply A y) ≡ true) (sym (member-reply requests.Poll is refl refl ∙ polled K r g s (orphans (K.kept g)))) (due-allowed (K.due g s))
+  allowed requests.Leave is = subst (λ (y : Logged). allows requests.Leave (full_reply A y) ≡ true) (sym (member-reply requests.Leave is refl refl)) refl
+  allowed requests.Bad is = absurd (never-bad who L.first whole s (length (got whole s)) (asking requests.Bad is refl))
   allowed requests.End is = absurd (true≢false (sym (ap is_end is) ∙ (of-parts e s mine).1))

@@ -3,7 +3,6 @@ use Rattle.std.proofs.Common.{◌≡◌, ℕ, ◌+◌, ◌<◌, ◌≤◌, true,
 use Rattle.std.proofs.lemmas.Bool.{cond-true, cases_eq}
 use Rattle.std.proofs.lemmas.Option.{none-some, same_Some, slice_get_within}
 use Rattle.sv_world.specs.declared.world.ObjectId.{ObjectId}
-use Rattle.sv_wire.specs.declared.message.Done1.{Done1}
 use Rattle.sv_wire.specs.declared.message.Request.{Request}
 use Rattle.sv_wire.specs.declared.message.Request.TheVariants as requests
 use Rattle.sv_wire.specs.declared.message.Reply.{Reply}
@@ -11,60 +10,64 @@ use Rattle.sv_journal.specs.declared.entry.Entry.{Entry}
 use Rattle.sv_journal.specs.declared.entry.Logged.{Logged}
 use Rattle.sv_journal.specs.declared.entry.Logged.TheVariants as logged
 use Rattle.sv_journal.specs.History.{Authored, accepted, full_reply, commit_of}
-use Rattle.sv_journal.specs.Answer.{Rules, committed_held, commit_with, Legal}
+use Rattle.sv_journal.specs.Answer.{Rules, committed_held}
+use Rattle.sv_journal.specs.Serving.{Keeping, LegalFor, IsKeeping}
 use Rattle.sv_client.specs.declared.trace.Event.{Event}
 use Rattle.sv_client.specs.declared.trace.Event.TheVariants as events
 use Rattle.sv_client.specs.declared.trace.Trace.{Trace}
 use Rattle.sv_client.specs.Traces.{joins, current_session, asked, got}
 use Rattle.sv_client.specs.Taking.{Identity, commit_in, told_with, told}
 use Rattle.sv_client.specs.Proper.{identity_of}
-use Rattle.sv_system.specs.Fits.{replies_in, FitsOne, Fits}
+use Rattle.sv_system.specs.Fits.{replies_in}
+use Rattle.sv_system.specs.Served.{OwnsSessions, FitsButValues}
 use Rattle.sv_system.proofs.Fronts.{get-last, fronts-same}
-use Rattle.sv_system.proofs.Histories.{IsEarlier, same, after, earlier-then, earlier-rest, earlier-legal}
-use Rattle.sv_system.proofs.Replies.{Tells, IsRelayReply, IsWelcomeReply, legal-tells}
+use Rattle.sv_system.proofs.Histories.{IsEarlier, same, after, earlier-then, earlier-rest, earlier-served, earlier-kept}
+use Rattle.sv_system.proofs.Replies.{commit_after, TellsFor, IsRelayReply, IsWelcomeReply, served-tells}
+use Rattle.sv_system.proofs.Asking.{IsServed, request-other}
 use Rattle.sv_system.proofs.Commits.{commit-grows}
 use Rattle.sv_system.proofs.Entered.{earlier-cases, is_of, of-parts, replies-earlier, IsEntered, entered, over-stays}
 use Rattle.sv_system.proofs.Asked.{IsPart, part-rest, asked-part, got-part, got-when, got-answers, begun-or_not, current-last}
 use Rattle.sv_system.proofs.Order.{get-some, got-replied, IsWelcomed, welcomed-at, older-over, earlier-strict, got-not_over}
-use Rattle.sv_system.proofs.Opened.{one, asks}
+use Rattle.sv_system.proofs.Opened.{asks}
 use Rattle.sv_system.proofs.Begun.{join-welcomed}
 
-pub noted-commit : (d : Entry) (h : List Entry) (s commit : ℕ) (results : List Done1) → d.request ≡ requests.Done results → d.reply ≡ logged.Noted commit → commit_with h s results ≡ commit_of (d ∷ h)
-noted-commit d h s commit results q y =
-    sym (ap (λ (p : Request). commit_of (record { session = d.session; request = p; reply = d.reply } ∷ h)) q
-    ∙ ap (λ (p : Logged). commit_of (record { session = d.session; request = requests.Done results; reply = p } ∷ h)) y)
+-- The commit that a Noted tells is that after its entry.
+pub noted-commit : (K : Keeping) → IsKeeping K → (d : Entry) (h : List Entry) (commit : ℕ) → d.reply ≡ logged.Noted commit → commit_after K h d.session d.request ≡ commit_of (K.kept (d ∷ h))
+noted-commit K keeps d h commit y =
+    sym (keeps.noted h d.session commit d.request)
+    ∙ sym (ap (λ (p : Logged). commit_of (K.kept (record { session = d.session; request = d.request; reply = p } ∷ h))) y)
 
 -- The commit that a reply tells is at most that of any later history.
-pub told-most : (r : Rules) (A : List Authored) (d : Entry) (h g : List Entry) → Legal r (d ∷ h) → IsEarlier (d ∷ h) g → (reply : Logged) → d.reply ≡ reply → (c : ℕ) → commit_in (full_reply A reply) ≡ Some c → c ≤ commit_of g
-told-most r A d h g l b (logged.Welcome commit head) is c e =
-    let t : IsWelcomeReply r h d.session d.request commit head = subst (λ (y : Logged). Tells r h d.session d.request y) is (legal-tells r d h l) in
-    let a : commit_of h ≤ commit_of g = commit-grows h g (earlier-rest h d g b) in
+pub told-most : (K : Keeping) (keeps : IsKeeping K) (r : Rules) (A : List Authored) (d : Entry) (h g : List Entry) → LegalFor K r (d ∷ h) → IsEarlier (d ∷ h) g → (reply : Logged) → d.reply ≡ reply → (c : ℕ) → commit_in (full_reply A reply) ≡ Some c → c ≤ commit_of (K.kept g)
+told-most K keeps r A d h g l b (logged.Welcome commit head) is c e =
+    let t : IsWelcomeReply K r h d.session d.request commit head = subst (λ (y : Logged). TellsFor K r h d.session d.request y) is (served-tells K keeps r d h l) in
+    let a : commit_of (K.kept h) ≤ commit_of (K.kept g) = commit-grows (K.kept h) (K.kept g) (earlier-kept K keeps h g (earlier-rest h d g b)) in
     let f : commit ≡ c = same_Some commit c e in
-    let w : commit ≡ commit_of h = t.commit_is in
+    let w : commit ≡ commit_of (K.kept h) = t.commit_is in
     omega arith
-told-most r A d h g l b (logged.Relay seq commit head positions) is c e =
-    let t : IsRelayReply r h d.session d.request commit head positions = subst (λ (y : Logged). Tells r h d.session d.request y) is (legal-tells r d h l) in
-    let a : commit_of h ≤ commit_of g = commit-grows h g (earlier-rest h d g b) in
+told-most K keeps r A d h g l b (logged.Relay seq commit head positions) is c e =
+    let t : IsRelayReply K r h d.session d.request commit head positions = subst (λ (y : Logged). TellsFor K r h d.session d.request y) is (served-tells K keeps r d h l) in
+    let a : commit_of (K.kept h) ≤ commit_of (K.kept g) = commit-grows (K.kept h) (K.kept g) (earlier-kept K keeps h g (earlier-rest h d g b)) in
     let f : commit ≡ c = same_Some commit c e in
-    let w : commit ≡ commit_of h = t.commit_is in
+    let w : commit ≡ commit_of (K.kept h) = t.commit_is in
     omega arith
-told-most r A d h g l b (logged.Noted commit) is c e =
-    let t : Tells r h d.session d.request (logged.Noted commit) = subst (λ (y : Logged). Tells r h d.session d.request y) is (legal-tells r d h l) in
-    let a : commit_of (d ∷ h) ≤ commit_of g = commit-grows (d ∷ h) g b in
+told-most K keeps r A d h g l b (logged.Noted commit) is c e =
+    let t : TellsFor K r h d.session d.request (logged.Noted commit) = subst (λ (y : Logged). TellsFor K r h d.session d.request y) is (served-tells K keeps r d h l) in
+    let a : commit_of (K.kept (d ∷ h)) ≤ commit_of (K.kept g) = commit-grows (K.kept (d ∷ h)) (K.kept g) (earlier-kept K keeps (d ∷ h) g b) in
     let f : commit ≡ c = same_Some commit c e in
-    let w : commit ≡ commit_of (d ∷ h) = t.1.1 ∙ noted-commit d h d.session commit t.0 t.1.0 is in
+    let w : commit ≡ commit_of (K.kept (d ∷ h)) = t.1.1 ∙ noted-commit K keeps d h commit is in
     omega arith
-told-most r A d h g l b (logged.Dropped seq chain far) is c e = absurd (none-some c e)
-told-most r A d h g l b (logged.Settled seq pos) is c e = absurd (none-some c e)
-told-most r A d h g l b logged.Idle is c e = absurd (none-some c e)
-told-most r A d h g l b (logged.Refused code detail) is c e = absurd (none-some c e)
-told-most r A d h g l b logged.Bye is c e = absurd (none-some c e)
+told-most K keeps r A d h g l b (logged.Dropped seq chain far) is c e = absurd (none-some c e)
+told-most K keeps r A d h g l b (logged.Settled seq pos) is c e = absurd (none-some c e)
+told-most K keeps r A d h g l b logged.Idle is c e = absurd (none-some c e)
+told-most K keeps r A d h g l b (logged.Refused code detail) is c e = absurd (none-some c e)
+told-most K keeps r A d h g l b logged.Bye is c e = absurd (none-some c e)
 
 with-most : (o : Option ℕ) (n m : ℕ) → ((c : ℕ) → o ≡ Some c → c ≤ m) → n ≤ m → told_with o n ≤ m
 with-most None n m f l = l
 with-most (Some c) n m f l = (let k : c ≤ m = f c refl in omega arith)
 
-module _ (r : Rules) (H : List Entry) (Ls : List Trace) (legal : Legal r H) (fits : Fits r.world.shape H Ls) (i : ℕ) (L : Trace) (member : slice_get Ls i ≡ Some L)
+module _ (K : Keeping) (r : Rules) (H : List Entry) (L : Trace) (served : IsServed K r H L) (owns : OwnsSessions H L)
     (s : ℕ) (current : current_session (reverse L.events) ≡ Some s) (few : length (asked L.client L.interest (reverse L.events) s) ≤ 1024)
     (e : Entry) (g : List Entry) (b : IsEarlier (e ∷ g) H) (mine : is_of e s ≡ true) (next : length (replies_in (accepted H) g s) ≡ length (got (reverse L.events) s)) where
   abbrev whole : List Event
@@ -76,25 +79,33 @@ module _ (r : Rules) (H : List Entry) (Ls : List Trace) (legal : Legal r H) (fit
   abbrev who : Identity
   who = identity_of r.world.shape L
 
-  abbrev this_one : FitsOne r.world.shape H L
-  this_one = one r H Ls legal fits i L member
+  abbrev this_one : FitsButValues r.world.shape H L
+  this_one = served.fits
+
+  abbrev keeps : IsKeeping K
+  keeps = served.keeps
+
+  abbrev legal : LegalFor K r H
+  legal = served.legal
 
   earlier : IsEarlier g H
   earlier = earlier-rest g e H b
 
   -- What was got in the session is just what it was answered before.
   pub got-same : got whole s ≡ replies_in A g s
-  got-same = fronts-same (got whole s) (replies_in A g s) (replies_in A H s) (got-replied r H legal L this_one s) (replies-earlier A g H earlier s) (sym next)
+  got-same = fronts-same (got whole s) (replies_in A g s) (replies_in A H s) (got-replied K r H L served s) (replies-earlier A g H earlier s) (sym next)
 
-  first-welcomed : length (got whole s) ≡ 0 → IsWelcomed r H legal L this_one (e ∷ g) s
+  first-welcomed : length (got whole s) ≡ 0 → IsWelcomed K r H L served (e ∷ g) s
   first-welcomed z =
       elim (begun-or_not who L.first whole this_one.proper.events s) [
         | inl n ↦ absurd (n.1 current)
         | inr begun ↦
-            (let first : e.request ≡ requests.Join L.client begun.life L.interest =
-            same_Some e.request (requests.Join L.client begun.life L.interest)
-            (sym (ap (slice_get (asked L.client L.interest whole s)) (sym z) ∙ asks r H Ls legal fits i L member s current e g b mine next) ∙ ap (λ (qs : List Request). slice_get qs 0) begun.asked_are) in
-            let w = join-welcomed r H Ls legal fits i L member s current few e g b mine next L.client begun.life L.interest first in
+            (let join = requests.Join L.client begun.life L.interest in
+            let x = asks K r H L served owns s current e g b mine next in
+            let first : e.request ≡ join =
+            request-other x.0 e.request join x.1.1
+            (same_Some x.0 join (sym (ap (slice_get (asked L.client L.interest whole s)) (sym z) ∙ x.1.0) ∙ ap (λ (qs : List Request). slice_get qs 0) begun.asked_are)) refl in
+            let w = join-welcomed K r H L served owns s current few e g b mine next L.client begun.life L.interest first in
             record {
               entry = e;
               before = g;
@@ -102,14 +113,14 @@ module _ (r : Rules) (H : List Entry) (Ls : List Trace) (legal : Legal r H) (fit
               session = (of-parts e s mine).0;
               life = begun.life;
               numbered = begun.numbered;
-              welcome = record { interest = L.interest; commit = commit_of g; head = committed_held r g (map (λ (o : ObjectId). o.0) L.interest); request = first; reply = w.0 };
+              welcome = record { interest = L.interest; commit = commit_of (K.kept g); head = committed_held r (K.kept g) (map (λ (o : ObjectId). o.0) L.interest); request = first; reply = w.0 };
             })
       ]
 
-  later-welcomed : 0 < length (got whole s) → IsWelcomed r H legal L this_one (e ∷ g) s
+  later-welcomed : 0 < length (got whole s) → IsWelcomed K r H L served (e ∷ g) s
   later-welcomed l =
       let f = get-some (got whole s) 0 l in
-      let w = welcomed-at r H legal L this_one g earlier s f.0 f.1 (ap (λ (rs : List Reply). slice_get rs 0) (sym got-same) ∙ f.1) in
+      let w = welcomed-at K r H L served g earlier s f.0 f.1 (ap (λ (rs : List Reply). slice_get rs 0) (sym got-same) ∙ f.1) in
       record {
         entry = w.entry;
         before = w.before;
@@ -121,7 +132,7 @@ module _ (r : Rules) (H : List Entry) (Ls : List Trace) (legal : Legal r H) (fit
       }
 
   -- The session was welcomed by now.
-  pub welcomed-now : IsWelcomed r H legal L this_one (e ∷ g) s
+  pub welcomed-now : IsWelcomed K r H L served (e ∷ g) s
   welcomed-now = elim (cases_eq (length (got whole s)) 0) [ inl z ↦ first-welcomed z | inr z ↦ later-welcomed (omega arith) ]
 
   -- Each reply that was got was given at an entry before.
@@ -140,7 +151,7 @@ module _ (r : Rules) (H : List Entry) (Ls : List Trace) (legal : Legal r H) (fit
 
   got-other : (o n : ℕ) (reply : Reply) → (o ≡ s → ⊥) → slice_get (got whole o) n ≡ Some reply → IsGotAt o n reply
   got-other o n reply other is =
-      let x = entered A H o n reply (got-replied r H legal L this_one o n reply is) in
+      let x = entered A H o n reply (got-replied K r H L served o n reply is) in
       let apart : x.entry.session ≡ e.session → ⊥ = λ q. other (sym (of-parts x.entry o x.of_it).0 ∙ q ∙ (of-parts e s mine).0) in
       elim (earlier-cases (x.entry ∷ x.before) (e ∷ g) H x.earlier b) [
         | inl c ↦ elim (earlier-strict (x.entry ∷ x.before) e g c) [
@@ -161,7 +172,7 @@ module _ (r : Rules) (H : List Entry) (Ls : List Trace) (legal : Legal r H) (fit
       too-late o n reply other is x d =
           let w = welcomed-now in
           let zero' = get-some (got whole o) 0 (let l : n < length (got whole o) = slice_get_within (got whole o) n reply is in omega arith) in
-          let v = welcomed-at r H legal L this_one H same o zero'.0 zero'.1 (got-replied r H legal L this_one o 0 zero'.0 zero'.1) in
+          let v = welcomed-at K r H L served H same o zero'.0 zero'.1 (got-replied K r H L served o 0 zero'.0 zero'.1) in
           let gw = got-when who L.first whole o n reply is in
           let ans = got-answers who L.first whole this_one.proper.events o n reply gw in
           elim (begun-or_not who L.first whole this_one.proper.events o) [
@@ -174,8 +185,8 @@ module _ (r : Rules) (H : List Entry) (Ls : List Trace) (legal : Legal r H) (fit
                 let n3 : o + 1 ≡ L.first + v.life = v.numbered in
                 let n4 : s + 1 ≡ L.first + w.life = w.numbered in
                 let lower : v.life < w.life = omega arith in
-                got-not_over r H legal L this_one o n reply is x.entry x.before x.earlier x.of_it x.replied
-                (over-stays (e ∷ g) x.before d o (older-over r H legal L this_one s o (e ∷ g) b w v lower)))
+                got-not_over K r H L served o n reply is x.entry x.before x.earlier x.of_it x.replied
+                (over-stays (e ∷ g) x.before d o (older-over K r H L served s o (e ∷ g) b w v lower)))
           ]
 
   pub got-at : (o n : ℕ) (reply : Reply) → slice_get (got whole o) n ≡ Some reply → IsGotAt o n reply
@@ -186,15 +197,15 @@ module _ (r : Rules) (H : List Entry) (Ls : List Trace) (legal : Legal r H) (fit
       ]
 
   -- The client was told no greater commit than the next reply's.
-  pub told-before : (t : List Event) → IsPart t whole → told t ≤ commit_of g
+  pub told-before : (t : List Event) → IsPart t whole → told t ≤ commit_of (K.kept g)
   told-before [] p = omega arith
   told-before (events.Got o reply ∷ t) p =
-      let less : told t ≤ commit_of g = told-before t (part-rest t (events.Got o reply) whole p) in
+      let less : told t ≤ commit_of (K.kept g) = told-before t (part-rest t (events.Got o reply) whole p) in
       let there : slice_get (got whole o) (length (got t o)) ≡ Some reply =
       got-part who L.first (events.Got o reply ∷ t) whole p o (length (got t o)) reply (ap (λ (rs : List Reply). slice_get rs (length (got t o))) (cond-true (o == o) (got t o ++ reply ∷ []) (got t o) (eq-eqb o o refl)) ∙ get-last (got t o) reply) in
       let x = got-at o (length (got t o)) reply there in
-      with-most (commit_in reply) (told t) (commit_of g)
-      (λ c f. told-most r A x.entry x.before g (earlier-legal r (x.entry ∷ x.before) H (earlier-then (x.entry ∷ x.before) g H x.there earlier) legal) x.there x.entry.reply refl c (ap commit_in (sym x.replied) ∙ f)) less
+      with-most (commit_in reply) (told t) (commit_of (K.kept g))
+      (λ c f. told-most K keeps r A x.entry x.before g (earlier-served K r (x.entry ∷ x.before) H (earlier-then (x.entry ∷ x.before) g H x.there earlier) legal) x.there x.entry.reply refl c (ap commit_in (sym x.replied) ∙ f)) less
   told-before (events.Join o ∷ t) p = told-before t (part-rest t (events.Join o) whole p)
   told-before (events.Make action ∷ t) p = told-before t (part-rest t (events.Make action) whole p)
   told-before (events.Poll ∷ t) p = told-before t (part-rest t events.Poll whole p)

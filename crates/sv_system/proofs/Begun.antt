@@ -1,5 +1,5 @@
 -- A client's Join is answered Welcome, and what it got in older sessions was answered before its next request.
-use Rattle.std.proofs.Common.{◌≡◌, ℕ, suc, ◌+◌, ◌<◌, ◌≤◌, max, true, false, ◌&&◌, not, nat_le, nat_lt, inl, inr, List, [], ◌∷◌, map, reverse, length, Option, Some, None, is_some, slice_get, refl, sym, ap, ap₂, ◌∙◌, arith, eqb-true, true≢false, lt-ltb, le-leb}
+use Rattle.std.proofs.Common.{◌≡◌, ℕ, suc, ◌+◌, ◌<◌, ◌≤◌, max, true, false, ◌&&◌, not, nat_le, nat_lt, inl, inr, List, [], ◌∷◌, map, reverse, length, Option, Some, None, is_some, refl, sym, ap, ap₂, ◌∙◌, arith, eqb-true, true≢false, lt-ltb, le-leb, subst}
 use Rattle.std.specs.List.{list_all, AllByRecursion}
 use Rattle.std.proofs.lemmas.Bool.{cond-true, cond-false, cases_Bool, cases_lt, and_parts, and_from, and_left, lt-leb}
 use Rattle.std.proofs.lemmas.List.{length-append, length-map}
@@ -14,17 +14,21 @@ use Rattle.sv_journal.specs.declared.entry.Entry.{Entry}
 use Rattle.sv_journal.specs.declared.entry.Logged.TheVariants as logged
 use Rattle.sv_journal.specs.History.{Authored, accepted, client_of, is_client, is_welcome, joining, full_reply, commit_of}
 use Rattle.sv_journal.specs.Sessions.{is_end, welcomes, is_joined, is_over, is_live, asked_in, life_in, life_of}
-use Rattle.sv_journal.specs.Answer.{Rules, committed_held, is_good_interest, reply_to_join, reply_to_open, reply_to_request, reply_to, refused, Legal}
+use Rattle.sv_journal.specs.Answer.{Rules, committed_held, is_good_interest, reply_to_join, reply_to_open, reply_to_request, reply_to, refused}
+use Rattle.sv_journal.specs.Serving.{Keeping, with_last_rows, reply_for, LegalFor, IsKeeping}
+use Rattle.sv_journal.proofs.Kept.{over-kept, asked-kept, life-kept, live-kept}
 use Rattle.sv_client.specs.declared.trace.Event.{Event}
 use Rattle.sv_client.specs.declared.trace.Trace.{Trace}
 use Rattle.sv_client.specs.Traces.{joins, current_session, asked, got}
 use Rattle.sv_client.specs.Proper.{identity_of}
-use Rattle.sv_system.specs.Fits.{requests_in, replies_in, FitsOne, Fits}
-use Rattle.sv_system.proofs.Histories.{IsEarlier, same, after, earlier-then, earlier-rest, earlier-legal}
-use Rattle.sv_system.proofs.Entered.{is_of, of-parts, of-from, as-many}
+use Rattle.sv_system.specs.Fits.{requests_in, replies_in}
+use Rattle.sv_system.specs.Served.{OwnsSessions, FitsButValues}
+use Rattle.sv_system.proofs.Histories.{IsEarlier, same, after, earlier-then, earlier-rest, earlier-served}
+use Rattle.sv_system.proofs.Entered.{is_of, of-parts, of-from, as-many, IsWelcome}
+use Rattle.sv_system.proofs.Asking.{IsServed}
 use Rattle.sv_system.proofs.Asked.{current-last}
 use Rattle.sv_system.proofs.Leaving.{IsJoinAsked, join-asked}
-use Rattle.sv_system.proofs.Opened.{welcomed-by, one, own-join, asks, was-got, not-over}
+use Rattle.sv_system.proofs.Opened.{welcome-of, welcomed-by, own-join, asks, asks-other, was-got, not-over}
 
 asked-count : (h : List Entry) (s : ℕ) → asked_in h s ≡ length (requests_in h s)
 asked-count [] s = refl
@@ -92,7 +96,7 @@ open-reply r g s q f o l = end-apart q f ∙ cond-false (is_over g s) (refused 4
     end-apart requests.Bad f = refl
     end-apart requests.End f = absurd (true≢false f)
 
-module _ (r : Rules) (H : List Entry) (Ls : List Trace) (legal : Legal r H) (fits : Fits r.world.shape H Ls) (i : ℕ) (L : Trace) (member : slice_get Ls i ≡ Some L)
+module _ (K : Keeping) (r : Rules) (H : List Entry) (L : Trace) (served : IsServed K r H L) (owns : OwnsSessions H L)
     (s : ℕ) (current : current_session (reverse L.events) ≡ Some s) (few : length (asked L.client L.interest (reverse L.events) s) ≤ 1024)
     (e : Entry) (g : List Entry) (b : IsEarlier (e ∷ g) H) (mine : is_of e s ≡ true) (next : length (replies_in (accepted H) g s) ≡ length (got (reverse L.events) s)) where
   abbrev whole : List Event
@@ -104,35 +108,41 @@ module _ (r : Rules) (H : List Entry) (Ls : List Trace) (legal : Legal r H) (fit
   abbrev k : ℕ
   k = L.client.0
 
-  abbrev this_one : FitsOne r.world.shape H L
-  this_one = one r H Ls legal fits i L member
+  abbrev this_one : FitsButValues r.world.shape H L
+  this_one = served.fits
 
-  asking : slice_get (asked L.client L.interest whole s) (length (got whole s)) ≡ Some e.request
-  asking = asks r H Ls legal fits i L member s current e g b mine next
+  abbrev keeps : IsKeeping K
+  keeps = served.keeps
+
+  abbrev legal : LegalFor K r H
+  legal = served.legal
 
   pub open' : is_over g s ≡ false
-  open' = not-over r H Ls legal fits i L member s current e g b mine next
+  open' = not-over K r H L served owns s current e g b mine next
 
   earlier : IsEarlier g H
   earlier = earlier-rest g e H b
 
   pub unspent : asked_in g s < 1024
   unspent =
+      let request = asks K r H L served owns s current e g b mine next in
       let a : asked_in g s ≡ length (requests_in g s) = asked-count g s in
       let c : length (replies_in A g s) ≡ length (requests_in g s) = as-many A g s in
-      let n : length (got whole s) < length (asked L.client L.interest whole s) = slice_get_within (asked L.client L.interest whole s) (length (got whole s)) e.request asking in
+      let n : length (got whole s) < length (asked L.client L.interest whole s) = slice_get_within (asked L.client L.interest whole s) (length (got whole s)) request.0 request.1.0 in
       omega (arith, next)
 
-  pub replied : e.reply ≡ reply_to_open r g s e.request
+  pub replied : e.reply ≡ with_last_rows K r g s e.request (reply_to_open r (K.kept g) s e.request)
   replied =
       let parts = of-parts e s mine in
-      (earlier-legal r (e ∷ g) H b legal).0 ∙ ap (λ (n : ℕ). reply_to r g n e.request) parts.0 ∙ open-reply r g s e.request parts.1 open' unspent
+      let few_asked : asked_in (K.kept g) s < 1024 = subst (λ (n : ℕ). n < 1024) (sym (asked-kept K keeps g s)) unspent in
+      (earlier-served K r (e ∷ g) H b legal).0 ∙ ap (λ (n : ℕ). reply_for K r g n e.request) parts.0
+      ∙ ap (with_last_rows K r g s e.request) (open-reply r (K.kept g) s e.request parts.1 (over-kept K keeps g s ∙ open') few_asked)
 
   -- Nothing of the session was answered before where the request is its first.
   none-before : length (got whole s) ≡ 0 → (d : Entry) (h : List Entry) → IsEarlier (d ∷ h) g → is_of d s ≡ true → ⊥
   none-before z d h c t =
       let l : length (replies_in A h s) < length (got whole s) =
-      slice_get_within (got whole s) (length (replies_in A h s)) (full_reply A d.reply) (was-got r H Ls legal fits i L member s current e g b mine next d h c t) in
+      slice_get_within (got whole s) (length (replies_in A h s)) (full_reply A d.reply) (was-got K r H L served owns s current e g b mine next d h c t) in
       absurd (omega arith)
 
   fresh-client : length (got whole s) ≡ 0 → (o : Option ℕ) → client_of g s ≡ o → client_of g s ≡ None
@@ -149,7 +159,9 @@ module _ (r : Rules) (H : List Entry) (Ls : List Trace) (legal : Legal r H) (fit
             (let v = lived-by g k life low l in
             let p = and_parts (is_welcome v.entry.reply) (is_client (joining v.entry.request) k) v.welcome in
             let q = join-parts v.entry.request k (client-some (joining v.entry.request) k p.1) in
-            let j = own-join r H Ls legal fits i L member v.entry v.before (earlier-then (v.entry ∷ v.before) g H v.earlier earlier) q.0 (life_in v.entry.request) q.1.0 q.1.1.0 q.1.1.1 in
+            let y = welcome-of v.entry.reply p.0 in
+            let welcome : IsWelcome v.entry q.0 (life_in v.entry.request) = record { interest = q.1.0; commit = y.0; head = y.1.0; request = q.1.1.0; reply = y.1.1 } in
+            let j = own-join K r H L served owns v.entry v.before (earlier-then (v.entry ∷ v.before) g H v.earlier earlier) q.0 (life_in v.entry.request) welcome q.1.1.1 in
             let n1 : v.entry.session + 1 ≡ L.first + life_in v.entry.request = j.1.numbered in
             let l1 : life_in v.entry.request ≤ joins whole = j.1.among in
             let n2 : s + 1 ≡ L.first + joins whole = current-last (identity_of r.world.shape L) L.first whole this_one.proper.events s current in
@@ -169,22 +181,27 @@ module _ (r : Rules) (H : List Entry) (Ls : List Trace) (legal : Legal r H) (fit
       (all-below r.world.shape.objects L.interest (recursion_from_All (λ (o : ObjectId). o.0 < r.world.shape.objects) L.interest who.objects))
 
   join-reply : (life : ℕ) → client_of g s ≡ None → life_of g k < life →
-      reply_to_join r g s k life (map (λ (o : ObjectId). o.0) L.interest) ≡ logged.Welcome (commit_of g) (committed_held r g (map (λ (o : ObjectId). o.0) L.interest))
+      reply_to_join r (K.kept g) s k life (map (λ (o : ObjectId). o.0) L.interest)
+      ≡ logged.Welcome (commit_of (K.kept g)) (committed_held r (K.kept g) (map (λ (o : ObjectId). o.0) L.interest))
   join-reply life fresh later =
-      cond-false (is_live g s) (refused 3 0) _ (and_left (is_joined g s) (not (is_over g s)) (ap is_some fresh))
+      let lower : life_of (K.kept g) k < life = subst (λ (n : ℕ). n < life) (sym (life-kept K keeps g k)) later in
+      cond-false (is_live (K.kept g) s) (refused 3 0) _ (live-kept K keeps g s ∙ and_left (is_joined g s) (not (is_over g s)) (ap is_some fresh))
       ∙ cond-false (nat_le 32 k) (refused 10 0) _ (lt-leb 32 k this_one.proper.who.client)
-      ∙ cond-false (nat_le life (life_of g k)) (refused 11 (life_of g k)) _ (lt-leb life (life_of g k) later)
+      ∙ cond-false (nat_le life (life_of (K.kept g) k)) (refused 11 (life_of (K.kept g) k)) _ (lt-leb life (life_of (K.kept g) k) lower)
       ∙ cond-true (is_good_interest r.world.shape.objects (map (λ (o : ObjectId). o.0) L.interest)) _ (refused 8 0) good-interest
 
   -- A Join that is the next request is answered Welcome, with the interest's committed values.
   pub join-welcomed : (client : ClientId) (life : ℕ) (interest : List ObjectId) → e.request ≡ requests.Join client life interest →
-      (e.reply ≡ logged.Welcome (commit_of g) (committed_held r g (map (λ (o : ObjectId). o.0) L.interest)))
+      (e.reply ≡ logged.Welcome (commit_of (K.kept g)) (committed_held r (K.kept g) (map (λ (o : ObjectId). o.0) L.interest)))
       × IsJoinAsked (identity_of r.world.shape L) L.first whole s (length (got whole s)) client life interest
   join-welcomed client life interest is =
-      let j = join-asked (identity_of r.world.shape L) L.first whole this_one.proper.events s (length (got whole s)) client life interest (asking ∙ ap Some is) in
+      let join = requests.Join client life interest in
+      let j = join-asked (identity_of r.world.shape L) L.first whole this_one.proper.events s (length (got whole s)) client life interest
+      (asks-other K r H L served owns s current e g b mine next join is refl) in
       let z : length (got whole s) ≡ 0 = j.place in (
-        replied ∙ ap (reply_to_open r g s) is
-            ∙ ap₂ (λ (c : ClientId) (xs : List ObjectId). reply_to_join r g s c.0 life (map (λ (o : ObjectId). o.0) xs)) j.client_is j.interest_is
-            ∙ join-reply life (fresh-client z (client_of g s) refl) (later-life z life j.low j.numbered),
+        replied ∙ ap (λ (q : Request). with_last_rows K r g s q (reply_to_open r (K.kept g) s q)) is
+            ∙ ap (with_last_rows K r g s join)
+            (ap₂ (λ (c : ClientId) (xs : List ObjectId). reply_to_join r (K.kept g) s c.0 life (map (λ (o : ObjectId). o.0) xs)) j.client_is j.interest_is
+            ∙ join-reply life (fresh-client z (client_of g s) refl) (later-life z life j.low j.numbered)),
         j,
       )

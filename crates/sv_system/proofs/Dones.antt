@@ -24,8 +24,8 @@ use Rattle.sv_journal.specs.Answer.{Rules, is_bad_result, is_bad_done}
 use Rattle.sv_client.specs.Traces.{item_result, item_held, results_of}
 use Rattle.sv_system.specs.Journals.{serial_result}
 use Rattle.sv_system.proofs.Items.{IsPlain, item-action}
-use Rattle.sv_system.proofs.Reported.{IsSerialResult}
-use Rattle.sv_system.proofs.Histories.{IsEarlier, same, after, action_at-earlier}
+use Rattle.sv_system.specs.Journals.{IsSerialResult}
+use Rattle.sv_system.proofs.Histories.{IsEarlier, same, after}
 use Rattle.sv_system.proofs.Ordered.{positions-back}
 
 -- What a journal's relay to a session sends it, of which it is a part later on.
@@ -73,7 +73,8 @@ four-false false false false true e f g h = absurd (true≢false h)
 four-false false false false false e f g h = refl
 
 module _ (r : Rules) (H : List Entry) (count : length r.world.values ≡ r.world.shape.objects) (shaped : All (λ (v : List ℤ). length v ≡ r.world.shape.attrs) r.world.values)
-    (plain : (k : ℕ) → IsPlain r.world.shape.objects (action_at (actions_of H) k)) (g : List Entry) (b : IsEarlier g H) (s : ℕ) where
+    (plain : (k : ℕ) → IsPlain r.world.shape.objects (action_at (actions_of H) k))
+    (g : List Entry) (here : (k : ℕ) → k ≤ length (accepted g) → action_at (actions_of H) k ≡ action_at (actions_of g) k) (s : ℕ) where
   abbrev A : List Authored
   A = accepted H
 
@@ -109,7 +110,7 @@ module _ (r : Rules) (H : List Entry) (count : length r.world.values ≡ r.world
   good-result world-shaped held k low high sent serial =
       let values = item_result held (item_at A k) in
       let a = action_at (actions_of g) k in
-      let action : (item_at A k).action ≡ a = item-action A k ∙ action_at-earlier g H b k high in
+      let action : (item_at A k).action ≡ a = item-action A k ∙ here k high in
       let size : length values ≡ length (write_set a) =
       outcome_counted (item_at A k).action (map (λ x. unwrap_or (read_below held x k) []) (read_set (item_at A k).action))
       (length-map (read_set (item_at A k).action) (λ x. unwrap_or (read_below held x k) []) ∙ length-map (item_at A k).action.reads (λ (o : ObjectId). o.0))

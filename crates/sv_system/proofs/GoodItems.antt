@@ -1,5 +1,5 @@
 -- The next reply to a client has no bad item.
-use Rattle.std.proofs.Common.{◌≡◌, ℕ, zero, suc, ◌<◌, ◌≤◌, Bool, true, false, not, ◌||◌, ◌==◌, nat_le, nat_lt, inl, inr, List, [], ◌∷◌, map, reverse, length, ℤ, Option, Some, None, is_none, slice_get, refl, sym, ap, ◌∙◌, subst, arith, eq-eqb, true≢false}
+use Rattle.std.proofs.Common.{◌≡◌, ℕ, zero, suc, ◌<◌, ◌≤◌, Bool, true, false, not, ◌||◌, ◌==◌, nat_le, nat_lt, inl, inr, List, [], ◌∷◌, map, reverse, length, ℤ, Option, Some, None, is_none, refl, sym, ap, ◌∙◌, subst, arith, eq-eqb, true≢false}
 use Rattle.std.specs.Prelude.{All}
 use Rattle.std.specs.List.{list_any, AllByRecursion}
 use Rattle.std.proofs.lemmas.Bool.{cond_both, or_from, and_from, ne_eqb, not_from_true}
@@ -21,25 +21,29 @@ use Rattle.sv_journal.specs.declared.entry.Logged.{Logged}
 use Rattle.sv_journal.specs.declared.entry.Logged.TheVariants as logged
 use Rattle.sv_journal.specs.History.{Authored, Outcome, Accepted, Dropped, accepted, actions_of, next_seq, item_at, full_reply, commit_of}
 use Rattle.sv_journal.specs.Sessions.{kept_outcome, sent_to, already_given}
-use Rattle.sv_journal.specs.Answer.{Rules, committed_held, is_over_reach, reply_to_checked, reply_to_submit, orphans, reply_to_poll, Legal}
+use Rattle.sv_journal.specs.Answer.{Rules, committed_held, is_over_reach, reply_to_checked, reply_to_submit, orphans, reply_to_poll}
+use Rattle.sv_journal.specs.Serving.{Keeping, with_last_rows, LegalFor, IsKeeping}
 use Rattle.sv_client.specs.declared.trace.Event.{Event}
 use Rattle.sv_client.specs.declared.trace.Trace.{Trace}
 use Rattle.sv_client.specs.Traces.{current_session, pending_of, asked, got}
 use Rattle.sv_client.specs.Taking.{Identity, is_bad_head, is_for_front, ends_with_front, is_good_relay, is_bad_relay, has_bad_item}
 use Rattle.sv_client.specs.Proper.{identity_of}
-use Rattle.sv_system.specs.Fits.{replies_in, FitsOne, Fits}
+use Rattle.sv_system.specs.Fits.{replies_in}
+use Rattle.sv_system.specs.Served.{OwnsSessions, FitsButValues}
+use Rattle.sv_system.specs.Journals.{ResultsAreSerial}
 use Rattle.sv_system.proofs.Tests.{each-is_in}
-use Rattle.sv_system.proofs.Histories.{IsEarlier, earlier-rest, earlier-legal, accepted-grows}
-use Rattle.sv_system.proofs.Replies.{AnswersSubmit, AnswersKept, Tells, IsRelayReply, IsWelcomeReply, legal-tells}
+use Rattle.sv_system.proofs.Histories.{IsEarlier, earlier-rest, earlier-served, accepted-grows}
+use Rattle.sv_system.proofs.Replies.{AnswersSubmit, AnswersKept, TellsFor, IsRelayReply, IsWelcomeReply, served-tells}
+use Rattle.sv_system.proofs.Asking.{IsServed}
 use Rattle.sv_system.proofs.Lawful.{IsLegalRelay, legal-relay, positions-within}
 use Rattle.sv_system.proofs.Entered.{is_of}
 use Rattle.sv_system.proofs.Induction.{accepted-good}
-use Rattle.sv_system.proofs.Opened.{one, asks}
+use Rattle.sv_system.proofs.Opened.{asks-other}
 use Rattle.sv_system.proofs.Begun.{join-welcomed}
 use Rattle.sv_system.proofs.Pendings.{Numbered, keys}
 use Rattle.sv_system.proofs.Window.{next-front}
 use Rattle.sv_system.proofs.NonEmpty.{positions-some}
-use Rattle.sv_system.proofs.Allowed.{positions-low, worlds-shaped, member-reply}
+use Rattle.sv_system.proofs.Allowed.{polled, positions-low, worlds-shaped, member-reply}
 use Rattle.sv_system.proofs.Heads.{good-head}
 use Rattle.sv_system.proofs.Own.{front-for, submit-ends}
 
@@ -54,44 +58,50 @@ abbrev IsFor : ℕ → Logged → Type 0
 IsFor n (logged.Relay seq commit head positions) = seq ≡ n
 IsFor n _ = Unit {0}
 
-submit-for : (r : Rules) (g : List Entry) (s k n : ℕ) (a : Action) (o : Option Outcome) → IsFor n (reply_to_submit r g s k n a o)
-submit-for r g s k n a (Some (Dropped chain far)) = tt
-submit-for r g s k n a (Some (Accepted p)) = cond_both (nat_le p (commit_of g)) _ _ (IsFor n) (λ x. tt) (λ x. refl)
-submit-for r g s k n a None = cond_both (n == next_seq g k) _ _ (IsFor n) (λ x. checked-for (first_fault_of_action r.world.shape a)) (λ x. tt)
-  where
-    checked-for : (fault : Option BadAction) → IsFor n (reply_to_checked r g s n a fault)
-    checked-for (Some cause) = tt
-    checked-for None =
-        cond_both (nat_lt r.bound (chain_length (actions_of g) (commit_of g) a) || is_over_reach r.reach (influence_distance (actions_of g) (commit_of g) a)) _ _ (IsFor n) (λ x. tt) (λ x. refl)
+module _ (K : Keeping) (r : Rules) (g : List Entry) (s : ℕ) where
+  -- A reply to a Submit names its number, one to a Poll names 0.
+  abbrev IsForSubmit : ℕ → Action → Logged → Type 0
+  IsForSubmit n a reply = IsFor n (with_last_rows K r g s (requests.Submit n a) reply)
 
-poll-for : (r : Rules) (g : List Entry) (s : ℕ) (ps : List ℕ) → IsFor 0 (reply_to_poll r g s ps)
-poll-for r g s [] = tt
-poll-for r g s (p ∷ ps) = refl
+  submit-for : (h : List Entry) (k n : ℕ) (a : Action) (o : Option Outcome) → IsForSubmit n a (reply_to_submit r h s k n a o)
+  submit-for h k n a (Some (Dropped chain far)) = tt
+  submit-for h k n a (Some (Accepted p)) = cond_both (nat_le p (commit_of h)) _ _ (IsForSubmit n a) (λ x. tt) (λ x. refl)
+  submit-for h k n a None = cond_both (n == next_seq h k) _ _ (IsForSubmit n a) (λ x. checked-for (first_fault_of_action r.world.shape a)) (λ x. tt)
+    where
+      checked-for : (fault : Option BadAction) → IsForSubmit n a (reply_to_checked r h s n a fault)
+      checked-for (Some cause) = tt
+      checked-for None =
+          cond_both (nat_lt r.bound (chain_length (actions_of h) (commit_of h) a) || is_over_reach r.reach (influence_distance (actions_of h) (commit_of h) a)) _ _ (IsForSubmit n a) (λ x. tt) (λ x. refl)
+
+  poll-for : (h : List Entry) (ps : List ℕ) → IsFor 0 (reply_to_poll r h s ps)
+  poll-for h [] = tt
+  poll-for h (p ∷ ps) = refl
 
 -- Items at accepted positions have good actions.
-good-items : (r : Rules) (H : List Entry) → Legal r H → (ks : List ℕ) → ((k : ℕ) → is_in k ks ≡ true → (0 < k) × (k ≤ length (accepted H))) →
+good-items : (K : Keeping) (keeps : IsKeeping K) (r : Rules) (H : List Entry) → LegalFor K r H → (ks : List ℕ) → ((k : ℕ) → is_in k ks ≡ true → (0 < k) × (k ≤ length (accepted H))) →
     list_any (λ (i : Item). not (is_none (first_fault_of_action r.world.shape i.action))) (map (item_at (accepted H)) ks) ≡ false
-good-items r H legal [] f = refl
-good-items r H legal (k ∷ ks) f =
+good-items K keeps r H legal [] f = refl
+good-items K keeps r H legal (k ∷ ks) f =
     let p = f k (is_in-head k ks) in
     or_from (not (is_none (first_fault_of_action r.world.shape (item_at (accepted H) k).action)))
     (list_any (λ (i : Item). not (is_none (first_fault_of_action r.world.shape i.action))) (map (item_at (accepted H)) ks))
     (ap (λ (o : Option BadAction). not (is_none o)) (none_of_good r.world.shape (item_at (accepted H) k).action (good-at k p.0 p.1)))
-    (good-items r H legal ks (λ j m. f j (is_in-tail j k ks m)))
+    (good-items K keeps r H legal ks (λ j m. f j (is_in-tail j k ks m)))
   where
     good-at : (k : ℕ) → 0 < k → k ≤ length (accepted H) → IsGoodAction r.world.shape (item_at (accepted H) k).action
     good-at zero low high = absurd (omega arith)
     good-at (suc n) low high =
-        All-from_recursion (λ (a : Authored). IsGoodAction r.world.shape a.action) (accepted H) (accepted-good r H legal) n (record { client = 0; seq = 0; action = blank }) (omega arith)
+        All-from_recursion (λ (a : Authored). IsGoodAction r.world.shape a.action) (accepted H) (accepted-good K keeps r H legal) n (record { client = 0; seq = 0; action = blank }) (omega arith)
 
 objects-below : (n : ℕ) (xs : List ObjectId) → AllByRecursion (λ (o : ObjectId). o.0 < n) xs → AllByRecursion (λ x. x < n) (map (λ (o : ObjectId). o.0) xs)
 objects-below n [] h = tt
 objects-below n (x ∷ xs) h = (h.0, objects-below n xs h.1)
 
-module _ (r : Rules) (H : List Entry) (Ls : List Trace) (legal : Legal r H) (fits : Fits r.world.shape H Ls) (i : ℕ) (L : Trace) (member : slice_get Ls i ≡ Some L)
+module _ (K : Keeping) (r : Rules) (H : List Entry) (L : Trace) (served : IsServed K r H L) (owns : OwnsSessions H L)
     (s : ℕ) (current : current_session (reverse L.events) ≡ Some s) (few : length (asked L.client L.interest (reverse L.events) s) ≤ 1024)
     (e : Entry) (g : List Entry) (b : IsEarlier (e ∷ g) H) (mine : is_of e s ≡ true) (next : length (replies_in (accepted H) g s) ≡ length (got (reverse L.events) s))
-    (count : length r.world.values ≡ r.world.shape.objects) (shaped : All (λ (v : List ℤ). length v ≡ r.world.shape.attrs) r.world.values) (bound : r.bound ≤ 32) where
+    (count : length r.world.values ≡ r.world.shape.objects) (shaped : All (λ (v : List ℤ). length v ≡ r.world.shape.attrs) r.world.values) (bound : r.bound ≤ 32)
+    (serial : ResultsAreSerial r.world.values (actions_of H) (K.kept H)) where
   abbrev whole : List Event
   whole = reverse L.events
 
@@ -104,40 +114,46 @@ module _ (r : Rules) (H : List Entry) (Ls : List Trace) (legal : Legal r H) (fit
   abbrev k : ℕ
   k = L.client.0
 
-  abbrev this_one : FitsOne r.world.shape H L
-  this_one = one r H Ls legal fits i L member
+  abbrev this_one : FitsButValues r.world.shape H L
+  this_one = served.fits
+
+  abbrev keeps : IsKeeping K
+  keeps = served.keeps
+
+  abbrev legal : LegalFor K r H
+  legal = served.legal
 
   earlier : IsEarlier g H
   earlier = earlier-rest g e H b
 
-  legal_here : Legal r (e ∷ g)
-  legal_here = earlier-legal r (e ∷ g) H b legal
+  legal_here : LegalFor K r (e ∷ g)
+  legal_here = earlier-served K r (e ∷ g) H b legal
 
-  tells : (reply : Logged) → e.reply ≡ reply → Tells r g e.session e.request reply
-  tells reply is = subst (λ (y : Logged). Tells r g e.session e.request y) is (legal-tells r e g legal_here)
+  tells : (reply : Logged) → e.reply ≡ reply → TellsFor K r g e.session e.request reply
+  tells reply is = subst (λ (y : Logged). TellsFor K r g e.session e.request y) is (served-tells K keeps r e g legal_here)
 
   abbrev IsFrontOf : ℕ → Action → Type 0
   IsFrontOf n a = (ks : List Numbered) × (keys (pending_of whole) ≡ (n, a) ∷ ks)
 
   front-of : (n : ℕ) (a : Action) → e.request ≡ requests.Submit n a → IsFrontOf n a
   front-of n a is =
-      let f = next-front who L.first whole this_one.proper.events s n a current (asks r H Ls legal fits i L member s current e g b mine next ∙ ap Some is) in
+      let f = next-front who L.first whole this_one.proper.events s n a current (asks-other K r H L served owns s current e g b mine next (requests.Submit n a) is refl) in
       (f.0, f.1.0)
 
-  good-heads : (xs : List ℕ) → ((x : ℕ) → is_in x xs ≡ true → x < r.world.shape.objects) → is_bad_head r.world.shape (committed_held r g xs) ≡ false
-  good-heads = good-head r H Ls count legal fits (worlds-shaped r H Ls legal fits i L member s current few e g b mine next count shaped bound) g earlier
+  good-heads : (xs : List ℕ) → ((x : ℕ) → is_in x xs ≡ true → x < r.world.shape.objects) → is_bad_head r.world.shape (committed_held r (K.kept g) xs) ≡ false
+  good-heads = good-head K keeps r H count legal serial (worlds-shaped K r H L served owns s current few e g b mine next count shaped bound serial) g earlier
 
-  relay-head : (commit : ℕ) (head : List Sent) (positions : List ℕ) → IsLegalRelay r e g commit head positions → is_bad_head r.world.shape head ≡ false
+  relay-head : (commit : ℕ) (head : List Sent) (positions : List ℕ) → IsLegalRelay K r e g commit head positions → is_bad_head r.world.shape head ≡ false
   relay-head commit head positions t =
       let acts = actions_of (e ∷ g) in
-      let given = already_given r.world.shape.objects g e.session in
-      let xs = head_for r.world.shape.objects acts (commit_of g) (sent_to g e.session) given t.target in
+      let given = already_given r.world.shape.objects (K.kept g) e.session in
+      let xs = head_for r.world.shape.objects acts (commit_of (K.kept g)) (sent_to g e.session) given t.target in
       ap (is_bad_head r.world.shape) t.head_is
-      ∙ good-heads xs (λ x m. ((head_for-iff r.world.shape.objects acts (commit_of g) (sent_to g e.session) given t.target x).0 m).0)
+      ∙ good-heads xs (λ x m. ((head_for-iff r.world.shape.objects acts (commit_of (K.kept g)) (sent_to g e.session) given t.target x).0 m).0)
 
-  welcome-head : (commit : ℕ) (head : List Sent) → IsWelcomeReply r g e.session e.request commit head → e.reply ≡ logged.Welcome commit head → is_bad_head r.world.shape head ≡ false
+  welcome-head : (commit : ℕ) (head : List Sent) → IsWelcomeReply K r g e.session e.request commit head → e.reply ≡ logged.Welcome commit head → is_bad_head r.world.shape head ≡ false
   welcome-head commit head t is =
-      let w = join-welcomed r H Ls legal fits i L member s current few e g b mine next t.client t.life t.interest t.request in
+      let w = join-welcomed K r H L served owns s current few e g b mine next t.client t.life t.interest t.request in
       let xs = map (λ (o : ObjectId). o.0) L.interest in
       ap (is_bad_head r.world.shape) (ap logged_head (sym is ∙ w.0))
       ∙ good-heads xs (λ x m. each-is_in (λ (y : ℕ). y < r.world.shape.objects) xs
@@ -150,34 +166,38 @@ module _ (r : Rules) (H : List Entry) (Ls : List Trace) (legal : Legal r H) (fit
   relay-fits : (seq commit : ℕ) (head : List Sent) (positions : List ℕ) → e.reply ≡ logged.Relay seq commit head positions →
       is_good_relay who (pending_of whole) e.request seq (map (item_at A) positions) ≡ true
   relay-fits seq commit head positions is =
-      let t : IsRelayReply r g e.session e.request commit head positions = tells (logged.Relay seq commit head positions) is in
+      let t : IsRelayReply K r g e.session e.request commit head positions = tells (logged.Relay seq commit head positions) is in
       let items = map (item_at A) positions in
       elim t.kind [
         | inr z ↦
-            (let number : seq ≡ 0 = subst (IsFor 0) (sym (member-reply r H Ls legal fits i L member s current few e g b mine next count shaped bound requests.Poll z.0 refl refl) ∙ is) (poll-for r g s (orphans g)) in
+            (let number : seq ≡ 0 =
+            subst (IsFor 0) (sym (member-reply K r H L served owns s current few e g b mine next count shaped bound serial requests.Poll z.0 refl refl ∙ polled K r g s (orphans (K.kept g))) ∙ is)
+            (poll-for K r g s (K.kept g) (K.due g s)) in
             subst (λ (q : Request). is_good_relay who (pending_of whole) q seq items ≡ true) (sym z.0) (eq-eqb seq 0 number))
         | inl z ↦
             (let n = z.0 in
             let a = z.1.0 in
-            let number : seq ≡ n = subst (IsFor n) (sym (member-reply r H Ls legal fits i L member s current few e g b mine next count shaped bound (requests.Submit n a) z.1.1.0 refl refl) ∙ is) (submit-for r g s k n a (kept_outcome g k n)) in
+            let number : seq ≡ n =
+            subst (IsFor n) (sym (member-reply K r H L served owns s current few e g b mine next count shaped bound serial (requests.Submit n a) z.1.1.0 refl refl) ∙ is)
+            (submit-for K r g s (K.kept g) k n a (kept_outcome (K.kept g) k n)) in
             let front = front-of n a z.1.1.0 in
             subst (λ (q : Request). is_good_relay who (pending_of whole) q seq items ≡ true) (sym z.1.1.0)
             (and_from (is_for_front seq (pending_of whole)) (ends_with_front who (pending_of whole) items)
             (ap (λ (m : ℕ). is_for_front m (pending_of whole)) number ∙ front-for (pending_of whole) n a front.0 front.1)
-            (submit-ends r H Ls legal fits i L member s current few e g b mine next seq commit head positions is t n a z.1.1.0 (pending_of whole) front.0 front.1)))
+            (submit-ends K r H L served owns s current few e g b mine next seq commit head positions is t n a z.1.1.0 (pending_of whole) front.0 front.1)))
       ]
 
   relay-good : (seq commit : ℕ) (head : List Sent) (positions : List ℕ) → e.reply ≡ logged.Relay seq commit head positions →
       has_bad_item who (pending_of whole) e.request (full_reply A (logged.Relay seq commit head positions)) ≡ false
   relay-good seq commit head positions is =
       let items = map (item_at A) positions in
-      let low = positions-low r e g legal_here (logged.Relay seq commit head positions) is in
+      let low = positions-low K keeps r e g legal_here (logged.Relay seq commit head positions) is in
       let grows : length (accepted (e ∷ g)) ≤ length A = accepted-grows (e ∷ g) H b in
       or_from (is_bad_head who.shape head) (is_bad_relay who (pending_of whole) e.request seq items)
-      (relay-head commit head positions (legal-relay r e g seq commit head positions legal_here is))
+      (relay-head commit head positions (legal-relay K keeps r e g seq commit head positions legal_here is))
       (three-false (length items == 0) (list_any (λ (i : Item). not (is_none (first_fault_of_action who.shape i.action))) items) (not (is_good_relay who (pending_of whole) e.request seq items))
-      (ne_eqb (length items) 0 (λ z. positions-some r H Ls legal fits i L member s current few e g b mine next seq commit head positions is (none-left positions z)))
-      (good-items r H legal positions (λ j m. (low.1 j m, (let within : j ≤ length (accepted (e ∷ g)) = positions-within r e g legal_here (logged.Relay seq commit head positions) is j m in omega arith))))
+      (ne_eqb (length items) 0 (λ z. positions-some K r H L served owns s current few e g b mine next seq commit head positions is (none-left positions z)))
+      (good-items K keeps r H legal positions (λ j m. (low.1 j m, (let within : j ≤ length (accepted (e ∷ g)) = positions-within K keeps r e g legal_here (logged.Relay seq commit head positions) is j m in omega arith))))
       (not_from_true (is_good_relay who (pending_of whole) e.request seq items) (relay-fits seq commit head positions is)))
     where
       none-left : (ks : List ℕ) → length (map (item_at A) ks) ≡ 0 → ks ≡ []

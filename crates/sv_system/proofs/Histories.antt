@@ -16,6 +16,7 @@ use Rattle.sv_journal.specs.declared.entry.Logged.TheVariants as logged
 use Rattle.sv_journal.specs.History.{Authored, Outcome, Accepted, Dropped, client_of, is_client, is_relay, is_submit_of, outcome_in, new_action, outcomes_of, accepted, actions_of, result_at, run_length, commit_of, next_seq}
 use Rattle.sv_journal.specs.Sessions.{outcome_at, kept_count, kept_outcome}
 use Rattle.sv_journal.specs.Answer.{Rules, Legal}
+use Rattle.sv_journal.specs.Serving.{Keeping, LegalFor, with_results, IsKeeping}
 use Rattle.sv_system.proofs.Tests.{each-append}
 
 -- A history is an earlier part of another one, or the whole.
@@ -34,6 +35,17 @@ earlier-rest h e whole (after {g} d b) = after d (earlier-rest h e g b)
 pub earlier-legal : (r : Rules) (h g : List Entry) → IsEarlier h g → Legal r g → Legal r h
 earlier-legal r h g same l = l
 earlier-legal r h whole (after {g} e b) l = earlier-legal r h g b l.1
+
+pub earlier-served : (K : Keeping) (r : Rules) (h g : List Entry) → IsEarlier h g → LegalFor K r g → LegalFor K r h
+earlier-served K r h g same l = l
+earlier-served K r h whole (after {g} e b) l = earlier-served K r h g b l.1
+
+-- What is kept of an earlier part is an earlier part of what is kept.
+pub earlier-kept : (K : Keeping) → IsKeeping K → (h g : List Entry) → IsEarlier h g → IsEarlier (K.kept h) (K.kept g)
+earlier-kept K keeps h g same = same
+earlier-kept K keeps h whole (after {g} e b) =
+    let n = keeps.next e g in
+    subst (IsEarlier (K.kept h)) (sym n.1) (after (record e { request = with_results n.0 e.request }) (earlier-kept K keeps h g b))
 
 abbrev pub IsFrontPart : {X : Type 0} → List X → List X → Type 0
 IsFrontPart {X = X} xs ys = (more : List X) × (ys ≡ xs ++ more)

@@ -1,4 +1,4 @@
--- A legal journal makes lawful deliveries, where the results that it notes are those of the serial execution.
+-- A legal journal makes lawful deliveries, where the results that its server goes by are those of the serial execution.
 use Rattle.std.proofs.Common.{◌≡◌, ℕ, zero, suc, ◌+◌, ◌<◌, ◌≤◌, Bool, true, false, ◌&&◌, ◌==◌, nat_le, inl, inr, List, [], ◌∷◌, ◌++◌, map, filter, take, length, ℤ, Option, Some, None, is_some, slice_index_or, refl, sym, ap, ap₂, ◌∙◌, subst, arith, append-nil, true≢false, add-one}
 use Rattle.std.specs.Prelude.{if◌then◌else◌, unwrap_or}
 use Rattle.std.specs.List.{list_any}
@@ -19,14 +19,16 @@ use Rattle.sv_journal.specs.declared.entry.Logged.{Logged}
 use Rattle.sv_journal.specs.declared.entry.Logged.TheVariants as logged
 use Rattle.sv_journal.specs.History.{Authored, accepted, actions_of, is_noted, reports, result_at, commit_of, installed, either}
 use Rattle.sv_journal.specs.Sessions.{positions_in, sent_to, named_in, named_to, given_at, committed_writer, is_given, already_given}
-use Rattle.sv_journal.specs.Answer.{Rules, committed_held, Legal}
+use Rattle.sv_journal.specs.Answer.{Rules, committed_held}
+use Rattle.sv_journal.specs.Serving.{Keeping, LegalFor, with_results, IsKeeping}
+use Rattle.sv_journal.proofs.Kept.{actions-kept, given-kept, commit_within-kept}
 use Rattle.sv_client.specs.Traces.{head_held}
 use Rattle.sv_system.specs.Serial.{AreSerial}
 use Rattle.sv_system.specs.Delivery.{Delivery, told_positions, head_objects, told_commits, known_at, known_values, IsLawful, AreLawful}
 use Rattle.sv_system.specs.Journals.{delivery_by, deliveries_of, serial_result, ResultsAreSerial}
 use Rattle.sv_system.proofs.Serials.{serial-step}
-use Rattle.sv_system.proofs.Histories.{IsEarlier, same, after, earlier-rest, actions-earlier, actions-count, accepted-grows, action_at-earlier, commit-most, committed-has}
-use Rattle.sv_system.proofs.Replies.{new_of, Tells, IsRelayReply, IsWelcomeReply, legal-tells}
+use Rattle.sv_system.proofs.Histories.{IsEarlier, same, after, earlier-rest, actions-earlier, actions-count, accepted-grows, action_at-earlier, committed-has}
+use Rattle.sv_system.proofs.Replies.{new_of, TellsFor, IsRelayReply, IsWelcomeReply, served-tells}
 
 -- ---- What the deliveries told
 
@@ -83,51 +85,51 @@ relayed-actions e h seq commit head positions is =
     ∙ map-append (λ (a : Authored). a.action) (accepted h) _
 
 -- What a legal relay is, among the actions after it.
-pub record IsLegalRelay (r : Rules) (e : Entry) (h : List Entry) (commit : ℕ) (head : List Sent) (positions : List ℕ) : Type 0 where
+pub record IsLegalRelay (K : Keeping) (r : Rules) (e : Entry) (h : List Entry) (commit : ℕ) (head : List Sent) (positions : List ℕ) : Type 0 where
   pub target : ℕ
-  pub above : commit_of h < target
+  pub above : commit_of (K.kept h) < target
   pub accepted_to : target ≤ length (accepted (e ∷ h))
-  pub commit_is : commit ≡ commit_of h
-  pub positions_are : positions ≡ needed_for (actions_of (e ∷ h)) (commit_of h) (sent_to h e.session) target
-  pub head_is : head ≡ committed_held r h (head_for r.world.shape.objects (actions_of (e ∷ h)) (commit_of h) (sent_to h e.session) (already_given r.world.shape.objects h e.session) target)
+  pub commit_is : commit ≡ commit_of (K.kept h)
+  pub positions_are : positions ≡ needed_for (actions_of (e ∷ h)) (commit_of (K.kept h)) (sent_to h e.session) target
+  pub head_is : head ≡ committed_held r (K.kept h) (head_for r.world.shape.objects (actions_of (e ∷ h)) (commit_of (K.kept h)) (sent_to h e.session) (already_given r.world.shape.objects (K.kept h) e.session) target)
 
-pub legal-relay : (r : Rules) (e : Entry) (h : List Entry) (seq commit : ℕ) (head : List Sent) (positions : List ℕ) → Legal r (e ∷ h) →
-    e.reply ≡ logged.Relay seq commit head positions → IsLegalRelay r e h commit head positions
-legal-relay r e h seq commit head positions l is =
-    let t : IsRelayReply r h e.session e.request commit head positions = subst (λ (reply : Logged). Tells r h e.session e.request reply) is (legal-tells r e h l) in
+pub legal-relay : (K : Keeping) (keeps : IsKeeping K) (r : Rules) (e : Entry) (h : List Entry) (seq commit : ℕ) (head : List Sent) (positions : List ℕ) → LegalFor K r (e ∷ h) →
+    e.reply ≡ logged.Relay seq commit head positions → IsLegalRelay K r e h commit head positions
+legal-relay K keeps r e h seq commit head positions l is =
+    let t : IsRelayReply K r h e.session e.request commit head positions = subst (λ (reply : Logged). TellsFor K r h e.session e.request reply) is (served-tells K keeps r e h l) in
     let acts : actions_of h ++ new_of h e.session e.request ≡ actions_of (e ∷ h) = sym (relayed-actions e h seq commit head positions is) in
     record {
       target = t.target;
       above = t.above;
       accepted_to = subst (λ (n : ℕ). t.target ≤ n) (actions-count (e ∷ h)) (subst (λ (A : List Action). t.target ≤ length A) acts t.accepted_to);
       commit_is = t.commit_is;
-      positions_are = t.positions_are ∙ ap (λ (A : List Action). needed_for A (commit_of h) (sent_to h e.session) t.target) acts;
-      head_is = t.head_is ∙ ap (λ (A : List Action). committed_held r h (head_for r.world.shape.objects A (commit_of h) (sent_to h e.session) (already_given r.world.shape.objects h e.session) t.target)) acts;
+      positions_are = t.positions_are ∙ ap (λ (A : List Action). needed_for A (commit_of (K.kept h)) (sent_to h e.session) t.target) acts;
+      head_is = t.head_is ∙ ap (λ (A : List Action). committed_held r (K.kept h) (head_for r.world.shape.objects A (commit_of (K.kept h)) (sent_to h e.session) (already_given r.world.shape.objects (K.kept h) e.session) t.target)) acts;
     }
 
-pub positions-within : (r : Rules) (e : Entry) (h : List Entry) → Legal r (e ∷ h) → (reply : Logged) → e.reply ≡ reply → (p : ℕ) → is_in p (positions_in reply) ≡ true → p ≤ length (accepted (e ∷ h))
-positions-within r e h l (logged.Relay seq commit head positions) is p m =
-    let t = legal-relay r e h seq commit head positions l is in
+pub positions-within : (K : Keeping) (keeps : IsKeeping K) (r : Rules) (e : Entry) (h : List Entry) → LegalFor K r (e ∷ h) → (reply : Logged) → e.reply ≡ reply → (p : ℕ) → is_in p (positions_in reply) ≡ true → p ≤ length (accepted (e ∷ h))
+positions-within K keeps r e h l (logged.Relay seq commit head positions) is p m =
+    let t = legal-relay K keeps r e h seq commit head positions l is in
     let within : t.target ≤ length (accepted (e ∷ h)) = t.accepted_to in
-    let b = needed-bounds (actions_of (e ∷ h)) (commit_of h) (sent_to h e.session) t.target t.above p (subst (λ (ks : List ℕ). is_in p ks ≡ true) t.positions_are m) in
+    let b = needed-bounds (actions_of (e ∷ h)) (commit_of (K.kept h)) (sent_to h e.session) t.target t.above p (subst (λ (ks : List ℕ). is_in p ks ≡ true) t.positions_are m) in
     let most : p ≤ t.target = b.1 in
     omega arith
-positions-within r e h l (logged.Welcome commit head) is p m = absurd (true≢false (sym m))
-positions-within r e h l (logged.Dropped seq chain far) is p m = absurd (true≢false (sym m))
-positions-within r e h l (logged.Settled seq pos) is p m = absurd (true≢false (sym m))
-positions-within r e h l (logged.Noted commit) is p m = absurd (true≢false (sym m))
-positions-within r e h l logged.Idle is p m = absurd (true≢false (sym m))
-positions-within r e h l (logged.Refused code detail) is p m = absurd (true≢false (sym m))
-positions-within r e h l logged.Bye is p m = absurd (true≢false (sym m))
+positions-within K keeps r e h l (logged.Welcome commit head) is p m = absurd (true≢false (sym m))
+positions-within K keeps r e h l (logged.Dropped seq chain far) is p m = absurd (true≢false (sym m))
+positions-within K keeps r e h l (logged.Settled seq pos) is p m = absurd (true≢false (sym m))
+positions-within K keeps r e h l (logged.Noted commit) is p m = absurd (true≢false (sym m))
+positions-within K keeps r e h l logged.Idle is p m = absurd (true≢false (sym m))
+positions-within K keeps r e h l (logged.Refused code detail) is p m = absurd (true≢false (sym m))
+positions-within K keeps r e h l logged.Bye is p m = absurd (true≢false (sym m))
 
 -- Each position that was sent was accepted.
-pub sent-within : (r : Rules) (h : List Entry) → Legal r h → (s p : ℕ) → is_in p (sent_to h s) ≡ true → p ≤ length (accepted h)
-sent-within r [] l s p m = absurd (true≢false (sym m))
-sent-within r (e ∷ h) l s p m =
+pub sent-within : (K : Keeping) (keeps : IsKeeping K) (r : Rules) (h : List Entry) → LegalFor K r h → (s p : ℕ) → is_in p (sent_to h s) ≡ true → p ≤ length (accepted h)
+sent-within K keeps r [] l s p m = absurd (true≢false (sym m))
+sent-within K keeps r (e ∷ h) l s p m =
     let grows : length (accepted h) ≤ length (accepted (e ∷ h)) = accepted-grows h (e ∷ h) (after e same) in
-    let before : is_in p (sent_to h s) ≡ true → p ≤ length (accepted (e ∷ h)) = λ n. (let b : p ≤ length (accepted h) = sent-within r h l.1 s p n in omega arith) in
+    let before : is_in p (sent_to h s) ≡ true → p ≤ length (accepted (e ∷ h)) = λ n. (let b : p ≤ length (accepted h) = sent-within K keeps r h l.1 s p n in omega arith) in
     cond_both (e.session == s) (sent_to h s ++ positions_in e.reply) (sent_to h s) (λ (ks : List ℕ). is_in p ks ≡ true → p ≤ length (accepted (e ∷ h)))
-    (λ f n. elim (is_in-append_cases p (sent_to h s) (positions_in e.reply) n) [ inl a ↦ before a | inr a ↦ positions-within r e h l e.reply refl p a ])
+    (λ f n. elim (is_in-append_cases p (sent_to h s) (positions_in e.reply) n) [ inl a ↦ before a | inr a ↦ positions-within K keeps r e h l e.reply refl p a ])
     (λ f n. before n)
     m
 
@@ -136,45 +138,59 @@ sent-within r (e ∷ h) l s p m =
 result-stays : (e : Entry) (h : List Entry) (p : ℕ) (vs : List (List ℤ)) → result_at h p ≡ Some vs → result_at (e ∷ h) p ≡ Some vs
 result-stays e h p vs is = ap (λ (o : Option (List (List ℤ))). either o (if is_noted e.reply then reports p e.request else None)) is
 
-pub results-earlier : (opening : List (List ℤ)) (A : List Action) (e : Entry) (h : List Entry) → ResultsAreSerial opening A (e ∷ h) → ResultsAreSerial opening A h
-results-earlier opening A e h serial p vs low is = serial p vs low (result-stays e h p vs is)
+-- What is kept of a history has the results that were kept before.
+pub results-earlier : (K : Keeping) → IsKeeping K → (opening : List (List ℤ)) (A : List Action) (e : Entry) (h : List Entry) →
+    ResultsAreSerial opening A (K.kept (e ∷ h)) → ResultsAreSerial opening A (K.kept h)
+results-earlier K keeps opening A e h serial p vs low is =
+    let n = keeps.next e h in
+    serial p vs low (ap (λ (g : List Entry). result_at g p) n.1 ∙ result-stays (record e { request = with_results n.0 e.request }) (K.kept h) p vs is)
 
 of_some : (o : Option (List (List ℤ))) (good : List (List ℤ)) → is_some o ≡ true → ((vs : List (List ℤ)) → o ≡ Some vs → vs ≡ good) → unwrap_or o [] ≡ good
 of_some None good e f = absurd (true≢false (sym e))
 of_some (Some vs) good e f = f vs refl
 
-module _ (r : Rules) (H : List Entry) where
+pub objects-named : (r : Rules) (h : List Entry) (xs : List ℕ) → head_objects (committed_held r h xs) ≡ xs
+objects-named r h [] = refl
+objects-named r h (x ∷ xs) = ap (λ (l : List ℕ). x ∷ l) (objects-named r h xs)
+
+module _ (K : Keeping) (keeps : IsKeeping K) (r : Rules) (H : List Entry) where
   abbrev acts : List Action
   acts = actions_of H
 
   abbrev opening : List (List ℤ)
   opening = r.world.values
 
+  -- An accepted position has its action in what is kept, too.
+  pub kept-action : (h : List Entry) → IsEarlier h H → (k : ℕ) → k ≤ length (accepted h) → action_at acts k ≡ action_at (actions_of (K.kept h)) k
+  kept-action h b k l = action_at-earlier h H b k l ∙ ap (λ (A : List Action). action_at A k) (sym (actions-kept K keeps h))
+
   -- Up to the commit the installed worlds are the serial ones.
-  pub installed-serial : (h : List Entry) → IsEarlier h H → ResultsAreSerial opening acts h → (p : ℕ) → p ≤ commit_of h → installed opening h p ≡ serial_world opening acts p
+  pub installed-serial : (h : List Entry) → IsEarlier h H → ResultsAreSerial opening acts (K.kept h) → (p : ℕ) → p ≤ commit_of (K.kept h) →
+      installed opening (K.kept h) p ≡ serial_world opening acts p
   installed-serial h b serial zero l = refl
   installed-serial h b serial (suc p) l =
-      let most : commit_of h ≤ length (accepted h) = commit-most h in
-      let a : action_at (actions_of h) (suc p) ≡ action_at acts (suc p) = sym (action_at-earlier h H b (suc p) (omega arith)) in
-      let result : unwrap_or (result_at h (suc p)) [] ≡ serial_result opening acts (suc p) =
-      of_some (result_at h (suc p)) (serial_result opening acts (suc p)) (committed-has h (suc p) (omega arith) l) (λ vs e. serial (suc p) vs (omega arith) e) in
-      ap (λ (c : Action). put_all (installed opening h p) (write_set c) (unwrap_or (result_at h (suc p)) [])) a
-      ∙ ap (put_all (installed opening h p) (write_set (action_at acts (suc p)))) result
+      let most : commit_of (K.kept h) ≤ length (accepted h) = commit_within-kept K keeps h in
+      let a : action_at (actions_of (K.kept h)) (suc p) ≡ action_at acts (suc p) = sym (kept-action h b (suc p) (omega arith)) in
+      let result : unwrap_or (result_at (K.kept h) (suc p)) [] ≡ serial_result opening acts (suc p) =
+      of_some (result_at (K.kept h) (suc p)) (serial_result opening acts (suc p)) (committed-has (K.kept h) (suc p) (omega arith) l) (λ vs e. serial (suc p) vs (omega arith) e) in
+      ap (λ (c : Action). put_all (installed opening (K.kept h) p) (write_set c) (unwrap_or (result_at (K.kept h) (suc p)) [])) a
+      ∙ ap (put_all (installed opening (K.kept h) p) (write_set (action_at acts (suc p)))) result
       ∙ ap (λ (w : List (List ℤ)). put_all w (write_set (action_at acts (suc p))) (serial_result opening acts (suc p))) (installed-serial h b serial p (omega arith))
       ∙ sym (serial-step opening acts p)
 
-  heads-serial : (h : List Entry) → IsEarlier h H → ResultsAreSerial opening acts h → (xs : List ℕ) → AreSerial opening acts (head_held (commit_of h) (committed_held r h xs))
+  heads-serial : (h : List Entry) → IsEarlier h H → ResultsAreSerial opening acts (K.kept h) → (xs : List ℕ) →
+      AreSerial opening acts (head_held (commit_of (K.kept h)) (committed_held r (K.kept h) xs))
   heads-serial h b serial [] = tt
   heads-serial h b serial (x ∷ xs) = (
-    ap (λ (w : List (List ℤ)). slice_index_or w x []) (installed-serial h b serial (commit_of h) (omega arith)),
+    ap (λ (w : List (List ℤ)). slice_index_or w x []) (installed-serial h b serial (commit_of (K.kept h)) (omega arith)),
     heads-serial h b serial xs,
   )
 
-  head-serial : (h : List Entry) → IsEarlier h H → ResultsAreSerial opening acts h → (commit : ℕ) (head : List Sent) (xs : List ℕ) → commit ≡ commit_of h →
-      head ≡ committed_held r h xs → AreSerial opening acts (head_held commit head)
+  head-serial : (h : List Entry) → IsEarlier h H → ResultsAreSerial opening acts (K.kept h) → (commit : ℕ) (head : List Sent) (xs : List ℕ) → commit ≡ commit_of (K.kept h) →
+      head ≡ committed_held r (K.kept h) xs → AreSerial opening acts (head_held commit head)
   head-serial h b serial commit head xs c e =
       subst (λ (n : ℕ). AreSerial opening acts (head_held n head)) (sym c)
-      (subst (λ (vs : List Sent). AreSerial opening acts (head_held (commit_of h) vs)) (sym e) (heads-serial h b serial xs))
+      (subst (λ (vs : List Sent). AreSerial opening acts (head_held (commit_of (K.kept h)) vs)) (sym e) (heads-serial h b serial xs))
 
   -- ---- Known values
 
@@ -183,31 +199,28 @@ module _ (r : Rules) (H : List Entry) where
   filter-members p q (x ∷ xs) f =
       ap₂ (λ (b : Bool) (l : List ℕ). if b then x ∷ l else l) (f x (is_in-head x xs)) (filter-members p q xs (λ y m. f y (is_in-tail y x xs m)))
 
-  known-given : (h : List Entry) → IsEarlier h H → Legal r h → (s x : ℕ) → known_at acts (deliveries_of h) s x ≡ given_at h s x
+  known-given : (h : List Entry) → IsEarlier h H → LegalFor K r h → (s x : ℕ) → known_at acts (deliveries_of h) s x ≡ given_at (K.kept h) s x
   known-given h b l s x =
       ap₂ (λ (cs ps : List ℕ). cs ++ filter (λ p. is_in x (write_set (action_at acts p))) ps) (told-named h s x) (told-sent h s)
       ∙ ap (λ (ps : List ℕ). named_to h s x ++ ps)
       (filter-members (λ p. is_in x (write_set (action_at acts p))) (λ p. is_in x (write_set (action_at (actions_of h) p))) (sent_to h s)
-      (λ p m. ap (λ (a : Action). is_in x (write_set a)) (action_at-earlier h H b p (sent-within r h l s p m))))
+      (λ p m. ap (λ (a : Action). is_in x (write_set a)) (action_at-earlier h H b p (sent-within K keeps r h l s p m))))
+      ∙ sym (given-kept K keeps h s x)
 
-  writer-earlier : (h : List Entry) → IsEarlier h H → (x : ℕ) → last_writer acts x (commit_of h + 1) ≡ committed_writer h x
+  writer-earlier : (h : List Entry) → IsEarlier h H → (x : ℕ) → last_writer acts x (commit_of (K.kept h) + 1) ≡ committed_writer (K.kept h) x
   writer-earlier h b x =
-      let most : commit_of h ≤ length (accepted h) = commit-most h in
-      ap (last_writer acts x) (add-one (commit_of h))
-      ∙ last_writer-same acts (actions_of h) x (suc (commit_of h)) (λ k low high. action_at-earlier h H b k (omega arith))
+      let most : commit_of (K.kept h) ≤ length (accepted h) = commit_within-kept K keeps h in
+      ap (last_writer acts x) (add-one (commit_of (K.kept h)))
+      ∙ last_writer-same acts (actions_of (K.kept h)) x (suc (commit_of (K.kept h))) (λ k low high. kept-action h b k (omega arith))
 
-  pub values-given : (h : List Entry) → IsEarlier h H → Legal r h → (s : ℕ) →
-      known_values r.world.shape.objects acts (commit_of h) (deliveries_of h) s ≡ already_given r.world.shape.objects h s
+  pub values-given : (h : List Entry) → IsEarlier h H → LegalFor K r h → (s : ℕ) →
+      known_values r.world.shape.objects acts (commit_of (K.kept h)) (deliveries_of h) s ≡ already_given r.world.shape.objects (K.kept h) s
   values-given h b l s =
-      filter_agree (λ x. list_any (λ q. nat_le (last_writer acts x (commit_of h + 1)) q && nat_le q (commit_of h)) (known_at acts (deliveries_of h) s x)) (is_given h s)
-      (λ x. ap₂ (λ (w : ℕ) (qs : List ℕ). list_any (λ q. nat_le w q && nat_le q (commit_of h)) qs) (writer-earlier h b x) (known-given h b l s x))
+      filter_agree (λ x. list_any (λ q. nat_le (last_writer acts x (commit_of (K.kept h) + 1)) q && nat_le q (commit_of (K.kept h))) (known_at acts (deliveries_of h) s x)) (is_given (K.kept h) s)
+      (λ x. ap₂ (λ (w : ℕ) (qs : List ℕ). list_any (λ q. nat_le w q && nat_le q (commit_of (K.kept h))) qs) (writer-earlier h b x) (known-given h b l s x))
       (below r.world.shape.objects)
 
   -- ---- Lawful
-
-  pub objects-named : (h : List Entry) (xs : List ℕ) → head_objects (committed_held r h xs) ≡ xs
-  objects-named h [] = refl
-  objects-named h (x ∷ xs) = ap (λ (l : List ℕ). x ∷ l) (objects-named h xs)
 
   first-actions : (h : List Entry) → IsEarlier h H → take (length (accepted h)) acts ≡ actions_of h
   first-actions h b =
@@ -217,52 +230,52 @@ module _ (r : Rules) (H : List Entry) where
   abbrev delivery_at : Entry → List Entry → ℕ → List Sent → List ℕ → Delivery
   delivery_at e h commit head positions = record { session = e.session; count = length (accepted (e ∷ h)); commit = commit; head = head; positions = positions }
 
-  relay-lawful : (e : Entry) (h : List Entry) (commit : ℕ) (head : List Sent) (positions : List ℕ) → IsEarlier (e ∷ h) H → Legal r h → ResultsAreSerial opening acts h →
-      IsLegalRelay r e h commit head positions → IsLawful r.world.shape.objects opening acts (deliveries_of h) (delivery_at e h commit head positions)
+  relay-lawful : (e : Entry) (h : List Entry) (commit : ℕ) (head : List Sent) (positions : List ℕ) → IsEarlier (e ∷ h) H → LegalFor K r h → ResultsAreSerial opening acts (K.kept h) →
+      IsLegalRelay K r e h commit head positions → IsLawful r.world.shape.objects opening acts (deliveries_of h) (delivery_at e h commit head positions)
   relay-lawful e h commit head positions b l serial t =
       let earlier : IsEarlier h H = earlier-rest h e H b in
       let n = length (accepted (e ∷ h)) in
       let d = delivery_at e h commit head positions in
       let within : n ≤ length (accepted H) = accepted-grows (e ∷ h) H b in
       let count : length acts ≡ length (accepted H) = actions-count H in
-      let most : commit_of h ≤ length (accepted h) = commit-most h in
+      let most : commit_of (K.kept h) ≤ length (accepted h) = commit_within-kept K keeps h in
       let grows : length (accepted h) ≤ n = accepted-grows h (e ∷ h) (after e same) in
-      let c : commit ≡ commit_of h = t.commit_is in
+      let c : commit ≡ commit_of (K.kept h) = t.commit_is in
       let sent : told_positions (deliveries_of h) e.session ≡ sent_to h e.session = told-sent h e.session in
       let first : take n acts ≡ actions_of (e ∷ h) = first-actions (e ∷ h) b in
-      let given : known_values r.world.shape.objects acts commit (deliveries_of h) e.session ≡ already_given r.world.shape.objects h e.session =
+      let given : known_values r.world.shape.objects acts commit (deliveries_of h) e.session ≡ already_given r.world.shape.objects (K.kept h) e.session =
       ap (λ (m : ℕ). known_values r.world.shape.objects acts m (deliveries_of h) e.session) c ∙ values-given h earlier l e.session in
-      let xs = head_for r.world.shape.objects (actions_of (e ∷ h)) (commit_of h) (sent_to h e.session) (already_given r.world.shape.objects h e.session) t.target in
+      let xs = head_for r.world.shape.objects (actions_of (e ∷ h)) (commit_of (K.kept h)) (sent_to h e.session) (already_given r.world.shape.objects (K.kept h) e.session) t.target in
       record {
         commit = omega arith;
         count = omega arith;
         relayed = elim (cases_Bool (is_in t.target (sent_to h e.session))) [
-          | inl y ↦ inl (t.positions_are ∙ needed-sent (actions_of (e ∷ h)) (commit_of h) (sent_to h e.session) t.target y)
+          | inl y ↦ inl (t.positions_are ∙ needed-sent (actions_of (e ∷ h)) (commit_of (K.kept h)) (sent_to h e.session) t.target y)
           | inr no' ↦ inr (record {
             target = t.target;
             above = subst (λ (m : ℕ). m < t.target) (sym c) t.above;
             accepted = t.accepted_to;
             unsent = ap (is_in t.target) sent ∙ no';
             positions = t.positions_are
-                ∙ ap₂ (λ (A : List Action) (ps : List ℕ). needed_for A (commit_of h) ps t.target) (sym first) (sym sent)
+                ∙ ap₂ (λ (A : List Action) (ps : List ℕ). needed_for A (commit_of (K.kept h)) ps t.target) (sym first) (sym sent)
                 ∙ ap (λ (m : ℕ). needed_for (take n acts) m (told_positions (deliveries_of h) e.session) t.target) (sym c);
-            head = ap head_objects t.head_is ∙ objects-named h xs
-                ∙ ap₂ (λ (A : List Action) (ps : List ℕ). head_for r.world.shape.objects A (commit_of h) ps (already_given r.world.shape.objects h e.session) t.target) (sym first) (sym sent)
+            head = ap head_objects t.head_is ∙ objects-named r (K.kept h) xs
+                ∙ ap₂ (λ (A : List Action) (ps : List ℕ). head_for r.world.shape.objects A (commit_of (K.kept h)) ps (already_given r.world.shape.objects (K.kept h) e.session) t.target) (sym first) (sym sent)
                 ∙ ap₂ (λ (m : ℕ) (gs : List ℕ). head_for r.world.shape.objects (take n acts) m (told_positions (deliveries_of h) e.session) gs t.target) (sym c) (sym given);
           })
         ];
         serial = head-serial h earlier serial commit head xs c t.head_is;
       }
 
-  welcome-lawful : (e : Entry) (h : List Entry) (commit : ℕ) (head : List Sent) → IsEarlier (e ∷ h) H → ResultsAreSerial opening acts h →
-      IsWelcomeReply r h e.session e.request commit head → IsLawful r.world.shape.objects opening acts (deliveries_of h) (delivery_at e h commit head [])
+  welcome-lawful : (e : Entry) (h : List Entry) (commit : ℕ) (head : List Sent) → IsEarlier (e ∷ h) H → ResultsAreSerial opening acts (K.kept h) →
+      IsWelcomeReply K r h e.session e.request commit head → IsLawful r.world.shape.objects opening acts (deliveries_of h) (delivery_at e h commit head [])
   welcome-lawful e h commit head b serial t =
       let earlier : IsEarlier h H = earlier-rest h e H b in
       let within : length (accepted (e ∷ h)) ≤ length (accepted H) = accepted-grows (e ∷ h) H b in
       let count : length acts ≡ length (accepted H) = actions-count H in
-      let most : commit_of h ≤ length (accepted h) = commit-most h in
+      let most : commit_of (K.kept h) ≤ length (accepted h) = commit_within-kept K keeps h in
       let grows : length (accepted h) ≤ length (accepted (e ∷ h)) = accepted-grows h (e ∷ h) (after e same) in
-      let c : commit ≡ commit_of h = t.commit_is in
+      let c : commit ≡ commit_of (K.kept h) = t.commit_is in
       record {
         commit = omega arith;
         count = omega arith;
@@ -270,13 +283,13 @@ module _ (r : Rules) (H : List Entry) where
         serial = head-serial h earlier serial commit head (map (λ (o : ObjectId). o.0) t.interest) c t.head_is;
       }
 
-  one-lawful : (e : Entry) (h : List Entry) → IsEarlier (e ∷ h) H → Legal r (e ∷ h) → ResultsAreSerial opening acts h →
+  one-lawful : (e : Entry) (h : List Entry) → IsEarlier (e ∷ h) H → LegalFor K r (e ∷ h) → ResultsAreSerial opening acts (K.kept h) →
       AreLawful r.world.shape.objects opening acts (deliveries_of h) → (reply : Logged) → e.reply ≡ reply →
       AreLawful r.world.shape.objects opening acts (delivery_by e.session (length (accepted (e ∷ h))) reply ++ deliveries_of h)
   one-lawful e h b l serial rest (logged.Welcome commit head) is =
-      (welcome-lawful e h commit head b serial (subst (λ (reply : Logged). Tells r h e.session e.request reply) is (legal-tells r e h l)), rest)
+      (welcome-lawful e h commit head b serial (subst (λ (reply : Logged). TellsFor K r h e.session e.request reply) is (served-tells K keeps r e h l)), rest)
   one-lawful e h b l serial rest (logged.Relay seq commit head positions) is =
-      (relay-lawful e h commit head positions b l.1 serial (legal-relay r e h seq commit head positions l is), rest)
+      (relay-lawful e h commit head positions b l.1 serial (legal-relay K keeps r e h seq commit head positions l is), rest)
   one-lawful e h b l serial rest (logged.Dropped seq chain far) is = rest
   one-lawful e h b l serial rest (logged.Settled seq pos) is = rest
   one-lawful e h b l serial rest (logged.Noted commit) is = rest
@@ -285,8 +298,8 @@ module _ (r : Rules) (H : List Entry) where
   one-lawful e h b l serial rest logged.Bye is = rest
 
   -- The deliveries of an earlier history are lawful, among the actions that were accepted at last.
-  pub legal-lawful : (h : List Entry) → IsEarlier h H → Legal r h → ResultsAreSerial opening acts h → AreLawful r.world.shape.objects opening acts (deliveries_of h)
+  pub legal-lawful : (h : List Entry) → IsEarlier h H → LegalFor K r h → ResultsAreSerial opening acts (K.kept h) → AreLawful r.world.shape.objects opening acts (deliveries_of h)
   legal-lawful [] b l serial = tt
   legal-lawful (e ∷ h) b l serial =
-      let before : ResultsAreSerial opening acts h = results-earlier opening acts e h serial in
+      let before : ResultsAreSerial opening acts (K.kept h) = results-earlier K keeps opening acts e h serial in
       one-lawful e h b l before (legal-lawful h (earlier-rest h e H b) l.1 before) e.reply refl

@@ -2,6 +2,7 @@ pub mod Aligned
 pub mod AllTold
 pub mod Allowed
 pub mod Asked
+pub mod Asking
 pub mod Before
 pub mod Begun
 pub mod BoundedRelays
@@ -27,6 +28,7 @@ pub mod Opened
 pub mod Order
 pub mod Ordered
 pub mod Own
+pub mod Owned
 pub mod Pendings
 pub mod Relays
 pub mod Replied
@@ -37,4 +39,5 @@ pub mod Serials
 pub mod Taken
 pub mod Tellings
 pub mod Tests
+pub mod Trusted
 pub mod Window

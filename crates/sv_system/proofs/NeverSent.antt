@@ -15,18 +15,21 @@ use Rattle.sv_journal.specs.declared.entry.Logged.{Logged}
 use Rattle.sv_journal.specs.declared.entry.Logged.TheVariants as logged
 use Rattle.sv_journal.specs.History.{Authored, Outcome, Accepted, accepted, actions_of, client_of, is_client, is_relay, is_submit_of, outcome_in, new_action, outcomes_of, next_seq, full_reply, commit_of}
 use Rattle.sv_journal.specs.Sessions.{is_end, kept_outcome, outcome_at, positions_in, sent_to}
-use Rattle.sv_journal.specs.Answer.{Rules, Legal}
+use Rattle.sv_journal.specs.Answer.{Rules}
+use Rattle.sv_journal.specs.Serving.{Keeping, LegalFor, IsKeeping}
 use Rattle.sv_client.specs.declared.trace.Event.{Event}
 use Rattle.sv_client.specs.declared.trace.Trace.{Trace}
 use Rattle.sv_client.specs.Traces.{current_session, asked, got}
 use Rattle.sv_client.specs.Taking.{Identity}
 use Rattle.sv_client.specs.Proper.{identity_of}
-use Rattle.sv_system.specs.Fits.{requests_in, replies_in, has_session, FitsOne, Fits}
-use Rattle.sv_system.proofs.Histories.{IsEarlier, same, after, earlier-then, earlier-rest, earlier-legal, accepted-grows, actions-count, new-counts, kept-is}
-use Rattle.sv_system.proofs.Replies.{Tells, IsRelayReply, new_of, legal-tells}
+use Rattle.sv_system.specs.Fits.{requests_in, replies_in, has_session}
+use Rattle.sv_system.specs.Served.{OwnsSessions, FitsButValues}
+use Rattle.sv_system.proofs.Histories.{IsEarlier, same, after, earlier-then, earlier-rest, earlier-served, accepted-grows, actions-count, new-counts, kept-is}
+use Rattle.sv_system.proofs.Replies.{TellsFor, IsRelayReply, new_of, served-tells}
+use Rattle.sv_system.proofs.Asking.{IsServed, is_done, asked-there}
 use Rattle.sv_system.proofs.Commits.{next-grows, outcome-at}
 use Rattle.sv_system.proofs.Order.{earlier-strict}
-use Rattle.sv_system.proofs.Opened.{one, has, asks, was-got, own-join, session-client, welcomed-by}
+use Rattle.sv_system.proofs.Opened.{has, asks-other, was-got, own-session, session-client}
 use Rattle.sv_system.proofs.Pendings.{settled}
 use Rattle.sv_system.proofs.Window.{next-front, submit-named, client-some}
 use Rattle.sv_system.proofs.Resent.{answered-settled, older-made, after-poll, joined_makes}
@@ -143,7 +146,7 @@ relay-of logged.Idle p m = absurd (true≢false (sym m))
 relay-of (logged.Refused code detail) p m = absurd (true≢false (sym m))
 relay-of logged.Bye p m = absurd (true≢false (sym m))
 
-module _ (r : Rules) (H : List Entry) (Ls : List Trace) (legal : Legal r H) (fits : Fits r.world.shape H Ls) (i : ℕ) (L : Trace) (member : slice_get Ls i ≡ Some L)
+module _ (K : Keeping) (r : Rules) (H : List Entry) (L : Trace) (served : IsServed K r H L) (owns : OwnsSessions H L)
     (s : ℕ) (current : current_session (reverse L.events) ≡ Some s)
     (e : Entry) (g : List Entry) (b : IsEarlier (e ∷ g) H) (mine : is_of e s ≡ true) (next : length (replies_in (accepted H) g s) ≡ length (got (reverse L.events) s)) where
   abbrev whole : List Event
@@ -158,8 +161,14 @@ module _ (r : Rules) (H : List Entry) (Ls : List Trace) (legal : Legal r H) (fit
   abbrev k : ℕ
   k = L.client.0
 
-  abbrev this_one : FitsOne r.world.shape H L
-  this_one = one r H Ls legal fits i L member
+  abbrev this_one : FitsButValues r.world.shape H L
+  this_one = served.fits
+
+  abbrev keeps : IsKeeping K
+  keeps = served.keeps
+
+  abbrev legal : LegalFor K r H
+  legal = served.legal
 
   earlier : IsEarlier g H
   earlier = earlier-rest g e H b
@@ -168,18 +177,20 @@ module _ (r : Rules) (H : List Entry) (Ls : List Trace) (legal : Legal r H) (fit
   asked_here o = asked L.client L.interest whole o
 
   has_s : has_session L s ≡ true
-  has_s = has r H Ls legal fits i L member s current e g b mine next
+  has_s = has K r H L served owns s current e g b mine next
 
-  -- A request of the session before stands among those whose replies were got.
-  asked-before : (d : Entry) (h : List Entry) → IsEarlier (d ∷ h) g → is_of d s ≡ true → (slice_get (asked_here s) (length (replies_in A h s)) ≡ Some d.request) × (length (replies_in A h s) < length (got whole s))
-  asked-before d h c t = (
-    ap (slice_get (asked_here s)) (as-many A h s) ∙ (this_one.sessions s has_s).asked (length (requests_in h s)) d.request (request-there d h H s (earlier-then (d ∷ h) g H c earlier) t),
-    slice_get_within (got whole s) (length (replies_in A h s)) (full_reply A d.reply) (was-got r H Ls legal fits i L member s current e g b mine next d h c t),
+  -- A request of the session before, which is no Done, stands among those whose replies were got.
+  asked-before : (d : Entry) (h : List Entry) → IsEarlier (d ∷ h) g → is_of d s ≡ true → (q : Request) → d.request ≡ q → is_done q ≡ false →
+      (slice_get (asked_here s) (length (replies_in A h s)) ≡ Some q) × (length (replies_in A h s) < length (got whole s))
+  asked-before d h c t q is other = (
+    ap (slice_get (asked_here s)) (as-many A h s)
+        ∙ asked-there H L s (this_one.sessions s has_s) (length (requests_in h s)) q other (request-there d h H s (earlier-then (d ∷ h) g H c earlier) t ∙ ap Some is),
+    slice_get_within (got whole s) (length (replies_in A h s)) (full_reply A d.reply) (was-got K r H L served owns s current e g b mine next d h c t),
   )
 
   module _ (n : ℕ) (a : Action) (is : e.request ≡ requests.Submit n a) (p : ℕ) (x : IsAcceptance g k n p) where
     asking : slice_get (asked_here s) (length (got whole s)) ≡ Some (requests.Submit n a)
-    asking = asks r H Ls legal fits i L member s current e g b mine next ∙ ap Some is
+    asking = asks-other K r H L served owns s current e g b mine next (requests.Submit n a) is refl
 
     not-settled : settled whole < n
     not-settled = (let number : n ≡ suc (settled whole) = (next-front who L.first whole this_one.proper.events s n a current asking).1.1 in omega arith)
@@ -187,23 +198,22 @@ module _ (r : Rules) (H : List Entry) (Ls : List Trace) (legal : Legal r H) (fit
     -- not by a relay to a Poll
     not-polled : (d : Entry) (h : List Entry) → IsEarlier (d ∷ h) g → is_of d s ≡ true → d.request ≡ requests.Poll → ⊥
     not-polled d h c t poll =
-        let before = asked-before d h c t in
+        let before = asked-before d h c t requests.Poll poll refl in
         let after' : joined_makes who L.first whole < n =
-        after-poll who L.first whole this_one.proper.events s (length (replies_in A h s)) (length (got whole s)) n a current before.1 (before.0 ∙ ap Some poll) asking in
+        after-poll who L.first whole this_one.proper.events s (length (replies_in A h s)) (length (got whole s)) n a current before.1 before.0 asking in
         let o = x.entry.session in
         let bx : IsEarlier (x.entry ∷ x.before) H = earlier-then (x.entry ∷ x.before) g H x.there earlier in
         let q = submit-named x.entry.request n x.submit in
-        let w = welcomed-by x.before o k (client-some (client_of x.before o) k x.client) in
-        let j = own-join r H Ls legal fits i L member w.entry w.before (earlier-then (w.entry ∷ w.before) x.before H w.earlier (earlier-rest x.before x.entry H bx)) w.client w.life w.welcome.interest w.welcome.request w.client_is in
-        let has_o : has_session L o ≡ true = subst (λ (m : ℕ). has_session L m ≡ true) w.session j.0 in
+        let has_o : has_session L o ≡ true =
+        own-session K r H L served owns x.before (earlier-rest x.before x.entry H bx) o (client-some (client_of x.before o) k x.client) in
         elim (cases_eq o s) [
           | inl z ↦
-              (let own = asked-before x.entry x.before x.there (of-from x.entry s z (ap is_end q.1)) in
-              let old : n ≤ settled whole = answered-settled who L.first whole this_one.proper.events s (length (replies_in A x.before s)) n q.0 own.1 (own.0 ∙ ap Some q.1) in
+              (let own = asked-before x.entry x.before x.there (of-from x.entry s z (ap is_end q.1)) (requests.Submit n q.0) q.1 refl in
+              let old : n ≤ settled whole = answered-settled who L.first whole this_one.proper.events s (length (replies_in A x.before s)) n q.0 own.1 own.0 in
               let new : settled whole < n = not-settled in
               absurd (omega arith))
           | inr z ↦
-              (let there = (this_one.sessions o has_o).asked (length (requests_in x.before o)) x.entry.request (request-there x.entry x.before H o bx (of-from x.entry o refl (ap is_end q.1))) in
+              (let there = asked-there H L o (this_one.sessions o has_o) (length (requests_in x.before o)) x.entry.request (ap is_done q.1) (request-there x.entry x.before H o bx (of-from x.entry o refl (ap is_end q.1))) in
               let old : n ≤ joined_makes who L.first whole = older-made who L.first whole this_one.proper.events s o (length (requests_in x.before o)) n q.0 current (λ y. z (sym y)) (there ∙ ap Some q.1) in
               absurd (omega arith))
         ]
@@ -211,8 +221,8 @@ module _ (r : Rules) (H : List Entry) (Ls : List Trace) (legal : Legal r H) (fit
     -- not by a relay to another Submit
     not-submitted : (d : Entry) (h : List Entry) → IsEarlier (d ∷ h) g → is_of d s ≡ true → (m q : ℕ) (c : Action) → d.request ≡ requests.Submit m c → IsAcceptance g k m q → p ≤ q → ⊥
     not-submitted d h there t m q c request y low =
-        let before = asked-before d h there t in
-        let old : m ≤ settled whole = answered-settled who L.first whole this_one.proper.events s (length (replies_in A h s)) m c before.1 (before.0 ∙ ap Some request) in
+        let before = asked-before d h there t (requests.Submit m c) request refl in
+        let old : m ≤ settled whole = answered-settled who L.first whole this_one.proper.events s (length (replies_in A h s)) m c before.1 before.0 in
         let new : settled whole < n = not-settled in
         let less : q < p = positions-ascend g k n p m q x y (omega arith) in
         absurd (omega arith)
@@ -221,13 +231,13 @@ module _ (r : Rules) (H : List Entry) (Ls : List Trace) (legal : Legal r H) (fit
     never-sent m =
         let w = sent-by g s p m in
         let bw : IsEarlier (w.entry ∷ w.before) H = earlier-then (w.entry ∷ w.before) g H w.there earlier in
-        let l : Legal r (w.entry ∷ w.before) = earlier-legal r (w.entry ∷ w.before) H bw legal in
+        let l : LegalFor K r (w.entry ∷ w.before) = earlier-served K r (w.entry ∷ w.before) H bw legal in
         let y = relay-of w.entry.reply p w.named in
-        let t : IsRelayReply r w.before w.entry.session w.entry.request y.1.0 y.1.1.0 y.1.1.1.0 =
-        subst (λ (z : Logged). Tells r w.before w.entry.session w.entry.request z) y.1.1.1.1 (legal-tells r w.entry w.before l) in
-        let own : t.client ≡ k = session-client r H Ls legal fits i L member s has_s w.before (earlier-rest w.before w.entry H bw) t.client (subst (λ (o : ℕ). client_of w.before o ≡ Some t.client) w.session t.joined) in
+        let t : IsRelayReply K r w.before w.entry.session w.entry.request y.1.0 y.1.1.0 y.1.1.1.0 =
+        subst (λ (z : Logged). TellsFor K r w.before w.entry.session w.entry.request z) y.1.1.1.1 (served-tells K keeps r w.entry w.before l) in
+        let own : t.client ≡ k = session-client K r H L served owns s has_s w.before (earlier-rest w.before w.entry H bw) t.client (subst (λ (o : ℕ). client_of w.before o ≡ Some t.client) w.session t.joined) in
         let named : is_in p y.1.1.1.0 ≡ true = subst (λ (z : Logged). is_in p (positions_in z) ≡ true) y.1.1.1.1 w.named in
-        let low : p ≤ t.target = (needed-bounds (actions_of w.before ++ new_of w.before w.entry.session w.entry.request) (commit_of w.before) (sent_to w.before w.entry.session) t.target t.above p
+        let low : p ≤ t.target = (needed-bounds (actions_of w.before ++ new_of w.before w.entry.session w.entry.request) (commit_of (K.kept w.before)) (sent_to w.before w.entry.session) t.target t.above p
         (subst (λ (ks : List ℕ). is_in p ks ≡ true) t.positions_are named)).1 in
         elim t.kind [
           | inr z ↦ not-polled w.entry w.before w.there (of-from w.entry s w.session (ap is_end z.0)) z.0

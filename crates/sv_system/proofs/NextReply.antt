@@ -4,16 +4,22 @@ use Rattle.std.specs.Prelude.{if◌then◌else◌, All}
 use Rattle.sv_wire.specs.declared.message.Request.{Request}
 use Rattle.sv_wire.specs.declared.message.Reply.{Reply}
 use Rattle.sv_journal.specs.declared.entry.Entry.{Entry}
-use Rattle.sv_journal.specs.History.{accepted}
+use Rattle.sv_journal.specs.History.{accepted, actions_of}
 use Rattle.sv_journal.specs.Answer.{Rules, Legal}
+use Rattle.sv_journal.specs.Serving.{Keeping, plain}
 use Rattle.sv_client.specs.declared.trace.Event.{Event}
 use Rattle.sv_client.specs.declared.trace.Trace.{Trace}
 use Rattle.sv_client.specs.Traces.{current_session, held_of, pending_of, requests_of, asked, got}
 use Rattle.sv_client.specs.Taking.{Identity, WrongKind, BadOrder, BadItem, allows, is_out_of_order, has_bad_item, missing_in, missing_fault, unanswered, fault_after, first_fault_of_reply}
 use Rattle.sv_client.specs.Proper.{identity_of}
 use Rattle.sv_system.specs.Fits.{replies_in, Fits}
+use Rattle.sv_system.specs.Served.{OwnsSessions}
+use Rattle.sv_system.specs.Journals.{ResultsAreSerial}
 use Rattle.sv_system.proofs.Entered.{entered}
 use Rattle.sv_system.proofs.Aligned.{drop-one}
+use Rattle.sv_system.proofs.Asking.{IsServed, same-allows, same-items}
+use Rattle.sv_system.proofs.Trusted.{noted-serial}
+use Rattle.sv_system.proofs.Owned.{plain-served, owns-own}
 use Rattle.sv_system.proofs.Opened.{asks}
 use Rattle.sv_system.proofs.Allowed.{allowed}
 use Rattle.sv_system.proofs.Ordered.{ordered, complete}
@@ -35,18 +41,29 @@ answered-well who t s q reply c e k o i m =
     ∙ ap (λ (qs : List Request). fault_after who t qs reply) (drop-one (length (got t s)) (asked who.client who.interest t s) q e)
     ∙ none-left (allows q reply) (is_out_of_order t reply) (has_bad_item who (pending_of t) q reply) (missing_in (held_of t) reply) k o i m
 
+-- The next reply to a client of a served journal has no fault, where the results that are kept are serial.
+pub served-no_fault : (K : Keeping) (r : Rules) (h : List Entry) (L : Trace) (served : IsServed K r h L) (owns : OwnsSessions h L) (s : ℕ) (reply : Reply) → length r.world.values ≡ r.world.shape.objects →
+    All (λ (v : List ℤ). length v ≡ r.world.shape.attrs) r.world.values → r.bound ≤ 32 → ResultsAreSerial r.world.values (actions_of h) (K.kept h) →
+    current_session (reverse L.events) ≡ Some s → length (requests_of L s) ≤ 1024 →
+    slice_get (replies_in (accepted h) h s) (length (got (reverse L.events) s)) ≡ Some reply → first_fault_of_reply (identity_of r.world.shape L) (reverse L.events) reply ≡ None
+served-no_fault K r h L served owns s reply count shaped bound serial current few is =
+    let whole : List Event = reverse L.events in
+    let who : Identity = identity_of r.world.shape L in
+    let x = entered (accepted h) h s (length (got whole s)) reply is in
+    let next : length (replies_in (accepted h) x.before s) ≡ length (got whole s) = sym x.place in
+    let q = asks K r h L served owns s current x.entry x.before x.earlier x.of_it next in
+    answered-well who whole s q.0 reply current q.1.0
+    (same-allows q.0 x.entry.request q.1.1 reply
+    ∙ ap (allows x.entry.request) x.replied ∙ allowed K r h L served owns s current few x.entry x.before x.earlier x.of_it next count shaped bound serial x.entry.request refl)
+    (ap (is_out_of_order whole) x.replied ∙ ordered K r h L served owns s current few x.entry x.before x.earlier x.of_it next x.entry.reply refl)
+    (same-items who (pending_of whole) q.0 x.entry.request q.1.1 reply
+    ∙ ap (has_bad_item who (pending_of whole) x.entry.request) x.replied
+    ∙ no-bad_item K r h L served owns s current few x.entry x.before x.earlier x.of_it next count shaped bound serial x.entry.reply refl)
+    (ap (missing_in (held_of whole)) x.replied ∙ complete K r h L served owns s current few x.entry x.before x.earlier x.of_it next count serial)
+
 pub no-fault : (r : Rules) (h : List Entry) (Ls : List Trace) (i : ℕ) (L : Trace) (s : ℕ) (reply : Reply) → length r.world.values ≡ r.world.shape.objects →
     All (λ (v : List ℤ). length v ≡ r.world.shape.attrs) r.world.values → r.bound ≤ 32 → Legal r h → Fits r.world.shape h Ls →
     slice_get Ls i ≡ Some L → current_session (reverse L.events) ≡ Some s → length (requests_of L s) ≤ 1024 →
     slice_get (replies_in (accepted h) h s) (length (got (reverse L.events) s)) ≡ Some reply → first_fault_of_reply (identity_of r.world.shape L) (reverse L.events) reply ≡ None
-no-fault r h Ls i L s reply count shaped bound legal fits member current few is =
-    let whole : List Event = reverse L.events in
-    let x = entered (accepted h) h s (length (got whole s)) reply is in
-    let next : length (replies_in (accepted h) x.before s) ≡ length (got whole s) = sym x.place in
-    answered-well (identity_of r.world.shape L) whole s x.entry.request reply current
-    (asks r h Ls legal fits i L member s current x.entry x.before x.earlier x.of_it next)
-    (ap (allows x.entry.request) x.replied ∙ allowed r h Ls legal fits i L member s current few x.entry x.before x.earlier x.of_it next count shaped bound x.entry.request refl)
-    (ap (is_out_of_order whole) x.replied ∙ ordered r h Ls legal fits i L member s current few x.entry x.before x.earlier x.of_it next x.entry.reply refl)
-    (ap (has_bad_item (identity_of r.world.shape L) (pending_of whole) x.entry.request) x.replied
-    ∙ no-bad_item r h Ls legal fits i L member s current few x.entry x.before x.earlier x.of_it next count shaped bound x.entry.reply refl)
-    (ap (missing_in (held_of whole)) x.replied ∙ complete r h Ls legal fits i L member s current few x.entry x.before x.earlier x.of_it next count)
+no-fault r h Ls i L s reply count shaped bound legal fits member =
+    served-no_fault plain r h L (plain-served r h Ls legal fits i L member) (owns-own r.world.shape h Ls fits i L member) s reply count shaped bound (noted-serial r h Ls count legal fits)

@@ -1,9 +1,7 @@
 -- A relay that is the next reply to a client has its own position as an item.
-use Rattle.std.proofs.Common.{◌≡◌, ℕ, suc, ◌<◌, ◌≤◌, Bool, true, false, not, ◌&&◌, ◌||◌, inl, inr, List, [], ◌∷◌, ◌++◌, map, reverse, length, Some, is_none, slice_get, nat_lt, refl, sym, ap, ◌∙◌, subst, arith, true≢false}
-use Rattle.std.specs.List.{list_all}
-use Rattle.std.proofs.lemmas.Bool.{and_parts, or_cases, not-true, false_from_ne_true}
-use Rattle.sv_world.specs.Control.{is_in, below}
-use Rattle.sv_world.proofs.Members.{is_in-filter_parts}
+use Rattle.std.proofs.Common.{◌≡◌, ℕ, suc, ◌<◌, ◌≤◌, true, false, inl, inr, List, [], ◌∷◌, ◌++◌, map, reverse, length, Some, slice_get, refl, sym, ap, ◌∙◌, subst, arith, true≢false}
+use Rattle.std.proofs.lemmas.Bool.{false_from_ne_true}
+use Rattle.sv_world.specs.Control.{is_in}
 use Rattle.sv_world.proofs.Needs.{needed-ends}
 use Rattle.sv_wire.specs.declared.message.Held.{Held as Sent}
 use Rattle.sv_wire.specs.declared.message.Item.{Item}
@@ -12,55 +10,55 @@ use Rattle.sv_wire.specs.declared.message.Reply.TheVariants as replies
 use Rattle.sv_journal.specs.declared.entry.Entry.{Entry}
 use Rattle.sv_journal.specs.declared.entry.Logged.{Logged}
 use Rattle.sv_journal.specs.declared.entry.Logged.TheVariants as logged
-use Rattle.sv_journal.specs.History.{Authored, Accepted, accepted, actions_of, client_of, result_at, commit_of, item_at, full_reply}
-use Rattle.sv_journal.specs.Sessions.{is_over, kept_outcome, positions_in, sent_to}
-use Rattle.sv_journal.specs.Answer.{Rules, is_abandoned, Legal}
+use Rattle.sv_journal.specs.History.{Authored, Accepted, accepted, actions_of, client_of, commit_of, item_at, full_reply}
+use Rattle.sv_journal.specs.Sessions.{is_over, kept_outcome, sent_to}
+use Rattle.sv_journal.specs.Answer.{Rules, Legal}
+use Rattle.sv_journal.specs.Serving.{Keeping, plain, LegalFor, IsKeeping}
 use Rattle.sv_client.specs.declared.trace.Trace.{Trace}
 use Rattle.sv_client.specs.Traces.{current_session, asked, requests_of, got}
 use Rattle.sv_system.specs.Fits.{replies_in, Fits}
-use Rattle.sv_system.proofs.Histories.{IsEarlier, same, after, earlier-rest, earlier-legal, actions-count, kept-is}
-use Rattle.sv_system.proofs.Replies.{Tells, IsRelayReply, new_of, legal-tells}
+use Rattle.sv_system.specs.Served.{OwnsSessions}
+use Rattle.sv_system.proofs.Histories.{IsEarlier, earlier-rest, earlier-served, actions-count, kept-is}
+use Rattle.sv_system.proofs.Replies.{TellsFor, IsRelayReply, new_of, served-tells}
 use Rattle.sv_system.proofs.Lawful.{sent-within}
 use Rattle.sv_system.proofs.Entered.{is_of, of-parts, entered}
+use Rattle.sv_system.proofs.Asking.{IsServed}
 use Rattle.sv_system.proofs.Opened.{has, session-client}
+use Rattle.sv_system.proofs.Owned.{plain-served, owns-own}
 use Rattle.sv_system.proofs.Begun.{open'}
-use Rattle.sv_system.proofs.NeverSent.{acceptance-of, sent-by, never-sent}
-
-all-at : (t : Entry → Bool) (d : Entry) (h g : List Entry) → IsEarlier (d ∷ h) g → list_all t g ≡ true → t d ≡ true
-all-at t d h whole same a = (and_parts (t d) (list_all t h) a).0
-all-at t d h whole (after {g} c b) a = all-at t d h g b (and_parts (t c) (list_all t g) a).1
+use Rattle.sv_system.proofs.NeverSent.{acceptance-of, never-sent}
 
 not-nil : (xs : List ℕ) (n : ℕ) (ys : List ℕ) → ys ≡ xs ++ n ∷ [] → ys ≡ [] → ⊥
 not-nil [] n ys e f = (let g : n ∷ [] ≡ [] = sym e ∙ f in cc)
 not-nil (x ∷ xs) n ys e f = (let g : x ∷ (xs ++ n ∷ []) ≡ [] = sym e ∙ f in cc)
 
-module _ (r : Rules) (H : List Entry) (Ls : List Trace) (legal : Legal r H) (fits : Fits r.world.shape H Ls) (i : ℕ) (L : Trace) (member : slice_get Ls i ≡ Some L)
+module _ (K : Keeping) (r : Rules) (H : List Entry) (L : Trace) (served : IsServed K r H L) (owns : OwnsSessions H L)
     (s : ℕ) (current : current_session (reverse L.events) ≡ Some s) (few : length (asked L.client L.interest (reverse L.events) s) ≤ 1024)
     (e : Entry) (g : List Entry) (b : IsEarlier (e ∷ g) H) (mine : is_of e s ≡ true) (next : length (replies_in (accepted H) g s) ≡ length (got (reverse L.events) s)) where
+  abbrev keeps : IsKeeping K
+  keeps = served.keeps
+
+  abbrev legal : LegalFor K r H
+  legal = served.legal
+
   earlier : IsEarlier g H
   earlier = earlier-rest g e H b
 
-  unsent : (commit : ℕ) (head : List Sent) (positions : List ℕ) → (t : IsRelayReply r g e.session e.request commit head positions) → is_in t.target (sent_to g s) ≡ true → ⊥
+  unsent : (commit : ℕ) (head : List Sent) (positions : List ℕ) → (t : IsRelayReply K r g e.session e.request commit head positions) → is_in t.target (sent_to g s) ≡ true → ⊥
   unsent commit head positions t m =
       let session : e.session ≡ s = (of-parts e s mine).0 in
-      let own : t.client ≡ L.client.0 = session-client r H Ls legal fits i L member s (has r H Ls legal fits i L member s current e g b mine next) g earlier t.client (subst (λ (o : ℕ). client_of g o ≡ Some t.client) session t.joined) in
+      let own : t.client ≡ L.client.0 = session-client K r H L served owns s (has K r H L served owns s current e g b mine next) g earlier t.client (subst (λ (o : ℕ). client_of g o ≡ Some t.client) session t.joined) in
       elim t.kind [
         | inr z ↦
-            (let w = sent-by g s t.target m in
-            let f = is_in-filter_parts (λ p. nat_lt (commit_of g) p && is_none (result_at g p) && is_abandoned g p) t.target (below (suc (length (accepted g)))) z.1 in
-            let left : is_abandoned g t.target ≡ true = (and_parts (nat_lt (commit_of g) t.target && is_none (result_at g t.target)) (is_abandoned g t.target) f.1).1 in
-            let test = all-at (λ (d : Entry). not (is_in t.target (positions_in d.reply)) || is_over g d.session) w.entry w.before g w.there left in
-            let still : is_over g s ≡ false = open' r H Ls legal fits i L member s current few e g b mine next in
-            elim (or_cases (not (is_in t.target (positions_in w.entry.reply))) (is_over g w.entry.session) test) [
-              | inl x ↦ true≢false (sym w.named ∙ not-true (is_in t.target (positions_in w.entry.reply)) x)
-              | inr x ↦ true≢false (sym x ∙ ap (is_over g) w.session ∙ still)
-            ])
+            (let still : is_over g s ≡ false = open' K r H L served owns s current few e g b mine next in
+            let due : is_in t.target (K.due g s) ≡ true = subst (λ (o : ℕ). is_in t.target (K.due g o) ≡ true) session z.1 in
+            true≢false (sym m ∙ keeps.unsent g s t.target due still))
         | inl z ↦ elim z.1.1.1 [
           | inl kept ↦
-              never-sent r H Ls legal fits i L member s current e g b mine next z.0 z.1.0 z.1.1.0 t.target
+              never-sent K r H L served owns s current e g b mine next z.0 z.1.0 z.1.1.0 t.target
               (acceptance-of g L.client.0 z.0 t.target (kept-is g L.client.0 z.0 (Accepted t.target) (subst (λ (c : ℕ). kept_outcome g c z.0 ≡ Some (Accepted t.target)) own kept))) m
           | inr fresh ↦
-              (let within : t.target ≤ length (accepted g) = sent-within r g (earlier-legal r g H earlier legal) s t.target m in
+              (let within : t.target ≤ length (accepted g) = sent-within K keeps r g (earlier-served K r g H earlier legal) s t.target m in
               let count : length (actions_of g) ≡ length (accepted g) = actions-count g in
               let place : t.target ≡ suc (length (actions_of g)) = fresh.1.0 in
               absurd (omega arith))
@@ -70,10 +68,10 @@ module _ (r : Rules) (H : List Entry) (Ls : List Trace) (legal : Legal r H) (fit
   pub positions-some : (seq commit : ℕ) (head : List Sent) (positions : List ℕ) → e.reply ≡ logged.Relay seq commit head positions → positions ≡ [] → ⊥
   positions-some seq commit head positions is none =
       let session : e.session ≡ s = (of-parts e s mine).0 in
-      let t : IsRelayReply r g e.session e.request commit head positions = subst (λ (y : Logged). Tells r g e.session e.request y) is (legal-tells r e g (earlier-legal r (e ∷ g) H b legal)) in
-      let above : commit_of g < t.target = t.above in
+      let t : IsRelayReply K r g e.session e.request commit head positions = subst (λ (y : Logged). TellsFor K r g e.session e.request y) is (served-tells K keeps r e g (earlier-served K r (e ∷ g) H b legal)) in
+      let above : commit_of (K.kept g) < t.target = t.above in
       let free : is_in t.target (sent_to g e.session) ≡ false = false_from_ne_true (is_in t.target (sent_to g e.session)) (λ m. unsent commit head positions t (subst (λ (o : ℕ). is_in t.target (sent_to g o) ≡ true) session m)) in
-      let ends = needed-ends (actions_of g ++ new_of g e.session e.request) (commit_of g) (sent_to g e.session) t.target (omega arith) free in
+      let ends = needed-ends (actions_of g ++ new_of g e.session e.request) (commit_of (K.kept g)) (sent_to g e.session) t.target (omega arith) free in
       not-nil ends.0 t.target positions (t.positions_are ∙ ends.1) none
 
 relay-logged : (A : List Authored) (reply : Logged) (seq commit : ℕ) (head : List Sent) (items : List Item) → replies.Relay seq commit head items ≡ full_reply A reply → items ≡ [] →
@@ -95,10 +93,16 @@ relay-logged A logged.Idle seq commit head items e none = cc
 relay-logged A (logged.Refused code detail) seq commit head items e none = cc
 relay-logged A logged.Bye seq commit head items e none = cc
 
+pub served-never_empty : (K : Keeping) (r : Rules) (h : List Entry) (L : Trace) (served : IsServed K r h L) (owns : OwnsSessions h L) (s seq commit : ℕ) (head : List Sent) (items : List Item) →
+    current_session (reverse L.events) ≡ Some s → length (requests_of L s) ≤ 1024 →
+    slice_get (replies_in (accepted h) h s) (length (got (reverse L.events) s)) ≡ Some (replies.Relay seq commit head items) → items ≡ [] → ⊥
+served-never_empty K r h L served owns s seq commit head items current few is none =
+    let x = entered (accepted h) h s (length (got (reverse L.events) s)) (replies.Relay seq commit head items) is in
+    let y = relay-logged (accepted h) x.entry.reply seq commit head items x.replied none in
+    positions-some K r h L served owns s current few x.entry x.before x.earlier x.of_it (sym x.place) y.0 y.1.0 y.1.1.0 y.1.1.1.0 y.1.1.1.1.0 y.1.1.1.1.1
+
 pub never-empty : (r : Rules) (h : List Entry) (Ls : List Trace) (i : ℕ) (L : Trace) (s seq commit : ℕ) (head : List Sent) (items : List Item) → Legal r h → Fits r.world.shape h Ls →
     slice_get Ls i ≡ Some L → current_session (reverse L.events) ≡ Some s → length (requests_of L s) ≤ 1024 →
     slice_get (replies_in (accepted h) h s) (length (got (reverse L.events) s)) ≡ Some (replies.Relay seq commit head items) → items ≡ [] → ⊥
-never-empty r h Ls i L s seq commit head items legal fits member current few is none =
-    let x = entered (accepted h) h s (length (got (reverse L.events) s)) (replies.Relay seq commit head items) is in
-    let y = relay-logged (accepted h) x.entry.reply seq commit head items x.replied none in
-    positions-some r h Ls legal fits i L member s current few x.entry x.before x.earlier x.of_it (sym x.place) y.0 y.1.0 y.1.1.0 y.1.1.1.0 y.1.1.1.1.0 y.1.1.1.1.1
+never-empty r h Ls i L s seq commit head items legal fits member =
+    served-never_empty plain r h L (plain-served r h Ls legal fits i L member) (owns-own r.world.shape h Ls fits i L member) s seq commit head items

@@ -1,13 +1,12 @@
 -- The session that a client began last is not over when its next request is answered.
-use Rattle.std.proofs.Common.{◌≡◌, ℕ, zero, suc, ◌+◌, ◌<◌, ◌≤◌, Bool, true, false, ◌&&◌, ◌==◌, ◌⊎◌, inl, inr, List, [], ◌∷◌, reverse, length, Option, Some, None, slice_get, refl, sym, ap, ◌∙◌, subst, arith, eqb-true, eq-eqb, true≢false}
+use Rattle.std.proofs.Common.{◌≡◌, ℕ, suc, ◌+◌, ◌<◌, ◌≤◌, Bool, true, false, ◌&&◌, ◌==◌, ◌⊎◌, inl, inr, List, [], ◌∷◌, reverse, length, Option, Some, None, slice_get, refl, sym, ap, ◌∙◌, subst, arith, eqb-true, eq-eqb, true≢false}
 use Rattle.std.specs.Prelude.{if◌then◌else◌}
-use Rattle.std.specs.List.{list_any, AllByRecursion}
 use Rattle.std.proofs.lemmas.Bool.{cond-true, cond-false, cases_Bool, or_cases, or_left, or_right, and_parts, and_from, false_from_ne_true}
 use Rattle.std.proofs.lemmas.List.{length-append}
-use Rattle.std.proofs.lemmas.List.Elements.{recursion_from_All}
 use Rattle.std.proofs.lemmas.Option.{none-some, same_Some, slice_get_within}
 use Rattle.sv_world.specs.declared.world.ClientId.{ClientId}
 use Rattle.sv_world.specs.declared.world.ObjectId.{ObjectId}
+use Rattle.sv_world.specs.declared.world.Shape.{Shape}
 use Rattle.sv_wire.specs.declared.message.Held.{Held as Sent}
 use Rattle.sv_wire.specs.declared.message.Request.{Request}
 use Rattle.sv_wire.specs.declared.message.Request.TheVariants as requests
@@ -18,47 +17,23 @@ use Rattle.sv_journal.specs.declared.entry.Logged.{Logged}
 use Rattle.sv_journal.specs.declared.entry.Logged.TheVariants as logged
 use Rattle.sv_journal.specs.History.{Authored, accepted, client_of, is_client, is_welcome, joining, full_reply, either}
 use Rattle.sv_journal.specs.Sessions.{is_end, is_last, welcomes, is_over, life_of}
-use Rattle.sv_journal.specs.Answer.{Rules, Legal}
+use Rattle.sv_journal.specs.Answer.{Rules}
+use Rattle.sv_journal.specs.Serving.{Keeping}
 use Rattle.sv_client.specs.declared.trace.Event.{Event}
 use Rattle.sv_client.specs.declared.trace.Event.TheVariants as events
 use Rattle.sv_client.specs.declared.trace.Trace.{Trace}
 use Rattle.sv_client.specs.Traces.{joins, current_session, asked, got}
 use Rattle.sv_client.specs.Taking.{Identity, allows}
 use Rattle.sv_client.specs.Proper.{identity_of}
-use Rattle.sv_system.specs.Fits.{requests_in, replies_in, is_ended, IsEndLast, has_session, FitsOne, AreApart, AreAllApart, is_owned, Fits}
+use Rattle.sv_system.specs.Fits.{requests_in, replies_in, is_ended, IsEndLast, has_session}
+use Rattle.sv_system.specs.Served.{OwnsSessions, AreSameButValues, FitsButValues}
 use Rattle.sv_system.proofs.Fronts.{get-last}
 use Rattle.sv_system.proofs.Histories.{IsEarlier, same, after, earlier-then, earlier-rest}
-use Rattle.sv_system.proofs.Entered.{is_of, of-parts, of-from, as-many, replies-earlier, front-length, request-there, IsWelcome, welcome-life, life-grows}
+use Rattle.sv_system.proofs.Entered.{is_of, of-parts, of-from, as-many, replies-earlier, front-length, request-there, client-stays, IsWelcome, welcome-life, welcome-client, life-grows}
+use Rattle.sv_system.proofs.Asking.{IsServed, is_done, asked-there}
 use Rattle.sv_system.proofs.Asked.{all, part-rest, asked-part, got-when, got-answers, current-last, current-joined}
 use Rattle.sv_system.proofs.Leaving.{IsJoinAsked, join-asked, leave-last}
 use Rattle.sv_system.proofs.Order.{get-some, never-refused, got-replied, joined-has, welcome-legal}
-
--- ---- Traces of different clients
-
-each-at : {X : Type 0} (P : X → Type 0) (xs : List X) (i : ℕ) (x : X) → AllByRecursion P xs → slice_get xs i ≡ Some x → P x
-each-at P [] i x h e = absurd (none-some x e)
-each-at P (y ∷ ys) zero x h e = subst P (same_Some y x e) h.0
-each-at P (y ∷ ys) (suc i) x h e = each-at P ys i x h.1 e
-
-apart-same : (Ls : List Trace) → AreAllApart Ls → (i j : ℕ) (L M : Trace) → slice_get Ls i ≡ Some L → slice_get Ls j ≡ Some M → L.client ≡ M.client → L ≡ M
-apart-same [] apart i j L M a b e = absurd (none-some L a)
-apart-same (N ∷ Ls) apart zero zero L M a b e = sym (same_Some N L a) ∙ same_Some N M b
-apart-same (N ∷ Ls) apart zero (suc j) L M a b e =
-    absurd ((each-at (AreApart N) Ls j M (recursion_from_All (AreApart N) Ls apart.0) b).clients (ap (λ (T : Trace). T.client) (same_Some N L a) ∙ e))
-apart-same (N ∷ Ls) apart (suc i) zero L M a b e =
-    absurd ((each-at (AreApart N) Ls i L (recursion_from_All (AreApart N) Ls apart.0) a).clients (ap (λ (T : Trace). T.client) (same_Some N M b) ∙ sym e))
-apart-same (N ∷ Ls) apart (suc i) (suc j) L M a b e = apart-same Ls apart.1 i j L M a b e
-
-find-owner : (Ls : List Trace) (s : ℕ) → list_any (λ (L : Trace). has_session L s) Ls ≡ true → (j : ℕ) × ((M : Trace) × ((slice_get Ls j ≡ Some M) × (has_session M s ≡ true)))
-find-owner [] s h = absurd (true≢false (sym h))
-find-owner (L ∷ Ls) s h =
-    elim (or_cases (has_session L s) (list_any (λ (M : Trace). has_session M s) Ls) h) [
-      | inl e ↦ (0, (L, (refl, e)))
-      | inr e ↦ (let f = find-owner Ls s e in (suc f.0, f.1))
-    ]
-
-same-client : (a b : ClientId) → a.0 ≡ b.0 → a ≡ b
-same-client a b e = ap (λ (n : ℕ). record { 0 = n }) e
 
 -- ---- Where a session's client comes from
 
@@ -71,7 +46,7 @@ joining-of requests.Leave k e = absurd (none-some k e)
 joining-of requests.Bad k e = absurd (none-some k e)
 joining-of requests.End k e = absurd (none-some k e)
 
-welcome-of : (reply : Logged) → is_welcome reply ≡ true → (commit : ℕ) × ((head : List Sent) × (reply ≡ logged.Welcome commit head))
+pub welcome-of : (reply : Logged) → is_welcome reply ≡ true → (commit : ℕ) × ((head : List Sent) × (reply ≡ logged.Welcome commit head))
 welcome-of (logged.Welcome commit head) e = (commit, (head, refl))
 welcome-of (logged.Relay seq commit head positions) e = absurd (true≢false (sym e))
 welcome-of (logged.Dropped seq chain far) e = absurd (true≢false (sym e))
@@ -196,9 +171,18 @@ last-kinds q A (logged.Settled seq pos) l a = absurd (true≢false (sym l))
 last-kinds q A (logged.Noted commit) l a = absurd (true≢false (sym l))
 last-kinds q A logged.Idle l a = absurd (true≢false (sym l))
 
-module _ (r : Rules) (H : List Entry) (Ls : List Trace) (legal : Legal r H) (fits : Fits r.world.shape H Ls) (i : ℕ) (L : Trace) (member : slice_get Ls i ≡ Some L) where
-  pub one : FitsOne r.world.shape H L
-  one = each-at (FitsOne r.world.shape H) Ls i L (recursion_from_All (FitsOne r.world.shape H) Ls fits.each) member
+-- A Join that a session of a trace has in the journal is one that the trace asks.
+pub join-of : (shape : Shape) (H : List Entry) (M : Trace) → FitsButValues shape H M → (e : Entry) (h : List Entry) → IsEarlier (e ∷ h) H → has_session M e.session ≡ true →
+    (client : ClientId) (life : ℕ) (interest : List ObjectId) → e.request ≡ requests.Join client life interest →
+    IsJoinAsked (identity_of shape M) M.first (reverse M.events) e.session (length (requests_in h e.session)) client life interest
+join-of shape H M fit e h b has client life interest is =
+    let n = length (requests_in h e.session) in
+    join-asked (identity_of shape M) M.first (reverse M.events) fit.proper.events e.session n client life interest
+    (asked-there H M e.session (fit.sessions e.session has) n (requests.Join client life interest) refl (request-there e h H e.session b (of-from e e.session refl (ap is_end is)) ∙ ap Some is))
+
+module _ (K : Keeping) (r : Rules) (H : List Entry) (L : Trace) (served : IsServed K r H L) (owns : OwnsSessions H L) where
+  abbrev fits : FitsButValues r.world.shape H L
+  fits = served.fits
 
   abbrev who : Identity
   who = identity_of r.world.shape L
@@ -209,43 +193,24 @@ module _ (r : Rules) (H : List Entry) (Ls : List Trace) (legal : Legal r H) (fit
   abbrev A : List Authored
   A = accepted H
 
-  owned-at : (e : Entry) (h : List Entry) → IsEarlier (e ∷ h) H → is_owned Ls e ≡ true
-  owned-at e h b = go H b (recursion_from_All (λ (d : Entry). is_owned Ls d ≡ true) H fits.owned)
-    where
-      go : (g : List Entry) → IsEarlier (e ∷ h) g → AllByRecursion (λ (d : Entry). is_owned Ls d ≡ true) g → is_owned Ls e ≡ true
-      go all' same o = o.0
-      go all' (after {g} d c) o = go g c o.1
+  -- The session in which this client was welcomed is this trace's, and the Join is one that the trace asks.
+  pub own-join : (e : Entry) (h : List Entry) → IsEarlier (e ∷ h) H → (client : ClientId) (life : ℕ) → (w : IsWelcome e client life) → client.0 ≡ L.client.0 →
+      (has_session L e.session ≡ true) × IsJoinAsked who L.first whole e.session (length (requests_in h e.session)) client life w.interest
+  own-join e h b client life w same_number =
+      let fresh = welcome-legal K r H L served e h client life b w in
+      let joined : client_of H e.session ≡ Some client.0 = client-stays (e ∷ h) H b e.session client.0 (welcome-client e h client life w fresh.0) in
+      let has : has_session L e.session ≡ true = owns e.session (joined ∙ ap Some same_number) in
+      (has, join-of r.world.shape H L fits e h b has client life w.interest w.request)
 
-  -- A Join that a session of a trace has in the journal is one that the trace asks.
-  join-of : (M : Trace) → FitsOne r.world.shape H M → (e : Entry) (h : List Entry) → IsEarlier (e ∷ h) H → has_session M e.session ≡ true →
-      (client : ClientId) (life : ℕ) (interest : List ObjectId) → e.request ≡ requests.Join client life interest →
-      IsJoinAsked (identity_of r.world.shape M) M.first (reverse M.events) e.session (length (requests_in h e.session)) client life interest
-  join-of M fit e h b has client life interest is =
-      join-asked (identity_of r.world.shape M) M.first (reverse M.events) fit.proper.events e.session (length (requests_in h e.session)) client life interest
-      ((fit.sessions e.session has).asked (length (requests_in h e.session)) (requests.Join client life interest)
-      (request-there e h H e.session b (of-from e e.session refl (ap is_end is)) ∙ ap Some is))
-
-  -- A Join of this client is asked by this trace.
-  pub own-join : (e : Entry) (h : List Entry) → IsEarlier (e ∷ h) H → (client : ClientId) (life : ℕ) (interest : List ObjectId) → e.request ≡ requests.Join client life interest →
-      client.0 ≡ L.client.0 → (has_session L e.session ≡ true) × IsJoinAsked who L.first whole e.session (length (requests_in h e.session)) client life interest
-  own-join e h b client life interest is same_number =
-      elim (or_cases (is_end e.request) (list_any (λ (M : Trace). has_session M e.session) Ls) (owned-at e h b)) [
-        | inl x ↦ absurd (true≢false (sym x ∙ ap is_end is))
-        | inr x ↦
-            (let o = find-owner Ls e.session x in
-            let M = o.1.0 in
-            let fit : FitsOne r.world.shape H M = each-at (FitsOne r.world.shape H) Ls o.0 M (recursion_from_All (FitsOne r.world.shape H) Ls fits.each) o.1.1.0 in
-            let j = join-of M fit e h b o.1.1.1 client life interest is in
-            let same_trace : L ≡ M = apart-same Ls fits.apart i o.0 L M member o.1.1.0 (same-client L.client M.client (sym same_number ∙ ap (λ (c : ClientId). c.0) j.client_is)) in
-            let has : has_session L e.session ≡ true = subst (λ (T : Trace). has_session T e.session ≡ true) (sym same_trace) o.1.1.1 in
-            (has, join-of L one e h b has client life interest is))
-      ]
+  -- A session that this client has in an earlier history is this trace's.
+  pub own-session : (h : List Entry) → IsEarlier h H → (o : ℕ) → client_of h o ≡ Some L.client.0 → has_session L o ≡ true
+  own-session h b o c = owns o (client-stays h H b o L.client.0 c)
 
   -- The client of this trace's session is the trace's own.
   pub session-client : (s : ℕ) → has_session L s ≡ true → (h : List Entry) → IsEarlier h H → (k : ℕ) → client_of h s ≡ Some k → k ≡ L.client.0
   session-client s has h b k c =
       let w = welcomed-by h s k c in
-      let j = join-of L one w.entry w.before (earlier-then (w.entry ∷ w.before) h H w.earlier b) (subst (λ (n : ℕ). has_session L n ≡ true) (sym w.session) has)
+      let j = join-of r.world.shape H L fits w.entry w.before (earlier-then (w.entry ∷ w.before) h H w.earlier b) (subst (λ (n : ℕ). has_session L n ≡ true) (sym w.session) has)
       w.client w.life w.welcome.interest w.welcome.request in
       sym w.client_is ∙ ap (λ (d : ClientId). d.0) j.client_is
 
@@ -254,16 +219,21 @@ module _ (r : Rules) (H : List Entry) (Ls : List Trace) (legal : Legal r H) (fit
   module _ (s : ℕ) (current : current_session whole ≡ Some s) (e : Entry) (g : List Entry) (b : IsEarlier (e ∷ g) H) (mine : is_of e s ≡ true)
       (next : length (replies_in A g s) ≡ length (got whole s)) where
     pub has : has_session L s ≡ true
-    has = joined-has r H legal L one whole all s (current-joined whole s current)
+    has = joined-has K r H L served whole all s (current-joined whole s current)
 
     abbrev earlier : IsEarlier g H
     earlier = earlier-rest g e H b
 
-    -- The request that is answered is the next one asked.
-    pub asks : slice_get (asked L.client L.interest whole s) (length (got whole s)) ≡ Some e.request
+    -- The request that is answered is the next one asked, but for the values of a Done.
+    pub asks : (p : Request) × ((slice_get (asked L.client L.interest whole s) (length (got whole s)) ≡ Some p) × AreSameButValues p e.request)
     asks =
+        let x = (fits.sessions s has).asked (length (requests_in g s)) e.request (request-there e g H s b mine) in
+        (x.0, (ap (slice_get (asked L.client L.interest whole s)) (sym next ∙ as-many A g s) ∙ x.1.0, x.1.1))
+
+    pub asks-other : (q : Request) → e.request ≡ q → is_done q ≡ false → slice_get (asked L.client L.interest whole s) (length (got whole s)) ≡ Some q
+    asks-other q is f =
         ap (slice_get (asked L.client L.interest whole s)) (sym next ∙ as-many A g s)
-        ∙ (one.sessions s has).asked (length (requests_in g s)) e.request (request-there e g H s b mine)
+        ∙ asked-there H L s (fits.sessions s has) (length (requests_in g s)) q f (request-there e g H s b mine ∙ ap Some is)
 
     -- Each reply of the session before it was got.
     pub was-got : (d : Entry) (h : List Entry) → IsEarlier (d ∷ h) g → is_of d s ≡ true → slice_get (got whole s) (length (replies_in A h s)) ≡ Some (full_reply A d.reply)
@@ -275,20 +245,20 @@ module _ (r : Rules) (H : List Entry) (Ls : List Trace) (legal : Legal r H) (fit
         let there : slice_get (replies_in A (d ∷ h) s) m ≡ Some (full_reply A d.reply) =
         ap (λ (l : List Reply). slice_get l m) (cond-true (is_of d s) _ _ t) ∙ get-last (replies_in A h s) (full_reply A d.reply) in
         let full : slice_get (replies_in A H s) m ≡ Some (full_reply A d.reply) = replies-earlier A (d ∷ h) H (earlier-then (d ∷ h) g H c earlier) s m (full_reply A d.reply) there in
-        found.1 ∙ ap Some (same_Some found.0 (full_reply A d.reply) (sym (got-replied r H legal L one s m found.0 found.1) ∙ full))
+        found.1 ∙ ap Some (same_Some found.0 (full_reply A d.reply) (sym (got-replied K r H L served s m found.0 found.1) ∙ full))
 
     not-left : (d : Entry) (h : List Entry) → IsEarlier (d ∷ h) g → is_of d s ≡ true → is_last d.reply ≡ true → ⊥
     not-left d h c t last =
         let m = length (replies_in A h s) in
         let there = was-got d h c t in
         let w = got-when who L.first whole s m (full_reply A d.reply) there in
-        let a = got-answers who L.first whole one.proper.events s m (full_reply A d.reply) w in
+        let a = got-answers who L.first whole fits.proper.events s m (full_reply A d.reply) w in
         let leave : a.request ≡ requests.Leave = last-kinds a.request A d.reply last a.kind in
         let at : slice_get (asked L.client L.interest whole s) m ≡ Some requests.Leave =
         asked-part who L.first w.before whole (part-rest w.before (events.Got s (full_reply A d.reply)) whole w.part) s m requests.Leave
         (ap (slice_get (asked L.client L.interest w.before s)) w.place ∙ a.asked_there ∙ ap Some leave) in
-        let last_one : length (asked L.client L.interest whole s) ≡ suc m = (leave-last who L.first whole one.proper.events s m at).last in
-        let within : length (got whole s) < length (asked L.client L.interest whole s) = slice_get_within (asked L.client L.interest whole s) (length (got whole s)) e.request asks in
+        let last_one : length (asked L.client L.interest whole s) ≡ suc m = (leave-last who L.first whole fits.proper.events s m at).last in
+        let within : length (got whole s) < length (asked L.client L.interest whole s) = slice_get_within (asked L.client L.interest whole s) (length (got whole s)) asks.0 asks.1.0 in
         let got_it : m < length (got whole s) = slice_get_within (got whole s) m (full_reply A d.reply) there in
         absurd (omega arith)
 
@@ -306,15 +276,15 @@ module _ (r : Rules) (H : List Entry) (Ls : List Trace) (legal : Legal r H) (fit
         let client : ClientId = q.0 in
         let life : ℕ = q.1.0 in
         let welcome : IsWelcome d client life = record { interest = q.1.1.0; commit = reply_is.0; head = reply_is.1.0; request = q.1.1.1.0; reply = reply_is.1.1 } in
-        let oj = own-join d h early client life q.1.1.0 q.1.1.1.0 (q.1.1.1.1 ∙ mine_is) in
-        let fj = own-join first_one.entry first_one.before (earlier-then (first_one.entry ∷ first_one.before) h H first_one.earlier early_h) first_one.client first_one.life first_one.welcome.interest first_one.welcome.request (first_one.client_is ∙ mine_is) in
+        let oj = own-join d h early client life welcome (q.1.1.1.1 ∙ mine_is) in
+        let fj = own-join first_one.entry first_one.before (earlier-then (first_one.entry ∷ first_one.before) h H first_one.earlier early_h) first_one.client first_one.life first_one.welcome (first_one.client_is ∙ mine_is) in
         let n1 : d.session + 1 ≡ L.first + life = oj.1.numbered in
         let l1 : life ≤ joins whole = oj.1.among in
         let n2 : s + 1 ≡ L.first + first_one.life = subst (λ (n : ℕ). n + 1 ≡ L.first + first_one.life) first_one.session fj.1.numbered in
-        let n3 : s + 1 ≡ L.first + joins whole = current-last who L.first whole one.proper.events s current in
+        let n3 : s + 1 ≡ L.first + joins whole = current-last who L.first whole fits.proper.events s current in
         let grew : first_one.life ≤ life_of (first_one.entry ∷ first_one.before) first_one.client.0 = welcome-life first_one.entry first_one.before first_one.client first_one.life first_one.welcome in
         let kept : life_of (first_one.entry ∷ first_one.before) first_one.client.0 ≤ life_of h first_one.client.0 = life-grows (first_one.entry ∷ first_one.before) h first_one.earlier first_one.client.0 in
-        let late : life_of h client.0 < life = (welcome-legal r H legal L one d h client life early welcome).1 in
+        let late : life_of h client.0 < life = (welcome-legal K r H L served d h client life early welcome).1 in
         let clients : client.0 ≡ first_one.client.0 = q.1.1.1.1 ∙ sym first_one.client_is in
         let late' : life_of h first_one.client.0 < life = subst (λ (n : ℕ). life_of h n < life) clients late in
         absurd (omega arith)
@@ -331,6 +301,6 @@ module _ (r : Rules) (H : List Entry) (Ls : List Trace) (legal : Legal r H) (fit
           | inr z ↦ not-replaced y.entry y.before y.earlier z.0 (client_of y.before s) refl z.1
           | inl z ↦ elim (cases_Bool (is_end y.entry.request)) [
             | inr n ↦ not-left y.entry y.before y.earlier (of-from y.entry s z.0 n) z.1
-            | inl x ↦ true≢false (sym (ended-since y.entry y.before g s y.earlier z.0 x) ∙ (end-last_at (e ∷ g) H s b (one.sessions s has).ended).0 (of-parts e s mine).0)
+            | inl x ↦ true≢false (sym (ended-since y.entry y.before g s y.earlier z.0 x) ∙ (end-last_at (e ∷ g) H s b (fits.sessions s has).ended).0 (of-parts e s mine).0)
           ]
         ])

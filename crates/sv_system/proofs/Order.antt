@@ -17,7 +17,8 @@ use Rattle.sv_journal.specs.declared.entry.Logged.{Logged}
 use Rattle.sv_journal.specs.declared.entry.Logged.TheVariants as logged
 use Rattle.sv_journal.specs.History.{Authored, accepted, client_of, joining, full_reply}
 use Rattle.sv_journal.specs.Sessions.{is_over, life_in, life_of}
-use Rattle.sv_journal.specs.Answer.{Rules, refused, Legal}
+use Rattle.sv_journal.specs.Answer.{Rules, refused}
+use Rattle.sv_journal.specs.Serving.{Keeping, LegalFor, IsKeeping}
 use Rattle.sv_client.specs.declared.trace.Event.{Event}
 use Rattle.sv_client.specs.declared.trace.Event.TheVariants as events
 use Rattle.sv_client.specs.declared.trace.Trace.{Trace}
@@ -25,12 +26,14 @@ use Rattle.sv_client.specs.Traces.{joins, asked, got}
 use Rattle.sv_client.specs.Taking.{Identity, allows}
 use Rattle.sv_client.specs.Proper.{AreProper, identity_of}
 use Rattle.sv_system.specs.Fronts.{IsFront}
-use Rattle.sv_system.specs.Fits.{requests_in, replies_in, is_join_of, has_session, FitsOne}
+use Rattle.sv_system.specs.Fits.{requests_in, replies_in, is_join_of, has_session}
+use Rattle.sv_system.specs.Served.{FitsButValues}
 use Rattle.sv_system.proofs.Fronts.{front-then}
-use Rattle.sv_system.proofs.Histories.{IsEarlier, same, after, earlier-then, earlier-legal}
-use Rattle.sv_system.proofs.Replies.{Tells, IsWelcomeReply, over-refused, legal-tells}
+use Rattle.sv_system.proofs.Histories.{IsEarlier, same, after, earlier-then, earlier-served}
+use Rattle.sv_system.proofs.Replies.{TellsFor, IsWelcomeReply, over-refused, served-tells}
 use Rattle.sv_system.proofs.Replied.{front-shorter}
 use Rattle.sv_system.proofs.Entered.{earlier-cases, is_of, of-parts, as-many, replies-earlier, front-length, request-there, entered, client-stays, over-stays, life-grows, IsWelcome, welcome-life, welcome-over, welcome-client}
+use Rattle.sv_system.proofs.Asking.{IsServed, entered-as}
 use Rattle.sv_system.proofs.Asked.{IsPart, part-rest, asked-part, proper-part, got-part, got-when, got-answers, may-answer, IsBegun, begun-or_not, current-last, current-joined, any-part, any-reverse}
 
 pub get-some : {X : Type 0} (xs : List X) (i : ℕ) → i < length xs → (x : X) × (slice_get xs i ≡ Some x)
@@ -69,7 +72,16 @@ never-refused requests.Leave code detail = refl
 never-refused requests.Bad code detail = refl
 never-refused requests.End code detail = refl
 
-module _ (r : Rules) (H : List Entry) (legal : Legal r H) (L : Trace) (fits : FitsOne r.world.shape H L) where
+module _ (K : Keeping) (r : Rules) (H : List Entry) (L : Trace) (served : IsServed K r H L) where
+  abbrev keeps : IsKeeping K
+  keeps = served.keeps
+
+  abbrev legal : LegalFor K r H
+  legal = served.legal
+
+  abbrev fits : FitsButValues r.world.shape H L
+  fits = served.fits
+
   abbrev who : Identity
   who = identity_of r.world.shape L
 
@@ -110,16 +122,15 @@ module _ (r : Rules) (H : List Entry) (legal : Legal r H) (L : Trace) (fits : Fi
       let asked_there : slice_get (asked L.client L.interest whole s) 0 ≡ Some a.request =
       asked-part who L.first g.before whole part s 0 a.request (ap (slice_get (asked L.client L.interest g.before s)) g.place ∙ a.asked_there) in
       let i = entered A h s 0 reply there in
-      let request_there : slice_get (asked L.client L.interest whole s) 0 ≡ Some i.entry.request =
-      (fits.sessions s (got-has s 0 reply is)).asked 0 i.entry.request
-      (ap (slice_get (requests_in H s)) (i.place ∙ as-many A i.before s) ∙ request-there i.entry i.before H s (earlier-then (i.entry ∷ i.before) h H i.earlier b) i.of_it) in
+      let request_there : slice_get (requests_in H s) 0 ≡ Some i.entry.request =
+      ap (slice_get (requests_in H s)) (i.place ∙ as-many A i.before s) ∙ request-there i.entry i.before H s (earlier-then (i.entry ∷ i.before) h H i.earlier b) i.of_it in
       elim (begun-or_not who L.first whole fits.proper.events s) [
         | inl none ↦ absurd (none-some a.request (sym (ap (λ (qs : List Request). slice_get qs 0) none.0) ∙ asked_there))
         | inr begun ↦
             (let join = requests.Join L.client begun.life L.interest in
             let first : slice_get (asked L.client L.interest whole s) 0 ≡ Some join = ap (λ (qs : List Request). slice_get qs 0) begun.asked_are in
             let asked_join : a.request ≡ join = same_Some a.request join (sym asked_there ∙ first) in
-            let request_join : i.entry.request ≡ join = same_Some i.entry.request join (sym request_there ∙ first) in
+            let request_join : i.entry.request ≡ join = entered-as H L s (fits.sessions s (got-has s 0 reply is)) 0 i.entry.request join request_there first refl in
             let w = welcome-logged A a.request L.client begun.life L.interest asked_join i.entry.reply (subst (λ (y : Reply). allows a.request y ≡ true) i.replied a.kind) in
             record {
               entry = i.entry;
@@ -136,8 +147,8 @@ module _ (r : Rules) (H : List Entry) (legal : Legal r H) (L : Trace) (fits : Fi
   pub welcome-legal : (e : Entry) (h : List Entry) (client : ClientId) (life : ℕ) → IsEarlier (e ∷ h) H → IsWelcome e client life →
       (client_of h e.session ≡ None) × (life_of h client.0 < life)
   welcome-legal e h client life b w =
-      let t : IsWelcomeReply r h e.session e.request w.commit w.head =
-      subst (λ (reply : Logged). Tells r h e.session e.request reply) w.reply (legal-tells r e h (earlier-legal r (e ∷ h) H b legal)) in
+      let t : IsWelcomeReply K r h e.session e.request w.commit w.head =
+      subst (λ (reply : Logged). TellsFor K r h e.session e.request reply) w.reply (served-tells K keeps r e h (earlier-served K r (e ∷ h) H b legal)) in
       let same_life : t.life ≡ life = ap life_in (sym t.request ∙ w.request) in
       let same_client : t.client.0 ≡ client.0 = same_Some t.client.0 client.0 (ap joining (sym t.request ∙ w.request)) in
       (t.fresh, subst (λ (n : ℕ). life_of h client.0 < n) same_life (subst (λ (k : ℕ). life_of h k < t.life) same_client t.later))
@@ -178,7 +189,7 @@ module _ (r : Rules) (H : List Entry) (legal : Legal r H) (L : Trace) (fits : Fi
       let a = got-answers who L.first whole fits.proper.events o n reply g in
       let parts = of-parts e o t in
       let refusal : e.reply ≡ refused 4 0 =
-      (earlier-legal r (e ∷ h) H b legal).0 ∙ over-refused r h e.session e.request (subst (λ (m : ℕ). is_over h m ≡ true) (sym parts.0) over') parts.1 in
+      (earlier-served K r (e ∷ h) H b legal).0 ∙ over-refused K keeps r h e.session e.request (subst (λ (m : ℕ). is_over h m ≡ true) (sym parts.0) over') parts.1 in
       true≢false (sym a.kind ∙ ap (allows a.request) (replied ∙ ap (full_reply A) refusal) ∙ never-refused (a.request) 4 0)
 
   begun-at : (v : List Event) → AreProper who L.first v → (s n : ℕ) (reply : Reply) → slice_get (got v s) n ≡ Some reply → IsBegun who L.first v s

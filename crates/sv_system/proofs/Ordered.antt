@@ -1,5 +1,5 @@
 -- The next reply to a client is in order, and brings each value that its items read.
-use Rattle.std.proofs.Common.{◌≡◌, ℕ, ◌<◌, ◌≤◌, Bool, true, false, not, ◌||◌, ◌==◌, inl, inr, List, [], ◌∷◌, ◌++◌, map, reverse, length, Option, Some, None, option_map, is_none, slice_get, refl, sym, ap, ◌∙◌, subst, arith, eq-eqb, true≢false, le-ltb}
+use Rattle.std.proofs.Common.{◌≡◌, ℕ, ◌<◌, ◌≤◌, Bool, true, false, not, ◌||◌, ◌==◌, inl, inr, List, [], ◌∷◌, ◌++◌, map, reverse, length, Option, Some, None, option_map, is_none, refl, sym, ap, ◌∙◌, subst, arith, eq-eqb, true≢false, le-ltb}
 use Rattle.std.specs.List.{AllByRecursion}
 use Rattle.std.proofs.lemmas.Bool.{cond-true, cond-false, cases_eq, lt-leb, not_from_true, ne_eqb}
 use Rattle.std.proofs.lemmas.List.Elements.{recursion_from_All}
@@ -21,26 +21,29 @@ use Rattle.sv_journal.specs.declared.entry.Logged.{Logged}
 use Rattle.sv_journal.specs.declared.entry.Logged.TheVariants as logged
 use Rattle.sv_journal.specs.History.{Authored, accepted, actions_of, item_at, full_reply, commit_of}
 use Rattle.sv_journal.specs.Sessions.{sent_to, already_given}
-use Rattle.sv_journal.specs.Answer.{Rules, committed_held, Legal}
+use Rattle.sv_journal.specs.Answer.{Rules, committed_held}
+use Rattle.sv_journal.specs.Serving.{Keeping, LegalFor, IsKeeping}
+use Rattle.sv_journal.proofs.Kept.{commit_grows-kept}
 use Rattle.sv_client.specs.declared.trace.Event.{Event}
 use Rattle.sv_client.specs.declared.trace.Event.TheVariants as events
 use Rattle.sv_client.specs.declared.trace.Trace.{Trace}
 use Rattle.sv_client.specs.Traces.{current_session, held_of, head_held, item_held, asked, got}
 use Rattle.sv_client.specs.Taking.{told, begins_by, goes_back, is_out_of_order, first_missing, missing_at, first_missing_of, missing_in}
 use Rattle.sv_system.specs.Fronts.{IsFront}
-use Rattle.sv_system.specs.Fits.{replies_in, FitsOne, Fits}
+use Rattle.sv_system.specs.Fits.{replies_in}
+use Rattle.sv_system.specs.Served.{OwnsSessions, FitsButValues}
+use Rattle.sv_system.specs.Journals.{ResultsAreSerial}
 use Rattle.sv_system.specs.Serial.{is_covered, AreSupplied, IsSufficient}
 use Rattle.sv_system.specs.Delivery.{head_objects}
 use Rattle.sv_system.proofs.Covers.{covered-found}
-use Rattle.sv_system.proofs.Histories.{IsEarlier, same, after, earlier-rest, earlier-legal}
-use Rattle.sv_system.proofs.Replies.{Tells, IsWelcomeReply, legal-tells}
-use Rattle.sv_system.proofs.Commits.{commit-grows}
+use Rattle.sv_system.proofs.Histories.{IsEarlier, same, earlier-rest, earlier-served}
+use Rattle.sv_system.proofs.Replies.{TellsFor, IsWelcomeReply, served-tells}
+use Rattle.sv_system.proofs.Asking.{IsServed}
 use Rattle.sv_system.proofs.Lawful.{IsLegalRelay, legal-relay, objects-named}
 use Rattle.sv_system.proofs.Entered.{is_of, replies-earlier}
 use Rattle.sv_system.proofs.Asked.{all}
 use Rattle.sv_system.proofs.Order.{got-replied}
-use Rattle.sv_system.proofs.Induction.{well-after, noted-serial}
-use Rattle.sv_system.proofs.Opened.{one}
+use Rattle.sv_system.proofs.Induction.{well-after}
 use Rattle.sv_system.proofs.Begun.{join-welcomed}
 use Rattle.sv_system.proofs.Before.{noted-commit, got-same, told-before}
 
@@ -91,7 +94,7 @@ none-missing A held replies.Idle h = refl
 none-missing A held (replies.Refused code detail) h = refl
 none-missing A held replies.Bye h = refl
 
-module _ (r : Rules) (H : List Entry) (Ls : List Trace) (legal : Legal r H) (fits : Fits r.world.shape H Ls) (i : ℕ) (L : Trace) (member : slice_get Ls i ≡ Some L)
+module _ (K : Keeping) (r : Rules) (H : List Entry) (L : Trace) (served : IsServed K r H L) (owns : OwnsSessions H L)
     (s : ℕ) (current : current_session (reverse L.events) ≡ Some s) (few : length (asked L.client L.interest (reverse L.events) s) ≤ 1024)
     (e : Entry) (g : List Entry) (b : IsEarlier (e ∷ g) H) (mine : is_of e s ≡ true) (next : length (replies_in (accepted H) g s) ≡ length (got (reverse L.events) s)) where
   abbrev whole : List Event
@@ -100,45 +103,51 @@ module _ (r : Rules) (H : List Entry) (Ls : List Trace) (legal : Legal r H) (fit
   abbrev A : List Authored
   A = accepted H
 
-  abbrev this_one : FitsOne r.world.shape H L
-  this_one = one r H Ls legal fits i L member
+  abbrev this_one : FitsButValues r.world.shape H L
+  this_one = served.fits
+
+  abbrev keeps : IsKeeping K
+  keeps = served.keeps
+
+  abbrev legal : LegalFor K r H
+  legal = served.legal
 
   earlier : IsEarlier g H
   earlier = earlier-rest g e H b
 
-  legal_here : Legal r (e ∷ g)
-  legal_here = earlier-legal r (e ∷ g) H b legal
+  legal_here : LegalFor K r (e ∷ g)
+  legal_here = earlier-served K r (e ∷ g) H b legal
 
-  told-least : told whole ≤ commit_of g
-  told-least = told-before r H Ls legal fits i L member s current few e g b mine next whole all
+  told-least : told whole ≤ commit_of (K.kept g)
+  told-least = told-before K r H L served owns s current few e g b mine next whole all
 
-  not-back : (c : ℕ) → commit_of g ≤ c → goes_back (Some c) (told whole) ≡ false
-  not-back c l = le-ltb c (told whole) (let t : told whole ≤ commit_of g = told-least in omega arith)
+  not-back : (c : ℕ) → commit_of (K.kept g) ≤ c → goes_back (Some c) (told whole) ≡ false
+  not-back c l = le-ltb c (told whole) (let t : told whole ≤ commit_of (K.kept g) = told-least in omega arith)
 
-  relay-ordered : (seq commit : ℕ) (head : List Sent) (positions : List ℕ) → IsLegalRelay r e g commit head positions → is_out_of_order whole (full_reply A (logged.Relay seq commit head positions)) ≡ false
+  relay-ordered : (seq commit : ℕ) (head : List Sent) (positions : List ℕ) → IsLegalRelay K r e g commit head positions → is_out_of_order whole (full_reply A (logged.Relay seq commit head positions)) ≡ false
   relay-ordered seq commit head positions t =
-      let xs = head_for r.world.shape.objects (actions_of (e ∷ g)) (commit_of g) (sent_to g e.session) (already_given r.world.shape.objects g e.session) t.target in
-      let needed = needed_for (actions_of (e ∷ g)) (commit_of g) (sent_to g e.session) t.target in
-      let c : commit ≡ commit_of g = t.commit_is in
+      let xs = head_for r.world.shape.objects (actions_of (e ∷ g)) (commit_of (K.kept g)) (sent_to g e.session) (already_given r.world.shape.objects (K.kept g) e.session) t.target in
+      let needed = needed_for (actions_of (e ∷ g)) (commit_of (K.kept g)) (sent_to g e.session) t.target in
+      let c : commit ≡ commit_of (K.kept g) = t.commit_is in
       four-false (not (is_ascending (head_objects head))) (not (is_ascending (map (λ (i : Item). i.pos) (map (item_at A) positions)))) (begins_by commit (map (item_at A) positions)) (goes_back (Some commit) (told whole))
       (not_from_true (is_ascending (head_objects head))
-      (subst (λ (ys : List ℕ). is_ascending ys ≡ true) (sym (ap head_objects t.head_is ∙ objects-named r H g xs))
-      (head_for-ascending r.world.shape.objects (actions_of (e ∷ g)) (commit_of g) (sent_to g e.session) (already_given r.world.shape.objects g e.session) t.target)))
+      (subst (λ (ys : List ℕ). is_ascending ys ≡ true) (sym (ap head_objects t.head_is ∙ objects-named r (K.kept g) xs))
+      (head_for-ascending r.world.shape.objects (actions_of (e ∷ g)) (commit_of (K.kept g)) (sent_to g e.session) (already_given r.world.shape.objects (K.kept g) e.session) t.target)))
       (not_from_true (is_ascending (map (λ (i : Item). i.pos) (map (item_at A) positions)))
-      (subst (λ (ys : List ℕ). is_ascending ys ≡ true) (sym (positions-back A positions ∙ t.positions_are)) (needed-ascending (actions_of (e ∷ g)) (commit_of g) (sent_to g e.session) t.target)))
+      (subst (λ (ys : List ℕ). is_ascending ys ≡ true) (sym (positions-back A positions ∙ t.positions_are)) (needed-ascending (actions_of (e ∷ g)) (commit_of (K.kept g)) (sent_to g e.session) t.target)))
       (begins-high A commit positions
-      (λ k m. subst (λ (n : ℕ). n < k) (sym c) (needed-bounds (actions_of (e ∷ g)) (commit_of g) (sent_to g e.session) t.target t.above k (subst (λ (ks : List ℕ). is_in k ks ≡ true) t.positions_are m)).0))
+      (λ k m. subst (λ (n : ℕ). n < k) (sym c) (needed-bounds (actions_of (e ∷ g)) (commit_of (K.kept g)) (sent_to g e.session) t.target t.above k (subst (λ (ks : List ℕ). is_in k ks ≡ true) t.positions_are m)).0))
       (not-back commit (omega arith))
 
-  welcome-ordered : (commit : ℕ) (head : List Sent) → IsWelcomeReply r g e.session e.request commit head → e.reply ≡ logged.Welcome commit head → is_out_of_order whole (replies.Welcome commit head) ≡ false
+  welcome-ordered : (commit : ℕ) (head : List Sent) → IsWelcomeReply K r g e.session e.request commit head → e.reply ≡ logged.Welcome commit head → is_out_of_order whole (replies.Welcome commit head) ≡ false
   welcome-ordered commit head t is =
-      let w = join-welcomed r H Ls legal fits i L member s current few e g b mine next t.client t.life t.interest t.request in
+      let w = join-welcomed K r H L served owns s current few e g b mine next t.client t.life t.interest t.request in
       let xs = map (λ (o : ObjectId). o.0) L.interest in
-      let heads : head ≡ committed_held r g xs = ap logged_head (sym is ∙ w.0) in
-      let c : commit ≡ commit_of g = t.commit_is in
+      let heads : head ≡ committed_held r (K.kept g) xs = ap logged_head (sym is ∙ w.0) in
+      let c : commit ≡ commit_of (K.kept g) = t.commit_is in
       four-false (not (is_ascending (head_objects head))) false false (goes_back (Some commit) (told whole))
       (not_from_true (is_ascending (head_objects head))
-      (subst (λ (ys : List ℕ). is_ascending ys ≡ true) (sym (ap head_objects heads ∙ objects-named r H g xs)) this_one.proper.who.ascending))
+      (subst (λ (ys : List ℕ). is_ascending ys ≡ true) (sym (ap head_objects heads ∙ objects-named r (K.kept g) xs)) this_one.proper.who.ascending))
       refl refl (not-back commit (omega arith))
     where
       logged_head : Logged → List Sent
@@ -147,13 +156,13 @@ module _ (r : Rules) (H : List Entry) (Ls : List Trace) (legal : Legal r H) (fit
 
   -- The next reply is in order.
   pub ordered : (reply : Logged) → e.reply ≡ reply → is_out_of_order whole (full_reply A reply) ≡ false
-  ordered (logged.Relay seq commit head positions) is = relay-ordered seq commit head positions (legal-relay r e g seq commit head positions legal_here is)
+  ordered (logged.Relay seq commit head positions) is = relay-ordered seq commit head positions (legal-relay K keeps r e g seq commit head positions legal_here is)
   ordered (logged.Welcome commit head) is =
-      welcome-ordered commit head (subst (λ (y : Logged). Tells r g e.session e.request y) is (legal-tells r e g legal_here)) is
+      welcome-ordered commit head (subst (λ (y : Logged). TellsFor K r g e.session e.request y) is (served-tells K keeps r e g legal_here)) is
   ordered (logged.Noted commit) is =
-      let t : Tells r g e.session e.request (logged.Noted commit) = subst (λ (y : Logged). Tells r g e.session e.request y) is (legal-tells r e g legal_here) in
-      let now : commit ≡ commit_of (e ∷ g) = t.1.1 ∙ noted-commit e g e.session commit t.0 t.1.0 is in
-      let grows : commit_of g ≤ commit_of (e ∷ g) = commit-grows g (e ∷ g) (after e same) in
+      let t : TellsFor K r g e.session e.request (logged.Noted commit) = subst (λ (y : Logged). TellsFor K r g e.session e.request y) is (served-tells K keeps r e g legal_here) in
+      let now : commit ≡ commit_of (K.kept (e ∷ g)) = t.1.1 ∙ noted-commit K keeps e g commit is in
+      let grows : commit_of (K.kept g) ≤ commit_of (K.kept (e ∷ g)) = commit_grows-kept K keeps e g in
       four-false false false false (goes_back (Some commit) (told whole)) refl refl refl (not-back commit (omega arith))
   ordered (logged.Dropped seq chain far) is = refl
   ordered (logged.Settled seq pos) is = refl
@@ -165,15 +174,15 @@ module _ (r : Rules) (H : List Entry) (Ls : List Trace) (legal : Legal r H) (fit
   with-next o =
       let reply = full_reply A e.reply in
       elim (cases_eq s o) [
-        | inr n ↦ subst (λ (xs : List Reply). IsFront xs (replies_in A H o)) (sym (cond-false (s == o) (got whole o ++ reply ∷ []) (got whole o) (ne_eqb s o n))) (got-replied r H legal L this_one o)
+        | inr n ↦ subst (λ (xs : List Reply). IsFront xs (replies_in A H o)) (sym (cond-false (s == o) (got whole o ++ reply ∷ []) (got whole o) (ne_eqb s o n))) (got-replied K r H L served o)
         | inl q ↦ subst (λ (m : ℕ). IsFront (got (events.Got s reply ∷ whole) m) (replies_in A H m)) q
             (subst (λ (xs : List Reply). IsFront xs (replies_in A H s))
-            (sym (cond-true (s == s) (got whole s ++ reply ∷ []) (got whole s) (eq-eqb s s refl) ∙ ap (λ (xs : List Reply). xs ++ reply ∷ []) (got-same r H Ls legal fits i L member s current few e g b mine next)))
+            (sym (cond-true (s == s) (got whole s ++ reply ∷ []) (got whole s) (eq-eqb s s refl) ∙ ap (λ (xs : List Reply). xs ++ reply ∷ []) (got-same K r H L served owns s current few e g b mine next)))
             (subst (λ (xs : List Reply). IsFront xs (replies_in A H s)) (cond-true (is_of e s) (replies_in A g s ++ reply ∷ []) (replies_in A g s) mine) (replies-earlier A (e ∷ g) H b s)))
       ]
 
   -- No value that it needs is missing.
-  pub complete : length r.world.values ≡ r.world.shape.objects → missing_in (held_of whole) (full_reply A e.reply) ≡ None
-  complete count =
-      let well = well-after r H Ls count legal fits H same (noted-serial r H Ls count legal fits) (events.Got s (full_reply A e.reply) ∷ whole) with-next in
+  pub complete : length r.world.values ≡ r.world.shape.objects → ResultsAreSerial r.world.values (actions_of H) (K.kept H) → missing_in (held_of whole) (full_reply A e.reply) ≡ None
+  complete count serial =
+      let well = well-after K keeps r H count legal H same serial (events.Got s (full_reply A e.reply) ∷ whole) with-next in
       none-missing (actions_of H) (held_of whole) (full_reply A e.reply) well.sufficient.0

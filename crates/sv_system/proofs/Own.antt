@@ -1,5 +1,5 @@
 -- The relay that answers a client's Submit ends with the submitted action, as the client's own.
-use Rattle.std.proofs.Common.{◌≡◌, ℕ, suc, ◌<◌, ◌≤◌, true, false, ◌==◌, ◌&&◌, inl, inr, List, [], ◌∷◌, ◌++◌, map, reverse, length, Option, Some, slice_get, refl, sym, ap, ap₂, ◌∙◌, subst, arith, eq-eqb, true≢false, append-nil}
+use Rattle.std.proofs.Common.{◌≡◌, ℕ, suc, ◌<◌, ◌≤◌, true, false, ◌==◌, ◌&&◌, inl, inr, List, [], ◌∷◌, ◌++◌, map, reverse, length, Option, Some, refl, sym, ap, ap₂, ◌∙◌, subst, arith, eq-eqb, true≢false, append-nil}
 use Rattle.std.proofs.lemmas.Bool.{cond-true, cond-false, cases_Bool, and_from, false_from_ne_true}
 use Rattle.sv_world.specs.Control.{is_in, blank}
 use Rattle.sv_world.specs.declared.action.Action.{Action}
@@ -12,7 +12,8 @@ use Rattle.sv_journal.specs.declared.entry.Entry.{Entry}
 use Rattle.sv_journal.specs.declared.entry.Logged.TheVariants as logged
 use Rattle.sv_journal.specs.History.{Authored, Accepted, is_relay, new_action, client_of, outcomes_of, accepted, actions_of, next_seq, authored_at, item_at, commit_of}
 use Rattle.sv_journal.specs.Sessions.{is_end, kept_outcome, sent_to}
-use Rattle.sv_journal.specs.Answer.{Rules, Legal}
+use Rattle.sv_journal.specs.Answer.{Rules}
+use Rattle.sv_journal.specs.Serving.{Keeping, LegalFor, IsKeeping}
 use Rattle.sv_client.specs.Same.{is_same_action}
 use Rattle.sv_client.proofs.Equal.{action_own}
 use Rattle.sv_client.specs.declared.trace.Event.{Event}
@@ -20,13 +21,15 @@ use Rattle.sv_client.specs.declared.trace.Trace.{Trace}
 use Rattle.sv_client.specs.Traces.{current_session, asked, got}
 use Rattle.sv_client.specs.Taking.{Identity, is_for_front, ends_with_front}
 use Rattle.sv_client.specs.Proper.{identity_of}
-use Rattle.sv_system.specs.Fits.{requests_in, replies_in, has_session, FitsOne, Fits}
+use Rattle.sv_system.specs.Fits.{requests_in, replies_in, has_session}
+use Rattle.sv_system.specs.Served.{OwnsSessions, FitsButValues}
 use Rattle.sv_system.proofs.Histories.{IsEarlier, earlier-then, earlier-rest, accepted-earlier, actions-count, kept-is}
 use Rattle.sv_system.proofs.Replies.{IsRelayReply, new_of}
 use Rattle.sv_system.proofs.Entered.{is_of, of-parts, of-from, request-there}
 use Rattle.sv_system.proofs.Pendings.{Numbered, keys}
 use Rattle.sv_system.proofs.Aligned.{is_submit}
-use Rattle.sv_system.proofs.Opened.{one, has, asks, own-join, session-client, welcomed-by}
+use Rattle.sv_system.proofs.Asking.{IsServed, is_done, asked-there}
+use Rattle.sv_system.proofs.Opened.{has, asks-other, own-session, session-client}
 use Rattle.sv_system.proofs.Window.{submit-named, client-some}
 use Rattle.sv_system.proofs.NeverSent.{IsAcceptance, acceptance-of}
 use Rattle.sv_system.proofs.NonEmpty.{positions-some}
@@ -95,7 +98,7 @@ acceptance-relay g k n p x =
           absurd (omega arith))
     ]
 
-module _ (r : Rules) (H : List Entry) (Ls : List Trace) (legal : Legal r H) (fits : Fits r.world.shape H Ls) (i : ℕ) (L : Trace) (member : slice_get Ls i ≡ Some L)
+module _ (K : Keeping) (r : Rules) (H : List Entry) (L : Trace) (served : IsServed K r H L) (owns : OwnsSessions H L)
     (s : ℕ) (current : current_session (reverse L.events) ≡ Some s) (few : length (asked L.client L.interest (reverse L.events) s) ≤ 1024)
     (e : Entry) (g : List Entry) (b : IsEarlier (e ∷ g) H) (mine : is_of e s ≡ true) (next : length (replies_in (accepted H) g s) ≡ length (got (reverse L.events) s)) where
   abbrev whole : List Event
@@ -110,14 +113,20 @@ module _ (r : Rules) (H : List Entry) (Ls : List Trace) (legal : Legal r H) (fit
   abbrev k : ℕ
   k = L.client.0
 
-  abbrev this_one : FitsOne r.world.shape H L
-  this_one = one r H Ls legal fits i L member
+  abbrev this_one : FitsButValues r.world.shape H L
+  this_one = served.fits
+
+  abbrev keeps : IsKeeping K
+  keeps = served.keeps
+
+  abbrev legal : LegalFor K r H
+  legal = served.legal
 
   earlier : IsEarlier g H
   earlier = earlier-rest g e H b
 
   asked-made : (n : ℕ) (a : Action) → e.request ≡ requests.Submit n a → IsMade whole (n, a)
-  asked-made n a is = submit-made who L.first whole s (length (got whole s)) n a (asks r H Ls legal fits i L member s current e g b mine next ∙ ap Some is)
+  asked-made n a is = submit-made who L.first whole s (length (got whole s)) n a (asks-other K r H L served owns s current e g b mine next (requests.Submit n a) is refl)
 
   -- The action that was accepted of this client with a number is the one that it submits with it.
   kept-own : (n p : ℕ) (a : Action) → e.request ≡ requests.Submit n a → (x : IsAcceptance g k n p) → authored_at A p ≡ record { client = k; seq = n; action = a }
@@ -126,10 +135,9 @@ module _ (r : Rules) (H : List Entry) (Ls : List Trace) (legal : Legal r H) (fit
       let o = x.entry.session in
       let q = submit-named x.entry.request n x.submit in
       let c : client_of x.before o ≡ Some k = client-some (client_of x.before o) k x.client in
-      let w = welcomed-by x.before o k c in
-      let j = own-join r H Ls legal fits i L member w.entry w.before (earlier-then (w.entry ∷ w.before) x.before H w.earlier (earlier-rest x.before x.entry H bx)) w.client w.life w.welcome.interest w.welcome.request w.client_is in
-      let has_o : has_session L o ≡ true = subst (λ (m : ℕ). has_session L m ≡ true) w.session j.0 in
-      let there = (this_one.sessions o has_o).asked (length (requests_in x.before o)) x.entry.request (request-there x.entry x.before H o bx (of-from x.entry o refl (ap is_end q.1))) in
+      let has_o : has_session L o ≡ true = own-session K r H L served owns x.before (earlier-rest x.before x.entry H bx) o c in
+      let there = asked-there H L o (this_one.sessions o has_o) (length (requests_in x.before o)) x.entry.request (ap is_done q.1)
+      (request-there x.entry x.before H o bx (of-from x.entry o refl (ap is_end q.1))) in
       let old : IsMade whole (n, q.0) = submit-made who L.first whole o (length (requests_in x.before o)) n q.0 (there ∙ ap Some q.1) in
       let action : q.0 ≡ a = made-same whole n q.0 a old (asked-made n a is) in
       ap (authored_at A) x.place
@@ -137,11 +145,11 @@ module _ (r : Rules) (H : List Entry) (Ls : List Trace) (legal : Legal r H) (fit
       ∙ ap (λ (y : Action). record { client = k; seq = n; action = y }) action
 
   -- The position that a relay to a Submit is of has the submitted action as this client's own.
-  target-own : (commit : ℕ) (head : List Sent) (positions : List ℕ) → (t : IsRelayReply r g e.session e.request commit head positions) → is_relay e.reply ≡ true → (n : ℕ) (a : Action) →
+  target-own : (commit : ℕ) (head : List Sent) (positions : List ℕ) → (t : IsRelayReply K r g e.session e.request commit head positions) → is_relay e.reply ≡ true → (n : ℕ) (a : Action) →
       e.request ≡ requests.Submit n a → authored_at A t.target ≡ record { client = k; seq = n; action = a }
   target-own commit head positions t y n a is =
       let session : e.session ≡ s = (of-parts e s mine).0 in
-      let own : t.client ≡ k = session-client r H Ls legal fits i L member s (has r H Ls legal fits i L member s current e g b mine next) g earlier t.client (subst (λ (o : ℕ). client_of g o ≡ Some t.client) session t.joined) in
+      let own : t.client ≡ k = session-client K r H L served owns s (has K r H L served owns s current e g b mine next) g earlier t.client (subst (λ (o : ℕ). client_of g o ≡ Some t.client) session t.joined) in
       elim t.kind [
         | inr z ↦ absurd (true≢false (sym (ap is_submit (sym z.0 ∙ is))))
         | inl z ↦
@@ -163,20 +171,20 @@ module _ (r : Rules) (H : List Entry) (Ls : List Trace) (legal : Legal r H) (fit
 
   -- The positions of a relay that is the next reply end with the one that it is of.
   pub positions-end : (seq commit : ℕ) (head : List Sent) (positions : List ℕ) → e.reply ≡ logged.Relay seq commit head positions →
-      (t : IsRelayReply r g e.session e.request commit head positions) → (xs : List ℕ) × (positions ≡ xs ++ t.target ∷ [])
+      (t : IsRelayReply K r g e.session e.request commit head positions) → (xs : List ℕ) × (positions ≡ xs ++ t.target ∷ [])
   positions-end seq commit head positions is t =
       let acts = actions_of g ++ new_of g e.session e.request in
-      let above : commit_of g < t.target = t.above in
+      let above : commit_of (K.kept g) < t.target = t.above in
       let free : is_in t.target (sent_to g e.session) ≡ false =
       false_from_ne_true (is_in t.target (sent_to g e.session)) (λ m.
-      positions-some r H Ls legal fits i L member s current few e g b mine next seq commit head positions is
-      (t.positions_are ∙ needed-sent acts (commit_of g) (sent_to g e.session) t.target m)) in
-      let ends = needed-ends acts (commit_of g) (sent_to g e.session) t.target (omega arith) free in
+      positions-some K r H L served owns s current few e g b mine next seq commit head positions is
+      (t.positions_are ∙ needed-sent acts (commit_of (K.kept g)) (sent_to g e.session) t.target m)) in
+      let ends = needed-ends acts (commit_of (K.kept g)) (sent_to g e.session) t.target (omega arith) free in
       (ends.0, t.positions_are ∙ ends.1)
 
   -- So its items end with the front pending action.
   pub submit-ends : (seq commit : ℕ) (head : List Sent) (positions : List ℕ) → e.reply ≡ logged.Relay seq commit head positions →
-      IsRelayReply r g e.session e.request commit head positions → (n : ℕ) (a : Action) → e.request ≡ requests.Submit n a → (ps : List PendingAction) (ks : List Numbered) → keys ps ≡ (n, a) ∷ ks →
+      IsRelayReply K r g e.session e.request commit head positions → (n : ℕ) (a : Action) → e.request ≡ requests.Submit n a → (ps : List PendingAction) (ks : List Numbered) → keys ps ≡ (n, a) ∷ ks →
       ends_with_front who ps (map (item_at A) positions) ≡ true
   submit-ends seq commit head positions is t n a request ps ks front =
       let ends = positions-end seq commit head positions is t in

@@ -14,7 +14,8 @@ use Rattle.sv_journal.specs.declared.entry.Logged.{Logged}
 use Rattle.sv_journal.specs.declared.entry.Logged.TheVariants as logged
 use Rattle.sv_journal.specs.History.{Authored, accepted, full_reply}
 use Rattle.sv_journal.specs.Sessions.{is_end}
-use Rattle.sv_journal.specs.Answer.{Rules, reply_to, Legal}
+use Rattle.sv_journal.specs.Answer.{Rules}
+use Rattle.sv_journal.specs.Serving.{Keeping, reply_for, LegalFor}
 use Rattle.sv_client.specs.declared.trace.Event.{Event}
 use Rattle.sv_client.specs.declared.trace.Event.TheVariants as events
 use Rattle.sv_client.specs.Traces.{got}
@@ -81,14 +82,14 @@ replied-by A logged.Idle n count s ds rs e = e ∙ sym (flat-if telling_in (n ==
 replied-by A (logged.Refused code detail) n count s ds rs e = e ∙ sym (flat-if telling_in (n == s) rs (replies.Refused code detail) ∙ no_more (n == s) (flat_map telling_in rs))
 replied-by A logged.Bye n count s ds rs e = e ∙ sym (flat-if telling_in (n == s) rs replies.Bye ∙ no_more (n == s) (flat_map telling_in rs))
 
-end-bye : (r : Rules) (h : List Entry) (s : ℕ) (q : Request) → is_end q ≡ true → reply_to r h s q ≡ logged.Bye
-end-bye r h s requests.End e = refl
-end-bye r h s (requests.Join client life interest) e = absurd (true≢false (sym e))
-end-bye r h s (requests.Submit seq a) e = absurd (true≢false (sym e))
-end-bye r h s (requests.Done results) e = absurd (true≢false (sym e))
-end-bye r h s requests.Poll e = absurd (true≢false (sym e))
-end-bye r h s requests.Leave e = absurd (true≢false (sym e))
-end-bye r h s requests.Bad e = absurd (true≢false (sym e))
+end-bye : (K : Keeping) (r : Rules) (h : List Entry) (s : ℕ) (q : Request) → is_end q ≡ true → reply_for K r h s q ≡ logged.Bye
+end-bye K r h s requests.End e = refl
+end-bye K r h s (requests.Join client life interest) e = absurd (true≢false (sym e))
+end-bye K r h s (requests.Submit seq a) e = absurd (true≢false (sym e))
+end-bye K r h s (requests.Done results) e = absurd (true≢false (sym e))
+end-bye K r h s requests.Poll e = absurd (true≢false (sym e))
+end-bye K r h s requests.Leave e = absurd (true≢false (sym e))
+end-bye K r h s requests.Bad e = absurd (true≢false (sym e))
 
 and_kept : (b d : Bool) → d ≡ false → (b && not d) ≡ b
 and_kept true d e = ap not e
@@ -99,13 +100,13 @@ and_left_out true d e = ap not e
 and_left_out false d e = refl
 
 -- The tellings of a legal journal's deliveries to a session are those of its replies.
-pub tellings-replied : (r : Rules) (A : List Authored) (h : List Entry) → Legal r h → (s : ℕ) → tellings_to A (deliveries_of h) s ≡ flat_map telling_in (replies_in A h s)
-tellings-replied r A [] l s = refl
-tellings-replied r A (e ∷ h) l s =
-    let before = tellings-replied r A h l.1 s in
+pub tellings-replied : (K : Keeping) (r : Rules) (A : List Authored) (h : List Entry) → LegalFor K r h → (s : ℕ) → tellings_to A (deliveries_of h) s ≡ flat_map telling_in (replies_in A h s)
+tellings-replied K r A [] l s = refl
+tellings-replied K r A (e ∷ h) l s =
+    let before = tellings-replied K r A h l.1 s in
     let n = length (accepted (e ∷ h)) in
     elim (cases_Bool (is_end e.request)) [
-      | inl y ↦ ap (λ (reply : Logged). tellings_to A (delivery_by e.session n reply ++ deliveries_of h) s) (l.0 ∙ end-bye r h e.session e.request y)
+      | inl y ↦ ap (λ (reply : Logged). tellings_to A (delivery_by e.session n reply ++ deliveries_of h) s) (l.0 ∙ end-bye K r h e.session e.request y)
           ∙ before
           ∙ sym (ap (λ (b : Bool). flat_map telling_in (if b then replies_in A h s ++ full_reply A e.reply ∷ [] else replies_in A h s)) (and_left_out (e.session == s) (is_end e.request) y))
       | inr k ↦ replied-by A e.reply e.session n s (deliveries_of h) (replies_in A h s) before

@@ -9,17 +9,12 @@ use Rattle.sv_world.specs.declared.action.Action.{Action}
 use Rattle.sv_world.proofs.Ascending.{ascending-tail}
 use Rattle.sv_eval.specs.Evaluation.{outcome_of}
 use Rattle.sv_versions.specs.Held.{Held, read_below}
-use Rattle.sv_wire.specs.declared.message.Done1.{Done1}
 use Rattle.sv_journal.specs.History.{Authored, item_at}
 use Rattle.sv_client.specs.Traces.{item_result, item_held, results_of}
 use Rattle.sv_system.specs.Serial.{IsSerial, AreSerial, is_covered}
-use Rattle.sv_system.specs.Journals.{serial_result}
+use Rattle.sv_system.specs.Journals.{serial_result, IsSerialResult}
 use Rattle.sv_system.proofs.Tests.{each-append, each-from_is_in}
 use Rattle.sv_system.proofs.Items.{actions_in, item-action, IsPlain, AreWaiting, reads-serial, first-covered, rest-waiting, item-serial}
-
--- A reported result is that of the serial execution at its position.
-abbrev pub IsSerialResult : List (List ℤ) → List Action → Done1 → Type 0
-IsSerialResult opening A d = 0 < d.pos → d.values ≡ serial_result opening A d.pos
 
 module _ (objects : ℕ) (opening : List (List ℤ)) (count : length opening ≡ objects) (A : List Authored) (plain : (k : ℕ) → IsPlain objects (action_at (actions_in A) k)) where
   result-at : (held : List Held) (k : ℕ) → AreSerial opening (actions_in A) held →

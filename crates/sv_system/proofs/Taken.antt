@@ -24,7 +24,7 @@ use Rattle.sv_system.proofs.Fronts.{front-then, front-append, get-last, fronts-s
 use Rattle.sv_system.proofs.Tests.{any-left, each-append}
 use Rattle.sv_system.proofs.Items.{actions_in, IsPlain, items-keep}
 use Rattle.sv_system.proofs.Relays.{Knows}
-use Rattle.sv_system.proofs.Reported.{IsSerialResult}
+use Rattle.sv_system.specs.Journals.{IsSerialResult}
 use Rattle.sv_system.proofs.Tellings.{IsTaken, AreTaken, with_telling, telling_of, taken-more, each-weaker, knows-taken, IsTakenWell, delivery-taken, told-at}
 
 -- Each position's action has what the check promises, also where it is blank.

@@ -19,7 +19,8 @@ use Rattle.sv_system.proofs.Tests.{any-right, each-append}
 use Rattle.sv_system.proofs.Fronts.{front-all, front-then, front-append, get-push_cases}
 use Rattle.sv_system.proofs.Covers.{is_held}
 use Rattle.sv_system.proofs.Items.{actions_in, item-action, IsPlain, AreWaiting, items-keep, items-have, items-supplied}
-use Rattle.sv_system.proofs.Reported.{IsSerialResult, items-reported}
+use Rattle.sv_system.specs.Journals.{IsSerialResult}
+use Rattle.sv_system.proofs.Reported.{items-reported}
 use Rattle.sv_system.proofs.Relays.{head-has, Knows, positions-ascending, relay-waiting}
 
 -- All that a telling tells is held: the values of its head at its commit, and of each item those of what it writes at its position.

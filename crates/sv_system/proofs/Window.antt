@@ -15,24 +15,27 @@ use Rattle.sv_journal.specs.declared.entry.Logged.{Logged}
 use Rattle.sv_journal.specs.declared.entry.Logged.TheVariants as logged
 use Rattle.sv_journal.specs.History.{Authored, Outcome, Accepted, accepted, client_of, is_client, is_submit_of, outcome_in, outcomes_of, next_seq, full_reply}
 use Rattle.sv_journal.specs.Sessions.{is_end, kept_outcome, kept_count, outcome_at}
-use Rattle.sv_journal.specs.Answer.{Rules, Legal}
+use Rattle.sv_journal.specs.Answer.{Rules}
+use Rattle.sv_journal.specs.Serving.{Keeping, LegalFor, IsKeeping}
 use Rattle.sv_client.specs.declared.trace.Event.{Event}
 use Rattle.sv_client.specs.declared.trace.Event.TheVariants as events
 use Rattle.sv_client.specs.declared.trace.Trace.{Trace}
 use Rattle.sv_client.specs.Traces.{joins, makes, current_session, is_session, held_of, with_reply, done_for, pending_of, submit_of, asked_by, asked, got}
 use Rattle.sv_client.specs.Taking.{Identity}
 use Rattle.sv_client.specs.Proper.{AreProper, identity_of}
-use Rattle.sv_system.specs.Fits.{requests_in, replies_in, has_session, FitsOne, Fits}
+use Rattle.sv_system.specs.Fits.{requests_in, replies_in, has_session}
+use Rattle.sv_system.specs.Served.{OwnsSessions, FitsButValues}
 use Rattle.sv_system.proofs.Fronts.{get-last}
-use Rattle.sv_system.proofs.Histories.{IsEarlier, same, after, earlier-then, earlier-rest, earlier-legal, kept-old}
-use Rattle.sv_system.proofs.Replies.{AnswersSubmit, AnswersKept, Tells, IsRelayReply, legal-tells}
+use Rattle.sv_system.proofs.Histories.{IsEarlier, same, after, earlier-then, earlier-rest, earlier-served, kept-old}
+use Rattle.sv_system.proofs.Replies.{AnswersSubmit, AnswersKept, TellsFor, IsRelayReply, served-tells}
+use Rattle.sv_system.proofs.Asking.{IsServed, is_done, asked-there, entered-as}
 use Rattle.sv_system.proofs.Commits.{next-grows, outcome-when}
 use Rattle.sv_system.proofs.Entered.{is_of, of-parts, of-from, as-many, request-there}
 use Rattle.sv_system.proofs.Asked.{get-append_cases, IsPart, all, part-rest, asked-part, got-part, proper-part, may-answer, current-joined}
 use Rattle.sv_system.proofs.Pendings.{Numbered, keys, without_first, settles, keys-with, keys-made, AreFrom, settled, IsCounted, counted, submits}
 use Rattle.sv_system.proofs.Aligned.{is_submit, settles-submit, drop-one, aligned}
 use Rattle.sv_system.proofs.Order.{get-some, joined-has}
-use Rattle.sv_system.proofs.Opened.{one, asks, own-join, session-client, welcomed-by}
+use Rattle.sv_system.proofs.Opened.{asks-other, own-session, session-client}
 use Rattle.sv_system.proofs.Before.{got-at}
 
 -- ---- The Submits of a trace are of actions that it made
@@ -180,10 +183,10 @@ next-new d h k n a c q e one' =
     omega arith
 
 -- After a reply that settles the Submit, the client's next number is over its number.
-pub answered-next : (r : Rules) (A : List Authored) (d : Entry) (h : List Entry) → Legal r (d ∷ h) → (n : ℕ) (a : Action) → d.request ≡ requests.Submit n a → (reply : Logged) → d.reply ≡ reply →
+pub answered-next : (K : Keeping) (keeps : IsKeeping K) (r : Rules) (A : List Authored) (d : Entry) (h : List Entry) → LegalFor K r (d ∷ h) → (n : ℕ) (a : Action) → d.request ≡ requests.Submit n a → (reply : Logged) → d.reply ≡ reply →
     settles (full_reply A reply) ≡ true → (k : ℕ) × ((client_of h d.session ≡ Some k) × (n < next_seq (d ∷ h) k))
-answered-next r A d h l n a q (logged.Relay seq commit head positions) is s =
-    let t : IsRelayReply r h d.session d.request commit head positions = subst (λ (y : Logged). Tells r h d.session d.request y) is (legal-tells r d h l) in
+answered-next K keeps r A d h l n a q (logged.Relay seq commit head positions) is s =
+    let t : IsRelayReply K r h d.session d.request commit head positions = subst (λ (y : Logged). TellsFor K r h d.session d.request y) is (served-tells K keeps r d h l) in
     let grows : next_seq h t.client ≤ next_seq (d ∷ h) t.client = next-grows h (d ∷ h) (after d same) t.client in
     elim t.kind [
       | inr p ↦ absurd (true≢false (sym (ap is_submit (sym p.0 ∙ q))))
@@ -199,8 +202,8 @@ answered-next r A d h l n a q (logged.Relay seq commit head positions) is s =
             ),
           ))
     ]
-answered-next r A d h l n a q (logged.Dropped seq chain far) is s =
-    let t : AnswersSubmit h d.session d.request seq = subst (λ (y : Logged). Tells r h d.session d.request y) is (legal-tells r d h l) in
+answered-next K keeps r A d h l n a q (logged.Dropped seq chain far) is s =
+    let t : AnswersSubmit h d.session d.request seq = subst (λ (y : Logged). TellsFor K r h d.session d.request y) is (served-tells K keeps r d h l) in
     let k = t.0 in
     let number : seq ≡ n = ap submit_number (sym t.1.1.1.0 ∙ q) in
     let grows : next_seq h k ≤ next_seq (d ∷ h) k = next-grows h (d ∷ h) (after d same) k in (
@@ -213,18 +216,18 @@ answered-next r A d h l n a q (logged.Dropped seq chain far) is s =
         ],
       ),
     )
-answered-next r A d h l n a q (logged.Settled seq pos) is s =
-    let t : AnswersKept h d.session d.request seq = subst (λ (y : Logged). Tells r h d.session d.request y) is (legal-tells r d h l) in
+answered-next K keeps r A d h l n a q (logged.Settled seq pos) is s =
+    let t : AnswersKept h d.session d.request seq = subst (λ (y : Logged). TellsFor K r h d.session d.request y) is (served-tells K keeps r d h l) in
     let k = t.0 in
     let number : seq ≡ n = ap submit_number (sym t.1.1.1.0 ∙ q) in
     let grows : next_seq h k ≤ next_seq (d ∷ h) k = next-grows h (d ∷ h) (after d same) k in
     let old : seq < next_seq h k = kept-old h k seq t.1.1.1.1.0 t.1.1.1.1.1 in
     (k, (t.1.0, omega arith))
-answered-next r A d h l n a q (logged.Welcome commit head) is s = absurd (true≢false (sym s))
-answered-next r A d h l n a q (logged.Noted commit) is s = absurd (true≢false (sym s))
-answered-next r A d h l n a q logged.Idle is s = absurd (true≢false (sym s))
-answered-next r A d h l n a q (logged.Refused code detail) is s = absurd (true≢false (sym s))
-answered-next r A d h l n a q logged.Bye is s = absurd (true≢false (sym s))
+answered-next K keeps r A d h l n a q (logged.Welcome commit head) is s = absurd (true≢false (sym s))
+answered-next K keeps r A d h l n a q (logged.Noted commit) is s = absurd (true≢false (sym s))
+answered-next K keeps r A d h l n a q logged.Idle is s = absurd (true≢false (sym s))
+answered-next K keeps r A d h l n a q (logged.Refused code detail) is s = absurd (true≢false (sym s))
+answered-next K keeps r A d h l n a q logged.Bye is s = absurd (true≢false (sym s))
 
 pub client-some : (o : Option ℕ) (j : ℕ) → is_client o j ≡ true → o ≡ Some j
 client-some None j x = absurd (true≢false (sym x))
@@ -235,7 +238,7 @@ get-none [] i l = refl
 get-none (x ∷ xs) zero l = absurd (omega arith)
 get-none (x ∷ xs) (suc i) l = get-none xs i (omega arith)
 
-module _ (r : Rules) (H : List Entry) (Ls : List Trace) (legal : Legal r H) (fits : Fits r.world.shape H Ls) (i : ℕ) (L : Trace) (member : slice_get Ls i ≡ Some L)
+module _ (K : Keeping) (r : Rules) (H : List Entry) (L : Trace) (served : IsServed K r H L) (owns : OwnsSessions H L)
     (s : ℕ) (current : current_session (reverse L.events) ≡ Some s) (few : length (asked L.client L.interest (reverse L.events) s) ≤ 1024)
     (e : Entry) (g : List Entry) (b : IsEarlier (e ∷ g) H) (mine : is_of e s ≡ true) (next : length (replies_in (accepted H) g s) ≡ length (got (reverse L.events) s)) where
   abbrev whole : List Event
@@ -250,8 +253,14 @@ module _ (r : Rules) (H : List Entry) (Ls : List Trace) (legal : Legal r H) (fit
   abbrev k : ℕ
   k = L.client.0
 
-  abbrev this_one : FitsOne r.world.shape H L
-  this_one = one r H Ls legal fits i L member
+  abbrev this_one : FitsButValues r.world.shape H L
+  this_one = served.fits
+
+  abbrev keeps : IsKeeping K
+  keeps = served.keeps
+
+  abbrev legal : LegalFor K r H
+  legal = served.legal
 
   earlier : IsEarlier g H
   earlier = earlier-rest g e H b
@@ -267,17 +276,17 @@ module _ (r : Rules) (H : List Entry) (Ls : List Trace) (legal : Legal r H) (fit
       let front = next-front who L.first t proper.1 o q.0 q.1.0 a.current (a.asked_there ∙ ap Some q.1.1) in
       let there : slice_get (got whole o) m ≡ Some reply =
       got-part who L.first (events.Got o reply ∷ t) whole part o m reply (ap (λ (rs : List Reply). slice_get rs m) (cond-true (o == o) (got t o ++ reply ∷ []) (got t o) (eq-eqb o o refl)) ∙ get-last (got t o) reply) in
-      let x = got-at r H Ls legal fits i L member s current few e g b mine next o m reply there in
+      let x = got-at K r H L served owns s current few e g b mine next o m reply there in
       let bx : IsEarlier (x.entry ∷ x.before) H = earlier-then (x.entry ∷ x.before) g H x.there earlier in
-      let has_o : has_session L o ≡ true = joined-has r H legal L this_one t rest o (current-joined t o a.current) in
-      let by_journal : slice_get (asked L.client L.interest whole o) m ≡ Some x.entry.request =
-      ap (slice_get (asked L.client L.interest whole o)) (x.index ∙ as-many A x.before o)
-      ∙ (this_one.sessions o has_o).asked (length (requests_in x.before o)) x.entry.request (request-there x.entry x.before H o bx x.of_it) in
+      let has_o : has_session L o ≡ true = joined-has K r H L served t rest o (current-joined t o a.current) in
+      let by_journal : slice_get (requests_in H o) m ≡ Some x.entry.request =
+      ap (slice_get (requests_in H o)) (x.index ∙ as-many A x.before o) ∙ request-there x.entry x.before H o bx x.of_it in
       let by_trace : slice_get (asked L.client L.interest whole o) m ≡ Some a.request = asked-part who L.first t whole rest o m a.request a.asked_there in
-      let request : x.entry.request ≡ requests.Submit q.0 q.1.0 = same_Some x.entry.request a.request (sym by_journal ∙ by_trace) ∙ q.1.1 in
-      let n = answered-next r A x.entry x.before (earlier-legal r (x.entry ∷ x.before) H bx legal) q.0 q.1.0 request x.entry.reply refl (ap settles (sym x.replied) ∙ s') in
+      let request : x.entry.request ≡ requests.Submit q.0 q.1.0 =
+      entered-as H L o (this_one.sessions o has_o) m x.entry.request (requests.Submit q.0 q.1.0) by_journal (by_trace ∙ ap Some q.1.1) refl in
+      let n = answered-next K keeps r A x.entry x.before (earlier-served K r (x.entry ∷ x.before) H bx legal) q.0 q.1.0 request x.entry.reply refl (ap settles (sym x.replied) ∙ s') in
       let session : x.entry.session ≡ o = (of-parts x.entry o x.of_it).0 in
-      let own : n.0 ≡ k = session-client r H Ls legal fits i L member o has_o x.before (earlier-rest x.before x.entry H bx) n.0 (subst (λ (c : ℕ). client_of x.before c ≡ Some n.0) session n.1.0) in
+      let own : n.0 ≡ k = session-client K r H L served owns o has_o x.before (earlier-rest x.before x.entry H bx) n.0 (subst (λ (c : ℕ). client_of x.before c ≡ Some n.0) session n.1.0) in
       let low : q.0 < next_seq (x.entry ∷ x.before) k = subst (λ (c : ℕ). q.0 < next_seq (x.entry ∷ x.before) c) own n.1.1 in
       let grows : next_seq (x.entry ∷ x.before) k ≤ next_seq g k = next-grows (x.entry ∷ x.before) g x.there k in
       let number : q.0 ≡ suc (settled t) = front.1.1 in
@@ -325,10 +334,8 @@ module _ (r : Rules) (H : List Entry) (Ls : List Trace) (legal : Legal r H) (fit
           let bx : IsEarlier (x.entry ∷ x.before) H = earlier-then (x.entry ∷ x.before) g H x.earlier earlier in
           let q = submit-named x.entry.request (suc m) x.submit in
           let c : client_of x.before x.entry.session ≡ Some k = client-some (client_of x.before x.entry.session) k x.client in
-          let w = welcomed-by x.before x.entry.session k c in
-          let j = own-join r H Ls legal fits i L member w.entry w.before (earlier-then (w.entry ∷ w.before) x.before H w.earlier (earlier-rest x.before x.entry H bx)) w.client w.life w.welcome.interest w.welcome.request w.client_is in
-          let has_o : has_session L x.entry.session ≡ true = subst (λ (o : ℕ). has_session L o ≡ true) w.session j.0 in
-          let there = (this_one.sessions x.entry.session has_o).asked (length (requests_in x.before x.entry.session)) x.entry.request
+          let has_o : has_session L x.entry.session ≡ true = own-session K r H L served owns x.before (earlier-rest x.before x.entry H bx) x.entry.session c in
+          let there = asked-there H L x.entry.session (this_one.sessions x.entry.session has_o) (length (requests_in x.before x.entry.session)) x.entry.request (ap is_done q.1)
           (request-there x.entry x.before H x.entry.session bx (of-from x.entry x.entry.session refl (ap is_end q.1))) in
           let most : suc m ≤ makes whole = submit-most who L.first whole this_one.proper.events x.entry.session (length (requests_in x.before x.entry.session)) (suc m) q.0 (there ∙ ap Some q.1) in
           omega arith
@@ -341,7 +348,7 @@ module _ (r : Rules) (H : List Entry) (Ls : List Trace) (legal : Legal r H) (fit
 
   pub numbered-well : (n : ℕ) (a : Action) → e.request ≡ requests.Submit n a → IsNumberedWell n a
   numbered-well n a is =
-      let front = next-front who L.first whole this_one.proper.events s n a current (asks r H Ls legal fits i L member s current e g b mine next ∙ ap Some is) in
+      let front = next-front who L.first whole this_one.proper.events s n a current (asks-other K r H L served owns s current e g b mine next (requests.Submit n a) is refl) in
       let number : n ≡ suc (settled whole) = front.1.1 in
       let low : settled whole < next_seq g k = settled-next whole all in
       let c = counted who L.first whole this_one.proper.events in

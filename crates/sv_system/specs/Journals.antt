@@ -6,6 +6,7 @@ use Rattle.sv_world.specs.Control.{action_at}
 use Rattle.sv_world.specs.Sets.{read_set}
 use Rattle.sv_eval.specs.Evaluation.{outcome_of}
 use Rattle.sv_eval.specs.Serial.{values_at, serial_world}
+use Rattle.sv_wire.specs.declared.message.Done1.{Done1}
 use Rattle.sv_journal.specs.declared.entry.Entry.{Entry}
 use Rattle.sv_journal.specs.declared.entry.Logged.{Logged}
 use Rattle.sv_journal.specs.declared.entry.Logged.TheVariants as logged
@@ -29,6 +30,10 @@ abbrev pub serial_result : List (List ℤ) → List Action → ℕ → List (Lis
 serial_result opening A zero = []
 serial_result opening A (suc p) =
     (outcome_of (action_at A (suc p)) (values_at (serial_world opening A p) (read_set (action_at A (suc p))))).writes
+
+-- A reported result is that of the serial execution at its position.
+abbrev pub IsSerialResult : List (List ℤ) → List Action → Done1 → Type 0
+IsSerialResult opening A d = 0 < d.pos → d.values ≡ serial_result opening A d.pos
 
 -- Each result that a history notes of a position is that of the serial execution.
 abbrev pub ResultsAreSerial : List (List ℤ) → List Action → List Entry → Type 0

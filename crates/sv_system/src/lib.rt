@@ -7,6 +7,7 @@ mod journals;
 mod outcomes;
 mod played;
 mod records;
+mod served;
 mod truth;
 
 pub use deliveries::lawful_deliveries_make_values_serial;
@@ -15,4 +16,8 @@ pub use journals::legal_journals_make_lawful_deliveries;
 pub use outcomes::actions_have_outcomes;
 pub use played::Played;
 pub use records::runs_leave_full_records;
+pub use served::{
+    honest_reports_are_serial, served_clients_are_never_refused,
+    served_journals_make_lawful_deliveries, served_values_are_serial,
+};
 pub use truth::{committed_world_is_serial, replicas_equal_serial_execution};

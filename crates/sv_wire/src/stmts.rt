@@ -81,8 +81,8 @@ fn stmt_next(reader: &mut Reader<'_>, depth: u8) -> Result<(), ReadFault>
     }
 }
 
-/// The most nodes of a body, but for those of its blocks. So one vector mostly suffices, and becomes the body's list.
-const ROOM: usize = 64;
+/// The room that a body's list begins with. Most bodies have fewer nodes. What is taken here stays as long as the body.
+const ROOM: usize = 16;
 
 #[tactic(auto, using(crate::proofs::Flat::body_found), unfolding(crate::specs::Trees::body_at))]
 pub fn body_of(alloc: Global, bytes: &[u8]) -> Result<(Body, &[u8]), ReadFault>

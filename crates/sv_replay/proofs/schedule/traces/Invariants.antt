@@ -1,5 +1,5 @@
 use Rattle.std.proofs.Common.{◌≡◌, map}
-use Rattle.sv_schedule.specs.Schedule.{trace_of_player}
+use Rattle.sv_schedule.specs.Players.{trace_of_player}
 use Rattle.sv_replay.specs.Machine.{player_of}
 use Rattle.sv_replay.proofs.schedule.traces.Given as goal
 

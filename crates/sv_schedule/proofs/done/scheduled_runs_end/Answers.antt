@@ -1,5 +1,6 @@
 use Rattle.sv_system.proofs.NextReply.{no-fault}
-use Rattle.sv_schedule.proofs.DoneEnds.{round-still}
+use Rattle.sv_schedule.specs.Schedule.{rules_of, plain_server}
+use Rattle.sv_schedule.proofs.DoneStill.{round-still}
 use Rattle.sv_schedule.proofs.DoneRecords.{scheduled-done, scheduled-record, scheduled-scripts}
 use Rattle.sv_schedule.proofs.DoneSound.{stay-sound}
 use Rattle.sv_schedule.proofs.done.scheduled_runs_end.Goals as goal
@@ -14,4 +15,4 @@ pub returns-clause-scripts : goal.returns-clause-scripts
 returns-clause-scripts c = λ scenario good. scheduled-scripts scenario good no-fault (stay-sound scenario good)
 
 pub returns-clause-still : goal.returns-clause-still
-returns-clause-still c = λ scenario run good sound done. round-still scenario run done
+returns-clause-still c = λ scenario run good sound done. round-still (plain_server (rules_of scenario)) scenario run done

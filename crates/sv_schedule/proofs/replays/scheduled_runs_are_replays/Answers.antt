@@ -1,5 +1,6 @@
 use Rattle.std.proofs.Common.{refl}
-use Rattle.sv_schedule.specs.Schedule.{scheduled_run, traces_of}
+use Rattle.sv_schedule.specs.Serving.{traces_of}
+use Rattle.sv_schedule.specs.Schedule.{scheduled_run}
 use Rattle.sv_schedule.proofs.replays.scheduled_runs_are_replays.Goals as goal
 
 pub returns : goal.returns

@@ -1,10 +1,12 @@
-use Rattle.std.proofs.Common.{◌⊎◌, inl, inr, ◌≡◌, ℕ, Bool, true, false, ◌<◌, List, reverse, Option, Some, None, slice_get, sym, ap, ◌∙◌, true≢false}
+use Rattle.std.proofs.Common.{inl, inr, ◌≡◌, ℕ, true, false, ◌<◌, List, Option, None, sym, ap, ◌∙◌, true≢false}
 use Rattle.sv_world.specs.declared.action.Action.{Action}
 use Rattle.sv_journal.specs.declared.entry.Entry.{Entry}
 use Rattle.sv_journal.specs.Answer.{Rules, is_over_reach}
+use Rattle.sv_journal.specs.Serving.{plain}
 use Rattle.sv_system.specs.Outcomes.{IsDropped}
 use Rattle.sv_system.proofs.Judged.{are-judged, are-once}
 use Rattle.sv_system.proofs.AllTold.{has-outcomes}
+use Rattle.sv_system.proofs.Owned.{plain-served, owns-own}
 use Rattle.sv_system.proofs.outcomes.actions_have_outcomes.Goals as goal
 
 pub returns-clause-once : goal.returns-clause-once
@@ -14,7 +16,8 @@ pub returns-clause-judged : goal.returns-clause-judged
 returns-clause-judged c = are-judged
 
 pub returns-clause-each : goal.returns-clause-each
-returns-clause-each c = λ r h Ls i L legal fits member done. has-outcomes r h Ls legal fits i L member done
+returns-clause-each c = λ r h Ls i L legal fits member done.
+    has-outcomes plain r h L (plain-served r h Ls legal fits i L member) (owns-own r.world.shape h Ls fits i L member) done
 
 over-chain : (r : Rules) (h : List Entry) (a : Action) (chain far : ℕ) → r.reach ≡ None → IsDropped r h a chain far → r.bound < chain
 over-chain r h a chain far none d =

@@ -1,4 +1,4 @@
-use Rattle.sv_system.proofs.Induction.{values-serial, relays-sufficient}
+use Rattle.sv_system.proofs.Trusted.{values-serial, relays-sufficient}
 use Rattle.sv_system.proofs.truth.replicas_equal_serial_execution.Goals as goal
 
 pub returns-clause-values : goal.returns-clause-values

@@ -3,4 +3,4 @@ use Rattle.sv_replay.proofs.Heading.{all_closed}
 use Rattle.sv_replay.proofs.machine.Machine.are_closed.Goals as goal
 
 pub returns : goal.returns
-returns c = λ _. all_closed c.args.self.now.players.items (λ k d l. c.loop-player.invariant k d (omega (arith, c.deref-player-items.ensures.len, ap length c.deref-player-items.ensures.value)))
+returns g c = λ _. all_closed c.args.self.now.players.items (λ k d l. c.loop-player.invariant k d (omega (arith, c.deref-player-items.ensures.len, ap length c.deref-player-items.ensures.value)))

@@ -3,4 +3,4 @@ use Rattle.sv_replay.specs.declared.playing.Playing.{Playing}
 use Rattle.sv_replay.proofs.machine.Machine.are_closed.Given as goal
 
 abbrev pub invariant-loop-player : goal.invariant-loop-player
-invariant-loop-player l = (k : ℕ) (d : Playing) → k < l.player-index → (get_or l.self.players.items k d).closed ≡ true
+invariant-loop-player g l = (k : ℕ) (d : Playing) → k < l.player-index → (get_or l.self.players.items k d).closed ≡ true

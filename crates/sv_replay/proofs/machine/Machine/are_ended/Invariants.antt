@@ -1,7 +1,7 @@
 use Rattle.std.proofs.Common.{◌≡◌, ℕ, ◌<◌, true}
 use Rattle.sv_system.specs.Fits.{is_ended}
-use Rattle.sv_replay.specs.Machine.{run_of}
+use Rattle.sv_replay.specs.Machine.{stage_of, run_of}
 use Rattle.sv_replay.proofs.machine.Machine.are_ended.Given as goal
 
 abbrev pub invariant-loop-session : goal.invariant-loop-session
-invariant-loop-session l = (s : ℕ) → s < l.session → is_ended (run_of l.self).history s ≡ true
+invariant-loop-session g l = (s : ℕ) → s < l.session → is_ended (run_of (stage_of g.S.Server.view l.self)).history s ≡ true

@@ -1,9 +1,12 @@
 use Rattle.std.proofs.Common.{◌-◌}
-use Rattle.sv_schedule.specs.Schedule.{Run, rules_of, repeated, round}
-use Rattle.sv_replay.specs.Machine.{run_of, Heads}
+use Rattle.sv_scenario.specs.Sessions.{session_count}
+use Rattle.sv_schedule.specs.Players.{repeated}
+use Rattle.sv_schedule.specs.Serving.{Run, round_served}
+use Rattle.sv_replay.specs.Machine.{stage_of, run_of, Heads}
 use Rattle.sv_replay.proofs.machine.Machine.run_rounds.Given as goal
 
 abbrev pub invariant-loop : goal.invariant-loop
-invariant-loop l =
-    Heads l.fn.self l.self (λ (run : Run). repeated (l.rounds - l.counter) (round (rules_of l.fn.self.scenario.now)) run)
-    (repeated l.rounds (round (rules_of l.fn.self.scenario.now)) (run_of l.fn.self))
+invariant-loop g l =
+    let m = stage_of g.S.Server.view l.fn.self in
+    Heads m (stage_of g.S.Server.view l.self) (λ (run : Run). repeated (l.rounds - l.counter) (round_served m.serves.server (session_count m.scenario)) run)
+    (repeated l.rounds (round_served m.serves.server (session_count m.scenario)) (run_of m))

@@ -1,9 +1,10 @@
 use Rattle.std.proofs.Common.{drop}
-use Rattle.sv_schedule.specs.Schedule.{Run, rules_of, all_turned}
-use Rattle.sv_replay.specs.Machine.{run_of, Heads}
+use Rattle.sv_schedule.specs.Serving.{Run, turns_served}
+use Rattle.sv_replay.specs.Machine.{stage_of, run_of, Heads}
 use Rattle.sv_replay.proofs.machine.Machine.run_turns.Given as goal
 
 abbrev pub invariant-loop-turn : goal.invariant-loop-turn
-invariant-loop-turn l =
-    Heads l.fn.self l.self (λ (run : Run). all_turned (rules_of l.fn.self.scenario.now) run (drop l.turn-index l.fn.self.scenario.now.schedule))
-    (all_turned (rules_of l.fn.self.scenario.now) (run_of l.fn.self) l.fn.self.scenario.now.schedule)
+invariant-loop-turn g l =
+    let m = stage_of g.S.Server.view l.fn.self in
+    Heads m (stage_of g.S.Server.view l.self) (λ (run : Run). turns_served m.serves.server run (drop l.turn-index m.scenario.schedule))
+    (turns_served m.serves.server (run_of m) m.scenario.schedule)

@@ -1,9 +1,11 @@
-use Rattle.sv_replay.specs.Machine.{run_of, Heads, after_take}
+use Rattle.sv_replay.specs.Machine.{stage_of, run_of, Heads, after_take}
 use Rattle.sv_replay.specs.Work.{work_of_client}
 use Rattle.sv_replay.proofs.machine.Machine.take_all.Given as goal
 
 abbrev pub invariant-loop : goal.invariant-loop
-invariant-loop l = Heads l.fn.self l.self (after_take l.client) (after_take l.client (run_of l.fn.self))
+invariant-loop g l =
+    let m = stage_of g.S.Server.view l.fn.self in
+    Heads m (stage_of g.S.Server.view l.self) (after_take l.client) (after_take l.client (run_of m))
 
 abbrev pub decreases-loop : goal.decreases-loop
-decreases-loop l = work_of_client l.client (run_of l.self)
+decreases-loop g l = work_of_client l.client (run_of (stage_of g.S.Server.view l.self))

@@ -1,7 +1,10 @@
-use Rattle.sv_schedule.specs.Schedule.{Run, take_turns, after_takes}
-use Rattle.sv_replay.specs.Machine.{run_of, Heads}
+use Rattle.sv_schedule.specs.Players.{take_turns}
+use Rattle.sv_schedule.specs.Serving.{Run, after_takes}
+use Rattle.sv_replay.specs.Machine.{stage_of, run_of, Heads}
 use Rattle.sv_replay.proofs.Turns.{turned_from}
 use Rattle.sv_replay.proofs.machine.Machine.take_turns.Given as goal
 
 abbrev pub invariant-loop-client : goal.invariant-loop-client
-invariant-loop-client l = Heads l.fn.self l.self (λ (run : Run). record run { players = turned_from l.client (take_turns run.history) run.players }) (after_takes (run_of l.fn.self))
+invariant-loop-client g l =
+    let m = stage_of g.S.Server.view l.fn.self in
+    Heads m (stage_of g.S.Server.view l.self) (λ (run : Run). record run { players = turned_from l.client (take_turns run.history) run.players }) (after_takes (run_of m))

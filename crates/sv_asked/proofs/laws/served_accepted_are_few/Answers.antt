@@ -1,0 +1,5 @@
+use Rattle.sv_asked.proofs.Spent.{served-few}
+use Rattle.sv_asked.proofs.laws.served_accepted_are_few.Goals as goal
+
+pub returns : goal.returns
+returns c = served-few

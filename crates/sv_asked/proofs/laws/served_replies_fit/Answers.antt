@@ -1,0 +1,5 @@
+use Rattle.sv_asked.proofs.Replied.{served_replies_fit}
+use Rattle.sv_asked.proofs.laws.served_replies_fit.Goals as goal
+
+pub returns : goal.returns
+returns c = served_replies_fit c.served_relays_name_accepted.ensures c.served_actions_are_good.ensures c.served_replies_are_messages.ensures

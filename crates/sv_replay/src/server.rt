@@ -1,0 +1,46 @@
+//! What a run asks of its server.
+ghost use Rattle.std.specs.Prelude.{◌≡◌, ◌<◌, true, false, IfOk};
+ghost use Rattle.sv_journal.specs.Sessions.{is_end};
+ghost use Rattle.sv_system.specs.Fits.{is_ended};
+ghost use Rattle.sv_replay.specs.Serving.{Answers, ServerView, sequencer_view};
+
+use std::alloc::AllocError;
+use sv_sequencer::Sequencer;
+use sv_wire::{Reply, Request};
+
+/// A server that a run can be played over: it answers the requests of sessions, and keeps a journal of them.
+pub trait Server: Drop {
+    // What it was opened with, how it answers, and what it was asked so far.
+    ghost view: { Self → ServerView };
+
+    /// How many sessions it was opened for.
+    fn sessions(&self) -> u16
+        ensures { result ≡ (view self.now).rules.sessions };
+
+    /// Whether a session had its End.
+    fn is_ended(&self, session: u16) -> bool
+        requires { session < (view self.now).rules.sessions }
+        ensures { result ≡ is_ended (view self.now).history session };
+
+    /// Answers a request of a session, whose End comes at most once, and enters both into its journal.
+    fn step(&mut self, session: u16, request: &Request) -> Result<Reply, AllocError>
+        requires session { session < (view self.old).rules.sessions }
+        requires first { is_end request.now ≡ true → is_ended (view self.old).history session ≡ false }
+        ensures { IfOk result (Answers (view self.old) (view self.new) session request.now) };
+}
+
+impl Server for Sequencer {
+    ghost view = { sequencer_view };
+
+    fn sessions(&self) -> u16 {
+        self.sessions()
+    }
+
+    fn is_ended(&self, session: u16) -> bool {
+        self.is_ended(session)
+    }
+
+    fn step(&mut self, session: u16, request: &Request) -> Result<Reply, AllocError> {
+        self.step(session, request)
+    }
+}

@@ -1,9 +1,0 @@
-use Rattle.std.proofs.Common.{sym, ap, ◌∙◌}
-use Rattle.sv_world.specs.Faults.{first_fault_of_action}
-use Rattle.sv_world.proofs.Good.{good_of_none}
-use Rattle.sv_sequencer.specs.Decisions.{action_in}
-use Rattle.sv_sequencer.proofs.sequencer.Sequencer.accept_new.Goals as goal
-
-pub accept-requires-clause-good : goal.accept-requires-clause-good
-accept-requires-clause-good c =
-    good_of_none c.args.self.now.rules.world.shape _ (ap (first_fault_of_action c.args.self.now.rules.world.shape) (sym (ap action_in c.in-Submit.is)) ∙ c.requires.holds.1)

@@ -1,0 +1,4 @@
+use Rattle.sv_sequencer.proofs.sequencer.Sequencer.end.Given as goal
+
+abbrev pub ghost-end : goal.ghost-end
+ghost-end g a = g.h

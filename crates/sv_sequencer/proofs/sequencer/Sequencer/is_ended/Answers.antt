@@ -1,0 +1,12 @@
+use Rattle.std.proofs.Common.{◌≡◌, ◌<◌, reverse, sym, subst}
+use Rattle.sv_sequencer.specs.Rows.{is_ended}
+use Rattle.sv_sequencer.specs.Step.{SequencerView, history}
+use Rattle.sv_sequencer.proofs.sequencer.Sequencer.is_ended.Goals as goal
+
+pub is_ended-requires : goal.is_ended-requires
+is_ended-requires c = subst (λ (v : SequencerView). c.args.session < v.rules.sessions) (sym c.self.view_is) c.requires
+
+pub returns : goal.returns
+returns c =
+    subst (λ (v : SequencerView). c.is_ended.result ≡ is_ended (history v) c.args.session) c.self.view_is
+    (c.is_ended.ensures (reverse c.self.inside.journal.entries) c.self.invariant.keeps)

@@ -1,0 +1,16 @@
+use Rattle.std.proofs.Common.{◌<◌, [], slice_index_or, sym, ◌∙◌, ap, subst}
+use Rattle.sv_world.specs.declared.world.Shape.{Shape}
+use Rattle.sv_journal.specs.History.{accepted}
+use Rattle.sv_journal.specs.Sessions.{sent_to, named_to}
+use Rattle.sv_sequencer.specs.Cores.{rules_of}
+use Rattle.sv_sequencer.proofs.Replies.{committed-is}
+use Rattle.sv_sequencer.proofs.server_core.Core.committed.Goals as goal
+
+pub committed-requires : goal.committed-requires
+committed-requires c = subst (λ (d : Shape). c.args.object.0 < d.objects) (sym c.requires.kept.1.fits.shape) c.requires.object
+
+pub returns : goal.returns
+returns c = λ h k.
+    c.committed.ensures.value
+    ∙ ap (λ values. slice_index_or values c.args.object.0 [])
+    (committed-is (rules_of c.args.self.now) h (accepted h) (sent_to h) (named_to h) c.args.self.now.queue k.commit k.fits)

@@ -1,0 +1,4 @@
+use Rattle.sv_sequencer.proofs.server_core.Core.decide_good.Given as goal
+
+abbrev pub ghost-chain_of : goal.ghost-chain_of
+ghost-chain_of g a = g.h

@@ -1,0 +1,4 @@
+use Rattle.sv_sequencer.proofs.server_core.Core.decide_poll.Given as goal
+
+abbrev pub ghost-orphan : goal.ghost-orphan
+ghost-orphan g a = g.h

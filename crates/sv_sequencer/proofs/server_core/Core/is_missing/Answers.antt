@@ -1,0 +1,12 @@
+use Rattle.std.proofs.Common.{◌∙◌, arith}
+use Rattle.sv_sequencer.specs.Cores.{rules_of}
+use Rattle.sv_sequencer.proofs.Missing.{missing-is}
+use Rattle.sv_sequencer.proofs.server_core.Core.is_missing.Goals as goal
+
+pub is_missing-requires-clause-last : goal.is_missing-requires-clause-last
+is_missing-requires-clause-last c = omega (arith, c.requires.1.1, c.requires.1.0.fits.last)
+
+pub returns : goal.returns
+returns c = λ h k.
+    c.is_missing.ensures
+    ∙ missing-is (rules_of c.args.self.now) h c.args.self.now.queue c.args.pos k.commit (omega (arith, c.requires.1.1, c.requires.1.0.fits.last, k.fits.last)) k.fits

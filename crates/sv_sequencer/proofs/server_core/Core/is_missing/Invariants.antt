@@ -1,0 +1,4 @@
+use Rattle.sv_sequencer.proofs.server_core.Core.is_missing.Given as goal
+
+abbrev pub ghosts-is_missing : goal.ghosts-is_missing
+ghosts-is_missing a = record { name = a.blank.name; parts = a.blank.parts }

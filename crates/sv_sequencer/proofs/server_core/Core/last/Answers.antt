@@ -1,0 +1,5 @@
+use Rattle.std.proofs.Common.{◌∙◌}
+use Rattle.sv_sequencer.proofs.server_core.Core.last.Goals as goal
+
+pub returns : goal.returns
+returns c = λ h k. c.last.ensures ∙ k.fits.last

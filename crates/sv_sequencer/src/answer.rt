@@ -1,0 +1,9 @@
+use sv_journal::Logged;
+use sv_wire::Reply;
+
+/// A reply as a journal keeps it, and in full.
+#[derive(Drop)]
+pub struct Answer {
+    pub logged: Logged,
+    pub reply: Reply,
+}

@@ -1,0 +1,49 @@
+-- What is due by the queue and the reports that are kept is what is due by the history.
+use Rattle.std.proofs.Common.{◌≡◌, ℕ, suc, ◌<◌, ◌≤◌, Bool, true, false, ◌&&◌, not, nat_lt, List, filter, length, ℤ, Option, Some, is_none, refl, sym, ap, ◌∙◌, arith}
+use Rattle.std.specs.List.{list_any}
+use Rattle.std.proofs.lemmas.Bool.{ltb-true}
+use Rattle.sv_world.specs.Control.{is_in, below}
+use Rattle.sv_world.proofs.Bases.{below-is_in}
+use Rattle.sv_queue.specs.Queue.{QueueView, entry_at, sent_positions}
+use Rattle.sv_queue.proofs.Members.{filter-ext}
+use Rattle.sv_journal.specs.declared.entry.Entry.{Entry}
+use Rattle.sv_journal.specs.History.{Authored, client_of, accepted, result_at}
+use Rattle.sv_journal.specs.Sessions.{sent_to, named_to}
+use Rattle.sv_journal.specs.Answer.{Rules}
+use Rattle.sv_sequencer.specs.Fits.{Fits}
+use Rattle.sv_sequencer.proofs.FitRelays.{sent-is}
+use Rattle.sv_witness.specs.Reports.{is_by, has_reported, reports_of, agreed_history, agreed_result, agreed_commit, is_due, due_to}
+use Rattle.sv_witness.specs.Kept.{RowView, kept_at, KeepsReports}
+use Rattle.sv_witness.specs.Due.{is_due_in, due_in}
+use Rattle.sv_witness.proofs.Agreed.{results-agreed}
+use Rattle.sv_witness.proofs.Same.{accepted-agreed, sent-agreed}
+
+pub due-are : (r : Rules) (h : List Entry) (v : QueueView) (rows : List RowView) (k s : ℕ) → s < 64 → client_of h s ≡ Some k → KeepsReports rows h →
+    v.commit ≡ agreed_commit h →
+    ((t q : ℕ) → is_in q (sent_to (agreed_history h) t) ≡ true → q ≤ length (accepted (agreed_history h))) →
+    Fits r.world (accepted (agreed_history h)) (result_at (agreed_history h)) (sent_to (agreed_history h)) (named_to (agreed_history h)) v →
+    due_in v rows k s ≡ due_to h s
+due-are r h v rows k s small client kept at within f =
+    ap (λ n. filter (is_due_in v rows k s) (below (suc n))) (f.last ∙ ap (λ (A : List Authored). length A) (accepted-agreed h))
+    ∙ filter-ext (is_due_in v rows k s) (is_due h s) (below (suc (length (accepted h))))
+    (λ p m. (let high : p < suc (length (accepted h)) = below-is_in (suc (length (accepted h))) p m in
+    go p (omega arith) (nat_lt v.commit p) refl
+    ∙ ap (λ c. nat_lt c p && is_none (agreed_result h p) && not (is_in p (sent_to h s)) && not (has_reported (reports_of h p) (client_of h s))) at))
+  where
+    count : length (accepted (agreed_history h)) ≡ length (accepted h)
+    count = ap (λ (A : List Authored). length A) (accepted-agreed h)
+
+    go : (p : ℕ) → p ≤ length (accepted h) → (b : Bool) → nat_lt v.commit p ≡ b →
+        (b && is_none (entry_at v p).result && not (is_in p (sent_positions v s)) && not (list_any (is_by k) (kept_at rows p)))
+        ≡ (b && is_none (agreed_result h p) && not (is_in p (sent_to h s)) && not (has_reported (reports_of h p) (client_of h s)))
+    go p high false q = refl
+    go p high true q =
+        let low : v.commit < p = ltb-true v.commit p q in
+        let top : p ≤ length (accepted (agreed_history h)) = omega (arith, count) in
+        ap (λ (o : Option (List (List ℤ))). true && is_none o && not (is_in p (sent_positions v s)) && not (list_any (is_by k) (kept_at rows p)))
+        ((f.entries p low top).result ∙ results-agreed h p)
+        ∙ ap (λ b. true && is_none (agreed_result h p) && not b && not (list_any (is_by k) (kept_at rows p)))
+        (sent-is r.world (accepted (agreed_history h)) (result_at (agreed_history h)) (sent_to (agreed_history h)) (named_to (agreed_history h)) v f within s p small low
+        ∙ ap (is_in p) (sent-agreed h s))
+        ∙ ap (λ b. true && is_none (agreed_result h p) && not (is_in p (sent_to h s)) && not b)
+        (ap (list_any (is_by k)) (kept p (omega (arith, at))) ∙ ap (has_reported (reports_of h p)) (sym client))

@@ -1,0 +1,83 @@
+-- One lying client is tolerated: honest clients report what the serial execution gives, and nothing is agreed without one of them, so all that is
+-- agreed is that, whatever the liar reports.
+use Rattle.std.proofs.Common.{◌≡◌, ℕ, ◌<◌, true, ◌&&◌, ◌==◌, inl, inr, List, [], ◌∷◌, reverse, length, ℤ, Some, sym, ap, ◌∙◌, arith, eqb-true, true≢false}
+use Rattle.std.specs.List.{AllByRecursion}
+use Rattle.std.proofs.lemmas.Bool.{cond-true, cond-false, cases_Bool, or_cases, and_parts}
+use Rattle.std.proofs.lemmas.List.Elements.{recursion_from_All, All-weaker}
+use Rattle.std.proofs.lemmas.Option.{none-some, same_Some}
+use Rattle.sv_world.specs.declared.action.Action.{Action}
+use Rattle.sv_world.specs.declared.world.Shape.{Shape}
+use Rattle.sv_wire.specs.declared.message.Done1.{Done1}
+use Rattle.sv_journal.specs.declared.entry.Entry.{Entry}
+use Rattle.sv_journal.specs.History.{client_of, actions_of, reported, reports}
+use Rattle.sv_journal.specs.Answer.{Rules}
+use Rattle.sv_client.specs.declared.trace.Trace.{Trace}
+use Rattle.sv_client.specs.Traces.{held_of}
+use Rattle.sv_system.specs.Fits.{has_session, FitsOne}
+use Rattle.sv_system.specs.Served.{is_session_of, FitsBut}
+use Rattle.sv_system.specs.Serial.{AreSerial, AreSufficient}
+use Rattle.sv_system.specs.Journals.{serial_result, IsSerialResult, ResultsAreSerial}
+use Rattle.sv_system.proofs.Histories.{IsEarlier, same, earlier-rest}
+use Rattle.sv_system.proofs.Entered.{client-stays}
+use Rattle.sv_system.proofs.Asking.{fits-but_values}
+use Rattle.sv_system.proofs.Induction.{done-serial, whole-well, heads-serial, committed-serial}
+use Rattle.sv_witness.specs.Reports.{agreed_history}
+use Rattle.sv_witness.specs.Witnessed.{agreed, IsWitnessed}
+use Rattle.sv_witness.specs.Tolerance.{IsTolerated}
+use Rattle.sv_witness.proofs.Same.{agreed-keeping}
+use Rattle.sv_witness.proofs.Forms.{done-of, none-give-none}
+use Rattle.sv_witness.proofs.Values.{agreed-serial, disputes-named}
+
+-- ---- What an honest client reports
+
+-- The honest client whose session it is.
+owner-of : (shape : Shape) (H : List Entry) (Ls : List Trace) → AllByRecursion (FitsOne shape H) Ls → (k s : ℕ) → is_session_of Ls k s ≡ true →
+    (L : Trace) × (FitsOne shape H L × (has_session L s ≡ true))
+owner-of shape H [] each k s h = absurd (true≢false (sym h))
+owner-of shape H (L ∷ Ls) each k s h =
+    elim (or_cases (L.client.0 == k && has_session L s) (is_session_of Ls k s) h) [
+      | inl e ↦ (L, (each.0, (and_parts (L.client.0 == k) (has_session L s) e).1))
+      | inr e ↦ owner-of shape H Ls each.1 k s e
+    ]
+
+reported-serial : (opening : List (List ℤ)) (A : List Action) (p : ℕ) (results : List Done1) (vs : List (List ℤ)) → 0 < p → AllByRecursion (IsSerialResult opening A) results →
+    reported p results ≡ Some vs → vs ≡ serial_result opening A p
+reported-serial opening A p [] vs low each is = absurd (none-some vs is)
+reported-serial opening A p (d ∷ ds) vs low each is =
+    let later = reported-serial opening A p ds vs low each.1 in
+    elim (cases_Bool (d.pos == p)) [
+      | inl e ↦
+          (let pos : d.pos ≡ p = eqb-true d.pos p e in
+          let values : d.values ≡ vs = same_Some d.values vs (sym (cond-true (d.pos == p) _ _ e) ∙ is) in
+          sym values ∙ each.0 (omega arith) ∙ ap (serial_result opening A) pos)
+      | inr e ↦ later (sym (cond-false (d.pos == p) _ _ e) ∙ is)
+    ]
+
+-- ---- Values, relays and disputes
+
+module _ (liar : ℕ) (r : Rules) (H : List Entry) (Ls : List Trace) (count : length r.world.values ≡ r.world.shape.objects) (legal : IsWitnessed r H)
+    (fits : FitsBut liar r.world.shape H Ls) where
+  abbrev acts : List Action
+  acts = actions_of H
+
+  honest-done : (e : Entry) (g : List Entry) (k : ℕ) → IsEarlier (e ∷ g) H → client_of g e.session ≡ Some k → (k ≡ liar → ⊥) →
+      ResultsAreSerial r.world.values acts (agreed_history g) → (p : ℕ) (vs : List (List ℤ)) → 0 < p → reports p e.request ≡ Some vs → vs ≡ serial_result r.world.values acts p
+  honest-done e g k part client other before p vs low is =
+      let d = done-of p e.request vs is in
+      let mine : is_session_of Ls k e.session ≡ true = fits.joined e.session k (client-stays g H (earlier-rest g e H part) e.session k client) other in
+      let o = owner-of r.world.shape H Ls (recursion_from_All (FitsOne r.world.shape H) Ls fits.each) k e.session mine in
+      reported-serial r.world.values acts p d.results vs low (done-serial agreed agreed-keeping r H count legal e g d.results d.done part before o.0 o.1.0 o.1.1) d.given
+
+  pub results-tolerated : ResultsAreSerial r.world.values acts (agreed_history H)
+  results-tolerated = agreed-serial liar r.world.values acts H honest-done (none-give-none r H legal)
+
+  pub tolerated : IsTolerated liar r H Ls
+  tolerated = record {
+    world = committed-serial agreed agreed-keeping r H count legal results-tolerated H same;
+    held = All-weaker (FitsOne r.world.shape H) (λ (L : Trace). AreSerial r.world.values acts (held_of (reverse L.events)))
+        (λ L f. (whole-well agreed agreed-keeping r H count legal results-tolerated L (fits-but_values r.world.shape H L f)).serial) Ls fits.each;
+    heads = heads-serial agreed agreed-keeping r H count legal results-tolerated;
+    relays = All-weaker (FitsOne r.world.shape H) (λ (L : Trace). AreSufficient acts (reverse L.events))
+        (λ L f. (whole-well agreed agreed-keeping r H count legal results-tolerated L (fits-but_values r.world.shape H L f)).sufficient) Ls fits.each;
+    disputes = disputes-named liar r.world.values acts H honest-done (none-give-none r H legal);
+  }

@@ -1,0 +1,16 @@
+use Rattle.std.proofs.Common.{suc, ◌+◌, sym, ◌∙◌, arith}
+use Rattle.sv_queue.specs.Queue.{last_position}
+use Rattle.sv_sequencer.proofs.Abandoned.{none-below, first-below}
+use Rattle.sv_witness.specs.Due.{is_due_in}
+use Rattle.sv_witness.proofs.due.search.Goals as goal
+
+pub returns-then-is_due : goal.returns-then-is_due
+returns-then-is_due g c =
+    first-below (is_due_in c.args.queue.now c.args.reports.now c.args.client c.args.session) (suc (last_position c.args.queue.now)) (c.loop-before.before + 1)
+    (omega (arith, c.loop-before-test.true, c.last-before-end.ensures)) (sym c.is_due.ensures ∙ c.if-is_due.true)
+    (λ q low. c.loop-before.invariant q (omega arith))
+
+pub returns : goal.returns
+returns g c =
+    none-below (is_due_in c.args.queue.now c.args.reports.now c.args.client c.args.session) (suc (last_position c.args.queue.now))
+    (λ q low. c.loop-before.invariant q (omega (arith, c.loop-before-test.false, c.last-before-end.ensures)))

@@ -1,0 +1,6 @@
+use Rattle.std.proofs.Common.{◌≡◌, ℕ, ◌≤◌, false}
+use Rattle.sv_witness.specs.Due.{is_due_in}
+use Rattle.sv_witness.proofs.due.search.Given as goal
+
+abbrev pub invariant-loop-before : goal.invariant-loop-before
+invariant-loop-before g l = (p : ℕ) → p ≤ l.before → is_due_in l.queue l.reports l.client l.session p ≡ false

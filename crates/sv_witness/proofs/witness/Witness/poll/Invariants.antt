@@ -1,0 +1,4 @@
+use Rattle.sv_witness.proofs.witness.Witness.poll.Given as goal
+
+abbrev pub ghost-keep : goal.ghost-keep
+ghost-keep g a = g.h

@@ -1,0 +1,16 @@
+pub mod Reports
+pub mod Agreement
+pub mod Honesty
+pub mod Witnessed
+pub mod Disputes
+pub mod Kept
+pub mod Due
+pub mod Step
+pub mod Invariant
+pub mod Lies
+pub mod Tolerance
+pub mod Run
+pub mod Lines
+pub mod Words
+pub mod Statuses
+pub mod Examples

@@ -1,0 +1,59 @@
+//! What a session may be sent to report.
+ghost use Rattle.std.specs.Prelude.{◌≡◌, ℕ, List, ◌<◌, ◌≤◌, ◌&&◌, not, nat_lt, is_none, [], ◌∷◌, MatchOption};
+ghost use Rattle.std.specs.List.{list_any};
+ghost use Rattle.sv_world.specs.Control.{is_in, below};
+ghost use Rattle.sv_queue.specs.Queue.{IsUncommitted, last_position, entry_at, sent_positions};
+ghost use Rattle.sv_witness.specs.Reports.{is_by};
+ghost use Rattle.sv_witness.specs.Kept.{kept_at};
+ghost use Rattle.sv_witness.specs.Due.{is_due_in, due_in};
+
+use crate::noting::has_result;
+use crate::reports::Reports;
+use std::marker::Brand;
+use std::sync::ledger::{Blank, Ledger};
+use sv_queue::{Queue, Steps};
+
+/// The lowest position above the commit without a result that was not sent to a session and that its client did not report.
+pub fn first_due(queue: &Queue, reports: &Reports, client: u16, session: u16) -> Option<u32>
+    ensures { MatchOption result (due_in queue.now reports.now client session ≡ []) (λ p. (rest : List ℕ) × (due_in queue.now reports.now client session ≡ p ∷ rest)) }
+{
+    search::<Brand>(queue, reports, client, session, Blank::new(1))
+}
+
+fn search<L: Ledger>(
+    queue: &Queue,
+    reports: &Reports,
+    client: u16,
+    session: u16,
+    blank: Blank,
+) -> Option<u32>
+    requires name { blank.name ≡ L.name }
+    requires parts { blank.parts ≡ L.parts }
+    requires some { 0 < blank.parts }
+    ensures { MatchOption result (due_in queue.now reports.now client session ≡ []) (λ p. (rest : List ℕ) × (due_in queue.now reports.now client session ≡ p ∷ rest)) }
+{
+    let mut steps = Steps::<L>::new(blank);
+    for before in queue.commit()..queue.last() {
+        let pos = before + 1;
+        if is_due(queue, reports, client, session, pos, &mut steps) {
+            return Some(pos);
+        }
+    }
+    None
+}
+
+fn is_due<L: Ledger>(
+    queue: &Queue,
+    reports: &Reports,
+    client: u16,
+    session: u16,
+    pos: u32,
+    steps: &mut Steps<L>,
+) -> bool
+    requires { IsUncommitted queue.now pos }
+    ensures { result ≡ is_due_in queue.now reports.now client session pos }
+{
+    !has_result(queue, pos, steps)
+        && !queue.is_marked(pos, session, steps)
+        && !reports.has_reported(pos, client)
+}

@@ -1,0 +1,42 @@
+ghost use Rattle.std.specs.Prelude.{◌≡◌, ◌≤◌, [], IfOk, IfSome};
+ghost use Rattle.sv_queue.specs.Worlds.{IsGoodWorld};
+
+use crate::reports::Reports;
+use crate::witness::Witness;
+use std::alloc::{AllocError, Global};
+use sv_journal::Journal;
+use sv_sequencer::Core;
+use sv_world::World;
+
+impl Witness {
+    /// Opens a server for so many sessions.
+    ///
+    /// An action is dropped where more than `bound` actions influence it, or, where a reach is given, one that was made farther away.
+    /// The journal has room for the Ends of all sessions from the start.
+    pub fn new(
+        alloc: Global,
+        world: World,
+        bound: u8,
+        reach: Option<u32>,
+        sessions: u16,
+    ) -> Result<Witness, AllocError>
+        requires world { IsGoodWorld world }
+        requires bound { bound ≤ 32 }
+        requires reach { IfSome reach (λ far. far ≤ 2000000) }
+        requires some { 1 ≤ sessions }
+        requires few { sessions ≤ 64 }
+        ensures rules { IfOk result (λ s. s.rules ≡ record { world = world; bound = bound; reach = reach; sessions = sessions }) }
+        ensures empty { IfOk result (λ s. s.journal.entries ≡ []) }
+    {
+        let core = Core::new(alloc, world, bound, reach, sessions)?;
+        let mut journal = Journal::new(alloc);
+        journal.reserve(sessions as usize)?;
+        Ok(Witness {
+            alloc,
+            core,
+            journal,
+            reports: Reports::new(alloc),
+            disputes: Vec::new(alloc),
+        })
+    }
+}

@@ -1,0 +1,108 @@
+//! The top call of a witnessed run.
+ghost use Rattle.std.specs.Prelude.{◌≡◌, ◌≢◌, ◌↔◌, ◌⊎◌, ◌≤◌, ℕ, map, option_map, string_bytes, None, Err, IfOk, IfSome};
+ghost use Rattle.sv_scenario.specs.Limits.{IsGoodScenario};
+ghost use Rattle.sv_command.specs.declared.ending.Ending.TheVariants as plain;
+ghost use Rattle.sv_command.specs.Reading.{held_of, HoldsScenario};
+ghost use Rattle.sv_command.specs.Statuses.{counts, NoneRose, TellsFaults};
+ghost use Rattle.sv_witness.specs.declared.ending.WitnessEnding.TheVariants as endings;
+ghost use Rattle.sv_witness.specs.Statuses.{Ends, IsMade, IsRunText, Leaves, Raises, TellsStatus, ending_of};
+ghost use Rattle.sv_witness.specs.Words.{asked_by, file_of, witnessing_of};
+
+use crate::ending::{WitnessEnding, status_of, tell};
+use crate::words::{Witnessing, file_of, witnessing_of};
+use std::alloc::{AllocError, Global};
+use sv_bytes::{Files, Sink, write_all};
+use sv_command::{Ending, scenario_in};
+use sv_scenario::Scenario;
+
+/// The lines of a scenario's witnessed run.
+fn run_text(alloc: Global, scenario: &Scenario, liar: Option<u16>) -> Result<String, AllocError>
+    requires { IsGoodScenario scenario.now }
+    ensures { IfOk result (λ text. IsRunText scenario.now liar (string_bytes text)) }
+{
+    let _ = (alloc, scenario.clients.len(), liar);
+    Err(AllocError)
+}
+
+/// Whether the liar is one of so many clients, if there is one.
+fn is_within(clients: usize, liar: Option<u16>) -> bool {
+    match liar {
+        Some(number) => (number as usize) < clients,
+        None => true,
+    }
+}
+
+/// The lines of the run that is asked for. They are whole before any of them is printed.
+fn text_for<F: Files>(
+    alloc: Global,
+    asked: Witnessing<'_>,
+    files: &mut F,
+) -> Result<String, WitnessEnding>
+    ensures made { IsMade (asked_by asked.entry) (F.contents files.old asked.entry.file.now) result }
+    ensures raises { (k : ℕ) → Raises (counts (F.faults files.old) 0 0 k) (counts (F.faults files.new) 0 0 k) (ending_of result) }
+    ensures sure { F.sure files.old asked.entry.file.now → result ≢ Err (endings.Plain plain.File) }
+{
+    let scenario = scenario_in(alloc, asked.file, files)?;
+    if !is_within(scenario.clients.len(), asked.liar) {
+        return Err(WitnessEnding::Range);
+    }
+    Ok(run_text(alloc, &scenario, asked.liar)?)
+}
+
+/// Does what is asked for, and tells how it ended.
+fn decide<F: Files, K: Sink>(
+    alloc: Global,
+    asked: Option<Witnessing<'_>>,
+    files: &mut F,
+    out: &mut K,
+) -> WitnessEnding
+    ensures words { (result ≡ endings.Plain plain.Words) ↔ (option_map asked_by asked.entry ≡ None) }
+    ensures ends { IfSome (option_map asked_by asked.entry) (λ a. Ends a (F.contents files.old a.file) (K.taken out.old) (K.taken out.new) result) }
+    ensures raises { Raises (counts (F.faults files.old) 0 0 (K.faults out.old)) (counts (F.faults files.new) 0 0 (K.faults out.new)) result }
+    ensures sure { IfSome (option_map asked_by asked.entry) (λ a. F.sure files.old a.file → result ≢ endings.Plain plain.File) }
+    ensures apart { option_map asked_by asked.entry ≡ None → files.new ≡ files.old }
+{
+    let Some(asked) = asked else {
+        return WitnessEnding::Plain(Ending::Words);
+    };
+    match text_for(alloc, asked, files) {
+        Ok(text) if write_all(out, text.as_bytes()) => WitnessEnding::Plain(Ending::Done),
+        Ok(_) => WitnessEnding::Plain(Ending::Out),
+        Err(ending) => ending,
+    }
+}
+
+/// Runs the schedule of a file's scenario over a server that installs a result once two clients report it, and answers the status with which
+/// the program ends.
+///
+/// The words leave out the program's own name. They are `witness FILE`, or `witness FILE K` with the number of a client, without leading zeros,
+/// that lies: in each result that it reports, every value has 1 more in its first attribute. Printed are how many actions were accepted, a line
+/// for each position that two clients' reports differ in, and the committed world.
+///
+/// The status is the first of these that applies: 2 where the words are others, 4 where the file can't be read, 3 where it is no scenario, 10
+/// where it has no client K, and 5 where the output failed; else it is 0, or 8 where memory ran out.
+pub fn run_witness<F: Files, K: Sink, E: Sink>(
+    alloc: Global,
+    words: &[String],
+    files: &mut F,
+    out: &mut K,
+    err: &mut E,
+) -> u8
+    ensures range { (result ≡ 0) ⊎ ((2 ≤ result) × (result ≤ 5)) ⊎ (result ≡ 8) ⊎ (result ≡ 10) }
+    ensures words { (result ≡ 2) ↔ (witnessing_of (map string_bytes words.now) ≡ None) }
+    ensures faults { TellsFaults result (counts (F.faults files.old) 0 0 (K.faults out.old)) (counts (F.faults files.new) 0 0 (K.faults out.new)) }
+    ensures sure { IfSome (witnessing_of (map string_bytes words.now)) (λ a. F.sure files.old a.file → result ≢ 4) }
+    ensures apart { result ≡ 2 → files.new ≡ files.old }
+    ensures nothing { result ≢ 0 → result ≢ 5 → K.taken out.new ≡ K.taken out.old }
+    ensures left { IfSome (witnessing_of (map string_bytes words.now)) (λ a. Leaves a (F.contents files.old a.file) (K.taken out.old) (K.taken out.new) result) }
+    ensures told { TellsStatus (held_of (F.contents files.old) (file_of (witnessing_of (map string_bytes words.now)))) (file_of (witnessing_of (map string_bytes words.now)))
+        result (E.taken err.old) (E.taken err.new) (E.faults err.old) (E.faults err.new) }
+    ensures complete { HoldsScenario (held_of (F.contents files.old) (file_of (witnessing_of (map string_bytes words.now))))
+        → NoneRose (counts (F.faults files.old) 0 0 (K.faults out.old)) (counts (F.faults files.new) 0 0 (K.faults out.new))
+        → (result ≡ 0) ⊎ (result ≡ 8) ⊎ (result ≡ 10) }
+{
+    let asked = witnessing_of(words);
+    let ending = decide(alloc, asked, files, out);
+    tell(&ending, file_of(asked), err);
+    status_of(&ending)
+}

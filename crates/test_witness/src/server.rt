@@ -1,0 +1,189 @@
+//! Tables of requests and replies, with what is in dispute after them, typed from the rules by hand.
+ghost use Rattle.std.specs.Prelude.{◌≡◌, ◌<◌, IfOk};
+
+mod asked;
+mod rows;
+
+use asked::{Ask, request_of, world_of};
+use std::alloc::Global;
+use std::test::Fail;
+use sv_journal::{Journal, print_journal, relays_name_accepted};
+use sv_wire::Request;
+use sv_witness::{Dispute, Report, Witness};
+use sv_world::{ObjectId, Shape, Value};
+
+const SESSIONS: u16 = 4;
+
+/// What a session asks, and the text of the reply.
+type Row<'a> = (u16, Ask<'a>, &'a str);
+
+/// A client, and the number that it reports for each written object.
+type Told<'a> = (u16, &'a [i64]);
+
+/// A server of objects of one number each, what it is asked, and how it then stands.
+#[derive(Clone, Copy)]
+struct Case<'a> {
+    numbers: &'a [i64],
+    rows: &'a [Row<'a>],
+    /// The position of each dispute, the first report of it, and the first one that differs.
+    disputes: &'a [(u32, Told<'a>, Told<'a>)],
+    commit: u32,
+    /// The committed number of object 0.
+    first: i64,
+}
+
+/// A server for four sessions, with bound 8.
+fn opened(alloc: Global, numbers: &[i64]) -> Result<Witness, Fail>
+    ensures sessions { IfOk result (λ w. w.rules.sessions ≡ 4) }
+    ensures some { IfOk result (λ w. 0 < w.rules.world.shape.objects) }
+{
+    let world = world_of(alloc, numbers)?;
+    Ok(Witness::new(alloc, world, 8, None, SESSIONS)?)
+}
+
+fn stands_at(witness: &Witness, entries: usize, commit: u32, disputes: usize) -> bool {
+    witness.journal().entries().len() == entries
+        && witness.commit() == commit
+        && witness.disputes().len() == disputes
+}
+
+/// Asks once more where there was no memory. Then nothing may have changed.
+fn ask(witness: &mut Witness, session: u16, request: &Request) -> Result<(), Fail>
+    requires sessions { witness.old.rules.sessions ≡ 4 }
+    ensures same { witness.new.rules ≡ witness.old.rules }
+{
+    if session >= SESSIONS {
+        return Err(Fail::new("there is no such session"));
+    }
+    if let Request::End = request {
+        return Err(Fail::new("no row asks for an End"));
+    }
+    let entries = witness.journal().entries().len();
+    let commit = witness.commit();
+    let disputes = witness.disputes().len();
+    match witness.step(session, request) {
+        Ok(reply) => {
+            drop(reply);
+            return Ok(());
+        }
+        Err(_) => {}
+    }
+    if !stands_at(witness, entries, commit, disputes) {
+        return Err(Fail::new("a step without memory changed the server"));
+    }
+    witness.step(session, request)?;
+    Ok(())
+}
+
+fn ask_row(alloc: Global, witness: &mut Witness, session: u16, row: Ask) -> Result<(), Fail>
+    requires sessions { witness.old.rules.sessions ≡ 4 }
+    ensures same { witness.new.rules ≡ witness.old.rules }
+{
+    let request = request_of(alloc, row)?;
+    let answered = ask(witness, session, &request);
+    // At the end of its scope it would make a long proof; a call that takes it makes none.
+    drop(request);
+    answered
+}
+
+fn play(alloc: Global, witness: &mut Witness, rows: &[Row]) -> Result<(), Fail>
+    requires sessions { witness.old.rules.sessions ≡ 4 }
+    ensures same { witness.new.rules ≡ witness.old.rules }
+{
+    let [(session, request, _), rest @ ..] = rows else {
+        return Ok(());
+    };
+    ask_row(alloc, witness, *session, *request)?;
+    play(alloc, witness, rest)
+}
+
+/// The text of a journal of a world of objects of one number each.
+fn printed(alloc: Global, objects: u16, journal: &Journal) -> Result<String, Fail> {
+    let mut out = String::new(alloc);
+    if !relays_name_accepted(journal) {
+        return Err(Fail::new("a relay names what was not accepted"));
+    }
+    print_journal(Shape { objects, attrs: 1 }, journal, &mut out)?;
+    Ok(out)
+}
+
+/// Each line but the first tells the reply of its row, and no more lines come.
+fn compare(text: &str, rows: &[Row]) -> Result<(), Fail> {
+    if text.lines().count() != rows.len().saturating_add(1) {
+        return Err(Fail::new("the journal has another number of lines"));
+    }
+    for ((_, _, reply), line) in rows.iter().zip(text.lines().skip(1)) {
+        let (_, said) = line.split_once(" -> ").unwrap_or(("", line));
+        if said != *reply {
+            return Err(Fail::new(format_args!("{line}, and not {reply}")));
+        }
+    }
+    Ok(())
+}
+
+fn are_numbers(values: &[Value], numbers: &[i64]) -> bool {
+    if values.len() != numbers.len() {
+        return false;
+    }
+    for (value, number) in values.iter().zip(numbers.iter()) {
+        if value.as_slice() != [*number].as_slice() {
+            return false;
+        }
+    }
+    true
+}
+
+fn is_told(report: &Report, told: Told) -> bool {
+    let (client, numbers) = told;
+    report.client.0 == client && are_numbers(report.values.as_slice(), numbers)
+}
+
+fn are_disputes(disputes: &[Dispute], expected: &[(u32, Told, Told)]) -> bool {
+    if disputes.len() != expected.len() {
+        return false;
+    }
+    for (dispute, (pos, first, second)) in disputes.iter().zip(expected.iter()) {
+        if dispute.pos != *pos
+            || !is_told(&dispute.first, *first)
+            || !is_told(&dispute.second, *second)
+        {
+            return false;
+        }
+    }
+    true
+}
+
+/// The replies, the disputes, the commit and the committed number of object 0 are those of the case.
+fn compare_all(alloc: Global, witness: &Witness, case: &Case) -> Result<(), Fail>
+    requires some { 0 < witness.now.rules.world.shape.objects }
+{
+    let objects = u16::try_from(case.numbers.len()).unwrap_or(u16::MAX);
+    let text = printed(alloc, objects, witness.journal())?;
+    compare(text.as_str(), case.rows)?;
+    if !are_disputes(witness.disputes(), case.disputes) {
+        return Err(Fail::new("other disputes"));
+    }
+    if witness.commit() != case.commit {
+        return Err(Fail::new("another commit"));
+    }
+    if witness.committed(ObjectId(0)).as_slice() != [case.first].as_slice() {
+        return Err(Fail::new("another committed value"));
+    }
+    Ok(())
+}
+
+fn play_and_compare(alloc: Global, witness: &mut Witness, case: &Case) -> Result<(), Fail>
+    requires sessions { witness.old.rules.sessions ≡ 4 }
+    requires some { 0 < witness.old.rules.world.shape.objects }
+{
+    play(alloc, witness, case.rows)?;
+    compare_all(alloc, witness, case)
+}
+
+/// Each row of the case is answered by its reply, and the server then stands as the case says.
+fn check(alloc: Global, case: &Case) -> Result<(), Fail> {
+    let mut witness = opened(alloc, case.numbers)?;
+    let told = play_and_compare(alloc, &mut witness, case);
+    drop(witness);
+    told
+}

@@ -1,0 +1,263 @@
+//! What a server answers where clients report equally, report differently, twice, too late or nothing.
+use super::asked::Ask::{Done, Join, Poll, Submit};
+use super::{Case, check};
+use std::test::Fail;
+
+const ADDS_1: &str = "reads 0 writes 0 { set @0.0 (@0.0 + 1); }";
+
+const ADDS_1_TO_1: &str = "reads 1 writes 1 { set @1.0 (@1.0 + 1); }";
+
+const SETS_ALL: &str = "reads 0 1 2 writes 0 1 2 { set @0.0 1; set @1.0 2; set @2.0 3; }";
+
+/// Client 0 reports 7 where 1 is right. Its report alone installs nothing; once two others give 1, that is installed.
+const LIAR_IS_OUTVOTED: Case = Case {
+    numbers: &[0],
+    rows: &[
+        (0, Join(0, 1, &[]), "welcome 0 []"),
+        (1, Join(1, 1, &[]), "welcome 0 []"),
+        (2, Join(2, 1, &[]), "welcome 0 []"),
+        (0, Submit(1, ADDS_1), "relay 1 at 0 [0=(0)] [1:c0.1]"),
+        (0, Done(&[(1, &[7])]), "noted 0"),
+        (1, Poll, "relay 0 at 0 [0=(0)] [1:c0.1]"),
+        (1, Done(&[(1, &[1])]), "noted 0"),
+        (1, Poll, "idle"),
+        (2, Poll, "relay 0 at 0 [0=(0)] [1:c0.1]"),
+        (2, Done(&[(1, &[1])]), "noted 1"),
+    ],
+    disputes: &[(1, (0, &[7]), (1, &[1]))],
+    commit: 1,
+    first: 1,
+};
+
+/// The same as the program lets client 0 lie: it reports 2 where 1 is right.
+const PROGRAM: Case = Case {
+    numbers: &[0],
+    rows: &[
+        (0, Join(0, 1, &[]), "welcome 0 []"),
+        (1, Join(1, 1, &[]), "welcome 0 []"),
+        (2, Join(2, 1, &[]), "welcome 0 []"),
+        (0, Submit(1, ADDS_1), "relay 1 at 0 [0=(0)] [1:c0.1]"),
+        (1, Poll, "relay 0 at 0 [0=(0)] [1:c0.1]"),
+        (2, Poll, "relay 0 at 0 [0=(0)] [1:c0.1]"),
+        (0, Done(&[(1, &[2])]), "noted 0"),
+        (1, Done(&[(1, &[1])]), "noted 0"),
+        (2, Done(&[(1, &[1])]), "noted 1"),
+    ],
+    disputes: &[(1, (0, &[2]), (1, &[1]))],
+    commit: 1,
+    first: 1,
+};
+
+/// Client 0 gives one value in two of its sessions: that is one report. Two others then give another.
+const CLIENT_COUNTS_ONCE: Case = Case {
+    numbers: &[0],
+    rows: &[
+        (0, Join(0, 1, &[]), "welcome 0 []"),
+        (0, Submit(1, ADDS_1), "relay 1 at 0 [0=(0)] [1:c0.1]"),
+        (0, Done(&[(1, &[7])]), "noted 0"),
+        (1, Join(0, 2, &[]), "welcome 0 []"),
+        (1, Poll, "idle"),
+        (1, Submit(1, ADDS_1), "relay 1 at 0 [0=(0)] [1:c0.1]"),
+        (1, Done(&[(1, &[7])]), "noted 0"),
+        (2, Join(1, 1, &[]), "welcome 0 []"),
+        (2, Poll, "relay 0 at 0 [0=(0)] [1:c0.1]"),
+        (2, Done(&[(1, &[1])]), "noted 0"),
+        (3, Join(2, 1, &[]), "welcome 0 []"),
+        (3, Poll, "relay 0 at 0 [0=(0)] [1:c0.1]"),
+        (3, Done(&[(1, &[1])]), "noted 1"),
+        (3, Poll, "idle"),
+    ],
+    disputes: &[(1, (0, &[7]), (1, &[1]))],
+    commit: 1,
+    first: 1,
+};
+
+/// A client's first report stands: a second one, that says what others say, does not count, and takes nothing back.
+const SECOND_REPORT: Case = Case {
+    numbers: &[0],
+    rows: &[
+        (0, Join(0, 1, &[]), "welcome 0 []"),
+        (1, Join(1, 1, &[]), "welcome 0 []"),
+        (0, Submit(1, ADDS_1), "relay 1 at 0 [0=(0)] [1:c0.1]"),
+        (0, Done(&[(1, &[7])]), "noted 0"),
+        (1, Poll, "relay 0 at 0 [0=(0)] [1:c0.1]"),
+        (1, Done(&[(1, &[1])]), "noted 0"),
+        (0, Done(&[(1, &[1])]), "noted 0"),
+        (1, Done(&[(1, &[7])]), "noted 0"),
+    ],
+    disputes: &[(1, (0, &[7]), (1, &[1]))],
+    commit: 0,
+    first: 0,
+};
+
+/// Client 0 lies in its first session and in its second one, each time of another position.
+const LIAR_JOINS_AGAIN: Case = Case {
+    numbers: &[0],
+    rows: &[
+        (0, Join(0, 1, &[]), "welcome 0 []"),
+        (1, Join(1, 1, &[]), "welcome 0 []"),
+        (2, Join(2, 1, &[]), "welcome 0 []"),
+        (0, Submit(1, ADDS_1), "relay 1 at 0 [0=(0)] [1:c0.1]"),
+        (0, Done(&[(1, &[7])]), "noted 0"),
+        (3, Join(0, 2, &[]), "welcome 0 []"),
+        (1, Poll, "relay 0 at 0 [0=(0)] [1:c0.1]"),
+        (1, Done(&[(1, &[1])]), "noted 0"),
+        (2, Poll, "relay 0 at 0 [0=(0)] [1:c0.1]"),
+        (2, Done(&[(1, &[1])]), "noted 1"),
+        (3, Submit(2, ADDS_1), "relay 2 at 1 [0=(1)] [2:c0.2]"),
+        (3, Done(&[(2, &[7])]), "noted 1"),
+        (1, Poll, "relay 0 at 1 [] [2:c0.2]"),
+        (1, Done(&[(2, &[2])]), "noted 1"),
+        (2, Poll, "relay 0 at 1 [] [2:c0.2]"),
+        (2, Done(&[(2, &[2])]), "noted 2"),
+    ],
+    disputes: &[(1, (0, &[7]), (1, &[1])), (2, (0, &[7]), (1, &[2]))],
+    commit: 2,
+    first: 2,
+};
+
+/// Of three written objects one is lied about. The dispute has the whole values of both.
+const ONE_OBJECT_OF_THREE: Case = Case {
+    numbers: &[0, 0, 0],
+    rows: &[
+        (0, Join(0, 1, &[]), "welcome 0 []"),
+        (1, Join(1, 1, &[]), "welcome 0 []"),
+        (2, Join(2, 1, &[]), "welcome 0 []"),
+        (
+            0,
+            Submit(1, SETS_ALL),
+            "relay 1 at 0 [0=(0) 1=(0) 2=(0)] [1:c0.1]",
+        ),
+        (0, Done(&[(1, &[1, 2, 3])]), "noted 0"),
+        (1, Poll, "relay 0 at 0 [0=(0) 1=(0) 2=(0)] [1:c0.1]"),
+        (1, Done(&[(1, &[1, 9, 3])]), "noted 0"),
+        (2, Poll, "relay 0 at 0 [0=(0) 1=(0) 2=(0)] [1:c0.1]"),
+        (2, Done(&[(1, &[1, 2, 3])]), "noted 1"),
+        (3, Join(3, 1, &[0, 1, 2]), "welcome 1 [0=(1) 1=(2) 2=(3)]"),
+    ],
+    disputes: &[(1, (0, &[1, 2, 3]), (1, &[1, 9, 3]))],
+    commit: 1,
+    first: 1,
+};
+
+/// An action that writes nothing is committed by its first report.
+const LOOK_NEEDS_ONE: Case = Case {
+    numbers: &[0],
+    rows: &[
+        (0, Join(0, 1, &[]), "welcome 0 []"),
+        (
+            0,
+            Submit(1, "reads 0 writes { }"),
+            "relay 1 at 0 [0=(0)] [1:c0.1]",
+        ),
+        (0, Done(&[(1, &[])]), "noted 1"),
+    ],
+    disputes: &[],
+    commit: 1,
+    first: 0,
+};
+
+/// A position that is committed is beyond dispute: a later report of it does not count.
+const LATE_REPORT: Case = Case {
+    numbers: &[0],
+    rows: &[
+        (0, Join(0, 1, &[]), "welcome 0 []"),
+        (1, Join(1, 1, &[]), "welcome 0 []"),
+        (2, Join(2, 1, &[]), "welcome 0 []"),
+        (0, Submit(1, ADDS_1), "relay 1 at 0 [0=(0)] [1:c0.1]"),
+        (1, Poll, "relay 0 at 0 [0=(0)] [1:c0.1]"),
+        (2, Poll, "relay 0 at 0 [0=(0)] [1:c0.1]"),
+        (0, Done(&[(1, &[1])]), "noted 0"),
+        (1, Done(&[(1, &[1])]), "noted 1"),
+        (2, Done(&[(1, &[7])]), "noted 1"),
+    ],
+    disputes: &[],
+    commit: 1,
+    first: 1,
+};
+
+/// A position whose result is agreed, but waits for one before it, is still open to dispute. Polls ask for the lowest position first.
+const WAITING_RESULT: Case = Case {
+    numbers: &[0, 0],
+    rows: &[
+        (0, Join(0, 1, &[]), "welcome 0 []"),
+        (1, Join(1, 1, &[]), "welcome 0 []"),
+        (2, Join(2, 1, &[]), "welcome 0 []"),
+        (0, Submit(1, ADDS_1), "relay 1 at 0 [0=(0)] [1:c0.1]"),
+        (0, Submit(2, ADDS_1_TO_1), "relay 2 at 0 [1=(0)] [2:c0.2]"),
+        (1, Poll, "relay 0 at 0 [0=(0)] [1:c0.1]"),
+        (1, Poll, "relay 0 at 0 [1=(0)] [2:c0.2]"),
+        (2, Poll, "relay 0 at 0 [0=(0)] [1:c0.1]"),
+        (2, Poll, "relay 0 at 0 [1=(0)] [2:c0.2]"),
+        (0, Done(&[(2, &[5])]), "noted 0"),
+        (1, Done(&[(2, &[5])]), "noted 0"),
+        (2, Done(&[(1, &[1]), (2, &[7])]), "noted 0"),
+        (1, Done(&[(1, &[1])]), "noted 2"),
+        (3, Join(3, 1, &[0, 1]), "welcome 2 [0=(1) 1=(5)]"),
+    ],
+    disputes: &[(2, (0, &[5]), (2, &[7]))],
+    commit: 2,
+    first: 1,
+};
+
+/// A Done that is refused is no report, of none of its positions.
+const REFUSED_REPORT: Case = Case {
+    numbers: &[0],
+    rows: &[
+        (0, Join(0, 1, &[]), "welcome 0 []"),
+        (1, Join(1, 1, &[]), "welcome 0 []"),
+        (0, Submit(1, ADDS_1), "relay 1 at 0 [0=(0)] [1:c0.1]"),
+        (1, Done(&[(1, &[7])]), "refused 7 0"),
+        (0, Done(&[(1, &[7]), (2, &[7])]), "refused 7 0"),
+        (0, Done(&[(1, &[7, 7])]), "refused 7 0"),
+        (0, Done(&[]), "refused 7 0"),
+        (0, Done(&[(1, &[1])]), "noted 0"),
+        (1, Poll, "relay 0 at 0 [0=(0)] [1:c0.1]"),
+        (1, Done(&[(1, &[1])]), "noted 1"),
+    ],
+    disputes: &[],
+    commit: 1,
+    first: 1,
+};
+
+#[test]
+fn liar_is_outvoted(rt: HostRuntime) -> Result<(), Fail> {
+    check(rt.alloc(), &LIAR_IS_OUTVOTED)
+}
+
+#[test]
+fn program_at_the_core(rt: HostRuntime) -> Result<(), Fail> {
+    check(rt.alloc(), &PROGRAM)
+}
+
+#[test]
+fn clients_count_once(rt: HostRuntime) -> Result<(), Fail> {
+    check(rt.alloc(), &CLIENT_COUNTS_ONCE)?;
+    check(rt.alloc(), &SECOND_REPORT)
+}
+
+#[test]
+fn liar_joins_again(rt: HostRuntime) -> Result<(), Fail> {
+    check(rt.alloc(), &LIAR_JOINS_AGAIN)
+}
+
+#[test]
+fn one_object_of_three(rt: HostRuntime) -> Result<(), Fail> {
+    check(rt.alloc(), &ONE_OBJECT_OF_THREE)
+}
+
+#[test]
+fn looks_and_late_reports(rt: HostRuntime) -> Result<(), Fail> {
+    check(rt.alloc(), &LOOK_NEEDS_ONE)?;
+    check(rt.alloc(), &LATE_REPORT)
+}
+
+#[test]
+fn results_wait(rt: HostRuntime) -> Result<(), Fail> {
+    check(rt.alloc(), &WAITING_RESULT)
+}
+
+#[test]
+fn refused_reports(rt: HostRuntime) -> Result<(), Fail> {
+    check(rt.alloc(), &REFUSED_REPORT)
+}
