@@ -20,6 +20,7 @@ use Rattle.sv_witness.specs.declared.report.Report.{Report}
 use Rattle.sv_witness.specs.Reports.{has_reported, with_report, counted_in, agreed_values, brings_agreement, reports_of, agreed_history, agreed_result, agreed_commit, is_due, due_to}
 use Rattle.sv_journal.specs.Serving.{is_poll, with_last_rows, with_results}
 use Rattle.sv_witness.specs.Witnessed.{agreed}
+use Rattle.sv_witness.specs.Standing.{emptied}
 use Rattle.sv_witness.proofs.Agreed.{without}
 use Rattle.sv_witness.proofs.Noted.{none-some-never}
 
@@ -89,11 +90,6 @@ noted-may r h s results noted = go (is_over h s) (nat_le most_requests (asked_in
 filter-none : (test : Done1 → Bool) (ds : List Done1) → ((d : Done1) → test d ≡ false) → filter test ds ≡ []
 filter-none test [] none = refl
 filter-none test (d ∷ ds) none = cond-false (test d) (d ∷ filter test ds) (filter test ds) (none d) ∙ filter-none test ds none
-
--- A Done without its results; any other request as it is.
-abbrev pub emptied : Request → Request
-emptied (requests.Done results) = requests.Done []
-emptied q = q
 
 with-none : (test : Done1 → Bool) (q : Request) → ((d : Done1) → test d ≡ false) → with_results test q ≡ emptied q
 with-none test (requests.Done results) none = ap requests.Done (filter-none test results none)
