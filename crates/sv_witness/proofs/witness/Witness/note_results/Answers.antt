@@ -1,4 +1,4 @@
-use Rattle.std.proofs.Common.{◌≡◌, ◌<◌, false, All, List, refl, sym, ◌∙◌, ap, subst, arith}
+use Rattle.std.proofs.Common.{◌≡◌, ◌<◌, ◌≤◌, false, All, List, refl, sym, ◌∙◌, ap, subst, arith}
 use Rattle.sv_wire.specs.declared.message.Done1.{Done1}
 use Rattle.sv_queue.specs.Queue.{last_position}
 use Rattle.sv_journal.specs.declared.entry.Entry.{Entry}
@@ -17,8 +17,8 @@ use Rattle.sv_witness.proofs.Stepped.{stands-for, same-stands, still, entered, w
 use Rattle.sv_witness.proofs.Steps.{reported-low}
 use Rattle.sv_witness.proofs.witness.Witness.note_results.Goals as goal
 
-pub client-client-requires : goal.client-client-requires
-client-client-requires g c = subst (λ (v : SequencerView). c.args.session < v.rules.sessions) (sym c.self.view_is) c.requires.1.0
+pub client-requires : goal.client-requires
+client-requires g c = subst (λ (v : SequencerView). c.args.session < v.rules.sessions) (sym c.self.view_is) c.requires.1.0
 
 pub note_ahead-noted-requires : goal.note_ahead-noted-requires
 note_ahead-noted-requires g c =

@@ -12,8 +12,8 @@ use Rattle.sv_witness.proofs.Same.{client-agreed}
 use Rattle.sv_witness.proofs.Stepped.{stands-for}
 use Rattle.sv_witness.proofs.witness.Witness.poll.Goals as goal
 
-pub client-client-requires : goal.client-client-requires
-client-client-requires g c = subst (λ (v : SequencerView). c.args.session < v.rules.sessions) (sym c.self.view_is) c.requires.1.0
+pub client-requires : goal.client-requires
+client-requires g c = subst (λ (v : SequencerView). c.args.session < v.rules.sessions) (sym c.self.view_is) c.requires.1.0
 
 pub keep-requires : goal.keep-requires
 keep-requires g c =
