@@ -5,7 +5,7 @@ use Rattle.sv_sequencer.specs.Decisions.{Holds}
 use Rattle.sv_sequencer.specs.Step.{SequencerView, history}
 use Rattle.sv_witness.specs.Reports.{agreed_history}
 use Rattle.sv_witness.specs.Standing.{emptied}
-use Rattle.sv_witness.proofs.Stepped.{kept-replied, still, entered, witnessed}
+use Rattle.sv_witness.proofs.Stepped.{kept-replied, entered, witnessed}
 use Rattle.sv_witness.proofs.witness.Witness.keep.Goals as goal
 
 pub carry_emptied-requires : goal.carry_emptied-requires

@@ -1,19 +1,18 @@
-use Rattle.std.proofs.Common.{◌≡◌, ◌<◌, ◌≤◌, false, All, List, refl, sym, ◌∙◌, ap, subst, arith}
+use Rattle.std.proofs.Common.{◌≡◌, ◌<◌, ◌≤◌, false, All, List, sym, ◌∙◌, ap, subst}
 use Rattle.sv_wire.specs.declared.message.Done1.{Done1}
 use Rattle.sv_queue.specs.Queue.{last_position}
-use Rattle.sv_journal.specs.declared.entry.Entry.{Entry}
 use Rattle.sv_journal.specs.Answer.{is_bad_done}
 use Rattle.sv_journal.specs.Serving.{noted_after}
 use Rattle.sv_sequencer.specs.Cores.{rules_of, queue_of}
 use Rattle.sv_sequencer.specs.Decisions.{results_in}
-use Rattle.sv_sequencer.specs.Step.{SequencerView, history}
+use Rattle.sv_sequencer.specs.Step.{SequencerView}
 use Rattle.sv_witness.specs.Reports.{agreed_history}
 use Rattle.sv_witness.specs.declared.report.Dispute.{Dispute}
 use Rattle.sv_witness.specs.Kept.{counted_results, agreed_results, new_disputes, Stands}
 use Rattle.sv_witness.specs.Witnessed.{agreed, witnessed_reply}
 use Rattle.sv_witness.proofs.KeptRows.{same-counted, same-agreed, same-disputes}
 use Rattle.sv_witness.proofs.Same.{client-agreed}
-use Rattle.sv_witness.proofs.Stepped.{stands-for, same-stands, still, entered, witnessed}
+use Rattle.sv_witness.proofs.Stepped.{stands-for, same-stands}
 use Rattle.sv_witness.proofs.Steps.{reported-low}
 use Rattle.sv_witness.proofs.witness.Witness.note_results.Goals as goal
 

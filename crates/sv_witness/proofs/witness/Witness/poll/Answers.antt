@@ -1,9 +1,7 @@
-use Rattle.std.proofs.Common.{◌≡◌, ◌<◌, false, List, refl, sym, ◌∙◌, ap, subst, arith}
-use Rattle.sv_wire.specs.declared.message.Request.{Request}
-use Rattle.sv_journal.specs.declared.entry.Entry.{Entry}
+use Rattle.std.proofs.Common.{◌≡◌, ◌<◌, sym, ◌∙◌, ap, subst, arith}
 use Rattle.sv_journal.specs.Sessions.{is_end}
 use Rattle.sv_sequencer.specs.Cores.{rules_of, queue_of}
-use Rattle.sv_sequencer.specs.Step.{SequencerView, history}
+use Rattle.sv_sequencer.specs.Step.{SequencerView}
 use Rattle.sv_witness.specs.Reports.{agreed_history, due_to}
 use Rattle.sv_witness.specs.Standing.{first_of}
 use Rattle.sv_witness.proofs.Decided.{poll-holds, poll-told, poll-quiet}
