@@ -13,8 +13,7 @@ pub carry_out-carried-requires : goal.carry_out-carried-requires
 carry_out-carried-requires g c =
     let n = c.args.noting in
     let r = c.requires in
-    let standing = r.0 in
-    (
+    let standing = r.0 in (
       standing.keeps,
       (
         r.1.0,
@@ -23,8 +22,8 @@ carry_out-carried-requires g c =
           (
             refl,
             subst (λ (l : List Done1). list_any (is_bad_result (rules_of c.args.core.now) (agreed_history g.h) c.args.session) l ≡ false) (sym c.from_vec.ensures)
-            (install-good c.args.core.now c.args.reports.now c.args.disputes.now.items g.h c.args.session c.args.client c.args.request.now n.counted.items n.agreed.items n.disputes.items
-            standing r.1.1.0 r.1.1.1.0 r.1.1.1.1.0 r.1.1.1.1.1.0 r.1.1.1.1.1.1.0 r.1.1.1.1.1.1.1.0 r.1.1.1.1.1.1.1.1.0),
+                (install-good c.args.core.now c.args.reports.now c.args.disputes.now.items g.h c.args.session c.args.client c.args.request.now n.counted.items n.agreed.items n.disputes.items
+                standing r.1.1.0 r.1.1.1.0 r.1.1.1.1.0 r.1.1.1.1.1.0 r.1.1.1.1.1.1.0 r.1.1.1.1.1.1.1.0 r.1.1.1.1.1.1.1.1.0),
           ),
         ),
       ),

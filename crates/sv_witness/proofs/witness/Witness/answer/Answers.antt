@@ -22,8 +22,7 @@ note_results-requires g c =
     let d = c.decide-decision.result in
     let told = subst (λ (v : SequencerView). reply_by v.rules (agreed_history g.h) s q d ≡ reply_to_request v.rules (agreed_history g.h) s q) c.self.view_is c.decide-decision.ensures.reply in
     let holds = subst (λ (v : SequencerView). Holds v.rules (agreed_history g.h) s q d) c.self.view_is c.decide-decision.ensures.holds in
-    let more = c.requires.1.1 in
-    (
+    let more = c.requires.1.1 in (
       c.requires.0,
       (
         c.requires.1.0,
@@ -52,8 +51,7 @@ keep-requires g c =
     let holds = subst (λ (v : SequencerView). Holds v.rules (agreed_history g.h) s q d) c.self.view_is c.decide-decision.ensures.holds in
     let more = c.requires.1.1 in
     let asks_not = sym c.answers_poll.ensures ∙ c.if-answers_poll.false in
-    let other = c.in_default.not-Note in
-    (
+    let other = c.in_default.not-Note in (
       c.requires.0,
       (
         c.requires.1.0,

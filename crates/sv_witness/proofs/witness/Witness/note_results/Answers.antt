@@ -52,8 +52,7 @@ install-installed-requires g c =
     (same-stands (rules_of a.core) rows new a.disputes.items h same is.stands) in
     let counted = said.counted ∙ ap (counted_results v.commit rows k) c.results_of.ensures ∙ sym (same-counted rows new same v.commit k (results_in q)) in
     let brought = said.agreed ∙ ap (agreed_results v rows) (sym said.counted) ∙ sym (same-agreed rows new same v noting.counted.items) in
-    let made = said.made ∙ ap (new_disputes rows k) (sym said.counted) ∙ sym (same-disputes rows new same k noting.counted.items) in
-    (
+    let made = said.made ∙ ap (new_disputes rows k) (sym said.counted) ∙ sym (same-disputes rows new same k noting.counted.items) in (
       record { keeps = is.keeps; stands = stands },
       (low, (joined, (c.requires.1.1.0, (good, (reply, (counted, (brought, (made, (said.rows, said.places))))))))),
     )

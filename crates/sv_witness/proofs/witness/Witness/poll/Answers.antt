@@ -29,8 +29,7 @@ keep-requires g c =
     c.due_decision-decision.ensures
     ∙ ap first_of (due-are (rules_of a.core) h (queue_of a.core) a.reports k s (omega (arith, low, is.keeps.few_sessions)) joined is.stands.reports is.keeps.commit is.keeps.sound.sent is.keeps.fits) in
     let asked = c.requires.1.1.0 in
-    let reply = c.requires.1.1.1 in
-    (
+    let reply = c.requires.1.1.1 in (
       c.requires.0,
       (
         c.requires.1.0,
