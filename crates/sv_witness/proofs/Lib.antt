@@ -17,4 +17,6 @@ pub mod Tolerated
 mod Lying
 mod Calm
 mod Steps
+mod Decided
 mod Stepped
+mod Installed
