@@ -18,3 +18,8 @@ mod Lying
 mod Calm
 mod Steps
 mod Stepped
+mod Heard
+mod Sent
+mod Scripts
+mod Sound
+mod Ran
