@@ -3,13 +3,18 @@
 
     python3 tests/outside/witness.py FILE [K]
     python3 tests/outside/witness.py --many N
+    python3 tests/outside/witness.py --count FILE [N [MADE]]
 
 The second form runs N random scenarios, where none lies and with each client as the liar. The world must be that of doing the accepted
 actions one after the other, each dispute must name the liar, each client must take all replies, and the rounds must be enough.
 
+The third form counts what a file's run costs with the plain server, with this one, and with client 0 as the liar; with N, each client polls
+once behind each of its actions, and N times at the end, and MADE is then written: the file of these steps.
+
 The server installs a result once two different clients reported it. It differs from the plain one in its Dones and Polls alone.
 """
 
+import json
 import sys
 
 from actions import evaluate
@@ -87,9 +92,9 @@ def value_text(value):
     return "(" + ",".join(map(str, value)) + ")"
 
 
-def witnessed(scenario, liar=None):
+def witnessed(scenario, liar=None, kind=Witness):
     """The run, at its end."""
-    run = Run(scenario, type("Lied", (Witness,), {"liar": liar}))
+    run = Run(scenario, type("Lied", (kind,), {"liar": liar}))
     for letter, number in scenario.schedule:
         run.turn(letter, number)
     for _ in range(ROUNDS):
@@ -140,9 +145,36 @@ def many(count):
     return 1 if wrong else 0
 
 
+def polled(text, count):
+    """A file's text with a poll behind each action, and so many at the end of each script."""
+    value = json.loads(text)
+    for client in value["clients"]:
+        steps = [more for step in client["steps"] for more in ([step, "poll"] if "act" in step else [step])]
+        client["steps"] = steps + ["poll"] * count
+    return json.dumps(value)
+
+
+def counted(scenario):
+    """What the run costs with each server."""
+    for name, run in (("plain", witnessed(scenario, kind=Server)), ("none lies", witnessed(scenario)), ("client 0 lies", witnessed(scenario, 0))):
+        replies = [reply.kind for _, _, reply in run.server.steps]
+        print(f"{name}: accepted {len(run.server.queue)}, dropped {replies.count('dropped')}, installed {run.server.commit}, "
+              f"relays {replies.count('relay')}, requests {sum(request.kind != 'end' for _, request, _ in run.server.steps)}")
+
+
 def main(words):
     if words[0] == "--many":
         return many(int(words[1]))
+    if words[0] == "--count":
+        with open(words[1], encoding="utf-8") as file:
+            text = file.read()
+        if len(words) > 2:
+            text = polled(text, int(words[2]))
+        if len(words) > 3:
+            with open(words[3], "w", encoding="utf-8") as file:
+                file.write(text)
+        counted(scenario_of(text.encode()))
+        return 0
     print(text_of(witnessed(read_scenario(words[0]), int(words[1]) if len(words) > 1 else None).server), end="")
     return 0
 
