@@ -2,11 +2,12 @@
 """What `witness FILE` and `witness FILE K` print, by a server in Python that was written from the rules alone.
 
     python3 tests/outside/witness.py FILE [K]
-    python3 tests/outside/witness.py --many N
+    python3 tests/outside/witness.py --many N [PROGRAM]
     python3 tests/outside/witness.py --count FILE [N [MADE]]
 
 The second form runs N random scenarios, where none lies and with each client as the liar. The world must be that of doing the accepted
-actions one after the other, each dispute must name the liar, each client must take all replies, and the rounds must be enough.
+actions one after the other, each dispute must name the liar, each client must take all replies, and the rounds must be enough. Where a
+PROGRAM is named, it must print of each the same lines.
 
 The third form counts what a file's run costs with the plain server, with this one, and with client 0 as the liar; with N, each client polls
 once behind each of its actions, and N times at the end, and MADE is then written: the file of these steps.
@@ -15,7 +16,10 @@ The server installs a result once two different clients reported it. It differs 
 """
 
 import json
+import os
+import subprocess
 import sys
+import tempfile
 
 from actions import evaluate
 from random_scenario import scenario_text
@@ -114,9 +118,17 @@ def text_of(server):
     return "".join(line + "\n" for line in lines)
 
 
-def fault_of(scenario, liar):
+def printed(program, text, liar):
+    """What the program prints of a file with this text."""
+    with tempfile.NamedTemporaryFile(suffix=".json") as file:
+        file.write(text)
+        file.flush()
+        words = [os.path.abspath(program), "witness", file.name, *([] if liar is None else [str(liar)])]
+        return subprocess.run(words, capture_output=True, timeout=60, check=True).stdout.decode()
+
+
+def fault_of(run, scenario, liar):
     """What is wrong with a run, or None."""
-    run = witnessed(scenario, liar)
     world = list(map(tuple, scenario.opening))
     for queued in run.server.queue[:run.server.commit]:
         for target, value in zip(queued.action.writes, evaluate(queued.action, world)):
@@ -130,14 +142,18 @@ def fault_of(scenario, liar):
     return None
 
 
-def many(count):
+def many(count, program=None):
     """Random scenarios, with each client as the liar and with none. A client that refuses a reply raises Wrong."""
     runs, wrong = 0, 0
     for seed in range(count):
         text = scenario_text(seed)
-        scenario = scenario_of(text if isinstance(text, bytes) else text.encode())
+        text = text if isinstance(text, bytes) else text.encode()
+        scenario = scenario_of(text)
         for liar in (None, *range(len(scenario.plans))):
-            fault, runs = fault_of(scenario, liar), runs + 1
+            run, runs = witnessed(scenario, liar), runs + 1
+            fault = fault_of(run, scenario, liar)
+            if not fault and program and printed(program, text, liar) != text_of(run.server):
+                fault = "the program prints other lines"
             if fault:
                 wrong += 1
                 print(f"seed {seed}, liar {liar}: {fault}")
@@ -164,7 +180,7 @@ def counted(scenario):
 
 def main(words):
     if words[0] == "--many":
-        return many(int(words[1]))
+        return many(int(words[1]), *words[2:])
     if words[0] == "--count":
         with open(words[1], encoding="utf-8") as file:
             text = file.read()
