@@ -163,6 +163,20 @@ def test_witness(test):
             test.ends(("witness", path, str(liar)), (10, b"", b"range\n"), "no such client")
 
 
+def test_examples(test):
+    """Each file of examples/ is what the program prints of the scenario beside it."""
+    folder = os.path.join(ROOT, "examples")
+    for name in sorted(os.listdir(folder)):
+        stem, ending = os.path.splitext(os.path.join(folder, name))
+        scenario = f"{stem}.json"
+        if ending == ".out":
+            test.ends(("replay", scenario), (0, read(f"{stem}.out"), b""), name)
+        elif ending == ".err":
+            test.ends(("replay", scenario), (3, b"", read(f"{stem}.err")), name)
+        elif ending == ".looks":
+            test.ends(("looks", scenario), (0, read(f"{stem}.looks"), b""), name)
+
+
 def closed(number):
     """What a process does before it begins: it closes this file of its own."""
     return {"preexec_fn": lambda: os.close(number)}
@@ -235,7 +249,7 @@ def main(words):
         copy = shutil.copy(program, os.path.join(room, "program"))
         os.chmod(copy, 0o755)
         test = Test(copy, room)
-        for one in (test_words, test_files, test_reports, test_witness, test_outputs, test_limits):
+        for one in (test_words, test_examples, test_files, test_reports, test_witness, test_outputs, test_limits):
             one(test)
     print(f"{test.passed} passed, {test.failed} failed")
     return 0 if test.failed == 0 else 1
