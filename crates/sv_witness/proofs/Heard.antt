@@ -48,7 +48,7 @@ use Rattle.sv_witness.proofs.Lying.{lied-same}
 
 -- ---- A lie
 
-lied-ends : (q : Request) → is_end (lied q) ≡ is_end q
+pub lied-ends : (q : Request) → is_end (lied q) ≡ is_end q
 lied-ends (requests.Join client life interest) = refl
 lied-ends (requests.Submit seq action) = refl
 lied-ends (requests.Done results) = refl

@@ -23,3 +23,4 @@ mod Sent
 mod Scripts
 mod Sound
 mod Ran
+mod Endings
