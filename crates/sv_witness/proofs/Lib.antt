@@ -17,6 +17,7 @@ pub mod Tolerated
 mod Lying
 mod Calm
 mod Steps
+mod Decided
 mod Stepped
 mod Heard
 mod Sent
@@ -24,3 +25,4 @@ mod Scripts
 mod Sound
 mod Ran
 mod Endings
+mod Installed
