@@ -77,7 +77,7 @@ raised-fits : (n : ℤ) → IsNumber n → (b : Bool) → int_lt n greatest ≡ 
 raised-fits n f false e = f
 raised-fits (pos n) f true e = record { sfits = omega (arith, ltb-true n 9223372036854775807 e) }
 raised-fits (negsuc zero) f true e = record { sfits = omega arith }
-raised-fits (negsuc (suc n)) f true e = record { sfits = omega (arith, f.sfits) }
+raised-fits (negsuc (suc n)) f true e = let less : IsNumber (negsuc n) = record { sfits = omega (arith, f.sfits) } in less
 
 value-fits : (v : List ℤ) → ValueFits v → ValueFits (lied_value v)
 value-fits [] all = tt
