@@ -201,7 +201,7 @@ module _ (old new : Option (List ℕ)) where
     complete_of b a (endings.Plain plain.Done) h r can none = inl refl
     complete_of b a (endings.Plain (plain.Scenario line)) h r can none = holds_none held ((3 ≡ 0) ⊎ (3 ≡ 8) ⊎ (3 ≡ 10)) (string_bytes line) h.0 can
     complete_of b a (endings.Plain plain.File) h r can none = absurd (none.0 r.0)
-    complete_of b a (endings.Plain plain.Out) h r can none = absurd (none.1.1.1 r.0)
+    complete_of b a (endings.Plain plain.Out) h r can none = absurd (none.3 r.0)
     complete_of b a (endings.Plain plain.Memory) h r can none = inr (inl refl)
     complete_of b a endings.Range h r can none = inr (inr refl)
     complete_of b a (endings.Plain plain.Words) h r can none = absurd h.0

@@ -149,7 +149,7 @@ HasAsked asked i request = (first : Request) × ((slice_get asked i ≡ Some fir
 
 but-values : (r : Rules) (liar : Option ℕ) (h : List Entry) (s : ℕ) (asked : List Request) → AreHeard (witness_of r liar) h s asked →
     (i : ℕ) (request : Request) → slice_get (requests_in h s) i ≡ Some request → HasAsked asked i request
-but-values r liar [] s asked a i request g = absurd (none-some request g)
+but-values r liar [] s asked a = λ i request g. absurd (none-some request g)
 but-values r liar (e ∷ h) s asked a =
     let earlier = but-values r liar h s asked a.1 in
     cond_both (is_of e s) (requests_in h s ++ e.request ∷ []) (requests_in h s) (λ (rs : List Request). (i : ℕ) (request : Request) → slice_get rs i ≡ Some request → HasAsked asked i request)

@@ -92,30 +92,27 @@ authored-plain objects A (suc n) all = each-get (IsPlain objects) A n (record { 
 module _ (r : Rules) (H : List Entry) (L : Trace) (fits : FitsButValues r.world.shape H L) (bound : r.bound ≤ 32) (positions : length (accepted H) < 2 ^ 32)
     (named : All (λ (e : Entry). NamesAccepted (length (accepted H)) e.reply) H) (small : All (λ (e : Entry). length (positions_in e.reply) ≤ r.bound + 1) H)
     (good : All (λ (a : Authored). IsGoodAction r.world.shape a.action) (accepted H)) where
-  abbrev objects : ℕ
-  objects = r.world.shape.objects
-
-  plain : AllByRecursion (IsPlain objects) (accepted H)
+  plain : AllByRecursion (IsPlain r.world.shape.objects) (accepted H)
   plain =
-      each-more (λ (a : Authored). IsGoodAction r.world.shape a.action) (IsPlain objects)
-      (λ a g. (g.few_reads, recursion_from_All (λ x. x < objects) (read_set a.action) g.objects))
+      each-more (λ (a : Authored). IsGoodAction r.world.shape a.action) (IsPlain r.world.shape.objects)
+      (λ a g. (g.few_reads, recursion_from_All (λ x. x < r.world.shape.objects) (read_set a.action) g.objects))
       (accepted H) (recursion_from_All (λ (a : Authored). IsGoodAction r.world.shape a.action) (accepted H) good)
 
   -- What is known of the items of a relay that was got.
   pub record AreFine (items : List Item) : Type 0 where
-    pub each : AllByRecursion (IsFineItem objects) items
+    pub each : AllByRecursion (IsFineItem r.world.shape.objects) items
     pub some : 1 ≤ length items
     pub few : length items ≤ 33
 
-  item-fine : (p : ℕ) → p ≤ length (accepted H) → IsFineItem objects (item_at (accepted H) p)
+  item-fine : (p : ℕ) → p ≤ length (accepted H) → IsFineItem r.world.shape.objects (item_at (accepted H) p)
   item-fine p within =
-      let a = authored-plain objects (accepted H) p plain in
+      let a = authored-plain r.world.shape.objects (accepted H) p plain in
       record { pos = omega (arith, within, positions); few = a.0; within = a.1 }
 
-  reply-items : (w : Logged) → NamesAccepted (length (accepted H)) w → AllByRecursion (IsFineItem objects) (map (item_at (accepted H)) (positions_in w))
+  reply-items : (w : Logged) → NamesAccepted (length (accepted H)) w → AllByRecursion (IsFineItem r.world.shape.objects) (map (item_at (accepted H)) (positions_in w))
   reply-items (logged.Relay seq commit head ps) among =
-      each-map (item_at (accepted H)) (IsFineItem objects) ps
-      (each-more (λ p. (1 ≤ p) × (p ≤ length (accepted H))) (λ p. IsFineItem objects (item_at (accepted H) p)) (λ p m. item-fine p m.1) ps
+      each-map (item_at (accepted H)) (IsFineItem r.world.shape.objects) ps
+      (each-more (λ p. (1 ≤ p) × (p ≤ length (accepted H))) (λ p. IsFineItem r.world.shape.objects (item_at (accepted H) p)) (λ p m. item-fine p m.1) ps
       (recursion_from_All (λ p. (1 ≤ p) × (p ≤ length (accepted H))) ps among))
   reply-items (logged.Welcome commit head) among = tt
   reply-items (logged.Dropped seq chain far) among = tt
@@ -151,7 +148,7 @@ module _ (r : Rules) (H : List Entry) (L : Trace) (fits : FitsButValues r.world.
       let among = entry-at (λ (e : Entry). NamesAccepted (length (accepted H)) e.reply) x.entry x.before H x.earlier (recursion_from_All (λ (e : Entry). NamesAccepted (length (accepted H)) e.reply) H named) in
       let few = entry-at (λ (e : Entry). length (positions_in e.reply) ≤ r.bound + 1) x.entry x.before H x.earlier (recursion_from_All (λ (e : Entry). length (positions_in e.reply) ≤ r.bound + 1) H small) in
       record {
-        each = subst (AllByRecursion (IsFineItem objects)) (sym is) (reply-items x.entry.reply among);
+        each = subst (AllByRecursion (IsFineItem r.world.shape.objects)) (sym is) (reply-items x.entry.reply among);
         some = some-items who (pending_of before) a.request seq commit head items a.good;
         few = omega (arith, count, few, bound);
       }

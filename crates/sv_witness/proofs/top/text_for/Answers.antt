@@ -8,8 +8,8 @@ pub returns-in_err-scenario-clause-raises : goal.returns-in_err-scenario-clause-
 returns-in_err-scenario-clause-raises g c =
     λ k. raised_by c.from_residual.result (endings.Plain c.in_err-scenario.field-0.0) c.from_residual.ensures.1 _ _ (c.in_err-scenario.ensures.raises (counts 0 0 0 k))
 
-pub returns-then-is_within-clause-raises : goal.returns-then-is_within-clause-raises
-returns-then-is_within-clause-raises g c = λ k. c.in_ok-scenario.ensures.raises (counts 0 0 0 k)
+pub returns-then-not-is_within-clause-raises : goal.returns-then-not-is_within-clause-raises
+returns-then-not-is_within-clause-raises g c = λ k. c.in_ok-scenario.ensures.raises (counts 0 0 0 k)
 
 pub returns-in_err-run_text-clause-raises : goal.returns-in_err-run_text-clause-raises
 returns-in_err-run_text-clause-raises g c =
