@@ -4,7 +4,7 @@
     python3 tests/outside/failing_memory.py PROGRAM
 
 Builds failing_memory.c with the system's C compiler; that file says which allocations it reaches. Singles: `replay` and
-`play` of the examples `conflict` and `bound`, and `check` and `why` of their reports. Pairs: `replay` and `play` of
+`play` of the examples `conflict` and `bound`, `check` and `why` of their reports, and `witness` of `conflict`. Pairs: `replay` and `play` of
 `empty_script`, `replay` of `first` and `bound`, and `check` of `first`; the second of two is counted after the first has failed.
 
 A run may end with status 8, nothing printed and `memory` told; `play` also with 7 or 6, nothing printed and `start` or
@@ -30,13 +30,14 @@ from first_wrong import Lines, take_journal
 from reasons import why_lines
 from report import Fault
 from scenario import read_scenario
+from witness import text_of as witness_text, witnessed
 
 MEMORY = (8, b"", b"memory\n")
 # What a run of threads may be told instead, with nothing printed: the system starts no thread where its own memory is refused, and who runs
 # out of memory closes its connection, which is a fault at the other end where something was not read yet.
 THREADS = {(7, b"", b"start\n"): "start", (6, b"", b"link\n"): "link"}
 # More calls than any run of these examples makes.
-BEHIND = {"replay": 0, "play": 60, "check": 0, "why": 0}
+BEHIND = {"replay": 0, "play": 60, "check": 0, "why": 0, "witness": 0}
 
 
 class Shim:
@@ -74,7 +75,10 @@ def is_whole(path, text, known):
 
 
 def text_of(word, path, report):
-    """What a call prints where nothing fails: of `replay` the report, which `play` too may print; of `why` what is so of object 0 at position 1."""
+    """What a call prints where nothing fails: of `replay` the report, which `play` too may print; of `why` what is so of object 0 at position 1;
+    of `witness` the lines of the run in which client 0 lies."""
+    if word == "witness":
+        return witness_text(witnessed(read_scenario(path), 0).server).encode()
     with open(report, "rb") as file:
         text = file.read()
     if word == "check":
@@ -110,7 +114,7 @@ class Campaign:
         """All singles, or all pairs, of one call of the program. A pair whose second call is not reached is a single."""
         path, report, name = os.path.join(EXAMPLES, example + ".json"), os.path.join(EXAMPLES, example + ".out"), f"{word} {example}"
         known = {text_of(word, path, report): True}
-        words = [word, path, *{"check": [report], "why": [report, "0", "1"]}.get(word, [])]
+        words = [word, path, *{"check": [report], "why": [report, "0", "1"], "witness": ["0"]}.get(word, [])]
         shim, begun, ends = Shim(self.library, self.program, words), time.monotonic(), collections.Counter()
         plain, least = shim.run()
         if plain[0] != 0:
@@ -144,6 +148,7 @@ def main(words):
         for example in ("conflict", "bound"):
             for word in ("replay", "play", "check", "why"):
                 campaign.go(word, example, False)
+        campaign.go("witness", "conflict", False)
         for word, example in (("replay", "empty_script"), ("play", "empty_script"), ("replay", "first"), ("replay", "bound"), ("check", "first")):
             campaign.go(word, example, True)
     print(f"{campaign.wrong} wrong")

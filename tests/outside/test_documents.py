@@ -4,7 +4,7 @@
     python3 tests/outside/test_documents.py [--program PROGRAM] [DOCUMENT ..]
 
 Takes the fenced blocks out of README.md and of docs/ACTIONS.md, CHECK.md, EMBEDDING.md, ERRORS.md,
-PICTURE.md and TUTORIAL.md, or out of the documents that are named, and checks each by the word behind
+PICTURE.md, TUTORIAL.md and WITNESS.md, or out of the documents that are named, and checks each by the word behind
 its opening fence:
 
     action          an action text, which must be read
@@ -32,6 +32,10 @@ its opening fence:
     why NAME O P    what `why` prints of that replay's report, of object O at position P
     answers         lines `sS REQUEST -> REPLY`: what a server answers that has one object with the
                     one attribute 0, and a bound of 8
+    witness         a line `dimboetu witness NAME.json [K]`, then all that it prints of the scenario NAME
+    witness-answers WHEN    lines `sS REQUEST -> REPLY`: what such a server answers that tolerates a liar,
+                    once clients 0 to 2 `joined` in sessions 0 to 2, or once the action of client 0 that
+                    adds 1 to the object was `sent` to all of these
     file PATH       lines that stand together in that file of the repository
     text, sh        not checked
 
@@ -64,11 +68,12 @@ from reasons import why_lines
 from report import reply_text, request_of
 from scenario import NoScenario, Plan, Scenario, read_scenario, scenario_of
 from server import Server
+from witness import Witness, text_of as witness_text, witnessed
 
 HERE = os.path.dirname(os.path.abspath(__file__))
 TOP = os.path.join(HERE, "..", "..")
 DOCUMENTS = ("README.md", "docs/ACTIONS.md", "docs/CHECK.md", "docs/EMBEDDING.md", "docs/ERRORS.md",
-             "docs/PICTURE.md", "docs/TUTORIAL.md")
+             "docs/PICTURE.md", "docs/TUTORIAL.md", "docs/WITNESS.md")
 # Crates that read the lines of reports, and write none on standard error.
 READERS = ("sv_lines", "sv_check")
 LARGEST = 4_194_304
@@ -400,15 +405,30 @@ class Checker:
             text = text.replace(first, second)
         self.check_scenario(text.split("\n")[:-1], name, key)
 
-    def check_answers(self, lines, name):
-        """What a server answers to requests, one after the other."""
-        plan = Plan((), ())
-        server = Server(Scenario(1, ((0,),), 8, None, (plan, plan, plan), ()))
+    def check_answers(self, lines, name, kind=Server, before=()):
+        """What a server answers to requests, one after the other, once it answered these before."""
+        server = kind(Scenario(1, ((0,),), 8, None, (Plan((), ()),) * 4, ()))
+        for line in before:
+            session, request = line.split(" ", 1)
+            server.step(int(session[1:]), request_of(request, 0))
         for line in lines:
             session, rest = line.split(" ", 1)
             request, reply = rest.split(" -> ")
             found = reply_text(server.step(int(session[1:]), request_of(request, 0)))
             self.expect(found == reply, f"{name}: {line}: {found}")
+
+    def check_witness(self, lines, name):
+        """What `witness` prints of a scenario, where a client lies or none."""
+        command = re.fullmatch(r"dimboetu witness ([a-z]+)\.json(?: ([0-9]+))?", lines[0])
+        liar = None if command[2] is None else int(command[2])
+        found = witness_text(witnessed(self.scenarios[command[1]], liar).server)
+        self.expect(found == "".join(line + "\n" for line in lines[1:]), f"{name}: {found}")
+
+    def check_witness_answers(self, lines, name, when):
+        """What a server that tolerates a liar answers to requests."""
+        joined = [f"s{number} join c{number} 1 []" for number in range(3)]
+        sent = ["s0 submit 1 reads 0 writes 0 { set @0.0 (@0.0 + 1); }", "s1 poll", "s2 poll"]
+        self.check_answers(lines, name, Witness, {"joined": joined, "sent": joined + sent}[when])
 
     def check_report(self, lines, name, key):
         """A whole report, and the example of that name."""
@@ -457,7 +477,7 @@ class Checker:
         word, more = words[0], words[1:]
         if word in ("text", "sh"):
             return
-        if word in ("action", "canonical", "gives", "answers") and not more:
+        if word in ("action", "canonical", "gives", "answers", "witness") and not more:
             getattr(self, f"check_{word}")(lines, name)
         elif word == "refused":
             shape = [int(one) for one in more] or [1, 1]
@@ -465,8 +485,8 @@ class Checker:
         elif word == "no-scenario":
             self.check_pairs(lines, name,
                              lambda text: line_of_file("" if text == "(empty)" else text))
-        elif word in ("scenario", "change", "report", "file", "wrong", "why"):
-            getattr(self, f"check_{word}")(lines, name, *more)
+        elif word in ("scenario", "change", "report", "file", "wrong", "why", "witness-answers"):
+            getattr(self, f"check_{word.replace('-', '_')}")(lines, name, *more)
         elif word in ("part", "told", "brief", "played", "played-brief"):
             self.check_run(lines, name, word, *more)
         else:
@@ -498,7 +518,7 @@ class Checker:
                 self.expect(is_command(words, forms), f"{page}: ./dimboetu {line}")
                 files = [word for word in words if word.startswith("examples/")]
                 self.expect(all(os.path.exists(os.path.join(TOP, each)) for each in files), f"{page}: {line}")
-                ends = words[0] in ("play", "replay", "load", "--help", "--version")
+                ends = words[0] in ("play", "replay", "load", "witness", "--help", "--version")
                 ends |= words[0] in ("check", "why") and len(files) == 2
                 if program and ends and (files or len(words) < 2 or words[0] == "load") and line not in tried:
                     tried.add(line)
@@ -537,7 +557,7 @@ class Checker:
         """What `--help` has."""
         forms = forms_of_help()
         for form in re.findall(r"^\| `([a-z]+[^`]*)` \|", text_of("README.md"), re.M):
-            if form.split()[0] in ("play", "replay", "load", "serve", "join", "looks", "check", "why"):
+            if form.split()[0] in ("play", "replay", "load", "serve", "join", "looks", "witness", "check", "why"):
                 self.expect(form.split() in forms, f"--help has no {form}")
         for page in re.findall(r"[A-Za-z/]+\.md", help_text()):
             self.expect(os.path.exists(os.path.join(TOP, page)), f"--help names {page}")

@@ -4,8 +4,8 @@
     python3 tests/outside/test_main.py [PROGRAM]
 
 PROGRAM is the built program; without it the repository's own is taken, and where that is not built yet nothing is
-tested. Every expected line is typed from docs/ERRORS.md. `serve` and `join` have more in test_serve.py. Closes with
-`N passed, M failed`.
+tested. Every expected line is typed from docs/ERRORS.md, and what `witness` prints is compared with what a server in
+Python gives (witness.py). `serve` and `join` have more in test_serve.py. Closes with `N passed, M failed`.
 """
 
 import json
@@ -22,18 +22,22 @@ ROOT = os.path.normpath(os.path.join(HERE, "..", ".."))
 sys.path.insert(0, HERE)
 
 from programs import free_port
+from scenario import read_scenario
+from witness import text_of as witness_text, witnessed
 
 BUILT = os.path.join(ROOT, "crates", "sv_main", "out", "sv_main")
 PLAY = b"words: play FILE [--brief | --watch] | replay FILE | load N\n"
 SERVE, JOIN, LOOKS = b"words: serve FILE PORT\n", b"words: join FILE K PORT\n", b"words: looks FILE\n"
+WITNESS = b"words: witness FILE [K]\n"
 CHECK, WHY = b"words: check SCENARIO REPORT\n", b"words: why SCENARIO REPORT OBJECT POSITION\n"
 NO_TEXT = b"\xff\xfe"
 OTHER = {"user": 65534, "group": 65534}
 FIRST = os.path.join(ROOT, "examples", "first.json")
 SEEN = os.path.join(ROOT, "examples", "looks.json")
+TRADE = os.path.join(ROOT, "examples", "trade.json")
 REPORT = os.path.join(ROOT, "examples", "first.out")
 LONGEST_REPORT = 67_108_864
-RUNS = (("play", FIRST), ("play", FIRST, "--brief"), ("play", FIRST, "--watch"), ("replay", FIRST), ("load", "1"), ("looks", SEEN),
+RUNS = (("play", FIRST), ("play", FIRST, "--brief"), ("play", FIRST, "--watch"), ("replay", FIRST), ("load", "1"), ("looks", SEEN), ("witness", TRADE, "0"),
         ("check", FIRST, REPORT), ("why", FIRST, REPORT, "0", "1"))
 
 
@@ -84,6 +88,9 @@ def test_words(test):
         test.ends(words, (2, b"", PLAY), "words")
     for words, line in ((("serve",), SERVE), (("serve", first, "0"), SERVE), (("join", first, "x", "1"), JOIN), (("join",), JOIN),
                         (("looks",), LOOKS), (("looks", first, "--brief"), LOOKS), (("looks", first, first), LOOKS),
+                        (("witness",), WITNESS), (("witness", first, first), WITNESS), (("witness", first, "00"), WITNESS),
+                        (("witness", first, "-1"), WITNESS), (("witness", first, "65536"), WITNESS), (("witness", first, "0", "0"), WITNESS),
+                        (("witness", "missing", "--brief"), WITNESS),
                         (("check",), CHECK), (("check", first), CHECK), (("check", first, REPORT, "0"), CHECK), (("why",), WHY),
                         (("why", first, REPORT, "0"), WHY), (("why", first, REPORT, "0", "01"), WHY), (("why", first, REPORT, "65536", "1"), WHY)):
         test.ends(words, (2, b"", line), "words")
@@ -102,7 +109,7 @@ def test_files(test):
         {"interest": [], "steps": [{"act": "reads 0 writes 0 {"}]}]}).encode())
     # A process without a reader's right: root may read any file.
     kinds = OTHER if test.changes_users else {}
-    for start in (("play",), ("replay",), ("serve",), ("join",)):
+    for start in (("play",), ("replay",), ("witness",), ("serve",), ("join",)):
         behind = {"serve": (port,), "join": ("0", port)}.get(start[0], ())
         test.ends((*start, missing, *behind), (4, b"", f"file: {missing}\n".encode()), "no such file")
         test.ends((*start, test.room, *behind), (4, b"", f"file: {test.room}\n".encode()), "a folder")
@@ -116,6 +123,9 @@ def test_files(test):
         test.ends((*start, "/dev/zero", *behind), (3, b"", b"scenario: : size\n"), "a file without end")
     for option in ("--brief", "--watch"):
         test.ends(("play", missing, option), (4, b"", f"file: {missing}\n".encode()), "no such file")
+    # A client that there is not is told last.
+    test.ends(("witness", missing, "65535"), (4, b"", f"file: {missing}\n".encode()), "no such file, and no such client")
+    test.ends(("witness", faulty, "65535"), (3, b"", b"scenario: : kind\n"), "a faulty file, and no such client")
     for word, behind in (("check", ()), ("why", ("0", "1"))):
         for name in (missing, test.room, ""):
             test.ends((word, name, REPORT, *behind), (4, b"", f"file: {name}\n".encode()), "a scenario that can't be read")
@@ -138,6 +148,19 @@ def test_reports(test):
         for size, line in ((LONGEST_REPORT, 1), (LONGEST_REPORT + 1, 0)):
             os.truncate(long, size)
             test.ends((word, FIRST, long, *behind), (9, b"", f"wrong line {line}\n".encode()), "a long report")
+
+
+def test_witness(test):
+    """Worlds with each of their clients as the liar, with none, and with one that they have not; each text is that of a server in Python."""
+    for name in ("trade", "conflict", "bound", "first", "looks", "empty_script", "orphan", "marketplace"):
+        path = os.path.join(ROOT, "examples", f"{name}.json")
+        scenario = read_scenario(path)
+        clients = len(scenario.plans)
+        test.ends(("witness", path), (0, witness_text(witnessed(scenario).server).encode(), b""), "nobody lies")
+        for liar in range(clients):
+            test.ends(("witness", path, str(liar)), (0, witness_text(witnessed(scenario, liar).server).encode(), b""), "a liar")
+        for liar in (clients, 65535):
+            test.ends(("witness", path, str(liar)), (10, b"", b"range\n"), "no such client")
 
 
 def test_examples(test):
@@ -170,7 +193,7 @@ def test_outputs(test):
             test.ends(words, (5, b"", b"out\n"), "a closed output", **closed(1))
             test.ends(words, (5, None, None), "both outputs on a full disk", stdout=full, stderr=full)
         for words, status in ((("plays",), 2), (("replay", os.path.join(test.room, "missing")), 4), (("replay", "/dev/null"), 3),
-                              (("check", FIRST, "/dev/null"), 9), (("why", FIRST, REPORT, "0", "2"), 10)):
+                              (("check", FIRST, "/dev/null"), 9), (("why", FIRST, REPORT, "0", "2"), 10), (("witness", FIRST, "9"), 10)):
             test.ends(words, (status, b"", None), "errors on a full disk", stderr=full)
             test.ends(words, (status, b"", None), "errors to a closed pipe", stderr=pipe)
             test.ends(words, (status, b"", b""), "a closed error output", **closed(2))
@@ -226,7 +249,7 @@ def main(words):
         copy = shutil.copy(program, os.path.join(room, "program"))
         os.chmod(copy, 0o755)
         test = Test(copy, room)
-        for one in (test_words, test_examples, test_files, test_reports, test_outputs, test_limits):
+        for one in (test_words, test_examples, test_files, test_reports, test_witness, test_outputs, test_limits):
             one(test)
     print(f"{test.passed} passed, {test.failed} failed")
     return 0 if test.failed == 0 else 1

@@ -2,15 +2,24 @@
 """What `witness FILE` and `witness FILE K` print, by a server in Python that was written from the rules alone.
 
     python3 tests/outside/witness.py FILE [K]
-    python3 tests/outside/witness.py --many N
+    python3 tests/outside/witness.py --many N [PROGRAM]
+    python3 tests/outside/witness.py --count FILE [N [MADE]]
 
 The second form runs N random scenarios, where none lies and with each client as the liar. The world must be that of doing the accepted
-actions one after the other, each dispute must name the liar, each client must take all replies, and the rounds must be enough.
+actions one after the other, each dispute must name the liar, each client must take all replies, and the rounds must be enough. Where a
+PROGRAM is named, it must print of each the same lines.
+
+The third form counts what a file's run costs with the plain server, with this one, and with client 0 as the liar; with N, each client polls
+once behind each of its actions, and N times at the end, and MADE is then written: the file of these steps.
 
 The server installs a result once two different clients reported it. It differs from the plain one in its Dones and Polls alone.
 """
 
+import json
+import os
+import subprocess
 import sys
+import tempfile
 
 from actions import evaluate
 from random_scenario import scenario_text
@@ -87,9 +96,9 @@ def value_text(value):
     return "(" + ",".join(map(str, value)) + ")"
 
 
-def witnessed(scenario, liar=None):
+def witnessed(scenario, liar=None, kind=Witness):
     """The run, at its end."""
-    run = Run(scenario, type("Lied", (Witness,), {"liar": liar}))
+    run = Run(scenario, type("Lied", (kind,), {"liar": liar}))
     for letter, number in scenario.schedule:
         run.turn(letter, number)
     for _ in range(ROUNDS):
@@ -109,9 +118,17 @@ def text_of(server):
     return "".join(line + "\n" for line in lines)
 
 
-def fault_of(scenario, liar):
+def printed(program, text, liar):
+    """What the program prints of a file with this text."""
+    with tempfile.NamedTemporaryFile(suffix=".json") as file:
+        file.write(text)
+        file.flush()
+        words = [os.path.abspath(program), "witness", file.name, *([] if liar is None else [str(liar)])]
+        return subprocess.run(words, capture_output=True, timeout=60, check=True).stdout.decode()
+
+
+def fault_of(run, scenario, liar):
     """What is wrong with a run, or None."""
-    run = witnessed(scenario, liar)
     world = list(map(tuple, scenario.opening))
     for queued in run.server.queue[:run.server.commit]:
         for target, value in zip(queued.action.writes, evaluate(queued.action, world)):
@@ -125,14 +142,18 @@ def fault_of(scenario, liar):
     return None
 
 
-def many(count):
+def many(count, program=None):
     """Random scenarios, with each client as the liar and with none. A client that refuses a reply raises Wrong."""
     runs, wrong = 0, 0
     for seed in range(count):
         text = scenario_text(seed)
-        scenario = scenario_of(text if isinstance(text, bytes) else text.encode())
+        text = text if isinstance(text, bytes) else text.encode()
+        scenario = scenario_of(text)
         for liar in (None, *range(len(scenario.plans))):
-            fault, runs = fault_of(scenario, liar), runs + 1
+            run, runs = witnessed(scenario, liar), runs + 1
+            fault = fault_of(run, scenario, liar)
+            if not fault and program and printed(program, text, liar) != text_of(run.server):
+                fault = "the program prints other lines"
             if fault:
                 wrong += 1
                 print(f"seed {seed}, liar {liar}: {fault}")
@@ -140,9 +161,36 @@ def many(count):
     return 1 if wrong else 0
 
 
+def polled(text, count):
+    """A file's text with a poll behind each action, and so many at the end of each script."""
+    value = json.loads(text)
+    for client in value["clients"]:
+        steps = [more for step in client["steps"] for more in ([step, "poll"] if "act" in step else [step])]
+        client["steps"] = steps + ["poll"] * count
+    return json.dumps(value)
+
+
+def counted(scenario):
+    """What the run costs with each server."""
+    for name, run in (("plain", witnessed(scenario, kind=Server)), ("none lies", witnessed(scenario)), ("client 0 lies", witnessed(scenario, 0))):
+        replies = [reply.kind for _, _, reply in run.server.steps]
+        print(f"{name}: accepted {len(run.server.queue)}, dropped {replies.count('dropped')}, installed {run.server.commit}, "
+              f"relays {replies.count('relay')}, requests {sum(request.kind != 'end' for _, request, _ in run.server.steps)}")
+
+
 def main(words):
     if words[0] == "--many":
-        return many(int(words[1]))
+        return many(int(words[1]), *words[2:])
+    if words[0] == "--count":
+        with open(words[1], encoding="utf-8") as file:
+            text = file.read()
+        if len(words) > 2:
+            text = polled(text, int(words[2]))
+        if len(words) > 3:
+            with open(words[3], "w", encoding="utf-8") as file:
+                file.write(text)
+        counted(scenario_of(text.encode()))
+        return 0
     print(text_of(witnessed(read_scenario(words[0]), int(words[1]) if len(words) > 1 else None).server), end="")
     return 0
 

@@ -9,6 +9,7 @@ fn call_of(word: &str) -> Command
 {
     match word {
         "looks" => Command::Looks,
+        "witness" => Command::Witness,
         "serve" => Command::Serve,
         "join" => Command::Join,
         "check" | "why" => Command::Check,

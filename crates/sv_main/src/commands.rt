@@ -9,6 +9,9 @@ pub enum Command {
     /// It prints what the looks of a scenario's scheduled run were told.
     Looks,
 
+    /// It runs a scenario over a server that trusts no client alone, with a client that lies or with none.
+    Witness,
+
     /// It serves a scenario's sessions to other programs.
     Serve,
 

@@ -25,6 +25,10 @@ actions need, and keeps the one world that comes out.
                                  dimboetu play examples/trade.json --watch
   dimboetu looks FILE            runs a scenario as replay does, and prints what its looks at several objects saw
                                  dimboetu looks examples/looks.json
+  dimboetu witness FILE          runs a scenario where a result counts once two players reported it, and prints the world
+                                 dimboetu witness examples/trade.json
+  dimboetu witness FILE K        the same where player K lies, and prints what is in dispute
+                                 dimboetu witness examples/trade.json 0
   dimboetu load N                plays a made-up world of size N, 1 to 192, and prints counts and sums
                                  dimboetu load 4
   dimboetu serve FILE PORT       waits for the players of a world at a port of this machine, and serves them
@@ -41,12 +45,12 @@ actions need, and keeps the one world that comes out.
 
 A run ends with a status, and each but 0 with one line on standard error:
   0 all was printed              5 standard output failed            9 check, why: the report has a wrong line
-  2 the words are no command     6 a connection failed              10 join: no client K; why: no such object or position
+  2 the words are no command     6 a connection failed              10 join, witness: no client K; why: no such object or position
   3 the file is no scenario      7 a thread could not be started    11 join: the server sent a wrong reply
   4 a file can't be read         8 out of memory                    12 join: the server closed too early
 
 Read on: README.md (what this is good for), docs/TUTORIAL.md (a first game), docs/ACTIONS.md (the language of
-actions), docs/ERRORS.md (what can go wrong, and what to do).
+actions), docs/ERRORS.md (what can go wrong, and what to do), docs/WITNESS.md (a world with a liar in it).
 "#;
 
 /// What `--version` prints.

@@ -25,6 +25,7 @@ use sv_join::run_join;
 use sv_link::{OpenGate, TcpNet, ThreadCrew};
 use sv_serve::run_serve;
 use sv_snapshot::run_looks;
+use sv_witness::run_witness;
 
 /// The status where memory ran out.
 const MEMORY: u8 = 8;
@@ -106,6 +107,7 @@ where
     match command(words) {
         Command::Run => run_here(rt, alloc, words, files, out, err),
         Command::Looks => run_looks(alloc, words, files, out, err),
+        Command::Witness => run_witness(alloc, words, files, out, err),
         Command::Serve => serve_here(rt, alloc, words, files, out, err),
         Command::Join => join_here(rt, alloc, words, files, out, err),
         Command::Check => run_check(alloc, words, files, out, err),

@@ -11,6 +11,7 @@ pub mod Invariant
 pub mod Lies
 pub mod Tolerance
 pub mod Run
+pub mod Lying
 pub mod Lines
 pub mod Words
 pub mod Statuses

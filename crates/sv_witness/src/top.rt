@@ -1,31 +1,24 @@
 //! The top call of a witnessed run.
-ghost use Rattle.std.specs.Prelude.{◌≡◌, ◌≢◌, ◌↔◌, ◌⊎◌, ◌≤◌, ℕ, map, option_map, string_bytes, None, Err, IfOk, IfSome};
-ghost use Rattle.sv_scenario.specs.Limits.{IsGoodScenario};
+ghost use Rattle.std.specs.Prelude.{◌≡◌, ◌≢◌, ◌↔◌, ◌⊎◌, ◌≤◌, ℕ, true, false, map, option_map, string_bytes, None, Err, IfSome};
 ghost use Rattle.sv_command.specs.declared.ending.Ending.TheVariants as plain;
 ghost use Rattle.sv_command.specs.Reading.{held_of, HoldsScenario};
 ghost use Rattle.sv_command.specs.Statuses.{counts, NoneRose, TellsFaults};
 ghost use Rattle.sv_witness.specs.declared.ending.WitnessEnding.TheVariants as endings;
-ghost use Rattle.sv_witness.specs.Statuses.{Ends, IsMade, IsRunText, Leaves, Raises, TellsStatus, ending_of};
+ghost use Rattle.sv_witness.specs.Statuses.{Ends, IsMade, IsOver, IsWithin, Leaves, Raises, TellsStatus, ending_of};
 ghost use Rattle.sv_witness.specs.Words.{asked_by, file_of, witnessing_of};
 
 use crate::ending::{WitnessEnding, status_of, tell};
+use crate::running::run_text;
 use crate::words::{Witnessing, file_of, witnessing_of};
-use std::alloc::{AllocError, Global};
+use std::alloc::Global;
 use sv_bytes::{Files, Sink, write_all};
 use sv_command::{Ending, scenario_in};
-use sv_scenario::Scenario;
-
-/// The lines of a scenario's witnessed run.
-fn run_text(alloc: Global, scenario: &Scenario, liar: Option<u16>) -> Result<String, AllocError>
-    requires { IsGoodScenario scenario.now }
-    ensures { IfOk result (λ text. IsRunText scenario.now liar (string_bytes text)) }
-{
-    let _ = (alloc, scenario.clients.len(), liar);
-    Err(AllocError)
-}
 
 /// Whether the liar is one of so many clients, if there is one.
-fn is_within(clients: usize, liar: Option<u16>) -> bool {
+fn is_within(clients: usize, liar: Option<u16>) -> bool
+    ensures within { result ≡ true → IsWithin clients liar }
+    ensures over { result ≡ false → IsOver clients liar }
+{
     match liar {
         Some(number) => (number as usize) < clients,
         None => true,
@@ -60,7 +53,7 @@ fn decide<F: Files, K: Sink>(
     ensures ends { IfSome (option_map asked_by asked.entry) (λ a. Ends a (F.contents files.old a.file) (K.taken out.old) (K.taken out.new) result) }
     ensures raises { Raises (counts (F.faults files.old) 0 0 (K.faults out.old)) (counts (F.faults files.new) 0 0 (K.faults out.new)) result }
     ensures sure { IfSome (option_map asked_by asked.entry) (λ a. F.sure files.old a.file → result ≢ endings.Plain plain.File) }
-    ensures apart { option_map asked_by asked.entry ≡ None → files.new ≡ files.old }
+    ensures apart { option_map asked_by asked.entry ≡ None → (files.new ≡ files.old) × (K.taken out.new ≡ K.taken out.old) }
 {
     let Some(asked) = asked else {
         return WitnessEnding::Plain(Ending::Words);

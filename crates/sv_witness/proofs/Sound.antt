@@ -1,0 +1,355 @@
+-- A sound run over a witnessing server: whatever is asked and replied in it is a message, no client refuses its next reply, and what is agreed is
+-- the serial execution.
+use Rattle.std.proofs.Common.{◌≡◌, ℕ, zero, suc, ◌+◌, ◌^◌, ◌<◌, ◌≤◌, Bool, true, false, inl, inr, cond, eqb, List, [], ◌∷◌, ◌++◌, map, length, reverse, Option, Some, None, slice_get, ℤ, pos, negsuc, refl, sym, ap, subst, ◌∙◌, arith, true≢false, ltb-true, filter}
+use Rattle.std.specs.Prelude.{All, int_lt, ◌+ℤ◌, if◌then◌else◌}
+use Rattle.std.specs.List.{list_any, AllByRecursion}
+use Rattle.std.proofs.lemmas.Bool.{cases_Bool}
+use Rattle.std.proofs.lemmas.List.Elements.{recursion_from_All, All-from_recursion}
+use Rattle.sv_world.specs.declared.action.Action.{Action}
+use Rattle.sv_world.specs.declared.world.Shape.{Shape}
+use Rattle.sv_wire.specs.declared.message.Done1.{Done1}
+use Rattle.sv_wire.specs.declared.message.Request.{Request}
+use Rattle.sv_wire.specs.declared.message.Request.TheVariants as requests
+use Rattle.sv_wire.specs.declared.message.Reply.{Reply}
+use Rattle.sv_wire.specs.Laws.{IsRequest, IsReply}
+use Rattle.sv_wire.specs.Ranges.{ValueFits, ResultFits, ActionFits, RequestFits}
+use Rattle.sv_journal.specs.declared.entry.Entry.{Entry}
+use Rattle.sv_journal.specs.History.{Authored, client_of, is_relay, new_action, outcomes_of, accepted, actions_of, full_reply}
+use Rattle.sv_journal.specs.Sessions.{is_end}
+use Rattle.sv_journal.specs.Answer.{Rules}
+use Rattle.sv_journal.specs.Laws.{AreWithinLimits, ServedRelaysNameAccepted, ServedRelaysAreSmall, ServedActionsAreGood}
+use Rattle.sv_client.specs.declared.trace.Event.{Event}
+use Rattle.sv_client.specs.declared.trace.Event.TheVariants as events
+use Rattle.sv_client.specs.declared.trace.Trace.{Trace}
+use Rattle.sv_client.specs.Traces.{current_session, asked, got, held_of, requests_of}
+use Rattle.sv_client.specs.Taking.{Identity, first_fault_of_reply}
+use Rattle.sv_client.specs.Proper.{identity_of}
+use Rattle.sv_scenario.specs.declared.scenario.Scenario.{Scenario}
+use Rattle.sv_scenario.specs.Limits.{IsGoodScenario}
+use Rattle.sv_scenario.specs.Sessions.{session_count}
+use Rattle.sv_system.specs.Fits.{is_join_of, requests_in, replies_in}
+use Rattle.sv_system.specs.Served.{no_client, FitsBut, OwnsSessions, FitsButValues}
+use Rattle.sv_system.specs.Serial.{AreSerial}
+use Rattle.sv_system.specs.Journals.{ResultsAreSerial}
+use Rattle.sv_system.proofs.Histories.{IsEarlier, same, after, earlier-rest}
+use Rattle.sv_system.proofs.Entered.{is_of, of-from}
+use Rattle.sv_system.proofs.Induction.{whole-well}
+use Rattle.sv_system.proofs.NextReply.{served-no_fault}
+use Rattle.sv_asked.specs.Asked.{EventFits, HasNumbers, ServedRepliesFit}
+use Rattle.sv_asked.specs.Numbers.{PlanFits, ScenarioFits}
+use Rattle.sv_asked.proofs.Every.{each-at, each-append, each-if, each-map, each-more, each-reverse}
+use Rattle.sv_asked.proofs.Evaluated.{IsNumber}
+use Rattle.sv_asked.proofs.Made.{Makes, Asks, asked-have}
+use Rattle.sv_asked.proofs.Owned.{entry-at, SubmitHas}
+use Rattle.sv_asked.proofs.Spent.{served-few}
+use Rattle.sv_schedule.specs.Players.{Player, trace_of_player}
+use Rattle.sv_schedule.specs.Serving.{Run, Server, traces_of}
+use Rattle.sv_schedule.specs.Schedule.{rules_of}
+use Rattle.sv_schedule.specs.Served.{IsHeard, AreHeard, FitsServer, IsSoundOver}
+use Rattle.sv_schedule.specs.Sound.{has_joined}
+use Rattle.sv_schedule.proofs.DoneCounts.{asked-few}
+use Rattle.sv_schedule.proofs.DoneFacts.{any-turned, same-who, same-events}
+use Rattle.sv_schedule.proofs.DoneLists.{map-here}
+use Rattle.sv_schedule.proofs.SoundCalls.{player-at}
+use Rattle.sv_schedule.proofs.SoundLaws.{run-sound}
+use Rattle.sv_schedule.proofs.SoundOwned.{session-owned}
+use Rattle.sv_replay.specs.Players.{asked_by_player}
+use Rattle.sv_replay.specs.Messages.{AsksMessages}
+use Rattle.sv_replay.specs.Playable.{IsPlayable}
+use Rattle.sv_replay.proofs.Lengths.{owner_of, history_few}
+use Rattle.sv_witness.specs.Lies.{greatest, lied, lied_result, lied_value}
+use Rattle.sv_witness.specs.Reports.{agreed_history}
+use Rattle.sv_witness.specs.Witnessed.{agreed, IsWitnessed}
+use Rattle.sv_witness.specs.Run.{heard_of, witness_of, witnessed_run, liar_of, IsWitnessedRun}
+use Rattle.sv_witness.specs.Disputes.{disputes_of}
+use Rattle.sv_witness.specs.Tolerance.{IsTolerated}
+use Rattle.sv_witness.specs.Lying.{WitnessesArePlayable, RunsAreWitnessed}
+use Rattle.sv_witness.proofs.Same.{agreed-keeping}
+use Rattle.sv_witness.proofs.Tolerated.{results-tolerated, tolerated}
+use Rattle.sv_witness.proofs.Calm.{none-disputed}
+use Rattle.sv_witness.proofs.Heard.{heard-by, heard-ends, heard-joins, witness-served, witness-keeps, witness-fits, is_other, witness-but}
+use Rattle.sv_witness.proofs.Sent.{all-requests}
+use Rattle.sv_witness.proofs.Scripts.{players_made}
+
+-- ---- A lie has numbers of their types
+
+raised-fits : (n : ℤ) → IsNumber n → (b : Bool) → int_lt n greatest ≡ b → IsNumber (if b then n +ℤ pos 1 else n)
+raised-fits n f false e = f
+raised-fits (pos n) f true e = record { sfits = omega (arith, ltb-true n 9223372036854775807 e) }
+raised-fits (negsuc zero) f true e = record { sfits = omega arith }
+raised-fits (negsuc (suc n)) f true e = let less : IsNumber (negsuc n) = record { sfits = omega (arith, f.sfits) } in less
+
+value-fits : (v : List ℤ) → ValueFits v → ValueFits (lied_value v)
+value-fits [] all = tt
+value-fits (n ∷ ns) all = (raised-fits n all.0 (int_lt n greatest) refl, all.1)
+
+values-fit : (vs : List (List ℤ)) → AllByRecursion ValueFits vs → AllByRecursion ValueFits (map lied_value vs)
+values-fit [] all = tt
+values-fit (v ∷ vs) all = (value-fits v all.0, values-fit vs all.1)
+
+results-fit : (ds : List Done1) → AllByRecursion ResultFits ds → AllByRecursion ResultFits (map lied_result ds)
+results-fit [] all = tt
+results-fit (d ∷ ds) all = ((all.0.0, values-fit d.values all.0.1), results-fit ds all.1)
+
+lied-fits : (q : Request) → RequestFits q → RequestFits (lied q)
+lied-fits (requests.Join client life interest) f = f
+lied-fits (requests.Submit seq a) f = f
+lied-fits (requests.Done results) f = results-fit results f
+lied-fits requests.Poll f = tt
+lied-fits requests.Leave f = tt
+lied-fits requests.Bad f = tt
+lied-fits requests.End f = tt
+
+-- ---- Submits
+
+submit-asked : (q : Request) → Asks ActionFits q → SubmitHas ActionFits q
+submit-asked (requests.Submit n a) h = h
+submit-asked (requests.Join client life interest) h = tt
+submit-asked (requests.Done results) h = tt
+submit-asked requests.Poll h = tt
+submit-asked requests.Leave h = tt
+submit-asked requests.Bad h = tt
+submit-asked requests.End h = tt
+
+submit-lied : (q : Request) → SubmitHas ActionFits q → SubmitHas ActionFits (lied q)
+submit-lied (requests.Submit n a) h = h
+submit-lied (requests.Join client life interest) h = tt
+submit-lied (requests.Done results) h = tt
+submit-lied requests.Poll h = tt
+submit-lied requests.Leave h = tt
+submit-lied requests.Bad h = tt
+submit-lied requests.End h = tt
+
+end-submits : (q : Request) → is_end q ≡ true → SubmitHas ActionFits q
+end-submits requests.End e = tt
+end-submits (requests.Submit n a) e = absurd (true≢false (sym e))
+end-submits (requests.Join client life interest) e = tt
+end-submits (requests.Done results) e = tt
+end-submits requests.Poll e = tt
+end-submits requests.Leave e = tt
+end-submits requests.Bad e = tt
+
+end-fits : (q : Request) → is_end q ≡ true → RequestFits q
+end-fits requests.End e = tt
+end-fits (requests.Join client life interest) e = absurd (true≢false (sym e))
+end-fits (requests.Submit seq action) e = absurd (true≢false (sym e))
+end-fits (requests.Done results) e = absurd (true≢false (sym e))
+end-fits requests.Poll e = tt
+end-fits requests.Leave e = tt
+end-fits requests.Bad e = tt
+
+event-makes : (e : Event) → EventFits e → Makes ActionFits e
+event-makes (events.Make a) f = f
+event-makes (events.Join s) f = tt
+event-makes events.Poll f = tt
+event-makes events.Leave f = tt
+event-makes (events.Got s reply) f = tt
+event-makes events.Cut f = tt
+event-makes events.Quit f = tt
+event-makes (events.Show objects) f = tt
+
+new-fit : (o : Option ℕ) (next : ℕ → ℕ) (q : Request) → SubmitHas ActionFits q → AllByRecursion (λ (a : Authored). ActionFits a.action) (new_action o next q)
+new-fit (Some k) next (requests.Submit seq a) h = each-if (λ (x : Authored). ActionFits x.action) (eqb seq (next k)) (record { client = k; seq = seq; action = a } ∷ []) (h, tt)
+new-fit (Some k) next (requests.Join client life interest) h = tt
+new-fit (Some k) next (requests.Done results) h = tt
+new-fit (Some k) next requests.Poll h = tt
+new-fit (Some k) next requests.Leave h = tt
+new-fit (Some k) next requests.Bad h = tt
+new-fit (Some k) next requests.End h = tt
+new-fit None next q h = tt
+
+-- The entries of a history that have what each of them has after those before it.
+accepted-fit : (H : List Entry) → ((e : Entry) (g : List Entry) → IsEarlier (e ∷ g) H → SubmitHas ActionFits e.request) → (g : List Entry) → IsEarlier g H →
+    AllByRecursion (λ (a : Authored). ActionFits a.action) (accepted g)
+accepted-fit H each [] b = tt
+accepted-fit H each (e ∷ g) b =
+    let new = new_action (client_of g e.session) (λ k. suc (length (outcomes_of g k))) e.request in
+    each-append (λ (a : Authored). ActionFits a.action) (accepted g) (cond (is_relay e.reply) new []) (accepted-fit H each g (earlier-rest g e H b))
+    (each-if (λ (a : Authored). ActionFits a.action) (is_relay e.reply) new (new-fit (client_of g e.session) (λ k. suc (length (outcomes_of g k))) e.request (each e g b)))
+
+-- ---- How an entry was heard
+
+heard-at : (server : Server) (e : Entry) (g H : List Entry) (s : ℕ) (asks : List Request) → IsEarlier (e ∷ g) H → AreHeard server H s asks → is_of e s ≡ true → IsHeard server e g s asks
+heard-at server e g whole s asks same a t = a.0 t
+heard-at server e g whole s asks (after {g = j} d b) a t = heard-at server e g j s asks b a.1 t
+
+-- ---- A run
+
+module _ (scenario : Scenario) (liar : Option ℕ) (run : Run) (good : IsGoodScenario scenario) (sound : IsSoundOver (witness_of (rules_of scenario) liar) scenario run) where
+  abbrev r : Rules
+  r = rules_of scenario
+
+  abbrev shape : Shape
+  shape = scenario.world.shape
+
+  abbrev server : Server
+  server = witness_of r liar
+
+  abbrev H : List Entry
+  H = run.history
+
+  legal : IsWitnessed r H
+  legal = witness-served r liar H sound.served
+
+  but : FitsBut (liar_of liar) shape H (filter (is_other (liar_of liar)) (traces_of run))
+  but = witness-but scenario liar run good sound
+
+  serial : ResultsAreSerial r.world.values (actions_of H) (agreed_history H)
+  serial = results-tolerated (liar_of liar) r H (filter (is_other (liar_of liar)) (traces_of run)) good.world.objects legal but
+
+  -- ---- It is as it is said to be
+
+  honest : IsTolerated (liar_of liar) r H (filter (is_other (liar_of liar)) (traces_of run))
+  honest = tolerated (liar_of liar) r H (filter (is_other (liar_of liar)) (traces_of run)) good.world.objects legal but
+
+  calm-where_none : liar ≡ None → disputes_of H ≡ []
+  calm-where_none none =
+      none-disputed r H (filter (is_other no_client) (traces_of run)) good.world.objects legal
+      (subst (λ (n : ℕ). FitsBut n shape H (filter (is_other n) (traces_of run))) (ap liar_of none) but)
+
+  pub as-said : run ≡ witnessed_run scenario liar → IsWitnessedRun scenario liar H (traces_of run)
+  as-said is = record {
+    journal = ap (λ (x : Run). x.history) is;
+    traces = ap traces_of is;
+    legal = legal;
+    world = honest.world;
+    disputes = honest.disputes;
+    calm = calm-where_none;
+  }
+
+  -- ---- No client refuses its next reply
+
+  trace-fits : (k : ℕ) (p : Player) → slice_get run.players k ≡ Some p → FitsButValues shape H (trace_of_player p)
+  trace-fits k p at =
+      witness-fits r liar shape H (trace_of_player p)
+      (each-at (FitsServer server shape H) (traces_of run) k (trace_of_player p) (recursion_from_All (FitsServer server shape H) (traces_of run) sound.fits)
+      (map-here trace_of_player run.players k p at))
+
+  trace-owns : (k : ℕ) (p : Player) → slice_get run.players k ≡ Some p → OwnsSessions H (trace_of_player p)
+  trace-owns k p at s c = any-turned (is_join_of s) p.events (session-owned server (heard-joins r liar) scenario run good sound k p at s c)
+
+  pub taken : (k : ℕ) (p : Player) (s : ℕ) (reply : Reply) → slice_get run.players k ≡ Some p → current_session p.events ≡ Some s →
+      slice_get (replies_in (accepted H) H s) (length (got p.events s)) ≡ Some reply → first_fault_of_reply p.who p.events reply ≡ None
+  taken k p s reply at current waits =
+      let L = trace_of_player p in
+      let a = player-at server scenario run good sound k p at in
+      let most = asked-few p.who p.first a.plan.steps p.events a.playing.before s a.good.few_steps a.fitting.proper a.playing.follows current in
+      let few : length (asked p.who.client p.who.interest p.events s) ≤ 1024 = omega (arith, most) in
+      let back = sym (same-events p) in
+      subst (λ (t : List Event). first_fault_of_reply p.who t reply ≡ None) (same-events p)
+      (subst (λ (w : Identity). first_fault_of_reply w (reverse L.events) reply ≡ None) (same-who shape p (ap (λ (w : Identity). w.shape) a.playing.who))
+      (served-no_fault agreed r H L (record { keeps = agreed-keeping; legal = legal; fits = trace-fits k p at }) (trace-owns k p at) s reply good.world.objects
+      (All-from_recursion (λ (v : List ℤ). length v ≡ shape.attrs) scenario.world.values good.world.attrs) good.bound serial
+      (subst (λ (t : List Event). current_session t ≡ Some s) back current)
+      (subst (λ (t : List Event). length (asked p.who.client p.who.interest t s) ≤ 1024) back few)
+      (subst (λ (t : List Event). slice_get (replies_in (accepted H) H s) (length (got t s)) ≡ Some reply) back waits)))
+
+  -- ---- What is asked is a message
+
+  limits : AreWithinLimits r
+  limits = record {
+    some_attrs = good.world.some_attrs;
+    few_attrs = good.world.few_attrs;
+    objects = good.world.objects;
+    attrs = All-from_recursion (λ value. length value ≡ shape.attrs) scenario.world.values good.world.attrs;
+    bound = good.bound;
+  }
+
+  objects-few : shape.objects ≤ 2 ^ 16
+  objects-few = omega (arith, good.world.few_objects)
+
+  -- A player asked it, and the server heard it.
+  abbrev IsOfPlayer : Entry → List Entry → Type 0
+  IsOfPlayer e g = (k : ℕ) × ((p : Player) × ((slice_get run.players k ≡ Some p) × IsHeard server e g e.session (asked_by_player p e.session)))
+
+  of-player : (e : Entry) (g : List Entry) → IsEarlier (e ∷ g) H → is_end e.request ≡ false → IsOfPlayer e g
+  of-player e g b on =
+      let begun = entry-at (λ (d : Entry). list_any (λ (p : Player). has_joined p d.session) run.players ≡ true) e g H b
+      (recursion_from_All (λ (d : Entry). list_any (λ (p : Player). has_joined p d.session) run.players ≡ true) H sound.begun) in
+      let o = owner_of run.players e.session begun in
+      let a = player-at server scenario run good sound o.0 o.1.0 o.1.1.0 in
+      (o.0, (o.1.0, (o.1.1.0, heard-at server e g H e.session (asked_by_player o.1.0 e.session) b (a.fitting.sessions e.session o.1.1.1).heard (of-from e e.session refl on))))
+
+  module _ (numbers : ScenarioFits scenario) where
+    made-at : (k : ℕ) (p : Player) → slice_get run.players k ≡ Some p → All EventFits (trace_of_player p).events
+    made-at k p at =
+        each-at (λ (L : Trace). All EventFits L.events) (traces_of run) k (trace_of_player p)
+        (players_made shape 0 0 scenario.clients run.players (recursion_from_All PlanFits scenario.clients numbers.plans) sound.players)
+        (map-here trace_of_player run.players k p at)
+
+    makes-at : (k : ℕ) (p : Player) → slice_get run.players k ≡ Some p → AllByRecursion (Makes ActionFits) p.events
+    makes-at k p at =
+        let turned = each-reverse EventFits (reverse p.events) (recursion_from_All EventFits (reverse p.events) (made-at k p at)) in
+        each-more EventFits (Makes ActionFits) event-makes p.events (subst (AllByRecursion EventFits) (same-events p) turned)
+
+    submit-fits : (e : Entry) (g : List Entry) → IsEarlier (e ∷ g) H → SubmitHas ActionFits e.request
+    submit-fits e g b = elim (cases_Bool (is_end e.request)) [
+      | inl y ↦ end-submits e.request y
+      | inr n ↦
+          (let o = of-player e g b n in
+          let p = o.1.0 in
+          let one = o.1.1.1 in
+          let asks = each-at (Asks ActionFits) (asked_by_player p e.session) (length (requests_in g e.session)) one.request
+          (asked-have ActionFits p.who.client p.who.interest p.events e.session (makes-at o.0 p o.1.1.0)) one.next in
+          let has = submit-asked one.request asks in
+          subst (SubmitHas ActionFits) (sym one.heard) (heard-by (SubmitHas ActionFits) liar g e.session one.request has (submit-lied one.request has)))
+    ]
+
+    actions-fit : All ActionFits (actions_of H)
+    actions-fit = All-from_recursion ActionFits (actions_of H) (each-map (λ (a : Authored). a.action) ActionFits (accepted H) (accepted-fit H submit-fits H same))
+
+    has-numbers : (k : ℕ) (p : Player) → slice_get run.players k ≡ Some p → HasNumbers r H (trace_of_player p ∷ [])
+    has-numbers k p at = record {
+      objects = objects-few;
+      opening = numbers.values;
+      made = All-from_recursion (λ (M : Trace). All EventFits M.events) (trace_of_player p ∷ []) (made-at k p at, tt);
+      positions = (let most = served-few agreed r H (session_count scenario) agreed-keeping legal sound.sessions in omega (arith, most, good.sessions));
+    }
+
+    module _ (names : ServedRelaysNameAccepted) (small : ServedRelaysAreSmall) (goods : ServedActionsAreGood) where
+      pub asks : (k : ℕ) (p : Player) → slice_get run.players k ≡ Some p → AsksMessages p
+      asks k p at s =
+          let L = trace_of_player p in
+          let held : AreSerial r.world.values (actions_of H) (held_of (reverse L.events)) =
+          (whole-well agreed agreed-keeping r H good.world.objects legal serial L (trace-fits k p at)).serial in
+          let all = all-requests r H L s limits (has-numbers k p at) (trace-fits k p at) (names agreed r H agreed-keeping legal) (small agreed r H agreed-keeping legal)
+          (goods agreed r H agreed-keeping legal) actions-fit held in
+          subst (λ (t : List Event). All IsRequest (asked p.who.client p.who.interest t s)) (same-events p) all
+
+      -- ---- What is replied is a message
+
+      entry-fits : (e : Entry) (g : List Entry) → IsEarlier (e ∷ g) H → RequestFits e.request
+      entry-fits e g b = elim (cases_Bool (is_end e.request)) [
+        | inl y ↦ end-fits e.request y
+        | inr n ↦
+            (let o = of-player e g b n in
+            let p = o.1.0 in
+            let one = o.1.1.1 in
+            let message = each-at IsRequest (asked_by_player p e.session) (length (requests_in g e.session)) one.request
+            (recursion_from_All IsRequest (asked_by_player p e.session) (asks o.0 p o.1.1.0 e.session)) one.next in
+            subst RequestFits (sym one.heard) (heard-by RequestFits liar g e.session one.request message.fits (lied-fits one.request message.fits)))
+      ]
+
+      entries-fit : (g : List Entry) → IsEarlier g H → AllByRecursion (λ (e : Entry). RequestFits e.request) g
+      entries-fit [] b = tt
+      entries-fit (e ∷ g) b = (entry-fits e g b, entries-fit g (earlier-rest g e H b))
+
+      pub replied : ServedRepliesFit → All (λ (e : Entry). IsReply (full_reply (accepted H) e.reply)) H
+      replied law =
+          let short = history_few server scenario run good sound in
+          law agreed r H agreed-keeping limits objects-few numbers.values (All-from_recursion (λ (e : Entry). RequestFits e.request) H (entries-fit H same)) (omega (arith, short)) legal
+
+-- ---- Runs
+
+pub runs-playable : ServedRelaysNameAccepted → ServedRelaysAreSmall → ServedActionsAreGood → ServedRepliesFit → WitnessesArePlayable
+runs-playable names small goods replies scenario liar good numbers = record {
+  keeps = witness-keeps names (rules_of scenario) liar;
+  asked = λ run k p sound at. asks scenario liar run good sound numbers names small goods k p at;
+  replied = λ run sound. replied scenario liar run good sound numbers names small goods replies;
+  taken = λ run k p s reply sound at current waits. taken scenario liar run good sound k p s reply at current waits;
+}
+
+pub runs-witnessed : ServedRelaysNameAccepted → RunsAreWitnessed
+runs-witnessed names scenario liar good =
+    as-said scenario liar (witnessed_run scenario liar) good
+    (run-sound (witness_of (rules_of scenario) liar) (witness-keeps names (rules_of scenario) liar) scenario good) refl

@@ -1,0 +1,14 @@
+use Rattle.std.proofs.Common.{◌≡◌, ◌<◌, reverse, sym, subst, ◌∙◌}
+use Rattle.sv_journal.specs.History.{client_of}
+use Rattle.sv_sequencer.specs.Step.{SequencerView, history}
+use Rattle.sv_witness.specs.Reports.{agreed_history}
+use Rattle.sv_witness.proofs.Same.{client-agreed}
+use Rattle.sv_witness.proofs.witness.Witness.client.Goals as goal
+
+pub client-requires : goal.client-requires
+client-requires c = subst (λ (v : SequencerView). c.args.session < v.rules.sessions) (sym c.self.view_is) c.requires
+
+pub returns : goal.returns
+returns c =
+    subst (λ (v : SequencerView). c.client.result ≡ client_of (history v) c.args.session) c.self.view_is
+    (c.client.ensures (agreed_history (reverse c.self.inside.journal.entries)) c.self.invariant.keeps ∙ client-agreed (reverse c.self.inside.journal.entries) c.args.session)

@@ -1,0 +1,14 @@
+use Rattle.std.proofs.Common.{◌≡◌, ◌<◌, reverse, sym, subst, ◌∙◌}
+use Rattle.sv_sequencer.specs.Rows.{is_ended}
+use Rattle.sv_sequencer.specs.Step.{SequencerView, history}
+use Rattle.sv_witness.specs.Reports.{agreed_history}
+use Rattle.sv_witness.proofs.Stepped.{ended-agreed}
+use Rattle.sv_witness.proofs.witness.Witness.is_ended.Goals as goal
+
+pub is_ended-requires : goal.is_ended-requires
+is_ended-requires c = subst (λ (v : SequencerView). c.args.session < v.rules.sessions) (sym c.self.view_is) c.requires
+
+pub returns : goal.returns
+returns c =
+    subst (λ (v : SequencerView). c.is_ended.result ≡ is_ended (history v) c.args.session) c.self.view_is
+    (c.is_ended.ensures (agreed_history (reverse c.self.inside.journal.entries)) c.self.invariant.keeps ∙ ended-agreed (reverse c.self.inside.journal.entries) c.args.session)
