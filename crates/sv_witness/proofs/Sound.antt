@@ -1,9 +1,9 @@
 -- A sound run over a witnessing server: whatever is asked and replied in it is a message, no client refuses its next reply, and what is agreed is
 -- the serial execution.
-use Rattle.std.proofs.Common.{◌≡◌, ℕ, zero, suc, ◌+◌, ◌^◌, ◌<◌, ◌≤◌, Bool, true, false, inl, inr, cond, eqb, List, [], ◌∷◌, ◌++◌, map, length, reverse, Option, Some, None, slice_get, ℤ, pos, negsuc, refl, sym, ap, subst, ◌∙◌, arith, true≢false, ltb-true, filter}
+use Rattle.std.proofs.Common.{◌≡◌, ℕ, suc, ◌+◌, ◌-◌, ◌^◌, ◌<◌, ◌≤◌, Bool, true, false, inl, inr, cond, eqb, List, [], ◌∷◌, ◌++◌, map, length, reverse, Option, Some, None, slice_get, ℤ, pos, negsuc, refl, sym, ap, subst, ◌∙◌, arith, true≢false, ltb, ltb-true, filter}
 use Rattle.std.specs.Prelude.{All, int_lt, ◌+ℤ◌, if◌then◌else◌}
 use Rattle.std.specs.List.{list_any, AllByRecursion}
-use Rattle.std.proofs.lemmas.Bool.{cases_Bool}
+use Rattle.std.proofs.lemmas.Bool.{cases_Bool, cond_both}
 use Rattle.std.proofs.lemmas.List.Elements.{recursion_from_All, All-from_recursion}
 use Rattle.sv_world.specs.declared.action.Action.{Action}
 use Rattle.sv_world.specs.declared.world.Shape.{Shape}
@@ -76,8 +76,9 @@ use Rattle.sv_witness.proofs.Scripts.{players_made}
 raised-fits : (n : ℤ) → IsNumber n → (b : Bool) → int_lt n greatest ≡ b → IsNumber (if b then n +ℤ pos 1 else n)
 raised-fits n f false e = f
 raised-fits (pos n) f true e = record { sfits = omega (arith, ltb-true n 9223372036854775807 e) }
-raised-fits (negsuc zero) f true e = record { sfits = omega arith }
-raised-fits (negsuc (suc n)) f true e = let less : IsNumber (negsuc n) = record { sfits = omega (arith, f.sfits) } in less
+raised-fits (negsuc n) f true e =
+    cond_both (ltb 1 (suc n)) (negsuc (suc n - 2)) (pos (1 - suc n)) IsNumber
+    (λ more. record { sfits = omega (arith, ltb-true 1 (suc n) more, f.sfits) }) (λ none. record { sfits = omega arith })
 
 value-fits : (v : List ℤ) → ValueFits v → ValueFits (lied_value v)
 value-fits [] all = tt

@@ -1,3 +1,4 @@
+use Rattle.std.proofs.Common.{refl}
 use Rattle.sv_command.specs.declared.ending.Ending.TheVariants as plain
 use Rattle.sv_command.specs.Statuses.{counts}
 use Rattle.sv_witness.specs.declared.ending.WitnessEnding.TheVariants as endings
@@ -17,3 +18,11 @@ returns-in_err-run_text-clause-raises g c =
 
 pub returns-clause-raises : goal.returns-clause-raises
 returns-clause-raises g c = λ k. c.in_ok-scenario.ensures.raises (counts 0 0 0 k)
+
+pub returns-clause-made : goal.returns-clause-made
+returns-clause-made g c = record {
+  scenario = c.in_ok-scenario.scenario;
+  read = c.in_ok-scenario.ensures.read.0;
+  within = c.if-not-is_within.ensures.within refl;
+  run = c.in_ok-run_text.ensures;
+}
