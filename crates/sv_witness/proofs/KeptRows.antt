@@ -1,5 +1,5 @@
 -- Rows of reports, one of which is changed.
-use Rattle.std.proofs.Common.{◌≡◌, ℕ, zero, suc, ◌<◌, ◌≤◌, Bool, true, false, not, ◌==◌, nat_lt, All, inl, inr, List, [], ◌∷◌, ◌++◌, map, length, get_or, set, ℤ, Option, Some, None, refl, sym, ap, ◌∙◌, subst, arith}
+use Rattle.std.proofs.Common.{◌≡◌, ℕ, zero, suc, ◌<◌, ◌≤◌, Bool, true, false, not, ◌&&◌, ◌==◌, nat_lt, is_none, reverse, filter, option_to_list, All, inl, inr, List, [], ◌∷◌, ◌++◌, map, length, get_or, set, ℤ, Option, Some, None, refl, sym, ap, ◌∙◌, subst, arith}
 use Rattle.std.specs.Prelude.{if◌then◌else◌}
 use Rattle.std.specs.List.{list_any, AllByRecursion}
 use Rattle.std.proofs.lemmas.Bool.{cases_lt, cases_eq, cond-true, cond-false, eq-eqb, ne_eqb, and_parts, ltb-true}
@@ -8,11 +8,13 @@ use Rattle.std.proofs.lemmas.List.Elements.{All-from_recursion, recursion_from_A
 use Rattle.std.proofs.lemmas.Option.{none-some}
 use Rattle.sv_world.specs.Faults.{is_ascending}
 use Rattle.sv_wire.specs.declared.message.Done1.{Done1}
-use Rattle.sv_queue.specs.Queue.{QueueView, IsUncommitted, last_position}
+use Rattle.sv_queue.specs.Queue.{QueueView, IsUncommitted, last_position, entry_at}
 use Rattle.sv_journal.specs.History.{reported}
 use Rattle.sv_witness.specs.declared.report.Report.{Report}
+use Rattle.sv_witness.specs.declared.report.Dispute.{Dispute}
 use Rattle.sv_witness.specs.Reports.{is_by}
-use Rattle.sv_witness.specs.Kept.{RowView, no_row, kept_at, HasRoom, AreOnce, report_by, counts, counted_results, with_values}
+use Rattle.sv_witness.specs.Disputes.{dispute_in}
+use Rattle.sv_witness.specs.Kept.{RowView, no_row, kept_at, HasRoom, AreOnce, report_by, counts, counted_results, with_values, agrees, brings, agreed_results, new_disputes}
 
 -- An empty row at the end is as none.
 pub grown : (xs : List RowView) (p : ℕ) → get_or (xs ++ no_row ∷ []) p no_row ≡ get_or xs p no_row
@@ -135,3 +137,28 @@ counted-uncommitted v rows k results low = All-from_recursion (λ (d : Done1). I
             let both = and_parts (nat_lt v.commit d.pos) (not (list_any (is_by k) (kept_at rows d.pos))) counted in
             ((ltb-true v.commit d.pos both.0, low.0), rest)
         one false counted rest = rest
+
+-- ---- Rows that have the same reports
+
+abbrev pub AreSame : List RowView → List RowView → Type 0
+AreSame rows new = (p : ℕ) → kept_at new p ≡ kept_at rows p
+
+filter-same : (P Q : Done1 → Bool) (ds : List Done1) → ((d : Done1) → P d ≡ Q d) → filter P ds ≡ filter Q ds
+filter-same P Q [] same = refl
+filter-same P Q (d ∷ ds) same =
+    ap (λ (b : Bool). if b then d ∷ filter P ds else filter P ds) (same d) ∙ ap (λ (l : List Done1). if Q d then d ∷ l else l) (filter-same P Q ds same)
+
+pub same-counted : (rows new : List RowView) → AreSame rows new → (c k : ℕ) (ds : List Done1) → counted_results c new k ds ≡ counted_results c rows k ds
+same-counted rows new same c k ds =
+    filter-same (λ (d : Done1). counts c new k d.pos) (λ (d : Done1). counts c rows k d.pos) ds
+    (λ d. ap (λ (rs : List Report). nat_lt c d.pos && not (list_any (is_by k) rs)) (same d.pos))
+
+pub same-agreed : (rows new : List RowView) → AreSame rows new → (v : QueueView) (ds : List Done1) → agreed_results v new ds ≡ agreed_results v rows ds
+same-agreed rows new same v ds =
+    filter-same (brings v new) (brings v rows) ds (λ d. ap (λ (rs : List Report). is_none (entry_at v d.pos).result && agrees rs d.values) (same d.pos))
+
+pub same-disputes : (rows new : List RowView) → AreSame rows new → (k : ℕ) (ds : List Done1) → new_disputes new k ds ≡ new_disputes rows k ds
+same-disputes rows new same k [] = refl
+same-disputes rows new same k (d ∷ ds) =
+    ap (λ (rs : List Report). option_to_list (dispute_in d.pos (reverse rs) (report_by k d.values)) ++ new_disputes new k ds) (same d.pos)
+    ∙ ap (λ (xs : List Dispute). option_to_list (dispute_in d.pos (reverse (kept_at rows d.pos)) (report_by k d.values)) ++ xs) (same-disputes rows new same k ds)

@@ -17,7 +17,9 @@ pub mod Tolerated
 mod Lying
 mod Calm
 mod Steps
+mod Decided
 mod Stepped
+mod Installed
 mod Heard
 mod Sent
 mod Scripts

@@ -1,11 +1,10 @@
 -- What a noted Done makes of the reports that are kept, of the history of what was agreed, and of the disputes.
-use Rattle.std.proofs.Common.{◌≡◌, ℕ, suc, ◌<◌, ◌≤◌, Bool, true, false, ◌&&◌, ◌||◌, not, ◌==◌, nat_lt, inl, inr, ◌+◌, List, [], ◌∷◌, ◌++◌, length, filter, reverse, ℤ, Option, Some, None, is_some, is_none, option_to_list, refl, sym, ap, ap₂, ◌∙◌, subst, arith, append-nil}
+use Rattle.std.proofs.Common.{◌≡◌, ℕ, suc, ◌<◌, ◌≤◌, Bool, true, false, ◌&&◌, not, ◌==◌, nat_lt, inl, inr, ◌+◌, List, [], ◌∷◌, ◌++◌, length, filter, reverse, ℤ, Option, Some, None, is_some, is_none, option_to_list, refl, sym, ap, ap₂, ◌∙◌, subst, arith, append-nil}
 use Rattle.std.specs.Prelude.{if◌then◌else◌}
-use Rattle.std.specs.List.{list_any, flat_map, AllByRecursion}
+use Rattle.std.specs.List.{list_any, AllByRecursion}
 use Rattle.std.proofs.lemmas.Bool.{cases_lt, cases_eq, cond-true, cond-false, lt-ltb, le-ltb, eq-eqb, ne_eqb}
 use Rattle.std.proofs.lemmas.List.{length-append}
 use Rattle.std.proofs.lemmas.Option.{none-some, same_Some}
-use Rattle.sv_world.specs.Control.{below}
 use Rattle.sv_wire.specs.declared.message.Done1.{Done1}
 use Rattle.sv_wire.specs.declared.message.Request.{Request}
 use Rattle.sv_wire.specs.declared.message.Request.TheVariants as requests
@@ -13,16 +12,16 @@ use Rattle.sv_queue.specs.Queue.{QueueView, entry_at}
 use Rattle.sv_journal.specs.declared.entry.Entry.{Entry}
 use Rattle.sv_journal.specs.declared.entry.Logged.{Logged}
 use Rattle.sv_journal.specs.declared.entry.Logged.TheVariants as logged
-use Rattle.sv_journal.specs.History.{Authored, either, is_noted, is_relay, client_of, new_action, outcomes_of, accepted, reported, reports, commit_of}
+use Rattle.sv_journal.specs.History.{Authored, either, is_noted, is_relay, client_of, new_action, outcomes_of, accepted, reported, reports}
 use Rattle.sv_system.proofs.Commits.{commit-grows}
-use Rattle.sv_system.proofs.Histories.{IsEarlier, same, after}
+use Rattle.sv_system.proofs.Histories.{same, after}
 use Rattle.sv_witness.specs.declared.report.Report.{Report}
 use Rattle.sv_witness.specs.declared.report.Dispute.{Dispute}
 use Rattle.sv_journal.specs.Serving.{with_results}
-use Rattle.sv_witness.specs.Reports.{is_by, gives, with_report, counted_in, is_nothing, agreed_values, brings_agreement, reports_of, agreed_history, agreed_result, agreed_commit}
-use Rattle.sv_witness.specs.Disputes.{first_report, dispute_about, disputes_of, dispute_in, with_disputes}
+use Rattle.sv_witness.specs.Reports.{is_by, gives, with_report, counted_in, agreed_values, brings_agreement, reports_of, agreed_history, agreed_result, agreed_commit}
+use Rattle.sv_witness.specs.Disputes.{dispute_about, disputes_of, dispute_in, with_disputes}
 use Rattle.sv_witness.specs.Kept.{RowView, kept_at, KeepsReports, report_by, counts, counted_results, AreOnce, with_values, agrees, brings, agreed_results, new_disputes}
-use Rattle.sv_witness.proofs.Agreed.{reported-filter, without, either-none}
+use Rattle.sv_witness.proofs.Agreed.{reported-filter, without}
 use Rattle.sv_witness.proofs.Disputed.{values-self, dispute-place}
 use Rattle.sv_witness.proofs.InOrder.{dispute_after, dispute-turned}
 use Rattle.sv_witness.proofs.KeptRows.{unreported}

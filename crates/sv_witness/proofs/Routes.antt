@@ -1,25 +1,25 @@
 -- What the decisions by the history of what was agreed are to a witnessing server, and which entries that history has of them.
-use Rattle.std.proofs.Common.{◌≡◌, ℕ, suc, ◌<◌, ◌≤◌, Bool, true, false, ◌&&◌, not, ◌==◌, nat_eq, nat_lt, nat_le, List, [], ◌∷◌, filter, length, ℤ, Option, Some, None, is_some, is_none, refl, sym, ap, ◌∙◌, subst, arith, true≢false}
+use Rattle.std.proofs.Common.{◌≡◌, ℕ, suc, ◌<◌, ◌≤◌, Bool, true, false, ◌&&◌, not, ◌==◌, nat_eq, nat_lt, nat_le, List, [], ◌∷◌, filter, length, Option, Some, None, is_some, is_none, refl, sym, ap, ◌∙◌, arith, true≢false}
 use Rattle.std.specs.Prelude.{if◌then◌else◌}
-use Rattle.std.proofs.lemmas.Bool.{cond-true, cond-false, and_parts, ltb-true, or_left, or_right, eq-eqb}
+use Rattle.std.proofs.lemmas.Bool.{cond-false, and_parts, ltb-true, or_left, or_right, eq-eqb}
 use Rattle.sv_world.specs.Control.{is_in, below}
 use Rattle.sv_world.proofs.Bases.{below-is_in}
 use Rattle.sv_wire.specs.declared.message.Done1.{Done1}
 use Rattle.sv_wire.specs.declared.message.Request.{Request}
 use Rattle.sv_wire.specs.declared.message.Request.TheVariants as requests
 use Rattle.sv_journal.specs.declared.entry.Entry.{Entry}
-use Rattle.sv_journal.specs.declared.entry.Logged.{Logged}
 use Rattle.sv_journal.specs.declared.entry.Logged.TheVariants as logged
-use Rattle.sv_journal.specs.History.{is_noted, client_of, is_client, is_submit_of, new_action, next_seq, accepted, reports, commit_of}
+use Rattle.sv_journal.specs.History.{is_noted, client_of, is_client, is_submit_of, new_action, next_seq, accepted, reports}
 use Rattle.sv_journal.specs.Sessions.{is_over, asked_in, sent_to}
-use Rattle.sv_journal.specs.Answer.{Rules, refused, is_bad_done, commit_with, orphans, reply_to_done, reply_to_poll, reply_to_member, most_requests, reply_to_request}
+use Rattle.sv_journal.specs.Answer.{Rules, refused, is_bad_done, commit_with, reply_to_member, most_requests, reply_to_request}
 use Rattle.sv_sequencer.specs.declared.decision.Decision.{Decision}
 use Rattle.sv_sequencer.specs.declared.decision.Decision.TheVariants as decisions
 use Rattle.sv_sequencer.specs.Decisions.{reply_by, IsOld}
 use Rattle.sv_witness.specs.declared.report.Report.{Report}
-use Rattle.sv_witness.specs.Reports.{has_reported, with_report, counted_in, agreed_values, brings_agreement, reports_of, agreed_history, agreed_result, agreed_commit, is_due, due_to}
+use Rattle.sv_witness.specs.Reports.{has_reported, counted_in, agreed_values, brings_agreement, reports_of, agreed_history, agreed_result, agreed_commit, is_due, due_to}
 use Rattle.sv_journal.specs.Serving.{is_poll, with_last_rows, with_results}
 use Rattle.sv_witness.specs.Witnessed.{agreed}
+use Rattle.sv_witness.specs.Standing.{emptied}
 use Rattle.sv_witness.proofs.Agreed.{without}
 use Rattle.sv_witness.proofs.Noted.{none-some-never}
 
@@ -89,11 +89,6 @@ noted-may r h s results noted = go (is_over h s) (nat_le most_requests (asked_in
 filter-none : (test : Done1 → Bool) (ds : List Done1) → ((d : Done1) → test d ≡ false) → filter test ds ≡ []
 filter-none test [] none = refl
 filter-none test (d ∷ ds) none = cond-false (test d) (d ∷ filter test ds) (filter test ds) (none d) ∙ filter-none test ds none
-
--- A Done without its results; any other request as it is.
-abbrev pub emptied : Request → Request
-emptied (requests.Done results) = requests.Done []
-emptied q = q
 
 with-none : (test : Done1 → Bool) (q : Request) → ((d : Done1) → test d ≡ false) → with_results test q ≡ emptied q
 with-none test (requests.Done results) none = ap requests.Done (filter-none test results none)

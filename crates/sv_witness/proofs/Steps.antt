@@ -1,32 +1,33 @@
 -- What an entry makes of all that a witnessing server keeps: of its journal, its reports, its disputes and the history of what was agreed.
-use Rattle.std.proofs.Common.{◌≡◌, ℕ, suc, ◌<◌, ◌≤◌, Bool, true, false, ◌||◌, not, ◌==◌, nat_lt, List, [], ◌∷◌, map, filter, length, Option, Some, None, refl, sym, ap, ◌∙◌, subst, arith}
+use Rattle.std.proofs.Common.{◌≡◌, ℕ, suc, ◌<◌, ◌≤◌, Bool, true, false, ◌||◌, not, ◌==◌, nat_lt, All, List, [], ◌∷◌, map, filter, length, Some, refl, sym, ap, ◌∙◌, subst, arith}
 use Rattle.std.specs.Prelude.{if◌then◌else◌}
 use Rattle.std.specs.List.{list_any, AllByRecursion}
 use Rattle.std.proofs.lemmas.Bool.{or_parts, or_from, ltb-false, not-false}
+use Rattle.std.proofs.lemmas.List.Elements.{All-from_recursion}
 use Rattle.sv_world.specs.Faults.{is_ascending}
 use Rattle.sv_wire.specs.declared.message.Done1.{Done1}
-use Rattle.sv_wire.specs.declared.message.Reply.{Reply}
 use Rattle.sv_wire.specs.declared.message.Request.{Request}
 use Rattle.sv_wire.specs.declared.message.Request.TheVariants as requests
-use Rattle.sv_queue.specs.Queue.{QueueView, entry_at}
+use Rattle.sv_queue.specs.Queue.{QueueView, entry_at, last_position}
 use Rattle.sv_journal.specs.declared.entry.Entry.{Entry}
 use Rattle.sv_journal.specs.declared.entry.Logged.{Logged}
 use Rattle.sv_journal.specs.declared.entry.Logged.TheVariants as logged
 use Rattle.sv_journal.specs.History.{Authored, is_noted, client_of, accepted, actions_of, reported, result_at, commit_of, full_reply}
 use Rattle.sv_journal.specs.Sessions.{sent_to, named_to}
-use Rattle.sv_journal.specs.Answer.{Rules, is_bad_result, is_bad_done, commit_with, relay_of, reply_to_poll, reply_to_request}
+use Rattle.sv_journal.specs.Answer.{Rules, is_bad_result, is_bad_done, commit_with, relay_of, reply_to_poll}
 use Rattle.sv_sequencer.specs.Fits.{Fits}
 use Rattle.sv_sequencer.specs.Step.{entry_of}
 use Rattle.sv_witness.specs.declared.report.Dispute.{Dispute}
-use Rattle.sv_witness.specs.Reports.{reports_of, agreed_history, agreed_result, agreed_commit, due_to}
+use Rattle.sv_witness.specs.Reports.{agreed_history, agreed_result, agreed_commit, due_to}
 use Rattle.sv_journal.specs.Serving.{noted_after, polled_after}
 use Rattle.sv_witness.specs.Witnessed.{agreed, witnessed_reply}
-use Rattle.sv_witness.specs.Disputes.{disputes_of, with_disputes}
+use Rattle.sv_witness.specs.Disputes.{with_disputes}
 use Rattle.sv_witness.specs.Kept.{RowView, kept_at, KeepsReports, counted_results, AreOnce, with_values, agreed_results, new_disputes, Stands}
+use Rattle.sv_witness.specs.Standing.{emptied}
 use Rattle.sv_witness.proofs.Agreed.{results-agreed}
 use Rattle.sv_witness.proofs.KeptRows.{ascending-once}
 use Rattle.sv_witness.proofs.Noted.{keeps-quiet, disputes-quiet, within-quiet, keeps-noted, disputes-noted, within-noted, results-with}
-use Rattle.sv_witness.proofs.Routes.{emptied, quiet-entry}
+use Rattle.sv_witness.proofs.Routes.{quiet-entry}
 use Rattle.sv_witness.proofs.Same.{accepted-agreed}
 
 -- ---- Entries that are no noted Done
@@ -99,6 +100,12 @@ module _ (r : Rules) (h : List Entry) (s k : ℕ) (results : List Done1) (joined
 
   pub all-low : AllByRecursion (λ (d : Done1). d.pos < suc (length (accepted h))) results
   all-low = each-low results (accepted-below results none-bad)
+
+  -- So they are of positions that a queue has.
+  pub reported-low : (v : QueueView) → last_position v ≡ length (accepted (agreed_history h)) → All (λ (d : Done1). d.pos ≤ last_position v) results
+  reported-low v last =
+      subst (λ n. All (λ (d : Done1). d.pos ≤ n) results) (sym last)
+      (All-from_recursion (λ (d : Done1). d.pos ≤ length (accepted (agreed_history h))) results (accepted-below results none-bad))
 
   -- ---- A noted Done
 

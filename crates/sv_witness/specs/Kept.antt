@@ -1,6 +1,6 @@
 -- Which reports a witnessing server keeps, and what a client's results make of them.
 -- A history is the list of a journal's entries with the latest first, and reports stand with the latest first too.
-use Rattle.std.specs.Prelude.{◌≡◌, ℕ, ◌<◌, Bool, ◌&&◌, ◌||◌, not, nat_lt, ℤ, List, [], ◌∷◌, length, filter, reverse, slice_index_or, Option, Some, None, option_to_list, is_none, if◌then◌else◌}
+use Rattle.std.specs.Prelude.{◌≡◌, ℕ, ◌<◌, Bool, ◌&&◌, ◌||◌, not, nat_lt, ℤ, List, [], ◌∷◌, length, filter, reverse, slice_index_or, Option, Some, None, option_to_list, is_none}
 use Rattle.std.specs.List.{list_any, flat_map}
 use Rattle.sv_wire.specs.declared.message.Done1.{Done1}
 use Rattle.sv_queue.specs.Queue.{QueueView, entry_at}

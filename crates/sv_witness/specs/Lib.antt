@@ -6,6 +6,7 @@ pub mod Disputes
 pub mod Kept
 pub mod Due
 pub mod Step
+pub mod Standing
 pub mod Invariant
 pub mod Lies
 pub mod Tolerance

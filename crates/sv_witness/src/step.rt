@@ -2,20 +2,22 @@
 ghost use Rattle.std.specs.Prelude.{◌≡◌, ℕ, ◌≤◌, ◌<◌, ◌+◌, List, ◌-◌, [], ◌∷◌, ◌++◌, length, true, false, Some, All, IfOk, IsOk, OnErr, OnOk, vec_len, vec_capacity};
 ghost use Rattle.std.specs.List.{AllByRecursion};
 ghost use Rattle.sv_wire.specs.declared.message.Done1.{Done1};
-ghost use Rattle.sv_queue.specs.Queue.{last_position};
-ghost use Rattle.sv_sequencer.specs.Cores.{owed_by, queue_of};
-ghost use Rattle.sv_witness.specs.Kept.{kept_at, HasRoom, counted_results, agreed_results, new_disputes};
 ghost use Rattle.sv_wire.specs.declared.message.Request.TheVariants as requests;
+ghost use Rattle.sv_queue.specs.Queue.{last_position};
 ghost use Rattle.sv_journal.specs.declared.entry.Entry.{Entry};
 ghost use Rattle.sv_journal.specs.declared.entry.Logged.TheVariants as logged;
 ghost use Rattle.sv_journal.specs.History.{client_of, is_noted};
 ghost use Rattle.sv_journal.specs.Sessions.{is_end};
 ghost use Rattle.sv_journal.specs.Answer.{is_bad_done};
+ghost use Rattle.sv_journal.specs.Serving.{is_poll, noted_after, polled_after};
+ghost use Rattle.sv_sequencer.specs.Cores.{rules_of, owed_by, queue_of, Keeps, CarriedOut, Remained};
 ghost use Rattle.sv_sequencer.specs.Decisions.{Holds, reply_by, results_in};
 ghost use Rattle.sv_sequencer.specs.Rows.{is_ended};
 ghost use Rattle.sv_sequencer.specs.Step.{history, entry_of, Grew, Stayed};
-ghost use Rattle.sv_journal.specs.Serving.{is_poll, with_results, noted_after, polled_after};
 ghost use Rattle.sv_witness.specs.Reports.{agreed_history};
+ghost use Rattle.sv_witness.specs.Kept.{kept_at, HasRoom, counted_results, agreed_results, new_disputes};
+ghost use Rattle.sv_witness.specs.Due.{due_in};
+ghost use Rattle.sv_witness.specs.Standing.{emptied, answers_poll, first_of, Standing, Replied};
 ghost use Rattle.sv_witness.specs.Step.{Witnesses};
 ghost use Rattle.sv_witness.specs.Witnessed.{agreed, IsWitnessed, witnessed_reply};
 
@@ -52,6 +54,27 @@ fn is_poll(request: &Request) -> bool
     match request {
         Request::Poll => true,
         _ => false,
+    }
+}
+
+/// Whether the core decided how a Poll is answered that is not refused.
+fn answers_poll(request: &Request, decision: Decision) -> bool
+    ensures { result ≡ answers_poll request.now decision }
+{
+    match decision {
+        Decision::Idle => true,
+        Decision::Relay { .. } => is_poll(request),
+        _ => false,
+    }
+}
+
+/// What is done on a Poll that is not refused: the lowest position that is due is sent.
+fn due_decision(core: &Core, reports: &Reports, client: u16, session: u16) -> Decision
+    ensures { result ≡ first_of (due_in (queue_of core.now) reports.now client session) }
+{
+    match first_due(core.queue(), reports, client, session) {
+        Some(pos) => Decision::Relay { seq: 0, pos },
+        None => Decision::Idle,
     }
 }
 
@@ -92,6 +115,88 @@ fn note_ahead(
     reserve_all(reports, noting.counted.as_slice())?;
     disputes.reserve(noting.disputes.len())?;
     Ok(noting)
+}
+
+/// Does what was decided on a request. In the history of what was agreed, `h`, a Done that is not noted has no results.
+fn carry_emptied(
+    alloc: Global,
+    core: &mut Core,
+    session: u16,
+    request: &Request,
+    decision: Decision,
+) -> Result<Answer, AllocError>
+    ghost h: { List Entry }
+    requires keeps { Keeps core.old h }
+    requires session { session < (rules_of core.old).sessions }
+    requires more { is_end request.now ≡ false }
+    requires holds { Holds (rules_of core.old) h session (emptied request.now) decision }
+    ensures ok { IfOk result (CarriedOut core.old core.new h session (emptied request.now) decision) }
+    ensures err { OnErr result (Remained core.old core.new h) }
+{
+    if let Request::Done { .. } = request {
+        let done = Request::Done {
+            results: List::new(alloc),
+        };
+        let carried = core.carry_out(session, &done, decision);
+        // A tree that is let go at the end of its scope makes a long proof; a call that takes it, none.
+        drop(done);
+        return carried;
+    }
+    core.carry_out(session, request, decision)
+}
+
+/// Notes a Done that is not bad, when all is known of its results and there is room for what they change: those that bring agreement are
+/// installed, and all count as the client's reports. `h` is the journal's history.
+fn install(
+    core: &mut Core,
+    reports: &mut Reports,
+    disputes: &mut Vec<Dispute>,
+    client: u16,
+    session: u16,
+    request: &Request,
+    noting: Noting,
+) -> Result<Answer, AllocError>
+    ghost h: { List Entry }
+    requires standing { Standing core.old reports.old disputes.old.items h }
+    requires session { session < (rules_of core.old).sessions }
+    requires joined { client_of h session ≡ Some client }
+    requires done { request.now ≡ requests.Done (results_in request.now) }
+    requires good { is_bad_done (rules_of core.old) (agreed_history h) session (results_in request.now) ≡ false }
+    requires reply { witnessed_reply (rules_of core.old) h session request.now ≡ noted_after agreed h session request.now }
+    requires counted { noting.counted.items ≡ counted_results (queue_of core.old).commit reports.old client (results_in request.now) }
+    requires brought { noting.agreed.items ≡ agreed_results (queue_of core.old) reports.old noting.counted.items }
+    requires made { noting.disputes.items ≡ new_disputes reports.old client noting.counted.items }
+    requires rows { AllByRecursion (λ (d : Done1). HasRoom reports.old d.pos) noting.counted.items }
+    requires places { vec_len disputes.old + length noting.disputes.items ≤ vec_capacity disputes.old }
+    ensures ok { IfOk result (Replied core.old core.new reports.new disputes.new.items h session request.now) }
+    ensures core { OnErr result (Remained core.old core.new (agreed_history h)) }
+    ensures reports { OnErr result (reports.new ≡ reports.old) }
+    ensures disputes { OnErr result (disputes.new ≡ disputes.old) }
+{
+    let Noting {
+        counted,
+        agreed,
+        disputes: made,
+    } = noting;
+    let done = Request::Done {
+        results: List::from_vec(agreed),
+    };
+    let before = core.commit();
+    let carried = core.carry_out(session, &done, Decision::Note);
+    drop(done);
+    match carried {
+        Ok(answer) => {
+            add_all(reports, client, counted);
+            enter_all(disputes, made);
+            reports.forget(before, core.commit());
+            Ok(answer)
+        }
+        Err(error) => {
+            drop(counted);
+            drop(made);
+            Err(error)
+        }
+    }
 }
 
 impl Witness {
@@ -152,16 +257,17 @@ impl Witness {
         ensures ok { IfOk result (Witnesses self.old self.new session request.now) }
         ensures err { OnErr result (Stayed self.old self.new) }
     {
-        match self.core.decide(session, request) {
-            Decision::Note => self.note_results(session, request),
-            Decision::Idle => self.poll(session, request),
-            Decision::Relay { .. } if is_poll(request) => self.poll(session, request),
-            decision => self.keep(session, request, decision),
+        let decision = self.core.decide(session, request);
+        if let Decision::Note = decision {
+            return self.note_results(session, request);
         }
+        if answers_poll(request, decision) {
+            return self.poll(session, request);
+        }
+        self.keep(session, request, decision)
     }
 
-    /// Does what was decided, which notes nothing, and enters it. `h` is the journal's history. In the history of what was agreed a Done that
-    /// is refused has no results.
+    /// Does what was decided, which notes nothing, and enters it. `h` is the journal's history.
     fn keep(
         &mut self,
         session: u16,
@@ -172,25 +278,17 @@ impl Witness {
         requires past { h ≡ history self.old }
         requires session { session < self.old.rules.sessions }
         requires more { is_end request.now ≡ false }
-        requires holds { Holds self.old.rules (agreed_history h) session (with_results (λ _. false) request.now) decision }
-        requires reply { reply_by self.old.rules (agreed_history h) session (with_results (λ _. false) request.now) decision ≡ witnessed_reply self.old.rules h session request.now }
+        requires holds { Holds self.old.rules (agreed_history h) session (emptied request.now) decision }
+        requires reply { reply_by self.old.rules (agreed_history h) session (emptied request.now) decision ≡ witnessed_reply self.old.rules h session request.now }
         requires quiet { is_noted (witnessed_reply self.old.rules h session request.now) ≡ false }
         ensures ok { IfOk result (Witnesses self.old self.new session request.now) }
         ensures err { OnErr result (Stayed self.old self.new) }
     {
         self.journal.reserve(self.core.owed() as usize + 1)?;
         let copy = copy_request(self.alloc, request)?;
-        let emptied = Request::Done {
-            results: List::new(self.alloc),
-        };
-        let carried = match request {
-            Request::Done { .. } => self.core.carry_out(session, &emptied, decision),
-            _ => self.core.carry_out(session, request, decision),
-        };
-        match carried {
+        match carry_emptied(self.alloc, &mut self.core, session, request, decision) {
             Ok(answer) => Ok(enter(&mut self.journal, session, copy, answer)),
             Err(error) => {
-                // A tree that is let go at the end of its scope makes a long proof; a call that takes it, none.
                 drop(copy);
                 Err(error)
             }
@@ -210,10 +308,7 @@ impl Witness {
         let Some(client) = self.core.client(session) else {
             return Err(AllocError);
         };
-        let decision = match first_due(self.core.queue(), &self.reports, client, session) {
-            Some(pos) => Decision::Relay { seq: 0, pos },
-            None => Decision::Idle,
-        };
+        let decision = due_decision(&self.core, &self.reports, client, session);
         self.keep(session, request, decision)
     }
 
@@ -232,7 +327,8 @@ impl Witness {
         let Some(client) = self.core.client(session) else {
             return Err(AllocError);
         };
-        let noting = note_ahead(
+        let copy = copy_request(self.alloc, request)?;
+        let noted = note_ahead(
             self.alloc,
             &self.core,
             &mut self.journal,
@@ -240,30 +336,25 @@ impl Witness {
             &mut self.disputes,
             client,
             results_of(request),
-        )?;
-        let copy = match copy_request(self.alloc, request) {
-            Ok(copy) => copy,
+        );
+        let noting = match noted {
+            Ok(noting) => noting,
             Err(error) => {
-                drop(noting);
+                drop(copy);
                 return Err(error);
             }
         };
-        let Noting {
-            counted,
-            agreed,
-            disputes,
-        } = noting;
-        let done = Request::Done {
-            results: List::from_vec(agreed),
-        };
-        let before = self.core.commit();
-        match self.core.carry_out(session, &done, Decision::Note) {
-            Ok(answer) => {
-                add_all(&mut self.reports, client, counted);
-                enter_all(&mut self.disputes, disputes);
-                self.reports.forget(before, self.core.commit());
-                Ok(enter(&mut self.journal, session, copy, answer))
-            }
+        let installed = install(
+            &mut self.core,
+            &mut self.reports,
+            &mut self.disputes,
+            client,
+            session,
+            request,
+            noting,
+        );
+        match installed {
+            Ok(answer) => Ok(enter(&mut self.journal, session, copy, answer)),
             Err(error) => {
                 drop(copy);
                 Err(error)

@@ -1,4 +1,4 @@
-use Rattle.std.proofs.Common.{◌≡◌, ◌<◌, ◌≤◌, ◌+◌, drop, get_or, insert, length, subst, arith}
+use Rattle.std.proofs.Common.{◌≡◌, ◌<◌, ◌+◌, drop, get_or, insert, length, subst, arith}
 use Rattle.std.proofs.lemmas.List.{drop_more, take_more}
 use Rattle.sv_witness.specs.Disputes.{with_dispute}
 use Rattle.sv_witness.proofs.Inserted.{enters-next, enters-none, enters-here, enters-last}

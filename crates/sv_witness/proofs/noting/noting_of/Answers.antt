@@ -1,4 +1,4 @@
-use Rattle.std.proofs.Common.{List, All, sym, ap, ◌∙◌, subst}
+use Rattle.std.proofs.Common.{All, sym, ap, ◌∙◌, subst}
 use Rattle.sv_wire.specs.declared.message.Done1.{Done1}
 use Rattle.sv_queue.specs.Queue.{IsUncommitted}
 use Rattle.sv_witness.specs.Kept.{counted_results}

@@ -1,5 +1,4 @@
-use Rattle.sv_witness.specs.Reports.{agreed_history}
 use Rattle.sv_witness.proofs.witness.Witness.note_results.Given as goal
 
-abbrev pub ghost-carry_out : goal.ghost-carry_out
-ghost-carry_out g a = agreed_history g.h
+abbrev pub ghost-install : goal.ghost-install
+ghost-install g a = g.h

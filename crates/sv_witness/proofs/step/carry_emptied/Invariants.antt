@@ -1,0 +1,4 @@
+use Rattle.sv_witness.proofs.step.carry_emptied.Given as goal
+
+abbrev pub ghost-carry_out : goal.ghost-carry_out
+ghost-carry_out g a = g.h

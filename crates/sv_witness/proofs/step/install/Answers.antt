@@ -1,0 +1,47 @@
+use Rattle.std.proofs.Common.{◌≡◌, false, List, refl, sym, subst}
+use Rattle.std.specs.List.{list_any}
+use Rattle.sv_wire.specs.declared.message.Done1.{Done1}
+use Rattle.sv_wire.specs.declared.message.Request.TheVariants as requests
+use Rattle.sv_journal.specs.Answer.{is_bad_result}
+use Rattle.sv_sequencer.specs.declared.decision.Decision.TheVariants as decisions
+use Rattle.sv_sequencer.specs.Cores.{rules_of, CarriedOut}
+use Rattle.sv_witness.specs.Reports.{agreed_history}
+use Rattle.sv_witness.proofs.Installed.{install-good, install-once, installed}
+use Rattle.sv_witness.proofs.step.install.Goals as goal
+
+pub carry_out-carried-requires : goal.carry_out-carried-requires
+carry_out-carried-requires g c =
+    let n = c.args.noting in
+    let r = c.requires in
+    let standing = r.0 in (
+      standing.keeps,
+      (
+        r.1.0,
+        (
+          refl,
+          (
+            refl,
+            subst (λ (l : List Done1). list_any (is_bad_result (rules_of c.args.core.now) (agreed_history g.h) c.args.session) l ≡ false) (sym c.from_vec.ensures)
+                (install-good c.args.core.now c.args.reports.now c.args.disputes.now.items g.h c.args.session c.args.client c.args.request.now n.counted.items n.agreed.items n.disputes.items
+                standing r.1.1.0 r.1.1.1.0 r.1.1.1.1.0 r.1.1.1.1.1.0 r.1.1.1.1.1.1.0 r.1.1.1.1.1.1.1.0 r.1.1.1.1.1.1.1.1.0),
+          ),
+        ),
+      ),
+    )
+
+pub add_all-requires-clause-once : goal.add_all-requires-clause-once
+add_all-requires-clause-once g c =
+    let n = c.args.noting in
+    let r = c.requires in
+    install-once c.args.core.now c.args.reports.now c.args.disputes.now.items g.h c.args.session c.args.client c.args.request.now n.counted.items n.agreed.items n.disputes.items
+    r.0 r.1.1.0 r.1.1.1.0 r.1.1.1.1.0 r.1.1.1.1.1.0 r.1.1.1.1.1.1.0 r.1.1.1.1.1.1.1.0 r.1.1.1.1.1.1.1.1.0
+
+pub returns-in-Ok-clause-ok : goal.returns-in-Ok-clause-ok
+returns-in-Ok-clause-ok g c =
+    let n = c.args.noting in
+    let r = c.requires in
+    installed c.args.core.now c.args.reports.now c.args.disputes.now.items g.h c.args.session c.args.client c.args.request.now n.counted.items n.agreed.items n.disputes.items
+    r.0 r.1.1.0 r.1.1.1.0 r.1.1.1.1.0 r.1.1.1.1.1.0 r.1.1.1.1.1.1.0 r.1.1.1.1.1.1.1.0 r.1.1.1.1.1.1.1.1.0 c.carry_out-carried.new.self c.in-Ok.answer
+    (subst (λ (l : List Done1). CarriedOut c.args.core.now c.carry_out-carried.new.self (agreed_history g.h) c.args.session (requests.Done l) decisions.Note c.in-Ok.answer) c.from_vec.ensures
+    c.in-Ok.ensures.ok)
+    c.commit.result c.add_all.new.reports c.forget.new.self c.enter_all.new.disputes.items c.commit.ensures c.add_all.ensures c.forget.ensures c.enter_all.ensures

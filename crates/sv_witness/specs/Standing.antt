@@ -1,0 +1,51 @@
+-- What a witnessing server keeps beside its journal, and what answering a request makes of it.
+-- A history is the list of a journal's entries with the latest first.
+use Rattle.std.specs.Prelude.{◌≡◌, ℕ, Bool, true, false, List, [], ◌∷◌}
+use Rattle.sv_wire.specs.declared.message.Request.{Request}
+use Rattle.sv_wire.specs.declared.message.Request.TheVariants as requests
+use Rattle.sv_journal.specs.declared.entry.Entry.{Entry}
+use Rattle.sv_journal.specs.History.{accepted, full_reply}
+use Rattle.sv_journal.specs.Serving.{is_poll}
+use Rattle.sv_sequencer.specs.declared.answer.Answer.{Answer}
+use Rattle.sv_sequencer.specs.declared.decision.Decision.{Decision}
+use Rattle.sv_sequencer.specs.declared.decision.Decision.TheVariants as decisions
+use Rattle.sv_sequencer.specs.declared.server_core.Core.{Core}
+use Rattle.sv_sequencer.specs.Cores.{rules_of, owed_by, Keeps}
+use Rattle.sv_sequencer.specs.Step.{entry_of}
+use Rattle.sv_witness.specs.declared.report.Dispute.{Dispute}
+use Rattle.sv_witness.specs.Reports.{agreed_history}
+use Rattle.sv_witness.specs.Kept.{RowView, Stands}
+use Rattle.sv_witness.specs.Witnessed.{witnessed_reply}
+
+-- ---- What is decided otherwise than the core decides
+
+-- A Done without its results; any other request as it is. The history of what was agreed has just that of a request that is not noted.
+abbrev pub emptied : Request → Request
+emptied (requests.Done results) = requests.Done []
+emptied q = q
+
+-- The core decided how a Poll is answered that is not refused.
+abbrev pub answers_poll : Request → Decision → Bool
+answers_poll q decisions.Idle = true
+answers_poll q (decisions.Relay seq pos) = is_poll q
+answers_poll q _ = false
+
+-- A Poll is sent the first of the positions that are due.
+abbrev pub first_of : List ℕ → Decision
+first_of [] = decisions.Idle
+first_of (p ∷ ps) = decisions.Relay 0 p
+
+-- ---- What is kept
+
+-- Of a journal with these entries the core stands where the history of what was agreed leads, and all that is kept beside it stands.
+pub record Standing (core : Core) (rows : List RowView) (disputes : List Dispute) (h : List Entry) : Type 0 where
+  pub keeps : Keeps core (agreed_history h)
+  pub stands : Stands (rules_of core) rows disputes h
+
+-- A request was answered by the witnessed reply, in full, and all that is kept stands by its entry. The journal has still to get that.
+pub record Replied (old new : Core) (rows : List RowView) (disputes : List Dispute) (h : List Entry) (s : ℕ) (request : Request) (answer : Answer) : Type 0 where
+  pub rules : rules_of new ≡ rules_of old
+  pub owed : owed_by new ≡ owed_by old
+  pub standing : Standing new rows disputes (entry_of s request answer.logged ∷ h)
+  pub logged : answer.logged ≡ witnessed_reply (rules_of old) h s request
+  pub whole : answer.reply ≡ full_reply (accepted (entry_of s request answer.logged ∷ h)) answer.logged
