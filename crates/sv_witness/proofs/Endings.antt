@@ -1,5 +1,5 @@
 -- What the status of an ending says.
-use Rattle.std.proofs.Common.{◌≡◌, ◌≢◌, ◌↔◌, ◌⊎◌, inl, inr, refl, arith, ℕ, ◌<◌, ◌≤◌, List, length, take, Option, Some, None, sym, ap, subst}
+use Rattle.std.proofs.Common.{◌≡◌, ◌≢◌, ◌↔◌, ◌⊎◌, inl, inr, refl, arith, ℕ, ◌≤◌, List, length, take, Option, Some, None, sym, ap, subst}
 use Rattle.std.specs.Prelude.{string_bytes, option_map, IfSome, IsErrAnd, Result, Ok, Err}
 use Rattle.sv_bytes.specs.Faults.{Rose}
 use Rattle.sv_bytes.specs.Writing.{Grew, GrewByPart, Told as IsTold}
@@ -230,10 +230,6 @@ module _ (old new : Option (List ℕ)) where
         let two : status_of e ≡ 2 = ap status_of is in
         record { line = line_of e None; faulty = λ s. absurd (omega (arith, two, s)); plain_is = λ x. rw is refl; told_is = t }
     told_is t0 t1 n0 n1 (Some x) e w h t = told_of x (contents x.file) t0 t1 n0 n1 (Some x.file) e h t
-
-    pub nothing_is : (a : Option Asked) (e : WitnessEnding) → AllEnds a e → (a ≡ None → new ≡ old) → status_of e ≢ 0 → status_of e ≢ 5 → new ≡ old
-    nothing_is None e h alone z f = alone refl
-    nothing_is (Some x) e h alone z f = (leaves_is x (contents x.file) e h).nothing z f
 
     pub complete_is : (b c : Counts) (a : Option Asked) (e : WitnessEnding) → AllEnds a e → Raises b c e → HoldsScenario (held_of contents (file_of a)) → NoneRose b c
         → (status_of e ≡ 0) ⊎ (status_of e ≡ 8) ⊎ (status_of e ≡ 10)

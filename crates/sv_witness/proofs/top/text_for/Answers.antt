@@ -1,7 +1,8 @@
-use Rattle.std.proofs.Common.{refl}
+use Rattle.std.proofs.Common.{ℕ, refl, subst}
 use Rattle.sv_command.specs.declared.ending.Ending.TheVariants as plain
 use Rattle.sv_command.specs.Statuses.{counts}
 use Rattle.sv_witness.specs.declared.ending.WitnessEnding.TheVariants as endings
+use Rattle.sv_witness.specs.Statuses.{IsWithin}
 use Rattle.sv_witness.proofs.Endings.{raised_by}
 use Rattle.sv_witness.proofs.top.text_for.Goals as goal
 
@@ -23,6 +24,6 @@ pub returns-clause-made : goal.returns-clause-made
 returns-clause-made g c = record {
   scenario = c.in_ok-scenario.scenario;
   read = c.in_ok-scenario.ensures.read.0;
-  within = c.if-not-is_within.ensures.within refl;
+  within = subst (λ (n : ℕ). IsWithin n c.args.asked.liar) c.len.ensures (c.if-not-is_within.ensures.within refl);
   run = c.in_ok-run_text.ensures;
 }
