@@ -1,8 +1,8 @@
 -- What the status of an ending says.
-use Rattle.std.proofs.Common.{◌≡◌, ◌≢◌, ◌↔◌, ◌⊎◌, inl, inr, refl, arith, ℕ, ◌<◌, ◌≤◌, List, length, take, Option, Some, None, ap, subst}
-use Rattle.std.specs.Prelude.{string_bytes, IfSome, IsErrAnd, Result, Ok, Err}
+use Rattle.std.proofs.Common.{◌≡◌, ◌≢◌, ◌↔◌, ◌⊎◌, inl, inr, refl, arith, ℕ, ◌≤◌, List, length, take, Option, Some, None, sym, ap, subst}
+use Rattle.std.specs.Prelude.{string_bytes, option_map, IfSome, IsErrAnd, Result, Ok, Err}
 use Rattle.sv_bytes.specs.Faults.{Rose}
-use Rattle.sv_bytes.specs.Writing.{Told as IsTold}
+use Rattle.sv_bytes.specs.Writing.{Grew, GrewByPart, Told as IsTold}
 use Rattle.sv_scenario.specs.declared.fault.ScenarioFault.{ScenarioFault}
 use Rattle.sv_scenario.specs.declared.scenario.Scenario.{Scenario}
 use Rattle.sv_scenario.specs.Scenarios.{scenario_of}
@@ -13,8 +13,9 @@ use Rattle.sv_command.proofs.Held.{read_is, holds_none}
 use Rattle.sv_command.proofs.Statuses.{words_is as plain_words_is, faults_are as plain_faults_are}
 use Rattle.sv_witness.specs.declared.ending.WitnessEnding.{WitnessEnding}
 use Rattle.sv_witness.specs.declared.ending.WitnessEnding.TheVariants as endings
-use Rattle.sv_witness.specs.Words.{Asked, file_of}
-use Rattle.sv_witness.specs.Statuses.{status_of, ending_of, Raises, IsWithin, IsOver, LacksLiar, Ends, Leaves, line_of, TellsStatus}
+use Rattle.sv_witness.specs.declared.words.Witnessing.{Witnessing}
+use Rattle.sv_witness.specs.Words.{Asked, asked_by, file_of}
+use Rattle.sv_witness.specs.Statuses.{status_of, ending_of, Raises, IsWithin, IsOver, IsText, LacksLiar, Ends, Leaves, line_of, TellsStatus}
 
 -- ---- Statuses
 
@@ -230,11 +231,21 @@ module _ (old new : Option (List ℕ)) where
         record { line = line_of e None; faulty = λ s. absurd (omega (arith, two, s)); plain_is = λ x. rw is refl; told_is = t }
     told_is t0 t1 n0 n1 (Some x) e w h t = told_of x (contents x.file) t0 t1 n0 n1 (Some x.file) e h t
 
-    pub nothing_is : (a : Option Asked) (e : WitnessEnding) → AllEnds a e → (a ≡ None → new ≡ old) → status_of e ≢ 0 → status_of e ≢ 5 → new ≡ old
-    nothing_is None e h alone z f = alone refl
-    nothing_is (Some x) e h alone z f = (leaves_is x (contents x.file) e h).nothing z f
-
     pub complete_is : (b c : Counts) (a : Option Asked) (e : WitnessEnding) → AllEnds a e → Raises b c e → HoldsScenario (held_of contents (file_of a)) → NoneRose b c
         → (status_of e ≡ 0) ⊎ (status_of e ≡ 8) ⊎ (status_of e ≡ 10)
     complete_is b c None e h r can none = absurd can
     complete_is b c (Some x) e h r can none = complete_of x (contents x.file) b c e h r can none
+
+-- ---- What was printed, by the words
+
+module _ (contents : List ℕ → Option (List ℕ)) (given : Option Witnessing) (asked : Witnessing) (is : given ≡ Some asked) (text bytes : List ℕ) (same_text : bytes ≡ text)
+    (told : IsText (asked_by asked) (contents asked.file.now) text) (old now : Option (List ℕ)) where
+  pub printed_by : Grew old now bytes → IfSome (option_map asked_by given) (λ (a : Asked). Ends a (contents a.file) old now (endings.Plain plain.Done))
+  printed_by grew =
+      subst (λ (o : Option Witnessing). IfSome (option_map asked_by o) (λ (a : Asked). Ends a (contents a.file) old now (endings.Plain plain.Done))) (sym is)
+      (record { text = text; told = told; grew = subst (λ (xs : List ℕ). Grew old now xs) same_text grew })
+
+  pub cut_by : GrewByPart old now bytes → IfSome (option_map asked_by given) (λ (a : Asked). Ends a (contents a.file) old now (endings.Plain plain.Out))
+  cut_by part =
+      subst (λ (o : Option Witnessing). IfSome (option_map asked_by o) (λ (a : Asked). Ends a (contents a.file) old now (endings.Plain plain.Out))) (sym is)
+      (record { text = text; told = told; part = subst (λ (xs : List ℕ). GrewByPart old now xs) same_text part })

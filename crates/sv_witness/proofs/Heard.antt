@@ -1,6 +1,6 @@
 -- What a run over a witnessing server is to the laws of journals: its server hears what is asked, but for the values of a liar's Dones; its journal
 -- is witnessed; and each client's trace fits it, an honest client's wholly.
-use Rattle.std.proofs.Common.{◌≡◌, ℕ, suc, ◌≤◌, Bool, true, false, ◌==◌, ◌&&◌, not, inl, inr, List, [], ◌∷◌, ◌++◌, map, length, reverse, filter, Option, Some, None, slice_get, refl, sym, ap, subst, ◌∙◌, eqb-true, eq-eqb, true≢false}
+use Rattle.std.proofs.Common.{◌≡◌, ℕ, ◌≤◌, Bool, true, false, ◌==◌, ◌&&◌, not, inl, inr, List, [], ◌∷◌, ◌++◌, length, reverse, filter, Option, Some, None, slice_get, refl, sym, ap, subst, ◌∙◌, eqb-true, eq-eqb, true≢false}
 use Rattle.std.specs.List.{list_any, AllByRecursion}
 use Rattle.std.proofs.lemmas.Bool.{cond_both, cond-true, cond-false, or_cases, or_left, or_right, and_parts, and_from, not-true, not_from_false, ne_eqb}
 use Rattle.std.proofs.lemmas.List.Elements.{All-from_recursion, recursion_from_All}
@@ -34,7 +34,7 @@ use Rattle.sv_schedule.specs.Players.{Player, trace_of_player}
 use Rattle.sv_schedule.specs.Serving.{Run, Server, traces_of}
 use Rattle.sv_schedule.specs.Schedule.{rules_of}
 use Rattle.sv_schedule.specs.Sound.{has_joined}
-use Rattle.sv_schedule.specs.Served.{IsServed, AreHeard, NamesUpTo, AreNamed, KeepsSound, HearsJoins, FitsServer, IsSoundOver}
+use Rattle.sv_schedule.specs.Served.{IsServed, AreHeard, NamesUpTo, KeepsSound, HearsJoins, FitsServer, IsSoundOver}
 use Rattle.sv_schedule.proofs.DoneFacts.{any-turned}
 use Rattle.sv_schedule.proofs.DoneLists.{map-here, any-found, any-there}
 use Rattle.sv_schedule.proofs.SoundPlayers.{front-push}

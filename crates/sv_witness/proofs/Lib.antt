@@ -19,10 +19,10 @@ mod Calm
 mod Steps
 mod Decided
 mod Stepped
+mod Installed
 mod Heard
 mod Sent
 mod Scripts
 mod Sound
 mod Ran
 mod Endings
-mod Installed

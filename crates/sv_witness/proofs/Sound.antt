@@ -1,11 +1,10 @@
 -- A sound run over a witnessing server: whatever is asked and replied in it is a message, no client refuses its next reply, and what is agreed is
 -- the serial execution.
-use Rattle.std.proofs.Common.{◌≡◌, ℕ, zero, suc, ◌+◌, ◌^◌, ◌<◌, ◌≤◌, Bool, true, false, inl, inr, cond, eqb, List, [], ◌∷◌, ◌++◌, map, length, reverse, Option, Some, None, slice_get, ℤ, pos, negsuc, refl, sym, ap, subst, ◌∙◌, arith, true≢false, ltb-true, filter}
+use Rattle.std.proofs.Common.{◌≡◌, ℕ, suc, ◌+◌, ◌-◌, ◌^◌, ◌≤◌, Bool, true, false, inl, inr, cond, eqb, List, [], ◌∷◌, map, length, reverse, Option, Some, None, slice_get, ℤ, pos, negsuc, refl, sym, ap, subst, arith, true≢false, ltb, ltb-true, filter}
 use Rattle.std.specs.Prelude.{All, int_lt, ◌+ℤ◌, if◌then◌else◌}
 use Rattle.std.specs.List.{list_any, AllByRecursion}
-use Rattle.std.proofs.lemmas.Bool.{cases_Bool}
+use Rattle.std.proofs.lemmas.Bool.{cases_Bool, cond_both}
 use Rattle.std.proofs.lemmas.List.Elements.{recursion_from_All, All-from_recursion}
-use Rattle.sv_world.specs.declared.action.Action.{Action}
 use Rattle.sv_world.specs.declared.world.Shape.{Shape}
 use Rattle.sv_wire.specs.declared.message.Done1.{Done1}
 use Rattle.sv_wire.specs.declared.message.Request.{Request}
@@ -21,9 +20,8 @@ use Rattle.sv_journal.specs.Laws.{AreWithinLimits, ServedRelaysNameAccepted, Ser
 use Rattle.sv_client.specs.declared.trace.Event.{Event}
 use Rattle.sv_client.specs.declared.trace.Event.TheVariants as events
 use Rattle.sv_client.specs.declared.trace.Trace.{Trace}
-use Rattle.sv_client.specs.Traces.{current_session, asked, got, held_of, requests_of}
+use Rattle.sv_client.specs.Traces.{current_session, asked, got, held_of}
 use Rattle.sv_client.specs.Taking.{Identity, first_fault_of_reply}
-use Rattle.sv_client.specs.Proper.{identity_of}
 use Rattle.sv_scenario.specs.declared.scenario.Scenario.{Scenario}
 use Rattle.sv_scenario.specs.Limits.{IsGoodScenario}
 use Rattle.sv_scenario.specs.Sessions.{session_count}
@@ -55,19 +53,18 @@ use Rattle.sv_schedule.proofs.SoundLaws.{run-sound}
 use Rattle.sv_schedule.proofs.SoundOwned.{session-owned}
 use Rattle.sv_replay.specs.Players.{asked_by_player}
 use Rattle.sv_replay.specs.Messages.{AsksMessages}
-use Rattle.sv_replay.specs.Playable.{IsPlayable}
 use Rattle.sv_replay.proofs.Lengths.{owner_of, history_few}
 use Rattle.sv_witness.specs.Lies.{greatest, lied, lied_result, lied_value}
 use Rattle.sv_witness.specs.Reports.{agreed_history}
 use Rattle.sv_witness.specs.Witnessed.{agreed, IsWitnessed}
-use Rattle.sv_witness.specs.Run.{heard_of, witness_of, witnessed_run, liar_of, IsWitnessedRun}
+use Rattle.sv_witness.specs.Run.{witness_of, witnessed_run, liar_of, IsWitnessedRun}
 use Rattle.sv_witness.specs.Disputes.{disputes_of}
 use Rattle.sv_witness.specs.Tolerance.{IsTolerated}
 use Rattle.sv_witness.specs.Lying.{WitnessesArePlayable, RunsAreWitnessed}
 use Rattle.sv_witness.proofs.Same.{agreed-keeping}
 use Rattle.sv_witness.proofs.Tolerated.{results-tolerated, tolerated}
 use Rattle.sv_witness.proofs.Calm.{none-disputed}
-use Rattle.sv_witness.proofs.Heard.{heard-by, heard-ends, heard-joins, witness-served, witness-keeps, witness-fits, is_other, witness-but}
+use Rattle.sv_witness.proofs.Heard.{heard-by, heard-joins, witness-served, witness-keeps, witness-fits, is_other, witness-but}
 use Rattle.sv_witness.proofs.Sent.{all-requests}
 use Rattle.sv_witness.proofs.Scripts.{players_made}
 
@@ -76,8 +73,9 @@ use Rattle.sv_witness.proofs.Scripts.{players_made}
 raised-fits : (n : ℤ) → IsNumber n → (b : Bool) → int_lt n greatest ≡ b → IsNumber (if b then n +ℤ pos 1 else n)
 raised-fits n f false e = f
 raised-fits (pos n) f true e = record { sfits = omega (arith, ltb-true n 9223372036854775807 e) }
-raised-fits (negsuc zero) f true e = record { sfits = omega arith }
-raised-fits (negsuc (suc n)) f true e = let less : IsNumber (negsuc n) = record { sfits = omega (arith, f.sfits) } in less
+raised-fits (negsuc n) f true e =
+    cond_both (ltb 1 (suc n)) (negsuc (suc n - 2)) (pos (1 - suc n)) IsNumber
+    (λ more. record { sfits = omega (arith, ltb-true 1 (suc n) more, f.sfits) }) (λ none. record { sfits = omega arith })
 
 value-fits : (v : List ℤ) → ValueFits v → ValueFits (lied_value v)
 value-fits [] all = tt

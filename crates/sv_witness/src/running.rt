@@ -13,9 +13,7 @@ use crate::lines::run_lines;
 use crate::witness::Witness;
 use std::alloc::{AllocError, Global};
 use sv_asked::{read_scenario_numbers, served_replies_fit};
-use sv_journal::{
-    served_actions_are_good, served_relays_are_small, served_relays_name_accepted,
-};
+use sv_journal::{served_actions_are_good, served_relays_are_small, served_relays_name_accepted};
 use sv_replay::{Ran, run_over};
 use sv_scenario::{Scenario, sessions_of};
 use sv_world::{List, ObjectId, Value, World, copy_value, copy_values};

@@ -1,4 +1,6 @@
+use Rattle.std.proofs.Common.{string_bytes}
 use Rattle.sv_command.proofs.Counts.{wrote, broke}
+use Rattle.sv_witness.proofs.Endings.{printed_by, cut_by}
 use Rattle.sv_witness.proofs.top.decide.Goals as goal
 
 pub returns-in-Ok-clause-raises : goal.returns-in-Ok-clause-raises
@@ -9,3 +11,13 @@ returns-in-Ok-2-clause-raises g c = (c.if-write_all.ensures.cause, broke _ _ _ _
 
 pub returns-in-Err-clause-raises : goal.returns-in-Err-clause-raises
 returns-in-Err-clause-raises g c = c.in-Err.ensures.raises _
+
+pub returns-in-Ok-clause-ends : goal.returns-in-Ok-clause-ends
+returns-in-Ok-clause-ends g c =
+    printed_by (g.F.Files.contents c.args.files.now) _ c.in-Some.asked c.in-Some.is (string_bytes c.in-Ok.text) c.as_bytes.result.now c.as_bytes.ensures.value c.in-Ok.ensures.made _ _
+    c.if-write_all.ensures.whole
+
+pub returns-in-Ok-2-clause-ends : goal.returns-in-Ok-2-clause-ends
+returns-in-Ok-2-clause-ends g c =
+    cut_by (g.F.Files.contents c.args.files.now) _ c.in-Some.asked c.in-Some.is (string_bytes c.in-Ok.text) c.as_bytes.result.now c.as_bytes.ensures.value c.in-Ok.ensures.made _ _
+    c.if-write_all.ensures.part

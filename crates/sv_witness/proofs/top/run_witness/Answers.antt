@@ -1,4 +1,4 @@
-use Rattle.sv_witness.proofs.Endings.{range_is, words_is, sure_is, faults_are, left_is, told_is, nothing_is, complete_is}
+use Rattle.sv_witness.proofs.Endings.{range_is, words_is, sure_is, faults_are, left_is, told_is, complete_is}
 use Rattle.sv_witness.proofs.top.run_witness.Goals as goal
 
 pub returns-clause-range : goal.returns-clause-range

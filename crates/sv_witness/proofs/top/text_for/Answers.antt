@@ -1,6 +1,8 @@
+use Rattle.std.proofs.Common.{ℕ, refl, subst}
 use Rattle.sv_command.specs.declared.ending.Ending.TheVariants as plain
 use Rattle.sv_command.specs.Statuses.{counts}
 use Rattle.sv_witness.specs.declared.ending.WitnessEnding.TheVariants as endings
+use Rattle.sv_witness.specs.Statuses.{IsWithin}
 use Rattle.sv_witness.proofs.Endings.{raised_by}
 use Rattle.sv_witness.proofs.top.text_for.Goals as goal
 
@@ -17,3 +19,11 @@ returns-in_err-run_text-clause-raises g c =
 
 pub returns-clause-raises : goal.returns-clause-raises
 returns-clause-raises g c = λ k. c.in_ok-scenario.ensures.raises (counts 0 0 0 k)
+
+pub returns-clause-made : goal.returns-clause-made
+returns-clause-made g c = record {
+  scenario = c.in_ok-scenario.scenario;
+  read = c.in_ok-scenario.ensures.read.0;
+  within = subst (λ (n : ℕ). IsWithin n c.args.asked.liar) c.len.ensures (c.if-not-is_within.ensures.within refl);
+  run = c.in_ok-run_text.ensures;
+}
