@@ -1,6 +1,6 @@
 -- A sound run over a witnessing server: whatever is asked and replied in it is a message, no client refuses its next reply, and what is agreed is
 -- the serial execution.
-use Rattle.std.proofs.Common.{◌≡◌, ℕ, suc, ◌+◌, ◌-◌, ◌^◌, ◌≤◌, Bool, true, false, inl, inr, cond, eqb, List, [], ◌∷◌, map, length, reverse, Option, Some, None, slice_get, ℤ, pos, negsuc, refl, sym, ap, subst, arith, true≢false, ltb, ltb-true, filter}
+use Rattle.std.proofs.Common.{◌≡◌, ℕ, suc, ◌-◌, ◌^◌, ◌≤◌, Bool, true, false, inl, inr, cond, eqb, List, [], ◌∷◌, map, length, reverse, Option, Some, None, slice_get, ℤ, pos, negsuc, refl, sym, ap, subst, arith, true≢false, ltb, ltb-true, filter}
 use Rattle.std.specs.Prelude.{All, int_lt, ◌+ℤ◌, if◌then◌else◌}
 use Rattle.std.specs.List.{list_any, AllByRecursion}
 use Rattle.std.proofs.lemmas.Bool.{cases_Bool, cond_both}

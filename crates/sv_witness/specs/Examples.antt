@@ -1,6 +1,5 @@
 -- Worked examples: journals of a witnessing server, which are legal, and what is in dispute in them.
-use Rattle.std.specs.Prelude.{◌≡◌, ℕ, pos, ℤ, List, [], ◌∷◌, map, reverse, Option, Some, None}
-use Rattle.sv_world.specs.declared.world.ClientId.{ClientId}
+use Rattle.std.specs.Prelude.{◌≡◌, ℕ, pos, List, [], ◌∷◌, map, reverse, None}
 use Rattle.sv_wire.specs.declared.message.Request.TheVariants as requests
 use Rattle.sv_journal.specs.declared.entry.Entry.{Entry}
 use Rattle.sv_journal.specs.declared.entry.Logged.TheVariants as logged

@@ -2,7 +2,6 @@
 -- A history is the list of a journal's entries with the latest first.
 use Rattle.std.specs.Prelude.{◌≡◌, ◌≢◌, ◌⊎◌, ℕ, ◌<◌, ◌≤◌, ◌==◌, List, length, take, Option, Some, None, codes, if◌then◌else◌, Result, Ok, Err, String, string_bytes, IfSome}
 use Rattle.std.specs.declared.alloc.Global.{Global}
-use Rattle.sv_bytes.specs.Faults.{Rose}
 use Rattle.sv_bytes.specs.Writing.{Grew, GrewByPart, Told as IsTold}
 use Rattle.sv_journal.specs.declared.entry.Entry.{Entry}
 use Rattle.sv_client.specs.declared.trace.Trace.{Trace}

@@ -8,14 +8,14 @@ use crate::witness::Witness;
 
 impl Witness {
     /// How many sessions there may be.
-    pub(crate) fn sessions(&self) -> u16
+    pub fn sessions(&self) -> u16
         ensures { result ≡ self.now.rules.sessions }
     {
         self.core.sessions()
     }
 
     /// Whether a session had its End.
-    pub(crate) fn is_ended(&self, session: u16) -> bool
+    pub fn is_ended(&self, session: u16) -> bool
         requires { session < self.now.rules.sessions }
         ensures { result ≡ is_ended (history self.now) session }
     {
@@ -23,7 +23,7 @@ impl Witness {
     }
 
     /// The client of a session, once it has joined.
-    pub(crate) fn client(&self, session: u16) -> Option<u16>
+    pub fn client(&self, session: u16) -> Option<u16>
         requires { session < self.now.rules.sessions }
         ensures { result ≡ client_of (history self.now) session }
     {
@@ -31,7 +31,7 @@ impl Witness {
     }
 
     /// How many actions were accepted.
-    pub(crate) fn accepted(&self) -> usize
+    pub fn accepted(&self) -> usize
         ensures { result ≡ length (accepted (history self.now)) }
     {
         self.core.last() as usize

@@ -206,7 +206,7 @@ impl Witness {
     /// two clients report equally is installed, in the order of positions; that of an action that writes nothing by its first report. A Poll
     /// is sent the lowest position without a result that was not sent to the session and that its client did not report.
     ///
-    /// After want of memory everything is as it was, but for room. An End takes no memory.
+    /// After running out of memory everything is as it was, but for room. An End takes no memory.
     pub fn step(&mut self, session: u16, request: &Request) -> Result<Reply, AllocError>
         requires session { session < self.old.rules.sessions }
         requires first { is_end request.now ≡ true → is_ended (history self.old) session ≡ false }
