@@ -25,6 +25,7 @@ sys.path.insert(0, HERE)
 
 import simulate
 import wrong_runs
+from counting import BUILT
 from first_wrong import Lines, answer, first_wrong, take_journal
 from players import Player, Wrong
 from random_scenario import Maker
@@ -32,7 +33,6 @@ from reasons import why_lines
 from scenario import read_scenario, scenario_of
 from server import Server
 
-BUILT = os.path.join(ROOT, "crates", "sv_main", "out", "sv_main")
 EXAMPLES = os.path.join(ROOT, "examples")
 LETTERS = b"0123456789 \n()[]:.#@->?,=abcdeijklmnoprstw\r\xff"
 OTHERS = ("0", "1", "2", "01", "-1", "65535", "65536", "4294967295", "4294967296", "9223372036854775807", "9223372036854775808")

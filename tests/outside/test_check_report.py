@@ -22,6 +22,7 @@ import simulate
 import wrong_runs
 from actions import TextFault, action_text, evaluate, read_action
 from check_report import check
+from counting import Count
 from journal import History
 from players import Player, Wrong
 from random_scenario import scenario_text
@@ -39,22 +40,6 @@ REFUSED = ("written_object_not_read", "no_such_object", "seventeen_reads", "numb
 SEEDS = 40
 MOST_SEEDS = 200
 CHANGES = 60 if "--long" in sys.argv else 15
-
-
-class Count:
-    """What passed and what failed."""
-
-    def __init__(self):
-        self.passed = 0
-        self.failed = 0
-
-    def expect(self, holds, name):
-        """One thing tried."""
-        if holds:
-            self.passed += 1
-        else:
-            self.failed += 1
-            print(f"failed: {name}")
 
 
 def refusal(scenario, text, watched, played=False):
@@ -388,8 +373,7 @@ def main():
     for test in (test_language, test_rows, test_careless_clients, test_examples, test_random_runs,
                  test_changes, test_other_orders, test_wrong_runs, test_programs):
         test(count)
-    print(f"{count.passed} passed, {count.failed} failed")
-    return 0 if count.failed == 0 else 1
+    return count.close()
 
 
 if __name__ == "__main__":

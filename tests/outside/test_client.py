@@ -32,6 +32,7 @@ import report
 import simulate
 import wire
 from actions import LEAST, GREATEST, action_text, evaluate, fault_of_action, read_action
+from counting import Count
 from dimboetu import Action, Client, Fault, Payload, action, first_payload, obj, request_bytes, when
 from journal import SerialWorld, check_journal, check_serial_values
 from players import Player
@@ -44,20 +45,8 @@ CAUSE_NUMBERS = {name: number for number, name in enumerate(wire.CAUSES, 1)}
 ADD_ONE = "reads 0 writes 0 { set @0.0 (@0.0 + 1); }"
 
 
-class Count:
-    """What passed and what failed."""
-
-    def __init__(self):
-        self.passed = 0
-        self.failed = 0
-
-    def expect(self, holds, name):
-        """One thing tried."""
-        if holds:
-            self.passed += 1
-        else:
-            self.failed += 1
-            print(f"failed: {name}")
+class Compared(Count):
+    """What passed and what failed, of comparisons too."""
 
     def same(self, given, wanted, name):
         """Two things that must be equal."""
@@ -941,13 +930,12 @@ def test_mine(count):
 def main():
     """The status of all tests."""
     signal.alarm(4 * LONGEST)
-    count = Count()
+    count = Compared()
     for test in (test_vectors, test_refused_payloads, test_streams, test_actions, test_builder, test_beside_players,
                  test_two_at_once, test_rejoin, test_dropped, test_limits, test_random_runs, test_malformed, test_lies, test_late_items,
                  test_programs, test_mine):
         test(count)
-    print(f"{count.passed} passed, {count.failed} failed")
-    return 0 if count.failed == 0 else 1
+    return count.close()
 
 
 if __name__ == "__main__":

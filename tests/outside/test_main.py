@@ -21,11 +21,11 @@ HERE = os.path.dirname(os.path.abspath(__file__))
 ROOT = os.path.normpath(os.path.join(HERE, "..", ".."))
 sys.path.insert(0, HERE)
 
+from counting import program_in
 from programs import free_port
 from scenario import read_scenario
 from witness import text_of as witness_text, witnessed
 
-BUILT = os.path.join(ROOT, "crates", "sv_main", "out", "sv_main")
 PLAY = b"words: play FILE [--brief | --watch] | replay FILE | load N\n"
 SERVE, JOIN, LOOKS = b"words: serve FILE PORT\n", b"words: join FILE K PORT\n", b"words: looks FILE\n"
 WITNESS = b"words: witness FILE [K]\n"
@@ -236,13 +236,9 @@ def read(path):
 
 def main(words):
     """The status of all tests."""
-    program = words[0] if words else BUILT
-    if len(words) > 1 or (words and not os.access(program, os.X_OK)):
-        print(f"words: [PROGRAM]; {program} is no program", file=sys.stderr)
-        return 2
-    if not os.access(program, os.X_OK):
-        print(f"{os.path.relpath(program, ROOT)} is not built: nothing is tested")
-        return 0
+    program, status = program_in(words)
+    if program is None:
+        return status
     with tempfile.TemporaryDirectory() as room:
         os.chmod(room, 0o755)
         # A copy, which others than its owner can reach too.

@@ -21,11 +21,11 @@ import time
 HERE = os.path.dirname(os.path.abspath(__file__))
 ROOT = os.path.normpath(os.path.join(HERE, "..", ".."))
 CLIENTS = os.path.join(ROOT, "clients", "python")
-BUILT = os.path.join(ROOT, "crates", "sv_main", "out", "sv_main")
 sys.path.insert(1, CLIENTS)
 
 import wire
 from actions import read_action
+from counting import program_in
 from dimboetu import Client, action, obj, request_bytes
 from players import Wrong
 from programs import Between, Fake, Peer, Run, connect, finish, free_port, reset, stop_all
@@ -673,13 +673,9 @@ def too_late(*_):
 
 def main(words):
     """The status of all tests."""
-    program = words[0] if words else BUILT
-    if len(words) > 1 or (words and not os.access(program, os.X_OK)):
-        print(f"words: [PROGRAM]; {program} is no program", file=sys.stderr)
-        return 2
-    if not os.access(program, os.X_OK):
-        print(f"{os.path.relpath(program, ROOT)} is not built: nothing is tested")
-        return 0
+    program, status = program_in(words)
+    if program is None:
+        return status
     signal.signal(signal.SIGALRM, too_late)
     signal.alarm(WHOLE_RUN)
     with tempfile.TemporaryDirectory() as room:
