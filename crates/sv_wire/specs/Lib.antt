@@ -1,4 +1,5 @@
 pub mod Steps
+pub mod Refusals
 pub mod Fields
 pub mod Nodes
 pub mod Trees

@@ -79,8 +79,7 @@ pub enum Reply {
         commit: u32,
     },
     Idle,
-    /// The codes, from 1: malformed, not joined, already joined, ended, bad sequence number, bad action, bad completion, bad interest,
-    /// spent, bad client, stale.
+    /// The request breaks a rule. `code` is that of a `Refusal`.
     Refused {
         code: u8,
         detail: u32,
