@@ -12,6 +12,7 @@ mod fits;
 mod flatten;
 mod heads;
 mod laws;
+mod limits;
 mod list;
 mod names;
 mod node;
@@ -36,6 +37,11 @@ pub use laws::{
     base_values_are_those_read_as_committed, committed_actions_do_not_count,
     influence_is_the_least_set, missing_influences_are_the_least_set, missing_influences_ascend,
     missing_influences_only_shrink, only_marks_above_the_commit_count,
+};
+pub use limits::{
+    MOST_ATTRS, MOST_BOUND, MOST_CLIENTS, MOST_DEPTH, MOST_INTEREST, MOST_ITEMS, MOST_NODES,
+    MOST_OBJECTS, MOST_OUTSTANDING, MOST_PENDING, MOST_REACH, MOST_READS, MOST_REQUESTS,
+    MOST_SESSIONS, MOST_SHOWN, MOST_STEPS, MOST_TURNS,
 };
 pub use list::List;
 pub use names::is_in_mask;
