@@ -12,7 +12,7 @@ use Rattle.sv_wire.specs.declared.nodes.CondKind.TheVariants as cond_kind
 use Rattle.sv_wire.specs.declared.nodes.StmtKind.{StmtKind}
 use Rattle.sv_wire.specs.declared.nodes.StmtKind.TheVariants as stmt_kind
 use Rattle.sv_wire.specs.Steps.{Read, ◌>>=◌, stop}
-use Rattle.sv_wire.specs.Fields.{byte_at}
+use Rattle.sv_wire.specs.Fields.{byte_from}
 
 -- what stands behind a key in a table
 abbrev pub among : {K : Type 0} → List (ℕ × K) → ℕ → Option K
@@ -54,9 +54,9 @@ kind_in None bytes = stop bytes Kind
 kind_in (Some kind) bytes = Ok kind
 
 -- The kind of the node that begins these bytes, with so many levels left for it and so many nodes before it.
-unfoldable pub node_at : {K : Type 0} → (ℕ → Option K) → ℕ → ℕ → List ℕ → Read K
-node_at kind_of depth nodes bytes = do
-  b ← byte_at bytes
+unfoldable pub node_from : {K : Type 0} → (ℕ → Option K) → ℕ → ℕ → List ℕ → Read K
+node_from kind_of depth nodes bytes = do
+  b ← byte_from bytes
   kind ← kind_in (kind_of b.0) bytes
   _ ← room_at depth nodes bytes
   Ok (kind, b.1)

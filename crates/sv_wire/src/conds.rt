@@ -2,7 +2,7 @@
 ghost use Rattle.std.specs.Prelude.{◌≡◌, ◌≤◌, OnOk};
 ghost use Rattle.sv_world.specs.Spelled.{cond_spelled};
 ghost use Rattle.sv_wire.specs.Steps.{Gives};
-ghost use Rattle.sv_wire.specs.Trees.{appended, expr_at, compare_at, join_at, not_at, cond_at};
+ghost use Rattle.sv_wire.specs.Trees.{appended, expr_from, compare_from, join_from, not_from, cond_from};
 
 use crate::exprs::{Reader, expr_next};
 use crate::fault::ReadFault;
@@ -11,7 +11,7 @@ use sv_world::{Comparison, Connective, Node};
 
 #[tactic(auto, using(crate::proofs::Flat::compare_appended))]
 fn compare_next(reader: &mut Reader<'_>, depth: u8, comparison: Comparison) -> Result<(), ReadFault>
-    ensures gives { Gives (λ _. (reader.new.out.items, reader.new.nodes, reader.new.rest.now)) result (appended cond_spelled reader.old.out.items (compare_at (λ n rest. expr_at depth n rest) comparison reader.old.nodes reader.old.rest.now)) }
+    ensures gives { Gives (λ _. (reader.new.out.items, reader.new.nodes, reader.new.rest.now)) result (appended cond_spelled reader.old.out.items (compare_from (λ n rest. expr_from depth n rest) comparison reader.old.nodes reader.old.rest.now)) }
     ensures few { OnOk result (reader.new.nodes ≤ 64) }
 {
     reader.out.push(Node::Compare(comparison))?;
@@ -22,7 +22,7 @@ fn compare_next(reader: &mut Reader<'_>, depth: u8, comparison: Comparison) -> R
 #[cycle(conds)]
 #[tactic(auto, using(crate::proofs::Flat::join_appended))]
 fn join_next(reader: &mut Reader<'_>, depth: u8, connective: Connective) -> Result<(), ReadFault>
-    ensures gives { Gives (λ _. (reader.new.out.items, reader.new.nodes, reader.new.rest.now)) result (appended cond_spelled reader.old.out.items (join_at (λ n rest. cond_at depth n rest) connective reader.old.nodes reader.old.rest.now)) }
+    ensures gives { Gives (λ _. (reader.new.out.items, reader.new.nodes, reader.new.rest.now)) result (appended cond_spelled reader.old.out.items (join_from (λ n rest. cond_from depth n rest) connective reader.old.nodes reader.old.rest.now)) }
     ensures few { OnOk result (reader.new.nodes ≤ 64) }
 {
     reader.out.push(Node::Join(connective))?;
@@ -33,7 +33,7 @@ fn join_next(reader: &mut Reader<'_>, depth: u8, connective: Connective) -> Resu
 #[cycle(conds)]
 #[tactic(auto, using(crate::proofs::Flat::not_appended))]
 fn not_next(reader: &mut Reader<'_>, depth: u8) -> Result<(), ReadFault>
-    ensures gives { Gives (λ _. (reader.new.out.items, reader.new.nodes, reader.new.rest.now)) result (appended cond_spelled reader.old.out.items (not_at (λ n rest. cond_at depth n rest) reader.old.nodes reader.old.rest.now)) }
+    ensures gives { Gives (λ _. (reader.new.out.items, reader.new.nodes, reader.new.rest.now)) result (appended cond_spelled reader.old.out.items (not_from (λ n rest. cond_from depth n rest) reader.old.nodes reader.old.rest.now)) }
     ensures few { OnOk result (reader.new.nodes ≤ 64) }
 {
     reader.out.push(Node::Not)?;
@@ -41,9 +41,9 @@ fn not_next(reader: &mut Reader<'_>, depth: u8) -> Result<(), ReadFault>
 }
 
 #[cycle(conds)]
-#[tactic(auto, using(crate::proofs::Trees::cond_at_is, crate::proofs::Flat::cond_step_appended))]
+#[tactic(auto, using(crate::proofs::Trees::cond_from_is, crate::proofs::Flat::cond_level_appended))]
 pub fn cond_next(reader: &mut Reader<'_>, depth: u8) -> Result<(), ReadFault>
-    ensures gives { Gives (λ _. (reader.new.out.items, reader.new.nodes, reader.new.rest.now)) result (appended cond_spelled reader.old.out.items (cond_at depth reader.old.nodes reader.old.rest.now)) }
+    ensures gives { Gives (λ _. (reader.new.out.items, reader.new.nodes, reader.new.rest.now)) result (appended cond_spelled reader.old.out.items (cond_from depth reader.old.nodes reader.old.rest.now)) }
     ensures few { OnOk result (reader.new.nodes ≤ 64) }
 {
     let (kind, rest) = cond_node(depth, reader.nodes, reader.rest)?;

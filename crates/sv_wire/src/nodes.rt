@@ -1,7 +1,7 @@
 //! The kinds of the nodes of an action's body.
 ghost use Rattle.std.specs.Prelude.{◌≡◌, ◌<◌, OnOk};
 ghost use Rattle.sv_wire.specs.Steps.{Gives};
-ghost use Rattle.sv_wire.specs.Nodes.{room_at, node_at, expr_kind_of, cond_kind_of, stmt_kind_of};
+ghost use Rattle.sv_wire.specs.Nodes.{room_at, node_from, expr_kind_of, cond_kind_of, stmt_kind_of};
 
 use crate::fault::{ReadFault, WireCause, stop_at};
 use crate::fields::byte_of;
@@ -86,9 +86,9 @@ fn has_room(depth: u8, nodes: u8, bytes: &[u8]) -> Result<(), ReadFault>
     Ok(())
 }
 
-#[tactic(auto, unfolding(crate::specs::Nodes::node_at))]
+#[tactic(auto, unfolding(crate::specs::Nodes::node_from))]
 pub fn expr_node(depth: u8, nodes: u8, bytes: &[u8]) -> Result<(ExprKind, &[u8]), ReadFault>
-    ensures gives { Gives (λ x. (x.0, x.1.now)) result (node_at expr_kind_of depth nodes bytes.now) }
+    ensures gives { Gives (λ x. (x.0, x.1.now)) result (node_from expr_kind_of depth nodes bytes.now) }
     ensures few { OnOk result ((nodes < 64) × (0 < depth)) }
 {
     let (byte, rest) = byte_of(bytes)?;
@@ -99,9 +99,9 @@ pub fn expr_node(depth: u8, nodes: u8, bytes: &[u8]) -> Result<(ExprKind, &[u8])
     Ok((kind, rest))
 }
 
-#[tactic(auto, unfolding(crate::specs::Nodes::node_at))]
+#[tactic(auto, unfolding(crate::specs::Nodes::node_from))]
 pub fn cond_node(depth: u8, nodes: u8, bytes: &[u8]) -> Result<(CondKind, &[u8]), ReadFault>
-    ensures gives { Gives (λ x. (x.0, x.1.now)) result (node_at cond_kind_of depth nodes bytes.now) }
+    ensures gives { Gives (λ x. (x.0, x.1.now)) result (node_from cond_kind_of depth nodes bytes.now) }
     ensures few { OnOk result ((nodes < 64) × (0 < depth)) }
 {
     let (byte, rest) = byte_of(bytes)?;
@@ -112,9 +112,9 @@ pub fn cond_node(depth: u8, nodes: u8, bytes: &[u8]) -> Result<(CondKind, &[u8])
     Ok((kind, rest))
 }
 
-#[tactic(auto, unfolding(crate::specs::Nodes::node_at))]
+#[tactic(auto, unfolding(crate::specs::Nodes::node_from))]
 pub fn stmt_node(depth: u8, nodes: u8, bytes: &[u8]) -> Result<(StmtKind, &[u8]), ReadFault>
-    ensures gives { Gives (λ x. (x.0, x.1.now)) result (node_at stmt_kind_of depth nodes bytes.now) }
+    ensures gives { Gives (λ x. (x.0, x.1.now)) result (node_from stmt_kind_of depth nodes bytes.now) }
     ensures few { OnOk result ((nodes < 64) × (0 < depth)) }
 {
     let (byte, rest) = byte_of(bytes)?;

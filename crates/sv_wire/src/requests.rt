@@ -1,7 +1,7 @@
 //! Reading requests.
 ghost use Rattle.std.specs.Prelude.{◌≡◌};
 ghost use Rattle.sv_wire.specs.Steps.{Gives};
-ghost use Rattle.sv_wire.specs.Messages.{join_request_at, submit_at, done_at, request_front, whole};
+ghost use Rattle.sv_wire.specs.Messages.{join_request_from, submit_from, done_from, request_front, whole};
 
 use crate::actions::action_of;
 use crate::fault::{ReadFault, WireCause, stop_at};
@@ -11,9 +11,9 @@ use crate::message::Request;
 use std::alloc::Global;
 use sv_world::{ClientId, copy_objects};
 
-#[tactic(auto, unfolding(crate::specs::Messages::join_request_at))]
+#[tactic(auto, unfolding(crate::specs::Messages::join_request_from))]
 fn join_of(alloc: Global, bytes: &[u8]) -> Result<(Request, &[u8]), ReadFault>
-    ensures { Gives (λ x. (x.0, x.1.now)) result (join_request_at bytes.now) }
+    ensures { Gives (λ x. (x.0, x.1.now)) result (join_request_from bytes.now) }
 {
     let (client, rest) = u16_of(bytes)?;
     let (life, rest) = u32_of(rest)?;
@@ -30,18 +30,18 @@ fn join_of(alloc: Global, bytes: &[u8]) -> Result<(Request, &[u8]), ReadFault>
     ))
 }
 
-#[tactic(auto, unfolding(crate::specs::Messages::submit_at))]
+#[tactic(auto, unfolding(crate::specs::Messages::submit_from))]
 fn submit_of(alloc: Global, bytes: &[u8]) -> Result<(Request, &[u8]), ReadFault>
-    ensures { Gives (λ x. (x.0, x.1.now)) result (submit_at bytes.now) }
+    ensures { Gives (λ x. (x.0, x.1.now)) result (submit_from bytes.now) }
 {
     let (seq, rest) = u32_of(bytes)?;
     let (action, rest) = action_of(alloc, rest)?;
     Ok((Request::Submit { seq, action }, rest))
 }
 
-#[tactic(auto, unfolding(crate::specs::Messages::done_at))]
+#[tactic(auto, unfolding(crate::specs::Messages::done_from))]
 fn done_of(alloc: Global, bytes: &[u8]) -> Result<(Request, &[u8]), ReadFault>
-    ensures { Gives (λ x. (x.0, x.1.now)) result (done_at bytes.now) }
+    ensures { Gives (λ x. (x.0, x.1.now)) result (done_from bytes.now) }
 {
     let (count, rest) = count_of(1, 33, bytes)?;
     let (results, rest) = results_of(alloc, count, rest)?;
