@@ -4,3 +4,4 @@ pub mod View
 pub mod Invariant
 pub mod Incoming
 pub mod Outgoing
+pub mod Laws

@@ -1,5 +1,5 @@
 -- What was written is read again, whatever follows it: actions and messages.
-use Rattle.std.proofs.Common.{◌≡◌, ℕ, ◌^◌, ◌<◌, List, [], ◌∷◌, ◌++◌, length, drop, Result, Ok, FitsSigned, refl, sym, ap, ◌∙◌, append_assoc, arith}
+use Rattle.std.proofs.Common.{◌≡◌, ℕ, ◌^◌, ◌<◌, List, [], ◌∷◌, ◌++◌, length, Result, Ok, FitsSigned, refl, sym, ap, ◌∙◌, append_assoc, arith}
 use Rattle.std.specs.List.{flat_map, AllByRecursion}
 use Rattle.std.specs.Int.{w32}
 use Rattle.std.proofs.lemmas.Bool.{lt-leb, le-leb}
@@ -20,7 +20,7 @@ use Rattle.sv_wire.specs.Fields.{byte_from, result_from}
 use Rattle.sv_wire.specs.Messages.{mask_from, point_from, action_from, item_from, join_request_from, submit_from, done_from, request_front, request_kind_of, welcome_from, relay_from, dropped_from, settled_from, noted_from, code_from, refused_from, reply_front, reply_kind_of, whole, placed, request_at, reply_at}
 use Rattle.sv_wire.specs.Spelling.{int_bytes, object_bytes, head_bytes, result_bytes, point_bytes, body_bytes, action_bytes, item_bytes, request_bytes, reply_bytes}
 use Rattle.sv_wire.specs.Grammar.{IsWireHead, IsWireResult, IsWireAction, IsWireRequest, IsWireReply}
-use Rattle.sv_wire.specs.Laws.{IsRequest, IsReply, RequestsDiffer, RepliesDiffer, frame, RequestFramesDiffer, ReplyFramesDiffer, KindsDiffer}
+use Rattle.sv_wire.specs.Laws.{IsRequest, IsReply, RequestsDiffer, RepliesDiffer, RequestsAreApart, RepliesAreApart, KindsAreApart}
 use Rattle.sv_wire.specs.Ranges.{HeldFits, ResultFits, ActionFits, ItemFits, RequestFits, ReplyFits}
 use Rattle.sv_wire.proofs.Again.{number_again, int32_again, count_again, several_again, objects_again, head_again, result_again, both_of_each}
 use Rattle.sv_wire.proofs.AgainTrees.{body_again}
@@ -169,27 +169,17 @@ same_read : {A : Type 0} (m n : A) (x y : List ℕ) → read m x ≡ read n y �
 same_read {A = A} m n x y e = let p : both m x ≡ both n y = cc in ap (λ (q : A × List ℕ). q.0) p
 
 -- No payload begins another one.
-one_request : (m n : Request) (x y : List ℕ) → IsRequest m → IsRequest n → request_bytes m ++ x ≡ request_bytes n ++ y → m ≡ n
-one_request m n x y p q e = same_read m n x y (sym (request_again m x p.within p.fits) ∙ ap request_front e ∙ request_again n y q.within q.fits)
+pub requests_apart : RequestsAreApart
+requests_apart m n x y p q e = same_read m n x y (sym (request_again m x p.within p.fits) ∙ ap request_front e ∙ request_again n y q.within q.fits)
 
-one_reply : (m n : Reply) (x y : List ℕ) → IsReply m → IsReply n → reply_bytes m ++ x ≡ reply_bytes n ++ y → m ≡ n
-one_reply m n x y p q e = same_read m n x y (sym (reply_again m x p.within p.fits) ∙ ap reply_front e ∙ reply_again n y q.within q.fits)
+pub replies_apart : RepliesAreApart
+replies_apart m n x y p q e = same_read m n x y (sym (reply_again m x p.within p.fits) ∙ ap reply_front e ∙ reply_again n y q.within q.fits)
 
 pub requests_differ : RequestsDiffer
-requests_differ m n p q e = one_request m n [] [] p q (ap (λ (t : List ℕ). t ++ []) e)
+requests_differ m n p q e = requests_apart m n [] [] p q (ap (λ (t : List ℕ). t ++ []) e)
 
 pub replies_differ : RepliesDiffer
-replies_differ m n p q e = one_reply m n [] [] p q (ap (λ (t : List ℕ). t ++ []) e)
-
--- behind the length stands the payload
-behind : (p q x y : List ℕ) → frame p ++ x ≡ frame q ++ y → p ++ x ≡ q ++ y
-behind p q x y e = ap (drop 4) e
-
-pub request_frames_differ : RequestFramesDiffer
-request_frames_differ m n x y p q e = one_request m n x y p q (behind (request_bytes m) (request_bytes n) x y e)
-
-pub reply_frames_differ : ReplyFramesDiffer
-reply_frames_differ m n x y p q e = one_reply m n x y p q (behind (reply_bytes m) (reply_bytes n) x y e)
+replies_differ m n p q e = replies_apart m n [] [] p q (ap (λ (t : List ℕ). t ++ []) e)
 
 -- A reply's payload is no request.
 not_request : (n : Reply) (y : List ℕ) (x : Request × List ℕ) → request_front (reply_bytes n ++ y) ≡ Ok x → ⊥
@@ -203,5 +193,5 @@ not_request Idle y x e = cc
 not_request (Refused code detail) y x e = cc
 not_request Bye y x e = cc
 
-pub kinds_differ : KindsDiffer
-kinds_differ m n x y p q e = not_request n y (m, x) (sym (ap request_front (behind (request_bytes m) (reply_bytes n) x y e)) ∙ request_again m x p.within p.fits)
+pub kinds_apart : KindsAreApart
+kinds_apart m n x y p q e = not_request n y (m, x) (sym (ap request_front e) ∙ request_again m x p.within p.fits)

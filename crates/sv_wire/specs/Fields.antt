@@ -2,6 +2,7 @@
 use Rattle.std.specs.Prelude.{ℕ, ◌+◌, List, [], ◌∷◌, length, drop, Ok, ◌&&◌, nat_lt, nat_le, if◌then◌else◌, ℤ}
 use Rattle.std.specs.Int.{Width, w64, byte_len, cast_signed}
 use Rattle.byteorder.specs.Endian.{big_number}
+use Rattle.sv_world.specs.Limits.{most_attrs, most_reads}
 use Rattle.sv_world.specs.declared.world.ObjectId.{ObjectId}
 use Rattle.sv_wire.specs.declared.fault.WireCause.TheVariants.{Short, Count, Order}
 use Rattle.sv_wire.specs.declared.message.Held.{Held}
@@ -28,11 +29,14 @@ count_from low high bytes = do
   n ← byte_from bytes
   if nat_le low n.0 && nat_le n.0 high then Ok (n.0, n.1) else stop bytes Count
 
--- the count of a head, at most 528
+-- The objects of a head: as many as the actions of a relay read.
+abbrev pub most_held : ℕ
+most_held = 528
+
 unfoldable pub head_count_from : List ℕ → Read ℕ
 head_count_from bytes = do
   n ← number_from 2 bytes
-  if nat_lt 528 n.0 then stop bytes Count else Ok (n.0, n.1)
+  if nat_lt most_held n.0 then stop bytes Count else Ok (n.0, n.1)
 
 -- an object that is at least least, and the least that may follow it
 unfoldable pub object_from : ℕ → List ℕ → Turn ObjectId
@@ -40,15 +44,19 @@ object_from least bytes = do
   n ← number_from 2 bytes
   if nat_lt n.0 least then stop bytes Order else Ok (record { 0 = n.0 }, n.0 + 1, n.1)
 
+-- n fields in turn, from 0 on
+abbrev pub ascending_from : {A : Type 0} → (ℕ → List ℕ → Turn A) → ℕ → List ℕ → Read (List A)
+ascending_from reader n bytes = do
+  all ← in_turn reader n 0 bytes
+  Ok (all.0, all.2)
+
 -- n objects, ascending
 unfoldable pub objects_from : ℕ → List ℕ → Read (List ObjectId)
-objects_from n bytes = do
-  objects ← in_turn object_from n 0 bytes
-  Ok (objects.0, objects.2)
+objects_from n bytes = ascending_from object_from n bytes
 
 unfoldable pub value_from : List ℕ → Read (List ℤ)
 value_from bytes = do
-  n ← count_from 1 4 bytes
+  n ← count_from 1 most_attrs bytes
   several (int_from w64) n.0 n.1
 
 unfoldable pub held_from : ℕ → List ℕ → Turn Held
@@ -59,9 +67,7 @@ held_from least bytes = do
 
 -- n objects and their values, ascending
 unfoldable pub helds_from : ℕ → List ℕ → Read (List Held)
-helds_from n bytes = do
-  head ← in_turn held_from n 0 bytes
-  Ok (head.0, head.2)
+helds_from n bytes = ascending_from held_from n bytes
 
 unfoldable pub head_from : List ℕ → Read (List Held)
 head_from bytes = do
@@ -71,6 +77,6 @@ head_from bytes = do
 unfoldable pub result_from : List ℕ → Read Done1
 result_from bytes = do
   pos ← number_from 4 bytes
-  n ← count_from 0 16 pos.1
+  n ← count_from 0 most_reads pos.1
   values ← several value_from n.0 n.1
   Ok (record { pos = pos.0; values = values.0 }, values.1)

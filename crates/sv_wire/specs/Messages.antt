@@ -1,6 +1,7 @@
 -- Reading actions and messages.
 use Rattle.std.specs.Prelude.{◌≡◌, ℕ, ◌^◌, List, [], ◌∷◌, length, Result, Ok, Err, Option, ◌&&◌, ◌==◌, ◌-◌, nat_le, if◌then◌else◌}
 use Rattle.std.specs.Int.{w32}
+use Rattle.sv_world.specs.Limits.{most_reads, most_interest, most_items}
 use Rattle.sv_world.specs.declared.action.Action.{Action}
 use Rattle.sv_world.specs.declared.action.Point.{Point}
 use Rattle.sv_wire.specs.declared.fault.Stop.{Stop}
@@ -20,6 +21,7 @@ use Rattle.sv_wire.specs.declared.kinds.ReplyKind.TheVariants as reply_kind
 use Rattle.sv_wire.specs.Steps.{Read, ◌>>=◌, stop, several}
 use Rattle.sv_wire.specs.Fields.{byte_from, number_from, int_from, count_from, objects_from, head_from, result_from}
 use Rattle.sv_wire.specs.Nodes.{among, kind_in}
+use Rattle.sv_wire.specs.Refusals.{last_code}
 use Rattle.sv_wire.specs.Trees.{body_from}
 
 -- a mask with no bit at or above the count of reads
@@ -36,7 +38,7 @@ point_from bytes = do
 
 unfoldable pub action_from : List ℕ → Read Action
 action_from bytes = do
-  n ← count_from 1 16 bytes
+  n ← count_from 1 most_reads bytes
   reads ← objects_from n.0 n.1
   mask ← mask_from n.0 reads.1
   origin ← point_from mask.1
@@ -55,7 +57,7 @@ unfoldable pub join_request_from : List ℕ → Read Request
 join_request_from bytes = do
   client ← number_from 2 bytes
   life ← number_from 4 client.1
-  n ← count_from 0 64 life.1
+  n ← count_from 0 most_interest life.1
   interest ← objects_from n.0 n.1
   Ok (request.Join (record { 0 = client.0 }) life.0 interest.0, interest.1)
 
@@ -67,7 +69,7 @@ submit_from bytes = do
 
 unfoldable pub done_from : List ℕ → Read Request
 done_from bytes = do
-  n ← count_from 1 33 bytes
+  n ← count_from 1 most_items bytes
   results ← several result_from n.0 n.1
   Ok (request.Done results.0, results.1)
 
@@ -105,7 +107,7 @@ relay_from bytes = do
   seq ← number_from 4 bytes
   commit ← number_from 4 seq.1
   head ← head_from commit.1
-  n ← count_from 0 33 head.1
+  n ← count_from 0 most_items head.1
   items ← several item_from n.0 n.1
   Ok (reply.Relay seq.0 commit.0 head.0 items.0, items.1)
 
@@ -127,11 +129,11 @@ noted_from bytes = do
   commit ← number_from 4 bytes
   Ok (reply.Noted commit.0, commit.1)
 
--- a code from 1 to 11
+-- the code of a refusal
 unfoldable pub code_from : List ℕ → Read ℕ
 code_from bytes = do
   n ← byte_from bytes
-  if nat_le 1 n.0 && nat_le n.0 11 then Ok (n.0, n.1) else stop bytes Code
+  if nat_le 1 n.0 && nat_le n.0 last_code then Ok (n.0, n.1) else stop bytes Code
 
 unfoldable pub refused_from : List ℕ → Read Reply
 refused_from bytes = do

@@ -1,5 +1,6 @@
 -- The nodes of an action's body: their bytes, and where a node may stand.
 use Rattle.std.specs.Prelude.{ℕ, List, [], ◌∷◌, Result, Ok, Option, Some, None, ◌==◌, nat_lt, if◌then◌else◌}
+use Rattle.sv_world.specs.Limits.{most_nodes}
 use Rattle.sv_wire.specs.declared.fault.Stop.{Stop}
 use Rattle.sv_wire.specs.declared.fault.WireCause.TheVariants.{Kind, Large, Deep}
 use Rattle.sv_world.specs.declared.node.Operator.TheVariants.{Add, Sub, Mul, Div, Rem, Min, Max}
@@ -45,9 +46,9 @@ cond_kind_of = among
 unfoldable pub stmt_kind_of : ℕ → Option StmtKind
 stmt_kind_of = among ((0x10, stmt_kind.Set) ∷ (0x11, stmt_kind.If) ∷ [])
 
--- Whether a node may begin these bytes: it is not the 65th, and there is a level left for it.
+-- Whether a node may begin these bytes: it is not one too many, and there is a level left for it.
 unfoldable pub room_at : ℕ → ℕ → List ℕ → Result (Unit {0}) Stop
-room_at depth nodes bytes = if nat_lt nodes 64 then (if nat_lt 0 depth then Ok tt else stop bytes Deep) else stop bytes Large
+room_at depth nodes bytes = if nat_lt nodes most_nodes then (if nat_lt 0 depth then Ok tt else stop bytes Deep) else stop bytes Large
 
 abbrev pub kind_in : {K : Type 0} → Option K → List ℕ → Result K Stop
 kind_in None bytes = stop bytes Kind

@@ -1,6 +1,7 @@
 -- Reading the body of an action. The depth is the number of levels that are left, and nodes the number of nodes so far.
-use Rattle.std.specs.Prelude.{ℕ, zero, suc, ◌+◌, List, ◌++◌, Ok, Err}
+use Rattle.std.specs.Prelude.{ℕ, zero, suc, ◌+◌, List, ◌++◌, Result, Ok, Err}
 use Rattle.std.specs.Int.{w64}
+use Rattle.sv_world.specs.Limits.{most_depth}
 use Rattle.sv_world.specs.declared.action.Expr.{Expr}
 use Rattle.sv_world.specs.declared.action.Expr.TheVariants as expr
 use Rattle.sv_world.specs.declared.action.Cond.{Cond}
@@ -8,6 +9,8 @@ use Rattle.sv_world.specs.declared.action.Cond.TheVariants as test
 use Rattle.sv_world.specs.declared.action.Stmt.{Stmt}
 use Rattle.sv_world.specs.declared.action.Stmt.TheVariants as stmt
 use Rattle.sv_wire.specs.declared.fault.WireCause.TheVariants.{Deep}
+use Rattle.sv_wire.specs.declared.fault.ReadFault.{ReadFault}
+use Rattle.sv_wire.specs.declared.exprs.Reader.{Reader as BodyReader}
 use Rattle.sv_world.specs.declared.node.Node.{Node}
 use Rattle.sv_world.specs.declared.node.Operator.{Operator}
 use Rattle.sv_world.specs.declared.node.Comparison.{Comparison}
@@ -19,7 +22,7 @@ use Rattle.sv_wire.specs.declared.nodes.CondKind.TheVariants as cond_kind
 use Rattle.sv_wire.specs.declared.nodes.StmtKind.{StmtKind}
 use Rattle.sv_wire.specs.declared.nodes.StmtKind.TheVariants as stmt_kind
 use Rattle.sv_world.specs.Parts.{binary_by as expr_by, compare_by, join_by}
-use Rattle.sv_wire.specs.Steps.{Read, Turn, ◌>>=◌, stop, in_turn}
+use Rattle.sv_wire.specs.Steps.{Read, Turn, ◌>>=◌, stop, Gives, in_turn}
 use Rattle.sv_wire.specs.Fields.{byte_from, int_from}
 use Rattle.sv_wire.specs.Nodes.{node_from, expr_kind_of, cond_kind_of, stmt_kind_of}
 
@@ -42,11 +45,15 @@ attr_from nodes bytes = do
   attr ← byte_from slot.1
   Ok (expr.Attr slot.0 attr.0, nodes, attr.1)
 
-unfoldable pub pair_from : Reader Expr → Operator → Reader Expr
-pair_from reader operator nodes bytes = do
+-- two trees, and what they make together
+abbrev pub two_from : {A B : Type 0} → Reader A → (A → A → B) → Reader B
+two_from reader make nodes bytes = do
   a ← reader nodes bytes
   b ← reader a.1 a.2
-  Ok (expr_by operator a.0 b.0, b.1, b.2)
+  Ok (make a.0 b.0, b.1, b.2)
+
+unfoldable pub pair_from : Reader Expr → Operator → Reader Expr
+pair_from reader operator nodes bytes = two_from reader (expr_by operator) nodes bytes
 
 -- the rest of an expression of a kind
 abbrev pub expr_of : Reader Expr → ExprKind → Reader Expr
@@ -65,16 +72,10 @@ expr_from zero nodes bytes = expr_level no_level 0 nodes bytes
 expr_from (suc depth) nodes bytes = expr_level (λ n rest. expr_from depth n rest) (suc depth) nodes bytes
 
 unfoldable pub compare_from : Reader Expr → Comparison → Reader Cond
-compare_from reader comparison nodes bytes = do
-  a ← reader nodes bytes
-  b ← reader a.1 a.2
-  Ok (compare_by comparison a.0 b.0, b.1, b.2)
+compare_from reader comparison nodes bytes = two_from reader (compare_by comparison) nodes bytes
 
 unfoldable pub join_from : Reader Cond → Connective → Reader Cond
-join_from reader connective nodes bytes = do
-  a ← reader nodes bytes
-  b ← reader a.1 a.2
-  Ok (join_by connective a.0 b.0, b.1, b.2)
+join_from reader connective nodes bytes = two_from reader (join_by connective) nodes bytes
 
 unfoldable pub not_from : Reader Cond → Reader Cond
 not_from reader nodes bytes = do
@@ -138,13 +139,17 @@ unfoldable pub stmt_from : ℕ → Reader Stmt
 stmt_from zero nodes bytes = stmt_level no_level no_level no_level 0 nodes bytes
 stmt_from (suc depth) nodes bytes = stmt_level (λ n rest. expr_from depth n rest) (λ n rest. cond_from depth n rest) (λ n rest. stmt_from depth n rest) (suc depth) nodes bytes
 
--- a body, whose statements have eight levels
+-- a body, whose statements have all levels
 unfoldable pub body_from : List ℕ → Read (List Stmt)
 body_from bytes = do
-  body ← list_by (λ n rest. stmt_from 8 n rest) 0 bytes
+  body ← list_by (λ n rest. stmt_from most_depth n rest) 0 bytes
   Ok (body.0, body.2)
 
 -- The same with a tree's nodes behind older ones in place of the tree.
 abbrev pub appended : {A : Type 0} → (A → List Node) → List Node → Turn A → Turn (List Node)
 appended spelled old (Ok x) = Ok (old ++ spelled x.0, x.1, x.2)
 appended spelled old (Err e) = Err e
+
+-- What a call answers that reads a tree and appends its nodes, by the body that is read before and after it.
+abbrev pub Appends : {A X : Type 0} → (A → List Node) → Reader A → BodyReader → Result X ReadFault → BodyReader → Type 0
+Appends spelled read old answer new = Gives (λ _. (new.out.items, new.nodes, new.rest.now)) answer (appended spelled old.out.items (read old.nodes old.rest.now))

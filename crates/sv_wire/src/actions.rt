@@ -1,5 +1,6 @@
 //! Reading actions.
 ghost use Rattle.std.specs.Prelude.{◌≡◌, ◌≤◌, IfOk};
+ghost use Rattle.sv_world.specs.Limits.{most_reads};
 ghost use Rattle.sv_wire.specs.Steps.{Gives, several};
 ghost use Rattle.sv_wire.specs.Messages.{mask_from, point_from, action_from, item_from};
 
@@ -8,11 +9,11 @@ use crate::fields::{count_of, i32_of, list_for, objects_of, u16_of, u32_of};
 use crate::message::Item;
 use crate::stmts::body_of;
 use std::alloc::Global;
-use sv_world::{Action, ClientId, List, Point};
+use sv_world::{Action, ClientId, List, MOST_READS, Point};
 
 #[tactic(auto, unfolding(crate::specs::Messages::mask_from))]
 fn mask_of(count: u8, bytes: &[u8]) -> Result<(u16, &[u8]), ReadFault>
-    requires { count ≤ 16 }
+    requires { count ≤ most_reads }
     ensures { Gives (λ x. (x.0, x.1.now)) result (mask_from count bytes.now) }
 {
     let (mask, rest) = u16_of(bytes)?;
@@ -35,7 +36,7 @@ fn point_of(bytes: &[u8]) -> Result<(Point, &[u8]), ReadFault>
 pub fn action_of(alloc: Global, bytes: &[u8]) -> Result<(Action, &[u8]), ReadFault>
     ensures { Gives (λ x. (x.0, x.1.now)) result (action_from bytes.now) }
 {
-    let (count, rest) = count_of(1, 16, bytes)?;
+    let (count, rest) = count_of(1, MOST_READS as u8, bytes)?;
     let (reads, rest) = objects_of(alloc, count, rest)?;
     let (mask, rest) = mask_of(count, rest)?;
     let (origin, rest) = point_of(rest)?;

@@ -8,7 +8,10 @@ use crate::fault::{ReadFault, WireCause, stop_at};
 use crate::message::{Done1, Held};
 use byteorder::{BigEndian, ByteOrder};
 use std::alloc::{AllocError, Global};
-use sv_world::{List, ObjectId, Reads, Value};
+use sv_world::{List, MOST_ATTRS, MOST_READS, ObjectId, Reads, Value};
+
+/// The objects of a head: as many as the actions of a relay read.
+const MOST_HELD: u16 = 528;
 
 /// The empty list, with room for the elements that its count announces.
 pub fn list_for<T>(alloc: Global, count: usize) -> Result<List<T>, AllocError>
@@ -84,7 +87,7 @@ fn head_count_of(bytes: &[u8]) -> Result<(u16, &[u8]), ReadFault>
     ensures { Gives (λ x. (x.0, x.1.now)) result (head_count_from bytes.now) }
 {
     let (count, rest) = u16_of(bytes)?;
-    if 528 < count {
+    if MOST_HELD < count {
         return Err(stop_at(bytes, WireCause::Count));
     }
     Ok((count, rest))
@@ -134,7 +137,7 @@ fn numbers_of(alloc: Global, count: u8, bytes: &[u8]) -> Result<(Value, &[u8]), 
 fn value_of(alloc: Global, bytes: &[u8]) -> Result<(Value, &[u8]), ReadFault>
     ensures { Gives (λ x. (x.0, x.1.now)) result (value_from bytes.now) }
 {
-    let (count, rest) = count_of(1, 4, bytes)?;
+    let (count, rest) = count_of(1, MOST_ATTRS, bytes)?;
     numbers_of(alloc, count, rest)
 }
 
@@ -188,7 +191,7 @@ fn result_of(alloc: Global, bytes: &[u8]) -> Result<(Done1, &[u8]), ReadFault>
     ensures { Gives (λ x. (x.0, x.1.now)) result (result_from bytes.now) }
 {
     let (pos, rest) = u32_of(bytes)?;
-    let (count, rest) = count_of(0, 16, rest)?;
+    let (count, rest) = count_of(0, MOST_READS as u8, rest)?;
     let (values, rest) = values_of(alloc, count, rest)?;
     Ok((Done1 { pos, values }, rest))
 }

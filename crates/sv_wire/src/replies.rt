@@ -8,7 +8,9 @@ use crate::fault::{ReadFault, WireCause, stop_at};
 use crate::fields::{byte_of, count_of, head_of, u32_of};
 use crate::kinds::{ReplyKind, reply_kind};
 use crate::message::Reply;
+use crate::refusal::LAST_CODE;
 use std::alloc::Global;
+use sv_world::MOST_ITEMS;
 
 #[tactic(auto, unfolding(crate::specs::Messages::welcome_from))]
 fn welcome_of(alloc: Global, bytes: &[u8]) -> Result<(Reply, &[u8]), ReadFault>
@@ -26,7 +28,7 @@ fn relay_of(alloc: Global, bytes: &[u8]) -> Result<(Reply, &[u8]), ReadFault>
     let (seq, rest) = u32_of(bytes)?;
     let (commit, rest) = u32_of(rest)?;
     let (head, rest) = head_of(alloc, rest)?;
-    let (count, rest) = count_of(0, 33, rest)?;
+    let (count, rest) = count_of(0, MOST_ITEMS as u8, rest)?;
     let (items, rest) = items_of(alloc, count, rest)?;
     Ok((
         Reply::Relay {
@@ -71,7 +73,7 @@ fn code_of(bytes: &[u8]) -> Result<(u8, &[u8]), ReadFault>
     ensures { Gives (λ x. (x.0, x.1.now)) result (code_from bytes.now) }
 {
     let (code, rest) = byte_of(bytes)?;
-    if code < 1 || 11 < code {
+    if code < 1 || LAST_CODE < code {
         return Err(stop_at(bytes, WireCause::Code));
     }
     Ok((code, rest))

@@ -9,7 +9,7 @@ use crate::fields::{byte_of, count_of, objects_of, results_of, u16_of, u32_of};
 use crate::kinds::{RequestKind, request_kind};
 use crate::message::Request;
 use std::alloc::Global;
-use sv_world::{ClientId, copy_objects};
+use sv_world::{ClientId, MOST_INTEREST, MOST_ITEMS, copy_objects};
 
 #[tactic(auto, unfolding(crate::specs::Messages::join_request_from))]
 fn join_of(alloc: Global, bytes: &[u8]) -> Result<(Request, &[u8]), ReadFault>
@@ -17,7 +17,7 @@ fn join_of(alloc: Global, bytes: &[u8]) -> Result<(Request, &[u8]), ReadFault>
 {
     let (client, rest) = u16_of(bytes)?;
     let (life, rest) = u32_of(rest)?;
-    let (count, rest) = count_of(0, 64, rest)?;
+    let (count, rest) = count_of(0, MOST_INTEREST as u8, rest)?;
     let (objects, rest) = objects_of(alloc, count, rest)?;
     let interest = copy_objects(alloc, objects.as_slice())?;
     Ok((
@@ -43,7 +43,7 @@ fn submit_of(alloc: Global, bytes: &[u8]) -> Result<(Request, &[u8]), ReadFault>
 fn done_of(alloc: Global, bytes: &[u8]) -> Result<(Request, &[u8]), ReadFault>
     ensures { Gives (λ x. (x.0, x.1.now)) result (done_from bytes.now) }
 {
-    let (count, rest) = count_of(1, 33, bytes)?;
+    let (count, rest) = count_of(1, MOST_ITEMS as u8, bytes)?;
     let (results, rest) = results_of(alloc, count, rest)?;
     Ok((Request::Done { results }, rest))
 }
