@@ -21,7 +21,7 @@ use Rattle.sv_world.specs.declared.node.Comparison.{Comparison}
 use Rattle.sv_world.specs.declared.node.Comparison.TheVariants as comparisons
 use Rattle.sv_world.specs.declared.node.Connective.{Connective}
 use Rattle.sv_world.specs.declared.node.Connective.TheVariants as joints
-use Rattle.sv_text.specs.Reading.{◌>>=◌, Read, mark_code, is_same, is_mark, is_at, mark_of, front_of, front, rest_of, fault, unexpected, expect, slot_from, slot_or, slot_at, start, part_or, marked, op_of, op_at, leaf_by, leaf_at, closed_by, pair_by, expr_by, expr_at, comparison_of, comparison_at, joint_of, joint_at, compare_by, joined_by, join_by, not_by, cond_by, cond_at}
+use Rattle.sv_text.specs.Reading.{◌>>=◌, Read, mark_code, is_same, is_mark, is_at, mark_of, front_of, front, rest_of, fault, unexpected, expect, slot_from, slot_or, slot_at, start, part_or, marked, op_of, op_at, leaf_by, leaf_at, closed_by, pair_by, expr_by, expr_at, comparison_of, comparison_at, joint_of, joint_at, compare_by, joined_with, join_by, not_by, cond_by, cond_at}
 use Rattle.sv_text.specs.Grammar.{Place, Form, IsMark, IsNode, IsNumber, IsRef, op_mark, comparison_mark, joint_mark, AreTwo, IsPair, IsExpr, IsTest, IsJoined, IsNot, IsCond}
 
 -- a step that does not fail
@@ -197,10 +197,10 @@ compare_again exprs form again c a b p q t =
     (ap (λ (s : Place). closed_by exprs marks.CloseTest s.0 s.1) t.between.1 ∙ closed_again exprs marks.CloseTest b t.two t.three q (again b t.two t.three t.right) t.closed) refl))
 
 join_again : (below : ℕ → List Lexeme → Read Cond) (form : Form Cond) → Reads below form → (j : Connective) (a b : Cond) (p q : Place) → AreTwo form a (joint_mark j) b marks.Close p q → join_by below p.0 p.1 ≡ gives (with_joint j a b) q
-unfolding join_by joined_by
+unfolding join_by joined_with
 join_again below form again j a b p q t =
-    then_ok (below p.0 p.1) (λ a. joint_at a.2 >>= λ j. joined_by below j a.0 a.1 (rest_of a.2)) (a, t.one.0, t.one.1) (gives (with_joint j a b) q) (again a p t.one t.left)
-    (then_ok (joint_at t.one.1) (λ j. joined_by below j a t.one.0 (rest_of t.one.1)) j (gives (with_joint j a b) q) (joint_again j t.one.1 t.between.0)
+    then_ok (below p.0 p.1) (λ a. joint_at a.2 >>= λ j. joined_with below j a.0 a.1 (rest_of a.2)) (a, t.one.0, t.one.1) (gives (with_joint j a b) q) (again a p t.one t.left)
+    (then_ok (joint_at t.one.1) (λ j. joined_with below j a t.one.0 (rest_of t.one.1)) j (gives (with_joint j a b) q) (joint_again j t.one.1 t.between.0)
     (then_ok (closed_by below marks.Close t.one.0 (rest_of t.one.1)) (λ b. Ok (with_joint j a b.0, b.1, b.2)) (b, q.0, q.1) (gives (with_joint j a b) q)
     (ap (λ (s : Place). closed_by below marks.Close s.0 s.1) t.between.1 ∙ closed_again below marks.Close b t.two t.three q (again b t.two t.three t.right) t.closed) refl))
 

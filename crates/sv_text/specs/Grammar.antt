@@ -9,6 +9,7 @@ use Rattle.sv_world.specs.declared.action.Cond.{Cond}
 use Rattle.sv_world.specs.declared.action.Cond.TheVariants as test
 use Rattle.sv_world.specs.declared.action.Stmt.{Stmt}
 use Rattle.sv_world.specs.declared.action.Stmt.TheVariants as stmt
+use Rattle.sv_world.specs.Limits.{most_reads, most_nodes, most_depth}
 use Rattle.sv_world.specs.Parts.{binary_by as with_op, compare_by as with_comparison, join_by as with_joint}
 use Rattle.sv_text.specs.declared.token.Mark.{Mark}
 use Rattle.sv_text.specs.declared.token.Mark.TheVariants as marks
@@ -36,7 +37,7 @@ IsMark m p q = (front p.1 ≡ Some m) × ((p.0, rest_of p.1) ≡ q)
 
 -- a word or sign that starts a node, one of at most 64
 abbrev pub IsNode : Mark → Place → Place → Type 0
-IsNode m p q = (front p.1 ≡ Some m) × (p.0 < 64) × ((p.0 + 1, rest_of p.1) ≡ q)
+IsNode m p q = (front p.1 ≡ Some m) × (p.0 < most_nodes) × ((p.0 + 1, rest_of p.1) ≡ q)
 
 -- a number that does not directly follow a word or number
 abbrev pub IsNumber : ℤ → List Lexeme → List Lexeme → Type 0
@@ -89,7 +90,7 @@ pub record IsPair (form : Form Expr) (e : Expr) (p q : Place) : Type 0 where
 pub record IsLiteral (e : Expr) (p q : Place) : Type 0 where
   pub number : ℤ
   pub made : expr.Lit number ≡ e
-  pub few : p.0 < 64
+  pub few : p.0 < most_nodes
   pub count : p.0 + 1 ≡ q.0
   pub here : IsNumber number p.1 q.1
 
@@ -97,7 +98,7 @@ pub record IsAttr (reads : List ObjectId) (e : Expr) (p q : Place) : Type 0 wher
   pub slot : ℕ
   pub attr : ℕ
   pub made : expr.Attr slot attr ≡ e
-  pub few : p.0 < 64
+  pub few : p.0 < most_nodes
   pub count : p.0 + 1 ≡ q.0
   pub here : IsRef reads slot attr p.1 q.1
 
@@ -220,7 +221,7 @@ pub record AreReads (reads : List ObjectId) (text rest : List Lexeme) : Type 0 w
   pub behind : IsWord marks.Writes two rest
   pub ascending : IsAscending 0 reads
   pub some : 0 < length reads
-  pub few : length reads ≤ 16
+  pub few : length reads ≤ most_reads
 
 -- the written objects, which are read
 pub record AreWrites (reads : List ObjectId) (mask : ℕ) (text rest : List Lexeme) : Type 0 where
@@ -254,5 +255,5 @@ pub record IsActionText (a : Action) (text : List Lexeme) : Type 0 where
   pub reads : AreReads a.reads text one
   pub writes : AreWrites a.reads a.mask one two
   pub origin : MayBeOrigin a.origin two three
-  pub body : IsBlock (IsStmt a.reads 8) a.body (0, three) four
+  pub body : IsBlock (IsStmt a.reads most_depth) a.body (0, three) four
   pub end : IsMark marks.End four five
