@@ -13,8 +13,8 @@ pub record IsNewDoor {R : Type 0} (door : TcpDoor R) : Type 0 where
   pub faultless : door.book.faults.value ≡ 0
 
 -- what an end over TCP tells of itself, and its count of faults
-abbrev pub told_by : TcpEnd → Told
-told_by end = told_of end.log
+abbrev pub end_told : TcpEnd → Told
+end_told end = told_of end.log
 
-abbrev pub faults_of : TcpEnd → ℕ
-faults_of end = end.log.faults
+abbrev pub end_faults : TcpEnd → ℕ
+end_faults end = end.log.faults

@@ -3,7 +3,7 @@ ghost use Rattle.std.specs.Prelude.{◌≡◌, suc, ◌+◌, ◌<◌, ◌≤◌,
 ghost use Rattle.std.specs.Vec.{vec_len, vec_capacity};
 ghost use Rattle.sv_link.specs.Ends.{new_end};
 ghost use Rattle.sv_link.specs.Logs.{told_of};
-ghost use Rattle.sv_link.specs.Rooms.{HasRoom};
+ghost use Rattle.sv_link.specs.Rooms.{CanOpen};
 ghost use Rattle.sv_door.specs.Doors.{passage_of};
 
 use std::alloc::Global;
@@ -51,7 +51,7 @@ impl Book {
 
     /// Takes the room for one end more. False where there is no memory.
     pub(crate) fn takes_room(&mut self) -> bool
-        ensures room { IsTrue result → HasRoom self.new.given self.new.owed self.new.made }
+        ensures room { IsTrue result → CanOpen self.new.given self.new.owed self.new.made }
         ensures same { (self.new.given.items ≡ self.old.given.items) × (self.new.made ≡ self.old.made) × (self.new.owed ≡ self.old.owed) × (self.new.faults ≡ self.old.faults) }
     {
         let Some(owed) = self.owed.checked_add(1) else {
@@ -62,7 +62,7 @@ impl Book {
 
     /// Gives the log of a new end.
     pub(crate) fn open(&mut self, alloc: Global, side: Side) -> EndLog
-        requires room { HasRoom self.old.given self.old.owed self.old.made }
+        requires room { CanOpen self.old.given self.old.owed self.old.made }
         ensures told { (told_of result ≡ new_end self.old.made side) × (result.faults ≡ 0) }
         ensures made { (self.new.made ≡ suc self.old.made) × (self.new.owed ≡ suc self.old.owed) }
         ensures same { (self.new.given.items ≡ self.old.given.items) × (self.new.faults ≡ self.old.faults) }

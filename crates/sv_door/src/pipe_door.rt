@@ -1,6 +1,6 @@
 //! A door in memory, for threads.
 ghost use Rattle.std.specs.Prelude.{◌≡◌, ◌<◌, [], ◌∷◌, ◌++◌, IfOk, IfSome, OnOk, OnErr, false};
-ghost use Rattle.sv_link.specs.Rooms.{HasRoom};
+ghost use Rattle.sv_link.specs.Rooms.{CanOpen};
 
 use crate::book::Book;
 use crate::doors::{Door, Made};
@@ -99,7 +99,7 @@ impl<'r, R: Wait> PipeDoor<'r, R> {
     // Takes the room for an end, and gives the plan of its calls. None where there is no memory.
     fn prepares(&mut self) -> Option<Plan>
         ensures plan { IfSome result (λ plan. plan.failing.items ≡ (plans_of self.old).ends) }
-        ensures room { IfSome result (λ plan. HasRoom self.new.book.given self.new.book.owed self.new.book.made) }
+        ensures room { IfSome result (λ plan. CanOpen self.new.book.given self.new.book.owed self.new.book.made) }
         ensures book { (self.new.book.given.items ≡ self.old.book.given.items) × (self.new.book.made ≡ self.old.book.made) × (self.new.book.owed ≡ self.old.book.owed) × (self.new.book.faults ≡ self.old.book.faults) }
         ensures same { (port_of self.new ≡ port_of self.old) × (plans_of self.new ≡ plans_of self.old) }
     {

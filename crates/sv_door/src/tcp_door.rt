@@ -1,6 +1,6 @@
 //! A door over TCP on this machine.
 ghost use Rattle.std.specs.Prelude.{◌≡◌};
-ghost use Rattle.sv_link.specs.Rooms.{HasRoom};
+ghost use Rattle.sv_link.specs.Rooms.{CanOpen};
 ghost use Rattle.sv_door.specs.Doors.{MakesEnd, OwesEnd, MadeCause};
 
 use crate::book::Book;
@@ -32,7 +32,7 @@ struct Bound {
 }
 
 impl<'r, R: Sockets<Listener = TcpListener, Stream = TcpStream> + Clock> TcpDoor<'r, R> {
-    ghost use Rattle.sv_door.specs.Tcp.{IsNewDoor, told_by, faults_of};
+    ghost use Rattle.sv_door.specs.Tcp.{IsNewDoor, end_told, end_faults};
 
     /// No end was made, and no port is bound.
     pub fn new(alloc: Global, rt: &'r R) -> TcpDoor<'r, R>
@@ -65,8 +65,8 @@ impl<'r, R: Sockets<Listener = TcpListener, Stream = TcpStream> + Clock> TcpDoor
 
     // The end that a new stream is, or why there is none.
     fn entered(&mut self, stream: io::Result<TcpStream>, side: Side) -> Made<TcpEnd>
-        requires room { HasRoom self.old.book.given self.old.book.owed self.old.book.made }
-        ensures made { MakesEnd told_by faults_of side self.old.book.made self.new.book.made result }
+        requires room { CanOpen self.old.book.given self.old.book.owed self.old.book.made }
+        ensures made { MakesEnd end_told end_faults side self.old.book.made self.new.book.made result }
         ensures owed { OwesEnd self.old.book.owed self.new.book.owed result }
         ensures given { self.new.book.given.items ≡ self.old.book.given.items }
         ensures cause { MadeCause self.old.book.faults.value self.new.book.faults.value result }
@@ -120,7 +120,7 @@ impl<'r, R: Sockets<Listener = TcpListener, Stream = TcpStream> + Clock> Door fo
 }
 
 // How often `connect` tries, and how long it waits between two tries: ten seconds in all.
-const TRIES: u32 = 501;
+const CONNECT_TRIES: u32 = 501;
 
 const PAUSE_MILLIS: u64 = 20;
 
@@ -128,7 +128,7 @@ fn connected<R: Sockets<Listener = TcpListener, Stream = TcpStream> + Clock>(
     rt: &R,
     port: u16,
 ) -> io::Result<TcpStream> {
-    for _ in 1..TRIES {
+    for _ in 1..CONNECT_TRIES {
         match connected_at_once(rt, port) {
             Err(error) if error.kind() == ErrorKind::ConnectionRefused => {
                 thread::sleep(rt, Duration::from_millis(PAUSE_MILLIS))

@@ -4,7 +4,7 @@ ghost use Rattle.std.specs.Vec.{vec_len, vec_capacity};
 ghost use Rattle.sv_link.specs.Ends.{new_end};
 ghost use Rattle.sv_link.specs.Logs.{told_of};
 ghost use Rattle.sv_link.specs.Nets.{Arrived, BothArrived, Settles, SettleCause, counted};
-ghost use Rattle.sv_link.specs.Rooms.{HasRoom};
+ghost use Rattle.sv_link.specs.Rooms.{CanOpen};
 ghost use Rattle.sv_link.specs.declared.side.Side.TheVariants.{Server, Client};
 
 use crate::log::EndLog;
@@ -55,7 +55,7 @@ impl Book {
 
     /// Takes the room for one pair more. False where there is no memory.
     pub(crate) fn takes_room(&mut self) -> bool
-        ensures room { IsTrue result → HasRoom self.new.settled self.new.owed self.new.made }
+        ensures room { IsTrue result → CanOpen self.new.settled self.new.owed self.new.made }
         ensures same { (self.new.settled.items ≡ self.old.settled.items) × (self.new.made ≡ self.old.made) × (self.new.owed ≡ self.old.owed) × (self.new.faults ≡ self.old.faults) }
     {
         let Some(owed) = self.owed.checked_add(1) else {
@@ -66,7 +66,7 @@ impl Book {
 
     /// Gives a new pair's two ends: the server's, and the client's.
     pub(crate) fn open(&mut self, alloc: Global) -> (EndLog, EndLog)
-        requires room { HasRoom self.old.settled self.old.owed self.old.made }
+        requires room { CanOpen self.old.settled self.old.owed self.old.made }
         ensures server { (told_of result.0 ≡ new_end self.old.made Server) × (result.0.faults ≡ 0) }
         ensures client { (told_of result.1 ≡ new_end self.old.made Client) × (result.1.faults ≡ 0) }
         ensures made { (self.new.made ≡ suc self.old.made) × (self.new.owed ≡ suc self.old.owed) }

@@ -1,15 +1,15 @@
 //! A net over TCP, between threads of one process.
 ghost use Rattle.std.specs.Prelude.{◌≡◌, []};
-ghost use Rattle.std.specs.Io.{ReadsAtMost, WritesAtMost};
 
 use crate::book::Book;
 use crate::ends::{End, EndRead, EndWrote};
-use crate::log::{EndLog, PIECE};
+use crate::log::{EndLog, MOST_READ};
 use crate::nets::{Net, Pair, Settle};
 use std::alloc::Global;
 use std::io;
-use std::io::{ErrorKind, Read, Write};
+use std::io::ErrorKind;
 use std::net::{Net as Sockets, Shutdown, TcpListener, TcpStream};
+use sv_bytes::{read_again, write_again};
 
 /// An end of a TCP connection.
 #[derive(Drop)]
@@ -45,7 +45,7 @@ impl End for TcpEnd {
     ghost calm = { λ _. ⊥ };
 
     fn read(&mut self, into: &mut [u8]) -> EndRead {
-        let most = into.len().min(PIECE);
+        let most = into.len().min(MOST_READ);
         if self.log.received.reserve(most).is_err() {
             return EndRead::Memory;
         }
@@ -174,31 +174,4 @@ fn connected<R: Sockets<Listener = TcpListener, Stream = TcpStream>>(
     server.set_nodelay(true)?;
     client.set_nodelay(true)?;
     Ok((server, client))
-}
-
-// How often a call is made anew that a signal broke off.
-const TRIES: u32 = 1000;
-
-fn read_again(stream: &mut TcpStream, into: &mut [u8]) -> io::Result<usize>
-    ensures { ReadsAtMost result into.new }
-{
-    for _ in 1..TRIES {
-        match stream.read(into) {
-            Err(error) if error.kind() == ErrorKind::Interrupted => {}
-            answer => return answer,
-        }
-    }
-    stream.read(into)
-}
-
-fn write_again(stream: &mut TcpStream, piece: &[u8]) -> io::Result<usize>
-    ensures { WritesAtMost result piece.now }
-{
-    for _ in 1..TRIES {
-        match stream.write(piece) {
-            Err(error) if error.kind() == ErrorKind::Interrupted => {}
-            answer => return answer,
-        }
-    }
-    stream.write(piece)
 }

@@ -1,3 +1,4 @@
+//! The lock, and what a caller does with a pass.
 ghost use Rattle.std.specs.Prelude.{◌≡◌, ℕ, ◌+◌, ◌<◌, ◌≤◌, List, [], ◌∷◌, ◌++◌, Some, None, IfOk, IfErr, OnErr, IsOk, IsSome};
 ghost use mathlib.Core.List.{IsPrefix};
 ghost use Rattle.sv_lock.specs.Histories.{entries_of, AreJust, AreBelow, GoesOn};
