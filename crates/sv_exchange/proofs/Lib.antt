@@ -1,3 +1,4 @@
+-- The lemmas of this crate, file by file.
 pub mod Onward
 pub mod Messages
 pub mod Sizes

@@ -1,3 +1,4 @@
+-- The definitions of this crate, file by file.
 pub mod Streams
 pub mod Carried
 pub mod View

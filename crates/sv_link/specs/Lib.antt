@@ -1,3 +1,4 @@
+-- The definitions of this crate, file by file.
 pub mod Sides
 pub mod Ends
 pub mod Nets

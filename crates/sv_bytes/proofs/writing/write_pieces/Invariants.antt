@@ -1,3 +1,4 @@
+-- The loop invariant of `write_pieces`.
 use Rattle.std.proofs.Common.{◌≡◌, take}
 use Rattle.sv_bytes.specs.Writing.{Grew, joined_pieces}
 use Rattle.sv_bytes.proofs.writing.write_pieces.Given as goal

@@ -1,3 +1,4 @@
+-- What is proved by hand of `no_frame_begins_another`.
 use Rattle.sv_exchange.proofs.Apart.{request_frames_differ, reply_frames_differ, kinds_differ}
 use Rattle.sv_exchange.proofs.laws.no_frame_begins_another.Goals as goal
 

@@ -1,3 +1,4 @@
+-- What is proved by hand of `arrived`.
 use Rattle.std.proofs.Common.{rules}
 use Rattle.sv_link.proofs.Arrivals.{prefix_decided, whole_by_length}
 use Rattle.sv_link.proofs.book.arrived.Goals as goal

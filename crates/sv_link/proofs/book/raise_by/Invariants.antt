@@ -1,3 +1,4 @@
+-- The loop invariant of `raise_by`.
 use Rattle.std.proofs.Common.{◌≡◌, ◌+◌}
 use Rattle.sv_link.proofs.book.raise_by.Given as goal
 

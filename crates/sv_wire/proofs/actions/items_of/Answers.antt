@@ -1,3 +1,4 @@
+-- What is proved by hand of `items_of`.
 use Rattle.std.proofs.lemmas.Result.{err_from_is_err_and}
 use Rattle.sv_wire.specs.Messages.{item_from}
 use Rattle.sv_wire.specs.Steps.{several}

@@ -1,3 +1,4 @@
+-- The loop invariant of `items_of`.
 use Rattle.std.proofs.Common.{◌≡◌, ◌-◌}
 use Rattle.sv_wire.specs.Messages.{item_from}
 use Rattle.sv_wire.specs.Steps.{several}

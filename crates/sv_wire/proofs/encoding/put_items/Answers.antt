@@ -1,3 +1,4 @@
+-- What is proved by hand of `put_items`.
 use Rattle.sv_wire.specs.Spelling.{item_bytes}
 use Rattle.sv_wire.proofs.Append.{written_more}
 use Rattle.sv_wire.proofs.encoding.put_items.Goals as goal

@@ -1,3 +1,4 @@
+-- What is proved by hand of the functions of the cycle `exprs`.
 use Rattle.std.proofs.lemmas.Result.{err_from_is_err_and}
 use Rattle.sv_world.specs.Spelled.{expr_spelled}
 use Rattle.sv_wire.specs.Trees.{expr_from}

@@ -1,3 +1,4 @@
+-- What is proved by hand of `helds_of`.
 use Rattle.std.proofs.lemmas.Result.{err_from_is_err_and}
 use Rattle.std.proofs.Common.{Ok, refl}
 use Rattle.sv_wire.specs.Fields.{held_from, helds_from}

@@ -1,3 +1,4 @@
+-- The loop invariant of `helds_of`.
 use Rattle.std.proofs.Common.{◌≡◌, ◌-◌}
 use Rattle.sv_wire.specs.Fields.{held_from}
 use Rattle.sv_wire.specs.Steps.{in_turn}

@@ -1,3 +1,4 @@
+-- What is proved by hand of `numbers_of`.
 use Rattle.std.proofs.lemmas.Result.{err_from_is_err_and}
 use Rattle.std.proofs.lemmas.Int.{to_z-of_z}
 use Rattle.std.proofs.Common.{◌≡◌, ◌++◌, ◌∷◌, []}

@@ -1,3 +1,4 @@
+-- The loop invariant of `numbers_of`.
 use Rattle.std.proofs.Common.{◌≡◌, ◌-◌}
 use Rattle.sv_wire.specs.Fields.{int_from}
 use Rattle.std.specs.Int.{w64}

@@ -1,3 +1,4 @@
+-- The loop invariant of `objects_of`.
 use Rattle.std.proofs.Common.{◌≡◌, ◌-◌}
 use Rattle.sv_wire.specs.Fields.{object_from}
 use Rattle.sv_wire.specs.Steps.{in_turn}

@@ -1,3 +1,4 @@
+-- The loop invariant of `results_of`.
 use Rattle.std.proofs.Common.{◌≡◌, ◌-◌}
 use Rattle.sv_wire.specs.Fields.{result_from}
 use Rattle.sv_wire.specs.Steps.{several}

@@ -1,3 +1,4 @@
+-- What is proved by hand of `values_of`.
 use Rattle.std.proofs.lemmas.Result.{err_from_is_err_and}
 use Rattle.sv_wire.specs.Fields.{value_from}
 use Rattle.sv_wire.specs.Steps.{several}

@@ -1,3 +1,4 @@
+-- The loop invariant of `values_of`.
 use Rattle.std.proofs.Common.{◌≡◌, ◌-◌}
 use Rattle.sv_wire.specs.Fields.{value_from}
 use Rattle.sv_wire.specs.Steps.{several}

@@ -1,3 +1,4 @@
+-- What is proved by hand of `no_payload_begins_another`.
 use Rattle.sv_wire.proofs.AgainMessages.{requests_apart, replies_apart, kinds_apart}
 use Rattle.sv_wire.proofs.laws.no_payload_begins_another.Goals as goal
 

@@ -1,3 +1,4 @@
+-- What is proved by hand of `put_numbers`.
 use Rattle.std.proofs.Common.{◌≡◌, ◌++◌, get_or, pos, refl, SFits, rules}
 use Rattle.std.proofs.lemmas.Int.{to_z-of_z}
 use Rattle.std.specs.Int.{w64}

@@ -1,3 +1,4 @@
+-- What is proved by hand of the functions of the cycle `stmts`.
 use Rattle.std.proofs.lemmas.Result.{err_from_is_err_and}
 use Rattle.sv_world.specs.Spelled.{stmt_spelled, run_spelled}
 use Rattle.sv_wire.specs.Steps.{in_turn}

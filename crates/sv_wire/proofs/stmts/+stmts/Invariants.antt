@@ -1,3 +1,4 @@
+-- The loop invariant and the measures of the functions of the cycle `stmts`.
 use Rattle.std.proofs.Common.{◌≡◌, ◌≤◌, ◌+◌, ◌-◌, ◌*◌}
 use Rattle.sv_world.specs.Spelled.{run_spelled}
 use Rattle.sv_wire.specs.Steps.{in_turn}

@@ -1,3 +1,4 @@
+-- What is proved by hand of `FrameReader::skip`.
 use Rattle.std.proofs.Common.{◌≡◌, Some, List, ℕ, ◌+◌, ◌-◌, ◌≤◌, ◌++◌, take, drop, refl, sym, ap, ◌∙◌, arith, length-take}
 use Rattle.sv_frame.specs.Frames.{frame, first_frame}
 use Rattle.sv_frame.proofs.Fronts.{no_frame_if_too_long, some_pair}

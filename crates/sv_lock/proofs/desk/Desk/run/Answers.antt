@@ -1,3 +1,4 @@
+-- What is proved by hand of `Desk::run`.
 use Rattle.sv_lock.proofs.Calls.{held, may_return, ran}
 use Rattle.sv_lock.proofs.desk.Desk.run.Goals as goal
 

@@ -1,3 +1,4 @@
+-- What is proved by hand of `Desk::take_or_ask`.
 use Rattle.std.proofs.Common.{rules}
 use Rattle.sv_lock.proofs.Keeps.{tries, swap_takes}
 use Rattle.sv_lock.proofs.desk.Desk.take_or_ask.Goals as goal

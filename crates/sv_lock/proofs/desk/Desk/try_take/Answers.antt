@@ -1,3 +1,4 @@
+-- What is proved by hand of `Desk::try_take`.
 use Rattle.std.proofs.Common.{rules}
 use Rattle.sv_lock.proofs.Keeps.{tries, exchange_takes}
 use Rattle.sv_lock.proofs.desk.Desk.try_take.Goals as goal
