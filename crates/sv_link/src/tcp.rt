@@ -1,10 +1,12 @@
 //! A net over TCP, between threads of one process.
-ghost use Rattle.std.specs.Prelude.{◌≡◌, []};
+ghost use Rattle.std.specs.Prelude.{◌≡◌};
+ghost use Rattle.sv_link.specs.Books.{IsNewBook};
 
 use crate::book::Book;
 use crate::ends::{End, EndRead, EndWrote};
 use crate::log::{EndLog, MOST_READ};
 use crate::nets::{Net, Pair, Settle};
+use crate::pairs::{Settled, open_pair, settle_pair};
 use std::alloc::Global;
 use std::io;
 use std::io::ErrorKind;
@@ -90,15 +92,13 @@ pub struct TcpNet<'r, R: Sockets<Listener = TcpListener, Stream = TcpStream>> {
     alloc: Global,
     rt: &'r R,
     listener: Option<TcpListener>,
-    book: Book,
+    book: Book<Settled>,
 }
 
 impl<'r, R: Sockets<Listener = TcpListener, Stream = TcpStream>> TcpNet<'r, R> {
-    ghost use Rattle.sv_link.specs.Tcp.{IsNewNet};
-
     /// No pair was made. The first one binds a port.
     pub fn new(alloc: Global, rt: &'r R) -> TcpNet<'r, R>
-        ensures { IsNewNet result }
+        ensures { IsNewBook result.book }
     {
         TcpNet {
             alloc,
@@ -124,7 +124,7 @@ impl<'r, R: Sockets<Listener = TcpListener, Stream = TcpStream>> TcpNet<'r, R> {
 impl<'r, R: Sockets<Listener = TcpListener, Stream = TcpStream>> Net for TcpNet<'r, R> {
     type E = TcpEnd;
 
-    ghost settled = { λ n. n.book.settled.items };
+    ghost settled = { λ n. n.book.kept.items };
 
     ghost made = { λ n. n.book.made };
 
@@ -140,7 +140,7 @@ impl<'r, R: Sockets<Listener = TcpListener, Stream = TcpStream>> Net for TcpNet<
         }
         match self.connect() {
             Ok((at_server, at_client)) => {
-                let (server, client) = self.book.open(self.alloc);
+                let (server, client) = open_pair(&mut self.book, self.alloc);
                 let server = TcpEnd::new(at_server, server);
                 let client = TcpEnd::new(at_client, client);
                 Pair::Made(server, client)
@@ -154,8 +154,9 @@ impl<'r, R: Sockets<Listener = TcpListener, Stream = TcpStream>> Net for TcpNet<
     }
 
     fn settle(&mut self, server: TcpEnd, client: TcpEnd, cut: bool) -> Settle {
-        self.book
-            .settle(server.into_log(), client.into_log(), cut, false)
+        let server = server.into_log();
+        let client = client.into_log();
+        settle_pair(&mut self.book, server, client, cut, false)
     }
 }
 
