@@ -176,6 +176,10 @@ whole reader bytes = do
   m ← reader bytes
   if length m.1 == 0 then Ok m.0 else stop m.1 Rest
 
+-- The first refused field of a payload is not farther behind its first byte.
+abbrev pub farthest_field : ℕ
+farthest_field = 40000
+
 -- The first refused field is named by the offset of its first byte.
 abbrev pub placed : {A : Type 0} → List ℕ → Result A Stop → Result A Malformed
 placed payload (Ok m) = Ok m
