@@ -1,11 +1,12 @@
 -- What a core's fields say of a history.
 use Rattle.std.specs.Prelude.{◌≡◌, ℕ, zero, suc, ◌+◌, ◌*◌, ◌<◌, ◌≤◌, true, Some, None, List, map, length, All, slice_get, slice_index_or, if◌then◌else◌}
 use Rattle.sv_world.specs.Control.{is_in}
+use Rattle.sv_world.specs.Limits.{most_requests}
 use Rattle.sv_queue.specs.Queue.{QueueView}
 use Rattle.sv_journal.specs.declared.entry.Entry.{Entry}
 use Rattle.sv_journal.specs.History.{Accepted, outcomes_of, accepted, result_at, commit_of}
 use Rattle.sv_journal.specs.Sessions.{life_of, sent_to, named_to}
-use Rattle.sv_journal.specs.Answer.{Rules, most_requests}
+use Rattle.sv_journal.specs.Answer.{Rules}
 use Rattle.sv_sequencer.specs.declared.clients.ClientRow.{ClientRow}
 use Rattle.sv_sequencer.specs.declared.clients.Clients.{Clients}
 use Rattle.sv_sequencer.specs.declared.sessions.SessionRow.{SessionRow}

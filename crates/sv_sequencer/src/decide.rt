@@ -3,11 +3,12 @@ ghost use Rattle.std.specs.Prelude.{◌≡◌, ℕ, List, ◌<◌, ◌≤◌, So
 ghost use Rattle.std.specs.List.{list_all};
 ghost use Rattle.sv_world.specs.declared.world.ObjectId.{ObjectId};
 ghost use Rattle.sv_world.specs.Faults.{first_fault_of_action, IsGoodAction};
+ghost use Rattle.sv_world.specs.Limits.{most_requests};
 ghost use Rattle.sv_wire.specs.declared.message.Request.TheVariants as requests;
 ghost use Rattle.sv_journal.specs.declared.entry.Entry.{Entry};
 ghost use Rattle.sv_journal.specs.History.{Accepted, accepted, client_of, next_seq};
 ghost use Rattle.sv_journal.specs.Sessions.{asked_in, is_live, kept_outcome};
-ghost use Rattle.sv_journal.specs.Answer.{most_requests, reply_to_request, reply_to_open, reply_to_join, reply_to_member, reply_to_submit, reply_to_new, reply_to_good, reply_to_done, reply_to_poll, orphans, is_good_interest, is_over_reach};
+ghost use Rattle.sv_journal.specs.Answer.{reply_to_request, reply_to_open, reply_to_join, reply_to_member, reply_to_submit, reply_to_new, reply_to_good, reply_to_done, reply_to_poll, orphans, is_good_interest, is_over_reach};
 ghost use Rattle.sv_sequencer.specs.Decisions.{reply_by, Holds};
 ghost use Rattle.sv_sequencer.specs.Cores.{rules_of, Keeps};
 

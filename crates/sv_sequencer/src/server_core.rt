@@ -5,11 +5,12 @@ ghost use Rattle.std.specs.Prelude.{◌≡◌, ℕ, List, suc, ◌+◌, ◌<◌,
 ghost use Rattle.std.specs.List.{list_any};
 ghost use Rattle.sv_world.specs.Control.{chain_length, influence_distance};
 ghost use Rattle.sv_world.specs.Faults.{IsGoodAction};
+ghost use Rattle.sv_world.specs.Limits.{most_requests};
 ghost use Rattle.sv_queue.specs.Worlds.{IsGoodWorld};
 ghost use Rattle.sv_journal.specs.declared.entry.Entry.{Entry};
 ghost use Rattle.sv_journal.specs.History.{Accepted, client_of, accepted, actions_of, next_seq, commit_of, committed_of};
 ghost use Rattle.sv_journal.specs.Sessions.{is_over, asked_in, life_of, kept_outcome};
-ghost use Rattle.sv_journal.specs.Answer.{is_bad_result, is_bad_done, is_over_reach, most_requests, orphans};
+ghost use Rattle.sv_journal.specs.Answer.{is_bad_result, is_bad_done, is_over_reach, orphans};
 ghost use Rattle.sv_sequencer.specs.Clients.{outcome_value};
 ghost use Rattle.sv_sequencer.specs.Cores.{rules_of, owed_by, queue_of, Keeps, IsKept};
 ghost use Rattle.sv_sequencer.specs.Rows.{is_ended};

@@ -7,15 +7,17 @@ use Rattle.sv_world.specs.declared.check.BadAction.{BadAction}
 use Rattle.sv_world.specs.declared.world.ObjectId.{ObjectId}
 use Rattle.sv_world.specs.Control.{chain_length, influence_distance}
 use Rattle.sv_world.specs.Faults.{first_fault_of_action}
+use Rattle.sv_world.specs.Limits.{most_requests}
 use Rattle.sv_wire.specs.declared.message.Done1.{Done1}
 use Rattle.sv_wire.specs.declared.message.Request.{Request}
 use Rattle.sv_wire.specs.declared.message.Request.TheVariants as requests
+use Rattle.sv_wire.specs.declared.refusal.Refusal.TheVariants as refusals
 use Rattle.sv_journal.specs.declared.entry.Entry.{Entry}
 use Rattle.sv_journal.specs.declared.entry.Logged.{Logged}
 use Rattle.sv_journal.specs.declared.entry.Logged.TheVariants as logged
 use Rattle.sv_journal.specs.History.{Authored, is_noted, client_of, is_client, is_submit_of, new_action, Outcome, Accepted, Dropped, actions_of, next_seq, commit_of}
 use Rattle.sv_journal.specs.Sessions.{is_end, is_over, is_live, asked_in, life_of, kept_outcome}
-use Rattle.sv_journal.specs.Answer.{Rules, refused, is_over_reach, is_bad_done, is_good_interest, reply_to_checked, reply_to_submit, reply_to_join, reply_to_client, reply_to_member, most_requests, reply_to_request, reply_to}
+use Rattle.sv_journal.specs.Answer.{Rules, refused_as, is_over_reach, is_bad_done, is_good_interest, reply_to_checked, reply_to_submit, reply_to_join, reply_to_client, reply_to_member, reply_to_request, reply_to}
 use Rattle.sv_journal.specs.Serving.{is_poll, with_last_rows, noted_after, polled_after}
 use Rattle.sv_sequencer.specs.declared.decision.Decision.{Decision}
 use Rattle.sv_sequencer.specs.declared.decision.Decision.TheVariants as decisions
@@ -68,7 +70,7 @@ module _ (r : Rules) (g : List Entry) (s : ℕ) where
       cond_both (nat_le life (life_of g k)) _ _ IsBusy (λ _. refl) (λ _.
       cond_both (is_good_interest r.world.shape.objects xs) _ _ IsBusy (λ _. refl) (λ _. refl))))
 
-  open-busy : (w : Logged) → IsBusy w → IsBusy (if is_over g s then refused 4 0 else (if nat_le most_requests (asked_in g s) then refused 9 0 else w))
+  open-busy : (w : Logged) → IsBusy w → IsBusy (if is_over g s then refused_as refusals.Over 0 else (if nat_le most_requests (asked_in g s) then refused_as refusals.TooManyRequests 0 else w))
   open-busy w busy = cond_both (is_over g s) _ _ IsBusy (λ _. refl) (λ _. cond_both (nat_le most_requests (asked_in g s)) _ _ IsBusy (λ _. refl) (λ _. busy))
 
   request-busy : (q : Request) → is_poll q ≡ false → IsBusy (reply_to_request r g s q)
