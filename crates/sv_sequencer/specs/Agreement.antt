@@ -1,7 +1,7 @@
 -- What a core's fields say of a history.
 use Rattle.std.specs.Prelude.{◌≡◌, ℕ, zero, suc, ◌+◌, ◌*◌, ◌<◌, ◌≤◌, true, Some, None, List, map, length, All, slice_get, slice_index_or, if◌then◌else◌}
 use Rattle.sv_world.specs.Control.{is_in}
-use Rattle.sv_world.specs.Limits.{most_requests}
+use Rattle.sv_world.specs.Limits.{most_requests, most_sessions}
 use Rattle.sv_queue.specs.Queue.{QueueView}
 use Rattle.sv_journal.specs.declared.entry.Entry.{Entry}
 use Rattle.sv_journal.specs.History.{Accepted, outcomes_of, accepted, result_at, commit_of}
@@ -42,7 +42,7 @@ pub record IsSound (r : Rules) (h : List Entry) : Type 0 where
 -- The queue, the rows of sessions and clients, and the number of Ends to come are those of a history.
 pub record Agrees (r : Rules) (h : List Entry) (v : QueueView) (rows : List SessionRow) (clients : Clients) (owed : ℕ) : Type 0 where
   pub sound : IsSound r h
-  pub few_sessions : r.sessions ≤ 64
+  pub few_sessions : r.sessions ≤ most_sessions
   pub fits : Fits r.world (accepted h) (result_at h) (sent_to h) (named_to h) v
   pub commit : v.commit ≡ commit_of h
   pub session_rows : (s : ℕ) → s < r.sessions → IsSessionRow h s (slice_index_or rows s no_session)

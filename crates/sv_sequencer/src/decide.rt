@@ -13,10 +13,12 @@ ghost use Rattle.sv_sequencer.specs.Decisions.{reply_by, Holds};
 ghost use Rattle.sv_sequencer.specs.Cores.{rules_of, Keeps};
 
 use crate::clients::Outcome;
-use crate::decision::Decision;
+use crate::decision::{ActionId, Decision};
 use crate::server_core::Core;
-use sv_wire::{Done1, Request};
-use sv_world::{Action, ClientId, List, ObjectId, check_action, is_ascending};
+use sv_wire::{Done1, Refusal, Request};
+use sv_world::{
+    Action, ClientId, List, MOST_CLIENTS, MOST_INTEREST, ObjectId, check_action, is_ascending,
+};
 
 impl Core {
     /// What is done on a request in a session, where `h` is a history that the core keeps.
@@ -28,10 +30,10 @@ impl Core {
         ensures holds { Holds (rules_of self.now) h session request.now result }
     {
         if self.is_over(session) {
-            return Decision::Refuse { code: 4, detail: 0 };
+            return Decision::Refuse { refusal: Refusal::Over, detail: 0 };
         }
         if !self.has_more(session) {
-            return Decision::Refuse { code: 9, detail: 0 };
+            return Decision::Refuse { refusal: Refusal::TooManyRequests, detail: 0 };
         }
         self.decide_open(session, request)
     }
@@ -46,7 +48,7 @@ impl Core {
         ensures holds { Holds (rules_of self.now) h session request.now result }
     {
         match request {
-            Request::Bad => Decision::Refuse { code: 1, detail: 0 },
+            Request::Bad => Decision::Refuse { refusal: Refusal::Malformed, detail: 0 },
             Request::Join {
                 client,
                 life,
@@ -70,18 +72,18 @@ impl Core {
         ensures holds { Holds (rules_of self.now) h session (requests.Join client life interest.now) result }
     {
         if self.is_live(session) {
-            return Decision::Refuse { code: 3, detail: 0 };
+            return Decision::Refuse { refusal: Refusal::AlreadyJoined, detail: 0 };
         }
-        if client.0 >= 32 {
+        if client.0 >= MOST_CLIENTS {
             return Decision::Refuse {
-                code: 10,
+                refusal: Refusal::NoSuchClient,
                 detail: 0,
             };
         }
         let greatest = self.life_of(client.0);
         if life <= greatest {
             return Decision::Refuse {
-                code: 11,
+                refusal: Refusal::OldLife,
                 detail: greatest,
             };
         }
@@ -92,7 +94,7 @@ impl Core {
                 life,
             }
         } else {
-            Decision::Refuse { code: 8, detail: 0 }
+            Decision::Refuse { refusal: Refusal::BadInterest, detail: 0 }
         }
     }
 
@@ -116,7 +118,7 @@ impl Core {
         ensures holds { Holds (rules_of self.now) h session request.now result }
     {
         let Some(client) = self.client_of(session) else {
-            return Decision::Refuse { code: 2, detail: 0 };
+            return Decision::Refuse { refusal: Refusal::NotJoined, detail: 0 };
         };
         match request {
             Request::Submit { seq, action } => self.decide_submit(session, client, *seq, action),
@@ -138,29 +140,24 @@ impl Core {
     {
         match self.kept_outcome(client, seq) {
             Some(Outcome::Dropped { chain, far }) => Decision::Repeat { seq, chain, far },
-            Some(Outcome::Accepted { pos }) => self.decide_accepted(
-                session, client, seq, pos, action,
-            ),
+            Some(Outcome::Accepted { pos }) => {
+                self.decide_accepted(session, ActionId { client, seq }, pos, action)
+            }
             None => self.decide_new(session, client, seq, action),
         }
     }
 
-    fn decide_accepted(
-        &self,
-        session: u16,
-        client: u16,
-        seq: u32,
-        pos: u32,
-        action: &Action,
-    ) -> Decision
+    /// A repeated action that was accepted at a position.
+    fn decide_accepted(&self, session: u16, id: ActionId, pos: u32, action: &Action) -> Decision
         ghost h: { List Entry }
         requires keeps { Keeps self.now h }
-        requires client { client_of h session ≡ Some client }
-        requires earlier { seq < next_seq h client }
+        requires client { client_of h session ≡ Some id.client }
+        requires earlier { id.seq < next_seq h id.client }
         requires placed { pos ≤ length (accepted h) }
-        ensures reply { reply_by (rules_of self.now) h session (requests.Submit seq action.now) result ≡ reply_to_submit (rules_of self.now) h session client seq action.now (Some (Accepted pos)) }
-        ensures holds { Holds (rules_of self.now) h session (requests.Submit seq action.now) result }
+        ensures reply { reply_by (rules_of self.now) h session (requests.Submit id.seq action.now) result ≡ reply_to_submit (rules_of self.now) h session id.client id.seq action.now (Some (Accepted pos)) }
+        ensures holds { Holds (rules_of self.now) h session (requests.Submit id.seq action.now) result }
     {
+        let seq = id.seq;
         if self.is_committed(pos) {
             Decision::Settle { seq, pos }
         } else {
@@ -179,13 +176,13 @@ impl Core {
         let next = self.next_seq(client);
         if seq != next {
             return Decision::Refuse {
-                code: 5,
+                refusal: Refusal::WrongSequence,
                 detail: next,
             };
         }
         match check_action(self.shape(), action) {
             Err(cause) => Decision::Refuse {
-                code: 6,
+                refusal: Refusal::BadAction,
                 detail: u32::from(cause.code()),
             },
             Ok(()) => self.decide_good(session, client, seq, action),
@@ -224,7 +221,7 @@ impl Core {
         ensures holds { Holds (rules_of self.now) h session (requests.Done results.now) result }
     {
         if self.is_bad_done(session, results.as_slice()) {
-            Decision::Refuse { code: 7, detail: 0 }
+            Decision::Refuse { refusal: Refusal::BadResults, detail: 0 }
         } else {
             Decision::Note
         }
@@ -244,11 +241,11 @@ impl Core {
     }
 }
 
-/// Whether an interest has at most 64 objects of so many, ascending.
+/// Whether an interest has few enough objects, of so many, ascending.
 fn is_good_interest(objects: u16, interest: &[ObjectId]) -> bool
     ensures { result ≡ is_good_interest objects (map (λ (o : ObjectId). o.0) interest.now) }
 {
-    interest.len() <= 64 && is_ascending(interest) && are_below(objects, interest)
+    interest.len() <= MOST_INTEREST && is_ascending(interest) && are_below(objects, interest)
 }
 
 fn are_below(objects: u16, interest: &[ObjectId]) -> bool

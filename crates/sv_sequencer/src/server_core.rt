@@ -5,7 +5,7 @@ ghost use Rattle.std.specs.Prelude.{◌≡◌, ℕ, List, suc, ◌+◌, ◌<◌,
 ghost use Rattle.std.specs.List.{list_any};
 ghost use Rattle.sv_world.specs.Control.{chain_length, influence_distance};
 ghost use Rattle.sv_world.specs.Faults.{IsGoodAction};
-ghost use Rattle.sv_world.specs.Limits.{most_requests};
+ghost use Rattle.sv_world.specs.Limits.{most_requests, most_sessions};
 ghost use Rattle.sv_queue.specs.Worlds.{IsGoodWorld};
 ghost use Rattle.sv_journal.specs.declared.entry.Entry.{Entry};
 ghost use Rattle.sv_journal.specs.History.{Accepted, client_of, accepted, actions_of, next_seq, commit_of, committed_of};
@@ -51,7 +51,7 @@ impl Core {
         sessions: u16,
     ) -> Result<Core, AllocError>
         requires world { IsGoodWorld world }
-        requires few { sessions ≤ 64 }
+        requires few { sessions ≤ most_sessions }
         ensures rules { IfOk result (λ core. rules_of core ≡ record { world = world; bound = bound; reach = reach; sessions = sessions }) }
         ensures owed { IfOk result (λ core. owed_by core ≡ sessions) }
         ensures keeps { IfOk result (λ core. Keeps core []) }

@@ -6,6 +6,8 @@ use Rattle.sv_frame.specs.Streams.Incoming.{Payload, TooLong}
 use Rattle.sv_wire.specs.declared.fault.Malformed.{Malformed}
 use Rattle.sv_wire.specs.declared.message.Request.{Request}
 use Rattle.sv_wire.specs.declared.message.Request.TheVariants as requests
+use Rattle.sv_wire.specs.declared.refusal.Refusal.TheVariants as refusals
+use Rattle.sv_wire.specs.Refusals.{code_of}
 use Rattle.sv_wire.specs.Messages.{request_at}
 use Rattle.sv_wire.specs.Spelling.{reply_bytes}
 use Rattle.sv_journal.specs.declared.entry.Entry.{Entry}
@@ -49,7 +51,10 @@ reply_frames seen entries = frames_of (map (reply_payload seen) entries)
 
 -- why a session stops after a refusal
 abbrev pub stop_for_code : ℕ → Option SessionOut
-stop_for_code code = if code == 1 then Some outs.Malformed else if code == 4 then Some outs.Ended else if code == 9 then Some outs.Spent else None
+stop_for_code code = if code == code_of refusals.Malformed then Some outs.Malformed
+    else if code == code_of refusals.Over then Some outs.Ended
+    else if code == code_of refusals.TooManyRequests then Some outs.Spent
+    else None
 
 -- why a session stops after a reply, where it does
 abbrev pub stop_of : Logged → Option SessionOut

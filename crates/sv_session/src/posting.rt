@@ -10,18 +10,21 @@ ghost use Rattle.sv_session.specs.Answers.{IsPosted, RoundCause};
 use crate::outcome::SessionOut;
 use sv_exchange::Outbox;
 use sv_link::{End, Sent};
-use sv_wire::{Reply, read_reply};
+use sv_wire::{Refusal, Reply, read_reply};
 
 /// Why a session stops after a refusal of this code, if it does.
 fn stop_for_refusal(code: u8) -> Option<SessionOut>
     ensures stop { result ≡ stop_for_code code }
     ensures reason { IfSome result (λ out. out ≢ SessionOut.LinkFault) }
 {
-    match code {
-        1 => Some(SessionOut::Malformed),
-        4 => Some(SessionOut::Ended),
-        9 => Some(SessionOut::Spent),
-        _ => None,
+    if code == Refusal::Malformed.code() {
+        Some(SessionOut::Malformed)
+    } else if code == Refusal::Over.code() {
+        Some(SessionOut::Ended)
+    } else if code == Refusal::TooManyRequests.code() {
+        Some(SessionOut::Spent)
+    } else {
+        None
     }
 }
 

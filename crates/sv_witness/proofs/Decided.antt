@@ -137,7 +137,7 @@ module _ (r : Rules) (h : List Entry) (s : ℕ) (q : Request) (d : Decision) (mo
       go : (d : Decision) → answers_poll q d ≡ true → reply_by r (agreed_history h) s q d ≡ reply_to_request r (agreed_history h) s q → is_poll q ≡ true
       go decisions.Idle is told = idle-poll r (agreed_history h) s q told
       go (decisions.Relay seq pos) is told = is
-      go (decisions.Refuse code detail) is told = absurd (true≢false (sym is))
+      go (decisions.Refuse refusal detail) is told = absurd (true≢false (sym is))
       go (decisions.Welcome client life) is told = absurd (true≢false (sym is))
       go (decisions.Drop client seq chain far) is told = absurd (true≢false (sym is))
       go (decisions.Repeat seq chain far) is told = absurd (true≢false (sym is))
@@ -152,7 +152,7 @@ module _ (r : Rules) (h : List Entry) (s : ℕ) (q : Request) (d : Decision) (mo
       go : (d : Decision) → answers_poll q d ≡ true → with_last_rows agreed r h s q (reply_by r (agreed_history h) s q d) ≡ polled_after agreed r h s
       go decisions.Idle is = refl
       go (decisions.Relay seq pos) is = cond-true (is_poll q) _ _ is
-      go (decisions.Refuse code detail) is = absurd (true≢false (sym is))
+      go (decisions.Refuse refusal detail) is = absurd (true≢false (sym is))
       go (decisions.Welcome client life) is = absurd (true≢false (sym is))
       go (decisions.Drop client seq chain far) is = absurd (true≢false (sym is))
       go (decisions.Repeat seq chain far) is = absurd (true≢false (sym is))
@@ -168,7 +168,7 @@ is-plain r g s q decisions.Note other unasked holds = other refl
 is-plain r g s q decisions.Idle other unasked holds = true≢false unasked
 is-plain r g s q (decisions.Relay seq pos) other unasked holds = unasked
 is-plain r g s q (decisions.Accept client seq) other unasked holds = ap is_poll holds.0.submit
-is-plain r g s q (decisions.Refuse code detail) other unasked holds = tt
+is-plain r g s q (decisions.Refuse refusal detail) other unasked holds = tt
 is-plain r g s q (decisions.Welcome client life) other unasked holds = tt
 is-plain r g s q (decisions.Drop client seq chain far) other unasked holds = tt
 is-plain r g s q (decisions.Repeat seq chain far) other unasked holds = tt
@@ -201,7 +201,7 @@ done-holds r g s results decisions.Note plain holds = absurd plain
 done-holds r g s results decisions.Idle plain holds = tt
 done-holds r g s results (decisions.Relay seq pos) plain holds = (done-old g s [], holds.1)
 done-holds r g s results (decisions.Accept client seq) plain holds = absurd (true≢false (sym (ap is_submit holds.0.submit)))
-done-holds r g s results (decisions.Refuse code detail) plain holds = tt
+done-holds r g s results (decisions.Refuse refusal detail) plain holds = tt
 done-holds r g s results (decisions.Welcome client life) plain holds = record { client = holds.client; number = holds.number; above = holds.above; interest = holds.interest }
 done-holds r g s results (decisions.Drop client seq chain far) plain holds = absurd (true≢false (sym (ap is_submit holds.submit)))
 done-holds r g s results (decisions.Repeat seq chain far) plain holds = done-old g s []
@@ -224,7 +224,7 @@ done-reply r g s results decisions.Note plain = absurd plain
 done-reply r g s results decisions.Idle plain = refl
 done-reply r g s results (decisions.Relay seq pos) plain = refl
 done-reply r g s results (decisions.Accept client seq) plain = refl
-done-reply r g s results (decisions.Refuse code detail) plain = refl
+done-reply r g s results (decisions.Refuse refusal detail) plain = refl
 done-reply r g s results (decisions.Welcome client life) plain = refl
 done-reply r g s results (decisions.Drop client seq chain far) plain = refl
 done-reply r g s results (decisions.Repeat seq chain far) plain = refl

@@ -29,24 +29,9 @@ use crate::reports::{Reports, add_all, reserve_all};
 use crate::witness::Witness;
 use std::alloc::{AllocError, Global};
 use sv_journal::{Entry, Journal, Logged};
-use sv_sequencer::{Answer, Core, Decision};
+use sv_sequencer::{Answer, Core, Decision, enter, results_of};
 use sv_wire::{Done1, Reply, Request, copy_request};
 use sv_world::List;
-
-/// Enters a request with its reply into a journal that has room, and gives the reply in full.
-fn enter(journal: &mut Journal, session: u16, request: Request, answer: Answer) -> Reply
-    requires { 0 < journal.old.spare }
-    ensures journal { journal.new ≡ record { entries = journal.old.entries ++ entry_of session request answer.logged ∷ []; spare = journal.old.spare - 1 } }
-    ensures reply { result ≡ answer.reply }
-{
-    let Answer { logged, reply } = answer;
-    journal.push(Entry {
-        session,
-        request,
-        reply: logged,
-    });
-    reply
-}
 
 fn is_poll(request: &Request) -> bool
     ensures { result ≡ is_poll request.now }
@@ -75,16 +60,6 @@ fn due_decision(core: &Core, reports: &Reports, client: u16, session: u16) -> De
     match first_due(core.queue(), reports, client, session) {
         Some(pos) => Decision::Relay { seq: 0, pos },
         None => Decision::Idle,
-    }
-}
-
-/// The results that a Done reports.
-fn results_of(request: &Request) -> &[Done1]
-    ensures { result.now ≡ results_in request.now }
-{
-    match request {
-        Request::Done { results } => results.as_slice(),
-        _ => &[],
     }
 }
 

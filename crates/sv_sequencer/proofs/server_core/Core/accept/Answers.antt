@@ -29,8 +29,8 @@ pub deliver-requires-clause-positions : goal.deliver-requires-clause-positions
 deliver-requires-clause-positions g c =
     let Q = c.take_in.new.queue in
     let v = c.args.self.now.queue in
-    let author : ClientId = record { 0 = c.args.client } in
-    let last = subst (λ (u : QueueView). IsUncommitted u (last_position u)) (sym c.in_ok-relayed.ensures.queue) (pushed-last v author c.args.seq c.in_ok-action.action) in
+    let author : ClientId = record { 0 = c.args.id.client } in
+    let last = subst (λ (u : QueueView). IsUncommitted u (last_position u)) (sym c.in_ok-relayed.ensures.queue) (pushed-last v author c.args.id.seq c.in_ok-action.action) in
     subst (All (IsUncommitted Q)) (sym c.in_ok-relayed.ensures.positions) (lacking-within Q c.args.session (last_position Q) last)
 
 pub deliver-requires-clause-objects : goal.deliver-requires-clause-objects
@@ -48,9 +48,9 @@ returns-clause-ok g c =
     let q = c.args.request.now in
     let x = c.in_ok-relayed.relayed in
     let n = c.commit-commit.result in
-    let m = c.args.client in
+    let m = c.args.id.client in
     let author : ClientId = record { 0 = m } in
-    let seq = c.args.seq in
+    let seq = c.args.id.seq in
     let k = c.requires.0 in
     let f = k.fits in
     let l = logged.Relay seq n x.head x.positions in
