@@ -5,7 +5,7 @@ ghost use Rattle.sv_world.specs.Faults.{IsGoodAction};
 ghost use Rattle.sv_world.specs.Limits.{most_sessions};
 ghost use Rattle.sv_world.specs.Sets.{read_set, write_set};
 ghost use Rattle.sv_queue.specs.Pairs.{is_pair};
-ghost use Rattle.sv_queue.specs.Queue.{IsFirstWriter, IsUncommitted, IsUnwritten, last_position, entry_at, queue_actions, sent_positions, opening_queue, with_action, without_last, with_mark, with_result, with_given, ready, first_installed, installed};
+ghost use Rattle.sv_queue.specs.Queue.{IsFirstWriter, IsUncommitted, IsUnwritten, last_position, entry_at, queue_actions, sent_positions, opening_queue, with_action, without_last, with_mark, with_result, with_given, ready, first_installed, ready_installed};
 ghost use Rattle.sv_queue.specs.Worlds.{IsGoodShape, IsGoodWorld, HaveAttrs};
 
 use crate::queued::Queued;
@@ -290,7 +290,7 @@ impl Queue {
     /// Commits the actions before the first that has no result, in order, and answers how many.
     pub fn install(&mut self) -> u32
         ensures count { result ≡ length (ready self.old.entries) }
-        ensures installed { self.new ≡ installed self.old }
+        ensures installed { self.new ≡ ready_installed self.old }
     {
         let before = self.commit();
         while self.is_front_ready() {

@@ -9,7 +9,7 @@ use Rattle.sv_journal.specs.History.{Accepted, is_noted, reports, either, outcom
 use Rattle.sv_journal.specs.Sessions.{is_end, asked_in, positions_in, named_in, sent_to, named_to}
 use Rattle.sv_journal.specs.Answer.{Rules}
 use Rattle.sv_sequencer.specs.declared.sessions.SessionRow.{SessionRow}
-use Rattle.sv_sequencer.specs.Agreement.{IsSound, all_left, ends_owed}
+use Rattle.sv_sequencer.specs.Agreement.{IsSoundHistory, all_left, ends_owed}
 use Rattle.sv_sequencer.specs.Rows.{is_ended, requests_left, session_after, IsSessionRow}
 use Rattle.sv_sequencer.proofs.FitMarks.{or_false}
 
@@ -97,7 +97,7 @@ pub record IsSoundStep (r : Rules) (h : List Entry) (e : Entry) (g : ℕ) : Type
   pub named : (x q : ℕ) → is_in q (named_in e.reply x) ≡ true → q ≤ commit_of (e ∷ h)
   pub outcomes : (k n p : ℕ) → slice_get (outcomes_of (e ∷ h) k) n ≡ Some (Accepted p) → p ≤ length (accepted (e ∷ h))
 
-pub sound-next : (r : Rules) (h : List Entry) (e : Entry) (g : ℕ) → IsSoundStep r h e g → IsSound r h → IsSound r (e ∷ h)
+pub sound-next : (r : Rules) (h : List Entry) (e : Entry) (g : ℕ) → IsSoundStep r h e g → IsSoundHistory r h → IsSoundHistory r (e ∷ h)
 sound-next r h e g step sound = record {
   results = λ p high. result p (omega (arith, high, step.grows));
   sent = λ s p m. sent s p m;

@@ -7,7 +7,7 @@ ghost use Rattle.sv_journal.specs.declared.entry.Logged.TheVariants as logged;
 ghost use Rattle.sv_journal.specs.History.{Authored, full_reply};
 ghost use Rattle.sv_journal.specs.Sessions.{is_end};
 ghost use Rattle.sv_journal.specs.Answer.{Rules};
-ghost use Rattle.sv_sequencer.specs.Cores.{rules_of, owed_by, Keeps, CarriedOut, Remained};
+ghost use Rattle.sv_sequencer.specs.Cores.{core_rules, owed_by, Keeps, CarriedOut, Remained};
 ghost use Rattle.sv_sequencer.specs.Decisions.{reply_by, changes_nothing, Holds};
 ghost use Rattle.sv_sequencer.specs.Rows.{is_ended};
 ghost use Rattle.sv_sequencer.specs.Step.{entry_of};
@@ -33,9 +33,9 @@ impl Core {
     ) -> Result<Answer, AllocError>
         ghost h: { List Entry }
         requires keeps { Keeps self.old h }
-        requires session { session < (rules_of self.old).sessions }
+        requires session { session < (core_rules self.old).sessions }
         requires more { is_end request.now ≡ false }
-        requires holds { Holds (rules_of self.old) h session request.now decision }
+        requires holds { Holds (core_rules self.old) h session request.now decision }
         ensures ok { IfOk result (CarriedOut self.old self.new h session request.now decision) }
         ensures err { OnErr result (Remained self.old self.new h) }
     {
@@ -65,9 +65,9 @@ impl Core {
     pub fn end(&mut self, session: u16)
         ghost h: { List Entry }
         requires keeps { Keeps self.old h }
-        requires session { session < (rules_of self.old).sessions }
+        requires session { session < (core_rules self.old).sessions }
         requires first { is_ended h session ≡ false }
-        ensures rules { rules_of self.new ≡ rules_of self.old }
+        ensures rules { core_rules self.new ≡ core_rules self.old }
         ensures owed { owed_by self.new + 1 ≡ owed_by self.old }
         ensures keeps { Keeps self.new (entry_of session requests.End logged.Bye ∷ h) }
     {
@@ -79,9 +79,9 @@ impl Core {
     fn answer_plainly(&mut self, session: u16, request: &Request, decision: Decision) -> Answer
         ghost h: { List Entry }
         requires keeps { Keeps self.old h }
-        requires session { session < (rules_of self.old).sessions }
+        requires session { session < (core_rules self.old).sessions }
         requires more { is_end request.now ≡ false }
-        requires holds { Holds (rules_of self.old) h session request.now decision }
+        requires holds { Holds (core_rules self.old) h session request.now decision }
         requires plain { changes_nothing decision ≡ true }
         ensures { CarriedOut self.old self.new h session request.now decision result }
     {

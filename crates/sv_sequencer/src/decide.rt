@@ -10,7 +10,7 @@ ghost use Rattle.sv_journal.specs.History.{Accepted, accepted, client_of, next_s
 ghost use Rattle.sv_journal.specs.Sessions.{asked_in, is_live, kept_outcome};
 ghost use Rattle.sv_journal.specs.Answer.{reply_to_request, reply_to_open, reply_to_join, reply_to_member, reply_to_submit, reply_to_new, reply_to_good, reply_to_done, reply_to_poll, orphans, is_good_interest, is_over_reach};
 ghost use Rattle.sv_sequencer.specs.Decisions.{reply_by, Holds};
-ghost use Rattle.sv_sequencer.specs.Cores.{rules_of, Keeps};
+ghost use Rattle.sv_sequencer.specs.Cores.{core_rules, Keeps};
 
 use crate::clients::Outcome;
 use crate::decision::{ActionId, Decision};
@@ -25,9 +25,9 @@ impl Core {
     pub fn decide(&self, session: u16, request: &Request) -> Decision
         ghost h: { List Entry }
         requires keeps { Keeps self.now h }
-        requires session { session < (rules_of self.now).sessions }
-        ensures reply { reply_by (rules_of self.now) h session request.now result ≡ reply_to_request (rules_of self.now) h session request.now }
-        ensures holds { Holds (rules_of self.now) h session request.now result }
+        requires session { session < (core_rules self.now).sessions }
+        ensures reply { reply_by (core_rules self.now) h session request.now result ≡ reply_to_request (core_rules self.now) h session request.now }
+        ensures holds { Holds (core_rules self.now) h session request.now result }
     {
         if self.is_over(session) {
             return Decision::Refuse { refusal: Refusal::Over, detail: 0 };
@@ -42,10 +42,10 @@ impl Core {
     fn decide_open(&self, session: u16, request: &Request) -> Decision
         ghost h: { List Entry }
         requires keeps { Keeps self.now h }
-        requires session { session < (rules_of self.now).sessions }
+        requires session { session < (core_rules self.now).sessions }
         requires early { asked_in h session < most_requests }
-        ensures reply { reply_by (rules_of self.now) h session request.now result ≡ reply_to_open (rules_of self.now) h session request.now }
-        ensures holds { Holds (rules_of self.now) h session request.now result }
+        ensures reply { reply_by (core_rules self.now) h session request.now result ≡ reply_to_open (core_rules self.now) h session request.now }
+        ensures holds { Holds (core_rules self.now) h session request.now result }
     {
         match request {
             Request::Bad => Decision::Refuse { refusal: Refusal::Malformed, detail: 0 },
@@ -67,9 +67,9 @@ impl Core {
     ) -> Decision
         ghost h: { List Entry }
         requires keeps { Keeps self.now h }
-        requires session { session < (rules_of self.now).sessions }
-        ensures reply { reply_by (rules_of self.now) h session (requests.Join client life interest.now) result ≡ reply_to_join (rules_of self.now) h session client.0 life (map (λ (o : ObjectId). o.0) interest.now) }
-        ensures holds { Holds (rules_of self.now) h session (requests.Join client life interest.now) result }
+        requires session { session < (core_rules self.now).sessions }
+        ensures reply { reply_by (core_rules self.now) h session (requests.Join client life interest.now) result ≡ reply_to_join (core_rules self.now) h session client.0 life (map (λ (o : ObjectId). o.0) interest.now) }
+        ensures holds { Holds (core_rules self.now) h session (requests.Join client life interest.now) result }
     {
         if self.is_live(session) {
             return Decision::Refuse { refusal: Refusal::AlreadyJoined, detail: 0 };
@@ -101,7 +101,7 @@ impl Core {
     fn is_live(&self, session: u16) -> bool
         ghost h: { List Entry }
         requires keeps { Keeps self.now h }
-        requires session { session < (rules_of self.now).sessions }
+        requires session { session < (core_rules self.now).sessions }
         ensures { result ≡ is_live h session }
     {
         let client = self.client_of(session);
@@ -112,10 +112,10 @@ impl Core {
     fn decide_member(&self, session: u16, request: &Request) -> Decision
         ghost h: { List Entry }
         requires keeps { Keeps self.now h }
-        requires session { session < (rules_of self.now).sessions }
+        requires session { session < (core_rules self.now).sessions }
         requires early { asked_in h session < most_requests }
-        ensures reply { reply_by (rules_of self.now) h session request.now result ≡ reply_to_member (rules_of self.now) h session (client_of h session) request.now }
-        ensures holds { Holds (rules_of self.now) h session request.now result }
+        ensures reply { reply_by (core_rules self.now) h session request.now result ≡ reply_to_member (core_rules self.now) h session (client_of h session) request.now }
+        ensures holds { Holds (core_rules self.now) h session request.now result }
     {
         let Some(client) = self.client_of(session) else {
             return Decision::Refuse { refusal: Refusal::NotJoined, detail: 0 };
@@ -132,11 +132,11 @@ impl Core {
     fn decide_submit(&self, session: u16, client: u16, seq: u32, action: &Action) -> Decision
         ghost h: { List Entry }
         requires keeps { Keeps self.now h }
-        requires session { session < (rules_of self.now).sessions }
+        requires session { session < (core_rules self.now).sessions }
         requires early { asked_in h session < most_requests }
         requires client { client_of h session ≡ Some client }
-        ensures reply { reply_by (rules_of self.now) h session (requests.Submit seq action.now) result ≡ reply_to_submit (rules_of self.now) h session client seq action.now (kept_outcome h client seq) }
-        ensures holds { Holds (rules_of self.now) h session (requests.Submit seq action.now) result }
+        ensures reply { reply_by (core_rules self.now) h session (requests.Submit seq action.now) result ≡ reply_to_submit (core_rules self.now) h session client seq action.now (kept_outcome h client seq) }
+        ensures holds { Holds (core_rules self.now) h session (requests.Submit seq action.now) result }
     {
         match self.kept_outcome(client, seq) {
             Some(Outcome::Dropped { chain, far }) => Decision::Repeat { seq, chain, far },
@@ -154,8 +154,8 @@ impl Core {
         requires client { client_of h session ≡ Some id.client }
         requires earlier { id.seq < next_seq h id.client }
         requires placed { pos ≤ length (accepted h) }
-        ensures reply { reply_by (rules_of self.now) h session (requests.Submit id.seq action.now) result ≡ reply_to_submit (rules_of self.now) h session id.client id.seq action.now (Some (Accepted pos)) }
-        ensures holds { Holds (rules_of self.now) h session (requests.Submit id.seq action.now) result }
+        ensures reply { reply_by (core_rules self.now) h session (requests.Submit id.seq action.now) result ≡ reply_to_submit (core_rules self.now) h session id.client id.seq action.now (Some (Accepted pos)) }
+        ensures holds { Holds (core_rules self.now) h session (requests.Submit id.seq action.now) result }
     {
         let seq = id.seq;
         if self.is_committed(pos) {
@@ -170,8 +170,8 @@ impl Core {
         requires keeps { Keeps self.now h }
         requires early { asked_in h session < most_requests }
         requires client { client_of h session ≡ Some client }
-        ensures reply { reply_by (rules_of self.now) h session (requests.Submit seq action.now) result ≡ reply_to_new (rules_of self.now) h session client seq action.now }
-        ensures holds { Holds (rules_of self.now) h session (requests.Submit seq action.now) result }
+        ensures reply { reply_by (core_rules self.now) h session (requests.Submit seq action.now) result ≡ reply_to_new (core_rules self.now) h session client seq action.now }
+        ensures holds { Holds (core_rules self.now) h session (requests.Submit seq action.now) result }
     {
         let next = self.next_seq(client);
         if seq != next {
@@ -195,10 +195,10 @@ impl Core {
         requires early { asked_in h session < most_requests }
         requires client { client_of h session ≡ Some client }
         requires next { seq ≡ next_seq h client }
-        requires good { IsGoodAction (rules_of self.now).world.shape action.now }
-        requires fault { first_fault_of_action (rules_of self.now).world.shape action.now ≡ None }
-        ensures reply { reply_by (rules_of self.now) h session (requests.Submit seq action.now) result ≡ reply_to_good (rules_of self.now) h session seq action.now }
-        ensures holds { Holds (rules_of self.now) h session (requests.Submit seq action.now) result }
+        requires good { IsGoodAction (core_rules self.now).world.shape action.now }
+        requires fault { first_fault_of_action (core_rules self.now).world.shape action.now ≡ None }
+        ensures reply { reply_by (core_rules self.now) h session (requests.Submit seq action.now) result ≡ reply_to_good (core_rules self.now) h session seq action.now }
+        ensures holds { Holds (core_rules self.now) h session (requests.Submit seq action.now) result }
     {
         let found = self.chain_of(action);
         if found.count > self.bound() || self.is_over_reach(found.far) {
@@ -216,9 +216,9 @@ impl Core {
     fn decide_done(&self, session: u16, results: &List<Done1>) -> Decision
         ghost h: { List Entry }
         requires keeps { Keeps self.now h }
-        requires session { session < (rules_of self.now).sessions }
-        ensures reply { reply_by (rules_of self.now) h session (requests.Done results.now) result ≡ reply_to_done (rules_of self.now) h session results.now }
-        ensures holds { Holds (rules_of self.now) h session (requests.Done results.now) result }
+        requires session { session < (core_rules self.now).sessions }
+        ensures reply { reply_by (core_rules self.now) h session (requests.Done results.now) result ≡ reply_to_done (core_rules self.now) h session results.now }
+        ensures holds { Holds (core_rules self.now) h session (requests.Done results.now) result }
     {
         if self.is_bad_done(session, results.as_slice()) {
             Decision::Refuse { refusal: Refusal::BadResults, detail: 0 }
@@ -231,8 +231,8 @@ impl Core {
         ghost h: { List Entry }
         requires keeps { Keeps self.now h }
         requires client { client_of h session ≡ Some client }
-        ensures reply { reply_by (rules_of self.now) h session requests.Poll result ≡ reply_to_poll (rules_of self.now) h session (orphans h) }
-        ensures holds { Holds (rules_of self.now) h session requests.Poll result }
+        ensures reply { reply_by (core_rules self.now) h session requests.Poll result ≡ reply_to_poll (core_rules self.now) h session (orphans h) }
+        ensures holds { Holds (core_rules self.now) h session requests.Poll result }
     {
         match self.orphan() {
             Some(pos) => Decision::Relay { seq: 0, pos },

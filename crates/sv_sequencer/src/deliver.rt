@@ -17,7 +17,7 @@ ghost use Rattle.sv_journal.specs.Answer.{is_bad_result};
 ghost use Rattle.sv_sequencer.specs.declared.decision.Decision.TheVariants as decisions;
 ghost use Rattle.sv_sequencer.specs.declared.clients.Outcome.TheVariants as rows;
 ghost use Rattle.sv_sequencer.specs.Clients.{client_row};
-ghost use Rattle.sv_sequencer.specs.Cores.{rules_of, Keeps, CarriedOut, Remained};
+ghost use Rattle.sv_sequencer.specs.Cores.{core_rules, Keeps, CarriedOut, Remained};
 ghost use Rattle.sv_sequencer.specs.Decisions.{IsJoin, IsNext, IsOld, interest_in, action_in, results_in};
 ghost use Rattle.sv_sequencer.specs.Relays.{held_in, item_in, marked_all, given_all, with_reports, CanReport};
 
@@ -153,9 +153,9 @@ impl Core {
     ) -> Result<Answer, AllocError>
         ghost h: { List Entry }
         requires keeps { Keeps self.old h }
-        requires session { session < (rules_of self.old).sessions }
+        requires session { session < (core_rules self.old).sessions }
         requires more { is_end request.now ≡ false }
-        requires join { IsJoin (rules_of self.old) h request.now client life }
+        requires join { IsJoin (core_rules self.old) h request.now client life }
         ensures ok { IfOk result (CarriedOut self.old self.new h session request.now (decisions.Welcome client life)) }
         ensures err { OnErr result (Remained self.old self.new h) }
     {
@@ -182,7 +182,7 @@ impl Core {
     ) -> Result<Answer, AllocError>
         ghost h: { List Entry }
         requires keeps { Keeps self.old h }
-        requires session { session < (rules_of self.old).sessions }
+        requires session { session < (core_rules self.old).sessions }
         requires more { is_end request.now ≡ false }
         requires next { IsNext h session request.now id.client id.seq }
         ensures ok { IfOk result (CarriedOut self.old self.new h session request.now (decisions.Drop id.client id.seq found.count found.far)) }
@@ -210,7 +210,7 @@ impl Core {
     ) -> Result<Answer, AllocError>
         ghost h: { List Entry }
         requires keeps { Keeps self.old h }
-        requires session { session < (rules_of self.old).sessions }
+        requires session { session < (core_rules self.old).sessions }
         requires more { is_end request.now ≡ false }
         requires old { IsOld h session request.now }
         requires low { commit_of h < pos }
@@ -235,10 +235,10 @@ impl Core {
     ) -> Result<Answer, AllocError>
         ghost h: { List Entry }
         requires keeps { Keeps self.old h }
-        requires session { session < (rules_of self.old).sessions }
+        requires session { session < (core_rules self.old).sessions }
         requires more { is_end request.now ≡ false }
         requires next { IsNext h session request.now id.client id.seq }
-        requires fault { first_fault_of_action (rules_of self.old).world.shape (action_in request.now) ≡ None }
+        requires fault { first_fault_of_action (core_rules self.old).world.shape (action_in request.now) ≡ None }
         ensures ok { IfOk result (CarriedOut self.old self.new h session request.now (decisions.Accept id.client id.seq)) }
         ensures err { OnErr result (Remained self.old self.new h) }
     {
@@ -257,11 +257,11 @@ impl Core {
     ) -> Result<Answer, AllocError>
         ghost h: { List Entry }
         requires keeps { Keeps self.old h }
-        requires session { session < (rules_of self.old).sessions }
+        requires session { session < (core_rules self.old).sessions }
         requires more { is_end request.now ≡ false }
         requires next { IsNext h session request.now id.client id.seq }
         requires action { action.now ≡ action_in request.now }
-        requires good { IsGoodAction (rules_of self.old).world.shape action.now }
+        requires good { IsGoodAction (core_rules self.old).world.shape action.now }
         ensures ok { IfOk result (CarriedOut self.old self.new h session request.now (decisions.Accept id.client id.seq)) }
         ensures err { OnErr result (Remained self.old self.new h) }
     {
@@ -288,9 +288,9 @@ impl Core {
     ) -> Result<Answer, AllocError>
         ghost h: { List Entry }
         requires keeps { Keeps self.old h }
-        requires session { session < (rules_of self.old).sessions }
+        requires session { session < (core_rules self.old).sessions }
         requires done { request.now ≡ requests.Done (results_in request.now) }
-        requires good { list_any (is_bad_result (rules_of self.old) h session) (results_in request.now) ≡ false }
+        requires good { list_any (is_bad_result (core_rules self.old) h session) (results_in request.now) ≡ false }
         ensures ok { IfOk result (CarriedOut self.old self.new h session request.now decisions.Note) }
         ensures err { OnErr result (Remained self.old self.new h) }
     {

@@ -30,12 +30,12 @@ request_for (Payload payload) = read_or_bad (request_at payload)
 request_for (TooLong n) = requests.Bad
 
 -- the requests in a stream, in order
-unfoldable pub requests_in : List ℕ → List Request
-requests_in stream = map request_for (incoming_items stream)
+unfoldable pub requests_read : List ℕ → List Request
+requests_read stream = map request_for (incoming_items stream)
 
 -- the requests of entries
-abbrev pub requests_of : List Entry → List Request
-requests_of entries = map (λ (e : Entry). e.request) entries
+abbrev pub entry_requests : List Entry → List Request
+entry_requests entries = map (λ (e : Entry). e.request) entries
 
 -- ---- Replies
 
@@ -44,8 +44,8 @@ abbrev pub reply_payload : List Entry → Entry → List ℕ
 reply_payload seen e = reply_bytes (full_reply (accepted (reverse seen)) e.reply)
 
 -- the frames of the replies of these entries, one after the other
-unfoldable pub reply_frames : List Entry → List Entry → List ℕ
-reply_frames seen entries = frames_of (map (reply_payload seen) entries)
+unfoldable pub due_frames : List Entry → List Entry → List ℕ
+due_frames seen entries = frames_of (map (reply_payload seen) entries)
 
 -- ---- Stops
 
