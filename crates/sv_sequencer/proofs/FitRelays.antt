@@ -6,7 +6,8 @@ use Rattle.std.proofs.Math.ListN.{get_or-map}
 use Rattle.sv_world.specs.declared.action.Action.{Action}
 use Rattle.sv_world.specs.declared.world.Shape.{Shape}
 use Rattle.sv_world.specs.declared.world.World.{World}
-use Rattle.sv_world.specs.Control.{is_in, below, blank, action_at, needed_for, head_for, influence, influence_distance, distance, greatest}
+use Rattle.sv_world.specs.Control.{is_in, below, blank, action_at, needed_for, head_for, influence, influence_distance, distance}
+use Rattle.sv_world.specs.Trees.{greatest}
 use Rattle.sv_world.proofs.Members.{is_in-head, is_in-tail}
 use Rattle.sv_world.proofs.Needs.{needed-agree}
 use Rattle.sv_world.proofs.Bases.{head_for-agree, below-is_in}
