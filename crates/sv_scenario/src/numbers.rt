@@ -10,7 +10,7 @@ use crate::place::{at_place, refuse};
 use crate::{ReadFault, ScenarioCause};
 use serde_json::Value;
 use std::alloc::Global;
-use sv_world::{MOST_OBJECTS, Short};
+use sv_world::{MOST_OBJECTS, Value as ObjectValue};
 
 #[tactic(auto, unfolding(crate::specs::Numbers::whole_number))]
 fn whole_number(alloc: Global, value: &Value) -> Result<i128, ReadFault>
@@ -93,14 +93,14 @@ fn attributes(alloc: Global, values: &[Value]) -> Result<Vec<i64>, ReadFault>
 }
 
 #[tactic(auto, unfolding(crate::specs::Numbers::value_of))]
-fn value_of(alloc: Global, attrs: u32, value: &Value) -> Result<Short<i64, 4>, ReadFault>
+fn value_of(alloc: Global, attrs: u32, value: &Value) -> Result<ObjectValue, ReadFault>
     ensures { Gives (λ v. v) result (value_of attrs (view value.now)) }
 {
     let numbers = list_within(alloc, attrs as usize, attrs as usize, value)?;
-    Ok(Short::from_vec(attributes(alloc, numbers)?))
+    Ok(ObjectValue::from_vec(attributes(alloc, numbers)?))
 }
 
-fn each_value(alloc: Global, attrs: u32, values: &[Value]) -> Result<Vec<Short<i64, 4>>, ReadFault>
+fn each_value(alloc: Global, attrs: u32, values: &[Value]) -> Result<Vec<ObjectValue>, ReadFault>
     ensures reads { Gives (λ v. v.items) result (each (value_of attrs) [] (items_view values.now)) }
     ensures count { IfOk result (λ v. vec_len v ≡ length values.now) }
 {
@@ -120,7 +120,7 @@ pub(crate) fn values_of(
     alloc: Global,
     attrs: u32,
     value: &Value,
-) -> Result<Vec<Short<i64, 4>>, ReadFault>
+) -> Result<Vec<ObjectValue>, ReadFault>
     ensures reads { Gives (λ v. v.items) result (values_of attrs (view value.now)) }
     ensures count { IfOk result (λ v. vec_len v ≤ most_objects) }
 {

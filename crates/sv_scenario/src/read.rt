@@ -22,7 +22,7 @@ use crate::turns::turns_of;
 use crate::{Plan, ReadFault, Scenario, ScenarioCause, Turn};
 use serde_json::Value;
 use std::alloc::Global;
-use sv_world::{List, MOST_ATTRS, MOST_BOUND, MOST_REACH, Shape, Short, World};
+use sv_world::{List, MOST_ATTRS, MOST_BOUND, MOST_REACH, Shape, Value as ObjectValue, World};
 
 /// The bytes of a file.
 pub const MOST_BYTES: usize = 4_194_304;
@@ -35,7 +35,7 @@ fn number_in(alloc: Global, key: &str, low: u32, high: u32, value: &Value) -> Re
     at_key(alloc, key, number_within(alloc, low, high, number))
 }
 
-fn values_in(alloc: Global, attrs: u32, value: &Value) -> Result<Vec<Short<i64, 4>>, ReadFault>
+fn values_in(alloc: Global, attrs: u32, value: &Value) -> Result<Vec<ObjectValue>, ReadFault>
     ensures reads { Gives (λ v. v.items) result (value_at (codes "objects") (values_of attrs) (view value.now)) }
     ensures count { IfOk result (λ v. vec_len v ≤ most_objects) }
 {

@@ -135,7 +135,7 @@ pair_step : (reads : List ObjectId) (below : ℕ → List Lexeme → Read Expr) 
 unfolding expr_by
 pair_step reads below form again depth e p q i =
     ap (λ (b : Bool). cond b (start (suc depth) p.0 p.1 >>= λ n. pair_by below n (rest_of p.1)) (leaf_at reads p.1 >>= λ leaf. start (suc depth) p.0 p.1 >>= λ n. Ok (leaf, n, rest_of p.1))) (at_mark marks.Open p.1 i.opened.0)
-    ∙ started marks.Open depth p i.inside (pair_by below) (gives e q) i.opened (pair_again below form again i.op i.a i.b i.inside q i.parts ∙ ap (λ (x : Expr). gives x q) i.made)
+    ∙ started marks.Open depth p i.inside (pair_by below) (gives e q) i.opened (pair_again below form again i.by i.a i.b i.inside q i.parts ∙ ap (λ (x : Expr). gives x q) i.made)
 
 pub expr_again : (reads : List ObjectId) (depth : ℕ) → Reads (expr_at reads depth) (IsExpr reads depth)
 unfolding expr_at
@@ -164,7 +164,7 @@ pub expr_grows : (reads : List ObjectId) (depth : ℕ) → Grows (IsExpr reads d
 expr_grows reads zero e p q h = absurd h
 expr_grows reads (suc depth) e p q (inl i) =
     let n = node_grows marks.Open p i.inside i.opened in
-    let t = two_grows (IsExpr reads depth) (expr_grows reads depth) i.a (op_mark i.op) i.b marks.Close i.inside q i.parts in
+    let t = two_grows (IsExpr reads depth) (expr_grows reads depth) i.a (op_mark i.by) i.b marks.Close i.inside q i.parts in
     (omega (arith, n.0, t.0), t.1)
 expr_grows reads (suc depth) e p q (inr (inl i)) = let c : p.0 + 1 ≡ q.0 = i.count in let f : p.0 < 64 = i.few in (omega arith, omega arith)
 expr_grows reads (suc depth) e p q (inr (inr i)) = let c : p.0 + 1 ≡ q.0 = i.count in let f : p.0 < 64 = i.few in (omega arith, omega arith)
@@ -221,13 +221,13 @@ module _ (exprs : ℕ → List Lexeme → Read Expr) (below : ℕ → List Lexem
   test_step : IsTest values c p q → cond_by exprs below (suc depth) p.0 p.1 ≡ gives c q
   unfolding cond_by
   test_step i = ap (λ (t : Bool). by_all t (is_at marks.Open p.1) (is_at marks.Not p.1)) (at_mark marks.OpenTest p.1 i.opened.0)
-      ∙ started marks.OpenTest depth p i.inside (compare_by exprs) (gives c q) i.opened (compare_again exprs values in_exprs i.comparison i.a i.b i.inside q i.parts ∙ ap (λ (x : Cond). gives x q) i.made)
+      ∙ started marks.OpenTest depth p i.inside (compare_by exprs) (gives c q) i.opened (compare_again exprs values in_exprs i.by i.a i.b i.inside q i.parts ∙ ap (λ (x : Cond). gives x q) i.made)
 
   joined_step : IsJoined form c p q → cond_by exprs below (suc depth) p.0 p.1 ≡ gives c q
   unfolding cond_by
   joined_step i = ap (λ (t : Bool). by_all t (is_at marks.Open p.1) (is_at marks.Not p.1)) (not_at marks.OpenTest marks.Open p.1 i.opened.0 refl)
       ∙ ap (λ (a : Bool). by_open a (is_at marks.Not p.1)) (at_mark marks.Open p.1 i.opened.0)
-      ∙ started marks.Open depth p i.inside (join_by below) (gives c q) i.opened (join_again below form in_below i.joint i.a i.b i.inside q i.parts ∙ ap (λ (x : Cond). gives x q) i.made)
+      ∙ started marks.Open depth p i.inside (join_by below) (gives c q) i.opened (join_again below form in_below i.by i.a i.b i.inside q i.parts ∙ ap (λ (x : Cond). gives x q) i.made)
 
   not_step : IsNot form c p q → cond_by exprs below (suc depth) p.0 p.1 ≡ gives c q
   unfolding cond_by
@@ -247,11 +247,11 @@ pub cond_grows : (reads : List ObjectId) (depth : ℕ) → Grows (IsCond reads d
 cond_grows reads zero c p q h = absurd h
 cond_grows reads (suc depth) c p q (inl i) =
     let n = node_grows marks.OpenTest p i.inside i.opened in
-    let t = two_grows (IsExpr reads depth) (expr_grows reads depth) i.a (comparison_mark i.comparison) i.b marks.CloseTest i.inside q i.parts in
+    let t = two_grows (IsExpr reads depth) (expr_grows reads depth) i.a (comparison_mark i.by) i.b marks.CloseTest i.inside q i.parts in
     (omega (arith, n.0, t.0), t.1)
 cond_grows reads (suc depth) c p q (inr (inl i)) =
     let n = node_grows marks.Open p i.inside i.opened in
-    let t = two_grows (IsCond reads depth) (cond_grows reads depth) i.a (joint_mark i.joint) i.b marks.Close i.inside q i.parts in
+    let t = two_grows (IsCond reads depth) (cond_grows reads depth) i.a (joint_mark i.by) i.b marks.Close i.inside q i.parts in
     (omega (arith, n.0, t.0), t.1)
 cond_grows reads (suc depth) c p q (inr (inr i)) =
     let n = node_grows marks.Not p i.inside i.opened in

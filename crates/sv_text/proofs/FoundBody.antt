@@ -60,7 +60,7 @@ compare_found exprs form found p nodes ts x opened e =
     let k = closed_found exprs form found marks.CloseTest a.0.1 (rest_of a.0.2) b.0 b.1 in
     let made : Cond × ℕ × List Lexeme = (with_comparison c.0 a.0.0 b.0.0, b.0.1, b.0.2) in
     subst (λ (y : Cond × ℕ × List Lexeme). IsTest form y.0 p (y.1, y.2)) (ok_is made x b.2) (record {
-      comparison = c.0;
+      by = c.0;
       a = a.0.0;
       b = b.0.0;
       made = refl;
@@ -87,7 +87,7 @@ join_found below form found p nodes ts x opened e =
     let k = closed_found below form found marks.Close a.0.1 (rest_of a.0.2) b.0 b.1 in
     let made : Cond × ℕ × List Lexeme = (with_joint c.0 a.0.0 b.0.0, b.0.1, b.0.2) in
     subst (λ (y : Cond × ℕ × List Lexeme). IsJoined form y.0 p (y.1, y.2)) (ok_is made x b.2) (record {
-      joint = c.0;
+      by = c.0;
       a = a.0.0;
       b = b.0.0;
       made = refl;

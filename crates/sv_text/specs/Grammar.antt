@@ -77,15 +77,19 @@ pub record AreTwo {A : Type 0} (form : Form A) (a : A) (middle : Mark) (b : A) (
   pub right : form b two three
   pub closed : IsMark close three q
 
--- ( expr op expr )
-pub record IsPair (form : Form Expr) (e : Expr) (p q : Place) : Type 0 where
-  pub op : Operator
-  pub a : Expr
-  pub b : Expr
-  pub made : with_op op a b ≡ e
+-- two parts in brackets, joined by what the word or sign between them tells
+pub record IsBracketed {O A B : Type 0} (make : O → A → A → B) (mark : O → Mark) (opens closes : Mark) (form : Form A) (x : B) (p q : Place) : Type 0 where
+  pub by : O
+  pub a : A
+  pub b : A
+  pub made : make by a b ≡ x
   pub inside : Place
-  pub opened : IsNode marks.Open p inside
-  pub parts : AreTwo form a (op_mark op) b marks.Close inside q
+  pub opened : IsNode opens p inside
+  pub parts : AreTwo form a (mark by) b closes inside q
+
+-- ( expr op expr )
+abbrev pub IsPair : Form Expr → Expr → Place → Place → Type 0
+IsPair form e p q = IsBracketed with_op op_mark marks.Open marks.Close form e p q
 
 pub record IsLiteral (e : Expr) (p q : Place) : Type 0 where
   pub number : ℤ
@@ -108,24 +112,12 @@ IsExpr reads zero e p q = ⊥
 IsExpr reads (suc depth) e p q = IsPair (IsExpr reads depth) e p q ⊎ (IsLiteral e p q ⊎ IsAttr reads e p q)
 
 -- [ expr cmp expr ]
-pub record IsTest (form : Form Expr) (c : Cond) (p q : Place) : Type 0 where
-  pub comparison : Comparison
-  pub a : Expr
-  pub b : Expr
-  pub made : with_comparison comparison a b ≡ c
-  pub inside : Place
-  pub opened : IsNode marks.OpenTest p inside
-  pub parts : AreTwo form a (comparison_mark comparison) b marks.CloseTest inside q
+abbrev pub IsTest : Form Expr → Cond → Place → Place → Type 0
+IsTest form c p q = IsBracketed with_comparison comparison_mark marks.OpenTest marks.CloseTest form c p q
 
 -- ( cond and cond )
-pub record IsJoined (form : Form Cond) (c : Cond) (p q : Place) : Type 0 where
-  pub joint : Connective
-  pub a : Cond
-  pub b : Cond
-  pub made : with_joint joint a b ≡ c
-  pub inside : Place
-  pub opened : IsNode marks.Open p inside
-  pub parts : AreTwo form a (joint_mark joint) b marks.Close inside q
+abbrev pub IsJoined : Form Cond → Cond → Place → Place → Type 0
+IsJoined form c p q = IsBracketed with_joint joint_mark marks.Open marks.Close form c p q
 
 -- not cond
 pub record IsNot (form : Form Cond) (c : Cond) (p q : Place) : Type 0 where

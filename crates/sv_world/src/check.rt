@@ -1,3 +1,4 @@
+//! Whether an action is one of a world of some shape, and else why not.
 ghost use Rattle.std.specs.Prelude.{◌≡◌, ◌↔◌, ◌&&◌, map, not, Some, None, MatchResult, OnOk};
 ghost use Rattle.sv_world.specs.declared.action.Action.{Action};
 ghost use Rattle.sv_world.specs.declared.world.ObjectId.{ObjectId};

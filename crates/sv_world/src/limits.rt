@@ -1,4 +1,7 @@
 //! The limits of the subject: how many there may be of what. `specs/Limits.antt` has the same numbers for contracts.
+ghost use Rattle.std.specs.Prelude.{◌≡◌};
+ghost use Rattle.sv_world.specs.Limits.{most_objects, most_attrs, most_reads, most_nodes, most_depth, most_clients, most_sessions, most_bound, most_reach};
+ghost use Rattle.sv_world.specs.Limits.{most_interest, most_requests, most_items, most_pending, most_outstanding, most_steps, most_shown, most_turns};
 
 /// The objects of a world.
 pub const MOST_OBJECTS: u16 = 4096;
@@ -50,3 +53,13 @@ pub const MOST_SHOWN: usize = 16;
 
 /// The turns of a schedule.
 pub const MOST_TURNS: usize = 16_384;
+
+/// These constants are the numbers that contracts speak of.
+pub fn limits_are_those_of_contracts()
+    ensures worlds { (MOST_OBJECTS ≡ most_objects) × (MOST_ATTRS ≡ most_attrs) × (MOST_REACH ≡ most_reach) }
+    ensures actions { (MOST_READS ≡ most_reads) × (MOST_NODES ≡ most_nodes) × (MOST_DEPTH ≡ most_depth) }
+    ensures servers { (MOST_CLIENTS ≡ most_clients) × (MOST_SESSIONS ≡ most_sessions) × (MOST_BOUND ≡ most_bound) }
+    ensures messages { (MOST_INTEREST ≡ most_interest) × (MOST_REQUESTS ≡ most_requests) × (MOST_ITEMS ≡ most_items) }
+    ensures clients { (MOST_PENDING ≡ most_pending) × (MOST_OUTSTANDING ≡ most_outstanding) }
+    ensures scripts { (MOST_STEPS ≡ most_steps) × (MOST_SHOWN ≡ most_shown) × (MOST_TURNS ≡ most_turns) }
+{}

@@ -1,3 +1,4 @@
+//! Tests of the slots and attributes that the nodes of a body name, and the number of these nodes.
 ghost use Rattle.std.specs.Prelude.{◌≡◌, MatchBool};
 ghost use Rattle.sv_world.specs.Sets.{is_in_mask};
 ghost use Rattle.sv_world.specs.NodeTests.{node_passes, nodes_pass, node_weight, nodes_weight};

@@ -1,3 +1,4 @@
+-- The printed text is read as the action.
 use Rattle.std.proofs.Common.{string_bytes, subst}
 use Rattle.std.specs.Prelude.{All}
 use Rattle.sv_world.specs.Ranges.{ObjectFits}

@@ -1,3 +1,4 @@
+-- The objects so far were printed.
 use Rattle.std.proofs.Common.{◌≡◌, ◌++◌, take, string_bytes}
 use Rattle.sv_text.specs.Canonical.{spaced_objects}
 use Rattle.sv_text.proofs.printer.put_objects.Given as goal

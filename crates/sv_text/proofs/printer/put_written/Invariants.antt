@@ -1,3 +1,4 @@
+-- What is printed, with the written objects that are left, is the whole.
 use Rattle.std.proofs.Common.{◌≡◌, ◌++◌, drop, string_bytes}
 use Rattle.sv_text.specs.Canonical.{spaced_objects, written}
 use Rattle.sv_text.proofs.printer.put_written.Given as goal

@@ -1,3 +1,4 @@
+-- A bit stands at or above the number of reads where the mask is at least that power.
 use Rattle.std.proofs.Common.{◌≡◌, false, nat_lt, sym, ◌∙◌, arith}
 use Rattle.std.proofs.lemmas.Bool.Decides.{nat_tests}
 use Rattle.sv_world.specs.Faults.{has_bad_mask}

@@ -1,3 +1,4 @@
+-- A slot past the bits of a mask is not in it.
 use Rattle.std.proofs.Common.{◌≡◌, false, nat_lt, sym, ◌∙◌, arith}
 use Rattle.std.proofs.lemmas.Bool.Decides.{nat_tests}
 use Rattle.sv_world.proofs.Masks.{no_bit_past}
