@@ -11,6 +11,7 @@ use Rattle.sv_world.specs.declared.action.Cond.TheVariants as test
 use Rattle.sv_world.specs.declared.action.Stmt.{Stmt}
 use Rattle.sv_world.specs.declared.action.Stmt.TheVariants as stmt
 use Rattle.sv_world.specs.Limits.{most_reads, most_nodes, most_depth}
+use Rattle.sv_world.specs.Sets.{object_numbered}
 use Rattle.sv_world.specs.Parts.{binary_by as with_op, compare_by as with_comparison, join_by as with_joint}
 use Rattle.sv_text.specs.declared.fault.TextCause.{TextCause}
 use Rattle.sv_text.specs.declared.fault.TextCause.TheVariants as causes
@@ -163,9 +164,6 @@ read_at count least ts = do
   o ← object_number_at ts
   cond (nat_lt o least) (Err (fault ts causes.Order)) (cond (nat_lt count most_reads) (Ok o) (Err (fault ts causes.TooMany)))
 
-abbrev pub as_object : ℕ → ObjectId
-as_object o = record { 0 = o }
-
 abbrev pub ends_reads : ℕ → List Lexeme → Bool
 ends_reads count ts = nat_lt 0 count && is_at marks.Writes ts
 
@@ -174,7 +172,7 @@ unfoldable pub reads_from : List ObjectId → ℕ → List Lexeme → Result (Li
 reads_from before least [] = Err (unexpected [])
 reads_from before least (t ∷ ts) =
     cond (ends_reads (length before) (t ∷ ts)) (Ok (before, ts))
-    (read_at (length before) least (t ∷ ts) >>= λ o. reads_from (before ++ as_object o ∷ []) (o + 1) ts)
+    (read_at (length before) least (t ∷ ts) >>= λ o. reads_from (before ++ object_numbered o ∷ []) (o + 1) ts)
 
 -- the slot of an object, which is its place in the reads
 abbrev pub slot_from : ℕ → List ObjectId → ℕ → Option ℕ
