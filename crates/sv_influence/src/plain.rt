@@ -32,10 +32,9 @@ pub fn plain_closure<L: Ledger>(
     ensures ticks { steps.new ≤ steps.old + 3 * (pos - queue.now.commit) }
 {
     let commit = queue.commit();
-    let mut walk = Walk {
-        items: Vec::new(alloc),
-        objects: ObjectSet::new(),
-    };
+    let items = Vec::new(alloc);
+    let objects = ObjectSet::new();
+    let mut walk = Walk { items, objects };
     let mut at = pos;
     while at > commit {
         if is_wanted(queue, pos, at, &walk.objects, steps) {

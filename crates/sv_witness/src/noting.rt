@@ -19,6 +19,7 @@ use sv_world::{ClientId, copy_values};
 /// What the results of a client are: those that count as its reports, of these the ones that bring agreement, and the disputes that they make.
 #[derive(Drop)]
 pub struct Noting {
+    pub client: u16,
     pub counted: Vec<Done1>,
     pub agreed: Vec<Done1>,
     pub disputes: Vec<Dispute>,
@@ -33,6 +34,7 @@ pub fn noting_of(
     results: &[Done1],
 ) -> Result<Noting, AllocError>
     requires { All (λ (d : Done1). d.pos ≤ last_position queue.now) results.now }
+    ensures client { IfOk result (λ noting. noting.client ≡ client) }
     ensures counted { IfOk result (λ noting. noting.counted.items ≡ counted_results queue.now.commit reports.now client results.now) }
     ensures agreed { IfOk result (λ noting. noting.agreed.items ≡ agreed_results queue.now reports.now (counted_results queue.now.commit reports.now client results.now)) }
     ensures disputes { IfOk result (λ noting. noting.disputes.items ≡ new_disputes reports.now client (counted_results queue.now.commit reports.now client results.now)) }
@@ -41,6 +43,7 @@ pub fn noting_of(
     let agreed = copy_agreed(alloc, queue, reports, counted.as_slice())?;
     let disputes = disputes_with(alloc, reports, client, counted.as_slice())?;
     Ok(Noting {
+        client,
         counted,
         agreed,
         disputes,

@@ -20,8 +20,8 @@ loop-at-init g c =
       commit = e;
       low = omega arith;
       high = omega arith;
-      items = c.new.ensures.items ∙ sym (ap reverse none);
-      objects = λ x. c.new-2.ensures x ∙ sym (ap (λ (ks : List ℕ). reads_committed (queue_actions v) c.args.pos x ks) none);
+      items = c.new-items.ensures.items ∙ sym (ap reverse none);
+      objects = λ x. c.new-objects.ensures x ∙ sym (ap (λ (ks : List ℕ). reads_committed (queue_actions v) c.args.pos x ks) none);
       ticks = omega arith;
     }
 
