@@ -7,7 +7,6 @@ ghost use Rattle.sv_witness.specs.Reports.{is_by};
 ghost use Rattle.sv_witness.specs.Kept.{kept_at};
 ghost use Rattle.sv_witness.specs.Due.{is_due_in, due_in};
 
-use crate::noting::has_result;
 use crate::reports::Reports;
 use crate::testimony::Asker;
 use std::marker::Brand;
@@ -47,7 +46,7 @@ fn is_due<L: Ledger>(
     requires { IsUncommitted queue.now pos }
     ensures { result ≡ is_due_in queue.now reports.now asker.client asker.session pos }
 {
-    !has_result(queue, pos, steps)
+    !queue.has_result(pos, steps)
         && !queue.is_marked(pos, asker.session, steps)
         && !reports.has_reported(pos, asker.client)
 }

@@ -13,6 +13,7 @@ use std::alloc::{AllocError, Global};
 use std::marker::Brand;
 use std::sync::ledger::{Blank, Ledger};
 use sv_queue::{Queue, Steps};
+use sv_sequencer::copy_report;
 use sv_wire::Done1;
 use sv_world::{ClientId, copy_values};
 
@@ -50,15 +51,6 @@ pub fn noting_of(
     })
 }
 
-fn copy_result(alloc: Global, found: &Done1) -> Result<Done1, AllocError>
-    ensures { IfOk result (λ copy. copy ≡ found.now) }
-{
-    Ok(Done1 {
-        pos: found.pos,
-        values: copy_values(alloc, found.values.as_slice())?,
-    })
-}
-
 /// Whether a client's result of a position counts as its report.
 fn counts(reports: &Reports, commit: u32, client: u16, pos: u32) -> bool
     ensures { result ≡ counts commit reports.now client pos }
@@ -79,7 +71,7 @@ fn copy_counted(
     let mut copies = Vec::new(alloc);
     for found in results {
         if counts(reports, commit, client, found.pos) {
-            copies.push(copy_result(alloc, found)?)?;
+            copies.push(copy_report(alloc, found)?)?;
         }
     }
     Ok(copies)
@@ -98,7 +90,7 @@ fn copy_agreed(
     let mut copies = Vec::new(alloc);
     for found in counted {
         if brings::<Brand>(queue, reports, found, Blank::new(1)) {
-            copies.push(copy_result(alloc, found)?)?;
+            copies.push(copy_report(alloc, found)?)?;
         }
     }
     Ok(copies)
@@ -113,16 +105,7 @@ fn brings<L: Ledger>(queue: &Queue, reports: &Reports, found: &Done1, blank: Bla
     ensures { result ≡ brings queue.now reports.now found.now }
 {
     let mut steps = Steps::<L>::new(blank);
-    !has_result(queue, found.pos, &mut steps) && reports.agrees(found.pos, found.values.as_slice())
-}
-
-/// Whether an uncommitted position has a result.
-pub fn has_result<L: Ledger>(queue: &Queue, pos: u32, steps: &mut Steps<L>) -> bool
-    requires { IsUncommitted queue.now pos }
-    ensures { result ≡ is_some (entry_at queue.now pos).result }
-{
-    let entry = queue.entry(pos, steps);
-    entry.has_result
+    !queue.has_result(found.pos, &mut steps) && reports.agrees(found.pos, found.values.as_slice())
 }
 
 /// The disputes that results of a client make with the first reports of their positions.

@@ -1,3 +1,4 @@
+-- The loop invariant of `expand_all`, and what gets smaller.
 use Rattle.std.proofs.Common.{◌≡◌, ℕ, true, ◌+◌, ◌-◌, ◌*◌, ◌<◌, ◌≤◌, ◌++◌, [], length, reverse}
 use Rattle.std.specs.Prelude.{IfNone, option_to_list}
 use Rattle.sv_world.specs.Faults.{is_ascending}

@@ -1,3 +1,4 @@
+-- What the check leaves to prove of `plain_closure`.
 use Rattle.std.proofs.Common.{◌≡◌, ℕ, ◌<◌, List, reverse, sym, ◌∙◌, ap, subst, arith}
 use Rattle.std.proofs.lemmas.List.{reverse-reverse}
 use Rattle.sv_world.specs.Control.{reads_committed}

@@ -1,3 +1,4 @@
+-- The loop invariant of `plain_closure`, and what gets smaller.
 use Rattle.std.proofs.Common.{◌≡◌, ◌≤◌, ◌+◌, ◌*◌, reverse}
 use Rattle.sv_influence.specs.Lacking.{lacking}
 use Rattle.sv_influence.specs.Objects.{has_object}

@@ -1,3 +1,4 @@
+-- The loop invariant of `search`.
 use Rattle.std.proofs.Common.{◌≡◌, ℕ, ◌≤◌, false}
 use Rattle.sv_witness.specs.Due.{is_due_in}
 use Rattle.sv_witness.proofs.due.search.Given as goal

@@ -1,3 +1,4 @@
+-- What the check leaves to prove of `install`.
 use Rattle.std.proofs.Common.{◌≡◌, false, List, refl, sym, subst}
 use Rattle.std.specs.List.{list_any}
 use Rattle.sv_wire.specs.declared.message.Done1.{Done1}

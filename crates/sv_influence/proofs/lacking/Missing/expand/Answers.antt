@@ -1,3 +1,4 @@
+-- What the check leaves to prove of `Missing::expand`.
 use Rattle.std.proofs.Common.{◌≡◌, ℕ, ◌+◌, ◌++◌, [], ◌∷◌, List, drop, get_or, sym, ◌∙◌, ap, arith}
 use Rattle.sv_world.specs.Control.{is_in, action_at}
 use Rattle.sv_queue.specs.Queue.{queue_actions}

@@ -1,3 +1,4 @@
+-- The loop invariant of `Missing::expand`.
 use Rattle.std.proofs.Common.{◌≡◌, ℕ, ◌+◌, ◌*◌, ◌≤◌, ◌++◌, drop}
 use Rattle.sv_world.specs.Control.{is_in, action_at}
 use Rattle.sv_world.specs.Faults.{IsGoodAction}

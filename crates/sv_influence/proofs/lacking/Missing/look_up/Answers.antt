@@ -1,3 +1,4 @@
+-- What the check leaves to prove of `Missing::look_up`.
 use Rattle.std.proofs.Common.{ℕ, ◌∷◌, sym, ap, ◌∙◌}
 use Rattle.sv_world.specs.Control.{is_in, last_writer}
 use Rattle.sv_queue.specs.Queue.{queue_actions}

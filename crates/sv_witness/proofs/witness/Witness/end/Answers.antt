@@ -1,3 +1,4 @@
+-- What the check leaves to prove of `Witness::end`.
 use Rattle.std.proofs.Common.{◌≡◌, ◌<◌, List, [], ◌∷◌, reverse, sym, ◌∙◌, ap, subst, arith}
 use Rattle.std.proofs.lemmas.List.{reverse-append}
 use Rattle.sv_wire.specs.declared.message.Request.TheVariants as requests

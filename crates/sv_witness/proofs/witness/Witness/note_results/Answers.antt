@@ -1,3 +1,4 @@
+-- What the check leaves to prove of `Witness::note_results`.
 use Rattle.std.proofs.Common.{◌≡◌, ◌<◌, ◌≤◌, false, All, List, Some, sym, ◌∙◌, ap, subst}
 use Rattle.sv_wire.specs.declared.message.Done1.{Done1}
 use Rattle.sv_queue.specs.Queue.{QueueView, last_position}
