@@ -5,7 +5,7 @@ ghost use Rattle.sv_wire.specs.declared.message.Done1.{Done1};
 ghost use Rattle.sv_queue.specs.Queue.{IsUncommitted, last_position, entry_at};
 ghost use Rattle.sv_witness.specs.Disputes.{dispute_in};
 ghost use Rattle.sv_witness.specs.Reports.{is_by};
-ghost use Rattle.sv_witness.specs.Kept.{kept_at, report_by, counts, counted_results, agrees, brings, agreed_results, new_disputes};
+ghost use Rattle.sv_witness.specs.Kept.{kept_at, report_by, counts_as_report, counted_results, agrees, brings, agreed_results, new_disputes};
 
 use crate::report::{Dispute, Report};
 use crate::reports::{Reports, are_same_values};
@@ -53,7 +53,7 @@ pub fn noting_of(
 
 /// Whether a client's result of a position counts as its report.
 fn counts(reports: &Reports, commit: u32, client: u16, pos: u32) -> bool
-    ensures { result ≡ counts commit reports.now client pos }
+    ensures { result ≡ counts_as_report commit reports.now client pos }
 {
     commit < pos && !reports.has_reported(pos, client)
 }
