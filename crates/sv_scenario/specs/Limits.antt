@@ -1,10 +1,11 @@
 -- The limits and rules of scenarios.
-use Rattle.std.specs.Prelude.{◌≡◌, ℕ, ◌≤◌, ◌<◌, Bool, true, false, List, [], ◌∷◌, length, map, IfSome}
+use Rattle.std.specs.Prelude.{◌≡◌, ℕ, ◌≤◌, ◌<◌, Bool, true, false, List, [], ◌∷◌, length, IfSome}
 use Rattle.std.specs.List.{AllByRecursion}
 use Rattle.sv_world.specs.declared.world.ObjectId.{ObjectId}
 use Rattle.sv_world.specs.declared.world.Shape.{Shape}
 use Rattle.sv_world.specs.declared.world.World.{World}
 use Rattle.sv_world.specs.Faults.{is_ascending, IsGoodAction}
+use Rattle.sv_world.specs.Sets.{numbers_of}
 use Rattle.sv_world.specs.Limits.{most_objects, most_attrs, most_clients, most_sessions, most_bound, most_reach, most_interest, most_steps, most_shown, most_turns}
 use Rattle.sv_scenario.specs.declared.scenario.Plan.{Plan}
 use Rattle.sv_scenario.specs.declared.scenario.Scenario.{Scenario}
@@ -55,7 +56,7 @@ quits_last (steps.Cut ∷ next ∷ ss) = quits_last (next ∷ ss)
 -- At most 64 objects of the shape, ascending, and at most 256 good steps.
 pub record IsGoodPlan (shape : Shape) (plan : Plan) : Type 0 where
   pub few_objects : length plan.interest ≤ most_interest
-  pub ascending : is_ascending (map (λ (o : ObjectId). o.0) plan.interest) ≡ true
+  pub ascending : is_ascending (numbers_of plan.interest) ≡ true
   pub known : AreObjects shape plan.interest
   pub few_steps : length plan.steps ≤ most_steps
   pub steps : AllByRecursion (IsGoodStep shape) plan.steps
