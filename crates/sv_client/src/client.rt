@@ -1,3 +1,4 @@
+//! A client of a world: its calls, and what each of them changes of its trace.
 ghost use Rattle.std.specs.Prelude.{◌≡◌, ℕ, ◌-◌, ◌<◌, ◌≤◌, true, ◌∷◌, [], length, option_map, option_to_list, slice_get, IfOk, IfErr, OnOk, OnErr, MatchResult};
 ghost use Rattle.sv_versions.specs.Held.{AnswersAbove, count_up_to, latest, read_below};
 ghost use Rattle.sv_pending.specs.Seen.{item_seen};

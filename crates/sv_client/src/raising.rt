@@ -1,3 +1,4 @@
+//! Raising the numbers of the sessions that events name.
 ghost use Rattle.std.specs.Prelude.{◌≡◌, ◌<◌, map, All};
 ghost use Rattle.sv_client.specs.Seen.{raised, NamesBelow};
 

@@ -1,3 +1,4 @@
+//! Taking a reply that has passed all looks.
 ghost use Rattle.std.specs.Prelude.{◌≡◌, ◌<◌, ℕ, Bool, List, length, IfOk, IfErr, OnErr};
 ghost use Rattle.sv_client.specs.declared.trace.Event.{Event};
 ghost use Rattle.sv_client.specs.Taking.{Identity};

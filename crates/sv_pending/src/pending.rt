@@ -1,3 +1,4 @@
+//! The pending actions of a client.
 ghost use Rattle.std.specs.Prelude.{◌≡◌, ◌-◌, ◌<◌, ◌≤◌, [], ◌∷◌, ◌++◌, drop, length, option_map, slice_get, IfOk, OnOk, OnErr};
 ghost use Rattle.sv_world.specs.Faults.{IsGoodAction};
 ghost use Rattle.sv_pending.specs.Pending.{kept_of, redone, overlay_of};

@@ -1,3 +1,4 @@
+//! Computing kept results, each on the views over the actions before it.
 ghost use Rattle.std.specs.Prelude.{◌≡◌, ◌<◌, ◌≤◌, map, length, take, option_copied, IfOk, IfSome, All, List, Option, ℤ};
 ghost use Rattle.sv_world.specs.declared.world.ObjectId.{ObjectId};
 ghost use Rattle.sv_world.specs.Sets.{write_set};

@@ -1,3 +1,4 @@
+//! The versions of one object.
 ghost use Rattle.std.specs.Prelude.{◌≡◌, ℕ, [], ◌++◌, ◌∷◌, ◌+◌, ◌-◌, ◌<◌, ◌≤◌, set, remove, length, option_copied, IfOk, OnOk, OnErr};
 ghost use Rattle.sv_versions.specs.Held.{read_below, latest, put_in, pruned, count_up_to};
 

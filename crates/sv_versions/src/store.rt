@@ -1,3 +1,4 @@
+//! The store of all versions.
 ghost use Rattle.std.specs.Prelude.{◌≡◌, ℕ, [], ◌∷◌, ◌++◌, ◌<◌, ◌≤◌, option_copied, IfOk, OnOk, OnErr};
 ghost use Rattle.sv_versions.specs.Held.{read_below, latest, put_in, pruned, restored, count_up_to, AnswersAbove};
 ghost use Rattle.sv_versions.specs.Undone.{undone};

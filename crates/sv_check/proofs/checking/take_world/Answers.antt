@@ -1,3 +1,4 @@
+-- What is proved by hand of `take_world`.
 use Rattle.std.proofs.Common.{rules, arith}
 use Rattle.std.proofs.lemmas.Bool.Decides.{nat_tests}
 use Rattle.sv_lines.specs.declared.stop.Stop.TheVariants as stop

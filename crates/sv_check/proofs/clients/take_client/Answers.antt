@@ -1,3 +1,4 @@
+-- What is proved by hand of `take_client`.
 use Rattle.std.proofs.Common.{inr, ℕ, List, ◌++◌, length, refl, ap, ◌∙◌, Bor}
 use Rattle.sv_report.specs.Report.{event_lines}
 use Rattle.sv_check.specs.Serving.{entries_of}

@@ -1,3 +1,4 @@
+-- What is proved by hand of `take_clients`.
 use Rattle.std.proofs.Common.{◌+◌, ◌<◌, ◌++◌, ℕ, List, length, get_or, reverse, take, sym, ap, subst, ◌∙◌, arith, Bor}
 use Rattle.std.specs.List.{flat_map}
 use Rattle.sv_journal.specs.Text.{journal_text}

@@ -1,3 +1,4 @@
+-- What is proved by hand of `reports_are_told`.
 use Rattle.sv_check.proofs.Pairs.{pairs_are_told}
 use Rattle.sv_check.proofs.laws.reports_are_told.Goals as goal
 

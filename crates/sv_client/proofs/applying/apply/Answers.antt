@@ -1,3 +1,4 @@
+-- What is proved by hand of `apply`.
 use Rattle.std.proofs.Common.{List, sym, subst}
 use Rattle.sv_wire.specs.declared.message.Held.{Held as Sent}
 use Rattle.sv_wire.specs.declared.message.Item.{Item}

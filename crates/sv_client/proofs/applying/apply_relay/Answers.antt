@@ -1,3 +1,4 @@
+-- What is proved by hand of `apply_relay`.
 use Rattle.std.proofs.Common.{◌==◌, ◌++◌, List, ap, sym, ◌∙◌}
 use Rattle.std.specs.Prelude.{if◌then◌else◌}
 use Rattle.sv_wire.specs.declared.message.Done1.{Done1}

@@ -1,3 +1,4 @@
+-- The loop invariant of `has_bad_action`.
 use Rattle.std.proofs.Common.{◌≡◌, drop}
 use Rattle.sv_client.specs.Kinds.{has_bad_action}
 use Rattle.sv_client.proofs.checks.has_bad_action.Given as goal

@@ -1,3 +1,4 @@
+-- What is proved by hand of `evaluate_items`.
 use Rattle.std.proofs.Common.{◌++◌, ◌<◌, ◌-◌, List, length, drop, take, sym, subst, arith}
 use Rattle.std.proofs.lemmas.List.Elements.{All-head, All-tail}
 use Rattle.sv_wire.specs.declared.message.Item.{Item}

@@ -1,3 +1,4 @@
+-- The measure of `first_missing`.
 use Rattle.std.proofs.Common.{length}
 use Rattle.sv_client.proofs.evaluating.+first_missing.Given as goal
 

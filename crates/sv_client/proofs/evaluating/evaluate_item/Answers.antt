@@ -1,3 +1,4 @@
+-- What is proved by hand of `evaluate_item`.
 use Rattle.std.proofs.Common.{◌<◌, ◌∙◌, ◌++◌, List, option_map, sym, ap, subst}
 use Rattle.std.specs.Prelude.{ℤ}
 use Rattle.sv_world.specs.declared.world.ObjectId.{ObjectId}

@@ -1,3 +1,4 @@
+-- What is proved by hand of `overlay_before`.
 use Rattle.std.proofs.Common.{rules, ◌≡◌, ◌<◌, ◌-◌, length, get_or, subst, sym, arith}
 use Rattle.sv_pending.specs.Made.{IsWhole}
 use Rattle.sv_pending.proofs.Overlays.{whole_at}

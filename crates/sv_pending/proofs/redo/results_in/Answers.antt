@@ -1,3 +1,4 @@
+-- What is proved by hand of `results_in`.
 use Rattle.std.proofs.Common.{◌≡◌, ◌<◌, ◌≤◌, List, length, get_or, refl, sym, ap, subst, ◌∙◌, arith}
 use Rattle.std.proofs.lemmas.List.{length_push, drop_all}
 use Rattle.sv_pending.specs.Pending.{PendingAction, kept_of, redone_after}

@@ -1,3 +1,4 @@
+-- The loop invariant and the measure of `skip_syncs`.
 use Rattle.std.proofs.Common.{◌≡◌, length}
 use Rattle.sv_script.specs.Following.{after_syncs}
 use Rattle.sv_player.proofs.moves.skip_syncs.Given as goal

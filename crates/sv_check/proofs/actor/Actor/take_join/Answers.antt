@@ -1,3 +1,4 @@
+-- What is proved by hand of `Actor::take_join`.
 use Rattle.std.proofs.Common.{rules, List, [], ◌∷◌, ◌++◌, ◌+◌, length, refl, ap, subst, ◌∙◌, arith}
 use Rattle.std.specs.Prelude.{codes}
 use Rattle.std.specs.Fmt.{decimal}

@@ -1,3 +1,4 @@
+-- What is proved by hand of `Player::begin`.
 use Rattle.std.proofs.Common.{List, sym, subst, ◌∙◌}
 use Rattle.std.specs.Prelude.{All}
 use Rattle.std.proofs.lemmas.Result.{err_from_is_err_and}

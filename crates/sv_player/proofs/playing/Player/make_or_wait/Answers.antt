@@ -1,3 +1,4 @@
+-- What is proved by hand of `Player::make_or_wait`.
 use Rattle.std.proofs.Common.{◌≤◌, subst, arith}
 use Rattle.sv_player.proofs.Choosing.{full_waits}
 use Rattle.sv_player.proofs.playing.Player.make_or_wait.Goals as goal

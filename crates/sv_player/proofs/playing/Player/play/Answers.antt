@@ -1,3 +1,4 @@
+-- What is proved by hand of `Player::play`.
 use Rattle.std.proofs.Common.{ℕ, get_or, None, Some, sym, ap, subst, ◌∙◌, arith}
 use Rattle.std.proofs.lemmas.Option.{slice_get-get_or}
 use Rattle.sv_client.specs.Taking.{Identity}

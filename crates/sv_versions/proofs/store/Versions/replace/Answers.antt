@@ -1,3 +1,4 @@
+-- What is proved by hand of `Versions::replace`.
 use Rattle.std.proofs.Common.{◌≡◌, ◌<◌, List, length, get_or, [], ap, ◌∙◌, sym, subst, arith}
 use Rattle.std.proofs.lemmas.List.{get_or_read}
 use Rattle.std.proofs.lemmas.Result.{on_ok_weaker, IfOk-weaker}
