@@ -26,7 +26,7 @@ use Rattle.sv_lines.specs.declared.stop.Stop.TheVariants as stop
 use Rattle.sv_report.specs.Report.{event_text, event_lines, trace_text}
 use Rattle.sv_check.specs.declared.actor.Actor.{Actor}
 use Rattle.sv_check.specs.Acting.{IsActing, WentOn, identity, numbered}
-use Rattle.sv_check.specs.Next.{IsLineOf, NoEvent, replies_of}
+use Rattle.sv_check.specs.Next.{IsLineOf, NoEvent, journal_replies}
 use Rattle.sv_check.specs.Parts.{IsWholeTrace}
 use Rattle.sv_check.specs.Stopping.{IfWrong}
 use Rattle.sv_check.specs.Clients.{EventsStop, IsPartSoFar, PartStops, NoClient, IsClientStop}
@@ -92,7 +92,7 @@ module _ (entries : List Entry) (a : Actor) (number first : ℕ) (shape : Shape)
     of = record { client = client_is; interest = ap (λ (w : Identity). w.interest) who; first_is = from };
     proper = proper_so_far few good;
     follows = follows_so_far;
-    gets = λ s j. subst (λ (u : List Event). IsFront (got u s) (replies_of entries s)) (sym back) (g.gets.fronts s);
+    gets = λ s j. subst (λ (u : List Event). IsFront (got u s) (journal_replies entries s)) (sym back) (g.gets.fronts s);
   }
 
   -- The text of what it did.
@@ -124,7 +124,7 @@ module _ (entries : List Entry) (a : Actor) (number first : ℕ) (shape : Shape)
 
   none_finished : (rest : List ℕ) → a.finished ≡ true → NoEvent a.client.who a.first entries (numbered a) a.left.now rest
   none_finished rest done e left more n line =
-      true≢false (sym (up_finished a.first a.client.events ∙ sym g.flags.finished ∙ done) ∙ here_at a.client.who a.first (replies_of entries) (numbered a) a.left.now e left n.comes)
+      true≢false (sym (up_finished a.first a.client.events ∙ sym g.flags.finished ∙ done) ∙ here_at a.client.who a.first (journal_replies entries) (numbered a) a.left.now e left n.comes)
 
   -- It came to its end, and its trace is not whole.
   pub stopped_whole : (y text rest : List ℕ) (left : ℕ) → number < 32 → IsGoodPlan shape plan → y ≡ (client_line number ++ 10 ∷ []) ++ text → text ≡ event_lines entries (numbered a) ++ rest →

@@ -23,7 +23,7 @@ use Rattle.sv_report.proofs.Doing.{same_text}
 use Rattle.sv_report.proofs.Telling.{told_whole}
 use Rattle.sv_check.specs.declared.actor.Actor.{Actor}
 use Rattle.sv_check.specs.Parts.{AreSomeEntries}
-use Rattle.sv_check.specs.Next.{IsLineOf, replies_of}
+use Rattle.sv_check.specs.Next.{IsLineOf, journal_replies}
 use Rattle.sv_check.specs.Serving.{full_replies}
 use Rattle.sv_check.specs.Acting.{IsActing, IsNextEvent, NoNextEvent, IsNextPlace, NoNextPlace, NoneComes, Settles, Joined, GotReply, numbered, replies_before, begins_got, is_other}
 use Rattle.sv_check.proofs.Settling.{same_Some}
@@ -88,7 +88,7 @@ module _ (entries : List Entry) (a : Actor) (text : List ℕ) (left : ℕ) (g : 
     none_got a.client.who a.first entries a.client.events a.left.now text b
         (λ n reply rest c next fine e.
         let same : n ≡ s = this_session s n is c in
-        let there = subst (λ (k : ℕ). slice_get (replies_of entries k) (length (got (numbered a) k)) ≡ Some reply) same next in
+        let there = subst (λ (k : ℕ). slice_get (journal_replies entries k) (length (got (numbered a) k)) ≡ Some reply) same next in
         never_taken a.client.who (numbered a) reply (none_left entries a.place s reply (got (numbered a) s) right none (g.gets.latest s (current_is s is)) there) fine),
   )
 
@@ -113,7 +113,7 @@ module _ (entries : List Entry) (a : Actor) (text : List ℕ) (left : ℕ) (g : 
     )
 
     -- The next reply of the session is that of the entry.
-    next_reply : (r : Reply) → slice_get (full_replies entries) p ≡ Some r → slice_get (replies_of entries s) (length (got (numbered a) s)) ≡ Some r
+    next_reply : (r : Reply) → slice_get (full_replies entries) p ≡ Some r → slice_get (journal_replies entries s) (length (got (numbered a) s)) ≡ Some r
     next_reply r there =
         let more : got (numbered a) s ++ r ∷ [] ≡ replies_before entries (p + 1) s =
         ap (λ (rs : List Reply). rs ++ r ∷ []) (g.gets.latest s (current_is s is)) ∙ sym (one_before entries a.place s p r next_is there) in
@@ -126,7 +126,7 @@ module _ (entries : List Entry) (a : Actor) (text : List ℕ) (left : ℕ) (g : 
       none_got a.client.who a.first entries a.client.events a.left.now text b
           (λ n reply rest c next fine e.
           let same : n ≡ s = this_session s n is c in
-          let here = subst (λ (k : ℕ). slice_get (replies_of entries k) (length (got (numbered a) k)) ≡ Some reply) same next in
+          let here = subst (λ (k : ℕ). slice_get (journal_replies entries k) (length (got (numbered a) k)) ≡ Some reply) same next in
           let one : reply ≡ r = same_Some reply r (sym here ∙ next_reply r there) in
           bad (sym (up_fault a.first a.client.who a.client.events r) ∙ subst (λ (x : Reply). first_fault_of_reply a.client.who (numbered a) x ≡ None) one fine)),
     )

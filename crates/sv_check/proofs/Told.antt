@@ -19,14 +19,14 @@ use Rattle.sv_system.proofs.Fronts.{front-all, front-append, front-then, get-las
 use Rattle.sv_report.specs.Report.{event_text}
 use Rattle.sv_report.specs.Again.{lines_after}
 use Rattle.sv_report.proofs.Lines.{first_back}
-use Rattle.sv_check.specs.Next.{GetsNext, IsNext, GotFronts, IsSoFar}
+use Rattle.sv_check.specs.Next.{GetsNext, ComesNext, GotFronts, IsSoFar}
 use Rattle.sv_check.proofs.Events.{here_at, same_left, event_tells}
 
 -- ---- Events in order, to the end of a trace
 
 abbrev pub AreNext : Identity → ℕ → (ℕ → List Reply) → List Event → List Step → List Event → Type 0
 AreNext who first R t before [] = is_finished t ≡ true
-AreNext who first R t before (e ∷ es) = (left : List Step) × (IsNext who first R t before e left × AreNext who first R (e ∷ t) left es)
+AreNext who first R t before (e ∷ es) = (left : List Step) × (ComesNext who first R t before e left × AreNext who first R (e ∷ t) left es)
 
 pub line_rest : (line lines more x y : List ℕ) (left : List ℕ) → left ≡ line ++ 10 ∷ [] → (left ++ lines) ++ x ≡ (left ++ more) ++ y → lines ++ x ≡ more ++ y
 line_rest line lines more x y left is same = append_cancel_left left (lines ++ x) (more ++ y) (sym (append_assoc left lines x) ∙ same ∙ append_assoc left more y)

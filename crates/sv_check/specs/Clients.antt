@@ -13,7 +13,7 @@ use Rattle.sv_system.specs.Fronts.{IsFront}
 use Rattle.sv_report.specs.Report.{event_lines, trace_text}
 use Rattle.sv_check.specs.declared.actor.Actor.{Actor}
 use Rattle.sv_check.specs.Acting.{WentOn, numbered}
-use Rattle.sv_check.specs.Next.{NoEvent, replies_of}
+use Rattle.sv_check.specs.Next.{NoEvent, journal_replies}
 use Rattle.sv_check.specs.Parts.{IsWholeTrace, IsOf}
 
 -- The lines of an actor's events stop being right: it went on as far as they are, is not finished, and no event has a line with which the
@@ -32,7 +32,7 @@ pub record IsPartSoFar (shape : Shape) (entries : List Entry) (number first : �
   pub of : IsOf number first plan L
   pub proper : Proper shape L
   pub follows : Follows shape plan.steps L
-  pub gets : (s : ℕ) → has_session L s ≡ true → IsFront (got (reverse L.events) s) (replies_of entries s)
+  pub gets : (s : ℕ) → has_session L s ≡ true → IsFront (got (reverse L.events) s) (journal_replies entries s)
 
 -- It stops being right behind L: no event that may come next has a line with which the rest begins, and L is not whole.
 pub record PartStops (shape : Shape) (entries : List Entry) (number first : ℕ) (plan : Plan) (text : List ℕ) (left : ℕ) : Type 0 where

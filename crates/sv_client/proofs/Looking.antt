@@ -26,7 +26,7 @@ use Rattle.sv_client.specs.declared.trace.Event.{Event}
 use Rattle.sv_client.specs.Traces.{held_of, pending_of}
 use Rattle.sv_client.specs.Taking.{Identity, outstanding, told, allows, is_out_of_order, begins_by, is_bad_head, is_for_front, ends_with_front, is_bad_relay, is_good_relay, has_bad_item, missing_in, Fault, Unasked, WrongKind, BadOrder, BadItem, missing_fault, fault_for, fault_after, first_fault_of_reply}
 use Rattle.sv_client.specs.Kinds.{kind_of, allows_kind, head_ascends, items_ascend, is_disordered, ends_as_own, has_bad_action, is_good_answer, is_unfit}
-use Rattle.sv_client.specs.Evaluating.{IsHeadWithin, ItemsReadWithin, AreAbove, IsFitting}
+use Rattle.sv_client.specs.Evaluating.{IsHeadWithin, ItemsReadWithin, ItemsAreAbove, IsFitting}
 use Rattle.sv_client.specs.Answers.{IsFine}
 
 -- ---- Kinds
@@ -242,7 +242,7 @@ not_below c t e = go (cases_lt c t)
     go (inl l) = let up = lt-ltb c t l in absurd (true_false up e)
     go (inr l) = l
 
-ascending_above : (told : ℕ) (i : Item) (items : List Item) → told < i.pos → items_ascend (i ∷ items) ≡ true → AreAbove told (i ∷ items)
+ascending_above : (told : ℕ) (i : Item) (items : List Item) → told < i.pos → items_ascend (i ∷ items) ≡ true → ItemsAreAbove told (i ∷ items)
 ascending_above told i [] l e = All-cons (λ (j : Item). told < j.pos) i [] l (All-nil (λ (j : Item). told < j.pos))
 ascending_above told i (j ∷ items) l e =
     let f = both_true (nat_lt i.pos j.pos) (items_ascend (j ∷ items)) e in
@@ -252,7 +252,7 @@ not_not : (b : Bool) → not b ≡ false → b ≡ true
 not_not true e = refl
 not_not false e = cc
 
-items_above : (commit told : ℕ) (items : List Item) → told ≤ commit → items_ascend items ≡ true → begins_by commit items ≡ false → AreAbove told items
+items_above : (commit told : ℕ) (items : List Item) → told ≤ commit → items_ascend items ≡ true → begins_by commit items ≡ false → ItemsAreAbove told items
 items_above commit told [] l e b = All-nil (λ (j : Item). told < j.pos)
 items_above commit told (i ∷ items) l e b = ascending_above told i items (omega (arith, l, leb-false i.pos commit b)) e
 
@@ -262,7 +262,7 @@ no_head n = All-nil (λ (h : Sent). h.object.0 < n)
 no_reads : (n : ℕ) → ItemsReadWithin n []
 no_reads n = All-nil (λ (i : Item). ReadsWithin n i.action)
 
-none_above : (n : ℕ) → AreAbove n []
+none_above : (n : ℕ) → ItemsAreAbove n []
 none_above n = All-nil (λ (j : Item). n < j.pos)
 
 fitting_by : (who : Identity) (t : List Event) (r : Request) (reply : Reply) → is_out_of_order t reply ≡ false → has_bad_item who (pending_of t) r reply ≡ false → IsFitting who.shape.objects (told t) reply

@@ -81,10 +81,10 @@ is_unfit id shape pending kind (replies.Dropped seq chain far) = not (is_for_fro
 is_unfit id shape pending kind (replies.Settled seq pos) = not (is_for_front seq pending)
 is_unfit id shape pending kind _ = false
 
-abbrev pub is_relay : Reply → Bool
-is_relay (replies.Relay seq commit head items) = true
-is_relay _ = false
+abbrev pub asks_for_done : Reply → Bool
+asks_for_done (replies.Relay seq commit head items) = true
+asks_for_done _ = false
 
 -- The kinds of the requests that a reply makes: a relay is answered by a Done.
 abbrev pub done_kinds : Reply → List Awaited
-done_kinds reply = if is_relay reply then kinds.Done ∷ [] else []
+done_kinds reply = if asks_for_done reply then kinds.Done ∷ [] else []

@@ -139,9 +139,9 @@ has_bad_item who pending request _ = false
 -- ---- Missing values
 
 -- The first of the objects that has no value below a position.
-abbrev pub first_missing : List Held → ℕ → List ℕ → Option ℕ
-first_missing held pos [] = None
-first_missing held pos (x ∷ xs) = if is_none (read_below held x pos) then Some x else first_missing held pos xs
+abbrev pub first_unheld : List Held → ℕ → List ℕ → Option ℕ
+first_unheld held pos [] = None
+first_unheld held pos (x ∷ xs) = if is_none (read_below held x pos) then Some x else first_unheld held pos xs
 
 abbrev pub missing_at : ℕ → Option ℕ → Option (ℕ × ℕ) → Option (ℕ × ℕ)
 missing_at pos (Some x) other = Some (pos, x)
@@ -151,7 +151,7 @@ missing_at pos None other = other
 abbrev pub first_missing_of : List Held → List Item → Option (ℕ × ℕ)
 first_missing_of held [] = None
 first_missing_of held (item ∷ items) =
-    missing_at item.pos (first_missing held item.pos (read_set item.action)) (first_missing_of (held ++ item_held held item) items)
+    missing_at item.pos (first_unheld held item.pos (read_set item.action)) (first_missing_of (held ++ item_held held item) items)
 
 abbrev pub missing_in : List Held → Reply → Option (ℕ × ℕ)
 missing_in held (replies.Relay seq commit head items) = first_missing_of (held ++ head_held commit head) items

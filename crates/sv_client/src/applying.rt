@@ -7,7 +7,7 @@ ghost use Rattle.sv_wire.specs.declared.message.Reply.TheVariants as replies;
 ghost use Rattle.sv_client.specs.declared.fault.TakeFault.TheVariants as faults;
 ghost use Rattle.sv_client.specs.Traces.{are_same, last_values, settled_by, without_front};
 ghost use Rattle.sv_client.specs.Same.{are_same_values};
-ghost use Rattle.sv_client.specs.Evaluating.{IsHeadWithin, ItemsReadWithin, AreAbove, IsFitting, IsApplied, keeps_front};
+ghost use Rattle.sv_client.specs.Evaluating.{IsHeadWithin, ItemsReadWithin, ItemsAreAbove, IsFitting, IsApplied, keeps_front};
 
 use crate::evaluating::{evaluate_items, hold_head};
 use crate::fault::TakeFault;
@@ -129,7 +129,7 @@ fn apply_relay(
     ensures versions { versions.new.shape ≡ versions.old.shape }
     ensures undone { undone undo.new versions.new.held ≡ undone undo.old versions.old.held }
     ensures shape { pending.new.shape ≡ pending.old.shape }
-    ensures applied { (told : ℕ) (all : List Kept) → AnswersAbove told versions.old.held all → AreAbove told items.now → IsApplied told all (replies.Relay seq commit head.now items.now) pending.old.items result versions.new.held pending.new.items }
+    ensures applied { (told : ℕ) (all : List Kept) → AnswersAbove told versions.old.held all → ItemsAreAbove told items.now → IsApplied told all (replies.Relay seq commit head.now items.now) pending.old.items result versions.new.held pending.new.items }
     ensures err { OnErr result (pending.new ≡ pending.old) }
 {
     hold_head(alloc, versions, undo, commit, head)?;

@@ -6,7 +6,7 @@ ghost use Rattle.sv_client.specs.declared.trace.Event.TheVariants as events;
 ghost use Rattle.sv_client.specs.Traces.{joins, makes, held_of, pending_of, view_of};
 ghost use Rattle.sv_client.specs.Taking.{outstanding, told, first_fault_of_reply};
 ghost use Rattle.sv_client.specs.Proper.{IsGoodIdentity, MayMake, MayPoll, MayLeave, Proper, in_session};
-ghost use Rattle.sv_client.specs.Seen.{new_client, with_event, newly_asked, event_of, trace_from};
+ghost use Rattle.sv_client.specs.Seen.{new_client, with_event, newly_asked, event_of_mark, trace_from};
 ghost use Rattle.sv_client.specs.Answers.{view_seen, IsMakeFault, IsPollFault, IsTakeFault, IsFine, got_now};
 
 use crate::asking::{awaited_at_join, joining, note_asked};
@@ -52,9 +52,9 @@ impl Model for Client {
 
     ghost coded = { Prim.hlevel (codes, event_rows.the_row.coded) };
 
-    ghost use Rattle.sv_client.specs.Invariant.{view_of, IsClient};
+    ghost use Rattle.sv_client.specs.Invariant.{client_seen, IsClient};
 
-    ghost view = { view_of };
+    ghost view = { client_seen };
 
     ghost invariant = { IsClient };
 }
@@ -221,7 +221,7 @@ impl Client {
 
     /// Notes an event in the trace, and changes nothing else.
     pub fn note(&mut self, mark: Mark) -> Result<(), AllocError>
-        ensures ok { OnOk result (self.new ≡ with_event self.old (event_of mark)) }
+        ensures ok { OnOk result (self.new ≡ with_event self.old (event_of_mark mark)) }
         ensures err { OnErr result (self.new ≡ self.old) }
     {
         let event = match mark {

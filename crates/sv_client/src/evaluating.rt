@@ -5,8 +5,8 @@ ghost use Rattle.sv_versions.specs.Held.{Held as Kept, AnswersAbove, read_below}
 ghost use Rattle.sv_versions.specs.Undone.{undone};
 ghost use Rattle.sv_pending.specs.Made.{ReadsWithin};
 ghost use Rattle.sv_client.specs.Traces.{head_held, held_at};
-ghost use Rattle.sv_client.specs.Taking.{first_missing};
-ghost use Rattle.sv_client.specs.Evaluating.{numbers, AreWithin, IsHeadWithin, ItemsReadWithin, AreAbove, values_below, IsEvaluated, AreEvaluated};
+ghost use Rattle.sv_client.specs.Taking.{first_unheld};
+ghost use Rattle.sv_client.specs.Evaluating.{numbers, AreWithin, IsHeadWithin, ItemsReadWithin, ItemsAreAbove, values_below, IsEvaluated, AreEvaluated};
 
 use crate::fault::TakeFault;
 use std::alloc::{AllocError, Global};
@@ -87,16 +87,16 @@ fn push_masked(
 }
 
 /// The first of the objects that has no value below a position.
-fn first_missing(versions: &Versions, pos: u32, objects: &[ObjectId]) -> Option<ObjectId>
+fn first_unheld(versions: &Versions, pos: u32, objects: &[ObjectId]) -> Option<ObjectId>
     requires { AreWithin versions.now.shape.objects objects.now }
-    ensures { option_map (λ o. o.0) result ≡ first_missing versions.now.held pos (numbers objects.now) }
+    ensures { option_map (λ o. o.0) result ≡ first_unheld versions.now.held pos (numbers objects.now) }
 {
     let [object, rest @ ..] = objects else {
         return None;
     };
     match versions.read_below(*object, pos) {
         None => Some(*object),
-        Some(_) => first_missing(versions, pos, rest),
+        Some(_) => first_unheld(versions, pos, rest),
     }
 }
 
@@ -145,7 +145,7 @@ fn evaluate_item(
     ensures evaluated { (told : ℕ) (all : List Kept) → AnswersAbove told versions.old.held all → told < item.now.pos → IsEvaluated told all item.now result versions.new.held }
 {
     let reads = item.action.reads.as_slice();
-    if let Some(object) = first_missing(versions, item.pos, reads) {
+    if let Some(object) = first_unheld(versions, item.pos, reads) {
         return Err(TakeFault::Missing {
             pos: item.pos,
             object,
@@ -176,7 +176,7 @@ pub(crate) fn evaluate_items(
     requires { ItemsReadWithin versions.old.shape.objects items.now }
     ensures shape { versions.new.shape ≡ versions.old.shape }
     ensures undone { undone undo.new versions.new.held ≡ undone undo.old versions.old.held }
-    ensures evaluated { (told : ℕ) (all : List Kept) → AnswersAbove told versions.old.held all → AreAbove told items.now → AreEvaluated told all items.now results.old.items results.new.items result versions.new.held }
+    ensures evaluated { (told : ℕ) (all : List Kept) → AnswersAbove told versions.old.held all → ItemsAreAbove told items.now → AreEvaluated told all items.now results.old.items results.new.items result versions.new.held }
 {
     let [item, rest @ ..] = items else {
         return Ok(());

@@ -29,14 +29,14 @@ pub record IsGoodShape (shape : Shape) : Type 0 where
   pub some_attrs : 1 ≤ shape.attrs
   pub few_attrs : shape.attrs ≤ 4
 
-abbrev pub plan_of : Identity → List Step → Plan
-plan_of who script = record { interest = who.interest; steps = script }
+abbrev pub scripted_plan : Identity → List Step → Plan
+scripted_plan who script = record { interest = who.interest; steps = script }
 
 -- a client that may play a script
 pub record MayPlay (who : Identity) (script : List Step) : Type 0 where
   pub identity : IsGoodIdentity who
   pub shape : IsGoodShape who.shape
-  pub plan : IsGoodPlan who.shape (plan_of who script)
+  pub plan : IsGoodPlan who.shape (scripted_plan who script)
 
 -- the lines tell the changes that the events made
 abbrev pub AreTold : Identity → List Event → List (List ℕ) → Type 0

@@ -8,7 +8,7 @@ ghost use Rattle.sv_script.specs.Following.{must_join};
 ghost use Rattle.sv_script.specs.Telling.{told_lines};
 ghost use Rattle.sv_player.specs.Going.{IsGoing, IsNew, MayPlay};
 ghost use Rattle.sv_player.specs.Sessions.{IsFresh, IsSameEnd};
-ghost use Rattle.sv_player.specs.Ends.{IsNext, NextCause, AreKept, IsClosed, HasPlayed};
+ghost use Rattle.sv_player.specs.Ends.{IsPlayedNext, NextCause, AreKept, IsClosed, HasPlayed};
 ghost use Rattle.sv_player.specs.Played.{IsTraceOf, HasFollowed, AreDone, IsCause, IsExact};
 
 use crate::outcome::{Ending, PlayerCause, PlayerOut};
@@ -28,7 +28,7 @@ impl<'a> Player<'a> {
         requires needed { must_join self.old.client.events ≡ true }
         requires few { joins self.old.client.events < 64 }
         requires fresh { IsFresh (E.told end.old) }
-        ensures next { IsNext result (joins self.old.client.events) self.old self.new (E.told end.new) }
+        ensures next { IsPlayedNext result (joins self.old.client.events) self.old self.new (E.told end.new) }
         ensures end { IsSameEnd (E.told end.old) (E.told end.new) }
         ensures cause { NextCause (E.faults end.old) (E.faults end.new) result }
         ensures calm { E.calm end.old → E.calm end.new }

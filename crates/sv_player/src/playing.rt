@@ -5,7 +5,7 @@ ghost use Rattle.sv_client.specs.declared.fault.TakeFault.TheVariants as faults;
 ghost use Rattle.sv_client.specs.Traces.{joins};
 ghost use Rattle.sv_client.specs.Taking.{first_fault_of_reply};
 ghost use Rattle.sv_client.specs.Proper.{MayMake, MayPoll, MayLeave};
-ghost use Rattle.sv_client.specs.Seen.{event_of, newly_asked, with_event};
+ghost use Rattle.sv_client.specs.Seen.{event_of_mark, newly_asked, with_event};
 ghost use Rattle.sv_client.specs.Answers.{IsTakeFault, got_now};
 ghost use Rattle.sv_watch.specs.Told.{change_line, IsChangeIn};
 ghost use Rattle.sv_player.specs.Seen.{changes_since, seen_again};
@@ -132,7 +132,7 @@ impl<'a> Player<'a> {
     /// Does a step that asks for nothing: a show, a cut or a quit.
     pub(crate) fn note(&mut self, mark: Mark, rest: &'a [Step]) -> Result<(), AllocError>
         requires count { self.old.count ≤ 2048 }
-        ensures ok { OnOk result (Did (event_of mark) rest.now self.old self.new) }
+        ensures ok { OnOk result (Did (event_of_mark mark) rest.now self.old self.new) }
         ensures err { OnErr result (self.new ≡ self.old) }
     {
         self.client.note(mark)?;

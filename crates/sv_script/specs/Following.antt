@@ -106,14 +106,14 @@ abbrev pub steps_done : List Event → List Event
 steps_done [] = []
 steps_done (e ∷ t) = if is_step e then steps_done t ++ e ∷ [] else steps_done t
 
-abbrev pub with_event : Option Event → List Event → List Event
-with_event None es = es
-with_event (Some e) es = e ∷ es
+abbrev pub led_by : Option Event → List Event → List Event
+led_by None es = es
+led_by (Some e) es = e ∷ es
 
 -- The events that the steps of a script do, in order.
 abbrev pub events_of : List Step → List Event
 events_of [] = []
-events_of (step ∷ ss) = with_event (event_of step) (events_of ss)
+events_of (step ∷ ss) = led_by (event_of step) (events_of ss)
 
 -- ---- Traces
 
