@@ -1,6 +1,7 @@
 -- A client that does what the lines of its part tell. Events stand with the latest first; the client counts its sessions from 0.
 use Rattle.std.specs.Prelude.{◌≡◌, ◌⊎◌, ℕ, ◌+◌, ◌<◌, ◌==◌, Bool, true, false, ◌||◌, List, [], ◌∷◌, ◌++◌, map, length, reverse, take, drop, get_or, slice_get, Option, Some, None, IfSome, if◌then◌else◌}
 use Rattle.std.specs.List.{list_any}
+use Rattle.sv_world.specs.Limits.{most_sessions}
 use Rattle.sv_world.specs.declared.world.Shape.{Shape}
 use Rattle.sv_scenario.specs.declared.scenario.Plan.{Plan}
 use Rattle.sv_wire.specs.declared.message.Request.{Request}
@@ -72,7 +73,7 @@ pub record AreFlags (a : Actor) : Type 0 where
 
 -- The client did its script so far, and got and asked what the journal has.
 pub record IsActing (entries : List Entry) (a : Actor) : Type 0 where
-  pub few : a.first < 64
+  pub few : a.first < most_sessions
   pub shape : a.shape ≡ a.client.who.shape
   pub proper : AreProper a.client.who 0 a.client.events
   pub follows : FollowsTo a.client.who a.script.now a.client.events a.left.now

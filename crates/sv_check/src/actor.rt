@@ -1,6 +1,7 @@
 //! A client that does what the lines of its part tell.
 ghost use Rattle.std.specs.Prelude.{◌≡◌, ℕ, ◌+◌, ◌<◌, ◌^◌, true, false, List, [], ◌∷◌, ◌++◌, length, reverse, codes, string_bytes, None, IfOk, IfSome, OnOk, MatchOption};
 ghost use Rattle.std.specs.Fmt.{decimal};
+ghost use Rattle.sv_world.specs.Limits.{most_sessions};
 ghost use Rattle.sv_client.specs.declared.trace.Event.TheVariants as events;
 ghost use Rattle.sv_client.specs.Traces.{joins};
 ghost use Rattle.sv_client.specs.Taking.{first_fault_of_reply};
@@ -25,7 +26,7 @@ use sv_lines::{Stop, take_line};
 use sv_report::{append_after, append_before};
 use sv_scenario::Step;
 use sv_wire::{Reply, Request};
-use sv_world::{Action, ObjectId, Shape, copy_action, copy_objects};
+use sv_world::{Action, MOST_SESSIONS, ObjectId, Shape, copy_action, copy_objects};
 
 /// A client that does its script.
 #[derive(Drop)]
@@ -128,8 +129,8 @@ impl<'a> Actor<'a> {
     }
 
     fn join(&mut self) -> Result<(), AllocError>
-        requires few { joins self.old.client.events < 64 }
-        requires first { self.old.first < 64 }
+        requires few { joins self.old.client.events < most_sessions }
+        requires first { self.old.first < most_sessions }
         ensures { OnOk result (Joined self.old self.new) }
     {
         let session = self.first + self.client.sessions();
@@ -155,7 +156,7 @@ impl<'a> Actor<'a> {
         ensures told { IfOk result (λ rest. IsLineOf (entries_of served.now) (numbered self.old) (numbered self.new) text.now rest.now) }
         ensures wrong { IfWrong result (NoneComes (entries_of served.now) self.old text.now) }
     {
-        if self.client.sessions() >= 64 {
+        if self.client.sessions() >= MOST_SESSIONS {
             return Err(Stop::Wrong { left: text.len() });
         }
         let session = self.first + self.client.sessions();
@@ -399,7 +400,7 @@ impl<'a> Actor<'a> {
 
     /// What it did.
     pub(crate) fn into_trace(self) -> Trace
-        requires { self.first < 64 }
+        requires { self.first < most_sessions }
         ensures trace { result ≡ trace_from self.entry.first self.entry.client }
         ensures proper { Proper self.entry.client.who.shape result }
     {

@@ -2,6 +2,7 @@
 ghost use Rattle.std.specs.Prelude.{◌≡◌, ◌+◌, ◌<◌, ◌^◌, ◌∷◌, ◌++◌, true, [], None, length, reverse, codes, string_bytes, IfOk, IfSome, OnOk};
 ghost use Rattle.std.specs.Fmt.{decimal};
 ghost use Rattle.std.specs.List.{flat_map};
+ghost use Rattle.sv_world.specs.Limits.{most_clients, most_sessions};
 ghost use Rattle.sv_client.specs.declared.trace.Trace.{Trace};
 ghost use Rattle.sv_scenario.specs.Limits.{IsGoodScenario, IsGoodPlan};
 ghost use Rattle.sv_check.specs.Serving.{HasReplies, entries_of};
@@ -34,8 +35,8 @@ struct Part<'a> {
 }
 
 fn open_actor<'a>(alloc: Global, served: &Served, part: &Part<'a>) -> Result<Actor<'a>, AllocError>
-    requires number { part.now.number < 32 }
-    requires first { part.now.first < 64 }
+    requires number { part.now.number < most_clients }
+    requires first { part.now.first < most_sessions }
     requires plan { IsGoodPlan part.now.shape part.now.plan.now }
     ensures acting { IfOk result (λ actor. IsActing (entries_of served.now) actor) }
     ensures who { IfOk result (λ actor. actor.client.who ≡ identity part.now.number part.now.shape part.now.plan.now) }
@@ -128,8 +129,8 @@ fn take_client<'a>(
 ) -> Result<(Trace, &'a [u8]), Stop>
     requires replies { HasReplies served.now }
     requires right { AreSomeEntries (reverse (entries_of served.now)) }
-    requires number { part.now.number < 32 }
-    requires first { part.now.first < 64 }
+    requires number { part.now.number < most_clients }
+    requires first { part.now.first < most_sessions }
     requires plan { IsGoodPlan part.now.shape part.now.plan.now }
     ensures whole { IfOk result (λ r. IsWholeTrace part.now.shape (reverse (entries_of served.now)) part.now.plan.now r.0) }
     ensures of_it { IfOk result (λ r. IsOf part.now.number part.now.first part.now.plan.now r.0) }

@@ -1,5 +1,6 @@
 //! What a client that follows its script does next, other than to join and to get a reply.
 ghost use Rattle.std.specs.Prelude.{◌≡◌, ◌<◌, true, false, length, Some, None, IfOk, MatchOption};
+ghost use Rattle.sv_world.specs.Limits.{most_outstanding};
 ghost use Rattle.sv_world.specs.Faults.{first_fault_of_action};
 ghost use Rattle.sv_client.specs.declared.trace.Event.TheVariants as events;
 ghost use Rattle.sv_client.specs.Taking.{outstanding};
@@ -9,9 +10,11 @@ ghost use Rattle.sv_report.specs.Again.{MayDo};
 ghost use Rattle.sv_check.specs.Acting.{IsNextEvent, NoNextEvent, NotNow, is_sync};
 
 use std::alloc::{AllocError, Global};
-use sv_client::{Client, Event};
+use sv_client::{Client, Event, MOST_MADE};
 use sv_scenario::Step;
-use sv_world::{Action, Shape, check_action, copy_action, copy_objects};
+use sv_world::{
+    Action, MOST_OUTSTANDING, MOST_PENDING, Shape, check_action, copy_action, copy_objects,
+};
 
 fn is_sync(step: &Step) -> bool
     ensures { result ≡ is_sync step.now }
@@ -45,10 +48,10 @@ fn unsynced<'a>(client: &Client, steps: &'a [Step]) -> &'a [Step]
 }
 
 fn may_ask(client: &Client) -> bool
-    ensures all { in_session client.now.events ≡ true → length (outstanding client.now.who client.now.events) < 16 → result ≡ true }
-    ensures right { result ≡ true → (in_session client.now.events ≡ true) × (length (outstanding client.now.who client.now.events) < 16) }
+    ensures all { in_session client.now.events ≡ true → length (outstanding client.now.who client.now.events) < most_outstanding → result ≡ true }
+    ensures right { result ≡ true → (in_session client.now.events ≡ true) × (length (outstanding client.now.who client.now.events) < most_outstanding) }
 {
-    client.in_session() && client.outstanding() < 16
+    client.in_session() && client.outstanding() < MOST_OUTSTANDING
 }
 
 fn is_good(shape: Shape, action: &Action) -> bool
@@ -66,7 +69,10 @@ fn may_make(client: &Client, shape: Shape, action: &Action) -> bool
     ensures all { MayMake client.now.who client.now.events action.now → result ≡ true }
     ensures right { result ≡ true → MayMake client.now.who client.now.events action.now }
 {
-    may_ask(client) && client.pending() < 8 && client.made() < 65536 && is_good(shape, action)
+    may_ask(client)
+        && client.pending() < MOST_PENDING
+        && client.made() < MOST_MADE
+        && is_good(shape, action)
 }
 
 fn made(

@@ -42,6 +42,10 @@ pub record Made (text : List ℕ) (old new : ClientView) : Type 0 where
   pub may : MayMake old.who old.events action
   pub did : Did (events.Make action) old new
 
+-- the text of an action has fewer bytes
+abbrev pub text_limit : ℕ
+text_limit = 1000
+
 -- no action of the text may be made now
 abbrev pub NoneMayBeMade : List ℕ → ClientView → Type 0
 NoneMayBeMade text c = (action : Action) → IsActionText action (tokens_of text) → MayMake c.who c.events action → ⊥

@@ -6,7 +6,7 @@ ghost use Rattle.sv_player.specs.Going.{IsMove, IsGoing, IsReady, is_sync};
 
 use crate::playing::Player;
 use sv_scenario::Step;
-use sv_world::{Action, List, ObjectId};
+use sv_world::{Action, List, MOST_OUTSTANDING, MOST_PENDING, ObjectId};
 
 /// A player's next move, in a session that has its Welcome, with the steps that it leaves.
 pub(crate) enum Move<'a> {
@@ -99,7 +99,7 @@ impl<'a> Player<'a> {
         requires next { unsynced self.now.client.who self.now.client.events self.now.left.now ≡ steps.Act action.now ∷ rest.now }
         ensures { IsMove result self.now.client.who self.now.client.events self.now.left.now }
     {
-        if self.client.pending() < 8 && self.client.outstanding() < 16 {
+        if self.client.pending() < MOST_PENDING && self.client.outstanding() < MOST_OUTSTANDING {
             Move::Make(action, rest)
         } else {
             Move::Wait
@@ -110,7 +110,7 @@ impl<'a> Player<'a> {
         requires next { unsynced self.now.client.who self.now.client.events self.now.left.now ≡ steps.Poll ∷ rest.now }
         ensures { IsMove result self.now.client.who self.now.client.events self.now.left.now }
     {
-        if self.client.outstanding() < 16 {
+        if self.client.outstanding() < MOST_OUTSTANDING {
             Move::Poll(rest)
         } else {
             Move::Wait

@@ -1,5 +1,6 @@
 //! Playing one session over its end.
 ghost use Rattle.std.specs.Prelude.{◌≡◌, ◌≢◌, ◌<◌, ◌+◌, [], ◌∷◌, Some, None, false, true, length, option_to_list, All, IfOk, IfErr, IfSome, OnOk, OnErr, if◌then◌else◌};
+ghost use Rattle.sv_world.specs.Limits.{most_outstanding, most_pending, most_sessions};
 ghost use Rattle.sv_frame.specs.Frames.{first_frame};
 ghost use Rattle.sv_wire.specs.declared.message.Reply as reply_rows;
 ghost use Rattle.sv_wire.specs.Grammar.{IsWireRequest};
@@ -45,7 +46,7 @@ impl<'a> Player<'a> {
     fn begin<E: End>(&mut self, buffers: &mut Buffers, end: &mut E) -> Result<(), PlayerCause>
         requires going { IsGoing self.old }
         requires needed { must_join self.old.client.events ≡ true }
-        requires few { joins self.old.client.events < 64 }
+        requires few { joins self.old.client.events < most_sessions }
         requires fresh { IsFresh (E.told end.old) }
         requires empty { (buffers.old.reader ≡ []) × (buffers.old.outbox ≡ []) }
         ensures turn { IsTurn result (joins self.old.client.events) (events.Join (joins self.old.client.events)) self.old self.new buffers.new (E.told end.new) }
@@ -70,7 +71,7 @@ impl<'a> Player<'a> {
         requires at { IsAt (latest_session self.old.client.events) self.old buffers.old (E.told end.old) }
         requires ready { IsReady self.old.client.who self.old.client.events self.old.left.now }
         requires next { unsynced self.old.client.who self.old.client.events self.old.left.now ≡ steps.Act action.now ∷ rest.now }
-        requires room { (length (pending_of self.old.client.events) < 8) × (length (outstanding self.old.client.who self.old.client.events) < 16) }
+        requires room { (length (pending_of self.old.client.events) < most_pending) × (length (outstanding self.old.client.who self.old.client.events) < most_outstanding) }
         ensures turn { IsTurn result (latest_session self.old.client.events) (events.Make action.now) self.old self.new buffers.new (E.told end.new) }
         ensures same_end { which_end (E.told end.new) ≡ which_end (E.told end.old) }
         ensures cause { FaultCause (E.faults end.old) (E.faults end.new) result }
@@ -90,7 +91,7 @@ impl<'a> Player<'a> {
         requires at { IsAt (latest_session self.old.client.events) self.old buffers.old (E.told end.old) }
         requires ready { IsReady self.old.client.who self.old.client.events self.old.left.now }
         requires next { unsynced self.old.client.who self.old.client.events self.old.left.now ≡ steps.Poll ∷ rest.now }
-        requires room { length (outstanding self.old.client.who self.old.client.events) < 16 }
+        requires room { length (outstanding self.old.client.who self.old.client.events) < most_outstanding }
         ensures turn { IsTurn result (latest_session self.old.client.events) events.Poll self.old self.new buffers.new (E.told end.new) }
         ensures same_end { which_end (E.told end.new) ≡ which_end (E.told end.old) }
         ensures cause { FaultCause (E.faults end.old) (E.faults end.new) result }
@@ -431,7 +432,7 @@ impl<'a> Player<'a> {
         requires watch { watch.now.shape ≡ self.old.client.who.shape }
         requires going { IsGoing self.old }
         requires needed { must_join self.old.client.events ≡ true }
-        requires few { joins self.old.client.events < 64 }
+        requires few { joins self.old.client.events < most_sessions }
         requires fresh { IsFresh (E.told end.old) }
         ensures played { IsPlayed result (joins self.old.client.events) self.old self.new (E.told end.new) }
         ensures end { IsSameEnd (E.told end.old) (E.told end.new) }
