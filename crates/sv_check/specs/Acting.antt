@@ -6,7 +6,6 @@ use Rattle.sv_world.specs.declared.world.Shape.{Shape}
 use Rattle.sv_scenario.specs.declared.scenario.Plan.{Plan}
 use Rattle.sv_wire.specs.declared.message.Request.{Request}
 use Rattle.sv_wire.specs.declared.message.Reply.{Reply}
-use Rattle.sv_wire.specs.declared.message.Reply.TheVariants as replies
 use Rattle.sv_journal.specs.declared.entry.Entry.{Entry}
 use Rattle.sv_journal.specs.History.{accepted}
 use Rattle.sv_journal.specs.Sessions.{is_end}
@@ -20,10 +19,10 @@ use Rattle.sv_client.specs.Seen.{raised, with_event, newly_asked}
 use Rattle.sv_report.specs.Again.{MayDo, IsPlace, behind_next}
 use Rattle.sv_report.specs.Report.{entry_number}
 use Rattle.sv_scenario.specs.declared.scenario.Step.{Step}
-use Rattle.sv_scenario.specs.declared.scenario.Step.TheVariants as steps
-use Rattle.sv_script.specs.Following.{FollowsTo, MayCome, event_of, must_join, is_welcomed, is_finished}
+use Rattle.sv_script.specs.Following.{FollowsTo, MayCome, event_of, must_join, is_bye, is_welcomed, is_finished}
 use Rattle.sv_system.specs.Fits.{is_join_of, requests_in, replies_in, IsEndLast}
 use Rattle.sv_system.specs.Fronts.{IsFront}
+use Rattle.sv_system.specs.Outcomes.{is_quit}
 use Rattle.sv_check.specs.declared.actor.Actor.{Actor}
 use Rattle.sv_check.specs.Next.{NoEvent}
 
@@ -90,14 +89,6 @@ pub record WentOn (entries : List Entry) (old new : Actor) : Type 0 where
   pub script : new.script.now ≡ old.script.now
 
 -- ---- What comes next
-
-abbrev pub is_bye : Reply → Bool
-is_bye replies.Bye = true
-is_bye _ = false
-
-abbrev pub is_sync : Step → Bool
-is_sync steps.Sync = true
-is_sync _ = false
 
 -- An event that is no Join and no Got.
 abbrev pub is_other : Event → Bool
@@ -188,13 +179,9 @@ pub record GotReply (reply : Reply) (place : ℕ) (old new : Actor) : Type 0 whe
   }
   pub asked_is : new.asked.items ≡ old.asked.items ++ newly_asked old.client.who old.client.events (got_now old.client.events reply)
 
-abbrev pub is_cut : Event → Bool
-is_cut events.Cut = true
-is_cut _ = false
-
-abbrev pub is_quit : Event → Bool
-is_quit events.Quit = true
-is_quit _ = false
+abbrev pub cuts_session : Event → Bool
+cuts_session events.Cut = true
+cuts_session _ = false
 
 -- It did such an event.
 pub record Made (e : Event) (old new : Actor) : Type 0 where
@@ -202,7 +189,7 @@ pub record Made (e : Event) (old new : Actor) : Type 0 where
   pub same : new ≡ record old {
     client = new.client;
     asked = new.asked;
-    between = old.between || is_cut e;
+    between = old.between || cuts_session e;
     finished = old.finished || is_quit e;
   }
   pub asked_is : new.asked.items ≡ old.asked.items ++ newly_asked old.client.who old.client.events e

@@ -11,7 +11,7 @@ ghost use Rattle.sv_report.specs.Again.{MayDo};
 ghost use Rattle.sv_report.specs.Report.{event_text};
 ghost use Rattle.sv_script.specs.Following.{must_join, is_welcomed, is_finished};
 ghost use Rattle.sv_check.specs.Serving.{HasReplies, entries_of};
-ghost use Rattle.sv_check.specs.Acting.{IsActing, WentOn, IsNextEvent, IsNextPlace, NoNextPlace, NoneComes, Settles, Joined, GotReply, Made, numbered, begins_got, is_bye, is_other};
+ghost use Rattle.sv_check.specs.Acting.{IsActing, WentOn, IsNextEvent, IsNextPlace, NoNextPlace, NoneComes, Settles, Joined, GotReply, Made, numbered, begins_got, is_other};
 ghost use Rattle.sv_check.specs.Parts.{AreSomeEntries};
 ghost use Rattle.sv_check.specs.Next.{IsLineOf, NoEvent};
 ghost use Rattle.sv_check.specs.Stopping.{IfWrong};
@@ -25,6 +25,7 @@ use sv_journal::Entry;
 use sv_lines::{Stop, take_line};
 use sv_report::{append_after, append_before};
 use sv_scenario::Step;
+use sv_script::is_bye;
 use sv_wire::{Reply, Request};
 use sv_world::{Action, MOST_SESSIONS, ObjectId, Shape, copy_action, copy_objects};
 
@@ -52,12 +53,6 @@ pub(crate) struct Actor<'a> {
     pub asked: Vec<Request>,
     /// The journal has the first requests of each of its earlier sessions.
     pub fits: bool,
-}
-
-fn is_bye(reply: &Reply) -> bool
-    ensures { result ≡ is_bye reply.now }
-{
-    matches!(reply, Reply::Bye)
 }
 
 /// The place of the next entry of a session, from a place on, where that is no End.

@@ -110,10 +110,6 @@ pub record IsReady (who : Identity) (t : List Event) (left : List Step) : Type 0
 
 -- ---- The next move
 
-abbrev pub is_sync : Step → Bool
-is_sync steps.Sync = true
-is_sync _ = false
-
 -- what a player does next, in a session that has its Welcome
 abbrev pub IsMove : Move → Identity → List Event → List Step → Type 0
 IsMove moves.Wait who t left = 0 < length (outstanding who t)

@@ -1,11 +1,12 @@
 //! What a player does next.
 ghost use Rattle.std.specs.Prelude.{◌≡◌, [], ◌∷◌};
 ghost use Rattle.sv_scenario.specs.declared.scenario.Step.TheVariants as steps;
-ghost use Rattle.sv_script.specs.Following.{after_syncs, unsynced};
-ghost use Rattle.sv_player.specs.Going.{IsMove, IsGoing, IsReady, is_sync};
+ghost use Rattle.sv_script.specs.Following.{unsynced};
+ghost use Rattle.sv_player.specs.Going.{IsMove, IsGoing};
 
 use crate::playing::Player;
 use sv_scenario::Step;
+use sv_script::unsynced;
 use sv_world::{Action, List, MOST_OUTSTANDING, MOST_PENDING, ObjectId};
 
 /// A player's next move, in a session that has its Welcome, with the steps that it leaves.
@@ -23,44 +24,13 @@ pub(crate) enum Move<'a> {
     Quit(&'a [Step]),
 }
 
-fn is_sync(step: &Step) -> bool
-    ensures { result ≡ is_sync step.now }
-{
-    matches!(step, Step::Sync)
-}
-
-/// The steps from the first that is no sync.
-fn skip_syncs<'a>(steps: &'a [Step]) -> &'a [Step]
-    ensures { result.now ≡ after_syncs steps.now }
-{
-    let mut left = steps;
-    while let Some((step, rest)) = left.split_first() {
-        if !is_sync(step) {
-            return left;
-        }
-        left = rest;
-    }
-    left
-}
-
 impl<'a> Player<'a> {
-    /// The steps that are left, without the syncs that may be passed now.
-    fn unsynced(&self) -> &'a [Step]
-        ensures { result.now ≡ unsynced self.now.client.who self.now.client.events self.now.left.now }
-    {
-        if self.client.outstanding() == 0 {
-            skip_syncs(self.left)
-        } else {
-            self.left
-        }
-    }
-
     /// The next move. A step that can't be done yet waits for a reply.
     pub(crate) fn next_move(&self) -> Move<'a>
         requires { IsGoing self.now }
         ensures { IsMove result self.now.client.who self.now.client.events self.now.left.now }
     {
-        let Some((step, rest)) = self.unsynced().split_first() else {
+        let Some((step, rest)) = unsynced(&self.client, self.left).split_first() else {
             return self.last_move();
         };
         match step {

@@ -12,9 +12,9 @@ ghost use Rattle.sv_client.specs.Traces.{joins, pending_of};
 ghost use Rattle.sv_client.specs.Taking.{outstanding};
 ghost use Rattle.sv_client.specs.Seen.{latest_session};
 ghost use Rattle.sv_scenario.specs.declared.scenario.Step.TheVariants as steps;
-ghost use Rattle.sv_script.specs.Following.{must_join, unsynced, after_syncs};
+ghost use Rattle.sv_script.specs.Following.{must_join, unsynced, after_syncs, is_bye};
 ghost use Rattle.sv_player.specs.declared.outcome.PlayerCause.TheVariants as causes;
-ghost use Rattle.sv_player.specs.Carried.{request_frames, which_end, is_bye};
+ghost use Rattle.sv_player.specs.Carried.{request_frames, which_end};
 ghost use Rattle.sv_player.specs.Going.{IsGoing, IsHere, IsReady, Did};
 ghost use Rattle.sv_player.specs.Sessions.{IsAt, IsFresh, IsSameEnd, IsTurn, IsReceived, IsMoved, IsPlayed, IsSent, IsAnswered, FaultCause, IsFirst, IsFrameFault};
 
@@ -26,6 +26,7 @@ use sv_client::{Mark, TakeFault};
 use sv_frame::{FrameReader, Next};
 use sv_link::{End, Sent};
 use sv_scenario::Step;
+use sv_script::is_bye;
 use sv_watch::Watch;
 use sv_wire::{Reply, Request, WireFault, decode_reply};
 use sv_world::{Action, List, ObjectId, copy_objects};
@@ -450,12 +451,6 @@ impl<'a> Player<'a> {
             }
         }
     }
-}
-
-fn is_bye(reply: &Reply) -> bool
-    ensures { result ≡ is_bye reply.now }
-{
-    matches!(reply, Reply::Bye)
 }
 
 fn ending_of(bye: bool) -> Option<Ending>
