@@ -331,7 +331,6 @@ impl Client {
         let copy = copy_reply(self.alloc, reply)?;
         self.events.reserve(1)?;
         let done = take_reply(
-            self.alloc,
             &mut self.versions,
             &mut self.pending,
             &mut self.awaited,

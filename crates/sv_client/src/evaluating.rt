@@ -17,7 +17,6 @@ use sv_world::{List, ObjectId, Value, copy_value, is_in_mask};
 
 /// Holds the values of a head at its reply's commit.
 pub(crate) fn hold_head(
-    alloc: Global,
     versions: &mut Versions,
     undo: &mut Undo,
     commit: u32,
@@ -31,14 +30,13 @@ pub(crate) fn hold_head(
     let [held, rest @ ..] = head else {
         return Ok(());
     };
-    let value = copy_value(alloc, &held.value)?;
+    let value = copy_value(versions.alloc(), &held.value)?;
     versions.put_noted(undo, held.object, commit, value)?;
-    hold_head(alloc, versions, undo, commit, rest)
+    hold_head(versions, undo, commit, rest)
 }
 
 /// Holds values of objects at a position.
 fn hold_values(
-    alloc: Global,
     versions: &mut Versions,
     undo: &mut Undo,
     pos: u32,
@@ -56,9 +54,9 @@ fn hold_values(
     let [value, other_values @ ..] = values else {
         return Ok(());
     };
-    let value = copy_value(alloc, value)?;
+    let value = copy_value(versions.alloc(), value)?;
     versions.put_noted(undo, *object, pos, value)?;
-    hold_values(alloc, versions, undo, pos, other_objects, other_values)
+    hold_values(versions, undo, pos, other_objects, other_values)
 }
 
 /// The objects at the slots in a mask.
@@ -100,24 +98,18 @@ fn first_unheld(versions: &Versions, pos: u32, objects: &[ObjectId]) -> Option<O
     }
 }
 
-fn value_below(
-    alloc: Global,
-    versions: &Versions,
-    pos: u32,
-    object: ObjectId,
-) -> Result<Value, AllocError>
+fn value_below(versions: &Versions, pos: u32, object: ObjectId) -> Result<Value, AllocError>
     requires { object.0 < versions.now.shape.objects }
     ensures { IfOk result (λ value. value ≡ unwrap_or (read_below versions.now.held object.0 pos) []) }
 {
     match versions.read_below(object, pos) {
-        None => Ok(Value::new(alloc)),
-        Some(value) => copy_value(alloc, value),
+        None => Ok(Value::new(versions.alloc())),
+        Some(value) => copy_value(versions.alloc(), value),
     }
 }
 
 /// The values of objects below a position.
 fn values_below(
-    alloc: Global,
     versions: &Versions,
     pos: u32,
     objects: &[ObjectId],
@@ -125,16 +117,15 @@ fn values_below(
     requires { AreWithin versions.now.shape.objects objects.now }
     ensures { IfOk result (λ values. values.items ≡ values_below versions.now.held pos (numbers objects.now)) }
 {
-    let mut values = Vec::with_capacity(alloc, objects.len())?;
+    let mut values = Vec::with_capacity(versions.alloc(), objects.len())?;
     for object in objects {
-        values.push(value_below(alloc, versions, pos, *object)?)?;
+        values.push(value_below(versions, pos, *object)?)?;
     }
     Ok(values)
 }
 
 /// The result of an item on the values below it, which are held at its position.
 fn evaluate_item(
-    alloc: Global,
     versions: &mut Versions,
     undo: &mut Undo,
     item: &Item,
@@ -151,11 +142,11 @@ fn evaluate_item(
             object,
         });
     }
-    let values = values_below(alloc, versions, item.pos, reads)?;
+    let values = values_below(versions, item.pos, reads)?;
+    let alloc = versions.alloc();
     let outcome = eval(alloc, &item.action, &values)?;
     let objects = masked(alloc, item.action.mask, reads)?;
     hold_values(
-        alloc,
         versions,
         undo,
         item.pos,
@@ -167,7 +158,6 @@ fn evaluate_item(
 
 /// Appends the results of items, in order.
 pub(crate) fn evaluate_items(
-    alloc: Global,
     versions: &mut Versions,
     undo: &mut Undo,
     items: &[Item],
@@ -181,10 +171,10 @@ pub(crate) fn evaluate_items(
     let [item, rest @ ..] = items else {
         return Ok(());
     };
-    let values = evaluate_item(alloc, versions, undo, item)?;
+    let values = evaluate_item(versions, undo, item)?;
     results.push(Done1 {
         pos: item.pos,
         values,
     })?;
-    evaluate_items(alloc, versions, undo, rest, results)
+    evaluate_items(versions, undo, rest, results)
 }

@@ -59,6 +59,11 @@ impl Versions {
         self.shape
     }
 
+    /// Where its memory comes from.
+    pub fn alloc(&self) -> Global {
+        self.alloc
+    }
+
     /// The value of an object at the greatest position below one, and `None` where none is held there.
     pub fn read_below(&self, object: ObjectId, pos: u32) -> Option<&Value>
         requires { object.0 < self.now.shape.objects }
