@@ -16,13 +16,12 @@ ghost use Rattle.sv_check.specs.Acting.{IsActing, WentOn, identity, numbered};
 
 use crate::actor::Actor;
 use crate::journal::Served;
+use crate::runs::laws_of_runs;
 use std::alloc::{AllocError, Global};
-use sv_asked::{accepted_are_few, read_scenario_numbers, requests_are_messages};
+use sv_asked::read_scenario_numbers;
 use sv_client::{Client, Trace};
-use sv_journal::{full_replies_stay, legal_relays_name_accepted};
 use sv_lines::{Stop, take_line};
 use sv_scenario::{Plan, Scenario, sessions_of_plan};
-use sv_script::steps_are_done_in_order;
 use sv_world::{ClientId, List, Shape, copy_objects};
 
 /// A client, by its number, the number of its first session, and its plan.
@@ -162,11 +161,7 @@ pub(crate) fn take_clients<'a>(
     ensures text { IfOk result (λ r. text.now ≡ flat_map (trace_text (entries_of served.now)) r.0 ++ r.1.now) }
     ensures wrong { IfWrong result (IsStop scenario.now (journal_text scenario.now.world.shape (entries_of served.now) ++ text.now)) }
 {
-    full_replies_stay();
-    legal_relays_name_accepted();
-    steps_are_done_in_order();
-    accepted_are_few();
-    requests_are_messages();
+    laws_of_runs();
     read_scenario_numbers(scenario);
     let mut traces = List::new(alloc);
     let mut rest = text;

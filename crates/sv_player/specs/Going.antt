@@ -114,8 +114,8 @@ pub record IsReady (who : Identity) (t : List Event) (left : List Step) : Type 0
 abbrev pub IsMove : Move → Identity → List Event → List Step → Type 0
 IsMove moves.Wait who t left = 0 < length (outstanding who t)
 IsMove moves.Leave who t left = (outstanding who t ≡ []) × (after_syncs left ≡ [])
-IsMove (moves.Make action rest) who t left =
-    (unsynced who t left ≡ steps.Act action.now ∷ rest.now) × (length (pending_of t) < most_pending) × (length (outstanding who t) < most_outstanding)
+IsMove (moves.Make making) who t left =
+    (unsynced who t left ≡ steps.Act making.action.now ∷ making.rest.now) × (length (pending_of t) < most_pending) × (length (outstanding who t) < most_outstanding)
 IsMove (moves.Poll rest) who t left = (unsynced who t left ≡ steps.Poll ∷ rest.now) × (length (outstanding who t) < most_outstanding)
 IsMove (moves.Show objects rest) who t left = unsynced who t left ≡ steps.Show objects.now ∷ rest.now
 IsMove (moves.Cut rest) who t left = unsynced who t left ≡ steps.Cut ∷ rest.now

@@ -9,6 +9,12 @@ use sv_scenario::Step;
 use sv_script::unsynced;
 use sv_world::{Action, List, MOST_OUTSTANDING, MOST_PENDING, ObjectId};
 
+/// An action that is made next, and the steps behind it.
+pub(crate) struct Making<'a> {
+    pub(crate) action: &'a Action,
+    pub(crate) rest: &'a [Step],
+}
+
 /// A player's next move, in a session that has its Welcome, with the steps that it leaves.
 pub(crate) enum Move<'a> {
     /// It awaits a reply.
@@ -17,7 +23,7 @@ pub(crate) enum Move<'a> {
     /// All steps are done.
     Leave,
 
-    Make(&'a Action, &'a [Step]),
+    Make(Making<'a>),
     Poll(&'a [Step]),
     Show(&'a List<ObjectId>, &'a [Step]),
     Cut(&'a [Step]),
@@ -70,7 +76,7 @@ impl<'a> Player<'a> {
         ensures { IsMove result self.now.client.who self.now.client.events self.now.left.now }
     {
         if self.client.pending() < MOST_PENDING && self.client.outstanding() < MOST_OUTSTANDING {
-            Move::Make(action, rest)
+            Move::Make(Making { action, rest })
         } else {
             Move::Wait
         }

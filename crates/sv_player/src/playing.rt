@@ -64,7 +64,6 @@ impl<'a> Player<'a> {
     {
         self.count += 1;
         tell_changes(
-            self.alloc,
             &self.client,
             self.count,
             &mut self.seen,

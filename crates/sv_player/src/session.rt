@@ -19,7 +19,7 @@ ghost use Rattle.sv_player.specs.Going.{IsGoing, IsHere, IsReady, Did};
 ghost use Rattle.sv_player.specs.Sessions.{IsAt, IsFresh, IsSameEnd, IsTurn, IsReceived, IsMoved, IsPlayed, IsSent, IsAnswered, FaultCause, IsFirst, IsFrameFault};
 
 use crate::buffers::{Buffers, Waited};
-use crate::moves::Move;
+use crate::moves::{Making, Move};
 use crate::outcome::{Ending, PlayerCause, ReplyFault};
 use crate::playing::Player;
 use sv_client::{Mark, TakeFault};
@@ -29,7 +29,7 @@ use sv_scenario::Step;
 use sv_script::is_bye;
 use sv_watch::Watch;
 use sv_wire::{Reply, Request, WireFault, decode_reply};
-use sv_world::{Action, List, ObjectId, copy_objects};
+use sv_world::{List, ObjectId, copy_objects};
 
 /// What a try to send tells a player.
 fn sent_whole(sent: Sent) -> Result<(), PlayerCause>
@@ -62,8 +62,7 @@ impl<'a> Player<'a> {
     /// Makes an action, and sends it.
     fn do_make<E: End>(
         &mut self,
-        action: &Action,
-        rest: &'a [Step],
+        making: &Making<'a>,
         watch: &Watch,
         buffers: &mut Buffers,
         end: &mut E,
@@ -71,14 +70,14 @@ impl<'a> Player<'a> {
         requires watch { watch.now.shape ≡ self.old.client.who.shape }
         requires at { IsAt (latest_session self.old.client.events) self.old buffers.old (E.told end.old) }
         requires ready { IsReady self.old.client.who self.old.client.events self.old.left.now }
-        requires next { unsynced self.old.client.who self.old.client.events self.old.left.now ≡ steps.Act action.now ∷ rest.now }
+        requires next { unsynced self.old.client.who self.old.client.events self.old.left.now ≡ steps.Act making.now.action.now ∷ making.now.rest.now }
         requires room { (length (pending_of self.old.client.events) < most_pending) × (length (outstanding self.old.client.who self.old.client.events) < most_outstanding) }
-        ensures turn { IsTurn result (latest_session self.old.client.events) (events.Make action.now) self.old self.new buffers.new (E.told end.new) }
+        ensures turn { IsTurn result (latest_session self.old.client.events) (events.Make making.now.action.now) self.old self.new buffers.new (E.told end.new) }
         ensures same_end { which_end (E.told end.new) ≡ which_end (E.told end.old) }
         ensures cause { FaultCause (E.faults end.old) (E.faults end.new) result }
         ensures calm { E.calm end.old → E.calm end.new }
     {
-        let request = self.make(action, rest, watch)?;
+        let request = self.make(making.action, making.rest, watch)?;
         sent_whole(buffers.post(&request, end))
     }
 
@@ -407,8 +406,8 @@ impl<'a> Player<'a> {
                 self.do_leave(buffers, end)?;
                 Ok(None)
             }
-            Move::Make(action, rest) => {
-                self.do_make(action, rest, watch, buffers, end)?;
+            Move::Make(making) => {
+                self.do_make(&making, watch, buffers, end)?;
                 Ok(None)
             }
             Move::Poll(rest) => {
