@@ -17,7 +17,7 @@ use Rattle.sv_script.specs.Laws.{is_got}
 use Rattle.sv_player.proofs.Raised.{up_finished}
 use Rattle.sv_report.specs.Report.{event_text}
 use Rattle.sv_report.proofs.Doing.{may_do}
-use Rattle.sv_check.specs.Next.{GetsNext, ComesNext, NoEvent, journal_replies}
+use Rattle.sv_check.specs.Next.{GetsNextReply, ComesNext, NoEvent, journal_replies}
 use Rattle.sv_check.specs.Acting.{IsNextEvent, NoNextEvent, begins_got, is_other}
 use Rattle.sv_check.proofs.Events.{IsGot, joined_at, join_is, got_is, same_event, letter}
 use Rattle.sv_check.proofs.Acting.{may_follow}
@@ -96,7 +96,7 @@ other_not_got events.Cut o = refl
 other_not_got events.Quit o = refl
 other_not_got (events.Show objects) o = refl
 
-other_gets : (R : ℕ → List Reply) (t : List Event) (e : Event) → is_other e ≡ true → GetsNext R t e
+other_gets : (R : ℕ → List Reply) (t : List Event) (e : Event) → is_other e ≡ true → GetsNextReply R t e
 other_gets R t (events.Join s) o = tt
 other_gets R t (events.Got s reply) o = absurd (true≢false (sym o))
 other_gets R t (events.Make a) o = tt

@@ -15,8 +15,8 @@ use Rattle.sv_client.specs.Traces.{joins, current_session, asked, got}
 use Rattle.sv_client.specs.Taking.{Identity, first_fault_of_reply}
 use Rattle.sv_client.specs.Answers.{got_now}
 use Rattle.sv_client.specs.Proper.{AreProper}
-use Rattle.sv_client.specs.Seen.{raised, with_event, newly_asked}
-use Rattle.sv_report.specs.Again.{MayDo, IsPlace, behind_next}
+use Rattle.sv_client.specs.Seen.{with_event, newly_asked}
+use Rattle.sv_report.specs.Again.{MayDo, IsPlace, behind_next, numbered}
 use Rattle.sv_report.specs.Report.{entry_number}
 use Rattle.sv_scenario.specs.declared.scenario.Step.{Step}
 use Rattle.sv_script.specs.Following.{FollowsTo, MayCome, event_of, must_join, is_bye, is_welcomed, is_finished}
@@ -27,8 +27,8 @@ use Rattle.sv_check.specs.declared.actor.Actor.{Actor}
 use Rattle.sv_check.specs.Next.{NoEvent}
 
 -- Its events, with the numbers that its sessions have in the journal.
-abbrev pub numbered : Actor → List Event
-numbered a = map (raised a.first) a.client.events
+abbrev pub journal_events : Actor → List Event
+journal_events a = numbered a.first a.client.events
 
 -- Who the client with a number and a plan is.
 abbrev pub identity : ℕ → Shape → Plan → Identity
@@ -65,7 +65,7 @@ pub record HasGot (entries : List Entry) (T : List Event) (place : ℕ) : Type 0
 
 -- The flags say what the events do.
 pub record AreFlags (a : Actor) : Type 0 where
-  pub session : a.session ≡ current_session (numbered a)
+  pub session : a.session ≡ current_session (journal_events a)
   pub between : a.between ≡ must_join a.client.events
   pub welcomed : a.welcomed ≡ is_welcomed a.client.events
   pub finished : a.finished ≡ is_finished a.client.events
@@ -77,9 +77,9 @@ pub record IsActing (entries : List Entry) (a : Actor) : Type 0 where
   pub proper : AreProper a.client.who 0 a.client.events
   pub follows : FollowsTo a.client.who a.script.now a.client.events a.left.now
   pub flags : AreFlags a
-  pub gets : HasGot entries (numbered a) a.place
-  pub stands : IsPlace entries (numbered a) a.place
-  pub asks : HasAsked entries a.client.who (numbered a) a.asked.items a.fits
+  pub gets : HasGot entries (journal_events a) a.place
+  pub stands : IsPlace entries (journal_events a) a.place
+  pub asks : HasAsked entries a.client.who (journal_events a) a.asked.items a.fits
 
 -- The same client went on in its script.
 pub record WentOn (entries : List Entry) (old new : Actor) : Type 0 where
@@ -116,7 +116,7 @@ begins_got text = get_or text 0 0 == 103
 
 -- No event that may come next has a line with which the text begins, of which so many bytes are left.
 abbrev pub NoneComes : List Entry → Actor → List ℕ → ℕ → Type 0
-NoneComes entries a text left = (left ≡ length text) × NoEvent a.client.who a.first entries (numbered a) a.left.now text
+NoneComes entries a text left = (left ≡ length text) × NoEvent a.client.who a.first entries (journal_events a) a.left.now text
 
 -- The next entry of session s from a place on is the one at the place p, and it is no End.
 pub record IsNextPlace (entries : List Entry) (place s p : ℕ) : Type 0 where

@@ -21,15 +21,15 @@ abbrev pub journal_replies : List Entry → ℕ → List Reply
 journal_replies entries s = replies_in (accepted (reverse entries)) (reverse entries) s
 
 -- The reply that an event gets is the next one of its session.
-abbrev pub GetsNext : (ℕ → List Reply) → List Event → Event → Type 0
-GetsNext R t (events.Got s reply) = slice_get (R s) (length (got t s)) ≡ Some reply
-GetsNext R t e = Unit {0}
+abbrev pub GetsNextReply : (ℕ → List Reply) → List Event → Event → Type 0
+GetsNextReply R t (events.Got s reply) = slice_get (R s) (length (got t s)) ≡ Some reply
+GetsNextReply R t e = Unit {0}
 
 -- An event that comes next in some trace, with the steps that are left before and after it.
 pub record ComesNext (who : Identity) (first : ℕ) (R : ℕ → List Reply) (t : List Event) (before : List Step) (e : Event) (left : List Step) : Type 0 where
   pub follows : MayFollow who first t e
   pub comes : MayCome who t before e left
-  pub gets : GetsNext R t e
+  pub gets : GetsNextReply R t e
 
 -- In each session that was begun, the first of its replies were got.
 abbrev pub GotFronts : (ℕ → List Reply) → List Event → Type 0

@@ -11,7 +11,7 @@ ghost use Rattle.sv_report.specs.Again.{MayDo};
 ghost use Rattle.sv_report.specs.Report.{event_text};
 ghost use Rattle.sv_script.specs.Following.{must_join, is_welcomed, is_finished};
 ghost use Rattle.sv_check.specs.Serving.{HasReplies, entries_of};
-ghost use Rattle.sv_check.specs.Acting.{IsActing, WentOn, IsNextEvent, IsNextPlace, NoNextPlace, NoneComes, Settles, Joined, GotReply, Made, numbered, begins_got, is_other};
+ghost use Rattle.sv_check.specs.Acting.{IsActing, WentOn, IsNextEvent, IsNextPlace, NoNextPlace, NoneComes, Settles, Joined, GotReply, Made, journal_events, begins_got, is_other};
 ghost use Rattle.sv_check.specs.Parts.{AreSomeEntries};
 ghost use Rattle.sv_check.specs.Next.{IsLineOf, NoEvent};
 ghost use Rattle.sv_check.specs.Stopping.{IfWrong};
@@ -148,7 +148,7 @@ impl<'a> Actor<'a> {
         requires acting { IsActing (entries_of served.now) self.old }
         requires needed { must_join self.old.client.events ≡ true }
         ensures on { OnOk result (WentOn (entries_of served.now) self.old self.new) }
-        ensures told { IfOk result (λ rest. IsLineOf (entries_of served.now) (numbered self.old) (numbered self.new) text.now rest.now) }
+        ensures told { IfOk result (λ rest. IsLineOf (entries_of served.now) (journal_events self.old) (journal_events self.new) text.now rest.now) }
         ensures wrong { IfWrong result (NoneComes (entries_of served.now) self.old text.now) }
     {
         if self.client.sessions() >= MOST_SESSIONS {
@@ -196,7 +196,7 @@ impl<'a> Actor<'a> {
         requires here { is_finished self.old.client.events ≡ false }
         requires begins { begins_got text.now ≡ true }
         ensures on { OnOk result (WentOn (entries_of served.now) self.old self.new) }
-        ensures told { IfOk result (λ rest. IsLineOf (entries_of served.now) (numbered self.old) (numbered self.new) text.now rest.now) }
+        ensures told { IfOk result (λ rest. IsLineOf (entries_of served.now) (journal_events self.old) (journal_events self.new) text.now rest.now) }
         ensures wrong { IfWrong result (NoneComes (entries_of served.now) self.old text.now) }
     {
         let entries = served.sequencer.journal().entries();
@@ -329,8 +329,8 @@ impl<'a> Actor<'a> {
         requires here { is_finished self.old.client.events ≡ false }
         requires next { IsNextEvent self.old.client.who self.old.client.events self.old.left.now event.now left.now }
         ensures on { OnOk result (WentOn (entries_of served.now) self.old self.new) }
-        ensures done { OnOk result (numbered self.new ≡ event.now ∷ numbered self.old) }
-        ensures line { IfOk result (λ line. string_bytes line ≡ event_text (entries_of served.now) (numbered self.old) event.now ++ 10 ∷ []) }
+        ensures done { OnOk result (journal_events self.new ≡ event.now ∷ journal_events self.old) }
+        ensures line { IfOk result (λ line. string_bytes line ≡ event_text (entries_of served.now) (journal_events self.old) event.now ++ 10 ∷ []) }
     {
         let mut line = String::new(alloc);
         append_before(&self.client, 0, event, &mut line)?;
@@ -353,7 +353,7 @@ impl<'a> Actor<'a> {
         requires here { is_finished self.old.client.events ≡ false }
         requires begins { begins_got text.now ≡ false }
         ensures on { OnOk result (WentOn (entries_of served.now) self.old self.new) }
-        ensures told { IfOk result (λ rest. IsLineOf (entries_of served.now) (numbered self.old) (numbered self.new) text.now rest.now) }
+        ensures told { IfOk result (λ rest. IsLineOf (entries_of served.now) (journal_events self.old) (journal_events self.new) text.now rest.now) }
         ensures wrong { IfWrong result (NoneComes (entries_of served.now) self.old text.now) }
     {
         let Some((event, left)) = next_event(alloc, self.shape, &self.client, self.left)? else {
@@ -378,8 +378,8 @@ impl<'a> Actor<'a> {
         requires right { AreSomeEntries (reverse (entries_of served.now)) }
         requires here { self.old.finished ≡ false }
         ensures on { OnOk result (WentOn (entries_of served.now) self.old self.new) }
-        ensures told { IfOk result (λ rest. IsLineOf (entries_of served.now) (numbered self.old) (numbered self.new) text.now rest.now) }
-        ensures wrong { IfWrong result (λ left. (left ≡ length text.now) × NoEvent self.old.client.who self.old.first (entries_of served.now) (numbered self.old) self.old.left.now text.now) }
+        ensures told { IfOk result (λ rest. IsLineOf (entries_of served.now) (journal_events self.old) (journal_events self.new) text.now rest.now) }
+        ensures wrong { IfWrong result (λ left. (left ≡ length text.now) × NoEvent self.old.client.who self.old.first (entries_of served.now) (journal_events self.old) self.old.left.now text.now) }
     {
         if self.between {
             return self.take_join(alloc, served, text);

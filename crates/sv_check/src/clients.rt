@@ -12,7 +12,7 @@ ghost use Rattle.sv_report.specs.Report.{event_lines, trace_text};
 ghost use Rattle.sv_check.specs.Clients.{EventsStop, IsClientStop};
 ghost use Rattle.sv_check.specs.Parts.{AreSomeEntries, IsWholeJournal, IsWholeTrace, AreFirstTraces, IsOf};
 ghost use Rattle.sv_check.specs.Stopping.{IsStop, IfWrong};
-ghost use Rattle.sv_check.specs.Acting.{IsActing, WentOn, identity, numbered};
+ghost use Rattle.sv_check.specs.Acting.{IsActing, WentOn, identity, journal_events};
 
 use crate::actor::Actor;
 use crate::journal::Served;
@@ -74,7 +74,7 @@ fn take_events<'a>(
     requires right { AreSomeEntries (reverse (entries_of served.now)) }
     ensures on { OnOk result (WentOn (entries_of served.now) actor.old actor.new) }
     ensures done { OnOk result (actor.new.finished ≡ true) }
-    ensures taken { IfOk result (λ rest. event_lines (entries_of served.now) (numbered actor.old) ++ text.now ≡ event_lines (entries_of served.now) (numbered actor.new) ++ rest.now) }
+    ensures taken { IfOk result (λ rest. event_lines (entries_of served.now) (journal_events actor.old) ++ text.now ≡ event_lines (entries_of served.now) (journal_events actor.new) ++ rest.now) }
     ensures wrong { IfWrong result (EventsStop (entries_of served.now) actor.old text.now) }
 {
     let mut rest = text;

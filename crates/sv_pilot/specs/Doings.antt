@@ -51,6 +51,6 @@ abbrev pub NoneMayBeMade : List ℕ → ClientView → Type 0
 NoneMayBeMade text c = (action : Action) → IsActionText action (tokens_of text) → MayMake c.who c.events action → ⊥
 
 -- a number of a value, and 0 where there is none
-abbrev pub number_at : Option (List ℤ) → ℕ → ℤ
-number_at None attribute = pos 0
-number_at (Some value) attribute = unwrap_or (slice_get value attribute) (pos 0)
+abbrev pub number_seen : Option (List ℤ) → ℕ → ℤ
+number_seen None attribute = pos 0
+number_seen (Some value) attribute = unwrap_or (slice_get value attribute) (pos 0)

@@ -9,7 +9,7 @@ ghost use Rattle.sv_client.specs.Taking.{outstanding};
 ghost use Rattle.sv_client.specs.Proper.{MayMake, MayPoll, MayLeave, in_session, most_made};
 ghost use Rattle.sv_pilot.specs.declared.trouble.Trouble.TheVariants as troubles;
 ghost use Rattle.sv_pilot.specs.Troubles.{IsNotOfGame, trouble_of_text};
-ghost use Rattle.sv_pilot.specs.Doings.{HasTaken, Did, IsSettled, Made, NoneMayBeMade, number_at, text_limit};
+ghost use Rattle.sv_pilot.specs.Doings.{HasTaken, Did, IsSettled, Made, NoneMayBeMade, number_seen, text_limit};
 
 use crate::connection::Connection;
 use crate::seen::{Listener, Seen, tell_all, unseen};
@@ -89,7 +89,7 @@ impl<E: End, L: Listener> Pilot<E, L> {
 
     /// A number of an object as the player sees it, and 0 where it knows none.
     pub fn number(&self, object: ObjectId, attribute: usize) -> i64
-        ensures { result ≡ number_at (view_of self.now.events object.0) attribute }
+        ensures { result ≡ number_seen (view_of self.now.events object.0) attribute }
     {
         match self.client.view(object) {
             View::Known(value) => match value.as_slice().get(attribute) {
