@@ -114,6 +114,7 @@ fn settle_by(
 }
 
 /// What a relay brings.
+#[derive(Clone, Copy)]
 struct Brought<'a> {
     seq: u32,
     commit: u32,

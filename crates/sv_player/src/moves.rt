@@ -10,6 +10,7 @@ use sv_script::unsynced;
 use sv_world::{Action, List, MOST_OUTSTANDING, MOST_PENDING, ObjectId};
 
 /// An action that is made next, and the steps behind it.
+#[derive(Clone, Copy)]
 pub(crate) struct Making<'a> {
     pub(crate) action: &'a Action,
     pub(crate) rest: &'a [Step],
