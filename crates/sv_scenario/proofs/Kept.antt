@@ -2,11 +2,13 @@
 use Rattle.std.proofs.Common.{◌≡◌, ℕ, zero, suc, ◌≤◌, ◌<◌, Bool, true, false, ◌==◌, cond, nat_le, nat_lt, ℤ, List, [], ◌∷◌, ◌++◌, length, Option, Some, None, Result, Ok, Err, IfOk, IfSome, codes, refl, sym, ap, ◌∙◌, subst, arith, append_assoc, decimal}
 use Rattle.std.proofs.lemmas.Bool.{leb-true, ltb-true, lt-ltb}
 use Rattle.std.proofs.lemmas.List.{append-nil}
+use Rattle.std.proofs.lemmas.List.Elements.{All-from_recursion}
 use Rattle.std.specs.List.{AllByRecursion}
 use Rattle.std.specs.Str.{bytes_eq, is_utf8}
 use Rattle.serde_json.specs.Data.{Data, Items, no_items, item}
 use Rattle.serde_json.specs.Find.{as_str, get}
 use Rattle.sv_world.specs.Sets.{numbers_of}
+use Rattle.sv_world.specs.Worlds.{IsGoodWorld}
 use Rattle.sv_world.specs.declared.action.Action.{Action}
 use Rattle.sv_world.specs.declared.check.BadAction.{BadAction}
 use Rattle.sv_world.specs.declared.world.ObjectId.{ObjectId}
@@ -26,7 +28,7 @@ use Rattle.sv_scenario.specs.declared.scenario.Turn.{Turn}
 use Rattle.sv_scenario.specs.declared.scenario.Turn.TheVariants as turns
 use Rattle.sv_scenario.specs.Faults.{Read, ◌>>=◌, refuse, given, at_key, at_place, each, Gives}
 use Rattle.sv_scenario.specs.Keys.{keys_of, value_at, value_if}
-use Rattle.sv_scenario.specs.Limits.{IsGoodWorld, AreObjects, IsGoodShow, IsGoodStep, quits_last, IsGoodPlan, IsGoodTurn, IsGoodScenario}
+use Rattle.sv_scenario.specs.Limits.{AreObjects, IsGoodShow, IsGoodStep, quits_last, IsGoodPlan, IsGoodTurn, IsGoodScenario}
 use Rattle.sv_scenario.specs.Numbers.{number_within, list_within, count_items, attribute_of, value_of, values_of}
 use Rattle.sv_scenario.specs.Objects.{known, object_of, shown_of, not_below, next_object, ascending_from, interest_of}
 use Rattle.sv_scenario.specs.Scenarios.{world_with, world_of, reach_of, few_sessions, clients_of, scenario_in, scenario_of, value_in}
@@ -62,7 +64,11 @@ values_ok attrs d vs is =
 good_world : (attrs : ℕ) (values : List (List ℤ)) → 1 ≤ attrs → attrs ≤ 4 → AllByRecursion (λ v. length v ≡ attrs) values → 1 ≤ length values → length values ≤ 4096
     → IsGoodWorld (world_with attrs values)
 good_world attrs values some few all some_values few_values =
-    record { some_objects = some_values; few_objects = few_values; some_attrs = some; few_attrs = few; objects = refl; attrs = all }
+    record {
+      shape = record { some_objects = some_values; few_objects = few_values; some_attrs = some; few_attrs = few };
+      objects = refl;
+      attrs = All-from_recursion (λ (v : List ℤ). length v ≡ attrs) values all;
+    }
 
 world_ok : (d : Data) (w : World) → world_of d ≡ Ok w → IsGoodWorld w
 unfolding world_of
