@@ -11,7 +11,7 @@ use Rattle.sv_eval.specs.Serial.{put_all}
 use Rattle.sv_queue.specs.declared.queued.Queued.{Queued}
 use Rattle.sv_queue.specs.Invariant.{AgreeOn, IsGoodEntry, writers_above}
 use Rattle.sv_queue.specs.Queue.{no_entry}
-use Rattle.sv_queue.specs.Worlds.{HaveAttrs, IsGoodShape}
+use Rattle.sv_world.specs.Worlds.{HaveAttrs, IsGoodShape}
 use Rattle.sv_queue.specs.Written.{CanWrite, IsChangedAt, front_of}
 use Rattle.sv_queue.proofs.Entries.{writers_above-push}
 use Rattle.sv_queue.proofs.WrittenObjects.{front_of-push, length-put_all}
