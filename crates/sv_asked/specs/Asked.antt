@@ -1,5 +1,6 @@
 -- What is said of the requests that honest clients ask.
 use Rattle.std.specs.Prelude.{◌≡◌, ℕ, ◌+◌, ◌*◌, ◌^◌, ◌<◌, ◌≤◌, List, [], ◌∷◌, length, reverse, slice_get, Some, All}
+use Rattle.sv_world.specs.Limits.{most_requests}
 use Rattle.sv_wire.specs.Ranges.{ValueFits, ActionFits, RequestFits}
 use Rattle.sv_wire.specs.Laws.{IsRequest, IsReply}
 use Rattle.sv_journal.specs.declared.entry.Entry.{Entry}
@@ -34,7 +35,7 @@ RequestsAreMessages = (r : Rules) (h : List Entry) (Ls : List Trace) (i : ℕ) (
 
 -- Each session may make 1,024 requests, so a journal of so many sessions accepts at most so many actions.
 abbrev pub AcceptedAreFew : Type 0
-AcceptedAreFew = (r : Rules) (h : List Entry) (sessions : ℕ) → Legal r h → All (λ (e : Entry). e.session < sessions) h → length (accepted h) ≤ 1024 * sessions
+AcceptedAreFew = (r : Rules) (h : List Entry) (sessions : ℕ) → Legal r h → All (λ (e : Entry). e.session < sessions) h → length (accepted h) ≤ most_requests * sessions
 
 -- Each reply of a legal journal is a message, with numbers of its types, where the opening world and the requests have numbers of theirs,
 -- whatever the clients ask. The journal is not longer than positions and sequence numbers go.
@@ -53,7 +54,7 @@ ServedRequestsFit = (k : Keeping) (r : Rules) (h : List Entry) (L : Trace) (s : 
 
 abbrev pub ServedAcceptedAreFew : Type 0
 ServedAcceptedAreFew = (k : Keeping) (r : Rules) (h : List Entry) (sessions : ℕ) → IsKeeping k → LegalFor k r h → All (λ (e : Entry). e.session < sessions) h →
-    length (accepted h) ≤ 1024 * sessions
+    length (accepted h) ≤ most_requests * sessions
 
 abbrev pub ServedRepliesFit : Type 0
 ServedRepliesFit = (k : Keeping) (r : Rules) (h : List Entry) → IsKeeping k → AreWithinLimits r → r.world.shape.objects ≤ 2 ^ 16 → All ValueFits r.world.values →

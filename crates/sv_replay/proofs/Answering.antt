@@ -12,7 +12,7 @@ use Rattle.sv_journal.specs.History.{accepted}
 use Rattle.sv_journal.specs.Sessions.{is_end}
 use Rattle.sv_system.specs.Fits.{requests_in, replies_in, is_ended}
 use Rattle.sv_system.proofs.Entered.{is_of, of-from}
-use Rattle.sv_schedule.specs.Players.{Player, asked_in_run, closed_by}
+use Rattle.sv_schedule.specs.Players.{Player, asked_in_run, has_closed}
 use Rattle.sv_schedule.specs.Serving.{Run, Server, entry_by, served, serves_next, is_stop, is_stopped, session_served}
 use Rattle.sv_schedule.specs.Served.{AreNamed, KeepsSound}
 use Rattle.sv_exchange.specs.View.{ExchangeView}
@@ -107,7 +107,7 @@ module _ (server : Server) (keeps : KeepsSound server) (h : List Entry) (ps : Li
   session_turn_is =
       ap (λ (b : Bool). if is_ended h s then h else if b then served server h s requests.End else serves_next server h s c.closed c.requests) is.stopped
       ∙ ap (λ (b : Bool). if is_ended h s then h else if is_stopped h s then served server h s requests.End else serves_next server h s b c.requests) is.closed
-      ∙ ap (λ (qs : List Request). if is_ended h s then h else if is_stopped h s then served server h s requests.End else serves_next server h s (list_any (closed_by s) ps) qs) is.requests
+      ∙ ap (λ (qs : List Request). if is_ended h s then h else if is_stopped h s then served server h s requests.End else serves_next server h s (list_any (has_closed s) ps) qs) is.requests
 
   at_turn : (g : List Entry) (d : ExchangeView) → (next_history server h s c ≡ g) × (next_channel server h s c ≡ d) → IsChannel (run_at g ps) s d → IsChannel (run_at (next_history server h s c) ps) s (next_channel server h s c)
   at_turn g d n made =

@@ -18,7 +18,7 @@ use Rattle.sv_scenario.specs.declared.scenario.Step.{Step}
 use Rattle.sv_script.specs.Following.{must_join}
 use Rattle.sv_system.specs.Fits.{is_join_of}
 use Rattle.sv_system.proofs.Asked.{current-joined}
-use Rattle.sv_schedule.specs.Players.{Player, open_session, closed_by}
+use Rattle.sv_schedule.specs.Players.{Player, open_session, has_closed}
 use Rattle.sv_replay.specs.Players.{session_of, asked_by_player, IsFit, Moves, is_closing}
 use Rattle.sv_replay.proofs.Events.{is_got, up_must, either_way, asks_up, asks_got, gets_none, gets_one, not_begun, keeps_closed, closes_now, begins_one}
 
@@ -104,18 +104,18 @@ module _ (who : Identity) (first : ℕ) (t : List Event) (left : List Step) (fit
   open_none m = rw (up_must first t ∙ m) refl
 
   kept : must_join t ≡ false → (s : ℕ) → (list_any (is_join_of s) (Up first t) && not (is_session (current_session (Up first t)) s))
-      ≡ (closed_by s old || (if session_of old == s then false else false))
+      ≡ (has_closed s old || (if session_of old == s then false else false))
   kept m s = keeps_closed (list_any (is_join_of s) (Up first t) && not (is_session (current_session (Up first t)) s)) (session_of old == s)
       ∙ ap (λ (o : Option ℕ). (list_any (is_join_of s) (Up first t) && not (is_session o s)) || (if session_of old == s then false else false)) (sym (open_is m))
 
-  shut : must_join t ≡ false → (s : ℕ) → (list_any (is_join_of s) (Up first t) && true) ≡ (closed_by s old || (if session_of old == s then true else false))
+  shut : must_join t ≡ false → (s : ℕ) → (list_any (is_join_of s) (Up first t) && true) ≡ (has_closed s old || (if session_of old == s then true else false))
   shut m s =
       let there : (session_of old == s) ≡ true → list_any (is_join_of s) (Up first t) ≡ true = λ e. subst (λ n. list_any (is_join_of n) (Up first t) ≡ true) (eqb-true (session_of old) s e) (joined_it m) in
       closes_now (list_any (is_join_of s) (Up first t)) (session_of old == s) there
       ∙ ap (λ (o : Option ℕ). (list_any (is_join_of s) (Up first t) && not (is_session o s)) || (if session_of old == s then true else false)) (sym (open_is m ∙ in_it m))
 
   begins : (n : ℕ) → JoinsNext t (events.Join n) → (s : ℕ) → ((n + first == s || list_any (is_join_of s) (Up first t)) && not (n + first == s))
-      ≡ (closed_by s old || (if session_of old == s then false else false))
+      ≡ (has_closed s old || (if session_of old == s then false else false))
   begins n j s =
       let here : session_of old ≡ first + joins (Up first t) = session_next old (up_must first t ∙ sym j.needed) in
       let fresh : (n + first == s) ≡ true → list_any (is_join_of s) (Up first t) ≡ false =
@@ -125,7 +125,7 @@ module _ (who : Identity) (first : ℕ) (t : List Event) (left : List Step) (fit
       ∙ ap (λ (o : Option ℕ). (list_any (is_join_of s) (Up first t) && not (is_session o s)) || (if session_of old == s then false else false)) (sym (open_none (sym j.needed)))
 
   closes : (e : Event) → JoinsNext t e → is_got e ≡ false → (rest : List Step) → (s : ℕ) →
-      closed_by s (after e rest) ≡ (closed_by s old || (if session_of old == s then is_closing e else false))
+      has_closed s (after e rest) ≡ (has_closed s old || (if session_of old == s then is_closing e else false))
   closes (events.Join n) j g rest s = begins n j s
   closes (events.Make a) j g rest s = kept (sym j.needed) s
   closes events.Poll j g rest s = kept (sym j.needed) s
@@ -186,7 +186,7 @@ pub still_moves : (p : Player) → Moves (session_of p) p p [] [] false
 still_moves p = record {
   asks = λ s. sym (ap (λ (rs : List Request). asked_by_player p s ++ rs) (either_way (session_of p == s) []) ∙ append-nil (asked_by_player p s));
   gets = λ s. sym (ap (λ (rs : List Reply). got p.events s ++ rs) (either_way (session_of p == s) []) ∙ append-nil (got p.events s));
-  closes = λ s. keeps_closed (closed_by s p) (session_of p == s);
+  closes = λ s. keeps_closed (has_closed s p) (session_of p == s);
   begun = inr (refl, refl);
 }
 

@@ -1,6 +1,7 @@
 //! The machine at the opening of a run.
 
 ghost use Rattle.std.specs.Prelude.{◌≡◌, ℕ, false, [], ◌+◌, ◌<◌, ◌≤◌, length, map, slice_index_or, All, IfOk};
+ghost use Rattle.sv_world.specs.Limits.{most_clients};
 ghost use Rattle.sv_scenario.specs.Limits.{IsGoodScenario, IsGoodPlan};
 ghost use Rattle.sv_scenario.specs.Sessions.{session_count, sessions_of_plan};
 ghost use Rattle.sv_schedule.specs.Players.{players_from};
@@ -46,7 +47,7 @@ fn open_player<'a>(
     first: u16,
     plan: &'a Plan,
 ) -> Result<Playing<'a>, AllocError>
-    requires number { number < 32 }
+    requires number { number < most_clients }
     requires plan { IsGoodPlan shape plan.now }
     ensures player { IfOk result (λ p. player_of p ≡ record { who = record { client = record { 0 = number }; interest = plan.now.interest; shape = shape }; first = first; events = []; left = plan.now.steps; closed = false }) }
     ensures flags { IfOk result (λ p. AreFlags p) }

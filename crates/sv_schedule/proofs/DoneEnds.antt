@@ -16,7 +16,7 @@ use Rattle.sv_scenario.specs.Limits.{IsGoodPlan, IsGoodScenario}
 use Rattle.sv_scenario.specs.Sessions.{sessions_of_plan, sessions_in, session_count}
 use Rattle.sv_script.proofs.Ends.{none-left}
 use Rattle.sv_system.specs.Fits.{is_ended, IsEndLast, is_join_of}
-use Rattle.sv_schedule.specs.Players.{Player, open_session, closed_by, player_turn, take_turns, repeated}
+use Rattle.sv_schedule.specs.Players.{Player, open_session, has_closed, player_turn, take_turns, repeated}
 use Rattle.sv_schedule.specs.Serving.{Run, after_clients}
 use Rattle.sv_schedule.specs.Schedule.{rules_of, plain_server, round, after_sessions}
 use Rattle.sv_schedule.specs.Sound.{IsPlaying, ArePlaying, IsSound}
@@ -96,7 +96,7 @@ was-joined scenario good run sound closed s l =
     let first = o.playing.first in
     record { place = o.place; player = p; at = o.at; joined = low-joined p.who p.first p.events s f.proper (omega (arith, low, first)) (omega (arith, high, first, all)) }
 
-closed-by : (p : Player) (s : ℕ) → p.closed ≡ true → list_any (is_join_of s) p.events ≡ true → closed_by s p ≡ true
+closed-by : (p : Player) (s : ℕ) → p.closed ≡ true → list_any (is_join_of s) p.events ≡ true → has_closed s p ≡ true
 closed-by p s c j =
     and_from (list_any (is_join_of s) p.events) (not (is_session (open_session p) s)) j (ap (λ (o : Option ℕ). not (is_session o s)) (open-closed p c))
 
@@ -121,7 +121,7 @@ closed-done scenario good stay run g closed = record {
   ended = λ s l.
       let clients = after_clients run in
       let w = was-joined scenario good clients (going-clients scenario good stay run g).sound (clients-closed run closed) s l in
-      let shut = any-there (closed_by s) clients.players w.place w.player w.at (closed-by w.player s (clients-closed run closed w.place w.player w.at) w.joined) in
+      let shut = any-there (has_closed s) clients.players w.place w.player w.at (closed-by w.player s (clients-closed run closed w.place w.player w.at) w.joined) in
       elim (quiet-round (rules_of scenario) clients.players s (below (session_count scenario)) run.history (is_in-below (session_count scenario) s l)) [
         | inl e ↦ e
         | inr x ↦ absurd (true≢false (sym shut ∙ x.1.1))

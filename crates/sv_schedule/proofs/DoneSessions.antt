@@ -12,7 +12,7 @@ use Rattle.sv_journal.specs.declared.entry.Entry.{Entry}
 use Rattle.sv_journal.specs.Sessions.{is_end}
 use Rattle.sv_journal.specs.Answer.{Rules}
 use Rattle.sv_system.specs.Fits.{requests_in, is_ended}
-use Rattle.sv_schedule.specs.Players.{Player, asked_in_run, closed_by, repeated}
+use Rattle.sv_schedule.specs.Players.{Player, asked_in_run, has_closed, repeated}
 use Rattle.sv_schedule.specs.Serving.{is_stop, is_stopped}
 use Rattle.sv_schedule.specs.Schedule.{with_entry, steps_next, session_turn, session_turns, sessions_turned}
 use Rattle.sv_schedule.proofs.DoneLists.{repeated-keeps}
@@ -54,11 +54,11 @@ pub data IsTurn (r : Rules) (ps : List Player) (s : ℕ) (h g : List Entry) : Ty
   stops : is_ended h s ≡ false → is_stopped h s ≡ true → g ≡ with_entry r h s requests.End → IsTurn r ps s h g
   steps : is_ended h s ≡ false → is_stopped h s ≡ false → (q : Request) (rest : List Request) → drop (length (requests_in h s)) (asked_in_run ps s) ≡ q ∷ rest →
       g ≡ with_entry r h s q → IsTurn r ps s h g
-  closes : is_ended h s ≡ false → drop (length (requests_in h s)) (asked_in_run ps s) ≡ [] → list_any (closed_by s) ps ≡ true →
+  closes : is_ended h s ≡ false → drop (length (requests_in h s)) (asked_in_run ps s) ≡ [] → list_any (has_closed s) ps ≡ true →
       g ≡ with_entry r h s requests.End → IsTurn r ps s h g
-  waits : is_stopped h s ≡ false → drop (length (requests_in h s)) (asked_in_run ps s) ≡ [] → list_any (closed_by s) ps ≡ false → g ≡ h → IsTurn r ps s h g
+  waits : is_stopped h s ≡ false → drop (length (requests_in h s)) (asked_in_run ps s) ≡ [] → list_any (has_closed s) ps ≡ false → g ≡ h → IsTurn r ps s h g
 
-turn-by : (r : Rules) (ps : List Player) (s : ℕ) (h : List Entry) (b c d : Bool) (w : List Request) → is_ended h s ≡ b → is_stopped h s ≡ c → list_any (closed_by s) ps ≡ d →
+turn-by : (r : Rules) (ps : List Player) (s : ℕ) (h : List Entry) (b c d : Bool) (w : List Request) → is_ended h s ≡ b → is_stopped h s ≡ c → list_any (has_closed s) ps ≡ d →
     drop (length (requests_in h s)) (asked_in_run ps s) ≡ w → IsTurn r ps s h (if b then h else if c then with_entry r h s requests.End else steps_next r h s d w)
 turn-by r ps s h true c d w e f g k = over e refl
 turn-by r ps s h false true d w e f g k = stops e f refl
@@ -68,7 +68,7 @@ turn-by r ps s h false false false [] e f g k = waits f k g refl
 
 pub turn-is : (r : Rules) (ps : List Player) (s : ℕ) (h : List Entry) → IsTurn r ps s h (session_turn r ps h s)
 turn-is r ps s h =
-    turn-by r ps s h (is_ended h s) (is_stopped h s) (list_any (closed_by s) ps) (drop (length (requests_in h s)) (asked_in_run ps s)) refl refl refl refl
+    turn-by r ps s h (is_ended h s) (is_stopped h s) (list_any (has_closed s) ps) (drop (length (requests_in h s)) (asked_in_run ps s)) refl refl refl refl
 
 same-turned : (r : Rules) (ps : List Player) (s t : ℕ) (h g : List Entry) → (t == s) ≡ false → IsTurn r ps t h g → IsSameIn s h g
 same-turned r ps s t h g n (over e f) = same-all s h g f
@@ -85,7 +85,7 @@ other-turn r ps s t h n = same-turned r ps s t h (session_turn r ps h t) n (turn
 -- The session finds nothing to do: it has its End, or its loop goes on, nothing waits and the client's end is open.
 abbrev pub IsQuiet : List Player → List Entry → ℕ → Type 0
 IsQuiet ps h s = (is_ended h s ≡ true)
-    ⊎ ((is_stopped h s ≡ false) × ((length (asked_in_run ps s) ≤ length (requests_in h s)) × (list_any (closed_by s) ps ≡ false)))
+    ⊎ ((is_stopped h s ≡ false) × ((length (asked_in_run ps s) ≤ length (requests_in h s)) × (list_any (has_closed s) ps ≡ false)))
 
 drop-none : {X : Type 0} (n : ℕ) (xs : List X) → drop n xs ≡ [] → length xs ≤ n
 drop-none n xs e = let l = length-drop n xs in let z = ap length e in omega (arith, l, z)

@@ -9,7 +9,7 @@ use Rattle.sv_journal.specs.Sessions.{is_end}
 use Rattle.sv_client.specs.Traces.{asked, got}
 use Rattle.sv_system.specs.Fits.{requests_in, replies_in, is_ended}
 use Rattle.sv_system.proofs.Fronts.{front-then}
-use Rattle.sv_schedule.specs.Players.{Player, asked_in_run, closed_by}
+use Rattle.sv_schedule.specs.Players.{Player, asked_in_run, has_closed}
 use Rattle.sv_schedule.specs.Serving.{Server, entry_by, served, is_stop, is_stopped}
 use Rattle.sv_schedule.specs.Sound.{has_joined}
 use Rattle.sv_schedule.specs.Served.{IsHeard, AreNamed, KeepsSound}
@@ -69,10 +69,10 @@ none-asked_in server h (p ∷ ps) n f b =
     let parts = or_parts (has_joined p n) (begun_by ps n) b in
     both-empty (asked p.who.client p.who.interest p.events n) (asked_in_run ps n) (none-asked p.who p.first p.events n f.0.proper parts.0) (none-asked_in server h ps n f.1 parts.1)
 
-pub closed-begun : (ps : List Player) (n : ℕ) → list_any (closed_by n) ps ≡ true → begun_by ps n ≡ true
+pub closed-begun : (ps : List Player) (n : ℕ) → list_any (has_closed n) ps ≡ true → begun_by ps n ≡ true
 closed-begun [] n c = c
 closed-begun (p ∷ ps) n c =
-    elim (or_cases (closed_by n p) (list_any (closed_by n) ps) c) [
+    elim (or_cases (has_closed n p) (list_any (has_closed n) ps) c) [
       | inl one ↦ or_left (has_joined p n) (begun_by ps n) (and_parts (has_joined p n) _ one).0
       | inr more ↦ or_right (has_joined p n) (begun_by ps n) (closed-begun ps n more)
     ]

@@ -14,7 +14,7 @@ use Rattle.sv_scenario.specs.declared.scenario.Turn.{Turn}
 use Rattle.sv_scenario.specs.declared.scenario.Turn.TheVariants as turns
 use Rattle.sv_scenario.specs.Sessions.{session_count}
 use Rattle.sv_system.specs.Fits.{requests_in, is_ended}
-use Rattle.sv_schedule.specs.Players.{Player, player_turn, take_turn, take_turns, asked_in_run, closed_by, at_player, repeated, players_from, trace_of_player}
+use Rattle.sv_schedule.specs.Players.{Player, player_turn, take_turn, take_turns, asked_in_run, has_closed, at_player, repeated, players_from, trace_of_player}
 
 pub record Run : Type 0 where
   pub history : List Entry
@@ -52,7 +52,7 @@ serves_next server h s closed (request ∷ waiting) = served server h s request
 abbrev pub session_served : Server → List Player → List Entry → ℕ → List Entry
 session_served server players h s = if is_ended h s then h
     else if is_stopped h s then served server h s requests.End
-    else serves_next server h s (list_any (closed_by s) players) (drop (length (requests_in h s)) (asked_in_run players s))
+    else serves_next server h s (list_any (has_closed s) players) (drop (length (requests_in h s)) (asked_in_run players s))
 
 -- ---- Turns and rounds
 

@@ -1,4 +1,6 @@
+//! Honest clients are never refused.
 ghost use Rattle.std.specs.Prelude.{◌≡◌, ◌≤◌, ℕ, ℤ, List, All, length, reverse, slice_get, None, Some, []};
+ghost use Rattle.sv_world.specs.Limits.{most_bound, most_requests};
 ghost use Rattle.sv_wire.specs.declared.message.Held.{Held};
 ghost use Rattle.sv_wire.specs.declared.message.Item.{Item};
 ghost use Rattle.sv_wire.specs.declared.message.Reply.{Reply};
@@ -21,13 +23,13 @@ ghost use Rattle.sv_system.specs.Fits.{replies_in, Fits};
 /// session `s`.
 pub fn honest_clients_are_never_refused()
     ensures faults { (r : Rules) (h : List Entry) (Ls : List Trace) (i : ℕ) (L : Trace) (s : ℕ) (reply : Reply) →
-        length r.world.values ≡ r.world.shape.objects → All (λ (v : List ℤ). length v ≡ r.world.shape.attrs) r.world.values → r.bound ≤ 32 →
+        length r.world.values ≡ r.world.shape.objects → All (λ (v : List ℤ). length v ≡ r.world.shape.attrs) r.world.values → r.bound ≤ most_bound →
         Legal r h → Fits r.world.shape h Ls → slice_get Ls i ≡ Some L →
-        current_session (reverse L.events) ≡ Some s → length (requests_of L s) ≤ 1024 →
+        current_session (reverse L.events) ≡ Some s → length (requests_of L s) ≤ most_requests →
         slice_get (replies_in (accepted h) h s) (length (got (reverse L.events) s)) ≡ Some reply →
         first_fault_of_reply (identity_of r.world.shape L) (reverse L.events) reply ≡ None }
     ensures items { (r : Rules) (h : List Entry) (Ls : List Trace) (i : ℕ) (L : Trace) (s seq commit : ℕ) (head : List Held) (items : List Item) →
         Legal r h → Fits r.world.shape h Ls → slice_get Ls i ≡ Some L →
-        current_session (reverse L.events) ≡ Some s → length (requests_of L s) ≤ 1024 →
+        current_session (reverse L.events) ≡ Some s → length (requests_of L s) ≤ most_requests →
         slice_get (replies_in (accepted h) h s) (length (got (reverse L.events) s)) ≡ Some (Relay seq commit head items) → items ≡ [] → ⊥ }
 {}

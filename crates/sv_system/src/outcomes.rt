@@ -1,3 +1,4 @@
+//! What comes of the actions that clients make.
 ghost use Rattle.std.specs.Prelude.{◌≡◌, ◌<◌, ℕ, true, List, reverse, slice_get, None, Some};
 ghost use Rattle.sv_world.specs.declared.action.Action.{Action};
 ghost use Rattle.sv_journal.specs.declared.entry.Entry.{Entry};

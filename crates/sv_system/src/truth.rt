@@ -1,3 +1,4 @@
+//! All values, and the committed world, are those of the serial execution.
 ghost use Rattle.std.specs.Prelude.{◌≡◌, List, length};
 ghost use Rattle.sv_eval.specs.Serial.{serial_world};
 ghost use Rattle.sv_journal.specs.declared.entry.Entry.{Entry};
