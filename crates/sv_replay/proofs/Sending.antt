@@ -29,7 +29,8 @@ use Rattle.sv_replay.specs.declared.playing.Playing.{Playing}
 use Rattle.sv_replay.specs.Machine.{player_of, Stage, run_of, IsMachine}
 use Rattle.sv_replay.proofs.Apart.{OthersSilent, sound_silent, open_by_one}
 use Rattle.sv_replay.proofs.Events.{not_begun}
-use Rattle.sv_replay.proofs.Doing.{session_current, session_next}
+use Rattle.sv_replay.proofs.Places.{place_between}
+use Rattle.sv_replay.proofs.Doing.{session_current}
 use Rattle.sv_replay.proofs.Turns.{place-is}
 use Rattle.sv_replay.proofs.Served.{next_asked}
 use Rattle.sv_replay.proofs.Answering.{run_at, session_turn_is}
@@ -87,7 +88,7 @@ module _ (m : Stage) (k : ℕ) (p : Player) (is : IsMachine m) (l : k < length m
   silent_next linked between =
       let joined : list_any (is_join_of n) (player_turn p).events ≡ true =
       ap (λ (q : Player). list_any (is_join_of n) q.events) (joins_now linked between)
-      ∙ or_left (p.first + joins p.events == n) (list_any (is_join_of n) p.events) (eq-eqb (p.first + joins p.events) n (sym (session_next p between))) in
+      ∙ or_left (p.first + joins p.events == n) (list_any (is_join_of n) p.events) (eq-eqb (p.first + joins p.events) n (sym (place_between p between))) in
       silent_before n k player_turn ps
       (sound_silent m.serves.server m.scenario (turn_served m.serves.server (run_of m) (turns.Client k)) n k (player_turn p) turn_sound (place_turned player_turn ps k p at) joined)
 
@@ -100,7 +101,7 @@ module _ (m : Stage) (k : ℕ) (p : Player) (is : IsMachine m) (l : k < length m
 
   own_next : must_join p.events ≡ true → has_closed n p ≡ false
   own_next between =
-      let fresh : list_any (is_join_of n) p.events ≡ false = not_begun p.who p.first p.events fit.proper n (omega (arith, session_next p between)) in
+      let fresh : list_any (is_join_of n) p.events ≡ false = not_begun p.who p.first p.events fit.proper n (omega (arith, place_between p between)) in
       rw fresh refl
 
   -- The client's end of its session is open, or it has not begun it.

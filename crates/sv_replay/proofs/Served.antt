@@ -28,7 +28,7 @@ use Rattle.sv_system.proofs.Entered.{as-many, replies-one}
 use Rattle.sv_schedule.specs.Players.{Player, asked_in_run}
 use Rattle.sv_schedule.specs.Serving.{Server, is_stop, served}
 use Rattle.sv_schedule.specs.Schedule.{plain_server}
-use Rattle.sv_schedule.specs.Served.{AreNamed}
+use Rattle.sv_schedule.specs.Served.{RepliesNameAccepted}
 use Rattle.sv_schedule.proofs.SoundReplies.{replies-grow}
 use Rattle.sv_sequencer.specs.Step.{SequencerView, history, entry_of, Grew, Answered}
 use Rattle.sv_exchange.specs.View.{ExchangeView, TakesRequest}
@@ -115,7 +115,7 @@ same_stop A logged.Bye = refl
 
 -- ---- Whole replies stay
 
-pub replies_stay : (e : Entry) (h : List Entry) (s : ℕ) → AreNamed h → replies_in (accepted h) h s ≡ replies_in (accepted (e ∷ h)) h s
+pub replies_stay : (e : Entry) (h : List Entry) (s : ℕ) → RepliesNameAccepted h → replies_in (accepted h) h s ≡ replies_in (accepted (e ∷ h)) h s
 replies_stay e h s named =
     fronts-same (replies_in (accepted h) h s) (replies_in (accepted (e ∷ h)) h s) (replies_in (accepted (e ∷ h)) (e ∷ h) s) (replies-grow e h s named) (replies-one (accepted (e ∷ h)) e h s)
     (as-many (accepted h) h s ∙ sym (as-many (accepted (e ∷ h)) h s))

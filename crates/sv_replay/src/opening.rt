@@ -21,19 +21,25 @@ use sv_scenario::{Plan, Scenario, sessions_of, sessions_of_plan};
 use sv_sequencer::Sequencer;
 use sv_world::{ClientId, Shape, World, copy_objects, copy_values};
 
+/// A copy of a scenario's opening world.
+pub fn opening_world(alloc: Global, scenario: &Scenario) -> Result<World, AllocError>
+    ensures { IfOk result (λ world. world ≡ scenario.now.world) }
+{
+    Ok(World {
+        shape: scenario.world.shape,
+        values: copy_values(alloc, scenario.world.values.as_slice())?,
+    })
+}
+
 /// Opens a scenario's server, which no one has asked anything yet.
 pub fn open_sequencer(alloc: Global, scenario: &Scenario) -> Result<Sequencer, AllocError>
     requires { IsGoodScenario scenario.now }
     ensures rules { IfOk result (λ s. s.rules ≡ rules_of scenario.now) }
     ensures empty { IfOk result (λ s. s.journal.entries ≡ []) }
 {
-    let world = World {
-        shape: scenario.world.shape,
-        values: copy_values(alloc, scenario.world.values.as_slice())?,
-    };
     Sequencer::new(
         alloc,
-        world,
+        opening_world(alloc, scenario)?,
         scenario.bound,
         scenario.reach,
         sessions_of(scenario),

@@ -22,7 +22,7 @@ use Rattle.sv_system.specs.Fits.{requests_in, is_ended}
 use Rattle.sv_system.proofs.Tests.{each-append}
 use Rattle.sv_schedule.specs.Players.{Player, asked_in_run, has_closed}
 use Rattle.sv_schedule.specs.Serving.{is_stop, is_stopped}
-use Rattle.sv_schedule.specs.Schedule.{with_entry, session_turn, session_turns, sessions_turned}
+use Rattle.sv_schedule.specs.Schedule.{plainly_served, session_turn, session_turns, sessions_turned}
 use Rattle.sv_schedule.proofs.DoneLists.{repeated-keeps}
 use Rattle.sv_schedule.proofs.DoneSessions.{is_spent, IsTurn, over, stops, steps, closes, waits, turn-is, other-turn}
 
@@ -108,7 +108,7 @@ spent-first (e ∷ h) s n c =
     other-false false b x y = absurd (true≢false (sym x))
 
 module _ (r : Rules) (ps : List Player) where
-  spent-more : (h : List Entry) (s : ℕ) (q : Request) → is_spent h s ≡ true → is_spent (with_entry r h s q) s ≡ true
+  spent-more : (h : List Entry) (s : ℕ) (q : Request) → is_spent h s ≡ true → is_spent (plainly_served r h s q) s ≡ true
   spent-more h s q e = or_right _ (is_spent h s) e
 
   due-turned : (s : ℕ) (h g : List Entry) → IsTurn r ps s h g → EndsAreDue ps h → is_ended g s ≡ true → (is_spent g s ≡ true) ⊎ (list_any (has_closed s) ps ≡ true)

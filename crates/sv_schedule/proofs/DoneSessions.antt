@@ -14,7 +14,7 @@ use Rattle.sv_journal.specs.Answer.{Rules}
 use Rattle.sv_system.specs.Fits.{requests_in, is_ended}
 use Rattle.sv_schedule.specs.Players.{Player, asked_in_run, has_closed, repeated}
 use Rattle.sv_schedule.specs.Serving.{is_stop, is_stopped}
-use Rattle.sv_schedule.specs.Schedule.{with_entry, steps_next, session_turn, session_turns, sessions_turned}
+use Rattle.sv_schedule.specs.Schedule.{plainly_served, steps_next, session_turn, session_turns, sessions_turned}
 use Rattle.sv_schedule.proofs.DoneLists.{repeated-keeps}
 
 -- The session was answered a reply that stops its loop, to a request that is no End.
@@ -51,15 +51,15 @@ same-other t s e h n = record {
 -- What a session's turn makes of the history, and why.
 pub data IsTurn (r : Rules) (ps : List Player) (s : ℕ) (h g : List Entry) : Type 0 where
   over : is_ended h s ≡ true → g ≡ h → IsTurn r ps s h g
-  stops : is_ended h s ≡ false → is_stopped h s ≡ true → g ≡ with_entry r h s requests.End → IsTurn r ps s h g
+  stops : is_ended h s ≡ false → is_stopped h s ≡ true → g ≡ plainly_served r h s requests.End → IsTurn r ps s h g
   steps : is_ended h s ≡ false → is_stopped h s ≡ false → (q : Request) (rest : List Request) → drop (length (requests_in h s)) (asked_in_run ps s) ≡ q ∷ rest →
-      g ≡ with_entry r h s q → IsTurn r ps s h g
+      g ≡ plainly_served r h s q → IsTurn r ps s h g
   closes : is_ended h s ≡ false → drop (length (requests_in h s)) (asked_in_run ps s) ≡ [] → list_any (has_closed s) ps ≡ true →
-      g ≡ with_entry r h s requests.End → IsTurn r ps s h g
+      g ≡ plainly_served r h s requests.End → IsTurn r ps s h g
   waits : is_stopped h s ≡ false → drop (length (requests_in h s)) (asked_in_run ps s) ≡ [] → list_any (has_closed s) ps ≡ false → g ≡ h → IsTurn r ps s h g
 
 turn-by : (r : Rules) (ps : List Player) (s : ℕ) (h : List Entry) (b c d : Bool) (w : List Request) → is_ended h s ≡ b → is_stopped h s ≡ c → list_any (has_closed s) ps ≡ d →
-    drop (length (requests_in h s)) (asked_in_run ps s) ≡ w → IsTurn r ps s h (if b then h else if c then with_entry r h s requests.End else steps_next r h s d w)
+    drop (length (requests_in h s)) (asked_in_run ps s) ≡ w → IsTurn r ps s h (if b then h else if c then plainly_served r h s requests.End else steps_next r h s d w)
 turn-by r ps s h true c d w e f g k = over e refl
 turn-by r ps s h false true d w e f g k = stops e f refl
 turn-by r ps s h false false d (q ∷ w) e f g k = steps e f q w k refl
@@ -128,10 +128,10 @@ module _ (r : Rules) (ps : List Player) (s : ℕ) where
       quiet-all_kept ss (session_turns r ps h t)
       (repeated-keeps (λ (g : List Entry). IsQuiet ps g s) (λ (g : List Entry). session_turn r ps g t) (quiet-kept t) (suc (length (asked_in_run ps t))) h q)
 
-  ended-now : (h : List Entry) (q : Request) → is_end q ≡ true → is_ended (with_entry r h s q) s ≡ true
+  ended-now : (h : List Entry) (q : Request) → is_end q ≡ true → is_ended (plainly_served r h s q) s ≡ true
   ended-now h q e = or_left (s == s && is_end q) (is_ended h s) (and_from (s == s) (is_end q) (eq-eqb s s refl) e)
 
-  asked-now : (h : List Entry) (q : Request) → is_end q ≡ false → length (requests_in (with_entry r h s q) s) ≡ length (requests_in h s) + 1
+  asked-now : (h : List Entry) (q : Request) → is_end q ≡ false → length (requests_in (plainly_served r h s q) s) ≡ length (requests_in h s) + 1
   asked-now h q e =
       ap length (cond-true (s == s && not (is_end q)) (requests_in h s ++ q ∷ []) (requests_in h s) (and_from (s == s) (not (is_end q)) (eq-eqb s s refl) (not_from_false (is_end q) e)))
       ∙ length-append (requests_in h s) (q ∷ [])

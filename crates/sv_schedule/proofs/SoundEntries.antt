@@ -12,7 +12,7 @@ use Rattle.sv_system.proofs.Fronts.{front-then}
 use Rattle.sv_schedule.specs.Players.{Player, asked_in_run, has_closed}
 use Rattle.sv_schedule.specs.Serving.{Server, entry_by, served, is_stop, is_stopped}
 use Rattle.sv_schedule.specs.Sound.{has_joined}
-use Rattle.sv_schedule.specs.Served.{IsHeard, AreNamed, KeepsSound}
+use Rattle.sv_schedule.specs.Served.{IsHeard, RepliesNameAccepted, KeepsSound}
 use Rattle.sv_schedule.proofs.SoundTraces.{none-asked}
 use Rattle.sv_schedule.proofs.SoundReplies.{replies-grow}
 use Rattle.sv_schedule.proofs.SoundPlayers.{FitsAt, IsFitting}
@@ -23,7 +23,7 @@ use Rattle.sv_schedule.proofs.SoundPlayers.{FitsAt, IsFitting}
 abbrev pub IsNextOf : List Entry → ℕ → Request → Player → Type 0
 IsNextOf h s request p = has_joined p s ≡ true → is_end request ≡ false → slice_get (asked p.who.client p.who.interest p.events s) (length (requests_in h s)) ≡ Some request
 
-module _ (server : Server) (keeps : KeepsSound server) (h : List Entry) (named : AreNamed h) (s : ℕ) (request : Request) (open-yet : is_ended h s ≡ false) where
+module _ (server : Server) (keeps : KeepsSound server) (h : List Entry) (named : RepliesNameAccepted h) (s : ℕ) (request : Request) (open-yet : is_ended h s ≡ false) where
   abbrev grown : List Entry
   grown = served server h s request
 

@@ -21,7 +21,7 @@ use Rattle.sv_system.specs.Fits.{replies_in}
 use Rattle.sv_system.proofs.Entered.{replies-one}
 use Rattle.sv_system.proofs.Histories.{same, after, accepted-grows, actions-count}
 use Rattle.sv_system.proofs.Replies.{Tells, new_of, legal-tells}
-use Rattle.sv_schedule.specs.Served.{NamesUpTo, AreNamed}
+use Rattle.sv_schedule.specs.Served.{NamesUpTo, RepliesNameAccepted}
 
 -- ---- Positions that a reply names
 
@@ -64,7 +64,7 @@ names-here r e h l = go e.reply refl (legal-tells r e h l)
     go (logged.Refused code detail) is t = tt
     go logged.Bye is t = tt
 
-pub all-names : (r : Rules) (h : List Entry) → Legal r h → AreNamed h
+pub all-names : (r : Rules) (h : List Entry) → Legal r h → RepliesNameAccepted h
 all-names r [] l = tt
 all-names r (e ∷ h) l = (
   names-here r e h l,
@@ -101,7 +101,7 @@ replies-stay A more [] s f = refl
 replies-stay A more (e ∷ h) s f = rw (whole-stays A more e.reply f.0, replies-stay A more h s f.1) refl
 
 -- The replies of a session with an entry more begin as they were.
-pub replies-grow : (e : Entry) (h : List Entry) (s : ℕ) → AreNamed h → IsFront (replies_in (accepted h) h s) (replies_in (accepted (e ∷ h)) (e ∷ h) s)
+pub replies-grow : (e : Entry) (h : List Entry) (s : ℕ) → RepliesNameAccepted h → IsFront (replies_in (accepted h) h s) (replies_in (accepted (e ∷ h)) (e ∷ h) s)
 replies-grow e h s named =
     subst (λ (rs : List Reply). IsFront rs (replies_in (accepted (e ∷ h)) (e ∷ h) s))
     (replies-stay (accepted h) (if is_relay e.reply then new_at e h else []) h s named)

@@ -46,15 +46,15 @@ NamesUpTo n (logged.Relay seq commit head positions) = (j : ℕ) → is_in j pos
 NamesUpTo n _ = Unit {0}
 
 -- The replies of a journal name positions of accepted actions alone.
-abbrev pub AreNamed : List Entry → Type 0
-AreNamed h = AllByRecursion (λ (e : Entry). NamesUpTo (length (accepted h)) e.reply) h
+abbrev pub RepliesNameAccepted : List Entry → Type 0
+RepliesNameAccepted h = AllByRecursion (λ (e : Entry). NamesUpTo (length (accepted h)) e.reply) h
 
 -- What a server must keep so that its runs stay sound: it hears an End just where its session ends, and answers it with a Bye; and it names
 -- accepted actions alone.
 pub record KeepsSound (server : Server) : Type 0 where
   pub ends : (h : List Entry) (s : ℕ) (request : Request) → is_end (server.hears h s request) ≡ is_end request
   pub bye : (h : List Entry) (s : ℕ) → server.answers h s requests.End ≡ logged.Bye
-  pub named : (h : List Entry) → IsServed server h → AreNamed h
+  pub named : (h : List Entry) → IsServed server h → RepliesNameAccepted h
 
 -- It hears who joins.
 abbrev pub HearsJoins : Server → Type 0

@@ -22,7 +22,6 @@ mod Stepped
 mod Installed
 mod Heard
 mod Sent
-mod Scripts
 mod Sound
 mod Ran
 mod Endings

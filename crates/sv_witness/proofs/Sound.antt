@@ -34,7 +34,7 @@ use Rattle.sv_system.proofs.Entered.{is_of, of-from}
 use Rattle.sv_system.proofs.Induction.{whole-well}
 use Rattle.sv_system.proofs.NextReply.{served-no_fault}
 use Rattle.sv_asked.specs.Asked.{EventFits, HasNumbers, ServedRepliesFit}
-use Rattle.sv_asked.specs.Numbers.{PlanFits, ScenarioFits}
+use Rattle.sv_asked.specs.Numbers.{ScenarioFits}
 use Rattle.sv_asked.proofs.Every.{each-at, each-append, each-if, each-map, each-more, each-reverse}
 use Rattle.sv_asked.proofs.Evaluated.{IsNumber}
 use Rattle.sv_asked.proofs.Made.{Makes, Asks, asked-have}
@@ -53,6 +53,7 @@ use Rattle.sv_schedule.proofs.SoundLaws.{run-sound}
 use Rattle.sv_schedule.proofs.SoundOwned.{session-owned}
 use Rattle.sv_replay.specs.Players.{asked_by_player}
 use Rattle.sv_replay.specs.Messages.{AsksMessages}
+use Rattle.sv_replay.specs.Playable.{MadeActionsFit}
 use Rattle.sv_replay.proofs.Lengths.{owner_of, history_few}
 use Rattle.sv_witness.specs.Lies.{greatest, lied, lied_result, lied_value}
 use Rattle.sv_witness.specs.Reports.{agreed_history}
@@ -66,7 +67,6 @@ use Rattle.sv_witness.proofs.Tolerated.{results-tolerated, tolerated}
 use Rattle.sv_witness.proofs.Calm.{none-disputed}
 use Rattle.sv_witness.proofs.Heard.{heard-by, heard-joins, witness-served, witness-keeps, witness-fits, is_other, witness-but}
 use Rattle.sv_witness.proofs.Sent.{all-requests}
-use Rattle.sv_witness.proofs.Scripts.{players_made}
 
 -- ---- A lie has numbers of their types
 
@@ -268,11 +268,11 @@ module _ (scenario : Scenario) (liar : Option ℕ) (run : Run) (good : IsGoodSce
       let a = player-at server scenario run good sound o.0 o.1.0 o.1.1.0 in
       (o.0, (o.1.0, (o.1.1.0, heard-at server e g H e.session (asked_by_player o.1.0 e.session) b (a.fitting.sessions e.session o.1.1.1).heard (of-from e e.session refl on))))
 
-  module _ (numbers : ScenarioFits scenario) where
+  module _ (scripts : MadeActionsFit) (numbers : ScenarioFits scenario) where
     made-at : (k : ℕ) (p : Player) → slice_get run.players k ≡ Some p → All EventFits (trace_of_player p).events
     made-at k p at =
         each-at (λ (L : Trace). All EventFits L.events) (traces_of run) k (trace_of_player p)
-        (players_made shape 0 0 scenario.clients run.players (recursion_from_All PlanFits scenario.clients numbers.plans) sound.players)
+        (recursion_from_All (λ (L : Trace). All EventFits L.events) (traces_of run) (scripts server scenario run numbers sound))
         (map-here trace_of_player run.players k p at)
 
     makes-at : (k : ℕ) (p : Player) → slice_get run.players k ≡ Some p → AllByRecursion (Makes ActionFits) p.events
@@ -339,11 +339,11 @@ module _ (scenario : Scenario) (liar : Option ℕ) (run : Run) (good : IsGoodSce
 
 -- ---- Runs
 
-pub runs-playable : ServedRelaysNameAccepted → ServedRelaysAreSmall → ServedActionsAreGood → ServedRepliesFit → WitnessesArePlayable
-runs-playable names small goods replies scenario liar good numbers = record {
+pub runs-playable : MadeActionsFit → ServedRelaysNameAccepted → ServedRelaysAreSmall → ServedActionsAreGood → ServedRepliesFit → WitnessesArePlayable
+runs-playable scripts names small goods replies scenario liar good numbers = record {
   keeps = witness-keeps names (rules_of scenario) liar;
-  asked = λ run k p sound at. asks scenario liar run good sound numbers names small goods k p at;
-  replied = λ run sound. replied scenario liar run good sound numbers names small goods replies;
+  asked = λ run k p sound at. asks scenario liar run good sound scripts numbers names small goods k p at;
+  replied = λ run sound. replied scenario liar run good sound scripts numbers names small goods replies;
   taken = λ run k p s reply sound at current waits. taken scenario liar run good sound k p s reply at current waits;
 }
 
