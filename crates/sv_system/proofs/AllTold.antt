@@ -11,21 +11,19 @@ use Rattle.sv_wire.specs.declared.message.Request.{Request}
 use Rattle.sv_wire.specs.declared.message.Request.TheVariants as requests
 use Rattle.sv_wire.specs.declared.message.Reply.{Reply}
 use Rattle.sv_wire.specs.declared.message.Reply.TheVariants as replies
-use Rattle.sv_journal.specs.declared.entry.Entry.{Entry}
 use Rattle.sv_journal.specs.History.{Authored, accepted, client_of, outcomes_of, next_seq}
 use Rattle.sv_journal.specs.Sessions.{is_end}
-use Rattle.sv_journal.specs.Answer.{Rules}
-use Rattle.sv_journal.specs.Serving.{Keeping, LegalFor, IsKeeping}
+use Rattle.sv_journal.specs.Serving.{LegalFor, IsKeeping}
 use Rattle.sv_client.specs.declared.trace.Event.{Event}
 use Rattle.sv_client.specs.declared.trace.Event.TheVariants as events
-use Rattle.sv_client.specs.declared.trace.Trace.{Trace}
 use Rattle.sv_client.specs.Traces.{makes, current_session, held_of, with_reply, pending_with, pending_of, asked, got}
 use Rattle.sv_client.specs.Taking.{Identity, outstanding, unanswered, allows}
 use Rattle.sv_client.specs.Proper.{AreProper, in_session, identity_of}
 use Rattle.sv_script.specs.Following.{is_finished}
 use Rattle.sv_system.specs.Outcomes.{is_quit, HasOutcomes}
 use Rattle.sv_system.specs.Fits.{requests_in, has_session}
-use Rattle.sv_system.specs.Served.{OwnsSessions, FitsButValues}
+use Rattle.sv_system.specs.Served.{FitsButValues}
+use Rattle.sv_system.proofs.Awaited.{Owner}
 use Rattle.sv_system.proofs.Fronts.{get-last}
 use Rattle.sv_system.proofs.Histories.{earlier-rest, earlier-served}
 use Rattle.sv_system.proofs.Commits.{next-grows, outcome-when}
@@ -36,7 +34,7 @@ use Rattle.sv_system.proofs.Aligned.{settles-submit, aligned}
 use Rattle.sv_system.proofs.Leaving.{leave-last}
 use Rattle.sv_system.proofs.Order.{get-some, joined-has}
 use Rattle.sv_system.proofs.Opened.{own-session, session-client}
-use Rattle.sv_system.proofs.Asking.{IsServed, is_done, asked-there, entered-as}
+use Rattle.sv_system.proofs.Asking.{is_done, asked-there, entered-as}
 use Rattle.sv_system.proofs.Window.{submit-of, submit-named, submit-most, next-front, answered-next, client-some}
 
 -- ---- Nothing is pending once a client left
@@ -133,7 +131,9 @@ not-reversed p xs e = elim (cases_Bool (list_any p (reverse xs))) [ inr f ↦ f 
 
 -- ---- As many outcomes as actions made
 
-module _ (K : Keeping) (r : Rules) (H : List Entry) (L : Trace) (served : IsServed K r H L) (owns : OwnsSessions H L) where
+module _ (owner : Owner) where
+  open owner use {keeping as K, rules as r, journal as H, trace as L, served}
+
   abbrev whole : List Event
   whole = reverse L.events
 
@@ -174,7 +174,7 @@ module _ (K : Keeping) (r : Rules) (H : List Entry) (L : Trace) (served : IsServ
       entered-as H L o (this_one.sessions o has_o) m x.entry.request (requests.Submit q.0 q.1.0) by_journal (by_trace ∙ ap Some q.1.1) refl in
       let n = answered-next K keeps r A x.entry x.before (earlier-served K r (x.entry ∷ x.before) H x.earlier legal) q.0 q.1.0 request x.entry.reply refl (ap settles (sym x.replied) ∙ s') in
       let session : x.entry.session ≡ o = (of-parts x.entry o x.of_it).0 in
-      let own : n.0 ≡ k = session-client K r H L served owns o has_o x.before (earlier-rest x.before x.entry H x.earlier) n.0 (subst (λ (c : ℕ). client_of x.before c ≡ Some n.0) session n.1.0) in
+      let own : n.0 ≡ k = session-client owner o has_o x.before (earlier-rest x.before x.entry H x.earlier) n.0 (subst (λ (c : ℕ). client_of x.before c ≡ Some n.0) session n.1.0) in
       let low : q.0 < next_seq (x.entry ∷ x.before) k = subst (λ (c : ℕ). q.0 < next_seq (x.entry ∷ x.before) c) own n.1.1 in
       let grows : next_seq (x.entry ∷ x.before) k ≤ next_seq H k = next-grows (x.entry ∷ x.before) H x.earlier k in
       let number : q.0 ≡ suc (settled t) = front.1.1 in
@@ -220,7 +220,7 @@ module _ (K : Keeping) (r : Rules) (H : List Entry) (L : Trace) (served : IsServ
           let x = outcome-when H k m f.0 f.1 in
           let q = submit-named x.entry.request (suc m) x.submit in
           let c : client_of x.before x.entry.session ≡ Some k = client-some (client_of x.before x.entry.session) k x.client in
-          let has_o : has_session L x.entry.session ≡ true = own-session K r H L served owns x.before (earlier-rest x.before x.entry H x.earlier) x.entry.session c in
+          let has_o : has_session L x.entry.session ≡ true = own-session owner x.before (earlier-rest x.before x.entry H x.earlier) x.entry.session c in
           let there = asked-there H L x.entry.session (this_one.sessions x.entry.session has_o) (length (requests_in x.before x.entry.session)) x.entry.request (ap is_done q.1)
           (request-there x.entry x.before H x.entry.session x.earlier (of-from x.entry x.entry.session refl (ap is_end q.1))) in
           let most : suc m ≤ makes whole = submit-most who L.first whole this_one.proper.events x.entry.session (length (requests_in x.before x.entry.session)) (suc m) q.0 (there ∙ ap Some q.1) in

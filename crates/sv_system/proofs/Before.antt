@@ -14,16 +14,16 @@ use Rattle.sv_journal.specs.Answer.{Rules, committed_held}
 use Rattle.sv_journal.specs.Serving.{Keeping, LegalFor, IsKeeping}
 use Rattle.sv_client.specs.declared.trace.Event.{Event}
 use Rattle.sv_client.specs.declared.trace.Event.TheVariants as events
-use Rattle.sv_client.specs.declared.trace.Trace.{Trace}
-use Rattle.sv_client.specs.Traces.{joins, current_session, asked, got}
+use Rattle.sv_client.specs.Traces.{joins, asked, got}
 use Rattle.sv_client.specs.Taking.{Identity, commit_in, told_with, told}
 use Rattle.sv_client.specs.Proper.{identity_of}
 use Rattle.sv_system.specs.Fits.{replies_in}
-use Rattle.sv_system.specs.Served.{OwnsSessions, FitsButValues}
+use Rattle.sv_system.specs.Served.{FitsButValues}
+use Rattle.sv_system.proofs.Awaited.{Awaited}
 use Rattle.sv_system.proofs.Fronts.{get-last, fronts-same}
 use Rattle.sv_system.proofs.Histories.{IsEarlier, same, after, earlier-then, earlier-rest, earlier-served, earlier-kept}
 use Rattle.sv_system.proofs.Replies.{commit_after, TellsFor, IsRelayReply, IsWelcomeReply, served-tells}
-use Rattle.sv_system.proofs.Asking.{IsServed, request-other}
+use Rattle.sv_system.proofs.Asking.{request-other}
 use Rattle.sv_system.proofs.Commits.{commit-grows}
 use Rattle.sv_system.proofs.Entered.{earlier-cases, is_of, of-parts, replies-earlier, IsEntered, entered, over-stays}
 use Rattle.sv_system.proofs.Asked.{IsPart, part-rest, asked-part, got-part, got-when, got-answers, begun-or_not, current-last}
@@ -67,9 +67,10 @@ with-most : (o : Option ℕ) (n m : ℕ) → ((c : ℕ) → o ≡ Some c → c �
 with-most None n m f l = l
 with-most (Some c) n m f l = (let k : c ≤ m = f c refl in omega arith)
 
-module _ (K : Keeping) (r : Rules) (H : List Entry) (L : Trace) (served : IsServed K r H L) (owns : OwnsSessions H L)
-    (s : ℕ) (current : current_session (reverse L.events) ≡ Some s) (few : length (asked L.client L.interest (reverse L.events) s) ≤ 1024)
-    (e : Entry) (g : List Entry) (b : IsEarlier (e ∷ g) H) (mine : is_of e s ≡ true) (next : length (replies_in (accepted H) g s) ≡ length (got (reverse L.events) s)) where
+module _ (awaited : Awaited) where
+  open awaited.owner use {keeping as K, rules as r, journal as H, trace as L, served}
+  open awaited use {session as s, current, entry as e, before as g, earlier as b, mine, next}
+
   abbrev whole : List Event
   whole = reverse L.events
 
@@ -101,11 +102,11 @@ module _ (K : Keeping) (r : Rules) (H : List Entry) (L : Trace) (served : IsServ
         | inl n ↦ absurd (n.1 current)
         | inr begun ↦
             (let join = requests.Join L.client begun.life L.interest in
-            let x = asks K r H L served owns s current e g b mine next in
+            let x = asks awaited in
             let first : e.request ≡ join =
             request-other x.0 e.request join x.1.1
             (same_Some x.0 join (sym (ap (slice_get (asked L.client L.interest whole s)) (sym z) ∙ x.1.0) ∙ ap (λ (qs : List Request). slice_get qs 0) begun.asked_are)) refl in
-            let w = join-welcomed K r H L served owns s current few e g b mine next L.client begun.life L.interest first in
+            let w = join-welcomed awaited L.client begun.life L.interest first in
             record {
               entry = e;
               before = g;

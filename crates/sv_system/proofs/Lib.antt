@@ -3,6 +3,7 @@ pub mod AllTold
 pub mod Allowed
 pub mod Asked
 pub mod Asking
+pub mod Awaited
 pub mod Before
 pub mod Begun
 pub mod BoundedRelays
