@@ -14,7 +14,7 @@ use Rattle.sv_journal.specs.Serving.{plain}
 use Rattle.sv_journal.proofs.Plain.{plain-keeping, plain-legal}
 use Rattle.sv_client.specs.declared.trace.Trace.{Trace}
 use Rattle.sv_system.specs.Fits.{has_session, FitsOne, AreApart, AreAllApart, is_owned, Fits}
-use Rattle.sv_system.specs.Served.{is_session_of, FitsBut, nobody, OwnsSessions}
+use Rattle.sv_system.specs.Served.{is_session_of, FitsBut, no_client, OwnsSessions}
 use Rattle.sv_system.proofs.Histories.{IsEarlier, same, after}
 use Rattle.sv_system.proofs.Asking.{IsServed, fits-but_values}
 use Rattle.sv_system.proofs.Opened.{welcomed-by, join-of}
@@ -72,18 +72,18 @@ some-session shape H k s own (L ∷ Ls) each h =
       | inr e ↦ or_right (L.client.0 == k && has_session L s) (is_session_of Ls k s) (some-session shape H k s own Ls each.1 e)
     ]
 
-none-liar : (shape : Shape) (H : List Entry) (Ls : List Trace) → AllByRecursion (FitsOne shape H) Ls → AllByRecursion (λ (L : Trace). L.client.0 ≡ nobody → ⊥) Ls
+none-liar : (shape : Shape) (H : List Entry) (Ls : List Trace) → AllByRecursion (FitsOne shape H) Ls → AllByRecursion (λ (L : Trace). L.client.0 ≡ no_client → ⊥) Ls
 none-liar shape H [] each = tt
 none-liar shape H (L ∷ Ls) each = (λ e. (let few : L.client.0 < 32 = each.0.proper.who.client in absurd (omega arith)), none-liar shape H Ls each.1)
 
 -- Then no client is the liar.
-pub fits-none : (shape : Shape) (H : List Entry) (Ls : List Trace) → Fits shape H Ls → FitsBut nobody shape H Ls
+pub fits-none : (shape : Shape) (H : List Entry) (Ls : List Trace) → Fits shape H Ls → FitsBut no_client shape H Ls
 fits-none shape H Ls fits =
     let each = recursion_from_All (FitsOne shape H) Ls fits.each in
     record {
       each = fits.each;
       apart = fits.apart;
-      honest = All-from_recursion (λ (L : Trace). L.client.0 ≡ nobody → ⊥) Ls (none-liar shape H Ls each);
+      honest = All-from_recursion (λ (L : Trace). L.client.0 ≡ no_client → ⊥) Ls (none-liar shape H Ls each);
       joined = λ s k c other.
           let w = welcomed-by H s k c in
           let own : (M : Trace) → FitsOne shape H M → has_session M w.entry.session ≡ true → M.client.0 ≡ k =
@@ -99,7 +99,7 @@ fits-none shape H Ls fits =
     }
 
 pub owns-own : (shape : Shape) (H : List Entry) (Ls : List Trace) → Fits shape H Ls → (i : ℕ) (L : Trace) → slice_get Ls i ≡ Some L → OwnsSessions H L
-owns-own shape H Ls fits = owns-but nobody shape H Ls (fits-none shape H Ls fits)
+owns-own shape H Ls fits = owns-but no_client shape H Ls (fits-none shape H Ls fits)
 
 pub plain-served : (r : Rules) (H : List Entry) (Ls : List Trace) → Legal r H → Fits r.world.shape H Ls → (i : ℕ) (L : Trace) → slice_get Ls i ≡ Some L → IsServed plain r H L
 plain-served r H Ls legal fits i L member = record {

@@ -31,8 +31,8 @@ pub record FitsBut (liar : ℕ) (shape : Shape) (h : List Entry) (Ls : List Trac
   pub joined : (s k : ℕ) → client_of h s ≡ Some k → (k ≡ liar → ⊥) → is_session_of Ls k s ≡ true
 
 -- No client has this number.
-abbrev pub nobody : ℕ
-nobody = most_clients
+abbrev pub no_client : ℕ
+no_client = most_clients
 
 -- Each session that was joined as the trace's client is the trace's own.
 abbrev pub OwnsSessions : List Entry → Trace → Type 0

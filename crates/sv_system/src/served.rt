@@ -19,7 +19,7 @@ ghost use Rattle.sv_client.specs.Traces.{current_session, held_of, requests_of, 
 ghost use Rattle.sv_client.specs.Taking.{first_fault_of_reply};
 ghost use Rattle.sv_client.specs.Proper.{identity_of};
 ghost use Rattle.sv_system.specs.Fits.{replies_in, has_session, FitsOne, Fits};
-ghost use Rattle.sv_system.specs.Served.{FitsBut, nobody, OwnsSessions, FitsButValues};
+ghost use Rattle.sv_system.specs.Served.{FitsBut, no_client, OwnsSessions, FitsButValues};
 ghost use Rattle.sv_system.specs.Serial.{AreSerial, AreSufficient, reply_held};
 ghost use Rattle.sv_system.specs.Delivery.{AreLawful};
 ghost use Rattle.sv_system.specs.Journals.{deliveries_of, IsSerialResult, ResultsAreSerial};
@@ -86,5 +86,5 @@ pub fn served_clients_are_never_refused()
         slice_get Ls i ≡ Some L → FitsButValues r.world.shape h L }
     ensures sessions { (liar : ℕ) (r : Rules) (h : List Entry) (Ls : List Trace) (i : ℕ) (L : Trace) → FitsBut liar r.world.shape h Ls →
         slice_get Ls i ≡ Some L → OwnsSessions h L }
-    ensures all { (r : Rules) (h : List Entry) (Ls : List Trace) → Fits r.world.shape h Ls → FitsBut nobody r.world.shape h Ls }
+    ensures all { (r : Rules) (h : List Entry) (Ls : List Trace) → Fits r.world.shape h Ls → FitsBut no_client r.world.shape h Ls }
 {}

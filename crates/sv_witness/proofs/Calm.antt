@@ -15,7 +15,7 @@ use Rattle.sv_journal.specs.Sessions.{is_over, is_live, asked_in, life_of}
 use Rattle.sv_journal.specs.Answer.{Rules, refused, committed_held, is_good_interest, most_requests}
 use Rattle.sv_journal.specs.Serving.{with_last_rows}
 use Rattle.sv_client.specs.declared.trace.Trace.{Trace}
-use Rattle.sv_system.specs.Served.{FitsBut, nobody}
+use Rattle.sv_system.specs.Served.{FitsBut, no_client}
 use Rattle.sv_system.proofs.Histories.{earlier-rest, earlier-served}
 use Rattle.sv_system.proofs.Opened.{welcomed-by}
 use Rattle.sv_witness.specs.declared.report.Report.{Report}
@@ -34,7 +34,7 @@ use Rattle.sv_witness.proofs.Tolerated.{tolerated}
 
 -- A Join is welcomed only as one of the clients that there may be.
 welcomed-number : (r : Rules) (h : List Entry) (s : ℕ) (client : ClientId) (life : ℕ) (interest : List ObjectId) →
-    is_welcome (witnessed_reply r h s (requests.Join client life interest)) ≡ true → client.0 < nobody
+    is_welcome (witnessed_reply r h s (requests.Join client life interest)) ≡ true → client.0 < no_client
 welcomed-number r h s client life interest w = go (is_over g s) (nat_le most_requests (asked_in g s)) (is_live g s) (nat_le 32 client.0) refl w
   where
     g : List Entry
@@ -47,21 +47,21 @@ welcomed-number r h s client life interest w = go (is_over g s) (nat_le most_req
         is_welcome (with_last_rows agreed r h s (requests.Join client life interest) (if a then refused 4 0 else if b then refused 9 0 else if c then refused 3 0
         else if d then refused 10 0 else if nat_le life (life_of g client.0) then refused 11 (life_of g client.0)
         else if is_good_interest r.world.shape.objects wanted then logged.Welcome (commit_of g) (committed_held r g wanted) else refused 8 0)) ≡ true →
-        client.0 < nobody
+        client.0 < no_client
     go true b c d e w = absurd (true≢false (sym w))
     go false true c d e w = absurd (true≢false (sym w))
     go false false true d e w = absurd (true≢false (sym w))
     go false false false true e w = absurd (true≢false (sym w))
     go false false false false e w = leb-false 32 client.0 e
 
-client-number : (r : Rules) (h : List Entry) → IsWitnessed r h → (s k : ℕ) → client_of h s ≡ Some k → k < nobody
+client-number : (r : Rules) (h : List Entry) → IsWitnessed r h → (s k : ℕ) → client_of h s ≡ Some k → k < no_client
 client-number r h legal s k c =
     let w = welcomed-by h s k c in
     let said : is_welcome (witnessed_reply r w.before w.entry.session (requests.Join w.client w.life w.welcome.interest)) ≡ true =
     ap is_welcome (sym (ap (λ (q : Request). witnessed_reply r w.before w.entry.session q) w.welcome.request) ∙ sym (witnessed-at r w.entry w.before h w.earlier legal) ∙ w.welcome.reply) in
-    subst (λ (n : ℕ). n < nobody) w.client_is (welcomed-number r w.before w.entry.session w.client w.life w.welcome.interest said)
+    subst (λ (n : ℕ). n < no_client) w.client_is (welcomed-number r w.before w.entry.session w.client w.life w.welcome.interest said)
 
-report-number : (r : Rules) (h : List Entry) → IsWitnessed r h → (p : ℕ) (x : Report) → IsAmong x (reports_of h p) → x.client.0 < nobody
+report-number : (r : Rules) (h : List Entry) → IsWitnessed r h → (p : ℕ) (x : Report) → IsAmong x (reports_of h p) → x.client.0 < no_client
 report-number r h legal p x m =
     let i = report-reported h p x m in
     let before : IsWitnessed r i.before = earlier-served agreed r i.before h (earlier-rest i.before i.entry h (entry-earlier i.entry i.before h i.within)) legal in
@@ -69,14 +69,14 @@ report-number r h legal p x m =
 
 -- ---- Disputes
 
-none-listed : (r : Rules) (h : List Entry) → IsWitnessed r h → (ds : List Dispute) → AllByRecursion (IsDisputed h) ds → AllByRecursion (NamesClient nobody) ds → ds ≡ []
+none-listed : (r : Rules) (h : List Entry) → IsWitnessed r h → (ds : List Dispute) → AllByRecursion (IsDisputed h) ds → AllByRecursion (NamesClient no_client) ds → ds ≡ []
 none-listed r h legal [] of named = refl
 none-listed r h legal (d ∷ ds) of named =
     let first : d.first.client.0 < 32 = report-number r h legal d.pos d.first of.0.one in
     let second : d.second.client.0 < 32 = report-number r h legal d.pos d.second of.0.other in
     elim named.0 [ inl e ↦ absurd (omega (arith, e)) | inr e ↦ absurd (omega (arith, e)) ]
 
-pub none-disputed : (r : Rules) (h : List Entry) (Ls : List Trace) → length r.world.values ≡ r.world.shape.objects → IsWitnessed r h → FitsBut nobody r.world.shape h Ls → disputes_of h ≡ []
+pub none-disputed : (r : Rules) (h : List Entry) (Ls : List Trace) → length r.world.values ≡ r.world.shape.objects → IsWitnessed r h → FitsBut no_client r.world.shape h Ls → disputes_of h ≡ []
 none-disputed r h Ls count legal fits =
     none-listed r h legal (disputes_of h) (recursion_from_All (IsDisputed h) (disputes_of h) (all-disputed h))
-    (recursion_from_All (NamesClient nobody) (disputes_of h) (tolerated nobody r h Ls count legal fits).disputes)
+    (recursion_from_All (NamesClient no_client) (disputes_of h) (tolerated no_client r h Ls count legal fits).disputes)

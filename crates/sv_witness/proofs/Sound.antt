@@ -26,7 +26,7 @@ use Rattle.sv_scenario.specs.declared.scenario.Scenario.{Scenario}
 use Rattle.sv_scenario.specs.Limits.{IsGoodScenario}
 use Rattle.sv_scenario.specs.Sessions.{session_count}
 use Rattle.sv_system.specs.Fits.{is_join_of, requests_in, replies_in}
-use Rattle.sv_system.specs.Served.{nobody, FitsBut, OwnsSessions, FitsButValues}
+use Rattle.sv_system.specs.Served.{no_client, FitsBut, OwnsSessions, FitsButValues}
 use Rattle.sv_system.specs.Serial.{AreSerial}
 use Rattle.sv_system.specs.Journals.{ResultsAreSerial}
 use Rattle.sv_system.proofs.Histories.{IsEarlier, same, after, earlier-rest}
@@ -202,7 +202,7 @@ module _ (scenario : Scenario) (liar : Option ℕ) (run : Run) (good : IsGoodSce
 
   calm-where_none : liar ≡ None → disputes_of H ≡ []
   calm-where_none none =
-      none-disputed r H (filter (is_other nobody) (traces_of run)) good.world.objects legal
+      none-disputed r H (filter (is_other no_client) (traces_of run)) good.world.objects legal
       (subst (λ (n : ℕ). FitsBut n shape H (filter (is_other n) (traces_of run))) (ap liar_of none) but)
 
   pub as-said : run ≡ witnessed_run scenario liar → IsWitnessedRun scenario liar H (traces_of run)

@@ -13,7 +13,7 @@ use Rattle.sv_schedule.specs.Schedule.{rules_of}
 use Rattle.sv_witness.specs.Reports.{agreed_commit, agreed_world}
 use Rattle.sv_witness.specs.Witnessed.{witnessed_reply, IsWitnessed}
 use Rattle.sv_witness.specs.Disputes.{disputes_of, NamesClient}
-use Rattle.sv_system.specs.Served.{nobody}
+use Rattle.sv_system.specs.Served.{no_client}
 use Rattle.sv_witness.specs.Lies.{lied}
 
 -- What the server hears of what a session asks: where the liar joined it, each Done is a lie.
@@ -29,7 +29,7 @@ witnessed_run scenario liar = run_served (witness_of (rules_of scenario) liar) s
 
 -- The number of the liar, that of no client where none lies.
 abbrev pub liar_of : Option ℕ → ℕ
-liar_of None = nobody
+liar_of None = no_client
 liar_of (Some liar) = liar
 
 -- The journal and the traces are those of the scenario's witnessed run. The journal is legal, the committed world is the serial one at the

@@ -19,7 +19,7 @@ ghost use Rattle.sv_witness.specs.Agreement.{IsAmong, TwoAgree};
 ghost use Rattle.sv_witness.specs.Disputes.{disputes_of, NamesClient};
 ghost use Rattle.sv_witness.specs.Honesty.{IsReported, IsDisputed, AllGiveBut, NoneGiveNone};
 ghost use Rattle.sv_witness.specs.Witnessed.{IsWitnessed};
-ghost use Rattle.sv_system.specs.Served.{FitsBut, nobody, OwnsSessions, FitsButValues};
+ghost use Rattle.sv_system.specs.Served.{FitsBut, no_client, OwnsSessions, FitsButValues};
 ghost use Rattle.sv_witness.specs.Tolerance.{IsTolerated, IsLiar};
 ghost use Rattle.sv_witness.specs.Examples.{ExamplesAreWitnessed};
 
@@ -78,7 +78,7 @@ pub fn one_lying_client_is_tolerated()
 /// Where no client lies, there are no disputes: no two reports of a position differ.
 pub fn honest_clients_have_no_disputes()
     ensures { (r : Rules) (h : List Entry) (Ls : List Trace) → length r.world.values ≡ r.world.shape.objects → IsWitnessed r h →
-        FitsBut nobody r.world.shape h Ls → disputes_of h ≡ [] }
+        FitsBut no_client r.world.shape h Ls → disputes_of h ≡ [] }
 {}
 
 /// Honest clients are never refused by a witnessing server, and no more is a client that differs from an honest one in the values of its Dones
