@@ -25,7 +25,7 @@ use Rattle.sv_client.specs.Traces.{requests_of}
 use Rattle.sv_sequencer.specs.Step.{entry_of}
 use Rattle.sv_lock.specs.Passes.{session_number}
 use Rattle.sv_lock.proofs.Histories.{prefix_trans}
-use Rattle.sv_session.specs.Requests.{stop_of, StopsFor, reply_frames as due_frames}
+use Rattle.sv_session.specs.Requests.{stop_of, StopsFor, due_frames}
 use Rattle.sv_session.specs.Serving.{Explains, ended_by}
 use Rattle.sv_session.specs.declared.outcome.SessionOut.{SessionOut}
 use Rattle.sv_session.specs.declared.outcome.SessionOut.TheVariants as outs

@@ -13,7 +13,7 @@ use Rattle.sv_journal.specs.History.{accepted, full_reply}
 use Rattle.sv_journal.specs.Answer.{Rules, Legal}
 use Rattle.sv_journal.specs.Text.{NamesAccepted, RelaysNameAccepted}
 use Rattle.sv_journal.specs.Laws.{FullRepliesStay, LegalRelaysNameAccepted}
-use Rattle.sv_session.specs.Requests.{reply_payload, reply_frames as due_frames}
+use Rattle.sv_session.specs.Requests.{reply_payload, due_frames}
 use Rattle.sv_session.specs.Rounds.{AreNamed}
 use Rattle.sv_session.proofs.Replies.{frames_on}
 use Rattle.sv_asked.proofs.Every.{each-left}

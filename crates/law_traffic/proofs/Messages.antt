@@ -15,7 +15,7 @@ use Rattle.sv_wire.specs.Messages.{reply_at}
 use Rattle.sv_wire.specs.Spelling.{request_bytes, reply_bytes}
 use Rattle.sv_wire.specs.Laws.{IsRequest, IsReply}
 use Rattle.sv_exchange.proofs.Sizes.{request_short, reply_short, request_back, reply_back}
-use Rattle.sv_session.specs.Requests.{read_or_bad, request_for, requests_in}
+use Rattle.sv_session.specs.Requests.{read_or_bad, request_for, requests_read}
 use Rattle.law_traffic.specs.Cuts.{IsCut}
 use Rattle.sv_player.specs.Carried.{request_frames, was_read, BeginsWith}
 use Rattle.law_traffic.specs.Traffic.{reply_frames}
@@ -94,7 +94,7 @@ pub record AreTaken (asked : List Request) (stream : List ℕ) : Type 0 where
   pub first : List Request
   pub second : List Request
   pub are : asked ≡ first ++ second
-  pub came : requests_in stream ≡ first
+  pub came : requests_read stream ≡ first
   pub items : incoming_items stream ≡ map Payload (map request_bytes first)
   pub rest : List ℕ
   pub whole : stream ≡ request_frames first ++ rest
@@ -105,8 +105,8 @@ items_of stream payloads c =
     ap (λ (split : List (List ℕ) × List ℕ). map Payload split.0 ++ last_item (too_long split.1)) c.split
     ∙ (ap (λ o. map Payload c.taken ++ last_item o) c.none ∙ append-nil (map Payload c.taken))
 
-came_by : (stream : List ℕ) → requests_in stream ≡ map request_for (incoming_items stream)
-unfolding requests_in
+came_by : (stream : List ℕ) → requests_read stream ≡ map request_for (incoming_items stream)
+unfolding requests_read
 came_by stream = refl
 
 pub taken : (asked : List Request) (stream : List ℕ) → AllByRecursion IsRequest asked → IsPrefix stream (request_frames asked) → AreTaken asked stream

@@ -15,7 +15,8 @@ use Rattle.sv_wire.specs.declared.message.Done1.{Done1}
 use Rattle.sv_wire.specs.declared.message.Request.{Request}
 use Rattle.sv_wire.specs.declared.message.Request.TheVariants as requests
 use Rattle.sv_wire.specs.Grammar.{IsWireAction}
-use Rattle.sv_wire.specs.Ranges.{ObjectFits, ValueFits, ActionFits}
+use Rattle.sv_world.specs.Ranges.{ObjectFits}
+use Rattle.sv_wire.specs.Ranges.{ValueFits, ActionFits}
 use Rattle.sv_wire.specs.Laws.{IsRequest}
 use Rattle.sv_journal.specs.declared.entry.Entry.{Entry}
 use Rattle.sv_journal.specs.History.{Authored, accepted, actions_of}

@@ -8,6 +8,7 @@ use Rattle.sv_world.specs.declared.action.Stmt.TheVariants as stmt
 use Rattle.sv_world.specs.declared.world.ObjectId.{ObjectId}
 use Rattle.sv_world.specs.declared.world.World.{World}
 use Rattle.sv_world.specs.Control.{below}
+use Rattle.sv_world.specs.Limits.{most_bound}
 use Rattle.sv_scenario.specs.declared.scenario.Plan.{Plan}
 use Rattle.sv_scenario.specs.declared.scenario.Scenario.{Scenario}
 use Rattle.sv_scenario.specs.declared.scenario.Step.{Step}
@@ -72,7 +73,7 @@ world objects = record { shape = record { objects = objects; attrs = 2 }; values
 abbrev pub scenario : ℕ → ℕ → Scenario
 scenario pairs rounds = record {
   world = world (4 * (pairs * rounds));
-  bound = 32;
+  bound = most_bound;
   reach = None;
   clients = map (plan rounds) (below (2 * pairs));
   schedule = [];
@@ -84,6 +85,10 @@ pairs_of n = 1 + (n - 1) % 16
 abbrev pub rounds_of : ℕ → ℕ
 rounds_of n = 1 + (n - 1) / 16
 
--- The scenario of size n, from 1 to 192.
+-- The greatest size.
+abbrev pub most_load : ℕ
+most_load = 192
+
+-- The scenario of size n, from 1 to the greatest size.
 unfoldable pub generated : ℕ → Scenario
 generated n = scenario (pairs_of n) (rounds_of n)

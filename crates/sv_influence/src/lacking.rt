@@ -1,3 +1,4 @@
+//! What a session lacks of a position, by the sources of what it reads.
 ghost use Rattle.std.specs.Prelude.{◌≡◌, ℕ, ◌+◌, ◌*◌, ◌<◌, ◌≤◌, true, [], ◌∷◌, ◌++◌, map, length, slice_index_or, option_to_list, IfOk, OnOk, All};
 ghost use Rattle.sv_world.specs.declared.world.ObjectId.{ObjectId};
 ghost use Rattle.sv_world.specs.Control.{is_in, action_at, wanted_up_to};
@@ -9,7 +10,7 @@ use crate::numbers::Numbers;
 use std::alloc::{AllocError, Global};
 use std::sync::ledger::Ledger;
 use sv_queue::{Queue, Steps};
-use sv_world::{List, ObjectId};
+use sv_world::{List, MOST_ITEMS, MOST_OBJECTS, ObjectId};
 
 /// What a relay of an uncommitted position has for a session: the positions that the session lacks, and the objects whose committed
 /// values it needs with them.
@@ -32,16 +33,13 @@ pub fn closure<L: Ledger>(
     let found = expand_all(alloc, queue, session, pos, first, steps)?;
     let Found { items, bases } = found;
     let shape = queue.shape();
-    prove!(shape.objects <= 4096);
+    prove!(shape.objects <= MOST_OBJECTS);
     let head = objects_of(alloc, bases.as_slice())?;
     Ok(Closure {
         items: List::from_vec(items),
         head,
     })
 }
-
-/// A relay has few positions, so that these need no more room.
-const ROOM: usize = 33;
 
 /// The position itself, where the session lacks it.
 fn first_wanted<L: Ledger>(
@@ -86,7 +84,7 @@ fn expand_all<L: Ledger>(
     ensures bases { IfOk result (λ f. (x : ℕ) → is_in x f.bases ≡ is_in x (base_objects queue.now session pos)) }
     ensures ticks { steps.new ≤ steps.old + 33 * length (lacking queue.now session pos) }
 {
-    let mut items = Vec::with_capacity(alloc, ROOM)?;
+    let mut items = Vec::with_capacity(alloc, MOST_ITEMS)?;
     let mut wanted = Numbers::new(alloc);
     let mut bases = Numbers::new(alloc);
     let mut next = first;

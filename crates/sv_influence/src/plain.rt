@@ -1,3 +1,4 @@
+//! What a session lacks of a position, by a walk over the queue.
 ghost use Rattle.std.specs.Prelude.{◌≡◌, ℕ, ◌+◌, ◌*◌, ◌-◌, ◌<◌, ◌≤◌, ◌&&◌, ◌||◌, not, [], ◌∷◌, ◌++◌, map, filter, nat_eq, IfOk, OnOk, if◌then◌else◌};
 ghost use Rattle.sv_world.specs.declared.world.ObjectId.{ObjectId};
 ghost use Rattle.sv_world.specs.Control.{is_in, below, action_at};
@@ -12,7 +13,7 @@ use crate::objects::ObjectSet;
 use std::alloc::{AllocError, Global};
 use std::sync::ledger::Ledger;
 use sv_queue::{Queue, Steps};
-use sv_world::{List, ObjectId};
+use sv_world::{List, MOST_OBJECTS, ObjectId};
 
 /// The same as [`closure`](crate::closure), by a walk over the queue from the position downwards with the set of the objects that are
 /// still to be had. A position that writes one of them is an item, unless it was sent: then its objects leave the set.
@@ -61,7 +62,7 @@ fn is_wanted<L: Ledger>(
     ensures ticks { steps.new ≡ steps.old + 1 }
 {
     let shape = queue.shape();
-    prove!(shape.objects <= 4096);
+    prove!(shape.objects <= MOST_OBJECTS);
     let entry = queue.entry(at, steps);
     at == pos || objects.meets_writes(entry.action)
 }
@@ -81,7 +82,7 @@ fn visit<L: Ledger>(
     ensures ticks { steps.new ≡ steps.old + 2 }
 {
     let shape = queue.shape();
-    prove!(shape.objects <= 4096);
+    prove!(shape.objects <= MOST_OBJECTS);
     let entry = queue.entry(at, steps);
     if queue.is_marked(at, session, steps) {
         objects.remove_writes(entry.action);
@@ -102,7 +103,7 @@ fn bases_among(
     ensures { IfOk result (λ list. map (λ (o : ObjectId). o.0) list ≡ filter (λ x. has_object objects.now.words x && not (is_in x (given_objects queue.now session))) (below queue.now.shape.objects)) }
 {
     let shape = queue.shape();
-    prove!(shape.objects <= 4096);
+    prove!(shape.objects <= MOST_OBJECTS);
     let mut bases = List::new(alloc);
     for number in 0..shape.objects {
         let object = ObjectId(number);

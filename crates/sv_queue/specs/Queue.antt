@@ -32,12 +32,12 @@ last_position v = v.commit + length v.entries
 abbrev pub IsUncommitted : QueueView → ℕ → Type 0
 IsUncommitted v p = (v.commit < p) × (p ≤ last_position v)
 
-abbrev pub actions_of : List Queued → List Action
-actions_of es = map (λ (e : Queued). e.action) es
+abbrev pub entry_actions : List Queued → List Action
+entry_actions es = map (λ (e : Queued). e.action) es
 
 -- All actions from position 1 on as far as the queue knows them: the committed ones are blank.
 abbrev pub queue_actions : QueueView → List Action
-queue_actions v = replicate v.commit blank ++ actions_of v.entries
+queue_actions v = replicate v.commit blank ++ entry_actions v.entries
 
 -- No position's action writes the object.
 abbrev pub IsUnwritten : List Action → ℕ → Type 0
@@ -129,8 +129,8 @@ with_committed v done = record {
 }
 
 -- With the entries before the first that has no result committed.
-abbrev pub installed : QueueView → QueueView
-installed v = with_committed v (ready v.entries)
+abbrev pub ready_installed : QueueView → QueueView
+ready_installed v = with_committed v (ready v.entries)
 
 abbrev pub first_installed : QueueView → QueueView
 first_installed v = with_committed v (take 1 v.entries)

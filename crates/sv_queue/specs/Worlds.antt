@@ -2,13 +2,14 @@
 use Rattle.std.specs.Prelude.{◌≡◌, ◌≤◌, List, length, ℤ, All}
 use Rattle.sv_world.specs.declared.world.Shape.{Shape}
 use Rattle.sv_world.specs.declared.world.World.{World}
+use Rattle.sv_world.specs.Limits.{most_objects, most_attrs}
 
 -- A shape within the limits.
 pub record IsGoodShape (shape : Shape) : Type 0 where
   pub some_objects : 1 ≤ shape.objects
-  pub few_objects : shape.objects ≤ 4096
+  pub few_objects : shape.objects ≤ most_objects
   pub some_attrs : 1 ≤ shape.attrs
-  pub few_attrs : shape.attrs ≤ 4
+  pub few_attrs : shape.attrs ≤ most_attrs
 
 -- Each of the values has a number for each attribute.
 abbrev pub HaveAttrs : Shape → List (List ℤ) → Type 0

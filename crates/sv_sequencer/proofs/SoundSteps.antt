@@ -2,13 +2,14 @@
 use Rattle.std.proofs.Common.{◌≡◌, ℕ, zero, suc, ◌+◌, ◌-◌, ◌<◌, ◌≤◌, Bool, true, false, ◌&&◌, ◌||◌, not, cond, nat_eq, inl, inr, List, ◌∷◌, ◌++◌, length, All, Some, None, slice_get, refl, ◌∙◌, ap, subst, arith}
 use Rattle.std.proofs.lemmas.Bool.{cases_eq, cases_Bool, eq-eqb, ne_eqb, cond_both, or_right}
 use Rattle.sv_world.specs.Control.{is_in}
+use Rattle.sv_world.specs.Limits.{most_requests}
 use Rattle.sv_world.proofs.Members.{is_in-append_cases}
 use Rattle.sv_journal.specs.declared.entry.Entry.{Entry}
 use Rattle.sv_journal.specs.History.{Accepted, is_noted, reports, either, outcomes_of, accepted, result_at, commit_of}
 use Rattle.sv_journal.specs.Sessions.{is_end, asked_in, positions_in, named_in, sent_to, named_to}
-use Rattle.sv_journal.specs.Answer.{Rules, most_requests}
+use Rattle.sv_journal.specs.Answer.{Rules}
 use Rattle.sv_sequencer.specs.declared.sessions.SessionRow.{SessionRow}
-use Rattle.sv_sequencer.specs.Agreement.{IsSound, all_left, ends_owed}
+use Rattle.sv_sequencer.specs.Agreement.{IsSoundHistory, all_left, ends_owed}
 use Rattle.sv_sequencer.specs.Rows.{is_ended, requests_left, session_after, IsSessionRow}
 use Rattle.sv_sequencer.proofs.FitMarks.{or_false}
 
@@ -96,7 +97,7 @@ pub record IsSoundStep (r : Rules) (h : List Entry) (e : Entry) (g : ℕ) : Type
   pub named : (x q : ℕ) → is_in q (named_in e.reply x) ≡ true → q ≤ commit_of (e ∷ h)
   pub outcomes : (k n p : ℕ) → slice_get (outcomes_of (e ∷ h) k) n ≡ Some (Accepted p) → p ≤ length (accepted (e ∷ h))
 
-pub sound-next : (r : Rules) (h : List Entry) (e : Entry) (g : ℕ) → IsSoundStep r h e g → IsSound r h → IsSound r (e ∷ h)
+pub sound-next : (r : Rules) (h : List Entry) (e : Entry) (g : ℕ) → IsSoundStep r h e g → IsSoundHistory r h → IsSoundHistory r (e ∷ h)
 sound-next r h e g step sound = record {
   results = λ p high. result p (omega (arith, high, step.grows));
   sent = λ s p m. sent s p m;

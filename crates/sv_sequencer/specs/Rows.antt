@@ -1,9 +1,9 @@
 -- What a core keeps of each session, and what an entry makes of it.
 use Rattle.std.specs.Prelude.{◌≡◌, ℕ, ◌-◌, Bool, false, ◌&&◌, ◌||◌, not, ◌==◌, List, [], ◌∷◌, None, if◌then◌else◌}
+use Rattle.sv_world.specs.Limits.{most_requests}
 use Rattle.sv_journal.specs.declared.entry.Entry.{Entry}
 use Rattle.sv_journal.specs.History.{either, is_welcome, joining, client_of}
 use Rattle.sv_journal.specs.Sessions.{is_last, welcomes, is_over, is_end, asked_in}
-use Rattle.sv_journal.specs.Answer.{most_requests}
 use Rattle.sv_sequencer.specs.declared.sessions.SessionRow.{SessionRow}
 
 -- A session had its End.

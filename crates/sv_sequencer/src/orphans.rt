@@ -1,3 +1,4 @@
+//! The lowest abandoned position of a queue.
 ghost use Rattle.std.specs.Prelude.{◌≡◌, ℕ, List, ◌<◌, ◌≤◌, ◌||◌, ◌&&◌, not, nat_lt, is_none, [], ◌∷◌, length, slice_index_or, MatchOption};
 ghost use Rattle.std.specs.List.{list_all};
 ghost use Rattle.sv_world.specs.Control.{is_in, below};

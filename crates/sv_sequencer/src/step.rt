@@ -15,7 +15,7 @@ use sv_journal::{Entry, Journal, Logged};
 use sv_wire::{Reply, Request, copy_request};
 
 /// Enters a request with its reply into a journal that has room, and gives the reply in full.
-fn enter(journal: &mut Journal, session: u16, request: Request, answer: Answer) -> Reply
+pub fn enter(journal: &mut Journal, session: u16, request: Request, answer: Answer) -> Reply
     requires { 0 < journal.old.spare }
     ensures journal { journal.new ≡ record { entries = journal.old.entries ++ entry_of session request answer.logged ∷ []; spare = journal.old.spare - 1 } }
     ensures reply { result ≡ answer.reply }

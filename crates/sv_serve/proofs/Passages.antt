@@ -21,7 +21,7 @@ use Rattle.sv_journal.specs.Laws.{FullRepliesStay, LegalRelaysNameAccepted}
 use Rattle.sv_sequencer.specs.Step.{entry_of}
 use Rattle.sv_lock.specs.Histories.{entries_of}
 use Rattle.sv_lock.specs.Passes.{session_number}
-use Rattle.sv_session.specs.Requests.{stop_of, StopsFor, requests_in as requests_read, reply_frames as due_frames}
+use Rattle.sv_session.specs.Requests.{stop_of, StopsFor, requests_read, due_frames}
 use Rattle.sv_session.specs.Serving.{SessionPass, Served, SessionCause, Explains, ended_by}
 use Rattle.sv_session.specs.declared.outcome.SessionOut.{SessionOut}
 use Rattle.sv_session.specs.declared.outcome.SessionOut.TheVariants as outs

@@ -15,9 +15,9 @@ IsTaken taken.NotYet old new = (new ≡ old) × (first_frame old ≡ None) × (t
 IsTaken taken.Memory old new = new ≡ old
 
 -- a reply was put behind what is due, and the loop goes on; or it ends
-abbrev pub IsPosted : Option SessionOut → Option SessionOut → Told → List ℕ → Told → List ℕ → Type 0
-IsPosted None stop old due new left = (stop ≡ None) × Posts old due new left
-IsPosted (Some out) stop old due new left = PostsLast old due stop out new
+abbrev pub IsReplyPosted : Option SessionOut → Option SessionOut → Told → List ℕ → Told → List ℕ → Type 0
+IsReplyPosted None stop old due new left = (stop ≡ None) × Posts old due new left
+IsReplyPosted (Some out) stop old due new left = PostsLast old due stop out new
 
 -- all that was due was sent and more bytes came; or the loop ends
 abbrev pub IsRead : Option SessionOut → Told → List ℕ → List ℕ → Told → List ℕ → List ℕ → Type 0

@@ -7,6 +7,7 @@ use Rattle.sv_world.specs.declared.action.Action.{Action}
 use Rattle.sv_world.specs.declared.check.BadAction.{BadAction}
 use Rattle.sv_world.specs.Control.{chain_length, influence_distance}
 use Rattle.sv_world.specs.Faults.{first_fault_of_action}
+use Rattle.sv_world.specs.Limits.{most_requests}
 use Rattle.sv_wire.specs.declared.message.Request.{Request}
 use Rattle.sv_wire.specs.declared.message.Request.TheVariants as requests
 use Rattle.sv_journal.specs.declared.entry.Entry.{Entry}
@@ -14,7 +15,7 @@ use Rattle.sv_journal.specs.declared.entry.Logged.{Logged}
 use Rattle.sv_journal.specs.declared.entry.Logged.TheVariants as logged
 use Rattle.sv_journal.specs.History.{Authored, Outcome, is_client, is_relay, is_submit_of, new_action, outcome_in, outcomes_of, client_of, accepted, actions_of, next_seq, commit_of}
 use Rattle.sv_journal.specs.Sessions.{is_over, asked_in, kept_outcome}
-use Rattle.sv_journal.specs.Answer.{Rules, is_over_reach, reply_to_good, reply_to_checked, reply_to_submit, reply_to_client, reply_to_member, reply_to_open, most_requests, reply_to, Legal}
+use Rattle.sv_journal.specs.Answer.{Rules, is_over_reach, reply_to_good, reply_to_checked, reply_to_submit, reply_to_client, reply_to_member, reply_to_open, reply_to, Legal}
 use Rattle.sv_system.specs.Outcomes.{AreAcceptedOnce, IsDropped, IsWithinLimits, IsOutcome, HasRightOutcome, HaveRightOutcomes}
 use Rattle.sv_system.proofs.Fronts.{get-push_cases}
 use Rattle.sv_system.proofs.Histories.{kept-old}

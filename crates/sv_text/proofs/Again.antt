@@ -21,7 +21,7 @@ use Rattle.sv_world.specs.declared.node.Comparison.{Comparison}
 use Rattle.sv_world.specs.declared.node.Comparison.TheVariants as comparisons
 use Rattle.sv_world.specs.declared.node.Connective.{Connective}
 use Rattle.sv_world.specs.declared.node.Connective.TheVariants as joints
-use Rattle.sv_text.specs.Reading.{◌>>=◌, Read, mark_code, is_same, is_mark, is_at, mark_of, front_of, front, rest_of, fault, unexpected, expect, slot_from, slot_or, slot_at, start, part_or, marked, op_of, op_at, leaf_by, leaf_at, closed_by, pair_by, expr_by, expr_at, comparison_of, comparison_at, joint_of, joint_at, compare_by, joined_by, join_by, not_by, cond_by, cond_at}
+use Rattle.sv_text.specs.Reading.{◌>>=◌, Read, mark_code, is_same, is_mark, is_at, mark_of, front_of, front, rest_of, fault, unexpected, expect, slot_from, slot_or, slot_at, start, part_or, marked, op_of, op_at, leaf_by, leaf_at, closed_by, pair_by, expr_by, expr_at, comparison_of, comparison_at, joint_of, joint_at, compare_by, joined_with, join_by, not_by, cond_by, cond_at}
 use Rattle.sv_text.specs.Grammar.{Place, Form, IsMark, IsNode, IsNumber, IsRef, op_mark, comparison_mark, joint_mark, AreTwo, IsPair, IsExpr, IsTest, IsJoined, IsNot, IsCond}
 
 -- a step that does not fail
@@ -135,7 +135,7 @@ pair_step : (reads : List ObjectId) (below : ℕ → List Lexeme → Read Expr) 
 unfolding expr_by
 pair_step reads below form again depth e p q i =
     ap (λ (b : Bool). cond b (start (suc depth) p.0 p.1 >>= λ n. pair_by below n (rest_of p.1)) (leaf_at reads p.1 >>= λ leaf. start (suc depth) p.0 p.1 >>= λ n. Ok (leaf, n, rest_of p.1))) (at_mark marks.Open p.1 i.opened.0)
-    ∙ started marks.Open depth p i.inside (pair_by below) (gives e q) i.opened (pair_again below form again i.op i.a i.b i.inside q i.parts ∙ ap (λ (x : Expr). gives x q) i.made)
+    ∙ started marks.Open depth p i.inside (pair_by below) (gives e q) i.opened (pair_again below form again i.by i.a i.b i.inside q i.parts ∙ ap (λ (x : Expr). gives x q) i.made)
 
 pub expr_again : (reads : List ObjectId) (depth : ℕ) → Reads (expr_at reads depth) (IsExpr reads depth)
 unfolding expr_at
@@ -164,7 +164,7 @@ pub expr_grows : (reads : List ObjectId) (depth : ℕ) → Grows (IsExpr reads d
 expr_grows reads zero e p q h = absurd h
 expr_grows reads (suc depth) e p q (inl i) =
     let n = node_grows marks.Open p i.inside i.opened in
-    let t = two_grows (IsExpr reads depth) (expr_grows reads depth) i.a (op_mark i.op) i.b marks.Close i.inside q i.parts in
+    let t = two_grows (IsExpr reads depth) (expr_grows reads depth) i.a (op_mark i.by) i.b marks.Close i.inside q i.parts in
     (omega (arith, n.0, t.0), t.1)
 expr_grows reads (suc depth) e p q (inr (inl i)) = let c : p.0 + 1 ≡ q.0 = i.count in let f : p.0 < 64 = i.few in (omega arith, omega arith)
 expr_grows reads (suc depth) e p q (inr (inr i)) = let c : p.0 + 1 ≡ q.0 = i.count in let f : p.0 < 64 = i.few in (omega arith, omega arith)
@@ -197,10 +197,10 @@ compare_again exprs form again c a b p q t =
     (ap (λ (s : Place). closed_by exprs marks.CloseTest s.0 s.1) t.between.1 ∙ closed_again exprs marks.CloseTest b t.two t.three q (again b t.two t.three t.right) t.closed) refl))
 
 join_again : (below : ℕ → List Lexeme → Read Cond) (form : Form Cond) → Reads below form → (j : Connective) (a b : Cond) (p q : Place) → AreTwo form a (joint_mark j) b marks.Close p q → join_by below p.0 p.1 ≡ gives (with_joint j a b) q
-unfolding join_by joined_by
+unfolding join_by joined_with
 join_again below form again j a b p q t =
-    then_ok (below p.0 p.1) (λ a. joint_at a.2 >>= λ j. joined_by below j a.0 a.1 (rest_of a.2)) (a, t.one.0, t.one.1) (gives (with_joint j a b) q) (again a p t.one t.left)
-    (then_ok (joint_at t.one.1) (λ j. joined_by below j a t.one.0 (rest_of t.one.1)) j (gives (with_joint j a b) q) (joint_again j t.one.1 t.between.0)
+    then_ok (below p.0 p.1) (λ a. joint_at a.2 >>= λ j. joined_with below j a.0 a.1 (rest_of a.2)) (a, t.one.0, t.one.1) (gives (with_joint j a b) q) (again a p t.one t.left)
+    (then_ok (joint_at t.one.1) (λ j. joined_with below j a t.one.0 (rest_of t.one.1)) j (gives (with_joint j a b) q) (joint_again j t.one.1 t.between.0)
     (then_ok (closed_by below marks.Close t.one.0 (rest_of t.one.1)) (λ b. Ok (with_joint j a b.0, b.1, b.2)) (b, q.0, q.1) (gives (with_joint j a b) q)
     (ap (λ (s : Place). closed_by below marks.Close s.0 s.1) t.between.1 ∙ closed_again below marks.Close b t.two t.three q (again b t.two t.three t.right) t.closed) refl))
 
@@ -221,13 +221,13 @@ module _ (exprs : ℕ → List Lexeme → Read Expr) (below : ℕ → List Lexem
   test_step : IsTest values c p q → cond_by exprs below (suc depth) p.0 p.1 ≡ gives c q
   unfolding cond_by
   test_step i = ap (λ (t : Bool). by_all t (is_at marks.Open p.1) (is_at marks.Not p.1)) (at_mark marks.OpenTest p.1 i.opened.0)
-      ∙ started marks.OpenTest depth p i.inside (compare_by exprs) (gives c q) i.opened (compare_again exprs values in_exprs i.comparison i.a i.b i.inside q i.parts ∙ ap (λ (x : Cond). gives x q) i.made)
+      ∙ started marks.OpenTest depth p i.inside (compare_by exprs) (gives c q) i.opened (compare_again exprs values in_exprs i.by i.a i.b i.inside q i.parts ∙ ap (λ (x : Cond). gives x q) i.made)
 
   joined_step : IsJoined form c p q → cond_by exprs below (suc depth) p.0 p.1 ≡ gives c q
   unfolding cond_by
   joined_step i = ap (λ (t : Bool). by_all t (is_at marks.Open p.1) (is_at marks.Not p.1)) (not_at marks.OpenTest marks.Open p.1 i.opened.0 refl)
       ∙ ap (λ (a : Bool). by_open a (is_at marks.Not p.1)) (at_mark marks.Open p.1 i.opened.0)
-      ∙ started marks.Open depth p i.inside (join_by below) (gives c q) i.opened (join_again below form in_below i.joint i.a i.b i.inside q i.parts ∙ ap (λ (x : Cond). gives x q) i.made)
+      ∙ started marks.Open depth p i.inside (join_by below) (gives c q) i.opened (join_again below form in_below i.by i.a i.b i.inside q i.parts ∙ ap (λ (x : Cond). gives x q) i.made)
 
   not_step : IsNot form c p q → cond_by exprs below (suc depth) p.0 p.1 ≡ gives c q
   unfolding cond_by
@@ -247,11 +247,11 @@ pub cond_grows : (reads : List ObjectId) (depth : ℕ) → Grows (IsCond reads d
 cond_grows reads zero c p q h = absurd h
 cond_grows reads (suc depth) c p q (inl i) =
     let n = node_grows marks.OpenTest p i.inside i.opened in
-    let t = two_grows (IsExpr reads depth) (expr_grows reads depth) i.a (comparison_mark i.comparison) i.b marks.CloseTest i.inside q i.parts in
+    let t = two_grows (IsExpr reads depth) (expr_grows reads depth) i.a (comparison_mark i.by) i.b marks.CloseTest i.inside q i.parts in
     (omega (arith, n.0, t.0), t.1)
 cond_grows reads (suc depth) c p q (inr (inl i)) =
     let n = node_grows marks.Open p i.inside i.opened in
-    let t = two_grows (IsCond reads depth) (cond_grows reads depth) i.a (joint_mark i.joint) i.b marks.Close i.inside q i.parts in
+    let t = two_grows (IsCond reads depth) (cond_grows reads depth) i.a (joint_mark i.by) i.b marks.Close i.inside q i.parts in
     (omega (arith, n.0, t.0), t.1)
 cond_grows reads (suc depth) c p q (inr (inr i)) =
     let n = node_grows marks.Not p i.inside i.opened in

@@ -14,7 +14,7 @@ use Rattle.sv_text.specs.declared.token.Mark.TheVariants as marks
 use Rattle.sv_text.specs.declared.token.Token.{Token}
 use Rattle.sv_text.specs.declared.token.Token.TheVariants as tokens
 use Rattle.sv_text.specs.declared.token.Lexeme.{Lexeme}
-use Rattle.sv_text.specs.Reading.{◌>>=◌, is_at, mark_of, front_of, front, rest_of, fault, expect, number_by, number_at, size_of, object_at, read_at, as_object, reads_from, slot_from, slot_at, write_at, is_number, is_number_at, writes_from, coordinate_at, origin_at, header_at, block_by, stmt_at, body_at, reading}
+use Rattle.sv_text.specs.Reading.{◌>>=◌, is_at, mark_of, front_of, front, rest_of, fault, expect, number_by, number_at, size_of, object_number_at, read_at, as_object, reads_from, slot_from, slot_at, write_at, is_number_token, is_number_at, writes_from, coordinate_at, origin_at, header_at, block_by, stmt_at, body_at, reading}
 use Rattle.sv_text.specs.Grammar.{Place, IsMark, IsNumber, AreAll, IsBlock, IsStmt, IsWord, IsObject, IsAscending, IsMask, AreReads, IsCoordinate, MayBeOrigin, IsActionText}
 use Rattle.sv_text.proofs.Turns.{reads_from_is, writes_from_is}
 use Rattle.sv_text.proofs.Again.{then_ok, at_mark, not_at, not_at_none, expect_again, slot_again, front_number}
@@ -38,9 +38,9 @@ number_again low high z (t ∷ ts) rest h l k =
 number_there : (z : ℤ) (ts rest : List Lexeme) → IsNumber z ts rest → is_number_at ts ≡ true
 unfolding is_number_at
 number_there z [] rest h = absurd h
-number_there z (t ∷ ts) rest h = ap is_number h.0
+number_there z (t ∷ ts) rest h = ap is_number_token h.0
 
-no_number_by : (m : Mark) (glued : Bool) (token : Token) → front_of glued (mark_of token) ≡ Some m → is_number token ≡ false
+no_number_by : (m : Mark) (glued : Bool) (token : Token) → front_of glued (mark_of token) ≡ Some m → is_number_token token ≡ false
 no_number_by m glued (tokens.Number z) h = absurd cc
 no_number_by m glued tokens.Wide h = absurd cc
 no_number_by m glued (tokens.Ref object attr) h = refl
@@ -52,8 +52,8 @@ unfolding front is_number_at
 no_number m [] h = refl
 no_number m (t ∷ ts) h = no_number_by m t.glued t.token h
 
-object_again : (o : ObjectId) (ts rest : List Lexeme) → IsObject o ts rest → object_at ts ≡ Ok o.0
-unfolding object_at
+object_again : (o : ObjectId) (ts rest : List Lexeme) → IsObject o ts rest → object_number_at ts ≡ Ok o.0
+unfolding object_number_at
 object_again o ts rest h =
     let high : o.0 ≤ 65535 = let lt : o.0 < 65536 = h.0 in omega arith in
     then_ok (number_at (pos 0) (pos 65535) ts) (λ z. Ok (size_of z)) (pos o.0) (Ok o.0) (number_again (pos 0) (pos 65535) (pos o.0) ts rest h.1 (le-leb 0 o.0 (omega arith)) (le-leb o.0 65535 high)) refl
@@ -65,7 +65,7 @@ unfolding read_at
 read_again count least o ts rest h le lt =
     let order : Result ℕ TextFault = Err (fault ts causes.Order) in
     let many : Result ℕ TextFault = Err (fault ts causes.TooMany) in
-    then_ok (object_at ts) (λ o. cond (ltb o least) (Err (fault ts causes.Order)) (cond (ltb count 16) (Ok o) (Err (fault ts causes.TooMany)))) o.0 (Ok o.0) (object_again o ts rest h)
+    then_ok (object_number_at ts) (λ o. cond (ltb o least) (Err (fault ts causes.Order)) (cond (ltb count 16) (Ok o) (Err (fault ts causes.TooMany)))) o.0 (Ok o.0) (object_again o ts rest h)
     (ap (λ (b : Bool). cond b order (cond (ltb count 16) (Ok o.0) many)) (le-ltb o.0 least le) ∙ ap (λ (b : Bool). cond b (ok o.0) many) (lt-ltb count 16 lt))
 
 reads_again : (before more : List ObjectId) (least : ℕ) (ts end rest : List Lexeme) → AreAll IsObject more ts end → IsWord marks.Writes end rest → IsAscending least more → length (before ++ more) ≤ 16 → 0 < length (before ++ more)
@@ -103,7 +103,7 @@ write_again : (reads : List ObjectId) (least k : ℕ) (o : ObjectId) (ts rest : 
 unfolding write_at
 write_again reads least k o ts rest h le slot =
     let order : Result (ℕ × ℕ) TextFault = Err (fault ts causes.Order) in
-    then_ok (object_at ts) (λ o. slot_at reads o ts >>= λ k. cond (ltb o least) (Err (fault ts causes.Order)) (Ok (o, k))) o.0 (ok (o.0, k)) (object_again o ts rest h)
+    then_ok (object_number_at ts) (λ o. slot_at reads o ts >>= λ k. cond (ltb o least) (Err (fault ts causes.Order)) (Ok (o, k))) o.0 (ok (o.0, k)) (object_again o ts rest h)
     (then_ok (slot_at reads o.0 ts) (λ k. cond (ltb o.0 least) (Err (fault ts causes.Order)) (Ok (o.0, k))) k (ok (o.0, k)) (slot_again reads o.0 ts k slot)
     (ap (λ (b : Bool). cond b order (ok (o.0, k))) (le-ltb o.0 least le)))
 

@@ -29,7 +29,7 @@ use Rattle.sv_text.specs.declared.token.Token.{Token}
 use Rattle.sv_text.specs.declared.token.Token.TheVariants as tokens
 use Rattle.sv_text.specs.declared.token.Lexeme.{Lexeme}
 use Rattle.sv_text.specs.Ahead.{next_of}
-use Rattle.sv_text.specs.Reading.{◌>>=◌, Read, Fails, seen, fault, unexpected, rest_of, is_at, expect, start, slot_at, op_at, comparison_at, joint_at, leaf_by, leaf_at, closed_by, pair_by, expr_by, compare_by, joined_by, join_by, not_by, cond_by, target_at, set_by, else_by, branches_by, if_by, stmts_by, block_by, stmt_by, appended}
+use Rattle.sv_text.specs.Reading.{◌>>=◌, Read, Fails, seen, fault, unexpected, rest_of, is_at, expect, start, slot_at, op_at, comparison_at, joint_at, leaf_by, leaf_at, closed_by, pair_by, expr_by, compare_by, joined_with, join_by, not_by, cond_by, target_at, set_by, else_by, branches_by, if_by, stmts_by, block_by, stmt_by, appended}
 use Rattle.sv_text.proofs.Next.{leaf_at_is}
 
 -- a reader of what starts here: the nodes started so far, and the tokens that are left
@@ -191,7 +191,7 @@ compare_appended old exprs nodes ts =
 
 pub join_appended : (old : List Node) (below : Reader Cond) (nodes : ℕ) (ts : List Lexeme) → appended cond_spelled old (join_by below nodes ts)
     ≡ (appended cond_spelled (old ++ node.Not ∷ []) (below nodes ts) >>= λ a. joint_at a.2 >>= λ o. appended cond_spelled a.0 (below a.1 (rest_of a.2)) >>= λ b. expect marks.Close b.2 >>= λ rest. Ok (set b.0 (length old) (node.Join o), b.1, rest))
-unfolding join_by joined_by closed_by
+unfolding join_by joined_with closed_by
 join_appended old below nodes ts =
     ap (λ (read : Read Cond). appended cond_spelled old read) (closed_first marks.Close with_joint below joint_at (below nodes ts))
     ∙ two_parts cond_spelled cond_spelled with_joint (λ o. node.Join o) join_spelled marks.Close old below joint_at (below nodes ts)

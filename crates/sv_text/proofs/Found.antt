@@ -196,7 +196,7 @@ pair_found below form found p nodes ts x opened e =
     let c = expect_is marks.Close b.0.2 r.0 r.1 in
     let made : Expr × ℕ × List Lexeme = (with_op o.0 a.0.0 b.0.0, b.0.1, r.0) in
     subst (λ (y : Expr × ℕ × List Lexeme). IsPair form y.0 p (y.1, y.2)) (ok_is made x r.2) (record {
-      op = o.0;
+      by = o.0;
       a = a.0.0;
       b = b.0.0;
       made = refl;

@@ -13,7 +13,7 @@ use Rattle.sv_text.specs.declared.token.Mark.TheVariants as marks
 use Rattle.sv_text.specs.declared.token.Token.{Token}
 use Rattle.sv_text.specs.declared.token.Token.TheVariants as tokens
 use Rattle.sv_text.specs.declared.token.Lexeme.{Lexeme}
-use Rattle.sv_text.specs.Reading.{◌>>=◌, is_at, rest_of, fault, unexpected, expect, number_by, number_at, size_of, object_at, read_at, as_object, ends_reads, reads_from, slot_from, slot_at, write_at, is_number_at, writes_from, coordinate_at, origin_at, header_at, block_by, stmt_at, body_at, reading}
+use Rattle.sv_text.specs.Reading.{◌>>=◌, is_at, rest_of, fault, unexpected, expect, number_by, number_at, size_of, object_number_at, read_at, as_object, ends_reads, reads_from, slot_from, slot_at, write_at, is_number_at, writes_from, coordinate_at, origin_at, header_at, block_by, stmt_at, body_at, reading}
 use Rattle.sv_text.specs.Grammar.{IsNumber, AreAll, IsBlock, IsStmt, IsWord, IsObject, IsAscending, IsMask, AreReads, IsCoordinate, MayBeOrigin, IsActionText}
 use Rattle.sv_text.proofs.Found.{bind_ok, chosen, ok_is, no_err, is_at_is, expect_is, slot_at_is}
 use Rattle.sv_text.proofs.FoundBody.{body_found}
@@ -46,8 +46,8 @@ object_is : (z : ℤ) (o : ℕ) (text rest : List Lexeme) → Within (pos 0) (po
 object_is (pos n) o text rest w e = subst (λ (k : ℕ). IsObject (as_object k) text rest) e (let le : n ≤ 65535 = leb-true n 65535 w.1 in omega arith, w.2)
 object_is (negsuc n) o text rest w e = absurd (let no_way : false ≡ true = w.0 in cc)
 
-object_at_is : (ts : List Lexeme) (o : ℕ) → object_at ts ≡ Ok o → IsObject (as_object o) ts (rest_of ts)
-unfolding object_at
+object_at_is : (ts : List Lexeme) (o : ℕ) → object_number_at ts ≡ Ok o → IsObject (as_object o) ts (rest_of ts)
+unfolding object_number_at
 object_at_is ts o e =
     let z = bind_ok (number_at (pos 0) (pos 65535) ts) (λ z. Ok (size_of z)) o e in
     object_is z.0 o ts (rest_of ts) (number_at_is (pos 0) (pos 65535) ts z.0 z.1) (ok_is (size_of z.0) o z.2)
@@ -55,7 +55,7 @@ object_at_is ts o e =
 read_at_is : (count least : ℕ) (ts : List Lexeme) (o : ℕ) → read_at count least ts ≡ Ok o → (least ≤ o) × (count < 16) × IsObject (as_object o) ts (rest_of ts)
 unfolding read_at
 read_at_is count least ts o e =
-    let r = bind_ok (object_at ts) (λ o. cond (ltb o least) (Err (fault ts causes.Order)) (cond (ltb count 16) (Ok o) (Err (fault ts causes.TooMany)))) o e in
+    let r = bind_ok (object_number_at ts) (λ o. cond (ltb o least) (Err (fault ts causes.Order)) (cond (ltb count 16) (Ok o) (Err (fault ts causes.TooMany)))) o e in
     elim (chosen (ltb r.0 least) (Err (fault ts causes.Order)) (cond (ltb count 16) (Ok r.0) (Err (fault ts causes.TooMany))) (Ok o) r.2) [
       | inl h ↦ no_err (fault ts causes.Order) o h.1
       | inr h ↦ elim (chosen (ltb count 16) (Ok r.0) (Err (fault ts causes.TooMany)) (Ok o) h.1) [
@@ -106,7 +106,7 @@ header_found ts x e =
 write_at_is : (reads : List ObjectId) (least : ℕ) (ts : List Lexeme) (w : ℕ × ℕ) → write_at reads least ts ≡ Ok w → (least ≤ w.0) × (slot_from 0 reads w.0 ≡ Some w.1) × IsObject (as_object w.0) ts (rest_of ts)
 unfolding write_at
 write_at_is reads least ts w e =
-    let o = bind_ok (object_at ts) (λ o. slot_at reads o ts >>= λ k. cond (ltb o least) (Err (fault ts causes.Order)) (Ok (o, k))) w e in
+    let o = bind_ok (object_number_at ts) (λ o. slot_at reads o ts >>= λ k. cond (ltb o least) (Err (fault ts causes.Order)) (Ok (o, k))) w e in
     let k = bind_ok (slot_at reads o.0 ts) (λ k. cond (ltb o.0 least) (Err (fault ts causes.Order)) (Ok (o.0, k))) w o.2 in
     let made : ℕ × ℕ = (o.0, k.0) in
     elim (chosen (ltb o.0 least) (Err (fault ts causes.Order)) (Ok made) (Ok w) k.2) [

@@ -18,11 +18,11 @@ use Rattle.sv_text.specs.declared.token.Lexeme.{Lexeme}
 use Rattle.sv_text.specs.Tokens.{tokens_from, tokens_of, word_of, token_at, word_at, is_joint}
 use Rattle.sv_text.specs.Reading.{front, rest_of, slot_from, reading}
 use Rattle.sv_text.specs.Grammar.{Place, IsMark, IsWord, IsObject, IsAscending, IsMask, AreAll, IsCoordinate, MayBeOrigin, IsBlock, IsStmt, IsActionText}
-use Rattle.sv_text.specs.Canonical.{object_in, objects_text, written, is_zero, origin_text, body_text, canonical}
-use Rattle.sv_world.specs.Ranges.{is_i64, body_fits}
+use Rattle.sv_text.specs.Canonical.{object_in, spaced_objects, written, origin_text, body_text, canonical}
+use Rattle.sv_world.specs.Ranges.{is_i64, body_fits, is_zero, ObjectFits}
 use Rattle.std.proofs.lemmas.List.Elements.{recursion_from_All}
 use Rattle.std.specs.Prelude.{All}
-use Rattle.sv_text.specs.Printable.{ObjectFits, IsWithinGrammar, IsPrintable}
+use Rattle.sv_text.specs.Printable.{IsWithinGrammar, IsPrintable}
 use Rattle.sv_text.proofs.AgainAction.{action_again}
 use Rattle.sv_text.proofs.Found.{ok_is}
 use Rattle.sv_text.proofs.Spelled.{toks, lexeme, Stops, spelled, spaced_stands, number_stands}
@@ -152,23 +152,23 @@ Blank l = (rest : List ℕ) × (l ≡ 32 ∷ rest)
 blank_stops : (l : List ℕ) → Blank l → Stops l
 blank_stops l b = subst (λ (k : List ℕ). Stops k) (sym b.1) refl
 
-objects_begin : (os : List ObjectId) (l : List ℕ) → Blank l → Blank (objects_text os ++ l)
+objects_begin : (os : List ObjectId) (l : List ℕ) → Blank l → Blank (spaced_objects os ++ l)
 objects_begin [] l b = b
-objects_begin (o ∷ os) l b = (decimal o.0 ++ objects_text os ++ l, refl)
+objects_begin (o ∷ os) l b = (decimal o.0 ++ spaced_objects os ++ l, refl)
 
 small_number : (n : ℕ) → n < 65536 → is_i64 (pos n) ≡ true
 small_number n low = le-leb n 9223372036854775807 (omega arith)
 
-objects_stand : (os : List ObjectId) → AllByRecursion ObjectFits os → (place : ℕ) (glued : Bool) (rest : List ℕ) → Blank rest → (next : ℕ) × (g : Bool) × AreAll IsObject os (toks place glued (objects_text os ++ rest)) (toks next g rest)
+objects_stand : (os : List ObjectId) → AllByRecursion ObjectFits os → (place : ℕ) (glued : Bool) (rest : List ℕ) → Blank rest → (next : ℕ) × (g : Bool) × AreAll IsObject os (toks place glued (spaced_objects os ++ rest)) (toks next g rest)
 objects_stand [] fits place glued rest b = (place, glued, refl)
 objects_stand (o ∷ os) fits place glued rest b =
     let t = decimal o.0 in
-    let more = objects_text os ++ rest in
+    let more = spaced_objects os ++ rest in
     let n = number_stands (pos o.0) more (small_number o.0 fits.0) (blank_stops more (objects_begin os rest b)) (place + 1) false in
     let later = objects_stand os fits.1 (place + 1 + length t) true rest b in
-    let begin : toks place glued (objects_text (o ∷ os) ++ rest) ≡ toks (place + 1) false (t ++ more) = ap (λ (s : List ℕ). toks place glued (32 ∷ s)) (append_assoc t (objects_text os) rest) ∙ blank_at place glued (t ++ more) in
+    let begin : toks place glued (spaced_objects (o ∷ os) ++ rest) ≡ toks (place + 1) false (t ++ more) = ap (λ (s : List ℕ). toks place glued (32 ∷ s)) (append_assoc t (spaced_objects os) rest) ∙ blank_at place glued (t ++ more) in
     let between = toks (place + 1 + length t) true more in
-    (later.0, later.1, (between, (fits.0, number_from (pos o.0) (place + 1) (toks place glued (objects_text (o ∷ os) ++ rest)) between (begin ∙ n)), later.2))
+    (later.0, later.1, (between, (fits.0, number_from (pos o.0) (place + 1) (toks place glued (spaced_objects (o ∷ os) ++ rest)) between (begin ∙ n)), later.2))
 
 -- a word before a space that is looked at again
 reads_there : (place : ℕ) (rest : List ℕ) → IsWord marks.Reads (toks place false (spelled marks.Reads ++ (32 ∷ rest))) (toks (place + 1 + 1 + 1 + 1 + 1) true (32 ∷ rest))
@@ -249,11 +249,11 @@ end_stands : (n place : ℕ) → IsMark marks.End (n, toks place false []) (n, [
 unfolding tokens_from front
 end_stands n place = (refl, refl)
 
-canonical_parts : (a : Action) → canonical a ≡ spelled marks.Reads ++ (objects_text a.reads ++ (32 ∷ (spelled marks.Writes ++ (objects_text (written a.reads a.mask) ++ (origin_text a.origin ++ (32 ∷ body_text a.reads a.body))))))
+canonical_parts : (a : Action) → canonical a ≡ spelled marks.Reads ++ (spaced_objects a.reads ++ (32 ∷ (spelled marks.Writes ++ (spaced_objects (written a.reads a.mask) ++ (origin_text a.origin ++ (32 ∷ body_text a.reads a.body))))))
 unfolding canonical
 canonical_parts a =
-    let r = objects_text a.reads in
-    let w = objects_text (written a.reads a.mask) in
+    let r = spaced_objects a.reads in
+    let w = spaced_objects (written a.reads a.mask) in
     let o = origin_text a.origin in
     let b = body_text a.reads a.body in
     let last = 32 ∷ b in
@@ -269,9 +269,9 @@ mask_stands reads mask own small =
 pub canonical_stands : (a : Action) → IsPrintable a → IsActionText a (tokens_of (canonical a))
 unfolding tokens_of has_slots has_origin
 canonical_stands a p =
-    let r = objects_text a.reads in
+    let r = spaced_objects a.reads in
     let objects = written a.reads a.mask in
-    let w = objects_text objects in
+    let w = spaced_objects objects in
     let o = origin_text a.origin in
     let b = body_text a.reads a.body in
     let third = 32 ∷ b in

@@ -12,7 +12,7 @@ use Rattle.sv_text.specs.declared.fault.ParseFault.{ParseFault}
 use Rattle.sv_text.specs.declared.fault.ParseFault.TheVariants as faults
 use Rattle.sv_text.specs.declared.token.Mark.TheVariants as marks
 use Rattle.sv_text.specs.declared.token.Lexeme.{Lexeme}
-use Rattle.sv_text.specs.Reading.{◌>>=◌, Read, Fails, fault, rest_of, as_object, read_at, ends_reads, reads_from, slot_from, write_at, is_number_at, writes_from, stmts_by, front, is_at, object_at, number_at}
+use Rattle.sv_text.specs.Reading.{◌>>=◌, Read, Fails, fault, rest_of, as_object, read_at, ends_reads, reads_from, slot_from, write_at, is_number_at, writes_from, stmts_by, front, is_at, object_number_at, number_at}
 
 pub slot_turn : (reads : List ObjectId) (i o : ℕ) (d : ObjectId) → i < length reads → slot_from i (drop i reads) o ≡ cond (eqb (get_or reads i d).0 o) (Some i) (slot_from (i + 1) (drop (i + 1) reads) o)
 slot_turn reads i o d lt =
@@ -21,7 +21,7 @@ slot_turn reads i o d lt =
 
 pub reads_from_is : (before : List ObjectId) (least : ℕ) (ts : List Lexeme) → reads_from before least ts ≡
     cond (ends_reads (length before) ts) (Ok (before, rest_of ts)) (read_at (length before) least ts >>= λ o. reads_from (before ++ as_object o ∷ []) (o + 1) (rest_of ts))
-unfolding reads_from is_at front read_at object_at number_at
+unfolding reads_from is_at front read_at object_number_at number_at
 reads_from_is before least [] = rw (and-false (ltb 0 (length before))) refl
 reads_from_is before least (t ∷ ts) = refl
 
@@ -44,7 +44,7 @@ rest_shorter [] some = some
 rest_shorter (t ∷ ts) some = omega arith
 
 read_stands : (count least o : ℕ) (ts : List Lexeme) → read_at count least ts ≡ Ok o → 0 < length ts
-unfolding read_at object_at number_at
+unfolding read_at object_number_at number_at
 read_stands count least o [] h = absurd cc
 read_stands count least o (t ∷ ts) h = omega arith
 

@@ -17,7 +17,8 @@ use Rattle.sv_wire.specs.Steps.{Read, Turn, several, in_turn}
 use Rattle.sv_wire.specs.Fields.{byte_at, number_at, int_at, count_at, head_count_at, object_at, objects_at, value_at, held_at, helds_at, head_at, result_at}
 use Rattle.sv_wire.specs.Spelling.{int_bytes, object_bytes, value_bytes, held_bytes, head_bytes, result_bytes}
 use Rattle.sv_wire.specs.Grammar.{IsWireValue, IsWireHead, IsWireResult}
-use Rattle.sv_wire.specs.Ranges.{ObjectFits, ValueFits, HeldFits, ResultFits}
+use Rattle.sv_world.specs.Ranges.{ObjectFits}
+use Rattle.sv_wire.specs.Ranges.{ValueFits, HeldFits, ResultFits}
 
 pub number_again : (k n : ℕ) (rest : List ℕ) → n < 256 ^ k → number_at k (big_bytes k n ++ rest) ≡ Ok (n, rest)
 unfolding number_at

@@ -2,7 +2,8 @@
 //! read all numbers, and do nothing else.
 ghost use Rattle.std.specs.Prelude.{◌^◌, ◌<◌, All, FitsSigned};
 ghost use Rattle.std.specs.Int.{w32, w64};
-ghost use Rattle.sv_wire.specs.Ranges.{ObjectFits, ValueFits, HeldFits, ResultFits, ActionFits, ItemFits, RequestFits, ReplyFits};
+ghost use Rattle.sv_world.specs.Ranges.{ObjectFits};
+ghost use Rattle.sv_wire.specs.Ranges.{ValueFits, HeldFits, ResultFits, ActionFits, ItemFits, RequestFits, ReplyFits};
 
 use crate::message::{Done1, Held, Item, Reply, Request};
 use sv_world::{Action, ObjectId, Point, Value};

@@ -18,7 +18,7 @@ use Rattle.sv_system.proofs.Histories.{same, after}
 use Rattle.sv_witness.specs.declared.report.Report.{Report}
 use Rattle.sv_witness.specs.declared.report.Dispute.{Dispute}
 use Rattle.sv_journal.specs.Serving.{with_results}
-use Rattle.sv_witness.specs.Reports.{is_by, gives, with_report, counted_in, agreed_values, brings_agreement, reports_of, agreed_history, agreed_result, agreed_commit}
+use Rattle.sv_witness.specs.Reports.{is_by, gives, with_first_report, counted_in, agreed_values, brings_agreement, reports_of, agreed_history, agreed_result, agreed_commit}
 use Rattle.sv_witness.specs.Disputes.{dispute_about, disputes_of, dispute_in, with_disputes}
 use Rattle.sv_witness.specs.Kept.{RowView, kept_at, KeepsReports, report_by, counts, counted_results, AreOnce, with_values, agrees, brings, agreed_results, new_disputes}
 use Rattle.sv_witness.proofs.Agreed.{reported-filter, without}
@@ -48,7 +48,7 @@ noted-no-relay logged.Bye n = cc
 
 pub reports-quiet : (e : Entry) (h : List Entry) (p : ℕ) → is_noted e.reply ≡ false → reports_of (e ∷ h) p ≡ reports_of h p
 reports-quiet e h p quiet =
-    ap (λ (b : Bool). with_report (client_of h e.session) (if b && nat_lt (agreed_commit h) p then reports p e.request else None) (reports_of h p)) quiet
+    ap (λ (b : Bool). with_first_report (client_of h e.session) (if b && nat_lt (agreed_commit h) p then reports p e.request else None) (reports_of h p)) quiet
     ∙ without (client_of h e.session) (reports_of h p)
 
 pub keeps-quiet : (rows : List RowView) (e : Entry) (h : List Entry) → is_noted e.reply ≡ false → KeepsReports rows h → KeepsReports rows (e ∷ h)
@@ -105,7 +105,7 @@ disputes-quiet e h quiet none =
 
 -- ---- One report more
 
-with-counted : (k : ℕ) (v : Values) (rs : List Report) → with_report (Some k) v rs ≡ with_values k (if not (list_any (is_by k) rs) then v else None) rs
+with-counted : (k : ℕ) (v : Values) (rs : List Report) → with_first_report (Some k) v rs ≡ with_values k (if not (list_any (is_by k) rs) then v else None) rs
 with-counted k None rs = go (list_any (is_by k) rs)
   where
     go : (b : Bool) → rs ≡ with_values k (if not b then None else None) rs
@@ -189,9 +189,9 @@ module _ (rows : List RowView) (e : Entry) (h : List Entry) (k : ℕ) (results :
   pub reports-above : (p : ℕ) → agreed_commit h < p →
       reports_of (e ∷ h) p ≡ with_values k (reported p (counted_results (agreed_commit h) rows k results)) (kept_at rows p)
   reports-above p above =
-      ap (λ (c : Option ℕ). with_report c (counted_in (agreed_commit h) p e) (reports_of h p)) client
-      ∙ ap (λ (v : Values). with_report (Some k) v (reports_of h p)) (given p ∙ cond-true (nat_lt (agreed_commit h) p) (reported p results) None low)
-      ∙ ap (λ (rs : List Report). with_report (Some k) (reported p results) rs) (sym (kept p above))
+      ap (λ (c : Option ℕ). with_first_report c (counted_in (agreed_commit h) p e) (reports_of h p)) client
+      ∙ ap (λ (v : Values). with_first_report (Some k) v (reports_of h p)) (given p ∙ cond-true (nat_lt (agreed_commit h) p) (reported p results) None low)
+      ∙ ap (λ (rs : List Report). with_first_report (Some k) (reported p results) rs) (sym (kept p above))
       ∙ with-counted k (reported p results) (kept_at rows p)
       ∙ ap (λ (v : Values). with_values k v (kept_at rows p))
       (sym (reported-filter (λ n. counts (agreed_commit h) rows k n) p results
@@ -202,7 +202,7 @@ module _ (rows : List RowView) (e : Entry) (h : List Entry) (k : ℕ) (results :
 
   pub reports-below : (p : ℕ) → p ≤ agreed_commit h → reports_of (e ∷ h) p ≡ reports_of h p
   reports-below p below' =
-      ap (λ (v : Values). with_report (client_of h e.session) v (reports_of h p))
+      ap (λ (v : Values). with_first_report (client_of h e.session) v (reports_of h p))
       (given p ∙ cond-false (nat_lt (agreed_commit h) p) (reported p results) None (le-ltb (agreed_commit h) p below'))
       ∙ without (client_of h e.session) (reports_of h p)
 
@@ -406,7 +406,7 @@ module _ (rows : List RowView) (e : Entry) (h : List Entry) (k : ℕ) (results :
       ≡ length (accepted h) + length (if is_relay e.reply then new_action (client_of h e.session) (λ j. suc (length (outcomes_of h j))) e.request else []) =
       length-append (accepted h) _ in
       let above : length (accepted h) < p = omega arith in
-      ap (λ (v : Values). with_report (client_of h e.session) v (reports_of h p)) (given p ∙ none-either (nat_lt (agreed_commit h) p) (low-unreported p (length (accepted h)) results above low))
+      ap (λ (v : Values). with_first_report (client_of h e.session) v (reports_of h p)) (given p ∙ none-either (nat_lt (agreed_commit h) p) (low-unreported p (length (accepted h)) results above low))
       ∙ without (client_of h e.session) (reports_of h p) ∙ before p above
     where
       none-either : (b : Bool) → reported p results ≡ None → (if b then reported p results else None) ≡ None

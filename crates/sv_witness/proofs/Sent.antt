@@ -23,7 +23,8 @@ use Rattle.sv_wire.specs.declared.message.Request.TheVariants as requests
 use Rattle.sv_wire.specs.declared.message.Reply.{Reply}
 use Rattle.sv_wire.specs.declared.message.Reply.TheVariants as replies
 use Rattle.sv_wire.specs.Grammar.{IsWireAction}
-use Rattle.sv_wire.specs.Ranges.{ObjectFits, ValueFits, ActionFits}
+use Rattle.sv_world.specs.Ranges.{ObjectFits}
+use Rattle.sv_wire.specs.Ranges.{ValueFits, ActionFits}
 use Rattle.sv_wire.specs.Laws.{IsRequest}
 use Rattle.sv_journal.specs.declared.entry.Entry.{Entry}
 use Rattle.sv_journal.specs.declared.entry.Logged.{Logged}

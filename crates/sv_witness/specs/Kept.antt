@@ -27,8 +27,8 @@ no_row = record { reports = []; spare = 0 }
 abbrev pub kept_at : List RowView → ℕ → List Report
 kept_at rows p = (slice_index_or rows p no_row).reports
 
-abbrev pub HasRoom : List RowView → ℕ → Type 0
-HasRoom rows p = 0 < (slice_index_or rows p no_row).spare
+abbrev pub HasRoomFor : List RowView → ℕ → Type 0
+HasRoomFor rows p = 0 < (slice_index_or rows p no_row).spare
 
 -- The rows keep the reports of each position above the commit. Those of a committed position change nothing any more, and may be gone.
 abbrev pub KeepsReports : List RowView → List Entry → Type 0

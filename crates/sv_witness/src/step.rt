@@ -10,12 +10,12 @@ ghost use Rattle.sv_journal.specs.History.{client_of, is_noted};
 ghost use Rattle.sv_journal.specs.Sessions.{is_end};
 ghost use Rattle.sv_journal.specs.Answer.{is_bad_done};
 ghost use Rattle.sv_journal.specs.Serving.{is_poll, noted_after, polled_after};
-ghost use Rattle.sv_sequencer.specs.Cores.{rules_of, owed_by, queue_of, Keeps, CarriedOut, Remained};
+ghost use Rattle.sv_sequencer.specs.Cores.{core_rules, owed_by, queue_of, Keeps, CarriedOut, Remained};
 ghost use Rattle.sv_sequencer.specs.Decisions.{Holds, reply_by, results_in};
 ghost use Rattle.sv_sequencer.specs.Rows.{is_ended};
 ghost use Rattle.sv_sequencer.specs.Step.{history, entry_of, Grew, Stayed};
 ghost use Rattle.sv_witness.specs.Reports.{agreed_history};
-ghost use Rattle.sv_witness.specs.Kept.{kept_at, HasRoom, counted_results, agreed_results, new_disputes};
+ghost use Rattle.sv_witness.specs.Kept.{kept_at, HasRoomFor, counted_results, agreed_results, new_disputes};
 ghost use Rattle.sv_witness.specs.Due.{due_in};
 ghost use Rattle.sv_witness.specs.Standing.{emptied, answers_poll, first_of, Standing, Replied};
 ghost use Rattle.sv_witness.specs.Step.{Witnesses};
@@ -29,24 +29,9 @@ use crate::reports::{Reports, add_all, reserve_all};
 use crate::witness::Witness;
 use std::alloc::{AllocError, Global};
 use sv_journal::{Entry, Journal, Logged};
-use sv_sequencer::{Answer, Core, Decision};
+use sv_sequencer::{Answer, Core, Decision, enter, results_of};
 use sv_wire::{Done1, Reply, Request, copy_request};
 use sv_world::List;
-
-/// Enters a request with its reply into a journal that has room, and gives the reply in full.
-fn enter(journal: &mut Journal, session: u16, request: Request, answer: Answer) -> Reply
-    requires { 0 < journal.old.spare }
-    ensures journal { journal.new ≡ record { entries = journal.old.entries ++ entry_of session request answer.logged ∷ []; spare = journal.old.spare - 1 } }
-    ensures reply { result ≡ answer.reply }
-{
-    let Answer { logged, reply } = answer;
-    journal.push(Entry {
-        session,
-        request,
-        reply: logged,
-    });
-    reply
-}
 
 fn is_poll(request: &Request) -> bool
     ensures { result ≡ is_poll request.now }
@@ -78,16 +63,6 @@ fn due_decision(core: &Core, reports: &Reports, client: u16, session: u16) -> De
     }
 }
 
-/// The results that a Done reports.
-fn results_of(request: &Request) -> &[Done1]
-    ensures { result.now ≡ results_in request.now }
-{
-    match request {
-        Request::Done { results } => results.as_slice(),
-        _ => &[],
-    }
-}
-
 /// What results of a client are, with room for all that they change. What is kept stays.
 fn note_ahead(
     alloc: Global,
@@ -103,7 +78,7 @@ fn note_ahead(
     ensures spare { journal.old.spare ≤ journal.new.spare }
     ensures room { OnOk result (owed_by core.now + 1 ≤ journal.new.spare) }
     ensures reports { (p : ℕ) → kept_at reports.new p ≡ kept_at reports.old p }
-    ensures rows { IfOk result (λ noting. AllByRecursion (λ (d : Done1). HasRoom reports.new d.pos) noting.counted.items) }
+    ensures rows { IfOk result (λ noting. AllByRecursion (λ (d : Done1). HasRoomFor reports.new d.pos) noting.counted.items) }
     ensures disputes { disputes.new.items ≡ disputes.old.items }
     ensures places { IfOk result (λ noting. vec_len disputes.new + length noting.disputes.items ≤ vec_capacity disputes.new) }
     ensures counted { IfOk result (λ noting. noting.counted.items ≡ counted_results (queue_of core.now).commit reports.old client results.now) }
@@ -127,9 +102,9 @@ fn carry_emptied(
 ) -> Result<Answer, AllocError>
     ghost h: { List Entry }
     requires keeps { Keeps core.old h }
-    requires session { session < (rules_of core.old).sessions }
+    requires session { session < (core_rules core.old).sessions }
     requires more { is_end request.now ≡ false }
-    requires holds { Holds (rules_of core.old) h session (emptied request.now) decision }
+    requires holds { Holds (core_rules core.old) h session (emptied request.now) decision }
     ensures ok { IfOk result (CarriedOut core.old core.new h session (emptied request.now) decision) }
     ensures err { OnErr result (Remained core.old core.new h) }
 {
@@ -158,15 +133,15 @@ fn install(
 ) -> Result<Answer, AllocError>
     ghost h: { List Entry }
     requires standing { Standing core.old reports.old disputes.old.items h }
-    requires session { session < (rules_of core.old).sessions }
+    requires session { session < (core_rules core.old).sessions }
     requires joined { client_of h session ≡ Some client }
     requires done { request.now ≡ requests.Done (results_in request.now) }
-    requires good { is_bad_done (rules_of core.old) (agreed_history h) session (results_in request.now) ≡ false }
-    requires reply { witnessed_reply (rules_of core.old) h session request.now ≡ noted_after agreed h session request.now }
+    requires good { is_bad_done (core_rules core.old) (agreed_history h) session (results_in request.now) ≡ false }
+    requires reply { witnessed_reply (core_rules core.old) h session request.now ≡ noted_after agreed h session request.now }
     requires counted { noting.counted.items ≡ counted_results (queue_of core.old).commit reports.old client (results_in request.now) }
     requires brought { noting.agreed.items ≡ agreed_results (queue_of core.old) reports.old noting.counted.items }
     requires made { noting.disputes.items ≡ new_disputes reports.old client noting.counted.items }
-    requires rows { AllByRecursion (λ (d : Done1). HasRoom reports.old d.pos) noting.counted.items }
+    requires rows { AllByRecursion (λ (d : Done1). HasRoomFor reports.old d.pos) noting.counted.items }
     requires places { vec_len disputes.old + length noting.disputes.items ≤ vec_capacity disputes.old }
     ensures ok { IfOk result (Replied core.old core.new reports.new disputes.new.items h session request.now) }
     ensures core { OnErr result (Remained core.old core.new (agreed_history h)) }

@@ -1,3 +1,4 @@
+//! A server that trusts no client alone, and what it tells.
 ghost use Rattle.std.specs.Prelude.{◌≡◌, ◌<◌, [], slice_index_or};
 ghost use Rattle.sv_sequencer.specs.Step.{history};
 ghost use Rattle.sv_witness.specs.Reports.{agreed_commit, agreed_world};

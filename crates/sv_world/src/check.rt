@@ -1,3 +1,4 @@
+//! Whether an action is one of a world of some shape, and else why not.
 ghost use Rattle.std.specs.Prelude.{◌≡◌, ◌↔◌, ◌&&◌, map, not, Some, None, MatchResult, OnOk};
 ghost use Rattle.sv_world.specs.declared.action.Action.{Action};
 ghost use Rattle.sv_world.specs.declared.world.ObjectId.{ObjectId};
@@ -6,7 +7,7 @@ ghost use Rattle.sv_world.specs.Faults.{is_ascending, has_no_reads, has_too_many
 
 use crate::fits::{Limits, block_fits};
 use crate::names::{NameTest, passes_in_nodes, weight};
-use crate::{Action, NodeCursor, ObjectId, Shape};
+use crate::{Action, MOST_DEPTH, MOST_NODES, MOST_READS, NodeCursor, ObjectId, Shape};
 
 /// Why an action is refused, in the order in which the causes are looked for.
 #[derive(Clone, Copy, Debug, Drop, PartialEq, Eq)]
@@ -137,7 +138,7 @@ fn has_no_reads(action: &Action) -> bool
 fn has_too_many_reads(action: &Action) -> bool
     ensures { result ≡ has_too_many_reads action.now }
 {
-    action.reads.len() > 16
+    action.reads.len() > MOST_READS
 }
 
 #[tactic(auto, unfolding(crate::specs::Faults::is_not_ascending))]
@@ -165,7 +166,7 @@ fn has_bad_mask(action: &Action) -> bool
 {
     let mask = action.mask;
     let reads = action.reads.len();
-    reads < 16 && mask >> reads > 0
+    reads < MOST_READS && mask >> reads > 0
 }
 
 /// Whether nothing is at fault in the body, by one walk over it. Where it answers no, the causes are looked for in their order.
@@ -179,7 +180,7 @@ fn has_sound_body(shape: Shape, action: &Action) -> bool
         attrs: shape.attrs,
     };
     let mut nodes = NodeCursor::new(action.body.nodes());
-    match block_fits(&mut nodes, &limits, 8, 64) {
+    match block_fits(&mut nodes, &limits, MOST_DEPTH, MOST_NODES) {
         Some(_) => true,
         None => false,
     }
@@ -213,7 +214,7 @@ fn has_attrs(shape: Shape, action: &Action) -> bool
 fn is_too_large(action: &Action) -> bool
     ensures { result ≡ is_too_large action.now }
 {
-    weight(action.body.nodes()) > 64
+    weight(action.body.nodes()) > MOST_NODES as usize
 }
 
 fn is_in_plane(coordinate: i32) -> bool

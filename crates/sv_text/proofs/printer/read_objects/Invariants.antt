@@ -1,6 +1,7 @@
+-- The objects so far have numbers of their type.
 use Rattle.std.proofs.Common.{ℕ, ◌<◌, get_or}
 use Rattle.sv_world.specs.declared.world.ObjectId.{ObjectId}
-use Rattle.sv_text.specs.Printable.{ObjectFits}
+use Rattle.sv_world.specs.Ranges.{ObjectFits}
 use Rattle.sv_text.proofs.printer.read_objects.Given as goal
 
 abbrev pub invariant-loop-object : goal.invariant-loop-object

@@ -1,6 +1,6 @@
 use Rattle.std.proofs.Common.{ℕ, ◌<◌, get_or}
 use Rattle.sv_world.specs.declared.world.ObjectId.{ObjectId}
-use Rattle.sv_wire.specs.Ranges.{ObjectFits}
+use Rattle.sv_world.specs.Ranges.{ObjectFits}
 use Rattle.sv_wire.proofs.numbers.read_objects.Given as goal
 
 abbrev pub invariant-loop-object : goal.invariant-loop-object

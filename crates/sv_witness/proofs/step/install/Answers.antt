@@ -4,7 +4,7 @@ use Rattle.sv_wire.specs.declared.message.Done1.{Done1}
 use Rattle.sv_wire.specs.declared.message.Request.TheVariants as requests
 use Rattle.sv_journal.specs.Answer.{is_bad_result}
 use Rattle.sv_sequencer.specs.declared.decision.Decision.TheVariants as decisions
-use Rattle.sv_sequencer.specs.Cores.{rules_of, CarriedOut}
+use Rattle.sv_sequencer.specs.Cores.{core_rules, CarriedOut}
 use Rattle.sv_witness.specs.Reports.{agreed_history}
 use Rattle.sv_witness.proofs.Installed.{install-good, install-once, installed}
 use Rattle.sv_witness.proofs.step.install.Goals as goal
@@ -21,7 +21,7 @@ carry_out-carried-requires g c =
           refl,
           (
             refl,
-            subst (λ (l : List Done1). list_any (is_bad_result (rules_of c.args.core.now) (agreed_history g.h) c.args.session) l ≡ false) (sym c.from_vec.ensures)
+            subst (λ (l : List Done1). list_any (is_bad_result (core_rules c.args.core.now) (agreed_history g.h) c.args.session) l ≡ false) (sym c.from_vec.ensures)
                 (install-good c.args.core.now c.args.reports.now c.args.disputes.now.items g.h c.args.session c.args.client c.args.request.now n.counted.items n.agreed.items n.disputes.items
                 standing r.1.1.0 r.1.1.1.0 r.1.1.1.1.0 r.1.1.1.1.1.0 r.1.1.1.1.1.1.0 r.1.1.1.1.1.1.1.0 r.1.1.1.1.1.1.1.1.0),
           ),

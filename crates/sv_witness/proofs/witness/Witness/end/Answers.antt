@@ -4,7 +4,7 @@ use Rattle.sv_wire.specs.declared.message.Request.TheVariants as requests
 use Rattle.sv_journal.specs.declared.entry.Entry.{Entry}
 use Rattle.sv_journal.specs.declared.entry.Logged.TheVariants as logged
 use Rattle.sv_journal.specs.View.{JournalView}
-use Rattle.sv_sequencer.specs.Cores.{rules_of, Keeps}
+use Rattle.sv_sequencer.specs.Cores.{core_rules, Keeps}
 use Rattle.sv_sequencer.specs.Step.{SequencerView, history, entry_of}
 use Rattle.sv_witness.specs.Reports.{agreed_history}
 use Rattle.sv_witness.specs.Kept.{Stands}
@@ -31,6 +31,6 @@ invariant_of-self g c =
     (subst (λ (l : List Entry). Keeps c.end.new.self (e ∷ agreed_history l)) at c.end.ensures.keeps) in
     record {
       keeps = subst (λ (l : List Entry). Keeps c.end.new.self (agreed_history l)) (sym past) ended.keeps;
-      stands = subst (λ (l : List Entry). Stands (rules_of c.end.new.self) a.reports a.disputes.items l) (sym past) ended.stands;
+      stands = subst (λ (l : List Entry). Stands (core_rules c.end.new.self) a.reports a.disputes.items l) (sym past) ended.stands;
       room = omega (arith, c.end.ensures.owed, c.self.invariant.room, ap (λ (j : JournalView). j.spare) c.push.ensures);
     }

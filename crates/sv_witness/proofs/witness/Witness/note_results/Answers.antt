@@ -3,7 +3,7 @@ use Rattle.sv_wire.specs.declared.message.Done1.{Done1}
 use Rattle.sv_queue.specs.Queue.{last_position}
 use Rattle.sv_journal.specs.Answer.{is_bad_done}
 use Rattle.sv_journal.specs.Serving.{noted_after}
-use Rattle.sv_sequencer.specs.Cores.{rules_of, queue_of}
+use Rattle.sv_sequencer.specs.Cores.{core_rules, queue_of}
 use Rattle.sv_sequencer.specs.Decisions.{results_in}
 use Rattle.sv_sequencer.specs.Step.{SequencerView}
 use Rattle.sv_witness.specs.Reports.{agreed_history}
@@ -28,7 +28,7 @@ note_ahead-noted-requires g c =
     let joined = sym (client-agreed h s) ∙ sym (c.client.ensures (agreed_history h) is.keeps) ∙ c.in-Some.is in
     let good = subst (λ (v : SequencerView). is_bad_done v.rules (agreed_history h) s (results_in c.args.request.now) ≡ false) (sym c.self.view_is) c.requires.1.1.1.0 in
     subst (All (λ (d : Done1). d.pos ≤ last_position (queue_of a.core))) (sym c.results_of.ensures)
-    (reported-low (rules_of a.core) h s c.in-Some.client (results_in c.args.request.now) joined good (queue_of a.core) is.keeps.fits.last)
+    (reported-low (core_rules a.core) h s c.in-Some.client (results_in c.args.request.now) joined good (queue_of a.core) is.keeps.fits.last)
 
 pub install-installed-requires : goal.install-installed-requires
 install-installed-requires g c =
@@ -48,8 +48,8 @@ install-installed-requires g c =
     let good = subst (λ (w : SequencerView). is_bad_done w.rules (agreed_history h) s (results_in q) ≡ false) (sym c.self.view_is) c.requires.1.1.1.0 in
     let reply = subst (λ (w : SequencerView). witnessed_reply w.rules h s q ≡ noted_after agreed h s q) (sym c.self.view_is) c.requires.1.1.1.1 in
     let low = subst (λ (w : SequencerView). s < w.rules.sessions) (sym c.self.view_is) c.requires.1.0 in
-    let stands = subst (λ (ds : List Dispute). Stands (rules_of a.core) new ds h) (sym c.note_ahead-noted.ensures.disputes)
-    (same-stands (rules_of a.core) rows new a.disputes.items h same is.stands) in
+    let stands = subst (λ (ds : List Dispute). Stands (core_rules a.core) new ds h) (sym c.note_ahead-noted.ensures.disputes)
+    (same-stands (core_rules a.core) rows new a.disputes.items h same is.stands) in
     let counted = said.counted ∙ ap (counted_results v.commit rows k) c.results_of.ensures ∙ sym (same-counted rows new same v.commit k (results_in q)) in
     let brought = said.agreed ∙ ap (agreed_results v rows) (sym said.counted) ∙ sym (same-agreed rows new same v noting.counted.items) in
     let made = said.made ∙ ap (new_disputes rows k) (sym said.counted) ∙ sym (same-disputes rows new same k noting.counted.items) in (
