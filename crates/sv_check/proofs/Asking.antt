@@ -13,7 +13,7 @@ use Rattle.sv_wire.specs.declared.message.Request.{Request}
 use Rattle.sv_wire.specs.declared.message.Request.TheVariants as requests
 use Rattle.sv_wire.specs.Laws.{IsRequest}
 use Rattle.sv_journal.specs.declared.entry.Entry.{Entry}
-use Rattle.sv_journal.specs.Sessions.{is_end}
+use Rattle.sv_journal.specs.Sessions.{is_end, is_ended}
 use Rattle.sv_journal.specs.Answer.{Rules}
 use Rattle.sv_journal.specs.Laws.{AreWithinLimits}
 use Rattle.sv_client.specs.declared.trace.Event.{Event}
@@ -30,7 +30,7 @@ use Rattle.sv_scenario.specs.Limits.{IsGoodScenario}
 use Rattle.sv_scenario.specs.Sessions.{session_count}
 use Rattle.sv_script.specs.Following.{FollowsToEnd, is_step, steps_done, events_of, event_of, with_event}
 use Rattle.sv_script.specs.Laws.{StepsAreDoneInOrder}
-use Rattle.sv_system.specs.Fits.{requests_in, has_session, is_ended, is_owned, FitsOne}
+use Rattle.sv_system.specs.Fits.{requests_in, has_session, is_owned, FitsOne}
 use Rattle.sv_system.specs.Records.{rules_of, ends_in, EachTrace, ScriptsAreFollowed, IsRecordOf}
 use Rattle.sv_system.proofs.Histories.{IsEarlier, same, after, earlier-rest, earlier-legal}
 use Rattle.sv_system.proofs.Entered.{of-from, request-there}

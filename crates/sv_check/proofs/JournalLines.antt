@@ -14,9 +14,8 @@ use Rattle.sv_journal.specs.declared.entry.Logged.{Logged}
 use Rattle.sv_journal.specs.History.{accepted}
 use Rattle.sv_journal.specs.Answer.{Rules, reply_to}
 use Rattle.sv_journal.specs.Laws.{FullRepliesStay, LegalRelaysNameAccepted}
-use Rattle.sv_journal.specs.Sessions.{is_end}
+use Rattle.sv_journal.specs.Sessions.{is_end, is_ended}
 use Rattle.sv_journal.specs.Text.{entry_line, entry_lines, journal_text, reply_text}
-use Rattle.sv_sequencer.specs.Rows.{is_ended}
 use Rattle.sv_sequencer.specs.Step.{entry_of}
 use Rattle.sv_scenario.specs.declared.scenario.Scenario.{Scenario}
 use Rattle.sv_scenario.specs.Sessions.{session_count}
@@ -38,7 +37,6 @@ use Rattle.sv_check.specs.Serving.{IsServed, entries_of}
 use Rattle.sv_check.specs.Entering.{ServedOne, HasServed, header_text, NoHeader, lines_of, line_after, TellsEntry, NoEntry, AreTold, BreaksOff}
 use Rattle.sv_check.proofs.Entries.{AreEntriesAfter, turned_more}
 use Rattle.sv_check.proofs.Journals.{after_none}
-use Rattle.sv_check.proofs.Serving.{same_ended}
 use Rattle.sv_check.proofs.JournalParts.{line_stays, line_is_after, first_right}
 
 -- ---- The first line
@@ -177,7 +175,7 @@ module _ (scenario : Scenario) (few : session_count scenario ≤ 64) (entries : 
   asked_none rules of_it asked reads refused e rest right is =
       let same = same_asked asked reads e rest right is in
       let may : ℕ × Request → Type 0 = λ (x : ℕ × Request). (x.0 < session_count scenario) × (is_end x.1 ≡ true → is_ended (reverse entries) x.0 ≡ false) in
-      let here : may (e.session, e.request) = (right.session, λ t. sym (same_ended (reverse entries) e.session) ∙ right.once t) in
+      let here : may (e.session, e.request) = (right.session, right.once) in
       let it : may (asked.session, asked.request) = subst may same here in
       refused (subst (λ (r : Rules). asked.session < r.sessions) (sym of_it) it.0) it.1
 

@@ -15,7 +15,7 @@ use Rattle.sv_asked.specs.Asked.{RequestsAreMessages, AcceptedAreFew}
 use Rattle.sv_asked.specs.Numbers.{ScenarioFits}
 use Rattle.sv_report.specs.Report.{trace_text, world_text}
 use Rattle.sv_journal.specs.Answer.{Rules}
-use Rattle.sv_sequencer.specs.Rows.{is_ended}
+use Rattle.sv_journal.specs.Sessions.{is_ended}
 use Rattle.sv_sequencer.specs.Step.{history}
 use Rattle.sv_check.specs.declared.journal.Served.{Served}
 use Rattle.sv_check.specs.Serving.{IsServed, entries_of}

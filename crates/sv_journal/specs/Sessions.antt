@@ -43,6 +43,10 @@ abbrev pub is_end : Request → Bool
 is_end requests.End = true
 is_end _ = false
 
+-- A session had its End.
+abbrev pub is_ended : List Entry → ℕ → Bool
+is_ended h s = list_any (λ (e : Entry). e.session == s && is_end e.request) h
+
 -- How many requests a session made, its End left out.
 abbrev pub asked_in : List Entry → ℕ → ℕ
 asked_in [] s = 0

@@ -9,8 +9,8 @@ use Rattle.sv_wire.specs.declared.message.Request.{Request}
 use Rattle.sv_wire.specs.declared.message.Request.TheVariants as requests
 use Rattle.sv_journal.specs.declared.entry.Entry.{Entry}
 use Rattle.sv_journal.specs.History.{accepted}
-use Rattle.sv_journal.specs.Sessions.{is_end}
-use Rattle.sv_system.specs.Fits.{requests_in, replies_in, is_ended}
+use Rattle.sv_journal.specs.Sessions.{is_end, is_ended}
+use Rattle.sv_system.specs.Fits.{requests_in, replies_in}
 use Rattle.sv_system.proofs.Entered.{is_of, of-from}
 use Rattle.sv_schedule.specs.Players.{Player, asked_in_run, has_closed}
 use Rattle.sv_schedule.specs.Serving.{Run, Server, entry_by, served, serves_next, is_stop, is_stopped, session_served}

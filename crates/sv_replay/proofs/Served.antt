@@ -16,13 +16,12 @@ use Rattle.sv_journal.specs.declared.entry.Entry.{Entry}
 use Rattle.sv_journal.specs.declared.entry.Logged.{Logged}
 use Rattle.sv_journal.specs.declared.entry.Logged.TheVariants as logged
 use Rattle.sv_journal.specs.History.{Authored, accepted, full_reply}
-use Rattle.sv_journal.specs.Sessions.{is_end}
+use Rattle.sv_journal.specs.Sessions.{is_end, is_ended}
 use Rattle.sv_journal.specs.Answer.{reply_to}
 use Rattle.sv_client.specs.declared.trace.Event.{Event}
 use Rattle.sv_client.specs.declared.trace.Event.TheVariants as events
 use Rattle.sv_client.specs.Traces.{asked, asked_by, submit_of, pending_of, current_session, is_session, held_of, done_for}
-use Rattle.sv_sequencer.specs.Rows.{is_ended as is_ended_by_rows}
-use Rattle.sv_system.specs.Fits.{replies_in, is_ended}
+use Rattle.sv_system.specs.Fits.{replies_in}
 use Rattle.sv_system.proofs.Fronts.{fronts-same}
 use Rattle.sv_system.proofs.Entered.{as-many, replies-one}
 use Rattle.sv_schedule.specs.Players.{Player, asked_in_run}
@@ -92,16 +91,6 @@ pub waiting_asked : (ps : List Player) (s n : ℕ) (q : Request) (qs : List Requ
 waiting_asked ps s n q qs e = dropped_asked (λ (q : Request). is_end q ≡ false) n (asked_in_run ps s) q qs (run_asked ps s) e
 
 -- ---- Tests
-
-pub same_ended : (h : List Entry) (s : ℕ) → is_ended_by_rows h s ≡ is_ended h s
-same_ended [] s = refl
-same_ended (e ∷ h) s = ap (λ b. b || (e.session == s && is_end e.request)) (same_ended h s) ∙ or_comm (is_ended h s) (e.session == s && is_end e.request)
-  where
-    or_comm : (a b : Bool) → (a || b) ≡ (b || a)
-    or_comm true true = refl
-    or_comm true false = refl
-    or_comm false true = refl
-    or_comm false false = refl
 
 pub same_stop : (A : List Authored) (l : Logged) → is_stop_reply (full_reply A l) ≡ is_stop l
 same_stop A (logged.Welcome commit head) = refl

@@ -10,12 +10,12 @@ use Rattle.sv_wire.specs.declared.message.Request.{Request}
 use Rattle.sv_wire.specs.declared.message.Request.TheVariants as requests
 use Rattle.sv_journal.specs.declared.entry.Entry.{Entry}
 use Rattle.sv_journal.specs.History.{Authored, accepted, full_reply}
-use Rattle.sv_journal.specs.Sessions.{is_end}
+use Rattle.sv_journal.specs.Sessions.{is_end, is_ended}
 use Rattle.sv_client.specs.declared.trace.Event.TheVariants as events
 use Rattle.sv_client.specs.Traces.{current_session, got}
 use Rattle.sv_client.specs.Taking.{Fault, first_fault_of_reply}
 use Rattle.sv_script.specs.Following.{must_join}
-use Rattle.sv_system.specs.Fits.{requests_in, replies_in, is_ended}
+use Rattle.sv_system.specs.Fits.{requests_in, replies_in}
 use Rattle.sv_system.proofs.Entered.{is_of}
 use Rattle.sv_schedule.specs.Players.{Player, asked_in_run, has_closed, open_session, takes, takes_if, take_in, take_turn, at_player, repeated, does, take_turns}
 use Rattle.sv_schedule.specs.Serving.{Run, Server, served, is_stopped, session_served}

@@ -8,8 +8,8 @@ use Rattle.sv_wire.specs.Laws.{IsReply}
 use Rattle.sv_journal.specs.declared.entry.Entry.{Entry}
 use Rattle.sv_journal.specs.History.{accepted, full_reply, committed_of}
 use Rattle.sv_journal.specs.Answer.{Rules}
+use Rattle.sv_journal.specs.Sessions.{is_ended}
 use Rattle.sv_sequencer.specs.Step.{SequencerView, history}
-use Rattle.sv_system.specs.Fits.{is_ended}
 use Rattle.sv_schedule.specs.Serving.{Server, is_stop, served, serves_next}
 use Rattle.sv_schedule.specs.Schedule.{plain_server}
 use Rattle.sv_exchange.specs.View.{ExchangeView}

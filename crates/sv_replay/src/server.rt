@@ -1,7 +1,6 @@
 //! What a run asks of its server.
 ghost use Rattle.std.specs.Prelude.{◌≡◌, ◌<◌, ℤ, List, [], true, false, slice_index_or, IfOk};
-ghost use Rattle.sv_journal.specs.Sessions.{is_end};
-ghost use Rattle.sv_system.specs.Fits.{is_ended};
+ghost use Rattle.sv_journal.specs.Sessions.{is_end, is_ended};
 ghost use Rattle.sv_replay.specs.Serving.{Answers, ServerView, sequencer_view, sequencer_world};
 
 use std::alloc::AllocError;

@@ -13,12 +13,12 @@ use Rattle.sv_wire.specs.declared.message.Request.TheVariants as requests
 use Rattle.sv_wire.specs.declared.message.Reply.{Reply}
 use Rattle.sv_wire.specs.declared.message.Reply.TheVariants as replies
 use Rattle.sv_journal.specs.declared.entry.Entry.{Entry}
-use Rattle.sv_journal.specs.Sessions.{is_end}
+use Rattle.sv_journal.specs.Sessions.{is_end, is_ended}
 use Rattle.sv_journal.specs.Answer.{Rules}
 use Rattle.sv_client.specs.declared.trace.Event.{Event}
 use Rattle.sv_client.specs.declared.trace.Event.TheVariants as events
 use Rattle.sv_client.specs.Traces.{submit_of, pending_of, held_of, done_for, is_session, current_session, makes, joins, asked_by, asked}
-use Rattle.sv_system.specs.Fits.{requests_in, is_ended}
+use Rattle.sv_system.specs.Fits.{requests_in}
 use Rattle.sv_system.proofs.Tests.{each-append}
 use Rattle.sv_schedule.specs.Players.{Player, asked_in_run, has_closed}
 use Rattle.sv_schedule.specs.Serving.{is_stop, is_stopped}

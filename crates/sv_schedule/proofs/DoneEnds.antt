@@ -7,7 +7,7 @@ use Rattle.sv_world.specs.declared.world.Shape.{Shape}
 use Rattle.sv_world.specs.Control.{below}
 use Rattle.sv_world.proofs.Bases.{is_in-below}
 use Rattle.sv_journal.specs.declared.entry.Entry.{Entry}
-use Rattle.sv_journal.specs.Sessions.{is_end}
+use Rattle.sv_journal.specs.Sessions.{is_end, is_ended}
 use Rattle.sv_journal.specs.Answer.{Rules}
 use Rattle.sv_client.specs.Traces.{is_session}
 use Rattle.sv_scenario.specs.declared.scenario.Plan.{Plan}
@@ -15,7 +15,7 @@ use Rattle.sv_scenario.specs.declared.scenario.Scenario.{Scenario}
 use Rattle.sv_scenario.specs.Limits.{IsGoodPlan, IsGoodScenario}
 use Rattle.sv_scenario.specs.Sessions.{sessions_of_plan, sessions_in, session_count}
 use Rattle.sv_script.proofs.Ends.{none-left}
-use Rattle.sv_system.specs.Fits.{is_ended, IsEndLast, is_join_of}
+use Rattle.sv_system.specs.Fits.{IsEndLast, is_join_of}
 use Rattle.sv_schedule.specs.Players.{Player, open_session, has_closed, player_turn, take_turns, repeated}
 use Rattle.sv_schedule.specs.Serving.{Run, after_clients}
 use Rattle.sv_schedule.specs.Schedule.{rules_of, plain_server, round, after_sessions}

@@ -9,9 +9,9 @@ use Rattle.sv_world.proofs.Members.{is_in-cons_cases}
 use Rattle.sv_wire.specs.declared.message.Request.{Request}
 use Rattle.sv_wire.specs.declared.message.Request.TheVariants as requests
 use Rattle.sv_journal.specs.declared.entry.Entry.{Entry}
-use Rattle.sv_journal.specs.Sessions.{is_end}
+use Rattle.sv_journal.specs.Sessions.{is_end, is_ended}
 use Rattle.sv_journal.specs.Answer.{Rules}
-use Rattle.sv_system.specs.Fits.{requests_in, is_ended}
+use Rattle.sv_system.specs.Fits.{requests_in}
 use Rattle.sv_schedule.specs.Players.{Player, asked_in_run, has_closed, repeated}
 use Rattle.sv_schedule.specs.Serving.{is_stop, is_stopped}
 use Rattle.sv_schedule.specs.Schedule.{plainly_served, steps_next, session_turn, session_turns, sessions_turned}

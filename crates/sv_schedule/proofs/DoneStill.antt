@@ -6,9 +6,9 @@ use Rattle.sv_world.specs.Control.{is_in, below}
 use Rattle.sv_world.proofs.Bases.{below-is_in}
 use Rattle.sv_world.proofs.Members.{is_in-head, is_in-tail}
 use Rattle.sv_journal.specs.declared.entry.Entry.{Entry}
+use Rattle.sv_journal.specs.Sessions.{is_ended}
 use Rattle.sv_scenario.specs.declared.scenario.Scenario.{Scenario}
 use Rattle.sv_scenario.specs.Sessions.{session_count}
-use Rattle.sv_system.specs.Fits.{is_ended}
 use Rattle.sv_schedule.specs.Players.{Player, player_turn, take_turns, asked_in_run}
 use Rattle.sv_schedule.specs.Serving.{Run, Server, session_served, all_served, sessions_served, after_clients, after_served, after_takes, round_served}
 use Rattle.sv_schedule.specs.Done.{IsDone}

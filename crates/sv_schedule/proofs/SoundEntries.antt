@@ -5,9 +5,9 @@ use Rattle.std.proofs.lemmas.Bool.{or_cases, or_parts, or_left, or_right, and_pa
 use Rattle.sv_wire.specs.declared.message.Request.{Request}
 use Rattle.sv_journal.specs.declared.entry.Entry.{Entry}
 use Rattle.sv_journal.specs.History.{accepted}
-use Rattle.sv_journal.specs.Sessions.{is_end}
+use Rattle.sv_journal.specs.Sessions.{is_end, is_ended}
 use Rattle.sv_client.specs.Traces.{asked, got}
-use Rattle.sv_system.specs.Fits.{requests_in, replies_in, is_ended}
+use Rattle.sv_system.specs.Fits.{requests_in, replies_in}
 use Rattle.sv_system.proofs.Fronts.{front-then}
 use Rattle.sv_schedule.specs.Players.{Player, asked_in_run, has_closed}
 use Rattle.sv_schedule.specs.Serving.{Server, entry_by, served, is_stop, is_stopped}

@@ -9,12 +9,13 @@ use Rattle.sv_world.specs.Control.{below}
 use Rattle.sv_wire.specs.declared.message.Request.{Request}
 use Rattle.sv_wire.specs.declared.message.Request.TheVariants as requests
 use Rattle.sv_journal.specs.declared.entry.Entry.{Entry}
+use Rattle.sv_journal.specs.Sessions.{is_ended}
 use Rattle.sv_scenario.specs.declared.scenario.Scenario.{Scenario}
 use Rattle.sv_scenario.specs.declared.scenario.Turn.{Turn}
 use Rattle.sv_scenario.specs.declared.scenario.Turn.TheVariants as turns
 use Rattle.sv_scenario.specs.Limits.{IsGoodScenario, IsGoodTurn}
 use Rattle.sv_scenario.specs.Sessions.{session_count}
-use Rattle.sv_system.specs.Fits.{requests_in, is_ended}
+use Rattle.sv_system.specs.Fits.{requests_in}
 use Rattle.sv_schedule.specs.Players.{Player, player_turn, take_turn, take_turns, asked_in_run, has_closed, repeated, at_player}
 use Rattle.sv_schedule.specs.Serving.{Run, Server, served, serves_next, is_stopped, session_served, all_served, sessions_served, turn_served, turns_served, after_clients, after_served, round_served}
 use Rattle.sv_schedule.specs.Sound.{ArePlaying}

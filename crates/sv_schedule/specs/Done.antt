@@ -1,8 +1,8 @@
 -- When a run has nothing left to do.
 use Rattle.std.specs.Prelude.{◌≡◌, ℕ, ◌<◌, true, All}
+use Rattle.sv_journal.specs.Sessions.{is_ended}
 use Rattle.sv_scenario.specs.declared.scenario.Scenario.{Scenario}
 use Rattle.sv_scenario.specs.Sessions.{session_count}
-use Rattle.sv_system.specs.Fits.{is_ended}
 use Rattle.sv_schedule.specs.Players.{Player}
 use Rattle.sv_schedule.specs.Serving.{Run}
 

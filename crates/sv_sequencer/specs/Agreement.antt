@@ -5,14 +5,14 @@ use Rattle.sv_world.specs.Limits.{most_requests, most_sessions}
 use Rattle.sv_queue.specs.Queue.{QueueView}
 use Rattle.sv_journal.specs.declared.entry.Entry.{Entry}
 use Rattle.sv_journal.specs.History.{Accepted, outcomes_of, accepted, result_at, commit_of}
-use Rattle.sv_journal.specs.Sessions.{life_of, sent_to, named_to}
+use Rattle.sv_journal.specs.Sessions.{life_of, sent_to, named_to, is_ended}
 use Rattle.sv_journal.specs.Answer.{Rules}
 use Rattle.sv_sequencer.specs.declared.clients.ClientRow.{ClientRow}
 use Rattle.sv_sequencer.specs.declared.clients.Clients.{Clients}
 use Rattle.sv_sequencer.specs.declared.sessions.SessionRow.{SessionRow}
 use Rattle.sv_sequencer.specs.Clients.{client_row, outcome_value}
 use Rattle.sv_sequencer.specs.Fits.{QueueFits}
-use Rattle.sv_sequencer.specs.Rows.{no_session, IsSessionRow, is_ended, requests_left}
+use Rattle.sv_sequencer.specs.Rows.{no_session, IsSessionRow, requests_left}
 
 -- The row says of a client what the history says.
 pub record IsClientRow (h : List Entry) (k : ℕ) (r : ClientRow) : Type 0 where

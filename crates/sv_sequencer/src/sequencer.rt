@@ -4,7 +4,7 @@ ghost use Rattle.sv_world.specs.Limits.{most_bound, most_reach, most_sessions};
 ghost use Rattle.sv_queue.specs.Worlds.{IsGoodWorld};
 ghost use Rattle.sv_journal.specs.History.{commit_of, committed_of};
 ghost use Rattle.sv_journal.specs.Answer.{Legal};
-ghost use Rattle.sv_sequencer.specs.Rows.{is_ended};
+ghost use Rattle.sv_journal.specs.Sessions.{is_ended};
 ghost use Rattle.sv_sequencer.specs.Step.{history};
 
 use crate::server_core::Core;

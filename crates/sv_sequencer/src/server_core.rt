@@ -9,11 +9,10 @@ ghost use Rattle.sv_world.specs.Limits.{most_requests, most_sessions};
 ghost use Rattle.sv_queue.specs.Worlds.{IsGoodWorld};
 ghost use Rattle.sv_journal.specs.declared.entry.Entry.{Entry};
 ghost use Rattle.sv_journal.specs.History.{Accepted, client_of, accepted, actions_of, next_seq, commit_of, committed_of};
-ghost use Rattle.sv_journal.specs.Sessions.{is_over, asked_in, life_of, kept_outcome};
+ghost use Rattle.sv_journal.specs.Sessions.{is_over, asked_in, life_of, kept_outcome, is_ended};
 ghost use Rattle.sv_journal.specs.Answer.{is_bad_result, is_bad_done, is_over_reach, orphans};
 ghost use Rattle.sv_sequencer.specs.Clients.{outcome_value};
 ghost use Rattle.sv_sequencer.specs.Cores.{core_rules, owed_by, queue_of, Keeps, IsKept};
-ghost use Rattle.sv_sequencer.specs.Rows.{is_ended};
 
 use crate::clients::{Clients, Outcome};
 use crate::orphans::first_orphan;

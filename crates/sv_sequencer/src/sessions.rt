@@ -94,7 +94,7 @@ fn session_after(
         client: client_after(request, reply, is_own, row.client),
         over: row.over || is_over_by(asker, request, reply, session, row.client),
         left,
-        ended: row.ended || (is_own && ends),
+        ended: (is_own && ends) || row.ended,
     }
 }
 

@@ -3,9 +3,8 @@ ghost use Rattle.std.specs.Prelude.{◌≡◌, List, ◌-◌, ◌<◌, [], ◌�
 ghost use Rattle.sv_wire.specs.declared.message.Request.TheVariants as requests;
 ghost use Rattle.sv_journal.specs.declared.entry.Entry.{Entry};
 ghost use Rattle.sv_journal.specs.declared.entry.Logged.TheVariants as logged;
-ghost use Rattle.sv_journal.specs.Sessions.{is_end};
+ghost use Rattle.sv_journal.specs.Sessions.{is_end, is_ended};
 ghost use Rattle.sv_journal.specs.Answer.{Legal};
-ghost use Rattle.sv_sequencer.specs.Rows.{is_ended};
 ghost use Rattle.sv_sequencer.specs.Step.{history, entry_of, Grew, Answered, Stayed};
 
 use crate::answer::Answer;

@@ -16,14 +16,14 @@ use Rattle.sv_journal.specs.declared.entry.Entry.{Entry}
 use Rattle.sv_journal.specs.declared.entry.Logged.{Logged}
 use Rattle.sv_journal.specs.declared.entry.Logged.TheVariants as logged
 use Rattle.sv_journal.specs.History.{Authored, accepted, client_of, is_client, is_welcome, joining, full_reply, either}
-use Rattle.sv_journal.specs.Sessions.{is_end, is_last, welcomes, is_over, life_of}
+use Rattle.sv_journal.specs.Sessions.{is_end, is_last, welcomes, is_over, life_of, is_ended}
 use Rattle.sv_client.specs.declared.trace.Event.{Event}
 use Rattle.sv_client.specs.declared.trace.Event.TheVariants as events
 use Rattle.sv_client.specs.declared.trace.Trace.{Trace}
 use Rattle.sv_client.specs.Traces.{joins, asked, got}
 use Rattle.sv_client.specs.Taking.{Identity, allows}
 use Rattle.sv_client.specs.Proper.{identity_of}
-use Rattle.sv_system.specs.Fits.{requests_in, replies_in, is_ended, IsEndLast, has_session}
+use Rattle.sv_system.specs.Fits.{requests_in, replies_in, IsEndLast, has_session}
 use Rattle.sv_system.specs.Served.{AreSameButValues, FitsButValues}
 use Rattle.sv_system.proofs.Awaited.{Owner, Awaited}
 use Rattle.sv_system.proofs.Fronts.{get-last}

@@ -9,7 +9,7 @@ use Rattle.sv_journal.specs.declared.entry.Entry.{Entry}
 use Rattle.sv_journal.specs.declared.entry.Logged.{Logged}
 use Rattle.sv_journal.specs.declared.entry.Logged.TheVariants as logged
 use Rattle.sv_journal.specs.History.{is_noted, client_of, accepted, reported, commit_of, full_reply}
-use Rattle.sv_journal.specs.Sessions.{is_end}
+use Rattle.sv_journal.specs.Sessions.{is_end, is_ended}
 use Rattle.sv_journal.specs.View.{JournalView}
 use Rattle.sv_journal.specs.Answer.{Rules, is_bad_done}
 use Rattle.sv_sequencer.specs.declared.answer.Answer.{Answer}
@@ -18,7 +18,6 @@ use Rattle.sv_sequencer.specs.declared.decision.Decision.TheVariants as decision
 use Rattle.sv_sequencer.specs.declared.server_core.Core.{Core}
 use Rattle.sv_sequencer.specs.Cores.{core_rules, owed_by, queue_of, Keeps, CarriedOut}
 use Rattle.sv_sequencer.specs.Decisions.{reply_by}
-use Rattle.sv_sequencer.specs.Rows.{is_ended}
 use Rattle.sv_sequencer.specs.Step.{SequencerView, history, entry_of}
 use Rattle.sv_witness.specs.declared.report.Dispute.{Dispute}
 use Rattle.sv_witness.specs.declared.witness.Witness.TheInside.{Inside}
@@ -139,7 +138,7 @@ end-with test requests.End = refl
 
 pub ended-agreed : (h : List Entry) (s : ℕ) → is_ended (agreed_history h) s ≡ is_ended h s
 ended-agreed [] s = refl
-ended-agreed (e ∷ h) s = ap₂ (λ (a b : Bool). a || (e.session == s && b)) (ended-agreed h s) (end-with _ e.request)
+ended-agreed (e ∷ h) s = ap₂ (λ (a b : Bool). (e.session == s && a) || b) (end-with _ e.request) (ended-agreed h s)
 
 -- ---- The fields
 
