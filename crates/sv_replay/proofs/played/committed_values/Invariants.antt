@@ -1,3 +1,4 @@
+-- The values so far, and those of the objects that are left, are the world.
 use Rattle.std.proofs.Common.{◌≡◌, ◌++◌, drop}
 use Rattle.sv_replay.proofs.played.committed_values.Given as goal
 

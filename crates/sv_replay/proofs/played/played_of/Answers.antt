@@ -1,3 +1,4 @@
+-- The committed world has a value for each object.
 use Rattle.std.proofs.Common.{◌∙◌}
 use Rattle.sv_sequencer.specs.Step.{history}
 use Rattle.sv_replay.proofs.Committed.{committed_length}

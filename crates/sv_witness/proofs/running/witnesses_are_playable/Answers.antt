@@ -1,3 +1,4 @@
+-- A scenario can be run over a witnessing server, and the run is as it is said to be.
 use Rattle.sv_witness.proofs.Sound.{runs-playable, runs-witnessed}
 use Rattle.sv_witness.proofs.running.witnesses_are_playable.Goals as goal
 

@@ -1,3 +1,4 @@
+-- What a run on threads leaves is what its tasks left.
 use Rattle.std.proofs.Common.{rules, ◌++◌, [], ◌∷◌, length, reverse, sym, ap, subst, ◌∙◌, arith}
 use Rattle.std.specs.List.{flat_map}
 use denote.Param.Send.{sendable}

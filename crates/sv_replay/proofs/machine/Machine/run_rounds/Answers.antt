@@ -1,3 +1,4 @@
+-- A further round of a run that is done changes nothing.
 use Rattle.std.proofs.Common.{◌-◌, refl, arith}
 use Rattle.sv_scenario.specs.Sessions.{session_count}
 use Rattle.sv_schedule.specs.Players.{repeated}

@@ -1,3 +1,4 @@
+-- An action is made where there is room for it.
 use Rattle.std.proofs.Common.{◌≤◌, ◌<◌, false, length, sym, ap, ◌∙◌, subst, refl}
 use Rattle.std.proofs.lemmas.Result.{on_ok_weaker}
 use Rattle.sv_client.specs.declared.trace.Event.TheVariants as events
