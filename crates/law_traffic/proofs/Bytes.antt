@@ -6,7 +6,7 @@ use Rattle.std.proofs.lemmas.List.{map-append, length-map}
 use Rattle.std.proofs.lemmas.List.Elements.{recursion_from_All}
 use Rattle.std.proofs.lemmas.Option.{none-some}
 use mathlib.Core.List.{IsPrefix}
-use Rattle.sv_frame.specs.Streams.Incoming.{Payload}
+use Rattle.sv_frame.specs.Streams.StreamItem.{Payload}
 use Rattle.sv_link.specs.Ends.{Told}
 use Rattle.sv_link.specs.Nets.{counted}
 use Rattle.sv_wire.specs.declared.message.Request.{Request}

@@ -5,8 +5,8 @@ use Rattle.std.proofs.lemmas.List.{map-append, append_cancel_left}
 use Rattle.std.proofs.lemmas.Grind.{flat_map-append}
 use mathlib.Core.List.{IsPrefix}
 use Rattle.sv_frame.specs.Frames.{frame, frames_of, FitsFrame, too_long}
-use Rattle.sv_frame.specs.Streams.{split_frames, incoming_items, last_item}
-use Rattle.sv_frame.specs.Streams.Incoming.{Payload}
+use Rattle.sv_frame.specs.Streams.{split_frames, incoming_items, too_long_item}
+use Rattle.sv_frame.specs.Streams.StreamItem.{Payload}
 use Rattle.sv_frame.proofs.Splitting.{split-frames_of}
 use Rattle.sv_wire.specs.declared.fault.Malformed.{Malformed}
 use Rattle.sv_wire.specs.declared.message.Request.{Request}
@@ -102,8 +102,8 @@ pub record AreTaken (asked : List Request) (stream : List ℕ) : Type 0 where
 items_of : (stream : List ℕ) (payloads : List (List ℕ)) (c : IsCut payloads stream) → incoming_items stream ≡ map Payload c.taken
 unfolding incoming_items
 items_of stream payloads c =
-    ap (λ (split : List (List ℕ) × List ℕ). map Payload split.0 ++ last_item (too_long split.1)) c.split
-    ∙ (ap (λ o. map Payload c.taken ++ last_item o) c.none ∙ append-nil (map Payload c.taken))
+    ap (λ (split : List (List ℕ) × List ℕ). map Payload split.0 ++ too_long_item (too_long split.1)) c.split
+    ∙ (ap (λ o. map Payload c.taken ++ too_long_item o) c.none ∙ append-nil (map Payload c.taken))
 
 came_by : (stream : List ℕ) → requests_read stream ≡ map request_for (incoming_items stream)
 unfolding requests_read

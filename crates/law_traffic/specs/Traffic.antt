@@ -4,7 +4,7 @@ use Rattle.std.specs.Prelude.{◌≡◌, ◌⊎◌, ℕ, Bool, true, false, List
 use mathlib.Core.List.{IsPrefix}
 use Rattle.sv_frame.specs.Frames.{frames_of}
 use Rattle.sv_frame.specs.Streams.{incoming_items}
-use Rattle.sv_frame.specs.Streams.Incoming.{Payload}
+use Rattle.sv_frame.specs.Streams.StreamItem.{Payload}
 use Rattle.sv_link.specs.Nets.{Transcript}
 use Rattle.sv_wire.specs.declared.message.Request.{Request}
 use Rattle.sv_wire.specs.declared.message.Reply.{Reply}

@@ -1,8 +1,8 @@
 -- Which requests a stream begins with.
 use Rattle.std.proofs.Common.{◌≡◌, ℕ, List, [], ◌∷◌, ◌++◌, map, Some, None, refl, sym, ap, ◌∙◌, append_assoc, append-nil}
 use Rattle.sv_frame.specs.Frames.{first_frame, too_long}
-use Rattle.sv_frame.specs.Streams.{split_frames, with_first, incoming_items, last_item}
-use Rattle.sv_frame.specs.Streams.Incoming.{Payload}
+use Rattle.sv_frame.specs.Streams.{split_frames, with_first, incoming_items, too_long_item}
+use Rattle.sv_frame.specs.Streams.StreamItem.{Payload}
 use Rattle.sv_frame.proofs.Fronts.{first_frame-append, no_frame_if_too_long}
 use Rattle.sv_frame.proofs.Splitting.{split-none, split-some}
 use Rattle.sv_wire.specs.declared.message.Request.{Request}
@@ -13,11 +13,11 @@ use Rattle.sv_session.specs.Rounds.{BeginsWith}
 
 -- the requests of a stream, by what it splits into
 requests_by : List (List ℕ) × List ℕ → List Request
-requests_by split = map request_for (map Payload split.0 ++ last_item (too_long split.1))
+requests_by split = map request_for (map Payload split.0 ++ too_long_item (too_long split.1))
 
 by_split : (stream : List ℕ) (split : List (List ℕ) × List ℕ) → split_frames stream ≡ split → requests_read stream ≡ requests_by split
 unfolding requests_read incoming_items requests_by
-by_split stream split e = ap (λ (s : List (List ℕ) × List ℕ). map request_for (map Payload s.0 ++ last_item (too_long s.1))) e
+by_split stream split e = ap (λ (s : List (List ℕ) × List ℕ). map request_for (map Payload s.0 ++ too_long_item (too_long s.1))) e
 
 one_more : (payload : List ℕ) (split : List (List ℕ) × List ℕ) → requests_by (with_first payload split) ≡ read_or_bad (request_at payload) ∷ requests_by split
 unfolding requests_by
@@ -39,7 +39,7 @@ begins_with_frame stream payload after e =
 -- a length over the limit is taken for one request
 last_request : (rest : List ℕ) (n : ℕ) → too_long rest ≡ Some n → requests_by ([], rest) ≡ requests.Bad ∷ []
 unfolding requests_by
-last_request rest n e = ap (λ o. map request_for (last_item o)) e
+last_request rest n e = ap (λ o. map request_for (too_long_item o)) e
 
 pub long_is_bad : (stream : List ℕ) (n : ℕ) → too_long stream ≡ Some n → requests_read stream ≡ requests.Bad ∷ []
 long_is_bad stream n e = by_split stream ([], stream) (split-none stream (no_frame_if_too_long stream n e)) ∙ last_request stream n e
@@ -47,7 +47,7 @@ long_is_bad stream n e = by_split stream ([], stream) (split-none stream (no_fra
 -- less than a frame has no request
 no_request : (rest : List ℕ) → too_long rest ≡ None → requests_by ([], rest) ≡ []
 unfolding requests_by
-no_request rest e = ap (λ o. map request_for (last_item o)) e
+no_request rest e = ap (λ o. map request_for (too_long_item o)) e
 
 pub none_yet : (stream : List ℕ) → first_frame stream ≡ None → too_long stream ≡ None → requests_read stream ≡ []
 none_yet stream no_frame no_length = by_split stream ([], stream) (split-none stream no_frame) ∙ no_request stream no_length

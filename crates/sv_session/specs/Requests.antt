@@ -1,8 +1,8 @@
 -- The requests in the bytes that come, the bytes of the replies, and which replies stop a session.
 use Rattle.std.specs.Prelude.{◌≡◌, ℕ, ◌==◌, ◌++◌, List, [], ◌∷◌, map, reverse, Option, Some, None, Result, Ok, Err, if◌then◌else◌}
 use Rattle.sv_frame.specs.Frames.{frames_of}
-use Rattle.sv_frame.specs.Streams.{Incoming, incoming_items}
-use Rattle.sv_frame.specs.Streams.Incoming.{Payload, TooLong}
+use Rattle.sv_frame.specs.Streams.{StreamItem, incoming_items}
+use Rattle.sv_frame.specs.Streams.StreamItem.{Payload, TooLong}
 use Rattle.sv_wire.specs.declared.fault.Malformed.{Malformed}
 use Rattle.sv_wire.specs.declared.message.Request.{Request}
 use Rattle.sv_wire.specs.declared.message.Request.TheVariants as requests
@@ -25,7 +25,7 @@ read_or_bad (Ok request) = request
 read_or_bad (Err fault) = requests.Bad
 
 -- the request that is taken for what came: for a payload, or for a length over the limit
-abbrev pub request_for : Incoming → Request
+abbrev pub request_for : StreamItem → Request
 request_for (Payload payload) = read_or_bad (request_at payload)
 request_for (TooLong n) = requests.Bad
 

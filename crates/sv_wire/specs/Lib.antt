@@ -1,3 +1,4 @@
+-- The definitions of this crate, file by file.
 pub mod Steps
 pub mod Refusals
 pub mod Fields

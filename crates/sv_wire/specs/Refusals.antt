@@ -15,3 +15,7 @@ code_of refusals.BadInterest = 8
 code_of refusals.TooManyRequests = 9
 code_of refusals.NoSuchClient = 10
 code_of refusals.OldLife = 11
+
+-- The greatest code.
+abbrev pub last_code : ℕ
+last_code = 11

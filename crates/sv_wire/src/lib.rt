@@ -25,7 +25,7 @@ pub use copying::{copy_head, copy_reply, copy_request};
 pub use decoding::{decode_reply, decode_request};
 pub use encoding::{encode_reply, encode_reply_into, encode_request, encode_request_into};
 pub use fault::{Malformed, WireCause, WireFault};
-pub use laws::{encoded_is_read_back, no_frame_begins_another, one_payload};
+pub use laws::{encoded_is_read_back, no_payload_begins_another, one_payload};
 pub use message::{Done1, Held, Item, Reply, Request};
 pub use numbers::{read_action, read_reply, read_request, read_values};
 pub use refusal::Refusal;

@@ -1,3 +1,4 @@
+//! Requests, which clients send, and replies, which the server sends.
 use sv_world::{Action, ClientId, List, ObjectId, Value};
 
 /// The value of an object.

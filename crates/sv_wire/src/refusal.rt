@@ -29,6 +29,9 @@ pub enum Refusal {
     OldLife,
 }
 
+/// The greatest code.
+pub(crate) const LAST_CODE: u8 = 11;
+
 impl Refusal {
     /// The code of a refusal, from 1.
     pub fn code(self) -> u8

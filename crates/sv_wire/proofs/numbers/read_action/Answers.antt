@@ -1,3 +1,4 @@
+-- What is proved by hand of `read_action`.
 use Rattle.std.proofs.Common.{subst}
 use Rattle.std.specs.Prelude.{All}
 use Rattle.std.proofs.lemmas.List.Elements.{recursion_from_All}

@@ -1,3 +1,4 @@
+-- The loop invariant of `read_objects`.
 use Rattle.std.proofs.Common.{ℕ, ◌<◌, get_or}
 use Rattle.sv_world.specs.declared.world.ObjectId.{ObjectId}
 use Rattle.sv_world.specs.Ranges.{ObjectFits}

@@ -1,6 +1,7 @@
+-- What is proved by hand of `arrived`.
 use Rattle.std.proofs.Common.{rules}
 use Rattle.sv_link.proofs.Arrivals.{prefix_decided, whole_by_length}
-use Rattle.sv_link.proofs.book.arrived.Goals as goal
+use Rattle.sv_link.proofs.pairs.arrived.Goals as goal
 
 pub returns-then-not-ended : goal.returns-then-not-ended
 returns-then-not-ended c =

@@ -1,5 +1,6 @@
-use Rattle.sv_wire.proofs.AgainMessages.{request_frames_differ, reply_frames_differ, kinds_differ}
-use Rattle.sv_wire.proofs.laws.no_frame_begins_another.Goals as goal
+-- What is proved by hand of `no_frame_begins_another`.
+use Rattle.sv_exchange.proofs.Apart.{request_frames_differ, reply_frames_differ, kinds_differ}
+use Rattle.sv_exchange.proofs.laws.no_frame_begins_another.Goals as goal
 
 pub returns-clause-requests : goal.returns-clause-requests
 returns-clause-requests c = request_frames_differ
