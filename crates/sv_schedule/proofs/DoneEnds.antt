@@ -21,7 +21,7 @@ use Rattle.sv_schedule.specs.Serving.{Run, after_clients}
 use Rattle.sv_schedule.specs.Schedule.{rules_of, plain_server, round, after_sessions}
 use Rattle.sv_schedule.specs.Sound.{IsPlaying, ArePlaying, IsSound}
 use Rattle.sv_system.specs.Records.{ends_in}
-use Rattle.sv_schedule.specs.Done.{IsDone}
+use Rattle.sv_schedule.specs.Done.{IsRunDone}
 use Rattle.sv_schedule.proofs.DoneGiven.{NeverRefused, StaySound}
 use Rattle.sv_schedule.proofs.DoneLists.{repeated-sum, repeated-still, map-from, any-there, each-found, each-from}
 use Rattle.sv_schedule.proofs.DoneSessions.{quiet-round}
@@ -114,7 +114,7 @@ clients-closed run closed i q at =
 
 -- Then a round ends all sessions.
 pub closed-done : (scenario : Scenario) → IsGoodScenario scenario → StaySound scenario → (run : Run) → IsGoing scenario run → AreClosed run →
-    IsDone scenario (round (rules_of scenario) run)
+    IsRunDone scenario (round (rules_of scenario) run)
 closed-done scenario good stay run g closed = record {
   closed = All-from_recursion (λ (p : Player). p.closed ≡ true) (round (rules_of scenario) run).players
       (each-from (λ (p : Player). p.closed ≡ true) (round (rules_of scenario) run).players (round-closed (rules_of scenario) run closed));
@@ -131,7 +131,7 @@ closed-done scenario good stay run g closed = record {
 -- ---- So many rounds are enough
 
 pub rounds-done : (scenario : Scenario) → IsGoodScenario scenario → NeverRefused → StaySound scenario → (run : Run) → IsGoing scenario run → (n : ℕ) → 777 ≤ n →
-    IsDone scenario (repeated n (round (rules_of scenario)) run)
+    IsRunDone scenario (repeated n (round (rules_of scenario)) run)
 rounds-done scenario good honest stay run g n l =
     let f : Run → Run = round (rules_of scenario) in
     let first : Run = f run in
@@ -139,11 +139,11 @@ rounds-done scenario good honest stay run g n l =
     let g1 : IsGoing scenario first = going-round scenario good stay run g in
     let g2 : IsGoing scenario closing = going-rounds scenario good honest stay 775 first g1 in
     let closed : AreClosed closing = fallen-closed scenario good honest stay closing (falling-rounds scenario good honest stay 775 first g1 (falling-first scenario good honest stay run g)) in
-    let done : IsDone scenario (f closing) = closed-done scenario good stay closing g2 closed in
+    let done : IsRunDone scenario (f closing) = closed-done scenario good stay closing g2 closed in
     let split : n ≡ suc (775 + suc (n - 777)) = omega (arith, l) in
     let there : repeated n f run ≡ f closing =
     ap (λ (k : ℕ). repeated k f run) split ∙ repeated-sum 775 (suc (n - 777)) f first ∙ repeated-still (n - 777) f (f closing) (round-still (plain_server (rules_of scenario)) scenario (f closing) done) in
-    subst (IsDone scenario) (sym there) done
+    subst (IsRunDone scenario) (sym there) done
 
 -- ---- Ends
 
