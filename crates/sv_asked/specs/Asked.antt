@@ -12,7 +12,8 @@ use Rattle.sv_client.specs.declared.trace.Event.{Event}
 use Rattle.sv_client.specs.declared.trace.Event.TheVariants as events
 use Rattle.sv_client.specs.declared.trace.Trace.{Trace}
 use Rattle.sv_client.specs.Traces.{held_of, requests_of}
-use Rattle.sv_system.specs.Fits.{FitsOne, Fits}
+use Rattle.sv_system.specs.Fits.{Fits}
+use Rattle.sv_system.specs.Served.{FitsButValues}
 use Rattle.sv_system.specs.Serial.{AreSerial}
 
 -- The numbers of an action that is made are those of their types.
@@ -45,11 +46,11 @@ RepliesAreMessages = (r : Rules) (h : List Entry) → AreWithinLimits r → r.wo
 
 -- ---- Any keeping
 
--- Each request of a client whose trace fits the journal, and who holds serial values, is a message, with numbers of its types. Nothing is asked of
--- the other clients, but that the actions that they made have numbers of their types.
+-- Each request of a client whose trace fits the journal but for the values that it reports, and who holds serial values, is a message, with numbers
+-- of its types. Nothing is asked of the other clients, but that the actions that they made have numbers of their types.
 abbrev pub ServedRequestsFit : Type 0
 ServedRequestsFit = (k : Keeping) (r : Rules) (h : List Entry) (L : Trace) (s : ℕ) → IsKeeping k → AreWithinLimits r → HasNumbers r h (L ∷ []) →
-    All ActionFits (actions_of h) → LegalFor k r h → FitsOne r.world.shape h L → AreSerial r.world.values (actions_of h) (held_of (reverse L.events)) →
+    All ActionFits (actions_of h) → LegalFor k r h → FitsButValues r.world.shape h L → AreSerial r.world.values (actions_of h) (held_of (reverse L.events)) →
     All IsRequest (requests_of L s)
 
 abbrev pub ServedAcceptedAreFew : Type 0

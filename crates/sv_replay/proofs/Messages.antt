@@ -1,13 +1,11 @@
 -- A scenario can be run over the server that answers by the table: whatever is asked and replied in a sound run is a message, and no client refuses its
 -- next reply.
-use Rattle.std.proofs.Common.{◌≡◌, ℕ, ◌^◌, ◌≤◌, true, inl, inr, List, [], ◌∷◌, length, Some, None, slice_get, refl, sym, subst, arith, true≢false}
+use Rattle.std.proofs.Common.{◌≡◌, ℕ, ◌^◌, ◌≤◌, true, inl, inr, List, [], ◌∷◌, length, Some, None, slice_get, refl, subst, arith}
 use Rattle.std.specs.Prelude.{All}
 use Rattle.std.specs.List.{list_any, AllByRecursion}
 use Rattle.std.proofs.lemmas.Bool.{cases_Bool}
 use Rattle.std.proofs.lemmas.List.{reverse-reverse}
 use Rattle.std.proofs.lemmas.List.Elements.{recursion_from_All, All-from_recursion}
-use Rattle.sv_wire.specs.declared.message.Request.{Request}
-use Rattle.sv_wire.specs.declared.message.Request.TheVariants as requests
 use Rattle.sv_wire.specs.declared.message.Reply.{Reply}
 use Rattle.sv_wire.specs.Laws.{IsRequest, IsReply}
 use Rattle.sv_wire.specs.Ranges.{RequestFits}
@@ -29,7 +27,7 @@ use Rattle.sv_system.proofs.Histories.{IsEarlier, same, earlier-rest}
 use Rattle.sv_system.proofs.Entered.{of-from, request-there}
 use Rattle.sv_asked.specs.Asked.{EventFits, HasNumbers, RequestsAreMessages, RepliesAreMessages, AcceptedAreFew}
 use Rattle.sv_asked.proofs.Every.{each-at}
-use Rattle.sv_asked.proofs.Owned.{entry-at}
+use Rattle.sv_asked.proofs.Owned.{entry-at, end-fits}
 use Rattle.sv_schedule.specs.Players.{Player, trace_of_player}
 use Rattle.sv_schedule.specs.Serving.{Run, Server, traces_of}
 use Rattle.sv_schedule.specs.Schedule.{rules_of, plain_server}
@@ -46,17 +44,6 @@ use Rattle.sv_replay.specs.Playable.{IsPlayable}
 use Rattle.sv_replay.proofs.Scripts.{players_made}
 use Rattle.sv_replay.proofs.Machines.{get_map}
 use Rattle.sv_replay.proofs.Lengths.{owner_of, history_few}
-
--- ---- A request that a player did not ask is an End
-
-end_fits : (q : Request) → is_end q ≡ true → RequestFits q
-end_fits requests.End e = tt
-end_fits (requests.Join client life interest) e = absurd (true≢false (sym e))
-end_fits (requests.Submit seq action) e = absurd (true≢false (sym e))
-end_fits (requests.Done results) e = absurd (true≢false (sym e))
-end_fits requests.Poll e = tt
-end_fits requests.Leave e = tt
-end_fits requests.Bad e = tt
 
 -- ---- A run
 
@@ -97,7 +84,7 @@ module _ (scenario : Scenario) (run : Run) (good : IsGoodScenario scenario) (num
     entry_fits : (e : Entry) (g : List Entry) → IsEarlier (e ∷ g) H → RequestFits e.request
     entry_fits e g b =
         elim (cases_Bool (is_end e.request)) [
-          | inl y ↦ end_fits e.request y
+          | inl y ↦ end-fits e.request y
           | inr n ↦
               (let begun = entry-at (λ (d : Entry). list_any (λ (p : Player). has_joined p d.session) run.players ≡ true) e g H b (recursion_from_All _ H sound.begun) in
               let o = owner_of run.players e.session begun in

@@ -1,5 +1,5 @@
 -- The relay that answers a client's Submit ends with the submitted action, as the client's own.
-use Rattle.std.proofs.Common.{◌≡◌, ℕ, suc, ◌<◌, ◌≤◌, true, false, ◌==◌, ◌&&◌, inl, inr, List, [], ◌∷◌, ◌++◌, map, reverse, length, Option, Some, refl, sym, ap, ap₂, ◌∙◌, subst, arith, eq-eqb, true≢false, append-nil}
+use Rattle.std.proofs.Common.{◌≡◌, ℕ, suc, ◌<◌, true, false, ◌==◌, ◌&&◌, inl, inr, List, [], ◌∷◌, ◌++◌, map, reverse, length, Option, Some, refl, sym, ap, ap₂, ◌∙◌, subst, arith, eq-eqb, true≢false, append-nil}
 use Rattle.std.proofs.lemmas.Bool.{cond-true, cond-false, cases_Bool, and_from, false_from_ne_true}
 use Rattle.sv_world.specs.Control.{is_in, blank}
 use Rattle.sv_world.specs.declared.action.Action.{Action}

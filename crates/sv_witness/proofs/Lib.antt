@@ -22,7 +22,6 @@ mod Decided
 mod Stepped
 mod Installed
 mod Heard
-mod Sent
 mod Sound
 mod Ran
 mod Endings

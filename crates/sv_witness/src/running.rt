@@ -11,8 +11,8 @@ use crate::liar::Lying;
 use crate::lines::run_lines;
 use crate::witness::Witness;
 use std::alloc::{AllocError, Global};
-use sv_asked::{read_scenario_numbers, served_replies_fit};
-use sv_journal::{served_actions_are_good, served_relays_are_small, served_relays_name_accepted};
+use sv_asked::{read_scenario_numbers, served_replies_fit, served_requests_fit};
+use sv_journal::served_relays_name_accepted;
 use sv_replay::{Ran, committed_values, made_actions_fit, opening_world, run_over};
 use sv_scenario::{Scenario, sessions_of};
 
@@ -23,8 +23,7 @@ fn witnesses_are_playable()
 {
     made_actions_fit();
     served_relays_name_accepted();
-    served_relays_are_small();
-    served_actions_are_good();
+    served_requests_fit();
     served_replies_fit();
 }
 
