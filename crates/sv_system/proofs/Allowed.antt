@@ -54,7 +54,7 @@ use Rattle.sv_system.proofs.Induction.{accepted-good, plain-acts, well-after}
 use Rattle.sv_system.proofs.Opened.{asks, asks-other}
 use Rattle.sv_system.proofs.Begun.{replied, join-welcomed}
 use Rattle.sv_system.proofs.Before.{got-at, welcomed-now}
-use Rattle.sv_system.proofs.Window.{numbered-well}
+use Rattle.sv_system.proofs.Numbering.{numbered-well}
 use Rattle.sv_system.proofs.Dones.{sent-now, sent-stays, good-done}
 
 -- ---- What a trace asks
@@ -270,7 +270,7 @@ module _ (truthful : Truthful) where
       let there : slice_get (got whole s) m ≡ Some reply =
       got-part who L.first v whole d.part s m reply (ap (λ (rs : List Reply). slice_get rs m) (cond-true (s == s) (got t s ++ reply ∷ []) (got t s) (eq-eqb s s refl)) ∙ get-last (got t s) reply) in
       let x = got-at awaited s m reply there in
-      let bx : IsEarlier (x.entry ∷ x.before) H = earlier-then (x.entry ∷ x.before) g H x.there earlier in
+      let bx : IsEarlier (x.entry ∷ x.before) H = earlier-then (x.entry ∷ x.before) g H x.earlier earlier in
       let lx : LegalFor K r (x.entry ∷ x.before) = earlier-served K r (x.entry ∷ x.before) H bx legal in
       let ks = positions_in x.entry.reply in
       let items : d.items ≡ map (item_at A) ks = ap items_of x.replied ∙ items-logged A x.entry.reply in
@@ -290,10 +290,10 @@ module _ (truthful : Truthful) where
         low.1 j m,
         (
           (let w : j ≤ length (accepted (x.entry ∷ x.before)) = positions-within K keeps r x.entry x.before lx x.entry.reply refl j m in
-              let grows : length (accepted (x.entry ∷ x.before)) ≤ length (accepted g) = accepted-grows (x.entry ∷ x.before) g x.there in
+              let grows : length (accepted (x.entry ∷ x.before)) ≤ length (accepted g) = accepted-grows (x.entry ∷ x.before) g x.earlier in
               let all : length (accepted (K.kept g)) ≡ length (accepted g) = ap length (accepted-kept K keeps g) in
               omega arith),
-          ap (is_in j) (sent-kept K keeps g s) ∙ sent-stays (x.entry ∷ x.before) g x.there s j (sent-now x.entry x.before s j session m),
+          ap (is_in j) (sent-kept K keeps g s) ∙ sent-stays (x.entry ∷ x.before) g x.earlier s j (sent-now x.entry x.before s j session m),
         ),
       ))
       (subst (λ (is : List Item). AllByRecursion (IsSerialResult r.world.values (actions_of H)) (results_of held is)) items well.reported.0))

@@ -25,6 +25,7 @@ pub mod Made
 pub mod NeverSent
 pub mod NextReply
 pub mod NonEmpty
+pub mod Numbering
 pub mod Opened
 pub mod Order
 pub mod Ordered
