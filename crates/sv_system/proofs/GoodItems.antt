@@ -1,5 +1,5 @@
 -- The next reply to a client has no bad item.
-use Rattle.std.proofs.Common.{◌≡◌, ℕ, zero, suc, ◌<◌, ◌≤◌, Bool, true, false, not, ◌||◌, ◌==◌, nat_le, nat_lt, inl, inr, List, [], ◌∷◌, map, reverse, length, Option, Some, None, is_none, refl, sym, ap, ◌∙◌, subst, arith, eq-eqb, true≢false}
+use Rattle.std.proofs.Common.{◌≡◌, ℕ, zero, suc, ◌<◌, ◌≤◌, true, false, not, ◌||◌, ◌==◌, nat_le, nat_lt, inl, inr, List, [], ◌∷◌, map, reverse, length, Option, Some, None, is_none, refl, sym, ap, ◌∙◌, subst, arith, eq-eqb}
 use Rattle.std.specs.List.{list_any, AllByRecursion}
 use Rattle.std.proofs.lemmas.Bool.{cond_both, or_from, and_from, ne_eqb, not_from_true}
 use Rattle.std.proofs.lemmas.List.Elements.{All-from_recursion, recursion_from_All}
@@ -28,7 +28,7 @@ use Rattle.sv_client.specs.Taking.{Identity, is_bad_head, is_for_front, ends_wit
 use Rattle.sv_client.specs.Proper.{identity_of}
 use Rattle.sv_system.specs.Served.{FitsButValues}
 use Rattle.sv_system.proofs.Awaited.{Truthful}
-use Rattle.sv_system.proofs.Tests.{each-is_in}
+use Rattle.sv_system.proofs.Tests.{each-is_in, three-false}
 use Rattle.sv_system.proofs.Histories.{IsEarlier, earlier-rest, earlier-served, accepted-grows}
 use Rattle.sv_system.proofs.Replies.{AnswersSubmit, AnswersKept, TellsFor, IsRelayReply, IsWelcomeReply, served-tells}
 use Rattle.sv_system.proofs.Lawful.{IsLegalRelay, legal-relay, positions-within}
@@ -41,12 +41,6 @@ use Rattle.sv_system.proofs.NonEmpty.{positions-some}
 use Rattle.sv_system.proofs.Allowed.{polled, positions-low, worlds-shaped, member-reply}
 use Rattle.sv_system.proofs.Heads.{good-head}
 use Rattle.sv_system.proofs.Own.{front-for, submit-ends}
-
-three-false : (a b c : Bool) → a ≡ false → b ≡ false → c ≡ false → (a || b || c) ≡ false
-three-false true b c d e f = absurd (true≢false d)
-three-false false true c d e f = absurd (true≢false e)
-three-false false false true d e f = absurd (true≢false f)
-three-false false false false d e f = refl
 
 -- The reply names the number, where it names one.
 abbrev IsFor : ℕ → Logged → Type 0

@@ -1,5 +1,5 @@
 -- The next reply to a client is in order, and brings each value that its items read.
-use Rattle.std.proofs.Common.{◌≡◌, ℕ, ◌<◌, ◌≤◌, Bool, true, false, not, ◌||◌, ◌==◌, inl, inr, List, [], ◌∷◌, ◌++◌, map, reverse, length, Option, Some, None, option_map, is_none, refl, sym, ap, ◌∙◌, subst, arith, eq-eqb, true≢false, le-ltb}
+use Rattle.std.proofs.Common.{◌≡◌, ℕ, ◌<◌, ◌≤◌, true, false, not, ◌==◌, inl, inr, List, [], ◌∷◌, ◌++◌, map, reverse, length, Option, Some, None, option_map, is_none, refl, sym, ap, ◌∙◌, subst, arith, eq-eqb, le-ltb}
 use Rattle.std.specs.List.{AllByRecursion}
 use Rattle.std.proofs.lemmas.Bool.{cond-true, cond-false, cases_eq, lt-leb, not_from_true, ne_eqb}
 use Rattle.std.proofs.lemmas.List.Elements.{recursion_from_All}
@@ -33,6 +33,7 @@ use Rattle.sv_system.specs.Served.{FitsButValues}
 use Rattle.sv_system.specs.Journals.{ResultsAreSerial}
 use Rattle.sv_system.specs.Serial.{is_covered, AreSupplied, IsSufficient}
 use Rattle.sv_system.specs.Delivery.{head_objects}
+use Rattle.sv_system.proofs.Tests.{four-false}
 use Rattle.sv_system.proofs.Awaited.{Awaited}
 use Rattle.sv_system.proofs.Covers.{covered-found}
 use Rattle.sv_system.proofs.Histories.{IsEarlier, same, earlier-rest, earlier-served}
@@ -44,13 +45,6 @@ use Rattle.sv_system.proofs.Order.{got-replied}
 use Rattle.sv_system.proofs.Induction.{well-after}
 use Rattle.sv_system.proofs.Begun.{join-welcomed}
 use Rattle.sv_system.proofs.Before.{noted-commit, got-same, told-before}
-
-four-false : (a b c d : Bool) → a ≡ false → b ≡ false → c ≡ false → d ≡ false → (a || b || c || d) ≡ false
-four-false true b c d e f g h = absurd (true≢false e)
-four-false false true c d e f g h = absurd (true≢false f)
-four-false false false true d e f g h = absurd (true≢false g)
-four-false false false false true e f g h = absurd (true≢false h)
-four-false false false false false e f g h = refl
 
 pub positions-back : (A : List Authored) (ks : List ℕ) → map (λ (i : Item). i.pos) (map (item_at A) ks) ≡ ks
 positions-back A [] = refl
