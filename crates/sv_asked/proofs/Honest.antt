@@ -20,7 +20,7 @@ use Rattle.sv_wire.specs.Ranges.{ValueFits, ActionFits}
 use Rattle.sv_wire.specs.Laws.{IsRequest}
 use Rattle.sv_journal.specs.declared.entry.Entry.{Entry}
 use Rattle.sv_journal.specs.History.{Authored, accepted, actions_of}
-use Rattle.sv_journal.specs.Answer.{Rules, Legal}
+use Rattle.sv_journal.specs.Answer.{Rules}
 use Rattle.sv_journal.specs.Serving.{plain}
 use Rattle.sv_journal.specs.Sessions.{positions_in}
 use Rattle.sv_journal.specs.Text.{NamesAccepted}
@@ -32,9 +32,10 @@ use Rattle.sv_client.specs.declared.trace.Trace.{Trace}
 use Rattle.sv_client.specs.Traces.{joins, makes, held_of, requests_of}
 use Rattle.sv_client.specs.Taking.{Identity}
 use Rattle.sv_client.specs.Proper.{AreProper, IsGoodIdentity, identity_of}
-use Rattle.sv_system.specs.Fits.{FitsOne, Fits}
+use Rattle.sv_system.specs.Fits.{FitsOne}
 use Rattle.sv_system.specs.Served.{FitsButValues}
-use Rattle.sv_system.specs.Serial.{AreSerial, ValuesAreSerial}
+use Rattle.sv_system.specs.Laws.{ReplicasAreSerial}
+use Rattle.sv_system.specs.Serial.{AreSerial}
 use Rattle.sv_system.proofs.Asking.{fits-but_values}
 use Rattle.sv_system.proofs.Asked.{done-when}
 use Rattle.sv_system.proofs.Leaving.{join-asked}
@@ -46,10 +47,6 @@ use Rattle.sv_asked.proofs.Made.{Makes, Asks, asked-have}
 use Rattle.sv_asked.proofs.Owned.{actions-fit}
 use Rattle.sv_asked.proofs.Items.{relay-items}
 use Rattle.sv_asked.proofs.Reported.{IsFineItem, done-is}
-
--- A law of the crate below.
-abbrev pub ReplicasAreSerial : Type 0
-ReplicasAreSerial = (r : Rules) (h : List Entry) (Ls : List Trace) → length r.world.values ≡ r.world.shape.objects → Legal r h → Fits r.world.shape h Ls → ValuesAreSerial r.world.values h Ls
 
 -- ---- Counts
 

@@ -23,6 +23,7 @@ use Rattle.sv_scenario.specs.Limits.{IsGoodScenario}
 use Rattle.sv_scenario.specs.Sessions.{session_count}
 use Rattle.sv_asked.specs.Numbers.{PlanFits, ScenarioFits}
 use Rattle.sv_system.specs.Fits.{requests_in, replies_in}
+use Rattle.sv_system.specs.Laws.{NeverRefused}
 use Rattle.sv_system.proofs.Histories.{IsEarlier, same, earlier-rest}
 use Rattle.sv_system.proofs.Entered.{of-from, request-there}
 use Rattle.sv_asked.specs.Asked.{EventFits, HasNumbers, RequestsAreMessages, RepliesAreMessages, AcceptedAreFew}
@@ -34,7 +35,6 @@ use Rattle.sv_schedule.specs.Schedule.{rules_of, plain_server}
 use Rattle.sv_schedule.specs.Sound.{IsSound, has_joined}
 use Rattle.sv_schedule.specs.Served.{IsSoundOver}
 use Rattle.sv_schedule.proofs.SoundPlain.{plain-keeps, sound-plain}
-use Rattle.sv_schedule.proofs.DoneGiven.{NeverRefused}
 use Rattle.sv_schedule.proofs.DoneCounts.{asked-few}
 use Rattle.sv_schedule.proofs.DoneFacts.{following, next-taken}
 use Rattle.sv_schedule.proofs.SoundCalls.{player-at}

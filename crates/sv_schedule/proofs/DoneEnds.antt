@@ -16,13 +16,14 @@ use Rattle.sv_scenario.specs.Limits.{IsGoodPlan, IsGoodScenario}
 use Rattle.sv_scenario.specs.Sessions.{sessions_of_plan, sessions_in, session_count}
 use Rattle.sv_script.proofs.Ends.{none-left}
 use Rattle.sv_system.specs.Fits.{IsEndLast, is_join_of}
+use Rattle.sv_system.specs.Laws.{NeverRefused}
 use Rattle.sv_schedule.specs.Players.{Player, open_session, has_closed, player_turn, take_turns, repeated}
 use Rattle.sv_schedule.specs.Serving.{Run, after_clients}
 use Rattle.sv_schedule.specs.Schedule.{rules_of, plain_server, round, after_sessions}
 use Rattle.sv_schedule.specs.Sound.{IsPlaying, ArePlaying, IsSound}
 use Rattle.sv_system.specs.Records.{ends_in}
 use Rattle.sv_schedule.specs.Done.{IsRunDone}
-use Rattle.sv_schedule.proofs.DoneGiven.{NeverRefused, StaySound}
+use Rattle.sv_schedule.proofs.DoneGiven.{StaySound}
 use Rattle.sv_schedule.proofs.DoneLists.{repeated-sum, repeated-still, map-from, any-there, each-found, each-from}
 use Rattle.sv_schedule.proofs.DoneSessions.{quiet-round}
 use Rattle.sv_schedule.proofs.DoneStill.{round-still}

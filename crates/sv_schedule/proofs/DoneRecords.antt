@@ -12,12 +12,13 @@ use Rattle.sv_scenario.specs.Limits.{IsGoodScenario}
 use Rattle.sv_scenario.specs.Sessions.{sessions_of_plan}
 use Rattle.sv_script.specs.Following.{FollowsTo, FollowsToEnd, is_finished}
 use Rattle.sv_system.specs.Records.{AreTracesOf, IsRecordOf, ScriptsAreFollowed}
+use Rattle.sv_system.specs.Laws.{NeverRefused}
 use Rattle.sv_schedule.specs.Players.{Player, repeated, trace_of_player}
 use Rattle.sv_schedule.specs.Serving.{Run, opening_run, most_rounds, traces_of}
 use Rattle.sv_schedule.specs.Schedule.{rules_of, all_turned, round, scheduled_run}
 use Rattle.sv_schedule.specs.Sound.{IsPlaying, ArePlaying, IsSound}
 use Rattle.sv_schedule.specs.Done.{IsRunDone}
-use Rattle.sv_schedule.proofs.DoneGiven.{NeverRefused, StaySound}
+use Rattle.sv_schedule.proofs.DoneGiven.{StaySound}
 use Rattle.sv_schedule.proofs.DoneLists.{each-found}
 use Rattle.sv_schedule.proofs.DoneFacts.{following, same-who, same-events}
 use Rattle.sv_schedule.proofs.DoneRounds.{IsGoing, going-turned, going-rounds}

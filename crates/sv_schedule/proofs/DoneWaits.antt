@@ -32,11 +32,12 @@ use Rattle.sv_system.proofs.Histories.{IsEarlier, same, after}
 use Rattle.sv_system.proofs.Entered.{is_of, as-many, replies-earlier}
 use Rattle.sv_system.proofs.Asked.{part-rest, asked-part, got-when, got-answers, begun-or_not, current-joined}
 use Rattle.sv_system.proofs.Leaving.{leave-last}
+use Rattle.sv_system.specs.Laws.{NeverRefused}
 use Rattle.sv_schedule.specs.Players.{Player, open_session, has_closed, take_turns}
 use Rattle.sv_schedule.specs.Serving.{Run, is_stop, after_takes}
 use Rattle.sv_schedule.specs.Schedule.{rules_of, after_sessions}
 use Rattle.sv_schedule.specs.Sound.{IsSound}
-use Rattle.sv_schedule.proofs.DoneGiven.{NeverRefused, StaySound}
+use Rattle.sv_schedule.proofs.DoneGiven.{StaySound}
 use Rattle.sv_schedule.proofs.DoneLists.{map-here, any-found, piece-shorter}
 use Rattle.sv_schedule.proofs.DoneSessions.{is_spent, IsQuiet, quiet-round}
 use Rattle.sv_schedule.proofs.DoneDue.{EndsAreDue, due-round}
