@@ -1,3 +1,5 @@
+pub mod Lines
 pub mod Reading
 pub mod Numbers
 pub mod Statuses
+pub mod Endings
