@@ -10,8 +10,8 @@ use Rattle.sv_command.specs.Endings.{IsMade, IsPrinted, IsCutShort, Ends, OrWord
 use Rattle.sv_command.proofs.Counts.{came}
 
 -- There is no text, for a cause that came by a `?`.
-pub early_by : {E : Type 0} (IsText : List ℕ → Type 0) (EndsEarly : E → Type 0) (r : Result (String Global) E) (e : E) → IsErrAnd r (λ x. x ≡ e) → EndsEarly e → IsMade IsText EndsEarly r
-early_by IsText EndsEarly r e by h = rw (came r e by) h
+pub early_made : {E : Type 0} (IsText : List ℕ → Type 0) (EndsEarly : E → Type 0) (r : Result (String Global) E) (e : E) → IsErrAnd r (λ x. x ≡ e) → EndsEarly e → IsMade IsText EndsEarly r
+early_made IsText EndsEarly r e by h = rw (came r e by) h
 
 module _ (IsText : List ℕ → Type 0) (old now : Option (List ℕ)) (text bytes : List ℕ) (same : bytes ≡ text) (told : IsText text) where
   -- The text was written.

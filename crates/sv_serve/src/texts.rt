@@ -1,10 +1,11 @@
 //! The text that tells what was served.
 ghost use Rattle.std.specs.Prelude.{◌≡◌, ◌≢◌, ℕ, Some, Err, IfOk, string_bytes};
+ghost use Rattle.sv_command.specs.Endings.{IsMade};
 ghost use Rattle.sv_command.specs.Statuses.{counts, Raises, ending_of, status_of};
 ghost use Rattle.sv_sequencer.specs.Step.{history};
 ghost use Rattle.sv_serve.specs.Giving.{doorway};
 ghost use Rattle.sv_serve.specs.Hosting.{moved};
-ghost use Rattle.sv_serve.specs.Statuses.{ending_of_fault, hosted_text, GivesBackBut, IsMade, LeavesAlone};
+ghost use Rattle.sv_serve.specs.Statuses.{ending_of_fault, hosted_text, EndsEarly, GivesBackBut, IsText, LeavesAlone};
 
 use crate::hosting::serve_scenario;
 use crate::words::Command;
@@ -52,7 +53,8 @@ pub(crate) fn served_text<F: Files, D: Door, C: Crew, G: Gate + Sync, R: Threads
     crew: &mut C,
     gate: &G,
 ) -> Result<String, Ending>
-    ensures made { IsMade (F.contents files.old command.entry.file.now) (moved (D.given door.old) (D.given door.new) (C.ran crew.old) (C.ran crew.new)) result }
+    ensures made { IsMade (IsText (F.contents files.old command.entry.file.now) (moved (D.given door.old) (D.given door.new) (C.ran crew.old) (C.ran crew.new)))
+        (EndsEarly (F.contents files.old command.entry.file.now)) result }
     ensures raises { (k : ℕ) → Raises (counts (F.faults files.old) (C.faults crew.old) (D.faults door.old) k) (counts (F.faults files.new) (C.faults crew.new) (D.faults door.new) k) (ending_of result) }
     ensures sure { F.sure files.old command.entry.file.now → result ≢ Err Ending.File }
     ensures certain { D.sure door.old command.entry.port → result ≢ Err Ending.Link }
