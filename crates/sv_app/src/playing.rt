@@ -11,7 +11,7 @@ use crate::words::Form;
 use std::alloc::{AllocError, Global};
 use std::sync::Wait;
 use std::thread::Threads;
-use sv_command::append_lines;
+use sv_command::{Stage, append_lines};
 use sv_link::{Crew, Gate, Net};
 use sv_lock::SeqLock;
 use sv_play::{PlayFault, Playing, play_all};
@@ -31,18 +31,17 @@ pub struct Threaded {
 
 /// Runs a scenario on threads: one for each session, and one for each client.
 pub(crate) fn run_on_threads<N: Net, C: Crew, G: Gate + Sync, R: Threads + Wait + Sync>(
-    rt: &R,
-    alloc: Global,
+    stage: &Stage<'_, R, G>,
     scenario: &Scenario,
     net: &mut N,
     crew: &mut C,
-    gate: &G,
 ) -> Result<Threaded, PlayFault>
     requires { IsGoodScenario scenario.now }
     ensures threaded { IfOk result (λ threaded. IsThreaded scenario.now (moved (N.settled net.old) (N.settled net.new) (C.ran crew.old) (C.ran crew.new)) threaded) }
     ensures cause { PlayCause (C.faults crew.old) (C.faults crew.new) (N.faults net.old) (N.faults net.new) result }
     ensures calm { N.calm net.old → result ≡ Err PlayFault.Link → SomeDiffer N.E.told N.E.calm (N.made net.old) (N.made net.new) }
 {
+    let alloc = stage.alloc;
     let callback = Box::new(
         alloc,
         move |change: &Change| -> Result<Line, AllocError>
@@ -61,14 +60,14 @@ pub(crate) fn run_on_threads<N: Net, C: Crew, G: Gate + Sync, R: Threads + Wait 
         }
     };
     let Playing { traces, lines } = play_all(
-        rt,
+        stage.rt,
         alloc,
         scenario,
         &lock,
         &mut keeper,
         net,
         crew,
-        gate,
+        stage.gate,
         &watch,
     )?;
     let played = played_of(alloc, shape, lock.close(keeper), traces)?;

@@ -15,7 +15,7 @@ use std::mem::forget;
 use std::sync::Wait;
 use std::thread::Threads;
 use sv_bytes::Files;
-use sv_command::{Ending, scenario_in};
+use sv_command::{Ending, Stage, scenario_in};
 use sv_gen::generate;
 use sv_link::{Crew, Gate, Net};
 use sv_play::PlayFault;
@@ -56,14 +56,12 @@ fn replay<F: Files>(alloc: Global, file: &str, files: &mut F) -> Result<String, 
 
 /// How a run of a file's scenario on threads is told.
 fn play<F: Files, N: Net, C: Crew, G: Gate + Sync, R: Threads + Wait + Sync>(
-    rt: &R,
-    alloc: Global,
+    stage: &Stage<'_, R, G>,
     file: &str,
     form: Form,
     files: &mut F,
     net: &mut N,
     crew: &mut C,
-    gate: &G,
 ) -> Result<String, Ending>
     ensures made { IsMade (IsText (Play file.now form) (F.contents files.old file.now) (moved (N.settled net.old) (N.settled net.new) (C.ran crew.old) (C.ran crew.new)))
         (EndsEarly (Some (Play file.now form)) (F.contents files.old file.now)) result }
@@ -71,24 +69,22 @@ fn play<F: Files, N: Net, C: Crew, G: Gate + Sync, R: Threads + Wait + Sync>(
     ensures sure { F.sure files.old file.now → result ≢ Err Ending.File }
     ensures calm { N.calm net.old → result ≡ Err Ending.Link → SomeDiffer N.E.told N.E.calm (N.made net.old) (N.made net.new) }
 {
-    let scenario = scenario_in(alloc, file, files)?;
-    let threaded = match run_on_threads(rt, alloc, &scenario, net, crew, gate) {
+    let scenario = scenario_in(stage.alloc, file, files)?;
+    let threaded = match run_on_threads(stage, &scenario, net, crew) {
         Ok(threaded) => threaded,
         Err(fault) => return Err(ending_of_fault(fault)),
     };
-    let text = form_text(alloc, &scenario, form, &threaded)?;
+    let text = form_text(stage.alloc, &scenario, form, &threaded)?;
     leave(scenario, threaded);
     Ok(text)
 }
 
 /// How a run of the generated scenario of a size is told.
 fn load<N: Net, C: Crew, G: Gate + Sync, R: Threads + Wait + Sync>(
-    rt: &R,
-    alloc: Global,
+    stage: &Stage<'_, R, G>,
     size: u32,
     net: &mut N,
     crew: &mut C,
-    gate: &G,
 ) -> Result<String, Ending>
     requires { IsSize size }
     ensures made { IsMade (IsText (Load size) None (moved (N.settled net.old) (N.settled net.new) (C.ran crew.old) (C.ran crew.new))) (EndsEarly (Some (Load size)) None) result }
@@ -96,25 +92,23 @@ fn load<N: Net, C: Crew, G: Gate + Sync, R: Threads + Wait + Sync>(
     ensures never { (status_of (ending_of result) ≢ 3) × (status_of (ending_of result) ≢ 4) }
     ensures calm { N.calm net.old → result ≡ Err Ending.Link → SomeDiffer N.E.told N.E.calm (N.made net.old) (N.made net.new) }
 {
-    let scenario = generate(alloc, size)?;
-    let threaded = match run_on_threads(rt, alloc, &scenario, net, crew, gate) {
+    let scenario = generate(stage.alloc, size)?;
+    let threaded = match run_on_threads(stage, &scenario, net, crew) {
         Ok(threaded) => threaded,
         Err(fault) => return Err(ending_of_fault(fault)),
     };
-    let text = load_text(alloc, size, &scenario, &threaded)?;
+    let text = load_text(stage.alloc, size, &scenario, &threaded)?;
     leave(scenario, threaded);
     Ok(text)
 }
 
 /// The text that tells what is asked for. Whatever it is, it is whole before any of it is printed.
 pub(crate) fn text_for<F: Files, N: Net, C: Crew, G: Gate + Sync, R: Threads + Wait + Sync>(
-    rt: &R,
-    alloc: Global,
+    stage: &Stage<'_, R, G>,
     command: Command<'_>,
     files: &mut F,
     net: &mut N,
     crew: &mut C,
-    gate: &G,
 ) -> Result<String, Ending>
     requires sized { IsSized command }
     ensures made { IsMade (IsText (asked_by command.entry) (held_of (F.contents files.old) (file_of (asked_by command.entry)))
@@ -126,8 +120,8 @@ pub(crate) fn text_for<F: Files, N: Net, C: Crew, G: Gate + Sync, R: Threads + W
     ensures calm { N.calm net.old → result ≡ Err Ending.Link → SomeDiffer N.E.told N.E.calm (N.made net.old) (N.made net.new) }
 {
     match command {
-        Command::Play { file, form } => play(rt, alloc, file, form, files, net, crew, gate),
-        Command::Replay { file } => replay(alloc, file, files),
-        Command::Load { size } => load(rt, alloc, size, net, crew, gate),
+        Command::Play { file, form } => play(stage, file, form, files, net, crew),
+        Command::Replay { file } => replay(stage.alloc, file, files),
+        Command::Load { size } => load(stage, size, net, crew),
     }
 }

@@ -14,7 +14,7 @@ use std::alloc::Global;
 use std::sync::Wait;
 use std::thread::Threads;
 use sv_bytes::{Files, Sink, write_all};
-use sv_command::{Ending, status_of, tell};
+use sv_command::{Ending, Stage, status_of, tell};
 use sv_link::{Crew, Gate, Net};
 
 /// The line that tells which words there are.
@@ -22,13 +22,11 @@ const WORDS_LINE: &[u8] = b"words: play FILE [--brief | --watch] | replay FILE |
 
 /// Does what is asked for, and tells how it ended.
 fn decide<F: Files, N: Net, C: Crew, G: Gate + Sync, K: Sink, R: Threads + Wait + Sync>(
-    rt: &R,
-    alloc: Global,
+    stage: &Stage<'_, R, G>,
     command: Option<Command<'_>>,
     files: &mut F,
     net: &mut N,
     crew: &mut C,
-    gate: &G,
     out: &mut K,
 ) -> Ending
     requires sized { IfSome command IsSized }
@@ -45,7 +43,7 @@ fn decide<F: Files, N: Net, C: Crew, G: Gate + Sync, K: Sink, R: Threads + Wait 
     let Some(command) = command else {
         return Ending::Words;
     };
-    match text_for(rt, alloc, command, files, net, crew, gate) {
+    match text_for(stage, command, files, net, crew) {
         Ok(text) if write_all(out, text.as_bytes()) => Ending::Done,
         Ok(_) => Ending::Out,
         Err(ending) => ending,
@@ -93,7 +91,8 @@ pub fn run<F: Files, N: Net, C: Crew, G: Gate + Sync, K: Sink, E: Sink, R: Threa
         → (result ≡ 0) ⊎ (result ≡ 8) }
 {
     let command = command_of(words);
-    let ending = decide(rt, alloc, command, files, net, crew, gate, out);
+    let stage = Stage { rt, alloc, gate };
+    let ending = decide(&stage, command, files, net, crew, out);
     tell(&ending, WORDS_LINE, file_of(command), err);
     status_of(&ending)
 }

@@ -11,7 +11,7 @@ use Rattle.sv_command.specs.Reading.{IsRead, IsRefused, HoldsScenario, IsNoScena
 use Rattle.sv_command.specs.Lines.{file_line}
 use Rattle.sv_command.specs.Statuses.{Counts, NoneRose, status_line}
 use Rattle.sv_command.proofs.Held.{read_is, holds_none}
-use Rattle.sv_command.proofs.Statuses.{words_is as plain_words_is, file_is as plain_file_is}
+use Rattle.sv_command.proofs.Statuses.{words_is as plain_words_is, file_is as plain_file_is, faults_are as plain_faults, untold}
 use Rattle.sv_audit.specs.declared.ending.AuditEnding.{AuditEnding}
 use Rattle.sv_audit.specs.declared.ending.AuditEnding.TheVariants as endings
 use Rattle.sv_audit.specs.Judging.{IsReportFront, IsApproved, IsOutside, report_size, report_limit}
@@ -42,37 +42,15 @@ module _ (sure : List ℕ → Type 0) where
 
 -- ---- Faults
 
-quiet : (b a : ℕ) → a ≡ b → Rose b a → ⊥
-quiet b a e rose = omega (arith, e, rose)
-
-untold : (n m b a : ℕ) → (n ≡ m → ⊥) → a ≡ b → (n ≡ m) ↔ Rose b a
-untold n m b a other e = (λ s. absurd (other s), λ rose. absurd (quiet b a e rose))
-
 pub file_is : (before now : Counts) (e : AuditEnding) → Raises before now e → (status_of e ≡ 4) ↔ Rose before.files now.files
-file_is before now (endings.Plain plain.File) h = (λ s. h.0, λ rose. refl)
+file_is before now (endings.Plain e) h = (plain_faults before now e h).file
 file_is before now endings.Report h = (λ s. h.0, λ rose. refl)
-file_is before now (endings.Plain plain.Done) h = untold 0 4 _ _ (λ s. absurd (omega arith)) (ap (λ (k : Counts). k.files) h)
-file_is before now (endings.Plain plain.Words) h = untold 2 4 _ _ (λ s. absurd (omega arith)) (ap (λ (k : Counts). k.files) h)
-file_is before now (endings.Plain (plain.Scenario line)) h = untold 3 4 _ _ (λ s. absurd (omega arith)) (ap (λ (k : Counts). k.files) h)
-file_is before now (endings.Plain plain.Memory) h = untold 8 4 _ _ (λ s. absurd (omega arith)) (ap (λ (k : Counts). k.files) h)
-file_is before now (endings.Plain plain.Start) h = untold 7 4 _ _ (λ s. absurd (omega arith)) (ap (λ (k : Counts). k.files) h.1)
-file_is before now (endings.Plain plain.Link) h = untold 6 4 _ _ (λ s. absurd (omega arith)) (ap (λ (k : Counts). k.files) h.1)
-file_is before now (endings.Plain plain.Out) h = untold 5 4 _ _ (λ s. absurd (omega arith)) (ap (λ (k : Counts). k.files) h.1)
 file_is before now (endings.Wrong line) h = untold 9 4 _ _ (λ s. absurd (omega arith)) (ap (λ (k : Counts). k.files) h)
-file_is before now (endings.Plain plain.Range) h = untold 10 4 _ _ (λ s. absurd (omega arith)) (ap (λ (k : Counts). k.files) h)
 
 pub output_is : (before now : Counts) (e : AuditEnding) → Raises before now e → (status_of e ≡ 5) ↔ Rose before.out now.out
-output_is before now (endings.Plain plain.Out) h = (λ s. h.0, λ rose. refl)
-output_is before now (endings.Plain plain.File) h = untold 4 5 _ _ (λ s. absurd (omega arith)) (ap (λ (k : Counts). k.out) h.1)
+output_is before now (endings.Plain e) h = (plain_faults before now e h).out
 output_is before now endings.Report h = untold 4 5 _ _ (λ s. absurd (omega arith)) (ap (λ (k : Counts). k.out) h.1)
-output_is before now (endings.Plain plain.Done) h = untold 0 5 _ _ (λ s. absurd (omega arith)) (ap (λ (k : Counts). k.out) h)
-output_is before now (endings.Plain plain.Words) h = untold 2 5 _ _ (λ s. absurd (omega arith)) (ap (λ (k : Counts). k.out) h)
-output_is before now (endings.Plain (plain.Scenario line)) h = untold 3 5 _ _ (λ s. absurd (omega arith)) (ap (λ (k : Counts). k.out) h)
-output_is before now (endings.Plain plain.Memory) h = untold 8 5 _ _ (λ s. absurd (omega arith)) (ap (λ (k : Counts). k.out) h)
-output_is before now (endings.Plain plain.Start) h = untold 7 5 _ _ (λ s. absurd (omega arith)) (ap (λ (k : Counts). k.out) h.1)
-output_is before now (endings.Plain plain.Link) h = untold 6 5 _ _ (λ s. absurd (omega arith)) (ap (λ (k : Counts). k.out) h.1)
 output_is before now (endings.Wrong line) h = untold 9 5 _ _ (λ s. absurd (omega arith)) (ap (λ (k : Counts). k.out) h)
-output_is before now (endings.Plain plain.Range) h = untold 10 5 _ _ (λ s. absurd (omega arith)) (ap (λ (k : Counts). k.out) h)
 
 -- ---- What was read
 

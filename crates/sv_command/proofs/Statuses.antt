@@ -65,10 +65,10 @@ link_is endings.Range s = absurd (omega arith)
 
 -- ---- Faults
 
-quiet : (b a : ℕ) → a ≡ b → Rose b a → ⊥
+pub quiet : (b a : ℕ) → a ≡ b → Rose b a → ⊥
 quiet b a e rose = omega (arith, e, rose)
 
-untold : (n m b a : ℕ) → (n ≡ m → ⊥) → a ≡ b → (n ≡ m) ↔ Rose b a
+pub untold : (n m b a : ℕ) → (n ≡ m → ⊥) → a ≡ b → (n ≡ m) ↔ Rose b a
 untold n m b a other e = (λ s. absurd (other s), λ rose. absurd (quiet b a e rose))
 
 told : {A : Type 0} (n : ℕ) → A → (n ≡ n) ↔ A

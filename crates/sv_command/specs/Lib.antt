@@ -1,3 +1,4 @@
+-- The definitions that the top calls share.
 pub mod Lines
 pub mod Reading
 pub mod Numbers

@@ -11,7 +11,7 @@ use Rattle.sv_command.specs.declared.ending.Ending.TheVariants as plain
 use Rattle.sv_command.specs.Reading.{IsRead, IsRefused, HoldsScenario, held_of, read_limit}
 use Rattle.sv_command.specs.Statuses.{Counts, NoneRose}
 use Rattle.sv_command.proofs.Held.{both, same_scenario, read_is, holds_none}
-use Rattle.sv_command.proofs.Statuses.{words_is as plain_words_is, file_is as plain_file_is, link_is as plain_link_is}
+use Rattle.sv_command.proofs.Statuses.{words_is as plain_words_is, file_is as plain_file_is, link_is as plain_link_is, quiet, untold}
 use Rattle.sv_join.specs.declared.ending.JoinEnding.{JoinEnding}
 use Rattle.sv_join.specs.declared.ending.JoinEnding.TheVariants as endings
 use Rattle.sv_join.specs.Joining.{Passed}
@@ -47,12 +47,6 @@ sure_door_is sure None e h = tt
 sure_door_is sure (Some x) e h = λ s l. h s (link_is e l)
 
 -- ---- Faults
-
-quiet : (b a : ℕ) → a ≡ b → Rose b a → ⊥
-quiet b a e rose = omega (arith, e, rose)
-
-untold : (n m b a : ℕ) → (n ≡ m → ⊥) → a ≡ b → (n ≡ m) ↔ Rose b a
-untold n m b a other e = (λ s. absurd (other s), λ rose. absurd (quiet b a e rose))
 
 module _ (before now : Counts) where
   none_told : (n : ℕ) → (n ≡ 4 → ⊥) → (n ≡ 5 → ⊥) → now ≡ before → TellsJoinFaults n before now

@@ -10,7 +10,7 @@ ghost use Rattle.sv_command.specs.declared.ending.Ending.TheVariants as plain;
 ghost use Rattle.sv_join.specs.declared.ending.JoinEnding.TheVariants as endings;
 
 use crate::ending::{JoinEnding, status_of, tell};
-use crate::joining::join_as;
+use crate::joining::{Seat, join_as};
 use crate::texts::join_text;
 use crate::words::{Join, file_of, join_of};
 use std::alloc::Global;
@@ -37,7 +37,12 @@ fn text_for<F: Files, D: Door>(
     if join.number as usize >= scenario.clients.len() {
         return Err(JoinEnding::Plain(Ending::Range));
     }
-    let joined = join_as(alloc, &scenario, join.number, join.port, door)?;
+    let seat = Seat {
+        scenario: &scenario,
+        number: join.number,
+        port: join.port,
+    };
+    let joined = join_as(alloc, &seat, door)?;
     Ok(join_text(alloc, &joined)?)
 }
 

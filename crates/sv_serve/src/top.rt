@@ -14,19 +14,17 @@ use std::alloc::Global;
 use std::sync::Wait;
 use std::thread::Threads;
 use sv_bytes::{Files, Sink, write_all};
-use sv_command::{Ending, status_of, tell};
+use sv_command::{Ending, Stage, status_of, tell};
 use sv_door::Door;
 use sv_link::{Crew, Gate};
 
 /// Serves what is asked for, and tells how it ended.
 fn decide<F: Files, D: Door, C: Crew, G: Gate + Sync, K: Sink, R: Threads + Wait + Sync>(
-    rt: &R,
-    alloc: Global,
+    stage: &Stage<'_, R, G>,
     command: Option<Command<'_>>,
     files: &mut F,
     door: &mut D,
     crew: &mut C,
-    gate: &G,
     out: &mut K,
 ) -> Ending
     ensures words { (result ≡ Ending.Words) ↔ (option_map asked_by command.entry ≡ None) }
@@ -43,7 +41,7 @@ fn decide<F: Files, D: Door, C: Crew, G: Gate + Sync, K: Sink, R: Threads + Wait
     let Some(command) = command else {
         return Ending::Words;
     };
-    match served_text(rt, alloc, command, files, door, crew, gate) {
+    match served_text(stage, command, files, door, crew) {
         Ok(text) if write_all(out, text.as_bytes()) => Ending::Done,
         Ok(_) => Ending::Out,
         Err(ending) => ending,
@@ -102,7 +100,8 @@ pub fn run_serve<
         → (result ≡ 0) ⊎ (result ≡ 8) }
 {
     let command = command_of(words);
-    let ending = decide(rt, alloc, command, files, door, crew, gate, out);
+    let stage = Stage { rt, alloc, gate };
+    let ending = decide(&stage, command, files, door, crew, out);
     tell(&ending, b"words: serve FILE PORT\n", file_of(command), err);
     status_of(&ending)
 }

@@ -1,3 +1,4 @@
+-- The counts of faults, by the part of the call that ended it.
 use Rattle.std.specs.Option.{option_map}
 use Rattle.sv_audit.specs.declared.ending.AuditEnding.TheVariants as endings
 use Rattle.sv_audit.specs.Statuses.{ending_of}

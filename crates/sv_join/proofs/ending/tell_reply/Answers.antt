@@ -1,3 +1,4 @@
+-- The line of a fault with its numbers.
 use Rattle.sv_join.proofs.ending.tell_reply.Goals as goal
 
 pub returns-in-Wire : goal.returns-in-Wire

@@ -1,3 +1,4 @@
+-- The counts of faults, and the text of a witnessed run.
 use Rattle.std.proofs.Common.{ℕ, refl, subst}
 use Rattle.sv_command.specs.declared.ending.Ending.TheVariants as endings
 use Rattle.sv_command.specs.Statuses.{counts}
