@@ -96,9 +96,9 @@ module _ (a : Option Asked) (contents : List ℕ → Option (List ℕ)) (m : Mov
   faulty_is endings.Start w h = ready_is contents _ a h.0
   faulty_is endings.Link w h = ready_is contents _ a h.0
   faulty_is endings.Words w h = unheld _ contents (named_by a) (ap named_by (w.0 refl))
-  faulty_is (endings.Scenario line) w h = always held (λ all none. inl refl)
-  faulty_is endings.File w h = always held (λ all none. inr (inl refl))
-  faulty_is endings.Memory w h = always held (λ all none. inr (inr refl))
+  faulty_is (endings.Scenario line) w h = always _ _ held (inl refl)
+  faulty_is endings.File w h = always _ _ held (inr (inl refl))
+  faulty_is endings.Memory w h = always _ _ held (inr (inr refl))
   faulty_is endings.Range w h = absurd h.0
 
   pub complete_is : {F N C : Type 0} (f0 f1 : F) (n0 n1 : N) (c0 c1 : C) (before after : Counts) (e : Ending) → ((e ≡ endings.Words) ↔ (a ≡ None))

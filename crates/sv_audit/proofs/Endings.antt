@@ -10,7 +10,7 @@ use Rattle.sv_command.specs.declared.ending.Ending.TheVariants as plain
 use Rattle.sv_command.specs.Reading.{IsRead, IsRefused, HoldsScenario, IsNoScenario, read_limit}
 use Rattle.sv_command.specs.Lines.{file_line}
 use Rattle.sv_command.specs.Statuses.{Counts, NoneRose, status_line}
-use Rattle.sv_command.proofs.Held.{read_is, holds_none}
+use Rattle.sv_command.proofs.Held.{always, read_is, holds_none}
 use Rattle.sv_command.proofs.Statuses.{words_is as plain_words_is, file_is as plain_file_is, faults_are as plain_faults, untold}
 use Rattle.sv_audit.specs.declared.ending.AuditEnding.{AuditEnding}
 use Rattle.sv_audit.specs.declared.ending.AuditEnding.TheVariants as endings
@@ -53,10 +53,6 @@ output_is before now endings.Report h = untold 4 5 _ _ (λ s. absurd (omega arit
 output_is before now (endings.Wrong line) h = untold 9 5 _ _ (λ s. absurd (omega arith)) (ap (λ (k : Counts). k.out) h)
 
 -- ---- What was read
-
-always : (P : Type 0) (Q : List ℕ → Type 0) (held : Option (List ℕ)) → P → IfSome held (λ all. Q all → P)
-always P Q None p = tt
-always P Q (Some all) p = λ q. p
 
 -- A report of which no more was taken than one may have has no more.
 few_taken : (all : List ℕ) → length (take report_limit all) ≤ report_size → report_size < length all → ⊥

@@ -76,9 +76,10 @@ holds_none (Some all) P line r h =
     let read : scenario_of r.bytes ≡ Ok h.scenario = rw r.front h.read in
     absurd (both h.scenario r.fault r.bytes read r.faulty)
 
-pub always : {P : List ℕ → Type 0} (o : Option (List ℕ)) → ((all : List ℕ) → P all) → IfSome o P
-always None f = tt
-always (Some all) f = f all
+-- This holds whatever the file holds.
+pub always : (P : Type 0) (Q : List ℕ → Type 0) (held : Option (List ℕ)) → P → IfSome held (λ all. Q all → P)
+always P Q None p = tt
+always P Q (Some all) p = λ q. p
 
 -- Where no file is named, nothing is held.
 pub unheld : (P : List ℕ → Type 0) (contents : List ℕ → Option (List ℕ)) (named : Option (List ℕ)) → named ≡ None → IfSome (held_of contents named) P

@@ -10,7 +10,7 @@ use Rattle.sv_scenario.specs.Scenarios.{scenario_of}
 use Rattle.sv_command.specs.declared.ending.Ending.TheVariants as plain
 use Rattle.sv_command.specs.Reading.{IsRead, IsRefused, HoldsScenario, held_of, read_limit}
 use Rattle.sv_command.specs.Statuses.{Counts, NoneRose}
-use Rattle.sv_command.proofs.Held.{both, same_scenario, read_is, holds_none}
+use Rattle.sv_command.proofs.Held.{always, both, same_scenario, read_is, holds_none}
 use Rattle.sv_command.proofs.Statuses.{words_is as plain_words_is, file_is as plain_file_is, link_is as plain_link_is, quiet, untold}
 use Rattle.sv_join.specs.declared.ending.JoinEnding.{JoinEnding}
 use Rattle.sv_join.specs.declared.ending.JoinEnding.TheVariants as endings
@@ -84,10 +84,6 @@ module _ (before now : Counts) where
 -- ---- What was read
 
 module _ (P : Type 0) where
-  always : (Q : List ℕ → Type 0) (held : Option (List ℕ)) → P → IfSome held (λ all. Q all → P)
-  always Q None p = tt
-  always Q (Some all) p = λ q. p
-
   -- It has the client.
   not_lacking : (k : ℕ) (held : Option (List ℕ)) (scenario : Scenario) → IsRead held scenario → k < length scenario.clients → IfSome held (λ all. LacksClient k (take read_limit all) → P)
   not_lacking k None scenario r low = tt

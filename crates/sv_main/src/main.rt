@@ -29,7 +29,7 @@ use sv_snapshot::run_looks;
 use sv_witness::run_witness;
 
 /// A call of the program: the words that it is given, and the memory that it works in.
-#[derive(Clone, Copy, Drop)]
+#[derive(Drop)]
 struct Call<'a> {
     alloc: Global,
     words: &'a [String],
@@ -46,7 +46,7 @@ fn words(rt: &HostRuntime) -> io::Result<Vec<String>> {
 /// The status of `run`, over connections on this machine and a thread for each job.
 fn run_here<R, F: Files, K: Sink, E: Sink>(
     rt: &R,
-    call: Call<'_>,
+    call: &Call<'_>,
     files: &mut F,
     out: &mut K,
     err: &mut E,
@@ -54,18 +54,17 @@ fn run_here<R, F: Files, K: Sink, E: Sink>(
 where
     R: Threads + Wait + Sync + Sockets<Listener = TcpListener, Stream = TcpStream>,
 {
-    let Call { alloc, words } = call;
-    let mut net = TcpNet::new(alloc, rt);
-    let mut crew = ThreadCrew::new(alloc);
+    let mut net = TcpNet::new(call.alloc, rt);
+    let mut crew = ThreadCrew::new(call.alloc);
     run(
-        rt, alloc, words, files, &mut net, &mut crew, &OpenGate, out, err,
+        rt, call.alloc, call.words, files, &mut net, &mut crew, &OpenGate, out, err,
     )
 }
 
 /// The status of `serve`, to whoever connects on this machine, and with a thread for each session.
 fn serve_here<R, F: Files, K: Sink, E: Sink>(
     rt: &R,
-    call: Call<'_>,
+    call: &Call<'_>,
     files: &mut F,
     out: &mut K,
     err: &mut E,
@@ -73,18 +72,17 @@ fn serve_here<R, F: Files, K: Sink, E: Sink>(
 where
     R: Threads + Wait + Sync + Clock + Sockets<Listener = TcpListener, Stream = TcpStream>,
 {
-    let Call { alloc, words } = call;
-    let mut door = TcpDoor::new(alloc, rt);
-    let mut crew = ThreadCrew::new(alloc);
+    let mut door = TcpDoor::new(call.alloc, rt);
+    let mut crew = ThreadCrew::new(call.alloc);
     run_serve(
-        rt, alloc, words, files, &mut door, &mut crew, &OpenGate, out, err,
+        rt, call.alloc, call.words, files, &mut door, &mut crew, &OpenGate, out, err,
     )
 }
 
 /// The status of `join`, at a server on this machine.
 fn join_here<R, F: Files, K: Sink, E: Sink>(
     rt: &R,
-    call: Call<'_>,
+    call: &Call<'_>,
     files: &mut F,
     out: &mut K,
     err: &mut E,
@@ -92,15 +90,14 @@ fn join_here<R, F: Files, K: Sink, E: Sink>(
 where
     R: Clock + Sockets<Listener = TcpListener, Stream = TcpStream>,
 {
-    let Call { alloc, words } = call;
-    let mut door = TcpDoor::new(alloc, rt);
-    run_join(alloc, words, files, &mut door, out, err)
+    let mut door = TcpDoor::new(call.alloc, rt);
+    run_join(call.alloc, call.words, files, &mut door, out, err)
 }
 
 /// The status of the call that the words are for.
 fn answer<R, F: Files, K: Sink, E: Sink>(
     rt: &R,
-    call: Call<'_>,
+    call: &Call<'_>,
     files: &mut F,
     out: &mut K,
     err: &mut E,
@@ -108,14 +105,13 @@ fn answer<R, F: Files, K: Sink, E: Sink>(
 where
     R: Threads + Wait + Sync + Clock + Sockets<Listener = TcpListener, Stream = TcpStream>,
 {
-    let Call { alloc, words } = call;
-    match command(words) {
+    match command(call.words) {
         Command::Run => run_here(rt, call, files, out, err),
-        Command::Looks => run_looks(alloc, words, files, out, err),
-        Command::Witness => run_witness(alloc, words, files, out, err),
+        Command::Looks => run_looks(call.alloc, call.words, files, out, err),
+        Command::Witness => run_witness(call.alloc, call.words, files, out, err),
         Command::Serve => serve_here(rt, call, files, out, err),
         Command::Join => join_here(rt, call, files, out, err),
-        Command::Check => run_check(alloc, words, files, out, err),
+        Command::Check => run_check(call.alloc, call.words, files, out, err),
     }
 }
 
@@ -139,5 +135,5 @@ fn main(rt: HostRuntime) -> ExitCode {
         alloc: rt.alloc(),
         words: &words,
     };
-    ExitCode::from(answer(&rt, call, &mut files, &mut out, &mut err))
+    ExitCode::from(answer(&rt, &call, &mut files, &mut out, &mut err))
 }

@@ -110,9 +110,9 @@ module _ (a : Option Asked) (contents : List ℕ → Option (List ℕ)) (m : Mov
   faulty_is endings.Start w h = read_is held _ h.0.scenario h.0.scenario_is
   faulty_is endings.Link w h = read_is held _ h.0.scenario h.0.scenario_is
   faulty_is endings.Words w h = unheld _ contents (named_by a) (ap named_by (w.0 refl))
-  faulty_is (endings.Scenario line) w h = always held (λ all none. inl refl)
-  faulty_is endings.File w h = always held (λ all none. inr (inl refl))
-  faulty_is endings.Memory w h = always held (λ all none. inr (inr refl))
+  faulty_is (endings.Scenario line) w h = always _ _ held (inl refl)
+  faulty_is endings.File w h = always _ _ held (inr (inl refl))
+  faulty_is endings.Memory w h = always _ _ held (inr (inr refl))
   faulty_is endings.Range w h = absurd h.0
 
   pub complete_is : (before after : Counts) (e : Ending) → ((e ≡ endings.Words) ↔ (a ≡ None)) → Leaves held m old now e → Raises before after e

@@ -65,9 +65,9 @@ module _ (named : Option (List ℕ)) (contents : List ℕ → Option (List ℕ))
   faulty_is endings.Link w h = absurd h.0
   faulty_is endings.Range w h = absurd h.0
   faulty_is endings.Words w h = unheld _ contents named (w.0 refl)
-  faulty_is (endings.Scenario line) w h = always held (λ all none. inl refl)
-  faulty_is endings.File w h = always held (λ all none. inr (inl refl))
-  faulty_is endings.Memory w h = always held (λ all none. inr (inr refl))
+  faulty_is (endings.Scenario line) w h = always _ _ held (inl refl)
+  faulty_is endings.File w h = always _ _ held (inr (inl refl))
+  faulty_is endings.Memory w h = always _ _ held (inr (inr refl))
 
   pub complete_is : (before after : Counts) (e : Ending) → ((e ≡ endings.Words) ↔ (named ≡ None)) → Leaves held old now e → Raises before after e
       → HoldsScenario held → NoneRose before after → (status_of e ≡ 0) ⊎ (status_of e ≡ 8)

@@ -10,7 +10,7 @@ use Rattle.sv_command.specs.declared.ending.Ending.TheVariants as endings
 use Rattle.sv_command.specs.Endings.{Ends}
 use Rattle.sv_command.specs.Reading.{IsRead, IsRefused, HoldsScenario, held_of, read_limit}
 use Rattle.sv_command.specs.Statuses.{Counts, Raises, NoneRose, TellsStatus, line_of, status_of}
-use Rattle.sv_command.proofs.Held.{both, same_scenario, read_is, holds_none}
+use Rattle.sv_command.proofs.Held.{always, both, same_scenario, read_is, holds_none}
 use Rattle.sv_command.proofs.Statuses.{file_is, told_is as plain_told}
 use Rattle.sv_command.proofs.Left.{printed_by, cut_by, ends_early, refused_is}
 use Rattle.sv_witness.specs.declared.words.Witnessing.{Witnessing}
@@ -30,10 +30,6 @@ not_over clients None within over = over
 not_over clients (Some k) within over = omega (arith, within, over)
 
 module _ (P : Type 0) where
-  always : (Q : List ℕ → Type 0) (held : Option (List ℕ)) → P → IfSome held (λ all. Q all → P)
-  always Q None p = tt
-  always Q (Some all) p = λ q. p
-
   -- It has the liar.
   not_lacking : (asked : Asked) (held : Option (List ℕ)) (scenario : Scenario) → IsRead held scenario → IsWithin (length scenario.clients) asked.liar → IfSome held (λ all. LacksLiar asked (take read_limit all) → P)
   not_lacking asked None scenario r within = tt
