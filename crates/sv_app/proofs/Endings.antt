@@ -8,7 +8,7 @@ use Rattle.sv_command.specs.declared.ending.Ending.TheVariants as endings
 use Rattle.sv_command.specs.Endings.{Ends, IsCutShort, IsPrinted, OrWords}
 use Rattle.sv_command.specs.Reading.{read_limit, held_of, IsNoScenario, IsRefused}
 use Rattle.sv_command.specs.Statuses.{status_of, Counts, Raises, NoneRose}
-use Rattle.sv_command.proofs.Held.{read_is, holds_none, always, unheld}
+use Rattle.sv_command.proofs.Held.{Faulty, read_is, holds_none, always, unheld}
 use Rattle.sv_command.proofs.Statuses.{range_is as plain_range}
 use Rattle.sv_command.proofs.Left.{printed_by, cut_by, ends_early, or_words, unranged, refused_is as left_refused}
 use Rattle.sv_app.specs.declared.words.Command.{Command}
@@ -90,15 +90,15 @@ module _ (a : Option Asked) (contents : List ℕ → Option (List ℕ)) (m : Mov
   refused_is e h line is = left_refused (IsTextFor a held m) (OrWords (EndsEarly a held)) old now e h line is
 
   pub faulty_is : (e : Ending) → ((e ≡ endings.Words) ↔ (a ≡ None)) → Leaves a held m old now e
-      → IfSome held (λ all. IsNoScenario (take read_limit all) → (status_of e ≡ 3) ⊎ (status_of e ≡ 4) ⊎ (status_of e ≡ 8))
+      → IfSome held (λ all. IsNoScenario (take read_limit all) → Faulty (status_of e))
   faulty_is endings.Done w h = ready_is contents _ a (text_ready a held m h.text h.told)
   faulty_is endings.Out w h = ready_is contents _ a (text_ready a held m h.text h.told)
   faulty_is endings.Start w h = ready_is contents _ a h.0
   faulty_is endings.Link w h = ready_is contents _ a h.0
   faulty_is endings.Words w h = unheld _ contents (named_by a) (ap named_by (w.0 refl))
-  faulty_is (endings.Scenario line) w h = always _ _ held (inl refl)
-  faulty_is endings.File w h = always _ _ held (inr (inl refl))
-  faulty_is endings.Memory w h = always _ _ held (inr (inr refl))
+  faulty_is (endings.Scenario line) w h = always (Faulty 3) _ held (inl refl)
+  faulty_is endings.File w h = always (Faulty 4) _ held (inr (inl refl))
+  faulty_is endings.Memory w h = always (Faulty 8) _ held (inr (inr refl))
   faulty_is endings.Range w h = absurd h.0
 
   pub complete_is : {F N C : Type 0} (f0 f1 : F) (n0 n1 : N) (c0 c1 : C) (before after : Counts) (e : Ending) → ((e ≡ endings.Words) ↔ (a ≡ None))

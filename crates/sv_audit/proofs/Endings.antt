@@ -10,7 +10,7 @@ use Rattle.sv_command.specs.declared.ending.Ending.TheVariants as plain
 use Rattle.sv_command.specs.Reading.{IsRead, IsRefused, HoldsScenario, IsNoScenario, read_limit}
 use Rattle.sv_command.specs.Lines.{file_line}
 use Rattle.sv_command.specs.Statuses.{Counts, NoneRose, status_line}
-use Rattle.sv_command.proofs.Held.{always, read_is, holds_none}
+use Rattle.sv_command.proofs.Held.{Faulty, always, read_is, holds_none}
 use Rattle.sv_command.proofs.Statuses.{words_is as plain_words_is, file_is as plain_file_is, faults_are as plain_faults, untold}
 use Rattle.sv_audit.specs.declared.ending.AuditEnding.{AuditEnding}
 use Rattle.sv_audit.specs.declared.ending.AuditEnding.TheVariants as endings
@@ -68,9 +68,6 @@ not_long P (Some all) bytes front short = λ long. absurd (few_taken all (rw fro
 -- ---- What is left, by the status
 
 module _ (held told : Option (List ℕ)) (place : Option Asking) (old new : Option (List ℕ)) where
-  abbrev Faulty : ℕ → Type 0
-  Faulty n = (n ≡ 3) ⊎ (n ≡ 4) ⊎ (n ≡ 8)
-
   abbrev Long : ℕ → Type 0
   Long n = (n ≡ 3) ⊎ (n ≡ 4) ⊎ (n ≡ 8) ⊎ (n ≡ 9)
 

@@ -1,5 +1,5 @@
 -- What was read of a file.
-use Rattle.std.proofs.Common.{◌≡◌, ℕ, List, take, Option, Some, None}
+use Rattle.std.proofs.Common.{◌≡◌, ◌⊎◌, ℕ, List, take, Option, Some, None}
 use Rattle.std.specs.Prelude.{IfSome, IsErrAnd, Result, Ok, Err}
 use Rattle.sv_scenario.specs.declared.fault.ScenarioFault.{ScenarioFault}
 use Rattle.sv_scenario.specs.declared.scenario.Scenario.{Scenario}
@@ -75,6 +75,10 @@ holds_none None P line r h = absurd h
 holds_none (Some all) P line r h =
     let read : scenario_of r.bytes ≡ Ok h.scenario = rw r.front h.read in
     absurd (both h.scenario r.fault r.bytes read r.faulty)
+
+-- The statuses where the file holds no scenario.
+abbrev pub Faulty : ℕ → Type 0
+Faulty n = (n ≡ 3) ⊎ (n ≡ 4) ⊎ (n ≡ 8)
 
 -- This holds whatever the file holds.
 pub always : (P : Type 0) (Q : List ℕ → Type 0) (held : Option (List ℕ)) → P → IfSome held (λ all. Q all → P)

@@ -10,7 +10,7 @@ use Rattle.sv_scenario.specs.Scenarios.{scenario_of}
 use Rattle.sv_command.specs.declared.ending.Ending.TheVariants as plain
 use Rattle.sv_command.specs.Reading.{IsRead, IsRefused, HoldsScenario, held_of, read_limit}
 use Rattle.sv_command.specs.Statuses.{Counts, NoneRose}
-use Rattle.sv_command.proofs.Held.{always, both, same_scenario, read_is, holds_none}
+use Rattle.sv_command.proofs.Held.{Faulty, always, both, same_scenario, read_is, holds_none}
 use Rattle.sv_command.proofs.Statuses.{words_is as plain_words_is, file_is as plain_file_is, link_is as plain_link_is, quiet, untold}
 use Rattle.sv_join.specs.declared.ending.JoinEnding.{JoinEnding}
 use Rattle.sv_join.specs.declared.ending.JoinEnding.TheVariants as endings
@@ -104,9 +104,6 @@ module _ (P : Type 0) where
 
 module _ {E : Type 0} (told : E → Told) (faults : E → ℕ) (calm : E → Type 0) (door : Passed) (before now : ℕ) (old new : Option (List ℕ)) where
   module _ (asked : Asked) (held : Option (List ℕ)) where
-    abbrev Faulty : ℕ → Type 0
-    Faulty n = (n ≡ 3) ⊎ (n ≡ 4) ⊎ (n ≡ 8)
-
     abbrev Lacking : ℕ → Type 0
     Lacking n = (n ≡ 4) ⊎ (n ≡ 8) ⊎ (n ≡ 10)
 

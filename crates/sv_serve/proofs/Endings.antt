@@ -10,7 +10,7 @@ use Rattle.sv_command.specs.Reading.{read_limit, held_of, IsRefused, IsNoScenari
 use Rattle.sv_command.specs.Statuses.{status_of, Counts, counts, Raises, NoneRose}
 use Rattle.sv_command.proofs.Counts.{same_counts}
 use Rattle.sv_command.proofs.Statuses.{link_is, range_is as plain_range}
-use Rattle.sv_command.proofs.Held.{read_is, holds_none, always, unheld, unnamed}
+use Rattle.sv_command.proofs.Held.{Faulty, read_is, holds_none, always, unheld, unnamed}
 use Rattle.sv_command.proofs.Left.{printed_by, cut_by, ends_early, or_words, unranged, refused_is as left_refused}
 use Rattle.sv_sequencer.specs.Step.{SequencerView}
 use Rattle.sv_play.specs.declared.outcome.PlayFault.{PlayFault}
@@ -104,15 +104,15 @@ module _ (a : Option Asked) (contents : List ℕ → Option (List ℕ)) (m : Mov
   held = held_of contents (named_by a)
 
   pub faulty_is : (e : Ending) → ((e ≡ endings.Words) ↔ (a ≡ None)) → Leaves held m old now e
-      → IfSome held (λ all. IsNoScenario (take read_limit all) → (status_of e ≡ 3) ⊎ (status_of e ≡ 4) ⊎ (status_of e ≡ 8))
+      → IfSome held (λ all. IsNoScenario (take read_limit all) → Faulty (status_of e))
   faulty_is endings.Done w h = read_is held _ h.told.scenario h.told.scenario_is
   faulty_is endings.Out w h = read_is held _ h.told.scenario h.told.scenario_is
   faulty_is endings.Start w h = read_is held _ h.0.scenario h.0.scenario_is
   faulty_is endings.Link w h = read_is held _ h.0.scenario h.0.scenario_is
   faulty_is endings.Words w h = unheld _ contents (named_by a) (ap named_by (w.0 refl))
-  faulty_is (endings.Scenario line) w h = always _ _ held (inl refl)
-  faulty_is endings.File w h = always _ _ held (inr (inl refl))
-  faulty_is endings.Memory w h = always _ _ held (inr (inr refl))
+  faulty_is (endings.Scenario line) w h = always (Faulty 3) _ held (inl refl)
+  faulty_is endings.File w h = always (Faulty 4) _ held (inr (inl refl))
+  faulty_is endings.Memory w h = always (Faulty 8) _ held (inr (inr refl))
   faulty_is endings.Range w h = absurd h.0
 
   pub complete_is : (before after : Counts) (e : Ending) → ((e ≡ endings.Words) ↔ (a ≡ None)) → Leaves held m old now e → Raises before after e

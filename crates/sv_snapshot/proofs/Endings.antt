@@ -8,7 +8,7 @@ use Rattle.sv_bytes.specs.Writing.{Grew, GrewByPart}
 use Rattle.sv_command.specs.Endings.{Ends, IsCutShort, IsMade, IsPrinted, OrWords}
 use Rattle.sv_command.specs.Reading.{read_limit, held_of, IsRefused, IsNoScenario, HoldsScenario}
 use Rattle.sv_command.specs.Statuses.{status_of, Counts, Raises, NoneRose}
-use Rattle.sv_command.proofs.Held.{read_is, holds_none, always, unheld, unnamed}
+use Rattle.sv_command.proofs.Held.{Faulty, read_is, holds_none, always, unheld, unnamed}
 use Rattle.sv_command.proofs.Left.{early_made, printed_by, cut_by, ends_early, or_words, refused_is as left_refused}
 use Rattle.sv_snapshot.specs.Statuses.{EndsEarly, IsText}
 
@@ -58,16 +58,16 @@ module _ (named : Option (List ℕ)) (contents : List ℕ → Option (List ℕ))
   held = held_of contents named
 
   pub faulty_is : (e : Ending) → ((e ≡ endings.Words) ↔ (named ≡ None)) → Leaves held old now e
-      → IfSome held (λ all. IsNoScenario (take read_limit all) → (status_of e ≡ 3) ⊎ (status_of e ≡ 4) ⊎ (status_of e ≡ 8))
+      → IfSome held (λ all. IsNoScenario (take read_limit all) → Faulty (status_of e))
   faulty_is endings.Done w h = read_is held _ h.told.scenario h.told.scenario_is
   faulty_is endings.Out w h = read_is held _ h.told.scenario h.told.scenario_is
   faulty_is endings.Start w h = absurd h.0
   faulty_is endings.Link w h = absurd h.0
   faulty_is endings.Range w h = absurd h.0
   faulty_is endings.Words w h = unheld _ contents named (w.0 refl)
-  faulty_is (endings.Scenario line) w h = always _ _ held (inl refl)
-  faulty_is endings.File w h = always _ _ held (inr (inl refl))
-  faulty_is endings.Memory w h = always _ _ held (inr (inr refl))
+  faulty_is (endings.Scenario line) w h = always (Faulty 3) _ held (inl refl)
+  faulty_is endings.File w h = always (Faulty 4) _ held (inr (inl refl))
+  faulty_is endings.Memory w h = always (Faulty 8) _ held (inr (inr refl))
 
   pub complete_is : (before after : Counts) (e : Ending) → ((e ≡ endings.Words) ↔ (named ≡ None)) → Leaves held old now e → Raises before after e
       → HoldsScenario held → NoneRose before after → (status_of e ≡ 0) ⊎ (status_of e ≡ 8)

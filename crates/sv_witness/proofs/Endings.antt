@@ -10,7 +10,7 @@ use Rattle.sv_command.specs.declared.ending.Ending.TheVariants as endings
 use Rattle.sv_command.specs.Endings.{Ends}
 use Rattle.sv_command.specs.Reading.{IsRead, IsRefused, HoldsScenario, held_of, read_limit}
 use Rattle.sv_command.specs.Statuses.{Counts, Raises, NoneRose, TellsStatus, line_of, status_of}
-use Rattle.sv_command.proofs.Held.{always, both, same_scenario, read_is, holds_none}
+use Rattle.sv_command.proofs.Held.{Faulty, always, both, same_scenario, read_is, holds_none}
 use Rattle.sv_command.proofs.Statuses.{file_is, told_is as plain_told}
 use Rattle.sv_command.proofs.Left.{printed_by, cut_by, ends_early, refused_is}
 use Rattle.sv_witness.specs.declared.words.Witnessing.{Witnessing}
@@ -53,9 +53,6 @@ words_alone e line is other = cc
 
 module _ (old new : Option (List ℕ)) where
   module _ (asked : Asked) (held : Option (List ℕ)) where
-    abbrev Faulty : ℕ → Type 0
-    Faulty n = (n ≡ 3) ⊎ (n ≡ 4) ⊎ (n ≡ 8)
-
     abbrev Lacking : ℕ → Type 0
     Lacking n = (n ≡ 4) ⊎ (n ≡ 8) ⊎ (n ≡ 10)
 
