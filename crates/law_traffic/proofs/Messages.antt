@@ -5,8 +5,8 @@ use Rattle.std.proofs.lemmas.List.{map-append, append_cancel_left}
 use Rattle.std.proofs.lemmas.Grind.{flat_map-append}
 use mathlib.Core.List.{IsPrefix}
 use Rattle.sv_frame.specs.Frames.{frame, frames_of, FitsFrame, too_long}
-use Rattle.sv_frame.specs.Streams.{split_frames, incoming_items, last_item}
-use Rattle.sv_frame.specs.Streams.Incoming.{Payload}
+use Rattle.sv_frame.specs.Streams.{split_frames, incoming_items, too_long_item}
+use Rattle.sv_frame.specs.Streams.StreamItem.{Payload}
 use Rattle.sv_frame.proofs.Splitting.{split-frames_of}
 use Rattle.sv_wire.specs.declared.fault.Malformed.{Malformed}
 use Rattle.sv_wire.specs.declared.message.Request.{Request}
@@ -15,7 +15,7 @@ use Rattle.sv_wire.specs.Messages.{reply_at}
 use Rattle.sv_wire.specs.Spelling.{request_bytes, reply_bytes}
 use Rattle.sv_wire.specs.Laws.{IsRequest, IsReply}
 use Rattle.sv_exchange.proofs.Sizes.{request_short, reply_short, request_back, reply_back}
-use Rattle.sv_session.specs.Requests.{read_or_bad, request_for, requests_in}
+use Rattle.sv_session.specs.Requests.{read_or_bad, request_for, requests_read}
 use Rattle.law_traffic.specs.Cuts.{IsCut}
 use Rattle.sv_player.specs.Carried.{request_frames, was_read, BeginsWith}
 use Rattle.law_traffic.specs.Traffic.{reply_frames}
@@ -94,7 +94,7 @@ pub record AreTaken (asked : List Request) (stream : List ℕ) : Type 0 where
   pub first : List Request
   pub second : List Request
   pub are : asked ≡ first ++ second
-  pub came : requests_in stream ≡ first
+  pub came : requests_read stream ≡ first
   pub items : incoming_items stream ≡ map Payload (map request_bytes first)
   pub rest : List ℕ
   pub whole : stream ≡ request_frames first ++ rest
@@ -102,11 +102,11 @@ pub record AreTaken (asked : List Request) (stream : List ℕ) : Type 0 where
 items_of : (stream : List ℕ) (payloads : List (List ℕ)) (c : IsCut payloads stream) → incoming_items stream ≡ map Payload c.taken
 unfolding incoming_items
 items_of stream payloads c =
-    ap (λ (split : List (List ℕ) × List ℕ). map Payload split.0 ++ last_item (too_long split.1)) c.split
-    ∙ (ap (λ o. map Payload c.taken ++ last_item o) c.none ∙ append-nil (map Payload c.taken))
+    ap (λ (split : List (List ℕ) × List ℕ). map Payload split.0 ++ too_long_item (too_long split.1)) c.split
+    ∙ (ap (λ o. map Payload c.taken ++ too_long_item o) c.none ∙ append-nil (map Payload c.taken))
 
-came_by : (stream : List ℕ) → requests_in stream ≡ map request_for (incoming_items stream)
-unfolding requests_in
+came_by : (stream : List ℕ) → requests_read stream ≡ map request_for (incoming_items stream)
+unfolding requests_read
 came_by stream = refl
 
 pub taken : (asked : List Request) (stream : List ℕ) → AllByRecursion IsRequest asked → IsPrefix stream (request_frames asked) → AreTaken asked stream

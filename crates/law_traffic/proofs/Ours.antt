@@ -11,10 +11,10 @@ use Rattle.sv_wire.specs.declared.message.Reply.{Reply}
 use Rattle.sv_journal.specs.declared.entry.Entry.{Entry}
 use Rattle.sv_journal.specs.declared.entry.Logged.TheVariants as logged
 use Rattle.sv_journal.specs.History.{Authored, full_reply}
-use Rattle.sv_journal.specs.Sessions.{is_end}
+use Rattle.sv_journal.specs.Sessions.{is_end, is_ended}
 use Rattle.sv_sequencer.specs.Step.{entry_of}
 use Rattle.sv_lock.specs.Histories.{entries_of}
-use Rattle.sv_system.specs.Fits.{requests_in, replies_in, is_ended, IsEndLast}
+use Rattle.sv_system.specs.Fits.{requests_in, replies_in, IsEndLast}
 use Rattle.sv_system.specs.Records.{ends_in}
 use Rattle.sv_asked.proofs.Every.{each-left, each-reverse}
 

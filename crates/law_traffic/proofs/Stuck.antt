@@ -5,8 +5,8 @@ use Rattle.std.proofs.lemmas.List.{length-map, append_cancel_left}
 use Rattle.std.proofs.lemmas.Option.{none-some, same_Some}
 use mathlib.Core.List.{IsPrefix}
 use Rattle.sv_frame.specs.Frames.{frame, frames_of, FitsFrame, first_frame, too_long}
-use Rattle.sv_frame.specs.Streams.{incoming_items, last_item, Incoming}
-use Rattle.sv_frame.specs.Streams.Incoming.{Payload}
+use Rattle.sv_frame.specs.Streams.{incoming_items, too_long_item, StreamItem}
+use Rattle.sv_frame.specs.Streams.StreamItem.{Payload}
 use Rattle.sv_frame.proofs.Fronts.{first_frame-append, first_frame-frame, first_frame-shorter}
 use Rattle.sv_frame.proofs.Splitting.{split-all_frames}
 use Rattle.sv_wire.specs.declared.message.Request.{Request}
@@ -36,7 +36,7 @@ use Rattle.sv_player.specs.Carried.{BeginsWith}
 use Rattle.sv_player.specs.Stops.{NoneCame, is_cut}
 use Rattle.sv_player.specs.Played.{replies_of}
 use Rattle.law_traffic.specs.Sessions.{Over, IsSessionDone}
-use Rattle.law_traffic.specs.Traffic.{reply_frames, is_stop, EndsWithStop, TookAll}
+use Rattle.law_traffic.specs.Traffic.{reply_frames, is_stop_reply, EndsWithStop, TookAll}
 use Rattle.law_traffic.specs.Stuck.{IsTakeable}
 use Rattle.law_traffic.proofs.Cuts.{front_none, empty_short, not_long}
 use Rattle.law_traffic.proofs.Messages.{requests_fit, request_frames_are, reply_frames_both, AreGot, got_first}
@@ -83,15 +83,15 @@ no_more (w ∷ ws) rest fine is none =
 whole_items : (payloads : List (List ℕ)) → AllByRecursion FitsFrame payloads → incoming_items (frames_of payloads) ≡ map Payload payloads
 unfolding incoming_items
 whole_items payloads fits =
-    ap (λ (split : List (List ℕ) × List ℕ). map Payload split.0 ++ last_item (too_long split.1)) (split-all_frames payloads fits)
-    ∙ (ap (λ o. map Payload payloads ++ last_item o) empty_short ∙ append-nil (map Payload payloads))
+    ap (λ (split : List (List ℕ) × List ℕ). map Payload split.0 ++ too_long_item (too_long split.1)) (split-all_frames payloads fits)
+    ∙ (ap (λ o. map Payload payloads ++ too_long_item o) empty_short ∙ append-nil (map Payload payloads))
 
 counted_items : (qs : List Request) → length (map Payload (map request_bytes qs)) ≡ length qs
 counted_items qs = length-map (map request_bytes qs) Payload ∙ length-map qs request_bytes
 
 -- ---- The last reply
 
-stop_answers : (q : Request) (w : Reply) → is_stop w ≡ true → allows q w ≡ true → q ≡ requests.Leave
+stop_answers : (q : Request) (w : Reply) → is_stop_reply w ≡ true → allows q w ≡ true → q ≡ requests.Leave
 stop_answers q (replies.Refused code detail) stop kind = absurd (true≢false (sym kind ∙ never-refused q code detail))
 stop_answers requests.Leave replies.Bye stop kind = refl
 stop_answers (requests.Join client life interest) replies.Bye stop kind = cc
@@ -178,7 +178,7 @@ module _ (stay : FullRepliesStay) (name : LegalRelaysNameAccepted) (journal : Li
     asked_all t =
         let came = d.settled.arrived.to_server.whole t.ended_is ∙ (d.carried.sent ∙ request_frames_are (requests_of L s)) in
         let items = sym t.items ∙ (ap incoming_items came ∙ whole_items (map request_bytes (requests_of L s)) (requests_fit (requests_of L s) (messages stay name journal L s x d))) in
-        sym (counted_items own_steps) ∙ (ap (λ (l : List Incoming). length l) items ∙ counted_items (requests_of L s))
+        sym (counted_items own_steps) ∙ (ap (λ (l : List StreamItem). length l) items ∙ counted_items (requests_of L s))
 
     pub none_is_awaited : length (replies_of L s) ≡ length (requests_of L s)
     none_is_awaited =

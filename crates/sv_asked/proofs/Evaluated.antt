@@ -16,9 +16,9 @@ use Rattle.sv_world.specs.declared.action.Stmt.{Stmt, map-Stmt}
 use Rattle.sv_world.specs.declared.action.Stmt.TheOpen.{Stmt-F}
 use Rattle.sv_world.specs.declared.action.Stmt.TheViews.{roll-Stmt}
 use Rattle.sv_world.specs.declared.action.Stmt.TheFolds.{fold-roll-Stmt, ind-Stmt}
-use Rattle.sv_eval.specs.Numbers.{is_i64, in_i64, is_zero, sum_of, difference_of, product_of, quotient_of, remainder_of}
-use Rattle.sv_eval.specs.Evaluation.{Slots, number_at, with_number, both, expr_step, expr_number, cond_holds, choose, in_order, stmt_step, stmt_after, body_after, outcome_by, outcome_of}
-use Rattle.sv_world.specs.Ranges.{expr_fits_step, expr_fits, cond_fits, stmt_fits_step, stmt_fits}
+use Rattle.sv_eval.specs.Numbers.{in_i64, sum_of, difference_of, product_of, quotient_of, remainder_of}
+use Rattle.sv_eval.specs.Evaluation.{Slots, attribute_in, with_number, both, expr_step, expr_number, cond_holds, choose, in_order, stmt_step, stmt_after, body_after, outcome_by, outcome_of}
+use Rattle.sv_world.specs.Ranges.{is_i64, is_zero, expr_fits_step, expr_fits, cond_fits, stmt_fits_step, stmt_fits}
 use Rattle.sv_wire.specs.Ranges.{ValueFits}
 
 -- ---- Numbers
@@ -99,7 +99,7 @@ all_set P (x ∷ xs) (suc k) y all h = (all.0, all_set P xs k y all.1 h)
 zero_fits : IsNumber (pos 0)
 zero_fits = fits_signed_from_abs w64 (pos 0) (omega arith)
 
-number_fits : (slots : Slots) (slot attr : ℕ) → AreNumbers slots → IsNumber (number_at slots slot attr)
+number_fits : (slots : Slots) (slot attr : ℕ) → AreNumbers slots → IsNumber (attribute_in slots slot attr)
 number_fits slots slot attr all = all_at IsNumber (get_or slots slot []) attr (pos 0) (all_at ValueFits slots slot [] all tt) zero_fits
 
 with_number_fits : (slots : Slots) (slot attr : ℕ) (n : ℤ) → AreNumbers slots → IsNumber n → AreNumbers (with_number slots slot attr n)

@@ -6,7 +6,8 @@ use Rattle.std.specs.Int.{w32}
 use Rattle.std.proofs.lemmas.Int.{fits_signed_from_abs, ints}
 use Rattle.std.proofs.lemmas.Bool.{and_parts, leb-true}
 use Rattle.sv_world.specs.declared.action.Action.{Action}
-use Rattle.sv_world.specs.Control.{is_in, below, blank, action_at, greatest, distance, influence, chain_length, influence_distance}
+use Rattle.sv_world.specs.Control.{is_in, below, blank, action_at, distance, influence, chain_length, influence_distance}
+use Rattle.sv_world.specs.Trees.{greatest}
 use Rattle.sv_world.specs.Faults.{is_in_plane, has_origin}
 use Rattle.sv_world.specs.Sets.{write_set}
 use Rattle.sv_world.proofs.Ascending.{ascending_shorter}

@@ -1,3 +1,4 @@
+-- The definitions of this crate, file by file.
 pub mod Faults
 pub mod Memory
 pub mod Reading

@@ -24,9 +24,9 @@ IsPiece size read.Ended = Unit {0}
 IsPiece size read.Failed = Unit {0}
 
 -- `into` begins with the next n bytes, and the rest is left
-abbrev pub GetsNext : Option (List ℕ) → Option (List ℕ) → List ℕ → ℕ → Type 0
-GetsNext (Some bytes) left into n = (n ≤ length bytes) × (take n into ≡ take n bytes) × (left ≡ Some (drop n bytes))
-GetsNext None left into n = left ≡ None
+abbrev pub GetsBytes : Option (List ℕ) → Option (List ℕ) → List ℕ → ℕ → Type 0
+GetsBytes (Some bytes) left into n = (n ≤ length bytes) × (take n into ≡ take n bytes) × (left ≡ Some (drop n bytes))
+GetsBytes None left into n = left ≡ None
 
 -- nothing is left
 abbrev pub IsAtEnd : Option (List ℕ) → Option (List ℕ) → Type 0
@@ -35,7 +35,7 @@ IsAtEnd None left = left ≡ None
 
 -- what a read gave: the next bytes, the end exactly where nothing is left, or nothing
 abbrev pub ReadsNext : Option (List ℕ) → Option (List ℕ) → List ℕ → Read → Type 0
-ReadsNext before left into (read.Got n) = GetsNext before left into n
+ReadsNext before left into (read.Got n) = GetsBytes before left into n
 ReadsNext before left into read.Ended = IsAtEnd before left
 ReadsNext before left into read.Failed = left ≡ before
 

@@ -21,19 +21,19 @@ pub record GrewByPart (old now : Option (List ℕ)) (bytes : List ℕ) : Type 0 
   pub grew : Grew old now (take size bytes)
 
 -- a write of so many bytes takes at least one of them
-abbrev pub IsTaken : ℕ → Wrote → Type 0
-IsTaken size (Took n) = (0 < n) × (n ≤ size)
-IsTaken size Failed = Unit {0}
+abbrev pub TakesSome : ℕ → Wrote → Type 0
+TakesSome size (Took n) = (0 < n) × (n ≤ size)
+TakesSome size Failed = Unit {0}
 
 -- what a write did: the sink grew by the front of the piece, or stays as it was
-abbrev pub Writes : Option (List ℕ) → Option (List ℕ) → List ℕ → Wrote → Type 0
-Writes old now piece (Took n) = Grew old now (take n piece)
-Writes old now piece Failed = now ≡ old
+abbrev pub WritesFront : Option (List ℕ) → Option (List ℕ) → List ℕ → Wrote → Type 0
+WritesFront old now piece (Took n) = Grew old now (take n piece)
+WritesFront old now piece Failed = now ≡ old
 
 -- several pieces as one text
-abbrev pub joined : List (Bor (List ℕ)) → List ℕ
-joined [] = []
-joined (piece ∷ pieces) = piece.now ++ joined pieces
+abbrev pub joined_pieces : List (Bor (List ℕ)) → List ℕ
+joined_pieces [] = []
+joined_pieces (piece ∷ pieces) = piece.now ++ joined_pieces pieces
 
 -- the sink was given a text: it grew by just that where its count did not rise, and else by a front part of it
 pub record Told (old now : Option (List ℕ)) (before after : ℕ) (text : List ℕ) : Type 0 where

@@ -1,3 +1,4 @@
+//! A count of faults.
 ghost use Rattle.std.specs.Prelude.{◌≡◌, ℕ, ◌+◌};
 
 use std::marker::{Model, PhantomData};

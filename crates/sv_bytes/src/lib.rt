@@ -2,6 +2,7 @@
 //! moves, when it fails, and that a failure is counted.
 #![tactic(auto)]
 
+mod again;
 mod faults;
 mod memory;
 mod plan;
@@ -10,6 +11,7 @@ mod stored;
 mod system;
 mod writing;
 
+pub use again::{read_again, write_again};
 pub use faults::FaultCount;
 pub use memory::{MemFiles, MemSink};
 pub use plan::Plan;

@@ -1,3 +1,4 @@
+//! Which calls of an object in memory fail, and how many bytes one moves.
 ghost use Rattle.std.specs.Prelude.{◌≡◌, ◌+◌, ◌<◌, [], ◌∷◌, ◌++◌, Contains, IsTrue, OnOk, OnErr, ◌↔◌, ◌^◌, min, ◌-◌};
 
 use std::alloc::{AllocError, Global};

@@ -1,3 +1,4 @@
+//! Files that are read by name.
 ghost use Rattle.std.specs.Prelude.{◌≡◌, ◌≢◌, ℕ, ◌<◌, ◌≤◌, List, Bool, true, Option, length, Ok, Err, IfOk, vec_len};
 ghost use Rattle.sv_bytes.specs.Faults.{BeginCause, ReadCause, ReadAllCause};
 ghost use Rattle.sv_bytes.specs.Reading.{is_ready, BeginsAt, IsPiece, ReadsNext, ReadsFront};
@@ -97,9 +98,9 @@ pub fn read_all<F: Files>(
         Begun::Memory => return Err(FileFault::Memory),
     }
     let mut bytes = Vec::new(alloc);
-    let mut piece = [0u8; PIECE];
+    let mut piece = [0u8; ASKED_AT_ONCE];
     while bytes.len() < limit {
-        let room = (limit - bytes.len()).min(PIECE);
+        let room = (limit - bytes.len()).min(ASKED_AT_ONCE);
         match files.read(&mut piece[..room]) {
             Read::Got(count) => bytes
                 .extend_from_slice(&piece[..count])
@@ -111,4 +112,5 @@ pub fn read_all<F: Files>(
     Ok(bytes)
 }
 
-const PIECE: usize = 4096;
+/// How many bytes a read of a file asks for at most.
+const ASKED_AT_ONCE: usize = 4096;

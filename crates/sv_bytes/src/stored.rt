@@ -1,3 +1,4 @@
+//! The files that are held in memory, and one that is being read.
 ghost use Rattle.std.specs.Prelude.{◌≡◌, ◌≤◌, take, drop, length, min};
 
 use std::marker::Model;

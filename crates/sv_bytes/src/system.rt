@@ -1,5 +1,5 @@
-ghost use Rattle.std.specs.Io.{ReadsAtMost, WritesAtMost};
-
+//! The files and the writers of the system.
+use super::again::{read_again, write_again};
 use super::faults::FaultCount;
 use super::reading::{Begun, Files, Read};
 use super::writing::{Sink, Wrote};
@@ -103,31 +103,4 @@ impl<W: io::Write + Drop> Sink for OsSink<W> {
             }
         }
     }
-}
-
-// How often a call is made anew that a signal broke off.
-const TRIES: u32 = 1000;
-
-fn read_again<R: io::Read>(reader: &mut R, into: &mut [u8]) -> io::Result<usize>
-    ensures { ReadsAtMost result into.new }
-{
-    for _ in 1..TRIES {
-        match reader.read(into) {
-            Err(error) if error.kind() == io::ErrorKind::Interrupted => {}
-            answer => return answer,
-        }
-    }
-    reader.read(into)
-}
-
-fn write_again<W: io::Write>(writer: &mut W, piece: &[u8]) -> io::Result<usize>
-    ensures { WritesAtMost result piece.now }
-{
-    for _ in 1..TRIES {
-        match writer.write(piece) {
-            Err(error) if error.kind() == io::ErrorKind::Interrupted => {}
-            answer => return answer,
-        }
-    }
-    writer.write(piece)
 }

@@ -1,7 +1,8 @@
+//! Sinks that bytes are written to.
 ghost use Rattle.std.specs.Prelude.{◌≡◌, ℕ, ◌<◌, List, ◌++◌, Option, length, MatchBool, IsTrue};
 ghost use Rattle.std.specs.Bool.{OnTrue};
 ghost use Rattle.sv_bytes.specs.Faults.{WriteCause, Rose};
-ghost use Rattle.sv_bytes.specs.Writing.{IsTaken, Writes, Grew, GrewByPart, Told, joined};
+ghost use Rattle.sv_bytes.specs.Writing.{TakesSome, WritesFront, Grew, GrewByPart, Told, joined_pieces};
 
 /// What `write` answers.
 #[derive(Clone, Copy, Debug, PartialEq, Eq)]
@@ -22,8 +23,8 @@ pub trait Sink {
     /// Writes from the front of a piece that is not empty.
     fn write(&mut self, piece: &[u8]) -> Wrote
         requires { 0 < length piece.now }
-        ensures count { IsTaken (length piece.now) result }
-        ensures bytes { Writes (taken self.old) (taken self.new) piece.now result }
+        ensures count { TakesSome (length piece.now) result }
+        ensures bytes { WritesFront (taken self.old) (taken self.new) piece.now result }
         ensures cause { WriteCause (faults self.old) (faults self.new) result };
 }
 
@@ -46,9 +47,9 @@ pub fn write_all<K: Sink>(sink: &mut K, bytes: &[u8]) -> bool
 
 /// Writes several pieces in a row, as `write_all` of all of them joined, without taking memory.
 pub fn write_pieces<K: Sink>(sink: &mut K, pieces: &[&[u8]]) -> bool
-    ensures whole { OnTrue result (Grew (K.taken sink.old) (K.taken sink.new) (joined pieces.now)) }
-    ensures part { GrewByPart (K.taken sink.old) (K.taken sink.new) (joined pieces.now) }
-    ensures told { Told (K.taken sink.old) (K.taken sink.new) (K.faults sink.old) (K.faults sink.new) (joined pieces.now) }
+    ensures whole { OnTrue result (Grew (K.taken sink.old) (K.taken sink.new) (joined_pieces pieces.now)) }
+    ensures part { GrewByPart (K.taken sink.old) (K.taken sink.new) (joined_pieces pieces.now) }
+    ensures told { Told (K.taken sink.old) (K.taken sink.new) (K.faults sink.old) (K.faults sink.new) (joined_pieces pieces.now) }
     ensures cause { MatchBool result (K.faults sink.new ≡ K.faults sink.old) (Rose (K.faults sink.old) (K.faults sink.new)) }
 {
     for piece in pieces {

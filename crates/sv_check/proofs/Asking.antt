@@ -13,7 +13,7 @@ use Rattle.sv_wire.specs.declared.message.Request.{Request}
 use Rattle.sv_wire.specs.declared.message.Request.TheVariants as requests
 use Rattle.sv_wire.specs.Laws.{IsRequest}
 use Rattle.sv_journal.specs.declared.entry.Entry.{Entry}
-use Rattle.sv_journal.specs.Sessions.{is_end}
+use Rattle.sv_journal.specs.Sessions.{is_end, is_ended}
 use Rattle.sv_journal.specs.Answer.{Rules}
 use Rattle.sv_journal.specs.Laws.{AreWithinLimits}
 use Rattle.sv_client.specs.declared.trace.Event.{Event}
@@ -28,9 +28,9 @@ use Rattle.sv_scenario.specs.declared.scenario.Step.{Step}
 use Rattle.sv_scenario.specs.declared.scenario.Step.TheVariants as steps
 use Rattle.sv_scenario.specs.Limits.{IsGoodScenario}
 use Rattle.sv_scenario.specs.Sessions.{session_count}
-use Rattle.sv_script.specs.Following.{FollowsToEnd, is_step, steps_done, events_of, event_of, with_event}
+use Rattle.sv_script.specs.Following.{FollowsToEnd, is_step, steps_done, events_of, event_of, led_by}
 use Rattle.sv_script.specs.Laws.{StepsAreDoneInOrder}
-use Rattle.sv_system.specs.Fits.{requests_in, has_session, is_ended, is_owned, FitsOne}
+use Rattle.sv_system.specs.Fits.{requests_in, has_session, is_owned, FitsOne}
 use Rattle.sv_system.specs.Records.{rules_of, ends_in, EachTrace, ScriptsAreFollowed, IsRecordOf}
 use Rattle.sv_system.proofs.Histories.{IsEarlier, same, after, earlier-rest, earlier-legal}
 use Rattle.sv_system.proofs.Entered.{of-from, request-there}
@@ -44,7 +44,7 @@ use Rattle.sv_check.specs.Parts.{IsEntryAfter, AreEntries}
 
 -- ---- The actions that are made are those of the scripts
 
-with_fits : (o : Option Event) (es : List Event) → ((e : Event) → o ≡ Some e → EventFits e) → AllByRecursion EventFits es → AllByRecursion EventFits (with_event o es)
+with_fits : (o : Option Event) (es : List Event) → ((e : Event) → o ≡ Some e → EventFits e) → AllByRecursion EventFits es → AllByRecursion EventFits (led_by o es)
 with_fits None es f all = all
 with_fits (Some e) es f all = (f e refl, all)
 
@@ -185,16 +185,16 @@ module _ (scenario : Scenario) (H : List Entry) (Ls : List Trace) (good : IsGood
 
   limits : AreWithinLimits r
   limits = record {
-    some_attrs = good.world.some_attrs;
-    few_attrs = good.world.few_attrs;
+    some_attrs = good.world.shape.some_attrs;
+    few_attrs = good.world.shape.few_attrs;
     objects = good.world.objects;
-    attrs = All-from_recursion (λ value. length value ≡ scenario.world.shape.attrs) scenario.world.values good.world.attrs;
+    attrs = good.world.attrs;
     bound = good.bound;
   }
 
   has_numbers : HasNumbers r H Ls
   has_numbers = record {
-    objects = omega (arith, good.world.few_objects);
+    objects = omega (arith, good.world.shape.few_objects);
     opening = numbers.values;
     made = All-from_recursion (λ (L : Trace). All EventFits L.events) Ls (all_made_fit order shape scenario.clients Ls w (recursion_from_All PlanFits scenario.clients numbers.plans));
     positions = (let most = few r H (session_count scenario) g.legal g.sessions in omega (arith, most, good.sessions));

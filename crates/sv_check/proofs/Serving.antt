@@ -9,39 +9,26 @@ use Rattle.sv_wire.specs.declared.message.Request.{Request}
 use Rattle.sv_wire.specs.declared.message.Reply.{Reply}
 use Rattle.sv_journal.specs.declared.entry.Entry.{Entry}
 use Rattle.sv_journal.specs.History.{accepted, full_reply}
-use Rattle.sv_journal.specs.Sessions.{is_end}
+use Rattle.sv_journal.specs.Sessions.{is_end, is_ended}
 use Rattle.sv_journal.specs.Laws.{FullRepliesStay, LegalRelaysNameAccepted}
 use Rattle.sv_journal.specs.Text.{NamesAccepted, RelaysNameAccepted}
 use Rattle.sv_journal.specs.Answer.{Rules, Legal, reply_to}
 use Rattle.sv_sequencer.specs.Step.{SequencerView, history, Answered, entry_of}
-use Rattle.sv_sequencer.specs.Rows.{is_ended}
 use Rattle.sv_scenario.specs.declared.scenario.Scenario.{Scenario}
 use Rattle.sv_scenario.specs.Limits.{IsGoodScenario}
 use Rattle.sv_scenario.specs.Sessions.{session_count}
-use Rattle.sv_system.specs.Fits.{is_ended as has_end}
 use Rattle.sv_system.specs.Records.{rules_of, ends_in}
 use Rattle.sv_lines.specs.Told.{IsTold}
 use Rattle.sv_check.specs.declared.journal.Served.{Served}
 use Rattle.sv_check.specs.Parts.{AreEntries, IsWholeJournal}
 use Rattle.sv_check.specs.Serving.{full_replies, entries_of, IsServed, AreEnded}
 
--- Whether a session had its End, in either of the two orders in which the entries are looked at.
-pub same_ended : (h : List Entry) (s : ℕ) → has_end h s ≡ is_ended h s
-same_ended [] s = refl
-same_ended (d ∷ h) s = turned (eqb d.session s && is_end d.request) (has_end h s) ∙ ap (λ (b : Bool). b || (eqb d.session s && is_end d.request)) (same_ended h s)
-  where
-    turned : (a b : Bool) → (a || b) ≡ (b || a)
-    turned true true = refl
-    turned true false = refl
-    turned false true = refl
-    turned false false = refl
-
 -- A session that had no End has none.
 pub none_ended : (h : List Entry) (s : ℕ) → is_ended h s ≡ false → ends_in h s ≡ 0
 none_ended [] s e = refl
 none_ended (d ∷ h) s e =
-    let p = or_parts (is_ended h s) (eqb d.session s && is_end d.request) e in
-    rw p.1 (none_ended h s p.0)
+    let p = or_parts (eqb d.session s && is_end d.request) (is_ended h s) e in
+    rw p.0 (none_ended h s p.1)
 
 -- A session that had its End has one at least.
 pub some_ended : (h : List Entry) (s : ℕ) → is_ended h s ≡ true → 1 ≤ ends_in h s
@@ -51,9 +38,9 @@ some_ended (d ∷ h) s e = go (eqb d.session s && is_end d.request) refl (some_e
     go : (b : Bool) → (eqb d.session s && is_end d.request) ≡ b → (is_ended h s ≡ true → 1 ≤ ends_in h s) → 1 ≤ ends_in (d ∷ h) s
     go true q earlier = rw q (omega arith)
     go false q earlier =
-        elim (or_cases (is_ended h s) (eqb d.session s && is_end d.request) e) [
-          | inl x ↦ rw q (earlier x)
-          | inr x ↦ absurd (true≢false (sym x ∙ q))
+        elim (or_cases (eqb d.session s && is_end d.request) (is_ended h s) e) [
+          | inl x ↦ absurd (true≢false (sym x ∙ q))
+          | inr x ↦ rw q (earlier x)
         ]
 
 -- No session has two, with one more entry.
@@ -108,7 +95,7 @@ answered scenario old new s request reply stay names g legal l told first a push
         record {
           session = subst (λ (r : Rules). s < r.sessions) g.rules l;
           told = told;
-          once = λ t. same_ended (history old.sequencer) s ∙ first t;
+          once = first;
           reply = ap (λ (r : Rules). reply_to r (history old.sequencer) s request) g.rules;
         },
         g.entries,

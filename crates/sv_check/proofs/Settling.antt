@@ -4,8 +4,8 @@ use Rattle.std.proofs.lemmas.Bool.{eqb-true, eq-eqb}
 use Rattle.std.proofs.lemmas.List.{take_more, reverse-append}
 use Rattle.sv_wire.specs.declared.message.Request.{Request}
 use Rattle.sv_journal.specs.declared.entry.Entry.{Entry}
-use Rattle.sv_journal.specs.Sessions.{is_end}
-use Rattle.sv_system.specs.Fits.{requests_in, is_ended, IsEndLast}
+use Rattle.sv_journal.specs.Sessions.{is_end, is_ended}
+use Rattle.sv_system.specs.Fits.{requests_in, IsEndLast}
 use Rattle.sv_system.specs.Fronts.{IsFront}
 use Rattle.sv_system.proofs.Fronts.{front-all, front-then, get-last}
 use Rattle.sv_system.proofs.Entered.{requests-one}

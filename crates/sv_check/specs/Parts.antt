@@ -6,7 +6,7 @@ use Rattle.std.specs.Fmt.{decimal}
 use Rattle.sv_world.specs.declared.world.Shape.{Shape}
 use Rattle.sv_journal.specs.declared.entry.Entry.{Entry}
 use Rattle.sv_journal.specs.History.{accepted, commit_of, committed_of}
-use Rattle.sv_journal.specs.Sessions.{is_end}
+use Rattle.sv_journal.specs.Sessions.{is_end, is_ended}
 use Rattle.sv_journal.specs.Answer.{reply_to}
 use Rattle.sv_journal.specs.Text.{entry_lines, journal_text}
 use Rattle.sv_client.specs.declared.trace.Trace.{Trace}
@@ -16,7 +16,7 @@ use Rattle.sv_scenario.specs.declared.scenario.Plan.{Plan}
 use Rattle.sv_scenario.specs.declared.scenario.Scenario.{Scenario}
 use Rattle.sv_scenario.specs.Sessions.{sessions_in, session_count}
 use Rattle.sv_script.specs.Following.{Follows, FollowsToEnd}
-use Rattle.sv_system.specs.Fits.{replies_in, is_ended, has_session, FitsIn}
+use Rattle.sv_system.specs.Fits.{replies_in, has_session, FitsIn}
 use Rattle.sv_system.specs.Fronts.{IsFront}
 use Rattle.sv_system.specs.Records.{rules_of, ends_in, AreTracesOf, EachTrace}
 use Rattle.sv_lines.specs.Told.{IsTold}

@@ -3,8 +3,8 @@ use Rattle.std.specs.Prelude.{◌≡◌, ℕ, ◌<◌, ◌≤◌, true, List, ma
 use Rattle.sv_wire.specs.declared.message.Reply.{Reply}
 use Rattle.sv_journal.specs.declared.entry.Entry.{Entry}
 use Rattle.sv_journal.specs.History.{accepted, full_reply}
+use Rattle.sv_journal.specs.Sessions.{is_ended}
 use Rattle.sv_sequencer.specs.Step.{history}
-use Rattle.sv_sequencer.specs.Rows.{is_ended}
 use Rattle.sv_scenario.specs.declared.scenario.Scenario.{Scenario}
 use Rattle.sv_scenario.specs.Sessions.{session_count}
 use Rattle.sv_system.specs.Records.{rules_of, ends_in}

@@ -1,3 +1,4 @@
+-- The definitions of this crate, file by file.
 pub mod Doors
 pub mod Pipes
 pub mod Tcp

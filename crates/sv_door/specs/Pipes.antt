@@ -1,6 +1,8 @@
 -- Doors in memory: their lists of calls that fail.
 use Rattle.std.specs.Prelude.{◌≡◌, ℕ, List, []}
-use Rattle.sv_door.specs.declared.book.Book.{Book}
+use Rattle.sv_link.specs.Books.{IsNewBook}
+use Rattle.sv_link.specs.declared.book.Book.{Book}
+use Rattle.sv_door.specs.Doors.{Passage}
 use Rattle.sv_door.specs.declared.pipe_door.PipeDoor.{PipeDoor}
 
 -- the numbers of the calls that fail, of the door and of each end; and how many bytes a call of an end moves at most
@@ -24,7 +26,7 @@ module _ {R : Type 0} where
       }
 
   -- the door's ends: those that were given back, how many were made, how many are owed, and the count of faults
-  abbrev pub book_of : PipeDoor R → Book
+  abbrev pub book_of : PipeDoor R → Book Passage
   book_of door = door.book
 
   abbrev pub port_of : PipeDoor R → ℕ
@@ -37,8 +39,5 @@ module _ {R : Type 0} where
 
   -- no end was made, and nothing fails at this port
   pub record IsNewDoor (port : ℕ) (door : PipeDoor R) : Type 0 where
-    pub given : door.book.given.items ≡ []
-    pub made : door.book.made ≡ 0
-    pub owed : door.book.owed ≡ 0
-    pub faultless : door.book.faults.value ≡ 0
+    pub book : IsNewBook (book_of door)
     pub sure : IsSureOf door port

@@ -1,10 +1,10 @@
 //! Doors: how a server and its clients, as two programs, come by the ends of their connections.
 #![tactic(auto)]
 
-mod book;
 mod doors;
 mod hall;
 mod pipe_door;
+mod returned;
 mod tcp_door;
 
 pub use doors::{Door, Made};

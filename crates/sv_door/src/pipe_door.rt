@@ -1,14 +1,14 @@
 //! A door in memory, for threads.
 ghost use Rattle.std.specs.Prelude.{◌≡◌, ◌<◌, [], ◌∷◌, ◌++◌, IfOk, IfSome, OnOk, OnErr, false};
-ghost use Rattle.sv_link.specs.Rooms.{HasRoom};
+ghost use Rattle.sv_link.specs.Books.{CanOpen};
 
-use crate::book::Book;
 use crate::doors::{Door, Made};
 use crate::hall::Hall;
+use crate::returned::{Returned, open_end, take_back};
 use std::alloc::{AllocError, Global};
 use std::sync::{Arc, Wait};
 use sv_bytes::Plan;
-use sv_link::{Pipe, PipeEnd, Side, copied_plan};
+use sv_link::{Book, Pipe, PipeEnd, Side, copied_plan};
 
 /// Connections in memory at one port, between threads that have a door each: [`another`](PipeDoor::another) makes the next thread's.
 /// Of all these doors, the n-th `connect` meets the n-th `accept`, whichever comes first. A client does not wait for its server to
@@ -22,7 +22,7 @@ pub struct PipeDoor<'r, R: Wait> {
     rt: &'r R,
     hall: Arc<Hall, Global>,
     port: u16,
-    book: Book,
+    book: Book<Returned>,
     calls: Plan,
     ends: Plan,
 }
@@ -99,8 +99,8 @@ impl<'r, R: Wait> PipeDoor<'r, R> {
     // Takes the room for an end, and gives the plan of its calls. None where there is no memory.
     fn prepares(&mut self) -> Option<Plan>
         ensures plan { IfSome result (λ plan. plan.failing.items ≡ (plans_of self.old).ends) }
-        ensures room { IfSome result (λ plan. HasRoom self.new.book.given self.new.book.owed self.new.book.made) }
-        ensures book { (self.new.book.given.items ≡ self.old.book.given.items) × (self.new.book.made ≡ self.old.book.made) × (self.new.book.owed ≡ self.old.book.owed) × (self.new.book.faults ≡ self.old.book.faults) }
+        ensures room { IfSome result (λ plan. CanOpen self.new.book) }
+        ensures book { (self.new.book.kept.items ≡ self.old.book.kept.items) × (self.new.book.made ≡ self.old.book.made) × (self.new.book.owed ≡ self.old.book.owed) × (self.new.book.faults ≡ self.old.book.faults) }
         ensures same { (port_of self.new ≡ port_of self.old) × (plans_of self.new ≡ plans_of self.old) }
     {
         let plan = copied_plan(self.alloc, &self.ends).ok()?;
@@ -113,7 +113,7 @@ impl<'r, R: Wait + Sync> Door for PipeDoor<'r, R> {
 
     type E = PipeEnd<'r, R>;
 
-    ghost given = { λ d. d.book.given.items };
+    ghost given = { λ d. d.book.kept.items };
 
     ghost made = { λ d. d.book.made };
 
@@ -132,7 +132,7 @@ impl<'r, R: Wait + Sync> Door for PipeDoor<'r, R> {
             return Made::Memory;
         };
         let pipe = self.hall.take(self.rt);
-        let log = self.book.open(self.alloc, Side::Server);
+        let log = open_end(&mut self.book, self.alloc, Side::Server);
         Made::End(PipeEnd::new(self.rt, pipe, plan, log))
     }
 
@@ -153,11 +153,11 @@ impl<'r, R: Wait + Sync> Door for PipeDoor<'r, R> {
         if self.hall.put(self.rt, shared).is_err() {
             return Made::Memory;
         }
-        let log = self.book.open(self.alloc, Side::Client);
+        let log = open_end(&mut self.book, self.alloc, Side::Client);
         Made::End(PipeEnd::new(self.rt, pipe, plan, log))
     }
 
     fn give_back(&mut self, end: PipeEnd<'r, R>) {
-        self.book.take_back(end.into_log());
+        take_back(&mut self.book, end.into_log());
     }
 }

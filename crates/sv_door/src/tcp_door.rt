@@ -1,17 +1,17 @@
 //! A door over TCP on this machine.
 ghost use Rattle.std.specs.Prelude.{◌≡◌};
-ghost use Rattle.sv_link.specs.Rooms.{HasRoom};
+ghost use Rattle.sv_link.specs.Books.{IsNewBook, CanOpen};
 ghost use Rattle.sv_door.specs.Doors.{MakesEnd, OwesEnd, MadeCause};
 
-use crate::book::Book;
 use crate::doors::{Door, Made};
+use crate::returned::{Returned, open_end, take_back};
 use std::alloc::Global;
 use std::io::{ErrorKind, Write};
 use std::net::{Ipv4Addr, Net as Sockets, SocketAddr, TcpListener, TcpStream};
 use std::rt::Clock;
 use std::time::Duration;
 use std::{io, thread};
-use sv_link::{Side, TcpEnd};
+use sv_link::{Book, Side, TcpEnd};
 
 /// Connections over TCP on this machine's loopback.
 ///
@@ -22,7 +22,7 @@ pub struct TcpDoor<'r, R: Sockets<Listener = TcpListener, Stream = TcpStream> + 
     alloc: Global,
     rt: &'r R,
     bound: Option<Bound>,
-    book: Book,
+    book: Book<Returned>,
 }
 
 #[derive(Drop)]
@@ -32,11 +32,11 @@ struct Bound {
 }
 
 impl<'r, R: Sockets<Listener = TcpListener, Stream = TcpStream> + Clock> TcpDoor<'r, R> {
-    ghost use Rattle.sv_door.specs.Tcp.{IsNewDoor, told_by, faults_of};
+    ghost use Rattle.sv_door.specs.Tcp.{end_told, end_faults};
 
     /// No end was made, and no port is bound.
     pub fn new(alloc: Global, rt: &'r R) -> TcpDoor<'r, R>
-        ensures { IsNewDoor result }
+        ensures { IsNewBook result.book }
     {
         TcpDoor {
             alloc,
@@ -65,15 +65,15 @@ impl<'r, R: Sockets<Listener = TcpListener, Stream = TcpStream> + Clock> TcpDoor
 
     // The end that a new stream is, or why there is none.
     fn entered(&mut self, stream: io::Result<TcpStream>, side: Side) -> Made<TcpEnd>
-        requires room { HasRoom self.old.book.given self.old.book.owed self.old.book.made }
-        ensures made { MakesEnd told_by faults_of side self.old.book.made self.new.book.made result }
+        requires room { CanOpen self.old.book }
+        ensures made { MakesEnd end_told end_faults side self.old.book.made self.new.book.made result }
         ensures owed { OwesEnd self.old.book.owed self.new.book.owed result }
-        ensures given { self.new.book.given.items ≡ self.old.book.given.items }
+        ensures given { self.new.book.kept.items ≡ self.old.book.kept.items }
         ensures cause { MadeCause self.old.book.faults.value self.new.book.faults.value result }
     {
         match stream {
             Ok(stream) => {
-                let log = self.book.open(self.alloc, side);
+                let log = open_end(&mut self.book, self.alloc, side);
                 Made::End(TcpEnd::new(stream, log))
             }
             Err(error) if error.kind() == ErrorKind::OutOfMemory => Made::Memory,
@@ -88,7 +88,7 @@ impl<'r, R: Sockets<Listener = TcpListener, Stream = TcpStream> + Clock> TcpDoor
 impl<'r, R: Sockets<Listener = TcpListener, Stream = TcpStream> + Clock> Door for TcpDoor<'r, R> {
     type E = TcpEnd;
 
-    ghost given = { λ d. d.book.given.items };
+    ghost given = { λ d. d.book.kept.items };
 
     ghost made = { λ d. d.book.made };
 
@@ -115,12 +115,12 @@ impl<'r, R: Sockets<Listener = TcpListener, Stream = TcpStream> + Clock> Door fo
     }
 
     fn give_back(&mut self, end: TcpEnd) {
-        self.book.take_back(end.into_log());
+        take_back(&mut self.book, end.into_log());
     }
 }
 
 // How often `connect` tries, and how long it waits between two tries: ten seconds in all.
-const TRIES: u32 = 501;
+const CONNECT_TRIES: u32 = 501;
 
 const PAUSE_MILLIS: u64 = 20;
 
@@ -128,7 +128,7 @@ fn connected<R: Sockets<Listener = TcpListener, Stream = TcpStream> + Clock>(
     rt: &R,
     port: u16,
 ) -> io::Result<TcpStream> {
-    for _ in 1..TRIES {
+    for _ in 1..CONNECT_TRIES {
         match connected_at_once(rt, port) {
             Err(error) if error.kind() == ErrorKind::ConnectionRefused => {
                 thread::sleep(rt, Duration::from_millis(PAUSE_MILLIS))

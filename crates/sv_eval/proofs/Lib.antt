@@ -1,3 +1,4 @@
+-- The lemmas on what actions do.
 pub mod Lengths
 pub mod Lists
 pub mod Masks

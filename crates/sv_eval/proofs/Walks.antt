@@ -14,10 +14,10 @@ use Rattle.sv_world.specs.declared.node.Comparison.{Comparison}
 use Rattle.sv_world.specs.declared.node.Comparison.TheVariants.{Eq, Lt, Le}
 use Rattle.sv_world.specs.declared.node.Connective.{Connective}
 use Rattle.sv_world.specs.declared.node.Connective.TheVariants.{And, Or}
-use Rattle.sv_world.specs.Parts.{Part, Expression, Condition, Statement, Block, Bad, first, block, binary_by, compare_by, join_by, binary, comparison, joining, negated, setting, choice, with_statement, is_expr, is_cond, is_stmt, is_block}
+use Rattle.sv_world.specs.Parts.{Part, Expression, Condition, Statement, Block, Bad, first, block, binary_by, compare_by, join_by, binary, comparison, connective, negated, assignment, choice, with_statement, is_expr, is_cond, is_stmt, is_block}
 use Rattle.sv_world.proofs.Layers.{binary_layer, compare_layer, join_layer, lit_fold, attr_fold, binary_fold, compare_fold, join_fold, not_fold, set_fold, if_fold}
 use Rattle.sv_world.proofs.Sorted.{binary_exprs, compare_exprs, join_conds, not_cond, set_expr, if_parts, more_parts, first_kind}
-use Rattle.sv_eval.specs.Evaluation.{Slots, number_at, with_number, both, expr_step, expr_number, cond_step, cond_holds, choose, in_order, stmt_step, stmt_after, body_after}
+use Rattle.sv_eval.specs.Evaluation.{Slots, attribute_in, with_number, both, expr_step, expr_number, cond_step, cond_holds, choose, in_order, stmt_step, stmt_after, body_after}
 use Rattle.sv_eval.specs.Walks.{combined, compared, connected, part_number, part_holds, part_after, block_after}
 
 both_none_is : {A B : Type 0} (give : A → A → Option B) (x : Option A) → None ≡ both give x None
@@ -29,7 +29,7 @@ both_none_is give (Some x) = refl
 pub lit_number : (n : ℤ) (slots : Slots) → part_number (Expression (expr.Lit n)) slots ≡ Some n
 lit_number n slots = ap (λ (f : Slots → Option ℤ). f slots) (lit_fold (Slots → Option ℤ) expr_step n)
 
-pub attr_number : (slot attr : ℕ) (slots : Slots) → part_number (Expression (expr.Attr slot attr)) slots ≡ Some (number_at slots slot attr)
+pub attr_number : (slot attr : ℕ) (slots : Slots) → part_number (Expression (expr.Attr slot attr)) slots ≡ Some (attribute_in slots slot attr)
 attr_number slot attr slots = ap (λ (f : Slots → Option ℤ). f slots) (attr_fold (Slots → Option ℤ) expr_step slot attr)
 
 binary_step : (o : Operator) (f g : Slots → Option ℤ) (slots : Slots) → expr_step (binary_layer o f g) slots ≡ both (combined o) (f slots) (g slots)
@@ -64,7 +64,7 @@ join_step : (o : Connective) (f g : Slots → Option Bool) (slots : Slots) → c
 join_step And f g slots = refl
 join_step Or f g slots = refl
 
-pub join_holds : (o : Connective) (p q : Part) (slots : Slots) → part_holds (joining o p q) slots ≡ both (λ x y. Some (connected o x y)) (part_holds p slots) (part_holds q slots)
+pub join_holds : (o : Connective) (p q : Part) (slots : Slots) → part_holds (connective o p q) slots ≡ both (λ x y. Some (connected o x y)) (part_holds p slots) (part_holds q slots)
 join_holds o (Condition a) (Condition b) slots =
     ap (λ (f : Slots → Option Bool). f slots) (join_fold (Slots → Option Bool) cond_step o a b) ∙ join_step o (cond_holds a) (cond_holds b) slots
 join_holds o (Condition a) q slots = both_none_is (λ x y. Some (connected o x y)) (cond_holds a slots)
@@ -76,7 +76,7 @@ not_holds p slots = refl
 
 -- ---- statements
 
-pub set_after : (slot attr : ℕ) (p : Part) (slots : Slots) → part_after (setting slot attr p) slots ≡ option_map (with_number slots slot attr) (part_number p slots)
+pub set_after : (slot attr : ℕ) (p : Part) (slots : Slots) → part_after (assignment slot attr p) slots ≡ option_map (with_number slots slot attr) (part_number p slots)
 set_after slot attr (Expression a) slots = ap (λ (f : Slots → Option Slots). f slots) (set_fold (Slots → Option Slots) stmt_step slot attr a)
 set_after slot attr p slots = refl
 

@@ -21,8 +21,8 @@ abbrev pub Slots : Type 0
 Slots = List (List ℤ)
 
 -- The number of an attribute in a slot, 0 where there is none.
-abbrev pub number_at : Slots → ℕ → ℕ → ℤ
-number_at slots slot attr = slice_index_or (slice_index_or slots slot []) attr (pos 0)
+abbrev pub attribute_in : Slots → ℕ → ℕ → ℤ
+attribute_in slots slot attr = slice_index_or (slice_index_or slots slot []) attr (pos 0)
 
 -- The slots with that number changed, where there is one.
 abbrev pub with_number : Slots → ℕ → ℕ → ℤ → Slots
@@ -37,7 +37,7 @@ both give (Some x) (Some y) = give x y
 -- The number of an expression, none where it is void.
 abbrev pub expr_step : Expr-F (Slots → Option ℤ) → Slots → Option ℤ
 expr_step (Expr-F.Lit n) slots = Some n
-expr_step (Expr-F.Attr slot attr) slots = Some (number_at slots slot attr)
+expr_step (Expr-F.Attr slot attr) slots = Some (attribute_in slots slot attr)
 expr_step (Expr-F.Add x y) slots = both sum_of (x slots) (y slots)
 expr_step (Expr-F.Sub x y) slots = both difference_of (x slots) (y slots)
 expr_step (Expr-F.Mul x y) slots = both product_of (x slots) (y slots)

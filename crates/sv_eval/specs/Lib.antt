@@ -1,3 +1,4 @@
+-- The definitions of what actions do.
 pub mod Evaluation
 pub mod Numbers
 pub mod Serial

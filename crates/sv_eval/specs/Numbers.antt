@@ -1,17 +1,9 @@
 -- Arithmetic of numbers of 64 bits, which gives none where it is void.
-use Rattle.std.specs.Prelude.{ℕ, zero, suc, ℤ, pos, negsuc, ◌+ℤ◌, ◌-ℤ◌, ◌*ℤ◌, int_div, int_rem, int_le, Bool, true, false, ◌&&◌, Option, Some, None, if◌then◌else◌}
-
--- The numbers of 64 bits with a sign.
-abbrev pub is_i64 : ℤ → Bool
-is_i64 z = int_le (negsuc 9223372036854775807) z && int_le z (pos 9223372036854775807)
+use Rattle.std.specs.Prelude.{ℤ, ◌+ℤ◌, ◌-ℤ◌, ◌*ℤ◌, int_div, int_rem, Option, Some, None, if◌then◌else◌}
+use Rattle.sv_world.specs.Ranges.{is_i64, is_zero}
 
 abbrev pub in_i64 : ℤ → Option ℤ
 in_i64 z = if is_i64 z then Some z else None
-
-abbrev pub is_zero : ℤ → Bool
-is_zero (pos zero) = true
-is_zero (pos (suc n)) = false
-is_zero (negsuc n) = false
 
 abbrev pub sum_of : ℤ → ℤ → Option ℤ
 sum_of x y = in_i64 (x +ℤ y)

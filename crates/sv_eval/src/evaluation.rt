@@ -1,3 +1,4 @@
+//! The evaluation of an action on the values of its reads.
 ghost use Rattle.std.specs.Prelude.{◌≡◌, ℕ, IfOk, All, length};
 ghost use Rattle.sv_world.specs.Sets.{at_mask, write_set};
 ghost use Rattle.sv_eval.specs.Evaluation.{outcome_of};

@@ -1,3 +1,5 @@
+//! The result of an action.
+
 use sv_world::{List, Value};
 
 /// The result of an action on the values of its reads.

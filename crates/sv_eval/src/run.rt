@@ -2,15 +2,15 @@
 ghost use Rattle.std.specs.Prelude.{◌≡◌, ◌<◌, Some, None, true, length, drop, MatchOption, IfSome, MatchBool};
 ghost use Rattle.sv_world.specs.Parts.{first, second, parts, is_expr, is_cond, is_stmt, is_block};
 ghost use Rattle.sv_eval.specs.Numbers.{quotient_of, remainder_of};
-ghost use Rattle.sv_eval.specs.Evaluation.{number_at, with_number, both, body_after};
+ghost use Rattle.sv_eval.specs.Evaluation.{attribute_in, with_number, both, body_after};
 ghost use Rattle.sv_eval.specs.Walks.{combined, compared, connected, part_number, part_holds, part_after, block_after};
 
 use sv_world::{
     Body, Comparison, CondHead, Connective, ExprHead, NodeCursor, Operator, StmtHead, Value,
 };
 
-fn number_at(slots: &[Value], slot: u8, attr: u8) -> i64
-    ensures { result ≡ number_at slots.now slot attr }
+fn attribute_in(slots: &[Value], slot: u8, attr: u8) -> i64
+    ensures { result ≡ attribute_in slots.now slot attr }
 {
     match slots.get(usize::from(slot)) {
         Some(value) => match value.as_slice().get(usize::from(attr)) {
@@ -82,7 +82,7 @@ fn expr_number(nodes: &mut NodeCursor<'_>, slots: &[Value]) -> Option<i64>
 {
     match nodes.expr() {
         ExprHead::Lit(number) => Some(number),
-        ExprHead::Attr { slot, attr } => Some(number_at(slots, slot, attr)),
+        ExprHead::Attr { slot, attr } => Some(attribute_in(slots, slot, attr)),
         ExprHead::Binary(operator) => pair_number(nodes, operator, slots),
     }
 }

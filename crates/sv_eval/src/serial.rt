@@ -1,3 +1,4 @@
+//! A law of serial execution.
 ghost use Rattle.std.specs.Prelude.{◌≡◌, ◌<◌, ℕ, ℤ, List, All, length};
 ghost use Rattle.sv_world.specs.Sets.{read_set};
 ghost use Rattle.sv_world.specs.declared.action.Action.{Action};

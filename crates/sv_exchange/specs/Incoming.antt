@@ -1,6 +1,6 @@
 -- What the first frame of an inbox is read as, and what is left of it.
 use Rattle.std.specs.Prelude.{◌≡◌, ℕ, ◌<◌, List, length, Option, None, Some, option_map, Result, Ok, Err}
-use Rattle.sv_frame.specs.Frames.{first_frame, too_long}
+use Rattle.sv_frame.specs.Frames.{greatest_frame, first_frame, too_long}
 use Rattle.sv_frame.specs.Answers.{Skips}
 use Rattle.sv_frame.specs.declared.reader.Next.{Next}
 use Rattle.sv_frame.specs.declared.reader.Next.TheVariants as nexts
@@ -20,12 +20,12 @@ module _ {M : Type 0} (read_at : List ℕ → Result M Malformed) where
     pub is : read_at payload ≡ read
 
   -- what each answer says of the bytes that came. There may be no memory whatever came
-  abbrev pub Reads : Incoming M → List ℕ → Type 0
-  Reads (incoming.Whole m) bytes = FirstReads bytes (Ok m)
-  Reads incoming.NotYet bytes = (first_frame bytes ≡ None) × (too_long bytes ≡ None)
-  Reads (incoming.Malformed fault) bytes = FirstReads bytes (Err fault)
-  Reads (incoming.TooLong n) bytes = too_long bytes ≡ Some n
-  Reads incoming.Memory bytes = Unit {0}
+  abbrev pub ReadsFirst : Incoming M → List ℕ → Type 0
+  ReadsFirst (incoming.Whole m) bytes = FirstReads bytes (Ok m)
+  ReadsFirst incoming.NotYet bytes = (first_frame bytes ≡ None) × (too_long bytes ≡ None)
+  ReadsFirst (incoming.Malformed fault) bytes = FirstReads bytes (Err fault)
+  ReadsFirst (incoming.TooLong n) bytes = too_long bytes ≡ Some n
+  ReadsFirst incoming.Memory bytes = Unit {0}
 
   -- what an answer of a frame reader becomes
   abbrev pub IsReadAs : Next → Incoming M → Type 0
@@ -47,9 +47,9 @@ module _ {M : Type 0} where
   Takes incoming.Memory old new = new ≡ old
 
   -- where no whole frame has come there is room for another byte
-  abbrev pub LeavesRoom : Incoming M → List ℕ → Type 0
-  LeavesRoom (incoming.Whole m) bytes = Unit {0}
-  LeavesRoom incoming.NotYet bytes = length bytes < 65540
-  LeavesRoom (incoming.Malformed fault) bytes = Unit {0}
-  LeavesRoom (incoming.TooLong n) bytes = Unit {0}
-  LeavesRoom incoming.Memory bytes = Unit {0}
+  abbrev pub KeepsRoom : Incoming M → List ℕ → Type 0
+  KeepsRoom (incoming.Whole m) bytes = Unit {0}
+  KeepsRoom incoming.NotYet bytes = length bytes < greatest_frame
+  KeepsRoom (incoming.Malformed fault) bytes = Unit {0}
+  KeepsRoom (incoming.TooLong n) bytes = Unit {0}
+  KeepsRoom incoming.Memory bytes = Unit {0}

@@ -1,5 +1,6 @@
 -- The bytes between a client and its session.
 use Rattle.std.specs.Prelude.{◌≡◌, ℕ, ◌≤◌, ◌⊎◌, List, [], ◌++◌, length}
+use Rattle.sv_frame.specs.Frames.{greatest_frame}
 use Rattle.sv_link.specs.declared.side.Side.{Side}
 use Rattle.sv_link.specs.Sides.{SideView, LinkView, other, side_of, with_side, unread, after_write}
 
@@ -20,7 +21,7 @@ pub record IsReadOn (old new : LinkView) (side : Side) : Type 0 where
 
 -- a reader has no more room, or nothing is left to read
 abbrev pub IsFilled : List ℕ → List ℕ → Type 0
-IsFilled reader left = (65540 ≤ length reader) ⊎ (left ≡ [])
+IsFilled reader left = (greatest_frame ≤ length reader) ⊎ (left ≡ [])
 
 -- what is to be read of a side is the same
 pub record IsSameToRead (old new : SideView) : Type 0 where

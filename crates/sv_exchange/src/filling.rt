@@ -7,7 +7,7 @@ use sv_frame::FrameReader;
 use sv_link::{MemLink, Side};
 
 /// How many bytes are moved at a time. Most messages are shorter, and the room for a piece is cleared each time.
-const PIECE: usize = 512;
+const MOVED_AT_ONCE: usize = 512;
 
 /// Reads what the other side wrote into the reader, as much as there is and fits.
 pub(crate) fn fill(link: &mut MemLink, side: Side, reader: &mut FrameReader)
@@ -16,9 +16,9 @@ pub(crate) fn fill(link: &mut MemLink, side: Side, reader: &mut FrameReader)
     ensures filled { IsFilled reader.new (unread (side_of link.new (other side))) }
     ensures link { IsReadOn link.old link.new side }
 {
-    let mut piece = [0; PIECE];
+    let mut piece = [0; MOVED_AT_ONCE];
     while link.waiting(side) > 0 && reader.spare() > 0 {
-        let room = reader.spare().min(PIECE);
+        let room = reader.spare().min(MOVED_AT_ONCE);
         let count = link.read(side, &mut piece[..room]);
         reader.feed(&piece[..count]);
     }

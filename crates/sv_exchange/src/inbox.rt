@@ -3,8 +3,8 @@ ghost use Rattle.std.specs.Prelude.{◌≡◌, ◌≢◌, ◌<◌, [], false, No
 ghost use Rattle.sv_link.specs.Ends.{EndReadCause};
 ghost use Rattle.sv_link.specs.Sides.{other, side_of, unread};
 ghost use Rattle.sv_frame.specs.Answers.{ReadsInto, Skips};
-ghost use Rattle.sv_frame.specs.Frames.{first_frame};
-ghost use Rattle.sv_exchange.specs.Incoming.{Reads, Takes, LeavesRoom, first_payload_of, IsReadAs};
+ghost use Rattle.sv_frame.specs.Frames.{greatest_frame, first_frame};
+ghost use Rattle.sv_exchange.specs.Incoming.{ReadsFirst, Takes, KeepsRoom, first_payload_of, IsReadAs};
 ghost use Rattle.sv_exchange.specs.Streams.{IsFilled, IsReadOn, IsWithin, not_taken};
 
 use crate::filling::fill;
@@ -63,7 +63,7 @@ impl Inbox {
     /// Waits for bytes of an end, and reads as many as have come and fit.
     pub fn read_from<E: End>(&mut self, end: &mut E) -> EndRead
         requires open { (E.told end.old).closed ≡ false }
-        requires room { length self.old < 65540 }
+        requires room { length self.old < greatest_frame }
         ensures came { ReadsInto (E.told end.old) self.old result (E.told end.new) self.new }
         ensures cause { EndReadCause (E.faults end.old) (E.faults end.new) result }
         ensures calm { E.calm end.old → (result ≢ EndRead.Failed) × E.calm end.new }
@@ -83,9 +83,9 @@ impl Inbox {
 
     /// Takes the first message off, where a whole frame has come. Any other answer takes nothing off.
     pub fn next<M: Message>(&mut self, alloc: Global) -> Incoming<M>
-        ensures reads { Reads M.read_at result self.old }
+        ensures reads { ReadsFirst M.read_at result self.old }
         ensures takes { Takes result self.old self.new }
-        ensures room { LeavesRoom result self.new }
+        ensures room { KeepsRoom result self.new }
     {
         let answer = read_first(alloc, self.reader.first());
         if let Incoming::Whole(_) = &answer {

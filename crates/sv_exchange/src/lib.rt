@@ -8,11 +8,13 @@ mod carrying;
 mod exchange;
 mod filling;
 mod inbox;
+mod laws;
 mod message;
 mod outbox;
 mod renewing;
 
 pub use exchange::Exchange;
 pub use inbox::{Inbox, Incoming};
+pub use laws::no_frame_begins_another;
 pub use message::Message;
 pub use outbox::Outbox;

@@ -1,6 +1,7 @@
 //! The two kinds of message: requests, which clients send, and replies, which the server sends.
 ghost use Rattle.std.specs.Prelude.{◌≡◌, ◌≤◌, List, [], ℕ, Result, Ok, OnOk, OnErr, length};
 ghost use Rattle.std.specs.Vec.{vec_len};
+ghost use Rattle.sv_frame.specs.Frames.{greatest_payload, FitsFrame};
 ghost use Rattle.sv_wire.specs.declared.fault.Malformed as wire;
 ghost use Rattle.sv_wire.specs.declared.message.Request as requests;
 ghost use Rattle.sv_wire.specs.declared.message.Reply as replies;
@@ -32,13 +33,13 @@ pub trait Message: Drop {
     fn encode_into(&self, out: &mut Vec<u8>) -> Result<(), AllocError>
         requires { is_message self.now }
         ensures bytes { OnOk result (out.new.items ≡ spelled self.now) }
-        ensures short { OnOk result (vec_len out.new ≤ 65536) }
+        ensures short { OnOk result (vec_len out.new ≤ greatest_payload) }
         ensures err { OnErr result (out.new.items ≡ []) };
 
     /// Each message is read back from its payload, and has a frame. It does nothing.
     fn is_read_back()
         ensures back { (m : Self) → is_message m → read_at (spelled m) ≡ Ok m }
-        ensures short { (m : Self) → is_message m → length (spelled m) ≤ 65536 };
+        ensures short { (m : Self) → is_message m → FitsFrame (spelled m) };
 }
 
 impl Message for Request {

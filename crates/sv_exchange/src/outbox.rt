@@ -1,13 +1,13 @@
 //! Writing messages as frames, several at once.
 ghost use Rattle.std.specs.Prelude.{◌≡◌, ◌≢◌, ◌+◌, ◌≤◌, [], false, IfOk, length, vec_len, vec_capacity};
 ghost use Rattle.sv_link.specs.Ends.{Sends, SentCause};
-ghost use Rattle.sv_frame.specs.Frames.{frame};
+ghost use Rattle.sv_frame.specs.Frames.{greatest_frame, frame};
 ghost use Rattle.sv_exchange.specs.Outgoing.{Posts, LeavesUnsent};
 
 use crate::message::Message;
 use std::alloc::{AllocError, Global};
 use std::marker::Model;
-use sv_frame::{PREFIX, ROOM, put_frame};
+use sv_frame::{GREATEST_FRAME, PREFIX, put_frame};
 use sv_link::{End, Sent, send_all};
 
 /// Messages that are to be sent together. Contracts see the bytes of their frames.
@@ -22,12 +22,13 @@ pub struct Outbox {
 impl Model for Outbox {
     ghost use Rattle.std.specs.Prelude.{List, ℕ, ◌≤◌};
     ghost use Rattle.std.specs.Vec.{vec_len, vec_capacity};
+    ghost use Rattle.sv_frame.specs.Frames.{greatest_frame};
 
     ghost Value = { List ℕ };
 
     ghost view = { λ o. o.bytes.items };
 
-    ghost invariant = { λ o. (vec_len o.bytes ≤ 65540) × (65540 ≤ vec_capacity o.bytes) };
+    ghost invariant = { λ o. (vec_len o.bytes ≤ greatest_frame) × (greatest_frame ≤ vec_capacity o.bytes) };
 }
 
 impl Outbox {
@@ -36,7 +37,7 @@ impl Outbox {
         ensures { IfOk result (λ outbox. outbox ≡ []) }
     {
         Ok(Outbox {
-            bytes: Vec::with_capacity(alloc, ROOM)?,
+            bytes: Vec::with_capacity(alloc, GREATEST_FRAME)?,
             payload: Vec::new(alloc),
         })
     }
@@ -77,15 +78,15 @@ impl Outbox {
 /// Sends bytes that wait, where so many more do not fit behind them.
 fn make_room<E: End>(bytes: &mut Vec<u8>, size: usize, end: &mut E) -> Sent
     requires open { (E.told end.old).closed ≡ false }
-    requires size { size ≤ 65540 }
-    requires waiting { vec_len bytes.old ≤ 65540 }
+    requires size { size ≤ greatest_frame }
+    requires waiting { vec_len bytes.old ≤ greatest_frame }
     ensures posts { Posts (E.told end.old) bytes.old.items [] result (E.told end.new) bytes.new.items }
-    ensures room { result ≡ Sent.Whole → length bytes.new.items + size ≤ 65540 }
+    ensures room { result ≡ Sent.Whole → length bytes.new.items + size ≤ greatest_frame }
     ensures capacity { vec_capacity bytes.new ≡ vec_capacity bytes.old }
     ensures cause { SentCause (E.faults end.old) (E.faults end.new) result }
     ensures calm { E.calm end.old → (result ≢ Sent.Failed) × E.calm end.new }
 {
-    if size <= ROOM - bytes.len() {
+    if size <= GREATEST_FRAME - bytes.len() {
         return Sent::Whole;
     }
     send_off(bytes, end)

@@ -4,8 +4,8 @@ use Rattle.std.specs.Prelude.{IfSome}
 use Rattle.std.specs.List.{AllByRecursion}
 use Rattle.std.proofs.lemmas.List.{append-nil, map-append}
 use Rattle.sv_frame.specs.Frames.{frame, frames_of, FitsFrame, first_frame, too_long}
-use Rattle.sv_frame.specs.Streams.{with_first, TakesOff, split_at_most, split_frames, split_on, AreBytes, Splits, Incoming, last_item, incoming_items}
-use Rattle.sv_frame.specs.Streams.Incoming.{Payload}
+use Rattle.sv_frame.specs.Streams.{with_first, TakesOff, split_at_most, split_frames, split_on, AreBytes, Splits, StreamItem, too_long_item, incoming_items}
+use Rattle.sv_frame.specs.Streams.StreamItem.{Payload}
 use Rattle.sv_frame.specs.Answers.{Skips}
 use Rattle.sv_frame.proofs.Fronts.{none_or_some, length-frame, first_frame-append, first_frame-shorter, first_frame-frame, stream_is_frame, bytes-after, too_long-append, no_frame_if_too_long}
 
@@ -183,8 +183,8 @@ unfolding incoming_items
 incoming-append first second =
     let a = split_frames first in
     let b = split_frames (a.1 ++ second) in
-    ap (λ (s : List (List ℕ) × List ℕ). map Payload s.0 ++ last_item (too_long s.1)) (split-append first second)
-    ∙ (ap (λ (l : List Incoming). l ++ last_item (too_long b.1)) (map-append Payload a.0 b.0) ∙ append_assoc (map Payload a.0) (map Payload b.0) (last_item (too_long b.1)))
+    ap (λ (s : List (List ℕ) × List ℕ). map Payload s.0 ++ too_long_item (too_long s.1)) (split-append first second)
+    ∙ (ap (λ (l : List StreamItem). l ++ too_long_item (too_long b.1)) (map-append Payload a.0 b.0) ∙ append_assoc (map Payload a.0) (map Payload b.0) (too_long_item (too_long b.1)))
 
 -- nothing comes in after a length over the limit
 pub incoming-final : (first second : List ℕ) (n : ℕ) → too_long (split_frames first).1 ≡ Some n → incoming_items (first ++ second) ≡ incoming_items first
@@ -195,5 +195,5 @@ incoming-final first second n e =
     let stuck = split-none (a.1 ++ second) (no_frame_if_too_long (a.1 ++ second) n more) in
     let after : split_on a second ≡ (a.0, a.1 ++ second) =
     ap (λ (t : List (List ℕ) × List ℕ). (a.0 ++ t.0, t.1)) stuck ∙ ap (λ (l : List (List ℕ)). (l, a.1 ++ second)) (append-nil a.0) in
-    ap (λ (s : List (List ℕ) × List ℕ). map Payload s.0 ++ last_item (too_long s.1)) (split-append first second ∙ after)
-    ∙ ap (λ (o : Option ℕ). map Payload a.0 ++ last_item o) (more ∙ sym e)
+    ap (λ (s : List (List ℕ) × List ℕ). map Payload s.0 ++ too_long_item (too_long s.1)) (split-append first second ∙ after)
+    ∙ ap (λ (o : Option ℕ). map Payload a.0 ++ too_long_item o) (more ∙ sym e)

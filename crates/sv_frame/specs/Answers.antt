@@ -2,7 +2,7 @@
 use Rattle.std.specs.Prelude.{◌≡◌, ℕ, ◌+◌, ◌≤◌, ◌<◌, true, List, [], ◌++◌, length, take, drop, None, Some, option_map, IfSome, ⊤}
 use Rattle.std.specs.Borrow.{follows_so, MutBor, Fml}
 use mathlib.Core.Option.{none}
-use Rattle.sv_frame.specs.Frames.{frame, first_frame, too_long}
+use Rattle.sv_frame.specs.Frames.{greatest_frame, frame, first_frame, too_long}
 use Rattle.sv_frame.specs.Streams.{TakesOff, split_frames}
 use Rattle.sv_frame.specs.declared.reader.Front.{Front}
 use Rattle.sv_frame.specs.declared.reader.Front.TheVariants.{Whole, Partial, Oversize}
@@ -22,7 +22,7 @@ IsAnswer (TooLong n) rest = too_long rest ≡ Some n
 -- a rest with no whole frame leaves room for another byte
 abbrev pub LeavesRoom : Next → List ℕ → Type 0
 LeavesRoom (Frame payload) rest = Unit {0}
-LeavesRoom NotYet rest = length rest < 65540
+LeavesRoom NotYet rest = length rest < greatest_frame
 LeavesRoom (TooLong n) rest = Unit {0}
 
 -- A frame is taken off. Any other answer takes nothing off, and there was no payload to split off
@@ -37,10 +37,10 @@ LeavesRest reader answer =
     follows_so the_row the_row reader.ghost_name none (λ _ _. ⊤) (λ new. IsRestAfter answer reader.now new)
 
 -- what a rest begins with, the length of a whole frame's payload among it
-abbrev pub IsFront : Front → List ℕ → Type 0
-IsFront (Whole n) rest = (4 + n ≤ length rest) × (first_frame rest ≡ Some (take n (drop 4 rest), drop (4 + n) rest)) × (rest ≡ frame (take n (drop 4 rest)) ++ drop (4 + n) rest)
-IsFront Partial rest = (first_frame rest ≡ None) × (too_long rest ≡ None)
-IsFront (Oversize n) rest = too_long rest ≡ Some n
+abbrev pub BeginsRest : Front → List ℕ → Type 0
+BeginsRest (Whole n) rest = (4 + n ≤ length rest) × (first_frame rest ≡ Some (take n (drop 4 rest), drop (4 + n) rest)) × (rest ≡ frame (take n (drop 4 rest)) ++ drop (4 + n) rest)
+BeginsRest Partial rest = (first_frame rest ≡ None) × (too_long rest ≡ None)
+BeginsRest (Oversize n) rest = too_long rest ≡ Some n
 
 -- the first frame of a rest is taken off
 abbrev pub Skips : List ℕ → List ℕ → Type 0

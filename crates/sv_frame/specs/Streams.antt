@@ -42,15 +42,15 @@ pub record Splits (stream : List ℕ) (payloads : List (List ℕ)) (rest : List 
   pub no_more : (payload after : List ℕ) → FitsFrame payload → rest ≡ frame payload ++ after → ⊥
 
 -- what a reader of a stream meets: payloads, and at the end maybe a length that is over the limit
-pub data Incoming : Type 0 where
-  Payload : List ℕ → Incoming
-  TooLong : ℕ → Incoming
+pub data StreamItem : Type 0 where
+  Payload : List ℕ → StreamItem
+  TooLong : ℕ → StreamItem
 
--- the length over the limit that a stream begins with, if it does
-abbrev pub last_item : Option ℕ → List Incoming
-last_item None = []
-last_item (Some n) = TooLong n ∷ []
+-- the item of a length over the limit, if there is one
+abbrev pub too_long_item : Option ℕ → List StreamItem
+too_long_item None = []
+too_long_item (Some n) = TooLong n ∷ []
 
--- the incoming items of a stream: its payloads, and a length over the limit that comes after them
-unfoldable pub incoming_items : List ℕ → List Incoming
-incoming_items stream = let split = split_frames stream in map Payload split.0 ++ last_item (too_long split.1)
+-- the items of a stream: its payloads, and a length over the limit that comes after them
+unfoldable pub incoming_items : List ℕ → List StreamItem
+incoming_items stream = let split = split_frames stream in map Payload split.0 ++ too_long_item (too_long split.1)

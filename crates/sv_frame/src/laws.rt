@@ -1,9 +1,9 @@
 //! Laws of frames and streams, each of them the clause of a function that does nothing.
 ghost use Rattle.std.specs.Prelude.{◌≡◌, ◌<◌, ◌↔◌, List, [], ◌++◌, ℕ, None, Some, map};
 ghost use Rattle.std.specs.List.{AllByRecursion};
-ghost use Rattle.sv_frame.specs.Frames.{frame, frames_of, FitsFrame, first_frame, too_long};
+ghost use Rattle.sv_frame.specs.Frames.{greatest_payload, frame, frames_of, FitsFrame, first_frame, too_long};
 ghost use Rattle.sv_frame.specs.Streams.{AreBytes, Splits, split_frames, split_on, with_first, incoming_items};
-ghost use Rattle.sv_frame.specs.Streams.Incoming.{Payload};
+ghost use Rattle.sv_frame.specs.Streams.StreamItem.{Payload};
 
 /// A stream's payloads are those of its first frame, and then those of what comes after that frame.
 pub fn payloads_come_one_by_one()
@@ -38,7 +38,7 @@ pub fn frames_are_apart()
 
 /// A length over the limit stays where it is, and nothing comes in after it.
 pub fn too_long_is_final()
-    ensures over { (stream : List ℕ) (n : ℕ) → too_long stream ≡ Some n → 65536 < n }
+    ensures over { (stream : List ℕ) (n : ℕ) → too_long stream ≡ Some n → greatest_payload < n }
     ensures stays { (stream more : List ℕ) (n : ℕ) → too_long stream ≡ Some n → too_long (stream ++ more) ≡ Some n }
     ensures no_frame { (stream : List ℕ) (n : ℕ) → too_long stream ≡ Some n → first_frame stream ≡ None }
     ensures last { (first second : List ℕ) (n : ℕ) → too_long (split_frames first).1 ≡ Some n → incoming_items (first ++ second) ≡ incoming_items first }

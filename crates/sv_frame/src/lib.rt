@@ -8,6 +8,6 @@ mod limits;
 mod reader;
 mod writing;
 
-pub use limits::{GREATEST_PAYLOAD, PREFIX, ROOM};
+pub use limits::{GREATEST_FRAME, GREATEST_PAYLOAD, PREFIX};
 pub use reader::{FrameReader, Next};
 pub use writing::put_frame;

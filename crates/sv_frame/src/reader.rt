@@ -3,10 +3,10 @@ ghost use Rattle.std.specs.Prelude.{◌≡◌, ◌≢◌, [], ◌++◌, ◌+◌,
 ghost use Rattle.std.specs.Vec.{vec_len};
 ghost use Rattle.std.specs.Borrow.{sem};
 ghost use Rattle.sv_link.specs.Ends.{EndReadCause};
-ghost use Rattle.sv_frame.specs.Frames.{first_frame};
-ghost use Rattle.sv_frame.specs.Answers.{IsAnswer, IsFront, LeavesRoom, LeavesRest, Skips, ReadsInto};
+ghost use Rattle.sv_frame.specs.Frames.{greatest_frame, first_frame};
+ghost use Rattle.sv_frame.specs.Answers.{IsAnswer, BeginsRest, LeavesRoom, LeavesRest, Skips, ReadsInto};
 
-use crate::limits::{GREATEST_PAYLOAD, PREFIX, ROOM};
+use crate::limits::{GREATEST_FRAME, GREATEST_PAYLOAD, PREFIX};
 use byteorder::{BigEndian, ByteOrder};
 use std::alloc::{AllocError, Global};
 use std::marker::Model;
@@ -38,12 +38,13 @@ pub struct FrameReader {
 impl Model for FrameReader {
     ghost use Rattle.std.specs.Prelude.{◌≡◌, ◌-◌, ◌≤◌, List, ℕ, take, drop};
     ghost use Rattle.std.specs.Vec.{vec_len};
+    ghost use Rattle.sv_frame.specs.Frames.{greatest_frame};
 
     ghost Value = { List ℕ };
 
     ghost view = { λ r. take (r.end - r.start) (drop r.start r.room.items) };
 
-    ghost invariant = { λ r. (vec_len r.room ≡ 65540) × (r.start ≤ r.end) × (r.end ≤ 65540) };
+    ghost invariant = { λ r. (vec_len r.room ≡ greatest_frame) × (r.start ≤ r.end) × (r.end ≤ greatest_frame) };
 }
 
 impl FrameReader {
@@ -51,7 +52,7 @@ impl FrameReader {
     pub fn new(alloc: Global) -> Result<FrameReader, AllocError>
         ensures { IfOk result (λ reader. reader ≡ []) }
     {
-        let room = vec![in alloc; 0; ROOM]?;
+        let room = vec![in alloc; 0; GREATEST_FRAME]?;
         Ok(FrameReader {
             room,
             start: 0,
@@ -61,14 +62,14 @@ impl FrameReader {
 
     /// How many bytes the next piece may have. At least one, after `next` answered `NotYet`.
     pub fn spare(&self) -> usize
-        ensures { result + length self.now ≡ 65540 }
+        ensures { result + length self.now ≡ greatest_frame }
     {
-        ROOM - (self.end - self.start)
+        GREATEST_FRAME - (self.end - self.start)
     }
 
     /// Takes the next piece of the stream, of at most [`spare`](FrameReader::spare) bytes.
     pub fn feed(&mut self, piece: &[u8])
-        requires { length self.old + length piece.now ≤ 65540 }
+        requires { length self.old + length piece.now ≤ greatest_frame }
         ensures { self.new ≡ self.old ++ piece.now }
     {
         let size = self.end - self.start;
@@ -82,7 +83,7 @@ impl FrameReader {
     /// Waits for bytes of an end, and reads as many as have come and fit straight into the room.
     pub fn read_from<E: End>(&mut self, end: &mut E) -> EndRead
         requires open { (E.told end.old).closed ≡ false }
-        requires room { length self.old < 65540 }
+        requires room { length self.old < greatest_frame }
         ensures came { ReadsInto (E.told end.old) self.old result (E.told end.new) self.new }
         ensures cause { EndReadCause (E.faults end.old) (E.faults end.new) result }
         ensures calm { E.calm end.old → (result ≢ EndRead.Failed) × E.calm end.new }
@@ -117,8 +118,8 @@ impl FrameReader {
     {
         match front_of(&self.room[self.start..self.end]) {
             Front::Whole(length) => self.start = self.start + PREFIX + length,
-            Front::Partial => {}
-            Front::Oversize(_) => {}
+            Front::Partial => unreachable!(),
+            Front::Oversize(_) => unreachable!(),
         }
     }
 
@@ -142,15 +143,15 @@ impl FrameReader {
 
 /// Where the rest begins once there is space for so many bytes behind it. It is moved to the front of the room where there was too little.
 fn make_space(room: &mut Vec<u8>, start: usize, end: usize, size: usize) -> usize
-    requires whole { vec_len room.old ≡ 65540 }
-    requires part { (start ≤ end) × (end ≤ 65540) }
-    requires fits { end - start + size ≤ 65540 }
+    requires whole { vec_len room.old ≡ greatest_frame }
+    requires part { (start ≤ end) × (end ≤ greatest_frame) }
+    requires fits { end - start + size ≤ greatest_frame }
     ensures rest { take (end - start) (drop result room.new.items) ≡ take (end - start) (drop start room.old.items) }
-    ensures space { result + (end - start) + size ≤ 65540 }
-    ensures whole { vec_len room.new ≡ 65540 }
+    ensures space { result + (end - start) + size ≤ greatest_frame }
+    ensures whole { vec_len room.new ≡ greatest_frame }
 {
     // An empty rest costs nothing to move, and what is used again is still in the cache.
-    if start == end || size > ROOM - end {
+    if start == end || size > GREATEST_FRAME - end {
         room.copy_within(start..end, 0);
         return 0;
     }
@@ -171,7 +172,7 @@ enum Front {
 }
 
 fn front_of(rest: &[u8]) -> Front
-    ensures { IsFront result rest.now }
+    ensures { BeginsRest result rest.now }
 {
     if rest.len() < PREFIX {
         return Front::Partial;

@@ -1,2 +1,3 @@
+-- The definitions of generated scenarios.
 pub mod Generated
 pub mod Changes

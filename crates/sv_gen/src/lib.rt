@@ -5,4 +5,4 @@ mod acts;
 mod scripts;
 mod whole;
 
-pub use whole::generate;
+pub use whole::{MOST_LOAD, generate};

@@ -1,6 +1,7 @@
 //! The scripts of the generated clients.
 
 ghost use Rattle.std.specs.Prelude.{◌≡◌, ◌≤◌, ◌<◌, ◌+◌, ◌++◌, IfOk, OnOk};
+ghost use Rattle.sv_world.specs.Limits.{most_clients};
 ghost use Rattle.sv_gen.specs.Generated.{round_steps, script, interest, plan};
 
 use crate::acts::act;
@@ -49,7 +50,7 @@ fn interest(alloc: Global, group: u16) -> Result<List<ObjectId>, AllocError>
 #[tactic(auto, using(crate::proofs::Sizes::groups_fit))]
 pub(crate) fn plan(alloc: Global, rounds: u16, client: u16) -> Result<Plan, AllocError>
     requires rounds { rounds ≤ 12 }
-    requires client { client < 32 }
+    requires client { client < most_clients }
     ensures { IfOk result (λ p. p ≡ plan rounds client) }
 {
     let group = client / 2 * rounds;

@@ -2,13 +2,17 @@
 
 ghost use Rattle.std.specs.Prelude.{◌≡◌, ◌≤◌, ◌*◌, map, IfOk, None};
 ghost use Rattle.sv_world.specs.Control.{below};
+ghost use Rattle.sv_world.specs.Limits.{most_clients};
 ghost use Rattle.sv_scenario.specs.Limits.{IsGoodScenario};
-ghost use Rattle.sv_gen.specs.Generated.{opening, world, plan, scenario, generated};
+ghost use Rattle.sv_gen.specs.Generated.{opening, world, plan, scenario, most_load, generated};
 
 use crate::scripts::plan;
 use std::alloc::{AllocError, Global};
 use sv_scenario::{Plan, Scenario};
-use sv_world::{List, Shape, Value, World};
+use sv_world::{List, MOST_BOUND, Shape, Value, World};
+
+/// The greatest load.
+pub const MOST_LOAD: u32 = 192;
 
 fn opening(alloc: Global, object: u16) -> Result<Value, AllocError>
     ensures { IfOk result (λ v. v ≡ opening object) }
@@ -40,7 +44,7 @@ fn world(alloc: Global, objects: u16) -> Result<World, AllocError>
 
 fn plans(alloc: Global, rounds: u16, clients: u16) -> Result<Vec<Plan>, AllocError>
     requires rounds { rounds ≤ 12 }
-    requires clients { clients ≤ 32 }
+    requires clients { clients ≤ most_clients }
     ensures { IfOk result (λ v. v.items ≡ map (plan rounds) (below clients)) }
 {
     let mut plans = Vec::new(alloc);
@@ -60,7 +64,7 @@ fn scenario(alloc: Global, pairs: u16, rounds: u16) -> Result<Scenario, AllocErr
     let clients = plans(alloc, rounds, 2 * pairs)?;
     Ok(Scenario {
         world,
-        bound: 32,
+        bound: MOST_BOUND,
         reach: None,
         clients: List::from_vec(clients),
         schedule: List::new(alloc),
@@ -75,7 +79,7 @@ fn scenario(alloc: Global, pairs: u16, rounds: u16) -> Result<Scenario, AllocErr
 #[tactic(auto, unfolding(crate::specs::Generated::generated))]
 pub fn generate(alloc: Global, n: u32) -> Result<Scenario, AllocError>
     requires some { 1 ≤ n }
-    requires most { n ≤ 192 }
+    requires most { n ≤ most_load }
     ensures ok { IfOk result (λ s. s ≡ generated n) }
     ensures good { IfOk result IsGoodScenario }
 {

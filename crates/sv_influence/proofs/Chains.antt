@@ -4,7 +4,8 @@ use Rattle.std.proofs.lemmas.List.{drop_all, map-append}
 use Rattle.std.proofs.lemmas.List.Elements.{filter-append}
 use Rattle.sv_world.specs.declared.action.Action.{Action}
 use Rattle.sv_world.specs.Sets.{read_set}
-use Rattle.sv_world.specs.Control.{is_in, action_at, last_writer, missing_writers, wanted_up_to, influence, chain_length, greatest}
+use Rattle.sv_world.specs.Control.{is_in, action_at, last_writer, missing_writers, wanted_up_to, influence, chain_length}
+use Rattle.sv_world.specs.Trees.{greatest}
 use Rattle.sv_world.specs.Faults.{is_ascending}
 use Rattle.sv_world.proofs.Influences.{influence-ascending, influence-bounds}
 use Rattle.sv_world.proofs.Members.{is_in-head, is_in-append_left, is_in-append_right, is_in-append_cases, is_in-filter, is_in-filter_parts, is_in-map, is_in-map_from}

@@ -11,14 +11,14 @@ use Rattle.sv_world.proofs.Bases.{is_in-below}
 use Rattle.sv_world.proofs.Writers.{last_writer-below, last_writer-writes}
 use Rattle.sv_queue.specs.declared.queued.Queued.{Queued}
 use Rattle.sv_queue.specs.Pairs.{is_pair}
-use Rattle.sv_queue.specs.Queue.{QueueView, IsUncommitted, last_position, queue_actions, actions_of, sent_positions, given_objects}
+use Rattle.sv_queue.specs.Queue.{QueueView, IsUncommitted, last_position, queue_actions, entry_actions, sent_positions, given_objects}
 use Rattle.sv_influence.specs.Lacking.{lacking_writers, committed_reads}
 use Rattle.sv_influence.proofs.Growth.{same_test}
 use Rattle.sv_influence.proofs.ReadSets.{or_move}
 
 pub queue_length : (v : QueueView) → length (queue_actions v) ≡ last_position v
 queue_length v =
-    length-append (replicate v.commit blank) (actions_of v.entries)
+    length-append (replicate v.commit blank) (entry_actions v.entries)
     ∙ (let a = length-replicate v.commit blank in let b = length-map v.entries (λ (e : Queued). e.action) in omega arith)
 
 committed_blank : (c k : ℕ) (es : List Action) → k ≤ c → action_at (replicate c blank ++ es) k ≡ blank
@@ -34,7 +34,7 @@ writer-above v x i low =
       | inl l ↦ l
       | inr l ↦
           (let h : is_in x (write_set (action_at (queue_actions v) j)) ≡ true = last_writer-writes (queue_actions v) x i low in
-          let g : is_in x (write_set blank) ≡ true = subst (λ (a : Action). is_in x (write_set a) ≡ true) (committed_blank v.commit j (actions_of v.entries) l) h in
+          let g : is_in x (write_set blank) ≡ true = subst (λ (a : Action). is_in x (write_set a) ≡ true) (committed_blank v.commit j (entry_actions v.entries) l) h in
           cc)
     ]
 

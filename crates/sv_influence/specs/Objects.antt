@@ -1,4 +1,4 @@
--- Sets of objects below 4,096, one bit for each.
+-- Sets of objects, one bit for each that there may be.
 use Rattle.std.specs.Prelude.{ℕ, ◌/◌, ◌%◌, Bool, ◌==◌, List, slice_index}
 use Rattle.std.specs.Int.{bit_at}
 

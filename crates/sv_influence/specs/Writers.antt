@@ -3,6 +3,10 @@ use Rattle.std.specs.Prelude.{ℕ, nat_lt, List, map, filter}
 use Rattle.sv_world.specs.declared.action.Action.{Action}
 use Rattle.sv_world.specs.Control.{last_writer}
 
+-- How many of them may wait at once to be looked at.
+abbrev pub most_waiting : ℕ
+most_waiting = 32
+
 -- The last writers below a position of some objects, where there are any.
 abbrev pub writers_of : List Action → ℕ → List ℕ → List ℕ
 writers_of A pos xs = filter (λ j. nat_lt 0 j) (map (λ x. last_writer A x pos) xs)

@@ -1,3 +1,4 @@
+//! What is answered of influence.
 use sv_world::{List, ObjectId};
 
 /// What a relay of a position has for a session.

@@ -1,3 +1,4 @@
+//! How much influences a new action.
 ghost use Rattle.std.specs.Prelude.{◌≡◌, ℕ, ◌-◌, ◌^◌, ◌<◌, ◌≤◌, ◌++◌, true, false, All, IfOk, OnOk};
 ghost use Rattle.sv_world.specs.Control.{is_in, action_at, chain_length, influence_distance, distance};
 ghost use Rattle.sv_world.specs.Sets.{read_set, write_set};
@@ -10,7 +11,7 @@ use crate::wanted::{Full, Wanted};
 use std::marker::Brand;
 use std::sync::ledger::{Blank, Ledger};
 use sv_queue::{Queue, Steps};
-use sv_world::{Action, ObjectId, Point};
+use sv_world::{Action, MOST_OBJECTS, ObjectId, Point};
 
 /// How many uncommitted actions a new action depends on, directly or through others, and how far away they were made.
 ///
@@ -103,7 +104,7 @@ fn walk_down<L: Ledger>(queue: &Queue, action: &Action, blank: Blank) -> Chain
 {
     let mut steps = Steps::<L>::new(blank);
     let shape = queue.shape();
-    prove!(shape.objects <= 4096);
+    prove!(shape.objects <= MOST_OBJECTS);
     let mut objects = ObjectSet::new();
     objects.add_reads(action);
     let mut count = 0;

@@ -1,3 +1,4 @@
+//! Sets of numbers.
 ghost use Rattle.std.specs.Prelude.{◌≡◌, ◌<◌, ℕ, true, [], ◌∷◌, ◌++◌, IsTrue, OnOk, IfNone, option_to_list};
 ghost use Rattle.sv_world.specs.Control.{is_in};
 ghost use Rattle.sv_world.specs.Faults.{is_ascending};

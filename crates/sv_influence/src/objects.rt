@@ -1,12 +1,14 @@
+//! Sets of objects.
 ghost use Rattle.std.specs.Prelude.{◌≡◌, ℕ, ◌<◌, ◌≤◌, ◌&&◌, ◌||◌, not, false, All, length, nat_eq};
 ghost use Rattle.std.specs.List.{list_any};
 ghost use Rattle.sv_world.specs.Control.{is_in};
+ghost use Rattle.sv_world.specs.Limits.{most_objects, most_reads};
 ghost use Rattle.sv_world.specs.Sets.{read_set, write_set};
 ghost use Rattle.sv_influence.specs.Objects.{has_object};
 
 use sv_world::{Action, ObjectId};
 
-/// A set of objects below 4,096, one bit for each.
+/// A set of objects, one bit for each that there may be.
 #[derive(Drop)]
 pub struct ObjectSet {
     words: [u64; 64],
@@ -20,7 +22,7 @@ impl ObjectSet {
     }
 
     pub fn has(&self, object: ObjectId) -> bool
-        requires { object.0 < 4096 }
+        requires { object.0 < most_objects }
         ensures { result ≡ has_object self.now.words object.0 }
     {
         let word = self.words[(object.0 / 64) as usize];
@@ -28,7 +30,7 @@ impl ObjectSet {
     }
 
     pub fn add(&mut self, object: ObjectId)
-        requires { object.0 < 4096 }
+        requires { object.0 < most_objects }
         ensures { (x : ℕ) → has_object self.new.words x ≡ (nat_eq x object.0 || has_object self.old.words x) }
     {
         let place = (object.0 / 64) as usize;
@@ -37,7 +39,7 @@ impl ObjectSet {
     }
 
     pub fn remove(&mut self, object: ObjectId)
-        requires { object.0 < 4096 }
+        requires { object.0 < most_objects }
         ensures { (x : ℕ) → has_object self.new.words x ≡ (has_object self.old.words x && not (nat_eq x object.0)) }
     {
         let place = (object.0 / 64) as usize;
@@ -47,7 +49,7 @@ impl ObjectSet {
 
     /// Adds the objects that an action reads.
     pub fn add_reads(&mut self, action: &Action)
-        requires { All (λ x. x < 4096) (read_set action.now) }
+        requires { All (λ x. x < most_objects) (read_set action.now) }
         ensures { (x : ℕ) → has_object self.new.words x ≡ (is_in x (read_set action.now) || has_object self.old.words x) }
     {
         for object in action.reads.as_slice() {
@@ -57,8 +59,8 @@ impl ObjectSet {
 
     /// Removes the objects that an action writes.
     pub fn remove_writes(&mut self, action: &Action)
-        requires low { All (λ x. x < 4096) (read_set action.now) }
-        requires few { length action.now.reads ≤ 16 }
+        requires low { All (λ x. x < most_objects) (read_set action.now) }
+        requires few { length action.now.reads ≤ most_reads }
         ensures { (x : ℕ) → has_object self.new.words x ≡ (has_object self.old.words x && not (is_in x (write_set action.now))) }
     {
         for (slot, object) in action.reads.as_slice().iter().enumerate() {
@@ -70,8 +72,8 @@ impl ObjectSet {
 
     /// Whether it has an object that an action writes.
     pub fn meets_writes(&self, action: &Action) -> bool
-        requires low { All (λ x. x < 4096) (read_set action.now) }
-        requires few { length action.now.reads ≤ 16 }
+        requires low { All (λ x. x < most_objects) (read_set action.now) }
+        requires few { length action.now.reads ≤ most_reads }
         ensures { result ≡ list_any (λ x. has_object self.now.words x) (write_set action.now) }
     {
         for (slot, object) in action.reads.as_slice().iter().enumerate() {

@@ -1,3 +1,4 @@
+//! What a session lacks of a position, by a walk over the queue.
 ghost use Rattle.std.specs.Prelude.{◌≡◌, ℕ, ◌+◌, ◌*◌, ◌-◌, ◌<◌, ◌≤◌, ◌&&◌, ◌||◌, not, [], ◌∷◌, ◌++◌, map, filter, nat_eq, IfOk, OnOk, if◌then◌else◌};
 ghost use Rattle.sv_world.specs.declared.world.ObjectId.{ObjectId};
 ghost use Rattle.sv_world.specs.Control.{is_in, below, action_at};
@@ -12,7 +13,7 @@ use crate::objects::ObjectSet;
 use std::alloc::{AllocError, Global};
 use std::sync::ledger::Ledger;
 use sv_queue::{Queue, Steps};
-use sv_world::{List, ObjectId};
+use sv_world::{List, MOST_OBJECTS, ObjectId};
 
 /// The same as [`closure`](crate::closure), by a walk over the queue from the position downwards with the set of the objects that are
 /// still to be had. A position that writes one of them is an item, unless it was sent: then its objects leave the set.
@@ -31,15 +32,18 @@ pub fn plain_closure<L: Ledger>(
     ensures ticks { steps.new ≤ steps.old + 3 * (pos - queue.now.commit) }
 {
     let commit = queue.commit();
-    let mut objects = ObjectSet::new();
-    let mut items = Vec::new(alloc);
+    let items = Vec::new(alloc);
+    let objects = ObjectSet::new();
+    let mut walk = Walk { items, objects };
     let mut at = pos;
     while at > commit {
-        if is_wanted(queue, pos, at, &objects, steps) {
-            visit(queue, session, at, &mut items, &mut objects, steps)?;
+        if is_wanted(queue, pos, at, &walk.objects, steps) {
+            walk.visit(queue, session, at, steps)?;
         }
         at -= 1;
     }
+    let Walk { items, objects } = walk;
+    let mut items = items;
     items.reverse();
     let head = bases_among(alloc, queue, session, &objects)?;
     Ok(Closure {
@@ -61,35 +65,43 @@ fn is_wanted<L: Ledger>(
     ensures ticks { steps.new ≡ steps.old + 1 }
 {
     let shape = queue.shape();
-    prove!(shape.objects <= 4096);
+    prove!(shape.objects <= MOST_OBJECTS);
     let entry = queue.entry(at, steps);
     at == pos || objects.meets_writes(entry.action)
 }
 
-/// Takes a wanted position as an item, or removes the objects that it writes where it was sent.
-fn visit<L: Ledger>(
-    queue: &Queue,
-    session: u16,
-    at: u32,
-    items: &mut Vec<u32>,
-    objects: &mut ObjectSet,
-    steps: &mut Steps<L>,
-) -> Result<(), AllocError>
-    requires at { IsUncommitted queue.now at }
-    ensures items { OnOk result (items.new.items ≡ (if is_in at (sent_positions queue.now session) then items.old.items else items.old.items ++ at ∷ [])) }
-    ensures objects { OnOk result ((x : ℕ) → has_object objects.new.words x ≡ (if is_in at (sent_positions queue.now session) then has_object objects.old.words x && not (is_in x (write_set (action_at (queue_actions queue.now) at))) else is_in x (read_set (action_at (queue_actions queue.now) at)) || has_object objects.old.words x)) }
-    ensures ticks { steps.new ≡ steps.old + 2 }
-{
-    let shape = queue.shape();
-    prove!(shape.objects <= 4096);
-    let entry = queue.entry(at, steps);
-    if queue.is_marked(at, session, steps) {
-        objects.remove_writes(entry.action);
-    } else {
-        items.push(at)?;
-        objects.add_reads(entry.action);
+/// The items that were found, the latest first, and the objects that are still to be had.
+#[derive(Drop)]
+struct Walk {
+    items: Vec<u32>,
+    objects: ObjectSet,
+}
+
+impl Walk {
+    /// Takes a wanted position as an item, or removes the objects that it writes where it was sent.
+    fn visit<L: Ledger>(
+        &mut self,
+        queue: &Queue,
+        session: u16,
+        at: u32,
+        steps: &mut Steps<L>,
+    ) -> Result<(), AllocError>
+        requires at { IsUncommitted queue.now at }
+        ensures items { OnOk result (self.new.items.items ≡ (if is_in at (sent_positions queue.now session) then self.old.items.items else self.old.items.items ++ at ∷ [])) }
+        ensures objects { OnOk result ((x : ℕ) → has_object self.new.objects.words x ≡ (if is_in at (sent_positions queue.now session) then has_object self.old.objects.words x && not (is_in x (write_set (action_at (queue_actions queue.now) at))) else is_in x (read_set (action_at (queue_actions queue.now) at)) || has_object self.old.objects.words x)) }
+        ensures ticks { steps.new ≡ steps.old + 2 }
+    {
+        let shape = queue.shape();
+        prove!(shape.objects <= MOST_OBJECTS);
+        let entry = queue.entry(at, steps);
+        if queue.is_marked(at, session, steps) {
+            self.objects.remove_writes(entry.action);
+        } else {
+            self.items.push(at)?;
+            self.objects.add_reads(entry.action);
+        }
+        Ok(())
     }
-    Ok(())
 }
 
 /// Of the objects of a set, those that were not given to a session, ascending.
@@ -102,7 +114,7 @@ fn bases_among(
     ensures { IfOk result (λ list. map (λ (o : ObjectId). o.0) list ≡ filter (λ x. has_object objects.now.words x && not (is_in x (given_objects queue.now session))) (below queue.now.shape.objects)) }
 {
     let shape = queue.shape();
-    prove!(shape.objects <= 4096);
+    prove!(shape.objects <= MOST_OBJECTS);
     let mut bases = List::new(alloc);
     for number in 0..shape.objects {
         let object = ObjectId(number);

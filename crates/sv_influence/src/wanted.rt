@@ -1,6 +1,8 @@
+//! Positions that are looked at next, in place.
 ghost use Rattle.std.specs.Prelude.{◌≡◌, ◌<◌, ℕ, true, ◌+◌, ◌≤◌, [], ◌∷◌, ◌++◌, filter, length, nat_lt, IsTrue, IsFalse, IfNone, OnOk, OnErr, option_to_list};
 ghost use Rattle.sv_world.specs.Control.{is_in};
 ghost use Rattle.sv_world.specs.Faults.{is_ascending};
+ghost use Rattle.sv_influence.specs.Writers.{most_waiting};
 
 use arrayvec::ArrayVec;
 use std::marker::Model;
@@ -38,7 +40,7 @@ impl Wanted {
     /// The positions as they are otherwise, and this writer, where 0 stands for none.
     pub fn add_writer(&mut self, writer: u32) -> Result<(), Full>
         ensures added { OnOk result ((j : ℕ) → is_in j self.new ≡ is_in j (filter (λ k. nat_lt 0 k) (writer ∷ []) ++ self.old)) }
-        ensures full { OnErr result (length self.old ≡ 32) }
+        ensures full { OnErr result (length self.old ≡ most_waiting) }
     {
         if writer == 0 {
             return Ok(());
@@ -49,7 +51,7 @@ impl Wanted {
     /// The positions as they are otherwise, and this one.
     pub fn insert(&mut self, pos: u32) -> Result<(), Full>
         ensures added { OnOk result ((j : ℕ) → is_in j self.new ≡ is_in j (pos ∷ self.old)) }
-        ensures full { OnErr result (length self.old ≡ 32) }
+        ensures full { OnErr result (length self.old ≡ most_waiting) }
     {
         if self.is_full() {
             return Err(Full);
@@ -63,8 +65,8 @@ impl Wanted {
     }
 
     fn is_full(&self) -> bool
-        ensures not_full { IsFalse result → length self.now < 32 }
-        ensures full { IsTrue result → length self.now ≡ 32 }
+        ensures not_full { IsFalse result → length self.now < most_waiting }
+        ensures full { IsTrue result → length self.now ≡ most_waiting }
     {
         self.items.is_full()
     }
@@ -91,7 +93,7 @@ impl Wanted {
 
     /// Takes off the positions above it, which are few if any, and puts them back after it.
     fn place(&mut self, pos: u32)
-        requires { length self.old < 32 }
+        requires { length self.old < most_waiting }
         ensures added { (j : ℕ) → is_in j self.new ≡ is_in j (pos ∷ self.old) }
         ensures count { length self.new ≤ length self.old + 1 }
     {
@@ -112,7 +114,7 @@ impl Wanted {
 
     /// Appends a position that is above all of them.
     fn push(&mut self, pos: u32)
-        requires room { length self.old < 32 }
+        requires room { length self.old < most_waiting }
         requires above { (j : ℕ) → is_in j self.old ≡ true → j < pos }
         ensures { self.new ≡ self.old ++ pos ∷ [] }
     {

@@ -46,7 +46,7 @@ use Rattle.law_traffic.proofs.Asking.{few_asked}
 use Rattle.law_traffic.proofs.Cuts.{front_none, empty_short, not_long}
 use Rattle.law_traffic.proofs.Messages.{AreGot, got_first}
 use Rattle.law_traffic.proofs.Sendable.{limits_of}
-use Rattle.law_traffic.proofs.Whole.{NeverRefused}
+use Rattle.sv_system.specs.Laws.{NeverRefused}
 use Rattle.sv_door.specs.Doors.{Passage}
 use Rattle.sv_join.specs.Legal.{numbered_from, IsLegalServer}
 
@@ -140,7 +140,7 @@ module _ (law : NeverRefused) (messages : RepliesAreMessages) (scenario : Scenar
 
   sendable : AllByRecursion IsReply all
   sendable =
-      let objects = good.world.few_objects in
+      let objects = good.world.shape.few_objects in
       sendable_in (accepted server.journal) server.journal (s + server.first)
       (recursion_from_All (λ (e : Entry). IsReply (full_reply (accepted server.journal) e.reply)) server.journal
       (messages (rules_of scenario) server.journal (limits_of scenario good) (omega (arith, objects)) opening server.requests server.short server.legal))

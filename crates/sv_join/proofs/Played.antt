@@ -26,7 +26,7 @@ use Rattle.sv_client.specs.Proper.{identity_of}
 use Rattle.sv_player.specs.declared.outcome.PlayerCause.{PlayerCause}
 use Rattle.sv_player.specs.declared.outcome.PlayerCause.TheVariants as causes
 use Rattle.sv_player.specs.declared.outcome.ReplyFault.{ReplyFault}
-use Rattle.law_traffic.proofs.Whole.{NeverRefused}
+use Rattle.sv_system.specs.Laws.{NeverRefused}
 use Rattle.sv_door.specs.Doors.{Passage, passage_of}
 use Rattle.sv_join.specs.declared.steady.Steady.{Steady}
 use Rattle.sv_join.specs.Legal.{IsLegalServer}
@@ -82,13 +82,7 @@ may_play scenario good k plan client steps x is same =
             ascending = fine.ascending;
             objects = All-from_recursion (λ (o : ObjectId). o.0 < scenario.world.shape.objects) plan.interest fine.known;
           };
-      shape =
-          record {
-            some_objects = good.world.some_objects;
-            few_objects = good.world.few_objects;
-            some_attrs = good.world.some_attrs;
-            few_attrs = good.world.few_attrs;
-          };
+      shape = good.world.shape;
       plan = fine;
     } in
     let own : client.who ≡ who = ap (λ (c : ClientView). c.who) (client_as scenario k plan client x is) in

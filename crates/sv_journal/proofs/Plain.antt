@@ -8,16 +8,18 @@ use Rattle.sv_world.specs.declared.check.BadAction.{BadAction}
 use Rattle.sv_world.specs.declared.world.ObjectId.{ObjectId}
 use Rattle.sv_world.specs.Control.{is_in, below, chain_length, influence_distance}
 use Rattle.sv_world.specs.Faults.{first_fault_of_action}
+use Rattle.sv_world.specs.Limits.{most_requests}
 use Rattle.sv_world.proofs.Members.{is_in-append_cases, is_in-filter_parts}
 use Rattle.sv_world.proofs.Bases.{below-is_in}
 use Rattle.sv_wire.specs.declared.message.Request.{Request}
 use Rattle.sv_wire.specs.declared.message.Request.TheVariants as requests
+use Rattle.sv_wire.specs.declared.refusal.Refusal.TheVariants as refusals
 use Rattle.sv_journal.specs.declared.entry.Entry.{Entry}
 use Rattle.sv_journal.specs.declared.entry.Logged.{Logged}
 use Rattle.sv_journal.specs.declared.entry.Logged.TheVariants as logged
 use Rattle.sv_journal.specs.History.{client_of, Outcome, Accepted, Dropped, accepted, actions_of, next_seq, result_at, commit_of}
 use Rattle.sv_journal.specs.Sessions.{is_over, is_live, asked_in, life_of, kept_outcome, positions_in, sent_to}
-use Rattle.sv_journal.specs.Answer.{Rules, is_over_reach, reply_to_good, reply_to_checked, reply_to_submit, is_bad_done, is_abandoned, orphans, reply_to_poll, is_good_interest, reply_to_join, reply_to_client, reply_to_member, most_requests, reply_to, Legal}
+use Rattle.sv_journal.specs.Answer.{Rules, refused_as, is_over_reach, reply_to_good, reply_to_checked, reply_to_submit, is_bad_done, is_abandoned, orphans, reply_to_poll, is_good_interest, reply_to_join, reply_to_client, reply_to_member, reply_to, Legal}
 use Rattle.sv_journal.specs.Serving.{plain, polled_after, with_last_rows, reply_for, LegalFor, with_results, IsKeeping}
 
 -- ---- Its keeping
@@ -120,7 +122,7 @@ module _ (r : Rules) (h : List Entry) (s : ℕ) where
       cond_both (is_good_interest r.world.shape.objects interest) _ _ (Same q) (λ _. refl) (λ _. refl))))
 
   open-same : (q : Request) (w : Logged) → Same q w →
-      Same q (if is_over h s then logged.Refused 4 0 else (if nat_le most_requests (asked_in h s) then logged.Refused 9 0 else w))
+      Same q (if is_over h s then refused_as refusals.Over 0 else (if nat_le most_requests (asked_in h s) then refused_as refusals.TooManyRequests 0 else w))
   open-same q w same =
       cond_both (is_over h s) _ _ (Same q) (λ _. refl) (λ _. cond_both (nat_le most_requests (asked_in h s)) _ _ (Same q) (λ _. refl) (λ _. same))
 
@@ -131,7 +133,7 @@ module _ (r : Rules) (h : List Entry) (s : ℕ) where
   reply-same (requests.Done results) = open-same (requests.Done results) _ (member-same (client_of h s) (requests.Done results))
   reply-same requests.Poll = open-same requests.Poll _ (member-same (client_of h s) requests.Poll)
   reply-same requests.Leave = open-same requests.Leave _ (member-same (client_of h s) requests.Leave)
-  reply-same requests.Bad = open-same requests.Bad (logged.Refused 1 0) refl
+  reply-same requests.Bad = open-same requests.Bad (refused_as refusals.Malformed 0) refl
   reply-same requests.End = refl
 
 pub plain-legal : (r : Rules) (h : List Entry) → Legal r h → LegalFor plain r h

@@ -9,15 +9,17 @@ use Rattle.sv_world.specs.declared.world.ClientId.{ClientId}
 use Rattle.sv_world.specs.declared.world.ObjectId.{ObjectId}
 use Rattle.sv_world.specs.Control.{chain_length, influence_distance}
 use Rattle.sv_world.specs.Faults.{first_fault_of_action, cause_number}
+use Rattle.sv_world.specs.Limits.{most_requests}
 use Rattle.sv_wire.specs.declared.message.Done1.{Done1}
 use Rattle.sv_wire.specs.declared.message.Request.{Request}
 use Rattle.sv_wire.specs.declared.message.Request.TheVariants as requests
+use Rattle.sv_wire.specs.declared.refusal.Refusal.TheVariants as refusals
 use Rattle.sv_journal.specs.declared.entry.Entry.{Entry}
 use Rattle.sv_journal.specs.declared.entry.Logged.{Logged}
 use Rattle.sv_journal.specs.declared.entry.Logged.TheVariants as logged
 use Rattle.sv_journal.specs.History.{is_relay, client_of, Outcome, Accepted, Dropped, actions_of, next_seq, commit_of}
 use Rattle.sv_journal.specs.Sessions.{is_over, is_live, asked_in, life_of, kept_outcome}
-use Rattle.sv_journal.specs.Answer.{Rules, refused, relay_of, is_over_reach, committed_held, reply_to_good, reply_to_checked, reply_to_submit, is_bad_done, orphans, reply_to_poll, is_good_interest, reply_to_join, reply_to_client, reply_to_member, most_requests}
+use Rattle.sv_journal.specs.Answer.{Rules, refused, refused_as, relay_of, is_over_reach, committed_held, reply_to_good, reply_to_checked, reply_to_submit, is_bad_done, orphans, reply_to_poll, is_good_interest, reply_to_join, reply_to_client, reply_to_member}
 use Rattle.sv_journal.specs.Serving.{Keeping, noted_after, polled_after, with_last_rows, reply_for, IsKeeping}
 use Rattle.sv_journal.proofs.Kept.{client-kept, actions-kept, next-kept, kept_outcome-kept, over-kept, live-kept, life-kept}
 
@@ -135,13 +137,13 @@ module _ (k : Keeping) (law : IsKeeping k) (r : Rules) (h : List Entry) (s : ℕ
       (λ _. rows.refusal 8 0 (omega arith) (omega arith) none_told))))
 
   open_case : (q : Request) → Holds q → (w : Logged) → (is_over h s ≡ false → Shown q w) →
-      Shown q (if is_over (k.kept h) s then refused 4 0 else (if nat_le most_requests (asked_in (k.kept h) s) then refused 9 0 else w))
+      Shown q (if is_over (k.kept h) s then refused_as refusals.Over 0 else (if nat_le most_requests (asked_in (k.kept h) s) then refused_as refusals.TooManyRequests 0 else w))
   open_case q rows w p =
       cond_both (is_over (k.kept h) s) _ _ (Shown q) (λ _. rows.refusal 4 0 (omega arith) (omega arith) none_told)
       (λ f. cond_both (nat_le most_requests (asked_in (k.kept h) s)) _ _ (Shown q) (λ _. rows.refusal 9 0 (omega arith) (omega arith) none_told) (λ _. p (sym (over-kept k law h s) ∙ f)))
 
-  asked_case : (q : Request) → Holds q → Shown q (if is_over (k.kept h) s then refused 4 0
-      else (if nat_le most_requests (asked_in (k.kept h) s) then refused 9 0 else reply_to_member r (k.kept h) s (client_of (k.kept h) s) q))
+  asked_case : (q : Request) → Holds q → Shown q (if is_over (k.kept h) s then refused_as refusals.Over 0
+      else (if nat_le most_requests (asked_in (k.kept h) s) then refused_as refusals.TooManyRequests 0 else reply_to_member r (k.kept h) s (client_of (k.kept h) s) q))
   asked_case q rows = open_case q rows _ (member_case q rows (client_of (k.kept h) s) (sym (client-kept k law h s)))
 
   pub each_row : (q : Request) → Holds q → P (reply_for k r h s q)
@@ -151,7 +153,7 @@ module _ (k : Keeping) (law : IsKeeping k) (r : Rules) (h : List Entry) (s : ℕ
   each_row (requests.Done results) rows = asked_case (requests.Done results) rows
   each_row requests.Poll rows = asked_case requests.Poll rows
   each_row requests.Leave rows = asked_case requests.Leave rows
-  each_row requests.Bad rows = open_case requests.Bad rows (refused 1 0) (λ _. rows.refusal 1 0 (omega arith) (omega arith) none_told)
+  each_row requests.Bad rows = open_case requests.Bad rows (refused_as refusals.Malformed 0) (λ _. rows.refusal 1 0 (omega arith) (omega arith) none_told)
   each_row requests.End rows = rows.bye
 
 -- With one case for all replies that are no relay.

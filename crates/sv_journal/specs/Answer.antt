@@ -8,11 +8,15 @@ use Rattle.sv_world.specs.declared.world.ObjectId.{ObjectId}
 use Rattle.sv_world.specs.declared.world.World.{World}
 use Rattle.sv_world.specs.Control.{is_in, below, action_at, needed_for, head_for, chain_length, influence_distance}
 use Rattle.sv_world.specs.Faults.{first_fault_of_action, cause_number, is_ascending}
+use Rattle.sv_world.specs.Limits.{most_clients, most_interest, most_items, most_requests}
 use Rattle.sv_world.specs.Sets.{write_set}
 use Rattle.sv_wire.specs.declared.message.Done1.{Done1}
 use Rattle.sv_wire.specs.declared.message.Held.{Held}
 use Rattle.sv_wire.specs.declared.message.Request.{Request}
 use Rattle.sv_wire.specs.declared.message.Request.TheVariants as requests
+use Rattle.sv_wire.specs.declared.refusal.Refusal.{Refusal}
+use Rattle.sv_wire.specs.declared.refusal.Refusal.TheVariants as refusals
+use Rattle.sv_wire.specs.Refusals.{code_of}
 use Rattle.sv_journal.specs.declared.entry.Entry.{Entry}
 use Rattle.sv_journal.specs.declared.entry.Logged.{Logged}
 use Rattle.sv_journal.specs.declared.entry.Logged.TheVariants as logged
@@ -27,8 +31,12 @@ pub record Rules : Type 0 where
   pub reach : Option ℕ
   pub sessions : ℕ
 
+-- A refusal, by its code and its detail; and by what it is for.
 abbrev pub refused : ℕ → ℕ → Logged
 refused code detail = logged.Refused code detail
+
+abbrev pub refused_as : Refusal → ℕ → Logged
+refused_as refusal detail = refused (code_of refusal) detail
 
 -- ---- Relays
 
@@ -56,13 +64,13 @@ reply_to_good r h s seq a =
     else relay_of r h (actions_of h ++ a ∷ []) s seq (suc (length (actions_of h)))
 
 abbrev pub reply_to_checked : Rules → List Entry → ℕ → ℕ → Action → Option BadAction → Logged
-reply_to_checked r h s seq a (Some cause) = refused 6 (cause_number cause)
+reply_to_checked r h s seq a (Some cause) = refused_as refusals.BadAction (cause_number cause)
 reply_to_checked r h s seq a None = reply_to_good r h s seq a
 
 abbrev pub reply_to_new : Rules → List Entry → ℕ → ℕ → ℕ → Action → Logged
 reply_to_new r h s k seq a = if seq == next_seq h k
     then reply_to_checked r h s seq a (first_fault_of_action r.world.shape a)
-    else refused 5 (next_seq h k)
+    else refused_as refusals.WrongSequence (next_seq h k)
 
 -- A repeated Submit is answered by its kept outcome; its action is not looked at.
 abbrev pub reply_to_submit : Rules → List Entry → ℕ → ℕ → ℕ → Action → Option Outcome → Logged
@@ -80,7 +88,7 @@ is_bad_result r h s d = d.pos == 0 || nat_lt (length (accepted h)) d.pos || (nat
     || not (list_all (λ v. length v == r.world.shape.attrs) d.values)))
 
 abbrev pub is_bad_done : Rules → List Entry → ℕ → List Done1 → Bool
-is_bad_done r h s results = length results == 0 || nat_lt 33 (length results)
+is_bad_done r h s results = length results == 0 || nat_lt most_items (length results)
     || not (is_ascending (map (λ (d : Done1). d.pos) results)) || list_any (is_bad_result r h s) results
 
 -- The commit once the results are noted.
@@ -88,7 +96,7 @@ abbrev pub commit_with : List Entry → ℕ → List Done1 → ℕ
 commit_with h s results = commit_of (record { session = s; request = requests.Done results; reply = logged.Noted 0 } ∷ h)
 
 abbrev pub reply_to_done : Rules → List Entry → ℕ → List Done1 → Logged
-reply_to_done r h s results = if is_bad_done r h s results then refused 7 0 else logged.Noted (commit_with h s results)
+reply_to_done r h s results = if is_bad_done r h s results then refused_as refusals.BadResults 0 else logged.Noted (commit_with h s results)
 
 -- ---- Polls
 
@@ -107,14 +115,14 @@ reply_to_poll r h s (p ∷ ps) = relay_of r h (actions_of h) s 0 p
 -- ---- Requests
 
 abbrev pub is_good_interest : ℕ → List ℕ → Bool
-is_good_interest objects xs = nat_le (length xs) 64 && is_ascending xs && list_all (λ x. nat_lt x objects) xs
+is_good_interest objects xs = nat_le (length xs) most_interest && is_ascending xs && list_all (λ x. nat_lt x objects) xs
 
 abbrev pub reply_to_join : Rules → List Entry → ℕ → ℕ → ℕ → List ℕ → Logged
-reply_to_join r h s k life interest = if is_live h s then refused 3 0
-    else if nat_le 32 k then refused 10 0
-    else if nat_le life (life_of h k) then refused 11 (life_of h k)
+reply_to_join r h s k life interest = if is_live h s then refused_as refusals.AlreadyJoined 0
+    else if nat_le most_clients k then refused_as refusals.NoSuchClient 0
+    else if nat_le life (life_of h k) then refused_as refusals.OldLife (life_of h k)
     else if is_good_interest r.world.shape.objects interest then logged.Welcome (commit_of h) (committed_held r h interest)
-    else refused 8 0
+    else refused_as refusals.BadInterest 0
 
 -- The reply to client k's request in a session that it joined.
 abbrev pub reply_to_client : Rules → List Entry → ℕ → ℕ → Request → Logged
@@ -124,22 +132,18 @@ reply_to_client r h s k requests.Poll = reply_to_poll r h s (orphans h)
 reply_to_client r h s k _ = logged.Bye
 
 abbrev pub reply_to_member : Rules → List Entry → ℕ → Option ℕ → Request → Logged
-reply_to_member r h s None request = refused 2 0
+reply_to_member r h s None request = refused_as refusals.NotJoined 0
 reply_to_member r h s (Some k) request = reply_to_client r h s k request
 
 -- The reply in a session that is not over and not spent.
 abbrev pub reply_to_open : Rules → List Entry → ℕ → Request → Logged
-reply_to_open r h s requests.Bad = refused 1 0
+reply_to_open r h s requests.Bad = refused_as refusals.Malformed 0
 reply_to_open r h s (requests.Join client life interest) = reply_to_join r h s client.0 life (map (λ (o : ObjectId). o.0) interest)
 reply_to_open r h s request = reply_to_member r h s (client_of h s) request
 
--- How many requests a session may make.
-abbrev pub most_requests : ℕ
-most_requests = 1024
-
 abbrev pub reply_to_request : Rules → List Entry → ℕ → Request → Logged
-reply_to_request r h s request = if is_over h s then refused 4 0
-    else if nat_le most_requests (asked_in h s) then refused 9 0
+reply_to_request r h s request = if is_over h s then refused_as refusals.Over 0
+    else if nat_le most_requests (asked_in h s) then refused_as refusals.TooManyRequests 0
     else reply_to_open r h s request
 
 -- The reply to a request of a session, after the entries h.

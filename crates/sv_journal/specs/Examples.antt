@@ -5,10 +5,11 @@ use Rattle.sv_world.specs.declared.world.ObjectId.{ObjectId}
 use Rattle.sv_wire.specs.declared.message.Held.{Held}
 use Rattle.sv_wire.specs.declared.message.Request.{Request}
 use Rattle.sv_wire.specs.declared.message.Request.TheVariants as requests
+use Rattle.sv_wire.specs.declared.refusal.Refusal.TheVariants as refusals
 use Rattle.sv_journal.specs.declared.entry.Entry.{Entry}
 use Rattle.sv_journal.specs.declared.entry.Logged.{Logged}
 use Rattle.sv_journal.specs.declared.entry.Logged.TheVariants as logged
-use Rattle.sv_journal.specs.Answer.{Rules, reply_to}
+use Rattle.sv_journal.specs.Answer.{Rules, refused_as, reply_to}
 
 -- Objects of one attribute with these values, under a bound and a reach.
 abbrev pub opened : List ℕ → ℕ → Option ℕ → Rules
@@ -115,9 +116,9 @@ lost_relay_rows =
     (0, join 0 1 [], logged.Welcome 0 [])
     ∷ (0, requests.Submit 1 (act (0 ∷ []) 1), logged.Relay 1 0 (held 0 0 ∷ []) (1 ∷ []))
     ∷ (1, join 0 2 [], logged.Welcome 0 [])
-    ∷ (0, requests.Poll, logged.Refused 4 0)
+    ∷ (0, requests.Poll, refused_as refusals.Over 0)
     ∷ (1, requests.Submit 1 (act (0 ∷ []) 1), logged.Relay 1 0 (held 0 0 ∷ []) (1 ∷ []))
-    ∷ (2, join 0 2 [], logged.Refused 11 2)
+    ∷ (2, join 0 2 [], refused_as refusals.OldLife 2)
     ∷ []
 
 -- A repeated Submit whose action was committed is settled.
@@ -148,16 +149,16 @@ abandoned_action_rows =
 -- What is refused, in one session: the action on an object that the world has not is the fourth cause.
 abbrev pub refusals_rows : List Row
 refusals_rows =
-    (0, requests.Poll, logged.Refused 2 0)
-    ∷ (0, join 32 1 [], logged.Refused 10 0)
-    ∷ (0, join 0 1 (1 ∷ []), logged.Refused 8 0)
+    (0, requests.Poll, refused_as refusals.NotJoined 0)
+    ∷ (0, join 32 1 [], refused_as refusals.NoSuchClient 0)
+    ∷ (0, join 0 1 (1 ∷ []), refused_as refusals.BadInterest 0)
     ∷ (0, join 0 1 (0 ∷ []), logged.Welcome 0 (held 0 0 ∷ []))
-    ∷ (0, join 0 2 (0 ∷ []), logged.Refused 3 0)
-    ∷ (0, requests.Submit 9 (act (0 ∷ []) 1), logged.Refused 5 1)
-    ∷ (0, requests.Submit 1 (act (1 ∷ []) 1), logged.Refused 6 4)
-    ∷ (0, done ((1, 1 ∷ []) ∷ []), logged.Refused 7 0)
-    ∷ (0, requests.Bad, logged.Refused 1 0)
-    ∷ (0, requests.Poll, logged.Refused 4 0)
+    ∷ (0, join 0 2 (0 ∷ []), refused_as refusals.AlreadyJoined 0)
+    ∷ (0, requests.Submit 9 (act (0 ∷ []) 1), refused_as refusals.WrongSequence 1)
+    ∷ (0, requests.Submit 1 (act (1 ∷ []) 1), refused_as refusals.BadAction 4)
+    ∷ (0, done ((1, 1 ∷ []) ∷ []), refused_as refusals.BadResults 0)
+    ∷ (0, requests.Bad, refused_as refusals.Malformed 0)
+    ∷ (0, requests.Poll, refused_as refusals.Over 0)
     ∷ []
 
 -- An action is dropped where one that influences it lies over 10 away.

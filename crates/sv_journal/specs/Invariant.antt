@@ -2,7 +2,7 @@
 use Rattle.std.specs.Prelude.{◌≡◌, ◌+◌, ◌^◌, ◌<◌, ◌≤◌, length, reverse}
 use Rattle.std.specs.Vec.{vec_len, vec_capacity}
 use Rattle.sv_journal.specs.declared.journal.Journal.TheInside.{Inside}
-use Rattle.sv_journal.specs.Rows.{AreRows}
+use Rattle.sv_journal.specs.Rows.{AreAllRows}
 use Rattle.sv_journal.specs.View.{JournalView}
 
 abbrev pub view_of : Inside → JournalView
@@ -16,4 +16,4 @@ pub record HasSpare (a : Inside) : Type 0 where
   pub outcomes : 0 < a.spare → length a.outcomes.items ≡ 2 ^ 16
 
 abbrev pub IsJournal : Inside → Type 0
-IsJournal a = AreRows (reverse a.entries.items) a.clients.items a.outcomes.items a.accepted.items × HasSpare a
+IsJournal a = AreAllRows (reverse a.entries.items) a.clients.items a.outcomes.items a.accepted.items × HasSpare a

@@ -1,6 +1,7 @@
 -- Laws of journals: first those of a server that trusts its clients, and then the same of a server with any keeping.
 use Rattle.std.specs.Prelude.{◌≡◌, ◌+◌, ◌≤◌, ◌↔◌, All, List, ◌++◌, length, reverse, None}
 use Rattle.sv_world.specs.Faults.{first_fault_of_action}
+use Rattle.sv_world.specs.Limits.{most_attrs, most_bound}
 use Rattle.sv_wire.specs.Grammar.{IsWireReply}
 use Rattle.sv_journal.specs.declared.entry.Entry.{Entry}
 use Rattle.sv_journal.specs.declared.entry.Logged.{Logged}
@@ -27,14 +28,14 @@ LegalRelaysAreSmall = (r : Rules) (h : List Entry) → Legal r h → All (λ (e 
 abbrev pub LegalActionsAreGood : Type 0
 LegalActionsAreGood = (r : Rules) (h : List Entry) → Legal r h → All (λ (a : Authored). first_fault_of_action r.world.shape a.action ≡ None) (accepted h)
 
--- Rules within the limits: each object of the world has a value, of one number for each of its 1 to 4 attributes, and a chain has at most 32
+-- Rules within the limits: each object of the world has a value, of one number for each of its attributes, and a chain has few enough
 -- actions.
 pub record AreWithinLimits (r : Rules) : Type 0 where
   pub some_attrs : 1 ≤ r.world.shape.attrs
-  pub few_attrs : r.world.shape.attrs ≤ 4
+  pub few_attrs : r.world.shape.attrs ≤ most_attrs
   pub objects : length r.world.values ≡ r.world.shape.objects
   pub attrs : All (λ value. length value ≡ r.world.shape.attrs) r.world.values
-  pub bound : r.bound ≤ 32
+  pub bound : r.bound ≤ most_bound
 
 -- Each reply of a legal journal is a message, as it was sent.
 abbrev pub LegalRepliesAreMessages : Type 0

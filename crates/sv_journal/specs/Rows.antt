@@ -38,8 +38,12 @@ accepts e n = is_submit_of e.request (suc n) && is_relay e.reply
 abbrev pub client_in : List (Option ClientId) → ℕ → Option ℕ
 client_in clients s = option_map (λ (c : ClientId). c.0) (slice_index_or clients s None)
 
--- The rows are those of the history: the client of each session, how many outcomes each client has, and where the accepted actions stand.
-pub record AreRows (h : List Entry) (clients : List (Option ClientId)) (outcomes : List ℕ) (accepted : List Acceptance) : Type 0 where
+-- The rows are those of the history: the client of each session, and how many outcomes each client has.
+pub record AreRows (h : List Entry) (clients : List (Option ClientId)) (outcomes : List ℕ) : Type 0 where
   pub client : (s : ℕ) → s < 2 ^ 16 → client_in clients s ≡ client_of h s
   pub count : (k : ℕ) → k < 2 ^ 16 → slice_index_or outcomes k 0 ≡ length (outcomes_of h k)
+
+-- So are these, and the others say where the accepted actions stand.
+pub record AreAllRows (h : List Entry) (clients : List (Option ClientId)) (outcomes : List ℕ) (accepted : List Acceptance) : Type 0 where
+  pub rows : AreRows h clients outcomes
   pub places : accepted ≡ places_of h

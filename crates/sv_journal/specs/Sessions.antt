@@ -3,10 +3,13 @@
 use Rattle.std.specs.Prelude.{ℕ, zero, suc, ◌+◌, Bool, true, false, ◌&&◌, ◌||◌, not, ◌==◌, nat_le, max, List, [], ◌∷◌, ◌++◌, map, filter, slice_get, Option, Some, None, is_some, if◌then◌else◌}
 use Rattle.std.specs.List.{list_any}
 use Rattle.sv_world.specs.Control.{is_in, below, action_at, last_writer}
+use Rattle.sv_world.specs.Limits.{most_pending}
 use Rattle.sv_world.specs.Sets.{write_set}
 use Rattle.sv_wire.specs.declared.message.Held.{Held}
 use Rattle.sv_wire.specs.declared.message.Request.{Request}
 use Rattle.sv_wire.specs.declared.message.Request.TheVariants as requests
+use Rattle.sv_wire.specs.declared.refusal.Refusal.TheVariants as refusals
+use Rattle.sv_wire.specs.Refusals.{code_of}
 use Rattle.sv_journal.specs.declared.entry.Entry.{Entry}
 use Rattle.sv_journal.specs.declared.entry.Logged.{Logged}
 use Rattle.sv_journal.specs.declared.entry.Logged.TheVariants as logged
@@ -20,7 +23,7 @@ is_joined h s = is_some (client_of h s)
 -- The replies that end their session: Bye, and Refused for a malformed payload or a spent session.
 abbrev pub is_last : Logged → Bool
 is_last logged.Bye = true
-is_last (logged.Refused code detail) = code == 1 || code == 9
+is_last (logged.Refused code detail) = code == code_of refusals.Malformed || code == code_of refusals.TooManyRequests
 is_last _ = false
 
 -- The entry is a Join of the client that was answered Welcome.
@@ -39,6 +42,10 @@ is_live h s = is_joined h s && not (is_over h s)
 abbrev pub is_end : Request → Bool
 is_end requests.End = true
 is_end _ = false
+
+-- A session had its End.
+abbrev pub is_ended : List Entry → ℕ → Bool
+is_ended h s = list_any (λ (e : Entry). e.session == s && is_end e.request) h
 
 -- How many requests a session made, its End left out.
 abbrev pub asked_in : List Entry → ℕ → ℕ
@@ -60,9 +67,9 @@ abbrev pub outcome_at : List Outcome → ℕ → Option Outcome
 outcome_at outcomes zero = None
 outcome_at outcomes (suc n) = slice_get outcomes n
 
--- How many outcomes of a client are kept.
+-- How many outcomes of a client are kept: those of all its actions that it may have unsettled.
 abbrev pub kept_count : ℕ
-kept_count = 8
+kept_count = most_pending
 
 -- The outcome of a client's action, where it is one of the last that are kept.
 abbrev pub kept_outcome : List Entry → ℕ → ℕ → Option Outcome

@@ -1,3 +1,4 @@
+//! The entries of a journal.
 use sv_wire::{Held, Request};
 use sv_world::List;
 

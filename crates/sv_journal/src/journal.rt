@@ -1,3 +1,4 @@
+//! The journal, and the accepted actions by their positions.
 ghost use Rattle.std.specs.Prelude.{◌≡◌, ◌-◌, ◌<◌, ◌≤◌, [], ◌∷◌, ◌++◌, length, reverse, slice_get, Some, OnOk, OnErr};
 ghost use Rattle.sv_world.specs.Control.{action_at};
 ghost use Rattle.sv_journal.specs.History.{accepted, actions_of, authored_at};

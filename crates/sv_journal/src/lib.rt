@@ -18,4 +18,5 @@ pub use laws::{
     served_replies_are_messages,
 };
 pub use print::{print_journal, relays_name_accepted};
+pub use rows::{count_after, joining_client, make_client_rows, make_count_rows, new_seq};
 pub use text::{append_held, append_objects, append_value};

@@ -5,7 +5,7 @@ ghost use Rattle.std.specs.Vec.{vec_len, vec_capacity};
 ghost use Rattle.sv_world.specs.declared.world.ClientId.{ClientId};
 ghost use Rattle.sv_journal.specs.declared.entry.Entry.{Entry};
 ghost use Rattle.sv_journal.specs.History.{is_welcome, is_relay, is_submit_of, joining};
-ghost use Rattle.sv_journal.specs.Rows.{tells_outcome, count_after, accepts, AreRows};
+ghost use Rattle.sv_journal.specs.Rows.{tells_outcome, count_after, accepts, AreAllRows};
 
 use crate::{Entry, Logged};
 use std::alloc::AllocError;
@@ -41,7 +41,7 @@ pub fn make_count_rows(outcomes: &mut Vec<u32>) -> Result<(), AllocError>
 }
 
 /// The client that joins by an entry.
-fn joining_client(entry: &Entry) -> Option<ClientId>
+pub fn joining_client(entry: &Entry) -> Option<ClientId>
     ensures { option_map (λ (c : ClientId). c.0) result ≡ (if is_welcome entry.now.reply then joining entry.now.request else None) }
 {
     let Logged::Welcome { .. } = &entry.reply else {
@@ -54,7 +54,7 @@ fn joining_client(entry: &Entry) -> Option<ClientId>
 }
 
 /// The number of a Submit, where it is the one after `count`.
-fn new_seq(request: &Request, count: u32) -> Option<u32>
+pub fn new_seq(request: &Request, count: u32) -> Option<u32>
     ensures { result ≡ (if is_submit_of request.now (suc count) then Some (suc count) else None) }
 {
     match request {
@@ -83,7 +83,7 @@ fn tells_outcome(reply: &Logged) -> bool
 }
 
 /// How many outcomes a client has after an entry of one of its sessions, where it had `count`.
-fn count_after(entry: &Entry, count: u32) -> u32
+pub fn count_after(entry: &Entry, count: u32) -> u32
     ensures { result ≡ count_after entry.now count }
 {
     match new_seq(&entry.request, count) {
@@ -116,7 +116,7 @@ pub fn note(
     requires clients { length clients.old ≡ 2 ^ 16 }
     requires outcomes { length outcomes.old ≡ 2 ^ 16 }
     requires room { vec_len accepted.old < vec_capacity accepted.old }
-    ensures rows { (h : List Entry) → length h ≡ place → AreRows h clients.old outcomes.old accepted.old.items → AreRows (entry.now ∷ h) clients.new outcomes.new accepted.new.items }
+    ensures rows { (h : List Entry) → length h ≡ place → AreAllRows h clients.old outcomes.old accepted.old.items → AreAllRows (entry.now ∷ h) clients.new outcomes.new accepted.new.items }
     ensures longer { vec_len accepted.new ≤ vec_len accepted.old + 1 }
     ensures capacity { vec_capacity accepted.old ≤ vec_capacity accepted.new }
 {

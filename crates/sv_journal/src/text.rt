@@ -1,3 +1,4 @@
+//! Values and objects as they are printed.
 ghost use mathlib.Core.List.{IsPrefix};
 ghost use Rattle.std.specs.Prelude.{◌≡◌, ◌∷◌, ◌++◌, string_bytes, OnOk, OnErr};
 ghost use Rattle.std.specs.List.{flat_map};

@@ -32,10 +32,10 @@ use Rattle.sv_world.specs.declared.node.Connective.{Connective}
 use Rattle.sv_world.specs.declared.node.Connective.TheVariants as joints
 use Rattle.sv_world.specs.Faults.{is_in_plane, has_origin}
 use Rattle.sv_world.specs.Parts.{binary_by, compare_by, join_by}
-use Rattle.sv_world.specs.Ranges.{is_i64, is_byte, expr_fits, cond_fits, stmt_fits, body_fits}
+use Rattle.sv_world.specs.Ranges.{is_i64, is_byte, expr_fits, cond_fits, stmt_fits, body_fits, is_zero, ObjectFits}
 use Rattle.sv_world.proofs.Ranged.{lit_fits, attr_fits, binary_fits, compare_fits, join_fits, not_fits, set_fits, if_fits}
-use Rattle.sv_text.specs.Canonical.{object_in, ref_text, between, op_text, comparison_text, joint_text, expr_text, cond_text, spaced, block_text, else_text, stmt_text, object_text, objects_text, written, is_zero, origin_text, body_text, canonical}
-use Rattle.sv_text.specs.Printable.{ObjectFits, IsPrintable}
+use Rattle.sv_text.specs.Canonical.{object_in, ref_text, between, op_text, comparison_text, joint_text, expr_text, cond_text, spaced, block_text, else_text, stmt_text, object_text, spaced_objects, written, origin_text, body_text, canonical}
+use Rattle.sv_text.specs.Printable.{IsPrintable}
 use Rattle.sv_text.proofs.Layers.{pair_text_is, lit_text, attr_text, test_text_is, joint_text_is, not_text, set_text_is, if_text}
 use Rattle.sv_lines.specs.Asking.{is_plain}
 use Rattle.sv_lines.proofs.Splitting.{all_pass, pass_append, decimal_passes}
@@ -211,9 +211,9 @@ object_small [] f slot = omega arith
 object_small (r ∷ rs) f zero = f.0
 object_small (r ∷ rs) f (suc slot) = object_small rs f.1 slot
 
-pub plain_objects : (os : List ObjectId) → AllByRecursion ObjectFits os → IsPlain (objects_text os)
+pub plain_objects : (os : List ObjectId) → AllByRecursion ObjectFits os → IsPlain (spaced_objects os)
 plain_objects [] f = refl
-plain_objects (o ∷ os) f = then_plain (object_text o) (objects_text os) (then_plain (32 ∷ []) (decimal o.0) refl (plain_decimal o.0 (omega (arith, f.0)))) (plain_objects os f.1)
+plain_objects (o ∷ os) f = then_plain (object_text o) (spaced_objects os) (then_plain (32 ∷ []) (decimal o.0) refl (plain_decimal o.0 (omega (arith, f.0)))) (plain_objects os f.1)
 
 kept_small : (r : ObjectId) (rest : List ObjectId) (b : Bool) → ObjectFits r → AllByRecursion ObjectFits rest → AllByRecursion ObjectFits (cond b (r ∷ rest) rest)
 kept_small r rest true f g = (f, g)
@@ -243,15 +243,15 @@ pub plain_action : (a : Action) → IsPrintable a → IsPlain (canonical a)
 unfolding canonical has_origin
 plain_action a p =
     let plane = and_parts (is_in_plane a.origin.x) (is_in_plane a.origin.y) p.within.origin in
-    let one = codes "reads" ++ objects_text a.reads in
+    let one = codes "reads" ++ spaced_objects a.reads in
     let two = one ++ codes " writes" in
-    let three = two ++ objects_text (written a.reads a.mask) in
+    let three = two ++ spaced_objects (written a.reads a.mask) in
     let four = three ++ origin_text a.origin in
     then_plain (four ++ codes " ") (body_text a.reads a.body)
     (then_plain four (codes " ")
     (then_plain three (origin_text a.origin)
-    (then_plain two (objects_text (written a.reads a.mask))
-    (then_plain one (codes " writes") (then_plain (codes "reads") (objects_text a.reads) refl (plain_objects a.reads p.objects)) refl)
+    (then_plain two (spaced_objects (written a.reads a.mask))
+    (then_plain one (codes " writes") (then_plain (codes "reads") (spaced_objects a.reads) refl (plain_objects a.reads p.objects)) refl)
     (plain_objects (written a.reads a.mask) (written_small a.reads a.mask p.objects)))
     (plain_origin a.origin plane.0 plane.1))
     refl)

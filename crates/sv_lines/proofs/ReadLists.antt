@@ -5,7 +5,8 @@ use Rattle.std.specs.List.{AllByRecursion, flat_map}
 use Rattle.std.proofs.lemmas.Bool.{eq-eqb, ne_eqb}
 use Rattle.sv_world.specs.declared.world.ObjectId.{ObjectId}
 use Rattle.sv_wire.specs.declared.message.Done1.{Done1}
-use Rattle.sv_wire.specs.Ranges.{ObjectFits, ValueFits, ResultFits}
+use Rattle.sv_world.specs.Ranges.{ObjectFits}
+use Rattle.sv_wire.specs.Ranges.{ValueFits, ResultFits}
 use Rattle.sv_journal.specs.Pieces.{joined, bracketed, value_text, objects_text, result_text}
 use Rattle.sv_lines.specs.Reading.{Read, ◌>>=◌, behind_front, next_read, joined_by, listed_by, number_read, signed_read, object_read, objects_read, value_read, values_by, values_read, result_read, results_read}
 use Rattle.sv_lines.proofs.Splitting.{Anything}

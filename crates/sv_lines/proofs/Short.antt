@@ -32,11 +32,11 @@ use Rattle.sv_world.specs.declared.node.Connective.{Connective}
 use Rattle.sv_world.specs.declared.node.Connective.TheVariants as joints
 use Rattle.sv_world.specs.Faults.{is_in_plane, has_origin}
 use Rattle.sv_world.specs.Parts.{binary_by, compare_by, join_by}
-use Rattle.sv_world.specs.Ranges.{is_i64, is_byte, expr_fits, cond_fits, stmt_fits, body_fits}
+use Rattle.sv_world.specs.Ranges.{is_i64, is_byte, expr_fits, cond_fits, stmt_fits, body_fits, is_zero, ObjectFits}
 use Rattle.sv_world.specs.Trees.{expr_nodes, cond_nodes, stmt_nodes, body_nodes}
 use Rattle.sv_world.proofs.Ranged.{lit_fits, attr_fits, binary_fits, compare_fits, join_fits, not_fits, set_fits, if_fits}
-use Rattle.sv_text.specs.Canonical.{object_in, ref_text, between, op_text, comparison_text, joint_text, expr_text, cond_text, spaced, block_part, block_text, else_text, stmt_text, object_text, objects_text, written, is_zero, origin_text, body_text, canonical}
-use Rattle.sv_text.specs.Printable.{ObjectFits, IsPrintable}
+use Rattle.sv_text.specs.Canonical.{object_in, ref_text, between, op_text, comparison_text, joint_text, expr_text, cond_text, spaced, block_part, block_text, else_text, stmt_text, object_text, spaced_objects, written, origin_text, body_text, canonical}
+use Rattle.sv_text.specs.Printable.{IsPrintable}
 use Rattle.sv_text.proofs.Layers.{pair_text_is, pair_nodes, lit_text, lit_nodes, attr_text, attr_nodes, test_text_is, test_nodes, joint_text_is, joint_nodes, not_text, not_nodes, set_text_is, set_nodes, if_text, if_nodes}
 use Rattle.sv_lines.proofs.Plain.{object_small, written_small}
 
@@ -222,9 +222,9 @@ module _ (reads : List ObjectId) (small : (slot : ℕ) → object_in reads slot 
 
 -- ---- Whole actions
 
-objects_short : (os : List ObjectId) → AllByRecursion ObjectFits os → length (objects_text os) ≤ 21 * length os
+objects_short : (os : List ObjectId) → AllByRecursion ObjectFits os → length (spaced_objects os) ≤ 21 * length os
 objects_short [] f = omega arith
-objects_short (o ∷ os) f = omega (arith, number_short o.0 (omega (arith, f.0)), objects_short os f.1, length-append (object_text o) (objects_text os))
+objects_short (o ∷ os) f = omega (arith, number_short o.0 (omega (arith, f.0)), objects_short os f.1, length-append (object_text o) (spaced_objects os))
 
 written_few : (reads : List ObjectId) (mask : ℕ) → length (written reads mask) ≤ length reads
 written_few [] mask = omega arith
@@ -257,18 +257,18 @@ pub short_action : (a : Action) → IsPrintable a → length (canonical a) < 2 ^
 unfolding canonical has_origin
 short_action a p =
     let plane = and_parts (is_in_plane a.origin.x) (is_in_plane a.origin.y) p.within.origin in
-    let one = codes "reads" ++ objects_text a.reads in
+    let one = codes "reads" ++ spaced_objects a.reads in
     let two = one ++ codes " writes" in
-    let three = two ++ objects_text (written a.reads a.mask) in
+    let three = two ++ spaced_objects (written a.reads a.mask) in
     let four = three ++ origin_text a.origin in
     omega (
       arith,
       length-append (four ++ codes " ") (body_text a.reads a.body),
       length-append four (codes " "),
       length-append three (origin_text a.origin),
-      length-append two (objects_text (written a.reads a.mask)),
+      length-append two (spaced_objects (written a.reads a.mask)),
       length-append one (codes " writes"),
-      length-append (codes "reads") (objects_text a.reads),
+      length-append (codes "reads") (spaced_objects a.reads),
       objects_short a.reads p.objects,
       objects_short (written a.reads a.mask) (written_small a.reads a.mask p.objects),
       written_few a.reads a.mask,

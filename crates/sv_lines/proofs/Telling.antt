@@ -8,7 +8,8 @@ use Rattle.std.specs.List.{AllByRecursion, flat_map}
 use Rattle.std.proofs.lemmas.Fmt.{decimal_injective}
 use Rattle.sv_world.specs.declared.world.ObjectId.{ObjectId}
 use Rattle.sv_wire.specs.declared.message.Done1.{Done1}
-use Rattle.sv_wire.specs.Ranges.{ObjectFits, ValueFits, ResultFits}
+use Rattle.sv_world.specs.Ranges.{ObjectFits}
+use Rattle.sv_wire.specs.Ranges.{ValueFits, ResultFits}
 use Rattle.sv_journal.specs.Pieces.{joined, bracketed, value_text, objects_text, result_text}
 use Rattle.sv_lines.specs.Reading.{is_numeric}
 use Rattle.sv_lines.proofs.Splitting.{all_pass, both_pass, decimal_passes, Ends, first_is, others_are, class_split, number_split, number_begins, Tells, Anything, behind_tells}

@@ -1,10 +1,10 @@
+-- The definitions of this crate, file by file.
 pub mod Sides
 pub mod Ends
 pub mod Nets
 pub mod Logs
-pub mod Rooms
+pub mod Books
 pub mod Pipes
 pub mod Crews
 pub mod Promises
-pub mod Tcp
 pub mod ThreadCrews

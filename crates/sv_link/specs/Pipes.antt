@@ -1,5 +1,7 @@
 -- Nets in memory: their lists of calls that fail.
 use Rattle.std.specs.Prelude.{◌≡◌, ℕ, List, []}
+use Rattle.sv_link.specs.Books.{IsNewBook}
+use Rattle.sv_link.specs.Nets.{Transcript}
 use Rattle.sv_link.specs.declared.book.Book.{Book}
 use Rattle.sv_link.specs.declared.pipe_net.PipeNet.{PipeNet}
 
@@ -33,13 +35,10 @@ module _ {R : Type 0} where
       }
 
   -- the net's pairs: those that were settled, how many were made, how many are owed, and the count of faults
-  abbrev pub book_of : PipeNet R → Book
+  abbrev pub book_of : PipeNet R → Book Transcript
   book_of net = net.book
 
   -- no pair was made, and nothing fails
   pub record IsNewNet (net : PipeNet R) : Type 0 where
-    pub settled : net.book.settled.items ≡ []
-    pub made : net.book.made ≡ 0
-    pub owed : net.book.owed ≡ 0
-    pub faultless : net.book.faults.value ≡ 0
+    pub book : IsNewBook (book_of net)
     pub plans : HasNoPlan (plans_of net)

@@ -21,7 +21,7 @@ impl Gate for OpenGate {
 }
 
 // How often a call looks for the other before it gives up.
-const LOOKS: u32 = 1_000_000;
+const MEETING_LOOKS: u32 = 1_000_000;
 
 // One of the two calls that wait for each other.
 #[derive(Drop)]
@@ -53,7 +53,7 @@ impl Meeting {
     // Comes, and looks for the other. Whether it saw it.
     fn sees(&self, other: &Meeting) -> bool {
         self.came.store(true, Ordering::SeqCst);
-        for _ in 1..LOOKS {
+        for _ in 1..MEETING_LOOKS {
             if other.came.load(Ordering::SeqCst) {
                 return true;
             }

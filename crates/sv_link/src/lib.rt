@@ -9,6 +9,7 @@ mod gates;
 mod link;
 mod log;
 mod nets;
+mod pairs;
 mod pipe;
 mod pipe_end;
 mod pipe_net;
@@ -17,6 +18,7 @@ mod starting;
 mod tcp;
 mod thread_crew;
 
+pub use book::Book;
 pub use crews::{Crew, Job, Ran};
 pub use ends::{End, EndRead, EndWrote, Sent, send_all};
 pub use gates::{Gate, HoldGate, OpenGate};

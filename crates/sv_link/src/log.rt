@@ -8,7 +8,7 @@ use crate::side::Side;
 use std::alloc::Global;
 
 /// How many bytes a read takes at most. The log makes room for so many before it is known how many will come.
-pub(crate) const PIECE: usize = 4_096;
+pub(crate) const MOST_READ: usize = 4_096;
 
 /// The bytes that an end's own calls moved, and how these calls went.
 #[derive(Drop)]

@@ -2,7 +2,7 @@
 ghost use Rattle.std.specs.Prelude.{◌≡◌};
 
 use crate::ends::{End, EndRead, EndWrote};
-use crate::log::{EndLog, PIECE};
+use crate::log::{EndLog, MOST_READ};
 use crate::pipe::Pipe;
 use std::alloc::Global;
 use std::sync::{Arc, Wait};
@@ -68,7 +68,7 @@ impl<'r, R: Wait> End for PipeEnd<'r, R> {
         if self.plan.next_fails() {
             return self.log.read_failed();
         }
-        let most = into.len().min(self.plan.step).min(PIECE);
+        let most = into.len().min(self.plan.step).min(MOST_READ);
         if self.log.received.reserve(most).is_err() {
             return EndRead::Memory;
         }

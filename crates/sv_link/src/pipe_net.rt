@@ -3,6 +3,7 @@ ghost use Rattle.std.specs.Prelude.{◌≡◌, ◌<◌, [], ◌∷◌, ◌++◌,
 
 use crate::book::Book;
 use crate::nets::{Net, Pair, Settle};
+use crate::pairs::{Settled, open_pair, settle_pair};
 use crate::pipe::Pipe;
 use crate::pipe_end::PipeEnd;
 use std::alloc::{AllocError, Global};
@@ -16,7 +17,7 @@ use sv_bytes::Plan;
 pub struct PipeNet<'r, R: Wait> {
     alloc: Global,
     rt: &'r R,
-    book: Book,
+    book: Book<Settled>,
     calls: Plan,
     server: Plan,
     client: Plan,
@@ -93,7 +94,7 @@ impl<'r, R: Wait + Sync> Net for PipeNet<'r, R> {
 
     type E = PipeEnd<'r, R>;
 
-    ghost settled = { λ n. n.book.settled.items };
+    ghost settled = { λ n. n.book.kept.items };
 
     ghost made = { λ n. n.book.made };
 
@@ -123,7 +124,7 @@ impl<'r, R: Wait + Sync> Net for PipeNet<'r, R> {
         if !self.book.takes_room() {
             return Pair::Memory;
         }
-        let (server, client) = self.book.open(self.alloc);
+        let (server, client) = open_pair(&mut self.book, self.alloc);
         let server = PipeEnd::new(self.rt, pipe, server_plan, server);
         let client = PipeEnd::new(self.rt, shared, client_plan, client);
         Pair::Made(server, client)
@@ -135,7 +136,7 @@ impl<'r, R: Wait + Sync> Net for PipeNet<'r, R> {
         let came = !server.received.is_empty() || !client.received.is_empty();
         let changed = self.settlings.next_fails() && came;
         let refused = self.calls.next_fails() || changed;
-        self.book.settle(server, client, cut, refused)
+        settle_pair(&mut self.book, server, client, cut, refused)
     }
 }
 

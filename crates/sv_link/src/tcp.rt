@@ -1,15 +1,17 @@
 //! A net over TCP, between threads of one process.
-ghost use Rattle.std.specs.Prelude.{◌≡◌, []};
-ghost use Rattle.std.specs.Io.{ReadsAtMost, WritesAtMost};
+ghost use Rattle.std.specs.Prelude.{◌≡◌};
+ghost use Rattle.sv_link.specs.Books.{IsNewBook};
 
 use crate::book::Book;
 use crate::ends::{End, EndRead, EndWrote};
-use crate::log::{EndLog, PIECE};
+use crate::log::{EndLog, MOST_READ};
 use crate::nets::{Net, Pair, Settle};
+use crate::pairs::{Settled, open_pair, settle_pair};
 use std::alloc::Global;
 use std::io;
-use std::io::{ErrorKind, Read, Write};
+use std::io::ErrorKind;
 use std::net::{Net as Sockets, Shutdown, TcpListener, TcpStream};
+use sv_bytes::{read_again, write_again};
 
 /// An end of a TCP connection.
 #[derive(Drop)]
@@ -45,7 +47,7 @@ impl End for TcpEnd {
     ghost calm = { λ _. ⊥ };
 
     fn read(&mut self, into: &mut [u8]) -> EndRead {
-        let most = into.len().min(PIECE);
+        let most = into.len().min(MOST_READ);
         if self.log.received.reserve(most).is_err() {
             return EndRead::Memory;
         }
@@ -90,15 +92,13 @@ pub struct TcpNet<'r, R: Sockets<Listener = TcpListener, Stream = TcpStream>> {
     alloc: Global,
     rt: &'r R,
     listener: Option<TcpListener>,
-    book: Book,
+    book: Book<Settled>,
 }
 
 impl<'r, R: Sockets<Listener = TcpListener, Stream = TcpStream>> TcpNet<'r, R> {
-    ghost use Rattle.sv_link.specs.Tcp.{IsNewNet};
-
     /// No pair was made. The first one binds a port.
     pub fn new(alloc: Global, rt: &'r R) -> TcpNet<'r, R>
-        ensures { IsNewNet result }
+        ensures { IsNewBook result.book }
     {
         TcpNet {
             alloc,
@@ -124,7 +124,7 @@ impl<'r, R: Sockets<Listener = TcpListener, Stream = TcpStream>> TcpNet<'r, R> {
 impl<'r, R: Sockets<Listener = TcpListener, Stream = TcpStream>> Net for TcpNet<'r, R> {
     type E = TcpEnd;
 
-    ghost settled = { λ n. n.book.settled.items };
+    ghost settled = { λ n. n.book.kept.items };
 
     ghost made = { λ n. n.book.made };
 
@@ -140,7 +140,7 @@ impl<'r, R: Sockets<Listener = TcpListener, Stream = TcpStream>> Net for TcpNet<
         }
         match self.connect() {
             Ok((at_server, at_client)) => {
-                let (server, client) = self.book.open(self.alloc);
+                let (server, client) = open_pair(&mut self.book, self.alloc);
                 let server = TcpEnd::new(at_server, server);
                 let client = TcpEnd::new(at_client, client);
                 Pair::Made(server, client)
@@ -154,8 +154,9 @@ impl<'r, R: Sockets<Listener = TcpListener, Stream = TcpStream>> Net for TcpNet<
     }
 
     fn settle(&mut self, server: TcpEnd, client: TcpEnd, cut: bool) -> Settle {
-        self.book
-            .settle(server.into_log(), client.into_log(), cut, false)
+        let server = server.into_log();
+        let client = client.into_log();
+        settle_pair(&mut self.book, server, client, cut, false)
     }
 }
 
@@ -174,31 +175,4 @@ fn connected<R: Sockets<Listener = TcpListener, Stream = TcpStream>>(
     server.set_nodelay(true)?;
     client.set_nodelay(true)?;
     Ok((server, client))
-}
-
-// How often a call is made anew that a signal broke off.
-const TRIES: u32 = 1000;
-
-fn read_again(stream: &mut TcpStream, into: &mut [u8]) -> io::Result<usize>
-    ensures { ReadsAtMost result into.new }
-{
-    for _ in 1..TRIES {
-        match stream.read(into) {
-            Err(error) if error.kind() == ErrorKind::Interrupted => {}
-            answer => return answer,
-        }
-    }
-    stream.read(into)
-}
-
-fn write_again(stream: &mut TcpStream, piece: &[u8]) -> io::Result<usize>
-    ensures { WritesAtMost result piece.now }
-{
-    for _ in 1..TRIES {
-        match stream.write(piece) {
-            Err(error) if error.kind() == ErrorKind::Interrupted => {}
-            answer => return answer,
-        }
-    }
-    stream.write(piece)
 }

@@ -7,7 +7,7 @@ use Rattle.atomic_table.specs.Table.{Me}
 use Rattle.sv_lock.specs.declared.view.View.{View}
 use Rattle.sv_lock.specs.declared.view.Stage.TheVariants.{Idle, Holds}
 use Rattle.sv_lock.specs.Histories.{entries_of, GoesOn}
-use Rattle.sv_lock.specs.Holding.{staged, renewed, Took, Follows, MayReturn, Ran}
+use Rattle.sv_lock.specs.Holding.{staged, renewed, Took, GrowsBy, MayReturn, Called}
 use Rattle.sv_lock.specs.Rest.{the, ended_in}
 use Rattle.sv_lock.proofs.Histories.{one_more_entry}
 use Rattle.sv_lock.proofs.Keeps.{held_or}
@@ -47,7 +47,7 @@ module _ {S B E R X : Type 0} (base_of : S → B) (history_of : S → List E) (l
   Stepped m1 m2 = (x : S) × (y : S) × (m1.1 ≡ (0, x) ∷ []) × (m2 ≡ (m1.0, (0, y) ∷ [])) × (base_of y ≡ base_of x) × lawful (base_of y) (history_of y)
       × IfOk result (λ r. history_of y ≡ history_of x ++ entry r ∷ []) × IfOk result (λ r. whole r (history_of y)) × OnErr result (history_of y ≡ history_of x)
 
-  follows : (n : ℕ) → ((r : R) → number_of (entry r) ≡ n) → (a b : List E) (o : Result R X) → IfOk o (λ r. b ≡ a ++ entry r ∷ []) → OnErr o (b ≡ a) → Follows number_of n a b
+  follows : (n : ℕ) → ((r : R) → number_of (entry r) ≡ n) → (a b : List E) (o : Result R X) → IfOk o (λ r. b ≡ a ++ entry r ∷ []) → OnErr o (b ≡ a) → GrowsBy number_of n a b
   follows n of_number a b (Ok r) ok err = inr (entry r, ok, of_number r)
   follows n of_number a b (Err e) ok err = inl err
 
@@ -64,7 +64,7 @@ module _ {S B E R X : Type 0} (base_of : S → B) (history_of : S → List E) (l
         based = ap (λ (v : View B E). v.base) back ∙ (k.base ∙ ap Some (ap base_of same ∙ sym f.4));
         hand = ap (λ (q : Mine). q.1) f.3;
         legal = f.5;
-        follows = subst (λ (h : List E). Follows number_of n h (history_of f.1)) (ap history_of (sym same) ∙ ap (λ (v : View B E). v.seen) (sym back))
+        follows = subst (λ (h : List E). GrowsBy number_of n h (history_of f.1)) (ap history_of (sym same) ∙ ap (λ (v : View B E). v.seen) (sym back))
             (follows n of_number (history_of f.0) (history_of f.1) result f.6 f.8);
       }
 
@@ -79,7 +79,7 @@ module _ {S B E R X : Type 0} (base_of : S → B) (history_of : S → List E) (l
 
   pub ran : (n : ℕ) (mine : List E) (m m1 m2 m3 : Mine) → ((r : R) → number_of (entry r) ≡ n) → Took base_of history_of number_of m m1 → m.0.lists ≡ (n, mine) ∷ [] → Stepped m1 m2
       → ((y : S) → m2.1 ≡ (0, y) ∷ [] → m3 ≡ (staged m2.0 Idle (history_of y) (renewed number_of (history_of y) m2.0.lists), []))
-      → Ran lawful number_of n mine entry whole m m3 result
+      → Called lawful number_of n mine entry whole m m3 result
   ran n mine m m1 m2 m3 of_number k own f back =
       let h : List E = history_of f.1 in
       let same = same_object base_of history_of number_of m m1 k f.0 f.2 in

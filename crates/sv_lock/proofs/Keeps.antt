@@ -12,7 +12,7 @@ use Rattle.atomic_table.proofs.Lists.{set_else, set_again, at_longer, exchanged}
 use Rattle.sv_lock.specs.declared.view.View.{View}
 use Rattle.sv_lock.specs.declared.view.Stage.TheVariants.{Idle, Holds}
 use Rattle.sv_lock.specs.Histories.{entries_of, AreJust, AreBelow}
-use Rattle.sv_lock.specs.Holding.{Hand, IsOwn, Knows, IsTaken, Stands, OneHistory, staged, first_keeper, one_more, next_pass, taken_in, spent, Took, tried, renewed, Follows, MayReturn, returned, learned, Closes}
+use Rattle.sv_lock.specs.Holding.{Hand, IsOwn, Knows, IsOut, Stands, OneHistory, staged, first_keeper, one_more, next_pass, taken_in, spent, Took, tried, renewed, GrowsBy, MayReturn, returned, learned, Closes}
 use Rattle.sv_lock.proofs.Histories.{prefix_self, prefix_none, prefix_trans, other_entry, none_above}
 use Rattle.sv_lock.proofs.Seats.{here, snoc, seats_stay, put, put_here, put_else, apart, empty_hand, hand_stays}
 
@@ -145,18 +145,18 @@ module _ {S B E : Type 0} (base_of : S → B) (history_of : S → List E) (lawfu
             subst (λ b. MatchBool b (Took base_of history_of number_of m m) (m ≡ m)) (sym (ne_eqb found 0 ne)) refl,
           )
 
-  follows_on : (n : ℕ) (seen h : List E) → Follows number_of n seen h → IsPrefix seen h
+  follows_on : (n : ℕ) (seen h : List E) → GrowsBy number_of n seen h → IsPrefix seen h
   follows_on n seen h (inl e) = subst (IsPrefix seen) (sym e) (prefix_self seen)
   follows_on n seen h (inr e) = (e.0 ∷ [], sym e.1)
 
   -- what follows is below what the lock has made,
-  follows_below : (n made : ℕ) (seen h : List E) → n < made → Follows number_of n seen h → AreBelow number_of made seen → AreBelow number_of made h
+  follows_below : (n made : ℕ) (seen h : List E) → n < made → GrowsBy number_of n seen h → AreBelow number_of made seen → AreBelow number_of made h
   follows_below n made seen h lt (inl e) below = subst (AreBelow number_of made) (sym e) below
   follows_below n made seen h lt (inr e) below = subst (AreBelow number_of made) (sym e.1)
       (All-push (λ (x : E). number_of x < made) seen e.0 below (let is = e.2 in omega arith))
 
   -- and another number has the entries that it had
-  follows_other : (n k : ℕ) (seen h : List E) → k ≢ n → Follows number_of n seen h → entries_of number_of k h ≡ entries_of number_of k seen
+  follows_other : (n k : ℕ) (seen h : List E) → k ≢ n → GrowsBy number_of n seen h → entries_of number_of k h ≡ entries_of number_of k seen
   follows_other n k seen h other (inl e) = ap (entries_of number_of k) e
   follows_other n k seen h other (inr e) = ap (entries_of number_of k) e.1 ∙ other_entry number_of k seen e.0 (λ q. other (sym q ∙ e.2))
 
@@ -220,11 +220,11 @@ module _ {S B E : Type 0} (base_of : S → B) (history_of : S → List E) (lawfu
       hand : Hand r.log r.holder r.made r.owner id m.0.seen Holds
       hand = subst (Hand r.log r.holder r.made r.owner id m.0.seen) may.holds k.hand
 
-      taken : IsTaken id s
+      taken : IsOut id s
       taken = subst (λ o. Stands base_of history_of base r.log o s) hand.0 r.stands
 
-      follows' : Follows number_of n r.log h
-      follows' = subst (λ (l : List E). Follows number_of n l h) hand.2 may.follows
+      follows' : GrowsBy number_of n r.log h
+      follows' = subst (λ (l : List E). GrowsBy number_of n l h) hand.2 may.follows
 
       goes_on : IsPrefix r.log h
       goes_on = follows_on n r.log h follows'

@@ -1,3 +1,4 @@
+-- The lemmas of this crate, file by file.
 pub mod Histories
 pub mod Seats
 pub mod Keeps

@@ -39,13 +39,13 @@ abbrev pub IsFree : {S B E : Type 0} → (S → B) → (S → List E) → B → 
 IsFree {S} base_of history_of base log s = (s.words ≡ 0 ∷ []) × (x : S) × (s.homes ≡ some x ∷ []) × (base_of x ≡ base) × (history_of x ≡ log)
 
 -- The lock is taken: its word is not 0, and the object is out with the seat j.
-abbrev pub IsTaken : {S B E : Type 0} → ℕ → State S (View B E) → Type 0
-IsTaken {S} {B} {E} j s = (word : ℕ) × (0 < word) × (s.words ≡ word ∷ []) × (s.homes ≡ none ∷ []) × (v : View B E) × (get_elem? s.views j ≡ some v) × (v.stage ≡ Holds)
+abbrev pub IsOut : {S B E : Type 0} → ℕ → State S (View B E) → Type 0
+IsOut {S} {B} {E} j s = (word : ℕ) × (0 < word) × (s.words ≡ word ∷ []) × (s.homes ≡ none ∷ []) × (v : View B E) × (get_elem? s.views j ≡ some v) × (v.stage ≡ Holds)
 
 -- How the lock stands, by who holds the object.
 abbrev pub Stands : {S B E : Type 0} → (S → B) → (S → List E) → B → List E → Option ℕ → State S (View B E) → Type 0
 Stands base_of history_of base log None s = IsFree base_of history_of base log s
-Stands base_of history_of base log (Some j) s = IsTaken j s
+Stands base_of history_of base log (Some j) s = IsOut j s
 
 -- The rule, for an object of this base.
 pub record OneHistory {S B E : Type 0} (base_of : S → B) (history_of : S → List E) (lawful : B → List E → Type 0) (number_of : E → ℕ) (base : B) (s : State S (View B E)) : Type 0 where
@@ -86,6 +86,12 @@ module _ {B E : Type 0} where
 
 -- ---- What the steps tell
 
+-- A seat that may take the object: it holds nothing, stands for one number, and knows the base.
+pub record MayTake {S B E : Type 0} (m : Me S (View B E)) : Type 0 where
+  pub idle : m.0.stage ≡ Idle
+  pub number : (x : ℕ × List E) × (m.0.lists ≡ x ∷ [])
+  pub based : (b : B) × (m.0.base ≡ Some b)
+
 -- The object was taken, and its history is now seen.
 pub record Took {S B E : Type 0} (base_of : S → B) (history_of : S → List E) (number_of : E → ℕ) (m m' : Me S (View B E)) : Type 0 where
   pub object : S
@@ -99,8 +105,8 @@ abbrev pub tried : {S B E : Type 0} → (S → B) → (S → List E) → (E → 
 tried base_of history_of number_of m found m' = MatchBool (found == 0) (Took base_of history_of number_of m m') (m' ≡ m)
 
 -- After a step of this number the history is the same, or it has one entry more, of that number.
-abbrev pub Follows : {E : Type 0} → (E → ℕ) → ℕ → List E → List E → Type 0
-Follows {E} number_of n seen h = (h ≡ seen) ⊎ ((e : E) × (h ≡ seen ++ e ∷ []) × (number_of e ≡ n))
+abbrev pub GrowsBy : {E : Type 0} → (E → ℕ) → ℕ → List E → List E → Type 0
+GrowsBy {E} number_of n seen h = (h ≡ seen) ⊎ ((e : E) × (h ≡ seen ++ e ∷ []) × (number_of e ≡ n))
 
 -- A seat that stands for one number holds the object after its step.
 pub record MayReturn {S B E : Type 0} (base_of : S → B) (history_of : S → List E) (lawful : B → List E → Type 0) (number_of : E → ℕ) (m : Me S (View B E)) : Type 0 where
@@ -112,7 +118,7 @@ pub record MayReturn {S B E : Type 0} (base_of : S → B) (history_of : S → Li
   pub based : m.0.base ≡ Some (base_of object)
   pub hand : m.1 ≡ (0, object) ∷ []
   pub legal : lawful (base_of object) (history_of object)
-  pub follows : Follows number_of number m.0.seen (history_of object)
+  pub follows : GrowsBy number_of number m.0.seen (history_of object)
 
 -- The numbers of the list, each with its entries in this history.
 abbrev pub renewed : {E : Type 0} → (E → ℕ) → List E → List (ℕ × List E) → List (ℕ × List E)
@@ -138,7 +144,7 @@ learned lawful number_of m found m' = Learned lawful number_of m m'
 
 -- A call was carried through, or memory ran out. The seat has seen the whole history as it was then, and in it its number n has just what it
 -- had, and after a reply the reply's entry. `mine` is what the number had before.
-pub record Ran {S B E R X : Type 0} (lawful : B → List E → Type 0) (number_of : E → ℕ) (n : ℕ) (mine : List E) (entry : R → E) (whole : R → List E → Type 0) (m m' : Me S (View B E)) (result : Result R X) : Type 0 where
+pub record Called {S B E R X : Type 0} (lawful : B → List E → Type 0) (number_of : E → ℕ) (n : ℕ) (mine : List E) (entry : R → E) (whole : R → List E → Type 0) (m m' : Me S (View B E)) (result : Result R X) : Type 0 where
   pub log : List E
   pub seat : m' ≡ (staged m.0 Idle log (renewed number_of log m.0.lists), [])
   pub legal : (b : B) → m.0.base ≡ Some b → lawful b log

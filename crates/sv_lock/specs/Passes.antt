@@ -2,6 +2,10 @@
 use Rattle.std.specs.Prelude.{ℕ, ◌<◌, List, map, Contains, Option, unwrap_or}
 use Rattle.atomic_table.specs.Seated.{TableId}
 
+-- How many passes a lock may have.
+abbrev pub most_passes : ℕ
+most_passes = 64
+
 -- Which lock it is, and for how many passes it is made.
 pub record LockView : Type 0 where
   pub id : TableId

@@ -3,7 +3,7 @@ ghost use Rattle.std.specs.Prelude.{◌≡◌, ℕ, ◌<◌, ◌==◌, List, [],
 ghost use mathlib.Core.List.{IsPrefix};
 ghost use Rattle.sv_lock.specs.declared.view.Stage.TheVariants.{Idle, Holds};
 ghost use Rattle.sv_lock.specs.Histories.{entries_of, AreJust, AreBelow, GoesOn};
-ghost use Rattle.sv_lock.specs.Holding.{staged, renewed, one_more, next_pass, taken_in, first_keeper, Took, MayReturn, Ran, Learned, Closes};
+ghost use Rattle.sv_lock.specs.Holding.{staged, renewed, one_more, next_pass, taken_in, first_keeper, MayTake, Took, MayReturn, Called, Learned, Closes};
 ghost use Rattle.sv_lock.specs.Rest.{first_list};
 
 use crate::object::Object;
@@ -22,7 +22,7 @@ const HELD: u64 = 1;
 const AWAITED: u64 = 2;
 
 // How often a thread looks before it sleeps. A look takes about a nanosecond; the number was chosen by the time of whole loads.
-const LOOKS: u32 = 16_000;
+const LOOKS_BEFORE_SLEEP: u32 = 16_000;
 
 /// The table of the lock, and how its callers wait.
 ///
@@ -45,9 +45,7 @@ impl<O: Object> Desk<O> {
     // Takes the object if it is free, and says whether it did.
     fn try_take(&self, seat: &mut Place<O>) -> bool
         requires table { seat.old.table_id ≡ self.now.table.shared.table_id }
-        requires idle { seat.old.me.0.stage ≡ Idle }
-        requires number { (x : ℕ × List O.Entry) × (seat.old.me.0.lists ≡ x ∷ []) }
-        requires based { (b : O.Base) × (seat.old.me.0.base ≡ Some b) }
+        requires may { MayTake seat.old.me }
         ensures table { seat.new.table_id ≡ seat.old.table_id }
         ensures took { MatchBool result (Took O.base O.history O.number_of seat.old.me seat.new.me) (seat.new.me ≡ seat.old.me) }
     {
@@ -60,9 +58,7 @@ impl<O: Object> Desk<O> {
     // The same, and says to whoever has it that somebody may sleep.
     fn take_or_ask(&self, seat: &mut Place<O>) -> bool
         requires table { seat.old.table_id ≡ self.now.table.shared.table_id }
-        requires idle { seat.old.me.0.stage ≡ Idle }
-        requires number { (x : ℕ × List O.Entry) × (seat.old.me.0.lists ≡ x ∷ []) }
-        requires based { (b : O.Base) × (seat.old.me.0.base ≡ Some b) }
+        requires may { MayTake seat.old.me }
         ensures table { seat.new.table_id ≡ seat.old.table_id }
         ensures took { MatchBool result (Took O.base O.history O.number_of seat.old.me seat.new.me) (seat.new.me ≡ seat.old.me) }
     {
@@ -72,13 +68,11 @@ impl<O: Object> Desk<O> {
     // Looks for a short while, and says whether it took the object.
     fn spin(&self, seat: &mut Place<O>) -> bool
         requires table { seat.old.table_id ≡ self.now.table.shared.table_id }
-        requires idle { seat.old.me.0.stage ≡ Idle }
-        requires number { (x : ℕ × List O.Entry) × (seat.old.me.0.lists ≡ x ∷ []) }
-        requires based { (b : O.Base) × (seat.old.me.0.base ≡ Some b) }
+        requires may { MayTake seat.old.me }
         ensures table { seat.new.table_id ≡ seat.old.table_id }
         ensures took { MatchBool result (Took O.base O.history O.number_of seat.old.me seat.new.me) (seat.new.me ≡ seat.old.me) }
     {
-        for _ in 0..LOOKS {
+        for _ in 0..LOOKS_BEFORE_SLEEP {
             if self.table.shared.peek(0) == FREE && self.try_take(seat) {
                 return true;
             }
@@ -90,9 +84,7 @@ impl<O: Object> Desk<O> {
     // Sleeps until it finds the object free, so that many threads on few processors leave these to the one that has it.
     fn sleep<R: Wait>(&self, rt: &R, seat: &mut Place<O>)
         requires table { seat.old.table_id ≡ self.now.table.shared.table_id }
-        requires idle { seat.old.me.0.stage ≡ Idle }
-        requires number { (x : ℕ × List O.Entry) × (seat.old.me.0.lists ≡ x ∷ []) }
-        requires based { (b : O.Base) × (seat.old.me.0.base ≡ Some b) }
+        requires may { MayTake seat.old.me }
         ensures table { seat.new.table_id ≡ seat.old.table_id }
         ensures took { Took O.base O.history O.number_of seat.old.me seat.new.me }
     {
@@ -108,9 +100,7 @@ impl<O: Object> Desk<O> {
     /// Has the object in hand, once no other seat has it.
     pub fn take<R: Wait>(&self, rt: &R, seat: &mut Place<O>)
         requires table { seat.old.table_id ≡ self.now.table.shared.table_id }
-        requires idle { seat.old.me.0.stage ≡ Idle }
-        requires number { (x : ℕ × List O.Entry) × (seat.old.me.0.lists ≡ x ∷ []) }
-        requires based { (b : O.Base) × (seat.old.me.0.base ≡ Some b) }
+        requires may { MayTake seat.old.me }
         ensures table { seat.new.table_id ≡ seat.old.table_id }
         ensures took { Took O.base O.history O.number_of seat.old.me seat.new.me }
     {
@@ -175,7 +165,7 @@ impl<O: Object> Desk<O> {
         requires can { (b : O.Base) × (seat.old.me.0.base ≡ Some b) × O.can_step b number request.now (first_list seat.old.me.0.lists) }
         ensures table { seat.new.table_id ≡ seat.old.table_id }
         ensures plain { O.is_plain request.now → IsOk result }
-        ensures ran { Ran O.lawful O.number_of number (first_list seat.old.me.0.lists) (O.entry number request.now) O.whole seat.old.me seat.new.me result }
+        ensures ran { Called O.lawful O.number_of number (first_list seat.old.me.0.lists) (O.entry number request.now) O.whole seat.old.me seat.new.me result }
     {
         self.take(rt, seat);
         let answer = self.step(seat, number, request);

@@ -1,7 +1,8 @@
+//! The lock, and what a caller does with a pass.
 ghost use Rattle.std.specs.Prelude.{◌≡◌, ℕ, ◌+◌, ◌<◌, ◌≤◌, List, [], ◌∷◌, ◌++◌, Some, None, IfOk, IfErr, OnErr, IsOk, IsSome};
 ghost use mathlib.Core.List.{IsPrefix};
 ghost use Rattle.sv_lock.specs.Histories.{entries_of, AreJust, AreBelow, GoesOn};
-ghost use Rattle.sv_lock.specs.Passes.{session_number, AllEnded};
+ghost use Rattle.sv_lock.specs.Passes.{most_passes, session_number, AllEnded};
 
 use crate::desk::Desk;
 use crate::object::Object;
@@ -24,13 +25,13 @@ pub struct SeqLock<O: Object> {
 
 impl<O: Object> Model for SeqLock<O> {
     ghost use Rattle.std.specs.Prelude.{◌≤◌};
-    ghost use Rattle.sv_lock.specs.Passes.{LockView};
+    ghost use Rattle.sv_lock.specs.Passes.{LockView, most_passes};
 
     ghost Value = { LockView };
 
     ghost view = { λ l. record { id = l.desk.table.shared.table_id; passes = l.passes } };
 
-    ghost invariant = { λ l. l.passes ≤ 64 };
+    ghost invariant = { λ l. l.passes ≤ most_passes };
 }
 
 impl<O: Object> SeqLock<O> {
@@ -40,7 +41,7 @@ impl<O: Object> SeqLock<O> {
         object: O,
         passes: u16,
     ) -> Result<(SeqLock<O>, Pass<O>), (O, AllocError)>
-        requires passes { (0 < passes) × (passes ≤ 64) }
+        requires passes { (0 < passes) × (passes ≤ most_passes) }
         requires empty { O.history object ≡ [] }
         ensures lock { IfOk result (λ r. r.0.passes ≡ passes) }
         ensures keeper { IfOk result (λ r. r.1 ≡ record { lock = r.0.id; session = None; base = O.base object; seen = []; mine = []; made = 0; ended = [] }) }

@@ -1,3 +1,4 @@
+//! What a lock is round: an object whose steps have one history.
 ghost use Rattle.std.specs.Prelude.{◌≡◌, ℕ, List, [], ◌∷◌, ◌++◌, IfOk, OnErr, IsOk};
 ghost use Rattle.sv_lock.specs.Histories.{entries_of};
 

@@ -1,3 +1,4 @@
+//! A caller's right to a lock.
 ghost use Rattle.std.specs.Prelude.{◌≡◌, IsSome};
 
 use crate::object::Object;

@@ -7,7 +7,7 @@ use Rattle.sv_world.specs.Sets.{write_set}
 use Rattle.sv_queue.specs.declared.queued.Queued.{Queued}
 use Rattle.sv_queue.specs.Invariant.{writers_above}
 use Rattle.sv_queue.specs.Positions.{greatest_below, AreAbove, IsAscending}
-use Rattle.sv_queue.specs.Queue.{IsFirstWriter, IsUnwritten, actions_of, marked_above, no_entry}
+use Rattle.sv_queue.specs.Queue.{IsFirstWriter, IsUnwritten, entry_actions, marked_above, no_entry}
 use Rattle.sv_queue.proofs.PositionLists.{greatest_below-zero, greatest_below-suc}
 
 pub writers_above_bound : (n m : ℕ) (es : List Queued) (x : ℕ) → n ≤ m → AreAbove n (writers_above m es x)
@@ -69,7 +69,7 @@ in_writers_below n (e ∷ es) x p low = go (is_in x (write_set e.action)) (in_wr
     go false h = h
 
 in_writers : (n : ℕ) (es : List Queued) (x k : ℕ) →
-    is_in (suc (n + k)) (writers_above n es x) ≡ is_in x (write_set (get_or (actions_of es) k blank))
+    is_in (suc (n + k)) (writers_above n es x) ≡ is_in x (write_set (get_or (entry_actions es) k blank))
 in_writers n [] x k = refl
 in_writers n (e ∷ es) x zero = go (is_in x (write_set e.action)) (in_writers_below (suc n) es x (suc (n + 0)) (omega arith))
   where
@@ -82,29 +82,29 @@ in_writers n (e ∷ es) x (suc k) = go (is_in x (write_set e.action)) (ap (λ m.
     same : suc (n + suc k) ≡ suc (suc n + k)
     same = omega arith
 
-    go : (b : Bool) → is_in (suc (n + suc k)) (writers_above (suc n) es x) ≡ is_in x (write_set (get_or (actions_of es) k blank)) →
-        is_in (suc (n + suc k)) (cond b (suc n ∷ writers_above (suc n) es x) (writers_above (suc n) es x)) ≡ is_in x (write_set (get_or (actions_of es) k blank))
+    go : (b : Bool) → is_in (suc (n + suc k)) (writers_above (suc n) es x) ≡ is_in x (write_set (get_or (entry_actions es) k blank)) →
+        is_in (suc (n + suc k)) (cond b (suc n ∷ writers_above (suc n) es x) (writers_above (suc n) es x)) ≡ is_in x (write_set (get_or (entry_actions es) k blank))
     go true h = rw (ne_eqb (suc (n + suc k)) (suc n) (λ q. omega arith)) h
     go false h = h
 
 in_writers_at : (c : ℕ) (es : List Queued) (x p : ℕ) →
-    is_in p (writers_above c es x) ≡ is_in x (write_set (action_at (replicate c blank ++ actions_of es) p))
+    is_in p (writers_above c es x) ≡ is_in x (write_set (action_at (replicate c blank ++ entry_actions es) p))
 in_writers_at c es x zero = in_writers_below c es x zero (omega arith)
 in_writers_at c es x (suc p) = go (cases_lt p c)
   where
-    go : (p < c) ⊎ (c ≤ p) → is_in (suc p) (writers_above c es x) ≡ is_in x (write_set (get_or (replicate c blank ++ actions_of es) p blank))
-    go (inl low) = in_writers_below c es x (suc p) (omega arith) ∙ ap (λ a. is_in x (write_set a)) (sym (action_before c (actions_of es) p low))
+    go : (p < c) ⊎ (c ≤ p) → is_in (suc p) (writers_above c es x) ≡ is_in x (write_set (get_or (replicate c blank ++ entry_actions es) p blank))
+    go (inl low) = in_writers_below c es x (suc p) (omega arith) ∙ ap (λ a. is_in x (write_set a)) (sym (action_before c (entry_actions es) p low))
     go (inr high) = let q : p ≡ c + (p - c) = omega arith in
         ap (λ m. is_in (suc m) (writers_above c es x)) q ∙ in_writers c es x (p - c)
-        ∙ ap (λ a. is_in x (write_set a)) (sym (action_past c (actions_of es) (p - c)) ∙ ap (λ m. get_or (replicate c blank ++ actions_of es) m blank) (sym q))
+        ∙ ap (λ a. is_in x (write_set a)) (sym (action_past c (entry_actions es) (p - c)) ∙ ap (λ m. get_or (replicate c blank ++ entry_actions es) m blank) (sym q))
 
 -- The greatest uncommitted writer below a position is the last writer.
 pub greatest_below-writers : (c : ℕ) (es : List Queued) (x n : ℕ) →
-    greatest_below (writers_above c es x) n ≡ last_writer (replicate c blank ++ actions_of es) x n
+    greatest_below (writers_above c es x) n ≡ last_writer (replicate c blank ++ entry_actions es) x n
 greatest_below-writers c es x zero = greatest_below-zero (writers_above c es x)
 greatest_below-writers c es x (suc n) =
     greatest_below-suc (writers_above c es x) n
-    ∙ rw (in_writers_at c es x n) (ap (cond (is_in x (write_set (action_at (replicate c blank ++ actions_of es) n))) n) (greatest_below-writers c es x n))
+    ∙ rw (in_writers_at c es x n) (ap (cond (is_in x (write_set (action_at (replicate c blank ++ entry_actions es) n))) n) (greatest_below-writers c es x n))
 
 above_list : (n p : ℕ) (xs : List ℕ) → AreAbove n xs → p ≤ n → is_in p xs ≡ false
 above_list n p [] h low = refl
@@ -112,11 +112,11 @@ above_list n p (x ∷ xs) h low = rw (ne_eqb p x (λ e. let l : n < x = h.0 in o
 
 -- What the first of the uncommitted writers is, and that there is none.
 pub first_of_writers : (c : ℕ) (es : List Queued) (x : ℕ) (r : Option ℕ) → r ≡ slice_get (writers_above c es x) 0 →
-    IfSome r (λ p. IsFirstWriter (replicate c blank ++ actions_of es) x p)
+    IfSome r (λ p. IsFirstWriter (replicate c blank ++ entry_actions es) x p)
 first_of_writers c es x None at = tt
 first_of_writers c es x (Some p) at = go (writers_above c es x) refl at (writers_above_ascend c es x)
   where
-    go : (xs : List ℕ) → writers_above c es x ≡ xs → Some p ≡ slice_get xs 0 → IsAscending xs → IsFirstWriter (replicate c blank ++ actions_of es) x p
+    go : (xs : List ℕ) → writers_above c es x ≡ xs → Some p ≡ slice_get xs 0 → IsAscending xs → IsFirstWriter (replicate c blank ++ entry_actions es) x p
     go [] e at s = cc
     go (y ∷ ys) e at s =
         let is : p ≡ y = cc in
@@ -134,7 +134,7 @@ first_uncommitted c es x (Some p) at = go (writers_above c es x) (writers_above_
     go (y ∷ ys) h at = let is : p ≡ y = cc in let l : c < y = h.0 in omega arith
 
 pub none_of_writers : (c : ℕ) (es : List Queued) (x : ℕ) (r : Option ℕ) → r ≡ slice_get (writers_above c es x) 0 →
-    IfNone r (IsUnwritten (replicate c blank ++ actions_of es) x)
+    IfNone r (IsUnwritten (replicate c blank ++ entry_actions es) x)
 none_of_writers c es x (Some p) at = tt
 none_of_writers c es x None at = λ p. sym (in_writers_at c es x p) ∙ go p (writers_above c es x) at
   where

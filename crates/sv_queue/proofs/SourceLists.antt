@@ -10,7 +10,7 @@ use Rattle.sv_world.specs.Sets.{read_set, write_set}
 use Rattle.sv_world.proofs.Writers.{last_writer-writes, last_writer-agree, last_writer-same}
 use Rattle.sv_queue.specs.declared.queued.Queued.{Queued}
 use Rattle.sv_queue.specs.Invariant.{HaveSources, IsGoodEntry, uncommitted}
-use Rattle.sv_queue.specs.Queue.{actions_of, no_entry}
+use Rattle.sv_queue.specs.Queue.{entry_actions, no_entry}
 use Rattle.sv_queue.proofs.Entries.{action_past}
 
 committed_blank : (c k : ℕ) (bs : List Action) → k ≤ c → action_at (replicate c blank ++ bs) k ≡ blank
@@ -172,16 +172,16 @@ sources-rest c a bs (s ∷ ss) h =
     subst (λ n. HaveSources n bs ss) e (sources-next c a bs s ss h)
 
 -- An entry replaced by another of the same action.
-pub actions-set : (es : List Queued) (i : ℕ) (e : Queued) → e.action ≡ (get_or es i no_entry).action → actions_of (set es i e) ≡ actions_of es
+pub actions-set : (es : List Queued) (i : ℕ) (e : Queued) → e.action ≡ (get_or es i no_entry).action → entry_actions (set es i e) ≡ entry_actions es
 actions-set [] i e h = refl
-actions-set (d ∷ es) zero e h = ap (λ (a : Action). a ∷ actions_of es) h
+actions-set (d ∷ es) zero e h = ap (λ (a : Action). a ∷ entry_actions es) h
 actions-set (d ∷ es) (suc i) e h = ap (λ (bs : List Action). d.action ∷ bs) (actions-set es i e h)
 
-pub actions-push : (es : List Queued) (e : Queued) → actions_of (es ++ e ∷ []) ≡ actions_of es ++ e.action ∷ []
+pub actions-push : (es : List Queued) (e : Queued) → entry_actions (es ++ e ∷ []) ≡ entry_actions es ++ e.action ∷ []
 actions-push [] e = refl
 actions-push (d ∷ es) e = ap (λ (bs : List Action). d.action ∷ bs) (actions-push es e)
 
-pub sources_below : (c : ℕ) (es : List Queued) (ss : List (List ℕ)) (p : ℕ) → HaveSources c (actions_of es) ss → c < p → p ≤ c + length es → p - c - 1 < length ss
+pub sources_below : (c : ℕ) (es : List Queued) (ss : List (List ℕ)) (p : ℕ) → HaveSources c (entry_actions es) ss → c < p → p ≤ c + length es → p - c - 1 < length ss
 sources_below c es ss p h low high = omega (arith, h.count, length-map es (λ (e : Queued). e.action))
 
 -- The action at a position above the commit.
@@ -190,14 +190,14 @@ action_above c bs p low =
     let q : p ≡ suc (c + (p - c - 1)) = omega arith in
     ap (action_at (replicate c blank ++ bs)) q ∙ action_past c bs (p - c - 1)
 
-pub source_at : (c : ℕ) (es : List Queued) (ss : List (List ℕ)) (p k : ℕ) → HaveSources c (actions_of es) ss → c < p → p ≤ c + length es →
-    k < length (action_at (replicate c blank ++ actions_of es) p).reads →
+pub source_at : (c : ℕ) (es : List Queued) (ss : List (List ℕ)) (p k : ℕ) → HaveSources c (entry_actions es) ss → c < p → p ≤ c + length es →
+    k < length (action_at (replicate c blank ++ entry_actions es) p).reads →
     uncommitted c (get_or (get_or ss (p - c - 1) []) k 0)
-    ≡ last_writer (replicate c blank ++ actions_of es) (get_or (read_set (action_at (replicate c blank ++ actions_of es) p)) k 0) p
+    ≡ last_writer (replicate c blank ++ entry_actions es) (get_or (read_set (action_at (replicate c blank ++ entry_actions es) p)) k 0) p
 source_at c es ss p k h low high slot =
     let i = p - c - 1 in
-    let A = replicate c blank ++ actions_of es in
-    let here : action_at A p ≡ get_or (actions_of es) i blank = action_above c (actions_of es) p low in
+    let A = replicate c blank ++ entry_actions es in
+    let here : action_at A p ≡ get_or (entry_actions es) i blank = action_above c (entry_actions es) p low in
     let q : suc (c + (p - c - 1)) ≡ p = omega arith in
     h.each i k (omega (arith, length-map es (λ (e : Queued). e.action))) (subst (λ (a : Action). k < length a.reads) here slot)
     ∙ ap (λ (a : Action). last_writer A (get_or (read_set a) k 0) (suc (c + i))) (sym here)
@@ -205,14 +205,14 @@ source_at c es ss p k h low high slot =
 
 -- It reads at most 16 objects.
 pub few_at : (shape : Shape) (c : ℕ) (es : List Queued) (p k : ℕ) → All (IsGoodEntry shape) es → c < p → p ≤ c + length es →
-    k < length (action_at (replicate c blank ++ actions_of es) p).reads → k < 16
+    k < length (action_at (replicate c blank ++ entry_actions es) p).reads → k < 16
 few_at shape c es p k good low high slot =
     let i = p - c - 1 in
     let within : i < length es = omega arith in
     let few : length (get_or es i no_entry).action.reads ≤ 16 = (good i no_entry within).action.few_reads in
-    let is : get_or (actions_of es) i blank ≡ (get_or es i no_entry).action = get_or-map (λ (e : Queued). e.action) es i no_entry blank within in
+    let is : get_or (entry_actions es) i blank ≡ (get_or es i no_entry).action = get_or-map (λ (e : Queued). e.action) es i no_entry blank within in
     let slot' : k < length (get_or es i no_entry).action.reads =
-    subst (λ (a : Action). k < length a.reads) (action_above c (actions_of es) p low ∙ is) slot in
+    subst (λ (a : Action). k < length a.reads) (action_above c (entry_actions es) p low ∙ is) slot in
     omega arith
 
 pub read_at : (a : Action) (items : List ObjectId) (k : ℕ) (d : ObjectId) → items ≡ a.reads → k < length a.reads → get_or (read_set a) k 0 ≡ (get_or items k d).0

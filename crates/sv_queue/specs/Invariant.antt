@@ -8,8 +8,8 @@ use Rattle.sv_world.specs.Sets.{read_set, write_set}
 use Rattle.sv_queue.specs.declared.queue.Queue.TheInside.{Inside}
 use Rattle.sv_queue.specs.declared.queued.Queued.{Queued}
 use Rattle.sv_queue.specs.Pairs.{pairs_of}
-use Rattle.sv_queue.specs.Queue.{QueueView, actions_of}
-use Rattle.sv_queue.specs.Worlds.{IsGoodShape, HaveAttrs}
+use Rattle.sv_queue.specs.Queue.{QueueView, entry_actions}
+use Rattle.sv_world.specs.Worlds.{IsGoodShape, HaveAttrs}
 
 abbrev pub view_of : Inside → QueueView
 view_of a = record {
@@ -58,4 +58,4 @@ pub record HaveSources (commit : ℕ) (actions : List Action) (sources : List (L
 
 pub record IsQueue (a : Inside) : Type 0 where
   pub agree : AgreeOn a.shape a.commit a.committed a.entries.items a.writers a.given.items
-  pub sources : HaveSources a.commit (actions_of a.entries.items) a.sources.items
+  pub sources : HaveSources a.commit (entry_actions a.entries.items) a.sources.items

@@ -7,7 +7,7 @@ abbrev pub is_pair : ℕ → ℕ → List (ℕ × ℕ) → Bool
 is_pair x s [] = false
 is_pair x s (p ∷ ps) = (nat_eq x p.0 && nat_eq s p.1) || is_pair x s ps
 
--- The pairs of an object below the number and a session below 64 that pass a test.
+-- The pairs of an object below the number and a session that pass a test.
 unfoldable pub pairs_where : ℕ → (ℕ → ℕ → Bool) → List (ℕ × ℕ)
 pairs_where zero p = []
 pairs_where (suc n) p = pairs_where n p ++ map (λ s. (n, s)) (sessions_where (p n))

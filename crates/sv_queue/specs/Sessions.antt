@@ -1,11 +1,12 @@
--- Sets of sessions below 64, as ascending lists.
+-- Sets of sessions, as ascending lists.
 use Rattle.std.specs.Prelude.{ℕ, Bool, ◌||◌, ◌==◌, nat_eq, List, filter}
 use Rattle.std.specs.Int.{bit_at}
 use Rattle.sv_world.specs.Control.{is_in, below}
+use Rattle.sv_world.specs.Limits.{most_sessions}
 
 -- The sessions that pass a test.
 unfoldable pub sessions_where : (ℕ → Bool) → List ℕ
-sessions_where p = filter p (below 64)
+sessions_where p = filter p (below most_sessions)
 
 -- The sessions whose bits are set.
 abbrev pub sessions_of : ℕ → List ℕ

@@ -3,11 +3,12 @@ use Rattle.std.specs.Prelude.{◌≡◌, ℕ, ◌-◌, ◌<◌, ◌≤◌, true,
 use Rattle.sv_world.specs.declared.action.Action.{Action}
 use Rattle.sv_world.specs.Control.{is_in}
 use Rattle.sv_world.specs.Faults.{is_ascending}
+use Rattle.sv_world.specs.Limits.{most_reads}
 use Rattle.sv_world.specs.Sets.{at_mask, read_set}
 
 -- Of a good action in a world of so many objects: its reads fit a mask, are different, and are objects of the world.
 pub record CanWrite (count : ℕ) (a : Action) : Type 0 where
-  pub few_reads : length a.reads ≤ 16
+  pub few_reads : length a.reads ≤ most_reads
   pub ascending : is_ascending (read_set a) ≡ true
   pub objects : All (λ x. x < count) (read_set a)
 

@@ -1,10 +1,12 @@
+//! The queue of a server: what is committed, and the actions after it.
 ghost use Rattle.std.specs.Prelude.{◌≡◌, ℕ, ◌+◌, ◌-◌, ◌^◌, ◌<◌, nat_lt, [], length, slice_index_or, is_some, IfNone, IfOk, IfSome, IsNone, OnOk, OnErr};
 ghost use Rattle.sv_world.specs.Control.{is_in, last_writer, action_at};
 ghost use Rattle.sv_world.specs.Faults.{IsGoodAction};
+ghost use Rattle.sv_world.specs.Limits.{most_sessions};
 ghost use Rattle.sv_world.specs.Sets.{read_set, write_set};
 ghost use Rattle.sv_queue.specs.Pairs.{is_pair};
-ghost use Rattle.sv_queue.specs.Queue.{IsFirstWriter, IsUncommitted, IsUnwritten, last_position, entry_at, queue_actions, sent_positions, opening_queue, with_action, without_last, with_mark, with_result, with_given, ready, first_installed, installed};
-ghost use Rattle.sv_queue.specs.Worlds.{IsGoodShape, IsGoodWorld, HaveAttrs};
+ghost use Rattle.sv_queue.specs.Queue.{IsFirstWriter, IsUncommitted, IsUnwritten, last_position, entry_at, queue_actions, sent_positions, opening_queue, with_action, without_last, with_mark, with_result, with_given, ready, first_installed, ready_installed};
+ghost use Rattle.sv_world.specs.Worlds.{IsGoodShape, IsGoodWorld, HaveAttrs};
 
 use crate::queued::Queued;
 use crate::sessions::Sessions;
@@ -204,6 +206,16 @@ impl Queue {
         }
     }
 
+    /// Whether an uncommitted position has a result. One look-up.
+    pub fn has_result<L: Ledger>(&self, pos: u32, steps: &mut Steps<L>) -> bool
+        requires { IsUncommitted self.now pos }
+        ensures value { result ≡ is_some (entry_at self.now pos).result }
+        ensures ticks { steps.new ≡ steps.old + 1 }
+    {
+        let entry = self.entry(pos, steps);
+        entry.has_result
+    }
+
     /// Whether a session knows the committed value of an object.
     pub fn is_given(&self, object: ObjectId, session: u16) -> bool
         requires { object.0 < self.now.shape.objects }
@@ -254,7 +266,7 @@ impl Queue {
     /// Marks an uncommitted position for a session, to which it is sent.
     pub fn mark(&mut self, pos: u32, session: u16)
         requires position { IsUncommitted self.old pos }
-        requires session { session < 64 }
+        requires session { session < most_sessions }
         ensures { self.new ≡ with_mark self.old pos session }
     {
         let place = (pos - self.commit - 1) as usize;
@@ -278,7 +290,7 @@ impl Queue {
     /// Notes that a session knows the committed value of an object.
     pub fn set_given(&mut self, object: ObjectId, session: u16)
         requires object { object.0 < self.old.shape.objects }
-        requires session { session < 64 }
+        requires session { session < most_sessions }
         ensures { self.new ≡ with_given self.old object.0 session }
     {
         let row = &mut self.given[object.0 as usize];
@@ -288,7 +300,7 @@ impl Queue {
     /// Commits the actions before the first that has no result, in order, and answers how many.
     pub fn install(&mut self) -> u32
         ensures count { result ≡ length (ready self.old.entries) }
-        ensures installed { self.new ≡ installed self.old }
+        ensures installed { self.new ≡ ready_installed self.old }
     {
         let before = self.commit();
         while self.is_front_ready() {

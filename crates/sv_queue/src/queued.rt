@@ -1,3 +1,4 @@
+//! An action in the queue.
 use crate::sessions::Sessions;
 use sv_world::{Action, ClientId, List, Value};
 

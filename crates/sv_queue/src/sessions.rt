@@ -1,10 +1,13 @@
+//! Sets of sessions.
 ghost use Rattle.std.specs.Prelude.{◌≡◌, ◌<◌, [], IsTrue};
 ghost use Rattle.sv_world.specs.Control.{is_in};
+ghost use Rattle.sv_world.specs.Limits.{most_sessions};
 ghost use Rattle.sv_queue.specs.Sessions.{with_session};
 
 use std::marker::Model;
+use sv_world::MOST_SESSIONS;
 
-/// A set of sessions below 64, one bit for each.
+/// A set of sessions, one bit for each that there may be.
 #[derive(Debug, Drop)]
 pub struct Sessions {
     bits: u64,
@@ -28,13 +31,13 @@ impl Sessions {
 
     pub fn has(&self, session: u16) -> bool
         ensures has { result ≡ is_in session self.now }
-        ensures below { IsTrue result → session < 64 }
+        ensures below { IsTrue result → session < most_sessions }
     {
-        session < 64 && (self.bits >> session) & 1 == 1
+        session < MOST_SESSIONS && (self.bits >> session) & 1 == 1
     }
 
     pub fn add(&mut self, session: u16)
-        requires { session < 64 }
+        requires { session < most_sessions }
         ensures { self.new ≡ with_session session self.old }
     {
         self.bits |= 1 << session;

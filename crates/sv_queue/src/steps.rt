@@ -1,3 +1,4 @@
+//! Counting look-ups.
 ghost use Rattle.std.specs.Prelude.{◌≡◌, ◌+◌, ◌<◌};
 
 use std::marker::Model;

@@ -1,3 +1,4 @@
+//! The uncommitted writers of each object.
 ghost use Rattle.std.specs.Prelude.{◌≡◌, ◌<◌, ◌≤◌, [], ◌∷◌, ◌++◌, length, drop, replicate, slice_get, slice_index_or, IfOk, OnOk, OnErr};
 ghost use Rattle.sv_world.specs.Sets.{write_set};
 ghost use Rattle.sv_queue.specs.Positions.{greatest_below, IsAscending};

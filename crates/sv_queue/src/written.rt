@@ -1,9 +1,11 @@
+//! The objects that an action writes, and rows that are changed at them.
 ghost use Rattle.std.specs.Prelude.{◌≡◌, ◌+◌, ◌<◌, ◌≤◌, false, true, [], ◌++◌, length, map, replicate, slice_index_or, IfOk, IfSome, option_to_list};
 ghost use Rattle.sv_world.specs.declared.world.ObjectId.{ObjectId};
 ghost use Rattle.sv_world.specs.Control.{is_in};
 ghost use Rattle.sv_world.specs.Faults.{is_ascending};
+ghost use Rattle.sv_world.specs.Limits.{most_reads};
 ghost use Rattle.sv_world.specs.Sets.{read_set, write_set};
-ghost use Rattle.sv_queue.specs.Queue.{put_values};
+ghost use Rattle.sv_eval.specs.Serial.{put_all};
 ghost use Rattle.sv_queue.specs.Written.{CanWrite, IsChangedAt, writes_before};
 
 use crate::sessions::Sessions;
@@ -13,7 +15,7 @@ use sv_world::{Action, List, ObjectId, Value};
 /// The object in a slot of an action's reads, where the action may write it.
 pub fn written_at(action: &Action, slot: usize) -> Option<ObjectId>
     requires slot { slot < length action.now.reads }
-    requires few_reads { length action.now.reads ≤ 16 }
+    requires few_reads { length action.now.reads ≤ most_reads }
     requires ascending { is_ascending (read_set action.now) ≡ true }
     ensures next { writes_before action.now (slot + 1) ≡ writes_before action.now slot ++ map (λ (x : ObjectId). x.0) (option_to_list result) }
     ensures read { IfSome result (λ x. x.0 ≡ slice_index_or (read_set action.now) slot 0) }
@@ -30,7 +32,7 @@ pub fn written_at(action: &Action, slot: usize) -> Option<ObjectId>
 pub fn put_values(committed: &mut List<Value>, action: &Action, values: List<Value>)
     requires can { CanWrite (length committed.old) action.now }
     requires values { length values ≡ length (write_set action.now) }
-    ensures { committed.new ≡ put_values committed.old (write_set action.now) values }
+    ensures { committed.new ≡ put_all committed.old (write_set action.now) values }
 {
     let mut values = values.into_vec().into_iter();
     for slot in 0..action.reads.len() {

@@ -8,7 +8,7 @@ use Rattle.std.proofs.lemmas.List.Elements.{recursion_from_All}
 use Rattle.std.proofs.lemmas.Option.{slice_get_within}
 use Rattle.sv_wire.specs.declared.message.Request.{Request}
 use Rattle.sv_journal.specs.declared.entry.Entry.{Entry}
-use Rattle.sv_journal.specs.Sessions.{is_end}
+use Rattle.sv_journal.specs.Sessions.{is_end, is_ended}
 use Rattle.sv_client.specs.declared.trace.Event.{Event}
 use Rattle.sv_client.specs.declared.trace.Event.TheVariants as events
 use Rattle.sv_client.specs.Traces.{current_session, is_session, asked, asked_by}
@@ -19,7 +19,7 @@ use Rattle.sv_scenario.specs.declared.scenario.Step.{Step}
 use Rattle.sv_scenario.specs.Limits.{IsGoodScenario}
 use Rattle.sv_scenario.specs.Sessions.{session_count}
 use Rattle.sv_script.specs.Following.{FollowsTo}
-use Rattle.sv_system.specs.Fits.{requests_in, is_ended, IsEndLast}
+use Rattle.sv_system.specs.Fits.{requests_in, IsEndLast}
 use Rattle.sv_system.proofs.Entered.{is_of}
 use Rattle.sv_schedule.specs.Players.{Player}
 use Rattle.sv_schedule.specs.Serving.{Run, Server}

@@ -3,8 +3,9 @@
 use Rattle.std.specs.Prelude.{◌≡◌, ℕ, ◌+◌, ◌<◌, Bool, true, false, List, length, drop, Option, Some, None, slice_get, if◌then◌else◌}
 use Rattle.sv_journal.specs.declared.entry.Entry.{Entry}
 use Rattle.sv_journal.specs.History.{accepted}
+use Rattle.sv_journal.specs.Sessions.{is_ended}
 use Rattle.sv_client.specs.Traces.{got}
-use Rattle.sv_system.specs.Fits.{requests_in, replies_in, is_ended}
+use Rattle.sv_system.specs.Fits.{requests_in, replies_in}
 use Rattle.sv_schedule.specs.Players.{Player, asked_in_run, open_session}
 use Rattle.sv_schedule.specs.Serving.{Run}
 

@@ -1,10 +1,10 @@
 //! A scenario's run so far, and its turns.
 
 ghost use Rattle.std.specs.Prelude.{◌≡◌, ℕ, ◌<◌, true, length, All, IfOk, OnOk};
+ghost use Rattle.sv_journal.specs.Sessions.{is_ended};
 ghost use Rattle.sv_scenario.specs.declared.scenario.Turn.TheVariants as turns;
 ghost use Rattle.sv_scenario.specs.Limits.{IsGoodTurn};
 ghost use Rattle.sv_scenario.specs.Sessions.{session_count};
-ghost use Rattle.sv_system.specs.Fits.{is_ended};
 ghost use Rattle.sv_schedule.specs.Players.{Player, repeated};
 ghost use Rattle.sv_schedule.specs.Serving.{turn_served, turns_served, after_clients, after_served, after_takes, round_served};
 ghost use Rattle.sv_replay.specs.Machine.{stage_of, run_of, IsMachine, Went, after_session, after_take};

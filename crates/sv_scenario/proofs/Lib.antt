@@ -1,3 +1,4 @@
+-- The lemmas on scenario files.
 pub mod Counts
 pub mod Decimals
 pub mod Kept

@@ -9,7 +9,7 @@ use Rattle.sv_scenario.specs.declared.fault.ScenarioCause.{ScenarioCause}
 use Rattle.sv_scenario.specs.declared.fault.ScenarioCause.TheVariants as causes
 use Rattle.sv_scenario.specs.Faults.{Read, ◌>>=◌, refuse, given, at_key, at_place, each}
 use Rattle.sv_scenario.specs.Keys.{needed, value_at, wanted_by}
-use Rattle.sv_scenario.specs.Numbers.{whole_number, number_within, in_range, list_within, counted, count_items}
+use Rattle.sv_scenario.specs.Numbers.{whole_number, number_within, in_range, list_within, items_within, count_items}
 
 module _ {A B : Type 0} where
   pub bound : (r : Read A) (f : A → Read B) (y : B) → (r >>= f) ≡ Ok y → (x : A) × (r ≡ Ok x) × (f x ≡ Ok y)
@@ -53,7 +53,7 @@ number_ok low high d n is = let p = bound (whole_number d) (in_range low high) n
 pub list_ok : (low high : ℕ) (d : Data) (ds : Items) → list_within low high d ≡ Ok ds → (low ≤ count_items ds) × (count_items ds ≤ high)
 unfolding list_within
 list_ok low high d ds is =
-    let p = bound (given causes.Kind (as_array d)) (counted low high) ds is in
+    let p = bound (given causes.Kind (as_array d)) (items_within low high) ds is in
     let q = chosen (nat_le low (count_items p.0) && nat_le (count_items p.0) high) causes.Range p.0 ds p.2 in
     let both = and_parts (nat_le low (count_items p.0)) (nat_le (count_items p.0) high) q.0 in
     subst (λ es. (low ≤ count_items es) × (count_items es ≤ high)) q.1 (leb-true low (count_items p.0) both.0, leb-true (count_items p.0) high both.1)

@@ -1,3 +1,4 @@
+-- The definitions of scenario files.
 pub mod Faults
 pub mod Keys
 pub mod Numbers

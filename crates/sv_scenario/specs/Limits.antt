@@ -1,10 +1,12 @@
 -- The limits and rules of scenarios.
-use Rattle.std.specs.Prelude.{◌≡◌, ℕ, ◌≤◌, ◌<◌, Bool, true, false, List, [], ◌∷◌, length, map, IfSome}
+use Rattle.std.specs.Prelude.{◌≡◌, ℕ, ◌≤◌, ◌<◌, Bool, true, false, List, [], ◌∷◌, length, IfSome}
 use Rattle.std.specs.List.{AllByRecursion}
 use Rattle.sv_world.specs.declared.world.ObjectId.{ObjectId}
 use Rattle.sv_world.specs.declared.world.Shape.{Shape}
-use Rattle.sv_world.specs.declared.world.World.{World}
 use Rattle.sv_world.specs.Faults.{is_ascending, IsGoodAction}
+use Rattle.sv_world.specs.Sets.{numbers_of}
+use Rattle.sv_world.specs.Worlds.{IsGoodWorld}
+use Rattle.sv_world.specs.Limits.{most_clients, most_sessions, most_bound, most_reach, most_interest, most_steps, most_shown, most_turns}
 use Rattle.sv_scenario.specs.declared.scenario.Plan.{Plan}
 use Rattle.sv_scenario.specs.declared.scenario.Scenario.{Scenario}
 use Rattle.sv_scenario.specs.declared.scenario.Step.{Step}
@@ -13,15 +15,6 @@ use Rattle.sv_scenario.specs.declared.scenario.Turn.{Turn}
 use Rattle.sv_scenario.specs.declared.scenario.Turn.TheVariants as turns
 use Rattle.sv_scenario.specs.Sessions.{session_count}
 
--- A world within the limits, with one value for each object, of one number for each attribute.
-pub record IsGoodWorld (world : World) : Type 0 where
-  pub some_objects : 1 ≤ world.shape.objects
-  pub few_objects : world.shape.objects ≤ 4096
-  pub some_attrs : 1 ≤ world.shape.attrs
-  pub few_attrs : world.shape.attrs ≤ 4
-  pub objects : length world.values ≡ world.shape.objects
-  pub attrs : AllByRecursion (λ value. length value ≡ world.shape.attrs) world.values
-
 -- Each is an object of the shape.
 abbrev pub AreObjects : Shape → List ObjectId → Type 0
 AreObjects shape objects = AllByRecursion (λ (o : ObjectId). o.0 < shape.objects) objects
@@ -29,7 +22,7 @@ AreObjects shape objects = AllByRecursion (λ (o : ObjectId). o.0 < shape.object
 -- 1 to 16 objects of the shape.
 pub record IsGoodShow (shape : Shape) (objects : List ObjectId) : Type 0 where
   pub some : 1 ≤ length objects
-  pub few : length objects ≤ 16
+  pub few : length objects ≤ most_shown
   pub known : AreObjects shape objects
 
 abbrev pub IsGoodStep : Shape → Step → Type 0
@@ -53,10 +46,10 @@ quits_last (steps.Cut ∷ next ∷ ss) = quits_last (next ∷ ss)
 
 -- At most 64 objects of the shape, ascending, and at most 256 good steps.
 pub record IsGoodPlan (shape : Shape) (plan : Plan) : Type 0 where
-  pub few_objects : length plan.interest ≤ 64
-  pub ascending : is_ascending (map (λ (o : ObjectId). o.0) plan.interest) ≡ true
+  pub few_objects : length plan.interest ≤ most_interest
+  pub ascending : is_ascending (numbers_of plan.interest) ≡ true
   pub known : AreObjects shape plan.interest
-  pub few_steps : length plan.steps ≤ 256
+  pub few_steps : length plan.steps ≤ most_steps
   pub steps : AllByRecursion (IsGoodStep shape) plan.steps
   pub quit : quits_last plan.steps ≡ true
 
@@ -69,11 +62,11 @@ IsGoodTurn clients sessions (turns.Take k) = k < clients
 -- A scenario that keeps the limits and rules.
 pub record IsGoodScenario (scenario : Scenario) : Type 0 where
   pub world : IsGoodWorld scenario.world
-  pub bound : scenario.bound ≤ 32
-  pub reach : IfSome scenario.reach (λ n. n ≤ 2000000)
+  pub bound : scenario.bound ≤ most_bound
+  pub reach : IfSome scenario.reach (λ n. n ≤ most_reach)
   pub some_clients : 1 ≤ length scenario.clients
-  pub few_clients : length scenario.clients ≤ 32
+  pub few_clients : length scenario.clients ≤ most_clients
   pub plans : AllByRecursion (IsGoodPlan scenario.world.shape) scenario.clients
-  pub sessions : session_count scenario ≤ 64
-  pub few_turns : length scenario.schedule ≤ 16384
+  pub sessions : session_count scenario ≤ most_sessions
+  pub few_turns : length scenario.schedule ≤ most_turns
   pub turns : AllByRecursion (IsGoodTurn (length scenario.clients) (session_count scenario)) scenario.schedule

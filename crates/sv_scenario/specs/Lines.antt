@@ -30,9 +30,9 @@ cause_text causes.Last = codes "last"
 cause_text (causes.Text fault) = codes "text " ++ decimal fault.place ++ 32 ∷ decimal (text_cause_number fault.cause)
 cause_text (causes.Action cause) = codes "action " ++ decimal (cause_number cause)
 
-abbrev pub line_of : List ℕ → List ℕ → List ℕ
-line_of path cause = codes "scenario: " ++ path ++ codes ": " ++ cause ++ 10 ∷ []
+abbrev pub line_at : List ℕ → List ℕ → List ℕ
+line_at path cause = codes "scenario: " ++ path ++ codes ": " ++ cause ++ 10 ∷ []
 
 -- The path as it stands, and the cause.
 abbrev pub fault_line : ScenarioFault → List ℕ
-fault_line fault = line_of fault.path (cause_text fault.cause)
+fault_line fault = line_at fault.path (cause_text fault.cause)

@@ -2,6 +2,7 @@
 use Rattle.std.specs.Prelude.{ℕ, suc, cond, nat_le, nat_lt, List, [], ◌∷◌, ◌++◌, length, Ok}
 use Rattle.serde_json.specs.Data.{Data, Items, no_items, item}
 use Rattle.sv_world.specs.declared.world.ObjectId.{ObjectId}
+use Rattle.sv_world.specs.Limits.{most_interest, most_shown}
 use Rattle.sv_scenario.specs.declared.fault.ScenarioCause.TheVariants as causes
 use Rattle.sv_scenario.specs.Faults.{Read, ◌>>=◌, refuse, at_place, each}
 use Rattle.sv_scenario.specs.Numbers.{number_within, list_within}
@@ -15,7 +16,7 @@ object_of objects d = number_within 0 65535 d >>= known objects
 
 -- The objects of a show, in any order.
 unfoldable pub shown_of : ℕ → Data → Read (List ObjectId)
-shown_of objects d = list_within 1 16 d >>= each (object_of objects) []
+shown_of objects d = list_within 1 most_shown d >>= each (object_of objects) []
 
 abbrev pub not_below : ℕ → ℕ → Read ℕ
 not_below least n = cond (nat_le least n) (Ok n) (refuse causes.Order)
@@ -35,4 +36,4 @@ ascending_from objects least before (item d ds) =
 
 -- The objects of an interest.
 unfoldable pub interest_of : ℕ → Data → Read (List ObjectId)
-interest_of objects d = list_within 0 64 d >>= ascending_from objects 0 []
+interest_of objects d = list_within 0 most_interest d >>= ascending_from objects 0 []

@@ -5,6 +5,7 @@ use Rattle.serde_json.specs.Data.{Data}
 use Rattle.serde_json.specs.Read.{read}
 use Rattle.sv_world.specs.declared.world.Shape.{Shape}
 use Rattle.sv_world.specs.declared.world.World.{World}
+use Rattle.sv_world.specs.Limits.{most_attrs, most_sessions, most_bound, most_reach}
 use Rattle.sv_scenario.specs.declared.fault.ScenarioCause.TheVariants as causes
 use Rattle.sv_scenario.specs.declared.scenario.Plan.{Plan}
 use Rattle.sv_scenario.specs.declared.scenario.Scenario.{Scenario}
@@ -20,15 +21,15 @@ world_with attrs values = record { shape = record { objects = length values; att
 
 unfoldable pub world_of : Data → Read World
 world_of d = do
-  attrs ← value_at (codes "attrs") (number_within 1 4) d
+  attrs ← value_at (codes "attrs") (number_within 1 most_attrs) d
   values ← value_at (codes "objects") (values_of attrs) d
   Ok (world_with attrs values)
 
 unfoldable pub reach_of : Data → Read (Option ℕ)
-reach_of d = number_within 0 2000000 d >>= λ n. Ok (Some n)
+reach_of d = number_within 0 most_reach d >>= λ n. Ok (Some n)
 
 abbrev pub few_sessions : List Plan → Read (List Plan)
-few_sessions plans = cond (nat_le (sessions_in plans) 64) (Ok plans) (refuse causes.Range)
+few_sessions plans = cond (nat_le (sessions_in plans) most_sessions) (Ok plans) (refuse causes.Range)
 
 -- The clients, who have at most 64 sessions together.
 unfoldable pub clients_of : Shape → Data → Read (List Plan)
@@ -39,7 +40,7 @@ unfoldable pub scenario_in : Data → Read Scenario
 scenario_in d = do
   _ ← keys_of (codes "attrs" ∷ codes "objects" ∷ codes "bound" ∷ codes "clients" ∷ []) (codes "reach" ∷ codes "schedule" ∷ []) d
   world ← world_of d
-  bound ← value_at (codes "bound") (number_within 0 32) d
+  bound ← value_at (codes "bound") (number_within 0 most_bound) d
   reach ← value_if (codes "reach") None reach_of d
   clients ← value_at (codes "clients") (clients_of world.shape) d
   schedule ← value_if (codes "schedule") [] (turns_of (length clients) (sessions_in clients)) d
@@ -49,9 +50,13 @@ scenario_in d = do
 abbrev pub value_in : List ℕ → Read Data
 value_in text = given causes.Json (read text)
 
--- A file has at most 4,194,304 bytes, which are the UTF-8 of a JSON text.
+-- The bytes that a file may have.
+abbrev pub most_bytes : ℕ
+most_bytes = 4194304
+
+-- A file has at most so many bytes, which are the UTF-8 of a JSON text.
 unfoldable pub scenario_of : List ℕ → Read Scenario
 scenario_of bytes =
-    cond (nat_lt 4194304 (length bytes)) (refuse causes.Size)
+    cond (nat_lt most_bytes (length bytes)) (refuse causes.Size)
     (cond (is_utf8 bytes) (value_in bytes >>= scenario_in)
     (refuse causes.Json))

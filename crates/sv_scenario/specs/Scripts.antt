@@ -7,6 +7,7 @@ use Rattle.sv_world.specs.declared.action.Action.{Action}
 use Rattle.sv_world.specs.declared.check.BadAction.{BadAction}
 use Rattle.sv_world.specs.declared.world.Shape.{Shape}
 use Rattle.sv_world.specs.Faults.{first_fault_of_action}
+use Rattle.sv_world.specs.Limits.{most_clients, most_steps}
 use Rattle.sv_text.specs.declared.fault.TextFault.{TextFault}
 use Rattle.sv_text.specs.Reading.{reading}
 use Rattle.sv_text.specs.Tokens.{tokens_of}
@@ -83,7 +84,7 @@ steps_from shape before (item d ds) = at_place (length before) (step_of shape (i
 
 -- The script of one client.
 unfoldable pub steps_of : Shape → Data → Read (List Step)
-steps_of shape d = list_within 0 256 d >>= steps_from shape []
+steps_of shape d = list_within 0 most_steps d >>= steps_from shape []
 
 -- ---- clients
 
@@ -95,4 +96,4 @@ plan_of shape d = do
   Ok (record { interest = interest; steps = steps })
 
 unfoldable pub plans_of : Shape → Data → Read (List Plan)
-plans_of shape d = list_within 1 32 d >>= each (plan_of shape) []
+plans_of shape d = list_within 1 most_clients d >>= each (plan_of shape) []

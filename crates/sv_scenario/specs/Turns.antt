@@ -3,6 +3,7 @@ use Rattle.std.specs.Prelude.{ℕ, zero, suc, cond, ◌==◌, List, [], ◌∷�
 use Rattle.std.specs.Str.{bytes_eq}
 use Rattle.serde_json.specs.Data.{Data}
 use Rattle.serde_json.specs.Find.{as_str}
+use Rattle.sv_world.specs.Limits.{most_turns}
 use Rattle.sv_scenario.specs.declared.fault.ScenarioCause.TheVariants as causes
 use Rattle.sv_scenario.specs.declared.scenario.Turn.{Turn}
 use Rattle.sv_scenario.specs.declared.scenario.Turn.TheVariants as turns
@@ -30,4 +31,4 @@ unfoldable pub turn_of : ℕ → ℕ → Data → Read Turn
 turn_of clients sessions d = given causes.Kind (as_str d) >>= turn_in clients sessions
 
 unfoldable pub turns_of : ℕ → ℕ → Data → Read (List Turn)
-turns_of clients sessions d = list_within 0 16384 d >>= each (turn_of clients sessions) []
+turns_of clients sessions d = list_within 0 most_turns d >>= each (turn_of clients sessions) []

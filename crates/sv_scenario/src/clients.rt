@@ -2,6 +2,7 @@
 
 ghost use Rattle.std.specs.Prelude.{◌≡◌, ◌≤◌, [], codes, length, vec_len, IfOk};
 ghost use Rattle.serde_json.specs.View.{view, items_view};
+ghost use Rattle.sv_world.specs.Limits.{most_clients, most_sessions};
 ghost use Rattle.sv_scenario.specs.Faults.{Gives, each};
 ghost use Rattle.sv_scenario.specs.Keys.{value_at};
 ghost use Rattle.sv_scenario.specs.Objects.{interest_of};
@@ -18,7 +19,7 @@ use crate::steps::steps_of;
 use crate::{Plan, ReadFault, ScenarioCause, Step};
 use serde_json::Value;
 use std::alloc::Global;
-use sv_world::{List, ObjectId, Shape};
+use sv_world::{List, MOST_CLIENTS, ObjectId, Shape};
 
 fn interest_in(alloc: Global, shape: Shape, value: &Value) -> Result<List<ObjectId>, ReadFault>
     ensures { Gives (λ v. v) result (value_at (codes "interest") (interest_of shape.objects) (view value.now)) }
@@ -65,16 +66,16 @@ fn each_plan(alloc: Global, shape: Shape, values: &[Value]) -> Result<Vec<Plan>,
 #[tactic(auto, unfolding(crate::specs::Scripts::plans_of))]
 fn plans_of(alloc: Global, shape: Shape, value: &Value) -> Result<List<Plan>, ReadFault>
     ensures reads { Gives (λ v. v) result (plans_of shape (view value.now)) }
-    ensures count { IfOk result (λ v. length v ≤ 32) }
+    ensures count { IfOk result (λ v. length v ≤ most_clients) }
 {
-    let values = list_within(alloc, 1, 32, value)?;
+    let values = list_within(alloc, 1, MOST_CLIENTS as usize, value)?;
     Ok(List::from_vec(each_plan(alloc, shape, values)?))
 }
 
 fn few_sessions(alloc: Global, plans: List<Plan>) -> Result<List<Plan>, ReadFault>
     ensures reads { Gives (λ v. v) result (few_sessions plans) }
     ensures same { IfOk result (λ v. v ≡ plans) }
-    ensures sessions { IfOk result (λ v. sessions_in v ≤ 64) }
+    ensures sessions { IfOk result (λ v. sessions_in v ≤ most_sessions) }
 {
     if has_few_sessions(plans.as_slice()) {
         Ok(plans)
@@ -91,8 +92,8 @@ pub(crate) fn clients_of(
     value: &Value,
 ) -> Result<List<Plan>, ReadFault>
     ensures reads { Gives (λ v. v) result (clients_of shape (view value.now)) }
-    ensures count { IfOk result (λ v. length v ≤ 32) }
-    ensures sessions { IfOk result (λ v. sessions_in v ≤ 64) }
+    ensures count { IfOk result (λ v. length v ≤ most_clients) }
+    ensures sessions { IfOk result (λ v. sessions_in v ≤ most_sessions) }
 {
     let plans = plans_of(alloc, shape, value)?;
     few_sessions(alloc, plans)

@@ -18,6 +18,6 @@ mod turns;
 pub use fault::{ReadFault, ScenarioCause, ScenarioFault};
 pub use laws::scenarios_keep_the_limits;
 pub use line::append_fault_line;
-pub use read::read_scenario;
+pub use read::{MOST_BYTES, read_scenario};
 pub use scenario::{Plan, Scenario, Step, Turn};
 pub use sessions::{sessions_of, sessions_of_plan};

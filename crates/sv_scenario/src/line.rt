@@ -1,7 +1,7 @@
 //! The printed line of a fault.
 
 ghost use Rattle.std.specs.Prelude.{◌≡◌, ◌++◌, string_bytes, IfOk, OnOk, OnErr};
-ghost use Rattle.sv_scenario.specs.Lines.{text_cause_number, cause_text, line_of, fault_line};
+ghost use Rattle.sv_scenario.specs.Lines.{text_cause_number, cause_text, line_at, fault_line};
 
 use crate::{ScenarioCause, ScenarioFault};
 use std::alloc::{AllocError, Global};
@@ -47,8 +47,8 @@ fn cause_text(alloc: Global, cause: ScenarioCause) -> Result<String, AllocError>
     }
 }
 
-fn line_of(alloc: Global, path: &str, cause: &str) -> Result<String, AllocError>
-    ensures { IfOk result (λ s. string_bytes s ≡ line_of path.now cause.now) }
+fn line_at(alloc: Global, path: &str, cause: &str) -> Result<String, AllocError>
+    ensures { IfOk result (λ s. string_bytes s ≡ line_at path.now cause.now) }
 {
     let mut line = format!(in alloc; "scenario: ")?;
     line.push_str(path)?;
@@ -62,7 +62,7 @@ fn fault_line(alloc: Global, fault: &ScenarioFault) -> Result<String, AllocError
     ensures { IfOk result (λ s. string_bytes s ≡ fault_line fault.now) }
 {
     let cause = cause_text(alloc, fault.cause)?;
-    line_of(alloc, fault.path.as_str(), cause.as_str())
+    line_at(alloc, fault.path.as_str(), cause.as_str())
 }
 
 /// Appends the line that tells of a fault, all of it or nothing: `scenario: PATH: CAUSE`, and its end.

@@ -2,6 +2,7 @@
 
 ghost use Rattle.std.specs.Prelude.{◌≡◌, ◌≤◌, [], length, vec_len, IfOk};
 ghost use Rattle.serde_json.specs.View.{view, items_view};
+ghost use Rattle.sv_world.specs.Limits.{most_objects};
 ghost use Rattle.sv_scenario.specs.Faults.{Gives, each};
 ghost use Rattle.sv_scenario.specs.Numbers.{whole_number, number_within, attribute_of, list_within, value_of, values_of};
 
@@ -9,7 +10,7 @@ use crate::place::{at_place, refuse};
 use crate::{ReadFault, ScenarioCause};
 use serde_json::Value;
 use std::alloc::Global;
-use sv_world::Short;
+use sv_world::{MOST_OBJECTS, Value as ObjectValue};
 
 #[tactic(auto, unfolding(crate::specs::Numbers::whole_number))]
 fn whole_number(alloc: Global, value: &Value) -> Result<i128, ReadFault>
@@ -92,14 +93,14 @@ fn attributes(alloc: Global, values: &[Value]) -> Result<Vec<i64>, ReadFault>
 }
 
 #[tactic(auto, unfolding(crate::specs::Numbers::value_of))]
-fn value_of(alloc: Global, attrs: u32, value: &Value) -> Result<Short<i64, 4>, ReadFault>
+fn value_of(alloc: Global, attrs: u32, value: &Value) -> Result<ObjectValue, ReadFault>
     ensures { Gives (λ v. v) result (value_of attrs (view value.now)) }
 {
     let numbers = list_within(alloc, attrs as usize, attrs as usize, value)?;
-    Ok(Short::from_vec(attributes(alloc, numbers)?))
+    Ok(ObjectValue::from_vec(attributes(alloc, numbers)?))
 }
 
-fn each_value(alloc: Global, attrs: u32, values: &[Value]) -> Result<Vec<Short<i64, 4>>, ReadFault>
+fn each_value(alloc: Global, attrs: u32, values: &[Value]) -> Result<Vec<ObjectValue>, ReadFault>
     ensures reads { Gives (λ v. v.items) result (each (value_of attrs) [] (items_view values.now)) }
     ensures count { IfOk result (λ v. vec_len v ≡ length values.now) }
 {
@@ -119,10 +120,10 @@ pub(crate) fn values_of(
     alloc: Global,
     attrs: u32,
     value: &Value,
-) -> Result<Vec<Short<i64, 4>>, ReadFault>
+) -> Result<Vec<ObjectValue>, ReadFault>
     ensures reads { Gives (λ v. v.items) result (values_of attrs (view value.now)) }
-    ensures count { IfOk result (λ v. vec_len v ≤ 4096) }
+    ensures count { IfOk result (λ v. vec_len v ≤ most_objects) }
 {
-    let values = list_within(alloc, 1, 4096, value)?;
+    let values = list_within(alloc, 1, MOST_OBJECTS as usize, value)?;
     each_value(alloc, attrs, values)
 }

@@ -10,7 +10,7 @@ use crate::place::{at_place, refuse};
 use crate::{ReadFault, ScenarioCause};
 use serde_json::Value;
 use std::alloc::Global;
-use sv_world::{List, ObjectId};
+use sv_world::{List, MOST_INTEREST, MOST_SHOWN, ObjectId};
 
 fn known(alloc: Global, objects: u16, number: u32) -> Result<ObjectId, ReadFault>
     ensures { Gives (λ o. o) result (known objects number) }
@@ -52,7 +52,7 @@ pub(crate) fn shown_of(
 ) -> Result<List<ObjectId>, ReadFault>
     ensures { Gives (λ v. v) result (shown_of objects (view value.now)) }
 {
-    let values = list_within(alloc, 1, 16, value)?;
+    let values = list_within(alloc, 1, MOST_SHOWN, value)?;
     Ok(List::from_vec(each_object(alloc, objects, values)?))
 }
 
@@ -104,6 +104,6 @@ pub(crate) fn interest_of(
 ) -> Result<List<ObjectId>, ReadFault>
     ensures { Gives (λ v. v) result (interest_of objects (view value.now)) }
 {
-    let values = list_within(alloc, 0, 64, value)?;
+    let values = list_within(alloc, 0, MOST_INTEREST, value)?;
     Ok(List::from_vec(ascending(alloc, objects, values)?))
 }

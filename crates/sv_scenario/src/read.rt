@@ -4,6 +4,7 @@ ghost use Rattle.std.specs.Prelude.{◌≡◌, ◌≤◌, ◌∷◌, [], codes, 
 ghost use Rattle.serde_json.specs.Errors.{IsMemory};
 ghost use Rattle.serde_json.specs.Read.{read};
 ghost use Rattle.serde_json.specs.View.{view};
+ghost use Rattle.sv_world.specs.Limits.{most_objects, most_clients, most_sessions};
 ghost use Rattle.sv_scenario.specs.Faults.{Gives};
 ghost use Rattle.sv_scenario.specs.Keys.{keys_of, value_at, value_if};
 ghost use Rattle.sv_scenario.specs.Limits.{IsGoodScenario};
@@ -21,10 +22,10 @@ use crate::turns::turns_of;
 use crate::{Plan, ReadFault, Scenario, ScenarioCause, Turn};
 use serde_json::Value;
 use std::alloc::Global;
-use sv_world::{List, Shape, Short, World};
+use sv_world::{List, MOST_ATTRS, MOST_BOUND, MOST_REACH, Shape, Value as ObjectValue, World};
 
-/// A file has at most so many bytes.
-const LIMIT: usize = 4_194_304;
+/// The bytes that a file may have.
+pub const MOST_BYTES: usize = 4_194_304;
 
 fn number_in(alloc: Global, key: &str, low: u32, high: u32, value: &Value) -> Result<u32, ReadFault>
     ensures reads { Gives (λ n. n) result (value_at key.now (number_within low high) (view value.now)) }
@@ -34,9 +35,9 @@ fn number_in(alloc: Global, key: &str, low: u32, high: u32, value: &Value) -> Re
     at_key(alloc, key, number_within(alloc, low, high, number))
 }
 
-fn values_in(alloc: Global, attrs: u32, value: &Value) -> Result<Vec<Short<i64, 4>>, ReadFault>
+fn values_in(alloc: Global, attrs: u32, value: &Value) -> Result<Vec<ObjectValue>, ReadFault>
     ensures reads { Gives (λ v. v.items) result (value_at (codes "objects") (values_of attrs) (view value.now)) }
-    ensures count { IfOk result (λ v. vec_len v ≤ 4096) }
+    ensures count { IfOk result (λ v. vec_len v ≤ most_objects) }
 {
     let values = needed(alloc, "objects", value)?;
     at_key(alloc, "objects", values_of(alloc, attrs, values))
@@ -46,7 +47,7 @@ fn values_in(alloc: Global, attrs: u32, value: &Value) -> Result<Vec<Short<i64, 
 fn world_of(alloc: Global, value: &Value) -> Result<World, ReadFault>
     ensures { Gives (λ w. w) result (world_of (view value.now)) }
 {
-    let attrs = number_in(alloc, "attrs", 1, 4, value)?;
+    let attrs = number_in(alloc, "attrs", 1, MOST_ATTRS as u32, value)?;
     let values = values_in(alloc, attrs, value)?;
     let shape = Shape {
         objects: values.len() as u16,
@@ -62,7 +63,7 @@ fn world_of(alloc: Global, value: &Value) -> Result<World, ReadFault>
 fn reach_of(alloc: Global, value: &Value) -> Result<Option<u32>, ReadFault>
     ensures { Gives (λ n. n) result (reach_of (view value.now)) }
 {
-    let reach = number_within(alloc, 0, 2_000_000, value)?;
+    let reach = number_within(alloc, 0, MOST_REACH, value)?;
     Ok(Some(reach))
 }
 
@@ -77,16 +78,16 @@ fn reach_in(alloc: Global, value: &Value) -> Result<Option<u32>, ReadFault>
 
 fn clients_in(alloc: Global, shape: Shape, value: &Value) -> Result<List<Plan>, ReadFault>
     ensures reads { Gives (λ v. v) result (value_at (codes "clients") (clients_of shape) (view value.now)) }
-    ensures count { IfOk result (λ v. length v ≤ 32) }
-    ensures sessions { IfOk result (λ v. sessions_in v ≤ 64) }
+    ensures count { IfOk result (λ v. length v ≤ most_clients) }
+    ensures sessions { IfOk result (λ v. sessions_in v ≤ most_sessions) }
 {
     let clients = needed(alloc, "clients", value)?;
     at_key(alloc, "clients", clients_of(alloc, shape, clients))
 }
 
 fn schedule_in(alloc: Global, clients: &[Plan], value: &Value) -> Result<List<Turn>, ReadFault>
-    requires count { length clients.now ≤ 32 }
-    requires sessions { sessions_in clients.now ≤ 64 }
+    requires count { length clients.now ≤ most_clients }
+    requires sessions { sessions_in clients.now ≤ most_sessions }
     ensures { Gives (λ v. v) result (value_if (codes "schedule") [] (turns_of (length clients.now) (sessions_in clients.now)) (view value.now)) }
 {
     let sessions = sessions_in(clients);
@@ -110,7 +111,7 @@ fn scenario_in(alloc: Global, value: &Value) -> Result<Scenario, ReadFault>
         value,
     )?;
     let world = world_of(alloc, value)?;
-    let bound = number_in(alloc, "bound", 0, 32, value)?;
+    let bound = number_in(alloc, "bound", 0, MOST_BOUND as u32, value)?;
     let reach = reach_in(alloc, value)?;
     let clients = clients_in(alloc, world.shape, value)?;
     let schedule = schedule_in(alloc, clients.as_slice(), value)?;
@@ -148,7 +149,7 @@ fn value_in(alloc: Global, text: &str) -> Result<Value, ReadFault>
 fn scenario_of(alloc: Global, bytes: &[u8]) -> Result<Scenario, ReadFault>
     ensures { Gives (λ s. s) result (scenario_of bytes.now) }
 {
-    if bytes.len() > LIMIT {
+    if bytes.len() > MOST_BYTES {
         return Err(refuse(alloc, ScenarioCause::Size));
     }
     let Ok(text) = str::from_utf8(bytes) else {

@@ -1,10 +1,12 @@
 //! How many sessions a scenario has.
 
 ghost use Rattle.std.specs.Prelude.{◌≡◌, ◌≤◌, ◌^◌, nat_le, length};
+ghost use Rattle.sv_world.specs.Limits.{most_sessions};
 ghost use Rattle.sv_scenario.specs.Limits.{IsGoodScenario};
 ghost use Rattle.sv_scenario.specs.Sessions.{cuts_by, cuts_in, sessions_of_plan, sessions_in, session_count};
 
 use crate::{Plan, Scenario, Step};
+use sv_world::MOST_SESSIONS;
 
 fn cuts_by(step: &Step) -> usize
     ensures { result ≡ cuts_by step.now }
@@ -37,12 +39,12 @@ pub fn sessions_of_plan(plan: &Plan) -> usize
 
 /// Whether these clients have at most 64 sessions together.
 pub(crate) fn has_few_sessions(plans: &[Plan]) -> bool
-    ensures { result ≡ nat_le (sessions_in plans.now) 64 }
+    ensures { result ≡ nat_le (sessions_in plans.now) most_sessions }
 {
     let mut count = 0;
     for plan in plans {
         count += sessions_of_plan(plan);
-        if count > 64 {
+        if count > MOST_SESSIONS as usize {
             return false;
         }
     }
@@ -51,7 +53,7 @@ pub(crate) fn has_few_sessions(plans: &[Plan]) -> bool
 
 /// How many sessions these clients have together.
 pub(crate) fn sessions_in(plans: &[Plan]) -> u16
-    requires { sessions_in plans.now ≤ 64 }
+    requires { sessions_in plans.now ≤ most_sessions }
     ensures { result ≡ sessions_in plans.now }
 {
     let mut count = 0;

@@ -10,19 +10,17 @@ ghost use Rattle.sv_scenario.specs.Scripts.{read_text, act_of, act_step, show_st
 use crate::numbers::list_within;
 use crate::objects::shown_of;
 use crate::place::{at_key, at_place, refuse};
-use crate::{ReadFault, ScenarioCause, Step};
+use crate::{MOST_BYTES, ReadFault, ScenarioCause, Step};
 use serde_json::Value;
 use std::alloc::Global;
 use sv_text::{ParseFault, parse_action};
-use sv_world::{Action, List, Shape, check_action};
-
-/// No text in a file is longer than the file.
-const LONGEST: usize = 4_194_304;
+use sv_world::{Action, List, MOST_STEPS, Shape, check_action};
 
 fn read_text(alloc: Global, text: &str) -> Result<Action, ReadFault>
     ensures { Gives (λ a. a) result (read_text (reading (tokens_of text.now))) }
 {
-    if text.len() > LONGEST {
+    // No text in a file is longer than the file.
+    if text.len() > MOST_BYTES {
         return Err(ReadFault::Memory);
     }
     match parse_action(alloc, text) {
@@ -138,6 +136,6 @@ fn each_step(alloc: Global, shape: Shape, values: &[Value]) -> Result<Vec<Step>,
 pub(crate) fn steps_of(alloc: Global, shape: Shape, value: &Value) -> Result<List<Step>, ReadFault>
     ensures { Gives (λ v. v) result (steps_of shape (view value.now)) }
 {
-    let values = list_within(alloc, 0, 256, value)?;
+    let values = list_within(alloc, 0, MOST_STEPS, value)?;
     Ok(List::from_vec(each_step(alloc, shape, values)?))
 }

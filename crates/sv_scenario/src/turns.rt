@@ -12,7 +12,7 @@ use crate::place::{at_place, refuse};
 use crate::{ReadFault, ScenarioCause, Turn};
 use serde_json::Value;
 use std::alloc::Global;
-use sv_world::List;
+use sv_world::{List, MOST_TURNS};
 
 /// The number that one or two digits write, if they are digits.
 fn two_digits(digits: &[u8]) -> u16
@@ -114,6 +114,6 @@ pub(crate) fn turns_of(
     requires sessions { sessions ≤ 100 }
     ensures { Gives (λ v. v) result (turns_of clients sessions (view value.now)) }
 {
-    let values = list_within(alloc, 0, 16_384, value)?;
+    let values = list_within(alloc, 0, MOST_TURNS, value)?;
     Ok(List::from_vec(each_turn(alloc, clients, sessions, values)?))
 }

@@ -15,7 +15,7 @@ use Rattle.sv_journal.specs.Answer.{Rules, is_abandoned, orphans}
 use Rattle.sv_queue.specs.Queue.{QueueView, entry_at, sent_positions}
 use Rattle.sv_queue.proofs.Members.{filter-ext}
 use Rattle.sv_sequencer.specs.declared.sessions.SessionRow.{SessionRow}
-use Rattle.sv_sequencer.specs.Fits.{Fits}
+use Rattle.sv_sequencer.specs.Fits.{QueueFits}
 use Rattle.sv_sequencer.specs.Orphans.{is_abandoned_in, is_orphan_in, orphans_in}
 use Rattle.sv_sequencer.specs.Rows.{no_session, IsSessionRow}
 use Rattle.sv_sequencer.proofs.FitRelays.{sent-is}
@@ -98,7 +98,7 @@ sent-within n p (e ∷ g) all s m = go (nat_eq e.session s) refl m (sent-within 
     go false q k ih = ih k
 
 pub abandoned-is : (r : Rules) (h : List Entry) (v : QueueView) (rows : List SessionRow) (p : ℕ) → r.sessions ≤ 64 → length rows ≡ r.sessions → v.commit < p →
-    ((t q : ℕ) → is_in q (sent_to h t) ≡ true → q ≤ length (accepted h)) → Fits r.world (accepted h) (result_at h) (sent_to h) (named_to h) v →
+    ((t q : ℕ) → is_in q (sent_to h t) ≡ true → q ≤ length (accepted h)) → QueueFits r.world (accepted h) (result_at h) (sent_to h) (named_to h) v →
     ((s : ℕ) → s < r.sessions → IsSessionRow h s (get_or rows s no_session)) → All (λ (e : Entry). e.session < r.sessions) h →
     is_abandoned_in v rows p ≡ is_abandoned h p
 abandoned-is r h v rows p few count low within f are all = same_test (is_abandoned_in v rows p) (is_abandoned h p) there back
@@ -128,7 +128,7 @@ abandoned-is r h v rows p few count low within f are all = same_test (is_abandon
         ])
 
 pub orphans-are : (r : Rules) (h : List Entry) (v : QueueView) (rows : List SessionRow) → r.sessions ≤ 64 → length rows ≡ r.sessions → v.commit ≡ commit_of h →
-    ((t q : ℕ) → is_in q (sent_to h t) ≡ true → q ≤ length (accepted h)) → Fits r.world (accepted h) (result_at h) (sent_to h) (named_to h) v →
+    ((t q : ℕ) → is_in q (sent_to h t) ≡ true → q ≤ length (accepted h)) → QueueFits r.world (accepted h) (result_at h) (sent_to h) (named_to h) v →
     ((s : ℕ) → s < r.sessions → IsSessionRow h s (get_or rows s no_session)) → All (λ (e : Entry). e.session < r.sessions) h →
     orphans_in v rows ≡ orphans h
 orphans-are r h v rows few count at within f are all =

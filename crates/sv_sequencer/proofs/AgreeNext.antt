@@ -16,7 +16,7 @@ use Rattle.sv_sequencer.specs.declared.sessions.SessionRow.{SessionRow}
 use Rattle.sv_sequencer.specs.Agreement.{IsClientRow, Agrees}
 use Rattle.sv_sequencer.specs.Clients.{client_row, outcome_value}
 use Rattle.sv_sequencer.specs.Decisions.{IsNext}
-use Rattle.sv_sequencer.specs.Fits.{Fits}
+use Rattle.sv_sequencer.specs.Fits.{QueueFits}
 use Rattle.sv_sequencer.specs.Step.{entry_of}
 use Rattle.sv_sequencer.proofs.AgreeSteps.{sent-quiet, named-quiet, commit-same, life-quiet, AreAfter, rows-next}
 use Rattle.sv_sequencer.proofs.FitMarks.{fits-same}
@@ -96,7 +96,7 @@ agree-drop r h v rows next clients after owed s request k seq chain far o value 
         (λ j n p g. omega (arith, a.sound.outcomes j n p g, ap length same));
   }) a.sound;
   few_sessions = a.few_sessions;
-  fits = subst (λ A. Fits r.world A (result_at (e ∷ h)) (sent_to (e ∷ h)) (named_to (e ∷ h)) v) (sym same)
+  fits = subst (λ A. QueueFits r.world A (result_at (e ∷ h)) (sent_to (e ∷ h)) (named_to (e ∷ h)) v) (sym same)
       (fits-same r.world (accepted h) (result_at h) (result_at (e ∷ h)) (sent_to h) (sent_to (e ∷ h)) (named_to h) (named_to (e ∷ h)) v
       (λ p some. sym (result-quiet e h p refl)) (λ t. sent-quiet e h t refl) (λ t x. named-quiet e h t x refl) a.fits);
   commit = a.commit ∙ sym commit;

@@ -10,11 +10,11 @@ use Rattle.sv_journal.specs.declared.entry.Logged.TheVariants as logged
 use Rattle.sv_journal.specs.History.{either, is_relay, reported, reports, accepted, result_at, run_length, commit_of}
 use Rattle.sv_journal.specs.Sessions.{is_end, positions_in, named_in, sent_to, named_to}
 use Rattle.sv_journal.specs.Answer.{Rules}
-use Rattle.sv_queue.specs.Queue.{QueueView, last_position, installed}
+use Rattle.sv_queue.specs.Queue.{QueueView, last_position, ready_installed}
 use Rattle.sv_sequencer.specs.declared.clients.Clients.{Clients}
 use Rattle.sv_sequencer.specs.declared.sessions.SessionRow.{SessionRow}
-use Rattle.sv_sequencer.specs.Agreement.{IsSound, Agrees}
-use Rattle.sv_sequencer.specs.Fits.{Fits}
+use Rattle.sv_sequencer.specs.Agreement.{IsSoundHistory, Agrees}
+use Rattle.sv_sequencer.specs.Fits.{QueueFits}
 use Rattle.sv_sequencer.specs.Relays.{with_reports}
 use Rattle.sv_sequencer.specs.Step.{entry_of}
 use Rattle.sv_sequencer.proofs.AgreeSteps.{sent-quiet, named-quiet, life-quiet, AreAfter, rows-next}
@@ -36,10 +36,10 @@ commit-done h p low high = run_length-passes (λ q. is_some (result_at h q)) (le
 
 -- The queue once results were kept and installed, and its commit, against a history in which they are noted.
 pub noted : (r : Rules) (h : List Entry) (v : QueueView) (e : Entry) (c : ℕ) (ds : List Done1) → e.reply ≡ logged.Noted c → e.request ≡ requests.Done ds →
-    All (λ (d : Done1). d.pos ≤ last_position v) ds → v.commit ≡ commit_of h → IsSound r h →
-    Fits r.world (accepted h) (result_at h) (sent_to h) (named_to h) v →
-    Fits r.world (accepted (e ∷ h)) (result_at (e ∷ h)) (sent_to (e ∷ h)) (named_to (e ∷ h)) (installed (with_reports v ds))
-    × (((installed (with_reports v ds)).commit ≡ commit_of (e ∷ h)) × (commit_of h ≤ commit_of (e ∷ h)))
+    All (λ (d : Done1). d.pos ≤ last_position v) ds → v.commit ≡ commit_of h → IsSoundHistory r h →
+    QueueFits r.world (accepted h) (result_at h) (sent_to h) (named_to h) v →
+    QueueFits r.world (accepted (e ∷ h)) (result_at (e ∷ h)) (sent_to (e ∷ h)) (named_to (e ∷ h)) (ready_installed (with_reports v ds))
+    × (((ready_installed (with_reports v ds)).commit ≡ commit_of (e ∷ h)) × (commit_of h ≤ commit_of (e ∷ h)))
 noted r h v e c ds is asks low at sound f = (fitted, (commit, rises))
   where
     R : ℕ → Option (List (List ℤ))
@@ -54,7 +54,7 @@ noted r h v e c ds is asks low at sound f = (fitted, (commit, rises))
     results : (p : ℕ) → R p ≡ result_at (e ∷ h) p
     results p = sym (rw (is, asks) refl)
 
-    kept : Fits r.world (accepted h) R (sent_to h) (named_to h) w
+    kept : QueueFits r.world (accepted h) R (sent_to h) (named_to h) w
     kept = fits-reports r.world (accepted h) (result_at h) (sent_to h) (named_to h) v ds (λ p some most. commit-done h p some (omega (arith, most, at))) low f
 
     early : (t x q : ℕ) → is_in q (named_to h t x) ≡ true → q ≤ w.commit
@@ -67,33 +67,33 @@ noted r h v e c ds is asks low at sound f = (fitted, (commit, rises))
         go (Some x) q = refl
         go None q = cc
 
-    fitted : Fits r.world (accepted (e ∷ h)) (result_at (e ∷ h)) (sent_to (e ∷ h)) (named_to (e ∷ h)) (installed w)
-    fitted = subst (λ A. Fits r.world A (result_at (e ∷ h)) (sent_to (e ∷ h)) (named_to (e ∷ h)) (installed w)) (sym same)
-        (fits-same r.world (accepted h) R (result_at (e ∷ h)) (sent_to h) (sent_to (e ∷ h)) (named_to h) (named_to (e ∷ h)) (installed w)
+    fitted : QueueFits r.world (accepted (e ∷ h)) (result_at (e ∷ h)) (sent_to (e ∷ h)) (named_to (e ∷ h)) (ready_installed w)
+    fitted = subst (λ A. QueueFits r.world A (result_at (e ∷ h)) (sent_to (e ∷ h)) (named_to (e ∷ h)) (ready_installed w)) (sym same)
+        (fits-same r.world (accepted h) R (result_at (e ∷ h)) (sent_to h) (sent_to (e ∷ h)) (named_to h) (named_to (e ∷ h)) (ready_installed w)
         (λ p some. results p) (λ t. sent-quiet e h t (ap positions_in is)) (λ t x. named-quiet e h t x (ap (λ l. named_in l x) is))
         (fits-installed r.world (accepted h) R (sent_to h) (named_to h) w.shape w.commit w.committed w.entries w.given early kept))
 
-    facts : (w.commit ≤ (installed w).commit) × (((installed w).commit ≤ length (accepted h)) × (((p : ℕ) → 0 < p → p ≤ (installed w).commit → is_some (R p) ≡ true)
-        × ((installed w).commit < length (accepted h) → is_some (R (suc (installed w).commit)) ≡ false)))
+    facts : (w.commit ≤ (ready_installed w).commit) × (((ready_installed w).commit ≤ length (accepted h)) × (((p : ℕ) → 0 < p → p ≤ (ready_installed w).commit → is_some (R p) ≡ true)
+        × ((ready_installed w).commit < length (accepted h) → is_some (R (suc (ready_installed w).commit)) ≡ false)))
     facts = installed-commit r.world (accepted h) R (sent_to h) (named_to h) w.shape w.commit w.committed w.entries w.given done kept
 
     run_same : (f g : ℕ → Bool) (n : ℕ) → ((p : ℕ) → f p ≡ g p) → run_length f n ≡ run_length g n
     run_same f g zero q = refl
     run_same f g (suc n) q = rw (run_same f g n q, q (suc n)) refl
 
-    commit : (installed w).commit ≡ commit_of (e ∷ h)
+    commit : (ready_installed w).commit ≡ commit_of (e ∷ h)
     commit = sym (ap (run_length (λ p. is_some (result_at (e ∷ h) p))) (ap length same)
         ∙ run_same (λ p. is_some (result_at (e ∷ h) p)) (λ p. is_some (R p)) (length (accepted h)) (λ p. ap is_some (sym (results p)))
-        ∙ run_length-is (λ p. is_some (R p)) (length (accepted h)) (installed w).commit facts.1.0 facts.1.1.0 facts.1.1.1)
+        ∙ run_length-is (λ p. is_some (R p)) (length (accepted h)) (ready_installed w).commit facts.1.0 facts.1.1.0 facts.1.1.1)
 
     rises : commit_of h ≤ commit_of (e ∷ h)
     rises = omega (arith, facts.0, commit, at, commit-reports v ds)
 
 -- Results are noted.
 pub agree-noted : (r : Rules) (h : List Entry) (v : QueueView) (old next : List SessionRow) (clients : Clients) (owed s : ℕ) (request : Request)
-    (c : ℕ) (ds : List Done1) → c ≡ (installed (with_reports v ds)).commit → request ≡ requests.Done ds → All (λ (d : Done1). d.pos ≤ last_position v) ds →
+    (c : ℕ) (ds : List Done1) → c ≡ (ready_installed (with_reports v ds)).commit → request ≡ requests.Done ds → All (λ (d : Done1). d.pos ≤ last_position v) ds →
     Agrees r h v old clients owed → length old ≡ r.sessions → s < r.sessions → AreAfter (entry_of s request (logged.Noted c)) old next →
-    Agrees r (entry_of s request (logged.Noted c) ∷ h) (installed (with_reports v ds)) next clients owed
+    Agrees r (entry_of s request (logged.Noted c) ∷ h) (ready_installed (with_reports v ds)) next clients owed
 agree-noted r h v old next clients owed s request c ds at asks within a count low rows' = record {
   sound = sound-next r h e 0 (record {
     session = low;
@@ -121,6 +121,6 @@ agree-noted r h v old next clients owed s request c ds at asks within a count lo
     same : accepted (e ∷ h) ≡ accepted h
     same = accepted-quiet e h refl
 
-    all : Fits r.world (accepted (e ∷ h)) (result_at (e ∷ h)) (sent_to (e ∷ h)) (named_to (e ∷ h)) (installed (with_reports v ds))
-        × (((installed (with_reports v ds)).commit ≡ commit_of (e ∷ h)) × (commit_of h ≤ commit_of (e ∷ h)))
+    all : QueueFits r.world (accepted (e ∷ h)) (result_at (e ∷ h)) (sent_to (e ∷ h)) (named_to (e ∷ h)) (ready_installed (with_reports v ds))
+        × (((ready_installed (with_reports v ds)).commit ≡ commit_of (e ∷ h)) × (commit_of h ≤ commit_of (e ∷ h)))
     all = noted r h v e c ds refl asks within a.commit a.sound a.fits

@@ -19,7 +19,7 @@ use Rattle.sv_sequencer.specs.declared.sessions.SessionRow.{SessionRow}
 use Rattle.sv_sequencer.specs.Agreement.{IsClientRow, Agrees}
 use Rattle.sv_sequencer.specs.Clients.{client_row, outcome_value}
 use Rattle.sv_sequencer.specs.Decisions.{IsOld, IsNext, IsJoin, action_in}
-use Rattle.sv_sequencer.specs.Fits.{Fits}
+use Rattle.sv_sequencer.specs.Fits.{QueueFits}
 use Rattle.sv_sequencer.specs.Relays.{marked_all, given_all}
 use Rattle.sv_sequencer.specs.Step.{entry_of}
 use Rattle.sv_sequencer.proofs.AgreeNext.{settled_row, client-next, settles-next, placed-next}
@@ -39,8 +39,8 @@ head-at head c x q = cond_both (names head x) (c ∷ []) [] (λ xs. is_in q xs �
 
 -- The queue after a relay, against a history with its entry.
 fits-relay : (r : Rules) (h : List Entry) (e : Entry) (v : QueueView) (s seq : ℕ) (head : List Held) (ps : List ℕ) → e.session ≡ s → e.reply ≡ logged.Relay seq v.commit head ps →
-    All (IsUncommitted v) ps → Fits r.world (accepted (e ∷ h)) (result_at h) (sent_to h) (named_to h) v →
-    Fits r.world (accepted (e ∷ h)) (result_at (e ∷ h)) (sent_to (e ∷ h)) (named_to (e ∷ h)) (given_all (marked_all v ps s) head s)
+    All (IsUncommitted v) ps → QueueFits r.world (accepted (e ∷ h)) (result_at h) (sent_to h) (named_to h) v →
+    QueueFits r.world (accepted (e ∷ h)) (result_at (e ∷ h)) (sent_to (e ∷ h)) (named_to (e ∷ h)) (given_all (marked_all v ps s) head s)
 fits-relay r h e v s seq head ps at is low f =
     fits-same r.world (accepted (e ∷ h)) (result_at h) (result_at (e ∷ h)) (sent_also s ps (sent_to h)) (sent_to (e ∷ h))
     (named_also s head (marked_all v ps s).commit (named_to h)) (named_to (e ∷ h)) (given_all (marked_all v ps s) head s)
@@ -71,7 +71,7 @@ agree-relay r h v old next clients owed s request seq c head ps at a count low i
   }) a.sound;
   few_sessions = a.few_sessions;
   fits = fits-relay r h e v s seq head ps refl (ap (λ n. logged.Relay seq n head ps) at) within
-      (subst (λ A. Fits r.world A (result_at h) (sent_to h) (named_to h) v) (sym same) a.fits);
+      (subst (λ A. QueueFits r.world A (result_at h) (sent_to h) (named_to h) v) (sym same) a.fits);
   commit = commit-given (marked_all v ps s) head s ∙ commit-marked v ps s ∙ a.commit ∙ sym commit;
   session_rows = rows-next r e h old next count rows' a.session_rows;
   client_rows = λ k. record { life = (a.client_rows k).life ∙ sym (life-quiet e h k refl); outcomes = (a.client_rows k).outcomes ∙ sym (outcomes-old e h k is) };
@@ -131,8 +131,8 @@ agree-accept r h v old next clients after owed s request k seq c m head ps at la
     longer : length (accepted (e ∷ h)) ≡ length (accepted h) + 1
     longer = ap length same ∙ length-append (accepted h) (authored_by k seq request ∷ [])
 
-    fitted : Fits r.world (accepted (e ∷ h)) (result_at h) (sent_to h) (named_to h) w
-    fitted = subst (λ A. Fits r.world A (result_at h) (sent_to h) (named_to h) w) (sym same)
+    fitted : QueueFits r.world (accepted (e ∷ h)) (result_at h) (sent_to h) (named_to h) w
+    fitted = subst (λ A. QueueFits r.world A (result_at h) (sent_to h) (named_to h) w) (sym same)
         (fits-pushed r.world (accepted h) (result_at h) (sent_to h) (named_to h) v (record { 0 = k }) seq (action_in request)
         (a.sound.results (suc (length (accepted h))) (omega arith)) a.sound.sent a.fits)
 
@@ -176,7 +176,7 @@ agree-welcome r h v old next clients after owed s request k life c head at a cou
     outcomes = λ j n p q. omega (arith, a.sound.outcomes j n p (ap (λ os. slice_get os n) (sym (outcomes-quiet e h j refl)) ∙ q), ap length same);
   }) a.sound;
   few_sessions = a.few_sessions;
-  fits = subst (λ A. Fits r.world A (result_at (e ∷ h)) (sent_to (e ∷ h)) (named_to (e ∷ h)) (given_all v head s)) (sym same)
+  fits = subst (λ A. QueueFits r.world A (result_at (e ∷ h)) (sent_to (e ∷ h)) (named_to (e ∷ h)) (given_all v head s)) (sym same)
       (fits-same r.world (accepted h) (result_at h) (result_at (e ∷ h)) (sent_to h) (sent_to (e ∷ h)) (named_also s head v.commit (named_to h)) (named_to (e ∷ h)) (given_all v head s)
       (λ p some. sym (result-quiet e h p refl)) (λ t. sent-quiet e h t refl)
       (λ t x. ap (λ n. cond (nat_eq s t) (named_to h t x ++ cond (names head x) (n ∷ []) []) (named_to h t x)) (sym at))

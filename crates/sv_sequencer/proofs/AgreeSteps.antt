@@ -13,7 +13,7 @@ use Rattle.sv_sequencer.specs.declared.clients.Clients.{Clients}
 use Rattle.sv_sequencer.specs.declared.sessions.SessionRow.{SessionRow}
 use Rattle.sv_sequencer.specs.Agreement.{Agrees, ends_owed}
 use Rattle.sv_sequencer.specs.Decisions.{IsQuiet}
-use Rattle.sv_sequencer.specs.Fits.{Fits}
+use Rattle.sv_sequencer.specs.Fits.{QueueFits}
 use Rattle.sv_sequencer.specs.Rows.{no_session, session_after, IsSessionRow}
 use Rattle.sv_sequencer.specs.Step.{entry_of}
 use Rattle.sv_sequencer.proofs.FitMarks.{fits-same}
@@ -73,7 +73,7 @@ agree-quiet r h v rows next clients owed s request reply a count low quiet after
     outcomes = λ k n p q. omega (arith, a.sound.outcomes k n p (ap (λ os. slice_get os n) (sym (quiet.outcomes k)) ∙ q), ap length same);
   }) a.sound;
   few_sessions = a.few_sessions;
-  fits = subst (λ A. Fits r.world A (result_at (e ∷ h)) (sent_to (e ∷ h)) (named_to (e ∷ h)) v) (sym same)
+  fits = subst (λ A. QueueFits r.world A (result_at (e ∷ h)) (sent_to (e ∷ h)) (named_to (e ∷ h)) v) (sym same)
       (fits-same r.world (accepted h) (result_at h) (result_at (e ∷ h)) (sent_to h) (sent_to (e ∷ h)) (named_to h) (named_to (e ∷ h)) v
       (λ p some. sym (result-quiet e h p quiet.noted)) (λ t. sent-quiet e h t quiet.positions) (λ t x. named-quiet e h t x (quiet.named x)) a.fits);
   commit = a.commit ∙ sym commit;

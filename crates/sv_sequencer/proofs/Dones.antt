@@ -12,8 +12,8 @@ use Rattle.sv_journal.specs.History.{accepted, actions_of, result_at, commit_of}
 use Rattle.sv_journal.specs.Sessions.{sent_to, named_to}
 use Rattle.sv_journal.specs.Answer.{Rules, is_bad_result, is_bad_done}
 use Rattle.sv_queue.specs.Queue.{QueueView, last_position, queue_actions, sent_positions}
-use Rattle.sv_queue.specs.Worlds.{HaveAttrs}
-use Rattle.sv_sequencer.specs.Fits.{Fits}
+use Rattle.sv_world.specs.Worlds.{HaveAttrs}
+use Rattle.sv_sequencer.specs.Fits.{QueueFits}
 use Rattle.sv_sequencer.specs.Relays.{is_bad_report, CanReport}
 use Rattle.sv_sequencer.proofs.FitRelays.{action-is, sent-is, queue-action}
 
@@ -23,7 +23,7 @@ any-alike f g (x ∷ xs) same = rw (same x, any-alike f g xs same) refl
 
 -- The same results are bad by the queue as by the history.
 pub bad-is : (r : Rules) (h : List Entry) (v : QueueView) (s : ℕ) (d : Done1) → s < 64 → v.commit ≡ commit_of h →
-    ((t q : ℕ) → is_in q (sent_to h t) ≡ true → q ≤ length (accepted h)) → Fits r.world (accepted h) (result_at h) (sent_to h) (named_to h) v →
+    ((t q : ℕ) → is_in q (sent_to h t) ≡ true → q ≤ length (accepted h)) → QueueFits r.world (accepted h) (result_at h) (sent_to h) (named_to h) v →
     is_bad_report v s d ≡ is_bad_result r h s d
 bad-is r h v s d small at within f =
     ap (λ n. d.pos == 0 || nat_lt n d.pos || later n) f.last
@@ -55,7 +55,7 @@ bad-is r h v s d small at within f =
         ) refl)
 
 pub bad-done : (r : Rules) (h : List Entry) (v : QueueView) (s : ℕ) (ds : List Done1) → s < 64 → v.commit ≡ commit_of h →
-    ((t q : ℕ) → is_in q (sent_to h t) ≡ true → q ≤ length (accepted h)) → Fits r.world (accepted h) (result_at h) (sent_to h) (named_to h) v →
+    ((t q : ℕ) → is_in q (sent_to h t) ≡ true → q ≤ length (accepted h)) → QueueFits r.world (accepted h) (result_at h) (sent_to h) (named_to h) v →
     (length ds == 0 || nat_lt 33 (length ds) || not (is_ascending (map (λ (d : Done1). d.pos) ds)) || list_any (is_bad_report v s) ds) ≡ is_bad_done r h s ds
 bad-done r h v s ds small at within f =
     ap (λ b. length ds == 0 || nat_lt 33 (length ds) || not (is_ascending (map (λ (d : Done1). d.pos) ds)) || b)
@@ -106,7 +106,7 @@ can_report_all v s (d ∷ ds) h = (let both = or_parts (is_bad_report v s d) (li
 
 -- Of results of which none is bad, each may be kept.
 pub can_report_done : (r : Rules) (h : List Entry) (v : QueueView) (s : ℕ) (ds : List Done1) → s < 64 → v.commit ≡ commit_of h →
-    ((t q : ℕ) → is_in q (sent_to h t) ≡ true → q ≤ length (accepted h)) → Fits r.world (accepted h) (result_at h) (sent_to h) (named_to h) v →
+    ((t q : ℕ) → is_in q (sent_to h t) ≡ true → q ≤ length (accepted h)) → QueueFits r.world (accepted h) (result_at h) (sent_to h) (named_to h) v →
     list_any (is_bad_result r h s) ds ≡ false → All (CanReport v) ds
 can_report_done r h v s ds small at within f q =
     can_report_all v s ds (any-alike (is_bad_report v s) (is_bad_result r h s) ds (λ d. bad-is r h v s d small at within f) ∙ q)

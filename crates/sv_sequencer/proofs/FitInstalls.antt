@@ -11,18 +11,13 @@ use Rattle.sv_world.specs.Sets.{write_set}
 use Rattle.sv_eval.specs.Serial.{put_all}
 use Rattle.sv_queue.specs.declared.queued.Queued.{Queued}
 use Rattle.sv_queue.specs.Pairs.{is_pair}
-use Rattle.sv_queue.specs.Queue.{QueueView, entry_at, no_entry, put_values, given_by, ready, installed, first_installed}
+use Rattle.sv_queue.specs.Queue.{QueueView, entry_at, no_entry, given_by, ready, ready_installed, first_installed}
 use Rattle.sv_queue.proofs.Installs.{installed-first, installed-none}
 use Rattle.sv_queue.proofs.Members.{is_in-append, is_in-filter}
 use Rattle.sv_queue.proofs.PairSets.{is_pair-where}
 use Rattle.sv_journal.specs.History.{Authored}
-use Rattle.sv_sequencer.specs.Fits.{actions_in, values_after, gives, IsEntry, Fits}
+use Rattle.sv_sequencer.specs.Fits.{actions_in, values_after, was_given, IsEntry, QueueFits}
 use Rattle.sv_sequencer.proofs.FitPush.{authored-action}
-
-put_same : (world : List (List ℤ)) (xs : List ℕ) (values : List (List ℤ)) → put_values world xs values ≡ put_all world xs values
-put_same world [] values = refl
-put_same world (x ∷ xs) [] = refl
-put_same world (x ∷ xs) (v ∷ vs) = put_same (set world x v) xs vs
 
 any-same : (p q : ℕ → Bool) (xs : List ℕ) → ((k : ℕ) → is_in k xs ≡ true → p k ≡ q k) → list_any p xs ≡ list_any q xs
 any-same p q [] same = refl
@@ -56,9 +51,9 @@ between n q = elim (cases_eq n q) [
     go (inr a) b ne = and_left (nat_le n q) (nat_le q n) a ∙ sym (ne_eqb n q ne)
 
 -- At the next commit an object that is written there is given where the position was sent, and other objects as before.
-pub gives-next : (acts : List Action) (sent named : List ℕ) (x c : ℕ) → ((q : ℕ) → is_in q named ≡ true → q ≤ c) →
-    gives acts sent named x (suc c) ≡ cond (is_in x (write_set (action_at acts (suc c)))) (is_in (suc c) sent) (gives acts sent named x c)
-gives-next acts sent named x c early = go (W (suc c)) refl
+pub was_given-next : (acts : List Action) (sent named : List ℕ) (x c : ℕ) → ((q : ℕ) → is_in q named ≡ true → q ≤ c) →
+    was_given acts sent named x (suc c) ≡ cond (is_in x (write_set (action_at acts (suc c)))) (is_in (suc c) sent) (was_given acts sent named x c)
+was_given-next acts sent named x c early = go (W (suc c)) refl
   where
     W : ℕ → Bool
     W p = is_in x (write_set (action_at acts p))
@@ -83,7 +78,7 @@ gives-next acts sent named x c early = go (W (suc c)) refl
     ]
 
     go : (b : Bool) → W (suc c) ≡ b → list_any (T (cond b (suc c) (last_writer acts x (suc c))) (suc c)) (named ++ filter W sent)
-        ≡ cond b (is_in (suc c) sent) (gives acts sent named x c)
+        ≡ cond b (is_in (suc c) sent) (was_given acts sent named x c)
     go true e =
         list_any-append (T (suc c) (suc c)) named (filter W sent)
         ∙ ap (λ b. b || list_any (T (suc c) (suc c)) (filter W sent)) (any-none (T (suc c) (suc c)) named (λ k h. late (suc c) k (omega arith) (early k h)))
@@ -95,14 +90,13 @@ view_by shape commit committed entries given = record { shape = shape; commit = 
 
 fits-first : (w : World) (A : List Authored) (R : ℕ → Option (List (List ℤ))) (S : ℕ → List ℕ) (N : ℕ → ℕ → List ℕ)
     (shape : Shape) (c : ℕ) (committed : List (List ℤ)) (e : Queued) (es : List Queued) (given : List (ℕ × ℕ)) →
-    ((t x q : ℕ) → is_in q (N t x) ≡ true → q ≤ c) → Fits w A R S N (view_by shape c committed (e ∷ es) given) →
-    Fits w A R S N (view_by shape (c + 1) (put_values committed (write_set e.action) (unwrap_or e.result [])) es (given_by shape.objects given e))
+    ((t x q : ℕ) → is_in q (N t x) ≡ true → q ≤ c) → QueueFits w A R S N (view_by shape c committed (e ∷ es) given) →
+    QueueFits w A R S N (view_by shape (c + 1) (put_all committed (write_set e.action) (unwrap_or e.result [])) es (given_by shape.objects given e))
 fits-first w A R S N shape c committed e es given early f = record {
   shape = f.shape;
   last = omega (arith, f.last);
   committed =
-      put_same committed (write_set e.action) (unwrap_or e.result [])
-      ∙ ap (λ world. put_all world (write_set e.action) (unwrap_or e.result [])) f.committed
+      ap (λ world. put_all world (write_set e.action) (unwrap_or e.result [])) f.committed
       ∙ ap (λ (a : Action). put_all (values_after w.values (actions_in A) R c) (write_set a) (unwrap_or e.result [])) action
       ∙ ap (λ o. put_all (values_after w.values (actions_in A) R c) (write_set (action_at (actions_in A) (suc c))) (unwrap_or o [])) here.result
       ∙ ap (values_after w.values (actions_in A) R) (sym (add-one c));
@@ -111,9 +105,9 @@ fits-first w A R S N shape c committed e es given early f = record {
       is_pair-where (λ y u. cond (is_in y (write_set e.action)) (is_in u e.marks) (is_pair y u given)) x t shape.objects (omega (arith, low, ap (λ (d : Shape). d.objects) f.shape)) small
       ∙ ap (λ b. cond (is_in x (write_set e.action)) b (is_pair x t given)) (here.marks t small)
       ∙ ap (cond (is_in x (write_set e.action)) (is_in (suc c) (S t))) (f.given x t low small)
-      ∙ ap (λ (a : Action). cond (is_in x (write_set a)) (is_in (suc c) (S t)) (gives (actions_in A) (S t) (N t x) x c)) action
-      ∙ sym (gives-next (actions_in A) (S t) (N t x) x c (early t x))
-      ∙ ap (gives (actions_in A) (S t) (N t x) x) (sym (add-one c));
+      ∙ ap (λ (a : Action). cond (is_in x (write_set a)) (is_in (suc c) (S t)) (was_given (actions_in A) (S t) (N t x) x c)) action
+      ∙ sym (was_given-next (actions_in A) (S t) (N t x) x c (early t x))
+      ∙ ap (was_given (actions_in A) (S t) (N t x) x) (sym (add-one c));
 }
   where
     first : entry_at (view_by shape c committed (e ∷ es) given) (suc c) ≡ e
@@ -130,26 +124,26 @@ fits-first w A R S N shape c committed e es given early f = record {
 
 pub fits-installed : (w : World) (A : List Authored) (R : ℕ → Option (List (List ℤ))) (S : ℕ → List ℕ) (N : ℕ → ℕ → List ℕ)
     (shape : Shape) (c : ℕ) (committed : List (List ℤ)) (es : List Queued) (given : List (ℕ × ℕ)) →
-    ((t x q : ℕ) → is_in q (N t x) ≡ true → q ≤ c) → Fits w A R S N (view_by shape c committed es given) →
-    Fits w A R S N (installed (view_by shape c committed es given))
-fits-installed w A R S N shape c committed [] given early f = subst (Fits w A R S N) (sym (installed-none (view_by shape c committed [] given) refl)) f
+    ((t x q : ℕ) → is_in q (N t x) ≡ true → q ≤ c) → QueueFits w A R S N (view_by shape c committed es given) →
+    QueueFits w A R S N (ready_installed (view_by shape c committed es given))
+fits-installed w A R S N shape c committed [] given early f = subst (QueueFits w A R S N) (sym (installed-none (view_by shape c committed [] given) refl)) f
 fits-installed w A R S N shape c committed (e ∷ es) given early f =
     go (is_some e.result) refl
-    (fits-installed w A R S N shape (c + 1) (put_values committed (write_set e.action) (unwrap_or e.result [])) es (given_by shape.objects given e)
+    (fits-installed w A R S N shape (c + 1) (put_all committed (write_set e.action) (unwrap_or e.result [])) es (given_by shape.objects given e)
     (λ t x q h. (let low : q ≤ c = early t x q h in omega arith)) (fits-first w A R S N shape c committed e es given early f))
   where
     v : QueueView
     v = view_by shape c committed (e ∷ es) given
 
-    go : (b : Bool) → is_some e.result ≡ b → Fits w A R S N (installed (first_installed v)) → Fits w A R S N (installed v)
-    go true q h = subst (Fits w A R S N) (installed-first shape c committed e es given q) h
-    go false q h = subst (Fits w A R S N) (sym (installed-none v (ap length (cond-false (is_some e.result) (e ∷ ready es) [] q)))) f
+    go : (b : Bool) → is_some e.result ≡ b → QueueFits w A R S N (ready_installed (first_installed v)) → QueueFits w A R S N (ready_installed v)
+    go true q h = subst (QueueFits w A R S N) (installed-first shape c committed e es given q) h
+    go false q h = subst (QueueFits w A R S N) (sym (installed-none v (ap length (cond-false (is_some e.result) (e ∷ ready es) [] q)))) f
 
 -- The new commit: all up to it have results, and the next position has none.
 pub installed-commit : (w : World) (A : List Authored) (R : ℕ → Option (List (List ℤ))) (S : ℕ → List ℕ) (N : ℕ → ℕ → List ℕ)
     (shape : Shape) (c : ℕ) (committed : List (List ℤ)) (es : List Queued) (given : List (ℕ × ℕ)) →
-    ((p : ℕ) → 0 < p → p ≤ c → is_some (R p) ≡ true) → Fits w A R S N (view_by shape c committed es given) →
-    let n = (installed (view_by shape c committed es given)).commit in
+    ((p : ℕ) → 0 < p → p ≤ c → is_some (R p) ≡ true) → QueueFits w A R S N (view_by shape c committed es given) →
+    let n = (ready_installed (view_by shape c committed es given)).commit in
     (c ≤ n) × ((n ≤ length A) × (((p : ℕ) → 0 < p → p ≤ n → is_some (R p) ≡ true) × (n < length A → is_some (R (suc n)) ≡ false)))
 installed-commit w A R S N shape c committed es given done f =
     (omega arith, (omega (arith, f.last, ready-most es), (passed, next)))

@@ -21,7 +21,7 @@ use Rattle.sv_queue.proofs.PairSets.{is_pair-where}
 use Rattle.sv_queue.proofs.SessionSets.{in_sessions}
 use Rattle.sv_journal.specs.History.{Authored}
 use Rattle.sv_journal.specs.Sessions.{names}
-use Rattle.sv_sequencer.specs.Fits.{actions_in, values_after, gives, IsEntry, Fits}
+use Rattle.sv_sequencer.specs.Fits.{actions_in, values_after, was_given, IsEntry, QueueFits}
 use Rattle.sv_sequencer.specs.Relays.{marked_all, given_all}
 
 pub or_false : (b : Bool) → (b || false) ≡ b
@@ -40,8 +40,8 @@ last-with_entry v p e = ap (λ n. v.commit + n) (length-set v.entries (place_of 
 -- ---- What is given
 
 -- A position above the commit gives nothing yet.
-pub gives-late : (acts : List Action) (sent named : List ℕ) (x c p : ℕ) → c < p → gives acts (sent ++ p ∷ []) named x c ≡ gives acts sent named x c
-gives-late acts sent named x c p late =
+pub was_given-late : (acts : List Action) (sent named : List ℕ) (x c p : ℕ) → c < p → was_given acts (sent ++ p ∷ []) named x c ≡ was_given acts sent named x c
+was_given-late acts sent named x c p late =
     ap (list_any T) (ap (λ ys. named ++ ys) (filter-append W sent (p ∷ [])) ∙ sym (append_assoc named (filter W sent) (filter W (p ∷ []))))
     ∙ list_any-append T (named ++ filter W sent) (filter W (p ∷ []))
     ∙ ap (λ b. list_any T (named ++ filter W sent) || b) (none (W p))
@@ -58,8 +58,8 @@ gives-late acts sent named x c p late =
     none false = refl
 
 -- What a reply at the commit names is given.
-pub gives-named : (acts : List Action) (sent named : List ℕ) (x c : ℕ) → gives acts sent (named ++ c ∷ []) x c ≡ true
-gives-named acts sent named x c =
+pub was_given-named : (acts : List Action) (sent named : List ℕ) (x c : ℕ) → was_given acts sent (named ++ c ∷ []) x c ≡ true
+was_given-named acts sent named x c =
     ap (list_any T) (append_assoc named (c ∷ []) (filter W sent))
     ∙ list_any-append T named (c ∷ filter W sent)
     ∙ or_right (list_any T named) (list_any T (c ∷ filter W sent)) (rw (le-leb (last_writer acts x (suc c)) c (last_writer-most acts x c), le-leb c c (omega arith)) refl)
@@ -80,7 +80,7 @@ values-same opening acts R Q (suc c) same =
     rw (values-same opening acts R Q c (λ p low high. same p low (omega arith)), same (suc c) (omega arith) (omega arith)) refl
 
 pub fits-same : (w : World) (A : List Authored) (R Q : ℕ → Option (List (List ℤ))) (S U : ℕ → List ℕ) (N M : ℕ → ℕ → List ℕ) (v : QueueView) →
-    ((p : ℕ) → 0 < p → R p ≡ Q p) → ((s : ℕ) → S s ≡ U s) → ((s x : ℕ) → N s x ≡ M s x) → Fits w A R S N v → Fits w A Q U M v
+    ((p : ℕ) → 0 < p → R p ≡ Q p) → ((s : ℕ) → S s ≡ U s) → ((s x : ℕ) → N s x ≡ M s x) → QueueFits w A R S N v → QueueFits w A Q U M v
 fits-same w A R Q S U N M v results sent named f = record {
   shape = f.shape;
   last = f.last;
@@ -92,8 +92,8 @@ fits-same w A R Q S U N M v results sent named f = record {
     result = e.result ∙ results p (omega arith);
     marks = λ s small. e.marks s small ∙ ap (is_in p) (sent s);
   });
-  given = λ x s low small. f.given x s low small ∙ ap (λ ks. gives (actions_in A) ks (N s x) x v.commit) (sent s)
-      ∙ ap (λ ks. gives (actions_in A) (U s) ks x v.commit) (named s x);
+  given = λ x s low small. f.given x s low small ∙ ap (λ ks. was_given (actions_in A) ks (N s x) x v.commit) (sent s)
+      ∙ ap (λ ks. was_given (actions_in A) (U s) ks x v.commit) (named s x);
 }
 
 -- ---- Marks
@@ -164,7 +164,7 @@ other-entry A R S p k s q ne e = record {
 }
 
 pub fits-mark : (w : World) (A : List Authored) (R : ℕ → Option (List (List ℤ))) (S : ℕ → List ℕ) (N : ℕ → ℕ → List ℕ) (v : QueueView) (p s : ℕ) →
-    IsUncommitted v p → Fits w A R S N v → Fits w A R (sent_also s (p ∷ []) S) N (with_mark v p s)
+    IsUncommitted v p → QueueFits w A R S N v → QueueFits w A R (sent_also s (p ∷ []) S) N (with_mark v p s)
 fits-mark w A R S N v p s is f = record {
   shape = f.shape;
   last = last-with_entry v p e ∙ f.last;
@@ -180,15 +180,15 @@ fits-mark w A R S N v p s is f = record {
     e : Queued
     e = record (entry_at v p) { marks = with_session s (entry_at v p).marks }
 
-    late : (b : Bool) (x t : ℕ) → gives (actions_in A) (S t) (N t x) x v.commit ≡ gives (actions_in A) (cond b (S t ++ p ∷ []) (S t)) (N t x) x v.commit
-    late true x t = sym (gives-late (actions_in A) (S t) (N t x) x v.commit p is.0)
+    late : (b : Bool) (x t : ℕ) → was_given (actions_in A) (S t) (N t x) x v.commit ≡ was_given (actions_in A) (cond b (S t ++ p ∷ []) (S t)) (N t x) x v.commit
+    late true x t = sym (was_given-late (actions_in A) (S t) (N t x) x v.commit p is.0)
     late false x t = refl
 
 uncommitted-marked : (v : QueueView) (p s : ℕ) (ps : List ℕ) → All (IsUncommitted v) ps → All (IsUncommitted (with_mark v p s)) ps
 uncommitted-marked v p s ps all = λ i d low. (let both = all i d low in (both.0, omega (arith, both.1, last-with_entry v p (record (entry_at v p) { marks = with_session s (entry_at v p).marks }))))
 
 pub fits-marked : (w : World) (A : List Authored) (R : ℕ → Option (List (List ℤ))) (S : ℕ → List ℕ) (N : ℕ → ℕ → List ℕ) (v : QueueView) (ps : List ℕ) (s : ℕ) →
-    All (IsUncommitted v) ps → Fits w A R S N v → Fits w A R (sent_also s ps S) N (marked_all v ps s)
+    All (IsUncommitted v) ps → QueueFits w A R S N v → QueueFits w A R (sent_also s ps S) N (marked_all v ps s)
 fits-marked w A R S N v [] s all f = fits-same w A R R S (sent_also s [] S) N N v (λ p low. refl) (sent_also-none s S) (λ t x. refl) f
 fits-marked w A R S N v (p ∷ ps) s all f =
     fits-same w A R R (sent_also s ps (sent_also s (p ∷ []) S)) (sent_also s (p ∷ ps) S) N N (marked_all (with_mark v p s) ps s)
@@ -228,7 +228,7 @@ given-all-pair v (o ∷ os) s x t low small =
     go false b c d = refl
 
 pub fits-given : (w : World) (A : List Authored) (R : ℕ → Option (List (List ℤ))) (S : ℕ → List ℕ) (N : ℕ → ℕ → List ℕ) (v : QueueView) (head : List Held) (s : ℕ) →
-    Fits w A R S N v → Fits w A R S (named_also s head v.commit N) (given_all v head s)
+    QueueFits w A R S N v → QueueFits w A R S (named_also s head v.commit N) (given_all v head s)
 fits-given w A R S N v head s f = record {
   shape = (same head v).0 ∙ f.shape;
   last = (same head v).1.0 ∙ f.last;
@@ -238,7 +238,7 @@ fits-given w A R S N v head s f = record {
       given-all-pair v head s x t (omega (arith, low, ap (λ (d : Shape). d.objects) f.shape)) small
       ∙ ap (λ b. b || (nat_eq s t && names head x)) (f.given x t low small)
       ∙ go (nat_eq s t) (names head x) x t
-      ∙ ap (gives (actions_in A) (S t) (named_also s head v.commit N t x) x) (sym (same head v).1.1.1.0);
+      ∙ ap (was_given (actions_in A) (S t) (named_also s head v.commit N t x) x) (sym (same head v).1.1.1.0);
 }
   where
     same : (hs : List Held) (u : QueueView) → ((given_all u hs s).shape ≡ u.shape) × ((last_position (given_all u hs s) ≡ last_position u)
@@ -246,8 +246,8 @@ fits-given w A R S N v head s f = record {
     same [] u = (refl, (refl, (refl, (refl, λ k. refl))))
     same (o ∷ os) u = same os (with_given u o.object.0 s)
 
-    go : (b d : Bool) (x t : ℕ) → (gives (actions_in A) (S t) (N t x) x v.commit || (b && d))
-        ≡ gives (actions_in A) (S t) (cond b (N t x ++ cond d (v.commit ∷ []) []) (N t x)) x v.commit
-    go true true x t = or_right (gives (actions_in A) (S t) (N t x) x v.commit) true refl ∙ sym (gives-named (actions_in A) (S t) (N t x) x v.commit)
-    go true false x t = or_false (gives (actions_in A) (S t) (N t x) x v.commit) ∙ ap (λ ks. gives (actions_in A) (S t) ks x v.commit) (sym (append-nil (N t x)))
-    go false d x t = or_false (gives (actions_in A) (S t) (N t x) x v.commit)
+    go : (b d : Bool) (x t : ℕ) → (was_given (actions_in A) (S t) (N t x) x v.commit || (b && d))
+        ≡ was_given (actions_in A) (S t) (cond b (N t x ++ cond d (v.commit ∷ []) []) (N t x)) x v.commit
+    go true true x t = or_right (was_given (actions_in A) (S t) (N t x) x v.commit) true refl ∙ sym (was_given-named (actions_in A) (S t) (N t x) x v.commit)
+    go true false x t = or_false (was_given (actions_in A) (S t) (N t x) x v.commit) ∙ ap (λ ks. was_given (actions_in A) (S t) ks x v.commit) (sym (append-nil (N t x)))
+    go false d x t = or_false (was_given (actions_in A) (S t) (N t x) x v.commit)

@@ -14,7 +14,7 @@ use Rattle.sv_queue.specs.declared.queued.Queued.{Queued}
 use Rattle.sv_queue.specs.Queue.{QueueView, entry_at, no_entry, with_action}
 use Rattle.sv_queue.proofs.Members.{filter-ext}
 use Rattle.sv_journal.specs.History.{Authored, authored_at}
-use Rattle.sv_sequencer.specs.Fits.{actions_in, values_after, gives, IsEntry, Fits}
+use Rattle.sv_sequencer.specs.Fits.{actions_in, values_after, was_given, IsEntry, QueueFits}
 
 abbrev pub no_author : Authored
 no_author = record { client = 0; seq = 0; action = blank }
@@ -39,9 +39,9 @@ values-append opening acts more R zero low = refl
 values-append opening acts more R (suc c) low = rw (values-append opening acts more R c (omega arith), action_at-append acts more (suc c) low) refl
 
 -- Later actions give nothing.
-pub gives-append : (acts more : List Action) (sent named : List ℕ) (x c : ℕ) → c ≤ length acts → ((p : ℕ) → is_in p sent ≡ true → p ≤ length acts) →
-    gives (acts ++ more) sent named x c ≡ gives acts sent named x c
-gives-append acts more sent named x c low within =
+pub was_given-append : (acts more : List Action) (sent named : List ℕ) (x c : ℕ) → c ≤ length acts → ((p : ℕ) → is_in p sent ≡ true → p ≤ length acts) →
+    was_given (acts ++ more) sent named x c ≡ was_given acts sent named x c
+was_given-append acts more sent named x c low within =
     ap (λ w. list_any (λ q. nat_le w q && nat_le q c) (named ++ filter (λ p. is_in x (write_set (action_at (acts ++ more) p))) sent))
     (last_writer-same (acts ++ more) acts x (suc c) (λ k a b. action_at-append acts more k (omega arith)))
     ∙ ap (λ ys. list_any (λ q. nat_le (last_writer acts x (suc c)) q && nat_le q c) (named ++ ys))
@@ -49,8 +49,8 @@ gives-append acts more sent named x c low within =
     (λ k h. ap (λ (a : Action). is_in x (write_set a)) (action_at-append acts more k (within k h))))
 
 pub fits-pushed : (w : World) (A : List Authored) (R : ℕ → Option (List (List ℤ))) (S : ℕ → List ℕ) (N : ℕ → ℕ → List ℕ) (v : QueueView)
-    (author : ClientId) (seq : ℕ) (action : Action) → R (suc (length A)) ≡ None → ((t p : ℕ) → is_in p (S t) ≡ true → p ≤ length A) → Fits w A R S N v →
-    Fits w (A ++ record { client = author.0; seq = seq; action = action } ∷ []) R S N (with_action v author seq action)
+    (author : ClientId) (seq : ℕ) (action : Action) → R (suc (length A)) ≡ None → ((t p : ℕ) → is_in p (S t) ≡ true → p ≤ length A) → QueueFits w A R S N v →
+    QueueFits w (A ++ record { client = author.0; seq = seq; action = action } ∷ []) R S N (with_action v author seq action)
 fits-pushed w A R S N v author seq action none within f = record {
   shape = f.shape;
   last = omega (arith, length-append v.entries (e ∷ []), length-append A (a ∷ []), f.last);
@@ -59,8 +59,8 @@ fits-pushed w A R S N v author seq action none within f = record {
       ∙ ap (λ acts. values_after w.values acts R v.commit) (sym (map_push (λ (b : Authored). b.action) A a));
   entries = entries;
   given = λ x t low small. f.given x t low small
-      ∙ sym (gives-append (actions_in A) (action ∷ []) (S t) (N t x) x v.commit commit_low (λ p h. omega (arith, within t p h, length-actions A)))
-      ∙ ap (λ acts. gives acts (S t) (N t x) x v.commit) (sym (map_push (λ (b : Authored). b.action) A a));
+      ∙ sym (was_given-append (actions_in A) (action ∷ []) (S t) (N t x) x v.commit commit_low (λ p h. omega (arith, within t p h, length-actions A)))
+      ∙ ap (λ acts. was_given acts (S t) (N t x) x v.commit) (sym (map_push (λ (b : Authored). b.action) A a));
 }
   where
     a : Authored

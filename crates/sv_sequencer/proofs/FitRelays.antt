@@ -6,31 +6,32 @@ use Rattle.std.proofs.Math.ListN.{get_or-map}
 use Rattle.sv_world.specs.declared.action.Action.{Action}
 use Rattle.sv_world.specs.declared.world.Shape.{Shape}
 use Rattle.sv_world.specs.declared.world.World.{World}
-use Rattle.sv_world.specs.Control.{is_in, below, blank, action_at, needed_for, head_for, influence, influence_distance, distance, greatest}
+use Rattle.sv_world.specs.Control.{is_in, below, blank, action_at, needed_for, head_for, influence, influence_distance, distance}
+use Rattle.sv_world.specs.Trees.{greatest}
 use Rattle.sv_world.proofs.Members.{is_in-head, is_in-tail}
 use Rattle.sv_world.proofs.Needs.{needed-agree}
 use Rattle.sv_world.proofs.Bases.{head_for-agree, below-is_in}
 use Rattle.sv_world.proofs.Influences.{influence-agree, influence-bounds}
 use Rattle.sv_queue.specs.declared.queued.Queued.{Queued}
 use Rattle.sv_queue.specs.Pairs.{is_pair}
-use Rattle.sv_queue.specs.Queue.{QueueView, entry_at, no_entry, actions_of, queue_actions, sent_positions, given_objects}
+use Rattle.sv_queue.specs.Queue.{QueueView, entry_at, no_entry, entry_actions, queue_actions, sent_positions, given_objects}
 use Rattle.sv_queue.proofs.Entries.{in_marked}
 use Rattle.sv_queue.proofs.Members.{filter-ext}
 use Rattle.sv_influence.specs.Lacking.{lacking, base_objects}
 use Rattle.sv_influence.proofs.Looks.{queue_length}
 use Rattle.sv_journal.specs.History.{Authored}
-use Rattle.sv_sequencer.specs.Fits.{actions_in, gives, Fits}
+use Rattle.sv_sequencer.specs.Fits.{actions_in, was_given, QueueFits}
 use Rattle.sv_sequencer.proofs.FitPush.{authored-action, length-actions}
 
 pub queue-action : (v : QueueView) (p : ℕ) → v.commit < p → action_at (queue_actions v) p ≡ (entry_at v p).action
 queue-action v zero low = absurd (omega arith)
 queue-action v (suc k) low =
-    get_or-append_right (replicate v.commit blank) (actions_of v.entries) v.commit k blank (length-replicate v.commit blank) (omega arith)
+    get_or-append_right (replicate v.commit blank) (entry_actions v.entries) v.commit k blank (length-replicate v.commit blank) (omega arith)
     ∙ get_or-map (λ (e : Queued). e.action) v.entries (k - v.commit) no_entry
     ∙ ap (λ n. (get_or v.entries n no_entry).action) (let e : k - v.commit ≡ suc k - v.commit - 1 = omega arith in e)
 
 module _ (w : World) (A : List Authored) (R : ℕ → Option (List (List ℤ))) (S : ℕ → List ℕ) (N : ℕ → ℕ → List ℕ) (v : QueueView)
-    (f : Fits w A R S N v) (within : (t p : ℕ) → is_in p (S t) ≡ true → p ≤ length A) where
+    (f : QueueFits w A R S N v) (within : (t p : ℕ) → is_in p (S t) ≡ true → p ≤ length A) where
   pub action-is : (k : ℕ) → v.commit < k → k ≤ length A → action_at (queue_actions v) k ≡ action_at (actions_in A) k
   action-is k low high = queue-action v k low ∙ (f.entries k low high).action ∙ authored-action A k
 
@@ -58,10 +59,10 @@ module _ (w : World) (A : List Authored) (R : ℕ → Option (List (List ℤ))) 
       (λ k a b. action-is k a (omega arith)) (λ k a. sent-is s k small a)
       ∙ ap (λ (d : Shape). head_for d.objects (actions_in A) v.commit (S s) given p) f.shape
 
-  pub given-are : (s : ℕ) → s < 64 → given_objects v s ≡ filter (λ x. gives (actions_in A) (S s) (N s x) x v.commit) (below w.shape.objects)
+  pub given-are : (s : ℕ) → s < 64 → given_objects v s ≡ filter (λ x. was_given (actions_in A) (S s) (N s x) x v.commit) (below w.shape.objects)
   given-are s small =
       ap (λ (d : Shape). filter (λ x. is_pair x s v.given) (below d.objects)) f.shape
-      ∙ filter-ext (λ x. is_pair x s v.given) (λ x. gives (actions_in A) (S s) (N s x) x v.commit) (below w.shape.objects)
+      ∙ filter-ext (λ x. is_pair x s v.given) (λ x. was_given (actions_in A) (S s) (N s x) x v.commit) (below w.shape.objects)
       (λ x h. f.given x s (below-is_in w.shape.objects x h) small)
 
   same_length : length (queue_actions v) ≡ length (actions_in A)

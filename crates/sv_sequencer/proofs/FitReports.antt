@@ -8,7 +8,7 @@ use Rattle.sv_wire.specs.declared.message.Done1.{Done1}
 use Rattle.sv_queue.specs.declared.queued.Queued.{Queued}
 use Rattle.sv_queue.specs.Queue.{QueueView, last_position, entry_at, with_result}
 use Rattle.sv_journal.specs.History.{Authored, either, reported}
-use Rattle.sv_sequencer.specs.Fits.{actions_in, IsEntry, Fits}
+use Rattle.sv_sequencer.specs.Fits.{actions_in, IsEntry, QueueFits}
 use Rattle.sv_sequencer.specs.Relays.{with_report, with_reports, CanReport}
 use Rattle.sv_sequencer.proofs.FitMarks.{entry-same, entry-other, last-with_entry, fits-same, values-same}
 
@@ -42,17 +42,17 @@ kept-result R d known p low = go (nat_eq d.pos p) refl
     go false e = sym (either-none (R p))
 
 pub fits-report : (w : World) (A : List Authored) (R : ℕ → Option (List (List ℤ))) (S : ℕ → List ℕ) (N : ℕ → ℕ → List ℕ) (v : QueueView) (d : Done1) →
-    ((p : ℕ) → 0 < p → p ≤ v.commit → is_some (R p) ≡ true) → d.pos ≤ last_position v → Fits w A R S N v →
-    Fits w A (result_also d R) S N (with_report v d)
+    ((p : ℕ) → 0 < p → p ≤ v.commit → is_some (R p) ≡ true) → d.pos ≤ last_position v → QueueFits w A R S N v →
+    QueueFits w A (result_also d R) S N (with_report v d)
 fits-report w A R S N v d done high f = go (nat_lt v.commit d.pos) refl (is_none (entry_at v d.pos).result) refl
   where
-    same : (0 < d.pos → is_some (R d.pos) ≡ true) → Fits w A (result_also d R) S N v
+    same : (0 < d.pos → is_some (R d.pos) ≡ true) → QueueFits w A (result_also d R) S N v
     same known = fits-same w A R (result_also d R) S S N N v (kept-result R d known) (λ s. refl) (λ s x. refl) f
 
     e : Queued
     e = record (entry_at v d.pos) { result = Some d.values }
 
-    taken : v.commit < d.pos → (entry_at v d.pos).result ≡ None → Fits w A (result_also d R) S N (with_result v d.pos d.values)
+    taken : v.commit < d.pos → (entry_at v d.pos).result ≡ None → QueueFits w A (result_also d R) S N (with_result v d.pos d.values)
     taken low none = record {
       shape = f.shape;
       last = last-with_entry v d.pos e ∙ f.last;
@@ -89,7 +89,7 @@ fits-report w A R S N v d done high f = go (nat_lt v.commit d.pos) refl (is_none
         }
 
     go : (b : Bool) → nat_lt v.commit d.pos ≡ b → (n : Bool) → is_none (entry_at v d.pos).result ≡ n →
-        Fits w A (result_also d R) S N (cond (b && n) (with_result v d.pos d.values) v)
+        QueueFits w A (result_also d R) S N (cond (b && n) (with_result v d.pos d.values) v)
     go true e1 true e2 = taken (ltb-true v.commit d.pos e1) (is_none_is (entry_at v d.pos).result e2)
     go true e1 false e2 = same (λ some. subst (λ o. is_some o ≡ true) (f.entries d.pos (ltb-true v.commit d.pos e1) (omega (arith, high, f.last))).result
         (not_none (entry_at v d.pos).result e2))
@@ -154,8 +154,8 @@ also-some : (R : ℕ → Option (List (List ℤ))) (d : Done1) (p : ℕ) → is_
 also-some R d p h = rw (either-some (R p) (cond (nat_eq d.pos p) (Some d.values) None) h) h
 
 pub fits-reports : (w : World) (A : List Authored) (R : ℕ → Option (List (List ℤ))) (S : ℕ → List ℕ) (N : ℕ → ℕ → List ℕ) (v : QueueView) (ds : List Done1) →
-    ((p : ℕ) → 0 < p → p ≤ v.commit → is_some (R p) ≡ true) → All (λ (d : Done1). d.pos ≤ last_position v) ds → Fits w A R S N v →
-    Fits w A (λ p. either (R p) (reported p ds)) S N (with_reports v ds)
+    ((p : ℕ) → 0 < p → p ≤ v.commit → is_some (R p) ≡ true) → All (λ (d : Done1). d.pos ≤ last_position v) ds → QueueFits w A R S N v →
+    QueueFits w A (λ p. either (R p) (reported p ds)) S N (with_reports v ds)
 fits-reports w A R S N v [] done all f = fits-same w A R (λ p. either (R p) None) S S N N v (λ p low. sym (either-none (R p))) (λ s. refl) (λ s x. refl) f
 fits-reports w A R S N v (d ∷ ds) done all f =
     fits-same w A (λ p. either (result_also d R p) (reported p ds)) (λ p. either (R p) (reported p (d ∷ ds))) S S N N (with_reports (with_report v d) ds)

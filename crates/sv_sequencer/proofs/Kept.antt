@@ -9,10 +9,10 @@ use Rattle.sv_journal.specs.History.{Outcome, is_client, new_action, client_of, 
 use Rattle.sv_journal.specs.Sessions.{outcome_at, kept_count, kept_outcome}
 use Rattle.sv_sequencer.specs.declared.clients.ClientRow.{ClientRow}
 use Rattle.sv_sequencer.specs.Agreement.{IsClientRow}
-use Rattle.sv_sequencer.specs.Clients.{kept_of, outcome_value}
+use Rattle.sv_sequencer.specs.Clients.{kept_among, outcome_value}
 use Rattle.sv_sequencer.specs.Decisions.{IsOld}
 
-pub kept-is : (h : List Entry) (k seq : ℕ) (row : ClientRow) → IsClientRow h k row → kept_of row.outcomes seq ≡ kept_outcome h k seq
+pub kept-is : (h : List Entry) (k seq : ℕ) (row : ClientRow) → IsClientRow h k row → kept_among row.outcomes seq ≡ kept_outcome h k seq
 kept-is h k seq row is =
     ap (λ n. cond (nat_le (suc n) (seq + kept_count)) (outcome_at (map outcome_value row.outcomes) seq) None)
     (sym (length-map row.outcomes outcome_value) ∙ ap length is.outcomes)

@@ -7,7 +7,7 @@ use Rattle.sv_journal.specs.Answer.{Rules}
 use Rattle.sv_sequencer.specs.declared.clients.Clients.{Clients}
 use Rattle.sv_sequencer.specs.declared.sessions.SessionRow.{SessionRow}
 use Rattle.sv_sequencer.specs.Agreement.{Agrees, IsClientRow, all_left, ends_owed}
-use Rattle.sv_sequencer.specs.Clients.{client_row, no_client}
+use Rattle.sv_sequencer.specs.Clients.{client_row, no_client_row}
 use Rattle.sv_sequencer.specs.Rows.{no_session, IsSessionRow}
 
 all_left-opening : (n : ℕ) → all_left [] n ≡ 1024 * n
@@ -21,11 +21,11 @@ ends_owed-opening (suc n) = omega (arith, ends_owed-opening n)
 no_session-is : (s : ℕ) → IsSessionRow [] s no_session
 no_session-is s = record { client = refl; over = refl; left = refl; ended = refl }
 
-no_client-is : (k : ℕ) → IsClientRow [] k no_client
-no_client-is k = record { life = refl; outcomes = refl }
+no_client_row-is : (k : ℕ) → IsClientRow [] k no_client_row
+no_client_row-is k = record { life = refl; outcomes = refl }
 
 pub agree-opening : (r : Rules) (rows : List SessionRow) (clients : Clients) (owed : ℕ) → r.sessions ≤ 64 → rows ≡ replicate r.sessions no_session →
-    ((k : ℕ) → client_row clients k ≡ no_client) → owed ≡ r.sessions → Agrees r [] (opening_queue r.world) rows clients owed
+    ((k : ℕ) → client_row clients k ≡ no_client_row) → owed ≡ r.sessions → Agrees r [] (opening_queue r.world) rows clients owed
 agree-opening r rows clients owed few are none owes = record {
   sound = record {
     results = λ p high. refl;
@@ -46,6 +46,6 @@ agree-opening r rows clients owed few are none owes = record {
   };
   commit = refl;
   session_rows = λ s low. subst (IsSessionRow [] s) (sym (ap (λ xs. get_or xs s no_session) are ∙ get_or-replicate r.sessions s no_session no_session low)) (no_session-is s);
-  client_rows = λ k. subst (IsClientRow [] k) (sym (none k)) (no_client-is k);
+  client_rows = λ k. subst (IsClientRow [] k) (sym (none k)) (no_client_row-is k);
   ends = owes ∙ sym (ends_owed-opening r.sessions);
 }

@@ -1,13 +1,18 @@
 -- Replies that change nothing but their own session.
-use Rattle.std.proofs.Common.{ℕ, List, refl}
+use Rattle.std.proofs.Common.{◌≡◌, ℕ, true, List, refl, sym, true≢false}
 use Rattle.sv_wire.specs.declared.message.Request.{Request}
+use Rattle.sv_wire.specs.declared.refusal.Refusal.{Refusal}
+use Rattle.sv_wire.specs.Refusals.{code_of}
 use Rattle.sv_journal.specs.declared.entry.Entry.{Entry}
 use Rattle.sv_journal.specs.declared.entry.Logged.TheVariants as logged
-use Rattle.sv_sequencer.specs.Decisions.{IsOld, IsQuiet}
+use Rattle.sv_journal.specs.Answer.{Rules}
+use Rattle.sv_sequencer.specs.declared.decision.Decision.{Decision}
+use Rattle.sv_sequencer.specs.declared.decision.Decision.TheVariants as decisions
+use Rattle.sv_sequencer.specs.Decisions.{reply_by, changes_nothing, IsOld, Holds, IsQuiet}
 use Rattle.sv_sequencer.specs.Step.{entry_of}
 use Rattle.sv_sequencer.proofs.HistorySteps.{outcomes-quiet, outcomes-old}
 
-pub quiet-refused : (h : List Entry) (s : ℕ) (request : Request) (code detail : ℕ) → IsQuiet h s request (logged.Refused code detail)
+quiet-refused : (h : List Entry) (s : ℕ) (request : Request) (code detail : ℕ) → IsQuiet h s request (logged.Refused code detail)
 quiet-refused h s request code detail = record {
   relay = refl;
   noted = refl;
@@ -17,7 +22,7 @@ quiet-refused h s request code detail = record {
   outcomes = λ k. outcomes-quiet (entry_of s request (logged.Refused code detail)) h k refl;
 }
 
-pub quiet-settled : (h : List Entry) (s : ℕ) (request : Request) (seq pos : ℕ) → IsQuiet h s request (logged.Settled seq pos)
+quiet-settled : (h : List Entry) (s : ℕ) (request : Request) (seq pos : ℕ) → IsQuiet h s request (logged.Settled seq pos)
 quiet-settled h s request seq pos = record {
   relay = refl;
   noted = refl;
@@ -27,7 +32,7 @@ quiet-settled h s request seq pos = record {
   outcomes = λ k. outcomes-quiet (entry_of s request (logged.Settled seq pos)) h k refl;
 }
 
-pub quiet-idle : (h : List Entry) (s : ℕ) (request : Request) → IsQuiet h s request logged.Idle
+quiet-idle : (h : List Entry) (s : ℕ) (request : Request) → IsQuiet h s request logged.Idle
 quiet-idle h s request = record {
   relay = refl;
   noted = refl;
@@ -47,7 +52,7 @@ quiet-bye h s request = record {
   outcomes = λ k. outcomes-quiet (entry_of s request logged.Bye) h k refl;
 }
 
-pub quiet-dropped : (h : List Entry) (s : ℕ) (request : Request) (seq chain far : ℕ) → IsOld h s request → IsQuiet h s request (logged.Dropped seq chain far)
+quiet-dropped : (h : List Entry) (s : ℕ) (request : Request) (seq chain far : ℕ) → IsOld h s request → IsQuiet h s request (logged.Dropped seq chain far)
 quiet-dropped h s request seq chain far old = record {
   relay = refl;
   noted = refl;
@@ -56,3 +61,45 @@ quiet-dropped h s request seq chain far old = record {
   named = λ x. refl;
   outcomes = λ k. outcomes-old (entry_of s request (logged.Dropped seq chain far)) h k old;
 }
+
+-- The reply to what changes nothing is such a one.
+pub quiet-decided : (r : Rules) (h : List Entry) (s : ℕ) (request : Request) (d : Decision) → changes_nothing d ≡ true → Holds r h s request d →
+    IsQuiet h s request (reply_by r h s request d)
+quiet-decided r h s request (decisions.Refuse refusal detail) plain holds = quiet-refused h s request (code_of refusal) detail
+quiet-decided r h s request (decisions.Repeat seq chain far) plain holds = quiet-dropped h s request seq chain far holds
+quiet-decided r h s request (decisions.Settle seq pos) plain holds = quiet-settled h s request seq pos
+quiet-decided r h s request decisions.Idle plain holds = quiet-idle h s request
+quiet-decided r h s request decisions.Leave plain holds = quiet-bye h s request
+quiet-decided r h s request (decisions.Welcome client life) plain holds = absurd (true≢false (sym plain))
+quiet-decided r h s request (decisions.Drop client seq chain far) plain holds = absurd (true≢false (sym plain))
+quiet-decided r h s request (decisions.Relay seq pos) plain holds = absurd (true≢false (sym plain))
+quiet-decided r h s request (decisions.Accept client seq) plain holds = absurd (true≢false (sym plain))
+quiet-decided r h s request decisions.Note plain holds = absurd (true≢false (sym plain))
+
+-- What is none of the decisions that change something changes nothing.
+pub nothing-changes : (d : Decision) → ((client life : ℕ) → d ≡ decisions.Welcome client life → ⊥) → ((client seq chain far : ℕ) → d ≡ decisions.Drop client seq chain far → ⊥) →
+    ((seq pos : ℕ) → d ≡ decisions.Relay seq pos → ⊥) → ((client seq : ℕ) → d ≡ decisions.Accept client seq → ⊥) → (d ≡ decisions.Note → ⊥) → changes_nothing d ≡ true
+nothing-changes (decisions.Welcome client life) welcome drop relay accept note = absurd (welcome client life refl)
+nothing-changes (decisions.Drop client seq chain far) welcome drop relay accept note = absurd (drop client seq chain far refl)
+nothing-changes (decisions.Relay seq pos) welcome drop relay accept note = absurd (relay seq pos refl)
+nothing-changes (decisions.Accept client seq) welcome drop relay accept note = absurd (accept client seq refl)
+nothing-changes decisions.Note welcome drop relay accept note = absurd (note refl)
+nothing-changes (decisions.Refuse refusal detail) welcome drop relay accept note = refl
+nothing-changes (decisions.Repeat seq chain far) welcome drop relay accept note = refl
+nothing-changes (decisions.Settle seq pos) welcome drop relay accept note = refl
+nothing-changes decisions.Idle welcome drop relay accept note = refl
+nothing-changes decisions.Leave welcome drop relay accept note = refl
+
+-- What changes nothing is one of those that do so.
+pub some-plain : (d : Decision) → changes_nothing d ≡ true → ((refusal : Refusal) (detail : ℕ) → d ≡ decisions.Refuse refusal detail → ⊥) →
+    ((seq chain far : ℕ) → d ≡ decisions.Repeat seq chain far → ⊥) → ((seq pos : ℕ) → d ≡ decisions.Settle seq pos → ⊥) → (d ≡ decisions.Idle → ⊥) → (d ≡ decisions.Leave → ⊥) → ⊥
+some-plain (decisions.Refuse refusal detail) plain refuse repeat settle idle leave = refuse refusal detail refl
+some-plain (decisions.Repeat seq chain far) plain refuse repeat settle idle leave = repeat seq chain far refl
+some-plain (decisions.Settle seq pos) plain refuse repeat settle idle leave = settle seq pos refl
+some-plain decisions.Idle plain refuse repeat settle idle leave = idle refl
+some-plain decisions.Leave plain refuse repeat settle idle leave = leave refl
+some-plain (decisions.Welcome client life) plain refuse repeat settle idle leave = true≢false (sym plain)
+some-plain (decisions.Drop client seq chain far) plain refuse repeat settle idle leave = true≢false (sym plain)
+some-plain (decisions.Relay seq pos) plain refuse repeat settle idle leave = true≢false (sym plain)
+some-plain (decisions.Accept client seq) plain refuse repeat settle idle leave = true≢false (sym plain)
+some-plain decisions.Note plain refuse repeat settle idle leave = true≢false (sym plain)

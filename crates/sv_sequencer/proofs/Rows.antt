@@ -19,7 +19,7 @@ welcomes-none e None h = refl
 welcomes-none e (Some k) h = rw h refl
 
 row-stays : (e : Entry) (s : ℕ) (r : SessionRow) → is_welcome e.reply ≡ false → nat_eq e.session s ≡ false → session_after e s r ≡ r
-row-stays e s r h q = rw (q, welcomes-none e r.client h, either-none r.client, or_false r.over, or_false r.ended) refl
+row-stays e s r h q = rw (q, welcomes-none e r.client h, either-none r.client, or_false r.over) refl
 
 pub other_row_stays : (asker : ℕ) (request : Request) (reply : Logged) (s : ℕ) (r : SessionRow) → is_welcome reply ≡ false → nat_eq asker s ≡ false →
     session_after (entry_of asker request reply) s r ≡ r

@@ -10,10 +10,9 @@ use Rattle.sv_journal.specs.declared.entry.Entry.{Entry}
 use Rattle.sv_journal.specs.declared.entry.Logged.{Logged}
 use Rattle.sv_journal.specs.declared.entry.Logged.TheVariants as logged
 use Rattle.sv_journal.specs.History.{Authored, accepted, item_at, full_reply}
-use Rattle.sv_journal.specs.Sessions.{is_end}
+use Rattle.sv_journal.specs.Sessions.{is_end, is_ended}
 use Rattle.sv_journal.specs.Answer.{reply_to}
 use Rattle.sv_lock.specs.Histories.{entries_of}
-use Rattle.sv_sequencer.specs.Rows.{is_ended}
 use Rattle.sv_sequencer.specs.Step.{SequencerView, history, entry_of, Answered}
 use Rattle.sv_sequencer.specs.Shared.{logged_of, IsFullReply, IsWhole}
 
@@ -68,11 +67,15 @@ no-parts : (a b : Bool) → (a || b) ≡ false → (a ≡ false) × (b ≡ false
 no-parts true b is = absurd (both_ways false refl (sym is))
 no-parts false b is = (refl, is)
 
+both-none : (a b : Bool) → a ≡ false → b ≡ false → (a || b) ≡ false
+both-none true b p q = p
+both-none false b p q = q
+
 none-after : (h : List Entry) (e : Entry) (s : ℕ) → is_ended h s ≡ false → ((e.session == s) && is_end e.request) ≡ false → is_ended (h ++ e ∷ []) s ≡ false
-none-after [] e s none quiet = quiet
+none-after [] e s none quiet = both-none ((e.session == s) && is_end e.request) false quiet refl
 none-after (x ∷ h) e s none quiet =
-    let parts = no-parts (is_ended h s) ((x.session == s) && is_end x.request) none in
-    rw (none-after h e s parts.0 quiet, parts.1) refl
+    let parts = no-parts ((x.session == s) && is_end x.request) (is_ended h s) none in
+    both-none ((x.session == s) && is_end x.request) (is_ended (h ++ e ∷ []) s) parts.0 (none-after h e s parts.1 quiet)
 
 kept-parts : (b : Bool) (e : Entry) (es : List Entry) → All IsNoEnd (if b then e ∷ es else es) → ((b && is_end e.request) ≡ false) × All IsNoEnd es
 kept-parts true e es all = (All-head IsNoEnd e es all, All-tail IsNoEnd e es all)

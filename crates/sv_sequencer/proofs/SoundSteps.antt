@@ -1,16 +1,16 @@
 -- What holds of each history that a core keeps, entry by entry.
 use Rattle.std.proofs.Common.{◌≡◌, ℕ, zero, suc, ◌+◌, ◌-◌, ◌<◌, ◌≤◌, Bool, true, false, ◌&&◌, ◌||◌, not, cond, nat_eq, inl, inr, List, ◌∷◌, ◌++◌, length, All, Some, None, slice_get, refl, ◌∙◌, ap, subst, arith}
-use Rattle.std.proofs.lemmas.Bool.{cases_eq, cases_Bool, eq-eqb, ne_eqb, cond_both, or_right}
+use Rattle.std.proofs.lemmas.Bool.{cases_eq, cases_Bool, eq-eqb, ne_eqb, cond_both}
 use Rattle.sv_world.specs.Control.{is_in}
+use Rattle.sv_world.specs.Limits.{most_requests}
 use Rattle.sv_world.proofs.Members.{is_in-append_cases}
 use Rattle.sv_journal.specs.declared.entry.Entry.{Entry}
 use Rattle.sv_journal.specs.History.{Accepted, is_noted, reports, either, outcomes_of, accepted, result_at, commit_of}
-use Rattle.sv_journal.specs.Sessions.{is_end, asked_in, positions_in, named_in, sent_to, named_to}
-use Rattle.sv_journal.specs.Answer.{Rules, most_requests}
+use Rattle.sv_journal.specs.Sessions.{is_end, asked_in, positions_in, named_in, sent_to, named_to, is_ended}
+use Rattle.sv_journal.specs.Answer.{Rules}
 use Rattle.sv_sequencer.specs.declared.sessions.SessionRow.{SessionRow}
-use Rattle.sv_sequencer.specs.Agreement.{IsSound, all_left, ends_owed}
-use Rattle.sv_sequencer.specs.Rows.{is_ended, requests_left, session_after, IsSessionRow}
-use Rattle.sv_sequencer.proofs.FitMarks.{or_false}
+use Rattle.sv_sequencer.specs.Agreement.{IsSoundHistory, all_left, ends_owed}
+use Rattle.sv_sequencer.specs.Rows.{requests_left, session_after, IsSessionRow}
 
 -- ---- Rows
 
@@ -52,10 +52,9 @@ all_left-takes e h (suc n) low more early = elim (cases_eq e.session n) [
 ended-same : (e : Entry) (h : List Entry) (s : ℕ) → is_end e.request ≡ false → is_ended (e ∷ h) s ≡ is_ended h s
 ended-same e h s more = rw more (go (is_ended h s) (nat_eq e.session s))
   where
-    go : (a b : Bool) → (a || (b && false)) ≡ a
-    go true b = refl
-    go false true = refl
-    go false false = refl
+    go : (a b : Bool) → ((b && false) || a) ≡ a
+    go a true = refl
+    go a false = refl
 
 pub owed-same : (e : Entry) (h : List Entry) (n : ℕ) → is_end e.request ≡ false → ends_owed (e ∷ h) n ≡ ends_owed h n
 owed-same e h zero more = refl
@@ -65,21 +64,17 @@ pub owed-end : (e : Entry) (h : List Entry) (n : ℕ) → is_end e.request ≡ t
 owed-end e h zero ends first low = absurd (omega arith)
 owed-end e h (suc n) ends first low = elim (cases_eq e.session n) [
   | inl same ↦ (let before = owed-before e h n ends (omega arith) in
-      let now : is_ended (e ∷ h) n ≡ true = rw (eq-eqb e.session n same, ends) (or_right (is_ended h n) true refl) in
+      let now : is_ended (e ∷ h) n ≡ true = rw (eq-eqb e.session n same, ends) refl in
       let old : is_ended h n ≡ false = subst (λ m. is_ended h m ≡ false) same first in
       rw (before, now, old) (omega arith))
   | inr ne ↦ (let before = owed-end e h n ends first (omega arith) in
-      let same' : is_ended (e ∷ h) n ≡ is_ended h n = rw (ne_eqb e.session n ne) (or_false (is_ended h n)) in
+      let same' : is_ended (e ∷ h) n ≡ is_ended h n = rw (ne_eqb e.session n ne) refl in
       rw same' (omega arith))
 ]
   where
     owed-before : (e : Entry) (h : List Entry) (n : ℕ) → is_end e.request ≡ true → n ≤ e.session → ends_owed (e ∷ h) n ≡ ends_owed h n
     owed-before e h zero ends high = refl
-    owed-before e h (suc n) ends high = rw (owed-before e h n ends (omega arith), ne_eqb e.session n (λ q. omega arith)) (ap (λ b. ends_owed h n + cond b 0 1) (or_nothing (is_ended h n)))
-      where
-        or_nothing : (b : Bool) → (b || false) ≡ b
-        or_nothing true = refl
-        or_nothing false = refl
+    owed-before e h (suc n) ends high = rw (owed-before e h n ends (omega arith), ne_eqb e.session n (λ q. omega arith)) refl
 
 -- ---- Sound histories
 
@@ -96,7 +91,7 @@ pub record IsSoundStep (r : Rules) (h : List Entry) (e : Entry) (g : ℕ) : Type
   pub named : (x q : ℕ) → is_in q (named_in e.reply x) ≡ true → q ≤ commit_of (e ∷ h)
   pub outcomes : (k n p : ℕ) → slice_get (outcomes_of (e ∷ h) k) n ≡ Some (Accepted p) → p ≤ length (accepted (e ∷ h))
 
-pub sound-next : (r : Rules) (h : List Entry) (e : Entry) (g : ℕ) → IsSoundStep r h e g → IsSound r h → IsSound r (e ∷ h)
+pub sound-next : (r : Rules) (h : List Entry) (e : Entry) (g : ℕ) → IsSoundStep r h e g → IsSoundHistory r h → IsSoundHistory r (e ∷ h)
 sound-next r h e g step sound = record {
   results = λ p high. result p (omega (arith, high, step.grows));
   sent = λ s p m. sent s p m;

@@ -1,17 +1,18 @@
 -- What a core's fields say of a history.
 use Rattle.std.specs.Prelude.{◌≡◌, ℕ, zero, suc, ◌+◌, ◌*◌, ◌<◌, ◌≤◌, true, Some, None, List, map, length, All, slice_get, slice_index_or, if◌then◌else◌}
 use Rattle.sv_world.specs.Control.{is_in}
+use Rattle.sv_world.specs.Limits.{most_requests, most_sessions}
 use Rattle.sv_queue.specs.Queue.{QueueView}
 use Rattle.sv_journal.specs.declared.entry.Entry.{Entry}
 use Rattle.sv_journal.specs.History.{Accepted, outcomes_of, accepted, result_at, commit_of}
-use Rattle.sv_journal.specs.Sessions.{life_of, sent_to, named_to}
-use Rattle.sv_journal.specs.Answer.{Rules, most_requests}
+use Rattle.sv_journal.specs.Sessions.{life_of, sent_to, named_to, is_ended}
+use Rattle.sv_journal.specs.Answer.{Rules}
 use Rattle.sv_sequencer.specs.declared.clients.ClientRow.{ClientRow}
 use Rattle.sv_sequencer.specs.declared.clients.Clients.{Clients}
 use Rattle.sv_sequencer.specs.declared.sessions.SessionRow.{SessionRow}
 use Rattle.sv_sequencer.specs.Clients.{client_row, outcome_value}
-use Rattle.sv_sequencer.specs.Fits.{Fits}
-use Rattle.sv_sequencer.specs.Rows.{no_session, IsSessionRow, is_ended, requests_left}
+use Rattle.sv_sequencer.specs.Fits.{QueueFits}
+use Rattle.sv_sequencer.specs.Rows.{no_session, IsSessionRow, requests_left}
 
 -- The row says of a client what the history says.
 pub record IsClientRow (h : List Entry) (k : ℕ) (r : ClientRow) : Type 0 where
@@ -29,7 +30,7 @@ ends_owed h zero = 0
 ends_owed h (suc n) = ends_owed h n + (if is_ended h n then 0 else 1)
 
 -- What holds of each history that a core keeps.
-pub record IsSound (r : Rules) (h : List Entry) : Type 0 where
+pub record IsSoundHistory (r : Rules) (h : List Entry) : Type 0 where
   pub results : (p : ℕ) → length (accepted h) < p → result_at h p ≡ None
   pub sent : (s p : ℕ) → is_in p (sent_to h s) ≡ true → p ≤ length (accepted h)
   pub named : (s x q : ℕ) → is_in q (named_to h s x) ≡ true → q ≤ commit_of h
@@ -40,9 +41,9 @@ pub record IsSound (r : Rules) (h : List Entry) : Type 0 where
 
 -- The queue, the rows of sessions and clients, and the number of Ends to come are those of a history.
 pub record Agrees (r : Rules) (h : List Entry) (v : QueueView) (rows : List SessionRow) (clients : Clients) (owed : ℕ) : Type 0 where
-  pub sound : IsSound r h
-  pub few_sessions : r.sessions ≤ 64
-  pub fits : Fits r.world (accepted h) (result_at h) (sent_to h) (named_to h) v
+  pub sound : IsSoundHistory r h
+  pub few_sessions : r.sessions ≤ most_sessions
+  pub fits : QueueFits r.world (accepted h) (result_at h) (sent_to h) (named_to h) v
   pub commit : v.commit ≡ commit_of h
   pub session_rows : (s : ℕ) → s < r.sessions → IsSessionRow h s (slice_index_or rows s no_session)
   pub client_rows : (k : ℕ) → IsClientRow h k (client_row clients k)

@@ -12,13 +12,13 @@ abbrev pub outcome_value : OutcomeRow → Outcome
 outcome_value (rows.Accepted p) = Accepted p
 outcome_value (rows.Dropped chain far) = Dropped chain far
 
-abbrev pub no_client : ClientRow
-no_client = record { life = 0; outcomes = [] }
+abbrev pub no_client_row : ClientRow
+no_client_row = record { life = 0; outcomes = [] }
 
 -- The row of a client, that of one that never joined where there is none.
 abbrev pub client_row : Clients → ℕ → ClientRow
-client_row clients k = unwrap_or (get nat_eq clients.rows k) no_client
+client_row clients k = unwrap_or (get nat_eq clients.rows k) no_client_row
 
 -- Of outcomes in order, that of a sequence number, where it is one of the last that are kept.
-abbrev pub kept_of : List OutcomeRow → ℕ → Option Outcome
-kept_of outcomes seq = if nat_le (suc (length outcomes)) (seq + kept_count) then outcome_at (map outcome_value outcomes) seq else None
+abbrev pub kept_among : List OutcomeRow → ℕ → Option Outcome
+kept_among outcomes seq = if nat_le (suc (length outcomes)) (seq + kept_count) then outcome_at (map outcome_value outcomes) seq else None

@@ -14,8 +14,8 @@ use Rattle.sv_sequencer.specs.Decisions.{reply_by}
 use Rattle.sv_sequencer.specs.Step.{entry_of}
 
 -- What a core was opened with.
-abbrev pub rules_of : Core → Rules
-rules_of core = record { world = core.opening; bound = core.bound; reach = core.reach; sessions = length core.sessions.items }
+abbrev pub core_rules : Core → Rules
+core_rules core = record { world = core.opening; bound = core.bound; reach = core.reach; sessions = length core.sessions.items }
 
 -- How many Ends are to come.
 abbrev pub owed_by : Core → ℕ
@@ -27,7 +27,7 @@ queue_of core = core.queue
 
 -- The core stands where a history leads.
 abbrev pub Keeps : Core → List Entry → Type 0
-Keeps core h = Agrees (rules_of core) h core.queue core.sessions.items core.clients core.owed
+Keeps core h = Agrees (core_rules core) h core.queue core.sessions.items core.clients core.owed
 
 -- It stands where some history leads.
 abbrev pub IsKept : Core → Type 0
@@ -43,19 +43,19 @@ IsOpen core p = (h : List Entry) × (Keeps core h × ((commit_of h < p) × (p �
 
 -- The entry of a request, with the reply that a decision stands for.
 abbrev pub decided_entry : Core → List Entry → ℕ → Request → Decision → Entry
-decided_entry core h s request decision = entry_of s request (reply_by (rules_of core) h s request decision)
+decided_entry core h s request decision = entry_of s request (reply_by (core_rules core) h s request decision)
 
 -- What was decided on a request is done: the core stands where the history with its entry leads, and the answer is the reply that the decision
 -- stands for, as a journal keeps it and in full.
 pub record CarriedOut (old new : Core) (h : List Entry) (s : ℕ) (request : Request) (decision : Decision) (answer : Answer) : Type 0 where
-  pub rules : rules_of new ≡ rules_of old
+  pub rules : core_rules new ≡ core_rules old
   pub owed : owed_by new ≡ owed_by old
   pub keeps : Keeps new (decided_entry old h s request decision ∷ h)
-  pub logged : answer.logged ≡ reply_by (rules_of old) h s request decision
-  pub whole : answer.reply ≡ full_reply (accepted (decided_entry old h s request decision ∷ h)) (reply_by (rules_of old) h s request decision)
+  pub logged : answer.logged ≡ reply_by (core_rules old) h s request decision
+  pub whole : answer.reply ≡ full_reply (accepted (decided_entry old h s request decision ∷ h)) (reply_by (core_rules old) h s request decision)
 
 -- The core stands where it stood.
 pub record Remained (old new : Core) (h : List Entry) : Type 0 where
-  pub rules : rules_of new ≡ rules_of old
+  pub rules : core_rules new ≡ core_rules old
   pub owed : owed_by new ≡ owed_by old
   pub keeps : Keeps new h

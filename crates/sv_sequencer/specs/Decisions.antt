@@ -1,10 +1,11 @@
 -- What a core decides on a request, and the reply that this stands for.
-use Rattle.std.specs.Prelude.{◌≡◌, ℕ, suc, ◌<◌, ◌≤◌, false, ◌&&◌, List, [], ◌∷◌, ◌++◌, map, length, All, Some, None}
+use Rattle.std.specs.Prelude.{◌≡◌, ℕ, suc, ◌<◌, ◌≤◌, Bool, true, false, ◌&&◌, List, [], ◌∷◌, ◌++◌, map, length, All, Some, None}
 use Rattle.std.specs.List.{list_any}
 use Rattle.sv_world.specs.declared.action.Action.{Action}
 use Rattle.sv_world.specs.declared.world.ObjectId.{ObjectId}
 use Rattle.sv_world.specs.Control.{blank}
 use Rattle.sv_world.specs.Faults.{first_fault_of_action}
+use Rattle.sv_world.specs.Limits.{most_requests}
 use Rattle.sv_wire.specs.declared.message.Done1.{Done1}
 use Rattle.sv_wire.specs.declared.message.Request.{Request}
 use Rattle.sv_wire.specs.declared.message.Request.TheVariants as requests
@@ -13,7 +14,7 @@ use Rattle.sv_journal.specs.declared.entry.Logged.{Logged}
 use Rattle.sv_journal.specs.declared.entry.Logged.TheVariants as logged
 use Rattle.sv_journal.specs.History.{joining, is_welcome, is_relay, is_noted, client_of, is_client, is_submit_of, new_action, outcomes_of, accepted, actions_of, next_seq, commit_of}
 use Rattle.sv_journal.specs.Sessions.{positions_in, named_in, asked_in, life_in, life_of}
-use Rattle.sv_journal.specs.Answer.{Rules, refused, committed_held, relay_of, commit_with, is_bad_result, most_requests}
+use Rattle.sv_journal.specs.Answer.{Rules, refused_as, committed_held, relay_of, commit_with, is_bad_result}
 use Rattle.sv_sequencer.specs.declared.decision.Decision.{Decision}
 use Rattle.sv_sequencer.specs.declared.decision.Decision.TheVariants as decisions
 
@@ -31,7 +32,7 @@ results_in _ = []
 
 -- The reply that a decision stands for.
 abbrev pub reply_by : Rules → List Entry → ℕ → Request → Decision → Logged
-reply_by r h s request (decisions.Refuse code detail) = refused code detail
+reply_by r h s request (decisions.Refuse refusal detail) = refused_as refusal detail
 reply_by r h s request (decisions.Welcome client life) = logged.Welcome (commit_of h) (committed_held r h (interest_in request))
 reply_by r h s request (decisions.Drop client seq chain far) = logged.Dropped seq chain far
 reply_by r h s request (decisions.Repeat seq chain far) = logged.Dropped seq chain far
@@ -41,6 +42,15 @@ reply_by r h s request (decisions.Accept client seq) = relay_of r h (actions_of 
 reply_by r h s request decisions.Note = logged.Noted (commit_with h s (results_in request))
 reply_by r h s request decisions.Idle = logged.Idle
 reply_by r h s request decisions.Leave = logged.Bye
+
+-- What is decided changes nothing but its own session: no action is taken in, none is sent, and no result is noted.
+abbrev pub changes_nothing : Decision → Bool
+changes_nothing (decisions.Refuse refusal detail) = true
+changes_nothing (decisions.Repeat seq chain far) = true
+changes_nothing (decisions.Settle seq pos) = true
+changes_nothing decisions.Idle = true
+changes_nothing decisions.Leave = true
+changes_nothing _ = false
 
 -- The request gives no client a new outcome.
 pub record IsOld (h : List Entry) (s : ℕ) (request : Request) : Type 0 where
@@ -63,7 +73,7 @@ pub record IsJoin (r : Rules) (h : List Entry) (request : Request) (k life : ℕ
 
 -- What holds where something was decided. Results may be noted where none of them is bad, also where there are none.
 abbrev pub Holds : Rules → List Entry → ℕ → Request → Decision → Type 0
-Holds r h s request (decisions.Refuse code detail) = Unit {0}
+Holds r h s request (decisions.Refuse refusal detail) = Unit {0}
 Holds r h s request (decisions.Welcome client life) = IsJoin r h request client life
 Holds r h s request (decisions.Drop client seq chain far) = IsNext h s request client seq
 Holds r h s request (decisions.Repeat seq chain far) = IsOld h s request

@@ -2,14 +2,14 @@
 use Rattle.std.specs.Prelude.{◌≤◌, reverse}
 use Rattle.sv_journal.specs.Answer.{Legal}
 use Rattle.sv_sequencer.specs.declared.sequencer.Sequencer.TheInside.{Inside}
-use Rattle.sv_sequencer.specs.Cores.{rules_of, owed_by, Keeps}
+use Rattle.sv_sequencer.specs.Cores.{core_rules, owed_by, Keeps}
 use Rattle.sv_sequencer.specs.Step.{SequencerView}
 
 abbrev pub view_of : Inside → SequencerView
-view_of a = record { rules = rules_of a.core; journal = a.journal }
+view_of a = record { rules = core_rules a.core; journal = a.journal }
 
 -- The journal is legal, the core stands where its history leads, and it has room for the Ends to come.
 pub record IsSequencer (a : Inside) : Type 0 where
-  pub legal : Legal (rules_of a.core) (reverse a.journal.entries)
+  pub legal : Legal (core_rules a.core) (reverse a.journal.entries)
   pub keeps : Keeps a.core (reverse a.journal.entries)
   pub room : owed_by a.core ≤ a.journal.spare

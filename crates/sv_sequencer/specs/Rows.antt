@@ -1,15 +1,10 @@
 -- What a core keeps of each session, and what an entry makes of it.
 use Rattle.std.specs.Prelude.{◌≡◌, ℕ, ◌-◌, Bool, false, ◌&&◌, ◌||◌, not, ◌==◌, List, [], ◌∷◌, None, if◌then◌else◌}
+use Rattle.sv_world.specs.Limits.{most_requests}
 use Rattle.sv_journal.specs.declared.entry.Entry.{Entry}
 use Rattle.sv_journal.specs.History.{either, is_welcome, joining, client_of}
-use Rattle.sv_journal.specs.Sessions.{is_last, welcomes, is_over, is_end, asked_in}
-use Rattle.sv_journal.specs.Answer.{most_requests}
+use Rattle.sv_journal.specs.Sessions.{is_last, welcomes, is_over, is_end, is_ended, asked_in}
 use Rattle.sv_sequencer.specs.declared.sessions.SessionRow.{SessionRow}
-
--- A session had its End.
-abbrev pub is_ended : List Entry → ℕ → Bool
-is_ended [] s = false
-is_ended (e ∷ h) s = is_ended h s || (e.session == s && is_end e.request)
 
 -- How many requests a session may still make.
 abbrev pub requests_left : List Entry → ℕ → ℕ
@@ -24,7 +19,7 @@ session_after e s r = record {
   client = either r.client (if e.session == s && is_welcome e.reply then joining e.request else None);
   over = r.over || (if e.session == s then is_last e.reply else welcomes e r.client);
   left = if e.session == s && not (is_end e.request) then r.left - 1 else r.left;
-  ended = r.ended || (e.session == s && is_end e.request);
+  ended = (e.session == s && is_end e.request) || r.ended;
 }
 
 -- The row says of a session what the history says.

@@ -1,3 +1,4 @@
+//! What a request is answered.
 use sv_journal::Logged;
 use sv_wire::Reply;
 

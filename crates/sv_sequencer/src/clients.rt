@@ -1,10 +1,11 @@
+//! What a core keeps of each client.
 ghost use Rattle.std.specs.Prelude.{◌≡◌, ℕ, suc, ◌+◌, ◌<◌, ◌&&◌, nat_eq, nat_lt, nat_le, [], ◌∷◌, ◌++◌, map, length, option_map, OnOk, OnErr, if◌then◌else◌};
 ghost use Rattle.sv_journal.specs.Sessions.{outcome_at};
-ghost use Rattle.sv_sequencer.specs.Clients.{client_row, no_client, kept_of, outcome_value};
+ghost use Rattle.sv_sequencer.specs.Clients.{client_row, no_client_row, kept_among, outcome_value};
 
 use indexmap::IndexMap;
 use std::alloc::{AllocError, Global};
-use sv_world::List;
+use sv_world::{List, MOST_PENDING};
 
 /// What came of an action: it was accepted at a position; or it was dropped, with so many actions that influence it, the farthest so far.
 #[derive(Clone, Copy, Drop)]
@@ -22,16 +23,19 @@ pub struct ClientRow {
     pub outcomes: List<Outcome>,
 }
 
+/// How many outcomes of a client are kept: those of all its actions that it may have unsettled.
+const KEPT: usize = MOST_PENDING;
+
 /// The rows of the clients that joined, by their numbers.
 #[derive(Drop)]
 pub struct Clients {
     rows: IndexMap<u16, ClientRow>,
-    alloc: Global,
+    pub(crate) alloc: Global,
 }
 
 impl Clients {
     pub fn new(alloc: Global) -> Clients
-        ensures { (k : ℕ) → client_row result k ≡ no_client }
+        ensures { (k : ℕ) → client_row result k ≡ no_client_row }
     {
         Clients {
             rows: IndexMap::new(alloc),
@@ -61,7 +65,7 @@ impl Clients {
 
     /// What came of a client's action, where it is one of the last that are kept.
     pub fn kept(&self, client: u16, seq: u32) -> Option<Outcome>
-        ensures { option_map outcome_value result ≡ kept_of (client_row self.now client).outcomes seq }
+        ensures { option_map outcome_value result ≡ kept_among (client_row self.now client).outcomes seq }
     {
         match self.rows.get(&client) {
             Some(row) => kept_in(row.outcomes.as_slice(), seq),
@@ -98,11 +102,11 @@ impl Clients {
     }
 }
 
-/// The outcome of a sequence number among all in order, where it is one of the last eight.
+/// The outcome of a sequence number among all in order, where it is one of the last that are kept.
 fn kept_in(outcomes: &[Outcome], seq: u32) -> Option<Outcome>
-    ensures { option_map outcome_value result ≡ kept_of outcomes.now seq }
+    ensures { option_map outcome_value result ≡ kept_among outcomes.now seq }
 {
-    if outcomes.len() + 1 <= seq as usize + 8 {
+    if outcomes.len() + 1 <= seq as usize + KEPT {
         outcome_at(outcomes, seq as usize)
     } else {
         None

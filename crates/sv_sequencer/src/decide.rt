@@ -3,34 +3,37 @@ ghost use Rattle.std.specs.Prelude.{◌≡◌, ℕ, List, ◌<◌, ◌≤◌, So
 ghost use Rattle.std.specs.List.{list_all};
 ghost use Rattle.sv_world.specs.declared.world.ObjectId.{ObjectId};
 ghost use Rattle.sv_world.specs.Faults.{first_fault_of_action, IsGoodAction};
+ghost use Rattle.sv_world.specs.Limits.{most_requests};
 ghost use Rattle.sv_wire.specs.declared.message.Request.TheVariants as requests;
 ghost use Rattle.sv_journal.specs.declared.entry.Entry.{Entry};
 ghost use Rattle.sv_journal.specs.History.{Accepted, accepted, client_of, next_seq};
 ghost use Rattle.sv_journal.specs.Sessions.{asked_in, is_live, kept_outcome};
-ghost use Rattle.sv_journal.specs.Answer.{most_requests, reply_to_request, reply_to_open, reply_to_join, reply_to_member, reply_to_submit, reply_to_new, reply_to_good, reply_to_done, reply_to_poll, orphans, is_good_interest, is_over_reach};
+ghost use Rattle.sv_journal.specs.Answer.{reply_to_request, reply_to_open, reply_to_join, reply_to_member, reply_to_submit, reply_to_new, reply_to_good, reply_to_done, reply_to_poll, orphans, is_good_interest, is_over_reach};
 ghost use Rattle.sv_sequencer.specs.Decisions.{reply_by, Holds};
-ghost use Rattle.sv_sequencer.specs.Cores.{rules_of, Keeps};
+ghost use Rattle.sv_sequencer.specs.Cores.{core_rules, Keeps};
 
 use crate::clients::Outcome;
-use crate::decision::Decision;
+use crate::decision::{ActionId, Decision};
 use crate::server_core::Core;
-use sv_wire::{Done1, Request};
-use sv_world::{Action, ClientId, List, ObjectId, check_action, is_ascending};
+use sv_wire::{Done1, Refusal, Request};
+use sv_world::{
+    Action, ClientId, List, MOST_CLIENTS, MOST_INTEREST, ObjectId, check_action, is_ascending,
+};
 
 impl Core {
     /// What is done on a request in a session, where `h` is a history that the core keeps.
     pub fn decide(&self, session: u16, request: &Request) -> Decision
         ghost h: { List Entry }
         requires keeps { Keeps self.now h }
-        requires session { session < (rules_of self.now).sessions }
-        ensures reply { reply_by (rules_of self.now) h session request.now result ≡ reply_to_request (rules_of self.now) h session request.now }
-        ensures holds { Holds (rules_of self.now) h session request.now result }
+        requires session { session < (core_rules self.now).sessions }
+        ensures reply { reply_by (core_rules self.now) h session request.now result ≡ reply_to_request (core_rules self.now) h session request.now }
+        ensures holds { Holds (core_rules self.now) h session request.now result }
     {
         if self.is_over(session) {
-            return Decision::Refuse { code: 4, detail: 0 };
+            return Decision::Refuse { refusal: Refusal::Over, detail: 0 };
         }
         if !self.has_more(session) {
-            return Decision::Refuse { code: 9, detail: 0 };
+            return Decision::Refuse { refusal: Refusal::TooManyRequests, detail: 0 };
         }
         self.decide_open(session, request)
     }
@@ -39,13 +42,13 @@ impl Core {
     fn decide_open(&self, session: u16, request: &Request) -> Decision
         ghost h: { List Entry }
         requires keeps { Keeps self.now h }
-        requires session { session < (rules_of self.now).sessions }
+        requires session { session < (core_rules self.now).sessions }
         requires early { asked_in h session < most_requests }
-        ensures reply { reply_by (rules_of self.now) h session request.now result ≡ reply_to_open (rules_of self.now) h session request.now }
-        ensures holds { Holds (rules_of self.now) h session request.now result }
+        ensures reply { reply_by (core_rules self.now) h session request.now result ≡ reply_to_open (core_rules self.now) h session request.now }
+        ensures holds { Holds (core_rules self.now) h session request.now result }
     {
         match request {
-            Request::Bad => Decision::Refuse { code: 1, detail: 0 },
+            Request::Bad => Decision::Refuse { refusal: Refusal::Malformed, detail: 0 },
             Request::Join {
                 client,
                 life,
@@ -64,23 +67,23 @@ impl Core {
     ) -> Decision
         ghost h: { List Entry }
         requires keeps { Keeps self.now h }
-        requires session { session < (rules_of self.now).sessions }
-        ensures reply { reply_by (rules_of self.now) h session (requests.Join client life interest.now) result ≡ reply_to_join (rules_of self.now) h session client.0 life (map (λ (o : ObjectId). o.0) interest.now) }
-        ensures holds { Holds (rules_of self.now) h session (requests.Join client life interest.now) result }
+        requires session { session < (core_rules self.now).sessions }
+        ensures reply { reply_by (core_rules self.now) h session (requests.Join client life interest.now) result ≡ reply_to_join (core_rules self.now) h session client.0 life (map (λ (o : ObjectId). o.0) interest.now) }
+        ensures holds { Holds (core_rules self.now) h session (requests.Join client life interest.now) result }
     {
         if self.is_live(session) {
-            return Decision::Refuse { code: 3, detail: 0 };
+            return Decision::Refuse { refusal: Refusal::AlreadyJoined, detail: 0 };
         }
-        if client.0 >= 32 {
+        if client.0 >= MOST_CLIENTS {
             return Decision::Refuse {
-                code: 10,
+                refusal: Refusal::NoSuchClient,
                 detail: 0,
             };
         }
         let greatest = self.life_of(client.0);
         if life <= greatest {
             return Decision::Refuse {
-                code: 11,
+                refusal: Refusal::OldLife,
                 detail: greatest,
             };
         }
@@ -91,14 +94,14 @@ impl Core {
                 life,
             }
         } else {
-            Decision::Refuse { code: 8, detail: 0 }
+            Decision::Refuse { refusal: Refusal::BadInterest, detail: 0 }
         }
     }
 
     fn is_live(&self, session: u16) -> bool
         ghost h: { List Entry }
         requires keeps { Keeps self.now h }
-        requires session { session < (rules_of self.now).sessions }
+        requires session { session < (core_rules self.now).sessions }
         ensures { result ≡ is_live h session }
     {
         let client = self.client_of(session);
@@ -109,13 +112,13 @@ impl Core {
     fn decide_member(&self, session: u16, request: &Request) -> Decision
         ghost h: { List Entry }
         requires keeps { Keeps self.now h }
-        requires session { session < (rules_of self.now).sessions }
+        requires session { session < (core_rules self.now).sessions }
         requires early { asked_in h session < most_requests }
-        ensures reply { reply_by (rules_of self.now) h session request.now result ≡ reply_to_member (rules_of self.now) h session (client_of h session) request.now }
-        ensures holds { Holds (rules_of self.now) h session request.now result }
+        ensures reply { reply_by (core_rules self.now) h session request.now result ≡ reply_to_member (core_rules self.now) h session (client_of h session) request.now }
+        ensures holds { Holds (core_rules self.now) h session request.now result }
     {
         let Some(client) = self.client_of(session) else {
-            return Decision::Refuse { code: 2, detail: 0 };
+            return Decision::Refuse { refusal: Refusal::NotJoined, detail: 0 };
         };
         match request {
             Request::Submit { seq, action } => self.decide_submit(session, client, *seq, action),
@@ -129,37 +132,32 @@ impl Core {
     fn decide_submit(&self, session: u16, client: u16, seq: u32, action: &Action) -> Decision
         ghost h: { List Entry }
         requires keeps { Keeps self.now h }
-        requires session { session < (rules_of self.now).sessions }
+        requires session { session < (core_rules self.now).sessions }
         requires early { asked_in h session < most_requests }
         requires client { client_of h session ≡ Some client }
-        ensures reply { reply_by (rules_of self.now) h session (requests.Submit seq action.now) result ≡ reply_to_submit (rules_of self.now) h session client seq action.now (kept_outcome h client seq) }
-        ensures holds { Holds (rules_of self.now) h session (requests.Submit seq action.now) result }
+        ensures reply { reply_by (core_rules self.now) h session (requests.Submit seq action.now) result ≡ reply_to_submit (core_rules self.now) h session client seq action.now (kept_outcome h client seq) }
+        ensures holds { Holds (core_rules self.now) h session (requests.Submit seq action.now) result }
     {
         match self.kept_outcome(client, seq) {
             Some(Outcome::Dropped { chain, far }) => Decision::Repeat { seq, chain, far },
-            Some(Outcome::Accepted { pos }) => self.decide_accepted(
-                session, client, seq, pos, action,
-            ),
+            Some(Outcome::Accepted { pos }) => {
+                self.decide_accepted(session, ActionId { client, seq }, pos, action)
+            }
             None => self.decide_new(session, client, seq, action),
         }
     }
 
-    fn decide_accepted(
-        &self,
-        session: u16,
-        client: u16,
-        seq: u32,
-        pos: u32,
-        action: &Action,
-    ) -> Decision
+    /// A repeated action that was accepted at a position.
+    fn decide_accepted(&self, session: u16, id: ActionId, pos: u32, action: &Action) -> Decision
         ghost h: { List Entry }
         requires keeps { Keeps self.now h }
-        requires client { client_of h session ≡ Some client }
-        requires earlier { seq < next_seq h client }
+        requires client { client_of h session ≡ Some id.client }
+        requires earlier { id.seq < next_seq h id.client }
         requires placed { pos ≤ length (accepted h) }
-        ensures reply { reply_by (rules_of self.now) h session (requests.Submit seq action.now) result ≡ reply_to_submit (rules_of self.now) h session client seq action.now (Some (Accepted pos)) }
-        ensures holds { Holds (rules_of self.now) h session (requests.Submit seq action.now) result }
+        ensures reply { reply_by (core_rules self.now) h session (requests.Submit id.seq action.now) result ≡ reply_to_submit (core_rules self.now) h session id.client id.seq action.now (Some (Accepted pos)) }
+        ensures holds { Holds (core_rules self.now) h session (requests.Submit id.seq action.now) result }
     {
+        let seq = id.seq;
         if self.is_committed(pos) {
             Decision::Settle { seq, pos }
         } else {
@@ -172,19 +170,19 @@ impl Core {
         requires keeps { Keeps self.now h }
         requires early { asked_in h session < most_requests }
         requires client { client_of h session ≡ Some client }
-        ensures reply { reply_by (rules_of self.now) h session (requests.Submit seq action.now) result ≡ reply_to_new (rules_of self.now) h session client seq action.now }
-        ensures holds { Holds (rules_of self.now) h session (requests.Submit seq action.now) result }
+        ensures reply { reply_by (core_rules self.now) h session (requests.Submit seq action.now) result ≡ reply_to_new (core_rules self.now) h session client seq action.now }
+        ensures holds { Holds (core_rules self.now) h session (requests.Submit seq action.now) result }
     {
         let next = self.next_seq(client);
         if seq != next {
             return Decision::Refuse {
-                code: 5,
+                refusal: Refusal::WrongSequence,
                 detail: next,
             };
         }
         match check_action(self.shape(), action) {
             Err(cause) => Decision::Refuse {
-                code: 6,
+                refusal: Refusal::BadAction,
                 detail: u32::from(cause.code()),
             },
             Ok(()) => self.decide_good(session, client, seq, action),
@@ -197,10 +195,10 @@ impl Core {
         requires early { asked_in h session < most_requests }
         requires client { client_of h session ≡ Some client }
         requires next { seq ≡ next_seq h client }
-        requires good { IsGoodAction (rules_of self.now).world.shape action.now }
-        requires fault { first_fault_of_action (rules_of self.now).world.shape action.now ≡ None }
-        ensures reply { reply_by (rules_of self.now) h session (requests.Submit seq action.now) result ≡ reply_to_good (rules_of self.now) h session seq action.now }
-        ensures holds { Holds (rules_of self.now) h session (requests.Submit seq action.now) result }
+        requires good { IsGoodAction (core_rules self.now).world.shape action.now }
+        requires fault { first_fault_of_action (core_rules self.now).world.shape action.now ≡ None }
+        ensures reply { reply_by (core_rules self.now) h session (requests.Submit seq action.now) result ≡ reply_to_good (core_rules self.now) h session seq action.now }
+        ensures holds { Holds (core_rules self.now) h session (requests.Submit seq action.now) result }
     {
         let found = self.chain_of(action);
         if found.count > self.bound() || self.is_over_reach(found.far) {
@@ -218,12 +216,12 @@ impl Core {
     fn decide_done(&self, session: u16, results: &List<Done1>) -> Decision
         ghost h: { List Entry }
         requires keeps { Keeps self.now h }
-        requires session { session < (rules_of self.now).sessions }
-        ensures reply { reply_by (rules_of self.now) h session (requests.Done results.now) result ≡ reply_to_done (rules_of self.now) h session results.now }
-        ensures holds { Holds (rules_of self.now) h session (requests.Done results.now) result }
+        requires session { session < (core_rules self.now).sessions }
+        ensures reply { reply_by (core_rules self.now) h session (requests.Done results.now) result ≡ reply_to_done (core_rules self.now) h session results.now }
+        ensures holds { Holds (core_rules self.now) h session (requests.Done results.now) result }
     {
         if self.is_bad_done(session, results.as_slice()) {
-            Decision::Refuse { code: 7, detail: 0 }
+            Decision::Refuse { refusal: Refusal::BadResults, detail: 0 }
         } else {
             Decision::Note
         }
@@ -233,8 +231,8 @@ impl Core {
         ghost h: { List Entry }
         requires keeps { Keeps self.now h }
         requires client { client_of h session ≡ Some client }
-        ensures reply { reply_by (rules_of self.now) h session requests.Poll result ≡ reply_to_poll (rules_of self.now) h session (orphans h) }
-        ensures holds { Holds (rules_of self.now) h session requests.Poll result }
+        ensures reply { reply_by (core_rules self.now) h session requests.Poll result ≡ reply_to_poll (core_rules self.now) h session (orphans h) }
+        ensures holds { Holds (core_rules self.now) h session requests.Poll result }
     {
         match self.orphan() {
             Some(pos) => Decision::Relay { seq: 0, pos },
@@ -243,11 +241,11 @@ impl Core {
     }
 }
 
-/// Whether an interest has at most 64 objects of so many, ascending.
+/// Whether an interest has few enough objects, of so many, ascending.
 fn is_good_interest(objects: u16, interest: &[ObjectId]) -> bool
     ensures { result ≡ is_good_interest objects (map (λ (o : ObjectId). o.0) interest.now) }
 {
-    interest.len() <= 64 && is_ascending(interest) && are_below(objects, interest)
+    interest.len() <= MOST_INTEREST && is_ascending(interest) && are_below(objects, interest)
 }
 
 fn are_below(objects: u16, interest: &[ObjectId]) -> bool

@@ -1,8 +1,19 @@
+//! What a core decides on a request.
+use sv_wire::Refusal;
+
+/// An action by its client, and the client's number for it.
+#[derive(Clone, Copy, Drop)]
+pub(crate) struct ActionId {
+    pub client: u16,
+    pub seq: u32,
+}
+
 /// What is done on a request, where it is not an End.
 #[derive(Clone, Copy, Drop)]
 pub enum Decision {
+    /// The request breaks a rule.
     Refuse {
-        code: u8,
+        refusal: Refusal,
         detail: u32,
     },
     Welcome {

@@ -3,6 +3,7 @@ ghost use Rattle.std.specs.Prelude.{◌≡◌, ℕ, List, suc, ◌<◌, ◌≤�
 ghost use Rattle.std.specs.List.{list_any};
 ghost use Rattle.sv_world.specs.declared.world.ObjectId.{ObjectId};
 ghost use Rattle.sv_world.specs.Faults.{first_fault_of_action, IsGoodAction};
+ghost use Rattle.sv_world.specs.Limits.{most_sessions};
 ghost use Rattle.sv_queue.specs.Queue.{IsUncommitted, last_position, with_action};
 ghost use Rattle.sv_influence.specs.Lacking.{lacking, base_objects};
 ghost use Rattle.sv_wire.specs.declared.message.Held.{Held};
@@ -16,17 +17,19 @@ ghost use Rattle.sv_journal.specs.Answer.{is_bad_result};
 ghost use Rattle.sv_sequencer.specs.declared.decision.Decision.TheVariants as decisions;
 ghost use Rattle.sv_sequencer.specs.declared.clients.Outcome.TheVariants as rows;
 ghost use Rattle.sv_sequencer.specs.Clients.{client_row};
-ghost use Rattle.sv_sequencer.specs.Cores.{rules_of, Keeps, CarriedOut, Remained};
+ghost use Rattle.sv_sequencer.specs.Cores.{core_rules, Keeps, CarriedOut, Remained};
 ghost use Rattle.sv_sequencer.specs.Decisions.{IsJoin, IsNext, IsOld, interest_in, action_in, results_in};
 ghost use Rattle.sv_sequencer.specs.Relays.{held_in, item_in, marked_all, given_all, with_reports, CanReport};
 
 use crate::answer::Answer;
 use crate::clients::{Clients, Outcome};
+use crate::decision::ActionId;
 use crate::relays::{Relayed, base_values, give_all, mark_all, relay_in};
 use crate::reports::{copy_missing, set_reports};
 use crate::server_core::Core;
 use crate::sessions::note;
-use std::alloc::{AllocError, Global};
+use std::alloc::AllocError;
+use sv_influence::Chain;
 use sv_journal::Logged;
 use sv_queue::Queue;
 use sv_wire::{Done1, Reply, Request, copy_head};
@@ -43,7 +46,7 @@ fn interest_of(request: &Request) -> &[ObjectId]
 }
 
 /// The results that a Done reports.
-fn results_of(request: &Request) -> &[Done1]
+pub fn results_of(request: &Request) -> &[Done1]
     ensures { result.now ≡ results_in request.now }
 {
     match request {
@@ -54,18 +57,16 @@ fn results_of(request: &Request) -> &[Done1]
 
 /// Takes in a new action, with what a relay of it has. After running out of memory the queue and the clients' rows are as before.
 fn take_in(
-    alloc: Global,
     queue: &mut Queue,
     clients: &mut Clients,
     session: u16,
-    client: u16,
-    seq: u32,
+    id: ActionId,
     action: Action,
 ) -> Result<Relayed, AllocError>
     requires good { IsGoodAction queue.old.shape action }
     requires room { last_position queue.old < 4294967295 }
-    ensures queue { OnOk result (queue.new ≡ with_action queue.old (record { 0 = client }) seq action) }
-    ensures clients { OnOk result ((k : ℕ) → client_row clients.new k ≡ (if nat_eq client k then record (client_row clients.old client) { outcomes = (client_row clients.old client).outcomes ++ rows.Accepted (suc (last_position queue.old)) ∷ [] } else client_row clients.old k)) }
+    ensures queue { OnOk result (queue.new ≡ with_action queue.old (record { 0 = id.client }) id.seq action) }
+    ensures clients { OnOk result ((k : ℕ) → client_row clients.new k ≡ (if nat_eq id.client k then record (client_row clients.old id.client) { outcomes = (client_row clients.old id.client).outcomes ++ rows.Accepted (suc (last_position queue.old)) ∷ [] } else client_row clients.old k)) }
     ensures head { IfOk result (λ r. r.head ≡ held_in queue.new (base_objects queue.new session (last_position queue.new))) }
     ensures positions { IfOk result (λ r. r.positions ≡ lacking queue.new session (last_position queue.new)) }
     ensures sent_head { IfOk result (λ r. r.sent_head ≡ held_in queue.new (base_objects queue.new session (last_position queue.new))) }
@@ -73,8 +74,8 @@ fn take_in(
     ensures err { OnErr result (queue.new ≡ queue.old) }
     ensures kept { OnErr result ((k : ℕ) → client_row clients.new k ≡ client_row clients.old k) }
 {
-    let pos = queue.push(ClientId(client), seq, action)?;
-    match relay_and_settle(alloc, queue, clients, session, client, pos) {
+    let pos = queue.push(ClientId(id.client), id.seq, action)?;
+    match relay_and_settle(queue, clients, session, id.client, pos) {
         Ok(relayed) => Ok(relayed),
         Err(error) => {
             queue.pop();
@@ -84,7 +85,6 @@ fn take_in(
 }
 
 fn relay_and_settle(
-    alloc: Global,
     queue: &Queue,
     clients: &mut Clients,
     session: u16,
@@ -99,7 +99,7 @@ fn relay_and_settle(
     ensures items { IfOk result (λ r. r.items ≡ map (item_in queue.now) (lacking queue.now session pos)) }
     ensures kept { OnErr result ((k : ℕ) → client_row clients.new k ≡ client_row clients.old k) }
 {
-    let relayed = relay_in(alloc, queue, session, pos)?;
+    let relayed = relay_in(clients.alloc, queue, session, pos)?;
     clients.settle(client, Outcome::Accepted { pos })?;
     Ok(relayed)
 }
@@ -108,7 +108,7 @@ fn relay_and_settle(
 fn deliver(queue: &mut Queue, relayed: &Relayed, session: u16)
     requires positions { All (IsUncommitted queue.old) relayed.now.positions }
     requires objects { All (λ (x : Held). x.object.0 < queue.old.shape.objects) relayed.now.head }
-    requires session { session < 64 }
+    requires session { session < most_sessions }
     ensures { queue.new ≡ given_all (marked_all queue.old relayed.now.positions session) relayed.now.head session }
 {
     mark_all(queue, relayed.positions.as_slice(), session);
@@ -153,9 +153,9 @@ impl Core {
     ) -> Result<Answer, AllocError>
         ghost h: { List Entry }
         requires keeps { Keeps self.old h }
-        requires session { session < (rules_of self.old).sessions }
+        requires session { session < (core_rules self.old).sessions }
         requires more { is_end request.now ≡ false }
-        requires join { IsJoin (rules_of self.old) h request.now client life }
+        requires join { IsJoin (core_rules self.old) h request.now client life }
         ensures ok { IfOk result (CarriedOut self.old self.new h session request.now (decisions.Welcome client life)) }
         ensures err { OnErr result (Remained self.old self.new h) }
     {
@@ -172,24 +172,24 @@ impl Core {
         })
     }
 
-    /// Drops a new action.
+    /// Drops a new action, which so much influences.
     pub(crate) fn drop_new(
         &mut self,
         session: u16,
         request: &Request,
-        client: u16,
-        seq: u32,
-        chain: u32,
-        far: u32,
+        id: ActionId,
+        found: Chain,
     ) -> Result<Answer, AllocError>
         ghost h: { List Entry }
         requires keeps { Keeps self.old h }
-        requires session { session < (rules_of self.old).sessions }
+        requires session { session < (core_rules self.old).sessions }
         requires more { is_end request.now ≡ false }
-        requires next { IsNext h session request.now client seq }
-        ensures ok { IfOk result (CarriedOut self.old self.new h session request.now (decisions.Drop client seq chain far)) }
+        requires next { IsNext h session request.now id.client id.seq }
+        ensures ok { IfOk result (CarriedOut self.old self.new h session request.now (decisions.Drop id.client id.seq found.count found.far)) }
         ensures err { OnErr result (Remained self.old self.new h) }
     {
+        let ActionId { client, seq } = id;
+        let Chain { count: chain, far } = found;
         self.clients
             .settle(client, Outcome::Dropped { chain, far })?;
         let logged = Logged::Dropped { seq, chain, far };
@@ -210,7 +210,7 @@ impl Core {
     ) -> Result<Answer, AllocError>
         ghost h: { List Entry }
         requires keeps { Keeps self.old h }
-        requires session { session < (rules_of self.old).sessions }
+        requires session { session < (core_rules self.old).sessions }
         requires more { is_end request.now ≡ false }
         requires old { IsOld h session request.now }
         requires low { commit_of h < pos }
@@ -231,55 +231,51 @@ impl Core {
         &mut self,
         session: u16,
         request: &Request,
-        client: u16,
-        seq: u32,
+        id: ActionId,
     ) -> Result<Answer, AllocError>
         ghost h: { List Entry }
         requires keeps { Keeps self.old h }
-        requires session { session < (rules_of self.old).sessions }
+        requires session { session < (core_rules self.old).sessions }
         requires more { is_end request.now ≡ false }
-        requires next { IsNext h session request.now client seq }
-        requires fault { first_fault_of_action (rules_of self.old).world.shape (action_in request.now) ≡ None }
-        ensures ok { IfOk result (CarriedOut self.old self.new h session request.now (decisions.Accept client seq)) }
+        requires next { IsNext h session request.now id.client id.seq }
+        requires fault { first_fault_of_action (core_rules self.old).world.shape (action_in request.now) ≡ None }
+        ensures ok { IfOk result (CarriedOut self.old self.new h session request.now (decisions.Accept id.client id.seq)) }
         ensures err { OnErr result (Remained self.old self.new h) }
     {
         let Request::Submit { action, .. } = request else {
             return Err(AllocError);
         };
-        self.accept(session, request, client, seq, action)
+        self.accept(session, request, id, action)
     }
 
     fn accept(
         &mut self,
         session: u16,
         request: &Request,
-        client: u16,
-        seq: u32,
+        id: ActionId,
         action: &Action,
     ) -> Result<Answer, AllocError>
         ghost h: { List Entry }
         requires keeps { Keeps self.old h }
-        requires session { session < (rules_of self.old).sessions }
+        requires session { session < (core_rules self.old).sessions }
         requires more { is_end request.now ≡ false }
-        requires next { IsNext h session request.now client seq }
+        requires next { IsNext h session request.now id.client id.seq }
         requires action { action.now ≡ action_in request.now }
-        requires good { IsGoodAction (rules_of self.old).world.shape action.now }
-        ensures ok { IfOk result (CarriedOut self.old self.new h session request.now (decisions.Accept client seq)) }
+        requires good { IsGoodAction (core_rules self.old).world.shape action.now }
+        ensures ok { IfOk result (CarriedOut self.old self.new h session request.now (decisions.Accept id.client id.seq)) }
         ensures err { OnErr result (Remained self.old self.new h) }
     {
         let action = copy_action(self.alloc, action)?;
         let relayed = take_in(
-            self.alloc,
             &mut self.queue,
             &mut self.clients,
             session,
-            client,
-            seq,
+            id,
             action,
         )?;
         let commit = self.queue.commit();
         deliver(&mut self.queue, &relayed, session);
-        let answer = answer_of(seq, commit, relayed);
+        let answer = answer_of(id.seq, commit, relayed);
         note(&mut self.sessions, session, request, &answer.logged);
         Ok(answer)
     }
@@ -292,9 +288,9 @@ impl Core {
     ) -> Result<Answer, AllocError>
         ghost h: { List Entry }
         requires keeps { Keeps self.old h }
-        requires session { session < (rules_of self.old).sessions }
+        requires session { session < (core_rules self.old).sessions }
         requires done { request.now ≡ requests.Done (results_in request.now) }
-        requires good { list_any (is_bad_result (rules_of self.old) h session) (results_in request.now) ≡ false }
+        requires good { list_any (is_bad_result (core_rules self.old) h session) (results_in request.now) ≡ false }
         ensures ok { IfOk result (CarriedOut self.old self.new h session request.now decisions.Note) }
         ensures err { OnErr result (Remained self.old self.new h) }
     {

@@ -5,7 +5,7 @@ ghost use Rattle.sv_queue.specs.Queue.{IsUncommitted, sent_positions};
 ghost use Rattle.sv_journal.specs.declared.entry.Entry.{Entry};
 ghost use Rattle.sv_journal.specs.History.{client_of, accepted, result_at, commit_of};
 ghost use Rattle.sv_journal.specs.Sessions.{sent_to};
-ghost use Rattle.sv_sequencer.specs.Cores.{rules_of, Keeps, IsAccepted, IsOpen};
+ghost use Rattle.sv_sequencer.specs.Cores.{core_rules, Keeps, IsAccepted, IsOpen};
 
 use crate::reports::is_missing;
 use crate::server_core::Core;
@@ -23,7 +23,7 @@ impl Core {
 
     /// The client of a session, once it has joined.
     pub fn client(&self, session: u16) -> Option<u16>
-        requires { session < (rules_of self.now).sessions }
+        requires { session < (core_rules self.now).sessions }
         ensures { (h : List Entry) → Keeps self.now h → result ≡ client_of h session }
     {
         self.sessions[session as usize].client
@@ -40,7 +40,7 @@ impl Core {
     /// Whether an accepted position above the commit was sent to a session.
     pub fn was_sent(&self, pos: u32, session: u16) -> bool
         requires open { IsOpen self.now pos }
-        requires session { session < (rules_of self.now).sessions }
+        requires session { session < (core_rules self.now).sessions }
         ensures { (h : List Entry) → Keeps self.now h → result ≡ is_in pos (sent_to h session) }
     {
         is_marked::<Brand>(&self.queue, pos, session, Blank::new(1))

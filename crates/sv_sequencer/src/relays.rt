@@ -1,5 +1,7 @@
+//! What a relay takes from a queue, and its delivery.
 ghost use Rattle.std.specs.Prelude.{◌≡◌, ℕ, ◌<◌, ◌≤◌, [], ◌∷◌, map, length, All, IfOk};
 ghost use Rattle.sv_world.specs.declared.world.ObjectId.{ObjectId};
+ghost use Rattle.sv_world.specs.Limits.{most_sessions};
 ghost use Rattle.sv_wire.specs.declared.message.Held.{Held};
 ghost use Rattle.sv_queue.specs.Queue.{IsUncommitted};
 ghost use Rattle.sv_influence.specs.Lacking.{lacking, base_objects};
@@ -122,7 +124,7 @@ fn item_of<L: Ledger>(
 /// Marks uncommitted positions for a session.
 pub fn mark_all(queue: &mut Queue, positions: &[u32], session: u16)
     requires positions { All (λ p. IsUncommitted queue.old p) positions.now }
-    requires session { session < 64 }
+    requires session { session < most_sessions }
     ensures { queue.new ≡ marked_all queue.old positions.now session }
 {
     let [first, rest @ ..] = positions else {
@@ -135,7 +137,7 @@ pub fn mark_all(queue: &mut Queue, positions: &[u32], session: u16)
 /// Notes that a session was given the objects of a head.
 pub fn give_all(queue: &mut Queue, head: &[Held], session: u16)
     requires objects { All (λ (x : Held). x.object.0 < queue.old.shape.objects) head.now }
-    requires session { session < 64 }
+    requires session { session < most_sessions }
     ensures { queue.new ≡ given_all queue.old head.now session }
 {
     let [first, rest @ ..] = head else {

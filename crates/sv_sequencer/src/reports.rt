@@ -1,7 +1,9 @@
+//! What is done with reported results.
 ghost use Rattle.std.specs.Prelude.{◌≡◌, ℕ, ◌<◌, ◌≤◌, ◌==◌, not, ◌||◌, ◌&&◌, nat_lt, nat_le, false, is_some, [], ◌∷◌, map, filter, length, All, IfOk};
 ghost use Rattle.std.specs.List.{list_any, list_all};
 ghost use Rattle.sv_world.specs.Control.{is_in, action_at};
 ghost use Rattle.sv_world.specs.Faults.{is_ascending, IsGoodAction};
+ghost use Rattle.sv_world.specs.Limits.{most_items, most_reads};
 ghost use Rattle.sv_world.specs.Sets.{write_set, at_mask, read_set};
 ghost use Rattle.sv_wire.specs.declared.message.Done1.{Done1};
 ghost use Rattle.sv_queue.specs.Queue.{IsUncommitted, queue_actions, sent_positions, last_position, entry_at};
@@ -12,14 +14,14 @@ use std::marker::Brand;
 use std::sync::ledger::{Blank, Ledger};
 use sv_queue::{Queue, Steps};
 use sv_wire::Done1;
-use sv_world::{Action, List, Value, copy_values, is_in_mask};
+use sv_world::{Action, List, MOST_ITEMS, Value, copy_values, is_in_mask};
 
 /// Whether the results that a session reports may not be taken.
 pub fn are_bad(queue: &Queue, session: u16, results: &[Done1]) -> bool
-    ensures { result ≡ (length results.now == 0 || nat_lt 33 (length results.now) || not (is_ascending (map (λ (d : Done1). d.pos) results.now)) || list_any (is_bad_report queue.now session) results.now) }
+    ensures { result ≡ (length results.now == 0 || nat_lt most_items (length results.now) || not (is_ascending (map (λ (d : Done1). d.pos) results.now)) || list_any (is_bad_report queue.now session) results.now) }
 {
     results.len() == 0
-        || results.len() > 33
+        || results.len() > MOST_ITEMS
         || !are_ascending(results)
         || is_any_bad::<Brand>(queue, session, results, Blank::new(1))
 }
@@ -95,7 +97,7 @@ fn have_attrs(values: &[Value], attrs: u8) -> bool
 
 /// How many objects an action writes.
 fn count_written(action: &Action) -> usize
-    requires { length action.now.reads ≤ 16 }
+    requires { length action.now.reads ≤ most_reads }
     ensures { result ≡ length (write_set action.now) }
 {
     let mut count = 0;
@@ -125,7 +127,8 @@ pub fn copy_missing(
     Ok(copies)
 }
 
-fn copy_report(alloc: Global, found: &Done1) -> Result<Done1, AllocError>
+/// An equal copy.
+pub fn copy_report(alloc: Global, found: &Done1) -> Result<Done1, AllocError>
     ensures { IfOk result (λ copy. copy ≡ found.now) }
 {
     Ok(Done1 {
@@ -146,7 +149,7 @@ pub fn is_missing<L: Ledger>(queue: &Queue, pos: u32, blank: Blank) -> bool
         return false;
     }
     let mut steps = Steps::<L>::new(blank);
-    !has_result(queue, pos, &mut steps)
+    !queue.has_result(pos, &mut steps)
 }
 
 /// Keeps reported results in the queue, where their positions are not committed and have none yet.
@@ -171,13 +174,4 @@ fn set_report<L: Ledger>(queue: &mut Queue, found: Done1, blank: Blank)
     if is_missing::<L>(queue, pos, blank) {
         queue.set_result(pos, values.into_vec());
     }
-}
-
-/// Whether an uncommitted position has a result.
-pub fn has_result<L: Ledger>(queue: &Queue, pos: u32, steps: &mut Steps<L>) -> bool
-    requires { IsUncommitted queue.now pos }
-    ensures { result ≡ is_some (entry_at queue.now pos).result }
-{
-    let entry = queue.entry(pos, steps);
-    entry.has_result
 }

@@ -1,9 +1,10 @@
 //! The server that takes what each client reports: a core, and the journal of all that it was asked.
 ghost use Rattle.std.specs.Prelude.{◌≡◌, ◌<◌, ◌≤◌, [], slice_index_or, IfOk, IfSome};
-ghost use Rattle.sv_queue.specs.Worlds.{IsGoodWorld};
+ghost use Rattle.sv_world.specs.Limits.{most_bound, most_reach, most_sessions};
+ghost use Rattle.sv_world.specs.Worlds.{IsGoodWorld};
 ghost use Rattle.sv_journal.specs.History.{commit_of, committed_of};
 ghost use Rattle.sv_journal.specs.Answer.{Legal};
-ghost use Rattle.sv_sequencer.specs.Rows.{is_ended};
+ghost use Rattle.sv_journal.specs.Sessions.{is_ended};
 ghost use Rattle.sv_sequencer.specs.Step.{history};
 
 use crate::server_core::Core;
@@ -49,10 +50,10 @@ impl Sequencer {
         sessions: u16,
     ) -> Result<Sequencer, AllocError>
         requires world { IsGoodWorld world }
-        requires bound { bound ≤ 32 }
-        requires reach { IfSome reach (λ far. far ≤ 2000000) }
+        requires bound { bound ≤ most_bound }
+        requires reach { IfSome reach (λ far. far ≤ most_reach) }
         requires some { 1 ≤ sessions }
-        requires few { sessions ≤ 64 }
+        requires few { sessions ≤ most_sessions }
         ensures rules { IfOk result (λ s. s.rules ≡ record { world = world; bound = bound; reach = reach; sessions = sessions }) }
         ensures empty { IfOk result (λ s. s.journal.entries ≡ []) }
     {

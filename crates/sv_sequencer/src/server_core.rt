@@ -5,14 +5,14 @@ ghost use Rattle.std.specs.Prelude.{◌≡◌, ℕ, List, suc, ◌+◌, ◌<◌,
 ghost use Rattle.std.specs.List.{list_any};
 ghost use Rattle.sv_world.specs.Control.{chain_length, influence_distance};
 ghost use Rattle.sv_world.specs.Faults.{IsGoodAction};
-ghost use Rattle.sv_queue.specs.Worlds.{IsGoodWorld};
+ghost use Rattle.sv_world.specs.Limits.{most_requests, most_sessions};
+ghost use Rattle.sv_world.specs.Worlds.{IsGoodWorld};
 ghost use Rattle.sv_journal.specs.declared.entry.Entry.{Entry};
 ghost use Rattle.sv_journal.specs.History.{Accepted, client_of, accepted, actions_of, next_seq, commit_of, committed_of};
-ghost use Rattle.sv_journal.specs.Sessions.{is_over, asked_in, life_of, kept_outcome};
-ghost use Rattle.sv_journal.specs.Answer.{is_bad_result, is_bad_done, is_over_reach, most_requests, orphans};
+ghost use Rattle.sv_journal.specs.Sessions.{is_over, asked_in, life_of, kept_outcome, is_ended};
+ghost use Rattle.sv_journal.specs.Answer.{is_bad_result, is_bad_done, is_over_reach, orphans};
 ghost use Rattle.sv_sequencer.specs.Clients.{outcome_value};
-ghost use Rattle.sv_sequencer.specs.Cores.{rules_of, owed_by, queue_of, Keeps, IsKept};
-ghost use Rattle.sv_sequencer.specs.Rows.{is_ended};
+ghost use Rattle.sv_sequencer.specs.Cores.{core_rules, owed_by, queue_of, Keeps, IsKept};
 
 use crate::clients::{Clients, Outcome};
 use crate::orphans::first_orphan;
@@ -50,8 +50,8 @@ impl Core {
         sessions: u16,
     ) -> Result<Core, AllocError>
         requires world { IsGoodWorld world }
-        requires few { sessions ≤ 64 }
-        ensures rules { IfOk result (λ core. rules_of core ≡ record { world = world; bound = bound; reach = reach; sessions = sessions }) }
+        requires few { sessions ≤ most_sessions }
+        ensures rules { IfOk result (λ core. core_rules core ≡ record { world = world; bound = bound; reach = reach; sessions = sessions }) }
         ensures owed { IfOk result (λ core. owed_by core ≡ sessions) }
         ensures keeps { IfOk result (λ core. Keeps core []) }
     {
@@ -81,8 +81,8 @@ impl Core {
     /// The value of an object at the commit.
     pub fn committed(&self, object: ObjectId) -> &Value
         requires kept { IsKept self.now }
-        requires object { object.0 < (rules_of self.now).world.shape.objects }
-        ensures { (h : List Entry) → Keeps self.now h → result.now ≡ slice_index_or (committed_of (rules_of self.now).world.values h) object.0 [] }
+        requires object { object.0 < (core_rules self.now).world.shape.objects }
+        ensures { (h : List Entry) → Keeps self.now h → result.now ≡ slice_index_or (committed_of (core_rules self.now).world.values h) object.0 [] }
     {
         self.queue.committed(object)
     }
@@ -90,14 +90,14 @@ impl Core {
     /// How many sessions there may be.
     pub fn sessions(&self) -> u16
         requires { IsKept self.now }
-        ensures { result ≡ (rules_of self.now).sessions }
+        ensures { result ≡ (core_rules self.now).sessions }
     {
         self.sessions.len() as u16
     }
 
     /// Whether a session had its End.
     pub fn is_ended(&self, session: u16) -> bool
-        requires { session < (rules_of self.now).sessions }
+        requires { session < (core_rules self.now).sessions }
         ensures { (h : List Entry) → Keeps self.now h → result ≡ is_ended h session }
     {
         self.sessions[session as usize].ended
@@ -121,7 +121,7 @@ impl Core {
     pub(crate) fn is_over(&self, session: u16) -> bool
         ghost h: { List Entry }
         requires keeps { Keeps self.now h }
-        requires session { session < (rules_of self.now).sessions }
+        requires session { session < (core_rules self.now).sessions }
         ensures { result ≡ is_over h session }
     {
         self.sessions[session as usize].over
@@ -131,7 +131,7 @@ impl Core {
     pub(crate) fn has_more(&self, session: u16) -> bool
         ghost h: { List Entry }
         requires keeps { Keeps self.now h }
-        requires session { session < (rules_of self.now).sessions }
+        requires session { session < (core_rules self.now).sessions }
         ensures { result ≡ nat_lt (asked_in h session) most_requests }
     {
         self.sessions[session as usize].left > 0
@@ -140,7 +140,7 @@ impl Core {
     pub(crate) fn client_of(&self, session: u16) -> Option<u16>
         ghost h: { List Entry }
         requires keeps { Keeps self.now h }
-        requires session { session < (rules_of self.now).sessions }
+        requires session { session < (core_rules self.now).sessions }
         ensures { result ≡ client_of h session }
     {
         self.sessions[session as usize].client
@@ -186,7 +186,7 @@ impl Core {
     pub(crate) fn shape(&self) -> Shape
         ghost h: { List Entry }
         requires { Keeps self.now h }
-        ensures { result ≡ (rules_of self.now).world.shape }
+        ensures { result ≡ (core_rules self.now).world.shape }
     {
         self.queue.shape()
     }
@@ -195,7 +195,7 @@ impl Core {
     pub(crate) fn chain_of(&self, action: &Action) -> Chain
         ghost h: { List Entry }
         requires keeps { Keeps self.now h }
-        requires good { IsGoodAction (rules_of self.now).world.shape action.now }
+        requires good { IsGoodAction (core_rules self.now).world.shape action.now }
         ensures count { result.count ≡ chain_length (actions_of h) (commit_of h) action.now }
         ensures far { result.far ≡ influence_distance (actions_of h) (commit_of h) action.now }
     {
@@ -204,13 +204,13 @@ impl Core {
 
     /// The greatest chain of influence that an action may have.
     pub(crate) fn bound(&self) -> u32
-        ensures { result ≡ (rules_of self.now).bound }
+        ensures { result ≡ (core_rules self.now).bound }
     {
         u32::from(self.bound)
     }
 
     pub(crate) fn is_over_reach(&self, far: u32) -> bool
-        ensures { result ≡ is_over_reach (rules_of self.now).reach far }
+        ensures { result ≡ is_over_reach (core_rules self.now).reach far }
     {
         match self.reach {
             Some(reach) => reach < far,
@@ -221,9 +221,9 @@ impl Core {
     pub(crate) fn is_bad_done(&self, session: u16, results: &[Done1]) -> bool
         ghost h: { List Entry }
         requires keeps { Keeps self.now h }
-        requires session { session < (rules_of self.now).sessions }
-        ensures bad { result ≡ is_bad_done (rules_of self.now) h session results.now }
-        ensures good { result ≡ false → list_any (is_bad_result (rules_of self.now) h session) results.now ≡ false }
+        requires session { session < (core_rules self.now).sessions }
+        ensures bad { result ≡ is_bad_done (core_rules self.now) h session results.now }
+        ensures good { result ≡ false → list_any (is_bad_result (core_rules self.now) h session) results.now ≡ false }
     {
         are_bad(&self.queue, session, results)
     }

@@ -1,3 +1,4 @@
+//! What a core keeps of each session, and what an entry makes of it.
 ghost use Rattle.std.specs.Prelude.{◌≡◌, ℕ, ◌<◌, ◌&&◌, ◌==◌, false, None, length, slice_index_or, replicate, IfOk, if◌then◌else◌};
 ghost use Rattle.sv_journal.specs.History.{either, is_welcome, joining};
 ghost use Rattle.sv_journal.specs.Sessions.{is_last, welcomes, is_end};
@@ -6,7 +7,8 @@ ghost use Rattle.sv_sequencer.specs.Step.{entry_of};
 
 use std::alloc::{AllocError, Global};
 use sv_journal::Logged;
-use sv_wire::Request;
+use sv_wire::{Refusal, Request};
+use sv_world::MOST_REQUESTS;
 
 /// What a core keeps of a session.
 #[derive(Clone, Copy, Drop)]
@@ -29,7 +31,7 @@ pub fn no_sessions(alloc: Global, sessions: u16) -> Result<Vec<SessionRow>, Allo
         rows.push(SessionRow {
             client: None,
             over: false,
-            left: 1024,
+            left: MOST_REQUESTS,
             ended: false,
         })?;
     }
@@ -92,7 +94,7 @@ fn session_after(
         client: client_after(request, reply, is_own, row.client),
         over: row.over || is_over_by(asker, request, reply, session, row.client),
         left,
-        ended: row.ended || (is_own && ends),
+        ended: (is_own && ends) || row.ended,
     }
 }
 
@@ -158,7 +160,9 @@ fn is_last(reply: &Logged) -> bool
 {
     match reply {
         Logged::Bye => true,
-        Logged::Refused { code, .. } => *code == 1 || *code == 9,
+        Logged::Refused { code, .. } => {
+            *code == Refusal::Malformed.code() || *code == Refusal::TooManyRequests.code()
+        }
         _ => false,
     }
 }

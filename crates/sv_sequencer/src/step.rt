@@ -3,9 +3,8 @@ ghost use Rattle.std.specs.Prelude.{◌≡◌, List, ◌-◌, ◌<◌, [], ◌�
 ghost use Rattle.sv_wire.specs.declared.message.Request.TheVariants as requests;
 ghost use Rattle.sv_journal.specs.declared.entry.Entry.{Entry};
 ghost use Rattle.sv_journal.specs.declared.entry.Logged.TheVariants as logged;
-ghost use Rattle.sv_journal.specs.Sessions.{is_end};
+ghost use Rattle.sv_journal.specs.Sessions.{is_end, is_ended};
 ghost use Rattle.sv_journal.specs.Answer.{Legal};
-ghost use Rattle.sv_sequencer.specs.Rows.{is_ended};
 ghost use Rattle.sv_sequencer.specs.Step.{history, entry_of, Grew, Answered, Stayed};
 
 use crate::answer::Answer;
@@ -15,7 +14,7 @@ use sv_journal::{Entry, Journal, Logged};
 use sv_wire::{Reply, Request, copy_request};
 
 /// Enters a request with its reply into a journal that has room, and gives the reply in full.
-fn enter(journal: &mut Journal, session: u16, request: Request, answer: Answer) -> Reply
+pub fn enter(journal: &mut Journal, session: u16, request: Request, answer: Answer) -> Reply
     requires { 0 < journal.old.spare }
     ensures journal { journal.new ≡ record { entries = journal.old.entries ++ entry_of session request answer.logged ∷ []; spare = journal.old.spare - 1 } }
     ensures reply { result ≡ answer.reply }

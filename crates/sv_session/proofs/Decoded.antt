@@ -7,9 +7,9 @@ use Rattle.sv_wire.specs.declared.kinds.RequestKind.{RequestKind}
 use Rattle.sv_wire.specs.declared.kinds.RequestKind.TheVariants as kinds
 use Rattle.sv_wire.specs.declared.message.Request.{Request}
 use Rattle.sv_wire.specs.Steps.{Read, ◌>>=◌, stop, several}
-use Rattle.sv_wire.specs.Fields.{byte_at, number_at, count_at, objects_at, result_at}
+use Rattle.sv_wire.specs.Fields.{byte_from, number_from, count_from, objects_from, result_from}
 use Rattle.sv_wire.specs.Nodes.{kind_in}
-use Rattle.sv_wire.specs.Messages.{action_at, join_request_at, submit_at, done_at, request_of, request_kind_of, request_front, whole, placed, request_at}
+use Rattle.sv_wire.specs.Messages.{action_from, join_request_from, submit_from, done_from, request_of, request_kind_of, request_front, whole, placed, request_at}
 use Rattle.sv_journal.specs.Sessions.{is_end}
 
 abbrev NoEnd : Request × List ℕ → Type 0
@@ -19,17 +19,17 @@ after : {A B : Type 0} (P : B → Type 0) (r : Result A Stop) (f : A → Result 
 after P (Ok x) f each = each x
 after P (Err e) f each = tt
 
-join_no_end : (bytes : List ℕ) → IfOk (join_request_at bytes) NoEnd
-unfolding join_request_at
-join_no_end bytes = after NoEnd (number_at 2 bytes) _ (λ client. after NoEnd (number_at 4 client.1) _ (λ life. after NoEnd (count_at 0 64 life.1) _ (λ n. after NoEnd (objects_at n.0 n.1) _ (λ interest. refl))))
+join_no_end : (bytes : List ℕ) → IfOk (join_request_from bytes) NoEnd
+unfolding join_request_from
+join_no_end bytes = after NoEnd (number_from 2 bytes) _ (λ client. after NoEnd (number_from 4 client.1) _ (λ life. after NoEnd (count_from 0 64 life.1) _ (λ n. after NoEnd (objects_from n.0 n.1) _ (λ interest. refl))))
 
-submit_no_end : (bytes : List ℕ) → IfOk (submit_at bytes) NoEnd
-unfolding submit_at
-submit_no_end bytes = after NoEnd (number_at 4 bytes) _ (λ seq. after NoEnd (action_at seq.1) _ (λ action. refl))
+submit_no_end : (bytes : List ℕ) → IfOk (submit_from bytes) NoEnd
+unfolding submit_from
+submit_no_end bytes = after NoEnd (number_from 4 bytes) _ (λ seq. after NoEnd (action_from seq.1) _ (λ action. refl))
 
-done_no_end : (bytes : List ℕ) → IfOk (done_at bytes) NoEnd
-unfolding done_at
-done_no_end bytes = after NoEnd (count_at 1 33 bytes) _ (λ n. after NoEnd (several result_at n.0 n.1) _ (λ results. refl))
+done_no_end : (bytes : List ℕ) → IfOk (done_from bytes) NoEnd
+unfolding done_from
+done_no_end bytes = after NoEnd (count_from 1 33 bytes) _ (λ n. after NoEnd (several result_from n.0 n.1) _ (λ results. refl))
 
 kind_no_end : (kind : RequestKind) (bytes : List ℕ) → IfOk (request_of kind bytes) NoEnd
 kind_no_end kinds.Join bytes = join_no_end bytes
@@ -40,7 +40,7 @@ kind_no_end kinds.Leave bytes = refl
 
 front_no_end : (bytes : List ℕ) → IfOk (request_front bytes) NoEnd
 unfolding request_front
-front_no_end bytes = after NoEnd (byte_at bytes) _ (λ b. after NoEnd (kind_in (request_kind_of b.0) bytes) _ (λ kind. kind_no_end kind b.1))
+front_no_end bytes = after NoEnd (byte_from bytes) _ (λ b. after NoEnd (kind_in (request_kind_of b.0) bytes) _ (λ kind. kind_no_end kind b.1))
 
 kept : (b : Bool) (q : Request) (rest : List ℕ) → is_end q ≡ false → IfOk (if b then Ok q else stop rest Rest) (λ x. is_end x ≡ false)
 kept true q rest p = p

@@ -14,7 +14,7 @@ use Rattle.sv_sequencer.specs.Step.{entry_of}
 use Rattle.sv_lock.specs.Histories.{entries_of, GoesOn}
 use Rattle.sv_lock.specs.Passes.{session_number}
 use Rattle.sv_link.specs.Ends.{Told}
-use Rattle.sv_session.specs.Requests.{reply_frames}
+use Rattle.sv_session.specs.Requests.{due_frames}
 use Rattle.sv_session.specs.Serving.{SessionPass, IsSamePass, Explains, Served}
 use Rattle.sv_session.specs.Rounds.{stand, Halts}
 use Rattle.sv_session.specs.declared.outcome.SessionOut.{SessionOut}
@@ -35,7 +35,7 @@ module _ (law : FullRepliesStay) (old : Told) (before : SessionPass) (out : Sess
   grown : IsPrefix between.seen after.seen
   grown = goes_on_prefix between.seen (entry_of (session_number between) requests.End (logged_of reply)) after.seen on
 
-  due : reply_frames between.seen h.answered ≡ reply_frames after.seen h.answered
+  due : due_frames between.seen h.answered ≡ due_frames after.seen h.answered
   due = sym (frames_on law between.seen after.seen h.answered grown h.steps.named)
 
   pub served : new ≡ record told { closed = true } → after.mine ≡ between.mine ++ entry_of (session_number between) requests.End (logged_of reply) ∷ [] →

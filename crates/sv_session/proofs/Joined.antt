@@ -15,7 +15,7 @@ use Rattle.sv_journal.specs.Laws.{AreWithinLimits, FullRepliesStay}
 use Rattle.sv_lock.specs.Passes.{LockView, session_number}
 use Rattle.sv_lock.proofs.Histories.{prefix_self, prefix_trans}
 use Rattle.sv_link.specs.Ends.{Told}
-use Rattle.sv_session.specs.Requests.{requests_in, requests_of, reply_frames, stop_after, StopsFor}
+use Rattle.sv_session.specs.Requests.{requests_read, entry_requests, due_frames, stop_after, StopsFor}
 use Rattle.sv_session.specs.Serving.{SessionPass, IsSamePass, MayServe, BreaksOff, TookAll, Explains, ended_by}
 use Rattle.sv_session.specs.Rounds.{Stand, BeginsWith, StepsOn, Onward, Halts}
 use Rattle.sv_session.specs.declared.outcome.SessionOut.{SessionOut}
@@ -75,7 +75,7 @@ joined_last told s t r q ended = ap (λ (u : Told). record u { ended = ended }) 
 
 -- ---- What an outcome says, after more rounds
 
-explains_later : (out : SessionOut) (stream rest : List ℕ) (x y : List Entry) (s t due left : List ℕ) → stop_after x ≡ None → requests_in stream ≡ requests_of x ++ requests_in rest →
+explains_later : (out : SessionOut) (stream rest : List ℕ) (x y : List Entry) (s t due left : List ℕ) → stop_after x ≡ None → requests_read stream ≡ entry_requests x ++ requests_read rest →
     too_long (split_frames stream).1 ≡ too_long (split_frames rest).1 → due ≡ s ++ left → Explains out rest y t left → Explains out stream (x ++ y) (s ++ t) due
 explains_later out stream rest x y s t due left on asked same is = by_out out
   where
@@ -105,7 +105,7 @@ explains_later out stream rest x y s t due left on asked same is = by_out out
     all_later f = (
       record {
         on = on_after x y on ∙ f.0.on;
-        all = map-append (λ (e : Entry). e.request) x y ∙ (ap (λ l. requests_of x ++ l) f.0.all ∙ sym asked);
+        all = map-append (λ (e : Entry). e.request) x y ∙ (ap (λ l. entry_requests x ++ l) f.0.all ∙ sym asked);
         rest = same ∙ f.0.rest;
       },
       ap (λ l. s ++ l) f.1 ∙ sym is,
@@ -124,18 +124,18 @@ explains_later out stream rest x y s t due left on asked same is = by_out out
 
 module _ (law : FullRepliesStay) (a b : Stand) (p : Onward a b) where
   -- what is due after more rounds, and what was sent of it
-  due_later : (after : SessionPass) (y : List Entry) → IsPrefix b.pass.seen after.seen → a.outbox ++ reply_frames after.seen (p.answered ++ y) ≡ p.sent ++ (b.outbox ++ reply_frames after.seen y)
+  due_later : (after : SessionPass) (y : List Entry) → IsPrefix b.pass.seen after.seen → a.outbox ++ due_frames after.seen (p.answered ++ y) ≡ p.sent ++ (b.outbox ++ due_frames after.seen y)
   due_later after y goes_on =
       ap (λ l. a.outbox ++ l) (frames_of_both after.seen p.answered y)
-      ∙ (ap (λ l. a.outbox ++ (l ++ reply_frames after.seen y)) (frames_on law b.pass.seen after.seen p.answered goes_on p.steps.named)
-      ∙ (sym (append_assoc a.outbox (reply_frames b.pass.seen p.answered) (reply_frames after.seen y))
-      ∙ (ap (λ l. l ++ reply_frames after.seen y) (sym p.replies) ∙ append_assoc p.sent b.outbox (reply_frames after.seen y))))
+      ∙ (ap (λ l. a.outbox ++ (l ++ due_frames after.seen y)) (frames_on law b.pass.seen after.seen p.answered goes_on p.steps.named)
+      ∙ (sym (append_assoc a.outbox (due_frames b.pass.seen p.answered) (due_frames after.seen y))
+      ∙ (ap (λ l. l ++ due_frames after.seen y) (sym p.replies) ∙ append_assoc p.sent b.outbox (due_frames after.seen y))))
 
   -- what came goes on from what was not taken
-  begins_later : (more : List ℕ) → BeginsWith (a.inbox ++ (p.received ++ more)) (requests_of p.answered) (b.inbox ++ more)
+  begins_later : (more : List ℕ) → BeginsWith (a.inbox ++ (p.received ++ more)) (entry_requests p.answered) (b.inbox ++ more)
   begins_later more =
-      subst (λ s. BeginsWith s (requests_of p.answered) (b.inbox ++ more)) (append_assoc a.inbox p.received more)
-      (begins_and_more (a.inbox ++ p.received) more (requests_of p.answered) b.inbox p.requests)
+      subst (λ s. BeginsWith s (entry_requests p.answered) (b.inbox ++ more)) (append_assoc a.inbox p.received more)
+      (begins_and_more (a.inbox ++ p.received) more (entry_requests p.answered) b.inbox p.requests)
 
   pub onward_twice : (c : Stand) → Onward b c → Onward a c
   onward_twice c q =
@@ -147,7 +147,7 @@ module _ (law : FullRepliesStay) (a b : Stand) (p : Onward a b) where
         steps = steps_twice a.pass p.answered b.pass q.answered c.pass p.steps q.steps;
         no_end = All-append (λ (e : Entry). is_end e.request ≡ false) p.answered q.answered p.no_end q.no_end;
         requests = subst (λ l. BeginsWith (a.inbox ++ (p.received ++ q.received)) l c.inbox) (sym (map-append (λ (e : Entry). e.request) p.answered q.answered))
-            (begins_twice (a.inbox ++ (p.received ++ q.received)) (requests_of p.answered) (b.inbox ++ q.received) (requests_of q.answered) c.inbox (begins_later q.received) q.requests);
+            (begins_twice (a.inbox ++ (p.received ++ q.received)) (entry_requests p.answered) (b.inbox ++ q.received) (entry_requests q.answered) c.inbox (begins_later q.received) q.requests);
         replies = append_assoc p.sent q.sent c.outbox ∙ (ap (λ l. p.sent ++ l) q.replies ∙ sym (due_later c.pass q.answered q.steps.goes_on));
         on = on_after p.answered q.answered p.on ∙ q.on;
       }
@@ -165,8 +165,8 @@ module _ (law : FullRepliesStay) (a b : Stand) (p : Onward a b) where
             ∙ joined_last a.told p.sent q.sent p.received q.received (ended_by out a.told.ended));
         steps = steps_twice a.pass p.answered b.pass q.answered after p.steps q.steps;
         no_end = All-append (λ (e : Entry). is_end e.request ≡ false) p.answered q.answered p.no_end q.no_end;
-        requests = subst (λ l. IsPrefix l (requests_in (a.inbox ++ (p.received ++ q.received)))) (sym (map-append (λ (e : Entry). e.request) p.answered q.answered))
-            (subst (λ l. IsPrefix (requests_of p.answered ++ requests_of q.answered) l) (sym asked) (prefix_under (requests_of p.answered) (requests_of q.answered) _ q.requests));
+        requests = subst (λ l. IsPrefix l (requests_read (a.inbox ++ (p.received ++ q.received)))) (sym (map-append (λ (e : Entry). e.request) p.answered q.answered))
+            (subst (λ l. IsPrefix (entry_requests p.answered ++ entry_requests q.answered) l) (sym asked) (prefix_under (entry_requests p.answered) (entry_requests q.answered) _ q.requests));
         replies = subst (λ l. IsPrefix (p.sent ++ q.sent) l) (sym due) (prefix_under p.sent q.sent _ q.replies);
         cause = explains_later out (a.inbox ++ (p.received ++ q.received)) (b.inbox ++ q.received) p.answered q.answered p.sent q.sent _ _ p.on asked (leaves_so _ _ _ begins) due q.cause;
         exactly = λ reason stop all. q.exactly reason (sym (on_after p.answered q.answered p.on) ∙ stop) (append_cancel_left p.sent q.sent _ (all ∙ due));

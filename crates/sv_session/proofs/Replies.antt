@@ -14,21 +14,21 @@ use Rattle.sv_journal.specs.declared.entry.Logged.TheVariants as logged
 use Rattle.sv_journal.specs.History.{Authored, is_relay, client_of, outcomes_of, new_action, accepted, full_reply}
 use Rattle.sv_journal.specs.Text.{NamesAccepted}
 use Rattle.sv_journal.specs.Laws.{FullRepliesStay}
-use Rattle.sv_session.specs.Requests.{reply_payload, reply_frames}
-use Rattle.sv_session.specs.Rounds.{AreNamed}
+use Rattle.sv_session.specs.Requests.{reply_payload, due_frames}
+use Rattle.sv_session.specs.Rounds.{AllNameAccepted}
 
 -- ---- Frames
 
-pub frames_of_both : (seen a b : List Entry) → reply_frames seen (a ++ b) ≡ reply_frames seen a ++ reply_frames seen b
-unfolding reply_frames
+pub frames_of_both : (seen a b : List Entry) → due_frames seen (a ++ b) ≡ due_frames seen a ++ due_frames seen b
+unfolding due_frames
 frames_of_both seen a b = ap (flat_map frame) (map-append (reply_payload seen) a b) ∙ flat_map-append frame (map (reply_payload seen) a) (map (reply_payload seen) b)
 
-pub frames_of_one : (seen : List Entry) (e : Entry) → reply_frames seen (e ∷ []) ≡ frame (reply_payload seen e)
-unfolding reply_frames
+pub frames_of_one : (seen : List Entry) (e : Entry) → due_frames seen (e ∷ []) ≡ frame (reply_payload seen e)
+unfolding due_frames
 frames_of_one seen e = append-nil (frame (reply_payload seen e))
 
-pub frames_of_none : (seen : List Entry) → reply_frames seen [] ≡ []
-unfolding reply_frames
+pub frames_of_none : (seen : List Entry) → due_frames seen [] ≡ []
+unfolding due_frames
 frames_of_none seen = refl
 
 -- ---- The history goes on
@@ -59,7 +59,7 @@ names_more A more (logged.Refused code detail) f = tt
 names_more A more logged.Bye f = tt
 
 -- what was named so far is named still
-pub named_on : (before after entries : List Entry) → IsPrefix before after → AreNamed before entries → AreNamed after entries
+pub named_on : (before after entries : List Entry) → IsPrefix before after → AllNameAccepted before entries → AllNameAccepted after entries
 named_on before after entries p named =
     let grown = accepted_on before after p in
     λ k d low. subst (λ (A : List Authored). NamesAccepted (length A) (get_or entries k d).reply) (sym grown.1) (names_more (accepted (reverse before)) grown.0 (get_or entries k d).reply (named k d low))
@@ -75,6 +75,6 @@ payloads_on law before after [] p named = refl
 payloads_on law before after (e ∷ entries) p named = rw (payload_on law before after e p named.0, payloads_on law before after entries p named.1) refl
 
 -- the frames of replies stay the same
-pub frames_on : FullRepliesStay → (before after entries : List Entry) → IsPrefix before after → AreNamed before entries → reply_frames after entries ≡ reply_frames before entries
-unfolding reply_frames
+pub frames_on : FullRepliesStay → (before after entries : List Entry) → IsPrefix before after → AllNameAccepted before entries → due_frames after entries ≡ due_frames before entries
+unfolding due_frames
 frames_on law before after entries p named = ap frames_of (payloads_on law before after entries p (recursion_from_All _ entries named))

@@ -23,9 +23,9 @@ use Rattle.sv_sequencer.specs.Step.{entry_of}
 use Rattle.sv_lock.specs.Histories.{GoesOn}
 use Rattle.sv_lock.specs.Passes.{session_number}
 use Rattle.sv_link.specs.Ends.{Told}
-use Rattle.sv_session.specs.Requests.{requests_in, reply_frames, stop_of, stop_after, StopsFor}
+use Rattle.sv_session.specs.Requests.{requests_read, due_frames, stop_of, stop_after, StopsFor}
 use Rattle.sv_session.specs.Serving.{SessionPass, IsSamePass, BreaksOff, Explains, ended_by}
-use Rattle.sv_session.specs.Answers.{IsPosted, IsRead, IsRound}
+use Rattle.sv_session.specs.Answers.{IsReplyPosted, IsRead, IsRound}
 use Rattle.sv_session.specs.Rounds.{Stand, stand, BeginsWith, Takes, StepsOn, Steps, IsBroken, Posts, PostsLast, ReadsOn, ReadsLast, Onward, Halts}
 use Rattle.sv_session.specs.declared.outcome.SessionOut.{SessionOut}
 use Rattle.sv_session.specs.declared.outcome.SessionOut.TheVariants as outs
@@ -100,7 +100,7 @@ steps_if before after request (Err e) names messages limits no_end same on mine 
 -- ---- A reply is posted
 
 module _ (a : Stand) (q : Request) (reply : Reply) (inbox : List ℕ) (told : Told) (pass : SessionPass) (takes : Takes a.inbox q inbox) (s : Steps a.pass q reply pass) where
-  due_same : a.outbox ++ frame (reply_bytes reply) ≡ a.outbox ++ reply_frames pass.seen (s.entry ∷ [])
+  due_same : a.outbox ++ frame (reply_bytes reply) ≡ a.outbox ++ due_frames pass.seen (s.entry ∷ [])
   due_same = ap (λ l. a.outbox ++ l) (ap frame s.whole ∙ sym (frames_of_one pass.seen s.entry))
 
   alone : stop_after (s.entry ∷ []) ≡ stop_of (logged_of reply)
@@ -170,7 +170,7 @@ module _ (a : Stand) (q : Request) (reply : Reply) (inbox : List ℕ) (told : To
         told = posts.told ∙ (received_none posts.sent ∙ ap (λ (b : Bool). record a.told { sent = a.told.sent ++ posts.sent; received = a.told.received ++ []; ended = b }) (sym (ended_same out (kinds posts.why) a.told.ended)));
         steps = s.on;
         no_end = no_end_here;
-        requests = (takes.first.0, ap (λ (x : Request). x ∷ takes.first.0) s.asks ∙ (sym takes.first.1 ∙ ap requests_in (sym (append-nil a.inbox))));
+        requests = (takes.first.0, ap (λ (x : Request). x ∷ takes.first.0) s.asks ∙ (sym takes.first.1 ∙ ap requests_read (sym (append-nil a.inbox))));
         replies = subst (λ l. IsPrefix posts.sent l) due_same posts.part;
         cause = cause posts.why;
         exactly = exactly posts.why;
@@ -181,12 +181,12 @@ module _ (a : Stand) (q : Request) (reply : Reply) (inbox : List ℕ) (told : To
       kinds (inr w) = inr w.0
 
       cause : ((stop_of (logged_of reply) ≡ Some out) × (posts.sent ≡ a.outbox ++ frame (reply_bytes reply))) ⊎ (IsBroken out × (posts.sent ≢ a.outbox ++ frame (reply_bytes reply))) →
-          Explains out (a.inbox ++ []) (s.entry ∷ []) posts.sent (a.outbox ++ reply_frames pass.seen (s.entry ∷ []))
+          Explains out (a.inbox ++ []) (s.entry ∷ []) posts.sent (a.outbox ++ due_frames pass.seen (s.entry ∷ []))
       cause (inl w) = explains_stop out w.0 (a.inbox ++ []) posts.sent _ (w.1 ∙ due_same)
       cause (inr w) = explains_broken out w.0 (a.inbox ++ []) posts.sent _
 
       exactly : ((stop_of (logged_of reply) ≡ Some out) × (posts.sent ≡ a.outbox ++ frame (reply_bytes reply))) ⊎ (IsBroken out × (posts.sent ≢ a.outbox ++ frame (reply_bytes reply))) →
-          (reason : SessionOut) → stop_after (s.entry ∷ []) ≡ Some reason → posts.sent ≡ a.outbox ++ reply_frames pass.seen (s.entry ∷ []) → out ≡ reason
+          (reason : SessionOut) → stop_after (s.entry ∷ []) ≡ Some reason → posts.sent ≡ a.outbox ++ due_frames pass.seen (s.entry ∷ []) → out ≡ reason
       exactly (inl w) reason stop all = let both : Some out ≡ Some reason = sym w.0 ∙ (sym alone ∙ stop) in cc
       exactly (inr w) reason stop all = absurd (w.1 (all ∙ sym due_same))
 
@@ -208,13 +208,13 @@ module _ (a : Stand) where
     told = sym told_same;
     steps = on;
     no_end = All-nil (λ (e : Entry). is_end e.request ≡ false);
-    requests = (requests_in (a.inbox ++ []), refl);
-    replies = (a.outbox ++ reply_frames pass.seen [], refl);
+    requests = (requests_read (a.inbox ++ []), refl);
+    replies = (a.outbox ++ due_frames pass.seen [], refl);
     cause = record { before = []; last = []; are = refl; few = omega arith; on = refl };
     exactly = λ reason stop all. absurd (none_stop reason stop);
   }
 
-  due_none : a.outbox ++ reply_frames a.pass.seen [] ≡ a.outbox
+  due_none : a.outbox ++ due_frames a.pass.seen [] ≡ a.outbox
   due_none = ap (λ l. a.outbox ++ l) (frames_of_none a.pass.seen) ∙ append-nil a.outbox
 
   pub on_read : (told : Told) (inbox : List ℕ) → ReadsOn a.told a.outbox a.inbox told inbox → Onward a (record { told = told; pass = a.pass; inbox = inbox; outbox = [] })
@@ -238,7 +238,7 @@ module _ (a : Stand) where
     told = reads.told ∙ ap (λ (l : List ℕ). record a.told { sent = a.told.sent ++ reads.sent; received = l; ended = ended_by out a.told.ended }) (sym (append-nil a.told.received));
     steps = steps_none a.pass;
     no_end = All-nil (λ (e : Entry). is_end e.request ≡ false);
-    requests = (requests_in (a.inbox ++ []), refl);
+    requests = (requests_read (a.inbox ++ []), refl);
     replies = subst (λ l. IsPrefix reads.sent l) (sym due_none) reads.part;
     cause = cause reads.why;
     exactly = λ reason stop all. absurd (none_stop reason stop);
@@ -247,16 +247,16 @@ module _ (a : Stand) where
       breaks_none : BreaksOff []
       breaks_none = record { before = []; last = []; are = refl; few = omega arith; on = refl }
 
-      cause : ((out ≡ outs.Closed) × (reads.sent ≡ a.outbox)) ⊎ IsBroken out → Explains out (a.inbox ++ []) [] reads.sent (a.outbox ++ reply_frames a.pass.seen [])
-      cause (inl w) = subst (λ o. Explains o (a.inbox ++ []) [] reads.sent (a.outbox ++ reply_frames a.pass.seen [])) (sym w.0)
-          (record { on = refl; all = sym (ap requests_in (append-nil a.inbox) ∙ none_yet a.inbox no_frame no_length); rest = ap (λ l. too_long (split_frames l).1) (append-nil a.inbox) ∙ none_left a.inbox no_frame no_length }, w.1 ∙ sym due_none)
-      cause (inr (inl w)) = subst (λ o. Explains o (a.inbox ++ []) [] reads.sent (a.outbox ++ reply_frames a.pass.seen [])) (sym w) breaks_none
-      cause (inr (inr w)) = subst (λ o. Explains o (a.inbox ++ []) [] reads.sent (a.outbox ++ reply_frames a.pass.seen [])) (sym w) breaks_none
+      cause : ((out ≡ outs.Closed) × (reads.sent ≡ a.outbox)) ⊎ IsBroken out → Explains out (a.inbox ++ []) [] reads.sent (a.outbox ++ due_frames a.pass.seen [])
+      cause (inl w) = subst (λ o. Explains o (a.inbox ++ []) [] reads.sent (a.outbox ++ due_frames a.pass.seen [])) (sym w.0)
+          (record { on = refl; all = sym (ap requests_read (append-nil a.inbox) ∙ none_yet a.inbox no_frame no_length); rest = ap (λ l. too_long (split_frames l).1) (append-nil a.inbox) ∙ none_left a.inbox no_frame no_length }, w.1 ∙ sym due_none)
+      cause (inr (inl w)) = subst (λ o. Explains o (a.inbox ++ []) [] reads.sent (a.outbox ++ due_frames a.pass.seen [])) (sym w) breaks_none
+      cause (inr (inr w)) = subst (λ o. Explains o (a.inbox ++ []) [] reads.sent (a.outbox ++ due_frames a.pass.seen [])) (sym w) breaks_none
 
 -- ---- What the round answers
 
 pub round_posted : (result : Option SessionOut) (a : Stand) (q : Request) (reply : Reply) (inbox : List ℕ) (told : Told) (pass : SessionPass) (outbox : List ℕ) → Takes a.inbox q inbox → Steps a.pass q reply pass →
-    IsPosted result (stop_of (logged_of reply)) a.told (a.outbox ++ frame (reply_bytes reply)) told outbox → IsRound result a (stand told pass inbox outbox)
+    IsReplyPosted result (stop_of (logged_of reply)) a.told (a.outbox ++ frame (reply_bytes reply)) told outbox → IsRound result a (stand told pass inbox outbox)
 round_posted None a q reply inbox told pass outbox takes s posts = on_answered a q reply inbox told pass takes s outbox posts.0 posts.1
 round_posted (Some out) a q reply inbox told pass outbox takes s posts = halts_answered a q reply inbox told pass takes s out posts
 

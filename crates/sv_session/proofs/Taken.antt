@@ -9,7 +9,7 @@ use Rattle.sv_wire.specs.declared.message.Request.{Request}
 use Rattle.sv_wire.specs.declared.message.Request.TheVariants as requests
 use Rattle.sv_wire.specs.Messages.{request_at}
 use Rattle.sv_exchange.specs.Incoming.{FirstReads}
-use Rattle.sv_session.specs.Requests.{read_or_bad, requests_in}
+use Rattle.sv_session.specs.Requests.{read_or_bad, requests_read}
 use Rattle.sv_session.specs.Rounds.{BeginsWith, Takes}
 use Rattle.sv_session.proofs.Streams.{first_request, begins_with_frame, long_is_bad}
 use Rattle.sv_session.proofs.Decoded.{decoded_no_end}
@@ -26,18 +26,18 @@ pub whole_taken : (old new : List ℕ) (request : Request) → FirstReads reques
 whole_taken old new request reads skip =
     let at = skipped (first_frame old) reads.payload old new reads.first skip in
     record {
-      first = (requests_in new, first_request old reads.payload new at ∙ ap (λ (r : Result Request Malformed). read_or_bad r ∷ requests_in new) reads.is);
+      first = (requests_read new, first_request old reads.payload new at ∙ ap (λ (r : Result Request Malformed). read_or_bad r ∷ requests_read new) reads.is);
       next = λ _. subst (λ (r : Result Request Malformed). BeginsWith old (read_or_bad r ∷ []) new) reads.is (begins_with_frame old reads.payload new at);
       asked = decoded_no_end reads.payload request reads.is;
     }
 
-bad_taken : (old new : List ℕ) (after : List Request) → requests_in old ≡ requests.Bad ∷ after → Takes old requests.Bad new
+bad_taken : (old new : List ℕ) (after : List Request) → requests_read old ≡ requests.Bad ∷ after → Takes old requests.Bad new
 bad_taken old new after is = record { first = (after, is); next = λ other. absurd (other refl); asked = refl }
 
 pub malformed_taken : (old new : List ℕ) (fault : Malformed) → FirstReads request_at old (Err fault) → Takes old requests.Bad new
 malformed_taken old new fault reads =
     let at = found (first_frame old) reads.payload reads.first in
-    bad_taken old new (requests_in at.0) (first_request old reads.payload at.0 at.1 ∙ ap (λ (r : Result Request Malformed). read_or_bad r ∷ requests_in at.0) reads.is)
+    bad_taken old new (requests_read at.0) (first_request old reads.payload at.0 at.1 ∙ ap (λ (r : Result Request Malformed). read_or_bad r ∷ requests_read at.0) reads.is)
 
 pub long_taken : (old new : List ℕ) (n : ℕ) → too_long old ≡ Some n → Takes old requests.Bad new
 long_taken old new n is = bad_taken old new [] (long_is_bad old n is)

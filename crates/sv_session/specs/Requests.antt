@@ -1,11 +1,13 @@
 -- The requests in the bytes that come, the bytes of the replies, and which replies stop a session.
 use Rattle.std.specs.Prelude.{◌≡◌, ℕ, ◌==◌, ◌++◌, List, [], ◌∷◌, map, reverse, Option, Some, None, Result, Ok, Err, if◌then◌else◌}
 use Rattle.sv_frame.specs.Frames.{frames_of}
-use Rattle.sv_frame.specs.Streams.{Incoming, incoming_items}
-use Rattle.sv_frame.specs.Streams.Incoming.{Payload, TooLong}
+use Rattle.sv_frame.specs.Streams.{StreamItem, incoming_items}
+use Rattle.sv_frame.specs.Streams.StreamItem.{Payload, TooLong}
 use Rattle.sv_wire.specs.declared.fault.Malformed.{Malformed}
 use Rattle.sv_wire.specs.declared.message.Request.{Request}
 use Rattle.sv_wire.specs.declared.message.Request.TheVariants as requests
+use Rattle.sv_wire.specs.declared.refusal.Refusal.TheVariants as refusals
+use Rattle.sv_wire.specs.Refusals.{code_of}
 use Rattle.sv_wire.specs.Messages.{request_at}
 use Rattle.sv_wire.specs.Spelling.{reply_bytes}
 use Rattle.sv_journal.specs.declared.entry.Entry.{Entry}
@@ -23,17 +25,17 @@ read_or_bad (Ok request) = request
 read_or_bad (Err fault) = requests.Bad
 
 -- the request that is taken for what came: for a payload, or for a length over the limit
-abbrev pub request_for : Incoming → Request
+abbrev pub request_for : StreamItem → Request
 request_for (Payload payload) = read_or_bad (request_at payload)
 request_for (TooLong n) = requests.Bad
 
 -- the requests in a stream, in order
-unfoldable pub requests_in : List ℕ → List Request
-requests_in stream = map request_for (incoming_items stream)
+unfoldable pub requests_read : List ℕ → List Request
+requests_read stream = map request_for (incoming_items stream)
 
 -- the requests of entries
-abbrev pub requests_of : List Entry → List Request
-requests_of entries = map (λ (e : Entry). e.request) entries
+abbrev pub entry_requests : List Entry → List Request
+entry_requests entries = map (λ (e : Entry). e.request) entries
 
 -- ---- Replies
 
@@ -42,14 +44,17 @@ abbrev pub reply_payload : List Entry → Entry → List ℕ
 reply_payload seen e = reply_bytes (full_reply (accepted (reverse seen)) e.reply)
 
 -- the frames of the replies of these entries, one after the other
-unfoldable pub reply_frames : List Entry → List Entry → List ℕ
-reply_frames seen entries = frames_of (map (reply_payload seen) entries)
+unfoldable pub due_frames : List Entry → List Entry → List ℕ
+due_frames seen entries = frames_of (map (reply_payload seen) entries)
 
 -- ---- Stops
 
 -- why a session stops after a refusal
 abbrev pub stop_for_code : ℕ → Option SessionOut
-stop_for_code code = if code == 1 then Some outs.Malformed else if code == 4 then Some outs.Ended else if code == 9 then Some outs.Spent else None
+stop_for_code code = if code == code_of refusals.Malformed then Some outs.Malformed
+    else if code == code_of refusals.Over then Some outs.Ended
+    else if code == code_of refusals.TooManyRequests then Some outs.Spent
+    else None
 
 -- why a session stops after a reply, where it does
 abbrev pub stop_of : Logged → Option SessionOut

@@ -13,7 +13,7 @@ use Rattle.sv_journal.specs.Sessions.{is_end}
 use Rattle.sv_journal.specs.Text.{NamesAccepted}
 use Rattle.sv_sequencer.specs.Shared.{logged_of}
 use Rattle.sv_link.specs.Ends.{Told, sending, receiving}
-use Rattle.sv_session.specs.Requests.{requests_in, requests_of, reply_payload, reply_frames, stop_of, stop_after}
+use Rattle.sv_session.specs.Requests.{requests_read, entry_requests, reply_payload, due_frames, stop_of, stop_after}
 use Rattle.sv_session.specs.Serving.{SessionPass, IsSamePass, Explains, ended_by}
 use Rattle.sv_session.specs.declared.outcome.SessionOut.{SessionOut}
 use Rattle.sv_session.specs.declared.outcome.SessionOut.TheVariants as outs
@@ -32,27 +32,27 @@ stand told pass inbox outbox = record { told = told; pass = pass; inbox = inbox;
 
 -- a stream begins with these requests, however it goes on; and this is what it goes on from
 pub record BeginsWith (stream : List ℕ) (taken : List Request) (rest : List ℕ) : Type 0 where
-  pub asked : (more : List ℕ) → requests_in (stream ++ more) ≡ taken ++ requests_in (rest ++ more)
+  pub asked : (more : List ℕ) → requests_read (stream ++ more) ≡ taken ++ requests_read (rest ++ more)
   pub left : (more : List ℕ) → (split_frames (stream ++ more)).1 ≡ (split_frames (rest ++ more)).1
 
 -- a request was taken off. Where it is Bad nothing more is said of what is left
 pub record Takes (old : List ℕ) (request : Request) (new : List ℕ) : Type 0 where
-  pub first : (after : List Request) × (requests_in old ≡ request ∷ after)
+  pub first : (after : List Request) × (requests_read old ≡ request ∷ after)
   pub next : request ≢ requests.Bad → BeginsWith old (request ∷ []) new
   pub asked : is_end request ≡ false
 
 -- ---- Requests that are stepped
 
 -- the replies of these entries name positions that were accepted
-abbrev pub AreNamed : List Entry → List Entry → Type 0
-AreNamed seen entries = All (λ (e : Entry). NamesAccepted (length (accepted (reverse seen))) e.reply) entries
+abbrev pub AllNameAccepted : List Entry → List Entry → Type 0
+AllNameAccepted seen entries = All (λ (e : Entry). NamesAccepted (length (accepted (reverse seen))) e.reply) entries
 
 -- a pass went on, and has these entries more of its own
 pub record StepsOn (before : SessionPass) (entries : List Entry) (after : SessionPass) : Type 0 where
   pub same : IsSamePass before after
   pub goes_on : IsPrefix before.seen after.seen
   pub mine : after.mine ≡ before.mine ++ entries
-  pub named : AreNamed after.seen entries
+  pub named : AllNameAccepted after.seen entries
 
 -- a request was stepped, and this is its reply in full
 pub record Steps (before : SessionPass) (request : Request) (reply : Reply) (after : SessionPass) : Type 0 where
@@ -109,8 +109,8 @@ pub record Onward (a b : Stand) : Type 0 where
   pub told : b.told ≡ record a.told { sent = a.told.sent ++ sent; received = a.told.received ++ received }
   pub steps : StepsOn a.pass answered b.pass
   pub no_end : All (λ (e : Entry). is_end e.request ≡ false) answered
-  pub requests : BeginsWith (a.inbox ++ received) (requests_of answered) b.inbox
-  pub replies : sent ++ b.outbox ≡ a.outbox ++ reply_frames b.pass.seen answered
+  pub requests : BeginsWith (a.inbox ++ received) (entry_requests answered) b.inbox
+  pub replies : sent ++ b.outbox ≡ a.outbox ++ due_frames b.pass.seen answered
   pub on : stop_after answered ≡ None
 
 -- The loop ends.
@@ -121,7 +121,7 @@ pub record Halts (a : Stand) (out : SessionOut) (new : Told) (after : SessionPas
   pub told : new ≡ record a.told { sent = a.told.sent ++ sent; received = a.told.received ++ received; ended = ended_by out a.told.ended }
   pub steps : StepsOn a.pass answered after
   pub no_end : All (λ (e : Entry). is_end e.request ≡ false) answered
-  pub requests : IsPrefix (requests_of answered) (requests_in (a.inbox ++ received))
-  pub replies : IsPrefix sent (a.outbox ++ reply_frames after.seen answered)
-  pub cause : Explains out (a.inbox ++ received) answered sent (a.outbox ++ reply_frames after.seen answered)
-  pub exactly : (reason : SessionOut) → stop_after answered ≡ Some reason → sent ≡ a.outbox ++ reply_frames after.seen answered → out ≡ reason
+  pub requests : IsPrefix (entry_requests answered) (requests_read (a.inbox ++ received))
+  pub replies : IsPrefix sent (a.outbox ++ due_frames after.seen answered)
+  pub cause : Explains out (a.inbox ++ received) answered sent (a.outbox ++ due_frames after.seen answered)
+  pub exactly : (reason : SessionOut) → stop_after answered ≡ Some reason → sent ≡ a.outbox ++ due_frames after.seen answered → out ≡ reason

@@ -14,7 +14,7 @@ use Rattle.sv_sequencer.specs.Step.{entry_of}
 use Rattle.sv_lock.specs.Histories.{entries_of}
 use Rattle.sv_lock.specs.Passes.{LockView, PassView, session_number}
 use Rattle.sv_link.specs.Ends.{Told}
-use Rattle.sv_session.specs.Requests.{requests_in, requests_of, reply_frames, stop_after, StopsFor}
+use Rattle.sv_session.specs.Requests.{requests_read, entry_requests, due_frames, stop_after, StopsFor}
 use Rattle.sv_session.specs.declared.outcome.SessionOut.{SessionOut}
 use Rattle.sv_session.specs.declared.outcome.SessionOut.TheVariants as outs
 
@@ -49,7 +49,7 @@ pub record BreaksOff (entries : List Entry) : Type 0 where
 -- The loop went on after each reply, every request that came was answered, and what is left is less than a frame.
 pub record TookAll (stream : List ℕ) (answered : List Entry) : Type 0 where
   pub on : stop_after answered ≡ None
-  pub all : requests_of answered ≡ requests_in stream
+  pub all : entry_requests answered ≡ requests_read stream
   pub rest : too_long (split_frames stream).1 ≡ None
 
 -- What an outcome says of the bytes that came, the requests that were answered, what was sent, and what was due.
@@ -81,7 +81,7 @@ pub record Served (old : Told) (before : SessionPass) (out : SessionOut) (new : 
   pub just : entries_of (λ (e : Entry). e.session) (session_number after) after.seen ≡ after.mine
   pub mine : after.mine ≡ (before.mine ++ answered) ++ entry_of (session_number before) requests.End logged.Bye ∷ []
   pub no_other : All (λ (e : Entry). is_end e.request ≡ false) answered
-  pub requests : IsPrefix (requests_of answered) (requests_in received)
-  pub replies : IsPrefix sent (reply_frames after.seen answered)
-  pub cause : Explains out received answered sent (reply_frames after.seen answered)
-  pub exactly : (reason : SessionOut) → stop_after answered ≡ Some reason → sent ≡ reply_frames after.seen answered → out ≡ reason
+  pub requests : IsPrefix (entry_requests answered) (requests_read received)
+  pub replies : IsPrefix sent (due_frames after.seen answered)
+  pub cause : Explains out received answered sent (due_frames after.seen answered)
+  pub exactly : (reason : SessionOut) → stop_after answered ≡ Some reason → sent ≡ due_frames after.seen answered → out ≡ reason

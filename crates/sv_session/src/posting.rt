@@ -5,23 +5,26 @@ ghost use Rattle.sv_wire.specs.Grammar.{IsWireReply};
 ghost use Rattle.sv_wire.specs.Spelling.{reply_bytes};
 ghost use Rattle.sv_sequencer.specs.Shared.{logged_of};
 ghost use Rattle.sv_session.specs.Requests.{stop_for_code, stop_of};
-ghost use Rattle.sv_session.specs.Answers.{IsPosted, RoundCause};
+ghost use Rattle.sv_session.specs.Answers.{IsReplyPosted, RoundCause};
 
 use crate::outcome::SessionOut;
 use sv_exchange::Outbox;
 use sv_link::{End, Sent};
-use sv_wire::{Reply, read_reply};
+use sv_wire::{Refusal, Reply, read_reply};
 
 /// Why a session stops after a refusal of this code, if it does.
 fn stop_for_refusal(code: u8) -> Option<SessionOut>
     ensures stop { result ≡ stop_for_code code }
     ensures reason { IfSome result (λ out. out ≢ SessionOut.LinkFault) }
 {
-    match code {
-        1 => Some(SessionOut::Malformed),
-        4 => Some(SessionOut::Ended),
-        9 => Some(SessionOut::Spent),
-        _ => None,
+    if code == Refusal::Malformed.code() {
+        Some(SessionOut::Malformed)
+    } else if code == Refusal::Over.code() {
+        Some(SessionOut::Ended)
+    } else if code == Refusal::TooManyRequests.code() {
+        Some(SessionOut::Spent)
+    } else {
+        None
     }
 }
 
@@ -41,7 +44,7 @@ fn stop_for(reply: &Reply) -> Option<SessionOut>
 pub(crate) fn post<E: End>(reply: &Reply, outbox: &mut Outbox, end: &mut E) -> Option<SessionOut>
     requires open { (E.told end.old).closed ≡ false }
     requires message { IsWireReply reply.now }
-    ensures posts { IsPosted result (stop_of (logged_of reply.now)) (E.told end.old) (outbox.old ++ frame (reply_bytes reply.now)) (E.told end.new) outbox.new }
+    ensures posts { IsReplyPosted result (stop_of (logged_of reply.now)) (E.told end.old) (outbox.old ++ frame (reply_bytes reply.now)) (E.told end.new) outbox.new }
     ensures cause { RoundCause (E.faults end.old) (E.faults end.new) result }
     ensures calm { E.calm end.old → (result ≢ Some SessionOut.LinkFault) × E.calm end.new }
 {

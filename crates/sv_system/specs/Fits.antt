@@ -7,7 +7,7 @@ use Rattle.sv_wire.specs.declared.message.Request.{Request}
 use Rattle.sv_wire.specs.declared.message.Reply.{Reply}
 use Rattle.sv_journal.specs.declared.entry.Entry.{Entry}
 use Rattle.sv_journal.specs.History.{Authored, accepted, full_reply}
-use Rattle.sv_journal.specs.Sessions.{is_end}
+use Rattle.sv_journal.specs.Sessions.{is_end, is_ended}
 use Rattle.sv_client.specs.declared.trace.Event.{Event}
 use Rattle.sv_client.specs.declared.trace.Event.TheVariants as events
 use Rattle.sv_client.specs.declared.trace.Trace.{Trace}
@@ -25,10 +25,6 @@ abbrev pub replies_in : List Authored → List Entry → ℕ → List Reply
 replies_in A [] s = []
 replies_in A (e ∷ h) s =
     if e.session == s && not (is_end e.request) then replies_in A h s ++ full_reply A e.reply ∷ [] else replies_in A h s
-
--- A session had its End.
-abbrev pub is_ended : List Entry → ℕ → Bool
-is_ended h s = list_any (λ (e : Entry). e.session == s && is_end e.request) h
 
 -- A session has at most one End, and nothing after it.
 abbrev pub IsEndLast : List Entry → ℕ → Type 0

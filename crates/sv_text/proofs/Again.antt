@@ -21,8 +21,8 @@ use Rattle.sv_world.specs.declared.node.Comparison.{Comparison}
 use Rattle.sv_world.specs.declared.node.Comparison.TheVariants as comparisons
 use Rattle.sv_world.specs.declared.node.Connective.{Connective}
 use Rattle.sv_world.specs.declared.node.Connective.TheVariants as joints
-use Rattle.sv_text.specs.Reading.{◌>>=◌, Read, mark_code, is_same, is_mark, is_at, mark_of, front_of, front, rest_of, fault, unexpected, expect, slot_from, slot_or, slot_at, start, part_or, marked, op_of, op_at, leaf_by, leaf_at, closed_by, pair_by, expr_by, expr_at, comparison_of, comparison_at, joint_of, joint_at, compare_by, joined_by, join_by, not_by, cond_by, cond_at}
-use Rattle.sv_text.specs.Grammar.{Place, Form, IsMark, IsNode, IsNumber, IsRef, op_mark, comparison_mark, joint_mark, AreTwo, IsPair, IsExpr, IsTest, IsJoined, IsNot, IsCond}
+use Rattle.sv_text.specs.Reading.{◌>>=◌, Read, mark_code, is_same, is_mark, is_at, mark_of, front_of, front, rest_of, fault, unexpected, expect, slot_from, slot_or, slot_at, start, part_or, marked, op_of, op_at, leaf_by, leaf_at, closed_by, bracketed_by, pair_by, expr_by, expr_at, comparison_of, comparison_at, joint_of, joint_at, compare_by, join_by, not_by, cond_by, cond_at}
+use Rattle.sv_text.specs.Grammar.{Place, Form, IsMark, IsNode, IsNumber, IsRef, op_mark, comparison_mark, joint_mark, AreTwoParts, IsPair, IsExpr, IsTest, IsJoined, IsNot, IsCond}
 
 -- a step that does not fail
 pub then_ok : {A B : Type 0} (r : Result A TextFault) (f : A → Result B TextFault) (x : A) (z : Result B TextFault) → r ≡ Ok x → f x ≡ z → (r >>= f) ≡ z
@@ -115,13 +115,19 @@ closed_again {A = A} below m a p three q e c =
     then_ok (below p.0 p.1) (λ a. expect m a.2 >>= λ rest. Ok (a.0, a.1, rest)) (a, three.0, three.1) (gives a q) e
     (then_ok (expect m three.1) (λ rest. Ok (a, three.0, rest)) (rest_of three.1) (gives a q) (expect_again m three.1 c.0) (ap (gives a) c.1))
 
-pair_again : (below : ℕ → List Lexeme → Read Expr) (form : Form Expr) → Reads below form → (op : Operator) (a b : Expr) (p q : Place) → AreTwo form a (op_mark op) b marks.Close p q → pair_by below p.0 p.1 ≡ gives (with_op op a b) q
+-- Two parts, what joins them, and a sign behind them are read, where what joins them is.
+bracketed_again : {O A B : Type 0} (joined : List Lexeme → Result O TextFault) (mark : O → Mark) → ((o : O) (ts : List Lexeme) → front ts ≡ Some (mark o) → joined ts ≡ Ok o) → (make : O → A → A → B) (closes : Mark)
+    (below : ℕ → List Lexeme → Read A) (form : Form A) → Reads below form → (o : O) (a b : A) (p q : Place) → AreTwoParts form a (mark o) b closes p q → bracketed_by joined make closes below p.0 p.1 ≡ gives (make o a b) q
+unfolding bracketed_by
+bracketed_again joined mark joined_again make closes below form again o a b p q t =
+    then_ok (below p.0 p.1) (λ a. joined a.2 >>= λ o. below a.1 (rest_of a.2) >>= λ b. expect closes b.2 >>= λ rest. Ok (make o a.0 b.0, b.1, rest)) (a, t.one.0, t.one.1) (gives (make o a b) q) (again a p t.one t.left)
+    (then_ok (joined t.one.1) (λ o. below t.one.0 (rest_of t.one.1) >>= λ b. expect closes b.2 >>= λ rest. Ok (make o a b.0, b.1, rest)) o (gives (make o a b) q) (joined_again o t.one.1 t.between.0)
+    (then_ok (below t.one.0 (rest_of t.one.1)) (λ b. expect closes b.2 >>= λ rest. Ok (make o a b.0, b.1, rest)) (b, t.three.0, t.three.1) (gives (make o a b) q) (ap (λ (s : Place). below s.0 s.1) t.between.1 ∙ again b t.two t.three t.right)
+    (then_ok (expect closes t.three.1) (λ rest. Ok (make o a b, t.three.0, rest)) (rest_of t.three.1) (gives (make o a b) q) (expect_again closes t.three.1 t.closed.0) (ap (gives (make o a b)) t.closed.1))))
+
+pair_again : (below : ℕ → List Lexeme → Read Expr) (form : Form Expr) → Reads below form → (op : Operator) (a b : Expr) (p q : Place) → AreTwoParts form a (op_mark op) b marks.Close p q → pair_by below p.0 p.1 ≡ gives (with_op op a b) q
 unfolding pair_by
-pair_again below form again op a b p q t =
-    then_ok (below p.0 p.1) (λ a. op_at a.2 >>= λ o. below a.1 (rest_of a.2) >>= λ b. expect marks.Close b.2 >>= λ rest. Ok (with_op o a.0 b.0, b.1, rest)) (a, t.one.0, t.one.1) (gives (with_op op a b) q) (again a p t.one t.left)
-    (then_ok (op_at t.one.1) (λ o. below t.one.0 (rest_of t.one.1) >>= λ b. expect marks.Close b.2 >>= λ rest. Ok (with_op o a b.0, b.1, rest)) op (gives (with_op op a b) q) (op_again op t.one.1 t.between.0)
-    (then_ok (below t.one.0 (rest_of t.one.1)) (λ b. expect marks.Close b.2 >>= λ rest. Ok (with_op op a b.0, b.1, rest)) (b, t.three.0, t.three.1) (gives (with_op op a b) q) (ap (λ (s : Place). below s.0 s.1) t.between.1 ∙ again b t.two t.three t.right)
-    (then_ok (expect marks.Close t.three.1) (λ rest. Ok (with_op op a b, t.three.0, rest)) (rest_of t.three.1) (gives (with_op op a b) q) (expect_again marks.Close t.three.1 t.closed.0) (ap (gives (with_op op a b)) t.closed.1))))
+pair_again below form again op a b p q t = bracketed_again op_at op_mark op_again with_op marks.Close below form again op a b p q t
 
 leaf_step : (reads : List ObjectId) (below : ℕ → List Lexeme → Read Expr) (depth : ℕ) (e : Expr) (p q : Place) → leaf_at reads p.1 ≡ Ok e → (front p.1 ≡ None) × (rest_of p.1 ≡ q.1) → p.0 < 64 → p.0 + 1 ≡ q.0 → expr_by reads below (suc depth) p.0 p.1 ≡ gives e q
 unfolding expr_by
@@ -135,7 +141,7 @@ pair_step : (reads : List ObjectId) (below : ℕ → List Lexeme → Read Expr) 
 unfolding expr_by
 pair_step reads below form again depth e p q i =
     ap (λ (b : Bool). cond b (start (suc depth) p.0 p.1 >>= λ n. pair_by below n (rest_of p.1)) (leaf_at reads p.1 >>= λ leaf. start (suc depth) p.0 p.1 >>= λ n. Ok (leaf, n, rest_of p.1))) (at_mark marks.Open p.1 i.opened.0)
-    ∙ started marks.Open depth p i.inside (pair_by below) (gives e q) i.opened (pair_again below form again i.op i.a i.b i.inside q i.parts ∙ ap (λ (x : Expr). gives x q) i.made)
+    ∙ started marks.Open depth p i.inside (pair_by below) (gives e q) i.opened (pair_again below form again i.by i.a i.b i.inside q i.parts ∙ ap (λ (x : Expr). gives x q) i.made)
 
 pub expr_again : (reads : List ObjectId) (depth : ℕ) → Reads (expr_at reads depth) (IsExpr reads depth)
 unfolding expr_at
@@ -152,7 +158,7 @@ node_grows m p q i = let e : p.0 + 1 ≡ q.0 = ap (λ (s : Place). s.0) i.2 in (
 pub mark_stays : (m : Mark) (p q : Place) → IsMark m p q → p.0 ≡ q.0
 mark_stays m p q i = ap (λ (s : Place). s.0) i.1
 
-two_grows : {A : Type 0} (form : Form A) → Grows form → (a : A) (m : Mark) (b : A) (c : Mark) (p q : Place) → AreTwo form a m b c p q → (p.0 < q.0) × (q.0 ≤ 64)
+two_grows : {A : Type 0} (form : Form A) → Grows form → (a : A) (m : Mark) (b : A) (c : Mark) (p q : Place) → AreTwoParts form a m b c p q → (p.0 < q.0) × (q.0 ≤ 64)
 two_grows form grows a m b c p q t =
     let l = grows a p t.one t.left in
     let r = grows b t.two t.three t.right in
@@ -164,7 +170,7 @@ pub expr_grows : (reads : List ObjectId) (depth : ℕ) → Grows (IsExpr reads d
 expr_grows reads zero e p q h = absurd h
 expr_grows reads (suc depth) e p q (inl i) =
     let n = node_grows marks.Open p i.inside i.opened in
-    let t = two_grows (IsExpr reads depth) (expr_grows reads depth) i.a (op_mark i.op) i.b marks.Close i.inside q i.parts in
+    let t = two_grows (IsExpr reads depth) (expr_grows reads depth) i.a (op_mark i.by) i.b marks.Close i.inside q i.parts in
     (omega (arith, n.0, t.0), t.1)
 expr_grows reads (suc depth) e p q (inr (inl i)) = let c : p.0 + 1 ≡ q.0 = i.count in let f : p.0 < 64 = i.few in (omega arith, omega arith)
 expr_grows reads (suc depth) e p q (inr (inr i)) = let c : p.0 + 1 ≡ q.0 = i.count in let f : p.0 < 64 = i.few in (omega arith, omega arith)
@@ -188,21 +194,13 @@ joint_again : (o : Connective) (ts : List Lexeme) → front ts ≡ Some (joint_m
 unfolding joint_at
 joint_again o ts h = ap (λ (f : Option Mark). part_or (unexpected ts) (marked joint_of f)) h ∙ ap (part_or (unexpected ts)) (joint_back o)
 
-compare_again : (exprs : ℕ → List Lexeme → Read Expr) (form : Form Expr) → Reads exprs form → (c : Comparison) (a b : Expr) (p q : Place) → AreTwo form a (comparison_mark c) b marks.CloseTest p q → compare_by exprs p.0 p.1 ≡ gives (with_comparison c a b) q
+compare_again : (exprs : ℕ → List Lexeme → Read Expr) (form : Form Expr) → Reads exprs form → (c : Comparison) (a b : Expr) (p q : Place) → AreTwoParts form a (comparison_mark c) b marks.CloseTest p q → compare_by exprs p.0 p.1 ≡ gives (with_comparison c a b) q
 unfolding compare_by
-compare_again exprs form again c a b p q t =
-    then_ok (exprs p.0 p.1) (λ a. comparison_at a.2 >>= λ c. closed_by exprs marks.CloseTest a.1 (rest_of a.2) >>= λ b. Ok (with_comparison c a.0 b.0, b.1, b.2)) (a, t.one.0, t.one.1) (gives (with_comparison c a b) q) (again a p t.one t.left)
-    (then_ok (comparison_at t.one.1) (λ c. closed_by exprs marks.CloseTest t.one.0 (rest_of t.one.1) >>= λ b. Ok (with_comparison c a b.0, b.1, b.2)) c (gives (with_comparison c a b) q) (comparison_again c t.one.1 t.between.0)
-    (then_ok (closed_by exprs marks.CloseTest t.one.0 (rest_of t.one.1)) (λ b. Ok (with_comparison c a b.0, b.1, b.2)) (b, q.0, q.1) (gives (with_comparison c a b) q)
-    (ap (λ (s : Place). closed_by exprs marks.CloseTest s.0 s.1) t.between.1 ∙ closed_again exprs marks.CloseTest b t.two t.three q (again b t.two t.three t.right) t.closed) refl))
+compare_again exprs form again c a b p q t = bracketed_again comparison_at comparison_mark comparison_again with_comparison marks.CloseTest exprs form again c a b p q t
 
-join_again : (below : ℕ → List Lexeme → Read Cond) (form : Form Cond) → Reads below form → (j : Connective) (a b : Cond) (p q : Place) → AreTwo form a (joint_mark j) b marks.Close p q → join_by below p.0 p.1 ≡ gives (with_joint j a b) q
-unfolding join_by joined_by
-join_again below form again j a b p q t =
-    then_ok (below p.0 p.1) (λ a. joint_at a.2 >>= λ j. joined_by below j a.0 a.1 (rest_of a.2)) (a, t.one.0, t.one.1) (gives (with_joint j a b) q) (again a p t.one t.left)
-    (then_ok (joint_at t.one.1) (λ j. joined_by below j a t.one.0 (rest_of t.one.1)) j (gives (with_joint j a b) q) (joint_again j t.one.1 t.between.0)
-    (then_ok (closed_by below marks.Close t.one.0 (rest_of t.one.1)) (λ b. Ok (with_joint j a b.0, b.1, b.2)) (b, q.0, q.1) (gives (with_joint j a b) q)
-    (ap (λ (s : Place). closed_by below marks.Close s.0 s.1) t.between.1 ∙ closed_again below marks.Close b t.two t.three q (again b t.two t.three t.right) t.closed) refl))
+join_again : (below : ℕ → List Lexeme → Read Cond) (form : Form Cond) → Reads below form → (j : Connective) (a b : Cond) (p q : Place) → AreTwoParts form a (joint_mark j) b marks.Close p q → join_by below p.0 p.1 ≡ gives (with_joint j a b) q
+unfolding join_by
+join_again below form again j a b p q t = bracketed_again joint_at joint_mark joint_again with_joint marks.Close below form again j a b p q t
 
 not_again : (below : ℕ → List Lexeme → Read Cond) (a : Cond) (p q : Place) → below p.0 p.1 ≡ gives a q → not_by below p.0 p.1 ≡ gives (test.Not a) q
 unfolding not_by
@@ -221,13 +219,13 @@ module _ (exprs : ℕ → List Lexeme → Read Expr) (below : ℕ → List Lexem
   test_step : IsTest values c p q → cond_by exprs below (suc depth) p.0 p.1 ≡ gives c q
   unfolding cond_by
   test_step i = ap (λ (t : Bool). by_all t (is_at marks.Open p.1) (is_at marks.Not p.1)) (at_mark marks.OpenTest p.1 i.opened.0)
-      ∙ started marks.OpenTest depth p i.inside (compare_by exprs) (gives c q) i.opened (compare_again exprs values in_exprs i.comparison i.a i.b i.inside q i.parts ∙ ap (λ (x : Cond). gives x q) i.made)
+      ∙ started marks.OpenTest depth p i.inside (compare_by exprs) (gives c q) i.opened (compare_again exprs values in_exprs i.by i.a i.b i.inside q i.parts ∙ ap (λ (x : Cond). gives x q) i.made)
 
   joined_step : IsJoined form c p q → cond_by exprs below (suc depth) p.0 p.1 ≡ gives c q
   unfolding cond_by
   joined_step i = ap (λ (t : Bool). by_all t (is_at marks.Open p.1) (is_at marks.Not p.1)) (not_at marks.OpenTest marks.Open p.1 i.opened.0 refl)
       ∙ ap (λ (a : Bool). by_open a (is_at marks.Not p.1)) (at_mark marks.Open p.1 i.opened.0)
-      ∙ started marks.Open depth p i.inside (join_by below) (gives c q) i.opened (join_again below form in_below i.joint i.a i.b i.inside q i.parts ∙ ap (λ (x : Cond). gives x q) i.made)
+      ∙ started marks.Open depth p i.inside (join_by below) (gives c q) i.opened (join_again below form in_below i.by i.a i.b i.inside q i.parts ∙ ap (λ (x : Cond). gives x q) i.made)
 
   not_step : IsNot form c p q → cond_by exprs below (suc depth) p.0 p.1 ≡ gives c q
   unfolding cond_by
@@ -247,11 +245,11 @@ pub cond_grows : (reads : List ObjectId) (depth : ℕ) → Grows (IsCond reads d
 cond_grows reads zero c p q h = absurd h
 cond_grows reads (suc depth) c p q (inl i) =
     let n = node_grows marks.OpenTest p i.inside i.opened in
-    let t = two_grows (IsExpr reads depth) (expr_grows reads depth) i.a (comparison_mark i.comparison) i.b marks.CloseTest i.inside q i.parts in
+    let t = two_grows (IsExpr reads depth) (expr_grows reads depth) i.a (comparison_mark i.by) i.b marks.CloseTest i.inside q i.parts in
     (omega (arith, n.0, t.0), t.1)
 cond_grows reads (suc depth) c p q (inr (inl i)) =
     let n = node_grows marks.Open p i.inside i.opened in
-    let t = two_grows (IsCond reads depth) (cond_grows reads depth) i.a (joint_mark i.joint) i.b marks.Close i.inside q i.parts in
+    let t = two_grows (IsCond reads depth) (cond_grows reads depth) i.a (joint_mark i.by) i.b marks.Close i.inside q i.parts in
     (omega (arith, n.0, t.0), t.1)
 cond_grows reads (suc depth) c p q (inr (inr i)) =
     let n = node_grows marks.Not p i.inside i.opened in

@@ -7,6 +7,7 @@ use Rattle.sv_world.specs.declared.world.ObjectId.{ObjectId}
 use Rattle.sv_world.specs.declared.action.Point.{Point}
 use Rattle.sv_world.specs.declared.action.Action.{Action}
 use Rattle.sv_world.specs.declared.action.Stmt.{Stmt}
+use Rattle.sv_world.specs.Sets.{object_numbered}
 use Rattle.sv_text.specs.declared.fault.TextCause.TheVariants as causes
 use Rattle.sv_text.specs.declared.fault.TextFault.{TextFault}
 use Rattle.sv_text.specs.declared.token.Mark.{Mark}
@@ -14,7 +15,7 @@ use Rattle.sv_text.specs.declared.token.Mark.TheVariants as marks
 use Rattle.sv_text.specs.declared.token.Token.{Token}
 use Rattle.sv_text.specs.declared.token.Token.TheVariants as tokens
 use Rattle.sv_text.specs.declared.token.Lexeme.{Lexeme}
-use Rattle.sv_text.specs.Reading.{◌>>=◌, is_at, mark_of, front_of, front, rest_of, fault, expect, number_by, number_at, size_of, object_at, read_at, as_object, reads_from, slot_from, slot_at, write_at, is_number, is_number_at, writes_from, coordinate_at, origin_at, header_at, block_by, stmt_at, body_at, reading}
+use Rattle.sv_text.specs.Reading.{◌>>=◌, is_at, mark_of, front_of, front, rest_of, fault, expect, number_by, number_at, size_of, object_number_at, read_at, reads_from, slot_from, slot_at, write_at, is_number_token, is_number_at, writes_from, coordinate_at, origin_at, header_at, block_by, stmt_at, body_at, reading}
 use Rattle.sv_text.specs.Grammar.{Place, IsMark, IsNumber, AreAll, IsBlock, IsStmt, IsWord, IsObject, IsAscending, IsMask, AreReads, IsCoordinate, MayBeOrigin, IsActionText}
 use Rattle.sv_text.proofs.Turns.{reads_from_is, writes_from_is}
 use Rattle.sv_text.proofs.Again.{then_ok, at_mark, not_at, not_at_none, expect_again, slot_again, front_number}
@@ -38,9 +39,9 @@ number_again low high z (t ∷ ts) rest h l k =
 number_there : (z : ℤ) (ts rest : List Lexeme) → IsNumber z ts rest → is_number_at ts ≡ true
 unfolding is_number_at
 number_there z [] rest h = absurd h
-number_there z (t ∷ ts) rest h = ap is_number h.0
+number_there z (t ∷ ts) rest h = ap is_number_token h.0
 
-no_number_by : (m : Mark) (glued : Bool) (token : Token) → front_of glued (mark_of token) ≡ Some m → is_number token ≡ false
+no_number_by : (m : Mark) (glued : Bool) (token : Token) → front_of glued (mark_of token) ≡ Some m → is_number_token token ≡ false
 no_number_by m glued (tokens.Number z) h = absurd cc
 no_number_by m glued tokens.Wide h = absurd cc
 no_number_by m glued (tokens.Ref object attr) h = refl
@@ -52,8 +53,8 @@ unfolding front is_number_at
 no_number m [] h = refl
 no_number m (t ∷ ts) h = no_number_by m t.glued t.token h
 
-object_again : (o : ObjectId) (ts rest : List Lexeme) → IsObject o ts rest → object_at ts ≡ Ok o.0
-unfolding object_at
+object_again : (o : ObjectId) (ts rest : List Lexeme) → IsObject o ts rest → object_number_at ts ≡ Ok o.0
+unfolding object_number_at
 object_again o ts rest h =
     let high : o.0 ≤ 65535 = let lt : o.0 < 65536 = h.0 in omega arith in
     then_ok (number_at (pos 0) (pos 65535) ts) (λ z. Ok (size_of z)) (pos o.0) (Ok o.0) (number_again (pos 0) (pos 65535) (pos o.0) ts rest h.1 (le-leb 0 o.0 (omega arith)) (le-leb o.0 65535 high)) refl
@@ -65,7 +66,7 @@ unfolding read_at
 read_again count least o ts rest h le lt =
     let order : Result ℕ TextFault = Err (fault ts causes.Order) in
     let many : Result ℕ TextFault = Err (fault ts causes.TooMany) in
-    then_ok (object_at ts) (λ o. cond (ltb o least) (Err (fault ts causes.Order)) (cond (ltb count 16) (Ok o) (Err (fault ts causes.TooMany)))) o.0 (Ok o.0) (object_again o ts rest h)
+    then_ok (object_number_at ts) (λ o. cond (ltb o least) (Err (fault ts causes.Order)) (cond (ltb count 16) (Ok o) (Err (fault ts causes.TooMany)))) o.0 (Ok o.0) (object_again o ts rest h)
     (ap (λ (b : Bool). cond b order (cond (ltb count 16) (Ok o.0) many)) (le-ltb o.0 least le) ∙ ap (λ (b : Bool). cond b (ok o.0) many) (lt-ltb count 16 lt))
 
 reads_again : (before more : List ObjectId) (least : ℕ) (ts end rest : List Lexeme) → AreAll IsObject more ts end → IsWord marks.Writes end rest → IsAscending least more → length (before ++ more) ≤ 16 → 0 < length (before ++ more)
@@ -76,7 +77,7 @@ reads_again before [] least ts end rest h w up few some =
     let full : before ++ [] ≡ before = append-nil before in
     let next : rest_of ts ≡ rest = ap rest_of h ∙ w.1 in
     reads_from_is before least ts
-    ∙ ap (λ (b : Bool). cond b (ok (before, rest_of ts)) (read_at (length before) least ts >>= λ o. reads_from (before ++ as_object o ∷ []) (o + 1) (rest_of ts)))
+    ∙ ap (λ (b : Bool). cond b (ok (before, rest_of ts)) (read_at (length before) least ts >>= λ o. reads_from (before ++ object_numbered o ∷ []) (o + 1) (rest_of ts)))
     (and_from (ltb 0 (length before)) (is_at marks.Writes ts) (lt-ltb 0 (length before) len) (at_mark marks.Writes ts here))
     ∙ ap (λ (l : List Lexeme). ok (before, l)) next ∙ ap (λ (l : List ObjectId). ok (l, rest)) (sym full)
 reads_again before (o ∷ os) least ts end rest h w up few some =
@@ -86,9 +87,9 @@ reads_again before (o ∷ os) least ts end rest h w up few some =
     let regroup : (before ++ o ∷ []) ++ os ≡ before ++ o ∷ os = append_assoc before (o ∷ []) os in
     let more = reads_again (before ++ o ∷ []) os (o.0 + 1) h.0 end rest h.2 w up.1 (subst (λ (l : List ObjectId). length l ≤ 16) (sym regroup) few) (subst (λ (l : List ObjectId). 0 < length l) (sym regroup) some) in
     reads_from_is before least ts
-    ∙ ap (λ (b : Bool). cond b (ok (before, rest_of ts)) (read_at (length before) least ts >>= λ o. reads_from (before ++ as_object o ∷ []) (o + 1) (rest_of ts)))
+    ∙ ap (λ (b : Bool). cond b (ok (before, rest_of ts)) (read_at (length before) least ts >>= λ o. reads_from (before ++ object_numbered o ∷ []) (o + 1) (rest_of ts)))
     (and_right (ltb 0 (length before)) (is_at marks.Writes ts) (not_at_none marks.Writes ts f.0))
-    ∙ then_ok (read_at (length before) least ts) (λ o. reads_from (before ++ as_object o ∷ []) (o + 1) (rest_of ts)) o.0 (ok (before ++ o ∷ os, rest)) (read_again (length before) least o ts h.0 h.1 up.0 room)
+    ∙ then_ok (read_at (length before) least ts) (λ o. reads_from (before ++ object_numbered o ∷ []) (o + 1) (rest_of ts)) o.0 (ok (before ++ o ∷ os, rest)) (read_again (length before) least o ts h.0 h.1 up.0 room)
     (ap (λ (l : List Lexeme). reads_from (before ++ o ∷ []) (o.0 + 1) l) f.1 ∙ more ∙ ap (λ (l : List ObjectId). ok (l, rest)) regroup)
 
 header_again : (reads : List ObjectId) (ts rest : List Lexeme) → AreReads reads ts rest → header_at ts ≡ ok (reads, rest)
@@ -103,7 +104,7 @@ write_again : (reads : List ObjectId) (least k : ℕ) (o : ObjectId) (ts rest : 
 unfolding write_at
 write_again reads least k o ts rest h le slot =
     let order : Result (ℕ × ℕ) TextFault = Err (fault ts causes.Order) in
-    then_ok (object_at ts) (λ o. slot_at reads o ts >>= λ k. cond (ltb o least) (Err (fault ts causes.Order)) (Ok (o, k))) o.0 (ok (o.0, k)) (object_again o ts rest h)
+    then_ok (object_number_at ts) (λ o. slot_at reads o ts >>= λ k. cond (ltb o least) (Err (fault ts causes.Order)) (Ok (o, k))) o.0 (ok (o.0, k)) (object_again o ts rest h)
     (then_ok (slot_at reads o.0 ts) (λ k. cond (ltb o.0 least) (Err (fault ts causes.Order)) (Ok (o.0, k))) k (ok (o.0, k)) (slot_again reads o.0 ts k slot)
     (ap (λ (b : Bool). cond b order (ok (o.0, k))) (le-ltb o.0 least le)))
 

@@ -15,7 +15,7 @@ use Rattle.sv_text.specs.declared.token.Token.TheVariants as tokens
 use Rattle.sv_text.specs.declared.token.Lexeme.{Lexeme}
 use Rattle.sv_text.specs.declared.token.Left.TheVariants as lefts
 use Rattle.sv_text.specs.declared.token.Ahead.{Ahead}
-use Rattle.sv_text.specs.Tokens.{is_blank, digits_at, sign_at, ref_of, ref_at, word_at, number_at, negative_at, token_at, is_joint, tokens_from, tokens_of}
+use Rattle.sv_text.specs.Tokens.{is_blank, digits_at, sign_at, ref_of, ref_at, word_at, positive_at, negative_at, token_at, is_joint, tokens_from, tokens_of}
 use Rattle.sv_text.specs.Ahead.{nothing_ahead, held}
 
 abbrev HasLength : List ℕ → Token × ℕ → Type 0
@@ -42,8 +42,8 @@ word_has : (bs : List ℕ) → is_ascii_lowercase (get_or bs 0 0) ≡ true → H
 unfolding word_at
 word_has bs h = (run_starts is_ascii_lowercase bs refl h, prefix_len-le-length is_ascii_lowercase bs)
 
-number_has : (bs : List ℕ) → is_ascii_digit (get_or bs 0 0) ≡ true → HasLength bs (number_at bs)
-unfolding number_at
+number_has : (bs : List ℕ) → is_ascii_digit (get_or bs 0 0) ≡ true → HasLength bs (positive_at bs)
+unfolding positive_at
 number_has bs h =
     let some = run_starts is_ascii_digit bs refl h in
     let len = length-prefix_len is_ascii_digit bs in

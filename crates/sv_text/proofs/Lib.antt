@@ -1,3 +1,4 @@
+-- The lemmas on the action language.
 pub mod Numbers
 pub mod Words
 pub mod Lexing

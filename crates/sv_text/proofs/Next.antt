@@ -3,7 +3,7 @@ use Rattle.std.proofs.Common.{◌≡◌, ℤ, List, [], ◌∷◌, refl}
 use Rattle.sv_world.specs.declared.world.ObjectId.{ObjectId}
 use Rattle.sv_text.specs.declared.token.Lexeme.{Lexeme}
 use Rattle.sv_text.specs.Ahead.{next_of}
-use Rattle.sv_text.specs.Reading.{place_of, mark_of, front_of, front, cause_of, fault, unexpected, number_by, number_at, is_number, is_number_at, leaf_by, leaf_at, target_by, target_at}
+use Rattle.sv_text.specs.Reading.{place_of, mark_of, front_of, front, cause_of, fault, unexpected, number_by, number_at, is_number_token, is_number_at, leaf_by, leaf_at, target_by, target_at}
 
 pub place_is : (ts : List Lexeme) → place_of ts ≡ (next_of ts).place
 place_is [] = refl
@@ -24,7 +24,7 @@ unfolding number_at unexpected
 number_at_is low high [] = refl
 number_at_is low high (t ∷ ts) = refl
 
-pub is_number_at_is : (ts : List Lexeme) → is_number_at ts ≡ is_number (next_of ts).token
+pub is_number_at_is : (ts : List Lexeme) → is_number_at ts ≡ is_number_token (next_of ts).token
 unfolding is_number_at
 is_number_at_is [] = refl
 is_number_at_is (t ∷ ts) = refl

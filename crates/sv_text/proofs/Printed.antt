@@ -8,7 +8,7 @@ use Rattle.sv_world.specs.declared.node.Operator.{Operator}
 use Rattle.sv_world.specs.declared.node.Comparison.{Comparison}
 use Rattle.sv_world.specs.declared.node.Connective.{Connective}
 use Rattle.sv_world.specs.declared.action.Expr.TheVariants as expr
-use Rattle.sv_world.specs.Parts.{Part, Expression, Condition, Statement, Block, first, binary, comparison, joining, negated, setting, choice, with_statement, block, is_expr, is_cond, is_stmt, is_block}
+use Rattle.sv_world.specs.Parts.{Part, Expression, Condition, Statement, Block, first, binary, comparison, connective, negated, assignment, choice, with_statement, block, is_expr, is_cond, is_stmt, is_block}
 use Rattle.sv_text.specs.Canonical.{ref_text, pair_text, test_text, op_text, comparison_text, joint_text, stmt_text, part_text, else_part, set_part, not_part, if_part, run_text, block_part, other_part}
 use Rattle.sv_text.proofs.Layers.{pair_text_is, lit_text, attr_text, test_text_is, joint_text_is, not_text, set_text_is, if_text}
 
@@ -28,23 +28,23 @@ pub comparison_part : (reads : List ObjectId) (o : Comparison) (p q : Part) → 
 comparison_part reads o (Expression a) (Expression b) h = test_text_is o a b reads
 comparison_part reads o p q h = absurd cc
 
-pub joining_part : (reads : List ObjectId) (o : Connective) (p q : Part) → is_cond (joining o p q) ≡ true → part_text reads (joining o p q) ≡ pair_text (part_text reads p) (joint_text o) (part_text reads q)
-joining_part reads o (Condition a) (Condition b) h = joint_text_is o a b reads
-joining_part reads o p q h = absurd cc
+pub connective_part : (reads : List ObjectId) (o : Connective) (p q : Part) → is_cond (connective o p q) ≡ true → part_text reads (connective o p q) ≡ pair_text (part_text reads p) (joint_text o) (part_text reads q)
+connective_part reads o (Condition a) (Condition b) h = joint_text_is o a b reads
+connective_part reads o p q h = absurd cc
 
 pub negated_part : (reads : List ObjectId) (p : Part) → is_cond (negated p) ≡ true → part_text reads (negated p) ≡ not_part (part_text reads p)
 negated_part reads (Condition a) h = not_text a reads
 negated_part reads p h = absurd cc
 
-pub setting_part : (reads : List ObjectId) (slot attr : ℕ) (p : Part) → is_stmt (setting slot attr p) ≡ true → part_text reads (setting slot attr p) ≡ set_part reads slot attr (part_text reads p)
-setting_part reads slot attr (Expression a) h = set_text_is slot attr a reads
-setting_part reads slot attr p h = absurd cc
+pub assignment_part : (reads : List ObjectId) (slot attr : ℕ) (p : Part) → is_stmt (assignment slot attr p) ≡ true → part_text reads (assignment slot attr p) ≡ set_part reads slot attr (part_text reads p)
+assignment_part reads slot attr (Expression a) h = set_text_is slot attr a reads
+assignment_part reads slot attr p h = absurd cc
 
 pub choice_part : (reads : List ObjectId) (p q r : Part) → is_stmt (choice p q r) ≡ true → part_text reads (choice p q r) ≡ if_part (part_text reads p) (part_text reads q) (else_part reads r)
 choice_part reads (Condition c) (Block xs) (Block ys) h = if_text c xs ys reads
 choice_part reads p q r h = absurd cc
 
-pub ruleset texts = (lit_part, attr_part, binary_part, comparison_part, joining_part, negated_part, setting_part, choice_part)
+pub ruleset texts = (lit_part, attr_part, binary_part, comparison_part, connective_part, negated_part, assignment_part, choice_part)
 
 -- ---- blocks
 

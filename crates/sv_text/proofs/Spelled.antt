@@ -16,7 +16,7 @@ use Rattle.sv_text.specs.declared.token.Mark.TheVariants as marks
 use Rattle.sv_text.specs.declared.token.Token.{Token}
 use Rattle.sv_text.specs.declared.token.Token.TheVariants as tokens
 use Rattle.sv_text.specs.declared.token.Lexeme.{Lexeme}
-use Rattle.sv_text.specs.Tokens.{is_blank, digits_at, value_after, value_of, has_leading_zero, number_of, word_of, sign_of, sign_at, ref_of, ref_at, word_at, number_at, negative_at, token_at, is_joint, tokens_from}
+use Rattle.sv_text.specs.Tokens.{is_blank, digits_at, value_after, value_of, has_leading_zero, number_of, word_of, sign_of, sign_at, ref_of, ref_at, word_at, positive_at, negative_at, token_at, is_joint, tokens_from}
 use Rattle.sv_world.specs.Ranges.{is_i64}
 use Rattle.sv_text.proofs.Lexing.{first, token_front}
 
@@ -152,7 +152,7 @@ no_letter c h = grind (arith, nat_tests)
 no_blank : (c : ℕ) → is_ascii_digit c ≡ true → is_blank c ≡ false
 no_blank c h = grind (arith, nat_tests)
 
-starts_number : (bs : List ℕ) → is_ascii_digit (get_or bs 0 0) ≡ true → token_at bs ≡ number_at bs
+starts_number : (bs : List ℕ) → is_ascii_digit (get_or bs 0 0) ≡ true → token_at bs ≡ positive_at bs
 unfolding token_at
 starts_number bs digit = rw (no_letter (get_or bs 0 0) digit, digit) refl
 
@@ -161,7 +161,7 @@ unfolding token_at
 starts_negative bs minus digit = rw (minus, digit) refl
 
 digits_token : (ds rest : List ℕ) → all_ascii_digits ds ≡ true → 0 < length ds → Stops rest → token_at (ds ++ rest) ≡ (number_of false ds, length ds)
-unfolding number_at
+unfolding positive_at
 digits_token [] rest digits some stop = absurd (omega arith)
 digits_token (c ∷ cs) rest digits some stop =
     starts_number (c ∷ (cs ++ rest)) (and_parts (is_ascii_digit c) (all_ascii_digits cs) digits).0

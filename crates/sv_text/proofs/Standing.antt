@@ -183,7 +183,7 @@ module _ (reads : List ObjectId) (own : HasSlots reads) where
         along (IsExpr reads (suc depth)) (with_op o a b) nodes n3 (nodes + expr_nodes (with_op o a b)) place false (expr_text reads (with_op o a b) ++ rest) t (toks (r.0 + 1) false rest)
             (ap (λ (l : List ℕ). l ++ rest) (pair_text_is o a b reads) ∙ ap (λ (l : List ℕ). 40 ∷ l) (regroup ta (op_text o) tb rest 41)) (omega arith)
             (inl (record {
-              op = o;
+              by = o;
               a = a;
               b = b;
               made = refl;
@@ -261,7 +261,7 @@ module _ (reads : List ObjectId) (own : HasSlots reads) where
         along (IsCond reads (suc depth)) (with_comparison o a b) nodes n3 (nodes + cond_nodes (with_comparison o a b)) place false (cond_text reads (with_comparison o a b) ++ rest) (91 ∷ (ta ++ middle)) (toks (r.0 + 1) false rest)
             (ap (λ (t : List ℕ). t ++ rest) (test_text_is o a b reads) ∙ ap (λ (t : List ℕ). 91 ∷ t) (regroup ta (comparison_text o) tb rest 93)) (omega arith)
             (inl (record {
-              comparison = o;
+              by = o;
               a = a;
               b = b;
               made = refl;
@@ -300,7 +300,7 @@ module _ (reads : List ObjectId) (own : HasSlots reads) where
         along (IsCond reads (suc depth)) (with_joint o a b) nodes n3 (nodes + cond_nodes (with_joint o a b)) place false (cond_text reads (with_joint o a b) ++ rest) (40 ∷ (ta ++ middle)) (toks (r.0 + 1) false rest)
             (ap (λ (t : List ℕ). t ++ rest) (joint_text_is o a b reads) ∙ ap (λ (t : List ℕ). 40 ∷ t) (regroup ta (joint_text o) tb rest 41)) (omega arith)
             (inr (inl (record {
-              joint = o;
+              by = o;
               a = a;
               b = b;
               made = refl;

@@ -1,5 +1,5 @@
 -- The canonical text of an action is a text of it.
-use Rattle.std.proofs.Common.{◌≡◌, ℕ, zero, suc, ◌+◌, ◌*◌, ◌/◌, ◌%◌, ◌^◌, ◌<◌, ◌≤◌, inl, inr, Bool, true, false, cond, ◌&&◌, eqb, ltb, ℤ, pos, negsuc, int_le, List, [], ◌∷◌, ◌++◌, length, map, Some, Result, Ok, Err, refl, sym, ap, subst, ◌∙◌, arith, append_assoc, bit_or, decimal}
+use Rattle.std.proofs.Common.{◌≡◌, ℕ, zero, suc, ◌+◌, ◌*◌, ◌/◌, ◌%◌, ◌^◌, ◌<◌, ◌≤◌, inl, inr, Bool, true, false, cond, ◌&&◌, eqb, ltb, ℤ, pos, negsuc, int_le, List, [], ◌∷◌, ◌++◌, length, Some, Result, Ok, Err, refl, sym, ap, subst, ◌∙◌, arith, append_assoc, bit_or, decimal}
 use Rattle.std.specs.Prelude.{codes, IfOk}
 use Rattle.std.specs.Fmt.{signed_decimal}
 use Rattle.std.specs.List.{AllByRecursion}
@@ -7,6 +7,7 @@ use Rattle.std.proofs.Math.Nat.{pow-succ'}
 use Rattle.std.proofs.lemmas.Bool.{and_parts, and_from, cond_both, leb-true, le-leb, ltb-true, eq-eqb, ne_eqb, eqb-true}
 use Rattle.std.proofs.lemmas.List.{append-nil}
 use Rattle.std.proofs.lemmas.Nat.{or_comm, or_shifted}
+use Rattle.sv_world.specs.Sets.{numbers_of}
 use Rattle.sv_world.specs.Faults.{is_ascending, has_slots, is_in_plane, has_origin}
 use Rattle.sv_world.specs.Trees.{body_nodes}
 use Rattle.sv_world.specs.declared.world.ObjectId.{ObjectId}
@@ -18,11 +19,11 @@ use Rattle.sv_text.specs.declared.token.Lexeme.{Lexeme}
 use Rattle.sv_text.specs.Tokens.{tokens_from, tokens_of, word_of, token_at, word_at, is_joint}
 use Rattle.sv_text.specs.Reading.{front, rest_of, slot_from, reading}
 use Rattle.sv_text.specs.Grammar.{Place, IsMark, IsWord, IsObject, IsAscending, IsMask, AreAll, IsCoordinate, MayBeOrigin, IsBlock, IsStmt, IsActionText}
-use Rattle.sv_text.specs.Canonical.{object_in, objects_text, written, is_zero, origin_text, body_text, canonical}
-use Rattle.sv_world.specs.Ranges.{is_i64, body_fits}
+use Rattle.sv_text.specs.Canonical.{object_in, spaced_objects, written, origin_text, body_text, canonical}
+use Rattle.sv_world.specs.Ranges.{is_i64, body_fits, is_zero, ObjectFits}
 use Rattle.std.proofs.lemmas.List.Elements.{recursion_from_All}
 use Rattle.std.specs.Prelude.{All}
-use Rattle.sv_text.specs.Printable.{ObjectFits, IsWithinGrammar, IsPrintable}
+use Rattle.sv_text.specs.Printable.{IsWithinGrammar, IsPrintable}
 use Rattle.sv_text.proofs.AgainAction.{action_again}
 use Rattle.sv_text.proofs.Found.{ok_is}
 use Rattle.sv_text.proofs.Spelled.{toks, lexeme, Stops, spelled, spaced_stands, number_stands}
@@ -31,22 +32,19 @@ use Rattle.sv_text.proofs.StandingBody.{block_stands, all_stand}
 
 -- ---- objects and their slots
 
-abbrev numbers : List ObjectId → List ℕ
-numbers os = map (λ (o : ObjectId). o.0) os
-
-above : (r : ObjectId) (rs : List ObjectId) (k : ℕ) → is_ascending (numbers (r ∷ rs)) ≡ true → k < length rs → r.0 < object_in rs k
+above : (r : ObjectId) (rs : List ObjectId) (k : ℕ) → is_ascending (numbers_of (r ∷ rs)) ≡ true → k < length rs → r.0 < object_in rs k
 above r [] k up lt = absurd (omega arith)
-above r (s ∷ ss) zero up lt = ltb-true r.0 s.0 (and_parts (ltb r.0 s.0) (is_ascending (numbers (s ∷ ss))) up).0
+above r (s ∷ ss) zero up lt = ltb-true r.0 s.0 (and_parts (ltb r.0 s.0) (is_ascending (numbers_of (s ∷ ss))) up).0
 above r (s ∷ ss) (suc k) up lt =
-    let parts = and_parts (ltb r.0 s.0) (is_ascending (numbers (s ∷ ss))) up in
+    let parts = and_parts (ltb r.0 s.0) (is_ascending (numbers_of (s ∷ ss))) up in
     omega (arith, ltb-true r.0 s.0 parts.0, above s ss k parts.1 (omega arith))
 
-rest_up : (r : ObjectId) (rs : List ObjectId) → is_ascending (numbers (r ∷ rs)) ≡ true → is_ascending (numbers rs) ≡ true
+rest_up : (r : ObjectId) (rs : List ObjectId) → is_ascending (numbers_of (r ∷ rs)) ≡ true → is_ascending (numbers_of rs) ≡ true
 rest_up r [] up = refl
-rest_up r (s ∷ ss) up = (and_parts (ltb r.0 s.0) (is_ascending (numbers (s ∷ ss))) up).1
+rest_up r (s ∷ ss) up = (and_parts (ltb r.0 s.0) (is_ascending (numbers_of (s ∷ ss))) up).1
 
 -- Each object of an ascending list is found at its own place.
-own_slot : (reads : List ObjectId) (j k : ℕ) → is_ascending (numbers reads) ≡ true → k < length reads → slot_from j reads (object_in reads k) ≡ Some (j + k)
+own_slot : (reads : List ObjectId) (j k : ℕ) → is_ascending (numbers_of reads) ≡ true → k < length reads → slot_from j reads (object_in reads k) ≡ Some (j + k)
 own_slot [] j k up lt = absurd (omega arith)
 own_slot (r ∷ rs) j zero up lt =
     let e : j ≡ j + 0 = omega arith in
@@ -62,14 +60,14 @@ object_low [] fits k lt = absurd (omega arith)
 object_low (r ∷ rs) fits zero lt = fits.0
 object_low (r ∷ rs) fits (suc k) lt = object_low rs fits.1 k (omega arith)
 
-has_own : (reads : List ObjectId) → AllByRecursion ObjectFits reads → is_ascending (numbers reads) ≡ true → HasSlots reads
+has_own : (reads : List ObjectId) → AllByRecursion ObjectFits reads → is_ascending (numbers_of reads) ≡ true → HasSlots reads
 has_own reads fits up k lt = (object_low reads fits k lt, own_slot reads 0 k up lt ∙ (let e : 0 + k ≡ k = omega arith in ap Some e))
 
-ascends : (reads : List ObjectId) (least : ℕ) → is_ascending (numbers reads) ≡ true → ((r : ObjectId) (rs : List ObjectId) → reads ≡ r ∷ rs → least ≤ r.0) → IsAscending least reads
+ascends : (reads : List ObjectId) (least : ℕ) → is_ascending (numbers_of reads) ≡ true → ((r : ObjectId) (rs : List ObjectId) → reads ≡ r ∷ rs → least ≤ r.0) → IsAscending least reads
 ascends [] least up low = tt
 ascends (r ∷ []) least up low = (low r [] refl, tt)
 ascends (r ∷ s ∷ ss) least up low =
-    let next : r.0 < s.0 = ltb-true r.0 s.0 (and_parts (ltb r.0 s.0) (is_ascending (numbers (s ∷ ss))) up).0 in
+    let next : r.0 < s.0 = ltb-true r.0 s.0 (and_parts (ltb r.0 s.0) (is_ascending (numbers_of (s ∷ ss))) up).0 in
     (low r (s ∷ ss) refl, ascends (s ∷ ss) (r.0 + 1) (rest_up r (s ∷ ss) up) (λ q qs e. subst (λ (l : List ObjectId). r.0 + 1 ≤ object_in l 0) e (omega arith)))
 
 -- ---- the written objects
@@ -152,23 +150,23 @@ Blank l = (rest : List ℕ) × (l ≡ 32 ∷ rest)
 blank_stops : (l : List ℕ) → Blank l → Stops l
 blank_stops l b = subst (λ (k : List ℕ). Stops k) (sym b.1) refl
 
-objects_begin : (os : List ObjectId) (l : List ℕ) → Blank l → Blank (objects_text os ++ l)
+objects_begin : (os : List ObjectId) (l : List ℕ) → Blank l → Blank (spaced_objects os ++ l)
 objects_begin [] l b = b
-objects_begin (o ∷ os) l b = (decimal o.0 ++ objects_text os ++ l, refl)
+objects_begin (o ∷ os) l b = (decimal o.0 ++ spaced_objects os ++ l, refl)
 
 small_number : (n : ℕ) → n < 65536 → is_i64 (pos n) ≡ true
 small_number n low = le-leb n 9223372036854775807 (omega arith)
 
-objects_stand : (os : List ObjectId) → AllByRecursion ObjectFits os → (place : ℕ) (glued : Bool) (rest : List ℕ) → Blank rest → (next : ℕ) × (g : Bool) × AreAll IsObject os (toks place glued (objects_text os ++ rest)) (toks next g rest)
+objects_stand : (os : List ObjectId) → AllByRecursion ObjectFits os → (place : ℕ) (glued : Bool) (rest : List ℕ) → Blank rest → (next : ℕ) × (g : Bool) × AreAll IsObject os (toks place glued (spaced_objects os ++ rest)) (toks next g rest)
 objects_stand [] fits place glued rest b = (place, glued, refl)
 objects_stand (o ∷ os) fits place glued rest b =
     let t = decimal o.0 in
-    let more = objects_text os ++ rest in
+    let more = spaced_objects os ++ rest in
     let n = number_stands (pos o.0) more (small_number o.0 fits.0) (blank_stops more (objects_begin os rest b)) (place + 1) false in
     let later = objects_stand os fits.1 (place + 1 + length t) true rest b in
-    let begin : toks place glued (objects_text (o ∷ os) ++ rest) ≡ toks (place + 1) false (t ++ more) = ap (λ (s : List ℕ). toks place glued (32 ∷ s)) (append_assoc t (objects_text os) rest) ∙ blank_at place glued (t ++ more) in
+    let begin : toks place glued (spaced_objects (o ∷ os) ++ rest) ≡ toks (place + 1) false (t ++ more) = ap (λ (s : List ℕ). toks place glued (32 ∷ s)) (append_assoc t (spaced_objects os) rest) ∙ blank_at place glued (t ++ more) in
     let between = toks (place + 1 + length t) true more in
-    (later.0, later.1, (between, (fits.0, number_from (pos o.0) (place + 1) (toks place glued (objects_text (o ∷ os) ++ rest)) between (begin ∙ n)), later.2))
+    (later.0, later.1, (between, (fits.0, number_from (pos o.0) (place + 1) (toks place glued (spaced_objects (o ∷ os) ++ rest)) between (begin ∙ n)), later.2))
 
 -- a word before a space that is looked at again
 reads_there : (place : ℕ) (rest : List ℕ) → IsWord marks.Reads (toks place false (spelled marks.Reads ++ (32 ∷ rest))) (toks (place + 1 + 1 + 1 + 1 + 1) true (32 ∷ rest))
@@ -249,11 +247,11 @@ end_stands : (n place : ℕ) → IsMark marks.End (n, toks place false []) (n, [
 unfolding tokens_from front
 end_stands n place = (refl, refl)
 
-canonical_parts : (a : Action) → canonical a ≡ spelled marks.Reads ++ (objects_text a.reads ++ (32 ∷ (spelled marks.Writes ++ (objects_text (written a.reads a.mask) ++ (origin_text a.origin ++ (32 ∷ body_text a.reads a.body))))))
+canonical_parts : (a : Action) → canonical a ≡ spelled marks.Reads ++ (spaced_objects a.reads ++ (32 ∷ (spelled marks.Writes ++ (spaced_objects (written a.reads a.mask) ++ (origin_text a.origin ++ (32 ∷ body_text a.reads a.body))))))
 unfolding canonical
 canonical_parts a =
-    let r = objects_text a.reads in
-    let w = objects_text (written a.reads a.mask) in
+    let r = spaced_objects a.reads in
+    let w = spaced_objects (written a.reads a.mask) in
     let o = origin_text a.origin in
     let b = body_text a.reads a.body in
     let last = 32 ∷ b in
@@ -269,9 +267,9 @@ mask_stands reads mask own small =
 pub canonical_stands : (a : Action) → IsPrintable a → IsActionText a (tokens_of (canonical a))
 unfolding tokens_of has_slots has_origin
 canonical_stands a p =
-    let r = objects_text a.reads in
+    let r = spaced_objects a.reads in
     let objects = written a.reads a.mask in
-    let w = objects_text objects in
+    let w = spaced_objects objects in
     let o = origin_text a.origin in
     let b = body_text a.reads a.body in
     let third = 32 ∷ b in

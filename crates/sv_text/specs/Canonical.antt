@@ -1,5 +1,5 @@
 -- The one canonical text of each action.
-use Rattle.std.specs.Prelude.{ℕ, zero, suc, ◌/◌, ◌%◌, ℤ, pos, negsuc, Bool, true, false, cond, ◌&&◌, ◌==◌, List, [], ◌∷◌, ◌++◌, map, codes, decimal}
+use Rattle.std.specs.Prelude.{ℕ, zero, suc, ◌/◌, ◌%◌, cond, ◌&&◌, ◌==◌, List, [], ◌∷◌, ◌++◌, map, codes, decimal}
 use Rattle.std.specs.Fmt.{signed_decimal}
 use Rattle.std.specs.List.{flat_map}
 use Rattle.sv_world.specs.declared.world.ObjectId.{ObjectId}
@@ -21,6 +21,7 @@ use Rattle.sv_world.specs.declared.node.Comparison.TheVariants as comparisons
 use Rattle.sv_world.specs.declared.node.Connective.{Connective}
 use Rattle.sv_world.specs.declared.node.Connective.TheVariants as joints
 use Rattle.sv_world.specs.Parts.{Part, Expression, Condition, Statement, Block, Bad}
+use Rattle.sv_world.specs.Ranges.{is_zero}
 
 -- the object in a slot, and 0 where the slot is none
 abbrev pub object_in : List ObjectId → ℕ → ℕ
@@ -148,22 +149,17 @@ if_part test body other = codes "if " ++ test ++ codes " " ++ body ++ other
 abbrev pub object_text : ObjectId → List ℕ
 object_text o = 32 ∷ decimal o.0
 
-abbrev pub objects_text : List ObjectId → List ℕ
-objects_text os = flat_map object_text os
+abbrev pub spaced_objects : List ObjectId → List ℕ
+spaced_objects os = flat_map object_text os
 
 -- the objects at the slots of a mask's bits
 abbrev pub written : List ObjectId → ℕ → List ObjectId
 written [] mask = []
 written (r ∷ rs) mask = cond (mask % 2 == 1) (r ∷ written rs (mask / 2)) (written rs (mask / 2))
 
-abbrev pub is_zero : ℤ → Bool
-is_zero (pos zero) = true
-is_zero (pos (suc n)) = false
-is_zero (negsuc n) = false
-
 -- It stands exactly where the origin is not (0, 0).
 abbrev pub origin_text : Point → List ℕ
 origin_text p = cond (is_zero p.x && is_zero p.y) [] (codes " at " ++ signed_decimal p.x ++ codes " " ++ signed_decimal p.y)
 
 unfoldable pub canonical : Action → List ℕ
-canonical a = codes "reads" ++ objects_text a.reads ++ codes " writes" ++ objects_text (written a.reads a.mask) ++ origin_text a.origin ++ codes " " ++ body_text a.reads a.body
+canonical a = codes "reads" ++ spaced_objects a.reads ++ codes " writes" ++ spaced_objects (written a.reads a.mask) ++ origin_text a.origin ++ codes " " ++ body_text a.reads a.body

@@ -9,6 +9,7 @@ use Rattle.sv_world.specs.declared.action.Cond.{Cond}
 use Rattle.sv_world.specs.declared.action.Cond.TheVariants as test
 use Rattle.sv_world.specs.declared.action.Stmt.{Stmt}
 use Rattle.sv_world.specs.declared.action.Stmt.TheVariants as stmt
+use Rattle.sv_world.specs.Limits.{most_reads, most_nodes, most_depth}
 use Rattle.sv_world.specs.Parts.{binary_by as with_op, compare_by as with_comparison, join_by as with_joint}
 use Rattle.sv_text.specs.declared.token.Mark.{Mark}
 use Rattle.sv_text.specs.declared.token.Mark.TheVariants as marks
@@ -36,7 +37,7 @@ IsMark m p q = (front p.1 ≡ Some m) × ((p.0, rest_of p.1) ≡ q)
 
 -- a word or sign that starts a node, one of at most 64
 abbrev pub IsNode : Mark → Place → Place → Type 0
-IsNode m p q = (front p.1 ≡ Some m) × (p.0 < 64) × ((p.0 + 1, rest_of p.1) ≡ q)
+IsNode m p q = (front p.1 ≡ Some m) × (p.0 < most_nodes) × ((p.0 + 1, rest_of p.1) ≡ q)
 
 -- a number that does not directly follow a word or number
 abbrev pub IsNumber : ℤ → List Lexeme → List Lexeme → Type 0
@@ -67,7 +68,7 @@ joint_mark joints.And = marks.And
 joint_mark joints.Or = marks.Or
 
 -- one part, a word or sign, another part, and a sign that closes
-pub record AreTwo {A : Type 0} (form : Form A) (a : A) (middle : Mark) (b : A) (close : Mark) (p q : Place) : Type 0 where
+pub record AreTwoParts {A : Type 0} (form : Form A) (a : A) (middle : Mark) (b : A) (close : Mark) (p q : Place) : Type 0 where
   pub one : Place
   pub two : Place
   pub three : Place
@@ -76,20 +77,24 @@ pub record AreTwo {A : Type 0} (form : Form A) (a : A) (middle : Mark) (b : A) (
   pub right : form b two three
   pub closed : IsMark close three q
 
--- ( expr op expr )
-pub record IsPair (form : Form Expr) (e : Expr) (p q : Place) : Type 0 where
-  pub op : Operator
-  pub a : Expr
-  pub b : Expr
-  pub made : with_op op a b ≡ e
+-- two parts in brackets, joined by what the word or sign between them tells
+pub record IsBracketed {O A B : Type 0} (make : O → A → A → B) (mark : O → Mark) (opens closes : Mark) (form : Form A) (x : B) (p q : Place) : Type 0 where
+  pub by : O
+  pub a : A
+  pub b : A
+  pub made : make by a b ≡ x
   pub inside : Place
-  pub opened : IsNode marks.Open p inside
-  pub parts : AreTwo form a (op_mark op) b marks.Close inside q
+  pub opened : IsNode opens p inside
+  pub parts : AreTwoParts form a (mark by) b closes inside q
+
+-- ( expr op expr )
+abbrev pub IsPair : Form Expr → Expr → Place → Place → Type 0
+IsPair form e p q = IsBracketed with_op op_mark marks.Open marks.Close form e p q
 
 pub record IsLiteral (e : Expr) (p q : Place) : Type 0 where
   pub number : ℤ
   pub made : expr.Lit number ≡ e
-  pub few : p.0 < 64
+  pub few : p.0 < most_nodes
   pub count : p.0 + 1 ≡ q.0
   pub here : IsNumber number p.1 q.1
 
@@ -97,7 +102,7 @@ pub record IsAttr (reads : List ObjectId) (e : Expr) (p q : Place) : Type 0 wher
   pub slot : ℕ
   pub attr : ℕ
   pub made : expr.Attr slot attr ≡ e
-  pub few : p.0 < 64
+  pub few : p.0 < most_nodes
   pub count : p.0 + 1 ≡ q.0
   pub here : IsRef reads slot attr p.1 q.1
 
@@ -107,24 +112,12 @@ IsExpr reads zero e p q = ⊥
 IsExpr reads (suc depth) e p q = IsPair (IsExpr reads depth) e p q ⊎ (IsLiteral e p q ⊎ IsAttr reads e p q)
 
 -- [ expr cmp expr ]
-pub record IsTest (form : Form Expr) (c : Cond) (p q : Place) : Type 0 where
-  pub comparison : Comparison
-  pub a : Expr
-  pub b : Expr
-  pub made : with_comparison comparison a b ≡ c
-  pub inside : Place
-  pub opened : IsNode marks.OpenTest p inside
-  pub parts : AreTwo form a (comparison_mark comparison) b marks.CloseTest inside q
+abbrev pub IsTest : Form Expr → Cond → Place → Place → Type 0
+IsTest form c p q = IsBracketed with_comparison comparison_mark marks.OpenTest marks.CloseTest form c p q
 
 -- ( cond and cond )
-pub record IsJoined (form : Form Cond) (c : Cond) (p q : Place) : Type 0 where
-  pub joint : Connective
-  pub a : Cond
-  pub b : Cond
-  pub made : with_joint joint a b ≡ c
-  pub inside : Place
-  pub opened : IsNode marks.Open p inside
-  pub parts : AreTwo form a (joint_mark joint) b marks.Close inside q
+abbrev pub IsJoined : Form Cond → Cond → Place → Place → Type 0
+IsJoined form c p q = IsBracketed with_joint joint_mark marks.Open marks.Close form c p q
 
 -- not cond
 pub record IsNot (form : Form Cond) (c : Cond) (p q : Place) : Type 0 where
@@ -220,7 +213,7 @@ pub record AreReads (reads : List ObjectId) (text rest : List Lexeme) : Type 0 w
   pub behind : IsWord marks.Writes two rest
   pub ascending : IsAscending 0 reads
   pub some : 0 < length reads
-  pub few : length reads ≤ 16
+  pub few : length reads ≤ most_reads
 
 -- the written objects, which are read
 pub record AreWrites (reads : List ObjectId) (mask : ℕ) (text rest : List Lexeme) : Type 0 where
@@ -254,5 +247,5 @@ pub record IsActionText (a : Action) (text : List Lexeme) : Type 0 where
   pub reads : AreReads a.reads text one
   pub writes : AreWrites a.reads a.mask one two
   pub origin : MayBeOrigin a.origin two three
-  pub body : IsBlock (IsStmt a.reads 8) a.body (0, three) four
+  pub body : IsBlock (IsStmt a.reads most_depth) a.body (0, three) four
   pub end : IsMark marks.End four five

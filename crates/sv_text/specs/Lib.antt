@@ -1,3 +1,4 @@
+-- The definitions of the action language.
 pub mod Tokens
 pub mod Ahead
 pub mod Reading

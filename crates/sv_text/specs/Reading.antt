@@ -10,6 +10,8 @@ use Rattle.sv_world.specs.declared.action.Cond.{Cond}
 use Rattle.sv_world.specs.declared.action.Cond.TheVariants as test
 use Rattle.sv_world.specs.declared.action.Stmt.{Stmt}
 use Rattle.sv_world.specs.declared.action.Stmt.TheVariants as stmt
+use Rattle.sv_world.specs.Limits.{most_reads, most_nodes, most_depth}
+use Rattle.sv_world.specs.Sets.{object_numbered}
 use Rattle.sv_world.specs.Parts.{binary_by as with_op, compare_by as with_comparison, join_by as with_joint}
 use Rattle.sv_text.specs.declared.fault.TextCause.{TextCause}
 use Rattle.sv_text.specs.declared.fault.TextCause.TheVariants as causes
@@ -153,17 +155,14 @@ abbrev pub size_of : ℤ → ℕ
 size_of (pos n) = n
 size_of (negsuc n) = 0
 
-unfoldable pub object_at : List Lexeme → Result ℕ TextFault
-object_at ts = number_at (pos 0) (pos 65535) ts >>= λ z. Ok (size_of z)
+unfoldable pub object_number_at : List Lexeme → Result ℕ TextFault
+object_number_at ts = number_at (pos 0) (pos 65535) ts >>= λ z. Ok (size_of z)
 
 -- one more read behind so many, of which the last is below `least`
 unfoldable pub read_at : ℕ → ℕ → List Lexeme → Result ℕ TextFault
 read_at count least ts = do
-  o ← object_at ts
-  cond (nat_lt o least) (Err (fault ts causes.Order)) (cond (nat_lt count 16) (Ok o) (Err (fault ts causes.TooMany)))
-
-abbrev pub as_object : ℕ → ObjectId
-as_object o = record { 0 = o }
+  o ← object_number_at ts
+  cond (nat_lt o least) (Err (fault ts causes.Order)) (cond (nat_lt count most_reads) (Ok o) (Err (fault ts causes.TooMany)))
 
 abbrev pub ends_reads : ℕ → List Lexeme → Bool
 ends_reads count ts = nat_lt 0 count && is_at marks.Writes ts
@@ -173,7 +172,7 @@ unfoldable pub reads_from : List ObjectId → ℕ → List Lexeme → Result (Li
 reads_from before least [] = Err (unexpected [])
 reads_from before least (t ∷ ts) =
     cond (ends_reads (length before) (t ∷ ts)) (Ok (before, ts))
-    (read_at (length before) least (t ∷ ts) >>= λ o. reads_from (before ++ as_object o ∷ []) (o + 1) ts)
+    (read_at (length before) least (t ∷ ts) >>= λ o. reads_from (before ++ object_numbered o ∷ []) (o + 1) ts)
 
 -- the slot of an object, which is its place in the reads
 abbrev pub slot_from : ℕ → List ObjectId → ℕ → Option ℕ
@@ -190,20 +189,20 @@ slot_at reads o ts = slot_or (fault ts causes.NotRead) (slot_from 0 reads o)
 -- a written object and its slot
 unfoldable pub write_at : List ObjectId → ℕ → List Lexeme → Result (ℕ × ℕ) TextFault
 write_at reads least ts = do
-  o ← object_at ts
+  o ← object_number_at ts
   k ← slot_at reads o ts
   cond (nat_lt o least) (Err (fault ts causes.Order)) (Ok (o, k))
 
-abbrev pub is_number : Token → Bool
-is_number (tokens.Number z) = true
-is_number tokens.Wide = true
-is_number (tokens.Ref object attr) = false
-is_number (tokens.Mark m) = false
-is_number (tokens.Bad cause) = false
+abbrev pub is_number_token : Token → Bool
+is_number_token (tokens.Number z) = true
+is_number_token tokens.Wide = true
+is_number_token (tokens.Ref object attr) = false
+is_number_token (tokens.Mark m) = false
+is_number_token (tokens.Bad cause) = false
 
 unfoldable pub is_number_at : List Lexeme → Bool
 is_number_at [] = false
-is_number_at (t ∷ ts) = is_number t.token
+is_number_at (t ∷ ts) = is_number_token t.token
 
 -- the written objects as a mask over the slots
 unfoldable pub writes_from : List ObjectId → ℕ → ℕ → List Lexeme → Result (ℕ × List Lexeme) TextFault
@@ -228,7 +227,7 @@ abbrev pub Read : Type 0 → Type 0
 Read A = Result (A × ℕ × List Lexeme) TextFault
 
 unfoldable pub start : ℕ → ℕ → List Lexeme → Result ℕ TextFault
-start depth nodes ts = cond (nat_lt nodes 64) (cond (nat_lt 0 depth) (Ok (nodes + 1)) (Err (fault ts causes.TooDeep))) (Err (fault ts causes.TooLarge))
+start depth nodes ts = cond (nat_lt nodes most_nodes) (cond (nat_lt 0 depth) (Ok (nodes + 1)) (Err (fault ts causes.TooDeep))) (Err (fault ts causes.TooLarge))
 
 abbrev pub op_of : Mark → Option Operator
 op_of marks.Plus = Some ops.Add
@@ -270,14 +269,17 @@ closed_by below m nodes ts = do
   rest ← expect m a.2
   Ok (a.0, a.1, rest)
 
--- `below` reads the parts, which stand one deeper.
-unfoldable pub pair_by : (ℕ → List Lexeme → Read Expr) → ℕ → List Lexeme → Read Expr
-pair_by below nodes ts = do
+-- Two parts, what joins them, and a sign behind them. `below` reads the parts, which stand one deeper.
+unfoldable pub bracketed_by : {O A B : Type 0} → (List Lexeme → Result O TextFault) → (O → A → A → B) → Mark → (ℕ → List Lexeme → Read A) → ℕ → List Lexeme → Read B
+bracketed_by joined make closes below nodes ts = do
   a ← below nodes ts
-  o ← op_at a.2
+  o ← joined a.2
   b ← below a.1 (rest_of a.2)
-  rest ← expect marks.Close b.2
-  Ok (with_op o a.0 b.0, b.1, rest)
+  rest ← expect closes b.2
+  Ok (make o a.0 b.0, b.1, rest)
+
+unfoldable pub pair_by : (ℕ → List Lexeme → Read Expr) → ℕ → List Lexeme → Read Expr
+pair_by below nodes ts = bracketed_by op_at with_op marks.Close below nodes ts
 
 unfoldable pub expr_by : List ObjectId → (ℕ → List Lexeme → Read Expr) → ℕ → ℕ → List Lexeme → Read Expr
 expr_by reads below depth nodes ts = cond (is_at marks.Open ts)
@@ -315,22 +317,10 @@ unfoldable pub joint_at : List Lexeme → Result Connective TextFault
 joint_at ts = part_or (unexpected ts) (marked joint_of (front ts))
 
 unfoldable pub compare_by : (ℕ → List Lexeme → Read Expr) → ℕ → List Lexeme → Read Cond
-compare_by exprs nodes ts = do
-  a ← exprs nodes ts
-  c ← comparison_at a.2
-  b ← closed_by exprs marks.CloseTest a.1 (rest_of a.2)
-  Ok (with_comparison c a.0 b.0, b.1, b.2)
-
-unfoldable pub joined_by : (ℕ → List Lexeme → Read Cond) → Connective → Cond → ℕ → List Lexeme → Read Cond
-joined_by below j a nodes ts = do
-  b ← closed_by below marks.Close nodes ts
-  Ok (with_joint j a b.0, b.1, b.2)
+compare_by exprs nodes ts = bracketed_by comparison_at with_comparison marks.CloseTest exprs nodes ts
 
 unfoldable pub join_by : (ℕ → List Lexeme → Read Cond) → ℕ → List Lexeme → Read Cond
-join_by below nodes ts = do
-  a ← below nodes ts
-  j ← joint_at a.2
-  joined_by below j a.0 a.1 (rest_of a.2)
+join_by below nodes ts = bracketed_by joint_at with_joint marks.Close below nodes ts
 
 unfoldable pub not_by : (ℕ → List Lexeme → Read Cond) → ℕ → List Lexeme → Read Cond
 not_by below nodes ts = below nodes ts >>= λ a. Ok (test.Not a.0, a.1, a.2)
@@ -390,7 +380,7 @@ stmts_by stmts (suc turns) before nodes ts = cond (is_at marks.CloseBlock ts)
     (stmts nodes ts >>= λ s. stmts_by stmts turns (before ++ s.0 ∷ []) s.1 s.2)
 
 unfoldable pub block_by : (ℕ → List Lexeme → Read Stmt) → ℕ → List Lexeme → Read (List Stmt)
-block_by stmts nodes ts = expect marks.OpenBlock ts >>= λ rest. stmts_by stmts 65 [] nodes rest
+block_by stmts nodes ts = expect marks.OpenBlock ts >>= λ rest. stmts_by stmts (suc most_nodes) [] nodes rest
 
 unfoldable pub stmt_by : List ObjectId → (ℕ → List Lexeme → Read Expr) → (ℕ → List Lexeme → Read Cond) → (ℕ → List Lexeme → Read (List Stmt)) → ℕ → ℕ → List Lexeme → Read Stmt
 stmt_by reads exprs conds blocks depth nodes ts =
@@ -409,7 +399,7 @@ header_at ts = expect marks.Reads ts >>= λ rest. reads_from [] 0 rest
 
 unfoldable pub body_at : List ObjectId → List Lexeme → Result (List Stmt) TextFault
 body_at reads ts = do
-  body ← block_by (stmt_at reads 8) 0 ts
+  body ← block_by (stmt_at reads most_depth) 0 ts
   _ ← expect marks.End body.2
   Ok body.0
 

@@ -103,8 +103,8 @@ ref_at bs =
 unfoldable pub word_at : List ℕ → Token × ℕ
 word_at bs = (tokens.Mark (word_of (take_while is_ascii_lowercase bs)), prefix_len is_ascii_lowercase bs)
 
-unfoldable pub number_at : List ℕ → Token × ℕ
-number_at bs = (number_of false (digits_at 0 bs), length (digits_at 0 bs))
+unfoldable pub positive_at : List ℕ → Token × ℕ
+positive_at bs = (number_of false (digits_at 0 bs), length (digits_at 0 bs))
 
 unfoldable pub negative_at : List ℕ → Token × ℕ
 negative_at bs = (number_of true (digits_at 1 bs), 1 + length (digits_at 1 bs))
@@ -113,7 +113,7 @@ negative_at bs = (number_of true (digits_at 1 bs), 1 + length (digits_at 1 bs))
 unfoldable pub token_at : List ℕ → Token × ℕ
 token_at bs =
     cond (is_ascii_lowercase (slice_index bs 0)) (word_at bs)
-    (cond (is_ascii_digit (slice_index bs 0)) (number_at bs)
+    (cond (is_ascii_digit (slice_index bs 0)) (positive_at bs)
     (cond ((slice_index bs 0 == 45) && is_ascii_digit (slice_index bs 1)) (negative_at bs)
     (cond (slice_index bs 0 == 64) (ref_at bs)
     (sign_at bs))))

@@ -1,6 +1,7 @@
 //! Conditions. Depth is how deep a node may go that starts here.
 
 ghost use Rattle.std.specs.Prelude.{◌≡◌, ◌≤◌, length, OnOk};
+ghost use Rattle.sv_world.specs.Limits.{most_reads, most_nodes};
 ghost use Rattle.sv_world.specs.Spelled.{cond_spelled};
 ghost use Rattle.sv_text.specs.Reading.{Gives, comparison_of, comparison_at, joint_of, joint_at, compare_by, join_by, not_by, expr_at, cond_at, appended};
 
@@ -60,9 +61,9 @@ fn joint_at(cursor: &Cursor<'_>) -> Result<Connective, TextFault>
 // As at an expression, the place of what stands between the parts is kept open until it is read.
 #[tactic(auto, using(crate::proofs::Flat::compare_appended, crate::proofs::Flat::appended_longer))]
 fn compare_at(parser: &mut Parser<'_>, reads: &[ObjectId], depth: u8) -> Result<(), ParseFault>
-    requires { length reads.now ≤ 16 }
+    requires { length reads.now ≤ most_reads }
     ensures gives { Gives (λ _. (parser.new.out.items, parser.new.started, parser.new.cursor)) result (appended cond_spelled parser.old.out.items (compare_by (expr_at reads.now depth) parser.old.started parser.old.cursor)) }
-    ensures few { OnOk result (parser.new.started ≤ 64) }
+    ensures few { OnOk result (parser.new.started ≤ most_nodes) }
     ensures longer { OnOk result (length parser.old.out.items ≤ length parser.new.out.items) }
 {
     let place = parser.out.len();
@@ -79,9 +80,9 @@ fn compare_at(parser: &mut Parser<'_>, reads: &[ObjectId], depth: u8) -> Result<
 #[cycle(condition)]
 #[tactic(auto, using(crate::proofs::Depth::cond_at_is, crate::proofs::Flat::cond_appended))]
 pub fn cond_at(parser: &mut Parser<'_>, reads: &[ObjectId], depth: u8) -> Result<(), ParseFault>
-    requires { length reads.now ≤ 16 }
+    requires { length reads.now ≤ most_reads }
     ensures gives { Gives (λ _. (parser.new.out.items, parser.new.started, parser.new.cursor)) result (appended cond_spelled parser.old.out.items (cond_at reads.now depth parser.old.started parser.old.cursor)) }
-    ensures few { OnOk result (parser.new.started ≤ 64) }
+    ensures few { OnOk result (parser.new.started ≤ most_nodes) }
     ensures longer { OnOk result (length parser.old.out.items ≤ length parser.new.out.items) }
 {
     if parser.cursor.is_at(Mark::OpenTest) {
@@ -105,9 +106,9 @@ pub fn cond_at(parser: &mut Parser<'_>, reads: &[ObjectId], depth: u8) -> Result
 #[cycle(condition)]
 #[tactic(auto, using(crate::proofs::Flat::join_appended, crate::proofs::Flat::appended_longer))]
 fn join_at(parser: &mut Parser<'_>, reads: &[ObjectId], depth: u8) -> Result<(), ParseFault>
-    requires { length reads.now ≤ 16 }
+    requires { length reads.now ≤ most_reads }
     ensures gives { Gives (λ _. (parser.new.out.items, parser.new.started, parser.new.cursor)) result (appended cond_spelled parser.old.out.items (join_by (cond_at reads.now depth) parser.old.started parser.old.cursor)) }
-    ensures few { OnOk result (parser.new.started ≤ 64) }
+    ensures few { OnOk result (parser.new.started ≤ most_nodes) }
     ensures longer { OnOk result (length parser.old.out.items ≤ length parser.new.out.items) }
 {
     let place = parser.out.len();
@@ -124,9 +125,9 @@ fn join_at(parser: &mut Parser<'_>, reads: &[ObjectId], depth: u8) -> Result<(),
 #[cycle(condition)]
 #[tactic(auto, using(crate::proofs::Flat::not_appended))]
 fn not_at(parser: &mut Parser<'_>, reads: &[ObjectId], depth: u8) -> Result<(), ParseFault>
-    requires { length reads.now ≤ 16 }
+    requires { length reads.now ≤ most_reads }
     ensures gives { Gives (λ _. (parser.new.out.items, parser.new.started, parser.new.cursor)) result (appended cond_spelled parser.old.out.items (not_by (cond_at reads.now depth) parser.old.started parser.old.cursor)) }
-    ensures few { OnOk result (parser.new.started ≤ 64) }
+    ensures few { OnOk result (parser.new.started ≤ most_nodes) }
     ensures longer { OnOk result (length parser.old.out.items ≤ length parser.new.out.items) }
 {
     parser.out.push(Node::Not)?;

@@ -1,6 +1,7 @@
 //! Expressions. Depth is how deep a node may go that starts here.
 
 ghost use Rattle.std.specs.Prelude.{◌≡◌, ◌≤◌, ◌<◌, [], ◌∷◌, length, IfOk, OnOk};
+ghost use Rattle.sv_world.specs.Limits.{most_reads, most_nodes};
 ghost use Rattle.sv_world.specs.Spelled.{expr_spelled};
 ghost use Rattle.sv_text.specs.Reading.{Gives, seen, start, op_of, op_at, leaf_at, pair_by, expr_at, appended};
 
@@ -8,7 +9,7 @@ use crate::cursor::Cursor;
 use crate::header::slot_at;
 use crate::token::{Mark, Token};
 use crate::{ParseFault, TextCause, TextFault};
-use sv_world::{Node, ObjectId, Operator};
+use sv_world::{MOST_NODES, Node, ObjectId, Operator};
 
 /// A body that is being read.
 #[derive(Drop)]
@@ -25,10 +26,10 @@ pub struct Parser<'a> {
 #[tactic(auto, unfolding(crate::specs::Reading::start))]
 pub fn start(parser: &Parser<'_>, depth: u8) -> Result<usize, TextFault>
     ensures value { result ≡ start depth parser.now.started parser.now.cursor }
-    ensures few { IfOk result (λ n. n ≤ 64) }
+    ensures few { IfOk result (λ n. n ≤ most_nodes) }
     ensures deep { OnOk result (0 < depth) }
 {
-    if parser.started >= 64 {
+    if parser.started >= MOST_NODES as usize {
         return Err(parser.cursor.fault(TextCause::TooLarge));
     }
     if depth == 0 {
@@ -68,7 +69,7 @@ fn op_at(cursor: &Cursor<'_>) -> Result<Operator, TextFault>
 /// A literal, or the attribute of an object that is read.
 #[tactic(auto, using(crate::proofs::Flat::leaf_seen))]
 fn leaf_at(reads: &[ObjectId], cursor: &Cursor<'_>) -> Result<Node, TextFault>
-    requires { length reads.now ≤ 16 }
+    requires { length reads.now ≤ most_reads }
     ensures { seen (λ n. n ∷ []) result ≡ seen expr_spelled (leaf_at reads.now cursor.now) }
 {
     let next = cursor.next();
@@ -88,9 +89,9 @@ fn leaf_at(reads: &[ObjectId], cursor: &Cursor<'_>) -> Result<Node, TextFault>
 #[cycle(expression)]
 #[tactic(auto, using(crate::proofs::Depth::expr_at_is, crate::proofs::Flat::expr_appended, crate::proofs::Flat::appended_longer))]
 pub fn expr_at(parser: &mut Parser<'_>, reads: &[ObjectId], depth: u8) -> Result<(), ParseFault>
-    requires { length reads.now ≤ 16 }
+    requires { length reads.now ≤ most_reads }
     ensures gives { Gives (λ _. (parser.new.out.items, parser.new.started, parser.new.cursor)) result (appended expr_spelled parser.old.out.items (expr_at reads.now depth parser.old.started parser.old.cursor)) }
-    ensures few { OnOk result (parser.new.started ≤ 64) }
+    ensures few { OnOk result (parser.new.started ≤ most_nodes) }
     ensures longer { OnOk result (length parser.old.out.items ≤ length parser.new.out.items) }
 {
     if parser.cursor.is_at(Mark::Open) {
@@ -109,9 +110,9 @@ pub fn expr_at(parser: &mut Parser<'_>, reads: &[ObjectId], depth: u8) -> Result
 #[cycle(expression)]
 #[tactic(auto, using(crate::proofs::Flat::pair_appended, crate::proofs::Flat::appended_longer))]
 fn pair_at(parser: &mut Parser<'_>, reads: &[ObjectId], depth: u8) -> Result<(), ParseFault>
-    requires { length reads.now ≤ 16 }
+    requires { length reads.now ≤ most_reads }
     ensures gives { Gives (λ _. (parser.new.out.items, parser.new.started, parser.new.cursor)) result (appended expr_spelled parser.old.out.items (pair_by (expr_at reads.now depth) parser.old.started parser.old.cursor)) }
-    ensures few { OnOk result (parser.new.started ≤ 64) }
+    ensures few { OnOk result (parser.new.started ≤ most_nodes) }
     ensures longer { OnOk result (length parser.old.out.items ≤ length parser.new.out.items) }
 {
     let place = parser.out.len();

@@ -1,17 +1,18 @@
 //! The reads, the writes and the origin of an action.
 
 ghost use Rattle.std.specs.Prelude.{◌≡◌, ◌≤◌, ◌<◌, [], length, Ok, IfOk, OnOk, IfSome};
-ghost use Rattle.sv_text.specs.Reading.{Gives, seen, object_at, read_at, ends_reads, reads_from, slot_from, slot_at, write_at, is_number_at, writes_from, coordinate_at, origin_at, header_at};
+ghost use Rattle.sv_world.specs.Limits.{most_reads};
+ghost use Rattle.sv_text.specs.Reading.{Gives, seen, object_number_at, read_at, ends_reads, reads_from, slot_from, slot_at, write_at, is_number_at, writes_from, coordinate_at, origin_at, header_at};
 
 use crate::cursor::Cursor;
 use crate::token::{Mark, Token};
 use crate::{ParseFault, TextCause, TextFault};
 use std::alloc::Global;
-use sv_world::{ObjectId, Point, Reads};
+use sv_world::{MOST_READS, ObjectId, Point, Reads};
 
-#[tactic(auto, unfolding(crate::specs::Reading::object_at))]
-fn object_at(cursor: &Cursor<'_>) -> Result<u16, TextFault>
-    ensures { result ≡ object_at cursor.now }
+#[tactic(auto, unfolding(crate::specs::Reading::object_number_at))]
+fn object_number_at(cursor: &Cursor<'_>) -> Result<u16, TextFault>
+    ensures { result ≡ object_number_at cursor.now }
 {
     let object = cursor.number_at(0, 65535)?;
     Ok(object as u16)
@@ -21,13 +22,13 @@ fn object_at(cursor: &Cursor<'_>) -> Result<u16, TextFault>
 #[tactic(auto, unfolding(crate::specs::Reading::read_at))]
 fn read_at(cursor: &Cursor<'_>, count: usize, least: u32) -> Result<u16, TextFault>
     ensures value { result ≡ read_at count least cursor.now }
-    ensures few { OnOk result (count < 16) }
+    ensures few { OnOk result (count < most_reads) }
 {
-    let object = object_at(cursor)?;
+    let object = object_number_at(cursor)?;
     if u32::from(object) < least {
         return Err(cursor.fault(TextCause::Order));
     }
-    if count < 16 {
+    if count < MOST_READS {
         Ok(object)
     } else {
         Err(cursor.fault(TextCause::TooMany))
@@ -45,7 +46,7 @@ fn ends_reads(cursor: &Cursor<'_>, count: usize) -> bool
 #[tactic(auto, using(crate::proofs::Turns::reads_from_is))]
 fn reads_at(alloc: Global, cursor: &mut Cursor<'_>) -> Result<Reads, ParseFault>
     ensures gives { Gives (λ reads. (reads, cursor.new)) result (reads_from [] 0 cursor.old) }
-    ensures few { IfOk result (λ reads. length reads ≤ 16) }
+    ensures few { IfOk result (λ reads. length reads ≤ most_reads) }
 {
     let mut reads = Reads::new(alloc);
     let mut least = 0;
@@ -62,7 +63,7 @@ fn reads_at(alloc: Global, cursor: &mut Cursor<'_>) -> Result<Reads, ParseFault>
 #[tactic(auto, unfolding(crate::specs::Reading::header_at))]
 pub fn header_at(alloc: Global, cursor: &mut Cursor<'_>) -> Result<Reads, ParseFault>
     ensures gives { Gives (λ reads. (reads, cursor.new)) result (header_at cursor.old) }
-    ensures few { IfOk result (λ reads. length reads ≤ 16) }
+    ensures few { IfOk result (λ reads. length reads ≤ most_reads) }
 {
     cursor.expect(Mark::Reads)?;
     reads_at(alloc, cursor)
@@ -71,9 +72,9 @@ pub fn header_at(alloc: Global, cursor: &mut Cursor<'_>) -> Result<Reads, ParseF
 /// The slot of an object, which is its place in the reads.
 #[tactic(auto, using(crate::proofs::Turns::slot_turn))]
 fn slot_of(reads: &[ObjectId], object: u16) -> Option<u8>
-    requires { length reads.now ≤ 16 }
+    requires { length reads.now ≤ most_reads }
     ensures value { result ≡ slot_from 0 reads.now object }
-    ensures low { IfSome result (λ k. k < 16) }
+    ensures low { IfSome result (λ k. k < most_reads) }
 {
     for (slot, read) in reads.iter().enumerate() {
         if read.0 == object {
@@ -86,9 +87,9 @@ fn slot_of(reads: &[ObjectId], object: u16) -> Option<u8>
 /// The slot of the object that the next token names.
 #[tactic(auto, unfolding(crate::specs::Reading::slot_at))]
 pub fn slot_at(reads: &[ObjectId], object: u16, cursor: &Cursor<'_>) -> Result<u8, TextFault>
-    requires { length reads.now ≤ 16 }
+    requires { length reads.now ≤ most_reads }
     ensures value { result ≡ slot_at reads.now object cursor.now }
-    ensures low { IfOk result (λ k. k < 16) }
+    ensures low { IfOk result (λ k. k < most_reads) }
 {
     match slot_of(reads, object) {
         Some(slot) => Ok(slot),
@@ -99,11 +100,11 @@ pub fn slot_at(reads: &[ObjectId], object: u16, cursor: &Cursor<'_>) -> Result<u
 /// A written object and its slot.
 #[tactic(auto, unfolding(crate::specs::Reading::write_at))]
 fn write_at(reads: &[ObjectId], cursor: &Cursor<'_>, least: u32) -> Result<(u16, u8), TextFault>
-    requires { length reads.now ≤ 16 }
+    requires { length reads.now ≤ most_reads }
     ensures value { result ≡ write_at reads.now least cursor.now }
-    ensures low { IfOk result (λ w. w.1 < 16) }
+    ensures low { IfOk result (λ w. w.1 < most_reads) }
 {
-    let object = object_at(cursor)?;
+    let object = object_number_at(cursor)?;
     let slot = slot_at(reads, object, cursor)?;
     if u32::from(object) < least {
         return Err(cursor.fault(TextCause::Order));
@@ -121,7 +122,7 @@ fn is_number_at(cursor: &Cursor<'_>) -> bool
 /// The written objects as a mask over the slots.
 #[tactic(auto, using(crate::proofs::Turns::writes_from_is))]
 pub fn writes_at(reads: &[ObjectId], cursor: &mut Cursor<'_>) -> Result<u16, TextFault>
-    requires { length reads.now ≤ 16 }
+    requires { length reads.now ≤ most_reads }
     ensures { seen (λ mask. (mask, cursor.new)) result ≡ writes_from reads.now 0 0 cursor.old }
 {
     let mut mask = 0;

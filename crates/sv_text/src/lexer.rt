@@ -3,7 +3,7 @@
 ghost use Rattle.std.specs.Prelude.{◌≡◌, ◌+◌, ◌-◌, ◌*◌, ◌^◌, ◌<◌, ◌≤◌, cond, min, false, length, drop, slice_index};
 ghost use Rattle.std.specs.List.{prefix_len, take_while};
 ghost use Rattle.std.specs.Char.{is_ascii_digit, is_ascii_lowercase};
-ghost use Rattle.sv_text.specs.Tokens.{is_blank, digits_at, value_of, has_leading_zero, number_of, is_text, word_of, sign_of, sign_at, positive, negative, small_ref, ref_of, ref_at, word_at, number_at, negative_at, token_at, is_word, is_joint, tokens_from};
+ghost use Rattle.sv_text.specs.Tokens.{is_blank, digits_at, value_of, has_leading_zero, number_of, is_text, word_of, sign_of, sign_at, positive, negative, small_ref, ref_of, ref_at, word_at, positive_at, negative_at, token_at, is_word, is_joint, tokens_from};
 ghost use Rattle.sv_text.specs.Ahead.{nothing_ahead, held, IsAhead};
 ghost use Rattle.sv_text.specs.declared.token.Mark.TheVariants.{Other};
 
@@ -236,9 +236,9 @@ fn word_at(bytes: &[u8]) -> (Token, usize)
     (Token::Mark(word_of(run)), run.len())
 }
 
-#[tactic(auto, unfolding(crate::specs::Tokens::number_at))]
-fn number_at(bytes: &[u8]) -> (Token, usize)
-    ensures { result ≡ number_at bytes.now }
+#[tactic(auto, unfolding(crate::specs::Tokens::positive_at))]
+fn positive_at(bytes: &[u8]) -> (Token, usize)
+    ensures { result ≡ positive_at bytes.now }
 {
     number_of(bytes, 0, false)
 }
@@ -262,7 +262,7 @@ fn token_at(bytes: &[u8]) -> (Token, usize)
     if first.is_ascii_lowercase() {
         word_at(bytes)
     } else if first.is_ascii_digit() {
-        number_at(bytes)
+        positive_at(bytes)
     } else if first == b'-' && byte_at(bytes, 1).is_ascii_digit() {
         negative_at(bytes)
     } else if first == b'@' {

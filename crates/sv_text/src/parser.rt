@@ -1,6 +1,7 @@
 //! From a text to its action.
 
 ghost use Rattle.std.specs.Prelude.{◌≡◌, ◌≤◌, ◌<◌, ◌^◌, length, Ok, IfOk};
+ghost use Rattle.sv_world.specs.Limits.{most_reads};
 ghost use Rattle.sv_world.specs.declared.action.Action.{Action};
 ghost use Rattle.sv_text.specs.Grammar.{IsActionText};
 ghost use Rattle.sv_text.specs.Tokens.{tokens_of};
@@ -13,25 +14,20 @@ use crate::header::{header_at, origin_at, writes_at};
 use crate::statement::block_at;
 use crate::token::Mark;
 use std::alloc::Global;
-use sv_world::{Action, Body, ObjectId};
-
-/// The deepest that a node may stand, counted from the outermost statements.
-const DEPTH: u8 = 8;
-
-/// The most nodes of a body, but for those of its blocks. So one vector mostly suffices, and becomes the body's list.
-const ROOM: usize = 64;
+use sv_world::{Action, Body, MOST_DEPTH, MOST_NODES, ObjectId};
 
 #[tactic(auto, using(crate::proofs::Flat::body_found), unfolding(crate::specs::Reading::body_at))]
 fn body_at(alloc: Global, reads: &[ObjectId], cursor: Cursor<'_>) -> Result<Body, ParseFault>
-    requires { length reads.now ≤ 16 }
+    requires { length reads.now ≤ most_reads }
     ensures { Gives (λ body. body) result (body_at reads.now cursor.entry) }
 {
+    // Room for the most nodes but for those of blocks, so that one vector mostly suffices, which becomes the body's list.
     let mut parser = Parser {
         cursor,
-        out: Vec::with_capacity(alloc, ROOM)?,
+        out: Vec::with_capacity(alloc, MOST_NODES as usize)?,
         started: 0,
     };
-    block_at(&mut parser, reads, DEPTH)?;
+    block_at(&mut parser, reads, MOST_DEPTH)?;
     parser.cursor.expect(Mark::End)?;
     Ok(Body::from_nodes(parser.out)?)
 }

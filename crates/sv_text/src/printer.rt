@@ -1,19 +1,20 @@
 //! From an action to its canonical text.
 
-ghost use Rattle.std.specs.Prelude.{◌≡◌, ◌++◌, ◌<◌, ◌≤◌, [], ◌&&◌, true, cond, All, length, drop, string_bytes, Ok, OnOk, OnErr, IfOk};
+ghost use Rattle.std.specs.Prelude.{◌≡◌, ◌++◌, ◌<◌, ◌≤◌, [], ◌&&◌, true, cond, length, drop, string_bytes, Ok, OnOk, OnErr, IfOk};
 ghost use Rattle.std.specs.Fmt.{signed_decimal};
 ghost use Rattle.sv_world.specs.Heads.{expr_over, expr_arity};
 ghost use Rattle.sv_world.specs.Parts.{first, second, third, parts, block, is_expr, is_cond, is_stmt, is_block};
+ghost use Rattle.sv_world.specs.Ranges.{is_zero};
 ghost use Rattle.sv_text.specs.Tokens.{tokens_of};
 ghost use Rattle.sv_text.specs.Reading.{reading};
-ghost use Rattle.sv_text.specs.Printable.{ObjectFits, IsWithinGrammar};
-ghost use Rattle.sv_text.specs.Canonical.{object_in, ref_text, pair_text, test_text, op_text, comparison_text, joint_text, set_part, not_part, if_part, run_text, block_part, other_part, part_text, else_part, body_text, object_text, objects_text, written, is_zero, origin_text, canonical};
+ghost use Rattle.sv_text.specs.Printable.{IsWithinGrammar};
+ghost use Rattle.sv_text.specs.Canonical.{object_in, ref_text, pair_text, test_text, op_text, comparison_text, joint_text, set_part, not_part, if_part, run_text, block_part, other_part, part_text, else_part, body_text, object_text, spaced_objects, written, origin_text, canonical};
 
 use std::alloc::{AllocError, Global};
 use std::fmt::Write;
 use sv_world::{
     Action, Body, Comparison, CondHead, Connective, ExprHead, NodeCursor, ObjectId, Operator,
-    Point, StmtHead,
+    Point, StmtHead, read_objects,
 };
 
 /// The object in a slot, and 0 where the slot is none.
@@ -358,7 +359,7 @@ fn put_body(out: &mut String, reads: &[ObjectId], body: &Body) -> Result<(), All
 }
 
 fn put_objects(out: &mut String, objects: &[ObjectId]) -> Result<(), AllocError>
-    ensures { OnOk result (string_bytes out.new ≡ string_bytes out.old ++ objects_text objects.now) }
+    ensures { OnOk result (string_bytes out.new ≡ string_bytes out.old ++ spaced_objects objects.now) }
 {
     for object in objects {
         let number = object.0;
@@ -381,7 +382,7 @@ fn put_if_written(out: &mut String, object: ObjectId, is_written: bool) -> Resul
 /// The objects at the slots of the mask's bits.
 #[tactic(auto, using(crate::proofs::Printing::written_turn))]
 fn put_written(out: &mut String, reads: &[ObjectId], mask: u16) -> Result<(), AllocError>
-    ensures { OnOk result (string_bytes out.new ≡ string_bytes out.old ++ objects_text (written reads.now mask)) }
+    ensures { OnOk result (string_bytes out.new ≡ string_bytes out.old ++ spaced_objects (written reads.now mask)) }
 {
     let mut left = mask;
     for read in reads {
@@ -434,21 +435,6 @@ fn canonical_text(alloc: Global, action: &Action) -> Result<String, AllocError>
     let mut text = String::new(alloc);
     put_action(&mut text, action)?;
     Ok(text)
-}
-
-/// The objects' numbers are those of their type. They always are, but a contract knows it only of a number that is read.
-fn read_objects(objects: &[ObjectId])
-    ensures { All ObjectFits objects.now }
-{
-    for object in objects {
-        read_object(*object);
-    }
-}
-
-fn read_object(object: ObjectId)
-    ensures { ObjectFits object }
-{
-    let _object = object;
 }
 
 /// The canonical text of an action: its tokens by one space each, with none after `(` and `[`, and none before `)`, `]` and `;`.

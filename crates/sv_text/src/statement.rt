@@ -1,6 +1,7 @@
 //! Statements and blocks of them. Depth is how deep a node may go that starts here.
 
 ghost use Rattle.std.specs.Prelude.{◌≡◌, ◌≤◌, ◌<◌, length, OnOk};
+ghost use Rattle.sv_world.specs.Limits.{most_reads, most_nodes};
 ghost use Rattle.sv_world.specs.Spelled.{stmt_spelled, body_spelled};
 ghost use Rattle.sv_text.specs.Reading.{Gives, target_at, set_by, else_by, if_by, block_by, expr_at, cond_at, stmt_at, appended};
 
@@ -10,12 +11,12 @@ use crate::expression::{Parser, expr_at, start};
 use crate::header::slot_at;
 use crate::token::{Mark, Token};
 use crate::{ParseFault, TextCause, TextFault};
-use sv_world::{Node, ObjectId};
+use sv_world::{MOST_NODES, Node, ObjectId};
 
 /// The slot and attribute of the ref behind `set`, which is no node.
 #[tactic(auto, using(crate::proofs::Next::target_at_is))]
 fn target_at(reads: &[ObjectId], cursor: &Cursor<'_>) -> Result<(u8, u8), TextFault>
-    requires { length reads.now ≤ 16 }
+    requires { length reads.now ≤ most_reads }
     ensures { result ≡ target_at reads.now cursor.now }
 {
     match cursor.next().token {
@@ -30,9 +31,9 @@ fn target_at(reads: &[ObjectId], cursor: &Cursor<'_>) -> Result<(u8, u8), TextFa
 
 #[tactic(auto, using(crate::proofs::Flat::set_appended))]
 fn set_at(parser: &mut Parser<'_>, reads: &[ObjectId], depth: u8) -> Result<(), ParseFault>
-    requires { length reads.now ≤ 16 }
+    requires { length reads.now ≤ most_reads }
     ensures gives { Gives (λ _. (parser.new.out.items, parser.new.started, parser.new.cursor)) result (appended stmt_spelled parser.old.out.items (set_by reads.now (expr_at reads.now depth) parser.old.started parser.old.cursor)) }
-    ensures few { OnOk result (parser.new.started ≤ 64) }
+    ensures few { OnOk result (parser.new.started ≤ most_nodes) }
     ensures longer { OnOk result (length parser.old.out.items ≤ length parser.new.out.items) }
 {
     let (slot, attr) = target_at(reads, &parser.cursor)?;
@@ -46,9 +47,9 @@ fn set_at(parser: &mut Parser<'_>, reads: &[ObjectId], depth: u8) -> Result<(), 
 #[cycle(statement)]
 #[tactic(auto, using(crate::proofs::Depth::stmt_at_is, crate::proofs::Flat::stmt_appended))]
 fn stmt_at(parser: &mut Parser<'_>, reads: &[ObjectId], depth: u8) -> Result<(), ParseFault>
-    requires { length reads.now ≤ 16 }
+    requires { length reads.now ≤ most_reads }
     ensures gives { Gives (λ _. (parser.new.out.items, parser.new.started, parser.new.cursor)) result (appended stmt_spelled parser.old.out.items (stmt_at reads.now depth parser.old.started parser.old.cursor)) }
-    ensures few { OnOk result (parser.new.started ≤ 64) }
+    ensures few { OnOk result (parser.new.started ≤ most_nodes) }
     ensures longer { OnOk result (length parser.old.out.items ≤ length parser.new.out.items) }
 {
     if parser.cursor.is_at(Mark::Set) {
@@ -67,9 +68,9 @@ fn stmt_at(parser: &mut Parser<'_>, reads: &[ObjectId], depth: u8) -> Result<(),
 #[cycle(statement)]
 #[tactic(auto, using(crate::proofs::Flat::if_appended))]
 fn if_at(parser: &mut Parser<'_>, reads: &[ObjectId], depth: u8) -> Result<(), ParseFault>
-    requires { length reads.now ≤ 16 }
+    requires { length reads.now ≤ most_reads }
     ensures gives { Gives (λ _. (parser.new.out.items, parser.new.started, parser.new.cursor)) result (appended stmt_spelled parser.old.out.items (if_by (cond_at reads.now depth) (block_by (stmt_at reads.now depth)) parser.old.started parser.old.cursor)) }
-    ensures few { OnOk result (parser.new.started ≤ 64) }
+    ensures few { OnOk result (parser.new.started ≤ most_nodes) }
     ensures longer { OnOk result (length parser.old.out.items ≤ length parser.new.out.items) }
 {
     parser.out.push(Node::If)?;
@@ -82,10 +83,10 @@ fn if_at(parser: &mut Parser<'_>, reads: &[ObjectId], depth: u8) -> Result<(), P
 #[cycle(statement)]
 #[tactic(auto, using(crate::proofs::Flat::else_appended))]
 fn else_at(parser: &mut Parser<'_>, reads: &[ObjectId], depth: u8) -> Result<(), ParseFault>
-    requires reads { length reads.now ≤ 16 }
-    requires few { parser.old.started ≤ 64 }
+    requires reads { length reads.now ≤ most_reads }
+    requires few { parser.old.started ≤ most_nodes }
     ensures gives { Gives (λ _. (parser.new.out.items, parser.new.started, parser.new.cursor)) result (appended body_spelled parser.old.out.items (else_by (block_by (stmt_at reads.now depth)) parser.old.started parser.old.cursor)) }
-    ensures few { OnOk result (parser.new.started ≤ 64) }
+    ensures few { OnOk result (parser.new.started ≤ most_nodes) }
     ensures longer { OnOk result (length parser.old.out.items ≤ length parser.new.out.items) }
 {
     if parser.cursor.is_at(Mark::Else) {
@@ -96,21 +97,21 @@ fn else_at(parser: &mut Parser<'_>, reads: &[ObjectId], depth: u8) -> Result<(),
     Ok(())
 }
 
-/// Statements up to the end of their block, of which the first place tells at its end how many they are. Each starts a node, so the 65th
-/// is refused.
+/// Statements up to the end of their block, of which the first place tells at its end how many they are. Each starts a node, so one more
+/// than a body may have is refused.
 #[cycle(statement)]
 #[tactic(auto, using(crate::proofs::Flat::block_appended))]
 pub fn block_at(parser: &mut Parser<'_>, reads: &[ObjectId], depth: u8) -> Result<(), ParseFault>
-    requires reads { length reads.now ≤ 16 }
-    requires few { parser.old.started ≤ 64 }
+    requires reads { length reads.now ≤ most_reads }
+    requires few { parser.old.started ≤ most_nodes }
     ensures gives { Gives (λ _. (parser.new.out.items, parser.new.started, parser.new.cursor)) result (appended body_spelled parser.old.out.items (block_by (stmt_at reads.now depth) parser.old.started parser.old.cursor)) }
-    ensures few { OnOk result (parser.new.started ≤ 64) }
+    ensures few { OnOk result (parser.new.started ≤ most_nodes) }
     ensures longer { OnOk result (length parser.old.out.items ≤ length parser.new.out.items) }
 {
     parser.cursor.expect(Mark::OpenBlock)?;
     let place = parser.out.len();
     parser.out.push(Node::Block { count: 0, size: 0 })?;
-    for count in 0..65u8 {
+    for count in 0..MOST_NODES + 1 {
         if parser.cursor.is_at(Mark::CloseBlock) {
             parser.cursor.advance();
             let size = parser.out.len() - place - 1;

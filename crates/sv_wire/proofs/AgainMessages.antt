@@ -1,5 +1,5 @@
 -- What was written is read again, whatever follows it: actions and messages.
-use Rattle.std.proofs.Common.{◌≡◌, ℕ, ◌^◌, ◌<◌, List, [], ◌∷◌, ◌++◌, length, drop, Result, Ok, FitsSigned, refl, sym, ap, ◌∙◌, append_assoc, arith}
+use Rattle.std.proofs.Common.{◌≡◌, ℕ, ◌^◌, ◌<◌, List, [], ◌∷◌, ◌++◌, length, Result, Ok, FitsSigned, refl, sym, ap, ◌∙◌, append_assoc, arith}
 use Rattle.std.specs.List.{flat_map, AllByRecursion}
 use Rattle.std.specs.Int.{w32}
 use Rattle.std.proofs.lemmas.Bool.{lt-leb, le-leb}
@@ -16,27 +16,27 @@ use Rattle.sv_wire.specs.declared.message.Request.TheVariants.{Join, Submit, Don
 use Rattle.sv_wire.specs.declared.message.Reply.{Reply}
 use Rattle.sv_wire.specs.declared.message.Reply.TheVariants.{Welcome, Relay, Dropped, Settled, Noted, Idle, Refused, Bye}
 use Rattle.sv_wire.specs.Steps.{Read}
-use Rattle.sv_wire.specs.Fields.{byte_at, result_at}
-use Rattle.sv_wire.specs.Messages.{mask_at, point_at, action_at, item_at, join_request_at, submit_at, done_at, request_front, request_kind_of, welcome_at, relay_at, dropped_at, settled_at, noted_at, code_at, refused_at, reply_front, reply_kind_of, whole, placed, request_at, reply_at}
+use Rattle.sv_wire.specs.Fields.{byte_from, result_from}
+use Rattle.sv_wire.specs.Messages.{mask_from, point_from, action_from, item_from, join_request_from, submit_from, done_from, request_front, request_kind_of, welcome_from, relay_from, dropped_from, settled_from, noted_from, code_from, refused_from, reply_front, reply_kind_of, whole, placed, request_at, reply_at}
 use Rattle.sv_wire.specs.Spelling.{int_bytes, object_bytes, head_bytes, result_bytes, point_bytes, body_bytes, action_bytes, item_bytes, request_bytes, reply_bytes}
 use Rattle.sv_wire.specs.Grammar.{IsWireHead, IsWireResult, IsWireAction, IsWireRequest, IsWireReply}
-use Rattle.sv_wire.specs.Laws.{IsRequest, IsReply, RequestsDiffer, RepliesDiffer, frame, RequestFramesDiffer, ReplyFramesDiffer, KindsDiffer}
+use Rattle.sv_wire.specs.Laws.{IsRequest, IsReply, RequestsDiffer, RepliesDiffer, RequestsAreApart, RepliesAreApart, KindsAreApart}
 use Rattle.sv_wire.specs.Ranges.{HeldFits, ResultFits, ActionFits, ItemFits, RequestFits, ReplyFits}
 use Rattle.sv_wire.proofs.Again.{number_again, int32_again, count_again, several_again, objects_again, head_again, result_again, both_of_each}
 use Rattle.sv_wire.proofs.AgainTrees.{body_again}
 
-mask_again : (count mask : ℕ) (rest : List ℕ) → mask < 2 ^ 16 → mask < 2 ^ count → mask_at count (big_bytes 2 mask ++ rest) ≡ Ok (mask, rest)
-unfolding mask_at
+mask_again : (count mask : ℕ) (rest : List ℕ) → mask < 2 ^ 16 → mask < 2 ^ count → mask_from count (big_bytes 2 mask ++ rest) ≡ Ok (mask, rest)
+unfolding mask_from
 mask_again count mask rest fits few = rw (number_again 2 mask rest (omega arith), lt-leb (2 ^ count) mask few) refl
 
-point_again : (p : Point) (rest : List ℕ) → FitsSigned w32 p.x → FitsSigned w32 p.y → point_at (point_bytes p ++ rest) ≡ Ok (p, rest)
-unfolding point_at
+point_again : (p : Point) (rest : List ℕ) → FitsSigned w32 p.x → FitsSigned w32 p.y → point_from (point_bytes p ++ rest) ≡ Ok (p, rest)
+unfolding point_from
 point_again p rest fx fy =
-    ap point_at (append_assoc (int_bytes w32 p.x) (int_bytes w32 p.y) rest)
+    ap point_from (append_assoc (int_bytes w32 p.x) (int_bytes w32 p.y) rest)
     ∙ rw (int32_again p.x (int_bytes w32 p.y ++ rest) fx, int32_again p.y rest fy) refl
 
-action_again : (a : Action) (rest : List ℕ) → IsWireAction a × ActionFits a → action_at (action_bytes a ++ rest) ≡ Ok (a, rest)
-unfolding action_at
+action_again : (a : Action) (rest : List ℕ) → IsWireAction a × ActionFits a → action_from (action_bytes a ++ rest) ≡ Ok (a, rest)
+unfolding action_from
 action_again a rest h =
     let objects = flat_map object_bytes a.reads in
     let mask = big_bytes 2 a.mask in
@@ -45,7 +45,7 @@ action_again a rest h =
     let regrouped : action_bytes a ++ rest ≡ length a.reads ∷ (objects ++ (mask ++ (point ++ (body ++ rest)))) =
     ap (λ (t : List ℕ). length a.reads ∷ t)
     (append_assoc (objects ++ mask ++ point) body rest ∙ append_assoc (objects ++ mask) point (body ++ rest) ∙ append_assoc objects mask (point ++ (body ++ rest))) in
-    ap action_at regrouped
+    ap action_from regrouped
     ∙ rw (
       count_again 1 16 (length a.reads) (objects ++ (mask ++ (point ++ (body ++ rest)))) h.0.some_reads h.0.few_reads,
       objects_again a.reads (mask ++ (point ++ (body ++ rest))) h.0.ascending h.1.reads,
@@ -54,8 +54,8 @@ action_again a rest h =
       body_again a.body rest h.1.body h.0.shallow h.0.few_nodes,
     ) refl
 
-item_again : (i : Item) (rest : List ℕ) → IsWireAction i.action × ItemFits i → item_at (item_bytes i ++ rest) ≡ Ok (i, rest)
-unfolding item_at
+item_again : (i : Item) (rest : List ℕ) → IsWireAction i.action × ItemFits i → item_from (item_bytes i ++ rest) ≡ Ok (i, rest)
+unfolding item_from
 item_again i rest h =
     let pos = big_bytes 4 i.pos in
     let client = big_bytes 2 i.client.0 in
@@ -63,7 +63,7 @@ item_again i rest h =
     let action = action_bytes i.action in
     let regrouped : item_bytes i ++ rest ≡ pos ++ (client ++ (seq ++ (action ++ rest))) =
     append_assoc (pos ++ client ++ seq) action rest ∙ append_assoc (pos ++ client) seq (action ++ rest) ∙ append_assoc pos client (seq ++ (action ++ rest)) in
-    ap item_at regrouped
+    ap item_from regrouped
     ∙ rw (
       number_again 4 i.pos (client ++ (seq ++ (action ++ rest))) (omega (arith, h.1.pos)),
       number_again 2 i.client.0 (seq ++ (action ++ rest)) (omega (arith, h.1.client)),
@@ -73,10 +73,10 @@ item_again i rest h =
 
 -- A request at the front, whatever follows it.
 pub request_again : (m : Request) (rest : List ℕ) → IsWireRequest m → RequestFits m → request_front (request_bytes m ++ rest) ≡ Ok (m, rest)
-unfolding request_front request_bytes request_kind_of byte_at join_request_at submit_at done_at
+unfolding request_front request_bytes request_kind_of byte_from join_request_from submit_from done_from
 request_again (Join client life interest) rest is fits =
     let objects = flat_map object_bytes interest in
-    let read : join_request_at (big_bytes 2 client.0 ++ (big_bytes 4 life ++ (length interest ∷ (objects ++ rest)))) ≡ Ok (Join client life interest, rest) =
+    let read : join_request_from (big_bytes 2 client.0 ++ (big_bytes 4 life ++ (length interest ∷ (objects ++ rest)))) ≡ Ok (Join client life interest, rest) =
     rw (
       number_again 2 client.0 (big_bytes 4 life ++ (length interest ∷ (objects ++ rest))) (omega (arith, fits.0)),
       number_again 4 life (length interest ∷ (objects ++ rest)) (omega (arith, fits.1)),
@@ -85,27 +85,27 @@ request_again (Join client life interest) rest is fits =
     ) refl in
     read
 request_again (Submit seq action) rest is fits =
-    let read : submit_at (big_bytes 4 seq ++ (action_bytes action ++ rest)) ≡ Ok (Submit seq action, rest) =
+    let read : submit_from (big_bytes 4 seq ++ (action_bytes action ++ rest)) ≡ Ok (Submit seq action, rest) =
     rw (number_again 4 seq (action_bytes action ++ rest) (omega (arith, fits.0)), action_again action rest (is, fits.1)) refl in
     read
 request_again (Done results) rest is fits =
     let each = both_of_each IsWireResult ResultFits results (recursion_from_All IsWireResult results is.each) fits in
     rw (
       count_again 1 33 (length results) (flat_map result_bytes results ++ rest) is.some is.few,
-      several_again result_at result_bytes (λ r. IsWireResult r × ResultFits r) result_again results rest each,
+      several_again result_from result_bytes (λ r. IsWireResult r × ResultFits r) result_again results rest each,
     ) refl
 request_again Poll rest is fits = refl
 request_again Leave rest is fits = refl
 request_again Bad rest is fits = absurd is
 request_again End rest is fits = absurd is
 
-welcome_again : (commit : ℕ) (head : List Held) (rest : List ℕ) → IsWireHead head → commit < 2 ^ 32 → AllByRecursion HeldFits head → welcome_at (big_bytes 4 commit ++ (head_bytes head ++ rest)) ≡ Ok (Welcome commit head, rest)
-unfolding welcome_at
+welcome_again : (commit : ℕ) (head : List Held) (rest : List ℕ) → IsWireHead head → commit < 2 ^ 32 → AllByRecursion HeldFits head → welcome_from (big_bytes 4 commit ++ (head_bytes head ++ rest)) ≡ Ok (Welcome commit head, rest)
+unfolding welcome_from
 welcome_again commit head rest is lt fits = rw (number_again 4 commit (head_bytes head ++ rest) (omega arith), head_again head rest is fits) refl
 
 relay_again : (seq commit : ℕ) (head : List Held) (items : List Item) (rest : List ℕ) → IsWireReply (Relay seq commit head items) → ReplyFits (Relay seq commit head items)
-    → relay_at (big_bytes 4 seq ++ (big_bytes 4 commit ++ (head_bytes head ++ (length items ∷ (flat_map item_bytes items ++ rest))))) ≡ Ok (Relay seq commit head items, rest)
-unfolding relay_at
+    → relay_from (big_bytes 4 seq ++ (big_bytes 4 commit ++ (head_bytes head ++ (length items ∷ (flat_map item_bytes items ++ rest))))) ≡ Ok (Relay seq commit head items, rest)
+unfolding relay_from
 relay_again seq commit head items rest is fits =
     let each = both_of_each (λ (i : Item). IsWireAction i.action) ItemFits items (recursion_from_All (λ (i : Item). IsWireAction i.action) items is.each) fits.3 in
     let last = flat_map item_bytes items ++ rest in
@@ -114,15 +114,15 @@ relay_again seq commit head items rest is fits =
       number_again 4 commit (head_bytes head ++ (length items ∷ last)) (omega (arith, fits.1)),
       head_again head (length items ∷ last) is.base fits.2,
       count_again 0 33 (length items) last (omega arith) is.few,
-      several_again item_at item_bytes (λ (i : Item). IsWireAction i.action × ItemFits i) item_again items rest each,
+      several_again item_from item_bytes (λ (i : Item). IsWireAction i.action × ItemFits i) item_again items rest each,
     ) refl
 
 -- A reply at the front, whatever follows it.
 pub reply_again : (m : Reply) (rest : List ℕ) → IsWireReply m → ReplyFits m → reply_front (reply_bytes m ++ rest) ≡ Ok (m, rest)
-unfolding reply_front reply_bytes reply_kind_of byte_at dropped_at settled_at noted_at code_at refused_at
+unfolding reply_front reply_bytes reply_kind_of byte_from dropped_from settled_from noted_from code_from refused_from
 reply_again (Welcome commit head) rest is fits =
     let regrouped : big_bytes 4 commit ++ head_bytes head ++ rest ≡ big_bytes 4 commit ++ (head_bytes head ++ rest) = append_assoc (big_bytes 4 commit) (head_bytes head) rest in
-    ap welcome_at regrouped ∙ welcome_again commit head rest is fits.0 fits.1
+    ap welcome_from regrouped ∙ welcome_again commit head rest is fits.0 fits.1
 reply_again (Relay seq commit head items) rest is fits =
     let s = big_bytes 4 seq in
     let c = big_bytes 4 commit in
@@ -130,13 +130,13 @@ reply_again (Relay seq commit head items) rest is fits =
     let l = length items ∷ flat_map item_bytes items in
     let regrouped : s ++ c ++ h ++ l ++ rest ≡ s ++ (c ++ (h ++ (l ++ rest))) =
     append_assoc (s ++ c ++ h) l rest ∙ append_assoc (s ++ c) h (l ++ rest) ∙ append_assoc s c (h ++ (l ++ rest)) in
-    ap relay_at regrouped ∙ relay_again seq commit head items rest is fits
+    ap relay_from regrouped ∙ relay_again seq commit head items rest is fits
 reply_again (Dropped seq chain far) rest is fits =
-    let read : dropped_at (big_bytes 4 seq ++ (big_bytes 4 chain ++ (big_bytes 4 far ++ rest))) ≡ Ok (Dropped seq chain far, rest) =
+    let read : dropped_from (big_bytes 4 seq ++ (big_bytes 4 chain ++ (big_bytes 4 far ++ rest))) ≡ Ok (Dropped seq chain far, rest) =
     rw (number_again 4 seq (big_bytes 4 chain ++ (big_bytes 4 far ++ rest)) (omega (arith, fits.0)), number_again 4 chain (big_bytes 4 far ++ rest) (omega (arith, fits.1)), number_again 4 far rest (omega (arith, fits.2))) refl in
     read
 reply_again (Settled seq position) rest is fits =
-    let read : settled_at (big_bytes 4 seq ++ (big_bytes 4 position ++ rest)) ≡ Ok (Settled seq position, rest) =
+    let read : settled_from (big_bytes 4 seq ++ (big_bytes 4 position ++ rest)) ≡ Ok (Settled seq position, rest) =
     rw (number_again 4 seq (big_bytes 4 position ++ rest) (omega (arith, fits.0)), number_again 4 position rest (omega (arith, fits.1))) refl in
     read
 reply_again (Noted commit) rest is fits = rw (number_again 4 commit rest (omega (arith, fits))) refl
@@ -169,31 +169,21 @@ same_read : {A : Type 0} (m n : A) (x y : List ℕ) → read m x ≡ read n y �
 same_read {A = A} m n x y e = let p : both m x ≡ both n y = cc in ap (λ (q : A × List ℕ). q.0) p
 
 -- No payload begins another one.
-one_request : (m n : Request) (x y : List ℕ) → IsRequest m → IsRequest n → request_bytes m ++ x ≡ request_bytes n ++ y → m ≡ n
-one_request m n x y p q e = same_read m n x y (sym (request_again m x p.within p.fits) ∙ ap request_front e ∙ request_again n y q.within q.fits)
+pub requests_apart : RequestsAreApart
+requests_apart m n x y p q e = same_read m n x y (sym (request_again m x p.within p.fits) ∙ ap request_front e ∙ request_again n y q.within q.fits)
 
-one_reply : (m n : Reply) (x y : List ℕ) → IsReply m → IsReply n → reply_bytes m ++ x ≡ reply_bytes n ++ y → m ≡ n
-one_reply m n x y p q e = same_read m n x y (sym (reply_again m x p.within p.fits) ∙ ap reply_front e ∙ reply_again n y q.within q.fits)
+pub replies_apart : RepliesAreApart
+replies_apart m n x y p q e = same_read m n x y (sym (reply_again m x p.within p.fits) ∙ ap reply_front e ∙ reply_again n y q.within q.fits)
 
 pub requests_differ : RequestsDiffer
-requests_differ m n p q e = one_request m n [] [] p q (ap (λ (t : List ℕ). t ++ []) e)
+requests_differ m n p q e = requests_apart m n [] [] p q (ap (λ (t : List ℕ). t ++ []) e)
 
 pub replies_differ : RepliesDiffer
-replies_differ m n p q e = one_reply m n [] [] p q (ap (λ (t : List ℕ). t ++ []) e)
-
--- behind the length stands the payload
-behind : (p q x y : List ℕ) → frame p ++ x ≡ frame q ++ y → p ++ x ≡ q ++ y
-behind p q x y e = ap (drop 4) e
-
-pub request_frames_differ : RequestFramesDiffer
-request_frames_differ m n x y p q e = one_request m n x y p q (behind (request_bytes m) (request_bytes n) x y e)
-
-pub reply_frames_differ : ReplyFramesDiffer
-reply_frames_differ m n x y p q e = one_reply m n x y p q (behind (reply_bytes m) (reply_bytes n) x y e)
+replies_differ m n p q e = replies_apart m n [] [] p q (ap (λ (t : List ℕ). t ++ []) e)
 
 -- A reply's payload is no request.
 not_request : (n : Reply) (y : List ℕ) (x : Request × List ℕ) → request_front (reply_bytes n ++ y) ≡ Ok x → ⊥
-unfolding request_front reply_bytes request_kind_of byte_at
+unfolding request_front reply_bytes request_kind_of byte_from
 not_request (Welcome commit head) y x e = cc
 not_request (Relay seq commit head items) y x e = cc
 not_request (Dropped seq chain far) y x e = cc
@@ -203,5 +193,5 @@ not_request Idle y x e = cc
 not_request (Refused code detail) y x e = cc
 not_request Bye y x e = cc
 
-pub kinds_differ : KindsDiffer
-kinds_differ m n x y p q e = not_request n y (m, x) (sym (ap request_front (behind (request_bytes m) (reply_bytes n) x y e)) ∙ request_again m x p.within p.fits)
+pub kinds_apart : KindsAreApart
+kinds_apart m n x y p q e = not_request n y (m, x) (sym (ap request_front e) ∙ request_again m x p.within p.fits)

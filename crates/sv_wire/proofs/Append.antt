@@ -8,9 +8,9 @@ use Rattle.sv_world.specs.Trees.{stmt_nodes, body_nodes}
 use Rattle.sv_world.specs.declared.action.Stmt.{Stmt}
 use Rattle.sv_wire.specs.Spelling.{stmt_bytes, body_bytes}
 
-pub appended : {A : Type 0} (spell : A → List ℕ) (xs : List A) (i : ℕ) (x d : A) (old before new : List ℕ) → i < length xs → x ≡ get_or xs i d → before ≡ old ++ flat_map spell (take i xs) → new ≡ before ++ spell x
+pub written_more : {A : Type 0} (spell : A → List ℕ) (xs : List A) (i : ℕ) (x d : A) (old before new : List ℕ) → i < length xs → x ≡ get_or xs i d → before ≡ old ++ flat_map spell (take i xs) → new ≡ before ++ spell x
     → new ≡ old ++ flat_map spell (take (i + 1) xs)
-appended {A = A} spell xs i x d old before new lt is so_far put =
+written_more {A = A} spell xs i x d old before new lt is so_far put =
     let more : take i xs ++ x ∷ [] ≡ take (i + 1) xs = ap (λ (y : A). take i xs ++ y ∷ []) is ∙ sym (take_more xs i d lt) in
     put ∙ ap (λ (t : List ℕ). t ++ spell x) so_far ∙ flat_map_more spell old (take i xs) x ∙ ap (λ (ys : List A). old ++ flat_map spell ys) more
 

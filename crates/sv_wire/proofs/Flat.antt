@@ -23,10 +23,10 @@ use Rattle.sv_wire.specs.declared.fault.Stop.{Stop}
 use Rattle.sv_wire.specs.declared.fault.ReadFault.{ReadFault}
 use Rattle.sv_wire.specs.declared.fault.ReadFault.TheVariants as faults
 use Rattle.sv_wire.specs.Steps.{Read, Turn, ◌>>=◌, Fails, in_turn}
-use Rattle.sv_wire.specs.Fields.{byte_at, int_at}
-use Rattle.sv_wire.specs.Nodes.{node_at, expr_kind_of, cond_kind_of, stmt_kind_of}
+use Rattle.sv_wire.specs.Fields.{byte_from, int_from}
+use Rattle.sv_wire.specs.Nodes.{node_from, expr_kind_of, cond_kind_of, stmt_kind_of}
 use Rattle.sv_wire.proofs.Loop.{fails_first}
-use Rattle.sv_wire.specs.Trees.{Reader, appended, lit_at, attr_at, pair_at, expr_of, expr_step, expr_at, compare_at, join_at, not_at, cond_of, cond_step, cond_at, set_at, list_by, other_at, lists_at, if_at, stmt_of, stmt_step, stmt_at}
+use Rattle.sv_wire.specs.Trees.{Reader, appended, lit_from, attr_from, pair_from, expr_of, expr_level, expr_from, compare_from, join_from, not_from, cond_of, cond_level, cond_from, set_from, list_by, other_from, lists_from, if_from, stmt_of, stmt_level, stmt_from}
 
 -- ---- a node over parts
 
@@ -80,54 +80,54 @@ lit_read : (old : List Node) (nodes : ℕ) (read : Read ℤ) → appended expr_s
 lit_read old nodes (Ok n) = rw (lit_spelled n.0) refl
 lit_read old nodes (Err e) = refl
 
-pub lit_appended : (old : List Node) (nodes : ℕ) (bytes : List ℕ) → appended expr_spelled old (lit_at nodes bytes) ≡ (int_at w64 bytes >>= λ n. Ok (old ++ node.Lit n.0 ∷ [], nodes, n.1))
-unfolding lit_at
-lit_appended old nodes bytes = lit_read old nodes (int_at w64 bytes)
+pub lit_appended : (old : List Node) (nodes : ℕ) (bytes : List ℕ) → appended expr_spelled old (lit_from nodes bytes) ≡ (int_from w64 bytes >>= λ n. Ok (old ++ node.Lit n.0 ∷ [], nodes, n.1))
+unfolding lit_from
+lit_appended old nodes bytes = lit_read old nodes (int_from w64 bytes)
 
 attr_read : (old : List Node) (nodes slot : ℕ) (read : Read ℕ) → appended expr_spelled old (read >>= λ attr. Ok (expr.Attr slot attr.0, nodes, attr.1)) ≡ (read >>= λ attr. Ok (old ++ node.Attr slot attr.0 ∷ [], nodes, attr.1))
 attr_read old nodes slot (Ok attr) = rw (attr_spelled slot attr.0) refl
 attr_read old nodes slot (Err e) = refl
 
-attr_reads : (old : List Node) (nodes : ℕ) (read : Read ℕ) → appended expr_spelled old (read >>= λ slot. byte_at slot.1 >>= λ attr. Ok (expr.Attr slot.0 attr.0, nodes, attr.1))
-    ≡ (read >>= λ slot. byte_at slot.1 >>= λ attr. Ok (old ++ node.Attr slot.0 attr.0 ∷ [], nodes, attr.1))
-attr_reads old nodes (Ok slot) = attr_read old nodes slot.0 (byte_at slot.1)
+attr_reads : (old : List Node) (nodes : ℕ) (read : Read ℕ) → appended expr_spelled old (read >>= λ slot. byte_from slot.1 >>= λ attr. Ok (expr.Attr slot.0 attr.0, nodes, attr.1))
+    ≡ (read >>= λ slot. byte_from slot.1 >>= λ attr. Ok (old ++ node.Attr slot.0 attr.0 ∷ [], nodes, attr.1))
+attr_reads old nodes (Ok slot) = attr_read old nodes slot.0 (byte_from slot.1)
 attr_reads old nodes (Err e) = refl
 
-pub attr_appended : (old : List Node) (nodes : ℕ) (bytes : List ℕ) → appended expr_spelled old (attr_at nodes bytes)
-    ≡ (byte_at bytes >>= λ slot. byte_at slot.1 >>= λ attr. Ok (old ++ node.Attr slot.0 attr.0 ∷ [], nodes, attr.1))
-unfolding attr_at
-attr_appended old nodes bytes = attr_reads old nodes (byte_at bytes)
+pub attr_appended : (old : List Node) (nodes : ℕ) (bytes : List ℕ) → appended expr_spelled old (attr_from nodes bytes)
+    ≡ (byte_from bytes >>= λ slot. byte_from slot.1 >>= λ attr. Ok (old ++ node.Attr slot.0 attr.0 ∷ [], nodes, attr.1))
+unfolding attr_from
+attr_appended old nodes bytes = attr_reads old nodes (byte_from bytes)
 
-pub pair_appended : (old : List Node) (reader : Reader Expr) (o : Operator) (nodes : ℕ) (bytes : List ℕ) → appended expr_spelled old (pair_at reader o nodes bytes)
+pub pair_appended : (old : List Node) (reader : Reader Expr) (o : Operator) (nodes : ℕ) (bytes : List ℕ) → appended expr_spelled old (pair_from reader o nodes bytes)
     ≡ (appended expr_spelled (old ++ node.Binary o ∷ []) (reader nodes bytes) >>= λ a. appended expr_spelled a.0 (reader a.1 a.2))
-unfolding pair_at
+unfolding pair_from
 pair_appended old reader o nodes bytes = over_two expr_spelled expr_spelled expr_spelled (binary_by o) (node.Binary o) (binary_spelled o) old (reader nodes bytes) reader
 
-pub expr_step_appended : (old : List Node) (reader : Reader Expr) (depth nodes : ℕ) (bytes : List ℕ) → appended expr_spelled old (expr_step reader depth nodes bytes)
-    ≡ (node_at expr_kind_of depth nodes bytes >>= λ kind. appended expr_spelled old (expr_of reader kind.0 (nodes + 1) kind.1))
-unfolding expr_step
-expr_step_appended old reader depth nodes bytes = appended_then expr_spelled old (node_at expr_kind_of depth nodes bytes) (λ kind. expr_of reader kind.0 (nodes + 1) kind.1)
+pub expr_level_appended : (old : List Node) (reader : Reader Expr) (depth nodes : ℕ) (bytes : List ℕ) → appended expr_spelled old (expr_level reader depth nodes bytes)
+    ≡ (node_from expr_kind_of depth nodes bytes >>= λ kind. appended expr_spelled old (expr_of reader kind.0 (nodes + 1) kind.1))
+unfolding expr_level
+expr_level_appended old reader depth nodes bytes = appended_then expr_spelled old (node_from expr_kind_of depth nodes bytes) (λ kind. expr_of reader kind.0 (nodes + 1) kind.1)
 
 -- ---- conditions
 
-pub compare_appended : (old : List Node) (reader : Reader Expr) (o : Comparison) (nodes : ℕ) (bytes : List ℕ) → appended cond_spelled old (compare_at reader o nodes bytes)
+pub compare_appended : (old : List Node) (reader : Reader Expr) (o : Comparison) (nodes : ℕ) (bytes : List ℕ) → appended cond_spelled old (compare_from reader o nodes bytes)
     ≡ (appended expr_spelled (old ++ node.Compare o ∷ []) (reader nodes bytes) >>= λ a. appended expr_spelled a.0 (reader a.1 a.2))
-unfolding compare_at
+unfolding compare_from
 compare_appended old reader o nodes bytes = over_two expr_spelled expr_spelled cond_spelled (compare_by o) (node.Compare o) (compare_spelled o) old (reader nodes bytes) reader
 
-pub join_appended : (old : List Node) (reader : Reader Cond) (o : Connective) (nodes : ℕ) (bytes : List ℕ) → appended cond_spelled old (join_at reader o nodes bytes)
+pub join_appended : (old : List Node) (reader : Reader Cond) (o : Connective) (nodes : ℕ) (bytes : List ℕ) → appended cond_spelled old (join_from reader o nodes bytes)
     ≡ (appended cond_spelled (old ++ node.Join o ∷ []) (reader nodes bytes) >>= λ a. appended cond_spelled a.0 (reader a.1 a.2))
-unfolding join_at
+unfolding join_from
 join_appended old reader o nodes bytes = over_two cond_spelled cond_spelled cond_spelled (join_by o) (node.Join o) (join_spelled o) old (reader nodes bytes) reader
 
-pub not_appended : (old : List Node) (reader : Reader Cond) (nodes : ℕ) (bytes : List ℕ) → appended cond_spelled old (not_at reader nodes bytes) ≡ appended cond_spelled (old ++ node.Not ∷ []) (reader nodes bytes)
-unfolding not_at
+pub not_appended : (old : List Node) (reader : Reader Cond) (nodes : ℕ) (bytes : List ℕ) → appended cond_spelled old (not_from reader nodes bytes) ≡ appended cond_spelled (old ++ node.Not ∷ []) (reader nodes bytes)
+unfolding not_from
 not_appended old reader nodes bytes = over_one cond_spelled cond_spelled (λ c. test.Not c) node.Not not_spelled old (reader nodes bytes)
 
-pub cond_step_appended : (old : List Node) (exprs : Reader Expr) (conds : Reader Cond) (depth nodes : ℕ) (bytes : List ℕ) → appended cond_spelled old (cond_step exprs conds depth nodes bytes)
-    ≡ (node_at cond_kind_of depth nodes bytes >>= λ kind. appended cond_spelled old (cond_of exprs conds kind.0 (nodes + 1) kind.1))
-unfolding cond_step
-cond_step_appended old exprs conds depth nodes bytes = appended_then cond_spelled old (node_at cond_kind_of depth nodes bytes) (λ kind. cond_of exprs conds kind.0 (nodes + 1) kind.1)
+pub cond_level_appended : (old : List Node) (exprs : Reader Expr) (conds : Reader Cond) (depth nodes : ℕ) (bytes : List ℕ) → appended cond_spelled old (cond_level exprs conds depth nodes bytes)
+    ≡ (node_from cond_kind_of depth nodes bytes >>= λ kind. appended cond_spelled old (cond_of exprs conds kind.0 (nodes + 1) kind.1))
+unfolding cond_level
+cond_level_appended old exprs conds depth nodes bytes = appended_then cond_spelled old (node_from cond_kind_of depth nodes bytes) (λ kind. cond_of exprs conds kind.0 (nodes + 1) kind.1)
 
 -- ---- statements
 
@@ -136,15 +136,15 @@ set_read : (old : List Node) (exprs : Reader Expr) (nodes slot : ℕ) (read : Re
 set_read old exprs nodes slot (Ok attr) = over_one expr_spelled stmt_spelled (λ value. stmt.Set slot attr.0 value) (node.Set slot attr.0) (set_spelled slot attr.0) old (exprs nodes attr.1)
 set_read old exprs nodes slot (Err e) = refl
 
-set_reads : (old : List Node) (exprs : Reader Expr) (nodes : ℕ) (read : Read ℕ) → appended stmt_spelled old (read >>= λ slot. byte_at slot.1 >>= λ attr. exprs nodes attr.1 >>= λ value. Ok (stmt.Set slot.0 attr.0 value.0, value.1, value.2))
-    ≡ (read >>= λ slot. byte_at slot.1 >>= λ attr. appended expr_spelled (old ++ node.Set slot.0 attr.0 ∷ []) (exprs nodes attr.1))
-set_reads old exprs nodes (Ok slot) = set_read old exprs nodes slot.0 (byte_at slot.1)
+set_reads : (old : List Node) (exprs : Reader Expr) (nodes : ℕ) (read : Read ℕ) → appended stmt_spelled old (read >>= λ slot. byte_from slot.1 >>= λ attr. exprs nodes attr.1 >>= λ value. Ok (stmt.Set slot.0 attr.0 value.0, value.1, value.2))
+    ≡ (read >>= λ slot. byte_from slot.1 >>= λ attr. appended expr_spelled (old ++ node.Set slot.0 attr.0 ∷ []) (exprs nodes attr.1))
+set_reads old exprs nodes (Ok slot) = set_read old exprs nodes slot.0 (byte_from slot.1)
 set_reads old exprs nodes (Err e) = refl
 
-pub set_appended : (old : List Node) (exprs : Reader Expr) (nodes : ℕ) (bytes : List ℕ) → appended stmt_spelled old (set_at exprs nodes bytes)
-    ≡ (byte_at bytes >>= λ slot. byte_at slot.1 >>= λ attr. appended expr_spelled (old ++ node.Set slot.0 attr.0 ∷ []) (exprs nodes attr.1))
-unfolding set_at
-set_appended old exprs nodes bytes = set_reads old exprs nodes (byte_at bytes)
+pub set_appended : (old : List Node) (exprs : Reader Expr) (nodes : ℕ) (bytes : List ℕ) → appended stmt_spelled old (set_from exprs nodes bytes)
+    ≡ (byte_from bytes >>= λ slot. byte_from slot.1 >>= λ attr. appended expr_spelled (old ++ node.Set slot.0 attr.0 ∷ []) (exprs nodes attr.1))
+unfolding set_from
+set_appended old exprs nodes bytes = set_reads old exprs nodes (byte_from bytes)
 
 if_other : (old : List Node) (c : Cond) (xs : List Stmt) (read : Turn (List Stmt)) → appended stmt_spelled old (read >>= λ ys. Ok (stmt.If c xs ys.0, ys.1, ys.2)) ≡ appended body_spelled (((old ++ node.If ∷ []) ++ cond_spelled c) ++ body_spelled xs) read
 if_other old c xs (Ok ys) =
@@ -162,15 +162,15 @@ if_whole : (old : List Node) (stmts : Reader Stmt) (read : Turn Cond) → append
 if_whole old stmts (Ok c) = if_lists old stmts c.0 (list_by stmts c.1 c.2)
 if_whole old stmts (Err e) = refl
 
-pub if_appended : (old : List Node) (conds : Reader Cond) (stmts : Reader Stmt) (nodes : ℕ) (bytes : List ℕ) → appended stmt_spelled old (if_at conds stmts nodes bytes)
+pub if_appended : (old : List Node) (conds : Reader Cond) (stmts : Reader Stmt) (nodes : ℕ) (bytes : List ℕ) → appended stmt_spelled old (if_from conds stmts nodes bytes)
     ≡ (appended cond_spelled (old ++ node.If ∷ []) (conds nodes bytes) >>= λ c. appended body_spelled c.0 (list_by stmts c.1 c.2) >>= λ xs. appended body_spelled xs.0 (list_by stmts xs.1 xs.2))
-unfolding if_at lists_at other_at
+unfolding if_from lists_from other_from
 if_appended old conds stmts nodes bytes = if_whole old stmts (conds nodes bytes)
 
-pub stmt_step_appended : (old : List Node) (exprs : Reader Expr) (conds : Reader Cond) (stmts : Reader Stmt) (depth nodes : ℕ) (bytes : List ℕ) → appended stmt_spelled old (stmt_step exprs conds stmts depth nodes bytes)
-    ≡ (node_at stmt_kind_of depth nodes bytes >>= λ kind. appended stmt_spelled old (stmt_of exprs conds stmts kind.0 (nodes + 1) kind.1))
-unfolding stmt_step
-stmt_step_appended old exprs conds stmts depth nodes bytes = appended_then stmt_spelled old (node_at stmt_kind_of depth nodes bytes) (λ kind. stmt_of exprs conds stmts kind.0 (nodes + 1) kind.1)
+pub stmt_level_appended : (old : List Node) (exprs : Reader Expr) (conds : Reader Cond) (stmts : Reader Stmt) (depth nodes : ℕ) (bytes : List ℕ) → appended stmt_spelled old (stmt_level exprs conds stmts depth nodes bytes)
+    ≡ (node_from stmt_kind_of depth nodes bytes >>= λ kind. appended stmt_spelled old (stmt_of exprs conds stmts kind.0 (nodes + 1) kind.1))
+unfolding stmt_level
+stmt_level_appended old exprs conds stmts depth nodes bytes = appended_then stmt_spelled old (node_from stmt_kind_of depth nodes bytes) (λ kind. stmt_of exprs conds stmts kind.0 (nodes + 1) kind.1)
 
 -- ---- statements one after the other
 
@@ -247,9 +247,9 @@ list_read old stmts nodes (Ok n) = block_read old n.0 (in_turn stmts n.0 nodes n
 list_read old stmts nodes (Err e) = refl
 
 pub list_appended : (old : List Node) (stmts : Reader Stmt) (nodes : ℕ) (bytes : List ℕ) → appended body_spelled old (list_by stmts nodes bytes)
-    ≡ (byte_at bytes >>= λ n. appended run_spelled (old ++ node.Block n.0 0 ∷ []) (in_turn stmts n.0 nodes n.1) >>= λ a. Ok (set a.0 (length old) (node.Block n.0 (length a.0 - length old - 1)), a.1, a.2))
+    ≡ (byte_from bytes >>= λ n. appended run_spelled (old ++ node.Block n.0 0 ∷ []) (in_turn stmts n.0 nodes n.1) >>= λ a. Ok (set a.0 (length old) (node.Block n.0 (length a.0 - length old - 1)), a.1, a.2))
 unfolding list_by
-list_appended old stmts nodes bytes = list_read old stmts nodes (byte_at bytes)
+list_appended old stmts nodes bytes = list_read old stmts nodes (byte_from bytes)
 
 -- A body that was read is what its nodes spell.
 read_found : (out : List Node) (read : Turn (List Stmt)) (nodes : ℕ) (rest : List ℕ) → appended body_spelled [] read ≡ Ok (out, nodes, rest) → IsBody out × (read ≡ Ok (block_in (first (parts out)), nodes, rest))

@@ -15,7 +15,7 @@ use Rattle.sv_wire.specs.declared.fault.WireCause.TheVariants.{Count, Order}
 use Rattle.sv_wire.specs.declared.message.Held.{Held}
 use Rattle.sv_wire.specs.declared.message.Done1.{Done1}
 use Rattle.sv_wire.specs.Steps.{◌>>=◌, Read, Turn, stop, several, in_turn}
-use Rattle.sv_wire.specs.Fields.{byte_at, number_at, int_at, count_at, head_count_at, object_at, objects_at, value_at, held_at, helds_at, head_at, result_at}
+use Rattle.sv_wire.specs.Fields.{byte_from, number_from, int_from, count_from, head_count_from, object_from, objects_from, value_from, held_from, helds_from, head_from, result_from}
 use Rattle.sv_wire.specs.Spelling.{int_bytes, object_bytes, value_bytes, held_bytes, head_bytes, result_bytes}
 use Rattle.sv_wire.specs.Grammar.{IsWireValue, IsWireHead, IsWireResult}
 use Rattle.sv_wire.proofs.Near.{ok_is}
@@ -39,8 +39,8 @@ takes_nothing bytes fits = record { parts = refl; bytes_left = fits }
 IsBytes-drop : (n : ℕ) (bytes : List ℕ) → IsBytes bytes → IsBytes (drop n bytes)
 IsBytes-drop n bytes h i = rw get_or-drop (h (n + i))
 
-pub byte_takes : (bytes : List ℕ) (x : ℕ × List ℕ) → IsBytes bytes → byte_at bytes ≡ Ok x → Takes bytes (x.0 ∷ []) x.1 × (x.0 < 256)
-unfolding byte_at
+pub byte_takes : (bytes : List ℕ) (x : ℕ × List ℕ) → IsBytes bytes → byte_from bytes ≡ Ok x → Takes bytes (x.0 ∷ []) x.1 × (x.0 < 256)
+unfolding byte_from
 byte_takes [] x fits e = absurd cc
 byte_takes (b ∷ bytes) x fits e = subst (λ (y : ℕ × List ℕ). Takes (b ∷ bytes) (y.0 ∷ []) y.1 × (y.0 < 256)) (ok_is (b, bytes) x e) (record { parts = refl; bytes_left = λ i. fits (suc i) }, fits 0)
 
@@ -81,32 +81,32 @@ exact8 (a ∷ b ∷ c ∷ d ∷ e ∷ f ∷ g ∷ []) long fits = absurd (omega 
 exact8 (a ∷ b ∷ c ∷ d ∷ e ∷ f ∷ g ∷ h ∷ bytes) long fits =
     be_bytes_8 (a ∷ b ∷ c ∷ d ∷ e ∷ f ∷ g ∷ h ∷ []) (big_number 8 (a ∷ b ∷ c ∷ d ∷ e ∷ f ∷ g ∷ h ∷ bytes)) refl (short_bytes 8 (a ∷ b ∷ c ∷ d ∷ e ∷ f ∷ g ∷ h ∷ bytes) fits) (omega arith)
 
-pub number_takes : (k : ℕ) → IsExact k → (bytes : List ℕ) (x : ℕ × List ℕ) → IsBytes bytes → number_at k bytes ≡ Ok x → Takes bytes (big_bytes k x.0) x.1 × (x.0 < 256 ^ k)
-unfolding number_at
+pub number_takes : (k : ℕ) → IsExact k → (bytes : List ℕ) (x : ℕ × List ℕ) → IsBytes bytes → number_from k bytes ≡ Ok x → Takes bytes (big_bytes k x.0) x.1 × (x.0 < 256 ^ k)
+unfolding number_from
 number_takes k exact bytes x fits e =
     let g = kept_unless (ltb (length bytes) k) (big_number k bytes, drop k bytes) x _ e in
     let long : k ≤ length bytes = ltb-false (length bytes) k g.0 in
     let parts : bytes ≡ big_bytes k (big_number k bytes) ++ drop k bytes = sym (take-append-drop k bytes) ∙ ap (λ (t : List ℕ). t ++ drop k bytes) (sym (exact bytes long fits)) in
     subst (λ (y : ℕ × List ℕ). Takes bytes (big_bytes k y.0) y.1 × (y.0 < 256 ^ k)) g.1 (record { parts = parts; bytes_left = IsBytes-drop k bytes fits }, big_from-lt 0 k bytes fits)
 
-int_takes : (w : Width) → IsExact (byte_len w) → ((n : ℕ) → n < 256 ^ byte_len w → cast_unsigned w (cast_signed w n) ≡ n) → (bytes : List ℕ) (x : ℤ × List ℕ) → IsBytes bytes → int_at w bytes ≡ Ok x → Takes bytes (int_bytes w x.0) x.1
-unfolding int_at
+int_takes : (w : Width) → IsExact (byte_len w) → ((n : ℕ) → n < 256 ^ byte_len w → cast_unsigned w (cast_signed w n) ≡ n) → (bytes : List ℕ) (x : ℤ × List ℕ) → IsBytes bytes → int_from w bytes ≡ Ok x → Takes bytes (int_bytes w x.0) x.1
+unfolding int_from
 int_takes w exact back bytes x fits e =
-    let n = bind_ok (number_at (byte_len w) bytes) (λ n. Ok (cast_signed w n.0, n.1)) x e in
+    let n = bind_ok (number_from (byte_len w) bytes) (λ n. Ok (cast_signed w n.0, n.1)) x e in
     let t = number_takes (byte_len w) exact bytes n.0 fits n.1 in
     let whole : Takes bytes (int_bytes w (cast_signed w n.0.0)) n.0.1 = subst (λ (m : ℕ). Takes bytes (big_bytes (byte_len w) m) n.0.1) (sym (back n.0.0 t.1)) t.0 in
     subst (λ (y : ℤ × List ℕ). Takes bytes (int_bytes w y.0) y.1) (ok_is (cast_signed w n.0.0, n.0.1) x n.2) whole
 
-pub int32_takes : (bytes : List ℕ) (x : ℤ × List ℕ) → IsBytes bytes → int_at w32 bytes ≡ Ok x → Takes bytes (int_bytes w32 x.0) x.1
+pub int32_takes : (bytes : List ℕ) (x : ℤ × List ℕ) → IsBytes bytes → int_from w32 bytes ≡ Ok x → Takes bytes (int_bytes w32 x.0) x.1
 int32_takes bytes x fits e = int_takes w32 exact4 (λ n lt. of_z-to_z w32 n (omega (arith, lt))) bytes x fits e
 
-pub int64_takes : (bytes : List ℕ) (x : ℤ × List ℕ) → IsBytes bytes → int_at w64 bytes ≡ Ok x → Takes bytes (int_bytes w64 x.0) x.1
+pub int64_takes : (bytes : List ℕ) (x : ℤ × List ℕ) → IsBytes bytes → int_from w64 bytes ≡ Ok x → Takes bytes (int_bytes w64 x.0) x.1
 int64_takes bytes x fits e = int_takes w64 exact8 (λ n lt. of_z-to_z w64 n (omega (arith, lt))) bytes x fits e
 
-pub count_takes : (low high : ℕ) (bytes : List ℕ) (x : ℕ × List ℕ) → IsBytes bytes → count_at low high bytes ≡ Ok x → Takes bytes (x.0 ∷ []) x.1
-unfolding count_at
+pub count_takes : (low high : ℕ) (bytes : List ℕ) (x : ℕ × List ℕ) → IsBytes bytes → count_from low high bytes ≡ Ok x → Takes bytes (x.0 ∷ []) x.1
+unfolding count_from
 count_takes low high bytes x fits e =
-    let n = bind_ok (byte_at bytes) (λ n. cond (leb low n.0 && leb n.0 high) (Ok (n.0, n.1)) (stop bytes Count)) x e in
+    let n = bind_ok (byte_from bytes) (λ n. cond (leb low n.0 && leb n.0 high) (Ok (n.0, n.1)) (stop bytes Count)) x e in
     let g = kept_if (leb low n.0.0 && leb n.0.0 high) (n.0.0, n.0.1) x _ n.2 in
     subst (λ (y : ℕ × List ℕ). Takes bytes (y.0 ∷ []) y.1) g.1 (byte_takes bytes n.0 fits n.1).0
 
@@ -149,51 +149,51 @@ ascends key least [] up = refl
 ascends key least (x ∷ []) up = refl
 ascends key least (x ∷ y ∷ ys) up = and_true (ltb (key x) (key y)) (is_ascending (map key (y ∷ ys))) (lt-ltb (key x) (key y) (omega (arith, up.1.0))) (ascends key (key x + 1) (y ∷ ys) up.1)
 
-object_takes : (least : ℕ) (bytes : List ℕ) (x : ObjectId × ℕ × List ℕ) → IsBytes bytes → object_at least bytes ≡ Ok x → Takes bytes (object_bytes x.0) x.2 × (least ≤ x.0.0) × (x.1 ≡ x.0.0 + 1) × Unit {0}
-unfolding object_at
+object_takes : (least : ℕ) (bytes : List ℕ) (x : ObjectId × ℕ × List ℕ) → IsBytes bytes → object_from least bytes ≡ Ok x → Takes bytes (object_bytes x.0) x.2 × (least ≤ x.0.0) × (x.1 ≡ x.0.0 + 1) × Unit {0}
+unfolding object_from
 object_takes least bytes x fits e =
-    let n = bind_ok (number_at 2 bytes) (λ n. cond (ltb n.0 least) (stop bytes Order) (Ok (record { 0 = n.0 }, n.0 + 1, n.1))) x e in
+    let n = bind_ok (number_from 2 bytes) (λ n. cond (ltb n.0 least) (stop bytes Order) (Ok (record { 0 = n.0 }, n.0 + 1, n.1))) x e in
     let g = kept_unless (ltb n.0.0 least) (record { 0 = n.0.0 }, n.0.0 + 1, n.0.1) x _ n.2 in
     let t = number_takes 2 exact2 bytes n.0 fits n.1 in
     subst (λ (y : ObjectId × ℕ × List ℕ). Takes bytes (object_bytes y.0) y.2 × (least ≤ y.0.0) × (y.1 ≡ y.0.0 + 1) × Unit {0}) g.1 (t.0, ltb-false n.0.0 least g.0, refl, tt)
 
-pub objects_takes : (n : ℕ) (bytes : List ℕ) (x : List ObjectId × List ℕ) → IsBytes bytes → objects_at n bytes ≡ Ok x → Takes bytes (flat_map object_bytes x.0) x.1 × (length x.0 ≡ n) × (is_ascending (map (λ (o : ObjectId). o.0) x.0) ≡ true)
-unfolding objects_at
+pub objects_takes : (n : ℕ) (bytes : List ℕ) (x : List ObjectId × List ℕ) → IsBytes bytes → objects_from n bytes ≡ Ok x → Takes bytes (flat_map object_bytes x.0) x.1 × (length x.0 ≡ n) × (is_ascending (map (λ (o : ObjectId). o.0) x.0) ≡ true)
+unfolding objects_from
 objects_takes n bytes x fits e =
-    let a = bind_ok (in_turn object_at n 0 bytes) (λ objects. Ok (objects.0, objects.2)) x e in
-    let t = in_turn_takes object_at object_bytes (λ (o : ObjectId). o.0) (λ _. Unit {0}) object_takes n 0 bytes a.0 fits a.1 in
+    let a = bind_ok (in_turn object_from n 0 bytes) (λ objects. Ok (objects.0, objects.2)) x e in
+    let t = in_turn_takes object_from object_bytes (λ (o : ObjectId). o.0) (λ _. Unit {0}) object_takes n 0 bytes a.0 fits a.1 in
     subst (λ (y : List ObjectId × List ℕ). Takes bytes (flat_map object_bytes y.0) y.1 × (length y.0 ≡ n) × (is_ascending (map (λ (o : ObjectId). o.0) y.0) ≡ true)) (ok_is (a.0.0, a.0.2) x a.2)
     (t.0, t.1, ascends (λ (o : ObjectId). o.0) 0 a.0.0 t.2)
 
-pub value_takes : (bytes : List ℕ) (x : List ℤ × List ℕ) → IsBytes bytes → value_at bytes ≡ Ok x → Takes bytes (value_bytes x.0) x.1 × IsWireValue x.0
-unfolding value_at
+pub value_takes : (bytes : List ℕ) (x : List ℤ × List ℕ) → IsBytes bytes → value_from bytes ≡ Ok x → Takes bytes (value_bytes x.0) x.1 × IsWireValue x.0
+unfolding value_from
 value_takes bytes x fits e =
-    let n = bind_ok (count_at 1 4 bytes) (λ n. several (int_at w64) n.0 n.1) x e in
+    let n = bind_ok (count_from 1 4 bytes) (λ n. several (int_from w64) n.0 n.1) x e in
     let c = count_takes 1 4 bytes n.0 fits n.1 in
     let few = count_is 1 4 bytes n.0 n.1 in
-    let t = several_takes (int_at w64) (int_bytes w64) (λ _. Unit {0}) (λ b y h k. (int64_takes b y h k, tt)) n.0.0 n.0.1 x c.bytes_left n.2 in
+    let t = several_takes (int_from w64) (int_bytes w64) (λ _. Unit {0}) (λ b y h k. (int64_takes b y h k, tt)) n.0.0 n.0.1 x c.bytes_left n.2 in
     (subst (λ (k : ℕ). Takes bytes (k ∷ flat_map (int_bytes w64) x.0) x.1) (sym t.1) (after c t.0), (omega (arith, few.0, t.1), omega (arith, few.1, t.1)))
 
-held_takes : (least : ℕ) (bytes : List ℕ) (x : Held × ℕ × List ℕ) → IsBytes bytes → held_at least bytes ≡ Ok x → Takes bytes (held_bytes x.0) x.2 × (least ≤ x.0.object.0) × (x.1 ≡ x.0.object.0 + 1) × IsWireValue x.0.value
-unfolding held_at
+held_takes : (least : ℕ) (bytes : List ℕ) (x : Held × ℕ × List ℕ) → IsBytes bytes → held_from least bytes ≡ Ok x → Takes bytes (held_bytes x.0) x.2 × (least ≤ x.0.object.0) × (x.1 ≡ x.0.object.0 + 1) × IsWireValue x.0.value
+unfolding held_from
 held_takes least bytes x fits e =
-    let o = bind_ok (object_at least bytes) (λ object. value_at object.2 >>= λ value. Ok (record { object = object.0; value = value.0 }, object.1, value.1)) x e in
-    let v = bind_ok (value_at o.0.2) (λ value. Ok (record { object = o.0.0; value = value.0 }, o.0.1, value.1)) x o.2 in
+    let o = bind_ok (object_from least bytes) (λ object. value_from object.2 >>= λ value. Ok (record { object = object.0; value = value.0 }, object.1, value.1)) x e in
+    let v = bind_ok (value_from o.0.2) (λ value. Ok (record { object = o.0.0; value = value.0 }, o.0.1, value.1)) x o.2 in
     let s = object_takes least bytes o.0 fits o.1 in
     let t = value_takes o.0.2 v.0 s.0.bytes_left v.1 in
     subst (λ (y : Held × ℕ × List ℕ). Takes bytes (held_bytes y.0) y.2 × (least ≤ y.0.object.0) × (y.1 ≡ y.0.object.0 + 1) × IsWireValue y.0.value) (ok_is (record { object = o.0.0; value = v.0.0 }, o.0.1, v.0.1) x v.2) (after s.0 t.0, s.1, s.2, t.1)
 
-pub head_takes : (bytes : List ℕ) (x : List Held × List ℕ) → IsBytes bytes → head_at bytes ≡ Ok x → Takes bytes (head_bytes x.0) x.1 × IsWireHead x.0
-unfolding head_at helds_at head_count_at
+pub head_takes : (bytes : List ℕ) (x : List Held × List ℕ) → IsBytes bytes → head_from bytes ≡ Ok x → Takes bytes (head_bytes x.0) x.1 × IsWireHead x.0
+unfolding head_from helds_from head_count_from
 head_takes bytes x fits e =
-    let n = bind_ok (number_at 2 bytes >>= λ n. cond (ltb 528 n.0) (stop bytes Count) (Ok (n.0, n.1))) (λ n. in_turn held_at n.0 0 n.1 >>= λ head. Ok (head.0, head.2)) x e in
-    let m = bind_ok (number_at 2 bytes) (λ n. cond (ltb 528 n.0) (stop bytes Count) (Ok (n.0, n.1))) n.0 n.1 in
+    let n = bind_ok (number_from 2 bytes >>= λ n. cond (ltb 528 n.0) (stop bytes Count) (Ok (n.0, n.1))) (λ n. in_turn held_from n.0 0 n.1 >>= λ head. Ok (head.0, head.2)) x e in
+    let m = bind_ok (number_from 2 bytes) (λ n. cond (ltb 528 n.0) (stop bytes Count) (Ok (n.0, n.1))) n.0 n.1 in
     let g = kept_unless (ltb 528 m.0.0) (m.0.0, m.0.1) n.0 _ m.2 in
     let few : m.0.0 ≤ 528 = ltb-false 528 m.0.0 g.0 in
     let s = number_takes 2 exact2 bytes m.0 fits m.1 in
     let c : Takes bytes (big_bytes 2 n.0.0) n.0.1 × (n.0.0 ≤ 528) = subst (λ (y : ℕ × List ℕ). Takes bytes (big_bytes 2 y.0) y.1 × (y.0 ≤ 528)) g.1 (s.0, few) in
-    let h = bind_ok (in_turn held_at n.0.0 0 n.0.1) (λ head. Ok (head.0, head.2)) x n.2 in
-    let t = in_turn_takes held_at held_bytes (λ (h : Held). h.object.0) (λ (h : Held). IsWireValue h.value) held_takes n.0.0 0 n.0.1 h.0 c.0.bytes_left h.1 in
+    let h = bind_ok (in_turn held_from n.0.0 0 n.0.1) (λ head. Ok (head.0, head.2)) x n.2 in
+    let t = in_turn_takes held_from held_bytes (λ (h : Held). h.object.0) (λ (h : Held). IsWireValue h.value) held_takes n.0.0 0 n.0.1 h.0 c.0.bytes_left h.1 in
     let whole : Takes bytes (head_bytes h.0.0) h.0.2 = subst (λ (k : ℕ). Takes bytes (big_bytes 2 k ++ flat_map held_bytes h.0.0) h.0.2) (sym t.1) (after c.0 t.0) in
     subst (λ (y : List Held × List ℕ). Takes bytes (head_bytes y.0) y.1 × IsWireHead y.0) (ok_is (h.0.0, h.0.2) x h.2) (
       whole,
@@ -204,16 +204,16 @@ head_takes bytes x fits e =
       },
     )
 
-pub result_takes : (bytes : List ℕ) (x : Done1 × List ℕ) → IsBytes bytes → result_at bytes ≡ Ok x → Takes bytes (result_bytes x.0) x.1 × IsWireResult x.0
-unfolding result_at
+pub result_takes : (bytes : List ℕ) (x : Done1 × List ℕ) → IsBytes bytes → result_from bytes ≡ Ok x → Takes bytes (result_bytes x.0) x.1 × IsWireResult x.0
+unfolding result_from
 result_takes bytes x fits e =
-    let p = bind_ok (number_at 4 bytes) (λ pos. count_at 0 16 pos.1 >>= λ n. several value_at n.0 n.1 >>= λ values. Ok (record { pos = pos.0; values = values.0 }, values.1)) x e in
-    let n = bind_ok (count_at 0 16 p.0.1) (λ n. several value_at n.0 n.1 >>= λ values. Ok (record { pos = p.0.0; values = values.0 }, values.1)) x p.2 in
-    let v = bind_ok (several value_at n.0.0 n.0.1) (λ values. Ok (record { pos = p.0.0; values = values.0 }, values.1)) x n.2 in
+    let p = bind_ok (number_from 4 bytes) (λ pos. count_from 0 16 pos.1 >>= λ n. several value_from n.0 n.1 >>= λ values. Ok (record { pos = pos.0; values = values.0 }, values.1)) x e in
+    let n = bind_ok (count_from 0 16 p.0.1) (λ n. several value_from n.0 n.1 >>= λ values. Ok (record { pos = p.0.0; values = values.0 }, values.1)) x p.2 in
+    let v = bind_ok (several value_from n.0.0 n.0.1) (λ values. Ok (record { pos = p.0.0; values = values.0 }, values.1)) x n.2 in
     let s = number_takes 4 exact4 bytes p.0 fits p.1 in
     let c = count_takes 0 16 p.0.1 n.0 s.0.bytes_left n.1 in
     let few = count_is 0 16 p.0.1 n.0 n.1 in
-    let t = several_takes value_at value_bytes IsWireValue value_takes n.0.0 n.0.1 v.0 c.bytes_left v.1 in
+    let t = several_takes value_from value_bytes IsWireValue value_takes n.0.0 n.0.1 v.0 c.bytes_left v.1 in
     let list : Takes p.0.1 (length v.0.0 ∷ flat_map value_bytes v.0.0) v.0.1 = subst (λ (k : ℕ). Takes p.0.1 (k ∷ flat_map value_bytes v.0.0) v.0.1) (sym t.1) (after c t.0) in
     subst (λ (y : Done1 × List ℕ). Takes bytes (result_bytes y.0) y.1 × IsWireResult y.0) (ok_is (record { pos = p.0.0; values = v.0.0 }, v.0.1) x v.2)
     (after s.0 list, record { few = omega (arith, few.1, t.1); values = All-from_recursion IsWireValue v.0.0 t.2 })

@@ -26,9 +26,9 @@ use Rattle.sv_wire.specs.declared.nodes.StmtKind.{StmtKind}
 use Rattle.sv_wire.specs.declared.nodes.StmtKind.TheVariants as stmt_kind
 use Rattle.sv_world.specs.Parts.{binary_by as expr_by, compare_by, join_by}
 use Rattle.sv_wire.specs.Steps.{◌>>=◌, in_turn}
-use Rattle.sv_wire.specs.Fields.{byte_at, int_at}
-use Rattle.sv_wire.specs.Nodes.{among, kind_in, room_at, node_at, expr_kind_of, cond_kind_of, stmt_kind_of}
-use Rattle.sv_wire.specs.Trees.{Reader, nothing, lit_at, attr_at, pair_at, expr_of, expr_step, expr_at, compare_at, join_at, not_at, cond_of, cond_step, cond_at, set_at, list_by, other_at, lists_at, if_at, stmt_of, stmt_step, stmt_at}
+use Rattle.sv_wire.specs.Fields.{byte_from, int_from}
+use Rattle.sv_wire.specs.Nodes.{among, kind_in, room_at, node_from, expr_kind_of, cond_kind_of, stmt_kind_of}
+use Rattle.sv_wire.specs.Trees.{Reader, no_level, lit_from, attr_from, pair_from, expr_of, expr_level, expr_from, compare_from, join_from, not_from, cond_of, cond_level, cond_from, set_from, list_by, other_from, lists_from, if_from, stmt_of, stmt_level, stmt_from}
 use Rattle.sv_wire.specs.Spelling.{operator_byte, comparison_byte, connective_byte, int_bytes, expr_bytes, cond_bytes, stmt_bytes, body_bytes}
 use Rattle.sv_wire.proofs.Near.{ok_is}
 use Rattle.sv_wire.proofs.NearFields.{bind_ok}
@@ -119,10 +119,10 @@ unfolding room_at
 room_ok depth nodes bytes u e = ltb-true 0 depth (room_deep (ltb nodes 64) (ltb 0 depth) _ _ u e)
 
 node_takes : {K : Type 0} (kind_of : ℕ → Option K) (byte : K → ℕ) → ((b : ℕ) (k : K) → kind_of b ≡ Some k → b ≡ byte k)
-    → (depth nodes : ℕ) (bytes : List ℕ) (x : K × List ℕ) → IsBytes bytes → node_at kind_of depth nodes bytes ≡ Ok x → Takes bytes (byte x.0 ∷ []) x.1 × (0 < depth)
-unfolding node_at
+    → (depth nodes : ℕ) (bytes : List ℕ) (x : K × List ℕ) → IsBytes bytes → node_from kind_of depth nodes bytes ≡ Ok x → Takes bytes (byte x.0 ∷ []) x.1 × (0 < depth)
+unfolding node_from
 node_takes {K = K} kind_of byte is depth nodes bytes x fits e =
-    let b = bind_ok (byte_at bytes) (λ b. kind_in (kind_of b.0) bytes >>= λ kind. room_at depth nodes bytes >>= λ _. Ok (kind, b.1)) x e in
+    let b = bind_ok (byte_from bytes) (λ b. kind_in (kind_of b.0) bytes >>= λ kind. room_at depth nodes bytes >>= λ _. Ok (kind, b.1)) x e in
     let k = bind_ok (kind_in (kind_of b.0.0) bytes) (λ kind. room_at depth nodes bytes >>= λ _. Ok (kind, b.0.1)) x b.2 in
     let r = bind_ok (room_at depth nodes bytes) (λ _. Ok (k.0, b.0.1)) x k.2 in
     let t = byte_takes bytes b.0 fits b.1 in
@@ -171,20 +171,20 @@ make text count level byte d depth nodes bytes rest x node le m =
 abbrev MakesExpr : ℕ → ℕ → ℕ → List ℕ → Expr × ℕ × List ℕ → Type 0
 MakesExpr byte depth nodes bytes x = Makes Expr expr_bytes expr_nodes expr_depth byte depth nodes bytes x
 
-lit_found : (depth nodes : ℕ) (bytes : List ℕ) (x : Expr × ℕ × List ℕ) → IsBytes bytes → lit_at nodes bytes ≡ Ok x → MakesExpr 0x20 depth nodes bytes x
-unfolding lit_at
+lit_found : (depth nodes : ℕ) (bytes : List ℕ) (x : Expr × ℕ × List ℕ) → IsBytes bytes → lit_from nodes bytes ≡ Ok x → MakesExpr 0x20 depth nodes bytes x
+unfolding lit_from
 lit_found depth nodes bytes x fits e =
-    let n = bind_ok (int_at w64 bytes) (λ n. Ok (expr.Lit n.0, nodes, n.1)) x e in
+    let n = bind_ok (int_from w64 bytes) (λ n. Ok (expr.Lit n.0, nodes, n.1)) x e in
     let count = lit_nodes n.0.0 in
     let level = lit_depth n.0.0 in
     subst (λ (y : Expr × ℕ × List ℕ). MakesExpr 0x20 depth nodes bytes y) (ok_is (expr.Lit n.0.0, nodes, n.0.1) x n.2)
     (record { rest_text = int_bytes w64 n.0.0; takes = int64_takes bytes n.0 fits n.1; text_is = lit_bytes n.0.0; nodes_are = omega arith; is_within = omega arith })
 
-attr_found : (depth nodes : ℕ) (bytes : List ℕ) (x : Expr × ℕ × List ℕ) → IsBytes bytes → attr_at nodes bytes ≡ Ok x → MakesExpr 0x21 depth nodes bytes x
-unfolding attr_at
+attr_found : (depth nodes : ℕ) (bytes : List ℕ) (x : Expr × ℕ × List ℕ) → IsBytes bytes → attr_from nodes bytes ≡ Ok x → MakesExpr 0x21 depth nodes bytes x
+unfolding attr_from
 attr_found depth nodes bytes x fits e =
-    let s = bind_ok (byte_at bytes) (λ slot. byte_at slot.1 >>= λ attr. Ok (expr.Attr slot.0 attr.0, nodes, attr.1)) x e in
-    let a = bind_ok (byte_at s.0.1) (λ attr. Ok (expr.Attr s.0.0 attr.0, nodes, attr.1)) x s.2 in
+    let s = bind_ok (byte_from bytes) (λ slot. byte_from slot.1 >>= λ attr. Ok (expr.Attr slot.0 attr.0, nodes, attr.1)) x e in
+    let a = bind_ok (byte_from s.0.1) (λ attr. Ok (expr.Attr s.0.0 attr.0, nodes, attr.1)) x s.2 in
     let p = byte_takes bytes s.0 fits s.1 in
     let q = byte_takes s.0.1 a.0 p.0.bytes_left a.1 in
     let count = attr_nodes s.0.0 a.0.0 in
@@ -192,8 +192,8 @@ attr_found depth nodes bytes x fits e =
     subst (λ (y : Expr × ℕ × List ℕ). MakesExpr 0x21 depth nodes bytes y) (ok_is (expr.Attr s.0.0 a.0.0, nodes, a.0.1) x a.2)
     (record { rest_text = s.0.0 ∷ a.0.0 ∷ []; takes = after p.0 q.0; text_is = attr_bytes s.0.0 a.0.0; nodes_are = omega arith; is_within = omega arith })
 
-pair_found : (reader : Reader Expr) (depth : ℕ) → ExprFound depth reader → (o : Operator) (nodes : ℕ) (bytes : List ℕ) (x : Expr × ℕ × List ℕ) → IsBytes bytes → pair_at reader o nodes bytes ≡ Ok x → MakesExpr (operator_byte o) depth nodes bytes x
-unfolding pair_at
+pair_found : (reader : Reader Expr) (depth : ℕ) → ExprFound depth reader → (o : Operator) (nodes : ℕ) (bytes : List ℕ) (x : Expr × ℕ × List ℕ) → IsBytes bytes → pair_from reader o nodes bytes ≡ Ok x → MakesExpr (operator_byte o) depth nodes bytes x
+unfolding pair_from
 pair_found reader depth found o nodes bytes x fits e =
     let a = bind_ok (reader nodes bytes) (λ a. reader a.1 a.2 >>= λ b. Ok (expr_by o a.0 b.0, b.1, b.2)) x e in
     let b = bind_ok (reader a.0.1 a.0.2) (λ b. Ok (expr_by o a.0.0 b.0, b.1, b.2)) x a.2 in
@@ -215,25 +215,25 @@ expr_of_found reader depth found expr_kind.Lit nodes bytes x fits e = lit_found 
 expr_of_found reader depth found expr_kind.Attr nodes bytes x fits e = attr_found depth nodes bytes x fits e
 expr_of_found reader depth found (expr_kind.Both o) nodes bytes x fits e = pair_found reader depth found o nodes bytes x fits e
 
-expr_step_found : (reader : Reader Expr) (d depth : ℕ) → (0 < depth → d + 1 ≤ depth) → ExprFound d reader → ExprFound depth (expr_step reader depth)
-unfolding expr_step
-expr_step_found reader d depth le found nodes bytes x fits e =
-    let k = bind_ok (node_at expr_kind_of depth nodes bytes) (λ kind. expr_of reader kind.0 (nodes + 1) kind.1) x e in
+expr_level_found : (reader : Reader Expr) (d depth : ℕ) → (0 < depth → d + 1 ≤ depth) → ExprFound d reader → ExprFound depth (expr_level reader depth)
+unfolding expr_level
+expr_level_found reader d depth le found nodes bytes x fits e =
+    let k = bind_ok (node_from expr_kind_of depth nodes bytes) (λ kind. expr_of reader kind.0 (nodes + 1) kind.1) x e in
     let t = node_takes expr_kind_of expr_byte expr_byte_is depth nodes bytes k.0 fits k.1 in
     make expr_bytes expr_nodes expr_depth (expr_byte k.0.0) d depth nodes bytes k.0.1 x t.0 (le t.1) (expr_of_found reader d found k.0.0 (nodes + 1) k.0.1 x t.0.bytes_left k.2)
 
-pub expr_found : (depth : ℕ) → ExprFound depth (expr_at depth)
-unfolding expr_at
-expr_found zero nodes bytes x fits e = expr_step_found nothing 0 0 (λ h. absurd (omega arith)) (λ n b y h i. absurd cc) nodes bytes x fits e
-expr_found (suc depth) nodes bytes x fits e = expr_step_found (λ n rest. expr_at depth n rest) depth (suc depth) (λ h. omega arith) (expr_found depth) nodes bytes x fits e
+pub expr_found : (depth : ℕ) → ExprFound depth (expr_from depth)
+unfolding expr_from
+expr_found zero nodes bytes x fits e = expr_level_found no_level 0 0 (λ h. absurd (omega arith)) (λ n b y h i. absurd cc) nodes bytes x fits e
+expr_found (suc depth) nodes bytes x fits e = expr_level_found (λ n rest. expr_from depth n rest) depth (suc depth) (λ h. omega arith) (expr_found depth) nodes bytes x fits e
 
 -- ---- conditions
 
 abbrev MakesCond : ℕ → ℕ → ℕ → List ℕ → Cond × ℕ × List ℕ → Type 0
 MakesCond byte depth nodes bytes x = Makes Cond cond_bytes cond_nodes cond_depth byte depth nodes bytes x
 
-compare_found : (reader : Reader Expr) (depth : ℕ) → ExprFound depth reader → (o : Comparison) (nodes : ℕ) (bytes : List ℕ) (x : Cond × ℕ × List ℕ) → IsBytes bytes → compare_at reader o nodes bytes ≡ Ok x → MakesCond (comparison_byte o) depth nodes bytes x
-unfolding compare_at
+compare_found : (reader : Reader Expr) (depth : ℕ) → ExprFound depth reader → (o : Comparison) (nodes : ℕ) (bytes : List ℕ) (x : Cond × ℕ × List ℕ) → IsBytes bytes → compare_from reader o nodes bytes ≡ Ok x → MakesCond (comparison_byte o) depth nodes bytes x
+unfolding compare_from
 compare_found reader depth found o nodes bytes x fits e =
     let a = bind_ok (reader nodes bytes) (λ a. reader a.1 a.2 >>= λ b. Ok (compare_by o a.0 b.0, b.1, b.2)) x e in
     let b = bind_ok (reader a.0.1 a.0.2) (λ b. Ok (compare_by o a.0.0 b.0, b.1, b.2)) x a.2 in
@@ -250,8 +250,8 @@ compare_found reader depth found o nodes bytes x fits e =
       is_within = omega (arith, p.is_within, q.is_within);
     })
 
-join_found : (reader : Reader Cond) (depth : ℕ) → CondFound depth reader → (o : Connective) (nodes : ℕ) (bytes : List ℕ) (x : Cond × ℕ × List ℕ) → IsBytes bytes → join_at reader o nodes bytes ≡ Ok x → MakesCond (connective_byte o) depth nodes bytes x
-unfolding join_at
+join_found : (reader : Reader Cond) (depth : ℕ) → CondFound depth reader → (o : Connective) (nodes : ℕ) (bytes : List ℕ) (x : Cond × ℕ × List ℕ) → IsBytes bytes → join_from reader o nodes bytes ≡ Ok x → MakesCond (connective_byte o) depth nodes bytes x
+unfolding join_from
 join_found reader depth found o nodes bytes x fits e =
     let a = bind_ok (reader nodes bytes) (λ a. reader a.1 a.2 >>= λ b. Ok (join_by o a.0 b.0, b.1, b.2)) x e in
     let b = bind_ok (reader a.0.1 a.0.2) (λ b. Ok (join_by o a.0.0 b.0, b.1, b.2)) x a.2 in
@@ -268,8 +268,8 @@ join_found reader depth found o nodes bytes x fits e =
       is_within = omega (arith, p.is_within, q.is_within);
     })
 
-not_found : (reader : Reader Cond) (depth : ℕ) → CondFound depth reader → (nodes : ℕ) (bytes : List ℕ) (x : Cond × ℕ × List ℕ) → IsBytes bytes → not_at reader nodes bytes ≡ Ok x → MakesCond 0x35 depth nodes bytes x
-unfolding not_at
+not_found : (reader : Reader Cond) (depth : ℕ) → CondFound depth reader → (nodes : ℕ) (bytes : List ℕ) (x : Cond × ℕ × List ℕ) → IsBytes bytes → not_from reader nodes bytes ≡ Ok x → MakesCond 0x35 depth nodes bytes x
+unfolding not_from
 not_found reader depth found nodes bytes x fits e =
     let a = bind_ok (reader nodes bytes) (λ a. Ok (test.Not a.0, a.1, a.2)) x e in
     let p = found nodes bytes a.0 fits a.1 in
@@ -289,28 +289,28 @@ cond_of_found exprs conds depth h k (cond_kind.Compare o) nodes bytes x fits e =
 cond_of_found exprs conds depth h k (cond_kind.Both o) nodes bytes x fits e = join_found conds depth k o nodes bytes x fits e
 cond_of_found exprs conds depth h k cond_kind.Not nodes bytes x fits e = not_found conds depth k nodes bytes x fits e
 
-cond_step_found : (exprs : Reader Expr) (conds : Reader Cond) (d depth : ℕ) → (0 < depth → d + 1 ≤ depth) → ExprFound d exprs → CondFound d conds → CondFound depth (cond_step exprs conds depth)
-unfolding cond_step
-cond_step_found exprs conds d depth le h i nodes bytes x fits e =
-    let k = bind_ok (node_at cond_kind_of depth nodes bytes) (λ kind. cond_of exprs conds kind.0 (nodes + 1) kind.1) x e in
+cond_level_found : (exprs : Reader Expr) (conds : Reader Cond) (d depth : ℕ) → (0 < depth → d + 1 ≤ depth) → ExprFound d exprs → CondFound d conds → CondFound depth (cond_level exprs conds depth)
+unfolding cond_level
+cond_level_found exprs conds d depth le h i nodes bytes x fits e =
+    let k = bind_ok (node_from cond_kind_of depth nodes bytes) (λ kind. cond_of exprs conds kind.0 (nodes + 1) kind.1) x e in
     let t = node_takes cond_kind_of cond_byte cond_byte_is depth nodes bytes k.0 fits k.1 in
     make cond_bytes cond_nodes cond_depth (cond_byte k.0.0) d depth nodes bytes k.0.1 x t.0 (le t.1) (cond_of_found exprs conds d h i k.0.0 (nodes + 1) k.0.1 x t.0.bytes_left k.2)
 
-pub cond_found : (depth : ℕ) → CondFound depth (cond_at depth)
-unfolding cond_at
-cond_found zero nodes bytes x fits e = cond_step_found nothing nothing 0 0 (λ h. absurd (omega arith)) (λ n b y h i. absurd cc) (λ n b y h i. absurd cc) nodes bytes x fits e
-cond_found (suc depth) nodes bytes x fits e = cond_step_found (λ n rest. expr_at depth n rest) (λ n rest. cond_at depth n rest) depth (suc depth) (λ h. omega arith) (expr_found depth) (cond_found depth) nodes bytes x fits e
+pub cond_found : (depth : ℕ) → CondFound depth (cond_from depth)
+unfolding cond_from
+cond_found zero nodes bytes x fits e = cond_level_found no_level no_level 0 0 (λ h. absurd (omega arith)) (λ n b y h i. absurd cc) (λ n b y h i. absurd cc) nodes bytes x fits e
+cond_found (suc depth) nodes bytes x fits e = cond_level_found (λ n rest. expr_from depth n rest) (λ n rest. cond_from depth n rest) depth (suc depth) (λ h. omega arith) (expr_found depth) (cond_found depth) nodes bytes x fits e
 
 -- ---- statements
 
 abbrev MakesStmt : ℕ → ℕ → ℕ → List ℕ → Stmt × ℕ × List ℕ → Type 0
 MakesStmt byte depth nodes bytes x = Makes Stmt stmt_bytes stmt_nodes stmt_depth byte depth nodes bytes x
 
-set_found : (reader : Reader Expr) (depth : ℕ) → ExprFound depth reader → (nodes : ℕ) (bytes : List ℕ) (x : Stmt × ℕ × List ℕ) → IsBytes bytes → set_at reader nodes bytes ≡ Ok x → MakesStmt 0x10 depth nodes bytes x
-unfolding set_at
+set_found : (reader : Reader Expr) (depth : ℕ) → ExprFound depth reader → (nodes : ℕ) (bytes : List ℕ) (x : Stmt × ℕ × List ℕ) → IsBytes bytes → set_from reader nodes bytes ≡ Ok x → MakesStmt 0x10 depth nodes bytes x
+unfolding set_from
 set_found reader depth found nodes bytes x fits e =
-    let s = bind_ok (byte_at bytes) (λ slot. byte_at slot.1 >>= λ attr. reader nodes attr.1 >>= λ value. Ok (stmt.Set slot.0 attr.0 value.0, value.1, value.2)) x e in
-    let a = bind_ok (byte_at s.0.1) (λ attr. reader nodes attr.1 >>= λ value. Ok (stmt.Set s.0.0 attr.0 value.0, value.1, value.2)) x s.2 in
+    let s = bind_ok (byte_from bytes) (λ slot. byte_from slot.1 >>= λ attr. reader nodes attr.1 >>= λ value. Ok (stmt.Set slot.0 attr.0 value.0, value.1, value.2)) x e in
+    let a = bind_ok (byte_from s.0.1) (λ attr. reader nodes attr.1 >>= λ value. Ok (stmt.Set s.0.0 attr.0 value.0, value.1, value.2)) x s.2 in
     let v = bind_ok (reader nodes a.0.1) (λ value. Ok (stmt.Set s.0.0 a.0.0 value.0, value.1, value.2)) x a.2 in
     let p = byte_takes bytes s.0 fits s.1 in
     let q = byte_takes s.0.1 a.0 p.0.bytes_left a.1 in
@@ -347,7 +347,7 @@ turns_found reader depth found (suc n) nodes bytes x fits e =
 pub list_found : (reader : Reader Stmt) (depth : ℕ) → StmtFound depth reader → (nodes : ℕ) (bytes : List ℕ) (x : List Stmt × ℕ × List ℕ) → IsBytes bytes → list_by reader nodes bytes ≡ Ok x → Finds (List Stmt) body_bytes body_nodes body_depth depth nodes bytes x
 unfolding list_by
 list_found reader depth found nodes bytes x fits e =
-    let n = bind_ok (byte_at bytes) (λ n. in_turn reader n.0 nodes n.1) x e in
+    let n = bind_ok (byte_from bytes) (λ n. in_turn reader n.0 nodes n.1) x e in
     let c = byte_takes bytes n.0 fits n.1 in
     let t = turns_found reader depth found n.0.0 nodes n.0.1 x c.0.bytes_left n.2 in
     let len : n.0.0 ≡ length (map stmt_bytes x.0) = sym t.1 ∙ sym (length-map x.0 stmt_bytes) in
@@ -357,8 +357,8 @@ list_found reader depth found nodes bytes x fits e =
       is_within = t.0.is_within;
     }
 
-if_found : (conds : Reader Cond) (stmts : Reader Stmt) (depth : ℕ) → CondFound depth conds → StmtFound depth stmts → (nodes : ℕ) (bytes : List ℕ) (x : Stmt × ℕ × List ℕ) → IsBytes bytes → if_at conds stmts nodes bytes ≡ Ok x → MakesStmt 0x11 depth nodes bytes x
-unfolding if_at lists_at other_at
+if_found : (conds : Reader Cond) (stmts : Reader Stmt) (depth : ℕ) → CondFound depth conds → StmtFound depth stmts → (nodes : ℕ) (bytes : List ℕ) (x : Stmt × ℕ × List ℕ) → IsBytes bytes → if_from conds stmts nodes bytes ≡ Ok x → MakesStmt 0x11 depth nodes bytes x
+unfolding if_from lists_from other_from
 if_found conds stmts depth h k nodes bytes x fits e =
     let c = bind_ok (conds nodes bytes) (λ c. list_by stmts c.1 c.2 >>= λ body. list_by stmts body.1 body.2 >>= λ other. Ok (stmt.If c.0 body.0 other.0, other.1, other.2)) x e in
     let b = bind_ok (list_by stmts c.0.1 c.0.2) (λ body. list_by stmts body.1 body.2 >>= λ other. Ok (stmt.If c.0.0 body.0 other.0, other.1, other.2)) x c.2 in
@@ -381,16 +381,16 @@ stmt_of_found : (exprs : Reader Expr) (conds : Reader Cond) (stmts : Reader Stmt
 stmt_of_found exprs conds stmts depth h i k stmt_kind.Set nodes bytes x fits e = set_found exprs depth h nodes bytes x fits e
 stmt_of_found exprs conds stmts depth h i k stmt_kind.If nodes bytes x fits e = if_found conds stmts depth i k nodes bytes x fits e
 
-stmt_step_found : (exprs : Reader Expr) (conds : Reader Cond) (stmts : Reader Stmt) (d depth : ℕ) → (0 < depth → d + 1 ≤ depth) → ExprFound d exprs → CondFound d conds → StmtFound d stmts → StmtFound depth (stmt_step exprs conds stmts depth)
-unfolding stmt_step
-stmt_step_found exprs conds stmts d depth le h i j nodes bytes x fits e =
-    let k = bind_ok (node_at stmt_kind_of depth nodes bytes) (λ kind. stmt_of exprs conds stmts kind.0 (nodes + 1) kind.1) x e in
+stmt_level_found : (exprs : Reader Expr) (conds : Reader Cond) (stmts : Reader Stmt) (d depth : ℕ) → (0 < depth → d + 1 ≤ depth) → ExprFound d exprs → CondFound d conds → StmtFound d stmts → StmtFound depth (stmt_level exprs conds stmts depth)
+unfolding stmt_level
+stmt_level_found exprs conds stmts d depth le h i j nodes bytes x fits e =
+    let k = bind_ok (node_from stmt_kind_of depth nodes bytes) (λ kind. stmt_of exprs conds stmts kind.0 (nodes + 1) kind.1) x e in
     let t = node_takes stmt_kind_of stmt_byte stmt_byte_is depth nodes bytes k.0 fits k.1 in
     make stmt_bytes stmt_nodes stmt_depth (stmt_byte k.0.0) d depth nodes bytes k.0.1 x t.0 (le t.1) (stmt_of_found exprs conds stmts d h i j k.0.0 (nodes + 1) k.0.1 x t.0.bytes_left k.2)
 
-pub stmt_found : (depth : ℕ) → StmtFound depth (stmt_at depth)
-unfolding stmt_at
+pub stmt_found : (depth : ℕ) → StmtFound depth (stmt_from depth)
+unfolding stmt_from
 stmt_found zero nodes bytes x fits e =
-    stmt_step_found nothing nothing nothing 0 0 (λ h. absurd (omega arith)) (λ n b y h i. absurd cc) (λ n b y h i. absurd cc) (λ n b y h i. absurd cc) nodes bytes x fits e
+    stmt_level_found no_level no_level no_level 0 0 (λ h. absurd (omega arith)) (λ n b y h i. absurd cc) (λ n b y h i. absurd cc) (λ n b y h i. absurd cc) nodes bytes x fits e
 stmt_found (suc depth) nodes bytes x fits e =
-    stmt_step_found (λ n rest. expr_at depth n rest) (λ n rest. cond_at depth n rest) (λ n rest. stmt_at depth n rest) depth (suc depth) (λ h. omega arith) (expr_found depth) (cond_found depth) (stmt_found depth) nodes bytes x fits e
+    stmt_level_found (λ n rest. expr_from depth n rest) (λ n rest. cond_from depth n rest) (λ n rest. stmt_from depth n rest) depth (suc depth) (λ h. omega arith) (expr_found depth) (cond_found depth) (stmt_found depth) nodes bytes x fits e

@@ -21,7 +21,7 @@ use Rattle.sv_wire.specs.declared.nodes.CondKind.TheVariants as cond_kind
 use Rattle.sv_world.specs.Parts.{binary_by as expr_by, compare_by, join_by}
 use Rattle.sv_world.proofs.Layers.{binary_layer, compare_layer, join_layer, lit_fold, attr_fold, binary_fold, compare_fold, join_fold, not_fold, set_fold, if_fold}
 use Rattle.sv_wire.specs.Nodes.{expr_kind_of, cond_kind_of}
-use Rattle.sv_wire.specs.Spelling.{operator_byte, comparison_byte, connective_byte, int_bytes, expr_bytes_step, expr_bytes, cond_bytes_step, cond_bytes, counted, stmt_bytes_step, stmt_bytes}
+use Rattle.sv_wire.specs.Spelling.{operator_byte, comparison_byte, connective_byte, int_bytes, expr_bytes_step, expr_bytes, cond_bytes_step, cond_bytes, with_count, stmt_bytes_step, stmt_bytes}
 
 -- ---- expressions
 
@@ -179,7 +179,7 @@ set_nodes slot attr value = set_fold ℕ stmt_nodes_step slot attr value
 pub set_depth : (slot attr : ℕ) (value : Expr) → stmt_depth (stmt.Set slot attr value) ≡ 1 + expr_depth value
 set_depth slot attr value = set_fold ℕ stmt_depth_step slot attr value
 
-pub if_bytes : (c : Cond) (xs ys : List Stmt) → stmt_bytes (stmt.If c xs ys) ≡ 0x11 ∷ (cond_bytes c ++ counted (map stmt_bytes xs) ++ counted (map stmt_bytes ys))
+pub if_bytes : (c : Cond) (xs ys : List Stmt) → stmt_bytes (stmt.If c xs ys) ≡ 0x11 ∷ (cond_bytes c ++ with_count (map stmt_bytes xs) ++ with_count (map stmt_bytes ys))
 if_bytes c xs ys = if_fold (List ℕ) stmt_bytes_step c xs ys
 
 pub if_nodes : (c : Cond) (xs ys : List Stmt) → stmt_nodes (stmt.If c xs ys) ≡ 1 + cond_nodes c + body_nodes xs + body_nodes ys

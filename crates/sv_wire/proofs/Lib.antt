@@ -1,3 +1,4 @@
+-- The lemmas of this crate, file by file.
 pub mod Again
 pub mod AgainMessages
 pub mod AgainTrees

@@ -17,9 +17,9 @@ use Rattle.sv_wire.specs.declared.nodes.CondKind.TheVariants as cond_kind
 use Rattle.sv_wire.specs.declared.nodes.StmtKind.{StmtKind}
 use Rattle.sv_wire.specs.declared.nodes.StmtKind.TheVariants as stmt_kind
 use Rattle.sv_wire.specs.Steps.{◌>>=◌, Read, Turn, stop, in_turn}
-use Rattle.sv_wire.specs.Fields.{byte_at, int_at}
-use Rattle.sv_wire.specs.Nodes.{kind_in, room_at, node_at, expr_kind_of, cond_kind_of, stmt_kind_of}
-use Rattle.sv_wire.specs.Trees.{Reader, nothing, lit_at, attr_at, pair_at, expr_of, expr_step, expr_at, compare_at, join_at, not_at, cond_of, cond_step, cond_at, set_at, list_by, other_at, lists_at, if_at, stmt_of, stmt_step, stmt_at, body_at}
+use Rattle.sv_wire.specs.Fields.{byte_from, int_from}
+use Rattle.sv_wire.specs.Nodes.{kind_in, room_at, node_from, expr_kind_of, cond_kind_of, stmt_kind_of}
+use Rattle.sv_wire.specs.Trees.{Reader, no_level, lit_from, attr_from, pair_from, expr_of, expr_level, expr_from, compare_from, join_from, not_from, cond_of, cond_level, cond_from, set_from, list_by, other_from, lists_from, if_from, stmt_of, stmt_level, stmt_from, body_from}
 use Rattle.sv_wire.proofs.Near.{left2, left3, Near, near_done, near_then, ok_is, err_is, failed_is}
 use Rattle.sv_wire.proofs.NearFields.{byte_near, int_near}
 
@@ -98,8 +98,8 @@ unfolding room_at
 kind_is None depth nodes b bs = node_stop nodes (suc (length bs)) (record { left = length (b ∷ bs); cause = Kind }) refl
 kind_is (Some kind) depth nodes b bs = room_is (ltb nodes 64) (ltb 0 depth) nodes b bs kind (λ e. omega (arith, ltb-true nodes 64 e))
 
-node_is : {K : Type 0} (kind_of : ℕ → Option K) (depth nodes : ℕ) (bytes : List ℕ) → NodeIs nodes (length bytes) (node_at kind_of depth nodes bytes)
-unfolding node_at byte_at
+node_is : {K : Type 0} (kind_of : ℕ → Option K) (depth nodes : ℕ) (bytes : List ℕ) → NodeIs nodes (length bytes) (node_from kind_of depth nodes bytes)
+unfolding node_from byte_from
 node_is kind_of depth nodes [] = node_stop nodes 0 (record { left = 0; cause = Short }) refl
 node_is kind_of depth nodes (b ∷ bs) = kind_is (kind_of b) depth nodes b bs
 
@@ -121,8 +121,8 @@ after_node {K = K} {X = X} nodes n (Err s) f few node next =
 abbrev pub IsNear : {X : Type 0} → Reader X → Type 0
 IsNear reader = (nodes : ℕ) (bytes : List ℕ) → nodes ≤ 64 → NearTree 0 (length bytes) nodes (reader nodes bytes)
 
-nothing_near : {X : Type 0} → IsNear (nothing {A = X})
-nothing_near nodes bytes few = tree_stop 0 (length bytes) nodes (record { left = length bytes; cause = Deep }) few refl
+no_level_near : {X : Type 0} → IsNear (no_level {A = X})
+no_level_near nodes bytes few = tree_stop 0 (length bytes) nodes (record { left = length bytes; cause = Deep }) few refl
 
 turns_near : {X : Type 0} (reader : Reader X) → IsNear reader → (n : ℕ) → IsNear (λ nodes bytes. in_turn reader n nodes bytes)
 unfolding in_turn
@@ -134,19 +134,19 @@ turns_near reader each (suc n) nodes bytes few =
 
 -- ---- expressions
 
-lit_near : (nodes : ℕ) (bytes : List ℕ) → nodes ≤ 64 → NearTree 8 (length bytes) nodes (lit_at nodes bytes)
-unfolding lit_at
+lit_near : (nodes : ℕ) (bytes : List ℕ) → nodes ≤ 64 → NearTree 8 (length bytes) nodes (lit_from nodes bytes)
+unfolding lit_from
 lit_near nodes bytes few =
-    field_then 8 0 8 (length bytes) nodes (int_at w64 bytes) _ (omega arith) few (int_near w64 bytes) (λ n. tree_done 0 nodes _ n.1 few)
+    field_then 8 0 8 (length bytes) nodes (int_from w64 bytes) _ (omega arith) few (int_near w64 bytes) (λ n. tree_done 0 nodes _ n.1 few)
 
-attr_near : (nodes : ℕ) (bytes : List ℕ) → nodes ≤ 64 → NearTree 8 (length bytes) nodes (attr_at nodes bytes)
-unfolding attr_at
+attr_near : (nodes : ℕ) (bytes : List ℕ) → nodes ≤ 64 → NearTree 8 (length bytes) nodes (attr_from nodes bytes)
+unfolding attr_from
 attr_near nodes bytes few =
-    field_then 1 1 8 (length bytes) nodes (byte_at bytes) _ (omega arith) few (byte_near bytes)
-    (λ slot. field_then 1 0 1 (length slot.1) nodes (byte_at slot.1) _ (omega arith) few (byte_near slot.1) (λ attr. tree_done 0 nodes _ attr.1 few))
+    field_then 1 1 8 (length bytes) nodes (byte_from bytes) _ (omega arith) few (byte_near bytes)
+    (λ slot. field_then 1 0 1 (length slot.1) nodes (byte_from slot.1) _ (omega arith) few (byte_near slot.1) (λ attr. tree_done 0 nodes _ attr.1 few))
 
-pair_near : (reader : Reader Expr) (operator : Operator) → IsNear reader → (nodes : ℕ) (bytes : List ℕ) → nodes ≤ 64 → NearTree 8 (length bytes) nodes (pair_at reader operator nodes bytes)
-unfolding pair_at
+pair_near : (reader : Reader Expr) (operator : Operator) → IsNear reader → (nodes : ℕ) (bytes : List ℕ) → nodes ≤ 64 → NearTree 8 (length bytes) nodes (pair_from reader operator nodes bytes)
+unfolding pair_from
 pair_near reader operator each nodes bytes few =
     tree_then 0 0 8 (length bytes) nodes (reader nodes bytes) _ (omega arith) (each nodes bytes few)
     (λ a more. tree_then 0 0 0 (length a.2) a.1 (reader a.1 a.2) _ (omega arith) (each a.1 a.2 more) (λ b most. tree_done 0 b.1 _ b.2 most))
@@ -156,32 +156,32 @@ expr_of_near reader each expr_kind.Lit nodes bytes few = lit_near nodes bytes fe
 expr_of_near reader each expr_kind.Attr nodes bytes few = attr_near nodes bytes few
 expr_of_near reader each (expr_kind.Both operator) nodes bytes few = pair_near reader operator each nodes bytes few
 
-expr_step_near : (reader : Reader Expr) → IsNear reader → (depth : ℕ) → IsNear (expr_step reader depth)
-unfolding expr_step
-expr_step_near reader each depth nodes bytes few =
-    after_node nodes (length bytes) (node_at expr_kind_of depth nodes bytes) _ few (node_is expr_kind_of depth nodes bytes) (λ kind more. expr_of_near reader each kind.0 (nodes + 1) kind.1 more)
+expr_level_near : (reader : Reader Expr) → IsNear reader → (depth : ℕ) → IsNear (expr_level reader depth)
+unfolding expr_level
+expr_level_near reader each depth nodes bytes few =
+    after_node nodes (length bytes) (node_from expr_kind_of depth nodes bytes) _ few (node_is expr_kind_of depth nodes bytes) (λ kind more. expr_of_near reader each kind.0 (nodes + 1) kind.1 more)
 
-expr_near : (depth : ℕ) → IsNear (expr_at depth)
-unfolding expr_at
-expr_near zero nodes bytes few = expr_step_near nothing nothing_near 0 nodes bytes few
-expr_near (suc depth) nodes bytes few = expr_step_near (λ n rest. expr_at depth n rest) (expr_near depth) (suc depth) nodes bytes few
+expr_near : (depth : ℕ) → IsNear (expr_from depth)
+unfolding expr_from
+expr_near zero nodes bytes few = expr_level_near no_level no_level_near 0 nodes bytes few
+expr_near (suc depth) nodes bytes few = expr_level_near (λ n rest. expr_from depth n rest) (expr_near depth) (suc depth) nodes bytes few
 
 -- ---- conditions
 
-compare_near : (reader : Reader Expr) (comparison : Comparison) → IsNear reader → (nodes : ℕ) (bytes : List ℕ) → nodes ≤ 64 → NearTree 8 (length bytes) nodes (compare_at reader comparison nodes bytes)
-unfolding compare_at
+compare_near : (reader : Reader Expr) (comparison : Comparison) → IsNear reader → (nodes : ℕ) (bytes : List ℕ) → nodes ≤ 64 → NearTree 8 (length bytes) nodes (compare_from reader comparison nodes bytes)
+unfolding compare_from
 compare_near reader comparison each nodes bytes few =
     tree_then 0 0 8 (length bytes) nodes (reader nodes bytes) _ (omega arith) (each nodes bytes few)
     (λ a more. tree_then 0 0 0 (length a.2) a.1 (reader a.1 a.2) _ (omega arith) (each a.1 a.2 more) (λ b most. tree_done 0 b.1 _ b.2 most))
 
-join_near : (reader : Reader Cond) (connective : Connective) → IsNear reader → (nodes : ℕ) (bytes : List ℕ) → nodes ≤ 64 → NearTree 8 (length bytes) nodes (join_at reader connective nodes bytes)
-unfolding join_at
+join_near : (reader : Reader Cond) (connective : Connective) → IsNear reader → (nodes : ℕ) (bytes : List ℕ) → nodes ≤ 64 → NearTree 8 (length bytes) nodes (join_from reader connective nodes bytes)
+unfolding join_from
 join_near reader connective each nodes bytes few =
     tree_then 0 0 8 (length bytes) nodes (reader nodes bytes) _ (omega arith) (each nodes bytes few)
     (λ a more. tree_then 0 0 0 (length a.2) a.1 (reader a.1 a.2) _ (omega arith) (each a.1 a.2 more) (λ b most. tree_done 0 b.1 _ b.2 most))
 
-not_near : (reader : Reader Cond) → IsNear reader → (nodes : ℕ) (bytes : List ℕ) → nodes ≤ 64 → NearTree 8 (length bytes) nodes (not_at reader nodes bytes)
-unfolding not_at
+not_near : (reader : Reader Cond) → IsNear reader → (nodes : ℕ) (bytes : List ℕ) → nodes ≤ 64 → NearTree 8 (length bytes) nodes (not_from reader nodes bytes)
+unfolding not_from
 not_near reader each nodes bytes few =
     tree_then 0 0 8 (length bytes) nodes (reader nodes bytes) _ (omega arith) (each nodes bytes few) (λ a more. tree_done 0 a.1 _ a.2 more)
 
@@ -190,42 +190,42 @@ cond_of_near exprs conds h k (cond_kind.Compare comparison) nodes bytes few = co
 cond_of_near exprs conds h k (cond_kind.Both connective) nodes bytes few = join_near conds connective k nodes bytes few
 cond_of_near exprs conds h k cond_kind.Not nodes bytes few = not_near conds k nodes bytes few
 
-cond_step_near : (exprs : Reader Expr) (conds : Reader Cond) → IsNear exprs → IsNear conds → (depth : ℕ) → IsNear (cond_step exprs conds depth)
-unfolding cond_step
-cond_step_near exprs conds h k depth nodes bytes few =
-    after_node nodes (length bytes) (node_at cond_kind_of depth nodes bytes) _ few (node_is cond_kind_of depth nodes bytes) (λ kind more. cond_of_near exprs conds h k kind.0 (nodes + 1) kind.1 more)
+cond_level_near : (exprs : Reader Expr) (conds : Reader Cond) → IsNear exprs → IsNear conds → (depth : ℕ) → IsNear (cond_level exprs conds depth)
+unfolding cond_level
+cond_level_near exprs conds h k depth nodes bytes few =
+    after_node nodes (length bytes) (node_from cond_kind_of depth nodes bytes) _ few (node_is cond_kind_of depth nodes bytes) (λ kind more. cond_of_near exprs conds h k kind.0 (nodes + 1) kind.1 more)
 
-cond_near : (depth : ℕ) → IsNear (cond_at depth)
-unfolding cond_at
-cond_near zero nodes bytes few = cond_step_near nothing nothing nothing_near nothing_near 0 nodes bytes few
-cond_near (suc depth) nodes bytes few = cond_step_near (λ n rest. expr_at depth n rest) (λ n rest. cond_at depth n rest) (expr_near depth) (cond_near depth) (suc depth) nodes bytes few
+cond_near : (depth : ℕ) → IsNear (cond_from depth)
+unfolding cond_from
+cond_near zero nodes bytes few = cond_level_near no_level no_level no_level_near no_level_near 0 nodes bytes few
+cond_near (suc depth) nodes bytes few = cond_level_near (λ n rest. expr_from depth n rest) (λ n rest. cond_from depth n rest) (expr_near depth) (cond_near depth) (suc depth) nodes bytes few
 
 -- ---- statements
 
-set_near : (exprs : Reader Expr) → IsNear exprs → (nodes : ℕ) (bytes : List ℕ) → nodes ≤ 64 → NearTree 8 (length bytes) nodes (set_at exprs nodes bytes)
-unfolding set_at
+set_near : (exprs : Reader Expr) → IsNear exprs → (nodes : ℕ) (bytes : List ℕ) → nodes ≤ 64 → NearTree 8 (length bytes) nodes (set_from exprs nodes bytes)
+unfolding set_from
 set_near exprs each nodes bytes few =
-    field_then 1 1 8 (length bytes) nodes (byte_at bytes) _ (omega arith) few (byte_near bytes)
-    (λ slot. field_then 1 0 1 (length slot.1) nodes (byte_at slot.1) _ (omega arith) few (byte_near slot.1)
+    field_then 1 1 8 (length bytes) nodes (byte_from bytes) _ (omega arith) few (byte_near bytes)
+    (λ slot. field_then 1 0 1 (length slot.1) nodes (byte_from slot.1) _ (omega arith) few (byte_near slot.1)
     (λ attr. tree_then 0 0 0 (length attr.1) nodes (exprs nodes attr.1) _ (omega arith) (each nodes attr.1 few) (λ value more. tree_done 0 value.1 _ value.2 more)))
 
 pub list_near : (stmts : Reader Stmt) → IsNear stmts → (nodes : ℕ) (bytes : List ℕ) → nodes ≤ 64 → NearTree 1 (length bytes) nodes (list_by stmts nodes bytes)
 unfolding list_by
 list_near stmts each nodes bytes few =
-    field_then 1 0 1 (length bytes) nodes (byte_at bytes) _ (omega arith) few (byte_near bytes) (λ n. turns_near stmts each n.0 nodes n.1 few)
+    field_then 1 0 1 (length bytes) nodes (byte_from bytes) _ (omega arith) few (byte_near bytes) (λ n. turns_near stmts each n.0 nodes n.1 few)
 
-other_near : (stmts : Reader Stmt) → IsNear stmts → (c : Cond) (body : List Stmt) (nodes : ℕ) (bytes : List ℕ) → nodes ≤ 64 → NearTree 1 (length bytes) nodes (other_at stmts c body nodes bytes)
-unfolding other_at
+other_near : (stmts : Reader Stmt) → IsNear stmts → (c : Cond) (body : List Stmt) (nodes : ℕ) (bytes : List ℕ) → nodes ≤ 64 → NearTree 1 (length bytes) nodes (other_from stmts c body nodes bytes)
+unfolding other_from
 other_near stmts each c body nodes bytes few =
     tree_then 1 0 1 (length bytes) nodes (list_by stmts nodes bytes) _ (omega arith) (list_near stmts each nodes bytes few) (λ other more. tree_done 0 other.1 _ other.2 more)
 
-lists_near : (stmts : Reader Stmt) → IsNear stmts → (c : Cond) (nodes : ℕ) (bytes : List ℕ) → nodes ≤ 64 → NearTree 2 (length bytes) nodes (lists_at stmts c nodes bytes)
-unfolding lists_at
+lists_near : (stmts : Reader Stmt) → IsNear stmts → (c : Cond) (nodes : ℕ) (bytes : List ℕ) → nodes ≤ 64 → NearTree 2 (length bytes) nodes (lists_from stmts c nodes bytes)
+unfolding lists_from
 lists_near stmts each c nodes bytes few =
     tree_then 1 1 2 (length bytes) nodes (list_by stmts nodes bytes) _ (omega arith) (list_near stmts each nodes bytes few) (λ body more. other_near stmts each c body.0 body.1 body.2 more)
 
-if_near : (conds : Reader Cond) (stmts : Reader Stmt) → IsNear conds → IsNear stmts → (nodes : ℕ) (bytes : List ℕ) → nodes ≤ 64 → NearTree 8 (length bytes) nodes (if_at conds stmts nodes bytes)
-unfolding if_at
+if_near : (conds : Reader Cond) (stmts : Reader Stmt) → IsNear conds → IsNear stmts → (nodes : ℕ) (bytes : List ℕ) → nodes ≤ 64 → NearTree 8 (length bytes) nodes (if_from conds stmts nodes bytes)
+unfolding if_from
 if_near conds stmts h k nodes bytes few =
     tree_then 0 2 8 (length bytes) nodes (conds nodes bytes) _ (omega arith) (h nodes bytes few) (λ c more. lists_near stmts k c.0 c.1 c.2 more)
 
@@ -233,16 +233,16 @@ stmt_of_near : (exprs : Reader Expr) (conds : Reader Cond) (stmts : Reader Stmt)
 stmt_of_near exprs conds stmts h k l stmt_kind.Set nodes bytes few = set_near exprs h nodes bytes few
 stmt_of_near exprs conds stmts h k l stmt_kind.If nodes bytes few = if_near conds stmts k l nodes bytes few
 
-stmt_step_near : (exprs : Reader Expr) (conds : Reader Cond) (stmts : Reader Stmt) → IsNear exprs → IsNear conds → IsNear stmts → (depth : ℕ) → IsNear (stmt_step exprs conds stmts depth)
-unfolding stmt_step
-stmt_step_near exprs conds stmts h k l depth nodes bytes few =
-    after_node nodes (length bytes) (node_at stmt_kind_of depth nodes bytes) _ few (node_is stmt_kind_of depth nodes bytes) (λ kind more. stmt_of_near exprs conds stmts h k l kind.0 (nodes + 1) kind.1 more)
+stmt_level_near : (exprs : Reader Expr) (conds : Reader Cond) (stmts : Reader Stmt) → IsNear exprs → IsNear conds → IsNear stmts → (depth : ℕ) → IsNear (stmt_level exprs conds stmts depth)
+unfolding stmt_level
+stmt_level_near exprs conds stmts h k l depth nodes bytes few =
+    after_node nodes (length bytes) (node_from stmt_kind_of depth nodes bytes) _ few (node_is stmt_kind_of depth nodes bytes) (λ kind more. stmt_of_near exprs conds stmts h k l kind.0 (nodes + 1) kind.1 more)
 
-pub stmt_near : (depth : ℕ) → IsNear (stmt_at depth)
-unfolding stmt_at
-stmt_near zero nodes bytes few = stmt_step_near nothing nothing nothing nothing_near nothing_near nothing_near 0 nodes bytes few
+pub stmt_near : (depth : ℕ) → IsNear (stmt_from depth)
+unfolding stmt_from
+stmt_near zero nodes bytes few = stmt_level_near no_level no_level no_level no_level_near no_level_near no_level_near 0 nodes bytes few
 stmt_near (suc depth) nodes bytes few =
-    stmt_step_near (λ n rest. expr_at depth n rest) (λ n rest. cond_at depth n rest) (λ n rest. stmt_at depth n rest) (expr_near depth) (cond_near depth) (stmt_near depth) (suc depth) nodes bytes few
+    stmt_level_near (λ n rest. expr_from depth n rest) (λ n rest. cond_from depth n rest) (λ n rest. stmt_from depth n rest) (expr_near depth) (cond_near depth) (stmt_near depth) (suc depth) nodes bytes few
 
 tree_near : {X : Type 0} (k n : ℕ) (read : Turn X) → NearTree k n 0 read → Near left3 (576 + k) n read
 tree_near k n read near =
@@ -251,9 +251,9 @@ tree_near k n read near =
       err = λ s e. let a = near.err s e in (a.0, omega arith);
     }
 
-pub body_near : (bytes : List ℕ) → Near left2 577 (length bytes) (body_at bytes)
-unfolding body_at
+pub body_near : (bytes : List ℕ) → Near left2 577 (length bytes) (body_from bytes)
+unfolding body_from
 body_near bytes =
-    near_then left3 left2 577 0 577 (length bytes) (list_by (λ n rest. stmt_at 8 n rest) 0 bytes) _ (omega arith)
-    (tree_near 1 (length bytes) (list_by (λ n rest. stmt_at 8 n rest) 0 bytes) (list_near (λ n rest. stmt_at 8 n rest) (stmt_near 8) 0 bytes (omega arith)))
+    near_then left3 left2 577 0 577 (length bytes) (list_by (λ n rest. stmt_from 8 n rest) 0 bytes) _ (omega arith)
+    (tree_near 1 (length bytes) (list_by (λ n rest. stmt_from 8 n rest) 0 bytes) (list_near (λ n rest. stmt_from 8 n rest) (stmt_near 8) 0 bytes (omega arith)))
     (λ body _. near_done left2 0 (length body.2) _ (omega arith) (omega arith))

@@ -1,10 +1,13 @@
 -- Which messages are within the grammar.
 use Rattle.std.specs.Prelude.{◌≡◌, ◌^◌, ◌<◌, ◌≤◌, true, ℤ, List, length, map, All}
 use Rattle.sv_world.specs.Faults.{is_ascending}
+use Rattle.sv_world.specs.Limits.{most_attrs, most_reads, most_nodes, most_depth, most_interest, most_items}
 use Rattle.sv_world.specs.Sets.{read_set}
 use Rattle.sv_world.specs.Trees.{body_nodes, body_depth}
 use Rattle.sv_world.specs.declared.action.Action.{Action}
 use Rattle.sv_world.specs.declared.world.ObjectId.{ObjectId}
+use Rattle.sv_wire.specs.Fields.{most_held}
+use Rattle.sv_wire.specs.Refusals.{last_code}
 use Rattle.sv_wire.specs.declared.message.Held.{Held}
 use Rattle.sv_wire.specs.declared.message.Done1.{Done1}
 use Rattle.sv_wire.specs.declared.message.Item.{Item}
@@ -14,37 +17,37 @@ use Rattle.sv_wire.specs.declared.message.Reply.{Reply}
 use Rattle.sv_wire.specs.declared.message.Reply.TheVariants.{Welcome, Relay, Dropped, Settled, Noted, Idle, Refused, Bye}
 
 abbrev pub IsWireValue : List ℤ → Type 0
-IsWireValue v = (1 ≤ length v) × (length v ≤ 4)
+IsWireValue v = (1 ≤ length v) × (length v ≤ most_attrs)
 
 pub record IsWireHead (head : List Held) : Type 0 where
-  pub few : length head ≤ 528
+  pub few : length head ≤ most_held
   pub ascending : is_ascending (map (λ (h : Held). h.object.0) head) ≡ true
   pub values : All (λ (h : Held). IsWireValue h.value) head
 
 pub record IsWireResult (r : Done1) : Type 0 where
-  pub few : length r.values ≤ 16
+  pub few : length r.values ≤ most_reads
   pub values : All IsWireValue r.values
 
 pub record IsWireAction (a : Action) : Type 0 where
   pub some_reads : 1 ≤ length a.reads
-  pub few_reads : length a.reads ≤ 16
+  pub few_reads : length a.reads ≤ most_reads
   pub ascending : is_ascending (read_set a) ≡ true
   pub mask : a.mask < 2 ^ length a.reads
-  pub few_nodes : body_nodes a.body ≤ 64
-  pub shallow : body_depth a.body ≤ 8
+  pub few_nodes : body_nodes a.body ≤ most_nodes
+  pub shallow : body_depth a.body ≤ most_depth
 
 pub record IsWireInterest (interest : List ObjectId) : Type 0 where
-  pub few : length interest ≤ 64
+  pub few : length interest ≤ most_interest
   pub ascending : is_ascending (map (λ (o : ObjectId). o.0) interest) ≡ true
 
 pub record IsWireDone (results : List Done1) : Type 0 where
   pub some : 1 ≤ length results
-  pub few : length results ≤ 33
+  pub few : length results ≤ most_items
   pub each : All IsWireResult results
 
 pub record IsWireRelay (head : List Held) (items : List Item) : Type 0 where
   pub base : IsWireHead head
-  pub few : length items ≤ 33
+  pub few : length items ≤ most_items
   pub each : All (λ (i : Item). IsWireAction i.action) items
 
 -- Bad and End are not messages.
@@ -64,5 +67,5 @@ IsWireReply (Dropped seq chain far) = Unit {0}
 IsWireReply (Settled seq pos) = Unit {0}
 IsWireReply (Noted commit) = Unit {0}
 IsWireReply Idle = Unit {0}
-IsWireReply (Refused code detail) = (1 ≤ code) × (code ≤ 11)
+IsWireReply (Refused code detail) = (1 ≤ code) × (code ≤ last_code)
 IsWireReply Bye = Unit {0}

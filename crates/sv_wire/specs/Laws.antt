@@ -1,6 +1,5 @@
--- Laws of the payloads and their frames.
-use Rattle.std.specs.Prelude.{◌≡◌, ℕ, List, ◌++◌, length, Ok}
-use Rattle.byteorder.specs.Endian.{big_bytes}
+-- Laws of the payloads.
+use Rattle.std.specs.Prelude.{◌≡◌, ℕ, List, ◌++◌, Ok}
 use Rattle.sv_wire.specs.declared.message.Request.{Request}
 use Rattle.sv_wire.specs.declared.message.Reply.{Reply}
 use Rattle.sv_wire.specs.Messages.{request_at, reply_at}
@@ -24,20 +23,16 @@ RequestsDiffer = (m n : Request) → IsRequest m → IsRequest n → request_byt
 abbrev pub RepliesDiffer : Type 0
 RepliesDiffer = (m n : Reply) → IsReply m → IsReply n → reply_bytes m ≡ reply_bytes n → m ≡ n
 
--- A payload behind its length in four bytes.
-abbrev pub frame : List ℕ → List ℕ
-frame payload = big_bytes 4 (length payload) ++ payload
+-- Two messages whose payloads begin the same bytes are one.
+abbrev pub RequestsAreApart : Type 0
+RequestsAreApart = (m n : Request) (x y : List ℕ) → IsRequest m → IsRequest n → request_bytes m ++ x ≡ request_bytes n ++ y → m ≡ n
 
--- Two messages whose frames begin the same stream are one.
-abbrev pub RequestFramesDiffer : Type 0
-RequestFramesDiffer = (m n : Request) (x y : List ℕ) → IsRequest m → IsRequest n → frame (request_bytes m) ++ x ≡ frame (request_bytes n) ++ y → m ≡ n
+abbrev pub RepliesAreApart : Type 0
+RepliesAreApart = (m n : Reply) (x y : List ℕ) → IsReply m → IsReply n → reply_bytes m ++ x ≡ reply_bytes n ++ y → m ≡ n
 
-abbrev pub ReplyFramesDiffer : Type 0
-ReplyFramesDiffer = (m n : Reply) (x y : List ℕ) → IsReply m → IsReply n → frame (reply_bytes m) ++ x ≡ frame (reply_bytes n) ++ y → m ≡ n
-
--- No stream begins with both a request's frame and a reply's.
-abbrev pub KindsDiffer : Type 0
-KindsDiffer = (m : Request) (n : Reply) (x y : List ℕ) → IsRequest m → IsReply n → frame (request_bytes m) ++ x ≡ frame (reply_bytes n) ++ y → ⊥
+-- No bytes begin with both a request's payload and a reply's.
+abbrev pub KindsAreApart : Type 0
+KindsAreApart = (m : Request) (n : Reply) (x y : List ℕ) → IsRequest m → IsReply n → request_bytes m ++ x ≡ reply_bytes n ++ y → ⊥
 
 -- What was encoded is decoded as itself.
 abbrev pub RequestsAreReadBack : Type 0

@@ -1,4 +1,6 @@
+-- The definitions of this crate, file by file.
 pub mod Steps
+pub mod Refusals
 pub mod Fields
 pub mod Nodes
 pub mod Trees

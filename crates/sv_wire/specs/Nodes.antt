@@ -1,5 +1,6 @@
 -- The nodes of an action's body: their bytes, and where a node may stand.
 use Rattle.std.specs.Prelude.{ℕ, List, [], ◌∷◌, Result, Ok, Option, Some, None, ◌==◌, nat_lt, if◌then◌else◌}
+use Rattle.sv_world.specs.Limits.{most_nodes}
 use Rattle.sv_wire.specs.declared.fault.Stop.{Stop}
 use Rattle.sv_wire.specs.declared.fault.WireCause.TheVariants.{Kind, Large, Deep}
 use Rattle.sv_world.specs.declared.node.Operator.TheVariants.{Add, Sub, Mul, Div, Rem, Min, Max}
@@ -12,7 +13,7 @@ use Rattle.sv_wire.specs.declared.nodes.CondKind.TheVariants as cond_kind
 use Rattle.sv_wire.specs.declared.nodes.StmtKind.{StmtKind}
 use Rattle.sv_wire.specs.declared.nodes.StmtKind.TheVariants as stmt_kind
 use Rattle.sv_wire.specs.Steps.{Read, ◌>>=◌, stop}
-use Rattle.sv_wire.specs.Fields.{byte_at}
+use Rattle.sv_wire.specs.Fields.{byte_from}
 
 -- what stands behind a key in a table
 abbrev pub among : {K : Type 0} → List (ℕ × K) → ℕ → Option K
@@ -45,18 +46,18 @@ cond_kind_of = among
 unfoldable pub stmt_kind_of : ℕ → Option StmtKind
 stmt_kind_of = among ((0x10, stmt_kind.Set) ∷ (0x11, stmt_kind.If) ∷ [])
 
--- Whether a node may begin these bytes: it is not the 65th, and there is a level left for it.
+-- Whether a node may begin these bytes: it is not one too many, and there is a level left for it.
 unfoldable pub room_at : ℕ → ℕ → List ℕ → Result (Unit {0}) Stop
-room_at depth nodes bytes = if nat_lt nodes 64 then (if nat_lt 0 depth then Ok tt else stop bytes Deep) else stop bytes Large
+room_at depth nodes bytes = if nat_lt nodes most_nodes then (if nat_lt 0 depth then Ok tt else stop bytes Deep) else stop bytes Large
 
 abbrev pub kind_in : {K : Type 0} → Option K → List ℕ → Result K Stop
 kind_in None bytes = stop bytes Kind
 kind_in (Some kind) bytes = Ok kind
 
 -- The kind of the node that begins these bytes, with so many levels left for it and so many nodes before it.
-unfoldable pub node_at : {K : Type 0} → (ℕ → Option K) → ℕ → ℕ → List ℕ → Read K
-node_at kind_of depth nodes bytes = do
-  b ← byte_at bytes
+unfoldable pub node_from : {K : Type 0} → (ℕ → Option K) → ℕ → ℕ → List ℕ → Read K
+node_from kind_of depth nodes bytes = do
+  b ← byte_from bytes
   kind ← kind_in (kind_of b.0) bytes
   _ ← room_at depth nodes bytes
   Ok (kind, b.1)

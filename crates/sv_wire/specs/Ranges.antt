@@ -2,9 +2,8 @@
 use Rattle.std.specs.Prelude.{◌^◌, ◌<◌, ◌≡◌, true, ℤ, List, FitsSigned}
 use Rattle.std.specs.List.{AllByRecursion}
 use Rattle.std.specs.Int.{w32, w64}
-use Rattle.sv_world.specs.Ranges.{body_fits}
+use Rattle.sv_world.specs.Ranges.{ObjectFits, body_fits}
 use Rattle.sv_world.specs.declared.action.Action.{Action}
-use Rattle.sv_world.specs.declared.world.ObjectId.{ObjectId}
 use Rattle.sv_wire.specs.declared.message.Held.{Held}
 use Rattle.sv_wire.specs.declared.message.Done1.{Done1}
 use Rattle.sv_wire.specs.declared.message.Item.{Item}
@@ -12,9 +11,6 @@ use Rattle.sv_wire.specs.declared.message.Request.{Request}
 use Rattle.sv_wire.specs.declared.message.Request.TheVariants.{Join, Submit, Done, Poll, Leave, Bad, End}
 use Rattle.sv_wire.specs.declared.message.Reply.{Reply}
 use Rattle.sv_wire.specs.declared.message.Reply.TheVariants.{Welcome, Relay, Dropped, Settled, Noted, Idle, Refused, Bye}
-
-abbrev pub ObjectFits : ObjectId → Type 0
-ObjectFits o = o.0 < 2 ^ 16
 
 abbrev pub ValueFits : List ℤ → Type 0
 ValueFits v = AllByRecursion (FitsSigned w64) v

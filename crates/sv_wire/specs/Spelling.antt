@@ -78,18 +78,18 @@ abbrev pub cond_bytes : Cond → List ℕ
 cond_bytes = fold-Cond (List ℕ) cond_bytes_step
 
 -- a count, and the parts
-abbrev pub counted : List (List ℕ) → List ℕ
-counted parts = length parts ∷ flat_map (λ x. x) parts
+abbrev pub with_count : List (List ℕ) → List ℕ
+with_count parts = length parts ∷ flat_map (λ x. x) parts
 
 abbrev pub stmt_bytes_step : Stmt-F (List ℕ) → List ℕ
 stmt_bytes_step (Stmt-F.Set slot attr expr) = 0x10 ∷ slot ∷ attr ∷ expr_bytes expr
-stmt_bytes_step (Stmt-F.If c xs ys) = 0x11 ∷ (cond_bytes c ++ counted xs ++ counted ys)
+stmt_bytes_step (Stmt-F.If c xs ys) = 0x11 ∷ (cond_bytes c ++ with_count xs ++ with_count ys)
 
 abbrev pub stmt_bytes : Stmt → List ℕ
 stmt_bytes = fold-Stmt (List ℕ) stmt_bytes_step
 
 abbrev pub body_bytes : List Stmt → List ℕ
-body_bytes body = counted (map stmt_bytes body)
+body_bytes body = with_count (map stmt_bytes body)
 
 -- The bytes of one node of a body.
 abbrev pub operator_byte : Operator → ℕ

@@ -1,19 +1,20 @@
 //! Reading actions.
 ghost use Rattle.std.specs.Prelude.{◌≡◌, ◌≤◌, IfOk};
+ghost use Rattle.sv_world.specs.Limits.{most_reads};
 ghost use Rattle.sv_wire.specs.Steps.{Gives, several};
-ghost use Rattle.sv_wire.specs.Messages.{mask_at, point_at, action_at, item_at};
+ghost use Rattle.sv_wire.specs.Messages.{mask_from, point_from, action_from, item_from};
 
 use crate::fault::{ReadFault, WireCause, stop_at};
 use crate::fields::{count_of, i32_of, list_for, objects_of, u16_of, u32_of};
 use crate::message::Item;
 use crate::stmts::body_of;
 use std::alloc::Global;
-use sv_world::{Action, ClientId, List, Point};
+use sv_world::{Action, ClientId, List, MOST_READS, Point};
 
-#[tactic(auto, unfolding(crate::specs::Messages::mask_at))]
+#[tactic(auto, unfolding(crate::specs::Messages::mask_from))]
 fn mask_of(count: u8, bytes: &[u8]) -> Result<(u16, &[u8]), ReadFault>
-    requires { count ≤ 16 }
-    ensures { Gives (λ x. (x.0, x.1.now)) result (mask_at count bytes.now) }
+    requires { count ≤ most_reads }
+    ensures { Gives (λ x. (x.0, x.1.now)) result (mask_from count bytes.now) }
 {
     let (mask, rest) = u16_of(bytes)?;
     if 1u32 << count <= u32::from(mask) {
@@ -22,20 +23,20 @@ fn mask_of(count: u8, bytes: &[u8]) -> Result<(u16, &[u8]), ReadFault>
     Ok((mask, rest))
 }
 
-#[tactic(auto, unfolding(crate::specs::Messages::point_at))]
+#[tactic(auto, unfolding(crate::specs::Messages::point_from))]
 fn point_of(bytes: &[u8]) -> Result<(Point, &[u8]), ReadFault>
-    ensures { Gives (λ x. (x.0, x.1.now)) result (point_at bytes.now) }
+    ensures { Gives (λ x. (x.0, x.1.now)) result (point_from bytes.now) }
 {
     let (x, rest) = i32_of(bytes)?;
     let (y, rest) = i32_of(rest)?;
     Ok((Point { x, y }, rest))
 }
 
-#[tactic(auto, unfolding(crate::specs::Messages::action_at))]
+#[tactic(auto, unfolding(crate::specs::Messages::action_from))]
 pub fn action_of(alloc: Global, bytes: &[u8]) -> Result<(Action, &[u8]), ReadFault>
-    ensures { Gives (λ x. (x.0, x.1.now)) result (action_at bytes.now) }
+    ensures { Gives (λ x. (x.0, x.1.now)) result (action_from bytes.now) }
 {
-    let (count, rest) = count_of(1, 16, bytes)?;
+    let (count, rest) = count_of(1, MOST_READS as u8, bytes)?;
     let (reads, rest) = objects_of(alloc, count, rest)?;
     let (mask, rest) = mask_of(count, rest)?;
     let (origin, rest) = point_of(rest)?;
@@ -51,9 +52,9 @@ pub fn action_of(alloc: Global, bytes: &[u8]) -> Result<(Action, &[u8]), ReadFau
     ))
 }
 
-#[tactic(auto, unfolding(crate::specs::Messages::item_at))]
+#[tactic(auto, unfolding(crate::specs::Messages::item_from))]
 fn item_of(alloc: Global, bytes: &[u8]) -> Result<(Item, &[u8]), ReadFault>
-    ensures { Gives (λ x. (x.0, x.1.now)) result (item_at bytes.now) }
+    ensures { Gives (λ x. (x.0, x.1.now)) result (item_from bytes.now) }
 {
     let (pos, rest) = u32_of(bytes)?;
     let (client, rest) = u16_of(rest)?;
@@ -71,7 +72,7 @@ fn item_of(alloc: Global, bytes: &[u8]) -> Result<(Item, &[u8]), ReadFault>
 }
 
 pub fn items_of(alloc: Global, count: u8, bytes: &[u8]) -> Result<(List<Item>, &[u8]), ReadFault>
-    ensures { Gives (λ x. (x.0, x.1.now)) result (several item_at count bytes.now) }
+    ensures { Gives (λ x. (x.0, x.1.now)) result (several item_from count bytes.now) }
 {
     let mut items = list_for(alloc, usize::from(count))?;
     let mut rest = bytes;

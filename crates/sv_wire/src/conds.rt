@@ -1,18 +1,18 @@
 //! Reading conditions. The depth is the number of levels that are left. What is read is appended.
 ghost use Rattle.std.specs.Prelude.{◌≡◌, ◌≤◌, OnOk};
+ghost use Rattle.sv_world.specs.Limits.{most_nodes};
 ghost use Rattle.sv_world.specs.Spelled.{cond_spelled};
-ghost use Rattle.sv_wire.specs.Steps.{Gives};
-ghost use Rattle.sv_wire.specs.Trees.{appended, expr_at, compare_at, join_at, not_at, cond_at};
+ghost use Rattle.sv_wire.specs.Trees.{Appends, expr_from, compare_from, join_from, not_from, cond_from};
 
-use crate::exprs::{Reader, expr_next};
+use crate::exprs::{BodyReader, expr_next};
 use crate::fault::ReadFault;
 use crate::nodes::{CondKind, cond_node};
 use sv_world::{Comparison, Connective, Node};
 
 #[tactic(auto, using(crate::proofs::Flat::compare_appended))]
-fn compare_next(reader: &mut Reader<'_>, depth: u8, comparison: Comparison) -> Result<(), ReadFault>
-    ensures gives { Gives (λ _. (reader.new.out.items, reader.new.nodes, reader.new.rest.now)) result (appended cond_spelled reader.old.out.items (compare_at (λ n rest. expr_at depth n rest) comparison reader.old.nodes reader.old.rest.now)) }
-    ensures few { OnOk result (reader.new.nodes ≤ 64) }
+fn compare_next(reader: &mut BodyReader<'_>, depth: u8, comparison: Comparison) -> Result<(), ReadFault>
+    ensures gives { Appends cond_spelled (compare_from (λ n rest. expr_from depth n rest) comparison) reader.old result reader.new }
+    ensures few { OnOk result (reader.new.nodes ≤ most_nodes) }
 {
     reader.out.push(Node::Compare(comparison))?;
     expr_next(reader, depth)?;
@@ -21,9 +21,9 @@ fn compare_next(reader: &mut Reader<'_>, depth: u8, comparison: Comparison) -> R
 
 #[cycle(conds)]
 #[tactic(auto, using(crate::proofs::Flat::join_appended))]
-fn join_next(reader: &mut Reader<'_>, depth: u8, connective: Connective) -> Result<(), ReadFault>
-    ensures gives { Gives (λ _. (reader.new.out.items, reader.new.nodes, reader.new.rest.now)) result (appended cond_spelled reader.old.out.items (join_at (λ n rest. cond_at depth n rest) connective reader.old.nodes reader.old.rest.now)) }
-    ensures few { OnOk result (reader.new.nodes ≤ 64) }
+fn join_next(reader: &mut BodyReader<'_>, depth: u8, connective: Connective) -> Result<(), ReadFault>
+    ensures gives { Appends cond_spelled (join_from (λ n rest. cond_from depth n rest) connective) reader.old result reader.new }
+    ensures few { OnOk result (reader.new.nodes ≤ most_nodes) }
 {
     reader.out.push(Node::Join(connective))?;
     cond_next(reader, depth)?;
@@ -32,19 +32,19 @@ fn join_next(reader: &mut Reader<'_>, depth: u8, connective: Connective) -> Resu
 
 #[cycle(conds)]
 #[tactic(auto, using(crate::proofs::Flat::not_appended))]
-fn not_next(reader: &mut Reader<'_>, depth: u8) -> Result<(), ReadFault>
-    ensures gives { Gives (λ _. (reader.new.out.items, reader.new.nodes, reader.new.rest.now)) result (appended cond_spelled reader.old.out.items (not_at (λ n rest. cond_at depth n rest) reader.old.nodes reader.old.rest.now)) }
-    ensures few { OnOk result (reader.new.nodes ≤ 64) }
+fn not_next(reader: &mut BodyReader<'_>, depth: u8) -> Result<(), ReadFault>
+    ensures gives { Appends cond_spelled (not_from (λ n rest. cond_from depth n rest)) reader.old result reader.new }
+    ensures few { OnOk result (reader.new.nodes ≤ most_nodes) }
 {
     reader.out.push(Node::Not)?;
     cond_next(reader, depth)
 }
 
 #[cycle(conds)]
-#[tactic(auto, using(crate::proofs::Trees::cond_at_is, crate::proofs::Flat::cond_step_appended))]
-pub fn cond_next(reader: &mut Reader<'_>, depth: u8) -> Result<(), ReadFault>
-    ensures gives { Gives (λ _. (reader.new.out.items, reader.new.nodes, reader.new.rest.now)) result (appended cond_spelled reader.old.out.items (cond_at depth reader.old.nodes reader.old.rest.now)) }
-    ensures few { OnOk result (reader.new.nodes ≤ 64) }
+#[tactic(auto, using(crate::proofs::Trees::cond_from_is, crate::proofs::Flat::cond_level_appended))]
+pub fn cond_next(reader: &mut BodyReader<'_>, depth: u8) -> Result<(), ReadFault>
+    ensures gives { Appends cond_spelled (λ n rest. cond_from depth n rest) reader.old result reader.new }
+    ensures few { OnOk result (reader.new.nodes ≤ most_nodes) }
 {
     let (kind, rest) = cond_node(depth, reader.nodes, reader.rest)?;
     reader.rest = rest;

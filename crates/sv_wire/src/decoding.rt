@@ -1,6 +1,6 @@
 //! Decoding payloads.
 ghost use Rattle.std.specs.Prelude.{◌≡◌, ◌≤◌, ◌+◌, ◌-◌, length, IfOk, Ok};
-ghost use Rattle.sv_wire.specs.Messages.{request_at, reply_at, Decodes};
+ghost use Rattle.sv_wire.specs.Messages.{farthest_field, request_at, reply_at, Decodes};
 ghost use Rattle.sv_wire.specs.Spelling.{request_bytes, reply_bytes};
 ghost use Rattle.sv_wire.specs.Grammar.{IsWireRequest, IsWireReply};
 ghost use Rattle.sv_wire.specs.Laws.{IsRequest, IsReply};
@@ -15,7 +15,7 @@ use std::alloc::Global;
 
 fn placed(payload: &[u8], stop: Stop) -> Malformed
     requires within { stop.left ≤ length payload.now }
-    requires near { length payload.now ≤ stop.left + 40000 }
+    requires near { length payload.now ≤ stop.left + farthest_field }
     ensures { result ≡ record { at = length payload.now - stop.left; cause = stop.cause } }
 {
     Malformed {

@@ -2,6 +2,7 @@
 ghost use Rattle.std.specs.Prelude.{◌≡◌, ◌≤◌, [], ◌++◌, ◌∷◌, length, All, IfOk, OnOk, OnErr, Ok};
 ghost use Rattle.std.specs.List.{flat_map};
 ghost use Rattle.byteorder.specs.Endian.{big_bytes};
+ghost use Rattle.sv_world.specs.Limits.{most_items};
 ghost use Rattle.sv_wire.specs.declared.message.Reply.TheVariants as reply;
 ghost use Rattle.sv_wire.specs.Spelling.{action_bytes, item_bytes, request_bytes, reply_bytes};
 ghost use Rattle.sv_wire.specs.Grammar.{IsWireAction, IsWireRelay, IsWireRequest, IsWireReply};
@@ -15,7 +16,7 @@ use std::alloc::{AllocError, Global};
 use sv_world::Action;
 
 /// Most payloads fit, so that they are written without moving what is written.
-const ROOM: usize = 256;
+const PAYLOAD_ROOM: usize = 256;
 
 fn put_action(out: &mut Vec<u8>, action: &Action) -> Result<(), AllocError>
     requires { IsWireAction action.now }
@@ -51,7 +52,7 @@ fn put_items(out: &mut Vec<u8>, items: &[Item]) -> Result<(), AllocError>
 }
 
 fn put_item_list(out: &mut Vec<u8>, items: &[Item]) -> Result<(), AllocError>
-    requires few { length items.now ≤ 33 }
+    requires few { length items.now ≤ most_items }
     requires each { All (λ i. IsWireAction i.action) items.now }
     ensures { OnOk result (out.new.items ≡ out.old.items ++ length items.now ∷ flat_map item_bytes items.now) }
 {
@@ -233,7 +234,7 @@ pub fn encode_request(alloc: Global, request: &Request) -> Result<Vec<u8>, Alloc
     // It is decoded as the request.
     ensures read_back { IfOk result (λ payload. request_at payload.items ≡ Ok request.now) }
 {
-    let mut out = Vec::with_capacity(alloc, ROOM)?;
+    let mut out = Vec::with_capacity(alloc, PAYLOAD_ROOM)?;
     encode_request_into(&mut out, request)?;
     Ok(out)
 }
@@ -245,7 +246,7 @@ pub fn encode_reply(alloc: Global, reply: &Reply) -> Result<Vec<u8>, AllocError>
     // It is decoded as the reply.
     ensures read_back { IfOk result (λ payload. reply_at payload.items ≡ Ok reply.now) }
 {
-    let mut out = Vec::with_capacity(alloc, ROOM)?;
+    let mut out = Vec::with_capacity(alloc, PAYLOAD_ROOM)?;
     encode_reply_into(&mut out, reply)?;
     Ok(out)
 }

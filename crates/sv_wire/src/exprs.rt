@@ -1,8 +1,8 @@
 //! Reading expressions. The depth is the number of levels that are left. What is read is appended.
 ghost use Rattle.std.specs.Prelude.{◌≡◌, ◌≤◌, OnOk};
+ghost use Rattle.sv_world.specs.Limits.{most_nodes};
 ghost use Rattle.sv_world.specs.Spelled.{expr_spelled};
-ghost use Rattle.sv_wire.specs.Steps.{Gives};
-ghost use Rattle.sv_wire.specs.Trees.{appended, lit_at, attr_at, pair_at, expr_at};
+ghost use Rattle.sv_wire.specs.Trees.{Appends, lit_from, attr_from, pair_from, expr_from};
 
 use crate::fault::ReadFault;
 use crate::fields::{byte_of, i64_of};
@@ -11,7 +11,7 @@ use sv_world::{Node, Operator};
 
 /// A body that is being read.
 #[derive(Drop)]
-pub struct Reader<'a> {
+pub struct BodyReader<'a> {
     /// The bytes that are left.
     pub rest: &'a [u8],
     /// The nodes so far.
@@ -21,8 +21,8 @@ pub struct Reader<'a> {
 }
 
 #[tactic(auto, using(crate::proofs::Flat::lit_appended))]
-fn lit_next(reader: &mut Reader<'_>) -> Result<(), ReadFault>
-    ensures gives { Gives (λ _. (reader.new.out.items, reader.new.nodes, reader.new.rest.now)) result (appended expr_spelled reader.old.out.items (lit_at reader.old.nodes reader.old.rest.now)) }
+fn lit_next(reader: &mut BodyReader<'_>) -> Result<(), ReadFault>
+    ensures gives { Appends expr_spelled lit_from reader.old result reader.new }
     ensures few { OnOk result (reader.new.nodes ≡ reader.old.nodes) }
 {
     let (number, rest) = i64_of(reader.rest)?;
@@ -32,8 +32,8 @@ fn lit_next(reader: &mut Reader<'_>) -> Result<(), ReadFault>
 }
 
 #[tactic(auto, using(crate::proofs::Flat::attr_appended))]
-fn attr_next(reader: &mut Reader<'_>) -> Result<(), ReadFault>
-    ensures gives { Gives (λ _. (reader.new.out.items, reader.new.nodes, reader.new.rest.now)) result (appended expr_spelled reader.old.out.items (attr_at reader.old.nodes reader.old.rest.now)) }
+fn attr_next(reader: &mut BodyReader<'_>) -> Result<(), ReadFault>
+    ensures gives { Appends expr_spelled attr_from reader.old result reader.new }
     ensures few { OnOk result (reader.new.nodes ≡ reader.old.nodes) }
 {
     let (slot, rest) = byte_of(reader.rest)?;
@@ -45,9 +45,9 @@ fn attr_next(reader: &mut Reader<'_>) -> Result<(), ReadFault>
 
 #[cycle(exprs)]
 #[tactic(auto, using(crate::proofs::Flat::pair_appended))]
-fn pair_next(reader: &mut Reader<'_>, depth: u8, operator: Operator) -> Result<(), ReadFault>
-    ensures gives { Gives (λ _. (reader.new.out.items, reader.new.nodes, reader.new.rest.now)) result (appended expr_spelled reader.old.out.items (pair_at (λ n rest. expr_at depth n rest) operator reader.old.nodes reader.old.rest.now)) }
-    ensures few { OnOk result (reader.new.nodes ≤ 64) }
+fn pair_next(reader: &mut BodyReader<'_>, depth: u8, operator: Operator) -> Result<(), ReadFault>
+    ensures gives { Appends expr_spelled (pair_from (λ n rest. expr_from depth n rest) operator) reader.old result reader.new }
+    ensures few { OnOk result (reader.new.nodes ≤ most_nodes) }
 {
     reader.out.push(Node::Binary(operator))?;
     expr_next(reader, depth)?;
@@ -55,10 +55,10 @@ fn pair_next(reader: &mut Reader<'_>, depth: u8, operator: Operator) -> Result<(
 }
 
 #[cycle(exprs)]
-#[tactic(auto, using(crate::proofs::Trees::expr_at_is, crate::proofs::Flat::expr_step_appended))]
-pub fn expr_next(reader: &mut Reader<'_>, depth: u8) -> Result<(), ReadFault>
-    ensures gives { Gives (λ _. (reader.new.out.items, reader.new.nodes, reader.new.rest.now)) result (appended expr_spelled reader.old.out.items (expr_at depth reader.old.nodes reader.old.rest.now)) }
-    ensures few { OnOk result (reader.new.nodes ≤ 64) }
+#[tactic(auto, using(crate::proofs::Trees::expr_from_is, crate::proofs::Flat::expr_level_appended))]
+pub fn expr_next(reader: &mut BodyReader<'_>, depth: u8) -> Result<(), ReadFault>
+    ensures gives { Appends expr_spelled (λ n rest. expr_from depth n rest) reader.old result reader.new }
+    ensures few { OnOk result (reader.new.nodes ≤ most_nodes) }
 {
     let (kind, rest) = expr_node(depth, reader.nodes, reader.rest)?;
     reader.rest = rest;

@@ -17,11 +17,11 @@ pub enum WireCause {
     Order,
     /// A mask bit at or above the count of reads.
     Mask,
-    /// A code outside 1 to 11.
+    /// A code that no refusal has.
     Code,
-    /// The node byte of the 65th node.
+    /// The node byte of a node too many.
     Large,
-    /// The node byte of a node with 8 nodes above it.
+    /// The node byte of a node with too many nodes above it.
     Deep,
     /// A byte stands after the message's end.
     Rest,

@@ -1,5 +1,5 @@
 //! Laws of the payloads: functions that do nothing, and whose contracts are the laws.
-ghost use Rattle.sv_wire.specs.Laws.{RequestsDiffer, RepliesDiffer, RequestFramesDiffer, ReplyFramesDiffer, KindsDiffer, RequestsAreReadBack, RepliesAreReadBack};
+ghost use Rattle.sv_wire.specs.Laws.{RequestsDiffer, RepliesDiffer, RequestsAreApart, RepliesAreApart, KindsAreApart, RequestsAreReadBack, RepliesAreReadBack};
 
 /// Each message has one payload, and different messages have different payloads.
 pub fn one_payload()
@@ -7,11 +7,11 @@ pub fn one_payload()
     ensures replies { RepliesDiffer }
 {}
 
-/// No message's frame begins another message's frame.
-pub fn no_frame_begins_another()
-    ensures requests { RequestFramesDiffer }
-    ensures replies { ReplyFramesDiffer }
-    ensures kinds { KindsDiffer }
+/// No message's payload begins another message's payload.
+pub fn no_payload_begins_another()
+    ensures requests { RequestsAreApart }
+    ensures replies { RepliesAreApart }
+    ensures kinds { KindsAreApart }
 {}
 
 /// The payload of a message is decoded as that message.

@@ -1,3 +1,4 @@
+//! Requests, which clients send, and replies, which the server sends.
 use sv_world::{Action, ClientId, List, ObjectId, Value};
 
 /// The value of an object.
@@ -79,8 +80,7 @@ pub enum Reply {
         commit: u32,
     },
     Idle,
-    /// The codes, from 1: malformed, not joined, already joined, ended, bad sequence number, bad action, bad completion, bad interest,
-    /// spent, bad client, stale.
+    /// The request breaks a rule. `code` is that of a `Refusal`.
     Refused {
         code: u8,
         detail: u32,

@@ -1,11 +1,12 @@
 //! The kinds of the nodes of an action's body.
 ghost use Rattle.std.specs.Prelude.{◌≡◌, ◌<◌, OnOk};
+ghost use Rattle.sv_world.specs.Limits.{most_nodes};
 ghost use Rattle.sv_wire.specs.Steps.{Gives};
-ghost use Rattle.sv_wire.specs.Nodes.{room_at, node_at, expr_kind_of, cond_kind_of, stmt_kind_of};
+ghost use Rattle.sv_wire.specs.Nodes.{room_at, node_from, expr_kind_of, cond_kind_of, stmt_kind_of};
 
 use crate::fault::{ReadFault, WireCause, stop_at};
 use crate::fields::byte_of;
-use sv_world::{Comparison, Connective, Operator};
+use sv_world::{Comparison, Connective, MOST_NODES, Operator};
 
 #[derive(Clone, Copy)]
 pub enum ExprKind {
@@ -75,9 +76,9 @@ fn stmt_kind(byte: u8) -> Option<StmtKind>
 #[tactic(auto, unfolding(crate::specs::Nodes::room_at))]
 fn has_room(depth: u8, nodes: u8, bytes: &[u8]) -> Result<(), ReadFault>
     ensures gives { Gives (λ _. tt) result (room_at depth nodes bytes.now) }
-    ensures few { OnOk result ((nodes < 64) × (0 < depth)) }
+    ensures few { OnOk result ((nodes < most_nodes) × (0 < depth)) }
 {
-    if 64 <= nodes {
+    if MOST_NODES <= nodes {
         return Err(stop_at(bytes, WireCause::Large));
     }
     if depth == 0 {
@@ -86,10 +87,10 @@ fn has_room(depth: u8, nodes: u8, bytes: &[u8]) -> Result<(), ReadFault>
     Ok(())
 }
 
-#[tactic(auto, unfolding(crate::specs::Nodes::node_at))]
+#[tactic(auto, unfolding(crate::specs::Nodes::node_from))]
 pub fn expr_node(depth: u8, nodes: u8, bytes: &[u8]) -> Result<(ExprKind, &[u8]), ReadFault>
-    ensures gives { Gives (λ x. (x.0, x.1.now)) result (node_at expr_kind_of depth nodes bytes.now) }
-    ensures few { OnOk result ((nodes < 64) × (0 < depth)) }
+    ensures gives { Gives (λ x. (x.0, x.1.now)) result (node_from expr_kind_of depth nodes bytes.now) }
+    ensures few { OnOk result ((nodes < most_nodes) × (0 < depth)) }
 {
     let (byte, rest) = byte_of(bytes)?;
     let Some(kind) = expr_kind(byte) else {
@@ -99,10 +100,10 @@ pub fn expr_node(depth: u8, nodes: u8, bytes: &[u8]) -> Result<(ExprKind, &[u8])
     Ok((kind, rest))
 }
 
-#[tactic(auto, unfolding(crate::specs::Nodes::node_at))]
+#[tactic(auto, unfolding(crate::specs::Nodes::node_from))]
 pub fn cond_node(depth: u8, nodes: u8, bytes: &[u8]) -> Result<(CondKind, &[u8]), ReadFault>
-    ensures gives { Gives (λ x. (x.0, x.1.now)) result (node_at cond_kind_of depth nodes bytes.now) }
-    ensures few { OnOk result ((nodes < 64) × (0 < depth)) }
+    ensures gives { Gives (λ x. (x.0, x.1.now)) result (node_from cond_kind_of depth nodes bytes.now) }
+    ensures few { OnOk result ((nodes < most_nodes) × (0 < depth)) }
 {
     let (byte, rest) = byte_of(bytes)?;
     let Some(kind) = cond_kind(byte) else {
@@ -112,10 +113,10 @@ pub fn cond_node(depth: u8, nodes: u8, bytes: &[u8]) -> Result<(CondKind, &[u8])
     Ok((kind, rest))
 }
 
-#[tactic(auto, unfolding(crate::specs::Nodes::node_at))]
+#[tactic(auto, unfolding(crate::specs::Nodes::node_from))]
 pub fn stmt_node(depth: u8, nodes: u8, bytes: &[u8]) -> Result<(StmtKind, &[u8]), ReadFault>
-    ensures gives { Gives (λ x. (x.0, x.1.now)) result (node_at stmt_kind_of depth nodes bytes.now) }
-    ensures few { OnOk result ((nodes < 64) × (0 < depth)) }
+    ensures gives { Gives (λ x. (x.0, x.1.now)) result (node_from stmt_kind_of depth nodes bytes.now) }
+    ensures few { OnOk result ((nodes < most_nodes) × (0 < depth)) }
 {
     let (byte, rest) = byte_of(bytes)?;
     let Some(kind) = stmt_kind(byte) else {

@@ -1,32 +1,34 @@
 //! Reading replies.
 ghost use Rattle.std.specs.Prelude.{◌≡◌};
 ghost use Rattle.sv_wire.specs.Steps.{Gives};
-ghost use Rattle.sv_wire.specs.Messages.{welcome_at, relay_at, dropped_at, settled_at, noted_at, code_at, refused_at, reply_front, whole};
+ghost use Rattle.sv_wire.specs.Messages.{welcome_from, relay_from, dropped_from, settled_from, noted_from, code_from, refused_from, reply_front, whole};
 
 use crate::actions::items_of;
 use crate::fault::{ReadFault, WireCause, stop_at};
 use crate::fields::{byte_of, count_of, head_of, u32_of};
 use crate::kinds::{ReplyKind, reply_kind};
 use crate::message::Reply;
+use crate::refusal::LAST_CODE;
 use std::alloc::Global;
+use sv_world::MOST_ITEMS;
 
-#[tactic(auto, unfolding(crate::specs::Messages::welcome_at))]
+#[tactic(auto, unfolding(crate::specs::Messages::welcome_from))]
 fn welcome_of(alloc: Global, bytes: &[u8]) -> Result<(Reply, &[u8]), ReadFault>
-    ensures { Gives (λ x. (x.0, x.1.now)) result (welcome_at bytes.now) }
+    ensures { Gives (λ x. (x.0, x.1.now)) result (welcome_from bytes.now) }
 {
     let (commit, rest) = u32_of(bytes)?;
     let (head, rest) = head_of(alloc, rest)?;
     Ok((Reply::Welcome { commit, head }, rest))
 }
 
-#[tactic(auto, unfolding(crate::specs::Messages::relay_at))]
+#[tactic(auto, unfolding(crate::specs::Messages::relay_from))]
 fn relay_of(alloc: Global, bytes: &[u8]) -> Result<(Reply, &[u8]), ReadFault>
-    ensures { Gives (λ x. (x.0, x.1.now)) result (relay_at bytes.now) }
+    ensures { Gives (λ x. (x.0, x.1.now)) result (relay_from bytes.now) }
 {
     let (seq, rest) = u32_of(bytes)?;
     let (commit, rest) = u32_of(rest)?;
     let (head, rest) = head_of(alloc, rest)?;
-    let (count, rest) = count_of(0, 33, rest)?;
+    let (count, rest) = count_of(0, MOST_ITEMS as u8, rest)?;
     let (items, rest) = items_of(alloc, count, rest)?;
     Ok((
         Reply::Relay {
@@ -39,9 +41,9 @@ fn relay_of(alloc: Global, bytes: &[u8]) -> Result<(Reply, &[u8]), ReadFault>
     ))
 }
 
-#[tactic(auto, unfolding(crate::specs::Messages::dropped_at))]
+#[tactic(auto, unfolding(crate::specs::Messages::dropped_from))]
 fn dropped_of(bytes: &[u8]) -> Result<(Reply, &[u8]), ReadFault>
-    ensures { Gives (λ x. (x.0, x.1.now)) result (dropped_at bytes.now) }
+    ensures { Gives (λ x. (x.0, x.1.now)) result (dropped_from bytes.now) }
 {
     let (seq, rest) = u32_of(bytes)?;
     let (chain, rest) = u32_of(rest)?;
@@ -49,37 +51,37 @@ fn dropped_of(bytes: &[u8]) -> Result<(Reply, &[u8]), ReadFault>
     Ok((Reply::Dropped { seq, chain, far }, rest))
 }
 
-#[tactic(auto, unfolding(crate::specs::Messages::settled_at))]
+#[tactic(auto, unfolding(crate::specs::Messages::settled_from))]
 fn settled_of(bytes: &[u8]) -> Result<(Reply, &[u8]), ReadFault>
-    ensures { Gives (λ x. (x.0, x.1.now)) result (settled_at bytes.now) }
+    ensures { Gives (λ x. (x.0, x.1.now)) result (settled_from bytes.now) }
 {
     let (seq, rest) = u32_of(bytes)?;
     let (pos, rest) = u32_of(rest)?;
     Ok((Reply::Settled { seq, pos }, rest))
 }
 
-#[tactic(auto, unfolding(crate::specs::Messages::noted_at))]
+#[tactic(auto, unfolding(crate::specs::Messages::noted_from))]
 fn noted_of(bytes: &[u8]) -> Result<(Reply, &[u8]), ReadFault>
-    ensures { Gives (λ x. (x.0, x.1.now)) result (noted_at bytes.now) }
+    ensures { Gives (λ x. (x.0, x.1.now)) result (noted_from bytes.now) }
 {
     let (commit, rest) = u32_of(bytes)?;
     Ok((Reply::Noted { commit }, rest))
 }
 
-#[tactic(auto, unfolding(crate::specs::Messages::code_at))]
+#[tactic(auto, unfolding(crate::specs::Messages::code_from))]
 fn code_of(bytes: &[u8]) -> Result<(u8, &[u8]), ReadFault>
-    ensures { Gives (λ x. (x.0, x.1.now)) result (code_at bytes.now) }
+    ensures { Gives (λ x. (x.0, x.1.now)) result (code_from bytes.now) }
 {
     let (code, rest) = byte_of(bytes)?;
-    if code < 1 || 11 < code {
+    if code < 1 || LAST_CODE < code {
         return Err(stop_at(bytes, WireCause::Code));
     }
     Ok((code, rest))
 }
 
-#[tactic(auto, unfolding(crate::specs::Messages::refused_at))]
+#[tactic(auto, unfolding(crate::specs::Messages::refused_from))]
 fn refused_of(bytes: &[u8]) -> Result<(Reply, &[u8]), ReadFault>
-    ensures { Gives (λ x. (x.0, x.1.now)) result (refused_at bytes.now) }
+    ensures { Gives (λ x. (x.0, x.1.now)) result (refused_from bytes.now) }
 {
     let (code, rest) = code_of(bytes)?;
     let (detail, rest) = u32_of(rest)?;

@@ -1,7 +1,7 @@
 //! Reading requests.
 ghost use Rattle.std.specs.Prelude.{◌≡◌};
 ghost use Rattle.sv_wire.specs.Steps.{Gives};
-ghost use Rattle.sv_wire.specs.Messages.{join_request_at, submit_at, done_at, request_front, whole};
+ghost use Rattle.sv_wire.specs.Messages.{join_request_from, submit_from, done_from, request_front, whole};
 
 use crate::actions::action_of;
 use crate::fault::{ReadFault, WireCause, stop_at};
@@ -9,15 +9,15 @@ use crate::fields::{byte_of, count_of, objects_of, results_of, u16_of, u32_of};
 use crate::kinds::{RequestKind, request_kind};
 use crate::message::Request;
 use std::alloc::Global;
-use sv_world::{ClientId, copy_objects};
+use sv_world::{ClientId, MOST_INTEREST, MOST_ITEMS, copy_objects};
 
-#[tactic(auto, unfolding(crate::specs::Messages::join_request_at))]
+#[tactic(auto, unfolding(crate::specs::Messages::join_request_from))]
 fn join_of(alloc: Global, bytes: &[u8]) -> Result<(Request, &[u8]), ReadFault>
-    ensures { Gives (λ x. (x.0, x.1.now)) result (join_request_at bytes.now) }
+    ensures { Gives (λ x. (x.0, x.1.now)) result (join_request_from bytes.now) }
 {
     let (client, rest) = u16_of(bytes)?;
     let (life, rest) = u32_of(rest)?;
-    let (count, rest) = count_of(0, 64, rest)?;
+    let (count, rest) = count_of(0, MOST_INTEREST as u8, rest)?;
     let (objects, rest) = objects_of(alloc, count, rest)?;
     let interest = copy_objects(alloc, objects.as_slice())?;
     Ok((
@@ -30,20 +30,20 @@ fn join_of(alloc: Global, bytes: &[u8]) -> Result<(Request, &[u8]), ReadFault>
     ))
 }
 
-#[tactic(auto, unfolding(crate::specs::Messages::submit_at))]
+#[tactic(auto, unfolding(crate::specs::Messages::submit_from))]
 fn submit_of(alloc: Global, bytes: &[u8]) -> Result<(Request, &[u8]), ReadFault>
-    ensures { Gives (λ x. (x.0, x.1.now)) result (submit_at bytes.now) }
+    ensures { Gives (λ x. (x.0, x.1.now)) result (submit_from bytes.now) }
 {
     let (seq, rest) = u32_of(bytes)?;
     let (action, rest) = action_of(alloc, rest)?;
     Ok((Request::Submit { seq, action }, rest))
 }
 
-#[tactic(auto, unfolding(crate::specs::Messages::done_at))]
+#[tactic(auto, unfolding(crate::specs::Messages::done_from))]
 fn done_of(alloc: Global, bytes: &[u8]) -> Result<(Request, &[u8]), ReadFault>
-    ensures { Gives (λ x. (x.0, x.1.now)) result (done_at bytes.now) }
+    ensures { Gives (λ x. (x.0, x.1.now)) result (done_from bytes.now) }
 {
-    let (count, rest) = count_of(1, 33, bytes)?;
+    let (count, rest) = count_of(1, MOST_ITEMS as u8, bytes)?;
     let (results, rest) = results_of(alloc, count, rest)?;
     Ok((Request::Done { results }, rest))
 }

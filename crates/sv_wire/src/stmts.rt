@@ -1,21 +1,22 @@
 //! Reading statements. The depth is the number of levels that are left. What is read is appended.
 ghost use Rattle.std.specs.Prelude.{◌≡◌, ◌≤◌, OnOk};
+ghost use Rattle.sv_world.specs.Limits.{most_nodes};
 ghost use Rattle.sv_world.specs.Spelled.{stmt_spelled, run_spelled, body_spelled};
 ghost use Rattle.sv_wire.specs.Steps.{Gives, in_turn};
-ghost use Rattle.sv_wire.specs.Trees.{appended, expr_at, cond_at, set_at, list_by, if_at, stmt_at, body_at};
+ghost use Rattle.sv_wire.specs.Trees.{Appends, expr_from, cond_from, set_from, list_by, if_from, stmt_from, body_from};
 
 use crate::conds::cond_next;
-use crate::exprs::{Reader, expr_next};
+use crate::exprs::{BodyReader, expr_next};
 use crate::fault::ReadFault;
 use crate::fields::byte_of;
 use crate::nodes::{StmtKind, stmt_node};
 use std::alloc::Global;
-use sv_world::{Body, Node};
+use sv_world::{Body, MOST_DEPTH, Node};
 
 #[tactic(auto, using(crate::proofs::Flat::set_appended))]
-fn set_next(reader: &mut Reader<'_>, depth: u8) -> Result<(), ReadFault>
-    ensures gives { Gives (λ _. (reader.new.out.items, reader.new.nodes, reader.new.rest.now)) result (appended stmt_spelled reader.old.out.items (set_at (λ n rest. expr_at depth n rest) reader.old.nodes reader.old.rest.now)) }
-    ensures few { OnOk result (reader.new.nodes ≤ 64) }
+fn set_next(reader: &mut BodyReader<'_>, depth: u8) -> Result<(), ReadFault>
+    ensures gives { Appends stmt_spelled (set_from (λ n rest. expr_from depth n rest)) reader.old result reader.new }
+    ensures few { OnOk result (reader.new.nodes ≤ most_nodes) }
 {
     let (slot, rest) = byte_of(reader.rest)?;
     let (attr, rest) = byte_of(rest)?;
@@ -25,10 +26,10 @@ fn set_next(reader: &mut Reader<'_>, depth: u8) -> Result<(), ReadFault>
 }
 
 #[cycle(stmts)]
-fn stmts_next(reader: &mut Reader<'_>, depth: u8, count: u8) -> Result<(), ReadFault>
-    requires { reader.old.nodes ≤ 64 }
-    ensures gives { Gives (λ _. (reader.new.out.items, reader.new.nodes, reader.new.rest.now)) result (appended run_spelled reader.old.out.items (in_turn (λ n rest. stmt_at depth n rest) count reader.old.nodes reader.old.rest.now)) }
-    ensures few { OnOk result (reader.new.nodes ≤ 64) }
+fn stmts_next(reader: &mut BodyReader<'_>, depth: u8, count: u8) -> Result<(), ReadFault>
+    requires { reader.old.nodes ≤ most_nodes }
+    ensures gives { Appends run_spelled (in_turn (λ n rest. stmt_from depth n rest) count) reader.old result reader.new }
+    ensures few { OnOk result (reader.new.nodes ≤ most_nodes) }
 {
     for _ in 0..count {
         stmt_next(reader, depth)?;
@@ -39,10 +40,10 @@ fn stmts_next(reader: &mut Reader<'_>, depth: u8, count: u8) -> Result<(), ReadF
 // How many nodes the statements have is known behind them.
 #[cycle(stmts)]
 #[tactic(auto, using(crate::proofs::Flat::list_appended, crate::proofs::Flat::appended_longer))]
-fn list_next(reader: &mut Reader<'_>, depth: u8) -> Result<(), ReadFault>
-    requires { reader.old.nodes ≤ 64 }
-    ensures gives { Gives (λ _. (reader.new.out.items, reader.new.nodes, reader.new.rest.now)) result (appended body_spelled reader.old.out.items (list_by (λ n rest. stmt_at depth n rest) reader.old.nodes reader.old.rest.now)) }
-    ensures few { OnOk result (reader.new.nodes ≤ 64) }
+fn list_next(reader: &mut BodyReader<'_>, depth: u8) -> Result<(), ReadFault>
+    requires { reader.old.nodes ≤ most_nodes }
+    ensures gives { Appends body_spelled (list_by (λ n rest. stmt_from depth n rest)) reader.old result reader.new }
+    ensures few { OnOk result (reader.new.nodes ≤ most_nodes) }
 {
     let (count, rest) = byte_of(reader.rest)?;
     reader.rest = rest;
@@ -56,9 +57,9 @@ fn list_next(reader: &mut Reader<'_>, depth: u8) -> Result<(), ReadFault>
 
 #[cycle(stmts)]
 #[tactic(auto, using(crate::proofs::Flat::if_appended))]
-fn if_next(reader: &mut Reader<'_>, depth: u8) -> Result<(), ReadFault>
-    ensures gives { Gives (λ _. (reader.new.out.items, reader.new.nodes, reader.new.rest.now)) result (appended stmt_spelled reader.old.out.items (if_at (λ n rest. cond_at depth n rest) (λ n rest. stmt_at depth n rest) reader.old.nodes reader.old.rest.now)) }
-    ensures few { OnOk result (reader.new.nodes ≤ 64) }
+fn if_next(reader: &mut BodyReader<'_>, depth: u8) -> Result<(), ReadFault>
+    ensures gives { Appends stmt_spelled (if_from (λ n rest. cond_from depth n rest) (λ n rest. stmt_from depth n rest)) reader.old result reader.new }
+    ensures few { OnOk result (reader.new.nodes ≤ most_nodes) }
 {
     reader.out.push(Node::If)?;
     cond_next(reader, depth)?;
@@ -67,10 +68,10 @@ fn if_next(reader: &mut Reader<'_>, depth: u8) -> Result<(), ReadFault>
 }
 
 #[cycle(stmts)]
-#[tactic(auto, using(crate::proofs::Trees::stmt_at_is, crate::proofs::Flat::stmt_step_appended))]
-fn stmt_next(reader: &mut Reader<'_>, depth: u8) -> Result<(), ReadFault>
-    ensures gives { Gives (λ _. (reader.new.out.items, reader.new.nodes, reader.new.rest.now)) result (appended stmt_spelled reader.old.out.items (stmt_at depth reader.old.nodes reader.old.rest.now)) }
-    ensures few { OnOk result (reader.new.nodes ≤ 64) }
+#[tactic(auto, using(crate::proofs::Trees::stmt_from_is, crate::proofs::Flat::stmt_level_appended))]
+fn stmt_next(reader: &mut BodyReader<'_>, depth: u8) -> Result<(), ReadFault>
+    ensures gives { Appends stmt_spelled (λ n rest. stmt_from depth n rest) reader.old result reader.new }
+    ensures few { OnOk result (reader.new.nodes ≤ most_nodes) }
 {
     let (kind, rest) = stmt_node(depth, reader.nodes, reader.rest)?;
     reader.rest = rest;
@@ -82,18 +83,18 @@ fn stmt_next(reader: &mut Reader<'_>, depth: u8) -> Result<(), ReadFault>
 }
 
 /// The room that a body's list begins with. Most bodies have fewer nodes. What is taken here stays as long as the body.
-const ROOM: usize = 16;
+const BODY_ROOM: usize = 16;
 
-#[tactic(auto, using(crate::proofs::Flat::body_found), unfolding(crate::specs::Trees::body_at))]
+#[tactic(auto, using(crate::proofs::Flat::body_found), unfolding(crate::specs::Trees::body_from))]
 pub fn body_of(alloc: Global, bytes: &[u8]) -> Result<(Body, &[u8]), ReadFault>
-    ensures { Gives (λ x. (x.0, x.1.now)) result (body_at bytes.now) }
+    ensures { Gives (λ x. (x.0, x.1.now)) result (body_from bytes.now) }
 {
-    let mut reader = Reader {
+    let mut reader = BodyReader {
         rest: bytes,
-        out: Vec::with_capacity(alloc, ROOM)?,
+        out: Vec::with_capacity(alloc, BODY_ROOM)?,
         nodes: 0,
     };
-    list_next(&mut reader, 8)?;
+    list_next(&mut reader, MOST_DEPTH)?;
     let rest = reader.rest;
     Ok((Body::from_nodes(reader.out)?, rest))
 }

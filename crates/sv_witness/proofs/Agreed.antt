@@ -10,7 +10,7 @@ use Rattle.sv_journal.specs.declared.entry.Entry.{Entry}
 use Rattle.sv_journal.specs.History.{either, is_noted, client_of, reported, reports, result_at, commit_of}
 use Rattle.sv_journal.specs.Serving.{with_results}
 use Rattle.sv_witness.specs.declared.report.Report.{Report}
-use Rattle.sv_witness.specs.Reports.{is_by, gives, with_report, counted_in, is_nothing, agreed_values, brings_agreement, reports_of, agreed_history, agreed_result}
+use Rattle.sv_witness.specs.Reports.{is_by, gives, with_first_report, counted_in, is_nothing, agreed_values, brings_agreement, reports_of, agreed_history, agreed_result}
 
 abbrev Values : Type 0
 Values = Option (List (List ℤ))
@@ -68,7 +68,7 @@ one-more None vs true = refl
 one-more None vs false = refl
 
 abbrev Steps : Option ℕ → Values → List Report → Type 0
-Steps client v rs = either (agreed_values rs) (if brings_agreement client v rs then v else None) ≡ agreed_values (with_report client v rs)
+Steps client v rs = either (agreed_values rs) (if brings_agreement client v rs then v else None) ≡ agreed_values (with_first_report client v rs)
 
 counted-step : (client : Option ℕ) (v : Values) (rs : List Report) → Steps client v rs
 counted-step None v rs = unchanged (agreed_values rs) v
@@ -80,13 +80,13 @@ counted-step (Some k) (Some vs) rs = go (list_any (is_by k) rs)
     go true = unchanged (agreed_values rs) (Some vs)
     go false = one-more (agreed_values rs) vs (is_nothing vs || list_any (gives vs) rs)
 
-pub without : (client : Option ℕ) (rs : List Report) → with_report client None rs ≡ rs
+pub without : (client : Option ℕ) (rs : List Report) → with_first_report client None rs ≡ rs
 without None rs = refl
 without (Some k) rs = refl
 
 entry-step : (client : Option ℕ) (noted above : Bool) (v : Values) (rs : List Report) →
     either (agreed_values rs) (if noted then (if brings_agreement client (if noted && above then v else None) rs then v else None) else None)
-    ≡ agreed_values (with_report client (if noted && above then v else None) rs)
+    ≡ agreed_values (with_first_report client (if noted && above then v else None) rs)
 entry-step client false above v rs = either-none (agreed_values rs) ∙ ap agreed_values (sym (without client rs))
 entry-step client true false v rs =
     ap (λ (more : List Report). either (agreed_values rs) (if is_none (agreed_values rs) && is_some (agreed_values more) then v else None)) (without client rs)

@@ -6,13 +6,15 @@ use Rattle.std.proofs.lemmas.Bool.{leb-false}
 use Rattle.std.proofs.lemmas.List.Elements.{recursion_from_All}
 use Rattle.sv_world.specs.declared.world.ClientId.{ClientId}
 use Rattle.sv_world.specs.declared.world.ObjectId.{ObjectId}
+use Rattle.sv_world.specs.Limits.{most_requests}
 use Rattle.sv_wire.specs.declared.message.Request.{Request}
 use Rattle.sv_wire.specs.declared.message.Request.TheVariants as requests
+use Rattle.sv_wire.specs.declared.refusal.Refusal.TheVariants as refusals
 use Rattle.sv_journal.specs.declared.entry.Entry.{Entry}
 use Rattle.sv_journal.specs.declared.entry.Logged.TheVariants as logged
 use Rattle.sv_journal.specs.History.{is_welcome, client_of, commit_of}
 use Rattle.sv_journal.specs.Sessions.{is_over, is_live, asked_in, life_of}
-use Rattle.sv_journal.specs.Answer.{Rules, refused, committed_held, is_good_interest, most_requests}
+use Rattle.sv_journal.specs.Answer.{Rules, refused_as, committed_held, is_good_interest}
 use Rattle.sv_journal.specs.Serving.{with_last_rows}
 use Rattle.sv_client.specs.declared.trace.Trace.{Trace}
 use Rattle.sv_system.specs.Served.{FitsBut, no_client}
@@ -44,9 +46,9 @@ welcomed-number r h s client life interest w = go (is_over g s) (nat_le most_req
     wanted = map (λ (o : ObjectId). o.0) interest
 
     go : (a b c d : Bool) → nat_le 32 client.0 ≡ d →
-        is_welcome (with_last_rows agreed r h s (requests.Join client life interest) (if a then refused 4 0 else if b then refused 9 0 else if c then refused 3 0
-        else if d then refused 10 0 else if nat_le life (life_of g client.0) then refused 11 (life_of g client.0)
-        else if is_good_interest r.world.shape.objects wanted then logged.Welcome (commit_of g) (committed_held r g wanted) else refused 8 0)) ≡ true →
+        is_welcome (with_last_rows agreed r h s (requests.Join client life interest) (if a then refused_as refusals.Over 0 else if b then refused_as refusals.TooManyRequests 0 else if c then refused_as refusals.AlreadyJoined 0
+        else if d then refused_as refusals.NoSuchClient 0 else if nat_le life (life_of g client.0) then refused_as refusals.OldLife (life_of g client.0)
+        else if is_good_interest r.world.shape.objects wanted then logged.Welcome (commit_of g) (committed_held r g wanted) else refused_as refusals.BadInterest 0)) ≡ true →
         client.0 < no_client
     go true b c d e w = absurd (true≢false (sym w))
     go false true c d e w = absurd (true≢false (sym w))

@@ -7,15 +7,17 @@ use Rattle.sv_world.specs.declared.check.BadAction.{BadAction}
 use Rattle.sv_world.specs.declared.world.ObjectId.{ObjectId}
 use Rattle.sv_world.specs.Control.{chain_length, influence_distance}
 use Rattle.sv_world.specs.Faults.{first_fault_of_action}
+use Rattle.sv_world.specs.Limits.{most_requests}
 use Rattle.sv_wire.specs.declared.message.Done1.{Done1}
 use Rattle.sv_wire.specs.declared.message.Request.{Request}
 use Rattle.sv_wire.specs.declared.message.Request.TheVariants as requests
+use Rattle.sv_wire.specs.declared.refusal.Refusal.TheVariants as refusals
 use Rattle.sv_journal.specs.declared.entry.Entry.{Entry}
 use Rattle.sv_journal.specs.declared.entry.Logged.{Logged}
 use Rattle.sv_journal.specs.declared.entry.Logged.TheVariants as logged
 use Rattle.sv_journal.specs.History.{Authored, is_noted, client_of, is_client, is_submit_of, new_action, Outcome, Accepted, Dropped, actions_of, next_seq, commit_of}
 use Rattle.sv_journal.specs.Sessions.{is_end, is_over, is_live, asked_in, life_of, kept_outcome}
-use Rattle.sv_journal.specs.Answer.{Rules, refused, is_over_reach, is_bad_done, is_good_interest, reply_to_checked, reply_to_submit, reply_to_join, reply_to_client, reply_to_member, most_requests, reply_to_request, reply_to}
+use Rattle.sv_journal.specs.Answer.{Rules, refused_as, is_over_reach, is_bad_done, is_good_interest, reply_to_checked, reply_to_submit, reply_to_join, reply_to_client, reply_to_member, reply_to_request, reply_to}
 use Rattle.sv_journal.specs.Serving.{is_poll, with_last_rows, noted_after, polled_after}
 use Rattle.sv_sequencer.specs.declared.decision.Decision.{Decision}
 use Rattle.sv_sequencer.specs.declared.decision.Decision.TheVariants as decisions
@@ -68,7 +70,7 @@ module _ (r : Rules) (g : List Entry) (s : ℕ) where
       cond_both (nat_le life (life_of g k)) _ _ IsBusy (λ _. refl) (λ _.
       cond_both (is_good_interest r.world.shape.objects xs) _ _ IsBusy (λ _. refl) (λ _. refl))))
 
-  open-busy : (w : Logged) → IsBusy w → IsBusy (if is_over g s then refused 4 0 else (if nat_le most_requests (asked_in g s) then refused 9 0 else w))
+  open-busy : (w : Logged) → IsBusy w → IsBusy (if is_over g s then refused_as refusals.Over 0 else (if nat_le most_requests (asked_in g s) then refused_as refusals.TooManyRequests 0 else w))
   open-busy w busy = cond_both (is_over g s) _ _ IsBusy (λ _. refl) (λ _. cond_both (nat_le most_requests (asked_in g s)) _ _ IsBusy (λ _. refl) (λ _. busy))
 
   request-busy : (q : Request) → is_poll q ≡ false → IsBusy (reply_to_request r g s q)
@@ -135,7 +137,7 @@ module _ (r : Rules) (h : List Entry) (s : ℕ) (q : Request) (d : Decision) (mo
       go : (d : Decision) → answers_poll q d ≡ true → reply_by r (agreed_history h) s q d ≡ reply_to_request r (agreed_history h) s q → is_poll q ≡ true
       go decisions.Idle is told = idle-poll r (agreed_history h) s q told
       go (decisions.Relay seq pos) is told = is
-      go (decisions.Refuse code detail) is told = absurd (true≢false (sym is))
+      go (decisions.Refuse refusal detail) is told = absurd (true≢false (sym is))
       go (decisions.Welcome client life) is told = absurd (true≢false (sym is))
       go (decisions.Drop client seq chain far) is told = absurd (true≢false (sym is))
       go (decisions.Repeat seq chain far) is told = absurd (true≢false (sym is))
@@ -150,7 +152,7 @@ module _ (r : Rules) (h : List Entry) (s : ℕ) (q : Request) (d : Decision) (mo
       go : (d : Decision) → answers_poll q d ≡ true → with_last_rows agreed r h s q (reply_by r (agreed_history h) s q d) ≡ polled_after agreed r h s
       go decisions.Idle is = refl
       go (decisions.Relay seq pos) is = cond-true (is_poll q) _ _ is
-      go (decisions.Refuse code detail) is = absurd (true≢false (sym is))
+      go (decisions.Refuse refusal detail) is = absurd (true≢false (sym is))
       go (decisions.Welcome client life) is = absurd (true≢false (sym is))
       go (decisions.Drop client seq chain far) is = absurd (true≢false (sym is))
       go (decisions.Repeat seq chain far) is = absurd (true≢false (sym is))
@@ -166,7 +168,7 @@ is-plain r g s q decisions.Note other unasked holds = other refl
 is-plain r g s q decisions.Idle other unasked holds = true≢false unasked
 is-plain r g s q (decisions.Relay seq pos) other unasked holds = unasked
 is-plain r g s q (decisions.Accept client seq) other unasked holds = ap is_poll holds.0.submit
-is-plain r g s q (decisions.Refuse code detail) other unasked holds = tt
+is-plain r g s q (decisions.Refuse refusal detail) other unasked holds = tt
 is-plain r g s q (decisions.Welcome client life) other unasked holds = tt
 is-plain r g s q (decisions.Drop client seq chain far) other unasked holds = tt
 is-plain r g s q (decisions.Repeat seq chain far) other unasked holds = tt
@@ -199,7 +201,7 @@ done-holds r g s results decisions.Note plain holds = absurd plain
 done-holds r g s results decisions.Idle plain holds = tt
 done-holds r g s results (decisions.Relay seq pos) plain holds = (done-old g s [], holds.1)
 done-holds r g s results (decisions.Accept client seq) plain holds = absurd (true≢false (sym (ap is_submit holds.0.submit)))
-done-holds r g s results (decisions.Refuse code detail) plain holds = tt
+done-holds r g s results (decisions.Refuse refusal detail) plain holds = tt
 done-holds r g s results (decisions.Welcome client life) plain holds = record { client = holds.client; number = holds.number; above = holds.above; interest = holds.interest }
 done-holds r g s results (decisions.Drop client seq chain far) plain holds = absurd (true≢false (sym (ap is_submit holds.submit)))
 done-holds r g s results (decisions.Repeat seq chain far) plain holds = done-old g s []
@@ -222,7 +224,7 @@ done-reply r g s results decisions.Note plain = absurd plain
 done-reply r g s results decisions.Idle plain = refl
 done-reply r g s results (decisions.Relay seq pos) plain = refl
 done-reply r g s results (decisions.Accept client seq) plain = refl
-done-reply r g s results (decisions.Refuse code detail) plain = refl
+done-reply r g s results (decisions.Refuse refusal detail) plain = refl
 done-reply r g s results (decisions.Welcome client life) plain = refl
 done-reply r g s results (decisions.Drop client seq chain far) plain = refl
 done-reply r g s results (decisions.Repeat seq chain far) plain = refl

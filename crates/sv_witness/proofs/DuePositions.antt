@@ -10,7 +10,7 @@ use Rattle.sv_journal.specs.declared.entry.Entry.{Entry}
 use Rattle.sv_journal.specs.History.{Authored, client_of, accepted, result_at}
 use Rattle.sv_journal.specs.Sessions.{sent_to, named_to}
 use Rattle.sv_journal.specs.Answer.{Rules}
-use Rattle.sv_sequencer.specs.Fits.{Fits}
+use Rattle.sv_sequencer.specs.Fits.{QueueFits}
 use Rattle.sv_sequencer.proofs.FitRelays.{sent-is}
 use Rattle.sv_witness.specs.Reports.{is_by, has_reported, reports_of, agreed_history, agreed_result, agreed_commit, is_due, due_to}
 use Rattle.sv_witness.specs.Kept.{RowView, kept_at, KeepsReports}
@@ -21,7 +21,7 @@ use Rattle.sv_witness.proofs.Same.{accepted-agreed, sent-agreed}
 pub due-are : (r : Rules) (h : List Entry) (v : QueueView) (rows : List RowView) (k s : ℕ) → s < 64 → client_of h s ≡ Some k → KeepsReports rows h →
     v.commit ≡ agreed_commit h →
     ((t q : ℕ) → is_in q (sent_to (agreed_history h) t) ≡ true → q ≤ length (accepted (agreed_history h))) →
-    Fits r.world (accepted (agreed_history h)) (result_at (agreed_history h)) (sent_to (agreed_history h)) (named_to (agreed_history h)) v →
+    QueueFits r.world (accepted (agreed_history h)) (result_at (agreed_history h)) (sent_to (agreed_history h)) (named_to (agreed_history h)) v →
     due_in v rows k s ≡ due_to h s
 due-are r h v rows k s small client kept at within f =
     ap (λ n. filter (is_due_in v rows k s) (below (suc n))) (f.last ∙ ap (λ (A : List Authored). length A) (accepted-agreed h))

@@ -8,7 +8,7 @@ use Rattle.sv_journal.specs.declared.entry.Entry.{Entry}
 use Rattle.sv_journal.specs.History.{is_noted, client_of, reports, commit_of}
 use Rattle.sv_system.proofs.Histories.{IsEarlier, same, after}
 use Rattle.sv_witness.specs.declared.report.Report.{Report}
-use Rattle.sv_witness.specs.Reports.{is_by, with_report, counted_in, reports_of, agreed_history}
+use Rattle.sv_witness.specs.Reports.{is_by, with_first_report, counted_in, reports_of, agreed_history}
 use Rattle.sv_witness.specs.Agreement.{IsAmong, here, there}
 use Rattle.sv_witness.specs.Honesty.{IsEntryOf, last, earlier, IsReported}
 
@@ -23,7 +23,7 @@ among-none : (r : Report) (all : List Report) → IsAmong r all → all ≡ [] �
 among-none r whole (here {rs = ys}) is = cc
 among-none r whole (there {x = y} {rs = ys} m) is = cc
 
-report-is : (client : Option ℕ) (v : Values) (rs : List Report) (r : Report) → IsAmong r (with_report client v rs) →
+report-is : (client : Option ℕ) (v : Values) (rs : List Report) (r : Report) → IsAmong r (with_first_report client v rs) →
     IsAmong r rs ⊎ ((client ≡ Some r.client.0) × (v ≡ Some r.values))
 report-is None v rs r m = inl m
 report-is (Some k) None rs r m = inl m

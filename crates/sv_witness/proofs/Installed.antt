@@ -11,13 +11,13 @@ use Rattle.sv_journal.specs.Serving.{noted_after}
 use Rattle.sv_sequencer.specs.declared.answer.Answer.{Answer}
 use Rattle.sv_sequencer.specs.declared.decision.Decision.TheVariants as decisions
 use Rattle.sv_sequencer.specs.declared.server_core.Core.{Core}
-use Rattle.sv_sequencer.specs.Cores.{rules_of, queue_of, Keeps, CarriedOut}
+use Rattle.sv_sequencer.specs.Cores.{core_rules, queue_of, Keeps, CarriedOut}
 use Rattle.sv_sequencer.specs.Decisions.{results_in}
 use Rattle.sv_sequencer.specs.Step.{entry_of}
 use Rattle.sv_witness.specs.declared.report.Dispute.{Dispute}
 use Rattle.sv_witness.specs.Reports.{agreed_history, agreed_commit}
 use Rattle.sv_witness.specs.Disputes.{with_disputes}
-use Rattle.sv_witness.specs.Kept.{RowView, kept_at, counts, counted_results, AreOnce, with_values, agreed_results, new_disputes}
+use Rattle.sv_witness.specs.Kept.{RowView, kept_at, counts_as_report, counted_results, AreOnce, with_values, agreed_results, new_disputes}
 use Rattle.sv_witness.specs.Standing.{Standing, Replied}
 use Rattle.sv_witness.specs.Witnessed.{agreed, witnessed_reply}
 use Rattle.sv_witness.proofs.Noted.{once-filter}
@@ -26,7 +26,7 @@ use Rattle.sv_witness.proofs.Steps.{once, agreed-good}
 
 module _ (old : Core) (rows : List RowView) (ds : List Dispute) (h : List Entry) (s k : ℕ) (q : Request) (counted brought : List Done1) (made : List Dispute)
     (is : Standing old rows ds h) (joined : client_of h s ≡ Some k) (done : q ≡ requests.Done (results_in q))
-    (good : is_bad_done (rules_of old) (agreed_history h) s (results_in q) ≡ false) (reply : witnessed_reply (rules_of old) h s q ≡ noted_after agreed h s q)
+    (good : is_bad_done (core_rules old) (agreed_history h) s (results_in q) ≡ false) (reply : witnessed_reply (core_rules old) h s q ≡ noted_after agreed h s q)
     (are_counted : counted ≡ counted_results (queue_of old).commit rows k (results_in q)) (are_brought : brought ≡ agreed_results (queue_of old) rows counted)
     (are_made : made ≡ new_disputes rows k counted) where
   count : counted ≡ counted_results (agreed_commit h) rows k (results_in q)
@@ -35,21 +35,21 @@ module _ (old : Core) (rows : List RowView) (ds : List Dispute) (h : List Entry)
   bring : brought ≡ agreed_results (queue_of old) rows (counted_results (agreed_commit h) rows k (results_in q))
   bring = are_brought ∙ ap (agreed_results (queue_of old) rows) count
 
-  pub install-good : list_any (is_bad_result (rules_of old) (agreed_history h) s) brought ≡ false
+  pub install-good : list_any (is_bad_result (core_rules old) (agreed_history h) s) brought ≡ false
   install-good =
-      subst (λ (l : List Done1). list_any (is_bad_result (rules_of old) (agreed_history h) s) l ≡ false) (sym bring)
-      (agreed-good (rules_of old) h s k (results_in q) joined good rows (queue_of old))
+      subst (λ (l : List Done1). list_any (is_bad_result (core_rules old) (agreed_history h) s) l ≡ false) (sym bring)
+      (agreed-good (core_rules old) h s k (results_in q) joined good rows (queue_of old))
 
   pub install-once : AreOnce counted
-  install-once = subst AreOnce (sym count) (once-filter (λ p. counts (agreed_commit h) rows k p) (results_in q) (once (rules_of old) h s k (results_in q) joined good))
+  install-once = subst AreOnce (sym count) (once-filter (λ p. counts_as_report (agreed_commit h) rows k p) (results_in q) (once (core_rules old) h s k (results_in q) joined good))
 
   module _ (core : Core) (x : Answer) (carried : CarriedOut old core (agreed_history h) s (requests.Done brought) decisions.Note x) where
     agreed-carried : CarriedOut old core (agreed_history h) s
         (requests.Done (agreed_results (queue_of old) rows (counted_results (agreed_commit h) rows k (results_in q)))) decisions.Note x
     agreed-carried = subst (λ (l : List Done1). CarriedOut old core (agreed_history h) s (requests.Done l) decisions.Note x) bring carried
 
-    done-reply : witnessed_reply (rules_of old) h s (requests.Done (results_in q)) ≡ noted_after agreed h s (requests.Done (results_in q))
-    done-reply = subst (λ (y : Request). witnessed_reply (rules_of old) h s y ≡ noted_after agreed h s y) done reply
+    done-reply : witnessed_reply (core_rules old) h s (requests.Done (results_in q)) ≡ noted_after agreed h s (requests.Done (results_in q))
+    done-reply = subst (λ (y : Request). witnessed_reply (core_rules old) h s y ≡ noted_after agreed h s y) done reply
 
     keeps : Keeps core (agreed_history (entry_of s (requests.Done (results_in q)) x.logged ∷ h))
     keeps = noted-keeps old core rows ds h s k (results_in q) x is joined good done-reply agreed-carried

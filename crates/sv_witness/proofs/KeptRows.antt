@@ -14,7 +14,7 @@ use Rattle.sv_witness.specs.declared.report.Report.{Report}
 use Rattle.sv_witness.specs.declared.report.Dispute.{Dispute}
 use Rattle.sv_witness.specs.Reports.{is_by}
 use Rattle.sv_witness.specs.Disputes.{dispute_in}
-use Rattle.sv_witness.specs.Kept.{RowView, no_row, kept_at, HasRoom, AreOnce, report_by, counts, counted_results, with_values, agrees, brings, agreed_results, new_disputes}
+use Rattle.sv_witness.specs.Kept.{RowView, no_row, kept_at, HasRoomFor, AreOnce, report_by, counts_as_report, counted_results, with_values, agrees, brings, agreed_results, new_disputes}
 
 -- An empty row at the end is as none.
 pub grown : (xs : List RowView) (p : ℕ) → get_or (xs ++ no_row ∷ []) p no_row ≡ get_or xs p no_row
@@ -23,7 +23,7 @@ grown [] (suc p) = refl
 grown (x ∷ xs) zero = refl
 grown (x ∷ xs) (suc p) = grown xs p
 
-pub room-within : (rows : List RowView) (p : ℕ) → HasRoom rows p → p < length rows
+pub room-within : (rows : List RowView) (p : ℕ) → HasRoomFor rows p → p < length rows
 room-within rows p room = elim (cases_lt p (length rows)) [
   | inl low ↦ low
   | inr high ↦
@@ -49,16 +49,16 @@ module _ (rows : List RowView) (place : ℕ) (was now : RowView) (low : place < 
     | inr ne ↦ ap (λ (r : RowView). r.reports) (set-others p ne)
   ]
 
-  pub set-room : was.spare ≤ now.spare → (p : ℕ) → HasRoom rows p → HasRoom (set rows place now) p
+  pub set-room : was.spare ≤ now.spare → (p : ℕ) → HasRoomFor rows p → HasRoomFor (set rows place now) p
   set-room more p room = elim (cases_eq p place) [
     | inl e ↦
-        (let had : 0 < was.spare = subst (λ (r : RowView). 0 < r.spare) (sym is) (subst (λ n. HasRoom rows n) e room) in
+        (let had : 0 < was.spare = subst (λ (r : RowView). 0 < r.spare) (sym is) (subst (λ n. HasRoomFor rows n) e room) in
         let has : 0 < now.spare = omega arith in
-        subst (λ n. HasRoom (set rows place now) n) (sym e) (subst (λ (r : RowView). 0 < r.spare) (sym at_place) has))
+        subst (λ n. HasRoomFor (set rows place now) n) (sym e) (subst (λ (r : RowView). 0 < r.spare) (sym at_place) has))
     | inr ne ↦ subst (λ (r : RowView). 0 < r.spare) (sym (set-others p ne)) room
   ]
 
-  pub set-has : 0 < now.spare → HasRoom (set rows place now) place
+  pub set-has : 0 < now.spare → HasRoomFor (set rows place now) place
   set-has has = subst (λ (r : RowView). 0 < r.spare) (sym at_place) has
 
   pub set-added : (r : Report) → now.reports ≡ r ∷ was.reports → kept_at (set rows place now) place ≡ r ∷ kept_at rows place
@@ -99,7 +99,7 @@ AreOthersSame place old new = (p : ℕ) → (p ≡ place → ⊥) → get_or new
 
 -- A position that has one report more has room no longer, but the others do.
 pub room-others : (old new : List RowView) (place : ℕ) → AreOthersSame place old new → (ds : List Done1) → reported place ds ≡ None →
-    AllByRecursion (λ (d : Done1). HasRoom old d.pos) ds → AllByRecursion (λ (d : Done1). HasRoom new d.pos) ds
+    AllByRecursion (λ (d : Done1). HasRoomFor old d.pos) ds → AllByRecursion (λ (d : Done1). HasRoomFor new d.pos) ds
 room-others old new place others [] none each = tt
 room-others old new place others (d ∷ ds) none each =
     let apart = unreported place d ds none in
@@ -129,9 +129,9 @@ counted-uncommitted v rows k results low = All-from_recursion (λ (d : Done1). I
   where
     go : (ds : List Done1) → AllByRecursion (λ (d : Done1). d.pos ≤ last_position v) ds → AllByRecursion (λ (d : Done1). IsUncommitted v d.pos) (counted_results v.commit rows k ds)
     go [] low = tt
-    go (d ∷ ds) low = one (counts v.commit rows k d.pos) refl (go ds low.1)
+    go (d ∷ ds) low = one (counts_as_report v.commit rows k d.pos) refl (go ds low.1)
       where
-        one : (b : Bool) → counts v.commit rows k d.pos ≡ b → AllByRecursion (λ (x : Done1). IsUncommitted v x.pos) (counted_results v.commit rows k ds) →
+        one : (b : Bool) → counts_as_report v.commit rows k d.pos ≡ b → AllByRecursion (λ (x : Done1). IsUncommitted v x.pos) (counted_results v.commit rows k ds) →
             AllByRecursion (λ (x : Done1). IsUncommitted v x.pos) (if b then d ∷ counted_results v.commit rows k ds else counted_results v.commit rows k ds)
         one true counted rest =
             let both = and_parts (nat_lt v.commit d.pos) (not (list_any (is_by k) (kept_at rows d.pos))) counted in
@@ -150,7 +150,7 @@ filter-same P Q (d ∷ ds) same =
 
 pub same-counted : (rows new : List RowView) → AreSame rows new → (c k : ℕ) (ds : List Done1) → counted_results c new k ds ≡ counted_results c rows k ds
 same-counted rows new same c k ds =
-    filter-same (λ (d : Done1). counts c new k d.pos) (λ (d : Done1). counts c rows k d.pos) ds
+    filter-same (λ (d : Done1). counts_as_report c new k d.pos) (λ (d : Done1). counts_as_report c rows k d.pos) ds
     (λ d. ap (λ (rs : List Report). nat_lt c d.pos && not (list_any (is_by k) rs)) (same d.pos))
 
 pub same-agreed : (rows new : List RowView) → AreSame rows new → (v : QueueView) (ds : List Done1) → agreed_results v new ds ≡ agreed_results v rows ds

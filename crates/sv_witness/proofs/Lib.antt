@@ -1,3 +1,4 @@
+-- The lemmas of this crate, file by file.
 mod Worked
 mod Same
 mod Agreed
@@ -21,8 +22,6 @@ mod Decided
 mod Stepped
 mod Installed
 mod Heard
-mod Sent
-mod Scripts
 mod Sound
 mod Ran
 mod Endings

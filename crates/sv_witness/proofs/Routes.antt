@@ -3,15 +3,17 @@ use Rattle.std.proofs.Common.{◌≡◌, ℕ, suc, ◌<◌, ◌≤◌, Bool, tru
 use Rattle.std.specs.Prelude.{if◌then◌else◌}
 use Rattle.std.proofs.lemmas.Bool.{cond-false, and_parts, ltb-true, or_left, or_right, eq-eqb}
 use Rattle.sv_world.specs.Control.{is_in, below}
+use Rattle.sv_world.specs.Limits.{most_requests}
 use Rattle.sv_world.proofs.Bases.{below-is_in}
 use Rattle.sv_wire.specs.declared.message.Done1.{Done1}
 use Rattle.sv_wire.specs.declared.message.Request.{Request}
 use Rattle.sv_wire.specs.declared.message.Request.TheVariants as requests
+use Rattle.sv_wire.specs.declared.refusal.Refusal.TheVariants as refusals
 use Rattle.sv_journal.specs.declared.entry.Entry.{Entry}
 use Rattle.sv_journal.specs.declared.entry.Logged.TheVariants as logged
 use Rattle.sv_journal.specs.History.{is_noted, client_of, is_client, is_submit_of, new_action, next_seq, accepted, reports}
 use Rattle.sv_journal.specs.Sessions.{is_over, asked_in, sent_to}
-use Rattle.sv_journal.specs.Answer.{Rules, refused, is_bad_done, commit_with, reply_to_member, most_requests, reply_to_request}
+use Rattle.sv_journal.specs.Answer.{Rules, refused_as, is_bad_done, commit_with, reply_to_member, reply_to_request}
 use Rattle.sv_sequencer.specs.declared.decision.Decision.{Decision}
 use Rattle.sv_sequencer.specs.declared.decision.Decision.TheVariants as decisions
 use Rattle.sv_sequencer.specs.Decisions.{reply_by, IsOld}
@@ -31,7 +33,7 @@ IsPlain q decisions.Note = ⊥
 IsPlain q decisions.Idle = ⊥
 IsPlain q (decisions.Relay seq pos) = is_poll q ≡ false
 IsPlain q (decisions.Accept client seq) = is_poll q ≡ false
-IsPlain q (decisions.Refuse code detail) = Unit {0}
+IsPlain q (decisions.Refuse refusal detail) = Unit {0}
 IsPlain q (decisions.Welcome client life) = Unit {0}
 IsPlain q (decisions.Drop client seq chain far) = Unit {0}
 IsPlain q (decisions.Repeat seq chain far) = Unit {0}
@@ -44,7 +46,7 @@ plain-reply r h s q decisions.Note plain = absurd plain
 plain-reply r h s q decisions.Idle plain = absurd plain
 plain-reply r h s q (decisions.Relay seq pos) plain = cond-false (is_poll q) _ _ plain
 plain-reply r h s q (decisions.Accept client seq) plain = cond-false (is_poll q) _ _ plain
-plain-reply r h s q (decisions.Refuse code detail) plain = refl
+plain-reply r h s q (decisions.Refuse refusal detail) plain = refl
 plain-reply r h s q (decisions.Welcome client life) plain = refl
 plain-reply r h s q (decisions.Drop client seq chain far) plain = refl
 plain-reply r h s q (decisions.Repeat seq chain far) plain = refl
@@ -56,7 +58,7 @@ plain-quiet r h s q decisions.Note plain = absurd plain
 plain-quiet r h s q decisions.Idle plain = absurd plain
 plain-quiet r h s q (decisions.Relay seq pos) plain = refl
 plain-quiet r h s q (decisions.Accept client seq) plain = refl
-plain-quiet r h s q (decisions.Refuse code detail) plain = refl
+plain-quiet r h s q (decisions.Refuse refusal detail) plain = refl
 plain-quiet r h s q (decisions.Welcome client life) plain = refl
 plain-quiet r h s q (decisions.Drop client seq chain far) plain = refl
 plain-quiet r h s q (decisions.Repeat seq chain far) plain = refl
@@ -73,12 +75,12 @@ pub noted-may : (r : Rules) (h : List Entry) (s : ℕ) (results : List Done1) �
 noted-may r h s results noted = go (is_over h s) (nat_le most_requests (asked_in h s)) (client_of h s) refl noted
   where
     done : (k : ℕ) → client_of h s ≡ Some k → (c : Bool) → is_bad_done r h s results ≡ c →
-        is_noted (if c then refused 7 0 else logged.Noted (commit_with h s results)) ≡ true → MayReport r h s results
+        is_noted (if c then refused_as refusals.BadResults 0 else logged.Noted (commit_with h s results)) ≡ true → MayReport r h s results
     done k joined true bad n = absurd (true≢false (sym n))
     done k joined false good n = record { client = k; joined = joined; good = good }
 
     go : (a b : Bool) (o : Option ℕ) → client_of h s ≡ o →
-        is_noted (if a then refused 4 0 else if b then refused 9 0 else reply_to_member r h s o (requests.Done results)) ≡ true → MayReport r h s results
+        is_noted (if a then refused_as refusals.Over 0 else if b then refused_as refusals.TooManyRequests 0 else reply_to_member r h s o (requests.Done results)) ≡ true → MayReport r h s results
     go true b o joined n = absurd (true≢false (sym n))
     go false true o joined n = absurd (true≢false (sym n))
     go false false None joined n = absurd (true≢false (sym n))

@@ -9,16 +9,15 @@ use Rattle.sv_journal.specs.declared.entry.Entry.{Entry}
 use Rattle.sv_journal.specs.declared.entry.Logged.{Logged}
 use Rattle.sv_journal.specs.declared.entry.Logged.TheVariants as logged
 use Rattle.sv_journal.specs.History.{is_noted, client_of, accepted, reported, commit_of, full_reply}
-use Rattle.sv_journal.specs.Sessions.{is_end}
+use Rattle.sv_journal.specs.Sessions.{is_end, is_ended}
 use Rattle.sv_journal.specs.View.{JournalView}
 use Rattle.sv_journal.specs.Answer.{Rules, is_bad_done}
 use Rattle.sv_sequencer.specs.declared.answer.Answer.{Answer}
 use Rattle.sv_sequencer.specs.declared.decision.Decision.{Decision}
 use Rattle.sv_sequencer.specs.declared.decision.Decision.TheVariants as decisions
 use Rattle.sv_sequencer.specs.declared.server_core.Core.{Core}
-use Rattle.sv_sequencer.specs.Cores.{rules_of, owed_by, queue_of, Keeps, CarriedOut}
+use Rattle.sv_sequencer.specs.Cores.{core_rules, owed_by, queue_of, Keeps, CarriedOut}
 use Rattle.sv_sequencer.specs.Decisions.{reply_by}
-use Rattle.sv_sequencer.specs.Rows.{is_ended}
 use Rattle.sv_sequencer.specs.Step.{SequencerView, history, entry_of}
 use Rattle.sv_witness.specs.declared.report.Dispute.{Dispute}
 use Rattle.sv_witness.specs.declared.witness.Witness.TheInside.{Inside}
@@ -37,12 +36,12 @@ use Rattle.sv_witness.proofs.Steps.{quiet-stands, quiet-whole, noted-stands, not
 -- The core stands where the entry leads, in which a Done has no results.
 pub after-quiet : (old core : Core) (rows : List RowView) (ds : List Dispute) (h : List Entry) (s : ℕ) (q : Request) (d : Decision) (x : Answer) → Standing old rows ds h →
     CarriedOut old core (agreed_history h) s (emptied q) d x →
-    reply_by (rules_of old) (agreed_history h) s (emptied q) d ≡ witnessed_reply (rules_of old) h s q → is_noted (witnessed_reply (rules_of old) h s q) ≡ false →
+    reply_by (core_rules old) (agreed_history h) s (emptied q) d ≡ witnessed_reply (core_rules old) h s q → is_noted (witnessed_reply (core_rules old) h s q) ≡ false →
     Standing core rows ds (entry_of s q x.logged ∷ h)
 after-quiet old core rows ds h s q d x is done told quiet = record {
   keeps = subst (Keeps core) (ap (λ (w : Logged). entry_of s (emptied q) w ∷ agreed_history h) (sym done.logged) ∙ sym (quiet-entry (entry_of s q x.logged) h silent)) done.keeps;
   stands = subst (λ (r : Rules). Stands r rows ds (entry_of s q x.logged ∷ h)) (sym done.rules)
-      (quiet-stands (rules_of old) rows ds (entry_of s q x.logged) h silent (done.logged ∙ told) is.stands);
+      (quiet-stands (core_rules old) rows ds (entry_of s q x.logged) h silent (done.logged ∙ told) is.stands);
 }
   where
     silent : is_noted x.logged ≡ false
@@ -51,7 +50,7 @@ after-quiet old core rows ds h s q d x is done told quiet = record {
 -- So an entry that is not noted was answered as it should be.
 pub quiet-replied : (old core : Core) (rows : List RowView) (ds : List Dispute) (h : List Entry) (s : ℕ) (q : Request) (d : Decision) (x : Answer) → Standing old rows ds h →
     CarriedOut old core (agreed_history h) s (emptied q) d x →
-    reply_by (rules_of old) (agreed_history h) s (emptied q) d ≡ witnessed_reply (rules_of old) h s q → is_noted (witnessed_reply (rules_of old) h s q) ≡ false →
+    reply_by (core_rules old) (agreed_history h) s (emptied q) d ≡ witnessed_reply (core_rules old) h s q → is_noted (witnessed_reply (core_rules old) h s q) ≡ false →
     Replied old core rows ds h s q x
 quiet-replied old core rows ds h s q d x is done told quiet = record {
   rules = done.rules;
@@ -66,11 +65,11 @@ quiet-replied old core rows ds h s q d x is done told quiet = record {
 
 -- The core stands where a noted Done leads, which in its history has the results that brought agreement.
 module _ (old core : Core) (rows : List RowView) (ds : List Dispute) (h : List Entry) (s k : ℕ) (results : List Done1) (x : Answer) (is : Standing old rows ds h)
-    (joined : client_of h s ≡ Some k) (good : is_bad_done (rules_of old) (agreed_history h) s results ≡ false)
-    (reply : witnessed_reply (rules_of old) h s (requests.Done results) ≡ noted_after agreed h s (requests.Done results))
+    (joined : client_of h s ≡ Some k) (good : is_bad_done (core_rules old) (agreed_history h) s results ≡ false)
+    (reply : witnessed_reply (core_rules old) h s (requests.Done results) ≡ noted_after agreed h s (requests.Done results))
     (done : CarriedOut old core (agreed_history h) s (requests.Done (agreed_results (queue_of old) rows (counted_results (agreed_commit h) rows k results))) decisions.Note x) where
-  told : x.logged ≡ witnessed_reply (rules_of old) h s (requests.Done results)
-  told = done.logged ∙ noted-reply (rules_of old) h s k results joined good rows (queue_of old) is.stands.reports is.keeps.fits is.keeps.commit ∙ sym reply
+  told : x.logged ≡ witnessed_reply (core_rules old) h s (requests.Done results)
+  told = done.logged ∙ noted-reply (core_rules old) h s k results joined good rows (queue_of old) is.stands.reports is.keeps.fits is.keeps.commit ∙ sym reply
 
   abbrev after : ℕ
   after = commit_of (agreed_history (entry_of s (requests.Done results) (logged.Noted 0) ∷ h))
@@ -83,7 +82,7 @@ module _ (old core : Core) (rows : List RowView) (ds : List Dispute) (h : List E
       subst (λ (w : Logged). Keeps core (agreed_history (entry_of s (requests.Done results) w ∷ h))) (sym noted)
       (subst (Keeps core)
       (ap (λ (w : Logged). entry_of s (requests.Done (agreed_results (queue_of old) rows (counted_results (agreed_commit h) rows k results))) w ∷ agreed_history h) (sym done.logged ∙ noted)
-      ∙ sym (noted-entry (rules_of old) h s k results joined good rows (queue_of old) after is.stands.reports is.keeps.fits is.keeps.commit))
+      ∙ sym (noted-entry (core_rules old) h s k results joined good rows (queue_of old) after is.stands.reports is.keeps.fits is.keeps.commit))
       done.keeps)
 
   pub noted-replied : (new : List RowView) →
@@ -96,8 +95,8 @@ module _ (old core : Core) (rows : List RowView) (ds : List Dispute) (h : List E
     standing = record {
       keeps = noted-keeps;
       stands = subst (λ (r : Rules). Stands r new made (entry_of s (requests.Done results) x.logged ∷ h)) (sym done.rules)
-          (subst (λ (w : Logged). Stands (rules_of old) new made (entry_of s (requests.Done results) w ∷ h)) (sym noted)
-          (noted-stands (rules_of old) h s k results joined good rows new ds after (sym noted ∙ told)
+          (subst (λ (w : Logged). Stands (core_rules old) new made (entry_of s (requests.Done results) w ∷ h)) (sym noted)
+          (noted-stands (core_rules old) h s k results joined good rows new ds after (sym noted ∙ told)
           (subst (λ (w : Logged). (p : ℕ) → agreed_commit (entry_of s (requests.Done results) w ∷ h) < p →
           kept_at new p ≡ with_values k (reported p (counted_results (agreed_commit h) rows k results)) (kept_at rows p)) noted now)
           is.stands));
@@ -118,12 +117,12 @@ as-opened core rows ds es none no_rows no_disputes keeps =
     })
 
 -- Once a session had its End.
-pub after-end : (old core : Core) (rows : List RowView) (ds : List Dispute) (h : List Entry) (s : ℕ) → Standing old rows ds h → rules_of core ≡ rules_of old →
+pub after-end : (old core : Core) (rows : List RowView) (ds : List Dispute) (h : List Entry) (s : ℕ) → Standing old rows ds h → core_rules core ≡ core_rules old →
     Keeps core (entry_of s requests.End logged.Bye ∷ agreed_history h) → Standing core rows ds (entry_of s requests.End logged.Bye ∷ h)
 after-end old core rows ds h s is same keeps = record {
   keeps = subst (Keeps core) (sym (quiet-entry (entry_of s requests.End logged.Bye) h refl)) keeps;
   stands = subst (λ (r : Rules). Stands r rows ds (entry_of s requests.End logged.Bye ∷ h)) (sym same)
-      (quiet-stands (rules_of old) rows ds (entry_of s requests.End logged.Bye) h refl refl is.stands);
+      (quiet-stands (core_rules old) rows ds (entry_of s requests.End logged.Bye) h refl refl is.stands);
 }
 
 -- ---- Ends
@@ -139,7 +138,7 @@ end-with test requests.End = refl
 
 pub ended-agreed : (h : List Entry) (s : ℕ) → is_ended (agreed_history h) s ≡ is_ended h s
 ended-agreed [] s = refl
-ended-agreed (e ∷ h) s = ap₂ (λ (a b : Bool). a || (e.session == s && b)) (ended-agreed h s) (end-with _ e.request)
+ended-agreed (e ∷ h) s = ap₂ (λ (a b : Bool). (e.session == s && a) || b) (end-with _ e.request) (ended-agreed h s)
 
 -- ---- The fields
 
@@ -153,35 +152,35 @@ same-stands r rows new ds h same is = record {
 }
 
 -- A server's fields stand for a history that its caller names.
-pub stands-for : (a : Inside) (v : SequencerView) (h : List Entry) → IsWitness a → view_of a ≡ v → h ≡ history v → Standing a.core a.reports a.disputes.items h
+pub stands-for : (a : Inside) (v : SequencerView) (h : List Entry) → IsWitness a → view_of a ≡ v → h ≡ history v → Standing a.core a.testimony.reports a.testimony.disputes.items h
 stands-for a v h is view past =
-    subst (λ (l : List Entry). Standing a.core a.reports a.disputes.items l) (ap history view ∙ sym past) (record { keeps = is.keeps; stands = is.stands })
+    subst (λ (l : List Entry). Standing a.core a.testimony.reports a.testimony.disputes.items l) (ap history view ∙ sym past) (record { keeps = is.keeps; stands = is.stands })
 
 -- A request that is not noted was answered, by a server whose history its caller names.
 pub kept-replied : (a : Inside) (core : Core) (h : List Entry) (v : SequencerView) (s : ℕ) (q : Request) (d : Decision) (x : Answer) → IsWitness a → view_of a ≡ v → h ≡ history v →
     CarriedOut a.core core (agreed_history h) s (emptied q) d x →
     reply_by v.rules (agreed_history h) s (emptied q) d ≡ witnessed_reply v.rules h s q → is_noted (witnessed_reply v.rules h s q) ≡ false →
-    Replied a.core core a.reports a.disputes.items (reverse a.journal.entries) s q x
+    Replied a.core core a.testimony.reports a.testimony.disputes.items (reverse a.journal.entries) s q x
 kept-replied a core h v s q d x is view past done told quiet =
-    subst (λ (l : List Entry). Replied a.core core a.reports a.disputes.items l s q x) (past ∙ sym (ap history view))
-    (quiet-replied a.core core a.reports a.disputes.items h s q d x (stands-for a v h is view past) done
+    subst (λ (l : List Entry). Replied a.core core a.testimony.reports a.testimony.disputes.items l s q x) (past ∙ sym (ap history view))
+    (quiet-replied a.core core a.testimony.reports a.testimony.disputes.items h s q d x (stands-for a v h is view past) done
     (subst (λ (w : SequencerView). reply_by w.rules (agreed_history h) s (emptied q) d ≡ witnessed_reply w.rules h s q) (sym view) told)
     (subst (λ (w : SequencerView). is_noted (witnessed_reply w.rules h s q) ≡ false) (sym view) quiet))
 
 -- Nothing changed but room.
-pub still : (a b : Inside) → IsWitness a → rules_of b.core ≡ rules_of a.core → owed_by b.core ≡ owed_by a.core → Keeps b.core (agreed_history (reverse a.journal.entries)) →
-    b.journal.entries ≡ a.journal.entries → a.journal.spare ≤ b.journal.spare → AreSame a.reports b.reports → b.disputes.items ≡ a.disputes.items → IsWitness b
+pub still : (a b : Inside) → IsWitness a → core_rules b.core ≡ core_rules a.core → owed_by b.core ≡ owed_by a.core → Keeps b.core (agreed_history (reverse a.journal.entries)) →
+    b.journal.entries ≡ a.journal.entries → a.journal.spare ≤ b.journal.spare → AreSame a.testimony.reports b.testimony.reports → b.testimony.disputes.items ≡ a.testimony.disputes.items → IsWitness b
 still a b is rules owed keeps entries spare rows disputes = record {
   keeps = subst (λ (es : List Entry). Keeps b.core (agreed_history (reverse es))) (sym entries) keeps;
-  stands = subst (λ (es : List Entry). Stands (rules_of b.core) b.reports b.disputes.items (reverse es)) (sym entries)
-      (subst (λ (r : Rules). Stands r b.reports b.disputes.items (reverse a.journal.entries)) (sym rules)
-      (subst (λ (ds : List Dispute). Stands (rules_of a.core) b.reports ds (reverse a.journal.entries)) (sym disputes)
-      (same-stands (rules_of a.core) a.reports b.reports a.disputes.items (reverse a.journal.entries) rows is.stands)));
+  stands = subst (λ (es : List Entry). Stands (core_rules b.core) b.testimony.reports b.testimony.disputes.items (reverse es)) (sym entries)
+      (subst (λ (r : Rules). Stands r b.testimony.reports b.testimony.disputes.items (reverse a.journal.entries)) (sym rules)
+      (subst (λ (ds : List Dispute). Stands (core_rules a.core) b.testimony.reports ds (reverse a.journal.entries)) (sym disputes)
+      (same-stands (core_rules a.core) a.testimony.reports b.testimony.reports a.testimony.disputes.items (reverse a.journal.entries) rows is.stands)));
   room = (let enough : owed_by a.core ≤ a.journal.spare = is.room in omega arith);
 }
 
 -- A request was answered, and its entry is in the journal.
-module _ (a b : Inside) (m : JournalView) (s : ℕ) (q copy : Request) (x : Answer) (done : Replied a.core b.core b.reports b.disputes.items (reverse a.journal.entries) s q x)
+module _ (a b : Inside) (m : JournalView) (s : ℕ) (q copy : Request) (x : Answer) (done : Replied a.core b.core b.testimony.reports b.testimony.disputes.items (reverse a.journal.entries) s q x)
     (same : m.entries ≡ a.journal.entries) (is : copy ≡ q)
     (put : b.journal ≡ record { entries = m.entries ++ entry_of s copy x.logged ∷ []; spare = m.spare - 1 }) where
   entries : b.journal.entries ≡ a.journal.entries ++ entry_of s q x.logged ∷ []
@@ -193,7 +192,7 @@ module _ (a b : Inside) (m : JournalView) (s : ℕ) (q copy : Request) (x : Answ
   pub entered : owed_by a.core + 1 ≤ m.spare → IsWitness b
   entered room = record {
     keeps = subst (λ (l : List Entry). Keeps b.core (agreed_history l)) (sym past) done.standing.keeps;
-    stands = subst (λ (l : List Entry). Stands (rules_of b.core) b.reports b.disputes.items l) (sym past) done.standing.stands;
+    stands = subst (λ (l : List Entry). Stands (core_rules b.core) b.testimony.reports b.testimony.disputes.items l) (sym past) done.standing.stands;
     room = (let owed : owed_by b.core ≡ owed_by a.core = done.owed in
         let left : b.journal.spare ≡ m.spare - 1 = ap (λ (j : JournalView). j.spare) put in
         omega arith);

@@ -15,7 +15,7 @@ use Rattle.sv_journal.specs.declared.entry.Logged.TheVariants as logged
 use Rattle.sv_journal.specs.History.{Authored, is_noted, client_of, accepted, actions_of, reported, result_at, commit_of, full_reply}
 use Rattle.sv_journal.specs.Sessions.{sent_to, named_to}
 use Rattle.sv_journal.specs.Answer.{Rules, is_bad_result, is_bad_done, commit_with, relay_of, reply_to_poll}
-use Rattle.sv_sequencer.specs.Fits.{Fits}
+use Rattle.sv_sequencer.specs.Fits.{QueueFits}
 use Rattle.sv_sequencer.specs.Step.{entry_of}
 use Rattle.sv_witness.specs.declared.report.Dispute.{Dispute}
 use Rattle.sv_witness.specs.Reports.{agreed_history, agreed_result, agreed_commit, due_to}
@@ -124,7 +124,7 @@ module _ (r : Rules) (h : List Entry) (s k : ℕ) (results : List Done1) (joined
             ∙ sym (disputes-noted rows e h k results refl refl joined is.reports once all-low);
       }
 
-  known : (v : QueueView) → Fits r.world (accepted (agreed_history h)) (result_at (agreed_history h)) (sent_to (agreed_history h)) (named_to (agreed_history h)) v →
+  known : (v : QueueView) → QueueFits r.world (accepted (agreed_history h)) (result_at (agreed_history h)) (sent_to (agreed_history h)) (named_to (agreed_history h)) v →
       v.commit ≡ agreed_commit h → (ds : List Done1) → AllByRecursion (λ (d : Done1). d.pos ≤ length (accepted (agreed_history h))) ds →
       AllByRecursion (λ (d : Done1). agreed_commit h < d.pos → (entry_at v d.pos).result ≡ agreed_result h d.pos) ds
   known v f at [] low = tt
@@ -132,7 +132,7 @@ module _ (r : Rules) (h : List Entry) (s k : ℕ) (results : List Done1) (joined
 
   -- The history of what was agreed has of it the results that brought agreement.
   pub noted-entry : (rows : List RowView) (v : QueueView) (c : ℕ) → KeepsReports rows h →
-      Fits r.world (accepted (agreed_history h)) (result_at (agreed_history h)) (sent_to (agreed_history h)) (named_to (agreed_history h)) v → v.commit ≡ agreed_commit h →
+      QueueFits r.world (accepted (agreed_history h)) (result_at (agreed_history h)) (sent_to (agreed_history h)) (named_to (agreed_history h)) v → v.commit ≡ agreed_commit h →
       agreed_history (entry_of s (requests.Done results) (logged.Noted c) ∷ h)
       ≡ entry_of s (requests.Done (agreed_results v rows (counted_results (agreed_commit h) rows k results))) (logged.Noted c) ∷ agreed_history h
   noted-entry rows v c kept f at =
@@ -141,7 +141,7 @@ module _ (r : Rules) (h : List Entry) (s k : ℕ) (results : List Done1) (joined
 
   -- So the commit that the core notes is the one that the server notes.
   pub noted-reply : (rows : List RowView) (v : QueueView) → KeepsReports rows h →
-      Fits r.world (accepted (agreed_history h)) (result_at (agreed_history h)) (sent_to (agreed_history h)) (named_to (agreed_history h)) v → v.commit ≡ agreed_commit h →
+      QueueFits r.world (accepted (agreed_history h)) (result_at (agreed_history h)) (sent_to (agreed_history h)) (named_to (agreed_history h)) v → v.commit ≡ agreed_commit h →
       logged.Noted (commit_with (agreed_history h) s (agreed_results v rows (counted_results (agreed_commit h) rows k results))) ≡ noted_after agreed h s (requests.Done results)
   noted-reply rows v kept f at = sym (ap (λ (g : List Entry). logged.Noted (commit_of g)) (noted-entry rows v 0 kept f at))
 

@@ -11,7 +11,7 @@ use Rattle.sv_journal.specs.declared.entry.Entry.{Entry}
 use Rattle.sv_journal.specs.History.{either, client_of, commit_of}
 use Rattle.sv_client.specs.Same.{are_same_values}
 use Rattle.sv_witness.specs.declared.report.Report.{Report}
-use Rattle.sv_witness.specs.Reports.{is_by, gives, with_report, counted_in, is_nothing, agreed_values, reports_of, agreed_history}
+use Rattle.sv_witness.specs.Reports.{is_by, gives, with_first_report, counted_in, is_nothing, agreed_values, reports_of, agreed_history}
 use Rattle.sv_witness.specs.Agreement.{IsAmong, here, there, AreTwo, TwoAgree}
 
 -- ---- Values that are the same
@@ -53,7 +53,7 @@ abbrev pub AreOfDifferent : List Report → Type 0
 AreOfDifferent [] = Unit {0}
 AreOfDifferent (r ∷ rs) = (list_any (is_by r.client.0) rs ≡ false) × AreOfDifferent rs
 
-different-with : (client : Option ℕ) (v : Option (List (List ℤ))) (rs : List Report) → AreOfDifferent rs → AreOfDifferent (with_report client v rs)
+different-with : (client : Option ℕ) (v : Option (List (List ℤ))) (rs : List Report) → AreOfDifferent rs → AreOfDifferent (with_first_report client v rs)
 different-with None v rs d = d
 different-with (Some k) None rs d = d
 different-with (Some k) (Some vs) rs d = go (list_any (is_by k) rs) refl

@@ -9,7 +9,7 @@ use Rattle.sv_journal.specs.History.{client_of, reports, commit_of}
 use Rattle.sv_system.specs.Journals.{serial_result, ResultsAreSerial}
 use Rattle.sv_system.proofs.Histories.{IsEarlier, same, after, earlier-then, earlier-rest}
 use Rattle.sv_witness.specs.declared.report.Report.{Report}
-use Rattle.sv_witness.specs.Reports.{is_by, with_report, counted_in, reports_of, agreed_history, agreed_commit}
+use Rattle.sv_witness.specs.Reports.{is_by, with_first_report, counted_in, reports_of, agreed_history, agreed_commit}
 use Rattle.sv_witness.specs.Agreement.{IsAmong, there}
 use Rattle.sv_witness.specs.Disputes.{disputes_of, NamesClient}
 use Rattle.sv_witness.specs.Honesty.{AllGiveBut, NoneGiveNone}
@@ -19,7 +19,7 @@ use Rattle.sv_witness.proofs.Honest.{report-reported, entry-earlier}
 
 -- ---- Reports stay
 
-among-with : (client : Option ℕ) (v : Option (List (List ℤ))) (rs : List Report) (r : Report) → IsAmong r rs → IsAmong r (with_report client v rs)
+among-with : (client : Option ℕ) (v : Option (List (List ℤ))) (rs : List Report) (r : Report) → IsAmong r rs → IsAmong r (with_first_report client v rs)
 among-with None v rs r m = m
 among-with (Some k) None rs r m = m
 among-with (Some k) (Some vs) rs r m = go (list_any (is_by k) rs)

@@ -1,16 +1,16 @@
 -- What a witnessing server's fields keep.
 use Rattle.std.specs.Prelude.{◌≤◌, reverse}
-use Rattle.sv_sequencer.specs.Cores.{rules_of, owed_by, Keeps}
+use Rattle.sv_sequencer.specs.Cores.{core_rules, owed_by, Keeps}
 use Rattle.sv_sequencer.specs.Step.{SequencerView}
 use Rattle.sv_witness.specs.declared.witness.Witness.TheInside.{Inside}
 use Rattle.sv_witness.specs.Reports.{agreed_history}
 use Rattle.sv_witness.specs.Kept.{Stands}
 
 abbrev pub view_of : Inside → SequencerView
-view_of a = record { rules = rules_of a.core; journal = a.journal }
+view_of a = record { rules = core_rules a.core; journal = a.journal }
 
 -- The core stands where the history of what was agreed leads, what is kept beside it stands by the journal, and there is room for the Ends to come.
 pub record IsWitness (a : Inside) : Type 0 where
   pub keeps : Keeps a.core (agreed_history (reverse a.journal.entries))
-  pub stands : Stands (rules_of a.core) a.reports a.disputes.items (reverse a.journal.entries)
+  pub stands : Stands (core_rules a.core) a.testimony.reports a.testimony.disputes.items (reverse a.journal.entries)
   pub room : owed_by a.core ≤ a.journal.spare

@@ -27,8 +27,8 @@ no_row = record { reports = []; spare = 0 }
 abbrev pub kept_at : List RowView → ℕ → List Report
 kept_at rows p = (slice_index_or rows p no_row).reports
 
-abbrev pub HasRoom : List RowView → ℕ → Type 0
-HasRoom rows p = 0 < (slice_index_or rows p no_row).spare
+abbrev pub HasRoomFor : List RowView → ℕ → Type 0
+HasRoomFor rows p = 0 < (slice_index_or rows p no_row).spare
 
 -- The rows keep the reports of each position above the commit. Those of a committed position change nothing any more, and may be gone.
 abbrev pub KeepsReports : List RowView → List Entry → Type 0
@@ -40,11 +40,11 @@ abbrev pub report_by : ℕ → List (List ℤ) → Report
 report_by k values = record { client = record { 0 = k }; values = values }
 
 -- A client's result of a position counts as its report: the position is above the commit, and the client has not reported it.
-abbrev pub counts : ℕ → List RowView → ℕ → ℕ → Bool
-counts commit rows k p = nat_lt commit p && not (list_any (is_by k) (kept_at rows p))
+abbrev pub counts_as_report : ℕ → List RowView → ℕ → ℕ → Bool
+counts_as_report commit rows k p = nat_lt commit p && not (list_any (is_by k) (kept_at rows p))
 
 abbrev pub counted_results : ℕ → List RowView → ℕ → List Done1 → List Done1
-counted_results commit rows k results = filter (λ (d : Done1). counts commit rows k d.pos) results
+counted_results commit rows k results = filter (λ (d : Done1). counts_as_report commit rows k d.pos) results
 
 -- No position has two of the results.
 abbrev pub AreOnce : List Done1 → Type 0

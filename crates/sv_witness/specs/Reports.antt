@@ -25,9 +25,9 @@ has_reported rs None = false
 has_reported rs (Some k) = list_any (is_by k) rs
 
 -- The reports of a position once a client gives values for it: each client's first report stands, and no other of it.
-abbrev pub with_report : Option ℕ → Option (List (List ℤ)) → List Report → List Report
-with_report (Some k) (Some values) rs = if list_any (is_by k) rs then rs else record { client = record { 0 = k }; values = values } ∷ rs
-with_report _ _ rs = rs
+abbrev pub with_first_report : Option ℕ → Option (List (List ℤ)) → List Report → List Report
+with_first_report (Some k) (Some values) rs = if list_any (is_by k) rs then rs else record { client = record { 0 = k }; values = values } ∷ rs
+with_first_report _ _ rs = rs
 
 -- The values that an entry gives for a position: it is a Done that was noted, and the position was above the commit.
 abbrev pub counted_in : ℕ → ℕ → Entry → Option (List (List ℤ))
@@ -47,13 +47,13 @@ agreed_values (r ∷ rs) = either (agreed_values rs) (if is_nothing r.values || 
 
 -- The reports have no result yet, and have one once the client gives these values.
 abbrev pub brings_agreement : Option ℕ → Option (List (List ℤ)) → List Report → Bool
-brings_agreement client values rs = is_none (agreed_values rs) && is_some (agreed_values (with_report client values rs))
+brings_agreement client values rs = is_none (agreed_values rs) && is_some (agreed_values (with_first_report client values rs))
 
 abbrev mutual
   -- The reports of a position that count: the first of each client, over all its sessions, that came while the position was above the commit.
   pub reports_of : List Entry → ℕ → List Report
   reports_of [] p = []
-  reports_of (e ∷ h) p = with_report (client_of h e.session) (counted_in (commit_of (agreed_history h)) p e) (reports_of h p)
+  reports_of (e ∷ h) p = with_first_report (client_of h e.session) (counted_in (commit_of (agreed_history h)) p e) (reports_of h p)
 
   -- The history of what was agreed: the same entries, but each Done has just those of its results that brought agreement. So what the history
   -- of any server says of its results, its commit and its committed world, this one says of what two clients agree on.

@@ -10,7 +10,7 @@ use Rattle.sv_sequencer.specs.declared.answer.Answer.{Answer}
 use Rattle.sv_sequencer.specs.declared.decision.Decision.{Decision}
 use Rattle.sv_sequencer.specs.declared.decision.Decision.TheVariants as decisions
 use Rattle.sv_sequencer.specs.declared.server_core.Core.{Core}
-use Rattle.sv_sequencer.specs.Cores.{rules_of, owed_by, Keeps}
+use Rattle.sv_sequencer.specs.Cores.{core_rules, owed_by, Keeps}
 use Rattle.sv_sequencer.specs.Step.{entry_of}
 use Rattle.sv_witness.specs.declared.report.Dispute.{Dispute}
 use Rattle.sv_witness.specs.Reports.{agreed_history}
@@ -40,12 +40,12 @@ first_of (p ∷ ps) = decisions.Relay 0 p
 -- Of a journal with these entries the core stands where the history of what was agreed leads, and all that is kept beside it stands.
 pub record Standing (core : Core) (rows : List RowView) (disputes : List Dispute) (h : List Entry) : Type 0 where
   pub keeps : Keeps core (agreed_history h)
-  pub stands : Stands (rules_of core) rows disputes h
+  pub stands : Stands (core_rules core) rows disputes h
 
 -- A request was answered by the witnessed reply, in full, and all that is kept stands by its entry. The journal has still to get that.
 pub record Replied (old new : Core) (rows : List RowView) (disputes : List Dispute) (h : List Entry) (s : ℕ) (request : Request) (answer : Answer) : Type 0 where
-  pub rules : rules_of new ≡ rules_of old
+  pub rules : core_rules new ≡ core_rules old
   pub owed : owed_by new ≡ owed_by old
   pub standing : Standing new rows disputes (entry_of s request answer.logged ∷ h)
-  pub logged : answer.logged ≡ witnessed_reply (rules_of old) h s request
+  pub logged : answer.logged ≡ witnessed_reply (core_rules old) h s request
   pub whole : answer.reply ≡ full_reply (accepted (entry_of s request answer.logged ∷ h)) answer.logged

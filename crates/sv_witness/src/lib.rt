@@ -14,6 +14,7 @@ mod reports;
 mod running;
 mod sessions;
 mod step;
+mod testimony;
 mod top;
 mod witness;
 mod words;

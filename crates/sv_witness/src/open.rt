@@ -1,7 +1,10 @@
+//! How a witnessing server is opened.
 ghost use Rattle.std.specs.Prelude.{◌≡◌, ◌≤◌, [], IfOk, IfSome};
-ghost use Rattle.sv_queue.specs.Worlds.{IsGoodWorld};
+ghost use Rattle.sv_world.specs.Limits.{most_bound, most_reach, most_sessions};
+ghost use Rattle.sv_world.specs.Worlds.{IsGoodWorld};
 
 use crate::reports::Reports;
+use crate::testimony::Testimony;
 use crate::witness::Witness;
 use std::alloc::{AllocError, Global};
 use sv_journal::Journal;
@@ -21,10 +24,10 @@ impl Witness {
         sessions: u16,
     ) -> Result<Witness, AllocError>
         requires world { IsGoodWorld world }
-        requires bound { bound ≤ 32 }
-        requires reach { IfSome reach (λ far. far ≤ 2000000) }
+        requires bound { bound ≤ most_bound }
+        requires reach { IfSome reach (λ far. far ≤ most_reach) }
         requires some { 1 ≤ sessions }
-        requires few { sessions ≤ 64 }
+        requires few { sessions ≤ most_sessions }
         ensures rules { IfOk result (λ s. s.rules ≡ record { world = world; bound = bound; reach = reach; sessions = sessions }) }
         ensures empty { IfOk result (λ s. s.journal.entries ≡ []) }
     {
@@ -35,8 +38,10 @@ impl Witness {
             alloc,
             core,
             journal,
-            reports: Reports::new(alloc),
-            disputes: Vec::new(alloc),
+            testimony: Testimony {
+                reports: Reports::new(alloc),
+                disputes: Vec::new(alloc),
+            },
         })
     }
 }

@@ -1,3 +1,4 @@
+//! Reports, and disputes between two of them.
 use sv_world::{ClientId, List, Value};
 
 /// What a client reported of a position.

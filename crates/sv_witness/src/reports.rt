@@ -5,7 +5,7 @@ ghost use Rattle.sv_wire.specs.declared.message.Done1.{Done1};
 ghost use Rattle.sv_journal.specs.History.{reported};
 ghost use Rattle.sv_client.specs.Same.{are_same_values};
 ghost use Rattle.sv_witness.specs.Reports.{is_by, gives, is_nothing};
-ghost use Rattle.sv_witness.specs.Kept.{no_row, kept_at, HasRoom, AreOnce, report_by, with_values, agrees};
+ghost use Rattle.sv_witness.specs.Kept.{no_row, kept_at, HasRoomFor, AreOnce, report_by, with_values, agrees};
 
 use crate::report::Report;
 use std::alloc::{AllocError, Global};
@@ -127,15 +127,15 @@ impl Reports {
     /// Makes room for one more report of a position.
     pub fn reserve(&mut self, pos: u32) -> Result<(), AllocError>
         ensures same { (p : ℕ) → kept_at self.new p ≡ kept_at self.old p }
-        ensures room { (p : ℕ) → HasRoom self.old p → HasRoom self.new p }
-        ensures ok { OnOk result (HasRoom self.new pos) }
+        ensures room { (p : ℕ) → HasRoomFor self.old p → HasRoomFor self.new p }
+        ensures ok { OnOk result (HasRoomFor self.new pos) }
     {
         reserve_at(self.alloc, &mut self.rows, pos as usize)
     }
 
     /// Adds a report of a position. It takes no memory.
     pub fn add(&mut self, pos: u32, report: Report)
-        requires { HasRoom self.old pos }
+        requires { HasRoomFor self.old pos }
         ensures added { kept_at self.new pos ≡ report ∷ kept_at self.old pos }
         ensures others { (p : ℕ) → (p ≡ pos → ⊥) → slice_index_or self.new p no_row ≡ slice_index_or self.old p no_row }
     {
@@ -164,8 +164,8 @@ fn make_rows(alloc: Global, rows: &mut Vec<Row>, count: usize) -> Result<(), All
 fn reserve_at(alloc: Global, rows: &mut Vec<Row>, place: usize) -> Result<(), AllocError>
     requires { place < 4294967296 }
     ensures same { (p : ℕ) → kept_at rows.new.items p ≡ kept_at rows.old.items p }
-    ensures room { (p : ℕ) → HasRoom rows.old.items p → HasRoom rows.new.items p }
-    ensures ok { OnOk result (HasRoom rows.new.items place) }
+    ensures room { (p : ℕ) → HasRoomFor rows.old.items p → HasRoomFor rows.new.items p }
+    ensures ok { OnOk result (HasRoomFor rows.new.items place) }
 {
     make_rows(alloc, rows, place + 1)?;
     let row = &mut rows[place];
@@ -173,7 +173,7 @@ fn reserve_at(alloc: Global, rows: &mut Vec<Row>, place: usize) -> Result<(), Al
 }
 
 fn add_at(rows: &mut Vec<Row>, place: usize, report: Report)
-    requires { HasRoom rows.old.items place }
+    requires { HasRoomFor rows.old.items place }
     ensures added { kept_at rows.new.items place ≡ report ∷ kept_at rows.old.items place }
     ensures others { (p : ℕ) → (p ≡ place → ⊥) → slice_index_or rows.new.items p no_row ≡ slice_index_or rows.old.items p no_row }
 {
@@ -238,8 +238,8 @@ pub fn are_same_values(values: &[Value], others: &[Value]) -> bool
 /// Makes room for a report of each result's position.
 pub fn reserve_all(reports: &mut Reports, results: &[Done1]) -> Result<(), AllocError>
     ensures same { (p : ℕ) → kept_at reports.new p ≡ kept_at reports.old p }
-    ensures room { (p : ℕ) → HasRoom reports.old p → HasRoom reports.new p }
-    ensures ok { OnOk result (AllByRecursion (λ (d : Done1). HasRoom reports.new d.pos) results.now) }
+    ensures room { (p : ℕ) → HasRoomFor reports.old p → HasRoomFor reports.new p }
+    ensures ok { OnOk result (AllByRecursion (λ (d : Done1). HasRoomFor reports.new d.pos) results.now) }
 {
     let [first, rest @ ..] = results else {
         return Ok(());
@@ -251,7 +251,7 @@ pub fn reserve_all(reports: &mut Reports, results: &[Done1]) -> Result<(), Alloc
 /// Keeps a client's results as its reports. It takes no memory.
 pub fn add_all(reports: &mut Reports, client: u16, results: Vec<Done1>)
     requires once { AreOnce results.items }
-    requires room { AllByRecursion (λ (d : Done1). HasRoom reports.old d.pos) results.items }
+    requires room { AllByRecursion (λ (d : Done1). HasRoomFor reports.old d.pos) results.items }
     ensures { (p : ℕ) → kept_at reports.new p ≡ with_values client (reported p results.items) (kept_at reports.old p) }
 {
     let mut left = results.into_iter();
@@ -261,7 +261,7 @@ pub fn add_all(reports: &mut Reports, client: u16, results: Vec<Done1>)
 }
 
 fn add_result(reports: &mut Reports, client: u16, found: Done1)
-    requires { HasRoom reports.old found.pos }
+    requires { HasRoomFor reports.old found.pos }
     ensures added { kept_at reports.new found.pos ≡ report_by client found.values ∷ kept_at reports.old found.pos }
     ensures others { (p : ℕ) → (p ≡ found.pos → ⊥) → slice_index_or reports.new p no_row ≡ slice_index_or reports.old p no_row }
 {

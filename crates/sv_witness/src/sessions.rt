@@ -1,7 +1,7 @@
 //! What a witnessing server tells of its sessions and of the order of actions.
 ghost use Rattle.std.specs.Prelude.{◌≡◌, ◌<◌, length};
 ghost use Rattle.sv_journal.specs.History.{accepted, client_of};
-ghost use Rattle.sv_sequencer.specs.Rows.{is_ended};
+ghost use Rattle.sv_journal.specs.Sessions.{is_ended};
 ghost use Rattle.sv_sequencer.specs.Step.{history};
 
 use crate::witness::Witness;

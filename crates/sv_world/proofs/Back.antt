@@ -10,7 +10,7 @@ use Rattle.sv_world.specs.declared.node.Node.TheVariants as node
 use Rattle.sv_world.specs.declared.node.Operator.{Operator}
 use Rattle.sv_world.specs.declared.node.Comparison.{Comparison}
 use Rattle.sv_world.specs.declared.node.Connective.{Connective}
-use Rattle.sv_world.specs.Parts.{binary_by, compare_by, join_by, Part, Expression, Condition, Statement, Block, Bad, first, second, third, binary, comparison, joining, negated, setting, choice, with_statement, block, kept, sized, part_of, arity, parts, is_block}
+use Rattle.sv_world.specs.Parts.{binary_by, compare_by, join_by, Part, Expression, Condition, Statement, Block, Bad, first, second, third, binary, comparison, connective, negated, assignment, choice, with_statement, block, kept, sized, part_of, arity, parts, is_block}
 use Rattle.sv_world.specs.Spelled.{expr_spelled, cond_spelled, stmt_spelled, run_spelled, body_spelled}
 use Rattle.sv_world.proofs.Layers.{lit_spelled, attr_spelled, binary_spelled, compare_spelled, join_spelled, not_spelled, set_spelled, if_spelled}
 
@@ -65,7 +65,7 @@ compare_back o (Expression a ∷ Expression b ∷ ps) g r = record {
 }
 compare_back o ps g r = absurd g
 
-join_back : (o : Connective) (ps : List Part) → IsGoodPart (joining o (first ps) (second ps)) → AreGood (drop 2 ps) → IsSpelled (node.Join o) ps
+join_back : (o : Connective) (ps : List Part) → IsGoodPart (connective o (first ps) (second ps)) → AreGood (drop 2 ps) → IsSpelled (node.Join o) ps
 join_back o (Condition a ∷ Condition b ∷ ps) g r = record {
   good = (tt, (tt, r));
   nodes = pair_nodes (cond_spelled (join_by o a b)) (node.Join o) (cond_spelled a) (cond_spelled b) (all_spelled ps) (join_spelled o a b);
@@ -79,7 +79,7 @@ not_back (Condition a ∷ ps) g r = record {
 }
 not_back ps g r = absurd g
 
-set_back : (slot attr : ℕ) (ps : List Part) → IsGoodPart (setting slot attr (first ps)) → AreGood (drop 1 ps) → IsSpelled (node.Set slot attr) ps
+set_back : (slot attr : ℕ) (ps : List Part) → IsGoodPart (assignment slot attr (first ps)) → AreGood (drop 1 ps) → IsSpelled (node.Set slot attr) ps
 set_back slot attr (Expression a ∷ ps) g r = record {
   good = (tt, r);
   nodes = one_nodes (stmt_spelled (stmt.Set slot attr a)) (node.Set slot attr) (expr_spelled a) (all_spelled ps) (set_spelled slot attr a);
@@ -216,9 +216,9 @@ part_same (node.Lit n) j ps = refl
 part_same (node.Attr slot attr) j ps = refl
 part_same (node.Binary o) j ps = let e : 2 + j ≡ suc (suc j) = omega arith in rw e (two_same (binary o) ps j)
 part_same (node.Compare o) j ps = let e : 2 + j ≡ suc (suc j) = omega arith in rw e (two_same (comparison o) ps j)
-part_same (node.Join o) j ps = let e : 2 + j ≡ suc (suc j) = omega arith in rw e (two_same (joining o) ps j)
+part_same (node.Join o) j ps = let e : 2 + j ≡ suc (suc j) = omega arith in rw e (two_same (connective o) ps j)
 part_same node.Not j ps = let e : 1 + j ≡ suc j = omega arith in rw e (one_same negated ps j)
-part_same (node.Set slot attr) j ps = let e : 1 + j ≡ suc j = omega arith in rw e (one_same (setting slot attr) ps j)
+part_same (node.Set slot attr) j ps = let e : 1 + j ≡ suc j = omega arith in rw e (one_same (assignment slot attr) ps j)
 part_same node.If j ps = let e : 3 + j ≡ suc (suc (suc j)) = omega arith in rw e (three_same choice ps j)
 part_same (node.Block count size) j ps = ap (sized size) (block_same count j ps)
 

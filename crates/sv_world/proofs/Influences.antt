@@ -4,7 +4,8 @@ use Rattle.std.proofs.lemmas.Bool.{cond-true, cases_lt}
 use Rattle.std.proofs.lemmas.List.{append_cancel_right, length-replicate}
 use Rattle.sv_world.specs.declared.action.Action.{Action}
 use Rattle.sv_world.specs.Sets.{read_set}
-use Rattle.sv_world.specs.Control.{is_in, blank, action_at, last_writer, missing_writers, needed_for, influence, chain_length, IsInfluence, direct, further, distance, greatest, influence_distance}
+use Rattle.sv_world.specs.Control.{is_in, blank, action_at, last_writer, missing_writers, needed_for, influence, chain_length, IsInfluence, direct, further, distance, influence_distance}
+use Rattle.sv_world.specs.Trees.{greatest}
 use Rattle.sv_world.specs.Faults.{is_ascending}
 use Rattle.sv_world.proofs.Members.{is_in-head, is_in-tail, is_in-one, is_in-append_right, is_in-append_cases, is_in-filter, is_in-filter_parts}
 use Rattle.sv_world.proofs.Ascending.{ascending-filter, ascending_same}

@@ -1,3 +1,4 @@
+-- The lemmas on worlds and actions.
 pub mod Ascending
 pub mod Back
 pub mod Bases

@@ -10,7 +10,7 @@ use Rattle.sv_world.specs.declared.node.Comparison.TheVariants.{Eq, Lt, Le}
 use Rattle.sv_world.specs.declared.node.Connective.{Connective}
 use Rattle.sv_world.specs.declared.node.Connective.TheVariants.{And, Or}
 use Rattle.sv_world.specs.declared.fits.Limits.{Limits}
-use Rattle.sv_world.specs.Parts.{Part, Expression, Condition, Statement, Block, first, binary, comparison, joining, negated, setting, choice, with_statement, block, is_expr, is_cond, is_stmt, is_block}
+use Rattle.sv_world.specs.Parts.{Part, Expression, Condition, Statement, Block, first, binary, comparison, connective, negated, assignment, choice, with_statement, block, is_expr, is_cond, is_stmt, is_block}
 use Rattle.sv_world.specs.PartTrees.{part_nodes, part_depth, part_passes, may_set, may_get, fits}
 use Rattle.sv_world.specs.Trees.{expr_by as expr_value, cond_by as cond_value, expr_nodes, cond_nodes, stmt_nodes_step, stmt_nodes, expr_depth, cond_depth, stmt_depth_step, expr_passes, cond_passes, stmt_passes_step}
 use Rattle.sv_world.proofs.Layers.{binary_layer, compare_layer, join_layer, lit_fold, attr_fold, binary_fold, compare_fold, join_fold, not_fold, set_fold, if_fold}
@@ -53,7 +53,7 @@ compare_nodes o (Expression a) (Expression b) e =
     compare_fold ℕ (cond_value expr_nodes (λ x y. 1 + x + y) (λ x. 1 + x)) o a b ∙ compare_value expr_nodes (λ x y. 1 + x + y) (λ x. 1 + x) o a b
 compare_nodes o p q e = absurd (cc)
 
-pub join_nodes : (o : Connective) (p q : Part) → is_cond (joining o p q) ≡ true → part_nodes (joining o p q) ≡ 1 + part_nodes p + part_nodes q
+pub join_nodes : (o : Connective) (p q : Part) → is_cond (connective o p q) ≡ true → part_nodes (connective o p q) ≡ 1 + part_nodes p + part_nodes q
 join_nodes o (Condition a) (Condition b) e =
     join_fold ℕ (cond_value expr_nodes (λ x y. 1 + x + y) (λ x. 1 + x)) o a b ∙ join_value expr_nodes (λ x y. 1 + x + y) (λ x. 1 + x) o (cond_nodes a) (cond_nodes b)
 join_nodes o p q e = absurd (cc)
@@ -62,7 +62,7 @@ pub not_nodes : (p : Part) → is_cond (negated p) ≡ true → part_nodes (nega
 not_nodes (Condition a) e = not_fold ℕ (cond_value expr_nodes (λ x y. 1 + x + y) (λ x. 1 + x)) a
 not_nodes p e = absurd (cc)
 
-pub set_nodes : (slot attr : ℕ) (p : Part) → is_stmt (setting slot attr p) ≡ true → part_nodes (setting slot attr p) ≡ 1 + part_nodes p
+pub set_nodes : (slot attr : ℕ) (p : Part) → is_stmt (assignment slot attr p) ≡ true → part_nodes (assignment slot attr p) ≡ 1 + part_nodes p
 set_nodes slot attr (Expression a) e = set_fold ℕ stmt_nodes_step slot attr a
 set_nodes slot attr p e = absurd (cc)
 
@@ -92,7 +92,7 @@ compare_depth o (Expression a) (Expression b) e =
     compare_fold ℕ (cond_value expr_depth (λ x y. 1 + max x y) (λ x. 1 + x)) o a b ∙ compare_value expr_depth (λ x y. 1 + max x y) (λ x. 1 + x) o a b
 compare_depth o p q e = absurd (cc)
 
-pub join_depth : (o : Connective) (p q : Part) → is_cond (joining o p q) ≡ true → part_depth (joining o p q) ≡ 1 + max (part_depth p) (part_depth q)
+pub join_depth : (o : Connective) (p q : Part) → is_cond (connective o p q) ≡ true → part_depth (connective o p q) ≡ 1 + max (part_depth p) (part_depth q)
 join_depth o (Condition a) (Condition b) e =
     join_fold ℕ (cond_value expr_depth (λ x y. 1 + max x y) (λ x. 1 + x)) o a b ∙ join_value expr_depth (λ x y. 1 + max x y) (λ x. 1 + x) o (cond_depth a) (cond_depth b)
 join_depth o p q e = absurd (cc)
@@ -101,7 +101,7 @@ pub not_depth : (p : Part) → is_cond (negated p) ≡ true → part_depth (nega
 not_depth (Condition a) e = not_fold ℕ (cond_value expr_depth (λ x y. 1 + max x y) (λ x. 1 + x)) a
 not_depth p e = absurd (cc)
 
-pub set_depth : (slot attr : ℕ) (p : Part) → is_stmt (setting slot attr p) ≡ true → part_depth (setting slot attr p) ≡ 1 + part_depth p
+pub set_depth : (slot attr : ℕ) (p : Part) → is_stmt (assignment slot attr p) ≡ true → part_depth (assignment slot attr p) ≡ 1 + part_depth p
 set_depth slot attr (Expression a) e = set_fold ℕ stmt_depth_step slot attr a
 set_depth slot attr p e = absurd (cc)
 
@@ -131,7 +131,7 @@ compare_passes set get o (Expression a) (Expression b) e =
     compare_fold Bool (cond_value (expr_passes get) (λ x y. x && y) (λ x. x)) o a b ∙ compare_value (expr_passes get) (λ x y. x && y) (λ x. x) o a b
 compare_passes set get o p q e = absurd (cc)
 
-pub join_passes : (set get : ℕ → ℕ → Bool) (o : Connective) (p q : Part) → is_cond (joining o p q) ≡ true → part_passes set get (joining o p q) ≡ (part_passes set get p && part_passes set get q)
+pub join_passes : (set get : ℕ → ℕ → Bool) (o : Connective) (p q : Part) → is_cond (connective o p q) ≡ true → part_passes set get (connective o p q) ≡ (part_passes set get p && part_passes set get q)
 join_passes set get o (Condition a) (Condition b) e =
     join_fold Bool (cond_value (expr_passes get) (λ x y. x && y) (λ x. x)) o a b ∙ join_value (expr_passes get) (λ x y. x && y) (λ x. x) o (cond_passes get a) (cond_passes get b)
 join_passes set get o p q e = absurd (cc)
@@ -140,7 +140,7 @@ pub not_passes : (set get : ℕ → ℕ → Bool) (p : Part) → is_cond (negate
 not_passes set get (Condition a) e = not_fold Bool (cond_value (expr_passes get) (λ x y. x && y) (λ x. x)) a
 not_passes set get p e = absurd (cc)
 
-pub set_passes : (set get : ℕ → ℕ → Bool) (slot attr : ℕ) (p : Part) → is_stmt (setting slot attr p) ≡ true → part_passes set get (setting slot attr p) ≡ (set slot attr && part_passes set get p)
+pub set_passes : (set get : ℕ → ℕ → Bool) (slot attr : ℕ) (p : Part) → is_stmt (assignment slot attr p) ≡ true → part_passes set get (assignment slot attr p) ≡ (set slot attr && part_passes set get p)
 set_passes set get slot attr (Expression a) e = set_fold Bool (stmt_passes_step set get) slot attr a
 set_passes set get slot attr p e = absurd (cc)
 
@@ -165,13 +165,13 @@ binary_fits limits o p q e = binary_passes (may_set limits) (may_get limits) o p
 pub compare_fits : (limits : Limits) (o : Comparison) (p q : Part) → is_cond (comparison o p q) ≡ true → fits limits (comparison o p q) ≡ (fits limits p && fits limits q)
 compare_fits limits o p q e = compare_passes (may_set limits) (may_get limits) o p q e
 
-pub join_fits : (limits : Limits) (o : Connective) (p q : Part) → is_cond (joining o p q) ≡ true → fits limits (joining o p q) ≡ (fits limits p && fits limits q)
+pub join_fits : (limits : Limits) (o : Connective) (p q : Part) → is_cond (connective o p q) ≡ true → fits limits (connective o p q) ≡ (fits limits p && fits limits q)
 join_fits limits o p q e = join_passes (may_set limits) (may_get limits) o p q e
 
 pub not_fits : (limits : Limits) (p : Part) → is_cond (negated p) ≡ true → fits limits (negated p) ≡ fits limits p
 not_fits limits p e = not_passes (may_set limits) (may_get limits) p e
 
-pub set_fits : (limits : Limits) (slot attr : ℕ) (p : Part) → is_stmt (setting slot attr p) ≡ true → fits limits (setting slot attr p) ≡ (may_set limits slot attr && fits limits p)
+pub set_fits : (limits : Limits) (slot attr : ℕ) (p : Part) → is_stmt (assignment slot attr p) ≡ true → fits limits (assignment slot attr p) ≡ (may_set limits slot attr && fits limits p)
 set_fits limits slot attr p e = set_passes (may_set limits) (may_get limits) slot attr p e
 
 pub if_fits : (limits : Limits) (p q r : Part) → is_stmt (choice p q r) ≡ true → fits limits (choice p q r) ≡ (fits limits p && (fits limits q && fits limits r))

@@ -6,7 +6,7 @@ use Rattle.sv_world.specs.declared.node.Node.{Node}
 use Rattle.sv_world.specs.declared.node.Operator.{Operator}
 use Rattle.sv_world.specs.declared.node.Comparison.{Comparison}
 use Rattle.sv_world.specs.declared.node.Connective.{Connective}
-use Rattle.sv_world.specs.Parts.{Part, Expression, Condition, Statement, Block, first, binary, comparison, joining, negated, setting, choice, with_statement, block, kept, sized, parts, is_expr, is_cond, is_stmt, is_block}
+use Rattle.sv_world.specs.Parts.{Part, Expression, Condition, Statement, Block, first, binary, comparison, connective, negated, assignment, choice, with_statement, block, kept, sized, parts, is_expr, is_cond, is_stmt, is_block}
 use Rattle.sv_world.specs.Spelled.{run_spelled}
 
 pub expr_there : (ns : List Node) → is_expr (first (parts ns)) ≡ true → 1 ≤ length ns
@@ -51,17 +51,17 @@ pub comparison_no_expr : (o : Comparison) (p q : Part) → is_expr (comparison o
 comparison_no_expr o (Expression a) (Expression b) = refl
 comparison_no_expr o p q = refl
 
-pub joining_no_expr : (o : Connective) (p q : Part) → is_expr (joining o p q) ≡ false
-joining_no_expr o (Condition a) (Condition b) = refl
-joining_no_expr o p q = refl
+pub connective_no_expr : (o : Connective) (p q : Part) → is_expr (connective o p q) ≡ false
+connective_no_expr o (Condition a) (Condition b) = refl
+connective_no_expr o p q = refl
 
 pub negated_no_expr : (p : Part) → is_expr (negated p) ≡ false
 negated_no_expr (Condition a) = refl
 negated_no_expr p = refl
 
-pub setting_no_expr : (slot attr : ℕ) (p : Part) → is_expr (setting slot attr p) ≡ false
-setting_no_expr slot attr (Expression a) = refl
-setting_no_expr slot attr p = refl
+pub assignment_no_expr : (slot attr : ℕ) (p : Part) → is_expr (assignment slot attr p) ≡ false
+assignment_no_expr slot attr (Expression a) = refl
+assignment_no_expr slot attr p = refl
 
 pub choice_no_expr : (p q r : Part) → is_expr (choice p q r) ≡ false
 choice_no_expr (Condition c) (Block xs) (Block ys) = refl
@@ -75,9 +75,9 @@ pub binary_no_cond : (o : Operator) (p q : Part) → is_cond (binary o p q) ≡ 
 binary_no_cond o (Expression a) (Expression b) = refl
 binary_no_cond o p q = refl
 
-pub setting_no_cond : (slot attr : ℕ) (p : Part) → is_cond (setting slot attr p) ≡ false
-setting_no_cond slot attr (Expression a) = refl
-setting_no_cond slot attr p = refl
+pub assignment_no_cond : (slot attr : ℕ) (p : Part) → is_cond (assignment slot attr p) ≡ false
+assignment_no_cond slot attr (Expression a) = refl
+assignment_no_cond slot attr p = refl
 
 pub choice_no_cond : (p q r : Part) → is_cond (choice p q r) ≡ false
 choice_no_cond (Condition c) (Block xs) (Block ys) = refl
@@ -95,9 +95,9 @@ pub comparison_no_stmt : (o : Comparison) (p q : Part) → is_stmt (comparison o
 comparison_no_stmt o (Expression a) (Expression b) = refl
 comparison_no_stmt o p q = refl
 
-pub joining_no_stmt : (o : Connective) (p q : Part) → is_stmt (joining o p q) ≡ false
-joining_no_stmt o (Condition a) (Condition b) = refl
-joining_no_stmt o p q = refl
+pub connective_no_stmt : (o : Connective) (p q : Part) → is_stmt (connective o p q) ≡ false
+connective_no_stmt o (Condition a) (Condition b) = refl
+connective_no_stmt o p q = refl
 
 pub negated_no_stmt : (p : Part) → is_stmt (negated p) ≡ false
 negated_no_stmt (Condition a) = refl
@@ -115,29 +115,29 @@ pub comparison_no_block : (o : Comparison) (p q : Part) → is_block (comparison
 comparison_no_block o (Expression a) (Expression b) = refl
 comparison_no_block o p q = refl
 
-pub joining_no_block : (o : Connective) (p q : Part) → is_block (joining o p q) ≡ false
-joining_no_block o (Condition a) (Condition b) = refl
-joining_no_block o p q = refl
+pub connective_no_block : (o : Connective) (p q : Part) → is_block (connective o p q) ≡ false
+connective_no_block o (Condition a) (Condition b) = refl
+connective_no_block o p q = refl
 
 pub negated_no_block : (p : Part) → is_block (negated p) ≡ false
 negated_no_block (Condition a) = refl
 negated_no_block p = refl
 
-pub setting_no_block : (slot attr : ℕ) (p : Part) → is_block (setting slot attr p) ≡ false
-setting_no_block slot attr (Expression a) = refl
-setting_no_block slot attr p = refl
+pub assignment_no_block : (slot attr : ℕ) (p : Part) → is_block (assignment slot attr p) ≡ false
+assignment_no_block slot attr (Expression a) = refl
+assignment_no_block slot attr p = refl
 
 pub choice_no_block : (p q r : Part) → is_block (choice p q r) ≡ false
 choice_no_block (Condition c) (Block xs) (Block ys) = refl
 choice_no_block p q r = refl
 
-pub ruleset no_expr = (comparison_no_expr, joining_no_expr, negated_no_expr, setting_no_expr, choice_no_expr, sized_no_expr)
+pub ruleset no_expr = (comparison_no_expr, connective_no_expr, negated_no_expr, assignment_no_expr, choice_no_expr, sized_no_expr)
 
-pub ruleset no_cond = (binary_no_cond, setting_no_cond, choice_no_cond, sized_no_cond)
+pub ruleset no_cond = (binary_no_cond, assignment_no_cond, choice_no_cond, sized_no_cond)
 
-pub ruleset no_stmt = (binary_no_stmt, comparison_no_stmt, joining_no_stmt, negated_no_stmt, sized_no_stmt)
+pub ruleset no_stmt = (binary_no_stmt, comparison_no_stmt, connective_no_stmt, negated_no_stmt, sized_no_stmt)
 
-pub ruleset no_block = (binary_no_block, comparison_no_block, joining_no_block, negated_no_block, setting_no_block, choice_no_block)
+pub ruleset no_block = (binary_no_block, comparison_no_block, connective_no_block, negated_no_block, assignment_no_block, choice_no_block)
 
 -- ---- the kinds of parts, where that of the whole is known
 
@@ -149,7 +149,7 @@ pub compare_exprs : (o : Comparison) (p q : Part) → is_cond (comparison o p q)
 compare_exprs o (Expression a) (Expression b) e = (refl, refl)
 compare_exprs o p q e = absurd (cc)
 
-pub join_conds : (o : Connective) (p q : Part) → is_cond (joining o p q) ≡ true → (is_cond p ≡ true) × (is_cond q ≡ true)
+pub join_conds : (o : Connective) (p q : Part) → is_cond (connective o p q) ≡ true → (is_cond p ≡ true) × (is_cond q ≡ true)
 join_conds o (Condition a) (Condition b) e = (refl, refl)
 join_conds o p q e = absurd (cc)
 
@@ -157,7 +157,7 @@ pub not_cond : (p : Part) → is_cond (negated p) ≡ true → is_cond p ≡ tru
 not_cond (Condition a) e = refl
 not_cond p e = absurd (cc)
 
-pub set_expr : (slot attr : ℕ) (p : Part) → is_stmt (setting slot attr p) ≡ true → is_expr p ≡ true
+pub set_expr : (slot attr : ℕ) (p : Part) → is_stmt (assignment slot attr p) ≡ true → is_expr p ≡ true
 set_expr slot attr (Expression a) e = refl
 set_expr slot attr p e = absurd (cc)
 

@@ -23,7 +23,7 @@ use Rattle.sv_world.specs.declared.node.Comparison.{Comparison}
 use Rattle.sv_world.specs.declared.node.Comparison.TheVariants.{Eq, Lt, Le}
 use Rattle.sv_world.specs.declared.node.Connective.{Connective}
 use Rattle.sv_world.specs.declared.node.Connective.TheVariants.{And, Or}
-use Rattle.sv_world.specs.Parts.{binary_by, compare_by, join_by, Part, Expression, Condition, Statement, Block, first, second, third, binary, comparison, joining, negated, setting, choice, with_statement, block, kept, sized, parts, block_in, IsBody}
+use Rattle.sv_world.specs.Parts.{binary_by, compare_by, join_by, Part, Expression, Condition, Statement, Block, first, second, third, binary, comparison, connective, negated, assignment, choice, with_statement, block, kept, sized, parts, block_in, IsBody}
 use Rattle.sv_world.specs.Spelled.{expr_spelled, cond_spelled, stmt_spelled, run_spelled, body_spelled}
 use Rattle.sv_world.proofs.Layers.{lit_spelled, attr_spelled, binary_spelled, compare_spelled, join_spelled, not_spelled, set_spelled, if_spelled}
 
@@ -83,7 +83,7 @@ compare_spells o a b ns =
 join_spells : (o : Connective) (a b : Cond) → CondSpells a → CondSpells b → CondSpells (join_by o a b)
 join_spells o a b left right ns =
     ap (λ (u : List Node). parts (u ++ ns)) (join_spelled o a b)
-    ∙ ap (λ (ps : List Part). joining o (first ps) (second ps) ∷ drop 2 ps) (two (cond_spelled a) (cond_spelled b) (Condition a) (Condition b) left right ns)
+    ∙ ap (λ (ps : List Part). connective o (first ps) (second ps) ∷ drop 2 ps) (two (cond_spelled a) (cond_spelled b) (Condition a) (Condition b) left right ns)
 
 not_spells : (a : Cond) → CondSpells a → CondSpells (test.Not a)
 not_spells a one ns =
@@ -112,7 +112,7 @@ BodySpells xs = Spells (body_spelled xs) (Block xs)
 set_spells : (slot attr : ℕ) (value : Expr) → StmtSpells (stmt.Set slot attr value)
 set_spells slot attr value ns =
     ap (λ (u : List Node). parts (u ++ ns)) (set_spelled slot attr value)
-    ∙ ap (λ (ps : List Part). setting slot attr (first ps) ∷ drop 1 ps) (expr_spells value ns)
+    ∙ ap (λ (ps : List Part). assignment slot attr (first ps) ∷ drop 1 ps) (expr_spells value ns)
 
 if_spells : (c : Cond) (xs ys : List Stmt) → BodySpells xs → BodySpells ys → StmtSpells (stmt.If c xs ys)
 if_spells c xs ys left right ns =

@@ -6,6 +6,7 @@ use Rattle.std.specs.Prelude.{◌≡◌, ℕ, zero, suc, ◌<◌, Bool, true, fa
 use Rattle.sv_world.specs.declared.action.Action.{Action}
 use Rattle.sv_world.specs.declared.action.Point.{Point}
 use Rattle.sv_world.specs.Sets.{read_set, write_set}
+use Rattle.sv_world.specs.Trees.{greatest}
 
 abbrev pub is_in : ℕ → List ℕ → Bool
 is_in k [] = false
@@ -87,10 +88,6 @@ chain_length A commit a = length (influence A commit a)
 -- The distance of two points: the greater of the distances on the two axes.
 abbrev pub distance : Point → Point → ℕ
 distance p q = max (nat_abs (p.x -ℤ q.x)) (nat_abs (p.y -ℤ q.y))
-
-abbrev pub greatest : List ℕ → ℕ
-greatest [] = 0
-greatest (x ∷ xs) = max x (greatest xs)
 
 -- The greatest distance between the action's origin and that of an action in its influence, 0 where there is none.
 abbrev pub influence_distance : List Action → ℕ → Action → ℕ

@@ -1,6 +1,7 @@
 -- What is wrong with an action, if anything.
 use Rattle.std.specs.Prelude.{◌≡◌, ℕ, ◌^◌, ◌<◌, ◌≤◌, Bool, true, not, ◌&&◌, ◌==◌, nat_lt, nat_le, ℤ, pos, negsuc, int_le, List, [], ◌∷◌, length, All, if◌then◌else◌, Option, Some, None}
 use Rattle.std.specs.List.{list_any}
+use Rattle.sv_world.specs.Limits.{most_reads, most_nodes, most_depth}
 use Rattle.sv_world.specs.Sets.{is_in_mask, read_set}
 use Rattle.sv_world.specs.Trees.{body_nodes, body_depth, body_passes}
 use Rattle.sv_world.specs.declared.action.Action.{Action}
@@ -18,7 +19,7 @@ unfoldable pub has_no_reads : Action → Bool
 has_no_reads a = length a.reads == 0
 
 unfoldable pub has_too_many_reads : Action → Bool
-has_too_many_reads a = nat_lt 16 (length a.reads)
+has_too_many_reads a = nat_lt most_reads (length a.reads)
 
 unfoldable pub is_not_ascending : Action → Bool
 is_not_ascending a = not (is_ascending (read_set a))
@@ -43,10 +44,10 @@ unfoldable pub has_attrs : Shape → Action → Bool
 has_attrs shape a = body_passes (λ _ attr. nat_lt attr shape.attrs) (λ _ attr. nat_lt attr shape.attrs) a.body
 
 unfoldable pub is_too_large : Action → Bool
-is_too_large a = nat_lt 64 (body_nodes a.body)
+is_too_large a = nat_lt most_nodes (body_nodes a.body)
 
 unfoldable pub is_too_deep : Action → Bool
-is_too_deep a = nat_lt 8 (body_depth a.body)
+is_too_deep a = nat_lt most_depth (body_depth a.body)
 
 -- Whether a coordinate is from -1,000,000 to 1,000,000.
 abbrev pub is_in_plane : ℤ → Bool
@@ -98,13 +99,13 @@ cause_number BadOrigin = 11
 -- What holds of an action that no cause applies to.
 pub record IsGoodAction (shape : Shape) (a : Action) : Type 0 where
   pub some_reads : 1 ≤ length a.reads
-  pub few_reads : length a.reads ≤ 16
+  pub few_reads : length a.reads ≤ most_reads
   pub ascending : is_ascending (read_set a) ≡ true
   pub objects : All (λ x. x < shape.objects) (read_set a)
   pub mask : a.mask < 2 ^ length a.reads
   pub slots : has_slots a ≡ true
   pub writable : sets_in_mask a ≡ true
   pub attrs : has_attrs shape a ≡ true
-  pub few_nodes : body_nodes a.body ≤ 64
-  pub shallow : body_depth a.body ≤ 8
+  pub few_nodes : body_nodes a.body ≤ most_nodes
+  pub shallow : body_depth a.body ≤ most_depth
   pub origin : has_origin a ≡ true

@@ -7,7 +7,7 @@ use Rattle.sv_world.specs.declared.heads.CondHead.{CondHead}
 use Rattle.sv_world.specs.declared.heads.CondHead.TheVariants as cond_head
 use Rattle.sv_world.specs.declared.heads.StmtHead.{StmtHead}
 use Rattle.sv_world.specs.declared.heads.StmtHead.TheVariants as stmt_head
-use Rattle.sv_world.specs.Parts.{Part, Expression, first, second, third, binary, comparison, joining, negated, setting, choice}
+use Rattle.sv_world.specs.Parts.{Part, Expression, first, second, third, binary, comparison, connective, negated, assignment, choice}
 
 -- The part that a head makes of the parts behind it, and how many it takes.
 abbrev pub expr_over : ExprHead → List Part → Part
@@ -22,7 +22,7 @@ expr_arity (expr_head.Binary o) = 2
 
 abbrev pub cond_over : CondHead → List Part → Part
 cond_over (cond_head.Compare o) ps = comparison o (first ps) (second ps)
-cond_over (cond_head.Join o) ps = joining o (first ps) (second ps)
+cond_over (cond_head.Join o) ps = connective o (first ps) (second ps)
 cond_over cond_head.Not ps = negated (first ps)
 
 abbrev pub cond_arity : CondHead → ℕ
@@ -31,7 +31,7 @@ cond_arity (cond_head.Join o) = 2
 cond_arity cond_head.Not = 1
 
 abbrev pub stmt_over : StmtHead → List Part → Part
-stmt_over (stmt_head.Set slot attr) ps = setting slot attr (first ps)
+stmt_over (stmt_head.Set slot attr) ps = assignment slot attr (first ps)
 stmt_over stmt_head.If ps = choice (first ps) (second ps) (third ps)
 
 abbrev pub stmt_arity : StmtHead → ℕ

@@ -62,17 +62,17 @@ abbrev pub comparison : Comparison → Part → Part → Part
 comparison o (Expression a) (Expression b) = Condition (compare_by o a b)
 comparison o p q = Bad
 
-abbrev pub joining : Connective → Part → Part → Part
-joining o (Condition a) (Condition b) = Condition (join_by o a b)
-joining o p q = Bad
+abbrev pub connective : Connective → Part → Part → Part
+connective o (Condition a) (Condition b) = Condition (join_by o a b)
+connective o p q = Bad
 
 abbrev pub negated : Part → Part
 negated (Condition a) = Condition (test.Not a)
 negated p = Bad
 
-abbrev pub setting : ℕ → ℕ → Part → Part
-setting slot attr (Expression a) = Statement (stmt.Set slot attr a)
-setting slot attr p = Bad
+abbrev pub assignment : ℕ → ℕ → Part → Part
+assignment slot attr (Expression a) = Statement (stmt.Set slot attr a)
+assignment slot attr p = Bad
 
 abbrev pub choice : Part → Part → Part → Part
 choice (Condition c) (Block xs) (Block ys) = Statement (stmt.If c xs ys)
@@ -102,9 +102,9 @@ part_of (node.Lit n) ps = Expression (expr.Lit n)
 part_of (node.Attr slot attr) ps = Expression (expr.Attr slot attr)
 part_of (node.Binary o) ps = binary o (first ps) (second ps)
 part_of (node.Compare o) ps = comparison o (first ps) (second ps)
-part_of (node.Join o) ps = joining o (first ps) (second ps)
+part_of (node.Join o) ps = connective o (first ps) (second ps)
 part_of node.Not ps = negated (first ps)
-part_of (node.Set slot attr) ps = setting slot attr (first ps)
+part_of (node.Set slot attr) ps = assignment slot attr (first ps)
 part_of node.If ps = choice (first ps) (second ps) (third ps)
 part_of (node.Block count size) ps = sized size (block count ps)
 

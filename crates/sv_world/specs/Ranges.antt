@@ -1,5 +1,6 @@
--- Which numbers the nodes of a body have: each is one of its type. So it always is, but contracts know it only of a number that is read.
-use Rattle.std.specs.Prelude.{ℕ, Bool, true, ◌&&◌, nat_lt, ℤ, pos, negsuc, int_le, List, map}
+-- Which numbers objects and the nodes of a body have: each is one of its type. So it always is, but contracts know it only of a number that
+-- is read.
+use Rattle.std.specs.Prelude.{ℕ, zero, suc, ◌<◌, Bool, true, false, ◌&&◌, nat_lt, ℤ, pos, negsuc, int_le, List, map}
 use Rattle.sv_world.specs.Trees.{all_true}
 use Rattle.sv_world.specs.declared.action.Expr.{Expr}
 use Rattle.sv_world.specs.declared.action.Expr.TheOpen.{Expr-F}
@@ -10,6 +11,7 @@ use Rattle.sv_world.specs.declared.action.Cond.TheFolds.{fold-Cond}
 use Rattle.sv_world.specs.declared.action.Stmt.{Stmt}
 use Rattle.sv_world.specs.declared.action.Stmt.TheOpen.{Stmt-F}
 use Rattle.sv_world.specs.declared.action.Stmt.TheFolds.{fold-Stmt}
+use Rattle.sv_world.specs.declared.world.ObjectId.{ObjectId}
 use Rattle.sv_world.specs.declared.node.Node.{Node}
 use Rattle.sv_world.specs.declared.node.Node.TheVariants as node
 
@@ -19,6 +21,14 @@ is_i64 z = int_le (negsuc 9223372036854775807) z && int_le z (pos 92233720368547
 
 abbrev pub is_byte : ℕ → Bool
 is_byte n = nat_lt n 256
+
+abbrev pub is_zero : ℤ → Bool
+is_zero (pos zero) = true
+is_zero (pos (suc n)) = false
+is_zero (negsuc n) = false
+
+abbrev pub ObjectFits : ObjectId → Type 0
+ObjectFits o = o.0 < 65536
 
 abbrev pub expr_fits_step : Expr-F Bool → Bool
 expr_fits_step (Expr-F.Lit n) = is_i64 n

@@ -48,11 +48,12 @@ stmt_nodes = fold-Stmt ℕ stmt_nodes_step
 abbrev pub body_nodes : List Stmt → ℕ
 body_nodes body = sum (map stmt_nodes body)
 
--- How deep the nodes are nested: one more than the deepest child.
+-- The greatest of some numbers, and 0 where there are none.
 abbrev pub greatest : List ℕ → ℕ
 greatest [] = 0
 greatest (n ∷ ns) = max n (greatest ns)
 
+-- How deep the nodes are nested: one more than the deepest child.
 abbrev pub expr_depth : Expr → ℕ
 expr_depth = fold-Expr ℕ (expr_by 1 (λ _ _. 1) (λ x y. 1 + max x y))
 

@@ -1,3 +1,5 @@
+//! Actions, and the trees of their bodies.
+
 use crate::{Body, Boxed, List, Reads};
 
 /// A number computed from the values that an action reads.

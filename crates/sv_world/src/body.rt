@@ -1,3 +1,4 @@
+//! The body of an action: its statements as one list of nodes, with several owners.
 ghost use Rattle.std.specs.Prelude.{◌≡◌, ◌∷◌, [], true, IfOk};
 ghost use Rattle.sv_world.specs.Short.{has_short_blocks};
 ghost use Rattle.sv_world.specs.Parts.{Block, first, parts, block_in, IsBody};

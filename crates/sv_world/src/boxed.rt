@@ -1,3 +1,4 @@
+//! Boxes, as contracts see them.
 ghost use Rattle.std.specs.Prelude.{◌≡◌, IfOk};
 
 use std::alloc::{AllocError, Global};

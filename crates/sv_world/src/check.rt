@@ -1,12 +1,13 @@
-ghost use Rattle.std.specs.Prelude.{◌≡◌, ◌↔◌, ◌&&◌, map, not, Some, None, MatchResult, OnOk};
+//! Whether an action is one of a world of some shape, and else why not.
+ghost use Rattle.std.specs.Prelude.{◌≡◌, ◌↔◌, ◌&&◌, not, Some, None, MatchResult, OnOk};
 ghost use Rattle.sv_world.specs.declared.action.Action.{Action};
-ghost use Rattle.sv_world.specs.declared.world.ObjectId.{ObjectId};
 ghost use Rattle.sv_world.specs.declared.world.Shape.{Shape};
+ghost use Rattle.sv_world.specs.Sets.{numbers_of};
 ghost use Rattle.sv_world.specs.Faults.{is_ascending, has_no_reads, has_too_many_reads, is_not_ascending, reads_no_object, has_bad_mask, has_slots, sets_in_mask, has_attrs, is_too_large, is_too_deep, is_in_plane, has_origin, first_fault_of_action, cause_number, IsGoodAction};
 
 use crate::fits::{Limits, block_fits};
 use crate::names::{NameTest, passes_in_nodes, weight};
-use crate::{Action, NodeCursor, ObjectId, Shape};
+use crate::{Action, MOST_DEPTH, MOST_NODES, MOST_READS, NodeCursor, ObjectId, Shape};
 
 /// Why an action is refused, in the order in which the causes are looked for.
 #[derive(Clone, Copy, Debug, Drop, PartialEq, Eq)]
@@ -54,7 +55,7 @@ impl BadAction {
 
 /// Whether the numbers of the objects ascend strictly.
 pub fn is_ascending(objects: &[ObjectId]) -> bool
-    ensures { result ≡ is_ascending (map (λ (o : ObjectId). o.0) objects.now) }
+    ensures { result ≡ is_ascending (numbers_of objects.now) }
 {
     let [first, rest @ ..] = objects else {
         return true;
@@ -137,7 +138,7 @@ fn has_no_reads(action: &Action) -> bool
 fn has_too_many_reads(action: &Action) -> bool
     ensures { result ≡ has_too_many_reads action.now }
 {
-    action.reads.len() > 16
+    action.reads.len() > MOST_READS
 }
 
 #[tactic(auto, unfolding(crate::specs::Faults::is_not_ascending))]
@@ -165,7 +166,7 @@ fn has_bad_mask(action: &Action) -> bool
 {
     let mask = action.mask;
     let reads = action.reads.len();
-    reads < 16 && mask >> reads > 0
+    reads < MOST_READS && mask >> reads > 0
 }
 
 /// Whether nothing is at fault in the body, by one walk over it. Where it answers no, the causes are looked for in their order.
@@ -179,7 +180,7 @@ fn has_sound_body(shape: Shape, action: &Action) -> bool
         attrs: shape.attrs,
     };
     let mut nodes = NodeCursor::new(action.body.nodes());
-    match block_fits(&mut nodes, &limits, 8, 64) {
+    match block_fits(&mut nodes, &limits, MOST_DEPTH, MOST_NODES) {
         Some(_) => true,
         None => false,
     }
@@ -213,7 +214,7 @@ fn has_attrs(shape: Shape, action: &Action) -> bool
 fn is_too_large(action: &Action) -> bool
     ensures { result ≡ is_too_large action.now }
 {
-    weight(action.body.nodes()) > 64
+    weight(action.body.nodes()) > MOST_NODES as usize
 }
 
 fn is_in_plane(coordinate: i32) -> bool

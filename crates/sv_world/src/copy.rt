@@ -1,3 +1,4 @@
+//! Equal copies of values, objects and actions.
 ghost use Rattle.std.specs.Prelude.{◌≡◌, IfOk};
 
 use crate::{Action, List, ObjectId, Reads, Value};

@@ -1,3 +1,4 @@
+//! A walk over nodes, from head to head.
 ghost use Rattle.std.specs.Prelude.{◌≡◌, ◌∷◌, ◌+◌, ◌<◌, true, drop, length};
 ghost use Rattle.sv_world.specs.Parts.{first, parts, block, is_expr, is_cond, is_stmt, is_block};
 ghost use Rattle.sv_world.specs.Heads.{expr_over, expr_arity, cond_over, cond_arity, stmt_over, stmt_arity};

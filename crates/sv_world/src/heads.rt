@@ -34,8 +34,6 @@ pub enum StmtHead {
     If,
 }
 
-// Each function has an arm for each node, those that can't be too: what these answer does not matter.
-
 /// The first node of some that begin with an expression, and the nodes behind it.
 #[inline(always)]
 #[tactic(auto, using(crate::proofs::Sorted::expr_there, crate::proofs::Sorted::no_expr))]
@@ -49,12 +47,12 @@ pub fn expr_head(nodes: &[Node]) -> (ExprHead, &[Node])
         Node::Lit(number) => (ExprHead::Lit(number), rest),
         Node::Attr { slot, attr } => (ExprHead::Attr { slot, attr }, rest),
         Node::Binary(operator) => (ExprHead::Binary(operator), rest),
-        Node::Compare(_) => (ExprHead::Lit(0), rest),
-        Node::Join(_) => (ExprHead::Lit(0), rest),
-        Node::Not => (ExprHead::Lit(0), rest),
-        Node::Set { .. } => (ExprHead::Lit(0), rest),
-        Node::If => (ExprHead::Lit(0), rest),
-        Node::Block { .. } => (ExprHead::Lit(0), rest),
+        Node::Compare(_)
+        | Node::Join(_)
+        | Node::Not
+        | Node::Set { .. }
+        | Node::If
+        | Node::Block { .. } => unreachable!(),
     }
 }
 
@@ -68,15 +66,15 @@ pub fn cond_head(nodes: &[Node]) -> (CondHead, &[Node])
 {
     let rest = &nodes[1..];
     match nodes[0] {
-        Node::Lit(_) => (CondHead::Not, rest),
-        Node::Attr { .. } => (CondHead::Not, rest),
-        Node::Binary(_) => (CondHead::Not, rest),
         Node::Compare(comparison) => (CondHead::Compare(comparison), rest),
         Node::Join(connective) => (CondHead::Join(connective), rest),
         Node::Not => (CondHead::Not, rest),
-        Node::Set { .. } => (CondHead::Not, rest),
-        Node::If => (CondHead::Not, rest),
-        Node::Block { .. } => (CondHead::Not, rest),
+        Node::Lit(_)
+        | Node::Attr { .. }
+        | Node::Binary(_)
+        | Node::Set { .. }
+        | Node::If
+        | Node::Block { .. } => unreachable!(),
     }
 }
 
@@ -90,15 +88,15 @@ pub fn stmt_head(nodes: &[Node]) -> (StmtHead, &[Node])
 {
     let rest = &nodes[1..];
     match nodes[0] {
-        Node::Lit(_) => (StmtHead::If, rest),
-        Node::Attr { .. } => (StmtHead::If, rest),
-        Node::Binary(_) => (StmtHead::If, rest),
-        Node::Compare(_) => (StmtHead::If, rest),
-        Node::Join(_) => (StmtHead::If, rest),
-        Node::Not => (StmtHead::If, rest),
         Node::Set { slot, attr } => (StmtHead::Set { slot, attr }, rest),
         Node::If => (StmtHead::If, rest),
-        Node::Block { .. } => (StmtHead::If, rest),
+        Node::Lit(_)
+        | Node::Attr { .. }
+        | Node::Binary(_)
+        | Node::Compare(_)
+        | Node::Join(_)
+        | Node::Not
+        | Node::Block { .. } => unreachable!(),
     }
 }
 
@@ -112,15 +110,15 @@ pub fn block_head(nodes: &[Node]) -> (u8, &[Node])
 {
     let rest = &nodes[1..];
     match nodes[0] {
-        Node::Lit(_) => (0, rest),
-        Node::Attr { .. } => (0, rest),
-        Node::Binary(_) => (0, rest),
-        Node::Compare(_) => (0, rest),
-        Node::Join(_) => (0, rest),
-        Node::Not => (0, rest),
-        Node::Set { .. } => (0, rest),
-        Node::If => (0, rest),
         Node::Block { count, .. } => (count, rest),
+        Node::Lit(_)
+        | Node::Attr { .. }
+        | Node::Binary(_)
+        | Node::Compare(_)
+        | Node::Join(_)
+        | Node::Not
+        | Node::Set { .. }
+        | Node::If => unreachable!(),
     }
 }
 
@@ -133,14 +131,14 @@ pub fn skip_block(nodes: &[Node]) -> &[Node]
     ensures shorter { length result.now < length nodes.now }
 {
     match nodes[0] {
-        Node::Lit(_) => nodes,
-        Node::Attr { .. } => nodes,
-        Node::Binary(_) => nodes,
-        Node::Compare(_) => nodes,
-        Node::Join(_) => nodes,
-        Node::Not => nodes,
-        Node::Set { .. } => nodes,
-        Node::If => nodes,
         Node::Block { size, .. } => &nodes[size + 1..],
+        Node::Lit(_)
+        | Node::Attr { .. }
+        | Node::Binary(_)
+        | Node::Compare(_)
+        | Node::Join(_)
+        | Node::Not
+        | Node::Set { .. }
+        | Node::If => unreachable!(),
     }
 }

@@ -12,6 +12,7 @@ mod fits;
 mod flatten;
 mod heads;
 mod laws;
+mod limits;
 mod list;
 mod names;
 mod node;
@@ -37,9 +38,15 @@ pub use laws::{
     influence_is_the_least_set, missing_influences_are_the_least_set, missing_influences_ascend,
     missing_influences_only_shrink, only_marks_above_the_commit_count,
 };
+pub use limits::{
+    MOST_ATTRS, MOST_BOUND, MOST_CLIENTS, MOST_DEPTH, MOST_INTEREST, MOST_ITEMS, MOST_NODES,
+    MOST_OBJECTS, MOST_OUTSTANDING, MOST_PENDING, MOST_REACH, MOST_READS, MOST_REQUESTS,
+    MOST_SESSIONS, MOST_SHOWN, MOST_STEPS, MOST_TURNS, limits_are_those_of_contracts,
+};
 pub use list::List;
 pub use names::is_in_mask;
 pub use node::{Comparison, Connective, Node, Operator};
+pub use numbers::{read_object, read_objects};
 pub use short::Short;
 pub use spelling::bodies_are_spelled;
 pub use text::Text;

@@ -1,3 +1,4 @@
+//! Lists, as contracts see them.
 ghost use Rattle.std.specs.Prelude.{◌≡◌, [], ◌∷◌, ◌++◌, length, slice_set, OnOk, OnErr};
 
 use std::alloc::{AllocError, Global};

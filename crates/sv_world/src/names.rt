@@ -1,15 +1,16 @@
+//! Tests of the slots and attributes that the nodes of a body name, and the number of these nodes.
 ghost use Rattle.std.specs.Prelude.{◌≡◌, MatchBool};
 ghost use Rattle.sv_world.specs.Sets.{is_in_mask};
 ghost use Rattle.sv_world.specs.NodeTests.{node_passes, nodes_pass, node_weight, nodes_weight};
 ghost use Rattle.sv_world.specs.Names.{set_passes, get_passes};
 
-use crate::Node;
+use crate::{MOST_READS, Node};
 
 /// Whether an action with this mask may write the object in a slot.
 pub fn is_in_mask(mask: u16, slot: usize) -> bool
     ensures { result ≡ is_in_mask mask slot }
 {
-    slot < 16 && (mask >> slot) % 2 == 1
+    slot < MOST_READS && (mask >> slot) % 2 == 1
 }
 
 /// What is asked of each slot and attribute that a body names.

@@ -1,3 +1,4 @@
+//! Lists that take no memory of their own while they are short.
 ghost use Rattle.std.specs.Prelude.{◌≡◌, IfOk, ◌++◌, [], ◌∷◌, length, slice_set, OnOk, OnErr};
 
 use smallvec::SmallVec;

@@ -1,3 +1,4 @@
+//! Text, as contracts see it.
 ghost use Rattle.std.specs.Prelude.{◌≡◌, string_bytes};
 
 use std::marker::Model;

@@ -1,3 +1,5 @@
+//! Worlds, and the numbers of their objects and of clients.
+
 use crate::{List, Short};
 
 /// An object's number, from 0 up.

@@ -20,8 +20,8 @@ use Rattle.sv_wire.proofs.Append.{nodes_more}
 use Rattle.sv_wire.proofs.Layers.{lit_nodes, lit_depth, set_nodes, set_depth}
 use Rattle.sv_world.proofs.Layers.{lit_fold, set_fold}
 use Rattle.sv_wire.specs.Grammar.{IsWireValue, IsWireAction, IsWireHead}
-use Rattle.sv_world.specs.Ranges.{expr_fits_step, stmt_fits_step, stmt_fits}
-use Rattle.sv_wire.specs.Ranges.{ObjectFits, HeldFits, ActionFits, ItemFits}
+use Rattle.sv_world.specs.Ranges.{expr_fits_step, stmt_fits_step, stmt_fits, ObjectFits}
+use Rattle.sv_wire.specs.Ranges.{HeldFits, ActionFits, ItemFits}
 use Rattle.sv_wire.specs.Laws.{IsReply}
 use Rattle.test_exchange.specs.Worked.{greatest, great_held, great_heads, great_reads, great_stmt, great_body, great_action, great_item, great_items}
 

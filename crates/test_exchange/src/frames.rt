@@ -1,7 +1,7 @@
 //! Tests of frames on a stream, however it is cut.
 use std::process::Abort;
 use std::test::Fail;
-use sv_frame::{FrameReader, Next, ROOM, put_frame};
+use sv_frame::{FrameReader, GREATEST_FRAME, Next, put_frame};
 
 /// Gives the reader a piece, and takes the payloads that are due as far as they have come. Answers how many have come
 /// since the stream began.
@@ -30,7 +30,7 @@ fn read_cut(rt: &impl Abort, reader: &mut FrameReader, stream: &[u8], due: &[&[u
         let come = read_piece(rt, reader, second, due, come);
         assert!(rt; come == due.len());
         assert!(rt; reader.next() == Next::NotYet);
-        assert!(rt; reader.spare() == ROOM);
+        assert!(rt; reader.spare() == GREATEST_FRAME);
     }
 }
 

@@ -1,7 +1,6 @@
 //! Tables of requests and replies, typed from the rules by hand.
 ghost use Rattle.std.specs.Prelude.{◌≡◌, ◌<◌, ◌≤◌, [], true, false, IfOk, IfSome};
-ghost use Rattle.sv_journal.specs.Sessions.{is_end};
-ghost use Rattle.sv_sequencer.specs.Rows.{is_ended};
+ghost use Rattle.sv_journal.specs.Sessions.{is_end, is_ended};
 ghost use Rattle.sv_sequencer.specs.Step.{history};
 
 mod arbitrary;

@@ -1,1 +1,2 @@
+-- `List` as such a type.
 pub mod List

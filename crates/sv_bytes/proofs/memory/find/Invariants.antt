@@ -1,3 +1,4 @@
+-- The loop invariant of `find`.
 use Rattle.std.proofs.Common.{◌≡◌, drop}
 use Rattle.sv_bytes.specs.Stored.{contents_of}
 use Rattle.sv_bytes.proofs.memory.find.Given as goal

@@ -1,3 +1,4 @@
+-- The loop invariant and the measure of `read_all`.
 use Rattle.std.proofs.Common.{◌≡◌, ℕ, ◌≤◌, ◌-◌, List, true, vec_len}
 use Rattle.sv_bytes.specs.Reading.{ReadSoFar}
 use Rattle.sv_bytes.proofs.reading.read_all.Given as goal

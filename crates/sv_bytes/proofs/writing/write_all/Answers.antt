@@ -1,3 +1,4 @@
+-- What is proved by hand of `write_all`.
 use Rattle.std.proofs.Common.{arith}
 use Rattle.sv_bytes.proofs.Growth.{Grew-more}
 use Rattle.sv_bytes.proofs.writing.write_all.Goals as goal

@@ -1,3 +1,4 @@
+-- The loop invariant and the measure of `write_all`.
 use Rattle.std.proofs.Common.{length, take, ◌-◌, ◌≡◌, ◌≤◌}
 use Rattle.sv_bytes.specs.Writing.{Grew}
 use Rattle.sv_bytes.proofs.writing.write_all.Given as goal

@@ -1,3 +1,4 @@
+-- What is proved by hand of `write_pieces`.
 use Rattle.std.proofs.Common.{[], arith}
 use Rattle.sv_bytes.specs.Faults.{Rose}
 use Rattle.sv_bytes.proofs.Growth.{Grew-joined, GrewByPart-joined}

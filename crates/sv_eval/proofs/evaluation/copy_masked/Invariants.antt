@@ -1,3 +1,4 @@
+-- The copies so far, and what is left at the slots in the mask.
 use Rattle.std.proofs.Common.{◌≡◌, ◌++◌, drop}
 use Rattle.sv_world.specs.Sets.{at_mask}
 use Rattle.sv_eval.proofs.evaluation.copy_masked.Given as goal

@@ -1,3 +1,4 @@
+-- The result has the shape and the number of the values.
 use Rattle.std.proofs.Common.{◌≡◌, ℕ, length, sym, subst}
 use Rattle.std.specs.Prelude.{All}
 use Rattle.sv_world.specs.Sets.{write_set}

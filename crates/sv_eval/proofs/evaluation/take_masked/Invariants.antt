@@ -1,3 +1,4 @@
+-- The values taken so far, and what is left at the slots in the mask.
 use Rattle.std.proofs.Common.{◌≡◌, ◌++◌}
 use Rattle.sv_world.specs.Sets.{at_mask}
 use Rattle.sv_eval.proofs.evaluation.take_masked.Given as goal

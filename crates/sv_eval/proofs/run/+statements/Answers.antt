@@ -1,3 +1,4 @@
+-- One more statement of a block.
 use Rattle.std.proofs.Common.{◌≡◌, ◌+◌, ◌-◌, ◌<◌, suc, drop, length, arith, refl, ◌∙◌}
 use Rattle.sv_world.specs.Parts.{parts}
 use Rattle.sv_eval.proofs.Walks.{next_gives}

@@ -1,3 +1,4 @@
+-- What is proved by hand of `take`.
 use Rattle.std.proofs.Common.{◌<◌, ℕ, List, ◌++◌, length, sym, ap, subst, ◌∙◌}
 use Rattle.sv_link.specs.Sides.{other, side_of, unread}
 use Rattle.sv_exchange.proofs.Messages.{Spells}

@@ -1,3 +1,4 @@
+-- What is proved by hand of `fill`.
 use Rattle.std.proofs.Common.{◌≤◌, length, take, drop, ◌∙◌, arith}
 use Rattle.sv_link.specs.Sides.{other, side_of, unread}
 use Rattle.sv_exchange.proofs.Onward.{read_on_more, unread_after, moved}

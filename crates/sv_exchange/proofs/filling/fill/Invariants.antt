@@ -1,3 +1,4 @@
+-- The loop invariant and the measure of `fill`.
 use Rattle.std.proofs.Common.{◌≡◌, ◌++◌, length}
 use Rattle.sv_link.specs.Sides.{other, side_of, unread}
 use Rattle.sv_exchange.specs.Streams.{IsReadOn}

@@ -1,3 +1,4 @@
+-- What is proved by hand of `too_long_is_final`.
 use Rattle.sv_frame.proofs.Fronts.{too_long-over, too_long-append, no_frame_if_too_long}
 use Rattle.sv_frame.proofs.Splitting.{incoming-final}
 use Rattle.sv_frame.proofs.laws.too_long_is_final.Goals as goal

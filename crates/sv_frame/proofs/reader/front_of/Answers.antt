@@ -1,3 +1,4 @@
+-- What is proved by hand of `front_of`.
 use Rattle.std.proofs.Common.{◌+◌, take, drop, arith}
 use Rattle.sv_frame.proofs.Fronts.{stated, stream_is_frame, frame_from_parts, no_frame_if_short, too_long_from, not_long_if_short, not_long_within}
 use Rattle.sv_frame.proofs.reader.front_of.Goals as goal

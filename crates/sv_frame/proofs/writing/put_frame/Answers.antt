@@ -1,3 +1,4 @@
+-- What is proved by hand of `put_frame`.
 use Rattle.sv_frame.proofs.Fronts.{frame_appended}
 use Rattle.sv_frame.proofs.writing.put_frame.Goals as goal
 

@@ -1,3 +1,4 @@
+-- The acts so far were appended.
 use Rattle.std.proofs.Common.{◌≡◌, ◌++◌, map}
 use Rattle.sv_world.specs.Control.{below}
 use Rattle.sv_scenario.specs.declared.scenario.Step.TheVariants as steps

@@ -1,3 +1,4 @@
+-- The rounds so far were appended.
 use Rattle.std.proofs.Common.{◌≡◌, ◌+◌, ◌*◌}
 use Rattle.std.specs.List.{flat_map}
 use Rattle.sv_world.specs.Control.{below}

@@ -1,3 +1,4 @@
+-- The generated scenario is good.
 use Rattle.sv_gen.proofs.Kept.{result_is_good}
 use Rattle.sv_gen.proofs.whole.generate.Goals as goal
 

@@ -1,3 +1,4 @@
+-- The values so far are those of the objects so far.
 use Rattle.std.proofs.Common.{◌≡◌, map}
 use Rattle.sv_world.specs.Control.{below}
 use Rattle.sv_gen.specs.Generated.{opening}

@@ -1,6 +1,8 @@
+-- What the check leaves to prove of `by_sources`.
 use Rattle.std.proofs.Common.{◌≡◌, ℕ, suc, ◌+◌, ◌<◌, ◌≤◌, ◌++◌, List, [], ◌∷◌, length, map, max, sym, ◌∙◌, ap, arith, length-append}
 use Rattle.sv_world.specs.declared.action.Action.{Action}
-use Rattle.sv_world.specs.Control.{action_at, influence, chain_length, greatest, distance}
+use Rattle.sv_world.specs.Control.{action_at, influence, chain_length, distance}
+use Rattle.sv_world.specs.Trees.{greatest}
 use Rattle.sv_queue.specs.Queue.{queue_actions}
 use Rattle.sv_influence.proofs.Chains.{left, left-first, within-first, left-next, within-next, taken-within, max-none, chain-few, left-some, left-none, greatest-left}
 use Rattle.std.proofs.Math.Nat.{max-zero}

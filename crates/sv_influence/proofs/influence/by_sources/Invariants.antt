@@ -1,5 +1,7 @@
+-- The loop invariant of `by_sources`, and what gets smaller.
 use Rattle.std.proofs.Common.{◌≡◌, ◌+◌, length, map, max}
-use Rattle.sv_world.specs.Control.{action_at, chain_length, influence_distance, greatest, distance}
+use Rattle.sv_world.specs.Control.{action_at, chain_length, influence_distance, distance}
+use Rattle.sv_world.specs.Trees.{greatest}
 use Rattle.sv_queue.specs.Queue.{queue_actions}
 use Rattle.sv_influence.proofs.Chains.{left, AreWithin}
 use Rattle.sv_influence.proofs.influence.by_sources.Given as goal

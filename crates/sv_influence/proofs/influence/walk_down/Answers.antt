@@ -1,7 +1,9 @@
+-- What the check leaves to prove of `walk_down`.
 use Rattle.std.proofs.Common.{◌≡◌, ℕ, ◌||◌, [], List, length, map, max, ◌<◌, ◌≤◌, ◌-◌, ◌^◌, suc, sym, ◌∙◌, ap, ap₂, arith}
 use Rattle.std.specs.List.{list_any}
 use Rattle.sv_world.specs.declared.action.Action.{Action}
-use Rattle.sv_world.specs.Control.{is_in, action_at, influence, greatest, distance}
+use Rattle.sv_world.specs.Control.{is_in, action_at, influence, distance}
+use Rattle.sv_world.specs.Trees.{greatest}
 use Rattle.sv_world.specs.Sets.{read_set, write_set}
 use Rattle.sv_world.proofs.Influences.{influence-ascending}
 use Rattle.sv_queue.specs.Queue.{queue_actions}

@@ -1,5 +1,7 @@
+-- The loop invariant of `walk_down`, and what gets smaller.
 use Rattle.std.proofs.Common.{◌≡◌, ℕ, ◌≤◌, ◌||◌, length, map}
-use Rattle.sv_world.specs.Control.{is_in, action_at, influence, greatest, distance}
+use Rattle.sv_world.specs.Control.{is_in, action_at, influence, distance}
+use Rattle.sv_world.specs.Trees.{greatest}
 use Rattle.sv_world.specs.Sets.{read_set}
 use Rattle.sv_queue.specs.Queue.{queue_actions, last_position}
 use Rattle.sv_influence.specs.Objects.{has_object}

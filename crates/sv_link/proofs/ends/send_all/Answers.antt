@@ -1,3 +1,4 @@
+-- What is proved by hand of `send_all`.
 use Rattle.std.proofs.Common.{arith}
 use Rattle.sv_link.proofs.Sending.{sending-more}
 use Rattle.sv_link.proofs.ends.send_all.Goals as goal

@@ -1,3 +1,4 @@
+-- The loop invariant and the measure of `send_all`.
 use Rattle.std.proofs.Common.{length, take, ◌-◌, ◌≡◌, ◌≤◌}
 use Rattle.sv_link.specs.Ends.{sending}
 use Rattle.sv_link.proofs.ends.send_all.Given as goal

@@ -1,3 +1,4 @@
+-- What is proved by hand of `join_each`.
 use Rattle.std.proofs.Common.{rules, append_assoc}
 use Rattle.sv_link.specs.Promises.{promised}
 use Rattle.sv_link.proofs.Promises.{kept_more}

@@ -1,3 +1,4 @@
+-- The loop invariant of `join_each`.
 use Rattle.std.proofs.Common.{◌≡◌, ◌+◌, ◌≤◌, ◌++◌, vec_len, map, length}
 use Rattle.std.specs.Vec.{vec_capacity}
 use Rattle.std.specs.List.{AllZip}

@@ -1,3 +1,4 @@
+-- The first missing key of those that are left is that of all.
 use Rattle.std.proofs.Common.{◌≡◌, drop, map}
 use Rattle.serde_json.specs.View.{view}
 use Rattle.sv_scenario.specs.Keys.{first_missing}

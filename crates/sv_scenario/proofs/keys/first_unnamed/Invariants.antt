@@ -1,3 +1,4 @@
+-- The first unnamed key of those that are left is that of all.
 use Rattle.std.proofs.Common.{◌≡◌, ◌++◌, map}
 use Rattle.serde_json.specs.View.{members_view}
 use Rattle.sv_scenario.specs.Keys.{first_unnamed}

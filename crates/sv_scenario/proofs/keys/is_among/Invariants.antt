@@ -1,3 +1,4 @@
+-- The key is among the names that are left just where it is among all.
 use Rattle.std.proofs.Common.{◌≡◌, drop, map}
 use Rattle.sv_scenario.specs.Keys.{is_among}
 use Rattle.sv_scenario.proofs.keys.is_among.Given as goal

@@ -1,3 +1,4 @@
+-- What is left, behind what was read, gives what all gives.
 use Rattle.std.proofs.Common.{◌≡◌, [], length}
 use Rattle.serde_json.specs.View.{items_view}
 use Rattle.sv_scenario.specs.Objects.{ascending_from}

@@ -1,3 +1,4 @@
+-- The cuts so far and those that are left make all.
 use Rattle.std.proofs.Common.{◌≡◌, ◌+◌, ◌≤◌, drop}
 use Rattle.sv_scenario.specs.Sessions.{cuts_in}
 use Rattle.sv_scenario.proofs.sessions.cuts_in.Given as goal

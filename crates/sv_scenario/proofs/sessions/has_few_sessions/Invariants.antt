@@ -1,3 +1,4 @@
+-- The sessions so far are few, and with those that are left they make all.
 use Rattle.std.proofs.Common.{◌≡◌, ◌+◌, ◌≤◌, drop}
 use Rattle.sv_scenario.specs.Sessions.{sessions_in}
 use Rattle.sv_scenario.proofs.sessions.has_few_sessions.Given as goal

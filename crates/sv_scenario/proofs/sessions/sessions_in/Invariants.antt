@@ -1,3 +1,4 @@
+-- The sessions so far and those that are left make all.
 use Rattle.std.proofs.Common.{◌≡◌, ◌+◌, drop}
 use Rattle.sv_scenario.specs.Sessions.{sessions_in}
 use Rattle.sv_scenario.proofs.sessions.sessions_in.Given as goal

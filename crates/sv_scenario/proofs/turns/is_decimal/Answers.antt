@@ -1,3 +1,4 @@
+-- The digits of numbers below 10 and below 100.
 use Rattle.std.proofs.Common.{◌∙◌, ap}
 use Rattle.std.specs.Str.{bytes_eq}
 use Rattle.sv_scenario.proofs.Decimals.{one_digit, two_digits_are}

@@ -1,3 +1,4 @@
+-- Each call may go less deep.
 use Rattle.std.proofs.Common.{◌+◌, ◌*◌}
 use Rattle.sv_text.proofs.condition.+condition.Given as goal
 

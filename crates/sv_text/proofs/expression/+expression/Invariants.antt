@@ -1,3 +1,4 @@
+-- Each call may go less deep.
 use Rattle.std.proofs.Common.{◌+◌, ◌*◌}
 use Rattle.sv_text.proofs.expression.+expression.Given as goal
 

@@ -1,3 +1,4 @@
+-- One more read.
 use Rattle.std.proofs.Common.{◌≡◌, ◌+◌, length, arith, sym, ◌∙◌}
 use Rattle.std.proofs.lemmas.List.{length-append}
 use Rattle.sv_text.proofs.Turns.{reads_shorter, reads_go_on}

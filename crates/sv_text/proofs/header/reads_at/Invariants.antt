@@ -1,3 +1,4 @@
+-- The tokens that are left give the reads that all give.
 use Rattle.std.proofs.Common.{◌≡◌, ◌≤◌, [], length}
 use Rattle.sv_text.specs.Reading.{reads_from}
 use Rattle.sv_text.proofs.header.reads_at.Given as goal

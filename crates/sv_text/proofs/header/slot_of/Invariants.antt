@@ -1,3 +1,4 @@
+-- The object is found in the reads that are left as in all.
 use Rattle.std.proofs.Common.{◌≡◌, drop}
 use Rattle.sv_text.specs.Reading.{slot_from}
 use Rattle.sv_text.proofs.header.slot_of.Given as goal

@@ -1,3 +1,4 @@
+-- One more written object.
 use Rattle.std.proofs.Common.{sym}
 use Rattle.sv_text.proofs.Turns.{writes_shorter, writes_turn}
 use Rattle.sv_text.proofs.header.writes_at.Goals as goal

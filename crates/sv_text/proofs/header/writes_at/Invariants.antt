@@ -1,3 +1,4 @@
+-- The tokens that are left give the mask that all give.
 use Rattle.std.proofs.Common.{◌≡◌, length}
 use Rattle.sv_text.specs.Reading.{writes_from}
 use Rattle.sv_text.proofs.header.writes_at.Given as goal

@@ -1,3 +1,4 @@
+-- The canonical text of an action is a text of it, and is read as it.
 use Rattle.sv_text.proofs.StandingAction.{canonical_stands, canonical_again}
 use Rattle.sv_text.proofs.laws.each_canonical_text_is_read.Goals as goal
 

@@ -1,3 +1,4 @@
+-- The bytes behind the blanks have the tokens that all have.
 use Rattle.std.proofs.Common.{◌≡◌, ◌≤◌, ◌-◌, length, drop}
 use Rattle.sv_text.specs.Tokens.{tokens_from}
 use Rattle.sv_text.proofs.lexer.behind_blanks.Given as goal

@@ -1,3 +1,4 @@
+-- The digits so far, and the number that they write.
 use Rattle.std.proofs.Common.{◌≡◌, ◌≤◌, ◌+◌, ◌-◌, length, min}
 use Rattle.sv_text.specs.Tokens.{digits_at, value_after, value_of}
 use Rattle.sv_text.proofs.lexer.digits_at.Given as goal

@@ -1,3 +1,4 @@
+-- What stands ahead are the tokens that are left.
 use Rattle.std.proofs.Common.{◌∙◌, arith}
 use Rattle.sv_text.proofs.Lexing.{ahead_is, end_is}
 use Rattle.sv_text.proofs.lexer.go_ahead.Goals as goal

@@ -1,3 +1,4 @@
+-- A word is told by its first letter.
 use Rattle.std.proofs.Common.{rules}
 use Rattle.sv_text.proofs.Words.{word_by_no_first}
 use Rattle.sv_text.proofs.lexer.word_of.Goals as goal

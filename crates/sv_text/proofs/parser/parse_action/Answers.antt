@@ -1,3 +1,4 @@
+-- What is read is what the grammar has.
 use Rattle.sv_text.specs.Tokens.{tokens_of}
 use Rattle.sv_text.proofs.Both.{is_found, is_read}
 use Rattle.sv_text.proofs.parser.parse_action.Goals as goal

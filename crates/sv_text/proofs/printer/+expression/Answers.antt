@@ -1,3 +1,4 @@
+-- What is printed of a literal.
 use Rattle.std.proofs.Common.{SFits, rules}
 use Rattle.std.proofs.lemmas.Int.{to_z-of_z}
 use Rattle.std.specs.Int.{w64}

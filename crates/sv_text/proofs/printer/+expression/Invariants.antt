@@ -1,3 +1,4 @@
+-- Each call has fewer nodes before it.
 use Rattle.std.proofs.Common.{◌+◌, ◌*◌, length}
 use Rattle.sv_text.proofs.printer.+expression.Given as goal
 

@@ -1,3 +1,4 @@
+-- One more statement of a block, and its end.
 use Rattle.std.proofs.Common.{◌≡◌, ◌+◌, ◌-◌, ℕ, suc, true, List, ◌++◌, drop, string_bytes, sym, ap, subst, ◌∙◌, arith}
 use Rattle.std.proofs.lemmas.List.{append-nil}
 use Rattle.sv_world.specs.Parts.{Part, parts, block, is_block}

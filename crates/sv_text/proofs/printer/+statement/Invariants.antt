@@ -1,3 +1,4 @@
+-- Each call has fewer nodes before it, and the statements that are left of a block print its rest.
 use Rattle.std.proofs.Common.{◌≡◌, ◌+◌, ◌-◌, ◌*◌, ◌≤◌, ◌++◌, true, length, drop, string_bytes}
 use Rattle.sv_world.specs.Parts.{parts, block, is_block}
 use Rattle.sv_text.specs.Canonical.{run_text}

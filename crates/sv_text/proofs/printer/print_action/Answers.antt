@@ -1,6 +1,7 @@
+-- The printed text is read as the action.
 use Rattle.std.proofs.Common.{string_bytes, subst}
 use Rattle.std.specs.Prelude.{All}
-use Rattle.sv_text.specs.Printable.{ObjectFits}
+use Rattle.sv_world.specs.Ranges.{ObjectFits}
 use Rattle.sv_text.proofs.StandingAction.{again_if_ok}
 use Rattle.sv_text.proofs.printer.print_action.Goals as goal
 

@@ -1,3 +1,4 @@
+-- The turns of a block: its end, one more statement, a fault, and no turn left.
 use Rattle.std.proofs.Common.{◌≡◌, length, refl, sym, subst, ◌∙◌, List, arith}
 use Rattle.std.proofs.lemmas.Result.{err_from_is_err_and}
 use Rattle.sv_world.specs.declared.node.Node.{Node}

@@ -1,3 +1,4 @@
+-- Each call may go less deep, and the turns that are left of a block read its rest.
 use Rattle.std.proofs.Common.{◌≡◌, ◌+◌, ◌-◌, ◌*◌, ◌≤◌, ◌<◌, length}
 use Rattle.sv_text.specs.Reading.{stmt_at}
 use Rattle.sv_text.proofs.Flat.{run_by}

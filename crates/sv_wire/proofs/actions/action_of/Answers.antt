@@ -1,3 +1,4 @@
+-- What is proved by hand of `action_of`.
 use Rattle.sv_wire.proofs.NearFields.{count_is}
 use Rattle.sv_wire.proofs.actions.action_of.Goals as goal
 

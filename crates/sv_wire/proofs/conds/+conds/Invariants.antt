@@ -1,3 +1,4 @@
+-- The measures of the functions of the cycle `conds`.
 use Rattle.std.proofs.Common.{◌+◌, ◌*◌}
 use Rattle.sv_wire.proofs.conds.+conds.Given as goal
 

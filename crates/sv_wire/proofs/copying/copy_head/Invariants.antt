@@ -1,3 +1,4 @@
+-- The loop invariant of `copy_head`.
 use Rattle.std.proofs.Common.{◌≡◌, take}
 use Rattle.sv_wire.proofs.copying.copy_head.Given as goal
 

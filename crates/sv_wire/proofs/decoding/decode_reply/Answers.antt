@@ -1,3 +1,4 @@
+-- What is proved by hand of `decode_reply`.
 use Rattle.std.proofs.Common.{subst, ap, ◌∙◌, arith}
 use Rattle.sv_wire.specs.Messages.{reply_at, Decodes}
 use Rattle.sv_wire.proofs.AgainMessages.{reply_is_read}

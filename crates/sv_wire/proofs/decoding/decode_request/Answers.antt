@@ -1,3 +1,4 @@
+-- What is proved by hand of `decode_request`.
 use Rattle.std.proofs.Common.{subst, ap, ◌∙◌, arith}
 use Rattle.sv_wire.specs.Messages.{request_at, Decodes}
 use Rattle.sv_wire.proofs.AgainMessages.{request_is_read}

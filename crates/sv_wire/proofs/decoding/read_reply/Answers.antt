@@ -1,3 +1,4 @@
+-- What is proved by hand of `read_reply`.
 use Rattle.sv_wire.proofs.NearMessages.{reply_place}
 use Rattle.sv_wire.proofs.decoding.read_reply.Goals as goal
 

@@ -1,3 +1,4 @@
+-- What is proved by hand of `read_request`.
 use Rattle.sv_wire.proofs.NearMessages.{request_place}
 use Rattle.sv_wire.proofs.decoding.read_request.Goals as goal
 

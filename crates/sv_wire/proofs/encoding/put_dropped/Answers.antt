@@ -1,3 +1,4 @@
+-- What is proved by hand of `put_dropped`.
 use Rattle.std.proofs.Common.{◌++◌, ◌∷◌, []}
 use Rattle.byteorder.specs.Endian.{big_bytes}
 use Rattle.sv_wire.specs.Spelling.{reply_bytes}

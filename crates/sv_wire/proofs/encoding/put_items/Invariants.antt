@@ -1,3 +1,4 @@
+-- The loop invariant of `put_items`.
 use Rattle.std.proofs.Common.{◌≡◌, ◌++◌, take, flat_map}
 use Rattle.sv_wire.specs.Spelling.{item_bytes}
 use Rattle.sv_wire.proofs.encoding.put_items.Given as goal

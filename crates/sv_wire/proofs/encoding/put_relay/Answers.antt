@@ -1,3 +1,4 @@
+-- What is proved by hand of `put_relay`.
 use Rattle.std.proofs.Common.{◌++◌, ◌∷◌, [], length}
 use Rattle.std.specs.List.{flat_map}
 use Rattle.byteorder.specs.Endian.{big_bytes}

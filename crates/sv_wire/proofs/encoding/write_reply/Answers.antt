@@ -1,3 +1,4 @@
+-- What is proved by hand of `write_reply`.
 use Rattle.std.proofs.Common.{ℕ, List, ◌++◌, ap, ◌∙◌}
 use Rattle.sv_wire.specs.Messages.{reply_at}
 use Rattle.sv_wire.specs.Spelling.{reply_bytes}

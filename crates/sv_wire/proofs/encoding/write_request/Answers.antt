@@ -1,3 +1,4 @@
+-- What is proved by hand of `write_request`.
 use Rattle.std.proofs.Common.{ℕ, List, ◌++◌, ap, ◌∙◌}
 use Rattle.sv_wire.specs.Messages.{request_at}
 use Rattle.sv_wire.specs.Spelling.{request_bytes}

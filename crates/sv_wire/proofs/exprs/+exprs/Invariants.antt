@@ -1,3 +1,4 @@
+-- The measures of the functions of the cycle `exprs`.
 use Rattle.std.proofs.Common.{◌+◌, ◌*◌}
 use Rattle.sv_wire.proofs.exprs.+exprs.Given as goal
 

@@ -1,3 +1,4 @@
+-- What is proved by hand of `encoded_is_read_back`.
 use Rattle.sv_wire.proofs.AgainMessages.{request_is_read, reply_is_read}
 use Rattle.sv_wire.proofs.laws.encoded_is_read_back.Goals as goal
 

@@ -1,3 +1,4 @@
+-- What is proved by hand of `one_payload`.
 use Rattle.sv_wire.proofs.AgainMessages.{requests_differ, replies_differ}
 use Rattle.sv_wire.proofs.laws.one_payload.Goals as goal
 

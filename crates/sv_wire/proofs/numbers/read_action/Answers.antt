@@ -1,7 +1,8 @@
+-- What is proved by hand of `read_action`.
 use Rattle.std.proofs.Common.{subst}
 use Rattle.std.specs.Prelude.{All}
 use Rattle.std.proofs.lemmas.List.Elements.{recursion_from_All}
-use Rattle.sv_wire.specs.Ranges.{ObjectFits}
+use Rattle.sv_world.specs.Ranges.{ObjectFits}
 use Rattle.sv_wire.proofs.numbers.read_action.Goals as goal
 
 pub returns : goal.returns

@@ -1,3 +1,4 @@
+-- The loop invariant of `read_head`.
 use Rattle.std.proofs.Common.{ℕ, ◌<◌, get_or}
 use Rattle.sv_wire.specs.declared.message.Held.{Held}
 use Rattle.sv_wire.specs.Ranges.{HeldFits}

@@ -1,3 +1,4 @@
+-- The loop invariant of `read_items`.
 use Rattle.std.proofs.Common.{ℕ, ◌<◌, get_or}
 use Rattle.sv_wire.specs.declared.message.Item.{Item}
 use Rattle.sv_wire.specs.Ranges.{ItemFits}

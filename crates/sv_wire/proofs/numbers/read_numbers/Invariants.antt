@@ -1,3 +1,4 @@
+-- The loop invariant of `read_numbers`.
 use Rattle.std.proofs.Common.{ℕ, ℤ, ◌<◌, get_or}
 use Rattle.std.specs.Prelude.{FitsSigned}
 use Rattle.std.specs.Int.{w64}

@@ -1,3 +1,4 @@
+-- The loop invariant of `read_results`.
 use Rattle.std.proofs.Common.{ℕ, ◌<◌, get_or}
 use Rattle.sv_wire.specs.declared.message.Done1.{Done1}
 use Rattle.sv_wire.specs.Ranges.{ResultFits}

@@ -1,3 +1,4 @@
+-- The loop invariant of `read_values`.
 use Rattle.std.proofs.Common.{ℕ, ℤ, ◌<◌, List, get_or}
 use Rattle.sv_wire.specs.Ranges.{ValueFits}
 use Rattle.sv_wire.proofs.numbers.read_values.Given as goal

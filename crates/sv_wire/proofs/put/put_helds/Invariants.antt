@@ -1,3 +1,4 @@
+-- The loop invariant of `put_helds`.
 use Rattle.std.proofs.Common.{◌≡◌, ◌++◌, take, flat_map}
 use Rattle.sv_wire.specs.Spelling.{held_bytes}
 use Rattle.sv_wire.proofs.put.put_helds.Given as goal

@@ -1,3 +1,4 @@
+-- The loop invariant of `put_numbers`.
 use Rattle.std.proofs.Common.{◌≡◌, ◌++◌, take, flat_map}
 use Rattle.sv_wire.specs.Spelling.{int_bytes}
 use Rattle.std.specs.Int.{w64}

@@ -1,3 +1,4 @@
+-- The loop invariant of `put_objects`.
 use Rattle.std.proofs.Common.{◌≡◌, ◌++◌, take, flat_map}
 use Rattle.sv_wire.specs.Spelling.{object_bytes}
 use Rattle.sv_wire.proofs.put.put_objects.Given as goal

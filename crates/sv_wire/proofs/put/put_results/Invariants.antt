@@ -1,3 +1,4 @@
+-- The loop invariant of `put_results`.
 use Rattle.std.proofs.Common.{◌≡◌, ◌++◌, take, flat_map}
 use Rattle.sv_wire.specs.Spelling.{result_bytes}
 use Rattle.sv_wire.proofs.put.put_results.Given as goal

@@ -1,3 +1,4 @@
+-- The loop invariant of `put_values`.
 use Rattle.std.proofs.Common.{◌≡◌, ◌++◌, take, flat_map}
 use Rattle.sv_wire.specs.Spelling.{value_bytes}
 use Rattle.sv_wire.proofs.put.put_values.Given as goal

@@ -1,3 +1,4 @@
+-- The loop invariant of `put_nodes`.
 use Rattle.std.proofs.Common.{◌≡◌, ◌++◌, take, flat_map}
 use Rattle.sv_wire.specs.Spelling.{node_bytes}
 use Rattle.sv_wire.proofs.put_body.put_nodes.Given as goal

@@ -1,14 +1,15 @@
+-- What the check leaves to prove of `add_all`.
 use Rattle.std.proofs.Common.{List, sym, ap, ◌∙◌}
 use Rattle.std.specs.Vec.Iter.{into_iter_items}
 use Rattle.sv_wire.specs.declared.message.Done1.{Done1}
 use Rattle.sv_journal.specs.History.{reported}
-use Rattle.sv_witness.specs.Kept.{kept_at, HasRoom, with_values}
+use Rattle.sv_witness.specs.Kept.{kept_at, HasRoomFor, with_values}
 use Rattle.sv_witness.proofs.KeptRows.{once-first, each-first, room-others, values-next}
 use Rattle.sv_witness.proofs.reports.add_all.Goals as goal
 
 pub add_result-requires : goal.add_result-requires
 add_result-requires c =
-    (each-first (λ (d : Done1). HasRoom c.loop-found.reports d.pos) c.in-Some.found (into_iter_items c.loop-found.left) (into_iter_items c.next.new.self)
+    (each-first (λ (d : Done1). HasRoomFor c.loop-found.reports d.pos) c.in-Some.found (into_iter_items c.loop-found.left) (into_iter_items c.next.new.self)
     c.in-Some.ensures.items c.loop-found.invariant.room).0
 
 pub loop-found-preserved : goal.loop-found-preserved
@@ -19,7 +20,7 @@ loop-found-preserved c =
     let all = into_iter_items c.loop-found.left in
     let rest = into_iter_items c.next.new.self in
     let once = once-first d all rest c.in-Some.ensures.items c.loop-found.invariant.once in
-    let room = each-first (λ (x : Done1). HasRoom old x.pos) d all rest c.in-Some.ensures.items c.loop-found.invariant.room in
+    let room = each-first (λ (x : Done1). HasRoomFor old x.pos) d all rest c.in-Some.ensures.items c.loop-found.invariant.room in
     record {
       kept = λ p.
           values-next old new c.args.client d rest once.0 c.add_result.ensures.added c.add_result.ensures.others p

@@ -1,3 +1,4 @@
+-- An action that no cause applies to is good.
 use Rattle.std.proofs.Common.{sym}
 use Rattle.sv_world.proofs.Good.{good_of_none}
 use Rattle.sv_world.proofs.check.check_action.Goals as goal

@@ -1,3 +1,4 @@
+-- The nodes pass where the body does.
 use Rattle.std.proofs.Common.{ℕ, nat_lt, ap, ◌∙◌}
 use Rattle.sv_world.specs.Faults.{has_slots}
 use Rattle.sv_world.specs.Names.{set_passes, get_passes}

@@ -1,3 +1,4 @@
+-- The one walk answers as the five tests do.
 use Rattle.std.proofs.Common.{◌≡◌, ◌≤◌, List, refl, sym, ap, ◌∙◌, subst, arith}
 use Rattle.sv_world.specs.Faults.{has_slots, sets_in_mask, has_attrs, is_too_large, is_too_deep}
 use Rattle.sv_world.specs.Parts.{Part, Block, first, parts}

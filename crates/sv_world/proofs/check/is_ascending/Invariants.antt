@@ -1,3 +1,4 @@
+-- The objects that are left ascend from the last one just where all do.
 use Rattle.std.proofs.Common.{◌≡◌, ◌∷◌, map, drop}
 use Rattle.sv_world.specs.Faults.{is_ascending}
 use Rattle.sv_world.specs.declared.world.ObjectId.{ObjectId}

@@ -1,3 +1,4 @@
+-- One of the reads that are left is no object just where one of all is none.
 use Rattle.std.proofs.Common.{◌≡◌, map, drop, nat_le}
 use Rattle.std.specs.List.{list_any}
 use Rattle.sv_world.specs.declared.world.ObjectId.{ObjectId}

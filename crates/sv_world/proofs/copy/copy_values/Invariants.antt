@@ -1,3 +1,4 @@
+-- The values so far were copied.
 use Rattle.std.proofs.Common.{◌≡◌, take}
 use Rattle.sv_world.proofs.copy.copy_values.Given as goal
 

@@ -1,3 +1,4 @@
+-- Bodies that pass the test are equal, and equal ones pass it.
 use Rattle.std.proofs.Common.{◌≡◌, List, true, subst}
 use Rattle.sv_world.specs.Same.{is_same_body}
 use Rattle.sv_world.specs.declared.action.Stmt.{Stmt}

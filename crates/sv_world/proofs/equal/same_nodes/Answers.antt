@@ -1,3 +1,4 @@
+-- Where the other nodes end first, they are not the same.
 use Rattle.std.proofs.Common.{◌≤◌, length, drop, sym, ◌∙◌, arith, length-drop}
 use Rattle.sv_world.proofs.Same.{shorter_differs}
 use Rattle.sv_world.proofs.equal.same_nodes.Goals as goal

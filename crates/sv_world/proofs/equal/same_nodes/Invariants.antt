@@ -1,3 +1,4 @@
+-- The nodes that are left are the same just where all are.
 use Rattle.std.proofs.Common.{◌≡◌, drop}
 use Rattle.sv_world.specs.Same.{are_same_nodes}
 use Rattle.sv_world.proofs.equal.same_nodes.Given as goal

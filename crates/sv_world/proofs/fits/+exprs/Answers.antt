@@ -1,3 +1,4 @@
+-- A literal keeps to all limits.
 use Rattle.std.proofs.Common.{List, ap, ◌∙◌}
 use Rattle.sv_world.specs.Parts.{Part, first}
 use Rattle.sv_world.specs.PartTrees.{fits}

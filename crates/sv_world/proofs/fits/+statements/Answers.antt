@@ -1,3 +1,4 @@
+-- One more statement of a block, and a statement that does not fit.
 use Rattle.std.proofs.Common.{◌≡◌, suc, ◌+◌, ◌-◌, ◌≤◌, Bool, true, ◌&&◌, drop, refl, sym, ◌∙◌, arith}
 use Rattle.sv_world.specs.Parts.{first, parts, block}
 use Rattle.sv_world.specs.PartTrees.{fits}

@@ -1,3 +1,4 @@
+-- Each call has fewer nodes before it, and the statements that are left of a block decide on it.
 use Rattle.std.proofs.Common.{◌≡◌, ◌+◌, ◌-◌, ◌<◌, max, true, length, drop}
 use Rattle.sv_world.specs.Parts.{first, parts, block, is_block}
 use Rattle.sv_world.specs.PartTrees.{part_nodes, part_depth, fits}

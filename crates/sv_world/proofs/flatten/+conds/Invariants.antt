@@ -1,3 +1,4 @@
+-- Each call has a smaller tree.
 use Rattle.std.proofs.Common.{◌+◌, ◌*◌}
 use Rattle.sv_world.specs.Trees.{cond_nodes}
 use Rattle.sv_world.proofs.flatten.+conds.Given as goal

@@ -1,3 +1,4 @@
+-- The statements that are left have short blocks just where all do.
 use Rattle.std.proofs.Common.{◌≡◌, map, drop}
 use Rattle.sv_world.specs.Trees.{all_true}
 use Rattle.sv_world.specs.Short.{stmt_is_short}

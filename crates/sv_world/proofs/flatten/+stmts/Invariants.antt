@@ -1,3 +1,4 @@
+-- The nodes of the statements so far were appended.
 use Rattle.std.proofs.Common.{◌≡◌, true, map, ◌++◌, take, drop}
 use Rattle.sv_world.specs.Trees.{all_true}
 use Rattle.sv_world.specs.Short.{stmt_is_short}

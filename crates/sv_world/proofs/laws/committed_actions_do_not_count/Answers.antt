@@ -1,3 +1,4 @@
+-- Blanks in place of the committed actions change nothing.
 use Rattle.std.proofs.Common.{◌++◌, replicate, drop, length, refl, ap}
 use Rattle.sv_world.specs.Control.{blank}
 use Rattle.sv_world.proofs.Writers.{action_at-above}

@@ -1,3 +1,4 @@
+-- The influence of a new action is the least set.
 use Rattle.std.proofs.Common.{◌≡◌, ℕ, true, subst, sym, refl, suc, ◌+◌, ◌<◌, length, arith, add-one}
 use Rattle.sv_world.specs.Control.{last_writer}
 use Rattle.sv_world.proofs.Influences.{influence-iff, influence-sound, influence-cut, influence-ascending, influence-bounds, needed-appended}

@@ -1,3 +1,4 @@
+-- What a session lacks is the least set.
 use Rattle.std.proofs.Common.{arith}
 use Rattle.sv_world.proofs.Needs.{needed-iff, needed-closed_writer, needed-least}
 use Rattle.sv_world.proofs.laws.missing_influences_are_the_least_set.Goals as goal

@@ -1,3 +1,4 @@
+-- The positions that a session lacks ascend.
 use Rattle.std.proofs.Common.{arith}
 use Rattle.sv_world.proofs.Needs.{needed-ascending, needed-bounds, needed-ends}
 use Rattle.sv_world.proofs.laws.missing_influences_ascend.Goals as goal

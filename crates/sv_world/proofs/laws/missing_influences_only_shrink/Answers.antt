@@ -1,3 +1,4 @@
+-- What a session lacks later is among what it lacked before.
 use Rattle.std.proofs.Common.{refl, add-one}
 use Rattle.sv_world.proofs.Needs.{needed-into, needed-shorter}
 use Rattle.sv_world.proofs.Influences.{needed-chain}

@@ -1,3 +1,4 @@
+-- Marks up to the commit, and later actions, change nothing.
 use Rattle.std.proofs.Common.{◌++◌, arith}
 use Rattle.sv_world.proofs.Writers.{action_at-append}
 use Rattle.sv_world.proofs.Needs.{needed-agree}

@@ -1,3 +1,4 @@
+-- The nodes that are left pass just where all do.
 use Rattle.std.proofs.Common.{◌≡◌, drop}
 use Rattle.sv_world.specs.Names.{set_passes, get_passes}
 use Rattle.sv_world.specs.NodeTests.{nodes_pass}

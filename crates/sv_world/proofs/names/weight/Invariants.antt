@@ -1,3 +1,4 @@
+-- The nodes counted so far and those that are left make all.
 use Rattle.std.proofs.Common.{◌≡◌, ◌+◌, ◌≤◌, drop}
 use Rattle.sv_world.specs.NodeTests.{nodes_weight}
 use Rattle.sv_world.proofs.names.weight.Given as goal

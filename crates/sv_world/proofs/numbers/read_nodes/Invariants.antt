@@ -1,3 +1,4 @@
+-- The nodes that are left fit just where all do.
 use Rattle.std.proofs.Common.{◌≡◌, drop, map}
 use Rattle.sv_world.specs.Trees.{all_true}
 use Rattle.sv_world.specs.Ranges.{node_fits}

@@ -1,3 +1,4 @@
+-- A count may be sent to another thread.
 use denote.Param.Send.{IsSend}
 use Rattle.sv_bytes.specs.contracts.faults.FaultCount.{the_row}
 

@@ -1,3 +1,4 @@
+-- A count may be shared between threads.
 use denote.Param.Send.{IsSync, part_keyless}
 use Rattle.sv_bytes.specs.contracts.faults.FaultCount.{the_row}
 use Rattle.sv_bytes.proofs.faults.FaultCount.TheSendSync.Send.{send}

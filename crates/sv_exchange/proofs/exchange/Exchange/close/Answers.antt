@@ -1,3 +1,4 @@
+-- What is proved by hand of `Exchange::close`.
 use Rattle.std.proofs.Common.{true, ap, ◌∙◌}
 use Rattle.sv_exchange.specs.View.{ExchangeView}
 use Rattle.sv_exchange.proofs.Views.{closed_kept, closed_view}

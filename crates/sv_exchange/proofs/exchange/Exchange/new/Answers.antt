@@ -1,3 +1,4 @@
+-- What is proved by hand of `Exchange::new`.
 use Rattle.std.proofs.Common.{ap}
 use Rattle.sv_link.specs.Sides.{LinkView}
 use Rattle.sv_wire.specs.Laws.{IsRequest, IsReply}

@@ -1,3 +1,4 @@
+-- What is proved by hand of `Exchange::next_request`.
 use Rattle.std.proofs.Common.{◌≡◌, sym, subst}
 use Rattle.std.specs.Prelude.{IfOk, OnErr}
 use Rattle.sv_exchange.specs.View.{ExchangeView, TakesRequest}

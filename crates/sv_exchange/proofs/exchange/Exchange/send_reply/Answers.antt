@@ -1,3 +1,4 @@
+-- What is proved by hand of `Exchange::send_reply`.
 use Rattle.std.proofs.Common.{◌≡◌, [], ◌∷◌, ◌++◌, subst}
 use Rattle.std.specs.Prelude.{OnOk, OnErr}
 use Rattle.sv_exchange.specs.View.{ExchangeView}

@@ -1,3 +1,4 @@
+-- What is proved by hand of `Exchange::stop`.
 use Rattle.std.proofs.Common.{true, ap, ◌∙◌}
 use Rattle.sv_exchange.specs.View.{ExchangeView}
 use Rattle.sv_exchange.proofs.Views.{stopped_kept, stopped_view}

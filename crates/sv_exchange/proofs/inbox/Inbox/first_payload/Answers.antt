@@ -1,3 +1,4 @@
+-- What is proved by hand of `Inbox::first_payload`.
 use Rattle.std.proofs.Common.{List, ℕ, Option, option_map, sym, ap, ◌∙◌}
 use Rattle.sv_frame.proofs.Fronts.{no_frame_if_too_long}
 use Rattle.sv_exchange.specs.Incoming.{first_payload_of}

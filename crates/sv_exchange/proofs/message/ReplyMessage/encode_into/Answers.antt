@@ -1,3 +1,4 @@
+-- What is proved by hand of `encode_into` of a reply.
 use Rattle.sv_wire.specs.Spelling.{reply_bytes}
 use Rattle.sv_exchange.proofs.Sizes.{reply_short, encoded_short}
 use Rattle.sv_exchange.proofs.message.ReplyMessage.encode_into.Goals as goal

@@ -1,3 +1,4 @@
+-- What is proved by hand of `encode_into` of a request.
 use Rattle.sv_wire.specs.Spelling.{request_bytes}
 use Rattle.sv_exchange.proofs.Sizes.{request_short, encoded_short}
 use Rattle.sv_exchange.proofs.message.RequestMessage.encode_into.Goals as goal

@@ -1,3 +1,4 @@
+-- What is proved by hand of `FrameReader::feed`.
 use Rattle.std.proofs.Common.{◌≡◌, List, ℕ, ◌+◌, ◌-◌, ◌++◌, take, drop, length, ap, ◌∙◌, arith}
 use Rattle.std.specs.Vec.{with_items}
 use Rattle.std.proofs.Math.Seq.{take-length}

@@ -1,3 +1,4 @@
+-- What is proved by hand of `FrameReader::first`.
 use Rattle.std.proofs.Common.{sym, ap, ◌∙◌}
 use Rattle.sv_frame.specs.Frames.{first_frame, too_long}
 use Rattle.sv_frame.proofs.Fronts.{room_if_neither}

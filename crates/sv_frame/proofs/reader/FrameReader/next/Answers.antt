@@ -1,3 +1,4 @@
+-- What is proved by hand of `FrameReader::next`.
 use Rattle.std.proofs.Common.{◌≡◌, Some, None, List, ℕ, ◌+◌, ◌-◌, ◌≤◌, ◌++◌, take, drop, refl, sym, ap, ◌∙◌, arith, option_map, length-take}
 use Rattle.sv_frame.specs.Frames.{frame, first_frame, too_long}
 use Rattle.sv_frame.proofs.Fronts.{room_if_neither, no_frame_if_too_long, some_pair}

@@ -1,3 +1,4 @@
+-- What is proved by hand of `FrameReader::skip`.
 use Rattle.std.proofs.Common.{◌≡◌, Some, List, ℕ, ◌+◌, ◌-◌, ◌≤◌, ◌++◌, take, drop, refl, sym, ap, ◌∙◌, arith, length-take}
 use Rattle.sv_frame.specs.Frames.{frame, first_frame}
 use Rattle.sv_frame.proofs.Fronts.{no_frame_if_too_long, some_pair}
@@ -23,12 +24,12 @@ returns-in-Whole c =
     let joined : c.args.self.now ≡ frame payload ++ new = sym same ∙ (found.2 ∙ ap (λ (l : List ℕ). frame payload ++ l) after) in
     skips payload c.args.self.now new (takes_off payload c.args.self.now new whole joined)
 
-pub returns-in-Partial : goal.returns-in-Partial
-returns-in-Partial c =
+pub unreachable-requires : goal.unreachable-requires
+unreachable-requires c =
     let same = ap (part c.self.inside.start c.self.inside.end) c.deref.ensures.value ∙ c.self.view_is in
-    absurd (c.requires (ap first_frame (sym same) ∙ c.in-Partial.ensures.0))
+    c.requires (ap first_frame (sym same) ∙ c.in-Partial.ensures.0)
 
-pub returns-in-Oversize : goal.returns-in-Oversize
-returns-in-Oversize c =
+pub unreachable-requires-in-Oversize : goal.unreachable-requires-in-Oversize
+unreachable-requires-in-Oversize c =
     let same = ap (part c.self.inside.start c.self.inside.end) c.deref.ensures.value ∙ c.self.view_is in
-    absurd (c.requires (ap first_frame (sym same) ∙ no_frame_if_too_long _ _ c.in-Oversize.ensures))
+    c.requires (ap first_frame (sym same) ∙ no_frame_if_too_long _ _ c.in-Oversize.ensures)

@@ -1,3 +1,4 @@
+-- What is proved by hand of `Desk::close`.
 use Rattle.sv_lock.specs.Rest.{the}
 use Rattle.sv_lock.proofs.Calls.{some_the}
 use Rattle.sv_lock.proofs.Keeps.{closes}

@@ -1,3 +1,4 @@
+-- What is proved by hand of `Desk::cut`.
 use Rattle.std.proofs.Common.{rules}
 use Rattle.sv_lock.proofs.Keeps.{splits}
 use Rattle.sv_lock.proofs.desk.Desk.cut.Goals as goal

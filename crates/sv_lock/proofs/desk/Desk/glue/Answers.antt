@@ -1,3 +1,4 @@
+-- What is proved by hand of `Desk::glue`.
 use Rattle.std.proofs.Common.{rules}
 use Rattle.sv_lock.proofs.Keeps.{joins}
 use Rattle.sv_lock.proofs.desk.Desk.glue.Goals as goal

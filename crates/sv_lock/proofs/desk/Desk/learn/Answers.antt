@@ -1,3 +1,4 @@
+-- What is proved by hand of `Desk::learn`.
 use Rattle.std.proofs.Common.{rules}
 use Rattle.sv_lock.proofs.Keeps.{learns}
 use Rattle.sv_lock.proofs.desk.Desk.learn.Goals as goal

@@ -1,3 +1,4 @@
+-- What is proved by hand of `Desk::open`.
 use Rattle.std.proofs.Common.{rules, ◌≡◌, [], ◌∷◌, ap, sym, subst}
 use Rattle.sv_lock.proofs.Keeps.{opens}
 use Rattle.sv_lock.proofs.desk.Desk.open.Goals as goal

@@ -1,3 +1,4 @@
+-- What is proved by hand of `Desk::release`.
 use Rattle.std.proofs.Common.{rules}
 use Rattle.sv_lock.proofs.Keeps.{returns}
 use Rattle.sv_lock.proofs.desk.Desk.release.Goals as goal

@@ -1,5 +1,9 @@
+-- What is proved by hand of `Desk::run`.
 use Rattle.sv_lock.proofs.Calls.{held, may_return, ran}
 use Rattle.sv_lock.proofs.desk.Desk.run.Goals as goal
+
+pub take-requires-clause-may : goal.take-requires-clause-may
+take-requires-clause-may g c = let r = c.requires in record { idle = r.idle.0; number = (_, r.number); based = (r.can.0, r.can.1) }
 
 pub step-answer-requires-clause-held : goal.step-answer-requires-clause-held
 step-answer-requires-clause-held g c =

@@ -1,3 +1,4 @@
+-- The loop invariant of `Desk::sleep`.
 use Rattle.std.proofs.Common.{◌≡◌}
 use Rattle.sv_lock.proofs.desk.Desk.sleep.Given as goal
 

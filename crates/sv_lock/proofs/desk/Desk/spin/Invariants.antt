@@ -1,3 +1,4 @@
+-- The loop invariant of `Desk::spin`.
 use Rattle.std.proofs.Common.{◌≡◌}
 use Rattle.sv_lock.proofs.desk.Desk.spin.Given as goal
 

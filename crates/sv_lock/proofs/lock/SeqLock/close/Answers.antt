@@ -1,3 +1,4 @@
+-- What is proved by hand of `SeqLock::close`.
 use Rattle.std.proofs.Common.{ap, ◌∙◌}
 use Rattle.sv_lock.proofs.Calls.{all_in}
 use Rattle.sv_lock.proofs.Histories.{all_seen}

@@ -1,7 +1,8 @@
+-- What the check leaves to prove of `Queue::install_front`.
 use Rattle.std.proofs.Common.{List, ap, subst, sym, ◌∙◌}
 use Rattle.sv_world.specs.declared.action.Action.{Action}
 use Rattle.sv_queue.specs.Invariant.{HaveSources}
-use Rattle.sv_queue.specs.Queue.{actions_of, first_installed}
+use Rattle.sv_queue.specs.Queue.{entry_actions, first_installed}
 use Rattle.sv_queue.specs.Pairs.{pairs_of}
 use Rattle.sv_queue.proofs.Kept.{agree_install, first_can_write, first_values}
 use Rattle.sv_queue.proofs.Installs.{pairs_of-give, first_installed_is}
@@ -38,8 +39,8 @@ invariant_of-self c =
     record {
       agree = rw c.put_values.ensures (agree_install a.shape a.commit a.committed c.unwrap.result e a.entries.items rest
           a.writers c.remove_first.new.self a.given.items c.give_written.new.rows.items c.self.invariant.agree first c.unwrap.ensures c.remove_first.ensures c.give_written.ensures);
-      sources = rw c.pop_front-2.ensures.rest (sources-rest a.commit e.action (actions_of rest) a.sources.items
-          (subst (λ (bs : List Action). HaveSources a.commit bs a.sources.items) (ap actions_of first) c.self.invariant.sources));
+      sources = rw c.pop_front-2.ensures.rest (sources-rest a.commit e.action (entry_actions rest) a.sources.items
+          (subst (λ (bs : List Action). HaveSources a.commit bs a.sources.items) (ap entry_actions first) c.self.invariant.sources));
     }
 
 pub returns : goal.returns

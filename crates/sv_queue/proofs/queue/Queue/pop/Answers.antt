@@ -1,7 +1,8 @@
+-- What the check leaves to prove of `Queue::pop`.
 use Rattle.std.proofs.Common.{◌≡◌, [], ◌∷◌, ◌++◌, List, ◌∙◌, ap, subst}
 use Rattle.sv_world.specs.declared.action.Action.{Action}
 use Rattle.sv_queue.specs.Invariant.{HaveSources}
-use Rattle.sv_queue.specs.Queue.{actions_of}
+use Rattle.sv_queue.specs.Queue.{entry_actions}
 use Rattle.sv_queue.proofs.SourceLists.{actions-push, sources-front}
 use Rattle.sv_queue.proofs.Kept.{agree_pop, last_can_write}
 use Rattle.sv_queue.proofs.queue.Queue.pop.Goals as goal
@@ -18,9 +19,9 @@ invariant_of-self c =
     let last = rw c.unwrap-entry.ensures at c.pop_back.ensures.items in
     let front = c.pop_back.new.self.items in
     let e = c.unwrap-entry.result in
-    let is : actions_of a.entries.items ≡ actions_of front ++ e.action ∷ [] = ap actions_of last ∙ actions-push front e in
+    let is : entry_actions a.entries.items ≡ entry_actions front ++ e.action ∷ [] = ap entry_actions last ∙ actions-push front e in
     record {
       agree = agree_pop a.shape a.commit a.committed a.entries.items front a.writers c.remove_last.new.self a.given.items e c.self.invariant.agree last c.remove_last.ensures;
       sources = rw (c.pop_back-2.ensures.rest, a.sources.ok.0)
-          (sources-front a.commit (actions_of front) e.action a.sources.items (subst (λ (bs : List Action). HaveSources a.commit bs a.sources.items) is c.self.invariant.sources));
+          (sources-front a.commit (entry_actions front) e.action a.sources.items (subst (λ (bs : List Action). HaveSources a.commit bs a.sources.items) is c.self.invariant.sources));
     }

@@ -1,10 +1,11 @@
+-- What the check leaves to prove of `Queue::push`.
 use Rattle.std.proofs.Common.{◌≡◌, suc, ◌+◌, ◌^◌, ◌<◌, ◌∙◌, [], ◌∷◌, ◌++◌, length, get_or, replicate, None, sym, ap, arith}
 use Rattle.std.proofs.lemmas.List.{length-map}
 use Rattle.sv_world.specs.Control.{blank, last_writer}
 use Rattle.sv_world.specs.Sets.{read_set}
 use Rattle.sv_world.specs.Faults.{IsGoodAction}
 use Rattle.sv_queue.specs.declared.queued.Queued.{Queued}
-use Rattle.sv_queue.specs.Queue.{QueueView, actions_of, last_position, queue_actions}
+use Rattle.sv_queue.specs.Queue.{QueueView, entry_actions, last_position, queue_actions}
 use Rattle.sv_queue.proofs.Kept.{agree_push, can_write}
 use Rattle.sv_queue.proofs.SourceLists.{actions-push, sources-push}
 use Rattle.sv_queue.proofs.queue.Queue.push.Goals as goal
@@ -30,8 +31,8 @@ invariant_of-self-2 c =
     c.push_back_reserved.ensures.items ∙ ap (λ ss. ss ++ c.sources_at-sources.result ∷ []) c.in_ok-reserve-2.ensures.items in
     record {
       agree = rw added (agree_push a.shape a.commit a.committed es a.writers c.add.new.self a.given.items e p c.self.invariant.agree (record { action = good; values = tt; attrs = tt }) at room c.in_ok-add.ensures.ok);
-      sources = rw (added, actions-push es e, stands) (sources-push a.commit (actions_of es) c.args.action a.sources.items c.sources_at-sources.result c.self.invariant.sources
+      sources = rw (added, actions-push es e, stands) (sources-push a.commit (entry_actions es) c.args.action a.sources.items c.sources_at-sources.result c.self.invariant.sources
           (λ k low. c.sources_at-sources.ensures k low
           ∙ ap (λ (v : QueueView). last_writer (queue_actions v) (get_or (read_set c.args.action) k 0) p) (sym c.self.view_is)
-          ∙ ap (λ n. last_writer (replicate a.commit blank ++ actions_of es) (get_or (read_set c.args.action) k 0) n) (at ∙ ap (λ n. suc (a.commit + n)) (sym (length-map es (λ (d : Queued). d.action))))));
+          ∙ ap (λ n. last_writer (replicate a.commit blank ++ entry_actions es) (get_or (read_set c.args.action) k 0) n) (at ∙ ap (λ n. suc (a.commit + n)) (sym (length-map es (λ (d : Queued). d.action))))));
     }

@@ -1,5 +1,6 @@
+-- Each session so far had its End.
 use Rattle.std.proofs.Common.{◌≡◌, ℕ, ◌<◌, true}
-use Rattle.sv_system.specs.Fits.{is_ended}
+use Rattle.sv_journal.specs.Sessions.{is_ended}
 use Rattle.sv_replay.specs.Machine.{stage_of, run_of}
 use Rattle.sv_replay.proofs.machine.Machine.are_ended.Given as goal
 

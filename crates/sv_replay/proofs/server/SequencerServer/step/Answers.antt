@@ -1,10 +1,9 @@
-use Rattle.std.proofs.Common.{◌∙◌}
-use Rattle.sv_sequencer.specs.Step.{history}
-use Rattle.sv_replay.proofs.Served.{same_ended, sequencer_answers}
+-- A sequencer answers by the table.
+use Rattle.sv_replay.proofs.Served.{sequencer_answers}
 use Rattle.sv_replay.proofs.server.SequencerServer.step.Goals as goal
 
 pub step-requires-clause-first : goal.step-requires-clause-first
-step-requires-clause-first c = λ end. same_ended (history c.args.self.now) c.args.session ∙ c.requires.first end
+step-requires-clause-first c = c.requires.first
 
 pub returns : goal.returns
 returns c = sequencer_answers c.args.self.now c.step.new.self c.args.session c.args.request.now c.step.result c.step.ensures.ok

@@ -1,3 +1,4 @@
+-- What the check leaves to prove of `Core::accept`.
 use Rattle.std.proofs.Common.{◌≡◌, ◌<◌, suc, List, [], ◌∷◌, ◌++◌, map, length, All, refl, sym, ◌∙◌, ap, subst, arith}
 use Rattle.sv_world.specs.declared.world.ClientId.{ClientId}
 use Rattle.sv_wire.specs.declared.message.Held.{Held}
@@ -11,7 +12,7 @@ use Rattle.sv_queue.specs.Queue.{QueueView, IsUncommitted, last_position, with_a
 use Rattle.sv_influence.specs.Lacking.{lacking, base_objects}
 use Rattle.sv_sequencer.specs.declared.decision.Decision.TheVariants as decisions
 use Rattle.sv_sequencer.specs.Agreement.{Agrees}
-use Rattle.sv_sequencer.specs.Cores.{rules_of}
+use Rattle.sv_sequencer.specs.Cores.{core_rules}
 use Rattle.sv_sequencer.specs.Decisions.{action_in}
 use Rattle.sv_sequencer.specs.Relays.{held_in, item_in, marked_all, given_all}
 use Rattle.sv_sequencer.specs.Step.{entry_of}
@@ -29,8 +30,8 @@ pub deliver-requires-clause-positions : goal.deliver-requires-clause-positions
 deliver-requires-clause-positions g c =
     let Q = c.take_in.new.queue in
     let v = c.args.self.now.queue in
-    let author : ClientId = record { 0 = c.args.client } in
-    let last = subst (λ (u : QueueView). IsUncommitted u (last_position u)) (sym c.in_ok-relayed.ensures.queue) (pushed-last v author c.args.seq c.in_ok-action.action) in
+    let author : ClientId = record { 0 = c.args.id.client } in
+    let last = subst (λ (u : QueueView). IsUncommitted u (last_position u)) (sym c.in_ok-relayed.ensures.queue) (pushed-last v author c.args.id.seq c.in_ok-action.action) in
     subst (All (IsUncommitted Q)) (sym c.in_ok-relayed.ensures.positions) (lacking-within Q c.args.session (last_position Q) last)
 
 pub deliver-requires-clause-objects : goal.deliver-requires-clause-objects
@@ -48,9 +49,9 @@ returns-clause-ok g c =
     let q = c.args.request.now in
     let x = c.in_ok-relayed.relayed in
     let n = c.commit-commit.result in
-    let m = c.args.client in
+    let m = c.args.id.client in
     let author : ClientId = record { 0 = m } in
-    let seq = c.args.seq in
+    let seq = c.args.id.seq in
     let k = c.requires.0 in
     let f = k.fits in
     let l = logged.Relay seq n x.head x.positions in
@@ -65,12 +66,12 @@ returns-clause-ok g c =
     let within : All (IsUncommitted w) x.positions =
     subst (λ (u : QueueView). All (IsUncommitted w) (lacking u s (last_position u)) → All (IsUncommitted w) x.positions) pushed
     (λ all. subst (All (IsUncommitted w)) (sym c.in_ok-relayed.ensures.positions) all) (lacking-within w s (last_position w) (pushed-last v author seq (action_in q))) in
-    let said : l ≡ relay_of (rules_of a) h (actions_of h ++ action_in q ∷ []) s seq (suc (length (actions_of h))) =
+    let said : l ≡ relay_of (core_rules a) h (actions_of h ++ action_in q ∷ []) s seq (suc (length (actions_of h))) =
     ap (λ i. logged.Relay seq i x.head x.positions) c.commit-commit.ensures
     ∙ ap (λ xs. logged.Relay seq Q.commit xs x.positions) c.in_ok-relayed.ensures.head
     ∙ ap (logged.Relay seq Q.commit (held_in Q (base_objects Q s (last_position Q)))) c.in_ok-relayed.ensures.positions
     ∙ ap (λ (u : QueueView). logged.Relay seq u.commit (held_in u (base_objects u s (last_position u))) (lacking u s (last_position u))) pushed
-    ∙ relay-new (rules_of a) h v w (authored_by m seq q) s seq small k.commit refl refl refl k.sound.sent f fitted in
+    ∙ relay-new (core_rules a) h v w (authored_by m seq q) s seq small k.commit refl refl refl k.sound.sent f fitted in
     let rows = subst (λ (o : Logged). AreAfter (entry_of s q o) a.sessions.items next) made.logged c.note.ensures.rows in
     let items : x.items ≡ map (item_in w) x.positions =
     subst (λ (u : QueueView). x.items ≡ map (item_in u) x.positions) pushed
@@ -80,8 +81,8 @@ returns-clause-ok g c =
     (relayed-whole a.opening (accepted h ++ authored_by m seq q ∷ []) (result_at h) (sent_to h) (named_to h) w seq n x.head x.sent_head x.positions x.items fitted
     (c.in_ok-relayed.ensures.sent_head ∙ sym c.in_ok-relayed.ensures.head) items within) in
     carried a _ h s q (decisions.Accept m seq) _ l (ap (rules_with a.opening a.bound a.reach) c.note.ensures.count) refl made.logged said
-    (subst (λ (u : QueueView). Agrees (rules_of a) (entry_of s q l ∷ h) u next c.take_in.new.clients a.owed)
+    (subst (λ (u : QueueView). Agrees (core_rules a) (entry_of s q l ∷ h) u next c.take_in.new.clients a.owed)
     (sym (c.deliver.ensures ∙ ap (λ (u : QueueView). given_all (marked_all u x.positions s) x.head s) pushed))
-    (agree-accept (rules_of a) h v a.sessions.items next a.clients c.take_in.new.clients a.owed s q m seq n (suc (last_position v)) x.head x.positions
+    (agree-accept (core_rules a) h v a.sessions.items next a.clients c.take_in.new.clients a.owed s q m seq n (suc (last_position v)) x.head x.positions
     (c.commit-commit.ensures ∙ ap (λ (u : QueueView). u.commit) pushed) refl k refl c.requires.1.0 c.requires.1.1.1.0 c.requires.1.1.0 rows c.in_ok-relayed.ensures.clients within))
     (made.reply ∙ whole)

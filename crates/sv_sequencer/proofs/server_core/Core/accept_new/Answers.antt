@@ -1,7 +1,8 @@
+-- What the check leaves to prove of `Core::accept_new`.
 use Rattle.std.proofs.Common.{sym, ap, ◌∙◌}
 use Rattle.sv_world.specs.Faults.{first_fault_of_action}
 use Rattle.sv_world.proofs.Good.{good_of_none}
-use Rattle.sv_sequencer.specs.Cores.{rules_of}
+use Rattle.sv_sequencer.specs.Cores.{core_rules}
 use Rattle.sv_sequencer.specs.Decisions.{action_in}
 use Rattle.sv_sequencer.proofs.server_core.Core.accept_new.Goals as goal
 
@@ -17,7 +18,7 @@ accept-requires g c =
             c.requires.1.1.1.0,
             (
               same,
-              good_of_none (rules_of c.args.self.now).world.shape _ (ap (first_fault_of_action (rules_of c.args.self.now).world.shape) same ∙ c.requires.1.1.1.1),
+              good_of_none (core_rules c.args.self.now).world.shape _ (ap (first_fault_of_action (core_rules c.args.self.now).world.shape) same ∙ c.requires.1.1.1.1),
             ),
           ),
         ),

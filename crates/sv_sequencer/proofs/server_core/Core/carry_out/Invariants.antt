@@ -1,3 +1,4 @@
+-- The ghost arguments of `Core::carry_out`.
 use Rattle.sv_sequencer.proofs.server_core.Core.carry_out.Given as goal
 
 abbrev pub ghost-welcome : goal.ghost-welcome
@@ -15,17 +16,5 @@ ghost-accept_new g a = g.h
 abbrev pub ghost-note_results : goal.ghost-note_results
 ghost-note_results g a = g.h
 
-abbrev pub ghost-refuse : goal.ghost-refuse
-ghost-refuse g a = g.h
-
-abbrev pub ghost-repeat : goal.ghost-repeat
-ghost-repeat g a = g.h
-
-abbrev pub ghost-settle : goal.ghost-settle
-ghost-settle g a = g.h
-
-abbrev pub ghost-idle : goal.ghost-idle
-ghost-idle g a = g.h
-
-abbrev pub ghost-leave : goal.ghost-leave
-ghost-leave g a = g.h
+abbrev pub ghost-answer_plainly : goal.ghost-answer_plainly
+ghost-answer_plainly g a = g.h

@@ -1,8 +1,9 @@
+-- What the check leaves to prove of `Core::end`.
 use Rattle.std.proofs.Common.{◌-◌, ℕ, length, refl, sym, ap, subst, arith, ◌∷◌}
 use Rattle.sv_wire.specs.declared.message.Request.TheVariants as requests
 use Rattle.sv_journal.specs.declared.entry.Logged.TheVariants as logged
 use Rattle.sv_sequencer.specs.Agreement.{Agrees}
-use Rattle.sv_sequencer.specs.Cores.{rules_of}
+use Rattle.sv_sequencer.specs.Cores.{core_rules}
 use Rattle.sv_sequencer.specs.Step.{entry_of}
 use Rattle.sv_sequencer.proofs.AgreeSteps.{agree-quiet}
 use Rattle.sv_sequencer.proofs.Entered.{rules_with, owed-some}
@@ -30,5 +31,5 @@ returns-clause-keeps g c =
     let next = c.note.new.rows.items in
     let falls = owed-end (entry_of s requests.End logged.Bye) g.h n refl c.requires.1.1 c.requires.1.0 in
     subst (λ (m : ℕ). Agrees (rules_with a.opening a.bound a.reach m) (entry_of s requests.End logged.Bye ∷ g.h) a.queue next a.clients (a.owed - 1)) (sym c.note.ensures.count)
-    (agree-quiet (rules_of a) g.h a.queue a.sessions.items next a.clients a.owed s requests.End logged.Bye k refl c.requires.1.0 (quiet-bye g.h s requests.End) c.note.ensures.rows
+    (agree-quiet (core_rules a) g.h a.queue a.sessions.items next a.clients a.owed s requests.End logged.Bye k refl c.requires.1.0 (quiet-bye g.h s requests.End) c.note.ensures.rows
     (a.owed - 1) (omega (arith, falls, k.ends)))

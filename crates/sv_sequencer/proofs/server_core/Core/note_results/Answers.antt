@@ -1,13 +1,14 @@
+-- What the check leaves to prove of `Core::note_results`.
 use Rattle.std.proofs.Common.{◌≡◌, ◌≤◌, ◌<◌, ◌∷◌, All, refl, sym, ◌∙◌, ap, subst, arith}
 use Rattle.std.proofs.lemmas.List.Elements.{All-filter}
 use Rattle.sv_wire.specs.declared.message.Done1.{Done1}
 use Rattle.sv_wire.specs.declared.message.Request.TheVariants as requests
 use Rattle.sv_journal.specs.declared.entry.Logged.TheVariants as logged
 use Rattle.sv_journal.specs.Answer.{commit_with}
-use Rattle.sv_queue.specs.Queue.{QueueView, last_position, installed}
+use Rattle.sv_queue.specs.Queue.{QueueView, last_position, ready_installed}
 use Rattle.sv_sequencer.specs.declared.decision.Decision.TheVariants as decisions
 use Rattle.sv_sequencer.specs.Agreement.{Agrees}
-use Rattle.sv_sequencer.specs.Cores.{rules_of}
+use Rattle.sv_sequencer.specs.Cores.{core_rules}
 use Rattle.sv_sequencer.specs.Decisions.{results_in}
 use Rattle.sv_sequencer.specs.Relays.{is_missing, with_reports, CanReport}
 use Rattle.sv_sequencer.specs.Step.{entry_of}
@@ -23,7 +24,7 @@ copy_missing-requires g c =
     let k = c.requires.0 in
     let small : c.args.session < 64 = omega (arith, c.requires.1.0, k.few_sessions) in
     subst (All (CanReport a.queue)) (sym c.results_of.ensures)
-    (can_report_done (rules_of a) g.h a.queue c.args.session (results_in c.args.request.now) small k.commit k.sound.sent k.fits c.requires.1.1.1)
+    (can_report_done (core_rules a) g.h a.queue c.args.session (results_in c.args.request.now) small k.commit k.sound.sent k.fits c.requires.1.1.1)
 
 pub set_reports-requires : goal.set_reports-requires
 set_reports-requires g c =
@@ -32,7 +33,7 @@ set_reports-requires g c =
     let small : c.args.session < 64 = omega (arith, c.requires.1.0, k.few_sessions) in
     let can : All (CanReport a.queue) c.results_of.result.now =
     subst (All (CanReport a.queue)) (sym c.results_of.ensures)
-    (can_report_done (rules_of a) g.h a.queue c.args.session (results_in c.args.request.now) small k.commit k.sound.sent k.fits c.requires.1.1.1) in
+    (can_report_done (core_rules a) g.h a.queue c.args.session (results_in c.args.request.now) small k.commit k.sound.sent k.fits c.requires.1.1.1) in
     subst (All (CanReport a.queue)) (sym c.in_ok-results.ensures) (All-filter (λ (d : Done1). is_missing a.queue d.pos) (CanReport a.queue) c.results_of.result.now can)
 
 pub returns-clause-ok : goal.returns-clause-ok
@@ -47,15 +48,15 @@ returns-clause-ok g c =
     let k = c.requires.0 in
     let next = c.note.new.rows.items in
     let small : s < 64 = omega (arith, c.requires.1.0, k.few_sessions) in
-    let can = can_report_done (rules_of a) h v s ds small k.commit k.sound.sent k.fits c.requires.1.1.1 in
+    let can = can_report_done (core_rules a) h v s ds small k.commit k.sound.sent k.fits c.requires.1.1.1 in
     let within : All (λ (d : Done1). d.pos ≤ last_position v) ds = λ i d l. (can i d l).last in
-    let queue : c.install.new.self ≡ installed (with_reports v ds) =
+    let queue : c.install.new.self ≡ ready_installed (with_reports v ds) =
     c.install.ensures.installed
-    ∙ ap installed (c.set_reports.ensures ∙ ap (with_reports v) c.in_ok-results.ensures ∙ reports-missing v c.results_of.result.now ∙ ap (with_reports v) c.results_of.ensures) in
-    let at : n ≡ (installed (with_reports v ds)).commit = c.commit-commit.ensures ∙ ap (λ (w : QueueView). w.commit) queue in
-    let told = noted (rules_of a) h v (entry_of s (requests.Done ds) (logged.Noted 0)) 0 ds refl refl within k.commit k.sound k.fits in
+    ∙ ap ready_installed (c.set_reports.ensures ∙ ap (with_reports v) c.in_ok-results.ensures ∙ reports-missing v c.results_of.result.now ∙ ap (with_reports v) c.results_of.ensures) in
+    let at : n ≡ (ready_installed (with_reports v ds)).commit = c.commit-commit.ensures ∙ ap (λ (w : QueueView). w.commit) queue in
+    let told = noted (core_rules a) h v (entry_of s (requests.Done ds) (logged.Noted 0)) 0 ds refl refl within k.commit k.sound k.fits in
     let said : logged.Noted n ≡ logged.Noted (commit_with h s ds) = ap logged.Noted (at ∙ told.1.0) in
     carried a _ h s q decisions.Note _ (logged.Noted n) (ap (rules_with a.opening a.bound a.reach) c.note.ensures.count) refl refl said
-    (subst (λ (w : QueueView). Agrees (rules_of a) (entry_of s q (logged.Noted n) ∷ h) w next a.clients a.owed) (sym queue)
-    (agree-noted (rules_of a) h v a.sessions.items next a.clients a.owed s q n ds at c.requires.1.1.0 within k refl c.requires.1.0 c.note.ensures.rows))
+    (subst (λ (w : QueueView). Agrees (core_rules a) (entry_of s q (logged.Noted n) ∷ h) w next a.clients a.owed) (sym queue)
+    (agree-noted (core_rules a) h v a.sessions.items next a.clients a.owed s q n ds at c.requires.1.1.0 within k refl c.requires.1.0 c.note.ensures.rows))
     refl

@@ -1,3 +1,4 @@
+-- What the check leaves to prove of `Core::relay`.
 use Rattle.std.proofs.Common.{◌≡◌, ◌≤◌, ◌<◌, List, ◌∷◌, map, All, refl, sym, ◌∙◌, ap, subst, arith}
 use Rattle.sv_wire.specs.declared.message.Held.{Held}
 use Rattle.sv_wire.specs.declared.message.Reply.TheVariants as replies
@@ -10,7 +11,7 @@ use Rattle.sv_queue.specs.Queue.{QueueView, IsUncommitted, last_position}
 use Rattle.sv_influence.specs.Lacking.{base_objects}
 use Rattle.sv_sequencer.specs.declared.decision.Decision.TheVariants as decisions
 use Rattle.sv_sequencer.specs.Agreement.{Agrees}
-use Rattle.sv_sequencer.specs.Cores.{rules_of}
+use Rattle.sv_sequencer.specs.Cores.{core_rules}
 use Rattle.sv_sequencer.specs.Relays.{held_in, item_in}
 use Rattle.sv_sequencer.specs.Step.{entry_of}
 use Rattle.sv_sequencer.proofs.AgreeSends.{agree-relay}
@@ -54,11 +55,11 @@ returns-clause-ok g c =
     let above : v.commit < c.args.pos = omega (arith, k.commit, c.requires.1.1.1.1.0) in
     let most : c.args.pos ≤ last_position v = omega (arith, c.requires.1.1.1.1.1, f.last) in
     let within = subst (All (IsUncommitted v)) (sym c.in_ok-relayed.ensures.positions) (lacking-within v s c.args.pos (above, most)) in
-    let said : l ≡ relay_of (rules_of a) h (actions_of h) s c.args.seq c.args.pos =
+    let said : l ≡ relay_of (core_rules a) h (actions_of h) s c.args.seq c.args.pos =
     ap (λ m. logged.Relay c.args.seq m x.head x.positions) c.commit-commit.ensures
     ∙ ap (λ xs. logged.Relay c.args.seq v.commit xs x.positions) c.in_ok-relayed.ensures.head
     ∙ ap (logged.Relay c.args.seq v.commit (held_in v (base_objects v s c.args.pos))) c.in_ok-relayed.ensures.positions
-    ∙ relay-is (rules_of a) h v s c.args.seq c.args.pos small k.commit above c.requires.1.1.1.1.1 k.sound.sent f in
+    ∙ relay-is (core_rules a) h v s c.args.seq c.args.pos small k.commit above c.requires.1.1.1.1.1 k.sound.sent f in
     let rows = subst (λ (m : Logged). AreAfter (entry_of s q m) a.sessions.items next) made.logged c.note.ensures.rows in
     let whole : replies.Relay c.args.seq n x.sent_head x.items ≡ full_reply (accepted (entry_of s q l ∷ h)) l =
     subst (λ (A : List Authored). replies.Relay c.args.seq n x.sent_head x.items ≡ full_reply A l) (sym (accepted-old (entry_of s q l) h c.requires.1.1.1.0))
@@ -66,7 +67,7 @@ returns-clause-ok g c =
     (c.in_ok-relayed.ensures.sent_head ∙ sym c.in_ok-relayed.ensures.head)
     (c.in_ok-relayed.ensures.items ∙ ap (map (item_in v)) (sym c.in_ok-relayed.ensures.positions)) within) in
     carried a _ h s q (decisions.Relay c.args.seq c.args.pos) _ l (ap (rules_with a.opening a.bound a.reach) c.note.ensures.count) refl made.logged said
-    (subst (λ (w : QueueView). Agrees (rules_of a) (entry_of s q l ∷ h) w next a.clients a.owed) (sym c.deliver.ensures)
-    (agree-relay (rules_of a) h v a.sessions.items next a.clients a.owed s q c.args.seq n x.head x.positions c.commit-commit.ensures k refl c.requires.1.0
+    (subst (λ (w : QueueView). Agrees (core_rules a) (entry_of s q l ∷ h) w next a.clients a.owed) (sym c.deliver.ensures)
+    (agree-relay (core_rules a) h v a.sessions.items next a.clients a.owed s q c.args.seq n x.head x.positions c.commit-commit.ensures k refl c.requires.1.0
     c.requires.1.1.1.0 c.requires.1.1.0 rows within))
     (made.reply ∙ whole)

@@ -1,3 +1,4 @@
+-- What the check leaves to prove of `Core::welcome`.
 use Rattle.std.proofs.Common.{◌≡◌, ◌<◌, ℕ, List, ◌∷◌, All, refl, sym, ◌∙◌, ap, subst}
 use Rattle.sv_wire.specs.declared.message.Held.{Held}
 use Rattle.sv_wire.specs.declared.message.Reply.TheVariants as replies
@@ -8,7 +9,7 @@ use Rattle.sv_journal.specs.Answer.{committed_held}
 use Rattle.sv_queue.specs.Queue.{QueueView}
 use Rattle.sv_sequencer.specs.declared.decision.Decision.TheVariants as decisions
 use Rattle.sv_sequencer.specs.Agreement.{Agrees}
-use Rattle.sv_sequencer.specs.Cores.{rules_of}
+use Rattle.sv_sequencer.specs.Cores.{core_rules}
 use Rattle.sv_sequencer.specs.Decisions.{interest_in}
 use Rattle.sv_sequencer.specs.Relays.{held_in, given_all}
 use Rattle.sv_sequencer.specs.Step.{entry_of}
@@ -44,13 +45,13 @@ returns-clause-ok g c =
     let head = c.in_ok-head.head in
     let k = c.requires.0 in
     let next = c.note.new.rows.items in
-    let said : logged.Welcome n head ≡ logged.Welcome (commit_of h) (committed_held (rules_of a) h (interest_in q)) =
+    let said : logged.Welcome n head ≡ logged.Welcome (commit_of h) (committed_held (core_rules a) h (interest_in q)) =
     ap (λ m. logged.Welcome m head) (c.commit-commit.ensures ∙ k.commit)
     ∙ ap (logged.Welcome (commit_of h)) (c.in_ok-head.ensures ∙ ap (held_in v) c.interest_of.ensures
-    ∙ held-is (rules_of a) h v (interest_in q) (committed-is (rules_of a) h (accepted h) (sent_to h) (named_to h) v k.commit k.fits)) in
+    ∙ held-is (core_rules a) h v (interest_in q) (committed-is (core_rules a) h (accepted h) (sent_to h) (named_to h) v k.commit k.fits)) in
     carried a _ h s q (decisions.Welcome c.args.client c.args.life) _ (logged.Welcome n head) (ap (rules_with a.opening a.bound a.reach) c.note.ensures.count) refl refl said
-    (subst (λ (w : QueueView). Agrees (rules_of a) (entry_of s q (logged.Welcome n head) ∷ h) w next c.join.new.self a.owed)
+    (subst (λ (w : QueueView). Agrees (core_rules a) (entry_of s q (logged.Welcome n head) ∷ h) w next c.join.new.self a.owed)
     (sym (c.give_all.ensures ∙ ap (λ xs. given_all v xs s) c.as_slice-2.ensures))
-    (agree-welcome (rules_of a) h v a.sessions.items next a.clients c.join.new.self a.owed s q c.args.client c.args.life n head c.commit-commit.ensures k refl c.requires.1.0
+    (agree-welcome (core_rules a) h v a.sessions.items next a.clients c.join.new.self a.owed s q c.args.client c.args.life n head c.commit-commit.ensures k refl c.requires.1.0
     c.requires.1.1.1 c.requires.1.1.0 c.note.ensures.rows c.in_ok-join.ensures.ok))
     (ap (replies.Welcome n) (c.in_ok-sent.ensures ∙ c.as_slice.ensures))

@@ -1,5 +1,6 @@
+-- What the check leaves to prove of `Witness::is_ended`.
 use Rattle.std.proofs.Common.{◌≡◌, ◌<◌, reverse, sym, subst, ◌∙◌}
-use Rattle.sv_sequencer.specs.Rows.{is_ended}
+use Rattle.sv_journal.specs.Sessions.{is_ended}
 use Rattle.sv_sequencer.specs.Step.{SequencerView, history}
 use Rattle.sv_witness.specs.Reports.{agreed_history}
 use Rattle.sv_witness.proofs.Stepped.{ended-agreed}

@@ -1,0 +1,179 @@
+-- What a run on threads leaves is what its tasks left.
+use Rattle.std.proofs.Common.{rules, ◌++◌, [], ◌∷◌, length, reverse, sym, ap, subst, ◌∙◌, arith}
+use Rattle.std.specs.List.{flat_map}
+use denote.Param.Send.{sendable}
+use Rattle.std.proofs.Crossing.{crosses}
+use Rattle.sv_sequencer.proofs.Sent.{lock-syncs, pass-sends}
+use Rattle.sv_script.specs.Telling.{told_lines}
+use Rattle.law_traffic.specs.Runs.{IsGoodRun}
+use Rattle.sv_play.specs.Given.{setting}
+use Rattle.sv_play.specs.Tasks.{serviced_of}
+use Rattle.sv_play.specs.Left.{transcripts_of, HasRoom, Joined}
+use Rattle.sv_play.specs.Playing.{IsThreadedRun, TookAllIn}
+use Rattle.sv_play.proofs.Ready.{tasks_ready}
+use Rattle.sv_play.proofs.Sent.{client-field-sends, trace-field-sends, step-syncs}
+use Rattle.sv_play.proofs.Done.{passes, numbers, room, are_pairs, are_calm, two_differ, owed_enough, took_all, threaded, told_all}
+use Rattle.sv_play.proofs.play.Hall.play.Goals as goal
+
+pub run_all-requires-clause-ready : goal.run_all-requires-clause-ready
+run_all-requires-clause-ready g c κs within =
+    let told = g.N.E.End.told in
+    let faults = g.N.E.End.faults in
+    let calm = g.N.E.End.calm in
+    let run = setting c.args.self.now.lock.now c.args.self.now.scenario.now (g.N.Net.made c.args.net.now) (g.N.Net.calm c.args.net.now) in
+    let t = c.in_ok-tasks.ensures in
+    let ts = c.in_ok-tasks.tasks.items in
+    tasks_ready told faults calm _ run c.requires.good ts t.services t.parts
+
+pub gather-requires-clause-passes : goal.gather-requires-clause-passes
+gather-requires-clause-passes g c =
+    let told = g.N.E.End.told in
+    let faults = g.N.E.End.faults in
+    let calm = g.N.E.End.calm in
+    let run = setting c.args.self.now.lock.now c.args.self.now.scenario.now (g.N.Net.made c.args.net.now) (g.N.Net.calm c.args.net.now) in
+    let t = c.in_ok-tasks.ensures in
+    let ts = c.in_ok-tasks.tasks.items in
+    let os = c.in-Done.outs.items in
+    let kept = c.in-Done.ensures.kept in
+    passes told faults calm _ run ts os t.count t.services t.parts kept
+
+pub gather-requires-clause-numbers : goal.gather-requires-clause-numbers
+gather-requires-clause-numbers g c =
+    let told = g.N.E.End.told in
+    let faults = g.N.E.End.faults in
+    let calm = g.N.E.End.calm in
+    let run = setting c.args.self.now.lock.now c.args.self.now.scenario.now (g.N.Net.made c.args.net.now) (g.N.Net.calm c.args.net.now) in
+    let t = c.in_ok-tasks.ensures in
+    let ts = c.in_ok-tasks.tasks.items in
+    let os = c.in-Done.outs.items in
+    let kept = c.in-Done.ensures.kept in
+    numbers told faults calm _ run ts os t.count t.services t.parts kept
+
+pub gather-requires-clause-room : goal.gather-requires-clause-room
+gather-requires-clause-room g c =
+    let told = g.N.E.End.told in
+    let faults = g.N.E.End.faults in
+    let calm = g.N.E.End.calm in
+    let run = setting c.args.self.now.lock.now c.args.self.now.scenario.now (g.N.Net.made c.args.net.now) (g.N.Net.calm c.args.net.now) in
+    let t = c.in_ok-tasks.ensures in
+    let ts = c.in_ok-tasks.tasks.items in
+    let os = c.in-Done.outs.items in
+    let kept = c.in-Done.ensures.kept in
+    room told faults calm _ run ts os t.count t.services t.parts kept c.in_ok-left.left
+    (subst (λ n. HasRoom n n (length c.args.self.now.scenario.now.clients) c.in_ok-left.left) c.sessions_of.ensures
+    (subst (λ m. HasRoom c.sessions_of.result c.sessions_of.result m c.in_ok-left.left) c.len.ensures c.in_ok-left.ensures.room))
+
+pub settle_all-requires-clause-pairs : goal.settle_all-requires-clause-pairs
+settle_all-requires-clause-pairs g c κs within =
+    let told = g.N.E.End.told in
+    let faults = g.N.E.End.faults in
+    let calm = g.N.E.End.calm in
+    let run = setting c.args.self.now.lock.now c.args.self.now.scenario.now (g.N.Net.made c.args.net.now) (g.N.Net.calm c.args.net.now) in
+    let t = c.in_ok-tasks.ensures in
+    let ts = c.in_ok-tasks.tasks.items in
+    let os = c.in-Done.outs.items in
+    let kept = c.in-Done.ensures.kept in
+    let left = c.gather.new.left in
+    let k = c.gather.new.keeper in
+    let joined = subst (λ b. Joined (serviced_of os) b k) t.keeper c.gather.ensures.joined in
+    are_pairs told faults calm _ run ts os t.count t.services t.parts kept left k c.gather.ensures.gathered joined (g.N.Net.made c.open.new.net) t.pairs.0
+
+pub settle_all-requires-clause-owed : goal.settle_all-requires-clause-owed
+settle_all-requires-clause-owed g c κs within =
+    let told = g.N.E.End.told in
+    let faults = g.N.E.End.faults in
+    let calm = g.N.E.End.calm in
+    let run = setting c.args.self.now.lock.now c.args.self.now.scenario.now (g.N.Net.made c.args.net.now) (g.N.Net.calm c.args.net.now) in
+    let t = c.in_ok-tasks.ensures in
+    let ts = c.in_ok-tasks.tasks.items in
+    let os = c.in-Done.outs.items in
+    let kept = c.in-Done.ensures.kept in
+    let left = c.gather.new.left in
+    let k = c.gather.new.keeper in
+    let joined = subst (λ b. Joined (serviced_of os) b k) t.keeper c.gather.ensures.joined in
+    let enough = owed_enough told faults calm _ run ts os t.count t.services t.parts kept left k c.gather.ensures.gathered joined in
+    let owed = t.pairs.1 in
+    omega (arith, enough, owed)
+
+pub returns-then-not-settle_all-clause-calm : goal.returns-then-not-settle_all-clause-calm
+returns-then-not-settle_all-clause-calm g c = λ q. c.settle_all.ensures.calm (c.in_ok-tasks.ensures.calm q).1
+
+pub returns-then-lacked-clause-calm : goal.returns-then-lacked-clause-calm
+returns-then-lacked-clause-calm g c = λ q. c.settle_all.ensures.calm (c.in_ok-tasks.ensures.calm q).1
+
+pub returns-then-not-settle_all-clause-certain : goal.returns-then-not-settle_all-clause-certain
+returns-then-not-settle_all-clause-certain g c =
+    let told = g.N.E.End.told in
+    let faults = g.N.E.End.faults in
+    let calm = g.N.E.End.calm in
+    let run = setting c.args.self.now.lock.now c.args.self.now.scenario.now (g.N.Net.made c.args.net.now) (g.N.Net.calm c.args.net.now) in
+    let t = c.in_ok-tasks.ensures in
+    let ts = c.in_ok-tasks.tasks.items in
+    let os = c.in-Done.outs.items in
+    let kept = c.in-Done.ensures.kept in
+    let left = c.gather.new.left in
+    let k = c.gather.new.keeper in
+    let joined = subst (λ b. Joined (serviced_of os) b k) t.keeper c.gather.ensures.joined in
+    λ q e.
+    two_differ told faults calm _ run ts os t.count t.services t.parts kept left k c.gather.ensures.gathered joined (g.N.Net.made c.settle_all.new.net) (c.settle_all.ensures.made ∙ t.pairs.0) q
+    (c.settle_all.ensures.certain (search rules) (t.calm q).1 (are_calm told faults calm _ run ts os t.count t.services t.parts kept left k c.gather.ensures.gathered joined q))
+
+pub returns-clause-run : goal.returns-clause-run
+returns-clause-run g c =
+    let told = g.N.E.End.told in
+    let faults = g.N.E.End.faults in
+    let calm = g.N.E.End.calm in
+    let run = setting c.args.self.now.lock.now c.args.self.now.scenario.now (g.N.Net.made c.args.net.now) (g.N.Net.calm c.args.net.now) in
+    let t = c.in_ok-tasks.ensures in
+    let ts = c.in_ok-tasks.tasks.items in
+    let os = c.in-Done.outs.items in
+    let kept = c.in-Done.ensures.kept in
+    let left = c.gather.new.left in
+    let k = c.gather.new.keeper in
+    let joined = subst (λ b. Joined (serviced_of os) b k) t.keeper c.gather.ensures.joined in
+    let good : IsGoodRun c.args.self.now.scenario.now = record { good = c.requires.good; opening = c.read_scenario_numbers.ensures.values } in
+    let settled = c.settle_all.ensures.settled (search rules) in
+    subst (λ traces. IsThreadedRun c.args.self.now.scenario.now (reverse k.seen) traces (g.N.Net.settled c.args.net.now) (g.N.Net.settled c.settle_all.new.net) (g.C.Crew.ran c.args.crew.now) (g.C.Crew.ran c.run_all.new.self)) (sym c.from_vec.ensures)
+    (threaded told faults calm _ run ts os t.count t.services t.parts kept left k c.gather.ensures.gathered joined good c.if-lacked.false (c.settle_all.ensures.agree (search rules)) c.threaded_runs_leave_records.ensures.full c.threaded_runs_leave_records.ensures.traffic
+    (g.N.Net.settled c.args.net.now) (g.N.Net.settled c.settle_all.new.net) (g.C.Crew.ran c.args.crew.now) (g.C.Crew.ran c.run_all.new.self)
+    (settled ∙ ap (λ l. l ++ transcripts_of told faults left.servers.items left.clients.items) t.settled) (c.in-Done.ensures.ran ∙ ap (λ n. g.C.Crew.ran c.args.crew.now ++ n ∷ []) c.in_ok-tasks.tasks.ok.0))
+
+pub returns-clause-lines : goal.returns-clause-lines
+returns-clause-lines g c =
+    let told = g.N.E.End.told in
+    let faults = g.N.E.End.faults in
+    let calm = g.N.E.End.calm in
+    let run = setting c.args.self.now.lock.now c.args.self.now.scenario.now (g.N.Net.made c.args.net.now) (g.N.Net.calm c.args.net.now) in
+    let t = c.in_ok-tasks.ensures in
+    let ts = c.in_ok-tasks.tasks.items in
+    let os = c.in-Done.outs.items in
+    let kept = c.in-Done.ensures.kept in
+    let left = c.gather.new.left in
+    let k = c.gather.new.keeper in
+    let joined = subst (λ b. Joined (serviced_of os) b k) t.keeper c.gather.ensures.joined in
+    let good : IsGoodRun c.args.self.now.scenario.now = record { good = c.requires.good; opening = c.read_scenario_numbers.ensures.values } in
+    c.in_ok-all_lines.ensures
+    ∙ (told_all told faults calm _ run ts os t.count t.services t.parts kept left k c.gather.ensures.gathered joined good c.if-lacked.false (c.settle_all.ensures.agree (search rules)) ∙ ap (flat_map told_lines) (sym c.from_vec.ensures))
+
+pub returns-clause-keeper : goal.returns-clause-keeper
+returns-clause-keeper g c =
+    let told = g.N.E.End.told in
+    let faults = g.N.E.End.faults in
+    let calm = g.N.E.End.calm in
+    let run = setting c.args.self.now.lock.now c.args.self.now.scenario.now (g.N.Net.made c.args.net.now) (g.N.Net.calm c.args.net.now) in
+    let t = c.in_ok-tasks.ensures in
+    let ts = c.in_ok-tasks.tasks.items in
+    let os = c.in-Done.outs.items in
+    let kept = c.in-Done.ensures.kept in
+    let left = c.gather.new.left in
+    let k = c.gather.new.keeper in
+    let joined = subst (λ b. Joined (serviced_of os) b k) t.keeper c.gather.ensures.joined in
+    let good : IsGoodRun c.args.self.now.scenario.now = record { good = c.requires.good; opening = c.read_scenario_numbers.ensures.values } in
+    subst (λ b. TookAllIn c.args.self.now.scenario.now b k) (sym c.requires.keeper)
+    (took_all told faults calm _ run ts os t.count t.services t.parts kept left k c.gather.ensures.gathered joined good)
+
+pub run_all-requires-send-J : goal.run_all-requires-send-J
+run_all-requires-send-J g c κs within = let y = c.type_bounds.sync-G in let w = c.type_bounds.sync-W in let e = c.type_bounds.send-N-E in search (lock-syncs, pass-sends, client-field-sends, step-syncs, sendable, crosses) depth 40 fits 10000
+
+pub run_all-requires-send-J-Out : goal.run_all-requires-send-J-Out
+run_all-requires-send-J-Out g c κs within = let e = c.type_bounds.send-N-E in search (pass-sends, trace-field-sends, sendable, crosses) depth 40 fits 10000

@@ -1,5 +1,0 @@
-use Rattle.sv_sequencer.proofs.Quiet.{quiet-idle}
-use Rattle.sv_sequencer.proofs.server_core.Core.idle.Goals as goal
-
-pub keep-requires : goal.keep-requires
-keep-requires g c = (c.requires.0, (c.requires.1.0, (c.requires.1.1, quiet-idle g.h c.args.session c.args.request.now)))

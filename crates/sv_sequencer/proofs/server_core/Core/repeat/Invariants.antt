@@ -1,4 +1,0 @@
-use Rattle.sv_sequencer.proofs.server_core.Core.repeat.Given as goal
-
-abbrev pub ghost-keep : goal.ghost-keep
-ghost-keep g a = g.h
