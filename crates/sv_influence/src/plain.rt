@@ -42,7 +42,8 @@ pub fn plain_closure<L: Ledger>(
         }
         at -= 1;
     }
-    let Walk { mut items, objects } = walk;
+    let Walk { items, objects } = walk;
+    let mut items = items;
     items.reverse();
     let head = bases_among(alloc, queue, session, &objects)?;
     Ok(Closure {

@@ -21,10 +21,13 @@ use Rattle.sv_script.specs.Following.{MayCome, must_join, is_welcomed, is_finish
 use Rattle.sv_player.specs.declared.buffers.Buffers.{Buffers}
 use Rattle.sv_player.specs.declared.outcome.Ending.{Ending}
 use Rattle.sv_player.specs.declared.outcome.Ending.TheVariants as endings
+use Rattle.sv_player.specs.declared.outcome.Parting.{Parting}
+use Rattle.sv_player.specs.declared.outcome.Parting.TheVariants as partings
 use Rattle.sv_player.specs.declared.playing.Player.{Player}
 use Rattle.sv_player.specs.declared.outcome.PlayerCause.{PlayerCause}
 use Rattle.sv_player.specs.Carried.{request_frames, IsLinked}
 use Rattle.sv_player.specs.Going.{IsGoing, Did, IsHere, IsReady}
+use Rattle.sv_player.specs.Partings.{parting_step, parting_event, parting_ending}
 use Rattle.sv_player.specs.Sessions.{IsAt, Onward, HasEnded, Ended, Stopped, GoesOn, Got, IsMoved}
 use Rattle.sv_player.proofs.Posting.{none_posted}
 use Rattle.sv_player.proofs.Onward.{IsOf}
@@ -94,13 +97,12 @@ ends_by s ending e left p q b end at none may come of same asks gets how did =
     }
 
 module _ (s : ℕ) (p q : Player) (b : Buffers) (end : Told) (at : IsAt s p b end) (ready : IsReady p.client.who p.client.events p.left.now) (none : b.outbox ≡ []) (rest : List Step) where
-  pub cut_ends : unsynced p.client.who p.client.events p.left.now ≡ steps.Cut ∷ rest → Did events.Cut rest p q → Ended s p q end endings.Cut
-  cut_ends next did =
+  pub part_ends : (parting : Parting) → unsynced p.client.who p.client.events p.left.now ≡ parting_step parting ∷ rest → Did (parting_event parting) rest p q →
+      Ended s p q end (parting_ending parting)
+  part_ends partings.Cut next did =
       ends_by s endings.Cut events.Cut rest p q b end at none tt (does_step p.client.who p.client.events p.left.now steps.Cut rest events.Cut ready next refl) at.current refl
       (append-nil (asked p.client.who.client p.client.who.interest p.client.events s)) refl (p.client.events, refl) did
-
-  pub quit_ends : unsynced p.client.who p.client.events p.left.now ≡ steps.Quit ∷ rest → Did events.Quit rest p q → Ended s p q end endings.Quit
-  quit_ends next did =
+  part_ends partings.Quit next did =
       ends_by s endings.Quit events.Quit rest p q b end at none tt (does_step p.client.who p.client.events p.left.now steps.Quit rest events.Quit ready next refl) at.current refl
       (append-nil (asked p.client.who.client p.client.who.interest p.client.events s)) refl (p.client.events, refl) did
 

@@ -22,6 +22,7 @@ use Rattle.sv_player.specs.declared.moves.Move.TheVariants as moves
 use Rattle.sv_player.specs.declared.playing.Player.{Player}
 use Rattle.sv_player.specs.declared.telling.Seen.{Seen}
 use Rattle.sv_player.specs.Seen.{seen_by}
+use Rattle.sv_player.specs.Partings.{parting_step}
 
 abbrev pub scripted_plan : Identity → List Step → Plan
 scripted_plan who script = record { interest = who.interest; steps = script }
@@ -111,5 +112,4 @@ IsMove (moves.Make making) who t left =
     (unsynced who t left ≡ steps.Act making.action.now ∷ making.rest.now) × (length (pending_of t) < most_pending) × (length (outstanding who t) < most_outstanding)
 IsMove (moves.Poll rest) who t left = (unsynced who t left ≡ steps.Poll ∷ rest.now) × (length (outstanding who t) < most_outstanding)
 IsMove (moves.Show objects rest) who t left = unsynced who t left ≡ steps.Show objects.now ∷ rest.now
-IsMove (moves.Cut rest) who t left = unsynced who t left ≡ steps.Cut ∷ rest.now
-IsMove (moves.Quit rest) who t left = unsynced who t left ≡ steps.Quit ∷ rest.now
+IsMove (moves.Part parting rest) who t left = unsynced who t left ≡ parting_step parting ∷ rest.now

@@ -1,5 +1,6 @@
 -- The definitions of this crate, file by file.
 pub mod Carried
+pub mod Partings
 pub mod Seen
 pub mod Going
 pub mod Waiting

@@ -4,6 +4,7 @@ ghost use Rattle.sv_scenario.specs.declared.scenario.Step.TheVariants as steps;
 ghost use Rattle.sv_script.specs.Following.{unsynced};
 ghost use Rattle.sv_player.specs.Going.{IsMove, IsGoing};
 
+use crate::outcome::Parting;
 use crate::playing::Player;
 use sv_scenario::Step;
 use sv_script::unsynced;
@@ -27,8 +28,7 @@ pub(crate) enum Move<'a> {
     Make(Making<'a>),
     Poll(&'a [Step]),
     Show(&'a List<ObjectId>, &'a [Step]),
-    Cut(&'a [Step]),
-    Quit(&'a [Step]),
+    Part(Parting, &'a [Step]),
 }
 
 impl<'a> Player<'a> {
@@ -45,8 +45,8 @@ impl<'a> Player<'a> {
             Step::Poll => self.poll_or_wait(rest),
             Step::Sync => self.wait_at_sync(rest),
             Step::Show(objects) => Move::Show(objects, rest),
-            Step::Cut => Move::Cut(rest),
-            Step::Quit => Move::Quit(rest),
+            Step::Cut => Move::Part(Parting::Cut, rest),
+            Step::Quit => Move::Part(Parting::Quit, rest),
         }
     }
 

@@ -1,6 +1,10 @@
 //! How a player ends.
+ghost use Rattle.std.specs.Prelude.{◌≡◌};
+ghost use Rattle.sv_client.specs.Seen.{event_of_mark};
+ghost use Rattle.sv_player.specs.Partings.{parting_event, parting_ending};
+
 use std::alloc::{AllocError, AllocFailed};
-use sv_client::{TakeFault, Trace};
+use sv_client::{Mark, TakeFault, Trace};
 use sv_watch::Line;
 use sv_wire::Malformed;
 
@@ -40,6 +44,37 @@ pub enum PlayerCause {
     },
 
     Memory,
+}
+
+/// How a step ends its session.
+#[derive(Clone, Copy)]
+pub(crate) enum Parting {
+    /// The session is cut, and another one may follow.
+    Cut,
+
+    /// The client quits.
+    Quit,
+}
+
+impl Parting {
+    /// What the trace notes of it.
+    pub(crate) fn mark(self) -> Mark
+        ensures { event_of_mark result ≡ parting_event self }
+    {
+        match self {
+            Parting::Cut => Mark::Cut,
+            Parting::Quit => Mark::Quit,
+        }
+    }
+
+    pub(crate) fn ending(self) -> Ending
+        ensures { result ≡ parting_ending self }
+    {
+        match self {
+            Parting::Cut => Ending::Cut,
+            Parting::Quit => Ending::Quit,
+        }
+    }
 }
 
 /// How a session that nothing stopped ended.

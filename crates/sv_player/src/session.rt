@@ -16,11 +16,12 @@ ghost use Rattle.sv_script.specs.Following.{must_join, unsynced, after_syncs, is
 ghost use Rattle.sv_player.specs.declared.outcome.PlayerCause.TheVariants as causes;
 ghost use Rattle.sv_player.specs.Carried.{request_frames, which_end};
 ghost use Rattle.sv_player.specs.Going.{IsGoing, IsHere, IsReady, Did};
+ghost use Rattle.sv_player.specs.Partings.{parting_step};
 ghost use Rattle.sv_player.specs.Sessions.{IsAt, IsFresh, IsSameEnd, IsTurn, IsReceived, IsMoved, IsPlayed, IsSent, IsAnswered, FaultCause, IsFirst, IsFrameFault};
 
 use crate::buffers::{Buffers, Waited};
 use crate::moves::{Making, Move};
-use crate::outcome::{Ending, PlayerCause, ReplyFault};
+use crate::outcome::{Ending, Parting, PlayerCause, ReplyFault};
 use crate::playing::Player;
 use sv_client::{Mark, TakeFault};
 use sv_frame::{FrameReader, Next};
@@ -131,44 +132,25 @@ impl<'a> Player<'a> {
         Ok(())
     }
 
-    /// Sends what waits, and cuts the session.
-    fn do_cut<E: End>(
+    /// Sends what waits, and ends the session by its step.
+    fn do_part<E: End>(
         &mut self,
+        parting: Parting,
         rest: &'a [Step],
         buffers: &mut Buffers,
         end: &mut E,
     ) -> Result<Ending, PlayerCause>
         requires at { IsAt (latest_session self.old.client.events) self.old buffers.old (E.told end.old) }
         requires ready { IsReady self.old.client.who self.old.client.events self.old.left.now }
-        requires next { unsynced self.old.client.who self.old.client.events self.old.left.now ≡ steps.Cut ∷ rest.now }
+        requires next { unsynced self.old.client.who self.old.client.events self.old.left.now ≡ parting_step parting ∷ rest.now }
         ensures played { IsPlayed result (latest_session self.old.client.events) self.old self.new (E.told end.new) }
         ensures same_end { which_end (E.told end.new) ≡ which_end (E.told end.old) }
         ensures cause { FaultCause (E.faults end.old) (E.faults end.new) result }
         ensures calm { E.calm end.old → E.calm end.new }
     {
         sent_whole(buffers.flush(end))?;
-        self.note(Mark::Cut, rest)?;
-        Ok(Ending::Cut)
-    }
-
-    /// Sends what waits, and quits.
-    fn do_quit<E: End>(
-        &mut self,
-        rest: &'a [Step],
-        buffers: &mut Buffers,
-        end: &mut E,
-    ) -> Result<Ending, PlayerCause>
-        requires at { IsAt (latest_session self.old.client.events) self.old buffers.old (E.told end.old) }
-        requires ready { IsReady self.old.client.who self.old.client.events self.old.left.now }
-        requires next { unsynced self.old.client.who self.old.client.events self.old.left.now ≡ steps.Quit ∷ rest.now }
-        ensures played { IsPlayed result (latest_session self.old.client.events) self.old self.new (E.told end.new) }
-        ensures same_end { which_end (E.told end.new) ≡ which_end (E.told end.old) }
-        ensures cause { FaultCause (E.faults end.old) (E.faults end.new) result }
-        ensures calm { E.calm end.old → E.calm end.new }
-    {
-        sent_whole(buffers.flush(end))?;
-        self.note(Mark::Quit, rest)?;
-        Ok(Ending::Quit)
+        self.note(parting.mark(), rest)?;
+        Ok(parting.ending())
     }
 
     /// The number of its session.
@@ -418,8 +400,7 @@ impl<'a> Player<'a> {
                 self.do_show(objects, rest)?;
                 Ok(None)
             }
-            Move::Cut(rest) => Ok(Some(self.do_cut(rest, buffers, end)?)),
-            Move::Quit(rest) => Ok(Some(self.do_quit(rest, buffers, end)?)),
+            Move::Part(parting, rest) => Ok(Some(self.do_part(parting, rest, buffers, end)?)),
         }
     }
 

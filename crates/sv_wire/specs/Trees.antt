@@ -10,7 +10,7 @@ use Rattle.sv_world.specs.declared.action.Stmt.{Stmt}
 use Rattle.sv_world.specs.declared.action.Stmt.TheVariants as stmt
 use Rattle.sv_wire.specs.declared.fault.WireCause.TheVariants.{Deep}
 use Rattle.sv_wire.specs.declared.fault.ReadFault.{ReadFault}
-use Rattle.sv_wire.specs.declared.exprs.Reader.{Reader as BodyReader}
+use Rattle.sv_wire.specs.declared.exprs.BodyReader.{BodyReader}
 use Rattle.sv_world.specs.declared.node.Node.{Node}
 use Rattle.sv_world.specs.declared.node.Operator.{Operator}
 use Rattle.sv_world.specs.declared.node.Comparison.{Comparison}

@@ -11,7 +11,7 @@ use sv_world::{Node, Operator};
 
 /// A body that is being read.
 #[derive(Drop)]
-pub struct Reader<'a> {
+pub struct BodyReader<'a> {
     /// The bytes that are left.
     pub rest: &'a [u8],
     /// The nodes so far.
@@ -21,7 +21,7 @@ pub struct Reader<'a> {
 }
 
 #[tactic(auto, using(crate::proofs::Flat::lit_appended))]
-fn lit_next(reader: &mut Reader<'_>) -> Result<(), ReadFault>
+fn lit_next(reader: &mut BodyReader<'_>) -> Result<(), ReadFault>
     ensures gives { Appends expr_spelled lit_from reader.old result reader.new }
     ensures few { OnOk result (reader.new.nodes ≡ reader.old.nodes) }
 {
@@ -32,7 +32,7 @@ fn lit_next(reader: &mut Reader<'_>) -> Result<(), ReadFault>
 }
 
 #[tactic(auto, using(crate::proofs::Flat::attr_appended))]
-fn attr_next(reader: &mut Reader<'_>) -> Result<(), ReadFault>
+fn attr_next(reader: &mut BodyReader<'_>) -> Result<(), ReadFault>
     ensures gives { Appends expr_spelled attr_from reader.old result reader.new }
     ensures few { OnOk result (reader.new.nodes ≡ reader.old.nodes) }
 {
@@ -45,7 +45,7 @@ fn attr_next(reader: &mut Reader<'_>) -> Result<(), ReadFault>
 
 #[cycle(exprs)]
 #[tactic(auto, using(crate::proofs::Flat::pair_appended))]
-fn pair_next(reader: &mut Reader<'_>, depth: u8, operator: Operator) -> Result<(), ReadFault>
+fn pair_next(reader: &mut BodyReader<'_>, depth: u8, operator: Operator) -> Result<(), ReadFault>
     ensures gives { Appends expr_spelled (pair_from (λ n rest. expr_from depth n rest) operator) reader.old result reader.new }
     ensures few { OnOk result (reader.new.nodes ≤ most_nodes) }
 {
@@ -56,7 +56,7 @@ fn pair_next(reader: &mut Reader<'_>, depth: u8, operator: Operator) -> Result<(
 
 #[cycle(exprs)]
 #[tactic(auto, using(crate::proofs::Trees::expr_from_is, crate::proofs::Flat::expr_level_appended))]
-pub fn expr_next(reader: &mut Reader<'_>, depth: u8) -> Result<(), ReadFault>
+pub fn expr_next(reader: &mut BodyReader<'_>, depth: u8) -> Result<(), ReadFault>
     ensures gives { Appends expr_spelled (λ n rest. expr_from depth n rest) reader.old result reader.new }
     ensures few { OnOk result (reader.new.nodes ≤ most_nodes) }
 {

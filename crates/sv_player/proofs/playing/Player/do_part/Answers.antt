@@ -1,11 +1,16 @@
--- What is proved by hand of `Player::do_quit`.
+-- What is proved by hand of `Player::do_part`.
+use Rattle.std.proofs.Common.{sym, subst}
 use Rattle.std.proofs.lemmas.Result.{err_from_is_err_and}
+use Rattle.sv_client.specs.declared.trace.Event.{Event}
 use Rattle.sv_client.specs.Seen.{latest_session}
+use Rattle.sv_player.specs.declared.outcome.Ending.{Ending}
 use Rattle.sv_player.specs.declared.outcome.PlayerCause.TheVariants as causes
+use Rattle.sv_player.specs.Going.{Did}
+use Rattle.sv_player.specs.Sessions.{Ended}
 use Rattle.sv_player.proofs.Going.{few_counted}
 use Rattle.sv_player.proofs.Receiving.{flush_stops, flush_sends, stops_at}
-use Rattle.sv_player.proofs.Moving.{quit_ends}
-use Rattle.sv_player.proofs.playing.Player.do_quit.Goals as goal
+use Rattle.sv_player.proofs.Moving.{part_ends}
+use Rattle.sv_player.proofs.playing.Player.do_part.Goals as goal
 
 pub note-requires : goal.note-requires
 note-requires g c = record { count = few_counted c.args.self.now c.requires.at.going }
@@ -30,7 +35,10 @@ returns-in_err-note-clause-played g c =
 pub returns-clause-played : goal.returns-clause-played
 returns-clause-played g c =
     let p = c.args.self.now in
+    let q = c.note.new.self in
     let s = latest_session p.client.events in
     let new = g.E.End.told c.flush.new.end in
     let all = flush_sends s p c.args.buffers.now c.flush.new.self (g.E.End.told c.args.end.now) new c.flush.result c.requires.at c.flush.ensures.sends c.in_ok-sent_whole.ensures c.flush.ensures.reader in
-    quit_ends s p c.note.new.self c.flush.new.self new all.0 c.requires.ready all.1 c.args.rest.now c.requires.next c.in_ok-note.ensures.ok
+    let did = subst (λ (e : Event). Did e c.args.rest.now p q) c.mark.ensures c.in_ok-note.ensures.ok in
+    subst (λ (e : Ending). Ended s p q new e) (sym c.ending.ensures)
+    (part_ends s p q c.flush.new.self new all.0 c.requires.ready all.1 c.args.rest.now c.args.parting c.requires.next did)
