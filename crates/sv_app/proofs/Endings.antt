@@ -10,7 +10,7 @@ use Rattle.sv_command.specs.Reading.{read_limit, held_of, IsNoScenario, IsRefuse
 use Rattle.sv_command.specs.Statuses.{status_of, Counts, Raises, NoneRose}
 use Rattle.sv_command.proofs.Held.{Faulty, read_is, holds_none, always, unheld}
 use Rattle.sv_command.proofs.Statuses.{range_is as plain_range}
-use Rattle.sv_command.proofs.Left.{printed_by, cut_by, ends_early, or_words, unranged, refused_is as left_refused}
+use Rattle.sv_command.proofs.Left.{printed_by, cut_by, ends_early, or_words, unranged, printed_is as left_printed, part_is as left_part, nothing_is as left_nothing, refused_is as left_refused}
 use Rattle.sv_app.specs.declared.words.Command.{Command}
 use Rattle.sv_app.specs.Words.{Asked, Play, Replay, Load, asked_by, file_of, named_by}
 use Rattle.sv_app.specs.Runs.{Moved, IsScenarioFor, IsText, IsTextFor}
@@ -85,6 +85,15 @@ module _ (a : Option Asked) (contents : List ℕ → Option (List ℕ)) (m : Mov
 
   pub range_is : (e : Ending) → Leaves a held m old now e → (status_of e ≡ 0) ⊎ ((2 ≤ status_of e) × (status_of e ≤ 8))
   range_is e h = plain_range e (unranged (IsTextFor a held m) (OrWords (EndsEarly a held)) old now (λ x. x) e h)
+
+  pub printed_is : (e : Ending) → Leaves a held m old now e → status_of e ≡ 0 → IsPrinted (IsTextFor a held m) old now
+  printed_is e h s = left_printed (IsTextFor a held m) (OrWords (EndsEarly a held)) old now e h s
+
+  pub part_is : (e : Ending) → Leaves a held m old now e → status_of e ≡ 5 → IsCutShort (IsTextFor a held m) old now
+  part_is e h s = left_part (IsTextFor a held m) (OrWords (EndsEarly a held)) old now e h s
+
+  pub nothing_is : (e : Ending) → Leaves a held m old now e → status_of e ≢ 0 → status_of e ≢ 5 → now ≡ old
+  nothing_is e h z f = left_nothing (IsTextFor a held m) (OrWords (EndsEarly a held)) old now e h z f
 
   pub refused_is : (e : Ending) → Leaves a held m old now e → (line : String Global) → e ≡ endings.Scenario line → IsRefused held (string_bytes line)
   refused_is e h line is = left_refused (IsTextFor a held m) (OrWords (EndsEarly a held)) old now e h line is

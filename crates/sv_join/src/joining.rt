@@ -2,6 +2,7 @@
 ghost use Rattle.std.specs.Prelude.{◌≡◌, ◌≢◌, ℕ, ◌+◌, ◌<◌, ◌≤◌, ◌++◌, [], length, slice_get, Some, None, Err, IfOk, OnOk};
 ghost use Rattle.std.specs.List.{AllByRecursion};
 ghost use Rattle.std.specs.Vec.{vec_capacity};
+ghost use Rattle.sv_world.specs.Limits.{most_clients};
 ghost use Rattle.sv_watch.specs.Told.{change_line};
 ghost use Rattle.sv_client.specs.Seen.{new_client};
 ghost use Rattle.sv_scenario.specs.Limits.{IsGoodPlan, IsGoodScenario};
@@ -70,7 +71,7 @@ fn give_all_back<D: Door>(ends: Vec<Steady<D::E>>, door: &mut D)
 
 /// A client that did nothing yet.
 fn open_client(alloc: Global, shape: Shape, number: u16, plan: &Plan) -> Result<Client, AllocError>
-    requires number { number < 32 }
+    requires number { number < most_clients }
     requires plan { IsGoodPlan shape plan.now }
     ensures { IfOk result (λ client. client ≡ new_client (record { 0 = number }) shape plan.now.interest) }
 {

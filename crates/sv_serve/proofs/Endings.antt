@@ -11,7 +11,7 @@ use Rattle.sv_command.specs.Statuses.{status_of, Counts, counts, Raises, NoneRos
 use Rattle.sv_command.proofs.Counts.{same_counts}
 use Rattle.sv_command.proofs.Statuses.{link_is, range_is as plain_range}
 use Rattle.sv_command.proofs.Held.{Faulty, read_is, holds_none, always, unheld, unnamed}
-use Rattle.sv_command.proofs.Left.{printed_by, cut_by, ends_early, or_words, unranged, refused_is as left_refused}
+use Rattle.sv_command.proofs.Left.{printed_by, cut_by, ends_early, or_words, unranged, printed_is as left_printed, part_is as left_part, nothing_is as left_nothing, refused_is as left_refused}
 use Rattle.sv_sequencer.specs.Step.{SequencerView}
 use Rattle.sv_play.specs.declared.outcome.PlayFault.{PlayFault}
 use Rattle.sv_play.specs.declared.outcome.PlayFault.TheVariants as faults
@@ -95,6 +95,15 @@ module _ (contents : List ℕ → Option (List ℕ)) (m : Moved) (given : Option
 module _ (held : Option (List ℕ)) (m : Moved) (old now : Option (List ℕ)) where
   pub range_is : (e : Ending) → Leaves held m old now e → (status_of e ≡ 0) ⊎ ((2 ≤ status_of e) × (status_of e ≤ 8))
   range_is e h = plain_range e (unranged (IsText held m) (OrWords (EndsEarly held)) old now (λ x. x) e h)
+
+  pub printed_is : (e : Ending) → Leaves held m old now e → status_of e ≡ 0 → IsPrinted (IsText held m) old now
+  printed_is e h s = left_printed (IsText held m) (OrWords (EndsEarly held)) old now e h s
+
+  pub part_is : (e : Ending) → Leaves held m old now e → status_of e ≡ 5 → IsCutShort (IsText held m) old now
+  part_is e h s = left_part (IsText held m) (OrWords (EndsEarly held)) old now e h s
+
+  pub nothing_is : (e : Ending) → Leaves held m old now e → status_of e ≢ 0 → status_of e ≢ 5 → now ≡ old
+  nothing_is e h z f = left_nothing (IsText held m) (OrWords (EndsEarly held)) old now e h z f
 
   pub refused_is : (e : Ending) → Leaves held m old now e → (line : String Global) → e ≡ endings.Scenario line → IsRefused held (string_bytes line)
   refused_is e h line is = left_refused (IsText held m) (OrWords (EndsEarly held)) old now e h line is

@@ -9,7 +9,7 @@ use Rattle.sv_command.specs.Endings.{Ends, IsCutShort, IsMade, IsPrinted, OrWord
 use Rattle.sv_command.specs.Reading.{read_limit, held_of, IsRefused, IsNoScenario, HoldsScenario}
 use Rattle.sv_command.specs.Statuses.{status_of, Counts, Raises, NoneRose}
 use Rattle.sv_command.proofs.Held.{Faulty, read_is, holds_none, always, unheld, unnamed}
-use Rattle.sv_command.proofs.Left.{early_made, printed_by, cut_by, ends_early, or_words, refused_is as left_refused}
+use Rattle.sv_command.proofs.Left.{early_made, printed_by, cut_by, ends_early, or_words, printed_is as left_printed, part_is as left_part, nothing_is as left_nothing, refused_is as left_refused}
 use Rattle.sv_snapshot.specs.Statuses.{EndsEarly, IsText}
 
 pub early_by : (held : Option (List ℕ)) (r : Result (String Global) Ending) (e : Ending) → IsErrAnd r (λ x. x ≡ e) → EndsEarly held e → IsMade (IsText held) (EndsEarly held) r
@@ -49,6 +49,15 @@ module _ (held old now : Option (List ℕ)) where
   range_is endings.Out h = inr (inl (omega arith, omega arith))
   range_is endings.Memory h = inr (inr refl)
   range_is endings.Range h = absurd h.0
+
+  pub printed_is : (e : Ending) → Leaves held old now e → status_of e ≡ 0 → IsPrinted (IsText held) old now
+  printed_is e h s = left_printed (IsText held) (OrWords (EndsEarly held)) old now e h s
+
+  pub part_is : (e : Ending) → Leaves held old now e → status_of e ≡ 5 → IsCutShort (IsText held) old now
+  part_is e h s = left_part (IsText held) (OrWords (EndsEarly held)) old now e h s
+
+  pub nothing_is : (e : Ending) → Leaves held old now e → status_of e ≢ 0 → status_of e ≢ 5 → now ≡ old
+  nothing_is e h z f = left_nothing (IsText held) (OrWords (EndsEarly held)) old now e h z f
 
   pub refused_is : (e : Ending) → Leaves held old now e → (line : String Global) → e ≡ endings.Scenario line → IsRefused held (string_bytes line)
   refused_is e h line is = left_refused (IsText held) (OrWords (EndsEarly held)) old now e h line is

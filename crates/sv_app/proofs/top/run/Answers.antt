@@ -1,7 +1,6 @@
 -- Each clause of the call, from what was decided.
-use Rattle.sv_command.proofs.Left.{printed_is, part_is, nothing_is}
 use Rattle.sv_command.proofs.Statuses.{words_is, sure_is, link_is, faults_are, told_is}
-use Rattle.sv_app.proofs.Endings.{range_is, refused_is, faulty_is, complete_is}
+use Rattle.sv_app.proofs.Endings.{range_is, printed_is, part_is, nothing_is, refused_is, faulty_is, complete_is}
 use Rattle.sv_app.proofs.top.run.Goals as goal
 
 pub returns-clause-range : goal.returns-clause-range
@@ -27,13 +26,13 @@ returns-clause-faulty g c =
     rw c.status_of.ensures (faulty_is _ _ _ _ _ _ (rw c.command_of-command.ensures.asked at c.decide-ending.ensures.words) (rw c.command_of-command.ensures.asked at c.decide-ending.ensures.ends))
 
 pub returns-clause-printed : goal.returns-clause-printed
-returns-clause-printed g c = rw c.status_of.ensures (printed_is _ _ _ _ _ (rw c.command_of-command.ensures.asked at c.decide-ending.ensures.ends))
+returns-clause-printed g c = rw c.status_of.ensures (printed_is _ _ _ _ _ _ (rw c.command_of-command.ensures.asked at c.decide-ending.ensures.ends))
 
 pub returns-clause-part : goal.returns-clause-part
-returns-clause-part g c = rw c.status_of.ensures (part_is _ _ _ _ _ (rw c.command_of-command.ensures.asked at c.decide-ending.ensures.ends))
+returns-clause-part g c = rw c.status_of.ensures (part_is _ _ _ _ _ _ (rw c.command_of-command.ensures.asked at c.decide-ending.ensures.ends))
 
 pub returns-clause-nothing : goal.returns-clause-nothing
-returns-clause-nothing g c = rw c.status_of.ensures (nothing_is _ _ _ _ _ (rw c.command_of-command.ensures.asked at c.decide-ending.ensures.ends))
+returns-clause-nothing g c = rw c.status_of.ensures (nothing_is _ _ _ _ _ _ (rw c.command_of-command.ensures.asked at c.decide-ending.ensures.ends))
 
 pub returns-clause-told : goal.returns-clause-told
 returns-clause-told g c =

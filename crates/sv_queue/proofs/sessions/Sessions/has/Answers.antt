@@ -6,13 +6,13 @@ use Rattle.sv_world.specs.Control.{is_in}
 use Rattle.sv_queue.proofs.SessionSets.{in_sessions_of, out_of_sessions}
 use Rattle.sv_queue.proofs.sessions.Sessions.has.Goals as goal
 
-pub returns-then-session-lt64-clause-has : goal.returns-then-session-lt64-clause-has
-returns-then-session-lt64-clause-has c =
+pub returns-then-session-lt-MOST_SESSIONS-clause-has : goal.returns-then-session-lt-MOST_SESSIONS-clause-has
+returns-then-session-lt-MOST_SESSIONS-clause-has c =
     ap (λ b. nat_eq b 1) (shr_and_one c.self.inside.bits c.args.session)
-    ∙ sym (in_sessions_of c.self.inside.bits c.args.session c.if-session-lt64.true)
+    ∙ sym (in_sessions_of c.self.inside.bits c.args.session c.if-session-lt-MOST_SESSIONS.true)
     ∙ ap (is_in c.args.session) c.self.view_is
 
-pub returns-else-session-lt64-clause-has : goal.returns-else-session-lt64-clause-has
-returns-else-session-lt64-clause-has c = le-ltb c.args.session 64 c.if-session-lt64.false
-    ∙ sym (out_of_sessions _ c.args.session c.if-session-lt64.false)
+pub returns-else-session-lt-MOST_SESSIONS-clause-has : goal.returns-else-session-lt-MOST_SESSIONS-clause-has
+returns-else-session-lt-MOST_SESSIONS-clause-has c = le-ltb c.args.session 64 c.if-session-lt-MOST_SESSIONS.false
+    ∙ sym (out_of_sessions _ c.args.session c.if-session-lt-MOST_SESSIONS.false)
     ∙ ap (is_in c.args.session) c.self.view_is
