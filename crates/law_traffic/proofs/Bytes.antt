@@ -37,7 +37,7 @@ use Rattle.sv_player.specs.Carried.{request_frames}
 use Rattle.sv_player.specs.Stops.{is_cut}
 use Rattle.sv_player.specs.Played.{replies_of}
 use Rattle.law_traffic.specs.Sessions.{Over, transcript, IsSessionDone}
-use Rattle.law_traffic.specs.Traffic.{reply_frames, is_stop, EndsWithStop, TookAll, IsTraffic}
+use Rattle.law_traffic.specs.Traffic.{reply_frames, is_stop_reply, EndsWithStop, TookAll, IsTraffic}
 use Rattle.law_traffic.proofs.Ours.{mine, requests_are, replies_are, one_end, end_is_last}
 use Rattle.law_traffic.proofs.Dues.{full_over, due_is}
 use Rattle.law_traffic.proofs.Messages.{request_frames_both, front_all, AreTaken, taken, AreGot, got_first}
@@ -59,7 +59,7 @@ stop_code false true c x y z reason e = refl
 stop_code false false true x y z reason e = refl
 stop_code false false false x y z reason e = absurd (none-some reason e)
 
-stops : (A : List Authored) (reply : Logged) (reason : SessionOut) → stop_of reply ≡ Some reason → is_stop (full_reply A reply) ≡ true
+stops : (A : List Authored) (reply : Logged) (reason : SessionOut) → stop_of reply ≡ Some reason → is_stop_reply (full_reply A reply) ≡ true
 stops A logged.Bye reason e = refl
 stops A (logged.Refused code detail) reason e = stop_code (eqb code 1) (eqb code 4) (eqb code 9) outs.Malformed outs.Ended outs.Spent reason e
 stops A (logged.Welcome commit head) reason e = absurd (none-some reason e)

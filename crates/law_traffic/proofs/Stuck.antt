@@ -36,7 +36,7 @@ use Rattle.sv_player.specs.Carried.{BeginsWith}
 use Rattle.sv_player.specs.Stops.{NoneCame, is_cut}
 use Rattle.sv_player.specs.Played.{replies_of}
 use Rattle.law_traffic.specs.Sessions.{Over, IsSessionDone}
-use Rattle.law_traffic.specs.Traffic.{reply_frames, is_stop, EndsWithStop, TookAll}
+use Rattle.law_traffic.specs.Traffic.{reply_frames, is_stop_reply, EndsWithStop, TookAll}
 use Rattle.law_traffic.specs.Stuck.{IsTakeable}
 use Rattle.law_traffic.proofs.Cuts.{front_none, empty_short, not_long}
 use Rattle.law_traffic.proofs.Messages.{requests_fit, request_frames_are, reply_frames_both, AreGot, got_first}
@@ -91,7 +91,7 @@ counted_items qs = length-map (map request_bytes qs) Payload ∙ length-map qs r
 
 -- ---- The last reply
 
-stop_answers : (q : Request) (w : Reply) → is_stop w ≡ true → allows q w ≡ true → q ≡ requests.Leave
+stop_answers : (q : Request) (w : Reply) → is_stop_reply w ≡ true → allows q w ≡ true → q ≡ requests.Leave
 stop_answers q (replies.Refused code detail) stop kind = absurd (true≢false (sym kind ∙ never-refused q code detail))
 stop_answers requests.Leave replies.Bye stop kind = refl
 stop_answers (requests.Join client life interest) replies.Bye stop kind = cc

@@ -1,6 +1,5 @@
 -- The open sessions of a run, and the traffic of all sessions.
-use Rattle.std.proofs.Common.{◌≡◌, ℕ, zero, suc, ◌+◌, ◌-◌, ◌≤◌, Bool, true, List, [], ◌∷◌, length, map, reverse, Some, None, slice_get, Option, option_map, Result, Ok, Err, ◌≢◌, inl, inr, ◌⊎◌, ℤ, sym, ap, subst, ◌∙◌, arith, refl}
-use Rattle.std.specs.Prelude.{All}
+use Rattle.std.proofs.Common.{◌≡◌, ℕ, zero, suc, ◌+◌, ◌-◌, Bool, true, List, [], ◌∷◌, length, map, reverse, Some, None, slice_get, Option, option_map, Result, Ok, Err, ◌≢◌, inl, inr, ◌⊎◌, sym, ap, subst, ◌∙◌, arith, refl}
 use Rattle.std.specs.List.{AllByRecursion}
 use Rattle.std.proofs.lemmas.List.{length-map}
 use Rattle.std.proofs.lemmas.Option.{none-some, same_Some}
@@ -9,13 +8,10 @@ use Rattle.sv_wire.specs.declared.fault.Malformed.{Malformed}
 use Rattle.sv_wire.specs.declared.message.Reply.{Reply}
 use Rattle.sv_wire.specs.Laws.{IsReply}
 use Rattle.sv_journal.specs.declared.entry.Entry.{Entry}
-use Rattle.sv_journal.specs.History.{accepted}
-use Rattle.sv_journal.specs.Answer.{Rules, Legal}
 use Rattle.sv_journal.specs.Laws.{FullRepliesStay, LegalRelaysNameAccepted}
 use Rattle.sv_client.specs.declared.trace.Trace.{Trace}
-use Rattle.sv_client.specs.Traces.{current_session, requests_of, got}
-use Rattle.sv_client.specs.Seen.{fault_named}
-use Rattle.sv_client.specs.Taking.{Identity, Fault, first_fault_of_reply}
+use Rattle.sv_client.specs.Traces.{got}
+use Rattle.sv_client.specs.Taking.{Identity, first_fault_of_reply}
 use Rattle.sv_client.specs.declared.fault.TakeFault.{TakeFault}
 use Rattle.sv_client.specs.declared.fault.TakeFault.TheVariants as take_faults
 use Rattle.sv_client.specs.declared.trace.Event.{Event}
@@ -25,19 +21,20 @@ use Rattle.sv_frame.specs.Frames.{first_frame}
 use Rattle.sv_client.specs.Proper.{identity_of}
 use Rattle.sv_scenario.specs.declared.scenario.Plan.{Plan}
 use Rattle.sv_scenario.specs.declared.scenario.Scenario.{Scenario}
-use Rattle.sv_system.specs.Fits.{is_join_of, has_session, replies_in, Fits}
+use Rattle.sv_system.specs.Fits.{is_join_of, has_session}
 use Rattle.sv_system.specs.Records.{rules_of, EachTrace, ScriptsAreFollowed}
 use Rattle.sv_script.specs.Following.{FollowsToEnd}
 use Rattle.sv_system.proofs.Asked.{any-reverse, current-joined}
 use Rattle.sv_asked.specs.Asked.{RepliesAreMessages}
+use Rattle.sv_system.specs.Laws.{NeverRefused}
 use Rattle.sv_player.specs.Carried.{BeginsWith}
-use Rattle.sv_player.specs.Stops.{IsShut, IsBad, IsBadRest, IsRefused, first_payload}
+use Rattle.sv_player.specs.Stops.{IsShut, IsBadRest, first_payload}
 use Rattle.sv_player.specs.Played.{replies_of}
 use Rattle.sv_player.specs.declared.outcome.ReplyFault.{ReplyFault}
 use Rattle.sv_player.specs.declared.outcome.ReplyFault.TheVariants as reply_faults
 use Rattle.law_traffic.specs.Sessions.{Over, transcript, IsSessionDone}
 use Rattle.law_traffic.specs.Traffic.{IsTraffic}
-use Rattle.law_traffic.specs.Stuck.{HasBad, IsStopped, IsTakeable}
+use Rattle.law_traffic.specs.Stuck.{IsStopped, IsTakeable}
 use Rattle.law_traffic.specs.Runs.{EachSession, IsRun, IsGoodRun, IsOpenIn, TrafficIsRecorded, EndOrAreStopped, UncutSessionsHaveNoFault}
 use Rattle.law_traffic.proofs.Asking.{few_asked}
 use Rattle.law_traffic.proofs.Bytes.{all, all_are, traffic_of}
@@ -45,15 +42,6 @@ use Rattle.law_traffic.proofs.Owners.{in_range}
 use Rattle.law_traffic.proofs.Recorded.{fits}
 use Rattle.law_traffic.proofs.Sendable.{IsWellDone, well, limits_of, sendable}
 use Rattle.law_traffic.proofs.Stuck.{takeable, none_is_awaited}
-
--- The law of honest clients.
-abbrev pub NeverRefused : Type 0
-NeverRefused = (r : Rules) (h : List Entry) (Ls : List Trace) (i : ℕ) (L : Trace) (s : ℕ) (reply : Reply) →
-    length r.world.values ≡ r.world.shape.objects → All (λ (v : List ℤ). length v ≡ r.world.shape.attrs) r.world.values → r.bound ≤ 32 →
-    Legal r h → Fits r.world.shape h Ls → slice_get Ls i ≡ Some L →
-    current_session (reverse L.events) ≡ Some s → length (requests_of L s) ≤ 1024 →
-    slice_get (replies_in (accepted h) h s) (length (got (reverse L.events) s)) ≡ Some reply →
-    first_fault_of_reply (identity_of r.world.shape L) (reverse L.events) reply ≡ None
 
 trace_at : (P : Plan → Trace → Type 0) (plans : List Plan) (Ls : List Trace) (i : ℕ) (L : Trace) → EachTrace P plans Ls → slice_get Ls i ≡ Some L → (plan : Plan) × P plan L
 trace_at P [] [] i L e m = absurd (none-some L m)

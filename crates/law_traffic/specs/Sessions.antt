@@ -32,7 +32,7 @@ transcript x = transcript_of x.server x.server_faults x.client x.client_faults
 
 -- The loop of session s served a new end by a new pass, and the journal has all that the pass had seen and, of this session, the pass's own
 -- entries alone.
-pub record IsServed (journal : List Entry) (s : ℕ) (x : Over) : Type 0 where
+pub record IsSessionServed (journal : List Entry) (s : ℕ) (x : Over) : Type 0 where
   pub pair : ℕ
   pub before : SessionPass
   pub after : SessionPass
@@ -58,6 +58,6 @@ pub record IsSettled (L : Trace) (s : ℕ) (x : Over) : Type 0 where
 
 -- Session s of the trace is done.
 pub record IsSessionDone (journal : List Entry) (L : Trace) (s : ℕ) (x : Over) : Type 0 where
-  pub served : IsServed journal s x
+  pub served : IsSessionServed journal s x
   pub carried : IsCarried L s x
   pub settled : IsSettled L s x

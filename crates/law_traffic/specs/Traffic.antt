@@ -1,6 +1,6 @@
 -- What the two ends of a session moved, against the journal and the client's trace.
 -- A history is the list of a journal's entries with the latest first.
-use Rattle.std.specs.Prelude.{◌≡◌, ◌⊎◌, ℕ, Bool, true, false, ◌==◌, ◌||◌, List, [], ◌∷◌, ◌++◌, map, reverse}
+use Rattle.std.specs.Prelude.{◌≡◌, ◌⊎◌, ℕ, Bool, true, false, List, [], ◌∷◌, ◌++◌, map, reverse}
 use mathlib.Core.List.{IsPrefix}
 use Rattle.sv_frame.specs.Frames.{frames_of}
 use Rattle.sv_frame.specs.Streams.{incoming_items}
@@ -8,13 +8,13 @@ use Rattle.sv_frame.specs.Streams.StreamItem.{Payload}
 use Rattle.sv_link.specs.Nets.{Transcript}
 use Rattle.sv_wire.specs.declared.message.Request.{Request}
 use Rattle.sv_wire.specs.declared.message.Reply.{Reply}
-use Rattle.sv_wire.specs.declared.message.Reply.TheVariants as replies
 use Rattle.sv_wire.specs.Spelling.{request_bytes, reply_bytes}
 use Rattle.sv_journal.specs.declared.entry.Entry.{Entry}
 use Rattle.sv_journal.specs.History.{accepted}
 use Rattle.sv_client.specs.declared.trace.Trace.{Trace}
 use Rattle.sv_client.specs.Traces.{requests_of}
 use Rattle.sv_system.specs.Fits.{requests_in, replies_in}
+pub use Rattle.sv_schedule.specs.Serving.{is_stop_reply}
 use Rattle.sv_player.specs.Carried.{request_frames}
 use Rattle.sv_player.specs.Stops.{is_cut}
 use Rattle.sv_player.specs.Played.{replies_of}
@@ -23,18 +23,12 @@ use Rattle.sv_player.specs.Played.{replies_of}
 unfoldable pub reply_frames : List Reply → List ℕ
 reply_frames replies = frames_of (map reply_bytes replies)
 
--- the replies after which a session's loop stops: Bye, and Refused for a malformed payload, an ended session and a spent one
-abbrev pub is_stop : Reply → Bool
-is_stop replies.Bye = true
-is_stop (replies.Refused code detail) = code == 1 || code == 4 || code == 9
-is_stop _ = false
-
--- the last of these replies is such a one
+-- the last of these replies is one after which a session's loop stops
 pub record EndsWithStop (all : List Reply) : Type 0 where
   pub before : List Reply
   pub last : Reply
   pub are : all ≡ before ++ last ∷ []
-  pub stop : is_stop last ≡ true
+  pub stop : is_stop_reply last ≡ true
 
 -- The end was told that no more will come, and each payload that it received is that of one of these requests, in order.
 pub record TookAll (ended : Bool) (received : List ℕ) (requests : List Request) : Type 0 where

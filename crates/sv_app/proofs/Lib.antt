@@ -1,3 +1,4 @@
+-- The lemmas of runs.
 pub mod Endings
 pub mod Making
 pub mod Threads

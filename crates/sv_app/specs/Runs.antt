@@ -1,6 +1,6 @@
 -- What is run, the record that it leaves, and the text that tells it.
 -- A journal `h` has its latest entry first.
-use Rattle.std.specs.Prelude.{◌≡◌, ℕ, List, [], ◌∷◌, ◌++◌, reverse, Option, codes}
+use Rattle.std.specs.Prelude.{◌≡◌, ℕ, List, ◌++◌, reverse, Option, Some, None, codes}
 use Rattle.std.specs.Fmt.{decimal}
 use Rattle.std.specs.List.{flat_map}
 use Rattle.sv_link.specs.Nets.{Transcript}
@@ -14,6 +14,7 @@ use Rattle.sv_schedule.specs.Records.{IsReplay}
 use Rattle.sv_report.specs.Report.{report_text}
 use Rattle.sv_report.specs.Summary.{summary_text}
 use Rattle.sv_play.specs.Playing.{IsThreadedRun}
+use Rattle.sv_command.specs.Lines.{ended_line}
 use Rattle.sv_command.specs.Reading.{IsRead}
 use Rattle.sv_app.specs.declared.playing.Threaded.{Threaded}
 use Rattle.sv_app.specs.declared.words.Form.{Form}
@@ -49,9 +50,6 @@ IsRecordFor (Load size) m scenario h Ls = IsThreadedRun scenario h Ls m.settled_
 
 -- ---- The text
 
-abbrev pub ended_line : List ℕ → List ℕ
-ended_line line = line ++ 10 ∷ []
-
 -- The lines that tell what changed of the clients' views, client by client.
 abbrev pub told_text : List Trace → List ℕ
 told_text Ls = flat_map ended_line (flat_map told_lines Ls)
@@ -75,6 +73,11 @@ pub record IsText (asked : Asked) (held : Option (List ℕ)) (m : Moved) (text :
   pub scenario_is : IsScenarioFor asked held scenario
   pub record_is : IsRecordFor asked m scenario h Ls
   pub text_is : text ≡ text_for asked scenario h Ls
+
+-- The text tells it where something is asked for, and else there is none.
+abbrev pub IsTextFor : Option Asked → Option (List ℕ) → Moved → List ℕ → Type 0
+IsTextFor (Some asked) held m text = IsText asked held m text
+IsTextFor None held m text = ⊥
 
 -- What is left of a run on threads.
 pub record IsThreaded (scenario : Scenario) (m : Moved) (threaded : Threaded) : Type 0 where

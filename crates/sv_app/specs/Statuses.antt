@@ -1,15 +1,13 @@
 -- How a call of `run` ends.
-use Rattle.std.specs.Prelude.{◌≡◌, ◌≢◌, ℕ, List, Option, Some, None, codes, Result, Ok, Err, String, string_bytes}
-use Rattle.std.specs.declared.alloc.Global.{Global}
-use Rattle.sv_bytes.specs.Writing.{Grew, GrewByPart}
+use Rattle.std.specs.Prelude.{◌≡◌, ◌≢◌, ℕ, List, Option, Some, None, codes, string_bytes}
 use Rattle.sv_scenario.specs.declared.scenario.Scenario.{Scenario}
 use Rattle.sv_play.specs.declared.outcome.PlayFault.{PlayFault}
 use Rattle.sv_play.specs.declared.outcome.PlayFault.TheVariants as faults
 use Rattle.sv_command.specs.declared.ending.Ending.{Ending}
 use Rattle.sv_command.specs.declared.ending.Ending.TheVariants as endings
-use Rattle.sv_command.specs.Reading.{IsRefused, HoldsScenario, held_of}
-use Rattle.sv_app.specs.Words.{Asked, Play, Replay, Load, named_by}
-use Rattle.sv_app.specs.Runs.{Moved, IsScenarioFor, IsText}
+use Rattle.sv_command.specs.Reading.{IsRefused, HoldsScenario}
+use Rattle.sv_app.specs.Words.{Asked, Play, Replay, Load}
+use Rattle.sv_app.specs.Runs.{IsScenarioFor}
 
 -- ---- What is asked for
 
@@ -17,10 +15,6 @@ abbrev pub ending_of_fault : PlayFault → Ending
 ending_of_fault faults.Start = endings.Start
 ending_of_fault faults.Link = endings.Link
 ending_of_fault faults.Memory = endings.Memory
-
--- What the file that is named holds, where there is one and that is told.
-abbrev pub held_by : (List ℕ → Option (List ℕ)) → Option Asked → Option (List ℕ)
-held_by contents asked = held_of contents (named_by asked)
 
 -- What is not touched, before and after, and never told of: the net and the crew by a replay, the files by a load, and all three where
 -- nothing is asked for.
@@ -40,46 +34,13 @@ pub record IsReady (asked : Option Asked) (held : Option (List ℕ)) : Type 0 wh
   pub scenario_is : IsScenarioFor command held scenario
 
 -- An ending without a text. Threads and links are only told of where there was something to run.
-abbrev pub EndsEarly : Asked → Option (List ℕ) → Ending → Type 0
-EndsEarly asked held endings.Done = ⊥
-EndsEarly asked held endings.Words = ⊥
-EndsEarly asked held endings.Out = ⊥
+abbrev pub EndsEarly : Option Asked → Option (List ℕ) → Ending → Type 0
 EndsEarly asked held (endings.Scenario line) = IsRefused held (string_bytes line)
-EndsEarly asked held endings.Start = IsReady (Some asked) held
-EndsEarly asked held endings.Link = IsReady (Some asked) held
-EndsEarly asked held _ = Unit {0}
-
--- the text of what is asked for, or why there is none
-abbrev pub IsMade : Asked → Option (List ℕ) → Moved → Result (String Global) Ending → Type 0
-IsMade asked held moved (Ok text) = IsText asked held moved (string_bytes text)
-IsMade asked held moved (Err ending) = EndsEarly asked held ending
-
--- ---- The output
-
--- The sink grew by just the text of what is asked for.
-pub record IsPrinted (asked : Option Asked) (held : Option (List ℕ)) (moved : Moved) (old now : Option (List ℕ)) : Type 0 where
-  pub command : Asked
-  pub command_is : asked ≡ Some command
-  pub text : List ℕ
-  pub told : IsText command held moved text
-  pub grew : Grew old now text
-
--- The sink grew by a front part of that text.
-pub record IsCutShort (asked : Option Asked) (held : Option (List ℕ)) (moved : Moved) (old now : Option (List ℕ)) : Type 0 where
-  pub command : Asked
-  pub command_is : asked ≡ Some command
-  pub text : List ℕ
-  pub told : IsText command held moved text
-  pub part : GrewByPart old now text
-
--- What is left of a call, by its ending.
-abbrev pub Ends : Option Asked → Option (List ℕ) → Moved → Option (List ℕ) → Option (List ℕ) → Ending → Type 0
-Ends asked held moved old now endings.Done = IsPrinted asked held moved old now
-Ends asked held moved old now endings.Out = IsCutShort asked held moved old now
-Ends asked held moved old now (endings.Scenario line) = IsRefused held (string_bytes line) × (now ≡ old)
-Ends asked held moved old now endings.Start = IsReady asked held × (now ≡ old)
-Ends asked held moved old now endings.Link = IsReady asked held × (now ≡ old)
-Ends asked held moved old now _ = now ≡ old
+EndsEarly asked held endings.File = Unit {0}
+EndsEarly asked held endings.Start = IsReady asked held
+EndsEarly asked held endings.Link = IsReady asked held
+EndsEarly asked held endings.Memory = Unit {0}
+EndsEarly asked held _ = ⊥
 
 -- ---- What can be run
 

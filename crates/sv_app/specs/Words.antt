@@ -1,6 +1,7 @@
 -- What the words that the program is called with ask for.
 use Rattle.std.specs.Prelude.{ℕ, ◌≤◌, List, [], ◌∷◌, Option, Some, None, option_map, option_and_then, codes, if◌then◌else◌}
 use Rattle.std.specs.Str.{bytes_eq}
+use Rattle.sv_gen.specs.Generated.{most_load}
 use Rattle.sv_command.specs.Numbers.{number_between}
 use Rattle.sv_app.specs.declared.words.Command.{Command}
 use Rattle.sv_app.specs.declared.words.Command.TheVariants as commands
@@ -19,7 +20,7 @@ asked_by (commands.Replay file) = Replay file.now
 asked_by (commands.Load size) = Load size
 
 abbrev pub IsSize : ℕ → Type 0
-IsSize n = (1 ≤ n) × (n ≤ 192)
+IsSize n = (1 ≤ n) × (n ≤ most_load)
 
 abbrev pub IsSized : Command → Type 0
 IsSized (commands.Load size) = IsSize size
@@ -27,7 +28,7 @@ IsSized _ = Unit {0}
 
 -- The size that a text writes: 1 to 192, without leading zeros.
 abbrev pub size_of : List ℕ → Option ℕ
-size_of text = number_between 1 192 text
+size_of text = number_between 1 most_load text
 
 abbrev pub form_of : List ℕ → Option Form
 form_of text = if bytes_eq text (codes "--brief") then Some forms.Brief

@@ -1,17 +1,17 @@
 //! Runs on threads, and how they are told.
-ghost use Rattle.std.specs.Prelude.{◌≡◌, ◌++◌, reverse, codes, string_bytes, IfOk, OnOk, Err};
+ghost use Rattle.std.specs.Prelude.{◌≡◌, ◌++◌, reverse, codes, string_bytes, IfOk, Err};
 ghost use Rattle.std.specs.Fmt.{decimal};
-ghost use Rattle.std.specs.List.{flat_map};
 ghost use Rattle.sv_watch.specs.Told.{change_line};
 ghost use Rattle.sv_scenario.specs.Limits.{IsGoodScenario};
 ghost use Rattle.sv_play.specs.Playing.{PlayCause};
 ghost use Rattle.sv_play.specs.Settling.{SomeDiffer};
-ghost use Rattle.sv_app.specs.Runs.{moved, IsThreaded, ended_line, form_text};
+ghost use Rattle.sv_app.specs.Runs.{moved, IsThreaded, form_text};
 
 use crate::words::Form;
 use std::alloc::{AllocError, Global};
 use std::sync::Wait;
 use std::thread::Threads;
+use sv_command::{Stage, append_lines};
 use sv_link::{Crew, Gate, Net};
 use sv_lock::SeqLock;
 use sv_play::{PlayFault, Playing, play_all};
@@ -31,18 +31,17 @@ pub struct Threaded {
 
 /// Runs a scenario on threads: one for each session, and one for each client.
 pub(crate) fn run_on_threads<N: Net, C: Crew, G: Gate + Sync, R: Threads + Wait + Sync>(
-    rt: &R,
-    alloc: Global,
+    stage: &Stage<'_, R, G>,
     scenario: &Scenario,
     net: &mut N,
     crew: &mut C,
-    gate: &G,
 ) -> Result<Threaded, PlayFault>
     requires { IsGoodScenario scenario.now }
     ensures threaded { IfOk result (λ threaded. IsThreaded scenario.now (moved (N.settled net.old) (N.settled net.new) (C.ran crew.old) (C.ran crew.new)) threaded) }
     ensures cause { PlayCause (C.faults crew.old) (C.faults crew.new) (N.faults net.old) (N.faults net.new) result }
     ensures calm { N.calm net.old → result ≡ Err PlayFault.Link → SomeDiffer N.E.told N.E.calm (N.made net.old) (N.made net.new) }
 {
+    let alloc = stage.alloc;
     let callback = Box::new(
         alloc,
         move |change: &Change| -> Result<Line, AllocError>
@@ -61,29 +60,18 @@ pub(crate) fn run_on_threads<N: Net, C: Crew, G: Gate + Sync, R: Threads + Wait 
         }
     };
     let Playing { traces, lines } = play_all(
-        rt,
+        stage.rt,
         alloc,
         scenario,
         &lock,
         &mut keeper,
         net,
         crew,
-        gate,
+        stage.gate,
         &watch,
     )?;
     let played = played_of(alloc, shape, lock.close(keeper), traces)?;
     Ok(Threaded { played, lines })
-}
-
-/// Appends lines, each with its end.
-fn append_lines(lines: &[Line], text: &mut String) -> Result<(), AllocError>
-    ensures { OnOk result (string_bytes text.new ≡ string_bytes text.old ++ flat_map ended_line lines.now) }
-{
-    for line in lines {
-        text.push_str(line.as_str())?;
-        text.push_str("\n")?;
-    }
-    Ok(())
 }
 
 /// How a run is told.

@@ -1,10 +1,12 @@
 //! The text that tells what is asked for.
 ghost use Rattle.std.specs.Prelude.{◌≡◌, ◌≢◌, ℕ, None, Some, Err, IfSome};
+ghost use Rattle.sv_command.specs.Endings.{IsMade};
+ghost use Rattle.sv_command.specs.Reading.{held_of};
 ghost use Rattle.sv_command.specs.Statuses.{Counts, counts, Raises, ending_of, status_of};
 ghost use Rattle.sv_play.specs.Settling.{SomeDiffer};
 ghost use Rattle.sv_app.specs.Words.{Play, Replay, Load, IsSize, IsSized, asked_by, file_of};
-ghost use Rattle.sv_app.specs.Runs.{Moved, moved};
-ghost use Rattle.sv_app.specs.Statuses.{IsMade, LeavesAlone, ending_of_fault, held_by};
+ghost use Rattle.sv_app.specs.Runs.{Moved, moved, IsText};
+ghost use Rattle.sv_app.specs.Statuses.{EndsEarly, LeavesAlone, ending_of_fault};
 
 use crate::playing::{form_text, load_text, run_on_threads};
 use crate::words::{Command, Form};
@@ -13,7 +15,7 @@ use std::mem::forget;
 use std::sync::Wait;
 use std::thread::Threads;
 use sv_bytes::Files;
-use sv_command::{Ending, scenario_in};
+use sv_command::{Ending, Stage, scenario_in};
 use sv_gen::generate;
 use sv_link::{Crew, Gate, Net};
 use sv_play::PlayFault;
@@ -41,7 +43,7 @@ fn leave<T: Drop>(scenario: Scenario, kept: T) {
 
 /// The report of the run of a file's schedule.
 fn replay<F: Files>(alloc: Global, file: &str, files: &mut F) -> Result<String, Ending>
-    ensures made { (m : Moved) → IsMade (Replay file.now) (F.contents files.old file.now) m result }
+    ensures made { (m : Moved) → IsMade (IsText (Replay file.now) (F.contents files.old file.now) m) (EndsEarly (Some (Replay file.now)) (F.contents files.old file.now)) result }
     ensures raises { (k : Counts) → Raises (record k { files = F.faults files.old }) (record k { files = F.faults files.new }) (ending_of result) }
     ensures sure { F.sure files.old file.now → result ≢ Err Ending.File }
 {
@@ -54,76 +56,72 @@ fn replay<F: Files>(alloc: Global, file: &str, files: &mut F) -> Result<String, 
 
 /// How a run of a file's scenario on threads is told.
 fn play<F: Files, N: Net, C: Crew, G: Gate + Sync, R: Threads + Wait + Sync>(
-    rt: &R,
-    alloc: Global,
+    stage: &Stage<'_, R, G>,
     file: &str,
     form: Form,
     files: &mut F,
     net: &mut N,
     crew: &mut C,
-    gate: &G,
 ) -> Result<String, Ending>
-    ensures made { IsMade (Play file.now form) (F.contents files.old file.now) (moved (N.settled net.old) (N.settled net.new) (C.ran crew.old) (C.ran crew.new)) result }
+    ensures made { IsMade (IsText (Play file.now form) (F.contents files.old file.now) (moved (N.settled net.old) (N.settled net.new) (C.ran crew.old) (C.ran crew.new)))
+        (EndsEarly (Some (Play file.now form)) (F.contents files.old file.now)) result }
     ensures raises { (k : ℕ) → Raises (counts (F.faults files.old) (C.faults crew.old) (N.faults net.old) k) (counts (F.faults files.new) (C.faults crew.new) (N.faults net.new) k) (ending_of result) }
     ensures sure { F.sure files.old file.now → result ≢ Err Ending.File }
     ensures calm { N.calm net.old → result ≡ Err Ending.Link → SomeDiffer N.E.told N.E.calm (N.made net.old) (N.made net.new) }
 {
-    let scenario = scenario_in(alloc, file, files)?;
-    let threaded = match run_on_threads(rt, alloc, &scenario, net, crew, gate) {
+    let scenario = scenario_in(stage.alloc, file, files)?;
+    let threaded = match run_on_threads(stage, &scenario, net, crew) {
         Ok(threaded) => threaded,
         Err(fault) => return Err(ending_of_fault(fault)),
     };
-    let text = form_text(alloc, &scenario, form, &threaded)?;
+    let text = form_text(stage.alloc, &scenario, form, &threaded)?;
     leave(scenario, threaded);
     Ok(text)
 }
 
 /// How a run of the generated scenario of a size is told.
 fn load<N: Net, C: Crew, G: Gate + Sync, R: Threads + Wait + Sync>(
-    rt: &R,
-    alloc: Global,
+    stage: &Stage<'_, R, G>,
     size: u32,
     net: &mut N,
     crew: &mut C,
-    gate: &G,
 ) -> Result<String, Ending>
     requires { IsSize size }
-    ensures made { IsMade (Load size) None (moved (N.settled net.old) (N.settled net.new) (C.ran crew.old) (C.ran crew.new)) result }
+    ensures made { IsMade (IsText (Load size) None (moved (N.settled net.old) (N.settled net.new) (C.ran crew.old) (C.ran crew.new))) (EndsEarly (Some (Load size)) None) result }
     ensures raises { (f k : ℕ) → Raises (counts f (C.faults crew.old) (N.faults net.old) k) (counts f (C.faults crew.new) (N.faults net.new) k) (ending_of result) }
     ensures never { (status_of (ending_of result) ≢ 3) × (status_of (ending_of result) ≢ 4) }
     ensures calm { N.calm net.old → result ≡ Err Ending.Link → SomeDiffer N.E.told N.E.calm (N.made net.old) (N.made net.new) }
 {
-    let scenario = generate(alloc, size)?;
-    let threaded = match run_on_threads(rt, alloc, &scenario, net, crew, gate) {
+    let scenario = generate(stage.alloc, size)?;
+    let threaded = match run_on_threads(stage, &scenario, net, crew) {
         Ok(threaded) => threaded,
         Err(fault) => return Err(ending_of_fault(fault)),
     };
-    let text = load_text(alloc, size, &scenario, &threaded)?;
+    let text = load_text(stage.alloc, size, &scenario, &threaded)?;
     leave(scenario, threaded);
     Ok(text)
 }
 
 /// The text that tells what is asked for. Whatever it is, it is whole before any of it is printed.
 pub(crate) fn text_for<F: Files, N: Net, C: Crew, G: Gate + Sync, R: Threads + Wait + Sync>(
-    rt: &R,
-    alloc: Global,
+    stage: &Stage<'_, R, G>,
     command: Command<'_>,
     files: &mut F,
     net: &mut N,
     crew: &mut C,
-    gate: &G,
 ) -> Result<String, Ending>
     requires sized { IsSized command }
-    ensures made { IsMade (asked_by command.entry) (held_by (F.contents files.old) (Some (asked_by command.entry)))
-        (moved (N.settled net.old) (N.settled net.new) (C.ran crew.old) (C.ran crew.new)) result }
+    ensures made { IsMade (IsText (asked_by command.entry) (held_of (F.contents files.old) (file_of (asked_by command.entry)))
+        (moved (N.settled net.old) (N.settled net.new) (C.ran crew.old) (C.ran crew.new)))
+        (EndsEarly (Some (asked_by command.entry)) (held_of (F.contents files.old) (file_of (asked_by command.entry)))) result }
     ensures raises { (k : ℕ) → Raises (counts (F.faults files.old) (C.faults crew.old) (N.faults net.old) k) (counts (F.faults files.new) (C.faults crew.new) (N.faults net.new) k) (ending_of result) }
     ensures sure { IfSome (file_of (asked_by command.entry)) (λ name. F.sure files.old name → result ≢ Err Ending.File) }
     ensures apart { LeavesAlone (Some (asked_by command.entry)) (status_of (ending_of result)) files.old files.new net.old net.new crew.old crew.new }
     ensures calm { N.calm net.old → result ≡ Err Ending.Link → SomeDiffer N.E.told N.E.calm (N.made net.old) (N.made net.new) }
 {
     match command {
-        Command::Play { file, form } => play(rt, alloc, file, form, files, net, crew, gate),
-        Command::Replay { file } => replay(alloc, file, files),
-        Command::Load { size } => load(rt, alloc, size, net, crew, gate),
+        Command::Play { file, form } => play(stage, file, form, files, net, crew),
+        Command::Replay { file } => replay(stage.alloc, file, files),
+        Command::Load { size } => load(stage, size, net, crew),
     }
 }

@@ -1,10 +1,12 @@
+//! The top call of runs: played, replayed or made up.
 ghost use Rattle.std.specs.Prelude.{◌≡◌, ◌≢◌, ◌↔◌, ◌⊎◌, ◌≤◌, ℕ, take, map, option_map, string_bytes, None, IfSome};
 ghost use Rattle.sv_play.specs.Settling.{SomeDiffer};
 ghost use Rattle.sv_app.specs.Words.{IsSized, asked_by, command_of, named_by};
-ghost use Rattle.sv_command.specs.Reading.{read_limit, IsNoScenario};
+ghost use Rattle.sv_command.specs.Endings.{Ends, IsCutShort, IsPrinted, OrWords};
+ghost use Rattle.sv_command.specs.Reading.{read_limit, held_of, IsNoScenario};
 ghost use Rattle.sv_command.specs.Statuses.{counts, NoneRose, Raises, TellsFaults, TellsStatus, status_of};
-ghost use Rattle.sv_app.specs.Runs.{moved};
-ghost use Rattle.sv_app.specs.Statuses.{CanRun, Ends, IsCutShort, IsPrinted, LeavesAlone, held_by, words_line};
+ghost use Rattle.sv_app.specs.Runs.{moved, IsTextFor};
+ghost use Rattle.sv_app.specs.Statuses.{CanRun, EndsEarly, LeavesAlone, words_line};
 
 use crate::texts::text_for;
 use crate::words::{Command, command_of, file_of};
@@ -12,7 +14,7 @@ use std::alloc::Global;
 use std::sync::Wait;
 use std::thread::Threads;
 use sv_bytes::{Files, Sink, write_all};
-use sv_command::{Ending, status_of, tell};
+use sv_command::{Ending, Stage, status_of, tell};
 use sv_link::{Crew, Gate, Net};
 
 /// The line that tells which words there are.
@@ -20,19 +22,18 @@ const WORDS_LINE: &[u8] = b"words: play FILE [--brief | --watch] | replay FILE |
 
 /// Does what is asked for, and tells how it ended.
 fn decide<F: Files, N: Net, C: Crew, G: Gate + Sync, K: Sink, R: Threads + Wait + Sync>(
-    rt: &R,
-    alloc: Global,
+    stage: &Stage<'_, R, G>,
     command: Option<Command<'_>>,
     files: &mut F,
     net: &mut N,
     crew: &mut C,
-    gate: &G,
     out: &mut K,
 ) -> Ending
     requires sized { IfSome command IsSized }
     ensures words { (result ≡ Ending.Words) ↔ (option_map asked_by command.entry ≡ None) }
-    ensures ends { Ends (option_map asked_by command.entry) (held_by (F.contents files.old) (option_map asked_by command.entry))
-        (moved (N.settled net.old) (N.settled net.new) (C.ran crew.old) (C.ran crew.new)) (K.taken out.old) (K.taken out.new) result }
+    ensures ends { Ends (IsTextFor (option_map asked_by command.entry) (held_of (F.contents files.old) (named_by (option_map asked_by command.entry)))
+        (moved (N.settled net.old) (N.settled net.new) (C.ran crew.old) (C.ran crew.new)))
+        (OrWords (EndsEarly (option_map asked_by command.entry) (held_of (F.contents files.old) (named_by (option_map asked_by command.entry))))) (K.taken out.old) (K.taken out.new) result }
     ensures raises { Raises (counts (F.faults files.old) (C.faults crew.old) (N.faults net.old) (K.faults out.old))
         (counts (F.faults files.new) (C.faults crew.new) (N.faults net.new) (K.faults out.new)) result }
     ensures sure { IfSome (named_by (option_map asked_by command.entry)) (λ name. F.sure files.old name → result ≢ Ending.File) }
@@ -42,7 +43,7 @@ fn decide<F: Files, N: Net, C: Crew, G: Gate + Sync, K: Sink, R: Threads + Wait 
     let Some(command) = command else {
         return Ending::Words;
     };
-    match text_for(rt, alloc, command, files, net, crew, gate) {
+    match text_for(stage, command, files, net, crew) {
         Ok(text) if write_all(out, text.as_bytes()) => Ending::Done,
         Ok(_) => Ending::Out,
         Err(ending) => ending,
@@ -75,22 +76,23 @@ pub fn run<F: Files, N: Net, C: Crew, G: Gate + Sync, K: Sink, E: Sink, R: Threa
     ensures sure { IfSome (named_by (command_of (map string_bytes words.now))) (λ name. F.sure files.old name → result ≢ 4) }
     ensures apart { LeavesAlone (command_of (map string_bytes words.now)) result files.old files.new net.old net.new crew.old crew.new }
     ensures calm { N.calm net.old → result ≡ 6 → SomeDiffer N.E.told N.E.calm (N.made net.old) (N.made net.new) }
-    ensures faulty { IfSome (held_by (F.contents files.old) (command_of (map string_bytes words.now)))
+    ensures faulty { IfSome (held_of (F.contents files.old) (named_by (command_of (map string_bytes words.now))))
         (λ all. IsNoScenario (take read_limit all) → (result ≡ 3) ⊎ (result ≡ 4) ⊎ (result ≡ 8)) }
-    ensures printed { result ≡ 0 → IsPrinted (command_of (map string_bytes words.now)) (held_by (F.contents files.old) (command_of (map string_bytes words.now)))
-        (moved (N.settled net.old) (N.settled net.new) (C.ran crew.old) (C.ran crew.new)) (K.taken out.old) (K.taken out.new) }
-    ensures part { result ≡ 5 → IsCutShort (command_of (map string_bytes words.now)) (held_by (F.contents files.old) (command_of (map string_bytes words.now)))
-        (moved (N.settled net.old) (N.settled net.new) (C.ran crew.old) (C.ran crew.new)) (K.taken out.old) (K.taken out.new) }
+    ensures printed { result ≡ 0 → IsPrinted (IsTextFor (command_of (map string_bytes words.now)) (held_of (F.contents files.old) (named_by (command_of (map string_bytes words.now))))
+        (moved (N.settled net.old) (N.settled net.new) (C.ran crew.old) (C.ran crew.new))) (K.taken out.old) (K.taken out.new) }
+    ensures part { result ≡ 5 → IsCutShort (IsTextFor (command_of (map string_bytes words.now)) (held_of (F.contents files.old) (named_by (command_of (map string_bytes words.now))))
+        (moved (N.settled net.old) (N.settled net.new) (C.ran crew.old) (C.ran crew.new))) (K.taken out.old) (K.taken out.new) }
     ensures nothing { result ≢ 0 → result ≢ 5 → K.taken out.new ≡ K.taken out.old }
-    ensures told { TellsStatus words_line result (held_by (F.contents files.old) (command_of (map string_bytes words.now))) (named_by (command_of (map string_bytes words.now)))
+    ensures told { TellsStatus words_line result (held_of (F.contents files.old) (named_by (command_of (map string_bytes words.now)))) (named_by (command_of (map string_bytes words.now)))
         (E.taken err.old) (E.taken err.new) (E.faults err.old) (E.faults err.new) }
-    ensures complete { CanRun (command_of (map string_bytes words.now)) (held_by (F.contents files.old) (command_of (map string_bytes words.now)))
+    ensures complete { CanRun (command_of (map string_bytes words.now)) (held_of (F.contents files.old) (named_by (command_of (map string_bytes words.now))))
         → NoneRose (counts (F.faults files.old) (C.faults crew.old) (N.faults net.old) (K.faults out.old))
         (counts (F.faults files.new) (C.faults crew.new) (N.faults net.new) (K.faults out.new))
         → (result ≡ 0) ⊎ (result ≡ 8) }
 {
     let command = command_of(words);
-    let ending = decide(rt, alloc, command, files, net, crew, gate, out);
+    let stage = Stage { rt, alloc, gate };
+    let ending = decide(&stage, command, files, net, crew, out);
     tell(&ending, WORDS_LINE, file_of(command), err);
     status_of(&ending)
 }

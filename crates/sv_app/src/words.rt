@@ -4,6 +4,7 @@ ghost use Rattle.std.specs.Option.{option_copied};
 ghost use Rattle.sv_app.specs.Words.{IsSize, IsSized, asked_by, size_of, form_of, of_two, of_three, command_of, named_by};
 
 use sv_command::number_in;
+use sv_gen::MOST_LOAD;
 
 /// How a run on threads is told.
 #[derive(Clone, Copy, Debug, Drop, PartialEq, Eq)]
@@ -36,7 +37,7 @@ fn size_of(text: &str) -> Option<u32>
     ensures size { result ≡ size_of text.now }
     ensures range { IfSome result IsSize }
 {
-    number_in(text, 1, 192)
+    number_in(text, 1, MOST_LOAD)
 }
 
 fn form_of(text: &str) -> Option<Form>

@@ -1,4 +1,4 @@
--- Each request that an honest client asks is a message.
+-- Each request that a client asks is a message, though its server may hear other values of it.
 use Rattle.std.proofs.Common.{◌≡◌, ℕ, ◌+◌, ◌^◌, ◌<◌, ◌≤◌, List, [], ◌∷◌, length, reverse, Some, None, slice_get, sym, subst, arith}
 use Rattle.std.specs.Prelude.{All, slice_index_or}
 use Rattle.std.specs.List.{AllByRecursion}
@@ -20,7 +20,7 @@ use Rattle.sv_wire.specs.Ranges.{ValueFits, ActionFits}
 use Rattle.sv_wire.specs.Laws.{IsRequest}
 use Rattle.sv_journal.specs.declared.entry.Entry.{Entry}
 use Rattle.sv_journal.specs.History.{Authored, accepted, actions_of}
-use Rattle.sv_journal.specs.Answer.{Rules, Legal}
+use Rattle.sv_journal.specs.Answer.{Rules}
 use Rattle.sv_journal.specs.Serving.{plain}
 use Rattle.sv_journal.specs.Sessions.{positions_in}
 use Rattle.sv_journal.specs.Text.{NamesAccepted}
@@ -32,8 +32,11 @@ use Rattle.sv_client.specs.declared.trace.Trace.{Trace}
 use Rattle.sv_client.specs.Traces.{joins, makes, held_of, requests_of}
 use Rattle.sv_client.specs.Taking.{Identity}
 use Rattle.sv_client.specs.Proper.{AreProper, IsGoodIdentity, identity_of}
-use Rattle.sv_system.specs.Fits.{FitsOne, Fits}
-use Rattle.sv_system.specs.Serial.{AreSerial, ValuesAreSerial}
+use Rattle.sv_system.specs.Fits.{FitsOne}
+use Rattle.sv_system.specs.Served.{FitsButValues}
+use Rattle.sv_system.specs.Laws.{ReplicasAreSerial}
+use Rattle.sv_system.specs.Serial.{AreSerial}
+use Rattle.sv_system.proofs.Asking.{fits-but_values}
 use Rattle.sv_system.proofs.Asked.{done-when}
 use Rattle.sv_system.proofs.Leaving.{join-asked}
 use Rattle.sv_system.proofs.Window.{submit-most}
@@ -44,10 +47,6 @@ use Rattle.sv_asked.proofs.Made.{Makes, Asks, asked-have}
 use Rattle.sv_asked.proofs.Owned.{actions-fit}
 use Rattle.sv_asked.proofs.Items.{relay-items}
 use Rattle.sv_asked.proofs.Reported.{IsFineItem, done-is}
-
--- A law of the crate below.
-abbrev pub ReplicasAreSerial : Type 0
-ReplicasAreSerial = (r : Rules) (h : List Entry) (Ls : List Trace) → length r.world.values ≡ r.world.shape.objects → Legal r h → Fits r.world.shape h Ls → ValuesAreSerial r.world.values h Ls
 
 -- ---- Counts
 
@@ -117,7 +116,7 @@ join-is who life good objects few =
 submit-is : (shape : Shape) (n : ℕ) (a : Action) → n ≤ 65536 → IsMade shape a → IsRequest (requests.Submit n a)
 submit-is shape n a few m = record { within = wire-action shape a (good_of_none shape a m.0); fits = (omega (arith, few), m.1) }
 
-module _ (r : Rules) (H : List Entry) (L : Trace) (s : ℕ) (limits : AreWithinLimits r) (numbers : HasNumbers r H (L ∷ [])) (one : FitsOne r.world.shape H L)
+module _ (r : Rules) (H : List Entry) (L : Trace) (s : ℕ) (limits : AreWithinLimits r) (numbers : HasNumbers r H (L ∷ [])) (one : FitsButValues r.world.shape H L)
     (named : All (λ (e : Entry). NamesAccepted (length (accepted H)) e.reply) H) (small : All (λ (e : Entry). length (positions_in e.reply) ≤ r.bound + 1) H)
     (goods : All (λ (a : Authored). first_fault_of_action r.world.shape a.action ≡ None) (accepted H)) (fit : All ActionFits (actions_of H))
     (held-serial : AreSerial r.world.values (actions_of H) (held_of (reverse L.events))) where
@@ -197,4 +196,5 @@ requests_are_messages names small goods serial r h Ls i L s limits numbers legal
     let P = λ (M : Trace). AreSerial r.world.values (actions_of h) (held_of (reverse M.events)) in
     let held = each-at P Ls i L (recursion_from_All P Ls (serial r h Ls limits.objects legal fits).held) member in
     let fit = All-from_recursion ActionFits (actions_of h) (actions-fit r h Ls fits numbers.made) in
-    served_requests_fit names small goods plain r h L s plain-keeping limits (for-one r h Ls i L numbers member) fit (plain-legal r h legal) one held
+    served_requests_fit names small goods plain r h L s plain-keeping limits (for-one r h Ls i L numbers member) fit (plain-legal r h legal)
+    (fits-but_values r.world.shape h L one) held

@@ -28,7 +28,8 @@ use Rattle.sv_client.specs.declared.trace.Trace.{Trace}
 use Rattle.sv_client.specs.Traces.{pending_of, got}
 use Rattle.sv_client.specs.Taking.{Identity, items_of, is_bad_head, has_bad_item}
 use Rattle.sv_client.specs.Proper.{identity_of}
-use Rattle.sv_system.specs.Fits.{is_join_of, has_session, FitsOne}
+use Rattle.sv_system.specs.Fits.{is_join_of, has_session}
+use Rattle.sv_system.specs.Served.{FitsButValues}
 use Rattle.sv_system.proofs.Fronts.{get-last}
 use Rattle.sv_system.proofs.Entered.{entered}
 use Rattle.sv_system.proofs.Asked.{IsPart, part-rest, proper-part, got-part, got-when, got-answers, may-answer, current-joined, any-part, any-reverse}
@@ -69,7 +70,7 @@ authored-plain : (objects : ℕ) (A : List Authored) (p : ℕ) → AllByRecursio
 authored-plain objects A zero all = blank-plain objects
 authored-plain objects A (suc n) all = each-get (IsPlain objects) A n (record { client = 0; seq = 0; action = blank }) all (blank-plain objects)
 
-module _ (r : Rules) (H : List Entry) (L : Trace) (fits : FitsOne r.world.shape H L) (bound : r.bound ≤ 32) (positions : length (accepted H) < 2 ^ 32)
+module _ (r : Rules) (H : List Entry) (L : Trace) (fits : FitsButValues r.world.shape H L) (bound : r.bound ≤ 32) (positions : length (accepted H) < 2 ^ 32)
     (named : All (λ (e : Entry). NamesAccepted (length (accepted H)) e.reply) H) (small : All (λ (e : Entry). length (positions_in e.reply) ≤ r.bound + 1) H)
     (good : All (λ (a : Authored). IsGoodAction r.world.shape a.action) (accepted H)) where
   abbrev objects : ℕ

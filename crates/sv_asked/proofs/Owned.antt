@@ -7,7 +7,7 @@ use Rattle.std.proofs.lemmas.List.Elements.{recursion_from_All}
 use Rattle.sv_world.specs.declared.action.Action.{Action}
 use Rattle.sv_wire.specs.declared.message.Request.{Request}
 use Rattle.sv_wire.specs.declared.message.Request.TheVariants as requests
-use Rattle.sv_wire.specs.Ranges.{ActionFits}
+use Rattle.sv_wire.specs.Ranges.{ActionFits, RequestFits}
 use Rattle.sv_journal.specs.declared.entry.Entry.{Entry}
 use Rattle.sv_journal.specs.History.{Authored, client_of, is_relay, new_action, outcomes_of, accepted, actions_of}
 use Rattle.sv_journal.specs.Sessions.{is_end}
@@ -33,7 +33,7 @@ abbrev pub SubmitHas : (Action → Type 0) → Request → Type 0
 SubmitHas P (requests.Submit n a) = P a
 SubmitHas P _ = Unit {0}
 
-submit-asked : (P : Action → Type 0) (q : Request) → Asks P q → SubmitHas P q
+pub submit-asked : (P : Action → Type 0) (q : Request) → Asks P q → SubmitHas P q
 submit-asked P (requests.Submit n a) h = h
 submit-asked P (requests.Join client life interest) h = tt
 submit-asked P (requests.Done results) h = tt
@@ -42,7 +42,7 @@ submit-asked P requests.Leave h = tt
 submit-asked P requests.Bad h = tt
 submit-asked P requests.End h = tt
 
-end-submits : (P : Action → Type 0) (q : Request) → is_end q ≡ true → SubmitHas P q
+pub end-submits : (P : Action → Type 0) (q : Request) → is_end q ≡ true → SubmitHas P q
 end-submits P requests.End e = tt
 end-submits P (requests.Submit n a) e = absurd (true≢false (sym e))
 end-submits P (requests.Join client life interest) e = tt
@@ -59,7 +59,17 @@ owner-of (L ∷ Ls) s h =
       | inr e ↦ (let f = owner-of Ls s e in (suc f.0, f.1))
     ]
 
-event-makes : (e : Event) → EventFits e → Makes ActionFits e
+-- The numbers of a request that is an End.
+pub end-fits : (q : Request) → is_end q ≡ true → RequestFits q
+end-fits requests.End e = tt
+end-fits (requests.Join client life interest) e = absurd (true≢false (sym e))
+end-fits (requests.Submit seq a) e = absurd (true≢false (sym e))
+end-fits (requests.Done results) e = absurd (true≢false (sym e))
+end-fits requests.Poll e = tt
+end-fits requests.Leave e = tt
+end-fits requests.Bad e = tt
+
+pub event-makes : (e : Event) → EventFits e → Makes ActionFits e
 event-makes (events.Make a) f = f
 event-makes (events.Join s) f = tt
 event-makes events.Poll f = tt
@@ -78,6 +88,15 @@ new-fit (Some k) next requests.Leave h = tt
 new-fit (Some k) next requests.Bad h = tt
 new-fit (Some k) next requests.End h = tt
 new-fit None next q h = tt
+
+-- The numbers of the accepted actions, where those of each entry's Submit are known after the entries before.
+pub accepted-have : (H : List Entry) → ((e : Entry) (g : List Entry) → IsEarlier (e ∷ g) H → SubmitHas ActionFits e.request) → (g : List Entry) → IsEarlier g H →
+    AllByRecursion (λ (a : Authored). ActionFits a.action) (accepted g)
+accepted-have H each [] b = tt
+accepted-have H each (e ∷ g) b =
+    let new = new_action (client_of g e.session) (λ k. suc (length (outcomes_of g k))) e.request in
+    each-append (λ (a : Authored). ActionFits a.action) (accepted g) (cond (is_relay e.reply) new []) (accepted-have H each g (earlier-rest g e H b))
+    (each-if (λ (a : Authored). ActionFits a.action) (is_relay e.reply) new (new-fit (client_of g e.session) (λ k. suc (length (outcomes_of g k))) e.request (each e g b)))
 
 module _ (r : Rules) (H : List Entry) (Ls : List Trace) (fits : Fits r.world.shape H Ls) (made : All (λ (L : Trace). All EventFits L.events) Ls) where
   trace-made : (j : ℕ) (M : Trace) → slice_get Ls j ≡ Some M → AllByRecursion EventFits M.events
@@ -104,12 +123,5 @@ module _ (r : Rules) (H : List Entry) (Ls : List Trace) (fits : Fits r.world.sha
             ])
       ]
 
-  accepted-fit : (g : List Entry) → IsEarlier g H → AllByRecursion (λ (a : Authored). ActionFits a.action) (accepted g)
-  accepted-fit [] b = tt
-  accepted-fit (e ∷ g) b =
-      let new = new_action (client_of g e.session) (λ k. suc (length (outcomes_of g k))) e.request in
-      each-append (λ (a : Authored). ActionFits a.action) (accepted g) (cond (is_relay e.reply) new []) (accepted-fit g (earlier-rest g e H b))
-      (each-if (λ (a : Authored). ActionFits a.action) (is_relay e.reply) new (new-fit (client_of g e.session) (λ k. suc (length (outcomes_of g k))) e.request (entry-fit e g b)))
-
   pub actions-fit : AllByRecursion ActionFits (actions_of H)
-  actions-fit = each-map (λ (a : Authored). a.action) ActionFits (accepted H) (accepted-fit H same)
+  actions-fit = each-map (λ (a : Authored). a.action) ActionFits (accepted H) (accepted-have H entry-fit H same)

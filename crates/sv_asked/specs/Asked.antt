@@ -1,5 +1,6 @@
 -- What is said of the requests that honest clients ask.
 use Rattle.std.specs.Prelude.{◌≡◌, ℕ, ◌+◌, ◌*◌, ◌^◌, ◌<◌, ◌≤◌, List, [], ◌∷◌, length, reverse, slice_get, Some, All}
+use Rattle.sv_world.specs.Limits.{most_requests}
 use Rattle.sv_wire.specs.Ranges.{ValueFits, ActionFits, RequestFits}
 use Rattle.sv_wire.specs.Laws.{IsRequest, IsReply}
 use Rattle.sv_journal.specs.declared.entry.Entry.{Entry}
@@ -11,7 +12,8 @@ use Rattle.sv_client.specs.declared.trace.Event.{Event}
 use Rattle.sv_client.specs.declared.trace.Event.TheVariants as events
 use Rattle.sv_client.specs.declared.trace.Trace.{Trace}
 use Rattle.sv_client.specs.Traces.{held_of, requests_of}
-use Rattle.sv_system.specs.Fits.{FitsOne, Fits}
+use Rattle.sv_system.specs.Fits.{Fits}
+use Rattle.sv_system.specs.Served.{FitsButValues}
 use Rattle.sv_system.specs.Serial.{AreSerial}
 
 -- The numbers of an action that is made are those of their types.
@@ -34,7 +36,7 @@ RequestsAreMessages = (r : Rules) (h : List Entry) (Ls : List Trace) (i : ℕ) (
 
 -- Each session may make 1,024 requests, so a journal of so many sessions accepts at most so many actions.
 abbrev pub AcceptedAreFew : Type 0
-AcceptedAreFew = (r : Rules) (h : List Entry) (sessions : ℕ) → Legal r h → All (λ (e : Entry). e.session < sessions) h → length (accepted h) ≤ 1024 * sessions
+AcceptedAreFew = (r : Rules) (h : List Entry) (sessions : ℕ) → Legal r h → All (λ (e : Entry). e.session < sessions) h → length (accepted h) ≤ most_requests * sessions
 
 -- Each reply of a legal journal is a message, with numbers of its types, where the opening world and the requests have numbers of theirs,
 -- whatever the clients ask. The journal is not longer than positions and sequence numbers go.
@@ -44,16 +46,16 @@ RepliesAreMessages = (r : Rules) (h : List Entry) → AreWithinLimits r → r.wo
 
 -- ---- Any keeping
 
--- Each request of a client whose trace fits the journal, and who holds serial values, is a message, with numbers of its types. Nothing is asked of
--- the other clients, but that the actions that they made have numbers of their types.
+-- Each request of a client whose trace fits the journal but for the values that it reports, and who holds serial values, is a message, with numbers
+-- of its types. Nothing is asked of the other clients, but that the actions that they made have numbers of their types.
 abbrev pub ServedRequestsFit : Type 0
 ServedRequestsFit = (k : Keeping) (r : Rules) (h : List Entry) (L : Trace) (s : ℕ) → IsKeeping k → AreWithinLimits r → HasNumbers r h (L ∷ []) →
-    All ActionFits (actions_of h) → LegalFor k r h → FitsOne r.world.shape h L → AreSerial r.world.values (actions_of h) (held_of (reverse L.events)) →
+    All ActionFits (actions_of h) → LegalFor k r h → FitsButValues r.world.shape h L → AreSerial r.world.values (actions_of h) (held_of (reverse L.events)) →
     All IsRequest (requests_of L s)
 
 abbrev pub ServedAcceptedAreFew : Type 0
 ServedAcceptedAreFew = (k : Keeping) (r : Rules) (h : List Entry) (sessions : ℕ) → IsKeeping k → LegalFor k r h → All (λ (e : Entry). e.session < sessions) h →
-    length (accepted h) ≤ 1024 * sessions
+    length (accepted h) ≤ most_requests * sessions
 
 abbrev pub ServedRepliesFit : Type 0
 ServedRepliesFit = (k : Keeping) (r : Rules) (h : List Entry) → IsKeeping k → AreWithinLimits r → r.world.shape.objects ≤ 2 ^ 16 → All ValueFits r.world.values →

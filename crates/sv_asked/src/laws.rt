@@ -38,9 +38,9 @@ pub fn accepted_are_few()
     ensures { AcceptedAreFew }
 {}
 
-/// Whatever results a server keeps, each request of an honest client that holds serial values is a message, with numbers of its types.
+/// Whatever results a server keeps, each request of a client that holds serial values is a message, with numbers of its types.
 ///
-/// Nothing is asked of the other clients: they may be dishonest.
+/// The server may hear other values than the client reports. Nothing is asked of the other clients: they may be dishonest.
 pub fn served_requests_fit()
     ensures { ServedRequestsFit }
 {

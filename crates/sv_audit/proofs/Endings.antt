@@ -8,44 +8,30 @@ use Rattle.sv_bytes.specs.Faults.{Rose}
 use Rattle.sv_bytes.specs.Writing.{Told as IsTold}
 use Rattle.sv_command.specs.declared.ending.Ending.TheVariants as plain
 use Rattle.sv_command.specs.Reading.{IsRead, IsRefused, HoldsScenario, IsNoScenario, read_limit}
-use Rattle.sv_command.specs.Statuses.{Counts, file_line}
-use Rattle.sv_command.proofs.Held.{read_is, holds_none}
+use Rattle.sv_command.specs.Lines.{file_line}
+use Rattle.sv_command.specs.Statuses.{Counts, NoneRose, status_line}
+use Rattle.sv_command.proofs.Held.{Faulty, always, read_is, holds_none}
+use Rattle.sv_command.proofs.Statuses.{words_is as plain_words_is, file_is as plain_file_is, faults_are as plain_faults, untold}
 use Rattle.sv_audit.specs.declared.ending.AuditEnding.{AuditEnding}
 use Rattle.sv_audit.specs.declared.ending.AuditEnding.TheVariants as endings
 use Rattle.sv_audit.specs.Judging.{IsReportFront, IsApproved, IsOutside, report_size, report_limit}
-use Rattle.sv_audit.specs.Statuses.{status_of, Raises, NoneRose, Ends, EndsEarly, Leaves, IsPlaceOutside, line_of, status_line, wrong_line, TellsStatus, NamesUnread}
-use Rattle.sv_audit.specs.Words.{Asked, Asking}
+use Rattle.sv_audit.specs.Statuses.{status_of, Raises, Ends, EndsEarly, Leaves, IsPlaceOutside, line_of, wrong_line, TellsStatus, NamesUnread}
+use Rattle.sv_audit.specs.Words.{Asked, Asking, scenario_named}
 
 -- ---- Statuses
 
 words_of : (e : AuditEnding) → status_of e ≡ 2 → e ≡ endings.Plain plain.Words
-words_of (endings.Plain plain.Words) s = refl
-words_of (endings.Plain plain.Done) s = absurd (omega arith)
-words_of (endings.Plain (plain.Scenario line)) s = absurd (omega arith)
-words_of (endings.Plain plain.File) s = absurd (omega arith)
-words_of (endings.Plain plain.Start) s = absurd (omega arith)
-words_of (endings.Plain plain.Link) s = absurd (omega arith)
-words_of (endings.Plain plain.Out) s = absurd (omega arith)
-words_of (endings.Plain plain.Memory) s = absurd (omega arith)
+words_of (endings.Plain e) s = ap endings.Plain ((plain_words_is e (λ x. x, λ x. x)).0 s)
 words_of endings.Report s = absurd (omega arith)
 words_of (endings.Wrong line) s = absurd (omega arith)
-words_of endings.Range s = absurd (omega arith)
 
 pub words_is : {A : Type 0} (e : AuditEnding) → ((e ≡ endings.Plain plain.Words) ↔ A) → (status_of e ≡ 2) ↔ A
 words_is e w = (λ s. w.0 (words_of e s), λ n. ap status_of (w.1 n))
 
 unread_is : (e : AuditEnding) → status_of e ≡ 4 → (e ≡ endings.Plain plain.File) ⊎ (e ≡ endings.Report)
-unread_is (endings.Plain plain.File) s = inl refl
+unread_is (endings.Plain e) s = inl (ap endings.Plain (plain_file_is e s))
 unread_is endings.Report s = inr refl
-unread_is (endings.Plain plain.Words) s = absurd (omega arith)
-unread_is (endings.Plain plain.Done) s = absurd (omega arith)
-unread_is (endings.Plain (plain.Scenario line)) s = absurd (omega arith)
-unread_is (endings.Plain plain.Start) s = absurd (omega arith)
-unread_is (endings.Plain plain.Link) s = absurd (omega arith)
-unread_is (endings.Plain plain.Out) s = absurd (omega arith)
-unread_is (endings.Plain plain.Memory) s = absurd (omega arith)
 unread_is (endings.Wrong line) s = absurd (omega arith)
-unread_is endings.Range s = absurd (omega arith)
 
 module _ (sure : List ℕ → Type 0) where
   -- Where both files are sure to be read, none is told as unread.
@@ -56,43 +42,17 @@ module _ (sure : List ℕ → Type 0) where
 
 -- ---- Faults
 
-quiet : (b a : ℕ) → a ≡ b → Rose b a → ⊥
-quiet b a e rose = omega (arith, e, rose)
-
-untold : (n m b a : ℕ) → (n ≡ m → ⊥) → a ≡ b → (n ≡ m) ↔ Rose b a
-untold n m b a other e = (λ s. absurd (other s), λ rose. absurd (quiet b a e rose))
-
 pub file_is : (before now : Counts) (e : AuditEnding) → Raises before now e → (status_of e ≡ 4) ↔ Rose before.files now.files
-file_is before now (endings.Plain plain.File) h = (λ s. h.0, λ rose. refl)
+file_is before now (endings.Plain e) h = (plain_faults before now e h).file
 file_is before now endings.Report h = (λ s. h.0, λ rose. refl)
-file_is before now (endings.Plain plain.Done) h = untold 0 4 _ _ (λ s. absurd (omega arith)) (ap (λ (k : Counts). k.files) h)
-file_is before now (endings.Plain plain.Words) h = untold 2 4 _ _ (λ s. absurd (omega arith)) (ap (λ (k : Counts). k.files) h)
-file_is before now (endings.Plain (plain.Scenario line)) h = untold 3 4 _ _ (λ s. absurd (omega arith)) (ap (λ (k : Counts). k.files) h)
-file_is before now (endings.Plain plain.Memory) h = untold 8 4 _ _ (λ s. absurd (omega arith)) (ap (λ (k : Counts). k.files) h)
-file_is before now (endings.Plain plain.Start) h = untold 7 4 _ _ (λ s. absurd (omega arith)) (ap (λ (k : Counts). k.files) h.1)
-file_is before now (endings.Plain plain.Link) h = untold 6 4 _ _ (λ s. absurd (omega arith)) (ap (λ (k : Counts). k.files) h.1)
-file_is before now (endings.Plain plain.Out) h = untold 5 4 _ _ (λ s. absurd (omega arith)) (ap (λ (k : Counts). k.files) h.1)
 file_is before now (endings.Wrong line) h = untold 9 4 _ _ (λ s. absurd (omega arith)) (ap (λ (k : Counts). k.files) h)
-file_is before now endings.Range h = untold 10 4 _ _ (λ s. absurd (omega arith)) (ap (λ (k : Counts). k.files) h)
 
 pub output_is : (before now : Counts) (e : AuditEnding) → Raises before now e → (status_of e ≡ 5) ↔ Rose before.out now.out
-output_is before now (endings.Plain plain.Out) h = (λ s. h.0, λ rose. refl)
-output_is before now (endings.Plain plain.File) h = untold 4 5 _ _ (λ s. absurd (omega arith)) (ap (λ (k : Counts). k.out) h.1)
+output_is before now (endings.Plain e) h = (plain_faults before now e h).out
 output_is before now endings.Report h = untold 4 5 _ _ (λ s. absurd (omega arith)) (ap (λ (k : Counts). k.out) h.1)
-output_is before now (endings.Plain plain.Done) h = untold 0 5 _ _ (λ s. absurd (omega arith)) (ap (λ (k : Counts). k.out) h)
-output_is before now (endings.Plain plain.Words) h = untold 2 5 _ _ (λ s. absurd (omega arith)) (ap (λ (k : Counts). k.out) h)
-output_is before now (endings.Plain (plain.Scenario line)) h = untold 3 5 _ _ (λ s. absurd (omega arith)) (ap (λ (k : Counts). k.out) h)
-output_is before now (endings.Plain plain.Memory) h = untold 8 5 _ _ (λ s. absurd (omega arith)) (ap (λ (k : Counts). k.out) h)
-output_is before now (endings.Plain plain.Start) h = untold 7 5 _ _ (λ s. absurd (omega arith)) (ap (λ (k : Counts). k.out) h.1)
-output_is before now (endings.Plain plain.Link) h = untold 6 5 _ _ (λ s. absurd (omega arith)) (ap (λ (k : Counts). k.out) h.1)
 output_is before now (endings.Wrong line) h = untold 9 5 _ _ (λ s. absurd (omega arith)) (ap (λ (k : Counts). k.out) h)
-output_is before now endings.Range h = untold 10 5 _ _ (λ s. absurd (omega arith)) (ap (λ (k : Counts). k.out) h)
 
 -- ---- What was read
-
-always : (P : Type 0) (Q : List ℕ → Type 0) (held : Option (List ℕ)) → P → IfSome held (λ all. Q all → P)
-always P Q None p = tt
-always P Q (Some all) p = λ q. p
 
 -- A report of which no more was taken than one may have has no more.
 few_taken : (all : List ℕ) → length (take report_limit all) ≤ report_size → report_size < length all → ⊥
@@ -108,9 +68,6 @@ not_long P (Some all) bytes front short = λ long. absurd (few_taken all (rw fro
 -- ---- What is left, by the status
 
 module _ (held told : Option (List ℕ)) (place : Option Asking) (old new : Option (List ℕ)) where
-  abbrev Faulty : ℕ → Type 0
-  Faulty n = (n ≡ 3) ⊎ (n ≡ 4) ⊎ (n ≡ 8)
-
   abbrev Long : ℕ → Type 0
   Long n = (n ≡ 3) ⊎ (n ≡ 4) ⊎ (n ≡ 8) ⊎ (n ≡ 9)
 
@@ -153,8 +110,8 @@ module _ (held told : Option (List ℕ)) (place : Option Asking) (old new : Opti
     nothing = λ z f. absurd (z refl);
     wrong = λ s. absurd (omega arith);
     outside = λ s. absurd (omega arith);
-    faulty = judged_faulty 0 h.tells.scenario h.tells.played h.tells.approved;
-    long = judged_long 0 h.tells.scenario h.tells.played h.tells.approved;
+    faulty = judged_faulty 0 h.told.scenario h.told.played h.told.approved;
+    long = judged_long 0 h.told.scenario h.told.played h.told.approved;
   }
   leaves_is (endings.Plain plain.Out) h = record {
     printed = λ s. absurd (omega arith);
@@ -162,8 +119,8 @@ module _ (held told : Option (List ℕ)) (place : Option Asking) (old new : Opti
     nothing = λ z f. absurd (f refl);
     wrong = λ s. absurd (omega arith);
     outside = λ s. absurd (omega arith);
-    faulty = judged_faulty 5 h.tells.scenario h.tells.played h.tells.approved;
-    long = judged_long 5 h.tells.scenario h.tells.played h.tells.approved;
+    faulty = judged_faulty 5 h.told.scenario h.told.played h.told.approved;
+    long = judged_long 5 h.told.scenario h.told.played h.told.approved;
   }
   leaves_is (endings.Plain (plain.Scenario line)) h =
       early 3 (λ s. omega arith) (λ s. omega arith) (λ s. omega arith) (λ s. omega arith) h.1 (inl refl) (inl refl)
@@ -184,7 +141,7 @@ module _ (held told : Option (List ℕ)) (place : Option Asking) (old new : Opti
         faulty = read_is held (Faulty 9) w.scenario w.are_read.scenario_is;
         long = always (Long 9) (λ all. report_size < length all) told (inr (inr (inr refl)));
       }
-  leaves_is endings.Range h = outside_is place h.0 h.1
+  leaves_is (endings.Plain plain.Range) h = outside_is place h.0 h.1
   leaves_is (endings.Plain plain.Words) h = absurd h.0
   leaves_is (endings.Plain plain.Start) h = absurd h.0
   leaves_is (endings.Plain plain.Link) h = absurd h.0
@@ -203,7 +160,7 @@ module _ (held told : Option (List ℕ)) (place : Option Asking) (old new : Opti
   range_of (endings.Plain plain.Memory) h = inr (inr (omega arith, omega arith))
   range_of endings.Report h = inr (inl (omega arith, omega arith))
   range_of (endings.Wrong line) h = inr (inr (omega arith, omega arith))
-  range_of endings.Range h = inr (inr (omega arith, omega arith))
+  range_of (endings.Plain plain.Range) h = inr (inr (omega arith, omega arith))
 
   abbrev Complete : ℕ → Type 0
   Complete n = (n ≡ 0) ⊎ ((8 ≤ n) × (n ≤ 10))
@@ -215,11 +172,11 @@ module _ (held told : Option (List ℕ)) (place : Option Asking) (old new : Opti
   complete_of b a (endings.Plain plain.File) h r can none = absurd (none.0 r.0)
   complete_of b a (endings.Plain plain.Start) h r can none = absurd h.0
   complete_of b a (endings.Plain plain.Link) h r can none = absurd h.0
-  complete_of b a (endings.Plain plain.Out) h r can none = absurd (none.1 r.0)
+  complete_of b a (endings.Plain plain.Out) h r can none = absurd (none.3 r.0)
   complete_of b a (endings.Plain plain.Memory) h r can none = inr (omega arith, omega arith)
   complete_of b a endings.Report h r can none = absurd (none.0 r.0)
   complete_of b a (endings.Wrong line) h r can none = inr (omega arith, omega arith)
-  complete_of b a endings.Range h r can none = inr (omega arith, omega arith)
+  complete_of b a (endings.Plain plain.Range) h r can none = inr (omega arith, omega arith)
 
 -- What is left of a call, if something is asked for.
 abbrev AllEnds : (List ℕ → Option (List ℕ)) → (old new : Option (List ℕ)) → Option Asked → AuditEnding → Type 0
@@ -250,7 +207,7 @@ module _ (contents : List ℕ → Option (List ℕ)) (old new : Option (List ℕ
 module _ (sure : List ℕ → Type 0) (contents : List ℕ → Option (List ℕ)) (words_line : List ℕ) (old new t0 t1 : Option (List ℕ)) (n0 n1 : ℕ) where
   -- An ending whose line is that of its status.
   told_plain : (a : Option Asked) (e : AuditEnding) → (status_of e ≡ 3 → ⊥) → (status_of e ≡ 4 → ⊥) → (status_of e ≡ 9 → ⊥) →
-      line_of words_line a e ≡ status_line words_line (status_of e) → IsTold t0 t1 n0 n1 (line_of words_line a e) → TellsStatus sure contents words_line a (status_of e) t0 t1 n0 n1
+      line_of words_line a e ≡ status_line words_line (status_of e) (scenario_named a) → IsTold t0 t1 n0 n1 (line_of words_line a e) → TellsStatus sure contents words_line a (status_of e) t0 t1 n0 n1
   told_plain a e x y z is t = record {
     line = line_of words_line a e;
     faulty = λ s. absurd (x s);
@@ -266,7 +223,7 @@ module _ (sure : List ℕ → Type 0) (contents : List ℕ → Option (List ℕ)
     told_of (endings.Plain plain.Done) h p q t = told_plain (Some x) (endings.Plain plain.Done) (λ s. omega arith) (λ s. omega arith) (λ s. omega arith) refl t
     told_of (endings.Plain plain.Out) h p q t = told_plain (Some x) (endings.Plain plain.Out) (λ s. omega arith) (λ s. omega arith) (λ s. omega arith) refl t
     told_of (endings.Plain plain.Memory) h p q t = told_plain (Some x) (endings.Plain plain.Memory) (λ s. omega arith) (λ s. omega arith) (λ s. omega arith) refl t
-    told_of endings.Range h p q t = told_plain (Some x) endings.Range (λ s. omega arith) (λ s. omega arith) (λ s. omega arith) refl t
+    told_of (endings.Plain plain.Range) h p q t = told_plain (Some x) (endings.Plain plain.Range) (λ s. omega arith) (λ s. omega arith) (λ s. omega arith) refl t
     told_of (endings.Plain (plain.Scenario line)) h p q t = record {
       line = string_bytes line;
       faulty = λ s. h.0;

@@ -1,3 +1,4 @@
+-- The lemmas of checking a report.
 pub mod Making
 pub mod Endings
 pub mod Explaining

@@ -1,6 +1,6 @@
 -- The text of an answer, or why there is none, from the parts of the call; and the counts of faults.
 use Rattle.std.proofs.Common.{◌≡◌, refl, sym, ap, ◌∙◌, subst, ℕ, ◌<◌, ◌≤◌, List, length, Option, Some, None}
-use Rattle.std.specs.Prelude.{IsErrAnd, Result, Ok, Err, String, string_bytes}
+use Rattle.std.specs.Prelude.{IsErrAnd, IfErr, Result, Ok, Err, String, string_bytes}
 use Rattle.std.specs.declared.alloc.Global.{Global}
 use Rattle.sv_scenario.specs.declared.scenario.Scenario.{Scenario}
 use Rattle.sv_scenario.specs.Limits.{IsGoodScenario}
@@ -8,32 +8,29 @@ use Rattle.sv_scenario.specs.Scenarios.{scenario_of}
 use Rattle.sv_system.specs.declared.played.Played.{Played}
 use Rattle.sv_command.specs.declared.ending.Ending.{Ending}
 use Rattle.sv_command.specs.declared.ending.Ending.TheVariants as plain
-use Rattle.sv_command.specs.Reading.{IsRead, IsRefused}
-use Rattle.sv_command.specs.Statuses.{Counts}
+use Rattle.sv_command.specs.Endings.{IsMade}
+use Rattle.sv_command.specs.Reading.{IsFront, IsRead, IsRefused}
+use Rattle.sv_command.specs.Statuses.{Counts, IsGiven, IsUnread}
+use Rattle.sv_command.proofs.Counts.{came}
 use Rattle.sv_check.specs.Consistent.{IsReportOf}
 use Rattle.sv_audit.specs.declared.ending.AuditEnding.{AuditEnding}
 use Rattle.sv_audit.specs.declared.ending.AuditEnding.TheVariants as endings
-use Rattle.sv_audit.specs.Judging.{IsReportFront, IsScenarioFront, AreRead, IsApproved, IsGiven, IsJudged, IsAnswered, IsOverAt, report_size}
-use Rattle.sv_audit.specs.Statuses.{Raises, EndsEarly, IsMade, IsUnread, ending_of}
+use Rattle.sv_audit.specs.Judging.{IsReportFront, AreRead, IsApproved, IsJudged, IsAnswered, IsOverAt, IsText, report_size}
+use Rattle.sv_audit.specs.Statuses.{Raises, EndsEarly, AreUnread, ending_of}
 use Rattle.sv_audit.specs.Words.{Asking}
 
 -- ---- Answers that come by a `?`
 
-module _ {T : Type 0} (r : Result T AuditEnding) (e : AuditEnding) (by : IsErrAnd r (λ x. x ≡ e)) where
-  pub came : r ≡ Err e
-  came = go r by
-    where
-      go : (q : Result T AuditEnding) → IsErrAnd q (λ x. x ≡ e) → q ≡ Err e
-      go (Ok t) i = absurd i
-      go (Err x) i = ap (λ (y : AuditEnding). Err y) i
+pub raised_by : {T : Type 0} (r : Result T AuditEnding) (e : AuditEnding) → IsErrAnd r (λ x. x ≡ e) → (before now : Counts) → Raises before now e → Raises before now (ending_of r)
+raised_by r e by before now h = rw (came r e by) h
 
-  pub raised_by : (before now : Counts) → Raises before now e → Raises before now (ending_of r)
-  raised_by before now h = rw came h
+pub unread_by : {T : Type 0} (r : Result T AuditEnding) (e : Ending) → IsErrAnd r (λ x. x ≡ endings.Plain e) → IsUnread e → IfErr r AreUnread
+unread_by r e by u = rw (came r (endings.Plain e) by) u
 
 -- ---- The answer
 
 module _ (held told : Option (List ℕ)) (place : Option Asking) where
-  pub unread_made : (e : AuditEnding) → IsUnread e → EndsEarly held told place e
+  pub unread_made : (e : AuditEnding) → AreUnread e → EndsEarly held told place e
   unread_made (endings.Plain plain.File) h = tt
   unread_made (endings.Plain plain.Memory) h = tt
   unread_made (endings.Plain plain.Done) h = absurd h
@@ -44,22 +41,20 @@ module _ (held told : Option (List ℕ)) (place : Option Asking) where
   unread_made (endings.Plain plain.Start) h = absurd h
   unread_made endings.Report h = tt
   unread_made (endings.Wrong line) h = absurd h
-  unread_made endings.Range h = absurd h
+  unread_made (endings.Plain plain.Range) h = absurd h
 
-  pub refused_made : (bytes : List ℕ) (e : AuditEnding) → IsScenarioFront held bytes → IsGiven bytes (Err e) → EndsEarly held told place e
-  refused_made bytes (endings.Plain (plain.Scenario line)) front h = record { bytes = bytes; front = front; fault = h.fault; faulty = h.faulty; told = h.told_is }
-  refused_made bytes (endings.Plain plain.Memory) front h = tt
-  refused_made bytes (endings.Plain plain.File) front h = absurd h
-  refused_made bytes (endings.Plain plain.Done) front h = absurd h
-  refused_made bytes (endings.Plain plain.Words) front h = absurd h
-  refused_made bytes (endings.Plain plain.Out) front h = absurd h
-  refused_made bytes (endings.Plain plain.Link) front h = absurd h
-  refused_made bytes (endings.Plain plain.Start) front h = absurd h
-  refused_made bytes endings.Report front h = absurd h
-  refused_made bytes (endings.Wrong line) front h = absurd h
-  refused_made bytes endings.Range front h = absurd h
+  pub refused_made : (bytes : List ℕ) (e : Ending) → IsFront held bytes → IsGiven bytes (Err e) → EndsEarly held told place (endings.Plain e)
+  refused_made bytes (plain.Scenario line) front h = record { bytes = bytes; front = front; fault = h.fault; faulty = h.faulty; told = h.told }
+  refused_made bytes plain.Memory front h = tt
+  refused_made bytes plain.File front h = absurd h
+  refused_made bytes plain.Done front h = absurd h
+  refused_made bytes plain.Words front h = absurd h
+  refused_made bytes plain.Out front h = absurd h
+  refused_made bytes plain.Link front h = absurd h
+  refused_made bytes plain.Start front h = absurd h
+  refused_made bytes plain.Range front h = absurd h
 
-  module _ (source bytes : List ℕ) (scenario : Scenario) (front : IsScenarioFront held source) (is : scenario_of source ≡ Ok scenario) (report : IsReportFront told bytes) where
+  module _ (source bytes : List ℕ) (scenario : Scenario) (front : IsFront held source) (is : scenario_of source ≡ Ok scenario) (report : IsReportFront told bytes) where
     pub are_read : AreRead held told scenario bytes
     are_read = record { scenario_is = record { bytes = source; front = front; read = is }; report_is = report }
 
@@ -74,20 +69,20 @@ module _ (held told : Option (List ℕ)) (place : Option Asking) where
     wrong_made (endings.Plain plain.Link) h = absurd h
     wrong_made (endings.Plain plain.Start) h = absurd h
     wrong_made endings.Report h = absurd h
-    wrong_made endings.Range h = absurd h
+    wrong_made (endings.Plain plain.Range) h = absurd h
 
     pub approved_is : (played : Played) → IsJudged scenario bytes (Ok played) → IsApproved held told scenario played
     approved_is played h = record { bytes = bytes; are_read = are_read; short = h.0; report = h.1 }
 
 -- The run was approved; it has no such place, or its answer is told.
 module _ (held told : Option (List ℕ)) (scenario : Scenario) (played : Played) (approved : IsApproved held told scenario played) where
-  over_made : (place : Option Asking) → IsOverAt scenario played place → EndsEarly held told place endings.Range
+  over_made : (place : Option Asking) → IsOverAt scenario played place → EndsEarly held told place (endings.Plain plain.Range)
   over_made None h = absurd h
   over_made (Some asking) h = record { scenario = scenario; played = played; approved = approved; over = h }
 
-  pub answer_made : (place : Option Asking) (r : Result (String Global) AuditEnding) → IsAnswered scenario played place r → IsMade held told place r
+  pub answer_made : (place : Option Asking) (r : Result (String Global) AuditEnding) → IsAnswered scenario played place r → IsMade (IsText held told place) (EndsEarly held told place) r
   answer_made place (Ok text) h = record { scenario = scenario; played = played; approved = approved; answer = h }
-  answer_made place (Err endings.Range) h = over_made place h
+  answer_made place (Err (endings.Plain plain.Range)) h = over_made place h
   answer_made place (Err (endings.Plain plain.Memory)) h = tt
   answer_made place (Err (endings.Plain plain.File)) h = absurd h
   answer_made place (Err (endings.Plain plain.Done)) h = absurd h
@@ -106,10 +101,10 @@ abbrev pub IsCalm : AuditEnding → Type 0
 IsCalm (endings.Plain plain.Done) = Unit {0}
 IsCalm (endings.Plain (plain.Scenario line)) = Unit {0}
 IsCalm (endings.Plain plain.Memory) = Unit {0}
+IsCalm (endings.Plain plain.Range) = Unit {0}
 IsCalm (endings.Plain _) = ⊥
 IsCalm endings.Report = ⊥
 IsCalm (endings.Wrong line) = Unit {0}
-IsCalm endings.Range = Unit {0}
 
 pub calm_raises : (before now : Counts) (e : AuditEnding) → IsCalm e → now ≡ before → Raises before now e
 calm_raises before now (endings.Plain plain.Done) c h = h
@@ -122,7 +117,7 @@ calm_raises before now (endings.Plain plain.Link) c h = absurd c
 calm_raises before now (endings.Plain plain.Start) c h = absurd c
 calm_raises before now endings.Report c h = absurd c
 calm_raises before now (endings.Wrong line) c h = h
-calm_raises before now endings.Range c h = h
+calm_raises before now (endings.Plain plain.Range) c h = h
 
 pub calm_file : (e : AuditEnding) → IsCalm e → e ≡ endings.Plain plain.File → ⊥
 calm_file e c is = rw is at c
@@ -130,18 +125,16 @@ calm_file e c is = rw is at c
 pub calm_report : (e : AuditEnding) → IsCalm e → e ≡ endings.Report → ⊥
 calm_report e c is = rw is at c
 
-pub given_calm : (bytes : List ℕ) (e : AuditEnding) → IsGiven bytes (Err e) → IsCalm e
-given_calm bytes (endings.Plain (plain.Scenario line)) h = tt
-given_calm bytes (endings.Plain plain.Memory) h = tt
-given_calm bytes (endings.Plain plain.File) h = absurd h
-given_calm bytes (endings.Plain plain.Done) h = absurd h
-given_calm bytes (endings.Plain plain.Words) h = absurd h
-given_calm bytes (endings.Plain plain.Out) h = absurd h
-given_calm bytes (endings.Plain plain.Link) h = absurd h
-given_calm bytes (endings.Plain plain.Start) h = absurd h
-given_calm bytes endings.Report h = absurd h
-given_calm bytes (endings.Wrong line) h = absurd h
-given_calm bytes endings.Range h = absurd h
+pub given_calm : (bytes : List ℕ) (e : Ending) → IsGiven bytes (Err e) → IsCalm (endings.Plain e)
+given_calm bytes (plain.Scenario line) h = tt
+given_calm bytes plain.Memory h = tt
+given_calm bytes plain.File h = absurd h
+given_calm bytes plain.Done h = absurd h
+given_calm bytes plain.Words h = absurd h
+given_calm bytes plain.Out h = absurd h
+given_calm bytes plain.Link h = absurd h
+given_calm bytes plain.Start h = absurd h
+given_calm bytes plain.Range h = absurd h
 
 pub judged_calm : (scenario : Scenario) (bytes : List ℕ) (e : AuditEnding) → IsJudged scenario bytes (Err e) → IsCalm e
 judged_calm scenario bytes (endings.Wrong line) h = tt
@@ -154,11 +147,11 @@ judged_calm scenario bytes (endings.Plain plain.Out) h = absurd h
 judged_calm scenario bytes (endings.Plain plain.Link) h = absurd h
 judged_calm scenario bytes (endings.Plain plain.Start) h = absurd h
 judged_calm scenario bytes endings.Report h = absurd h
-judged_calm scenario bytes endings.Range h = absurd h
+judged_calm scenario bytes (endings.Plain plain.Range) h = absurd h
 
 pub answer_calm : (scenario : Scenario) (played : Played) (place : Option Asking) (r : Result (String Global) AuditEnding) → IsAnswered scenario played place r → IsCalm (ending_of r)
 answer_calm scenario played place (Ok text) h = tt
-answer_calm scenario played place (Err endings.Range) h = tt
+answer_calm scenario played place (Err (endings.Plain plain.Range)) h = tt
 answer_calm scenario played place (Err (endings.Plain plain.Memory)) h = tt
 answer_calm scenario played place (Err (endings.Plain plain.File)) h = absurd h
 answer_calm scenario played place (Err (endings.Plain plain.Done)) h = absurd h

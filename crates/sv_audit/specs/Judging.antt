@@ -4,12 +4,8 @@ use Rattle.std.specs.declared.alloc.Global.{Global}
 use Rattle.sv_scenario.specs.declared.scenario.Scenario.{Scenario}
 use Rattle.sv_system.specs.declared.played.Played.{Played}
 use Rattle.sv_journal.specs.History.{accepted, actions_of}
-use Rattle.sv_scenario.specs.declared.fault.ScenarioFault.{ScenarioFault}
-use Rattle.sv_scenario.specs.Limits.{IsGoodScenario}
-use Rattle.sv_scenario.specs.Lines.{fault_line}
-use Rattle.sv_scenario.specs.Scenarios.{scenario_of}
 use Rattle.sv_command.specs.declared.ending.Ending.TheVariants as plain
-use Rattle.sv_command.specs.Reading.{IsRead, IsFront}
+use Rattle.sv_command.specs.Reading.{IsRead}
 use Rattle.sv_check.specs.Consistent.{IsReportOf}
 use Rattle.sv_check.specs.Wrong.{IsFirstWrong}
 use Rattle.sv_why.specs.Reasons.{Explains}
@@ -30,10 +26,6 @@ report_limit = 67108865
 abbrev pub IsReportFront : Option (List ℕ) → List ℕ → Type 0
 IsReportFront (Some all) bytes = bytes ≡ take report_limit all
 IsReportFront None bytes = Unit {0}
-
--- The bytes that were read of the scenario's file, likewise.
-abbrev pub IsScenarioFront : Option (List ℕ) → List ℕ → Type 0
-IsScenarioFront held bytes = IsFront held bytes
 
 -- What was read of the two files is this scenario, and these bytes of a report.
 pub record AreRead (held told : Option (List ℕ)) (scenario : Scenario) (bytes : List ℕ) : Type 0 where
@@ -91,19 +83,6 @@ pub record IsText (held told : Option (List ℕ)) (place : Option Asking) (text 
 
 -- ---- The parts of a call, for private clauses
 
--- bytes that are no scenario, with the line of their first fault
-pub record IsNone (bytes line : List ℕ) : Type 0 where
-  pub fault : ScenarioFault
-  pub faulty : scenario_of bytes ≡ Err fault
-  pub told_is : line ≡ fault_line fault
-
--- the scenario that bytes are, or why there is none
-abbrev pub IsGiven : List ℕ → Result Scenario AuditEnding → Type 0
-IsGiven bytes (Ok scenario) = (scenario_of bytes ≡ Ok scenario) × IsGoodScenario scenario
-IsGiven bytes (Err (endings.Plain (plain.Scenario line))) = IsNone bytes (string_bytes line)
-IsGiven bytes (Err (endings.Plain plain.Memory)) = Unit {0}
-IsGiven bytes (Err _) = ⊥
-
 -- the run that a report is of, or why there is none
 abbrev pub IsJudged : Scenario → List ℕ → Result Played AuditEnding → Type 0
 IsJudged scenario bytes (Ok played) = (length bytes ≤ report_size) × IsReportOf scenario bytes played
@@ -119,6 +98,6 @@ IsOverAt scenario played (Some place) = IsOver scenario played place
 -- the answer, or why there is none
 abbrev pub IsAnswered : Scenario → Played → Option Asking → Result (String Global) AuditEnding → Type 0
 IsAnswered scenario played place (Ok text) = IsAnswer scenario played place (string_bytes text)
-IsAnswered scenario played place (Err endings.Range) = IsOverAt scenario played place
+IsAnswered scenario played place (Err (endings.Plain plain.Range)) = IsOverAt scenario played place
 IsAnswered scenario played place (Err (endings.Plain plain.Memory)) = Unit {0}
 IsAnswered scenario played place (Err _) = ⊥

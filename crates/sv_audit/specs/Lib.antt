@@ -1,3 +1,4 @@
+-- The definitions of checking a report, and of telling why.
 pub mod Words
 pub mod Texts
 pub mod Judging

@@ -1,12 +1,12 @@
 -- How a call ends, and what each status says. `held` is what the scenario's file holds and `told` what the report's does, where that is told.
-use Rattle.std.specs.Prelude.{◌≡◌, ◌≢◌, ◌⊎◌, ℕ, ◌<◌, ◌==◌, List, [], ◌++◌, length, take, Option, Some, None, codes, if◌then◌else◌, unwrap_or, Result, Ok, Err, String, string_bytes, IfSome}
-use Rattle.std.specs.declared.alloc.Global.{Global}
+use Rattle.std.specs.Prelude.{◌≡◌, ◌≢◌, ◌⊎◌, ℕ, ◌<◌, List, [], ◌++◌, length, take, Option, Some, None, codes, unwrap_or, Result, Ok, Err, string_bytes, IfSome}
 use Rattle.std.specs.Fmt.{decimal}
-use Rattle.sv_bytes.specs.Faults.{Rose}
-use Rattle.sv_bytes.specs.Writing.{Grew, GrewByPart, Told as IsTold}
+use Rattle.sv_bytes.specs.Writing.{Told as IsTold}
 use Rattle.sv_command.specs.declared.ending.Ending.TheVariants as plain
+use Rattle.sv_command.specs.Endings.{IsPrinted, IsCutShort, Ends as PlainEnds}
+use Rattle.sv_command.specs.Lines.{file_line}
 use Rattle.sv_command.specs.Reading.{IsRefused, IsNoScenario, read_limit}
-use Rattle.sv_command.specs.Statuses.{Counts, Raises as PlainRaises, file_line, status_of as plain_status, line_of as plain_line}
+use Rattle.sv_command.specs.Statuses.{Counts, IsUnread, Raises as PlainRaises, status_of as plain_status, line_of as plain_line, status_line}
 use Rattle.sv_audit.specs.declared.ending.AuditEnding.{AuditEnding}
 use Rattle.sv_audit.specs.declared.ending.AuditEnding.TheVariants as endings
 use Rattle.sv_audit.specs.Judging.{IsText, IsWrong, IsOutside, report_size}
@@ -18,7 +18,6 @@ abbrev pub status_of : AuditEnding → ℕ
 status_of (endings.Plain ending) = plain_status ending
 status_of endings.Report = 4
 status_of (endings.Wrong line) = 9
-status_of endings.Range = 10
 
 -- what a part of a call ends with
 abbrev pub ending_of : {A : Type 0} → Result A AuditEnding → AuditEnding
@@ -33,15 +32,11 @@ Raises before now (endings.Plain ending) = PlainRaises before now ending
 Raises before now endings.Report = PlainRaises before now plain.File
 Raises before now _ = now ≡ before
 
-abbrev pub NoneRose : Counts → Counts → Type 0
-NoneRose before now = (¬ Rose before.files now.files) × (¬ Rose before.out now.out)
-
--- Nothing was read: one of the files can't be, or memory ran out; for private clauses.
-abbrev pub IsUnread : AuditEnding → Type 0
-IsUnread (endings.Plain plain.File) = Unit {0}
-IsUnread (endings.Plain plain.Memory) = Unit {0}
-IsUnread endings.Report = Unit {0}
-IsUnread _ = ⊥
+-- Not both were read: one of the files can't be, or memory ran out; for private clauses.
+abbrev pub AreUnread : AuditEnding → Type 0
+AreUnread (endings.Plain ending) = IsUnread ending
+AreUnread endings.Report = Unit {0}
+AreUnread (endings.Wrong line) = ⊥
 
 -- ---- What is left
 
@@ -55,32 +50,14 @@ abbrev pub EndsEarly : (held told : Option (List ℕ)) → Option Asking → Aud
 EndsEarly held told place (endings.Plain (plain.Scenario line)) = IsRefused held (string_bytes line)
 EndsEarly held told place (endings.Plain plain.File) = Unit {0}
 EndsEarly held told place (endings.Plain plain.Memory) = Unit {0}
+EndsEarly held told place (endings.Plain plain.Range) = IsPlaceOutside held told place
 EndsEarly held told place (endings.Plain _) = ⊥
 EndsEarly held told place endings.Report = Unit {0}
 EndsEarly held told place (endings.Wrong line) = IsWrong held told line
-EndsEarly held told place endings.Range = IsPlaceOutside held told place
-
--- the answer's text, or why there is none
-abbrev pub IsMade : (held told : Option (List ℕ)) → Option Asking → Result (String Global) AuditEnding → Type 0
-IsMade held told place (Ok text) = IsText held told place (string_bytes text)
-IsMade held told place (Err ending) = EndsEarly held told place ending
-
--- The output grew by just the text of the answer.
-pub record IsPrinted (held told : Option (List ℕ)) (place : Option Asking) (old new : Option (List ℕ)) : Type 0 where
-  pub text : List ℕ
-  pub tells : IsText held told place text
-  pub grew : Grew old new text
-
--- The output grew by a front part of it.
-pub record IsCutShort (held told : Option (List ℕ)) (place : Option Asking) (old new : Option (List ℕ)) : Type 0 where
-  pub text : List ℕ
-  pub tells : IsText held told place text
-  pub part : GrewByPart old new text
 
 -- what is left of a call, by its ending
 abbrev pub Ends : (held told : Option (List ℕ)) → Option Asking → (old new : Option (List ℕ)) → AuditEnding → Type 0
-Ends held told place old new (endings.Plain plain.Done) = IsPrinted held told place old new
-Ends held told place old new (endings.Plain plain.Out) = IsCutShort held told place old new
+Ends held told place old new (endings.Plain ending) = PlainEnds (IsText held told place) (λ e. EndsEarly held told place (endings.Plain e)) old new ending
 Ends held told place old new ending = EndsEarly held told place ending × (new ≡ old)
 
 -- Some line is told as wrong.
@@ -90,8 +67,8 @@ pub record HasWrong (held told : Option (List ℕ)) : Type 0 where
 
 -- What each status says of what is asked.
 pub record Leaves (held told : Option (List ℕ)) (place : Option Asking) (old new : Option (List ℕ)) (status : ℕ) : Type 0 where
-  pub printed : status ≡ 0 → IsPrinted held told place old new
-  pub part : status ≡ 5 → IsCutShort held told place old new
+  pub printed : status ≡ 0 → IsPrinted (IsText held told place) old new
+  pub part : status ≡ 5 → IsCutShort (IsText held told place) old new
   pub nothing : status ≢ 0 → status ≢ 5 → new ≡ old
   pub wrong : status ≡ 9 → HasWrong held told
   pub outside : status ≡ 10 → IsPlaceOutside held told place
@@ -110,7 +87,6 @@ abbrev pub line_of : List ℕ → Option Asked → AuditEnding → List ℕ
 line_of words_line asked (endings.Plain ending) = plain_line words_line ending (scenario_named asked)
 line_of words_line asked endings.Report = file_line (unwrap_or (report_named asked) [])
 line_of words_line asked (endings.Wrong line) = wrong_line line
-line_of words_line asked endings.Range = codes "range\n"
 
 -- The line names one of the two files, and not one that is sure to be read.
 pub record NamesUnread (sure : List ℕ → Type 0) (asked : Asked) (line : List ℕ) : Type 0 where
@@ -124,18 +100,11 @@ pub record TellsWrong (held told : Option (List ℕ)) (line : List ℕ) : Type 0
   pub wrong : IsWrong held told number
   pub line_is : line ≡ wrong_line number
 
--- The line of a status other than 3, 4 and 9.
-abbrev pub status_line : List ℕ → ℕ → List ℕ
-status_line words_line status = if status == 2 then words_line
-    else (if status == 5 then codes "out\n"
-    else (if status == 8 then codes "memory\n"
-    else (if status == 10 then codes "range\n" else [])))
-
 -- The sink was given just the line of the status.
 pub record TellsStatus (sure : List ℕ → Type 0) (contents : List ℕ → Option (List ℕ)) (words_line : List ℕ) (asked : Option Asked) (status : ℕ) (old new : Option (List ℕ)) (before after : ℕ) : Type 0 where
   pub line : List ℕ
   pub faulty : status ≡ 3 → IfSome asked (λ (a : Asked). IsRefused (contents a.scenario) line)
   pub unread : status ≡ 4 → IfSome asked (λ (a : Asked). NamesUnread sure a line)
   pub wrong : status ≡ 9 → IfSome asked (λ (a : Asked). TellsWrong (contents a.scenario) (contents a.report) line)
-  pub plain_is : status ≢ 3 → status ≢ 4 → status ≢ 9 → line ≡ status_line words_line status
+  pub plain_is : status ≢ 3 → status ≢ 4 → status ≢ 9 → line ≡ status_line words_line status (scenario_named asked)
   pub told_is : IsTold old new before after line

@@ -1,22 +1,19 @@
 //! How a call ends.
-ghost use Rattle.std.specs.Prelude.{◌≡◌, ◌++◌, codes};
-ghost use Rattle.std.specs.Fmt.{decimal};
+ghost use Rattle.std.specs.Prelude.{◌≡◌};
 ghost use Rattle.std.specs.Option.{option_copied, option_map};
 ghost use Rattle.sv_bytes.specs.Writing.{Told};
-ghost use Rattle.sv_command.specs.Statuses.{file_line};
 ghost use Rattle.sv_audit.specs.Statuses.{line_of, status_of, wrong_line};
 ghost use Rattle.sv_audit.specs.Words.{asked_by};
 
 use crate::words::{Audit, report_named, scenario_named};
-use itoa::Buffer;
 use std::alloc::AllocError;
-use sv_bytes::{Sink, write_all, write_pieces};
-use sv_command::Ending;
+use sv_bytes::Sink;
+use sv_command::{Ending, tell_file, tell_number};
 
 /// How a call ends.
 #[derive(Debug, Drop)]
 pub(crate) enum AuditEnding {
-    /// As any call of the program may. A file that can't be read is the scenario's.
+    /// As any call of the program may. A file that can't be read is the scenario's, and a range is the run's: it has no such object or position.
     Plain(Ending),
 
     /// The report can't be read.
@@ -24,9 +21,6 @@ pub(crate) enum AuditEnding {
 
     /// The report is none of a consistent run: its first wrong line, or 0 where it is too long.
     Wrong(u32),
-
-    /// The run has no such object, or no such position.
-    Range,
 }
 
 impl From<Ending> for AuditEnding {
@@ -52,20 +46,6 @@ impl From<AllocError> for AuditEnding {
     }
 }
 
-fn tell_file<E: Sink>(name: &str, err: &mut E)
-    ensures { Told (E.taken err.old) (E.taken err.new) (E.faults err.old) (E.faults err.new) (file_line name.now) }
-{
-    write_pieces(err, &[b"file: ", name.as_bytes(), b"\n"]);
-}
-
-/// Writes a line that ends with a number.
-fn tell_number<E: Sink>(words: &[u8], number: u32, err: &mut E)
-    ensures { Told (E.taken err.old) (E.taken err.new) (E.faults err.old) (E.faults err.new) (words.now ++ decimal number ++ codes "\n") }
-{
-    let mut buffer = Buffer::new();
-    write_pieces(err, &[words, buffer.format(number).as_bytes(), b"\n"]);
-}
-
 fn tell_wrong<E: Sink>(line: u32, err: &mut E)
     ensures { Told (E.taken err.old) (E.taken err.new) (E.faults err.old) (E.faults err.new) (wrong_line line) }
 {
@@ -87,9 +67,6 @@ pub(crate) fn tell<E: Sink>(
         }
         AuditEnding::Report => tell_file(report_named(audit).unwrap_or(""), err),
         AuditEnding::Wrong(line) => tell_wrong(*line, err),
-        AuditEnding::Range => {
-            write_all(err, b"range\n");
-        }
     }
 }
 
@@ -101,6 +78,5 @@ pub(crate) fn status_of(ending: &AuditEnding) -> u8
         AuditEnding::Plain(ending) => sv_command::status_of(ending),
         AuditEnding::Report => 4,
         AuditEnding::Wrong(_) => 9,
-        AuditEnding::Range => 10,
     }
 }

@@ -1,8 +1,7 @@
 //! What a report is judged as, and what is answered then.
 ghost use Rattle.std.specs.Prelude.{◌≡◌, ◌≤◌, codes, length, option_map, string_bytes, Some, IfOk};
-ghost use Rattle.sv_scenario.specs.Lines.{fault_line};
 ghost use Rattle.sv_scenario.specs.Limits.{IsGoodScenario};
-ghost use Rattle.sv_audit.specs.Judging.{IsAnswered, IsGiven, IsJudged};
+ghost use Rattle.sv_audit.specs.Judging.{report_limit, IsAnswered, IsJudged};
 ghost use Rattle.sv_audit.specs.Words.{place_by};
 
 use crate::ending::AuditEnding;
@@ -11,34 +10,12 @@ use crate::words::Place;
 use std::alloc::{AllocError, Global};
 use sv_check::{Verdict, check};
 use sv_command::Ending;
-use sv_scenario::{ReadFault, Scenario, ScenarioFault, append_fault_line, read_scenario};
+use sv_scenario::Scenario;
 use sv_system::Played;
 use sv_why::why;
 
 /// The most bytes that a report may have.
 const REPORT_SIZE: usize = 67_108_864;
-
-/// The line that tells of a fault.
-fn line_of_fault(alloc: Global, fault: &ScenarioFault) -> Result<String, AllocError>
-    ensures { IfOk result (λ line. string_bytes line ≡ fault_line fault.now) }
-{
-    let mut line = String::new(alloc);
-    append_fault_line(fault, &mut line)?;
-    Ok(line)
-}
-
-/// The scenario that was read of its file.
-pub(crate) fn scenario_of(alloc: Global, bytes: &[u8]) -> Result<Scenario, AuditEnding>
-    ensures { IsGiven bytes.now result }
-{
-    match read_scenario(alloc, bytes) {
-        Ok(scenario) => Ok(scenario),
-        Err(ReadFault::Scenario(fault)) => Err(AuditEnding::Plain(Ending::Scenario(line_of_fault(
-            alloc, &fault,
-        )?))),
-        Err(ReadFault::Memory) => Err(AuditEnding::Plain(Ending::Memory)),
-    }
-}
 
 /// The run whose report was read.
 pub(crate) fn judged(
@@ -47,7 +24,7 @@ pub(crate) fn judged(
     report: &[u8],
 ) -> Result<Played, AuditEnding>
     requires good { IsGoodScenario scenario.now }
-    requires bound { length report.now ≤ 67108865 }
+    requires bound { length report.now ≤ report_limit }
     ensures { IsJudged scenario.now report.now result }
 {
     if report.len() > REPORT_SIZE {
@@ -72,7 +49,7 @@ fn explained(
     if place.object.0 >= scenario.world.shape.objects
         || place.pos as usize > played.journal.accepted_count()
     {
-        return Err(AuditEnding::Range);
+        return Err(AuditEnding::Plain(Ending::Range));
     }
     let why = why(alloc, scenario, played, place.object, place.pos)?;
     Ok(why_text(alloc, &played.journal, place.object, &why)?)

@@ -1,20 +1,17 @@
 //! Both files are read before any of them is judged.
-ghost use Rattle.std.specs.Prelude.{◌≡◌, ◌≢◌, ℕ, ◌≤◌, List, Err, IfOk, IfErr, length};
-ghost use Rattle.sv_bytes.specs.Faults.{ReadAllCause};
+ghost use Rattle.std.specs.Prelude.{◌≢◌, ℕ, ◌≤◌, Err, IfOk, IfErr, length};
+ghost use Rattle.sv_command.specs.Reading.{IsFront};
 ghost use Rattle.sv_command.specs.Statuses.{counts};
 ghost use Rattle.sv_command.specs.declared.ending.Ending.TheVariants as plain;
-ghost use Rattle.sv_audit.specs.Judging.{IsReportFront, IsScenarioFront};
-ghost use Rattle.sv_audit.specs.Statuses.{IsUnread, Raises, ending_of};
+ghost use Rattle.sv_audit.specs.Judging.{report_limit, IsReportFront};
+ghost use Rattle.sv_audit.specs.Statuses.{AreUnread, Raises, ending_of};
 ghost use Rattle.sv_audit.specs.declared.ending.AuditEnding.TheVariants as endings;
 
 use crate::ending::AuditEnding;
 use crate::words::Audit;
 use std::alloc::Global;
 use sv_bytes::{FileFault, Files, read_all};
-use sv_command::Ending;
-
-/// A scenario is read so far and no further: one byte more than one may have.
-const SCENARIO_LIMIT: usize = 4_194_305;
+use sv_command::{Ending, scenario_bytes};
 
 /// A report is read so far and no further: one byte more than one may have.
 const REPORT_LIMIT: usize = 67_108_865;
@@ -26,30 +23,10 @@ pub(crate) struct Both {
     pub(crate) report: Vec<u8>,
 }
 
-fn scenario_bytes<F: Files>(
-    alloc: Global,
-    file: &str,
-    files: &mut F,
-) -> Result<Vec<u8>, AuditEnding>
-    ensures front { IfOk result (λ bytes. IsScenarioFront (F.contents files.old file.now) bytes.items) }
-    ensures unread { IfErr result IsUnread }
-    ensures raises { (k : ℕ) → Raises (counts (F.faults files.old) 0 0 k) (counts (F.faults files.new) 0 0 k) (ending_of result) }
-    ensures sure { F.sure files.old file.now → result ≢ Err (endings.Plain plain.File) }
-    ensures other { result ≢ Err endings.Report }
-    ensures same { (n : List ℕ) → F.contents files.new n ≡ F.contents files.old n }
-    ensures stays_sure { (n : List ℕ) → F.sure files.old n → F.sure files.new n }
-{
-    match read_all(alloc, files, file, SCENARIO_LIMIT) {
-        Ok(bytes) => Ok(bytes),
-        Err(FileFault::Failed) => Err(AuditEnding::Plain(Ending::File)),
-        Err(FileFault::Memory) => Err(AuditEnding::Plain(Ending::Memory)),
-    }
-}
-
 fn report_bytes<F: Files>(alloc: Global, file: &str, files: &mut F) -> Result<Vec<u8>, AuditEnding>
     ensures front { IfOk result (λ bytes. IsReportFront (F.contents files.old file.now) bytes.items) }
-    ensures bound { IfOk result (λ bytes. length bytes.items ≤ 67108865) }
-    ensures unread { IfErr result IsUnread }
+    ensures bound { IfOk result (λ bytes. length bytes.items ≤ report_limit) }
+    ensures unread { IfErr result AreUnread }
     ensures raises { (k : ℕ) → Raises (counts (F.faults files.old) 0 0 k) (counts (F.faults files.new) 0 0 k) (ending_of result) }
     ensures sure { F.sure files.old file.now → result ≢ Err endings.Report }
     ensures other { result ≢ Err (endings.Plain plain.File) }
@@ -67,10 +44,10 @@ pub(crate) fn read_both<F: Files>(
     audit: Audit<'_>,
     files: &mut F,
 ) -> Result<Both, AuditEnding>
-    ensures scenario { IfOk result (λ both. IsScenarioFront (F.contents files.old audit.entry.scenario.now) both.scenario.items) }
+    ensures scenario { IfOk result (λ both. IsFront (F.contents files.old audit.entry.scenario.now) both.scenario.items) }
     ensures report { IfOk result (λ both. IsReportFront (F.contents files.old audit.entry.report.now) both.report.items) }
-    ensures bound { IfOk result (λ both. length both.report.items ≤ 67108865) }
-    ensures unread { IfErr result IsUnread }
+    ensures bound { IfOk result (λ both. length both.report.items ≤ report_limit) }
+    ensures unread { IfErr result AreUnread }
     ensures raises { (k : ℕ) → Raises (counts (F.faults files.old) 0 0 k) (counts (F.faults files.new) 0 0 k) (ending_of result) }
     ensures sure_scenario { F.sure files.old audit.entry.scenario.now → result ≢ Err (endings.Plain plain.File) }
     ensures sure_report { F.sure files.old audit.entry.report.now → result ≢ Err endings.Report }

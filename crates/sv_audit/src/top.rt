@@ -1,24 +1,27 @@
 //! The top call of the checker of reports.
 ghost use Rattle.std.specs.Prelude.{◌≡◌, ◌≢◌, ◌↔◌, ◌⊎◌, ℕ, ◌≤◌, map, option_map, string_bytes, None, Err, IfSome};
 ghost use Rattle.sv_bytes.specs.Faults.{Rose};
+ghost use Rattle.sv_command.specs.Endings.{IsMade};
 ghost use Rattle.sv_command.specs.Reading.{HoldsScenario};
-ghost use Rattle.sv_command.specs.Statuses.{counts};
+ghost use Rattle.sv_command.specs.Statuses.{counts, NoneRose};
 ghost use Rattle.sv_command.specs.declared.ending.Ending.TheVariants as plain;
-ghost use Rattle.sv_audit.specs.Statuses.{Ends, IsMade, Leaves, NoneRose, Raises, TellsStatus, ending_of};
+ghost use Rattle.sv_audit.specs.Judging.{IsText};
+ghost use Rattle.sv_audit.specs.Statuses.{Ends, EndsEarly, Leaves, Raises, TellsStatus, ending_of};
 ghost use Rattle.sv_audit.specs.Words.{asked_by, asked_of, words_line};
 ghost use Rattle.sv_audit.specs.declared.ending.AuditEnding.TheVariants as endings;
 
 use crate::ending::{AuditEnding, status_of, tell};
-use crate::judging::{answered, judged, scenario_of};
+use crate::judging::{answered, judged};
 use crate::reading::read_both;
 use crate::words::{Audit, audit_of, words_line};
 use std::alloc::Global;
 use sv_bytes::{Files, Sink, write_all};
-use sv_command::Ending;
+use sv_command::{Ending, scenario_of};
 
 /// The text that answers what is asked. It is whole before any of it is printed.
 fn text_for<F: Files>(alloc: Global, audit: Audit<'_>, files: &mut F) -> Result<String, AuditEnding>
-    ensures made { IsMade (F.contents files.old audit.entry.scenario.now) (F.contents files.old audit.entry.report.now) (asked_by audit.entry).place result }
+    ensures made { IsMade (IsText (F.contents files.old audit.entry.scenario.now) (F.contents files.old audit.entry.report.now) (asked_by audit.entry).place)
+        (EndsEarly (F.contents files.old audit.entry.scenario.now) (F.contents files.old audit.entry.report.now) (asked_by audit.entry).place) result }
     ensures raises { (k : ℕ) → Raises (counts (F.faults files.old) 0 0 k) (counts (F.faults files.new) 0 0 k) (ending_of result) }
     ensures sure_scenario { F.sure files.old audit.entry.scenario.now → result ≢ Err (endings.Plain plain.File) }
     ensures sure_report { F.sure files.old audit.entry.report.now → result ≢ Err endings.Report }

@@ -14,19 +14,21 @@ same_counts f0 f1 c0 c1 n0 n1 k f c n =
 err_inside : (T : Type 0) (a b : Ending) → ◌≡◌ {A = Result T Ending} (Err a) (Err b) → a ≡ b
 err_inside T a b q = cc
 
-module _ {T : Type 0} (r : Result T Ending) (e : Ending) (by : IsErrAnd r (λ x. x ≡ e)) where
+-- The endings may be of a type of the call's own.
+module _ {T E : Type 0} (r : Result T E) (e : E) (by : IsErrAnd r (λ x. x ≡ e)) where
   pub came : r ≡ Err e
   came = go r by
     where
-      go : (q : Result T Ending) → IsErrAnd q (λ x. x ≡ e) → q ≡ Err e
+      go : (q : Result T E) → IsErrAnd q (λ x. x ≡ e) → q ≡ Err e
       go (Ok t) i = absurd i
-      go (Err x) i = ap (λ (y : Ending). Err y) i
+      go (Err x) i = ap (λ (y : E). Err y) i
 
+module _ {T : Type 0} (r : Result T Ending) (e : Ending) (by : IsErrAnd r (λ x. x ≡ e)) where
   pub raised_by : (before now : Counts) → Raises before now e → Raises before now (ending_of r)
-  raised_by before now h = rw came h
+  raised_by before now h = rw (came r e by) h
 
   pub unlike : (x : Ending) → (e ≡ x → ⊥) → r ≡ Err x → ⊥
-  unlike x n s = n (err_inside T e x (sym came ∙ s))
+  unlike x n s = n (err_inside T e x (sym (came r e by) ∙ s))
 
 -- ---- Counts that stand still
 
@@ -40,6 +42,7 @@ unthreaded k f0 f1 (endings.Scenario line) h = (λ s. absurd (omega arith), λ s
 unthreaded k f0 f1 endings.File h = (λ s. absurd (omega arith), λ s. absurd (omega arith))
 unthreaded k f0 f1 endings.Out h = (λ s. absurd (omega arith), λ s. absurd (omega arith))
 unthreaded k f0 f1 endings.Memory h = (λ s. absurd (omega arith), λ s. absurd (omega arith))
+unthreaded k f0 f1 endings.Range h = (λ s. absurd (omega arith), λ s. absurd (omega arith))
 
 pub link_status : {T : Type 0} (r : Result T Ending) → r ≡ Err endings.Link → status_of (ending_of r) ≡ 6
 link_status r e = rw e refl

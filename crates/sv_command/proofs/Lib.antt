@@ -1,4 +1,6 @@
+-- The lemmas of the crate.
 pub mod Counts
 pub mod Decimals
 pub mod Held
+pub mod Left
 pub mod Statuses

@@ -11,15 +11,17 @@ use Rattle.sv_command.specs.Statuses.{status_of, Counts, Raises, TellsFaults, li
 
 -- ---- Statuses
 
-pub range_is : (e : Ending) → (status_of e ≡ 0) ⊎ ((2 ≤ status_of e) × (status_of e ≤ 8))
-range_is endings.Done = inl refl
-range_is endings.Words = inr (omega arith, omega arith)
-range_is (endings.Scenario line) = inr (omega arith, omega arith)
-range_is endings.File = inr (omega arith, omega arith)
-range_is endings.Start = inr (omega arith, omega arith)
-range_is endings.Link = inr (omega arith, omega arith)
-range_is endings.Out = inr (omega arith, omega arith)
-range_is endings.Memory = inr (omega arith, omega arith)
+-- of a call that asks for nothing by a number
+pub range_is : (e : Ending) → (e ≡ endings.Range → ⊥) → (status_of e ≡ 0) ⊎ ((2 ≤ status_of e) × (status_of e ≤ 8))
+range_is endings.Done never = inl refl
+range_is endings.Words never = inr (omega arith, omega arith)
+range_is (endings.Scenario line) never = inr (omega arith, omega arith)
+range_is endings.File never = inr (omega arith, omega arith)
+range_is endings.Start never = inr (omega arith, omega arith)
+range_is endings.Link never = inr (omega arith, omega arith)
+range_is endings.Out never = inr (omega arith, omega arith)
+range_is endings.Memory never = inr (omega arith, omega arith)
+range_is endings.Range never = absurd (never refl)
 
 words_of : (e : Ending) → status_of e ≡ 2 → e ≡ endings.Words
 words_of endings.Words s = refl
@@ -30,11 +32,12 @@ words_of endings.Start s = absurd (omega arith)
 words_of endings.Link s = absurd (omega arith)
 words_of endings.Out s = absurd (omega arith)
 words_of endings.Memory s = absurd (omega arith)
+words_of endings.Range s = absurd (omega arith)
 
 pub words_is : {A : Type 0} (e : Ending) → ((e ≡ endings.Words) ↔ A) → (status_of e ≡ 2) ↔ A
 words_is e w = (λ s. w.0 (words_of e s), λ n. ap status_of (w.1 n))
 
-file_is : (e : Ending) → status_of e ≡ 4 → e ≡ endings.File
+pub file_is : (e : Ending) → status_of e ≡ 4 → e ≡ endings.File
 file_is endings.File s = refl
 file_is endings.Done s = absurd (omega arith)
 file_is endings.Words s = absurd (omega arith)
@@ -43,6 +46,7 @@ file_is endings.Start s = absurd (omega arith)
 file_is endings.Link s = absurd (omega arith)
 file_is endings.Out s = absurd (omega arith)
 file_is endings.Memory s = absurd (omega arith)
+file_is endings.Range s = absurd (omega arith)
 
 pub sure_is : (sure : List ℕ → Type 0) (named : Option (List ℕ)) (e : Ending) → IfSome named (λ name. sure name → e ≢ endings.File) → IfSome named (λ name. sure name → status_of e ≢ 4)
 sure_is sure None e h = tt
@@ -57,13 +61,14 @@ link_is endings.File s = absurd (omega arith)
 link_is endings.Start s = absurd (omega arith)
 link_is endings.Out s = absurd (omega arith)
 link_is endings.Memory s = absurd (omega arith)
+link_is endings.Range s = absurd (omega arith)
 
 -- ---- Faults
 
-quiet : (b a : ℕ) → a ≡ b → Rose b a → ⊥
+pub quiet : (b a : ℕ) → a ≡ b → Rose b a → ⊥
 quiet b a e rose = omega (arith, e, rose)
 
-untold : (n m b a : ℕ) → (n ≡ m → ⊥) → a ≡ b → (n ≡ m) ↔ Rose b a
+pub untold : (n m b a : ℕ) → (n ≡ m → ⊥) → a ≡ b → (n ≡ m) ↔ Rose b a
 untold n m b a other e = (λ s. absurd (other s), λ rose. absurd (quiet b a e rose))
 
 told : {A : Type 0} (n : ℕ) → A → (n ≡ n) ↔ A
@@ -91,6 +96,7 @@ module _ (before now : Counts) where
   faults_are endings.Words h = none_told 2 (inl (omega arith)) h
   faults_are (endings.Scenario line) h = none_told 3 (inl (omega arith)) h
   faults_are endings.Memory h = none_told 8 (inr (omega arith)) h
+  faults_are endings.Range h = none_told 10 (inr (omega arith)) h
   faults_are endings.File h = record {
     file = told 4 h.0;
     start = untold 4 7 _ _ (λ s. absurd (omega arith)) (ap (λ (k : Counts). k.crew) h.1);
@@ -129,4 +135,5 @@ module _ (words_line : List ℕ) (held named : Option (List ℕ)) (t0 t1 : Optio
   told_is endings.Link refused t = record { line = line_of words_line endings.Link named; faulty = λ s. absurd (omega arith); plain = λ s. refl; told = t }
   told_is endings.Out refused t = record { line = line_of words_line endings.Out named; faulty = λ s. absurd (omega arith); plain = λ s. refl; told = t }
   told_is endings.Memory refused t = record { line = line_of words_line endings.Memory named; faulty = λ s. absurd (omega arith); plain = λ s. refl; told = t }
+  told_is endings.Range refused t = record { line = line_of words_line endings.Range named; faulty = λ s. absurd (omega arith); plain = λ s. refl; told = t }
   told_is (endings.Scenario line) refused t = record { line = string_bytes line; faulty = λ s. refused line refl; plain = λ s. absurd (s refl); told = t }

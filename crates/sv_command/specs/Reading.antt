@@ -32,6 +32,12 @@ pub record IsRefused (held : Option (List ℕ)) (line : List ℕ) : Type 0 where
   pub faulty : scenario_of bytes ≡ Err fault
   pub told : line ≡ fault_line fault
 
+-- These bytes are no scenario, and this line tells of their first fault.
+pub record IsFaulty (bytes line : List ℕ) : Type 0 where
+  pub fault : ScenarioFault
+  pub faulty : scenario_of bytes ≡ Err fault
+  pub told : line ≡ fault_line fault
+
 -- The bytes are a scenario.
 pub record IsScenario (bytes : List ℕ) : Type 0 where
   pub scenario : Scenario

@@ -1,13 +1,15 @@
 -- How a call of the program ends, and what each status says.
-use Rattle.std.specs.Prelude.{◌≡◌, ◌≢◌, ◌↔◌, ℕ, ◌==◌, List, [], ◌++◌, Option, codes, if◌then◌else◌, unwrap_or}
+use Rattle.std.specs.Prelude.{◌≡◌, ◌≢◌, ◌↔◌, ℕ, ◌==◌, List, [], Option, codes, if◌then◌else◌, unwrap_or}
 use Rattle.std.specs.Prelude.{Result, Ok, Err, string_bytes}
 use Rattle.sv_bytes.specs.Faults.{Rose}
 use Rattle.sv_bytes.specs.Writing.{Told}
 use Rattle.sv_scenario.specs.declared.scenario.Scenario.{Scenario}
 use Rattle.sv_scenario.specs.Limits.{IsGoodScenario}
+use Rattle.sv_scenario.specs.Scenarios.{scenario_of}
 use Rattle.sv_command.specs.declared.ending.Ending.{Ending}
 use Rattle.sv_command.specs.declared.ending.Ending.TheVariants as endings
-use Rattle.sv_command.specs.Reading.{IsRead, IsRefused}
+use Rattle.sv_command.specs.Lines.{file_line}
+use Rattle.sv_command.specs.Reading.{IsFaulty, IsRead, IsRefused}
 
 -- ---- Endings
 
@@ -20,6 +22,7 @@ status_of endings.Out = 5
 status_of endings.Link = 6
 status_of endings.Start = 7
 status_of endings.Memory = 8
+status_of endings.Range = 10
 
 -- what a part of a call ends with
 abbrev pub ending_of : {A : Type 0} → Result A Ending → Ending
@@ -33,6 +36,19 @@ IsScenarioRead held (Err (endings.Scenario line)) = IsRefused held (string_bytes
 IsScenarioRead held (Err endings.File) = Unit {0}
 IsScenarioRead held (Err endings.Memory) = Unit {0}
 IsScenarioRead held (Err _) = ⊥
+
+-- No bytes were read: the file can't be, or memory ran out.
+abbrev pub IsUnread : Ending → Type 0
+IsUnread endings.File = Unit {0}
+IsUnread endings.Memory = Unit {0}
+IsUnread _ = ⊥
+
+-- the scenario that bytes are, or why there is none
+abbrev pub IsGiven : List ℕ → Result Scenario Ending → Type 0
+IsGiven bytes (Ok scenario) = (scenario_of bytes ≡ Ok scenario) × IsGoodScenario scenario
+IsGiven bytes (Err (endings.Scenario line)) = IsFaulty bytes (string_bytes line)
+IsGiven bytes (Err endings.Memory) = Unit {0}
+IsGiven bytes (Err _) = ⊥
 
 -- ---- Faults
 
@@ -66,9 +82,6 @@ NoneRose before now = (¬ Rose before.files now.files) × (¬ Rose before.crew n
 
 -- ---- The line that a call writes beside its output
 
-abbrev pub file_line : List ℕ → List ℕ
-file_line name = codes "file: " ++ name ++ codes "\n"
-
 -- The line that tells of an ending, by the line that tells which words the call knows.
 abbrev pub line_of : List ℕ → Ending → Option (List ℕ) → List ℕ
 line_of words_line endings.Done named = []
@@ -79,6 +92,7 @@ line_of words_line endings.Out named = codes "out\n"
 line_of words_line endings.Link named = codes "link\n"
 line_of words_line endings.Start named = codes "start\n"
 line_of words_line endings.Memory named = codes "memory\n"
+line_of words_line endings.Range named = codes "range\n"
 
 -- The line of a status other than 3.
 abbrev pub status_line : List ℕ → ℕ → Option (List ℕ) → List ℕ
@@ -87,7 +101,8 @@ status_line words_line status named = if status == 2 then words_line
     else (if status == 5 then codes "out\n"
     else (if status == 6 then codes "link\n"
     else (if status == 7 then codes "start\n"
-    else (if status == 8 then codes "memory\n" else [])))))
+    else (if status == 8 then codes "memory\n"
+    else (if status == 10 then codes "range\n" else []))))))
 
 -- The sink was given just the line of the status. At 3 it tells of the first fault of what was read of the file.
 pub record TellsStatus (words_line : List ℕ) (status : ℕ) (held named : Option (List ℕ)) (old now : Option (List ℕ)) (before after : ℕ) : Type 0 where

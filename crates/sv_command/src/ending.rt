@@ -2,10 +2,11 @@
 ghost use Rattle.std.specs.Prelude.{◌≡◌};
 ghost use Rattle.std.specs.Option.{option_copied};
 ghost use Rattle.sv_bytes.specs.Writing.{Told};
-ghost use Rattle.sv_command.specs.Statuses.{file_line, line_of, status_of};
+ghost use Rattle.sv_command.specs.Statuses.{line_of, status_of};
 
+use crate::lines::{tell_file, tell_line};
 use std::alloc::AllocError;
-use sv_bytes::{Sink, write_all, write_pieces};
+use sv_bytes::Sink;
 
 /// How a call of the program ends.
 #[derive(Debug, Drop)]
@@ -32,6 +33,9 @@ pub enum Ending {
 
     /// There was no memory.
     Memory,
+
+    /// What was read has nothing of the number that the words have.
+    Range,
 }
 
 impl From<AllocError> for Ending {
@@ -50,22 +54,17 @@ impl From<AllocError> for Ending {
 pub fn tell<E: Sink>(ending: &Ending, words_line: &[u8], named: Option<&str>, err: &mut E)
     ensures { Told (E.taken err.old) (E.taken err.new) (E.faults err.old) (E.faults err.new) (line_of words_line.now ending.now (option_copied named.entry)) }
 {
-    let _ = match ending {
-        Ending::Done => write_all(err, b""),
-        Ending::Words => write_all(err, words_line),
-        Ending::Scenario(line) => write_all(err, line.as_bytes()),
+    match ending {
+        Ending::Done => tell_line(b"", err),
+        Ending::Words => tell_line(words_line, err),
+        Ending::Scenario(line) => tell_line(line.as_bytes(), err),
         Ending::File => tell_file(named.unwrap_or(""), err),
-        Ending::Start => write_all(err, b"start\n"),
-        Ending::Link => write_all(err, b"link\n"),
-        Ending::Out => write_all(err, b"out\n"),
-        Ending::Memory => write_all(err, b"memory\n"),
-    };
-}
-
-fn tell_file<E: Sink>(name: &str, err: &mut E) -> bool
-    ensures { Told (E.taken err.old) (E.taken err.new) (E.faults err.old) (E.faults err.new) (file_line name.now) }
-{
-    write_pieces(err, &[b"file: ", name.as_bytes(), b"\n"])
+        Ending::Start => tell_line(b"start\n", err),
+        Ending::Link => tell_line(b"link\n", err),
+        Ending::Out => tell_line(b"out\n", err),
+        Ending::Memory => tell_line(b"memory\n", err),
+        Ending::Range => tell_line(b"range\n", err),
+    }
 }
 
 /// The status with which the program ends.
@@ -81,5 +80,6 @@ pub fn status_of(ending: &Ending) -> u8
         Ending::Link => 6,
         Ending::Start => 7,
         Ending::Memory => 8,
+        Ending::Range => 10,
     }
 }

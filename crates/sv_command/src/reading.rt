@@ -1,15 +1,32 @@
 //! The scenario of a file.
-ghost use Rattle.std.specs.Prelude.{◌≡◌, ◌≢◌, Err, IfOk, string_bytes};
+ghost use Rattle.std.specs.Prelude.{◌≡◌, ◌≢◌, List, ℕ, Err, IfOk, IfErr, string_bytes};
 ghost use Rattle.sv_scenario.specs.Lines.{fault_line};
-ghost use Rattle.sv_command.specs.Statuses.{Counts, IsScenarioRead, Raises, ending_of};
+ghost use Rattle.sv_command.specs.Reading.{IsFront};
+ghost use Rattle.sv_command.specs.Statuses.{Counts, IsGiven, IsScenarioRead, IsUnread, Raises, ending_of};
 
 use crate::ending::Ending;
 use std::alloc::{AllocError, Global};
 use sv_bytes::{FileFault, Files, read_all};
 use sv_scenario::{ReadFault, Scenario, ScenarioFault, append_fault_line, read_scenario};
 
-/// A file is read so far and no further: one byte more than a scenario may have.
+/// A scenario's file is read so far and no further: one byte more than a scenario may have.
 const READ_LIMIT: usize = 4_194_305;
+
+/// What is read of a scenario's file.
+pub fn scenario_bytes<F: Files>(alloc: Global, file: &str, files: &mut F) -> Result<Vec<u8>, Ending>
+    ensures front { IfOk result (λ bytes. IsFront (F.contents files.old file.now) bytes.items) }
+    ensures unread { IfErr result IsUnread }
+    ensures raises { (k : Counts) → Raises (record k { files = F.faults files.old }) (record k { files = F.faults files.new }) (ending_of result) }
+    ensures sure { F.sure files.old file.now → result ≢ Err Ending.File }
+    ensures same { (n : List ℕ) → F.contents files.new n ≡ F.contents files.old n }
+    ensures stays_sure { (n : List ℕ) → F.sure files.old n → F.sure files.new n }
+{
+    match read_all(alloc, files, file, READ_LIMIT) {
+        Ok(bytes) => Ok(bytes),
+        Err(FileFault::Failed) => Err(Ending::File),
+        Err(FileFault::Memory) => Err(Ending::Memory),
+    }
+}
 
 /// The line that tells of a fault.
 fn line_of_fault(alloc: Global, fault: &ScenarioFault) -> Result<String, AllocError>
@@ -20,20 +37,23 @@ fn line_of_fault(alloc: Global, fault: &ScenarioFault) -> Result<String, AllocEr
     Ok(line)
 }
 
+/// The scenario that bytes are. The answer is never another ending than `Scenario` and `Memory`.
+pub fn scenario_of(alloc: Global, bytes: &[u8]) -> Result<Scenario, Ending>
+    ensures { IsGiven bytes.now result }
+{
+    match read_scenario(alloc, bytes) {
+        Ok(scenario) => Ok(scenario),
+        Err(ReadFault::Scenario(fault)) => Err(Ending::Scenario(line_of_fault(alloc, &fault)?)),
+        Err(ReadFault::Memory) => Err(Ending::Memory),
+    }
+}
+
 /// The scenario of a file. The answer is never another ending than `Scenario`, `File` and `Memory`.
 pub fn scenario_in<F: Files>(alloc: Global, file: &str, files: &mut F) -> Result<Scenario, Ending>
     ensures read { IsScenarioRead (F.contents files.old file.now) result }
     ensures raises { (k : Counts) → Raises (record k { files = F.faults files.old }) (record k { files = F.faults files.new }) (ending_of result) }
     ensures sure { F.sure files.old file.now → result ≢ Err Ending.File }
 {
-    let bytes = match read_all(alloc, files, file, READ_LIMIT) {
-        Ok(bytes) => bytes,
-        Err(FileFault::Failed) => return Err(Ending::File),
-        Err(FileFault::Memory) => return Err(Ending::Memory),
-    };
-    match read_scenario(alloc, &bytes) {
-        Ok(scenario) => Ok(scenario),
-        Err(ReadFault::Scenario(fault)) => Err(Ending::Scenario(line_of_fault(alloc, &fault)?)),
-        Err(ReadFault::Memory) => Err(Ending::Memory),
-    }
+    let bytes = scenario_bytes(alloc, file, files)?;
+    scenario_of(alloc, &bytes)
 }

@@ -1,29 +1,27 @@
 -- What the status of an ending says.
 use Rattle.std.proofs.Common.{◌≡◌, ◌≢◌, ◌↔◌, ◌⊎◌, inl, inr, refl, arith, ℕ, ◌<◌, ◌≤◌, List, length, take, Option, Some, None, ap}
-use Rattle.std.specs.Prelude.{string_bytes, IfSome, Ok, Err}
+use Rattle.std.specs.Prelude.{string_bytes, IfSome, Ok}
 use Rattle.std.proofs.lemmas.Option.{slice_get_within}
 use Rattle.sv_bytes.specs.Faults.{Rose}
 use Rattle.sv_bytes.specs.Writing.{Told as IsTold}
 use Rattle.sv_link.specs.Ends.{Told}
-use Rattle.sv_scenario.specs.declared.fault.ScenarioFault.{ScenarioFault}
 use Rattle.sv_scenario.specs.declared.scenario.Scenario.{Scenario}
 use Rattle.sv_scenario.specs.Scenarios.{scenario_of}
 use Rattle.sv_command.specs.declared.ending.Ending.TheVariants as plain
 use Rattle.sv_command.specs.Reading.{IsRead, IsRefused, HoldsScenario, held_of, read_limit}
-use Rattle.sv_command.specs.Statuses.{Counts}
-use Rattle.sv_command.proofs.Held.{read_is, holds_none}
-use Rattle.sv_command.proofs.Statuses.{words_is as plain_words_is, link_is as plain_link_is}
+use Rattle.sv_command.specs.Statuses.{Counts, NoneRose}
+use Rattle.sv_command.proofs.Held.{Faulty, always, both, same_scenario, read_is, holds_none}
+use Rattle.sv_command.proofs.Statuses.{words_is as plain_words_is, file_is as plain_file_is, link_is as plain_link_is, quiet, untold}
 use Rattle.sv_join.specs.declared.ending.JoinEnding.{JoinEnding}
 use Rattle.sv_join.specs.declared.ending.JoinEnding.TheVariants as endings
 use Rattle.sv_join.specs.Joining.{Passed}
-use Rattle.sv_join.specs.Words.{Asked, file_of}
-use Rattle.sv_join.specs.Statuses.{status_of, Raises, TellsFaults, NoneRose, LacksClient, Ends, Leaves, line_of, TellsStatus, CanJoin}
+use Rattle.sv_join.specs.Words.{Asked, named_by}
+use Rattle.sv_join.specs.Statuses.{status_of, Raises, TellsJoinFaults, LacksClient, Ends, Leaves, line_of, TellsStatus}
 
 -- ---- Statuses
 
 words_of : (e : JoinEnding) → status_of e ≡ 2 → e ≡ endings.Plain plain.Words
 words_of (endings.Plain e) s = ap endings.Plain ((plain_words_is e (λ x. x, λ x. x)).0 s)
-words_of endings.Range s = absurd (omega arith)
 words_of (endings.Reply fault) s = absurd (omega arith)
 words_of endings.Closed s = absurd (omega arith)
 
@@ -31,21 +29,12 @@ pub words_is : {A : Type 0} (e : JoinEnding) → ((e ≡ endings.Plain plain.Wor
 words_is e w = (λ s. w.0 (words_of e s), λ n. ap status_of (w.1 n))
 
 file_is : (e : JoinEnding) → status_of e ≡ 4 → e ≡ endings.Plain plain.File
-file_is (endings.Plain plain.File) s = refl
-file_is (endings.Plain plain.Done) s = absurd (omega arith)
-file_is (endings.Plain plain.Words) s = absurd (omega arith)
-file_is (endings.Plain (plain.Scenario line)) s = absurd (omega arith)
-file_is (endings.Plain plain.Start) s = absurd (omega arith)
-file_is (endings.Plain plain.Link) s = absurd (omega arith)
-file_is (endings.Plain plain.Out) s = absurd (omega arith)
-file_is (endings.Plain plain.Memory) s = absurd (omega arith)
-file_is endings.Range s = absurd (omega arith)
+file_is (endings.Plain e) s = ap endings.Plain (plain_file_is e s)
 file_is (endings.Reply fault) s = absurd (omega arith)
 file_is endings.Closed s = absurd (omega arith)
 
 link_is : (e : JoinEnding) → status_of e ≡ 6 → e ≡ endings.Plain plain.Link
 link_is (endings.Plain e) s = ap endings.Plain (plain_link_is e s)
-link_is endings.Range s = absurd (omega arith)
 link_is (endings.Reply fault) s = absurd (omega arith)
 link_is endings.Closed s = absurd (omega arith)
 
@@ -59,27 +48,21 @@ sure_door_is sure (Some x) e h = λ s l. h s (link_is e l)
 
 -- ---- Faults
 
-quiet : (b a : ℕ) → a ≡ b → Rose b a → ⊥
-quiet b a e rose = omega (arith, e, rose)
-
-untold : (n m b a : ℕ) → (n ≡ m → ⊥) → a ≡ b → (n ≡ m) ↔ Rose b a
-untold n m b a other e = (λ s. absurd (other s), λ rose. absurd (quiet b a e rose))
-
 module _ (before now : Counts) where
-  none_told : (n : ℕ) → (n ≡ 4 → ⊥) → (n ≡ 5 → ⊥) → now ≡ before → TellsFaults n before now
+  none_told : (n : ℕ) → (n ≡ 4 → ⊥) → (n ≡ 5 → ⊥) → now ≡ before → TellsJoinFaults n before now
   none_told n file out e = record {
     file = untold n 4 _ _ file (ap (λ (k : Counts). k.files) e);
     out = untold n 5 _ _ out (ap (λ (k : Counts). k.out) e);
     link = λ rose. absurd (quiet _ _ (ap (λ (k : Counts). k.net) e) rose);
   }
 
-  pub faults_are : (e : JoinEnding) → Raises before now e → TellsFaults (status_of e) before now
+  pub faults_are : (e : JoinEnding) → Raises before now e → TellsJoinFaults (status_of e) before now
   faults_are (endings.Plain plain.Done) h = none_told 0 (λ s. absurd (omega arith)) (λ s. absurd (omega arith)) h
   faults_are (endings.Plain plain.Words) h = none_told 2 (λ s. absurd (omega arith)) (λ s. absurd (omega arith)) h
   faults_are (endings.Plain (plain.Scenario line)) h = none_told 3 (λ s. absurd (omega arith)) (λ s. absurd (omega arith)) h
   faults_are (endings.Plain plain.Start) h = none_told 7 (λ s. absurd (omega arith)) (λ s. absurd (omega arith)) h
   faults_are (endings.Plain plain.Memory) h = none_told 8 (λ s. absurd (omega arith)) (λ s. absurd (omega arith)) h
-  faults_are endings.Range h = none_told 10 (λ s. absurd (omega arith)) (λ s. absurd (omega arith)) h
+  faults_are (endings.Plain plain.Range) h = none_told 10 (λ s. absurd (omega arith)) (λ s. absurd (omega arith)) h
   faults_are (endings.Reply fault) h = none_told 11 (λ s. absurd (omega arith)) (λ s. absurd (omega arith)) h
   faults_are endings.Closed h = none_told 12 (λ s. absurd (omega arith)) (λ s. absurd (omega arith)) h
   faults_are (endings.Plain plain.File) h = record {
@@ -100,24 +83,14 @@ module _ (before now : Counts) where
 
 -- ---- What was read
 
-both : (scenario : Scenario) (fault : ScenarioFault) (bytes : List ℕ) → scenario_of bytes ≡ Ok scenario → scenario_of bytes ≡ Err fault → ⊥
-both scenario fault bytes e f = cc
-
-same : (x y : Scenario) (bytes : List ℕ) → scenario_of bytes ≡ Ok x → scenario_of bytes ≡ Ok y → x ≡ y
-same x y bytes e f = cc
-
 module _ (P : Type 0) where
-  always : (Q : List ℕ → Type 0) (held : Option (List ℕ)) → P → IfSome held (λ all. Q all → P)
-  always Q None p = tt
-  always Q (Some all) p = λ q. p
-
   -- It has the client.
   not_lacking : (k : ℕ) (held : Option (List ℕ)) (scenario : Scenario) → IsRead held scenario → k < length scenario.clients → IfSome held (λ all. LacksClient k (take read_limit all) → P)
   not_lacking k None scenario r low = tt
   not_lacking k (Some all) scenario r low = λ lacks.
       let read : scenario_of r.bytes ≡ Ok lacks.scenario = rw r.front lacks.read in
       let over = lacks.over in
-      let counted : length scenario.clients ≡ length lacks.scenario.clients = ap (λ (x : Scenario). length x.clients) (same scenario lacks.scenario r.bytes r.read read) in
+      let counted : length scenario.clients ≡ length lacks.scenario.clients = ap (λ (x : Scenario). length x.clients) (same_scenario scenario lacks.scenario r.bytes r.read read) in
       absurd (omega (arith, over, counted, low))
 
   -- What was refused is none.
@@ -131,15 +104,12 @@ module _ (P : Type 0) where
 
 module _ {E : Type 0} (told : E → Told) (faults : E → ℕ) (calm : E → Type 0) (door : Passed) (before now : ℕ) (old new : Option (List ℕ)) where
   module _ (asked : Asked) (held : Option (List ℕ)) where
-    abbrev Faulty : ℕ → Type 0
-    Faulty n = (n ≡ 3) ⊎ (n ≡ 4) ⊎ (n ≡ 8)
-
     abbrev Lacking : ℕ → Type 0
     Lacking n = (n ≡ 4) ⊎ (n ≡ 8) ⊎ (n ≡ 10)
 
     leaves_is : (e : JoinEnding) → Ends told faults calm asked held door before now old new e → Leaves told faults calm asked held door before now old new (status_of e)
     leaves_is (endings.Plain plain.Done) h =
-        let r = h.tells in
+        let r = h.told in
         record {
           printed = λ s. h;
           part = λ s. absurd (omega arith);
@@ -151,7 +121,7 @@ module _ {E : Type 0} (told : E → Told) (faults : E → ℕ) (calm : E → Typ
           lacking = not_lacking (Lacking 0) asked.number held r.scenario r.read (slice_get_within r.scenario.clients asked.number r.play.play.plan r.play.play.plan_is);
         }
     leaves_is (endings.Plain plain.Out) h =
-        let r = h.tells in
+        let r = h.told in
         record {
           printed = λ s. absurd (omega arith);
           part = λ s. h;
@@ -207,7 +177,7 @@ module _ {E : Type 0} (told : E → Told) (faults : E → ℕ) (calm : E → Typ
           faulty = read_is held (Faulty 6) r.scenario r.read;
           lacking = not_lacking (Lacking 6) asked.number held r.scenario r.read r.within;
         }
-    leaves_is endings.Range h =
+    leaves_is (endings.Plain plain.Range) h =
         let r = h.0 in
         record {
           printed = λ s. absurd (omega arith);
@@ -258,7 +228,7 @@ module _ {E : Type 0} (told : E → Told) (faults : E → ℕ) (calm : E → Typ
     range_of (endings.Plain plain.Link) h = inr (inl (omega arith, omega arith))
     range_of (endings.Plain plain.Out) h = inr (inl (omega arith, omega arith))
     range_of (endings.Plain plain.Memory) h = inr (inr (inl refl))
-    range_of endings.Range h = inr (inr (inr (omega arith, omega arith)))
+    range_of (endings.Plain plain.Range) h = inr (inr (inr (omega arith, omega arith)))
     range_of (endings.Reply fault) h = inr (inr (inr (omega arith, omega arith)))
     range_of endings.Closed h = inr (inr (inr (omega arith, omega arith)))
 
@@ -272,7 +242,7 @@ module _ {E : Type 0} (told : E → Told) (faults : E → ℕ) (calm : E → Typ
     told_of t0 t1 n0 n1 named (endings.Plain plain.Link) h t = record { line = line_of (endings.Plain plain.Link) named; faulty = λ s. absurd (omega arith); reply = λ s. absurd (omega arith); plain_is = λ x y. refl; told_is = t }
     told_of t0 t1 n0 n1 named (endings.Plain plain.Out) h t = record { line = line_of (endings.Plain plain.Out) named; faulty = λ s. absurd (omega arith); reply = λ s. absurd (omega arith); plain_is = λ x y. refl; told_is = t }
     told_of t0 t1 n0 n1 named (endings.Plain plain.Memory) h t = record { line = line_of (endings.Plain plain.Memory) named; faulty = λ s. absurd (omega arith); reply = λ s. absurd (omega arith); plain_is = λ x y. refl; told_is = t }
-    told_of t0 t1 n0 n1 named endings.Range h t = record { line = line_of endings.Range named; faulty = λ s. absurd (omega arith); reply = λ s. absurd (omega arith); plain_is = λ x y. refl; told_is = t }
+    told_of t0 t1 n0 n1 named (endings.Plain plain.Range) h t = record { line = line_of (endings.Plain plain.Range) named; faulty = λ s. absurd (omega arith); reply = λ s. absurd (omega arith); plain_is = λ x y. refl; told_is = t }
     told_of t0 t1 n0 n1 named (endings.Reply fault) h t =
         record { line = line_of (endings.Reply fault) named; faulty = λ s. absurd (omega arith); reply = λ s. record { fault = fault; refused = h.0; line_is = refl }; plain_is = λ x y. absurd (y refl); told_is = t }
     told_of t0 t1 n0 n1 named endings.Closed h t = record { line = line_of endings.Closed named; faulty = λ s. absurd (omega arith); reply = λ s. absurd (omega arith); plain_is = λ x y. refl; told_is = t }
@@ -287,9 +257,9 @@ module _ {E : Type 0} (told : E → Told) (faults : E → ℕ) (calm : E → Typ
     complete_of b a (endings.Plain plain.File) h r can none = absurd (none.0 r.0)
     complete_of b a (endings.Plain plain.Start) h r can none = absurd h.0
     complete_of b a (endings.Plain plain.Link) h r can none = inr (inl refl)
-    complete_of b a (endings.Plain plain.Out) h r can none = absurd (none.2 r.0)
+    complete_of b a (endings.Plain plain.Out) h r can none = absurd (none.3 r.0)
     complete_of b a (endings.Plain plain.Memory) h r can none = inr (inr (inl refl))
-    complete_of b a endings.Range h r can none = inr (inr (inr (omega arith, omega arith)))
+    complete_of b a (endings.Plain plain.Range) h r can none = inr (inr (inr (omega arith, omega arith)))
     complete_of b a (endings.Reply fault) h r can none = inr (inr (inr (omega arith, omega arith)))
     complete_of b a endings.Closed h r can none = inr (inr (inr (omega arith, omega arith)))
 
@@ -307,8 +277,8 @@ module _ {E : Type 0} (told : E → Told) (faults : E → ℕ) (calm : E → Typ
         inr (inl (omega (arith, two), omega (arith, two)))
     range_is (Some x) e w h = range_of x (contents x.file) e h
 
-    pub told_is : (t0 t1 : Option (List ℕ)) (n0 n1 : ℕ) (a : Option Asked) (e : JoinEnding) → ((e ≡ endings.Plain plain.Words) ↔ (a ≡ None)) → AllEnds a e → IsTold t0 t1 n0 n1 (line_of e (file_of a))
-        → TellsStatus told faults calm a (held_of contents (file_of a)) (file_of a) door (status_of e) t0 t1 n0 n1
+    pub told_is : (t0 t1 : Option (List ℕ)) (n0 n1 : ℕ) (a : Option Asked) (e : JoinEnding) → ((e ≡ endings.Plain plain.Words) ↔ (a ≡ None)) → AllEnds a e → IsTold t0 t1 n0 n1 (line_of e (named_by a))
+        → TellsStatus told faults calm a (held_of contents (named_by a)) (named_by a) door (status_of e) t0 t1 n0 n1
     told_is t0 t1 n0 n1 None e w h t =
         let is = w.1 refl in
         let two : status_of e ≡ 2 = ap status_of is in
@@ -319,7 +289,7 @@ module _ {E : Type 0} (told : E → Told) (faults : E → ℕ) (calm : E → Typ
     nothing_is None e h alone z f = alone refl
     nothing_is (Some x) e h alone z f = (leaves_is x (contents x.file) e h).nothing z f
 
-    pub complete_is : (b c : Counts) (a : Option Asked) (e : JoinEnding) → AllEnds a e → Raises b c e → CanJoin a (held_of contents (file_of a)) → NoneRose b c
+    pub complete_is : (b c : Counts) (a : Option Asked) (e : JoinEnding) → AllEnds a e → Raises b c e → HoldsScenario (held_of contents (named_by a)) → NoneRose b c
         → (status_of e ≡ 0) ⊎ (status_of e ≡ 6) ⊎ (status_of e ≡ 8) ⊎ ((10 ≤ status_of e) × (status_of e ≤ 12))
     complete_is b c None e h r can none = absurd can
     complete_is b c (Some x) e h r can none = complete_of x (contents x.file) b c e h r can none

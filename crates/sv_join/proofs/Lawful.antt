@@ -46,7 +46,7 @@ use Rattle.law_traffic.proofs.Asking.{few_asked}
 use Rattle.law_traffic.proofs.Cuts.{front_none, empty_short, not_long}
 use Rattle.law_traffic.proofs.Messages.{AreGot, got_first}
 use Rattle.law_traffic.proofs.Sendable.{limits_of}
-use Rattle.law_traffic.proofs.Whole.{NeverRefused}
+use Rattle.sv_system.specs.Laws.{NeverRefused}
 use Rattle.sv_door.specs.Doors.{Passage}
 use Rattle.sv_join.specs.Legal.{numbered_from, IsLegalServer}
 

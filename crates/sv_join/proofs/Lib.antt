@@ -1,3 +1,4 @@
+-- The lemmas of a join.
 pub mod Places
 pub mod Unwrapping
 pub mod Lawful

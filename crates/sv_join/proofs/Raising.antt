@@ -1,10 +1,10 @@
 -- The counts of faults, by the ending of a join or of a part of one.
 use Rattle.std.proofs.Common.{◌≡◌, refl, ℕ, List, ap}
-use Rattle.std.specs.Prelude.{IsErrAnd, Option, Result, Ok, Err}
+use Rattle.std.specs.Prelude.{IsErrAnd, Option, Result, Err}
 use Rattle.sv_command.specs.declared.ending.Ending.{Ending}
 use Rattle.sv_command.specs.declared.ending.Ending.TheVariants as plain
 use Rattle.sv_command.specs.Statuses.{Counts, counts, IsScenarioRead, Raises as PlainRaises}
-use Rattle.sv_command.proofs.Counts.{same_counts}
+use Rattle.sv_command.proofs.Counts.{came, same_counts}
 use Rattle.sv_join.specs.declared.outcome.Joined.{Joined}
 use Rattle.sv_join.specs.declared.outcome.JoinFault.{JoinFault}
 use Rattle.sv_join.specs.declared.outcome.JoinFault.TheVariants as faults
@@ -15,16 +15,8 @@ use Rattle.sv_join.specs.Statuses.{Raises, ending_of, ending_of_fault}
 
 -- ---- Answers that come by a `?`
 
-module _ {T : Type 0} (r : Result T JoinEnding) (e : JoinEnding) (by : IsErrAnd r (λ x. x ≡ e)) where
-  came : r ≡ Err e
-  came = go r by
-    where
-      go : (q : Result T JoinEnding) → IsErrAnd q (λ x. x ≡ e) → q ≡ Err e
-      go (Ok t) i = absurd i
-      go (Err x) i = ap (λ (y : JoinEnding). Err y) i
-
-  pub raised_by : (before now : Counts) → Raises before now e → Raises before now (ending_of r)
-  raised_by before now h = rw came h
+pub raised_by : {T : Type 0} (r : Result T JoinEnding) (e : JoinEnding) → IsErrAnd r (λ x. x ≡ e) → (before now : Counts) → Raises before now e → Raises before now (ending_of r)
+raised_by r e by before now h = rw (came r e by) h
 
 -- ---- Each part
 
@@ -38,6 +30,7 @@ unread_raises held before now plain.Words read h = absurd read
 unread_raises held before now plain.Start read h = absurd read
 unread_raises held before now plain.Link read h = absurd read
 unread_raises held before now plain.Out read h = absurd read
+unread_raises held before now plain.Range read h = absurd read
 
 -- The client did not come to the end of its script.
 pub stopped_raises : (f0 f1 n0 n1 k : ℕ) (fault : JoinFault) → f1 ≡ f0 → DoorCause {A = Joined} n0 n1 (Err fault) → Raises (counts f0 0 n0 k) (counts f1 0 n1 k) (ending_of_fault fault)

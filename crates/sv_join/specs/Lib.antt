@@ -1,3 +1,4 @@
+-- The definitions of a client that joins another program's server.
 pub mod Legal
 pub mod Joining
 pub mod Words

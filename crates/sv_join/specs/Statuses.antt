@@ -1,14 +1,14 @@
 -- How a join ends, and what each status says.
-use Rattle.std.specs.Prelude.{◌≡◌, ◌≢◌, ◌↔◌, ◌⊎◌, ℕ, ◌<◌, ◌≤◌, ◌==◌, List, length, take, Option, Some, None, codes, if◌then◌else◌, Result, Ok, Err, String, string_bytes, IfSome}
-use Rattle.std.specs.declared.alloc.Global.{Global}
+use Rattle.std.specs.Prelude.{◌≡◌, ◌≢◌, ◌↔◌, ◌⊎◌, ℕ, ◌<◌, ◌≤◌, ◌==◌, List, length, take, Option, codes, if◌then◌else◌, Result, Ok, Err, string_bytes, IfSome}
 use Rattle.sv_bytes.specs.Faults.{Rose}
-use Rattle.sv_bytes.specs.Writing.{Grew, GrewByPart, Told as IsTold}
+use Rattle.sv_bytes.specs.Writing.{Told as IsTold}
 use Rattle.sv_link.specs.Ends.{Told}
 use Rattle.sv_scenario.specs.declared.scenario.Scenario.{Scenario}
 use Rattle.sv_scenario.specs.Scenarios.{scenario_of}
 use Rattle.sv_player.specs.declared.outcome.ReplyFault.{ReplyFault}
 use Rattle.sv_command.specs.declared.ending.Ending.TheVariants as plain
-use Rattle.sv_command.specs.Reading.{IsRead, IsRefused, HoldsScenario, IsNoScenario, read_limit}
+use Rattle.sv_command.specs.Endings.{IsPrinted, IsCutShort, Ends as PlainEnds}
+use Rattle.sv_command.specs.Reading.{IsRead, IsRefused, IsNoScenario, read_limit}
 use Rattle.sv_command.specs.Statuses.{Counts, status_of as plain_status, line_of as plain_line, status_line as plain_status_line}
 use Rattle.sv_join.specs.declared.outcome.Joined.{Joined}
 use Rattle.sv_join.specs.declared.outcome.JoinFault.{JoinFault}
@@ -24,7 +24,6 @@ use Rattle.sv_join.specs.Words.{Asked}
 
 abbrev pub status_of : JoinEnding → ℕ
 status_of (endings.Plain ending) = plain_status ending
-status_of endings.Range = 10
 status_of (endings.Reply fault) = 11
 status_of endings.Closed = 12
 
@@ -50,13 +49,10 @@ Raises before now (endings.Plain plain.Link) = now ≡ record before { net = now
 Raises before now _ = now ≡ before
 
 -- A status tells of the files and of the output exactly where their counts rose, and of a link always where the door's count rose.
-pub record TellsFaults (status : ℕ) (before now : Counts) : Type 0 where
+pub record TellsJoinFaults (status : ℕ) (before now : Counts) : Type 0 where
   pub file : (status ≡ 4) ↔ Rose before.files now.files
   pub out : (status ≡ 5) ↔ Rose before.out now.out
   pub link : Rose before.net now.net → status ≡ 6
-
-abbrev pub NoneRose : Counts → Counts → Type 0
-NoneRose before now = (¬ Rose before.files now.files) × (¬ Rose before.net now.net) × (¬ Rose before.out now.out)
 
 -- ---- What was read
 
@@ -108,38 +104,20 @@ module _ {E : Type 0} (told : E → Told) (faults : E → ℕ) (calm : E → Typ
   EndsEarly asked held door before now (endings.Plain plain.File) = Unit {0}
   EndsEarly asked held door before now (endings.Plain plain.Link) = IsLost asked held door before now
   EndsEarly asked held door before now (endings.Plain plain.Memory) = Unit {0}
-  EndsEarly asked held door before now endings.Range = IsOutside held asked.number
+  EndsEarly asked held door before now (endings.Plain plain.Range) = IsOutside held asked.number
   EndsEarly asked held door before now (endings.Reply fault) = IsReplyRefused asked held door fault
   EndsEarly asked held door before now endings.Closed = IsShutOut asked held door
   EndsEarly asked held door before now _ = ⊥
 
-  -- the text that tells the play, or why there is none
-  abbrev pub IsMade : Asked → Option (List ℕ) → Passed → (before now : ℕ) → Result (String Global) JoinEnding → Type 0
-  IsMade asked held door before now (Ok text) = IsText asked held door (string_bytes text)
-  IsMade asked held door before now (Err ending) = EndsEarly asked held door before now ending
-
-  -- The output grew by just the text.
-  pub record IsPrinted (asked : Asked) (held : Option (List ℕ)) (door : Passed) (old new : Option (List ℕ)) : Type 0 where
-    pub text : List ℕ
-    pub tells : IsText asked held door text
-    pub grew : Grew old new text
-
-  -- The output grew by a front part of the text.
-  pub record IsCutShort (asked : Asked) (held : Option (List ℕ)) (door : Passed) (old new : Option (List ℕ)) : Type 0 where
-    pub text : List ℕ
-    pub tells : IsText asked held door text
-    pub part : GrewByPart old new text
-
   -- what is left of a join, by its ending
   abbrev pub Ends : Asked → Option (List ℕ) → Passed → (before now : ℕ) → (old new : Option (List ℕ)) → JoinEnding → Type 0
-  Ends asked held door before now old new (endings.Plain plain.Done) = IsPrinted asked held door old new
-  Ends asked held door before now old new (endings.Plain plain.Out) = IsCutShort asked held door old new
+  Ends asked held door before now old new (endings.Plain ending) = PlainEnds (IsText asked held door) (λ e. EndsEarly asked held door before now (endings.Plain e)) old new ending
   Ends asked held door before now old new ending = EndsEarly asked held door before now ending × (new ≡ old)
 
   -- What each status says of a join that is asked for.
   pub record Leaves (asked : Asked) (held : Option (List ℕ)) (door : Passed) (before now : ℕ) (old new : Option (List ℕ)) (status : ℕ) : Type 0 where
-    pub printed : status ≡ 0 → IsPrinted asked held door old new
-    pub part : status ≡ 5 → IsCutShort asked held door old new
+    pub printed : status ≡ 0 → IsPrinted (IsText asked held door) old new
+    pub part : status ≡ 5 → IsCutShort (IsText asked held door) old new
     pub nothing : status ≢ 0 → status ≢ 5 → new ≡ old
     pub outside : status ≡ 10 → IsOutside held asked.number
     pub lost : status ≡ 6 → IsLost asked held door before now
@@ -156,13 +134,12 @@ words_line = codes "words: join FILE K PORT\n"
 -- The line that tells of an ending.
 abbrev pub line_of : JoinEnding → Option (List ℕ) → List ℕ
 line_of (endings.Plain ending) named = plain_line words_line ending named
-line_of endings.Range named = codes "range\n"
 line_of (endings.Reply fault) named = reply_line fault
 line_of endings.Closed named = codes "closed\n"
 
 -- The line of a status other than 3 and 11.
 abbrev pub status_line : ℕ → Option (List ℕ) → List ℕ
-status_line status named = if status == 10 then codes "range\n" else (if status == 12 then codes "closed\n" else plain_status_line words_line status named)
+status_line status named = if status == 12 then codes "closed\n" else plain_status_line words_line status named
 
 module _ {E : Type 0} (told : E → Told) (faults : E → ℕ) (calm : E → Type 0) where
   -- The reply that was refused, and the line that tells why.
@@ -178,10 +155,3 @@ module _ {E : Type 0} (told : E → Told) (faults : E → ℕ) (calm : E → Typ
     pub reply : status ≡ 11 → IfSome asked (λ a. TellsReply a held door line)
     pub plain_is : status ≢ 3 → status ≢ 11 → line ≡ status_line status named
     pub told_is : IsTold old new before after line
-
--- ---- What can be joined
-
--- What is asked for can be played: the file is told to hold a scenario.
-abbrev pub CanJoin : Option Asked → Option (List ℕ) → Type 0
-CanJoin None held = ⊥
-CanJoin (Some asked) held = HoldsScenario held

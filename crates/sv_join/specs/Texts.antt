@@ -1,13 +1,11 @@
 -- What is printed of a client's play.
-use Rattle.std.specs.Prelude.{ℕ, List, [], ◌∷◌, ◌++◌, reverse, codes}
+use Rattle.std.specs.Prelude.{ℕ, List, ◌++◌, reverse, codes}
 use Rattle.std.specs.Fmt.{decimal}
 use Rattle.std.specs.List.{flat_map}
 use Rattle.sv_client.specs.declared.trace.Trace.{Trace}
 use Rattle.sv_client.specs.Traces.{makes}
 use Rattle.sv_script.specs.Telling.{told_lines}
-
-abbrev pub ended_line : List ℕ → List ℕ
-ended_line line = line ++ 10 ∷ []
+use Rattle.sv_command.specs.Lines.{ended_line}
 
 -- How many actions the client made.
 abbrev pub made_by : Trace → ℕ

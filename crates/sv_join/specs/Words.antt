@@ -23,6 +23,6 @@ join_of (word ∷ file ∷ number ∷ port ∷ []) =
     if bytes_eq word (codes "join") then asked_if file (number_between 0 65535 number) (number_between 1 65535 port) else None
 join_of _ = None
 
--- the file that is named
-abbrev pub file_of : Option Asked → Option (List ℕ)
-file_of asked = option_map (λ (a : Asked). a.file) asked
+-- The file that is named.
+abbrev pub named_by : Option Asked → Option (List ℕ)
+named_by asked = option_map (λ (a : Asked). a.file) asked

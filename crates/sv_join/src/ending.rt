@@ -1,17 +1,15 @@
 //! How a join ends.
-ghost use Rattle.std.specs.Prelude.{◌≡◌, ◌++◌, codes};
-ghost use Rattle.std.specs.Fmt.{decimal};
+ghost use Rattle.std.specs.Prelude.{◌≡◌};
 ghost use Rattle.std.specs.Option.{option_copied};
 ghost use Rattle.sv_bytes.specs.Writing.{Told};
 ghost use Rattle.sv_join.specs.Faults.{cause_number, reply_line, take_line};
 ghost use Rattle.sv_join.specs.Statuses.{line_of, status_of};
 
 use crate::outcome::JoinFault;
-use itoa::Buffer;
 use std::alloc::AllocError;
-use sv_bytes::{Sink, write_all, write_pieces};
+use sv_bytes::Sink;
 use sv_client::TakeFault;
-use sv_command::Ending;
+use sv_command::{Ending, tell_line, tell_number, tell_numbers};
 use sv_player::ReplyFault;
 use sv_wire::WireCause;
 
@@ -20,9 +18,6 @@ use sv_wire::WireCause;
 pub(crate) enum JoinEnding {
     /// As any call of the program may.
     Plain(Ending),
-
-    /// The scenario has no client of the number.
-    Range,
 
     /// The server gave a reply that the client does not take.
     Reply(ReplyFault),
@@ -87,54 +82,18 @@ fn cause_number(cause: WireCause) -> u8
     }
 }
 
-/// Writes a line that ends with two numbers.
-fn tell_two<E: Sink>(words: &[u8], first: u32, second: u32, err: &mut E)
-    ensures { Told (E.taken err.old) (E.taken err.new) (E.faults err.old) (E.faults err.new) (words.now ++ decimal first ++ codes " " ++ decimal second ++ codes "\n") }
-{
-    let mut one = Buffer::new();
-    let mut other = Buffer::new();
-    write_pieces(
-        err,
-        &[
-            words,
-            one.format(first).as_bytes(),
-            b" ",
-            other.format(second).as_bytes(),
-            b"\n",
-        ],
-    );
-}
-
-/// Writes a line that ends with a number.
-fn tell_one<E: Sink>(words: &[u8], number: u32, err: &mut E)
-    ensures { Told (E.taken err.old) (E.taken err.new) (E.faults err.old) (E.faults err.new) (words.now ++ decimal number ++ codes "\n") }
-{
-    let mut buffer = Buffer::new();
-    write_pieces(err, &[words, buffer.format(number).as_bytes(), b"\n"]);
-}
-
 fn tell_take<E: Sink>(fault: TakeFault, err: &mut E)
     ensures { Told (E.taken err.old) (E.taken err.new) (E.faults err.old) (E.faults err.new) (take_line fault) }
 {
     match fault {
-        TakeFault::Unasked => {
-            write_all(err, b"reply: unasked\n");
-        }
-        TakeFault::WrongKind => {
-            write_all(err, b"reply: wrongkind\n");
-        }
-        TakeFault::BadOrder => {
-            write_all(err, b"reply: badorder\n");
-        }
-        TakeFault::BadItem => {
-            write_all(err, b"reply: baditem\n");
-        }
+        TakeFault::Unasked => tell_line(b"reply: unasked\n", err),
+        TakeFault::WrongKind => tell_line(b"reply: wrongkind\n", err),
+        TakeFault::BadOrder => tell_line(b"reply: badorder\n", err),
+        TakeFault::BadItem => tell_line(b"reply: baditem\n", err),
         TakeFault::Missing { pos, object } => {
-            tell_two(b"reply: missing ", pos, object.0 as u32, err);
+            tell_numbers(b"reply: missing ", pos, object.0 as u32, err)
         }
-        TakeFault::Memory => {
-            write_all(err, b"memory\n");
-        }
+        TakeFault::Memory => tell_line(b"memory\n", err),
     }
 }
 
@@ -143,13 +102,13 @@ fn tell_reply<E: Sink>(fault: ReplyFault, err: &mut E)
 {
     match fault {
         ReplyFault::Take(fault) => tell_take(fault, err),
-        ReplyFault::Wire(fault) => tell_two(
+        ReplyFault::Wire(fault) => tell_numbers(
             b"reply: malformed ",
             fault.at,
             cause_number(fault.cause) as u32,
             err,
         ),
-        ReplyFault::TooLong(size) => tell_one(b"reply: toolong ", size, err),
+        ReplyFault::TooLong(size) => tell_number(b"reply: toolong ", size, err),
     }
 }
 
@@ -161,13 +120,8 @@ pub(crate) fn tell<E: Sink>(ending: &JoinEnding, named: Option<&str>, err: &mut 
         JoinEnding::Plain(ending) => {
             sv_command::tell(ending, b"words: join FILE K PORT\n", named, err)
         }
-        JoinEnding::Range => {
-            write_all(err, b"range\n");
-        }
         JoinEnding::Reply(fault) => tell_reply(*fault, err),
-        JoinEnding::Closed => {
-            write_all(err, b"closed\n");
-        }
+        JoinEnding::Closed => tell_line(b"closed\n", err),
     }
 }
 
@@ -177,7 +131,6 @@ pub(crate) fn status_of(ending: &JoinEnding) -> u8
 {
     match ending {
         JoinEnding::Plain(ending) => sv_command::status_of(ending),
-        JoinEnding::Range => 10,
         JoinEnding::Reply(_) => 11,
         JoinEnding::Closed => 12,
     }

@@ -2,6 +2,7 @@
 ghost use Rattle.std.specs.Prelude.{◌≡◌, ◌≢◌, ℕ, ◌+◌, ◌<◌, ◌≤◌, ◌++◌, [], length, slice_get, Some, None, Err, IfOk, OnOk};
 ghost use Rattle.std.specs.List.{AllByRecursion};
 ghost use Rattle.std.specs.Vec.{vec_capacity};
+ghost use Rattle.sv_world.specs.Limits.{most_clients};
 ghost use Rattle.sv_watch.specs.Told.{change_line};
 ghost use Rattle.sv_client.specs.Seen.{new_client};
 ghost use Rattle.sv_scenario.specs.Limits.{IsGoodPlan, IsGoodScenario};
@@ -19,6 +20,14 @@ use sv_scenario::{Plan, Scenario, sessions_of_plan};
 use sv_system::honest_clients_are_never_refused;
 use sv_watch::{Change, Line, Watch, told_line};
 use sv_world::{ClientId, Shape, copy_objects};
+
+/// The client of a scenario that is played, and the port of its server.
+#[derive(Drop)]
+pub(crate) struct Seat<'a> {
+    pub(crate) scenario: &'a Scenario,
+    pub(crate) number: u16,
+    pub(crate) port: u16,
+}
 
 /// Makes the ends of a client's sessions, in their order, until one can't be made.
 fn connect_all<D: Door>(
@@ -62,7 +71,7 @@ fn give_all_back<D: Door>(ends: Vec<Steady<D::E>>, door: &mut D)
 
 /// A client that did nothing yet.
 fn open_client(alloc: Global, shape: Shape, number: u16, plan: &Plan) -> Result<Client, AllocError>
-    requires number { number < 32 }
+    requires number { number < most_clients }
     requires plan { IsGoodPlan shape plan.now }
     ensures { IfOk result (λ client. client ≡ new_client (record { 0 = number }) shape plan.now.interest) }
 {
@@ -86,29 +95,29 @@ fn answer(cause: PlayerCause, trace: Trace, lines: Vec<Line>) -> Result<Joined, 
 /// Plays a client's script over new ends, and gives them back.
 fn play_over<D: Door>(
     alloc: Global,
-    scenario: &Scenario,
-    number: u16,
+    seat: &Seat<'_>,
     client: Client,
     watch: &Watch,
-    port: u16,
     door: &mut D,
 ) -> Result<Joined, JoinFault>
-    requires good { IsGoodScenario scenario.now }
-    requires number { number < length scenario.now.clients }
-    requires client { IsClientOf scenario.now number client }
-    requires watch { watch.now.shape ≡ scenario.now.world.shape }
-    ensures left { IsLeft D.E.told D.E.faults D.E.calm scenario.now number (passed (D.made door.old) (D.given door.old) (D.given door.new)) (D.faults door.old) (D.faults door.new) result }
+    requires good { IsGoodScenario seat.now.scenario.now }
+    requires number { seat.now.number < length seat.now.scenario.now.clients }
+    requires client { IsClientOf seat.now.scenario.now seat.now.number client }
+    requires watch { watch.now.shape ≡ seat.now.scenario.now.world.shape }
+    ensures left { IsLeft D.E.told D.E.faults D.E.calm seat.now.scenario.now seat.now.number (passed (D.made door.old) (D.given door.old) (D.given door.new)) (D.faults door.old) (D.faults door.new) result }
     ensures owed { D.owed door.new ≡ D.owed door.old }
     ensures cause { DoorCause (D.faults door.old) (D.faults door.new) result }
-    ensures sure { D.sure door.old port → result ≢ Err JoinFault.Link }
+    ensures sure { D.sure door.old seat.now.port → result ≢ Err JoinFault.Link }
 {
+    let scenario = seat.scenario;
+    let number = seat.number;
     read_scenario_numbers(scenario);
     honest_clients_are_never_refused();
     replies_are_messages();
     let plan = &scenario.clients.as_slice()[number as usize];
     let count = sessions_of_plan(plan);
     let mut ends = Vec::with_capacity(alloc, count)?;
-    if let Err(fault) = connect_all(count, port, door, &mut ends) {
+    if let Err(fault) = connect_all(count, seat.port, door, &mut ends) {
         give_all_back(ends, door);
         return Err(fault);
     }
@@ -127,18 +136,18 @@ fn play_over<D: Door>(
 /// All ends are given back before it answers.
 pub(crate) fn join_as<D: Door>(
     alloc: Global,
-    scenario: &Scenario,
-    number: u16,
-    port: u16,
+    seat: &Seat<'_>,
     door: &mut D,
 ) -> Result<Joined, JoinFault>
-    requires good { IsGoodScenario scenario.now }
-    requires number { number < length scenario.now.clients }
-    ensures left { IsLeft D.E.told D.E.faults D.E.calm scenario.now number (passed (D.made door.old) (D.given door.old) (D.given door.new)) (D.faults door.old) (D.faults door.new) result }
+    requires good { IsGoodScenario seat.now.scenario.now }
+    requires number { seat.now.number < length seat.now.scenario.now.clients }
+    ensures left { IsLeft D.E.told D.E.faults D.E.calm seat.now.scenario.now seat.now.number (passed (D.made door.old) (D.given door.old) (D.given door.new)) (D.faults door.old) (D.faults door.new) result }
     ensures owed { D.owed door.new ≡ D.owed door.old }
     ensures cause { DoorCause (D.faults door.old) (D.faults door.new) result }
-    ensures sure { D.sure door.old port → result ≢ Err JoinFault.Link }
+    ensures sure { D.sure door.old seat.now.port → result ≢ Err JoinFault.Link }
 {
+    let scenario = seat.scenario;
+    let number = seat.number;
     let shape = scenario.world.shape;
     let plan = &scenario.clients.as_slice()[number as usize];
     let client = open_client(alloc, shape, number, plan)?;
@@ -149,5 +158,5 @@ pub(crate) fn join_as<D: Door>(
         { told_line(alloc, change) },
     )?;
     let watch = Watch::new(shape, callback);
-    play_over(alloc, scenario, number, client, &watch, port, door)
+    play_over(alloc, seat, client, &watch, door)
 }

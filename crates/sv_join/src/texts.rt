@@ -1,14 +1,13 @@
 //! The text that tells a client's play.
-ghost use Rattle.std.specs.Prelude.{◌≡◌, ◌++◌, string_bytes, IfOk, OnOk};
-ghost use Rattle.std.specs.List.{flat_map};
+ghost use Rattle.std.specs.Prelude.{◌≡◌, string_bytes, IfOk};
 ghost use Rattle.sv_client.specs.Traces.{is_make};
 ghost use Rattle.sv_script.specs.Telling.{told_lines};
-ghost use Rattle.sv_join.specs.Texts.{ended_line, join_text, made_by};
+ghost use Rattle.sv_join.specs.Texts.{join_text, made_by};
 
 use crate::outcome::Joined;
 use std::alloc::{AllocError, Global};
 use sv_client::{Event, Trace};
-use sv_watch::Line;
+use sv_command::append_lines;
 
 fn is_make(event: &Event) -> bool
     ensures { result ≡ is_make event.now }
@@ -27,17 +26,6 @@ fn made_by(trace: &Trace) -> usize
         }
     }
     count
-}
-
-/// Appends lines, each with its end.
-fn append_lines(lines: &[Line], text: &mut String) -> Result<(), AllocError>
-    ensures { OnOk result (string_bytes text.new ≡ string_bytes text.old ++ flat_map ended_line lines.now) }
-{
-    for line in lines {
-        text.push_str(line.as_str())?;
-        text.push_str("\n")?;
-    }
-    Ok(())
 }
 
 /// A line for each change of the client's views, and then how many actions it made.

@@ -1,15 +1,16 @@
 //! The top call of a client that joins another program's server.
 ghost use Rattle.std.specs.Prelude.{◌≡◌, ◌≢◌, ◌↔◌, ◌⊎◌, ◌≤◌, ℕ, map, option_map, string_bytes, None, Err, IfSome};
-ghost use Rattle.sv_command.specs.Reading.{held_of};
-ghost use Rattle.sv_command.specs.Statuses.{counts};
+ghost use Rattle.sv_command.specs.Endings.{IsMade};
+ghost use Rattle.sv_command.specs.Reading.{held_of, HoldsScenario};
+ghost use Rattle.sv_command.specs.Statuses.{counts, NoneRose};
 ghost use Rattle.sv_join.specs.Joining.{passed};
-ghost use Rattle.sv_join.specs.Statuses.{CanJoin, Ends, IsMade, Leaves, NoneRose, Raises, TellsFaults, TellsStatus, ending_of};
-ghost use Rattle.sv_join.specs.Words.{asked_by, file_of, join_of};
+ghost use Rattle.sv_join.specs.Statuses.{Ends, EndsEarly, IsText, Leaves, Raises, TellsJoinFaults, TellsStatus, ending_of};
+ghost use Rattle.sv_join.specs.Words.{asked_by, named_by, join_of};
 ghost use Rattle.sv_command.specs.declared.ending.Ending.TheVariants as plain;
 ghost use Rattle.sv_join.specs.declared.ending.JoinEnding.TheVariants as endings;
 
 use crate::ending::{JoinEnding, status_of, tell};
-use crate::joining::join_as;
+use crate::joining::{Seat, join_as};
 use crate::texts::join_text;
 use crate::words::{Join, file_of, join_of};
 use std::alloc::Global;
@@ -24,8 +25,9 @@ fn text_for<F: Files, D: Door>(
     files: &mut F,
     door: &mut D,
 ) -> Result<String, JoinEnding>
-    ensures made { IsMade D.E.told D.E.faults D.E.calm (asked_by join.entry) (F.contents files.old join.entry.file.now)
-        (passed (D.made door.old) (D.given door.old) (D.given door.new)) (D.faults door.old) (D.faults door.new) result }
+    ensures made { IsMade (IsText D.E.told D.E.faults D.E.calm (asked_by join.entry) (F.contents files.old join.entry.file.now) (passed (D.made door.old) (D.given door.old) (D.given door.new)))
+        (EndsEarly D.E.told D.E.faults D.E.calm (asked_by join.entry) (F.contents files.old join.entry.file.now)
+        (passed (D.made door.old) (D.given door.old) (D.given door.new)) (D.faults door.old) (D.faults door.new)) result }
     ensures raises { (k : ℕ) → Raises (counts (F.faults files.old) 0 (D.faults door.old) k) (counts (F.faults files.new) 0 (D.faults door.new) k) (ending_of result) }
     ensures sure_file { F.sure files.old join.entry.file.now → result ≢ Err (endings.Plain plain.File) }
     ensures sure_door { D.sure door.old join.entry.port → result ≢ Err (endings.Plain plain.Link) }
@@ -33,9 +35,14 @@ fn text_for<F: Files, D: Door>(
 {
     let scenario = scenario_in(alloc, join.file, files)?;
     if join.number as usize >= scenario.clients.len() {
-        return Err(JoinEnding::Range);
+        return Err(JoinEnding::Plain(Ending::Range));
     }
-    let joined = join_as(alloc, &scenario, join.number, join.port, door)?;
+    let seat = Seat {
+        scenario: &scenario,
+        number: join.number,
+        port: join.port,
+    };
+    let joined = join_as(alloc, &seat, door)?;
     Ok(join_text(alloc, &joined)?)
 }
 
@@ -86,7 +93,7 @@ pub fn run_join<F: Files, D: Door, K: Sink, E: Sink>(
 ) -> u8
     ensures range { (result ≡ 0) ⊎ ((2 ≤ result) × (result ≤ 6)) ⊎ (result ≡ 8) ⊎ ((10 ≤ result) × (result ≤ 12)) }
     ensures words { (result ≡ 2) ↔ (join_of (map string_bytes words.now) ≡ None) }
-    ensures faults { TellsFaults result (counts (F.faults files.old) 0 (D.faults door.old) (K.faults out.old))
+    ensures faults { TellsJoinFaults result (counts (F.faults files.old) 0 (D.faults door.old) (K.faults out.old))
         (counts (F.faults files.new) 0 (D.faults door.new) (K.faults out.new)) }
     ensures sure_file { IfSome (join_of (map string_bytes words.now)) (λ a. F.sure files.old a.file → result ≢ 4) }
     ensures sure_door { IfSome (join_of (map string_bytes words.now)) (λ a. D.sure door.old a.port → result ≢ 6) }
@@ -97,9 +104,9 @@ pub fn run_join<F: Files, D: Door, K: Sink, E: Sink>(
     // All ends that were made were given back.
     ensures owed { D.owed door.new ≡ D.owed door.old }
     ensures told { TellsStatus D.E.told D.E.faults D.E.calm (join_of (map string_bytes words.now))
-        (held_of (F.contents files.old) (file_of (join_of (map string_bytes words.now)))) (file_of (join_of (map string_bytes words.now)))
+        (held_of (F.contents files.old) (named_by (join_of (map string_bytes words.now)))) (named_by (join_of (map string_bytes words.now)))
         (passed (D.made door.old) (D.given door.old) (D.given door.new)) result (E.taken err.old) (E.taken err.new) (E.faults err.old) (E.faults err.new) }
-    ensures complete { CanJoin (join_of (map string_bytes words.now)) (held_of (F.contents files.old) (file_of (join_of (map string_bytes words.now))))
+    ensures complete { HoldsScenario (held_of (F.contents files.old) (named_by (join_of (map string_bytes words.now))))
         → NoneRose (counts (F.faults files.old) 0 (D.faults door.old) (K.faults out.old)) (counts (F.faults files.new) 0 (D.faults door.new) (K.faults out.new))
         → (result ≡ 0) ⊎ (result ≡ 6) ⊎ (result ≡ 8) ⊎ ((10 ≤ result) × (result ≤ 12)) }
 {

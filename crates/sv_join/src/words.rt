@@ -1,7 +1,7 @@
 //! What the words of a join ask for.
 ghost use Rattle.std.specs.Prelude.{◌≡◌, map, string_bytes, option_map};
 ghost use Rattle.std.specs.Option.{option_copied};
-ghost use Rattle.sv_join.specs.Words.{asked_by, asked_if, file_of, join_of};
+ghost use Rattle.sv_join.specs.Words.{asked_by, asked_if, named_by, join_of};
 ghost use Rattle.sv_command.specs.Numbers.{number_between};
 
 use sv_command::number_in;
@@ -40,7 +40,7 @@ pub(crate) fn join_of(words: &[String]) -> Option<Join<'_>>
 
 /// The file that is named.
 pub(crate) fn file_of<'a>(join: Option<Join<'a>>) -> Option<&'a str>
-    ensures { option_copied result ≡ file_of (option_map asked_by join.entry) }
+    ensures { option_copied result ≡ named_by (option_map asked_by join.entry) }
 {
     Some(join?.file)
 }

@@ -1,7 +1,6 @@
 //! What a net or a door keeps: how many it made, and what came of them.
 ghost use Rattle.std.specs.Prelude.{◌≡◌, suc, ◌+◌, ◌<◌, ◌≤◌, ◌∷◌, ◌++◌, [], IsTrue};
 ghost use Rattle.std.specs.Vec.{vec_len, vec_capacity};
-ghost use Rattle.sv_link.specs.Books.{IsNewBook, CanOpen};
 
 use std::alloc::Global;
 use sv_bytes::FaultCount;
@@ -17,6 +16,8 @@ pub struct Book<T: Drop> {
 }
 
 impl<T: Drop> Book<T> {
+    ghost use Rattle.sv_link.specs.Books.{IsNewBook, CanOpen};
+
     /// Nothing was made.
     pub fn new(alloc: Global) -> Book<T>
         ensures { IsNewBook result }

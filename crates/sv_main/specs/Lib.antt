@@ -1,2 +1,3 @@
+-- The definitions of the program's words.
 pub mod Choice
 pub mod Notices

@@ -19,7 +19,8 @@ use std::thread::Threads;
 use std::{env, io};
 use sv_app::run;
 use sv_audit::run_check;
-use sv_bytes::{Files, OsFiles, OsSink, Sink, write_all};
+use sv_bytes::{Files, OsFiles, OsSink, Sink};
+use sv_command::{Ending, status_of, tell};
 use sv_door::TcpDoor;
 use sv_join::run_join;
 use sv_link::{OpenGate, TcpNet, ThreadCrew};
@@ -27,8 +28,12 @@ use sv_serve::run_serve;
 use sv_snapshot::run_looks;
 use sv_witness::run_witness;
 
-/// The status where memory ran out.
-const MEMORY: u8 = 8;
+/// A call of the program: the words that it is given, and the memory that it works in.
+#[derive(Drop)]
+struct Call<'a> {
+    alloc: Global,
+    words: &'a [String],
+}
 
 fn words(rt: &HostRuntime) -> io::Result<Vec<String>> {
     let mut words = Vec::new(rt.alloc());
@@ -41,8 +46,7 @@ fn words(rt: &HostRuntime) -> io::Result<Vec<String>> {
 /// The status of `run`, over connections on this machine and a thread for each job.
 fn run_here<R, F: Files, K: Sink, E: Sink>(
     rt: &R,
-    alloc: Global,
-    words: &[String],
+    call: &Call<'_>,
     files: &mut F,
     out: &mut K,
     err: &mut E,
@@ -50,18 +54,17 @@ fn run_here<R, F: Files, K: Sink, E: Sink>(
 where
     R: Threads + Wait + Sync + Sockets<Listener = TcpListener, Stream = TcpStream>,
 {
-    let mut net = TcpNet::new(alloc, rt);
-    let mut crew = ThreadCrew::new(alloc);
+    let mut net = TcpNet::new(call.alloc, rt);
+    let mut crew = ThreadCrew::new(call.alloc);
     run(
-        rt, alloc, words, files, &mut net, &mut crew, &OpenGate, out, err,
+        rt, call.alloc, call.words, files, &mut net, &mut crew, &OpenGate, out, err,
     )
 }
 
 /// The status of `serve`, to whoever connects on this machine, and with a thread for each session.
 fn serve_here<R, F: Files, K: Sink, E: Sink>(
     rt: &R,
-    alloc: Global,
-    words: &[String],
+    call: &Call<'_>,
     files: &mut F,
     out: &mut K,
     err: &mut E,
@@ -69,18 +72,17 @@ fn serve_here<R, F: Files, K: Sink, E: Sink>(
 where
     R: Threads + Wait + Sync + Clock + Sockets<Listener = TcpListener, Stream = TcpStream>,
 {
-    let mut door = TcpDoor::new(alloc, rt);
-    let mut crew = ThreadCrew::new(alloc);
+    let mut door = TcpDoor::new(call.alloc, rt);
+    let mut crew = ThreadCrew::new(call.alloc);
     run_serve(
-        rt, alloc, words, files, &mut door, &mut crew, &OpenGate, out, err,
+        rt, call.alloc, call.words, files, &mut door, &mut crew, &OpenGate, out, err,
     )
 }
 
 /// The status of `join`, at a server on this machine.
 fn join_here<R, F: Files, K: Sink, E: Sink>(
     rt: &R,
-    alloc: Global,
-    words: &[String],
+    call: &Call<'_>,
     files: &mut F,
     out: &mut K,
     err: &mut E,
@@ -88,15 +90,14 @@ fn join_here<R, F: Files, K: Sink, E: Sink>(
 where
     R: Clock + Sockets<Listener = TcpListener, Stream = TcpStream>,
 {
-    let mut door = TcpDoor::new(alloc, rt);
-    run_join(alloc, words, files, &mut door, out, err)
+    let mut door = TcpDoor::new(call.alloc, rt);
+    run_join(call.alloc, call.words, files, &mut door, out, err)
 }
 
 /// The status of the call that the words are for.
 fn answer<R, F: Files, K: Sink, E: Sink>(
     rt: &R,
-    alloc: Global,
-    words: &[String],
+    call: &Call<'_>,
     files: &mut F,
     out: &mut K,
     err: &mut E,
@@ -104,13 +105,13 @@ fn answer<R, F: Files, K: Sink, E: Sink>(
 where
     R: Threads + Wait + Sync + Clock + Sockets<Listener = TcpListener, Stream = TcpStream>,
 {
-    match command(words) {
-        Command::Run => run_here(rt, alloc, words, files, out, err),
-        Command::Looks => run_looks(alloc, words, files, out, err),
-        Command::Witness => run_witness(alloc, words, files, out, err),
-        Command::Serve => serve_here(rt, alloc, words, files, out, err),
-        Command::Join => join_here(rt, alloc, words, files, out, err),
-        Command::Check => run_check(alloc, words, files, out, err),
+    match command(call.words) {
+        Command::Run => run_here(rt, call, files, out, err),
+        Command::Looks => run_looks(call.alloc, call.words, files, out, err),
+        Command::Witness => run_witness(call.alloc, call.words, files, out, err),
+        Command::Serve => serve_here(rt, call, files, out, err),
+        Command::Join => join_here(rt, call, files, out, err),
+        Command::Check => run_check(call.alloc, call.words, files, out, err),
     }
 }
 
@@ -121,8 +122,8 @@ fn main(rt: HostRuntime) -> ExitCode {
     let words = match words(&rt) {
         Ok(words) => words,
         Err(error) if error.kind() == io::ErrorKind::OutOfMemory => {
-            let _ = write_all(&mut err, b"memory\n");
-            return ExitCode::from(MEMORY);
+            tell(&Ending::Memory, b"", None, &mut err);
+            return ExitCode::from(status_of(&Ending::Memory));
         }
         // A word that is no text is none that the program knows.
         Err(_) => Vec::new(rt.alloc()),
@@ -130,5 +131,9 @@ fn main(rt: HostRuntime) -> ExitCode {
     if let Some(notice) = notice(&words) {
         return ExitCode::from(print_text(text_of(notice), &mut out, &mut err));
     }
-    ExitCode::from(answer(&rt, rt.alloc(), &words, &mut files, &mut out, &mut err))
+    let call = Call {
+        alloc: rt.alloc(),
+        words: &words,
+    };
+    ExitCode::from(answer(&rt, &call, &mut files, &mut out, &mut err))
 }

@@ -6,6 +6,7 @@ ghost use Rattle.sv_main.specs.Notices.{notice_for, notice_of};
 
 use crate::help::{HELP, Notice, VERSION};
 use sv_bytes::{Sink, write_all};
+use sv_command::{Ending, status_of, tell};
 
 fn notice_for(word: &str) -> Option<Notice>
     ensures { result ≡ notice_for word.now }
@@ -46,6 +47,6 @@ pub fn print_text<K: Sink, E: Sink>(text: &str, out: &mut K, err: &mut E) -> u8
     if write_all(out, text.as_bytes()) {
         return 0;
     }
-    let _ = write_all(err, b"out\n");
-    5
+    tell(&Ending::Out, b"", None, err);
+    status_of(&Ending::Out)
 }

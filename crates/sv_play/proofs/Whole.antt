@@ -27,7 +27,7 @@ use Rattle.sv_player.specs.declared.outcome.PlayerOut.{PlayerOut}
 use Rattle.sv_player.specs.declared.outcome.PlayerCause.{PlayerCause}
 use Rattle.sv_player.specs.declared.outcome.PlayerCause.TheVariants as causes
 use Rattle.sv_asked.proofs.Every.{each-at}
-use Rattle.law_traffic.specs.Sessions.{Over, transcript, IsServed, IsSessionDone}
+use Rattle.law_traffic.specs.Sessions.{Over, transcript, IsSessionServed, IsSessionDone}
 use Rattle.law_traffic.specs.Stuck.{IsStopped}
 use Rattle.law_traffic.specs.Runs.{EachSession, IsRun, EndOrAreStopped}
 use Rattle.sv_play.specs.declared.tasks.Serviced.{Serviced}
@@ -111,7 +111,7 @@ module _ {E : Type 0} (told : E → Told) (faults : E → ℕ) (calm : E → Typ
     memory_not session_outs.Spent none same = cc
     memory_not session_outs.LinkFault none same = cc
 
-    is_served : (s : ℕ) (y : Serviced E) (z : ClientEnd E) → slice_get ys s ≡ Some y → IsServed J s (over_of told faults y z)
+    is_served : (s : ℕ) (y : Serviced E) (z : ClientEnd E) → slice_get ys s ≡ Some y → IsSessionServed J s (over_of told faults y z)
     is_served s y z e =
         let h = served s y e in
         record {

@@ -1,6 +1,7 @@
 -- What the threads of a run are given: a pair of ends and a pass for each session, in order, and a client for each plan.
 use Rattle.std.specs.Prelude.{◌≡◌, ℕ, ◌+◌, ◌<◌, ◌≤◌, List, [], length, Some, None}
 use Rattle.sv_world.specs.declared.world.Shape.{Shape}
+use Rattle.sv_world.specs.Limits.{most_clients, most_sessions}
 use Rattle.sv_link.specs.Ends.{Told, new_end}
 use Rattle.sv_link.specs.declared.side.Side.{Side}
 use Rattle.sv_link.specs.declared.side.Side.TheVariants.{Server, Client}
@@ -47,9 +48,9 @@ pub record IsPartOf {E W : Type 0} (shape_of : W → Shape) (shape : Shape) (k s
   pub first : x.first ≡ s
   pub teller : shape_of x.teller.now ≡ shape
   pub count : length x.ends.items ≡ sessions_of_plan plan
-  pub number : k < 32
+  pub number : k < most_clients
   pub good : IsGoodPlan shape plan
-  pub last : s + sessions_of_plan plan ≤ 64
+  pub last : s + sessions_of_plan plan ≤ most_sessions
 
 module _ {E : Type 0} (told : E → Told) (faults : E → ℕ) (calm : E → Type 0) where
   -- a new end of a pair, which is calm where its net is

@@ -3,6 +3,7 @@ use Rattle.std.specs.Prelude.{◌≡◌, ◌≢◌, ℕ, suc, ◌+◌, ◌<◌, 
 use Rattle.std.specs.List.{AllByRecursion, flat_map}
 use Rattle.std.specs.Vec.{vec_capacity}
 use mathlib.Core.List.{IsPrefix}
+use Rattle.sv_world.specs.Limits.{most_sessions}
 use Rattle.sv_link.specs.Ends.{Told, new_end}
 use Rattle.sv_link.specs.Nets.{Transcript, transcript_of, BothArrived, counted}
 use Rattle.sv_link.specs.declared.side.Side.TheVariants.{Server, Client}
@@ -61,9 +62,9 @@ pub record HasRoom {E : Type 0} (servers ends clients : ℕ) (left : Left E) : T
   pub traces_fit : vec_len left.traces + clients ≤ vec_capacity left.traces
   pub lines_fit : vec_len left.lines + clients ≤ vec_capacity left.lines
 
--- the numbers of the client's sessions are below 64
+-- the client's sessions have numbers that there may be
 abbrev pub HasFewSessions : {E : Type 0} → PlayerOut E → Type 0
-HasFewSessions y = y.trace.first + length y.ends.items ≤ 64
+HasFewSessions y = y.trace.first + length y.ends.items ≤ most_sessions
 
 -- what tasks left, in order; none had no memory, unless it was noted
 pub record Gathered {E : Type 0} (os : List (TaskOut E)) (left : Left E) : Type 0 where
@@ -132,6 +133,6 @@ module _ {E : Type 0} (told : E → Told) (faults : E → ℕ) (calm : E → Typ
     pub trace : IsTraceOf (new_client (record { 0 = k }) run.scenario.world.shape plan.interest) s y.trace
     pub follows : HasFollowed run.scenario.world.shape plan.steps y.trace y.cause
     pub ends : AreDone told faults calm y.trace y.cause s before y.ends.items
-    pub last : s + sessions_of_plan plan ≤ 64
+    pub last : s + sessions_of_plan plan ≤ most_sessions
     pub lines : y.cause ≢ causes.Memory → y.lines.items ≡ told_lines y.trace
     pub cause : IsCause told faults calm run.scenario.world.shape y.trace s before y.ends.items y.cause

@@ -2,6 +2,7 @@
 use Rattle.std.specs.Prelude.{◌≡◌, ◌≢◌, ℕ, ◌+◌, ◌≤◌, false, List, [], ◌∷◌, length}
 use Rattle.std.specs.List.{AllByRecursion}
 use Rattle.sv_world.specs.declared.world.Shape.{Shape}
+use Rattle.sv_world.specs.Limits.{most_sessions}
 use Rattle.sv_link.specs.Ends.{Told}
 use Rattle.sv_client.specs.Seen.{ClientView, new_client}
 use Rattle.sv_scenario.specs.declared.scenario.Step.{Step}
@@ -54,7 +55,7 @@ module _ {E : Type 0} (told : E → Told) where
     pub script_is : MayPlay client.who script
     pub teller_is : shape ≡ client.who.shape
     pub count : length ends ≡ 1 + cuts_in script
-    pub numbers : first + length ends ≤ 64
+    pub numbers : first + length ends ≤ most_sessions
     pub fresh : AllByRecursion (λ end. IsFresh (told end)) ends
 
 module _ {E G : Type 0} (told : E → Told) where

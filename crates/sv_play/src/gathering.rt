@@ -2,6 +2,7 @@
 ghost use Rattle.std.specs.Prelude.{◌≡◌, ◌+◌, ◌<◌, ◌≤◌, ◌++◌, ◌||◌, List, [], ◌∷◌, length, reverse, IfOk, vec_len};
 ghost use Rattle.std.specs.List.{AllByRecursion, flat_map};
 ghost use Rattle.std.specs.Vec.{vec_capacity};
+ghost use Rattle.sv_world.specs.Limits.{most_sessions};
 ghost use Rattle.sv_client.specs.declared.trace.Event.{Event};
 ghost use Rattle.sv_client.specs.Traces.{current_session};
 ghost use Rattle.sv_player.specs.Stops.{is_cut};
@@ -99,7 +100,7 @@ impl<E: Drop> Left<E> {
 
     /// Takes a client's ends in.
     fn take_ends(&mut self, trace: &Trace, ends: Vec<E>)
-        requires numbers { trace.now.first + length ends.items ≤ 64 }
+        requires numbers { trace.now.first + length ends.items ≤ most_sessions }
         requires room { vec_len self.old.clients + length ends.items ≤ vec_capacity self.old.clients }
         ensures ends { self.new.clients.items ≡ self.old.clients.items ++ ends_from trace.now trace.now.first ends.items }
         ensures same { (self.new.servers ≡ self.old.servers) × (self.new.traces ≡ self.old.traces) × (self.new.lines ≡ self.old.lines) × (self.new.lacked ≡ self.old.lacked) }
@@ -118,7 +119,7 @@ impl<E: Drop> Left<E> {
 
     /// Takes what a client did in.
     fn take_client(&mut self, player: PlayerOut<E>)
-        requires numbers { player.trace.first + length player.ends.items ≤ 64 }
+        requires numbers { player.trace.first + length player.ends.items ≤ most_sessions }
         requires clients { vec_len self.old.clients + length player.ends.items ≤ vec_capacity self.old.clients }
         requires traces { vec_len self.old.traces < vec_capacity self.old.traces }
         requires lines { vec_len self.old.lines < vec_capacity self.old.lines }

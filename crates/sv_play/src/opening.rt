@@ -2,6 +2,7 @@
 ghost use Rattle.std.specs.Prelude.{◌≡◌, ◌≢◌, ◌+◌, ◌<◌, ◌≤◌, ◌++◌, length, Err, IfOk, OnOk};
 ghost use Rattle.std.specs.List.{flat_map};
 ghost use Rattle.std.specs.Vec.Iter.{into_iter_items};
+ghost use Rattle.sv_world.specs.Limits.{most_clients, most_sessions};
 ghost use Rattle.sv_link.specs.declared.side.Side.TheVariants.{Server, Client as ClientSide};
 ghost use Rattle.sv_scenario.specs.Limits.{IsGoodScenario, IsGoodPlan};
 ghost use Rattle.sv_scenario.specs.Sessions.{session_count, sessions_of_plan};
@@ -100,11 +101,11 @@ impl<'a, G, W: Teller> Hall<'a, G, W> {
         plan: &'a Plan,
         ends: Vec<E>,
     ) -> Result<Part<'a, E, W>, AllocError>
-        requires number { number < 32 }
+        requires number { number < most_clients }
         requires plan { IsGoodPlan self.now.scenario.now.world.shape plan.now }
         requires teller { W.shape self.now.teller.now ≡ self.now.scenario.now.world.shape }
         requires count { length ends.items ≡ sessions_of_plan plan.now }
-        requires last { first + sessions_of_plan plan.now ≤ 64 }
+        requires last { first + sessions_of_plan plan.now ≤ most_sessions }
         ensures part { IfOk result (IsPartOf W.shape self.now.scenario.now.world.shape number first plan.now) }
         ensures ends { IfOk result (λ x. x.ends.items ≡ ends.items) }
     {

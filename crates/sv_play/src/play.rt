@@ -52,66 +52,68 @@ pub fn play_all<N: Net, C: Crew, G: Gate + Sync, R: Threads + Wait + Sync>(
     ensures calm { N.calm net.old → N.calm net.new }
     ensures certain { N.calm net.old → result ≡ Err PlayFault.Link → SomeDiffer N.E.told N.E.calm (N.made net.old) (N.made net.new) }
 {
-    play_with(rt, alloc, scenario, lock, keeper, net, crew, gate, watch)
-}
-
-/// The run, with whatever tells the changes.
-fn play_with<N: Net, C: Crew, G: Gate + Sync, W: Teller + Sync, R: Threads + Wait + Sync>(
-    rt: &R,
-    alloc: Global,
-    scenario: &Scenario,
-    lock: &SeqLock<Sequencer>,
-    keeper: &mut Pass<Sequencer>,
-    net: &mut N,
-    crew: &mut C,
-    gate: &G,
-    teller: &W,
-) -> Result<Playing, PlayFault>
-    requires good { IsGoodScenario scenario.now }
-    requires passes { lock.now.passes ≡ session_count scenario.now }
-    requires keeper { keeper.old ≡ keeper_after 0 lock.now scenario.now }
-    requires teller { W.shape teller.now ≡ scenario.now.world.shape }
-    ensures run { IfOk result (λ p. IsThreadedRun scenario.now (reverse keeper.new.seen) p.traces (N.settled net.old) (N.settled net.new) (C.ran crew.old) (C.ran crew.new)) }
-    ensures lines { IfOk result (λ p. p.lines.items ≡ flat_map told_lines p.traces) }
-    ensures keeper { IfOk result (λ p. TookAllIn scenario.now keeper.old keeper.new) }
-    ensures cause { PlayCause (C.faults crew.old) (C.faults crew.new) (N.faults net.old) (N.faults net.new) result }
-    ensures calm { N.calm net.old → N.calm net.new }
-    ensures certain { N.calm net.old → result ≡ Err PlayFault.Link → SomeDiffer N.E.told N.E.calm (N.made net.old) (N.made net.new) }
-{
-    read_scenario_numbers(scenario);
-    threaded_runs_leave_records();
     let hall = Hall {
         alloc,
         scenario,
         lock,
         gate,
-        teller,
+        teller: watch,
     };
-    let tasks = hall.open(net, keeper)?;
-    let mut left = Left::new(alloc, sessions_of(scenario), scenario.clients.len())?;
-    let outs = match crew.run_all(rt, tasks) {
-        Ran::Done(outs) => outs,
-        Ran::Failed => return Err(PlayFault::Start),
-        Ran::Memory => return Err(PlayFault::Memory),
-    };
-    gather(lock, keeper, outs, &mut left);
-    let Left {
-        servers,
-        clients,
-        traces,
-        lines,
-        lacked,
-    } = left;
-    if !settle_all(net, servers, clients) {
-        return Err(PlayFault::Link);
+    hall.play(rt, keeper, net, crew)
+}
+
+impl<'a, G: Gate + Sync, W: Teller + Sync> Hall<'a, G, W> {
+    /// The run, with whatever tells the changes.
+    fn play<N: Net, C: Crew, R: Threads + Wait + Sync>(
+        &self,
+        rt: &R,
+        keeper: &mut Pass<Sequencer>,
+        net: &mut N,
+        crew: &mut C,
+    ) -> Result<Playing, PlayFault>
+        requires good { IsGoodScenario self.now.scenario.now }
+        requires passes { self.now.lock.now.passes ≡ session_count self.now.scenario.now }
+        requires keeper { keeper.old ≡ keeper_after 0 self.now.lock.now self.now.scenario.now }
+        requires teller { W.shape self.now.teller.now ≡ self.now.scenario.now.world.shape }
+        ensures run { IfOk result (λ p. IsThreadedRun self.now.scenario.now (reverse keeper.new.seen) p.traces (N.settled net.old) (N.settled net.new) (C.ran crew.old) (C.ran crew.new)) }
+        ensures lines { IfOk result (λ p. p.lines.items ≡ flat_map told_lines p.traces) }
+        ensures keeper { IfOk result (λ p. TookAllIn self.now.scenario.now keeper.old keeper.new) }
+        ensures cause { PlayCause (C.faults crew.old) (C.faults crew.new) (N.faults net.old) (N.faults net.new) result }
+        ensures calm { N.calm net.old → N.calm net.new }
+        ensures certain { N.calm net.old → result ≡ Err PlayFault.Link → SomeDiffer N.E.told N.E.calm (N.made net.old) (N.made net.new) }
+    {
+        read_scenario_numbers(self.scenario);
+        threaded_runs_leave_records();
+        let tasks = self.open(net, keeper)?;
+        let mut left = Left::new(
+            self.alloc,
+            sessions_of(self.scenario),
+            self.scenario.clients.len(),
+        )?;
+        let outs = match crew.run_all(rt, tasks) {
+            Ran::Done(outs) => outs,
+            Ran::Failed => return Err(PlayFault::Start),
+            Ran::Memory => return Err(PlayFault::Memory),
+        };
+        gather(self.lock, keeper, outs, &mut left);
+        let Left {
+            servers,
+            clients,
+            traces,
+            lines,
+            lacked,
+        } = left;
+        if !settle_all(net, servers, clients) {
+            return Err(PlayFault::Link);
+        }
+        if lacked {
+            return Err(PlayFault::Memory);
+        }
+        Ok(Playing {
+            traces: List::from_vec(traces),
+            lines: all_lines(self.alloc, lines)?,
+        })
     }
-    if lacked {
-        return Err(PlayFault::Memory);
-    }
-    Ok(Playing {
-        traces: List::from_vec(traces),
-        lines: all_lines(alloc, lines)?,
-    })
 }
 
 /// The lines of all clients, one after the other.

@@ -24,34 +24,38 @@ pub struct Service<'a, E, G> {
     pub gate: &'a G,
 }
 
+/// A client and its script, over the ends of its sessions.
+#[derive(Drop)]
+pub(crate) struct Role<'a, E> {
+    pub(crate) alloc: Global,
+    pub(crate) client: Client,
+    pub(crate) script: &'a [Step],
+    /// The number of its first session.
+    pub(crate) first: u16,
+    pub(crate) ends: Vec<E>,
+}
+
 /// What tells the changes of views, where clients play. It stands for `Watch`, so that no type of a task has its callback.
 pub(crate) trait Teller {
     ghost shape: { Self → Shape };
 
-    /// Plays a client's script over the ends of its sessions, and tells what changes.
-    fn play<E: End>(
-        &self,
-        alloc: Global,
-        client: Client,
-        script: &[Step],
-        first: u16,
-        ends: Vec<E>,
-    ) -> PlayerOut<E>
-        requires { MayTakePart E.told (shape self.now) client script.now first ends.items }
-        ensures { TookPart E.told E.faults E.calm client script.now first ends.items result };
+    /// Plays a role, and tells what changes.
+    fn play<E: End>(&self, role: Role<'_, E>) -> PlayerOut<E>
+        requires { MayTakePart E.told (shape self.now) role.client role.script.now role.first role.ends.items }
+        ensures { TookPart E.told E.faults E.calm role.entry.client role.entry.script.now role.entry.first role.entry.ends.items result };
 }
 
 impl Teller for Watch {
     ghost shape = { λ w. w.shape };
 
-    fn play<E: End>(
-        &self,
-        alloc: Global,
-        client: Client,
-        script: &[Step],
-        first: u16,
-        ends: Vec<E>,
-    ) -> PlayerOut<E> {
+    fn play<E: End>(&self, role: Role<'_, E>) -> PlayerOut<E> {
+        let Role {
+            alloc,
+            client,
+            script,
+            first,
+            ends,
+        } = role;
         play_client(alloc, client, script, first, ends, self)
     }
 }
@@ -135,7 +139,13 @@ impl<'a, E: End, W: Teller> Part<'a, E, W> {
             ends,
             teller,
         } = self;
-        teller.play(alloc, client, script, first, ends)
+        teller.play(Role {
+            alloc,
+            client,
+            script,
+            first,
+            ends,
+        })
     }
 }
 

@@ -12,9 +12,9 @@ use Rattle.sv_journal.specs.History.{accepted}
 use Rattle.sv_journal.specs.Sessions.{is_end, is_ended}
 use Rattle.sv_system.specs.Fits.{requests_in, replies_in}
 use Rattle.sv_system.proofs.Entered.{is_of, of-from}
-use Rattle.sv_schedule.specs.Players.{Player, asked_in_run, closed_by}
+use Rattle.sv_schedule.specs.Players.{Player, asked_in_run, has_closed}
 use Rattle.sv_schedule.specs.Serving.{Run, Server, entry_by, served, serves_next, is_stop, is_stopped, session_served}
-use Rattle.sv_schedule.specs.Served.{AreNamed, KeepsSound}
+use Rattle.sv_schedule.specs.Served.{RepliesNameAccepted, KeepsSound}
 use Rattle.sv_exchange.specs.View.{ExchangeView}
 use Rattle.sv_replay.specs.Players.{got_in_run, IsChannel}
 use Rattle.sv_replay.specs.Serving.{whole_reply, next_history, next_channel}
@@ -25,7 +25,7 @@ run_at h ps = record { history = h; players = ps }
 
 -- ---- Entries
 
-module _ (server : Server) (keeps : KeepsSound server) (h : List Entry) (ps : List Player) (s : ℕ) (q : Request) (named : AreNamed h) where
+module _ (server : Server) (keeps : KeepsSound server) (h : List Entry) (ps : List Player) (s : ℕ) (q : Request) (named : RepliesNameAccepted h) where
   abbrev e : Entry
   e = entry_by server h s q
 
@@ -107,14 +107,14 @@ module _ (server : Server) (keeps : KeepsSound server) (h : List Entry) (ps : Li
   session_turn_is =
       ap (λ (b : Bool). if is_ended h s then h else if b then served server h s requests.End else serves_next server h s c.closed c.requests) is.stopped
       ∙ ap (λ (b : Bool). if is_ended h s then h else if is_stopped h s then served server h s requests.End else serves_next server h s b c.requests) is.closed
-      ∙ ap (λ (qs : List Request). if is_ended h s then h else if is_stopped h s then served server h s requests.End else serves_next server h s (list_any (closed_by s) ps) qs) is.requests
+      ∙ ap (λ (qs : List Request). if is_ended h s then h else if is_stopped h s then served server h s requests.End else serves_next server h s (list_any (has_closed s) ps) qs) is.requests
 
   at_turn : (g : List Entry) (d : ExchangeView) → (next_history server h s c ≡ g) × (next_channel server h s c ≡ d) → IsChannel (run_at g ps) s d → IsChannel (run_at (next_history server h s c) ps) s (next_channel server h s c)
   at_turn g d n made =
       subst (λ (x : ExchangeView). IsChannel (run_at (next_history server h s c) ps) s x) (sym n.1) (subst (λ (k : List Entry). IsChannel (run_at k ps) s d) (sym n.0) made)
 
   -- The session's own connection.
-  pub own_served : AreNamed h → IsChannel (run_at (next_history server h s c) ps) s (next_channel server h s c)
+  pub own_served : RepliesNameAccepted h → IsChannel (run_at (next_history server h s c) ps) s (next_channel server h s c)
   own_served named = elim (cases_Bool (is_ended h s)) [
     | inl ended ↦ at_turn h c (next_ended server h s c ended) is
     | inr running ↦ elim (cases_Bool c.stopped) [
@@ -153,7 +153,7 @@ module _ (server : Server) (keeps : KeepsSound server) (h : List Entry) (ps : Li
       waits running goes (q ∷ qs) some = inr (q, (next_asked server h s c q qs running goes some).0)
 
   -- The connections of other sessions.
-  pub other_served : (n : ℕ) (d : ExchangeView) → (s == n) ≡ false → AreNamed h → IsChannel (run_at h ps) n d → IsChannel (run_at (next_history server h s c) ps) n d
+  pub other_served : (n : ℕ) (d : ExchangeView) → (s == n) ≡ false → RepliesNameAccepted h → IsChannel (run_at h ps) n d → IsChannel (run_at (next_history server h s c) ps) n d
   other_served n d f named there = elim next_cases [
     | inl same ↦ subst (λ (k : List Entry). IsChannel (run_at k ps) n d) (sym same) there
     | inr one ↦ subst (λ (k : List Entry). IsChannel (run_at k ps) n d) (sym one.1) (other_entry server keeps h ps s one.0 named n d f there)

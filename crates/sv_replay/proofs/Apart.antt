@@ -17,7 +17,7 @@ use Rattle.sv_client.specs.Proper.{AreProper, Proper, identity_of}
 use Rattle.sv_scenario.specs.declared.scenario.Scenario.{Scenario}
 use Rattle.sv_system.specs.Fits.{is_join_of, has_session, AreApart, AreAllApart}
 use Rattle.sv_system.proofs.Asked.{current-joined, any-reverse}
-use Rattle.sv_schedule.specs.Players.{Player, trace_of_player, asked_in_run, closed_by}
+use Rattle.sv_schedule.specs.Players.{Player, trace_of_player, asked_in_run, has_closed}
 use Rattle.sv_schedule.specs.Serving.{Run, Server, traces_of}
 use Rattle.sv_schedule.specs.Served.{FitsServer, IsSoundOver}
 use Rattle.sv_replay.specs.Players.{asked_by_player, got_in_run}
@@ -79,7 +79,7 @@ none_got who first (events.Show os ∷ t) p n e = none_got who first t p.1 n e
 pub record IsSilent (n : ℕ) (p : Player) : Type 0 where
   pub asks : asked_by_player p n ≡ []
   pub gets : got p.events n ≡ []
-  pub linked : closed_by n p ≡ false
+  pub linked : has_closed n p ≡ false
 
 -- All players but the k-th are silent in session n.
 abbrev pub OthersSilent : ℕ → ℕ → List Player → Type 0
@@ -150,16 +150,16 @@ got_by_one n zero (p ∷ ps) q h e =
     ap (λ (rs : List Reply). got p.events n ++ rs) (all_get_nothing n ps h) ∙ append-nil (got p.events n) ∙ ap (λ (x : Player). got x.events n) same
 got_by_one n (suc k) (p ∷ ps) q h e = ap (λ (rs : List Reply). rs ++ got_in_run ps n) h.0.gets ∙ got_by_one n k ps q h.1 e
 
-all_open : (n : ℕ) (ps : List Player) → AllByRecursion (IsSilent n) ps → list_any (closed_by n) ps ≡ false
+all_open : (n : ℕ) (ps : List Player) → AllByRecursion (IsSilent n) ps → list_any (has_closed n) ps ≡ false
 all_open n [] h = refl
 all_open n (p ∷ ps) h = rw (h.0.linked, all_open n ps h.1) refl
 
 -- A session's link is open where its player did not close it.
-pub open_by_one : (n k : ℕ) (ps : List Player) (q : Player) → OthersSilent n k ps → slice_get ps k ≡ Some q → closed_by n q ≡ false → list_any (closed_by n) ps ≡ false
+pub open_by_one : (n k : ℕ) (ps : List Player) (q : Player) → OthersSilent n k ps → slice_get ps k ≡ Some q → has_closed n q ≡ false → list_any (has_closed n) ps ≡ false
 open_by_one n k [] q h e o = cc
 open_by_one n zero (p ∷ ps) q h e o =
     let same : q ≡ p = cc in
-    let own : closed_by n p ≡ false = subst (λ (x : Player). closed_by n x ≡ false) same o in
+    let own : has_closed n p ≡ false = subst (λ (x : Player). has_closed n x ≡ false) same o in
     rw (own, all_open n ps h) refl
 open_by_one n (suc k) (p ∷ ps) q h e o = rw (h.0.linked, open_by_one n k ps q h.1 e o) refl
 

@@ -11,7 +11,7 @@ use Rattle.sv_journal.specs.declared.entry.Entry.{Entry}
 use Rattle.sv_journal.specs.History.{accepted}
 use Rattle.sv_client.specs.Traces.{got}
 use Rattle.sv_system.specs.Fits.{requests_in, replies_in}
-use Rattle.sv_schedule.specs.Players.{Player, asked_in_run, closed_by}
+use Rattle.sv_schedule.specs.Players.{Player, asked_in_run, has_closed}
 use Rattle.sv_schedule.specs.Serving.{Run}
 use Rattle.sv_exchange.specs.View.{ExchangeView}
 use Rattle.sv_replay.specs.Players.{asked_by_player, got_in_run, Moves, IsChannel}
@@ -91,8 +91,8 @@ module _ (h : List Entry) (ps : List Player) (k n : ℕ) (p q : Player) (sent : 
   got_moved : (s : ℕ) → got_in_run (set ps k q) s ≡ got_in_run ps s ++ (if n == s then taken else [])
   got_moved s = flat_moved (λ (r : Player). got r.events s) (if n == s then taken else []) k ps p q at (m.gets s) (get_commutes s)
 
-  closed_moved : (s : ℕ) → list_any (closed_by s) (set ps k q) ≡ (list_any (closed_by s) ps || (if n == s then closing else false))
-  closed_moved s = any_moved (closed_by s) (if n == s then closing else false) k ps p q at (m.closes s)
+  closed_moved : (s : ℕ) → list_any (has_closed s) (set ps k q) ≡ (list_any (has_closed s) ps || (if n == s then closing else false))
+  closed_moved s = any_moved (has_closed s) (if n == s then closing else false) k ps p q at (m.closes s)
 
   more_none : {X : Type 0} (s : ℕ) (xs more : List X) → (n == s) ≡ false → xs ++ (if n == s then more else []) ≡ xs
   more_none s xs more f = ap (λ ys. xs ++ ys) (nothing (n == s) more f) ∙ append-nil xs
@@ -102,7 +102,7 @@ module _ (h : List Entry) (ps : List Player) (k n : ℕ) (p q : Player) (sent : 
   other_stays s c f is =
       let asks : asked_in_run (set ps k q) s ≡ asked_in_run ps s = asked_moved s ∙ more_none s (asked_in_run ps s) sent f in
       let gets : got_in_run (set ps k q) s ≡ got_in_run ps s = got_moved s ∙ more_none s (got_in_run ps s) taken f in
-      let shuts : list_any (closed_by s) (set ps k q) ≡ list_any (closed_by s) ps = closed_moved s ∙ rw f (or_none (list_any (closed_by s) ps)) in
+      let shuts : list_any (has_closed s) (set ps k q) ≡ list_any (has_closed s) ps = closed_moved s ∙ rw f (or_none (list_any (has_closed s) ps)) in
       record {
         asked = subst (λ (rs : List Request). length (requests_in h s) ≤ length rs) (sym asks) is.asked;
         requests = is.requests ∙ ap (λ (rs : List Request). drop (length (requests_in h s)) rs) (sym asks);
@@ -119,7 +119,7 @@ module _ (h : List Entry) (ps : List Player) (k n : ℕ) (p q : Player) (sent : 
       let here : (n == n) ≡ true = eq-eqb n n refl in
       let asks : asked_in_run (set ps k q) n ≡ asked_in_run ps n ++ sent = asked_moved n ∙ rw here refl in
       let gets : got_in_run (set ps k q) n ≡ got_in_run ps n ++ taken = got_moved n ∙ rw here refl in
-      let shuts : list_any (closed_by n) (set ps k q) ≡ (list_any (closed_by n) ps || closing) = closed_moved n ∙ rw here refl in
+      let shuts : list_any (has_closed n) (set ps k q) ≡ (list_any (has_closed n) ps || closing) = closed_moved n ∙ rw here refl in
       let many : length (got_in_run ps n ++ taken) ≡ length (got_in_run ps n) + length taken = length-append (got_in_run ps n) taken in
       let waits : taken ++ d.replies ≡ drop (length (got_in_run ps n)) (replies_in (accepted h) h n) = sym replies ∙ is.replies in
       let within : length (got_in_run ps n) + length taken ≤ length (replies_in (accepted h) h n) = taken_within (length (got_in_run ps n)) (replies_in (accepted h) h n) taken d.replies is.got waits in

@@ -17,9 +17,11 @@ use Rattle.sv_client.proofs.Sessions.{session_after, current_is}
 use Rattle.sv_scenario.specs.declared.scenario.Step.{Step}
 use Rattle.sv_script.specs.Following.{must_join}
 use Rattle.sv_system.specs.Fits.{is_join_of}
+use Rattle.sv_system.specs.Outcomes.{is_quit}
 use Rattle.sv_system.proofs.Asked.{current-joined}
-use Rattle.sv_schedule.specs.Players.{Player, open_session, closed_by}
+use Rattle.sv_schedule.specs.Players.{Player, open_session, has_closed}
 use Rattle.sv_replay.specs.Players.{session_of, asked_by_player, IsFit, Moves, is_closing}
+use Rattle.sv_replay.proofs.Places.{place_between, place_within}
 use Rattle.sv_replay.proofs.Events.{is_got, up_must, either_way, asks_up, asks_got, gets_none, gets_one, not_begun, keeps_closed, closes_now, begins_one}
 
 -- A player by its client's own events.
@@ -37,27 +39,17 @@ some_from : (first j : ℕ) → 1 ≤ j → session_after first j ≡ Some ((fir
 some_from first zero l = absurd (omega arith)
 some_from first (suc j) l = let same : first + j ≡ (first + suc j) - 1 = omega arith in ap (λ n. Some n) same
 
-session_here : (p : Player) → must_join p.events ≡ false → session_of p ≡ (p.first + joins p.events) - 1
-session_here p m = rw m refl
-
-pub session_next : (p : Player) → must_join p.events ≡ true → session_of p ≡ p.first + joins p.events
-session_next p m = rw m refl
-
 -- In a session it is the one that was begun last.
 pub session_current : (p : Player) → AreProper p.who p.first p.events → must_join p.events ≡ false → 1 ≤ joins p.events → current_session p.events ≡ Some (session_of p)
-session_current p proper m l = current_is p.who p.first p.events proper ∙ some_from p.first (joins p.events) l ∙ ap (λ n. Some n) (sym (session_here p m))
+session_current p proper m l = current_is p.who p.first p.events proper ∙ some_from p.first (joins p.events) l ∙ ap (λ n. Some n) (sym (place_within p m))
 
 pub session_latest : (who : Identity) (first : ℕ) (t : List Event) (left : List Step) (closed : Bool) → AreProper who first (Up first t) → must_join t ≡ false → 1 ≤ joins (Up first t) →
     latest_session t + first ≡ session_of (player who first t left closed)
 session_latest who first t left closed proper m l =
     latest_from (current_session t) first (joins (Up first t)) (sym (up_current first t) ∙ current_is who first (Up first t) proper) l
-    ∙ sym (session_here (player who first t left closed) (up_must first t ∙ m))
+    ∙ sym (place_within (player who first t left closed) (up_must first t ∙ m))
 
 -- ---- Events
-
-abbrev pub is_quit : Event → Bool
-is_quit events.Quit = true
-is_quit _ = false
 
 -- A join is of the next session, and comes where one is needed.
 pub record JoinsNext (t : List Event) (e : Event) : Type 0 where
@@ -84,7 +76,7 @@ module _ (who : Identity) (first : ℕ) (t : List Event) (left : List Step) (fit
   next_is n j =
       let next : n ≡ joins t = j.next n refl in
       let count : joins (Up first t) ≡ joins t = up_joins first t in
-      let here : session_of old ≡ first + joins (Up first t) = session_next old (up_must first t ∙ sym j.needed) in
+      let here : session_of old ≡ first + joins (Up first t) = place_between old (up_must first t ∙ sym j.needed) in
       omega arith
 
   place_is : (e : Event) → JoinsNext t e → latest_session (e ∷ t) + first ≡ session_of old
@@ -104,20 +96,20 @@ module _ (who : Identity) (first : ℕ) (t : List Event) (left : List Step) (fit
   open_none m = rw (up_must first t ∙ m) refl
 
   kept : must_join t ≡ false → (s : ℕ) → (list_any (is_join_of s) (Up first t) && not (is_session (current_session (Up first t)) s))
-      ≡ (closed_by s old || (if session_of old == s then false else false))
+      ≡ (has_closed s old || (if session_of old == s then false else false))
   kept m s = keeps_closed (list_any (is_join_of s) (Up first t) && not (is_session (current_session (Up first t)) s)) (session_of old == s)
       ∙ ap (λ (o : Option ℕ). (list_any (is_join_of s) (Up first t) && not (is_session o s)) || (if session_of old == s then false else false)) (sym (open_is m))
 
-  shut : must_join t ≡ false → (s : ℕ) → (list_any (is_join_of s) (Up first t) && true) ≡ (closed_by s old || (if session_of old == s then true else false))
+  shut : must_join t ≡ false → (s : ℕ) → (list_any (is_join_of s) (Up first t) && true) ≡ (has_closed s old || (if session_of old == s then true else false))
   shut m s =
       let there : (session_of old == s) ≡ true → list_any (is_join_of s) (Up first t) ≡ true = λ e. subst (λ n. list_any (is_join_of n) (Up first t) ≡ true) (eqb-true (session_of old) s e) (joined_it m) in
       closes_now (list_any (is_join_of s) (Up first t)) (session_of old == s) there
       ∙ ap (λ (o : Option ℕ). (list_any (is_join_of s) (Up first t) && not (is_session o s)) || (if session_of old == s then true else false)) (sym (open_is m ∙ in_it m))
 
   begins : (n : ℕ) → JoinsNext t (events.Join n) → (s : ℕ) → ((n + first == s || list_any (is_join_of s) (Up first t)) && not (n + first == s))
-      ≡ (closed_by s old || (if session_of old == s then false else false))
+      ≡ (has_closed s old || (if session_of old == s then false else false))
   begins n j s =
-      let here : session_of old ≡ first + joins (Up first t) = session_next old (up_must first t ∙ sym j.needed) in
+      let here : session_of old ≡ first + joins (Up first t) = place_between old (up_must first t ∙ sym j.needed) in
       let fresh : (n + first == s) ≡ true → list_any (is_join_of s) (Up first t) ≡ false =
       λ e. not_begun who first (Up first t) fit.proper s (let same : n + first ≡ s = eqb-true (n + first) s e in let next : n + first ≡ session_of old = next_is n j in omega arith) in
       begins_one (list_any (is_join_of s) (Up first t)) (n + first == s) fresh
@@ -125,7 +117,7 @@ module _ (who : Identity) (first : ℕ) (t : List Event) (left : List Step) (fit
       ∙ ap (λ (o : Option ℕ). (list_any (is_join_of s) (Up first t) && not (is_session o s)) || (if session_of old == s then false else false)) (sym (open_none (sym j.needed)))
 
   closes : (e : Event) → JoinsNext t e → is_got e ≡ false → (rest : List Step) → (s : ℕ) →
-      closed_by s (after e rest) ≡ (closed_by s old || (if session_of old == s then is_closing e else false))
+      has_closed s (after e rest) ≡ (has_closed s old || (if session_of old == s then is_closing e else false))
   closes (events.Join n) j g rest s = begins n j s
   closes (events.Make a) j g rest s = kept (sym j.needed) s
   closes events.Poll j g rest s = kept (sym j.needed) s
@@ -186,7 +178,7 @@ pub still_moves : (p : Player) → Moves (session_of p) p p [] [] false
 still_moves p = record {
   asks = λ s. sym (ap (λ (rs : List Request). asked_by_player p s ++ rs) (either_way (session_of p == s) []) ∙ append-nil (asked_by_player p s));
   gets = λ s. sym (ap (λ (rs : List Reply). got p.events s ++ rs) (either_way (session_of p == s) []) ∙ append-nil (got p.events s));
-  closes = λ s. keeps_closed (closed_by s p) (session_of p == s);
+  closes = λ s. keeps_closed (has_closed s p) (session_of p == s);
   begun = inr (refl, refl);
 }
 

@@ -12,7 +12,7 @@ use Rattle.sv_scenario.specs.Sessions.{session_count}
 use Rattle.sv_schedule.specs.Players.{Player, at_player, repeated}
 use Rattle.sv_schedule.specs.Serving.{Run, Server, session_served, all_served, sessions_served, turn_served, after_clients, after_served, after_takes, round_served}
 use Rattle.sv_schedule.specs.Served.{KeepsSound}
-use Rattle.sv_schedule.specs.Done.{IsDone}
+use Rattle.sv_schedule.specs.Done.{IsRunDone}
 use Rattle.sv_schedule.proofs.DoneStill.{round-still}
 use Rattle.sv_replay.specs.declared.playing.Playing.{Playing}
 use Rattle.sv_replay.specs.Machine.{player_of, Stage, run_of, IsMachine, Became, Heads, after_session, after_take}
@@ -168,8 +168,8 @@ all_closed (p ∷ ps) h = All-cons (λ (q : Player). q.closed ≡ true) (player_
 
 -- Once all is done, rounds change nothing.
 pub done_became : (start now : Stage) (n : ℕ) (goal : Run) → Heads start now (λ (run : Run). repeated n (round_served start.serves.server (session_count start.scenario)) run) goal →
-    IsDone now.scenario (run_of now) → Became start now goal
+    IsRunDone now.scenario (run_of now) → Became start now goal
 done_became start now n goal h done =
     let f = round_served start.serves.server (session_count start.scenario) in
     heads_end start now (λ (run : Run). repeated n f run) goal h
-    (repeated-still n f (run_of now) (round-still start.serves.server start.scenario (run_of now) (subst (λ (x : Scenario). IsDone x (run_of now)) h.scenario done)))
+    (repeated-still n f (run_of now) (round-still start.serves.server start.scenario (run_of now) (subst (λ (x : Scenario). IsRunDone x (run_of now)) h.scenario done)))

@@ -12,6 +12,7 @@ pub mod Heading
 pub mod Working
 pub mod Sending
 pub mod Lengths
+pub mod Scripts
 pub mod Messages
 pub mod Opened
 pub mod Committed

@@ -23,7 +23,7 @@ use Rattle.sv_schedule.specs.Players.{Player, at_player, player_turn, open_sessi
 use Rattle.sv_schedule.specs.Serving.{Run, Server, session_served, turn_served}
 use Rattle.sv_schedule.specs.Schedule.{rules_of}
 use Rattle.sv_schedule.specs.Sound.{ArePlaying}
-use Rattle.sv_schedule.specs.Served.{AreNamed, IsSoundOver}
+use Rattle.sv_schedule.specs.Served.{RepliesNameAccepted, IsSoundOver}
 use Rattle.sv_schedule.proofs.SoundLaws.{turns-sound}
 use Rattle.sv_schedule.proofs.SoundCalls.{IsPlayer, player-at, session-next, session-last, turn-player}
 use Rattle.sv_replay.specs.declared.playing.Playing.{Playing}
@@ -227,7 +227,7 @@ module _ (m w : Stage) (s : ℕ) (d : ExchangeView) (is : IsMachine m) (l : s < 
   abbrev served_run : Run
   served_run = record { history = session_served m.serves.server ps h s; players = ps }
 
-  named : AreNamed h
+  named : RepliesNameAccepted h
   named = is.playable.keeps.named h is.sound.served
 
   served_at : (n : ℕ) → n < session_count m.scenario → IsChannel (run_at after_turn ps) n (get_or (set m.channels s (next_channel m.serves.server h s own)) n new_exchange)

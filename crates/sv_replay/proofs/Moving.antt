@@ -23,6 +23,7 @@ use Rattle.sv_client.proofs.Shifts.{Up, up_joins, up_makes, up_session, up_pendi
 use Rattle.sv_scenario.specs.declared.scenario.Step.{Step}
 use Rattle.sv_scenario.specs.declared.scenario.Step.TheVariants as steps
 use Rattle.sv_script.specs.Following.{must_join, is_welcomed}
+use Rattle.sv_system.specs.Outcomes.{is_quit}
 use Rattle.sv_schedule.specs.Players.{Player, player_turn, next_step, last_steps, if_free, is_calm, is_settled, does, takes, takes_if}
 use Rattle.sv_replay.specs.declared.playing.Playing.{Playing}
 use Rattle.sv_exchange.specs.View.{ExchangeView, TakesReply}
@@ -30,7 +31,7 @@ use Rattle.sv_replay.specs.Messages.{AsksMessages}
 use Rattle.sv_replay.specs.Players.{session_of, asked_by_player, IsFit, Moves, is_closing, taken_from}
 use Rattle.sv_replay.specs.Machine.{player_of, AreFlags, IsReady, Does, Moved}
 use Rattle.sv_replay.proofs.Events.{is_got, up_must}
-use Rattle.sv_replay.proofs.Doing.{player, is_quit, session_latest, JoinsNext, event_moves, close_moves, got_moves, still_moves, left_moves}
+use Rattle.sv_replay.proofs.Doing.{player, session_latest, JoinsNext, event_moves, close_moves, got_moves, still_moves, left_moves}
 
 -- The player after an event.
 abbrev pub next_player : Playing → Event → List Step → Player

@@ -10,7 +10,7 @@ use Rattle.sv_scenario.specs.declared.scenario.Plan.{Plan}
 use Rattle.sv_scenario.specs.declared.scenario.Scenario.{Scenario}
 use Rattle.sv_scenario.specs.Limits.{IsGoodScenario}
 use Rattle.sv_scenario.specs.Sessions.{sessions_of_plan, sessions_in, session_count}
-use Rattle.sv_schedule.specs.Players.{Player, players_from, asked_in_run, closed_by}
+use Rattle.sv_schedule.specs.Players.{Player, players_from, asked_in_run, has_closed}
 use Rattle.sv_schedule.specs.Serving.{Run, opening_run}
 use Rattle.sv_schedule.specs.Schedule.{rules_of}
 use Rattle.sv_schedule.specs.Served.{IsSoundOver}
@@ -32,7 +32,7 @@ none_got : (shape : Shape) (k s : ℕ) (plans : List Plan) (n : ℕ) → got_in_
 none_got shape k s [] n = refl
 none_got shape k s (plan ∷ plans) n = none_got shape (suc k) (s + sessions_of_plan plan) plans n
 
-none_closed : (shape : Shape) (k s : ℕ) (plans : List Plan) (n : ℕ) → list_any (closed_by n) (players_from shape k s plans) ≡ false
+none_closed : (shape : Shape) (k s : ℕ) (plans : List Plan) (n : ℕ) → list_any (has_closed n) (players_from shape k s plans) ≡ false
 none_closed shape k s [] n = refl
 none_closed shape k s (plan ∷ plans) n = none_closed shape (suc k) (s + sessions_of_plan plan) plans n
 

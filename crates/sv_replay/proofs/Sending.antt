@@ -16,7 +16,7 @@ use Rattle.sv_scenario.specs.Sessions.{session_count}
 use Rattle.sv_script.specs.Following.{must_join}
 use Rattle.sv_system.specs.Fits.{is_join_of}
 use Rattle.sv_system.proofs.Asked.{current-joined}
-use Rattle.sv_schedule.specs.Players.{Player, at_player, player_turn, take_turn, open_session, closed_by, does}
+use Rattle.sv_schedule.specs.Players.{Player, at_player, player_turn, take_turn, open_session, has_closed, does}
 use Rattle.sv_schedule.specs.Serving.{Run, Server, served, session_served, turn_served}
 use Rattle.sv_schedule.specs.Served.{IsSoundOver}
 use Rattle.sv_schedule.proofs.SoundLaws.{turns-sound}
@@ -29,7 +29,8 @@ use Rattle.sv_replay.specs.declared.playing.Playing.{Playing}
 use Rattle.sv_replay.specs.Machine.{player_of, Stage, run_of, IsMachine}
 use Rattle.sv_replay.proofs.Apart.{OthersSilent, sound_silent, open_by_one}
 use Rattle.sv_replay.proofs.Events.{not_begun}
-use Rattle.sv_replay.proofs.Doing.{session_current, session_next}
+use Rattle.sv_replay.proofs.Places.{place_between}
+use Rattle.sv_replay.proofs.Doing.{session_current}
 use Rattle.sv_replay.proofs.Turns.{place-is}
 use Rattle.sv_replay.proofs.Served.{next_asked}
 use Rattle.sv_replay.proofs.Answering.{run_at, session_turn_is}
@@ -87,27 +88,27 @@ module _ (m : Stage) (k : ℕ) (p : Player) (is : IsMachine m) (l : k < length m
   silent_next linked between =
       let joined : list_any (is_join_of n) (player_turn p).events ≡ true =
       ap (λ (q : Player). list_any (is_join_of n) q.events) (joins_now linked between)
-      ∙ or_left (p.first + joins p.events == n) (list_any (is_join_of n) p.events) (eq-eqb (p.first + joins p.events) n (sym (session_next p between))) in
+      ∙ or_left (p.first + joins p.events == n) (list_any (is_join_of n) p.events) (eq-eqb (p.first + joins p.events) n (sym (place_between p between))) in
       silent_before n k player_turn ps
       (sound_silent m.serves.server m.scenario (turn_served m.serves.server (run_of m) (turns.Client k)) n k (player_turn p) turn_sound (place_turned player_turn ps k p at) joined)
 
-  own_in : p.closed ≡ false → must_join p.events ≡ false → closed_by n p ≡ false
+  own_in : p.closed ≡ false → must_join p.events ≡ false → has_closed n p ≡ false
   own_in linked joined =
       let opened : open_session p ≡ Some n = open_is p linked joined ∙ session_current p fit.proper joined (fit.begun joined) in
       ap (λ o. list_any (is_join_of n) p.events && not (is_session o n)) opened
       ∙ ap (λ (b : Bool). list_any (is_join_of n) p.events && not b) (eq-eqb n n refl)
       ∙ and_false (list_any (is_join_of n) p.events)
 
-  own_next : must_join p.events ≡ true → closed_by n p ≡ false
+  own_next : must_join p.events ≡ true → has_closed n p ≡ false
   own_next between =
-      let fresh : list_any (is_join_of n) p.events ≡ false = not_begun p.who p.first p.events fit.proper n (omega (arith, session_next p between)) in
+      let fresh : list_any (is_join_of n) p.events ≡ false = not_begun p.who p.first p.events fit.proper n (omega (arith, place_between p between)) in
       rw fresh refl
 
   -- The client's end of its session is open, or it has not begun it.
   pub link_open : p.closed ≡ false → (get_or m.channels n new_exchange).closed ≡ false
   link_open linked = (is.channels n fit.known).closed ∙ opened
     where
-      opened : list_any (closed_by n) ps ≡ false
+      opened : list_any (has_closed n) ps ≡ false
       opened = elim (cases_Bool (must_join p.events)) [
         | inl between ↦ open_by_one n k ps p (silent_next linked between) at (own_next between)
         | inr joined ↦ open_by_one n k ps p (silent_in joined) at (own_in linked joined)

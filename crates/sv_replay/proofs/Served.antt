@@ -1,5 +1,5 @@
 -- What a session's turn by its connection makes of a server, and that a sequencer answers as a server is to.
-use Rattle.std.proofs.Common.{◌≡◌, ℕ, zero, suc, ◌+◌, Bool, true, false, ◌&&◌, ◌||◌, ◌==◌, List, [], ◌∷◌, ◌++◌, map, drop, length, reverse, Some, None, Result, Ok, Err, refl, sym, ap, subst, ◌∙◌, arith}
+use Rattle.std.proofs.Common.{◌≡◌, ℕ, zero, suc, ◌+◌, Bool, true, false, ◌==◌, List, [], ◌∷◌, ◌++◌, map, drop, length, reverse, Some, None, Result, Ok, Err, refl, sym, ap, subst, ◌∙◌, arith}
 use Rattle.std.specs.Prelude.{if◌then◌else◌, IfOk}
 use Rattle.std.specs.declared.alloc.AllocError.{AllocError}
 use Rattle.std.specs.List.{AllByRecursion}
@@ -25,13 +25,13 @@ use Rattle.sv_system.specs.Fits.{replies_in}
 use Rattle.sv_system.proofs.Fronts.{fronts-same}
 use Rattle.sv_system.proofs.Entered.{as-many, replies-one}
 use Rattle.sv_schedule.specs.Players.{Player, asked_in_run}
-use Rattle.sv_schedule.specs.Serving.{Server, is_stop, served}
+use Rattle.sv_schedule.specs.Serving.{Server, is_stop, is_stop_reply, served}
 use Rattle.sv_schedule.specs.Schedule.{plain_server}
-use Rattle.sv_schedule.specs.Served.{AreNamed}
+use Rattle.sv_schedule.specs.Served.{RepliesNameAccepted}
 use Rattle.sv_schedule.proofs.SoundReplies.{replies-grow}
 use Rattle.sv_sequencer.specs.Step.{SequencerView, history, entry_of, Grew, Answered}
 use Rattle.sv_exchange.specs.View.{ExchangeView, TakesRequest}
-use Rattle.sv_replay.specs.Serving.{ServerView, Answers, sequencer_view, is_stop_reply, whole_reply, next_history, next_channel, with_answer, Entered, Served, one_if}
+use Rattle.sv_replay.specs.Serving.{ServerView, Answers, sequencer_view, whole_reply, next_history, next_channel, with_answer, Entered, Served, one_if}
 
 -- ---- What is never asked
 
@@ -104,7 +104,7 @@ same_stop A logged.Bye = refl
 
 -- ---- Whole replies stay
 
-pub replies_stay : (e : Entry) (h : List Entry) (s : ℕ) → AreNamed h → replies_in (accepted h) h s ≡ replies_in (accepted (e ∷ h)) h s
+pub replies_stay : (e : Entry) (h : List Entry) (s : ℕ) → RepliesNameAccepted h → replies_in (accepted h) h s ≡ replies_in (accepted (e ∷ h)) h s
 replies_stay e h s named =
     fronts-same (replies_in (accepted h) h s) (replies_in (accepted (e ∷ h)) h s) (replies_in (accepted (e ∷ h)) (e ∷ h) s) (replies-grow e h s named) (replies-one (accepted (e ∷ h)) e h s)
     (as-many (accepted h) h s ∙ sym (as-many (accepted (e ∷ h)) h s))

@@ -17,7 +17,7 @@ use Rattle.sv_client.specs.Taking.{Fault, first_fault_of_reply}
 use Rattle.sv_script.specs.Following.{must_join}
 use Rattle.sv_system.specs.Fits.{requests_in, replies_in}
 use Rattle.sv_system.proofs.Entered.{is_of}
-use Rattle.sv_schedule.specs.Players.{Player, asked_in_run, closed_by, open_session, takes, takes_if, take_in, take_turn, at_player, repeated, does, take_turns}
+use Rattle.sv_schedule.specs.Players.{Player, asked_in_run, has_closed, open_session, takes, takes_if, take_in, take_turn, at_player, repeated, does, take_turns}
 use Rattle.sv_schedule.specs.Serving.{Run, Server, served, is_stopped, session_served}
 use Rattle.sv_schedule.specs.Served.{KeepsSound}
 use Rattle.sv_replay.specs.Machine.{after_session, after_take}
@@ -80,7 +80,7 @@ turn_lessens server keeps ps s h = elim (cases_Bool (is_ended h s)) [
     ]
 
     closes : is_ended h s ≡ false → is_stopped h s ≡ false → drop (length (requests_in h s)) (asked_in_run ps s) ≡ [] → (session_served server ps h s ≡ h) ⊎ (work_left ps s (session_served server ps h s) < work_left ps s h)
-    closes running goes none = elim (cases_Bool (list_any (closed_by s) ps)) [
+    closes running goes none = elim (cases_Bool (list_any (has_closed s) ps)) [
       | inl shut ↦ inr (lessens running requests.End (rw (running, goes, none, shut) refl) (inl refl))
       | inr linked ↦ inl (rw (running, goes, none, linked) refl)
     ]
@@ -102,7 +102,7 @@ turn_grows server keeps ps s h = elim (cases_Bool (is_ended h s)) [
     grows q is = let long : length (session_served server ps h s) ≡ length (served server h s q) = ap (λ (g : List Entry). length g) is in omega (arith, long)
 
     closes : is_ended h s ≡ false → is_stopped h s ≡ false → drop (length (requests_in h s)) (asked_in_run ps s) ≡ [] → (session_served server ps h s ≡ h) ⊎ (length (session_served server ps h s) ≡ length h + 1)
-    closes running goes none = elim (cases_Bool (list_any (closed_by s) ps)) [
+    closes running goes none = elim (cases_Bool (list_any (has_closed s) ps)) [
       | inl shut ↦ inr (grows requests.End (rw (running, goes, none, shut) refl))
       | inr linked ↦ inl (rw (running, goes, none, linked) refl)
     ]

@@ -1,6 +1,7 @@
 -- The machine that plays a scenario, and the run that it stands for.
 -- A history is the list of a journal's entries with the latest first; events stand with the latest first too.
 use Rattle.std.specs.Prelude.{◌≡◌, ℕ, ◌<◌, Bool, true, false, ◌||◌, List, ◌∷◌, ◌++◌, map, length, slice_index_or, All}
+use Rattle.sv_world.specs.Limits.{most_sessions}
 use Rattle.sv_wire.specs.declared.message.Reply.{Reply}
 use Rattle.sv_wire.specs.declared.message.Request.{Request}
 use Rattle.sv_client.specs.declared.trace.Event.{Event}
@@ -40,7 +41,7 @@ pub record AreFlags (p : Playing) : Type 0 where
 
 -- A client in a session that has its Welcome, with an open link.
 pub record IsReady (p : Playing) : Type 0 where
-  pub fit : IsFit 64 (player_of p)
+  pub fit : IsFit most_sessions (player_of p)
   pub linked : p.closed ≡ false
   pub joined : must_join p.client.events ≡ false
   pub welcomed : is_welcomed p.client.events ≡ true

@@ -5,14 +5,16 @@ use Rattle.sv_wire.specs.declared.message.Reply.{Reply}
 use Rattle.sv_wire.specs.Laws.{IsReply}
 use Rattle.sv_journal.specs.declared.entry.Entry.{Entry}
 use Rattle.sv_journal.specs.History.{accepted, full_reply}
+use Rattle.sv_client.specs.declared.trace.Trace.{Trace}
 use Rattle.sv_client.specs.Traces.{current_session, got}
 use Rattle.sv_client.specs.Taking.{first_fault_of_reply}
 use Rattle.sv_scenario.specs.declared.scenario.Scenario.{Scenario}
 use Rattle.sv_scenario.specs.Limits.{IsGoodScenario}
 use Rattle.sv_system.specs.Fits.{replies_in}
+use Rattle.sv_asked.specs.Asked.{EventFits}
 use Rattle.sv_asked.specs.Numbers.{ScenarioFits}
 use Rattle.sv_schedule.specs.Players.{Player}
-use Rattle.sv_schedule.specs.Serving.{Run, Server}
+use Rattle.sv_schedule.specs.Serving.{Run, Server, traces_of}
 use Rattle.sv_schedule.specs.Schedule.{rules_of, plain_server}
 use Rattle.sv_schedule.specs.Served.{KeepsSound, IsSoundOver}
 use Rattle.sv_replay.specs.Messages.{AsksMessages}
@@ -29,3 +31,8 @@ pub record IsPlayable (scenario : Scenario) (server : Server) : Type 0 where
 -- A scenario can be run over the server that answers by the table.
 abbrev pub ScenariosArePlayable : Type 0
 ScenariosArePlayable = (scenario : Scenario) → IsGoodScenario scenario → ScenarioFits scenario → IsPlayable scenario (plain_server (rules_of scenario))
+
+-- The actions that the players of a sound run made are those of their scripts: their numbers are those of their types, where the scenario's are.
+abbrev pub MadeActionsFit : Type 0
+MadeActionsFit = (server : Server) (scenario : Scenario) (run : Run) → ScenarioFits scenario → IsSoundOver server scenario run →
+    All (λ (L : Trace). All EventFits L.events) (traces_of run)

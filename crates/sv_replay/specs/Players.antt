@@ -12,7 +12,7 @@ use Rattle.sv_client.specs.Taking.{Identity, first_fault_of_reply}
 use Rattle.sv_client.specs.Proper.{AreProper}
 use Rattle.sv_script.specs.Following.{must_join}
 use Rattle.sv_system.specs.Fits.{is_join_of, requests_in, replies_in}
-use Rattle.sv_schedule.specs.Players.{Player, asked_in_run, closed_by, takes}
+use Rattle.sv_schedule.specs.Players.{Player, asked_in_run, has_closed, takes}
 use Rattle.sv_schedule.specs.Serving.{Run, is_stopped}
 use Rattle.sv_exchange.specs.View.{ExchangeView}
 
@@ -41,7 +41,7 @@ asked_by_player p s = asked p.who.client p.who.interest p.events s
 pub record Moves (n : ℕ) (p q : Player) (sent : List Request) (taken : List Reply) (closing : Bool) : Type 0 where
   pub asks : (s : ℕ) → asked_by_player q s ≡ asked_by_player p s ++ (if n == s then sent else [])
   pub gets : (s : ℕ) → got q.events s ≡ got p.events s ++ (if n == s then taken else [])
-  pub closes : (s : ℕ) → closed_by s q ≡ (closed_by s p || (if n == s then closing else false))
+  pub closes : (s : ℕ) → has_closed s q ≡ (has_closed s p || (if n == s then closing else false))
   pub begun : (list_any (is_join_of n) q.events ≡ true) ⊎ ((sent ≡ []) × (taken ≡ []))
 
 abbrev pub is_closing : Event → Bool
@@ -61,5 +61,5 @@ pub record IsChannel (run : Run) (s : ℕ) (c : ExchangeView) : Type 0 where
   pub requests : c.requests ≡ drop (length (requests_in run.history s)) (asked_in_run run.players s)
   pub got : length (got_in_run run.players s) ≤ length (replies_in (accepted run.history) run.history s)
   pub replies : c.replies ≡ drop (length (got_in_run run.players s)) (replies_in (accepted run.history) run.history s)
-  pub closed : c.closed ≡ list_any (closed_by s) run.players
+  pub closed : c.closed ≡ list_any (has_closed s) run.players
   pub stopped : c.stopped ≡ is_stopped run.history s

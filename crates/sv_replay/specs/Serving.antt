@@ -1,13 +1,12 @@
 -- A server as a run sees it, and what a session's turn makes of it and of the session's connection.
 -- A history is the list of a journal's entries with the latest first.
-use Rattle.std.specs.Prelude.{◌≡◌, ℕ, Bool, true, false, ◌==◌, ◌||◌, List, [], ◌∷◌, ◌++◌, if◌then◌else◌}
+use Rattle.std.specs.Prelude.{◌≡◌, ℕ, ℤ, Bool, true, false, List, [], ◌∷◌, ◌++◌, if◌then◌else◌}
 use Rattle.sv_wire.specs.declared.message.Reply.{Reply}
-use Rattle.sv_wire.specs.declared.message.Reply.TheVariants as replies
 use Rattle.sv_wire.specs.declared.message.Request.{Request}
 use Rattle.sv_wire.specs.declared.message.Request.TheVariants as requests
 use Rattle.sv_wire.specs.Laws.{IsReply}
 use Rattle.sv_journal.specs.declared.entry.Entry.{Entry}
-use Rattle.sv_journal.specs.History.{accepted, full_reply}
+use Rattle.sv_journal.specs.History.{accepted, full_reply, committed_of}
 use Rattle.sv_journal.specs.Answer.{Rules}
 use Rattle.sv_journal.specs.Sessions.{is_ended}
 use Rattle.sv_sequencer.specs.Step.{SequencerView, history}
@@ -38,13 +37,11 @@ pub record Answers (old new : ServerView) (s : ℕ) (request : Request) (reply :
 abbrev pub sequencer_view : SequencerView → ServerView
 sequencer_view v = record { rules = v.rules; server = plain_server v.rules; history = history v }
 
--- ---- A session's turn
+-- The values of all objects at its commit.
+abbrev pub sequencer_world : SequencerView → List (List ℤ)
+sequencer_world v = committed_of v.rules.world.values (history v)
 
--- The reply stops its session's loop.
-abbrev pub is_stop_reply : Reply → Bool
-is_stop_reply replies.Bye = true
-is_stop_reply (replies.Refused code detail) = code == 1 || code == 4 || code == 9
-is_stop_reply _ = false
+-- ---- A session's turn
 
 -- The history after a session's turn, by what its connection holds.
 abbrev pub next_history : Server → List Entry → ℕ → ExchangeView → List Entry

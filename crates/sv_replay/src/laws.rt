@@ -1,5 +1,5 @@
-//! That a scenario can be run over a sequencer.
-ghost use Rattle.sv_replay.specs.Playable.{ScenariosArePlayable};
+//! What is true of runs over any server, and that a scenario can be run over a sequencer.
+ghost use Rattle.sv_replay.specs.Playable.{MadeActionsFit, ScenariosArePlayable};
 
 use sv_asked::{accepted_are_few, replies_are_messages, requests_are_messages};
 
@@ -12,3 +12,8 @@ pub(crate) fn scenarios_are_playable()
     replies_are_messages();
     accepted_are_few();
 }
+
+/// The actions that the players of a sound run made, over whatever server, have numbers of their types, where the scenario's have.
+pub fn made_actions_fit()
+    ensures { MadeActionsFit }
+{}

@@ -10,7 +10,8 @@ mod schedule;
 mod server;
 mod serving;
 
-pub use opening::open_sequencer;
-pub use played::played_of;
+pub use laws::made_actions_fit;
+pub use opening::{open_sequencer, opening_world};
+pub use played::{committed_values, played_of};
 pub use schedule::{Ran, run_over, run_schedule};
 pub use server::Server;

@@ -1,6 +1,7 @@
 //! The machine at the opening of a run.
 
 ghost use Rattle.std.specs.Prelude.{◌≡◌, ℕ, false, [], ◌+◌, ◌<◌, ◌≤◌, length, map, slice_index_or, All, IfOk};
+ghost use Rattle.sv_world.specs.Limits.{most_clients};
 ghost use Rattle.sv_scenario.specs.Limits.{IsGoodScenario, IsGoodPlan};
 ghost use Rattle.sv_scenario.specs.Sessions.{session_count, sessions_of_plan};
 ghost use Rattle.sv_schedule.specs.Players.{players_from};
@@ -20,19 +21,25 @@ use sv_scenario::{Plan, Scenario, sessions_of, sessions_of_plan};
 use sv_sequencer::Sequencer;
 use sv_world::{ClientId, Shape, World, copy_objects, copy_values};
 
+/// A copy of a scenario's opening world.
+pub fn opening_world(alloc: Global, scenario: &Scenario) -> Result<World, AllocError>
+    ensures { IfOk result (λ world. world ≡ scenario.now.world) }
+{
+    Ok(World {
+        shape: scenario.world.shape,
+        values: copy_values(alloc, scenario.world.values.as_slice())?,
+    })
+}
+
 /// Opens a scenario's server, which no one has asked anything yet.
 pub fn open_sequencer(alloc: Global, scenario: &Scenario) -> Result<Sequencer, AllocError>
     requires { IsGoodScenario scenario.now }
     ensures rules { IfOk result (λ s. s.rules ≡ rules_of scenario.now) }
     ensures empty { IfOk result (λ s. s.journal.entries ≡ []) }
 {
-    let world = World {
-        shape: scenario.world.shape,
-        values: copy_values(alloc, scenario.world.values.as_slice())?,
-    };
     Sequencer::new(
         alloc,
-        world,
+        opening_world(alloc, scenario)?,
         scenario.bound,
         scenario.reach,
         sessions_of(scenario),
@@ -46,7 +53,7 @@ fn open_player<'a>(
     first: u16,
     plan: &'a Plan,
 ) -> Result<Playing<'a>, AllocError>
-    requires number { number < 32 }
+    requires number { number < most_clients }
     requires plan { IsGoodPlan shape plan.now }
     ensures player { IfOk result (λ p. player_of p ≡ record { who = record { client = record { 0 = number }; interest = plan.now.interest; shape = shape }; first = first; events = []; left = plan.now.steps; closed = false }) }
     ensures flags { IfOk result (λ p. AreFlags p) }

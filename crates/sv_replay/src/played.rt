@@ -3,6 +3,7 @@ ghost use Rattle.std.specs.Prelude.{◌≡◌, length, IfOk};
 ghost use Rattle.sv_journal.specs.History.{commit_of, committed_of};
 ghost use Rattle.sv_sequencer.specs.Step.{history};
 
+use crate::server::Server;
 use std::alloc::{AllocError, Global};
 use sv_client::Trace;
 use sv_sequencer::Sequencer;
@@ -24,7 +25,7 @@ pub fn played_of(
     ensures commit { IfOk result (λ played. played.commit ≡ commit_of (history sequencer)) }
     ensures committed { IfOk result (λ played. played.committed ≡ committed_of sequencer.rules.world.values (history sequencer)) }
 {
-    let committed = committed(alloc, &sequencer, shape.objects)?;
+    let committed = committed_values(alloc, &sequencer, shape.objects)?;
     let commit = sequencer.commit();
     Ok(Played {
         shape,
@@ -35,15 +36,19 @@ pub fn played_of(
     })
 }
 
-/// The committed value of each object.
-fn committed(alloc: Global, sequencer: &Sequencer, objects: u16) -> Result<List<Value>, AllocError>
-    requires objects { objects ≡ sequencer.now.rules.world.shape.objects }
-    requires values { length sequencer.now.rules.world.values ≡ objects }
-    ensures { IfOk result (λ values. values ≡ committed_of sequencer.now.rules.world.values (history sequencer.now)) }
+/// The value of each object at a server's commit.
+pub fn committed_values<S: Server>(
+    alloc: Global,
+    server: &S,
+    objects: u16,
+) -> Result<List<Value>, AllocError>
+    requires objects { objects ≡ (S.view server.now).rules.world.shape.objects }
+    requires values { length (S.world server.now) ≡ objects }
+    ensures { IfOk result (λ values. values ≡ S.world server.now) }
 {
     let mut values = List::new(alloc);
     for object in 0..objects {
-        values.push(copy_value(alloc, sequencer.committed(ObjectId(object)))?)?;
+        values.push(copy_value(alloc, server.committed(ObjectId(object)))?)?;
     }
     Ok(values)
 }

@@ -1,6 +1,7 @@
 //! A client that plays its script.
 
 ghost use Rattle.std.specs.Prelude.{◌≡◌, ◌<◌, ◌+◌, [], ◌∷◌, ◌++◌, true, false, length, option_to_list, slice_get, All, IfOk, OnOk};
+ghost use Rattle.sv_world.specs.Limits.{most_sessions};
 ghost use Rattle.sv_client.specs.declared.trace.Event.TheVariants as events;
 ghost use Rattle.sv_client.specs.Traces.{joins};
 ghost use Rattle.sv_client.specs.Proper.{MayMake, MayPoll, MayLeave};
@@ -20,7 +21,7 @@ use sv_client::{Client, MakeFault, Mark, PollFault, TakeFault, Trace};
 use sv_exchange::Exchange;
 use sv_scenario::Step;
 use sv_wire::Request;
-use sv_world::{Action, List, ObjectId, copy_action, copy_objects};
+use sv_world::{Action, List, MOST_OUTSTANDING, MOST_PENDING, ObjectId, copy_action, copy_objects};
 
 /// A client that plays its script.
 #[derive(Drop)]
@@ -57,7 +58,7 @@ impl<'a> Playing<'a> {
 
     /// What it did.
     pub(crate) fn into_trace(self) -> Trace
-        requires { self.first < 64 }
+        requires { self.first < most_sessions }
         ensures { result ≡ trace_of_player (player_of self.entry) }
     {
         let Playing { client, first, .. } = self;
@@ -67,7 +68,7 @@ impl<'a> Playing<'a> {
     /// The session that it is in, or joins next.
     pub(crate) fn session(&self) -> u16
         requires flags { AreFlags self.now }
-        requires fit { IsFit 64 (player_of self.now) }
+        requires fit { IsFit most_sessions (player_of self.now) }
         ensures { result ≡ session_of (player_of self.now) }
     {
         let begun = self.first + self.client.sessions();
@@ -77,7 +78,7 @@ impl<'a> Playing<'a> {
     /// Its turn: it joins its first or next session, or does its next step, if it can.
     pub(crate) fn turn(&mut self, alloc: Global, channel: &mut Exchange) -> Result<(), AllocError>
         requires flags { AreFlags self.old }
-        requires fit { IsFit 64 (player_of self.old) }
+        requires fit { IsFit most_sessions (player_of self.old) }
         requires after { IsNext (player_turn (player_of self.old)) }
         requires open { self.old.closed ≡ false → channel.old.closed ≡ false }
         ensures { OnOk result (Moved (player_turn (player_of self.old)) self.old self.new channel.old channel.new) }
@@ -95,7 +96,7 @@ impl<'a> Playing<'a> {
     }
 
     fn join(&mut self, channel: &mut Exchange) -> Result<(), AllocError>
-        requires few { joins self.old.client.events < 64 }
+        requires few { joins self.old.client.events < most_sessions }
         requires messages { All IsRequest (newly_asked self.old.client.who self.old.client.events (events.Join (joins self.old.client.events))) }
         requires open { channel.old.closed ≡ false }
         ensures { OnOk result (Does (events.Join (joins self.old.client.events)) self.old.left.now self.old.closed self.old self.new channel.old channel.new) }
@@ -135,7 +136,7 @@ impl<'a> Playing<'a> {
     fn is_calm(&self) -> bool
         ensures { result ≡ is_calm (player_of self.now) }
     {
-        self.client.outstanding() < 16
+        self.client.outstanding() < MOST_OUTSTANDING
     }
 
     /// Whether no request is outstanding.
@@ -158,7 +159,7 @@ impl<'a> Playing<'a> {
         requires open { channel.old.closed ≡ false }
         ensures { OnOk result (Moved (next_step (player_of self.old) (steps.Act action.now ∷ rest.now)) self.old self.new channel.old channel.new) }
     {
-        if self.client.pending() < 8 && self.is_calm() {
+        if self.client.pending() < MOST_PENDING && self.is_calm() {
             self.make(alloc, channel, action, rest)
         } else {
             Ok(())
@@ -304,7 +305,7 @@ impl<'a> Playing<'a> {
     /// Takes the next reply that waits for it, if its end of a session is open. Whether it took one.
     pub(crate) fn take(&mut self, channel: &mut Exchange) -> Result<bool, AllocError>
         requires flags { AreFlags self.old }
-        requires fit { IsFit 64 (player_of self.old) }
+        requires fit { IsFit most_sessions (player_of self.old) }
         requires after { AsksMessages (taken_from channel.old.replies (player_of self.old)) }
         requires open { self.old.closed ≡ false → must_join self.old.client.events ≡ false → channel.old.closed ≡ false }
         requires fine { self.old.closed ≡ false → must_join self.old.client.events ≡ false → IsNextFine self.old.client.who self.old.client.events channel.old.replies }
@@ -319,7 +320,7 @@ impl<'a> Playing<'a> {
 
     fn take_next(&mut self, channel: &mut Exchange) -> Result<bool, AllocError>
         requires flags { AreFlags self.old }
-        requires fit { IsFit 64 (player_of self.old) }
+        requires fit { IsFit most_sessions (player_of self.old) }
         requires linked { self.old.closed ≡ false }
         requires joined { must_join self.old.client.events ≡ false }
         requires after { AsksMessages (takes (player_of self.old) (session_of (player_of self.old)) (slice_get channel.old.replies 0)) }

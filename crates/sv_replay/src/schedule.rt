@@ -1,4 +1,6 @@
+//! The run of a scenario, over a sequencer or over any server.
 ghost use Rattle.std.specs.Prelude.{◌≡◌, ◌<◌, [], map, reverse, IfOk, All};
+ghost use Rattle.sv_world.specs.Limits.{most_sessions};
 ghost use Rattle.sv_scenario.specs.Limits.{IsGoodScenario};
 ghost use Rattle.sv_system.specs.Records.{IsPlayed};
 ghost use Rattle.sv_schedule.specs.Players.{trace_of_player};
@@ -91,7 +93,7 @@ fn left<S: Server>(machine: Machine<'_, S>) -> Result<Ran<S>, AllocError>
 
 /// What each client did.
 fn traces(alloc: Global, players: Vec<Playing<'_>>) -> Result<List<Trace>, AllocError>
-    requires { All (λ (p : Playing). p.first < 64) players.items }
+    requires { All (λ (p : Playing). p.first < most_sessions) players.items }
     ensures { IfOk result (λ traces. traces ≡ map trace_of_player (map player_of players.entry.items)) }
 {
     let mut traces = List::new(alloc);

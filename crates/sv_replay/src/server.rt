@@ -1,16 +1,20 @@
 //! What a run asks of its server.
-ghost use Rattle.std.specs.Prelude.{◌≡◌, ◌<◌, true, false, IfOk};
+ghost use Rattle.std.specs.Prelude.{◌≡◌, ◌<◌, ℤ, List, [], true, false, slice_index_or, IfOk};
 ghost use Rattle.sv_journal.specs.Sessions.{is_end, is_ended};
-ghost use Rattle.sv_replay.specs.Serving.{Answers, ServerView, sequencer_view};
+ghost use Rattle.sv_replay.specs.Serving.{Answers, ServerView, sequencer_view, sequencer_world};
 
 use std::alloc::AllocError;
 use sv_sequencer::Sequencer;
 use sv_wire::{Reply, Request};
+use sv_world::{ObjectId, Value};
 
 /// A server that a run can be played over: it answers the requests of sessions, and keeps a journal of them.
 pub trait Server: Drop {
     // What it was opened with, how it answers, and what it was asked so far.
     ghost view: { Self → ServerView };
+
+    // The values of all objects at its commit.
+    ghost world: { Self → List (List ℤ) };
 
     /// How many sessions it was opened for.
     fn sessions(&self) -> u16
@@ -26,10 +30,17 @@ pub trait Server: Drop {
         requires session { session < (view self.old).rules.sessions }
         requires first { is_end request.now ≡ true → is_ended (view self.old).history session ≡ false }
         ensures { IfOk result (Answers (view self.old) (view self.new) session request.now) };
+
+    /// The value of an object at the commit.
+    fn committed(&self, object: ObjectId) -> &Value
+        requires { object.0 < (view self.now).rules.world.shape.objects }
+        ensures { result.now ≡ slice_index_or (world self.now) object.0 [] };
 }
 
 impl Server for Sequencer {
     ghost view = { sequencer_view };
+
+    ghost world = { sequencer_world };
 
     fn sessions(&self) -> u16 {
         self.sessions()
@@ -41,5 +52,9 @@ impl Server for Sequencer {
 
     fn step(&mut self, session: u16, request: &Request) -> Result<Reply, AllocError> {
         self.step(session, request)
+    }
+
+    fn committed(&self, object: ObjectId) -> &Value {
+        self.committed(object)
     }
 }

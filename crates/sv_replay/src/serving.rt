@@ -4,12 +4,22 @@ ghost use Rattle.std.specs.Prelude.{◌≡◌, ◌<◌, ◌+◌, [], ◌∷◌, 
 ghost use Rattle.sv_wire.specs.declared.message.Request.TheVariants as requests;
 ghost use Rattle.sv_wire.specs.Laws.{IsReply};
 ghost use Rattle.sv_journal.specs.Sessions.{is_ended};
-ghost use Rattle.sv_replay.specs.Serving.{is_stop_reply, whole_reply, with_answer, AnswersMessage, Entered, Served, one_if};
+ghost use Rattle.sv_schedule.specs.Serving.{is_stop_code, is_stop_reply};
+ghost use Rattle.sv_replay.specs.Serving.{whole_reply, with_answer, AnswersMessage, Entered, Served, one_if};
 
 use crate::server::Server;
 use std::alloc::AllocError;
 use sv_exchange::Exchange;
-use sv_wire::{Reply, Request};
+use sv_wire::{Refusal, Reply, Request};
+
+/// Whether a session's loop stops after a refusal with this code.
+fn is_stop_code(code: u8) -> bool
+    ensures { result ≡ is_stop_code code }
+{
+    code == Refusal::Malformed.code()
+        || code == Refusal::Over.code()
+        || code == Refusal::TooManyRequests.code()
+}
 
 /// Whether a session's loop stops after a reply.
 fn is_stop(reply: &Reply) -> bool
@@ -17,7 +27,7 @@ fn is_stop(reply: &Reply) -> bool
 {
     match reply {
         Reply::Bye => true,
-        Reply::Refused { code, .. } => *code == 1 || *code == 4 || *code == 9,
+        Reply::Refused { code, .. } => is_stop_code(*code),
         _ => false,
     }
 }

@@ -20,9 +20,9 @@ use Rattle.sv_client.specs.declared.trace.Event.TheVariants as events
 use Rattle.sv_client.specs.Traces.{submit_of, pending_of, held_of, done_for, is_session, current_session, makes, joins, asked_by, asked}
 use Rattle.sv_system.specs.Fits.{requests_in}
 use Rattle.sv_system.proofs.Tests.{each-append}
-use Rattle.sv_schedule.specs.Players.{Player, asked_in_run, closed_by}
+use Rattle.sv_schedule.specs.Players.{Player, asked_in_run, has_closed}
 use Rattle.sv_schedule.specs.Serving.{is_stop, is_stopped}
-use Rattle.sv_schedule.specs.Schedule.{with_entry, session_turn, session_turns, sessions_turned}
+use Rattle.sv_schedule.specs.Schedule.{plainly_served, session_turn, session_turns, sessions_turned}
 use Rattle.sv_schedule.proofs.DoneLists.{repeated-keeps}
 use Rattle.sv_schedule.proofs.DoneSessions.{is_spent, IsTurn, over, stops, steps, closes, waits, turn-is, other-turn}
 
@@ -83,7 +83,7 @@ next-asked ps s n q rest e = (subst AreAsked e (drop-asked n (asked_in_run ps s)
 
 -- A session that had its End was spent before, or its client's end is closed.
 abbrev pub EndsAreDue : List Player → List Entry → Type 0
-EndsAreDue ps h = (s : ℕ) → is_ended h s ≡ true → (is_spent h s ≡ true) ⊎ (list_any (closed_by s) ps ≡ true)
+EndsAreDue ps h = (s : ℕ) → is_ended h s ≡ true → (is_spent h s ≡ true) ⊎ (list_any (has_closed s) ps ≡ true)
 
 pub spent-first : (h : List Entry) (s : ℕ) → is_ended h s ≡ false → is_stopped h s ≡ true → is_spent h s ≡ true
 spent-first [] s n c = cc
@@ -108,15 +108,15 @@ spent-first (e ∷ h) s n c =
     other-false false b x y = absurd (true≢false (sym x))
 
 module _ (r : Rules) (ps : List Player) where
-  spent-more : (h : List Entry) (s : ℕ) (q : Request) → is_spent h s ≡ true → is_spent (with_entry r h s q) s ≡ true
+  spent-more : (h : List Entry) (s : ℕ) (q : Request) → is_spent h s ≡ true → is_spent (plainly_served r h s q) s ≡ true
   spent-more h s q e = or_right _ (is_spent h s) e
 
-  due-turned : (s : ℕ) (h g : List Entry) → IsTurn r ps s h g → EndsAreDue ps h → is_ended g s ≡ true → (is_spent g s ≡ true) ⊎ (list_any (closed_by s) ps ≡ true)
-  due-turned s h g (over e f) d x = subst (λ (j : List Entry). (is_spent j s ≡ true) ⊎ (list_any (closed_by s) ps ≡ true)) (sym f) (d s e)
+  due-turned : (s : ℕ) (h g : List Entry) → IsTurn r ps s h g → EndsAreDue ps h → is_ended g s ≡ true → (is_spent g s ≡ true) ⊎ (list_any (has_closed s) ps ≡ true)
+  due-turned s h g (over e f) d x = subst (λ (j : List Entry). (is_spent j s ≡ true) ⊎ (list_any (has_closed s) ps ≡ true)) (sym f) (d s e)
   due-turned s h g (stops e c f) d x = inl (ap (λ (j : List Entry). is_spent j s) f ∙ spent-more h s requests.End (spent-first h s e c))
   due-turned s h g (closes e n c f) d x = inr c
   due-turned s h g (waits c n k f) d x =
-      subst (λ (j : List Entry). (is_spent j s ≡ true) ⊎ (list_any (closed_by s) ps ≡ true)) (sym f) (d s (sym (ap (λ (j : List Entry). is_ended j s) f) ∙ x))
+      subst (λ (j : List Entry). (is_spent j s ≡ true) ⊎ (list_any (has_closed s) ps ≡ true)) (sym f) (d s (sym (ap (λ (j : List Entry). is_ended j s) f) ∙ x))
   due-turned s h g (steps e c q rest n f) d x =
       (let now : ((s == s && is_end q) || is_ended h s) ≡ true = sym (ap (λ (j : List Entry). is_ended j s) f) ∙ x in
       elim (or_cases (s == s && is_end q) (is_ended h s) now) [

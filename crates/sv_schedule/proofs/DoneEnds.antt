@@ -16,13 +16,14 @@ use Rattle.sv_scenario.specs.Limits.{IsGoodPlan, IsGoodScenario}
 use Rattle.sv_scenario.specs.Sessions.{sessions_of_plan, sessions_in, session_count}
 use Rattle.sv_script.proofs.Ends.{none-left}
 use Rattle.sv_system.specs.Fits.{IsEndLast, is_join_of}
-use Rattle.sv_schedule.specs.Players.{Player, open_session, closed_by, player_turn, take_turns, repeated}
+use Rattle.sv_system.specs.Laws.{NeverRefused}
+use Rattle.sv_schedule.specs.Players.{Player, open_session, has_closed, player_turn, take_turns, repeated}
 use Rattle.sv_schedule.specs.Serving.{Run, after_clients}
 use Rattle.sv_schedule.specs.Schedule.{rules_of, plain_server, round, after_sessions}
 use Rattle.sv_schedule.specs.Sound.{IsPlaying, ArePlaying, IsSound}
 use Rattle.sv_system.specs.Records.{ends_in}
-use Rattle.sv_schedule.specs.Done.{IsDone}
-use Rattle.sv_schedule.proofs.DoneGiven.{NeverRefused, StaySound}
+use Rattle.sv_schedule.specs.Done.{IsRunDone}
+use Rattle.sv_schedule.proofs.DoneGiven.{StaySound}
 use Rattle.sv_schedule.proofs.DoneLists.{repeated-sum, repeated-still, map-from, any-there, each-found, each-from}
 use Rattle.sv_schedule.proofs.DoneSessions.{quiet-round}
 use Rattle.sv_schedule.proofs.DoneStill.{round-still}
@@ -96,7 +97,7 @@ was-joined scenario good run sound closed s l =
     let first = o.playing.first in
     record { place = o.place; player = p; at = o.at; joined = low-joined p.who p.first p.events s f.proper (omega (arith, low, first)) (omega (arith, high, first, all)) }
 
-closed-by : (p : Player) (s : ℕ) → p.closed ≡ true → list_any (is_join_of s) p.events ≡ true → closed_by s p ≡ true
+closed-by : (p : Player) (s : ℕ) → p.closed ≡ true → list_any (is_join_of s) p.events ≡ true → has_closed s p ≡ true
 closed-by p s c j =
     and_from (list_any (is_join_of s) p.events) (not (is_session (open_session p) s)) j (ap (λ (o : Option ℕ). not (is_session o s)) (open-closed p c))
 
@@ -114,14 +115,14 @@ clients-closed run closed i q at =
 
 -- Then a round ends all sessions.
 pub closed-done : (scenario : Scenario) → IsGoodScenario scenario → StaySound scenario → (run : Run) → IsGoing scenario run → AreClosed run →
-    IsDone scenario (round (rules_of scenario) run)
+    IsRunDone scenario (round (rules_of scenario) run)
 closed-done scenario good stay run g closed = record {
   closed = All-from_recursion (λ (p : Player). p.closed ≡ true) (round (rules_of scenario) run).players
       (each-from (λ (p : Player). p.closed ≡ true) (round (rules_of scenario) run).players (round-closed (rules_of scenario) run closed));
   ended = λ s l.
       let clients = after_clients run in
       let w = was-joined scenario good clients (going-clients scenario good stay run g).sound (clients-closed run closed) s l in
-      let shut = any-there (closed_by s) clients.players w.place w.player w.at (closed-by w.player s (clients-closed run closed w.place w.player w.at) w.joined) in
+      let shut = any-there (has_closed s) clients.players w.place w.player w.at (closed-by w.player s (clients-closed run closed w.place w.player w.at) w.joined) in
       elim (quiet-round (rules_of scenario) clients.players s (below (session_count scenario)) run.history (is_in-below (session_count scenario) s l)) [
         | inl e ↦ e
         | inr x ↦ absurd (true≢false (sym shut ∙ x.1.1))
@@ -131,7 +132,7 @@ closed-done scenario good stay run g closed = record {
 -- ---- So many rounds are enough
 
 pub rounds-done : (scenario : Scenario) → IsGoodScenario scenario → NeverRefused → StaySound scenario → (run : Run) → IsGoing scenario run → (n : ℕ) → 777 ≤ n →
-    IsDone scenario (repeated n (round (rules_of scenario)) run)
+    IsRunDone scenario (repeated n (round (rules_of scenario)) run)
 rounds-done scenario good honest stay run g n l =
     let f : Run → Run = round (rules_of scenario) in
     let first : Run = f run in
@@ -139,11 +140,11 @@ rounds-done scenario good honest stay run g n l =
     let g1 : IsGoing scenario first = going-round scenario good stay run g in
     let g2 : IsGoing scenario closing = going-rounds scenario good honest stay 775 first g1 in
     let closed : AreClosed closing = fallen-closed scenario good honest stay closing (falling-rounds scenario good honest stay 775 first g1 (falling-first scenario good honest stay run g)) in
-    let done : IsDone scenario (f closing) = closed-done scenario good stay closing g2 closed in
+    let done : IsRunDone scenario (f closing) = closed-done scenario good stay closing g2 closed in
     let split : n ≡ suc (775 + suc (n - 777)) = omega (arith, l) in
     let there : repeated n f run ≡ f closing =
     ap (λ (k : ℕ). repeated k f run) split ∙ repeated-sum 775 (suc (n - 777)) f first ∙ repeated-still (n - 777) f (f closing) (round-still (plain_server (rules_of scenario)) scenario (f closing) done) in
-    subst (IsDone scenario) (sym there) done
+    subst (IsRunDone scenario) (sym there) done
 
 -- ---- Ends
 

@@ -21,11 +21,11 @@ use Rattle.sv_script.specs.Following.{FollowsTo, is_finished}
 use Rattle.sv_system.specs.Fronts.{IsFront}
 use Rattle.sv_system.specs.Fits.{requests_in, replies_in, IsEndLast, is_join_of, FitsOne, AreApart, AreAllApart}
 use Rattle.sv_system.proofs.Asked.{any-reverse}
+use Rattle.sv_system.specs.Laws.{NeverRefused}
 use Rattle.sv_schedule.specs.Players.{Player, trace_of_player}
 use Rattle.sv_schedule.specs.Serving.{Run, traces_of}
 use Rattle.sv_schedule.specs.Schedule.{rules_of}
 use Rattle.sv_schedule.specs.Sound.{IsLeft, IsPlaying, ArePlaying, IsSound}
-use Rattle.sv_schedule.proofs.DoneGiven.{NeverRefused}
 use Rattle.sv_schedule.proofs.DoneLists.{map-here, each-found}
 
 -- ---- The player's plan

@@ -12,12 +12,13 @@ use Rattle.sv_scenario.specs.Limits.{IsGoodScenario}
 use Rattle.sv_scenario.specs.Sessions.{sessions_of_plan}
 use Rattle.sv_script.specs.Following.{FollowsTo, FollowsToEnd, is_finished}
 use Rattle.sv_system.specs.Records.{AreTracesOf, IsRecordOf, ScriptsAreFollowed}
+use Rattle.sv_system.specs.Laws.{NeverRefused}
 use Rattle.sv_schedule.specs.Players.{Player, repeated, trace_of_player}
 use Rattle.sv_schedule.specs.Serving.{Run, opening_run, most_rounds, traces_of}
 use Rattle.sv_schedule.specs.Schedule.{rules_of, all_turned, round, scheduled_run}
 use Rattle.sv_schedule.specs.Sound.{IsPlaying, ArePlaying, IsSound}
-use Rattle.sv_schedule.specs.Done.{IsDone}
-use Rattle.sv_schedule.proofs.DoneGiven.{NeverRefused, StaySound}
+use Rattle.sv_schedule.specs.Done.{IsRunDone}
+use Rattle.sv_schedule.proofs.DoneGiven.{StaySound}
 use Rattle.sv_schedule.proofs.DoneLists.{each-found}
 use Rattle.sv_schedule.proofs.DoneFacts.{following, same-who, same-events}
 use Rattle.sv_schedule.proofs.DoneRounds.{IsGoing, going-turned, going-rounds}
@@ -53,7 +54,7 @@ scripts-followed shape k s (plan ∷ plans) [] a c = absurd a
 scripts-followed shape k s (plan ∷ plans) (p ∷ ps) a c =
     (follows-end shape k s plan p a.0 c.0, scripts-followed shape (suc k) (s + sessions_of_plan plan) plans ps a.1 c.1)
 
-record-of : (scenario : Scenario) → IsGoodScenario scenario → (run : Run) → IsSound scenario run → IsDone scenario run → IsRecordOf scenario run.history (traces_of run)
+record-of : (scenario : Scenario) → IsGoodScenario scenario → (run : Run) → IsSound scenario run → IsRunDone scenario run → IsRecordOf scenario run.history (traces_of run)
 record-of scenario good run sound done =
     let closed = recursion_from_All (λ (p : Player). p.closed ≡ true) run.players done.closed in
     record {
@@ -78,7 +79,7 @@ module _ (scenario : Scenario) (good : IsGoodScenario scenario) (honest : NeverR
   rounds-going : (n : ℕ) → IsGoing scenario (repeated n (round (rules_of scenario)) (all_turned (rules_of scenario) (opening_run scenario) scenario.schedule))
   rounds-going n = going-rounds scenario good honest stay n (all_turned (rules_of scenario) (opening_run scenario) scenario.schedule) going-schedule
 
-  rounds-enough : (n : ℕ) → 777 ≤ n → IsDone scenario (repeated n (round (rules_of scenario)) (all_turned (rules_of scenario) (opening_run scenario) scenario.schedule))
+  rounds-enough : (n : ℕ) → 777 ≤ n → IsRunDone scenario (repeated n (round (rules_of scenario)) (all_turned (rules_of scenario) (opening_run scenario) scenario.schedule))
   rounds-enough n l = rounds-done scenario good honest stay (all_turned (rules_of scenario) (opening_run scenario) scenario.schedule) going-schedule n l
 
   rounds-record : (n : ℕ) → 777 ≤ n →
@@ -92,7 +93,7 @@ module _ (scenario : Scenario) (good : IsGoodScenario scenario) (honest : NeverR
       scripts-followed scenario.world.shape 0 0 scenario.clients _ (rounds-going n).sound.players
       (recursion_from_All (λ (p : Player). p.closed ≡ true) _ (rounds-enough n l).closed)
 
-  pub scheduled-done : IsDone scenario (scheduled_run scenario)
+  pub scheduled-done : IsRunDone scenario (scheduled_run scenario)
   scheduled-done = rounds-enough most_rounds (omega arith)
 
   pub scheduled-record : IsRecordOf scenario (scheduled_run scenario).history (traces_of (scheduled_run scenario))

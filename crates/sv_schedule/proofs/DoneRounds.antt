@@ -14,11 +14,12 @@ use Rattle.sv_scenario.specs.declared.scenario.Turn.TheVariants as turns
 use Rattle.sv_scenario.specs.Limits.{IsGoodScenario, IsGoodTurn}
 use Rattle.sv_scenario.specs.Sessions.{cuts_in, session_count}
 use Rattle.sv_script.specs.Following.{must_join, is_welcomed}
-use Rattle.sv_schedule.specs.Players.{Player, is_settled, closed_by, player_turn, take_turn, take_turns, repeated}
+use Rattle.sv_system.specs.Laws.{NeverRefused}
+use Rattle.sv_schedule.specs.Players.{Player, is_settled, has_closed, player_turn, take_turn, take_turns, repeated}
 use Rattle.sv_schedule.specs.Serving.{Run, after_clients, after_takes}
 use Rattle.sv_schedule.specs.Schedule.{rules_of, turned, all_turned, after_sessions, round}
 use Rattle.sv_schedule.specs.Sound.{ArePassed, none, sync, IsSound}
-use Rattle.sv_schedule.proofs.DoneGiven.{NeverRefused, StaySound}
+use Rattle.sv_schedule.proofs.DoneGiven.{StaySound}
 use Rattle.sv_schedule.proofs.DoneLists.{map-here, map-from, repeated-keeps}
 use Rattle.sv_schedule.proofs.DoneDue.{EndsAreDue, due-turn, due-round}
 use Rattle.sv_schedule.proofs.DoneFacts.{following}
@@ -46,7 +47,7 @@ module _ (scenario : Scenario) (good : IsGoodScenario scenario) (stay : StaySoun
   due-takes : (run : Run) → IsGoing scenario run → EndsAreDue (after_takes run).players run.history
   due-takes run g =
       due-mapped run.players run.history (take_turns run.history)
-      (λ k p s at c. repeated-keeps (λ (q : Player). closed_by s q ≡ true) (take_turn run.history) (λ q d. shut-take run.history q s d) (length run.history) p c) g.due
+      (λ k p s at c. repeated-keeps (λ (q : Player). has_closed s q ≡ true) (take_turn run.history) (λ q d. shut-take run.history q s d) (length run.history) p c) g.due
 
   pub going-clients : (run : Run) → IsGoing scenario run → IsGoing scenario (after_clients run)
   going-clients run g = record { sound = stay.clients run g.sound; due = due-clients run g }

@@ -12,9 +12,9 @@ use Rattle.sv_journal.specs.declared.entry.Entry.{Entry}
 use Rattle.sv_journal.specs.Sessions.{is_end, is_ended}
 use Rattle.sv_journal.specs.Answer.{Rules}
 use Rattle.sv_system.specs.Fits.{requests_in}
-use Rattle.sv_schedule.specs.Players.{Player, asked_in_run, closed_by, repeated}
+use Rattle.sv_schedule.specs.Players.{Player, asked_in_run, has_closed, repeated}
 use Rattle.sv_schedule.specs.Serving.{is_stop, is_stopped}
-use Rattle.sv_schedule.specs.Schedule.{with_entry, steps_next, session_turn, session_turns, sessions_turned}
+use Rattle.sv_schedule.specs.Schedule.{plainly_served, steps_next, session_turn, session_turns, sessions_turned}
 use Rattle.sv_schedule.proofs.DoneLists.{repeated-keeps}
 
 -- The session was answered a reply that stops its loop, to a request that is no End.
@@ -51,15 +51,15 @@ same-other t s e h n = record {
 -- What a session's turn makes of the history, and why.
 pub data IsTurn (r : Rules) (ps : List Player) (s : ℕ) (h g : List Entry) : Type 0 where
   over : is_ended h s ≡ true → g ≡ h → IsTurn r ps s h g
-  stops : is_ended h s ≡ false → is_stopped h s ≡ true → g ≡ with_entry r h s requests.End → IsTurn r ps s h g
+  stops : is_ended h s ≡ false → is_stopped h s ≡ true → g ≡ plainly_served r h s requests.End → IsTurn r ps s h g
   steps : is_ended h s ≡ false → is_stopped h s ≡ false → (q : Request) (rest : List Request) → drop (length (requests_in h s)) (asked_in_run ps s) ≡ q ∷ rest →
-      g ≡ with_entry r h s q → IsTurn r ps s h g
-  closes : is_ended h s ≡ false → drop (length (requests_in h s)) (asked_in_run ps s) ≡ [] → list_any (closed_by s) ps ≡ true →
-      g ≡ with_entry r h s requests.End → IsTurn r ps s h g
-  waits : is_stopped h s ≡ false → drop (length (requests_in h s)) (asked_in_run ps s) ≡ [] → list_any (closed_by s) ps ≡ false → g ≡ h → IsTurn r ps s h g
+      g ≡ plainly_served r h s q → IsTurn r ps s h g
+  closes : is_ended h s ≡ false → drop (length (requests_in h s)) (asked_in_run ps s) ≡ [] → list_any (has_closed s) ps ≡ true →
+      g ≡ plainly_served r h s requests.End → IsTurn r ps s h g
+  waits : is_stopped h s ≡ false → drop (length (requests_in h s)) (asked_in_run ps s) ≡ [] → list_any (has_closed s) ps ≡ false → g ≡ h → IsTurn r ps s h g
 
-turn-by : (r : Rules) (ps : List Player) (s : ℕ) (h : List Entry) (b c d : Bool) (w : List Request) → is_ended h s ≡ b → is_stopped h s ≡ c → list_any (closed_by s) ps ≡ d →
-    drop (length (requests_in h s)) (asked_in_run ps s) ≡ w → IsTurn r ps s h (if b then h else if c then with_entry r h s requests.End else steps_next r h s d w)
+turn-by : (r : Rules) (ps : List Player) (s : ℕ) (h : List Entry) (b c d : Bool) (w : List Request) → is_ended h s ≡ b → is_stopped h s ≡ c → list_any (has_closed s) ps ≡ d →
+    drop (length (requests_in h s)) (asked_in_run ps s) ≡ w → IsTurn r ps s h (if b then h else if c then plainly_served r h s requests.End else steps_next r h s d w)
 turn-by r ps s h true c d w e f g k = over e refl
 turn-by r ps s h false true d w e f g k = stops e f refl
 turn-by r ps s h false false d (q ∷ w) e f g k = steps e f q w k refl
@@ -68,7 +68,7 @@ turn-by r ps s h false false false [] e f g k = waits f k g refl
 
 pub turn-is : (r : Rules) (ps : List Player) (s : ℕ) (h : List Entry) → IsTurn r ps s h (session_turn r ps h s)
 turn-is r ps s h =
-    turn-by r ps s h (is_ended h s) (is_stopped h s) (list_any (closed_by s) ps) (drop (length (requests_in h s)) (asked_in_run ps s)) refl refl refl refl
+    turn-by r ps s h (is_ended h s) (is_stopped h s) (list_any (has_closed s) ps) (drop (length (requests_in h s)) (asked_in_run ps s)) refl refl refl refl
 
 same-turned : (r : Rules) (ps : List Player) (s t : ℕ) (h g : List Entry) → (t == s) ≡ false → IsTurn r ps t h g → IsSameIn s h g
 same-turned r ps s t h g n (over e f) = same-all s h g f
@@ -85,7 +85,7 @@ other-turn r ps s t h n = same-turned r ps s t h (session_turn r ps h t) n (turn
 -- The session finds nothing to do: it has its End, or its loop goes on, nothing waits and the client's end is open.
 abbrev pub IsQuiet : List Player → List Entry → ℕ → Type 0
 IsQuiet ps h s = (is_ended h s ≡ true)
-    ⊎ ((is_stopped h s ≡ false) × ((length (asked_in_run ps s) ≤ length (requests_in h s)) × (list_any (closed_by s) ps ≡ false)))
+    ⊎ ((is_stopped h s ≡ false) × ((length (asked_in_run ps s) ≤ length (requests_in h s)) × (list_any (has_closed s) ps ≡ false)))
 
 drop-none : {X : Type 0} (n : ℕ) (xs : List X) → drop n xs ≡ [] → length xs ≤ n
 drop-none n xs e = let l = length-drop n xs in let z = ap length e in omega (arith, l, z)
@@ -128,10 +128,10 @@ module _ (r : Rules) (ps : List Player) (s : ℕ) where
       quiet-all_kept ss (session_turns r ps h t)
       (repeated-keeps (λ (g : List Entry). IsQuiet ps g s) (λ (g : List Entry). session_turn r ps g t) (quiet-kept t) (suc (length (asked_in_run ps t))) h q)
 
-  ended-now : (h : List Entry) (q : Request) → is_end q ≡ true → is_ended (with_entry r h s q) s ≡ true
+  ended-now : (h : List Entry) (q : Request) → is_end q ≡ true → is_ended (plainly_served r h s q) s ≡ true
   ended-now h q e = or_left (s == s && is_end q) (is_ended h s) (and_from (s == s) (is_end q) (eq-eqb s s refl) e)
 
-  asked-now : (h : List Entry) (q : Request) → is_end q ≡ false → length (requests_in (with_entry r h s q) s) ≡ length (requests_in h s) + 1
+  asked-now : (h : List Entry) (q : Request) → is_end q ≡ false → length (requests_in (plainly_served r h s q) s) ≡ length (requests_in h s) + 1
   asked-now h q e =
       ap length (cond-true (s == s && not (is_end q)) (requests_in h s ++ q ∷ []) (requests_in h s) (and_from (s == s) (not (is_end q)) (eq-eqb s s refl) (not_from_false (is_end q) e)))
       ∙ length-append (requests_in h s) (q ∷ [])

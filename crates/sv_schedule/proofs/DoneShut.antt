@@ -13,7 +13,7 @@ use Rattle.sv_scenario.specs.declared.scenario.Step.{Step}
 use Rattle.sv_scenario.specs.declared.scenario.Step.TheVariants as steps
 use Rattle.sv_script.specs.Following.{must_join, is_welcomed}
 use Rattle.sv_system.specs.Fits.{is_join_of}
-use Rattle.sv_schedule.specs.Players.{Player, does, is_settled, next_step, player_turn, open_session, takes_if, takes, take_in, take_turn, take_turns, closed_by, at_player}
+use Rattle.sv_schedule.specs.Players.{Player, does, is_settled, next_step, player_turn, open_session, takes_if, takes, take_in, take_turn, take_turns, has_closed, at_player}
 use Rattle.sv_schedule.proofs.DoneLists.{any-mapped, any-at}
 use Rattle.sv_schedule.proofs.DoneDue.{EndsAreDue}
 use Rattle.sv_schedule.proofs.DoneCounts.{joined-low}
@@ -90,7 +90,7 @@ near-take h p = near-in h p (open_session p) refl
 not-session : (o : Option ℕ) (s : ℕ) → o ≡ None → not (is_session o s) ≡ true
 not-session o s e = ap (λ (x : Option ℕ). not (is_session x s)) e
 
-pub near-shut : (p q : Player) (s : ℕ) → IsNear p q → closed_by s p ≡ true → closed_by s q ≡ true
+pub near-shut : (p q : Player) (s : ℕ) → IsNear p q → has_closed s p ≡ true → has_closed s q ≡ true
 near-shut p q s n h =
     let parts = and_parts (list_any (is_join_of s) p.events) (not (is_session (open_session p) s)) h in
     and_from (list_any (is_join_of s) q.events) (not (is_session (open_session q) s)) (n.joined s parts.0)
@@ -99,7 +99,7 @@ near-shut p q s n h =
       | inr e ↦ ap (λ (x : Option ℕ). not (is_session x s)) e ∙ parts.1
     ])
 
-pub shut-take : (h : List Entry) (p : Player) (s : ℕ) → closed_by s p ≡ true → closed_by s (take_turn h p) ≡ true
+pub shut-take : (h : List Entry) (p : Player) (s : ℕ) → has_closed s p ≡ true → has_closed s (take_turn h p) ≡ true
 shut-take h p s c = near-shut p (take_turn h p) s (near-take h p) c
 
 -- ---- The ways of a client's turn
@@ -121,7 +121,7 @@ turn-steps p c m =
     else if must_join p.events then does p (events.Join (p.first + joins p.events)) p.left else if is_welcomed p.events then next_step p p.left else p) c
     ∙ ap (λ (b : Bool). if b then does p (events.Join (p.first + joins p.events)) p.left else if is_welcomed p.events then next_step p p.left else p) m
 
-shut-joined : (p : Player) (s : ℕ) → AreProper p.who p.first p.events → closed_by s p ≡ true → closed_by s (does p (events.Join (p.first + joins p.events)) p.left) ≡ true
+shut-joined : (p : Player) (s : ℕ) → AreProper p.who p.first p.events → has_closed s p ≡ true → has_closed s (does p (events.Join (p.first + joins p.events)) p.left) ≡ true
 shut-joined p s proper h =
     let n = p.first + joins p.events in
     let q = does p (events.Join n) p.left in
@@ -134,13 +134,13 @@ shut-joined p s proper h =
     go true n e = refl
     go false n e = ap not e
 
-pub shut-turn : (p : Player) (s : ℕ) → AreProper p.who p.first p.events → closed_by s p ≡ true → closed_by s (player_turn p) ≡ true
+pub shut-turn : (p : Player) (s : ℕ) → AreProper p.who p.first p.events → has_closed s p ≡ true → has_closed s (player_turn p) ≡ true
 shut-turn p s proper h =
     elim (cases_Bool p.closed) [
-      | inl c ↦ ap (closed_by s) (turn-closed p c) ∙ h
+      | inl c ↦ ap (has_closed s) (turn-closed p c) ∙ h
       | inr c ↦ elim (cases_Bool (must_join p.events)) [
-        | inl m ↦ ap (closed_by s) (turn-joins p c m) ∙ shut-joined p s proper h
-        | inr m ↦ ap (closed_by s) (turn-steps p c m)
+        | inl m ↦ ap (has_closed s) (turn-joins p c m) ∙ shut-joined p s proper h
+        | inr m ↦ ap (has_closed s) (turn-steps p c m)
             ∙ near-shut p (if is_welcomed p.events then next_step p p.left else p) s
             (near-if (is_welcomed p.events) p (next_step p p.left) p (near-step p c m p.left) (near-same p)) h
       ]
@@ -149,19 +149,19 @@ shut-turn p s proper h =
 -- ---- Ends stay due
 
 pub due-mapped : (ps : List Player) (h : List Entry) (turn : Player → Player) →
-    ((k : ℕ) (p : Player) (s : ℕ) → slice_get ps k ≡ Some p → closed_by s p ≡ true → closed_by s (turn p) ≡ true) → EndsAreDue ps h → EndsAreDue (map turn ps) h
+    ((k : ℕ) (p : Player) (s : ℕ) → slice_get ps k ≡ Some p → has_closed s p ≡ true → has_closed s (turn p) ≡ true) → EndsAreDue ps h → EndsAreDue (map turn ps) h
 due-mapped ps h turn keep d s e =
     elim (d s e) [
       | inl x ↦ inl x
-      | inr x ↦ inr (any-mapped (closed_by s) (closed_by s) turn ps (λ k p there c. keep k p s there c) x)
+      | inr x ↦ inr (any-mapped (has_closed s) (has_closed s) turn ps (λ k p there c. keep k p s there c) x)
     ]
 
 pub due-at : (ps : List Player) (h : List Entry) (k : ℕ) (turn : Player → Player) →
-    ((p : Player) (s : ℕ) → slice_get ps k ≡ Some p → closed_by s p ≡ true → closed_by s (turn p) ≡ true) → EndsAreDue ps h → EndsAreDue (at_player ps k turn) h
+    ((p : Player) (s : ℕ) → slice_get ps k ≡ Some p → has_closed s p ≡ true → has_closed s (turn p) ≡ true) → EndsAreDue ps h → EndsAreDue (at_player ps k turn) h
 due-at ps h k turn keep d s e =
     elim (d s e) [
       | inl x ↦ inl x
-      | inr x ↦ inr (any-at (closed_by s) turn ps k (λ p there c. keep p s there c) x)
+      | inr x ↦ inr (any-at (has_closed s) turn ps k (λ p there c. keep p s there c) x)
     ]
 
 -- ---- Players that have closed

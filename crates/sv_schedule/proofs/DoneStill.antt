@@ -11,7 +11,7 @@ use Rattle.sv_scenario.specs.declared.scenario.Scenario.{Scenario}
 use Rattle.sv_scenario.specs.Sessions.{session_count}
 use Rattle.sv_schedule.specs.Players.{Player, player_turn, take_turns, asked_in_run}
 use Rattle.sv_schedule.specs.Serving.{Run, Server, session_served, all_served, sessions_served, after_clients, after_served, after_takes, round_served}
-use Rattle.sv_schedule.specs.Done.{IsDone}
+use Rattle.sv_schedule.specs.Done.{IsRunDone}
 use Rattle.sv_schedule.proofs.DoneLists.{repeated-still}
 use Rattle.sv_schedule.proofs.DoneTakes.{takes-none}
 use Rattle.sv_schedule.proofs.DoneShut.{open-closed, turn-closed}
@@ -36,7 +36,7 @@ sessions-still server ps h (s ∷ ss) ended =
     repeated-still (suc (length (asked_in_run ps s))) (λ (g : List Entry). session_served server ps g s) h (ended-still server ps s h (ended s (is_in-head s ss))) in
     ap (λ (g : List Entry). sessions_served server ps g ss) now ∙ sessions-still server ps h ss (λ t m. ended t (is_in-tail t s ss m))
 
-pub round-still : (server : Server) (scenario : Scenario) (run : Run) → IsDone scenario run → round_served server (session_count scenario) run ≡ run
+pub round-still : (server : Server) (scenario : Scenario) (run : Run) → IsRunDone scenario run → round_served server (session_count scenario) run ≡ run
 round-still server scenario run d =
     let n = session_count scenario in
     let closed = recursion_from_All (λ (p : Player). p.closed ≡ true) run.players d.closed in

@@ -27,11 +27,12 @@ use Rattle.sv_script.proofs.Due.{kind-of}
 use Rattle.sv_system.specs.Fits.{requests_in, replies_in}
 use Rattle.sv_system.proofs.Entered.{as-many}
 use Rattle.sv_system.proofs.Tests.{each-append}
+use Rattle.sv_system.specs.Laws.{NeverRefused}
 use Rattle.sv_schedule.specs.Players.{Player, does, open_session, takes, takes_if, take_in, take_turn, take_turns, repeated}
 use Rattle.sv_schedule.specs.Serving.{Run}
 use Rattle.sv_schedule.specs.Schedule.{turned, rules_of}
 use Rattle.sv_schedule.specs.Sound.{IsSound}
-use Rattle.sv_schedule.proofs.DoneGiven.{NeverRefused, StaySound}
+use Rattle.sv_schedule.proofs.DoneGiven.{StaySound}
 use Rattle.sv_schedule.proofs.DoneLists.{repeated-still, at-here}
 use Rattle.sv_schedule.proofs.DoneFacts.{following, next-taken, playing-there}
 use Rattle.sv_schedule.proofs.DoneCounts.{asked-few}

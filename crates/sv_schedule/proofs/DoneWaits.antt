@@ -32,11 +32,12 @@ use Rattle.sv_system.proofs.Histories.{IsEarlier, same, after}
 use Rattle.sv_system.proofs.Entered.{is_of, as-many, replies-earlier}
 use Rattle.sv_system.proofs.Asked.{part-rest, asked-part, got-when, got-answers, begun-or_not, current-joined}
 use Rattle.sv_system.proofs.Leaving.{leave-last}
-use Rattle.sv_schedule.specs.Players.{Player, open_session, closed_by, take_turns}
+use Rattle.sv_system.specs.Laws.{NeverRefused}
+use Rattle.sv_schedule.specs.Players.{Player, open_session, has_closed, take_turns}
 use Rattle.sv_schedule.specs.Serving.{Run, is_stop, after_takes}
 use Rattle.sv_schedule.specs.Schedule.{rules_of, after_sessions}
 use Rattle.sv_schedule.specs.Sound.{IsSound}
-use Rattle.sv_schedule.proofs.DoneGiven.{NeverRefused, StaySound}
+use Rattle.sv_schedule.proofs.DoneGiven.{StaySound}
 use Rattle.sv_schedule.proofs.DoneLists.{map-here, any-found, piece-shorter}
 use Rattle.sv_schedule.proofs.DoneSessions.{is_spent, IsQuiet, quiet-round}
 use Rattle.sv_schedule.proofs.DoneDue.{EndsAreDue, due-round}
@@ -193,9 +194,9 @@ module _ (scenario : Scenario) (good : IsGoodScenario scenario) (honest : NeverR
   fit : IsFit h now s
   fit = facts.fits s (current-joined taken.events s taken.current)
 
-  not-closed : list_any (closed_by s) run.players ≡ true → ⊥
+  not-closed : list_any (has_closed s) run.players ≡ true → ⊥
   not-closed c =
-      let g = any-found (closed_by s) run.players c in
+      let g = any-found (has_closed s) run.players c in
       let q = g.1.0 in
       let parts = and_parts (list_any (is_join_of s) q.events) (not (is_session (open_session q) s)) g.1.1.1 in
       let own : p ≡ q = one-owner run.players i g.0 p q s sound.fits.apart at g.1.1.0 joined-s parts.0 in

@@ -9,10 +9,10 @@ use Rattle.sv_journal.specs.Sessions.{is_end, is_ended}
 use Rattle.sv_client.specs.Traces.{asked, got}
 use Rattle.sv_system.specs.Fits.{requests_in, replies_in}
 use Rattle.sv_system.proofs.Fronts.{front-then}
-use Rattle.sv_schedule.specs.Players.{Player, asked_in_run, closed_by}
+use Rattle.sv_schedule.specs.Players.{Player, asked_in_run, has_closed}
 use Rattle.sv_schedule.specs.Serving.{Server, entry_by, served, is_stop, is_stopped}
 use Rattle.sv_schedule.specs.Sound.{has_joined}
-use Rattle.sv_schedule.specs.Served.{IsHeard, AreNamed, KeepsSound}
+use Rattle.sv_schedule.specs.Served.{IsHeard, RepliesNameAccepted, KeepsSound}
 use Rattle.sv_schedule.proofs.SoundTraces.{none-asked}
 use Rattle.sv_schedule.proofs.SoundReplies.{replies-grow}
 use Rattle.sv_schedule.proofs.SoundPlayers.{FitsAt, IsFitting}
@@ -23,7 +23,7 @@ use Rattle.sv_schedule.proofs.SoundPlayers.{FitsAt, IsFitting}
 abbrev pub IsNextOf : List Entry → ℕ → Request → Player → Type 0
 IsNextOf h s request p = has_joined p s ≡ true → is_end request ≡ false → slice_get (asked p.who.client p.who.interest p.events s) (length (requests_in h s)) ≡ Some request
 
-module _ (server : Server) (keeps : KeepsSound server) (h : List Entry) (named : AreNamed h) (s : ℕ) (request : Request) (open-yet : is_ended h s ≡ false) where
+module _ (server : Server) (keeps : KeepsSound server) (h : List Entry) (named : RepliesNameAccepted h) (s : ℕ) (request : Request) (open-yet : is_ended h s ≡ false) where
   abbrev grown : List Entry
   grown = served server h s request
 
@@ -69,10 +69,10 @@ none-asked_in server h (p ∷ ps) n f b =
     let parts = or_parts (has_joined p n) (begun_by ps n) b in
     both-empty (asked p.who.client p.who.interest p.events n) (asked_in_run ps n) (none-asked p.who p.first p.events n f.0.proper parts.0) (none-asked_in server h ps n f.1 parts.1)
 
-pub closed-begun : (ps : List Player) (n : ℕ) → list_any (closed_by n) ps ≡ true → begun_by ps n ≡ true
+pub closed-begun : (ps : List Player) (n : ℕ) → list_any (has_closed n) ps ≡ true → begun_by ps n ≡ true
 closed-begun [] n c = c
 closed-begun (p ∷ ps) n c =
-    elim (or_cases (closed_by n p) (list_any (closed_by n) ps) c) [
+    elim (or_cases (has_closed n p) (list_any (has_closed n) ps) c) [
       | inl one ↦ or_left (has_joined p n) (begun_by ps n) (and_parts (has_joined p n) _ one).0
       | inr more ↦ or_right (has_joined p n) (begun_by ps n) (closed-begun ps n more)
     ]

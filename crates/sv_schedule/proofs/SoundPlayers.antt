@@ -111,9 +111,9 @@ no-length : {X : Type 0} (xs : List X) → length xs ≡ 0 → xs ≡ []
 no-length [] e = refl
 no-length (x ∷ xs) e = absurd (omega (arith, e))
 
-abbrev is_quit : List Event → Bool
-is_quit (events.Quit ∷ t) = true
-is_quit _ = false
+abbrev ends_with_quit : List Event → Bool
+ends_with_quit (events.Quit ∷ t) = true
+ends_with_quit _ = false
 
 open-parts : (c m : Bool) (o : Option ℕ) (s : ℕ) → (if c || m then None else o) ≡ Some s → (c ≡ false) × ((m ≡ false) × (o ≡ Some s))
 open-parts true m o s e = absurd (none-some s e)
@@ -206,7 +206,7 @@ module _ (server : Server) (shape : Shape) (h : List Entry) (k s : ℕ) (plan : 
 
   joining : p.closed ≡ false → must_join p.events ≡ true → sessions_of_plan plan ≤ 64 → IsUnused h new_session → Kept (does p (events.Join new_session) p.left)
   joining o m few free = record {
-    playing = plays-next (events.Join new_session) p.left p.closed (record { needed = m; same = w.apart m }) (λ c. absurd (true≢false (sym c ∙ o))) (λ t e. absurd (true≢false (sym (ap is_quit e))));
+    playing = plays-next (events.Join new_session) p.left p.closed (record { needed = m; same = w.apart m }) (λ c. absurd (true≢false (sym c ∙ o))) (λ t e. absurd (true≢false (sym (ap ends_with_quit e))));
     fitting = fits-next (events.Join new_session) p.left p.closed (may-join m few) new-got new-heard new-ended;
     more = more-next (events.Join new_session) p.left p.closed;
   }
@@ -287,9 +287,9 @@ module _ (server : Server) (shape : Shape) (h : List Entry) (k s : ℕ) (plan : 
 
     -- An event that does a step, and closes no link.
     stepped : (e : Event) (ss : List Step) → MayCome p.who p.events w.before e ss → MayFollow p.who p.first p.events e → ((n : ℕ) → is_join_of n e ≡ false) →
-        ((n : ℕ) → got (e ∷ p.events) n ≡ got p.events n) → is_quit (e ∷ p.events) ≡ false → Kept (does p e ss)
+        ((n : ℕ) → got (e ∷ p.events) n ≡ got p.events n) → ends_with_quit (e ∷ p.events) ≡ false → Kept (does p e ss)
     stepped e ss c f j g q = record {
-      playing = plays-next e ss p.closed c (λ x. absurd (true≢false (sym x ∙ o))) (λ t x. absurd (true≢false (sym (ap is_quit x) ∙ q)));
+      playing = plays-next e ss p.closed c (λ x. absurd (true≢false (sym x ∙ o))) (λ t x. absurd (true≢false (sym (ap ends_with_quit x) ∙ q)));
       fitting = quiet-next e ss p.closed f j g;
       more = more-next e ss p.closed;
     }
@@ -427,7 +427,7 @@ module _ (server : Server) (shape : Shape) (h : List Entry) (k s : ℕ) (plan : 
             here = false_from_ne_true (is_finished p.events) (λ e. awaited (finished-settled p.who p.first plan.steps p.events w.before fit.proper w.follows (no-quit o) e).0);
             same = elim w.left [ inl e ↦ e | inr x ↦ absurd (awaited x.0) ];
           })
-          (λ x. absurd (true≢false (sym x ∙ o))) (λ t x. absurd (true≢false (sym (ap is_quit x))));
+          (λ x. absurd (true≢false (sym x ∙ o))) (λ t x. absurd (true≢false (sym (ap ends_with_quit x))));
       fitting = fits-next (events.Got n reply) p.left p.closed (record { current = current; taken = taken }) new-got
           (λ i j. (fit.sessions i j).heard) (λ i j. (fit.sessions i j).ended);
       more = more-next (events.Got n reply) p.left p.closed;

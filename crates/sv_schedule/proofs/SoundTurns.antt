@@ -16,7 +16,7 @@ use Rattle.sv_scenario.specs.declared.scenario.Turn.TheVariants as turns
 use Rattle.sv_scenario.specs.Limits.{IsGoodScenario, IsGoodTurn}
 use Rattle.sv_scenario.specs.Sessions.{session_count}
 use Rattle.sv_system.specs.Fits.{requests_in}
-use Rattle.sv_schedule.specs.Players.{Player, player_turn, take_turn, take_turns, asked_in_run, closed_by, repeated, at_player}
+use Rattle.sv_schedule.specs.Players.{Player, player_turn, take_turn, take_turns, asked_in_run, has_closed, repeated, at_player}
 use Rattle.sv_schedule.specs.Serving.{Run, Server, served, serves_next, is_stopped, session_served, all_served, sessions_served, turn_served, turns_served, after_clients, after_served, round_served}
 use Rattle.sv_schedule.specs.Sound.{ArePlaying}
 use Rattle.sv_schedule.specs.Served.{IsServed, KeepsSound}
@@ -86,9 +86,9 @@ module _ (server : Server) (keeps : KeepsSound server) (scenario : Scenario) whe
         (λ b. absurd (none-some request (sym (ap (λ (rs : List Request). slice_get rs n) (none-asked_in server h ps s a.fitting b)) ∙ is)))
 
     next-stands : (h : List Entry) → Standing ps h → is_ended h s ≡ false → (waiting : List Request) → drop (length (requests_in h s)) (asked_in_run ps s) ≡ waiting →
-        Standing ps (serves_next server h s (list_any (closed_by s) ps) waiting)
+        Standing ps (serves_next server h s (list_any (has_closed s) ps) waiting)
     next-stands h a open-yet [] e =
-        cond_both (list_any (closed_by s) ps) (served server h s requests.End) h (Standing ps) (λ c. end-stands h a open-yet (closed-begun ps s c)) (λ c. a)
+        cond_both (list_any (has_closed s) ps) (served server h s requests.End) h (Standing ps) (λ c. end-stands h a open-yet (closed-begun ps s c)) (λ c. a)
     next-stands h a open-yet (request ∷ waiting) e =
         let is = drop-get (asked_in_run ps s) (length (requests_in h s)) request waiting e in
         entry-stands h a request open-yet (waiting-begun h a (length (requests_in h s)) request is)
@@ -97,9 +97,9 @@ module _ (server : Server) (keeps : KeepsSound server) (scenario : Scenario) whe
     -- A session's turn.
     pub session-stands : (h : List Entry) → Standing ps h → Standing ps (session_served server ps h s)
     session-stands h a =
-        cond_both (is_ended h s) h (if is_stopped h s then served server h s requests.End else serves_next server h s (list_any (closed_by s) ps) (drop (length (requests_in h s)) (asked_in_run ps s))) (Standing ps)
+        cond_both (is_ended h s) h (if is_stopped h s then served server h s requests.End else serves_next server h s (list_any (has_closed s) ps) (drop (length (requests_in h s)) (asked_in_run ps s))) (Standing ps)
         (λ _. a)
-        (λ o. cond_both (is_stopped h s) (served server h s requests.End) (serves_next server h s (list_any (closed_by s) ps) (drop (length (requests_in h s)) (asked_in_run ps s))) (Standing ps)
+        (λ o. cond_both (is_stopped h s) (served server h s requests.End) (serves_next server h s (list_any (has_closed s) ps) (drop (length (requests_in h s)) (asked_in_run ps s))) (Standing ps)
         (λ c. end-stands h a o (stopped-begun ps h s a.begun c))
         (λ _. next-stands h a o (drop (length (requests_in h s)) (asked_in_run ps s)) refl))
 

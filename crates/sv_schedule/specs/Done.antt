@@ -7,6 +7,6 @@ use Rattle.sv_schedule.specs.Players.{Player}
 use Rattle.sv_schedule.specs.Serving.{Run}
 
 -- Each player closed its last link, and each session had its End.
-pub record IsDone (scenario : Scenario) (run : Run) : Type 0 where
+pub record IsRunDone (scenario : Scenario) (run : Run) : Type 0 where
   pub closed : All (λ (p : Player). p.closed ≡ true) run.players
   pub ended : (s : ℕ) → s < session_count scenario → is_ended run.history s ≡ true

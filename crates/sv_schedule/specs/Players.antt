@@ -3,6 +3,7 @@
 use Rattle.std.specs.Prelude.{ℕ, zero, suc, ◌+◌, Bool, true, false, ◌==◌, ◌&&◌, ◌||◌, not, nat_lt, List, [], ◌∷◌, length, reverse, slice_get, Option, Some, None, if◌then◌else◌}
 use Rattle.std.specs.List.{list_any, flat_map}
 use Rattle.sv_world.specs.declared.world.Shape.{Shape}
+use Rattle.sv_world.specs.Limits.{most_outstanding, most_pending}
 use Rattle.sv_wire.specs.declared.message.Reply.{Reply}
 use Rattle.sv_wire.specs.declared.message.Request.{Request}
 use Rattle.sv_journal.specs.declared.entry.Entry.{Entry}
@@ -37,7 +38,7 @@ abbrev pub if_free : Player → Bool → Event → List Step → Player
 if_free p may e left = if may then does p e left else p
 
 abbrev pub is_calm : Player → Bool
-is_calm p = nat_lt (length (outstanding p.who p.events)) 16
+is_calm p = nat_lt (length (outstanding p.who p.events)) most_outstanding
 
 abbrev pub is_settled : Player → Bool
 is_settled p = length (outstanding p.who p.events) == 0
@@ -51,7 +52,7 @@ last_steps p = if not (is_settled p) then p
 -- The next step of a client in a session that has its Welcome. A step that can't be done yet waits.
 abbrev pub next_step : Player → List Step → Player
 next_step p [] = last_steps p
-next_step p (steps.Act action ∷ ss) = if_free p (nat_lt (length (pending_of p.events)) 8 && is_calm p) (events.Make action) ss
+next_step p (steps.Act action ∷ ss) = if_free p (nat_lt (length (pending_of p.events)) most_pending && is_calm p) (events.Make action) ss
 next_step p (steps.Poll ∷ ss) = if_free p (is_calm p) events.Poll ss
 next_step p (steps.Sync ∷ ss) = if is_settled p then record p { left = ss } else p
 next_step p (steps.Show objects ∷ ss) = does p (events.Show objects) ss
@@ -102,8 +103,8 @@ abbrev pub asked_in_run : List Player → ℕ → List Request
 asked_in_run players s = flat_map (λ (p : Player). asked p.who.client p.who.interest p.events s) players
 
 -- The player's end of a session is closed: it cut or quit in it, or finished.
-abbrev pub closed_by : ℕ → Player → Bool
-closed_by s p = list_any (is_join_of s) p.events && not (is_session (open_session p) s)
+abbrev pub has_closed : ℕ → Player → Bool
+has_closed s p = list_any (is_join_of s) p.events && not (is_session (open_session p) s)
 
 abbrev pub at_player : List Player → ℕ → (Player → Player) → List Player
 at_player [] k turn = []

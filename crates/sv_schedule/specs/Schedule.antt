@@ -14,8 +14,8 @@ pub use Rattle.sv_system.specs.Records.{rules_of}
 abbrev pub plain_server : Rules → Server
 plain_server r = record { hears = λ h s request. request; answers = λ h s request. reply_to r h s request }
 
-abbrev pub with_entry : Rules → List Entry → ℕ → Request → List Entry
-with_entry r h s request = served (plain_server r) h s request
+abbrev pub plainly_served : Rules → List Entry → ℕ → Request → List Entry
+plainly_served r h s request = served (plain_server r) h s request
 
 abbrev pub steps_next : Rules → List Entry → ℕ → Bool → List Request → List Entry
 steps_next r h s closed waiting = serves_next (plain_server r) h s closed waiting

@@ -1,16 +1,15 @@
 -- What is true of a run over any server at each moment, after whatever turns; and what a server must keep for it.
 -- A history is the list of a journal's entries with the latest first; events stand with the latest first too.
-use Rattle.std.specs.Prelude.{◌≡◌, ℕ, ◌<◌, ◌≤◌, true, ◌==◌, ◌&&◌, not, List, [], ◌∷◌, length, reverse, Some, slice_get, All}
+use Rattle.std.specs.Prelude.{◌≡◌, ℕ, ◌<◌, true, ◌==◌, ◌&&◌, not, List, [], ◌∷◌, length, reverse, Some, slice_get, All}
 use Rattle.std.specs.List.{list_any, AllByRecursion}
 use Rattle.sv_world.specs.declared.world.Shape.{Shape}
-use Rattle.sv_world.specs.Control.{is_in}
 use Rattle.sv_wire.specs.declared.message.Request.{Request}
 use Rattle.sv_wire.specs.declared.message.Request.TheVariants as requests
 use Rattle.sv_journal.specs.declared.entry.Entry.{Entry}
-use Rattle.sv_journal.specs.declared.entry.Logged.{Logged}
 use Rattle.sv_journal.specs.declared.entry.Logged.TheVariants as logged
 use Rattle.sv_journal.specs.History.{accepted, joining}
 use Rattle.sv_journal.specs.Sessions.{is_end}
+use Rattle.sv_journal.specs.Text.{NamesAccepted}
 use Rattle.sv_client.specs.declared.trace.Trace.{Trace}
 use Rattle.sv_client.specs.Traces.{got, requests_of}
 use Rattle.sv_client.specs.Proper.{Proper}
@@ -40,21 +39,16 @@ abbrev pub AreHeard : Server → List Entry → ℕ → List Request → Type 0
 AreHeard server [] s asked = Unit {0}
 AreHeard server (e ∷ h) s asked = ((e.session == s && not (is_end e.request)) ≡ true → IsHeard server e h s asked) × AreHeard server h s asked
 
--- Each position that a reply names is at most n.
-abbrev pub NamesUpTo : ℕ → Logged → Type 0
-NamesUpTo n (logged.Relay seq commit head positions) = (j : ℕ) → is_in j positions ≡ true → j ≤ n
-NamesUpTo n _ = Unit {0}
-
 -- The replies of a journal name positions of accepted actions alone.
-abbrev pub AreNamed : List Entry → Type 0
-AreNamed h = AllByRecursion (λ (e : Entry). NamesUpTo (length (accepted h)) e.reply) h
+abbrev pub RepliesNameAccepted : List Entry → Type 0
+RepliesNameAccepted h = AllByRecursion (λ (e : Entry). NamesAccepted (length (accepted h)) e.reply) h
 
 -- What a server must keep so that its runs stay sound: it hears an End just where its session ends, and answers it with a Bye; and it names
 -- accepted actions alone.
 pub record KeepsSound (server : Server) : Type 0 where
   pub ends : (h : List Entry) (s : ℕ) (request : Request) → is_end (server.hears h s request) ≡ is_end request
   pub bye : (h : List Entry) (s : ℕ) → server.answers h s requests.End ≡ logged.Bye
-  pub named : (h : List Entry) → IsServed server h → AreNamed h
+  pub named : (h : List Entry) → IsServed server h → RepliesNameAccepted h
 
 -- It hears who joins.
 abbrev pub HearsJoins : Server → Type 0

@@ -3,8 +3,12 @@
 use Rattle.std.specs.Prelude.{ℕ, suc, Bool, true, false, ◌==◌, ◌&&◌, ◌||◌, List, [], ◌∷◌, map, length, drop, if◌then◌else◌}
 use Rattle.std.specs.List.{list_any}
 use Rattle.sv_world.specs.Control.{below}
+use Rattle.sv_wire.specs.declared.message.Reply.{Reply}
+use Rattle.sv_wire.specs.declared.message.Reply.TheVariants as replies
 use Rattle.sv_wire.specs.declared.message.Request.{Request}
 use Rattle.sv_wire.specs.declared.message.Request.TheVariants as requests
+use Rattle.sv_wire.specs.declared.refusal.Refusal.TheVariants as refusals
+use Rattle.sv_wire.specs.Refusals.{code_of}
 use Rattle.sv_journal.specs.declared.entry.Entry.{Entry}
 use Rattle.sv_journal.specs.declared.entry.Logged.{Logged}
 use Rattle.sv_journal.specs.declared.entry.Logged.TheVariants as logged
@@ -15,7 +19,7 @@ use Rattle.sv_scenario.specs.declared.scenario.Turn.{Turn}
 use Rattle.sv_scenario.specs.declared.scenario.Turn.TheVariants as turns
 use Rattle.sv_scenario.specs.Sessions.{session_count}
 use Rattle.sv_system.specs.Fits.{requests_in}
-use Rattle.sv_schedule.specs.Players.{Player, player_turn, take_turn, take_turns, asked_in_run, closed_by, at_player, repeated, players_from, trace_of_player}
+use Rattle.sv_schedule.specs.Players.{Player, player_turn, take_turn, take_turns, asked_in_run, has_closed, at_player, repeated, players_from, trace_of_player}
 
 pub record Run : Type 0 where
   pub history : List Entry
@@ -35,12 +39,23 @@ served server h s request = entry_by server h s request ∷ h
 
 -- ---- A session's turn
 
+-- The codes of the refusals after which a session's loop stops: for a malformed payload, an ended session and a spent one.
+abbrev pub is_stop_code : ℕ → Bool
+is_stop_code code = code == code_of refusals.Malformed || code == code_of refusals.Over || code == code_of refusals.TooManyRequests
+
+-- A session's loop stops after this reply.
 abbrev pub is_stop : Logged → Bool
 is_stop logged.Bye = true
-is_stop (logged.Refused code detail) = code == 1 || code == 4 || code == 9
+is_stop (logged.Refused code detail) = is_stop_code code
 is_stop _ = false
 
--- The session's loop has stopped: after a Bye, and after a refusal for a malformed payload, an ended session or a spent one.
+-- The same of a reply as it is sent.
+abbrev pub is_stop_reply : Reply → Bool
+is_stop_reply replies.Bye = true
+is_stop_reply (replies.Refused code detail) = is_stop_code code
+is_stop_reply _ = false
+
+-- The session's loop has stopped.
 abbrev pub is_stopped : List Entry → ℕ → Bool
 is_stopped h s = list_any (λ (e : Entry). e.session == s && is_stop e.reply) h
 
@@ -53,7 +68,7 @@ serves_next server h s closed (request ∷ waiting) = served server h s request
 abbrev pub session_served : Server → List Player → List Entry → ℕ → List Entry
 session_served server players h s = if is_ended h s then h
     else if is_stopped h s then served server h s requests.End
-    else serves_next server h s (list_any (closed_by s) players) (drop (length (requests_in h s)) (asked_in_run players s))
+    else serves_next server h s (list_any (has_closed s) players) (drop (length (requests_in h s)) (asked_in_run players s))
 
 -- ---- Turns and rounds
 

@@ -1,3 +1,4 @@
+//! A scheduled run is a full record.
 ghost use Rattle.sv_scenario.specs.declared.scenario.Scenario.{Scenario};
 ghost use Rattle.sv_scenario.specs.Limits.{IsGoodScenario};
 ghost use Rattle.sv_schedule.specs.Serving.{traces_of};

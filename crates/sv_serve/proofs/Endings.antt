@@ -1,21 +1,26 @@
 -- What the status of an ending says.
-use Rattle.std.proofs.Common.{◌≡◌, ◌≢◌, ◌↔◌, ◌⊎◌, inl, inr, refl, arith, ℕ, ◌≤◌, List, [], take, append-nil, subst, sym, Option, Some, None}
-use Rattle.std.specs.Prelude.{string_bytes, IfSome, OnErr, Result, Ok, Err}
+use Rattle.std.proofs.Common.{◌≡◌, ◌≢◌, ◌↔◌, ◌⊎◌, inl, inr, refl, arith, ℕ, ◌≤◌, List, [], take, append-nil, subst, sym, ap, Option, Some, None}
+use Rattle.std.specs.Prelude.{string_bytes, option_map, IfSome, OnErr, Result, Ok, Err, String}
+use Rattle.std.specs.declared.alloc.Global.{Global}
+use Rattle.sv_bytes.specs.Writing.{Grew, GrewByPart}
 use Rattle.sv_command.specs.declared.ending.Ending.{Ending}
 use Rattle.sv_command.specs.declared.ending.Ending.TheVariants as endings
-use Rattle.sv_command.specs.Reading.{read_limit, IsRefused, IsNoScenario, HoldsScenario}
+use Rattle.sv_command.specs.Endings.{Ends, IsCutShort, IsPrinted, OrWords}
+use Rattle.sv_command.specs.Reading.{read_limit, held_of, IsRefused, IsNoScenario, HoldsScenario}
 use Rattle.sv_command.specs.Statuses.{status_of, Counts, counts, Raises, NoneRose}
 use Rattle.sv_command.proofs.Counts.{same_counts}
-use Rattle.sv_command.proofs.Statuses.{link_is}
-use Rattle.sv_command.proofs.Held.{read_is, holds_none}
+use Rattle.sv_command.proofs.Statuses.{link_is, range_is as plain_range}
+use Rattle.sv_command.proofs.Held.{Faulty, read_is, holds_none, always, unheld, unnamed}
+use Rattle.sv_command.proofs.Left.{printed_by, cut_by, ends_early, or_words, unranged, printed_is as left_printed, part_is as left_part, nothing_is as left_nothing, refused_is as left_refused}
 use Rattle.sv_sequencer.specs.Step.{SequencerView}
 use Rattle.sv_play.specs.declared.outcome.PlayFault.{PlayFault}
 use Rattle.sv_play.specs.declared.outcome.PlayFault.TheVariants as faults
 use Rattle.sv_play.specs.Playing.{PlayCause}
-use Rattle.sv_serve.specs.Words.{Asked}
+use Rattle.sv_serve.specs.declared.words.Command.{Command}
+use Rattle.sv_serve.specs.Words.{Asked, asked_by, named_by}
 use Rattle.sv_serve.specs.Giving.{Doorway, GaveAllBack, GivesBack}
 use Rattle.sv_serve.specs.Hosting.{Moved}
-use Rattle.sv_serve.specs.Statuses.{ending_of_fault, held_by, IsPrinted, IsCutShort, Ends, LeavesAlone, GivesBackBut}
+use Rattle.sv_serve.specs.Statuses.{ending_of_fault, IsText, EndsEarly, LeavesAlone, GivesBackBut}
 
 -- ---- The ends
 
@@ -62,77 +67,71 @@ pub certain_is : (sure : ℕ → Type 0) (a : Option Asked) (e : Ending) → IfS
 certain_is sure None e h = tt
 certain_is sure (Some x) e h = λ s six. h s (link_is e six)
 
+-- ---- What is left of a call, by the words
+
+-- by what the file holds
+abbrev pub Leaves : Option (List ℕ) → Moved → Option (List ℕ) → Option (List ℕ) → Ending → Type 0
+Leaves held m old now e = Ends (IsText held m) (OrWords (EndsEarly held)) old now e
+
+module _ (contents : List ℕ → Option (List ℕ)) (m : Moved) (given : Option Command) (command : Command) (is : given ≡ Some command) where
+  text_given : (text : List ℕ) → IsText (contents command.file.now) m text → IsText (held_of contents (named_by (option_map asked_by given))) m text
+  text_given text told = subst (λ (o : Option Command). IsText (held_of contents (named_by (option_map asked_by o))) m text) (sym is) told
+
+  pub printed_given : (text bytes : List ℕ) (old now : Option (List ℕ)) → bytes ≡ text → IsText (contents command.file.now) m text → Grew old now bytes
+      → IsPrinted (IsText (held_of contents (named_by (option_map asked_by given))) m) old now
+  printed_given text bytes old now same told grew = printed_by (IsText (held_of contents (named_by (option_map asked_by given))) m) old now text bytes same (text_given text told) grew
+
+  pub cut_given : (text bytes : List ℕ) (old now : Option (List ℕ)) → bytes ≡ text → IsText (contents command.file.now) m text → GrewByPart old now bytes
+      → IsCutShort (IsText (held_of contents (named_by (option_map asked_by given))) m) old now
+  cut_given text bytes old now same told part = cut_by (IsText (held_of contents (named_by (option_map asked_by given))) m) old now text bytes same (text_given text told) part
+
+  pub early_given : (old : Option (List ℕ)) (e : Ending) → EndsEarly (contents command.file.now) e → Leaves (held_of contents (named_by (option_map asked_by given))) m old old e
+  early_given old e h =
+      subst (λ (o : Option Command). Leaves (held_of contents (named_by (option_map asked_by o))) m old old e) (sym is)
+      (ends_early (IsText (contents command.file.now) m) (OrWords (EndsEarly (contents command.file.now))) old (λ x. x) (λ x. x) e (or_words (EndsEarly (contents command.file.now)) e h))
+
 -- ---- What is left of a call, by its status
 
-always : {P : List ℕ → Type 0} (o : Option (List ℕ)) → ((all : List ℕ) → P all) → IfSome o P
-always None f = tt
-always (Some all) f = f all
-
--- Where nothing is asked for, no file is named.
-unheld : (P : List ℕ → Type 0) (contents : List ℕ → Option (List ℕ)) (a : Option Asked) → a ≡ None → IfSome (held_by contents a) P
-unheld P contents None n = tt
-unheld P contents (Some a) n = absurd cc
-
-unasked : (contents : List ℕ → Option (List ℕ)) (a : Option Asked) → a ≡ None → HoldsScenario (held_by contents a) → ⊥
-unasked contents None n can = can
-unasked contents (Some a) n can = cc
-
 module _ (held : Option (List ℕ)) (m : Moved) (old now : Option (List ℕ)) where
-  pub printed_is : (e : Ending) → Ends held m old now e → status_of e ≡ 0 → IsPrinted held m old now
-  printed_is endings.Done h s = h
-  printed_is endings.Words h s = absurd (omega arith)
-  printed_is (endings.Scenario line) h s = absurd (omega arith)
-  printed_is endings.File h s = absurd (omega arith)
-  printed_is endings.Start h s = absurd (omega arith)
-  printed_is endings.Link h s = absurd (omega arith)
-  printed_is endings.Out h s = absurd (omega arith)
-  printed_is endings.Memory h s = absurd (omega arith)
+  pub range_is : (e : Ending) → Leaves held m old now e → (status_of e ≡ 0) ⊎ ((2 ≤ status_of e) × (status_of e ≤ 8))
+  range_is e h = plain_range e (unranged (IsText held m) (OrWords (EndsEarly held)) old now (λ x. x) e h)
 
-  pub part_is : (e : Ending) → Ends held m old now e → status_of e ≡ 5 → IsCutShort held m old now
-  part_is endings.Out h s = h
-  part_is endings.Done h s = absurd (omega arith)
-  part_is endings.Words h s = absurd (omega arith)
-  part_is (endings.Scenario line) h s = absurd (omega arith)
-  part_is endings.File h s = absurd (omega arith)
-  part_is endings.Start h s = absurd (omega arith)
-  part_is endings.Link h s = absurd (omega arith)
-  part_is endings.Memory h s = absurd (omega arith)
+  pub printed_is : (e : Ending) → Leaves held m old now e → status_of e ≡ 0 → IsPrinted (IsText held m) old now
+  printed_is e h s = left_printed (IsText held m) (OrWords (EndsEarly held)) old now e h s
 
-  pub nothing_is : (e : Ending) → Ends held m old now e → status_of e ≢ 0 → status_of e ≢ 5 → now ≡ old
-  nothing_is endings.Done h z f = absurd (z refl)
-  nothing_is endings.Out h z f = absurd (f refl)
-  nothing_is endings.Words h z f = h
-  nothing_is (endings.Scenario line) h z f = h.1
-  nothing_is endings.File h z f = h
-  nothing_is endings.Start h z f = h.1
-  nothing_is endings.Link h z f = h.1
-  nothing_is endings.Memory h z f = h
+  pub part_is : (e : Ending) → Leaves held m old now e → status_of e ≡ 5 → IsCutShort (IsText held m) old now
+  part_is e h s = left_part (IsText held m) (OrWords (EndsEarly held)) old now e h s
 
-  pub refused_is : (e : Ending) → Ends held m old now e → (line : _) → e ≡ endings.Scenario line → IsRefused held (string_bytes line)
-  refused_is e h line is = (subst (Ends held m old now) is h).0
+  pub nothing_is : (e : Ending) → Leaves held m old now e → status_of e ≢ 0 → status_of e ≢ 5 → now ≡ old
+  nothing_is e h z f = left_nothing (IsText held m) (OrWords (EndsEarly held)) old now e h z f
+
+  pub refused_is : (e : Ending) → Leaves held m old now e → (line : String Global) → e ≡ endings.Scenario line → IsRefused held (string_bytes line)
+  refused_is e h line is = left_refused (IsText held m) (OrWords (EndsEarly held)) old now e h line is
 
 module _ (a : Option Asked) (contents : List ℕ → Option (List ℕ)) (m : Moved) (old now : Option (List ℕ)) where
   abbrev held : Option (List ℕ)
-  held = held_by contents a
+  held = held_of contents (named_by a)
 
-  pub faulty_is : (e : Ending) → ((e ≡ endings.Words) ↔ (a ≡ None)) → Ends held m old now e
-      → IfSome held (λ all. IsNoScenario (take read_limit all) → (status_of e ≡ 3) ⊎ (status_of e ≡ 4) ⊎ (status_of e ≡ 8))
+  pub faulty_is : (e : Ending) → ((e ≡ endings.Words) ↔ (a ≡ None)) → Leaves held m old now e
+      → IfSome held (λ all. IsNoScenario (take read_limit all) → Faulty (status_of e))
   faulty_is endings.Done w h = read_is held _ h.told.scenario h.told.scenario_is
   faulty_is endings.Out w h = read_is held _ h.told.scenario h.told.scenario_is
   faulty_is endings.Start w h = read_is held _ h.0.scenario h.0.scenario_is
   faulty_is endings.Link w h = read_is held _ h.0.scenario h.0.scenario_is
-  faulty_is endings.Words w h = unheld _ contents a (w.0 refl)
-  faulty_is (endings.Scenario line) w h = always held (λ all none. inl refl)
-  faulty_is endings.File w h = always held (λ all none. inr (inl refl))
-  faulty_is endings.Memory w h = always held (λ all none. inr (inr refl))
+  faulty_is endings.Words w h = unheld _ contents (named_by a) (ap named_by (w.0 refl))
+  faulty_is (endings.Scenario line) w h = always (Faulty 3) _ held (inl refl)
+  faulty_is endings.File w h = always (Faulty 4) _ held (inr (inl refl))
+  faulty_is endings.Memory w h = always (Faulty 8) _ held (inr (inr refl))
+  faulty_is endings.Range w h = absurd h.0
 
-  pub complete_is : (before after : Counts) (e : Ending) → ((e ≡ endings.Words) ↔ (a ≡ None)) → Ends held m old now e → Raises before after e
+  pub complete_is : (before after : Counts) (e : Ending) → ((e ≡ endings.Words) ↔ (a ≡ None)) → Leaves held m old now e → Raises before after e
       → HoldsScenario held → NoneRose before after → (status_of e ≡ 0) ⊎ (status_of e ≡ 8)
   complete_is before after endings.Done w h r can none = inl refl
   complete_is before after endings.Memory w h r can none = inr refl
-  complete_is before after endings.Words w h r can none = absurd (unasked contents a (w.0 refl) can)
+  complete_is before after endings.Words w h r can none = absurd (unnamed contents (named_by a) (ap named_by (w.0 refl)) can)
   complete_is before after (endings.Scenario line) w h r can none = holds_none held _ (string_bytes line) h.0 can
   complete_is before after endings.File w h r can none = absurd (none.0 r.0)
   complete_is before after endings.Start w h r can none = absurd (none.1 r.0)
   complete_is before after endings.Link w h r can none = absurd (none.2 r.0)
   complete_is before after endings.Out w h r can none = absurd (none.3 r.0)
+  complete_is before after endings.Range w h r can none = absurd h.0

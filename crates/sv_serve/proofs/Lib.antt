@@ -1,3 +1,4 @@
+-- The lemmas of a server by itself.
 pub mod Passages
 pub mod Hosted
 pub mod Steps

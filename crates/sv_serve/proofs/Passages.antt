@@ -27,7 +27,7 @@ use Rattle.sv_session.specs.declared.outcome.SessionOut.{SessionOut}
 use Rattle.sv_session.specs.declared.outcome.SessionOut.TheVariants as outs
 use Rattle.sv_system.specs.Fits.{requests_in, replies_in}
 use Rattle.sv_system.specs.Records.{ends_in}
-use Rattle.law_traffic.specs.Traffic.{reply_frames, is_stop, EndsWithStop}
+use Rattle.law_traffic.specs.Traffic.{reply_frames, is_stop_reply, EndsWithStop}
 use Rattle.law_traffic.proofs.Ours.{requests_are, replies_are, one_end}
 use Rattle.law_traffic.proofs.Dues.{full_over, due_is}
 use Rattle.sv_door.specs.Doors.{Passage, passage_of}
@@ -52,7 +52,7 @@ stop_code false false true x y z reason e = refl
 stop_code false false false x y z reason e = absurd (none-some reason e)
 
 -- A reply for which a loop stops is one of the last replies.
-stops : (A : List Authored) (reply : Logged) (reason : SessionOut) → stop_of reply ≡ Some reason → is_stop (full_reply A reply) ≡ true
+stops : (A : List Authored) (reply : Logged) (reason : SessionOut) → stop_of reply ≡ Some reason → is_stop_reply (full_reply A reply) ≡ true
 stops A logged.Bye reason e = refl
 stops A (logged.Refused code detail) reason e = stop_code (eqb code 1) (eqb code 4) (eqb code 9) outs.Malformed outs.Ended outs.Spent reason e
 stops A (logged.Welcome commit head) reason e = absurd (none-some reason e)

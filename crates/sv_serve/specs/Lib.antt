@@ -1,3 +1,4 @@
+-- The definitions of a server by itself.
 pub mod Passages
 pub mod Hosting
 pub mod Giving

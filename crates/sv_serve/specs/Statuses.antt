@@ -1,10 +1,8 @@
--- What a call says, and what is left of it, by its status.
+-- What a text of the call tells, what an ending without one says, and what else is left of it, by its status.
 -- A journal `h` has its latest entry first.
-use Rattle.std.specs.Prelude.{◌≡◌, ◌⊎◌, ℕ, ◌≤◌, List, ◌++◌, reverse, Option, codes, option_map, option_and_then, Result, Ok, Err, String, string_bytes}
-use Rattle.std.specs.declared.alloc.Global.{Global}
+use Rattle.std.specs.Prelude.{◌≡◌, ◌⊎◌, ℕ, ◌≤◌, List, ◌++◌, reverse, Option, codes, string_bytes}
 use Rattle.std.specs.Fmt.{decimal}
 use Rattle.sv_world.specs.declared.world.Shape.{Shape}
-use Rattle.sv_bytes.specs.Writing.{Grew, GrewByPart}
 use Rattle.sv_journal.specs.declared.entry.Entry.{Entry}
 use Rattle.sv_journal.specs.History.{commit_of}
 use Rattle.sv_journal.specs.Text.{journal_text}
@@ -14,7 +12,6 @@ use Rattle.sv_play.specs.declared.outcome.PlayFault.TheVariants as faults
 use Rattle.sv_command.specs.declared.ending.Ending.{Ending}
 use Rattle.sv_command.specs.declared.ending.Ending.TheVariants as endings
 use Rattle.sv_command.specs.Reading.{IsRead, IsRefused}
-use Rattle.sv_serve.specs.Words.{Asked}
 use Rattle.sv_serve.specs.Giving.{Doorway, GaveAllBack}
 use Rattle.sv_serve.specs.Hosting.{Moved, IsHosted}
 
@@ -32,25 +29,12 @@ pub record IsText (held : Option (List ℕ)) (m : Moved) (text : List ℕ) : Typ
   pub hosted : IsHosted scenario h m
   pub text_is : text ≡ hosted_text scenario.world.shape h
 
--- ---- The file
+-- ---- Endings
 
-abbrev pub file_of : Asked → List ℕ
-file_of asked = asked.file
-
--- The file that is named.
-abbrev pub named_by : Option Asked → Option (List ℕ)
-named_by asked = option_map file_of asked
-
--- What it holds, where that is told.
-abbrev pub held_by : (List ℕ → Option (List ℕ)) → Option Asked → Option (List ℕ)
-held_by contents asked = option_and_then contents (named_by asked)
-
--- What was read of it is a scenario.
+-- What was read of the file is a scenario.
 pub record IsReady (held : Option (List ℕ)) : Type 0 where
   pub scenario : Scenario
   pub scenario_is : IsRead held scenario
-
--- ---- Endings
 
 abbrev pub ending_of_fault : PlayFault → Ending
 ending_of_fault faults.Start = endings.Start
@@ -59,41 +43,14 @@ ending_of_fault faults.Memory = endings.Memory
 
 -- An ending without a text. Threads and connections are only told of where there was a scenario to serve.
 abbrev pub EndsEarly : Option (List ℕ) → Ending → Type 0
-EndsEarly held endings.Done = ⊥
-EndsEarly held endings.Words = ⊥
-EndsEarly held endings.Out = ⊥
 EndsEarly held (endings.Scenario line) = IsRefused held (string_bytes line)
+EndsEarly held endings.File = Unit {0}
 EndsEarly held endings.Start = IsReady held
 EndsEarly held endings.Link = IsReady held
-EndsEarly held _ = Unit {0}
+EndsEarly held endings.Memory = Unit {0}
+EndsEarly held _ = ⊥
 
--- The text of what was served, or why there is none.
-abbrev pub IsMade : Option (List ℕ) → Moved → Result (String Global) Ending → Type 0
-IsMade held m (Ok text) = IsText held m (string_bytes text)
-IsMade held m (Err ending) = EndsEarly held ending
-
--- ---- What is left
-
--- The sink grew by just the text of what was served.
-pub record IsPrinted (held : Option (List ℕ)) (m : Moved) (old now : Option (List ℕ)) : Type 0 where
-  pub text : List ℕ
-  pub told : IsText held m text
-  pub grew : Grew old now text
-
--- The sink grew by a front part of that text.
-pub record IsCutShort (held : Option (List ℕ)) (m : Moved) (old now : Option (List ℕ)) : Type 0 where
-  pub text : List ℕ
-  pub told : IsText held m text
-  pub part : GrewByPart old now text
-
--- The output, by how the call ended.
-abbrev pub Ends : Option (List ℕ) → Moved → Option (List ℕ) → Option (List ℕ) → Ending → Type 0
-Ends held m old now endings.Done = IsPrinted held m old now
-Ends held m old now endings.Out = IsCutShort held m old now
-Ends held m old now (endings.Scenario line) = IsRefused held (string_bytes line) × (now ≡ old)
-Ends held m old now endings.Start = IsReady held × (now ≡ old)
-Ends held m old now endings.Link = IsReady held × (now ≡ old)
-Ends held m old now _ = now ≡ old
+-- ---- What else is left
 
 -- What is not touched: all three where the words are others, and the door and the crew where there is no scenario.
 pub record LeavesAlone {F D C : Type 0} (status : ℕ) (f0 f1 : F) (d0 d1 : D) (c0 c1 : C) : Type 0 where

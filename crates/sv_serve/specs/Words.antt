@@ -18,5 +18,9 @@ command_of (word ∷ file ∷ port ∷ []) =
     if bytes_eq word (codes "serve") then option_map (λ n. record { file = file; port = n }) (number_between 1 65535 port) else None
 command_of _ = None
 
+-- The file that is named.
+abbrev pub named_by : Option Asked → Option (List ℕ)
+named_by asked = option_map (λ (a : Asked). a.file) asked
+
 abbrev pub words_line : List ℕ
 words_line = codes "words: serve FILE PORT\n"

@@ -24,29 +24,30 @@ pub(crate) struct Host<'a, G> {
     pub(crate) scenario: &'a Scenario,
     pub(crate) lock: &'a SeqLock<Sequencer>,
     pub(crate) gate: &'a G,
+    /// Their peers connect here.
+    pub(crate) port: u16,
 }
 
 impl<'a, G: Gate> Host<'a, G> {
     /// Accepts the connection of the next session, and makes its pass.
     fn accept_next<D: Door>(
         &self,
-        port: u16,
         door: &mut D,
         keeper: &mut Pass<Sequencer>,
     ) -> Result<Service<'a, D::E, G>, PlayFault>
         requires keeper { keeper.old ≡ keeper_after keeper.old.made self.now.lock.now self.now.scenario.now }
         requires room { keeper.old.made < self.now.lock.now.passes }
         ensures service { IfOk result (λ x. (x.lock.now ≡ self.now.lock.now) × (x.pass ≡ pass_of keeper.old.made self.now.lock.now self.now.scenario.now)) }
-        ensures end { IfOk result (λ x. IsNewEnd D.E.told D.E.faults D.E.calm (D.sure door.old port) Server (D.made door.old) x.end) }
+        ensures end { IfOk result (λ x. IsNewEnd D.E.told D.E.faults D.E.calm (D.sure door.old self.now.port) Server (D.made door.old) x.end) }
         ensures keeper { OnOk result (keeper.new ≡ keeper_after (keeper.old.made + 1) self.now.lock.now self.now.scenario.now) }
         ensures more { OnOk result ((D.made door.new ≡ D.made door.old + 1) × (D.owed door.new ≡ D.owed door.old + 1)) }
         ensures none { OnErr result ((D.made door.new ≡ D.made door.old) × (D.owed door.new ≡ D.owed door.old)) }
         ensures given { D.given door.new ≡ D.given door.old }
         ensures cause { OpeningCause (D.faults door.old) (D.faults door.new) result }
-        ensures certain { D.sure door.old port → result ≢ Err PlayFault.Link }
+        ensures certain { D.sure door.old self.now.port → result ≢ Err PlayFault.Link }
         ensures stays_sure { (p : ℕ) → D.sure door.old p → D.sure door.new p }
     {
-        let end = match door.accept(port) {
+        let end = match door.accept(self.port) {
             Made::End(end) => end,
             Made::Failed => return Err(PlayFault::Link),
             Made::Memory => return Err(PlayFault::Memory),
@@ -63,7 +64,6 @@ impl<'a, G: Gate> Host<'a, G> {
     /// Accepts a connection for each session, in the order of their numbers. Where one could not be made, those before it are given back.
     pub(crate) fn accept_all<D: Door>(
         &self,
-        port: u16,
         door: &mut D,
         keeper: &mut Pass<Sequencer>,
     ) -> Result<Vec<Service<'a, D::E, G>>, PlayFault>
@@ -71,19 +71,19 @@ impl<'a, G: Gate> Host<'a, G> {
         requires keeper { keeper.old ≡ keeper_after 0 self.now.lock.now self.now.scenario.now }
         requires passes { self.now.lock.now.passes ≡ session_count self.now.scenario.now }
         ensures count { IfOk result (λ services. length services.items ≡ session_count self.now.scenario.now) }
-        ensures services { IfOk result (λ services. EachPlace (IsService D.E.told D.E.faults D.E.calm (setting self.now.lock.now self.now.scenario.now (D.made door.old) (D.sure door.old port))) services.items) }
+        ensures services { IfOk result (λ services. EachPlace (IsService D.E.told D.E.faults D.E.calm (setting self.now.lock.now self.now.scenario.now (D.made door.old) (D.sure door.old self.now.port))) services.items) }
         ensures keeper { OnOk result (keeper.new ≡ keeper_after (session_count self.now.scenario.now) self.now.lock.now self.now.scenario.now) }
         ensures made { OnOk result (D.made door.new ≡ D.made door.old + session_count self.now.scenario.now) }
         ensures owed { OnOk result (D.owed door.new ≡ D.owed door.old + session_count self.now.scenario.now) }
         ensures given { OnOk result (D.given door.new ≡ D.given door.old) }
         ensures back { OnErr result (GaveAllBack (doorway (D.given door.old) (D.made door.old) (D.owed door.old)) (doorway (D.given door.new) (D.made door.new) (D.owed door.new))) }
         ensures cause { OpeningCause (D.faults door.old) (D.faults door.new) result }
-        ensures certain { D.sure door.old port → result ≢ Err PlayFault.Link }
+        ensures certain { D.sure door.old self.now.port → result ≢ Err PlayFault.Link }
     {
         let count = sessions_of(self.scenario);
         let mut services = Vec::with_capacity(self.alloc, usize::from(count))?;
         for _ in 0..count {
-            match self.accept_next(port, door, keeper) {
+            match self.accept_next(door, keeper) {
                 Ok(service) => services.push_reserved(service),
                 Err(fault) => {
                     give_back_all(door, services);

@@ -27,7 +27,6 @@ use sv_sequencer::Sequencer;
 fn serve_sessions<D: Door, C: Crew, G: Gate + Sync, R: Threads + Wait + Sync>(
     rt: &R,
     host: &Host<'_, G>,
-    port: u16,
     keeper: &mut Pass<Sequencer>,
     door: &mut D,
     crew: &mut C,
@@ -39,12 +38,12 @@ fn serve_sessions<D: Door, C: Crew, G: Gate + Sync, R: Threads + Wait + Sync>(
     ensures keeper { IfOk result (λ _. TookAllIn host.now.scenario.now keeper.old keeper.new) }
     ensures cause { PlayCause (C.faults crew.old) (C.faults crew.new) (D.faults door.old) (D.faults door.new) result }
     ensures back { GivesBack (C.ran crew.old) (C.ran crew.new) (doorway (D.given door.old) (D.made door.old) (D.owed door.old)) (doorway (D.given door.new) (D.made door.new) (D.owed door.new)) result }
-    ensures certain { D.sure door.old port → result ≢ Err PlayFault.Link }
+    ensures certain { D.sure door.old host.now.port → result ≢ Err PlayFault.Link }
 {
     full_replies_stay();
     legal_relays_name_accepted();
     read_scenario_numbers(host.scenario);
-    let services = host.accept_all(port, door, keeper)?;
+    let services = host.accept_all(door, keeper)?;
     let served = match crew.run_all(rt, services) {
         Ran::Done(served) => served,
         Ran::Failed => return Err(PlayFault::Start),
@@ -91,7 +90,8 @@ pub fn serve_scenario<D: Door, C: Crew, G: Gate + Sync, R: Threads + Wait + Sync
         scenario,
         lock: &lock,
         gate,
+        port,
     };
-    serve_sessions(rt, &host, port, &mut keeper, door, crew)?;
+    serve_sessions(rt, &host, &mut keeper, door, crew)?;
     Ok(lock.close(keeper))
 }

@@ -1,10 +1,11 @@
 //! The text that tells what was served.
 ghost use Rattle.std.specs.Prelude.{◌≡◌, ◌≢◌, ℕ, Some, Err, IfOk, string_bytes};
+ghost use Rattle.sv_command.specs.Endings.{IsMade};
 ghost use Rattle.sv_command.specs.Statuses.{counts, Raises, ending_of, status_of};
 ghost use Rattle.sv_sequencer.specs.Step.{history};
 ghost use Rattle.sv_serve.specs.Giving.{doorway};
 ghost use Rattle.sv_serve.specs.Hosting.{moved};
-ghost use Rattle.sv_serve.specs.Statuses.{ending_of_fault, hosted_text, GivesBackBut, IsMade, LeavesAlone};
+ghost use Rattle.sv_serve.specs.Statuses.{ending_of_fault, hosted_text, EndsEarly, GivesBackBut, IsText, LeavesAlone};
 
 use crate::hosting::serve_scenario;
 use crate::words::Command;
@@ -12,7 +13,7 @@ use std::alloc::{AllocError, Global};
 use std::sync::Wait;
 use std::thread::Threads;
 use sv_bytes::Files;
-use sv_command::{Ending, scenario_in};
+use sv_command::{Ending, Stage, scenario_in};
 use sv_door::Door;
 use sv_journal::{legal_relays_name_accepted, print_journal};
 use sv_link::{Crew, Gate};
@@ -44,25 +45,32 @@ fn hosted_text(alloc: Global, shape: Shape, sequencer: &Sequencer) -> Result<Str
 
 /// Serves the scenario of a file. The text that tells it is whole before any of it is printed.
 pub(crate) fn served_text<F: Files, D: Door, C: Crew, G: Gate + Sync, R: Threads + Wait + Sync>(
-    rt: &R,
-    alloc: Global,
+    stage: &Stage<'_, R, G>,
     command: Command<'_>,
     files: &mut F,
     door: &mut D,
     crew: &mut C,
-    gate: &G,
 ) -> Result<String, Ending>
-    ensures made { IsMade (F.contents files.old command.entry.file.now) (moved (D.given door.old) (D.given door.new) (C.ran crew.old) (C.ran crew.new)) result }
+    ensures made { IsMade (IsText (F.contents files.old command.entry.file.now) (moved (D.given door.old) (D.given door.new) (C.ran crew.old) (C.ran crew.new)))
+        (EndsEarly (F.contents files.old command.entry.file.now)) result }
     ensures raises { (k : ℕ) → Raises (counts (F.faults files.old) (C.faults crew.old) (D.faults door.old) k) (counts (F.faults files.new) (C.faults crew.new) (D.faults door.new) k) (ending_of result) }
     ensures sure { F.sure files.old command.entry.file.now → result ≢ Err Ending.File }
     ensures certain { D.sure door.old command.entry.port → result ≢ Err Ending.Link }
     ensures apart { LeavesAlone (status_of (ending_of result)) files.old files.new door.old door.new crew.old crew.new }
     ensures back { GivesBackBut (status_of (ending_of result)) (C.ran crew.old) (C.ran crew.new) (doorway (D.given door.old) (D.made door.old) (D.owed door.old)) (doorway (D.given door.new) (D.made door.new) (D.owed door.new)) }
 {
-    let scenario = scenario_in(alloc, command.file, files)?;
-    let sequencer = match serve_scenario(rt, alloc, &scenario, command.port, door, crew, gate) {
+    let scenario = scenario_in(stage.alloc, command.file, files)?;
+    let sequencer = match serve_scenario(
+        stage.rt,
+        stage.alloc,
+        &scenario,
+        command.port,
+        door,
+        crew,
+        stage.gate,
+    ) {
         Ok(sequencer) => sequencer,
         Err(fault) => return Err(ending_of_fault(fault)),
     };
-    Ok(hosted_text(alloc, scenario.world.shape, &sequencer)?)
+    Ok(hosted_text(stage.alloc, scenario.world.shape, &sequencer)?)
 }

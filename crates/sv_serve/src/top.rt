@@ -1,10 +1,12 @@
+//! The top call of a server by itself.
 ghost use Rattle.std.specs.Prelude.{◌≡◌, ◌≢◌, ◌↔◌, ◌⊎◌, ◌≤◌, ℕ, take, map, option_map, string_bytes, None, IfSome};
-ghost use Rattle.sv_command.specs.Reading.{read_limit, HoldsScenario, IsNoScenario};
+ghost use Rattle.sv_command.specs.Endings.{Ends, IsCutShort, IsPrinted, OrWords};
+ghost use Rattle.sv_command.specs.Reading.{read_limit, held_of, HoldsScenario, IsNoScenario};
 ghost use Rattle.sv_command.specs.Statuses.{counts, NoneRose, Raises, TellsFaults, TellsStatus, status_of};
-ghost use Rattle.sv_serve.specs.Words.{asked_by, command_of, words_line};
+ghost use Rattle.sv_serve.specs.Words.{asked_by, command_of, named_by, words_line};
 ghost use Rattle.sv_serve.specs.Giving.{doorway};
 ghost use Rattle.sv_serve.specs.Hosting.{moved};
-ghost use Rattle.sv_serve.specs.Statuses.{held_by, named_by, Ends, GivesBackBut, IsCutShort, IsPrinted, LeavesAlone};
+ghost use Rattle.sv_serve.specs.Statuses.{EndsEarly, GivesBackBut, IsText, LeavesAlone};
 
 use crate::texts::served_text;
 use crate::words::{Command, command_of, file_of};
@@ -12,24 +14,22 @@ use std::alloc::Global;
 use std::sync::Wait;
 use std::thread::Threads;
 use sv_bytes::{Files, Sink, write_all};
-use sv_command::{Ending, status_of, tell};
+use sv_command::{Ending, Stage, status_of, tell};
 use sv_door::Door;
 use sv_link::{Crew, Gate};
 
 /// Serves what is asked for, and tells how it ended.
 fn decide<F: Files, D: Door, C: Crew, G: Gate + Sync, K: Sink, R: Threads + Wait + Sync>(
-    rt: &R,
-    alloc: Global,
+    stage: &Stage<'_, R, G>,
     command: Option<Command<'_>>,
     files: &mut F,
     door: &mut D,
     crew: &mut C,
-    gate: &G,
     out: &mut K,
 ) -> Ending
     ensures words { (result ≡ Ending.Words) ↔ (option_map asked_by command.entry ≡ None) }
-    ensures ends { Ends (held_by (F.contents files.old) (option_map asked_by command.entry))
-        (moved (D.given door.old) (D.given door.new) (C.ran crew.old) (C.ran crew.new)) (K.taken out.old) (K.taken out.new) result }
+    ensures ends { Ends (IsText (held_of (F.contents files.old) (named_by (option_map asked_by command.entry))) (moved (D.given door.old) (D.given door.new) (C.ran crew.old) (C.ran crew.new)))
+        (OrWords (EndsEarly (held_of (F.contents files.old) (named_by (option_map asked_by command.entry))))) (K.taken out.old) (K.taken out.new) result }
     ensures raises { Raises (counts (F.faults files.old) (C.faults crew.old) (D.faults door.old) (K.faults out.old))
         (counts (F.faults files.new) (C.faults crew.new) (D.faults door.new) (K.faults out.new)) result }
     ensures sure { IfSome (named_by (option_map asked_by command.entry)) (λ name. F.sure files.old name → result ≢ Ending.File) }
@@ -41,7 +41,7 @@ fn decide<F: Files, D: Door, C: Crew, G: Gate + Sync, K: Sink, R: Threads + Wait
     let Some(command) = command else {
         return Ending::Words;
     };
-    match served_text(rt, alloc, command, files, door, crew, gate) {
+    match served_text(stage, command, files, door, crew) {
         Ok(text) if write_all(out, text.as_bytes()) => Ending::Done,
         Ok(_) => Ending::Out,
         Err(ending) => ending,
@@ -85,22 +85,23 @@ pub fn run_serve<
     ensures apart { LeavesAlone result files.old files.new door.old door.new crew.old crew.new }
     ensures back { GivesBackBut result (C.ran crew.old) (C.ran crew.new)
         (doorway (D.given door.old) (D.made door.old) (D.owed door.old)) (doorway (D.given door.new) (D.made door.new) (D.owed door.new)) }
-    ensures faulty { IfSome (held_by (F.contents files.old) (command_of (map string_bytes words.now)))
+    ensures faulty { IfSome (held_of (F.contents files.old) (named_by (command_of (map string_bytes words.now))))
         (λ all. IsNoScenario (take read_limit all) → (result ≡ 3) ⊎ (result ≡ 4) ⊎ (result ≡ 8)) }
-    ensures printed { result ≡ 0 → IsPrinted (held_by (F.contents files.old) (command_of (map string_bytes words.now)))
-        (moved (D.given door.old) (D.given door.new) (C.ran crew.old) (C.ran crew.new)) (K.taken out.old) (K.taken out.new) }
-    ensures part { result ≡ 5 → IsCutShort (held_by (F.contents files.old) (command_of (map string_bytes words.now)))
-        (moved (D.given door.old) (D.given door.new) (C.ran crew.old) (C.ran crew.new)) (K.taken out.old) (K.taken out.new) }
+    ensures printed { result ≡ 0 → IsPrinted (IsText (held_of (F.contents files.old) (named_by (command_of (map string_bytes words.now))))
+        (moved (D.given door.old) (D.given door.new) (C.ran crew.old) (C.ran crew.new))) (K.taken out.old) (K.taken out.new) }
+    ensures part { result ≡ 5 → IsCutShort (IsText (held_of (F.contents files.old) (named_by (command_of (map string_bytes words.now))))
+        (moved (D.given door.old) (D.given door.new) (C.ran crew.old) (C.ran crew.new))) (K.taken out.old) (K.taken out.new) }
     ensures nothing { result ≢ 0 → result ≢ 5 → K.taken out.new ≡ K.taken out.old }
-    ensures told { TellsStatus words_line result (held_by (F.contents files.old) (command_of (map string_bytes words.now))) (named_by (command_of (map string_bytes words.now)))
+    ensures told { TellsStatus words_line result (held_of (F.contents files.old) (named_by (command_of (map string_bytes words.now)))) (named_by (command_of (map string_bytes words.now)))
         (E.taken err.old) (E.taken err.new) (E.faults err.old) (E.faults err.new) }
-    ensures complete { HoldsScenario (held_by (F.contents files.old) (command_of (map string_bytes words.now)))
+    ensures complete { HoldsScenario (held_of (F.contents files.old) (named_by (command_of (map string_bytes words.now))))
         → NoneRose (counts (F.faults files.old) (C.faults crew.old) (D.faults door.old) (K.faults out.old))
         (counts (F.faults files.new) (C.faults crew.new) (D.faults door.new) (K.faults out.new))
         → (result ≡ 0) ⊎ (result ≡ 8) }
 {
     let command = command_of(words);
-    let ending = decide(rt, alloc, command, files, door, crew, gate, out);
+    let stage = Stage { rt, alloc, gate };
+    let ending = decide(&stage, command, files, door, crew, out);
     tell(&ending, b"words: serve FILE PORT\n", file_of(command), err);
     status_of(&ending)
 }

@@ -1,8 +1,7 @@
 //! What the words of a call ask for.
 ghost use Rattle.std.specs.Prelude.{◌≡◌, map, string_bytes, option_map};
 ghost use Rattle.std.specs.Option.{option_copied};
-ghost use Rattle.sv_serve.specs.Words.{asked_by, command_of};
-ghost use Rattle.sv_serve.specs.Statuses.{named_by};
+ghost use Rattle.sv_serve.specs.Words.{asked_by, command_of, named_by};
 
 use sv_command::number_in;
 

@@ -1,3 +1,4 @@
+-- The lemmas of snapshots.
 pub mod Lasts
 pub mod Readable
 pub mod Telling

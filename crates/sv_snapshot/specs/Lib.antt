@@ -1,3 +1,4 @@
+-- The definitions of looks and their snapshots.
 pub mod Snapshots
 pub mod Cuts
 pub mod Lines

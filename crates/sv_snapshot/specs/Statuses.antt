@@ -1,8 +1,6 @@
--- What a call says, and what is left of it, by its status.
+-- What a text of the call tells, and what an ending without one says.
 -- A journal `h` has its latest entry first.
-use Rattle.std.specs.Prelude.{◌≡◌, ℕ, List, Option, All, Result, Ok, Err, String, string_bytes}
-use Rattle.std.specs.declared.alloc.Global.{Global}
-use Rattle.sv_bytes.specs.Writing.{Grew, GrewByPart}
+use Rattle.std.specs.Prelude.{◌≡◌, ℕ, List, Option, All, string_bytes}
 use Rattle.sv_journal.specs.declared.entry.Entry.{Entry}
 use Rattle.sv_journal.specs.History.{actions_of}
 use Rattle.sv_client.specs.declared.trace.Trace.{Trace}
@@ -30,37 +28,9 @@ pub record IsText (held : Option (List ℕ)) (text : List ℕ) : Type 0 where
 
 -- ---- Endings
 
--- An ending without a text: no thread and no connection is told of.
+-- An ending without a text. No thread is started and no connection is made, so none can fail; and nothing is asked for by a number.
 abbrev pub EndsEarly : Option (List ℕ) → Ending → Type 0
 EndsEarly held (endings.Scenario line) = IsRefused held (string_bytes line)
 EndsEarly held endings.File = Unit {0}
 EndsEarly held endings.Memory = Unit {0}
 EndsEarly held _ = ⊥
-
--- The text of the snapshots, or why there is none.
-abbrev pub IsMade : Option (List ℕ) → Result (String Global) Ending → Type 0
-IsMade held (Ok text) = IsText held (string_bytes text)
-IsMade held (Err ending) = EndsEarly held ending
-
--- ---- What is left
-
--- The sink grew by just the text.
-pub record IsPrinted (held old now : Option (List ℕ)) : Type 0 where
-  pub text : List ℕ
-  pub told : IsText held text
-  pub grew : Grew old now text
-
--- The sink grew by a front part of the text.
-pub record IsCutShort (held old now : Option (List ℕ)) : Type 0 where
-  pub text : List ℕ
-  pub told : IsText held text
-  pub part : GrewByPart old now text
-
--- The output, by how the call ended. No thread is started and no connection is made, so none can fail.
-abbrev pub Ends : Option (List ℕ) → Option (List ℕ) → Option (List ℕ) → Ending → Type 0
-Ends held old now endings.Done = IsPrinted held old now
-Ends held old now endings.Out = IsCutShort held old now
-Ends held old now (endings.Scenario line) = IsRefused held (string_bytes line) × (now ≡ old)
-Ends held old now endings.Start = ⊥
-Ends held old now endings.Link = ⊥
-Ends held old now _ = now ≡ old

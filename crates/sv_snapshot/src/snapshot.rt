@@ -1,3 +1,4 @@
+//! The snapshot of a look.
 use sv_wire::Held;
 use sv_world::{ClientId, List};
 

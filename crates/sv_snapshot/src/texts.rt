@@ -1,12 +1,12 @@
 //! The text that tells the snapshots of a scheduled run.
-ghost use Rattle.std.specs.Prelude.{◌≡◌, ◌≢◌, ◌++◌, All, Err, map, IfOk, OnOk, string_bytes};
-ghost use Rattle.std.specs.List.{flat_map};
+ghost use Rattle.std.specs.Prelude.{◌≡◌, ◌≢◌, All, Err, map, IfOk, string_bytes};
 ghost use Rattle.sv_client.specs.Proper.{Proper};
+ghost use Rattle.sv_command.specs.Endings.{IsMade};
 ghost use Rattle.sv_command.specs.Statuses.{Counts, Raises, ending_of};
 ghost use Rattle.sv_snapshot.specs.Snapshots.{snapshots_of};
 ghost use Rattle.sv_snapshot.specs.Cuts.{IsShaped};
-ghost use Rattle.sv_snapshot.specs.Lines.{ended_line, look_line, looks_text};
-ghost use Rattle.sv_snapshot.specs.Statuses.{IsMade};
+ghost use Rattle.sv_snapshot.specs.Lines.{look_line, looks_text};
+ghost use Rattle.sv_snapshot.specs.Statuses.{EndsEarly, IsText};
 
 use crate::line::look_line;
 use crate::looker::Looker;
@@ -14,23 +14,12 @@ use crate::snapshot::Snapshot;
 use crate::taking::snapshots;
 use std::alloc::{AllocError, Global};
 use sv_bytes::Files;
-use sv_command::{Ending, scenario_in};
+use sv_command::{Ending, append_lines, scenario_in};
 use sv_journal::legal_actions_are_good;
 use sv_replay::run_schedule;
 use sv_system::Played;
 use sv_watch::Line;
 use sv_world::Shape;
-
-/// Appends lines, each with its end.
-fn append_lines(lines: &[Line], text: &mut String) -> Result<(), AllocError>
-    ensures { OnOk result (string_bytes text.new ≡ string_bytes text.old ++ flat_map ended_line lines.now) }
-{
-    for line in lines {
-        text.push_str(line.as_str())?;
-        text.push_str("\n")?;
-    }
-    Ok(())
-}
 
 /// A line for each of some snapshots of a world of this shape.
 fn lines_of(alloc: Global, shape: Shape, snapshots: &[Snapshot]) -> Result<Vec<Line>, AllocError>
@@ -64,7 +53,7 @@ fn played_text(alloc: Global, played: &Played) -> Result<String, AllocError>
 
 /// The lines of the snapshots of a file's scheduled run. They are whole before any of them is printed.
 pub(crate) fn text_for<F: Files>(alloc: Global, file: &str, files: &mut F) -> Result<String, Ending>
-    ensures made { IsMade (F.contents files.old file.now) result }
+    ensures made { IsMade (IsText (F.contents files.old file.now)) (EndsEarly (F.contents files.old file.now)) result }
     ensures raises { (k : Counts) → Raises (record k { files = F.faults files.old }) (record k { files = F.faults files.new }) (ending_of result) }
     ensures sure { F.sure files.old file.now → result ≢ Err Ending.File }
 {

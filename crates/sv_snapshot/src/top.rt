@@ -1,9 +1,11 @@
+//! The top call that prints the snapshots of a scheduled run.
 ghost use Rattle.std.specs.Prelude.{◌≡◌, ◌≢◌, ◌↔◌, ◌⊎◌, ◌≤◌, ℕ, take, map, string_bytes, None, IfSome};
 ghost use Rattle.std.specs.Option.{option_copied};
+ghost use Rattle.sv_command.specs.Endings.{Ends, IsCutShort, IsPrinted, OrWords};
 ghost use Rattle.sv_command.specs.Reading.{read_limit, held_of, HoldsScenario, IsNoScenario};
 ghost use Rattle.sv_command.specs.Statuses.{counts, NoneRose, Raises, TellsFaults, TellsStatus};
 ghost use Rattle.sv_snapshot.specs.Words.{file_in, words_line};
-ghost use Rattle.sv_snapshot.specs.Statuses.{Ends, IsCutShort, IsPrinted};
+ghost use Rattle.sv_snapshot.specs.Statuses.{EndsEarly, IsText};
 
 use crate::texts::text_for;
 use crate::words::file_in;
@@ -19,7 +21,8 @@ fn decide<F: Files, K: Sink>(
     out: &mut K,
 ) -> Ending
     ensures words { (result ≡ Ending.Words) ↔ (option_copied file.entry ≡ None) }
-    ensures ends { Ends (held_of (F.contents files.old) (option_copied file.entry)) (K.taken out.old) (K.taken out.new) result }
+    ensures ends { Ends (IsText (held_of (F.contents files.old) (option_copied file.entry))) (OrWords (EndsEarly (held_of (F.contents files.old) (option_copied file.entry))))
+        (K.taken out.old) (K.taken out.new) result }
     ensures raises { Raises (counts (F.faults files.old) 0 0 (K.faults out.old)) (counts (F.faults files.new) 0 0 (K.faults out.new)) result }
     ensures sure { IfSome (option_copied file.entry) (λ name. F.sure files.old name → result ≢ Ending.File) }
     ensures apart { result ≡ Ending.Words → files.new ≡ files.old }
@@ -57,8 +60,8 @@ pub fn run_looks<F: Files, K: Sink, E: Sink>(
     ensures apart { result ≡ 2 → files.new ≡ files.old }
     ensures faulty { IfSome (held_of (F.contents files.old) (file_in (map string_bytes words.now)))
         (λ all. IsNoScenario (take read_limit all) → (result ≡ 3) ⊎ (result ≡ 4) ⊎ (result ≡ 8)) }
-    ensures printed { result ≡ 0 → IsPrinted (held_of (F.contents files.old) (file_in (map string_bytes words.now))) (K.taken out.old) (K.taken out.new) }
-    ensures part { result ≡ 5 → IsCutShort (held_of (F.contents files.old) (file_in (map string_bytes words.now))) (K.taken out.old) (K.taken out.new) }
+    ensures printed { result ≡ 0 → IsPrinted (IsText (held_of (F.contents files.old) (file_in (map string_bytes words.now)))) (K.taken out.old) (K.taken out.new) }
+    ensures part { result ≡ 5 → IsCutShort (IsText (held_of (F.contents files.old) (file_in (map string_bytes words.now)))) (K.taken out.old) (K.taken out.new) }
     ensures nothing { result ≢ 0 → result ≢ 5 → K.taken out.new ≡ K.taken out.old }
     ensures told { TellsStatus words_line result (held_of (F.contents files.old) (file_in (map string_bytes words.now))) (file_in (map string_bytes words.now))
         (E.taken err.old) (E.taken err.new) (E.faults err.old) (E.faults err.new) }

@@ -32,29 +32,29 @@ use Rattle.sv_journal.specs.Serving.{Keeping, with_last_rows, polled_after, Lega
 use Rattle.sv_journal.proofs.Kept.{client-kept, next-kept, kept_outcome-kept, accepted-kept, sent-kept}
 use Rattle.sv_client.specs.declared.trace.Event.{Event}
 use Rattle.sv_client.specs.declared.trace.Event.TheVariants as events
-use Rattle.sv_client.specs.declared.trace.Trace.{Trace}
 use Rattle.sv_client.specs.Traces.{joins, makes, current_session, is_session, held_of, with_reply, head_held, results_of, done_for, pending_of, submit_of, asked_by, asked, got}
 use Rattle.sv_client.specs.Taking.{Identity, allows, items_of, is_bad_head, is_bad_relay, is_good_relay, has_bad_item}
 use Rattle.sv_client.specs.Proper.{AreProper, identity_of}
 use Rattle.sv_system.specs.Fits.{replies_in}
-use Rattle.sv_system.specs.Served.{OwnsSessions, AreSameButValues, FitsButValues}
+use Rattle.sv_system.specs.Served.{AreSameButValues, FitsButValues}
+use Rattle.sv_system.proofs.Awaited.{Truthful}
 use Rattle.sv_system.proofs.Fronts.{front-then, get-last}
 use Rattle.sv_system.proofs.Tests.{each-append}
-use Rattle.sv_system.specs.Journals.{IsSerialResult, ResultsAreSerial}
+use Rattle.sv_system.specs.Journals.{IsSerialResult}
 use Rattle.sv_system.proofs.Histories.{IsEarlier, same, earlier-then, earlier-rest, earlier-served, accepted-grows}
 use Rattle.sv_system.proofs.Lawful.{legal-relay, positions-within, kept-action}
-use Rattle.sv_system.proofs.Entered.{is_of, of-parts, client-stays, welcome-client}
+use Rattle.sv_system.proofs.Entered.{of-parts, client-stays, welcome-client}
 use Rattle.sv_system.proofs.Asked.{get-append_cases, proper-part, got-part, done-when, may-answer}
 use Rattle.sv_system.proofs.BoundedRelays.{all-small}
 use Rattle.sv_system.proofs.Pendings.{Numbered, keys, without_first, settles, keys-with, keys-made}
 use Rattle.sv_system.proofs.Leaving.{is_join_request}
 use Rattle.sv_system.proofs.Order.{got-replied, welcome-legal, earlier-strict}
-use Rattle.sv_system.proofs.Asking.{IsServed, is_done, done-other, done-form}
+use Rattle.sv_system.proofs.Asking.{is_done, done-other, done-form}
 use Rattle.sv_system.proofs.Induction.{accepted-good, plain-acts, well-after}
 use Rattle.sv_system.proofs.Opened.{asks, asks-other}
 use Rattle.sv_system.proofs.Begun.{replied, join-welcomed}
 use Rattle.sv_system.proofs.Before.{got-at, welcomed-now}
-use Rattle.sv_system.proofs.Window.{numbered-well}
+use Rattle.sv_system.proofs.Numbering.{numbered-well}
 use Rattle.sv_system.proofs.Dones.{sent-now, sent-stays, good-done}
 
 -- ---- What a trace asks
@@ -168,11 +168,11 @@ good-reads : (objects : ℕ) (shape_of : Action → Type 0) (xs : List Authored)
 good-reads objects shape_of [] f h = tt
 good-reads objects shape_of (a ∷ xs) f h = (f a.action h.0, good-reads objects shape_of xs f h.1)
 
-module _ (K : Keeping) (r : Rules) (H : List Entry) (L : Trace) (served : IsServed K r H L) (owns : OwnsSessions H L)
-    (s : ℕ) (current : current_session (reverse L.events) ≡ Some s) (few : length (asked L.client L.interest (reverse L.events) s) ≤ 1024)
-    (e : Entry) (g : List Entry) (b : IsEarlier (e ∷ g) H) (mine : is_of e s ≡ true) (next : length (replies_in (accepted H) g s) ≡ length (got (reverse L.events) s))
-    (count : length r.world.values ≡ r.world.shape.objects) (shaped : All (λ (v : List ℤ). length v ≡ r.world.shape.attrs) r.world.values) (bound : r.bound ≤ 32)
-    (serial : ResultsAreSerial r.world.values (actions_of H) (K.kept H)) where
+module _ (truthful : Truthful) where
+  open truthful.awaited.owner use {keeping as K, rules as r, journal as H, trace as L, served}
+  open truthful.awaited use {session as s, entry as e, before as g, earlier as b, mine}
+  open truthful use {awaited, count, shaped, bound, serial}
+
   abbrev whole : List Event
   whole = reverse L.events
 
@@ -199,12 +199,12 @@ module _ (K : Keeping) (r : Rules) (H : List Entry) (L : Trace) (served : IsServ
 
   -- A request but a Done is the one that is asked.
   asking : (q : Request) → e.request ≡ q → is_done q ≡ false → slice_get (asked L.client L.interest whole s) (length (got whole s)) ≡ Some q
-  asking q is other = asks-other K r H L served owns s current e g b mine next q is other
+  asking q is other = asks-other awaited q is other
 
   -- The session has this client, where the request is no Join.
   joined : is_join_request e.request ≡ false → client_of g s ≡ Some k
   joined f =
-      let w = welcomed-now K r H L served owns s current few e g b mine next in
+      let w = welcomed-now awaited in
       let early : IsEarlier (w.entry ∷ w.before) H = earlier-then (w.entry ∷ w.before) (e ∷ g) H w.earlier b in
       let fresh = welcome-legal K r H L served w.entry w.before L.client w.life early w.welcome in
       elim (earlier-strict (w.entry ∷ w.before) e g w.earlier) [
@@ -220,7 +220,7 @@ module _ (K : Keeping) (r : Rules) (H : List Entry) (L : Trace) (served : IsServ
   pub member-reply : (q : Request) → e.request ≡ q → is_join_request q ≡ false → reply_to_open r (K.kept g) s q ≡ reply_to_member r (K.kept g) s (client_of (K.kept g) s) q →
       e.reply ≡ with_last_rows K r g s q (reply_to_client r (K.kept g) s k q)
   member-reply q is f same_reply =
-      replied K r H L served owns s current few e g b mine next ∙ ap (λ (p : Request). with_last_rows K r g s p (reply_to_open r (K.kept g) s p)) is
+      replied awaited ∙ ap (λ (p : Request). with_last_rows K r g s p (reply_to_open r (K.kept g) s p)) is
       ∙ ap (with_last_rows K r g s q)
       (same_reply ∙ ap (λ (o : Option ℕ). reply_to_member r (K.kept g) s o q) (client-kept K keeps g s ∙ joined (ap is_join_request is ∙ f)))
 
@@ -229,7 +229,7 @@ module _ (K : Keeping) (r : Rules) (H : List Entry) (L : Trace) (served : IsServ
 
   submit-allowed : (n : ℕ) (a : Action) → e.request ≡ requests.Submit n a → IsAllowed (requests.Submit n a) (reply_to_submit r (K.kept g) s k n a (kept_outcome (K.kept g) k n))
   submit-allowed n a is =
-      let w = numbered-well K r H L served owns s current few e g b mine next n a is in
+      let w = numbered-well awaited n a is in
       let P : Logged → Type 0 = IsAllowed (requests.Submit n a) in
       let same_kept : kept_outcome (K.kept g) k n ≡ kept_outcome g k n = kept_outcome-kept K keeps g k n in
       elim w.outcome [
@@ -269,8 +269,8 @@ module _ (K : Keeping) (r : Rules) (H : List Entry) (L : Trace) (served : IsServ
       let m = length (got t s) in
       let there : slice_get (got whole s) m ≡ Some reply =
       got-part who L.first v whole d.part s m reply (ap (λ (rs : List Reply). slice_get rs m) (cond-true (s == s) (got t s ++ reply ∷ []) (got t s) (eq-eqb s s refl)) ∙ get-last (got t s) reply) in
-      let x = got-at K r H L served owns s current few e g b mine next s m reply there in
-      let bx : IsEarlier (x.entry ∷ x.before) H = earlier-then (x.entry ∷ x.before) g H x.there earlier in
+      let x = got-at awaited s m reply there in
+      let bx : IsEarlier (x.entry ∷ x.before) H = earlier-then (x.entry ∷ x.before) g H x.earlier earlier in
       let lx : LegalFor K r (x.entry ∷ x.before) = earlier-served K r (x.entry ∷ x.before) H bx legal in
       let ks = positions_in x.entry.reply in
       let items : d.items ≡ map (item_at A) ks = ap items_of x.replied ∙ items-logged A x.entry.reply in
@@ -285,15 +285,15 @@ module _ (K : Keeping) (r : Rules) (H : List Entry) (L : Trace) (served : IsServ
       let held = held_of t ++ head_held d.commit d.head in
       let results_are : results ≡ results_of held (map (item_at A) ks) = d.results_are ∙ ap (results_of held) items in
       subst (λ (rs : List Done1). is_bad_done r (K.kept g) s rs ≡ false) (sym results_are)
-      (good-done r H count shaped (plain-acts K keeps r H count legal) (K.kept g) here s worlds-shaped held ks low.0 (ap (λ (n : ℕ). n == 0) (sym many) ∙ some_items) (omega arith)
+      (good-done r H count shaped (plain-acts K keeps r H count legal) (K.kept g) here s worlds-shaped held ks low.0 (ap (λ (n : ℕ). n == 0) (sym many) ∙ some_items) (omega (arith, bound))
       (λ j m. (
         low.1 j m,
         (
           (let w : j ≤ length (accepted (x.entry ∷ x.before)) = positions-within K keeps r x.entry x.before lx x.entry.reply refl j m in
-              let grows : length (accepted (x.entry ∷ x.before)) ≤ length (accepted g) = accepted-grows (x.entry ∷ x.before) g x.there in
+              let grows : length (accepted (x.entry ∷ x.before)) ≤ length (accepted g) = accepted-grows (x.entry ∷ x.before) g x.earlier in
               let all : length (accepted (K.kept g)) ≡ length (accepted g) = ap length (accepted-kept K keeps g) in
               omega arith),
-          ap (is_in j) (sent-kept K keeps g s) ∙ sent-stays (x.entry ∷ x.before) g x.there s j (sent-now x.entry x.before s j session m),
+          ap (is_in j) (sent-kept K keeps g s) ∙ sent-stays (x.entry ∷ x.before) g x.earlier s j (sent-now x.entry x.before s j session m),
         ),
       ))
       (subst (λ (is : List Item). AllByRecursion (IsSerialResult r.world.values (actions_of H)) (results_of held is)) items well.reported.0))
@@ -308,14 +308,14 @@ module _ (K : Keeping) (r : Rules) (H : List Entry) (L : Trace) (served : IsServ
   -- And so are those of a Done that differs from its own in the values alone.
   done-good : (results : List Done1) → e.request ≡ requests.Done results → is_bad_done r (K.kept g) s results ≡ false
   done-good results is =
-      let x = asks K r H L served owns s current e g b mine next in
+      let x = asks awaited in
       let own = done-other x.0 results (subst (AreSameButValues x.0) is x.1.1) in
       sym (done-form r (K.kept g) s own.0 results own.1.1) ∙ own-good own.0 (x.1.0 ∙ ap Some own.1.0)
 
   -- The reply is one that the request may have.
   pub allowed : (q : Request) → e.request ≡ q → allows q (full_reply A e.reply) ≡ true
   allowed (requests.Join client life interest) is =
-      subst (λ (y : Logged). allows (requests.Join client life interest) (full_reply A y) ≡ true) (sym (join-welcomed K r H L served owns s current few e g b mine next client life interest is).0) refl
+      subst (λ (y : Logged). allows (requests.Join client life interest) (full_reply A y) ≡ true) (sym (join-welcomed awaited client life interest is).0) refl
   allowed (requests.Submit n a) is =
       subst (λ (y : Logged). allows (requests.Submit n a) (full_reply A y) ≡ true) (sym (member-reply (requests.Submit n a) is refl refl)) (submit-allowed n a is)
   allowed (requests.Done results) is =

@@ -1,5 +1,5 @@
 -- All that a client got was answered before its next request, so it was told no greater commit than that of the next reply.
-use Rattle.std.proofs.Common.{◌≡◌, ℕ, ◌+◌, ◌<◌, ◌≤◌, true, ◌==◌, inl, inr, List, [], ◌∷◌, ◌++◌, map, reverse, length, Option, Some, None, slice_get, refl, sym, ap, ◌∙◌, subst, arith, eq-eqb}
+use Rattle.std.proofs.Common.{◌≡◌, ℕ, ◌+◌, ◌<◌, ◌≤◌, ◌==◌, inl, inr, List, [], ◌∷◌, ◌++◌, map, reverse, length, Option, Some, None, slice_get, refl, sym, ap, ◌∙◌, subst, arith, eq-eqb}
 use Rattle.std.proofs.lemmas.Bool.{cond-true, cases_eq}
 use Rattle.std.proofs.lemmas.Option.{none-some, same_Some, slice_get_within}
 use Rattle.sv_world.specs.declared.world.ObjectId.{ObjectId}
@@ -14,18 +14,18 @@ use Rattle.sv_journal.specs.Answer.{Rules, committed_held}
 use Rattle.sv_journal.specs.Serving.{Keeping, LegalFor, IsKeeping}
 use Rattle.sv_client.specs.declared.trace.Event.{Event}
 use Rattle.sv_client.specs.declared.trace.Event.TheVariants as events
-use Rattle.sv_client.specs.declared.trace.Trace.{Trace}
-use Rattle.sv_client.specs.Traces.{joins, current_session, asked, got}
+use Rattle.sv_client.specs.Traces.{joins, asked, got}
 use Rattle.sv_client.specs.Taking.{Identity, commit_in, told_with, told}
 use Rattle.sv_client.specs.Proper.{identity_of}
 use Rattle.sv_system.specs.Fits.{replies_in}
-use Rattle.sv_system.specs.Served.{OwnsSessions, FitsButValues}
+use Rattle.sv_system.specs.Served.{FitsButValues}
+use Rattle.sv_system.proofs.Awaited.{Awaited}
 use Rattle.sv_system.proofs.Fronts.{get-last, fronts-same}
 use Rattle.sv_system.proofs.Histories.{IsEarlier, same, after, earlier-then, earlier-rest, earlier-served, earlier-kept}
 use Rattle.sv_system.proofs.Replies.{commit_after, TellsFor, IsRelayReply, IsWelcomeReply, served-tells}
-use Rattle.sv_system.proofs.Asking.{IsServed, request-other}
+use Rattle.sv_system.proofs.Asking.{request-other}
 use Rattle.sv_system.proofs.Commits.{commit-grows}
-use Rattle.sv_system.proofs.Entered.{earlier-cases, is_of, of-parts, replies-earlier, IsEntered, entered, over-stays}
+use Rattle.sv_system.proofs.Entered.{earlier-cases, of-parts, replies-earlier, IsEntered, entered, over-stays}
 use Rattle.sv_system.proofs.Asked.{IsPart, part-rest, asked-part, got-part, got-when, got-answers, begun-or_not, current-last}
 use Rattle.sv_system.proofs.Order.{get-some, got-replied, IsWelcomed, welcomed-at, older-over, earlier-strict, got-not_over}
 use Rattle.sv_system.proofs.Opened.{asks}
@@ -67,9 +67,10 @@ with-most : (o : Option ℕ) (n m : ℕ) → ((c : ℕ) → o ≡ Some c → c �
 with-most None n m f l = l
 with-most (Some c) n m f l = (let k : c ≤ m = f c refl in omega arith)
 
-module _ (K : Keeping) (r : Rules) (H : List Entry) (L : Trace) (served : IsServed K r H L) (owns : OwnsSessions H L)
-    (s : ℕ) (current : current_session (reverse L.events) ≡ Some s) (few : length (asked L.client L.interest (reverse L.events) s) ≤ 1024)
-    (e : Entry) (g : List Entry) (b : IsEarlier (e ∷ g) H) (mine : is_of e s ≡ true) (next : length (replies_in (accepted H) g s) ≡ length (got (reverse L.events) s)) where
+module _ (awaited : Awaited) where
+  open awaited.owner use {keeping as K, rules as r, journal as H, trace as L, served}
+  open awaited use {session as s, current, entry as e, before as g, earlier as b, mine, next}
+
   abbrev whole : List Event
   whole = reverse L.events
 
@@ -101,11 +102,11 @@ module _ (K : Keeping) (r : Rules) (H : List Entry) (L : Trace) (served : IsServ
         | inl n ↦ absurd (n.1 current)
         | inr begun ↦
             (let join = requests.Join L.client begun.life L.interest in
-            let x = asks K r H L served owns s current e g b mine next in
+            let x = asks awaited in
             let first : e.request ≡ join =
             request-other x.0 e.request join x.1.1
             (same_Some x.0 join (sym (ap (slice_get (asked L.client L.interest whole s)) (sym z) ∙ x.1.0) ∙ ap (λ (qs : List Request). slice_get qs 0) begun.asked_are)) refl in
-            let w = join-welcomed K r H L served owns s current few e g b mine next L.client begun.life L.interest first in
+            let w = join-welcomed awaited L.client begun.life L.interest first in
             record {
               entry = e;
               before = g;
@@ -136,27 +137,17 @@ module _ (K : Keeping) (r : Rules) (H : List Entry) (L : Trace) (served : IsServ
   welcomed-now = elim (cases_eq (length (got whole s)) 0) [ inl z ↦ first-welcomed z | inr z ↦ later-welcomed (omega arith) ]
 
   -- Each reply that was got was given at an entry before.
-  pub record IsGotAt (o n : ℕ) (reply : Reply) : Type 0 where
-    pub entry : Entry
-    pub before : List Entry
-    pub there : IsEarlier (entry ∷ before) g
-    pub of_it : is_of entry o ≡ true
-    pub replied : reply ≡ full_reply A entry.reply
-    pub index : n ≡ length (replies_in A before o)
+  got-own : (n : ℕ) (reply : Reply) → slice_get (got whole s) n ≡ Some reply → IsEntered A g s n reply
+  got-own n reply is = entered A g s n reply (ap (λ (rs : List Reply). slice_get rs n) (sym got-same) ∙ is)
 
-  got-own : (n : ℕ) (reply : Reply) → slice_get (got whole s) n ≡ Some reply → IsGotAt s n reply
-  got-own n reply is =
-      let x = entered A g s n reply (ap (λ (rs : List Reply). slice_get rs n) (sym got-same) ∙ is) in
-      record { entry = x.entry; before = x.before; there = x.earlier; of_it = x.of_it; replied = x.replied; index = x.place }
-
-  got-other : (o n : ℕ) (reply : Reply) → (o ≡ s → ⊥) → slice_get (got whole o) n ≡ Some reply → IsGotAt o n reply
+  got-other : (o n : ℕ) (reply : Reply) → (o ≡ s → ⊥) → slice_get (got whole o) n ≡ Some reply → IsEntered A g o n reply
   got-other o n reply other is =
       let x = entered A H o n reply (got-replied K r H L served o n reply is) in
       let apart : x.entry.session ≡ e.session → ⊥ = λ q. other (sym (of-parts x.entry o x.of_it).0 ∙ q ∙ (of-parts e s mine).0) in
       elim (earlier-cases (x.entry ∷ x.before) (e ∷ g) H x.earlier b) [
         | inl c ↦ elim (earlier-strict (x.entry ∷ x.before) e g c) [
           | inl d ↦ absurd (apart (ap session_of d))
-          | inr d ↦ record { entry = x.entry; before = x.before; there = d; of_it = x.of_it; replied = x.replied; index = x.place }
+          | inr d ↦ record { entry = x.entry; before = x.before; earlier = d; of_it = x.of_it; replied = x.replied; place = x.place }
         ]
         | inr c ↦ elim (earlier-strict (e ∷ g) x.entry x.before c) [
           | inl d ↦ absurd (apart (sym (ap session_of d)))
@@ -189,10 +180,10 @@ module _ (K : Keeping) (r : Rules) (H : List Entry) (L : Trace) (served : IsServ
                 (over-stays (e ∷ g) x.before d o (older-over K r H L served s o (e ∷ g) b w v lower)))
           ]
 
-  pub got-at : (o n : ℕ) (reply : Reply) → slice_get (got whole o) n ≡ Some reply → IsGotAt o n reply
+  pub got-at : (o n : ℕ) (reply : Reply) → slice_get (got whole o) n ≡ Some reply → IsEntered A g o n reply
   got-at o n reply is =
       elim (cases_eq o s) [
-        | inl q ↦ subst (λ (m : ℕ). IsGotAt m n reply) (sym q) (got-own n reply (ap (λ (m : ℕ). slice_get (got whole m) n) (sym q) ∙ is))
+        | inl q ↦ subst (λ (m : ℕ). IsEntered A g m n reply) (sym q) (got-own n reply (ap (λ (m : ℕ). slice_get (got whole m) n) (sym q) ∙ is))
         | inr q ↦ got-other o n reply q is
       ]
 
@@ -205,7 +196,7 @@ module _ (K : Keeping) (r : Rules) (H : List Entry) (L : Trace) (served : IsServ
       got-part who L.first (events.Got o reply ∷ t) whole p o (length (got t o)) reply (ap (λ (rs : List Reply). slice_get rs (length (got t o))) (cond-true (o == o) (got t o ++ reply ∷ []) (got t o) (eq-eqb o o refl)) ∙ get-last (got t o) reply) in
       let x = got-at o (length (got t o)) reply there in
       with-most (commit_in reply) (told t) (commit_of (K.kept g))
-      (λ c f. told-most K keeps r A x.entry x.before g (earlier-served K r (x.entry ∷ x.before) H (earlier-then (x.entry ∷ x.before) g H x.there earlier) legal) x.there x.entry.reply refl c (ap commit_in (sym x.replied) ∙ f)) less
+      (λ c f. told-most K keeps r A x.entry x.before g (earlier-served K r (x.entry ∷ x.before) H (earlier-then (x.entry ∷ x.before) g H x.earlier earlier) legal) x.earlier x.entry.reply refl c (ap commit_in (sym x.replied) ∙ f)) less
   told-before (events.Join o ∷ t) p = told-before t (part-rest t (events.Join o) whole p)
   told-before (events.Make action ∷ t) p = told-before t (part-rest t (events.Make action) whole p)
   told-before (events.Poll ∷ t) p = told-before t (part-rest t events.Poll whole p)

@@ -15,17 +15,16 @@ use Rattle.sv_journal.specs.declared.entry.Logged.TheVariants as logged
 use Rattle.sv_journal.specs.History.{Authored, accepted, client_of, is_client, is_welcome, joining, full_reply, commit_of}
 use Rattle.sv_journal.specs.Sessions.{is_end, welcomes, is_joined, is_over, is_live, asked_in, life_in, life_of}
 use Rattle.sv_journal.specs.Answer.{Rules, committed_held, is_good_interest, reply_to_join, reply_to_open, reply_to_request, reply_to, refused}
-use Rattle.sv_journal.specs.Serving.{Keeping, with_last_rows, reply_for, LegalFor, IsKeeping}
+use Rattle.sv_journal.specs.Serving.{with_last_rows, reply_for, LegalFor, IsKeeping}
 use Rattle.sv_journal.proofs.Kept.{over-kept, asked-kept, life-kept, live-kept}
 use Rattle.sv_client.specs.declared.trace.Event.{Event}
-use Rattle.sv_client.specs.declared.trace.Trace.{Trace}
-use Rattle.sv_client.specs.Traces.{joins, current_session, asked, got}
+use Rattle.sv_client.specs.Traces.{joins, asked, got}
 use Rattle.sv_client.specs.Proper.{identity_of}
 use Rattle.sv_system.specs.Fits.{requests_in, replies_in}
-use Rattle.sv_system.specs.Served.{OwnsSessions, FitsButValues}
+use Rattle.sv_system.specs.Served.{FitsButValues}
+use Rattle.sv_system.proofs.Awaited.{Awaited}
 use Rattle.sv_system.proofs.Histories.{IsEarlier, same, after, earlier-then, earlier-rest, earlier-served}
 use Rattle.sv_system.proofs.Entered.{is_of, of-parts, of-from, as-many, IsWelcome}
-use Rattle.sv_system.proofs.Asking.{IsServed}
 use Rattle.sv_system.proofs.Asked.{current-last}
 use Rattle.sv_system.proofs.Leaving.{IsJoinAsked, join-asked}
 use Rattle.sv_system.proofs.Opened.{welcome-of, welcomed-by, own-join, asks, asks-other, was-got, not-over}
@@ -96,9 +95,10 @@ open-reply r g s q f o l = end-apart q f ∙ cond-false (is_over g s) (refused 4
     end-apart requests.Bad f = refl
     end-apart requests.End f = absurd (true≢false f)
 
-module _ (K : Keeping) (r : Rules) (H : List Entry) (L : Trace) (served : IsServed K r H L) (owns : OwnsSessions H L)
-    (s : ℕ) (current : current_session (reverse L.events) ≡ Some s) (few : length (asked L.client L.interest (reverse L.events) s) ≤ 1024)
-    (e : Entry) (g : List Entry) (b : IsEarlier (e ∷ g) H) (mine : is_of e s ≡ true) (next : length (replies_in (accepted H) g s) ≡ length (got (reverse L.events) s)) where
+module _ (awaited : Awaited) where
+  open awaited.owner use {keeping as K, rules as r, journal as H, trace as L, served}
+  open awaited use {owner, session as s, current, few, entry as e, before as g, earlier as b, mine, next}
+
   abbrev whole : List Event
   whole = reverse L.events
 
@@ -118,18 +118,18 @@ module _ (K : Keeping) (r : Rules) (H : List Entry) (L : Trace) (served : IsServ
   legal = served.legal
 
   pub open' : is_over g s ≡ false
-  open' = not-over K r H L served owns s current e g b mine next
+  open' = not-over awaited
 
   earlier : IsEarlier g H
   earlier = earlier-rest g e H b
 
   pub unspent : asked_in g s < 1024
   unspent =
-      let request = asks K r H L served owns s current e g b mine next in
+      let request = asks awaited in
       let a : asked_in g s ≡ length (requests_in g s) = asked-count g s in
       let c : length (replies_in A g s) ≡ length (requests_in g s) = as-many A g s in
       let n : length (got whole s) < length (asked L.client L.interest whole s) = slice_get_within (asked L.client L.interest whole s) (length (got whole s)) request.0 request.1.0 in
-      omega (arith, next)
+      omega (arith, next, few)
 
   pub replied : e.reply ≡ with_last_rows K r g s e.request (reply_to_open r (K.kept g) s e.request)
   replied =
@@ -142,7 +142,7 @@ module _ (K : Keeping) (r : Rules) (H : List Entry) (L : Trace) (served : IsServ
   none-before : length (got whole s) ≡ 0 → (d : Entry) (h : List Entry) → IsEarlier (d ∷ h) g → is_of d s ≡ true → ⊥
   none-before z d h c t =
       let l : length (replies_in A h s) < length (got whole s) =
-      slice_get_within (got whole s) (length (replies_in A h s)) (full_reply A d.reply) (was-got K r H L served owns s current e g b mine next d h c t) in
+      slice_get_within (got whole s) (length (replies_in A h s)) (full_reply A d.reply) (was-got awaited d h c t) in
       absurd (omega arith)
 
   fresh-client : length (got whole s) ≡ 0 → (o : Option ℕ) → client_of g s ≡ o → client_of g s ≡ None
@@ -161,7 +161,7 @@ module _ (K : Keeping) (r : Rules) (H : List Entry) (L : Trace) (served : IsServ
             let q = join-parts v.entry.request k (client-some (joining v.entry.request) k p.1) in
             let y = welcome-of v.entry.reply p.0 in
             let welcome : IsWelcome v.entry q.0 (life_in v.entry.request) = record { interest = q.1.0; commit = y.0; head = y.1.0; request = q.1.1.0; reply = y.1.1 } in
-            let j = own-join K r H L served owns v.entry v.before (earlier-then (v.entry ∷ v.before) g H v.earlier earlier) q.0 (life_in v.entry.request) welcome q.1.1.1 in
+            let j = own-join owner v.entry v.before (earlier-then (v.entry ∷ v.before) g H v.earlier earlier) q.0 (life_in v.entry.request) welcome q.1.1.1 in
             let n1 : v.entry.session + 1 ≡ L.first + life_in v.entry.request = j.1.numbered in
             let l1 : life_in v.entry.request ≤ joins whole = j.1.among in
             let n2 : s + 1 ≡ L.first + joins whole = current-last (identity_of r.world.shape L) L.first whole this_one.proper.events s current in
@@ -197,7 +197,7 @@ module _ (K : Keeping) (r : Rules) (H : List Entry) (L : Trace) (served : IsServ
   join-welcomed client life interest is =
       let join = requests.Join client life interest in
       let j = join-asked (identity_of r.world.shape L) L.first whole this_one.proper.events s (length (got whole s)) client life interest
-      (asks-other K r H L served owns s current e g b mine next join is refl) in
+      (asks-other awaited join is refl) in
       let z : length (got whole s) ≡ 0 = j.place in (
         replied ∙ ap (λ (q : Request). with_last_rows K r g s q (reply_to_open r (K.kept g) s q)) is
             ∙ ap (with_last_rows K r g s join)

@@ -1,5 +1,5 @@
 -- A client's Done is not bad: it reports, of the items of a relay that it got, well-formed results.
-use Rattle.std.proofs.Common.{◌≡◌, ℕ, zero, suc, ◌<◌, ◌≤◌, Bool, true, false, not, ◌&&◌, ◌||◌, ◌==◌, nat_lt, List, [], ◌∷◌, ◌++◌, map, length, ℤ, refl, sym, ap, ◌∙◌, subst, arith, eq-eqb, true≢false, le-ltb}
+use Rattle.std.proofs.Common.{◌≡◌, ℕ, zero, suc, ◌<◌, ◌≤◌, Bool, true, false, not, ◌&&◌, ◌||◌, ◌==◌, nat_lt, List, [], ◌∷◌, ◌++◌, map, length, ℤ, refl, sym, ap, ◌∙◌, subst, arith, eq-eqb, le-ltb}
 use Rattle.std.specs.Prelude.{All, unwrap_or}
 use Rattle.std.specs.List.{list_any, list_all, AllByRecursion}
 use Rattle.std.proofs.lemmas.Bool.{cond_both, cond-true, or_from, and_right, ne_eqb, not_from_true}
@@ -23,6 +23,7 @@ use Rattle.sv_journal.specs.Sessions.{positions_in, sent_to}
 use Rattle.sv_journal.specs.Answer.{Rules, is_bad_result, is_bad_done}
 use Rattle.sv_client.specs.Traces.{item_result, item_held, results_of}
 use Rattle.sv_system.specs.Journals.{serial_result}
+use Rattle.sv_system.proofs.Tests.{three-false, four-false}
 use Rattle.sv_system.proofs.Items.{IsPlain, item-action}
 use Rattle.sv_system.specs.Journals.{IsSerialResult}
 use Rattle.sv_system.proofs.Histories.{IsEarlier, same, after}
@@ -58,19 +59,6 @@ all-long n (v ∷ vs) h = and_two (length v == n) (list_all (λ (w : List ℤ). 
     and_two true true e f = refl
     and_two true false e f = f
     and_two false c e f = e
-
-three-false : (a b c : Bool) → a ≡ false → b ≡ false → c ≡ false → (a || b || c) ≡ false
-three-false true b c e f g = absurd (true≢false e)
-three-false false true c e f g = absurd (true≢false f)
-three-false false false true e f g = absurd (true≢false g)
-three-false false false false e f g = refl
-
-four-false : (a b c d : Bool) → a ≡ false → b ≡ false → c ≡ false → d ≡ false → (a || b || c || d) ≡ false
-four-false true b c d e f g h = absurd (true≢false e)
-four-false false true c d e f g h = absurd (true≢false f)
-four-false false false true d e f g h = absurd (true≢false g)
-four-false false false false true e f g h = absurd (true≢false h)
-four-false false false false false e f g h = refl
 
 module _ (r : Rules) (H : List Entry) (count : length r.world.values ≡ r.world.shape.objects) (shaped : All (λ (v : List ℤ). length v ≡ r.world.shape.attrs) r.world.values)
     (plain : (k : ℕ) → IsPlain r.world.shape.objects (action_at (actions_of H) k))

@@ -1,6 +1,5 @@
 -- The next reply to a client has no bad item.
-use Rattle.std.proofs.Common.{◌≡◌, ℕ, zero, suc, ◌<◌, ◌≤◌, Bool, true, false, not, ◌||◌, ◌==◌, nat_le, nat_lt, inl, inr, List, [], ◌∷◌, map, reverse, length, ℤ, Option, Some, None, is_none, refl, sym, ap, ◌∙◌, subst, arith, eq-eqb, true≢false}
-use Rattle.std.specs.Prelude.{All}
+use Rattle.std.proofs.Common.{◌≡◌, ℕ, zero, suc, ◌<◌, ◌≤◌, true, false, not, ◌||◌, ◌==◌, nat_le, nat_lt, inl, inr, List, [], ◌∷◌, map, reverse, length, Option, Some, None, is_none, refl, sym, ap, ◌∙◌, subst, arith, eq-eqb}
 use Rattle.std.specs.List.{list_any, AllByRecursion}
 use Rattle.std.proofs.lemmas.Bool.{cond_both, or_from, and_from, ne_eqb, not_from_true}
 use Rattle.std.proofs.lemmas.List.Elements.{All-from_recursion, recursion_from_All}
@@ -24,19 +23,15 @@ use Rattle.sv_journal.specs.Sessions.{kept_outcome, sent_to, already_given}
 use Rattle.sv_journal.specs.Answer.{Rules, committed_held, is_over_reach, reply_to_checked, reply_to_submit, orphans, reply_to_poll}
 use Rattle.sv_journal.specs.Serving.{Keeping, with_last_rows, LegalFor, IsKeeping}
 use Rattle.sv_client.specs.declared.trace.Event.{Event}
-use Rattle.sv_client.specs.declared.trace.Trace.{Trace}
-use Rattle.sv_client.specs.Traces.{current_session, pending_of, asked, got}
+use Rattle.sv_client.specs.Traces.{pending_of}
 use Rattle.sv_client.specs.Taking.{Identity, is_bad_head, is_for_front, ends_with_front, is_good_relay, is_bad_relay, has_bad_item}
 use Rattle.sv_client.specs.Proper.{identity_of}
-use Rattle.sv_system.specs.Fits.{replies_in}
-use Rattle.sv_system.specs.Served.{OwnsSessions, FitsButValues}
-use Rattle.sv_system.specs.Journals.{ResultsAreSerial}
-use Rattle.sv_system.proofs.Tests.{each-is_in}
+use Rattle.sv_system.specs.Served.{FitsButValues}
+use Rattle.sv_system.proofs.Awaited.{Truthful}
+use Rattle.sv_system.proofs.Tests.{each-is_in, three-false}
 use Rattle.sv_system.proofs.Histories.{IsEarlier, earlier-rest, earlier-served, accepted-grows}
 use Rattle.sv_system.proofs.Replies.{AnswersSubmit, AnswersKept, TellsFor, IsRelayReply, IsWelcomeReply, served-tells}
-use Rattle.sv_system.proofs.Asking.{IsServed}
 use Rattle.sv_system.proofs.Lawful.{IsLegalRelay, legal-relay, positions-within}
-use Rattle.sv_system.proofs.Entered.{is_of}
 use Rattle.sv_system.proofs.Induction.{accepted-good}
 use Rattle.sv_system.proofs.Opened.{asks-other}
 use Rattle.sv_system.proofs.Begun.{join-welcomed}
@@ -46,12 +41,6 @@ use Rattle.sv_system.proofs.NonEmpty.{positions-some}
 use Rattle.sv_system.proofs.Allowed.{polled, positions-low, worlds-shaped, member-reply}
 use Rattle.sv_system.proofs.Heads.{good-head}
 use Rattle.sv_system.proofs.Own.{front-for, submit-ends}
-
-three-false : (a b c : Bool) → a ≡ false → b ≡ false → c ≡ false → (a || b || c) ≡ false
-three-false true b c d e f = absurd (true≢false d)
-three-false false true c d e f = absurd (true≢false e)
-three-false false false true d e f = absurd (true≢false f)
-three-false false false false d e f = refl
 
 -- The reply names the number, where it names one.
 abbrev IsFor : ℕ → Logged → Type 0
@@ -97,11 +86,11 @@ objects-below : (n : ℕ) (xs : List ObjectId) → AllByRecursion (λ (o : Objec
 objects-below n [] h = tt
 objects-below n (x ∷ xs) h = (h.0, objects-below n xs h.1)
 
-module _ (K : Keeping) (r : Rules) (H : List Entry) (L : Trace) (served : IsServed K r H L) (owns : OwnsSessions H L)
-    (s : ℕ) (current : current_session (reverse L.events) ≡ Some s) (few : length (asked L.client L.interest (reverse L.events) s) ≤ 1024)
-    (e : Entry) (g : List Entry) (b : IsEarlier (e ∷ g) H) (mine : is_of e s ≡ true) (next : length (replies_in (accepted H) g s) ≡ length (got (reverse L.events) s))
-    (count : length r.world.values ≡ r.world.shape.objects) (shaped : All (λ (v : List ℤ). length v ≡ r.world.shape.attrs) r.world.values) (bound : r.bound ≤ 32)
-    (serial : ResultsAreSerial r.world.values (actions_of H) (K.kept H)) where
+module _ (truthful : Truthful) where
+  open truthful.awaited.owner use {keeping as K, rules as r, journal as H, trace as L, served}
+  open truthful.awaited use {session as s, current, entry as e, before as g, earlier as b}
+  open truthful use {awaited, count, serial}
+
   abbrev whole : List Event
   whole = reverse L.events
 
@@ -137,11 +126,11 @@ module _ (K : Keeping) (r : Rules) (H : List Entry) (L : Trace) (served : IsServ
 
   front-of : (n : ℕ) (a : Action) → e.request ≡ requests.Submit n a → IsFrontOf n a
   front-of n a is =
-      let f = next-front who L.first whole this_one.proper.events s n a current (asks-other K r H L served owns s current e g b mine next (requests.Submit n a) is refl) in
+      let f = next-front who L.first whole this_one.proper.events s n a current (asks-other awaited (requests.Submit n a) is refl) in
       (f.0, f.1.0)
 
   good-heads : (xs : List ℕ) → ((x : ℕ) → is_in x xs ≡ true → x < r.world.shape.objects) → is_bad_head r.world.shape (committed_held r (K.kept g) xs) ≡ false
-  good-heads = good-head K keeps r H count legal serial (worlds-shaped K r H L served owns s current few e g b mine next count shaped bound serial) g earlier
+  good-heads = good-head K keeps r H count legal serial (worlds-shaped truthful) g earlier
 
   relay-head : (commit : ℕ) (head : List Sent) (positions : List ℕ) → IsLegalRelay K r e g commit head positions → is_bad_head r.world.shape head ≡ false
   relay-head commit head positions t =
@@ -153,7 +142,7 @@ module _ (K : Keeping) (r : Rules) (H : List Entry) (L : Trace) (served : IsServ
 
   welcome-head : (commit : ℕ) (head : List Sent) → IsWelcomeReply K r g e.session e.request commit head → e.reply ≡ logged.Welcome commit head → is_bad_head r.world.shape head ≡ false
   welcome-head commit head t is =
-      let w = join-welcomed K r H L served owns s current few e g b mine next t.client t.life t.interest t.request in
+      let w = join-welcomed awaited t.client t.life t.interest t.request in
       let xs = map (λ (o : ObjectId). o.0) L.interest in
       ap (is_bad_head r.world.shape) (ap logged_head (sym is ∙ w.0))
       ∙ good-heads xs (λ x m. each-is_in (λ (y : ℕ). y < r.world.shape.objects) xs
@@ -171,20 +160,20 @@ module _ (K : Keeping) (r : Rules) (H : List Entry) (L : Trace) (served : IsServ
       elim t.kind [
         | inr z ↦
             (let number : seq ≡ 0 =
-            subst (IsFor 0) (sym (member-reply K r H L served owns s current few e g b mine next count shaped bound serial requests.Poll z.0 refl refl ∙ polled K r g s (orphans (K.kept g))) ∙ is)
+            subst (IsFor 0) (sym (member-reply truthful requests.Poll z.0 refl refl ∙ polled K r g s (orphans (K.kept g))) ∙ is)
             (poll-for K r g s (K.kept g) (K.due g s)) in
             subst (λ (q : Request). is_good_relay who (pending_of whole) q seq items ≡ true) (sym z.0) (eq-eqb seq 0 number))
         | inl z ↦
             (let n = z.0 in
             let a = z.1.0 in
             let number : seq ≡ n =
-            subst (IsFor n) (sym (member-reply K r H L served owns s current few e g b mine next count shaped bound serial (requests.Submit n a) z.1.1.0 refl refl) ∙ is)
+            subst (IsFor n) (sym (member-reply truthful (requests.Submit n a) z.1.1.0 refl refl) ∙ is)
             (submit-for K r g s (K.kept g) k n a (kept_outcome (K.kept g) k n)) in
             let front = front-of n a z.1.1.0 in
             subst (λ (q : Request). is_good_relay who (pending_of whole) q seq items ≡ true) (sym z.1.1.0)
             (and_from (is_for_front seq (pending_of whole)) (ends_with_front who (pending_of whole) items)
             (ap (λ (m : ℕ). is_for_front m (pending_of whole)) number ∙ front-for (pending_of whole) n a front.0 front.1)
-            (submit-ends K r H L served owns s current few e g b mine next seq commit head positions is t n a z.1.1.0 (pending_of whole) front.0 front.1)))
+            (submit-ends awaited seq commit head positions is t n a z.1.1.0 (pending_of whole) front.0 front.1)))
       ]
 
   relay-good : (seq commit : ℕ) (head : List Sent) (positions : List ℕ) → e.reply ≡ logged.Relay seq commit head positions →
@@ -196,7 +185,7 @@ module _ (K : Keeping) (r : Rules) (H : List Entry) (L : Trace) (served : IsServ
       or_from (is_bad_head who.shape head) (is_bad_relay who (pending_of whole) e.request seq items)
       (relay-head commit head positions (legal-relay K keeps r e g seq commit head positions legal_here is))
       (three-false (length items == 0) (list_any (λ (i : Item). not (is_none (first_fault_of_action who.shape i.action))) items) (not (is_good_relay who (pending_of whole) e.request seq items))
-      (ne_eqb (length items) 0 (λ z. positions-some K r H L served owns s current few e g b mine next seq commit head positions is (none-left positions z)))
+      (ne_eqb (length items) 0 (λ z. positions-some awaited seq commit head positions is (none-left positions z)))
       (good-items K keeps r H legal positions (λ j m. (low.1 j m, (let within : j ≤ length (accepted (e ∷ g)) = positions-within K keeps r e g legal_here (logged.Relay seq commit head positions) is j m in omega arith))))
       (not_from_true (is_good_relay who (pending_of whole) e.request seq items) (relay-fits seq commit head positions is)))
     where

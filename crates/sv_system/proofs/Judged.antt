@@ -16,7 +16,7 @@ use Rattle.sv_journal.specs.declared.entry.Logged.TheVariants as logged
 use Rattle.sv_journal.specs.History.{Authored, Outcome, is_client, is_relay, is_submit_of, new_action, outcome_in, outcomes_of, client_of, accepted, actions_of, next_seq, commit_of}
 use Rattle.sv_journal.specs.Sessions.{is_over, asked_in, kept_outcome}
 use Rattle.sv_journal.specs.Answer.{Rules, is_over_reach, reply_to_good, reply_to_checked, reply_to_submit, reply_to_client, reply_to_member, reply_to_open, reply_to, Legal}
-use Rattle.sv_system.specs.Outcomes.{AreOnce, IsDropped, IsWithinLimits, IsOutcome, IsJudged, AreJudged}
+use Rattle.sv_system.specs.Outcomes.{AreAcceptedOnce, IsDropped, IsWithinLimits, IsOutcome, HasRightOutcome, HaveRightOutcomes}
 use Rattle.sv_system.proofs.Fronts.{get-push_cases}
 use Rattle.sv_system.proofs.Histories.{kept-old}
 
@@ -57,11 +57,11 @@ module _ (r : Rules) (h : List Entry) (s k seq : ℕ) (a : Action) where
       cond_both (nat_le most_requests (asked_in h s)) _ _ (IsOutcome r h a) (λ e. tt) (λ g.
       subst (λ (o : Option ℕ). IsOutcome r h a (reply_to_member r h s o (requests.Submit seq a))) (sym c) (submit-judged n (kept_outcome h k seq) refl)))
 
-pub are-judged : (r : Rules) (h : List Entry) → Legal r h → AreJudged r h
+pub are-judged : (r : Rules) (h : List Entry) → Legal r h → HaveRightOutcomes r h
 are-judged r [] l = tt
 are-judged r (e ∷ h) l = (judged, are-judged r h l.1)
   where
-    judged : IsJudged r h e
+    judged : HasRightOutcome r h e
     judged k seq a c q n =
         subst (IsOutcome r h a) (sym (l.0 ∙ ap (reply_to r h e.session) q)) (reply-judged r h e.session k seq a c n)
 
@@ -155,7 +155,7 @@ not-new e h i x y g n c s =
     let same : next_seq h x.client ≡ next_seq h y.client = ap (next_seq h) c in
     omega arith
 
-pub are-once : (h : List Entry) → AreOnce (accepted h)
+pub are-once : (h : List Entry) → AreAcceptedOnce (accepted h)
 are-once [] i j a b f g c s = absurd (none-some a f)
 are-once (e ∷ h) i j a b f g c s =
     elim (fresh e h) [

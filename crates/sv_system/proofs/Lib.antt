@@ -3,6 +3,7 @@ pub mod AllTold
 pub mod Allowed
 pub mod Asked
 pub mod Asking
+pub mod Awaited
 pub mod Before
 pub mod Begun
 pub mod BoundedRelays
@@ -24,6 +25,7 @@ pub mod Made
 pub mod NeverSent
 pub mod NextReply
 pub mod NonEmpty
+pub mod Numbering
 pub mod Opened
 pub mod Order
 pub mod Ordered

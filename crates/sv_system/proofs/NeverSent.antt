@@ -15,18 +15,17 @@ use Rattle.sv_journal.specs.declared.entry.Logged.{Logged}
 use Rattle.sv_journal.specs.declared.entry.Logged.TheVariants as logged
 use Rattle.sv_journal.specs.History.{Authored, Outcome, Accepted, accepted, actions_of, client_of, is_client, is_relay, is_submit_of, outcome_in, new_action, outcomes_of, next_seq, full_reply, commit_of}
 use Rattle.sv_journal.specs.Sessions.{is_end, kept_outcome, outcome_at, positions_in, sent_to}
-use Rattle.sv_journal.specs.Answer.{Rules}
-use Rattle.sv_journal.specs.Serving.{Keeping, LegalFor, IsKeeping}
+use Rattle.sv_journal.specs.Serving.{LegalFor, IsKeeping}
 use Rattle.sv_client.specs.declared.trace.Event.{Event}
-use Rattle.sv_client.specs.declared.trace.Trace.{Trace}
-use Rattle.sv_client.specs.Traces.{current_session, asked, got}
+use Rattle.sv_client.specs.Traces.{asked, got}
 use Rattle.sv_client.specs.Taking.{Identity}
 use Rattle.sv_client.specs.Proper.{identity_of}
 use Rattle.sv_system.specs.Fits.{requests_in, replies_in, has_session}
-use Rattle.sv_system.specs.Served.{OwnsSessions, FitsButValues}
+use Rattle.sv_system.specs.Served.{FitsButValues}
+use Rattle.sv_system.proofs.Awaited.{Awaited}
 use Rattle.sv_system.proofs.Histories.{IsEarlier, same, after, earlier-then, earlier-rest, earlier-served, accepted-grows, actions-count, new-counts, kept-is}
 use Rattle.sv_system.proofs.Replies.{TellsFor, IsRelayReply, new_of, served-tells}
-use Rattle.sv_system.proofs.Asking.{IsServed, is_done, asked-there}
+use Rattle.sv_system.proofs.Asking.{is_done, asked-there}
 use Rattle.sv_system.proofs.Commits.{next-grows, outcome-at}
 use Rattle.sv_system.proofs.Order.{earlier-strict}
 use Rattle.sv_system.proofs.Opened.{has, asks-other, was-got, own-session, session-client}
@@ -146,9 +145,10 @@ relay-of logged.Idle p m = absurd (true≢false (sym m))
 relay-of (logged.Refused code detail) p m = absurd (true≢false (sym m))
 relay-of logged.Bye p m = absurd (true≢false (sym m))
 
-module _ (K : Keeping) (r : Rules) (H : List Entry) (L : Trace) (served : IsServed K r H L) (owns : OwnsSessions H L)
-    (s : ℕ) (current : current_session (reverse L.events) ≡ Some s)
-    (e : Entry) (g : List Entry) (b : IsEarlier (e ∷ g) H) (mine : is_of e s ≡ true) (next : length (replies_in (accepted H) g s) ≡ length (got (reverse L.events) s)) where
+module _ (awaited : Awaited) where
+  open awaited.owner use {keeping as K, rules as r, journal as H, trace as L, served}
+  open awaited use {owner, session as s, current, entry as e, before as g, earlier as b}
+
   abbrev whole : List Event
   whole = reverse L.events
 
@@ -177,7 +177,7 @@ module _ (K : Keeping) (r : Rules) (H : List Entry) (L : Trace) (served : IsServ
   asked_here o = asked L.client L.interest whole o
 
   has_s : has_session L s ≡ true
-  has_s = has K r H L served owns s current e g b mine next
+  has_s = has awaited
 
   -- A request of the session before, which is no Done, stands among those whose replies were got.
   asked-before : (d : Entry) (h : List Entry) → IsEarlier (d ∷ h) g → is_of d s ≡ true → (q : Request) → d.request ≡ q → is_done q ≡ false →
@@ -185,12 +185,12 @@ module _ (K : Keeping) (r : Rules) (H : List Entry) (L : Trace) (served : IsServ
   asked-before d h c t q is other = (
     ap (slice_get (asked_here s)) (as-many A h s)
         ∙ asked-there H L s (this_one.sessions s has_s) (length (requests_in h s)) q other (request-there d h H s (earlier-then (d ∷ h) g H c earlier) t ∙ ap Some is),
-    slice_get_within (got whole s) (length (replies_in A h s)) (full_reply A d.reply) (was-got K r H L served owns s current e g b mine next d h c t),
+    slice_get_within (got whole s) (length (replies_in A h s)) (full_reply A d.reply) (was-got awaited d h c t),
   )
 
   module _ (n : ℕ) (a : Action) (is : e.request ≡ requests.Submit n a) (p : ℕ) (x : IsAcceptance g k n p) where
     asking : slice_get (asked_here s) (length (got whole s)) ≡ Some (requests.Submit n a)
-    asking = asks-other K r H L served owns s current e g b mine next (requests.Submit n a) is refl
+    asking = asks-other awaited (requests.Submit n a) is refl
 
     not-settled : settled whole < n
     not-settled = (let number : n ≡ suc (settled whole) = (next-front who L.first whole this_one.proper.events s n a current asking).1.1 in omega arith)
@@ -205,7 +205,7 @@ module _ (K : Keeping) (r : Rules) (H : List Entry) (L : Trace) (served : IsServ
         let bx : IsEarlier (x.entry ∷ x.before) H = earlier-then (x.entry ∷ x.before) g H x.there earlier in
         let q = submit-named x.entry.request n x.submit in
         let has_o : has_session L o ≡ true =
-        own-session K r H L served owns x.before (earlier-rest x.before x.entry H bx) o (client-some (client_of x.before o) k x.client) in
+        own-session owner x.before (earlier-rest x.before x.entry H bx) o (client-some (client_of x.before o) k x.client) in
         elim (cases_eq o s) [
           | inl z ↦
               (let own = asked-before x.entry x.before x.there (of-from x.entry s z (ap is_end q.1)) (requests.Submit n q.0) q.1 refl in
@@ -235,7 +235,7 @@ module _ (K : Keeping) (r : Rules) (H : List Entry) (L : Trace) (served : IsServ
         let y = relay-of w.entry.reply p w.named in
         let t : IsRelayReply K r w.before w.entry.session w.entry.request y.1.0 y.1.1.0 y.1.1.1.0 =
         subst (λ (z : Logged). TellsFor K r w.before w.entry.session w.entry.request z) y.1.1.1.1 (served-tells K keeps r w.entry w.before l) in
-        let own : t.client ≡ k = session-client K r H L served owns s has_s w.before (earlier-rest w.before w.entry H bw) t.client (subst (λ (o : ℕ). client_of w.before o ≡ Some t.client) w.session t.joined) in
+        let own : t.client ≡ k = session-client owner s has_s w.before (earlier-rest w.before w.entry H bw) t.client (subst (λ (o : ℕ). client_of w.before o ≡ Some t.client) w.session t.joined) in
         let named : is_in p y.1.1.1.0 ≡ true = subst (λ (z : Logged). is_in p (positions_in z) ≡ true) y.1.1.1.1 w.named in
         let low : p ≤ t.target = (needed-bounds (actions_of w.before ++ new_of w.before w.entry.session w.entry.request) (commit_of (K.kept w.before)) (sent_to w.before w.entry.session) t.target t.above p
         (subst (λ (ks : List ℕ). is_in p ks ≡ true) t.positions_are named)).1 in

@@ -15,6 +15,7 @@ use Rattle.sv_client.specs.Proper.{identity_of}
 use Rattle.sv_system.specs.Fits.{replies_in, Fits}
 use Rattle.sv_system.specs.Served.{OwnsSessions}
 use Rattle.sv_system.specs.Journals.{ResultsAreSerial}
+use Rattle.sv_system.proofs.Awaited.{Awaited, Truthful}
 use Rattle.sv_system.proofs.Entered.{entered}
 use Rattle.sv_system.proofs.Aligned.{drop-one}
 use Rattle.sv_system.proofs.Asking.{IsServed, same-allows, same-items}
@@ -50,16 +51,27 @@ served-no_fault K r h L served owns s reply count shaped bound serial current fe
     let whole : List Event = reverse L.events in
     let who : Identity = identity_of r.world.shape L in
     let x = entered (accepted h) h s (length (got whole s)) reply is in
-    let next : length (replies_in (accepted h) x.before s) ≡ length (got whole s) = sym x.place in
-    let q = asks K r h L served owns s current x.entry x.before x.earlier x.of_it next in
+    let awaited : Awaited = record {
+      owner = record { keeping = K; rules = r; journal = h; trace = L; served = served; owns = owns };
+      session = s;
+      current = current;
+      few = few;
+      entry = x.entry;
+      before = x.before;
+      earlier = x.earlier;
+      mine = x.of_it;
+      next = sym x.place;
+    } in
+    let truthful : Truthful = record { awaited = awaited; count = count; shaped = shaped; bound = bound; serial = serial } in
+    let q = asks awaited in
     answered-well who whole s q.0 reply current q.1.0
     (same-allows q.0 x.entry.request q.1.1 reply
-    ∙ ap (allows x.entry.request) x.replied ∙ allowed K r h L served owns s current few x.entry x.before x.earlier x.of_it next count shaped bound serial x.entry.request refl)
-    (ap (is_out_of_order whole) x.replied ∙ ordered K r h L served owns s current few x.entry x.before x.earlier x.of_it next x.entry.reply refl)
+    ∙ ap (allows x.entry.request) x.replied ∙ allowed truthful x.entry.request refl)
+    (ap (is_out_of_order whole) x.replied ∙ ordered awaited x.entry.reply refl)
     (same-items who (pending_of whole) q.0 x.entry.request q.1.1 reply
     ∙ ap (has_bad_item who (pending_of whole) x.entry.request) x.replied
-    ∙ no-bad_item K r h L served owns s current few x.entry x.before x.earlier x.of_it next count shaped bound serial x.entry.reply refl)
-    (ap (missing_in (held_of whole)) x.replied ∙ complete K r h L served owns s current few x.entry x.before x.earlier x.of_it next count serial)
+    ∙ no-bad_item truthful x.entry.reply refl)
+    (ap (missing_in (held_of whole)) x.replied ∙ complete awaited count serial)
 
 pub no-fault : (r : Rules) (h : List Entry) (Ls : List Trace) (i : ℕ) (L : Trace) (s : ℕ) (reply : Reply) → length r.world.values ≡ r.world.shape.objects →
     All (λ (v : List ℤ). length v ≡ r.world.shape.attrs) r.world.values → r.bound ≤ 32 → Legal r h → Fits r.world.shape h Ls →

@@ -15,13 +15,14 @@ use Rattle.sv_journal.specs.Sessions.{is_over, kept_outcome, sent_to}
 use Rattle.sv_journal.specs.Answer.{Rules, Legal}
 use Rattle.sv_journal.specs.Serving.{Keeping, plain, LegalFor, IsKeeping}
 use Rattle.sv_client.specs.declared.trace.Trace.{Trace}
-use Rattle.sv_client.specs.Traces.{current_session, asked, requests_of, got}
+use Rattle.sv_client.specs.Traces.{current_session, requests_of, got}
 use Rattle.sv_system.specs.Fits.{replies_in, Fits}
 use Rattle.sv_system.specs.Served.{OwnsSessions}
+use Rattle.sv_system.proofs.Awaited.{Awaited}
 use Rattle.sv_system.proofs.Histories.{IsEarlier, earlier-rest, earlier-served, actions-count, kept-is}
 use Rattle.sv_system.proofs.Replies.{TellsFor, IsRelayReply, new_of, served-tells}
 use Rattle.sv_system.proofs.Lawful.{sent-within}
-use Rattle.sv_system.proofs.Entered.{is_of, of-parts, entered}
+use Rattle.sv_system.proofs.Entered.{of-parts, entered}
 use Rattle.sv_system.proofs.Asking.{IsServed}
 use Rattle.sv_system.proofs.Opened.{has, session-client}
 use Rattle.sv_system.proofs.Owned.{plain-served, owns-own}
@@ -32,9 +33,10 @@ not-nil : (xs : List ℕ) (n : ℕ) (ys : List ℕ) → ys ≡ xs ++ n ∷ [] �
 not-nil [] n ys e f = (let g : n ∷ [] ≡ [] = sym e ∙ f in cc)
 not-nil (x ∷ xs) n ys e f = (let g : x ∷ (xs ++ n ∷ []) ≡ [] = sym e ∙ f in cc)
 
-module _ (K : Keeping) (r : Rules) (H : List Entry) (L : Trace) (served : IsServed K r H L) (owns : OwnsSessions H L)
-    (s : ℕ) (current : current_session (reverse L.events) ≡ Some s) (few : length (asked L.client L.interest (reverse L.events) s) ≤ 1024)
-    (e : Entry) (g : List Entry) (b : IsEarlier (e ∷ g) H) (mine : is_of e s ≡ true) (next : length (replies_in (accepted H) g s) ≡ length (got (reverse L.events) s)) where
+module _ (awaited : Awaited) where
+  open awaited.owner use {keeping as K, rules as r, journal as H, trace as L, served}
+  open awaited use {owner, session as s, entry as e, before as g, earlier as b, mine}
+
   abbrev keeps : IsKeeping K
   keeps = served.keeps
 
@@ -47,15 +49,15 @@ module _ (K : Keeping) (r : Rules) (H : List Entry) (L : Trace) (served : IsServ
   unsent : (commit : ℕ) (head : List Sent) (positions : List ℕ) → (t : IsRelayReply K r g e.session e.request commit head positions) → is_in t.target (sent_to g s) ≡ true → ⊥
   unsent commit head positions t m =
       let session : e.session ≡ s = (of-parts e s mine).0 in
-      let own : t.client ≡ L.client.0 = session-client K r H L served owns s (has K r H L served owns s current e g b mine next) g earlier t.client (subst (λ (o : ℕ). client_of g o ≡ Some t.client) session t.joined) in
+      let own : t.client ≡ L.client.0 = session-client owner s (has awaited) g earlier t.client (subst (λ (o : ℕ). client_of g o ≡ Some t.client) session t.joined) in
       elim t.kind [
         | inr z ↦
-            (let still : is_over g s ≡ false = open' K r H L served owns s current few e g b mine next in
+            (let still : is_over g s ≡ false = open' awaited in
             let due : is_in t.target (K.due g s) ≡ true = subst (λ (o : ℕ). is_in t.target (K.due g o) ≡ true) session z.1 in
             true≢false (sym m ∙ keeps.unsent g s t.target due still))
         | inl z ↦ elim z.1.1.1 [
           | inl kept ↦
-              never-sent K r H L served owns s current e g b mine next z.0 z.1.0 z.1.1.0 t.target
+              never-sent awaited z.0 z.1.0 z.1.1.0 t.target
               (acceptance-of g L.client.0 z.0 t.target (kept-is g L.client.0 z.0 (Accepted t.target) (subst (λ (c : ℕ). kept_outcome g c z.0 ≡ Some (Accepted t.target)) own kept))) m
           | inr fresh ↦
               (let within : t.target ≤ length (accepted g) = sent-within K keeps r g (earlier-served K r g H earlier legal) s t.target m in
@@ -99,7 +101,18 @@ pub served-never_empty : (K : Keeping) (r : Rules) (h : List Entry) (L : Trace) 
 served-never_empty K r h L served owns s seq commit head items current few is none =
     let x = entered (accepted h) h s (length (got (reverse L.events) s)) (replies.Relay seq commit head items) is in
     let y = relay-logged (accepted h) x.entry.reply seq commit head items x.replied none in
-    positions-some K r h L served owns s current few x.entry x.before x.earlier x.of_it (sym x.place) y.0 y.1.0 y.1.1.0 y.1.1.1.0 y.1.1.1.1.0 y.1.1.1.1.1
+    let awaited : Awaited = record {
+      owner = record { keeping = K; rules = r; journal = h; trace = L; served = served; owns = owns };
+      session = s;
+      current = current;
+      few = few;
+      entry = x.entry;
+      before = x.before;
+      earlier = x.earlier;
+      mine = x.of_it;
+      next = sym x.place;
+    } in
+    positions-some awaited y.0 y.1.0 y.1.1.0 y.1.1.1.0 y.1.1.1.1.0 y.1.1.1.1.1
 
 pub never-empty : (r : Rules) (h : List Entry) (Ls : List Trace) (i : ℕ) (L : Trace) (s seq commit : ℕ) (head : List Sent) (items : List Item) → Legal r h → Fits r.world.shape h Ls →
     slice_get Ls i ≡ Some L → current_session (reverse L.events) ≡ Some s → length (requests_of L s) ≤ 1024 →

@@ -17,20 +17,19 @@ use Rattle.sv_journal.specs.declared.entry.Logged.{Logged}
 use Rattle.sv_journal.specs.declared.entry.Logged.TheVariants as logged
 use Rattle.sv_journal.specs.History.{Authored, accepted, client_of, is_client, is_welcome, joining, full_reply, either}
 use Rattle.sv_journal.specs.Sessions.{is_end, is_last, welcomes, is_over, life_of, is_ended}
-use Rattle.sv_journal.specs.Answer.{Rules}
-use Rattle.sv_journal.specs.Serving.{Keeping}
 use Rattle.sv_client.specs.declared.trace.Event.{Event}
 use Rattle.sv_client.specs.declared.trace.Event.TheVariants as events
 use Rattle.sv_client.specs.declared.trace.Trace.{Trace}
-use Rattle.sv_client.specs.Traces.{joins, current_session, asked, got}
+use Rattle.sv_client.specs.Traces.{joins, asked, got}
 use Rattle.sv_client.specs.Taking.{Identity, allows}
 use Rattle.sv_client.specs.Proper.{identity_of}
 use Rattle.sv_system.specs.Fits.{requests_in, replies_in, IsEndLast, has_session}
-use Rattle.sv_system.specs.Served.{OwnsSessions, AreSameButValues, FitsButValues}
+use Rattle.sv_system.specs.Served.{AreSameButValues, FitsButValues}
+use Rattle.sv_system.proofs.Awaited.{Owner, Awaited}
 use Rattle.sv_system.proofs.Fronts.{get-last}
 use Rattle.sv_system.proofs.Histories.{IsEarlier, same, after, earlier-then, earlier-rest}
 use Rattle.sv_system.proofs.Entered.{is_of, of-parts, of-from, as-many, replies-earlier, front-length, request-there, client-stays, IsWelcome, welcome-life, welcome-client, life-grows}
-use Rattle.sv_system.proofs.Asking.{IsServed, is_done, asked-there}
+use Rattle.sv_system.proofs.Asking.{is_done, asked-there}
 use Rattle.sv_system.proofs.Asked.{all, part-rest, asked-part, got-when, got-answers, current-last, current-joined}
 use Rattle.sv_system.proofs.Leaving.{IsJoinAsked, join-asked, leave-last}
 use Rattle.sv_system.proofs.Order.{get-some, never-refused, got-replied, joined-has, welcome-legal}
@@ -180,7 +179,36 @@ join-of shape H M fit e h b has client life interest is =
     join-asked (identity_of shape M) M.first (reverse M.events) fit.proper.events e.session n client life interest
     (asked-there H M e.session (fit.sessions e.session has) n (requests.Join client life interest) refl (request-there e h H e.session b (of-from e e.session refl (ap is_end is)) ∙ ap Some is))
 
-module _ (K : Keeping) (r : Rules) (H : List Entry) (L : Trace) (served : IsServed K r H L) (owns : OwnsSessions H L) where
+module _ (owner : Owner) where
+  open owner use {keeping as K, rules as r, journal as H, trace as L, served, owns}
+
+  -- The session in which this client was welcomed is this trace's, and the Join is one that the trace asks.
+  pub own-join : (e : Entry) (h : List Entry) → IsEarlier (e ∷ h) H → (client : ClientId) (life : ℕ) → (w : IsWelcome e client life) → client.0 ≡ L.client.0 →
+      (has_session L e.session ≡ true) × IsJoinAsked (identity_of r.world.shape L) L.first (reverse L.events) e.session (length (requests_in h e.session)) client life w.interest
+  own-join e h b client life w same_number =
+      let fresh = welcome-legal K r H L served e h client life b w in
+      let joined : client_of H e.session ≡ Some client.0 = client-stays (e ∷ h) H b e.session client.0 (welcome-client e h client life w fresh.0) in
+      let has : has_session L e.session ≡ true = owns e.session (joined ∙ ap Some same_number) in
+      (has, join-of r.world.shape H L served.fits e h b has client life w.interest w.request)
+
+  -- A session that this client has in an earlier history is this trace's.
+  pub own-session : (h : List Entry) → IsEarlier h H → (o : ℕ) → client_of h o ≡ Some L.client.0 → has_session L o ≡ true
+  own-session h b o c = owns o (client-stays h H b o L.client.0 c)
+
+  -- The client of this trace's session is the trace's own.
+  pub session-client : (s : ℕ) → has_session L s ≡ true → (h : List Entry) → IsEarlier h H → (k : ℕ) → client_of h s ≡ Some k → k ≡ L.client.0
+  session-client s has h b k c =
+      let w = welcomed-by h s k c in
+      let j = join-of r.world.shape H L served.fits w.entry w.before (earlier-then (w.entry ∷ w.before) h H w.earlier b) (subst (λ (n : ℕ). has_session L n ≡ true) (sym w.session) has)
+      w.client w.life w.welcome.interest w.welcome.request in
+      sym w.client_is ∙ ap (λ (d : ClientId). d.0) j.client_is
+
+-- ---- The session that was begun last
+
+module _ (awaited : Awaited) where
+  open awaited.owner use {keeping as K, rules as r, journal as H, trace as L, served}
+  open awaited use {owner, session as s, current, entry as e, before as g, earlier as b, mine, next}
+
   abbrev fits : FitsButValues r.world.shape H L
   fits = served.fits
 
@@ -193,114 +221,89 @@ module _ (K : Keeping) (r : Rules) (H : List Entry) (L : Trace) (served : IsServ
   abbrev A : List Authored
   A = accepted H
 
-  -- The session in which this client was welcomed is this trace's, and the Join is one that the trace asks.
-  pub own-join : (e : Entry) (h : List Entry) → IsEarlier (e ∷ h) H → (client : ClientId) (life : ℕ) → (w : IsWelcome e client life) → client.0 ≡ L.client.0 →
-      (has_session L e.session ≡ true) × IsJoinAsked who L.first whole e.session (length (requests_in h e.session)) client life w.interest
-  own-join e h b client life w same_number =
-      let fresh = welcome-legal K r H L served e h client life b w in
-      let joined : client_of H e.session ≡ Some client.0 = client-stays (e ∷ h) H b e.session client.0 (welcome-client e h client life w fresh.0) in
-      let has : has_session L e.session ≡ true = owns e.session (joined ∙ ap Some same_number) in
-      (has, join-of r.world.shape H L fits e h b has client life w.interest w.request)
+  pub has : has_session L s ≡ true
+  has = joined-has K r H L served whole all s (current-joined whole s current)
 
-  -- A session that this client has in an earlier history is this trace's.
-  pub own-session : (h : List Entry) → IsEarlier h H → (o : ℕ) → client_of h o ≡ Some L.client.0 → has_session L o ≡ true
-  own-session h b o c = owns o (client-stays h H b o L.client.0 c)
+  abbrev earlier : IsEarlier g H
+  earlier = earlier-rest g e H b
 
-  -- The client of this trace's session is the trace's own.
-  pub session-client : (s : ℕ) → has_session L s ≡ true → (h : List Entry) → IsEarlier h H → (k : ℕ) → client_of h s ≡ Some k → k ≡ L.client.0
-  session-client s has h b k c =
-      let w = welcomed-by h s k c in
-      let j = join-of r.world.shape H L fits w.entry w.before (earlier-then (w.entry ∷ w.before) h H w.earlier b) (subst (λ (n : ℕ). has_session L n ≡ true) (sym w.session) has)
-      w.client w.life w.welcome.interest w.welcome.request in
-      sym w.client_is ∙ ap (λ (d : ClientId). d.0) j.client_is
+  -- The request that is answered is the next one asked, but for the values of a Done.
+  pub asks : (p : Request) × ((slice_get (asked L.client L.interest whole s) (length (got whole s)) ≡ Some p) × AreSameButValues p e.request)
+  asks =
+      let x = (fits.sessions s has).asked (length (requests_in g s)) e.request (request-there e g H s b mine) in
+      (x.0, (ap (slice_get (asked L.client L.interest whole s)) (sym next ∙ as-many A g s) ∙ x.1.0, x.1.1))
 
-  -- ---- The session that was begun last
+  pub asks-other : (q : Request) → e.request ≡ q → is_done q ≡ false → slice_get (asked L.client L.interest whole s) (length (got whole s)) ≡ Some q
+  asks-other q is f =
+      ap (slice_get (asked L.client L.interest whole s)) (sym next ∙ as-many A g s)
+      ∙ asked-there H L s (fits.sessions s has) (length (requests_in g s)) q f (request-there e g H s b mine ∙ ap Some is)
 
-  module _ (s : ℕ) (current : current_session whole ≡ Some s) (e : Entry) (g : List Entry) (b : IsEarlier (e ∷ g) H) (mine : is_of e s ≡ true)
-      (next : length (replies_in A g s) ≡ length (got whole s)) where
-    pub has : has_session L s ≡ true
-    has = joined-has K r H L served whole all s (current-joined whole s current)
+  -- Each reply of the session before it was got.
+  pub was-got : (d : Entry) (h : List Entry) → IsEarlier (d ∷ h) g → is_of d s ≡ true → slice_get (got whole s) (length (replies_in A h s)) ≡ Some (full_reply A d.reply)
+  was-got d h c t =
+      let longer : length (replies_in A (d ∷ h) s) ≡ length (replies_in A h s) + 1 = ap length (cond-true (is_of d s) _ _ t) ∙ length-append (replies_in A h s) (full_reply A d.reply ∷ []) in
+      let short : length (replies_in A (d ∷ h) s) ≤ length (replies_in A g s) = front-length (replies_in A (d ∷ h) s) (replies_in A g s) (replies-earlier A (d ∷ h) g c s) in
+      let m = length (replies_in A h s) in
+      let found = get-some (got whole s) m (omega (arith, next)) in
+      let there : slice_get (replies_in A (d ∷ h) s) m ≡ Some (full_reply A d.reply) =
+      ap (λ (l : List Reply). slice_get l m) (cond-true (is_of d s) _ _ t) ∙ get-last (replies_in A h s) (full_reply A d.reply) in
+      let full : slice_get (replies_in A H s) m ≡ Some (full_reply A d.reply) = replies-earlier A (d ∷ h) H (earlier-then (d ∷ h) g H c earlier) s m (full_reply A d.reply) there in
+      found.1 ∙ ap Some (same_Some found.0 (full_reply A d.reply) (sym (got-replied K r H L served s m found.0 found.1) ∙ full))
 
-    abbrev earlier : IsEarlier g H
-    earlier = earlier-rest g e H b
+  not-left : (d : Entry) (h : List Entry) → IsEarlier (d ∷ h) g → is_of d s ≡ true → is_last d.reply ≡ true → ⊥
+  not-left d h c t last =
+      let m = length (replies_in A h s) in
+      let there = was-got d h c t in
+      let w = got-when who L.first whole s m (full_reply A d.reply) there in
+      let a = got-answers who L.first whole fits.proper.events s m (full_reply A d.reply) w in
+      let leave : a.request ≡ requests.Leave = last-kinds a.request A d.reply last a.kind in
+      let at : slice_get (asked L.client L.interest whole s) m ≡ Some requests.Leave =
+      asked-part who L.first w.before whole (part-rest w.before (events.Got s (full_reply A d.reply)) whole w.part) s m requests.Leave
+      (ap (slice_get (asked L.client L.interest w.before s)) w.place ∙ a.asked_there ∙ ap Some leave) in
+      let last_one : length (asked L.client L.interest whole s) ≡ suc m = (leave-last who L.first whole fits.proper.events s m at).last in
+      let within : length (got whole s) < length (asked L.client L.interest whole s) = slice_get_within (asked L.client L.interest whole s) (length (got whole s)) asks.0 asks.1.0 in
+      let got_it : m < length (got whole s) = slice_get_within (got whole s) m (full_reply A d.reply) there in
+      absurd (omega arith)
 
-    -- The request that is answered is the next one asked, but for the values of a Done.
-    pub asks : (p : Request) × ((slice_get (asked L.client L.interest whole s) (length (got whole s)) ≡ Some p) × AreSameButValues p e.request)
-    asks =
-        let x = (fits.sessions s has).asked (length (requests_in g s)) e.request (request-there e g H s b mine) in
-        (x.0, (ap (slice_get (asked L.client L.interest whole s)) (sym next ∙ as-many A g s) ∙ x.1.0, x.1.1))
+  not-replaced : (d : Entry) (h : List Entry) → IsEarlier (d ∷ h) g → (d.session ≡ s → ⊥) → (o : Option ℕ) → client_of h s ≡ o → welcomes d o ≡ true → ⊥
+  not-replaced d h c other None is w = true≢false (sym w)
+  not-replaced d h c other (Some k) is w =
+      let early : IsEarlier (d ∷ h) H = earlier-then (d ∷ h) g H c earlier in
+      let early_h : IsEarlier h H = earlier-rest h d H early in
+      let p = and_parts (is_welcome d.reply) (is_client (joining d.request) k) w in
+      let mine_is : k ≡ L.client.0 = session-client owner s has h early_h k is in
+      let first_one = welcomed-by h s k is in
+      let d_joins : joining d.request ≡ Some k = client-some (joining d.request) p.1 in
+      let q = joining-of d.request k d_joins in
+      let reply_is = welcome-of d.reply p.0 in
+      let client : ClientId = q.0 in
+      let life : ℕ = q.1.0 in
+      let welcome : IsWelcome d client life = record { interest = q.1.1.0; commit = reply_is.0; head = reply_is.1.0; request = q.1.1.1.0; reply = reply_is.1.1 } in
+      let oj = own-join owner d h early client life welcome (q.1.1.1.1 ∙ mine_is) in
+      let fj = own-join owner first_one.entry first_one.before (earlier-then (first_one.entry ∷ first_one.before) h H first_one.earlier early_h) first_one.client first_one.life first_one.welcome (first_one.client_is ∙ mine_is) in
+      let n1 : d.session + 1 ≡ L.first + life = oj.1.numbered in
+      let l1 : life ≤ joins whole = oj.1.among in
+      let n2 : s + 1 ≡ L.first + first_one.life = subst (λ (n : ℕ). n + 1 ≡ L.first + first_one.life) first_one.session fj.1.numbered in
+      let n3 : s + 1 ≡ L.first + joins whole = current-last who L.first whole fits.proper.events s current in
+      let grew : first_one.life ≤ life_of (first_one.entry ∷ first_one.before) first_one.client.0 = welcome-life first_one.entry first_one.before first_one.client first_one.life first_one.welcome in
+      let kept : life_of (first_one.entry ∷ first_one.before) first_one.client.0 ≤ life_of h first_one.client.0 = life-grows (first_one.entry ∷ first_one.before) h first_one.earlier first_one.client.0 in
+      let late : life_of h client.0 < life = (welcome-legal K r H L served d h client life early welcome).1 in
+      let clients : client.0 ≡ first_one.client.0 = q.1.1.1.1 ∙ sym first_one.client_is in
+      let late' : life_of h first_one.client.0 < life = subst (λ (n : ℕ). life_of h n < life) clients late in
+      absurd (omega arith)
+    where
+      client-some : (o : Option ℕ) → is_client o k ≡ true → o ≡ Some k
+      client-some None e = absurd (true≢false (sym e))
+      client-some (Some n) e = ap Some (eqb-true n k e)
 
-    pub asks-other : (q : Request) → e.request ≡ q → is_done q ≡ false → slice_get (asked L.client L.interest whole s) (length (got whole s)) ≡ Some q
-    asks-other q is f =
-        ap (slice_get (asked L.client L.interest whole s)) (sym next ∙ as-many A g s)
-        ∙ asked-there H L s (fits.sessions s has) (length (requests_in g s)) q f (request-there e g H s b mine ∙ ap Some is)
-
-    -- Each reply of the session before it was got.
-    pub was-got : (d : Entry) (h : List Entry) → IsEarlier (d ∷ h) g → is_of d s ≡ true → slice_get (got whole s) (length (replies_in A h s)) ≡ Some (full_reply A d.reply)
-    was-got d h c t =
-        let longer : length (replies_in A (d ∷ h) s) ≡ length (replies_in A h s) + 1 = ap length (cond-true (is_of d s) _ _ t) ∙ length-append (replies_in A h s) (full_reply A d.reply ∷ []) in
-        let short : length (replies_in A (d ∷ h) s) ≤ length (replies_in A g s) = front-length (replies_in A (d ∷ h) s) (replies_in A g s) (replies-earlier A (d ∷ h) g c s) in
-        let m = length (replies_in A h s) in
-        let found = get-some (got whole s) m (omega arith) in
-        let there : slice_get (replies_in A (d ∷ h) s) m ≡ Some (full_reply A d.reply) =
-        ap (λ (l : List Reply). slice_get l m) (cond-true (is_of d s) _ _ t) ∙ get-last (replies_in A h s) (full_reply A d.reply) in
-        let full : slice_get (replies_in A H s) m ≡ Some (full_reply A d.reply) = replies-earlier A (d ∷ h) H (earlier-then (d ∷ h) g H c earlier) s m (full_reply A d.reply) there in
-        found.1 ∙ ap Some (same_Some found.0 (full_reply A d.reply) (sym (got-replied K r H L served s m found.0 found.1) ∙ full))
-
-    not-left : (d : Entry) (h : List Entry) → IsEarlier (d ∷ h) g → is_of d s ≡ true → is_last d.reply ≡ true → ⊥
-    not-left d h c t last =
-        let m = length (replies_in A h s) in
-        let there = was-got d h c t in
-        let w = got-when who L.first whole s m (full_reply A d.reply) there in
-        let a = got-answers who L.first whole fits.proper.events s m (full_reply A d.reply) w in
-        let leave : a.request ≡ requests.Leave = last-kinds a.request A d.reply last a.kind in
-        let at : slice_get (asked L.client L.interest whole s) m ≡ Some requests.Leave =
-        asked-part who L.first w.before whole (part-rest w.before (events.Got s (full_reply A d.reply)) whole w.part) s m requests.Leave
-        (ap (slice_get (asked L.client L.interest w.before s)) w.place ∙ a.asked_there ∙ ap Some leave) in
-        let last_one : length (asked L.client L.interest whole s) ≡ suc m = (leave-last who L.first whole fits.proper.events s m at).last in
-        let within : length (got whole s) < length (asked L.client L.interest whole s) = slice_get_within (asked L.client L.interest whole s) (length (got whole s)) asks.0 asks.1.0 in
-        let got_it : m < length (got whole s) = slice_get_within (got whole s) m (full_reply A d.reply) there in
-        absurd (omega arith)
-
-    not-replaced : (d : Entry) (h : List Entry) → IsEarlier (d ∷ h) g → (d.session ≡ s → ⊥) → (o : Option ℕ) → client_of h s ≡ o → welcomes d o ≡ true → ⊥
-    not-replaced d h c other None is w = true≢false (sym w)
-    not-replaced d h c other (Some k) is w =
-        let early : IsEarlier (d ∷ h) H = earlier-then (d ∷ h) g H c earlier in
-        let early_h : IsEarlier h H = earlier-rest h d H early in
-        let p = and_parts (is_welcome d.reply) (is_client (joining d.request) k) w in
-        let mine_is : k ≡ L.client.0 = session-client s has h early_h k is in
-        let first_one = welcomed-by h s k is in
-        let d_joins : joining d.request ≡ Some k = client-some (joining d.request) p.1 in
-        let q = joining-of d.request k d_joins in
-        let reply_is = welcome-of d.reply p.0 in
-        let client : ClientId = q.0 in
-        let life : ℕ = q.1.0 in
-        let welcome : IsWelcome d client life = record { interest = q.1.1.0; commit = reply_is.0; head = reply_is.1.0; request = q.1.1.1.0; reply = reply_is.1.1 } in
-        let oj = own-join d h early client life welcome (q.1.1.1.1 ∙ mine_is) in
-        let fj = own-join first_one.entry first_one.before (earlier-then (first_one.entry ∷ first_one.before) h H first_one.earlier early_h) first_one.client first_one.life first_one.welcome (first_one.client_is ∙ mine_is) in
-        let n1 : d.session + 1 ≡ L.first + life = oj.1.numbered in
-        let l1 : life ≤ joins whole = oj.1.among in
-        let n2 : s + 1 ≡ L.first + first_one.life = subst (λ (n : ℕ). n + 1 ≡ L.first + first_one.life) first_one.session fj.1.numbered in
-        let n3 : s + 1 ≡ L.first + joins whole = current-last who L.first whole fits.proper.events s current in
-        let grew : first_one.life ≤ life_of (first_one.entry ∷ first_one.before) first_one.client.0 = welcome-life first_one.entry first_one.before first_one.client first_one.life first_one.welcome in
-        let kept : life_of (first_one.entry ∷ first_one.before) first_one.client.0 ≤ life_of h first_one.client.0 = life-grows (first_one.entry ∷ first_one.before) h first_one.earlier first_one.client.0 in
-        let late : life_of h client.0 < life = (welcome-legal K r H L served d h client life early welcome).1 in
-        let clients : client.0 ≡ first_one.client.0 = q.1.1.1.1 ∙ sym first_one.client_is in
-        let late' : life_of h first_one.client.0 < life = subst (λ (n : ℕ). life_of h n < life) clients late in
-        absurd (omega arith)
-      where
-        client-some : (o : Option ℕ) → is_client o k ≡ true → o ≡ Some k
-        client-some None e = absurd (true≢false (sym e))
-        client-some (Some n) e = ap Some (eqb-true n k e)
-
-    -- It is not over.
-    pub not-over : is_over g s ≡ false
-    not-over = false_from_ne_true (is_over g s) (λ o.
-        let y = over-by g s o in
-        elim y.cause [
-          | inr z ↦ not-replaced y.entry y.before y.earlier z.0 (client_of y.before s) refl z.1
-          | inl z ↦ elim (cases_Bool (is_end y.entry.request)) [
-            | inr n ↦ not-left y.entry y.before y.earlier (of-from y.entry s z.0 n) z.1
-            | inl x ↦ true≢false (sym (ended-since y.entry y.before g s y.earlier z.0 x) ∙ (end-last_at (e ∷ g) H s b (fits.sessions s has).ended).0 (of-parts e s mine).0)
-          ]
-        ])
+  -- It is not over.
+  pub not-over : is_over g s ≡ false
+  not-over = false_from_ne_true (is_over g s) (λ o.
+      let y = over-by g s o in
+      elim y.cause [
+        | inr z ↦ not-replaced y.entry y.before y.earlier z.0 (client_of y.before s) refl z.1
+        | inl z ↦ elim (cases_Bool (is_end y.entry.request)) [
+          | inr n ↦ not-left y.entry y.before y.earlier (of-from y.entry s z.0 n) z.1
+          | inl x ↦ true≢false (sym (ended-since y.entry y.before g s y.earlier z.0 x) ∙ (end-last_at (e ∷ g) H s b (fits.sessions s has).ended).0 (of-parts e s mine).0)
+        ]
+      ])

@@ -1,5 +1,5 @@
 -- The next reply to a client is in order, and brings each value that its items read.
-use Rattle.std.proofs.Common.{◌≡◌, ℕ, ◌<◌, ◌≤◌, Bool, true, false, not, ◌||◌, ◌==◌, inl, inr, List, [], ◌∷◌, ◌++◌, map, reverse, length, Option, Some, None, option_map, is_none, refl, sym, ap, ◌∙◌, subst, arith, eq-eqb, true≢false, le-ltb}
+use Rattle.std.proofs.Common.{◌≡◌, ℕ, ◌<◌, ◌≤◌, true, false, not, ◌==◌, inl, inr, List, [], ◌∷◌, ◌++◌, map, reverse, length, Option, Some, None, option_map, is_none, refl, sym, ap, ◌∙◌, subst, arith, eq-eqb, le-ltb}
 use Rattle.std.specs.List.{AllByRecursion}
 use Rattle.std.proofs.lemmas.Bool.{cond-true, cond-false, cases_eq, lt-leb, not_from_true, ne_eqb}
 use Rattle.std.proofs.lemmas.List.Elements.{recursion_from_All}
@@ -16,29 +16,28 @@ use Rattle.sv_wire.specs.declared.message.Held.{Held as Sent}
 use Rattle.sv_wire.specs.declared.message.Item.{Item}
 use Rattle.sv_wire.specs.declared.message.Reply.{Reply}
 use Rattle.sv_wire.specs.declared.message.Reply.TheVariants as replies
-use Rattle.sv_journal.specs.declared.entry.Entry.{Entry}
 use Rattle.sv_journal.specs.declared.entry.Logged.{Logged}
 use Rattle.sv_journal.specs.declared.entry.Logged.TheVariants as logged
 use Rattle.sv_journal.specs.History.{Authored, accepted, actions_of, item_at, full_reply, commit_of}
 use Rattle.sv_journal.specs.Sessions.{sent_to, already_given}
-use Rattle.sv_journal.specs.Answer.{Rules, committed_held}
-use Rattle.sv_journal.specs.Serving.{Keeping, LegalFor, IsKeeping}
+use Rattle.sv_journal.specs.Answer.{committed_held}
+use Rattle.sv_journal.specs.Serving.{LegalFor, IsKeeping}
 use Rattle.sv_journal.proofs.Kept.{commit_grows-kept}
 use Rattle.sv_client.specs.declared.trace.Event.{Event}
 use Rattle.sv_client.specs.declared.trace.Event.TheVariants as events
-use Rattle.sv_client.specs.declared.trace.Trace.{Trace}
-use Rattle.sv_client.specs.Traces.{current_session, held_of, head_held, item_held, asked, got}
+use Rattle.sv_client.specs.Traces.{held_of, head_held, item_held, got}
 use Rattle.sv_client.specs.Taking.{told, begins_by, goes_back, is_out_of_order, first_unheld, missing_at, first_missing_of, missing_in}
 use Rattle.sv_system.specs.Fronts.{IsFront}
 use Rattle.sv_system.specs.Fits.{replies_in}
-use Rattle.sv_system.specs.Served.{OwnsSessions, FitsButValues}
+use Rattle.sv_system.specs.Served.{FitsButValues}
 use Rattle.sv_system.specs.Journals.{ResultsAreSerial}
 use Rattle.sv_system.specs.Serial.{is_covered, AreSupplied, IsSufficient}
 use Rattle.sv_system.specs.Delivery.{head_objects}
+use Rattle.sv_system.proofs.Tests.{four-false}
+use Rattle.sv_system.proofs.Awaited.{Awaited}
 use Rattle.sv_system.proofs.Covers.{covered-found}
 use Rattle.sv_system.proofs.Histories.{IsEarlier, same, earlier-rest, earlier-served}
 use Rattle.sv_system.proofs.Replies.{TellsFor, IsWelcomeReply, served-tells}
-use Rattle.sv_system.proofs.Asking.{IsServed}
 use Rattle.sv_system.proofs.Lawful.{IsLegalRelay, legal-relay, objects-named}
 use Rattle.sv_system.proofs.Entered.{is_of, replies-earlier}
 use Rattle.sv_system.proofs.Asked.{all}
@@ -46,13 +45,6 @@ use Rattle.sv_system.proofs.Order.{got-replied}
 use Rattle.sv_system.proofs.Induction.{well-after}
 use Rattle.sv_system.proofs.Begun.{join-welcomed}
 use Rattle.sv_system.proofs.Before.{noted-commit, got-same, told-before}
-
-four-false : (a b c d : Bool) → a ≡ false → b ≡ false → c ≡ false → d ≡ false → (a || b || c || d) ≡ false
-four-false true b c d e f g h = absurd (true≢false e)
-four-false false true c d e f g h = absurd (true≢false f)
-four-false false false true d e f g h = absurd (true≢false g)
-four-false false false false true e f g h = absurd (true≢false h)
-four-false false false false false e f g h = refl
 
 pub positions-back : (A : List Authored) (ks : List ℕ) → map (λ (i : Item). i.pos) (map (item_at A) ks) ≡ ks
 positions-back A [] = refl
@@ -94,9 +86,10 @@ none-missing A held replies.Idle h = refl
 none-missing A held (replies.Refused code detail) h = refl
 none-missing A held replies.Bye h = refl
 
-module _ (K : Keeping) (r : Rules) (H : List Entry) (L : Trace) (served : IsServed K r H L) (owns : OwnsSessions H L)
-    (s : ℕ) (current : current_session (reverse L.events) ≡ Some s) (few : length (asked L.client L.interest (reverse L.events) s) ≤ 1024)
-    (e : Entry) (g : List Entry) (b : IsEarlier (e ∷ g) H) (mine : is_of e s ≡ true) (next : length (replies_in (accepted H) g s) ≡ length (got (reverse L.events) s)) where
+module _ (awaited : Awaited) where
+  open awaited.owner use {keeping as K, rules as r, journal as H, trace as L, served}
+  open awaited use {session as s, entry as e, before as g, earlier as b, mine}
+
   abbrev whole : List Event
   whole = reverse L.events
 
@@ -119,7 +112,7 @@ module _ (K : Keeping) (r : Rules) (H : List Entry) (L : Trace) (served : IsServ
   legal_here = earlier-served K r (e ∷ g) H b legal
 
   told-least : told whole ≤ commit_of (K.kept g)
-  told-least = told-before K r H L served owns s current few e g b mine next whole all
+  told-least = told-before awaited whole all
 
   not-back : (c : ℕ) → commit_of (K.kept g) ≤ c → goes_back (Some c) (told whole) ≡ false
   not-back c l = le-ltb c (told whole) (let t : told whole ≤ commit_of (K.kept g) = told-least in omega arith)
@@ -141,7 +134,7 @@ module _ (K : Keeping) (r : Rules) (H : List Entry) (L : Trace) (served : IsServ
 
   welcome-ordered : (commit : ℕ) (head : List Sent) → IsWelcomeReply K r g e.session e.request commit head → e.reply ≡ logged.Welcome commit head → is_out_of_order whole (replies.Welcome commit head) ≡ false
   welcome-ordered commit head t is =
-      let w = join-welcomed K r H L served owns s current few e g b mine next t.client t.life t.interest t.request in
+      let w = join-welcomed awaited t.client t.life t.interest t.request in
       let xs = map (λ (o : ObjectId). o.0) L.interest in
       let heads : head ≡ committed_held r (K.kept g) xs = ap logged_head (sym is ∙ w.0) in
       let c : commit ≡ commit_of (K.kept g) = t.commit_is in
@@ -177,7 +170,7 @@ module _ (K : Keeping) (r : Rules) (H : List Entry) (L : Trace) (served : IsServ
         | inr n ↦ subst (λ (xs : List Reply). IsFront xs (replies_in A H o)) (sym (cond-false (s == o) (got whole o ++ reply ∷ []) (got whole o) (ne_eqb s o n))) (got-replied K r H L served o)
         | inl q ↦ subst (λ (m : ℕ). IsFront (got (events.Got s reply ∷ whole) m) (replies_in A H m)) q
             (subst (λ (xs : List Reply). IsFront xs (replies_in A H s))
-            (sym (cond-true (s == s) (got whole s ++ reply ∷ []) (got whole s) (eq-eqb s s refl) ∙ ap (λ (xs : List Reply). xs ++ reply ∷ []) (got-same K r H L served owns s current few e g b mine next)))
+            (sym (cond-true (s == s) (got whole s ++ reply ∷ []) (got whole s) (eq-eqb s s refl) ∙ ap (λ (xs : List Reply). xs ++ reply ∷ []) (got-same awaited)))
             (subst (λ (xs : List Reply). IsFront xs (replies_in A H s)) (cond-true (is_of e s) (replies_in A g s ++ reply ∷ []) (replies_in A g s) mine) (replies-earlier A (e ∷ g) H b s)))
       ]
 

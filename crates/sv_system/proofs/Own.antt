@@ -1,5 +1,5 @@
 -- The relay that answers a client's Submit ends with the submitted action, as the client's own.
-use Rattle.std.proofs.Common.{◌≡◌, ℕ, suc, ◌<◌, ◌≤◌, true, false, ◌==◌, ◌&&◌, inl, inr, List, [], ◌∷◌, ◌++◌, map, reverse, length, Option, Some, refl, sym, ap, ap₂, ◌∙◌, subst, arith, eq-eqb, true≢false, append-nil}
+use Rattle.std.proofs.Common.{◌≡◌, ℕ, suc, ◌<◌, true, false, ◌==◌, ◌&&◌, inl, inr, List, [], ◌∷◌, ◌++◌, map, reverse, length, Option, Some, refl, sym, ap, ap₂, ◌∙◌, subst, arith, eq-eqb, true≢false, append-nil}
 use Rattle.std.proofs.lemmas.Bool.{cond-true, cond-false, cases_Bool, and_from, false_from_ne_true}
 use Rattle.sv_world.specs.Control.{is_in, blank}
 use Rattle.sv_world.specs.declared.action.Action.{Action}
@@ -12,23 +12,22 @@ use Rattle.sv_journal.specs.declared.entry.Entry.{Entry}
 use Rattle.sv_journal.specs.declared.entry.Logged.TheVariants as logged
 use Rattle.sv_journal.specs.History.{Authored, Accepted, is_relay, new_action, client_of, outcomes_of, accepted, actions_of, next_seq, authored_at, item_at, commit_of}
 use Rattle.sv_journal.specs.Sessions.{is_end, kept_outcome, sent_to}
-use Rattle.sv_journal.specs.Answer.{Rules}
-use Rattle.sv_journal.specs.Serving.{Keeping, LegalFor, IsKeeping}
+use Rattle.sv_journal.specs.Serving.{LegalFor, IsKeeping}
 use Rattle.sv_client.specs.Same.{is_same_action}
 use Rattle.sv_client.proofs.Equal.{action_own}
 use Rattle.sv_client.specs.declared.trace.Event.{Event}
-use Rattle.sv_client.specs.declared.trace.Trace.{Trace}
-use Rattle.sv_client.specs.Traces.{current_session, asked, got}
+use Rattle.sv_client.specs.Traces.{got}
 use Rattle.sv_client.specs.Taking.{Identity, is_for_front, ends_with_front}
 use Rattle.sv_client.specs.Proper.{identity_of}
-use Rattle.sv_system.specs.Fits.{requests_in, replies_in, has_session}
-use Rattle.sv_system.specs.Served.{OwnsSessions, FitsButValues}
+use Rattle.sv_system.specs.Fits.{requests_in, has_session}
+use Rattle.sv_system.specs.Served.{FitsButValues}
+use Rattle.sv_system.proofs.Awaited.{Awaited}
 use Rattle.sv_system.proofs.Histories.{IsEarlier, earlier-then, earlier-rest, accepted-earlier, actions-count, kept-is}
 use Rattle.sv_system.proofs.Replies.{IsRelayReply, new_of}
-use Rattle.sv_system.proofs.Entered.{is_of, of-parts, of-from, request-there}
+use Rattle.sv_system.proofs.Entered.{of-parts, of-from, request-there}
 use Rattle.sv_system.proofs.Pendings.{Numbered, keys}
 use Rattle.sv_system.proofs.Aligned.{is_submit}
-use Rattle.sv_system.proofs.Asking.{IsServed, is_done, asked-there}
+use Rattle.sv_system.proofs.Asking.{is_done, asked-there}
 use Rattle.sv_system.proofs.Opened.{has, asks-other, own-session, session-client}
 use Rattle.sv_system.proofs.Window.{submit-named, client-some}
 use Rattle.sv_system.proofs.NeverSent.{IsAcceptance, acceptance-of}
@@ -98,9 +97,10 @@ acceptance-relay g k n p x =
           absurd (omega arith))
     ]
 
-module _ (K : Keeping) (r : Rules) (H : List Entry) (L : Trace) (served : IsServed K r H L) (owns : OwnsSessions H L)
-    (s : ℕ) (current : current_session (reverse L.events) ≡ Some s) (few : length (asked L.client L.interest (reverse L.events) s) ≤ 1024)
-    (e : Entry) (g : List Entry) (b : IsEarlier (e ∷ g) H) (mine : is_of e s ≡ true) (next : length (replies_in (accepted H) g s) ≡ length (got (reverse L.events) s)) where
+module _ (awaited : Awaited) where
+  open awaited.owner use {keeping as K, rules as r, journal as H, trace as L, served}
+  open awaited use {owner, session as s, entry as e, before as g, earlier as b, mine}
+
   abbrev whole : List Event
   whole = reverse L.events
 
@@ -126,7 +126,7 @@ module _ (K : Keeping) (r : Rules) (H : List Entry) (L : Trace) (served : IsServ
   earlier = earlier-rest g e H b
 
   asked-made : (n : ℕ) (a : Action) → e.request ≡ requests.Submit n a → IsMade whole (n, a)
-  asked-made n a is = submit-made who L.first whole s (length (got whole s)) n a (asks-other K r H L served owns s current e g b mine next (requests.Submit n a) is refl)
+  asked-made n a is = submit-made who L.first whole s (length (got whole s)) n a (asks-other awaited (requests.Submit n a) is refl)
 
   -- The action that was accepted of this client with a number is the one that it submits with it.
   kept-own : (n p : ℕ) (a : Action) → e.request ≡ requests.Submit n a → (x : IsAcceptance g k n p) → authored_at A p ≡ record { client = k; seq = n; action = a }
@@ -135,7 +135,7 @@ module _ (K : Keeping) (r : Rules) (H : List Entry) (L : Trace) (served : IsServ
       let o = x.entry.session in
       let q = submit-named x.entry.request n x.submit in
       let c : client_of x.before o ≡ Some k = client-some (client_of x.before o) k x.client in
-      let has_o : has_session L o ≡ true = own-session K r H L served owns x.before (earlier-rest x.before x.entry H bx) o c in
+      let has_o : has_session L o ≡ true = own-session owner x.before (earlier-rest x.before x.entry H bx) o c in
       let there = asked-there H L o (this_one.sessions o has_o) (length (requests_in x.before o)) x.entry.request (ap is_done q.1)
       (request-there x.entry x.before H o bx (of-from x.entry o refl (ap is_end q.1))) in
       let old : IsMade whole (n, q.0) = submit-made who L.first whole o (length (requests_in x.before o)) n q.0 (there ∙ ap Some q.1) in
@@ -149,7 +149,7 @@ module _ (K : Keeping) (r : Rules) (H : List Entry) (L : Trace) (served : IsServ
       e.request ≡ requests.Submit n a → authored_at A t.target ≡ record { client = k; seq = n; action = a }
   target-own commit head positions t y n a is =
       let session : e.session ≡ s = (of-parts e s mine).0 in
-      let own : t.client ≡ k = session-client K r H L served owns s (has K r H L served owns s current e g b mine next) g earlier t.client (subst (λ (o : ℕ). client_of g o ≡ Some t.client) session t.joined) in
+      let own : t.client ≡ k = session-client owner s (has awaited) g earlier t.client (subst (λ (o : ℕ). client_of g o ≡ Some t.client) session t.joined) in
       elim t.kind [
         | inr z ↦ absurd (true≢false (sym (ap is_submit (sym z.0 ∙ is))))
         | inl z ↦
@@ -177,7 +177,7 @@ module _ (K : Keeping) (r : Rules) (H : List Entry) (L : Trace) (served : IsServ
       let above : commit_of (K.kept g) < t.target = t.above in
       let free : is_in t.target (sent_to g e.session) ≡ false =
       false_from_ne_true (is_in t.target (sent_to g e.session)) (λ m.
-      positions-some K r H L served owns s current few e g b mine next seq commit head positions is
+      positions-some awaited seq commit head positions is
       (t.positions_are ∙ needed-sent acts (commit_of (K.kept g)) (sent_to g e.session) t.target m)) in
       let ends = needed-ends acts (commit_of (K.kept g)) (sent_to g e.session) t.target (omega arith) free in
       (ends.0, t.positions_are ∙ ends.1)

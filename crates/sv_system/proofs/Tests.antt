@@ -1,5 +1,5 @@
 -- Tests and facts of all elements of a list, and the objects that an action writes.
-use Rattle.std.proofs.Common.{◌≡◌, ℕ, ◌+◌, Bool, true, inl, inr, List, [], ◌∷◌, ◌++◌, refl, sym, ◌∙◌, subst}
+use Rattle.std.proofs.Common.{◌≡◌, ℕ, ◌+◌, Bool, true, false, ◌||◌, inl, inr, List, [], ◌∷◌, ◌++◌, refl, sym, ◌∙◌, subst, true≢false}
 use Rattle.std.specs.List.{list_any, AllByRecursion}
 use Rattle.std.proofs.lemmas.Bool.{cond_both, or_cases, or_left, or_right}
 use Rattle.std.proofs.lemmas.List.Folds.{list_any-append}
@@ -8,6 +8,19 @@ use Rattle.sv_world.specs.Faults.{is_ascending}
 use Rattle.sv_world.specs.Sets.{at_mask, is_in_mask}
 use Rattle.sv_world.proofs.Members.{is_in-cons_cases, is_in-head, is_in-tail}
 use Rattle.sv_world.proofs.Ascending.{ascending-tail, ascending-head, ascending-cons}
+
+pub three-false : (a b c : Bool) → a ≡ false → b ≡ false → c ≡ false → (a || b || c) ≡ false
+three-false true b c e f g = absurd (true≢false e)
+three-false false true c e f g = absurd (true≢false f)
+three-false false false true e f g = absurd (true≢false g)
+three-false false false false e f g = refl
+
+pub four-false : (a b c d : Bool) → a ≡ false → b ≡ false → c ≡ false → d ≡ false → (a || b || c || d) ≡ false
+four-false true b c d e f g h = absurd (true≢false e)
+four-false false true c d e f g h = absurd (true≢false f)
+four-false false false true d e f g h = absurd (true≢false g)
+four-false false false false true e f g h = absurd (true≢false h)
+four-false false false false false e f g h = refl
 
 pub any-into : {X : Type 0} (p q : X → Bool) (xs : List X) → ((x : X) → p x ≡ true → q x ≡ true) → list_any p xs ≡ true → list_any q xs ≡ true
 any-into p q [] f h = h

@@ -42,7 +42,7 @@ IsReportSerial opening A _ = Unit {0}
 abbrev pub AreReportsSerial : List (List ℤ) → List Action → List Entry → Type 0
 AreReportsSerial opening A h = AllByRecursion (λ (e : Entry). IsReportSerial opening A e.request) h
 
-some-reported : (opening : List (List ℤ)) (A : List Action) (p : ℕ) (results : List Done1) (vs : List (List ℤ)) → 0 < p → AllByRecursion (IsSerialResult opening A) results →
+pub some-reported : (opening : List (List ℤ)) (A : List Action) (p : ℕ) (results : List Done1) (vs : List (List ℤ)) → 0 < p → AllByRecursion (IsSerialResult opening A) results →
     reported p results ≡ Some vs → vs ≡ serial_result opening A p
 some-reported opening A p [] vs low each is = absurd (none-some vs is)
 some-reported opening A p (d ∷ ds) vs low each is =

@@ -1,7 +1,7 @@
 -- The number of a client's next Submit is its next one for the server, or one whose outcome is kept.
-use Rattle.std.proofs.Common.{◌≡◌, ℕ, zero, suc, ◌+◌, ◌<◌, ◌≤◌, Bool, true, false, ◌&&◌, ◌==◌, nat_le, ◌⊎◌, inl, inr, List, [], ◌∷◌, ◌++◌, map, drop, reverse, length, Option, Some, None, slice_get, refl, sym, ap, ◌∙◌, subst, arith, eqb-true, eq-eqb, true≢false, le-leb}
+use Rattle.std.proofs.Common.{◌≡◌, ℕ, zero, suc, ◌+◌, ◌<◌, ◌≤◌, Bool, true, false, ◌&&◌, ◌==◌, inl, inr, List, [], ◌∷◌, ◌++◌, map, drop, reverse, length, Option, Some, None, slice_get, refl, sym, ap, ◌∙◌, subst, arith, eqb-true, eq-eqb, true≢false}
 use Rattle.std.specs.Prelude.{if◌then◌else◌}
-use Rattle.std.proofs.lemmas.Bool.{cond-true, cond-false, cases_Bool, cases_lt, and_from}
+use Rattle.std.proofs.lemmas.Bool.{cond-true, cond-false, cases_Bool, and_from}
 use Rattle.std.proofs.lemmas.List.{length-append}
 use Rattle.std.proofs.lemmas.Option.{none-some, same_Some}
 use Rattle.sv_world.specs.declared.action.Action.{Action}
@@ -14,29 +14,28 @@ use Rattle.sv_journal.specs.declared.entry.Entry.{Entry}
 use Rattle.sv_journal.specs.declared.entry.Logged.{Logged}
 use Rattle.sv_journal.specs.declared.entry.Logged.TheVariants as logged
 use Rattle.sv_journal.specs.History.{Authored, Outcome, Accepted, accepted, client_of, is_client, is_submit_of, outcome_in, outcomes_of, next_seq, full_reply}
-use Rattle.sv_journal.specs.Sessions.{is_end, kept_outcome, kept_count, outcome_at}
+use Rattle.sv_journal.specs.Sessions.{is_end}
 use Rattle.sv_journal.specs.Answer.{Rules}
 use Rattle.sv_journal.specs.Serving.{Keeping, LegalFor, IsKeeping}
 use Rattle.sv_client.specs.declared.trace.Event.{Event}
 use Rattle.sv_client.specs.declared.trace.Event.TheVariants as events
-use Rattle.sv_client.specs.declared.trace.Trace.{Trace}
 use Rattle.sv_client.specs.Traces.{joins, makes, current_session, is_session, held_of, with_reply, done_for, pending_of, submit_of, asked_by, asked, got}
 use Rattle.sv_client.specs.Taking.{Identity}
 use Rattle.sv_client.specs.Proper.{AreProper, identity_of}
-use Rattle.sv_system.specs.Fits.{requests_in, replies_in, has_session}
-use Rattle.sv_system.specs.Served.{OwnsSessions, FitsButValues}
+use Rattle.sv_system.specs.Fits.{requests_in, has_session}
+use Rattle.sv_system.specs.Served.{FitsButValues}
+use Rattle.sv_system.proofs.Awaited.{Owner}
 use Rattle.sv_system.proofs.Fronts.{get-last}
 use Rattle.sv_system.proofs.Histories.{IsEarlier, same, after, earlier-then, earlier-rest, earlier-served, kept-old}
 use Rattle.sv_system.proofs.Replies.{AnswersSubmit, AnswersKept, TellsFor, IsRelayReply, served-tells}
-use Rattle.sv_system.proofs.Asking.{IsServed, is_done, asked-there, entered-as}
+use Rattle.sv_system.proofs.Asking.{is_done, asked-there, entered-as}
 use Rattle.sv_system.proofs.Commits.{next-grows, outcome-when}
-use Rattle.sv_system.proofs.Entered.{is_of, of-parts, of-from, as-many, request-there}
-use Rattle.sv_system.proofs.Asked.{get-append_cases, IsPart, all, part-rest, asked-part, got-part, proper-part, may-answer, current-joined}
+use Rattle.sv_system.proofs.Entered.{of-parts, of-from, as-many, request-there, IsEntered}
+use Rattle.sv_system.proofs.Asked.{get-append_cases, IsPart, part-rest, asked-part, got-part, proper-part, may-answer, current-joined}
 use Rattle.sv_system.proofs.Pendings.{Numbered, keys, without_first, settles, keys-with, keys-made, AreFrom, settled, IsCounted, counted, submits}
 use Rattle.sv_system.proofs.Aligned.{is_submit, settles-submit, drop-one, aligned}
 use Rattle.sv_system.proofs.Order.{get-some, joined-has}
-use Rattle.sv_system.proofs.Opened.{asks-other, own-session, session-client}
-use Rattle.sv_system.proofs.Before.{got-at}
+use Rattle.sv_system.proofs.Opened.{own-session, session-client}
 
 -- ---- The Submits of a trace are of actions that it made
 
@@ -233,14 +232,12 @@ pub client-some : (o : Option ℕ) (j : ℕ) → is_client o j ≡ true → o �
 client-some None j x = absurd (true≢false (sym x))
 client-some (Some m) j x = ap Some (eqb-true m j x)
 
-get-none : {X : Type 0} (xs : List X) (i : ℕ) → length xs ≤ i → slice_get xs i ≡ None
-get-none [] i l = refl
-get-none (x ∷ xs) zero l = absurd (omega arith)
-get-none (x ∷ xs) (suc i) l = get-none xs i (omega arith)
+-- ---- A part of the journal that has answered all that the client got
 
-module _ (K : Keeping) (r : Rules) (H : List Entry) (L : Trace) (served : IsServed K r H L) (owns : OwnsSessions H L)
-    (s : ℕ) (current : current_session (reverse L.events) ≡ Some s) (few : length (asked L.client L.interest (reverse L.events) s) ≤ 1024)
-    (e : Entry) (g : List Entry) (b : IsEarlier (e ∷ g) H) (mine : is_of e s ≡ true) (next : length (replies_in (accepted H) g s) ≡ length (got (reverse L.events) s)) where
+module _ (owner : Owner) (g : List Entry) (earlier : IsEarlier g owner.journal)
+    (given : (o n : ℕ) (reply : Reply) → slice_get (got (reverse owner.trace.events) o) n ≡ Some reply → IsEntered (accepted owner.journal) g o n reply) where
+  open owner use {keeping as K, rules as r, journal as H, trace as L, served}
+
   abbrev whole : List Event
   whole = reverse L.events
 
@@ -262,9 +259,6 @@ module _ (K : Keeping) (r : Rules) (H : List Entry) (L : Trace) (served : IsServ
   abbrev legal : LegalFor K r H
   legal = served.legal
 
-  earlier : IsEarlier g H
-  earlier = earlier-rest g e H b
-
   -- The front pending action, once its reply is got, was numbered below the server's next number.
   front-answered : (o : ℕ) (reply : Reply) (t : List Event) → IsPart (events.Got o reply ∷ t) whole → settles reply ≡ true → suc (settled t) < next_seq g k
   front-answered o reply t part s' =
@@ -276,19 +270,19 @@ module _ (K : Keeping) (r : Rules) (H : List Entry) (L : Trace) (served : IsServ
       let front = next-front who L.first t proper.1 o q.0 q.1.0 a.current (a.asked_there ∙ ap Some q.1.1) in
       let there : slice_get (got whole o) m ≡ Some reply =
       got-part who L.first (events.Got o reply ∷ t) whole part o m reply (ap (λ (rs : List Reply). slice_get rs m) (cond-true (o == o) (got t o ++ reply ∷ []) (got t o) (eq-eqb o o refl)) ∙ get-last (got t o) reply) in
-      let x = got-at K r H L served owns s current few e g b mine next o m reply there in
-      let bx : IsEarlier (x.entry ∷ x.before) H = earlier-then (x.entry ∷ x.before) g H x.there earlier in
+      let x = given o m reply there in
+      let bx : IsEarlier (x.entry ∷ x.before) H = earlier-then (x.entry ∷ x.before) g H x.earlier earlier in
       let has_o : has_session L o ≡ true = joined-has K r H L served t rest o (current-joined t o a.current) in
       let by_journal : slice_get (requests_in H o) m ≡ Some x.entry.request =
-      ap (slice_get (requests_in H o)) (x.index ∙ as-many A x.before o) ∙ request-there x.entry x.before H o bx x.of_it in
+      ap (slice_get (requests_in H o)) (x.place ∙ as-many A x.before o) ∙ request-there x.entry x.before H o bx x.of_it in
       let by_trace : slice_get (asked L.client L.interest whole o) m ≡ Some a.request = asked-part who L.first t whole rest o m a.request a.asked_there in
       let request : x.entry.request ≡ requests.Submit q.0 q.1.0 =
       entered-as H L o (this_one.sessions o has_o) m x.entry.request (requests.Submit q.0 q.1.0) by_journal (by_trace ∙ ap Some q.1.1) refl in
       let n = answered-next K keeps r A x.entry x.before (earlier-served K r (x.entry ∷ x.before) H bx legal) q.0 q.1.0 request x.entry.reply refl (ap settles (sym x.replied) ∙ s') in
       let session : x.entry.session ≡ o = (of-parts x.entry o x.of_it).0 in
-      let own : n.0 ≡ k = session-client K r H L served owns o has_o x.before (earlier-rest x.before x.entry H bx) n.0 (subst (λ (c : ℕ). client_of x.before c ≡ Some n.0) session n.1.0) in
+      let own : n.0 ≡ k = session-client owner o has_o x.before (earlier-rest x.before x.entry H bx) n.0 (subst (λ (c : ℕ). client_of x.before c ≡ Some n.0) session n.1.0) in
       let low : q.0 < next_seq (x.entry ∷ x.before) k = subst (λ (c : ℕ). q.0 < next_seq (x.entry ∷ x.before) c) own n.1.1 in
-      let grows : next_seq (x.entry ∷ x.before) k ≤ next_seq g k = next-grows (x.entry ∷ x.before) g x.there k in
+      let grows : next_seq (x.entry ∷ x.before) k ≤ next_seq g k = next-grows (x.entry ∷ x.before) g x.earlier k in
       let number : q.0 ≡ suc (settled t) = front.1.1 in
       omega arith
 
@@ -334,34 +328,8 @@ module _ (K : Keeping) (r : Rules) (H : List Entry) (L : Trace) (served : IsServ
           let bx : IsEarlier (x.entry ∷ x.before) H = earlier-then (x.entry ∷ x.before) g H x.earlier earlier in
           let q = submit-named x.entry.request (suc m) x.submit in
           let c : client_of x.before x.entry.session ≡ Some k = client-some (client_of x.before x.entry.session) k x.client in
-          let has_o : has_session L x.entry.session ≡ true = own-session K r H L served owns x.before (earlier-rest x.before x.entry H bx) x.entry.session c in
+          let has_o : has_session L x.entry.session ≡ true = own-session owner x.before (earlier-rest x.before x.entry H bx) x.entry.session c in
           let there = asked-there H L x.entry.session (this_one.sessions x.entry.session has_o) (length (requests_in x.before x.entry.session)) x.entry.request (ap is_done q.1)
           (request-there x.entry x.before H x.entry.session bx (of-from x.entry x.entry.session refl (ap is_end q.1))) in
           let most : suc m ≤ makes whole = submit-most who L.first whole this_one.proper.events x.entry.session (length (requests_in x.before x.entry.session)) (suc m) q.0 (there ∙ ap Some q.1) in
           omega arith
-
-  -- A Submit that is answered next is that of the front pending action; its outcome is kept, or it has the next number.
-  pub record IsNumberedWell (n : ℕ) (a : Action) : Type 0 where
-    pub rest : List Numbered
-    pub front : keys (pending_of whole) ≡ (n, a) ∷ rest
-    pub outcome : ((o : Outcome) × (kept_outcome g k n ≡ Some o)) ⊎ ((n ≡ next_seq g k) × (kept_outcome g k n ≡ None))
-
-  pub numbered-well : (n : ℕ) (a : Action) → e.request ≡ requests.Submit n a → IsNumberedWell n a
-  numbered-well n a is =
-      let front = next-front who L.first whole this_one.proper.events s n a current (asks-other K r H L served owns s current e g b mine next (requests.Submit n a) is refl) in
-      let number : n ≡ suc (settled whole) = front.1.1 in
-      let low : settled whole < next_seq g k = settled-next whole all in
-      let c = counted who L.first whole this_one.proper.events in
-      let few' : length (keys (pending_of whole)) ≤ 8 = c.few in
-      let within : length (keys (pending_of whole)) ≤ makes whole = c.within in
-      let most : length (outcomes_of g k) ≤ makes whole = outcomes-made in
-      let kept : kept_outcome g k n ≡ slice_get (outcomes_of g k) (settled whole) =
-      cond-true (nat_le (next_seq g k) (n + kept_count)) (outcome_at (outcomes_of g k) n) None (le-leb (next_seq g k) (n + kept_count) (omega arith)) ∙ ap (outcome_at (outcomes_of g k)) number in
-      record {
-        rest = front.0;
-        front = front.1.0;
-        outcome = elim (cases_lt (settled whole) (length (outcomes_of g k))) [
-          | inl l ↦ (let f = get-some (outcomes_of g k) (settled whole) l in inl (f.0, kept ∙ f.1))
-          | inr l ↦ inr (omega arith, kept ∙ get-none (outcomes_of g k) (settled whole) l)
-        ];
-      }

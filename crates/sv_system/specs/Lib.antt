@@ -5,4 +5,5 @@ pub mod Serial
 pub mod Served
 pub mod Delivery
 pub mod Outcomes
+pub mod Laws
 pub mod Records

@@ -16,8 +16,8 @@ use Rattle.sv_client.specs.declared.trace.Trace.{Trace}
 use Rattle.sv_client.specs.Traces.{makes}
 
 -- No two of the accepted actions are of one client with one number.
-abbrev pub AreOnce : List Authored → Type 0
-AreOnce A = (i j : ℕ) (a b : Authored) → slice_get A i ≡ Some a → slice_get A j ≡ Some b → a.client ≡ b.client → a.seq ≡ b.seq → i ≡ j
+abbrev pub AreAcceptedOnce : List Authored → Type 0
+AreAcceptedOnce A = (i j : ℕ) (a b : Authored) → slice_get A i ≡ Some a → slice_get A j ≡ Some b → a.client ≡ b.client → a.seq ≡ b.seq → i ≡ j
 
 -- A dropped action has just this chain and this distance, and one of them is over its limit.
 pub record IsDropped (r : Rules) (h : List Entry) (a : Action) (chain far : ℕ) : Type 0 where
@@ -37,13 +37,13 @@ IsOutcome r h a (logged.Relay seq commit head positions) = IsWithinLimits r h a
 IsOutcome r h a _ = Unit {0}
 
 -- The entry's reply is right of its action, where it is a client's Submit with that client's next number.
-abbrev pub IsJudged : Rules → List Entry → Entry → Type 0
-IsJudged r h e = (k seq : ℕ) (a : Action) → client_of h e.session ≡ Some k → e.request ≡ requests.Submit seq a → seq ≡ next_seq h k →
+abbrev pub HasRightOutcome : Rules → List Entry → Entry → Type 0
+HasRightOutcome r h e = (k seq : ℕ) (a : Action) → client_of h e.session ≡ Some k → e.request ≡ requests.Submit seq a → seq ≡ next_seq h k →
     IsOutcome r h a e.reply
 
-abbrev pub AreJudged : Rules → List Entry → Type 0
-AreJudged r [] = Unit {0}
-AreJudged r (e ∷ h) = IsJudged r h e × AreJudged r h
+abbrev pub HaveRightOutcomes : Rules → List Entry → Type 0
+HaveRightOutcomes r [] = Unit {0}
+HaveRightOutcomes r (e ∷ h) = HasRightOutcome r h e × HaveRightOutcomes r h
 
 abbrev pub is_quit : Event → Bool
 is_quit events.Quit = true
@@ -55,6 +55,6 @@ HasOutcomes h L = list_any is_quit L.events ≡ false → length (outcomes_of h 
 
 -- No action is accepted twice, each that was dropped was dropped for its chain or its distance alone, and each has an outcome.
 pub record OutcomesAreRight (r : Rules) (h : List Entry) (Ls : List Trace) : Type 0 where
-  pub once : AreOnce (accepted h)
-  pub judged : AreJudged r h
+  pub once : AreAcceptedOnce (accepted h)
+  pub judged : HaveRightOutcomes r h
   pub each : All (HasOutcomes h) Ls

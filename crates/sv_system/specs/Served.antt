@@ -4,6 +4,7 @@
 use Rattle.std.specs.Prelude.{◌≡◌, ℕ, ℤ, Bool, true, ◌==◌, ◌&&◌, List, [], ◌∷◌, map, length, reverse, All, Some, slice_get}
 use Rattle.std.specs.List.{list_any}
 use Rattle.sv_world.specs.declared.world.Shape.{Shape}
+use Rattle.sv_world.specs.Limits.{most_clients}
 use Rattle.sv_wire.specs.declared.message.Done1.{Done1}
 use Rattle.sv_wire.specs.declared.message.Request.{Request}
 use Rattle.sv_wire.specs.declared.message.Request.TheVariants as requests
@@ -31,7 +32,7 @@ pub record FitsBut (liar : ℕ) (shape : Shape) (h : List Entry) (Ls : List Trac
 
 -- No client has this number.
 abbrev pub no_client : ℕ
-no_client = 32
+no_client = most_clients
 
 -- Each session that was joined as the trace's client is the trace's own.
 abbrev pub OwnsSessions : List Entry → Trace → Type 0

@@ -1,3 +1,4 @@
+//! Lawful deliveries make values serial.
 ghost use Rattle.std.specs.Prelude.{◌≡◌, ℕ, ℤ, List, map, length, All};
 ghost use Rattle.sv_world.specs.declared.world.Shape.{Shape};
 ghost use Rattle.sv_world.specs.Faults.{IsGoodAction};

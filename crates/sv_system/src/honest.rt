@@ -1,16 +1,16 @@
-ghost use Rattle.std.specs.Prelude.{◌≡◌, ◌≤◌, ℕ, ℤ, List, All, length, reverse, slice_get, None, Some, []};
+//! Honest clients are never refused.
+ghost use Rattle.std.specs.Prelude.{◌≡◌, ◌≤◌, ℕ, List, length, reverse, slice_get, Some, []};
+ghost use Rattle.sv_world.specs.Limits.{most_requests};
 ghost use Rattle.sv_wire.specs.declared.message.Held.{Held};
 ghost use Rattle.sv_wire.specs.declared.message.Item.{Item};
-ghost use Rattle.sv_wire.specs.declared.message.Reply.{Reply};
 ghost use Rattle.sv_wire.specs.declared.message.Reply.TheVariants.{Relay};
 ghost use Rattle.sv_journal.specs.declared.entry.Entry.{Entry};
 ghost use Rattle.sv_journal.specs.History.{accepted};
 ghost use Rattle.sv_journal.specs.Answer.{Rules, Legal};
 ghost use Rattle.sv_client.specs.declared.trace.Trace.{Trace};
 ghost use Rattle.sv_client.specs.Traces.{current_session, requests_of, got};
-ghost use Rattle.sv_client.specs.Taking.{first_fault_of_reply};
-ghost use Rattle.sv_client.specs.Proper.{identity_of};
 ghost use Rattle.sv_system.specs.Fits.{replies_in, Fits};
+ghost use Rattle.sv_system.specs.Laws.{NeverRefused};
 
 /// Honest clients are never refused: the next reply of the session that a client began last has none of the faults for which a client
 /// refuses a reply, and a relay has items.
@@ -20,14 +20,9 @@ ghost use Rattle.sv_system.specs.Fits.{replies_in, Fits};
 /// journal's entries with the latest first, `L` is one of the traces `Ls` of its clients, and at most 1,024 requests are asked in the
 /// session `s`.
 pub fn honest_clients_are_never_refused()
-    ensures faults { (r : Rules) (h : List Entry) (Ls : List Trace) (i : ℕ) (L : Trace) (s : ℕ) (reply : Reply) →
-        length r.world.values ≡ r.world.shape.objects → All (λ (v : List ℤ). length v ≡ r.world.shape.attrs) r.world.values → r.bound ≤ 32 →
-        Legal r h → Fits r.world.shape h Ls → slice_get Ls i ≡ Some L →
-        current_session (reverse L.events) ≡ Some s → length (requests_of L s) ≤ 1024 →
-        slice_get (replies_in (accepted h) h s) (length (got (reverse L.events) s)) ≡ Some reply →
-        first_fault_of_reply (identity_of r.world.shape L) (reverse L.events) reply ≡ None }
+    ensures faults { NeverRefused }
     ensures items { (r : Rules) (h : List Entry) (Ls : List Trace) (i : ℕ) (L : Trace) (s seq commit : ℕ) (head : List Held) (items : List Item) →
         Legal r h → Fits r.world.shape h Ls → slice_get Ls i ≡ Some L →
-        current_session (reverse L.events) ≡ Some s → length (requests_of L s) ≤ 1024 →
+        current_session (reverse L.events) ≡ Some s → length (requests_of L s) ≤ most_requests →
         slice_get (replies_in (accepted h) h s) (length (got (reverse L.events) s)) ≡ Some (Relay seq commit head items) → items ≡ [] → ⊥ }
 {}

@@ -1,3 +1,4 @@
+//! Legal journals make lawful deliveries.
 ghost use Rattle.std.specs.Prelude.{◌≡◌, List, All};
 ghost use Rattle.sv_world.specs.Faults.{IsGoodAction};
 ghost use Rattle.sv_journal.specs.declared.entry.Entry.{Entry};

@@ -1,3 +1,4 @@
+//! What a run leaves.
 use sv_client::Trace;
 use sv_journal::Journal;
 use sv_world::{List, Shape, Value};

@@ -2,6 +2,7 @@
 //! A server that goes by all of them, and whose clients are all honest, is the case of the other laws of this crate.
 ghost use Rattle.std.specs.Prelude.{◌≡◌, ◌≤◌, ℕ, ℤ, true, List, All, length, reverse, slice_get, None, Some, [], ◌∷◌, ◌++◌};
 ghost use Rattle.sv_world.specs.Faults.{IsGoodAction};
+ghost use Rattle.sv_world.specs.Limits.{most_bound, most_requests};
 ghost use Rattle.sv_eval.specs.Serial.{serial_world};
 ghost use Rattle.sv_wire.specs.declared.message.Done1.{Done1};
 ghost use Rattle.sv_wire.specs.declared.message.Held.{Held};
@@ -72,14 +73,14 @@ pub fn served_values_are_serial()
 /// `k`, `r` and `h` are as above, `L` is the client's trace, and at most 1,024 requests are asked in the session `s`.
 pub fn served_clients_are_never_refused()
     ensures faults { (k : Keeping) (r : Rules) (h : List Entry) (L : Trace) (s : ℕ) (reply : Reply) → IsKeeping k →
-        length r.world.values ≡ r.world.shape.objects → All (λ (v : List ℤ). length v ≡ r.world.shape.attrs) r.world.values → r.bound ≤ 32 →
+        length r.world.values ≡ r.world.shape.objects → All (λ (v : List ℤ). length v ≡ r.world.shape.attrs) r.world.values → r.bound ≤ most_bound →
         LegalFor k r h → ResultsAreSerial r.world.values (actions_of h) (k.kept h) → FitsButValues r.world.shape h L → OwnsSessions h L →
-        current_session (reverse L.events) ≡ Some s → length (requests_of L s) ≤ 1024 →
+        current_session (reverse L.events) ≡ Some s → length (requests_of L s) ≤ most_requests →
         slice_get (replies_in (accepted h) h s) (length (got (reverse L.events) s)) ≡ Some reply →
         first_fault_of_reply (identity_of r.world.shape L) (reverse L.events) reply ≡ None }
     ensures items { (k : Keeping) (r : Rules) (h : List Entry) (L : Trace) (s seq commit : ℕ) (head : List Held) (items : List Item) → IsKeeping k →
         LegalFor k r h → FitsButValues r.world.shape h L → OwnsSessions h L →
-        current_session (reverse L.events) ≡ Some s → length (requests_of L s) ≤ 1024 →
+        current_session (reverse L.events) ≡ Some s → length (requests_of L s) ≤ most_requests →
         slice_get (replies_in (accepted h) h s) (length (got (reverse L.events) s)) ≡ Some (Relay seq commit head items) → items ≡ [] → ⊥ }
     ensures honest { (liar : ℕ) (r : Rules) (h : List Entry) (Ls : List Trace) (i : ℕ) (L : Trace) → FitsBut liar r.world.shape h Ls →
         slice_get Ls i ≡ Some L → FitsButValues r.world.shape h L }

@@ -1,3 +1,4 @@
+//! All values, and the committed world, are those of the serial execution.
 ghost use Rattle.std.specs.Prelude.{◌≡◌, List, length};
 ghost use Rattle.sv_eval.specs.Serial.{serial_world};
 ghost use Rattle.sv_journal.specs.declared.entry.Entry.{Entry};
@@ -5,15 +6,15 @@ ghost use Rattle.sv_journal.specs.History.{actions_of, commit_of, committed_of};
 ghost use Rattle.sv_journal.specs.Answer.{Rules, Legal};
 ghost use Rattle.sv_client.specs.declared.trace.Trace.{Trace};
 ghost use Rattle.sv_system.specs.Fits.{Fits};
-ghost use Rattle.sv_system.specs.Serial.{ValuesAreSerial, RelaysAreSufficient};
+ghost use Rattle.sv_system.specs.Laws.{ReplicasAreSerial};
+ghost use Rattle.sv_system.specs.Serial.{RelaysAreSufficient};
 
 /// Replicas equal serial execution: where a journal is legal and clients' traces fit it, each value that a client holds, and each value that
 /// the journal prints at a position, is that of the serial execution, and each relay that a client got brought what its items read.
 ///
 /// `r` are the rules that the server was opened with, `h` are the journal's entries with the latest first, and `Ls` the traces of its clients.
 pub fn replicas_equal_serial_execution()
-    ensures values { (r : Rules) (h : List Entry) (Ls : List Trace) → length r.world.values ≡ r.world.shape.objects → Legal r h →
-        Fits r.world.shape h Ls → ValuesAreSerial r.world.values h Ls }
+    ensures values { ReplicasAreSerial }
     ensures relays { (r : Rules) (h : List Entry) (Ls : List Trace) → length r.world.values ≡ r.world.shape.objects → Legal r h →
         Fits r.world.shape h Ls → RelaysAreSufficient h Ls }
 {}

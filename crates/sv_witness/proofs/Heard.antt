@@ -1,18 +1,15 @@
 -- What a run over a witnessing server is to the laws of journals: its server hears what is asked, but for the values of a liar's Dones; its journal
 -- is witnessed; and each client's trace fits it, an honest client's wholly.
-use Rattle.std.proofs.Common.{◌≡◌, ℕ, ◌≤◌, Bool, true, false, ◌==◌, ◌&&◌, not, inl, inr, List, [], ◌∷◌, ◌++◌, length, reverse, filter, Option, Some, None, slice_get, refl, sym, ap, subst, ◌∙◌, eqb-true, eq-eqb, true≢false}
+use Rattle.std.proofs.Common.{◌≡◌, ℕ, Bool, true, false, ◌==◌, ◌&&◌, not, inl, inr, List, [], ◌∷◌, ◌++◌, length, reverse, filter, Option, Some, None, slice_get, refl, sym, ap, subst, ◌∙◌, eqb-true, eq-eqb, true≢false}
 use Rattle.std.specs.List.{list_any, AllByRecursion}
 use Rattle.std.proofs.lemmas.Bool.{cond_both, cond-true, cond-false, or_cases, or_left, or_right, and_parts, and_from, not-true, not_from_false, ne_eqb}
 use Rattle.std.proofs.lemmas.List.Elements.{All-from_recursion, recursion_from_All}
 use Rattle.std.proofs.lemmas.Option.{none-some}
-use Rattle.sv_world.specs.Control.{is_in}
 use Rattle.sv_world.specs.declared.world.Shape.{Shape}
-use Rattle.sv_world.proofs.Members.{is_in-cons_cases}
 use Rattle.sv_wire.specs.declared.message.Done1.{Done1}
 use Rattle.sv_wire.specs.declared.message.Request.{Request}
 use Rattle.sv_wire.specs.declared.message.Request.TheVariants as requests
 use Rattle.sv_journal.specs.declared.entry.Entry.{Entry}
-use Rattle.sv_journal.specs.declared.entry.Logged.{Logged}
 use Rattle.sv_journal.specs.declared.entry.Logged.TheVariants as logged
 use Rattle.sv_journal.specs.History.{joining, client_of, is_client, accepted}
 use Rattle.sv_journal.specs.Sessions.{is_end}
@@ -29,12 +26,11 @@ use Rattle.sv_system.specs.Fits.{requests_in, is_join_of, has_session, FitsOne, 
 use Rattle.sv_system.specs.Served.{is_session_of, FitsBut, HaveSameForm, AreSameButValues, FitsButValues}
 use Rattle.sv_system.proofs.Fronts.{get-push_cases}
 use Rattle.sv_system.proofs.Entered.{is_of}
-use Rattle.sv_asked.proofs.Every.{each-more}
 use Rattle.sv_schedule.specs.Players.{Player, trace_of_player}
 use Rattle.sv_schedule.specs.Serving.{Run, Server, traces_of}
 use Rattle.sv_schedule.specs.Schedule.{rules_of}
 use Rattle.sv_schedule.specs.Sound.{has_joined}
-use Rattle.sv_schedule.specs.Served.{IsServed, AreHeard, NamesUpTo, KeepsSound, HearsJoins, FitsServer, IsSoundOver}
+use Rattle.sv_schedule.specs.Served.{IsServed, AreHeard, KeepsSound, HearsJoins, FitsServer, IsSoundOver}
 use Rattle.sv_schedule.proofs.DoneFacts.{any-turned}
 use Rattle.sv_schedule.proofs.DoneLists.{map-here, any-found, any-there}
 use Rattle.sv_schedule.proofs.SoundPlayers.{front-push}
@@ -114,32 +110,12 @@ witness-served r liar (e ∷ h) a = (
   witness-served r liar h a.1,
 )
 
-named-low : (n : ℕ) (ps : List ℕ) → AllByRecursion (λ p. (1 ≤ p) × (p ≤ n)) ps → (j : ℕ) → is_in j ps ≡ true → j ≤ n
-named-low n [] all j m = absurd (true≢false (sym m))
-named-low n (p ∷ ps) all j m = elim (is_in-cons_cases j p ps m) [
-  | inl e ↦ subst (λ (i : ℕ). i ≤ n) (sym e) all.0.1
-  | inr later ↦ named-low n ps all.1 j later
-]
-
-named-up_to : (n : ℕ) (w : Logged) → NamesAccepted n w → NamesUpTo n w
-named-up_to n (logged.Relay seq commit head ps) all = named-low n ps (recursion_from_All (λ p. (1 ≤ p) × (p ≤ n)) ps all)
-named-up_to n (logged.Welcome commit head) all = tt
-named-up_to n (logged.Dropped seq chain far) all = tt
-named-up_to n (logged.Settled seq pos) all = tt
-named-up_to n (logged.Noted commit) all = tt
-named-up_to n logged.Idle all = tt
-named-up_to n (logged.Refused code detail) all = tt
-named-up_to n logged.Bye all = tt
-
 pub witness-keeps : ServedRelaysNameAccepted → (r : Rules) (liar : Option ℕ) → KeepsSound (witness_of r liar)
 witness-keeps names r liar = record {
   ends = heard-ends liar;
   bye = witness-byes r liar;
   named = λ h a.
-      (let n = length (accepted h) in
-      let all = names agreed r h agreed-keeping (witness-served r liar h a) in
-      each-more (λ (e : Entry). NamesAccepted n e.reply) (λ (e : Entry). NamesUpTo n e.reply) (λ e one. named-up_to n e.reply one) h
-      (recursion_from_All (λ (e : Entry). NamesAccepted n e.reply) h all));
+      recursion_from_All (λ (e : Entry). NamesAccepted (length (accepted h)) e.reply) h (names agreed r h agreed-keeping (witness-served r liar h a));
 }
 
 -- ---- Traces

@@ -22,8 +22,6 @@ mod Decided
 mod Stepped
 mod Installed
 mod Heard
-mod Sent
-mod Scripts
 mod Sound
 mod Ran
 mod Endings

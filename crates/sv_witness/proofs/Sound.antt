@@ -1,6 +1,6 @@
 -- A sound run over a witnessing server: whatever is asked and replied in it is a message, no client refuses its next reply, and what is agreed is
 -- the serial execution.
-use Rattle.std.proofs.Common.{◌≡◌, ℕ, suc, ◌-◌, ◌^◌, ◌≤◌, Bool, true, false, inl, inr, cond, eqb, List, [], ◌∷◌, map, length, reverse, Option, Some, None, slice_get, ℤ, pos, negsuc, refl, sym, ap, subst, arith, true≢false, ltb, ltb-true, filter}
+use Rattle.std.proofs.Common.{◌≡◌, ℕ, suc, ◌-◌, ◌^◌, ◌≤◌, Bool, true, false, inl, inr, List, [], ◌∷◌, map, length, reverse, Option, Some, None, slice_get, ℤ, pos, negsuc, refl, sym, ap, subst, arith, ltb, ltb-true, filter}
 use Rattle.std.specs.Prelude.{All, int_lt, ◌+ℤ◌, if◌then◌else◌}
 use Rattle.std.specs.List.{list_any, AllByRecursion}
 use Rattle.std.proofs.lemmas.Bool.{cases_Bool, cond_both}
@@ -13,12 +13,11 @@ use Rattle.sv_wire.specs.declared.message.Reply.{Reply}
 use Rattle.sv_wire.specs.Laws.{IsRequest, IsReply}
 use Rattle.sv_wire.specs.Ranges.{ValueFits, ResultFits, ActionFits, RequestFits}
 use Rattle.sv_journal.specs.declared.entry.Entry.{Entry}
-use Rattle.sv_journal.specs.History.{Authored, client_of, is_relay, new_action, outcomes_of, accepted, actions_of, full_reply}
+use Rattle.sv_journal.specs.History.{Authored, accepted, actions_of, full_reply}
 use Rattle.sv_journal.specs.Sessions.{is_end}
 use Rattle.sv_journal.specs.Answer.{Rules}
-use Rattle.sv_journal.specs.Laws.{AreWithinLimits, ServedRelaysNameAccepted, ServedRelaysAreSmall, ServedActionsAreGood}
+use Rattle.sv_journal.specs.Laws.{AreWithinLimits, ServedRelaysNameAccepted}
 use Rattle.sv_client.specs.declared.trace.Event.{Event}
-use Rattle.sv_client.specs.declared.trace.Event.TheVariants as events
 use Rattle.sv_client.specs.declared.trace.Trace.{Trace}
 use Rattle.sv_client.specs.Traces.{current_session, asked, got, held_of}
 use Rattle.sv_client.specs.Taking.{Identity, first_fault_of_reply}
@@ -33,12 +32,12 @@ use Rattle.sv_system.proofs.Histories.{IsEarlier, same, after, earlier-rest}
 use Rattle.sv_system.proofs.Entered.{is_of, of-from}
 use Rattle.sv_system.proofs.Induction.{whole-well}
 use Rattle.sv_system.proofs.NextReply.{served-no_fault}
-use Rattle.sv_asked.specs.Asked.{EventFits, HasNumbers, ServedRepliesFit}
-use Rattle.sv_asked.specs.Numbers.{PlanFits, ScenarioFits}
-use Rattle.sv_asked.proofs.Every.{each-at, each-append, each-if, each-map, each-more, each-reverse}
+use Rattle.sv_asked.specs.Asked.{EventFits, HasNumbers, ServedRequestsFit, ServedRepliesFit}
+use Rattle.sv_asked.specs.Numbers.{ScenarioFits}
+use Rattle.sv_asked.proofs.Every.{each-at, each-map, each-more, each-reverse}
 use Rattle.sv_asked.proofs.Evaluated.{IsNumber}
 use Rattle.sv_asked.proofs.Made.{Makes, Asks, asked-have}
-use Rattle.sv_asked.proofs.Owned.{entry-at, SubmitHas}
+use Rattle.sv_asked.proofs.Owned.{entry-at, SubmitHas, submit-asked, end-submits, end-fits, event-makes, accepted-have}
 use Rattle.sv_asked.proofs.Spent.{served-few}
 use Rattle.sv_schedule.specs.Players.{Player, trace_of_player}
 use Rattle.sv_schedule.specs.Serving.{Run, Server, traces_of}
@@ -53,6 +52,7 @@ use Rattle.sv_schedule.proofs.SoundLaws.{run-sound}
 use Rattle.sv_schedule.proofs.SoundOwned.{session-owned}
 use Rattle.sv_replay.specs.Players.{asked_by_player}
 use Rattle.sv_replay.specs.Messages.{AsksMessages}
+use Rattle.sv_replay.specs.Playable.{MadeActionsFit}
 use Rattle.sv_replay.proofs.Lengths.{owner_of, history_few}
 use Rattle.sv_witness.specs.Lies.{greatest, lied, lied_result, lied_value}
 use Rattle.sv_witness.specs.Reports.{agreed_history}
@@ -65,8 +65,6 @@ use Rattle.sv_witness.proofs.Same.{agreed-keeping}
 use Rattle.sv_witness.proofs.Tolerated.{results-tolerated, tolerated}
 use Rattle.sv_witness.proofs.Calm.{none-disputed}
 use Rattle.sv_witness.proofs.Heard.{heard-by, heard-joins, witness-served, witness-keeps, witness-fits, is_other, witness-but}
-use Rattle.sv_witness.proofs.Sent.{all-requests}
-use Rattle.sv_witness.proofs.Scripts.{players_made}
 
 -- ---- A lie has numbers of their types
 
@@ -100,15 +98,6 @@ lied-fits requests.End f = tt
 
 -- ---- Submits
 
-submit-asked : (q : Request) → Asks ActionFits q → SubmitHas ActionFits q
-submit-asked (requests.Submit n a) h = h
-submit-asked (requests.Join client life interest) h = tt
-submit-asked (requests.Done results) h = tt
-submit-asked requests.Poll h = tt
-submit-asked requests.Leave h = tt
-submit-asked requests.Bad h = tt
-submit-asked requests.End h = tt
-
 submit-lied : (q : Request) → SubmitHas ActionFits q → SubmitHas ActionFits (lied q)
 submit-lied (requests.Submit n a) h = h
 submit-lied (requests.Join client life interest) h = tt
@@ -117,53 +106,6 @@ submit-lied requests.Poll h = tt
 submit-lied requests.Leave h = tt
 submit-lied requests.Bad h = tt
 submit-lied requests.End h = tt
-
-end-submits : (q : Request) → is_end q ≡ true → SubmitHas ActionFits q
-end-submits requests.End e = tt
-end-submits (requests.Submit n a) e = absurd (true≢false (sym e))
-end-submits (requests.Join client life interest) e = tt
-end-submits (requests.Done results) e = tt
-end-submits requests.Poll e = tt
-end-submits requests.Leave e = tt
-end-submits requests.Bad e = tt
-
-end-fits : (q : Request) → is_end q ≡ true → RequestFits q
-end-fits requests.End e = tt
-end-fits (requests.Join client life interest) e = absurd (true≢false (sym e))
-end-fits (requests.Submit seq action) e = absurd (true≢false (sym e))
-end-fits (requests.Done results) e = absurd (true≢false (sym e))
-end-fits requests.Poll e = tt
-end-fits requests.Leave e = tt
-end-fits requests.Bad e = tt
-
-event-makes : (e : Event) → EventFits e → Makes ActionFits e
-event-makes (events.Make a) f = f
-event-makes (events.Join s) f = tt
-event-makes events.Poll f = tt
-event-makes events.Leave f = tt
-event-makes (events.Got s reply) f = tt
-event-makes events.Cut f = tt
-event-makes events.Quit f = tt
-event-makes (events.Show objects) f = tt
-
-new-fit : (o : Option ℕ) (next : ℕ → ℕ) (q : Request) → SubmitHas ActionFits q → AllByRecursion (λ (a : Authored). ActionFits a.action) (new_action o next q)
-new-fit (Some k) next (requests.Submit seq a) h = each-if (λ (x : Authored). ActionFits x.action) (eqb seq (next k)) (record { client = k; seq = seq; action = a } ∷ []) (h, tt)
-new-fit (Some k) next (requests.Join client life interest) h = tt
-new-fit (Some k) next (requests.Done results) h = tt
-new-fit (Some k) next requests.Poll h = tt
-new-fit (Some k) next requests.Leave h = tt
-new-fit (Some k) next requests.Bad h = tt
-new-fit (Some k) next requests.End h = tt
-new-fit None next q h = tt
-
--- The entries of a history that have what each of them has after those before it.
-accepted-fit : (H : List Entry) → ((e : Entry) (g : List Entry) → IsEarlier (e ∷ g) H → SubmitHas ActionFits e.request) → (g : List Entry) → IsEarlier g H →
-    AllByRecursion (λ (a : Authored). ActionFits a.action) (accepted g)
-accepted-fit H each [] b = tt
-accepted-fit H each (e ∷ g) b =
-    let new = new_action (client_of g e.session) (λ k. suc (length (outcomes_of g k))) e.request in
-    each-append (λ (a : Authored). ActionFits a.action) (accepted g) (cond (is_relay e.reply) new []) (accepted-fit H each g (earlier-rest g e H b))
-    (each-if (λ (a : Authored). ActionFits a.action) (is_relay e.reply) new (new-fit (client_of g e.session) (λ k. suc (length (outcomes_of g k))) e.request (each e g b)))
 
 -- ---- How an entry was heard
 
@@ -268,11 +210,11 @@ module _ (scenario : Scenario) (liar : Option ℕ) (run : Run) (good : IsGoodSce
       let a = player-at server scenario run good sound o.0 o.1.0 o.1.1.0 in
       (o.0, (o.1.0, (o.1.1.0, heard-at server e g H e.session (asked_by_player o.1.0 e.session) b (a.fitting.sessions e.session o.1.1.1).heard (of-from e e.session refl on))))
 
-  module _ (numbers : ScenarioFits scenario) where
+  module _ (scripts : MadeActionsFit) (numbers : ScenarioFits scenario) where
     made-at : (k : ℕ) (p : Player) → slice_get run.players k ≡ Some p → All EventFits (trace_of_player p).events
     made-at k p at =
         each-at (λ (L : Trace). All EventFits L.events) (traces_of run) k (trace_of_player p)
-        (players_made shape 0 0 scenario.clients run.players (recursion_from_All PlanFits scenario.clients numbers.plans) sound.players)
+        (recursion_from_All (λ (L : Trace). All EventFits L.events) (traces_of run) (scripts server scenario run numbers sound))
         (map-here trace_of_player run.players k p at)
 
     makes-at : (k : ℕ) (p : Player) → slice_get run.players k ≡ Some p → AllByRecursion (Makes ActionFits) p.events
@@ -282,19 +224,19 @@ module _ (scenario : Scenario) (liar : Option ℕ) (run : Run) (good : IsGoodSce
 
     submit-fits : (e : Entry) (g : List Entry) → IsEarlier (e ∷ g) H → SubmitHas ActionFits e.request
     submit-fits e g b = elim (cases_Bool (is_end e.request)) [
-      | inl y ↦ end-submits e.request y
+      | inl y ↦ end-submits ActionFits e.request y
       | inr n ↦
           (let o = of-player e g b n in
           let p = o.1.0 in
           let one = o.1.1.1 in
           let asks = each-at (Asks ActionFits) (asked_by_player p e.session) (length (requests_in g e.session)) one.request
           (asked-have ActionFits p.who.client p.who.interest p.events e.session (makes-at o.0 p o.1.1.0)) one.next in
-          let has = submit-asked one.request asks in
+          let has = submit-asked ActionFits one.request asks in
           subst (SubmitHas ActionFits) (sym one.heard) (heard-by (SubmitHas ActionFits) liar g e.session one.request has (submit-lied one.request has)))
     ]
 
     actions-fit : All ActionFits (actions_of H)
-    actions-fit = All-from_recursion ActionFits (actions_of H) (each-map (λ (a : Authored). a.action) ActionFits (accepted H) (accepted-fit H submit-fits H same))
+    actions-fit = All-from_recursion ActionFits (actions_of H) (each-map (λ (a : Authored). a.action) ActionFits (accepted H) (accepted-have H submit-fits H same))
 
     has-numbers : (k : ℕ) (p : Player) → slice_get run.players k ≡ Some p → HasNumbers r H (trace_of_player p ∷ [])
     has-numbers k p at = record {
@@ -304,14 +246,13 @@ module _ (scenario : Scenario) (liar : Option ℕ) (run : Run) (good : IsGoodSce
       positions = (let most = served-few agreed r H (session_count scenario) agreed-keeping legal sound.sessions in omega (arith, most, good.sessions));
     }
 
-    module _ (names : ServedRelaysNameAccepted) (small : ServedRelaysAreSmall) (goods : ServedActionsAreGood) where
+    module _ (asked-fit : ServedRequestsFit) where
       pub asks : (k : ℕ) (p : Player) → slice_get run.players k ≡ Some p → AsksMessages p
       asks k p at s =
           let L = trace_of_player p in
           let held : AreSerial r.world.values (actions_of H) (held_of (reverse L.events)) =
           (whole-well agreed agreed-keeping r H good.world.objects legal serial L (trace-fits k p at)).serial in
-          let all = all-requests r H L s limits (has-numbers k p at) (trace-fits k p at) (names agreed r H agreed-keeping legal) (small agreed r H agreed-keeping legal)
-          (goods agreed r H agreed-keeping legal) actions-fit held in
+          let all = asked-fit agreed r H L s agreed-keeping limits (has-numbers k p at) actions-fit legal (trace-fits k p at) held in
           subst (λ (t : List Event). All IsRequest (asked p.who.client p.who.interest t s)) (same-events p) all
 
       -- ---- What is replied is a message
@@ -339,11 +280,11 @@ module _ (scenario : Scenario) (liar : Option ℕ) (run : Run) (good : IsGoodSce
 
 -- ---- Runs
 
-pub runs-playable : ServedRelaysNameAccepted → ServedRelaysAreSmall → ServedActionsAreGood → ServedRepliesFit → WitnessesArePlayable
-runs-playable names small goods replies scenario liar good numbers = record {
+pub runs-playable : MadeActionsFit → ServedRelaysNameAccepted → ServedRequestsFit → ServedRepliesFit → WitnessesArePlayable
+runs-playable scripts names asked-fit replies scenario liar good numbers = record {
   keeps = witness-keeps names (rules_of scenario) liar;
-  asked = λ run k p sound at. asks scenario liar run good sound numbers names small goods k p at;
-  replied = λ run sound. replied scenario liar run good sound numbers names small goods replies;
+  asked = λ run k p sound at. asks scenario liar run good sound scripts numbers asked-fit k p at;
+  replied = λ run sound. replied scenario liar run good sound scripts numbers asked-fit replies;
   taken = λ run k p s reply sound at current waits. taken scenario liar run good sound k p s reply at current waits;
 }
 

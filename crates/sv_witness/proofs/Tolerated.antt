@@ -1,22 +1,21 @@
 -- One lying client is tolerated: honest clients report what the serial execution gives, and nothing is agreed without one of them, so all that is
 -- agreed is that, whatever the liar reports.
-use Rattle.std.proofs.Common.{◌≡◌, ℕ, ◌<◌, true, ◌&&◌, ◌==◌, inl, inr, List, [], ◌∷◌, reverse, length, ℤ, Some, sym, ap, ◌∙◌, arith, eqb-true, true≢false}
+use Rattle.std.proofs.Common.{◌≡◌, ℕ, ◌<◌, true, ◌&&◌, ◌==◌, inl, inr, List, [], ◌∷◌, reverse, length, ℤ, Some, sym, true≢false}
 use Rattle.std.specs.List.{AllByRecursion}
-use Rattle.std.proofs.lemmas.Bool.{cond-true, cond-false, cases_Bool, or_cases, and_parts}
+use Rattle.std.proofs.lemmas.Bool.{or_cases, and_parts}
 use Rattle.std.proofs.lemmas.List.Elements.{recursion_from_All, All-weaker}
-use Rattle.std.proofs.lemmas.Option.{none-some, same_Some}
 use Rattle.sv_world.specs.declared.action.Action.{Action}
 use Rattle.sv_world.specs.declared.world.Shape.{Shape}
-use Rattle.sv_wire.specs.declared.message.Done1.{Done1}
 use Rattle.sv_journal.specs.declared.entry.Entry.{Entry}
-use Rattle.sv_journal.specs.History.{client_of, actions_of, reported, reports}
+use Rattle.sv_journal.specs.History.{client_of, actions_of, reports}
 use Rattle.sv_journal.specs.Answer.{Rules}
 use Rattle.sv_client.specs.declared.trace.Trace.{Trace}
 use Rattle.sv_client.specs.Traces.{held_of}
 use Rattle.sv_system.specs.Fits.{has_session, FitsOne}
 use Rattle.sv_system.specs.Served.{is_session_of, FitsBut}
 use Rattle.sv_system.specs.Serial.{AreSerial, AreSufficient}
-use Rattle.sv_system.specs.Journals.{serial_result, IsSerialResult, ResultsAreSerial}
+use Rattle.sv_system.specs.Journals.{serial_result, ResultsAreSerial}
+use Rattle.sv_system.proofs.Trusted.{some-reported}
 use Rattle.sv_system.proofs.Histories.{IsEarlier, same, earlier-rest}
 use Rattle.sv_system.proofs.Entered.{client-stays}
 use Rattle.sv_system.proofs.Asking.{fits-but_values}
@@ -40,19 +39,6 @@ owner-of shape H (L ∷ Ls) each k s h =
       | inr e ↦ owner-of shape H Ls each.1 k s e
     ]
 
-reported-serial : (opening : List (List ℤ)) (A : List Action) (p : ℕ) (results : List Done1) (vs : List (List ℤ)) → 0 < p → AllByRecursion (IsSerialResult opening A) results →
-    reported p results ≡ Some vs → vs ≡ serial_result opening A p
-reported-serial opening A p [] vs low each is = absurd (none-some vs is)
-reported-serial opening A p (d ∷ ds) vs low each is =
-    let later = reported-serial opening A p ds vs low each.1 in
-    elim (cases_Bool (d.pos == p)) [
-      | inl e ↦
-          (let pos : d.pos ≡ p = eqb-true d.pos p e in
-          let values : d.values ≡ vs = same_Some d.values vs (sym (cond-true (d.pos == p) _ _ e) ∙ is) in
-          sym values ∙ each.0 (omega arith) ∙ ap (serial_result opening A) pos)
-      | inr e ↦ later (sym (cond-false (d.pos == p) _ _ e) ∙ is)
-    ]
-
 -- ---- Values, relays and disputes
 
 module _ (liar : ℕ) (r : Rules) (H : List Entry) (Ls : List Trace) (count : length r.world.values ≡ r.world.shape.objects) (legal : IsWitnessed r H)
@@ -66,7 +52,7 @@ module _ (liar : ℕ) (r : Rules) (H : List Entry) (Ls : List Trace) (count : le
       let d = done-of p e.request vs is in
       let mine : is_session_of Ls k e.session ≡ true = fits.joined e.session k (client-stays g H (earlier-rest g e H part) e.session k client) other in
       let o = owner-of r.world.shape H Ls (recursion_from_All (FitsOne r.world.shape H) Ls fits.each) k e.session mine in
-      reported-serial r.world.values acts p d.results vs low (done-serial agreed agreed-keeping r H count legal e g d.results d.done part before o.0 o.1.0 o.1.1) d.given
+      some-reported r.world.values acts p d.results vs low (done-serial agreed agreed-keeping r H count legal e g d.results d.done part before o.0 o.1.0 o.1.1) d.given
 
   pub results-tolerated : ResultsAreSerial r.world.values acts (agreed_history H)
   results-tolerated = agreed-serial liar r.world.values acts H honest-done (none-give-none r H legal)

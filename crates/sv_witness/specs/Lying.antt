@@ -1,6 +1,6 @@
 -- A witnessing server that hears lies of one client, as a run sees it.
 -- A history is the list of a journal's entries with the latest first.
-use Rattle.std.specs.Prelude.{ℕ, Bool, false, List, Option, Some, None}
+use Rattle.std.specs.Prelude.{ℕ, ℤ, Bool, false, List, Option, Some, None}
 use Rattle.sv_journal.specs.declared.entry.Entry.{Entry}
 use Rattle.sv_journal.specs.History.{client_of, is_client}
 use Rattle.sv_scenario.specs.declared.scenario.Scenario.{Scenario}
@@ -12,6 +12,7 @@ use Rattle.sv_schedule.specs.Schedule.{rules_of}
 use Rattle.sv_replay.specs.Serving.{ServerView}
 use Rattle.sv_replay.specs.Playable.{IsPlayable}
 use Rattle.sv_witness.specs.declared.liar.Lying.{Lying}
+use Rattle.sv_witness.specs.Reports.{agreed_world}
 use Rattle.sv_witness.specs.Run.{witness_of, witnessed_run, IsWitnessedRun}
 
 -- The liar joined the session.
@@ -21,6 +22,10 @@ hears_lies (Some liar) h s = is_client (client_of h s) liar
 
 abbrev pub lying_view : Lying → ServerView
 lying_view a = record { rules = a.witness.rules; server = witness_of a.witness.rules a.liar; history = history a.witness }
+
+-- What was agreed of all objects.
+abbrev pub lying_world : Lying → List (List ℤ)
+lying_world a = agreed_world a.witness.rules.world.values (history a.witness)
 
 -- A scenario can be run over it.
 abbrev pub WitnessesArePlayable : Type 0

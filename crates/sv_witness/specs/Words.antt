@@ -23,9 +23,9 @@ witnessing_of (word ∷ file ∷ []) = if bytes_eq word (codes "witness") then S
 witnessing_of (word ∷ file ∷ number ∷ []) = if bytes_eq word (codes "witness") then with_liar file (number_between 0 65535 number) else None
 witnessing_of _ = None
 
--- the file that is named
-abbrev pub file_of : Option Asked → Option (List ℕ)
-file_of asked = option_map (λ (a : Asked). a.file) asked
+-- The file that is named.
+abbrev pub named_by : Option Asked → Option (List ℕ)
+named_by asked = option_map (λ (a : Asked). a.file) asked
 
 abbrev pub words_line : List ℕ
 words_line = codes "words: witness FILE [K]\n"

@@ -1,13 +1,14 @@
 //! A witnessing server that hears lies of one client.
 ghost use Rattle.std.specs.Prelude.{◌≡◌, ◌<◌};
 ghost use Rattle.sv_sequencer.specs.Step.{history};
-ghost use Rattle.sv_witness.specs.Lying.{hears_lies, lying_view};
+ghost use Rattle.sv_witness.specs.Lying.{hears_lies, lying_view, lying_world};
 
 use crate::lie::lie_for;
 use crate::witness::Witness;
 use std::alloc::{AllocError, Global};
 use sv_replay::Server;
 use sv_wire::{Reply, Request};
+use sv_world::{ObjectId, Value};
 
 /// A witnessing server, and the client that lies to it, if one does: whatever that client's sessions ask, the server hears the lie.
 #[derive(Drop)]
@@ -33,6 +34,8 @@ impl Lying {
 impl Server for Lying {
     ghost view = { lying_view };
 
+    ghost world = { lying_world };
+
     fn sessions(&self) -> u16 {
         self.witness.sessions()
     }
@@ -48,5 +51,9 @@ impl Server for Lying {
         } else {
             self.witness.step(session, request)
         }
+    }
+
+    fn committed(&self, object: ObjectId) -> &Value {
+        self.witness.committed(object)
     }
 }

@@ -3,7 +3,6 @@
 
 mod disputes;
 mod due;
-mod ending;
 mod laws;
 mod liar;
 mod lie;

@@ -5,27 +5,25 @@ ghost use Rattle.sv_schedule.specs.Schedule.{rules_of};
 ghost use Rattle.sv_sequencer.specs.Step.{history};
 ghost use Rattle.sv_witness.specs.Lines.{witness_text};
 ghost use Rattle.sv_witness.specs.Lying.{WitnessesArePlayable, RunsAreWitnessed};
-ghost use Rattle.sv_witness.specs.Reports.{agreed_world};
 ghost use Rattle.sv_witness.specs.Statuses.{IsRunText};
 
 use crate::liar::Lying;
 use crate::lines::run_lines;
 use crate::witness::Witness;
 use std::alloc::{AllocError, Global};
-use sv_asked::{read_scenario_numbers, served_replies_fit};
-use sv_journal::{served_actions_are_good, served_relays_are_small, served_relays_name_accepted};
-use sv_replay::{Ran, run_over};
+use sv_asked::{read_scenario_numbers, served_replies_fit, served_requests_fit};
+use sv_journal::served_relays_name_accepted;
+use sv_replay::{Ran, committed_values, made_actions_fit, opening_world, run_over};
 use sv_scenario::{Scenario, sessions_of};
-use sv_world::{List, ObjectId, Value, World, copy_value, copy_values};
 
 /// A scenario can be run over a witnessing server that hears lies of one client, or of none; and the run is as it is said to be.
 fn witnesses_are_playable()
     ensures playable { WitnessesArePlayable }
     ensures runs { RunsAreWitnessed }
 {
+    made_actions_fit();
     served_relays_name_accepted();
-    served_relays_are_small();
-    served_actions_are_good();
+    served_requests_fit();
     served_replies_fit();
 }
 
@@ -35,39 +33,23 @@ fn open_witness(alloc: Global, scenario: &Scenario) -> Result<Witness, AllocErro
     ensures rules { IfOk result (λ s. s.rules ≡ rules_of scenario.now) }
     ensures empty { IfOk result (λ s. s.journal.entries ≡ []) }
 {
-    let world = World {
-        shape: scenario.world.shape,
-        values: copy_values(alloc, scenario.world.values.as_slice())?,
-    };
     Witness::new(
         alloc,
-        world,
+        opening_world(alloc, scenario)?,
         scenario.bound,
         scenario.reach,
         sessions_of(scenario),
     )
 }
 
-/// The value of each object at the commit.
-fn committed(alloc: Global, witness: &Witness, objects: u16) -> Result<List<Value>, AllocError>
-    requires objects { objects ≡ witness.now.rules.world.shape.objects }
-    requires values { length witness.now.rules.world.values ≡ objects }
-    ensures { IfOk result (λ values. values ≡ agreed_world witness.now.rules.world.values (history witness.now)) }
-{
-    let mut values = List::new(alloc);
-    for object in 0..objects {
-        values.push(copy_value(alloc, witness.committed(ObjectId(object)))?)?;
-    }
-    Ok(values)
-}
-
 /// The lines that tell what a server was asked.
-fn text_of(alloc: Global, witness: &Witness, objects: u16) -> Result<String, AllocError>
-    requires objects { objects ≡ witness.now.rules.world.shape.objects }
-    requires values { length witness.now.rules.world.values ≡ objects }
-    ensures { IfOk result (λ text. string_bytes text ≡ witness_text witness.now.rules.world (history witness.now)) }
+fn text_of(alloc: Global, lying: &Lying, objects: u16) -> Result<String, AllocError>
+    requires objects { objects ≡ lying.now.witness.rules.world.shape.objects }
+    requires values { length lying.now.witness.rules.world.values ≡ objects }
+    ensures { IfOk result (λ text. string_bytes text ≡ witness_text lying.now.witness.rules.world (history lying.now.witness)) }
 {
-    let values = committed(alloc, witness, objects)?;
+    let values = committed_values(alloc, lying, objects)?;
+    let witness = &lying.witness;
     run_lines(
         alloc,
         witness.accepted(),
@@ -97,5 +79,5 @@ pub(crate) fn run_text(
     };
     let Ran { server, traces } = run_over(alloc, scenario, lying)?;
     drop(traces);
-    text_of(alloc, &server.witness, scenario.world.shape.objects)
+    text_of(alloc, &server, scenario.world.shape.objects)
 }

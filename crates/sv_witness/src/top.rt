@@ -1,18 +1,16 @@
 //! The top call of a witnessed run.
 ghost use Rattle.std.specs.Prelude.{◌≡◌, ◌≢◌, ◌↔◌, ◌⊎◌, ◌≤◌, ℕ, true, false, map, option_map, string_bytes, None, Err, IfSome};
-ghost use Rattle.sv_command.specs.declared.ending.Ending.TheVariants as plain;
+ghost use Rattle.sv_command.specs.Endings.{Ends, IsMade};
 ghost use Rattle.sv_command.specs.Reading.{held_of, HoldsScenario};
-ghost use Rattle.sv_command.specs.Statuses.{counts, NoneRose, TellsFaults};
-ghost use Rattle.sv_witness.specs.declared.ending.WitnessEnding.TheVariants as endings;
-ghost use Rattle.sv_witness.specs.Statuses.{Ends, IsMade, IsOver, IsWithin, Leaves, Raises, TellsStatus, ending_of};
-ghost use Rattle.sv_witness.specs.Words.{asked_by, file_of, witnessing_of};
+ghost use Rattle.sv_command.specs.Statuses.{counts, ending_of, NoneRose, Raises, TellsFaults, TellsStatus};
+ghost use Rattle.sv_witness.specs.Statuses.{EndsEarly, IsOver, IsText, IsWithin, Leaves};
+ghost use Rattle.sv_witness.specs.Words.{asked_by, named_by, witnessing_of, words_line};
 
-use crate::ending::{WitnessEnding, status_of, tell};
 use crate::running::run_text;
 use crate::words::{Witnessing, file_of, witnessing_of};
 use std::alloc::Global;
 use sv_bytes::{Files, Sink, write_all};
-use sv_command::{Ending, scenario_in};
+use sv_command::{Ending, scenario_in, status_of, tell};
 
 /// Whether the liar is one of so many clients, if there is one.
 fn is_within(clients: usize, liar: Option<u16>) -> bool
@@ -26,18 +24,14 @@ fn is_within(clients: usize, liar: Option<u16>) -> bool
 }
 
 /// The lines of the run that is asked for. They are whole before any of them is printed.
-fn text_for<F: Files>(
-    alloc: Global,
-    asked: Witnessing<'_>,
-    files: &mut F,
-) -> Result<String, WitnessEnding>
-    ensures made { IsMade (asked_by asked.entry) (F.contents files.old asked.entry.file.now) result }
+fn text_for<F: Files>(alloc: Global, asked: Witnessing<'_>, files: &mut F) -> Result<String, Ending>
+    ensures made { IsMade (IsText (asked_by asked.entry) (F.contents files.old asked.entry.file.now)) (EndsEarly (asked_by asked.entry) (F.contents files.old asked.entry.file.now)) result }
     ensures raises { (k : ℕ) → Raises (counts (F.faults files.old) 0 0 k) (counts (F.faults files.new) 0 0 k) (ending_of result) }
-    ensures sure { F.sure files.old asked.entry.file.now → result ≢ Err (endings.Plain plain.File) }
+    ensures sure { F.sure files.old asked.entry.file.now → result ≢ Err Ending.File }
 {
     let scenario = scenario_in(alloc, asked.file, files)?;
     if !is_within(scenario.clients.len(), asked.liar) {
-        return Err(WitnessEnding::Range);
+        return Err(Ending::Range);
     }
     Ok(run_text(alloc, &scenario, asked.liar)?)
 }
@@ -48,19 +42,19 @@ fn decide<F: Files, K: Sink>(
     asked: Option<Witnessing<'_>>,
     files: &mut F,
     out: &mut K,
-) -> WitnessEnding
-    ensures words { (result ≡ endings.Plain plain.Words) ↔ (option_map asked_by asked.entry ≡ None) }
-    ensures ends { IfSome (option_map asked_by asked.entry) (λ a. Ends a (F.contents files.old a.file) (K.taken out.old) (K.taken out.new) result) }
+) -> Ending
+    ensures words { (result ≡ Ending.Words) ↔ (option_map asked_by asked.entry ≡ None) }
+    ensures ends { IfSome (option_map asked_by asked.entry) (λ a. Ends (IsText a (F.contents files.old a.file)) (EndsEarly a (F.contents files.old a.file)) (K.taken out.old) (K.taken out.new) result) }
     ensures raises { Raises (counts (F.faults files.old) 0 0 (K.faults out.old)) (counts (F.faults files.new) 0 0 (K.faults out.new)) result }
-    ensures sure { IfSome (option_map asked_by asked.entry) (λ a. F.sure files.old a.file → result ≢ endings.Plain plain.File) }
+    ensures sure { IfSome (option_map asked_by asked.entry) (λ a. F.sure files.old a.file → result ≢ Ending.File) }
     ensures apart { option_map asked_by asked.entry ≡ None → (files.new ≡ files.old) × (K.taken out.new ≡ K.taken out.old) }
 {
     let Some(asked) = asked else {
-        return WitnessEnding::Plain(Ending::Words);
+        return Ending::Words;
     };
     match text_for(alloc, asked, files) {
-        Ok(text) if write_all(out, text.as_bytes()) => WitnessEnding::Plain(Ending::Done),
-        Ok(_) => WitnessEnding::Plain(Ending::Out),
+        Ok(text) if write_all(out, text.as_bytes()) => Ending::Done,
+        Ok(_) => Ending::Out,
         Err(ending) => ending,
     }
 }
@@ -88,14 +82,14 @@ pub fn run_witness<F: Files, K: Sink, E: Sink>(
     ensures apart { result ≡ 2 → files.new ≡ files.old }
     ensures nothing { result ≢ 0 → result ≢ 5 → K.taken out.new ≡ K.taken out.old }
     ensures left { IfSome (witnessing_of (map string_bytes words.now)) (λ a. Leaves a (F.contents files.old a.file) (K.taken out.old) (K.taken out.new) result) }
-    ensures told { TellsStatus (held_of (F.contents files.old) (file_of (witnessing_of (map string_bytes words.now)))) (file_of (witnessing_of (map string_bytes words.now)))
-        result (E.taken err.old) (E.taken err.new) (E.faults err.old) (E.faults err.new) }
-    ensures complete { HoldsScenario (held_of (F.contents files.old) (file_of (witnessing_of (map string_bytes words.now))))
+    ensures told { TellsStatus words_line result (held_of (F.contents files.old) (named_by (witnessing_of (map string_bytes words.now)))) (named_by (witnessing_of (map string_bytes words.now)))
+        (E.taken err.old) (E.taken err.new) (E.faults err.old) (E.faults err.new) }
+    ensures complete { HoldsScenario (held_of (F.contents files.old) (named_by (witnessing_of (map string_bytes words.now))))
         → NoneRose (counts (F.faults files.old) 0 0 (K.faults out.old)) (counts (F.faults files.new) 0 0 (K.faults out.new))
         → (result ≡ 0) ⊎ (result ≡ 8) ⊎ (result ≡ 10) }
 {
     let asked = witnessing_of(words);
     let ending = decide(alloc, asked, files, out);
-    tell(&ending, file_of(asked), err);
+    tell(&ending, b"words: witness FILE [K]\n", file_of(asked), err);
     status_of(&ending)
 }

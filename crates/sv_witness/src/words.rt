@@ -2,7 +2,7 @@
 ghost use Rattle.std.specs.Prelude.{◌≡◌, map, string_bytes, option_map};
 ghost use Rattle.std.specs.Option.{option_copied};
 ghost use Rattle.sv_command.specs.Numbers.{number_between};
-ghost use Rattle.sv_witness.specs.Words.{asked_by, file_of, with_liar, witnessing_of};
+ghost use Rattle.sv_witness.specs.Words.{asked_by, named_by, with_liar, witnessing_of};
 
 use sv_command::number_in;
 
@@ -41,7 +41,7 @@ pub(crate) fn witnessing_of(words: &[String]) -> Option<Witnessing<'_>>
 
 /// The file that is named.
 pub(crate) fn file_of(asked: Option<Witnessing<'_>>) -> Option<&str>
-    ensures { option_copied result ≡ file_of (option_map asked_by asked.entry) }
+    ensures { option_copied result ≡ named_by (option_map asked_by asked.entry) }
 {
     match asked {
         Some(asked) => Some(asked.file),

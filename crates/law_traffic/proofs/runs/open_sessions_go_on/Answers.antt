@@ -1,3 +1,4 @@
+-- Open sessions go on, and players come to the ends of their scripts.
 use Rattle.law_traffic.proofs.Whole.{not_shut, next_taken, scripts_are_followed, no_faults}
 use Rattle.law_traffic.proofs.runs.open_sessions_go_on.Goals as goal
 

@@ -1,3 +1,4 @@
+-- A run of threads leaves its record, which is full where no player was failed, and its traffic.
 use Rattle.std.specs.Prelude.{reverse}
 use Rattle.law_traffic.proofs.Recorded.{record_of}
 use Rattle.law_traffic.proofs.Whole.{traffic_is_recorded, scripts_are_followed}

@@ -1,3 +1,4 @@
+-- A session that is done has the bytes of its trace and its journal.
 use Rattle.std.specs.Prelude.{reverse}
 use Rattle.std.proofs.lemmas.List.Elements.{recursion_from_All}
 use Rattle.sv_wire.specs.Laws.{IsReply}

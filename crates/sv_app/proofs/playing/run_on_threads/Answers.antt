@@ -1,3 +1,4 @@
+-- What a run on threads leaves, from what its play leaves.
 use Rattle.std.proofs.Common.{rules, arith, ap, ◌∙◌}
 use Rattle.sv_lock.specs.Passes.{PassView}
 use Rattle.sv_journal.specs.declared.entry.Entry.{Entry}

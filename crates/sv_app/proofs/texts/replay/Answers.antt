@@ -1,3 +1,4 @@
+-- The counts of faults, and the text of a replay.
 use Rattle.sv_command.specs.declared.ending.Ending.TheVariants as endings
 use Rattle.sv_command.proofs.Counts.{raised_by, unlike}
 use Rattle.sv_app.proofs.Making.{early_by, replayed}

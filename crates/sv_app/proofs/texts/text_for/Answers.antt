@@ -1,3 +1,4 @@
+-- What is asked for, each by the part that does it.
 use Rattle.std.proofs.Common.{refl}
 use Rattle.sv_command.specs.Statuses.{counts}
 use Rattle.sv_command.proofs.Counts.{unthreaded, link_status}

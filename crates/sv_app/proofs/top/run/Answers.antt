@@ -1,9 +1,10 @@
-use Rattle.sv_command.proofs.Statuses.{range_is, words_is, sure_is, link_is, faults_are, told_is}
-use Rattle.sv_app.proofs.Endings.{printed_is, part_is, nothing_is, refused, faulty_is, complete_is}
+-- Each clause of the call, from what was decided.
+use Rattle.sv_command.proofs.Statuses.{words_is, sure_is, link_is, faults_are, told_is}
+use Rattle.sv_app.proofs.Endings.{range_is, printed_is, part_is, nothing_is, refused_is, faulty_is, complete_is}
 use Rattle.sv_app.proofs.top.run.Goals as goal
 
 pub returns-clause-range : goal.returns-clause-range
-returns-clause-range g c = rw c.status_of.ensures (range_is c.decide-ending.result)
+returns-clause-range g c = rw c.status_of.ensures (range_is _ _ _ _ _ _ (rw c.command_of-command.ensures.asked at c.decide-ending.ensures.ends))
 
 pub returns-clause-words : goal.returns-clause-words
 returns-clause-words g c = rw c.status_of.ensures (words_is _ (rw c.command_of-command.ensures.asked at c.decide-ending.ensures.words))
@@ -36,7 +37,7 @@ returns-clause-nothing g c = rw c.status_of.ensures (nothing_is _ _ _ _ _ _ (rw 
 pub returns-clause-told : goal.returns-clause-told
 returns-clause-told g c =
     rw c.status_of.ensures
-    (told_is _ _ _ _ _ _ _ _ (refused _ _ _ _ _ _ (rw c.command_of-command.ensures.asked at c.decide-ending.ensures.ends)) (rw c.command_of-command.ensures.asked at (rw c.file_of.ensures at c.tell.ensures)))
+    (told_is _ _ _ _ _ _ _ _ (refused_is _ _ _ _ _ _ (rw c.command_of-command.ensures.asked at c.decide-ending.ensures.ends)) (rw c.command_of-command.ensures.asked at (rw c.file_of.ensures at c.tell.ensures)))
 
 pub returns-clause-complete : goal.returns-clause-complete
 returns-clause-complete g c =

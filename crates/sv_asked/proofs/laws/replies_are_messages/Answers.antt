@@ -1,3 +1,4 @@
+-- The replies of a legal journal are messages.
 use Rattle.sv_asked.proofs.Replied.{replies_are_messages}
 use Rattle.sv_asked.proofs.laws.replies_are_messages.Goals as goal
 

@@ -1,3 +1,4 @@
+-- The requests of honest clients are messages.
 use Rattle.sv_asked.proofs.Honest.{requests_are_messages}
 use Rattle.sv_asked.proofs.laws.requests_are_messages.Goals as goal
 

@@ -1,3 +1,4 @@
+-- The replies of a journal are messages, whatever results are kept.
 use Rattle.sv_asked.proofs.Replied.{served_replies_fit}
 use Rattle.sv_asked.proofs.laws.served_replies_fit.Goals as goal
 

@@ -1,3 +1,4 @@
+-- The requests of a client that holds serial values are messages, whatever results are kept.
 use Rattle.sv_asked.proofs.Honest.{served_requests_fit}
 use Rattle.sv_asked.proofs.laws.served_requests_fit.Goals as goal
 

@@ -1,3 +1,4 @@
+-- The plans so far were read.
 use Rattle.std.proofs.Common.{ℕ, ◌<◌, get_or}
 use Rattle.sv_scenario.specs.declared.scenario.Plan.{Plan}
 use Rattle.sv_asked.specs.Numbers.{PlanFits}

@@ -1,3 +1,4 @@
+-- The positions of an explanation are accepted ones.
 use Rattle.std.proofs.Common.{length, reverse, arith}
 use Rattle.sv_journal.specs.History.{accepted, actions_of}
 use Rattle.sv_audit.proofs.Explaining.{bounded}

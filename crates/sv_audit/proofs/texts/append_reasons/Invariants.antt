@@ -1,3 +1,4 @@
+-- The lines of the positions so far.
 use Rattle.std.proofs.Common.{◌≡◌, ◌++◌, take, reverse, string_bytes}
 use Rattle.std.specs.List.{flat_map}
 use Rattle.sv_journal.specs.History.{accepted}

@@ -1,3 +1,4 @@
+-- The counts of faults, by whether the text was written.
 use Rattle.sv_command.proofs.Counts.{wrote, broke}
 use Rattle.sv_audit.proofs.top.decide.Goals as goal
 

@@ -1,3 +1,4 @@
+-- Each clause of the call, from what was decided.
 use Rattle.std.proofs.Common.{◌∙◌}
 use Rattle.sv_audit.proofs.Endings.{range_is, words_is, file_is, output_is, sure_is, left_is, nothing_is, told_is, complete_is}
 use Rattle.sv_audit.proofs.top.run_check.Goals as goal

@@ -1,4 +1,6 @@
+-- The counts of faults, by the part of the call that ended it.
 use Rattle.std.specs.Option.{option_map}
+use Rattle.sv_audit.specs.declared.ending.AuditEnding.TheVariants as endings
 use Rattle.sv_audit.specs.Statuses.{ending_of}
 use Rattle.sv_audit.specs.Words.{place_by}
 use Rattle.sv_audit.proofs.Making.{raised_by, calm_raises, given_calm, judged_calm, answer_calm}
@@ -10,8 +12,8 @@ returns-in_err-both-clause-raises g c =
 
 pub returns-in_err-scenario-clause-raises : goal.returns-in_err-scenario-clause-raises
 returns-in_err-scenario-clause-raises g c =
-    λ k. raised_by c.from_residual-in_err-scenario.result c.in_err-scenario.field-0.0 c.from_residual-in_err-scenario.ensures.1 _ _
-    (calm_raises _ _ c.in_err-scenario.field-0.0 (given_calm c.deref.result.now c.in_err-scenario.field-0.0 c.in_err-scenario.ensures) (c.in_ok-both.ensures.raises k))
+    λ k. raised_by c.from_residual-in_err-scenario.result (endings.Plain c.in_err-scenario.field-0.0) c.from_residual-in_err-scenario.ensures.1 _ _
+    (calm_raises _ _ (endings.Plain c.in_err-scenario.field-0.0) (given_calm c.deref.result.now c.in_err-scenario.field-0.0 c.in_err-scenario.ensures) (c.in_ok-both.ensures.raises k))
 
 pub returns-in_err-played-clause-raises : goal.returns-in_err-played-clause-raises
 returns-in_err-played-clause-raises g c =

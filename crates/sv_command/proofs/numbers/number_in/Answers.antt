@@ -1,3 +1,4 @@
+-- The number that a word writes, by whether it is parsed and within the bounds.
 use Rattle.std.proofs.Common.{refl, sym}
 use Rattle.std.proofs.lemmas.Bool.{true≢false}
 use Rattle.sv_command.proofs.Decimals.{not_plain, parsed, unparsed}

@@ -1,8 +1,19 @@
-use Rattle.sv_command.proofs.Held.{reads, refuses}
+-- The scenario of a file, from what is read of it.
+use Rattle.sv_command.proofs.Counts.{raised_by}
+use Rattle.sv_command.proofs.Held.{unread_by, given_read, given_raises, given_not_file}
 use Rattle.sv_command.proofs.reading.scenario_in.Goals as goal
 
-pub returns-in-Ok-read_scenario-clause-read : goal.returns-in-Ok-read_scenario-clause-read
-returns-in-Ok-read_scenario-clause-read g c = (reads _ _ _ _ c.in-Ok.ensures.front (rw c.deref.ensures.value at c.in-Ok-read_scenario.ensures.exact), c.in-Ok-read_scenario.ensures.good)
+pub returns-in_err-bytes-clause-read : goal.returns-in_err-bytes-clause-read
+returns-in_err-bytes-clause-read g c = unread_by _ c.from_residual.result c.in_err-bytes.field-0.0 c.from_residual.ensures.1 c.in_err-bytes.ensures.unread
 
-pub returns-in-Err-Scenario-clause-read : goal.returns-in-Err-Scenario-clause-read
-returns-in-Err-Scenario-clause-read g c = refuses _ _ _ _ _ c.in-Ok.ensures.front (rw c.in-Err-Scenario.field-0-is at (rw c.deref.ensures.value at c.in-Err-Scenario.ensures.exact)) c.in_ok-line_of_fault-in-Err-Scenario.ensures
+pub returns-in_err-bytes-clause-raises : goal.returns-in_err-bytes-clause-raises
+returns-in_err-bytes-clause-raises g c = λ k. raised_by c.from_residual.result c.in_err-bytes.field-0.0 c.from_residual.ensures.1 _ _ (c.in_err-bytes.ensures.raises k)
+
+pub returns-clause-read : goal.returns-clause-read
+returns-clause-read g c = given_read _ _ c.scenario_of.result c.in_ok-bytes.ensures.front (rw c.deref.ensures.value at c.scenario_of.ensures)
+
+pub returns-clause-raises : goal.returns-clause-raises
+returns-clause-raises g c = λ k. given_raises _ c.scenario_of.result c.scenario_of.ensures _ _ (c.in_ok-bytes.ensures.raises k)
+
+pub returns-clause-sure : goal.returns-clause-sure
+returns-clause-sure g c = λ sure s. given_not_file _ c.scenario_of.result c.scenario_of.ensures s

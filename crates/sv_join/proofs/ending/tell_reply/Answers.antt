@@ -1,7 +1,8 @@
+-- The line of a fault with its numbers.
 use Rattle.sv_join.proofs.ending.tell_reply.Goals as goal
 
 pub returns-in-Wire : goal.returns-in-Wire
-returns-in-Wire g c = rw c.in-Wire.is (rw c.cause_number.ensures at c.tell_two.ensures)
+returns-in-Wire g c = rw c.in-Wire.is (rw c.cause_number.ensures at c.tell_numbers.ensures)
 
 pub returns-in-TooLong : goal.returns-in-TooLong
-returns-in-TooLong g c = rw c.in-TooLong.is c.tell_one.ensures
+returns-in-TooLong g c = rw c.in-TooLong.is c.tell_number.ensures

@@ -1,3 +1,4 @@
+-- One end more.
 use Rattle.std.proofs.Common.{rules, ◌+◌, slice_get, sym, ap, ◌∙◌}
 use Rattle.sv_link.specs.Ends.{new_end}
 use Rattle.sv_link.specs.declared.side.Side.TheVariants.{Client}

@@ -1,3 +1,4 @@
+-- The ends that were made so far.
 use Rattle.std.proofs.Common.{◌≡◌, ℕ, ◌+◌, length, slice_get, Some}
 use Rattle.std.specs.Vec.{vec_capacity}
 use Rattle.sv_join.specs.Joining.{IsNewEnd}

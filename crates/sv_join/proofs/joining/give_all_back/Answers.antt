@@ -1,3 +1,4 @@
+-- One end given back.
 use Rattle.std.proofs.Common.{◌<◌, ◌++◌, [], ◌∷◌, length, sym, ap, subst, ◌∙◌, append_assoc, arith}
 use Rattle.std.specs.List.{AllByRecursion}
 use Rattle.sv_door.specs.Doors.{passage_of}

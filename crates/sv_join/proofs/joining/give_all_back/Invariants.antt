@@ -1,3 +1,4 @@
+-- The ends that are still to be given back.
 use Rattle.std.proofs.Common.{◌≡◌, ◌+◌, ◌<◌, ◌++◌, length}
 use Rattle.std.specs.List.{AllByRecursion}
 use Rattle.sv_join.specs.Joining.{passages_of}

@@ -1,3 +1,4 @@
+-- The actions that were made so far.
 use Rattle.std.proofs.Common.{◌≡◌, ◌≤◌, reverse, take}
 use Rattle.sv_client.specs.Traces.{makes}
 use Rattle.sv_join.proofs.texts.made_by.Given as goal

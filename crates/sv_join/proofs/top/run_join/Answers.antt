@@ -1,3 +1,4 @@
+-- Each clause of the call, from what was decided.
 use Rattle.sv_join.proofs.Endings.{range_is, words_is, sure_file_is, sure_door_is, faults_are, left_is, told_is, complete_is}
 use Rattle.sv_join.proofs.top.run_join.Goals as goal
 

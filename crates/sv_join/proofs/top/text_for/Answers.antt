@@ -1,3 +1,4 @@
+-- The counts of faults, by the part of the join that ended it.
 use Rattle.std.proofs.Common.{refl, ap}
 use Rattle.sv_command.specs.declared.ending.Ending.TheVariants as plain
 use Rattle.sv_command.specs.Statuses.{Counts, counts}

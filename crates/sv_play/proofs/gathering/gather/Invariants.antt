@@ -1,3 +1,4 @@
+-- What the tasks so far left was taken in, and there is room for the others.
 use Rattle.std.proofs.Common.{◌≡◌, ◌++◌, length}
 use Rattle.std.specs.List.{AllByRecursion, flat_map}
 use Rattle.sv_play.specs.Tasks.{serviced_of, played_of}

@@ -1,3 +1,4 @@
+-- What the events so far say of the session.
 use Rattle.std.proofs.Common.{◌≡◌, reverse, take}
 use Rattle.sv_client.specs.Traces.{current_session}
 use Rattle.sv_player.specs.Stops.{is_cut}

@@ -1,3 +1,4 @@
+-- One task more is that of the next session or client.
 use Rattle.std.proofs.Common.{[], ◌∷◌, ◌++◌, sym, ap, ◌∙◌, append_assoc, append-nil, rules}
 use Rattle.std.proofs.lemmas.List.{nil_from_length}
 use Rattle.sv_play.specs.Tasks.{services_of, parts_of}

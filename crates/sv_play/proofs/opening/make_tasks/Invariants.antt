@@ -1,3 +1,4 @@
+-- The tasks so far are those of the first sessions and clients.
 use Rattle.std.proofs.Common.{◌≡◌, ◌++◌, []}
 use Rattle.sv_play.specs.Tasks.{services_of, parts_of}
 use Rattle.sv_play.proofs.opening.make_tasks.Given as goal

@@ -1,3 +1,4 @@
+-- The ends so far, and those that are left, are all.
 use Rattle.std.proofs.Common.{◌≡◌, ◌++◌, length}
 use Rattle.std.specs.Vec.Iter.{into_iter_items}
 use Rattle.sv_play.proofs.opening.take_ends.Given as goal

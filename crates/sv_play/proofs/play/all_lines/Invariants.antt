@@ -1,3 +1,4 @@
+-- The lines so far are those of the first clients.
 use Rattle.std.proofs.Common.{◌≡◌, ◌++◌}
 use Rattle.std.specs.List.{flat_map}
 use Rattle.sv_play.proofs.play.all_lines.Given as goal

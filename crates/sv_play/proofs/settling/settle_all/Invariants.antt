@@ -1,3 +1,4 @@
+-- The pairs that are left give what all give.
 use Rattle.std.proofs.Common.{◌≡◌, ◌≤◌, true, false, length, ◌++◌}
 use Rattle.std.specs.List.{AllZip}
 use Rattle.std.specs.Vec.Iter.{into_iter_items}

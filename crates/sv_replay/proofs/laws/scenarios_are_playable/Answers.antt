@@ -1,3 +1,4 @@
+-- A scenario can be run over the server that answers by the table.
 use Rattle.sv_system.proofs.NextReply.{no-fault}
 use Rattle.sv_replay.proofs.Messages.{plain_playable}
 use Rattle.sv_replay.proofs.laws.scenarios_are_playable.Goals as goal

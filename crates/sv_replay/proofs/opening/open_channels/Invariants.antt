@@ -1,3 +1,4 @@
+-- The connections so far are new.
 use Rattle.std.proofs.Common.{◌≡◌, ℕ, length, get_or}
 use Rattle.sv_exchange.specs.View.{new_exchange}
 use Rattle.sv_replay.proofs.opening.open_channels.Given as goal

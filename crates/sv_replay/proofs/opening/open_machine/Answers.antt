@@ -1,3 +1,4 @@
+-- The machine is in step with the opening run.
 use Rattle.std.proofs.Common.{refl, ap, ◌∙◌}
 use Rattle.sv_journal.specs.Answer.{Rules}
 use Rattle.sv_replay.specs.Machine.{Stage}

@@ -1,3 +1,4 @@
+-- The clients so far, and the plans that are left, make the players of all.
 use Rattle.std.proofs.Common.{◌≡◌, ◌+◌, ◌++◌, map, drop}
 use Rattle.std.specs.List.{AllByRecursion}
 use Rattle.sv_scenario.specs.Sessions.{sessions_in, session_count}

@@ -1,3 +1,4 @@
+-- The requests so far were sent.
 use Rattle.std.proofs.Common.{◌≡◌, ◌++◌, take}
 use Rattle.sv_replay.proofs.playing.send_requests.Given as goal
 

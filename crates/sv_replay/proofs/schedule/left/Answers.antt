@@ -1,3 +1,4 @@
+-- The first sessions of clients have numbers that there may be.
 use Rattle.sv_replay.specs.Machine.{stage_of}
 use Rattle.sv_replay.proofs.Machines.{firsts_few}
 use Rattle.sv_replay.proofs.schedule.left.Goals as goal

@@ -1,3 +1,4 @@
+-- What a machine leaves is what its run leaves.
 use Rattle.std.proofs.Common.{ap, ◌∙◌}
 use Rattle.sv_schedule.specs.Serving.{Run, most_rounds, run_served}
 use Rattle.sv_schedule.specs.Schedule.{rules_of}

@@ -1,3 +1,4 @@
+-- The run over a sequencer is the scheduled one.
 use Rattle.std.proofs.Common.{length, reverse, sym, ap, subst, ◌∙◌}
 use Rattle.sv_journal.specs.Answer.{Rules}
 use Rattle.sv_schedule.specs.Serving.{run_served}

@@ -1,3 +1,4 @@
+-- A request was entered, and its reply sent.
 use Rattle.std.proofs.Common.{sym, subst}
 use Rattle.std.proofs.lemmas.Result.{on_ok_weaker}
 use Rattle.sv_wire.specs.Laws.{IsReply}

@@ -1,3 +1,4 @@
+-- Each case of a session's turn.
 use Rattle.std.proofs.Common.{sym, ap, subst}
 use Rattle.sv_exchange.specs.View.{ExchangeView, TakesRequest}
 use Rattle.sv_replay.proofs.Served.{serves_ended, serves_end, serves_closed, serves_asked, entered_longer}

@@ -1,3 +1,4 @@
+-- Scheduled runs end, and leave records.
 use Rattle.sv_system.proofs.NextReply.{no-fault}
 use Rattle.sv_schedule.specs.Schedule.{rules_of, plain_server}
 use Rattle.sv_schedule.proofs.DoneStill.{round-still}

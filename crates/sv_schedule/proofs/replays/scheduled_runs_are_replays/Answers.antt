@@ -1,3 +1,4 @@
+-- The record of a scheduled run is full.
 use Rattle.std.proofs.Common.{refl}
 use Rattle.sv_schedule.specs.Serving.{traces_of}
 use Rattle.sv_schedule.specs.Schedule.{scheduled_run}

@@ -1,3 +1,4 @@
+-- Turns keep scheduled runs sound.
 use Rattle.sv_schedule.proofs.SoundPlain.{opening-plain, turns-plain, rounds-plain, run-plain}
 use Rattle.sv_schedule.proofs.sound.turns_keep_runs_sound.Goals as goal
 

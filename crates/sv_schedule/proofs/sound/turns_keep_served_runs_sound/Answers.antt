@@ -1,3 +1,4 @@
+-- Turns keep runs over any server sound.
 use Rattle.sv_schedule.proofs.SoundLaws.{opening-sound, turns-sound, rounds-sound, run-sound}
 use Rattle.sv_schedule.proofs.SoundOwned.{session-owned}
 use Rattle.sv_schedule.proofs.sound.turns_keep_served_runs_sound.Goals as goal

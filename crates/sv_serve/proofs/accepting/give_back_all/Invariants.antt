@@ -1,3 +1,4 @@
+-- The sessions whose ends are still to be given back.
 use Rattle.std.proofs.Common.{◌≡◌, ◌+◌, ◌≤◌, ◌++◌, length}
 use Rattle.std.specs.List.{AllByRecursion}
 use Rattle.sv_serve.specs.Giving.{kept_unserved, IsUnservedOf}

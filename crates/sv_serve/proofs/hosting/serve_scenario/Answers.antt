@@ -1,3 +1,4 @@
+-- A scenario has sessions, and not too many.
 use Rattle.std.proofs.Common.{arith}
 use Rattle.sv_serve.proofs.Steps.{some_sessions}
 use Rattle.sv_serve.proofs.hosting.serve_scenario.Goals as goal

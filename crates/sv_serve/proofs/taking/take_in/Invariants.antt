@@ -1,3 +1,4 @@
+-- The sessions that are still to be taken in.
 use Rattle.std.proofs.Common.{◌≡◌, ◌+◌, ◌≤◌, ◌++◌, false, length}
 use Rattle.std.specs.List.{AllByRecursion}
 use Rattle.sv_play.specs.Left.{is_memory, IsOfLock, Joined}

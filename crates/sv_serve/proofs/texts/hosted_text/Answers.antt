@@ -1,3 +1,4 @@
+-- The journal can be printed.
 use Rattle.std.proofs.Common.{sym, ap, subst}
 use Rattle.sv_journal.specs.Text.{RelaysNameAccepted}
 use Rattle.sv_serve.proofs.Steps.{named}

@@ -1,3 +1,4 @@
+-- The counts of faults, by the part of the call that ended it.
 use Rattle.std.proofs.Common.{ap, arith}
 use Rattle.sv_command.specs.declared.ending.Ending.TheVariants as endings
 use Rattle.sv_command.specs.Statuses.{Counts, counts}

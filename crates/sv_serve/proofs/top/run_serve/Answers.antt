@@ -1,9 +1,10 @@
-use Rattle.sv_command.proofs.Statuses.{range_is, words_is, sure_is, faults_are, told_is}
-use Rattle.sv_serve.proofs.Endings.{certain_is, printed_is, part_is, nothing_is, refused_is, faulty_is, complete_is}
+-- Each clause of the call, from what was decided.
+use Rattle.sv_command.proofs.Statuses.{words_is, sure_is, faults_are, told_is}
+use Rattle.sv_serve.proofs.Endings.{certain_is, range_is, printed_is, part_is, nothing_is, refused_is, faulty_is, complete_is}
 use Rattle.sv_serve.proofs.top.run_serve.Goals as goal
 
 pub returns-clause-range : goal.returns-clause-range
-returns-clause-range g c = rw c.status_of.ensures (range_is c.decide-ending.result)
+returns-clause-range g c = rw c.status_of.ensures (range_is _ _ _ _ _ c.decide-ending.ensures.ends)
 
 pub returns-clause-words : goal.returns-clause-words
 returns-clause-words g c = rw c.status_of.ensures (words_is _ (rw c.command_of-command.ensures at c.decide-ending.ensures.words))

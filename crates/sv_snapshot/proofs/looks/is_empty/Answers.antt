@@ -1,3 +1,4 @@
+-- A body without statements, by its count.
 use Rattle.std.proofs.Common.{ℕ, ◌==◌, sym, ap, ◌∙◌}
 use Rattle.sv_world.specs.Parts.{first, parts}
 use Rattle.sv_snapshot.proofs.Blocks.{statements_counted}

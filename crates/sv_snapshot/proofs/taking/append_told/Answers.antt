@@ -1,3 +1,4 @@
+-- One event more.
 use Rattle.std.proofs.Common.{◌+◌, List, [], ◌++◌, reverse, drop, refl, sym, ap, subst, ◌∙◌}
 use Rattle.std.proofs.lemmas.List.{append-nil, at_drop_all}
 use Rattle.sv_client.specs.declared.trace.Event.{Event}

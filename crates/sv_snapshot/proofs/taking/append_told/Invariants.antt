@@ -1,3 +1,4 @@
+-- The snapshots of the events so far.
 use Rattle.std.proofs.Common.{◌≡◌, [], ◌++◌, drop}
 use Rattle.sv_report.specs.Again.{MayComeAfter, numbered}
 use Rattle.sv_snapshot.specs.Again.{snapshots_after}

@@ -1,3 +1,4 @@
+-- The last item of a relay.
 use Rattle.std.proofs.Common.{◌∙◌}
 use Rattle.sv_snapshot.proofs.Lasts.{last_at}
 use Rattle.sv_snapshot.proofs.taking.last_item.Goals as goal

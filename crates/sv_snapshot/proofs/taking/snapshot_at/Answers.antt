@@ -1,3 +1,4 @@
+-- The snapshot of a look at a position.
 use Rattle.std.proofs.Common.{◌<◌, option_copied, sym, ap, subst, ◌∙◌}
 use Rattle.sv_pending.specs.Made.{ReadsWithin}
 use Rattle.sv_wire.specs.declared.message.Item.{Item}

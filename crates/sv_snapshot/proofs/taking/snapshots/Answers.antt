@@ -1,3 +1,4 @@
+-- The snapshots of all traces.
 use Rattle.std.proofs.Common.{reverse, sym, subst}
 use Rattle.std.specs.Prelude.{All}
 use Rattle.sv_world.specs.declared.world.Shape.{Shape}

@@ -1,3 +1,4 @@
+-- The snapshots of the traces so far.
 use Rattle.std.proofs.Common.{◌≡◌, ◌++◌, drop}
 use Rattle.sv_snapshot.specs.Snapshots.{snapshots_of}
 use Rattle.sv_snapshot.proofs.taking.told_by.Given as goal

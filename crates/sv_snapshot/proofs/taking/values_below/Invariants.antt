@@ -1,3 +1,4 @@
+-- The values of the objects so far.
 use Rattle.std.proofs.Common.{◌≡◌, ◌++◌, drop}
 use Rattle.sv_client.specs.Traces.{held_of}
 use Rattle.sv_snapshot.specs.Snapshots.{read_all_below}

@@ -1,3 +1,4 @@
+-- The counts of faults, and the text of a run's snapshots.
 use Rattle.std.proofs.Common.{sym, subst}
 use Rattle.std.specs.Prelude.{All}
 use Rattle.sv_world.specs.declared.world.Shape.{Shape}

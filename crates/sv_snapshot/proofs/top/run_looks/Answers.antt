@@ -1,3 +1,4 @@
+-- Each clause of the call, from what was decided.
 use Rattle.sv_command.proofs.Statuses.{words_is, sure_is, faults_are, told_is}
 use Rattle.sv_snapshot.proofs.Endings.{range_is, printed_is, part_is, nothing_is, refused_is, faulty_is, complete_is, apart_is}
 use Rattle.sv_snapshot.proofs.top.run_looks.Goals as goal

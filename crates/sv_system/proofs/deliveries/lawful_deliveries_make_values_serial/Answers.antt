@@ -1,3 +1,4 @@
+-- Lawful deliveries make values serial.
 use Rattle.sv_system.proofs.Taken.{plain-at, all-well}
 use Rattle.sv_system.proofs.deliveries.lawful_deliveries_make_values_serial.Goals as goal
 

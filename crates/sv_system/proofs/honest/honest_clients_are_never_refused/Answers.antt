@@ -1,3 +1,4 @@
+-- Honest clients are never refused.
 use Rattle.sv_system.proofs.NextReply.{no-fault}
 use Rattle.sv_system.proofs.NonEmpty.{never-empty}
 use Rattle.sv_system.proofs.honest.honest_clients_are_never_refused.Goals as goal

@@ -1,3 +1,4 @@
+-- Legal journals make lawful deliveries.
 use Rattle.std.proofs.lemmas.List.Elements.{All-from_recursion}
 use Rattle.sv_world.specs.Faults.{IsGoodAction}
 use Rattle.sv_journal.specs.History.{Authored, accepted}

@@ -1,3 +1,4 @@
+-- Actions have outcomes, each for its reason.
 use Rattle.std.proofs.Common.{inl, inr, ◌≡◌, ℕ, true, false, ◌<◌, List, Option, None, sym, ap, ◌∙◌, true≢false}
 use Rattle.sv_world.specs.declared.action.Action.{Action}
 use Rattle.sv_journal.specs.declared.entry.Entry.{Entry}
@@ -17,7 +18,14 @@ returns-clause-judged c = are-judged
 
 pub returns-clause-each : goal.returns-clause-each
 returns-clause-each c = λ r h Ls i L legal fits member done.
-    has-outcomes plain r h L (plain-served r h Ls legal fits i L member) (owns-own r.world.shape h Ls fits i L member) done
+    has-outcomes (record {
+      keeping = plain;
+      rules = r;
+      journal = h;
+      trace = L;
+      served = plain-served r h Ls legal fits i L member;
+      owns = owns-own r.world.shape h Ls fits i L member;
+    }) done
 
 over-chain : (r : Rules) (h : List Entry) (a : Action) (chain far : ℕ) → r.reach ≡ None → IsDropped r h a chain far → r.bound < chain
 over-chain r h a chain far none d =

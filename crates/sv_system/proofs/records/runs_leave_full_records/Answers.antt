@@ -1,3 +1,4 @@
+-- Runs that come to their end leave full records.
 use Rattle.std.proofs.lemmas.List.Elements.{recursion_from_All}
 use Rattle.sv_system.specs.Fits.{FitsOne}
 use Rattle.sv_system.specs.Records.{rules_of}

@@ -1,3 +1,4 @@
+-- Honest clients report serial results.
 use Rattle.std.proofs.Common.{List, [], ◌∷◌, ◌++◌}
 use Rattle.std.proofs.lemmas.List.Elements.{All-from_recursion}
 use Rattle.sv_journal.specs.declared.entry.Entry.{Entry}

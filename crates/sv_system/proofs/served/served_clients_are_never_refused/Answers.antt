@@ -1,3 +1,4 @@
+-- Clients are never refused, whatever results are kept, if these are serial.
 use Rattle.sv_system.proofs.Asking.{fits-but_values}
 use Rattle.sv_system.proofs.Owned.{one-of, owns-but, fits-none}
 use Rattle.sv_system.proofs.NextReply.{served-no_fault}

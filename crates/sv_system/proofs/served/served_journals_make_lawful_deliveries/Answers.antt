@@ -1,3 +1,4 @@
+-- Journals make lawful deliveries, whatever results are kept, if these are serial.
 use Rattle.std.proofs.lemmas.List.Elements.{All-from_recursion}
 use Rattle.sv_world.specs.Faults.{IsGoodAction}
 use Rattle.sv_journal.specs.History.{Authored, accepted}

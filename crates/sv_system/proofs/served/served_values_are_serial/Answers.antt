@@ -1,3 +1,4 @@
+-- Values are serial, whatever results are kept, if these are.
 use Rattle.sv_system.proofs.Histories.{same}
 use Rattle.sv_system.proofs.Induction.{committed-serial, heads-serial, whole-well}
 use Rattle.sv_system.proofs.served.served_values_are_serial.Goals as goal

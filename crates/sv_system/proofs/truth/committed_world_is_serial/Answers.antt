@@ -1,3 +1,4 @@
+-- The committed world is serial.
 use Rattle.sv_journal.specs.Serving.{plain}
 use Rattle.sv_journal.proofs.Plain.{plain-keeping, plain-legal}
 use Rattle.sv_system.proofs.Histories.{same}

@@ -1,3 +1,4 @@
+-- Replicas equal serial execution.
 use Rattle.sv_system.proofs.Trusted.{values-serial, relays-sufficient}
 use Rattle.sv_system.proofs.truth.replicas_equal_serial_execution.Goals as goal
 

@@ -1,3 +1,4 @@
+-- The agreed history is of the same sessions.
 use Rattle.sv_witness.proofs.Same.{accepted-agreed, outcomes-agreed, client-agreed, sent-agreed}
 use Rattle.sv_witness.proofs.laws.agreed_histories_are_alike.Goals as goal
 

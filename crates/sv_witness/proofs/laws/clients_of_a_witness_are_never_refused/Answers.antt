@@ -1,3 +1,4 @@
+-- Clients of a witnessing server are never refused.
 use Rattle.sv_system.proofs.Asking.{fits-but_values}
 use Rattle.sv_system.proofs.Owned.{one-of, owns-but}
 use Rattle.sv_system.proofs.NextReply.{served-no_fault}

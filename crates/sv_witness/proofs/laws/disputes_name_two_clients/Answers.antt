@@ -1,3 +1,4 @@
+-- Each dispute is of two clients.
 use Rattle.sv_witness.proofs.Disputed.{all-disputed, all-name}
 use Rattle.sv_witness.proofs.laws.disputes_name_two_clients.Goals as goal
 

@@ -1,3 +1,4 @@
+-- The worked examples are as they say.
 use Rattle.sv_witness.proofs.Worked as worked
 use Rattle.sv_witness.proofs.laws.witnessed_examples_hold.Goals as goal
 

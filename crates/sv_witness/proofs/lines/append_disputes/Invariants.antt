@@ -1,3 +1,4 @@
+-- The disputes that are still to be told.
 use Rattle.std.proofs.Common.{◌≡◌, ◌++◌, string_bytes, drop}
 use Rattle.std.specs.List.{flat_map}
 use Rattle.sv_witness.specs.Lines.{dispute_line}

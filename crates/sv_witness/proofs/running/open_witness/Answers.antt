@@ -1,3 +1,4 @@
+-- A good scenario has a session.
 use Rattle.std.proofs.Common.{arith}
 use Rattle.sv_replay.proofs.Opened.{some_sessions}
 use Rattle.sv_witness.proofs.running.open_witness.Goals as goal

@@ -1,3 +1,4 @@
+-- The text of a run is that of the witnessed run.
 use Rattle.std.proofs.Common.{length, reverse, sym, ap, subst, ◌∙◌}
 use Rattle.sv_journal.specs.Answer.{Rules}
 use Rattle.sv_schedule.specs.Serving.{run_served}

@@ -1,9 +1,10 @@
+-- A scenario can be run over a witnessing server, and the run is as it is said to be.
 use Rattle.sv_witness.proofs.Sound.{runs-playable, runs-witnessed}
 use Rattle.sv_witness.proofs.running.witnesses_are_playable.Goals as goal
 
 pub returns-clause-playable : goal.returns-clause-playable
 returns-clause-playable c =
-    runs-playable c.served_relays_name_accepted.ensures c.served_relays_are_small.ensures c.served_actions_are_good.ensures c.served_replies_fit.ensures
+    runs-playable c.made_actions_fit.ensures c.served_relays_name_accepted.ensures c.served_requests_fit.ensures c.served_replies_fit.ensures
 
 pub returns-clause-runs : goal.returns-clause-runs
 returns-clause-runs c = runs-witnessed c.served_relays_name_accepted.ensures

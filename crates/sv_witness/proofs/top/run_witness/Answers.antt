@@ -1,4 +1,6 @@
-use Rattle.sv_witness.proofs.Endings.{range_is, words_is, sure_is, faults_are, left_is, told_is, complete_is}
+-- Each clause of the call, from what was decided.
+use Rattle.sv_command.proofs.Statuses.{words_is, faults_are}
+use Rattle.sv_witness.proofs.Endings.{range_is, sure_is, left_is, told_is, complete_is}
 use Rattle.sv_witness.proofs.top.run_witness.Goals as goal
 
 pub returns-clause-range : goal.returns-clause-range
@@ -21,7 +23,7 @@ returns-clause-left g c = rw c.status_of.ensures (left_is _ _ _ _ _ (rw c.witnes
 pub returns-clause-told : goal.returns-clause-told
 returns-clause-told g c =
     rw c.status_of.ensures
-    (told_is _ _ _ _ _ _ _ _ _ (rw c.witnessing_of-asked.ensures at c.decide-ending.ensures.words) (rw c.witnessing_of-asked.ensures at c.decide-ending.ensures.ends)
+    (told_is _ _ _ _ _ _ _ _ _ _ (rw c.witnessing_of-asked.ensures at c.decide-ending.ensures.words) (rw c.witnessing_of-asked.ensures at c.decide-ending.ensures.ends)
     (rw c.witnessing_of-asked.ensures at (rw c.file_of.ensures at c.tell.ensures)))
 
 pub returns-clause-complete : goal.returns-clause-complete

@@ -1,3 +1,4 @@
+-- The ends so far were taken in, with those that are left they are all, and there is room for these.
 use Rattle.std.proofs.Common.{◌≡◌, ◌+◌, ◌≤◌, ◌++◌, length, vec_len}
 use Rattle.std.specs.Vec.{vec_capacity}
 use Rattle.sv_play.specs.Left.{ends_from}

@@ -1,3 +1,4 @@
+-- The tasks are those of all sessions and all clients.
 use Rattle.std.proofs.Common.{slice_get, sym, ap, subst, ◌∙◌}
 use Rattle.sv_play.specs.Places.{EachClient}
 use Rattle.sv_play.specs.Given.{setting, IsPart}

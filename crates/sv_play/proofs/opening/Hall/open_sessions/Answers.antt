@@ -1,3 +1,4 @@
+-- One session more was opened.
 use Rattle.std.proofs.Common.{◌≡◌, ◌+◌, length, slice_get, sym, ap, ◌∙◌, arith, rules}
 use Rattle.sv_session.specs.Serving.{SessionPass}
 use Rattle.sv_link.specs.declared.side.Side.TheVariants.{Server, Client}

@@ -1,3 +1,4 @@
+-- The sessions so far were opened, each with its pair and its pass.
 use Rattle.std.proofs.Common.{◌≡◌, ◌+◌, length}
 use Rattle.sv_link.specs.declared.side.Side.TheVariants.{Client}
 use Rattle.sv_play.specs.Places.{EachPlace}

@@ -1,3 +1,4 @@
+-- Each client so far is closed, so all are.
 use Rattle.std.proofs.Common.{length, ap, arith}
 use Rattle.sv_replay.proofs.Heading.{all_closed}
 use Rattle.sv_replay.proofs.machine.Machine.are_closed.Goals as goal

@@ -1,3 +1,4 @@
+-- Each client so far is closed.
 use Rattle.std.proofs.Common.{◌≡◌, ℕ, ◌<◌, true, get_or}
 use Rattle.sv_replay.specs.declared.playing.Playing.{Playing}
 use Rattle.sv_replay.proofs.machine.Machine.are_closed.Given as goal

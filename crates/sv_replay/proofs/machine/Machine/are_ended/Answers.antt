@@ -1,3 +1,4 @@
+-- Each session so far had its End, so all had.
 use Rattle.std.proofs.Common.{below_more, sym}
 use Rattle.sv_replay.proofs.machine.Machine.are_ended.Goals as goal
 

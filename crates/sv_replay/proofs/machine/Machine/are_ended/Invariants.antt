@@ -1,3 +1,4 @@
+-- Each session so far had its End.
 use Rattle.std.proofs.Common.{◌≡◌, ℕ, ◌<◌, true}
 use Rattle.sv_journal.specs.Sessions.{is_ended}
 use Rattle.sv_replay.specs.Machine.{stage_of, run_of}

@@ -1,3 +1,4 @@
+-- A client's turn is that of its player.
 use Rattle.std.proofs.Common.{◌≡◌, ◌<◌, length, refl, subst, ap, ◌∙◌, arith, get_or, set}
 use Rattle.std.specs.Vec.{with_item}
 use Rattle.std.proofs.lemmas.Result.{on_ok_weaker}

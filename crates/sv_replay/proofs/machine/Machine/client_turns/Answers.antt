@@ -1,3 +1,4 @@
+-- The turns of all clients.
 use Rattle.std.proofs.Common.{◌+◌, arith}
 use Rattle.sv_replay.proofs.Turns.{turned_from}
 use Rattle.sv_schedule.specs.Players.{player_turn}

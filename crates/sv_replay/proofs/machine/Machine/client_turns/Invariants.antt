@@ -1,3 +1,4 @@
+-- The turns that are left lead to where all lead.
 use Rattle.sv_schedule.specs.Players.{player_turn}
 use Rattle.sv_schedule.specs.Serving.{Run, after_clients}
 use Rattle.sv_replay.specs.Machine.{stage_of, run_of, Heads}

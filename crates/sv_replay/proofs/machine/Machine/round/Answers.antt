@@ -1,3 +1,4 @@
+-- A round is made of the turns of its three parts.
 use Rattle.std.proofs.lemmas.Result.{on_ok_weaker}
 use Rattle.sv_replay.specs.Machine.{stage_of}
 use Rattle.sv_replay.proofs.Heading.{round_became}

@@ -1,8 +1,9 @@
+-- A further round of a run that is done changes nothing.
 use Rattle.std.proofs.Common.{◌-◌, refl, arith}
 use Rattle.sv_scenario.specs.Sessions.{session_count}
 use Rattle.sv_schedule.specs.Players.{repeated}
 use Rattle.sv_schedule.specs.Serving.{Run, round_served}
-use Rattle.sv_schedule.specs.Done.{IsDone}
+use Rattle.sv_schedule.specs.Done.{IsRunDone}
 use Rattle.sv_replay.specs.Machine.{stage_of, run_of}
 use Rattle.sv_replay.proofs.Heading.{heads_start, heads_end, rounds_start, rounds_more, rounds_end, done_became}
 use Rattle.sv_replay.proofs.machine.Machine.run_rounds.Goals as goal
@@ -28,5 +29,5 @@ pub returns-then-are_ended : goal.returns-then-are_ended
 returns-then-are_ended g c =
     let m = stage_of g.S.Server.view c.args.self.now in
     let now = stage_of g.S.Server.view c.loop.self in
-    let done : IsDone now.scenario (run_of now) = record { closed = c.if-are_closed.ensures refl; ended = c.if-are_ended.ensures refl } in
+    let done : IsRunDone now.scenario (run_of now) = record { closed = c.if-are_closed.ensures refl; ended = c.if-are_ended.ensures refl } in
     done_became m now (c.args.rounds - c.loop.counter) _ c.loop.invariant done

@@ -1,3 +1,4 @@
+-- The rounds that are left lead to where all lead.
 use Rattle.std.proofs.Common.{◌-◌}
 use Rattle.sv_scenario.specs.Sessions.{session_count}
 use Rattle.sv_schedule.specs.Players.{repeated}

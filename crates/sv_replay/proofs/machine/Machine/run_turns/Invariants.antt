@@ -1,3 +1,4 @@
+-- The turns that are left lead to where all lead.
 use Rattle.std.proofs.Common.{drop}
 use Rattle.sv_schedule.specs.Serving.{Run, turns_served}
 use Rattle.sv_replay.specs.Machine.{stage_of, run_of, Heads}

@@ -1,3 +1,4 @@
+-- A session that finds nothing to do is done.
 use Rattle.std.proofs.Common.{refl}
 use Rattle.sv_replay.specs.Machine.{stage_of, run_of}
 use Rattle.sv_replay.specs.Work.{work_of_session}

@@ -1,3 +1,4 @@
+-- What is left for a session leads to where all leads, and it gets less.
 use Rattle.sv_replay.specs.Machine.{stage_of, run_of, Heads, after_session}
 use Rattle.sv_replay.specs.Work.{work_of_session}
 use Rattle.sv_replay.proofs.machine.Machine.serve_all.Given as goal

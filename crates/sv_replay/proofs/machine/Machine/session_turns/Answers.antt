@@ -1,3 +1,4 @@
+-- The turns of all sessions.
 use Rattle.std.proofs.Common.{◌≡◌, ◌+◌, ◌<◌, ◌≤◌, drop, sym, subst, ap, ◌∙◌, arith}
 use Rattle.sv_world.specs.Control.{below}
 use Rattle.sv_journal.specs.Answer.{Rules}

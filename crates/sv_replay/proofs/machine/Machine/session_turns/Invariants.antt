@@ -1,3 +1,4 @@
+-- The sessions that are left lead to where all lead.
 use Rattle.std.proofs.Common.{drop}
 use Rattle.sv_world.specs.Control.{below}
 use Rattle.sv_scenario.specs.Sessions.{session_count}

@@ -1,3 +1,4 @@
+-- A client for which no reply waits has taken all.
 use Rattle.std.proofs.Common.{refl, arith}
 use Rattle.sv_replay.specs.Machine.{stage_of, run_of}
 use Rattle.sv_replay.specs.Work.{work_of_client}

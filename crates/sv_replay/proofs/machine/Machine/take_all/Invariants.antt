@@ -1,3 +1,4 @@
+-- The replies that are left lead to where all lead, and they get fewer.
 use Rattle.sv_replay.specs.Machine.{stage_of, run_of, Heads, after_take}
 use Rattle.sv_replay.specs.Work.{work_of_client}
 use Rattle.sv_replay.proofs.machine.Machine.take_all.Given as goal

@@ -1,3 +1,4 @@
+-- The replies of all clients.
 use Rattle.std.proofs.Common.{◌+◌, arith}
 use Rattle.sv_schedule.specs.Players.{take_turns}
 use Rattle.sv_schedule.specs.Serving.{Run}

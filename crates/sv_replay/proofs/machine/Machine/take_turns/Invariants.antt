@@ -1,3 +1,4 @@
+-- The clients that are left lead to where all lead.
 use Rattle.sv_schedule.specs.Players.{take_turns}
 use Rattle.sv_schedule.specs.Serving.{Run, after_takes}
 use Rattle.sv_replay.specs.Machine.{stage_of, run_of, Heads}

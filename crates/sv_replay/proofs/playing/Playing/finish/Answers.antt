@@ -1,3 +1,4 @@
+-- A client with no step left leaves, and then closes.
 use Rattle.std.proofs.Common.{true, false, [], refl, sym, ◌∙◌, subst}
 use Rattle.std.proofs.lemmas.Result.{on_ok_weaker}
 use Rattle.sv_client.specs.declared.trace.Event.TheVariants as events

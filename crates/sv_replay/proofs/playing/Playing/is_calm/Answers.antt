@@ -1,3 +1,4 @@
+-- As many requests are outstanding as of the player.
 use Rattle.std.proofs.Common.{List, length, sym, ap, ◌∙◌}
 use Rattle.std.specs.Prelude.{nat_lt}
 use Rattle.sv_wire.specs.declared.message.Request.{Request}

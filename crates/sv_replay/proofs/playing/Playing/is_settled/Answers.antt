@@ -1,3 +1,4 @@
+-- None is outstanding just where none is of the player.
 use Rattle.std.proofs.Common.{nat_eq, List, length, sym, ap, ◌∙◌}
 use Rattle.sv_wire.specs.declared.message.Request.{Request}
 use Rattle.sv_client.proofs.Shifts.{up_outstanding}

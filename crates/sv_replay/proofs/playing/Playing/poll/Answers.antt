@@ -1,3 +1,4 @@
+-- A poll is asked where there is room for it.
 use Rattle.std.proofs.Common.{false, refl, sym, ◌∙◌, subst}
 use Rattle.std.proofs.lemmas.Result.{on_ok_weaker}
 use Rattle.sv_client.specs.declared.trace.Event.TheVariants as events

@@ -1,3 +1,4 @@
+-- The session that a client is in, or joins next.
 use Rattle.std.proofs.Common.{◌≡◌, ◌+◌, ◌-◌, ◌≤◌, sym, ap, ◌∙◌, arith}
 use Rattle.sv_client.specs.Traces.{joins}
 use Rattle.sv_client.proofs.Shifts.{up_joins}

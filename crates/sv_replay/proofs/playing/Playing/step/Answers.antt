@@ -1,3 +1,4 @@
+-- Each step makes the client the next player.
 use Rattle.std.proofs.Common.{◌≡◌, false, List, ◌∷◌, refl, sym, ap, ◌∙◌, subst}
 use Rattle.std.proofs.lemmas.Result.{on_ok_weaker}
 use Rattle.sv_client.specs.declared.trace.Event.TheVariants as events

@@ -1,3 +1,4 @@
+-- The next reply is one that the client takes.
 use Rattle.std.proofs.Common.{List, ◌++◌, sym, ap, subst, ◌∙◌}
 use Rattle.std.specs.Prelude.{All}
 use Rattle.sv_wire.specs.declared.message.Request.{Request}

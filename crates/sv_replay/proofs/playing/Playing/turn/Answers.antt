@@ -1,3 +1,4 @@
+-- A turn makes the client the next player.
 use Rattle.std.proofs.Common.{sym, ◌∙◌, subst}
 use Rattle.std.proofs.lemmas.Result.{on_ok_weaker}
 use Rattle.sv_schedule.specs.Players.{Player}

@@ -1,3 +1,4 @@
+-- A sequencer answers by the table.
 use Rattle.sv_replay.proofs.Served.{sequencer_answers}
 use Rattle.sv_replay.proofs.server.SequencerServer.step.Goals as goal
 

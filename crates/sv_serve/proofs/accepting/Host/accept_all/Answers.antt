@@ -1,3 +1,4 @@
+-- One session more, and giving all back where there is none.
 use Rattle.std.proofs.Common.{rules, ◌≡◌, ◌+◌, length, slice_get, sym, ap, ◌∙◌, arith}
 use Rattle.sv_link.specs.declared.side.Side.TheVariants.{Server}
 use Rattle.sv_session.specs.Serving.{SessionPass}
@@ -14,7 +15,7 @@ returns-in_err-services-clause-back g c = on_err c.from_residual.result _ (none_
 pub give_back_all-requires-clause-own : goal.give_back_all-requires-clause-own
 give_back_all-requires-clause-own g c κs within =
     let i = c.loop.invariant in
-    let run = setting c.args.self.now.lock.now c.args.self.now.scenario.now (g.D.Door.made c.args.door.now) (g.D.Door.sure c.args.door.now c.args.port) in
+    let run = setting c.args.self.now.lock.now c.args.self.now.scenario.now (g.D.Door.made c.args.door.now) (g.D.Door.sure c.args.door.now c.args.self.now.port) in
     let made = i.made in
     let count = i.count in
     let same = c.in-Err.ensures.none.0 in
@@ -29,7 +30,7 @@ loop-preserved g c =
     let lock = c.args.self.now.lock.now in
     let scenario = c.args.self.now.scenario.now in
     let pairs = g.D.Door.made c.args.door.now in
-    let run = setting lock scenario pairs (g.D.Door.sure c.args.door.now c.args.port) in
+    let run = setting lock scenario pairs (g.D.Door.sure c.args.door.now c.args.self.now.port) in
     let opened = c.in-Ok.ensures in
     let made : c.loop.keeper.made ≡ c.loop.counter = ap (λ (k : SessionPass). k.made) i.keeper in
     let at = sym i.count in
@@ -50,8 +51,8 @@ loop-preserved g c =
             pass = opened.service.1 ∙ ap (λ n. pass_of n lock scenario) (made ∙ at);
             low = omega (arith, at, low, most);
             end =
-                new_end_as told faults calm run (g.D.Door.sure c.loop.door c.args.port) (g.D.Door.sure c.args.door.now c.args.port) Server (g.D.Door.made c.loop.door) (pairs + length c.loop.services.items) c.in-Ok.service.end
-                (i.sure c.args.port) (i.made ∙ ap (λ n. pairs + n) at) opened.end;
+                new_end_as told faults calm run (g.D.Door.sure c.loop.door c.args.self.now.port) (g.D.Door.sure c.args.door.now c.args.self.now.port) Server (g.D.Door.made c.loop.door) (pairs + length c.loop.services.items) c.in-Ok.service.end
+                (i.sure c.args.self.now.port) (i.made ∙ ap (λ n. pairs + n) at) opened.end;
           })
           k x (sym (ap (λ l. slice_get l k) c.push_reserved.ensures.items) ∙ e);
       made = omega (arith, more, made_so);

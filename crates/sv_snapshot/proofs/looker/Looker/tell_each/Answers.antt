@@ -1,3 +1,4 @@
+-- One snapshot more is told.
 use Rattle.std.proofs.Common.{◌≡◌, ◌+◌, ◌∷◌, [], ◌++◌, take, map, refl, ap, sym, ◌∙◌, append_assoc}
 use Rattle.std.proofs.lemmas.List.{map_more}
 use Rattle.sv_snapshot.specs.Lines.{look_line}

@@ -1,3 +1,4 @@
+-- The lines of the snapshots so far.
 use Rattle.std.proofs.Common.{◌≡◌, ◌++◌, take, map}
 use Rattle.sv_snapshot.specs.Lines.{look_line}
 use Rattle.sv_snapshot.proofs.looker.Looker.tell_each.Given as goal

@@ -1,3 +1,4 @@
+-- A server that hears lies answers what it hears.
 use Rattle.std.proofs.Common.{refl, sym, ap, ◌∙◌}
 use Rattle.sv_journal.specs.Sessions.{is_end}
 use Rattle.sv_sequencer.specs.Step.{history}

@@ -19,7 +19,9 @@ use Rattle.sv_asked.specs.Asked.{EventFits}
 use Rattle.sv_asked.specs.Numbers.{StepFits, PlanFits}
 use Rattle.sv_asked.proofs.Every.{each-reverse}
 use Rattle.sv_schedule.specs.Players.{Player, trace_of_player}
+use Rattle.sv_schedule.specs.Serving.{traces_of}
 use Rattle.sv_schedule.specs.Sound.{IsPlaying, ArePlaying}
+use Rattle.sv_replay.specs.Playable.{MadeActionsFit}
 
 synced_fit : (ss : List Step) → AllByRecursion StepFits ss → AllByRecursion StepFits (after_syncs ss)
 synced_fit [] all = tt
@@ -76,3 +78,8 @@ pub players_made : (shape : Shape) (k s : ℕ) (plans : List Plan) (ps : List Pl
 players_made shape k s plans [] fits w = tt
 players_made shape k s [] (p ∷ ps) fits w = absurd w
 players_made shape k s (plan ∷ plans) (p ∷ ps) fits w = (player_made shape k s plan p w.0 fits.0, players_made shape (suc k) (s + sessions_of_plan plan) plans ps fits.1 w.1)
+
+pub actions_made : MadeActionsFit
+actions_made server scenario run numbers sound =
+    All-from_recursion (λ (L : Trace). All EventFits L.events) (traces_of run)
+    (players_made scenario.world.shape 0 0 scenario.clients run.players (recursion_from_All PlanFits scenario.clients numbers.plans) sound.players)

@@ -1,3 +1,4 @@
+-- What a run on threads leaves is what its tasks left.
 use Rattle.std.proofs.Common.{rules, ◌++◌, [], ◌∷◌, length, reverse, sym, ap, subst, ◌∙◌, arith}
 use Rattle.std.specs.List.{flat_map}
 use denote.Param.Send.{sendable}
@@ -12,14 +13,14 @@ use Rattle.sv_play.specs.Playing.{IsThreadedRun, TookAllIn}
 use Rattle.sv_play.proofs.Ready.{tasks_ready}
 use Rattle.sv_play.proofs.Sent.{client-field-sends, trace-field-sends, step-syncs}
 use Rattle.sv_play.proofs.Done.{passes, numbers, room, are_pairs, are_calm, two_differ, owed_enough, took_all, threaded, told_all}
-use Rattle.sv_play.proofs.play.play_with.Goals as goal
+use Rattle.sv_play.proofs.play.Hall.play.Goals as goal
 
 pub run_all-requires-clause-ready : goal.run_all-requires-clause-ready
 run_all-requires-clause-ready g c κs within =
     let told = g.N.E.End.told in
     let faults = g.N.E.End.faults in
     let calm = g.N.E.End.calm in
-    let run = setting c.args.lock.now c.args.scenario.now (g.N.Net.made c.args.net.now) (g.N.Net.calm c.args.net.now) in
+    let run = setting c.args.self.now.lock.now c.args.self.now.scenario.now (g.N.Net.made c.args.net.now) (g.N.Net.calm c.args.net.now) in
     let t = c.in_ok-tasks.ensures in
     let ts = c.in_ok-tasks.tasks.items in
     tasks_ready told faults calm _ run c.requires.good ts t.services t.parts
@@ -29,7 +30,7 @@ gather-requires-clause-passes g c =
     let told = g.N.E.End.told in
     let faults = g.N.E.End.faults in
     let calm = g.N.E.End.calm in
-    let run = setting c.args.lock.now c.args.scenario.now (g.N.Net.made c.args.net.now) (g.N.Net.calm c.args.net.now) in
+    let run = setting c.args.self.now.lock.now c.args.self.now.scenario.now (g.N.Net.made c.args.net.now) (g.N.Net.calm c.args.net.now) in
     let t = c.in_ok-tasks.ensures in
     let ts = c.in_ok-tasks.tasks.items in
     let os = c.in-Done.outs.items in
@@ -41,7 +42,7 @@ gather-requires-clause-numbers g c =
     let told = g.N.E.End.told in
     let faults = g.N.E.End.faults in
     let calm = g.N.E.End.calm in
-    let run = setting c.args.lock.now c.args.scenario.now (g.N.Net.made c.args.net.now) (g.N.Net.calm c.args.net.now) in
+    let run = setting c.args.self.now.lock.now c.args.self.now.scenario.now (g.N.Net.made c.args.net.now) (g.N.Net.calm c.args.net.now) in
     let t = c.in_ok-tasks.ensures in
     let ts = c.in_ok-tasks.tasks.items in
     let os = c.in-Done.outs.items in
@@ -53,13 +54,13 @@ gather-requires-clause-room g c =
     let told = g.N.E.End.told in
     let faults = g.N.E.End.faults in
     let calm = g.N.E.End.calm in
-    let run = setting c.args.lock.now c.args.scenario.now (g.N.Net.made c.args.net.now) (g.N.Net.calm c.args.net.now) in
+    let run = setting c.args.self.now.lock.now c.args.self.now.scenario.now (g.N.Net.made c.args.net.now) (g.N.Net.calm c.args.net.now) in
     let t = c.in_ok-tasks.ensures in
     let ts = c.in_ok-tasks.tasks.items in
     let os = c.in-Done.outs.items in
     let kept = c.in-Done.ensures.kept in
     room told faults calm _ run ts os t.count t.services t.parts kept c.in_ok-left.left
-    (subst (λ n. HasRoom n n (length c.args.scenario.now.clients) c.in_ok-left.left) c.sessions_of.ensures
+    (subst (λ n. HasRoom n n (length c.args.self.now.scenario.now.clients) c.in_ok-left.left) c.sessions_of.ensures
     (subst (λ m. HasRoom c.sessions_of.result c.sessions_of.result m c.in_ok-left.left) c.len.ensures c.in_ok-left.ensures.room))
 
 pub settle_all-requires-clause-pairs : goal.settle_all-requires-clause-pairs
@@ -67,7 +68,7 @@ settle_all-requires-clause-pairs g c κs within =
     let told = g.N.E.End.told in
     let faults = g.N.E.End.faults in
     let calm = g.N.E.End.calm in
-    let run = setting c.args.lock.now c.args.scenario.now (g.N.Net.made c.args.net.now) (g.N.Net.calm c.args.net.now) in
+    let run = setting c.args.self.now.lock.now c.args.self.now.scenario.now (g.N.Net.made c.args.net.now) (g.N.Net.calm c.args.net.now) in
     let t = c.in_ok-tasks.ensures in
     let ts = c.in_ok-tasks.tasks.items in
     let os = c.in-Done.outs.items in
@@ -82,7 +83,7 @@ settle_all-requires-clause-owed g c κs within =
     let told = g.N.E.End.told in
     let faults = g.N.E.End.faults in
     let calm = g.N.E.End.calm in
-    let run = setting c.args.lock.now c.args.scenario.now (g.N.Net.made c.args.net.now) (g.N.Net.calm c.args.net.now) in
+    let run = setting c.args.self.now.lock.now c.args.self.now.scenario.now (g.N.Net.made c.args.net.now) (g.N.Net.calm c.args.net.now) in
     let t = c.in_ok-tasks.ensures in
     let ts = c.in_ok-tasks.tasks.items in
     let os = c.in-Done.outs.items in
@@ -105,7 +106,7 @@ returns-then-not-settle_all-clause-certain g c =
     let told = g.N.E.End.told in
     let faults = g.N.E.End.faults in
     let calm = g.N.E.End.calm in
-    let run = setting c.args.lock.now c.args.scenario.now (g.N.Net.made c.args.net.now) (g.N.Net.calm c.args.net.now) in
+    let run = setting c.args.self.now.lock.now c.args.self.now.scenario.now (g.N.Net.made c.args.net.now) (g.N.Net.calm c.args.net.now) in
     let t = c.in_ok-tasks.ensures in
     let ts = c.in_ok-tasks.tasks.items in
     let os = c.in-Done.outs.items in
@@ -122,7 +123,7 @@ returns-clause-run g c =
     let told = g.N.E.End.told in
     let faults = g.N.E.End.faults in
     let calm = g.N.E.End.calm in
-    let run = setting c.args.lock.now c.args.scenario.now (g.N.Net.made c.args.net.now) (g.N.Net.calm c.args.net.now) in
+    let run = setting c.args.self.now.lock.now c.args.self.now.scenario.now (g.N.Net.made c.args.net.now) (g.N.Net.calm c.args.net.now) in
     let t = c.in_ok-tasks.ensures in
     let ts = c.in_ok-tasks.tasks.items in
     let os = c.in-Done.outs.items in
@@ -130,9 +131,9 @@ returns-clause-run g c =
     let left = c.gather.new.left in
     let k = c.gather.new.keeper in
     let joined = subst (λ b. Joined (serviced_of os) b k) t.keeper c.gather.ensures.joined in
-    let good : IsGoodRun c.args.scenario.now = record { good = c.requires.good; opening = c.read_scenario_numbers.ensures.values } in
+    let good : IsGoodRun c.args.self.now.scenario.now = record { good = c.requires.good; opening = c.read_scenario_numbers.ensures.values } in
     let settled = c.settle_all.ensures.settled (search rules) in
-    subst (λ traces. IsThreadedRun c.args.scenario.now (reverse k.seen) traces (g.N.Net.settled c.args.net.now) (g.N.Net.settled c.settle_all.new.net) (g.C.Crew.ran c.args.crew.now) (g.C.Crew.ran c.run_all.new.self)) (sym c.from_vec.ensures)
+    subst (λ traces. IsThreadedRun c.args.self.now.scenario.now (reverse k.seen) traces (g.N.Net.settled c.args.net.now) (g.N.Net.settled c.settle_all.new.net) (g.C.Crew.ran c.args.crew.now) (g.C.Crew.ran c.run_all.new.self)) (sym c.from_vec.ensures)
     (threaded told faults calm _ run ts os t.count t.services t.parts kept left k c.gather.ensures.gathered joined good c.if-lacked.false (c.settle_all.ensures.agree (search rules)) c.threaded_runs_leave_records.ensures.full c.threaded_runs_leave_records.ensures.traffic
     (g.N.Net.settled c.args.net.now) (g.N.Net.settled c.settle_all.new.net) (g.C.Crew.ran c.args.crew.now) (g.C.Crew.ran c.run_all.new.self)
     (settled ∙ ap (λ l. l ++ transcripts_of told faults left.servers.items left.clients.items) t.settled) (c.in-Done.ensures.ran ∙ ap (λ n. g.C.Crew.ran c.args.crew.now ++ n ∷ []) c.in_ok-tasks.tasks.ok.0))
@@ -142,7 +143,7 @@ returns-clause-lines g c =
     let told = g.N.E.End.told in
     let faults = g.N.E.End.faults in
     let calm = g.N.E.End.calm in
-    let run = setting c.args.lock.now c.args.scenario.now (g.N.Net.made c.args.net.now) (g.N.Net.calm c.args.net.now) in
+    let run = setting c.args.self.now.lock.now c.args.self.now.scenario.now (g.N.Net.made c.args.net.now) (g.N.Net.calm c.args.net.now) in
     let t = c.in_ok-tasks.ensures in
     let ts = c.in_ok-tasks.tasks.items in
     let os = c.in-Done.outs.items in
@@ -150,7 +151,7 @@ returns-clause-lines g c =
     let left = c.gather.new.left in
     let k = c.gather.new.keeper in
     let joined = subst (λ b. Joined (serviced_of os) b k) t.keeper c.gather.ensures.joined in
-    let good : IsGoodRun c.args.scenario.now = record { good = c.requires.good; opening = c.read_scenario_numbers.ensures.values } in
+    let good : IsGoodRun c.args.self.now.scenario.now = record { good = c.requires.good; opening = c.read_scenario_numbers.ensures.values } in
     c.in_ok-all_lines.ensures
     ∙ (told_all told faults calm _ run ts os t.count t.services t.parts kept left k c.gather.ensures.gathered joined good c.if-lacked.false (c.settle_all.ensures.agree (search rules)) ∙ ap (flat_map told_lines) (sym c.from_vec.ensures))
 
@@ -159,7 +160,7 @@ returns-clause-keeper g c =
     let told = g.N.E.End.told in
     let faults = g.N.E.End.faults in
     let calm = g.N.E.End.calm in
-    let run = setting c.args.lock.now c.args.scenario.now (g.N.Net.made c.args.net.now) (g.N.Net.calm c.args.net.now) in
+    let run = setting c.args.self.now.lock.now c.args.self.now.scenario.now (g.N.Net.made c.args.net.now) (g.N.Net.calm c.args.net.now) in
     let t = c.in_ok-tasks.ensures in
     let ts = c.in_ok-tasks.tasks.items in
     let os = c.in-Done.outs.items in
@@ -167,8 +168,8 @@ returns-clause-keeper g c =
     let left = c.gather.new.left in
     let k = c.gather.new.keeper in
     let joined = subst (λ b. Joined (serviced_of os) b k) t.keeper c.gather.ensures.joined in
-    let good : IsGoodRun c.args.scenario.now = record { good = c.requires.good; opening = c.read_scenario_numbers.ensures.values } in
-    subst (λ b. TookAllIn c.args.scenario.now b k) (sym c.requires.keeper)
+    let good : IsGoodRun c.args.self.now.scenario.now = record { good = c.requires.good; opening = c.read_scenario_numbers.ensures.values } in
+    subst (λ b. TookAllIn c.args.self.now.scenario.now b k) (sym c.requires.keeper)
     (took_all told faults calm _ run ts os t.count t.services t.parts kept left k c.gather.ensures.gathered joined good)
 
 pub run_all-requires-send-J : goal.run_all-requires-send-J
