@@ -15,15 +15,19 @@ use Rattle.sv_journal.specs.Answer.{Rules, relay_of}
 use Rattle.sv_journal.specs.Serving.{Keeping, reply_for, LegalFor, IsKeeping}
 use Rattle.sv_journal.proofs.Kept.{sent-kept, commit_within-kept}
 use Rattle.sv_journal.proofs.Replies.{each_reply}
-use Rattle.law_journal.specs.Brought.{IsMadeBy, EndsWith, BringsUnlessSent, BringsFor, BringsBy, BringsWhatIsAsked, ServedRelaysBringWhatIsAsked}
+use Rattle.law_journal.specs.Brought.{IsMadeBy, EndsWith, AreUpTo, BringsUnlessSent, BringsFor, BringsBy, BringsWhatIsAsked, ServedRelaysBringWhatIsAsked}
 use Rattle.law_journal.proofs.EveryEntry.{entry_of, each-entry}
 use Rattle.law_journal.proofs.Staying.{added}
 use Rattle.law_journal.proofs.Makers.{made-more, made-new, kept-made}
 
--- Two laws of sv_world: what a session lacks of a position above the commit ends with it, and is nothing where the position was sent to it.
+-- Laws of sv_world: what a session lacks of a position above the commit ends with it, has none above it, and is nothing where the position was
+-- sent to the session.
 abbrev pub NeededEnds : Type 0
 NeededEnds = (A : List Action) (commit : ℕ) (sent : List ℕ) (i : ℕ) → commit < i → is_in i sent ≡ false →
     (earlier : List ℕ) × (needed_for A commit sent i ≡ earlier ++ i ∷ [])
+
+abbrev pub NeededUpTo : Type 0
+NeededUpTo = (A : List Action) (commit : ℕ) (sent : List ℕ) (i j : ℕ) → commit < i → is_in j (needed_for A commit sent i) ≡ true → (commit < j) × (j ≤ i)
 
 abbrev pub NoneOfSent : Type 0
 NoneOfSent = (A : List Action) (commit : ℕ) (sent : List ℕ) (i : ℕ) → is_in i sent ≡ true → needed_for A commit sent i ≡ []
@@ -38,7 +42,7 @@ not-relayed k h A s q logged.Idle e = tt
 not-relayed k h A s q (logged.Refused code detail) e = tt
 not-relayed k h A s q logged.Bye e = tt
 
-module _ (ends : NeededEnds) (none : NoneOfSent) (k : Keeping) (law : IsKeeping k) (r : Rules) (h : List Entry) (s : ℕ) where
+module _ (ends : NeededEnds) (up_to : NeededUpTo) (none : NoneOfSent) (k : Keeping) (law : IsKeeping k) (r : Rules) (h : List Entry) (s : ℕ) where
   -- The positions of a relay of position p among the actions A.
   abbrev relayed : List Action → ℕ → List ℕ
   relayed A p = needed_for A (commit_of (k.kept h)) (sent_to (k.kept h) s) p
@@ -50,8 +54,12 @@ module _ (ends : NeededEnds) (none : NoneOfSent) (k : Keeping) (law : IsKeeping 
   new-ends A p above free =
       ends A (commit_of (k.kept h)) (sent_to (k.kept h) s) p above (ap (λ (l : List ℕ). is_in p l) (sym marks) ∙ free)
 
+  none-above : (A : List Action) (p : ℕ) → commit_of (k.kept h) < p → AreUpTo p (relayed A p)
+  none-above A p above q m = (up_to A (commit_of (k.kept h)) (sent_to (k.kept h) s) p q above m).1
+
   unless-sent : (A : List Action) (p : ℕ) → commit_of (k.kept h) < p → BringsUnlessSent h s p (relayed A p)
   unless-sent A p above = record {
+    up_to = none-above A p above;
     unsent = λ free. new-ends A p above free;
     sent = λ m. none A (commit_of (k.kept h)) (sent_to (k.kept h) s) p (ap (λ (l : List ℕ). is_in p l) (sym marks) ∙ m);
   }
@@ -67,7 +75,7 @@ module _ (ends : NeededEnds) (none : NoneOfSent) (k : Keeping) (law : IsKeeping 
       BringsFor k h (accepted (entry_of s q w ∷ h)) s q (relayed (actions_of h) p)
   polled q w p later asked first above free =
       subst (λ (x : Request). BringsFor k h (accepted (entry_of s q w ∷ h)) s x (relayed (actions_of h) p)) (sym asked)
-      (p, (later, (first, new-ends (actions_of h) p above free)))
+      (p, (later, (first, (none-above (actions_of h) p above, new-ends (actions_of h) p above free))))
 
   pub brings-here : (q : Request) → BringsWhatIsAsked k h (entry_of s q (reply_for k r h s q))
   brings-here q = each_reply k law r h s (λ (w : Logged). BringsBy k h (accepted (entry_of s q w ∷ h)) s q w) q (record {
@@ -90,6 +98,6 @@ module _ (ends : NeededEnds) (none : NoneOfSent) (k : Keeping) (law : IsKeeping 
         polled q w p ps asked first (law.above h s p due) (law.unsent h s p due open_still);
   })
 
-pub served_bring : NeededEnds → NoneOfSent → ServedRelaysBringWhatIsAsked
-served_bring ends none k r h law legal =
-    each-entry k r (BringsWhatIsAsked k) (λ g s q before. brings-here ends none k law r g s q) h legal
+pub served_bring : NeededEnds → NeededUpTo → NoneOfSent → ServedRelaysBringWhatIsAsked
+served_bring ends up_to none k r h law legal =
+    each-entry k r (BringsWhatIsAsked k) (λ g s q before. brings-here ends up_to none k law r g s q) h legal

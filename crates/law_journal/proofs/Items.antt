@@ -23,7 +23,7 @@ use Rattle.law_journal.specs.Brought.{IsMadeBy, EndsWith, BringsUnlessSent, Brin
 use Rattle.law_journal.proofs.EveryEntry.{entry_of, each-entry}
 use Rattle.law_journal.proofs.Staying.{added}
 use Rattle.law_journal.proofs.Makers.{made-less}
-use Rattle.law_journal.proofs.Asked.{NeededEnds, NoneOfSent, brings-here}
+use Rattle.law_journal.proofs.Asked.{NeededEnds, NeededUpTo, NoneOfSent, brings-here}
 
 -- ---- What was sent was accepted
 
@@ -81,7 +81,7 @@ module _ (k : Keeping) (h : List Entry) (s : ℕ) (within : (p : ℕ) → is_in 
   some-positions (requests.Submit seq a) w positions asks b =
       let made = b.1.1.1.0 in
       ends-some b.1.1.0 positions (b.1.1.1.1.unsent (not-sent seq a w b.0 b.1.1.0 asks b.1.0 made))
-  some-positions requests.Poll w positions asks b = ends-some b.0 positions b.1.1.1
+  some-positions requests.Poll w positions asks b = ends-some b.0 positions b.1.1.1.1
   some-positions (requests.Join client life interest) w positions asks b = absurd b
   some-positions (requests.Done results) w positions asks b = absurd b
   some-positions requests.Leave w positions asks b = absurd b
@@ -102,11 +102,14 @@ module _ (k : Keeping) (h : List Entry) (s : ℕ) (within : (p : ℕ) → is_in 
   some-items q w (logged.Refused code detail) A asks b = tt
   some-items q w logged.Bye A asks b = tt
 
-pub served_items : NeededEnds → NoneOfSent → ServedRelaysNameAccepted → ServedRelaysHaveItems
-served_items ends none named k r h law legal = each-entry k r HasItemsUnlessSent here h legal
-  where
-    here : (g : List Entry) (s : ℕ) (q : Request) → LegalFor k r g → HasItemsUnlessSent g (entry_of s q (reply_for k r g s q))
-    here g s q before asks =
-        let w = reply_for k r g s q in
-        let all = recursion_from_All (λ (e : Entry). NamesAccepted (length (accepted g)) e.reply) g (named k r g law before) in
-        some-items k g s (λ p m. sent-within (length (accepted g)) g s p all m) q w w (accepted (entry_of s q w ∷ g)) asks (brings-here ends none k law r g s q)
+-- Of the next reply to a session.
+pub items-here : NeededEnds → NeededUpTo → NoneOfSent → ServedRelaysNameAccepted → (k : Keeping) → IsKeeping k → (r : Rules) (h : List Entry) (s : ℕ) (q : Request) → LegalFor k r h →
+    HasItemsUnlessSent h (entry_of s q (reply_for k r h s q))
+items-here ends up_to none named k law r h s q before asks =
+    let w = reply_for k r h s q in
+    let all = recursion_from_All (λ (e : Entry). NamesAccepted (length (accepted h)) e.reply) h (named k r h law before) in
+    some-items k h s (λ p m. sent-within (length (accepted h)) h s p all m) q w w (accepted (entry_of s q w ∷ h)) asks (brings-here ends up_to none k law r h s q)
+
+pub served_items : NeededEnds → NeededUpTo → NoneOfSent → ServedRelaysNameAccepted → ServedRelaysHaveItems
+served_items ends up_to none named k r h law legal =
+    each-entry k r HasItemsUnlessSent (λ g s q before. items-here ends up_to none named k law r g s q before) h legal

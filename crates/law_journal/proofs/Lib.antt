@@ -5,4 +5,6 @@ pub mod Zeros
 pub mod Makers
 pub mod Asked
 pub mod Items
+pub mod Ascends
+pub mod InOrder
 pub mod Answered

@@ -23,7 +23,7 @@ authored-front : (A more : List Authored) (p : ℕ) → p ≤ length A → autho
 authored-front A more zero last = refl
 authored-front A more (suc n) last = get_or_append_left A more (record { client = 0; seq = 0; action = blank }) n (omega arith)
 
-authored-last : (A : List Authored) (x : Authored) → authored_at (A ++ x ∷ []) (suc (length A)) ≡ x
+pub authored-last : (A : List Authored) (x : Authored) → authored_at (A ++ x ∷ []) (suc (length A)) ≡ x
 authored-last A x = get_or_push A x (record { client = 0; seq = 0; action = blank }) (length A) refl
 
 pub made-more : (A more : List Authored) (client number p : ℕ) → IsMadeBy A client number p → IsMadeBy (A ++ more) client number p

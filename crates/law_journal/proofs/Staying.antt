@@ -15,7 +15,7 @@ use Rattle.law_journal.proofs.Greatest.{commit-most, all-to-commit, commit-great
 abbrev pub added : Entry → List Entry → List Authored
 added e h = if is_relay e.reply then new_action (client_of h e.session) (λ k. suc (length (outcomes_of h k))) e.request else []
 
-accepted-stays : (later earlier : List Entry) → (more : List Authored) × (accepted (later ++ earlier) ≡ accepted earlier ++ more)
+pub accepted-stays : (later earlier : List Entry) → (more : List Authored) × (accepted (later ++ earlier) ≡ accepted earlier ++ more)
 accepted-stays [] h = ([], sym (append-nil (accepted h)))
 accepted-stays (e ∷ later) h =
     let rest = accepted-stays later h in

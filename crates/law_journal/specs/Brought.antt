@@ -1,6 +1,6 @@
 -- What is said of the positions and items of relays.
 -- A history is the list of a journal's entries with the latest first.
-use Rattle.std.specs.Prelude.{◌≡◌, ℕ, ◌≤◌, true, false, List, [], ◌∷◌, ◌++◌, length, Some}
+use Rattle.std.specs.Prelude.{◌≡◌, ◌⊎◌, ℕ, ◌<◌, ◌≤◌, true, false, All, List, [], ◌∷◌, ◌++◌, length, Some}
 use Rattle.sv_world.specs.declared.action.Action.{Action}
 use Rattle.sv_world.specs.Control.{is_in}
 use Rattle.sv_wire.specs.declared.message.Request.{Request}
@@ -10,7 +10,7 @@ use Rattle.sv_wire.specs.declared.message.Reply.TheVariants as replies
 use Rattle.sv_journal.specs.declared.entry.Entry.{Entry}
 use Rattle.sv_journal.specs.declared.entry.Logged.{Logged}
 use Rattle.sv_journal.specs.declared.entry.Logged.TheVariants as logged
-use Rattle.sv_journal.specs.History.{Authored, client_of, accepted, authored_at, full_reply}
+use Rattle.sv_journal.specs.History.{Authored, client_of, next_seq, accepted, authored_at, full_reply}
 use Rattle.sv_journal.specs.Sessions.{sent_to}
 use Rattle.sv_journal.specs.Serving.{Keeping, plain}
 use Rattle.sv_client.specs.declared.trace.Event.{Event}
@@ -30,8 +30,13 @@ pub record IsMadeBy (A : List Authored) (client number p : ℕ) : Type 0 where
 abbrev pub EndsWith : ℕ → List ℕ → Type 0
 EndsWith p positions = (earlier : List ℕ) × (positions ≡ earlier ++ p ∷ [])
 
--- After the entries h, a session that asks for position p is sent positions that end with it; and none, where p was sent to it before.
+abbrev pub AreUpTo : ℕ → List ℕ → Type 0
+AreUpTo p positions = (q : ℕ) → is_in q positions ≡ true → q ≤ p
+
+-- After the entries h, a session that asks for position p is sent none above it, and p as the last one; and none at all, where p was sent to it
+-- before.
 pub record BringsUnlessSent (h : List Entry) (s p : ℕ) (positions : List ℕ) : Type 0 where
+  pub up_to : AreUpTo p positions
   pub unsent : is_in p (sent_to h s) ≡ false → EndsWith p positions
   pub sent : is_in p (sent_to h s) ≡ true → positions ≡ []
 
@@ -40,7 +45,7 @@ pub record BringsUnlessSent (h : List Entry) (s p : ℕ) (positions : List ℕ) 
 abbrev pub BringsFor : Keeping → List Entry → List Authored → ℕ → Request → List ℕ → Type 0
 BringsFor k h A s (requests.Submit seq action) positions =
     (client : ℕ) × ((client_of h s ≡ Some client) × ((p : ℕ) × (IsMadeBy A client seq p × BringsUnlessSent h s p positions)))
-BringsFor k h A s requests.Poll positions = (p : ℕ) × ((later : List ℕ) × ((k.due h s ≡ p ∷ later) × EndsWith p positions))
+BringsFor k h A s requests.Poll positions = (p : ℕ) × ((later : List ℕ) × ((k.due h s ≡ p ∷ later) × (AreUpTo p positions × EndsWith p positions)))
 BringsFor k h A s _ positions = ⊥
 
 abbrev pub BringsBy : Keeping → List Entry → List Authored → ℕ → Request → Logged → Type 0
@@ -78,6 +83,32 @@ LegalRelaysHaveItems = HoldsInLegal HasItemsUnlessSent
 
 abbrev pub ServedRelaysHaveItems : Type 0
 ServedRelaysHaveItems = HoldsInServed (λ k. HasItemsUnlessSent)
+
+-- ---- Sessions in order
+
+-- What a session may have asked before it repeats a Submit of the number n: no Poll, and Submits of lower numbers alone.
+abbrev pub MayStandBefore : ℕ → Request → Type 0
+MayStandBefore n (requests.Submit seq action) = seq < n
+MayStandBefore n requests.Poll = ⊥
+MayStandBefore n _ = Unit {0}
+
+-- A Submit has its client's next number, or repeats one in order.
+abbrev pub SubmitsInOrder : List Entry → ℕ → Request → Type 0
+SubmitsInOrder h s (requests.Submit seq action) =
+    ((client : ℕ) → client_of h s ≡ Some client → seq ≡ next_seq h client) ⊎ All (λ (d : Entry). d.session ≡ s → MayStandBefore seq d.request) h
+SubmitsInOrder h s _ = Unit {0}
+
+-- A session that asks in order asks for nothing that was sent to it, and each relay to it has items.
+abbrev pub AsksForNews : List Entry → Entry → Type 0
+AsksForNews h e = SubmitsInOrder h e.session e.request → AsksForNothingSent h e × HasItems (full_reply (accepted (e ∷ h)) e.reply)
+
+abbrev pub LegalSessionsInOrderGetItems : Type 0
+LegalSessionsInOrderGetItems = HoldsInLegal AsksForNews
+
+abbrev pub ServedSessionsInOrderGetItems : Type 0
+ServedSessionsInOrderGetItems = HoldsInServed (λ k. AsksForNews)
+
+-- ---- Clients
 
 -- Each relay that a client took has items, whoever sent it.
 abbrev pub TakenRelaysHaveItems : Type 0

@@ -27,11 +27,11 @@ NextHasNoResult = (h : List Entry) → commit_of h < length (accepted h) → res
 
 -- What a history has stays in a longer one: its accepted actions are the first of those, its results are results, the commit is no less, and the
 -- values at each position up to it are the same.
-pub record Keeps (earlier whole : List Entry) : Type 0 where
+pub record StaysIn (earlier whole : List Entry) : Type 0 where
   pub actions : (later : List Authored) × (accepted whole ≡ accepted earlier ++ later)
   pub results : (p : ℕ) (values : List (List ℤ)) → result_at earlier p ≡ Some values → result_at whole p ≡ Some values
   pub commit : commit_of earlier ≤ commit_of whole
   pub values : (opening : List (List ℤ)) (p : ℕ) → p ≤ commit_of earlier → installed opening whole p ≡ installed opening earlier p
 
 abbrev pub JournalsKeepWhatTheyHave : Type 0
-JournalsKeepWhatTheyHave = (later earlier : List Entry) → Keeps earlier (later ++ earlier)
+JournalsKeepWhatTheyHave = (later earlier : List Entry) → StaysIn earlier (later ++ earlier)

@@ -1,5 +1,6 @@
 //! Laws of relays: which numbers they tell, and what they bring.
-ghost use Rattle.law_journal.specs.Brought.{LegalRelaysBringWhatIsAsked, LegalRelaysHaveItems, ServedRelaysBringWhatIsAsked, ServedRelaysHaveItems, TakenRelaysHaveItems};
+ghost use Rattle.law_journal.specs.Brought.{LegalRelaysBringWhatIsAsked, LegalRelaysHaveItems, LegalSessionsInOrderGetItems};
+ghost use Rattle.law_journal.specs.Brought.{ServedRelaysBringWhatIsAsked, ServedRelaysHaveItems, ServedSessionsInOrderGetItems, TakenRelaysHaveItems};
 ghost use Rattle.law_journal.specs.Numbered.{LegalRelaysOfZeroAnswerPolls, ServedRelaysOfZeroAnswerPolls, ServedRelaysTellTheirNumbers, TakenRelaysOfZeroAnswerPolls};
 
 use sv_journal::{legal_journals_are_plain, served_relays_name_accepted};
@@ -28,6 +29,18 @@ pub fn relays_bring_what_is_asked()
     ensures legal_items { LegalRelaysHaveItems }
     ensures served_items { ServedRelaysHaveItems }
     ensures taken_items { TakenRelaysHaveItems }
+{
+    missing_influences_are_the_least_set();
+    missing_influences_ascend();
+    legal_journals_are_plain();
+    served_relays_name_accepted();
+}
+
+/// A session that asks in order is never sent an empty relay: each of its Submits has its client's next number, or repeats one before the session
+/// polled, and after Submits of lower numbers alone.
+pub fn sessions_in_order_get_items()
+    ensures legal { LegalSessionsInOrderGetItems }
+    ensures served { ServedSessionsInOrderGetItems }
 {
     missing_influences_are_the_least_set();
     missing_influences_ascend();
