@@ -12,7 +12,7 @@ use Rattle.sv_journal.specs.declared.entry.Logged.TheVariants as logged
 use Rattle.sv_journal.specs.History.{is_relay, client_of, Authored, accepted, actions_of, commit_of}
 use Rattle.sv_journal.specs.Sessions.{sent_to}
 use Rattle.sv_journal.specs.Answer.{Rules, relay_of}
-use Rattle.sv_journal.specs.Serving.{Keeping, reply_for, LegalFor, IsKeeping}
+use Rattle.sv_journal.specs.Serving.{Keeping, reply_for, IsKeeping}
 use Rattle.sv_journal.proofs.Kept.{sent-kept, commit_within-kept}
 use Rattle.sv_journal.proofs.Replies.{each_reply}
 use Rattle.law_journal.specs.Brought.{IsMadeBy, EndsWith, AreUpTo, BringsUnlessSent, BringsFor, BringsBy, BringsWhatIsAsked, ServedRelaysBringWhatIsAsked}

@@ -3,8 +3,8 @@ use Rattle.std.proofs.Common.{List, [], ◌∷◌, ℕ, sym, subst}
 use Rattle.sv_wire.specs.declared.message.Request.{Request}
 use Rattle.sv_journal.specs.declared.entry.Entry.{Entry}
 use Rattle.sv_journal.specs.declared.entry.Logged.{Logged}
-use Rattle.sv_journal.specs.Answer.{Rules, Legal}
-use Rattle.sv_journal.specs.Serving.{Keeping, plain, reply_for, LegalFor, IsKeeping}
+use Rattle.sv_journal.specs.Answer.{Rules}
+use Rattle.sv_journal.specs.Serving.{Keeping, plain, reply_for, LegalFor}
 use Rattle.sv_journal.specs.Laws.{PlainIsLegal}
 use Rattle.law_journal.specs.Entries.{EachEntry, HoldsInLegal, HoldsInServed}
 

@@ -1,10 +1,9 @@
 -- The commit is the greatest position up to which all have results.
-use Rattle.std.proofs.Common.{◌≡◌, ℕ, zero, suc, ◌<◌, ◌≤◌, Bool, true, false, ◌&&◌, ◌==◌, inl, inr, ℤ, List, length, Option, Some, None, is_some, refl, sym, ap, ◌∙◌, subst, arith, eqb-true, eq-eqb, true≢false}
-use Rattle.std.specs.Prelude.{if◌then◌else◌}
+use Rattle.std.proofs.Common.{◌≡◌, ℕ, zero, suc, ◌<◌, ◌≤◌, Bool, true, ◌&&◌, ◌==◌, inl, inr, ℤ, List, length, Option, Some, None, is_some, refl, sym, ap, ◌∙◌, subst, arith, eqb-true, eq-eqb, true≢false}
 use Rattle.std.proofs.lemmas.Bool.{cond_both, cases_eq, and_parts, and_from}
 use Rattle.sv_journal.specs.declared.entry.Entry.{Entry}
 use Rattle.sv_journal.specs.History.{accepted, result_at, run_length, commit_of}
-use Rattle.law_journal.specs.Committed.{AllHaveResults, IsGreatest, CommitIsTheGreatest, NextHasNoResult}
+use Rattle.law_journal.specs.Committed.{AllHaveResults, CommitIsTheGreatest, NextHasNoResult}
 
 -- ---- Runs of a test
 

@@ -1,11 +1,10 @@
 -- A session that asks in order asks for nothing that was sent to it.
-use Rattle.std.proofs.Common.{◌≡◌, ℕ, ◌+◌, ◌<◌, ◌≤◌, Bool, true, false, ◌&&◌, ◌==◌, ◌⊎◌, inl, inr, List, [], ◌∷◌, ◌++◌, length, Option, Some, None, refl, sym, ap, ◌∙◌, subst, arith, eqb-true, true≢false}
+use Rattle.std.proofs.Common.{◌≡◌, ℕ, ◌<◌, ◌≤◌, true, ◌&&◌, ◌==◌, ◌⊎◌, inl, inr, List, [], ◌∷◌, ◌++◌, Option, Some, None, refl, sym, ap, ◌∙◌, subst, arith, eqb-true, true≢false}
 use Rattle.std.specs.Prelude.{if◌then◌else◌, All}
 use Rattle.std.specs.List.{AllByRecursion}
 use Rattle.std.proofs.lemmas.Bool.{cond-true, cond-false, cases_Bool, false_from_ne_true}
 use Rattle.std.proofs.lemmas.List.Elements.{recursion_from_All}
 use Rattle.std.proofs.lemmas.Option.{same_Some}
-use Rattle.sv_world.specs.declared.action.Action.{Action}
 use Rattle.sv_world.specs.Control.{is_in}
 use Rattle.sv_world.proofs.Members.{is_in-append_cases}
 use Rattle.sv_wire.specs.declared.message.Request.{Request}
@@ -15,11 +14,10 @@ use Rattle.sv_journal.specs.declared.entry.Logged.{Logged}
 use Rattle.sv_journal.specs.declared.entry.Logged.TheVariants as logged
 use Rattle.sv_journal.specs.History.{either, is_welcome, joining, client_of, Authored, accepted, next_seq}
 use Rattle.sv_journal.specs.Sessions.{positions_in, sent_to}
-use Rattle.sv_journal.specs.Answer.{Rules}
-use Rattle.sv_journal.specs.Serving.{Keeping, reply_for, LegalFor, IsKeeping}
+use Rattle.sv_journal.specs.Serving.{Keeping, reply_for, LegalFor}
 use Rattle.sv_journal.specs.Laws.{ServedRelaysNameAccepted}
 use Rattle.law_journal.specs.Entries.{EachEntry}
-use Rattle.law_journal.specs.Brought.{IsMadeBy, BringsBy, BringsWhatIsAsked, AsksForNothingSent, HasItemsUnlessSent, MayStandBefore, SubmitsInOrder, AsksForNews, ServedSessionsInOrderGetItems}
+use Rattle.law_journal.specs.Brought.{IsMadeBy, BringsBy, BringsWhatIsAsked, AsksForNothingSent, MayStandBefore, SubmitsInOrder, AsksForNews, ServedSessionsInOrderGetItems}
 use Rattle.law_journal.proofs.EveryEntry.{entry_of, each-entry}
 use Rattle.law_journal.proofs.Staying.{accepted-stays}
 use Rattle.law_journal.proofs.Makers.{made-more}

@@ -1,6 +1,6 @@
 -- A relay has items, unless it answers a Submit whose action was sent to the session before.
-use Rattle.std.proofs.Common.{◌≡◌, ℕ, suc, ◌+◌, ◌<◌, ◌≤◌, true, false, ◌⊎◌, inl, inr, List, [], ◌∷◌, ◌++◌, length, map, Some, refl, sym, ap, subst, ◌∙◌, arith, true≢false, length-append}
-use Rattle.std.specs.Prelude.{if◌then◌else◌, ◌==◌}
+use Rattle.std.proofs.Common.{◌≡◌, ℕ, ◌+◌, ◌≤◌, true, false, inl, inr, List, [], ◌∷◌, ◌++◌, length, map, Some, refl, sym, ap, ◌∙◌, arith, true≢false, length-append}
+use Rattle.std.specs.Prelude.{◌==◌}
 use Rattle.std.specs.List.{AllByRecursion}
 use Rattle.std.proofs.lemmas.Bool.{cond_both, cases_lt, false_from_ne_true}
 use Rattle.std.proofs.lemmas.List.{length-map}
@@ -19,7 +19,7 @@ use Rattle.sv_journal.specs.Answer.{Rules}
 use Rattle.sv_journal.specs.Serving.{Keeping, reply_for, LegalFor, IsKeeping}
 use Rattle.sv_journal.specs.Text.{NamesAccepted}
 use Rattle.sv_journal.specs.Laws.{ServedRelaysNameAccepted}
-use Rattle.law_journal.specs.Brought.{IsMadeBy, EndsWith, BringsUnlessSent, BringsFor, BringsBy, HasItems, AsksForNothingSent, HasItemsUnlessSent, ServedRelaysHaveItems}
+use Rattle.law_journal.specs.Brought.{IsMadeBy, EndsWith, BringsFor, BringsBy, HasItems, AsksForNothingSent, HasItemsUnlessSent, ServedRelaysHaveItems}
 use Rattle.law_journal.proofs.EveryEntry.{entry_of, each-entry}
 use Rattle.law_journal.proofs.Staying.{added}
 use Rattle.law_journal.proofs.Makers.{made-less}

@@ -1,5 +1,5 @@
 -- Who made the action at a position: an outcome that tells a position is that of the action there.
-use Rattle.std.proofs.Common.{◌≡◌, ℕ, zero, suc, ◌+◌, ◌<◌, ◌≤◌, Bool, true, false, ◌&&◌, ◌==◌, ◌⊎◌, inl, inr, List, [], ◌∷◌, ◌++◌, length, Option, Some, None, slice_get, refl, sym, ap, ◌∙◌, subst, arith, eq-eqb, eqb-true, true≢false, length-append}
+use Rattle.std.proofs.Common.{◌≡◌, ℕ, zero, suc, ◌+◌, ◌≤◌, Bool, true, ◌&&◌, ◌==◌, ◌⊎◌, inl, inr, List, [], ◌∷◌, ◌++◌, length, Option, Some, None, slice_get, refl, sym, ap, ◌∙◌, subst, arith, eq-eqb, eqb-true, true≢false, length-append}
 use Rattle.std.specs.Prelude.{if◌then◌else◌}
 use Rattle.std.proofs.lemmas.Bool.{cond-true, cond-false, cases_Bool, and_parts}
 use Rattle.std.proofs.lemmas.List.{get_or_append_left, get_or_push}
@@ -104,9 +104,11 @@ submit-is requests.End n e = absurd (true≢false (sym e))
 tells-new : (e : Entry) (h : List Entry) (k : ℕ) (a : Action) → client_of h e.session ≡ Some k → e.request ≡ requests.Submit (next_seq h k) a →
     (w : Logged) → e.reply ≡ w → (j : ℕ) (o : Outcome) → slice_get (outcome_in (suc (length (accepted h))) w) j ≡ Some o →
     (j ≡ 0) × TellsOwn (accepted (e ∷ h)) k (next_seq h k) o
-tells-new e h k a client asked (logged.Relay seq commit head positions) is zero o at =
-    (refl, subst (TellsOwn (accepted (e ∷ h)) k (next_seq h k)) (same_Some (Accepted (suc (length (accepted h)))) o at)
-    (made-new e h k (next_seq h k) a client asked refl (ap is_relay is)))
+tells-new e h k a client asked (logged.Relay seq commit head positions) is zero o at = (
+  refl,
+  subst (TellsOwn (accepted (e ∷ h)) k (next_seq h k)) (same_Some (Accepted (suc (length (accepted h)))) o at)
+      (made-new e h k (next_seq h k) a client asked refl (ap is_relay is)),
+)
 tells-new e h k a client asked (logged.Relay seq commit head positions) is (suc j) o at = absurd (none-some o at)
 tells-new e h k a client asked (logged.Dropped seq chain far) is zero o at =
     (refl, subst (TellsOwn (accepted (e ∷ h)) k (next_seq h k)) (same_Some (Dropped chain far) o at) tt)

@@ -1,5 +1,5 @@
 -- What a history has stays in a longer one.
-use Rattle.std.proofs.Common.{◌≡◌, ℕ, zero, suc, ◌+◌, ◌<◌, ◌≤◌, true, false, ℤ, List, [], ◌∷◌, ◌++◌, map, length, Option, Some, None, is_some, refl, sym, ap, ◌∙◌, subst, arith, append_assoc, append-nil, true≢false, length-append}
+use Rattle.std.proofs.Common.{◌≡◌, ℕ, zero, suc, ◌+◌, ◌<◌, ◌≤◌, true, ℤ, List, [], ◌∷◌, ◌++◌, map, length, Option, Some, None, is_some, refl, sym, ap, ◌∙◌, arith, append_assoc, append-nil, true≢false, length-append}
 use Rattle.std.specs.Prelude.{if◌then◌else◌, unwrap_or}
 use Rattle.std.proofs.lemmas.List.{get_or_append_left, length-map, map-append}
 use Rattle.sv_world.specs.declared.action.Action.{Action}
@@ -9,7 +9,7 @@ use Rattle.sv_eval.specs.Serial.{put_all}
 use Rattle.sv_journal.specs.declared.entry.Entry.{Entry}
 use Rattle.sv_journal.specs.History.{either, is_relay, is_noted, client_of, outcomes_of, Authored, new_action, accepted, actions_of, reports, result_at, commit_of, installed}
 use Rattle.law_journal.specs.Committed.{AllHaveResults, JournalsKeepWhatTheyHave}
-use Rattle.law_journal.proofs.Greatest.{commit-most, all-to-commit, commit-greatest}
+use Rattle.law_journal.proofs.Greatest.{all-to-commit, commit-greatest}
 
 -- What an entry adds to the accepted actions.
 abbrev pub added : Entry → List Entry → List Authored
