@@ -9,7 +9,7 @@ use Rattle.sv_wire.specs.declared.message.Request.TheVariants as requests
 use Rattle.sv_journal.specs.declared.entry.Entry.{Entry}
 use Rattle.sv_journal.specs.declared.entry.Logged.{Logged}
 use Rattle.sv_journal.specs.declared.entry.Logged.TheVariants as logged
-use Rattle.sv_journal.specs.History.{is_relay, client_of, Authored, accepted, actions_of, commit_of}
+use Rattle.sv_journal.specs.History.{is_relay, client_of, Authored, accepted, actions_of, commit_of, next_seq, authored_at}
 use Rattle.sv_journal.specs.Sessions.{sent_to}
 use Rattle.sv_journal.specs.Answer.{Rules, relay_of}
 use Rattle.sv_journal.specs.Serving.{Keeping, reply_for, IsKeeping}
@@ -18,7 +18,8 @@ use Rattle.sv_journal.proofs.Replies.{each_reply}
 use Rattle.law_journal.specs.Brought.{IsMadeBy, EndsWith, AreUpTo, BringsUnlessSent, BringsFor, BringsBy, BringsWhatIsAsked, ServedRelaysBringWhatIsAsked}
 use Rattle.law_journal.proofs.EveryEntry.{entry_of, each-entry}
 use Rattle.law_journal.proofs.Staying.{added}
-use Rattle.law_journal.proofs.Makers.{made-more, made-new, kept-made}
+use Rattle.law_journal.proofs.Makers.{made-more, made-new, action-new, kept-made}
+use Rattle.law_journal.proofs.Ascends.{made-below}
 
 -- Laws of sv_world: what a session lacks of a position above the commit ends with it, has none above it, and is nothing where the position was
 -- sent to the session.
@@ -66,16 +67,18 @@ module _ (ends : NeededEnds) (up_to : NeededUpTo) (none : NoneOfSent) (k : Keepi
 
   -- The relay of position p to a Submit.
   submitted : (q : Request) (w : Logged) (j seq : ℕ) (a : Action) (A : List Action) (p : ℕ) → client_of h s ≡ Some j → q ≡ requests.Submit seq a →
-      IsMadeBy (accepted (entry_of s q w ∷ h)) j seq p → commit_of (k.kept h) < p → BringsFor k h (accepted (entry_of s q w ∷ h)) s q (relayed A p)
-  submitted q w j seq a A p client asked made above =
-      subst (λ (x : Request). BringsFor k h (accepted (entry_of s q w ∷ h)) s x (relayed A p)) (sym asked) (j, (client, (p, (made, unless-sent A p above))))
+      IsMadeBy (accepted (entry_of s q w ∷ h)) j seq p → (seq ≡ next_seq h j → (authored_at (accepted (entry_of s q w ∷ h)) p).action ≡ a) →
+      commit_of (k.kept h) < p → BringsFor k h (accepted (entry_of s q w ∷ h)) s q (relayed A p)
+  submitted q w j seq a A p client asked made itself above =
+      subst (λ (x : Request). BringsFor k h (accepted (entry_of s q w ∷ h)) s x (relayed A p)) (sym asked)
+      (record { client = j; joined = client; position = p; made = made; itself = itself; brings = unless-sent A p above })
 
   -- The relay of the first position that is due to a Poll.
   polled : (q : Request) (w : Logged) (p : ℕ) (later : List ℕ) → q ≡ requests.Poll → k.due h s ≡ p ∷ later → commit_of (k.kept h) < p → is_in p (sent_to h s) ≡ false →
       BringsFor k h (accepted (entry_of s q w ∷ h)) s q (relayed (actions_of h) p)
   polled q w p later asked first above free =
       subst (λ (x : Request). BringsFor k h (accepted (entry_of s q w ∷ h)) s x (relayed (actions_of h) p)) (sym asked)
-      (p, (later, (first, (none-above (actions_of h) p above, new-ends (actions_of h) p above free))))
+      (record { position = p; later = later; first = first; up_to = none-above (actions_of h) p above; ends = new-ends (actions_of h) p above free })
 
   pub brings-here : (q : Request) → BringsWhatIsAsked k h (entry_of s q (reply_for k r h s q))
   brings-here q = each_reply k law r h s (λ (w : Logged). BringsBy k h (accepted (entry_of s q w ∷ h)) s q w) q (record {
@@ -87,11 +90,15 @@ module _ (ends : NeededEnds) (up_to : NeededUpTo) (none : NoneOfSent) (k : Keepi
         let within : commit_of (k.kept h) ≤ length (accepted h) = commit_within-kept k law h in
         let made : IsMadeBy (accepted (entry_of s q w ∷ h)) j seq p =
         subst (λ (n : ℕ). IsMadeBy (accepted (entry_of s q w ∷ h)) j seq (suc n)) (sym count) (made-new (entry_of s q w) h j seq a client asked next refl) in
+        let itself : (authored_at (accepted (entry_of s q w ∷ h)) p).action ≡ a =
+        subst (λ (n : ℕ). (authored_at (accepted (entry_of s q w ∷ h)) (suc n)).action ≡ a) (sym count) (action-new (entry_of s q w) h j seq a client asked next refl) in
         let above : commit_of (k.kept h) < p = omega arith in
-        submitted q w j seq a (actions_of h ++ a ∷ []) p client asked made above;
+        submitted q w j seq a (actions_of h ++ a ∷ []) p client asked made (λ e. itself) above;
     again = λ j seq p a client asked kept above.
         let w = relay_of r (k.kept h) (actions_of h) s seq p in
-        submitted q w j seq a (actions_of h) p client asked (made-more (accepted h) (added (entry_of s q w) h) j seq p (kept-made h j seq p kept)) above;
+        let old : IsMadeBy (accepted h) j seq p = kept-made h j seq p kept in
+        let below : seq < next_seq h j = made-below h j seq p old in
+        submitted q w j seq a (actions_of h) p client asked (made-more (accepted h) (added (entry_of s q w) h) j seq p old) (λ (e : seq ≡ next_seq h j). absurd (omega arith)) above;
     poll = λ j p ps client asked open_still first.
         let w = relay_of r (k.kept h) (actions_of h) s 0 p in
         let due : is_in p (k.due h s) ≡ true = subst (λ (l : List ℕ). is_in p l ≡ true) (sym first) (is_in-head p ps) in

@@ -82,13 +82,13 @@ record IsOfLower (g : List Entry) (A : List Authored) (s n p : ℕ) : Type 0 whe
 of-lower : (k : Keeping) (g : List Entry) (A : List Authored) (s : ℕ) (q : Request) (v : Logged) (n p : ℕ) → BringsBy k g A s q v → is_in p (positions_in v) ≡ true →
     MayStandBefore n q → IsOfLower g A s n p
 of-lower k g A s (requests.Submit m a) (logged.Relay seq commit head positions) n p b named low = record {
-  client = b.0;
-  joined = b.1.0;
+  client = b.client;
+  joined = b.joined;
   number = m;
   lower = low;
-  target = b.1.1.0;
-  made = b.1.1.1.0;
-  above = b.1.1.1.1.up_to p named;
+  target = b.position;
+  made = b.made;
+  above = b.brings.up_to p named;
 }
 of-lower k g A s requests.Poll (logged.Relay seq commit head positions) n p b named low = absurd low
 of-lower k g A s (requests.Join client life interest) (logged.Relay seq commit head positions) n p b named low = absurd b

@@ -79,9 +79,8 @@ module _ (k : Keeping) (h : List Entry) (s : ℕ) (within : (p : ℕ) → is_in 
   some-positions : (q : Request) (w : Logged) (positions : List ℕ) → AsksForNothingSent h (entry_of s q w) → BringsFor k h (accepted (entry_of s q w ∷ h)) s q positions →
       1 ≤ length positions
   some-positions (requests.Submit seq a) w positions asks b =
-      let made = b.1.1.1.0 in
-      ends-some b.1.1.0 positions (b.1.1.1.1.unsent (not-sent seq a w b.0 b.1.1.0 asks b.1.0 made))
-  some-positions requests.Poll w positions asks b = ends-some b.0 positions b.1.1.1.1
+      ends-some b.position positions (b.brings.unsent (not-sent seq a w b.client b.position asks b.joined b.made))
+  some-positions requests.Poll w positions asks b = ends-some b.position positions b.ends
   some-positions (requests.Join client life interest) w positions asks b = absurd b
   some-positions (requests.Done results) w positions asks b = absurd b
   some-positions requests.Leave w positions asks b = absurd b

@@ -72,6 +72,14 @@ accepted-new e h k n a client asked number relayed =
     ∙ ap (new_action (Some k) next) asked
     ∙ cond-true (n == next_seq h k) (record { client = k; seq = n; action = a } ∷ []) [] (eq-eqb n (next_seq h k) number))
 
+-- It is the last one.
+pub action-new : (e : Entry) (h : List Entry) (k n : ℕ) (a : Action) → client_of h e.session ≡ Some k → e.request ≡ requests.Submit n a → n ≡ next_seq h k → is_relay e.reply ≡ true →
+    (authored_at (accepted (e ∷ h)) (suc (length (accepted h)))).action ≡ a
+action-new e h k n a client asked number relayed =
+    let x : Authored = record { client = k; seq = n; action = a } in
+    ap (λ (A : List Authored). (authored_at A (suc (length (accepted h)))).action) (accepted-new e h k n a client asked number relayed)
+    ∙ ap (λ (y : Authored). y.action) (authored-last (accepted h) x)
+
 pub made-new : (e : Entry) (h : List Entry) (k n : ℕ) (a : Action) → client_of h e.session ≡ Some k → e.request ≡ requests.Submit n a → n ≡ next_seq h k → is_relay e.reply ≡ true →
     IsMadeBy (accepted (e ∷ h)) k n (suc (length (accepted h)))
 made-new e h k n a client asked number relayed =

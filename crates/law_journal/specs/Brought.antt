@@ -40,12 +40,28 @@ pub record BringsUnlessSent (h : List Entry) (s p : ℕ) (positions : List ℕ) 
   pub unsent : is_in p (sent_to h s) ≡ false → EndsWith p positions
   pub sent : is_in p (sent_to h s) ≡ true → positions ≡ []
 
--- What a relay to a session brings by its request, after the entries h, where A are the accepted actions with that of the request. A Submit asks
--- for the action that the session's client made with its number; a Poll is sent the first position that is due to the session.
+-- What a relay brings to a Submit, after the entries h, where A are the accepted actions with its own: the action that the session's client made
+-- with its number, and this is the submitted one itself where it is new. Of a Submit that is repeated the action is not looked at.
+pub record BringsSubmitted (h : List Entry) (A : List Authored) (s seq : ℕ) (action : Action) (positions : List ℕ) : Type 0 where
+  pub client : ℕ
+  pub joined : client_of h s ≡ Some client
+  pub position : ℕ
+  pub made : IsMadeBy A client seq position
+  pub itself : seq ≡ next_seq h client → (authored_at A position).action ≡ action
+  pub brings : BringsUnlessSent h s position positions
+
+-- What it brings to a Poll: the first position that is due to the session.
+pub record BringsDue (k : Keeping) (h : List Entry) (s : ℕ) (positions : List ℕ) : Type 0 where
+  pub position : ℕ
+  pub later : List ℕ
+  pub first : k.due h s ≡ position ∷ later
+  pub up_to : AreUpTo position positions
+  pub ends : EndsWith position positions
+
+-- What a relay brings by its request. Nothing else is answered by a relay.
 abbrev pub BringsFor : Keeping → List Entry → List Authored → ℕ → Request → List ℕ → Type 0
-BringsFor k h A s (requests.Submit seq action) positions =
-    (client : ℕ) × ((client_of h s ≡ Some client) × ((p : ℕ) × (IsMadeBy A client seq p × BringsUnlessSent h s p positions)))
-BringsFor k h A s requests.Poll positions = (p : ℕ) × ((later : List ℕ) × ((k.due h s ≡ p ∷ later) × (AreUpTo p positions × EndsWith p positions)))
+BringsFor k h A s (requests.Submit seq action) positions = BringsSubmitted h A s seq action positions
+BringsFor k h A s requests.Poll positions = BringsDue k h s positions
 BringsFor k h A s _ positions = ⊥
 
 abbrev pub BringsBy : Keeping → List Entry → List Authored → ℕ → Request → Logged → Type 0
