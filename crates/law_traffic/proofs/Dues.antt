@@ -14,7 +14,7 @@ use Rattle.sv_journal.specs.Answer.{Rules, Legal}
 use Rattle.sv_journal.specs.Text.{NamesAccepted, RelaysNameAccepted}
 use Rattle.sv_journal.specs.Laws.{FullRepliesStay, LegalRelaysNameAccepted}
 use Rattle.sv_session.specs.Requests.{reply_payload, due_frames}
-use Rattle.sv_session.specs.Rounds.{AreNamed}
+use Rattle.sv_session.specs.Rounds.{AllNameAccepted}
 use Rattle.sv_session.proofs.Replies.{frames_on}
 use Rattle.sv_asked.proofs.Every.{each-left}
 use Rattle.law_traffic.specs.Traffic.{reply_frames}
@@ -33,7 +33,7 @@ unfolding due_frames reply_frames
 frames_over journal entries = ap frames_of (payloads_over journal entries)
 
 -- the replies of a legal history name accepted actions of it
-named_in : LegalRelaysNameAccepted → (r : Rules) (seen entries more : List Entry) (n : ℕ) → Legal r (reverse seen) → mine n seen ≡ entries ++ more → AreNamed seen entries
+named_in : LegalRelaysNameAccepted → (r : Rules) (seen entries more : List Entry) (n : ℕ) → Legal r (reverse seen) → mine n seen ≡ entries ++ more → AllNameAccepted seen entries
 named_in law r seen entries more n legal just =
     let P : Entry → Type 0 = λ (e : Entry). NamesAccepted (length (accepted (reverse seen))) e.reply in
     let all : All P seen = subst RelaysNameAccepted (reverse-reverse seen) (law r (reverse seen) legal) in

@@ -25,8 +25,8 @@ use Rattle.sv_lines.specs.declared.stop.Stop.{Stop}
 use Rattle.sv_lines.specs.declared.stop.Stop.TheVariants as stop
 use Rattle.sv_report.specs.Report.{event_text, event_lines, trace_text}
 use Rattle.sv_check.specs.declared.actor.Actor.{Actor}
-use Rattle.sv_check.specs.Acting.{IsActing, WentOn, identity, numbered}
-use Rattle.sv_check.specs.Next.{IsLineOf, NoEvent, replies_of}
+use Rattle.sv_check.specs.Acting.{IsActing, WentOn, identity, journal_events}
+use Rattle.sv_check.specs.Next.{IsLineOf, NoEvent, journal_replies}
 use Rattle.sv_check.specs.Parts.{IsWholeTrace}
 use Rattle.sv_check.specs.Stopping.{IfWrong}
 use Rattle.sv_check.specs.Clients.{EventsStop, IsPartSoFar, PartStops, NoClient, IsClientStop}
@@ -58,8 +58,8 @@ module _ (entries : List Entry) (a : Actor) (number first : ℕ) (shape : Shape)
   abbrev pub L : Trace
   L = trace_from a.first a.client
 
-  back : reverse L.events ≡ numbered a
-  back = reverse-reverse (numbered a)
+  back : reverse L.events ≡ journal_events a
+  back = reverse-reverse (journal_events a)
 
   who_is : a.client.who ≡ identity_of shape L
   who_is = ap (λ (x : Shape). record { client = a.client.who.client; interest = a.client.who.interest; shape = x }) (ap (λ (w : Identity). w.shape) who)
@@ -76,15 +76,15 @@ module _ (entries : List Entry) (a : Actor) (number first : ℕ) (shape : Shape)
       objects = All-from_recursion (λ (o : ObjectId). o.0 < shape.objects) plan.interest good.known;
     });
     events = subst (λ (u : List Event). AreProper (identity_of shape L) a.first u) (sym back)
-        (subst (λ (w : Identity). AreProper w a.first (numbered a)) who_is (up_proper a.first a.client.who a.client.events g.proper));
+        (subst (λ (w : Identity). AreProper w a.first (journal_events a)) who_is (up_proper a.first a.client.who a.client.events g.proper));
   }
 
   abbrev follows_so_far : Follows shape plan.steps L
   follows_so_far = record {
     left = a.left.now;
     follows = subst (λ (u : List Event). FollowsTo (identity_of shape L) plan.steps u a.left.now) (sym back)
-        (subst (λ (ss : List Step). FollowsTo (identity_of shape L) ss (numbered a) a.left.now) script
-        (subst (λ (w : Identity). FollowsTo w a.script.now (numbered a) a.left.now) who_is (up_follows a.first a.client.who a.script.now a.client.events a.left.now g.follows)));
+        (subst (λ (ss : List Step). FollowsTo (identity_of shape L) ss (journal_events a) a.left.now) script
+        (subst (λ (w : Identity). FollowsTo w a.script.now (journal_events a) a.left.now) who_is (up_follows a.first a.client.who a.script.now a.client.events a.left.now g.follows)));
   }
 
   abbrev acted : number < 32 → IsGoodPlan shape plan → IsPartSoFar shape entries number first plan L
@@ -92,47 +92,47 @@ module _ (entries : List Entry) (a : Actor) (number first : ℕ) (shape : Shape)
     of = record { client = client_is; interest = ap (λ (w : Identity). w.interest) who; first_is = from };
     proper = proper_so_far few good;
     follows = follows_so_far;
-    gets = λ s j. subst (λ (u : List Event). IsFront (got u s) (replies_of entries s)) (sym back) (g.gets.fronts s);
+    gets = λ s j. subst (λ (u : List Event). IsFront (got u s) (journal_replies entries s)) (sym back) (g.gets.fronts s);
   }
 
   -- The text of what it did.
-  pub taken : (y text rest : List ℕ) → y ≡ (client_line number ++ 10 ∷ []) ++ text → text ≡ event_lines entries (numbered a) ++ rest → y ≡ trace_text entries L ++ rest
+  pub taken : (y text rest : List ℕ) → y ≡ (client_line number ++ 10 ∷ []) ++ text → text ≡ event_lines entries (journal_events a) ++ rest → y ≡ trace_text entries L ++ rest
   taken y text rest e f =
       e ∙ ap (λ (l : List ℕ). (client_line number ++ 10 ∷ []) ++ l) f
-      ∙ append_assoc (client_line number) (10 ∷ []) (event_lines entries (numbered a) ++ rest)
+      ∙ append_assoc (client_line number) (10 ∷ []) (event_lines entries (journal_events a) ++ rest)
       ∙ ap (λ (u : List Event). client_line number ++ (10 ∷ (event_lines entries u ++ rest))) (sym back)
       ∙ ap (λ (i : ClientId). client_line i.0 ++ (10 ∷ (event_lines entries (reverse L.events) ++ rest))) (sym client_is)
       ∙ sym (append_assoc (client_line L.client.0) (10 ∷ event_lines entries (reverse L.events)) rest)
 
-  none_so_far : (rest : List ℕ) → NoEvent a.client.who a.first entries (numbered a) a.left.now rest → NoEvent (identity_of shape L) a.first entries (reverse L.events) a.left.now rest
+  none_so_far : (rest : List ℕ) → NoEvent a.client.who a.first entries (journal_events a) a.left.now rest → NoEvent (identity_of shape L) a.first entries (reverse L.events) a.left.now rest
   none_so_far rest n = subst (λ (u : List Event). NoEvent (identity_of shape L) a.first entries u a.left.now rest) (sym back)
-      (subst (λ (w : Identity). NoEvent w a.first entries (numbered a) a.left.now rest) who_is n)
+      (subst (λ (w : Identity). NoEvent w a.first entries (journal_events a) a.left.now rest) who_is n)
 
   -- It is finished as its trace is.
   finished_is : is_finished (reverse L.events) ≡ a.finished
   finished_is = ap is_finished back ∙ up_finished a.first a.client.events ∙ sym g.flags.finished
 
-  stopped : (y text rest : List ℕ) (left : ℕ) → number < 32 → IsGoodPlan shape plan → y ≡ (client_line number ++ 10 ∷ []) ++ text → text ≡ event_lines entries (numbered a) ++ rest →
-      left ≡ length rest → NoEvent a.client.who a.first entries (numbered a) a.left.now rest → (IsWholeTrace shape (reverse entries) plan L → ⊥) → PartStops shape entries number first plan y left
+  stopped : (y text rest : List ℕ) (left : ℕ) → number < 32 → IsGoodPlan shape plan → y ≡ (client_line number ++ 10 ∷ []) ++ text → text ≡ event_lines entries (journal_events a) ++ rest →
+      left ≡ length rest → NoEvent a.client.who a.first entries (journal_events a) a.left.now rest → (IsWholeTrace shape (reverse entries) plan L → ⊥) → PartStops shape entries number first plan y left
   stopped y text rest left few good e f is n not_whole =
       record { L = L; so_far = acted few good; rest = rest; text_is = taken y text rest e f; left_is = is; none = none_so_far rest n; not_whole = not_whole }
 
-  stopped_here : (y text rest : List ℕ) (left : ℕ) → number < 32 → IsGoodPlan shape plan → y ≡ (client_line number ++ 10 ∷ []) ++ text → text ≡ event_lines entries (numbered a) ++ rest →
-      left ≡ length rest → NoEvent a.client.who a.first entries (numbered a) a.left.now rest → a.finished ≡ false → PartStops shape entries number first plan y left
+  stopped_here : (y text rest : List ℕ) (left : ℕ) → number < 32 → IsGoodPlan shape plan → y ≡ (client_line number ++ 10 ∷ []) ++ text → text ≡ event_lines entries (journal_events a) ++ rest →
+      left ≡ length rest → NoEvent a.client.who a.first entries (journal_events a) a.left.now rest → a.finished ≡ false → PartStops shape entries number first plan y left
   stopped_here y text rest left few good e f is n here =
       stopped y text rest left few good e f is n (λ w. absurd (true≢false (sym w.follows.finished ∙ finished_is ∙ here)))
 
-  none_finished : (rest : List ℕ) → a.finished ≡ true → NoEvent a.client.who a.first entries (numbered a) a.left.now rest
+  none_finished : (rest : List ℕ) → a.finished ≡ true → NoEvent a.client.who a.first entries (journal_events a) a.left.now rest
   none_finished rest done e left more n line =
-      true≢false (sym (up_finished a.first a.client.events ∙ sym g.flags.finished ∙ done) ∙ here_at a.client.who a.first (replies_of entries) (numbered a) a.left.now e left n.comes)
+      true≢false (sym (up_finished a.first a.client.events ∙ sym g.flags.finished ∙ done) ∙ here_at a.client.who a.first (journal_replies entries) (journal_events a) a.left.now e left n.comes)
 
   -- It came to its end, and its trace is not whole.
-  pub stopped_whole : (y text rest : List ℕ) (left : ℕ) → number < 32 → IsGoodPlan shape plan → y ≡ (client_line number ++ 10 ∷ []) ++ text → text ≡ event_lines entries (numbered a) ++ rest →
+  pub stopped_whole : (y text rest : List ℕ) (left : ℕ) → number < 32 → IsGoodPlan shape plan → y ≡ (client_line number ++ 10 ∷ []) ++ text → text ≡ event_lines entries (journal_events a) ++ rest →
       left ≡ length rest → a.finished ≡ true → (IsWholeTrace shape (reverse entries) plan L → ⊥) → PartStops shape entries number first plan y left
   stopped_whole y text rest left few good e f is done not_whole = stopped y text rest left few good e f is (none_finished rest done) not_whole
 
 -- Its first lines are all that it did, where it did nothing before.
-pub start_lines : (entries : List Entry) (old : Actor) (text whole : List ℕ) → old.client.events ≡ [] → event_lines entries (numbered old) ++ text ≡ whole → text ≡ whole
+pub start_lines : (entries : List Entry) (old : Actor) (text whole : List ℕ) → old.client.events ≡ [] → event_lines entries (journal_events old) ++ text ≡ whole → text ≡ whole
 start_lines entries old text whole new e = ap (λ (t : List Event). event_lines entries (map (raised old.first) t) ++ text) (sym new) ∙ e
 
 -- The client's events stop being right.
@@ -140,7 +140,7 @@ pub events_stopped : (entries : List Entry) (old : Actor) (number first : ℕ) (
     old.client.who ≡ identity number shape plan → old.first ≡ first → old.script.now ≡ plan.steps → old.client.events ≡ [] → y ≡ (client_line number ++ 10 ∷ []) ++ text →
     EventsStop entries old text left → PartStops shape entries number first plan y left
 events_stopped entries old number first shape plan y text left few good who from script new e s =
-    let lines = start_lines entries old text (event_lines entries (numbered s.now) ++ s.rest) new s.text_is in
+    let lines = start_lines entries old text (event_lines entries (journal_events s.now) ++ s.rest) new s.text_is in
     stopped_here entries s.now number first shape plan s.on.acting (s.on.who ∙ who) (s.on.first ∙ from) (s.on.script ∙ script) y text s.rest left few good e lines s.left_is s.none s.here
 
 -- ---- The loop over the events
@@ -148,7 +148,7 @@ events_stopped entries old number first shape plan y text left few good who from
 -- The actor went on from the old one, by the events whose lines were taken, each of at least one byte.
 pub record Takes (entries : List Entry) (old now : Actor) (text rest : List ℕ) (count : ℕ) : Type 0 where
   pub on : WentOn entries old now
-  pub taken : event_lines entries (numbered old) ++ text ≡ event_lines entries (numbered now) ++ rest
+  pub taken : event_lines entries (journal_events old) ++ text ≡ event_lines entries (journal_events now) ++ rest
   pub less : count + length rest ≤ length text
 
 pub takes_none : (entries : List Entry) (a : Actor) (text : List ℕ) → IsActing entries a → Takes entries a a text text 0
@@ -161,13 +161,13 @@ line_shorter entries old now text rest l =
     omega (arith, whole, sum)
 
 pub takes_more : (entries : List Entry) (old a b : Actor) (text rest more : List ℕ) (count : ℕ) → Takes entries old a text rest count → WentOn entries a b →
-    IsLineOf entries (numbered a) (numbered b) rest more → Takes entries old b text more (count + 1)
+    IsLineOf entries (journal_events a) (journal_events b) rest more → Takes entries old b text more (count + 1)
 takes_more entries old a b text rest more count t w l =
-    let shorter = line_shorter entries (numbered a) (numbered b) rest more l in
+    let shorter = line_shorter entries (journal_events a) (journal_events b) rest more l in
     let less = t.less in
     record {
       on = record { acting = w.acting; who = w.who ∙ t.on.who; first = w.first ∙ t.on.first; script = w.script ∙ t.on.script };
-      taken = taken_more entries (numbered a) (numbered b) (event_lines entries (numbered old)) text rest more t.taken l;
+      taken = taken_more entries (journal_events a) (journal_events b) (event_lines entries (journal_events old)) text rest more t.taken l;
       less = omega (arith, shorter, less);
     }
 
@@ -178,7 +178,7 @@ wrong_as A B P Q stop.Memory f is g h = subst (λ (x : Stop). IfWrong {A = B} (E
 
 -- Why the next event's line was not taken.
 abbrev pub NoLine : List Entry → Actor → List ℕ → ℕ → Type 0
-NoLine entries a rest left = (left ≡ length rest) × NoEvent a.client.who a.first entries (numbered a) a.left.now rest
+NoLine entries a rest left = (left ≡ length rest) × NoEvent a.client.who a.first entries (journal_events a) a.left.now rest
 
 pub line_stopped : (entries : List Entry) (old a : Actor) (text rest : List ℕ) (count left : ℕ) → Takes entries old a text rest count → a.finished ≡ false → NoLine entries a rest left →
     EventsStop entries old text left
@@ -195,7 +195,7 @@ pub text_stopped : (entries : List Entry) (old a : Actor) (text rest : List ℕ)
 text_stopped entries old a text rest count left t all here is =
     let less = t.less in
     let none = no_length rest (omega (arith, less, all)) in
-    line_stopped entries old a text rest count left t here (is, none_left a.client.who a.first entries (numbered a) a.left.now rest none)
+    line_stopped entries old a text rest count left t here (is, none_left a.client.who a.first entries (journal_events a) a.left.now rest none)
 
 -- The client's first line is not taken.
 pub line_missing : (number : ℕ) (text line : List ℕ) (left : ℕ) → line ≡ client_line number ++ 10 ∷ [] → ((rest : List ℕ) → text ≢ line ++ rest) → left ≡ length text → NoClient number text left

@@ -21,9 +21,10 @@ use Rattle.sv_client.proofs.Sessions.{no_got, no_asked}
 use Rattle.sv_report.specs.Again.{MayDo, IsPlace, behind_next, place_after}
 use Rattle.sv_report.proofs.Seeking.{next_place}
 use Rattle.sv_scenario.specs.declared.scenario.Step.{Step}
-use Rattle.sv_script.specs.Following.{FollowsTo, MayCome, must_join, is_welcomed, is_finished}
+use Rattle.sv_script.specs.Following.{FollowsTo, MayCome, is_bye, must_join, is_welcomed, is_finished}
 use Rattle.sv_system.specs.Fits.{is_join_of, replies_in}
 use Rattle.sv_system.specs.Fronts.{IsFront}
+use Rattle.sv_system.specs.Outcomes.{is_quit}
 use Rattle.sv_system.proofs.Entered.{replies-one}
 use Rattle.sv_system.proofs.Fronts.{front-all, front-then}
 use Rattle.sv_schedule.proofs.SoundTraces.{joined-within}
@@ -31,7 +32,7 @@ use Rattle.sv_replay.proofs.Events.{is_got, asks_up, asks_got}
 use Rattle.sv_client.specs.Seen.{ClientView}
 use Rattle.sv_check.specs.declared.actor.Actor.{Actor}
 use Rattle.sv_check.specs.Serving.{full_replies}
-use Rattle.sv_check.specs.Acting.{IsActing, HasAsked, HasGot, AreFlags, IsSettled, IsUnsettled, IsAmiss, WentOn, Settles, Joined, GotReply, Made, IsNextPlace, IsNextEvent, numbered, replies_before, is_bye, is_cut, is_quit, is_other}
+use Rattle.sv_check.specs.Acting.{IsActing, HasAsked, HasGot, AreFlags, IsSettled, IsUnsettled, IsAmiss, WentOn, Settles, Joined, GotReply, Made, IsNextPlace, IsNextEvent, journal_events, replies_before, cuts_session, is_other}
 use Rattle.sv_check.proofs.Told.{current_joined}
 use Rattle.sv_check.proofs.Settling.{turned_more, got_there, there_got, map_there, same_Some, split_turned}
 
@@ -39,7 +40,7 @@ use Rattle.sv_check.proofs.Settling.{turned_more, got_there, there_got, map_ther
 
 -- The latest session is settled by the requests that the client has of it.
 pub latest_settled : (entries : List Entry) (a : Actor) → IsActing entries a → ((s : ℕ) → a.session ≡ Some s → IsSettled (reverse entries) a.asked.items s) →
-    (s : ℕ) → current_session (numbered a) ≡ Some s → IsSettled (reverse entries) (asked a.client.who.client a.client.who.interest (numbered a) s) s
+    (s : ℕ) → current_session (journal_events a) ≡ Some s → IsSettled (reverse entries) (asked a.client.who.client a.client.who.interest (journal_events a) s) s
 latest_settled entries a g d s e = subst (λ (rs : List Request). IsSettled (reverse entries) rs s) (g.asks.latest s e) (d s (g.flags.session ∙ e))
 
 -- The latest session of the events T is not settled.
@@ -48,9 +49,9 @@ pub record IsLatestAmiss (entries : List Entry) (who : Identity) (T : List Event
   pub latest : current_session T ≡ Some which
   pub not_settled : IsSettled (reverse entries) (asked who.client who.interest T which) which → ⊥
 
-pub latest_amiss : (entries : List Entry) (a : Actor) → IsActing entries a → IsAmiss entries a → IsLatestAmiss entries a.client.who (numbered a)
+pub latest_amiss : (entries : List Entry) (a : Actor) → IsActing entries a → IsAmiss entries a → IsLatestAmiss entries a.client.who (journal_events a)
 latest_amiss entries a g d =
-    let current : current_session (numbered a) ≡ Some d.which = sym g.flags.session ∙ d.latest in
+    let current : current_session (journal_events a) ≡ Some d.which = sym g.flags.session ∙ d.latest in
     record {
       which = d.which;
       latest = current;
@@ -215,7 +216,7 @@ record IsOther (first : ℕ) (t : List Event) (e : Event) : Type 0 where
   current_up : current_session (raised first e ∷ Up first t) ≡ current_session (Up first t)
   got_same : (s : ℕ) → got (raised first e ∷ Up first t) s ≡ got (Up first t) s
   welcomed : is_welcomed (e ∷ t) ≡ is_welcomed t
-  must : must_join (e ∷ t) ≡ is_cut e
+  must : must_join (e ∷ t) ≡ cuts_session e
   finished : is_finished (e ∷ t) ≡ is_quit e
   joined_same : (s : ℕ) → list_any (is_join_of s) (raised first e ∷ Up first t) ≡ list_any (is_join_of s) (Up first t)
 
@@ -336,7 +337,7 @@ did entries a b e g m n o may left comes d =
       follows = subst (λ (c : ClientView). FollowsTo c.who a.script.now c.events left.now) (sym d.client) (a.left.now, (g.follows, comes));
       flags = record {
         session = g.flags.session ∙ sym is.current_up ∙ ap (λ (c : ClientView). current_session (map (raised a.first) c.events)) (sym d.client);
-        between = or_none a.between (is_cut e) (g.flags.between ∙ m) ∙ sym is.must ∙ ap (λ (c : ClientView). must_join c.events) (sym d.client);
+        between = or_none a.between (cuts_session e) (g.flags.between ∙ m) ∙ sym is.must ∙ ap (λ (c : ClientView). must_join c.events) (sym d.client);
         welcomed = g.flags.welcomed ∙ sym is.welcomed ∙ ap (λ (c : ClientView). is_welcomed c.events) (sym d.client);
         finished = or_none a.finished (is_quit e) (g.flags.finished ∙ n) ∙ sym is.finished ∙ ap (λ (c : ClientView). is_finished c.events) (sym d.client);
       };
@@ -449,7 +450,7 @@ pub gets : (entries : List Entry) (a b : Actor) (s p : ℕ) (reply : Reply) → 
     a.session ≡ Some s → IsNextPlace entries a.place s p → slice_get (full_replies entries) p ≡ Some reply → GotReply reply p a b → IsActing entries b
 gets entries a b s p reply g m n is next r d =
     let here = begun a.client.who a.script.now a.client.events a.left.now g.follows m in
-    let current : current_session (numbered a) ≡ Some s = sym g.flags.session ∙ is in
+    let current : current_session (journal_events a) ≡ Some s = sym g.flags.session ∙ is in
     let proper : AreProper a.client.who 0 (got_now a.client.events reply ∷ a.client.events) = (record { current = some_latest a.client.events here.0 here.1; taken = d.fine }, g.proper) in
     subst (IsActing entries) (sym d.same) (record {
       few = g.few;

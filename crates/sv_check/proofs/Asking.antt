@@ -28,7 +28,7 @@ use Rattle.sv_scenario.specs.declared.scenario.Step.{Step}
 use Rattle.sv_scenario.specs.declared.scenario.Step.TheVariants as steps
 use Rattle.sv_scenario.specs.Limits.{IsGoodScenario}
 use Rattle.sv_scenario.specs.Sessions.{session_count}
-use Rattle.sv_script.specs.Following.{FollowsToEnd, is_step, steps_done, events_of, event_of, with_event}
+use Rattle.sv_script.specs.Following.{FollowsToEnd, is_step, steps_done, events_of, event_of, led_by}
 use Rattle.sv_script.specs.Laws.{StepsAreDoneInOrder}
 use Rattle.sv_system.specs.Fits.{requests_in, has_session, is_owned, FitsOne}
 use Rattle.sv_system.specs.Records.{rules_of, ends_in, EachTrace, ScriptsAreFollowed, IsRecordOf}
@@ -44,7 +44,7 @@ use Rattle.sv_check.specs.Parts.{IsEntryAfter, AreEntries}
 
 -- ---- The actions that are made are those of the scripts
 
-with_fits : (o : Option Event) (es : List Event) → ((e : Event) → o ≡ Some e → EventFits e) → AllByRecursion EventFits es → AllByRecursion EventFits (with_event o es)
+with_fits : (o : Option Event) (es : List Event) → ((e : Event) → o ≡ Some e → EventFits e) → AllByRecursion EventFits es → AllByRecursion EventFits (led_by o es)
 with_fits None es f all = all
 with_fits (Some e) es f all = (f e refl, all)
 

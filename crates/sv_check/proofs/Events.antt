@@ -14,7 +14,7 @@ use Rattle.sv_scenario.specs.declared.scenario.Step.{Step}
 use Rattle.sv_script.specs.Following.{MayCome, DoesStep, Leaves, must_join, is_finished, passed_syncs, event_of}
 use Rattle.sv_script.specs.Laws.{is_got}
 use Rattle.sv_report.specs.Report.{event_text}
-use Rattle.sv_check.specs.Next.{GetsNext, IsNext}
+use Rattle.sv_check.specs.Next.{GetsNextReply, ComesNext}
 
 abbrev is_leave : Event → Bool
 is_leave events.Leave = true
@@ -52,7 +52,7 @@ not_finished (events.Show objects ∷ t) m = absurd (true≢false (sym m))
 
 module _ (who : Identity) (first : ℕ) (R : ℕ → List Reply) (t : List Event) (before : List Step) where
   abbrev Next : Event → List Step → Type 0
-  Next e left = IsNext who first R t before e left
+  Next e left = ComesNext who first R t before e left
 
   pub joined_at : (e : Event) (left : List Step) → MayCome who t before e left → is_join e ≡ must_join t
   joined_at (events.Join s) left m = sym m.needed
@@ -84,7 +84,7 @@ module _ (who : Identity) (first : ℕ) (R : ℕ → List Reply) (t : List Event
   join_is events.Quit j m = absurd (true≢false (sym j))
   join_is (events.Show objects) j m = absurd (true≢false (sym j))
 
-  pub got_is : (e : Event) → is_got e ≡ true → MayFollow who first t e → GetsNext R t e → IsGot R t e
+  pub got_is : (e : Event) → is_got e ≡ true → MayFollow who first t e → GetsNextReply R t e → IsGot R t e
   got_is (events.Got s reply) g m n = record { session = s; reply = reply; is = refl; current = m.current; next = n }
   got_is (events.Join s) g m n = absurd (true≢false (sym g))
   got_is events.Leave g m n = absurd (true≢false (sym g))

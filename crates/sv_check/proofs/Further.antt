@@ -10,7 +10,7 @@ use Rattle.sv_script.specs.Following.{MayCome, is_finished}
 use Rattle.sv_report.specs.Report.{event_text}
 use Rattle.sv_report.specs.Again.{lines_after}
 use Rattle.sv_report.proofs.Lines.{first_back}
-use Rattle.sv_check.specs.Next.{IsNext, IsSoFar}
+use Rattle.sv_check.specs.Next.{ComesNext, IsSoFar}
 use Rattle.sv_check.proofs.Events.{here_at, same_left, event_tells}
 use Rattle.sv_check.proofs.Told.{line_rest, line_first, fronts_less, gets_next}
 
@@ -29,11 +29,11 @@ after_start es = after_is es [] ∙ append-nil (reverse es)
 -- These events may come after the events t, one after the other, and leave these steps.
 abbrev pub ComeTo : Identity → ℕ → (ℕ → List Reply) → List Event → List Step → List Event → List Step → Type 0
 ComeTo who first R t before [] left = left ≡ before
-ComeTo who first R t before (e ∷ es) left = (next : List Step) × (IsNext who first R t before e next × ComeTo who first R (e ∷ t) next es left)
+ComeTo who first R t before (e ∷ es) left = (next : List Step) × (ComesNext who first R t before e next × ComeTo who first R (e ∷ t) next es left)
 
 module _ (who : Identity) (first : ℕ) (R : ℕ → List Reply) where
   -- Nothing comes after the last event.
-  pub none_after : (t : List Event) (before : List Step) (e : Event) (left : List Step) → is_finished t ≡ true → IsNext who first R t before e left → ⊥
+  pub none_after : (t : List Event) (before : List Step) (e : Event) (left : List Step) → is_finished t ≡ true → ComesNext who first R t before e left → ⊥
   none_after t before e left done n = true≢false (sym done ∙ here_at who first R t before e left n.comes)
 
   pub none_more : (t : List Event) (before : List Step) (more : List Event) (left : List Step) → is_finished t ≡ true → ComeTo who first R t before more left → more ≡ []
@@ -76,7 +76,7 @@ module _ (who : Identity) (first : ℕ) (R : ℕ → List Reply) where
       pub before : List Step
       pub left : List Step
       pub events : es ≡ fs ++ event ∷ more
-      pub next : IsNext who first R (after t fs) before event left
+      pub next : ComesNext who first R (after t fs) before event left
       pub text : y ≡ lines_after entries (after t fs) (event ∷ more) ++ x
 
     further_more : (e f : Event) (t : List Event) (left : List Step) (es fs : List Event) (last : List Step) (x y : List ℕ) → f ≡ e →
@@ -95,7 +95,7 @@ module _ (who : Identity) (first : ℕ) (R : ℕ → List Reply) where
       before = m.before;
       left = m.left;
       events = ap (λ (l : List Event). e ∷ l) m.events ∙ ap (λ (d : Event). d ∷ (fs ++ m.event ∷ m.more)) is;
-      next = subst (λ (d : Event). IsNext who first R (after (d ∷ t) fs) m.before m.event m.left) is m.next;
+      next = subst (λ (d : Event). ComesNext who first R (after (d ∷ t) fs) m.before m.event m.left) is m.next;
       text = m.text ∙ ap (λ (d : Event). lines_after entries (after (d ∷ t) fs) (m.event ∷ m.more) ++ x) is;
     }
 

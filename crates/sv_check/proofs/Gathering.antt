@@ -21,7 +21,7 @@ use Rattle.sv_scenario.specs.declared.scenario.Step.{Step}
 use Rattle.sv_scenario.specs.declared.scenario.Step.TheVariants as steps
 use Rattle.sv_scenario.specs.Limits.{IsGoodScenario, IsGoodPlan, quits_last}
 use Rattle.sv_scenario.specs.Sessions.{cuts_by, cuts_in, sessions_of_plan, sessions_in, session_count}
-use Rattle.sv_script.specs.Following.{FollowsTo, FollowsToEnd, IsCarriedOut, steps_done, events_of, event_of, with_event, must_join, is_finished}
+use Rattle.sv_script.specs.Following.{FollowsTo, FollowsToEnd, IsCarriedOut, steps_done, events_of, event_of, led_by, must_join, is_finished}
 use Rattle.sv_script.specs.Laws.{StepsAreDoneInOrder, EndsDoAllSteps}
 use Rattle.sv_system.specs.Fits.{is_join_of, has_session, is_owned, FitsIn, FitsOne, Fits, AreApart, AreAllApart}
 use Rattle.sv_system.specs.Records.{AreTracesOf, EachTrace, IsRecordOf, ScriptsAreFollowed, rules_of, ends_in}

@@ -23,7 +23,7 @@ use Rattle.sv_system.specs.Records.{AreTracesOf, EachTrace}
 use Rattle.sv_schedule.proofs.DoneFacts.{any-turned}
 use Rattle.sv_report.specs.Report.{event_text, event_lines, trace_text}
 use Rattle.sv_report.specs.Again.{lines_after}
-use Rattle.sv_check.specs.Next.{IsNext, replies_of}
+use Rattle.sv_check.specs.Next.{ComesNext, journal_replies}
 use Rattle.sv_check.specs.Parts.{IsWholeTrace, IsTraceSoFar, IsOf}
 use Rattle.sv_check.proofs.Told.{line_first}
 use Rattle.sv_check.proofs.Traces.{IsFine, same_trace, trace_parts, line_behind, trace_tells}
@@ -73,18 +73,18 @@ module _ (scenario : Scenario) (entries : List Entry) where
   fine : (plan : Plan) (L : Trace) → IsWholeOf plan L → IsFine shape h plan L
   fine plan L w = record { fits = record { proper = w.proper; sessions = w.fits }; follows = w.follows }
 
-  come_of : (plan : Plan) (L : Trace) (g : IsSoFarOf plan L) → ComeTo (identity_of shape L) L.first (replies_of entries) [] plan.steps L.events g.follows.left
-  come_of plan L g = come (identity_of shape L) L.first (replies_of entries) plan.steps L.events g.follows.left (record {
+  come_of : (plan : Plan) (L : Trace) (g : IsSoFarOf plan L) → ComeTo (identity_of shape L) L.first (journal_replies entries) [] plan.steps L.events g.follows.left
+  come_of plan L g = come (identity_of shape L) L.first (journal_replies entries) plan.steps L.events g.follows.left (record {
     proper = g.proper.events;
     follows = g.follows.follows;
     gets = λ s j. g.got_is s (subst (λ (es : List Event). list_any (is_join_of s) es ≡ true) (reverse-reverse L.events) (any-turned (is_join_of s) (reverse L.events) j));
   })
 
   abbrev Further : (plan : Plan) (L M : Trace) → List Step → List Step → List ℕ → List ℕ → Type 0
-  Further plan L M left last x y = IsFurther (identity_of shape L) L.first (replies_of entries) entries [] left L.events M.events last x y
+  Further plan L M left last x y = IsFurther (identity_of shape L) L.first (journal_replies entries) entries [] left L.events M.events last x y
 
   abbrev Shorter : (L M : Trace) → List ℕ → List ℕ → Type 0
-  Shorter L M x y = IsShorter (identity_of shape L) L.first (replies_of entries) entries [] L.events M.events x y
+  Shorter L M x y = IsShorter (identity_of shape L) L.first (journal_replies entries) entries [] L.events M.events x y
 
   same_who : (L M : Trace) → L.client ≡ M.client → L.interest ≡ M.interest → identity_of shape M ≡ identity_of shape L
   same_who L M c i =
@@ -95,7 +95,7 @@ module _ (scenario : Scenario) (entries : List Entry) where
   two_traces : (plan : Plan) (k s : ℕ) (L M : Trace) (x y : List ℕ) → IsOf k s plan L → IsOf k s plan M → (f : IsSoFarOf plan L) → (g : IsSoFarOf plan M) →
       trace_text entries L ++ x ≡ trace_text entries M ++ y → Further plan L M f.follows.left g.follows.left x y ⊎ Shorter L M x y
   two_traces plan k s L M x y a b f g same =
-      let R = replies_of entries in
+      let R = journal_replies entries in
       let last = g.follows.left in
       let c : L.client ≡ M.client = a.client ∙ sym b.client in
       let who : identity_of shape M ≡ identity_of shape L = same_who L M c (a.interest ∙ sym b.interest) in
@@ -118,8 +118,8 @@ module _ (scenario : Scenario) (entries : List Entry) where
       trace_text entries L ++ x ≡ trace_text entries M → x ≡ []
   ended plan k s L M x a b w g same = elim (two_traces plan k s L M x [] a b (so_far plan L w) g (same ∙ sym (append-nil (trace_text entries M)))) [
     | inl m ↦ m.text ∙ ap (λ (es : List Event). lines_after entries (after [] L.events) es ++ [])
-        (none_more (identity_of shape L) L.first (replies_of entries) (after [] L.events) w.follows.follows.left m.more g.follows.left (done_after plan L w) m.come)
-    | inr m ↦ absurd (some_line (identity_of shape L) L.first (replies_of entries) entries (after [] M.events) m.event m.more x m.text)
+        (none_more (identity_of shape L) L.first (journal_replies entries) (after [] L.events) w.follows.follows.left m.more g.follows.left (done_after plan L w) m.come)
+    | inr m ↦ absurd (some_line (identity_of shape L) L.first (journal_replies entries) entries (after [] M.events) m.event m.more x m.text)
   ]
 
   -- ---- What a text has from a client on
@@ -192,7 +192,7 @@ module _ (scenario : Scenario) (entries : List Entry) where
   pub record IsNextLine (plan : Plan) (L : Trace) (t : List Event) (before : List Step) (z : List ℕ) : Type 0 where
     pub event : Event
     pub left : List Step
-    pub next : IsNext (identity_of shape L) L.first (replies_of entries) t before event left
+    pub next : ComesNext (identity_of shape L) L.first (journal_replies entries) t before event left
     pub line : Begins (event_text entries t event) z
 
   -- The trace is whole, and the text begins with the line that comes behind it.
@@ -204,7 +204,7 @@ module _ (scenario : Scenario) (entries : List Entry) where
   GoesOn k plan plans L left z = IsNextLine plan L (reverse L.events) left z ⊎ IsNextHead k plan plans L z
 
   line_next : (plan : Plan) (L : Trace) (t : List Event) (left : List Step) (more : List Event) (last : List Step) (y z : List ℕ) →
-      ComeTo (identity_of shape L) L.first (replies_of entries) t left more last → y ≡ lines_after entries t more ++ z → ((more ≡ []) × (y ≡ z)) ⊎ IsNextLine plan L t left y
+      ComeTo (identity_of shape L) L.first (journal_replies entries) t left more last → y ≡ lines_after entries t more ++ z → ((more ≡ []) × (y ≡ z)) ⊎ IsNextLine plan L t left y
   line_next plan L t left [] last y z c e = inl (refl, e)
   line_next plan L t left (event ∷ more) last y z c e = inr (record {
     event = event;
@@ -223,7 +223,7 @@ module _ (scenario : Scenario) (entries : List Entry) where
       | inl none ↦ inl (p, none.1)
       | inr line ↦ inr (inl (same_after plan L f.follows.left y line))
     ]
-    | inr m ↦ absurd (some_line (identity_of shape L) L.first (replies_of entries) entries (after [] r.L.events) m.event m.more y m.text)
+    | inr m ↦ absurd (some_line (identity_of shape L) L.first (journal_replies entries) entries (after [] r.L.events) m.event m.more y m.text)
   ]
 
   whole_head : (P : Type 0) (k s : ℕ) (plan : Plan) (plans : List Plan) (L M : Trace) (y z : List ℕ) → IsOf k s plan L → IsOf k s plan M → IsWholeOf plan M → M.events ≡ L.events → y ≡ z →
@@ -244,7 +244,7 @@ module _ (scenario : Scenario) (entries : List Entry) where
           | inl none ↦ inr (whole_head P k s plan plans L r.L y r.y o r.of r.whole (m.events ∙ ap (λ (es : List Event). L.events ++ es) none.0 ∙ append-nil L.events) none.1 r.behind)
           | inr line ↦ inl (same_after plan L f.follows.left y line)
         ]
-        | inr m ↦ absurd (none_after (identity_of shape L) L.first (replies_of entries) (after [] r.L.events) m.before m.event m.left (done_after plan r.L r.whole) m.next)
+        | inr m ↦ absurd (none_after (identity_of shape L) L.first (journal_replies entries) (after [] r.L.events) m.before m.event m.left (done_after plan r.L r.whole) m.next)
       ]
 
   -- What stands behind the first lines of a client: nothing, where P holds; the line of an event that may come next; or, behind its whole trace, the

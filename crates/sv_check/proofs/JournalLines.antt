@@ -34,7 +34,7 @@ use Rattle.sv_check.specs.Parts.{IsEntryAfter, AreEntries}
 use Rattle.sv_check.specs.Stopping.{IfWrong}
 use Rattle.sv_check.specs.declared.journal.Served.{Served}
 use Rattle.sv_check.specs.Serving.{IsServed, entries_of}
-use Rattle.sv_check.specs.Entering.{ServedOne, HasServed, header_text, NoHeader, lines_of, line_after, TellsEntry, NoEntry, AreTold, BreaksOff}
+use Rattle.sv_check.specs.Entering.{ServedOne, HasServed, header_text, NoHeader, lines_of, line_after, TellsEntry, NoEntry, EntriesAreTold, BreaksOff}
 use Rattle.sv_check.proofs.Entries.{AreEntriesAfter, turned_more}
 use Rattle.sv_check.proofs.Journals.{after_none}
 use Rattle.sv_check.proofs.JournalParts.{line_stays, line_is_after, first_right}
@@ -84,8 +84,8 @@ after_more : (n : ℕ) (text : List ℕ) → after_lines (suc n) text ≡ drop (
 after_more zero text = refl
 after_more (suc n) text = after_more n (drop (line_width text) text)
 
-pub told_more : (scenario : Scenario) (before entries : List Entry) (d : Entry) (text : List ℕ) → AreTold scenario before entries text →
-    TellsEntry scenario (before ++ entries) d (after_lines (length entries) text) → AreTold scenario before (entries ++ d ∷ []) text
+pub told_more : (scenario : Scenario) (before entries : List Entry) (d : Entry) (text : List ℕ) → EntriesAreTold scenario before entries text →
+    TellsEntry scenario (before ++ entries) d (after_lines (length entries) text) → EntriesAreTold scenario before (entries ++ d ∷ []) text
 told_more scenario before [] d text told tells = (subst (λ (l : List Entry). TellsEntry scenario l d text) (append-nil before) tells, tt)
 told_more scenario before (e ∷ entries) d text told tells =
     let behind = drop (line_width text) text in (
@@ -94,7 +94,7 @@ told_more scenario before (e ∷ entries) d text told tells =
           (subst (λ (l : List Entry). TellsEntry scenario l d (after_lines (length entries) behind)) (sym (append_assoc before (e ∷ []) entries)) tells),
     )
 
-pub told_at : (scenario : Scenario) (before front : List Entry) (d : Entry) (more : List Entry) (text : List ℕ) → AreTold scenario before (front ++ d ∷ more) text →
+pub told_at : (scenario : Scenario) (before front : List Entry) (d : Entry) (more : List Entry) (text : List ℕ) → EntriesAreTold scenario before (front ++ d ∷ more) text →
     TellsEntry scenario (before ++ front) d (after_lines (length front) text)
 told_at scenario before [] d more text told = subst (λ (l : List Entry). TellsEntry scenario l d text) (sym (append-nil before)) told.0
 told_at scenario before (e ∷ front) d more text told =
@@ -116,7 +116,7 @@ after_one entries more d text rest next is at behind =
 -- So many lines of the text were served, and the rest comes next.
 pub record IsServing (scenario : Scenario) (served : Served) (text rest : List ℕ) (count : ℕ) : Type 0 where
   pub is : IsServed scenario served
-  pub told : AreTold scenario [] (entries_of served) text
+  pub told : EntriesAreTold scenario [] (entries_of served) text
   pub behind : rest ≡ after_lines (length (entries_of served)) text
   pub size : length (entries_of served) ≡ count
 
@@ -131,7 +131,7 @@ serving_more scenario old new text rest next count is so_far g so has drops =
     let grown : length (entries_of new) ≡ length (entries_of old ++ one.entry ∷ []) = ap length one.more in
     record {
       is = g;
-      told = subst (λ (es : List Entry). AreTold scenario [] es text) (sym one.more) (told_more scenario [] (entries_of old) one.entry text so_far.told tells);
+      told = subst (λ (es : List Entry). EntriesAreTold scenario [] es text) (sym one.more) (told_more scenario [] (entries_of old) one.entry text so_far.told tells);
       behind = after_one (entries_of old) (entries_of new) one.entry text rest next one.more so_far.behind drops;
       size = omega (arith, longer, size, grown);
     }
@@ -270,12 +270,12 @@ module _ (stay : FullRepliesStay) (names : LegalRelaysNameAccepted) (scenario : 
   broken_result (Err stop.Memory) es text lines a is d = tt
 
   -- The entry that breaks off is none that the text tells.
-  pub broken_none : (es : List Entry) (text : List ℕ) (left : ℕ) → AreEntries scenario (reverse es) → AreTold scenario [] es text → (b : BreaksOff form es text left) →
+  pub broken_none : (es : List Entry) (text : List ℕ) (left : ℕ) → AreEntries scenario (reverse es) → EntriesAreTold scenario [] es text → (b : BreaksOff form es text left) →
       NoEntry scenario b.front b.rest
   broken_none es text left a told b e rest right is =
       let all : AreEntries scenario (reverse (b.front ++ b.next ∷ b.more)) = subst (λ (l : List Entry). AreEntries scenario (reverse l)) b.entries_are a in
       let front = first_right stay names scenario b.front b.more b.next all in
-      let at = told_at scenario [] b.front b.next b.more text (subst (λ (l : List Entry). AreTold scenario [] l text) b.entries_are told) in
+      let at = told_at scenario [] b.front b.next b.more text (subst (λ (l : List Entry). EntriesAreTold scenario [] l text) b.entries_are told) in
       let here : TellsEntry scenario b.front b.next b.rest = subst (TellsEntry scenario b.front b.next)
       (ap (λ (l : List ℕ). after_lines (length b.front) l) b.text_is ∙ behind_all scenario b.front b.rest front.1) at in
       let same : e ≡ b.next = here e rest right is in

@@ -26,7 +26,7 @@ use Rattle.sv_lines.specs.Lines.{after_lines}
 use Rattle.sv_lines.specs.declared.stop.Stop.{Stop}
 use Rattle.sv_lines.specs.declared.stop.Stop.TheVariants as stop
 use Rattle.sv_check.specs.Stopping.{IsStop, IfWrong}
-use Rattle.sv_check.specs.Entering.{lines_of, line_after, header_text, NoHeader, NoEntry, AreTold, HasServedAll, BreaksOff}
+use Rattle.sv_check.specs.Entering.{lines_of, line_after, header_text, NoHeader, NoEntry, EntriesAreTold, HasServedAll, BreaksOff}
 use Rattle.sv_check.proofs.Asking.{entries_right}
 use Rattle.sv_check.proofs.JournalLines.{broken_none, behind_all}
 use Rattle.sv_check.proofs.JournalParts.{first_right, headed_is, headed, headed_more, headed_long, some_lines, GoesOn, in_whole, in_part, clients_behind, clients_split, world_behind, world_split}
@@ -186,7 +186,7 @@ module _ (stay : FullRepliesStay) (names : LegalRelaysNameAccepted) (order : Ste
         split ∙ headed_is count lines ∙ ap (headed count) is ∙ sym (headed_more count (lines_of scenario.world.shape front) rest)
 
     -- The line of an entry differs from what was printed.
-    pub stop_broken : length es ≤ count → AreTold scenario [] es lines → (left : ℕ) → BreaksOff scenario.world.shape es lines left → IsStop scenario text left
+    pub stop_broken : length es ≤ count → EntriesAreTold scenario [] es lines → (left : ℕ) → BreaksOff scenario.world.shape es lines left → IsStop scenario text left
     stop_broken within told left b =
         let all : AreEntries scenario (reverse (b.front ++ b.next ∷ b.more)) = subst (λ (l : List Entry). AreEntries scenario (reverse l)) b.entries_are right in
         let front = first_right stay names scenario b.front b.more b.next all in

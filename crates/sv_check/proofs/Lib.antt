@@ -1,3 +1,4 @@
+-- The lemmas of this crate, file by file.
 pub mod Settling
 pub mod Placing
 pub mod Acting

@@ -20,7 +20,7 @@ use Rattle.sv_system.proofs.Entered.{is_of, of-parts}
 use Rattle.sv_system.proofs.Fronts.{get-push_cases}
 use Rattle.sv_report.proofs.Lines.{first_back}
 use Rattle.sv_check.specs.Parts.{IsEntryAfter, AreEntries, AreSomeEntries}
-use Rattle.sv_check.specs.Next.{replies_of}
+use Rattle.sv_check.specs.Next.{journal_replies}
 use Rattle.sv_check.specs.Acting.{replies_before, next_entry, NoNextPlace}
 use Rattle.sv_check.proofs.Settling.{got_there, split_turned}
 
@@ -138,7 +138,7 @@ module _ (scenario : Scenario) (A : List Authored) (s : ℕ) where
 
 -- Where no next entry of a session stands from a place on, its next reply is a refusal, if it has one.
 pub none_left : (entries : List Entry) (place s : ℕ) (reply : Reply) (rs : List Reply) → AreSomeEntries (reverse entries) → NoNextPlace entries place s → rs ≡ replies_before entries place s →
-    slice_get (replies_of entries s) (length rs) ≡ Some reply → is_refused reply ≡ true
+    slice_get (journal_replies entries s) (length rs) ≡ Some reply → is_refused reply ≡ true
 none_left entries place s reply rs a n g is =
     let A = accepted (reverse entries) in
     let whole : reverse (drop place entries) ++ reverse (take place entries) ≡ reverse entries = split_turned place entries in

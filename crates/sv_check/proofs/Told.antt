@@ -19,14 +19,14 @@ use Rattle.sv_system.proofs.Fronts.{front-all, front-append, front-then, get-las
 use Rattle.sv_report.specs.Report.{event_text}
 use Rattle.sv_report.specs.Again.{lines_after}
 use Rattle.sv_report.proofs.Lines.{first_back}
-use Rattle.sv_check.specs.Next.{GetsNext, IsNext, GotFronts, IsSoFar}
+use Rattle.sv_check.specs.Next.{GetsNextReply, ComesNext, GotFronts, IsSoFar}
 use Rattle.sv_check.proofs.Events.{here_at, same_left, event_tells}
 
 -- ---- Events in order, to the end of a trace
 
 abbrev pub AreNext : Identity → ℕ → (ℕ → List Reply) → List Event → List Step → List Event → Type 0
 AreNext who first R t before [] = is_finished t ≡ true
-AreNext who first R t before (e ∷ es) = (left : List Step) × (IsNext who first R t before e left × AreNext who first R (e ∷ t) left es)
+AreNext who first R t before (e ∷ es) = (left : List Step) × (ComesNext who first R t before e left × AreNext who first R (e ∷ t) left es)
 
 pub line_rest : (line lines more x y : List ℕ) (left : List ℕ) → left ≡ line ++ 10 ∷ [] → (left ++ lines) ++ x ≡ (left ++ more) ++ y → lines ++ x ≡ more ++ y
 line_rest line lines more x y left is same = append_cancel_left left (lines ++ x) (more ++ y) (sym (append_assoc left lines x) ∙ same ∙ append_assoc left more y)
@@ -89,7 +89,7 @@ module _ (who : Identity) (first : ℕ) (R : ℕ → List Reply) where
   got_last t s reply =
       ap (λ (rs : List Reply). slice_get rs (length (got t s))) (cond-true (eqb s s) (got t s ++ reply ∷ []) (got t s) (eq-eqb s s refl)) ∙ get-last (got t s) reply
 
-  pub gets_next : (e : Event) (t : List Event) → MayFollow who first t e → GotFronts R (e ∷ t) → GetsNext R t e
+  pub gets_next : (e : Event) (t : List Event) → MayFollow who first t e → GotFronts R (e ∷ t) → GetsNextReply R t e
   gets_next (events.Got s reply) t m g = g s (or_right false (list_any (is_join_of s) t) (current_joined t s m.current)) (length (got t s)) reply (got_last t s reply)
   gets_next (events.Join s) t m g = tt
   gets_next (events.Make action) t m g = tt

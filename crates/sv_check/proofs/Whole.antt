@@ -19,7 +19,7 @@ use Rattle.sv_system.specs.Fronts.{IsFront}
 use Rattle.sv_schedule.proofs.DoneFacts.{any-turned}
 use Rattle.sv_check.specs.declared.actor.Actor.{Actor}
 use Rattle.sv_check.specs.Parts.{IsWholeTrace, IsOf}
-use Rattle.sv_check.specs.Acting.{IsActing, IsSettled, IsAmiss, Settles, identity, numbered}
+use Rattle.sv_check.specs.Acting.{IsActing, IsSettled, IsAmiss, Settles, identity, journal_events}
 use Rattle.sv_check.proofs.Acting.{begun_settled, latest_settled, latest_amiss}
 use Rattle.sv_check.proofs.Told.{current_joined}
 
@@ -27,12 +27,12 @@ module _ (entries : List Entry) (a : Actor) (shape : Shape) (plan : Plan) (g : I
   abbrev M : Trace
   M = trace_from a.first a.client
 
-  back : reverse M.events ≡ numbered a
-  back = reverse-reverse (numbered a)
+  back : reverse M.events ≡ journal_events a
+  back = reverse-reverse (journal_events a)
 
   -- Its trace is whole where each of its sessions is settled.
   whole : a.finished ≡ true → a.client.who.shape ≡ shape → a.script.now ≡ plan.steps → Proper shape M →
-      ((s : ℕ) → list_any (is_join_of s) (numbered a) ≡ true → IsSettled (reverse entries) (asked a.client.who.client a.client.who.interest (numbered a) s) s) →
+      ((s : ℕ) → list_any (is_join_of s) (journal_events a) ≡ true → IsSettled (reverse entries) (asked a.client.who.client a.client.who.interest (journal_events a) s) s) →
       IsWholeTrace shape (reverse entries) plan M
   whole done same script proper settled =
       let who_is : a.client.who ≡ identity_of shape M = ap (λ (x : Shape). record { client = a.client.who.client; interest = a.client.who.interest; shape = x }) same in
@@ -42,8 +42,8 @@ module _ (entries : List Entry) (a : Actor) (shape : Shape) (plan : Plan) (g : I
           follows = record {
             left = a.left.now;
             follows = subst (λ (u : List Event). FollowsTo (identity_of shape M) plan.steps u a.left.now) (sym back)
-                (subst (λ ss. FollowsTo (identity_of shape M) ss (numbered a) a.left.now) script
-                (subst (λ (w : Identity). FollowsTo w a.script.now (numbered a) a.left.now) who_is (up_follows a.first a.client.who a.script.now a.client.events a.left.now g.follows)));
+                (subst (λ ss. FollowsTo (identity_of shape M) ss (journal_events a) a.left.now) script
+                (subst (λ (w : Identity). FollowsTo w a.script.now (journal_events a) a.left.now) who_is (up_follows a.first a.client.who a.script.now a.client.events a.left.now g.follows)));
           };
           finished = ap is_finished back ∙ up_finished a.first a.client.events ∙ sym g.flags.finished ∙ done;
         };
@@ -58,10 +58,10 @@ module _ (entries : List Entry) (a : Actor) (shape : Shape) (plan : Plan) (g : I
       }
 
   -- Each session of a whole trace is settled.
-  settled_in : IsWholeTrace shape (reverse entries) plan M → (s : ℕ) → list_any (is_join_of s) (numbered a) ≡ true →
-      IsSettled (reverse entries) (asked a.client.who.client a.client.who.interest (numbered a) s) s
+  settled_in : IsWholeTrace shape (reverse entries) plan M → (s : ℕ) → list_any (is_join_of s) (journal_events a) ≡ true →
+      IsSettled (reverse entries) (asked a.client.who.client a.client.who.interest (journal_events a) s) s
   settled_in w s j =
-      let fits = w.fits s (any-turned (is_join_of s) (numbered a) j) in
+      let fits = w.fits s (any-turned (is_join_of s) (journal_events a) j) in
       record {
         front = subst (λ (u : List Event). IsFront (requests_in (reverse entries) s) (asked a.client.who.client a.client.who.interest u s)) back fits.asked;
         ended = fits.ended;
@@ -72,7 +72,7 @@ module _ (entries : List Entry) (a : Actor) (shape : Shape) (plan : Plan) (g : I
   unfit_of fits unfit f w =
       elim (unfit f) [
         | inl old ↦ (let u = g.asks.unfit old in u.1.not_settled (settled_in w u.0 u.1.begun))
-        | inr new ↦ (let l = latest_amiss entries a g new in l.not_settled (settled_in w l.which (current_joined (numbered a) l.which l.latest)))
+        | inr new ↦ (let l = latest_amiss entries a g new in l.not_settled (settled_in w l.which (current_joined (journal_events a) l.which l.latest)))
       ]
 
 -- The trace is the same after its sessions were looked at.
@@ -88,7 +88,7 @@ finished entries a b number shape plan L g done d fits who script is proper =
     let all = d.fits fits in
     subst (λ (M : Trace). IsWholeTrace shape (reverse entries) plan M) (sym same)
     (whole entries a shape plan g done shape_is script (subst (Proper shape) same proper_is)
-    (begun_settled entries a.client.who (numbered a) a.asked.items a.fits g.asks (latest_settled entries a g all.1) all.0))
+    (begun_settled entries a.client.who (journal_events a) a.asked.items a.fits g.asks (latest_settled entries a g all.1) all.0))
 
 pub unfit : (entries : List Entry) (a b : Actor) (shape : Shape) (plan : Plan) → IsActing entries a → Settles entries a b → b.fits ≡ false →
     IsWholeTrace shape (reverse entries) plan (trace_from a.first a.client) → ⊥

@@ -17,7 +17,7 @@ use Rattle.sv_script.specs.Laws.{is_got}
 use Rattle.sv_player.proofs.Raised.{up_finished}
 use Rattle.sv_report.specs.Report.{event_text}
 use Rattle.sv_report.proofs.Doing.{may_do}
-use Rattle.sv_check.specs.Next.{GetsNext, IsNext, NoEvent, replies_of}
+use Rattle.sv_check.specs.Next.{GetsNextReply, ComesNext, NoEvent, journal_replies}
 use Rattle.sv_check.specs.Acting.{IsNextEvent, NoNextEvent, begins_got, is_other}
 use Rattle.sv_check.proofs.Events.{IsGot, joined_at, join_is, got_is, same_event, letter}
 use Rattle.sv_check.proofs.Acting.{may_follow}
@@ -96,7 +96,7 @@ other_not_got events.Cut o = refl
 other_not_got events.Quit o = refl
 other_not_got (events.Show objects) o = refl
 
-other_gets : (R : ℕ → List Reply) (t : List Event) (e : Event) → is_other e ≡ true → GetsNext R t e
+other_gets : (R : ℕ → List Reply) (t : List Event) (e : Event) → is_other e ≡ true → GetsNextReply R t e
 other_gets R t (events.Join s) o = tt
 other_gets R t (events.Got s reply) o = absurd (true≢false (sym o))
 other_gets R t (events.Make a) o = tt
@@ -138,14 +138,14 @@ no_line x text line is none rest whole = none rest (whole ∙ sym (append_assoc 
 
 module _ (who : Identity) (first : ℕ) (entries : List Entry) (t : List Event) (before : List Step) (text : List ℕ) where
   kind_of : (e : Event) (rest : List ℕ) → text ≡ event_text entries (Up first t) e ++ 10 ∷ rest → is_got e ≡ begins_got text
-  kind_of e rest is = sym (letter who first (replies_of entries) (Up first t) before entries e (10 ∷ rest)) ∙ ap begins_got (sym is)
+  kind_of e rest is = sym (letter who first (journal_replies entries) (Up first t) before entries e (10 ∷ rest)) ∙ ap begins_got (sym is)
 
-  not_join : (e : Event) (left : List Step) → must_join t ≡ false → IsNext who first (replies_of entries) (Up first t) before e left → is_join e ≡ false
-  not_join e left j n = joined_at who first (replies_of entries) (Up first t) before e left n.comes ∙ up_must first t ∙ j
+  not_join : (e : Event) (left : List Step) → must_join t ≡ false → ComesNext who first (journal_replies entries) (Up first t) before e left → is_join e ≡ false
+  not_join e left j n = joined_at who first (journal_replies entries) (Up first t) before e left n.comes ∙ up_must first t ∙ j
 
   -- Where the text does not begin as that of a reply, its event is a step or the Leave, which the client may do.
   move_of : (e : Event) (left : List Step) (rest : List ℕ) → begins_got text ≡ false → must_join t ≡ false →
-      IsNext who first (replies_of entries) (Up first t) before e left → text ≡ event_text entries (Up first t) e ++ 10 ∷ rest → IsNextEvent who t before e left
+      ComesNext who first (journal_replies entries) (Up first t) before e left → text ≡ event_text entries (Up first t) e ++ 10 ∷ rest → IsNextEvent who t before e left
   move_of e left rest b j n is = record {
     other = other_is e (not_join e left j n) (kind_of e rest is ∙ b);
     may = may_do first who t e n.follows;
@@ -170,19 +170,19 @@ module _ (who : Identity) (first : ℕ) (entries : List Entry) (t : List Event) 
   pub other_join : must_join t ≡ true → (joins t < 64 → (rest : List ℕ) → text ≡ (codes "join s" ++ decimal (first + joins t)) ++ 10 ∷ rest → ⊥) →
       NoEvent who first entries (Up first t) before text
   other_join j none e left rest n is =
-      let kind : is_join e ≡ true = joined_at who first (replies_of entries) (Up first t) before e left n.comes ∙ up_must first t ∙ j in
-      let same : e ≡ events.Join (first + joins (Up first t)) = join_is who first (replies_of entries) (Up first t) before e kind n.follows in
+      let kind : is_join e ≡ true = joined_at who first (journal_replies entries) (Up first t) before e left n.comes ∙ up_must first t ∙ j in
+      let same : e ≡ events.Join (first + joins (Up first t)) = join_is who first (journal_replies entries) (Up first t) before e kind n.follows in
       let follows : MayFollow who first (Up first t) (events.Join (first + joins (Up first t))) = subst (λ (d : Event). MayFollow who first (Up first t) d) same n.follows in
       none (subst (λ (k : ℕ). k < 64) (up_joins first t) follows.few) rest
       (is ∙ ap (λ (d : Event). event_text entries (Up first t) d ++ 10 ∷ rest) (same ∙ ap (λ (k : ℕ). events.Join (first + k)) (up_joins first t)))
 
   -- The next event is a reply that is got.
   abbrev pub NoReply : Type 0
-  NoReply = (s : ℕ) (reply : Reply) (rest : List ℕ) → current_session (Up first t) ≡ Some s → slice_get (replies_of entries s) (length (got (Up first t) s)) ≡ Some reply →
+  NoReply = (s : ℕ) (reply : Reply) (rest : List ℕ) → current_session (Up first t) ≡ Some s → slice_get (journal_replies entries s) (length (got (Up first t) s)) ≡ Some reply →
       first_fault_of_reply who (Up first t) reply ≡ None → text ≡ event_text entries (Up first t) (events.Got s reply) ++ 10 ∷ rest → ⊥
 
   pub none_got : begins_got text ≡ true → NoReply → NoEvent who first entries (Up first t) before text
   none_got b none e left rest n is =
-      let g : IsGot (replies_of entries) (Up first t) e = got_is who first (replies_of entries) (Up first t) before e (kind_of e rest is ∙ b) n.follows n.gets in
+      let g : IsGot (journal_replies entries) (Up first t) e = got_is who first (journal_replies entries) (Up first t) before e (kind_of e rest is ∙ b) n.follows n.gets in
       let follows : MayFollow who first (Up first t) (events.Got g.session g.reply) = subst (λ (d : Event). MayFollow who first (Up first t) d) g.is n.follows in
       none g.session g.reply rest g.current g.next follows.taken (is ∙ ap (λ (d : Event). event_text entries (Up first t) d ++ 10 ∷ rest) g.is)

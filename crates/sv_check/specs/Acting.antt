@@ -1,11 +1,11 @@
 -- A client that does what the lines of its part tell. Events stand with the latest first; the client counts its sessions from 0.
-use Rattle.std.specs.Prelude.{◌≡◌, ◌⊎◌, ℕ, ◌+◌, ◌<◌, ◌==◌, Bool, true, false, ◌||◌, List, [], ◌∷◌, ◌++◌, map, length, reverse, take, drop, get_or, slice_get, Option, Some, None, IfSome, if◌then◌else◌}
+use Rattle.std.specs.Prelude.{◌≡◌, ◌⊎◌, ℕ, ◌+◌, ◌<◌, ◌==◌, Bool, true, false, ◌||◌, List, [], ◌∷◌, ◌++◌, length, reverse, take, drop, get_or, slice_get, Option, Some, None, IfSome, if◌then◌else◌}
 use Rattle.std.specs.List.{list_any}
+use Rattle.sv_world.specs.Limits.{most_sessions}
 use Rattle.sv_world.specs.declared.world.Shape.{Shape}
 use Rattle.sv_scenario.specs.declared.scenario.Plan.{Plan}
 use Rattle.sv_wire.specs.declared.message.Request.{Request}
 use Rattle.sv_wire.specs.declared.message.Reply.{Reply}
-use Rattle.sv_wire.specs.declared.message.Reply.TheVariants as replies
 use Rattle.sv_journal.specs.declared.entry.Entry.{Entry}
 use Rattle.sv_journal.specs.History.{accepted}
 use Rattle.sv_journal.specs.Sessions.{is_end}
@@ -15,20 +15,20 @@ use Rattle.sv_client.specs.Traces.{joins, current_session, asked, got}
 use Rattle.sv_client.specs.Taking.{Identity, first_fault_of_reply}
 use Rattle.sv_client.specs.Answers.{got_now}
 use Rattle.sv_client.specs.Proper.{AreProper}
-use Rattle.sv_client.specs.Seen.{raised, with_event, newly_asked}
-use Rattle.sv_report.specs.Again.{MayDo, IsPlace, behind_next}
+use Rattle.sv_client.specs.Seen.{with_event, newly_asked}
+use Rattle.sv_report.specs.Again.{MayDo, IsPlace, behind_next, numbered}
 use Rattle.sv_report.specs.Report.{entry_number}
 use Rattle.sv_scenario.specs.declared.scenario.Step.{Step}
-use Rattle.sv_scenario.specs.declared.scenario.Step.TheVariants as steps
-use Rattle.sv_script.specs.Following.{FollowsTo, MayCome, event_of, must_join, is_welcomed, is_finished}
+use Rattle.sv_script.specs.Following.{FollowsTo, MayCome, event_of, must_join, is_bye, is_welcomed, is_finished}
 use Rattle.sv_system.specs.Fits.{is_join_of, requests_in, replies_in, IsEndLast}
 use Rattle.sv_system.specs.Fronts.{IsFront}
+use Rattle.sv_system.specs.Outcomes.{is_quit}
 use Rattle.sv_check.specs.declared.actor.Actor.{Actor}
 use Rattle.sv_check.specs.Next.{NoEvent}
 
 -- Its events, with the numbers that its sessions have in the journal.
-abbrev pub numbered : Actor → List Event
-numbered a = map (raised a.first) a.client.events
+abbrev pub journal_events : Actor → List Event
+journal_events a = numbered a.first a.client.events
 
 -- Who the client with a number and a plan is.
 abbrev pub identity : ℕ → Shape → Plan → Identity
@@ -65,21 +65,21 @@ pub record HasGot (entries : List Entry) (T : List Event) (place : ℕ) : Type 0
 
 -- The flags say what the events do.
 pub record AreFlags (a : Actor) : Type 0 where
-  pub session : a.session ≡ current_session (numbered a)
+  pub session : a.session ≡ current_session (journal_events a)
   pub between : a.between ≡ must_join a.client.events
   pub welcomed : a.welcomed ≡ is_welcomed a.client.events
   pub finished : a.finished ≡ is_finished a.client.events
 
 -- The client did its script so far, and got and asked what the journal has.
 pub record IsActing (entries : List Entry) (a : Actor) : Type 0 where
-  pub few : a.first < 64
+  pub few : a.first < most_sessions
   pub shape : a.shape ≡ a.client.who.shape
   pub proper : AreProper a.client.who 0 a.client.events
   pub follows : FollowsTo a.client.who a.script.now a.client.events a.left.now
   pub flags : AreFlags a
-  pub gets : HasGot entries (numbered a) a.place
-  pub stands : IsPlace entries (numbered a) a.place
-  pub asks : HasAsked entries a.client.who (numbered a) a.asked.items a.fits
+  pub gets : HasGot entries (journal_events a) a.place
+  pub stands : IsPlace entries (journal_events a) a.place
+  pub asks : HasAsked entries a.client.who (journal_events a) a.asked.items a.fits
 
 -- The same client went on in its script.
 pub record WentOn (entries : List Entry) (old new : Actor) : Type 0 where
@@ -89,14 +89,6 @@ pub record WentOn (entries : List Entry) (old new : Actor) : Type 0 where
   pub script : new.script.now ≡ old.script.now
 
 -- ---- What comes next
-
-abbrev pub is_bye : Reply → Bool
-is_bye replies.Bye = true
-is_bye _ = false
-
-abbrev pub is_sync : Step → Bool
-is_sync steps.Sync = true
-is_sync _ = false
 
 -- An event that is no Join and no Got.
 abbrev pub is_other : Event → Bool
@@ -124,7 +116,7 @@ begins_got text = get_or text 0 0 == 103
 
 -- No event that may come next has a line with which the text begins, of which so many bytes are left.
 abbrev pub NoneComes : List Entry → Actor → List ℕ → ℕ → Type 0
-NoneComes entries a text left = (left ≡ length text) × NoEvent a.client.who a.first entries (numbered a) a.left.now text
+NoneComes entries a text left = (left ≡ length text) × NoEvent a.client.who a.first entries (journal_events a) a.left.now text
 
 -- The next entry of session s from a place on is the one at the place p, and it is no End.
 pub record IsNextPlace (entries : List Entry) (place s p : ℕ) : Type 0 where
@@ -187,13 +179,9 @@ pub record GotReply (reply : Reply) (place : ℕ) (old new : Actor) : Type 0 whe
   }
   pub asked_is : new.asked.items ≡ old.asked.items ++ newly_asked old.client.who old.client.events (got_now old.client.events reply)
 
-abbrev pub is_cut : Event → Bool
-is_cut events.Cut = true
-is_cut _ = false
-
-abbrev pub is_quit : Event → Bool
-is_quit events.Quit = true
-is_quit _ = false
+abbrev pub cuts_session : Event → Bool
+cuts_session events.Cut = true
+cuts_session _ = false
 
 -- It did such an event.
 pub record Made (e : Event) (old new : Actor) : Type 0 where
@@ -201,7 +189,7 @@ pub record Made (e : Event) (old new : Actor) : Type 0 where
   pub same : new ≡ record old {
     client = new.client;
     asked = new.asked;
-    between = old.between || is_cut e;
+    between = old.between || cuts_session e;
     finished = old.finished || is_quit e;
   }
   pub asked_is : new.asked.items ≡ old.asked.items ++ newly_asked old.client.who old.client.events e

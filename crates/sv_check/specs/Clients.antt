@@ -12,8 +12,8 @@ use Rattle.sv_system.specs.Fits.{has_session}
 use Rattle.sv_system.specs.Fronts.{IsFront}
 use Rattle.sv_report.specs.Report.{event_lines, trace_text}
 use Rattle.sv_check.specs.declared.actor.Actor.{Actor}
-use Rattle.sv_check.specs.Acting.{WentOn, numbered}
-use Rattle.sv_check.specs.Next.{NoEvent, replies_of}
+use Rattle.sv_check.specs.Acting.{WentOn, journal_events}
+use Rattle.sv_check.specs.Next.{NoEvent, journal_replies}
 use Rattle.sv_check.specs.Parts.{IsWholeTrace, IsOf}
 
 -- The lines of an actor's events stop being right: it went on as far as they are, is not finished, and no event has a line with which the
@@ -23,16 +23,16 @@ pub record EventsStop (entries : List Entry) (old : Actor) (text : List ℕ) (le
   pub on : WentOn entries old now
   pub here : now.finished ≡ false
   pub rest : List ℕ
-  pub text_is : event_lines entries (numbered old) ++ text ≡ event_lines entries (numbered now) ++ rest
+  pub text_is : event_lines entries (journal_events old) ++ text ≡ event_lines entries (journal_events now) ++ rest
   pub left_is : left ≡ length rest
-  pub none : NoEvent now.client.who now.first entries (numbered now) now.left.now rest
+  pub none : NoEvent now.client.who now.first entries (journal_events now) now.left.now rest
 
 -- A client's part is right as far as the trace L: the client can have it, it follows the script, and it got the first of each session's replies.
 pub record IsPartSoFar (shape : Shape) (entries : List Entry) (number first : ℕ) (plan : Plan) (L : Trace) : Type 0 where
   pub of : IsOf number first plan L
   pub proper : Proper shape L
   pub follows : Follows shape plan.steps L
-  pub gets : (s : ℕ) → has_session L s ≡ true → IsFront (got (reverse L.events) s) (replies_of entries s)
+  pub gets : (s : ℕ) → has_session L s ≡ true → IsFront (got (reverse L.events) s) (journal_replies entries s)
 
 -- It stops being right behind L: no event that may come next has a line with which the rest begins, and L is not whole.
 pub record PartStops (shape : Shape) (entries : List Entry) (number first : ℕ) (plan : Plan) (text : List ℕ) (left : ℕ) : Type 0 where

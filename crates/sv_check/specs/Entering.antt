@@ -36,9 +36,9 @@ abbrev pub NoEntry : Scenario → List Entry → List ℕ → Type 0
 NoEntry scenario entries text = (e : Entry) (rest : List ℕ) → IsEntryAfter scenario (reverse entries) e → text ≢ line_after scenario.world.shape entries e ++ rest
 
 -- The lines of the text tell these entries, which come after others.
-abbrev pub AreTold : Scenario → List Entry → List Entry → List ℕ → Type 0
-AreTold scenario before [] text = Unit {0}
-AreTold scenario before (d ∷ entries) text = TellsEntry scenario before d text × AreTold scenario (before ++ d ∷ []) entries (drop (line_width text) text)
+abbrev pub EntriesAreTold : Scenario → List Entry → List Entry → List ℕ → Type 0
+EntriesAreTold scenario before [] text = Unit {0}
+EntriesAreTold scenario before (d ∷ entries) text = TellsEntry scenario before d text × EntriesAreTold scenario (before ++ d ∷ []) entries (drop (line_width text) text)
 
 -- One entry more, which the text tells.
 pub record ServedOne (scenario : Scenario) (old new : Served) (text : List ℕ) : Type 0 where
@@ -53,7 +53,7 @@ HasServed scenario old new text false = (entries_of new ≡ entries_of old) × N
 
 -- The lines of the text tell the entries that were served, all of them or up to the first that tells none.
 pub record HasServedAll (scenario : Scenario) (served : Served) (text : List ℕ) (count : ℕ) (whole : Bool) : Type 0 where
-  pub told : AreTold scenario [] (entries_of served) text
+  pub told : EntriesAreTold scenario [] (entries_of served) text
   pub all : whole ≡ true → length (entries_of served) ≡ count
   pub some : whole ≡ false → length (entries_of served) < count
   pub none : whole ≡ false → NoEntry scenario (entries_of served) (after_lines (length (entries_of served)) text)

@@ -1,3 +1,4 @@
+-- The definitions of this crate, file by file.
 pub mod Consistent
 pub mod Parts
 pub mod Wrong

@@ -17,19 +17,19 @@ use Rattle.sv_system.specs.Fronts.{IsFront}
 use Rattle.sv_report.specs.Report.{event_text}
 
 -- The replies of each session, by the entries of a journal in order.
-abbrev pub replies_of : List Entry → ℕ → List Reply
-replies_of entries s = replies_in (accepted (reverse entries)) (reverse entries) s
+abbrev pub journal_replies : List Entry → ℕ → List Reply
+journal_replies entries s = replies_in (accepted (reverse entries)) (reverse entries) s
 
 -- The reply that an event gets is the next one of its session.
-abbrev pub GetsNext : (ℕ → List Reply) → List Event → Event → Type 0
-GetsNext R t (events.Got s reply) = slice_get (R s) (length (got t s)) ≡ Some reply
-GetsNext R t e = Unit {0}
+abbrev pub GetsNextReply : (ℕ → List Reply) → List Event → Event → Type 0
+GetsNextReply R t (events.Got s reply) = slice_get (R s) (length (got t s)) ≡ Some reply
+GetsNextReply R t e = Unit {0}
 
 -- An event that comes next in some trace, with the steps that are left before and after it.
-pub record IsNext (who : Identity) (first : ℕ) (R : ℕ → List Reply) (t : List Event) (before : List Step) (e : Event) (left : List Step) : Type 0 where
+pub record ComesNext (who : Identity) (first : ℕ) (R : ℕ → List Reply) (t : List Event) (before : List Step) (e : Event) (left : List Step) : Type 0 where
   pub follows : MayFollow who first t e
   pub comes : MayCome who t before e left
-  pub gets : GetsNext R t e
+  pub gets : GetsNextReply R t e
 
 -- In each session that was begun, the first of its replies were got.
 abbrev pub GotFronts : (ℕ → List Reply) → List Event → Type 0
@@ -44,7 +44,7 @@ pub record IsSoFar (who : Identity) (first : ℕ) (R : ℕ → List Reply) (scri
 -- No event that may come next has a line with which the text begins.
 abbrev pub NoEvent : Identity → ℕ → List Entry → List Event → List Step → List ℕ → Type 0
 NoEvent who first entries t before text =
-    (e : Event) (left : List Step) (rest : List ℕ) → IsNext who first (replies_of entries) t before e left → text ≡ event_text entries t e ++ 10 ∷ rest → ⊥
+    (e : Event) (left : List Step) (rest : List ℕ) → ComesNext who first (journal_replies entries) t before e left → text ≡ event_text entries t e ++ 10 ∷ rest → ⊥
 
 -- The text begins with the line of an event, which the events `now` have more than `old`.
 pub record IsLineOf (entries : List Entry) (old now : List Event) (text rest : List ℕ) : Type 0 where

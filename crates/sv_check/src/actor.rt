@@ -1,6 +1,7 @@
 //! A client that does what the lines of its part tell.
 ghost use Rattle.std.specs.Prelude.{◌≡◌, ℕ, ◌+◌, ◌<◌, ◌^◌, true, false, List, [], ◌∷◌, ◌++◌, length, reverse, codes, string_bytes, None, IfOk, IfSome, OnOk, MatchOption};
 ghost use Rattle.std.specs.Fmt.{decimal};
+ghost use Rattle.sv_world.specs.Limits.{most_sessions};
 ghost use Rattle.sv_client.specs.declared.trace.Event.TheVariants as events;
 ghost use Rattle.sv_client.specs.Traces.{joins};
 ghost use Rattle.sv_client.specs.Taking.{first_fault_of_reply};
@@ -10,7 +11,7 @@ ghost use Rattle.sv_report.specs.Again.{MayDo};
 ghost use Rattle.sv_report.specs.Report.{event_text};
 ghost use Rattle.sv_script.specs.Following.{must_join, is_welcomed, is_finished};
 ghost use Rattle.sv_check.specs.Serving.{HasReplies, entries_of};
-ghost use Rattle.sv_check.specs.Acting.{IsActing, WentOn, IsNextEvent, IsNextPlace, NoNextPlace, NoneComes, Settles, Joined, GotReply, Made, numbered, begins_got, is_bye, is_other};
+ghost use Rattle.sv_check.specs.Acting.{IsActing, WentOn, IsNextEvent, IsNextPlace, NoNextPlace, NoneComes, Settles, Joined, GotReply, Made, journal_events, begins_got, is_other};
 ghost use Rattle.sv_check.specs.Parts.{AreSomeEntries};
 ghost use Rattle.sv_check.specs.Next.{IsLineOf, NoEvent};
 ghost use Rattle.sv_check.specs.Stopping.{IfWrong};
@@ -24,8 +25,9 @@ use sv_journal::Entry;
 use sv_lines::{Stop, take_line};
 use sv_report::{append_after, append_before};
 use sv_scenario::Step;
+use sv_script::is_bye;
 use sv_wire::{Reply, Request};
-use sv_world::{Action, ObjectId, Shape, copy_action, copy_objects};
+use sv_world::{Action, MOST_SESSIONS, ObjectId, Shape, copy_action, copy_objects};
 
 /// A client that does its script.
 #[derive(Drop)]
@@ -51,12 +53,6 @@ pub(crate) struct Actor<'a> {
     pub asked: Vec<Request>,
     /// The journal has the first requests of each of its earlier sessions.
     pub fits: bool,
-}
-
-fn is_bye(reply: &Reply) -> bool
-    ensures { result ≡ is_bye reply.now }
-{
-    matches!(reply, Reply::Bye)
 }
 
 /// The place of the next entry of a session, from a place on, where that is no End.
@@ -128,8 +124,8 @@ impl<'a> Actor<'a> {
     }
 
     fn join(&mut self) -> Result<(), AllocError>
-        requires few { joins self.old.client.events < 64 }
-        requires first { self.old.first < 64 }
+        requires few { joins self.old.client.events < most_sessions }
+        requires first { self.old.first < most_sessions }
         ensures { OnOk result (Joined self.old self.new) }
     {
         let session = self.first + self.client.sessions();
@@ -152,10 +148,10 @@ impl<'a> Actor<'a> {
         requires acting { IsActing (entries_of served.now) self.old }
         requires needed { must_join self.old.client.events ≡ true }
         ensures on { OnOk result (WentOn (entries_of served.now) self.old self.new) }
-        ensures told { IfOk result (λ rest. IsLineOf (entries_of served.now) (numbered self.old) (numbered self.new) text.now rest.now) }
+        ensures told { IfOk result (λ rest. IsLineOf (entries_of served.now) (journal_events self.old) (journal_events self.new) text.now rest.now) }
         ensures wrong { IfWrong result (NoneComes (entries_of served.now) self.old text.now) }
     {
-        if self.client.sessions() >= 64 {
+        if self.client.sessions() >= MOST_SESSIONS {
             return Err(Stop::Wrong { left: text.len() });
         }
         let session = self.first + self.client.sessions();
@@ -200,7 +196,7 @@ impl<'a> Actor<'a> {
         requires here { is_finished self.old.client.events ≡ false }
         requires begins { begins_got text.now ≡ true }
         ensures on { OnOk result (WentOn (entries_of served.now) self.old self.new) }
-        ensures told { IfOk result (λ rest. IsLineOf (entries_of served.now) (numbered self.old) (numbered self.new) text.now rest.now) }
+        ensures told { IfOk result (λ rest. IsLineOf (entries_of served.now) (journal_events self.old) (journal_events self.new) text.now rest.now) }
         ensures wrong { IfWrong result (NoneComes (entries_of served.now) self.old text.now) }
     {
         let entries = served.sequencer.journal().entries();
@@ -333,8 +329,8 @@ impl<'a> Actor<'a> {
         requires here { is_finished self.old.client.events ≡ false }
         requires next { IsNextEvent self.old.client.who self.old.client.events self.old.left.now event.now left.now }
         ensures on { OnOk result (WentOn (entries_of served.now) self.old self.new) }
-        ensures done { OnOk result (numbered self.new ≡ event.now ∷ numbered self.old) }
-        ensures line { IfOk result (λ line. string_bytes line ≡ event_text (entries_of served.now) (numbered self.old) event.now ++ 10 ∷ []) }
+        ensures done { OnOk result (journal_events self.new ≡ event.now ∷ journal_events self.old) }
+        ensures line { IfOk result (λ line. string_bytes line ≡ event_text (entries_of served.now) (journal_events self.old) event.now ++ 10 ∷ []) }
     {
         let mut line = String::new(alloc);
         append_before(&self.client, 0, event, &mut line)?;
@@ -357,7 +353,7 @@ impl<'a> Actor<'a> {
         requires here { is_finished self.old.client.events ≡ false }
         requires begins { begins_got text.now ≡ false }
         ensures on { OnOk result (WentOn (entries_of served.now) self.old self.new) }
-        ensures told { IfOk result (λ rest. IsLineOf (entries_of served.now) (numbered self.old) (numbered self.new) text.now rest.now) }
+        ensures told { IfOk result (λ rest. IsLineOf (entries_of served.now) (journal_events self.old) (journal_events self.new) text.now rest.now) }
         ensures wrong { IfWrong result (NoneComes (entries_of served.now) self.old text.now) }
     {
         let Some((event, left)) = next_event(alloc, self.shape, &self.client, self.left)? else {
@@ -382,8 +378,8 @@ impl<'a> Actor<'a> {
         requires right { AreSomeEntries (reverse (entries_of served.now)) }
         requires here { self.old.finished ≡ false }
         ensures on { OnOk result (WentOn (entries_of served.now) self.old self.new) }
-        ensures told { IfOk result (λ rest. IsLineOf (entries_of served.now) (numbered self.old) (numbered self.new) text.now rest.now) }
-        ensures wrong { IfWrong result (λ left. (left ≡ length text.now) × NoEvent self.old.client.who self.old.first (entries_of served.now) (numbered self.old) self.old.left.now text.now) }
+        ensures told { IfOk result (λ rest. IsLineOf (entries_of served.now) (journal_events self.old) (journal_events self.new) text.now rest.now) }
+        ensures wrong { IfWrong result (λ left. (left ≡ length text.now) × NoEvent self.old.client.who self.old.first (entries_of served.now) (journal_events self.old) self.old.left.now text.now) }
     {
         if self.between {
             return self.take_join(alloc, served, text);
@@ -399,7 +395,7 @@ impl<'a> Actor<'a> {
 
     /// What it did.
     pub(crate) fn into_trace(self) -> Trace
-        requires { self.first < 64 }
+        requires { self.first < most_sessions }
         ensures trace { result ≡ trace_from self.entry.first self.entry.client }
         ensures proper { Proper self.entry.client.who.shape result }
     {

@@ -14,10 +14,10 @@ ghost use Rattle.sv_check.specs.Verdicts.{IsVerdict};
 use crate::Verdict;
 use crate::clients::take_clients;
 use crate::journal::{Served, take_journal};
+use crate::runs::laws_of_runs;
 use std::alloc::{AllocError, Global};
-use sv_asked::{accepted_are_few, read_scenario_numbers, requests_are_messages};
+use sv_asked::read_scenario_numbers;
 use sv_client::Trace;
-use sv_journal::{full_replies_stay, legal_relays_name_accepted};
 use sv_lines::{Stop, line_ends, take_lines};
 use sv_replay::played_of;
 use sv_report::append_world;
@@ -91,11 +91,7 @@ fn take_world(
     ensures report { IfOk result (λ _. IsReportOf scenario.now text.now played.now) }
     ensures wrong { IfWrong result (IsStop scenario.now text.now) }
 {
-    full_replies_stay();
-    legal_relays_name_accepted();
-    steps_are_done_in_order();
-    accepted_are_few();
-    requests_are_messages();
+    laws_of_runs();
     read_scenario_numbers(scenario);
     let lines = world_lines(alloc, played)?;
     let rest = take_lines(last, lines.as_bytes())?;

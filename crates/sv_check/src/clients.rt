@@ -2,6 +2,7 @@
 ghost use Rattle.std.specs.Prelude.{◌≡◌, ◌+◌, ◌<◌, ◌^◌, ◌∷◌, ◌++◌, true, [], None, length, reverse, codes, string_bytes, IfOk, IfSome, OnOk};
 ghost use Rattle.std.specs.Fmt.{decimal};
 ghost use Rattle.std.specs.List.{flat_map};
+ghost use Rattle.sv_world.specs.Limits.{most_clients, most_sessions};
 ghost use Rattle.sv_client.specs.declared.trace.Trace.{Trace};
 ghost use Rattle.sv_scenario.specs.Limits.{IsGoodScenario, IsGoodPlan};
 ghost use Rattle.sv_check.specs.Serving.{HasReplies, entries_of};
@@ -11,17 +12,16 @@ ghost use Rattle.sv_report.specs.Report.{event_lines, trace_text};
 ghost use Rattle.sv_check.specs.Clients.{EventsStop, IsClientStop};
 ghost use Rattle.sv_check.specs.Parts.{AreSomeEntries, IsWholeJournal, IsWholeTrace, AreFirstTraces, IsOf};
 ghost use Rattle.sv_check.specs.Stopping.{IsStop, IfWrong};
-ghost use Rattle.sv_check.specs.Acting.{IsActing, WentOn, identity, numbered};
+ghost use Rattle.sv_check.specs.Acting.{IsActing, WentOn, identity, journal_events};
 
 use crate::actor::Actor;
 use crate::journal::Served;
+use crate::runs::laws_of_runs;
 use std::alloc::{AllocError, Global};
-use sv_asked::{accepted_are_few, read_scenario_numbers, requests_are_messages};
+use sv_asked::read_scenario_numbers;
 use sv_client::{Client, Trace};
-use sv_journal::{full_replies_stay, legal_relays_name_accepted};
 use sv_lines::{Stop, take_line};
 use sv_scenario::{Plan, Scenario, sessions_of_plan};
-use sv_script::steps_are_done_in_order;
 use sv_world::{ClientId, List, Shape, copy_objects};
 
 /// A client, by its number, the number of its first session, and its plan.
@@ -34,8 +34,8 @@ struct Part<'a> {
 }
 
 fn open_actor<'a>(alloc: Global, served: &Served, part: &Part<'a>) -> Result<Actor<'a>, AllocError>
-    requires number { part.now.number < 32 }
-    requires first { part.now.first < 64 }
+    requires number { part.now.number < most_clients }
+    requires first { part.now.first < most_sessions }
     requires plan { IsGoodPlan part.now.shape part.now.plan.now }
     ensures acting { IfOk result (λ actor. IsActing (entries_of served.now) actor) }
     ensures who { IfOk result (λ actor. actor.client.who ≡ identity part.now.number part.now.shape part.now.plan.now) }
@@ -74,7 +74,7 @@ fn take_events<'a>(
     requires right { AreSomeEntries (reverse (entries_of served.now)) }
     ensures on { OnOk result (WentOn (entries_of served.now) actor.old actor.new) }
     ensures done { OnOk result (actor.new.finished ≡ true) }
-    ensures taken { IfOk result (λ rest. event_lines (entries_of served.now) (numbered actor.old) ++ text.now ≡ event_lines (entries_of served.now) (numbered actor.new) ++ rest.now) }
+    ensures taken { IfOk result (λ rest. event_lines (entries_of served.now) (journal_events actor.old) ++ text.now ≡ event_lines (entries_of served.now) (journal_events actor.new) ++ rest.now) }
     ensures wrong { IfWrong result (EventsStop (entries_of served.now) actor.old text.now) }
 {
     let mut rest = text;
@@ -128,8 +128,8 @@ fn take_client<'a>(
 ) -> Result<(Trace, &'a [u8]), Stop>
     requires replies { HasReplies served.now }
     requires right { AreSomeEntries (reverse (entries_of served.now)) }
-    requires number { part.now.number < 32 }
-    requires first { part.now.first < 64 }
+    requires number { part.now.number < most_clients }
+    requires first { part.now.first < most_sessions }
     requires plan { IsGoodPlan part.now.shape part.now.plan.now }
     ensures whole { IfOk result (λ r. IsWholeTrace part.now.shape (reverse (entries_of served.now)) part.now.plan.now r.0) }
     ensures of_it { IfOk result (λ r. IsOf part.now.number part.now.first part.now.plan.now r.0) }
@@ -161,11 +161,7 @@ pub(crate) fn take_clients<'a>(
     ensures text { IfOk result (λ r. text.now ≡ flat_map (trace_text (entries_of served.now)) r.0 ++ r.1.now) }
     ensures wrong { IfWrong result (IsStop scenario.now (journal_text scenario.now.world.shape (entries_of served.now) ++ text.now)) }
 {
-    full_replies_stay();
-    legal_relays_name_accepted();
-    steps_are_done_in_order();
-    accepted_are_few();
-    requests_are_messages();
+    laws_of_runs();
     read_scenario_numbers(scenario);
     let mut traces = List::new(alloc);
     let mut rest = text;

@@ -14,15 +14,14 @@ ghost use Rattle.sv_check.specs.Entering.{header_text, NoHeader, lines_of, HasSe
 ghost use Rattle.sv_check.specs.Parts.{IsWholeJournal};
 ghost use Rattle.sv_check.specs.Stopping.{IsStop, IfWrong};
 
+use crate::runs::laws_of_runs;
 use std::alloc::{AllocError, Global};
-use sv_asked::{accepted_are_few, requests_are_messages};
 use sv_journal::{full_replies_stay, legal_relays_name_accepted, print_journal};
 use sv_lines::{
     Asked, Stop, Unread, asked_at, expect, line_length, number_at, take_line, take_lines,
 };
 use sv_replay::open_sequencer;
 use sv_scenario::Scenario;
-use sv_script::steps_are_done_in_order;
 use sv_sequencer::Sequencer;
 use sv_wire::{Reply, Request};
 
@@ -214,11 +213,7 @@ pub(crate) fn take_journal<'a>(
     ensures text { IfOk result (λ r. text.now ≡ journal_text scenario.now.world.shape (entries_of r.0) ++ r.1.now) }
     ensures wrong { IfWrong result (IsStop scenario.now text.now) }
 {
-    full_replies_stay();
-    legal_relays_name_accepted();
-    steps_are_done_in_order();
-    accepted_are_few();
-    requests_are_messages();
+    laws_of_runs();
     let (count, entries) = take_header(alloc, text)?;
     let mut served = Served::open(alloc, scenario)?;
     let whole = served.serve_all(alloc, scenario, count, entries)?;

@@ -10,9 +10,8 @@ ghost use Rattle.sv_check.specs.Consistent.{IsReportOfPair};
 ghost use Rattle.sv_check.specs.Parts.{AreEntries};
 ghost use Rattle.sv_check.specs.Wrong.{IsFirstWrong};
 
-use sv_asked::{accepted_are_few, requests_are_messages};
+use crate::runs::laws_of_runs;
 use sv_journal::{full_replies_stay, legal_relays_name_accepted};
-use sv_script::steps_are_done_in_order;
 
 /// The text of a journal tells its entries, and where it ends: right entries with the same text are the same. The entries stand in order.
 pub fn journals_are_told()
@@ -31,11 +30,7 @@ pub fn reports_are_told()
     ensures { (scenario : Scenario) (text : List ℕ) (h g : List Entry) (Ls Ms : List Trace) → IsGoodScenario scenario → ScenarioFits scenario → length text < 2 ^ 64 →
         IsReportOfPair scenario text h Ls → IsReportOfPair scenario text g Ms → (h ≡ g) × (Ls ≡ Ms) }
 {
-    full_replies_stay();
-    legal_relays_name_accepted();
-    steps_are_done_in_order();
-    accepted_are_few();
-    requests_are_messages();
+    laws_of_runs();
 }
 
 /// A text has one first wrong line, so what `check` promises of the line that it names is true of no other line.

@@ -7,6 +7,7 @@ mod clients;
 mod journal;
 mod laws;
 mod moves;
+mod runs;
 mod settled;
 mod verdict;
 

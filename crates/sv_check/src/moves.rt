@@ -1,54 +1,27 @@
 //! What a client that follows its script does next, other than to join and to get a reply.
 ghost use Rattle.std.specs.Prelude.{◌≡◌, ◌<◌, true, false, length, Some, None, IfOk, MatchOption};
+ghost use Rattle.sv_world.specs.Limits.{most_outstanding};
 ghost use Rattle.sv_world.specs.Faults.{first_fault_of_action};
 ghost use Rattle.sv_client.specs.declared.trace.Event.TheVariants as events;
 ghost use Rattle.sv_client.specs.Taking.{outstanding};
 ghost use Rattle.sv_client.specs.Proper.{MayMake, MayPoll, MayLeave, in_session};
-ghost use Rattle.sv_script.specs.Following.{after_syncs, unsynced, event_of, must_join, is_welcomed, is_finished};
+ghost use Rattle.sv_script.specs.Following.{event_of, must_join, is_welcomed, is_finished};
 ghost use Rattle.sv_report.specs.Again.{MayDo};
-ghost use Rattle.sv_check.specs.Acting.{IsNextEvent, NoNextEvent, NotNow, is_sync};
+ghost use Rattle.sv_check.specs.Acting.{IsNextEvent, NoNextEvent, NotNow};
 
 use std::alloc::{AllocError, Global};
-use sv_client::{Client, Event};
+use sv_client::{Client, Event, MOST_MADE};
 use sv_scenario::Step;
-use sv_world::{Action, Shape, check_action, copy_action, copy_objects};
-
-fn is_sync(step: &Step) -> bool
-    ensures { result ≡ is_sync step.now }
-{
-    matches!(step, Step::Sync)
-}
-
-/// The steps from the first that is no sync.
-fn skip_syncs(steps: &[Step]) -> &[Step]
-    ensures { result.now ≡ after_syncs steps.now }
-{
-    let mut left = steps;
-    while let Some((step, rest)) = left.split_first() {
-        if !is_sync(step) {
-            return left;
-        }
-        left = rest;
-    }
-    left
-}
-
-/// The steps that are left, without the syncs that may be passed now.
-fn unsynced<'a>(client: &Client, steps: &'a [Step]) -> &'a [Step]
-    ensures { result.now ≡ unsynced client.now.who client.now.events steps.now }
-{
-    if client.outstanding() == 0 {
-        skip_syncs(steps)
-    } else {
-        steps
-    }
-}
+use sv_script::unsynced;
+use sv_world::{
+    Action, MOST_OUTSTANDING, MOST_PENDING, Shape, check_action, copy_action, copy_objects,
+};
 
 fn may_ask(client: &Client) -> bool
-    ensures all { in_session client.now.events ≡ true → length (outstanding client.now.who client.now.events) < 16 → result ≡ true }
-    ensures right { result ≡ true → (in_session client.now.events ≡ true) × (length (outstanding client.now.who client.now.events) < 16) }
+    ensures all { in_session client.now.events ≡ true → length (outstanding client.now.who client.now.events) < most_outstanding → result ≡ true }
+    ensures right { result ≡ true → (in_session client.now.events ≡ true) × (length (outstanding client.now.who client.now.events) < most_outstanding) }
 {
-    client.in_session() && client.outstanding() < 16
+    client.in_session() && client.outstanding() < MOST_OUTSTANDING
 }
 
 fn is_good(shape: Shape, action: &Action) -> bool
@@ -66,7 +39,10 @@ fn may_make(client: &Client, shape: Shape, action: &Action) -> bool
     ensures all { MayMake client.now.who client.now.events action.now → result ≡ true }
     ensures right { result ≡ true → MayMake client.now.who client.now.events action.now }
 {
-    may_ask(client) && client.pending() < 8 && client.made() < 65536 && is_good(shape, action)
+    may_ask(client)
+        && client.pending() < MOST_PENDING
+        && client.made() < MOST_MADE
+        && is_good(shape, action)
 }
 
 fn made(

@@ -1,3 +1,4 @@
+//! What a check says of a text.
 use sv_system::Played;
 
 /// What a check says of a text.

@@ -10,12 +10,12 @@ use Rattle.sv_wire.specs.declared.message.Item.{Item}
 use Rattle.sv_wire.specs.declared.message.Done1.{Done1}
 use Rattle.sv_client.specs.declared.fault.TakeFault.{TakeFault}
 use Rattle.sv_client.specs.Traces.{held_at, item_result, item_held, results_of}
-use Rattle.sv_client.specs.Taking.{first_missing, first_missing_of, missing_at}
+use Rattle.sv_client.specs.Taking.{first_unheld, first_missing_of, missing_at}
 use Rattle.sv_client.specs.Evaluating.{numbers, values_below, IsMissing, IsEvaluated, AreEvaluated}
 use Rattle.sv_client.proofs.Standing.{missing_same, values_same}
 
 pub item_done : (told : ℕ) (kept all after : List Held) (item : Item) (os : List ObjectId) (values writes : List (List ℤ)) → AnswersAbove told kept all → told < item.pos
-    → first_missing kept item.pos (read_set item.action) ≡ None → values ≡ values_below kept item.pos (read_set item.action)
+    → first_unheld kept item.pos (read_set item.action) ≡ None → values ≡ values_below kept item.pos (read_set item.action)
     → writes ≡ (outcome_of item.action values).writes → numbers os ≡ write_set item.action
     → AnswersAbove told after (all ++ held_at item.pos (numbers os) writes)
     → IsEvaluated told all item (Ok writes) after

@@ -20,7 +20,7 @@ use Rattle.sv_client.specs.Traces.{joins, makes, current_session, is_session, he
 use Rattle.sv_client.specs.Taking.{Identity, outstanding, unanswered, told, first_fault_of_reply}
 use Rattle.sv_client.specs.Proper.{AreProper, MayMake, MayPoll, MayLeave, in_session}
 use Rattle.sv_client.specs.Kinds.{kind_of}
-use Rattle.sv_client.specs.Seen.{latest_session, event_of}
+use Rattle.sv_client.specs.Seen.{latest_session, event_of_mark}
 use Rattle.sv_client.specs.Invariant.{StandsFor, AreAwaited, IsClientOf}
 use Rattle.sv_client.specs.Answers.{got_now}
 use Rattle.sv_client.proofs.Sessions.{session_after, current_is, some_current}
@@ -153,7 +153,7 @@ module _ (who : Identity) (t : List Event) (store : Store) (pending : PendingLis
     };
   }
 
-  pub noted_keeps : (mark : Mark) → IsClientOf who (event_of mark ∷ t) store pending ks sessions made commit joined
+  pub noted_keeps : (mark : Mark) → IsClientOf who (event_of_mark mark ∷ t) store pending ks sessions made commit joined
   noted_keeps marks.Cut = noted events.Cut (tt, is.proper) refl refl refl (outstanding_cut who t) refl refl refl
   noted_keeps marks.Quit = noted events.Quit (tt, is.proper) refl refl refl (outstanding_quit who t) refl refl refl
   noted_keeps (marks.Show os) = noted (events.Show os) (tt, is.proper) refl refl refl (outstanding_shown who t os) refl refl refl

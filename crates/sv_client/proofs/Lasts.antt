@@ -4,7 +4,7 @@ use Rattle.sv_wire.specs.declared.message.Done1.{Done1}
 use Rattle.sv_world.specs.declared.world.ClientId.{ClientId}
 use Rattle.sv_wire.specs.declared.message.Item.{Item}
 use Rattle.sv_pending.specs.Pending.{PendingAction}
-use Rattle.sv_client.specs.Kinds.{ends_as_own, is_own}
+use Rattle.sv_client.specs.Taking.{ends_as_own, is_own}
 use Rattle.sv_client.specs.Traces.{last_values}
 
 pub last_values_is : (ds : List Done1) (d : Done1) → slice_get ds (length ds - 1) ≡ Some d → last_values ds ≡ Some d.values

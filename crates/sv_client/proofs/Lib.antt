@@ -1,3 +1,4 @@
+-- The lemmas of this crate, file by file.
 pub mod Sessions
 pub mod Outstanding
 pub mod Standing

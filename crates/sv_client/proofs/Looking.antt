@@ -1,9 +1,8 @@
--- What is looked at in a reply before any item is evaluated, asked of kinds and of whole requests.
-use Rattle.std.proofs.Common.{◌≡◌, ℕ, ◌<◌, ◌≤◌, ◌⊎◌, inl, inr, Bool, true, false, not, ◌&&◌, ◌||◌, eqb, nat_le, nat_lt, List, [], ◌∷◌, length, map, slice_get, Option, Some, None, refl, sym, ap, subst, ◌∙◌, arith}
+-- What is looked at in a reply before any item is evaluated.
+use Rattle.std.proofs.Common.{◌≡◌, ℕ, ◌<◌, ◌≤◌, ◌⊎◌, inl, inr, Bool, true, false, not, ◌&&◌, ◌||◌, eqb, nat_le, nat_lt, List, [], ◌∷◌, length, map, slice_get, Option, Some, None, refl, sym, ap, ◌∙◌, arith}
 use Rattle.std.specs.Prelude.{if◌then◌else◌, is_none}
 use Rattle.std.proofs.lemmas.Bool.{leb-false, ltb-true, lt-ltb, cases_lt, both_ways}
 use Rattle.std.proofs.lemmas.List.Elements.{All-nil, All-cons}
-use Rattle.sv_world.specs.declared.action.Action.{Action}
 use Rattle.sv_world.specs.declared.check.BadAction.{BadAction}
 use Rattle.sv_world.specs.declared.world.Shape.{Shape}
 use Rattle.sv_world.specs.Faults.{first_fault_of_action}
@@ -12,128 +11,25 @@ use Rattle.sv_pending.specs.Made.{ReadsWithin}
 use Rattle.sv_pending.specs.Pending.{PendingAction}
 use Rattle.sv_pending.proofs.Places.{reads_within}
 use Rattle.sv_wire.specs.declared.message.Held.{Held as Sent}
-use Rattle.sv_world.specs.declared.world.ClientId.{ClientId}
-use Rattle.sv_world.specs.declared.world.ObjectId.{ObjectId}
-use Rattle.sv_wire.specs.declared.message.Done1.{Done1}
 use Rattle.sv_wire.specs.declared.message.Item.{Item}
 use Rattle.sv_wire.specs.declared.message.Reply.{Reply}
 use Rattle.sv_wire.specs.declared.message.Reply.TheVariants as replies
 use Rattle.sv_wire.specs.declared.message.Request.{Request}
-use Rattle.sv_wire.specs.declared.message.Request.TheVariants as requests
 use Rattle.sv_client.specs.declared.kinds.Awaited.{Awaited}
-use Rattle.sv_client.specs.declared.kinds.Awaited.TheVariants as kinds
 use Rattle.sv_client.specs.declared.trace.Event.{Event}
 use Rattle.sv_client.specs.Traces.{held_of, pending_of}
-use Rattle.sv_client.specs.Taking.{Identity, outstanding, told, allows, is_out_of_order, begins_by, is_bad_head, is_for_front, ends_with_front, is_bad_relay, is_good_relay, has_bad_item, missing_in, Fault, Unasked, WrongKind, BadOrder, BadItem, missing_fault, fault_for, fault_after, first_fault_of_reply}
-use Rattle.sv_client.specs.Kinds.{kind_of, allows_kind, head_ascends, items_ascend, is_disordered, ends_as_own, has_bad_action, is_good_answer, is_unfit}
-use Rattle.sv_client.specs.Evaluating.{IsHeadWithin, ItemsReadWithin, AreAbove, IsFitting}
+use Rattle.sv_client.specs.Taking.{Identity, outstanding, told, allows, is_out_of_order, head_ascends, items_ascend, begins_by, is_bad_head, has_bad_action, is_bad_relay, is_good_relay, is_unfit, has_bad_item, missing_in, Fault, Unasked, WrongKind, BadOrder, BadItem, missing_fault, fault_for, fault_after, first_fault_of_reply}
+use Rattle.sv_client.specs.Kinds.{kind_of, allows_kind, allows_awaited}
+use Rattle.sv_client.specs.Evaluating.{IsHeadWithin, ItemsReadWithin, ItemsAreAbove, IsFitting}
 use Rattle.sv_client.specs.Answers.{IsFine}
 
 -- ---- Kinds
 
-join_allows : (client : ClientId) (life : ℕ) (interest : List ObjectId) (reply : Reply) → allows_kind kinds.Join reply ≡ allows (requests.Join client life interest) reply
-join_allows client life interest (replies.Welcome c h) = refl
-join_allows client life interest (replies.Relay n c h is) = refl
-join_allows client life interest (replies.Dropped n c f) = refl
-join_allows client life interest (replies.Settled n p) = refl
-join_allows client life interest (replies.Noted c) = refl
-join_allows client life interest replies.Idle = refl
-join_allows client life interest (replies.Refused c d) = refl
-join_allows client life interest replies.Bye = refl
-
-submit_allows : (seq : ℕ) (action : Action) (reply : Reply) → allows_kind kinds.Submit reply ≡ allows (requests.Submit seq action) reply
-submit_allows seq action (replies.Welcome c h) = refl
-submit_allows seq action (replies.Relay n c h is) = refl
-submit_allows seq action (replies.Dropped n c f) = refl
-submit_allows seq action (replies.Settled n p) = refl
-submit_allows seq action (replies.Noted c) = refl
-submit_allows seq action replies.Idle = refl
-submit_allows seq action (replies.Refused c d) = refl
-submit_allows seq action replies.Bye = refl
-
-done_allows : (results : List Done1) (reply : Reply) → allows_kind kinds.Done reply ≡ allows (requests.Done results) reply
-done_allows results (replies.Welcome c h) = refl
-done_allows results (replies.Relay n c h is) = refl
-done_allows results (replies.Dropped n c f) = refl
-done_allows results (replies.Settled n p) = refl
-done_allows results (replies.Noted c) = refl
-done_allows results replies.Idle = refl
-done_allows results (replies.Refused c d) = refl
-done_allows results replies.Bye = refl
-
-poll_allows : (reply : Reply) → allows_kind kinds.Poll reply ≡ allows requests.Poll reply
-poll_allows (replies.Welcome c h) = refl
-poll_allows (replies.Relay n c h is) = refl
-poll_allows (replies.Dropped n c f) = refl
-poll_allows (replies.Settled n p) = refl
-poll_allows (replies.Noted c) = refl
-poll_allows replies.Idle = refl
-poll_allows (replies.Refused c d) = refl
-poll_allows replies.Bye = refl
-
-leave_allows : (reply : Reply) → allows_kind kinds.Leave reply ≡ allows requests.Leave reply
-leave_allows (replies.Welcome c h) = refl
-leave_allows (replies.Relay n c h is) = refl
-leave_allows (replies.Dropped n c f) = refl
-leave_allows (replies.Settled n p) = refl
-leave_allows (replies.Noted c) = refl
-leave_allows replies.Idle = refl
-leave_allows (replies.Refused c d) = refl
-leave_allows replies.Bye = refl
-
 pub allows_same : (r : Request) (k : Awaited) (reply : Reply) → kind_of r ≡ Some k → allows_kind k reply ≡ allows r reply
-allows_same (requests.Join client life interest) k reply e = let same : kinds.Join ≡ k = cc in subst (λ (j : Awaited). allows_kind j reply ≡ allows (requests.Join client life interest) reply) same (join_allows client life interest reply)
-allows_same (requests.Submit seq action) k reply e = let same : kinds.Submit ≡ k = cc in subst (λ (j : Awaited). allows_kind j reply ≡ allows (requests.Submit seq action) reply) same (submit_allows seq action reply)
-allows_same (requests.Done results) k reply e = let same : kinds.Done ≡ k = cc in subst (λ (j : Awaited). allows_kind j reply ≡ allows (requests.Done results) reply) same (done_allows results reply)
-allows_same requests.Poll k reply e = let same : kinds.Poll ≡ k = cc in subst (λ (j : Awaited). allows_kind j reply ≡ allows requests.Poll reply) same (poll_allows reply)
-allows_same requests.Leave k reply e = let same : kinds.Leave ≡ k = cc in subst (λ (j : Awaited). allows_kind j reply ≡ allows requests.Leave reply) same (leave_allows reply)
-allows_same requests.Bad k reply e = cc
-allows_same requests.End k reply e = cc
+allows_same r k reply e = ap (λ (o : Option Awaited). allows_awaited o reply) (sym e)
 
--- ---- Order
-
-with_nothing : (a b : Bool) → (a || b) ≡ (a || false || false || b)
-with_nothing true b = refl
-with_nothing false b = refl
-
-pub disordered_same : (t : List Event) (reply : Reply) → is_disordered (told t) reply ≡ is_out_of_order t reply
-disordered_same t (replies.Welcome c h) = with_nothing (not (head_ascends h)) (nat_lt c (told t))
-disordered_same t (replies.Relay n c h is) = refl
-disordered_same t (replies.Dropped n c f) = refl
-disordered_same t (replies.Settled n p) = refl
-disordered_same t (replies.Noted c) = refl
-disordered_same t replies.Idle = refl
-disordered_same t (replies.Refused c d) = refl
-disordered_same t replies.Bye = refl
-
--- ---- Items
-
-ends_same : (who : Identity) (ps : List PendingAction) (items : List Item) → ends_as_own who.client ps items ≡ ends_with_front who ps items
-ends_same who [] [] = refl
-ends_same who [] (x ∷ items) = refl
-ends_same who (p ∷ ps) [] = refl
-ends_same who (p ∷ ps) (x ∷ []) = refl
-ends_same who (p ∷ ps) (x ∷ y ∷ items) = ends_same who (p ∷ ps) (y ∷ items)
-
-good_same : (who : Identity) (ps : List PendingAction) (r : Request) (k : Awaited) (seq : ℕ) (items : List Item) → kind_of r ≡ Some k → is_good_answer who.client ps k seq items ≡ is_good_relay who ps r seq items
-good_same who ps (requests.Join c l i) k seq items e = let same : kinds.Join ≡ k = cc in ap (λ (j : Awaited). is_good_answer who.client ps j seq items) (sym same) ∙ ap (λ (b : Bool). is_for_front seq ps && b) (ends_same who ps items)
-good_same who ps (requests.Submit n a) k seq items e = let same : kinds.Submit ≡ k = cc in ap (λ (j : Awaited). is_good_answer who.client ps j seq items) (sym same) ∙ ap (λ (b : Bool). is_for_front seq ps && b) (ends_same who ps items)
-good_same who ps (requests.Done rs) k seq items e = let same : kinds.Done ≡ k = cc in ap (λ (j : Awaited). is_good_answer who.client ps j seq items) (sym same) ∙ ap (λ (b : Bool). is_for_front seq ps && b) (ends_same who ps items)
-good_same who ps requests.Poll k seq items e = let same : kinds.Poll ≡ k = cc in ap (λ (j : Awaited). is_good_answer who.client ps j seq items) (sym same)
-good_same who ps requests.Leave k seq items e = let same : kinds.Leave ≡ k = cc in ap (λ (j : Awaited). is_good_answer who.client ps j seq items) (sym same) ∙ ap (λ (b : Bool). is_for_front seq ps && b) (ends_same who ps items)
-good_same who ps requests.Bad k seq items e = cc
-good_same who ps requests.End k seq items e = cc
-
-pub unfit_same : (who : Identity) (ps : List PendingAction) (r : Request) (k : Awaited) (reply : Reply) → kind_of r ≡ Some k → is_unfit who.client who.shape ps k reply ≡ has_bad_item who ps r reply
-unfit_same who ps r k (replies.Welcome c h) e = refl
-unfit_same who ps r k (replies.Relay n c h is) e =
-    ap (λ (b : Bool). is_bad_head who.shape h || (eqb (length is) 0 || has_bad_action who.shape is || not b)) (good_same who ps r k n is e)
-unfit_same who ps r k (replies.Dropped n c f) e = refl
-unfit_same who ps r k (replies.Settled n p) e = refl
-unfit_same who ps r k (replies.Noted c) e = refl
-unfit_same who ps r k replies.Idle e = refl
-unfit_same who ps r k (replies.Refused c d) e = refl
-unfit_same who ps r k replies.Bye e = refl
+pub unfit_same : (who : Identity) (ps : List PendingAction) (r : Request) (k : Awaited) (reply : Reply) → kind_of r ≡ Some k → is_unfit who.client who.shape ps (Some k) reply ≡ has_bad_item who ps r reply
+unfit_same who ps r k reply e = ap (λ (o : Option Awaited). is_unfit who.client who.shape ps o reply) (sym e)
 
 -- ---- The oldest request
 
@@ -242,7 +138,7 @@ not_below c t e = go (cases_lt c t)
     go (inl l) = let up = lt-ltb c t l in absurd (true_false up e)
     go (inr l) = l
 
-ascending_above : (told : ℕ) (i : Item) (items : List Item) → told < i.pos → items_ascend (i ∷ items) ≡ true → AreAbove told (i ∷ items)
+ascending_above : (told : ℕ) (i : Item) (items : List Item) → told < i.pos → items_ascend (i ∷ items) ≡ true → ItemsAreAbove told (i ∷ items)
 ascending_above told i [] l e = All-cons (λ (j : Item). told < j.pos) i [] l (All-nil (λ (j : Item). told < j.pos))
 ascending_above told i (j ∷ items) l e =
     let f = both_true (nat_lt i.pos j.pos) (items_ascend (j ∷ items)) e in
@@ -252,7 +148,7 @@ not_not : (b : Bool) → not b ≡ false → b ≡ true
 not_not true e = refl
 not_not false e = cc
 
-items_above : (commit told : ℕ) (items : List Item) → told ≤ commit → items_ascend items ≡ true → begins_by commit items ≡ false → AreAbove told items
+items_above : (commit told : ℕ) (items : List Item) → told ≤ commit → items_ascend items ≡ true → begins_by commit items ≡ false → ItemsAreAbove told items
 items_above commit told [] l e b = All-nil (λ (j : Item). told < j.pos)
 items_above commit told (i ∷ items) l e b = ascending_above told i items (omega (arith, l, leb-false i.pos commit b)) e
 
@@ -262,7 +158,7 @@ no_head n = All-nil (λ (h : Sent). h.object.0 < n)
 no_reads : (n : ℕ) → ItemsReadWithin n []
 no_reads n = All-nil (λ (i : Item). ReadsWithin n i.action)
 
-none_above : (n : ℕ) → AreAbove n []
+none_above : (n : ℕ) → ItemsAreAbove n []
 none_above n = All-nil (λ (j : Item). n < j.pos)
 
 fitting_by : (who : Identity) (t : List Event) (r : Request) (reply : Reply) → is_out_of_order t reply ≡ false → has_bad_item who (pending_of t) r reply ≡ false → IsFitting who.shape.objects (told t) reply

@@ -7,7 +7,7 @@ use Rattle.sv_eval.specs.Evaluation.{outcome_of}
 use Rattle.sv_versions.specs.Held.{Held, AnswersAbove, latest, read_below}
 use Rattle.sv_pending.specs.Pending.{PendingAction, view_under, overlay_of, view_over, views_over, kept_of, redone, redone_after}
 use Rattle.sv_client.specs.Traces.{are_same, settled_by}
-use Rattle.sv_client.specs.Taking.{first_missing}
+use Rattle.sv_client.specs.Taking.{first_unheld}
 use Rattle.sv_client.specs.Evaluating.{values_below}
 
 module _ {told : ℕ} {kept all : List Held} (stands : AnswersAbove told kept all) where
@@ -44,6 +44,6 @@ module _ {told : ℕ} {kept all : List Held} (stands : AnswersAbove told kept al
   values_same pos l [] = refl
   values_same pos l (x ∷ xs) = rw (read_same x pos l, values_same pos l xs) refl
 
-  pub missing_same : (pos : ℕ) → told < pos → (xs : List ℕ) → first_missing kept pos xs ≡ first_missing all pos xs
+  pub missing_same : (pos : ℕ) → told < pos → (xs : List ℕ) → first_unheld kept pos xs ≡ first_unheld all pos xs
   missing_same pos l [] = refl
   missing_same pos l (x ∷ xs) = rw (read_same x pos l, missing_same pos l xs) refl

@@ -1,5 +1,6 @@
 -- What a client's calls answer.
 use Rattle.std.specs.Prelude.{◌≡◌, ℕ, ◌<◌, true, false, ℤ, List, ◌∷◌, length, Option, Some, None, IfSome, option_to_list}
+use Rattle.sv_world.specs.Limits.{most_outstanding, most_pending}
 use Rattle.sv_world.specs.declared.action.Action.{Action}
 use Rattle.sv_world.specs.Faults.{first_fault_of_action}
 use Rattle.sv_versions.specs.Held.{Store}
@@ -28,13 +29,13 @@ view_seen views.Unknown = None
 -- Why an action was not made: the first of these that applies, or memory ran out.
 abbrev pub IsMakeFault : Identity → List Event → Action → MakeFault → Type 0
 IsMakeFault who t action (make_faults.BadAction cause) = first_fault_of_action who.shape action ≡ Some cause
-IsMakeFault who t action make_faults.Full = (first_fault_of_action who.shape action ≡ None) × (length (pending_of t) ≡ 8)
+IsMakeFault who t action make_faults.Full = (first_fault_of_action who.shape action ≡ None) × (length (pending_of t) ≡ most_pending)
 IsMakeFault who t action make_faults.Busy =
-    (first_fault_of_action who.shape action ≡ None) × (length (pending_of t) < 8) × (length (outstanding who t) ≡ 16)
+    (first_fault_of_action who.shape action ≡ None) × (length (pending_of t) < most_pending) × (length (outstanding who t) ≡ most_outstanding)
 IsMakeFault who t action make_faults.Memory = Unit {0}
 
 abbrev pub IsPollFault : Identity → List Event → PollFault → Type 0
-IsPollFault who t poll_faults.Busy = length (outstanding who t) ≡ 16
+IsPollFault who t poll_faults.Busy = length (outstanding who t) ≡ most_outstanding
 IsPollFault who t poll_faults.Memory = Unit {0}
 
 -- A reply was not taken: for the first of its faults, or because memory ran out.

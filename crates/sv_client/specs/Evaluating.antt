@@ -12,7 +12,7 @@ use Rattle.sv_wire.specs.declared.message.Request.{Request}
 use Rattle.sv_wire.specs.declared.message.Reply.{Reply}
 use Rattle.sv_client.specs.declared.fault.TakeFault.{TakeFault}
 use Rattle.sv_client.specs.Traces.{item_result, item_held, with_items, with_reply, results_of, done_for, pending_with, are_same}
-use Rattle.sv_client.specs.Taking.{first_missing, first_missing_of, missing_at, missing_fault, missing_in, items_of, head_of}
+use Rattle.sv_client.specs.Taking.{first_unheld, first_missing_of, missing_at, missing_fault, missing_in, items_of, head_of}
 use Rattle.sv_client.specs.Seen.{fault_named}
 
 abbrev pub numbers : List ObjectId → List ℕ
@@ -28,8 +28,8 @@ IsHeadWithin n head = All (λ (h : Sent). h.object.0 < n) head
 abbrev pub ItemsReadWithin : ℕ → List Item → Type 0
 ItemsReadWithin n items = All (λ (i : Item). ReadsWithin n i.action) items
 
-abbrev pub AreAbove : ℕ → List Item → Type 0
-AreAbove told items = All (λ (i : Item). told < i.pos) items
+abbrev pub ItemsAreAbove : ℕ → List Item → Type 0
+ItemsAreAbove told items = All (λ (i : Item). told < i.pos) items
 
 -- The values held of objects below a position; a value that is not held is read as no number.
 abbrev pub values_below : List Held → ℕ → List ℕ → List (List ℤ)
@@ -42,8 +42,8 @@ IsMissing missing fault = IfSome (fault_named fault) (λ f. missing_fault missin
 -- After an item: no value was missing, the result is the defined one, and the store stands for all values with those of the item.
 abbrev pub IsEvaluated : ℕ → List Held → Item → Result (List (List ℤ)) TakeFault → List Held → Type 0
 IsEvaluated told all item (Ok values) kept =
-    (first_missing all item.pos (read_set item.action) ≡ None) × (values ≡ item_result all item) × AnswersAbove told kept (all ++ item_held all item)
-IsEvaluated told all item (Err fault) kept = IsMissing (missing_at item.pos (first_missing all item.pos (read_set item.action)) None) fault
+    (first_unheld all item.pos (read_set item.action) ≡ None) × (values ≡ item_result all item) × AnswersAbove told kept (all ++ item_held all item)
+IsEvaluated told all item (Err fault) kept = IsMissing (missing_at item.pos (first_unheld all item.pos (read_set item.action)) None) fault
 
 -- After several items, where their results were appended to those before.
 abbrev pub AreEvaluated : ℕ → List Held → List Item → List Done1 → List Done1 → Result Unit TakeFault → List Held → Type 0
@@ -62,7 +62,7 @@ IsApplied told all reply pending (Err fault) kept after = IsMissing (missing_in 
 pub record IsFitting (objects told : ℕ) (reply : Reply) : Type 0 where
   pub head : IsHeadWithin objects (head_of reply)
   pub reads : ItemsReadWithin objects (items_of reply)
-  pub above : AreAbove told (items_of reply)
+  pub above : ItemsAreAbove told (items_of reply)
 
 -- The front action kept this result, or there is none.
 abbrev pub keeps_front : List PendingAction → Option (List (List ℤ)) → Bool

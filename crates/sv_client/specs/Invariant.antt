@@ -1,5 +1,6 @@
 -- What a client's fields keep.
 use Rattle.std.specs.Prelude.{◌≡◌, ℕ, ◌≤◌, Bool, List, map, length, reverse, Some}
+use Rattle.sv_world.specs.Limits.{most_outstanding, most_sessions}
 use Rattle.sv_versions.specs.Held.{Store, AnswersAbove, count_up_to}
 use Rattle.sv_pending.specs.Made.{PendingList}
 use Rattle.sv_client.specs.declared.client.Client.TheInside.{Inside}
@@ -7,15 +8,15 @@ use Rattle.sv_client.specs.declared.kinds.Awaited.{Awaited}
 use Rattle.sv_client.specs.declared.trace.Event.{Event}
 use Rattle.sv_client.specs.Traces.{joins, makes, held_of, pending_of}
 use Rattle.sv_client.specs.Taking.{Identity, outstanding, told}
-use Rattle.sv_client.specs.Proper.{IsGoodIdentity, AreProper, in_session}
+use Rattle.sv_client.specs.Proper.{IsGoodIdentity, AreProper, in_session, most_made}
 use Rattle.sv_client.specs.Kinds.{kind_of}
 use Rattle.sv_client.specs.Seen.{ClientView}
 
 abbrev pub who_is : Inside → Identity
 who_is c = record { client = c.id; interest = c.interest; shape = c.shape }
 
-abbrev pub view_of : Inside → ClientView
-view_of c = record { who = who_is c; events = reverse c.events.items; kept = c.versions.held }
+abbrev pub client_seen : Inside → ClientView
+client_seen c = record { who = who_is c; events = reverse c.events.items; kept = c.versions.held }
 
 -- The pruned store stands for all that was held: each reading above what was told finds the same, and each of the latest value.
 pub record StandsFor (who : Identity) (t : List Event) (store : Store) : Type 0 where
@@ -26,14 +27,14 @@ pub record StandsFor (who : Identity) (t : List Event) (store : Store) : Type 0 
 -- The kinds of the requests that have no reply yet, in order.
 pub record AreAwaited (who : Identity) (t : List Event) (kinds : List Awaited) : Type 0 where
   pub same : map Some kinds ≡ map kind_of (outstanding who t)
-  pub few : length kinds ≤ 16
+  pub few : length kinds ≤ most_outstanding
 
 -- Counts, kept beside the events that they count.
 pub record AreCounts (t : List Event) (sessions made commit : ℕ) (joined : Bool) : Type 0 where
   pub sessions_are : sessions ≡ joins t
-  pub few_sessions : joins t ≤ 64
+  pub few_sessions : joins t ≤ most_sessions
   pub made_are : made ≡ makes t
-  pub few_made : makes t ≤ 65536
+  pub few_made : makes t ≤ most_made
   pub commit_is : commit ≡ told t
   pub joined_is : joined ≡ in_session t
 

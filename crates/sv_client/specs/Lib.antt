@@ -1,3 +1,4 @@
+-- The definitions of this crate, file by file.
 pub mod Traces
 pub mod Same
 pub mod Taking

@@ -1,6 +1,7 @@
 -- Which traces a client can have.
 -- Events stand here with the latest first: `e ∷ t` is t, and then e.
 use Rattle.std.specs.Prelude.{◌≡◌, ℕ, ◌+◌, ◌<◌, ◌≤◌, Bool, true, false, List, [], ◌∷◌, map, length, reverse, Some, None, All}
+use Rattle.sv_world.specs.Limits.{most_clients, most_interest, most_outstanding, most_pending, most_sessions}
 use Rattle.sv_world.specs.declared.action.Action.{Action}
 use Rattle.sv_world.specs.declared.world.ObjectId.{ObjectId}
 use Rattle.sv_world.specs.declared.world.Shape.{Shape}
@@ -21,21 +22,25 @@ in_session (_ ∷ t) = in_session t
 
 -- A client number, and an interest, that a Join may have.
 pub record IsGoodIdentity (who : Identity) : Type 0 where
-  pub client : who.client.0 < 32
-  pub few : length who.interest ≤ 64
+  pub client : who.client.0 < most_clients
+  pub few : length who.interest ≤ most_interest
   pub ascending : is_ascending (map (λ (o : ObjectId). o.0) who.interest) ≡ true
   pub objects : All (λ (o : ObjectId). o.0 < who.shape.objects) who.interest
+
+-- The actions that a client makes.
+abbrev pub most_made : ℕ
+most_made = 65536
 
 pub record MayMake (who : Identity) (t : List Event) (action : Action) : Type 0 where
   pub joined : in_session t ≡ true
   pub good : first_fault_of_action who.shape action ≡ None
-  pub room : length (pending_of t) < 8
-  pub calm : length (outstanding who t) < 16
-  pub few : makes t < 65536
+  pub room : length (pending_of t) < most_pending
+  pub calm : length (outstanding who t) < most_outstanding
+  pub few : makes t < most_made
 
 pub record MayPoll (who : Identity) (t : List Event) : Type 0 where
   pub joined : in_session t ≡ true
-  pub calm : length (outstanding who t) < 16
+  pub calm : length (outstanding who t) < most_outstanding
 
 pub record MayLeave (who : Identity) (t : List Event) : Type 0 where
   pub joined : in_session t ≡ true
@@ -46,10 +51,10 @@ pub record MayGet (who : Identity) (t : List Event) (s : ℕ) (reply : Reply) : 
   pub current : current_session t ≡ Some s
   pub taken : first_fault_of_reply who t reply ≡ None
 
--- The n-th Join names the n-th session from the first one on, of at most 64.
+-- The n-th Join names the n-th session from the first one on.
 pub record MayJoin (first : ℕ) (t : List Event) (s : ℕ) : Type 0 where
   pub next : s ≡ first + joins t
-  pub few : joins t < 64
+  pub few : joins t < most_sessions
 
 -- An event may come after the events t. Cut, Quit and Show may always.
 abbrev pub MayFollow : Identity → ℕ → List Event → Event → Type 0

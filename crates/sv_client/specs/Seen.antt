@@ -47,10 +47,10 @@ fault_named (faults.Missing pos object) = Some (Missing pos object.0)
 fault_named faults.Memory = None
 
 -- The event that a note appends.
-abbrev pub event_of : Mark → Event
-event_of marks.Cut = events.Cut
-event_of marks.Quit = events.Quit
-event_of (marks.Show objects) = events.Show objects
+abbrev pub event_of_mark : Mark → Event
+event_of_mark marks.Cut = events.Cut
+event_of_mark marks.Quit = events.Quit
+event_of_mark (marks.Show objects) = events.Show objects
 
 -- An event, where the first session has another number.
 abbrev pub raised : ℕ → Event → Event

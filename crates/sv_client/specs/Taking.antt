@@ -1,6 +1,6 @@
 -- Which replies a client takes, and the first fault of one that it refuses.
 -- Events stand here with the latest first: `e ∷ t` is t, and then e.
-use Rattle.std.specs.Prelude.{ℕ, Bool, true, false, ◌==◌, ◌&&◌, ◌||◌, not, nat_le, nat_lt, max, is_none, List, [], ◌∷◌, ◌++◌, map, length, drop, Option, Some, None, if◌then◌else◌}
+use Rattle.std.specs.Prelude.{ℕ, Bool, false, ◌==◌, ◌&&◌, ◌||◌, not, nat_le, nat_lt, max, is_none, List, [], ◌∷◌, ◌++◌, map, length, drop, Option, Some, None, if◌then◌else◌}
 use Rattle.std.specs.List.{list_any}
 use Rattle.sv_world.specs.declared.world.ClientId.{ClientId}
 use Rattle.sv_world.specs.declared.world.ObjectId.{ObjectId}
@@ -12,12 +12,14 @@ use Rattle.sv_pending.specs.Pending.{PendingAction}
 use Rattle.sv_wire.specs.declared.message.Held.{Held as Sent}
 use Rattle.sv_wire.specs.declared.message.Item.{Item}
 use Rattle.sv_wire.specs.declared.message.Request.{Request}
-use Rattle.sv_wire.specs.declared.message.Request.TheVariants as requests
 use Rattle.sv_wire.specs.declared.message.Reply.{Reply}
 use Rattle.sv_wire.specs.declared.message.Reply.TheVariants as replies
+use Rattle.sv_client.specs.declared.kinds.Awaited.{Awaited}
+use Rattle.sv_client.specs.declared.kinds.Awaited.TheVariants as kinds
 use Rattle.sv_client.specs.declared.trace.Event.{Event}
 use Rattle.sv_client.specs.declared.trace.Event.TheVariants as events
 use Rattle.sv_client.specs.Same.{is_same_action}
+use Rattle.sv_client.specs.Kinds.{kind_of, allows_awaited}
 use Rattle.sv_client.specs.Traces.{current_session, held_of, head_held, item_held, pending_of, asked, got}
 
 -- Who a client is: its number and its interest, and the shape of its world.
@@ -61,15 +63,7 @@ told (_ ∷ t) = told t
 
 -- The replies that a request may have. Refused is never among them.
 abbrev pub allows : Request → Reply → Bool
-allows (requests.Join client life interest) (replies.Welcome commit head) = true
-allows (requests.Submit seq action) (replies.Relay n commit head items) = true
-allows (requests.Submit seq action) (replies.Dropped n chain far) = true
-allows (requests.Submit seq action) (replies.Settled n pos) = true
-allows (requests.Done results) (replies.Noted commit) = true
-allows requests.Poll (replies.Relay n commit head items) = true
-allows requests.Poll replies.Idle = true
-allows requests.Leave replies.Bye = true
-allows _ _ = false
+allows request reply = allows_awaited (kind_of request) reply
 
 -- ---- Order
 
@@ -81,6 +75,12 @@ head_of _ = []
 abbrev pub items_of : Reply → List Item
 items_of (replies.Relay seq commit head items) = items
 items_of _ = []
+
+abbrev pub head_ascends : List Sent → Bool
+head_ascends head = is_ascending (map (λ (h : Sent). h.object.0) head)
+
+abbrev pub items_ascend : List Item → Bool
+items_ascend items = is_ascending (map (λ (i : Item). i.pos) items)
 
 abbrev pub begins_by : ℕ → List Item → Bool
 begins_by commit [] = false
@@ -95,12 +95,15 @@ abbrev pub goes_back : Option ℕ → ℕ → Bool
 goes_back None told = false
 goes_back (Some commit) told = nat_lt commit told
 
--- The objects of the head do not ascend, or the positions of the items do not; the first item stands at or below the reply's commit; or the
--- client was told a greater commit before.
+-- The objects of the head do not ascend, or the positions of the items do not; the first item stands at or below the reply's commit; or this
+-- is below a commit that was told before.
+abbrev pub is_disordered : ℕ → Reply → Bool
+is_disordered told reply = not (head_ascends (head_of reply)) || not (items_ascend (items_of reply))
+    || begins_low (commit_in reply) (items_of reply) || goes_back (commit_in reply) told
+
+-- The same, after the events t.
 abbrev pub is_out_of_order : List Event → Reply → Bool
-is_out_of_order t reply = not (is_ascending (map (λ (h : Sent). h.object.0) (head_of reply)))
-    || not (is_ascending (map (λ (i : Item). i.pos) (items_of reply)))
-    || begins_low (commit_in reply) (items_of reply) || goes_back (commit_in reply) (told t)
+is_out_of_order t reply = is_disordered (told t) reply
 
 -- ---- Items
 
@@ -112,36 +115,56 @@ abbrev pub is_for_front : ℕ → List PendingAction → Bool
 is_for_front seq [] = false
 is_for_front seq (p ∷ ps) = seq == p.seq
 
--- The items end with the front pending action as the client's own.
-abbrev pub ends_with_front : Identity → List PendingAction → List Item → Bool
-ends_with_front who (p ∷ ps) (item ∷ []) = item.client.0 == who.client.0 && item.seq == p.seq && is_same_action item.action p.action
-ends_with_front who (p ∷ ps) (item ∷ other ∷ items) = ends_with_front who (p ∷ ps) (other ∷ items)
-ends_with_front who _ _ = false
+-- The item is the pending action as the client's own.
+abbrev pub is_own : ClientId → PendingAction → Item → Bool
+is_own id p item = item.client.0 == id.0 && item.seq == p.seq && is_same_action item.action p.action
 
--- What a relay to a request must have besides good actions.
+-- The items end with the front pending action as the client's own.
+abbrev pub ends_as_own : ClientId → List PendingAction → List Item → Bool
+ends_as_own id (p ∷ ps) (item ∷ []) = is_own id p item
+ends_as_own id (p ∷ ps) (item ∷ other ∷ items) = ends_as_own id (p ∷ ps) (other ∷ items)
+ends_as_own id _ _ = false
+
+abbrev pub has_bad_action : Shape → List Item → Bool
+has_bad_action shape items = list_any (λ (i : Item). not (is_none (first_fault_of_action shape i.action))) items
+
+-- What a relay must have besides good actions, by the kind of the request that it answers.
+abbrev pub is_good_answer : ClientId → List PendingAction → Option Awaited → ℕ → List Item → Bool
+is_good_answer id pending (Some kinds.Poll) seq items = seq == 0
+is_good_answer id pending _ seq items = is_for_front seq pending && ends_as_own id pending items
+
+abbrev pub is_bad_answer : ClientId → Shape → List PendingAction → Option Awaited → ℕ → List Item → Bool
+is_bad_answer id shape pending kind seq items =
+    length items == 0 || has_bad_action shape items || not (is_good_answer id pending kind seq items)
+
+-- The head or an item is none of this world, or the reply is not for the front pending action.
+abbrev pub is_unfit : ClientId → Shape → List PendingAction → Option Awaited → Reply → Bool
+is_unfit id shape pending kind (replies.Welcome commit head) = is_bad_head shape head
+is_unfit id shape pending kind (replies.Relay seq commit head items) =
+    is_bad_head shape head || is_bad_answer id shape pending kind seq items
+is_unfit id shape pending kind (replies.Dropped seq chain far) = not (is_for_front seq pending)
+is_unfit id shape pending kind (replies.Settled seq pos) = not (is_for_front seq pending)
+is_unfit id shape pending kind _ = false
+
+-- The same, of a client and of the request that is answered.
+abbrev pub ends_with_front : Identity → List PendingAction → List Item → Bool
+ends_with_front who pending items = ends_as_own who.client pending items
+
 abbrev pub is_good_relay : Identity → List PendingAction → Request → ℕ → List Item → Bool
-is_good_relay who pending requests.Poll seq items = seq == 0
-is_good_relay who pending _ seq items = is_for_front seq pending && ends_with_front who pending items
+is_good_relay who pending request seq items = is_good_answer who.client pending (kind_of request) seq items
 
 abbrev pub is_bad_relay : Identity → List PendingAction → Request → ℕ → List Item → Bool
-is_bad_relay who pending request seq items = length items == 0
-    || list_any (λ (i : Item). not (is_none (first_fault_of_action who.shape i.action))) items
-    || not (is_good_relay who pending request seq items)
+is_bad_relay who pending request seq items = is_bad_answer who.client who.shape pending (kind_of request) seq items
 
 abbrev pub has_bad_item : Identity → List PendingAction → Request → Reply → Bool
-has_bad_item who pending request (replies.Welcome commit head) = is_bad_head who.shape head
-has_bad_item who pending request (replies.Relay seq commit head items) =
-    is_bad_head who.shape head || is_bad_relay who pending request seq items
-has_bad_item who pending request (replies.Dropped seq chain far) = not (is_for_front seq pending)
-has_bad_item who pending request (replies.Settled seq pos) = not (is_for_front seq pending)
-has_bad_item who pending request _ = false
+has_bad_item who pending request reply = is_unfit who.client who.shape pending (kind_of request) reply
 
 -- ---- Missing values
 
 -- The first of the objects that has no value below a position.
-abbrev pub first_missing : List Held → ℕ → List ℕ → Option ℕ
-first_missing held pos [] = None
-first_missing held pos (x ∷ xs) = if is_none (read_below held x pos) then Some x else first_missing held pos xs
+abbrev pub first_unheld : List Held → ℕ → List ℕ → Option ℕ
+first_unheld held pos [] = None
+first_unheld held pos (x ∷ xs) = if is_none (read_below held x pos) then Some x else first_unheld held pos xs
 
 abbrev pub missing_at : ℕ → Option ℕ → Option (ℕ × ℕ) → Option (ℕ × ℕ)
 missing_at pos (Some x) other = Some (pos, x)
@@ -151,7 +174,7 @@ missing_at pos None other = other
 abbrev pub first_missing_of : List Held → List Item → Option (ℕ × ℕ)
 first_missing_of held [] = None
 first_missing_of held (item ∷ items) =
-    missing_at item.pos (first_missing held item.pos (read_set item.action)) (first_missing_of (held ++ item_held held item) items)
+    missing_at item.pos (first_unheld held item.pos (read_set item.action)) (first_missing_of (held ++ item_held held item) items)
 
 abbrev pub missing_in : List Held → Reply → Option (ℕ × ℕ)
 missing_in held (replies.Relay seq commit head items) = first_missing_of (held ++ head_held commit head) items

@@ -7,11 +7,11 @@ ghost use Rattle.sv_wire.specs.declared.message.Reply.TheVariants as replies;
 ghost use Rattle.sv_client.specs.declared.fault.TakeFault.TheVariants as faults;
 ghost use Rattle.sv_client.specs.Traces.{are_same, last_values, settled_by, without_front};
 ghost use Rattle.sv_client.specs.Same.{are_same_values};
-ghost use Rattle.sv_client.specs.Evaluating.{IsHeadWithin, ItemsReadWithin, AreAbove, IsFitting, IsApplied, keeps_front};
+ghost use Rattle.sv_client.specs.Evaluating.{IsHeadWithin, ItemsReadWithin, ItemsAreAbove, IsFitting, IsApplied, keeps_front};
 
 use crate::evaluating::{evaluate_items, hold_head};
 use crate::fault::TakeFault;
-use std::alloc::{AllocError, Global};
+use std::alloc::AllocError;
 use sv_pending::Pending;
 use sv_versions::{Undo, Versions};
 use sv_wire::{Done1, Held, Item, Reply, Request};
@@ -113,36 +113,40 @@ fn settle_by(
     settle_own(pending, versions, last_values(results))
 }
 
+/// What a relay brings.
+#[derive(Clone, Copy)]
+struct Brought<'a> {
+    seq: u32,
+    commit: u32,
+    head: &'a [Held],
+    items: &'a [Item],
+}
+
 fn apply_relay(
-    alloc: Global,
     versions: &mut Versions,
     undo: &mut Undo,
     pending: &mut Pending,
-    seq: u32,
-    commit: u32,
-    head: &[Held],
-    items: &[Item],
+    relay: &Brought<'_>,
 ) -> Result<Option<Request>, TakeFault>
     requires shape { versions.old.shape ≡ pending.old.shape }
-    requires head { IsHeadWithin versions.old.shape.objects head.now }
-    requires reads { ItemsReadWithin versions.old.shape.objects items.now }
+    requires head { IsHeadWithin versions.old.shape.objects relay.now.head.now }
+    requires reads { ItemsReadWithin versions.old.shape.objects relay.now.items.now }
     ensures versions { versions.new.shape ≡ versions.old.shape }
     ensures undone { undone undo.new versions.new.held ≡ undone undo.old versions.old.held }
     ensures shape { pending.new.shape ≡ pending.old.shape }
-    ensures applied { (told : ℕ) (all : List Kept) → AnswersAbove told versions.old.held all → AreAbove told items.now → IsApplied told all (replies.Relay seq commit head.now items.now) pending.old.items result versions.new.held pending.new.items }
+    ensures applied { (told : ℕ) (all : List Kept) → AnswersAbove told versions.old.held all → ItemsAreAbove told relay.now.items.now → IsApplied told all (replies.Relay relay.now.seq relay.now.commit relay.now.head.now relay.now.items.now) pending.old.items result versions.new.held pending.new.items }
     ensures err { OnErr result (pending.new ≡ pending.old) }
 {
-    hold_head(alloc, versions, undo, commit, head)?;
-    let mut results = Vec::with_capacity(alloc, items.len())?;
-    evaluate_items(alloc, versions, undo, items, &mut results)?;
-    settle_by(pending, versions, seq, &results)?;
+    hold_head(versions, undo, relay.commit, relay.head)?;
+    let mut results = Vec::with_capacity(versions.alloc(), relay.items.len())?;
+    evaluate_items(versions, undo, relay.items, &mut results)?;
+    settle_by(pending, versions, relay.seq, &results)?;
     Ok(Some(Request::Done {
         results: List::from_vec(results),
     }))
 }
 
 fn apply_welcome(
-    alloc: Global,
     versions: &mut Versions,
     undo: &mut Undo,
     commit: u32,
@@ -153,7 +157,7 @@ fn apply_welcome(
     ensures undone { undone undo.new versions.new.held ≡ undone undo.old versions.old.held }
     ensures applied { (told : ℕ) (all : List Kept) (pending : _) → AnswersAbove told versions.old.held all → IsApplied told all (replies.Welcome commit head.now) pending result versions.new.held pending }
 {
-    hold_head(alloc, versions, undo, commit, head)?;
+    hold_head(versions, undo, commit, head)?;
     Ok(None)
 }
 
@@ -172,7 +176,6 @@ fn apply_without(versions: &Versions, pending: &mut Pending) -> Result<Option<Re
 /// Puts a reply into the values held and the pending actions, and answers the Done of a relay. After a refusal the values held are in the
 /// middle.
 fn apply(
-    alloc: Global,
     versions: &mut Versions,
     undo: &mut Undo,
     pending: &mut Pending,
@@ -189,23 +192,22 @@ fn apply(
 {
     match reply {
         Reply::Welcome { commit, head } => {
-            apply_welcome(alloc, versions, undo, *commit, head.as_slice())
+            apply_welcome(versions, undo, *commit, head.as_slice())
         }
         Reply::Relay {
             seq,
             commit,
             head,
             items,
-        } => apply_relay(
-            alloc,
-            versions,
-            undo,
-            pending,
-            *seq,
-            *commit,
-            head.as_slice(),
-            items.as_slice(),
-        ),
+        } => {
+            let relay = Brought {
+                seq: *seq,
+                commit: *commit,
+                head: head.as_slice(),
+                items: items.as_slice(),
+            };
+            apply_relay(versions, undo, pending, &relay)
+        }
         Reply::Dropped { .. } | Reply::Settled { .. } => apply_without(versions, pending),
         Reply::Noted { .. } | Reply::Idle | Reply::Refused { .. } | Reply::Bye => Ok(None),
     }
@@ -213,7 +215,6 @@ fn apply(
 
 /// Puts a reply into the values held and the pending actions. After a refusal both are as before.
 pub(crate) fn try_apply(
-    alloc: Global,
     versions: &mut Versions,
     pending: &mut Pending,
     told: u32,
@@ -227,8 +228,8 @@ pub(crate) fn try_apply(
     ensures undone { OnErr result (versions.new ≡ versions.old) }
     ensures err { OnErr result (pending.new ≡ pending.old) }
 {
-    let mut undo = Undo::new(alloc);
-    let applied = apply(alloc, versions, &mut undo, pending, told, reply);
+    let mut undo = Undo::new(versions.alloc());
+    let applied = apply(versions, &mut undo, pending, told, reply);
     if applied.is_err() {
         versions.undo(undo);
     }

@@ -3,7 +3,7 @@ ghost use Rattle.std.specs.Prelude.{◌≡◌, ◌<◌, ◌++◌, [], ◌∷◌,
 ghost use Rattle.sv_wire.specs.declared.message.Request.TheVariants as requests;
 ghost use Rattle.sv_client.specs.declared.kinds.Awaited.TheVariants as kinds;
 ghost use Rattle.sv_client.specs.Traces.{submit_of};
-ghost use Rattle.sv_client.specs.Kinds.{is_relay, done_kinds};
+ghost use Rattle.sv_client.specs.Kinds.{asks_for_done, done_kinds};
 
 use crate::kinds::Awaited;
 use crate::trace::Event;
@@ -85,8 +85,8 @@ pub(crate) fn note_asked(
     Ok(())
 }
 
-fn is_relay(reply: &Reply) -> bool
-    ensures { result ≡ is_relay reply.now }
+fn asks_for_done(reply: &Reply) -> bool
+    ensures { result ≡ asks_for_done reply.now }
 {
     match reply {
         Reply::Relay { .. } => true,
@@ -106,7 +106,7 @@ pub(crate) fn await_after(awaited: &mut Vec<Awaited>, reply: &Reply)
     ensures { awaited.new.items ≡ drop 1 awaited.old.items ++ done_kinds reply.now }
 {
     let _ = awaited.remove(0);
-    if is_relay(reply) {
+    if asks_for_done(reply) {
         awaited.push_reserved(Awaited::Done);
     }
 }

@@ -1,8 +1,8 @@
 //! What is looked at in a reply before anything of it is evaluated.
-ghost use Rattle.std.specs.Prelude.{◌≡◌};
+ghost use Rattle.std.specs.Prelude.{◌≡◌, Some};
 ghost use Rattle.sv_pending.specs.Seen.{item_seen};
-ghost use Rattle.sv_client.specs.Taking.{begins_by, is_bad_head, is_for_front};
-ghost use Rattle.sv_client.specs.Kinds.{head_ascends, items_ascend, is_disordered, is_own, ends_as_own, has_bad_action, is_bad_answer, is_unfit};
+ghost use Rattle.sv_client.specs.Taking.{head_ascends, items_ascend, begins_by, is_disordered, is_bad_head, is_for_front, is_own, ends_as_own};
+ghost use Rattle.sv_client.specs.Taking.{has_bad_action, is_good_answer, is_unfit};
 
 use crate::kinds::Awaited;
 use crate::same::same_action;
@@ -127,23 +127,20 @@ fn is_own(id: ClientId, front: &PendingItem<'_>, item: &Item) -> bool
     item.client.0 == id.0 && item.seq == front.seq && same_action(&item.action, front.action)
 }
 
-fn is_bad_answer(
+/// Whether a relay answers what is awaited, where its actions are good.
+fn is_good_answer(
     id: ClientId,
-    shape: Shape,
     pending: &Pending,
     awaited: Awaited,
     seq: u32,
     items: &[Item],
 ) -> bool
-    ensures { result ≡ is_bad_answer id shape pending.now.items awaited seq items.now }
+    ensures { result ≡ is_good_answer id pending.now.items (Some awaited) seq items.now }
 {
-    if items.is_empty() || has_bad_action(shape, items) {
-        return true;
-    }
     match awaited {
-        Awaited::Poll => seq != 0,
+        Awaited::Poll => seq == 0,
         Awaited::Join | Awaited::Submit | Awaited::Done | Awaited::Leave => {
-            !is_for_front(pending, seq) || !ends_as_own(id, pending, items)
+            is_for_front(pending, seq) && ends_as_own(id, pending, items)
         }
     }
 }
@@ -156,7 +153,7 @@ pub(crate) fn is_unfit(
     awaited: Awaited,
     reply: &Reply,
 ) -> bool
-    ensures { result ≡ is_unfit id shape pending.now.items awaited reply.now }
+    ensures { result ≡ is_unfit id shape pending.now.items (Some awaited) reply.now }
 {
     match reply {
         Reply::Welcome { commit: _, head } => is_bad_head(shape, head.as_slice()),
@@ -167,7 +164,9 @@ pub(crate) fn is_unfit(
             items,
         } => {
             is_bad_head(shape, head.as_slice())
-                || is_bad_answer(id, shape, pending, awaited, *seq, items.as_slice())
+                || items.as_slice().is_empty()
+                || has_bad_action(shape, items.as_slice())
+                || !is_good_answer(id, pending, awaited, *seq, items.as_slice())
         }
         Reply::Dropped { seq, .. } => !is_for_front(pending, *seq),
         Reply::Settled { seq, .. } => !is_for_front(pending, *seq),

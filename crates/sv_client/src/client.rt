@@ -1,11 +1,13 @@
+//! A client of a world: its calls, and what each of them changes of its trace.
 ghost use Rattle.std.specs.Prelude.{◌≡◌, ℕ, ◌-◌, ◌<◌, ◌≤◌, true, ◌∷◌, [], length, option_map, option_to_list, slice_get, IfOk, IfErr, OnOk, OnErr, MatchResult};
+ghost use Rattle.sv_world.specs.Limits.{most_outstanding, most_sessions};
 ghost use Rattle.sv_versions.specs.Held.{AnswersAbove, count_up_to, latest, read_below};
 ghost use Rattle.sv_pending.specs.Seen.{item_seen};
 ghost use Rattle.sv_client.specs.declared.trace.Event.TheVariants as events;
 ghost use Rattle.sv_client.specs.Traces.{joins, makes, held_of, pending_of, view_of};
 ghost use Rattle.sv_client.specs.Taking.{outstanding, told, first_fault_of_reply};
-ghost use Rattle.sv_client.specs.Proper.{IsGoodIdentity, MayMake, MayPoll, MayLeave, Proper, in_session};
-ghost use Rattle.sv_client.specs.Seen.{new_client, with_event, newly_asked, event_of, trace_from};
+ghost use Rattle.sv_client.specs.Proper.{IsGoodIdentity, MayMake, MayPoll, MayLeave, Proper, in_session, most_made};
+ghost use Rattle.sv_client.specs.Seen.{new_client, with_event, newly_asked, event_of_mark, trace_from};
 ghost use Rattle.sv_client.specs.Answers.{view_seen, IsMakeFault, IsPollFault, IsTakeFault, IsFine, got_now};
 
 use crate::asking::{awaited_at_join, joining, note_asked};
@@ -21,7 +23,10 @@ use std::marker::Model;
 use sv_pending::{Overlay, Pending, PendingItem};
 use sv_versions::Versions;
 use sv_wire::{Reply, Request, copy_reply};
-use sv_world::{Action, ClientId, List, ObjectId, Shape, check_action, copy_action, copy_objects};
+use sv_world::{
+    Action, ClientId, List, MOST_OUTSTANDING, MOST_PENDING, ObjectId, Shape, check_action,
+    copy_action, copy_objects,
+};
 
 /// A client of a world, which is its trace.
 ///
@@ -51,9 +56,9 @@ impl Model for Client {
 
     ghost coded = { Prim.hlevel (codes, event_rows.the_row.coded) };
 
-    ghost use Rattle.sv_client.specs.Invariant.{view_of, IsClient};
+    ghost use Rattle.sv_client.specs.Invariant.{client_seen, IsClient};
 
-    ghost view = { view_of };
+    ghost view = { client_seen };
 
     ghost invariant = { IsClient };
 }
@@ -114,7 +119,7 @@ impl Client {
     /// How many requests have no reply yet, at most 16.
     pub fn outstanding(&self) -> usize
         ensures exact { result ≡ length (outstanding self.now.who self.now.events) }
-        ensures few { result ≤ 16 }
+        ensures few { result ≤ most_outstanding }
     {
         self.awaited.len()
     }
@@ -197,7 +202,7 @@ impl Client {
 
     /// Begins the first or the next session: a Join, and a Submit for each pending action. What was outstanding is forgotten.
     pub fn join(&mut self) -> Result<Vec<Request>, AllocError>
-        requires { joins self.old.events < 64 }
+        requires { joins self.old.events < most_sessions }
         ensures requests { IfOk result (λ requests. requests.items ≡ newly_asked self.old.who self.old.events (events.Join (joins self.old.events))) }
         ensures ok { OnOk result (self.new ≡ with_event self.old (events.Join (joins self.old.events))) }
         ensures err { OnErr result (self.new ≡ self.old) }
@@ -220,7 +225,7 @@ impl Client {
 
     /// Notes an event in the trace, and changes nothing else.
     pub fn note(&mut self, mark: Mark) -> Result<(), AllocError>
-        ensures ok { OnOk result (self.new ≡ with_event self.old (event_of mark)) }
+        ensures ok { OnOk result (self.new ≡ with_event self.old (event_of_mark mark)) }
         ensures err { OnErr result (self.new ≡ self.old) }
     {
         let event = match mark {
@@ -235,7 +240,7 @@ impl Client {
     /// Makes an action, which is pending from now on with the result that it has on the views.
     pub fn make(&mut self, action: Action) -> Result<Request, MakeFault>
         requires joined { in_session self.old.events ≡ true }
-        requires few { makes self.old.events < 65536 }
+        requires few { makes self.old.events < most_made }
         ensures request { IfOk result (λ request. request ∷ [] ≡ newly_asked self.old.who self.old.events (events.Make action)) }
         ensures ok { OnOk result (self.new ≡ with_event self.old (events.Make action)) }
         ensures err { OnErr result (self.new ≡ self.old) }
@@ -244,10 +249,10 @@ impl Client {
         if let Err(cause) = check_action(self.shape, &action) {
             return Err(MakeFault::BadAction(cause));
         }
-        if self.pending.len() >= 8 {
+        if self.pending.len() >= MOST_PENDING {
             return Err(MakeFault::Full);
         }
-        if self.awaited.len() >= 16 {
+        if self.awaited.len() >= MOST_OUTSTANDING {
             return Err(MakeFault::Busy);
         }
         let sent = copy_action(self.alloc, &action)?;
@@ -280,7 +285,7 @@ impl Client {
         ensures err { OnErr result (self.new ≡ self.old) }
         ensures cause { MatchResult result (λ _. MayPoll self.old.who self.old.events) (IsPollFault self.old.who self.old.events) }
     {
-        if self.awaited.len() >= 16 {
+        if self.awaited.len() >= MOST_OUTSTANDING {
             return Err(PollFault::Busy);
         }
         note_asked(
@@ -326,7 +331,6 @@ impl Client {
         let copy = copy_reply(self.alloc, reply)?;
         self.events.reserve(1)?;
         let done = take_reply(
-            self.alloc,
             &mut self.versions,
             &mut self.pending,
             &mut self.awaited,
@@ -361,7 +365,7 @@ impl Client {
 
     /// The trace, where the first session has this number.
     pub fn into_trace(self, first: u16) -> Trace
-        requires { first < 64 }
+        requires { first < most_sessions }
         ensures trace { result ≡ trace_from first self }
         ensures proper { Proper self.who.shape result }
     {

@@ -1,3 +1,4 @@
+//! The greatest commit that a client was told.
 ghost use Rattle.std.specs.Prelude.{◌≡◌};
 ghost use Rattle.sv_client.specs.Taking.{told_by};
 

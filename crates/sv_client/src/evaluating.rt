@@ -5,8 +5,8 @@ ghost use Rattle.sv_versions.specs.Held.{Held as Kept, AnswersAbove, read_below}
 ghost use Rattle.sv_versions.specs.Undone.{undone};
 ghost use Rattle.sv_pending.specs.Made.{ReadsWithin};
 ghost use Rattle.sv_client.specs.Traces.{head_held, held_at};
-ghost use Rattle.sv_client.specs.Taking.{first_missing};
-ghost use Rattle.sv_client.specs.Evaluating.{numbers, AreWithin, IsHeadWithin, ItemsReadWithin, AreAbove, values_below, IsEvaluated, AreEvaluated};
+ghost use Rattle.sv_client.specs.Taking.{first_unheld};
+ghost use Rattle.sv_client.specs.Evaluating.{numbers, AreWithin, IsHeadWithin, ItemsReadWithin, ItemsAreAbove, values_below, IsEvaluated, AreEvaluated};
 
 use crate::fault::TakeFault;
 use std::alloc::{AllocError, Global};
@@ -17,7 +17,6 @@ use sv_world::{List, ObjectId, Value, copy_value, is_in_mask};
 
 /// Holds the values of a head at its reply's commit.
 pub(crate) fn hold_head(
-    alloc: Global,
     versions: &mut Versions,
     undo: &mut Undo,
     commit: u32,
@@ -31,14 +30,13 @@ pub(crate) fn hold_head(
     let [held, rest @ ..] = head else {
         return Ok(());
     };
-    let value = copy_value(alloc, &held.value)?;
+    let value = copy_value(versions.alloc(), &held.value)?;
     versions.put_noted(undo, held.object, commit, value)?;
-    hold_head(alloc, versions, undo, commit, rest)
+    hold_head(versions, undo, commit, rest)
 }
 
 /// Holds values of objects at a position.
 fn hold_values(
-    alloc: Global,
     versions: &mut Versions,
     undo: &mut Undo,
     pos: u32,
@@ -56,9 +54,9 @@ fn hold_values(
     let [value, other_values @ ..] = values else {
         return Ok(());
     };
-    let value = copy_value(alloc, value)?;
+    let value = copy_value(versions.alloc(), value)?;
     versions.put_noted(undo, *object, pos, value)?;
-    hold_values(alloc, versions, undo, pos, other_objects, other_values)
+    hold_values(versions, undo, pos, other_objects, other_values)
 }
 
 /// The objects at the slots in a mask.
@@ -87,37 +85,31 @@ fn push_masked(
 }
 
 /// The first of the objects that has no value below a position.
-fn first_missing(versions: &Versions, pos: u32, objects: &[ObjectId]) -> Option<ObjectId>
+fn first_unheld(versions: &Versions, pos: u32, objects: &[ObjectId]) -> Option<ObjectId>
     requires { AreWithin versions.now.shape.objects objects.now }
-    ensures { option_map (λ o. o.0) result ≡ first_missing versions.now.held pos (numbers objects.now) }
+    ensures { option_map (λ o. o.0) result ≡ first_unheld versions.now.held pos (numbers objects.now) }
 {
     let [object, rest @ ..] = objects else {
         return None;
     };
     match versions.read_below(*object, pos) {
         None => Some(*object),
-        Some(_) => first_missing(versions, pos, rest),
+        Some(_) => first_unheld(versions, pos, rest),
     }
 }
 
-fn value_below(
-    alloc: Global,
-    versions: &Versions,
-    pos: u32,
-    object: ObjectId,
-) -> Result<Value, AllocError>
+fn value_below(versions: &Versions, pos: u32, object: ObjectId) -> Result<Value, AllocError>
     requires { object.0 < versions.now.shape.objects }
     ensures { IfOk result (λ value. value ≡ unwrap_or (read_below versions.now.held object.0 pos) []) }
 {
     match versions.read_below(object, pos) {
-        None => Ok(Value::new(alloc)),
-        Some(value) => copy_value(alloc, value),
+        None => Ok(Value::new(versions.alloc())),
+        Some(value) => copy_value(versions.alloc(), value),
     }
 }
 
 /// The values of objects below a position.
 fn values_below(
-    alloc: Global,
     versions: &Versions,
     pos: u32,
     objects: &[ObjectId],
@@ -125,16 +117,15 @@ fn values_below(
     requires { AreWithin versions.now.shape.objects objects.now }
     ensures { IfOk result (λ values. values.items ≡ values_below versions.now.held pos (numbers objects.now)) }
 {
-    let mut values = Vec::with_capacity(alloc, objects.len())?;
+    let mut values = Vec::with_capacity(versions.alloc(), objects.len())?;
     for object in objects {
-        values.push(value_below(alloc, versions, pos, *object)?)?;
+        values.push(value_below(versions, pos, *object)?)?;
     }
     Ok(values)
 }
 
 /// The result of an item on the values below it, which are held at its position.
 fn evaluate_item(
-    alloc: Global,
     versions: &mut Versions,
     undo: &mut Undo,
     item: &Item,
@@ -145,17 +136,17 @@ fn evaluate_item(
     ensures evaluated { (told : ℕ) (all : List Kept) → AnswersAbove told versions.old.held all → told < item.now.pos → IsEvaluated told all item.now result versions.new.held }
 {
     let reads = item.action.reads.as_slice();
-    if let Some(object) = first_missing(versions, item.pos, reads) {
+    if let Some(object) = first_unheld(versions, item.pos, reads) {
         return Err(TakeFault::Missing {
             pos: item.pos,
             object,
         });
     }
-    let values = values_below(alloc, versions, item.pos, reads)?;
+    let values = values_below(versions, item.pos, reads)?;
+    let alloc = versions.alloc();
     let outcome = eval(alloc, &item.action, &values)?;
     let objects = masked(alloc, item.action.mask, reads)?;
     hold_values(
-        alloc,
         versions,
         undo,
         item.pos,
@@ -167,7 +158,6 @@ fn evaluate_item(
 
 /// Appends the results of items, in order.
 pub(crate) fn evaluate_items(
-    alloc: Global,
     versions: &mut Versions,
     undo: &mut Undo,
     items: &[Item],
@@ -176,15 +166,15 @@ pub(crate) fn evaluate_items(
     requires { ItemsReadWithin versions.old.shape.objects items.now }
     ensures shape { versions.new.shape ≡ versions.old.shape }
     ensures undone { undone undo.new versions.new.held ≡ undone undo.old versions.old.held }
-    ensures evaluated { (told : ℕ) (all : List Kept) → AnswersAbove told versions.old.held all → AreAbove told items.now → AreEvaluated told all items.now results.old.items results.new.items result versions.new.held }
+    ensures evaluated { (told : ℕ) (all : List Kept) → AnswersAbove told versions.old.held all → ItemsAreAbove told items.now → AreEvaluated told all items.now results.old.items results.new.items result versions.new.held }
 {
     let [item, rest @ ..] = items else {
         return Ok(());
     };
-    let values = evaluate_item(alloc, versions, undo, item)?;
+    let values = evaluate_item(versions, undo, item)?;
     results.push(Done1 {
         pos: item.pos,
         values,
     })?;
-    evaluate_items(alloc, versions, undo, rest, results)
+    evaluate_items(versions, undo, rest, results)
 }

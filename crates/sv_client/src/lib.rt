@@ -9,6 +9,7 @@ mod commits;
 mod evaluating;
 mod fault;
 mod kinds;
+mod limits;
 mod raising;
 mod same;
 mod taken;
@@ -17,6 +18,7 @@ mod view;
 
 pub use client::Client;
 pub use fault::{MakeFault, PollFault, TakeFault};
+pub use limits::MOST_MADE;
 pub use same::{same_action, same_actions_are_equal};
 pub use trace::{Event, Mark, Trace};
 pub use view::View;

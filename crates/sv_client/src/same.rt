@@ -1,3 +1,4 @@
+//! Whether two actions are the same.
 ghost use Rattle.std.specs.Prelude.{◌≡◌, true, ◌↔◌};
 ghost use Rattle.sv_world.specs.declared.action.Action.{Action};
 ghost use Rattle.sv_client.specs.Same.{is_same_action, is_same_point, are_same_reads};

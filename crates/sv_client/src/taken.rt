@@ -1,3 +1,4 @@
+//! Taking a reply that has passed all looks.
 ghost use Rattle.std.specs.Prelude.{◌≡◌, ◌<◌, ℕ, Bool, List, length, IfOk, IfErr, OnErr};
 ghost use Rattle.sv_client.specs.declared.trace.Event.{Event};
 ghost use Rattle.sv_client.specs.Taking.{Identity};
@@ -10,7 +11,6 @@ use crate::asking::await_after;
 use crate::commits::told_by;
 use crate::fault::TakeFault;
 use crate::kinds::Awaited;
-use std::alloc::Global;
 use sv_pending::Pending;
 use sv_versions::Versions;
 use sv_wire::{Reply, Request};
@@ -19,7 +19,6 @@ use sv_wire::{Reply, Request};
 ///
 /// All is changed in its place. After a refusal it is as before.
 pub(crate) fn take_reply(
-    alloc: Global,
     versions: &mut Versions,
     pending: &mut Pending,
     awaited: &mut Vec<Awaited>,
@@ -36,7 +35,7 @@ pub(crate) fn take_reply(
     ensures awaited { OnErr result (awaited.new.items ≡ awaited.old.items) }
     ensures told { OnErr result (told.new ≡ told.old) }
 {
-    let done = try_apply(alloc, versions, pending, *told, reply)?;
+    let done = try_apply(versions, pending, *told, reply)?;
     await_after(awaited, reply);
     let commit = told_by(reply, *told);
     versions.prune(commit);

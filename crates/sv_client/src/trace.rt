@@ -1,3 +1,4 @@
+//! Traces of clients, and their events.
 use sv_wire::Reply;
 use sv_world::{Action, ClientId, List, ObjectId};
 

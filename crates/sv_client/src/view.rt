@@ -1,3 +1,4 @@
+//! Views of objects.
 use sv_world::Value;
 
 /// What a client sees of an object.

@@ -9,6 +9,7 @@ use Rattle.sv_world.specs.declared.world.ObjectId.{ObjectId}
 use Rattle.sv_world.specs.declared.world.World.{World}
 use Rattle.sv_world.specs.Control.{below}
 use Rattle.sv_world.specs.Limits.{most_bound}
+use Rattle.sv_world.specs.Sets.{object_numbered}
 use Rattle.sv_scenario.specs.declared.scenario.Plan.{Plan}
 use Rattle.sv_scenario.specs.declared.scenario.Scenario.{Scenario}
 use Rattle.sv_scenario.specs.declared.scenario.Step.{Step}
@@ -28,13 +29,10 @@ taken slot t = stmt.Set slot 0 (expr.Sub (expr.Attr slot 0) (expr.Lit (pos t)))
 abbrev pub added : ℕ → ℕ → ℕ → Stmt
 added slot attr t = stmt.Set slot attr (expr.Add (expr.Attr slot attr) (expr.Lit (pos t)))
 
-abbrev pub object : ℕ → ObjectId
-object x = record { 0 = x }
-
 -- It moves t of attribute 0 from object u to object v, and counts that on attribute 1 of u.
 abbrev pub transfer : ℕ → ℕ → ℕ → Action
 transfer u v t = record {
-  reads = object (min u v) ∷ object (max u v) ∷ [];
+  reads = object_numbered (min u v) ∷ object_numbered (max u v) ∷ [];
   mask = 3;
   origin = record { x = pos 0; y = pos 0 };
   body = taken (slot_of u v) t ∷ added (slot_of v u) 0 t ∷ added (slot_of u v) 1 1 ∷ [];
@@ -55,7 +53,7 @@ abbrev pub script : ℕ → ℕ → ℕ → List Step
 script rounds h g = flat_map (λ r. round_steps h (4 * (g + r))) (below rounds)
 
 abbrev pub interest : ℕ → List ObjectId
-interest g = object (4 * g) ∷ object (4 * g + 1) ∷ object (4 * g + 2) ∷ object (4 * g + 3) ∷ []
+interest g = object_numbered (4 * g) ∷ object_numbered (4 * g + 1) ∷ object_numbered (4 * g + 2) ∷ object_numbered (4 * g + 3) ∷ []
 
 -- Client 2m + h is client h of pair m, whose groups are those from m * rounds on.
 abbrev pub plan : ℕ → ℕ → Plan

@@ -2,7 +2,8 @@
 
 ghost use Rattle.std.specs.Prelude.{◌≡◌, ◌≤◌, ◌<◌, ◌++◌, min, max, [], ◌∷◌, IfOk, OnOk};
 ghost use Rattle.sv_world.specs.Spelled.{stmt_spelled};
-ghost use Rattle.sv_gen.specs.Generated.{object, slot_of, taken, added, transfer, act};
+ghost use Rattle.sv_world.specs.Sets.{object_numbered};
+ghost use Rattle.sv_gen.specs.Generated.{slot_of, taken, added, transfer, act};
 ghost use Rattle.sv_gen.specs.Changes.{change};
 
 use std::alloc::{AllocError, Global};
@@ -35,7 +36,7 @@ fn push_change(
 
 /// What an act reads: two objects, in order.
 fn both(alloc: Global, from: u16, to: u16) -> Result<Reads, AllocError>
-    ensures { IfOk result (λ reads. reads ≡ object (min from to) ∷ object (max from to) ∷ []) }
+    ensures { IfOk result (λ reads. reads ≡ object_numbered (min from to) ∷ object_numbered (max from to) ∷ []) }
 {
     let mut reads = Reads::new(alloc);
     reads.push(ObjectId(from.min(to)))?;

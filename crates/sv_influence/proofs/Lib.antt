@@ -1,3 +1,4 @@
+-- The lemmas of this crate, file by file.
 pub mod Backwards
 pub mod Bits
 pub mod Chains

@@ -29,8 +29,7 @@ pub fn closure<L: Ledger>(
     ensures head { IfOk result (λ c. map (λ (o : ObjectId). o.0) c.head ≡ base_objects queue.now session pos) }
     ensures ticks { steps.new ≤ steps.old + 33 * length (lacking queue.now session pos) + 1 }
 {
-    let first = first_wanted(queue, session, pos, steps);
-    let found = expand_all(alloc, queue, session, pos, first, steps)?;
+    let found = expand_all(alloc, queue, session, pos, steps)?;
     let Found { items, bases } = found;
     let shape = queue.shape();
     prove!(shape.objects <= MOST_OBJECTS);
@@ -74,79 +73,107 @@ fn expand_all<L: Ledger>(
     queue: &Queue,
     session: u16,
     pos: u32,
-    first: Option<u32>,
     steps: &mut Steps<L>,
 ) -> Result<Found, AllocError>
-    requires pos { IsUncommitted queue.now pos }
-    requires within { (j : ℕ) → is_in j (option_to_list first) ≡ true → (queue.now.commit < j) × (j ≤ pos) }
-    requires whole { wanted_up_to (queue_actions queue.now) queue.now.commit (sent_positions queue.now session) pos (option_to_list first) ≡ lacking queue.now session pos }
+    requires { IsUncommitted queue.now pos }
     ensures items { IfOk result (λ f. f.items.items ≡ lacking queue.now session pos) }
     ensures bases { IfOk result (λ f. (x : ℕ) → is_in x f.bases ≡ is_in x (base_objects queue.now session pos)) }
-    ensures ticks { steps.new ≤ steps.old + 33 * length (lacking queue.now session pos) }
+    ensures ticks { steps.new ≤ steps.old + 33 * length (lacking queue.now session pos) + 1 }
 {
+    let first = first_wanted(queue, session, pos, steps);
     let mut items = Vec::with_capacity(alloc, MOST_ITEMS)?;
-    let mut wanted = Numbers::new(alloc);
-    let mut bases = Numbers::new(alloc);
+    let mut missing = Missing::new(alloc);
     let mut next = first;
     while let Some(greatest) = next {
         items.push(greatest)?;
-        expand(queue, session, greatest, &mut wanted, &mut bases, steps)?;
-        next = wanted.pop();
+        missing.expand(queue, session, greatest, steps)?;
+        next = missing.wanted.pop();
     }
     items.reverse();
+    let Missing { bases, .. } = missing;
     Ok(Found { items, bases })
 }
 
-/// Looks at each object that a position reads.
-fn expand<L: Ledger>(
-    queue: &Queue,
-    session: u16,
-    pos: u32,
-    wanted: &mut Numbers,
-    bases: &mut Numbers,
-    steps: &mut Steps<L>,
-) -> Result<(), AllocError>
-    requires { IsUncommitted queue.now pos }
-    ensures wanted { OnOk result ((j : ℕ) → is_in j wanted.new ≡ is_in j (lacking_writers queue.now session pos (reads_at queue.now pos) ++ wanted.old)) }
-    ensures bases { OnOk result ((x : ℕ) → is_in x bases.new ≡ is_in x (committed_reads queue.now session pos (reads_at queue.now pos) ++ bases.old)) }
-    ensures low { All (λ x. x < queue.now.shape.objects) (reads_at queue.now pos) }
-    ensures ticks { steps.new ≤ steps.old + 33 }
-{
-    let entry = queue.entry(pos, steps);
-    for (slot, object) in entry.action.reads.as_slice().iter().enumerate() {
-        look_up(queue, session, pos, slot, *object, wanted, bases, steps)?;
-    }
-    Ok(())
+/// The positions that are wanted and not looked at yet, and the objects that are read as committed.
+#[derive(Drop)]
+struct Missing {
+    wanted: Numbers,
+    bases: Numbers,
 }
 
-/// Where the last writer of an object, which the position reads in a slot, is committed the object is needed, unless it was given; where it is not, the writer is, unless it was sent.
-fn look_up<L: Ledger>(
-    queue: &Queue,
-    session: u16,
+/// What a position reads in a slot.
+#[derive(Clone, Copy, Drop)]
+struct ReadSlot {
     pos: u32,
     slot: usize,
     object: ObjectId,
-    wanted: &mut Numbers,
-    bases: &mut Numbers,
-    steps: &mut Steps<L>,
-) -> Result<(), AllocError>
-    requires pos { IsUncommitted queue.now pos }
-    requires object { object.0 < queue.now.shape.objects }
-    requires slot { slot < length (action_at (queue_actions queue.now) pos).reads }
-    requires read { slice_index_or (reads_at queue.now pos) slot 0 ≡ object.0 }
-    ensures wanted { OnOk result ((j : ℕ) → is_in j wanted.new ≡ is_in j (lacking_writers queue.now session pos (object.0 ∷ []) ++ wanted.old)) }
-    ensures bases { OnOk result ((x : ℕ) → is_in x bases.new ≡ is_in x (committed_reads queue.now session pos (object.0 ∷ []) ++ bases.old)) }
-    ensures ticks { steps.new ≤ steps.old + 2 }
-{
-    let writer = queue.source(pos, slot, steps);
-    if writer == 0 {
-        if !queue.is_given(object, session) {
-            bases.insert(u32::from(object.0))?;
+}
+
+impl Missing {
+    fn new(alloc: Global) -> Missing
+        ensures wanted { result.wanted ≡ [] }
+        ensures bases { result.bases ≡ [] }
+    {
+        Missing {
+            wanted: Numbers::new(alloc),
+            bases: Numbers::new(alloc),
         }
-    } else if !queue.is_marked(writer, session, steps) {
-        wanted.insert(writer)?;
     }
-    Ok(())
+
+    /// Looks at each object that a position reads.
+    fn expand<L: Ledger>(
+        &mut self,
+        queue: &Queue,
+        session: u16,
+        pos: u32,
+        steps: &mut Steps<L>,
+    ) -> Result<(), AllocError>
+        requires { IsUncommitted queue.now pos }
+        ensures wanted { OnOk result ((j : ℕ) → is_in j self.new.wanted ≡ is_in j (lacking_writers queue.now session pos (reads_at queue.now pos) ++ self.old.wanted)) }
+        ensures bases { OnOk result ((x : ℕ) → is_in x self.new.bases ≡ is_in x (committed_reads queue.now session pos (reads_at queue.now pos) ++ self.old.bases)) }
+        ensures low { All (λ x. x < queue.now.shape.objects) (reads_at queue.now pos) }
+        ensures ticks { steps.new ≤ steps.old + 33 }
+    {
+        let entry = queue.entry(pos, steps);
+        for (slot, object) in entry.action.reads.as_slice().iter().enumerate() {
+            let read = ReadSlot {
+                pos,
+                slot,
+                object: *object,
+            };
+            self.look_up(queue, session, read, steps)?;
+        }
+        Ok(())
+    }
+
+    /// Where the last writer of an object that is read is committed the object is needed, unless it was given; where it is not, the writer is,
+    /// unless it was sent.
+    fn look_up<L: Ledger>(
+        &mut self,
+        queue: &Queue,
+        session: u16,
+        read: ReadSlot,
+        steps: &mut Steps<L>,
+    ) -> Result<(), AllocError>
+        requires pos { IsUncommitted queue.now read.pos }
+        requires object { read.object.0 < queue.now.shape.objects }
+        requires slot { read.slot < length (action_at (queue_actions queue.now) read.pos).reads }
+        requires read { slice_index_or (reads_at queue.now read.pos) read.slot 0 ≡ read.object.0 }
+        ensures wanted { OnOk result ((j : ℕ) → is_in j self.new.wanted ≡ is_in j (lacking_writers queue.now session read.pos (read.object.0 ∷ []) ++ self.old.wanted)) }
+        ensures bases { OnOk result ((x : ℕ) → is_in x self.new.bases ≡ is_in x (committed_reads queue.now session read.pos (read.object.0 ∷ []) ++ self.old.bases)) }
+        ensures ticks { steps.new ≤ steps.old + 2 }
+    {
+        let object = read.object;
+        let writer = queue.source(read.pos, read.slot, steps);
+        if writer == 0 {
+            if !queue.is_given(object, session) {
+                self.bases.insert(u32::from(object.0))?;
+            }
+        } else if !queue.is_marked(writer, session, steps) {
+            self.wanted.insert(writer)?;
+        }
+        Ok(())
+    }
 }
 
 /// Numbers of objects, as objects.

@@ -32,15 +32,17 @@ pub fn plain_closure<L: Ledger>(
     ensures ticks { steps.new ≤ steps.old + 3 * (pos - queue.now.commit) }
 {
     let commit = queue.commit();
-    let mut objects = ObjectSet::new();
-    let mut items = Vec::new(alloc);
+    let items = Vec::new(alloc);
+    let objects = ObjectSet::new();
+    let mut walk = Walk { items, objects };
     let mut at = pos;
     while at > commit {
-        if is_wanted(queue, pos, at, &objects, steps) {
-            visit(queue, session, at, &mut items, &mut objects, steps)?;
+        if is_wanted(queue, pos, at, &walk.objects, steps) {
+            walk.visit(queue, session, at, steps)?;
         }
         at -= 1;
     }
+    let Walk { mut items, objects } = walk;
     items.reverse();
     let head = bases_among(alloc, queue, session, &objects)?;
     Ok(Closure {
@@ -67,30 +69,38 @@ fn is_wanted<L: Ledger>(
     at == pos || objects.meets_writes(entry.action)
 }
 
-/// Takes a wanted position as an item, or removes the objects that it writes where it was sent.
-fn visit<L: Ledger>(
-    queue: &Queue,
-    session: u16,
-    at: u32,
-    items: &mut Vec<u32>,
-    objects: &mut ObjectSet,
-    steps: &mut Steps<L>,
-) -> Result<(), AllocError>
-    requires at { IsUncommitted queue.now at }
-    ensures items { OnOk result (items.new.items ≡ (if is_in at (sent_positions queue.now session) then items.old.items else items.old.items ++ at ∷ [])) }
-    ensures objects { OnOk result ((x : ℕ) → has_object objects.new.words x ≡ (if is_in at (sent_positions queue.now session) then has_object objects.old.words x && not (is_in x (write_set (action_at (queue_actions queue.now) at))) else is_in x (read_set (action_at (queue_actions queue.now) at)) || has_object objects.old.words x)) }
-    ensures ticks { steps.new ≡ steps.old + 2 }
-{
-    let shape = queue.shape();
-    prove!(shape.objects <= MOST_OBJECTS);
-    let entry = queue.entry(at, steps);
-    if queue.is_marked(at, session, steps) {
-        objects.remove_writes(entry.action);
-    } else {
-        items.push(at)?;
-        objects.add_reads(entry.action);
+/// The items that were found, the latest first, and the objects that are still to be had.
+#[derive(Drop)]
+struct Walk {
+    items: Vec<u32>,
+    objects: ObjectSet,
+}
+
+impl Walk {
+    /// Takes a wanted position as an item, or removes the objects that it writes where it was sent.
+    fn visit<L: Ledger>(
+        &mut self,
+        queue: &Queue,
+        session: u16,
+        at: u32,
+        steps: &mut Steps<L>,
+    ) -> Result<(), AllocError>
+        requires at { IsUncommitted queue.now at }
+        ensures items { OnOk result (self.new.items.items ≡ (if is_in at (sent_positions queue.now session) then self.old.items.items else self.old.items.items ++ at ∷ [])) }
+        ensures objects { OnOk result ((x : ℕ) → has_object self.new.objects.words x ≡ (if is_in at (sent_positions queue.now session) then has_object self.old.objects.words x && not (is_in x (write_set (action_at (queue_actions queue.now) at))) else is_in x (read_set (action_at (queue_actions queue.now) at)) || has_object self.old.objects.words x)) }
+        ensures ticks { steps.new ≡ steps.old + 2 }
+    {
+        let shape = queue.shape();
+        prove!(shape.objects <= MOST_OBJECTS);
+        let entry = queue.entry(at, steps);
+        if queue.is_marked(at, session, steps) {
+            self.objects.remove_writes(entry.action);
+        } else {
+            self.items.push(at)?;
+            self.objects.add_reads(entry.action);
+        }
+        Ok(())
     }
-    Ok(())
 }
 
 /// Of the objects of a set, those that were not given to a session, ascending.

@@ -1,3 +1,4 @@
+-- The lemmas of this crate, file by file.
 mod Checked
 pub mod Commits
 mod Counts

@@ -1,3 +1,4 @@
+-- The definitions of this crate, file by file.
 pub mod Answer
 pub mod Serving
 pub mod Examples

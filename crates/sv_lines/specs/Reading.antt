@@ -5,7 +5,7 @@ use Rattle.std.specs.List.{prefix_len}
 use Rattle.std.specs.Str.{all_ascii_digits}
 use Rattle.std.specs.Str.Parse.{digits_value}
 use Rattle.sv_world.specs.declared.world.ObjectId.{ObjectId}
-use Rattle.sv_text.specs.Reading.{as_object}
+use Rattle.sv_world.specs.Sets.{object_numbered}
 use Rattle.sv_wire.specs.declared.message.Done1.{Done1}
 use Rattle.sv_lines.specs.declared.stop.Unread.{Unread}
 use Rattle.sv_lines.specs.declared.stop.Unread.TheVariants as unread
@@ -83,10 +83,10 @@ joined_by reader close byte (suc turns) so_far text = reader text >>= λ x. next
     cond y.0 (Some (so_far ++ x.0 ∷ [], y.1)) (joined_by reader close byte turns (so_far ++ x.0 ∷ []) y.1)
 
 abbrev pub listed_by : {A : Type 0} → (List ℕ → Read A) → List ℕ → List ℕ → List ℕ → Read (List A)
-listed_by reader close byte text = when_read (behind_front close text) (λ rest. Some ([], rest)) (joined_by reader close byte (length text) [] text)
+listed_by reader close byte text = either (behind_front close text) (λ rest. Some ([], rest)) (joined_by reader close byte (length text) [] text)
 
 unfoldable pub object_read : List ℕ → Read ObjectId
-object_read text = number_read (2 ^ 16) text >>= λ n. Some (as_object n.0, n.1)
+object_read text = number_read (2 ^ 16) text >>= λ n. Some (object_numbered n.0, n.1)
 
 unfoldable pub objects_read : List ℕ → Read (List ObjectId)
 objects_read text = behind_front (91 ∷ []) text >>= λ rest. listed_by object_read (93 ∷ []) (32 ∷ []) rest

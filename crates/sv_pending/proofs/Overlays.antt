@@ -4,7 +4,7 @@ use Rattle.std.specs.Prelude.{ℤ}
 use Rattle.sv_versions.specs.Held.{Held}
 use Rattle.sv_pending.specs.Pending.{PendingAction, Overlaid, Unwritten, Unknown, Kept, kept_of, last_of, overlay_of, redone_after}
 use Rattle.sv_pending.specs.declared.made.Made.{Made}
-use Rattle.sv_pending.specs.Made.{paired, overlay_by, IsWhole, AreWhole}
+use Rattle.sv_pending.specs.Made.{paired, overlay_by, IsWholeResult, AreWhole}
 
 abbrev Result : Type 0
 Result = Option (List (List ℤ))
@@ -19,7 +19,7 @@ paired_more (m ∷ []) [] k d h = refl
 paired_more (m ∷ (n ∷ ms)) [] k d h = refl
 paired_more (m ∷ ms) (j ∷ ks) k d h = ap (λ ps. entry m j ∷ ps) (paired_more ms ks k d (omega arith))
 
-pub whole_more : (ms : List Made) (ks : List (Option (List (List ℤ)))) (k : Option (List (List ℤ))) (d : Made) → length ks < length ms → AreWhole ms ks → IsWhole (get_or ms (length ks) d).action k → AreWhole ms (ks ++ k ∷ [])
+pub whole_more : (ms : List Made) (ks : List (Option (List (List ℤ)))) (k : Option (List (List ℤ))) (d : Made) → length ks < length ms → AreWhole ms ks → IsWholeResult (get_or ms (length ks) d).action k → AreWhole ms (ks ++ k ∷ [])
 whole_more [] ks k d h a w = absurd (omega arith)
 whole_more (m ∷ []) [] k d h a w = (w, tt)
 whole_more (m ∷ (n ∷ ms)) [] k d h a w = (w, tt)
@@ -40,7 +40,7 @@ paired_push [] (j ∷ ks) m k e = absurd (omega arith)
 paired_push (n ∷ ms) [] m k e = absurd (omega arith)
 paired_push (n ∷ ms) (j ∷ ks) m k e = ap (λ ps. entry n j ∷ ps) (paired_push ms ks m k (omega arith))
 
-pub whole_push : (ms : List Made) (ks : List (Option (List (List ℤ)))) (m : Made) (k : Option (List (List ℤ))) → length ks ≡ length ms → AreWhole ms ks → IsWhole m.action k → AreWhole (ms ++ m ∷ []) (ks ++ k ∷ [])
+pub whole_push : (ms : List Made) (ks : List (Option (List (List ℤ)))) (m : Made) (k : Option (List (List ℤ))) → length ks ≡ length ms → AreWhole ms ks → IsWholeResult m.action k → AreWhole (ms ++ m ∷ []) (ks ++ k ∷ [])
 whole_push [] [] m k e a w = (w, tt)
 whole_push [] (j ∷ ks) m k e a w = absurd (omega arith)
 whole_push (n ∷ ms) [] m k e a w = absurd (omega arith)
@@ -122,7 +122,7 @@ pub overlay_kept : (ms : List Made) (ks : List (Option (List (List ℤ)))) (n x 
 overlay_kept ms ks n x d e v h g u = overlay_more ms ks n x d e h g ∙ ap (λ o. last_of (overlay_of (take n (paired ms ks)) x) o) u
 
 pub whole_at : (ms : List Made) (ks : List (Option (List (List ℤ)))) (n : ℕ) (d : Made) (e : Option (List (List ℤ))) → n < length ms → n < length ks → AreWhole ms ks →
-    IsWhole (get_or ms n d).action (get_or ks n e)
+    IsWholeResult (get_or ms n d).action (get_or ks n e)
 whole_at [] ks n d e h g a = absurd (omega arith)
 whole_at (m ∷ ms) [] n d e h g a = absurd (omega arith)
 whole_at (m ∷ ms) (k ∷ ks) zero d e h g a = a.0

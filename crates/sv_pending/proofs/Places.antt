@@ -8,7 +8,7 @@ use Rattle.sv_world.specs.Control.{is_in}
 use Rattle.sv_world.specs.Sets.{is_in_mask, at_mask, read_set, write_set}
 use Rattle.sv_world.specs.declared.action.Action.{Action}
 use Rattle.sv_world.specs.declared.world.ObjectId.{ObjectId}
-use Rattle.sv_pending.specs.Pending.{PendingAction, Unwritten, Kept, value_of, kept_for}
+use Rattle.sv_pending.specs.Pending.{PendingAction, Unwritten, Kept, value_beside, kept_for}
 use Rattle.sv_pending.specs.Made.{place_in, overlay_by, ReadsWithin}
 
 -- the written objects from a slot on
@@ -75,21 +75,21 @@ not_placed x (o ∷ os) e = go (cases_Bool (eqb o x)) (λ f. not_placed x os f)
     go (inr h) rest =
         or_from _ _ (ne_eqb x o (λ f. both_ways _ h (eq-eqb o x (sym f)))) (later (place_in x os) refl (sym (cond-false (eqb o x) _ _ h) ∙ e) rest)
 
-pub value_placed : (x k : ℕ) (os : List ℕ) (vs : List (List ℤ)) → length vs ≡ length os → place_in x os ≡ Some k → (k < length vs) × ((d : List ℤ) → value_of os vs x ≡ get_or vs k d)
+pub value_placed : (x k : ℕ) (os : List ℕ) (vs : List (List ℤ)) → length vs ≡ length os → place_in x os ≡ Some k → (k < length vs) × ((d : List ℤ) → value_beside os vs x ≡ get_or vs k d)
 value_placed x k [] vs l e = absurd (none-some k e)
 value_placed x k (o ∷ os) [] l e = absurd (omega arith)
 value_placed x k (o ∷ os) (v ∷ vs) l e = go (cases_Bool (eqb o x)) (λ j f. value_placed x j os vs (omega arith) f)
   where
-    behind : (j : ℕ) → suc j ≡ k → eqb o x ≡ false → (j < length vs) × ((d : List ℤ) → value_of os vs x ≡ get_or vs j d) → (k < suc (length vs)) × ((d : List ℤ) → value_of (o ∷ os) (v ∷ vs) x ≡ get_or (v ∷ vs) k d)
+    behind : (j : ℕ) → suc j ≡ k → eqb o x ≡ false → (j < length vs) × ((d : List ℤ) → value_beside os vs x ≡ get_or vs j d) → (k < suc (length vs)) × ((d : List ℤ) → value_beside (o ∷ os) (v ∷ vs) x ≡ get_or (v ∷ vs) k d)
     behind j s h r =
         let last : j < length vs = r.0 in
         (omega arith, λ d. cond-false (eqb o x) _ _ h ∙ r.1 d ∙ ap (λ n. get_or (v ∷ vs) n d) s)
 
-    later : (r : Option ℕ) → place_in x os ≡ r → option_map suc r ≡ Some k → eqb o x ≡ false → ((j : ℕ) → place_in x os ≡ Some j → (j < length vs) × ((d : List ℤ) → value_of os vs x ≡ get_or vs j d)) → (k < suc (length vs)) × ((d : List ℤ) → value_of (o ∷ os) (v ∷ vs) x ≡ get_or (v ∷ vs) k d)
+    later : (r : Option ℕ) → place_in x os ≡ r → option_map suc r ≡ Some k → eqb o x ≡ false → ((j : ℕ) → place_in x os ≡ Some j → (j < length vs) × ((d : List ℤ) → value_beside os vs x ≡ get_or vs j d)) → (k < suc (length vs)) × ((d : List ℤ) → value_beside (o ∷ os) (v ∷ vs) x ≡ get_or (v ∷ vs) k d)
     later None f g h rest = absurd (none-some k g)
     later (Some j) f g h rest = behind j (same_Some _ _ g) h (rest j f)
 
-    go : (eqb o x ≡ true) ⊎ (eqb o x ≡ false) → ((j : ℕ) → place_in x os ≡ Some j → (j < length vs) × ((d : List ℤ) → value_of os vs x ≡ get_or vs j d)) → (k < suc (length vs)) × ((d : List ℤ) → value_of (o ∷ os) (v ∷ vs) x ≡ get_or (v ∷ vs) k d)
+    go : (eqb o x ≡ true) ⊎ (eqb o x ≡ false) → ((j : ℕ) → place_in x os ≡ Some j → (j < length vs) × ((d : List ℤ) → value_beside os vs x ≡ get_or vs j d)) → (k < suc (length vs)) × ((d : List ℤ) → value_beside (o ∷ os) (v ∷ vs) x ≡ get_or (v ∷ vs) k d)
     go (inl h) rest =
         let first : 0 ≡ k = same_Some _ _ (sym (cond-true (eqb o x) _ _ h) ∙ e) in
         (omega arith, λ d. cond-true (eqb o x) _ _ h ∙ ap (λ n. get_or (v ∷ vs) n d) first)

@@ -13,16 +13,16 @@ use Rattle.sv_eval.specs.Evaluation.{outcome_of}
 use Rattle.sv_eval.proofs.Outcomes.{outcome_shaped, outcome_counted}
 use Rattle.sv_versions.specs.Held.{Held, latest}
 use Rattle.sv_versions.proofs.Laws.{latest_has}
-use Rattle.sv_pending.specs.Pending.{PendingAction, Overlaid, Unwritten, Unknown, Kept, value_of, kept_for, last_of, overlay_of, view_under, view_over, views_over, kept_of, redone_after, redone}
+use Rattle.sv_pending.specs.Pending.{PendingAction, Overlaid, Unwritten, Unknown, Kept, value_beside, kept_for, last_of, overlay_of, view_under, view_over, views_over, kept_of, redone_after, redone}
 use Rattle.sv_pending.specs.Made.{overlay_by}
-use Rattle.sv_pending.specs.Shapes.{IsLong, IsShaped, AreShaped, ShowsShaped}
+use Rattle.sv_pending.specs.Shapes.{IsLong, KeepsShaped, AreShaped, ShowsShaped}
 
-value_long : (attrs x : ℕ) (os : List ℕ) (vs : List (List ℤ)) → length vs ≡ length os → All (IsLong attrs) vs → is_in x os ≡ true → length (value_of os vs x) ≡ attrs
+value_long : (attrs x : ℕ) (os : List ℕ) (vs : List (List ℤ)) → length vs ≡ length os → All (IsLong attrs) vs → is_in x os ≡ true → length (value_beside os vs x) ≡ attrs
 value_long attrs x [] vs l a e = absurd (both_ways _ refl e)
 value_long attrs x (o ∷ os) [] l a e = absurd (omega arith)
 value_long attrs x (o ∷ os) (v ∷ vs) l a e = go (cases_Bool (eqb o x)) (or_cases _ _ e) (λ i. value_long attrs x os vs (omega arith) (All-tail (IsLong attrs) v vs a) i)
   where
-    go : (eqb o x ≡ true) ⊎ (eqb o x ≡ false) → (eqb x o ≡ true) ⊎ (is_in x os ≡ true) → (is_in x os ≡ true → length (value_of os vs x) ≡ attrs) → length (cond (eqb o x) v (value_of os vs x)) ≡ attrs
+    go : (eqb o x ≡ true) ⊎ (eqb o x ≡ false) → (eqb x o ≡ true) ⊎ (is_in x os ≡ true) → (is_in x os ≡ true → length (value_beside os vs x) ≡ attrs) → length (cond (eqb o x) v (value_beside os vs x)) ≡ attrs
     go (inl h) _ rest = ap (λ (w : List ℤ). length w) (cond-true (eqb o x) _ _ h) ∙ All-head (IsLong attrs) v vs a
     go (inr h) (inl i) rest = absurd (both_ways _ h (eq-eqb o x (sym (eqb-true x o i))))
     go (inr h) (inr i) rest = ap (λ (w : List ℤ). length w) (cond-false (eqb o x) _ _ h) ∙ rest i
@@ -31,7 +31,7 @@ kept_long : (attrs x : ℕ) (p : PendingAction) (k : Option (List (List ℤ))) �
 kept_long attrs x p None s e = tt
 kept_long attrs x p (Some vs) s e = value_long attrs x (write_set p.action) vs s.0 s.1 e
 
-by_long : (attrs x : ℕ) (p : PendingAction) → IsShaped attrs p → (is_in x (write_set p.action) ≡ true) ⊎ (is_in x (write_set p.action) ≡ false) → ShowsShaped attrs (overlay_by p x)
+by_long : (attrs x : ℕ) (p : PendingAction) → KeepsShaped attrs p → (is_in x (write_set p.action) ≡ true) ⊎ (is_in x (write_set p.action) ≡ false) → ShowsShaped attrs (overlay_by p x)
 by_long attrs x p s (inl e) = subst (ShowsShaped attrs) (sym (cond-true (is_in x (write_set p.action)) _ _ e)) (kept_long attrs x p p.kept s e)
 by_long attrs x p s (inr e) = subst (ShowsShaped attrs) (sym (cond-false (is_in x (write_set p.action)) _ _ e)) tt
 
@@ -78,7 +78,7 @@ outcome_long attrs action (Some vs) a =
 pub kept_shaped : (attrs : ℕ) (held : List Held) (ps : List PendingAction) (action : Action) → All (λ h. IsLong attrs h.value) held → AreShaped attrs ps → IfSome (kept_of held ps action) (λ vs. (length vs ≡ length (write_set action)) × All (IsLong attrs) vs)
 kept_shaped attrs held ps action a s = outcome_long attrs action (views_over held ps (read_set action)) (views_shaped attrs held ps (read_set action) a s)
 
-pub shaped_push : (attrs : ℕ) (ps : List PendingAction) (p : PendingAction) → AreShaped attrs ps → IsShaped attrs p → AreShaped attrs (ps ++ p ∷ [])
+pub shaped_push : (attrs : ℕ) (ps : List PendingAction) (p : PendingAction) → AreShaped attrs ps → KeepsShaped attrs p → AreShaped attrs (ps ++ p ∷ [])
 shaped_push attrs [] p s t = (t, tt)
 shaped_push attrs (q ∷ ps) p s t = (s.0, shaped_push attrs ps p s.1 t)
 

@@ -1,3 +1,4 @@
+-- The definitions of this crate, file by file.
 pub mod Pending
 pub mod Made
 pub mod Seen

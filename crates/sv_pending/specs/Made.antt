@@ -29,14 +29,14 @@ place_in x [] = None
 place_in x (o ∷ os) = if o == x then Some 0 else option_map suc (place_in x os)
 
 -- a result has one value for each written object
-abbrev pub IsWhole : Action → Option (List (List ℤ)) → Type 0
-IsWhole a None = Unit {0}
-IsWhole a (Some values) = length values ≡ length (write_set a)
+abbrev pub IsWholeResult : Action → Option (List (List ℤ)) → Type 0
+IsWholeResult a None = Unit {0}
+IsWholeResult a (Some values) = length values ≡ length (write_set a)
 
 abbrev pub AreWhole : List Made → List (Option (List (List ℤ))) → Type 0
 AreWhole [] ks = Unit {0}
 AreWhole (m ∷ ms) [] = Unit {0}
-AreWhole (m ∷ ms) (k ∷ ks) = IsWhole m.action k × AreWhole ms ks
+AreWhole (m ∷ ms) (k ∷ ks) = IsWholeResult m.action k × AreWhole ms ks
 
 -- the action reads objects of a world of so many
 abbrev pub ReadsWithin : ℕ → Action → Type 0

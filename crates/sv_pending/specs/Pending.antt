@@ -20,12 +20,12 @@ pub data Overlaid : Type 0 where
   Kept : List ℤ → Overlaid
 
 -- The value that stands beside an object.
-abbrev pub value_of : List ℕ → List (List ℤ) → ℕ → List ℤ
-value_of (o ∷ os) (v ∷ vs) x = if o == x then v else value_of os vs x
-value_of _ _ x = []
+abbrev pub value_beside : List ℕ → List (List ℤ) → ℕ → List ℤ
+value_beside (o ∷ os) (v ∷ vs) x = if o == x then v else value_beside os vs x
+value_beside _ _ x = []
 
 abbrev pub kept_for : PendingAction → Option (List (List ℤ)) → ℕ → Overlaid
-kept_for p (Some values) x = Kept (value_of (write_set p.action) values x)
+kept_for p (Some values) x = Kept (value_beside (write_set p.action) values x)
 kept_for p None x = Unknown
 
 -- The later of two, if it writes the object.

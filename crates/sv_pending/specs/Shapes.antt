@@ -9,12 +9,12 @@ abbrev pub IsLong : ℕ → List ℤ → Type 0
 IsLong attrs v = length v ≡ attrs
 
 -- a kept result has one value for each written object, each of so many numbers
-abbrev pub IsShaped : ℕ → PendingAction → Type 0
-IsShaped attrs p = IfSome p.kept (λ vs. (length vs ≡ length (write_set p.action)) × All (IsLong attrs) vs)
+abbrev pub KeepsShaped : ℕ → PendingAction → Type 0
+KeepsShaped attrs p = IfSome p.kept (λ vs. (length vs ≡ length (write_set p.action)) × All (IsLong attrs) vs)
 
 abbrev pub AreShaped : ℕ → List PendingAction → Type 0
 AreShaped attrs [] = Unit {0}
-AreShaped attrs (p ∷ ps) = IsShaped attrs p × AreShaped attrs ps
+AreShaped attrs (p ∷ ps) = KeepsShaped attrs p × AreShaped attrs ps
 
 abbrev pub ShowsShaped : ℕ → Overlaid → Type 0
 ShowsShaped attrs Unwritten = Unit {0}

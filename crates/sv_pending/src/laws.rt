@@ -1,3 +1,4 @@
+//! Laws of views and of kept results.
 ghost use Rattle.std.specs.Prelude.{◌≡◌, ℕ, List, All, length};
 ghost use Rattle.std.specs.Option.{IfSome};
 ghost use Rattle.sv_world.specs.declared.action.Action.{Action};

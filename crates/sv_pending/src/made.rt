@@ -1,3 +1,4 @@
+//! Actions that were made, and the results that are kept for them.
 ghost use Rattle.std.specs.Prelude.{◌≡◌, IfOk};
 
 use std::alloc::{AllocError, Global};

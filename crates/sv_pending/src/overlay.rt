@@ -1,3 +1,4 @@
+//! What pending actions tell their client.
 use sv_world::{Action, Value};
 
 /// What a client's pending actions say of an object.

@@ -1,4 +1,6 @@
+//! The pending actions of a client.
 ghost use Rattle.std.specs.Prelude.{◌≡◌, ◌-◌, ◌<◌, ◌≤◌, [], ◌∷◌, ◌++◌, drop, length, option_map, slice_get, IfOk, OnOk, OnErr};
+ghost use Rattle.sv_world.specs.Limits.{most_pending};
 ghost use Rattle.sv_world.specs.Faults.{IsGoodAction};
 ghost use Rattle.sv_pending.specs.Pending.{kept_of, redone, overlay_of};
 ghost use Rattle.sv_pending.specs.Seen.{overlay_seen, item_seen};
@@ -33,11 +35,12 @@ impl Model for Pending {
     ghost coded = { Prim.hlevel (codes, statements.the_row.coded) };
 
     ghost use Rattle.std.specs.Prelude.{◌≡◌, ◌≤◌, length, All};
+    ghost use Rattle.sv_world.specs.Limits.{most_pending};
     ghost use Rattle.sv_pending.specs.Made.{paired, AreWhole, ReadsWithin};
 
     ghost view = { λ p. record { shape = p.shape; items = paired p.made.items p.kept.items } };
 
-    ghost invariant = { λ p. (length p.kept.items ≡ length p.made.items) × (length p.made.items ≤ 8) × AreWhole p.made.items p.kept.items × All (λ m. ReadsWithin p.shape.objects m.action) p.made.items };
+    ghost invariant = { λ p. (length p.kept.items ≡ length p.made.items) × (length p.made.items ≤ most_pending) × AreWhole p.made.items p.kept.items × All (λ m. ReadsWithin p.shape.objects m.action) p.made.items };
 }
 
 impl Pending {
@@ -54,14 +57,14 @@ impl Pending {
 
     pub fn len(&self) -> usize
         ensures exact { result ≡ length self.now.items }
-        ensures few { result ≤ 8 }
+        ensures few { result ≤ most_pending }
     {
         self.made.len()
     }
 
     /// Puts an action behind the others, with the result that it has on the views over them.
     pub fn add(&mut self, seq: u32, action: Action, versions: &Versions) -> Result<(), AllocError>
-        requires few { length self.old.items < 8 }
+        requires few { length self.old.items < most_pending }
         requires good { IsGoodAction self.old.shape action }
         requires shape { versions.now.shape ≡ self.old.shape }
         ensures ok { OnOk result (self.new ≡ record self.old { items = self.old.items ++ record { seq = seq; action = action; kept = kept_of versions.now.held self.old.items action } ∷ [] }) }

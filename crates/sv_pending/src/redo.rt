@@ -1,8 +1,9 @@
+//! Computing kept results, each on the views over the actions before it.
 ghost use Rattle.std.specs.Prelude.{◌≡◌, ◌<◌, ◌≤◌, map, length, take, option_copied, IfOk, IfSome, All, List, Option, ℤ};
 ghost use Rattle.sv_world.specs.declared.world.ObjectId.{ObjectId};
 ghost use Rattle.sv_world.specs.Sets.{write_set};
 ghost use Rattle.sv_pending.specs.Pending.{overlay_of, view_over, views_over, kept_of, redone};
-ghost use Rattle.sv_pending.specs.Made.{paired, overlay_by, place_in, IsWhole, AreWhole, ReadsWithin};
+ghost use Rattle.sv_pending.specs.Made.{paired, overlay_by, place_in, IsWholeResult, AreWhole, ReadsWithin};
 ghost use Rattle.sv_pending.specs.Seen.{overlay_seen};
 
 use crate::Overlay;
@@ -31,7 +32,7 @@ fn place_of(action: &Action, object: ObjectId) -> Option<usize>
 
 /// What one action says of an object.
 fn overlay_by<'a>(made: &'a Made, kept: &'a Kept, object: ObjectId) -> Overlay<'a>
-    requires { IsWhole made.now.action kept.now }
+    requires { IsWholeResult made.now.action kept.now }
     ensures { overlay_seen result ≡ overlay_by (record { seq = made.now.seq; action = made.now.action; kept = kept.now }) object.0 }
 {
     let Some(place) = place_of(&made.action, object) else {
@@ -134,7 +135,7 @@ pub fn kept_in(
     requires whole { AreWhole made.now kept.now }
     requires reads { ReadsWithin versions.now.shape.objects action.now }
     ensures kept { IfOk result (λ values. values ≡ kept_of versions.now.held (paired made.now kept.now) action.now) }
-    ensures whole { IfOk result (λ values. IsWhole action.now values) }
+    ensures whole { IfOk result (λ values. IsWholeResult action.now values) }
 {
     let Some(values) = views_in(alloc, made, kept, versions, action.reads.as_slice())? else {
         return Ok(None);

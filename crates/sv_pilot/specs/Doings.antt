@@ -42,11 +42,15 @@ pub record Made (text : List ℕ) (old new : ClientView) : Type 0 where
   pub may : MayMake old.who old.events action
   pub did : Did (events.Make action) old new
 
+-- the text of an action has fewer bytes
+abbrev pub text_limit : ℕ
+text_limit = 1000
+
 -- no action of the text may be made now
 abbrev pub NoneMayBeMade : List ℕ → ClientView → Type 0
 NoneMayBeMade text c = (action : Action) → IsActionText action (tokens_of text) → MayMake c.who c.events action → ⊥
 
 -- a number of a value, and 0 where there is none
-abbrev pub number_at : Option (List ℤ) → ℕ → ℤ
-number_at None attribute = pos 0
-number_at (Some value) attribute = unwrap_or (slice_get value attribute) (pos 0)
+abbrev pub number_seen : Option (List ℤ) → ℕ → ℤ
+number_seen None attribute = pos 0
+number_seen (Some value) attribute = unwrap_or (slice_get value attribute) (pos 0)

@@ -4,12 +4,15 @@ ghost use Rattle.std.specs.List.{AllByRecursion};
 ghost use Rattle.sv_wire.specs.Grammar.{IsWireRequest, IsWireResult, IsWireValue};
 
 use sv_wire::{Done1, Request};
-use sv_world::{Shape, Value, check_action, is_ascending};
+use sv_world::{
+    MOST_ATTRS, MOST_INTEREST, MOST_ITEMS, MOST_OBJECTS, MOST_READS, Shape, Value, check_action,
+    is_ascending,
+};
 
 /// The largest world. What is an action in any world is one in this.
 const LARGEST: Shape = Shape {
-    objects: 4096,
-    attrs: 4,
+    objects: MOST_OBJECTS,
+    attrs: MOST_ATTRS,
 };
 
 fn are_values(values: &[Value]) -> bool
@@ -18,7 +21,7 @@ fn are_values(values: &[Value]) -> bool
     let [first, rest @ ..] = values else {
         return true;
     };
-    1 <= first.len() && first.len() <= 4 && are_values(rest)
+    1 <= first.len() && first.len() <= usize::from(MOST_ATTRS) && are_values(rest)
 }
 
 fn are_results(results: &[Done1]) -> bool
@@ -27,7 +30,9 @@ fn are_results(results: &[Done1]) -> bool
     let [first, rest @ ..] = results else {
         return true;
     };
-    first.values.len() <= 16 && are_values(first.values.as_slice()) && are_results(rest)
+    first.values.len() <= MOST_READS
+        && are_values(first.values.as_slice())
+        && are_results(rest)
 }
 
 /// Whether a request is a message that a server takes.
@@ -36,11 +41,13 @@ pub(crate) fn is_message(request: &Request) -> bool
 {
     match request {
         Request::Join { interest, .. } => {
-            interest.len() <= 64 && is_ascending(interest.as_slice())
+            interest.len() <= MOST_INTEREST && is_ascending(interest.as_slice())
         }
         Request::Submit { action, .. } => check_action(LARGEST, action).is_ok(),
         Request::Done { results } => {
-            1 <= results.len() && results.len() <= 33 && are_results(results.as_slice())
+            1 <= results.len()
+                && results.len() <= MOST_ITEMS
+                && are_results(results.as_slice())
         }
         Request::Poll | Request::Leave => true,
         Request::Bad | Request::End => false,

@@ -1,25 +1,26 @@
 //! A client that game code drives.
 ghost use Rattle.std.specs.Prelude.{◌≡◌, ◌⊎◌, ◌<◌, ◌≤◌, true, false, length, IfOk, IfErr, OnOk, OnErr, MatchResult};
+ghost use Rattle.sv_world.specs.Limits.{most_sessions};
 ghost use Rattle.sv_text.specs.Grammar.{IsActionText};
 ghost use Rattle.sv_text.specs.Tokens.{tokens_of};
 ghost use Rattle.sv_client.specs.declared.trace.Event.TheVariants as events;
 ghost use Rattle.sv_client.specs.Traces.{joins, makes, view_of};
 ghost use Rattle.sv_client.specs.Taking.{outstanding};
-ghost use Rattle.sv_client.specs.Proper.{MayMake, MayPoll, MayLeave, in_session};
+ghost use Rattle.sv_client.specs.Proper.{MayMake, MayPoll, MayLeave, in_session, most_made};
 ghost use Rattle.sv_pilot.specs.declared.trouble.Trouble.TheVariants as troubles;
 ghost use Rattle.sv_pilot.specs.Troubles.{IsNotOfGame, trouble_of_text};
-ghost use Rattle.sv_pilot.specs.Doings.{HasTaken, Did, IsSettled, Made, NoneMayBeMade, number_at};
+ghost use Rattle.sv_pilot.specs.Doings.{HasTaken, Did, IsSettled, Made, NoneMayBeMade, number_seen, text_limit};
 
 use crate::connection::Connection;
 use crate::seen::{Listener, Seen, tell_all, unseen};
 use crate::trouble::Trouble;
 use std::alloc::Global;
 use std::marker::Model;
-use sv_client::{Client, View};
+use sv_client::{Client, MOST_MADE, View};
 use sv_link::End;
 use sv_text::{ParseFault, parse_action};
 use sv_wire::{Reply, Request};
-use sv_world::{Action, ObjectId};
+use sv_world::{Action, MOST_SESSIONS, ObjectId};
 
 /// A client over one connection, and a listener that is called for each change of what it sees of its interest.
 ///
@@ -44,6 +45,9 @@ impl<E: End, L: Listener> Model for Pilot<E, L> {
 
     ghost view = { λ p. p.client };
 }
+
+/// The text of an action has fewer bytes.
+const TEXT_LIMIT: usize = 1_000;
 
 /// How many replies may be due at once, with the Done of each.
 const REPLIES: u32 = 32;
@@ -85,7 +89,7 @@ impl<E: End, L: Listener> Pilot<E, L> {
 
     /// A number of an object as the player sees it, and 0 where it knows none.
     pub fn number(&self, object: ObjectId, attribute: usize) -> i64
-        ensures { result ≡ number_at (view_of self.now.events object.0) attribute }
+        ensures { result ≡ number_seen (view_of self.now.events object.0) attribute }
     {
         match self.client.view(object) {
             View::Known(value) => match value.as_slice().get(attribute) {
@@ -101,9 +105,9 @@ impl<E: End, L: Listener> Pilot<E, L> {
     pub fn join(&mut self) -> Result<(), Trouble>
         ensures joined { OnOk result (Did (events.Join (joins self.old.events)) self.old self.new × IsSettled self.new) }
         ensures stopped { OnErr result ((self.new ≡ self.old) ⊎ Did (events.Join (joins self.old.events)) self.old self.new) }
-        ensures refused { IfErr result (λ trouble. trouble ≡ troubles.Game → (self.new ≡ self.old) × (64 ≤ joins self.old.events)) }
+        ensures refused { IfErr result (λ trouble. trouble ≡ troubles.Game → (self.new ≡ self.old) × (most_sessions ≤ joins self.old.events)) }
     {
-        if self.client.sessions() >= 64 {
+        if self.client.sessions() >= MOST_SESSIONS {
             return Err(Trouble::Game);
         }
         let requests = self.client.join()?;
@@ -126,7 +130,7 @@ impl<E: End, L: Listener> Pilot<E, L> {
     pub fn act(&mut self, text: &str) -> Result<(), Trouble>
         ensures made { OnOk result (Made text.now self.old self.new × IsSettled self.new) }
         ensures stopped { OnErr result ((self.new ≡ self.old) ⊎ Made text.now self.old self.new) }
-        ensures refused { IfErr result (λ trouble. trouble ≡ troubles.Game → (self.new ≡ self.old) × ((1000 ≤ length text.now) ⊎ NoneMayBeMade text.now self.old)) }
+        ensures refused { IfErr result (λ trouble. trouble ≡ troubles.Game → (self.new ≡ self.old) × ((text_limit ≤ length text.now) ⊎ NoneMayBeMade text.now self.old)) }
     {
         let action = self.read(text)?;
         self.make(action)
@@ -136,10 +140,13 @@ impl<E: End, L: Listener> Pilot<E, L> {
     fn read(&self, text: &str) -> Result<Action, Trouble>
         ensures text { IfOk result (λ action. IsActionText action (tokens_of text.now)) }
         ensures only { IfOk result (λ action. (other : Action) → IsActionText other (tokens_of text.now) → other ≡ action) }
-        ensures ready { OnOk result ((in_session self.now.events ≡ true) × (makes self.now.events < 65536)) }
-        ensures refused { IfErr result (λ trouble. trouble ≡ troubles.Game → (1000 ≤ length text.now) ⊎ NoneMayBeMade text.now self.now) }
+        ensures ready { OnOk result ((in_session self.now.events ≡ true) × (makes self.now.events < most_made)) }
+        ensures refused { IfErr result (λ trouble. trouble ≡ troubles.Game → (text_limit ≤ length text.now) ⊎ NoneMayBeMade text.now self.now) }
     {
-        if !self.client.in_session() || self.client.made() >= 65_536 || text.len() >= 1_000 {
+        if !self.client.in_session()
+            || self.client.made() >= MOST_MADE
+            || text.len() >= TEXT_LIMIT
+        {
             return Err(Trouble::Game);
         }
         match parse_action(self.alloc, text) {
@@ -152,7 +159,7 @@ impl<E: End, L: Listener> Pilot<E, L> {
     #[tactic(auto, using(crate::proofs::Taking::did_then))]
     fn make(&mut self, action: Action) -> Result<(), Trouble>
         requires joined { in_session self.old.events ≡ true }
-        requires few { makes self.old.events < 65536 }
+        requires few { makes self.old.events < most_made }
         ensures made { OnOk result (MayMake self.old.who self.old.events action × Did (events.Make action) self.old self.new × IsSettled self.new) }
         ensures stopped { OnErr result ((self.new ≡ self.old) ⊎ (MayMake self.old.who self.old.events action × Did (events.Make action) self.old self.new)) }
         ensures refused { IfErr result (λ trouble. trouble ≡ troubles.Game → (self.new ≡ self.old) × (MayMake self.old.who self.old.events action → ⊥)) }

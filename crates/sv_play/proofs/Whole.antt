@@ -22,7 +22,7 @@ use Rattle.sv_session.specs.declared.outcome.SessionOut.{SessionOut}
 use Rattle.sv_session.specs.declared.outcome.SessionOut.TheVariants as session_outs
 use Rattle.sv_system.specs.Records.{rules_of, AreTracesOf}
 use Rattle.sv_player.specs.Stops.{is_cut}
-use Rattle.sv_player.specs.Played.{IsWhole, IsCause}
+use Rattle.sv_player.specs.Played.{SentAll, IsCause}
 use Rattle.sv_player.specs.declared.outcome.PlayerOut.{PlayerOut}
 use Rattle.sv_player.specs.declared.outcome.PlayerCause.{PlayerCause}
 use Rattle.sv_player.specs.declared.outcome.PlayerCause.TheVariants as causes
@@ -223,7 +223,7 @@ module _ {E : Type 0} (told : E → Told) (faults : E → ℕ) (calm : E → Typ
           let t = at j b.0 b.1 in
           let z : ClientEnd E = record { end = b.0; cut = t.cut } in
           let d = h.played_is.ends.each j t.before b.0 t.was b.1 in
-          let whole : IsWhole p.cause = record { link = no_fault p.cause h.played_is.cause; memory = has_memory p.cause h.with_memory } in (
+          let whole : SentAll p.cause = record { link = no_fault p.cause h.played_is.cause; memory = has_memory p.cause h.with_memory } in (
             over_of told faults t.server z,
             (
               overs_at told faults ys ends (s + j) t.server z t.server_at t.client_at,

@@ -13,7 +13,8 @@ use Rattle.sv_player.specs.declared.buffers.Buffers.{Buffers}
 use Rattle.sv_player.specs.declared.outcome.PlayerCause.{PlayerCause}
 use Rattle.sv_player.specs.declared.outcome.PlayerCause.TheVariants as causes
 use Rattle.sv_player.specs.declared.playing.Player.{Player}
-use Rattle.sv_player.specs.Carried.{request_frames, Posted, PostedPart, is_bye}
+use Rattle.sv_player.specs.Carried.{request_frames, Posted, PostedPart}
+use Rattle.sv_script.specs.Following.{is_bye}
 use Rattle.sv_player.specs.Going.{Did, IsHere}
 use Rattle.sv_player.specs.Sessions.{IsAt, IsFirst, IsAnswered, Got, Stopped}
 use Rattle.sv_player.proofs.Taking.{got_goes, got_stops}

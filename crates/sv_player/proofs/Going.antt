@@ -19,11 +19,10 @@ use Rattle.sv_scenario.specs.declared.scenario.Step.{Step}
 use Rattle.sv_scenario.specs.declared.scenario.Step.TheVariants as steps
 use Rattle.sv_scenario.specs.Limits.{IsGoodStep}
 use Rattle.sv_scenario.specs.Sessions.{cuts_by, cuts_in}
-use Rattle.sv_script.specs.Following.{DoesStep, MayCome, FollowsTo, must_join, is_finished, after_syncs, passed_syncs, unsynced, event_of}
+use Rattle.sv_script.specs.Following.{DoesStep, MayCome, FollowsTo, must_join, is_finished, after_syncs, passed_syncs, unsynced, event_of, is_bye}
 use Rattle.sv_script.proofs.Counts.{events-few}
 use Rattle.sv_player.specs.declared.playing.Player.{Player}
 use Rattle.sv_player.specs.Going.{one_more_if, IsBudget, IsGoing, Did, IsHere, IsReady}
-use Rattle.sv_player.specs.Carried.{is_bye}
 use Rattle.sv_player.proofs.Well.{is_well}
 
 -- ---- The steps that are left

@@ -1,3 +1,4 @@
+-- The lemmas of this crate, file by file.
 pub mod Well
 pub mod Sizes
 pub mod Wire

@@ -17,13 +17,13 @@ use Rattle.sv_client.specs.Seen.{latest_session}
 use Rattle.sv_client.proofs.Outstanding.{outstanding_joined}
 use Rattle.sv_scenario.specs.declared.scenario.Step.{Step}
 use Rattle.sv_scenario.specs.declared.scenario.Step.TheVariants as steps
-use Rattle.sv_script.specs.Following.{MayCome, must_join, is_welcomed, is_finished, unsynced}
+use Rattle.sv_script.specs.Following.{MayCome, must_join, is_welcomed, is_finished, unsynced, is_bye}
 use Rattle.sv_player.specs.declared.buffers.Buffers.{Buffers}
 use Rattle.sv_player.specs.declared.outcome.Ending.{Ending}
 use Rattle.sv_player.specs.declared.outcome.Ending.TheVariants as endings
 use Rattle.sv_player.specs.declared.playing.Player.{Player}
 use Rattle.sv_player.specs.declared.outcome.PlayerCause.{PlayerCause}
-use Rattle.sv_player.specs.Carried.{request_frames, IsLinked, is_bye}
+use Rattle.sv_player.specs.Carried.{request_frames, IsLinked}
 use Rattle.sv_player.specs.Going.{IsGoing, Did, IsHere, IsReady}
 use Rattle.sv_player.specs.Sessions.{IsAt, Onward, HasEnded, Ended, Stopped, GoesOn, Got, IsMoved}
 use Rattle.sv_player.proofs.Posting.{none_posted}

@@ -10,7 +10,7 @@ use Rattle.sv_wire.specs.declared.message.Request.{Request}
 use Rattle.sv_wire.specs.Spelling.{request_bytes}
 use Rattle.sv_exchange.specs.Outgoing.{Posts, LeavesUnsent}
 use Rattle.sv_player.specs.Carried.{request_frames, Posted, PostedPart}
-use Rattle.sv_player.specs.Waiting.{IsPosted, IsFlushed}
+use Rattle.sv_player.specs.Waiting.{PutBehind, IsFlushed}
 use Rattle.sv_player.proofs.Linking.{frames_append, frames_none, frames_one, prefix_more, posted_more, posted_part, part_more, posted_none}
 
 sent_part : (old new : Told) (waiting : List ℕ) (answer : Sent) → Sends old waiting answer new → PostedPart old waiting [] new
@@ -28,7 +28,7 @@ failed_part e = cc
 memory_part : answers.Memory ≢ answers.Whole
 memory_part e = cc
 
-pub posted_by : (answer : Sent) (old new : Told) (waiting left : List ℕ) (request : Request) → Posts old waiting (frame (request_bytes request)) answer new left → IsPosted answer old waiting (request_frames (request ∷ [])) new left
+pub posted_by : (answer : Sent) (old new : Told) (waiting left : List ℕ) (request : Request) → Posts old waiting (frame (request_bytes request)) answer new left → PutBehind answer old waiting (request_frames (request ∷ [])) new left
 posted_by answers.Whole old new waiting left request p =
     record { sent = p.sent; told = p.told; all = p.whole refl ∙ ap (λ (w : List ℕ). waiting ++ w) (sym (frames_one request)) }
 posted_by answers.Failed old new waiting left request p =

@@ -24,11 +24,11 @@ use Rattle.sv_client.specs.Answers.{IsTakeFault}
 use Rattle.sv_client.specs.Seen.{raised, fault_named}
 use Rattle.sv_client.proofs.Shifts.{Up, up_held, up_pending, up_current, up_got, up_asked, up_outstanding, up_fault}
 use Rattle.sv_scenario.specs.declared.scenario.Step.{Step}
-use Rattle.sv_script.specs.Following.{DoesStep, MayCome, FollowsTo, must_join, is_welcomed, is_finished, passed_syncs}
+use Rattle.sv_script.specs.Following.{DoesStep, MayCome, FollowsTo, must_join, is_welcomed, is_finished, passed_syncs, is_bye}
 use Rattle.sv_script.specs.Telling.{same_view, change_of, changes_of}
 use Rattle.sv_player.specs.declared.outcome.ReplyFault.{ReplyFault}
 use Rattle.sv_player.specs.declared.outcome.ReplyFault.TheVariants as faults
-use Rattle.sv_player.specs.Carried.{BeginsWith, is_bye}
+use Rattle.sv_player.specs.Carried.{BeginsWith}
 use Rattle.sv_player.specs.Stops.{IsBad, IsBadRest, IsShut, is_cut}
 use Rattle.sv_player.specs.Played.{has_quit, has_left}
 use Rattle.sv_player.specs.Ends.{IsOpen}

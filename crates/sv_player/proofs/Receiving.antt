@@ -27,7 +27,8 @@ use Rattle.sv_player.specs.declared.buffers.Buffers.{Buffers}
 use Rattle.sv_player.specs.declared.outcome.PlayerCause.{PlayerCause}
 use Rattle.sv_player.specs.declared.outcome.PlayerCause.TheVariants as causes
 use Rattle.sv_player.specs.declared.playing.Player.{Player}
-use Rattle.sv_player.specs.Carried.{request_frames, BeginsWith, PostedPart, is_bye}
+use Rattle.sv_player.specs.Carried.{request_frames, BeginsWith, PostedPart}
+use Rattle.sv_script.specs.Following.{is_bye}
 use Rattle.sv_player.specs.Going.{IsHere}
 use Rattle.sv_player.specs.declared.outcome.ReplyFault.TheVariants as faults
 use Rattle.sv_player.specs.Waiting.{IsFlushed, Grew, GrewToEnd}

@@ -19,7 +19,7 @@ use Rattle.sv_wire.specs.declared.message.Reply.TheVariants as replies
 use Rattle.sv_client.specs.declared.trace.Event.{Event}
 use Rattle.sv_client.specs.declared.trace.Event.TheVariants as events
 use Rattle.sv_client.specs.Traces.{head_held, held_at, item_result, item_held, with_items, with_reply, held_of, without_front, are_same, settled_by, pending_with, pending_of, view_of}
-use Rattle.sv_client.specs.Taking.{Identity, is_bad_head, is_bad_relay, has_bad_item, first_missing, missing_at, first_missing_of, missing_in}
+use Rattle.sv_client.specs.Taking.{Identity, is_bad_head, is_bad_relay, has_bad_item, first_unheld, missing_at, first_missing_of, missing_in}
 use Rattle.sv_client.specs.Proper.{AreProper}
 use Rattle.sv_player.proofs.Well.{is_well}
 
@@ -60,17 +60,17 @@ module _ (attrs : ℕ) where
   or_missing true x o e = cc
   or_missing false x o e = (refl, e)
 
-  reads_long : (held : List Held) (pos : ℕ) (xs : List ℕ) → AreLong held → first_missing held pos xs ≡ None → AllLong (map (read_at held pos) xs)
+  reads_long : (held : List Held) (pos : ℕ) (xs : List ℕ) → AreLong held → first_unheld held pos xs ≡ None → AllLong (map (read_at held pos) xs)
   reads_long held pos [] a e = All-nil (IsLong attrs)
   reads_long held pos (x ∷ xs) a e =
-      let f = or_missing (is_none (read_below held x pos)) x (first_missing held pos xs) e in
+      let f = or_missing (is_none (read_below held x pos)) x (first_unheld held pos xs) e in
       All-cons (IsLong attrs) (read_at held pos x) (map (read_at held pos) xs)
       (found_long (read_below held x pos) f.0 (read_below_has (IsLong attrs) held x pos a)) (reads_long held pos xs a f.1)
 
-  pub result_long : (held : List Held) (item : Item) → AreLong held → first_missing held item.pos (read_set item.action) ≡ None → AllLong (item_result held item)
+  pub result_long : (held : List Held) (item : Item) → AreLong held → first_unheld held item.pos (read_set item.action) ≡ None → AllLong (item_result held item)
   result_long held item a e = outcome_shaped attrs item.action (map (read_at held item.pos) (read_set item.action)) (reads_long held item.pos (read_set item.action) a e)
 
-  pub item_more : (held : List Held) (item : Item) → AreLong held → first_missing held item.pos (read_set item.action) ≡ None → AreLong (held ++ item_held held item)
+  pub item_more : (held : List Held) (item : Item) → AreLong held → first_unheld held item.pos (read_set item.action) ≡ None → AreLong (held ++ item_held held item)
   item_more held item a e =
       All-append (λ (h : Held). IsLong attrs h.value) held (item_held held item) a (at_long item.pos (write_set item.action) (item_result held item) (result_long held item a e))
 
@@ -81,7 +81,7 @@ module _ (attrs : ℕ) where
   items_long : (held : List Held) (items : List Item) → AreLong held → first_missing_of held items ≡ None → AreLong (with_items held items)
   items_long held [] a e = a
   items_long held (item ∷ items) a e =
-      let f = both_found item.pos (first_missing held item.pos (read_set item.action)) (first_missing_of (held ++ item_held held item) items) e in
+      let f = both_found item.pos (first_unheld held item.pos (read_set item.action)) (first_missing_of (held ++ item_held held item) items) e in
       items_long (held ++ item_held held item) items (item_more held item a f.0) f.1
 
   -- ---- Replies

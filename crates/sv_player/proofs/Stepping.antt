@@ -29,8 +29,8 @@ use Rattle.sv_player.specs.Carried.{request_frames, BeginsWith}
 use Rattle.sv_player.specs.Going.{one_more_if, IsGoing, IsNew}
 use Rattle.sv_player.specs.Stops.{is_cut}
 use Rattle.sv_player.specs.Sessions.{IsFresh, IsSameEnd, IsReason, HasEnded, Ended, Stopped}
-use Rattle.sv_player.specs.Played.{IsWhole, has_quit, has_left}
-use Rattle.sv_player.specs.Ends.{IsCarried, IsOpen, IsNext, NextCause, AreKept, IsClosed, IsClosing, IsSoFar, IsPlaying, IsLeft, IsStuck, IsWhy, HasPlayed}
+use Rattle.sv_player.specs.Played.{SentAll, has_quit, has_left}
+use Rattle.sv_player.specs.Ends.{IsCarried, IsOpen, IsPlayedNext, NextCause, AreKept, IsClosed, IsClosing, IsSoFar, IsPlaying, IsLeft, IsStuck, IsWhy, HasPlayed}
 use Rattle.sv_player.proofs.Linking.{frames_none, prefix_of, begins_none}
 use Rattle.sv_player.proofs.Listed.{all_there, before, kept_set, set_is}
 
@@ -122,7 +122,7 @@ carried_ended W s p q old new ending same d =
       idle = λ none. absurd (begun_asks q.client.who q.client.events d.going.proper s (omega (arith, begun)) none);
     }
 
-carried_stopped : (s : ℕ) (p q : Player) (old new : Told) (cause : PlayerCause) → IsSameEnd old new → Stopped s p q new cause → IsCarried (IsWhole cause) q.client.who q.client.events s old new
+carried_stopped : (s : ℕ) (p q : Player) (old new : Told) (cause : PlayerCause) → IsSameEnd old new → Stopped s p q new cause → IsCarried (SentAll cause) q.client.who q.client.events s old new
 carried_stopped s p q old new cause same d =
     record {
       same = same;
@@ -192,7 +192,7 @@ module _ {E : Type 0} (told : E → Told) (faults : E → ℕ) (calm : E → Typ
               each = λ n a b was is.
                   let r = first_end p ends new.none fresh n a b was is in
                   record {
-                    carried = carried_on (Unit {0}) (IsWhole causes.Memory) (λ _. tt) p.client.who p.client.who p.client.events p.client.events n (told a) (told b) refl refl refl r.carried;
+                    carried = carried_on (Unit {0}) (SentAll causes.Memory) (λ _. tt) p.client.who p.client.who p.client.events p.client.events n (told a) (told b) refl refl refl r.carried;
                     faults_are = inl r.faults_are;
                     calm_is = r.calm_is;
                   };
@@ -237,17 +237,17 @@ module _ {E : Type 0} (told : E → Told) (faults : E → ℕ) (calm : E → Typ
     left_ends : (cause : PlayerCause) → q.client.who ≡ p.client.who →
         ((n : ℕ) → n ≢ k → asked p.client.who.client p.client.who.interest q.client.events n ≡ asked p.client.who.client p.client.who.interest p.client.events n) →
         ((n : ℕ) → n ≢ k → got q.client.events n ≡ got p.client.events n) →
-        IsCarried (IsWhole cause) q.client.who q.client.events k (told x) (told y) → (faults y ≡ faults x) ⊎ ((cause ≡ causes.LinkFault) × IsOpen q.client.events k) →
+        IsCarried (SentAll cause) q.client.who q.client.events k (told x) (told y) → (faults y ≡ faults x) ⊎ ((cause ≡ causes.LinkFault) × IsOpen q.client.events k) →
         AreKept (IsLeft told faults calm q.client.who q.client.events cause) old (slice_set now k y)
     left_ends cause who asks gets carried f =
         kept_set (IsSoFar told faults calm p.client.who p.client.events) (IsLeft told faults calm q.client.who q.client.events cause) old now k x y playing.ends at_k
         (λ n a b ne r. record {
-          carried = carried_on (Unit {0}) (IsWhole cause) (λ _. tt) p.client.who q.client.who p.client.events q.client.events n (told a) (told b) who (asks n ne) (gets n ne) r.carried;
+          carried = carried_on (Unit {0}) (SentAll cause) (λ _. tt) p.client.who q.client.who p.client.events q.client.events n (told a) (told b) who (asks n ne) (gets n ne) r.carried;
           faults_are = inl r.faults_are;
           calm_is = r.calm_is;
         })
         (λ a was r. record {
-          carried = subst (λ (e : E). IsCarried (IsWhole cause) q.client.who q.client.events k (told e) (told y)) (came a r) carried;
+          carried = subst (λ (e : E). IsCarried (SentAll cause) q.client.who q.client.events k (told e) (told y)) (came a r) carried;
           faults_are = subst (λ (e : E). (faults y ≡ faults e) ⊎ ((cause ≡ causes.LinkFault) × IsOpen q.client.events k)) (came a r) f;
           calm_is = λ c. calm_is (subst calm (sym (came a r)) c);
         })
@@ -261,7 +261,7 @@ module _ {E : Type 0} (told : E → Told) (faults : E → ℕ) (calm : E → Typ
           left = q.left.now;
           follows = subst (λ (s : List Step). FollowsTo q.client.who s q.client.events q.left.now) (d.onward.script ∙ playing.script) d.going.follows;
           lines = λ _. d.going.told;
-          ends = left_ends cause d.onward.who d.onward.asks d.onward.gets (carried_ended (IsWhole cause) k p q (told x) (told y) ending same d) (inl f);
+          ends = left_ends cause d.onward.who d.onward.asks d.onward.gets (carried_ended (SentAll cause) k p q (told x) (told y) ending same d) (inl f);
           why = why;
         }
 
@@ -295,7 +295,7 @@ module _ {E : Type 0} (told : E → Told) (faults : E → ℕ) (calm : E → Typ
           why = why;
         }
 
-    pub has_played : (cause : PlayerCause) → IsNext (Some cause) k p q (told y) → NextCause (faults x) (faults y) (Some cause) → HasPlayed told faults calm p0 q old (slice_set now k y) cause
+    pub has_played : (cause : PlayerCause) → IsPlayedNext (Some cause) k p q (told y) → NextCause (faults x) (faults y) (Some cause) → HasPlayed told faults calm p0 q old (slice_set now k y) cause
     has_played causes.Finished d n = played_ended endings.Left causes.Finished d n (left_last q.client.events k d.how)
     has_played causes.Quit d n = played_ended endings.Quit causes.Quit d n (quit_last q.client.events k d.how)
     has_played causes.LinkFault d n = played_stopped causes.LinkFault d n (stuck causes.LinkFault (λ e. cc) d n)

@@ -19,7 +19,8 @@ use Rattle.sv_player.specs.declared.buffers.Buffers.{Buffers}
 use Rattle.sv_player.specs.declared.outcome.PlayerCause.{PlayerCause}
 use Rattle.sv_player.specs.declared.outcome.PlayerCause.TheVariants as causes
 use Rattle.sv_player.specs.declared.playing.Player.{Player}
-use Rattle.sv_player.specs.Carried.{request_frames, BeginsWith, Posted, PostedPart, is_bye}
+use Rattle.sv_player.specs.Carried.{request_frames, BeginsWith, Posted, PostedPart}
+use Rattle.sv_script.specs.Following.{is_bye}
 use Rattle.sv_player.specs.Going.{IsGoing, Did, DidInPart, IsHere}
 use Rattle.sv_player.specs.Sessions.{IsAt, IsFirst, Got, Stopped, IsReason}
 use Rattle.sv_player.proofs.Linking.{frames_append, begins_next, fits, sent_posted, sent_part, messages_more}

@@ -27,7 +27,7 @@ use Rattle.sv_player.specs.declared.playing.Player.{Player}
 use Rattle.sv_player.specs.Carried.{request_frames, Posted, PostedPart, IsLinked}
 use Rattle.sv_player.specs.Going.{IsGoing, Did, DidInPart, IsReady}
 use Rattle.sv_player.specs.Sessions.{IsAt, Onward, IsReason, Stopped, GoesOn, IsTurn, IsSent, IsFresh, FaultCause}
-use Rattle.sv_player.specs.Waiting.{IsPosted}
+use Rattle.sv_player.specs.Waiting.{PutBehind}
 use Rattle.sv_player.proofs.Linking.{frames_none, begins_none, linked_posted, linked_part, linked_still}
 use Rattle.sv_player.proofs.Onward.{IsOf, asks_other, gets_other, cuts_other, asks_here}
 use Rattle.sv_player.proofs.Going.{follows_as, going_on, does_step, still_within, within_settled, may_make}
@@ -177,7 +177,7 @@ module _ (s : ℕ) (e : Event) (left : List Step) (p q : Player) (end : Told) (r
           }
 
   -- What a try to send it answers.
-  pub turn_by : (sent : Sent) (result : Result Unit PlayerCause) (b : Buffers) (new : Told) → IsSent sent result → b.reader ≡ reader → Did e left p q → IsPosted sent end outbox (request_frames asks) new b.outbox →
+  pub turn_by : (sent : Sent) (result : Result Unit PlayerCause) (b : Buffers) (new : Told) → IsSent sent result → b.reader ≡ reader → Did e left p q → PutBehind sent end outbox (request_frames asks) new b.outbox →
       (sent ≡ answers.Whole → All IsRequest asks) → IsTurn result s e p q b new
   turn_by answers.Whole result b new is same did posted fine = subst (λ (r : Result Unit PlayerCause). IsTurn r s e p q b new) (sym is) (goes_by b new same did posted (fine refl))
   turn_by answers.Failed result b new is same did posted fine = subst (λ (r : Result Unit PlayerCause). IsTurn r s e p q b new) (sym is) (stops_by new causes.LinkFault (inl refl) did posted)

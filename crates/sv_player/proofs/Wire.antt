@@ -24,7 +24,7 @@ use Rattle.sv_wire.specs.Grammar.{IsWireValue, IsWireAction, IsWireResult, IsWir
 use Rattle.sv_client.specs.declared.trace.Event.{Event}
 use Rattle.sv_client.specs.declared.trace.Event.TheVariants as events
 use Rattle.sv_client.specs.Traces.{joins, head_held, item_result, item_held, with_reply, held_of, results_of, done_for, without_front, are_same, settled_by, pending_with, pending_of, submit_of}
-use Rattle.sv_client.specs.Taking.{Identity, is_bad_head, is_bad_relay, is_good_relay, has_bad_item, first_missing, first_missing_of, missing_in, first_fault_of_reply}
+use Rattle.sv_client.specs.Taking.{Identity, is_bad_head, is_bad_relay, is_good_relay, has_bad_item, first_unheld, first_missing_of, missing_in, first_fault_of_reply}
 use Rattle.sv_client.specs.Proper.{AreProper, IsGoodIdentity, MayMake}
 use Rattle.sv_client.specs.Seen.{newly_asked}
 use Rattle.sv_client.specs.Answers.{got_now}
@@ -156,7 +156,7 @@ module _ (shape : Shape) (good : IsGoodShape shape) where
   wire_values [] all = All-nil IsWireValue
   wire_values (v ∷ vs) all = All-cons IsWireValue v vs (wire_value v (All-head (IsLong shape.attrs) v vs all)) (wire_values vs (All-tail (IsLong shape.attrs) v vs all))
 
-  result_is : (held : List Held) (item : Item) → AreLong shape.attrs held → IsGoodAction shape item.action → first_missing held item.pos (read_set item.action) ≡ None →
+  result_is : (held : List Held) (item : Item) → AreLong shape.attrs held → IsGoodAction shape item.action → first_unheld held item.pos (read_set item.action) ≡ None →
       IsWireResult (record { pos = item.pos; values = item_result held item })
   result_is held item long action found =
       let a = item.action in
@@ -174,7 +174,7 @@ module _ (shape : Shape) (good : IsGoodShape shape) where
   results_are held [] long fine found = tt
   results_are held (item ∷ items) long fine found =
       let f = neither (has_fault shape item) (list_any (has_fault shape) items) fine in
-      let g = both_found shape.attrs item.pos (first_missing held item.pos (read_set item.action)) (first_missing_of (held ++ item_held held item) items) found in (
+      let g = both_found shape.attrs item.pos (first_unheld held item.pos (read_set item.action)) (first_missing_of (held ++ item_held held item) items) found in (
         result_is held item long (good_of_none shape item.action (no_fault (first_fault_of_action shape item.action) f.0)) g.0,
         results_are (held ++ item_held held item) items (item_more shape.attrs held item long g.0) f.1 g.1,
       )

@@ -1,6 +1,6 @@
 -- What one end of a connection carried, against what its client asked and got in that session.
 -- Events stand with the latest first.
-use Rattle.std.specs.Prelude.{◌≡◌, ℕ, Bool, true, false, List, ◌++◌, map, Result, Ok, All}
+use Rattle.std.specs.Prelude.{◌≡◌, ℕ, false, List, ◌++◌, map, Result, Ok, All}
 use Rattle.std.specs.List.{AllByRecursion}
 use mathlib.Core.List.{IsPrefix}
 use Rattle.sv_frame.specs.Frames.{frames_of, FitsFrame}
@@ -9,7 +9,6 @@ use Rattle.sv_link.specs.declared.side.Side.{Side}
 use Rattle.sv_wire.specs.declared.fault.Malformed.{Malformed}
 use Rattle.sv_wire.specs.declared.message.Request.{Request}
 use Rattle.sv_wire.specs.declared.message.Reply.{Reply}
-use Rattle.sv_wire.specs.declared.message.Reply.TheVariants as replies
 use Rattle.sv_wire.specs.Messages.{reply_at}
 use Rattle.sv_wire.specs.Laws.{IsRequest}
 use Rattle.sv_wire.specs.Spelling.{request_bytes}
@@ -66,9 +65,3 @@ pub record IsLinkedInPart (who : Identity) (t : List Event) (s : ℕ) (end : Tol
   pub sent : IsPrefix end.sent (request_frames (asked who.client who.interest t s))
   pub rest : List ℕ
   pub received : BeginsWith end.received (got t s) rest
-
--- ---- Replies
-
-abbrev pub is_bye : Reply → Bool
-is_bye replies.Bye = true
-is_bye _ = false

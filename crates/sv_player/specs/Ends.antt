@@ -19,7 +19,7 @@ use Rattle.sv_player.specs.Carried.{request_frames, BeginsWith}
 use Rattle.sv_player.specs.Going.{AreTold, IsGoing}
 use Rattle.sv_player.specs.Stops.{is_cut}
 use Rattle.sv_player.specs.Sessions.{IsSameEnd, IsReason, Ended, Stopped}
-use Rattle.sv_player.specs.Played.{IsWhole, has_quit, has_left}
+use Rattle.sv_player.specs.Played.{SentAll, has_quit, has_left}
 
 -- ---- One end
 
@@ -39,11 +39,11 @@ pub record IsOpen (t : List Event) (n : ℕ) : Type 0 where
   pub open_is : is_cut t n ≡ false
 
 -- what a session answers, once its end is closed where it was cut: nothing, and the next session is due; or why the player stopped
-abbrev pub IsNext : Option PlayerCause → ℕ → Player → Player → Told → Type 0
-IsNext None s old new end = Ended s old new end endings.Cut × (end.closed ≡ true)
-IsNext (Some causes.Finished) s old new end = Ended s old new end endings.Left
-IsNext (Some causes.Quit) s old new end = Ended s old new end endings.Quit
-IsNext (Some cause) s old new end = Stopped s old new end cause
+abbrev pub IsPlayedNext : Option PlayerCause → ℕ → Player → Player → Told → Type 0
+IsPlayedNext None s old new end = Ended s old new end endings.Cut × (end.closed ≡ true)
+IsPlayedNext (Some causes.Finished) s old new end = Ended s old new end endings.Left
+IsPlayedNext (Some causes.Quit) s old new end = Ended s old new end endings.Quit
+IsPlayedNext (Some cause) s old new end = Stopped s old new end cause
 
 -- the end's count of faults rises just where it stopped the player
 abbrev pub NextCause : ℕ → ℕ → Option PlayerCause → Type 0
@@ -88,7 +88,7 @@ module _ {E : Type 0} (told : E → Told) (faults : E → ℕ) (calm : E → Typ
 
   -- What the end of session n is when the player stops.
   pub record IsLeft (who : Identity) (t : List Event) (cause : PlayerCause) (n : ℕ) (a b : E) : Type 0 where
-    pub carried : IsCarried (IsWhole cause) who t n (told a) (told b)
+    pub carried : IsCarried (SentAll cause) who t n (told a) (told b)
     pub faults_are : (faults b ≡ faults a) ⊎ ((cause ≡ causes.LinkFault) × IsOpen t n)
     pub calm_is : calm a → calm b
 

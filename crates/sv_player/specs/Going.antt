@@ -2,6 +2,7 @@
 -- Events stand with the latest first: `e ∷ t` is t, and then e.
 use Rattle.std.specs.Prelude.{◌≡◌, ◌⊎◌, ℕ, suc, ◌+◌, ◌<◌, ◌≤◌, Bool, true, false, List, [], ◌∷◌, map, length}
 use Rattle.std.specs.List.{AllByRecursion}
+use Rattle.sv_world.specs.Limits.{most_attrs, most_objects, most_outstanding, most_pending, most_sessions, most_steps}
 use Rattle.sv_world.specs.declared.world.Shape.{Shape}
 use Rattle.sv_watch.specs.Told.{change_line}
 use Rattle.sv_wire.specs.declared.message.Request.TheVariants as requests
@@ -25,18 +26,18 @@ use Rattle.sv_player.specs.Seen.{seen_by}
 -- a world within the limits
 pub record IsGoodShape (shape : Shape) : Type 0 where
   pub some_objects : 1 ≤ shape.objects
-  pub few_objects : shape.objects ≤ 4096
+  pub few_objects : shape.objects ≤ most_objects
   pub some_attrs : 1 ≤ shape.attrs
-  pub few_attrs : shape.attrs ≤ 4
+  pub few_attrs : shape.attrs ≤ most_attrs
 
-abbrev pub plan_of : Identity → List Step → Plan
-plan_of who script = record { interest = who.interest; steps = script }
+abbrev pub scripted_plan : Identity → List Step → Plan
+scripted_plan who script = record { interest = who.interest; steps = script }
 
 -- a client that may play a script
 pub record MayPlay (who : Identity) (script : List Step) : Type 0 where
   pub identity : IsGoodIdentity who
   pub shape : IsGoodShape who.shape
-  pub plan : IsGoodPlan who.shape (plan_of who script)
+  pub plan : IsGoodPlan who.shape (scripted_plan who script)
 
 -- the lines tell the changes that the events made
 abbrev pub AreTold : Identity → List Event → List (List ℕ) → Type 0
@@ -53,13 +54,13 @@ one_more_if false = 1
 -- The steps that are left are good ones, few enough to be made, and cut as many sessions as may still begin.
 pub record IsBudget (who : Identity) (script : List Step) (t : List Event) (left : List Step) : Type 0 where
   pub good : AllByRecursion (IsGoodStep who.shape) left
-  pub few : makes t + length left ≤ 256
+  pub few : makes t + length left ≤ most_steps
   pub sessions : joins t + cuts_in left ≤ cuts_in script + one_more_if (must_join t)
 
 -- What the player did is proper, follows the script so far, with these steps left, and was told; and its views are those that it saw last.
 pub record IsGoing (p : Player) : Type 0 where
   pub may : MayPlay p.client.who p.script.now
-  pub first : p.first < 64
+  pub first : p.first < most_sessions
   pub proper : AreProper p.client.who 0 p.client.events
   pub follows : FollowsTo p.client.who p.script.now p.client.events p.left.now
   pub budget : IsBudget p.client.who p.script.now p.client.events p.left.now
@@ -70,7 +71,7 @@ pub record IsGoing (p : Player) : Type 0 where
 -- The player did nothing yet.
 pub record IsNew (p : Player) : Type 0 where
   pub may : MayPlay p.client.who p.script.now
-  pub first : p.first < 64
+  pub first : p.first < most_sessions
   pub none : p.client.events ≡ []
   pub left : p.left.now ≡ p.script.now
   pub lines : p.lines.items ≡ []
@@ -109,17 +110,13 @@ pub record IsReady (who : Identity) (t : List Event) (left : List Step) : Type 0
 
 -- ---- The next move
 
-abbrev pub is_sync : Step → Bool
-is_sync steps.Sync = true
-is_sync _ = false
-
 -- what a player does next, in a session that has its Welcome
 abbrev pub IsMove : Move → Identity → List Event → List Step → Type 0
 IsMove moves.Wait who t left = 0 < length (outstanding who t)
 IsMove moves.Leave who t left = (outstanding who t ≡ []) × (after_syncs left ≡ [])
-IsMove (moves.Make action rest) who t left =
-    (unsynced who t left ≡ steps.Act action.now ∷ rest.now) × (length (pending_of t) < 8) × (length (outstanding who t) < 16)
-IsMove (moves.Poll rest) who t left = (unsynced who t left ≡ steps.Poll ∷ rest.now) × (length (outstanding who t) < 16)
+IsMove (moves.Make making) who t left =
+    (unsynced who t left ≡ steps.Act making.action.now ∷ making.rest.now) × (length (pending_of t) < most_pending) × (length (outstanding who t) < most_outstanding)
+IsMove (moves.Poll rest) who t left = (unsynced who t left ≡ steps.Poll ∷ rest.now) × (length (outstanding who t) < most_outstanding)
 IsMove (moves.Show objects rest) who t left = unsynced who t left ≡ steps.Show objects.now ∷ rest.now
 IsMove (moves.Cut rest) who t left = unsynced who t left ≡ steps.Cut ∷ rest.now
 IsMove (moves.Quit rest) who t left = unsynced who t left ≡ steps.Quit ∷ rest.now

@@ -1,3 +1,4 @@
+-- The definitions of this crate, file by file.
 pub mod Carried
 pub mod Seen
 pub mod Going

@@ -31,7 +31,7 @@ pub record IsTraceOf (client : ClientView) (first : ℕ) (trace : Trace) : Type 
   pub proper : Proper client.who.shape trace
 
 -- sending did not end early, and memory did not either
-pub record IsWhole (cause : PlayerCause) : Type 0 where
+pub record SentAll (cause : PlayerCause) : Type 0 where
   pub link : cause ≢ causes.LinkFault
   pub memory : cause ≢ causes.Memory
 
@@ -41,8 +41,8 @@ pub record IsDone (trace : Trace) (cause : PlayerCause) (s : ℕ) (old new : Tol
   pub pair : new.pair ≡ old.pair
   pub side : new.side ≡ old.side
   pub sent : IsPrefix new.sent (request_frames (requests_of trace s))
-  pub whole : IsWhole cause → new.sent ≡ request_frames (requests_of trace s)
-  pub messages : IsWhole cause → All IsRequest (requests_of trace s)
+  pub whole : SentAll cause → new.sent ≡ request_frames (requests_of trace s)
+  pub messages : SentAll cause → All IsRequest (requests_of trace s)
   pub rest : List ℕ
   pub received : BeginsWith new.received (replies_of trace s) rest
 

@@ -11,10 +11,10 @@ use Rattle.sv_player.specs.declared.buffers.Waited.TheVariants as waited
 use Rattle.sv_player.specs.Carried.{Posted, PostedPart}
 
 -- these bytes were put behind what waited; or sending ended early
-abbrev pub IsPosted : Sent → Told → List ℕ → List ℕ → Told → List ℕ → Type 0
-IsPosted answers.Whole old waiting more new left = Posted old waiting more new left
-IsPosted answers.Failed old waiting more new left = PostedPart old waiting more new
-IsPosted answers.Memory old waiting more new left = PostedPart old waiting more new
+abbrev pub PutBehind : Sent → Told → List ℕ → List ℕ → Told → List ℕ → Type 0
+PutBehind answers.Whole old waiting more new left = Posted old waiting more new left
+PutBehind answers.Failed old waiting more new left = PostedPart old waiting more new
+PutBehind answers.Memory old waiting more new left = PostedPart old waiting more new
 
 -- all that waited was sent; or sending ended early
 abbrev pub IsFlushed : Sent → Told → List ℕ → Told → List ℕ → Type 0

@@ -5,7 +5,7 @@ ghost use Rattle.sv_link.specs.Ends.{SentCause, EndReadCause};
 ghost use Rattle.sv_wire.specs.Grammar.{IsWireRequest};
 ghost use Rattle.sv_wire.specs.Laws.{IsRequest};
 ghost use Rattle.sv_player.specs.Carried.{request_frames, which_end};
-ghost use Rattle.sv_player.specs.Waiting.{IsPosted, IsFlushed, IsFrontOf, IsReadOn, IsWaited, WaitedCause, ReadOnCause};
+ghost use Rattle.sv_player.specs.Waiting.{PutBehind, IsFlushed, IsFrontOf, IsReadOn, IsWaited, WaitedCause, ReadOnCause};
 
 use std::alloc::{AllocError, Global};
 use sv_exchange::Outbox;
@@ -51,7 +51,7 @@ impl Buffers {
     pub(crate) fn post<E: End>(&mut self, request: &Request, end: &mut E) -> Sent
         requires open { (E.told end.old).closed ≡ false }
         requires message { IsWireRequest request.now }
-        ensures posts { IsPosted result (E.told end.old) self.old.outbox (request_frames (request.now ∷ [])) (E.told end.new) self.new.outbox }
+        ensures posts { PutBehind result (E.told end.old) self.old.outbox (request_frames (request.now ∷ [])) (E.told end.new) self.new.outbox }
         ensures is_message { IsRequest request.now }
         ensures reader { self.new.reader ≡ self.old.reader }
         ensures same_end { which_end (E.told end.new) ≡ which_end (E.told end.old) }
@@ -66,7 +66,7 @@ impl Buffers {
     pub(crate) fn post_all<E: End>(&mut self, requests: &[Request], end: &mut E) -> Sent
         requires open { (E.told end.old).closed ≡ false }
         requires messages { All IsWireRequest requests.now }
-        ensures posts { IsPosted result (E.told end.old) self.old.outbox (request_frames requests.now) (E.told end.new) self.new.outbox }
+        ensures posts { PutBehind result (E.told end.old) self.old.outbox (request_frames requests.now) (E.told end.new) self.new.outbox }
         ensures are_messages { result ≡ Sent.Whole → All IsRequest requests.now }
         ensures reader { self.new.reader ≡ self.old.reader }
         ensures same_end { which_end (E.told end.new) ≡ which_end (E.told end.old) }

@@ -1,12 +1,20 @@
 //! What a player does next.
 ghost use Rattle.std.specs.Prelude.{◌≡◌, [], ◌∷◌};
 ghost use Rattle.sv_scenario.specs.declared.scenario.Step.TheVariants as steps;
-ghost use Rattle.sv_script.specs.Following.{after_syncs, unsynced};
-ghost use Rattle.sv_player.specs.Going.{IsMove, IsGoing, IsReady, is_sync};
+ghost use Rattle.sv_script.specs.Following.{unsynced};
+ghost use Rattle.sv_player.specs.Going.{IsMove, IsGoing};
 
 use crate::playing::Player;
 use sv_scenario::Step;
-use sv_world::{Action, List, ObjectId};
+use sv_script::unsynced;
+use sv_world::{Action, List, MOST_OUTSTANDING, MOST_PENDING, ObjectId};
+
+/// An action that is made next, and the steps behind it.
+#[derive(Clone, Copy)]
+pub(crate) struct Making<'a> {
+    pub(crate) action: &'a Action,
+    pub(crate) rest: &'a [Step],
+}
 
 /// A player's next move, in a session that has its Welcome, with the steps that it leaves.
 pub(crate) enum Move<'a> {
@@ -16,51 +24,20 @@ pub(crate) enum Move<'a> {
     /// All steps are done.
     Leave,
 
-    Make(&'a Action, &'a [Step]),
+    Make(Making<'a>),
     Poll(&'a [Step]),
     Show(&'a List<ObjectId>, &'a [Step]),
     Cut(&'a [Step]),
     Quit(&'a [Step]),
 }
 
-fn is_sync(step: &Step) -> bool
-    ensures { result ≡ is_sync step.now }
-{
-    matches!(step, Step::Sync)
-}
-
-/// The steps from the first that is no sync.
-fn skip_syncs<'a>(steps: &'a [Step]) -> &'a [Step]
-    ensures { result.now ≡ after_syncs steps.now }
-{
-    let mut left = steps;
-    while let Some((step, rest)) = left.split_first() {
-        if !is_sync(step) {
-            return left;
-        }
-        left = rest;
-    }
-    left
-}
-
 impl<'a> Player<'a> {
-    /// The steps that are left, without the syncs that may be passed now.
-    fn unsynced(&self) -> &'a [Step]
-        ensures { result.now ≡ unsynced self.now.client.who self.now.client.events self.now.left.now }
-    {
-        if self.client.outstanding() == 0 {
-            skip_syncs(self.left)
-        } else {
-            self.left
-        }
-    }
-
     /// The next move. A step that can't be done yet waits for a reply.
     pub(crate) fn next_move(&self) -> Move<'a>
         requires { IsGoing self.now }
         ensures { IsMove result self.now.client.who self.now.client.events self.now.left.now }
     {
-        let Some((step, rest)) = self.unsynced().split_first() else {
+        let Some((step, rest)) = unsynced(&self.client, self.left).split_first() else {
             return self.last_move();
         };
         match step {
@@ -99,8 +76,8 @@ impl<'a> Player<'a> {
         requires next { unsynced self.now.client.who self.now.client.events self.now.left.now ≡ steps.Act action.now ∷ rest.now }
         ensures { IsMove result self.now.client.who self.now.client.events self.now.left.now }
     {
-        if self.client.pending() < 8 && self.client.outstanding() < 16 {
-            Move::Make(action, rest)
+        if self.client.pending() < MOST_PENDING && self.client.outstanding() < MOST_OUTSTANDING {
+            Move::Make(Making { action, rest })
         } else {
             Move::Wait
         }
@@ -110,7 +87,7 @@ impl<'a> Player<'a> {
         requires next { unsynced self.now.client.who self.now.client.events self.now.left.now ≡ steps.Poll ∷ rest.now }
         ensures { IsMove result self.now.client.who self.now.client.events self.now.left.now }
     {
-        if self.client.outstanding() < 16 {
+        if self.client.outstanding() < MOST_OUTSTANDING {
             Move::Poll(rest)
         } else {
             Move::Wait

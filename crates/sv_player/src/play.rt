@@ -1,6 +1,7 @@
 //! Playing a script over the ends of its client's sessions.
 ghost use Rattle.std.specs.Prelude.{◌≡◌, ◌≢◌, ◌+◌, ◌<◌, ◌≤◌, true, [], length};
 ghost use Rattle.std.specs.List.{AllByRecursion};
+ghost use Rattle.sv_world.specs.Limits.{most_sessions};
 ghost use Rattle.sv_client.specs.Seen.{new_client};
 ghost use Rattle.sv_client.specs.Traces.{joins};
 ghost use Rattle.sv_scenario.specs.Sessions.{cuts_in};
@@ -8,7 +9,7 @@ ghost use Rattle.sv_script.specs.Following.{must_join};
 ghost use Rattle.sv_script.specs.Telling.{told_lines};
 ghost use Rattle.sv_player.specs.Going.{IsGoing, IsNew, MayPlay};
 ghost use Rattle.sv_player.specs.Sessions.{IsFresh, IsSameEnd};
-ghost use Rattle.sv_player.specs.Ends.{IsNext, NextCause, AreKept, IsClosed, HasPlayed};
+ghost use Rattle.sv_player.specs.Ends.{IsPlayedNext, NextCause, AreKept, IsClosed, HasPlayed};
 ghost use Rattle.sv_player.specs.Played.{IsTraceOf, HasFollowed, AreDone, IsCause, IsExact};
 
 use crate::outcome::{Ending, PlayerCause, PlayerOut};
@@ -26,9 +27,9 @@ impl<'a> Player<'a> {
         requires watch { watch.now.shape ≡ self.old.client.who.shape }
         requires going { IsGoing self.old }
         requires needed { must_join self.old.client.events ≡ true }
-        requires few { joins self.old.client.events < 64 }
+        requires few { joins self.old.client.events < most_sessions }
         requires fresh { IsFresh (E.told end.old) }
-        ensures next { IsNext result (joins self.old.client.events) self.old self.new (E.told end.new) }
+        ensures next { IsPlayedNext result (joins self.old.client.events) self.old self.new (E.told end.new) }
         ensures end { IsSameEnd (E.told end.old) (E.told end.new) }
         ensures cause { NextCause (E.faults end.old) (E.faults end.new) result }
         ensures calm { E.calm end.old → E.calm end.new }
@@ -51,7 +52,7 @@ impl<'a> Player<'a> {
         requires new { self.old.client.events ≡ [] }
         // There is one end for each of its sessions.
         requires count { length ends.old ≡ 1 + cuts_in self.old.script.now }
-        requires few { length ends.old ≤ 64 }
+        requires few { length ends.old ≤ most_sessions }
         requires fresh { AllByRecursion (λ end. IsFresh (E.told end)) ends.old }
         ensures { HasPlayed E.told E.faults E.calm self.old self.new ends.old ends.new result }
     {
@@ -68,7 +69,7 @@ impl<'a> Player<'a> {
         requires watch { watch.now.shape ≡ self.old.client.who.shape }
         requires new { IsNew self.old }
         requires count { length ends.old ≡ 1 + cuts_in self.old.script.now }
-        requires few { length ends.old ≤ 64 }
+        requires few { length ends.old ≤ most_sessions }
         requires fresh { AllByRecursion (λ end. IsFresh (E.told end)) ends.old }
         ensures { HasPlayed E.told E.faults E.calm self.old self.new ends.old ends.new result }
     {
@@ -108,7 +109,7 @@ pub fn play_client<E: End>(
     requires watch { watch.now.shape ≡ client.who.shape }
     // There is one end for each of its sessions, which are numbered from `first`, and nothing was sent or received over them.
     requires count { length ends.items ≡ 1 + cuts_in script.now }
-    requires numbers { first + length ends.items ≤ 64 }
+    requires numbers { first + length ends.items ≤ most_sessions }
     requires fresh { AllByRecursion (λ end. IsFresh (E.told end)) ends.items }
     ensures trace { IsTraceOf client first result.trace }
     ensures follows { HasFollowed client.who.shape script.now result.trace result.cause }

@@ -1,13 +1,15 @@
 //! A client that does the steps of its script, and tells what they change of its views.
 ghost use Rattle.std.specs.Prelude.{◌≡◌, ◌≢◌, ℕ, suc, ◌<◌, ◌≤◌, ◌∷◌, ◌++◌, map, option_to_list, All, IfOk, IfErr, OnOk, OnErr, None, []};
+ghost use Rattle.sv_world.specs.Limits.{most_sessions};
 ghost use Rattle.sv_client.specs.declared.trace.Event.TheVariants as events;
 ghost use Rattle.sv_client.specs.declared.fault.TakeFault.TheVariants as faults;
 ghost use Rattle.sv_client.specs.Traces.{joins};
 ghost use Rattle.sv_client.specs.Taking.{first_fault_of_reply};
 ghost use Rattle.sv_client.specs.Proper.{MayMake, MayPoll, MayLeave};
-ghost use Rattle.sv_client.specs.Seen.{event_of, newly_asked, with_event};
+ghost use Rattle.sv_client.specs.Seen.{event_of_mark, newly_asked, with_event};
 ghost use Rattle.sv_client.specs.Answers.{IsTakeFault, got_now};
 ghost use Rattle.sv_watch.specs.Told.{change_line, IsChangeIn};
+ghost use Rattle.sv_script.specs.Laws.{most_events};
 ghost use Rattle.sv_player.specs.Seen.{changes_since, seen_again};
 ghost use Rattle.sv_player.specs.Going.{IsGoing, Did, DidInPart};
 
@@ -40,8 +42,8 @@ pub(crate) struct Player<'a> {
 impl<'a> Player<'a> {
     /// Begins the first or the next session.
     pub(crate) fn join(&mut self) -> Result<Vec<Request>, AllocError>
-        requires few { joins self.old.client.events < 64 }
-        requires count { self.old.count ≤ 2048 }
+        requires few { joins self.old.client.events < most_sessions }
+        requires count { self.old.count ≤ most_events }
         ensures requests { IfOk result (λ requests. requests.items ≡ newly_asked self.old.client.who self.old.client.events (events.Join (joins self.old.client.events))) }
         ensures ok { OnOk result (Did (events.Join (joins self.old.client.events)) self.old.left.now self.old self.new) }
         ensures err { OnErr result (self.new ≡ self.old) }
@@ -53,7 +55,7 @@ impl<'a> Player<'a> {
 
     /// Tells what the event that was done last changed since the objects were seen, and sees them as they are now.
     fn tell(&mut self, watch: &Watch) -> Result<(), AllocError>
-        requires count { self.old.count ≤ 2048 }
+        requires count { self.old.count ≤ most_events }
         requires changes { All (IsChangeIn watch.now.shape) (changes_since self.old.client (suc self.old.count) self.old.seen.items) }
         ensures same { (self.new.client ≡ self.old.client) × (self.new.script.now ≡ self.old.script.now) × (self.new.left.now ≡ self.old.left.now) × (self.new.first ≡ self.old.first) }
         ensures count { self.new.count ≡ suc self.old.count }
@@ -62,7 +64,6 @@ impl<'a> Player<'a> {
     {
         self.count += 1;
         tell_changes(
-            self.alloc,
             &self.client,
             self.count,
             &mut self.seen,
@@ -81,7 +82,7 @@ impl<'a> Player<'a> {
         requires watch { watch.now.shape ≡ self.old.client.who.shape }
         requires going { IsGoing self.old }
         requires may { MayMake self.old.client.who self.old.client.events action.now }
-        requires count { self.old.count ≤ 2048 }
+        requires count { self.old.count ≤ most_events }
         ensures request { IfOk result (λ request. request ∷ [] ≡ newly_asked self.old.client.who self.old.client.events (events.Make action.now)) }
         ensures ok { OnOk result (Did (events.Make action.now) rest.now self.old self.new) }
         ensures err { OnErr result (DidInPart (events.Make action.now) self.old self.new) }
@@ -100,7 +101,7 @@ impl<'a> Player<'a> {
     /// Asks for an abandoned action.
     pub(crate) fn poll(&mut self, rest: &'a [Step]) -> Result<Request, AllocError>
         requires may { MayPoll self.old.client.who self.old.client.events }
-        requires count { self.old.count ≤ 2048 }
+        requires count { self.old.count ≤ most_events }
         ensures request { IfOk result (λ request. request ∷ [] ≡ newly_asked self.old.client.who self.old.client.events events.Poll) }
         ensures ok { OnOk result (Did events.Poll rest.now self.old self.new) }
         ensures err { OnErr result (self.new ≡ self.old) }
@@ -118,7 +119,7 @@ impl<'a> Player<'a> {
     /// Leaves, with all steps done.
     pub(crate) fn leave(&mut self) -> Result<Request, AllocError>
         requires may { MayLeave self.old.client.who self.old.client.events }
-        requires count { self.old.count ≤ 2048 }
+        requires count { self.old.count ≤ most_events }
         ensures request { IfOk result (λ request. request ∷ [] ≡ newly_asked self.old.client.who self.old.client.events events.Leave) }
         ensures ok { OnOk result (Did events.Leave [] self.old self.new) }
         ensures err { OnErr result (self.new ≡ self.old) }
@@ -131,8 +132,8 @@ impl<'a> Player<'a> {
 
     /// Does a step that asks for nothing: a show, a cut or a quit.
     pub(crate) fn note(&mut self, mark: Mark, rest: &'a [Step]) -> Result<(), AllocError>
-        requires count { self.old.count ≤ 2048 }
-        ensures ok { OnOk result (Did (event_of mark) rest.now self.old self.new) }
+        requires count { self.old.count ≤ most_events }
+        ensures ok { OnOk result (Did (event_of_mark mark) rest.now self.old self.new) }
         ensures err { OnErr result (self.new ≡ self.old) }
     {
         self.client.note(mark)?;
@@ -149,7 +150,7 @@ impl<'a> Player<'a> {
     ) -> Result<Option<Request>, TakeFault>
         requires watch { watch.now.shape ≡ self.old.client.who.shape }
         requires going { IsGoing self.old }
-        requires count { self.old.count ≤ 2048 }
+        requires count { self.old.count ≤ most_events }
         ensures fine { OnOk result (first_fault_of_reply self.old.client.who self.old.client.events reply.now ≡ None) }
         ensures done { IfOk result (λ done. option_to_list done ≡ newly_asked self.old.client.who self.old.client.events (got_now self.old.client.events reply.now)) }
         ensures ok { OnOk result (Did (got_now self.old.client.events reply.now) self.old.left.now self.old self.new) }

@@ -1,5 +1,6 @@
 //! Playing one session over its end.
 ghost use Rattle.std.specs.Prelude.{◌≡◌, ◌≢◌, ◌<◌, ◌+◌, [], ◌∷◌, Some, None, false, true, length, option_to_list, All, IfOk, IfErr, IfSome, OnOk, OnErr, if◌then◌else◌};
+ghost use Rattle.sv_world.specs.Limits.{most_outstanding, most_pending, most_sessions};
 ghost use Rattle.sv_frame.specs.Frames.{first_frame};
 ghost use Rattle.sv_wire.specs.declared.message.Reply as reply_rows;
 ghost use Rattle.sv_wire.specs.Grammar.{IsWireRequest};
@@ -11,23 +12,24 @@ ghost use Rattle.sv_client.specs.Traces.{joins, pending_of};
 ghost use Rattle.sv_client.specs.Taking.{outstanding};
 ghost use Rattle.sv_client.specs.Seen.{latest_session};
 ghost use Rattle.sv_scenario.specs.declared.scenario.Step.TheVariants as steps;
-ghost use Rattle.sv_script.specs.Following.{must_join, unsynced, after_syncs};
+ghost use Rattle.sv_script.specs.Following.{must_join, unsynced, after_syncs, is_bye};
 ghost use Rattle.sv_player.specs.declared.outcome.PlayerCause.TheVariants as causes;
-ghost use Rattle.sv_player.specs.Carried.{request_frames, which_end, is_bye};
+ghost use Rattle.sv_player.specs.Carried.{request_frames, which_end};
 ghost use Rattle.sv_player.specs.Going.{IsGoing, IsHere, IsReady, Did};
 ghost use Rattle.sv_player.specs.Sessions.{IsAt, IsFresh, IsSameEnd, IsTurn, IsReceived, IsMoved, IsPlayed, IsSent, IsAnswered, FaultCause, IsFirst, IsFrameFault};
 
 use crate::buffers::{Buffers, Waited};
-use crate::moves::Move;
+use crate::moves::{Making, Move};
 use crate::outcome::{Ending, PlayerCause, ReplyFault};
 use crate::playing::Player;
 use sv_client::{Mark, TakeFault};
 use sv_frame::{FrameReader, Next};
 use sv_link::{End, Sent};
 use sv_scenario::Step;
+use sv_script::is_bye;
 use sv_watch::Watch;
 use sv_wire::{Reply, Request, WireFault, decode_reply};
-use sv_world::{Action, List, ObjectId, copy_objects};
+use sv_world::{List, ObjectId, copy_objects};
 
 /// What a try to send tells a player.
 fn sent_whole(sent: Sent) -> Result<(), PlayerCause>
@@ -45,7 +47,7 @@ impl<'a> Player<'a> {
     fn begin<E: End>(&mut self, buffers: &mut Buffers, end: &mut E) -> Result<(), PlayerCause>
         requires going { IsGoing self.old }
         requires needed { must_join self.old.client.events ≡ true }
-        requires few { joins self.old.client.events < 64 }
+        requires few { joins self.old.client.events < most_sessions }
         requires fresh { IsFresh (E.told end.old) }
         requires empty { (buffers.old.reader ≡ []) × (buffers.old.outbox ≡ []) }
         ensures turn { IsTurn result (joins self.old.client.events) (events.Join (joins self.old.client.events)) self.old self.new buffers.new (E.told end.new) }
@@ -60,8 +62,7 @@ impl<'a> Player<'a> {
     /// Makes an action, and sends it.
     fn do_make<E: End>(
         &mut self,
-        action: &Action,
-        rest: &'a [Step],
+        making: &Making<'a>,
         watch: &Watch,
         buffers: &mut Buffers,
         end: &mut E,
@@ -69,14 +70,14 @@ impl<'a> Player<'a> {
         requires watch { watch.now.shape ≡ self.old.client.who.shape }
         requires at { IsAt (latest_session self.old.client.events) self.old buffers.old (E.told end.old) }
         requires ready { IsReady self.old.client.who self.old.client.events self.old.left.now }
-        requires next { unsynced self.old.client.who self.old.client.events self.old.left.now ≡ steps.Act action.now ∷ rest.now }
-        requires room { (length (pending_of self.old.client.events) < 8) × (length (outstanding self.old.client.who self.old.client.events) < 16) }
-        ensures turn { IsTurn result (latest_session self.old.client.events) (events.Make action.now) self.old self.new buffers.new (E.told end.new) }
+        requires next { unsynced self.old.client.who self.old.client.events self.old.left.now ≡ steps.Act making.now.action.now ∷ making.now.rest.now }
+        requires room { (length (pending_of self.old.client.events) < most_pending) × (length (outstanding self.old.client.who self.old.client.events) < most_outstanding) }
+        ensures turn { IsTurn result (latest_session self.old.client.events) (events.Make making.now.action.now) self.old self.new buffers.new (E.told end.new) }
         ensures same_end { which_end (E.told end.new) ≡ which_end (E.told end.old) }
         ensures cause { FaultCause (E.faults end.old) (E.faults end.new) result }
         ensures calm { E.calm end.old → E.calm end.new }
     {
-        let request = self.make(action, rest, watch)?;
+        let request = self.make(making.action, making.rest, watch)?;
         sent_whole(buffers.post(&request, end))
     }
 
@@ -90,7 +91,7 @@ impl<'a> Player<'a> {
         requires at { IsAt (latest_session self.old.client.events) self.old buffers.old (E.told end.old) }
         requires ready { IsReady self.old.client.who self.old.client.events self.old.left.now }
         requires next { unsynced self.old.client.who self.old.client.events self.old.left.now ≡ steps.Poll ∷ rest.now }
-        requires room { length (outstanding self.old.client.who self.old.client.events) < 16 }
+        requires room { length (outstanding self.old.client.who self.old.client.events) < most_outstanding }
         ensures turn { IsTurn result (latest_session self.old.client.events) events.Poll self.old self.new buffers.new (E.told end.new) }
         ensures same_end { which_end (E.told end.new) ≡ which_end (E.told end.old) }
         ensures cause { FaultCause (E.faults end.old) (E.faults end.new) result }
@@ -405,8 +406,8 @@ impl<'a> Player<'a> {
                 self.do_leave(buffers, end)?;
                 Ok(None)
             }
-            Move::Make(action, rest) => {
-                self.do_make(action, rest, watch, buffers, end)?;
+            Move::Make(making) => {
+                self.do_make(&making, watch, buffers, end)?;
                 Ok(None)
             }
             Move::Poll(rest) => {
@@ -431,7 +432,7 @@ impl<'a> Player<'a> {
         requires watch { watch.now.shape ≡ self.old.client.who.shape }
         requires going { IsGoing self.old }
         requires needed { must_join self.old.client.events ≡ true }
-        requires few { joins self.old.client.events < 64 }
+        requires few { joins self.old.client.events < most_sessions }
         requires fresh { IsFresh (E.told end.old) }
         ensures played { IsPlayed result (joins self.old.client.events) self.old self.new (E.told end.new) }
         ensures end { IsSameEnd (E.told end.old) (E.told end.new) }
@@ -449,12 +450,6 @@ impl<'a> Player<'a> {
             }
         }
     }
-}
-
-fn is_bye(reply: &Reply) -> bool
-    ensures { result ≡ is_bye reply.now }
-{
-    matches!(reply, Reply::Bye)
 }
 
 fn ending_of(bye: bool) -> Option<Ending>

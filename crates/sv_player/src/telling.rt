@@ -56,7 +56,6 @@ fn is_same(old: &Option<Value>, now: &View<'_>) -> bool
 
 /// Tells the change of an object's view since it was seen, if there is one, and sees the view as it is now.
 fn tell_change(
-    alloc: Global,
     client: &Client,
     event: u32,
     seen: &mut Seen,
@@ -71,7 +70,7 @@ fn tell_change(
     if is_same(&seen.view, &now) {
         return Ok(());
     }
-    let new = known(alloc, now)?;
+    let new = known(*lines.allocator(), now)?;
     let change = Change {
         client: client.id(),
         object: seen.object,
@@ -86,7 +85,6 @@ fn tell_change(
 
 /// Tells the changes of views since they were seen, which the event with this number made, and sees the views as they are now.
 pub(crate) fn tell_changes(
-    alloc: Global,
     client: &Client,
     event: u32,
     seen: &mut [Seen],
@@ -98,7 +96,7 @@ pub(crate) fn tell_changes(
     ensures seen { OnOk result (seen.new ≡ seen_again client.now.events seen.old) }
 {
     for one in seen.iter_mut() {
-        tell_change(alloc, client, event, one, watch, lines)?;
+        tell_change(client, event, one, watch, lines)?;
     }
     Ok(())
 }

@@ -1,3 +1,4 @@
+-- The lemmas of this crate, file by file.
 pub mod Entries
 pub mod Installs
 pub mod Kept

@@ -1,3 +1,4 @@
+-- The definitions of this crate, file by file.
 pub mod Invariant
 pub mod Pairs
 pub mod Positions

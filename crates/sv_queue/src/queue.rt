@@ -206,6 +206,16 @@ impl Queue {
         }
     }
 
+    /// Whether an uncommitted position has a result. One look-up.
+    pub fn has_result<L: Ledger>(&self, pos: u32, steps: &mut Steps<L>) -> bool
+        requires { IsUncommitted self.now pos }
+        ensures value { result ≡ is_some (entry_at self.now pos).result }
+        ensures ticks { steps.new ≡ steps.old + 1 }
+    {
+        let entry = self.entry(pos, steps);
+        entry.has_result
+    }
+
     /// Whether a session knows the committed value of an object.
     pub fn is_given(&self, object: ObjectId, session: u16) -> bool
         requires { object.0 < self.now.shape.objects }

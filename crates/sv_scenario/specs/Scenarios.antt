@@ -50,7 +50,7 @@ scenario_in d = do
 abbrev pub value_in : List ℕ → Read Data
 value_in text = given causes.Json (read text)
 
--- The bytes of a file.
+-- The bytes that a file may have.
 abbrev pub most_bytes : ℕ
 most_bytes = 4194304
 

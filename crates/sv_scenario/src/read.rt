@@ -24,7 +24,7 @@ use serde_json::Value;
 use std::alloc::Global;
 use sv_world::{List, MOST_ATTRS, MOST_BOUND, MOST_REACH, Shape, Value as ObjectValue, World};
 
-/// The bytes of a file.
+/// The bytes that a file may have.
 pub const MOST_BYTES: usize = 4_194_304;
 
 fn number_in(alloc: Global, key: &str, low: u32, high: u32, value: &Value) -> Result<u32, ReadFault>

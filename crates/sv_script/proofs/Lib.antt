@@ -1,3 +1,4 @@
+-- The lemmas of this crate, file by file.
 pub mod Beginnings
 pub mod Steps
 pub mod Pending

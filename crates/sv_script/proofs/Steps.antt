@@ -7,7 +7,7 @@ use Rattle.sv_client.specs.declared.trace.Event.TheVariants as events
 use Rattle.sv_client.specs.Taking.{Identity, outstanding}
 use Rattle.sv_scenario.specs.declared.scenario.Step.{Step}
 use Rattle.sv_scenario.specs.declared.scenario.Step.TheVariants as steps
-use Rattle.sv_script.specs.Following.{DoesStep, FollowsTo, after_syncs, passed_syncs, steps_done, events_of, with_event}
+use Rattle.sv_script.specs.Following.{DoesStep, FollowsTo, after_syncs, passed_syncs, steps_done, events_of, led_by}
 
 events-synced : (ss : List Step) → events_of (after_syncs ss) ≡ events_of ss
 events-synced [] = refl
@@ -25,7 +25,7 @@ events-passed (o ∷ os) ss = refl
 -- The step that an event does is the first of those that were left.
 step-first : (who : Identity) (t : List Event) (before : List Step) (e : Event) (left : List Step) → DoesStep who t before e left → events_of before ≡ e ∷ events_of left
 step-first who t before e left d =
-    sym (events-passed (outstanding who t) before) ∙ ap events_of d.next ∙ ap (λ (o : Option Event). with_event o (events_of left)) d.event
+    sym (events-passed (outstanding who t) before) ∙ ap events_of d.next ∙ ap (λ (o : Option Event). led_by o (events_of left)) d.event
 
 one-more : (done : List Event) (e : Event) (rest before all : List Event) → before ≡ e ∷ rest → done ++ before ≡ all → (done ++ e ∷ []) ++ rest ≡ all
 one-more done e rest before all h f = append_assoc done (e ∷ []) rest ∙ ap (λ (es : List Event). done ++ es) (sym h) ∙ f

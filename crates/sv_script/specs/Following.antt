@@ -1,6 +1,7 @@
 -- How a trace follows a client's script. Events stand with the latest first: `e ∷ t` is t, and then e.
 -- How many actions may be pending, and how many requests outstanding, where a client makes one or polls, is said of proper traces.
 use Rattle.std.specs.Prelude.{◌≡◌, Bool, true, false, List, [], ◌∷◌, ◌++◌, reverse, Option, Some, None, if◌then◌else◌}
+use Rattle.sv_wire.specs.declared.message.Reply.{Reply}
 use Rattle.sv_wire.specs.declared.message.Reply.TheVariants as replies
 use Rattle.sv_wire.specs.declared.message.Request.{Request}
 use Rattle.sv_client.specs.declared.trace.Event.{Event}
@@ -25,6 +26,10 @@ is_welcomed (events.Join s ∷ t) = false
 is_welcomed (events.Got s reply ∷ t) = true
 is_welcomed (_ ∷ t) = is_welcomed t
 
+abbrev pub is_bye : Reply → Bool
+is_bye replies.Bye = true
+is_bye _ = false
+
 -- The last event is the Quit, or the Bye that answers the Leave. Nothing comes after it.
 abbrev pub is_finished : List Event → Bool
 is_finished (events.Quit ∷ t) = true
@@ -39,6 +44,10 @@ event_of steps.Sync = None
 event_of (steps.Show objects) = Some (events.Show objects)
 event_of steps.Cut = Some events.Cut
 event_of steps.Quit = Some events.Quit
+
+abbrev pub is_sync : Step → Bool
+is_sync steps.Sync = true
+is_sync _ = false
 
 abbrev pub after_syncs : List Step → List Step
 after_syncs [] = []
@@ -106,14 +115,14 @@ abbrev pub steps_done : List Event → List Event
 steps_done [] = []
 steps_done (e ∷ t) = if is_step e then steps_done t ++ e ∷ [] else steps_done t
 
-abbrev pub with_event : Option Event → List Event → List Event
-with_event None es = es
-with_event (Some e) es = e ∷ es
+abbrev pub led_by : Option Event → List Event → List Event
+led_by None es = es
+led_by (Some e) es = e ∷ es
 
 -- The events that the steps of a script do, in order.
 abbrev pub events_of : List Step → List Event
 events_of [] = []
-events_of (step ∷ ss) = with_event (event_of step) (events_of ss)
+events_of (step ∷ ss) = led_by (event_of step) (events_of ss)
 
 -- ---- Traces
 

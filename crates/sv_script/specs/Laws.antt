@@ -1,6 +1,7 @@
 -- Laws of traces that follow a script, and of what they tell. Events stand with the latest first.
 use Rattle.std.specs.Prelude.{◌≡◌, ℕ, ◌≤◌, Bool, true, false, List, [], ◌∷◌, ◌++◌, length, reverse, All}
 use Rattle.std.specs.List.{Contains}
+use Rattle.sv_world.specs.Limits.{most_steps}
 use Rattle.sv_world.specs.declared.world.ClientId.{ClientId}
 use Rattle.sv_world.specs.declared.world.ObjectId.{ObjectId}
 use Rattle.sv_world.specs.declared.world.Shape.{Shape}
@@ -44,14 +45,18 @@ EndsDoAllSteps = (shape : Shape) (script : List Step) (trace : Trace) → Proper
 
 -- ---- Counts
 
--- A trace that follows a script of at most 256 steps has at most 2,048 events: 256 steps, 64 Joins, as many Leaves at most, and 1,664 replies.
+-- How many events a trace that follows a script of at most 256 steps may have: 256 steps, 64 Joins, as many Leaves at most, and 1,664 replies.
+abbrev pub most_events : ℕ
+most_events = 2048
+
+-- A trace that follows such a script has no more events.
 abbrev pub EventsAreFew : Type 0
-EventsAreFew = (who : Identity) (first : ℕ) (script : List Step) (t : List Event) (left : List Step) → length script ≤ 256 → AreProper who first t →
-    FollowsTo who script t left → length t ≤ 2048
+EventsAreFew = (who : Identity) (first : ℕ) (script : List Step) (t : List Event) (left : List Step) → length script ≤ most_steps → AreProper who first t →
+    FollowsTo who script t left → length t ≤ most_events
 
 abbrev pub EventsOfTracesAreFew : Type 0
-EventsOfTracesAreFew = (shape : Shape) (script : List Step) (trace : Trace) → length script ≤ 256 → Proper shape trace → Follows shape script trace →
-    length trace.events ≤ 2048
+EventsOfTracesAreFew = (shape : Shape) (script : List Step) (trace : Trace) → length script ≤ most_steps → Proper shape trace → Follows shape script trace →
+    length trace.events ≤ most_events
 
 -- ---- Places
 

@@ -1,3 +1,4 @@
+-- The lemmas of this crate, file by file.
 pub mod Relayed
 pub mod Entered
 pub mod Abandoned

@@ -1,3 +1,4 @@
+-- The definitions of this crate, file by file.
 pub mod Agreement
 pub mod Clients
 pub mod Cores

@@ -21,6 +21,7 @@ pub use answer::Answer;
 pub use decision::Decision;
 pub use deliver::results_of;
 pub use object::Opened;
+pub use reports::copy_report;
 pub use sequencer::Sequencer;
 pub use server_core::Core;
 pub use step::enter;

@@ -6,7 +6,6 @@ ghost use Rattle.sv_queue.specs.Queue.{IsUncommitted, last_position, entry_at, s
 ghost use Rattle.sv_sequencer.specs.Rows.{no_session};
 ghost use Rattle.sv_sequencer.specs.Orphans.{orphans_in, is_orphan_in, is_abandoned_in};
 
-use crate::reports::has_result;
 use crate::sessions::SessionRow;
 use std::marker::Brand;
 use std::sync::ledger::{Blank, Ledger};
@@ -47,7 +46,7 @@ fn is_orphan<L: Ledger>(
     requires few { length sessions.now < 65536 }
     ensures { result ≡ is_orphan_in queue.now sessions.now pos }
 {
-    !has_result(queue, pos, steps) && is_abandoned(queue, sessions, pos, steps)
+    !queue.has_result(pos, steps) && is_abandoned(queue, sessions, pos, steps)
 }
 
 /// Whether each session that a position was sent to is over.

@@ -127,7 +127,8 @@ pub fn copy_missing(
     Ok(copies)
 }
 
-fn copy_report(alloc: Global, found: &Done1) -> Result<Done1, AllocError>
+/// An equal copy.
+pub fn copy_report(alloc: Global, found: &Done1) -> Result<Done1, AllocError>
     ensures { IfOk result (λ copy. copy ≡ found.now) }
 {
     Ok(Done1 {
@@ -148,7 +149,7 @@ pub fn is_missing<L: Ledger>(queue: &Queue, pos: u32, blank: Blank) -> bool
         return false;
     }
     let mut steps = Steps::<L>::new(blank);
-    !has_result(queue, pos, &mut steps)
+    !queue.has_result(pos, &mut steps)
 }
 
 /// Keeps reported results in the queue, where their positions are not committed and have none yet.
@@ -173,13 +174,4 @@ fn set_report<L: Ledger>(queue: &mut Queue, found: Done1, blank: Blank)
     if is_missing::<L>(queue, pos, blank) {
         queue.set_result(pos, values.into_vec());
     }
-}
-
-/// Whether an uncommitted position has a result.
-pub fn has_result<L: Ledger>(queue: &Queue, pos: u32, steps: &mut Steps<L>) -> bool
-    requires { IsUncommitted queue.now pos }
-    ensures { result ≡ is_some (entry_at queue.now pos).result }
-{
-    let entry = queue.entry(pos, steps);
-    entry.has_result
 }

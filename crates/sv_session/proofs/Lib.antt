@@ -1,3 +1,4 @@
+-- The lemmas of this crate, file by file.
 pub mod Streams
 pub mod Stops
 pub mod Replies

@@ -15,7 +15,7 @@ use Rattle.sv_journal.specs.History.{Authored, is_relay, client_of, outcomes_of,
 use Rattle.sv_journal.specs.Text.{NamesAccepted}
 use Rattle.sv_journal.specs.Laws.{FullRepliesStay}
 use Rattle.sv_session.specs.Requests.{reply_payload, due_frames}
-use Rattle.sv_session.specs.Rounds.{AreNamed}
+use Rattle.sv_session.specs.Rounds.{AllNameAccepted}
 
 -- ---- Frames
 
@@ -59,7 +59,7 @@ names_more A more (logged.Refused code detail) f = tt
 names_more A more logged.Bye f = tt
 
 -- what was named so far is named still
-pub named_on : (before after entries : List Entry) → IsPrefix before after → AreNamed before entries → AreNamed after entries
+pub named_on : (before after entries : List Entry) → IsPrefix before after → AllNameAccepted before entries → AllNameAccepted after entries
 named_on before after entries p named =
     let grown = accepted_on before after p in
     λ k d low. subst (λ (A : List Authored). NamesAccepted (length A) (get_or entries k d).reply) (sym grown.1) (names_more (accepted (reverse before)) grown.0 (get_or entries k d).reply (named k d low))
@@ -75,6 +75,6 @@ payloads_on law before after [] p named = refl
 payloads_on law before after (e ∷ entries) p named = rw (payload_on law before after e p named.0, payloads_on law before after entries p named.1) refl
 
 -- the frames of replies stay the same
-pub frames_on : FullRepliesStay → (before after entries : List Entry) → IsPrefix before after → AreNamed before entries → due_frames after entries ≡ due_frames before entries
+pub frames_on : FullRepliesStay → (before after entries : List Entry) → IsPrefix before after → AllNameAccepted before entries → due_frames after entries ≡ due_frames before entries
 unfolding due_frames
 frames_on law before after entries p named = ap frames_of (payloads_on law before after entries p (recursion_from_All _ entries named))

@@ -1,3 +1,4 @@
+-- The definitions of this crate, file by file.
 pub mod Requests
 pub mod Serving
 pub mod Rounds

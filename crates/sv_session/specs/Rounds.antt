@@ -44,15 +44,15 @@ pub record Takes (old : List ℕ) (request : Request) (new : List ℕ) : Type 0 
 -- ---- Requests that are stepped
 
 -- the replies of these entries name positions that were accepted
-abbrev pub AreNamed : List Entry → List Entry → Type 0
-AreNamed seen entries = All (λ (e : Entry). NamesAccepted (length (accepted (reverse seen))) e.reply) entries
+abbrev pub AllNameAccepted : List Entry → List Entry → Type 0
+AllNameAccepted seen entries = All (λ (e : Entry). NamesAccepted (length (accepted (reverse seen))) e.reply) entries
 
 -- a pass went on, and has these entries more of its own
 pub record StepsOn (before : SessionPass) (entries : List Entry) (after : SessionPass) : Type 0 where
   pub same : IsSamePass before after
   pub goes_on : IsPrefix before.seen after.seen
   pub mine : after.mine ≡ before.mine ++ entries
-  pub named : AreNamed after.seen entries
+  pub named : AllNameAccepted after.seen entries
 
 -- a request was stepped, and this is its reply in full
 pub record Steps (before : SessionPass) (request : Request) (reply : Reply) (after : SessionPass) : Type 0 where

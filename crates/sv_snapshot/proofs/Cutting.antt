@@ -24,7 +24,7 @@ use Rattle.sv_client.specs.declared.trace.Event.TheVariants as events
 use Rattle.sv_client.specs.declared.trace.Trace.{Trace}
 use Rattle.sv_client.specs.Traces.{head_held, held_of, item_held, with_items, with_reply}
 use Rattle.sv_client.specs.Taking.{Identity, told}
-use Rattle.sv_client.specs.Evaluating.{AreAbove, ItemsReadWithin}
+use Rattle.sv_client.specs.Evaluating.{ItemsAreAbove, ItemsReadWithin}
 use Rattle.sv_client.specs.Proper.{AreProper, MayGet, Proper, identity_of}
 use Rattle.sv_client.specs.Answers.{got_now}
 use Rattle.sv_system.specs.Serial.{IsSerial, AreSerial, is_covered, AreSupplied, IsSufficient, AreSufficient, ValuesAreSerial, RelaysAreSufficient}
@@ -131,7 +131,7 @@ module _ (opening : List (List ℤ)) (A : List Action) where
       cond_both (seq == 0) _ _ (λ (o : Option Snapshot). IfSome o (IsCut opening A)) (λ e. tt)
       (λ e. look_cut client seq held (last_item items) (go bound held reads.0 reads.1 enough (last_item items) refl) serial)
     where
-      go : (bound : ℕ) (held : List Held) → ItemsReadWithin who.shape.objects items → AreAbove bound items → AreSupplied A (held_of t ++ head_held commit head) items →
+      go : (bound : ℕ) (held : List Held) → ItemsReadWithin who.shape.objects items → ItemsAreAbove bound items → AreSupplied A (held_of t ++ head_held commit head) items →
           (o : Option Item) → last_item items ≡ o →
           IfSome o (λ item. (0 < item.pos) × (ReadsWithin (length opening) item.action × IsCoveredBy A (with_items (held_of t ++ head_held commit head) items) item))
       go bound held within high enough None e = tt

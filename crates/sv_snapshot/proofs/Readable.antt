@@ -14,7 +14,7 @@ use Rattle.sv_client.specs.declared.trace.Event.{Event}
 use Rattle.sv_client.specs.declared.trace.Event.TheVariants as events
 use Rattle.sv_client.specs.Traces.{held_of, pending_of}
 use Rattle.sv_client.specs.Taking.{Identity, Fault, WrongKind, BadOrder, BadItem, allows, begins_by, fault_after, first_fault_of_reply, has_bad_item, is_out_of_order, items_of, missing_fault, missing_in, outstanding, told, told_by}
-use Rattle.sv_client.specs.Evaluating.{AreAbove}
+use Rattle.sv_client.specs.Evaluating.{ItemsAreAbove}
 use Rattle.sv_client.proofs.Looking.{got_fits}
 use Rattle.sv_report.specs.Again.{MayDo, again}
 use Rattle.sv_snapshot.specs.Again.{IsReadable}
@@ -61,10 +61,10 @@ above bound c (i ∷ j ∷ items) l a b =
     let low : c < j.pos = omega (arith, first, next) in
     (omega (arith, l, first), above bound c (j ∷ items) l parts.1 (lt-leb j.pos c low))
 
-none_above : (n : ℕ) → AreAbove n []
+none_above : (n : ℕ) → ItemsAreAbove n []
 none_above n = All-nil (λ (i : Item). n < i.pos)
 
-above_after : (t : List Event) (reply : Reply) → is_out_of_order t reply ≡ false → AreAbove (told_by reply (told t)) (items_of reply)
+above_after : (t : List Event) (reply : Reply) → is_out_of_order t reply ≡ false → ItemsAreAbove (told_by reply (told t)) (items_of reply)
 above_after t (replies.Welcome commit head) o = none_above (told_by (replies.Welcome commit head) (told t))
 above_after t (replies.Relay seq commit head items) o =
     let ascends = not (is_ascending (map (λ (v : Sent). v.object.0) head)) in

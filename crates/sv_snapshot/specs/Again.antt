@@ -6,13 +6,13 @@ use Rattle.sv_client.specs.declared.trace.Event.{Event}
 use Rattle.sv_client.specs.declared.trace.Event.TheVariants as events
 use Rattle.sv_client.specs.Traces.{held_of}
 use Rattle.sv_client.specs.Taking.{Identity, items_of, told}
-use Rattle.sv_client.specs.Evaluating.{AreAbove, ItemsReadWithin}
+use Rattle.sv_client.specs.Evaluating.{ItemsAreAbove, ItemsReadWithin}
 use Rattle.sv_snapshot.specs.declared.snapshot.Snapshot.{Snapshot}
 use Rattle.sv_snapshot.specs.Snapshots.{snapshot_by}
 
 -- The event that was done last, after which the events t are done, names objects of the world, and items above what was told.
 abbrev pub IsReadable : Identity → List Event → Event → Type 0
-IsReadable who t (events.Got s reply) = ItemsReadWithin who.shape.objects (items_of reply) × AreAbove (told t) (items_of reply)
+IsReadable who t (events.Got s reply) = ItemsReadWithin who.shape.objects (items_of reply) × ItemsAreAbove (told t) (items_of reply)
 IsReadable who t _ = Unit {0}
 
 -- The snapshots that events tell, in order, that come after the events t.

@@ -8,7 +8,7 @@ ghost use Rattle.sv_journal.specs.Answer.{Rules, Legal};
 ghost use Rattle.sv_client.specs.Traces.{held_of};
 ghost use Rattle.sv_client.specs.Taking.{told};
 ghost use Rattle.sv_client.specs.Proper.{AreProper, Proper};
-ghost use Rattle.sv_client.specs.Evaluating.{AreAbove, AreWithin, ItemsReadWithin};
+ghost use Rattle.sv_client.specs.Evaluating.{ItemsAreAbove, AreWithin, ItemsReadWithin};
 ghost use Rattle.sv_system.specs.Fits.{Fits};
 ghost use Rattle.sv_snapshot.specs.Snapshots.{last_item, read_all_below, snapshot_at, snapshot_by, snapshots_in, snapshots_of, snapshots_of_trace};
 ghost use Rattle.sv_snapshot.specs.Cuts.{IsCut};
@@ -76,7 +76,7 @@ fn snapshot_at(
     items: &[Item],
 ) -> Result<Option<Snapshot>, AllocError>
     requires reads { ItemsReadWithin client.now.who.shape.objects items.now }
-    requires above { AreAbove (told client.now.events) items.now }
+    requires above { ItemsAreAbove (told client.now.events) items.now }
     ensures { IfOk result (λ snapshot. snapshot ≡ snapshot_at client.now.who.client seq (held_of client.now.events) (last_item items.now)) }
 {
     match last_item(items) {

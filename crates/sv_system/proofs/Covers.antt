@@ -2,7 +2,7 @@
 use Rattle.std.proofs.Common.{◌≡◌, ℕ, ◌<◌, ◌≤◌, Bool, true, false, ◌&&◌, ◌==◌, nat_lt, nat_le, ◌⊎◌, inl, inr, List, [], ◌∷◌, Option, Some, None, IfSome, sym, ap, ◌∙◌, subst, arith, eqb-true, ltb-true, lt-ltb, leb-true, le-leb}
 use Rattle.std.specs.List.{list_any, AllByRecursion, filter}
 use Rattle.std.proofs.lemmas.Bool.{cond-true, cond-false, cases_Bool, or_cases, and_parts, and_from, cases_lt}
-use Rattle.sv_versions.specs.Held.{Held, later_of, greatest, found_below}
+use Rattle.sv_versions.specs.Held.{Held, later_of, newest, found_below}
 use Rattle.sv_versions.proofs.Greatest.{first_later, second_later}
 use Rattle.sv_system.specs.Serial.{is_covered}
 use Rattle.sv_system.proofs.Tests.{any-into}
@@ -32,17 +32,17 @@ module _ (x pos : ℕ) (P : Held → Type 0) where
   IsThere h = (h.object ≡ x) × ((h.pos < pos) × P h)
 
   found-other : (g : Held) (held : List Held) → (g.object == x) ≡ false → found (g ∷ held) ≡ found held
-  found-other g held e = ap (λ hs. greatest (filter (λ h. nat_lt h.pos pos) hs)) (cond-false (g.object == x) _ _ e)
+  found-other g held e = ap (λ hs. newest (filter (λ h. nat_lt h.pos pos) hs)) (cond-false (g.object == x) _ _ e)
 
   found-late : (g : Held) (held : List Held) → (g.object == x) ≡ true → nat_lt g.pos pos ≡ false → found (g ∷ held) ≡ found held
   found-late g held e f =
-      ap (λ hs. greatest (filter (λ h. nat_lt h.pos pos) hs)) (cond-true (g.object == x) _ _ e)
-      ∙ ap greatest (cond-false (nat_lt g.pos pos) _ _ f)
+      ap (λ hs. newest (filter (λ h. nat_lt h.pos pos) hs)) (cond-true (g.object == x) _ _ e)
+      ∙ ap newest (cond-false (nat_lt g.pos pos) _ _ f)
 
   found-one : (g : Held) (held : List Held) → (g.object == x) ≡ true → nat_lt g.pos pos ≡ true → found (g ∷ held) ≡ Some (later_of g (found held))
   found-one g held e f =
-      ap (λ hs. greatest (filter (λ h. nat_lt h.pos pos) hs)) (cond-true (g.object == x) _ _ e)
-      ∙ ap greatest (cond-true (nat_lt g.pos pos) _ _ f)
+      ap (λ hs. newest (filter (λ h. nat_lt h.pos pos) hs)) (cond-true (g.object == x) _ _ e)
+      ∙ ap newest (cond-true (nat_lt g.pos pos) _ _ f)
 
   later-there : (g : Held) (o : Option Held) → IsThere g → IfSome o IsThere → IsThere (later_of g o)
   later-there g None p q = p

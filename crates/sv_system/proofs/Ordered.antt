@@ -28,7 +28,7 @@ use Rattle.sv_client.specs.declared.trace.Event.{Event}
 use Rattle.sv_client.specs.declared.trace.Event.TheVariants as events
 use Rattle.sv_client.specs.declared.trace.Trace.{Trace}
 use Rattle.sv_client.specs.Traces.{current_session, held_of, head_held, item_held, asked, got}
-use Rattle.sv_client.specs.Taking.{told, begins_by, goes_back, is_out_of_order, first_missing, missing_at, first_missing_of, missing_in}
+use Rattle.sv_client.specs.Taking.{told, begins_by, goes_back, is_out_of_order, first_unheld, missing_at, first_missing_of, missing_in}
 use Rattle.sv_system.specs.Fronts.{IsFront}
 use Rattle.sv_system.specs.Fits.{replies_in}
 use Rattle.sv_system.specs.Served.{OwnsSessions, FitsButValues}
@@ -64,11 +64,11 @@ begins-high A c (k ∷ ks) f = lt-leb k c (f k (is_in-head k ks))
 
 -- ---- Nothing is missing where each item is supplied
 
-nothing-missing : (held : List Held) (pos : ℕ) (low : ℕ → ℕ) (xs : List ℕ) → AllByRecursion (λ x. is_covered x (low x) pos held ≡ true) xs → first_missing held pos xs ≡ None
+nothing-missing : (held : List Held) (pos : ℕ) (low : ℕ → ℕ) (xs : List ℕ) → AllByRecursion (λ x. is_covered x (low x) pos held ≡ true) xs → first_unheld held pos xs ≡ None
 nothing-missing held pos low [] h = refl
 nothing-missing held pos low (x ∷ xs) h =
     let f = covered-found x pos (λ k. Unit {0}) (low x) held (each-unit held) h.0 in
-    cond-false (is_none (read_below held x pos)) (Some x) (first_missing held pos xs)
+    cond-false (is_none (read_below held x pos)) (Some x) (first_unheld held pos xs)
     (ap (λ (o : Option Held). is_none (option_map (λ (k : Held). k.value) o)) f.1.0)
     ∙ nothing-missing held pos low xs h.1
   where

@@ -21,7 +21,7 @@ use Rattle.sv_world.specs.declared.node.Comparison.{Comparison}
 use Rattle.sv_world.specs.declared.node.Comparison.TheVariants as comparisons
 use Rattle.sv_world.specs.declared.node.Connective.{Connective}
 use Rattle.sv_world.specs.declared.node.Connective.TheVariants as joints
-use Rattle.sv_text.specs.Reading.{◌>>=◌, Read, mark_code, is_same, is_mark, is_at, mark_of, front_of, front, rest_of, fault, unexpected, expect, slot_from, slot_or, slot_at, start, part_or, marked, op_of, op_at, leaf_by, leaf_at, closed_by, pair_by, expr_by, expr_at, comparison_of, comparison_at, joint_of, joint_at, compare_by, joined_with, join_by, not_by, cond_by, cond_at}
+use Rattle.sv_text.specs.Reading.{◌>>=◌, Read, mark_code, is_same, is_mark, is_at, mark_of, front_of, front, rest_of, fault, unexpected, expect, slot_from, slot_or, slot_at, start, part_or, marked, op_of, op_at, leaf_by, leaf_at, closed_by, bracketed_by, pair_by, expr_by, expr_at, comparison_of, comparison_at, joint_of, joint_at, compare_by, join_by, not_by, cond_by, cond_at}
 use Rattle.sv_text.specs.Grammar.{Place, Form, IsMark, IsNode, IsNumber, IsRef, op_mark, comparison_mark, joint_mark, AreTwo, IsPair, IsExpr, IsTest, IsJoined, IsNot, IsCond}
 
 -- a step that does not fail
@@ -115,13 +115,19 @@ closed_again {A = A} below m a p three q e c =
     then_ok (below p.0 p.1) (λ a. expect m a.2 >>= λ rest. Ok (a.0, a.1, rest)) (a, three.0, three.1) (gives a q) e
     (then_ok (expect m three.1) (λ rest. Ok (a, three.0, rest)) (rest_of three.1) (gives a q) (expect_again m three.1 c.0) (ap (gives a) c.1))
 
+-- Two parts, what joins them, and a sign behind them are read, where what joins them is.
+bracketed_again : {O A B : Type 0} (joined : List Lexeme → Result O TextFault) (mark : O → Mark) → ((o : O) (ts : List Lexeme) → front ts ≡ Some (mark o) → joined ts ≡ Ok o) → (make : O → A → A → B) (closes : Mark)
+    (below : ℕ → List Lexeme → Read A) (form : Form A) → Reads below form → (o : O) (a b : A) (p q : Place) → AreTwo form a (mark o) b closes p q → bracketed_by joined make closes below p.0 p.1 ≡ gives (make o a b) q
+unfolding bracketed_by
+bracketed_again joined mark joined_again make closes below form again o a b p q t =
+    then_ok (below p.0 p.1) (λ a. joined a.2 >>= λ o. below a.1 (rest_of a.2) >>= λ b. expect closes b.2 >>= λ rest. Ok (make o a.0 b.0, b.1, rest)) (a, t.one.0, t.one.1) (gives (make o a b) q) (again a p t.one t.left)
+    (then_ok (joined t.one.1) (λ o. below t.one.0 (rest_of t.one.1) >>= λ b. expect closes b.2 >>= λ rest. Ok (make o a b.0, b.1, rest)) o (gives (make o a b) q) (joined_again o t.one.1 t.between.0)
+    (then_ok (below t.one.0 (rest_of t.one.1)) (λ b. expect closes b.2 >>= λ rest. Ok (make o a b.0, b.1, rest)) (b, t.three.0, t.three.1) (gives (make o a b) q) (ap (λ (s : Place). below s.0 s.1) t.between.1 ∙ again b t.two t.three t.right)
+    (then_ok (expect closes t.three.1) (λ rest. Ok (make o a b, t.three.0, rest)) (rest_of t.three.1) (gives (make o a b) q) (expect_again closes t.three.1 t.closed.0) (ap (gives (make o a b)) t.closed.1))))
+
 pair_again : (below : ℕ → List Lexeme → Read Expr) (form : Form Expr) → Reads below form → (op : Operator) (a b : Expr) (p q : Place) → AreTwo form a (op_mark op) b marks.Close p q → pair_by below p.0 p.1 ≡ gives (with_op op a b) q
 unfolding pair_by
-pair_again below form again op a b p q t =
-    then_ok (below p.0 p.1) (λ a. op_at a.2 >>= λ o. below a.1 (rest_of a.2) >>= λ b. expect marks.Close b.2 >>= λ rest. Ok (with_op o a.0 b.0, b.1, rest)) (a, t.one.0, t.one.1) (gives (with_op op a b) q) (again a p t.one t.left)
-    (then_ok (op_at t.one.1) (λ o. below t.one.0 (rest_of t.one.1) >>= λ b. expect marks.Close b.2 >>= λ rest. Ok (with_op o a b.0, b.1, rest)) op (gives (with_op op a b) q) (op_again op t.one.1 t.between.0)
-    (then_ok (below t.one.0 (rest_of t.one.1)) (λ b. expect marks.Close b.2 >>= λ rest. Ok (with_op op a b.0, b.1, rest)) (b, t.three.0, t.three.1) (gives (with_op op a b) q) (ap (λ (s : Place). below s.0 s.1) t.between.1 ∙ again b t.two t.three t.right)
-    (then_ok (expect marks.Close t.three.1) (λ rest. Ok (with_op op a b, t.three.0, rest)) (rest_of t.three.1) (gives (with_op op a b) q) (expect_again marks.Close t.three.1 t.closed.0) (ap (gives (with_op op a b)) t.closed.1))))
+pair_again below form again op a b p q t = bracketed_again op_at op_mark op_again with_op marks.Close below form again op a b p q t
 
 leaf_step : (reads : List ObjectId) (below : ℕ → List Lexeme → Read Expr) (depth : ℕ) (e : Expr) (p q : Place) → leaf_at reads p.1 ≡ Ok e → (front p.1 ≡ None) × (rest_of p.1 ≡ q.1) → p.0 < 64 → p.0 + 1 ≡ q.0 → expr_by reads below (suc depth) p.0 p.1 ≡ gives e q
 unfolding expr_by
@@ -190,19 +196,11 @@ joint_again o ts h = ap (λ (f : Option Mark). part_or (unexpected ts) (marked j
 
 compare_again : (exprs : ℕ → List Lexeme → Read Expr) (form : Form Expr) → Reads exprs form → (c : Comparison) (a b : Expr) (p q : Place) → AreTwo form a (comparison_mark c) b marks.CloseTest p q → compare_by exprs p.0 p.1 ≡ gives (with_comparison c a b) q
 unfolding compare_by
-compare_again exprs form again c a b p q t =
-    then_ok (exprs p.0 p.1) (λ a. comparison_at a.2 >>= λ c. closed_by exprs marks.CloseTest a.1 (rest_of a.2) >>= λ b. Ok (with_comparison c a.0 b.0, b.1, b.2)) (a, t.one.0, t.one.1) (gives (with_comparison c a b) q) (again a p t.one t.left)
-    (then_ok (comparison_at t.one.1) (λ c. closed_by exprs marks.CloseTest t.one.0 (rest_of t.one.1) >>= λ b. Ok (with_comparison c a b.0, b.1, b.2)) c (gives (with_comparison c a b) q) (comparison_again c t.one.1 t.between.0)
-    (then_ok (closed_by exprs marks.CloseTest t.one.0 (rest_of t.one.1)) (λ b. Ok (with_comparison c a b.0, b.1, b.2)) (b, q.0, q.1) (gives (with_comparison c a b) q)
-    (ap (λ (s : Place). closed_by exprs marks.CloseTest s.0 s.1) t.between.1 ∙ closed_again exprs marks.CloseTest b t.two t.three q (again b t.two t.three t.right) t.closed) refl))
+compare_again exprs form again c a b p q t = bracketed_again comparison_at comparison_mark comparison_again with_comparison marks.CloseTest exprs form again c a b p q t
 
 join_again : (below : ℕ → List Lexeme → Read Cond) (form : Form Cond) → Reads below form → (j : Connective) (a b : Cond) (p q : Place) → AreTwo form a (joint_mark j) b marks.Close p q → join_by below p.0 p.1 ≡ gives (with_joint j a b) q
-unfolding join_by joined_with
-join_again below form again j a b p q t =
-    then_ok (below p.0 p.1) (λ a. joint_at a.2 >>= λ j. joined_with below j a.0 a.1 (rest_of a.2)) (a, t.one.0, t.one.1) (gives (with_joint j a b) q) (again a p t.one t.left)
-    (then_ok (joint_at t.one.1) (λ j. joined_with below j a t.one.0 (rest_of t.one.1)) j (gives (with_joint j a b) q) (joint_again j t.one.1 t.between.0)
-    (then_ok (closed_by below marks.Close t.one.0 (rest_of t.one.1)) (λ b. Ok (with_joint j a b.0, b.1, b.2)) (b, q.0, q.1) (gives (with_joint j a b) q)
-    (ap (λ (s : Place). closed_by below marks.Close s.0 s.1) t.between.1 ∙ closed_again below marks.Close b t.two t.three q (again b t.two t.three t.right) t.closed) refl))
+unfolding join_by
+join_again below form again j a b p q t = bracketed_again joint_at joint_mark joint_again with_joint marks.Close below form again j a b p q t
 
 not_again : (below : ℕ → List Lexeme → Read Cond) (a : Cond) (p q : Place) → below p.0 p.1 ≡ gives a q → not_by below p.0 p.1 ≡ gives (test.Not a) q
 unfolding not_by

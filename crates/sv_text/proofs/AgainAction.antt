@@ -7,6 +7,7 @@ use Rattle.sv_world.specs.declared.world.ObjectId.{ObjectId}
 use Rattle.sv_world.specs.declared.action.Point.{Point}
 use Rattle.sv_world.specs.declared.action.Action.{Action}
 use Rattle.sv_world.specs.declared.action.Stmt.{Stmt}
+use Rattle.sv_world.specs.Sets.{object_numbered}
 use Rattle.sv_text.specs.declared.fault.TextCause.TheVariants as causes
 use Rattle.sv_text.specs.declared.fault.TextFault.{TextFault}
 use Rattle.sv_text.specs.declared.token.Mark.{Mark}
@@ -14,7 +15,7 @@ use Rattle.sv_text.specs.declared.token.Mark.TheVariants as marks
 use Rattle.sv_text.specs.declared.token.Token.{Token}
 use Rattle.sv_text.specs.declared.token.Token.TheVariants as tokens
 use Rattle.sv_text.specs.declared.token.Lexeme.{Lexeme}
-use Rattle.sv_text.specs.Reading.{◌>>=◌, is_at, mark_of, front_of, front, rest_of, fault, expect, number_by, number_at, size_of, object_number_at, read_at, as_object, reads_from, slot_from, slot_at, write_at, is_number_token, is_number_at, writes_from, coordinate_at, origin_at, header_at, block_by, stmt_at, body_at, reading}
+use Rattle.sv_text.specs.Reading.{◌>>=◌, is_at, mark_of, front_of, front, rest_of, fault, expect, number_by, number_at, size_of, object_number_at, read_at, reads_from, slot_from, slot_at, write_at, is_number_token, is_number_at, writes_from, coordinate_at, origin_at, header_at, block_by, stmt_at, body_at, reading}
 use Rattle.sv_text.specs.Grammar.{Place, IsMark, IsNumber, AreAll, IsBlock, IsStmt, IsWord, IsObject, IsAscending, IsMask, AreReads, IsCoordinate, MayBeOrigin, IsActionText}
 use Rattle.sv_text.proofs.Turns.{reads_from_is, writes_from_is}
 use Rattle.sv_text.proofs.Again.{then_ok, at_mark, not_at, not_at_none, expect_again, slot_again, front_number}
@@ -76,7 +77,7 @@ reads_again before [] least ts end rest h w up few some =
     let full : before ++ [] ≡ before = append-nil before in
     let next : rest_of ts ≡ rest = ap rest_of h ∙ w.1 in
     reads_from_is before least ts
-    ∙ ap (λ (b : Bool). cond b (ok (before, rest_of ts)) (read_at (length before) least ts >>= λ o. reads_from (before ++ as_object o ∷ []) (o + 1) (rest_of ts)))
+    ∙ ap (λ (b : Bool). cond b (ok (before, rest_of ts)) (read_at (length before) least ts >>= λ o. reads_from (before ++ object_numbered o ∷ []) (o + 1) (rest_of ts)))
     (and_from (ltb 0 (length before)) (is_at marks.Writes ts) (lt-ltb 0 (length before) len) (at_mark marks.Writes ts here))
     ∙ ap (λ (l : List Lexeme). ok (before, l)) next ∙ ap (λ (l : List ObjectId). ok (l, rest)) (sym full)
 reads_again before (o ∷ os) least ts end rest h w up few some =
@@ -86,9 +87,9 @@ reads_again before (o ∷ os) least ts end rest h w up few some =
     let regroup : (before ++ o ∷ []) ++ os ≡ before ++ o ∷ os = append_assoc before (o ∷ []) os in
     let more = reads_again (before ++ o ∷ []) os (o.0 + 1) h.0 end rest h.2 w up.1 (subst (λ (l : List ObjectId). length l ≤ 16) (sym regroup) few) (subst (λ (l : List ObjectId). 0 < length l) (sym regroup) some) in
     reads_from_is before least ts
-    ∙ ap (λ (b : Bool). cond b (ok (before, rest_of ts)) (read_at (length before) least ts >>= λ o. reads_from (before ++ as_object o ∷ []) (o + 1) (rest_of ts)))
+    ∙ ap (λ (b : Bool). cond b (ok (before, rest_of ts)) (read_at (length before) least ts >>= λ o. reads_from (before ++ object_numbered o ∷ []) (o + 1) (rest_of ts)))
     (and_right (ltb 0 (length before)) (is_at marks.Writes ts) (not_at_none marks.Writes ts f.0))
-    ∙ then_ok (read_at (length before) least ts) (λ o. reads_from (before ++ as_object o ∷ []) (o + 1) (rest_of ts)) o.0 (ok (before ++ o ∷ os, rest)) (read_again (length before) least o ts h.0 h.1 up.0 room)
+    ∙ then_ok (read_at (length before) least ts) (λ o. reads_from (before ++ object_numbered o ∷ []) (o + 1) (rest_of ts)) o.0 (ok (before ++ o ∷ os, rest)) (read_again (length before) least o ts h.0 h.1 up.0 room)
     (ap (λ (l : List Lexeme). reads_from (before ++ o ∷ []) (o.0 + 1) l) f.1 ∙ more ∙ ap (λ (l : List ObjectId). ok (l, rest)) regroup)
 
 header_again : (reads : List ObjectId) (ts rest : List Lexeme) → AreReads reads ts rest → header_at ts ≡ ok (reads, rest)

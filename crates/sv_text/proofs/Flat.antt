@@ -29,7 +29,7 @@ use Rattle.sv_text.specs.declared.token.Token.{Token}
 use Rattle.sv_text.specs.declared.token.Token.TheVariants as tokens
 use Rattle.sv_text.specs.declared.token.Lexeme.{Lexeme}
 use Rattle.sv_text.specs.Ahead.{next_of}
-use Rattle.sv_text.specs.Reading.{◌>>=◌, Read, Fails, seen, fault, unexpected, rest_of, is_at, expect, start, slot_at, op_at, comparison_at, joint_at, leaf_by, leaf_at, closed_by, pair_by, expr_by, compare_by, joined_with, join_by, not_by, cond_by, target_at, set_by, else_by, branches_by, if_by, stmts_by, block_by, stmt_by, appended}
+use Rattle.sv_text.specs.Reading.{◌>>=◌, Read, Fails, seen, fault, unexpected, rest_of, is_at, expect, start, slot_at, op_at, comparison_at, joint_at, leaf_by, leaf_at, closed_by, bracketed_by, pair_by, expr_by, compare_by, join_by, not_by, cond_by, target_at, set_by, else_by, branches_by, if_by, stmts_by, block_by, stmt_by, appended}
 use Rattle.sv_text.proofs.Next.{leaf_at_is}
 
 -- a reader of what starts here: the nodes started so far, and the tokens that are left
@@ -147,54 +147,22 @@ expr_appended old reads below depth nodes ts =
 
 pub pair_appended : (old : List Node) (below : Reader Expr) (nodes : ℕ) (ts : List Lexeme) → appended expr_spelled old (pair_by below nodes ts)
     ≡ (appended expr_spelled (old ++ node.Not ∷ []) (below nodes ts) >>= λ a. op_at a.2 >>= λ o. appended expr_spelled a.0 (below a.1 (rest_of a.2)) >>= λ b. expect marks.Close b.2 >>= λ rest. Ok (set b.0 (length old) (node.Binary o), b.1, rest))
-unfolding pair_by
+unfolding pair_by bracketed_by
 pair_appended old below nodes ts = two_parts expr_spelled expr_spelled with_op (λ o. node.Binary o) binary_spelled marks.Close old below op_at (below nodes ts)
 
 -- ---- conditions
 
--- what closes a part, and then
-abbrev with_rest : {A : Type 0} → A → ℕ → Result (List Lexeme) TextFault → Read A
-with_rest a nodes read = read >>= λ rest. Ok (a, nodes, rest)
-
-abbrev closing : {A : Type 0} → Mark → Read A → Read A
-closing sign read = read >>= λ a. with_rest a.0 a.1 (expect sign a.2)
-
-abbrev made : {A C : Type 0} → (A → C) → Read A → Read C
-made make read = read >>= λ b. Ok (make b.0, b.1, b.2)
-
-module _ {A C : Type 0} (sign : Mark) (make : A → C) where
-  closed_end : (a : A) (nodes : ℕ) (read : Result (List Lexeme) TextFault) → made make (with_rest a nodes read) ≡ with_rest (make a) nodes read
-  closed_end a nodes (Ok rest) = refl
-  closed_end a nodes (Err e) = refl
-
-  closed_then : (read : Read A) → made make (closing sign read) ≡ (read >>= λ a. with_rest (make a.0) a.1 (expect sign a.2))
-  closed_then (Ok a) = closed_end a.0 a.1 (expect sign a.2)
-  closed_then (Err e) = refl
-
-module _ {A C O : Type 0} (sign : Mark) (make : O → A → A → C) (below : Reader A) where
-  closed_second : (a : A) (nodes : ℕ) (ts : List Lexeme) (read : Result O TextFault) → (read >>= λ o. made (make o a) (closing sign (below nodes ts)))
-      ≡ (read >>= λ o. below nodes ts >>= λ b. with_rest (make o a b.0) b.1 (expect sign b.2))
-  closed_second a nodes ts (Ok o) = closed_then sign (make o a) (below nodes ts)
-  closed_second a nodes ts (Err e) = refl
-
-  closed_first : (middle : List Lexeme → Result O TextFault) (read : Read A) → (read >>= λ a. middle a.2 >>= λ o. made (make o a.0) (closing sign (below a.1 (rest_of a.2))))
-      ≡ (read >>= λ a. middle a.2 >>= λ o. below a.1 (rest_of a.2) >>= λ b. with_rest (make o a.0 b.0) b.1 (expect sign b.2))
-  closed_first middle (Ok a) = closed_second a.0 a.1 (rest_of a.2) (middle a.2)
-  closed_first middle (Err e) = refl
-
 pub compare_appended : (old : List Node) (exprs : Reader Expr) (nodes : ℕ) (ts : List Lexeme) → appended cond_spelled old (compare_by exprs nodes ts)
     ≡ (appended expr_spelled (old ++ node.Not ∷ []) (exprs nodes ts) >>= λ a. comparison_at a.2 >>= λ o. appended expr_spelled a.0 (exprs a.1 (rest_of a.2)) >>= λ b. expect marks.CloseTest b.2 >>= λ rest. Ok (set b.0 (length old) (node.Compare o), b.1, rest))
-unfolding compare_by closed_by
+unfolding compare_by bracketed_by
 compare_appended old exprs nodes ts =
-    ap (λ (read : Read Cond). appended cond_spelled old read) (closed_first marks.CloseTest with_comparison exprs comparison_at (exprs nodes ts))
-    ∙ two_parts expr_spelled cond_spelled with_comparison (λ o. node.Compare o) compare_spelled marks.CloseTest old exprs comparison_at (exprs nodes ts)
+    two_parts expr_spelled cond_spelled with_comparison (λ o. node.Compare o) compare_spelled marks.CloseTest old exprs comparison_at (exprs nodes ts)
 
 pub join_appended : (old : List Node) (below : Reader Cond) (nodes : ℕ) (ts : List Lexeme) → appended cond_spelled old (join_by below nodes ts)
     ≡ (appended cond_spelled (old ++ node.Not ∷ []) (below nodes ts) >>= λ a. joint_at a.2 >>= λ o. appended cond_spelled a.0 (below a.1 (rest_of a.2)) >>= λ b. expect marks.Close b.2 >>= λ rest. Ok (set b.0 (length old) (node.Join o), b.1, rest))
-unfolding join_by joined_with closed_by
+unfolding join_by bracketed_by
 join_appended old below nodes ts =
-    ap (λ (read : Read Cond). appended cond_spelled old read) (closed_first marks.Close with_joint below joint_at (below nodes ts))
-    ∙ two_parts cond_spelled cond_spelled with_joint (λ o. node.Join o) join_spelled marks.Close old below joint_at (below nodes ts)
+    two_parts cond_spelled cond_spelled with_joint (λ o. node.Join o) join_spelled marks.Close old below joint_at (below nodes ts)
 
 pub not_appended : (old : List Node) (below : Reader Cond) (nodes : ℕ) (ts : List Lexeme) → appended cond_spelled old (not_by below nodes ts) ≡ appended cond_spelled (old ++ node.Not ∷ []) (below nodes ts)
 unfolding not_by
@@ -217,6 +185,13 @@ cond_appended old exprs below depth nodes ts =
     ) refl
 
 -- ---- statements
+
+-- what closes a part, and then
+abbrev with_rest : {A : Type 0} → A → ℕ → Result (List Lexeme) TextFault → Read A
+with_rest a nodes read = read >>= λ rest. Ok (a, nodes, rest)
+
+abbrev closing : {A : Type 0} → Mark → Read A → Read A
+closing sign read = read >>= λ a. with_rest a.0 a.1 (expect sign a.2)
 
 set_close : (old : List Node) (slot attr : ℕ) (e : Expr) (nodes : ℕ) (read : Result (List Lexeme) TextFault) → appended stmt_spelled old (with_rest e nodes read >>= λ b. Ok (stmt.Set slot attr b.0, b.1, b.2))
     ≡ (read >>= λ rest. Ok ((old ++ node.Set slot attr ∷ []) ++ expr_spelled e, nodes, rest))

@@ -15,8 +15,8 @@ use Rattle.sv_text.specs.declared.token.Token.TheVariants as tokens
 use Rattle.sv_text.specs.declared.token.Lexeme.{Lexeme}
 use Rattle.sv_world.specs.declared.node.Operator.{Operator}
 use Rattle.sv_world.specs.declared.node.Operator.TheVariants as ops
-use Rattle.sv_text.specs.Reading.{◌>>=◌, Read, mark_code, is_same, is_mark, is_at, front, rest_of, fault, unexpected, expect, slot_from, slot_or, slot_at, start, part_or, marked, op_of, op_at, leaf_by, leaf_at, closed_by, pair_by, expr_by, nowhere, expr_at}
-use Rattle.sv_text.specs.Grammar.{Place, Form, IsMark, IsNode, IsNumber, IsRef, op_mark, IsPair, IsLiteral, IsAttr, IsExpr}
+use Rattle.sv_text.specs.Reading.{◌>>=◌, Read, mark_code, is_same, is_mark, is_at, front, rest_of, fault, unexpected, expect, slot_from, slot_or, slot_at, start, part_or, marked, op_of, op_at, leaf_by, leaf_at, closed_by, bracketed_by, pair_by, expr_by, nowhere, expr_at}
+use Rattle.sv_text.specs.Grammar.{Place, Form, IsMark, IsNode, IsNumber, IsRef, op_mark, IsBracketed, IsPair, IsLiteral, IsAttr, IsExpr}
 
 -- the value of a step that did not fail
 pub bind_ok : {A B : Type 0} (r : Result A TextFault) (f : A → Result B TextFault) (y : B) → (r >>= f) ≡ Ok y → (x : A) × (r ≡ Ok x) × (f x ≡ Ok y)
@@ -185,17 +185,19 @@ closed_found {A = A} below form found m nodes ts x e =
     subst (λ (y : A × ℕ × List Lexeme). (q : Place) × form y.0 (nodes, ts) q × IsMark m q (y.1, y.2)) (ok_is made x r.2)
     ((a.0.1, a.0.2), found nodes ts a.0 a.1, (c.0, ap (λ (l : List Lexeme). (a.0.1, l)) c.1))
 
-pair_found : (below : ℕ → List Lexeme → Read Expr) (form : Form Expr) → Finds below form → (p : Place) (nodes : ℕ) (ts : List Lexeme) (x : Expr × ℕ × List Lexeme)
-    → IsNode marks.Open p (nodes, ts) → pair_by below nodes ts ≡ Ok x → IsPair form x.0 p (x.1, x.2)
-unfolding pair_by
-pair_found below form found p nodes ts x opened e =
-    let a = bind_ok (below nodes ts) (λ a. op_at a.2 >>= λ o. below a.1 (rest_of a.2) >>= λ b. expect marks.Close b.2 >>= λ rest. Ok (with_op o a.0 b.0, b.1, rest)) x e in
-    let o = bind_ok (op_at a.0.2) (λ o. below a.0.1 (rest_of a.0.2) >>= λ b. expect marks.Close b.2 >>= λ rest. Ok (with_op o a.0.0 b.0, b.1, rest)) x a.2 in
-    let b = bind_ok (below a.0.1 (rest_of a.0.2)) (λ b. expect marks.Close b.2 >>= λ rest. Ok (with_op o.0 a.0.0 b.0, b.1, rest)) x o.2 in
-    let r = bind_ok (expect marks.Close b.0.2) (λ rest. Ok (with_op o.0 a.0.0 b.0.0, b.0.1, rest)) x b.2 in
-    let c = expect_is marks.Close b.0.2 r.0 r.1 in
-    let made : Expr × ℕ × List Lexeme = (with_op o.0 a.0.0 b.0.0, b.0.1, r.0) in
-    subst (λ (y : Expr × ℕ × List Lexeme). IsPair form y.0 p (y.1, y.2)) (ok_is made x r.2) (record {
+-- two parts, what joins them, and the sign behind them
+pub bracketed_found : {O A B : Type 0} (joined : List Lexeme → Result O TextFault) (mark : O → Mark) → ((ts : List Lexeme) (o : O) → joined ts ≡ Ok o → front ts ≡ Some (mark o)) → (make : O → A → A → B) (opens closes : Mark)
+    (below : ℕ → List Lexeme → Read A) (form : Form A) → Finds below form → (p : Place) (nodes : ℕ) (ts : List Lexeme) (x : B × ℕ × List Lexeme)
+    → IsNode opens p (nodes, ts) → bracketed_by joined make closes below nodes ts ≡ Ok x → IsBracketed make mark opens closes form x.0 p (x.1, x.2)
+unfolding bracketed_by
+bracketed_found {B = B} joined mark joined_is make opens closes below form found p nodes ts x opened e =
+    let a = bind_ok (below nodes ts) (λ a. joined a.2 >>= λ o. below a.1 (rest_of a.2) >>= λ b. expect closes b.2 >>= λ rest. Ok (make o a.0 b.0, b.1, rest)) x e in
+    let o = bind_ok (joined a.0.2) (λ o. below a.0.1 (rest_of a.0.2) >>= λ b. expect closes b.2 >>= λ rest. Ok (make o a.0.0 b.0, b.1, rest)) x a.2 in
+    let b = bind_ok (below a.0.1 (rest_of a.0.2)) (λ b. expect closes b.2 >>= λ rest. Ok (make o.0 a.0.0 b.0, b.1, rest)) x o.2 in
+    let r = bind_ok (expect closes b.0.2) (λ rest. Ok (make o.0 a.0.0 b.0.0, b.0.1, rest)) x b.2 in
+    let c = expect_is closes b.0.2 r.0 r.1 in
+    let made : B × ℕ × List Lexeme = (make o.0 a.0.0 b.0.0, b.0.1, r.0) in
+    subst (λ (y : B × ℕ × List Lexeme). IsBracketed make mark opens closes form y.0 p (y.1, y.2)) (ok_is made x r.2) (record {
       by = o.0;
       a = a.0.0;
       b = b.0.0;
@@ -207,11 +209,16 @@ pair_found below form found p nodes ts x opened e =
         two = (a.0.1, rest_of a.0.2);
         three = (b.0.1, b.0.2);
         left = found nodes ts a.0 a.1;
-        between = (op_at_is a.0.2 o.0 o.1, refl);
+        between = (joined_is a.0.2 o.0 o.1, refl);
         right = found a.0.1 (rest_of a.0.2) b.0 b.1;
         closed = (c.0, ap (λ (l : List Lexeme). (b.0.1, l)) c.1);
       };
     })
+
+pair_found : (below : ℕ → List Lexeme → Read Expr) (form : Form Expr) → Finds below form → (p : Place) (nodes : ℕ) (ts : List Lexeme) (x : Expr × ℕ × List Lexeme)
+    → IsNode marks.Open p (nodes, ts) → pair_by below nodes ts ≡ Ok x → IsPair form x.0 p (x.1, x.2)
+unfolding pair_by
+pair_found below form found p nodes ts x opened e = bracketed_found op_at op_mark op_at_is with_op marks.Open marks.Close below form found p nodes ts x opened e
 
 -- a node whose start is a word or sign
 pub node_is : (m : Mark) (depth nodes : ℕ) (ts : List Lexeme) (n : ℕ) → is_at m ts ≡ true → start depth nodes ts ≡ Ok n → (0 < depth) × IsNode m (nodes, ts) (n, rest_of ts)

@@ -7,13 +7,14 @@ use Rattle.sv_world.specs.declared.world.ObjectId.{ObjectId}
 use Rattle.sv_world.specs.declared.action.Point.{Point}
 use Rattle.sv_world.specs.declared.action.Action.{Action}
 use Rattle.sv_world.specs.declared.action.Stmt.{Stmt}
+use Rattle.sv_world.specs.Sets.{object_numbered}
 use Rattle.sv_text.specs.declared.fault.TextCause.TheVariants as causes
 use Rattle.sv_text.specs.declared.fault.TextFault.{TextFault}
 use Rattle.sv_text.specs.declared.token.Mark.TheVariants as marks
 use Rattle.sv_text.specs.declared.token.Token.{Token}
 use Rattle.sv_text.specs.declared.token.Token.TheVariants as tokens
 use Rattle.sv_text.specs.declared.token.Lexeme.{Lexeme}
-use Rattle.sv_text.specs.Reading.{◌>>=◌, is_at, rest_of, fault, unexpected, expect, number_by, number_at, size_of, object_number_at, read_at, as_object, ends_reads, reads_from, slot_from, slot_at, write_at, is_number_at, writes_from, coordinate_at, origin_at, header_at, block_by, stmt_at, body_at, reading}
+use Rattle.sv_text.specs.Reading.{◌>>=◌, is_at, rest_of, fault, unexpected, expect, number_by, number_at, size_of, object_number_at, read_at, ends_reads, reads_from, slot_from, slot_at, write_at, is_number_at, writes_from, coordinate_at, origin_at, header_at, block_by, stmt_at, body_at, reading}
 use Rattle.sv_text.specs.Grammar.{IsNumber, AreAll, IsBlock, IsStmt, IsWord, IsObject, IsAscending, IsMask, AreReads, IsCoordinate, MayBeOrigin, IsActionText}
 use Rattle.sv_text.proofs.Found.{bind_ok, chosen, ok_is, no_err, is_at_is, expect_is, slot_at_is}
 use Rattle.sv_text.proofs.FoundBody.{body_found}
@@ -42,24 +43,24 @@ unfolding number_at
 number_at_is low high [] z e = no_err _ z e
 number_at_is low high (t ∷ ts) z e = number_by_is low high t ts z t.glued t.token refl refl e
 
-object_is : (z : ℤ) (o : ℕ) (text rest : List Lexeme) → Within (pos 0) (pos 65535) z text rest → size_of z ≡ o → IsObject (as_object o) text rest
-object_is (pos n) o text rest w e = subst (λ (k : ℕ). IsObject (as_object k) text rest) e (let le : n ≤ 65535 = leb-true n 65535 w.1 in omega arith, w.2)
+object_is : (z : ℤ) (o : ℕ) (text rest : List Lexeme) → Within (pos 0) (pos 65535) z text rest → size_of z ≡ o → IsObject (object_numbered o) text rest
+object_is (pos n) o text rest w e = subst (λ (k : ℕ). IsObject (object_numbered k) text rest) e (let le : n ≤ 65535 = leb-true n 65535 w.1 in omega arith, w.2)
 object_is (negsuc n) o text rest w e = absurd (let no_way : false ≡ true = w.0 in cc)
 
-object_at_is : (ts : List Lexeme) (o : ℕ) → object_number_at ts ≡ Ok o → IsObject (as_object o) ts (rest_of ts)
+object_at_is : (ts : List Lexeme) (o : ℕ) → object_number_at ts ≡ Ok o → IsObject (object_numbered o) ts (rest_of ts)
 unfolding object_number_at
 object_at_is ts o e =
     let z = bind_ok (number_at (pos 0) (pos 65535) ts) (λ z. Ok (size_of z)) o e in
     object_is z.0 o ts (rest_of ts) (number_at_is (pos 0) (pos 65535) ts z.0 z.1) (ok_is (size_of z.0) o z.2)
 
-read_at_is : (count least : ℕ) (ts : List Lexeme) (o : ℕ) → read_at count least ts ≡ Ok o → (least ≤ o) × (count < 16) × IsObject (as_object o) ts (rest_of ts)
+read_at_is : (count least : ℕ) (ts : List Lexeme) (o : ℕ) → read_at count least ts ≡ Ok o → (least ≤ o) × (count < 16) × IsObject (object_numbered o) ts (rest_of ts)
 unfolding read_at
 read_at_is count least ts o e =
     let r = bind_ok (object_number_at ts) (λ o. cond (ltb o least) (Err (fault ts causes.Order)) (cond (ltb count 16) (Ok o) (Err (fault ts causes.TooMany)))) o e in
     elim (chosen (ltb r.0 least) (Err (fault ts causes.Order)) (cond (ltb count 16) (Ok r.0) (Err (fault ts causes.TooMany))) (Ok o) r.2) [
       | inl h ↦ no_err (fault ts causes.Order) o h.1
       | inr h ↦ elim (chosen (ltb count 16) (Ok r.0) (Err (fault ts causes.TooMany)) (Ok o) h.1) [
-        | inl k ↦ subst (λ (j : ℕ). (least ≤ j) × (count < 16) × IsObject (as_object j) ts (rest_of ts)) (ok_is r.0 o k.1) (ltb-false r.0 least h.0, ltb-true count 16 k.0, object_at_is ts r.0 r.1)
+        | inl k ↦ subst (λ (j : ℕ). (least ≤ j) × (count < 16) × IsObject (object_numbered j) ts (rest_of ts)) (ok_is r.0 o k.1) (ltb-false r.0 least h.0, ltb-true count 16 k.0, object_at_is ts r.0 r.1)
         | inr k ↦ no_err (fault ts causes.TooMany) o k.1
       ]
     ]
@@ -73,18 +74,18 @@ reads_found : (before : List ObjectId) (least : ℕ) (ts : List Lexeme) (x : Lis
 unfolding reads_from
 reads_found before least [] x few e = no_err (unexpected []) x e
 reads_found before least (t ∷ ts) x few e =
-    elim (chosen (ends_reads (length before) (t ∷ ts)) (Ok (before, ts)) (read_at (length before) least (t ∷ ts) >>= λ o. reads_from (before ++ as_object o ∷ []) (o + 1) ts) (Ok x) e) [
+    elim (chosen (ends_reads (length before) (t ∷ ts)) (Ok (before, ts)) (read_at (length before) least (t ∷ ts) >>= λ o. reads_from (before ++ object_numbered o ∷ []) (o + 1) ts) (Ok x) e) [
       | inl h ↦
           let both = and_parts (ltb 0 (length before)) (is_at marks.Writes (t ∷ ts)) h.0 in
           let made : List ObjectId × List Lexeme = (before, ts) in
           subst (λ (y : List ObjectId × List Lexeme). MoreReads before least (t ∷ ts) y.0 y.1) (ok_is made x h.1)
           ([], append-nil before, t ∷ ts, refl, (is_at_is marks.Writes (t ∷ ts) both.1, refl), tt, ltb-true 0 (length before) both.0, few)
       | inr h ↦
-          let o = bind_ok (read_at (length before) least (t ∷ ts)) (λ o. reads_from (before ++ as_object o ∷ []) (o + 1) ts) x h.1 in
+          let o = bind_ok (read_at (length before) least (t ∷ ts)) (λ o. reads_from (before ++ object_numbered o ∷ []) (o + 1) ts) x h.1 in
           let k = read_at_is (length before) least (t ∷ ts) o.0 o.1 in
-          let longer : length (before ++ as_object o.0 ∷ []) ≤ 16 = omega (arith, length-append before (as_object o.0 ∷ []), k.1) in
-          let r = reads_found (before ++ as_object o.0 ∷ []) (o.0 + 1) ts x longer o.2 in
-          (as_object o.0 ∷ r.0, sym (append_assoc before (as_object o.0 ∷ []) r.0) ∙ r.1, r.2, (ts, k.2, r.3), r.4, (k.0, r.5), r.6, r.7)
+          let longer : length (before ++ object_numbered o.0 ∷ []) ≤ 16 = omega (arith, length-append before (object_numbered o.0 ∷ []), k.1) in
+          let r = reads_found (before ++ object_numbered o.0 ∷ []) (o.0 + 1) ts x longer o.2 in
+          (object_numbered o.0 ∷ r.0, sym (append_assoc before (object_numbered o.0 ∷ []) r.0) ∙ r.1, r.2, (ts, k.2, r.3), r.4, (k.0, r.5), r.6, r.7)
     ]
 
 header_found : (ts : List Lexeme) (x : List ObjectId × List Lexeme) → header_at ts ≡ Ok x → AreReads x.0 ts x.1
@@ -103,7 +104,7 @@ header_found ts x e =
       few = r.7;
     }
 
-write_at_is : (reads : List ObjectId) (least : ℕ) (ts : List Lexeme) (w : ℕ × ℕ) → write_at reads least ts ≡ Ok w → (least ≤ w.0) × (slot_from 0 reads w.0 ≡ Some w.1) × IsObject (as_object w.0) ts (rest_of ts)
+write_at_is : (reads : List ObjectId) (least : ℕ) (ts : List Lexeme) (w : ℕ × ℕ) → write_at reads least ts ≡ Ok w → (least ≤ w.0) × (slot_from 0 reads w.0 ≡ Some w.1) × IsObject (object_numbered w.0) ts (rest_of ts)
 unfolding write_at
 write_at_is reads least ts w e =
     let o = bind_ok (object_number_at ts) (λ o. slot_at reads o ts >>= λ k. cond (ltb o least) (Err (fault ts causes.Order)) (Ok (o, k))) w e in
@@ -111,7 +112,7 @@ write_at_is reads least ts w e =
     let made : ℕ × ℕ = (o.0, k.0) in
     elim (chosen (ltb o.0 least) (Err (fault ts causes.Order)) (Ok made) (Ok w) k.2) [
       | inl h ↦ no_err (fault ts causes.Order) w h.1
-      | inr h ↦ subst (λ (y : ℕ × ℕ). (least ≤ y.0) × (slot_from 0 reads y.0 ≡ Some y.1) × IsObject (as_object y.0) ts (rest_of ts)) (ok_is made w h.1)
+      | inr h ↦ subst (λ (y : ℕ × ℕ). (least ≤ y.0) × (slot_from 0 reads y.0 ≡ Some y.1) × IsObject (object_numbered y.0) ts (rest_of ts)) (ok_is made w h.1)
           (ltb-false o.0 least h.0, slot_at_is reads o.0 ts k.0 k.1, object_at_is ts o.0 o.1)
     ]
 
@@ -135,7 +136,7 @@ writes_found reads mask least (t ∷ ts) x e =
           let w = bind_ok (write_at reads least (t ∷ ts)) (λ w. writes_from reads (bit_or mask (2 ^ w.1)) (w.0 + 1) ts) x h.1 in
           let k = write_at_is reads least (t ∷ ts) w.0 w.1 in
           let r = writes_found reads (bit_or mask (2 ^ w.0.1)) (w.0.0 + 1) ts x w.2 in
-          (as_object w.0.0 ∷ r.0, (ts, k.2, r.1), (k.0, r.2), (w.0.1, k.1, r.3))
+          (object_numbered w.0.0 ∷ r.0, (ts, k.2, r.1), (k.0, r.2), (w.0.1, k.1, r.3))
       | inr h ↦ no_writes reads mask least (t ∷ ts) x h.1
     ]
 

@@ -18,9 +18,9 @@ use Rattle.sv_world.specs.declared.node.Comparison.{Comparison}
 use Rattle.sv_world.specs.declared.node.Comparison.TheVariants as comparisons
 use Rattle.sv_world.specs.declared.node.Connective.{Connective}
 use Rattle.sv_world.specs.declared.node.Connective.TheVariants as joints
-use Rattle.sv_text.specs.Reading.{◌>>=◌, Read, is_at, front, rest_of, fault, unexpected, expect, slot_at, start, marked, comparison_of, comparison_at, joint_of, joint_at, closed_by, compare_by, joined_with, join_by, not_by, cond_by, nowhere, expr_at, cond_at, target_by, target_at, set_by, else_by, branches_by, if_by, stmts_by, block_by, stmt_by, stmt_at}
+use Rattle.sv_text.specs.Reading.{◌>>=◌, Read, is_at, front, rest_of, fault, unexpected, expect, slot_at, start, marked, comparison_of, comparison_at, joint_of, joint_at, closed_by, compare_by, join_by, not_by, cond_by, nowhere, expr_at, cond_at, target_by, target_at, set_by, else_by, branches_by, if_by, stmts_by, block_by, stmt_by, stmt_at}
 use Rattle.sv_text.specs.Grammar.{Place, Form, IsMark, IsNode, IsRef, comparison_mark, joint_mark, IsTest, IsJoined, IsNot, IsExpr, IsCond, AreAll, IsBlock, IsSet, MayBeElse, IsIf, IsStmt}
-use Rattle.sv_text.proofs.Found.{bind_ok, chosen, ok_is, no_err, some_is, is_at_is, expect_is, part_is, marked_is, slot_at_is, node_is, Finds, nowhere_finds, closed_found, expr_found}
+use Rattle.sv_text.proofs.Found.{bind_ok, chosen, ok_is, no_err, some_is, is_at_is, expect_is, part_is, marked_is, slot_at_is, node_is, Finds, nowhere_finds, closed_found, bracketed_found, expr_found}
 
 abbrev Never : {A : Type 0} → Form A
 Never a p q = ⊥
@@ -53,56 +53,12 @@ joint_at_is ts o e =
 compare_found : (exprs : ℕ → List Lexeme → Read Expr) (form : Form Expr) → Finds exprs form → (p : Place) (nodes : ℕ) (ts : List Lexeme) (x : Cond × ℕ × List Lexeme)
     → IsNode marks.OpenTest p (nodes, ts) → compare_by exprs nodes ts ≡ Ok x → IsTest form x.0 p (x.1, x.2)
 unfolding compare_by
-compare_found exprs form found p nodes ts x opened e =
-    let a = bind_ok (exprs nodes ts) (λ a. comparison_at a.2 >>= λ c. closed_by exprs marks.CloseTest a.1 (rest_of a.2) >>= λ b. Ok (with_comparison c a.0 b.0, b.1, b.2)) x e in
-    let c = bind_ok (comparison_at a.0.2) (λ c. closed_by exprs marks.CloseTest a.0.1 (rest_of a.0.2) >>= λ b. Ok (with_comparison c a.0.0 b.0, b.1, b.2)) x a.2 in
-    let b = bind_ok (closed_by exprs marks.CloseTest a.0.1 (rest_of a.0.2)) (λ b. Ok (with_comparison c.0 a.0.0 b.0, b.1, b.2)) x c.2 in
-    let k = closed_found exprs form found marks.CloseTest a.0.1 (rest_of a.0.2) b.0 b.1 in
-    let made : Cond × ℕ × List Lexeme = (with_comparison c.0 a.0.0 b.0.0, b.0.1, b.0.2) in
-    subst (λ (y : Cond × ℕ × List Lexeme). IsTest form y.0 p (y.1, y.2)) (ok_is made x b.2) (record {
-      by = c.0;
-      a = a.0.0;
-      b = b.0.0;
-      made = refl;
-      inside = (nodes, ts);
-      opened = opened;
-      parts = record {
-        one = (a.0.1, a.0.2);
-        two = (a.0.1, rest_of a.0.2);
-        three = k.0;
-        left = found nodes ts a.0 a.1;
-        between = (comparison_at_is a.0.2 c.0 c.1, refl);
-        right = k.1;
-        closed = k.2;
-      };
-    })
+compare_found exprs form found p nodes ts x opened e = bracketed_found comparison_at comparison_mark comparison_at_is with_comparison marks.OpenTest marks.CloseTest exprs form found p nodes ts x opened e
 
 join_found : (below : ℕ → List Lexeme → Read Cond) (form : Form Cond) → Finds below form → (p : Place) (nodes : ℕ) (ts : List Lexeme) (x : Cond × ℕ × List Lexeme)
     → IsNode marks.Open p (nodes, ts) → join_by below nodes ts ≡ Ok x → IsJoined form x.0 p (x.1, x.2)
-unfolding join_by joined_with
-join_found below form found p nodes ts x opened e =
-    let a = bind_ok (below nodes ts) (λ a. joint_at a.2 >>= λ j. joined_with below j a.0 a.1 (rest_of a.2)) x e in
-    let c = bind_ok (joint_at a.0.2) (λ j. joined_with below j a.0.0 a.0.1 (rest_of a.0.2)) x a.2 in
-    let b = bind_ok (closed_by below marks.Close a.0.1 (rest_of a.0.2)) (λ b. Ok (with_joint c.0 a.0.0 b.0, b.1, b.2)) x c.2 in
-    let k = closed_found below form found marks.Close a.0.1 (rest_of a.0.2) b.0 b.1 in
-    let made : Cond × ℕ × List Lexeme = (with_joint c.0 a.0.0 b.0.0, b.0.1, b.0.2) in
-    subst (λ (y : Cond × ℕ × List Lexeme). IsJoined form y.0 p (y.1, y.2)) (ok_is made x b.2) (record {
-      by = c.0;
-      a = a.0.0;
-      b = b.0.0;
-      made = refl;
-      inside = (nodes, ts);
-      opened = opened;
-      parts = record {
-        one = (a.0.1, a.0.2);
-        two = (a.0.1, rest_of a.0.2);
-        three = k.0;
-        left = found nodes ts a.0 a.1;
-        between = (joint_at_is a.0.2 c.0 c.1, refl);
-        right = k.1;
-        closed = k.2;
-      };
-    })
+unfolding join_by
+join_found below form found p nodes ts x opened e = bracketed_found joint_at joint_mark joint_at_is with_joint marks.Open marks.Close below form found p nodes ts x opened e
 
 not_found : (below : ℕ → List Lexeme → Read Cond) (form : Form Cond) → Finds below form → (p : Place) (nodes : ℕ) (ts : List Lexeme) (x : Cond × ℕ × List Lexeme)
     → IsNode marks.Not p (nodes, ts) → not_by below nodes ts ≡ Ok x → IsNot form x.0 p (x.1, x.2)

@@ -6,13 +6,14 @@ use Rattle.std.proofs.lemmas.Bool.{ne_eqb}
 use Rattle.std.proofs.lemmas.Grind.{one_shifted}
 use Rattle.sv_world.specs.declared.world.ObjectId.{ObjectId}
 use Rattle.sv_world.specs.declared.action.Stmt.{Stmt}
+use Rattle.sv_world.specs.Sets.{object_numbered}
 use Rattle.sv_text.specs.declared.fault.TextCause.TheVariants as causes
 use Rattle.sv_text.specs.declared.fault.TextFault.{TextFault}
 use Rattle.sv_text.specs.declared.fault.ParseFault.{ParseFault}
 use Rattle.sv_text.specs.declared.fault.ParseFault.TheVariants as faults
 use Rattle.sv_text.specs.declared.token.Mark.TheVariants as marks
 use Rattle.sv_text.specs.declared.token.Lexeme.{Lexeme}
-use Rattle.sv_text.specs.Reading.{◌>>=◌, Read, Fails, fault, rest_of, as_object, read_at, ends_reads, reads_from, slot_from, write_at, is_number_at, writes_from, stmts_by, front, is_at, object_number_at, number_at}
+use Rattle.sv_text.specs.Reading.{◌>>=◌, Read, Fails, fault, rest_of, read_at, ends_reads, reads_from, slot_from, write_at, is_number_at, writes_from, stmts_by, front, is_at, object_number_at, number_at}
 
 pub slot_turn : (reads : List ObjectId) (i o : ℕ) (d : ObjectId) → i < length reads → slot_from i (drop i reads) o ≡ cond (eqb (get_or reads i d).0 o) (Some i) (slot_from (i + 1) (drop (i + 1) reads) o)
 slot_turn reads i o d lt =
@@ -20,14 +21,14 @@ slot_turn reads i o d lt =
     rw (drop-cons reads i d lt, one) refl
 
 pub reads_from_is : (before : List ObjectId) (least : ℕ) (ts : List Lexeme) → reads_from before least ts ≡
-    cond (ends_reads (length before) ts) (Ok (before, rest_of ts)) (read_at (length before) least ts >>= λ o. reads_from (before ++ as_object o ∷ []) (o + 1) (rest_of ts))
+    cond (ends_reads (length before) ts) (Ok (before, rest_of ts)) (read_at (length before) least ts >>= λ o. reads_from (before ++ object_numbered o ∷ []) (o + 1) (rest_of ts))
 unfolding reads_from is_at front read_at object_number_at number_at
 reads_from_is before least [] = rw (and-false (ltb 0 (length before))) refl
 reads_from_is before least (t ∷ ts) = refl
 
 -- one more read
 pub reads_go_on : (before after : List ObjectId) (count least o : ℕ) (ts : List Lexeme) → count ≡ length before → ends_reads count ts ≡ false
-    → read_at count least ts ≡ Ok o → after ≡ before ++ as_object o ∷ [] → reads_from after (o + 1) (rest_of ts) ≡ reads_from before least ts
+    → read_at count least ts ≡ Ok o → after ≡ before ++ object_numbered o ∷ [] → reads_from after (o + 1) (rest_of ts) ≡ reads_from before least ts
 reads_go_on before after count least o ts is goes read same =
     let ends : ends_reads (length before) ts ≡ false = rw (← is) goes in
     let one : read_at (length before) least ts ≡ Ok o = rw (← is) read in

@@ -11,6 +11,7 @@ use Rattle.sv_world.specs.declared.action.Cond.TheVariants as test
 use Rattle.sv_world.specs.declared.action.Stmt.{Stmt}
 use Rattle.sv_world.specs.declared.action.Stmt.TheVariants as stmt
 use Rattle.sv_world.specs.Limits.{most_reads, most_nodes, most_depth}
+use Rattle.sv_world.specs.Sets.{object_numbered}
 use Rattle.sv_world.specs.Parts.{binary_by as with_op, compare_by as with_comparison, join_by as with_joint}
 use Rattle.sv_text.specs.declared.fault.TextCause.{TextCause}
 use Rattle.sv_text.specs.declared.fault.TextCause.TheVariants as causes
@@ -163,9 +164,6 @@ read_at count least ts = do
   o ← object_number_at ts
   cond (nat_lt o least) (Err (fault ts causes.Order)) (cond (nat_lt count most_reads) (Ok o) (Err (fault ts causes.TooMany)))
 
-abbrev pub as_object : ℕ → ObjectId
-as_object o = record { 0 = o }
-
 abbrev pub ends_reads : ℕ → List Lexeme → Bool
 ends_reads count ts = nat_lt 0 count && is_at marks.Writes ts
 
@@ -174,7 +172,7 @@ unfoldable pub reads_from : List ObjectId → ℕ → List Lexeme → Result (Li
 reads_from before least [] = Err (unexpected [])
 reads_from before least (t ∷ ts) =
     cond (ends_reads (length before) (t ∷ ts)) (Ok (before, ts))
-    (read_at (length before) least (t ∷ ts) >>= λ o. reads_from (before ++ as_object o ∷ []) (o + 1) ts)
+    (read_at (length before) least (t ∷ ts) >>= λ o. reads_from (before ++ object_numbered o ∷ []) (o + 1) ts)
 
 -- the slot of an object, which is its place in the reads
 abbrev pub slot_from : ℕ → List ObjectId → ℕ → Option ℕ
@@ -271,14 +269,17 @@ closed_by below m nodes ts = do
   rest ← expect m a.2
   Ok (a.0, a.1, rest)
 
--- `below` reads the parts, which stand one deeper.
-unfoldable pub pair_by : (ℕ → List Lexeme → Read Expr) → ℕ → List Lexeme → Read Expr
-pair_by below nodes ts = do
+-- Two parts, what joins them, and a sign behind them. `below` reads the parts, which stand one deeper.
+unfoldable pub bracketed_by : {O A B : Type 0} → (List Lexeme → Result O TextFault) → (O → A → A → B) → Mark → (ℕ → List Lexeme → Read A) → ℕ → List Lexeme → Read B
+bracketed_by joined make closes below nodes ts = do
   a ← below nodes ts
-  o ← op_at a.2
+  o ← joined a.2
   b ← below a.1 (rest_of a.2)
-  rest ← expect marks.Close b.2
-  Ok (with_op o a.0 b.0, b.1, rest)
+  rest ← expect closes b.2
+  Ok (make o a.0 b.0, b.1, rest)
+
+unfoldable pub pair_by : (ℕ → List Lexeme → Read Expr) → ℕ → List Lexeme → Read Expr
+pair_by below nodes ts = bracketed_by op_at with_op marks.Close below nodes ts
 
 unfoldable pub expr_by : List ObjectId → (ℕ → List Lexeme → Read Expr) → ℕ → ℕ → List Lexeme → Read Expr
 expr_by reads below depth nodes ts = cond (is_at marks.Open ts)
@@ -316,22 +317,10 @@ unfoldable pub joint_at : List Lexeme → Result Connective TextFault
 joint_at ts = part_or (unexpected ts) (marked joint_of (front ts))
 
 unfoldable pub compare_by : (ℕ → List Lexeme → Read Expr) → ℕ → List Lexeme → Read Cond
-compare_by exprs nodes ts = do
-  a ← exprs nodes ts
-  c ← comparison_at a.2
-  b ← closed_by exprs marks.CloseTest a.1 (rest_of a.2)
-  Ok (with_comparison c a.0 b.0, b.1, b.2)
-
-unfoldable pub joined_with : (ℕ → List Lexeme → Read Cond) → Connective → Cond → ℕ → List Lexeme → Read Cond
-joined_with below j a nodes ts = do
-  b ← closed_by below marks.Close nodes ts
-  Ok (with_joint j a b.0, b.1, b.2)
+compare_by exprs nodes ts = bracketed_by comparison_at with_comparison marks.CloseTest exprs nodes ts
 
 unfoldable pub join_by : (ℕ → List Lexeme → Read Cond) → ℕ → List Lexeme → Read Cond
-join_by below nodes ts = do
-  a ← below nodes ts
-  j ← joint_at a.2
-  joined_with below j a.0 a.1 (rest_of a.2)
+join_by below nodes ts = bracketed_by joint_at with_joint marks.Close below nodes ts
 
 unfoldable pub not_by : (ℕ → List Lexeme → Read Cond) → ℕ → List Lexeme → Read Cond
 not_by below nodes ts = below nodes ts >>= λ a. Ok (test.Not a.0, a.1, a.2)

@@ -5,8 +5,8 @@ use Rattle.std.proofs.lemmas.Bool.{cond-true, cond-false, lt-ltb, le-ltb, ne_eqb
 use Rattle.std.proofs.lemmas.List.{append-nil, append_assoc, get_or_read}
 use Rattle.std.proofs.lemmas.List.Elements.{filter-append, filter_agree}
 use Rattle.sv_versions.specs.declared.history.Version.{Version}
-use Rattle.sv_versions.specs.Held.{Held, versions_of, greatest, read_below, latest, count_up_to, comes_before, put_in, is_outdated, pruned}
-use Rattle.sv_versions.specs.Histories.{held_at, tagged, flat_from, flat}
+use Rattle.sv_versions.specs.Held.{Held, versions_of, newest, read_below, latest, count_up_to, comes_before, put_in, is_outdated, pruned}
+use Rattle.sv_versions.specs.Histories.{as_held, tagged, flat_from, flat}
 use Rattle.sv_versions.proofs.Lists.{filter_map_is}
 use Rattle.sv_versions.proofs.Rows.{own}
 
@@ -52,24 +52,24 @@ of_flat_past x rows h = of_later x 0 rows (omega arith)
 earlier_before : (b : ℕ) (vs : List Version) (h : Held) → b < h.object → filter (λ k. comes_before k h) (tagged b vs) ≡ tagged b vs
 earlier_before b [] h l = refl
 earlier_before b (v ∷ vs) h l =
-    cond-true (comes_before (held_at b v) h) _ _ (or_left _ _ (lt-ltb b h.object l)) ∙ ap (λ hs. held_at b v ∷ hs) (earlier_before b vs h l)
+    cond-true (comes_before (as_held b v) h) _ _ (or_left _ _ (lt-ltb b h.object l)) ∙ ap (λ hs. as_held b v ∷ hs) (earlier_before b vs h l)
 
 earlier_behind : (b : ℕ) (vs : List Version) (h : Held) → b < h.object → filter (λ k. comes_before h k) (tagged b vs) ≡ []
 earlier_behind b [] h l = refl
 earlier_behind b (v ∷ vs) h l =
-    cond-false (comes_before h (held_at b v)) _ _ (or_from _ _ (le-ltb h.object b (omega arith)) (and_left _ _ (ne_eqb h.object b (λ e. omega arith))))
+    cond-false (comes_before h (as_held b v)) _ _ (or_from _ _ (le-ltb h.object b (omega arith)) (and_left _ _ (ne_eqb h.object b (λ e. omega arith))))
     ∙ earlier_behind b vs h l
 
 later_before : (b : ℕ) (vs : List Version) (h : Held) → h.object < b → filter (λ k. comes_before k h) (tagged b vs) ≡ []
 later_before b [] h l = refl
 later_before b (v ∷ vs) h l =
-    cond-false (comes_before (held_at b v) h) _ _ (or_from _ _ (le-ltb b h.object (omega arith)) (and_left _ _ (ne_eqb b h.object (λ e. omega arith))))
+    cond-false (comes_before (as_held b v) h) _ _ (or_from _ _ (le-ltb b h.object (omega arith)) (and_left _ _ (ne_eqb b h.object (λ e. omega arith))))
     ∙ later_before b vs h l
 
 later_behind : (b : ℕ) (vs : List Version) (h : Held) → h.object < b → filter (λ k. comes_before h k) (tagged b vs) ≡ tagged b vs
 later_behind b [] h l = refl
 later_behind b (v ∷ vs) h l =
-    cond-true (comes_before h (held_at b v)) _ _ (or_left _ _ (lt-ltb h.object b l)) ∙ ap (λ hs. held_at b v ∷ hs) (later_behind b vs h l)
+    cond-true (comes_before h (as_held b v)) _ _ (or_left _ _ (lt-ltb h.object b l)) ∙ ap (λ hs. as_held b v ∷ hs) (later_behind b vs h l)
 
 rows_before : (b : ℕ) (rows : List (List Version)) (h : Held) → h.object < b → filter (λ k. comes_before k h) (flat_from b rows) ≡ []
 rows_before b [] h l = refl
@@ -120,10 +120,10 @@ put_flat rows h row l p = put_from 0 h.object rows h row (omega arith) l p
 
 same_prune : (commit b : ℕ) (all : List Held) (vs : List Version) → versions_of b all ≡ versions_of b (tagged b vs) → filter (λ h. not (is_outdated commit all h)) (tagged b vs) ≡ pruned commit (tagged b vs)
 same_prune commit b all vs e =
-    filter_map_is (held_at b) (λ h. not (is_outdated commit all h)) vs
-    ∙ ap (λ ws. tagged b ws) (filter_agree (λ v. not (is_outdated commit all (held_at b v))) (λ v. not (is_outdated commit (tagged b vs) (held_at b v)))
+    filter_map_is (as_held b) (λ h. not (is_outdated commit all h)) vs
+    ∙ ap (λ ws. tagged b ws) (filter_agree (λ v. not (is_outdated commit all (as_held b v))) (λ v. not (is_outdated commit (tagged b vs) (as_held b v)))
     (λ v. ap (λ hs. not (list_any (λ k. ltb v.pos k.pos && leb k.pos commit) hs)) e) vs)
-    ∙ sym (filter_map_is (held_at b) (λ h. not (is_outdated commit (tagged b vs) h)) vs)
+    ∙ sym (filter_map_is (as_held b) (λ h. not (is_outdated commit (tagged b vs) h)) vs)
 
 prune_from : (commit b : ℕ) (all : List Held) (rows done : List (List Version)) → length done ≡ length rows → ((k : ℕ) → k < length rows → versions_of (b + k) all ≡ versions_of (b + k) (tagged (b + k) (get_or rows k []))) → ((k : ℕ) → k < length rows → tagged (b + k) (get_or done k []) ≡ pruned commit (tagged (b + k) (get_or rows k []))) → flat_from b done ≡ filter (λ h. not (is_outdated commit all h)) (flat_from b rows)
 prune_from commit b all [] [] l same each = refl
@@ -153,10 +153,10 @@ of_same : (x : ℕ) (rows : List (List Version)) (vs : List Version) → x < len
 of_same x rows vs h e = ap (λ (r : List Version). versions_of x (tagged x r)) (get_or_read rows x vs h e []) ∙ sym (of_flat x rows h)
 
 pub read_row : (x pos : ℕ) (rows : List (List Version)) (vs : List Version) → x < length rows → vs ≡ get_or rows x vs → read_below (tagged x vs) x pos ≡ read_below (flat rows) x pos
-read_row x pos rows vs h e = ap (λ hs. option_map (λ (g : Held). g.value) (greatest (filter (λ g. ltb g.pos pos) hs))) (of_same x rows vs h e)
+read_row x pos rows vs h e = ap (λ hs. option_map (λ (g : Held). g.value) (newest (filter (λ g. ltb g.pos pos) hs))) (of_same x rows vs h e)
 
 pub latest_row : (x : ℕ) (rows : List (List Version)) (vs : List Version) → x < length rows → vs ≡ get_or rows x vs → latest (tagged x vs) x ≡ latest (flat rows) x
-latest_row x rows vs h e = ap (λ hs. option_map (λ (g : Held). g.value) (greatest hs)) (of_same x rows vs h e)
+latest_row x rows vs h e = ap (λ hs. option_map (λ (g : Held). g.value) (newest hs)) (of_same x rows vs h e)
 
 pub count_row : (x pos : ℕ) (rows : List (List Version)) (vs : List Version) → x < length rows → vs ≡ get_or rows x vs → count_up_to (tagged x vs) x pos ≡ count_up_to (flat rows) x pos
 count_row x pos rows vs h e = ap (λ hs. count_by (λ g. leb g.pos pos) hs) (of_same x rows vs h e)

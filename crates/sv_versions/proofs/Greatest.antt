@@ -1,9 +1,9 @@
--- The greatest of a list of values: of two lists, and with an element put in at its place.
+-- The newest of a list of values: of two lists, and with an element put in at its place.
 use Rattle.std.proofs.Common.{◌≡◌, ℕ, ◌<◌, ◌≤◌, ◌⊎◌, inl, inr, Bool, true, false, cond, ◌&&◌, eqb, ltb, List, [], ◌∷◌, ◌++◌, Option, Some, None, refl, sym, ap, ◌∙◌, subst, arith}
 use Rattle.std.specs.List.{filter}
 use Rattle.std.proofs.lemmas.Bool.{cond-true, cond-false, lt-ltb, le-ltb, eq-eqb, eqb-true, or_left, or_right, or_from, and_left, and_right, and_from, cases_lt, cases_order, cases_Bool, both_ways}
 use Rattle.std.proofs.lemmas.List.Elements.{filter-append}
-use Rattle.sv_versions.specs.Held.{Held, later_of, greatest, comes_before, put_in}
+use Rattle.sv_versions.specs.Held.{Held, later_of, newest, comes_before, put_in}
 
 abbrev pub joined : Option Held → Option Held → Option Held
 joined None o = o
@@ -35,9 +35,9 @@ joined_assoc (Some h) None c = refl
 joined_assoc (Some h) (Some k) None = refl
 joined_assoc (Some h) (Some k) (Some m) = ap (λ g. Some g) (assoc_cases h k m (cases_lt k.pos h.pos) (cases_lt m.pos k.pos))
 
-pub greatest-append : (hs ks : List Held) → greatest (hs ++ ks) ≡ joined (greatest hs) (greatest ks)
+pub greatest-append : (hs ks : List Held) → newest (hs ++ ks) ≡ joined (newest hs) (newest ks)
 greatest-append [] ks = refl
-greatest-append (h ∷ hs) ks = ap (λ o. Some (later_of h o)) (greatest-append hs ks) ∙ sym (joined_assoc (Some h) (greatest hs) (greatest ks))
+greatest-append (h ∷ hs) ks = ap (λ o. Some (later_of h o)) (greatest-append hs ks) ∙ sym (joined_assoc (Some h) (newest hs) (newest ks))
 
 -- none, or one that stands below a position
 abbrev pub IsBelow : Option Held → ℕ → Type 0
@@ -108,14 +108,14 @@ order k h = by_object (cases_order k.object h.object)
     by_object (inr (inl l)) = before (is_before k h (inl l)) (not_before h k (omega arith) (λ f. absurd (omega arith))) (λ f. absurd (omega arith))
     by_object (inr (inr l)) = behind (not_before k h (omega arith) (λ f. absurd (omega arith))) (is_before h k (inl l)) (λ f. absurd (omega arith))
 
-pub cond_taken : (t : Held → Bool) (k : Held) (b : Bool) (hs : List Held) → b ≡ true → t k ≡ true → greatest (filter t (cond b (k ∷ hs) hs)) ≡ joined (Some k) (greatest (filter t hs))
-cond_taken t k b hs e f = ap (λ l. greatest (filter t l)) (cond-true b _ _ e) ∙ ap greatest (cond-true (t k) _ _ f)
+pub cond_taken : (t : Held → Bool) (k : Held) (b : Bool) (hs : List Held) → b ≡ true → t k ≡ true → newest (filter t (cond b (k ∷ hs) hs)) ≡ joined (Some k) (newest (filter t hs))
+cond_taken t k b hs e f = ap (λ l. newest (filter t l)) (cond-true b _ _ e) ∙ ap newest (cond-true (t k) _ _ f)
 
-pub cond_left : (t : Held → Bool) (k : Held) (b : Bool) (hs : List Held) → b ≡ false → greatest (filter t (cond b (k ∷ hs) hs)) ≡ greatest (filter t hs)
-cond_left t k b hs e = ap (λ l. greatest (filter t l)) (cond-false b _ _ e)
+pub cond_left : (t : Held → Bool) (k : Held) (b : Bool) (hs : List Held) → b ≡ false → newest (filter t (cond b (k ∷ hs) hs)) ≡ newest (filter t hs)
+cond_left t k b hs e = ap (λ l. newest (filter t l)) (cond-false b _ _ e)
 
-pub cond_passed : (t : Held → Bool) (k : Held) (b : Bool) (hs : List Held) → t k ≡ false → greatest (filter t (cond b (k ∷ hs) hs)) ≡ greatest (filter t hs)
-cond_passed t k true hs e = ap greatest (cond-false (t k) _ _ e)
+pub cond_passed : (t : Held → Bool) (k : Held) (b : Bool) (hs : List Held) → t k ≡ false → newest (filter t (cond b (k ∷ hs) hs)) ≡ newest (filter t hs)
+cond_passed t k true hs e = ap newest (cond-false (t k) _ _ e)
 cond_passed t k false hs e = refl
 
 -- a test that asks for an object, and for no more than the position
@@ -129,10 +129,10 @@ added t h = cond (t h) (Some h) None
 
 module _ (x : ℕ) (t : Held → Bool) (asks : AsksFor x t) (h : Held) where
   abbrev front_of : List Held → Option Held
-  front_of hs = greatest (filter t (filter (λ k. comes_before k h) hs))
+  front_of hs = newest (filter t (filter (λ k. comes_before k h) hs))
 
   abbrev back_of : List Held → Option Held
-  back_of hs = greatest (filter t (filter (λ k. comes_before h k) hs))
+  back_of hs = newest (filter t (filter (λ k. comes_before h k) hs))
 
   front_below : (hs : List Held) (pos : ℕ) → ((g : Held) → t g ≡ true → comes_before g h ≡ true → g.pos < pos) → IsBelow (front_of hs) pos
   front_below [] pos l = tt
@@ -154,7 +154,7 @@ module _ (x : ℕ) (t : Held → Bool) (asks : AsksFor x t) (h : Held) where
   joined_none None = refl
   joined_none (Some g) = refl
 
-  framed : (k : Held) (hs : List Held) (f b g : Option Held) → front_of (k ∷ hs) ≡ f → back_of (k ∷ hs) ≡ b → greatest (filter t (k ∷ hs)) ≡ g → joined f (joined (added t h) b) ≡ joined g (added t h) → joined (front_of (k ∷ hs)) (joined (added t h) (back_of (k ∷ hs))) ≡ joined (greatest (filter t (k ∷ hs))) (added t h)
+  framed : (k : Held) (hs : List Held) (f b g : Option Held) → front_of (k ∷ hs) ≡ f → back_of (k ∷ hs) ≡ b → newest (filter t (k ∷ hs)) ≡ g → joined f (joined (added t h) b) ≡ joined g (added t h) → joined (front_of (k ∷ hs)) (joined (added t h) (back_of (k ∷ hs))) ≡ joined (newest (filter t (k ∷ hs))) (added t h)
   framed k hs f b g fe be ge core =
       ap (λ o. joined o (joined (added t h) (back_of (k ∷ hs)))) fe ∙ ap (λ o. joined f (joined (added t h) o)) be ∙ core
       ∙ ap (λ o. joined o (added t h)) (sym ge)
@@ -170,50 +170,50 @@ module _ (x : ℕ) (t : Held → Bool) (asks : AsksFor x t) (h : Held) where
       go (inr (inl z)) = absurd (both_ways _ n (is_before k h (inl z)))
       go (inr (inr z)) = absurd (both_ways _ (not_before g h (omega (arith, asks.of g p, asks.of k e)) (λ f. absurd (omega (arith, asks.of g p, asks.of k e)))) q)
 
-  one_more : (k : Held) (hs : List Held) → (t k ≡ true) ⊎ (t k ≡ false) → Order k h → joined (front_of hs) (joined (added t h) (back_of hs)) ≡ joined (greatest (filter t hs)) (added t h) → joined (front_of (k ∷ hs)) (joined (added t h) (back_of (k ∷ hs))) ≡ joined (greatest (filter t (k ∷ hs))) (added t h)
+  one_more : (k : Held) (hs : List Held) → (t k ≡ true) ⊎ (t k ≡ false) → Order k h → joined (front_of hs) (joined (added t h) (back_of hs)) ≡ joined (newest (filter t hs)) (added t h) → joined (front_of (k ∷ hs)) (joined (added t h) (back_of (k ∷ hs))) ≡ joined (newest (filter t (k ∷ hs))) (added t h)
   one_more k hs (inr e) o rest =
-      framed k hs (front_of hs) (back_of hs) (greatest (filter t hs)) (cond_passed t k _ _ e) (cond_passed t k _ _ e) (ap greatest (cond-false (t k) _ _ e)) rest
+      framed k hs (front_of hs) (back_of hs) (newest (filter t hs)) (cond_passed t k _ _ e) (cond_passed t k _ _ e) (ap newest (cond-false (t k) _ _ e)) rest
   one_more k hs (inl e) (before f n l) rest =
-      framed k hs (joined (Some k) (front_of hs)) (back_of hs) (joined (Some k) (greatest (filter t hs))) (cond_taken t k _ _ f e) (cond_left t k _ _ n) (ap greatest (cond-true (t k) _ _ e))
+      framed k hs (joined (Some k) (front_of hs)) (back_of hs) (joined (Some k) (newest (filter t hs))) (cond_taken t k _ _ f e) (cond_left t k _ _ n) (ap newest (cond-true (t k) _ _ e))
       (joined_assoc (Some k) (front_of hs) (joined (added t h) (back_of hs)) ∙ ap (λ o. joined (Some k) o) rest
-      ∙ sym (joined_assoc (Some k) (greatest (filter t hs)) (added t h)))
+      ∙ sym (joined_assoc (Some k) (newest (filter t hs)) (added t h)))
   one_more k hs (inl e) (behind n f l) rest =
-      framed k hs (front_of hs) (joined (Some k) (back_of hs)) (joined (Some k) (greatest (filter t hs))) (cond_left t k _ _ n) (cond_taken t k _ _ f e) (ap greatest (cond-true (t k) _ _ e))
+      framed k hs (front_of hs) (joined (Some k) (back_of hs)) (joined (Some k) (newest (filter t hs))) (cond_left t k _ _ n) (cond_taken t k _ _ f e) (ap newest (cond-true (t k) _ _ e))
       (ap (λ o. joined (front_of hs) o) (swapped (added t h) (back_of hs) k (added_below k e l))
       ∙ swapped (front_of hs) (joined (added t h) (back_of hs)) k (front_below hs k.pos (λ g p q. between k g e p q n l (order g h)))
       ∙ ap (λ o. joined (Some k) o) rest
-      ∙ sym (joined_assoc (Some k) (greatest (filter t hs)) (added t h)))
+      ∙ sym (joined_assoc (Some k) (newest (filter t hs)) (added t h)))
   one_more k hs (inl e) (same n m ob po) rest =
-      framed k hs (front_of hs) (back_of hs) (joined (Some k) (greatest (filter t hs))) (cond_left t k _ _ n) (cond_left t k _ _ m) (ap greatest (cond-true (t k) _ _ e))
-      (rest ∙ sym (joined_assoc (Some k) (greatest (filter t hs)) (added t h) ∙ keeps (t h) (sym (asks.by_place k h ob po) ∙ e)))
+      framed k hs (front_of hs) (back_of hs) (joined (Some k) (newest (filter t hs))) (cond_left t k _ _ n) (cond_left t k _ _ m) (ap newest (cond-true (t k) _ _ e))
+      (rest ∙ sym (joined_assoc (Some k) (newest (filter t hs)) (added t h) ∙ keeps (t h) (sym (asks.by_place k h ob po) ∙ e)))
     where
-      keeps : (b : Bool) → b ≡ true → joined (Some k) (joined (greatest (filter t hs)) (cond b (Some h) None)) ≡ joined (greatest (filter t hs)) (cond b (Some h) None)
-      keeps true z = absorbed k h (greatest (filter t hs)) (omega arith)
+      keeps : (b : Bool) → b ≡ true → joined (Some k) (joined (newest (filter t hs)) (cond b (Some h) None)) ≡ joined (newest (filter t hs)) (cond b (Some h) None)
+      keeps true z = absorbed k h (newest (filter t hs)) (omega arith)
       keeps false z = absurd (both_ways _ refl z)
 
-  put_core : (hs : List Held) → joined (front_of hs) (joined (added t h) (back_of hs)) ≡ joined (greatest (filter t hs)) (added t h)
+  put_core : (hs : List Held) → joined (front_of hs) (joined (added t h) (back_of hs)) ≡ joined (newest (filter t hs)) (added t h)
   put_core [] = joined_none (added t h)
   put_core (k ∷ hs) = one_more k hs (cases_Bool (t k)) (order k h) (put_core hs)
 
-  added_first : (b : Bool) (hs : List Held) → greatest (cond b (h ∷ hs) hs) ≡ joined (cond b (Some h) None) (greatest hs)
+  added_first : (b : Bool) (hs : List Held) → newest (cond b (h ∷ hs) hs) ≡ joined (cond b (Some h) None) (newest hs)
   added_first true hs = refl
   added_first false hs = refl
 
-  added_alone : (b : Bool) → greatest (cond b (h ∷ []) []) ≡ cond b (Some h) None
+  added_alone : (b : Bool) → newest (cond b (h ∷ []) []) ≡ cond b (Some h) None
   added_alone true = refl
   added_alone false = refl
 
-  pub found_put : (hs : List Held) → greatest (filter t (put_in hs h)) ≡ joined (greatest (filter t hs)) (added t h)
+  pub found_put : (hs : List Held) → newest (filter t (put_in hs h)) ≡ joined (newest (filter t hs)) (added t h)
   found_put hs =
       let fronts = filter (λ k. comes_before k h) hs in
       let backs = filter (λ k. comes_before h k) hs in
-      ap greatest (filter-append t fronts (h ∷ backs))
+      ap newest (filter-append t fronts (h ∷ backs))
       ∙ greatest-append (filter t fronts) (filter t (h ∷ backs))
-      ∙ ap (λ o. joined (greatest (filter t fronts)) o) (added_first (t h) (filter t backs))
+      ∙ ap (λ o. joined (newest (filter t fronts)) o) (added_first (t h) (filter t backs))
       ∙ put_core hs
 
-  pub found_end : (hs : List Held) → greatest (filter t (hs ++ h ∷ [])) ≡ joined (greatest (filter t hs)) (added t h)
+  pub found_end : (hs : List Held) → newest (filter t (hs ++ h ∷ [])) ≡ joined (newest (filter t hs)) (added t h)
   found_end hs =
-      ap greatest (filter-append t hs (h ∷ []))
+      ap newest (filter-append t hs (h ∷ []))
       ∙ greatest-append (filter t hs) (filter t (h ∷ []))
-      ∙ ap (λ o. joined (greatest (filter t hs)) o) (added_alone (t h))
+      ∙ ap (λ o. joined (newest (filter t hs)) o) (added_alone (t h))

@@ -1,3 +1,4 @@
+-- The lemmas of this crate, file by file.
 pub mod Lists
 pub mod Rows
 pub mod Puts

@@ -7,7 +7,7 @@ use Rattle.std.proofs.lemmas.List.Folds.{list_any_at, list_any_none}
 use Rattle.std.proofs.lemmas.List.Elements.{filter_agree}
 use Rattle.sv_versions.specs.declared.history.Version.{Version}
 use Rattle.sv_versions.specs.Held.{is_outdated, pruned, count_up_to}
-use Rattle.sv_versions.specs.Histories.{AscendsFrom, IsCountUpTo, held_at, tagged}
+use Rattle.sv_versions.specs.Histories.{AscendsFrom, IsCountUpTo, as_held, tagged}
 use Rattle.sv_versions.proofs.Lists.{filter_back, filter_map_is, list_any_map_is}
 use Rattle.sv_versions.proofs.Rows.{own, ordered, not_after, counted}
 
@@ -34,15 +34,15 @@ between_cases commit count pos vs d a c n (inr up_to) =
 between_is : (commit count pos : ℕ) (vs : List Version) (d : Version) → AscendsFrom 0 vs → IsCountUpTo commit vs count → 0 < count → list_any (stands_between pos commit) vs ≡ ltb pos (get_or vs (count - 1) d).pos
 between_is commit count pos vs d a c n = between_cases commit count pos vs d a c n (cases_lt pos (get_or vs (count - 1) d).pos)
 
-outdated_is : (commit x : ℕ) (vs : List Version) (v : Version) → is_outdated commit (tagged x vs) (held_at x v) ≡ list_any (stands_between v.pos commit) vs
+outdated_is : (commit x : ℕ) (vs : List Version) (v : Version) → is_outdated commit (tagged x vs) (as_held x v) ≡ list_any (stands_between v.pos commit) vs
 outdated_is commit x vs v =
     ap (λ hs. list_any (λ k. ltb v.pos k.pos && leb k.pos commit) hs) (own x vs)
-    ∙ list_any_map_is (held_at x) (λ k. ltb v.pos k.pos && leb k.pos commit) vs
+    ∙ list_any_map_is (as_held x) (λ k. ltb v.pos k.pos && leb k.pos commit) vs
 
 pruned_by : (commit x : ℕ) (vs : List Version) (t : Version → Bool) → ((v : Version) → t v ≡ not (list_any (stands_between v.pos commit) vs)) → tagged x (filter t vs) ≡ pruned commit (tagged x vs)
 pruned_by commit x vs t h =
     ap (λ ws. tagged x ws) (filter_agree t _ (λ v. h v ∙ ap not (sym (outdated_is commit x vs v))) vs)
-    ∙ sym (filter_map_is (held_at x) (λ h. not (is_outdated commit (tagged x vs) h)) vs)
+    ∙ sym (filter_map_is (as_held x) (λ h. not (is_outdated commit (tagged x vs) h)) vs)
 
 flipped : (a b : ℕ) → (a < b) ⊎ (b ≤ a) → leb b a ≡ not (ltb a b)
 flipped a b (inl h) = lt-leb b a h ∙ sym (ap not (lt-ltb a b h))

@@ -9,7 +9,7 @@ use Rattle.std.proofs.lemmas.List.Sums.{count_by-le-length}
 use Rattle.sv_world.specs.declared.world.ObjectId.{ObjectId}
 use Rattle.sv_versions.specs.declared.history.Version.{Version}
 use Rattle.sv_versions.specs.Held.{Held, is_outdated, pruned, count_up_to}
-use Rattle.sv_versions.specs.Histories.{held_at, tagged, flat, is_listed, AreListed, ArePruned}
+use Rattle.sv_versions.specs.Histories.{as_held, tagged, flat, is_listed, AreListed, ArePruned}
 use Rattle.sv_versions.proofs.Lists.{filter_back}
 use Rattle.sv_versions.proofs.Rows.{own}
 use Rattle.sv_versions.proofs.Flats.{of_flat, of_flat_past, prune_flat}
@@ -39,14 +39,14 @@ pruned_twice commit hs =
 pub pruned_alone : (commit x : ℕ) (vs : List Version) → length vs ≤ 1 → pruned commit (tagged x vs) ≡ tagged x vs
 pruned_alone commit x [] h = refl
 pruned_alone commit x (v ∷ []) h =
-    cond-true (not (is_outdated commit (tagged x (v ∷ [])) (held_at x v))) _ _
+    cond-true (not (is_outdated commit (tagged x (v ∷ [])) (as_held x v))) _ _
     (not_from_false _ (ap (λ hs. list_any (λ k. ltb v.pos k.pos && leb k.pos commit) hs) (own x (v ∷ []))
     ∙ or_from _ _ (and_left _ _ (le-ltb v.pos v.pos (omega arith))) refl))
 pruned_alone commit x (v ∷ (w ∷ vs)) h = absurd (omega arith)
 
 few_alone : (commit x : ℕ) (vs : List Version) → length vs ≤ 1 → count_up_to (tagged x vs) x commit ≤ 1
 few_alone commit x vs h =
-    omega (arith, ap (λ hs. count_by (λ g. leb g.pos commit) hs) (own x vs), count_by-le-length (λ g. leb g.pos commit) (tagged x vs), length-map vs (held_at x))
+    omega (arith, ap (λ hs. count_by (λ g. leb g.pos commit) hs) (own x vs), count_by-le-length (λ g. leb g.pos commit) (tagged x vs), length-map vs (as_held x))
 
 pub pruned_none : (commit : ℕ) (rows : List (List Version)) → ArePruned commit [] rows rows
 pruned_none commit rows = record {

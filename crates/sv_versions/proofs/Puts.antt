@@ -5,7 +5,7 @@ use Rattle.std.proofs.lemmas.Bool.{lt-ltb, le-ltb, eq-eqb}
 use Rattle.std.proofs.lemmas.List.{map-append, set_split}
 use Rattle.sv_versions.specs.declared.history.Version.{Version}
 use Rattle.sv_versions.specs.Held.{comes_before, put_in}
-use Rattle.sv_versions.specs.Histories.{AscendsFrom, IsCountUpTo, EndsAt, EndsApart, held_at, tagged}
+use Rattle.sv_versions.specs.Histories.{AscendsFrom, IsCountUpTo, EndsAt, EndsApart, as_held, tagged}
 use Rattle.sv_versions.proofs.Lists.{filter_front, filter_back, filter_map_is}
 use Rattle.sv_versions.proofs.Rows.{not_after, ordered}
 
@@ -22,20 +22,20 @@ same_object : (x a b : ℕ) → (ltb x x || (eqb x x && ltb a b)) ≡ ltb a b
 same_object x a b =
     ap (λ t. t || (eqb x x && ltb a b)) (le-ltb x x (omega arith)) ∙ ap (λ t. t && ltb a b) (eq-eqb x x refl)
 
-pub put_is : (x pos i j : ℕ) (vs : List Version) (w : Version) → w.pos ≡ pos → Parts pos vs i j → tagged x (take i vs ++ w ∷ drop j vs) ≡ put_in (tagged x vs) (held_at x w)
+pub put_is : (x pos i j : ℕ) (vs : List Version) (w : Version) → w.pos ≡ pos → Parts pos vs i j → tagged x (take i vs ++ w ∷ drop j vs) ≡ put_in (tagged x vs) (as_held x w)
 put_is x pos i j vs w e p =
-    let h = held_at x w in
+    let h = as_held x w in
     let front : filter (λ k. comes_before k h) (tagged x vs) ≡ tagged x (take i vs) =
-    filter_map_is (held_at x) (λ k. comes_before k h) vs
-    ∙ ap (λ ws. tagged x ws) (filter_front (λ v. comes_before (held_at x v) h) vs i
+    filter_map_is (as_held x) (λ k. comes_before k h) vs
+    ∙ ap (λ ws. tagged x ws) (filter_front (λ v. comes_before (as_held x v) h) vs i
     (λ k d l n. same_object x _ _ ∙ lt-ltb _ _ (omega (arith, e, p.before k d l n)))
     (λ k d l n. same_object x _ _ ∙ le-ltb _ _ (omega (arith, e, p.not_before k d l n)))) in
     let back : filter (λ k. comes_before h k) (tagged x vs) ≡ tagged x (drop j vs) =
-    filter_map_is (held_at x) (λ k. comes_before h k) vs
-    ∙ ap (λ ws. tagged x ws) (filter_back (λ v. comes_before h (held_at x v)) vs j
+    filter_map_is (as_held x) (λ k. comes_before h k) vs
+    ∙ ap (λ ws. tagged x ws) (filter_back (λ v. comes_before h (as_held x v)) vs j
     (λ k d l n. same_object x _ _ ∙ le-ltb _ _ (omega (arith, e, p.not_behind k d l n)))
     (λ k d l n. same_object x _ _ ∙ lt-ltb _ _ (omega (arith, e, p.behind k d l n)))) in
-    map-append (held_at x) (take i vs) (w ∷ drop j vs)
+    map-append (as_held x) (take i vs) (w ∷ drop j vs)
     ∙ ap (λ hs. hs ++ h ∷ tagged x (drop j vs)) (sym front) ∙ ap (λ hs. filter (λ k. comes_before k h) (tagged x vs) ++ h ∷ hs) (sym back)
 
 ascends_dropped : (low b j : ℕ) (vs : List Version) → AscendsFrom low vs → ((k : ℕ) (d : Version) → j ≤ k → k < length vs → b ≤ (get_or vs k d).pos) → AscendsFrom b (drop j vs)
@@ -87,7 +87,7 @@ replaced vs (suc count) w n l = let e : suc count - 1 ≡ count = omega arith in
 ascends_at : (i j : ℕ) (vs : List Version) (w : Version) → AscendsFrom 0 vs → Parts w.pos vs i j → AscendsFrom 0 (take i vs ++ w ∷ drop j vs)
 ascends_at i j vs w a p = put_ascends 0 i j vs w a (omega arith) p.across p.within p.before p.behind
 
-pub put_there : (x count : ℕ) (vs : List Version) (w : Version) → AscendsFrom 0 vs → IsCountUpTo w.pos vs count → EndsAt w.pos vs count → tagged x (set vs (count - 1) w) ≡ put_in (tagged x vs) (held_at x w)
+pub put_there : (x count : ℕ) (vs : List Version) (w : Version) → AscendsFrom 0 vs → IsCountUpTo w.pos vs count → EndsAt w.pos vs count → tagged x (set vs (count - 1) w) ≡ put_in (tagged x vs) (as_held x w)
 put_there x count vs w a c e =
     ap (λ ws. tagged x ws) (replaced vs count w e.some c.within) ∙ put_is x w.pos (count - 1) count vs w refl (parts_equal w.pos count vs a c e)
 
@@ -95,7 +95,7 @@ pub ascends_there : (count : ℕ) (vs : List Version) (w : Version) → AscendsF
 ascends_there count vs w a c e =
     subst (λ (ws : List Version). AscendsFrom 0 ws) (sym (replaced vs count w e.some c.within)) (ascends_at (count - 1) count vs w a (parts_equal w.pos count vs a c e))
 
-pub put_new : (x count : ℕ) (vs : List Version) (w : Version) → AscendsFrom 0 vs → IsCountUpTo w.pos vs count → EndsApart w.pos vs count → tagged x (insert vs count w) ≡ put_in (tagged x vs) (held_at x w)
+pub put_new : (x count : ℕ) (vs : List Version) (w : Version) → AscendsFrom 0 vs → IsCountUpTo w.pos vs count → EndsApart w.pos vs count → tagged x (insert vs count w) ≡ put_in (tagged x vs) (as_held x w)
 put_new x count vs w a c e = put_is x w.pos count count vs w refl (parts_apart w.pos count vs a c e)
 
 pub ascends_new : (count : ℕ) (vs : List Version) (w : Version) → AscendsFrom 0 vs → IsCountUpTo w.pos vs count → EndsApart w.pos vs count → AscendsFrom 0 (insert vs count w)

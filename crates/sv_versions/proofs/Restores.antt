@@ -7,7 +7,7 @@ use Rattle.std.proofs.Math.Seq.{split_at}
 use Rattle.std.proofs.lemmas.Grind.{flat_map-append}
 use Rattle.sv_versions.specs.declared.history.Version.{Version}
 use Rattle.sv_versions.specs.Held.{Held, stood_at, restored}
-use Rattle.sv_versions.specs.Histories.{AscendsFrom, IsCountUpTo, EndsAt, EndsApart, held_at, tagged, flat_from, flat, stood, row_restored}
+use Rattle.sv_versions.specs.Histories.{AscendsFrom, IsCountUpTo, EndsAt, EndsApart, as_held, tagged, flat_from, flat, stood, row_restored}
 use Rattle.sv_versions.proofs.Prunes.{ascends_lower}
 use Rattle.sv_versions.proofs.Puts.{Parts, parts_apart, parts_equal, replaced}
 
@@ -115,11 +115,11 @@ restored_shorter pos was (v ∷ vs) =
 tagged_back : (x pos : ℕ) (was : Option (List ℤ)) (vs : List Version) → tagged x (row_restored pos was vs) ≡ restored x pos was (tagged x vs)
 tagged_back x pos was [] = refl
 tagged_back x pos was (v ∷ vs) =
-    map-append (held_at x) (cond (eqb v.pos pos) (stood pos was) (v ∷ [])) (row_restored pos was vs)
+    map-append (as_held x) (cond (eqb v.pos pos) (stood pos was) (v ∷ [])) (row_restored pos was vs)
     ∙ ap (λ (hs : List Held). hs ++ tagged x (row_restored pos was vs)) (one (eqb v.pos pos) was)
-    ∙ ap (λ (hs : List Held). cond (eqb x x && eqb v.pos pos) (stood_at x pos was) (held_at x v ∷ []) ++ hs) (tagged_back x pos was vs)
+    ∙ ap (λ (hs : List Held). cond (eqb x x && eqb v.pos pos) (stood_at x pos was) (as_held x v ∷ []) ++ hs) (tagged_back x pos was vs)
   where
-    one : (b : Bool) (o : Option (List ℤ)) → tagged x (cond b (stood pos o) (v ∷ [])) ≡ cond (eqb x x && b) (stood_at x pos o) (held_at x v ∷ [])
+    one : (b : Bool) (o : Option (List ℤ)) → tagged x (cond b (stood pos o) (v ∷ [])) ≡ cond (eqb x x && b) (stood_at x pos o) (as_held x v ∷ [])
     one true None = rw (eq-eqb x x refl) refl
     one true (Some value) = rw (eq-eqb x x refl) refl
     one false o = rw (eq-eqb x x refl) refl
@@ -128,7 +128,7 @@ other_stays : (x b pos : ℕ) (was : Option (List ℤ)) (vs : List Version) → 
 other_stays x b pos was [] ne = refl
 other_stays x b pos was (v ∷ vs) ne =
     ap (λ (hs : List Held). hs ++ restored x pos was (tagged b vs)) (cond-false (eqb b x && eqb v.pos pos) _ _ (and_left _ _ (ne_eqb b x ne)))
-    ∙ ap (λ hs. held_at b v ∷ hs) (other_stays x b pos was vs ne)
+    ∙ ap (λ hs. as_held b v ∷ hs) (other_stays x b pos was vs ne)
 
 both_back : (x pos : ℕ) (was : Option (List ℤ)) (hs ks : List Held) → restored x pos was (hs ++ ks) ≡ restored x pos was hs ++ restored x pos was ks
 both_back x pos was hs ks = flat_map-append (λ (h : Held). cond (eqb h.object x && eqb h.pos pos) (stood_at x pos was) (h ∷ [])) hs ks

@@ -5,8 +5,8 @@ use Rattle.std.proofs.lemmas.Bool.{cond-true, cond-false, eq-eqb, lt-ltb, le-ltb
 use Rattle.std.proofs.lemmas.List.{get_or_default, take_all, length-take-le, length-map}
 use Rattle.std.proofs.lemmas.List.Sums.{length-filter}
 use Rattle.sv_versions.specs.declared.history.Version.{Version}
-use Rattle.sv_versions.specs.Held.{Held, versions_of, later_of, greatest, found_below, read_below, latest, count_up_to}
-use Rattle.sv_versions.specs.Histories.{AscendsFrom, IsCountUpTo, held_at, tagged}
+use Rattle.sv_versions.specs.Held.{Held, versions_of, later_of, newest, found_below, read_below, latest, count_up_to}
+use Rattle.sv_versions.specs.Histories.{AscendsFrom, IsCountUpTo, as_held, tagged}
 use Rattle.sv_versions.proofs.Lists.{filter_front, filter_map_is}
 
 pub at_least : (low : ℕ) (vs : List Version) (k : ℕ) (d : Version) → AscendsFrom low vs → k < length vs → low ≤ (get_or vs k d).pos
@@ -39,40 +39,40 @@ count_from pos vs count e a within last high = record {
 
 pub own : (x : ℕ) (vs : List Version) → versions_of x (tagged x vs) ≡ tagged x vs
 own x [] = refl
-own x (v ∷ vs) = cond-true (eqb x x) _ _ (eq-eqb x x refl) ∙ ap (λ hs. held_at x v ∷ hs) (own x vs)
+own x (v ∷ vs) = cond-true (eqb x x) _ _ (eq-eqb x x refl) ∙ ap (λ hs. as_held x v ∷ hs) (own x vs)
 
-pub greatest_front : (low : ℕ) (vs : List Version) (n x : ℕ) (d : Version) → AscendsFrom low vs → n < length vs → greatest (tagged x (take (suc n) vs)) ≡ Some (held_at x (get_or vs n d))
+pub greatest_front : (low : ℕ) (vs : List Version) (n x : ℕ) (d : Version) → AscendsFrom low vs → n < length vs → newest (tagged x (take (suc n) vs)) ≡ Some (as_held x (get_or vs n d))
 greatest_front low [] n x d a h = absurd (omega arith)
 greatest_front low (v ∷ vs) zero x d a h = refl
 greatest_front low (v ∷ vs) (suc n) x d a h =
     let w = get_or vs n d in
     let apart : v.pos ≤ w.pos = omega (arith, at_least (v.pos + 1) vs n d a.1 (omega arith)) in
-    ap (λ o. Some (later_of (held_at x v) o)) (greatest_front (v.pos + 1) vs n x d a.1 (omega arith))
-    ∙ ap (λ h. Some h) (cond-false (ltb w.pos v.pos) (held_at x v) (held_at x w) (le-ltb w.pos v.pos apart))
+    ap (λ o. Some (later_of (as_held x v) o)) (greatest_front (v.pos + 1) vs n x d a.1 (omega arith))
+    ∙ ap (λ h. Some h) (cond-false (ltb w.pos v.pos) (as_held x v) (as_held x w) (le-ltb w.pos v.pos apart))
 
 pub below_is : (x pos count : ℕ) (vs : List Version) → 0 < pos → IsCountUpTo (pos - 1) vs count → filter (λ h. ltb h.pos pos) (versions_of x (tagged x vs)) ≡ tagged x (take count vs)
 below_is x pos count vs h c =
     ap (λ hs. filter (λ h. ltb h.pos pos) hs) (own x vs)
-    ∙ filter_map_is (held_at x) (λ h. ltb h.pos pos) vs
+    ∙ filter_map_is (as_held x) (λ h. ltb h.pos pos) vs
     ∙ ap (λ ws. tagged x ws) (filter_front (λ v. ltb v.pos pos) vs count
     (λ k d l w. lt-ltb _ pos (omega (arith, c.low k d l)))
     (λ k d l w. le-ltb _ pos (omega (arith, c.high k d l w))))
 
-pub found_below_last : (x pos count : ℕ) (vs : List Version) (d : Version) → 0 < pos → 0 < count → AscendsFrom 0 vs → IsCountUpTo (pos - 1) vs count → found_below (tagged x vs) x pos ≡ Some (held_at x (get_or vs (count - 1) d))
+pub found_below_last : (x pos count : ℕ) (vs : List Version) (d : Version) → 0 < pos → 0 < count → AscendsFrom 0 vs → IsCountUpTo (pos - 1) vs count → found_below (tagged x vs) x pos ≡ Some (as_held x (get_or vs (count - 1) d))
 found_below_last x pos zero vs d h n a c = absurd (omega arith)
 found_below_last x pos (suc count) vs d h n a c =
     let e : suc count - 1 ≡ count = omega arith in
-    rw e (ap greatest (below_is x pos (suc count) vs h c) ∙ greatest_front 0 vs count x d a (omega (arith, c.within)))
+    rw e (ap newest (below_is x pos (suc count) vs h c) ∙ greatest_front 0 vs count x d a (omega (arith, c.within)))
 
 pub found_below_none : (x pos : ℕ) (vs : List Version) → 0 < pos → IsCountUpTo (pos - 1) vs 0 → found_below (tagged x vs) x pos ≡ None
-found_below_none x pos vs h c = ap greatest (below_is x pos 0 vs h c)
+found_below_none x pos vs h c = ap newest (below_is x pos 0 vs h c)
 
 nothing_below_zero : (hs : List Held) → filter (λ h. ltb h.pos 0) hs ≡ []
 nothing_below_zero [] = refl
 nothing_below_zero (h ∷ hs) = cond-false (ltb h.pos 0) _ _ (le-ltb h.pos 0 (omega arith)) ∙ nothing_below_zero hs
 
 pub found_below_zero : (x : ℕ) (hs : List Held) → found_below hs x 0 ≡ None
-found_below_zero x hs = ap greatest (nothing_below_zero (versions_of x hs))
+found_below_zero x hs = ap newest (nothing_below_zero (versions_of x hs))
 
 pub read_last : (x pos count : ℕ) (vs : List Version) (w : Version) → (0 < count) → 0 < pos → AscendsFrom 0 vs → IsCountUpTo (pos - 1) vs count → w ≡ get_or vs (count - 1) w → Some w.value ≡ read_below (tagged x vs) x pos
 read_last x pos count vs w n h a c e =
@@ -91,10 +91,10 @@ latest_last x zero vs w n l a e = absurd (omega arith)
 latest_last x (suc count) vs w n l a e =
     let one : suc count - 1 ≡ count = omega arith in
     let whole : take (suc count) vs ≡ vs = take_all (suc count) vs (omega arith) in
-    let front : greatest (tagged x (take (suc count) vs)) ≡ Some (held_at x (get_or vs count w)) = greatest_front 0 vs count x w a (omega arith) in
+    let front : newest (tagged x (take (suc count) vs)) ≡ Some (as_held x (get_or vs count w)) = greatest_front 0 vs count x w a (omega arith) in
     let here : w ≡ get_or vs count w = rw one at e in
     ap (λ (v : Version). Some v.value) here
-    ∙ sym (ap (λ o. option_map (λ (h : Held). h.value) o) (ap greatest (own x vs ∙ ap (λ ws. tagged x ws) (sym whole)) ∙ front))
+    ∙ sym (ap (λ o. option_map (λ (h : Held). h.value) o) (ap newest (own x vs ∙ ap (λ ws. tagged x ws) (sym whole)) ∙ front))
 
 pub latest_none : (x : ℕ) (vs : List Version) → length vs ≡ 0 → None ≡ latest (tagged x vs) x
 latest_none x [] z = refl
@@ -103,9 +103,9 @@ latest_none x (v ∷ vs) z = absurd (omega arith)
 pub counted : (x pos count : ℕ) (vs : List Version) → IsCountUpTo pos vs count → count ≡ count_up_to (tagged x vs) x pos
 counted x pos count vs c =
     let kept : filter (λ h. leb h.pos pos) (tagged x vs) ≡ tagged x (take count vs) =
-    filter_map_is (held_at x) (λ h. leb h.pos pos) vs
+    filter_map_is (as_held x) (λ h. leb h.pos pos) vs
     ∙ ap (λ ws. tagged x ws) (filter_front (λ v. leb v.pos pos) vs count
     (λ k d l w. le-leb _ pos (c.low k d l)) (λ k d l w. lt-leb _ pos (c.high k d l w))) in
-    sym (length-take-le count vs c.within) ∙ sym (length-map (take count vs) (held_at x)) ∙ ap length (sym kept)
+    sym (length-take-le count vs c.within) ∙ sym (length-map (take count vs) (as_held x)) ∙ ap length (sym kept)
     ∙ length-filter (λ h. leb h.pos pos) (tagged x vs)
     ∙ ap (λ hs. count_by (λ h. leb h.pos pos) hs) (sym (own x vs))

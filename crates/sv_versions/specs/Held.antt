@@ -23,13 +23,13 @@ later_of h None = h
 later_of h (Some k) = if nat_lt k.pos h.pos then h else k
 
 -- the value at the greatest position, the last one got among equals
-abbrev pub greatest : List Held → Option Held
-greatest [] = None
-greatest (h ∷ hs) = Some (later_of h (greatest hs))
+abbrev pub newest : List Held → Option Held
+newest [] = None
+newest (h ∷ hs) = Some (later_of h (newest hs))
 
 -- what a reading of an object below a position finds
 abbrev pub found_below : List Held → ℕ → ℕ → Option Held
-found_below held x pos = greatest (filter (λ h. nat_lt h.pos pos) (versions_of x held))
+found_below held x pos = newest (filter (λ h. nat_lt h.pos pos) (versions_of x held))
 
 -- the value of an object at the greatest position below one
 abbrev pub read_below : List Held → ℕ → ℕ → Option (List ℤ)
@@ -37,7 +37,7 @@ read_below held x pos = option_map (λ h. h.value) (found_below held x pos)
 
 -- what a reading of an object at its greatest position finds
 abbrev pub found_latest : List Held → ℕ → Option Held
-found_latest held x = greatest (versions_of x held)
+found_latest held x = newest (versions_of x held)
 
 -- the value of an object at its greatest position
 abbrev pub latest : List Held → ℕ → Option (List ℤ)

@@ -26,12 +26,12 @@ pub record EndsAt (pos : ℕ) (versions : List Version) (count : ℕ) : Type 0 w
 pub record EndsApart (pos : ℕ) (versions : List Version) (count : ℕ) : Type 0 where
   pub apart : (d : Version) → 0 < count → (slice_index_or versions (count - 1) d).pos ≡ pos → ⊥
 
-abbrev pub held_at : ℕ → Version → Held
-held_at x v = record { object = x; pos = v.pos; value = v.value }
+abbrev pub as_held : ℕ → Version → Held
+as_held x v = record { object = x; pos = v.pos; value = v.value }
 
 -- the versions of one object
 abbrev pub tagged : ℕ → List Version → List Held
-tagged x versions = map (held_at x) versions
+tagged x versions = map (as_held x) versions
 
 -- the versions of all objects from one on
 abbrev pub flat_from : ℕ → List (List Version) → List Held

@@ -1,3 +1,4 @@
+-- The definitions of this crate, file by file.
 pub mod Held
 pub mod Histories
 pub mod Undone

@@ -1,3 +1,4 @@
+//! Counting the first versions of an object.
 ghost use Rattle.std.specs.Prelude.{◌≤◌, length, MatchBool};
 ghost use Rattle.sv_versions.specs.Histories.{AscendsFrom, IsCountUpTo, EndsAt, EndsApart};
 

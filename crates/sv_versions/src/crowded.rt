@@ -1,3 +1,4 @@
+//! The objects that may have more than one version.
 ghost use Rattle.std.specs.Prelude.{◌≡◌, ℕ, true, nat_lt, filter, length, slice_index_or, [], OnOk};
 ghost use Rattle.sv_versions.specs.Histories.{ArePruned, is_listed};
 

@@ -1,3 +1,4 @@
+//! The versions of one object.
 ghost use Rattle.std.specs.Prelude.{◌≡◌, ℕ, [], ◌++◌, ◌∷◌, ◌+◌, ◌-◌, ◌<◌, ◌≤◌, set, remove, length, option_copied, IfOk, OnOk, OnErr};
 ghost use Rattle.sv_versions.specs.Held.{read_below, latest, put_in, pruned, count_up_to};
 
@@ -34,7 +35,7 @@ impl Model for History {
 }
 
 impl History {
-    ghost use Rattle.sv_versions.specs.Histories.{held_at, tagged, row_restored};
+    ghost use Rattle.sv_versions.specs.Histories.{as_held, tagged, row_restored};
 
     pub fn new(alloc: Global) -> History
         ensures { result ≡ [] }
@@ -82,7 +83,7 @@ impl History {
 
     /// Holds a value at a position, and returns the one that stood there.
     pub fn put(&mut self, pos: u32, value: Value) -> Result<Option<Value>, AllocError>
-        ensures ok { OnOk result ((x : ℕ) → tagged x self.new ≡ put_in (tagged x self.old) (held_at x (record { pos = pos; value = value }))) }
+        ensures ok { OnOk result ((x : ℕ) → tagged x self.new ≡ put_in (tagged x self.old) (as_held x (record { pos = pos; value = value }))) }
         ensures undone { IfOk result (λ was. row_restored pos was self.new ≡ self.old) }
         ensures err { OnErr result (self.new ≡ self.old) }
         ensures longer { length self.new ≤ length self.old + 1 }

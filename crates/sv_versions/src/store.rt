@@ -1,3 +1,4 @@
+//! The store of all versions.
 ghost use Rattle.std.specs.Prelude.{◌≡◌, ℕ, [], ◌∷◌, ◌++◌, ◌<◌, ◌≤◌, option_copied, IfOk, OnOk, OnErr};
 ghost use Rattle.sv_versions.specs.Held.{read_below, latest, put_in, pruned, restored, count_up_to, AnswersAbove};
 ghost use Rattle.sv_versions.specs.Undone.{undone};
@@ -56,6 +57,11 @@ impl Versions {
         ensures { result ≡ self.now.shape }
     {
         self.shape
+    }
+
+    /// Where its memory comes from.
+    pub fn alloc(&self) -> Global {
+        self.alloc
     }
 
     /// The value of an object at the greatest position below one, and `None` where none is held there.

@@ -1,3 +1,4 @@
+//! What is noted of puts, so that they can be taken back.
 use std::alloc::Global;
 use std::marker::Model;
 use sv_world::{ObjectId, Value};

@@ -1,3 +1,4 @@
+//! Changes of views.
 use sv_world::{ClientId, ObjectId, Text, Value};
 
 /// A client's view of an object that an event of its trace changed.

@@ -1,3 +1,4 @@
+//! The line that tells a change.
 ghost use Rattle.std.specs.Prelude.{◌≡◌, ◌++◌, string_bytes, IfOk, OnOk};
 ghost use Rattle.sv_watch.specs.Told.{numbers_text, view_text, change_line};
 ghost use Rattle.std.specs.Fmt.{signed_decimal};

@@ -1,3 +1,4 @@
+//! A stored callback that tells changes.
 ghost use Rattle.std.specs.Prelude.{◌≡◌, ◌++◌, map, take, length, vec_len, OnOk, OnErr, All};
 ghost use Rattle.std.specs.Result.{ForOk};
 ghost use Rattle.sv_watch.specs.Told.{change_line, IsChangeIn};

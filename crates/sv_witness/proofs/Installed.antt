@@ -17,7 +17,7 @@ use Rattle.sv_sequencer.specs.Step.{entry_of}
 use Rattle.sv_witness.specs.declared.report.Dispute.{Dispute}
 use Rattle.sv_witness.specs.Reports.{agreed_history, agreed_commit}
 use Rattle.sv_witness.specs.Disputes.{with_disputes}
-use Rattle.sv_witness.specs.Kept.{RowView, kept_at, counts, counted_results, AreOnce, with_values, agreed_results, new_disputes}
+use Rattle.sv_witness.specs.Kept.{RowView, kept_at, counts_as_report, counted_results, AreOnce, with_values, agreed_results, new_disputes}
 use Rattle.sv_witness.specs.Standing.{Standing, Replied}
 use Rattle.sv_witness.specs.Witnessed.{agreed, witnessed_reply}
 use Rattle.sv_witness.proofs.Noted.{once-filter}
@@ -41,7 +41,7 @@ module _ (old : Core) (rows : List RowView) (ds : List Dispute) (h : List Entry)
       (agreed-good (core_rules old) h s k (results_in q) joined good rows (queue_of old))
 
   pub install-once : AreOnce counted
-  install-once = subst AreOnce (sym count) (once-filter (λ p. counts (agreed_commit h) rows k p) (results_in q) (once (core_rules old) h s k (results_in q) joined good))
+  install-once = subst AreOnce (sym count) (once-filter (λ p. counts_as_report (agreed_commit h) rows k p) (results_in q) (once (core_rules old) h s k (results_in q) joined good))
 
   module _ (core : Core) (x : Answer) (carried : CarriedOut old core (agreed_history h) s (requests.Done brought) decisions.Note x) where
     agreed-carried : CarriedOut old core (agreed_history h) s

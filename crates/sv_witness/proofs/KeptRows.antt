@@ -14,7 +14,7 @@ use Rattle.sv_witness.specs.declared.report.Report.{Report}
 use Rattle.sv_witness.specs.declared.report.Dispute.{Dispute}
 use Rattle.sv_witness.specs.Reports.{is_by}
 use Rattle.sv_witness.specs.Disputes.{dispute_in}
-use Rattle.sv_witness.specs.Kept.{RowView, no_row, kept_at, HasRoomFor, AreOnce, report_by, counts, counted_results, with_values, agrees, brings, agreed_results, new_disputes}
+use Rattle.sv_witness.specs.Kept.{RowView, no_row, kept_at, HasRoomFor, AreOnce, report_by, counts_as_report, counted_results, with_values, agrees, brings, agreed_results, new_disputes}
 
 -- An empty row at the end is as none.
 pub grown : (xs : List RowView) (p : ℕ) → get_or (xs ++ no_row ∷ []) p no_row ≡ get_or xs p no_row
@@ -129,9 +129,9 @@ counted-uncommitted v rows k results low = All-from_recursion (λ (d : Done1). I
   where
     go : (ds : List Done1) → AllByRecursion (λ (d : Done1). d.pos ≤ last_position v) ds → AllByRecursion (λ (d : Done1). IsUncommitted v d.pos) (counted_results v.commit rows k ds)
     go [] low = tt
-    go (d ∷ ds) low = one (counts v.commit rows k d.pos) refl (go ds low.1)
+    go (d ∷ ds) low = one (counts_as_report v.commit rows k d.pos) refl (go ds low.1)
       where
-        one : (b : Bool) → counts v.commit rows k d.pos ≡ b → AllByRecursion (λ (x : Done1). IsUncommitted v x.pos) (counted_results v.commit rows k ds) →
+        one : (b : Bool) → counts_as_report v.commit rows k d.pos ≡ b → AllByRecursion (λ (x : Done1). IsUncommitted v x.pos) (counted_results v.commit rows k ds) →
             AllByRecursion (λ (x : Done1). IsUncommitted v x.pos) (if b then d ∷ counted_results v.commit rows k ds else counted_results v.commit rows k ds)
         one true counted rest =
             let both = and_parts (nat_lt v.commit d.pos) (not (list_any (is_by k) (kept_at rows d.pos))) counted in
@@ -150,7 +150,7 @@ filter-same P Q (d ∷ ds) same =
 
 pub same-counted : (rows new : List RowView) → AreSame rows new → (c k : ℕ) (ds : List Done1) → counted_results c new k ds ≡ counted_results c rows k ds
 same-counted rows new same c k ds =
-    filter-same (λ (d : Done1). counts c new k d.pos) (λ (d : Done1). counts c rows k d.pos) ds
+    filter-same (λ (d : Done1). counts_as_report c new k d.pos) (λ (d : Done1). counts_as_report c rows k d.pos) ds
     (λ d. ap (λ (rs : List Report). nat_lt c d.pos && not (list_any (is_by k) rs)) (same d.pos))
 
 pub same-agreed : (rows new : List RowView) → AreSame rows new → (v : QueueView) (ds : List Done1) → agreed_results v new ds ≡ agreed_results v rows ds

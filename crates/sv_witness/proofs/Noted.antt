@@ -20,7 +20,7 @@ use Rattle.sv_witness.specs.declared.report.Dispute.{Dispute}
 use Rattle.sv_journal.specs.Serving.{with_results}
 use Rattle.sv_witness.specs.Reports.{is_by, gives, with_first_report, counted_in, agreed_values, brings_agreement, reports_of, agreed_history, agreed_result, agreed_commit}
 use Rattle.sv_witness.specs.Disputes.{dispute_about, disputes_of, dispute_in, with_disputes}
-use Rattle.sv_witness.specs.Kept.{RowView, kept_at, KeepsReports, report_by, counts, counted_results, AreOnce, with_values, agrees, brings, agreed_results, new_disputes}
+use Rattle.sv_witness.specs.Kept.{RowView, kept_at, KeepsReports, report_by, counts_as_report, counted_results, AreOnce, with_values, agrees, brings, agreed_results, new_disputes}
 use Rattle.sv_witness.proofs.Agreed.{reported-filter, without}
 use Rattle.sv_witness.proofs.Disputed.{values-self, dispute-place}
 use Rattle.sv_witness.proofs.InOrder.{dispute_after, dispute-turned}
@@ -194,7 +194,7 @@ module _ (rows : List RowView) (e : Entry) (h : List Entry) (k : ℕ) (results :
       ∙ ap (λ (rs : List Report). with_first_report (Some k) (reported p results) rs) (sym (kept p above))
       ∙ with-counted k (reported p results) (kept_at rows p)
       ∙ ap (λ (v : Values). with_values k v (kept_at rows p))
-      (sym (reported-filter (λ n. counts (agreed_commit h) rows k n) p results
+      (sym (reported-filter (λ n. counts_as_report (agreed_commit h) rows k n) p results
       ∙ ap (λ (b : Bool). if b && not (list_any (is_by k) (kept_at rows p)) then reported p results else None) low))
     where
       low : nat_lt (agreed_commit h) p ≡ true
@@ -218,7 +218,7 @@ module _ (rows : List RowView) (e : Entry) (h : List Entry) (k : ℕ) (results :
   one-agreed : (v : QueueView) (d : Done1) → reported d.pos results ≡ Some d.values →
       (agreed_commit h < d.pos → (entry_at v d.pos).result ≡ agreed_result h d.pos) →
       brings_agreement (client_of h e.session) (counted_in (agreed_commit h) d.pos e) (reports_of h d.pos)
-      ≡ (counts (agreed_commit h) rows k d.pos && brings v rows d)
+      ≡ (counts_as_report (agreed_commit h) rows k d.pos && brings v rows d)
   one-agreed v d found known = elim (cases_lt (agreed_commit h) d.pos) [
     | inl above ↦
         ap₂ (λ (c : Option ℕ) (w : Values). brings_agreement c w (reports_of h d.pos)) client
@@ -240,7 +240,7 @@ module _ (rows : List RowView) (e : Entry) (h : List Entry) (k : ℕ) (results :
       filter (λ (d : Done1). brings_agreement (client_of h e.session) (counted_in (agreed_commit h) d.pos e) (reports_of h d.pos)) ds
       ≡ agreed_results v rows (counted_results (agreed_commit h) rows k ds)
   each-agreed v [] found known = refl
-  each-agreed v (d ∷ ds) found known = go (counts (agreed_commit h) rows k d.pos) (brings v rows d) refl (one-agreed v d found.0 known.0) (each-agreed v ds found.1 known.1)
+  each-agreed v (d ∷ ds) found known = go (counts_as_report (agreed_commit h) rows k d.pos) (brings v rows d) refl (one-agreed v d found.0 known.0) (each-agreed v ds found.1 known.1)
     where
       more : List Done1
       more = filter (λ (x : Done1). brings_agreement (client_of h e.session) (counted_in (agreed_commit h) x.pos e) (reports_of h x.pos)) ds
@@ -337,7 +337,7 @@ module _ (rows : List RowView) (e : Entry) (h : List Entry) (k : ℕ) (results :
         ap (λ (rs : List Report). dispute_about p rs) (reports-above p above)
         ∙ dispute-values p (reported p (counted_results (agreed_commit h) rows k results))
         ∙ ap₂ (λ (a b : Option Dispute). either a b) (ap (λ (rs : List Report). dispute_about p rs) (kept p above))
-        (sym (about-new p (counted_results (agreed_commit h) rows k results) (once-filter (λ n. counts (agreed_commit h) rows k n) results once)))
+        (sym (about-new p (counted_results (agreed_commit h) rows k results) (once-filter (λ n. counts_as_report (agreed_commit h) rows k n) results once)))
     | inr low ↦
         ap (λ (rs : List Report). dispute_about p rs) (reports-below p low) ∙ nothing (dispute_about p (reports_of h p))
         ∙ ap (λ (o : Option Dispute). either (dispute_about p (reports_of h p)) o) (sym (about-none p (counted_results (agreed_commit h) rows k results) (uncounted p low)))
@@ -349,7 +349,7 @@ module _ (rows : List RowView) (e : Entry) (h : List Entry) (k : ℕ) (results :
 
       uncounted : (p : ℕ) → p ≤ agreed_commit h → reported p (counted_results (agreed_commit h) rows k results) ≡ None
       uncounted p low =
-          reported-filter (λ n. counts (agreed_commit h) rows k n) p results
+          reported-filter (λ n. counts_as_report (agreed_commit h) rows k n) p results
           ∙ ap (λ (b : Bool). if b && not (list_any (is_by k) (kept_at rows p)) then reported p results else None) (le-ltb (agreed_commit h) p low)
 
   new-low : (n : ℕ) (ds : List Done1) → AllByRecursion (λ (d : Done1). d.pos < n) ds → AllByRecursion (λ (x : Dispute). x.pos < n) (new_disputes rows k ds)
@@ -383,7 +383,7 @@ module _ (rows : List RowView) (e : Entry) (h : List Entry) (k : ℕ) (results :
       (λ p l. one-dispute once p)
       ∙ sym (listing-all (new_disputes rows k (counted_results (agreed_commit h) rows k results)) (λ p. dispute_about p (reports_of h p))
       (λ p d is. dispute-place p (reports_of h p) d is) (suc (length (accepted h)))
-      (new-low (suc (length (accepted h))) (counted_results (agreed_commit h) rows k results) (some-low (λ (d : Done1). counts (agreed_commit h) rows k d.pos) (suc (length (accepted h))) results low)))
+      (new-low (suc (length (accepted h))) (counted_results (agreed_commit h) rows k results) (some-low (λ (d : Done1). counts_as_report (agreed_commit h) rows k d.pos) (suc (length (accepted h))) results low)))
       ∙ ap (with_disputes (new_disputes rows k (counted_results (agreed_commit h) rows k results))) (sym (listing-is (λ p. dispute_about p (reports_of h p)) (suc (length (accepted h)))))
     where
       none-new : accepted (e ∷ h) ≡ accepted h

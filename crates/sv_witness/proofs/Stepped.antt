@@ -152,35 +152,35 @@ same-stands r rows new ds h same is = record {
 }
 
 -- A server's fields stand for a history that its caller names.
-pub stands-for : (a : Inside) (v : SequencerView) (h : List Entry) → IsWitness a → view_of a ≡ v → h ≡ history v → Standing a.core a.reports a.disputes.items h
+pub stands-for : (a : Inside) (v : SequencerView) (h : List Entry) → IsWitness a → view_of a ≡ v → h ≡ history v → Standing a.core a.testimony.reports a.testimony.disputes.items h
 stands-for a v h is view past =
-    subst (λ (l : List Entry). Standing a.core a.reports a.disputes.items l) (ap history view ∙ sym past) (record { keeps = is.keeps; stands = is.stands })
+    subst (λ (l : List Entry). Standing a.core a.testimony.reports a.testimony.disputes.items l) (ap history view ∙ sym past) (record { keeps = is.keeps; stands = is.stands })
 
 -- A request that is not noted was answered, by a server whose history its caller names.
 pub kept-replied : (a : Inside) (core : Core) (h : List Entry) (v : SequencerView) (s : ℕ) (q : Request) (d : Decision) (x : Answer) → IsWitness a → view_of a ≡ v → h ≡ history v →
     CarriedOut a.core core (agreed_history h) s (emptied q) d x →
     reply_by v.rules (agreed_history h) s (emptied q) d ≡ witnessed_reply v.rules h s q → is_noted (witnessed_reply v.rules h s q) ≡ false →
-    Replied a.core core a.reports a.disputes.items (reverse a.journal.entries) s q x
+    Replied a.core core a.testimony.reports a.testimony.disputes.items (reverse a.journal.entries) s q x
 kept-replied a core h v s q d x is view past done told quiet =
-    subst (λ (l : List Entry). Replied a.core core a.reports a.disputes.items l s q x) (past ∙ sym (ap history view))
-    (quiet-replied a.core core a.reports a.disputes.items h s q d x (stands-for a v h is view past) done
+    subst (λ (l : List Entry). Replied a.core core a.testimony.reports a.testimony.disputes.items l s q x) (past ∙ sym (ap history view))
+    (quiet-replied a.core core a.testimony.reports a.testimony.disputes.items h s q d x (stands-for a v h is view past) done
     (subst (λ (w : SequencerView). reply_by w.rules (agreed_history h) s (emptied q) d ≡ witnessed_reply w.rules h s q) (sym view) told)
     (subst (λ (w : SequencerView). is_noted (witnessed_reply w.rules h s q) ≡ false) (sym view) quiet))
 
 -- Nothing changed but room.
 pub still : (a b : Inside) → IsWitness a → core_rules b.core ≡ core_rules a.core → owed_by b.core ≡ owed_by a.core → Keeps b.core (agreed_history (reverse a.journal.entries)) →
-    b.journal.entries ≡ a.journal.entries → a.journal.spare ≤ b.journal.spare → AreSame a.reports b.reports → b.disputes.items ≡ a.disputes.items → IsWitness b
+    b.journal.entries ≡ a.journal.entries → a.journal.spare ≤ b.journal.spare → AreSame a.testimony.reports b.testimony.reports → b.testimony.disputes.items ≡ a.testimony.disputes.items → IsWitness b
 still a b is rules owed keeps entries spare rows disputes = record {
   keeps = subst (λ (es : List Entry). Keeps b.core (agreed_history (reverse es))) (sym entries) keeps;
-  stands = subst (λ (es : List Entry). Stands (core_rules b.core) b.reports b.disputes.items (reverse es)) (sym entries)
-      (subst (λ (r : Rules). Stands r b.reports b.disputes.items (reverse a.journal.entries)) (sym rules)
-      (subst (λ (ds : List Dispute). Stands (core_rules a.core) b.reports ds (reverse a.journal.entries)) (sym disputes)
-      (same-stands (core_rules a.core) a.reports b.reports a.disputes.items (reverse a.journal.entries) rows is.stands)));
+  stands = subst (λ (es : List Entry). Stands (core_rules b.core) b.testimony.reports b.testimony.disputes.items (reverse es)) (sym entries)
+      (subst (λ (r : Rules). Stands r b.testimony.reports b.testimony.disputes.items (reverse a.journal.entries)) (sym rules)
+      (subst (λ (ds : List Dispute). Stands (core_rules a.core) b.testimony.reports ds (reverse a.journal.entries)) (sym disputes)
+      (same-stands (core_rules a.core) a.testimony.reports b.testimony.reports a.testimony.disputes.items (reverse a.journal.entries) rows is.stands)));
   room = (let enough : owed_by a.core ≤ a.journal.spare = is.room in omega arith);
 }
 
 -- A request was answered, and its entry is in the journal.
-module _ (a b : Inside) (m : JournalView) (s : ℕ) (q copy : Request) (x : Answer) (done : Replied a.core b.core b.reports b.disputes.items (reverse a.journal.entries) s q x)
+module _ (a b : Inside) (m : JournalView) (s : ℕ) (q copy : Request) (x : Answer) (done : Replied a.core b.core b.testimony.reports b.testimony.disputes.items (reverse a.journal.entries) s q x)
     (same : m.entries ≡ a.journal.entries) (is : copy ≡ q)
     (put : b.journal ≡ record { entries = m.entries ++ entry_of s copy x.logged ∷ []; spare = m.spare - 1 }) where
   entries : b.journal.entries ≡ a.journal.entries ++ entry_of s q x.logged ∷ []
@@ -192,7 +192,7 @@ module _ (a b : Inside) (m : JournalView) (s : ℕ) (q copy : Request) (x : Answ
   pub entered : owed_by a.core + 1 ≤ m.spare → IsWitness b
   entered room = record {
     keeps = subst (λ (l : List Entry). Keeps b.core (agreed_history l)) (sym past) done.standing.keeps;
-    stands = subst (λ (l : List Entry). Stands (core_rules b.core) b.reports b.disputes.items l) (sym past) done.standing.stands;
+    stands = subst (λ (l : List Entry). Stands (core_rules b.core) b.testimony.reports b.testimony.disputes.items l) (sym past) done.standing.stands;
     room = (let owed : owed_by b.core ≡ owed_by a.core = done.owed in
         let left : b.journal.spare ≡ m.spare - 1 = ap (λ (j : JournalView). j.spare) put in
         omega arith);

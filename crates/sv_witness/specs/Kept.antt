@@ -40,11 +40,11 @@ abbrev pub report_by : ℕ → List (List ℤ) → Report
 report_by k values = record { client = record { 0 = k }; values = values }
 
 -- A client's result of a position counts as its report: the position is above the commit, and the client has not reported it.
-abbrev pub counts : ℕ → List RowView → ℕ → ℕ → Bool
-counts commit rows k p = nat_lt commit p && not (list_any (is_by k) (kept_at rows p))
+abbrev pub counts_as_report : ℕ → List RowView → ℕ → ℕ → Bool
+counts_as_report commit rows k p = nat_lt commit p && not (list_any (is_by k) (kept_at rows p))
 
 abbrev pub counted_results : ℕ → List RowView → ℕ → List Done1 → List Done1
-counted_results commit rows k results = filter (λ (d : Done1). counts commit rows k d.pos) results
+counted_results commit rows k results = filter (λ (d : Done1). counts_as_report commit rows k d.pos) results
 
 -- No position has two of the results.
 abbrev pub AreOnce : List Done1 → Type 0

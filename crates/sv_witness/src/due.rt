@@ -7,35 +7,29 @@ ghost use Rattle.sv_witness.specs.Reports.{is_by};
 ghost use Rattle.sv_witness.specs.Kept.{kept_at};
 ghost use Rattle.sv_witness.specs.Due.{is_due_in, due_in};
 
-use crate::noting::has_result;
 use crate::reports::Reports;
+use crate::testimony::Asker;
 use std::marker::Brand;
 use std::sync::ledger::{Blank, Ledger};
 use sv_queue::{Queue, Steps};
 
 /// The lowest position above the commit without a result that was not sent to a session and that its client did not report.
-pub fn first_due(queue: &Queue, reports: &Reports, client: u16, session: u16) -> Option<u32>
-    ensures { MatchOption result (due_in queue.now reports.now client session ≡ []) (λ p. (rest : List ℕ) × (due_in queue.now reports.now client session ≡ p ∷ rest)) }
+pub fn first_due(queue: &Queue, reports: &Reports, asker: Asker) -> Option<u32>
+    ensures { MatchOption result (due_in queue.now reports.now asker.client asker.session ≡ []) (λ p. (rest : List ℕ) × (due_in queue.now reports.now asker.client asker.session ≡ p ∷ rest)) }
 {
-    search::<Brand>(queue, reports, client, session, Blank::new(1))
+    search::<Brand>(queue, reports, asker, Blank::new(1))
 }
 
-fn search<L: Ledger>(
-    queue: &Queue,
-    reports: &Reports,
-    client: u16,
-    session: u16,
-    blank: Blank,
-) -> Option<u32>
+fn search<L: Ledger>(queue: &Queue, reports: &Reports, asker: Asker, blank: Blank) -> Option<u32>
     requires name { blank.name ≡ L.name }
     requires parts { blank.parts ≡ L.parts }
     requires some { 0 < blank.parts }
-    ensures { MatchOption result (due_in queue.now reports.now client session ≡ []) (λ p. (rest : List ℕ) × (due_in queue.now reports.now client session ≡ p ∷ rest)) }
+    ensures { MatchOption result (due_in queue.now reports.now asker.client asker.session ≡ []) (λ p. (rest : List ℕ) × (due_in queue.now reports.now asker.client asker.session ≡ p ∷ rest)) }
 {
     let mut steps = Steps::<L>::new(blank);
     for before in queue.commit()..queue.last() {
         let pos = before + 1;
-        if is_due(queue, reports, client, session, pos, &mut steps) {
+        if is_due(queue, reports, asker, pos, &mut steps) {
             return Some(pos);
         }
     }
@@ -45,15 +39,14 @@ fn search<L: Ledger>(
 fn is_due<L: Ledger>(
     queue: &Queue,
     reports: &Reports,
-    client: u16,
-    session: u16,
+    asker: Asker,
     pos: u32,
     steps: &mut Steps<L>,
 ) -> bool
     requires { IsUncommitted queue.now pos }
-    ensures { result ≡ is_due_in queue.now reports.now client session pos }
+    ensures { result ≡ is_due_in queue.now reports.now asker.client asker.session pos }
 {
-    !has_result(queue, pos, steps)
-        && !queue.is_marked(pos, session, steps)
-        && !reports.has_reported(pos, client)
+    !queue.has_result(pos, steps)
+        && !queue.is_marked(pos, asker.session, steps)
+        && !reports.has_reported(pos, asker.client)
 }

@@ -15,6 +15,7 @@ mod reports;
 mod running;
 mod sessions;
 mod step;
+mod testimony;
 mod top;
 mod witness;
 mod words;

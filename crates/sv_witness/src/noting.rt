@@ -5,7 +5,7 @@ ghost use Rattle.sv_wire.specs.declared.message.Done1.{Done1};
 ghost use Rattle.sv_queue.specs.Queue.{IsUncommitted, last_position, entry_at};
 ghost use Rattle.sv_witness.specs.Disputes.{dispute_in};
 ghost use Rattle.sv_witness.specs.Reports.{is_by};
-ghost use Rattle.sv_witness.specs.Kept.{kept_at, report_by, counts, counted_results, agrees, brings, agreed_results, new_disputes};
+ghost use Rattle.sv_witness.specs.Kept.{kept_at, report_by, counts_as_report, counted_results, agrees, brings, agreed_results, new_disputes};
 
 use crate::report::{Dispute, Report};
 use crate::reports::{Reports, are_same_values};
@@ -13,12 +13,14 @@ use std::alloc::{AllocError, Global};
 use std::marker::Brand;
 use std::sync::ledger::{Blank, Ledger};
 use sv_queue::{Queue, Steps};
+use sv_sequencer::copy_report;
 use sv_wire::Done1;
 use sv_world::{ClientId, copy_values};
 
 /// What the results of a client are: those that count as its reports, of these the ones that bring agreement, and the disputes that they make.
 #[derive(Drop)]
 pub struct Noting {
+    pub client: u16,
     pub counted: Vec<Done1>,
     pub agreed: Vec<Done1>,
     pub disputes: Vec<Dispute>,
@@ -33,6 +35,7 @@ pub fn noting_of(
     results: &[Done1],
 ) -> Result<Noting, AllocError>
     requires { All (λ (d : Done1). d.pos ≤ last_position queue.now) results.now }
+    ensures client { IfOk result (λ noting. noting.client ≡ client) }
     ensures counted { IfOk result (λ noting. noting.counted.items ≡ counted_results queue.now.commit reports.now client results.now) }
     ensures agreed { IfOk result (λ noting. noting.agreed.items ≡ agreed_results queue.now reports.now (counted_results queue.now.commit reports.now client results.now)) }
     ensures disputes { IfOk result (λ noting. noting.disputes.items ≡ new_disputes reports.now client (counted_results queue.now.commit reports.now client results.now)) }
@@ -41,24 +44,16 @@ pub fn noting_of(
     let agreed = copy_agreed(alloc, queue, reports, counted.as_slice())?;
     let disputes = disputes_with(alloc, reports, client, counted.as_slice())?;
     Ok(Noting {
+        client,
         counted,
         agreed,
         disputes,
     })
 }
 
-fn copy_result(alloc: Global, found: &Done1) -> Result<Done1, AllocError>
-    ensures { IfOk result (λ copy. copy ≡ found.now) }
-{
-    Ok(Done1 {
-        pos: found.pos,
-        values: copy_values(alloc, found.values.as_slice())?,
-    })
-}
-
 /// Whether a client's result of a position counts as its report.
 fn counts(reports: &Reports, commit: u32, client: u16, pos: u32) -> bool
-    ensures { result ≡ counts commit reports.now client pos }
+    ensures { result ≡ counts_as_report commit reports.now client pos }
 {
     commit < pos && !reports.has_reported(pos, client)
 }
@@ -76,7 +71,7 @@ fn copy_counted(
     let mut copies = Vec::new(alloc);
     for found in results {
         if counts(reports, commit, client, found.pos) {
-            copies.push(copy_result(alloc, found)?)?;
+            copies.push(copy_report(alloc, found)?)?;
         }
     }
     Ok(copies)
@@ -95,7 +90,7 @@ fn copy_agreed(
     let mut copies = Vec::new(alloc);
     for found in counted {
         if brings::<Brand>(queue, reports, found, Blank::new(1)) {
-            copies.push(copy_result(alloc, found)?)?;
+            copies.push(copy_report(alloc, found)?)?;
         }
     }
     Ok(copies)
@@ -110,16 +105,7 @@ fn brings<L: Ledger>(queue: &Queue, reports: &Reports, found: &Done1, blank: Bla
     ensures { result ≡ brings queue.now reports.now found.now }
 {
     let mut steps = Steps::<L>::new(blank);
-    !has_result(queue, found.pos, &mut steps) && reports.agrees(found.pos, found.values.as_slice())
-}
-
-/// Whether an uncommitted position has a result.
-pub fn has_result<L: Ledger>(queue: &Queue, pos: u32, steps: &mut Steps<L>) -> bool
-    requires { IsUncommitted queue.now pos }
-    ensures { result ≡ is_some (entry_at queue.now pos).result }
-{
-    let entry = queue.entry(pos, steps);
-    entry.has_result
+    !queue.has_result(found.pos, &mut steps) && reports.agrees(found.pos, found.values.as_slice())
 }
 
 /// The disputes that results of a client make with the first reports of their positions.

@@ -4,6 +4,7 @@ ghost use Rattle.sv_world.specs.Limits.{most_bound, most_reach, most_sessions};
 ghost use Rattle.sv_queue.specs.Worlds.{IsGoodWorld};
 
 use crate::reports::Reports;
+use crate::testimony::Testimony;
 use crate::witness::Witness;
 use std::alloc::{AllocError, Global};
 use sv_journal::Journal;
@@ -37,8 +38,10 @@ impl Witness {
             alloc,
             core,
             journal,
-            reports: Reports::new(alloc),
-            disputes: Vec::new(alloc),
+            testimony: Testimony {
+                reports: Reports::new(alloc),
+                disputes: Vec::new(alloc),
+            },
         })
     }
 }

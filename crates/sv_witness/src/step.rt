@@ -10,7 +10,7 @@ ghost use Rattle.sv_journal.specs.History.{client_of, is_noted};
 ghost use Rattle.sv_journal.specs.Sessions.{is_end, is_ended};
 ghost use Rattle.sv_journal.specs.Answer.{is_bad_done};
 ghost use Rattle.sv_journal.specs.Serving.{is_poll, noted_after, polled_after};
-ghost use Rattle.sv_sequencer.specs.Cores.{core_rules, owed_by, queue_of, Keeps, CarriedOut, Remained};
+ghost use Rattle.sv_sequencer.specs.Cores.{core_rules, queue_of, Keeps, CarriedOut, Remained};
 ghost use Rattle.sv_sequencer.specs.Decisions.{Holds, reply_by, results_in};
 ghost use Rattle.sv_sequencer.specs.Step.{history, entry_of, Grew, Stayed};
 ghost use Rattle.sv_witness.specs.Reports.{agreed_history};
@@ -23,11 +23,12 @@ ghost use Rattle.sv_witness.specs.Witnessed.{agreed, IsWitnessed, witnessed_repl
 use crate::disputes::enter_all;
 use crate::due::first_due;
 use crate::noting::{Noting, noting_of};
-use crate::report::Dispute;
 use crate::reports::{Reports, add_all, reserve_all};
+use crate::testimony::{Asker, Testimony};
 use crate::witness::Witness;
 use std::alloc::{AllocError, Global};
-use sv_journal::{Entry, Journal, Logged};
+use sv_journal::{Entry, Logged};
+use sv_queue::Queue;
 use sv_sequencer::{Answer, Core, Decision, enter, results_of};
 use sv_wire::{Done1, Reply, Request, copy_request};
 use sv_world::List;
@@ -53,10 +54,10 @@ fn answers_poll(request: &Request, decision: Decision) -> bool
 }
 
 /// What is done on a Poll that is not refused: the lowest position that is due is sent.
-fn due_decision(core: &Core, reports: &Reports, client: u16, session: u16) -> Decision
-    ensures { result ≡ first_of (due_in (queue_of core.now) reports.now client session) }
+fn due_decision(core: &Core, reports: &Reports, asker: Asker) -> Decision
+    ensures { result ≡ first_of (due_in (queue_of core.now) reports.now asker.client asker.session) }
 {
-    match first_due(core.queue(), reports, client, session) {
+    match first_due(core.queue(), reports, asker) {
         Some(pos) => Decision::Relay { seq: 0, pos },
         None => Decision::Idle,
     }
@@ -65,29 +66,24 @@ fn due_decision(core: &Core, reports: &Reports, client: u16, session: u16) -> De
 /// What results of a client are, with room for all that they change. What is kept stays.
 fn note_ahead(
     alloc: Global,
-    core: &Core,
-    journal: &mut Journal,
-    reports: &mut Reports,
-    disputes: &mut Vec<Dispute>,
+    queue: &Queue,
+    testimony: &mut Testimony,
     client: u16,
     results: &[Done1],
 ) -> Result<Noting, AllocError>
-    requires { All (λ (d : Done1). d.pos ≤ last_position (queue_of core.now)) results.now }
-    ensures entries { journal.new.entries ≡ journal.old.entries }
-    ensures spare { journal.old.spare ≤ journal.new.spare }
-    ensures room { OnOk result (owed_by core.now + 1 ≤ journal.new.spare) }
-    ensures reports { (p : ℕ) → kept_at reports.new p ≡ kept_at reports.old p }
-    ensures rows { IfOk result (λ noting. AllByRecursion (λ (d : Done1). HasRoomFor reports.new d.pos) noting.counted.items) }
-    ensures disputes { disputes.new.items ≡ disputes.old.items }
-    ensures places { IfOk result (λ noting. vec_len disputes.new + length noting.disputes.items ≤ vec_capacity disputes.new) }
-    ensures counted { IfOk result (λ noting. noting.counted.items ≡ counted_results (queue_of core.now).commit reports.old client results.now) }
-    ensures agreed { IfOk result (λ noting. noting.agreed.items ≡ agreed_results (queue_of core.now) reports.old (counted_results (queue_of core.now).commit reports.old client results.now)) }
-    ensures made { IfOk result (λ noting. noting.disputes.items ≡ new_disputes reports.old client (counted_results (queue_of core.now).commit reports.old client results.now)) }
+    requires { All (λ (d : Done1). d.pos ≤ last_position queue.now) results.now }
+    ensures reports { (p : ℕ) → kept_at testimony.new.reports p ≡ kept_at testimony.old.reports p }
+    ensures rows { IfOk result (λ noting. AllByRecursion (λ (d : Done1). HasRoomFor testimony.new.reports d.pos) noting.counted.items) }
+    ensures disputes { testimony.new.disputes.items ≡ testimony.old.disputes.items }
+    ensures places { IfOk result (λ noting. vec_len testimony.new.disputes + length noting.disputes.items ≤ vec_capacity testimony.new.disputes) }
+    ensures client { IfOk result (λ noting. noting.client ≡ client) }
+    ensures counted { IfOk result (λ noting. noting.counted.items ≡ counted_results queue.now.commit testimony.old.reports client results.now) }
+    ensures agreed { IfOk result (λ noting. noting.agreed.items ≡ agreed_results queue.now testimony.old.reports (counted_results queue.now.commit testimony.old.reports client results.now)) }
+    ensures made { IfOk result (λ noting. noting.disputes.items ≡ new_disputes testimony.old.reports client (counted_results queue.now.commit testimony.old.reports client results.now)) }
 {
-    let noting = noting_of(alloc, core.queue(), reports, client, results)?;
-    journal.reserve(core.owed() as usize + 1)?;
-    reserve_all(reports, noting.counted.as_slice())?;
-    disputes.reserve(noting.disputes.len())?;
+    let noting = noting_of(alloc, queue, &testimony.reports, client, results)?;
+    reserve_all(&mut testimony.reports, noting.counted.as_slice())?;
+    testimony.disputes.reserve(noting.disputes.len())?;
     Ok(noting)
 }
 
@@ -123,31 +119,29 @@ fn carry_emptied(
 /// installed, and all count as the client's reports. `h` is the journal's history.
 fn install(
     core: &mut Core,
-    reports: &mut Reports,
-    disputes: &mut Vec<Dispute>,
-    client: u16,
+    testimony: &mut Testimony,
     session: u16,
     request: &Request,
     noting: Noting,
 ) -> Result<Answer, AllocError>
     ghost h: { List Entry }
-    requires standing { Standing core.old reports.old disputes.old.items h }
+    requires standing { Standing core.old testimony.old.reports testimony.old.disputes.items h }
     requires session { session < (core_rules core.old).sessions }
-    requires joined { client_of h session ≡ Some client }
+    requires joined { client_of h session ≡ Some noting.client }
     requires done { request.now ≡ requests.Done (results_in request.now) }
     requires good { is_bad_done (core_rules core.old) (agreed_history h) session (results_in request.now) ≡ false }
     requires reply { witnessed_reply (core_rules core.old) h session request.now ≡ noted_after agreed h session request.now }
-    requires counted { noting.counted.items ≡ counted_results (queue_of core.old).commit reports.old client (results_in request.now) }
-    requires brought { noting.agreed.items ≡ agreed_results (queue_of core.old) reports.old noting.counted.items }
-    requires made { noting.disputes.items ≡ new_disputes reports.old client noting.counted.items }
-    requires rows { AllByRecursion (λ (d : Done1). HasRoomFor reports.old d.pos) noting.counted.items }
-    requires places { vec_len disputes.old + length noting.disputes.items ≤ vec_capacity disputes.old }
-    ensures ok { IfOk result (Replied core.old core.new reports.new disputes.new.items h session request.now) }
+    requires counted { noting.counted.items ≡ counted_results (queue_of core.old).commit testimony.old.reports noting.client (results_in request.now) }
+    requires brought { noting.agreed.items ≡ agreed_results (queue_of core.old) testimony.old.reports noting.counted.items }
+    requires made { noting.disputes.items ≡ new_disputes testimony.old.reports noting.client noting.counted.items }
+    requires rows { AllByRecursion (λ (d : Done1). HasRoomFor testimony.old.reports d.pos) noting.counted.items }
+    requires places { vec_len testimony.old.disputes + length noting.disputes.items ≤ vec_capacity testimony.old.disputes }
+    ensures ok { IfOk result (Replied core.old core.new testimony.new.reports testimony.new.disputes.items h session request.now) }
     ensures core { OnErr result (Remained core.old core.new (agreed_history h)) }
-    ensures reports { OnErr result (reports.new ≡ reports.old) }
-    ensures disputes { OnErr result (disputes.new ≡ disputes.old) }
+    ensures testimony { OnErr result (testimony.new ≡ testimony.old) }
 {
     let Noting {
+        client,
         counted,
         agreed,
         disputes: made,
@@ -160,9 +154,9 @@ fn install(
     drop(done);
     match carried {
         Ok(answer) => {
-            add_all(reports, client, counted);
-            enter_all(disputes, made);
-            reports.forget(before, core.commit());
+            add_all(&mut testimony.reports, client, counted);
+            enter_all(&mut testimony.disputes, made);
+            testimony.reports.forget(before, core.commit());
             Ok(answer)
         }
         Err(error) => {
@@ -282,7 +276,8 @@ impl Witness {
         let Some(client) = self.core.client(session) else {
             return Err(AllocError);
         };
-        let decision = due_decision(&self.core, &self.reports, client, session);
+        let asker = Asker { client, session };
+        let decision = due_decision(&self.core, &self.testimony.reports, asker);
         self.keep(session, request, decision)
     }
 
@@ -301,13 +296,12 @@ impl Witness {
         let Some(client) = self.core.client(session) else {
             return Err(AllocError);
         };
+        self.journal.reserve(self.core.owed() as usize + 1)?;
         let copy = copy_request(self.alloc, request)?;
         let noted = note_ahead(
             self.alloc,
-            &self.core,
-            &mut self.journal,
-            &mut self.reports,
-            &mut self.disputes,
+            self.core.queue(),
+            &mut self.testimony,
             client,
             results_of(request),
         );
@@ -320,9 +314,7 @@ impl Witness {
         };
         let installed = install(
             &mut self.core,
-            &mut self.reports,
-            &mut self.disputes,
-            client,
+            &mut self.testimony,
             session,
             request,
             noting,

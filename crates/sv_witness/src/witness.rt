@@ -6,7 +6,7 @@ ghost use Rattle.sv_witness.specs.Witnessed.{IsWitnessed};
 ghost use Rattle.sv_witness.specs.Disputes.{disputes_of};
 
 use crate::report::Dispute;
-use crate::reports::Reports;
+use crate::testimony::Testimony;
 use std::alloc::Global;
 use std::marker::Model;
 use sv_journal::Journal;
@@ -23,8 +23,7 @@ pub struct Witness {
     pub(crate) core: Core,
     /// It has room for the Ends that are to come.
     pub(crate) journal: Journal,
-    pub(crate) reports: Reports,
-    pub(crate) disputes: Vec<Dispute>,
+    pub(crate) testimony: Testimony,
 }
 
 impl Model for Witness {
@@ -71,6 +70,6 @@ impl Witness {
     pub fn disputes(&self) -> &[Dispute]
         ensures { result.now ≡ disputes_of (history self.now) }
     {
-        &self.disputes
+        &self.testimony.disputes
     }
 }

@@ -1,5 +1,5 @@
 -- The measures and tests of trees, at the parts that nodes spell. Where there is no tree they are least.
-use Rattle.std.specs.Prelude.{ℕ, Bool, true, nat_lt, ◌&&◌}
+use Rattle.std.specs.Prelude.{◌≡◌, ℕ, ◌≤◌, Bool, true, nat_lt, ◌&&◌}
 use Rattle.sv_world.specs.Parts.{Part, Expression, Condition, Statement, Block, Bad}
 use Rattle.sv_world.specs.Sets.{is_in_mask}
 use Rattle.sv_world.specs.Trees.{expr_nodes, cond_nodes, stmt_nodes, body_nodes, expr_depth, cond_depth, stmt_depth, body_depth, expr_passes, cond_passes, stmt_passes, body_passes}
@@ -35,3 +35,7 @@ may_set limits slot attr = is_in_mask limits.mask slot && (nat_lt slot limits.re
 
 abbrev pub fits : Limits → Part → Bool
 fits limits p = part_passes (may_set limits) (may_get limits) p
+
+-- It does not fit, or has more nodes than are left, or is nested deeper than it may be.
+abbrev pub IsUnfit : Limits → ℕ → ℕ → Part → Type 0
+IsUnfit limits depth left p = fits limits p ≡ true → part_nodes p ≤ left → part_depth p ≤ depth → ⊥

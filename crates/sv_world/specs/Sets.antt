@@ -1,7 +1,11 @@
--- The objects that an action reads and writes.
+-- Objects, and those that an action reads and writes.
 use Rattle.std.specs.Prelude.{ℕ, ◌+◌, ◌/◌, ◌%◌, ◌^◌, Bool, ◌==◌, List, [], ◌∷◌, map, if◌then◌else◌}
 use Rattle.sv_world.specs.declared.action.Action.{Action}
 use Rattle.sv_world.specs.declared.world.ObjectId.{ObjectId}
+
+-- The object of a number.
+abbrev pub object_numbered : ℕ → ObjectId
+object_numbered n = record { 0 = n }
 
 -- Slot k is in the mask: its bit, of weight 2^k, is set.
 abbrev pub is_in_mask : ℕ → ℕ → Bool

@@ -2,7 +2,7 @@
 ghost use Rattle.std.specs.Prelude.{◌≡◌, ◌+◌, ◌<◌, ◌≤◌, ◌&&◌, true, None, drop, length, IfSome};
 ghost use Rattle.sv_world.specs.Sets.{is_in_mask};
 ghost use Rattle.sv_world.specs.Parts.{first, second, parts, is_expr, is_cond, is_stmt, is_block};
-ghost use Rattle.sv_world.specs.PartTrees.{part_nodes, part_depth, may_get, may_set, fits};
+ghost use Rattle.sv_world.specs.PartTrees.{part_nodes, part_depth, may_get, may_set, fits, IsUnfit};
 
 use crate::names::is_in_mask;
 use crate::{CondHead, ExprHead, NodeCursor, StmtHead};
@@ -58,7 +58,7 @@ fn expr_fits(nodes: &mut NodeCursor<'_>, limits: &Limits, depth: u8, left: u8) -
     ensures fits { IfSome result (λ _. fits limits.now (first (parts nodes.old)) ≡ true) }
     ensures nodes { IfSome result (λ rest. rest + part_nodes (first (parts nodes.old)) ≡ left) }
     ensures depth { IfSome result (λ _. part_depth (first (parts nodes.old)) ≤ depth) }
-    ensures refuses { result ≡ None → fits limits.now (first (parts nodes.old)) ≡ true → part_nodes (first (parts nodes.old)) ≤ left → part_depth (first (parts nodes.old)) ≤ depth → ⊥ }
+    ensures refuses { result ≡ None → IsUnfit limits.now depth left (first (parts nodes.old)) }
     ensures rest { IfSome result (λ _. parts nodes.new ≡ drop 1 (parts nodes.old)) }
     ensures shorter { IfSome result (λ _. length nodes.new < length nodes.old) }
 {
@@ -104,7 +104,7 @@ fn cond_fits(nodes: &mut NodeCursor<'_>, limits: &Limits, depth: u8, left: u8) -
     ensures fits { IfSome result (λ _. fits limits.now (first (parts nodes.old)) ≡ true) }
     ensures nodes { IfSome result (λ rest. rest + part_nodes (first (parts nodes.old)) ≡ left) }
     ensures depth { IfSome result (λ _. part_depth (first (parts nodes.old)) ≤ depth) }
-    ensures refuses { result ≡ None → fits limits.now (first (parts nodes.old)) ≡ true → part_nodes (first (parts nodes.old)) ≤ left → part_depth (first (parts nodes.old)) ≤ depth → ⊥ }
+    ensures refuses { result ≡ None → IsUnfit limits.now depth left (first (parts nodes.old)) }
     ensures rest { IfSome result (λ _. parts nodes.new ≡ drop 1 (parts nodes.old)) }
     ensures shorter { IfSome result (λ _. length nodes.new < length nodes.old) }
 {
@@ -132,7 +132,7 @@ fn stmt_fits(nodes: &mut NodeCursor<'_>, limits: &Limits, depth: u8, left: u8) -
     ensures fits { IfSome result (λ _. fits limits.now (first (parts nodes.old)) ≡ true) }
     ensures nodes { IfSome result (λ rest. rest + part_nodes (first (parts nodes.old)) ≡ left) }
     ensures depth { IfSome result (λ _. part_depth (first (parts nodes.old)) ≤ depth) }
-    ensures refuses { result ≡ None → fits limits.now (first (parts nodes.old)) ≡ true → part_nodes (first (parts nodes.old)) ≤ left → part_depth (first (parts nodes.old)) ≤ depth → ⊥ }
+    ensures refuses { result ≡ None → IsUnfit limits.now depth left (first (parts nodes.old)) }
     ensures rest { IfSome result (λ _. parts nodes.new ≡ drop 1 (parts nodes.old)) }
     ensures shorter { IfSome result (λ _. length nodes.new < length nodes.old) }
 {
@@ -166,7 +166,7 @@ pub(crate) fn block_fits(
     ensures fits { IfSome result (λ _. fits limits.now (first (parts nodes.old)) ≡ true) }
     ensures nodes { IfSome result (λ rest. rest + part_nodes (first (parts nodes.old)) ≡ left) }
     ensures depth { IfSome result (λ _. part_depth (first (parts nodes.old)) ≤ depth) }
-    ensures refuses { result ≡ None → fits limits.now (first (parts nodes.old)) ≡ true → part_nodes (first (parts nodes.old)) ≤ left → part_depth (first (parts nodes.old)) ≤ depth → ⊥ }
+    ensures refuses { result ≡ None → IsUnfit limits.now depth left (first (parts nodes.old)) }
     ensures rest { IfSome result (λ _. parts nodes.new ≡ drop 1 (parts nodes.old)) }
     ensures shorter { IfSome result (λ _. length nodes.new < length nodes.old) }
 {

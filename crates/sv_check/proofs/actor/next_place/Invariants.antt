@@ -1,3 +1,4 @@
+-- The loop invariant of `next_place`.
 use Rattle.sv_check.proofs.Placing.{IsSought}
 use Rattle.sv_check.proofs.actor.next_place.Given as goal
 

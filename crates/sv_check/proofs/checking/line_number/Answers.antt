@@ -1,3 +1,4 @@
+-- What is proved by hand of `line_number`.
 use Rattle.std.proofs.Common.{◌+◌, ◌^◌, ◌%◌, refl}
 use Rattle.sv_check.proofs.Numbering.{first_wrong}
 use Rattle.sv_check.proofs.checking.line_number.Goals as goal

@@ -1,3 +1,4 @@
+-- What is proved by hand of `played_by`.
 use Rattle.sv_check.proofs.Serving.{shape_is, values_are}
 use Rattle.sv_check.proofs.Reporting.{right}
 use Rattle.sv_check.proofs.checking.played_by.Goals as goal

@@ -1,3 +1,4 @@
+-- What is proved by hand of `finish`.
 use Rattle.std.proofs.Common.{rules, List, ap, subst, ◌∙◌}
 use Rattle.sv_journal.specs.declared.entry.Entry.{Entry}
 use Rattle.sv_journal.specs.View.{JournalView}

@@ -1,7 +1,8 @@
+-- What is proved by hand of `take_client`.
 use Rattle.std.proofs.Common.{inr, ℕ, List, ◌++◌, length, refl, ap, ◌∙◌, Bor}
 use Rattle.sv_report.specs.Report.{event_lines}
 use Rattle.sv_check.specs.Serving.{entries_of}
-use Rattle.sv_check.specs.Acting.{numbered}
+use Rattle.sv_check.specs.Acting.{journal_events}
 use Rattle.sv_check.specs.Clients.{EventsStop, IsClientStop}
 use Rattle.sv_check.proofs.Acted.{start_lines, events_stopped, stopped_whole, wrong_from, missing_from}
 use Rattle.sv_check.proofs.clients.take_client.Goals as goal
@@ -38,6 +39,6 @@ returns-clause-wrong c =
     let actor = c.take_events.new.actor in
     let on = c.in_ok-rest-2.ensures.on in
     let rest = c.in_ok-rest-2.rest.now in
-    let lines = start_lines entries old text (event_lines entries (numbered actor) ++ rest) made.new c.in_ok-rest-2.ensures.taken in
+    let lines = start_lines entries old text (event_lines entries (journal_events actor) ++ rest) made.new c.in_ok-rest-2.ensures.taken in
     inr (stopped_whole entries actor part.number part.first part.shape part.plan.now on.acting (on.who ∙ made.who) (on.first ∙ made.first) (on.script ∙ made.script) c.args.text.now text rest (length rest)
     c.requires.number c.requires.plan begun lines refl c.in_ok-rest-2.ensures.done (c.in-None.ensures.unfit refl))

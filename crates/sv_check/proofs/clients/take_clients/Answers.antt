@@ -1,3 +1,4 @@
+-- What is proved by hand of `take_clients`.
 use Rattle.std.proofs.Common.{◌+◌, ◌<◌, ◌++◌, ℕ, List, length, get_or, reverse, take, sym, ap, subst, ◌∙◌, arith, Bor}
 use Rattle.std.specs.List.{flat_map}
 use Rattle.sv_journal.specs.Text.{journal_text}
@@ -50,9 +51,9 @@ returns-in_err-trace-clause-wrong c =
     let is = c.plan-item.is ∙ ap (λ (ps : List Plan). get_or ps i plan) c.as_slice-plan-items.ensures in
     let l = c.loop-plan in
     let reports : ReportsAreParts c.args.scenario.now = λ z r.
-    (report_full c.steps_are_done_in_order.ensures.begun c.accepted_are_few.ensures c.requests_are_messages.ensures c.args.scenario.now c.requires.good c.read_scenario_numbers.ensures z r).part in
+    (report_full c.laws_of_runs.ensures.steps c.laws_of_runs.ensures.few c.laws_of_runs.ensures.messages c.args.scenario.now c.requires.good c.read_scenario_numbers.ensures z r).part in
     wrong_from (Trace × Bor (List ℕ)) _ (IsClientStop c.args.scenario.now.world.shape entries l.number l.first plan l.rest.now)
     (IsStop c.args.scenario.now (journal_text c.args.scenario.now.world.shape entries ++ c.args.text.now)) c.in_err-trace.field-0.0 c.from_residual.result c.from_residual.ensures.1
-    (λ left s. clients_stop c.full_replies_stay.ensures c.legal_relays_name_accepted.ensures c.args.scenario.now c.requires.good.sessions reports entries c.requires.journal c.args.text.now l.rest.now
+    (λ left s. clients_stop c.laws_of_runs.ensures.stay c.laws_of_runs.ensures.named c.args.scenario.now c.requires.good.sessions reports entries c.requires.journal c.args.text.now l.rest.now
     c.requires.short i plan l.traces l.number l.first left within is l.invariant.traces l.invariant.number l.invariant.start l.invariant.text s)
     c.in_err-trace.ensures.wrong

@@ -1,3 +1,4 @@
+-- The loop invariant of `take_clients`.
 use Rattle.std.proofs.Common.{◌≡◌, ◌+◌, ◌++◌, take, drop, reverse}
 use Rattle.std.specs.List.{flat_map}
 use Rattle.sv_scenario.specs.Sessions.{sessions_in, session_count}

@@ -1,3 +1,4 @@
+-- What is proved by hand of `take_events`.
 use Rattle.std.proofs.Common.{ℕ, List, length, refl, Bor}
 use Rattle.sv_check.specs.Serving.{entries_of}
 use Rattle.sv_check.specs.Clients.{EventsStop}

@@ -1,3 +1,4 @@
+-- The loop invariant of `take_events`.
 use Rattle.sv_check.specs.Serving.{entries_of}
 use Rattle.sv_check.proofs.Acted.{Takes}
 use Rattle.sv_check.proofs.clients.take_events.Given as goal

@@ -1,3 +1,4 @@
+-- What is proved by hand of `take_header`.
 use Rattle.std.proofs.Common.{rules, Bor, List, ◌≡◌, ℕ, length, refl}
 use Rattle.std.proofs.lemmas.Result.{err_from_is_err_and}
 use Rattle.sv_check.specs.Entering.{header_text, NoHeader}

@@ -1,3 +1,4 @@
+-- What is proved by hand of `take_journal`.
 use Rattle.std.proofs.Common.{rules, Bor, List, ◌≡◌, ℕ, ◌<◌, true, false, length, Err, refl, sym, subst}
 use Rattle.std.proofs.lemmas.Result.{err_from_is_err_and}
 use Rattle.sv_journal.specs.Answer.{Rules}
@@ -16,7 +17,7 @@ returns-in_err-count-clause-wrong c =
     let p = err_from_is_err_and c.from_residual.result c.from_residual.ensures.1 in
     passed_on (ℕ × Bor (List ℕ)) (Served × Bor (List ℕ)) c.from_residual.result p.0 c.in_err-count.field-0.0 (λ (left : ℕ). (left ≡ length text) × NoHeader text) (IsStop scenario text) p.1 p.2
     (λ left h. subst (IsStop scenario text) (sym h.0)
-    (stop_first c.full_replies_stay.ensures c.legal_relays_name_accepted.ensures c.steps_are_done_in_order.ensures.begun c.accepted_are_few.ensures c.requests_are_messages.ensures
+    (stop_first c.laws_of_runs.ensures.stay c.laws_of_runs.ensures.named c.laws_of_runs.ensures.steps c.laws_of_runs.ensures.few c.laws_of_runs.ensures.messages
     scenario c.requires.good c.requires.fits text h.1 c.requires.short))
     c.in_err-count.ensures.wrong
 
@@ -27,7 +28,7 @@ returns-in_err-rest-clause-wrong c =
     let served = c.serve_all.new.self in
     let p = err_from_is_err_and c.from_residual-in_err-rest.result c.from_residual-in_err-rest.ensures.1 in
     passed_on (Bor (List ℕ)) (Served × Bor (List ℕ)) c.from_residual-in_err-rest.result p.0 c.in_err-rest.field-0.0 (BreaksOff scenario.world.shape (entries_of served) c.in_ok-count.entries.now) (IsStop scenario text) p.1 p.2
-    (λ left b. served_broken c.full_replies_stay.ensures c.legal_relays_name_accepted.ensures c.steps_are_done_in_order.ensures.begun c.accepted_are_few.ensures c.requests_are_messages.ensures
+    (λ left b. served_broken c.laws_of_runs.ensures.stay c.laws_of_runs.ensures.named c.laws_of_runs.ensures.steps c.laws_of_runs.ensures.few c.laws_of_runs.ensures.messages
     scenario c.requires.good c.requires.fits c.in_ok-count.count text c.in_ok-count.entries.now c.in_ok-count.ensures.small c.requires.short c.in_ok-count.ensures.taken
     served c.in_ok-whole.ensures.served c.in_ok-whole.whole c.in_ok-whole.ensures.told left b)
     c.in_err-rest.ensures.wrong
@@ -39,7 +40,7 @@ returns-then-not-whole-clause-wrong c =
     let rest = c.in_ok-rest.rest.now in
     let stopped : c.in_ok-whole.whole ≡ false = search rules in
     wrong_at (Served × Bor (List ℕ)) (Err c.stop_at-stop.result) c.stop_at-stop.result c.stop_at-stop.result (length rest) (IsStop scenario text) refl refl c.stop_at-stop.ensures
-    (served_unread c.full_replies_stay.ensures c.legal_relays_name_accepted.ensures c.steps_are_done_in_order.ensures.begun c.accepted_are_few.ensures c.requests_are_messages.ensures
+    (served_unread c.laws_of_runs.ensures.stay c.laws_of_runs.ensures.named c.laws_of_runs.ensures.steps c.laws_of_runs.ensures.few c.laws_of_runs.ensures.messages
     scenario c.requires.good c.requires.fits c.in_ok-count.count text c.in_ok-count.entries.now c.in_ok-count.ensures.small c.requires.short c.in_ok-count.ensures.taken
     c.serve_all.new.self c.in_ok-whole.ensures.served c.in_ok-whole.whole c.in_ok-whole.ensures.told rest c.in_ok-rest.ensures.taken stopped)
 
@@ -50,7 +51,7 @@ returns-then-not-are_ended-clause-wrong c =
     let rest = c.in_ok-rest.rest.now in
     let all : c.in_ok-whole.whole ≡ true = search rules in
     wrong_at (Served × Bor (List ℕ)) (Err c.stop_at-stop.result) c.stop_at-stop.result c.stop_at-stop.result (length rest) (IsStop scenario text) refl refl c.stop_at-stop.ensures
-    (served_open c.full_replies_stay.ensures c.legal_relays_name_accepted.ensures c.steps_are_done_in_order.ensures.begun c.accepted_are_few.ensures c.requests_are_messages.ensures
+    (served_open c.laws_of_runs.ensures.stay c.laws_of_runs.ensures.named c.laws_of_runs.ensures.steps c.laws_of_runs.ensures.few c.laws_of_runs.ensures.messages
     scenario c.requires.good c.requires.fits c.in_ok-count.count text c.in_ok-count.entries.now c.in_ok-count.ensures.small c.requires.short c.in_ok-count.ensures.taken
     c.serve_all.new.self c.in_ok-whole.ensures.served c.in_ok-whole.whole c.in_ok-whole.ensures.told rest c.in_ok-rest.ensures.taken all (c.if-not-are_ended.ensures.not refl))
 

@@ -1,3 +1,4 @@
+-- What is proved by hand of `told_count`.
 use Rattle.std.proofs.Common.{sym}
 use Rattle.sv_check.proofs.JournalLines.{header_missing, header_told, header_unread}
 use Rattle.sv_check.proofs.journal.told_count.Goals as goal

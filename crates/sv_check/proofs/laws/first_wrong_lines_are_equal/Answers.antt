@@ -1,3 +1,4 @@
+-- What is proved by hand of `first_wrong_lines_are_equal`.
 use Rattle.sv_check.proofs.FirstWrong.{same_number}
 use Rattle.sv_check.proofs.laws.first_wrong_lines_are_equal.Goals as goal
 

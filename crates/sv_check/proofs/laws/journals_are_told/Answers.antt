@@ -1,3 +1,4 @@
+-- What is proved by hand of `journals_are_told`.
 use Rattle.sv_check.proofs.Journals.{journals_tell}
 use Rattle.sv_check.proofs.laws.journals_are_told.Goals as goal
 

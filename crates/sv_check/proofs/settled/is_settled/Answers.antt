@@ -1,3 +1,4 @@
+-- What is proved by hand of `is_settled`.
 use Rattle.std.proofs.Common.{List, reverse, sym, subst, ◌∙◌, true≢false}
 use Rattle.std.proofs.lemmas.Bool.{eq-eqb}
 use Rattle.std.proofs.lemmas.List.{take_all}

@@ -1,3 +1,4 @@
+-- The loop invariant of `is_settled`.
 use Rattle.std.proofs.Common.{reverse, take}
 use Rattle.sv_check.proofs.Settling.{IsSettling}
 use Rattle.sv_check.proofs.settled.is_settled.Given as goal

@@ -1,3 +1,4 @@
+-- The measure of `are_same_values`.
 use Rattle.std.proofs.Common.{length}
 use Rattle.sv_client.proofs.applying.+are_same_values.Given as goal
 

@@ -1,10 +1,11 @@
+-- What is proved by hand of `apply`.
 use Rattle.std.proofs.Common.{List, sym, subst}
 use Rattle.sv_wire.specs.declared.message.Held.{Held as Sent}
 use Rattle.sv_wire.specs.declared.message.Item.{Item}
 use Rattle.sv_wire.specs.declared.message.Reply.{Reply}
 use Rattle.sv_wire.specs.declared.message.Reply.TheVariants as replies
 use Rattle.sv_client.specs.Taking.{items_of}
-use Rattle.sv_client.specs.Evaluating.{AreAbove, IsApplied}
+use Rattle.sv_client.specs.Evaluating.{ItemsAreAbove, IsApplied}
 use Rattle.sv_client.proofs.applying.apply.Goals as goal
 
 pub returns-in-Relay-clause-applied : goal.returns-in-Relay-clause-applied
@@ -14,7 +15,7 @@ returns-in-Relay-clause-applied c = λ all a.
     let kept = c.apply_relay.new.versions.held in
     let after = c.apply_relay.new.pending.items in
     let before = c.args.pending.now.items in
-    let above = subst (AreAbove told) (sym c.as_slice-in-Relay-2.ensures) (subst (λ (x : Reply). AreAbove told (items_of x)) c.in-Relay.is c.requires.fits.above) in
+    let above = subst (ItemsAreAbove told) (sym c.as_slice-in-Relay-2.ensures) (subst (λ (x : Reply). ItemsAreAbove told (items_of x)) c.in-Relay.is c.requires.fits.above) in
     let raw = c.apply_relay.ensures.applied told all a above in
     let one = subst (λ (is : List Item). IsApplied told all (replies.Relay c.in-Relay.seq c.in-Relay.commit c.as_slice-in-Relay.result.now is) before r kept after) c.as_slice-in-Relay-2.ensures raw in
     let two = subst (λ (h : List Sent). IsApplied told all (replies.Relay c.in-Relay.seq c.in-Relay.commit h c.in-Relay.items) before r kept after) c.as_slice-in-Relay.ensures one in

@@ -1,3 +1,4 @@
+-- What is proved by hand of `last_values`.
 use Rattle.std.proofs.Common.{Some, option_copied, sym, ap, ◌∙◌}
 use Rattle.sv_client.proofs.Lasts.{last_values_is}
 use Rattle.sv_client.proofs.applying.last_values.Goals as goal

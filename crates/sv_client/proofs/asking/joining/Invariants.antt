@@ -1,3 +1,4 @@
+-- The loop invariant and the measure of `joining`.
 use Rattle.std.proofs.Common.{◌≡◌, ◌++◌, length, map}
 use Rattle.sv_client.specs.Traces.{submit_of}
 use Rattle.sv_client.proofs.asking.joining.Given as goal

@@ -1,3 +1,4 @@
+-- What is proved by hand of `ends_as_own`.
 use Rattle.std.proofs.Common.{option_map, option_copied, sym, ap, ◌∙◌}
 use Rattle.sv_pending.specs.Seen.{item_seen}
 use Rattle.sv_client.proofs.Lasts.{own_is}

@@ -1,5 +1,6 @@
+-- The loop invariant of `has_bad_action`.
 use Rattle.std.proofs.Common.{◌≡◌, drop}
-use Rattle.sv_client.specs.Kinds.{has_bad_action}
+use Rattle.sv_client.specs.Taking.{has_bad_action}
 use Rattle.sv_client.proofs.checks.has_bad_action.Given as goal
 
 abbrev pub invariant-loop-item : goal.invariant-loop-item

@@ -1,3 +1,4 @@
+-- The loop invariant of `is_bad_head`.
 use Rattle.std.proofs.Common.{◌≡◌, drop}
 use Rattle.sv_client.specs.Taking.{is_bad_head}
 use Rattle.sv_client.proofs.checks.is_bad_head.Given as goal

@@ -1,3 +1,4 @@
+-- The loop invariant of `items_ascend`.
 use Rattle.std.proofs.Common.{◌≡◌, ◌∷◌, map, drop}
 use Rattle.sv_world.specs.Faults.{is_ascending}
 use Rattle.sv_wire.specs.declared.message.Item.{Item}

@@ -1,8 +1,9 @@
+-- What is proved by hand of `evaluate_items`.
 use Rattle.std.proofs.Common.{◌++◌, ◌<◌, ◌-◌, List, length, drop, take, sym, subst, arith}
 use Rattle.std.proofs.lemmas.List.Elements.{All-head, All-tail}
 use Rattle.sv_wire.specs.declared.message.Item.{Item}
 use Rattle.sv_client.specs.Traces.{item_held}
-use Rattle.sv_client.specs.Evaluating.{AreAbove, AreEvaluated}
+use Rattle.sv_client.specs.Evaluating.{ItemsAreAbove, AreEvaluated}
 use Rattle.sv_client.proofs.Items.{items_more, front_is}
 use Rattle.sv_client.proofs.evaluating.+evaluate_items.Goals as goal
 
@@ -12,7 +13,7 @@ returns-clause-evaluated t c = λ told all a l.
     let items = c.args.items.now in
     let rest = take (length items - 1) (drop 1 items) in
     let whole = front_is items item (omega arith) c.item-item.is in
-    let above = subst (AreAbove told) whole l in
+    let above = subst (ItemsAreAbove told) whole l in
     let low = All-head (λ (i : Item). told < i.pos) item rest above in
     let between = c.evaluate_item.new.versions.held in
     let first = c.in_ok-values.ensures.evaluated told all a low in

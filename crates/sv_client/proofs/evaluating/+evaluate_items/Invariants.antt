@@ -1,3 +1,4 @@
+-- The measure of `evaluate_items`.
 use Rattle.std.proofs.Common.{length}
 use Rattle.sv_client.proofs.evaluating.+evaluate_items.Given as goal
 

@@ -1,3 +1,4 @@
+-- The measure of `hold_head`.
 use Rattle.std.proofs.Common.{length}
 use Rattle.sv_client.proofs.evaluating.+hold_head.Given as goal
 

@@ -1,3 +1,4 @@
+-- The measure of `hold_values`.
 use Rattle.std.proofs.Common.{length}
 use Rattle.sv_client.proofs.evaluating.+hold_values.Given as goal
 

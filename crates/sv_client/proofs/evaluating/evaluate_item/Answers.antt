@@ -1,3 +1,4 @@
+-- What is proved by hand of `evaluate_item`.
 use Rattle.std.proofs.Common.{◌<◌, ◌∙◌, ◌++◌, List, option_map, sym, ap, subst}
 use Rattle.std.specs.Prelude.{ℤ}
 use Rattle.sv_world.specs.declared.world.ObjectId.{ObjectId}
@@ -5,7 +6,7 @@ use Rattle.sv_world.specs.Sets.{at_mask}
 use Rattle.sv_eval.specs.Evaluation.{outcome_of}
 use Rattle.sv_versions.specs.Held.{AnswersAbove}
 use Rattle.sv_client.specs.Traces.{held_at}
-use Rattle.sv_client.specs.Taking.{first_missing}
+use Rattle.sv_client.specs.Taking.{first_unheld}
 use Rattle.sv_client.specs.Evaluating.{numbers, AreWithin, values_below}
 use Rattle.sv_client.proofs.Masked.{masked_has, masked_numbers}
 use Rattle.sv_client.proofs.Items.{item_done}
@@ -22,7 +23,7 @@ pub returns-clause-evaluated : goal.returns-clause-evaluated
 returns-clause-evaluated c =
     let item = c.args.item.now in
     let kept = c.args.versions.now.held in
-    let missing = ap (λ (os : List ObjectId). first_missing kept item.pos (numbers os)) (sym c.as_slice-reads.ensures) ∙ sym c.first_missing.ensures ∙ ap (option_map (λ (o : ObjectId). o.0)) c.in_default.is in
+    let missing = ap (λ (os : List ObjectId). first_unheld kept item.pos (numbers os)) (sym c.as_slice-reads.ensures) ∙ sym c.first_unheld.ensures ∙ ap (option_map (λ (o : ObjectId). o.0)) c.in_default.is in
     let values = c.in_ok-values.ensures ∙ ap (λ (os : List ObjectId). values_below kept item.pos (numbers os)) c.as_slice-reads.ensures in
     let writes = ap (λ o. o.writes) c.in_ok-outcome.ensures.exact ∙ ap (λ (vs : List (List ℤ)). (outcome_of item.action vs).writes) c.deref.ensures.value in
     let objects = c.in_ok-objects.ensures ∙ ap (at_mask item.action.mask 0) c.as_slice-reads.ensures in

@@ -1,3 +1,4 @@
+-- What is proved by hand of `masked`.
 use Rattle.std.proofs.Common.{◌+◌, ◌++◌, drop, sym, ap, ◌∙◌, arith}
 use Rattle.sv_world.specs.Sets.{is_in_mask, at_mask}
 use Rattle.sv_client.proofs.Masked.{keep_one, masked_step}

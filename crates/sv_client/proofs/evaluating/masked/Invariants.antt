@@ -1,3 +1,4 @@
+-- The loop invariant of `masked`.
 use Rattle.std.proofs.Common.{◌≡◌, ◌++◌, drop}
 use Rattle.sv_world.specs.Sets.{at_mask}
 use Rattle.sv_client.proofs.evaluating.masked.Given as goal

@@ -1,3 +1,4 @@
+-- The loop invariant of `values_below`.
 use Rattle.std.proofs.Common.{◌≡◌, take}
 use Rattle.sv_client.specs.Evaluating.{values_below, numbers}
 use Rattle.sv_client.proofs.evaluating.values_below.Given as goal

@@ -1,3 +1,4 @@
+-- What is proved by hand of `raise_events`.
 use Rattle.std.proofs.Common.{ℕ, ◌++◌, List, map, take, drop, get_or, slice_set, sym, ap, ◌∙◌, add-one, arith}
 use Rattle.sv_client.specs.declared.trace.Event.{Event}
 use Rattle.sv_client.specs.Seen.{raised}

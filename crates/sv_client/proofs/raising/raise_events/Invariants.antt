@@ -1,3 +1,4 @@
+-- The loop invariant of `raise_events`.
 use Rattle.std.proofs.Common.{◌≡◌, ◌++◌, map, take, drop}
 use Rattle.sv_client.specs.Seen.{raised}
 use Rattle.sv_client.proofs.raising.raise_events.Given as goal

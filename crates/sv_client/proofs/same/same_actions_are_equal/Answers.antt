@@ -1,3 +1,4 @@
+-- What is proved by hand of `same_actions_are_equal`.
 use Rattle.std.proofs.Common.{◌≡◌, true, subst}
 use Rattle.sv_world.specs.declared.action.Action.{Action}
 use Rattle.sv_client.specs.Same.{is_same_action}

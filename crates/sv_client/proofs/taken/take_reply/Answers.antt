@@ -1,3 +1,4 @@
+-- What is proved by hand of `take_reply`.
 use Rattle.std.proofs.Common.{◌≡◌, ℕ, List, Ok, sym, ap, subst, ◌∙◌}
 use Rattle.sv_versions.specs.Held.{Store, AnswersAbove}
 use Rattle.sv_pending.specs.Made.{PendingList}

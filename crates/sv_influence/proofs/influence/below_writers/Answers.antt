@@ -1,3 +1,4 @@
+-- What the check leaves to prove of `below_writers`.
 use Rattle.std.proofs.Common.{rules, ◌≡◌, ℕ, ◌+◌, Bool, false, ◌||◌, inl, inr, drop, get_or, subst, sym, ◌∙◌, ap, arith, ne_eqb}
 use Rattle.std.proofs.lemmas.Bool.{cases_eq}
 use Rattle.sv_world.specs.Control.{is_in, action_at}

@@ -1,3 +1,4 @@
+-- The loop invariant of `below_writers`.
 use Rattle.std.proofs.Common.{◌≡◌, ℕ, ◌≤◌, true, false, drop}
 use Rattle.sv_world.specs.Control.{is_in, action_at}
 use Rattle.sv_world.specs.Sets.{read_set, write_set}

@@ -1,3 +1,4 @@
+-- What the check leaves to prove of `by_sources`.
 use Rattle.std.proofs.Common.{◌≡◌, ℕ, suc, ◌+◌, ◌<◌, ◌≤◌, ◌++◌, List, [], ◌∷◌, length, map, max, sym, ◌∙◌, ap, arith, length-append}
 use Rattle.sv_world.specs.declared.action.Action.{Action}
 use Rattle.sv_world.specs.Control.{action_at, influence, chain_length, distance}

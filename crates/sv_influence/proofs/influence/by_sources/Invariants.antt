@@ -1,3 +1,4 @@
+-- The loop invariant of `by_sources`, and what gets smaller.
 use Rattle.std.proofs.Common.{◌≡◌, ◌+◌, length, map, max}
 use Rattle.sv_world.specs.Control.{action_at, chain_length, influence_distance, distance}
 use Rattle.sv_world.specs.Trees.{greatest}

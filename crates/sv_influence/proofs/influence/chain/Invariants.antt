@@ -1,3 +1,4 @@
+-- The ghost arguments of `chain`.
 use Rattle.sv_influence.proofs.influence.chain.Given as goal
 
 abbrev pub ghosts-walk_down : goal.ghosts-walk_down

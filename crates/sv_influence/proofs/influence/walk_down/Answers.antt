@@ -1,3 +1,4 @@
+-- What the check leaves to prove of `walk_down`.
 use Rattle.std.proofs.Common.{◌≡◌, ℕ, ◌||◌, [], List, length, map, max, ◌<◌, ◌≤◌, ◌-◌, ◌^◌, suc, sym, ◌∙◌, ap, ap₂, arith}
 use Rattle.std.specs.List.{list_any}
 use Rattle.sv_world.specs.declared.action.Action.{Action}

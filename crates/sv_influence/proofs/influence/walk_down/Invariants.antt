@@ -1,3 +1,4 @@
+-- The loop invariant of `walk_down`, and what gets smaller.
 use Rattle.std.proofs.Common.{◌≡◌, ℕ, ◌≤◌, ◌||◌, length, map}
 use Rattle.sv_world.specs.Control.{is_in, action_at, influence, distance}
 use Rattle.sv_world.specs.Trees.{greatest}

@@ -1,3 +1,4 @@
+-- What the check leaves to prove of `want_sources`.
 use Rattle.std.proofs.Common.{◌+◌, ◌<◌, length, drop, get_or, sym, ◌∙◌, ap, arith}
 use Rattle.std.proofs.lemmas.List.{drop_more, length-map}
 use Rattle.sv_world.specs.declared.action.Action.{Action}

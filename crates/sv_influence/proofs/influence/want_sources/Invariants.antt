@@ -1,3 +1,4 @@
+-- The loop invariant of `want_sources`.
 use Rattle.std.proofs.Common.{◌≡◌, ℕ, ◌++◌, drop}
 use Rattle.sv_world.specs.Control.{is_in}
 use Rattle.sv_world.specs.Sets.{read_set}

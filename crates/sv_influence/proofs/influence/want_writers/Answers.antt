@@ -1,3 +1,4 @@
+-- What the check leaves to prove of `want_writers`.
 use Rattle.std.proofs.Common.{◌≡◌, ◌+◌, List, length, drop, get_or, ◌∙◌, ap, arith}
 use Rattle.std.proofs.lemmas.List.{length-map}
 use Rattle.sv_world.specs.declared.world.ObjectId.{ObjectId}

@@ -1,3 +1,4 @@
+-- What the check leaves to prove of `closure`.
 use Rattle.std.proofs.Common.{◌≡◌, ℕ, List, ◌<◌, All, sym, ◌∙◌, ap, subst, arith}
 use Rattle.sv_world.specs.declared.world.Shape.{Shape}
 use Rattle.sv_world.proofs.Bases.{head_for-iff}

@@ -1,3 +1,4 @@
+-- The loop invariant of `expand_all`, and what gets smaller.
 use Rattle.std.proofs.Common.{◌≡◌, ℕ, true, ◌+◌, ◌-◌, ◌*◌, ◌<◌, ◌≤◌, ◌++◌, [], length, reverse}
 use Rattle.std.specs.Prelude.{IfNone, option_to_list}
 use Rattle.sv_world.specs.Faults.{is_ascending}
@@ -9,12 +10,12 @@ use Rattle.sv_influence.proofs.lacking.expand_all.Given as goal
 
 abbrev pub invariant-loop-next : goal.invariant-loop-next
 invariant-loop-next g l = record {
-  within : (j : ℕ) → is_in j (l.wanted ++ option_to_list l.next) ≡ true → (l.queue.commit < j) × (j ≤ l.pos);
-  ascending : is_ascending (l.wanted ++ option_to_list l.next) ≡ true;
-  last : IfNone l.next (l.wanted ≡ []);
-  whole : wanted_up_to (queue_actions l.queue) l.queue.commit (sent_positions l.queue l.session) l.pos (l.wanted ++ option_to_list l.next) ++ reverse l.items.items ≡ lacking l.queue l.session l.pos;
-  bases : AreBases l.queue.shape.objects (queue_actions l.queue) l.queue.commit (given_objects l.queue l.session) l.items.items l.bases;
-  ticks : l.steps ≤ l.fn.steps + 33 * length l.items.items;
+  within : (j : ℕ) → is_in j (l.missing.wanted ++ option_to_list l.next) ≡ true → (l.queue.commit < j) × (j ≤ l.pos);
+  ascending : is_ascending (l.missing.wanted ++ option_to_list l.next) ≡ true;
+  last : IfNone l.next (l.missing.wanted ≡ []);
+  whole : wanted_up_to (queue_actions l.queue) l.queue.commit (sent_positions l.queue l.session) l.pos (l.missing.wanted ++ option_to_list l.next) ++ reverse l.items.items ≡ lacking l.queue l.session l.pos;
+  bases : AreBases l.queue.shape.objects (queue_actions l.queue) l.queue.commit (given_objects l.queue l.session) l.items.items l.missing.bases;
+  ticks : l.steps ≤ l.fn.steps + 1 + 33 * length l.items.items;
 }
 
 abbrev pub decreases-loop-next : goal.decreases-loop-next

@@ -1,3 +1,4 @@
+-- What the check leaves to prove of `first_wanted`.
 use Rattle.std.proofs.Common.{sym}
 use Rattle.sv_influence.proofs.Takes.{start-sent}
 use Rattle.sv_influence.proofs.lacking.first_wanted.Goals as goal

@@ -1,3 +1,4 @@
+-- The loop invariant of `objects_of`.
 use Rattle.std.proofs.Common.{◌≡◌, map, take}
 use Rattle.sv_world.specs.declared.world.ObjectId.{ObjectId}
 use Rattle.sv_influence.proofs.lacking.objects_of.Given as goal

@@ -1,3 +1,4 @@
+-- What the check leaves to prove of `bases_among`.
 use Rattle.std.proofs.Common.{◌≡◌, ℕ, ◌<◌, ◌&&◌, not, List, [], ◌∷◌, ◌++◌, map, sym, ◌∙◌, ap, arith}
 use Rattle.std.proofs.lemmas.Bool.{and_from, and_left, and_right, not_from_true, not_from_false}
 use Rattle.std.proofs.lemmas.List.{map_push}

@@ -1,3 +1,4 @@
+-- The loop invariant of `bases_among`.
 use Rattle.std.proofs.Common.{◌≡◌, ◌&&◌, not, map, filter}
 use Rattle.sv_world.specs.declared.world.ObjectId.{ObjectId}
 use Rattle.sv_world.specs.Control.{is_in, below}

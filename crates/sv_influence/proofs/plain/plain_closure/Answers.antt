@@ -1,8 +1,9 @@
-use Rattle.std.proofs.Common.{◌≡◌, ℕ, ◌<◌, List, Vec, Global, reverse, sym, ◌∙◌, ap, subst, arith}
+-- What the check leaves to prove of `plain_closure`.
+use Rattle.std.proofs.Common.{◌≡◌, ℕ, ◌<◌, List, reverse, sym, ◌∙◌, ap, subst, arith}
 use Rattle.std.proofs.lemmas.List.{reverse-reverse}
 use Rattle.sv_world.specs.Control.{reads_committed}
 use Rattle.sv_queue.specs.Queue.{queue_actions}
-use Rattle.sv_influence.specs.declared.objects.ObjectSet.{ObjectSet}
+use Rattle.sv_influence.specs.declared.plain.Walk.{Walk}
 use Rattle.sv_influence.specs.Lacking.{lacking}
 use Rattle.sv_influence.specs.Objects.{has_object}
 use Rattle.sv_influence.proofs.Counts.{above}
@@ -35,28 +36,28 @@ loop-at-preserved g c =
     let t = c.loop-at-test.true in
     let low : v.commit < at = omega arith in
     let high = c.loop-at.invariant.high in
-    let f = has_object c.loop-at.objects.words in
+    let f = has_object c.loop-at.walk.objects.words in
     record {
       commit = e;
       low = omega arith;
       high = omega arith;
       items = elim c.if-is_wanted.branch [
         | then-is_wanted+in_ok-visit w ↦
-            ap (λ (u : Vec ℕ Global). u.items) w.items-is
-            ∙ (visited v s pos at f (has_object w.visit.new.objects.words) c.loop-at.items.items w.visit.new.items.items low high c.loop-at.invariant.objects
+            ap (λ (u : Walk). u.items.items) w.walk-is
+            ∙ (visited v s pos at f (has_object w.visit.new.self.objects.words) c.loop-at.walk.items.items w.visit.new.self.items.items low high c.loop-at.invariant.objects
             (sym c.is_wanted.ensures.wanted ∙ w.if-is_wanted.true) w.in_ok-visit.ensures.items w.in_ok-visit.ensures.objects c.loop-at.invariant.items).0
         | else-is_wanted w ↦
-            ap (λ (u : Vec ℕ Global). u.items) w.items-is
-            ∙ (passed v s pos at f c.loop-at.items.items low high c.loop-at.invariant.objects (sym c.is_wanted.ensures.wanted ∙ w.if-is_wanted.false) c.loop-at.invariant.items).0
+            ap (λ (u : Walk). u.items.items) w.walk-is
+            ∙ (passed v s pos at f c.loop-at.walk.items.items low high c.loop-at.invariant.objects (sym c.is_wanted.ensures.wanted ∙ w.if-is_wanted.false) c.loop-at.invariant.items).0
       ];
       objects = elim c.if-is_wanted.branch [
         | then-is_wanted+in_ok-visit w ↦ (λ x.
-            ap (λ (o : ObjectSet). has_object o.words x) w.objects-is
-            ∙ (visited v s pos at f (has_object w.visit.new.objects.words) c.loop-at.items.items w.visit.new.items.items low high c.loop-at.invariant.objects
+            ap (λ (u : Walk). has_object u.objects.words x) w.walk-is
+            ∙ (visited v s pos at f (has_object w.visit.new.self.objects.words) c.loop-at.walk.items.items w.visit.new.self.items.items low high c.loop-at.invariant.objects
             (sym c.is_wanted.ensures.wanted ∙ w.if-is_wanted.true) w.in_ok-visit.ensures.items w.in_ok-visit.ensures.objects c.loop-at.invariant.items).1 x)
         | else-is_wanted w ↦ (λ x.
-            ap (λ (o : ObjectSet). has_object o.words x) w.objects-is
-            ∙ (passed v s pos at f c.loop-at.items.items low high c.loop-at.invariant.objects (sym c.is_wanted.ensures.wanted ∙ w.if-is_wanted.false) c.loop-at.invariant.items).1 x)
+            ap (λ (u : Walk). has_object u.objects.words x) w.walk-is
+            ∙ (passed v s pos at f c.loop-at.walk.items.items low high c.loop-at.invariant.objects (sym c.is_wanted.ensures.wanted ∙ w.if-is_wanted.false) c.loop-at.invariant.items).1 x)
       ];
       ticks = (let was = c.loop-at.invariant.ticks in let one = c.is_wanted.ensures.ticks in elim c.if-is_wanted.branch [
         | then-is_wanted+in_ok-visit w ↦ (let two = w.visit.ensures.ticks in let is = w.steps-is in omega arith)
@@ -85,5 +86,5 @@ returns-clause-head g c =
     let low : v.commit < c.args.pos = c.requires.0 in
     let here : c.loop-at.at ≡ v.commit = omega arith in
     c.in_ok-head.ensures
-    ∙ bases-had v c.args.session c.args.pos (has_object c.loop-at.objects.words) low
-    (subst (λ (n : ℕ). AreToBeHad v c.args.session c.args.pos n (has_object c.loop-at.objects.words)) here c.loop-at.invariant.objects)
+    ∙ bases-had v c.args.session c.args.pos (has_object c.loop-at.walk.objects.words) low
+    (subst (λ (n : ℕ). AreToBeHad v c.args.session c.args.pos n (has_object c.loop-at.walk.objects.words)) here c.loop-at.invariant.objects)

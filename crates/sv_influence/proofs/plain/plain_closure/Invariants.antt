@@ -1,3 +1,4 @@
+-- The loop invariant of `plain_closure`, and what gets smaller.
 use Rattle.std.proofs.Common.{◌≡◌, ◌≤◌, ◌+◌, ◌*◌, reverse}
 use Rattle.sv_influence.specs.Lacking.{lacking}
 use Rattle.sv_influence.specs.Objects.{has_object}
@@ -10,8 +11,8 @@ invariant-loop-at g l = record {
   commit : l.commit ≡ l.queue.commit;
   low : l.commit ≤ l.at;
   high : l.at ≤ l.pos;
-  items : l.items.items ≡ reverse (above l.at (lacking l.queue l.session l.pos));
-  objects : AreToBeHad l.queue l.session l.pos l.at (has_object l.objects.words);
+  items : l.walk.items.items ≡ reverse (above l.at (lacking l.queue l.session l.pos));
+  objects : AreToBeHad l.queue l.session l.pos l.at (has_object l.walk.objects.words);
   ticks : l.steps + 3 * l.at ≤ l.fn.steps + 3 * l.pos;
 }
 

@@ -1,3 +1,4 @@
+-- What the check leaves to prove of `examples_are_answered`.
 use Rattle.sv_journal.proofs.Worked as worked
 use Rattle.sv_journal.proofs.laws.examples_are_answered.Goals as goal
 

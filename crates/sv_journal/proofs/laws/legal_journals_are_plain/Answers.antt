@@ -1,3 +1,4 @@
+-- What the check leaves to prove of `legal_journals_are_plain`.
 use Rattle.sv_journal.proofs.Plain.{plain-keeping, plain-legal, legal-plain}
 use Rattle.sv_journal.proofs.laws.legal_journals_are_plain.Goals as goal
 

@@ -1,3 +1,4 @@
+-- What the check leaves to prove of `legal_relays_name_accepted`.
 use Rattle.sv_journal.proofs.Named.{legal_relays_name_accepted}
 use Rattle.sv_journal.proofs.laws.legal_relays_name_accepted.Goals as goal
 

@@ -1,3 +1,4 @@
+-- What the check leaves to prove of `legal_replies_are_messages`.
 use Rattle.sv_journal.proofs.Messages.{legal_replies_are_messages}
 use Rattle.sv_journal.proofs.laws.legal_replies_are_messages.Goals as goal
 

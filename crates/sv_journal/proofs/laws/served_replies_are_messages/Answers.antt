@@ -1,3 +1,4 @@
+-- What the check leaves to prove of `served_replies_are_messages`.
 use Rattle.sv_journal.proofs.Messages.{served_replies_are_messages}
 use Rattle.sv_journal.proofs.laws.served_replies_are_messages.Goals as goal
 

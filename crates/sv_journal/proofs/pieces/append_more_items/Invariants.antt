@@ -1,3 +1,4 @@
+-- The loop invariant of `append_more_items`.
 use Rattle.std.proofs.Common.{◌≡◌, ◌∷◌, ◌++◌, reverse, string_bytes, drop}
 use Rattle.std.specs.List.{flat_map}
 use Rattle.sv_journal.specs.History.{accepted}

@@ -1,3 +1,4 @@
+-- The loop invariant of `append_more_results`.
 use Rattle.std.proofs.Common.{◌≡◌, ◌∷◌, ◌++◌, string_bytes, drop}
 use Rattle.std.specs.List.{flat_map}
 use Rattle.sv_wire.specs.declared.message.Done1.{Done1}

@@ -1,3 +1,4 @@
+-- The loop invariant of `append_entries`.
 use Rattle.std.proofs.Common.{◌≡◌, ◌+◌, ◌++◌, reverse, string_bytes, drop}
 use Rattle.sv_journal.specs.History.{accepted}
 use Rattle.sv_journal.specs.Text.{entry_lines}

@@ -1,3 +1,4 @@
+-- The loop invariant of `are_accepted`.
 use Rattle.std.proofs.Common.{ℕ, ◌<◌, ◌≤◌, slice_index_or}
 use Rattle.sv_journal.proofs.print.are_accepted.Given as goal
 

@@ -1,3 +1,4 @@
+-- The loop invariant of `relays_name_accepted`.
 use Rattle.std.proofs.Common.{ℕ, ◌<◌, slice_index_or}
 use Rattle.sv_journal.specs.declared.entry.Entry.{Entry}
 use Rattle.sv_journal.specs.Text.{NamesAccepted}

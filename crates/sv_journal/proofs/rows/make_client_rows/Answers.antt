@@ -1,3 +1,4 @@
+-- What the check leaves to prove of `make_client_rows`.
 use Rattle.std.proofs.Common.{None, arith}
 use Rattle.sv_journal.proofs.Filling.{filled}
 use Rattle.sv_journal.proofs.rows.make_client_rows.Goals as goal

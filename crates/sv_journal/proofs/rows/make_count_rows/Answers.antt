@@ -1,3 +1,4 @@
+-- What the check leaves to prove of `make_count_rows`.
 use Rattle.std.proofs.Common.{arith}
 use Rattle.sv_journal.proofs.Filling.{filled}
 use Rattle.sv_journal.proofs.rows.make_count_rows.Goals as goal

@@ -1,3 +1,4 @@
+-- What the check leaves to prove of `append_held`.
 use Rattle.sv_journal.proofs.Fronts.{may_cut}
 use Rattle.sv_journal.proofs.text.append_held.Goals as goal
 

@@ -1,3 +1,4 @@
+-- What the check leaves to prove of `append_objects`.
 use Rattle.sv_journal.proofs.Fronts.{may_cut}
 use Rattle.sv_journal.proofs.text.append_objects.Goals as goal
 

@@ -1,3 +1,4 @@
+-- The loop invariant of `put_more_objects`.
 use mathlib.Core.List.{IsPrefix}
 use Rattle.std.proofs.Common.{◌≡◌, ◌∷◌, ◌++◌, string_bytes, drop}
 use Rattle.std.specs.List.{flat_map}

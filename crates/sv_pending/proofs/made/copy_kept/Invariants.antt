@@ -1,3 +1,4 @@
+-- The loop invariant of `copy_kept`.
 use Rattle.std.proofs.Common.{◌≡◌, take}
 use Rattle.sv_pending.proofs.made.copy_kept.Given as goal
 

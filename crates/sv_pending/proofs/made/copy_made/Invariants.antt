@@ -1,3 +1,4 @@
+-- The loop invariant of `copy_made`.
 use Rattle.std.proofs.Common.{◌≡◌, take}
 use Rattle.sv_pending.proofs.made.copy_made.Given as goal
 

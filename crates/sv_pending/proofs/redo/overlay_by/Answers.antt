@@ -1,3 +1,4 @@
+-- What is proved by hand of `overlay_by`.
 use Rattle.std.proofs.Common.{◌<◌, List, length, None, ap, sym, ◌∙◌, arith}
 use Rattle.std.specs.Prelude.{ℤ}
 use Rattle.sv_world.specs.Sets.{write_set}

@@ -1,3 +1,4 @@
+-- What is proved by hand of `place_of`.
 use Rattle.std.proofs.Common.{sym, ◌∙◌, arith}
 use Rattle.std.proofs.lemmas.Bool.{both_ways, eq-eqb}
 use Rattle.sv_world.specs.declared.world.ObjectId.{ObjectId}

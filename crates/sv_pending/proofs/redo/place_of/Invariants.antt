@@ -1,3 +1,4 @@
+-- The loop invariant of `place_of`.
 use Rattle.std.proofs.Common.{◌≡◌, ◌≤◌}
 use Rattle.sv_world.specs.Sets.{write_set}
 use Rattle.sv_pending.specs.Made.{place_in}

@@ -1,7 +1,8 @@
+-- What is proved by hand of `results_in`.
 use Rattle.std.proofs.Common.{◌≡◌, ◌<◌, ◌≤◌, List, length, get_or, refl, sym, ap, subst, ◌∙◌, arith}
 use Rattle.std.proofs.lemmas.List.{length_push, drop_all}
 use Rattle.sv_pending.specs.Pending.{PendingAction, kept_of, redone_after}
-use Rattle.sv_pending.specs.Made.{paired, IsWhole}
+use Rattle.sv_pending.specs.Made.{paired, IsWholeResult}
 use Rattle.sv_pending.specs.declared.made.Made.{Made}
 use Rattle.sv_pending.proofs.Overlays.{redo_more, whole_more, whole_none, paired_none, length-paired}
 use Rattle.sv_pending.proofs.redo.results_in.Goals as goal
@@ -18,7 +19,7 @@ loop-next-preserved c =
     let here : m ≡ get_or ms (length done) m = c.next-item.is ∙ ap (λ i. get_or ms i m) (sym long) in
     let kept = rw c.deref.ensures.value at c.in_ok-kept.ensures.kept in
     let kept_there : k ≡ kept_of held (paired ms done) (get_or ms (length done) m).action = kept ∙ ap (λ (n : Made). kept_of held (paired ms done) n.action) here in
-    let whole : IsWhole (get_or ms (length done) m).action k = subst (λ (n : Made). IsWhole n.action k) here c.in_ok-kept.ensures.whole in
+    let whole : IsWholeResult (get_or ms (length done) m).action k = subst (λ (n : Made). IsWholeResult n.action k) here c.in_ok-kept.ensures.whole in
     rw (c.in_ok-push.ensures.items, length_push done k) (
       omega arith,
       whole_more ms done k m short c.loop-next.invariant.1 whole,

@@ -1,3 +1,4 @@
+-- The loop invariant of `results_in`.
 use Rattle.std.proofs.Common.{◌≡◌, List, length, drop, Option}
 use Rattle.std.specs.Prelude.{ℤ}
 use Rattle.sv_pending.specs.Pending.{redone_after, redone}

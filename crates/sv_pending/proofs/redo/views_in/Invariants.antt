@@ -1,3 +1,4 @@
+-- The loop invariant of `views_in`.
 use Rattle.std.proofs.Common.{◌≡◌, length, map, drop}
 use Rattle.sv_world.specs.declared.world.ObjectId.{ObjectId}
 use Rattle.sv_pending.specs.Pending.{views_over}

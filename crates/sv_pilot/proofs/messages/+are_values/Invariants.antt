@@ -1,3 +1,4 @@
+-- The measure of `are_values`.
 use Rattle.std.proofs.Common.{length}
 use Rattle.sv_pilot.proofs.messages.+are_values.Given as goal
 

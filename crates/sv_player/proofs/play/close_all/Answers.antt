@@ -1,3 +1,4 @@
+-- What is proved by hand of `close_all`.
 use Rattle.std.proofs.Common.{get_or, arith}
 use Rattle.std.proofs.lemmas.Option.{slice_get-get_or}
 use Rattle.sv_player.proofs.Stepping.{one_closed, all_closed}

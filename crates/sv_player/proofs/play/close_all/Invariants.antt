@@ -1,3 +1,4 @@
+-- The loop invariant of `close_all`.
 use Rattle.sv_player.specs.Ends.{AreKept, IsClosing}
 use Rattle.sv_player.proofs.play.close_all.Given as goal
 

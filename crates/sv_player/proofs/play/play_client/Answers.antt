@@ -1,3 +1,4 @@
+-- What is proved by hand of `play_client`.
 use Rattle.std.proofs.Common.{◌≡◌, ◌++◌, length, take, drop, sym, ap, ◌∙◌}
 use Rattle.sv_client.proofs.Backwards.{written_back}
 use Rattle.sv_player.proofs.Reported.{played_over, closed_over, trace_is, followed, ends_done, lines_are, cause_is, exact_is}

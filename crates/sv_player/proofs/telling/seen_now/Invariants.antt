@@ -1,3 +1,4 @@
+-- The loop invariant of `seen_now`.
 use Rattle.std.proofs.Common.{◌≡◌, take}
 use Rattle.sv_player.specs.Seen.{seen_by}
 use Rattle.sv_player.proofs.telling.seen_now.Given as goal

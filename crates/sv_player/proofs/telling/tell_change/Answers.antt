@@ -1,3 +1,4 @@
+-- What is proved by hand of `tell_change`.
 use Rattle.std.proofs.Common.{sym, ap, ◌∙◌}
 use Rattle.sv_script.specs.Telling.{same_view}
 use Rattle.sv_player.proofs.Seeing.{still_seen}

@@ -1,3 +1,4 @@
+-- What is proved by hand of `tell_changes`.
 use Rattle.std.proofs.Common.{◌≡◌, ◌<◌, List, length, get_or, set, sym, ap, subst, ◌∙◌, arith}
 use Rattle.std.specs.Prelude.{All}
 use Rattle.sv_watch.specs.Told.{IsChangeIn}

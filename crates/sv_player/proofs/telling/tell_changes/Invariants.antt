@@ -1,3 +1,4 @@
+-- The loop invariant of `tell_changes`.
 use Rattle.std.proofs.Common.{◌≡◌, ◌++◌, take, map}
 use Rattle.sv_watch.specs.Told.{change_line}
 use Rattle.sv_player.specs.Seen.{changes_since, seen_of}

@@ -1,3 +1,4 @@
+-- What the check leaves to prove of `remove_last_before`.
 use Rattle.std.proofs.Common.{[], ap, arith}
 use Rattle.sv_queue.specs.Written.{front_of}
 use Rattle.sv_queue.proofs.WrittenObjects.{unchanged, changed_slot, kept_slot, writes_before-zero}

@@ -1,3 +1,4 @@
+-- The loop invariant of `remove_last_before`.
 use Rattle.std.proofs.Common.{[]}
 use Rattle.sv_queue.specs.Written.{IsChangedAt, writes_before, front_of}
 use Rattle.sv_queue.proofs.writers.remove_last_before.Given as goal

@@ -1,3 +1,4 @@
+-- What the check leaves to prove of `give_written`.
 use Rattle.std.proofs.Common.{◌≡◌, [], length, List, ℕ, ap, arith}
 use Rattle.sv_queue.proofs.WrittenObjects.{unchanged, put_slot, kept_slot, writes_before-zero, writes_before_all}
 use Rattle.sv_queue.proofs.written.give_written.Goals as goal

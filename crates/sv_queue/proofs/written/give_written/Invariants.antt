@@ -1,3 +1,4 @@
+-- The loop invariant of `give_written`.
 use Rattle.std.proofs.Common.{[]}
 use Rattle.sv_queue.specs.Written.{IsChangedAt, writes_before}
 use Rattle.sv_queue.proofs.written.give_written.Given as goal

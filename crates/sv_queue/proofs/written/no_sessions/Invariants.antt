@@ -1,3 +1,4 @@
+-- The loop invariant of `no_sessions`.
 use Rattle.std.proofs.Common.{◌≡◌, [], replicate}
 use Rattle.sv_queue.proofs.written.no_sessions.Given as goal
 

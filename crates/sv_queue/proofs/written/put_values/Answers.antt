@@ -1,3 +1,4 @@
+-- What the check leaves to prove of `put_values`.
 use Rattle.std.proofs.Common.{◌≡◌, [], ◌∷◌, append-nil, set, length, drop, refl, ap, sym, ◌∙◌, arith}
 use Rattle.std.proofs.lemmas.List.{nil_from_length}
 use Rattle.std.specs.Vec.Iter.{into_iter_items}

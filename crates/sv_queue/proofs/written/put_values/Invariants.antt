@@ -1,3 +1,4 @@
+-- The loop invariant of `put_values`.
 use Rattle.std.proofs.Common.{◌≡◌, length, drop}
 use Rattle.std.specs.Vec.Iter.{into_iter_items}
 use Rattle.sv_queue.specs.Queue.{put_values}

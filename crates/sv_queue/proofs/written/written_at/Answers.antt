@@ -1,3 +1,4 @@
+-- What the check leaves to prove of `written_at`.
 use Rattle.std.proofs.Common.{List, ap, sym, ◌∙◌, [], ◌∷◌, ◌++◌, get_or}
 use Rattle.std.proofs.lemmas.Bool.{cond-true, cond-false, eq-eqb, ne_eqb}
 use Rattle.sv_world.specs.declared.world.ObjectId.{ObjectId}

@@ -1,3 +1,4 @@
+-- What is proved by hand of `beginnings_follow`.
 use Rattle.sv_script.proofs.Beginnings.{beginnings-follow, traces-follow}
 use Rattle.sv_script.proofs.following.beginnings_follow.Goals as goal
 

@@ -1,3 +1,4 @@
+-- What is proved by hand of `events_are_few`.
 use Rattle.sv_script.proofs.Counts.{events-few, events-of_traces_few}
 use Rattle.sv_script.proofs.following.events_are_few.Goals as goal
 

@@ -1,3 +1,4 @@
+-- What is proved by hand of `events_have_their_places`.
 use Rattle.sv_script.proofs.Places.{joins-where_needed, cuts-bring_join, joins-bring_reply, steps-wait, leaves-wait, syncs-wait, nothing-after_quit, nothing-after_bye}
 use Rattle.sv_script.proofs.following.events_have_their_places.Goals as goal
 

@@ -1,3 +1,4 @@
+-- What is proved by hand of `examples_follow`.
 use Rattle.sv_script.proofs.Examples.{shown-follows, unsynced-not, quit-follows, cut-follows}
 use Rattle.sv_script.proofs.following.examples_follow.Goals as goal
 

@@ -1,3 +1,4 @@
+-- What is proved by hand of `steps_are_done_in_order`.
 use Rattle.sv_script.proofs.Ends.{ends-do_all}
 use Rattle.sv_script.proofs.Steps.{steps-in_order}
 use Rattle.sv_script.proofs.following.steps_are_done_in_order.Goals as goal

@@ -1,3 +1,4 @@
+-- What is proved by hand of `changes_are_told_at_once`.
 use Rattle.sv_script.proofs.Told.{told-at_once, lines-at_once}
 use Rattle.sv_script.proofs.telling.changes_are_told_at_once.Goals as goal
 

@@ -1,3 +1,4 @@
+-- What is proved by hand of `each_change_is_told`.
 use Rattle.sv_script.proofs.Told.{changes-of_trace, each-told, others-quiet}
 use Rattle.sv_script.proofs.telling.each_change_is_told.Goals as goal
 

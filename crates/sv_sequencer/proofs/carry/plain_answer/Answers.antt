@@ -1,3 +1,4 @@
+-- What the check leaves to prove of `plain_answer`.
 use Rattle.sv_sequencer.proofs.Quiet.{some-plain}
 use Rattle.sv_sequencer.proofs.carry.plain_answer.Goals as goal
 

@@ -1,3 +1,4 @@
+-- What the check leaves to prove of `outcome_at`.
 use Rattle.std.proofs.Common.{sym, ◌∙◌}
 use Rattle.sv_sequencer.proofs.Relayed.{outcome-within, outcome-outside}
 use Rattle.sv_sequencer.proofs.clients.outcome_at.Goals as goal

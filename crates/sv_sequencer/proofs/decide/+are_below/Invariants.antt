@@ -1,3 +1,4 @@
+-- What gets smaller in `are_below`.
 use Rattle.std.proofs.Common.{length}
 use Rattle.sv_sequencer.proofs.decide.+are_below.Given as goal
 

@@ -1,3 +1,4 @@
+-- What the check leaves to prove of `deliver`.
 use Rattle.std.proofs.Common.{◌≡◌, ℕ, ◌<◌, List, All, sym, ◌∙◌, ap, subst}
 use Rattle.sv_world.specs.declared.world.Shape.{Shape}
 use Rattle.sv_wire.specs.declared.message.Held.{Held}

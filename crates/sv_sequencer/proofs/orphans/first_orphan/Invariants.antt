@@ -1,3 +1,4 @@
+-- The ghost arguments of `first_orphan`.
 use Rattle.sv_sequencer.proofs.orphans.first_orphan.Given as goal
 
 abbrev pub ghosts-search : goal.ghosts-search

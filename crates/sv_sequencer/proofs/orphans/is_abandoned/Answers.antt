@@ -1,3 +1,4 @@
+-- What the check leaves to prove of `is_abandoned`.
 use Rattle.std.proofs.Common.{◌≡◌, ◌<◌, true, ◌||◌, not, length, get_or, inl, inr, sym, ◌∙◌, arith}
 use Rattle.std.proofs.lemmas.Bool.{false_from_ne_true, both_ways, or_cases, not-true}
 use Rattle.sv_world.specs.Control.{is_in}

@@ -1,3 +1,4 @@
+-- The loop invariant of `is_abandoned`.
 use Rattle.std.proofs.Common.{◌≡◌, ℕ, ◌<◌, true, ◌||◌, not, get_or}
 use Rattle.sv_world.specs.Control.{is_in}
 use Rattle.sv_queue.specs.Queue.{sent_positions}

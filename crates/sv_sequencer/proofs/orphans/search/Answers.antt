@@ -1,3 +1,4 @@
+-- What the check leaves to prove of `search`.
 use Rattle.std.proofs.Common.{suc, ◌+◌, sym, ◌∙◌, arith}
 use Rattle.sv_queue.specs.Queue.{last_position}
 use Rattle.sv_sequencer.specs.Orphans.{is_orphan_in}

@@ -1,3 +1,4 @@
+-- The loop invariant of `search`.
 use Rattle.std.proofs.Common.{◌≡◌, ℕ, ◌≤◌, false}
 use Rattle.sv_sequencer.specs.Orphans.{is_orphan_in}
 use Rattle.sv_sequencer.proofs.orphans.search.Given as goal

@@ -1,3 +1,4 @@
+-- What gets smaller in `give_all`.
 use Rattle.std.proofs.Common.{length}
 use Rattle.sv_sequencer.proofs.relays.+give_all.Given as goal
 

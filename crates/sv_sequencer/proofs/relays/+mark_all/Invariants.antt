@@ -1,3 +1,4 @@
+-- What gets smaller in `mark_all`.
 use Rattle.std.proofs.Common.{length}
 use Rattle.sv_sequencer.proofs.relays.+mark_all.Given as goal
 

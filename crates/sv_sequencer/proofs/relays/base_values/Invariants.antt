@@ -1,3 +1,4 @@
+-- The loop invariant of `base_values`.
 use Rattle.std.proofs.Common.{◌≡◌, map, take}
 use Rattle.sv_world.specs.declared.world.ObjectId.{ObjectId}
 use Rattle.sv_sequencer.specs.Relays.{held_in}

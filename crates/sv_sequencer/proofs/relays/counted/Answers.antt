@@ -1,3 +1,4 @@
+-- What the check leaves to prove of `counted`.
 use Rattle.std.proofs.Common.{map, All, sym, ◌∙◌, ap, subst}
 use Rattle.sv_world.specs.declared.world.ObjectId.{ObjectId}
 use Rattle.sv_queue.specs.Queue.{IsUncommitted}

@@ -1,3 +1,4 @@
+-- The loop invariant of `items_of`.
 use Rattle.std.proofs.Common.{◌≡◌, map, take}
 use Rattle.sv_sequencer.specs.Relays.{item_in}
 use Rattle.sv_sequencer.proofs.relays.items_of.Given as goal

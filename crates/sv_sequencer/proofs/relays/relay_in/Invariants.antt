@@ -1,3 +1,4 @@
+-- The ghost arguments of `relay_in`.
 use Rattle.sv_sequencer.proofs.relays.relay_in.Given as goal
 
 abbrev pub ghosts-counted : goal.ghosts-counted

@@ -1,3 +1,4 @@
+-- What gets smaller in `have_attrs`.
 use Rattle.std.proofs.Common.{length}
 use Rattle.sv_sequencer.proofs.reports.+have_attrs.Given as goal
 

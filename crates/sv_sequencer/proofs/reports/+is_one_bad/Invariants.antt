@@ -1,3 +1,4 @@
+-- What gets smaller in `is_one_bad`.
 use Rattle.std.proofs.Common.{length}
 use Rattle.sv_sequencer.proofs.reports.+is_one_bad.Given as goal
 

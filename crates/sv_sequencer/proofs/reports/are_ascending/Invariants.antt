@@ -1,3 +1,4 @@
+-- The loop invariant of `are_ascending`.
 use Rattle.std.proofs.Common.{◌≡◌, ◌∷◌, map, drop}
 use Rattle.sv_world.specs.Faults.{is_ascending}
 use Rattle.sv_wire.specs.declared.message.Done1.{Done1}

@@ -1,3 +1,4 @@
+-- The ghost arguments of `are_bad`.
 use Rattle.sv_sequencer.proofs.reports.are_bad.Given as goal
 
 abbrev pub ghosts-is_any_bad : goal.ghosts-is_any_bad

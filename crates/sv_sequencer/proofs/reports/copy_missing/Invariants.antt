@@ -1,3 +1,4 @@
+-- The loop invariant and the ghost arguments of `copy_missing`.
 use Rattle.std.proofs.Common.{◌≡◌, ◌++◌, filter, drop}
 use Rattle.sv_wire.specs.declared.message.Done1.{Done1}
 use Rattle.sv_sequencer.specs.Relays.{is_missing}

@@ -1,3 +1,4 @@
+-- What the check leaves to prove of `count_written`.
 use Rattle.std.proofs.Common.{◌≡◌, ℕ, ◌<◌, cond, length, sym, ◌∙◌, arith}
 use Rattle.std.proofs.lemmas.Bool.{cond-true, cond-false}
 use Rattle.std.proofs.lemmas.List.{length-map}

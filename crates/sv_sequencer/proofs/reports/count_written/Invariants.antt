@@ -1,3 +1,4 @@
+-- The loop invariant of `count_written`.
 use Rattle.std.proofs.Common.{◌≡◌, ◌+◌, ◌≤◌, drop, length}
 use Rattle.sv_world.specs.Sets.{at_mask, read_set, write_set}
 use Rattle.sv_sequencer.proofs.reports.count_written.Given as goal

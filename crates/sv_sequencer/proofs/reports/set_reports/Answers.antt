@@ -1,3 +1,4 @@
+-- What the check leaves to prove of `set_reports`.
 use Rattle.std.proofs.Common.{sym, ◌∙◌, ap}
 use Rattle.std.specs.Vec.Iter.{into_iter_items}
 use Rattle.sv_sequencer.specs.Relays.{with_reports}

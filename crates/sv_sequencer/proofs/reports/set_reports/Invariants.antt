@@ -1,3 +1,4 @@
+-- The loop invariant and the ghost arguments of `set_reports`, and what gets smaller.
 use Rattle.std.proofs.Common.{◌≡◌, All, length}
 use Rattle.std.specs.Vec.Iter.{into_iter_items}
 use Rattle.sv_sequencer.specs.Relays.{with_reports, CanReport}

@@ -1,3 +1,4 @@
+-- The loop invariant of `no_sessions`.
 use Rattle.std.proofs.Common.{◌≡◌, replicate}
 use Rattle.sv_sequencer.specs.Rows.{no_session}
 use Rattle.sv_sequencer.proofs.sessions.no_sessions.Given as goal

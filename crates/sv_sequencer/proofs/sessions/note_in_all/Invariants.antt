@@ -1,3 +1,4 @@
+-- The loop invariant of `note_in_all`.
 use Rattle.std.proofs.Common.{◌≡◌, ℕ, ◌<◌, ◌≤◌, length, get_or}
 use Rattle.sv_sequencer.specs.Rows.{no_session, session_after}
 use Rattle.sv_sequencer.specs.Step.{entry_of}

@@ -1,3 +1,4 @@
+-- What the check leaves to prove of `post`.
 use Rattle.std.proofs.Common.{inl, inr, refl}
 use Rattle.sv_session.proofs.Posted.{put_failed, put_whole, flush_failed}
 use Rattle.sv_session.proofs.posting.post.Goals as goal

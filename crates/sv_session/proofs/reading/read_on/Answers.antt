@@ -1,3 +1,4 @@
+-- What the check leaves to prove of `read_on`.
 use Rattle.std.proofs.Common.{inl, inr, refl}
 use Rattle.sv_session.proofs.Posted.{unsent}
 use Rattle.sv_session.proofs.reading.read_on.Goals as goal

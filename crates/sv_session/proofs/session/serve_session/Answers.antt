@@ -1,3 +1,4 @@
+-- What the check leaves to prove of `serve_session`.
 use Rattle.sv_session.proofs.Ending.{served}
 use Rattle.sv_session.proofs.Joined.{may_go_on}
 use Rattle.sv_session.proofs.session.serve_session.Goals as goal

@@ -1,3 +1,4 @@
+-- What the check leaves to prove of `take_request`.
 use Rattle.sv_session.proofs.Taken.{whole_taken, malformed_taken, long_taken}
 use Rattle.sv_session.proofs.taking.take_request.Goals as goal
 

@@ -1,3 +1,4 @@
+-- What is proved by hand of `count_versions`.
 use Rattle.std.proofs.Common.{arith}
 use Rattle.sv_versions.proofs.Rows.{count_from}
 use Rattle.sv_versions.proofs.count.count_versions.Goals as goal

@@ -1,3 +1,4 @@
+-- The loop invariant and the measure of `count_versions`.
 use Rattle.std.proofs.Common.{ℕ, ◌<◌, ◌≤◌, length, get_or}
 use Rattle.sv_versions.specs.declared.history.Version.{Version}
 use Rattle.sv_versions.proofs.count.count_versions.Given as goal

@@ -1,3 +1,4 @@
+-- What is proved by hand of `keep_crowded`.
 use Rattle.std.proofs.Common.{rules}
 use Rattle.std.proofs.lemmas.Fn.{filter_same}
 use Rattle.sv_versions.proofs.crowded.keep_crowded.Goals as goal

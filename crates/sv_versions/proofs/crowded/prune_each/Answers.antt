@@ -1,3 +1,4 @@
+-- What is proved by hand of `prune_each`.
 use Rattle.std.proofs.Common.{◌≡◌, ◌<◌, ◌+◌, List, ◌∷◌, [], ◌++◌, length, take, get_or, refl, ap, ◌∙◌, arith}
 use Rattle.std.proofs.lemmas.List.{take_more, get_or_read}
 use Rattle.sv_world.specs.declared.world.ObjectId.{ObjectId}

@@ -1,3 +1,4 @@
+-- The loop invariant of `prune_each`.
 use Rattle.std.proofs.Common.{take}
 use Rattle.sv_versions.specs.Histories.{ArePruned}
 use Rattle.sv_versions.proofs.crowded.prune_each.Given as goal

@@ -1,3 +1,4 @@
+-- The loop invariant of `push_numbers`.
 use Rattle.std.proofs.Common.{◌≡◌, ◌++◌, take, string_bytes, codes}
 use Rattle.std.specs.List.{flat_map}
 use Rattle.std.specs.Fmt.{signed_decimal}

@@ -1,3 +1,4 @@
+-- The loop invariant of `enter_all`, and what gets smaller.
 use Rattle.std.proofs.Common.{◌≡◌, ◌+◌, ◌≤◌, length, vec_len, vec_capacity}
 use Rattle.std.specs.Vec.Iter.{into_iter_items}
 use Rattle.sv_witness.specs.Disputes.{with_disputes}

@@ -1,3 +1,4 @@
+-- What the check leaves to prove of `place_of`.
 use Rattle.std.proofs.Common.{◌≡◌, ◌<◌, ◌+◌, drop, get_or, insert, length, subst, arith}
 use Rattle.std.proofs.lemmas.List.{drop_more, take_more}
 use Rattle.sv_witness.specs.Disputes.{with_dispute}

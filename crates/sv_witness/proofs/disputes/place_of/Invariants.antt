@@ -1,3 +1,4 @@
+-- The loop invariant of `place_of`.
 use Rattle.sv_witness.proofs.Inserted.{EntersFrom}
 use Rattle.sv_witness.proofs.disputes.place_of.Given as goal
 

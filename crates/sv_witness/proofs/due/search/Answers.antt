@@ -1,3 +1,4 @@
+-- What the check leaves to prove of `search`.
 use Rattle.std.proofs.Common.{suc, ◌+◌, sym, ◌∙◌, arith}
 use Rattle.sv_queue.specs.Queue.{last_position}
 use Rattle.sv_sequencer.proofs.Abandoned.{none-below, first-below}
@@ -6,11 +7,11 @@ use Rattle.sv_witness.proofs.due.search.Goals as goal
 
 pub returns-then-is_due : goal.returns-then-is_due
 returns-then-is_due g c =
-    first-below (is_due_in c.args.queue.now c.args.reports.now c.args.client c.args.session) (suc (last_position c.args.queue.now)) (c.loop-before.before + 1)
+    first-below (is_due_in c.args.queue.now c.args.reports.now c.args.asker.client c.args.asker.session) (suc (last_position c.args.queue.now)) (c.loop-before.before + 1)
     (omega (arith, c.loop-before-test.true, c.last-before-end.ensures)) (sym c.is_due.ensures ∙ c.if-is_due.true)
     (λ q low. c.loop-before.invariant q (omega arith))
 
 pub returns : goal.returns
 returns g c =
-    none-below (is_due_in c.args.queue.now c.args.reports.now c.args.client c.args.session) (suc (last_position c.args.queue.now))
+    none-below (is_due_in c.args.queue.now c.args.reports.now c.args.asker.client c.args.asker.session) (suc (last_position c.args.queue.now))
     (λ q low. c.loop-before.invariant q (omega (arith, c.loop-before-test.false, c.last-before-end.ensures)))

@@ -1,3 +1,4 @@
+-- The loop invariant of `lied_results`.
 use Rattle.std.proofs.Common.{◌≡◌, map, take}
 use Rattle.sv_witness.specs.Lies.{lied_result}
 use Rattle.sv_witness.proofs.lie.lied_results.Given as goal

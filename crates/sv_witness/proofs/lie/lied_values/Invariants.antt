@@ -1,3 +1,4 @@
+-- The loop invariant of `lied_values`.
 use Rattle.std.proofs.Common.{◌≡◌, map, take}
 use Rattle.sv_witness.specs.Lies.{lied_value}
 use Rattle.sv_witness.proofs.lie.lied_values.Given as goal

@@ -1,3 +1,4 @@
+-- The loop invariant and the ghost arguments of `copy_agreed`.
 use Rattle.std.proofs.Common.{◌≡◌, ◌++◌, drop}
 use Rattle.sv_witness.specs.Kept.{agreed_results}
 use Rattle.sv_witness.proofs.noting.copy_agreed.Given as goal

@@ -1,3 +1,4 @@
+-- The loop invariant of `copy_counted`.
 use Rattle.std.proofs.Common.{◌≡◌, ◌++◌, drop}
 use Rattle.sv_witness.specs.Kept.{counted_results}
 use Rattle.sv_witness.proofs.noting.copy_counted.Given as goal

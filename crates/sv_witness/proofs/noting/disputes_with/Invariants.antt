@@ -1,3 +1,4 @@
+-- The loop invariant of `disputes_with`.
 use Rattle.std.proofs.Common.{◌≡◌, ◌++◌, drop}
 use Rattle.sv_witness.specs.Kept.{new_disputes}
 use Rattle.sv_witness.proofs.noting.disputes_with.Given as goal

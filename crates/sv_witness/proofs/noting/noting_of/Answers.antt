@@ -1,3 +1,4 @@
+-- What the check leaves to prove of `noting_of`.
 use Rattle.std.proofs.Common.{All, sym, ap, ◌∙◌, subst}
 use Rattle.sv_wire.specs.declared.message.Done1.{Done1}
 use Rattle.sv_queue.specs.Queue.{IsUncommitted}

@@ -1,3 +1,4 @@
+-- What gets smaller in `are_given`.
 use Rattle.std.proofs.Common.{length}
 use Rattle.sv_witness.proofs.reports.+are_given.Given as goal
 

@@ -1,3 +1,4 @@
+-- What gets smaller in `are_same_values`.
 use Rattle.std.proofs.Common.{length}
 use Rattle.sv_witness.proofs.reports.+are_same_values.Given as goal
 

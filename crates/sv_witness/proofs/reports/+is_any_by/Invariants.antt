@@ -1,3 +1,4 @@
+-- What gets smaller in `is_any_by`.
 use Rattle.std.proofs.Common.{length}
 use Rattle.sv_witness.proofs.reports.+is_any_by.Given as goal
 

@@ -1,3 +1,4 @@
+-- What gets smaller in `reserve_all`.
 use Rattle.std.proofs.Common.{length}
 use Rattle.sv_witness.proofs.reports.+reserve_all.Given as goal
 

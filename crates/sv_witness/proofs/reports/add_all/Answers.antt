@@ -1,3 +1,4 @@
+-- What the check leaves to prove of `add_all`.
 use Rattle.std.proofs.Common.{List, sym, ap, ◌∙◌}
 use Rattle.std.specs.Vec.Iter.{into_iter_items}
 use Rattle.sv_wire.specs.declared.message.Done1.{Done1}

@@ -1,3 +1,4 @@
+-- The loop invariant of `add_all`, and what gets smaller.
 use Rattle.std.proofs.Common.{◌≡◌, ℕ, length}
 use Rattle.std.specs.List.{AllByRecursion}
 use Rattle.std.specs.Vec.Iter.{into_iter_items}

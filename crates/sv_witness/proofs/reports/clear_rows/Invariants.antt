@@ -1,3 +1,4 @@
+-- The loop invariant of `clear_rows`.
 use Rattle.std.proofs.Common.{◌≡◌, ◌<◌, ℕ, get_or}
 use Rattle.sv_witness.specs.Kept.{no_row}
 use Rattle.sv_witness.proofs.reports.clear_rows.Given as goal

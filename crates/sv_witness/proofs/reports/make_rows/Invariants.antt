@@ -1,3 +1,4 @@
+-- The loop invariant of `make_rows`.
 use Rattle.std.proofs.Common.{◌≡◌, ◌≤◌, ℕ, get_or, vec_len}
 use Rattle.sv_witness.specs.Kept.{no_row}
 use Rattle.sv_witness.proofs.reports.make_rows.Given as goal

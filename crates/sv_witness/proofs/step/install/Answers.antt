@@ -1,3 +1,4 @@
+-- What the check leaves to prove of `install`.
 use Rattle.std.proofs.Common.{◌≡◌, false, List, refl, sym, subst}
 use Rattle.std.specs.List.{list_any}
 use Rattle.sv_wire.specs.declared.message.Done1.{Done1}
@@ -22,7 +23,7 @@ carry_out-carried-requires g c =
           (
             refl,
             subst (λ (l : List Done1). list_any (is_bad_result (core_rules c.args.core.now) (agreed_history g.h) c.args.session) l ≡ false) (sym c.from_vec.ensures)
-                (install-good c.args.core.now c.args.reports.now c.args.disputes.now.items g.h c.args.session c.args.client c.args.request.now n.counted.items n.agreed.items n.disputes.items
+                (install-good c.args.core.now c.args.testimony.now.reports c.args.testimony.now.disputes.items g.h c.args.session n.client c.args.request.now n.counted.items n.agreed.items n.disputes.items
                 standing r.1.1.0 r.1.1.1.0 r.1.1.1.1.0 r.1.1.1.1.1.0 r.1.1.1.1.1.1.0 r.1.1.1.1.1.1.1.0 r.1.1.1.1.1.1.1.1.0),
           ),
         ),
@@ -33,14 +34,14 @@ pub add_all-requires-clause-once : goal.add_all-requires-clause-once
 add_all-requires-clause-once g c =
     let n = c.args.noting in
     let r = c.requires in
-    install-once c.args.core.now c.args.reports.now c.args.disputes.now.items g.h c.args.session c.args.client c.args.request.now n.counted.items n.agreed.items n.disputes.items
+    install-once c.args.core.now c.args.testimony.now.reports c.args.testimony.now.disputes.items g.h c.args.session n.client c.args.request.now n.counted.items n.agreed.items n.disputes.items
     r.0 r.1.1.0 r.1.1.1.0 r.1.1.1.1.0 r.1.1.1.1.1.0 r.1.1.1.1.1.1.0 r.1.1.1.1.1.1.1.0 r.1.1.1.1.1.1.1.1.0
 
 pub returns-in-Ok-clause-ok : goal.returns-in-Ok-clause-ok
 returns-in-Ok-clause-ok g c =
     let n = c.args.noting in
     let r = c.requires in
-    installed c.args.core.now c.args.reports.now c.args.disputes.now.items g.h c.args.session c.args.client c.args.request.now n.counted.items n.agreed.items n.disputes.items
+    installed c.args.core.now c.args.testimony.now.reports c.args.testimony.now.disputes.items g.h c.args.session n.client c.args.request.now n.counted.items n.agreed.items n.disputes.items
     r.0 r.1.1.0 r.1.1.1.0 r.1.1.1.1.0 r.1.1.1.1.1.0 r.1.1.1.1.1.1.0 r.1.1.1.1.1.1.1.0 r.1.1.1.1.1.1.1.1.0 c.carry_out-carried.new.self c.in-Ok.answer
     (subst (λ (l : List Done1). CarriedOut c.args.core.now c.carry_out-carried.new.self (agreed_history g.h) c.args.session (requests.Done l) decisions.Note c.in-Ok.answer) c.from_vec.ensures
     c.in-Ok.ensures.ok)

@@ -1,3 +1,4 @@
+-- The ghost arguments of `install`.
 use Rattle.sv_witness.specs.Reports.{agreed_history}
 use Rattle.sv_witness.proofs.step.install.Given as goal
 

@@ -1,3 +1,4 @@
+-- What is proved by hand of `Actor::do_next`.
 use Rattle.sv_check.specs.Serving.{entries_of}
 use Rattle.sv_check.proofs.Acting.{went_did}
 use Rattle.sv_check.proofs.actor.Actor.do_next.Goals as goal

@@ -1,3 +1,4 @@
+-- What is proved by hand of `Actor::take_event`.
 use Rattle.std.proofs.Common.{rules, length, refl}
 use Rattle.sv_check.specs.Serving.{entries_of}
 use Rattle.sv_check.proofs.Lines.{step_early}

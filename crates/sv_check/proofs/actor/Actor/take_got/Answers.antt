@@ -1,3 +1,4 @@
+-- What is proved by hand of `Actor::take_got`.
 use Rattle.std.proofs.Common.{rules, List, length, refl, ap, subst, ◌∙◌, arith}
 use Rattle.sv_journal.specs.declared.entry.Entry.{Entry}
 use Rattle.sv_journal.specs.View.{JournalView}

@@ -1,3 +1,4 @@
+-- What is proved by hand of `Actor::take_join`.
 use Rattle.std.proofs.Common.{rules, List, [], ◌∷◌, ◌++◌, ◌+◌, length, refl, ap, subst, ◌∙◌, arith}
 use Rattle.std.specs.Prelude.{codes}
 use Rattle.std.specs.Fmt.{decimal}
@@ -15,9 +16,9 @@ returns-clause-on c =
     (subst (λ (es : List Entry). Settles es c.args.self.now c.settle.new.self) (c.entries.ensures ∙ ap (λ (j : JournalView). j.entries) c.journal.ensures.journal) c.settle.ensures)
     c.in_ok-join.ensures
 
-pub returns-then-sessions-ge64-clause-wrong : goal.returns-then-sessions-ge64-clause-wrong
-returns-then-sessions-ge64-clause-wrong c =
-    join_many (entries_of c.args.served.now) c.args.self.now c.args.text.now (length c.args.text.now) refl c.requires.needed (omega (arith, c.if-sessions-ge64.true, c.sessions.ensures))
+pub returns-then-sessions-ge-MOST_SESSIONS-clause-wrong : goal.returns-then-sessions-ge-MOST_SESSIONS-clause-wrong
+returns-then-sessions-ge-MOST_SESSIONS-clause-wrong c =
+    join_many (entries_of c.args.served.now) c.args.self.now c.args.text.now (length c.args.text.now) refl c.requires.needed (omega (arith, c.if-sessions-ge-MOST_SESSIONS.true, c.sessions.ensures))
 
 pub returns-in_default-clause-wrong : goal.returns-in_default-clause-wrong
 returns-in_default-clause-wrong c =

@@ -1,3 +1,4 @@
+-- What is proved by hand of `Actor::tell_next`.
 use Rattle.std.proofs.Common.{List, ℕ, [], ◌∷◌, ◌++◌, string_bytes, ap, ◌∙◌}
 use Rattle.sv_check.specs.Serving.{entries_of}
 use Rattle.sv_check.proofs.Lines.{step_done, step_line}

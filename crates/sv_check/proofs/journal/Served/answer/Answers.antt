@@ -1,3 +1,4 @@
+-- What is proved by hand of `Served::answer`.
 use Rattle.sv_check.proofs.Serving.{answered, one_more}
 use Rattle.sv_check.proofs.journal.Served.answer.Goals as goal
 

@@ -1,3 +1,4 @@
+-- The loop invariant of `Served::are_ended`.
 use Rattle.std.proofs.Common.{◌≡◌, ℕ, ◌<◌, true}
 use Rattle.sv_journal.specs.Sessions.{is_ended}
 use Rattle.sv_sequencer.specs.Step.{history}

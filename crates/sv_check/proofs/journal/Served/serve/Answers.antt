@@ -1,3 +1,4 @@
+-- What is proved by hand of `Served::serve`.
 use Rattle.std.proofs.Common.{refl, arith}
 use Rattle.sv_check.specs.Serving.{entries_of}
 use Rattle.sv_check.proofs.JournalLines.{asked_none, unread_none}

@@ -1,3 +1,4 @@
+-- What is proved by hand of `Served::serve_all`.
 use Rattle.std.proofs.Common.{rules, ◌≡◌, ℕ, true, drop, ap, ◌∙◌}
 use Rattle.sv_check.proofs.JournalLines.{serving_more}
 use Rattle.sv_check.proofs.journal.Served.serve_all.Goals as goal

@@ -1,3 +1,4 @@
+-- The loop invariant of `Served::serve_all`.
 use Rattle.sv_check.proofs.JournalLines.{IsServing}
 use Rattle.sv_check.proofs.journal.Served.serve_all.Given as goal
 

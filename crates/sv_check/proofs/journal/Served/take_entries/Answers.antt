@@ -1,3 +1,4 @@
+-- What is proved by hand of `Served::take_entries`.
 use Rattle.std.proofs.Common.{◌≡◌, ℕ, List, ◌++◌, drop, sym, ap, subst, ◌∙◌}
 use Rattle.std.specs.Prelude.{IfOk}
 use Rattle.sv_journal.specs.View.{JournalView}

@@ -1,3 +1,4 @@
+-- What is proved by hand of `Client::add_made`.
 use Rattle.std.proofs.Common.{◌≡◌, ◌+◌, ◌<◌, List, [], ◌∷◌, ◌++◌, length, reverse, None, sym, ap, subst, ◌∙◌, arith}
 use Rattle.sv_world.specs.declared.action.Action.{Action}
 use Rattle.sv_world.specs.declared.world.Shape.{Shape}

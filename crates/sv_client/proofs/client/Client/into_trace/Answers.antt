@@ -1,3 +1,4 @@
+-- What is proved by hand of `Client::into_trace`.
 use Rattle.std.proofs.Common.{◌≡◌, List, length, map, reverse, sym, ap, subst, ◌∙◌}
 use Rattle.std.specs.Prelude.{All}
 use Rattle.std.proofs.lemmas.List.{length-map, reverse-reverse}

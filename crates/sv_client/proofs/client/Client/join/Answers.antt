@@ -1,3 +1,4 @@
+-- What is proved by hand of `Client::join`.
 use Rattle.std.proofs.Common.{ℕ, ◌+◌, ◌<◌, ◌≤◌, true, List, [], ◌∷◌, ◌++◌, length, reverse, sym, ap, subst, ◌∙◌, arith}
 use Rattle.sv_client.specs.declared.kinds.Awaited.TheVariants as kinds
 use Rattle.sv_client.specs.declared.trace.Event.{Event}

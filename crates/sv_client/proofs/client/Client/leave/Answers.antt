@@ -1,3 +1,4 @@
+-- What is proved by hand of `Client::leave`.
 use Rattle.std.proofs.Common.{false, List, length, reverse, sym, ap, subst, arith}
 use Rattle.sv_wire.specs.declared.message.Request.{Request}
 use Rattle.sv_wire.specs.declared.message.Request.TheVariants as requests

@@ -1,3 +1,4 @@
+-- What is proved by hand of `Client::look_at`.
 use Rattle.std.proofs.Common.{◌≡◌, List, reverse, Some, sym, ap, subst, ◌∙◌}
 use Rattle.sv_client.specs.declared.kinds.Awaited.{Awaited}
 use Rattle.sv_client.specs.Seen.{ClientView}

@@ -1,3 +1,4 @@
+-- What is proved by hand of `Client::make`.
 use Rattle.std.proofs.Common.{◌≡◌, ℕ, suc, ◌+◌, [], ◌∷◌, ap, ◌∙◌, add-one}
 use Rattle.sv_world.specs.declared.action.Action.{Action}
 use Rattle.sv_wire.specs.declared.message.Request.TheVariants as requests

@@ -1,3 +1,4 @@
+-- What is proved by hand of `Client::old_versions`.
 use Rattle.std.proofs.Common.{◌≡◌, reverse, sym, subst, arith}
 use Rattle.sv_versions.specs.Held.{count_up_to}
 use Rattle.sv_client.specs.Invariant.{who_is}

@@ -1,3 +1,4 @@
+-- What is proved by hand of `Client::poll`.
 use Rattle.std.proofs.Common.{◌≡◌, true, List, reverse, sym, subst, arith}
 use Rattle.sv_wire.specs.declared.message.Request.TheVariants as requests
 use Rattle.sv_client.specs.declared.trace.Event.{Event}

@@ -1,3 +1,4 @@
+-- What is proved by hand of `Client::stable`.
 use Rattle.std.proofs.Common.{◌≡◌, None, reverse, sym, subst, arith}
 use Rattle.sv_versions.specs.Held.{latest}
 use Rattle.sv_client.specs.Invariant.{who_is}

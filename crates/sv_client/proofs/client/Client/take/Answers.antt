@@ -1,3 +1,4 @@
+-- What is proved by hand of `Client::take`.
 use Rattle.std.proofs.Common.{ℕ, ◌-◌, ◌≤◌, List, [], ◌∷◌, ◌++◌, reverse, sym, ap, subst, ◌∙◌, arith}
 use Rattle.std.proofs.lemmas.Result.{err_from_is_err_and}
 use Rattle.sv_world.specs.declared.world.Shape.{Shape}

@@ -1,3 +1,4 @@
+-- What the check leaves to prove of `Numbers::pop`.
 use Rattle.std.proofs.Common.{◌≡◌, true, subst, option_to_list}
 use Rattle.sv_world.specs.Faults.{is_ascending}
 use Rattle.sv_influence.proofs.Places.{ascending-front}

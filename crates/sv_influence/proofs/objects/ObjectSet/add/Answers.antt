@@ -1,3 +1,4 @@
+-- What the check leaves to prove of `ObjectSet::add`.
 use Rattle.std.proofs.Common.{rules}
 use Rattle.sv_influence.proofs.Bits.{has_object-add}
 use Rattle.sv_influence.proofs.objects.ObjectSet.add.Goals as goal

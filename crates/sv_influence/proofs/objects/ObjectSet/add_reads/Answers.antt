@@ -1,3 +1,4 @@
+-- What the check leaves to prove of `ObjectSet::add_reads`.
 use Rattle.std.proofs.Common.{ℕ, ◌+◌, Bool, ◌||◌, List, drop, get_or, sym, ◌∙◌, ap, nat_eq}
 use Rattle.sv_world.specs.Control.{is_in}
 use Rattle.sv_world.specs.Sets.{read_set}

@@ -1,3 +1,4 @@
+-- The loop invariant of `ObjectSet::add_reads`.
 use Rattle.std.proofs.Common.{◌≡◌, ℕ, ◌||◌, drop}
 use Rattle.sv_world.specs.Control.{is_in}
 use Rattle.sv_world.specs.Sets.{read_set}

@@ -1,3 +1,4 @@
+-- What the check leaves to prove of `ObjectSet::meets_writes`.
 use Rattle.std.proofs.Common.{ℕ, Bool, sym, ◌∙◌}
 use Rattle.sv_influence.specs.Objects.{has_object}
 use Rattle.sv_influence.proofs.ReadSets.{read_low, read_at, meets_hit, meets_unwritten, meets_miss}

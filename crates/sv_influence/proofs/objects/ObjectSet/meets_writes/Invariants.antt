@@ -1,3 +1,4 @@
+-- The loop invariant of `ObjectSet::meets_writes`.
 use Rattle.std.proofs.Common.{◌≡◌, drop}
 use Rattle.std.specs.List.{list_any}
 use Rattle.sv_world.specs.Sets.{read_set, at_mask, write_set}

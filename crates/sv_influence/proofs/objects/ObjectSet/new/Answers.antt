@@ -1,3 +1,4 @@
+-- What the check leaves to prove of `ObjectSet::new`.
 use Rattle.sv_influence.proofs.Bits.{has_object-none}
 use Rattle.sv_influence.proofs.objects.ObjectSet.new.Goals as goal
 

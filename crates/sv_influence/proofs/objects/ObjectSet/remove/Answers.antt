@@ -1,3 +1,4 @@
+-- What the check leaves to prove of `ObjectSet::remove`.
 use Rattle.std.proofs.Common.{rules}
 use Rattle.sv_influence.proofs.Bits.{has_object-remove}
 use Rattle.sv_influence.proofs.objects.ObjectSet.remove.Goals as goal

@@ -1,3 +1,4 @@
+-- What the check leaves to prove of `ObjectSet::remove_writes`.
 use Rattle.std.proofs.Common.{ℕ, ◌+◌, Bool, ◌&&◌, not, List, drop, get_or, nat_eq, sym, ◌∙◌, ap}
 use Rattle.sv_world.specs.Control.{is_in}
 use Rattle.sv_world.specs.Sets.{read_set, at_mask}

@@ -1,3 +1,4 @@
+-- The loop invariant of `ObjectSet::remove_writes`.
 use Rattle.std.proofs.Common.{◌≡◌, ℕ, ◌&&◌, not, drop}
 use Rattle.sv_world.specs.Control.{is_in}
 use Rattle.sv_world.specs.Sets.{read_set, at_mask, write_set}

@@ -1,3 +1,4 @@
+-- What gets smaller in `Wanted::place`.
 use Rattle.std.proofs.Common.{length}
 use Rattle.sv_influence.proofs.wanted.Wanted.+place.Given as goal
 

@@ -1,3 +1,4 @@
+-- What the check leaves to prove of `Wanted::ends_at`.
 use Rattle.std.proofs.Common.{◌≡◌, true, List, ℕ, subst, eqb-true}
 use Rattle.sv_world.specs.Control.{is_in}
 use Rattle.sv_influence.proofs.Places.{is_in-last}

@@ -1,3 +1,4 @@
+-- What the check leaves to prove of `Wanted::insert`.
 use Rattle.std.proofs.Common.{◌∷◌, [], ◌∙◌, ap}
 use Rattle.sv_world.specs.Control.{is_in}
 use Rattle.sv_influence.proofs.Takes.{is_in-swap}

@@ -1,3 +1,4 @@
+-- What the check leaves to prove of `Wanted::is_below`.
 use Rattle.std.proofs.Common.{◌≡◌, ℕ, true, List, sym, subst}
 use Rattle.std.proofs.lemmas.Bool.{ltb-true}
 use Rattle.sv_world.specs.Control.{is_in}

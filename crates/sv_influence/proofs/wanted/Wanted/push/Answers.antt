@@ -1,3 +1,4 @@
+-- What the check leaves to prove of `Wanted::push`.
 use Rattle.std.proofs.Common.{◌≡◌, ℕ, true, List, sym, subst}
 use Rattle.sv_world.specs.Control.{is_in}
 use Rattle.sv_world.specs.Faults.{is_ascending}

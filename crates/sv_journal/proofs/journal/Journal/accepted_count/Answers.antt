@@ -1,3 +1,4 @@
+-- What the check leaves to prove of `Journal::accepted_count`.
 use Rattle.std.proofs.Common.{arith, length, ap, sym, reverse}
 use Rattle.sv_journal.specs.View.{JournalView}
 use Rattle.sv_journal.specs.History.{accepted}

@@ -1,3 +1,4 @@
+-- What the check leaves to prove of `Journal::author`.
 use Rattle.std.proofs.Common.{◌-◌, ◌∙◌, ap, length, reverse, get_or, arith}
 use Rattle.sv_journal.specs.History.{accepted, authored_at}
 use Rattle.sv_journal.specs.View.{JournalView}

@@ -1,3 +1,4 @@
+-- What the check leaves to prove of `Journal::submitted`.
 use Rattle.std.proofs.Common.{◌-◌, ◌∙◌, sym, ap, length, reverse, get_or, arith}
 use Rattle.sv_journal.specs.History.{Authored, accepted, authored_at}
 use Rattle.sv_journal.specs.View.{JournalView}

@@ -1,3 +1,4 @@
+-- What is proved by hand of `Pending::back`.
 use Rattle.std.proofs.Common.{◌-◌, List, length, slice_get, Option, Some, sym, ap, ◌∙◌}
 use Rattle.std.specs.Prelude.{ℤ}
 use Rattle.sv_pending.specs.declared.made.Made.{Made}

@@ -1,3 +1,4 @@
+-- What is proved by hand of `Pending::len`.
 use Rattle.std.proofs.Common.{◌≡◌, length, sym, ◌∙◌, rules}
 use Rattle.sv_pending.proofs.Overlays.{length-paired}
 use Rattle.sv_pending.proofs.pending.Pending.len.Goals as goal

@@ -1,3 +1,4 @@
+-- What is proved by hand of `Pilot::act`.
 use Rattle.std.proofs.Common.{inr}
 use Rattle.sv_pilot.proofs.Making.{none_made, weaken_err}
 use Rattle.sv_pilot.proofs.pilot.Pilot.act.Goals as goal

@@ -1,3 +1,4 @@
+-- What is proved by hand of `Pilot::read`.
 use Rattle.std.proofs.Common.{inr, sym, ◌∙◌}
 use Rattle.sv_pilot.proofs.Making.{same_read, none_read}
 use Rattle.sv_pilot.proofs.pilot.Pilot.read.Goals as goal

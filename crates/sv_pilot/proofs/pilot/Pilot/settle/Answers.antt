@@ -1,3 +1,4 @@
+-- What is proved by hand of `Pilot::settle`.
 use Rattle.sv_pilot.proofs.Taking.{taken_more}
 use Rattle.sv_pilot.proofs.pilot.Pilot.settle.Goals as goal
 

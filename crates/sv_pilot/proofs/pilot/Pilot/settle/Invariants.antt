@@ -1,3 +1,4 @@
+-- The loop invariant of `Pilot::settle`.
 use Rattle.sv_pilot.specs.Doings.{HasTaken}
 use Rattle.sv_pilot.proofs.pilot.Pilot.settle.Given as goal
 

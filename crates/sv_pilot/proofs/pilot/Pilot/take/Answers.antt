@@ -1,3 +1,4 @@
+-- What is proved by hand of `Pilot::take`.
 use Rattle.std.proofs.Common.{refl, subst}
 use Rattle.sv_client.specs.Seen.{ClientView, latest_session}
 use Rattle.sv_pilot.specs.Doings.{HasTaken}

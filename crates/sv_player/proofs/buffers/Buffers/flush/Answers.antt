@@ -1,3 +1,4 @@
+-- What is proved by hand of `Buffers::flush`.
 use Rattle.sv_player.proofs.Posting.{flushed}
 use Rattle.sv_player.proofs.buffers.Buffers.flush.Goals as goal
 

@@ -1,3 +1,4 @@
+-- What is proved by hand of `Buffers::post`.
 use Rattle.sv_player.proofs.Posting.{posted_by}
 use Rattle.sv_player.proofs.buffers.Buffers.post.Goals as goal
 

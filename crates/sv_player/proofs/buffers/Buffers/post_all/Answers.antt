@@ -1,3 +1,4 @@
+-- What is proved by hand of `Buffers::post_all`.
 use Rattle.std.proofs.Common.{refl, sym, subst, ◌∙◌}
 use Rattle.std.proofs.lemmas.List.Elements.{All-nil, All-more}
 use Rattle.sv_wire.specs.Laws.{IsRequest}

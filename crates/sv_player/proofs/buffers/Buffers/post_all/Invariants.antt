@@ -1,3 +1,4 @@
+-- The loop invariant of `Buffers::post_all`.
 use Rattle.std.proofs.Common.{◌≡◌, take}
 use Rattle.std.specs.Prelude.{All}
 use Rattle.sv_wire.specs.Laws.{IsRequest}

@@ -1,3 +1,4 @@
+-- The loop invariant and the measure of `Buffers::wait`.
 use Rattle.std.proofs.Common.{◌≡◌, length, ◌-◌}
 use Rattle.sv_player.specs.Carried.{which_end}
 use Rattle.sv_player.specs.Waiting.{Grew}

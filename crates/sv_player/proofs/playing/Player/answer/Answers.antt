@@ -1,3 +1,4 @@
+-- What is proved by hand of `Player::answer`.
 use Rattle.std.proofs.Common.{Option, sym, subst}
 use Rattle.std.specs.Prelude.{option_to_list}
 use Rattle.sv_wire.specs.declared.message.Request.{Request}

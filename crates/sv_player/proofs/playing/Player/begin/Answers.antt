@@ -1,3 +1,4 @@
+-- What is proved by hand of `Player::begin`.
 use Rattle.std.proofs.Common.{List, sym, subst, ◌∙◌}
 use Rattle.std.specs.Prelude.{All}
 use Rattle.std.proofs.lemmas.Result.{err_from_is_err_and}
@@ -7,7 +8,7 @@ use Rattle.sv_wire.specs.Laws.{IsRequest}
 use Rattle.sv_client.specs.declared.trace.Event.TheVariants as events
 use Rattle.sv_client.specs.Traces.{joins}
 use Rattle.sv_player.specs.Carried.{request_frames}
-use Rattle.sv_player.specs.Waiting.{IsPosted}
+use Rattle.sv_player.specs.Waiting.{PutBehind}
 use Rattle.sv_player.proofs.Going.{few_counted}
 use Rattle.sv_player.proofs.Wire.{join_asks}
 use Rattle.sv_player.proofs.Turns.{before_join, join_due, did_nothing, stops_early, turn_by, uncut_next}
@@ -40,7 +41,7 @@ returns-clause-turn g c =
     let s = joins p.client.events in
     let new = g.E.End.told c.post_all.new.end in
     let same = c.deref.ensures.value ∙ c.in_ok-requests.ensures.requests in
-    let sent = subst (λ (rs : List Request). IsPosted c.post_all.result end b.outbox (request_frames rs) new c.post_all.new.self.outbox) same c.post_all.ensures.posts in
+    let sent = subst (λ (rs : List Request). PutBehind c.post_all.result end b.outbox (request_frames rs) new c.post_all.new.self.outbox) same c.post_all.ensures.posts in
     turn_by s (events.Join s) p.left.now p c.join.new.self end b.reader b.outbox (before_join p end b.reader b.outbox c.requires.going c.requires.fresh c.requires.empty)
     (join_due p c.requires.going c.requires.needed c.requires.few)
     c.post_all.result c.sent_whole.result c.post_all.new.self new c.sent_whole.ensures c.post_all.ensures.reader c.in_ok-requests.ensures.ok sent

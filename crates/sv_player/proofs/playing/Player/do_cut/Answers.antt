@@ -1,3 +1,4 @@
+-- What is proved by hand of `Player::do_cut`.
 use Rattle.std.proofs.lemmas.Result.{err_from_is_err_and}
 use Rattle.sv_client.specs.Seen.{latest_session}
 use Rattle.sv_player.specs.declared.outcome.PlayerCause.TheVariants as causes

@@ -1,3 +1,4 @@
+-- What is proved by hand of `Player::do_make`.
 use Rattle.std.specs.Prelude.{All}
 use Rattle.std.proofs.lemmas.List.Elements.{All-nil, All-cons}
 use Rattle.std.proofs.lemmas.Result.{err_from_is_err_and}
@@ -7,7 +8,7 @@ use Rattle.sv_wire.specs.declared.message.Request.{Request}
 use Rattle.sv_client.specs.declared.trace.Event.TheVariants as events
 use Rattle.sv_client.specs.Seen.{latest_session}
 use Rattle.sv_player.specs.Carried.{request_frames}
-use Rattle.sv_player.specs.Waiting.{IsPosted}
+use Rattle.sv_player.specs.Waiting.{PutBehind}
 use Rattle.sv_player.proofs.Going.{few_counted, may_make}
 use Rattle.sv_player.proofs.Wire.{make_asks}
 use Rattle.sv_player.proofs.Turns.{before_move, make_due, stops_early, turn_by}
@@ -17,12 +18,12 @@ pub make-requires-clause-count : goal.make-requires-clause-count
 make-requires-clause-count g c = few_counted c.args.self.now c.requires.at.going
 
 pub make-requires-clause-may : goal.make-requires-clause-may
-make-requires-clause-may g c = may_make c.args.self.now c.args.action.now c.args.rest.now c.requires.at.going c.requires.ready c.requires.next c.requires.room.0 c.requires.room.1
+make-requires-clause-may g c = may_make c.args.self.now c.args.making.now.action.now c.args.making.now.rest.now c.requires.at.going c.requires.ready c.requires.next c.requires.room.0 c.requires.room.1
 
 pub post-requires-clause-message : goal.post-requires-clause-message
 post-requires-clause-message g c =
-    make_asks c.args.self.now.client.who c.args.self.now.client.events c.args.action.now c.in_ok-request.request
-    (may_make c.args.self.now c.args.action.now c.args.rest.now c.requires.at.going c.requires.ready c.requires.next c.requires.room.0 c.requires.room.1) c.in_ok-request.ensures.request
+    make_asks c.args.self.now.client.who c.args.self.now.client.events c.args.making.now.action.now c.in_ok-request.request
+    (may_make c.args.self.now c.args.making.now.action.now c.args.making.now.rest.now c.requires.at.going c.requires.ready c.requires.next c.requires.room.0 c.requires.room.1) c.in_ok-request.ensures.request
 
 pub returns-clause-turn : goal.returns-clause-turn
 returns-clause-turn g c =
@@ -31,9 +32,9 @@ returns-clause-turn g c =
     let end = g.E.End.told c.args.end.now in
     let s = latest_session p.client.events in
     let new = g.E.End.told c.post.new.end in
-    let sent = subst (λ (rs : List Request). IsPosted c.post.result end b.outbox (request_frames rs) new c.post.new.self.outbox) c.in_ok-request.ensures.request c.post.ensures.posts in
-    turn_by s (events.Make c.args.action.now) c.args.rest.now p c.make.new.self end b.reader b.outbox (before_move s p b end c.requires.at c.requires.ready)
-    (make_due s p b end c.requires.at c.requires.ready c.args.action.now c.args.rest.now c.requires.next c.requires.room.0 c.requires.room.1)
+    let sent = subst (λ (rs : List Request). PutBehind c.post.result end b.outbox (request_frames rs) new c.post.new.self.outbox) c.in_ok-request.ensures.request c.post.ensures.posts in
+    turn_by s (events.Make c.args.making.now.action.now) c.args.making.now.rest.now p c.make.new.self end b.reader b.outbox (before_move s p b end c.requires.at c.requires.ready)
+    (make_due s p b end c.requires.at c.requires.ready c.args.making.now.action.now c.args.making.now.rest.now c.requires.next c.requires.room.0 c.requires.room.1)
     c.post.result c.sent_whole.result c.post.new.self new c.sent_whole.ensures c.post.ensures.reader c.in_ok-request.ensures.ok sent
     (λ _. subst (All IsRequest) c.in_ok-request.ensures.request (All-cons IsRequest c.in_ok-request.request [] c.post.ensures.is_message (All-nil IsRequest)))
 
@@ -45,5 +46,5 @@ returns-in_err-request-clause-turn g c =
     let s = latest_session p.client.events in
     let failed = err_from_is_err_and c.from_residual.result c.from_residual.ensures.1 in
     rw (failed.1, failed.2)
-    (stops_early s (events.Make c.args.action.now) c.args.rest.now p c.make.new.self end b.reader b.outbox (before_move s p b end c.requires.at c.requires.ready)
-    (make_due s p b end c.requires.at c.requires.ready c.args.action.now c.args.rest.now c.requires.next c.requires.room.0 c.requires.room.1) c.in_err-request.ensures.err c.requires.at.open_is)
+    (stops_early s (events.Make c.args.making.now.action.now) c.args.making.now.rest.now p c.make.new.self end b.reader b.outbox (before_move s p b end c.requires.at c.requires.ready)
+    (make_due s p b end c.requires.at c.requires.ready c.args.making.now.action.now c.args.making.now.rest.now c.requires.next c.requires.room.0 c.requires.room.1) c.in_err-request.ensures.err c.requires.at.open_is)

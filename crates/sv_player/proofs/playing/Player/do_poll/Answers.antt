@@ -1,3 +1,4 @@
+-- What is proved by hand of `Player::do_poll`.
 use Rattle.std.specs.Prelude.{All}
 use Rattle.std.proofs.lemmas.List.Elements.{All-nil, All-cons}
 use Rattle.std.proofs.lemmas.Result.{err_from_is_err_and}
@@ -7,7 +8,7 @@ use Rattle.sv_wire.specs.declared.message.Request.{Request}
 use Rattle.sv_client.specs.declared.trace.Event.TheVariants as events
 use Rattle.sv_client.specs.Seen.{latest_session}
 use Rattle.sv_player.specs.Carried.{request_frames}
-use Rattle.sv_player.specs.Waiting.{IsPosted}
+use Rattle.sv_player.specs.Waiting.{PutBehind}
 use Rattle.sv_player.proofs.Going.{few_counted}
 use Rattle.sv_player.proofs.Turns.{before_move, poll_due, did_nothing, stops_early, turn_by}
 use Rattle.sv_player.proofs.playing.Player.do_poll.Goals as goal
@@ -22,7 +23,7 @@ returns-clause-turn g c =
     let end = g.E.End.told c.args.end.now in
     let s = latest_session p.client.events in
     let new = g.E.End.told c.post.new.end in
-    let sent = subst (λ (rs : List Request). IsPosted c.post.result end b.outbox (request_frames rs) new c.post.new.self.outbox) c.in_ok-request.ensures.request c.post.ensures.posts in
+    let sent = subst (λ (rs : List Request). PutBehind c.post.result end b.outbox (request_frames rs) new c.post.new.self.outbox) c.in_ok-request.ensures.request c.post.ensures.posts in
     turn_by s events.Poll c.args.rest.now p c.poll.new.self end b.reader b.outbox (before_move s p b end c.requires.at c.requires.ready)
     (poll_due s p b end c.requires.at c.requires.ready c.args.rest.now c.requires.next c.requires.room)
     c.post.result c.sent_whole.result c.post.new.self new c.sent_whole.ensures c.post.ensures.reader c.in_ok-request.ensures.ok sent

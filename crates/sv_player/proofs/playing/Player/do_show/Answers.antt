@@ -1,3 +1,4 @@
+-- What is proved by hand of `Player::do_show`.
 use Rattle.sv_player.proofs.Going.{few_counted}
 use Rattle.sv_player.proofs.playing.Player.do_show.Goals as goal
 

@@ -1,3 +1,4 @@
+-- What is proved by hand of `Player::go_on`.
 use Rattle.std.proofs.lemmas.Result.{err_from_is_err_and}
 use Rattle.sv_client.specs.declared.trace.Event.TheVariants as events
 use Rattle.sv_client.specs.Seen.{latest_session}

@@ -1,3 +1,4 @@
+-- What is proved by hand of `Player::leave`.
 use Rattle.std.proofs.Common.{refl, ap, arith}
 use Rattle.sv_client.specs.Seen.{ClientView}
 use Rattle.sv_player.proofs.Doing.{did_quiet}

@@ -1,3 +1,4 @@
+-- What is proved by hand of `Player::make`.
 use Rattle.std.proofs.Common.{◌∷◌, ap, ◌∙◌}
 use Rattle.sv_world.specs.declared.action.Action.{Action}
 use Rattle.sv_client.specs.declared.trace.Event.TheVariants as events

@@ -1,7 +1,8 @@
+-- What is proved by hand of `Player::play`.
 use Rattle.std.proofs.Common.{ℕ, get_or, None, Some, sym, ap, subst, ◌∙◌, arith}
 use Rattle.std.proofs.lemmas.Option.{slice_get-get_or}
 use Rattle.sv_client.specs.Taking.{Identity}
-use Rattle.sv_player.specs.Ends.{IsNext}
+use Rattle.sv_player.specs.Ends.{IsPlayedNext}
 use Rattle.sv_player.proofs.Stepping.{begins, plays_on, has_played, fresh_next, not_over}
 use Rattle.sv_player.proofs.playing.Player.play.Goals as goal
 
@@ -31,7 +32,7 @@ loop-place-preserved g c =
     let p = c.loop-place.self in
     let q = c.play_next.new.self in
     let y = c.play_next.new.end in
-    let next = subst (λ (n : ℕ). IsNext None n p q (g.E.End.told y)) inv.joined c.in_default.ensures.next in
+    let next = subst (λ (n : ℕ). IsPlayedNext None n p q (g.E.End.told y)) inv.joined c.in_default.ensures.next in
     plays_on g.E.End.told g.E.End.faults g.E.End.calm c.args.self.now p q c.args.ends.now now k (get_or now k x) y inv (slice_get-get_or now k x (omega arith)) c.play_next.ensures.end c.play_next.ensures.calm
     next.0 c.in_default.ensures.cause
 
@@ -44,7 +45,7 @@ returns-in-Some g c =
     let p = c.loop-place.self in
     let q = c.play_next.new.self in
     let y = c.play_next.new.end in
-    let next = subst (λ (n : ℕ). IsNext (Some c.in-Some.cause) n p q (g.E.End.told y)) inv.joined c.in-Some.ensures.next in
+    let next = subst (λ (n : ℕ). IsPlayedNext (Some c.in-Some.cause) n p q (g.E.End.told y)) inv.joined c.in-Some.ensures.next in
     has_played g.E.End.told g.E.End.faults g.E.End.calm c.args.self.now p q c.args.ends.now now k (get_or now k x) y inv (slice_get-get_or now k x (omega arith)) c.play_next.ensures.end c.play_next.ensures.calm
     c.in-Some.cause next c.in-Some.ensures.cause
 

@@ -1,3 +1,4 @@
+-- The loop invariant of `Player::play`.
 use Rattle.sv_player.specs.Ends.{IsPlaying}
 use Rattle.sv_player.proofs.playing.Player.play.Given as goal
 

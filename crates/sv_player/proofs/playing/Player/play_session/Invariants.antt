@@ -1,3 +1,4 @@
+-- The loop invariant and the measure of `Player::play_session`.
 use Rattle.std.proofs.Common.{◌≡◌, length, ◌-◌}
 use Rattle.sv_client.specs.Traces.{joins}
 use Rattle.sv_player.specs.Carried.{which_end}

@@ -1,3 +1,4 @@
+-- What is proved by hand of `Player::read_first`.
 use Rattle.sv_player.proofs.Receiving.{frame_first}
 use Rattle.sv_player.proofs.playing.Player.read_first.Goals as goal
 

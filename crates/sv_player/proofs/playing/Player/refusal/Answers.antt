@@ -1,3 +1,4 @@
+-- What is proved by hand of `Player::refusal`.
 use Rattle.sv_player.proofs.Receiving.{frame_first, frame_came}
 use Rattle.sv_player.proofs.playing.Player.refusal.Goals as goal
 

@@ -1,3 +1,4 @@
+-- What is proved by hand of `Player::session_number`.
 use Rattle.std.proofs.Common.{arith}
 use Rattle.sv_client.proofs.Shifts.{joins_few}
 use Rattle.sv_player.proofs.Numbering.{latest_joined}

@@ -1,3 +1,4 @@
+-- What is proved by hand of `Player::start`.
 use Rattle.sv_player.proofs.Stepping.{none_played}
 use Rattle.sv_player.proofs.playing.Player.start.Goals as goal
 

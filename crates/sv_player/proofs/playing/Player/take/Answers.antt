@@ -1,3 +1,4 @@
+-- What is proved by hand of `Player::take`.
 use Rattle.sv_client.specs.Answers.{got_now}
 use Rattle.sv_client.proofs.Keeping.{latest_is}
 use Rattle.sv_player.proofs.Doing.{event_changes, did_told}

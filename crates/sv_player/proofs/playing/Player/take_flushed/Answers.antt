@@ -1,3 +1,4 @@
+-- What is proved by hand of `Player::take_flushed`.
 use Rattle.std.proofs.Common.{subst}
 use Rattle.std.proofs.lemmas.Result.{err_from_is_err_and}
 use Rattle.sv_client.specs.Seen.{latest_session}

@@ -1,3 +1,4 @@
+-- What is proved by hand of `Player::take_ready`.
 use Rattle.std.proofs.Common.{◌≢◌, ◌+◌, false, true≢false, refl, sym, subst, ◌∙◌, rules}
 use Rattle.std.specs.Prelude.{All}
 use Rattle.std.proofs.lemmas.Result.{err_from_is_err_and}

@@ -1,3 +1,4 @@
+-- What the check leaves to prove of `Queue::first_writer`.
 use Rattle.std.proofs.Common.{◌<◌, ◌∙◌, ℕ, List, IfSome, IfNone, slice_get, ap, subst, arith}
 use Rattle.sv_queue.specs.Queue.{IsFirstWriter, IsUnwritten, QueueView, queue_actions}
 use Rattle.sv_queue.proofs.Entries.{first_of_writers, first_uncommitted, none_of_writers}

@@ -1,3 +1,4 @@
+-- The loop invariant of `Queue::install`, and what gets smaller.
 use Rattle.std.proofs.Common.{◌≡◌, ◌≤◌, length}
 use Rattle.sv_queue.specs.Queue.{ready_installed}
 use Rattle.sv_queue.proofs.queue.Queue.install.Given as goal

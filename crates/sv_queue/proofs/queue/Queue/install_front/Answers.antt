@@ -1,3 +1,4 @@
+-- What the check leaves to prove of `Queue::install_front`.
 use Rattle.std.proofs.Common.{List, ap, subst, sym, ◌∙◌}
 use Rattle.sv_world.specs.declared.action.Action.{Action}
 use Rattle.sv_queue.specs.Invariant.{HaveSources}

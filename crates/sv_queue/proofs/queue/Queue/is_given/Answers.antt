@@ -1,3 +1,4 @@
+-- What the check leaves to prove of `Queue::is_given`.
 use Rattle.std.proofs.Common.{ℕ, ◌<◌, inl, inr, [], ◌∙◌, sym, ap, slice_index_or, arith}
 use Rattle.std.proofs.lemmas.Bool.{cases_lt, false_from_ne_true}
 use Rattle.std.proofs.lemmas.List.{get_or_read}

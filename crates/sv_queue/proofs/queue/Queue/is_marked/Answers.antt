@@ -1,3 +1,4 @@
+-- What the check leaves to prove of `Queue::is_marked`.
 use Rattle.std.proofs.Common.{◌-◌, length, ◌∙◌, sym, ap, arith}
 use Rattle.std.proofs.lemmas.List.{get_or_read}
 use Rattle.sv_world.specs.Control.{is_in}

@@ -1,3 +1,4 @@
+-- What the check leaves to prove of `Queue::mark`.
 use Rattle.std.proofs.Common.{◌≡◌, ◌-◌, ◌<◌, List, length, get_or, sym, ap, subst, arith}
 use Rattle.std.proofs.lemmas.List.{get_or_read}
 use Rattle.sv_world.specs.declared.action.Action.{Action}

@@ -1,3 +1,4 @@
+-- What the check leaves to prove of `Queue::new`.
 use Rattle.std.proofs.Common.{refl}
 use Rattle.sv_queue.proofs.Kept.{agree_opening}
 use Rattle.sv_queue.proofs.Installs.{pairs_of-none}

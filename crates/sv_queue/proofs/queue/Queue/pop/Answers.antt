@@ -1,3 +1,4 @@
+-- What the check leaves to prove of `Queue::pop`.
 use Rattle.std.proofs.Common.{◌≡◌, [], ◌∷◌, ◌++◌, List, ◌∙◌, ap, subst}
 use Rattle.sv_world.specs.declared.action.Action.{Action}
 use Rattle.sv_queue.specs.Invariant.{HaveSources}

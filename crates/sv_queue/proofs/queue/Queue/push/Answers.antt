@@ -1,3 +1,4 @@
+-- What the check leaves to prove of `Queue::push`.
 use Rattle.std.proofs.Common.{◌≡◌, suc, ◌+◌, ◌^◌, ◌<◌, ◌∙◌, [], ◌∷◌, ◌++◌, length, get_or, replicate, None, sym, ap, arith}
 use Rattle.std.proofs.lemmas.List.{length-map}
 use Rattle.sv_world.specs.Control.{blank, last_writer}

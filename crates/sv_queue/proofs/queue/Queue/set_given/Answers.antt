@@ -1,3 +1,4 @@
+-- What the check leaves to prove of `Queue::set_given`.
 use Rattle.std.proofs.Common.{ℕ, ◌<◌, ◌∙◌, [], List, ap, arith}
 use Rattle.std.proofs.lemmas.List.{get_or_read}
 use Rattle.sv_queue.specs.Invariant.{view_of}

@@ -1,3 +1,4 @@
+-- What the check leaves to prove of `Queue::set_result`.
 use Rattle.std.proofs.Common.{◌≡◌, ◌-◌, ◌<◌, ◌∙◌, List, length, get_or, Some, sym, ap, subst, arith}
 use Rattle.std.proofs.lemmas.List.{get_or_read}
 use Rattle.sv_world.specs.Sets.{write_set}

@@ -1,3 +1,4 @@
+-- What the check leaves to prove of `Queue::source`.
 use Rattle.std.proofs.Common.{ℕ, ◌-◌, ◌<◌, ◌≤◌, [], List, length, get_or, sym, ◌∙◌, ap, subst, arith}
 use Rattle.std.proofs.lemmas.List.{get_or_read}
 use Rattle.sv_world.specs.Control.{action_at, last_writer}

@@ -1,3 +1,4 @@
+-- What the check leaves to prove of `Queue::sources_at`.
 use Rattle.std.proofs.Common.{ℕ, ◌<◌, length, get_or, sym, ◌∙◌, ap, subst, arith}
 use Rattle.std.proofs.lemmas.List.{length-set, length-map}
 use Rattle.sv_world.specs.declared.world.ObjectId.{ObjectId}

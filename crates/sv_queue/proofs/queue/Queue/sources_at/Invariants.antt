@@ -1,3 +1,4 @@
+-- The loop invariant of `Queue::sources_at`.
 use Rattle.std.proofs.Common.{◌≡◌, ℕ, ◌<◌, length, get_or}
 use Rattle.sv_world.specs.Control.{last_writer}
 use Rattle.sv_world.specs.Sets.{read_set}

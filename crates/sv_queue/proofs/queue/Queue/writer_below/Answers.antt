@@ -1,3 +1,4 @@
+-- What the check leaves to prove of `Queue::writer_below`.
 use Rattle.std.proofs.Common.{arith, sym, subst, ℕ, List, ◌∙◌, ap}
 use Rattle.sv_queue.specs.Positions.{IsAscending, greatest_below}
 use Rattle.sv_queue.specs.Queue.{QueueView, queue_actions}

@@ -1,3 +1,4 @@
+-- What the check leaves to prove of `Sessions::add`.
 use Rattle.std.proofs.Common.{ap, ◌∙◌}
 use Rattle.sv_queue.specs.Sessions.{with_session}
 use Rattle.sv_queue.proofs.SessionSets.{sessions_of-set}

@@ -1,3 +1,4 @@
+-- What the check leaves to prove of `Sessions::has`.
 use Rattle.std.proofs.Common.{nat_eq, ap, ◌∙◌, sym}
 use Rattle.std.proofs.lemmas.Bool.{le-ltb}
 use Rattle.std.proofs.lemmas.Nat.Bits.{shr_and_one}

@@ -1,3 +1,4 @@
+-- What the check leaves to prove of `Sessions::new`.
 use Rattle.std.proofs.Common.{false, ◌∙◌, nat_eq, refl}
 use Rattle.std.proofs.lemmas.Nat.Bits.{bit_at-zero}
 use Rattle.std.specs.Int.{bit_at}

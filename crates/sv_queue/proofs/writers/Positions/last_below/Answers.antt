@@ -1,3 +1,4 @@
+-- What the check leaves to prove of `Positions::last_below`.
 use Rattle.std.proofs.Common.{ℕ, ◌-◌, ltb, List, sym, ap, ◌∙◌, arith, rules}
 use Rattle.std.proofs.lemmas.Bool.{ne_eqb, eq-eqb, cond-true, cond-false}
 use Rattle.std.proofs.lemmas.List.{get_or_read}

@@ -1,3 +1,4 @@
+-- What the check leaves to prove of `Writers::add`.
 use Rattle.std.proofs.Common.{◌≡◌, [], ◌∷◌, ◌++◌, length, List, ℕ, set, refl, ap, arith}
 use Rattle.sv_queue.proofs.WrittenObjects.{unchanged, changed_slot, kept_slot, undone, read_known, writes_before-zero, writes_before_all}
 use Rattle.sv_queue.specs.Written.{writes_before}

@@ -1,3 +1,4 @@
+-- The loop invariant of `Writers::add`.
 use Rattle.std.proofs.Common.{[], ◌∷◌, ◌++◌}
 use Rattle.sv_queue.specs.Written.{IsChangedAt, writes_before}
 use Rattle.sv_queue.proofs.writers.Writers.add.Given as goal

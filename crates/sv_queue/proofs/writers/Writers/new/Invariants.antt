@@ -1,3 +1,4 @@
+-- The loop invariant of `Writers::new`.
 use Rattle.std.proofs.Common.{◌≡◌, [], replicate}
 use Rattle.sv_queue.proofs.writers.Writers.new.Given as goal
 

@@ -1,3 +1,4 @@
+-- What the check leaves to prove of `Writers::remove_first`.
 use Rattle.std.proofs.Common.{◌≡◌, [], drop, length, ap, arith}
 use Rattle.sv_queue.proofs.WrittenObjects.{unchanged, changed_slot, kept_slot, writes_before-zero, writes_before_all}
 use Rattle.sv_queue.proofs.writers.Writers.remove_first.Goals as goal

@@ -1,3 +1,4 @@
+-- The loop invariant of `Writers::remove_first`.
 use Rattle.std.proofs.Common.{[], drop}
 use Rattle.sv_queue.specs.Written.{IsChangedAt, writes_before}
 use Rattle.sv_queue.proofs.writers.Writers.remove_first.Given as goal

@@ -1,3 +1,4 @@
+-- What the check leaves to prove of `Writers::remove_last`.
 use Rattle.sv_queue.proofs.WrittenObjects.{writes_before_all}
 use Rattle.sv_queue.proofs.writers.Writers.remove_last.Goals as goal
 

@@ -1,3 +1,4 @@
+-- What the check leaves to prove of `SequencerObject::step`.
 use Rattle.sv_sequencer.proofs.Shared.{none-ended, step-entered, step-whole}
 use Rattle.sv_sequencer.proofs.object.SequencerObject.step.Goals as goal
 

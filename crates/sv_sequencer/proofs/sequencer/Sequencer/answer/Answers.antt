@@ -1,3 +1,4 @@
+-- What the check leaves to prove of `Sequencer::answer`.
 use Rattle.std.proofs.Common.{◌<◌, sym, ◌∙◌, ap, subst}
 use Rattle.sv_sequencer.specs.Cores.{Keeps}
 use Rattle.sv_sequencer.specs.Step.{SequencerView, history}

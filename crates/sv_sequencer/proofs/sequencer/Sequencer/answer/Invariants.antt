@@ -1,3 +1,4 @@
+-- The ghost arguments of `Sequencer::answer`.
 use Rattle.sv_sequencer.proofs.sequencer.Sequencer.answer.Given as goal
 
 abbrev pub ghost-decide : goal.ghost-decide

@@ -1,3 +1,4 @@
+-- What the check leaves to prove of `Sequencer::commit`.
 use Rattle.std.proofs.Common.{◌≡◌, reverse, subst}
 use Rattle.sv_journal.specs.History.{commit_of}
 use Rattle.sv_sequencer.specs.Step.{SequencerView, history}

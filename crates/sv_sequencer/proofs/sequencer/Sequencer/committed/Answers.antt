@@ -1,3 +1,4 @@
+-- What the check leaves to prove of `Sequencer::committed`.
 use Rattle.std.proofs.Common.{◌≡◌, ◌<◌, [], slice_index_or, reverse, sym, subst}
 use Rattle.sv_journal.specs.History.{committed_of}
 use Rattle.sv_sequencer.specs.Step.{SequencerView, history}

@@ -1,3 +1,4 @@
+-- What the check leaves to prove of `Sequencer::is_ended`.
 use Rattle.std.proofs.Common.{◌≡◌, ◌<◌, reverse, sym, subst}
 use Rattle.sv_journal.specs.Sessions.{is_ended}
 use Rattle.sv_sequencer.specs.Step.{SequencerView, history}

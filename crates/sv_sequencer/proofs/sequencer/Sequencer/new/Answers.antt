@@ -1,3 +1,4 @@
+-- What the check leaves to prove of `Sequencer::new`.
 use Rattle.std.proofs.Common.{◌∙◌, ap, arith}
 use Rattle.sv_journal.specs.View.{JournalView}
 use Rattle.sv_sequencer.proofs.Stepped.{as-opened}

@@ -1,3 +1,4 @@
+-- What the check leaves to prove of `Sequencer::sessions`.
 use Rattle.std.proofs.Common.{reverse}
 use Rattle.sv_sequencer.proofs.sequencer.Sequencer.sessions.Goals as goal
 

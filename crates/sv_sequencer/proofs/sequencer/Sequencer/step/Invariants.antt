@@ -1,3 +1,4 @@
+-- The ghost arguments of `Sequencer::step`.
 use Rattle.sv_sequencer.specs.Step.{history}
 use Rattle.sv_sequencer.proofs.sequencer.Sequencer.step.Given as goal
 

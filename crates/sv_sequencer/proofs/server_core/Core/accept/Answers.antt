@@ -1,3 +1,4 @@
+-- What the check leaves to prove of `Core::accept`.
 use Rattle.std.proofs.Common.{◌≡◌, ◌<◌, suc, List, [], ◌∷◌, ◌++◌, map, length, All, refl, sym, ◌∙◌, ap, subst, arith}
 use Rattle.sv_world.specs.declared.world.ClientId.{ClientId}
 use Rattle.sv_wire.specs.declared.message.Held.{Held}

@@ -1,3 +1,4 @@
+-- What the check leaves to prove of `Core::accept_new`.
 use Rattle.std.proofs.Common.{sym, ap, ◌∙◌}
 use Rattle.sv_world.specs.Faults.{first_fault_of_action}
 use Rattle.sv_world.proofs.Good.{good_of_none}

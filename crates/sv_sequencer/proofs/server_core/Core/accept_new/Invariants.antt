@@ -1,3 +1,4 @@
+-- The ghost arguments of `Core::accept_new`.
 use Rattle.sv_sequencer.proofs.server_core.Core.accept_new.Given as goal
 
 abbrev pub ghost-accept : goal.ghost-accept

@@ -1,3 +1,4 @@
+-- What the check leaves to prove of `Core::answer_plainly`.
 use Rattle.std.proofs.Common.{length, refl, sym, ◌∙◌, ap, subst, ◌∷◌}
 use Rattle.sv_journal.specs.History.{accepted}
 use Rattle.sv_sequencer.specs.Cores.{core_rules}

@@ -1,3 +1,4 @@
+-- What the check leaves to prove of `Core::carry_out`.
 use Rattle.sv_sequencer.proofs.Quiet.{nothing-changes}
 use Rattle.sv_sequencer.proofs.server_core.Core.carry_out.Goals as goal
 

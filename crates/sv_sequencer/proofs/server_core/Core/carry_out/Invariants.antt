@@ -1,3 +1,4 @@
+-- The ghost arguments of `Core::carry_out`.
 use Rattle.sv_sequencer.proofs.server_core.Core.carry_out.Given as goal
 
 abbrev pub ghost-welcome : goal.ghost-welcome

@@ -1,3 +1,4 @@
+-- What the check leaves to prove of `Core::chain_of`.
 use Rattle.std.proofs.Common.{length, ◌∙◌, ap}
 use Rattle.sv_world.specs.Control.{chain_length, influence_distance}
 use Rattle.sv_journal.specs.History.{accepted, actions_of, result_at}

@@ -1,3 +1,4 @@
+-- What the check leaves to prove of `Core::commit`.
 use Rattle.std.proofs.Common.{◌∙◌}
 use Rattle.sv_sequencer.proofs.server_core.Core.commit.Goals as goal
 

@@ -1,3 +1,4 @@
+-- What the check leaves to prove of `Core::committed`.
 use Rattle.std.proofs.Common.{◌<◌, [], slice_index_or, sym, ◌∙◌, ap, subst}
 use Rattle.sv_world.specs.declared.world.Shape.{Shape}
 use Rattle.sv_journal.specs.History.{accepted}

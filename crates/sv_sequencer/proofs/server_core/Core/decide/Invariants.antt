@@ -1,3 +1,4 @@
+-- The ghost arguments of `Core::decide`.
 use Rattle.sv_sequencer.proofs.server_core.Core.decide.Given as goal
 
 abbrev pub ghost-is_over : goal.ghost-is_over

@@ -1,3 +1,4 @@
+-- What the check leaves to prove of `Core::decide_accepted`.
 use Rattle.std.proofs.Common.{◌<◌, sym, ◌∙◌}
 use Rattle.std.proofs.lemmas.Bool.{leb-false}
 use Rattle.sv_journal.specs.History.{commit_of}

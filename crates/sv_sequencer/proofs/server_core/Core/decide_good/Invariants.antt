@@ -1,3 +1,4 @@
+-- The ghost arguments of `Core::decide_good`.
 use Rattle.sv_sequencer.proofs.server_core.Core.decide_good.Given as goal
 
 abbrev pub ghost-chain_of : goal.ghost-chain_of

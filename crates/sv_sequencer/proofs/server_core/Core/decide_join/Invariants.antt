@@ -1,3 +1,4 @@
+-- The ghost arguments of `Core::decide_join`.
 use Rattle.sv_sequencer.proofs.server_core.Core.decide_join.Given as goal
 
 abbrev pub ghost-is_live : goal.ghost-is_live

@@ -1,3 +1,4 @@
+-- The ghost arguments of `Core::decide_member`.
 use Rattle.sv_sequencer.proofs.server_core.Core.decide_member.Given as goal
 
 abbrev pub ghost-client_of : goal.ghost-client_of

@@ -1,3 +1,4 @@
+-- The ghost arguments of `Core::decide_new`.
 use Rattle.sv_sequencer.proofs.server_core.Core.decide_new.Given as goal
 
 abbrev pub ghost-next_seq : goal.ghost-next_seq

@@ -1,3 +1,4 @@
+-- What the check leaves to prove of `Core::decide_open`.
 use Rattle.std.proofs.Common.{◌≡◌, sym, subst}
 use Rattle.sv_wire.specs.declared.message.Request.{Request}
 use Rattle.sv_journal.specs.Answer.{reply_to_open}

@@ -1,3 +1,4 @@
+-- The ghost arguments of `Core::decide_open`.
 use Rattle.sv_sequencer.proofs.server_core.Core.decide_open.Given as goal
 
 abbrev pub ghost-decide_join : goal.ghost-decide_join

@@ -1,3 +1,4 @@
+-- What the check leaves to prove of `Core::decide_poll`.
 use Rattle.sv_sequencer.proofs.Kept.{old-poll}
 use Rattle.sv_sequencer.proofs.Relayed.{orphan-within}
 use Rattle.sv_sequencer.proofs.server_core.Core.decide_poll.Goals as goal

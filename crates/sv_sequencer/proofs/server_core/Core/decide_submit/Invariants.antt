@@ -1,3 +1,4 @@
+-- The ghost arguments of `Core::decide_submit`.
 use Rattle.sv_sequencer.proofs.server_core.Core.decide_submit.Given as goal
 
 abbrev pub ghost-kept_outcome : goal.ghost-kept_outcome

@@ -1,3 +1,4 @@
+-- What the check leaves to prove of `Core::drop_new`.
 use Rattle.std.proofs.Common.{refl, ap}
 use Rattle.sv_journal.specs.declared.entry.Logged.TheVariants as logged
 use Rattle.sv_sequencer.specs.declared.decision.Decision.TheVariants as decisions

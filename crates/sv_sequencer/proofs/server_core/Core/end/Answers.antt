@@ -1,3 +1,4 @@
+-- What the check leaves to prove of `Core::end`.
 use Rattle.std.proofs.Common.{◌-◌, ℕ, length, refl, sym, ap, subst, arith, ◌∷◌}
 use Rattle.sv_wire.specs.declared.message.Request.TheVariants as requests
 use Rattle.sv_journal.specs.declared.entry.Logged.TheVariants as logged

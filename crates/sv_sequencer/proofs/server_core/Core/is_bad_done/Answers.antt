@@ -1,3 +1,4 @@
+-- What the check leaves to prove of `Core::is_bad_done`.
 use Rattle.std.proofs.Common.{◌<◌, sym, ◌∙◌, arith}
 use Rattle.sv_sequencer.specs.Cores.{core_rules}
 use Rattle.sv_sequencer.proofs.Dones.{bad-done, no-bad}

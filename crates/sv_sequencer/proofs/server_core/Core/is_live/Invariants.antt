@@ -1,3 +1,4 @@
+-- The ghost arguments of `Core::is_live`.
 use Rattle.sv_sequencer.proofs.server_core.Core.is_live.Given as goal
 
 abbrev pub ghost-client_of : goal.ghost-client_of

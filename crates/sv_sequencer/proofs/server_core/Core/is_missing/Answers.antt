@@ -1,3 +1,4 @@
+-- What the check leaves to prove of `Core::is_missing`.
 use Rattle.std.proofs.Common.{◌∙◌, arith}
 use Rattle.sv_sequencer.specs.Cores.{core_rules}
 use Rattle.sv_sequencer.proofs.Missing.{missing-is}

@@ -1,3 +1,4 @@
+-- The ghost arguments of `Core::is_missing`.
 use Rattle.sv_sequencer.proofs.server_core.Core.is_missing.Given as goal
 
 abbrev pub ghosts-is_missing : goal.ghosts-is_missing

@@ -1,3 +1,4 @@
+-- What the check leaves to prove of `Core::kept_outcome`.
 use Rattle.std.proofs.Common.{◌∙◌}
 use Rattle.sv_journal.specs.History.{Accepted}
 use Rattle.sv_sequencer.specs.Clients.{client_row}

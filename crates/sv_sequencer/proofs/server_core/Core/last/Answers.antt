@@ -1,3 +1,4 @@
+-- What the check leaves to prove of `Core::last`.
 use Rattle.std.proofs.Common.{◌∙◌}
 use Rattle.sv_sequencer.proofs.server_core.Core.last.Goals as goal
 

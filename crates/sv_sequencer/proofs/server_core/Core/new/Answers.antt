@@ -1,3 +1,4 @@
+-- What the check leaves to prove of `Core::new`.
 use Rattle.std.proofs.Common.{◌≡◌, ℤ, List, [], length, replicate, sym, ◌∙◌, ap, subst, arith}
 use Rattle.std.proofs.lemmas.List.{length-replicate}
 use Rattle.sv_queue.specs.Queue.{QueueView, opening_queue}

@@ -1,3 +1,4 @@
+-- What the check leaves to prove of `Core::note_results`.
 use Rattle.std.proofs.Common.{◌≡◌, ◌≤◌, ◌<◌, ◌∷◌, All, refl, sym, ◌∙◌, ap, subst, arith}
 use Rattle.std.proofs.lemmas.List.Elements.{All-filter}
 use Rattle.sv_wire.specs.declared.message.Done1.{Done1}

@@ -1,3 +1,4 @@
+-- What the check leaves to prove of `Core::orphan`.
 use Rattle.std.proofs.Common.{◌≡◌, ℕ, List, [], ◌∷◌, refl, MatchOption, ◌∙◌, ap, subst}
 use Rattle.sv_sequencer.specs.Cores.{core_rules}
 use Rattle.sv_sequencer.specs.Orphans.{orphans_in}

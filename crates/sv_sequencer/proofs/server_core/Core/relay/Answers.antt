@@ -1,3 +1,4 @@
+-- What the check leaves to prove of `Core::relay`.
 use Rattle.std.proofs.Common.{◌≡◌, ◌≤◌, ◌<◌, List, ◌∷◌, map, All, refl, sym, ◌∙◌, ap, subst, arith}
 use Rattle.sv_wire.specs.declared.message.Held.{Held}
 use Rattle.sv_wire.specs.declared.message.Reply.TheVariants as replies

@@ -1,3 +1,4 @@
+-- What the check leaves to prove of `Core::was_sent`.
 use Rattle.std.proofs.Common.{◌<◌, ◌≤◌, ◌∙◌, arith}
 use Rattle.sv_queue.specs.Queue.{last_position}
 use Rattle.sv_journal.specs.History.{accepted, result_at}

@@ -1,3 +1,4 @@
+-- The ghost arguments of `Core::was_sent`.
 use Rattle.sv_sequencer.proofs.server_core.Core.was_sent.Given as goal
 
 abbrev pub ghosts-is_marked : goal.ghosts-is_marked

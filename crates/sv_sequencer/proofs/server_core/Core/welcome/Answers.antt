@@ -1,3 +1,4 @@
+-- What the check leaves to prove of `Core::welcome`.
 use Rattle.std.proofs.Common.{◌≡◌, ◌<◌, ℕ, List, ◌∷◌, All, refl, sym, ◌∙◌, ap, subst}
 use Rattle.sv_wire.specs.declared.message.Held.{Held}
 use Rattle.sv_wire.specs.declared.message.Reply.TheVariants as replies

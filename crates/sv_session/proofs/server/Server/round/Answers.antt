@@ -1,3 +1,4 @@
+-- What the check leaves to prove of `Server::round`.
 use Rattle.sv_session.specs.Rounds.{stand}
 use Rattle.sv_session.proofs.Joined.{steps_none}
 use Rattle.sv_session.proofs.Rounds.{halts_unanswered, round_posted, round_read}

@@ -1,3 +1,4 @@
+-- What the check leaves to prove of `Server::serve`.
 use Rattle.std.proofs.Common.{refl, ap, ◌∙◌}
 use Rattle.sv_link.specs.Ends.{Told}
 use Rattle.sv_session.specs.Rounds.{stand, Onward}

@@ -1,3 +1,4 @@
+-- The loop invariant of `Server::serve`.
 use Rattle.std.proofs.Common.{◌≡◌, false}
 use Rattle.sv_session.specs.Serving.{MayServe}
 use Rattle.sv_session.specs.Rounds.{stand, Onward}

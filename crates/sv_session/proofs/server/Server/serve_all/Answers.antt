@@ -1,3 +1,4 @@
+-- What the check leaves to prove of `Server::serve_all`.
 use Rattle.sv_session.proofs.Joined.{steps_none}
 use Rattle.sv_session.proofs.Rounds.{halts_unanswered}
 use Rattle.sv_session.proofs.server.Server.serve_all.Goals as goal

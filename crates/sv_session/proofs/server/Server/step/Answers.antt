@@ -1,3 +1,4 @@
+-- What the check leaves to prove of `Server::step`.
 use Rattle.sv_session.proofs.Rounds.{steps_if}
 use Rattle.sv_session.proofs.server.Server.step.Goals as goal
 

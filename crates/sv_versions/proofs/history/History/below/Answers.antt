@@ -1,3 +1,4 @@
+-- What is proved by hand of `History::below`.
 use Rattle.std.proofs.Common.{arith}
 use Rattle.sv_versions.proofs.Rows.{read_last, read_none, read_zero}
 use Rattle.sv_versions.proofs.history.History.below.Goals as goal

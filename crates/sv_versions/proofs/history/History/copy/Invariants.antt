@@ -1,3 +1,4 @@
+-- The loop invariant of `History::copy`.
 use Rattle.std.proofs.Common.{◌≡◌, take}
 use Rattle.sv_versions.proofs.history.History.copy.Given as goal
 

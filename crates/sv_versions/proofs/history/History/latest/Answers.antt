@@ -1,3 +1,4 @@
+-- What is proved by hand of `History::latest`.
 use Rattle.std.proofs.Common.{◌≡◌, length, arith, rules}
 use Rattle.sv_versions.proofs.Rows.{latest_last}
 use Rattle.sv_versions.proofs.history.History.latest.Goals as goal

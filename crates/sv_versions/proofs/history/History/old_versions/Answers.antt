@@ -1,3 +1,4 @@
+-- What is proved by hand of `History::old_versions`.
 use Rattle.sv_versions.proofs.Rows.{counted}
 use Rattle.sv_versions.proofs.history.History.old_versions.Goals as goal
 

@@ -1,3 +1,4 @@
+-- What is proved by hand of `History::prune`.
 use Rattle.std.proofs.Common.{◌≡◌, leb, ap, arith, rules}
 use Rattle.std.specs.List.{filter}
 use Rattle.std.proofs.lemmas.Fn.{filter_same}

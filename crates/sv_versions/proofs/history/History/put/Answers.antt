@@ -1,3 +1,4 @@
+-- What is proved by hand of `History::put`.
 use Rattle.std.proofs.Common.{◌≡◌, ◌-◌, get_or, sym, subst}
 use Rattle.sv_versions.specs.declared.history.Version.{Version}
 use Rattle.sv_versions.proofs.Puts.{put_there, put_new, ascends_there, ascends_new}

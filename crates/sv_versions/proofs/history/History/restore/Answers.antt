@@ -1,3 +1,4 @@
+-- What is proved by hand of `History::restore`.
 use Rattle.std.proofs.Common.{List, [], None, sym, subst, ◌∙◌}
 use Rattle.sv_versions.specs.declared.history.Version.{Version}
 use Rattle.sv_versions.specs.Histories.{AscendsFrom}

@@ -1,3 +1,4 @@
+-- What is proved by hand of `Versions::copy`.
 use Rattle.std.proofs.Common.{◌≡◌, ◌∙◌}
 use Rattle.std.proofs.lemmas.List.{take_all}
 use Rattle.sv_versions.proofs.store.Versions.copy.Goals as goal

@@ -1,3 +1,4 @@
+-- The loop invariant of `Versions::copy`.
 use Rattle.std.proofs.Common.{◌≡◌, take}
 use Rattle.sv_versions.proofs.store.Versions.copy.Given as goal
 

@@ -1,3 +1,4 @@
+-- What is proved by hand of `Versions::latest`.
 use Rattle.std.proofs.Common.{◌<◌, ◌∙◌, sym, subst, arith}
 use Rattle.sv_versions.specs.Held.{Store}
 use Rattle.sv_versions.proofs.Flats.{latest_row}

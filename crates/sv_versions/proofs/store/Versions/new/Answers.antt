@@ -1,3 +1,4 @@
+-- What is proved by hand of `Versions::new`.
 use Rattle.std.proofs.Common.{◌≡◌, [], List, replicate, ap, ◌∙◌, arith}
 use Rattle.std.proofs.lemmas.List.{length-replicate}
 use Rattle.sv_versions.specs.declared.history.Version.{Version}

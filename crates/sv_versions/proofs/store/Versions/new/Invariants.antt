@@ -1,3 +1,4 @@
+-- The loop invariant of `Versions::new`.
 use Rattle.std.proofs.Common.{◌≡◌, [], replicate}
 use Rattle.sv_versions.proofs.store.Versions.new.Given as goal
 

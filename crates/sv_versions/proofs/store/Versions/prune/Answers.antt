@@ -1,3 +1,4 @@
+-- What is proved by hand of `Versions::prune`.
 use Rattle.std.proofs.Common.{List, ap, ◌∙◌, sym, subst}
 use Rattle.sv_versions.specs.Held.{Held, Store, AnswersAbove}
 use Rattle.sv_versions.specs.Histories.{flat}

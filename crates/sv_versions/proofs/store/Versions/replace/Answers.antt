@@ -1,10 +1,11 @@
+-- What is proved by hand of `Versions::replace`.
 use Rattle.std.proofs.Common.{◌≡◌, ◌<◌, List, length, get_or, [], ap, ◌∙◌, sym, subst, arith}
 use Rattle.std.proofs.lemmas.List.{get_or_read}
 use Rattle.std.proofs.lemmas.Result.{on_ok_weaker, IfOk-weaker}
 use Rattle.sv_versions.specs.declared.history.Version.{Version}
 use Rattle.sv_versions.specs.Held.{Held, Store, put_in, AnswersAbove}
 use Rattle.sv_versions.proofs.Laws.{put_answers}
-use Rattle.sv_versions.specs.Histories.{tagged, held_at, flat}
+use Rattle.sv_versions.specs.Histories.{tagged, as_held, flat}
 use Rattle.sv_versions.proofs.Flats.{put_flat}
 use Rattle.sv_versions.proofs.Restores.{put_back}
 use Rattle.sv_versions.proofs.store.Versions.replace.Goals as goal
@@ -19,7 +20,7 @@ returns-clause-ok c =
     let row : c.index_mut-history.result.now ≡ get_or rows x [] = get_or_read rows x _ within c.index_mut-history.ensures.value [] in
     let make : List Held → Store = λ hs. record { shape = c.self.inside.shape; held = hs } in
     rw (← c.self.view_is) (on_ok_weaker c.put.result
-    (λ each. ap make (put_flat rows (held_at x w) c.put.new.self within (each x ∙ ap (λ (r : List Version). put_in (tagged x r) (held_at x w)) row)))
+    (λ each. ap make (put_flat rows (as_held x w) c.put.new.self within (each x ∙ ap (λ (r : List Version). put_in (tagged x r) (as_held x w)) row)))
     c.put.ensures.ok)
 
 pub returns-clause-answers : goal.returns-clause-answers
@@ -33,7 +34,7 @@ returns-clause-answers c =
     on_ok_weaker c.put.result
     (λ each told all a.
     let was : AnswersAbove told (flat rows) all = subst (λ (s : Store). AnswersAbove told s.held all) (sym c.self.view_is) a in
-    rw (put_flat rows (held_at x w) c.put.new.self within (each x ∙ ap (λ (r : List Version). put_in (tagged x r) (held_at x w)) row)) (put_answers told (held_at x w) (flat rows) all was))
+    rw (put_flat rows (as_held x w) c.put.new.self within (each x ∙ ap (λ (r : List Version). put_in (tagged x r) (as_held x w)) row)) (put_answers told (as_held x w) (flat rows) all was))
     c.put.ensures.ok
 
 pub returns-clause-undone : goal.returns-clause-undone

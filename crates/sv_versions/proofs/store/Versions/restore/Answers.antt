@@ -1,3 +1,4 @@
+-- What is proved by hand of `Versions::restore`.
 use Rattle.std.proofs.Common.{◌≡◌, ◌<◌, List, length, get_or, [], ap, ◌∙◌, sym, arith}
 use Rattle.std.proofs.lemmas.List.{get_or_read}
 use Rattle.sv_versions.specs.declared.history.Version.{Version}

@@ -1,3 +1,4 @@
+-- The loop invariant and the measure of `Versions::undo`.
 use Rattle.std.proofs.Common.{◌≡◌, length, reverse}
 use Rattle.sv_versions.specs.Undone.{undone}
 use Rattle.sv_versions.proofs.store.Versions.undo.Given as goal

@@ -1,3 +1,4 @@
+-- What is proved by hand of `Versions::unlist`.
 use Rattle.sv_versions.proofs.Prunings.{crowded_listed}
 use Rattle.sv_versions.proofs.store.Versions.unlist.Goals as goal
 

@@ -1,3 +1,4 @@
+-- What is proved by hand of `Watch::tell_each`.
 use Rattle.std.proofs.Common.{◌≡◌, ◌+◌, ◌∷◌, [], ◌++◌, take, map, refl, ap, sym, ◌∙◌, append_assoc}
 use Rattle.std.proofs.lemmas.List.{map_more}
 use Rattle.sv_watch.specs.Told.{change_line}

@@ -1,3 +1,4 @@
+-- The loop invariant of `Watch::tell_each`.
 use Rattle.std.proofs.Common.{◌≡◌, ◌++◌, take, map}
 use Rattle.sv_watch.specs.Told.{change_line}
 use Rattle.sv_watch.proofs.watch.Watch.tell_each.Given as goal

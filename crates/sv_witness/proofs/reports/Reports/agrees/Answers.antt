@@ -1,3 +1,4 @@
+-- What the check leaves to prove of `Reports::agrees`.
 use Rattle.std.proofs.Common.{Bool, ◌||◌, sym, ap, ◌∙◌}
 use Rattle.std.specs.List.{list_any}
 use Rattle.sv_witness.specs.Reports.{gives}

@@ -1,3 +1,4 @@
+-- What the check leaves to prove of `Reports::has_reported`.
 use Rattle.std.proofs.Common.{ap, ◌∙◌}
 use Rattle.std.specs.List.{list_any}
 use Rattle.sv_witness.specs.Reports.{is_by}

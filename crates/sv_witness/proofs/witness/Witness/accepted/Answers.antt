@@ -1,3 +1,4 @@
+-- What the check leaves to prove of `Witness::accepted`.
 use Rattle.std.proofs.Common.{◌≡◌, List, length, reverse, ap, subst, ◌∙◌}
 use Rattle.sv_journal.specs.History.{Authored, accepted}
 use Rattle.sv_sequencer.specs.Step.{SequencerView, history}

@@ -1,3 +1,4 @@
+-- What the check leaves to prove of `Witness::answer`.
 use Rattle.std.proofs.Common.{◌≡◌, ◌<◌, List, sym, ◌∙◌, ap, subst}
 use Rattle.sv_journal.specs.declared.entry.Entry.{Entry}
 use Rattle.sv_journal.specs.Answer.{reply_to_request}

@@ -1,3 +1,4 @@
+-- The ghost arguments of `Witness::answer`.
 use Rattle.sv_witness.specs.Reports.{agreed_history}
 use Rattle.sv_witness.proofs.witness.Witness.answer.Given as goal
 

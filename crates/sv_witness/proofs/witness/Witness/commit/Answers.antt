@@ -1,3 +1,4 @@
+-- What the check leaves to prove of `Witness::commit`.
 use Rattle.std.proofs.Common.{◌≡◌, reverse, subst}
 use Rattle.sv_sequencer.specs.Step.{SequencerView, history}
 use Rattle.sv_witness.specs.Reports.{agreed_history, agreed_commit}

@@ -1,3 +1,4 @@
+-- What the check leaves to prove of `Witness::committed`.
 use Rattle.std.proofs.Common.{◌≡◌, ◌<◌, [], slice_index_or, reverse, sym, subst}
 use Rattle.sv_sequencer.specs.Step.{SequencerView, history}
 use Rattle.sv_witness.specs.Reports.{agreed_history, agreed_world}

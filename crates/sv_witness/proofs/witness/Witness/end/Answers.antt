@@ -1,3 +1,4 @@
+-- What the check leaves to prove of `Witness::end`.
 use Rattle.std.proofs.Common.{◌≡◌, ◌<◌, List, [], ◌∷◌, reverse, sym, ◌∙◌, ap, subst, arith}
 use Rattle.std.proofs.lemmas.List.{reverse-append}
 use Rattle.sv_wire.specs.declared.message.Request.TheVariants as requests
@@ -27,10 +28,10 @@ invariant_of-self g c =
     let e = entry_of c.args.session requests.End logged.Bye in
     let at : g.h ≡ h = c.requires.0 ∙ sym (ap history c.self.view_is) in
     let past : reverse c.push.new.self.entries ≡ e ∷ h = ap (λ (j : JournalView). reverse j.entries) c.push.ensures ∙ reverse-append a.journal.entries (e ∷ []) in
-    let ended = after-end a.core c.end.new.self a.reports a.disputes.items h c.args.session (record { keeps = c.self.invariant.keeps; stands = c.self.invariant.stands }) c.end.ensures.rules
+    let ended = after-end a.core c.end.new.self a.testimony.reports a.testimony.disputes.items h c.args.session (record { keeps = c.self.invariant.keeps; stands = c.self.invariant.stands }) c.end.ensures.rules
     (subst (λ (l : List Entry). Keeps c.end.new.self (e ∷ agreed_history l)) at c.end.ensures.keeps) in
     record {
       keeps = subst (λ (l : List Entry). Keeps c.end.new.self (agreed_history l)) (sym past) ended.keeps;
-      stands = subst (λ (l : List Entry). Stands (core_rules c.end.new.self) a.reports a.disputes.items l) (sym past) ended.stands;
+      stands = subst (λ (l : List Entry). Stands (core_rules c.end.new.self) a.testimony.reports a.testimony.disputes.items l) (sym past) ended.stands;
       room = omega (arith, c.end.ensures.owed, c.self.invariant.room, ap (λ (j : JournalView). j.spare) c.push.ensures);
     }

@@ -1,3 +1,4 @@
+-- What the check leaves to prove of `Witness::keep`.
 use Rattle.std.proofs.Common.{◌<◌, List, sym, ◌∙◌, ap, subst, arith}
 use Rattle.sv_journal.specs.declared.entry.Entry.{Entry}
 use Rattle.sv_sequencer.specs.Cores.{Keeps}

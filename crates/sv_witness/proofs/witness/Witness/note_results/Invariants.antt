@@ -1,3 +1,4 @@
+-- The ghost arguments of `Witness::note_results`.
 use Rattle.sv_witness.proofs.witness.Witness.note_results.Given as goal
 
 abbrev pub ghost-install : goal.ghost-install

@@ -1,3 +1,4 @@
+-- What the check leaves to prove of `Witness::poll`.
 use Rattle.std.proofs.Common.{◌≡◌, ◌<◌, sym, ◌∙◌, ap, subst, arith}
 use Rattle.sv_journal.specs.Sessions.{is_end}
 use Rattle.sv_sequencer.specs.Cores.{core_rules, queue_of}
@@ -27,7 +28,7 @@ keep-requires g c =
     let joined = sym (client-agreed h s) ∙ sym (c.client.ensures (agreed_history h) is.keeps) ∙ c.in-Some.is in
     let due : d ≡ first_of (due_to h s) =
     c.due_decision-decision.ensures
-    ∙ ap first_of (due-are (core_rules a.core) h (queue_of a.core) a.reports k s (omega (arith, low, is.keeps.few_sessions)) joined is.stands.reports is.keeps.commit is.keeps.sound.sent is.keeps.fits) in
+    ∙ ap first_of (due-are (core_rules a.core) h (queue_of a.core) a.testimony.reports k s (omega (arith, low, is.keeps.few_sessions)) joined is.stands.reports is.keeps.commit is.keeps.sound.sent is.keeps.fits) in
     let asked = c.requires.1.1.0 in
     let reply = c.requires.1.1.1 in (
       c.requires.0,

@@ -1,3 +1,4 @@
+-- The ghost arguments of `Witness::poll`.
 use Rattle.sv_witness.proofs.witness.Witness.poll.Given as goal
 
 abbrev pub ghost-keep : goal.ghost-keep

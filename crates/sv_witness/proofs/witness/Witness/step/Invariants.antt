@@ -1,3 +1,4 @@
+-- The ghost arguments of `Witness::step`.
 use Rattle.sv_sequencer.specs.Step.{history}
 use Rattle.sv_witness.proofs.witness.Witness.step.Given as goal
 

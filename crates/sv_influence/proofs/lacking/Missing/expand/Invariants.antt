@@ -1,15 +1,16 @@
+-- The loop invariant of `Missing::expand`.
 use Rattle.std.proofs.Common.{◌≡◌, ℕ, ◌+◌, ◌*◌, ◌≤◌, ◌++◌, drop}
 use Rattle.sv_world.specs.Control.{is_in, action_at}
 use Rattle.sv_world.specs.Faults.{IsGoodAction}
 use Rattle.sv_queue.specs.Queue.{queue_actions}
 use Rattle.sv_influence.specs.Lacking.{lacking_writers, committed_reads, reads_at}
-use Rattle.sv_influence.proofs.lacking.expand.Given as goal
+use Rattle.sv_influence.proofs.lacking.Missing.expand.Given as goal
 
 abbrev pub invariant-loop-slot : goal.invariant-loop-slot
 invariant-loop-slot g l = record {
   items : l.object-items ≡ (action_at (queue_actions l.queue) l.pos).reads;
   good : IsGoodAction l.queue.shape (action_at (queue_actions l.queue) l.pos);
-  wanted : (j : ℕ) → is_in j (lacking_writers l.queue l.session l.pos (drop l.slot (reads_at l.queue l.pos)) ++ l.wanted) ≡ is_in j (lacking_writers l.queue l.session l.pos (reads_at l.queue l.pos) ++ l.fn.wanted);
-  bases : (x : ℕ) → is_in x (committed_reads l.queue l.session l.pos (drop l.slot (reads_at l.queue l.pos)) ++ l.bases) ≡ is_in x (committed_reads l.queue l.session l.pos (reads_at l.queue l.pos) ++ l.fn.bases);
+  wanted : (j : ℕ) → is_in j (lacking_writers l.queue l.session l.pos (drop l.slot (reads_at l.queue l.pos)) ++ l.self.wanted) ≡ is_in j (lacking_writers l.queue l.session l.pos (reads_at l.queue l.pos) ++ l.fn.self.wanted);
+  bases : (x : ℕ) → is_in x (committed_reads l.queue l.session l.pos (drop l.slot (reads_at l.queue l.pos)) ++ l.self.bases) ≡ is_in x (committed_reads l.queue l.session l.pos (reads_at l.queue l.pos) ++ l.fn.self.bases);
   ticks : l.steps ≤ l.fn.steps + 1 + 2 * l.slot;
 }
