@@ -83,7 +83,7 @@ joined_by reader close byte (suc turns) so_far text = reader text >>= λ x. next
     cond y.0 (Some (so_far ++ x.0 ∷ [], y.1)) (joined_by reader close byte turns (so_far ++ x.0 ∷ []) y.1)
 
 abbrev pub listed_by : {A : Type 0} → (List ℕ → Read A) → List ℕ → List ℕ → List ℕ → Read (List A)
-listed_by reader close byte text = either (behind_front close text) (λ rest. Some ([], rest)) (joined_by reader close byte (length text) [] text)
+listed_by reader close byte text = when_read (behind_front close text) (λ rest. Some ([], rest)) (joined_by reader close byte (length text) [] text)
 
 unfoldable pub object_read : List ℕ → Read ObjectId
 object_read text = number_read (2 ^ 16) text >>= λ n. Some (object_numbered n.0, n.1)
