@@ -53,10 +53,10 @@ pub limits_of : (scenario : Scenario) → IsGoodScenario scenario → AreWithinL
 limits_of scenario good =
     let w = good.world in
     record {
-      some_attrs = w.some_attrs;
-      few_attrs = w.few_attrs;
+      some_attrs = w.shape.some_attrs;
+      few_attrs = w.shape.few_attrs;
       objects = w.objects;
-      attrs = All-from_recursion (λ value. length value ≡ scenario.world.shape.attrs) scenario.world.values w.attrs;
+      attrs = w.attrs;
       bound = good.bound;
     }
 
@@ -133,7 +133,7 @@ module _ (stay : FullRepliesStay) (name : LegalRelaysNameAccepted) (messages : R
       let few = few_entries (session_count scenario) journal under few_in in
       let same = reversed_short journal in
       let most = good.good.sessions in
-      let objects = good.good.world.few_objects in
+      let objects = good.good.world.shape.few_objects in
       recursion_from_All (λ (e : Entry). IsReply (full_reply (accepted (reverse journal)) e.reply)) (reverse journal)
       (messages (rules_of scenario) (reverse journal) (limits_of scenario good.good) (omega (arith, objects)) good.opening fits (omega (arith, few, same, most)) run.legal)
 

@@ -185,16 +185,16 @@ module _ (scenario : Scenario) (H : List Entry) (Ls : List Trace) (good : IsGood
 
   limits : AreWithinLimits r
   limits = record {
-    some_attrs = good.world.some_attrs;
-    few_attrs = good.world.few_attrs;
+    some_attrs = good.world.shape.some_attrs;
+    few_attrs = good.world.shape.few_attrs;
     objects = good.world.objects;
-    attrs = All-from_recursion (λ value. length value ≡ scenario.world.shape.attrs) scenario.world.values good.world.attrs;
+    attrs = good.world.attrs;
     bound = good.bound;
   }
 
   has_numbers : HasNumbers r H Ls
   has_numbers = record {
-    objects = omega (arith, good.world.few_objects);
+    objects = omega (arith, good.world.shape.few_objects);
     opening = numbers.values;
     made = All-from_recursion (λ (L : Trace). All EventFits L.events) Ls (all_made_fit order shape scenario.clients Ls w (recursion_from_All PlanFits scenario.clients numbers.plans));
     positions = (let most = few r H (session_count scenario) g.legal g.sessions in omega (arith, most, good.sessions));

@@ -133,7 +133,7 @@ module _ (stay : FullRepliesStay) (names : LegalRelaysNameAccepted) (order : Ste
   size = committed_length scenario.world.values h ∙ good.world.objects
 
   few_values : length values < 2 ^ 32
-  few_values = let objects = good.world.few_objects in let is = size in omega (arith, objects, is)
+  few_values = let objects = good.world.shape.few_objects in let is = size in omega (arith, objects, is)
 
   fits : AllByRecursion ValueFits values
   fits = committed-fits scenario.world.values h (requests_fit scenario h journal.entries) (recursion_from_All ValueFits scenario.world.values numbers.values)

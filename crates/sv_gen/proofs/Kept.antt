@@ -2,17 +2,19 @@
 use Rattle.std.proofs.Common.{◌≡◌, ◌≢◌, ℕ, zero, suc, ◌+◌, ◌-◌, ◌*◌, ◌/◌, ◌%◌, ◌<◌, ◌≤◌, Bool, true, false, nat_lt, ℤ, List, [], ◌∷◌, ◌++◌, length, map, refl, sym, ap, ◌∙◌, subst, arith, length-append, Result, Ok, Err, IfOk}
 use Rattle.std.proofs.lemmas.Bool.{lt-ltb}
 use Rattle.std.proofs.lemmas.List.{length-map}
+use Rattle.std.proofs.lemmas.List.Elements.{All-from_recursion}
 use Rattle.std.proofs.Math.Nat.{mul-le-mul_right, suc-mul}
 use Rattle.std.specs.List.{AllByRecursion, flat_map}
 use Rattle.sv_world.specs.declared.world.ObjectId.{ObjectId}
 use Rattle.sv_world.specs.declared.world.Shape.{Shape}
 use Rattle.sv_world.specs.Control.{below}
+use Rattle.sv_world.specs.Worlds.{IsGoodWorld}
 use Rattle.sv_world.specs.Faults.{is_ascending}
 use Rattle.sv_scenario.specs.declared.scenario.Plan.{Plan}
 use Rattle.sv_scenario.specs.declared.scenario.Scenario.{Scenario}
 use Rattle.sv_scenario.specs.declared.scenario.Step.{Step}
 use Rattle.sv_scenario.specs.declared.scenario.Step.TheVariants as steps
-use Rattle.sv_scenario.specs.Limits.{IsGoodWorld, IsGoodStep, quits_last, IsGoodPlan, IsGoodScenario}
+use Rattle.sv_scenario.specs.Limits.{IsGoodStep, quits_last, IsGoodPlan, IsGoodScenario}
 use Rattle.sv_scenario.specs.Sessions.{cuts_by, cuts_in, sessions_of_plan, sessions_in}
 use Rattle.sv_gen.specs.Generated.{act, round_steps, script, interest, plan, opening, world, scenario, pairs_of, rounds_of}
 use Rattle.sv_gen.proofs.Parts.{all_append, all_below, all_flat, all_lead, length-below, length-flat}
@@ -114,12 +116,9 @@ plans_fine pairs rounds some few =
 
 good_world : (objects : ℕ) → 1 ≤ objects → objects ≤ 4096 → IsGoodWorld (world objects)
 good_world objects some few = record {
-  some_objects = some;
-  few_objects = few;
-  some_attrs = omega arith;
-  few_attrs = omega arith;
+  shape = record { some_objects = some; few_objects = few; some_attrs = omega arith; few_attrs = omega arith };
   objects = length-map (below objects) opening ∙ length-below objects;
-  attrs = all_below (λ (v : List ℤ). length v ≡ 2) opening objects (λ k l. refl);
+  attrs = All-from_recursion (λ (v : List ℤ). length v ≡ 2) (map opening (below objects)) (all_below (λ (v : List ℤ). length v ≡ 2) opening objects (λ k l. refl));
 }
 
 some_product : (a b : ℕ) → 1 ≤ a → 1 ≤ b → 1 ≤ a * b

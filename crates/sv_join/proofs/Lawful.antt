@@ -140,7 +140,7 @@ module _ (law : NeverRefused) (messages : RepliesAreMessages) (scenario : Scenar
 
   sendable : AllByRecursion IsReply all
   sendable =
-      let objects = good.world.few_objects in
+      let objects = good.world.shape.few_objects in
       sendable_in (accepted server.journal) server.journal (s + server.first)
       (recursion_from_All (λ (e : Entry). IsReply (full_reply (accepted server.journal) e.reply)) server.journal
       (messages (rules_of scenario) server.journal (limits_of scenario good) (omega (arith, objects)) opening server.requests server.short server.legal))

@@ -82,13 +82,7 @@ may_play scenario good k plan client steps x is same =
             ascending = fine.ascending;
             objects = All-from_recursion (λ (o : ObjectId). o.0 < scenario.world.shape.objects) plan.interest fine.known;
           };
-      shape =
-          record {
-            some_objects = good.world.some_objects;
-            few_objects = good.world.few_objects;
-            some_attrs = good.world.some_attrs;
-            few_attrs = good.world.few_attrs;
-          };
+      shape = good.world.shape;
       plan = fine;
     } in
     let own : client.who ≡ who = ap (λ (c : ClientView). c.who) (client_as scenario k plan client x is) in

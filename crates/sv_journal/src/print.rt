@@ -80,19 +80,16 @@ fn append_welcome(commit: u32, head: &[Held], out: &mut String) -> Result<(), Al
     append_head(head, out)
 }
 
-fn append_relay(
+/// Appends what a relay gives and what it sends.
+fn append_relayed(
     journal: &Journal,
-    seq: u32,
-    commit: u32,
     head: &[Held],
     positions: &[u32],
     out: &mut String,
 ) -> Result<(), AllocError>
     requires { All (λ p. (1 ≤ p) × (p ≤ length (accepted (reverse journal.now.entries)))) positions.now }
-    ensures { OnOk result (string_bytes out.new ≡ string_bytes out.old ++ codes "relay " ++ decimal seq ++ codes " at " ++ decimal commit ++ codes " " ++ head_text head.now
-        ++ codes " " ++ bracketed (item_text (accepted (reverse journal.now.entries))) positions.now) }
+    ensures { OnOk result (string_bytes out.new ≡ string_bytes out.old ++ head_text head.now ++ codes " " ++ bracketed (item_text (accepted (reverse journal.now.entries))) positions.now) }
 {
-    write!(out, "relay {seq} at {commit} ")?;
     append_head(head, out)?;
     out.push_str(" ")?;
     append_items(journal, positions, out)
@@ -109,14 +106,10 @@ fn append_reply(journal: &Journal, reply: &Logged, out: &mut String) -> Result<(
             commit,
             head,
             positions,
-        } => append_relay(
-            journal,
-            *seq,
-            *commit,
-            head.as_slice(),
-            positions.as_slice(),
-            out,
-        ),
+        } => {
+            write!(out, "relay {seq} at {commit} ")?;
+            append_relayed(journal, head.as_slice(), positions.as_slice(), out)
+        }
         Logged::Dropped { seq, chain, far } => write!(out, "dropped {seq} chain {chain} far {far}"),
         Logged::Settled { seq, pos } => write!(out, "settled {seq} at {pos}"),
         Logged::Noted { commit } => write!(out, "noted {commit}"),

@@ -45,13 +45,7 @@ module _ {E W : Type 0} (told : E → Told) (faults : E → ℕ) (calm : E → T
               ascending = p.part.good.ascending;
               objects = All-from_recursion (λ (o : ObjectId). o.0 < run.scenario.world.shape.objects) plan.interest p.part.good.known;
             };
-        shape =
-            record {
-              some_objects = good.world.some_objects;
-              few_objects = good.world.few_objects;
-              some_attrs = good.world.some_attrs;
-              few_attrs = good.world.few_attrs;
-            };
+        shape = good.world.shape;
         plan = p.part.good;
       } in
       let same : x.client.who ≡ who = ap (λ (c : ClientView). c.who) p.part.client in

@@ -29,7 +29,7 @@ use Rattle.sv_client.specs.Proper.{AreProper, IsGoodIdentity, MayMake}
 use Rattle.sv_client.specs.Seen.{newly_asked}
 use Rattle.sv_client.specs.Answers.{got_now}
 use Rattle.sv_client.proofs.Takes.{newly_got}
-use Rattle.sv_player.specs.Going.{IsGoodShape}
+use Rattle.sv_world.specs.Worlds.{IsGoodShape}
 use Rattle.sv_player.proofs.Well.{is_well}
 use Rattle.sv_player.proofs.Sizes.{AreLong, neither, with_head, result_long, item_more, both_found, held_long}
 

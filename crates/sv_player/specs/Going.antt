@@ -2,8 +2,8 @@
 -- Events stand with the latest first: `e ∷ t` is t, and then e.
 use Rattle.std.specs.Prelude.{◌≡◌, ◌⊎◌, ℕ, suc, ◌+◌, ◌<◌, ◌≤◌, Bool, true, false, List, [], ◌∷◌, map, length}
 use Rattle.std.specs.List.{AllByRecursion}
-use Rattle.sv_world.specs.Limits.{most_attrs, most_objects, most_outstanding, most_pending, most_sessions, most_steps}
-use Rattle.sv_world.specs.declared.world.Shape.{Shape}
+use Rattle.sv_world.specs.Limits.{most_outstanding, most_pending, most_sessions, most_steps}
+use Rattle.sv_world.specs.Worlds.{IsGoodShape}
 use Rattle.sv_watch.specs.Told.{change_line}
 use Rattle.sv_wire.specs.declared.message.Request.TheVariants as requests
 use Rattle.sv_client.specs.declared.trace.Event.{Event}
@@ -22,13 +22,6 @@ use Rattle.sv_player.specs.declared.moves.Move.TheVariants as moves
 use Rattle.sv_player.specs.declared.playing.Player.{Player}
 use Rattle.sv_player.specs.declared.telling.Seen.{Seen}
 use Rattle.sv_player.specs.Seen.{seen_by}
-
--- a world within the limits
-pub record IsGoodShape (shape : Shape) : Type 0 where
-  pub some_objects : 1 ≤ shape.objects
-  pub few_objects : shape.objects ≤ most_objects
-  pub some_attrs : 1 ≤ shape.attrs
-  pub few_attrs : shape.attrs ≤ most_attrs
 
 abbrev pub scripted_plan : Identity → List Step → Plan
 scripted_plan who script = record { interest = who.interest; steps = script }

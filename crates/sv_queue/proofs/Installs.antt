@@ -5,9 +5,10 @@ use Rattle.std.proofs.lemmas.List.{get_or-set_same, get_or-set_other, get_or-rep
 use Rattle.sv_world.specs.declared.world.Shape.{Shape}
 use Rattle.sv_world.specs.Control.{is_in}
 use Rattle.sv_world.specs.Sets.{write_set}
+use Rattle.sv_eval.specs.Serial.{put_all}
 use Rattle.sv_queue.specs.declared.queued.Queued.{Queued}
 use Rattle.sv_queue.specs.Pairs.{is_pair, pairs_of, with_pair}
-use Rattle.sv_queue.specs.Queue.{QueueView, ready, ready_installed, first_installed, with_committed, given_by, put_values}
+use Rattle.sv_queue.specs.Queue.{QueueView, ready, ready_installed, first_installed, with_committed, given_by}
 use Rattle.sv_queue.specs.Sessions.{with_session}
 use Rattle.sv_queue.specs.Written.{IsChangedAt}
 use Rattle.sv_queue.proofs.PairSets.{is_pair-where, pairs_where-ext, pairs_where-none}
@@ -74,5 +75,5 @@ ready_first e es h = go (is_some e.result) h
 pub first_installed_is : (shape : Shape) (commit : ℕ) (committed values : List (List ℤ)) (es rest : List Queued) (e : Queued) (given : List (ℕ × ℕ)) →
     es ≡ e ∷ rest → e.result ≡ Some values →
     first_installed (record { shape = shape; commit = commit; committed = committed; entries = es; given = given })
-    ≡ record { shape = shape; commit = commit + 1; committed = put_values committed (write_set e.action) values; entries = rest; given = given_by shape.objects given e }
+    ≡ record { shape = shape; commit = commit + 1; committed = put_all committed (write_set e.action) values; entries = rest; given = given_by shape.objects given e }
 first_installed_is shape commit committed values es rest e given q is = rw (q, is) refl

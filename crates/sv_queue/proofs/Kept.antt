@@ -7,13 +7,14 @@ use Rattle.sv_world.specs.declared.world.Shape.{Shape}
 use Rattle.sv_world.specs.Control.{is_in}
 use Rattle.sv_world.specs.Faults.{IsGoodAction}
 use Rattle.sv_world.specs.Sets.{write_set}
+use Rattle.sv_eval.specs.Serial.{put_all}
 use Rattle.sv_queue.specs.declared.queued.Queued.{Queued}
 use Rattle.sv_queue.specs.Invariant.{AgreeOn, IsGoodEntry, writers_above}
-use Rattle.sv_queue.specs.Queue.{no_entry, put_values}
-use Rattle.sv_queue.specs.Worlds.{HaveAttrs, IsGoodShape}
+use Rattle.sv_queue.specs.Queue.{no_entry}
+use Rattle.sv_world.specs.Worlds.{HaveAttrs, IsGoodShape}
 use Rattle.sv_queue.specs.Written.{CanWrite, IsChangedAt, front_of}
 use Rattle.sv_queue.proofs.Entries.{writers_above-push}
-use Rattle.sv_queue.proofs.WrittenObjects.{front_of-push, length-put_values}
+use Rattle.sv_queue.proofs.WrittenObjects.{front_of-push, length-put_all}
 
 pub can_write : (shape : Shape) (a : Action) → IsGoodAction shape a → CanWrite shape.objects a
 can_write shape a g = record { few_reads = g.few_reads; ascending = g.ascending; objects = g.objects }
@@ -150,7 +151,7 @@ module _ (shape : Shape) (commit : ℕ) (committed : List (List ℤ)) where
       can_write shape e.action (subst (IsGoodEntry shape) at (subst (All (IsGoodEntry shape)) q h.good (length front) no_entry (omega (arith, length-append front (e ∷ []))))).action
 
 HaveAttrs-put : (shape : Shape) (committed : List (List ℤ)) (xs : List ℕ) (values : List (List ℤ)) → HaveAttrs shape committed → HaveAttrs shape values →
-    HaveAttrs shape (put_values committed xs values)
+    HaveAttrs shape (put_all committed xs values)
 HaveAttrs-put shape committed [] values h g = h
 HaveAttrs-put shape committed (x ∷ xs) [] h g = h
 HaveAttrs-put shape committed (x ∷ xs) (v ∷ values) h g =
@@ -160,10 +161,10 @@ HaveAttrs-put shape committed (x ∷ xs) (v ∷ values) h g =
 agree_rest : (shape : Shape) (commit : ℕ) (committed values : List (List ℤ)) (e : Queued) (es : List Queued) (writers now rows next : List (List ℕ)) →
     AgreeOn shape commit committed (e ∷ es) writers rows → HaveAttrs shape values →
     IsChangedAt [] (drop 1) (write_set e.action) writers now → IsChangedAt [] (λ _. e.marks) (write_set e.action) rows next →
-    AgreeOn shape (commit + 1) (put_values committed (write_set e.action) values) es now next
+    AgreeOn shape (commit + 1) (put_all committed (write_set e.action) values) es now next
 agree_rest shape commit committed values e es writers now rows next h attrs changed given = record {
   limits = h.limits;
-  objects = length-put_values committed (write_set e.action) values ∙ h.objects;
+  objects = length-put_all committed (write_set e.action) values ∙ h.objects;
   attrs = HaveAttrs-put shape committed (write_set e.action) values h.attrs attrs;
   good = λ k d low. h.good (suc k) d (omega arith);
   last = omega (arith, h.last);
@@ -179,7 +180,7 @@ agree_rest shape commit committed values e es writers now rows next h attrs chan
 pub agree_install : (shape : Shape) (commit : ℕ) (committed values : List (List ℤ)) (e : Queued) (es rest : List Queued) (writers now rows next : List (List ℕ)) →
     AgreeOn shape commit committed es writers rows → es ≡ e ∷ rest → e.result ≡ Some values →
     IsChangedAt [] (drop 1) (write_set e.action) writers now → IsChangedAt [] (λ _. e.marks) (write_set e.action) rows next →
-    AgreeOn shape (commit + 1) (put_values committed (write_set e.action) values) rest now next
+    AgreeOn shape (commit + 1) (put_all committed (write_set e.action) values) rest now next
 agree_install shape commit committed values e es rest writers now rows next h q is changed given =
     agree_rest shape commit committed values e rest writers now rows next (subst (λ (ds : List Queued). AgreeOn shape commit committed ds writers rows) q h)
     (first_values shape commit committed es rest writers rows e values h q is).1 changed given

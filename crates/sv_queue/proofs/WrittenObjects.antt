@@ -7,7 +7,7 @@ use Rattle.sv_world.specs.declared.world.ObjectId.{ObjectId}
 use Rattle.sv_world.specs.Control.{is_in}
 use Rattle.sv_world.specs.Faults.{is_ascending}
 use Rattle.sv_world.specs.Sets.{is_in_mask, at_mask, read_set, write_set}
-use Rattle.sv_queue.specs.Queue.{put_values}
+use Rattle.sv_eval.specs.Serial.{put_all}
 use Rattle.sv_queue.specs.Written.{CanWrite, IsChangedAt, writes_before, front_of}
 use Rattle.sv_queue.proofs.Members.{is_in-append}
 
@@ -159,20 +159,20 @@ undone ws p x old now then new r y h low read same e g = record {
         ∙ ap (λ lists. get_or lists k []) stays ∙ h.elements k small ∙ cond-false _ _ _ q
 
 -- The next of the values goes to one object more.
-pub put_values-next : (committed : List (List ℤ)) (xs : List ℕ) (x : ℕ) (values : List (List ℤ)) (v : List ℤ) (rest : List (List ℤ)) →
-    drop (length xs) values ≡ v ∷ rest → put_values committed (xs ++ x ∷ []) values ≡ set (put_values committed xs values) x v
-put_values-next committed [] x values v rest h = rw h refl
-put_values-next committed (w ∷ xs) x [] v rest h = cc
-put_values-next committed (w ∷ xs) x (value ∷ values) v rest h = put_values-next (set committed w value) xs x values v rest h
+pub put_all-next : (committed : List (List ℤ)) (xs : List ℕ) (x : ℕ) (values : List (List ℤ)) (v : List ℤ) (rest : List (List ℤ)) →
+    drop (length xs) values ≡ v ∷ rest → put_all committed (xs ++ x ∷ []) values ≡ set (put_all committed xs values) x v
+put_all-next committed [] x values v rest h = rw h refl
+put_all-next committed (w ∷ xs) x [] v rest h = cc
+put_all-next committed (w ∷ xs) x (value ∷ values) v rest h = put_all-next (set committed w value) xs x values v rest h
 
-pub length-put_values : (committed : List (List ℤ)) (xs : List ℕ) (values : List (List ℤ)) → length (put_values committed xs values) ≡ length committed
-length-put_values committed [] values = refl
-length-put_values committed (x ∷ xs) [] = refl
-length-put_values committed (x ∷ xs) (v ∷ values) = length-put_values (set committed x v) xs values ∙ length-set committed x v
+pub length-put_all : (committed : List (List ℤ)) (xs : List ℕ) (values : List (List ℤ)) → length (put_all committed xs values) ≡ length committed
+length-put_all committed [] values = refl
+length-put_all committed (x ∷ xs) [] = refl
+length-put_all committed (x ∷ xs) (v ∷ values) = length-put_all (set committed x v) xs values ∙ length-set committed x v
 
 -- Where no value is left, no more is written.
 pub put_values_end : (committed : List (List ℤ)) (xs : List ℕ) (x : ℕ) (values : List (List ℤ)) →
-    drop (length xs) values ≡ [] → put_values committed (xs ++ x ∷ []) values ≡ put_values committed xs values
+    drop (length xs) values ≡ [] → put_all committed (xs ++ x ∷ []) values ≡ put_all committed xs values
 put_values_end committed [] x values h = rw h refl
 put_values_end committed (w ∷ xs) x [] h = refl
 put_values_end committed (w ∷ xs) x (value ∷ values) h = put_values_end (set committed w value) xs x values h

@@ -9,7 +9,7 @@ use Rattle.sv_queue.specs.declared.queue.Queue.TheInside.{Inside}
 use Rattle.sv_queue.specs.declared.queued.Queued.{Queued}
 use Rattle.sv_queue.specs.Pairs.{pairs_of}
 use Rattle.sv_queue.specs.Queue.{QueueView, entry_actions}
-use Rattle.sv_queue.specs.Worlds.{IsGoodShape, HaveAttrs}
+use Rattle.sv_world.specs.Worlds.{IsGoodShape, HaveAttrs}
 
 abbrev pub view_of : Inside → QueueView
 view_of a = record {

@@ -4,5 +4,4 @@ pub mod Pairs
 pub mod Positions
 pub mod Queue
 pub mod Sessions
-pub mod Worlds
 pub mod Written

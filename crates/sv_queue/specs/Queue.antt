@@ -7,6 +7,7 @@ use Rattle.sv_world.specs.declared.world.Shape.{Shape}
 use Rattle.sv_world.specs.declared.world.World.{World}
 use Rattle.sv_world.specs.Control.{is_in, below, blank, action_at}
 use Rattle.sv_world.specs.Sets.{write_set}
+use Rattle.sv_eval.specs.Serial.{put_all}
 use Rattle.sv_queue.specs.declared.queued.Queued.{Queued}
 use Rattle.sv_queue.specs.Pairs.{is_pair, pairs_where, with_pair}
 use Rattle.sv_queue.specs.Sessions.{with_session}
@@ -98,16 +99,10 @@ abbrev pub ready : List Queued → List Queued
 ready [] = []
 ready (e ∷ es) = if is_some e.result then e ∷ ready es else []
 
--- With the values of these objects replaced, one after the other.
-abbrev pub put_values : List (List ℤ) → List ℕ → List (List ℤ) → List (List ℤ)
-put_values committed [] values = committed
-put_values committed (x ∷ xs) [] = committed
-put_values committed (x ∷ xs) (value ∷ values) = put_values (slice_set committed x value) xs values
-
 -- The committed values after the results of these entries, in order.
 abbrev pub committed_after : List (List ℤ) → List Queued → List (List ℤ)
 committed_after committed [] = committed
-committed_after committed (e ∷ es) = committed_after (put_values committed (write_set e.action) (unwrap_or e.result [])) es
+committed_after committed (e ∷ es) = committed_after (put_all committed (write_set e.action) (unwrap_or e.result [])) es
 
 -- The pairs given after an entry is committed: an object that it writes was given to just the sessions that the entry was sent to.
 abbrev pub given_by : ℕ → List (ℕ × ℕ) → Queued → List (ℕ × ℕ)

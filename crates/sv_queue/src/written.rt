@@ -5,7 +5,7 @@ ghost use Rattle.sv_world.specs.Control.{is_in};
 ghost use Rattle.sv_world.specs.Faults.{is_ascending};
 ghost use Rattle.sv_world.specs.Limits.{most_reads};
 ghost use Rattle.sv_world.specs.Sets.{read_set, write_set};
-ghost use Rattle.sv_queue.specs.Queue.{put_values};
+ghost use Rattle.sv_eval.specs.Serial.{put_all};
 ghost use Rattle.sv_queue.specs.Written.{CanWrite, IsChangedAt, writes_before};
 
 use crate::sessions::Sessions;
@@ -32,7 +32,7 @@ pub fn written_at(action: &Action, slot: usize) -> Option<ObjectId>
 pub fn put_values(committed: &mut List<Value>, action: &Action, values: List<Value>)
     requires can { CanWrite (length committed.old) action.now }
     requires values { length values ≡ length (write_set action.now) }
-    ensures { committed.new ≡ put_values committed.old (write_set action.now) values }
+    ensures { committed.new ≡ put_all committed.old (write_set action.now) values }
 {
     let mut values = values.into_vec().into_iter();
     for slot in 0..action.reads.len() {

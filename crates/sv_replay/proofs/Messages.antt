@@ -133,15 +133,15 @@ module _ (scenario : Scenario) (run : Run) (good : IsGoodScenario scenario) (num
 
   limits : AreWithinLimits r
   limits = record {
-    some_attrs = good.world.some_attrs;
-    few_attrs = good.world.few_attrs;
+    some_attrs = good.world.shape.some_attrs;
+    few_attrs = good.world.shape.few_attrs;
     objects = good.world.objects;
-    attrs = All-from_recursion (λ value. length value ≡ scenario.world.shape.attrs) scenario.world.values good.world.attrs;
+    attrs = good.world.attrs;
     bound = good.bound;
   }
 
   objects_few : scenario.world.shape.objects ≤ 2 ^ 16
-  objects_few = omega (arith, good.world.few_objects)
+  objects_few = omega (arith, good.world.shape.few_objects)
 
   has_numbers : AcceptedAreFew → HasNumbers r H (traces_of run)
   has_numbers few = record {

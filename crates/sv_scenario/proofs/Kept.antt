@@ -1,11 +1,14 @@
 -- A scenario that was read keeps the limits and rules.
-use Rattle.std.proofs.Common.{◌≡◌, ℕ, zero, suc, ◌≤◌, ◌<◌, Bool, true, false, ◌==◌, cond, nat_le, nat_lt, ℤ, List, [], ◌∷◌, ◌++◌, length, map, Option, Some, None, Result, Ok, Err, IfOk, IfSome, codes, refl, sym, ap, ◌∙◌, subst, arith, append_assoc, decimal}
+use Rattle.std.proofs.Common.{◌≡◌, ℕ, zero, suc, ◌≤◌, ◌<◌, Bool, true, false, ◌==◌, cond, nat_le, nat_lt, ℤ, List, [], ◌∷◌, ◌++◌, length, Option, Some, None, Result, Ok, Err, IfOk, IfSome, codes, refl, sym, ap, ◌∙◌, subst, arith, append_assoc, decimal}
 use Rattle.std.proofs.lemmas.Bool.{leb-true, ltb-true, lt-ltb}
 use Rattle.std.proofs.lemmas.List.{append-nil}
+use Rattle.std.proofs.lemmas.List.Elements.{All-from_recursion}
 use Rattle.std.specs.List.{AllByRecursion}
 use Rattle.std.specs.Str.{bytes_eq, is_utf8}
 use Rattle.serde_json.specs.Data.{Data, Items, no_items, item}
 use Rattle.serde_json.specs.Find.{as_str, get}
+use Rattle.sv_world.specs.Sets.{numbers_of}
+use Rattle.sv_world.specs.Worlds.{IsGoodWorld}
 use Rattle.sv_world.specs.declared.action.Action.{Action}
 use Rattle.sv_world.specs.declared.check.BadAction.{BadAction}
 use Rattle.sv_world.specs.declared.world.ObjectId.{ObjectId}
@@ -25,7 +28,7 @@ use Rattle.sv_scenario.specs.declared.scenario.Turn.{Turn}
 use Rattle.sv_scenario.specs.declared.scenario.Turn.TheVariants as turns
 use Rattle.sv_scenario.specs.Faults.{Read, ◌>>=◌, refuse, given, at_key, at_place, each, Gives}
 use Rattle.sv_scenario.specs.Keys.{keys_of, value_at, value_if}
-use Rattle.sv_scenario.specs.Limits.{IsGoodWorld, AreObjects, IsGoodShow, IsGoodStep, quits_last, IsGoodPlan, IsGoodTurn, IsGoodScenario}
+use Rattle.sv_scenario.specs.Limits.{AreObjects, IsGoodShow, IsGoodStep, quits_last, IsGoodPlan, IsGoodTurn, IsGoodScenario}
 use Rattle.sv_scenario.specs.Numbers.{number_within, list_within, count_items, attribute_of, value_of, values_of}
 use Rattle.sv_scenario.specs.Objects.{known, object_of, shown_of, not_below, next_object, ascending_from, interest_of}
 use Rattle.sv_scenario.specs.Scenarios.{world_with, world_of, reach_of, few_sessions, clients_of, scenario_in, scenario_of, value_in}
@@ -61,7 +64,11 @@ values_ok attrs d vs is =
 good_world : (attrs : ℕ) (values : List (List ℤ)) → 1 ≤ attrs → attrs ≤ 4 → AllByRecursion (λ v. length v ≡ attrs) values → 1 ≤ length values → length values ≤ 4096
     → IsGoodWorld (world_with attrs values)
 good_world attrs values some few all some_values few_values =
-    record { some_objects = some_values; few_objects = few_values; some_attrs = some; few_attrs = few; objects = refl; attrs = all }
+    record {
+      shape = record { some_objects = some_values; few_objects = few_values; some_attrs = some; few_attrs = few };
+      objects = refl;
+      attrs = All-from_recursion (λ (v : List ℤ). length v ≡ attrs) values all;
+    }
 
 world_ok : (d : Data) (w : World) → world_of d ≡ Ok w → IsGoodWorld w
 unfolding world_of
@@ -111,15 +118,12 @@ next_ok objects least d o is =
     let f : o.0 ≡ q.0 = k.0 in
     (omega arith, k.1)
 
-abbrev numbers : List ObjectId → List ℕ
-numbers os = map (λ (o : ObjectId). o.0) os
-
 -- the first is at least so great
 abbrev IsFrom : ℕ → List ObjectId → Type 0
 IsFrom least [] = Unit {0}
 IsFrom least (o ∷ os) = least ≤ o.0
 
-ascends : (o : ObjectId) (os : List ObjectId) → IsFrom (suc o.0) os → is_ascending (numbers os) ≡ true → is_ascending (numbers (o ∷ os)) ≡ true
+ascends : (o : ObjectId) (os : List ObjectId) → IsFrom (suc o.0) os → is_ascending (numbers_of os) ≡ true → is_ascending (numbers_of (o ∷ os)) ≡ true
 ascends o [] from is = refl
 ascends o (p ∷ os) from is = rw (lt-ltb o.0 p.0 (omega (arith, from)), is) refl
 
@@ -130,7 +134,7 @@ record IsAscending (objects least : ℕ) (before xs : List ObjectId) (n : ℕ) :
   all : AllByRecursion (λ (o : ObjectId). o.0 < objects) new
   count : length new ≡ n
   from : IsFrom least new
-  ascending : is_ascending (numbers new) ≡ true
+  ascending : is_ascending (numbers_of new) ≡ true
 
 ascending_ok : (objects least : ℕ) (before : List ObjectId) (ds : Items) (xs : List ObjectId) → ascending_from objects least before ds ≡ Ok xs → IsAscending objects least before xs (count_items ds)
 ascending_ok objects least before no_items xs is =
@@ -149,7 +153,7 @@ ascending_ok objects least before (item d ds) xs is =
     }
 
 interest_ok : (shape : Shape) (d : Data) (os : List ObjectId) → interest_of shape.objects d ≡ Ok os
-    → (length os ≤ 64) × (is_ascending (numbers os) ≡ true) × AreObjects shape os
+    → (length os ≤ 64) × (is_ascending (numbers_of os) ≡ true) × AreObjects shape os
 unfolding interest_of
 interest_ok shape d os is =
     let p = bound (list_within 0 64 d) (ascending_from shape.objects 0 []) os is in
@@ -157,7 +161,7 @@ interest_ok shape d os is =
     let size = list_ok 0 64 d p.0 p.1 in
     let count : length r.new ≡ count_items p.0 = r.count in
     let high : count_items p.0 ≤ 64 = size.1 in
-    subst (λ xs. (length xs ≤ 64) × (is_ascending (numbers xs) ≡ true) × AreObjects shape xs) (sym r.is) (omega arith, r.ascending, r.all)
+    subst (λ xs. (length xs ≤ 64) × (is_ascending (numbers_of xs) ≡ true) × AreObjects shape xs) (sym r.is) (omega arith, r.ascending, r.all)
 
 -- ---- steps
 

@@ -1,11 +1,12 @@
 -- The limits and rules of scenarios.
-use Rattle.std.specs.Prelude.{◌≡◌, ℕ, ◌≤◌, ◌<◌, Bool, true, false, List, [], ◌∷◌, length, map, IfSome}
+use Rattle.std.specs.Prelude.{◌≡◌, ℕ, ◌≤◌, ◌<◌, Bool, true, false, List, [], ◌∷◌, length, IfSome}
 use Rattle.std.specs.List.{AllByRecursion}
 use Rattle.sv_world.specs.declared.world.ObjectId.{ObjectId}
 use Rattle.sv_world.specs.declared.world.Shape.{Shape}
-use Rattle.sv_world.specs.declared.world.World.{World}
 use Rattle.sv_world.specs.Faults.{is_ascending, IsGoodAction}
-use Rattle.sv_world.specs.Limits.{most_objects, most_attrs, most_clients, most_sessions, most_bound, most_reach, most_interest, most_steps, most_shown, most_turns}
+use Rattle.sv_world.specs.Sets.{numbers_of}
+use Rattle.sv_world.specs.Worlds.{IsGoodWorld}
+use Rattle.sv_world.specs.Limits.{most_clients, most_sessions, most_bound, most_reach, most_interest, most_steps, most_shown, most_turns}
 use Rattle.sv_scenario.specs.declared.scenario.Plan.{Plan}
 use Rattle.sv_scenario.specs.declared.scenario.Scenario.{Scenario}
 use Rattle.sv_scenario.specs.declared.scenario.Step.{Step}
@@ -13,15 +14,6 @@ use Rattle.sv_scenario.specs.declared.scenario.Step.TheVariants as steps
 use Rattle.sv_scenario.specs.declared.scenario.Turn.{Turn}
 use Rattle.sv_scenario.specs.declared.scenario.Turn.TheVariants as turns
 use Rattle.sv_scenario.specs.Sessions.{session_count}
-
--- A world within the limits, with one value for each object, of one number for each attribute.
-pub record IsGoodWorld (world : World) : Type 0 where
-  pub some_objects : 1 ≤ world.shape.objects
-  pub few_objects : world.shape.objects ≤ most_objects
-  pub some_attrs : 1 ≤ world.shape.attrs
-  pub few_attrs : world.shape.attrs ≤ most_attrs
-  pub objects : length world.values ≡ world.shape.objects
-  pub attrs : AllByRecursion (λ value. length value ≡ world.shape.attrs) world.values
 
 -- Each is an object of the shape.
 abbrev pub AreObjects : Shape → List ObjectId → Type 0
@@ -55,7 +47,7 @@ quits_last (steps.Cut ∷ next ∷ ss) = quits_last (next ∷ ss)
 -- At most 64 objects of the shape, ascending, and at most 256 good steps.
 pub record IsGoodPlan (shape : Shape) (plan : Plan) : Type 0 where
   pub few_objects : length plan.interest ≤ most_interest
-  pub ascending : is_ascending (map (λ (o : ObjectId). o.0) plan.interest) ≡ true
+  pub ascending : is_ascending (numbers_of plan.interest) ≡ true
   pub known : AreObjects shape plan.interest
   pub few_steps : length plan.steps ≤ most_steps
   pub steps : AllByRecursion (IsGoodStep shape) plan.steps

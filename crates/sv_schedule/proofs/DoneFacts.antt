@@ -2,7 +2,7 @@
 use Rattle.std.proofs.Common.{◌≡◌, ℕ, zero, suc, ◌+◌, ◌≤◌, Bool, true, List, [], ◌∷◌, map, length, reverse, Some, None, slice_get, refl, sym, ap, ◌∙◌, subst, arith}
 use Rattle.std.specs.List.{list_any}
 use Rattle.std.proofs.lemmas.List.{reverse-reverse}
-use Rattle.std.proofs.lemmas.List.Elements.{recursion_from_All, All-from_recursion}
+use Rattle.std.proofs.lemmas.List.Elements.{recursion_from_All}
 use Rattle.std.proofs.lemmas.Option.{none-some, same_Some}
 use Rattle.sv_world.specs.declared.world.Shape.{Shape}
 use Rattle.sv_wire.specs.declared.message.Reply.{Reply}
@@ -148,7 +148,7 @@ module _ (scenario : Scenario) (good : IsGoodScenario scenario) (run : Run) (sou
       subst (λ (t : List Event). first_fault_of_reply p.who t reply ≡ None) (same-events p)
       (subst (λ (w : Identity). first_fault_of_reply w (reverse L.events) reply ≡ None) who-is
       (honest (rules_of scenario) h (traces_of run) i L s reply good.world.objects
-      (All-from_recursion (λ v. length v ≡ shape.attrs) scenario.world.values good.world.attrs) good.bound sound.legal sound.fits trace-at
+      good.world.attrs good.bound sound.legal sound.fits trace-at
       (subst (λ (t : List Event). current_session t ≡ Some s) back current)
       (subst (λ (t : List Event). length (asked p.who.client p.who.interest t s) ≤ 1024) back few)
       (subst (λ (t : List Event). slice_get (replies_in (accepted h) h s) (length (got t s)) ≡ Some reply) back next)))

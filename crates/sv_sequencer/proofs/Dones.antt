@@ -12,7 +12,7 @@ use Rattle.sv_journal.specs.History.{accepted, actions_of, result_at, commit_of}
 use Rattle.sv_journal.specs.Sessions.{sent_to, named_to}
 use Rattle.sv_journal.specs.Answer.{Rules, is_bad_result, is_bad_done}
 use Rattle.sv_queue.specs.Queue.{QueueView, last_position, queue_actions, sent_positions}
-use Rattle.sv_queue.specs.Worlds.{HaveAttrs}
+use Rattle.sv_world.specs.Worlds.{HaveAttrs}
 use Rattle.sv_sequencer.specs.Fits.{QueueFits}
 use Rattle.sv_sequencer.specs.Relays.{is_bad_report, CanReport}
 use Rattle.sv_sequencer.proofs.FitRelays.{action-is, sent-is, queue-action}

@@ -11,18 +11,13 @@ use Rattle.sv_world.specs.Sets.{write_set}
 use Rattle.sv_eval.specs.Serial.{put_all}
 use Rattle.sv_queue.specs.declared.queued.Queued.{Queued}
 use Rattle.sv_queue.specs.Pairs.{is_pair}
-use Rattle.sv_queue.specs.Queue.{QueueView, entry_at, no_entry, put_values, given_by, ready, ready_installed, first_installed}
+use Rattle.sv_queue.specs.Queue.{QueueView, entry_at, no_entry, given_by, ready, ready_installed, first_installed}
 use Rattle.sv_queue.proofs.Installs.{installed-first, installed-none}
 use Rattle.sv_queue.proofs.Members.{is_in-append, is_in-filter}
 use Rattle.sv_queue.proofs.PairSets.{is_pair-where}
 use Rattle.sv_journal.specs.History.{Authored}
 use Rattle.sv_sequencer.specs.Fits.{actions_in, values_after, was_given, IsEntry, QueueFits}
 use Rattle.sv_sequencer.proofs.FitPush.{authored-action}
-
-put_same : (world : List (List ℤ)) (xs : List ℕ) (values : List (List ℤ)) → put_values world xs values ≡ put_all world xs values
-put_same world [] values = refl
-put_same world (x ∷ xs) [] = refl
-put_same world (x ∷ xs) (v ∷ vs) = put_same (set world x v) xs vs
 
 any-same : (p q : ℕ → Bool) (xs : List ℕ) → ((k : ℕ) → is_in k xs ≡ true → p k ≡ q k) → list_any p xs ≡ list_any q xs
 any-same p q [] same = refl
@@ -96,13 +91,12 @@ view_by shape commit committed entries given = record { shape = shape; commit = 
 fits-first : (w : World) (A : List Authored) (R : ℕ → Option (List (List ℤ))) (S : ℕ → List ℕ) (N : ℕ → ℕ → List ℕ)
     (shape : Shape) (c : ℕ) (committed : List (List ℤ)) (e : Queued) (es : List Queued) (given : List (ℕ × ℕ)) →
     ((t x q : ℕ) → is_in q (N t x) ≡ true → q ≤ c) → QueueFits w A R S N (view_by shape c committed (e ∷ es) given) →
-    QueueFits w A R S N (view_by shape (c + 1) (put_values committed (write_set e.action) (unwrap_or e.result [])) es (given_by shape.objects given e))
+    QueueFits w A R S N (view_by shape (c + 1) (put_all committed (write_set e.action) (unwrap_or e.result [])) es (given_by shape.objects given e))
 fits-first w A R S N shape c committed e es given early f = record {
   shape = f.shape;
   last = omega (arith, f.last);
   committed =
-      put_same committed (write_set e.action) (unwrap_or e.result [])
-      ∙ ap (λ world. put_all world (write_set e.action) (unwrap_or e.result [])) f.committed
+      ap (λ world. put_all world (write_set e.action) (unwrap_or e.result [])) f.committed
       ∙ ap (λ (a : Action). put_all (values_after w.values (actions_in A) R c) (write_set a) (unwrap_or e.result [])) action
       ∙ ap (λ o. put_all (values_after w.values (actions_in A) R c) (write_set (action_at (actions_in A) (suc c))) (unwrap_or o [])) here.result
       ∙ ap (values_after w.values (actions_in A) R) (sym (add-one c));
@@ -135,7 +129,7 @@ pub fits-installed : (w : World) (A : List Authored) (R : ℕ → Option (List (
 fits-installed w A R S N shape c committed [] given early f = subst (QueueFits w A R S N) (sym (installed-none (view_by shape c committed [] given) refl)) f
 fits-installed w A R S N shape c committed (e ∷ es) given early f =
     go (is_some e.result) refl
-    (fits-installed w A R S N shape (c + 1) (put_values committed (write_set e.action) (unwrap_or e.result [])) es (given_by shape.objects given e)
+    (fits-installed w A R S N shape (c + 1) (put_all committed (write_set e.action) (unwrap_or e.result [])) es (given_by shape.objects given e)
     (λ t x q h. (let low : q ≤ c = early t x q h in omega arith)) (fits-first w A R S N shape c committed e es given early f))
   where
     v : QueueView

@@ -6,7 +6,7 @@ use Rattle.sv_world.specs.Sets.{write_set}
 use Rattle.sv_wire.specs.declared.message.Done1.{Done1}
 use Rattle.sv_wire.specs.declared.message.Held.{Held}
 use Rattle.sv_wire.specs.declared.message.Item.{Item}
-use Rattle.sv_queue.specs.Worlds.{HaveAttrs}
+use Rattle.sv_world.specs.Worlds.{HaveAttrs}
 use Rattle.sv_queue.specs.Queue.{QueueView, last_position, entry_at, queue_actions, sent_positions, with_mark, with_given, with_result}
 
 -- Objects with their committed values in a queue.

@@ -1,7 +1,7 @@
 //! The server that takes what each client reports: a core, and the journal of all that it was asked.
 ghost use Rattle.std.specs.Prelude.{◌≡◌, ◌<◌, ◌≤◌, [], slice_index_or, IfOk, IfSome};
 ghost use Rattle.sv_world.specs.Limits.{most_bound, most_reach, most_sessions};
-ghost use Rattle.sv_queue.specs.Worlds.{IsGoodWorld};
+ghost use Rattle.sv_world.specs.Worlds.{IsGoodWorld};
 ghost use Rattle.sv_journal.specs.History.{commit_of, committed_of};
 ghost use Rattle.sv_journal.specs.Answer.{Legal};
 ghost use Rattle.sv_journal.specs.Sessions.{is_ended};

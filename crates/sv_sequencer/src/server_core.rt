@@ -6,7 +6,7 @@ ghost use Rattle.std.specs.List.{list_any};
 ghost use Rattle.sv_world.specs.Control.{chain_length, influence_distance};
 ghost use Rattle.sv_world.specs.Faults.{IsGoodAction};
 ghost use Rattle.sv_world.specs.Limits.{most_requests, most_sessions};
-ghost use Rattle.sv_queue.specs.Worlds.{IsGoodWorld};
+ghost use Rattle.sv_world.specs.Worlds.{IsGoodWorld};
 ghost use Rattle.sv_journal.specs.declared.entry.Entry.{Entry};
 ghost use Rattle.sv_journal.specs.History.{Accepted, client_of, accepted, actions_of, next_seq, commit_of, committed_of};
 ghost use Rattle.sv_journal.specs.Sessions.{is_over, asked_in, life_of, kept_outcome, is_ended};

@@ -1,6 +1,6 @@
 -- What the loop's functions answer.
 use Rattle.std.specs.Prelude.{◌≡◌, ℕ, ◌<◌, List, [], length, Option, Some, None}
-use Rattle.sv_frame.specs.Frames.{first_frame, too_long}
+use Rattle.sv_frame.specs.Frames.{first_frame, too_long, greatest_frame}
 use Rattle.sv_link.specs.Ends.{Told}
 use Rattle.sv_session.specs.Serving.{SessionCause}
 use Rattle.sv_session.specs.Rounds.{Stand, Takes, Posts, PostsLast, ReadsOn, ReadsLast, Onward, Halts}
@@ -11,7 +11,7 @@ use Rattle.sv_session.specs.declared.taking.Taken.TheVariants as taken
 -- a request was taken off; or less than a frame waits; or there was no memory. The last two take nothing off
 abbrev pub IsTaken : Taken → List ℕ → List ℕ → Type 0
 IsTaken (taken.Request request) old new = Takes old request new
-IsTaken taken.NotYet old new = (new ≡ old) × (first_frame old ≡ None) × (too_long old ≡ None) × (length old < 65540)
+IsTaken taken.NotYet old new = (new ≡ old) × (first_frame old ≡ None) × (too_long old ≡ None) × (length old < greatest_frame)
 IsTaken taken.Memory old new = new ≡ old
 
 -- a reply was put behind what is due, and the loop goes on; or it ends

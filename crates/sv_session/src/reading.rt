@@ -1,5 +1,6 @@
 //! Reading on, once every request that came is answered.
 ghost use Rattle.std.specs.Prelude.{◌≡◌, ◌≢◌, ◌<◌, [], false, length, Some, IfOk};
+ghost use Rattle.sv_frame.specs.Frames.{greatest_frame};
 ghost use Rattle.sv_session.specs.Answers.{IsRead, RoundCause};
 
 use crate::outcome::SessionOut;
@@ -17,7 +18,7 @@ pub(crate) struct Buffers {
 /// Sends all that waits, and reads what comes next.
 pub(crate) fn read_on<E: End>(buffers: &mut Buffers, end: &mut E) -> Option<SessionOut>
     requires open { (E.told end.old).closed ≡ false }
-    requires room { length buffers.old.inbox < 65540 }
+    requires room { length buffers.old.inbox < greatest_frame }
     ensures reads { IsRead result (E.told end.old) buffers.old.outbox buffers.old.inbox (E.told end.new) buffers.new.inbox buffers.new.outbox }
     ensures cause { RoundCause (E.faults end.old) (E.faults end.new) result }
     ensures calm { E.calm end.old → (result ≢ Some SessionOut.LinkFault) × E.calm end.new }

@@ -1,7 +1,7 @@
 -- The snapshots of a scheduled run.
-use Rattle.std.proofs.Common.{◌≡◌, ℕ, ◌<◌, ℤ, List, length, slice_index_or, Option, sym, subst}
+use Rattle.std.proofs.Common.{◌≡◌, ℕ, ◌<◌, List, length, slice_index_or, Option, sym, subst}
 use Rattle.std.specs.Prelude.{All}
-use Rattle.std.proofs.lemmas.List.Elements.{All-from_recursion, All-map}
+use Rattle.std.proofs.lemmas.List.Elements.{All-map}
 use Rattle.sv_world.specs.declared.action.Action.{Action}
 use Rattle.sv_world.specs.declared.world.Shape.{Shape}
 use Rattle.sv_world.specs.Faults.{IsGoodAction}
@@ -49,7 +49,7 @@ module _ (scenario : Scenario) (h : List Entry) (Ls : List Trace) (good : IsGood
       let opening = scenario.world.values in
       shaped_are scenario.world.shape opening A (snapshots_of Ls) (serial_length opening A)
       (λ p. serial_shaped scenario.world.shape.attrs opening A p
-      (All-from_recursion (λ (v : List ℤ). length v ≡ scenario.world.shape.attrs) opening good.world.attrs) (reads_within law))
+      good.world.attrs (reads_within law))
       cuts_of_run
 
 pub printed_run : (held : Option (List ℕ)) (scenario : Scenario) (text : List ℕ) (h : List Entry) (Ls : List Trace) → IsRead held scenario → IsGoodScenario scenario →

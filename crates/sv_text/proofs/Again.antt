@@ -22,7 +22,7 @@ use Rattle.sv_world.specs.declared.node.Comparison.TheVariants as comparisons
 use Rattle.sv_world.specs.declared.node.Connective.{Connective}
 use Rattle.sv_world.specs.declared.node.Connective.TheVariants as joints
 use Rattle.sv_text.specs.Reading.{◌>>=◌, Read, mark_code, is_same, is_mark, is_at, mark_of, front_of, front, rest_of, fault, unexpected, expect, slot_from, slot_or, slot_at, start, part_or, marked, op_of, op_at, leaf_by, leaf_at, closed_by, bracketed_by, pair_by, expr_by, expr_at, comparison_of, comparison_at, joint_of, joint_at, compare_by, join_by, not_by, cond_by, cond_at}
-use Rattle.sv_text.specs.Grammar.{Place, Form, IsMark, IsNode, IsNumber, IsRef, op_mark, comparison_mark, joint_mark, AreTwo, IsPair, IsExpr, IsTest, IsJoined, IsNot, IsCond}
+use Rattle.sv_text.specs.Grammar.{Place, Form, IsMark, IsNode, IsNumber, IsRef, op_mark, comparison_mark, joint_mark, AreTwoParts, IsPair, IsExpr, IsTest, IsJoined, IsNot, IsCond}
 
 -- a step that does not fail
 pub then_ok : {A B : Type 0} (r : Result A TextFault) (f : A → Result B TextFault) (x : A) (z : Result B TextFault) → r ≡ Ok x → f x ≡ z → (r >>= f) ≡ z
@@ -117,7 +117,7 @@ closed_again {A = A} below m a p three q e c =
 
 -- Two parts, what joins them, and a sign behind them are read, where what joins them is.
 bracketed_again : {O A B : Type 0} (joined : List Lexeme → Result O TextFault) (mark : O → Mark) → ((o : O) (ts : List Lexeme) → front ts ≡ Some (mark o) → joined ts ≡ Ok o) → (make : O → A → A → B) (closes : Mark)
-    (below : ℕ → List Lexeme → Read A) (form : Form A) → Reads below form → (o : O) (a b : A) (p q : Place) → AreTwo form a (mark o) b closes p q → bracketed_by joined make closes below p.0 p.1 ≡ gives (make o a b) q
+    (below : ℕ → List Lexeme → Read A) (form : Form A) → Reads below form → (o : O) (a b : A) (p q : Place) → AreTwoParts form a (mark o) b closes p q → bracketed_by joined make closes below p.0 p.1 ≡ gives (make o a b) q
 unfolding bracketed_by
 bracketed_again joined mark joined_again make closes below form again o a b p q t =
     then_ok (below p.0 p.1) (λ a. joined a.2 >>= λ o. below a.1 (rest_of a.2) >>= λ b. expect closes b.2 >>= λ rest. Ok (make o a.0 b.0, b.1, rest)) (a, t.one.0, t.one.1) (gives (make o a b) q) (again a p t.one t.left)
@@ -125,7 +125,7 @@ bracketed_again joined mark joined_again make closes below form again o a b p q 
     (then_ok (below t.one.0 (rest_of t.one.1)) (λ b. expect closes b.2 >>= λ rest. Ok (make o a b.0, b.1, rest)) (b, t.three.0, t.three.1) (gives (make o a b) q) (ap (λ (s : Place). below s.0 s.1) t.between.1 ∙ again b t.two t.three t.right)
     (then_ok (expect closes t.three.1) (λ rest. Ok (make o a b, t.three.0, rest)) (rest_of t.three.1) (gives (make o a b) q) (expect_again closes t.three.1 t.closed.0) (ap (gives (make o a b)) t.closed.1))))
 
-pair_again : (below : ℕ → List Lexeme → Read Expr) (form : Form Expr) → Reads below form → (op : Operator) (a b : Expr) (p q : Place) → AreTwo form a (op_mark op) b marks.Close p q → pair_by below p.0 p.1 ≡ gives (with_op op a b) q
+pair_again : (below : ℕ → List Lexeme → Read Expr) (form : Form Expr) → Reads below form → (op : Operator) (a b : Expr) (p q : Place) → AreTwoParts form a (op_mark op) b marks.Close p q → pair_by below p.0 p.1 ≡ gives (with_op op a b) q
 unfolding pair_by
 pair_again below form again op a b p q t = bracketed_again op_at op_mark op_again with_op marks.Close below form again op a b p q t
 
@@ -158,7 +158,7 @@ node_grows m p q i = let e : p.0 + 1 ≡ q.0 = ap (λ (s : Place). s.0) i.2 in (
 pub mark_stays : (m : Mark) (p q : Place) → IsMark m p q → p.0 ≡ q.0
 mark_stays m p q i = ap (λ (s : Place). s.0) i.1
 
-two_grows : {A : Type 0} (form : Form A) → Grows form → (a : A) (m : Mark) (b : A) (c : Mark) (p q : Place) → AreTwo form a m b c p q → (p.0 < q.0) × (q.0 ≤ 64)
+two_grows : {A : Type 0} (form : Form A) → Grows form → (a : A) (m : Mark) (b : A) (c : Mark) (p q : Place) → AreTwoParts form a m b c p q → (p.0 < q.0) × (q.0 ≤ 64)
 two_grows form grows a m b c p q t =
     let l = grows a p t.one t.left in
     let r = grows b t.two t.three t.right in
@@ -194,11 +194,11 @@ joint_again : (o : Connective) (ts : List Lexeme) → front ts ≡ Some (joint_m
 unfolding joint_at
 joint_again o ts h = ap (λ (f : Option Mark). part_or (unexpected ts) (marked joint_of f)) h ∙ ap (part_or (unexpected ts)) (joint_back o)
 
-compare_again : (exprs : ℕ → List Lexeme → Read Expr) (form : Form Expr) → Reads exprs form → (c : Comparison) (a b : Expr) (p q : Place) → AreTwo form a (comparison_mark c) b marks.CloseTest p q → compare_by exprs p.0 p.1 ≡ gives (with_comparison c a b) q
+compare_again : (exprs : ℕ → List Lexeme → Read Expr) (form : Form Expr) → Reads exprs form → (c : Comparison) (a b : Expr) (p q : Place) → AreTwoParts form a (comparison_mark c) b marks.CloseTest p q → compare_by exprs p.0 p.1 ≡ gives (with_comparison c a b) q
 unfolding compare_by
 compare_again exprs form again c a b p q t = bracketed_again comparison_at comparison_mark comparison_again with_comparison marks.CloseTest exprs form again c a b p q t
 
-join_again : (below : ℕ → List Lexeme → Read Cond) (form : Form Cond) → Reads below form → (j : Connective) (a b : Cond) (p q : Place) → AreTwo form a (joint_mark j) b marks.Close p q → join_by below p.0 p.1 ≡ gives (with_joint j a b) q
+join_again : (below : ℕ → List Lexeme → Read Cond) (form : Form Cond) → Reads below form → (j : Connective) (a b : Cond) (p q : Place) → AreTwoParts form a (joint_mark j) b marks.Close p q → join_by below p.0 p.1 ≡ gives (with_joint j a b) q
 unfolding join_by
 join_again below form again j a b p q t = bracketed_again joint_at joint_mark joint_again with_joint marks.Close below form again j a b p q t
 

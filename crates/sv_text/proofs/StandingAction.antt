@@ -1,5 +1,5 @@
 -- The canonical text of an action is a text of it.
-use Rattle.std.proofs.Common.{◌≡◌, ℕ, zero, suc, ◌+◌, ◌*◌, ◌/◌, ◌%◌, ◌^◌, ◌<◌, ◌≤◌, inl, inr, Bool, true, false, cond, ◌&&◌, eqb, ltb, ℤ, pos, negsuc, int_le, List, [], ◌∷◌, ◌++◌, length, map, Some, Result, Ok, Err, refl, sym, ap, subst, ◌∙◌, arith, append_assoc, bit_or, decimal}
+use Rattle.std.proofs.Common.{◌≡◌, ℕ, zero, suc, ◌+◌, ◌*◌, ◌/◌, ◌%◌, ◌^◌, ◌<◌, ◌≤◌, inl, inr, Bool, true, false, cond, ◌&&◌, eqb, ltb, ℤ, pos, negsuc, int_le, List, [], ◌∷◌, ◌++◌, length, Some, Result, Ok, Err, refl, sym, ap, subst, ◌∙◌, arith, append_assoc, bit_or, decimal}
 use Rattle.std.specs.Prelude.{codes, IfOk}
 use Rattle.std.specs.Fmt.{signed_decimal}
 use Rattle.std.specs.List.{AllByRecursion}
@@ -7,6 +7,7 @@ use Rattle.std.proofs.Math.Nat.{pow-succ'}
 use Rattle.std.proofs.lemmas.Bool.{and_parts, and_from, cond_both, leb-true, le-leb, ltb-true, eq-eqb, ne_eqb, eqb-true}
 use Rattle.std.proofs.lemmas.List.{append-nil}
 use Rattle.std.proofs.lemmas.Nat.{or_comm, or_shifted}
+use Rattle.sv_world.specs.Sets.{numbers_of}
 use Rattle.sv_world.specs.Faults.{is_ascending, has_slots, is_in_plane, has_origin}
 use Rattle.sv_world.specs.Trees.{body_nodes}
 use Rattle.sv_world.specs.declared.world.ObjectId.{ObjectId}
@@ -31,22 +32,19 @@ use Rattle.sv_text.proofs.StandingBody.{block_stands, all_stand}
 
 -- ---- objects and their slots
 
-abbrev numbers : List ObjectId → List ℕ
-numbers os = map (λ (o : ObjectId). o.0) os
-
-above : (r : ObjectId) (rs : List ObjectId) (k : ℕ) → is_ascending (numbers (r ∷ rs)) ≡ true → k < length rs → r.0 < object_in rs k
+above : (r : ObjectId) (rs : List ObjectId) (k : ℕ) → is_ascending (numbers_of (r ∷ rs)) ≡ true → k < length rs → r.0 < object_in rs k
 above r [] k up lt = absurd (omega arith)
-above r (s ∷ ss) zero up lt = ltb-true r.0 s.0 (and_parts (ltb r.0 s.0) (is_ascending (numbers (s ∷ ss))) up).0
+above r (s ∷ ss) zero up lt = ltb-true r.0 s.0 (and_parts (ltb r.0 s.0) (is_ascending (numbers_of (s ∷ ss))) up).0
 above r (s ∷ ss) (suc k) up lt =
-    let parts = and_parts (ltb r.0 s.0) (is_ascending (numbers (s ∷ ss))) up in
+    let parts = and_parts (ltb r.0 s.0) (is_ascending (numbers_of (s ∷ ss))) up in
     omega (arith, ltb-true r.0 s.0 parts.0, above s ss k parts.1 (omega arith))
 
-rest_up : (r : ObjectId) (rs : List ObjectId) → is_ascending (numbers (r ∷ rs)) ≡ true → is_ascending (numbers rs) ≡ true
+rest_up : (r : ObjectId) (rs : List ObjectId) → is_ascending (numbers_of (r ∷ rs)) ≡ true → is_ascending (numbers_of rs) ≡ true
 rest_up r [] up = refl
-rest_up r (s ∷ ss) up = (and_parts (ltb r.0 s.0) (is_ascending (numbers (s ∷ ss))) up).1
+rest_up r (s ∷ ss) up = (and_parts (ltb r.0 s.0) (is_ascending (numbers_of (s ∷ ss))) up).1
 
 -- Each object of an ascending list is found at its own place.
-own_slot : (reads : List ObjectId) (j k : ℕ) → is_ascending (numbers reads) ≡ true → k < length reads → slot_from j reads (object_in reads k) ≡ Some (j + k)
+own_slot : (reads : List ObjectId) (j k : ℕ) → is_ascending (numbers_of reads) ≡ true → k < length reads → slot_from j reads (object_in reads k) ≡ Some (j + k)
 own_slot [] j k up lt = absurd (omega arith)
 own_slot (r ∷ rs) j zero up lt =
     let e : j ≡ j + 0 = omega arith in
@@ -62,14 +60,14 @@ object_low [] fits k lt = absurd (omega arith)
 object_low (r ∷ rs) fits zero lt = fits.0
 object_low (r ∷ rs) fits (suc k) lt = object_low rs fits.1 k (omega arith)
 
-has_own : (reads : List ObjectId) → AllByRecursion ObjectFits reads → is_ascending (numbers reads) ≡ true → HasSlots reads
+has_own : (reads : List ObjectId) → AllByRecursion ObjectFits reads → is_ascending (numbers_of reads) ≡ true → HasSlots reads
 has_own reads fits up k lt = (object_low reads fits k lt, own_slot reads 0 k up lt ∙ (let e : 0 + k ≡ k = omega arith in ap Some e))
 
-ascends : (reads : List ObjectId) (least : ℕ) → is_ascending (numbers reads) ≡ true → ((r : ObjectId) (rs : List ObjectId) → reads ≡ r ∷ rs → least ≤ r.0) → IsAscending least reads
+ascends : (reads : List ObjectId) (least : ℕ) → is_ascending (numbers_of reads) ≡ true → ((r : ObjectId) (rs : List ObjectId) → reads ≡ r ∷ rs → least ≤ r.0) → IsAscending least reads
 ascends [] least up low = tt
 ascends (r ∷ []) least up low = (low r [] refl, tt)
 ascends (r ∷ s ∷ ss) least up low =
-    let next : r.0 < s.0 = ltb-true r.0 s.0 (and_parts (ltb r.0 s.0) (is_ascending (numbers (s ∷ ss))) up).0 in
+    let next : r.0 < s.0 = ltb-true r.0 s.0 (and_parts (ltb r.0 s.0) (is_ascending (numbers_of (s ∷ ss))) up).0 in
     (low r (s ∷ ss) refl, ascends (s ∷ ss) (r.0 + 1) (rest_up r (s ∷ ss) up) (λ q qs e. subst (λ (l : List ObjectId). r.0 + 1 ≤ object_in l 0) e (omega arith)))
 
 -- ---- the written objects

@@ -68,7 +68,7 @@ joint_mark joints.And = marks.And
 joint_mark joints.Or = marks.Or
 
 -- one part, a word or sign, another part, and a sign that closes
-pub record AreTwo {A : Type 0} (form : Form A) (a : A) (middle : Mark) (b : A) (close : Mark) (p q : Place) : Type 0 where
+pub record AreTwoParts {A : Type 0} (form : Form A) (a : A) (middle : Mark) (b : A) (close : Mark) (p q : Place) : Type 0 where
   pub one : Place
   pub two : Place
   pub three : Place
@@ -85,7 +85,7 @@ pub record IsBracketed {O A B : Type 0} (make : O → A → A → B) (mark : O �
   pub made : make by a b ≡ x
   pub inside : Place
   pub opened : IsNode opens p inside
-  pub parts : AreTwo form a (mark by) b closes inside q
+  pub parts : AreTwoParts form a (mark by) b closes inside q
 
 -- ( expr op expr )
 abbrev pub IsPair : Form Expr → Expr → Place → Place → Type 0

@@ -1,10 +1,10 @@
 //! From an action to its canonical text.
 
-ghost use Rattle.std.specs.Prelude.{◌≡◌, ◌++◌, ◌<◌, ◌≤◌, [], ◌&&◌, true, cond, All, length, drop, string_bytes, Ok, OnOk, OnErr, IfOk};
+ghost use Rattle.std.specs.Prelude.{◌≡◌, ◌++◌, ◌<◌, ◌≤◌, [], ◌&&◌, true, cond, length, drop, string_bytes, Ok, OnOk, OnErr, IfOk};
 ghost use Rattle.std.specs.Fmt.{signed_decimal};
 ghost use Rattle.sv_world.specs.Heads.{expr_over, expr_arity};
 ghost use Rattle.sv_world.specs.Parts.{first, second, third, parts, block, is_expr, is_cond, is_stmt, is_block};
-ghost use Rattle.sv_world.specs.Ranges.{is_zero, ObjectFits};
+ghost use Rattle.sv_world.specs.Ranges.{is_zero};
 ghost use Rattle.sv_text.specs.Tokens.{tokens_of};
 ghost use Rattle.sv_text.specs.Reading.{reading};
 ghost use Rattle.sv_text.specs.Printable.{IsWithinGrammar};
@@ -14,7 +14,7 @@ use std::alloc::{AllocError, Global};
 use std::fmt::Write;
 use sv_world::{
     Action, Body, Comparison, CondHead, Connective, ExprHead, NodeCursor, ObjectId, Operator,
-    Point, StmtHead,
+    Point, StmtHead, read_objects,
 };
 
 /// The object in a slot, and 0 where the slot is none.
@@ -435,21 +435,6 @@ fn canonical_text(alloc: Global, action: &Action) -> Result<String, AllocError>
     let mut text = String::new(alloc);
     put_action(&mut text, action)?;
     Ok(text)
-}
-
-/// The objects' numbers are those of their type. They always are, but a contract knows it only of a number that is read.
-fn read_objects(objects: &[ObjectId])
-    ensures { All ObjectFits objects.now }
-{
-    for object in objects {
-        read_object(*object);
-    }
-}
-
-fn read_object(object: ObjectId)
-    ensures { ObjectFits object }
-{
-    let _object = object;
 }
 
 /// The canonical text of an action: its tokens by one space each, with none after `(` and `[`, and none before `)`, `]` and `;`.

@@ -2,11 +2,10 @@
 //! read all numbers, and do nothing else.
 ghost use Rattle.std.specs.Prelude.{◌^◌, ◌<◌, All, FitsSigned};
 ghost use Rattle.std.specs.Int.{w32, w64};
-ghost use Rattle.sv_world.specs.Ranges.{ObjectFits};
 ghost use Rattle.sv_wire.specs.Ranges.{ValueFits, HeldFits, ResultFits, ActionFits, ItemFits, RequestFits, ReplyFits};
 
 use crate::message::{Done1, Held, Item, Reply, Request};
-use sv_world::{Action, ObjectId, Point, Value};
+use sv_world::{Action, Point, Value, read_object, read_objects};
 
 fn read_u8(number: u8)
     ensures { number < 2 ^ 8 }
@@ -31,20 +30,6 @@ fn read_point(point: Point)
     ensures y { FitsSigned w32 point.y }
 {
     let _point = point;
-}
-
-fn read_object(object: ObjectId)
-    ensures { ObjectFits object }
-{
-    let _object = object;
-}
-
-fn read_objects(objects: &[ObjectId])
-    ensures { All ObjectFits objects.now }
-{
-    for object in objects {
-        read_object(*object);
-    }
 }
 
 fn read_numbers(numbers: &[i64])
@@ -73,7 +58,7 @@ pub fn read_values(values: &[Value])
 fn read_held(held: &Held)
     ensures { HeldFits held.now }
 {
-    read_u16(held.object.0);
+    read_object(held.object);
     read_value(&held.value);
 }
 

@@ -237,7 +237,7 @@ module _ (scenario : Scenario) (liar : Option ℕ) (run : Run) (good : IsGoodSce
       subst (λ (t : List Event). first_fault_of_reply p.who t reply ≡ None) (same-events p)
       (subst (λ (w : Identity). first_fault_of_reply w (reverse L.events) reply ≡ None) (same-who shape p (ap (λ (w : Identity). w.shape) a.playing.who))
       (served-no_fault agreed r H L (record { keeps = agreed-keeping; legal = legal; fits = trace-fits k p at }) (trace-owns k p at) s reply good.world.objects
-      (All-from_recursion (λ (v : List ℤ). length v ≡ shape.attrs) scenario.world.values good.world.attrs) good.bound serial
+      good.world.attrs good.bound serial
       (subst (λ (t : List Event). current_session t ≡ Some s) back current)
       (subst (λ (t : List Event). length (asked p.who.client p.who.interest t s) ≤ 1024) back few)
       (subst (λ (t : List Event). slice_get (replies_in (accepted H) H s) (length (got t s)) ≡ Some reply) back waits)))
@@ -246,15 +246,15 @@ module _ (scenario : Scenario) (liar : Option ℕ) (run : Run) (good : IsGoodSce
 
   limits : AreWithinLimits r
   limits = record {
-    some_attrs = good.world.some_attrs;
-    few_attrs = good.world.few_attrs;
+    some_attrs = good.world.shape.some_attrs;
+    few_attrs = good.world.shape.few_attrs;
     objects = good.world.objects;
-    attrs = All-from_recursion (λ value. length value ≡ shape.attrs) scenario.world.values good.world.attrs;
+    attrs = good.world.attrs;
     bound = good.bound;
   }
 
   objects-few : shape.objects ≤ 2 ^ 16
-  objects-few = omega (arith, good.world.few_objects)
+  objects-few = omega (arith, good.world.shape.few_objects)
 
   -- A player asked it, and the server heard it.
   abbrev IsOfPlayer : Entry → List Entry → Type 0

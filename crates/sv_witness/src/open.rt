@@ -1,7 +1,7 @@
 //! How a witnessing server is opened.
 ghost use Rattle.std.specs.Prelude.{◌≡◌, ◌≤◌, [], IfOk, IfSome};
 ghost use Rattle.sv_world.specs.Limits.{most_bound, most_reach, most_sessions};
-ghost use Rattle.sv_queue.specs.Worlds.{IsGoodWorld};
+ghost use Rattle.sv_world.specs.Worlds.{IsGoodWorld};
 
 use crate::reports::Reports;
 use crate::testimony::Testimony;

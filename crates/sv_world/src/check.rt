@@ -1,8 +1,8 @@
 //! Whether an action is one of a world of some shape, and else why not.
-ghost use Rattle.std.specs.Prelude.{◌≡◌, ◌↔◌, ◌&&◌, map, not, Some, None, MatchResult, OnOk};
+ghost use Rattle.std.specs.Prelude.{◌≡◌, ◌↔◌, ◌&&◌, not, Some, None, MatchResult, OnOk};
 ghost use Rattle.sv_world.specs.declared.action.Action.{Action};
-ghost use Rattle.sv_world.specs.declared.world.ObjectId.{ObjectId};
 ghost use Rattle.sv_world.specs.declared.world.Shape.{Shape};
+ghost use Rattle.sv_world.specs.Sets.{numbers_of};
 ghost use Rattle.sv_world.specs.Faults.{is_ascending, has_no_reads, has_too_many_reads, is_not_ascending, reads_no_object, has_bad_mask, has_slots, sets_in_mask, has_attrs, is_too_large, is_too_deep, is_in_plane, has_origin, first_fault_of_action, cause_number, IsGoodAction};
 
 use crate::fits::{Limits, block_fits};
@@ -55,7 +55,7 @@ impl BadAction {
 
 /// Whether the numbers of the objects ascend strictly.
 pub fn is_ascending(objects: &[ObjectId]) -> bool
-    ensures { result ≡ is_ascending (map (λ (o : ObjectId). o.0) objects.now) }
+    ensures { result ≡ is_ascending (numbers_of objects.now) }
 {
     let [first, rest @ ..] = objects else {
         return true;

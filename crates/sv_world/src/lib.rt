@@ -46,6 +46,7 @@ pub use limits::{
 pub use list::List;
 pub use names::is_in_mask;
 pub use node::{Comparison, Connective, Node, Operator};
+pub use numbers::{read_object, read_objects};
 pub use short::Short;
 pub use spelling::bodies_are_spelled;
 pub use text::Text;

@@ -54,7 +54,7 @@ pub const MOST_SHOWN: usize = 16;
 /// The turns of a schedule.
 pub const MOST_TURNS: usize = 16_384;
 
-/// These constants are the numbers that contracts speak of.
+/// A law of the limits: these constants are the numbers that contracts speak of.
 pub fn limits_are_those_of_contracts()
     ensures worlds { (MOST_OBJECTS ≡ most_objects) × (MOST_ATTRS ≡ most_attrs) × (MOST_REACH ≡ most_reach) }
     ensures actions { (MOST_READS ≡ most_reads) × (MOST_NODES ≡ most_nodes) × (MOST_DEPTH ≡ most_depth) }

@@ -1,9 +1,26 @@
-//! The numbers of a body.
-ghost use Rattle.std.specs.Prelude.{◌≡◌, true, map};
+//! The numbers of objects and of a body. They are always those of their types, but a contract knows it only of a number that is read. So these
+//! functions read all numbers, and do nothing else.
+ghost use Rattle.std.specs.Prelude.{◌≡◌, true, map, All};
 ghost use Rattle.sv_world.specs.Trees.{all_true};
-ghost use Rattle.sv_world.specs.Ranges.{is_i64, is_byte, node_fits, body_fits};
+ghost use Rattle.sv_world.specs.Ranges.{is_i64, is_byte, ObjectFits, node_fits, body_fits};
 
-use crate::{Body, Node};
+use crate::{Body, Node, ObjectId};
+
+/// The number of an object is one of its type.
+pub fn read_object(object: ObjectId)
+    ensures { ObjectFits object }
+{
+    let _object = object;
+}
+
+/// So is that of each of these.
+pub fn read_objects(objects: &[ObjectId])
+    ensures { All ObjectFits objects.now }
+{
+    for object in objects {
+        read_object(*object);
+    }
+}
 
 fn read_number(number: i64)
     ensures { is_i64 number ≡ true }
@@ -48,8 +65,7 @@ fn read_nodes(nodes: &[Node])
 }
 
 impl Body {
-    /// The numbers of a body are those of their types. They always are, but a contract knows it only of a number that is read, so this
-    /// reads them, and does nothing else.
+    /// The numbers of a body are those of their types.
     #[tactic(auto, using(crate::proofs::Ranged::body_ranged))]
     pub fn read_numbers(&self)
         ensures { body_fits self.now ≡ true }

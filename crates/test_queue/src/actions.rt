@@ -1,6 +1,6 @@
 //! Worlds, and actions without a body.
 ghost use Rattle.std.specs.Prelude.{◌≡◌, ◌≤◌, [], ◌∷◌, IfOk};
-ghost use Rattle.sv_queue.specs.Worlds.{IsGoodWorld};
+ghost use Rattle.sv_world.specs.Worlds.{IsGoodWorld};
 
 use std::alloc::{AllocError, Global};
 use sv_world::{Action, Body, List, ObjectId, Point, Reads, Shape, Value, World};

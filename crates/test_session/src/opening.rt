@@ -1,6 +1,6 @@
 //! A server of two objects of one number each, for two sessions.
 ghost use Rattle.std.specs.Prelude.{◌≡◌, [], ◌∷◌, IfOk};
-ghost use Rattle.sv_queue.specs.Worlds.{IsGoodWorld};
+ghost use Rattle.sv_world.specs.Worlds.{IsGoodWorld};
 ghost use Rattle.sv_journal.specs.Laws.{AreWithinLimits};
 
 use std::alloc::Global;

@@ -1,6 +1,6 @@
 //! Requests as plain data, and what they stand for.
 ghost use Rattle.std.specs.Prelude.{◌≡◌, ◌<◌, ◌≤◌, [], ◌∷◌, length, All, IfOk};
-ghost use Rattle.sv_queue.specs.Worlds.{IsGoodWorld};
+ghost use Rattle.sv_world.specs.Worlds.{IsGoodWorld};
 
 use std::alloc::Global;
 use std::test::Fail;

@@ -3,7 +3,7 @@ use Rattle.std.proofs.Common.{◌≡◌, [], ◌∷◌, append-nil, set, length,
 use Rattle.std.proofs.lemmas.List.{nil_from_length}
 use Rattle.std.specs.Vec.Iter.{into_iter_items}
 use Rattle.sv_queue.specs.Written.{writes_before}
-use Rattle.sv_queue.proofs.WrittenObjects.{put_values-next, put_values_end, drop_push, writes_before-zero, writes_before_all}
+use Rattle.sv_queue.proofs.WrittenObjects.{put_all-next, put_values_end, drop_push, writes_before-zero, writes_before_all}
 use Rattle.sv_queue.proofs.written.put_values.Goals as goal
 use Rattle.sv_queue.proofs.written.put_values.Goals.{in-Some+in-Some-next, in-Some+in_default-next, in_default}
 
@@ -23,7 +23,7 @@ loop-slot-preserved c =
           let rest = into_iter_items w.next.new.self in
           let here : drop (length ws) c.args.values ≡ w.in-Some-next.value ∷ rest = sym left ∙ w.in-Some-next.ensures.items in
           rw (w.in-Some.ensures.next, w.committed-is, w.values-is) (record {
-            put = w.set.ensures ∙ ap (λ values. set values x w.in-Some-next.value) put ∙ sym (put_values-next c.args.committed.now ws x c.args.values w.in-Some-next.value rest here);
+            put = w.set.ensures ∙ ap (λ values. set values x w.in-Some-next.value) put ∙ sym (put_all-next c.args.committed.now ws x c.args.values w.in-Some-next.value rest here);
             left = sym (drop_push ws x c.args.values rest (ap (drop 1) here));
           })
       | in-Some+in_default-next w ↦

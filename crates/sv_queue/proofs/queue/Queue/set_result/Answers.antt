@@ -6,7 +6,7 @@ use Rattle.sv_world.specs.declared.action.Action.{Action}
 use Rattle.sv_queue.specs.declared.queued.Queued.{Queued}
 use Rattle.sv_queue.specs.Invariant.{HaveSources, IsGoodEntry}
 use Rattle.sv_queue.specs.Queue.{QueueView, entry_at, no_entry}
-use Rattle.sv_queue.specs.Worlds.{HaveAttrs}
+use Rattle.sv_world.specs.Worlds.{HaveAttrs}
 use Rattle.sv_queue.proofs.Kept.{agree_with_entry}
 use Rattle.sv_queue.proofs.SourceLists.{actions-set}
 use Rattle.sv_queue.proofs.queue.Queue.set_result.Goals as goal
