@@ -70,7 +70,7 @@ fn relay(alloc: Global, seq: u32, positions: &[u32]) -> Result<Logged, AllocErro
 }
 
 // A tree that is let go at the end of its scope makes a long proof; a call that takes it makes none.
-pub fn add(
+fn add(
     journal: &mut Journal,
     session: u16,
     request: Request,
@@ -94,7 +94,7 @@ pub fn add(
 }
 
 /// The same of what may have failed.
-fn add_made(
+pub fn add_made(
     journal: &mut Journal,
     session: u16,
     request: Request,
