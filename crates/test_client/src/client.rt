@@ -86,7 +86,9 @@ fn check(alloc: Global, number: u16, in_first: bool, steps: &[Step]) -> Result<(
     requires { number < 32 }
 {
     let mut client = client_of(alloc, number, in_first)?;
-    play(alloc, &mut client, steps)
+    let told = play(alloc, &mut client, steps);
+    drop(client);
+    told
 }
 
 /// Each step goes as expected, and the trace has these events.

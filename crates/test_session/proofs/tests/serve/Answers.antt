@@ -1,3 +1,4 @@
+-- What is proved by hand of `serve`.
 use Rattle.std.proofs.Common.{rules, ◌≡◌, [], ◌∷◌, map, subst, ◌<◌, ℕ}
 use Rattle.sv_lock.proofs.Ended.{one_ended}
 use Rattle.test_session.proofs.tests.serve.Goals as goal

@@ -1,3 +1,4 @@
+-- What is proved by hand of `serve_two`.
 use mir.Syntax.{named}
 use contract.Lifetimes.{Lfts}
 use denote.Exit.{no}

@@ -1,3 +1,4 @@
+-- The server stays as it was opened.
 use Rattle.std.proofs.Common.{◌≡◌}
 use Rattle.test_witness.proofs.server.play.Given as goal
 
