@@ -73,8 +73,11 @@ struct Events<'a> {
     told: &'a str,
 }
 
-fn compare(alloc: Global, trace: &Trace, wanted: &str) -> Result<(), Fail> {
-    let text = told(alloc, trace)?;
+/// Compares a trace, which is let go.
+fn compare(alloc: Global, trace: Trace, wanted: &str) -> Result<(), Fail> {
+    let text = told(alloc, &trace);
+    drop(trace);
+    let text = text?;
     if text.as_str() != wanted {
         return Err(Fail::new(format_args!("{text}, and not{wanted}")));
     }
@@ -103,9 +106,11 @@ fn check_trace(
     requires first { events.first < 64 }
 {
     let mut client = client_of(alloc, number, in_first)?;
-    play(alloc, &mut client, steps)?;
-    let trace = client.into_trace(events.first);
-    let told = compare(alloc, &trace, events.told);
-    drop(trace);
-    told
+    match play(alloc, &mut client, steps) {
+        Ok(()) => compare(alloc, client.into_trace(events.first), events.told),
+        Err(fail) => {
+            drop(client);
+            Err(fail)
+        }
+    }
 }
