@@ -1,4 +1,4 @@
-//! The lines of journals: a request is typed as its line tells it, ` -> `, and the reply.
+//! The lines of journals: what they ask, and whether a journal has them.
 use std::alloc::Global;
 use std::test::Fail;
 use sv_journal::{Journal, print_journal, relays_name_accepted};
@@ -6,28 +6,32 @@ use sv_lines::{Asked, asked_at};
 use sv_wire::Request;
 use sv_world::Shape;
 
-/// The greatest world. An action that it refuses is refused by each world.
+/// A world that has every object.
 const GREATEST: Shape = Shape {
     objects: 4096,
     attrs: 4,
 };
 
-/// The session of a line's front, as `7 s0`.
-fn session_in(front: &str) -> Result<u16, Fail> {
+/// What the line of a malformed payload asks, by its front, as `7 s0`.
+fn bad_in(front: &str) -> Result<Asked, Fail> {
     let Some((_, session)) = front.split_once(" s") else {
         return Err(Fail::new(format_args!("no session: {front}")));
     };
-    Ok(session.parse::<u16>()?)
+    Ok(Asked {
+        session: session.parse::<u16>()?,
+        request: Request::Bad,
+    })
 }
 
-/// What a line asks: its session and its request. The action of a Submit may be one that a smaller world refuses.
+/// What a line asks: its session and its request. In place of a refused action stands one on an object that the worlds of the tests lack.
 pub fn asked_in(alloc: Global, line: &str) -> Result<Asked, Fail> {
-    if let Some((front, _)) = line.split_once(" bad -> ") {
-        return Ok(Asked {
-            session: session_in(front)?,
-            request: Request::Bad,
-        });
+    let Some((front, _)) = line.split_once(" bad -> ") else {
+        return Ok(asked_at(alloc, GREATEST, line.as_bytes())?);
+    };
+    if !front.contains(" submit ") {
+        return bad_in(front);
     }
+    let line = format!(in alloc; "{front} reads 4095 writes {{ }} -> ")?;
     Ok(asked_at(alloc, GREATEST, line.as_bytes())?)
 }
 
@@ -41,29 +45,21 @@ pub fn printed(alloc: Global, objects: u16, journal: &Journal) -> Result<String,
     Ok(out)
 }
 
-/// The reply that a line tells.
-fn reply_in(line: &str) -> &str {
-    match line.split_once(" -> ") {
-        Some((_, reply)) => reply,
-        None => line,
-    }
-}
-
-/// Each line of a text from a number on tells the reply of its line here, and no more lines come.
+/// From a number on the text's lines are these, and no more come.
 fn compare(text: &str, from: usize, lines: &str) -> Result<(), Fail> {
     if text.lines().count() != from.saturating_add(lines.lines().count()) {
         return Err(Fail::new("the journal has another number of lines"));
     }
     for (line, told) in lines.lines().zip(text.lines().skip(from)) {
-        if reply_in(told) != reply_in(line) {
+        if told != line {
             return Err(Fail::new(format_args!("{told}, and not {line}")));
         }
     }
     Ok(())
 }
 
-/// After so many entries the journal of a world of objects of one number each tells the replies of these lines, and no more.
-pub fn check_replies(
+/// After so many entries the journal of a world of objects of one number each has these lines, and no more.
+pub fn check_lines(
     alloc: Global,
     journal: &Journal,
     objects: u16,

@@ -16,7 +16,7 @@ use std::alloc::Global;
 use std::test::Fail;
 use sv_sequencer::Sequencer;
 use sv_wire::Request;
-use test_asked::{asked_in, check_replies, world_of};
+use test_asked::{asked_in, check_lines, world_of};
 
 /// A server of objects of one number each, for four sessions.
 fn opened(alloc: Global, numbers: &[i64], bound: u8, reach: Option<u32>) -> Result<Sequencer, Fail>
@@ -75,7 +75,7 @@ fn check_from(
     lines: &str,
 ) -> Result<(), Fail> {
     play(alloc, sequencer, lines)?;
-    check_replies(alloc, sequencer.journal(), objects, entries, lines)
+    check_lines(alloc, sequencer.journal(), objects, entries, lines)
 }
 
 /// A new server of objects of one number each answers each line as it tells.

@@ -8,7 +8,7 @@ use std::test::Fail;
 use sv_wire::Request;
 use sv_witness::{Dispute, Report, Witness};
 use sv_world::{ObjectId, Value};
-use test_asked::{asked_in, check_replies, world_of};
+use test_asked::{asked_in, check_lines, world_of};
 
 const SESSIONS: u16 = 4;
 
@@ -129,7 +129,7 @@ fn compare_all(alloc: Global, witness: &Witness, case: &Case) -> Result<(), Fail
     requires some { 0 < witness.now.rules.world.shape.objects }
 {
     let objects = u16::try_from(case.numbers.len()).unwrap_or(u16::MAX);
-    check_replies(alloc, witness.journal(), objects, 0, case.lines)?;
+    check_lines(alloc, witness.journal(), objects, 0, case.lines)?;
     if !are_disputes(witness.disputes(), case.disputes) {
         return Err(Fail::new("other disputes"));
     }

@@ -12,7 +12,7 @@ const REFUSALS: &str = "\
 4 s0 join c0 1 [0] -> welcome 0 [0=(0)]
 5 s0 join c0 2 [0] -> refused 3 0
 6 s0 submit 9 reads 0 writes 0 { set @0.0 (@0.0 + 1); } -> refused 5 1
-7 s0 submit 1 reads 1 writes 1 { set @1.0 (@1.0 + 1); } -> refused 6 4
+7 s0 submit 1 bad -> refused 6 4
 8 s0 done [1:(1)] -> refused 7 0
 9 s0 bad -> refused 1 0
 10 s0 poll -> refused 4 0

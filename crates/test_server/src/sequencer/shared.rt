@@ -10,7 +10,7 @@ use std::test::Fail;
 use sv_lock::{Pass, SeqLock};
 use sv_sequencer::Sequencer;
 use sv_wire::Request;
-use test_asked::{asked_in, check_replies};
+use test_asked::{asked_in, check_lines};
 
 /// One request that is no End. It tells whether it was answered.
 pub fn call<R: Wait>(
@@ -84,7 +84,7 @@ fn through_a_pass<R: Wait>(
 fn bound_1_through_a_pass(rt: HostRuntime) -> Result<(), Fail> {
     let sequencer = opened(rt.alloc(), &[0], 1, None)?;
     let sequencer = through_a_pass(&rt, rt.alloc(), sequencer, BOUND_1)?;
-    let told = check_replies(rt.alloc(), sequencer.journal(), 1, 0, BOUND_1);
+    let told = check_lines(rt.alloc(), sequencer.journal(), 1, 0, BOUND_1);
     drop(sequencer);
     told
 }
