@@ -59,12 +59,15 @@ fn serve<R: Wait>(
     let sequencer = opened(alloc)?;
     let (lock, mut keeper) = match SeqLock::new(alloc, sequencer, 1) {
         Ok(made) => made,
-        Err((_, error)) => return Err(Fail::from(error)),
+        Err((refused, error)) => {
+            drop(refused);
+            return Err(Fail::from(error));
+        }
     };
     let mut pass = lock.split(&mut keeper);
     let served = serve_by(rt, alloc, &lock, &mut pass, end);
     lock.join(&mut keeper, pass);
-    let _sequencer = lock.close(keeper);
+    drop(lock.close(keeper));
     served
 }
 
