@@ -4,45 +4,71 @@ use std::alloc::{AllocError, Global};
 use std::sync::Wait;
 use std::thread::Threads;
 use sv_app::run;
-use sv_bytes::Files;
+use sv_bytes::MemFiles;
 use sv_link::{Crew, Gate, Net, PipeNet, ThreadCrew};
 use test_calls::{Printed, held, words};
 
-/// The program's answer to a line of words.
-pub fn called<R, F, N, C, G>(
-    rt: &R,
-    alloc: Global,
-    line: &str,
-    files: &mut F,
-    net: &mut N,
-    crew: &mut C,
-    gate: &G,
-) -> Result<Printed, AllocError>
-where
-    R: Threads + Wait + Sync,
-    F: Files,
-    N: Net,
-    C: Crew,
-    G: Gate + Sync,
-{
-    let words = words(alloc, line)?;
-    let mut printed = Printed::nothing(alloc)?;
-    let status = run(
-        rt,
-        alloc,
-        &words,
-        files,
-        net,
-        crew,
-        gate,
-        &mut printed.out,
-        &mut printed.err,
-    );
-    printed.status = status;
-    Ok(printed)
+/// What a call works with: files, a net and a crew; and what it prints.
+#[derive(Drop)]
+pub struct Desk<N, C> {
+    pub files: MemFiles,
+    pub net: N,
+    pub crew: C,
+    pub printed: Printed,
 }
 
-/// The same over a net and a crew by which nothing fails, where the file `a` has this text.
+impl<N: Net + Drop, C: Crew + Drop> Desk<N, C> {
+    /// The file `a` has this text, and nothing is printed yet.
+    pub fn new(alloc: Global, text: &str, net: N, crew: C) -> Result<Desk<N, C>, AllocError> {
+        Ok(Desk {
+            files: held(alloc, text)?,
+            net,
+            crew,
+            printed: Printed::nothing(alloc)?,
+        })
+    }
+
+    /// The program's answer to a line of words.
+    pub fn called<R: Threads + Wait + Sync, G: Gate + Sync>(
+        self,
+        rt: &R,
+        alloc: Global,
+        line: &str,
+        gate: &G,
+    ) -> Result<Printed, AllocError> {
+        let mut desk = self;
+        let words = words(alloc, line)?;
+        let status = run(
+            rt,
+            alloc,
+            &words,
+            &mut desk.files,
+            &mut desk.net,
+            &mut desk.crew,
+            gate,
+            &mut desk.printed.out,
+            &mut desk.printed.err,
+        );
+        desk.printed.status = status;
+        Ok(desk.printed)
+    }
+}
+
+/// A desk at which nothing fails.
+pub fn desk_of<R: Wait + Sync>(
+    rt: &R,
+    alloc: Global,
+    text: &str,
+) -> Result<Desk<PipeNet<'_, R>, ThreadCrew>, AllocError> {
+    Desk::new(
+        alloc,
+        text,
+        PipeNet::new(alloc, rt),
+        ThreadCrew::new(alloc),
+    )
+}
+
+/// The program's answer there.
 pub fn called_well<R: Threads + Wait + Sync, G: Gate + Sync>(
     rt: &R,
     alloc: Global,
@@ -50,8 +76,5 @@ pub fn called_well<R: Threads + Wait + Sync, G: Gate + Sync>(
     text: &str,
     gate: &G,
 ) -> Result<Printed, AllocError> {
-    let mut files = held(alloc, text)?;
-    let mut net = PipeNet::new(alloc, rt);
-    let mut crew = ThreadCrew::new(alloc);
-    called(rt, alloc, line, &mut files, &mut net, &mut crew, gate)
+    desk_of(rt, alloc, text)?.called(rt, alloc, line, gate)
 }

@@ -1,14 +1,13 @@
 //! Files, outputs, links and threads that fail.
 
-use crate::calls::{called, called_well};
+use crate::calls::{Desk, called_well, desk_of};
 use std::alloc::{AllocError, Global};
 use std::sync::Wait;
 use std::test::Fail;
 use std::thread::Threads;
-use sv_app::run;
 use sv_link::{FewCrew, OpenGate, PipeNet, ThreadCrew};
 use test_calls::examples::{FIRST, FIRST_REPORT};
-use test_calls::{Printed, held, words};
+use test_calls::Printed;
 
 /// What has a call that fails.
 #[derive(Clone, Copy)]
@@ -28,7 +27,6 @@ fn played<R: Threads + Wait + Sync>(
     failing: Failing,
     call: u64,
 ) -> Result<Printed, AllocError> {
-    let mut files = held(alloc, FIRST)?;
     let mut net = PipeNet::new(alloc, rt);
     match failing {
         Failing::Net => net.fail_at(call)?,
@@ -36,10 +34,8 @@ fn played<R: Threads + Wait + Sync>(
         Failing::ClientEnd => net.fail_client_at(call)?,
         Failing::Settling => net.change_at(call)?,
     }
-    let mut crew = ThreadCrew::new(alloc);
-    called(
-        rt, alloc, "play a", &mut files, &mut net, &mut crew, &OpenGate,
-    )
+    let desk = Desk::new(alloc, FIRST, net, ThreadCrew::new(alloc))?;
+    desk.called(rt, alloc, "play a", &OpenGate)
 }
 
 /// Whether all is printed, or else the run ends with status 6 and nothing printed; None where neither is so.
@@ -101,12 +97,9 @@ fn refused<R: Threads + Wait + Sync>(
     alloc: Global,
     start: usize,
 ) -> Result<Printed, AllocError> {
-    let mut files = held(alloc, FIRST)?;
-    let mut net = PipeNet::new(alloc, rt);
-    let mut crew = FewCrew::new(alloc, start);
-    called(
-        rt, alloc, "play a", &mut files, &mut net, &mut crew, &OpenGate,
-    )
+    let crew = FewCrew::new(alloc, start);
+    let desk = Desk::new(alloc, FIRST, PipeNet::new(alloc, rt), crew)?;
+    desk.called(rt, alloc, "play a", &OpenGate)
 }
 
 #[test]
@@ -136,12 +129,10 @@ fn cut_in_the_middle<R: Threads + Wait + Sync>(
     alloc: Global,
     line: &str,
 ) -> Result<Printed, AllocError> {
-    let mut files = held(alloc, FIRST)?;
-    files.give_at_most(9);
-    files.fail_at(3)?;
-    let mut net = PipeNet::new(alloc, rt);
-    let mut crew = ThreadCrew::new(alloc);
-    called(rt, alloc, line, &mut files, &mut net, &mut crew, &OpenGate)
+    let mut desk = desk_of(rt, alloc, FIRST)?;
+    desk.files.give_at_most(9);
+    desk.files.fail_at(3)?;
+    desk.called(rt, alloc, line, &OpenGate)
 }
 
 #[test]
@@ -160,26 +151,10 @@ fn written_in_part<R: Threads + Wait + Sync>(
     line: &str,
     call: u64,
 ) -> Result<Printed, AllocError> {
-    let words = words(alloc, line)?;
-    let mut files = held(alloc, FIRST)?;
-    let mut printed = Printed::nothing(alloc)?;
-    printed.out.take_at_most(10);
-    printed.out.fail_at(call)?;
-    let mut net = PipeNet::new(alloc, rt);
-    let mut crew = ThreadCrew::new(alloc);
-    let status = run(
-        rt,
-        alloc,
-        &words,
-        &mut files,
-        &mut net,
-        &mut crew,
-        &OpenGate,
-        &mut printed.out,
-        &mut printed.err,
-    );
-    printed.status = status;
-    Ok(printed)
+    let mut desk = desk_of(rt, alloc, FIRST)?;
+    desk.printed.out.take_at_most(10);
+    desk.printed.out.fail_at(call)?;
+    desk.called(rt, alloc, line, &OpenGate)
 }
 
 #[test]

@@ -1,6 +1,6 @@
 //! Plays and loads: threads over links in memory, and over loopback TCP.
 
-use crate::calls::{called, called_well};
+use crate::calls::{Desk, called_well};
 use crate::texts::*;
 use std::alloc::{AllocError, Global};
 use std::net::{Net as Sockets, TcpListener, TcpStream};
@@ -10,7 +10,7 @@ use std::thread::Threads;
 use sv_link::{HoldGate, OpenGate, TcpNet, ThreadCrew};
 use test_calls::examples::*;
 use test_calls::scenarios::*;
-use test_calls::{Printed, held};
+use test_calls::Printed;
 
 /// Words, the scenario, and what is printed.
 type Row<'a> = (&'a str, &'a str, &'a str);
@@ -40,10 +40,8 @@ pub fn called_over_tcp<R>(
 where
     R: Threads + Wait + Sync + Sockets<Listener = TcpListener, Stream = TcpStream>,
 {
-    let mut files = held(alloc, text)?;
-    let mut net = TcpNet::new(alloc, rt);
-    let mut crew = ThreadCrew::new(alloc);
-    called(rt, alloc, line, &mut files, &mut net, &mut crew, &OpenGate)
+    let desk = Desk::new(alloc, text, TcpNet::new(alloc, rt), ThreadCrew::new(alloc))?;
+    desk.called(rt, alloc, line, &OpenGate)
 }
 
 #[test]
