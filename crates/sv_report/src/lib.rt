@@ -14,7 +14,6 @@ mod totals;
 mod trace;
 mod values;
 mod whole;
-mod written;
 
 pub use again::do_again;
 pub use event::{append_after, append_before};
