@@ -8,9 +8,9 @@ ghost use Rattle.sv_client.specs.Traces.{pending_of};
 ghost use Rattle.sv_report.specs.Report.{kept_text};
 ghost use Rattle.sv_report.specs.Again.{last_kept_text};
 
+use crate::written::written_objects;
 use std::alloc::{AllocError, Global};
 use sv_client::Client;
-use sv_eval::written_objects;
 use sv_journal::append_held;
 use sv_world::{Action, ObjectId, Value};
 

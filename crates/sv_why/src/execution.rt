@@ -4,7 +4,8 @@ ghost use Rattle.sv_world.specs.declared.world.ObjectId.{ObjectId};
 ghost use Rattle.sv_eval.specs.Serial.{put_all, values_at, world_after};
 
 use std::alloc::{AllocError, Global};
-use sv_eval::{eval, written_objects};
+use sv_eval::eval;
+use sv_report::written_objects;
 use sv_world::{Action, List, ObjectId, Value, copy_value};
 
 /// An object's value, without numbers where the object is beyond the world.
