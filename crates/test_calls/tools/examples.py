@@ -1,15 +1,15 @@
 #!/usr/bin/env python3
-"""Writes src/examples.rt of test_app and test_check, the files of the folder examples/ as constants, since the tests of a crate can read no file.
+"""Writes src/examples.rt, the files of the folder examples/ as constants, since the tests of a crate can read no file.
 
 Run it in the crate's folder: python3 tools/examples.py
-With --check it writes nothing, and fails where one of the two is not what it would write.
+With --check it writes nothing, and fails where the file is not what it would write.
 """
 import os
 import sys
 
 HERE = os.path.dirname(os.path.abspath(__file__))
 EXAMPLES = os.path.join(HERE, "..", "..", "..", "examples")
-CRATES = ("test_app", "test_check")
+WRITTEN = os.path.join(HERE, "..", "src", "examples.rt")
 # How a constant of each ending is called behind the file's name.
 ENDINGS = {".json": "", ".out": "_REPORT", ".err": "_LINE"}
 # Where `rt fmt` breaks a line.
@@ -35,15 +35,13 @@ def module():
 
 
 def main():
-    for crate in CRATES:
-        written = os.path.join(HERE, "..", "..", crate, "src", "examples.rt")
-        if sys.argv[1:] == ["--check"]:
-            with open(written, encoding="ascii") as it:
-                if it.read() != module():
-                    sys.exit(f"crates/{crate}/src/examples.rt is not what tools/examples.py makes of examples/: run it again")
-            continue
-        with open(written, "w", encoding="ascii") as it:
-            it.write(module())
+    if sys.argv[1:] == ["--check"]:
+        with open(WRITTEN, encoding="ascii") as it:
+            if it.read() != module():
+                sys.exit("crates/test_calls/src/examples.rt is not what tools/examples.py makes of examples/: run it again")
+        return
+    with open(WRITTEN, "w", encoding="ascii") as it:
+        it.write(module())
 
 
 main()

@@ -1,5 +1,6 @@
+-- So many values of one number each stand there.
 use Rattle.std.proofs.Common.{◌≡◌, All, length}
-use Rattle.test_server.proofs.sequencer.asked.values_of.Given as goal
+use Rattle.test_asked.proofs.worlds.values_of.Given as goal
 
 abbrev pub invariant-loop-number : goal.invariant-loop-number
 invariant-loop-number l = record {

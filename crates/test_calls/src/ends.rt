@@ -1,37 +1,48 @@
-//! An end whose client wrote all of its bytes before, and that keeps what is sent to it.
-ghost use Rattle.std.specs.Prelude.{◌≡◌, ◌<◌, false, IfOk};
+//! An end of a connection whose client wrote all of its bytes before.
+ghost use Rattle.std.specs.Prelude.{◌≡◌, ◌<◌, IfOk};
+ghost use Rattle.sv_link.specs.Ends.{new_end};
+ghost use Rattle.sv_link.specs.declared.side.Side.TheVariants.{Server};
+ghost use Rattle.test_calls.specs.Scripts.{told_of_script, faults_of_script};
 
 use std::alloc::{AllocError, Global};
 use sv_bytes::{FaultCount, Plan};
 use sv_link::{End, EndRead, EndWrote};
 
-/// Reads give the next bytes of `coming`, and at its end answer that no more will come. Its plan says which calls fail, and how many bytes
-/// a call moves.
+/// The server's end. Reads give the next bytes of `coming`, and after them answer that no more will come. It keeps what is sent to it. Its plan
+/// says which calls fail, and how many bytes a call moves.
 #[derive(Drop)]
-pub struct Script<'a> {
+pub struct ScriptEnd<'a> {
     coming: &'a [u8],
     plan: Plan,
-    pub sent: Vec<u8>,
+    sent: Vec<u8>,
     received: Vec<u8>,
     ended: bool,
     closed: bool,
-    pub faults: FaultCount,
+    number: u64,
+    faults: FaultCount,
 }
 
-impl<'a> Script<'a> {
-    /// Where `failing` is 0 no call fails.
-    pub fn new(alloc: Global, coming: &'a [u8], failing: u64) -> Result<Script<'a>, AllocError>
-        ensures { IfOk result (λ s. s.closed ≡ false) }
+impl<'a> ScriptEnd<'a> {
+    /// The end of the connection of this number, whose call of number `failing` fails. Where that is 0 none fails.
+    pub fn new(
+        alloc: Global,
+        coming: &'a [u8],
+        failing: u64,
+        number: u64,
+    ) -> Result<ScriptEnd<'a>, AllocError>
+        ensures told { IfOk result (λ end. told_of_script end ≡ new_end number Server) }
+        ensures faults { IfOk result (λ end. faults_of_script end ≡ 0) }
     {
         let mut plan = Plan::new(alloc);
         plan.fail_at(failing)?;
-        Ok(Script {
+        Ok(ScriptEnd {
             coming,
             plan,
             sent: Vec::new(alloc),
             received: Vec::new(alloc),
             ended: false,
             closed: false,
+            number,
             faults: FaultCount::new(),
         })
     }
@@ -39,7 +50,8 @@ impl<'a> Script<'a> {
     /// A call moves at most so many bytes.
     pub fn move_at_most(&mut self, step: usize)
         requires { 0 < step }
-        ensures { self.new.closed ≡ self.old.closed }
+        ensures told { told_of_script self.new ≡ told_of_script self.old }
+        ensures faults { faults_of_script self.new ≡ faults_of_script self.old }
     {
         self.plan.step = step;
     }
@@ -47,14 +59,19 @@ impl<'a> Script<'a> {
     pub fn is_closed(&self) -> bool {
         self.closed
     }
+
+    /// What was sent to the client.
+    pub fn into_sent(self) -> Vec<u8> {
+        self.sent
+    }
 }
 
-impl<'a> End for Script<'a> {
-    ghost use Rattle.sv_link.specs.declared.side.Side.TheVariants.{Server};
+impl<'a> End for ScriptEnd<'a> {
+    ghost use Rattle.test_calls.specs.Scripts.{told_of_script, faults_of_script};
 
-    ghost told = { λ e. record { sent = e.sent.items; received = e.received.items; ended = e.ended; closed = e.closed; pair = 0; side = Server } };
+    ghost told = { λ e. told_of_script e };
 
-    ghost faults = { λ e. e.faults.value };
+    ghost faults = { λ e. faults_of_script e };
 
     ghost calm = { λ e. ⊥ };
 
