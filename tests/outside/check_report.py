@@ -21,7 +21,7 @@ import sys
 
 from journal import SerialWorld, check_journal, check_outcomes, check_serial_values
 from report import Fault, read_report
-from scenario import NoScenario, read_scenario
+from scenario import NoScenario, read_scenario, status_of
 from traces import check_traces
 
 
@@ -78,12 +78,8 @@ def main(words):
             data = file.read()
         scenario = read_scenario(words[0])
         check(scenario, data, "--watch" in options, "--play" in options)
-    except OSError as fault:
-        print(f"file: {fault.filename}", file=sys.stderr)
-        return 2
-    except NoScenario as fault:
-        print(f"scenario: {fault}", file=sys.stderr)
-        return 1
+    except (OSError, NoScenario) as fault:
+        return status_of(fault)
     except Fault as fault:
         print(fault, file=sys.stderr)
         return 1

@@ -22,10 +22,29 @@ class Count:
             self.failed += 1
             print(f"failed: {name}", flush=True)
 
+    def same(self, given, wanted, name):
+        """Two things that must be equal."""
+        self.expect(given == wanted, f"{name}:\n  got    {given!r}\n  wanted {wanted!r}")
+
     def close(self):
         """Prints the last line, and gives the status."""
         print(f"{self.passed} passed, {self.failed} failed")
         return 0 if self.failed == 0 else 1
+
+
+class Room(Count):
+    """A program under test and a folder for files that its words name; what passed and what failed."""
+
+    def __init__(self, program, room):
+        super().__init__()
+        self.program, self.room = program, room
+
+    def file(self, name, data):
+        """A file with these bytes."""
+        path = os.path.join(self.room, name)
+        with open(path, "wb") as file:
+            file.write(data)
+        return path
 
 
 def program_in(words):

@@ -40,6 +40,19 @@ THREADS = {(7, b"", b"start\n"): "start", (6, b"", b"link\n"): "link"}
 BEHIND = {"replay": 0, "play": 60, "check": 0, "why": 0, "witness": 0}
 
 
+def library_in(room):
+    """The shim, built in a folder."""
+    library = os.path.join(room, "failing_memory.so")
+    subprocess.run(["cc", "-O2", "-shared", "-fPIC", "-o", library, os.path.join(HERE, "failing_memory.c")], check=True)
+    return library
+
+
+def figures(least, ends, pairs, begun):
+    """What is told of the runs of one call: how many allocations the plain one makes, and how the others ended."""
+    told = ", ".join(f"{kind} {number}" for kind, number in sorted(ends.items()))
+    return f"{least} allocations, {sum(ends.values())} {'pairs' if pairs else 'singles'}: {told}; {time.monotonic() - begun:.0f} s"
+
+
 class Shim:
     """The program with these words under the shim, from which one run after the other is asked."""
 
@@ -131,9 +144,7 @@ class Campaign:
                 if other <= calls:
                     ends[self.judge(name, path, known, [one, other], ended, calls)] += 1
         shim.close()
-        told = ", ".join(f"{kind} {number}" for kind, number in sorted(ends.items()))
-        print(f"{name}: {least} allocations, {sum(ends.values())} {'pairs' if pairs else 'singles'}: {told}; "
-              f"{time.monotonic() - begun:.0f} s, the longest run {shim.slowest:.1f} s", flush=True)
+        print(f"{name}: {figures(least, ends, pairs, begun)}, the longest run {shim.slowest:.1f} s", flush=True)
 
 
 def main(words):
@@ -142,9 +153,7 @@ def main(words):
         print("words: PROGRAM", file=sys.stderr)
         return 2
     with tempfile.TemporaryDirectory() as room:
-        library = os.path.join(room, "failing_memory.so")
-        subprocess.run(["cc", "-O2", "-shared", "-fPIC", "-o", library, os.path.join(HERE, "failing_memory.c")], check=True)
-        campaign = Campaign(library, os.path.abspath(words[0]))
+        campaign = Campaign(library_in(room), os.path.abspath(words[0]))
         for example in ("conflict", "bound"):
             for word in ("replay", "play", "check", "why"):
                 campaign.go(word, example, False)

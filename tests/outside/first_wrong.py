@@ -16,7 +16,7 @@ import functools
 import re
 import sys
 
-from actions import GREATEST, LEAST, TextFault, action_text, evaluate, fault_of_action, read_action
+from actions import GREATEST, LEAST, TextFault, action_text, fault_of_action, read_action
 from journal import History
 from report import EVENTS, LARGE, NATURAL, SMALL, WHOLE, Entry, Event, Fault, Request, list_of, reply_text, request_text, value_text
 from scenario import NoScenario, read_scenario
@@ -168,22 +168,11 @@ class Follower(Walk):
         """A value at a position is held."""
         self.held.setdefault(target, {})[position] = value
 
-    def relay(self, request, reply, line):
-        """The items are evaluated in order, each below its position; one Done tells the results."""
-        results = []
-        for position, _, _ in reply.items:
-            action = self.history.action(position)
-            found = {target: self.below(target, position) for target in action.reads}
-            self.need(None not in found.values(), line, "an object is unknown")
-            result = evaluate(action, {target: value for target, (_, value) in found.items()})
-            for target, value in zip(action.writes, result):
-                self.hold(target, position, value, line)
-            results.append((position, result))
-        self.ask(Request("done", results=tuple(results)))
-        if request.kind == "submit":
-            front = self.pending.pop(0)
-            if front.kept is None or front.kept != results[-1][1]:
-                self.reconcile()
+    def read_below(self, target, position, line):
+        """The value of an object that the action of a position reads: the last one before it that it was given."""
+        found = self.below(target, position)
+        self.need(found is not None, line, "an object is unknown")
+        return found[1]
 
     def is_whole(self):
         """Whether it is finished, and the journal's requests of each of its sessions are the first that it asked, before the End."""

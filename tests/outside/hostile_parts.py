@@ -17,7 +17,6 @@ Prints what differs, and at the end the figures. The status is 1 where something
 import collections
 import os
 import struct
-import subprocess
 import sys
 import tempfile
 import time
@@ -28,7 +27,7 @@ sys.path.insert(0, HERE)
 
 import wire
 from actions import action_text
-from failing_memory import Shim
+from failing_memory import Shim, figures, library_in
 from hostile_frames import Journal
 from report import Request
 from scenario import read_scenario
@@ -101,15 +100,12 @@ class Recorded(Run):
         self.note(client, f"take {self.reply_payload(reply).hex()}", "take", asked)
         return True
 
-    def go(self):
+    def whole(self):
         """The whole run. Where players are patient, a turn is taken as soon as it can be."""
-        for letter, number in () if self.patient else self.scenario.schedule:
-            self.turn(letter, number)
-        for _ in range(ROUNDS * 20):
-            if self.is_over():
-                return self
-            self.round()
-        raise AssertionError("the run does not end")
+        self.go(() if self.patient else self.scenario.schedule, ROUNDS * 20)
+        if not self.is_over():
+            raise AssertionError("the run does not end")
+        return self
 
 
 def recorded(path, patient=False):
@@ -117,7 +113,7 @@ def recorded(path, patient=False):
     scenario = read_scenario(path)
     run = Recorded(scenario, patient)
     run.scenario = scenario
-    return run.go()
+    return run.whole()
 
 
 def journal_of(model):
@@ -218,8 +214,7 @@ class Alone:
                 if kind is None:
                     self.tell(f"{name}: calls {one} and {other} of {calls} fail: {ended}")
         shim.close()
-        told = ", ".join(f"{kind} {number}" for kind, number in sorted(ends.items()))
-        return f"{least} allocations, {sum(ends.values())} {'pairs' if pairs else 'singles'}: {told}; {time.monotonic() - begun:.0f} s"
+        return figures(least, ends, pairs, begun)
 
     def tell(self, text):
         """Something is lost or wrong."""
@@ -234,9 +229,7 @@ def main(words):
         print("words: PARTS", file=sys.stderr)
         return 2
     with tempfile.TemporaryDirectory() as room:
-        library = os.path.join(room, "failing_memory.so")
-        subprocess.run(["cc", "-O2", "-shared", "-fPIC", "-o", library, os.path.join(HERE, "failing_memory.c")], check=True)
-        alone = Alone(library, os.path.abspath(words[0]))
+        alone = Alone(library_in(room), os.path.abspath(words[0]))
         for example, pairs in (("conflict", False), ("bound", False), ("bound", True)):
             for part in Parts(room, example).parts:
                 print(f"{example}, {part[0]}: {alone.go(part, pairs)}", flush=True)

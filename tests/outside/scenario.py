@@ -6,6 +6,7 @@ reason, which is not the product's own line.
 
 import json
 import re
+import sys
 from typing import NamedTuple, Optional
 
 from actions import GREATEST, LEAST, Action, TextFault, fault_of_action, read_action
@@ -164,3 +165,12 @@ def read_scenario(path):
     """The scenario of the file at this path."""
     with open(path, "rb") as file:
         return scenario_of(file.read())
+
+
+def status_of(fault):
+    """The status of a call that a file stops, which can't be read or is no scenario; it is told."""
+    if isinstance(fault, OSError):
+        print(f"file: {fault.filename}", file=sys.stderr)
+        return 2
+    print(f"scenario: {fault}", file=sys.stderr)
+    return 1

@@ -14,7 +14,7 @@ import sys
 
 from players import Player, Wrong
 from report import Request, reply_text, request_text
-from scenario import NoScenario, read_scenario
+from scenario import NoScenario, read_scenario, status_of
 from server import Server
 
 ROUNDS = 1000
@@ -98,6 +98,15 @@ class Run:
             while self.taking_turn(client):
                 pass
 
+    def go(self, schedule, rounds=ROUNDS):
+        """The turns of a schedule, and then rounds until all is over, if they are enough."""
+        for letter, number in schedule:
+            self.turn(letter, number)
+        for _ in range(rounds):
+            if self.is_over():
+                break
+            self.round()
+
     def report(self, watched):
         """The printed report."""
         steps = self.server.steps
@@ -117,12 +126,7 @@ class Run:
 def replay(scenario, watched=False, **kinds):
     """The report of the scenario's replay; `kinds` may name another server or player."""
     run = Run(scenario, **kinds)
-    for letter, number in scenario.schedule:
-        run.turn(letter, number)
-    for _ in range(ROUNDS):
-        if run.is_over():
-            break
-        run.round()
+    run.go(scenario.schedule)
     if not run.is_over():
         raise Wrong("the rounds were not enough")
     return run.report(watched)
@@ -158,12 +162,8 @@ def main(words):
         return 2
     try:
         scenario = read_scenario(words[0])
-    except OSError as fault:
-        print(f"file: {fault.filename}", file=sys.stderr)
-        return 2
-    except NoScenario as fault:
-        print(f"scenario: {fault}", file=sys.stderr)
-        return 1
+    except (OSError, NoScenario) as fault:
+        return status_of(fault)
     text = replay(scenario, watched) if len(words) == 1 else play(scenario, words[2], watched, True)
     sys.stdout.write(text)
     return 0

@@ -25,7 +25,7 @@ sys.path.insert(0, HERE)
 
 import simulate
 import wrong_runs
-from counting import BUILT
+from counting import BUILT, Room
 from first_wrong import Lines, answer, first_wrong, take_journal
 from players import Player, Wrong
 from random_scenario import Maker
@@ -38,26 +38,8 @@ LETTERS = b"0123456789 \n()[]:.#@->?,=abcdeijklmnoprstw\r\xff"
 OTHERS = ("0", "1", "2", "01", "-1", "65535", "65536", "4294967295", "4294967296", "9223372036854775807", "9223372036854775808")
 
 
-class Test:
-    """The program, files for its words, and what passed and failed."""
-
-    def __init__(self, program, room):
-        self.program, self.room = program, room
-        self.passed = self.failed = 0
-
-    def expect(self, given, wanted, name):
-        """One thing tried."""
-        self.passed += given == wanted
-        if given != wanted:
-            self.failed += 1
-            print(f"failed: {name}: got {given!r}, wanted {wanted!r}", flush=True)
-
-    def file(self, name, data):
-        """A file with these bytes."""
-        path = os.path.join(self.room, name)
-        with open(path, "wb") as file:
-            file.write(data)
-        return path
+class Test(Room):
+    """What the program answers to its words."""
 
     def run(self, *words):
         """Status, standard output and standard error."""
@@ -73,7 +55,7 @@ class Test:
         if given != wanted:
             path = self.file(f"failed-{self.failed}", data)
             name = f"{name}: {scenario} {path}"
-        self.expect(given, wanted, name)
+        self.same(given, wanted, name)
 
     def scenario_file(self, chance):
         """A file of a random scenario, and the scenario."""
@@ -90,7 +72,7 @@ def test_examples(test):
         scenario = read_scenario(path)
         for word in ("replay", "play"):
             _, report, _ = test.run(word, path)
-            test.expect(first_wrong(scenario, report), 0, f"first_wrong.py: {word} {path}")
+            test.same(first_wrong(scenario, report), 0, f"first_wrong.py: {word} {path}")
             test.check(path, report, 0, word)
             test_places(test, random.Random(name), path, scenario, report)
 
@@ -104,9 +86,9 @@ def test_places(test, chance, path, scenario, report):
         target = chance.randrange(objects)
         given = test.run("why", path, file, str(target), str(position))
         wanted = "".join(f"{line}\n" for line in why_lines(scenario, accepted, target, position))
-        test.expect(given, (0, wanted.encode(), b""), f"why {path} {target} {position}")
+        test.same(given, (0, wanted.encode(), b""), f"why {path} {target} {position}")
     target, position = chance.choice([(objects, 0), (0, len(accepted) + 1), (65535, 0), (0, 2 ** 32 - 1)])
-    test.expect(test.run("why", path, file, str(target), str(position)), (10, b"", b"range\n"), f"why {path} {target} {position}")
+    test.same(test.run("why", path, file, str(target), str(position)), (10, b"", b"range\n"), f"why {path} {target} {position}")
 
 
 def with_byte(chance, data):
@@ -168,7 +150,7 @@ def test_random(test, rounds, seed):
         path, scenario = test.scenario_file(chance)
         report = report_of(test, chance, path, scenario)
         if place % 10 == 0:
-            test.expect(first_wrong(scenario, report), 0, f"first_wrong.py: --seed {seed}, round {place}")
+            test.same(first_wrong(scenario, report), 0, f"first_wrong.py: --seed {seed}, round {place}")
             test.check(path, report, 0, f"--seed {seed}, round {place}")
             test_places(test, chance, path, scenario, report)
         else:
@@ -208,8 +190,7 @@ def main():
         test_examples(test)
         test_random(test, words.rounds, words.seed)
         test_wrong_runs(test, words.rounds // 6, words.seed)
-        print(f"{test.passed} passed, {test.failed} failed")
-    return 0 if test.failed == 0 else 1
+    return test.close()
 
 
 if __name__ == "__main__":

@@ -46,11 +46,7 @@ ADD_ONE = "reads 0 writes 0 { set @0.0 (@0.0 + 1); }"
 
 
 class Compared(Count):
-    """What passed and what failed, of comparisons too."""
-
-    def same(self, given, wanted, name):
-        """Two things that must be equal."""
-        self.expect(given == wanted, f"{name}: {given!r} in place of {wanted!r}")
+    """What passed and what failed, of calls that must fail too."""
 
     def refuses(self, call, text, name):
         """A call that must raise just this fault of the client."""

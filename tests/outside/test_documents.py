@@ -63,6 +63,7 @@ import sys
 import simulate
 from actions import (GREATEST, LEAST, TextFault, action_text, evaluate, fault_of_action,
                      read_action)
+from counting import Count
 from first_wrong import Lines, answer, first_wrong, take_journal
 from reasons import why_lines
 from report import reply_text, request_of
@@ -326,22 +327,13 @@ def error_texts():
     return sorted(found)
 
 
-class Checker:
+class Checker(Count):
     """Checks blocks, and counts what held."""
 
     def __init__(self):
-        self.passed = 0
-        self.failed = 0
+        super().__init__()
         self.texts = {}
         self.scenarios = {}
-
-    def expect(self, holds, name):
-        """One thing tried."""
-        if holds:
-            self.passed += 1
-        else:
-            self.failed += 1
-            print(f"failed: {name}")
 
     def check_pairs(self, lines, name, second_of):
         """Pairs of lines: of the first one the second is said."""
@@ -602,8 +594,7 @@ def main(paths):
         checker.check_commands(program)
         checker.check_faults()
         checker.check_help()
-    print(f"{checker.passed} passed, {checker.failed} failed")
-    return 0 if checker.failed == 0 else 1
+    return checker.close()
 
 
 if __name__ == "__main__":

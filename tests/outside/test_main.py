@@ -21,7 +21,7 @@ HERE = os.path.dirname(os.path.abspath(__file__))
 ROOT = os.path.normpath(os.path.join(HERE, "..", ".."))
 sys.path.insert(0, HERE)
 
-from counting import program_in
+from counting import Room, program_in
 from programs import free_port
 from scenario import read_scenario
 from witness import text_of as witness_text, witnessed
@@ -41,12 +41,11 @@ RUNS = (("play", FIRST), ("play", FIRST, "--brief"), ("play", FIRST, "--watch"),
         ("check", FIRST, REPORT), ("why", FIRST, REPORT, "0", "1"))
 
 
-class Test:
-    """The program, and what passed and failed."""
+class Test(Room):
+    """How the program ends."""
 
     def __init__(self, program, room):
-        self.program, self.room = program, room
-        self.passed = self.failed = 0
+        super().__init__(program, room)
         self.changes_users = os.geteuid() == 0 and self.runs_as_others()
 
     def runs_as_others(self):
@@ -65,17 +64,7 @@ class Test:
             given = (run.returncode, run.stdout, run.stderr)
         except subprocess.TimeoutExpired:
             given = "no end"
-        self.passed += given == wanted
-        if given != wanted:
-            self.failed += 1
-            print(f"failed: {name}: {words}:\n  got    {given!r}\n  wanted {wanted!r}", flush=True)
-
-    def file(self, name, data):
-        """A file with these bytes."""
-        path = os.path.join(self.room, name)
-        with open(path, "wb") as file:
-            file.write(data)
-        return path
+        self.same(given, wanted, f"{name}: {words}")
 
 
 def test_words(test):
@@ -217,8 +206,7 @@ def test_limits(test):
         test.ends(("replay", FIRST), (5, None, b"out\n"), "a file that may have 100 bytes", stdout=some, preexec_fn=small)
     with open(path, "rb") as some, open(FIRST.replace(".json", ".out"), "rb") as whole:
         wanted = whole.read()[:100]
-        test.passed += (is_front := some.read() == wanted)
-        test.failed += not is_front
+        test.same(some.read(), wanted, "the front of a file that may have 100 bytes")
     test.ends(("replay", FIRST), (0, wanted[:0] + read(FIRST.replace(".json", ".out")), b""), "nothing wrong")
 
 
@@ -247,8 +235,7 @@ def main(words):
         test = Test(copy, room)
         for one in (test_words, test_examples, test_files, test_reports, test_witness, test_outputs, test_limits):
             one(test)
-    print(f"{test.passed} passed, {test.failed} failed")
-    return 0 if test.failed == 0 else 1
+    return test.close()
 
 
 if __name__ == "__main__":

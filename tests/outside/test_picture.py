@@ -22,6 +22,7 @@ import tempfile
 import time
 
 import simulate
+from counting import Count
 from report import read_report
 from scenario import read_scenario, scenario_of
 
@@ -103,18 +104,8 @@ class Browser:
         return subprocess.run(command, capture_output=True, text=True, timeout=240, check=False).stdout
 
 
-class Checker:
+class Checker(Count):
     """Tries things, and counts what held."""
-
-    def __init__(self):
-        self.passed = self.failed = 0
-
-    def expect(self, holds, name):
-        """One thing tried."""
-        self.passed += bool(holds)
-        self.failed += not holds
-        if not holds:
-            print(f"failed: {name}")
 
     def check_page(self, name, text, scenario, browser, folder):
         """The page of one report. Its path."""
@@ -223,8 +214,7 @@ def main(words):
             for name, mark, size in SHOTS:
                 browser.run(pages[name], mark, [f"--window-size={size}",
                                                 f"--screenshot={os.path.join(target, f'picture-{name}.png')}"])
-    print(f"{checker.passed} passed, {checker.failed} failed")
-    return 0 if checker.failed == 0 else 1
+    return checker.close()
 
 
 if __name__ == "__main__":

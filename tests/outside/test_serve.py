@@ -25,7 +25,7 @@ sys.path.insert(1, CLIENTS)
 
 import wire
 from actions import read_action
-from counting import program_in
+from counting import Room, program_in
 from dimboetu import Client, action, obj, request_bytes
 from players import Wrong
 from programs import Between, Fake, Peer, Run, connect, finish, free_port, reset, stop_all
@@ -55,34 +55,17 @@ made 1
 """
 
 
-class Test:
-    """The program under test, a folder for scenarios, and what passed and failed."""
-
-    def __init__(self, program, room):
-        self.program, self.room = program, room
-        self.passed = self.failed = 0
-
-    def expect(self, holds, name):
-        """One thing tried."""
-        self.passed += bool(holds)
-        if not holds:
-            self.failed += 1
-            print(f"failed: {name}", flush=True)
-
-    def same(self, given, wanted, name):
-        """Two things that must be equal."""
-        self.expect(given == wanted, f"{name}:\n  got    {given!r}\n  wanted {wanted!r}")
+class Test(Room):
+    """The program's runs, and what they leave."""
 
     def run(self, *words, **kinds):
         """Starts the program."""
         return Run(self.program, [word if isinstance(word, bytes) else str(word) for word in words], **kinds)
 
-    def file(self, value):
+    def scenario(self, value):
         """A file with this text, or with this value as JSON."""
-        path = os.path.join(self.room, f"{len(os.listdir(self.room))}.json")
-        with open(path, "w", encoding="utf-8") as file:
-            file.write(value if isinstance(value, str) else json.dumps(value))
-        return path
+        text = value if isinstance(value, str) else json.dumps(value)
+        return self.file(f"{len(os.listdir(self.room))}.json", text.encode())
 
     def served(self, path, server, name, is_honest=True):
         """What a server printed, which must have ended with 0 and told a legal journal; else None."""
@@ -172,12 +155,12 @@ def test_examples(test):
                          ("marketplace", None)):
         play(test, example(name), name, wanted)
     steps = (ADD_ONE, "cut", SET_ONE, "poll", "sync", "cut", "cut", ADD_ONE, "cut", "cut", SET_ONE, *["cut"] * 2, ADD_ONE)
-    play(test, test.file(world(*[([0, 1], *steps), ([1], *steps, "quit")] * 4)), "8 clients with 7 cuts: 64 sessions")
+    play(test, test.scenario(world(*[([0, 1], *steps), ([1], *steps, "quit")] * 4)), "8 clients with 7 cuts: 64 sessions")
 
 
 def test_python_client(test):
     """The Python client makes its own actions beside a scripted join, and sees what changes."""
-    path = test.file(world(([0, 1], SET_ONE), ([0], ADD_ONE, "sync", ADD_ONE, "sync", ADD_ONE), objects=((10,), (20,))))
+    path = test.scenario(world(([0, 1], SET_ONE), ([0], ADD_ONE, "sync", ADD_ONE, "sync", ADD_ONE), objects=((10,), (20,))))
     port, changes = free_port(), []
     server, join = test.run("serve", path, port), test.run("join", path, 1, port)
     client = Client(0, 2, 1, (0, 1), lambda *change: changes.append(change))
@@ -232,7 +215,7 @@ def test_python_example(test):
 
 def test_order(test):
     """Sessions are numbered in the order of arrival, and nobody is answered before all are there."""
-    path, port = test.file(world(([0],), ([0],), ([1],))), free_port()
+    path, port = test.scenario(world(([0],), ([0],), ([1],))), free_port()
     server = test.run("serve", path, port)
     peers = []
     for client in (2, 0, 1):
@@ -322,7 +305,7 @@ class Beside:
 
     def __init__(self, test, name):
         self.test, self.name, port = test, name, free_port()
-        self.path = test.file(world(([0],), ([1], "reads 1 writes 1 { set @1.0 (@1.0 + 1); }", "sync")))
+        self.path = test.scenario(world(([0],), ([1], "reads 1 writes 1 { set @1.0 (@1.0 + 1); }", "sync")))
         self.server = test.run("serve", self.path, port)
         self.link = connect(port)
         self.join = test.run("join", self.path, 1, port)
@@ -383,7 +366,7 @@ def test_careless(test):
     """Random requests of careless clients, one at a time: each reply is the stand-in's, byte by byte."""
     plan = world(*[([],)] * 6, objects=((1,), (2,), (3,)), bound=3)
     for seed in range(4):
-        path, port = test.file(plan), free_port()
+        path, port = test.scenario(plan), free_port()
         server, model = test.run("serve", path, port), WireServer(read_scenario(path))
         peers, over = [Peer(port) for _ in range(6)], set()
         for session, request in random_requests(seed, 6, 3, 1):
@@ -409,7 +392,7 @@ def test_careless(test):
 
 def test_reset_in_queue(test):
     """A connection that vanished before it was accepted is a session all the same."""
-    path, port = test.file(world(([0],), ([0],), ([1], SET_ONE))), free_port()
+    path, port = test.scenario(world(([0],), ([0],), ([1], SET_ONE))), free_port()
     server = test.run("serve", path, port)
     first = connect(port)
     server.process.send_signal(signal.SIGSTOP)
@@ -428,7 +411,7 @@ def test_reset_in_queue(test):
 
 def test_lives(test):
     """Lives out of order, a session that a later one ends, and one client's two sessions at once."""
-    path, port = test.file(world(([0], "cut", "cut", "cut"), ([1], SET_ONE))), free_port()
+    path, port = test.scenario(world(([0], "cut", "cut", "cut"), ([1], SET_ONE))), free_port()
     server = test.run("serve", path, port)
     peers = [Peer(port) for _ in range(4)]
     join = test.run("join", path, 1, port)
@@ -449,7 +432,7 @@ def test_lives(test):
 
 def test_lying_result(test):
     """A wrong result is noted, and spreads; the journal is legal, and the honest client goes on by its rules."""
-    path = test.file(world(([0],), ([0], ADD_ONE, "sync"), objects=((5,), (0,))))
+    path = test.scenario(world(([0],), ([0], ADD_ONE, "sync"), objects=((5,), (0,))))
     port = free_port()
     server = test.run("serve", path, port)
     liar, between = Peer(port), Between(port, 1, free=0)
@@ -476,7 +459,7 @@ def test_stolen_numbers(test):
     steps = (ADD_ONE, "sync", ADD_ONE, "sync")
     for name, free, life, told in (("before", 0, 7, ["refused 11 7"]), ("after", len(said(JOIN)), 2,
                                    ["welcome 0 [0=(0)]", "refused 4 0"])):
-        path, port = test.file(world(([0], *steps), ([1],))), free_port()
+        path, port = test.scenario(world(([0], *steps), ([1],))), free_port()
         server = test.run("serve", path, port)
         thief, between = Peer(port), Between(port, 1, free=free)
         join = test.run("join", path, 0, between.port)
@@ -538,7 +521,7 @@ def documented_payloads():
 
 def test_lying_servers(test):
     """Each fault of a reply is 11 with its line; a server that goes while a reply is awaited is 12."""
-    path = test.file(world(([], ADD_ONE, "sync")))
+    path = test.scenario(world(([], ADD_ONE, "sync")))
     rows = [(script, 11, f"reply: {fault}\n") for script, fault in (*LIES, *documented_payloads())]
     rows += [(script, 12, "closed\n") for script in CLOSINGS]
     for group in range(0, len(rows), 16):
@@ -550,7 +533,7 @@ def test_lying_servers(test):
     for script in (("reset",), (WELCOME, "reset")):
         ended = test.run("join", path, 0, Fake(script).port).end()
         test.same(ended, (6, "", "link\n"), "a server whose connection is reset")
-    cut = test.file(world(([], ADD_ONE, "cut", "sync")))
+    cut = test.scenario(world(([], ADD_ONE, "cut", "sync")))
     late = (WELCOME, said(RELAY), NOTED, said(reply_bytes_of("bye")))
     for first, second, wanted in (
             ((WELCOME, b"\x00\x01\x00\x01"), late, (0, "made 1\n", "")), ((WELCOME, b""), (), (12, "", "closed\n")),
@@ -575,7 +558,7 @@ def test_words(test):
     """Words that are none of the command's, and the order of the statuses before anything is connected."""
     first, port = example("first"), free_port()
     missing = os.path.join(test.room, "missing.json")
-    faulty = test.file("[]")
+    faulty = test.scenario("[]")
     wrong_numbers = ("0", "65536", "080", "", "x", "+1", "-1", " 1", "1 ", "1.0", "99999999999999999999", "\u0661")
     rows = [(("serve", *words), 2, SERVE_WORDS) for words in (
         (), (first,), (first, port, 0), *((first, number) for number in wrong_numbers), (missing, 0))]
@@ -590,7 +573,7 @@ def test_words(test):
     rows += [(("join", first, client, port), 10, "range\n") for client in (1, 31, 32, 65535)]
     rows += [(("join", example("conflict"), 2, port), 10, "range\n")]
     for text, line in documented_files():
-        path = test.file(text)
+        path = test.scenario(text)
         rows += [(("serve", path, port), 3, line), (("join", path, 0, port), 3, line)]
     for group in range(0, len(rows), 16):
         runs = [test.run(*words) for words, _, _ in rows[group:group + 16]]
@@ -607,7 +590,7 @@ def test_ports(test):
         run = test.run("serve", path, port)
         test.same(run.end(), (6, "", "link\n"), "a port that is taken")
         test.expect(run.seconds < 3, f"a port that is taken is told at once: {run.seconds:.1f} s")
-        test.same(test.run("serve", test.file("{}"), port).end()[0], 3, "a port that is taken, and a faulty file")
+        test.same(test.run("serve", test.scenario("{}"), port).end()[0], 3, "a port that is taken, and a faulty file")
     port = free_port()
     first = test.run("serve", example("conflict"), port)
     waiting = connect(port)
@@ -684,8 +667,7 @@ def main(words):
             run_all(test)
         finally:
             stop_all()
-    print(f"{test.passed} passed, {test.failed} failed")
-    return 0 if test.failed == 0 else 1
+    return test.close()
 
 
 if __name__ == "__main__":

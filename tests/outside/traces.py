@@ -280,19 +280,20 @@ class Walk:
                   f"object {target} at {position} is not serial")
         self.held.setdefault(target, {})[position] = value
 
+    def read_below(self, target, position, line):
+        """The value of an object that the action of a position reads: what the last writer before it left."""
+        found = self.below(target, position)
+        self.need(found is not None, line, f"object {target} is unknown below {position}")
+        self.need(found[0] >= self.history.last_writer(target, position), line,
+                  f"object {target} below {position} is an old one")
+        return found[1]
+
     def relay(self, request, reply, line):
         """The items are evaluated in order, each below its position; one Done tells the results."""
         results = []
         for position, _, _ in reply.items:
             action = self.history.action(position)
-            values = {}
-            for target in action.reads:
-                found = self.below(target, position)
-                self.need(found is not None, line, f"object {target} is unknown below {position}")
-                self.need(found[0] >= self.history.last_writer(target, position), line,
-                          f"object {target} below {position} is an old one")
-                values[target] = found[1]
-            result = evaluate(action, values)
+            result = evaluate(action, {target: self.read_below(target, position, line) for target in action.reads})
             for target, value in zip(action.writes, result):
                 self.hold(target, position, value, line)
             results.append((position, result))

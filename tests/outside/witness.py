@@ -26,7 +26,7 @@ from random_scenario import scenario_text
 from report import Reply
 from scenario import read_scenario, scenario_of
 from server import Server
-from simulate import ROUNDS, Run
+from simulate import Run
 
 GREATEST = 2 ** 63 - 1
 
@@ -99,12 +99,7 @@ def value_text(value):
 def witnessed(scenario, liar=None, kind=Witness):
     """The run, at its end."""
     run = Run(scenario, type("Lied", (kind,), {"liar": liar}))
-    for letter, number in scenario.schedule:
-        run.turn(letter, number)
-    for _ in range(ROUNDS):
-        if run.is_over():
-            break
-        run.round()
+    run.go(scenario.schedule)
     return run
 
 

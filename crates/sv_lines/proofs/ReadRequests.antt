@@ -23,7 +23,7 @@ use Rattle.sv_text.specs.Reading.{reading}
 use Rattle.sv_text.proofs.StandingAction.{canonical_again}
 use Rattle.sv_journal.specs.Pieces.{bracketed, objects_text, result_text}
 use Rattle.sv_journal.specs.Text.{request_text}
-use Rattle.sv_lines.specs.Reading.{◌>>=◌, either, behind_front, number_read, objects_read, results_read}
+use Rattle.sv_lines.specs.Reading.{◌>>=◌, when_read, behind_front, number_read, objects_read, results_read}
 use Rattle.sv_lines.specs.Asking.{is_plain, join_read, before_arrow, good_action, passed, action_read, submit_read, done_read, plain_read, request_read, asked_read}
 use Rattle.sv_lines.specs.Told.{IsTold, asking_text}
 use Rattle.sv_lines.proofs.Numerals.{front_there, front_is_text, front_stops, number_is_read}
@@ -186,9 +186,9 @@ module _ {B : Type 0} (P : B → Type 0) where
   then_all (Some a) f h = h a refl
   then_all None f h = tt
 
-  either_all : {A : Type 0} (o : Option A) (f : A → Option B) (other : Option B) → ((a : A) → IfSome (f a) P) → IfSome other P → IfSome (either o f other) P
-  either_all (Some a) f other h g = h a
-  either_all None f other h g = g
+  when_read_all : {A : Type 0} (o : Option A) (f : A → Option B) (other : Option B) → ((a : A) → IfSome (f a) P) → IfSome other P → IfSome (when_read o f other) P
+  when_read_all (Some a) f other h g = h a
+  when_read_all None f other h g = g
 
 module _ (shape : Shape) where
   abbrev Asked : Request → Type 0
@@ -213,15 +213,15 @@ module _ (shape : Shape) where
   plain_asked : (text : List ℕ) → IfSome (plain_read text) Asked
   unfolding plain_read
   plain_asked text =
-      either_all Asked (behind_front (codes "poll") text) _ _ (λ r. tt)
-      (either_all Asked (behind_front (codes "leave") text) _ _ (λ r. tt) (either_all Asked (behind_front (codes "end") text) _ None (λ r. tt) tt))
+      when_read_all Asked (behind_front (codes "poll") text) _ _ (λ r. tt)
+      (when_read_all Asked (behind_front (codes "leave") text) _ _ (λ r. tt) (when_read_all Asked (behind_front (codes "end") text) _ None (λ r. tt) tt))
 
   request_asked : (text : List ℕ) → IfSome (request_read shape text) Asked
   unfolding request_read
   request_asked text =
-      either_all Asked (behind_front (codes "join c") text) join_read _ join_asked
-      (either_all Asked (behind_front (codes "submit ") text) (submit_read shape) _ submit_asked
-      (either_all Asked (behind_front (codes "done ") text) done_read (plain_read text) done_asked (plain_asked text)))
+      when_read_all Asked (behind_front (codes "join c") text) join_read _ join_asked
+      (when_read_all Asked (behind_front (codes "submit ") text) (submit_read shape) _ submit_asked
+      (when_read_all Asked (behind_front (codes "done ") text) done_read (plain_read text) done_asked (plain_asked text)))
 
   abbrev Second : ℕ × Request → Type 0
   Second x = IsAsked shape x.1

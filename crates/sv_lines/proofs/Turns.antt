@@ -1,6 +1,6 @@
 -- One turn of the loops that read lists.
 use Rattle.std.proofs.Common.{◌≡◌, ℕ, suc, ◌+◌, ◌-◌, ◌<◌, ◌≤◌, true, false, cond, ℤ, List, [], ◌∷◌, ◌++◌, Some, None, refl, sym, ◌∙◌, arith}
-use Rattle.sv_lines.specs.Reading.{Read, ◌>>=◌, either, behind_front, next_read, joined_by, value_read, values_by}
+use Rattle.sv_lines.specs.Reading.{Read, ◌>>=◌, when_read, behind_front, next_read, joined_by, value_read, values_by}
 
 module _ {A : Type 0} (reader : List ℕ → Read A) (close byte : List ℕ) (turns i : ℕ) (so_far : List A) (text : List ℕ) (total : Read (List A)) where
   pub joined_out : turns ≤ i → joined_by reader close byte (turns - i) so_far text ≡ total → total ≡ None
@@ -34,7 +34,7 @@ module _ (turns i : ℕ) (so_far : List (List ℤ)) (text : List ℕ) (total : R
       sym inv ∙ rw k refl
 
   module _ (lt : i < turns) (inv : values_by (turns - i) so_far text ≡ total) where
-    turn-values : total ≡ either (behind_front (40 ∷ []) text) (λ rest. value_read rest >>= λ v. values_by (turns - (i + 1)) (so_far ++ v.0 ∷ []) v.1) (Some (so_far, text))
+    turn-values : total ≡ when_read (behind_front (40 ∷ []) text) (λ rest. value_read rest >>= λ v. values_by (turns - (i + 1)) (so_far ++ v.0 ∷ []) v.1) (Some (so_far, text))
     turn-values =
         let k : turns - i ≡ suc (turns - (i + 1)) = omega (arith, lt) in
         sym inv ∙ rw k refl

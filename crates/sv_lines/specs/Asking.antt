@@ -10,7 +10,7 @@ use Rattle.sv_text.specs.Tokens.{tokens_of}
 use Rattle.sv_text.specs.Reading.{reading}
 use Rattle.sv_wire.specs.declared.message.Request.{Request}
 use Rattle.sv_wire.specs.declared.message.Request.TheVariants as requests
-use Rattle.sv_lines.specs.Reading.{◌>>=◌, either, behind_front, number_read, objects_read, results_read}
+use Rattle.sv_lines.specs.Reading.{◌>>=◌, when_read, behind_front, number_read, objects_read, results_read}
 
 -- A byte of ASCII that is no line end, and no `>`.
 abbrev pub is_plain : ℕ → Bool
@@ -46,15 +46,15 @@ done_read text = results_read text >>= λ results. Some (requests.Done results.0
 
 unfoldable pub plain_read : List ℕ → Option Request
 plain_read text =
-    either (behind_front (codes "poll") text) (λ _. Some requests.Poll)
-    (either (behind_front (codes "leave") text) (λ _. Some requests.Leave)
-    (either (behind_front (codes "end") text) (λ _. Some requests.End) None))
+    when_read (behind_front (codes "poll") text) (λ _. Some requests.Poll)
+    (when_read (behind_front (codes "leave") text) (λ _. Some requests.Leave)
+    (when_read (behind_front (codes "end") text) (λ _. Some requests.End) None))
 
 unfoldable pub request_read : Shape → List ℕ → Option Request
 request_read shape text =
-    either (behind_front (codes "join c") text) join_read
-    (either (behind_front (codes "submit ") text) (submit_read shape)
-    (either (behind_front (codes "done ") text) done_read (plain_read text)))
+    when_read (behind_front (codes "join c") text) join_read
+    (when_read (behind_front (codes "submit ") text) (submit_read shape)
+    (when_read (behind_front (codes "done ") text) done_read (plain_read text)))
 
 -- The session of a line, and its request.
 unfoldable pub asked_read : Shape → List ℕ → Option (ℕ × Request)

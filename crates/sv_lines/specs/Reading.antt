@@ -29,9 +29,10 @@ abbrev pub seen : {X Y : Type 0} → (X → Y) → Result X Unread → Option Y
 seen view (Ok x) = Some (view x)
 seen view (Err e) = None
 
-abbrev pub either : {A B : Type 0} → Option A → (A → B) → B → B
-either (Some x) f other = f x
-either None f other = other
+-- What was read goes on, or else something other is read.
+abbrev pub when_read : {A B : Type 0} → Option A → (A → B) → B → B
+when_read (Some x) f other = f x
+when_read None f other = other
 
 -- ---- Numbers
 
@@ -73,7 +74,7 @@ behind_front (b ∷ bs) (c ∷ cs) = cond (b == c) (behind_front bs cs) None
 
 -- Whether a list ends behind an element, and what comes next.
 unfoldable pub next_read : List ℕ → List ℕ → List ℕ → Option (Bool × List ℕ)
-next_read close byte text = either (behind_front close text) (λ rest. Some (true, rest)) (behind_front byte text >>= λ rest. Some (false, rest))
+next_read close byte text = when_read (behind_front close text) (λ rest. Some (true, rest)) (behind_front byte text >>= λ rest. Some (false, rest))
 
 -- Elements with a byte between each two, up to the end, in so many turns at most.
 abbrev pub joined_by : {A : Type 0} → (List ℕ → Read A) → List ℕ → List ℕ → ℕ → List A → List ℕ → Read (List A)
@@ -82,7 +83,7 @@ joined_by reader close byte (suc turns) so_far text = reader text >>= λ x. next
     cond y.0 (Some (so_far ++ x.0 ∷ [], y.1)) (joined_by reader close byte turns (so_far ++ x.0 ∷ []) y.1)
 
 abbrev pub listed_by : {A : Type 0} → (List ℕ → Read A) → List ℕ → List ℕ → List ℕ → Read (List A)
-listed_by reader close byte text = either (behind_front close text) (λ rest. Some ([], rest)) (joined_by reader close byte (length text) [] text)
+listed_by reader close byte text = when_read (behind_front close text) (λ rest. Some ([], rest)) (joined_by reader close byte (length text) [] text)
 
 unfoldable pub object_read : List ℕ → Read ObjectId
 object_read text = number_read (2 ^ 16) text >>= λ n. Some (object_numbered n.0, n.1)
@@ -97,7 +98,7 @@ value_read text = listed_by signed_read (41 ∷ []) (44 ∷ []) text
 -- Values, as many as stand there, in so many turns at most.
 abbrev pub values_by : ℕ → List (List ℤ) → List ℕ → Read (List (List ℤ))
 values_by zero so_far text = Some (so_far, text)
-values_by (suc turns) so_far text = either (behind_front (40 ∷ []) text) (λ rest. value_read rest >>= λ v. values_by turns (so_far ++ v.0 ∷ []) v.1) (Some (so_far, text))
+values_by (suc turns) so_far text = when_read (behind_front (40 ∷ []) text) (λ rest. value_read rest >>= λ v. values_by turns (so_far ++ v.0 ∷ []) v.1) (Some (so_far, text))
 
 unfoldable pub values_read : List ℕ → Read (List (List ℤ))
 values_read text = values_by (length text) [] text

@@ -30,9 +30,7 @@ fn are_results(results: &[Done1]) -> bool
     let [first, rest @ ..] = results else {
         return true;
     };
-    first.values.len() <= MOST_READS
-        && are_values(first.values.as_slice())
-        && are_results(rest)
+    first.values.len() <= MOST_READS && are_values(first.values.as_slice()) && are_results(rest)
 }
 
 /// Whether a request is a message that a server takes.
@@ -45,9 +43,7 @@ pub(crate) fn is_message(request: &Request) -> bool
         }
         Request::Submit { action, .. } => check_action(LARGEST, action).is_ok(),
         Request::Done { results } => {
-            1 <= results.len()
-                && results.len() <= MOST_ITEMS
-                && are_results(results.as_slice())
+            1 <= results.len() && results.len() <= MOST_ITEMS && are_results(results.as_slice())
         }
         Request::Poll | Request::Leave => true,
         Request::Bad | Request::End => false,

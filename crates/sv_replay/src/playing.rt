@@ -21,9 +21,7 @@ use sv_client::{Client, MakeFault, Mark, PollFault, TakeFault, Trace};
 use sv_exchange::Exchange;
 use sv_scenario::Step;
 use sv_wire::Request;
-use sv_world::{
-    Action, List, MOST_OUTSTANDING, MOST_PENDING, ObjectId, copy_action, copy_objects,
-};
+use sv_world::{Action, List, MOST_OUTSTANDING, MOST_PENDING, ObjectId, copy_action, copy_objects};
 
 /// A client that plays its script.
 #[derive(Drop)]

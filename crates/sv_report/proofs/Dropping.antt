@@ -2,8 +2,7 @@
 use Rattle.std.proofs.Common.{◌≡◌, ◌+◌, Bool, true, false, List, [], ◌∷◌, ◌++◌, reverse, refl, sym, ap, ◌∙◌, arith}
 use Rattle.std.proofs.lemmas.List.{append-nil}
 use Rattle.sv_journal.specs.declared.entry.Entry.{Entry}
-use Rattle.sv_report.specs.Drops.{drops, dropped_count}
-use Rattle.sv_report.specs.Rows.{drops_after}
+use Rattle.sv_report.specs.Drops.{drops, dropped_count, drops_after}
 use Rattle.sv_report.proofs.Lines.{first_back}
 
 dropped_onto : (es h : List Entry) → dropped_count (reverse es ++ h) ≡ dropped_count h + drops_after h es

@@ -4,6 +4,7 @@ use Rattle.std.specs.Prelude.{◌≡◌, ℕ, ◌+◌, ◌-◌, ◌<◌, ◌≤�
 use Rattle.std.specs.Fmt.{decimal}
 use Rattle.sv_world.specs.declared.world.ObjectId.{ObjectId}
 use Rattle.sv_world.specs.Sets.{write_set}
+use Rattle.sv_world.specs.Limits.{most_sessions}
 use Rattle.sv_journal.specs.declared.entry.Entry.{Entry}
 use Rattle.sv_journal.specs.Pieces.{bracketed}
 use Rattle.sv_pending.specs.Pending.{PendingAction, kept_of}
@@ -24,7 +25,7 @@ numbered first t = map (raised first) t
 
 -- A client that did the events t may do an event, whatever the number of its session is.
 abbrev pub MayDo : Identity → List Event → Event → Type 0
-MayDo who t (events.Join s) = joins t < 64
+MayDo who t (events.Join s) = joins t < most_sessions
 MayDo who t (events.Make action) = MayMake who t action
 MayDo who t events.Poll = MayPoll who t
 MayDo who t events.Leave = MayLeave who t

@@ -23,3 +23,8 @@ drops h e = is_dropped e.reply && is_new_submit (client_of h e.session) (λ k. l
 abbrev pub dropped_count : List Entry → ℕ
 dropped_count [] = 0
 dropped_count (e ∷ h) = if drops h e then suc (dropped_count h) else dropped_count h
+
+-- How many of the entries, in order after h, drop a new Submit.
+abbrev pub drops_after : List Entry → List Entry → ℕ
+drops_after h [] = 0
+drops_after h (e ∷ es) = if drops h e then suc (drops_after (e ∷ h) es) else drops_after (e ∷ h) es

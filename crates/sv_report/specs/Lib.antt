@@ -2,5 +2,4 @@ pub mod Report
 pub mod Again
 pub mod Drops
 pub mod Summary
-pub mod Rows
 pub mod Laws

@@ -1,5 +1,6 @@
 //! The events of a trace, done again by a client.
 ghost use Rattle.std.specs.Prelude.{◌≡◌, ◌∷◌, ◌<◌, true, None, OnOk, OnErr};
+ghost use Rattle.sv_world.specs.Limits.{most_sessions};
 ghost use Rattle.sv_client.specs.declared.trace.Event.TheVariants as events;
 ghost use Rattle.sv_client.specs.Traces.{joins};
 ghost use Rattle.sv_client.specs.Taking.{first_fault_of_reply};
@@ -13,7 +14,7 @@ use sv_wire::Reply;
 use sv_world::{Action, List, ObjectId, copy_action, copy_objects};
 
 fn join_again(client: &mut Client) -> Result<(), AllocError>
-    requires { joins client.old.events < 64 }
+    requires { joins client.old.events < most_sessions }
     ensures who { OnOk result (client.new.who ≡ client.old.who) }
     ensures events { OnOk result (client.new.events ≡ events.Join (joins client.old.events) ∷ client.old.events) }
     ensures err { OnErr result (client.new ≡ client.old) }

@@ -1,7 +1,9 @@
 //! How many actions the clients made.
 ghost use Rattle.std.specs.Prelude.{◌≡◌, ◌≤◌, All, length, reverse};
 ghost use Rattle.sv_client.specs.declared.trace.Trace.{Trace};
+ghost use Rattle.sv_world.specs.Limits.{most_clients};
 ghost use Rattle.sv_client.specs.Traces.{is_make, makes};
+ghost use Rattle.sv_client.specs.Proper.{most_made};
 ghost use Rattle.sv_report.specs.Summary.{made_count};
 
 use sv_client::{Event, Trace};
@@ -27,8 +29,8 @@ fn made_by(events: &[Event]) -> usize
 
 /// How many actions all clients made.
 pub(crate) fn made_in(traces: &[Trace]) -> usize
-    requires few { length traces.now ≤ 32 }
-    requires small { All (λ (L : Trace). makes (reverse L.events) ≤ 65536) traces.now }
+    requires few { length traces.now ≤ most_clients }
+    requires small { All (λ (L : Trace). makes (reverse L.events) ≤ most_made) traces.now }
     ensures { result ≡ made_count traces.now }
 {
     let mut count = 0;

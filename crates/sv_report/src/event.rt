@@ -4,6 +4,7 @@ ghost use Rattle.std.specs.Fmt.{decimal};
 ghost use Rattle.sv_world.specs.declared.world.ObjectId.{ObjectId};
 ghost use Rattle.sv_journal.specs.Pieces.{bracketed};
 ghost use Rattle.sv_client.specs.Traces.{makes, view_of};
+ghost use Rattle.sv_client.specs.Proper.{most_made};
 ghost use Rattle.sv_report.specs.Report.{shown_text};
 ghost use Rattle.sv_report.specs.Again.{MayDo, again, text_of, text_before, text_after};
 
@@ -46,7 +47,7 @@ pub fn append_before(
 
 /// Appends the number of the action that a client makes next.
 fn append_make(client: &Client, out: &mut String) -> Result<(), AllocError>
-    requires { makes client.now.events < 65536 }
+    requires { makes client.now.events < most_made }
     ensures { OnOk result (string_bytes out.new ≡ string_bytes out.old ++ codes "make " ++ decimal (makes client.now.events + 1) ++ codes " kept ") }
 {
     let seq = client.made() + 1;

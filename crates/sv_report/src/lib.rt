@@ -22,3 +22,4 @@ pub use laws::drops_are_outcomes;
 pub use summary::brief;
 pub use values::append_world;
 pub use whole::report;
+pub use written::written_objects;

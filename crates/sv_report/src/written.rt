@@ -1,3 +1,4 @@
+//! The objects that an action writes.
 ghost use Rattle.std.specs.Prelude.{◌≡◌, ◌+◌, ◌<◌, ◌^◌, ◌++◌, map, length, IfOk, OnOk};
 ghost use Rattle.sv_world.specs.declared.world.ObjectId.{ObjectId};
 ghost use Rattle.sv_world.specs.Sets.{at_mask, write_set};
@@ -6,7 +7,7 @@ use std::alloc::{AllocError, Global};
 use sv_world::{Action, ObjectId, is_in_mask};
 
 /// The objects that an action writes, in order.
-pub(crate) fn written_objects(alloc: Global, action: &Action) -> Result<Vec<ObjectId>, AllocError>
+pub fn written_objects(alloc: Global, action: &Action) -> Result<Vec<ObjectId>, AllocError>
     ensures { IfOk result (λ v. map (λ (o : ObjectId). o.0) v.items ≡ write_set action.now) }
 {
     let mut written = Vec::new(alloc);

@@ -30,10 +30,16 @@ impl Core {
         ensures holds { Holds (core_rules self.now) h session request.now result }
     {
         if self.is_over(session) {
-            return Decision::Refuse { refusal: Refusal::Over, detail: 0 };
+            return Decision::Refuse {
+                refusal: Refusal::Over,
+                detail: 0,
+            };
         }
         if !self.has_more(session) {
-            return Decision::Refuse { refusal: Refusal::TooManyRequests, detail: 0 };
+            return Decision::Refuse {
+                refusal: Refusal::TooManyRequests,
+                detail: 0,
+            };
         }
         self.decide_open(session, request)
     }
@@ -48,7 +54,10 @@ impl Core {
         ensures holds { Holds (core_rules self.now) h session request.now result }
     {
         match request {
-            Request::Bad => Decision::Refuse { refusal: Refusal::Malformed, detail: 0 },
+            Request::Bad => Decision::Refuse {
+                refusal: Refusal::Malformed,
+                detail: 0,
+            },
             Request::Join {
                 client,
                 life,
@@ -72,7 +81,10 @@ impl Core {
         ensures holds { Holds (core_rules self.now) h session (requests.Join client life interest.now) result }
     {
         if self.is_live(session) {
-            return Decision::Refuse { refusal: Refusal::AlreadyJoined, detail: 0 };
+            return Decision::Refuse {
+                refusal: Refusal::AlreadyJoined,
+                detail: 0,
+            };
         }
         if client.0 >= MOST_CLIENTS {
             return Decision::Refuse {
@@ -94,7 +106,10 @@ impl Core {
                 life,
             }
         } else {
-            Decision::Refuse { refusal: Refusal::BadInterest, detail: 0 }
+            Decision::Refuse {
+                refusal: Refusal::BadInterest,
+                detail: 0,
+            }
         }
     }
 
@@ -118,7 +133,10 @@ impl Core {
         ensures holds { Holds (core_rules self.now) h session request.now result }
     {
         let Some(client) = self.client_of(session) else {
-            return Decision::Refuse { refusal: Refusal::NotJoined, detail: 0 };
+            return Decision::Refuse {
+                refusal: Refusal::NotJoined,
+                detail: 0,
+            };
         };
         match request {
             Request::Submit { seq, action } => self.decide_submit(session, client, *seq, action),
@@ -221,7 +239,10 @@ impl Core {
         ensures holds { Holds (core_rules self.now) h session (requests.Done results.now) result }
     {
         if self.is_bad_done(session, results.as_slice()) {
-            Decision::Refuse { refusal: Refusal::BadResults, detail: 0 }
+            Decision::Refuse {
+                refusal: Refusal::BadResults,
+                detail: 0,
+            }
         } else {
             Decision::Note
         }

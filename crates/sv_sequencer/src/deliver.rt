@@ -266,13 +266,7 @@ impl Core {
         ensures err { OnErr result (Remained self.old self.new h) }
     {
         let action = copy_action(self.alloc, action)?;
-        let relayed = take_in(
-            &mut self.queue,
-            &mut self.clients,
-            session,
-            id,
-            action,
-        )?;
+        let relayed = take_in(&mut self.queue, &mut self.clients, session, id, action)?;
         let commit = self.queue.commit();
         deliver(&mut self.queue, &relayed, session);
         let answer = answer_of(id.seq, commit, relayed);

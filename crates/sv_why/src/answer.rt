@@ -1,3 +1,4 @@
+//! Why an object has its value.
 use sv_world::{List, Value};
 
 /// Why an object has its value at a position.

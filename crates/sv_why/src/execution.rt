@@ -1,12 +1,12 @@
 //! Executing one action on a whole world.
-ghost use Rattle.std.specs.Prelude.{◌≡◌, ◌+◌, ◌^◌, ◌<◌, [], ◌++◌, length, map, slice_index_or, IfOk, OnOk};
+ghost use Rattle.std.specs.Prelude.{◌≡◌, [], map, slice_index_or, IfOk, OnOk};
 ghost use Rattle.sv_world.specs.declared.world.ObjectId.{ObjectId};
-ghost use Rattle.sv_world.specs.Sets.{at_mask, write_set};
 ghost use Rattle.sv_eval.specs.Serial.{put_all, values_at, world_after};
 
 use std::alloc::{AllocError, Global};
 use sv_eval::eval;
-use sv_world::{Action, List, ObjectId, Value, copy_value, is_in_mask};
+use sv_report::written_objects;
+use sv_world::{Action, List, ObjectId, Value, copy_value};
 
 /// An object's value, without numbers where the object is beyond the world.
 pub(crate) fn value_of(
@@ -35,36 +35,6 @@ fn values_at(
         values.push(value_of(alloc, world, *object)?)?;
     }
     Ok(List::from_vec(values))
-}
-
-/// Adds those of the reads, whose slots begin with `slot`, that the mask has.
-fn add_written(
-    mask: u16,
-    slot: usize,
-    reads: &[ObjectId],
-    written: &mut Vec<ObjectId>,
-) -> Result<(), AllocError>
-    requires { slot + length reads.now < 2 ^ 64 }
-    ensures { OnOk result (map (λ (o : ObjectId). o.0) written.new.items
-        ≡ map (λ (o : ObjectId). o.0) written.old.items ++ at_mask mask slot (map (λ (o : ObjectId). o.0) reads.now)) }
-{
-    let [object, rest @ ..] = reads else {
-        return Ok(());
-    };
-    if is_in_mask(mask, slot) {
-        written.push(*object)?;
-        return add_written(mask, slot + 1, rest, written);
-    }
-    add_written(mask, slot + 1, rest, written)
-}
-
-/// The objects that an action writes, in order.
-fn written_objects(alloc: Global, action: &Action) -> Result<Vec<ObjectId>, AllocError>
-    ensures { IfOk result (λ written. map (λ (o : ObjectId). o.0) written.items ≡ write_set action.now) }
-{
-    let mut written = Vec::new(alloc);
-    add_written(action.mask, 0, action.reads.as_slice(), &mut written)?;
-    Ok(written)
 }
 
 /// Puts values on objects, one on each, in order.

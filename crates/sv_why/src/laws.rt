@@ -1,3 +1,4 @@
+//! A law of what a value comes from.
 ghost use Rattle.std.specs.Prelude.{◌≡◌, ℕ, ℤ, List, [], slice_index_or};
 ghost use Rattle.sv_world.specs.declared.action.Action.{Action};
 ghost use Rattle.sv_eval.specs.Serial.{serial_world};

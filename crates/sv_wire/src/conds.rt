@@ -10,7 +10,11 @@ use crate::nodes::{CondKind, cond_node};
 use sv_world::{Comparison, Connective, Node};
 
 #[tactic(auto, using(crate::proofs::Flat::compare_appended))]
-fn compare_next(reader: &mut BodyReader<'_>, depth: u8, comparison: Comparison) -> Result<(), ReadFault>
+fn compare_next(
+    reader: &mut BodyReader<'_>,
+    depth: u8,
+    comparison: Comparison,
+) -> Result<(), ReadFault>
     ensures gives { Appends cond_spelled (compare_from (λ n rest. expr_from depth n rest) comparison) reader.old result reader.new }
     ensures few { OnOk result (reader.new.nodes ≤ most_nodes) }
 {
@@ -21,7 +25,11 @@ fn compare_next(reader: &mut BodyReader<'_>, depth: u8, comparison: Comparison) 
 
 #[cycle(conds)]
 #[tactic(auto, using(crate::proofs::Flat::join_appended))]
-fn join_next(reader: &mut BodyReader<'_>, depth: u8, connective: Connective) -> Result<(), ReadFault>
+fn join_next(
+    reader: &mut BodyReader<'_>,
+    depth: u8,
+    connective: Connective,
+) -> Result<(), ReadFault>
     ensures gives { Appends cond_spelled (join_from (λ n rest. cond_from depth n rest) connective) reader.old result reader.new }
     ensures few { OnOk result (reader.new.nodes ≤ most_nodes) }
 {

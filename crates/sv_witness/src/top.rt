@@ -24,11 +24,7 @@ fn is_within(clients: usize, liar: Option<u16>) -> bool
 }
 
 /// The lines of the run that is asked for. They are whole before any of them is printed.
-fn text_for<F: Files>(
-    alloc: Global,
-    asked: Witnessing<'_>,
-    files: &mut F,
-) -> Result<String, Ending>
+fn text_for<F: Files>(alloc: Global, asked: Witnessing<'_>, files: &mut F) -> Result<String, Ending>
     ensures made { IsMade (IsText (asked_by asked.entry) (F.contents files.old asked.entry.file.now)) (EndsEarly (asked_by asked.entry) (F.contents files.old asked.entry.file.now)) result }
     ensures raises { (k : ℕ) → Raises (counts (F.faults files.old) 0 0 k) (counts (F.faults files.new) 0 0 k) (ending_of result) }
     ensures sure { F.sure files.old asked.entry.file.now → result ≢ Err Ending.File }

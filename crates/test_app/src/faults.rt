@@ -1,14 +1,13 @@
 //! Files, outputs, links and threads that fail.
 
-use crate::calls::{Printed, answers, called, held, is_answer, words};
-use crate::texts::*;
+use crate::calls::{Desk, called_well, desk_of};
 use std::alloc::{AllocError, Global};
 use std::sync::Wait;
 use std::test::Fail;
 use std::thread::Threads;
-use sv_app::run;
-use sv_bytes::MemSink;
 use sv_link::{FewCrew, OpenGate, PipeNet, ThreadCrew};
+use test_calls::examples::{FIRST, FIRST_REPORT};
+use test_calls::Printed;
 
 /// What has a call that fails.
 #[derive(Clone, Copy)]
@@ -28,7 +27,6 @@ fn played<R: Threads + Wait + Sync>(
     failing: Failing,
     call: u64,
 ) -> Result<Printed, AllocError> {
-    let mut files = held(alloc, FIRST)?;
     let mut net = PipeNet::new(alloc, rt);
     match failing {
         Failing::Net => net.fail_at(call)?,
@@ -36,10 +34,8 @@ fn played<R: Threads + Wait + Sync>(
         Failing::ClientEnd => net.fail_client_at(call)?,
         Failing::Settling => net.change_at(call)?,
     }
-    let mut crew = ThreadCrew::new(alloc);
-    called(
-        rt, alloc, "play a", &mut files, &mut net, &mut crew, &OpenGate,
-    )
+    let desk = Desk::new(alloc, FIRST, net, ThreadCrew::new(alloc))?;
+    desk.called(rt, alloc, "play a", &OpenGate)
 }
 
 /// Whether all is printed, or else the run ends with status 6 and nothing printed; None where neither is so.
@@ -50,9 +46,9 @@ fn is_whole<R: Threads + Wait + Sync>(
     call: u64,
 ) -> Result<Option<bool>, AllocError> {
     let printed = played(rt, alloc, failing, call)?;
-    let found = if printed.is(0, FIRST_REPORT, b"") {
+    let found = if printed.has(0, FIRST_REPORT, "") {
         Some(true)
-    } else if printed.is(6, b"", b"link\n") {
+    } else if printed.has(6, "", "link\n") {
         Some(false)
     } else {
         None
@@ -101,30 +97,28 @@ fn refused<R: Threads + Wait + Sync>(
     alloc: Global,
     start: usize,
 ) -> Result<Printed, AllocError> {
-    let mut files = held(alloc, FIRST)?;
-    let mut net = PipeNet::new(alloc, rt);
-    let mut crew = FewCrew::new(alloc, start);
-    called(
-        rt, alloc, "play a", &mut files, &mut net, &mut crew, &OpenGate,
-    )
+    let crew = FewCrew::new(alloc, start);
+    let desk = Desk::new(alloc, FIRST, PipeNet::new(alloc, rt), crew)?;
+    desk.called(rt, alloc, "play a", &OpenGate)
 }
 
 #[test]
 fn refused_starts_are_told(rt: HostRuntime) -> Result<(), Fail> {
     for start in 0..2 {
-        let printed = refused(&rt, rt.alloc(), start);
-        assert!(rt; is_answer(printed?, 7, b"", b"start\n"));
+        let printed = refused(&rt, rt.alloc(), start)?;
+        assert!(rt; printed.is(7, "", "start\n"));
     }
     // There are two jobs.
-    let printed = refused(&rt, rt.alloc(), 2);
-    assert!(rt; is_answer(printed?, 0, FIRST_REPORT, b""));
+    let printed = refused(&rt, rt.alloc(), 2)?;
+    assert!(rt; printed.is(0, FIRST_REPORT, ""));
     Ok(())
 }
 
 #[test]
 fn unknown_files_are_told(rt: HostRuntime) -> Result<(), Fail> {
     for line in ["replay b", "play b", "play b --brief", "play b --watch"] {
-        assert!(rt; answers(&rt, rt.alloc(), line, FIRST, 4, b"", b"file: b\n")?);
+        let printed = called_well(&rt, rt.alloc(), line, FIRST, &OpenGate)?;
+        assert!(rt; printed.is(4, "", "file: b\n"));
     }
     Ok(())
 }
@@ -135,19 +129,17 @@ fn cut_in_the_middle<R: Threads + Wait + Sync>(
     alloc: Global,
     line: &str,
 ) -> Result<Printed, AllocError> {
-    let mut files = held(alloc, FIRST)?;
-    files.give_at_most(9);
-    files.fail_at(3)?;
-    let mut net = PipeNet::new(alloc, rt);
-    let mut crew = ThreadCrew::new(alloc);
-    called(rt, alloc, line, &mut files, &mut net, &mut crew, &OpenGate)
+    let mut desk = desk_of(rt, alloc, FIRST)?;
+    desk.files.give_at_most(9);
+    desk.files.fail_at(3)?;
+    desk.called(rt, alloc, line, &OpenGate)
 }
 
 #[test]
 fn files_that_fail_in_the_middle_are_told(rt: HostRuntime) -> Result<(), Fail> {
     for line in ["replay a", "play a"] {
-        let printed = cut_in_the_middle(&rt, rt.alloc(), line);
-        assert!(rt; is_answer(printed?, 4, b"", b"file: a\n"));
+        let printed = cut_in_the_middle(&rt, rt.alloc(), line)?;
+        assert!(rt; printed.is(4, "", "file: a\n"));
     }
     Ok(())
 }
@@ -159,27 +151,19 @@ fn written_in_part<R: Threads + Wait + Sync>(
     line: &str,
     call: u64,
 ) -> Result<Printed, AllocError> {
-    let words = words(alloc, line)?;
-    let mut files = held(alloc, FIRST)?;
-    let mut err = MemSink::with_room(alloc, 4096)?;
-    let mut out = MemSink::with_room(alloc, 4096)?;
-    out.take_at_most(10);
-    out.fail_at(call)?;
-    let mut net = PipeNet::new(alloc, rt);
-    let mut crew = ThreadCrew::new(alloc);
-    let status = run(
-        rt, alloc, &words, &mut files, &mut net, &mut crew, &OpenGate, &mut out, &mut err,
-    );
-    Ok(Printed { status, out, err })
+    let mut desk = desk_of(rt, alloc, FIRST)?;
+    desk.printed.out.take_at_most(10);
+    desk.printed.out.fail_at(call)?;
+    desk.called(rt, alloc, line, &OpenGate)
 }
 
 #[test]
 fn failing_outputs_are_told(rt: HostRuntime) -> Result<(), Fail> {
     for line in ["replay a", "play a"] {
-        let printed = written_in_part(&rt, rt.alloc(), line, 1);
-        assert!(rt; is_answer(printed?, 5, b"", b"out\n"));
-        let printed = written_in_part(&rt, rt.alloc(), line, 2);
-        assert!(rt; is_answer(printed?, 5, b"journal 5\n", b"out\n"));
+        let printed = written_in_part(&rt, rt.alloc(), line, 1)?;
+        assert!(rt; printed.is(5, "", "out\n"));
+        let printed = written_in_part(&rt, rt.alloc(), line, 2)?;
+        assert!(rt; printed.is(5, "journal 5\n", "out\n"));
     }
     Ok(())
 }

@@ -1,24 +1,22 @@
 //! The scenarios of the folder examples/, replayed and played.
 
-use crate::calls::{Printed, answers, called_well};
-use crate::examples::*;
+use crate::calls::called_well;
 use crate::plays::called_over_tcp;
+use crate::texts::GREAT_TOTALS_BRIEF;
 use std::alloc::{AllocError, Global};
 use std::str;
 use std::sync::Wait;
 use std::test::Fail;
 use std::thread::Threads;
 use sv_link::OpenGate;
+use test_calls::Printed;
+use test_calls::examples::*;
 
 /// Words, the scenario, the status, and the two outputs.
 type Row<'a> = (&'a str, &'a str, u8, &'a str, &'a str);
 
-/// The sums of the opening world, one of which is no number of 64 bits.
-const GREAT_TOTALS_BRIEF: &str =
-    "clients 1\nsessions 1\nobjects 2\nmade 0\naccepted 0\ndropped 0\ncommit 0\ntotal 0: 18446744073709551614\ntotal 1: -2\n";
-
 /// Runs that print the same at each call.
-const ROWS: [Row<'static>; 27] = [
+const ROWS: [Row<'static>; 24] = [
     ("replay a", FIRST, 0, FIRST_REPORT, ""),
     ("replay a", EMPTY_SCRIPT, 0, EMPTY_SCRIPT_REPORT, ""),
     ("replay a", CONFLICT, 0, CONFLICT_REPORT, ""),
@@ -52,9 +50,6 @@ const ROWS: [Row<'static>; 27] = [
     ),
     ("replay a", ORIGIN_TOO_FAR, 3, "", ORIGIN_TOO_FAR_LINE),
     ("play a --brief", GREAT_TOTALS, 0, GREAT_TOTALS_BRIEF, ""),
-    ("play a", FIRST, 0, FIRST_REPORT, ""),
-    ("play a", EMPTY_SCRIPT, 0, EMPTY_SCRIPT_REPORT, ""),
-    ("play a", UNKNOWN_VIEW, 0, UNKNOWN_VIEW_REPORT, ""),
     ("play a", SIXTEEN_READS, 0, SIXTEEN_READS_REPORT, ""),
     ("play a", NO_SUCH_OBJECT, 3, "", NO_SUCH_OBJECT_LINE),
     ("play a", SEVENTEEN_READS, 3, "", SEVENTEEN_READS_LINE),
@@ -63,17 +58,8 @@ const ROWS: [Row<'static>; 27] = [
 #[test]
 fn examples_print_what_stands_beside_them(rt: HostRuntime) -> Result<(), Fail> {
     for (line, text, status, out, err) in ROWS {
-        assert!(rt;
-            answers(
-                &rt,
-                rt.alloc(),
-                line,
-                text,
-                status,
-                out.as_bytes(),
-                err.as_bytes()
-            )?
-        );
+        let printed = called_well(&rt, rt.alloc(), line, text, &OpenGate)?;
+        assert!(rt; printed.is(status, out, err));
     }
     Ok(())
 }
@@ -132,9 +118,9 @@ fn is_market(printed: Printed) -> bool {
 
 #[test]
 fn the_marketplace_makes_and_loses_nothing(rt: HostRuntime) -> Result<(), Fail> {
-    let printed = called_well(&rt, rt.alloc(), "play a --brief", MARKETPLACE, &OpenGate);
-    assert!(rt; is_market(printed?));
-    let printed = called_over_tcp(&rt, rt.alloc(), "play a --brief", MARKETPLACE);
-    assert!(rt; is_market(printed?));
+    let printed = called_well(&rt, rt.alloc(), "play a --brief", MARKETPLACE, &OpenGate)?;
+    assert!(rt; is_market(printed));
+    let printed = called_over_tcp(&rt, rt.alloc(), "play a --brief", MARKETPLACE)?;
+    assert!(rt; is_market(printed));
     Ok(())
 }

@@ -1,13 +1,21 @@
 //! What the checker answers to words, files and outputs.
-use crate::calls::{called, files};
-use crate::texts::{CONFLICT_WHY, FIRST, LOOKS_WHY};
+use crate::calls::{Audit, FILES, called};
 use std::alloc::{AllocError, Global};
 use std::test::Fail;
 use sv_bytes::MemFiles;
+use test_calls::examples::FIRST;
+use test_calls::{Cut, answered, files, is_cut_short};
 
 const CHECK_WORDS: &str = "words: check SCENARIO REPORT\n";
 
 const WHY_WORDS: &str = "words: why SCENARIO REPORT OBJECT POSITION\n";
+
+/// Why object 0 of the second scenario has its value at position 2.
+const CONFLICT_WHY: &str =
+    "1 c0.1 reads 0 writes 0 { set @0.0 (@0.0 * 2); }\n2 c1.1 reads 0 writes 0 { set @0.0 (@0.0 + 1); }\nvalue 0=(21)\n";
+
+/// Why object 1 of the third scenario has its value at position 3.
+const LOOKS_WHY: &str = "3 c0.3 reads 1 writes 1 { set @1.0 (@1.0 + 1); }\nvalue 1=(21)\n";
 
 /// A line of words, and the status with both outputs.
 const ROWS: [(&str, u8, &str, &str); 38] = [
@@ -78,7 +86,7 @@ const ROWS: [(&str, u8, &str, &str); 38] = [
 #[test]
 fn words_are_answered(rt: HostRuntime) -> Result<(), Fail> {
     for (line, status, out, err) in ROWS {
-        let printed = called(rt.alloc(), line, files(rt.alloc())?, &[])?;
+        let printed = called(rt.alloc(), line)?;
         assert!(&rt; printed.is(status, out, err), "{line}");
     }
     Ok(())
@@ -86,7 +94,7 @@ fn words_are_answered(rt: HostRuntime) -> Result<(), Fail> {
 
 /// Files whose read of this number fails.
 fn failing(alloc: Global, call: u64) -> Result<MemFiles, AllocError> {
-    let mut files = files(alloc)?;
+    let mut files = files(alloc, &FILES)?;
     files.fail_at(call)?;
     Ok(files)
 }
@@ -104,7 +112,7 @@ fn the_file_whose_reading_failed_is_named(rt: HostRuntime) -> Result<(), Fail> {
     ];
     for (call, err) in named {
         let files = failing(rt.alloc(), call)?;
-        let printed = called(rt.alloc(), "check first.json first.out", files, &[])?;
+        let printed = answered::<Audit>(rt.alloc(), "check first.json first.out", files)?;
         assert!(&rt; printed.is(4, "", err), "call {call}");
     }
     Ok(())
@@ -112,16 +120,18 @@ fn the_file_whose_reading_failed_is_named(rt: HostRuntime) -> Result<(), Fail> {
 
 #[test]
 fn failing_outputs_are_told(rt: HostRuntime) -> Result<(), Fail> {
-    let printed = called(
-        rt.alloc(),
+    for line in [
         "check first.json first.out",
-        files(rt.alloc())?,
-        &[1],
-    )?;
-    assert!(&rt; printed.is(5, "", "out\n"), "check");
-    let why = "why conflict.json conflict.out 0 2";
-    let printed = called(rt.alloc(), why, files(rt.alloc())?, &[1])?;
-    assert!(&rt; printed.is(5, "", "out\n"), "why");
+        "why conflict.json conflict.out 0 2",
+    ] {
+        let files = files(rt.alloc(), &FILES)?;
+        let cut = Cut {
+            step: 1_000,
+            call: 1,
+        };
+        let is_so = is_cut_short::<Audit>(rt.alloc(), line, files, cut, "")?;
+        assert!(&rt; is_so, "{line}");
+    }
     Ok(())
 }
 
@@ -136,14 +146,19 @@ fn too_long(alloc: Global) -> Result<Vec<u8>, AllocError> {
     Ok(bytes)
 }
 
-#[test]
-fn too_long_reports_have_no_line(rt: HostRuntime) -> Result<(), Fail> {
-    let mut files = MemFiles::new(rt.alloc());
-    files.add("first.json", FIRST.as_bytes())?;
-    let bytes = too_long(rt.alloc())?;
+/// The first scenario, and a report that is too long.
+fn with_too_long(alloc: Global) -> Result<MemFiles, AllocError> {
+    let mut files = files(alloc, &[("first.json", FIRST)])?;
+    let bytes = too_long(alloc)?;
     files.add("long", &bytes)?;
     drop(bytes);
-    let printed = called(rt.alloc(), "check first.json long", files, &[])?;
+    Ok(files)
+}
+
+#[test]
+fn too_long_reports_have_no_line(rt: HostRuntime) -> Result<(), Fail> {
+    let files = with_too_long(rt.alloc())?;
+    let printed = answered::<Audit>(rt.alloc(), "check first.json long", files)?;
     assert!(&rt; printed.is(9, "", "wrong line 0\n"));
     Ok(())
 }

@@ -8,6 +8,7 @@ use std::sync::Wait;
 use std::test::Fail;
 use std::thread::Threads;
 use sv_door::{PipeDoor, TcpDoor};
+use test_calls::examples::FIRST;
 
 /// A scenario, and the programs that play it.
 struct Meeting {
@@ -19,7 +20,7 @@ struct Meeting {
 const MEETINGS: &[Meeting] = &[
     // One client adds 1 to an object, waits for the result and looks at it.
     Meeting {
-        scenario: r#"{"attrs":1,"objects":[[5]],"bound":4,"clients":[{"interest":[0],"steps":[{"act":"reads 0 writes 0 { set @0.0 (@0.0 + 1); }"},"sync",{"show":[0]}]}]}"#,
+        scenario: FIRST,
         server: Call {
             line: "serve a",
             prints: Prints::All(

@@ -3,14 +3,11 @@ use std::alloc::{AllocError, Global};
 use std::sync::Wait;
 use std::thread;
 use std::thread::{Scope, Threads};
-use sv_bytes::{MemFiles, MemSink};
 use sv_door::Door;
 use sv_join::run_join;
 use sv_link::{OpenGate, ThreadCrew};
 use sv_serve::run_serve;
-
-/// Room for the longest output.
-const ROOM: usize = 8_192;
+use test_calls::{Printed, held, words};
 
 /// What a program prints.
 #[derive(Clone, Copy)]
@@ -48,19 +45,9 @@ pub struct Program<D> {
     pub door: D,
 }
 
-/// What a program printed on its two outputs, and its status.
-#[derive(Drop)]
-struct Printed {
-    status: u8,
-    out: MemSink,
-    err: MemSink,
-}
-
-fn words(alloc: Global, line: &str, port: u16) -> Result<Vec<String>, AllocError> {
-    let mut words = Vec::new(alloc);
-    for word in line.split_whitespace() {
-        words.push(String::from_str(alloc, word)?)?;
-    }
+/// A program's words, with its port as the last one.
+fn words_with(alloc: Global, line: &str, port: u16) -> Result<Vec<String>, AllocError> {
+    let mut words = words(alloc, line)?;
     let mut last = String::new(alloc);
     write!(last, "{port}")?;
     words.push(last)?;
@@ -77,17 +64,10 @@ fn is_well(printed: Printed, prints: Prints) -> bool {
 }
 
 impl<D: Door> Program<D> {
-    fn files(&self) -> Result<MemFiles, AllocError> {
-        let mut files = MemFiles::new(self.alloc);
-        files.add("a", self.scenario.as_bytes())?;
-        Ok(files)
-    }
-
     fn served<R: Threads + Wait + Sync>(&mut self, rt: &R) -> Result<Printed, AllocError> {
-        let words = words(self.alloc, self.call.line, self.port)?;
-        let mut files = self.files()?;
-        let mut out = MemSink::with_room(self.alloc, ROOM)?;
-        let mut err = MemSink::with_room(self.alloc, ROOM)?;
+        let words = words_with(self.alloc, self.call.line, self.port)?;
+        let mut files = held(self.alloc, self.scenario)?;
+        let mut printed = Printed::nothing(self.alloc)?;
         let mut crew = ThreadCrew::new(self.alloc);
         let status = run_serve(
             rt,
@@ -97,26 +77,27 @@ impl<D: Door> Program<D> {
             &mut self.door,
             &mut crew,
             &OpenGate,
-            &mut out,
-            &mut err,
+            &mut printed.out,
+            &mut printed.err,
         );
-        Ok(Printed { status, out, err })
+        printed.status = status;
+        Ok(printed)
     }
 
     fn joined(&mut self) -> Result<Printed, AllocError> {
-        let words = words(self.alloc, self.call.line, self.port)?;
-        let mut files = self.files()?;
-        let mut out = MemSink::with_room(self.alloc, ROOM)?;
-        let mut err = MemSink::with_room(self.alloc, ROOM)?;
+        let words = words_with(self.alloc, self.call.line, self.port)?;
+        let mut files = held(self.alloc, self.scenario)?;
+        let mut printed = Printed::nothing(self.alloc)?;
         let status = run_join(
             self.alloc,
             &words,
             &mut files,
             &mut self.door,
-            &mut out,
-            &mut err,
+            &mut printed.out,
+            &mut printed.err,
         );
-        Ok(Printed { status, out, err })
+        printed.status = status;
+        Ok(printed)
     }
 }
 

@@ -2,10 +2,10 @@
 ghost use Rattle.sv_scenario.specs.Limits.{IsGoodScenario};
 
 use crate::calls::{scenario_in, wrong_line};
-use crate::examples::*;
 use std::alloc::{AllocError, Global};
 use std::test::Fail;
 use sv_scenario::Scenario;
+use test_calls::examples::*;
 
 /// Scenarios, the reports of their replays, and at how many places of each a byte is changed.
 const REPORTS: [(&str, &str, usize); 15] = [

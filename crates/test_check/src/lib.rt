@@ -6,8 +6,6 @@ mod bytes;
 #[cfg(test)]
 mod calls;
 #[cfg(test)]
-mod examples;
-#[cfg(test)]
 mod lines;
 #[cfg(test)]
 mod plays;

@@ -1,8 +1,8 @@
 //! A report cut at every byte, and with lines changed, doubled, dropped and moved.
 use crate::calls::has_line;
-use crate::examples::{CONFLICT, CONFLICT_REPORT, FIRST, FIRST_REPORT};
 use std::alloc::{AllocError, Global};
 use std::test::Fail;
+use test_calls::examples::{CONFLICT, CONFLICT_REPORT, FIRST, FIRST_REPORT};
 
 /// The number of the line that comes after the first bytes of a text, where a line without its end is wrong itself.
 fn next_line(text: &[u8]) -> u32 {

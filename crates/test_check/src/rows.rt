@@ -1,7 +1,9 @@
 //! Rows of the report of the first scenario, changed by hand, with the first wrong line, 0 for none.
 use crate::calls::has_line;
-use crate::examples::{BOUND, CONFLICT, CONFLICT_REPORT, FIRST, FIRST_REPORT, TRADE, TRADE_REPORT};
 use std::test::Fail;
+use test_calls::examples::{
+    BOUND, CONFLICT, CONFLICT_REPORT, FIRST, FIRST_REPORT, TRADE, TRADE_REPORT,
+};
 
 /// What was changed, the text, and its first wrong line.
 const ROWS: [(&str, &str, u32); 33] = [

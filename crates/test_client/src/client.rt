@@ -48,29 +48,38 @@ fn play(alloc: Global, client: &mut Client, steps: &[Step]) -> Result<(), Fail>
     Ok(())
 }
 
-/// The letter of an event, and the session that it names, if any.
-fn mark(event: &Event) -> (char, u16) {
-    match event {
-        Event::Join(session) => ('j', *session),
-        Event::Make(_) => ('m', 0),
-        Event::Poll => ('p', 0),
-        Event::Leave => ('l', 0),
-        Event::Got(session, _) => ('g', *session),
-        Event::Cut => ('c', 0),
-        Event::Quit => ('q', 0),
-        Event::Show(_) => ('s', 0),
+/// The events of a trace in order: each one's letter, with the session that it names, if any.
+fn told(alloc: Global, trace: &Trace) -> Result<String, Fail> {
+    let mut out = String::new(alloc);
+    for event in trace.events.as_slice() {
+        match event {
+            Event::Join(session) => write!(out, " j{session}")?,
+            Event::Got(session, _) => write!(out, " g{session}")?,
+            Event::Make(_) => out.push_str(" m")?,
+            Event::Poll => out.push_str(" p")?,
+            Event::Leave => out.push_str(" l")?,
+            Event::Cut => out.push_str(" c")?,
+            Event::Quit => out.push_str(" q")?,
+            Event::Show(_) => out.push_str(" s")?,
+        }
     }
+    Ok(out)
 }
 
-fn compare(trace: &Trace, expected: &[(char, u16)]) -> Result<(), Fail> {
-    let events = trace.events.as_slice();
-    if events.len() != expected.len() {
-        return Err(Fail::new("the trace has another number of events"));
-    }
-    for (index, (event, wanted)) in events.iter().zip(expected).enumerate() {
-        if mark(event) != *wanted {
-            return Err(Fail::new(format_args!("event {index}")));
-        }
+/// The events that a trace has to have, where the first session has this number.
+#[derive(Clone, Copy)]
+struct Events<'a> {
+    first: u16,
+    told: &'a str,
+}
+
+/// Compares a trace, which is let go.
+fn compare(alloc: Global, trace: Trace, wanted: &str) -> Result<(), Fail> {
+    let text = told(alloc, &trace);
+    drop(trace);
+    let text = text?;
+    if text.as_str() != wanted {
+        return Err(Fail::new(format_args!("{text}, and not{wanted}")));
     }
     Ok(())
 }
@@ -80,23 +89,28 @@ fn check(alloc: Global, number: u16, in_first: bool, steps: &[Step]) -> Result<(
     requires { number < 32 }
 {
     let mut client = client_of(alloc, number, in_first)?;
-    play(alloc, &mut client, steps)
+    let told = play(alloc, &mut client, steps);
+    drop(client);
+    told
 }
 
-/// Each step goes as expected, and the trace has these events, where the first session has this number.
+/// Each step goes as expected, and the trace has these events.
 fn check_trace(
     alloc: Global,
     number: u16,
     in_first: bool,
     steps: &[Step],
-    first: u16,
-    expected: &[(char, u16)],
+    events: Events,
 ) -> Result<(), Fail>
     requires client { number < 32 }
-    requires first { first < 64 }
+    requires first { events.first < 64 }
 {
     let mut client = client_of(alloc, number, in_first)?;
-    play(alloc, &mut client, steps)?;
-    let trace = client.into_trace(first);
-    compare(&trace, expected)
+    match play(alloc, &mut client, steps) {
+        Ok(()) => compare(alloc, client.into_trace(events.first), events.told),
+        Err(fail) => {
+            drop(client);
+            Err(fail)
+        }
+    }
 }

@@ -1,3 +1,4 @@
+//! Threads that count up a number through a lock: side by side, nested, out of memory, and let go.
 ghost use Rattle.std.specs.Prelude.{◌≡◌, ℕ, ◌+◌, ◌<◌, ◌≤◌, List, [], ◌∷◌, ◌++◌, map, Contains, Some, None, IsSome, OnOk, IfOk};
 ghost use Rattle.std.specs.Thread.{IsSync};
 ghost use Rattle.sv_lock.specs.Passes.{session_number};

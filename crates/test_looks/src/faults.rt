@@ -1,12 +1,10 @@
 //! Words, files and outputs that fail.
-use crate::calls::{answers, held, sink, status_of};
-use std::alloc::{AllocError, Global};
+use crate::calls::{Looks, called};
 use std::test::Fail;
+use test_calls::scenarios::LOOK;
+use test_calls::{Cut, held, is_cut_short, is_unread, keeps_status};
 
 const WORDS_LINE: &str = "words: looks FILE\n";
-
-const LOOK: &str =
-    r#"{"attrs":1,"objects":[[5]],"bound":4,"clients":[{"interest":[],"steps":[{"act":"reads 0 writes { }"}]}]}"#;
 
 const LINE: &str = "look c0 1 at 1 [0=(5)]\n";
 
@@ -27,68 +25,40 @@ const ROWS: &[(&str, &str, u8, &str, &str)] = &[
 #[test]
 fn calls_are_answered(rt: HostRuntime) -> Result<(), Fail> {
     for (line, text, status, out, err) in ROWS {
-        assert!(&rt;
-            answers(rt.alloc(), line, text, *status, out, err)?,
-            "{line}"
-        );
+        let printed = called(rt.alloc(), line, text)?;
+        assert!(&rt; printed.is(*status, out, err), "{line}");
     }
     Ok(())
-}
-
-/// Whether a call whose output takes so many bytes at a time, and fails at a call, leaves the front of the line and status 5.
-fn is_cut_short(alloc: Global, step: usize, failing: u64, front: &str) -> Result<bool, AllocError> {
-    let mut files = held(alloc, LOOK)?;
-    let mut out = sink(alloc)?;
-    out.take_at_most(step.max(1));
-    out.fail_at(failing)?;
-    let mut err = sink(alloc)?;
-    let status = status_of(alloc, "looks a", &mut files, &mut out, &mut err)?;
-    Ok(status == 5 && out.bytes() == front.as_bytes() && err.bytes() == "out\n".as_bytes())
 }
 
 #[test]
 fn failing_outputs_are_told(rt: HostRuntime) -> Result<(), Fail> {
-    for (step, failing, front) in [
+    for (step, call, front) in [
         (100, 1, ""),
         (5, 2, "look "),
         (11, 3, "look c0 1 at 1 [0=(5)]"),
     ] {
-        assert!(&rt; is_cut_short(rt.alloc(), step, failing, front)?, "{front}");
+        let files = held(rt.alloc(), LOOK)?;
+        let cut = Cut { step, call };
+        let is_so = is_cut_short::<Looks>(rt.alloc(), "looks a", files, cut, front)?;
+        assert!(&rt; is_so, "{front}");
     }
     Ok(())
-}
-
-/// Whether a file whose reading fails in its middle is told, and nothing is printed.
-fn is_unread(alloc: Global, failing: u64) -> Result<bool, AllocError> {
-    let mut files = held(alloc, LOOK)?;
-    files.fail_at(failing)?;
-    files.give_at_most(40);
-    let mut out = sink(alloc)?;
-    let mut err = sink(alloc)?;
-    let status = status_of(alloc, "looks a", &mut files, &mut out, &mut err)?;
-    Ok(status == 4 && out.bytes().is_empty() && err.bytes() == "file: a\n".as_bytes())
 }
 
 #[test]
 fn failing_files_are_told(rt: HostRuntime) -> Result<(), Fail> {
     for failing in [1, 2, 3] {
-        assert!(&rt; is_unread(rt.alloc(), failing)?, "{failing}");
+        let files = held(rt.alloc(), LOOK)?;
+        let is_so = is_unread::<Looks>(rt.alloc(), "looks a", files, failing, "file: a\n")?;
+        assert!(&rt; is_so, "{failing}");
     }
     Ok(())
 }
 
-/// Whether the status stays where the line beside the output can't be written.
-fn is_passed_over(alloc: Global) -> Result<bool, AllocError> {
-    let mut files = held(alloc, LOOK)?;
-    let mut out = sink(alloc)?;
-    let mut err = sink(alloc)?;
-    err.fail_at(1)?;
-    let status = status_of(alloc, "looks b", &mut files, &mut out, &mut err)?;
-    Ok(status == 4 && out.bytes().is_empty() && err.bytes().is_empty())
-}
-
 #[test]
 fn a_lost_line_changes_no_status(rt: HostRuntime) -> Result<(), Fail> {
-    assert!(&rt; is_passed_over(rt.alloc())?);
+    let files = held(rt.alloc(), LOOK)?;
+    assert!(&rt; keeps_status::<Looks>(rt.alloc(), "looks b", files, 4)?);
     Ok(())
 }

@@ -1,5 +1,5 @@
 //! A look between two writers, in each order in which the server may take the three actions.
-use crate::calls::answers;
+use crate::calls::called;
 use std::alloc::{AllocError, Global};
 use std::test::Fail;
 
@@ -21,7 +21,8 @@ fn is_told(alloc: Global, turns: &str, line: &str) -> Result<bool, AllocError> {
     let mut text = String::from_str(alloc, BEFORE)?;
     text.push_str(turns)?;
     text.push_str("]}")?;
-    answers(alloc, "looks a", text.as_str(), 0, line, "")
+    let printed = called(alloc, "looks a", text.as_str())?;
+    Ok(printed.is(0, line, ""))
 }
 
 #[test]

@@ -1,5 +1,5 @@
 //! What is printed of whole scenarios. The expected lines are typed from the rules of the server and its clients.
-use crate::calls::answers;
+use crate::calls::called;
 use std::test::Fail;
 
 /// A client that writes, looks at two objects, and writes the other one.
@@ -65,7 +65,8 @@ const ROWS: &[(&str, &str)] = &[
 #[test]
 fn scenarios_tell_their_looks(rt: HostRuntime) -> Result<(), Fail> {
     for (text, out) in ROWS {
-        assert!(&rt; answers(rt.alloc(), "looks a", text, 0, out, "")?, "{out}");
+        let printed = called(rt.alloc(), "looks a", text)?;
+        assert!(&rt; printed.is(0, out, ""), "{out}");
     }
     Ok(())
 }

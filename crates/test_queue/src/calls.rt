@@ -178,14 +178,7 @@ fn is_given(queue: &Queue, object: u16, session: u16) -> bool {
     object < queue.shape().objects && queue.is_given(ObjectId(object), session)
 }
 
-pub fn nothing(alloc: Global) -> Closure {
-    Closure {
-        items: List::new(alloc),
-        head: List::new(alloc),
-    }
-}
-
-pub fn lacking<L: Ledger>(
+fn lacking<L: Ledger>(
     alloc: Global,
     queue: &Queue,
     session: u16,
@@ -195,7 +188,10 @@ pub fn lacking<L: Ledger>(
     if queue.commit() < pos && pos <= queue.last() {
         return closure(alloc, queue, session, pos, steps);
     }
-    Ok(nothing(alloc))
+    Ok(Closure {
+        items: List::new(alloc),
+        head: List::new(alloc),
+    })
 }
 
 /// Whether a closure has just these positions and objects.
@@ -203,17 +199,11 @@ pub fn has(closure: &Closure, items: &[u32], head: &[ObjectId]) -> bool {
     closure.items.as_slice() == items && closure.head.as_slice() == head
 }
 
-fn lacks<L: Ledger>(
-    alloc: Global,
-    queue: &Queue,
-    session: u16,
-    pos: u32,
-    items: &[u32],
-    head: &[ObjectId],
-    steps: &mut Steps<L>,
-) -> Result<bool, AllocError> {
-    let told = lacking(alloc, queue, session, pos, steps)?;
-    Ok(has(&told, items, head))
+/// The same of a closure that is let go.
+fn has_just(closure: Closure, items: &[u32], head: &[ObjectId]) -> bool {
+    let is_so = has(&closure, items, head);
+    drop(closure);
+    is_so
 }
 
 fn influence_of(queue: &Queue, action: &Action) -> Chain {
@@ -284,7 +274,7 @@ fn answers<L: Ledger>(
         Ask::IsMarked(pos, session) => u32::from(is_marked(queue, pos, session, steps)),
         Ask::IsGiven(object, session) => u32::from(is_given(queue, object, session)),
         Ask::Lacks(session, pos, items, head) => {
-            u32::from(lacks(alloc, queue, session, pos, items, head, steps)?)
+            u32::from(has_just(lacking(alloc, queue, session, pos, steps)?, items, head))
         }
         Ask::Chain(objects, at) => chain_at(alloc, queue, objects, at)?.count,
         Ask::Far(objects, at) => chain_at(alloc, queue, objects, at)?.far,

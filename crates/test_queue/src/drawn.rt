@@ -2,12 +2,12 @@
 ghost use Rattle.std.specs.Prelude.{◌≡◌, ◌<◌};
 
 use crate::actions::world;
-use crate::calls::{finish, give, has, lacking, mark, nothing, push_at, push_single};
+use crate::calls::{finish, give, has, mark, push_at, push_single};
 use std::alloc::{AllocError, Global};
 use std::marker::Brand;
 use std::sync::ledger::{Blank, Ledger};
 use std::test::Fail;
-use sv_influence::{Closure, plain_closure};
+use sv_influence::{closure, plain_closure};
 use sv_queue::{Queue, Steps};
 
 /// The next number of a fixed sequence.
@@ -83,32 +83,7 @@ fn fill<L: Ledger>(
     Ok(())
 }
 
-fn plainly_lacking<L: Ledger>(
-    alloc: Global,
-    queue: &Queue,
-    session: u16,
-    pos: u32,
-    steps: &mut Steps<L>,
-) -> Result<Closure, AllocError> {
-    if queue.commit() < pos && pos <= queue.last() {
-        return plain_closure(alloc, queue, session, pos, steps);
-    }
-    Ok(nothing(alloc))
-}
-
-/// Whether the plain program answers a closure.
-fn is_plain<L: Ledger>(
-    alloc: Global,
-    queue: &Queue,
-    session: u16,
-    pos: u32,
-    steps: &mut Steps<L>,
-    fast: &Closure,
-) -> Result<bool, AllocError> {
-    let plain = plainly_lacking(alloc, queue, session, pos, steps)?;
-    Ok(has(&plain, fast.items.as_slice(), fast.head.as_slice()))
-}
-
+/// Whether the two programs answer the same of a position, where the queue has it.
 fn agree_at<L: Ledger>(
     alloc: Global,
     queue: &Queue,
@@ -116,8 +91,12 @@ fn agree_at<L: Ledger>(
     pos: u32,
     steps: &mut Steps<L>,
 ) -> Result<bool, AllocError> {
-    let fast = lacking(alloc, queue, session, pos, steps)?;
-    is_plain(alloc, queue, session, pos, steps, &fast)
+    if pos <= queue.commit() || queue.last() < pos {
+        return Ok(true);
+    }
+    let fast = closure(alloc, queue, session, pos, steps)?;
+    let plain = plain_closure(alloc, queue, session, pos, steps)?;
+    Ok(has(&plain, fast.items.as_slice(), fast.head.as_slice()))
 }
 
 /// Whether the two programs answer the same of each position for two sessions.

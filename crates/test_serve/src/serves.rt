@@ -5,43 +5,23 @@ use std::alloc::{AllocError, Global};
 use std::sync::Wait;
 use std::test::Fail;
 use std::thread::Threads;
-use sv_bytes::{MemFiles, MemSink};
 use sv_link::{Crew, FewCrew, OpenGate, ThreadCrew};
 use sv_serve::run_serve;
+use test_calls::examples::FIRST;
+use test_calls::{Printed, held, words};
 
-/// Room for the longest output.
-const ROOM: usize = 8_192;
-
-/// One client increments an object, and shows it after a sync.
-const FIRST: &str =
-    "{\"attrs\":1,\"objects\":[[5]],\"bound\":4,\"clients\":[{\"interest\":[0],\"steps\":[{\"act\":\"reads 0 writes 0 { set @0.0 (@0.0 + 1); }\"},\"sync\",{\"show\":[0]}]}]}";
-
-/// What its client sends: a Join, the Submit of its action, a Done and a Leave.
+/// What the client of the first example sends: a Join, the Submit of its action, a Done and a Leave.
 const FIRST_BYTES: &[u8] = &[
     0, 0, 0, 10, 0x01, 0, 0, 0, 0, 0, 1, 1, 0, 0, 0, 0, 0, 0x23, 0x06, 0, 0, 0, 1, 1, 0, 0, 0, 1,
     0, 0, 0, 0, 0, 0, 0, 0, 1, 0x10, 0, 0, 0x22, 0x21, 0, 0, 0x20, 0, 0, 0, 0, 0, 0, 0, 1, 0, 0, 0,
     0x10, 0x03, 1, 0, 0, 0, 1, 1, 1, 0, 0, 0, 0, 0, 0, 0, 6, 0, 0, 0, 1, 0x05,
 ];
 
-const FIRST_TEXT: &[u8] =
-    b"journal 5\n1 s0 join c0 1 [0] -> welcome 0 [0=(5)]\n2 s0 submit 1 reads 0 writes 0 { set @0.0 (@0.0 + 1); } -> relay 1 at 0 [] [1:c0.1]\n3 s0 done [1:(6)] -> noted 1\n4 s0 leave -> bye\n5 s0 end -> bye\ncommit 1\n";
+const FIRST_TEXT: &str =
+    "journal 5\n1 s0 join c0 1 [0] -> welcome 0 [0=(5)]\n2 s0 submit 1 reads 0 writes 0 { set @0.0 (@0.0 + 1); } -> relay 1 at 0 [] [1:c0.1]\n3 s0 done [1:(6)] -> noted 1\n4 s0 leave -> bye\n5 s0 end -> bye\ncommit 1\n";
 
 /// Only the End of the one session.
-const ENDED_TEXT: &[u8] = b"journal 1\n1 s0 end -> bye\ncommit 0\n";
-
-/// What a call printed on its two outputs, and its status.
-#[derive(Drop)]
-struct Printed {
-    status: u8,
-    out: MemSink,
-    err: MemSink,
-}
-
-impl Printed {
-    fn is(&self, status: u8, out: &[u8], err: &[u8]) -> bool {
-        self.status == status && self.out.bytes() == out && self.err.bytes() == err
-    }
-}
+const ENDED_TEXT: &str = "journal 1\n1 s0 end -> bye\ncommit 0\n";
 
 /// The answer to a line of words, over the file `a` with the first example, and clients that send these bytes.
 fn called<R: Threads + Wait + Sync, C: Crew>(
@@ -51,19 +31,23 @@ fn called<R: Threads + Wait + Sync, C: Crew>(
     scripts: &[Script],
     crew: &mut C,
 ) -> Result<Printed, AllocError> {
-    let mut words = Vec::new(alloc);
-    for word in line.split_whitespace() {
-        words.push(String::from_str(alloc, word)?)?;
-    }
-    let mut files = MemFiles::new(alloc);
-    files.add("a", FIRST.as_bytes())?;
+    let words = words(alloc, line)?;
+    let mut files = held(alloc, FIRST)?;
+    let mut printed = Printed::nothing(alloc)?;
     let mut door = ScriptDoor::new(alloc, scripts);
-    let mut out = MemSink::with_room(alloc, ROOM)?;
-    let mut err = MemSink::with_room(alloc, ROOM)?;
     let status = run_serve(
-        rt, alloc, &words, &mut files, &mut door, crew, &OpenGate, &mut out, &mut err,
+        rt,
+        alloc,
+        &words,
+        &mut files,
+        &mut door,
+        crew,
+        &OpenGate,
+        &mut printed.out,
+        &mut printed.err,
     );
-    Ok(Printed { status, out, err })
+    printed.status = status;
+    Ok(printed)
 }
 
 /// Whether the server prints this where its one client sends these bytes.
@@ -72,11 +56,12 @@ fn prints<R: Threads + Wait + Sync>(
     alloc: Global,
     coming: &'static [u8],
     failing: u64,
-    text: &[u8],
+    text: &str,
 ) -> Result<bool, AllocError> {
     let scripts = [Script { coming, failing }];
     let mut crew = ThreadCrew::new(alloc);
-    Ok(called(rt, alloc, "serve a 1", &scripts, &mut crew)?.is(0, text, b""))
+    let printed = called(rt, alloc, "serve a 1", &scripts, &mut crew)?;
+    Ok(printed.is(0, text, ""))
 }
 
 #[test]
@@ -86,7 +71,7 @@ fn serves_one_action(rt: HostRuntime) -> Result<(), Fail> {
 }
 
 /// What a peer sends, the call of its end that fails, and what is printed.
-const PEERS: &[(&[u8], u64, &[u8])] = &[
+const PEERS: &[(&[u8], u64, &str)] = &[
     // It closes at once, or after half a frame, or its end fails.
     (&[], 0, ENDED_TEXT),
     (&[0, 0, 0, 8, 0x01, 0], 0, ENDED_TEXT),
@@ -95,18 +80,18 @@ const PEERS: &[(&[u8], u64, &[u8])] = &[
     (
         &[0, 0, 0, 1, 0xff],
         0,
-        b"journal 2\n1 s0 bad -> refused 1 0\n2 s0 end -> bye\ncommit 0\n",
+        "journal 2\n1 s0 bad -> refused 1 0\n2 s0 end -> bye\ncommit 0\n",
     ),
     (
         &[0xff, 0xff, 0xff, 0xff, 1],
         0,
-        b"journal 2\n1 s0 bad -> refused 1 0\n2 s0 end -> bye\ncommit 0\n",
+        "journal 2\n1 s0 bad -> refused 1 0\n2 s0 end -> bye\ncommit 0\n",
     ),
     // It joins under another's number, and closes.
     (
         &[0, 0, 0, 8, 0x01, 0, 7, 0, 0, 0, 1, 0],
         0,
-        b"journal 2\n1 s0 join c7 1 [] -> welcome 0 []\n2 s0 end -> bye\ncommit 0\n",
+        "journal 2\n1 s0 join c7 1 [] -> welcome 0 []\n2 s0 end -> bye\ncommit 0\n",
     ),
 ];
 
@@ -131,20 +116,30 @@ const LINES: &[(&str, bool)] = &[
     ("", false),
 ];
 
-#[test]
-fn takes_its_own_words(rt: HostRuntime) -> Result<(), Fail> {
+/// Whether a line of words is answered so, where the one client closes at once.
+fn answers<R: Threads + Wait + Sync>(
+    rt: &R,
+    alloc: Global,
+    line: &str,
+    is_taken: bool,
+) -> Result<bool, AllocError> {
     let scripts = [Script {
         coming: &[],
         failing: 0,
     }];
+    let mut crew = ThreadCrew::new(alloc);
+    let printed = called(rt, alloc, line, &scripts, &mut crew)?;
+    Ok(if is_taken {
+        printed.is(0, ENDED_TEXT, "")
+    } else {
+        printed.is(2, "", "words: serve FILE PORT\n")
+    })
+}
+
+#[test]
+fn takes_its_own_words(rt: HostRuntime) -> Result<(), Fail> {
     for (line, taken) in LINES {
-        let mut crew = ThreadCrew::new(rt.alloc());
-        let printed = called(&rt, rt.alloc(), *line, &scripts, &mut crew)?;
-        if *taken {
-            assert!(rt; printed.is(0, ENDED_TEXT, b""));
-        } else {
-            assert!(rt; printed.is(2, b"", b"words: serve FILE PORT\n"));
-        }
+        assert!(rt; answers(&rt, rt.alloc(), line, *taken)?);
     }
     Ok(())
 }
@@ -153,13 +148,13 @@ fn takes_its_own_words(rt: HostRuntime) -> Result<(), Fail> {
 fn faults_have_their_statuses(rt: HostRuntime) -> Result<(), Fail> {
     let mut crew = ThreadCrew::new(rt.alloc());
     let refused = called(&rt, rt.alloc(), "serve a 1", &[], &mut crew)?;
+    assert!(rt; refused.is(6, "", "link\n"));
     let scripts = [Script {
         coming: FIRST_BYTES,
         failing: 0,
     }];
     let mut few = FewCrew::new(rt.alloc(), 0);
     let unstarted = called(&rt, rt.alloc(), "serve a 1", &scripts, &mut few)?;
-    assert!(rt; refused.is(6, b"", b"link\n"));
-    assert!(rt; unstarted.is(7, b"", b"start\n"));
+    assert!(rt; unstarted.is(7, "", "start\n"));
     Ok(())
 }

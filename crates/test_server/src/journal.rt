@@ -5,8 +5,8 @@ use sv_journal::{
     Entry, Journal, Logged, append_held, append_objects, append_value, print_journal,
     relays_name_accepted,
 };
-use sv_wire::{Done1, Held, Request};
-use sv_world::{Action, Body, ClientId, List, ObjectId, Point, Reads, Shape, Value};
+use sv_wire::Request;
+use sv_world::{Action, Body, ClientId, List, ObjectId, Point, Reads, Shape};
 
 #[test]
 fn values_and_objects_are_printed(rt: HostRuntime) -> Result<(), Fail> {
@@ -46,12 +46,6 @@ fn submit(alloc: Global, seq: u32, object: u16) -> Result<Request, AllocError> {
     })
 }
 
-fn value(alloc: Global, number: i64) -> Result<Value, AllocError> {
-    let mut value = Value::new(alloc);
-    value.push(number)?;
-    Ok(value)
-}
-
 fn welcome(alloc: Global) -> Logged {
     Logged::Welcome {
         commit: 0,
@@ -70,7 +64,7 @@ fn relay(alloc: Global, seq: u32, positions: &[u32]) -> Result<Logged, AllocErro
 }
 
 // A tree that is let go at the end of its scope makes a long proof; a call that takes it makes none.
-pub fn add(
+fn add(
     journal: &mut Journal,
     session: u16,
     request: Request,
@@ -94,7 +88,7 @@ pub fn add(
 }
 
 /// The same of what may have failed.
-fn add_made(
+pub fn add_made(
     journal: &mut Journal,
     session: u16,
     request: Request,
@@ -125,21 +119,10 @@ fn add_relayed(
     add_made(journal, session, request, relay(alloc, seq, positions))
 }
 
-/// A Submit of an action on an object that is answered otherwise.
-fn add_answered(
-    alloc: Global,
-    journal: &mut Journal,
-    seq: u32,
-    object: u16,
-    reply: Result<Logged, AllocError>,
-) -> Result<(), Fail> {
-    match submit(alloc, seq, object) {
-        Ok(request) => add_made(journal, 3, request, reply),
-        Err(error) => {
-            drop(reply);
-            Err(Fail::from(error))
-        }
-    }
+/// A Submit of an action on an object, in session 3, that is accepted at the position of its number.
+fn add_accepted(alloc: Global, journal: &mut Journal, seq: u32, object: u16) -> Result<(), Fail> {
+    let request = submit(alloc, seq, object)?;
+    add_made(journal, 3, request, relay(alloc, seq, &[seq]))
 }
 
 fn printed(alloc: Global, journal: &Journal) -> Result<String, Fail> {
@@ -183,116 +166,6 @@ fn room_is_reserved(rt: HostRuntime) -> Result<(), Fail> {
     Ok(())
 }
 
-/// One client makes an action and leaves. Whether the journal has this text.
-fn is_one_action(alloc: Global, journal: &mut Journal, wanted: &str) -> Result<bool, Fail> {
-    add_join_with_interest(alloc, journal)?;
-    add_relayed(alloc, journal, 0, 1, &[1])?;
-    add_done(alloc, journal)?;
-    add(journal, 0, Request::Leave, Logged::Bye)?;
-    add(journal, 0, Request::End, Logged::Bye)?;
-    is_text(alloc, journal, wanted)
-}
-
-/// Whether a journal has that text.
-fn is_text(alloc: Global, journal: &Journal, wanted: &str) -> Result<bool, Fail> {
-    let text = printed(alloc, journal)?;
-    Ok(text.as_str() == wanted)
-}
-
-#[test]
-fn one_action_is_printed(rt: HostRuntime) -> Result<(), Fail> {
-    let mut journal = Journal::new(rt.alloc());
-    let is_told = is_one_action(rt.alloc(), &mut journal, ONE_ACTION);
-    drop(journal);
-    assert!(rt; is_told?);
-    Ok(())
-}
-
-const ONE_ACTION: &str = "\
-> journal 5
-1 s0 join c0 1 [0] -> welcome 0 [0=(5)]
-2 s0 submit 1 reads 0 writes 0 { } -> relay 1 at 0 [] [1:c0.1]
-3 s0 done [1:(6)] -> noted 1
-4 s0 leave -> bye
-5 s0 end -> bye
-";
-
-fn add_join_with_interest(alloc: Global, journal: &mut Journal) -> Result<(), Fail> {
-    let mut interest = List::new(alloc);
-    interest.push(ObjectId(0))?;
-    let request = Request::Join {
-        client: ClientId(0),
-        life: 1,
-        interest,
-    };
-    add_made(journal, 0, request, welcome_with_value(alloc))
-}
-
-fn welcome_with_value(alloc: Global) -> Result<Logged, AllocError> {
-    let value = value(alloc, 5)?;
-    let mut head = List::new(alloc);
-    head.push(Held {
-        object: ObjectId(0),
-        value,
-    })?;
-    Ok(Logged::Welcome { commit: 0, head })
-}
-
-fn one_result(alloc: Global) -> Result<Request, Fail> {
-    let mut values = List::new(alloc);
-    values.push(value(alloc, 6)?)?;
-    let mut results = List::new(alloc);
-    results.push(Done1 { pos: 1, values })?;
-    Ok(Request::Done { results })
-}
-
-fn add_done(alloc: Global, journal: &mut Journal) -> Result<(), Fail> {
-    let request = one_result(alloc)?;
-    add(journal, 0, request, Logged::Noted { commit: 1 })
-}
-
-fn dropped() -> Logged {
-    Logged::Dropped {
-        seq: 2,
-        chain: 3,
-        far: 11,
-    }
-}
-
-fn refused(code: u8, detail: u32) -> Logged {
-    Logged::Refused { code, detail }
-}
-
-/// Every other request and reply, and an action on an object that the world has not. Whether the journal has this text.
-fn is_of_others(alloc: Global, journal: &mut Journal, wanted: &str) -> Result<bool, Fail> {
-    add(journal, 12, Request::Poll, refused(2, 0))?;
-    add_answered(alloc, journal, 1, 1, Ok(refused(6, 4)))?;
-    add_answered(alloc, journal, 2, 0, Ok(dropped()))?;
-    add_answered(alloc, journal, 4, 0, Ok(Logged::Settled { seq: 4, pos: 5 }))?;
-    add(journal, 3, Request::Poll, Logged::Idle)?;
-    add(journal, 3, Request::Bad, refused(1, 0))?;
-    is_text(alloc, journal, wanted)
-}
-
-#[test]
-fn other_entries_are_printed(rt: HostRuntime) -> Result<(), Fail> {
-    let mut journal = Journal::new(rt.alloc());
-    let is_told = is_of_others(rt.alloc(), &mut journal, OTHER_ENTRIES);
-    drop(journal);
-    assert!(rt; is_told?);
-    Ok(())
-}
-
-const OTHER_ENTRIES: &str = "\
-> journal 6
-1 s12 poll -> refused 2 0
-2 s3 submit 1 bad -> refused 6 4
-3 s3 submit 2 reads 0 writes 0 { } -> dropped 2 chain 3 far 11
-4 s3 submit 4 reads 0 writes 0 { } -> settled 4 at 5
-5 s3 poll -> idle
-6 s3 bad -> refused 1 0
-";
-
 /// What each of these entries is: a Join as that client, or a Submit of that number that is answered by a relay of these positions.
 enum Added {
     Joined(u16),
@@ -323,7 +196,7 @@ fn add_each(alloc: Global, journal: &mut Journal, all: &[(u16, Added)]) -> Resul
     Ok(())
 }
 
-/// A Poll that is answered as a Join comes second. The text, where two actions are accepted.
+/// A Poll that is answered as a Join comes second. The text behind `> `, where two actions are accepted.
 fn strange(alloc: Global, journal: &mut Journal) -> Result<String, Fail> {
     add_each(alloc, journal, &STRANGE[..1])?;
     add(journal, 0, Request::Poll, welcome(alloc))?;
@@ -339,20 +212,21 @@ fn repeated_and_strange_relays_accept_nothing(rt: HostRuntime) -> Result<(), Fai
     let mut journal = Journal::new(rt.alloc());
     let text = strange(rt.alloc(), &mut journal);
     drop(journal);
-    assert!(rt;
-        text?
+    let text = text?;
+    let is_so = text.as_str().starts_with("> journal 9\n1 s0 submit 1 ")
+        && text
             .as_str()
-            .ends_with(" -> relay 2 at 0 [] [2:c1.2 1:c1.1]\n")
-    );
+            .ends_with(" -> relay 2 at 0 [] [2:c1.2 1:c1.1]\n");
+    assert!(rt; is_so);
     Ok(())
 }
 
 /// Two actions of one client, on different objects.
 fn add_two(alloc: Global, journal: &mut Journal) -> Result<(), Fail> {
     add_joined(alloc, journal, 3, 4)?;
-    add_answered(alloc, journal, 1, 30, relay(alloc, 1, &[1]))?;
+    add_accepted(alloc, journal, 1, 30)?;
     add(journal, 3, Request::Poll, Logged::Idle)?;
-    add_answered(alloc, journal, 2, 20, relay(alloc, 2, &[2]))
+    add_accepted(alloc, journal, 2, 20)
 }
 
 /// The object that an accepted action reads first, or 0.

@@ -1,8 +1,8 @@
 //! Tables of the bytes of a session.
 ghost use Rattle.std.specs.Prelude.{◌≡◌, ◌<◌, false};
 ghost use Rattle.sv_session.specs.Serving.{MayServe};
+ghost use Rattle.test_calls.specs.Scripts.{told_of_script};
 
-use crate::ends::Script;
 use crate::frames::*;
 use crate::opening::opened;
 use std::alloc::Global;
@@ -12,6 +12,7 @@ use sv_link::OpenGate;
 use sv_lock::{Pass, SeqLock};
 use sv_sequencer::Sequencer;
 use sv_session::{SessionOut, serve_session};
+use test_calls::ScriptEnd;
 
 /// What comes, in pieces, the outcome, and the frames of the replies.
 type Row<'a> = (&'a [&'a [u8]], SessionOut, &'a [&'a [u8]]);
@@ -31,17 +32,17 @@ fn serve_by<R: Wait>(
     alloc: Global,
     lock: &SeqLock<Sequencer>,
     pass: &mut Pass<Sequencer>,
-    mut end: Script,
+    mut end: ScriptEnd,
 ) -> Result<(SessionOut, Vec<u8>), Fail>
     requires may { MayServe lock.now pass.old }
-    requires open { end.closed ≡ false }
+    requires open { (told_of_script end).closed ≡ false }
     ensures same { (pass.new.lock ≡ pass.old.lock) × (pass.new.session ≡ pass.old.session) }
 {
     let out = serve_session(rt, alloc, lock, pass, &mut end, &OpenGate);
     if !end.is_closed() {
         return Err(Fail::new("the end is open"));
     }
-    Ok((out, end.sent))
+    Ok((out, end.into_sent()))
 }
 
 fn serve<R: Wait>(
@@ -53,17 +54,20 @@ fn serve<R: Wait>(
 ) -> Result<(SessionOut, Vec<u8>), Fail>
     requires { 0 < step }
 {
-    let mut end = Script::new(alloc, coming, failing)?;
+    let mut end = ScriptEnd::new(alloc, coming, failing, 0)?;
     end.move_at_most(step);
     let sequencer = opened(alloc)?;
     let (lock, mut keeper) = match SeqLock::new(alloc, sequencer, 1) {
         Ok(made) => made,
-        Err((_, error)) => return Err(Fail::from(error)),
+        Err((refused, error)) => {
+            drop(refused);
+            return Err(Fail::from(error));
+        }
     };
     let mut pass = lock.split(&mut keeper);
     let served = serve_by(rt, alloc, &lock, &mut pass, end);
     lock.join(&mut keeper, pass);
-    let _sequencer = lock.close(keeper);
+    drop(lock.close(keeper));
     served
 }
 

@@ -41,7 +41,10 @@ fn serve_two<R: Threads + Wait + Sync, E: End + Send>(
     let sequencer = opened(alloc)?;
     let (lock, mut keeper) = match SeqLock::new(alloc, sequencer, 2) {
         Ok(made) => made,
-        Err((_, error)) => return Err(Fail::from(error)),
+        Err((refused, error)) => {
+            drop(refused);
+            return Err(Fail::from(error));
+        }
     };
     let mut first = lock.split(&mut keeper);
     let mut second = lock.split(&mut keeper);
@@ -66,7 +69,7 @@ fn serve_two<R: Threads + Wait + Sync, E: End + Send>(
     );
     lock.join(&mut keeper, first);
     lock.join(&mut keeper, second);
-    let _sequencer = lock.close(keeper);
+    drop(lock.close(keeper));
     Ok((left, right))
 }
 

@@ -1,9 +1,10 @@
 //! Tests of the greatest and the deepest bodies, and of bodies that are refused at the right place.
-use crate::messages::{SUBMIT, changed_request_is_refused, request_comes_back, request_is_refused};
+use crate::messages::{changed_request_is_refused, request_comes_back, request_is_refused};
+use crate::vectors::SUBMIT;
 use std::alloc::Global;
 use std::process::Abort;
 use std::test::Fail;
-use sv_wire::{Request, WireCause, decode_request};
+use sv_wire::{Malformed, Request, WireCause, decode_request};
 use sv_world::{Node, Operator};
 
 /// A statement that sets a number to a literal: two nodes, in twelve bytes.
@@ -163,7 +164,7 @@ fn counts_of_the_deepest_body(rt: HostRuntime) -> Result<(), Fail> {
         ((336, 3), 373, WireCause::Rest),
         ((336, 5), 385, WireCause::Short),
     ] {
-        changed_request_is_refused(&rt, rt.alloc(), &submit, edit, at, cause)?;
+        changed_request_is_refused(&rt, rt.alloc(), &submit, edit, Malformed { at, cause })?;
     }
     Ok(())
 }
@@ -178,8 +179,12 @@ fn spare_nodes_behind_the_deepest_body(rt: HostRuntime) -> Result<(), Fail> {
     submit.extend_from_slice(&SET[1..])?;
     request_is_refused(&rt, alloc, &submit, 385, WireCause::Rest);
     // Where a count tells that it is there, it is a node too many.
+    let refusal = Malformed {
+        at: 385,
+        cause: WireCause::Large,
+    };
     for edit in [(48, 2), (336, 5)] {
-        changed_request_is_refused(&rt, alloc, &submit, edit, 385, WireCause::Large)?;
+        changed_request_is_refused(&rt, alloc, &submit, edit, refusal)?;
     }
     Ok(())
 }

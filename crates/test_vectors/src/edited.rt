@@ -1,37 +1,10 @@
 //! Tests of each vector with one byte left out, added or raised.
 use crate::messages::{reply_is_written, request_is_written};
+use crate::vectors::*;
 use crate::{replies, requests};
 use std::alloc::Global;
 use std::test::Fail;
 use sv_wire::{WireCause, WireFault, decode_reply, decode_request};
-
-const JOIN: [u8; 10] = [1, 0, 0, 0, 0, 0, 1, 1, 0, 0];
-
-const SUBMIT: [u8; 35] = [
-    6, 0, 0, 0, 1, 1, 0, 0, 0, 1, 0, 0, 0, 0, 0, 0, 0, 0, 1, 0x10, 0, 0, 0x22, 0x21, 0, 0, 0x20, 0,
-    0, 0, 0, 0, 0, 0, 1,
-];
-
-const DONE: [u8; 16] = [3, 1, 0, 0, 0, 1, 1, 1, 0, 0, 0, 0, 0, 0, 0, 6];
-
-const LEAVE: [u8; 1] = [5];
-
-const WELCOME: [u8; 18] = [0x81, 0, 0, 0, 0, 0, 1, 0, 0, 1, 0, 0, 0, 0, 0, 0, 0, 5];
-
-const RELAY: [u8; 63] = [
-    0x89, 0, 0, 0, 1, 0, 0, 0, 0, 0, 1, 0, 0, 1, 0, 0, 0, 0, 0, 0, 0, 5, 1, 0, 0, 0, 1, 0, 0, 0, 0,
-    0, 1, 1, 0, 0, 0, 1, 0, 0, 0, 0, 0, 0, 0, 0, 1, 0x10, 0, 0, 0x22, 0x21, 0, 0, 0x20, 0, 0, 0, 0,
-    0, 0, 0, 1,
-];
-
-const FIRST_RELAY: [u8; 52] = [
-    0x89, 0, 0, 0, 1, 0, 0, 0, 0, 0, 0, 1, 0, 0, 0, 1, 0, 0, 0, 0, 0, 1, 1, 0, 0, 0, 1, 0, 0, 0, 0,
-    0, 0, 0, 0, 1, 0x10, 0, 0, 0x22, 0x21, 0, 0, 0x20, 0, 0, 0, 0, 0, 0, 0, 1,
-];
-
-const NOTED: [u8; 5] = [0x85, 0, 0, 0, 1];
-
-const BYE: [u8; 1] = [0x88];
 
 /// The payload of the vector of a message.
 fn vector(alloc: Global, message: &str) -> Result<Vec<u8>, Fail> {

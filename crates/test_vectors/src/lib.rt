@@ -13,3 +13,5 @@ mod messages;
 mod replies;
 #[cfg(test)]
 mod requests;
+#[cfg(test)]
+mod vectors;

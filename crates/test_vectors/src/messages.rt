@@ -2,6 +2,7 @@
 ghost use Rattle.sv_wire.specs.Grammar.{IsWireRequest, IsWireReply};
 
 use crate::bodies::put_sets;
+use crate::vectors::*;
 use std::alloc::Global;
 use std::process::Abort;
 use std::test::Fail;
@@ -10,28 +11,6 @@ use sv_wire::{
     decode_request, encode_reply, encode_request,
 };
 use sv_world::{ClientId, List, ObjectId};
-
-const JOIN: [u8; 10] = [1, 0, 0, 0, 0, 0, 1, 1, 0, 0];
-
-pub const SUBMIT: [u8; 35] = [
-    6, 0, 0, 0, 1, 1, 0, 0, 0, 1, 0, 0, 0, 0, 0, 0, 0, 0, 1, 0x10, 0, 0, 0x22, 0x21, 0, 0, 0x20, 0,
-    0, 0, 0, 0, 0, 0, 1,
-];
-
-const DONE: [u8; 16] = [3, 1, 0, 0, 0, 1, 1, 1, 0, 0, 0, 0, 0, 0, 0, 6];
-
-const WELCOME: [u8; 18] = [0x81, 0, 0, 0, 0, 0, 1, 0, 0, 1, 0, 0, 0, 0, 0, 0, 0, 5];
-
-const RELAY: [u8; 63] = [
-    0x89, 0, 0, 0, 1, 0, 0, 0, 0, 0, 1, 0, 0, 1, 0, 0, 0, 0, 0, 0, 0, 5, 1, 0, 0, 0, 1, 0, 0, 0, 0,
-    0, 1, 1, 0, 0, 0, 1, 0, 0, 0, 0, 0, 0, 0, 0, 1, 0x10, 0, 0, 0x22, 0x21, 0, 0, 0x20, 0, 0, 0, 0,
-    0, 0, 0, 1,
-];
-
-const FIRST_RELAY: [u8; 52] = [
-    0x89, 0, 0, 0, 1, 0, 0, 0, 0, 0, 0, 1, 0, 0, 0, 1, 0, 0, 0, 0, 0, 1, 1, 0, 0, 0, 1, 0, 0, 0, 0,
-    0, 0, 0, 0, 1, 0x10, 0, 0, 0x22, 0x21, 0, 0, 0x20, 0, 0, 0, 0, 0, 0, 0, 1,
-];
 
 // A tree that is let go at the end of its scope makes a long proof; a call that takes it makes none.
 /// Whether a request is written as that payload.
@@ -105,17 +84,17 @@ fn reply_is_refused(rt: &impl Abort, alloc: Global, payload: &[u8], at: u32, cau
     assert!(rt; fault == Some(WireFault::Malformed(Malformed { at, cause })));
 }
 
-const REQUESTS: [&[u8]; 5] = [&JOIN, &SUBMIT, &DONE, &[4], &[5]];
+const REQUESTS: [&[u8]; 5] = [&JOIN, &SUBMIT, &DONE, &[4], &LEAVE];
 
 const REPLIES: [&[u8]; 8] = [
     &WELCOME,
     &RELAY,
     &FIRST_RELAY,
     &[0x84, 0, 0, 0, 7, 0, 0, 0, 9],
-    &[0x85, 0, 0, 0, 1],
+    &NOTED,
     &[0x86],
     &[0x87, 11, 0, 0, 0, 3],
-    &[0x88],
+    &BYE,
 ];
 
 #[test]
@@ -165,32 +144,26 @@ fn messages_are_written(rt: HostRuntime) -> Result<(), Fail> {
     Ok(())
 }
 
+/// Payloads that are no requests, with the offset and the cause of the first fault.
+const REFUSED_REQUESTS: &[(&[u8], u32, WireCause)] = &[
+    (&[], 0, WireCause::Short),
+    (&[6], 1, WireCause::Short),
+    (&[2, 0], 0, WireCause::Kind),
+    (&[7, 0], 0, WireCause::Kind),
+    (&[0x81, 0], 0, WireCause::Kind),
+    (&[4, 0], 1, WireCause::Rest),
+    (&[6, 0, 0, 0, 1, 0], 5, WireCause::Count),
+    (&[6, 0, 0, 0, 1, 2, 0, 1, 0, 0, 9], 8, WireCause::Order),
+    (&[6, 0, 0, 0, 1, 1, 0, 0, 0, 2, 9], 8, WireCause::Mask),
+    (&[1, 0, 0, 0, 0], 3, WireCause::Short),
+    (&[3, 0], 1, WireCause::Count),
+];
+
 #[test]
 fn refused_requests(rt: HostRuntime) {
-    let alloc = rt.alloc();
-    request_is_refused(&rt, alloc, &[], 0, WireCause::Short);
-    request_is_refused(&rt, alloc, &[6], 1, WireCause::Short);
-    request_is_refused(&rt, alloc, &[2, 0], 0, WireCause::Kind);
-    request_is_refused(&rt, alloc, &[7, 0], 0, WireCause::Kind);
-    request_is_refused(&rt, alloc, &[0x81, 0], 0, WireCause::Kind);
-    request_is_refused(&rt, alloc, &[4, 0], 1, WireCause::Rest);
-    request_is_refused(&rt, alloc, &[6, 0, 0, 0, 1, 0], 5, WireCause::Count);
-    request_is_refused(
-        &rt,
-        alloc,
-        &[6, 0, 0, 0, 1, 2, 0, 1, 0, 0, 9],
-        8,
-        WireCause::Order,
-    );
-    request_is_refused(
-        &rt,
-        alloc,
-        &[6, 0, 0, 0, 1, 1, 0, 0, 0, 2, 9],
-        8,
-        WireCause::Mask,
-    );
-    request_is_refused(&rt, alloc, &[1, 0, 0, 0, 0], 3, WireCause::Short);
-    request_is_refused(&rt, alloc, &[3, 0], 1, WireCause::Count);
+    for (payload, at, cause) in REFUSED_REQUESTS {
+        request_is_refused(&rt, rt.alloc(), payload, *at, *cause);
+    }
 }
 
 /// A payload with the byte at a place left out.
@@ -219,11 +192,10 @@ pub fn changed_request_is_refused(
     alloc: Global,
     payload: &[u8],
     edit: (usize, u8),
-    at: u32,
-    cause: WireCause,
+    refusal: Malformed,
 ) -> Result<(), Fail> {
     let payload = changed(alloc, payload, edit.0, edit.1)?;
-    request_is_refused(rt, alloc, &payload, at, cause);
+    request_is_refused(rt, alloc, &payload, refusal.at, refusal.cause);
     Ok(())
 }
 
@@ -281,7 +253,7 @@ fn edited_submits(rt: HostRuntime) -> Result<(), Fail> {
         ((22, 0x21), 25, WireCause::Rest),
         ((23, 0x30), 23, WireCause::Kind),
     ] {
-        changed_request_is_refused(&rt, rt.alloc(), &SUBMIT, edit, at, cause)?;
+        changed_request_is_refused(&rt, rt.alloc(), &SUBMIT, edit, Malformed { at, cause })?;
     }
     Ok(())
 }
@@ -298,7 +270,7 @@ fn edited_results(rt: HostRuntime) -> Result<(), Fail> {
         ((7, 5), 7, WireCause::Count),
         ((7, 2), 16, WireCause::Short),
     ] {
-        changed_request_is_refused(&rt, rt.alloc(), &DONE, edit, at, cause)?;
+        changed_request_is_refused(&rt, rt.alloc(), &DONE, edit, Malformed { at, cause })?;
     }
     Ok(())
 }
@@ -322,15 +294,25 @@ fn edited_relays(rt: HostRuntime) -> Result<(), Fail> {
     Ok(())
 }
 
+/// The same of replies.
+const REFUSED_REPLIES: &[(&[u8], u32, WireCause)] = &[
+    (
+        &[0x81, 0, 0, 0, 0, 0, 1, 0, 0, 1, 0, 0, 0, 0, 0, 0, 0],
+        10,
+        WireCause::Short,
+    ),
+    (&[0x81, 0, 0, 0, 0, 2, 17], 5, WireCause::Count),
+    (&[0x85, 0, 0, 0], 1, WireCause::Short),
+    (&[0x85, 0, 0, 0, 1, 0], 5, WireCause::Rest),
+    (&[0x87, 0, 0, 0, 0, 0], 1, WireCause::Code),
+    (&[0x87, 12, 0, 0, 0, 0], 1, WireCause::Code),
+];
+
 #[test]
 fn refused_replies(rt: HostRuntime) {
-    let alloc = rt.alloc();
-    reply_is_refused(&rt, alloc, &WELCOME[..17], 10, WireCause::Short);
-    reply_is_refused(&rt, alloc, &[0x81, 0, 0, 0, 0, 2, 17], 5, WireCause::Count);
-    reply_is_refused(&rt, alloc, &[0x85, 0, 0, 0], 1, WireCause::Short);
-    reply_is_refused(&rt, alloc, &[0x85, 0, 0, 0, 1, 0], 5, WireCause::Rest);
-    reply_is_refused(&rt, alloc, &[0x87, 0, 0, 0, 0, 0], 1, WireCause::Code);
-    reply_is_refused(&rt, alloc, &[0x87, 12, 0, 0, 0, 0], 1, WireCause::Code);
+    for (payload, at, cause) in REFUSED_REPLIES {
+        reply_is_refused(&rt, rt.alloc(), payload, *at, *cause);
+    }
 }
 
 /// Appends a value of four numbers.

@@ -1,5 +1,5 @@
 //! What witnessed runs print, with each of their clients as the liar. All was worked out by hand from the rules.
-use crate::calls::answers;
+use crate::calls::called;
 use std::test::Fail;
 
 /// What a run of three clients in conflict prints where none lies. The world is 10 * 2 + 1 - 3.
@@ -65,7 +65,8 @@ const ROWS: [(&str, &str); 20] = [
 #[test]
 fn runs_are_printed(rt: HostRuntime) -> Result<(), Fail> {
     for (line, out) in ROWS {
-        assert!(&rt; answers(rt.alloc(), line, 0, out, "")?, "{line}");
+        let printed = called(rt.alloc(), line)?;
+        assert!(&rt; printed.is(0, out, ""), "{line}");
     }
     Ok(())
 }

@@ -1,30 +1,25 @@
-//! Tables of requests and replies, with what is in dispute after them, typed from the rules by hand.
+//! Journals, with what is in dispute after them, typed from the rules by hand.
 ghost use Rattle.std.specs.Prelude.{◌≡◌, ◌<◌, IfOk};
 
-mod asked;
 mod rows;
 
-use asked::{Ask, request_of, world_of};
 use std::alloc::Global;
 use std::test::Fail;
-use sv_journal::{Journal, print_journal, relays_name_accepted};
 use sv_wire::Request;
 use sv_witness::{Dispute, Report, Witness};
-use sv_world::{ObjectId, Shape, Value};
+use sv_world::{ObjectId, Value};
+use test_asked::{asked_in, check_lines, world_of};
 
 const SESSIONS: u16 = 4;
-
-/// What a session asks, and the text of the reply.
-type Row<'a> = (u16, Ask<'a>, &'a str);
 
 /// A client, and the number that it reports for each written object.
 type Told<'a> = (u16, &'a [i64]);
 
-/// A server of objects of one number each, what it is asked, and how it then stands.
+/// A server of objects of one number each, its journal's lines, and how it then stands.
 #[derive(Clone, Copy)]
 struct Case<'a> {
     numbers: &'a [i64],
-    rows: &'a [Row<'a>],
+    lines: &'a str,
     /// The position of each dispute, the first report of it, and the first one that differs.
     disputes: &'a [(u32, Told<'a>, Told<'a>)],
     commit: u32,
@@ -56,7 +51,7 @@ fn ask(witness: &mut Witness, session: u16, request: &Request) -> Result<(), Fai
         return Err(Fail::new("there is no such session"));
     }
     if let Request::End = request {
-        return Err(Fail::new("no row asks for an End"));
+        return Err(Fail::new("no line asks for an End"));
     }
     let entries = witness.journal().entries().len();
     let commit = witness.commit();
@@ -75,48 +70,24 @@ fn ask(witness: &mut Witness, session: u16, request: &Request) -> Result<(), Fai
     Ok(())
 }
 
-fn ask_row(alloc: Global, witness: &mut Witness, session: u16, row: Ask) -> Result<(), Fail>
+/// Asks what a line asks.
+fn ask_line(alloc: Global, witness: &mut Witness, line: &str) -> Result<(), Fail>
     requires sessions { witness.old.rules.sessions ≡ 4 }
     ensures same { witness.new.rules ≡ witness.old.rules }
 {
-    let request = request_of(alloc, row)?;
-    let answered = ask(witness, session, &request);
+    let asked = asked_in(alloc, line)?;
+    let answered = ask(witness, asked.session, &asked.request);
     // At the end of its scope it would make a long proof; a call that takes it makes none.
-    drop(request);
+    drop(asked);
     answered
 }
 
-fn play(alloc: Global, witness: &mut Witness, rows: &[Row]) -> Result<(), Fail>
+fn play(alloc: Global, witness: &mut Witness, lines: &str) -> Result<(), Fail>
     requires sessions { witness.old.rules.sessions ≡ 4 }
     ensures same { witness.new.rules ≡ witness.old.rules }
 {
-    let [(session, request, _), rest @ ..] = rows else {
-        return Ok(());
-    };
-    ask_row(alloc, witness, *session, *request)?;
-    play(alloc, witness, rest)
-}
-
-/// The text of a journal of a world of objects of one number each.
-fn printed(alloc: Global, objects: u16, journal: &Journal) -> Result<String, Fail> {
-    let mut out = String::new(alloc);
-    if !relays_name_accepted(journal) {
-        return Err(Fail::new("a relay names what was not accepted"));
-    }
-    print_journal(Shape { objects, attrs: 1 }, journal, &mut out)?;
-    Ok(out)
-}
-
-/// Each line but the first tells the reply of its row, and no more lines come.
-fn compare(text: &str, rows: &[Row]) -> Result<(), Fail> {
-    if text.lines().count() != rows.len().saturating_add(1) {
-        return Err(Fail::new("the journal has another number of lines"));
-    }
-    for ((_, _, reply), line) in rows.iter().zip(text.lines().skip(1)) {
-        let (_, said) = line.split_once(" -> ").unwrap_or(("", line));
-        if said != *reply {
-            return Err(Fail::new(format_args!("{line}, and not {reply}")));
-        }
+    for line in lines.lines() {
+        ask_line(alloc, witness, line)?;
     }
     Ok(())
 }
@@ -158,8 +129,7 @@ fn compare_all(alloc: Global, witness: &Witness, case: &Case) -> Result<(), Fail
     requires some { 0 < witness.now.rules.world.shape.objects }
 {
     let objects = u16::try_from(case.numbers.len()).unwrap_or(u16::MAX);
-    let text = printed(alloc, objects, witness.journal())?;
-    compare(text.as_str(), case.rows)?;
+    check_lines(alloc, witness.journal(), objects, 0, case.lines)?;
     if !are_disputes(witness.disputes(), case.disputes) {
         return Err(Fail::new("other disputes"));
     }
@@ -176,11 +146,11 @@ fn play_and_compare(alloc: Global, witness: &mut Witness, case: &Case) -> Result
     requires sessions { witness.old.rules.sessions ≡ 4 }
     requires some { 0 < witness.old.rules.world.shape.objects }
 {
-    play(alloc, witness, case.rows)?;
+    play(alloc, witness, case.lines)?;
     compare_all(alloc, witness, case)
 }
 
-/// Each row of the case is answered by its reply, and the server then stands as the case says.
+/// Each line of the case is answered as it tells, and the server then stands as the case says.
 fn check(alloc: Global, case: &Case) -> Result<(), Fail> {
     let mut witness = opened(alloc, case.numbers)?;
     let told = play_and_compare(alloc, &mut witness, case);

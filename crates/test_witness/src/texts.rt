@@ -1,4 +1,5 @@
 //! Scenarios of witnessed runs.
+use test_calls::scenarios::LOOK;
 
 /// A client that adds 1 to object 0, and two that poll.
 const PROGRAM: &str =
@@ -23,10 +24,6 @@ const REJOINS: &str =
 /// A client by itself.
 const ALONE: &str =
     r#"{"attrs":1,"objects":[[5]],"bound":4,"clients":[{"interest":[],"steps":[{"act":"reads 0 writes 0 { set @0.0 (@0.0 + 1); }"}]}]}"#;
-
-/// A client by itself that looks at an object.
-const LOOK: &str =
-    r#"{"attrs":1,"objects":[[5]],"bound":4,"clients":[{"interest":[],"steps":[{"act":"reads 0 writes { }"}]}]}"#;
 
 /// A client by itself, with three actions in a row where one may wait.
 const CHAIN: &str =

@@ -1,5 +1,5 @@
 //! What the call answers to words and files that are no run.
-use crate::calls::answers;
+use crate::calls::called;
 use std::test::Fail;
 
 const WORDS: &str = "words: witness FILE [K]\n";
@@ -32,7 +32,8 @@ const ROWS: [(&str, u8, &str); 20] = [
 #[test]
 fn words_are_answered(rt: HostRuntime) -> Result<(), Fail> {
     for (line, status, err) in ROWS {
-        assert!(&rt; answers(rt.alloc(), line, status, "", err)?, "{line}");
+        let printed = called(rt.alloc(), line)?;
+        assert!(&rt; printed.is(status, "", err), "{line}");
     }
     Ok(())
 }

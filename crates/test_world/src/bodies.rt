@@ -44,7 +44,7 @@ pub fn body_of(alloc: Global, built: Built) -> Result<Body, AllocError> {
 }
 
 /// A statement that sets the first number.
-pub fn one(alloc: Global, expr: Expr) -> Result<List<Stmt>, AllocError> {
+fn one(alloc: Global, expr: Expr) -> Result<List<Stmt>, AllocError> {
     let mut stmts = List::new(alloc);
     stmts.push(Stmt::Set {
         slot: 0,

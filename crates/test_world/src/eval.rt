@@ -1,10 +1,11 @@
 //! Tests of the evaluator: each operator, branches, and void actions.
 use crate::bodies::Built::{Chained, Negated, Nested, Sets, Sums};
-use crate::bodies::{Built, body_of, flat, one};
+use crate::bodies::{Built, body_of};
+use crate::texts::action_of;
 use std::alloc::{AllocError, Global};
 use std::test::Fail;
 use sv_eval::eval;
-use sv_world::{Action, Body, Boxed, Cond, Expr, List, ObjectId, Point, Reads, Stmt, Value};
+use sv_world::{Action, List, ObjectId, Point, Reads, Value};
 
 /// An operator, its two operands and the result on each line. A result outside 64 bits is void, and so is division by zero.
 const OPERATIONS: &str = "\
@@ -80,18 +81,6 @@ fn first_number(values: &[Value]) -> i64 {
     }
 }
 
-/// An action that reads and writes one object.
-fn action(alloc: Global, body: Body) -> Result<Action, AllocError> {
-    let reads = Reads::from_slice(alloc, &[ObjectId(0)])?;
-    let origin = Point { x: 0, y: 0 };
-    Ok(Action {
-        reads,
-        mask: 1,
-        origin,
-        body,
-    })
-}
-
 /// One value, of the number 5.
 fn five(alloc: Global) -> Result<List<Value>, AllocError> {
     let value = Value::from_slice(alloc, &[5])?;
@@ -107,43 +96,39 @@ fn outcome_of(alloc: Global, action: &Action) -> Result<(bool, i64), AllocError>
     Ok((outcome.void, first_number(outcome.writes.as_slice())))
 }
 
-fn run_body(alloc: Global, body: Body) -> Result<(bool, i64), AllocError> {
-    let action = action(alloc, body)?;
+/// The same of an action with these statements.
+fn run(alloc: Global, stmts: &str) -> Result<(bool, i64), Fail> {
+    let text = format!(in alloc; "reads 0 writes 0 {{ {stmts} }}")?;
+    let action = action_of(alloc, text.as_str())?;
+    let told = outcome_of(alloc, &action);
+    drop(action);
+    Ok(told?)
+}
+
+/// The same of an action whose body is made of trees.
+fn built(alloc: Global, built: Built) -> Result<(bool, i64), AllocError> {
+    let reads = Reads::from_slice(alloc, &[ObjectId(0)])?;
+    let body = body_of(alloc, built)?;
+    let action = Action {
+        reads,
+        mask: 1,
+        origin: Point { x: 0, y: 0 },
+        body,
+    };
     let told = outcome_of(alloc, &action);
     drop(action);
     told
-}
-
-/// The same of an action with these statements.
-fn run(alloc: Global, stmts: List<Stmt>) -> Result<(bool, i64), AllocError> {
-    let body = flat(alloc, stmts.as_slice());
-    drop(stmts);
-    run_body(alloc, body?)
-}
-
-fn operation(operator: &str, left: Boxed<Expr>, right: Boxed<Expr>) -> Expr {
-    match operator {
-        "+" => Expr::Add(left, right),
-        "-" => Expr::Sub(left, right),
-        "*" => Expr::Mul(left, right),
-        "/" => Expr::Div(left, right),
-        "%" => Expr::Rem(left, right),
-        "min" => Expr::Min(left, right),
-        _ => Expr::Max(left, right),
-    }
 }
 
 /// Whether the operator is void on the two numbers, and what it gives. Where it is void the number stays 5.
 fn operated(
     alloc: Global,
     operator: &str,
-    left: i64,
-    right: i64,
-) -> Result<(bool, i64), AllocError> {
-    let left = Boxed::new(alloc, Expr::Lit(left))?;
-    let right = Boxed::new(alloc, Expr::Lit(right))?;
-    let body = one(alloc, operation(operator, left, right))?;
-    run(alloc, body)
+    left: &str,
+    right: &str,
+) -> Result<(bool, i64), Fail> {
+    let stmt = format!(in alloc; "set @0.0 ({left} {operator} {right});")?;
+    run(alloc, stmt.as_str())
 }
 
 /// What a line of the table wants.
@@ -154,100 +139,67 @@ fn wanted(told: &str) -> Result<(bool, i64), Fail> {
     Ok((false, told.parse::<i64>()?))
 }
 
-/// Sets 30 where the number is 1, else 40.
-fn choice(alloc: Global) -> Result<Stmt, AllocError> {
-    let then = one(alloc, Expr::Lit(30))?;
-    let other = one(alloc, Expr::Lit(40))?;
-    let cond = Cond::Eq(Expr::Attr { slot: 0, attr: 0 }, Expr::Lit(1));
-    Ok(Stmt::If { cond, then, other })
-}
-
-/// Sets the first number.
-fn set(expr: Expr) -> Stmt {
-    Stmt::Set {
-        slot: 0,
-        attr: 0,
-        expr,
-    }
-}
-
-/// The number and 1, added.
-fn more(alloc: Global) -> Result<Stmt, AllocError> {
-    let a = Boxed::new(alloc, Expr::Attr { slot: 0, attr: 0 })?;
-    let b = Boxed::new(alloc, Expr::Lit(1))?;
-    Ok(set(Expr::Add(a, b)))
-}
-
-/// The number is set, a block chosen by it, and 1 added behind.
-fn chosen(alloc: Global, number: i64) -> Result<(bool, i64), AllocError> {
-    let mut body = one(alloc, Expr::Lit(number))?;
-    body.push(choice(alloc)?)?;
-    body.push(more(alloc)?)?;
-    run(alloc, body)
-}
-
-/// So many times 1 is added, in four nodes each.
-fn raised(alloc: Global, count: u8) -> Result<(bool, i64), AllocError> {
-    let mut body = List::new(alloc);
-    for _ in 0..count {
-        body.push(more(alloc)?)?;
-    }
-    run(alloc, body)
-}
-
-/// The number over zero.
-fn void(alloc: Global) -> Result<Expr, AllocError> {
-    let a = Boxed::new(alloc, Expr::Attr { slot: 0, attr: 0 })?;
-    let b = Boxed::new(alloc, Expr::Lit(0))?;
-    Ok(Expr::Div(a, b))
-}
-
-fn set_before_void(alloc: Global) -> Result<(bool, i64), AllocError> {
-    let mut body = one(alloc, Expr::Lit(7))?;
-    body.push(set(void(alloc)?))?;
-    run(alloc, body)
-}
-
-fn built(alloc: Global, built: Built) -> Result<(bool, i64), AllocError> {
-    run_body(alloc, body_of(alloc, built)?)
-}
-
-#[test]
-fn void_action_keeps_values(rt: HostRuntime) -> Result<(), Fail> {
-    assert_eq!(rt; set_before_void(rt.alloc())?, (true, 5));
-    Ok(())
-}
-
 #[test]
 fn operators_give_their_numbers(rt: HostRuntime) -> Result<(), Fail> {
     for line in OPERATIONS.lines() {
         let (operator, rest) = line.split_once(' ').ok_or("no operator")?;
         let (left, rest) = rest.split_once(' ').ok_or("no left operand")?;
         let (right, told) = rest.split_once(' ').ok_or("no right operand")?;
-        let given = operated(rt.alloc(), operator, left.parse()?, right.parse()?)?;
+        let given = operated(rt.alloc(), operator, left, right)?;
         assert_eq!(rt; given, wanted(told)?, "{line}");
     }
     Ok(())
 }
 
+/// Statements, whether they are void on 5, and what they make of it.
+const STATEMENTS: &[(&str, bool, i64)] = &[
+    // A void action keeps what was.
+    ("set @0.0 7; set @0.0 (@0.0 / 0);", true, 5),
+    // One branch runs, chosen by what was set.
+    (
+        "set @0.0 1; if [@0.0 == 1] { set @0.0 30; } else { set @0.0 40; } set @0.0 (@0.0 + 1);",
+        false,
+        31,
+    ),
+    (
+        "set @0.0 2; if [@0.0 == 1] { set @0.0 30; } else { set @0.0 40; } set @0.0 (@0.0 + 1);",
+        false,
+        41,
+    ),
+];
+
 #[test]
-fn runs_one_branch_on_what_was_set(rt: HostRuntime) -> Result<(), Fail> {
-    let alloc = rt.alloc();
-    assert_eq!(rt; chosen(alloc, 1)?, (false, 31));
-    assert_eq!(rt; chosen(alloc, 2)?, (false, 41));
+fn statements_run_in_order(rt: HostRuntime) -> Result<(), Fail> {
+    for (stmts, void, number) in STATEMENTS {
+        assert_eq!(rt; run(rt.alloc(), stmts)?, (*void, *number), "{stmts}");
+    }
     Ok(())
 }
 
-/// Bodies of 64 nodes, and of eight levels.
+/// So many times 1 is added, in four nodes each.
+fn raised(alloc: Global, count: u8) -> Result<(bool, i64), Fail> {
+    let mut stmts = String::new(alloc);
+    for _ in 0..count {
+        stmts.push_str("set @0.0 (@0.0 + 1); ")?;
+    }
+    run(alloc, stmts.as_str())
+}
+
+/// Bodies of 64 nodes, and of eight levels, and what they make of 5.
+const GREATEST: [(Built, i64); 6] = [
+    (Sets(32), 7),
+    (Negated(5, 27), 7),
+    (Negated(5, 0), 5),
+    (Nested(6), 7),
+    (Chained(6), 7),
+    (Sums(6), 7),
+];
+
 #[test]
 fn runs_the_greatest_bodies(rt: HostRuntime) -> Result<(), Fail> {
-    let alloc = rt.alloc();
-    assert_eq!(rt; raised(alloc, 16)?, (false, 21));
-    assert_eq!(rt; built(alloc, Sets(32))?, (false, 7));
-    assert_eq!(rt; built(alloc, Negated(5, 27))?, (false, 7));
-    assert_eq!(rt; built(alloc, Negated(5, 0))?, (false, 5));
-    assert_eq!(rt; built(alloc, Nested(6))?, (false, 7));
-    assert_eq!(rt; built(alloc, Chained(6))?, (false, 7));
-    assert_eq!(rt; built(alloc, Sums(6))?, (false, 7));
+    assert_eq!(rt; raised(rt.alloc(), 16)?, (false, 21));
+    for (body, number) in GREATEST {
+        assert_eq!(rt; built(rt.alloc(), body)?, (false, number));
+    }
     Ok(())
 }

@@ -8,6 +8,8 @@ mod eval;
 #[cfg(test)]
 mod pending;
 #[cfg(test)]
+mod texts;
+#[cfg(test)]
 mod versions;
 #[cfg(test)]
 mod watch;

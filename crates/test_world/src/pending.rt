@@ -1,14 +1,12 @@
 //! Tests of pending actions and what is computed again.
 ghost use Rattle.std.specs.Prelude.{◌≡◌, ◌<◌, IfOk};
 
-use crate::bodies::{flat, one};
+use crate::texts::action_of;
 use std::alloc::{AllocError, Global};
 use std::test::Fail;
 use sv_pending::{Overlay, Pending};
 use sv_versions::Versions;
-use sv_world::{
-    Action, Boxed, Expr, List, ObjectId, Point, Reads, Shape, Stmt, Value, check_action,
-};
+use sv_world::{ObjectId, Shape, Value, check_action};
 
 const FIRST: ObjectId = ObjectId(0);
 
@@ -19,54 +17,17 @@ const TWO_OBJECTS: Shape = Shape {
     attrs: 1,
 };
 
-/// What an action does to the first object: a sum, a product, or nothing, as it is only read, or is written as it is after both were read.
-#[derive(Clone, Copy)]
-enum Deed {
-    Plus(i64),
-    Times(i64),
-    Look,
-    Keep,
-}
+/// What actions do to the first object: a sum, a product, a difference, and nothing, as it is only read, or is written as it is after both were
+/// read.
+const PLUS_1: &str = "reads 0 writes 0 { set @0.0 (@0.0 + 1); }";
 
-fn action(
-    alloc: Global,
-    reads: &[ObjectId],
-    mask: u16,
-    stmts: List<Stmt>,
-) -> Result<Action, AllocError> {
-    let body = flat(alloc, stmts.as_slice());
-    drop(stmts);
-    let body = body?;
-    Ok(Action {
-        reads: Reads::from_slice(alloc, reads)?,
-        mask,
-        origin: Point { x: 0, y: 0 },
-        body,
-    })
-}
+const TIMES_3: &str = "reads 0 writes 0 { set @0.0 (@0.0 * 3); }";
 
-fn present(alloc: Global) -> Result<Boxed<Expr>, AllocError> {
-    Boxed::new(alloc, Expr::Attr { slot: 0, attr: 0 })
-}
+const MINUS_5: &str = "reads 0 writes 0 { set @0.0 (@0.0 - 5); }";
 
-fn sum(alloc: Global, by: i64) -> Result<Expr, AllocError> {
-    let number = Boxed::new(alloc, Expr::Lit(by))?;
-    Ok(Expr::Add(present(alloc)?, number))
-}
+const LOOK: &str = "reads 0 writes { }";
 
-fn product(alloc: Global, by: i64) -> Result<Expr, AllocError> {
-    let number = Boxed::new(alloc, Expr::Lit(by))?;
-    Ok(Expr::Mul(present(alloc)?, number))
-}
-
-fn action_of(alloc: Global, deed: Deed) -> Result<Action, AllocError> {
-    match deed {
-        Deed::Plus(by) => action(alloc, &[FIRST], 1, one(alloc, sum(alloc, by)?)?),
-        Deed::Times(by) => action(alloc, &[FIRST], 1, one(alloc, product(alloc, by)?)?),
-        Deed::Look => action(alloc, &[FIRST], 0, List::new(alloc)),
-        Deed::Keep => action(alloc, &[FIRST, SECOND], 1, List::new(alloc)),
-    }
-}
+const KEEP: &str = "reads 0 1 writes 0 { }";
 
 fn hold(alloc: Global, versions: &mut Versions, pos: u32, number: i64) -> Result<(), AllocError>
     requires { 0 < versions.old.shape.objects }
@@ -92,13 +53,14 @@ fn make(
     pending: &mut Pending,
     versions: &Versions,
     seq: u32,
-    deed: Deed,
+    text: &str,
 ) -> Result<(), Fail>
     requires { versions.now.shape ≡ pending.old.shape }
     ensures { pending.new.shape ≡ pending.old.shape }
 {
-    let action = action_of(alloc, deed)?;
+    let action = action_of(alloc, text)?;
     if check_action(versions.shape(), &action).is_err() || pending.len() >= 8 {
+        drop(action);
         return Err(Fail::new("the action is not made"));
     }
     pending.add(seq, action, versions)?;
@@ -134,11 +96,11 @@ fn make_three(alloc: Global, pending: &mut Pending, versions: &Versions) -> Resu
     requires { versions.now.shape ≡ pending.old.shape }
     ensures { pending.new.shape ≡ pending.old.shape }
 {
-    make(alloc, pending, versions, 1, Deed::Plus(1))?;
+    make(alloc, pending, versions, 1, PLUS_1)?;
     let first = shown(pending) == Some(11);
-    make(alloc, pending, versions, 2, Deed::Times(3))?;
+    make(alloc, pending, versions, 2, TIMES_3)?;
     let second = shown(pending) == Some(33);
-    make(alloc, pending, versions, 3, Deed::Plus(-5))?;
+    make(alloc, pending, versions, 3, MINUS_5)?;
     Ok(first && second && shown(pending) == Some(28))
 }
 
@@ -152,39 +114,77 @@ fn settle(pending: &mut Pending, versions: &Versions) -> Result<(), AllocError>
     pending.reconcile(versions)
 }
 
+/// Whether the two actions left were computed again, the first as 63, and the copy shows what both leave.
+fn is_reconciled(copy: Pending) -> bool {
+    let is_so = copy.len() == 2 && front(&copy) == Some((2, Some(63))) && shown(&copy) == Some(58);
+    drop(copy);
+    is_so
+}
+
+/// Three actions are made on 10, and then the first one's result is 21.
+fn reconciles(alloc: Global, versions: &mut Versions, pending: &mut Pending) -> Result<bool, Fail>
+    requires shape { versions.old.shape ≡ record { objects = 2; attrs = 1 } }
+    requires same { versions.old.shape ≡ pending.old.shape }
+{
+    let are_made = make_three(alloc, pending, versions)?;
+    hold(alloc, versions, 2, 21)?;
+    settle(pending, versions)?;
+    Ok(is_reconciled(pending.copy()?) && are_made)
+}
+
 #[test]
 fn reconciles_conflict(rt: HostRuntime) -> Result<(), Fail> {
     let mut versions = holding(rt.alloc(), 10)?;
     let mut pending = Pending::new(rt.alloc(), TWO_OBJECTS);
-    assert!(rt; make_three(rt.alloc(), &mut pending, &versions)?);
-    hold(rt.alloc(), &mut versions, 2, 21)?;
-    settle(&mut pending, &versions)?;
-    let copy = pending.copy()?;
-    assert!(rt; copy.len() == 2 && front(&copy) == Some((2, Some(63))));
-    assert!(rt; shown(&copy) == Some(58));
+    let told = reconciles(rt.alloc(), &mut versions, &mut pending);
+    drop(pending);
+    drop(versions);
+    assert!(rt; told?);
     Ok(())
+}
+
+/// Whether an action that writes nothing keeps no value, which is known once its read is.
+fn looks_on(alloc: Global, versions: &mut Versions, pending: &mut Pending) -> Result<bool, Fail>
+    requires shape { versions.old.shape ≡ record { objects = 2; attrs = 1 } }
+    requires same { versions.old.shape ≡ pending.old.shape }
+{
+    make(alloc, pending, versions, 1, LOOK)?;
+    let is_unknown = pending.len() == 1 && front_values(pending).is_none();
+    hold(alloc, versions, 0, 10)?;
+    pending.reconcile(versions)?;
+    let is_known = front_values(pending) == Some(0);
+    Ok(is_unknown && is_known && matches!(pending.overlay(FIRST), Overlay::Unwritten))
 }
 
 #[test]
 fn keeps_nothing_of_what_writes_nothing(rt: HostRuntime) -> Result<(), Fail> {
     let mut versions = Versions::new(rt.alloc(), TWO_OBJECTS)?;
     let mut pending = Pending::new(rt.alloc(), TWO_OBJECTS);
-    make(rt.alloc(), &mut pending, &versions, 1, Deed::Look)?;
-    assert!(rt; pending.len() == 1 && front_values(&pending).is_none());
-    hold(rt.alloc(), &mut versions, 0, 10)?;
-    pending.reconcile(&versions)?;
-    assert!(rt; front_values(&pending) == Some(0));
-    assert!(rt; matches!(pending.overlay(FIRST), Overlay::Unwritten));
+    let told = looks_on(rt.alloc(), &mut versions, &mut pending);
+    drop(pending);
+    drop(versions);
+    assert!(rt; told?);
     Ok(())
+}
+
+/// Whether the last of two writers, which keeps an unknown value, decides.
+fn is_unknown(alloc: Global, versions: &Versions, pending: &mut Pending) -> Result<bool, Fail>
+    requires shape { versions.now.shape ≡ record { objects = 2; attrs = 1 } }
+    requires same { versions.now.shape ≡ pending.old.shape }
+{
+    make(alloc, pending, versions, 1, PLUS_1)?;
+    make(alloc, pending, versions, 2, KEEP)?;
+    Ok(matches!(pending.overlay(FIRST), Overlay::Unknown)
+        && matches!(pending.overlay(SECOND), Overlay::Unwritten))
 }
 
 #[test]
 fn last_writer_decides(rt: HostRuntime) -> Result<(), Fail> {
     let versions = holding(rt.alloc(), 10)?;
     let mut pending = Pending::new(rt.alloc(), TWO_OBJECTS);
-    make(rt.alloc(), &mut pending, &versions, 1, Deed::Plus(1))?;
-    make(rt.alloc(), &mut pending, &versions, 2, Deed::Keep)?;
-    assert!(rt; matches!(pending.overlay(FIRST), Overlay::Unknown));
-    assert!(rt; matches!(pending.overlay(SECOND), Overlay::Unwritten));
+    let told = is_unknown(rt.alloc(), &versions, &mut pending);
+    drop(pending);
+    drop(versions);
+    assert!(rt; told?);
     Ok(())
 }

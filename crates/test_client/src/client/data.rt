@@ -1,11 +1,9 @@
 //! Actions and replies as plain data, and what they stand for.
-use std::alloc::{AllocError, Global};
+use std::alloc::Global;
 use std::test::Fail;
+use sv_text::parse_action;
 use sv_wire::{Held, Item, Reply};
-use sv_world::{
-    Action, Body, Boxed, ClientId, Expr, List, ObjectId, Point, Reads, Stmt, Value,
-    has_short_blocks,
-};
+use sv_world::{Action, ClientId, List, ObjectId, Value};
 
 /// What an action sets its first object to, in a world of one number for each object.
 #[derive(Clone, Copy)]
@@ -32,42 +30,30 @@ pub enum Answer<'a> {
     Bye,
 }
 
-fn present(alloc: Global, slot: u8) -> Result<Boxed<Expr>, Fail> {
-    Ok(Boxed::new(alloc, Expr::Attr { slot, attr: 0 })?)
-}
-
-fn number(alloc: Global, number: i64) -> Result<Boxed<Expr>, Fail> {
-    Ok(Boxed::new(alloc, Expr::Lit(number))?)
-}
-
-fn other_side(alloc: Global, deed: Deed) -> Result<Boxed<Expr>, Fail> {
-    match deed {
-        Deed::Plus(_, by) => number(alloc, by),
-        Deed::Minus(_, by) => number(alloc, by),
-        Deed::Times(_, by) => number(alloc, by),
-        Deed::PlusOther(..) => present(alloc, 1),
-    }
-}
-
-fn expr_of(alloc: Global, deed: Deed) -> Result<Expr, Fail> {
-    let left = present(alloc, 0)?;
-    let right = other_side(alloc, deed)?;
+/// The text of an action.
+fn text_of(alloc: Global, deed: Deed) -> Result<String, Fail> {
     Ok(match deed {
-        Deed::Plus(..) | Deed::PlusOther(..) => Expr::Add(left, right),
-        Deed::Minus(..) => Expr::Sub(left, right),
-        Deed::Times(..) => Expr::Mul(left, right),
+        Deed::Plus(a, by) => {
+            format!(in alloc; "reads {a} writes {a} {{ set @{a}.0 (@{a}.0 + {by}); }}")?
+        }
+        Deed::Minus(a, by) => {
+            format!(in alloc; "reads {a} writes {a} {{ set @{a}.0 (@{a}.0 - {by}); }}")?
+        }
+        Deed::Times(a, by) => {
+            format!(in alloc; "reads {a} writes {a} {{ set @{a}.0 (@{a}.0 * {by}); }}")?
+        }
+        Deed::PlusOther(a, b) => {
+            format!(in alloc; "reads {a} {b} writes {a} {{ set @{a}.0 (@{a}.0 + @{b}.0); }}")?
+        }
     })
 }
 
-fn body_of(alloc: Global, deed: Deed) -> Result<List<Stmt>, Fail> {
-    let expr = expr_of(alloc, deed)?;
-    let mut body = List::new(alloc);
-    body.push(Stmt::Set {
-        slot: 0,
-        attr: 0,
-        expr,
-    })?;
-    Ok(body)
+pub fn action_of(alloc: Global, deed: Deed) -> Result<Action, Fail> {
+    let text = text_of(alloc, deed)?;
+    if text.len() > 1_000 {
+        return Err(Fail::new("the text is too long"));
+    }
+    Ok(parse_action(alloc, text.as_str())?)
 }
 
 pub fn objects_of(alloc: Global, numbers: &[u16]) -> Result<List<ObjectId>, Fail> {
@@ -76,36 +62,6 @@ pub fn objects_of(alloc: Global, numbers: &[u16]) -> Result<List<ObjectId>, Fail
         objects.push(ObjectId(*number))?;
     }
     Ok(objects)
-}
-
-fn reads_of(alloc: Global, deed: Deed) -> Result<Reads, Fail> {
-    match deed {
-        Deed::Plus(object, _) | Deed::Minus(object, _) | Deed::Times(object, _) => {
-            Ok(Reads::from_slice(alloc, &[ObjectId(object)])?)
-        }
-        Deed::PlusOther(object, other) => {
-            Ok(Reads::from_slice(alloc, &[ObjectId(object), ObjectId(other)])?)
-        }
-    }
-}
-
-/// The body of these statements, where nodes can hold them.
-fn flat(alloc: Global, stmts: &[Stmt]) -> Result<Body, AllocError> {
-    if !has_short_blocks(stmts) {
-        return Err(AllocError);
-    }
-    Body::from_stmts(alloc, stmts)
-}
-
-pub fn action_of(alloc: Global, deed: Deed) -> Result<Action, Fail> {
-    let reads = reads_of(alloc, deed)?;
-    let body = body_of(alloc, deed)?;
-    Ok(Action {
-        reads,
-        mask: 1,
-        origin: Point { x: 0, y: 0 },
-        body: flat(alloc, body.as_slice())?,
-    })
 }
 
 fn value_of(alloc: Global, number: i64) -> Result<Value, Fail> {

@@ -6,7 +6,7 @@ use super::data::Deed::{Minus, Plus, PlusOther, Times};
 use super::steps::Step::{Below, Counts, Cut, Join, Leave, Make, Poll, Show, Take};
 use super::steps::Told::{Done, Fault, Nothing};
 use super::steps::goes;
-use super::{check, check_trace, client_of, play};
+use super::{Events, check, check_trace, client_of, play};
 use std::alloc::Global;
 use std::test::Fail;
 use sv_client::{Client, TakeFault};
@@ -84,24 +84,10 @@ fn conflict(rt: HostRuntime) -> Result<(), Fail> {
             Leave,
             Take(Bye, Nothing),
         ],
-        1,
-        &[
-            ('j', 1),
-            ('g', 1),
-            ('m', 0),
-            ('m', 0),
-            ('m', 0),
-            ('s', 0),
-            ('g', 1),
-            ('s', 0),
-            ('g', 1),
-            ('g', 1),
-            ('g', 1),
-            ('g', 1),
-            ('g', 1),
-            ('l', 0),
-            ('g', 1),
-        ],
+        Events {
+            first: 1,
+            told: " j1 g1 m m m s g1 s g1 g1 g1 g1 g1 l g1",
+        },
     )
 }
 
@@ -172,8 +158,10 @@ fn lying_server(rt: HostRuntime) -> Result<(), Fail> {
             ),
             Show(0, Some(1)),
         ],
-        0,
-        &[('j', 0), ('g', 0), ('m', 0), ('s', 0), ('g', 0), ('s', 0)],
+        Events {
+            first: 0,
+            told: " j0 g0 m s g0 s",
+        },
     )
 }
 
@@ -261,22 +249,10 @@ fn three_sessions(rt: HostRuntime) -> Result<(), Fail> {
             Take(Bye, Nothing),
             Show(0, Some(1)),
         ],
-        5,
-        &[
-            ('j', 5),
-            ('g', 5),
-            ('m', 0),
-            ('c', 0),
-            ('j', 6),
-            ('g', 6),
-            ('g', 6),
-            ('c', 0),
-            ('j', 7),
-            ('g', 7),
-            ('l', 0),
-            ('g', 7),
-            ('s', 0),
-        ],
+        Events {
+            first: 5,
+            told: " j5 g5 m c j6 g6 g6 c j7 g7 l g7 s",
+        },
     )
 }
 

@@ -47,7 +47,9 @@ fn joins(client: &mut Client) -> Result<bool, Fail>
         return Ok(false);
     }
     let requests = client.join()?;
-    Ok(requests.len() == client.pending() + 1)
+    let is_so = requests.len() == client.pending() + 1;
+    drop(requests);
+    Ok(is_so)
 }
 
 fn makes(alloc: Global, client: &mut Client, deed: Deed) -> Result<bool, Fail>
@@ -57,7 +59,7 @@ fn makes(alloc: Global, client: &mut Client, deed: Deed) -> Result<bool, Fail>
         return Ok(false);
     }
     let action = action_of(alloc, deed)?;
-    client.make(action)?;
+    drop(client.make(action)?);
     Ok(true)
 }
 
@@ -67,7 +69,7 @@ fn polls(client: &mut Client) -> Result<bool, Fail>
     if !client.in_session() {
         return Ok(false);
     }
-    client.poll()?;
+    drop(client.poll()?);
     Ok(true)
 }
 
@@ -77,7 +79,7 @@ fn leaves(client: &mut Client) -> Result<bool, Fail>
     if !client.in_session() || client.outstanding() > 0 {
         return Ok(false);
     }
-    client.leave()?;
+    drop(client.leave()?);
     Ok(true)
 }
 
@@ -125,14 +127,24 @@ fn is_told(asked: Option<&Request>, expected: Told) -> bool {
     }
 }
 
+/// The same of what is let go.
+fn tells(asked: Option<Request>, expected: Told) -> bool {
+    let is_so = is_told(asked.as_ref(), expected);
+    drop(asked);
+    is_so
+}
+
 fn takes(alloc: Global, client: &mut Client, answer: Answer, expected: Told) -> Result<bool, Fail>
     ensures { client.new.who ≡ client.old.who }
 {
     let reply = reply_of(alloc, answer)?;
-    Ok(match client.take(&reply) {
-        Ok(asked) => is_told(asked.as_ref(), expected),
+    let is_so = match client.take(&reply) {
+        Ok(asked) => tells(asked, expected),
         Err(fault) => matches!(expected, Told::Fault(other) if other == fault),
-    })
+    };
+    // At the end of its scope it would make a long proof; a call that takes it makes none.
+    drop(reply);
+    Ok(is_so)
 }
 
 fn holds_below(client: &Client, object: u16, pos: u32, expected: Option<i64>) -> bool

@@ -1,19 +1,19 @@
 //! Arbitrary requests, honest and not, answered by the sequencer and beside it by the plain definition.
 ghost use Rattle.std.specs.Prelude.{◌≤◌, IfSome};
 
-use super::asked::{values_of, world_of};
 use super::plainly::{Rules, reply_to};
 use super::scans::{
     accepted, action_at, client_of, commit_with, is_sent, last, next_seq, number, outcomes, written,
 };
-use super::{ask, may_ask, printed};
-use crate::journal::add;
+use super::{ask, may_ask};
+use crate::journal::add_made;
 use std::alloc::{AllocError, Global};
 use std::test::Fail;
-use sv_journal::{Entry, Journal, Logged};
+use sv_journal::{Entry, Journal};
 use sv_sequencer::Sequencer;
 use sv_wire::{Done1, Request};
 use sv_world::{Action, Body, ClientId, List, ObjectId, Point, Reads, Shape, Value};
+use test_asked::{printed, values_of, world_of};
 
 const JOURNALS: u64 = 40;
 
@@ -220,23 +220,27 @@ fn some_request(
     }
 }
 
-/// The definition's reply, where the request may be made.
-fn answer_both(
-    alloc: Global,
-    rules: Rules,
-    sequencer: &mut Sequencer,
-    entries: &[Entry],
-    session: u16,
-    request: &Request,
-) -> Result<Option<Logged>, Fail> {
+/// A request to the sequencer, where it may be made. It tells whether.
+fn ask_allowed(sequencer: &mut Sequencer, session: u16, request: &Request) -> Result<bool, Fail> {
     if !may_ask(sequencer, session, request) {
-        return Ok(None);
+        return Ok(false);
     }
     ask(sequencer, session, request)?;
-    Ok(Some(reply_to(alloc, rules, entries, session, request)?))
+    Ok(true)
 }
 
-/// One request to the sequencer, and to the definition over the journal beside it.
+/// The same request to the definition, over the journal beside the sequencer.
+fn answer_plainly(
+    alloc: Global,
+    rules: Rules,
+    journal: &mut Journal,
+    session: u16,
+    request: Request,
+) -> Result<(), Fail> {
+    let reply = reply_to(alloc, rules, journal.entries(), session, &request);
+    add_made(journal, session, request, reply)
+}
+
 fn ask_both(
     alloc: Global,
     rules: Rules,
@@ -246,16 +250,9 @@ fn ask_both(
 ) -> Result<(), Fail> {
     let session = dice.below(SESSIONS);
     let request = some_request(alloc, journal.entries(), session, dice)?;
-    match answer_both(
-        alloc,
-        rules,
-        sequencer,
-        journal.entries(),
-        session,
-        &request,
-    ) {
-        Ok(Some(reply)) => add(journal, session, request, reply),
-        Ok(None) => {
+    match ask_allowed(sequencer, session, &request) {
+        Ok(true) => answer_plainly(alloc, rules, journal, session, request),
+        Ok(false) => {
             drop(request);
             Ok(())
         }

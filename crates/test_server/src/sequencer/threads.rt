@@ -3,7 +3,7 @@ ghost use Rattle.std.specs.Prelude.{◌≡◌, ◌<◌, [], Some, IsSome};
 ghost use Rattle.sv_lock.specs.Passes.{session_number};
 
 use super::opened;
-use super::shared::{call, join_of};
+use super::shared::call;
 use std::alloc::Global;
 use std::sync::Wait;
 use std::test::Fail;
@@ -13,6 +13,7 @@ use sv_journal::{Entry, Logged};
 use sv_lock::{Pass, SeqLock};
 use sv_sequencer::Sequencer;
 use sv_wire::Request;
+use sv_world::{ClientId, List};
 
 /// Joins as a client, and polls 100 times.
 fn visit<R: Wait>(
@@ -27,7 +28,11 @@ fn visit<R: Wait>(
     requires number { session_number pass < pass.base.sessions }
     ensures same { (result.lock ≡ pass.lock) × (result.session ≡ pass.session) }
 {
-    let join = join_of(alloc, client);
+    let join = Request::Join {
+        client: ClientId(client),
+        life: 1,
+        interest: List::new(alloc),
+    };
     call(rt, lock, &mut pass, &join);
     drop(join);
     for _ in 0..100 {
@@ -47,7 +52,10 @@ fn visit_by_two<R: Threads + Wait + Sync>(
 {
     let (lock, mut keeper) = match SeqLock::new(alloc, sequencer, 2) {
         Ok(made) => made,
-        Err((_, error)) => return Err(Fail::from(error)),
+        Err((refused, error)) => {
+            drop(refused);
+            return Err(Fail::from(error));
+        }
     };
     let one = lock.split(&mut keeper);
     let two = lock.split(&mut keeper);

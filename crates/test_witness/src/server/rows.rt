@@ -1,29 +1,22 @@
 //! What a server answers where clients report equally, report differently, twice, too late or nothing.
-use super::asked::Ask::{Done, Join, Poll, Submit};
 use super::{Case, check};
 use std::test::Fail;
-
-const ADDS_1: &str = "reads 0 writes 0 { set @0.0 (@0.0 + 1); }";
-
-const ADDS_1_TO_1: &str = "reads 1 writes 1 { set @1.0 (@1.0 + 1); }";
-
-const SETS_ALL: &str = "reads 0 1 2 writes 0 1 2 { set @0.0 1; set @1.0 2; set @2.0 3; }";
 
 /// Client 0 reports 7 where 1 is right. Its report alone installs nothing; once two others give 1, that is installed.
 const LIAR_IS_OUTVOTED: Case = Case {
     numbers: &[0],
-    rows: &[
-        (0, Join(0, 1, &[]), "welcome 0 []"),
-        (1, Join(1, 1, &[]), "welcome 0 []"),
-        (2, Join(2, 1, &[]), "welcome 0 []"),
-        (0, Submit(1, ADDS_1), "relay 1 at 0 [0=(0)] [1:c0.1]"),
-        (0, Done(&[(1, &[7])]), "noted 0"),
-        (1, Poll, "relay 0 at 0 [0=(0)] [1:c0.1]"),
-        (1, Done(&[(1, &[1])]), "noted 0"),
-        (1, Poll, "idle"),
-        (2, Poll, "relay 0 at 0 [0=(0)] [1:c0.1]"),
-        (2, Done(&[(1, &[1])]), "noted 1"),
-    ],
+    lines: "\
+1 s0 join c0 1 [] -> welcome 0 []
+2 s1 join c1 1 [] -> welcome 0 []
+3 s2 join c2 1 [] -> welcome 0 []
+4 s0 submit 1 reads 0 writes 0 { set @0.0 (@0.0 + 1); } -> relay 1 at 0 [0=(0)] [1:c0.1]
+5 s0 done [1:(7)] -> noted 0
+6 s1 poll -> relay 0 at 0 [0=(0)] [1:c0.1]
+7 s1 done [1:(1)] -> noted 0
+8 s1 poll -> idle
+9 s2 poll -> relay 0 at 0 [0=(0)] [1:c0.1]
+10 s2 done [1:(1)] -> noted 1
+",
     disputes: &[(1, (0, &[7]), (1, &[1]))],
     commit: 1,
     first: 1,
@@ -32,17 +25,17 @@ const LIAR_IS_OUTVOTED: Case = Case {
 /// The same as the program lets client 0 lie: it reports 2 where 1 is right.
 const PROGRAM: Case = Case {
     numbers: &[0],
-    rows: &[
-        (0, Join(0, 1, &[]), "welcome 0 []"),
-        (1, Join(1, 1, &[]), "welcome 0 []"),
-        (2, Join(2, 1, &[]), "welcome 0 []"),
-        (0, Submit(1, ADDS_1), "relay 1 at 0 [0=(0)] [1:c0.1]"),
-        (1, Poll, "relay 0 at 0 [0=(0)] [1:c0.1]"),
-        (2, Poll, "relay 0 at 0 [0=(0)] [1:c0.1]"),
-        (0, Done(&[(1, &[2])]), "noted 0"),
-        (1, Done(&[(1, &[1])]), "noted 0"),
-        (2, Done(&[(1, &[1])]), "noted 1"),
-    ],
+    lines: "\
+1 s0 join c0 1 [] -> welcome 0 []
+2 s1 join c1 1 [] -> welcome 0 []
+3 s2 join c2 1 [] -> welcome 0 []
+4 s0 submit 1 reads 0 writes 0 { set @0.0 (@0.0 + 1); } -> relay 1 at 0 [0=(0)] [1:c0.1]
+5 s1 poll -> relay 0 at 0 [0=(0)] [1:c0.1]
+6 s2 poll -> relay 0 at 0 [0=(0)] [1:c0.1]
+7 s0 done [1:(2)] -> noted 0
+8 s1 done [1:(1)] -> noted 0
+9 s2 done [1:(1)] -> noted 1
+",
     disputes: &[(1, (0, &[2]), (1, &[1]))],
     commit: 1,
     first: 1,
@@ -51,22 +44,22 @@ const PROGRAM: Case = Case {
 /// Client 0 gives one value in two of its sessions: that is one report. Two others then give another.
 const CLIENT_COUNTS_ONCE: Case = Case {
     numbers: &[0],
-    rows: &[
-        (0, Join(0, 1, &[]), "welcome 0 []"),
-        (0, Submit(1, ADDS_1), "relay 1 at 0 [0=(0)] [1:c0.1]"),
-        (0, Done(&[(1, &[7])]), "noted 0"),
-        (1, Join(0, 2, &[]), "welcome 0 []"),
-        (1, Poll, "idle"),
-        (1, Submit(1, ADDS_1), "relay 1 at 0 [0=(0)] [1:c0.1]"),
-        (1, Done(&[(1, &[7])]), "noted 0"),
-        (2, Join(1, 1, &[]), "welcome 0 []"),
-        (2, Poll, "relay 0 at 0 [0=(0)] [1:c0.1]"),
-        (2, Done(&[(1, &[1])]), "noted 0"),
-        (3, Join(2, 1, &[]), "welcome 0 []"),
-        (3, Poll, "relay 0 at 0 [0=(0)] [1:c0.1]"),
-        (3, Done(&[(1, &[1])]), "noted 1"),
-        (3, Poll, "idle"),
-    ],
+    lines: "\
+1 s0 join c0 1 [] -> welcome 0 []
+2 s0 submit 1 reads 0 writes 0 { set @0.0 (@0.0 + 1); } -> relay 1 at 0 [0=(0)] [1:c0.1]
+3 s0 done [1:(7)] -> noted 0
+4 s1 join c0 2 [] -> welcome 0 []
+5 s1 poll -> idle
+6 s1 submit 1 reads 0 writes 0 { set @0.0 (@0.0 + 1); } -> relay 1 at 0 [0=(0)] [1:c0.1]
+7 s1 done [1:(7)] -> noted 0
+8 s2 join c1 1 [] -> welcome 0 []
+9 s2 poll -> relay 0 at 0 [0=(0)] [1:c0.1]
+10 s2 done [1:(1)] -> noted 0
+11 s3 join c2 1 [] -> welcome 0 []
+12 s3 poll -> relay 0 at 0 [0=(0)] [1:c0.1]
+13 s3 done [1:(1)] -> noted 1
+14 s3 poll -> idle
+",
     disputes: &[(1, (0, &[7]), (1, &[1]))],
     commit: 1,
     first: 1,
@@ -75,16 +68,16 @@ const CLIENT_COUNTS_ONCE: Case = Case {
 /// A client's first report stands: a second one, that says what others say, does not count, and takes nothing back.
 const SECOND_REPORT: Case = Case {
     numbers: &[0],
-    rows: &[
-        (0, Join(0, 1, &[]), "welcome 0 []"),
-        (1, Join(1, 1, &[]), "welcome 0 []"),
-        (0, Submit(1, ADDS_1), "relay 1 at 0 [0=(0)] [1:c0.1]"),
-        (0, Done(&[(1, &[7])]), "noted 0"),
-        (1, Poll, "relay 0 at 0 [0=(0)] [1:c0.1]"),
-        (1, Done(&[(1, &[1])]), "noted 0"),
-        (0, Done(&[(1, &[1])]), "noted 0"),
-        (1, Done(&[(1, &[7])]), "noted 0"),
-    ],
+    lines: "\
+1 s0 join c0 1 [] -> welcome 0 []
+2 s1 join c1 1 [] -> welcome 0 []
+3 s0 submit 1 reads 0 writes 0 { set @0.0 (@0.0 + 1); } -> relay 1 at 0 [0=(0)] [1:c0.1]
+4 s0 done [1:(7)] -> noted 0
+5 s1 poll -> relay 0 at 0 [0=(0)] [1:c0.1]
+6 s1 done [1:(1)] -> noted 0
+7 s0 done [1:(1)] -> noted 0
+8 s1 done [1:(7)] -> noted 0
+",
     disputes: &[(1, (0, &[7]), (1, &[1]))],
     commit: 0,
     first: 0,
@@ -93,24 +86,24 @@ const SECOND_REPORT: Case = Case {
 /// Client 0 lies in its first session and in its second one, each time of another position.
 const LIAR_JOINS_AGAIN: Case = Case {
     numbers: &[0],
-    rows: &[
-        (0, Join(0, 1, &[]), "welcome 0 []"),
-        (1, Join(1, 1, &[]), "welcome 0 []"),
-        (2, Join(2, 1, &[]), "welcome 0 []"),
-        (0, Submit(1, ADDS_1), "relay 1 at 0 [0=(0)] [1:c0.1]"),
-        (0, Done(&[(1, &[7])]), "noted 0"),
-        (3, Join(0, 2, &[]), "welcome 0 []"),
-        (1, Poll, "relay 0 at 0 [0=(0)] [1:c0.1]"),
-        (1, Done(&[(1, &[1])]), "noted 0"),
-        (2, Poll, "relay 0 at 0 [0=(0)] [1:c0.1]"),
-        (2, Done(&[(1, &[1])]), "noted 1"),
-        (3, Submit(2, ADDS_1), "relay 2 at 1 [0=(1)] [2:c0.2]"),
-        (3, Done(&[(2, &[7])]), "noted 1"),
-        (1, Poll, "relay 0 at 1 [] [2:c0.2]"),
-        (1, Done(&[(2, &[2])]), "noted 1"),
-        (2, Poll, "relay 0 at 1 [] [2:c0.2]"),
-        (2, Done(&[(2, &[2])]), "noted 2"),
-    ],
+    lines: "\
+1 s0 join c0 1 [] -> welcome 0 []
+2 s1 join c1 1 [] -> welcome 0 []
+3 s2 join c2 1 [] -> welcome 0 []
+4 s0 submit 1 reads 0 writes 0 { set @0.0 (@0.0 + 1); } -> relay 1 at 0 [0=(0)] [1:c0.1]
+5 s0 done [1:(7)] -> noted 0
+6 s3 join c0 2 [] -> welcome 0 []
+7 s1 poll -> relay 0 at 0 [0=(0)] [1:c0.1]
+8 s1 done [1:(1)] -> noted 0
+9 s2 poll -> relay 0 at 0 [0=(0)] [1:c0.1]
+10 s2 done [1:(1)] -> noted 1
+11 s3 submit 2 reads 0 writes 0 { set @0.0 (@0.0 + 1); } -> relay 2 at 1 [0=(1)] [2:c0.2]
+12 s3 done [2:(7)] -> noted 1
+13 s1 poll -> relay 0 at 1 [] [2:c0.2]
+14 s1 done [2:(2)] -> noted 1
+15 s2 poll -> relay 0 at 1 [] [2:c0.2]
+16 s2 done [2:(2)] -> noted 2
+",
     disputes: &[(1, (0, &[7]), (1, &[1])), (2, (0, &[7]), (1, &[2]))],
     commit: 2,
     first: 2,
@@ -119,22 +112,18 @@ const LIAR_JOINS_AGAIN: Case = Case {
 /// Of three written objects one is lied about. The dispute has the whole values of both.
 const ONE_OBJECT_OF_THREE: Case = Case {
     numbers: &[0, 0, 0],
-    rows: &[
-        (0, Join(0, 1, &[]), "welcome 0 []"),
-        (1, Join(1, 1, &[]), "welcome 0 []"),
-        (2, Join(2, 1, &[]), "welcome 0 []"),
-        (
-            0,
-            Submit(1, SETS_ALL),
-            "relay 1 at 0 [0=(0) 1=(0) 2=(0)] [1:c0.1]",
-        ),
-        (0, Done(&[(1, &[1, 2, 3])]), "noted 0"),
-        (1, Poll, "relay 0 at 0 [0=(0) 1=(0) 2=(0)] [1:c0.1]"),
-        (1, Done(&[(1, &[1, 9, 3])]), "noted 0"),
-        (2, Poll, "relay 0 at 0 [0=(0) 1=(0) 2=(0)] [1:c0.1]"),
-        (2, Done(&[(1, &[1, 2, 3])]), "noted 1"),
-        (3, Join(3, 1, &[0, 1, 2]), "welcome 1 [0=(1) 1=(2) 2=(3)]"),
-    ],
+    lines: "\
+1 s0 join c0 1 [] -> welcome 0 []
+2 s1 join c1 1 [] -> welcome 0 []
+3 s2 join c2 1 [] -> welcome 0 []
+4 s0 submit 1 reads 0 1 2 writes 0 1 2 { set @0.0 1; set @1.0 2; set @2.0 3; } -> relay 1 at 0 [0=(0) 1=(0) 2=(0)] [1:c0.1]
+5 s0 done [1:(1)(2)(3)] -> noted 0
+6 s1 poll -> relay 0 at 0 [0=(0) 1=(0) 2=(0)] [1:c0.1]
+7 s1 done [1:(1)(9)(3)] -> noted 0
+8 s2 poll -> relay 0 at 0 [0=(0) 1=(0) 2=(0)] [1:c0.1]
+9 s2 done [1:(1)(2)(3)] -> noted 1
+10 s3 join c3 1 [0 1 2] -> welcome 1 [0=(1) 1=(2) 2=(3)]
+",
     disputes: &[(1, (0, &[1, 2, 3]), (1, &[1, 9, 3]))],
     commit: 1,
     first: 1,
@@ -143,15 +132,11 @@ const ONE_OBJECT_OF_THREE: Case = Case {
 /// An action that writes nothing is committed by its first report.
 const LOOK_NEEDS_ONE: Case = Case {
     numbers: &[0],
-    rows: &[
-        (0, Join(0, 1, &[]), "welcome 0 []"),
-        (
-            0,
-            Submit(1, "reads 0 writes { }"),
-            "relay 1 at 0 [0=(0)] [1:c0.1]",
-        ),
-        (0, Done(&[(1, &[])]), "noted 1"),
-    ],
+    lines: "\
+1 s0 join c0 1 [] -> welcome 0 []
+2 s0 submit 1 reads 0 writes { } -> relay 1 at 0 [0=(0)] [1:c0.1]
+3 s0 done [1:] -> noted 1
+",
     disputes: &[],
     commit: 1,
     first: 0,
@@ -160,17 +145,17 @@ const LOOK_NEEDS_ONE: Case = Case {
 /// A position that is committed is beyond dispute: a later report of it does not count.
 const LATE_REPORT: Case = Case {
     numbers: &[0],
-    rows: &[
-        (0, Join(0, 1, &[]), "welcome 0 []"),
-        (1, Join(1, 1, &[]), "welcome 0 []"),
-        (2, Join(2, 1, &[]), "welcome 0 []"),
-        (0, Submit(1, ADDS_1), "relay 1 at 0 [0=(0)] [1:c0.1]"),
-        (1, Poll, "relay 0 at 0 [0=(0)] [1:c0.1]"),
-        (2, Poll, "relay 0 at 0 [0=(0)] [1:c0.1]"),
-        (0, Done(&[(1, &[1])]), "noted 0"),
-        (1, Done(&[(1, &[1])]), "noted 1"),
-        (2, Done(&[(1, &[7])]), "noted 1"),
-    ],
+    lines: "\
+1 s0 join c0 1 [] -> welcome 0 []
+2 s1 join c1 1 [] -> welcome 0 []
+3 s2 join c2 1 [] -> welcome 0 []
+4 s0 submit 1 reads 0 writes 0 { set @0.0 (@0.0 + 1); } -> relay 1 at 0 [0=(0)] [1:c0.1]
+5 s1 poll -> relay 0 at 0 [0=(0)] [1:c0.1]
+6 s2 poll -> relay 0 at 0 [0=(0)] [1:c0.1]
+7 s0 done [1:(1)] -> noted 0
+8 s1 done [1:(1)] -> noted 1
+9 s2 done [1:(7)] -> noted 1
+",
     disputes: &[],
     commit: 1,
     first: 1,
@@ -179,22 +164,22 @@ const LATE_REPORT: Case = Case {
 /// A position whose result is agreed, but waits for one before it, is still open to dispute. Polls ask for the lowest position first.
 const WAITING_RESULT: Case = Case {
     numbers: &[0, 0],
-    rows: &[
-        (0, Join(0, 1, &[]), "welcome 0 []"),
-        (1, Join(1, 1, &[]), "welcome 0 []"),
-        (2, Join(2, 1, &[]), "welcome 0 []"),
-        (0, Submit(1, ADDS_1), "relay 1 at 0 [0=(0)] [1:c0.1]"),
-        (0, Submit(2, ADDS_1_TO_1), "relay 2 at 0 [1=(0)] [2:c0.2]"),
-        (1, Poll, "relay 0 at 0 [0=(0)] [1:c0.1]"),
-        (1, Poll, "relay 0 at 0 [1=(0)] [2:c0.2]"),
-        (2, Poll, "relay 0 at 0 [0=(0)] [1:c0.1]"),
-        (2, Poll, "relay 0 at 0 [1=(0)] [2:c0.2]"),
-        (0, Done(&[(2, &[5])]), "noted 0"),
-        (1, Done(&[(2, &[5])]), "noted 0"),
-        (2, Done(&[(1, &[1]), (2, &[7])]), "noted 0"),
-        (1, Done(&[(1, &[1])]), "noted 2"),
-        (3, Join(3, 1, &[0, 1]), "welcome 2 [0=(1) 1=(5)]"),
-    ],
+    lines: "\
+1 s0 join c0 1 [] -> welcome 0 []
+2 s1 join c1 1 [] -> welcome 0 []
+3 s2 join c2 1 [] -> welcome 0 []
+4 s0 submit 1 reads 0 writes 0 { set @0.0 (@0.0 + 1); } -> relay 1 at 0 [0=(0)] [1:c0.1]
+5 s0 submit 2 reads 1 writes 1 { set @1.0 (@1.0 + 1); } -> relay 2 at 0 [1=(0)] [2:c0.2]
+6 s1 poll -> relay 0 at 0 [0=(0)] [1:c0.1]
+7 s1 poll -> relay 0 at 0 [1=(0)] [2:c0.2]
+8 s2 poll -> relay 0 at 0 [0=(0)] [1:c0.1]
+9 s2 poll -> relay 0 at 0 [1=(0)] [2:c0.2]
+10 s0 done [2:(5)] -> noted 0
+11 s1 done [2:(5)] -> noted 0
+12 s2 done [1:(1) 2:(7)] -> noted 0
+13 s1 done [1:(1)] -> noted 2
+14 s3 join c3 1 [0 1] -> welcome 2 [0=(1) 1=(5)]
+",
     disputes: &[(2, (0, &[5]), (2, &[7]))],
     commit: 2,
     first: 1,
@@ -203,18 +188,18 @@ const WAITING_RESULT: Case = Case {
 /// A Done that is refused is no report, of none of its positions.
 const REFUSED_REPORT: Case = Case {
     numbers: &[0],
-    rows: &[
-        (0, Join(0, 1, &[]), "welcome 0 []"),
-        (1, Join(1, 1, &[]), "welcome 0 []"),
-        (0, Submit(1, ADDS_1), "relay 1 at 0 [0=(0)] [1:c0.1]"),
-        (1, Done(&[(1, &[7])]), "refused 7 0"),
-        (0, Done(&[(1, &[7]), (2, &[7])]), "refused 7 0"),
-        (0, Done(&[(1, &[7, 7])]), "refused 7 0"),
-        (0, Done(&[]), "refused 7 0"),
-        (0, Done(&[(1, &[1])]), "noted 0"),
-        (1, Poll, "relay 0 at 0 [0=(0)] [1:c0.1]"),
-        (1, Done(&[(1, &[1])]), "noted 1"),
-    ],
+    lines: "\
+1 s0 join c0 1 [] -> welcome 0 []
+2 s1 join c1 1 [] -> welcome 0 []
+3 s0 submit 1 reads 0 writes 0 { set @0.0 (@0.0 + 1); } -> relay 1 at 0 [0=(0)] [1:c0.1]
+4 s1 done [1:(7)] -> refused 7 0
+5 s0 done [1:(7) 2:(7)] -> refused 7 0
+6 s0 done [1:(7)(7)] -> refused 7 0
+7 s0 done [] -> refused 7 0
+8 s0 done [1:(1)] -> noted 0
+9 s1 poll -> relay 0 at 0 [0=(0)] [1:c0.1]
+10 s1 done [1:(1)] -> noted 1
+",
     disputes: &[],
     commit: 1,
     first: 1,

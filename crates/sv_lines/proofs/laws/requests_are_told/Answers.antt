@@ -1,3 +1,4 @@
+-- What is proved by hand of `requests_are_told`.
 use Rattle.sv_lines.proofs.Requests.{request_tells}
 use Rattle.sv_lines.proofs.laws.requests_are_told.Goals as goal
 

@@ -1,3 +1,4 @@
+-- The line ends so far and those of the bytes left are all, in 32 bits.
 use Rattle.std.proofs.Common.{◌≡◌, ◌+◌, ◌%◌, ◌^◌, drop}
 use Rattle.sv_lines.specs.Lines.{line_ends}
 use Rattle.sv_lines.proofs.lines.line_ends.Given as goal

@@ -1,3 +1,4 @@
+-- What is proved by hand of `line_length`.
 use Rattle.sv_lines.proofs.Counting.{width_within, width_whole}
 use Rattle.sv_lines.proofs.lines.line_length.Goals as goal
 

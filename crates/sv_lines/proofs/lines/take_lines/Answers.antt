@@ -1,3 +1,4 @@
+-- What is proved by hand of `take_lines`.
 use Rattle.std.proofs.Common.{ℕ, take, drop, ap, ◌∙◌}
 use Rattle.sv_lines.proofs.Counting.{took_more}
 use Rattle.sv_lines.proofs.lines.take_lines.Goals as goal

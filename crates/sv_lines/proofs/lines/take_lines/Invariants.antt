@@ -1,3 +1,4 @@
+-- The lines so far stood in the text; each turn leaves fewer.
 use Rattle.std.proofs.Common.{length}
 use Rattle.sv_lines.proofs.Counting.{Took}
 use Rattle.sv_lines.proofs.lines.take_lines.Given as goal

@@ -1,3 +1,4 @@
+-- What is proved by hand of `joined_results`.
 use Rattle.std.proofs.Common.{[], ◌∷◌, sym}
 use Rattle.std.proofs.lemmas.Result.{err_from_is_err_and}
 use Rattle.sv_lines.specs.Reading.{joined_by, result_read}

@@ -1,3 +1,4 @@
+-- What is left, behind the results so far, gives what all gives.
 use Rattle.std.proofs.Common.{◌≡◌, ◌-◌, [], ◌∷◌}
 use Rattle.sv_lines.specs.Reading.{joined_by, result_read}
 use Rattle.sv_lines.proofs.lists.joined_results.Given as goal

@@ -1,3 +1,4 @@
+-- What is proved by hand of `joined_values`.
 use Rattle.std.proofs.Common.{[]}
 use Rattle.sv_lines.specs.Reading.{values_by}
 use Rattle.sv_lines.proofs.Turns.{values_go}

@@ -1,3 +1,4 @@
+-- What is left, behind the values so far, gives what all gives.
 use Rattle.std.proofs.Common.{◌≡◌, ◌-◌, []}
 use Rattle.sv_lines.specs.Reading.{values_by}
 use Rattle.sv_lines.proofs.lists.joined_values.Given as goal

@@ -1,3 +1,4 @@
+-- What is proved by hand of `behind`.
 use Rattle.std.proofs.lemmas.Bool.Decides.{Decides-eqb}
 use Rattle.std.proofs.lemmas.Slice.Eq.{strip_prefix_is}
 use Rattle.sv_lines.proofs.Numerals.{front_found}

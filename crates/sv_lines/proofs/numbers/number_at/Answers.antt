@@ -1,3 +1,4 @@
+-- What is proved by hand of `number_at`.
 use Rattle.sv_lines.proofs.Numerals.{number_ok, number_err}
 use Rattle.sv_lines.proofs.numbers.number_at.Goals as goal
 

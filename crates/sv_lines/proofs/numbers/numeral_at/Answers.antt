@@ -1,3 +1,4 @@
+-- What is proved by hand of `numeral_at`.
 use Rattle.std.proofs.Common.{arith}
 use Rattle.std.proofs.lemmas.List.Sums.{prefix_len-le-length}
 use Rattle.sv_lines.specs.Reading.{is_numeric}

@@ -1,3 +1,4 @@
+-- What is proved by hand of `signed_at`.
 use Rattle.std.specs.Int.{w64}
 use Rattle.std.proofs.lemmas.Int.{to_z-of_z}
 use Rattle.sv_lines.proofs.Numerals.{signed_ok, signed_err, signed_long}

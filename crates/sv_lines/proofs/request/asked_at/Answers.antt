@@ -1,3 +1,4 @@
+-- What is proved by hand of `asked_at`.
 use Rattle.std.proofs.Common.{sym, ap, ◌∙◌}
 use Rattle.std.proofs.lemmas.Result.{err_from_is_err_and}
 use Rattle.sv_lines.specs.Asking.{asked_read}

@@ -1,3 +1,4 @@
+-- What is proved by hand of `before_arrow`.
 use Rattle.std.proofs.Common.{◌-◌, arith}
 use Rattle.std.specs.List.{prefix_len}
 use Rattle.std.proofs.lemmas.List.Sums.{prefix_len-le-length}

@@ -1,3 +1,4 @@
+-- Each call has fewer results before it.
 use Rattle.std.proofs.Common.{length}
 use Rattle.sv_lines.proofs.same.+same_results.Given as goal
 

@@ -1,3 +1,4 @@
+-- Each call has fewer values before it.
 use Rattle.std.proofs.Common.{length}
 use Rattle.sv_lines.proofs.same.+same_values.Given as goal
 

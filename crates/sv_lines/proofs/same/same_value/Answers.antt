@@ -1,3 +1,4 @@
+-- What is proved by hand of `same_value`.
 use Rattle.std.proofs.lemmas.Bool.Decides.{Decides-int_eq}
 use Rattle.std.proofs.lemmas.Slice.Eq.{slice_eq-Decides}
 use Rattle.sv_lines.proofs.same.same_value.Goals as goal

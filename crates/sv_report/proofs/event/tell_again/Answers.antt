@@ -1,3 +1,4 @@
+-- What is proved by hand of `tell_again`.
 use Rattle.std.proofs.Common.{[], ◌∷◌, ◌++◌, string_bytes}
 use Rattle.sv_report.specs.Again.{text_of}
 use Rattle.sv_report.proofs.Telling.{ended, told_whole}

@@ -1,3 +1,4 @@
+-- Each call has fewer objects before it.
 use Rattle.std.proofs.Common.{length}
 use Rattle.sv_report.proofs.kept.+append_more.Given as goal
 

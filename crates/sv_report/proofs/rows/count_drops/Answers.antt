@@ -1,6 +1,7 @@
+-- What is proved by hand of `count_drops`.
 use Rattle.std.proofs.Common.{arith}
 use Rattle.std.proofs.lemmas.List.{at_drop_all}
-use Rattle.sv_report.specs.Rows.{drops_after}
+use Rattle.sv_report.specs.Drops.{drops_after}
 use Rattle.sv_report.proofs.Dropping.{dropped_is}
 use Rattle.sv_report.proofs.rows.count_drops.Goals as goal
 

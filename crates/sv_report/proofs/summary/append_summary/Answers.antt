@@ -1,3 +1,4 @@
+-- What is proved by hand of `append_summary`.
 use Rattle.std.proofs.Common.{◌≤◌, List, length, reverse, sym, ap, subst, arith}
 use Rattle.std.specs.Prelude.{All}
 use Rattle.sv_client.specs.declared.trace.Trace.{Trace}

@@ -1,3 +1,4 @@
+-- What is proved by hand of `append_totals`.
 use Rattle.std.proofs.Common.{◌≡◌, ℕ, suc, ◌+◌, ◌-◌, ℤ, List, ◌++◌, ap, arith}
 use Rattle.sv_report.specs.Summary.{total_line, total_lines}
 use Rattle.sv_report.proofs.Lines.{one_more}

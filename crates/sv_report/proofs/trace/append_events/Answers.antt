@@ -1,3 +1,4 @@
+-- What is proved by hand of `append_events`.
 use Rattle.std.proofs.Common.{ℕ, ◌+◌, List, ◌++◌, reverse, drop, string_bytes, refl, sym, ap, subst, ◌∙◌}
 use Rattle.std.proofs.lemmas.List.{append-nil, at_drop_all}
 use Rattle.sv_client.specs.declared.trace.Event.{Event}

@@ -1,9 +1,9 @@
+-- The client did the events before those left; the text so far and the lines of those left are the whole.
 use Rattle.std.proofs.Common.{◌≡◌, [], ◌++◌, string_bytes, drop}
 use Rattle.sv_report.specs.Again.{numbered, lines_after}
 use Rattle.sv_report.proofs.Standing.{Stands}
 use Rattle.sv_report.proofs.trace.append_events.Given as goal
 
--- the client did the events before those left; the text so far and the lines of those left are the whole
 abbrev pub invariant-loop-event : goal.invariant-loop-event
 invariant-loop-event l = record {
   who : l.client.who ≡ l.fn.client.who;

@@ -1,3 +1,4 @@
+-- The values so far and those of the objects left are all.
 use Rattle.std.proofs.Common.{◌≡◌, ◌++◌, map, drop}
 use Rattle.sv_world.specs.declared.world.ObjectId.{ObjectId}
 use Rattle.sv_eval.specs.Serial.{values_at}

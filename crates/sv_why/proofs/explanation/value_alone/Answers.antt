@@ -1,3 +1,4 @@
+-- What is proved by hand of `value_alone`.
 use Rattle.std.proofs.Common.{◌≡◌, ℕ, ℤ, List, ◌∙◌, ap₂, sym, reverse}
 use Rattle.sv_world.specs.declared.action.Action.{Action}
 use Rattle.sv_eval.specs.Serial.{world_after}

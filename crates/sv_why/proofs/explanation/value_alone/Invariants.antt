@@ -1,3 +1,4 @@
+-- The world is that of the actions so far.
 use Rattle.std.proofs.Common.{◌≡◌, map, reverse}
 use Rattle.sv_world.specs.Control.{action_at}
 use Rattle.sv_eval.specs.Serial.{serial_world}

@@ -1,3 +1,4 @@
+-- What is proved by hand of `why`.
 use Rattle.std.proofs.Common.{◌≡◌, ℕ, ℤ, ◌≤◌, List, [], length, reverse, refl, sym, ◌∙◌, ap, subst, slice_index_or}
 use Rattle.std.specs.Prelude.{All}
 use Rattle.sv_journal.specs.History.{accepted, actions_of}

@@ -1,3 +1,4 @@
+-- Each call has fewer objects before it.
 use Rattle.std.proofs.Common.{length}
 use Rattle.sv_why.proofs.reasons.+want_all.Given as goal
 

@@ -1,3 +1,4 @@
+-- Each call has fewer reads before it.
 use Rattle.std.proofs.Common.{length}
 use Rattle.sv_why.proofs.reasons.+writes_wanted.Given as goal
 

@@ -1,3 +1,4 @@
+-- What is proved by hand of `flags_for`.
 use Rattle.std.proofs.Common.{Bool, false, ◌||◌, List, nat_eq, get_or, ap, ◌∙◌}
 use Rattle.sv_why.proofs.Wanting.{no-flag, or_none}
 use Rattle.sv_why.proofs.reasons.flags_for.Goals as goal

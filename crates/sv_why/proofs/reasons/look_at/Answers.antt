@@ -1,3 +1,4 @@
+-- What is proved by hand of `look_at`.
 use Rattle.std.proofs.Common.{refl, reverse}
 use Rattle.sv_journal.specs.History.{actions_of}
 use Rattle.sv_why.specs.Walks.{is_wanted}

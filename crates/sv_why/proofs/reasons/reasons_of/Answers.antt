@@ -1,3 +1,4 @@
+-- What is proved by hand of `reasons_of`.
 use Rattle.std.proofs.Common.{◌≡◌, ℕ, Bool, List, [], ◌++◌, reverse, ap, ap₂, sym, ◌∙◌, arith, append-nil}
 use Rattle.sv_journal.specs.History.{actions_of}
 use Rattle.sv_why.specs.Walks.{is_wanted, walk}

@@ -1,3 +1,4 @@
+-- What the walk found so far, and what it will find from here down, are the reasons.
 use Rattle.std.proofs.Common.{◌≡◌, ◌≤◌, ◌++◌, length, reverse}
 use Rattle.sv_journal.specs.History.{actions_of}
 use Rattle.sv_why.specs.Reasons.{reasons_of}

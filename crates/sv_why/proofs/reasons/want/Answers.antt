@@ -1,3 +1,4 @@
+-- What is proved by hand of `want`.
 use Rattle.std.proofs.Common.{rules}
 use Rattle.sv_why.proofs.Wanting.{mark-at}
 use Rattle.sv_why.proofs.reasons.want.Goals as goal

@@ -1,3 +1,4 @@
+-- The client stays the same.
 use Rattle.std.proofs.Common.{◌≡◌}
 use Rattle.test_client.proofs.client.play.Given as goal
 

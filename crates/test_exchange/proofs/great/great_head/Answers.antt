@@ -1,3 +1,4 @@
+-- What is proved by hand of `great_head`.
 use Rattle.std.proofs.Common.{◌∙◌}
 use Rattle.test_exchange.proofs.Relays.{heads_none}
 use Rattle.test_exchange.proofs.great.great_head.Goals as goal

@@ -1,3 +1,4 @@
+-- The values of so many objects stand there.
 use Rattle.std.proofs.Common.{◌≡◌}
 use Rattle.test_exchange.specs.Worked.{great_heads}
 use Rattle.test_exchange.proofs.great.great_head.Given as goal

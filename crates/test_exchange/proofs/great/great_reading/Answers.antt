@@ -1,3 +1,4 @@
+-- What is proved by hand of `great_reading`.
 use Rattle.std.proofs.Common.{◌∙◌}
 use Rattle.test_exchange.proofs.Relays.{reads_none}
 use Rattle.test_exchange.proofs.great.great_reading.Goals as goal

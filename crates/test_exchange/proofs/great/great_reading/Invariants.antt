@@ -1,3 +1,4 @@
+-- So many objects stand there.
 use Rattle.std.proofs.Common.{◌≡◌}
 use Rattle.test_exchange.specs.Worked.{great_reads}
 use Rattle.test_exchange.proofs.great.great_reading.Given as goal

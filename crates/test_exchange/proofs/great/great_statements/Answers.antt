@@ -1,3 +1,4 @@
+-- What is proved by hand of `great_statements`.
 use Rattle.std.proofs.Common.{◌∙◌}
 use Rattle.test_exchange.proofs.Relays.{body_none}
 use Rattle.test_exchange.proofs.great.great_statements.Goals as goal

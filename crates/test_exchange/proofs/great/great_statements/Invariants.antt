@@ -1,3 +1,4 @@
+-- So many statements stand there.
 use Rattle.std.proofs.Common.{◌≡◌}
 use Rattle.test_exchange.specs.Worked.{great_body}
 use Rattle.test_exchange.proofs.great.great_statements.Given as goal

@@ -1,3 +1,4 @@
+-- What is proved by hand of `take_turns`.
 use Rattle.std.proofs.Common.{rules, ◌≡◌, [], ◌∷◌, map, subst, ◌<◌, ℕ}
 use Rattle.sv_lock.proofs.Ended.{two_ended}
 use Rattle.test_hostile.proofs.sleepers.take_turns.Goals as goal

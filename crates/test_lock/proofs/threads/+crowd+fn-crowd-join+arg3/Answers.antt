@@ -1,3 +1,4 @@
+-- What is proved by hand of `crowd`.
 use Rattle.std.proofs.Common.{rules, ◌≡◌, ◌+◌, [], ◌∷◌, ◌++◌}
 use Rattle.sv_lock.proofs.Ended.{one_more_ended}
 use Rattle.test_lock.proofs.threads.+crowd+fn-crowd-join+arg3.Goals as goal

@@ -1,3 +1,4 @@
+-- Each call has fewer threads to start than the one that makes it.
 use Rattle.std.proofs.Common.{◌+◌, ◌*◌}
 use Rattle.test_lock.proofs.threads.+crowd+fn-crowd-join+arg3.Given as goal
 

@@ -1,3 +1,4 @@
+-- What is proved by hand of `nest`.
 use Rattle.std.proofs.Common.{rules, ◌≡◌, ◌+◌, [], ◌∷◌, ◌++◌}
 use Rattle.sv_lock.proofs.Ended.{one_more_ended}
 use Rattle.test_lock.proofs.threads.+nest.Goals as goal

@@ -1,3 +1,4 @@
+-- Each call has fewer passes left.
 use Rattle.test_lock.proofs.threads.+nest.Given as goal
 
 abbrev pub decreases-nest : goal.decreases-nest

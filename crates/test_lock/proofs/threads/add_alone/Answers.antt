@@ -1,3 +1,4 @@
+-- What is proved by hand of `add_alone`.
 use Rattle.std.proofs.Common.{rules, ◌≡◌, [], ◌∷◌, map, subst, ◌<◌, ℕ}
 use Rattle.sv_lock.proofs.Ended.{one_ended}
 use Rattle.test_lock.proofs.threads.add_alone.Goals as goal

@@ -1,3 +1,4 @@
+-- What is proved by hand of `add_by`.
 use Rattle.std.proofs.Common.{rules, ◌≡◌, arith}
 use Rattle.test_lock.proofs.threads.add_by.Goals as goal
 

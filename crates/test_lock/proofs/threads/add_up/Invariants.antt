@@ -1,3 +1,4 @@
+-- The pass stays that of its lock and session.
 use Rattle.std.proofs.Common.{◌≡◌}
 use Rattle.test_lock.proofs.threads.add_up.Given as goal
 

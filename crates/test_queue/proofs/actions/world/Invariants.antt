@@ -1,3 +1,4 @@
+-- So many values of one number each stand there.
 use Rattle.std.proofs.Common.{◌≡◌, All, length}
 use Rattle.test_queue.proofs.actions.world.Given as goal
 

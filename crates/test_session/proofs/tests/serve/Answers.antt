@@ -1,9 +1,10 @@
+-- What is proved by hand of `serve`.
 use Rattle.std.proofs.Common.{rules, ◌≡◌, [], ◌∷◌, map, subst, ◌<◌, ℕ}
 use Rattle.sv_lock.proofs.Ended.{one_ended}
 use Rattle.test_session.proofs.tests.serve.Goals as goal
 
-pub close-sequencer-requires-clause-ended : goal.close-sequencer-requires-clause-ended
-close-sequencer-requires-clause-ended g c =
+pub close-requires-clause-ended : goal.close-requires-clause-ended
+close-requires-clause-ended g c =
     let keeper = c.join.new.keeper in
     let made : keeper.made ≡ 1 = search rules in
     let numbers : map (λ x. x.0) keeper.ended ≡ 0 ∷ [] = search rules in

@@ -1,3 +1,4 @@
+-- The versions stay those of two objects.
 use Rattle.std.proofs.Common.{◌≡◌}
 use Rattle.test_world.proofs.versions.filled.Given as goal
 

@@ -6,8 +6,8 @@ use Rattle.sv_frame.proofs.Room.{part, part-after}
 use Rattle.sv_frame.proofs.Splitting.{takes_off, skips}
 use Rattle.sv_frame.proofs.reader.FrameReader.skip.Goals as goal
 
-pub returns-in-Whole : goal.returns-in-Whole
-returns-in-Whole c =
+pub returns : goal.returns
+returns c =
     let room = c.deref.result.now in
     let start = c.self.inside.start in
     let end = c.self.inside.end in

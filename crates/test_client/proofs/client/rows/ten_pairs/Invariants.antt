@@ -1,3 +1,4 @@
+-- The client stays the same.
 use Rattle.std.proofs.Common.{◌≡◌}
 use Rattle.test_client.proofs.client.rows.ten_pairs.Given as goal
 

@@ -1,3 +1,4 @@
+-- The pass stays that of its lock and session.
 use Rattle.std.proofs.Common.{◌≡◌}
 use Rattle.test_server.proofs.sequencer.threads.visit.Given as goal
 

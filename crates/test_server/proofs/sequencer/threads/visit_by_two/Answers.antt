@@ -1,3 +1,4 @@
+-- What is proved by hand of `visit_by_two`.
 use mir.Syntax.{named}
 use contract.Lifetimes.{Lfts}
 use denote.Exit.{yes}

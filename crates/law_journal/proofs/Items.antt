@@ -1,0 +1,114 @@
+-- A relay has items, unless it answers a Submit whose action was sent to the session before.
+use Rattle.std.proofs.Common.{◌≡◌, ℕ, ◌+◌, ◌≤◌, true, false, inl, inr, List, [], ◌∷◌, ◌++◌, length, map, Some, refl, sym, ap, ◌∙◌, arith, true≢false, length-append}
+use Rattle.std.specs.Prelude.{◌==◌}
+use Rattle.std.specs.List.{AllByRecursion}
+use Rattle.std.proofs.lemmas.Bool.{cond_both, cases_lt, false_from_ne_true}
+use Rattle.std.proofs.lemmas.List.{length-map}
+use Rattle.std.proofs.lemmas.List.Elements.{recursion_from_All}
+use Rattle.sv_world.specs.declared.action.Action.{Action}
+use Rattle.sv_world.specs.Control.{is_in}
+use Rattle.sv_world.proofs.Members.{is_in-cons_cases, is_in-append_cases}
+use Rattle.sv_wire.specs.declared.message.Request.{Request}
+use Rattle.sv_wire.specs.declared.message.Request.TheVariants as requests
+use Rattle.sv_journal.specs.declared.entry.Entry.{Entry}
+use Rattle.sv_journal.specs.declared.entry.Logged.{Logged}
+use Rattle.sv_journal.specs.declared.entry.Logged.TheVariants as logged
+use Rattle.sv_journal.specs.History.{client_of, Authored, accepted, item_at, full_reply}
+use Rattle.sv_journal.specs.Sessions.{positions_in, sent_to}
+use Rattle.sv_journal.specs.Answer.{Rules}
+use Rattle.sv_journal.specs.Serving.{Keeping, reply_for, LegalFor, IsKeeping}
+use Rattle.sv_journal.specs.Text.{NamesAccepted}
+use Rattle.sv_journal.specs.Laws.{ServedRelaysNameAccepted}
+use Rattle.law_journal.specs.Brought.{IsMadeBy, EndsWith, BringsFor, BringsBy, HasItems, AsksForNothingSent, HasItemsUnlessSent, ServedRelaysHaveItems}
+use Rattle.law_journal.proofs.EveryEntry.{entry_of, each-entry}
+use Rattle.law_journal.proofs.Staying.{added}
+use Rattle.law_journal.proofs.Makers.{made-less}
+use Rattle.law_journal.proofs.Asked.{NeededEnds, NeededUpTo, NoneOfSent, brings-here}
+
+-- ---- What was sent was accepted
+
+abbrev AreWithin : ℕ → List ℕ → Type 0
+AreWithin n ps = AllByRecursion (λ (p : ℕ). (1 ≤ p) × (p ≤ n)) ps
+
+member-within : (n p : ℕ) (ps : List ℕ) → AreWithin n ps → is_in p ps ≡ true → p ≤ n
+member-within n p [] all m = absurd (true≢false (sym m))
+member-within n p (q ∷ ps) all m =
+    let last : q ≤ n = all.0.1 in
+    elim (is_in-cons_cases p q ps m) [
+      | inl same ↦ omega arith
+      | inr rest ↦ member-within n p ps all.1 rest
+    ]
+
+named-within : (n p : ℕ) (w : Logged) → NamesAccepted n w → is_in p (positions_in w) ≡ true → p ≤ n
+named-within n p (logged.Relay seq commit head positions) all m =
+    member-within n p positions (recursion_from_All (λ (q : ℕ). (1 ≤ q) × (q ≤ n)) positions all) m
+named-within n p (logged.Welcome commit head) all m = absurd (true≢false (sym m))
+named-within n p (logged.Dropped seq chain far) all m = absurd (true≢false (sym m))
+named-within n p (logged.Settled seq pos) all m = absurd (true≢false (sym m))
+named-within n p (logged.Noted commit) all m = absurd (true≢false (sym m))
+named-within n p logged.Idle all m = absurd (true≢false (sym m))
+named-within n p (logged.Refused code detail) all m = absurd (true≢false (sym m))
+named-within n p logged.Bye all m = absurd (true≢false (sym m))
+
+sent-within : (n : ℕ) (h : List Entry) (s p : ℕ) → AllByRecursion (λ (e : Entry). NamesAccepted n e.reply) h → is_in p (sent_to h s) ≡ true → p ≤ n
+sent-within n [] s p all m = absurd (true≢false (sym m))
+sent-within n (e ∷ h) s p all m =
+    let before = sent-within n h s p all.1 in
+    cond_both (e.session == s) (sent_to h s ++ positions_in e.reply) (sent_to h s) (λ (ps : List ℕ). is_in p ps ≡ true → p ≤ n)
+    (λ own f. elim (is_in-append_cases p (sent_to h s) (positions_in e.reply) f) [ inl l ↦ before l | inr l ↦ named-within n p e.reply all.0 l ])
+    (λ other f. before f)
+    m
+
+-- ---- Items
+
+ends-some : (p : ℕ) (positions : List ℕ) → EndsWith p positions → 1 ≤ length positions
+ends-some p positions ends =
+    let count : length positions ≡ length ends.0 + 1 = ap (λ (l : List ℕ). length l) ends.1 ∙ length-append ends.0 (p ∷ []) in
+    omega arith
+
+module _ (k : Keeping) (h : List Entry) (s : ℕ) (within : (p : ℕ) → is_in p (sent_to h s) ≡ true → p ≤ length (accepted h)) where
+  -- The position of a Submit's action was not sent to the session before.
+  not-sent : (seq : ℕ) (a : Action) (w : Logged) (client p : ℕ) → AsksForNothingSent h (entry_of s (requests.Submit seq a) w) → client_of h s ≡ Some client →
+      IsMadeBy (accepted (entry_of s (requests.Submit seq a) w ∷ h)) client seq p → is_in p (sent_to h s) ≡ false
+  not-sent seq a w client p asks joined made =
+      elim (cases_lt (length (accepted h)) p) [
+        | inl new ↦ false_from_ne_true (is_in p (sent_to h s)) (λ m. (let last : p ≤ length (accepted h) = within p m in absurd (omega arith)))
+        | inr old ↦ asks client seq p a joined refl (made-less (accepted h) (added (entry_of s (requests.Submit seq a) w) h) client seq p old made)
+      ]
+
+  some-positions : (q : Request) (w : Logged) (positions : List ℕ) → AsksForNothingSent h (entry_of s q w) → BringsFor k h (accepted (entry_of s q w ∷ h)) s q positions →
+      1 ≤ length positions
+  some-positions (requests.Submit seq a) w positions asks b =
+      ends-some b.position positions (b.brings.unsent (not-sent seq a w b.client b.position asks b.joined b.made))
+  some-positions requests.Poll w positions asks b = ends-some b.position positions b.ends
+  some-positions (requests.Join client life interest) w positions asks b = absurd b
+  some-positions (requests.Done results) w positions asks b = absurd b
+  some-positions requests.Leave w positions asks b = absurd b
+  some-positions requests.Bad w positions asks b = absurd b
+  some-positions requests.End w positions asks b = absurd b
+
+  -- So a reply has items.
+  some-items : (q : Request) (w v : Logged) (A : List Authored) → AsksForNothingSent h (entry_of s q w) → BringsBy k h (accepted (entry_of s q w ∷ h)) s q v → HasItems (full_reply A v)
+  some-items q w (logged.Relay seq commit head positions) A asks b =
+      let some : 1 ≤ length positions = some-positions q w positions asks b in
+      let count : length (map (item_at A) positions) ≡ length positions = length-map positions (item_at A) in
+      omega arith
+  some-items q w (logged.Welcome commit head) A asks b = tt
+  some-items q w (logged.Dropped seq chain far) A asks b = tt
+  some-items q w (logged.Settled seq pos) A asks b = tt
+  some-items q w (logged.Noted commit) A asks b = tt
+  some-items q w logged.Idle A asks b = tt
+  some-items q w (logged.Refused code detail) A asks b = tt
+  some-items q w logged.Bye A asks b = tt
+
+-- Of the next reply to a session.
+pub items-here : NeededEnds → NeededUpTo → NoneOfSent → ServedRelaysNameAccepted → (k : Keeping) → IsKeeping k → (r : Rules) (h : List Entry) (s : ℕ) (q : Request) → LegalFor k r h →
+    HasItemsUnlessSent h (entry_of s q (reply_for k r h s q))
+items-here ends up_to none named k law r h s q before asks =
+    let w = reply_for k r h s q in
+    let all = recursion_from_All (λ (e : Entry). NamesAccepted (length (accepted h)) e.reply) h (named k r h law before) in
+    some-items k h s (λ p m. sent-within (length (accepted h)) h s p all m) q w w (accepted (entry_of s q w ∷ h)) asks (brings-here ends up_to none k law r h s q)
+
+pub served_items : NeededEnds → NeededUpTo → NoneOfSent → ServedRelaysNameAccepted → ServedRelaysHaveItems
+served_items ends up_to none named k r h law legal =
+    each-entry k r HasItemsUnlessSent (λ g s q before. items-here ends up_to none named k law r g s q before) h legal

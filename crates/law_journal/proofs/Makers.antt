@@ -1,0 +1,166 @@
+-- Who made the action at a position: an outcome that tells a position is that of the action there.
+use Rattle.std.proofs.Common.{◌≡◌, ℕ, zero, suc, ◌+◌, ◌≤◌, Bool, true, ◌&&◌, ◌==◌, ◌⊎◌, inl, inr, List, [], ◌∷◌, ◌++◌, length, Option, Some, None, slice_get, refl, sym, ap, ◌∙◌, subst, arith, eq-eqb, eqb-true, true≢false, length-append}
+use Rattle.std.specs.Prelude.{if◌then◌else◌}
+use Rattle.std.proofs.lemmas.Bool.{cond-true, cond-false, cases_Bool, and_parts}
+use Rattle.std.proofs.lemmas.List.{get_or_append_left, get_or_push}
+use Rattle.std.proofs.lemmas.Option.{none-some, same_Some}
+use Rattle.sv_world.specs.declared.action.Action.{Action}
+use Rattle.sv_world.specs.Control.{blank}
+use Rattle.sv_wire.specs.declared.message.Request.{Request}
+use Rattle.sv_wire.specs.declared.message.Request.TheVariants as requests
+use Rattle.sv_journal.specs.declared.entry.Entry.{Entry}
+use Rattle.sv_journal.specs.declared.entry.Logged.{Logged}
+use Rattle.sv_journal.specs.declared.entry.Logged.TheVariants as logged
+use Rattle.sv_journal.specs.History.{is_relay, client_of, is_client, is_submit_of, Outcome, Accepted, Dropped, outcome_in, outcomes_of, Authored, new_action, accepted, next_seq, authored_at}
+use Rattle.sv_journal.specs.Sessions.{outcome_at, kept_outcome}
+use Rattle.law_journal.specs.Brought.{IsMadeBy}
+use Rattle.law_journal.proofs.Staying.{added}
+use Rattle.law_journal.proofs.Zeros.{kept-is}
+
+-- ---- Accepted actions and more
+
+authored-front : (A more : List Authored) (p : ℕ) → p ≤ length A → authored_at (A ++ more) p ≡ authored_at A p
+authored-front A more zero last = refl
+authored-front A more (suc n) last = get_or_append_left A more (record { client = 0; seq = 0; action = blank }) n (omega arith)
+
+pub authored-last : (A : List Authored) (x : Authored) → authored_at (A ++ x ∷ []) (suc (length A)) ≡ x
+authored-last A x = get_or_push A x (record { client = 0; seq = 0; action = blank }) (length A) refl
+
+pub made-more : (A more : List Authored) (client number p : ℕ) → IsMadeBy A client number p → IsMadeBy (A ++ more) client number p
+made-more A more client number p m =
+    let last : p ≤ length A = m.within in
+    let count : length (A ++ more) ≡ length A + length more = length-append A more in
+    let same : authored_at (A ++ more) p ≡ authored_at A p = authored-front A more p last in
+    record {
+      some = m.some;
+      within = omega arith;
+      maker = ap (λ (x : Authored). x.client) same ∙ m.maker;
+      numbered = ap (λ (x : Authored). x.seq) same ∙ m.numbered;
+    }
+
+pub made-less : (A more : List Authored) (client number p : ℕ) → p ≤ length A → IsMadeBy (A ++ more) client number p → IsMadeBy A client number p
+made-less A more client number p last m =
+    let same : authored_at A p ≡ authored_at (A ++ more) p = sym (authored-front A more p last) in
+    record {
+      some = m.some;
+      within = last;
+      maker = ap (λ (x : Authored). x.client) same ∙ m.maker;
+      numbered = ap (λ (x : Authored). x.seq) same ∙ m.numbered;
+    }
+
+made-last : (A B : List Authored) (x : Authored) → B ≡ A ++ x ∷ [] → IsMadeBy B x.client x.seq (suc (length A))
+made-last A B x is =
+    let count : length (A ++ x ∷ []) ≡ length A + 1 = length-append A (x ∷ []) in
+    let here : IsMadeBy (A ++ x ∷ []) x.client x.seq (suc (length A)) = record {
+      some = omega arith;
+      within = omega arith;
+      maker = ap (λ (y : Authored). y.client) (authored-last A x);
+      numbered = ap (λ (y : Authored). y.seq) (authored-last A x);
+    } in
+    subst (λ (C : List Authored). IsMadeBy C x.client x.seq (suc (length A))) (sym is) here
+
+-- ---- A new action
+
+-- A Submit with its client's next number that a relay answers is accepted.
+accepted-new : (e : Entry) (h : List Entry) (k n : ℕ) (a : Action) → client_of h e.session ≡ Some k → e.request ≡ requests.Submit n a → n ≡ next_seq h k → is_relay e.reply ≡ true →
+    accepted (e ∷ h) ≡ accepted h ++ record { client = k; seq = n; action = a } ∷ []
+accepted-new e h k n a client asked number relayed =
+    let next : ℕ → ℕ = λ j. suc (length (outcomes_of h j)) in
+    ap (λ (l : List Authored). accepted h ++ l)
+    (cond-true (is_relay e.reply) (new_action (client_of h e.session) next e.request) [] relayed
+    ∙ ap (λ (o : Option ℕ). new_action o next e.request) client
+    ∙ ap (new_action (Some k) next) asked
+    ∙ cond-true (n == next_seq h k) (record { client = k; seq = n; action = a } ∷ []) [] (eq-eqb n (next_seq h k) number))
+
+-- It is the last one.
+pub action-new : (e : Entry) (h : List Entry) (k n : ℕ) (a : Action) → client_of h e.session ≡ Some k → e.request ≡ requests.Submit n a → n ≡ next_seq h k → is_relay e.reply ≡ true →
+    (authored_at (accepted (e ∷ h)) (suc (length (accepted h)))).action ≡ a
+action-new e h k n a client asked number relayed =
+    let x : Authored = record { client = k; seq = n; action = a } in
+    ap (λ (A : List Authored). (authored_at A (suc (length (accepted h)))).action) (accepted-new e h k n a client asked number relayed)
+    ∙ ap (λ (y : Authored). y.action) (authored-last (accepted h) x)
+
+pub made-new : (e : Entry) (h : List Entry) (k n : ℕ) (a : Action) → client_of h e.session ≡ Some k → e.request ≡ requests.Submit n a → n ≡ next_seq h k → is_relay e.reply ≡ true →
+    IsMadeBy (accepted (e ∷ h)) k n (suc (length (accepted h)))
+made-new e h k n a client asked number relayed =
+    made-last (accepted h) (accepted (e ∷ h)) (record { client = k; seq = n; action = a }) (accepted-new e h k n a client asked number relayed)
+
+-- ---- Outcomes
+
+-- A position that an outcome of client k's action with number n tells is that of the action.
+abbrev TellsOwn : List Authored → ℕ → ℕ → Outcome → Type 0
+TellsOwn A k n (Accepted p) = IsMadeBy A k n p
+TellsOwn A k n (Dropped chain far) = Unit {0}
+
+tells-more : (A more : List Authored) (k n : ℕ) (o : Outcome) → TellsOwn A k n o → TellsOwn (A ++ more) k n o
+tells-more A more k n (Accepted p) own = made-more A more k n p own
+tells-more A more k n (Dropped chain far) own = tt
+
+client-is : (o : Option ℕ) (k : ℕ) → is_client o k ≡ true → o ≡ Some k
+client-is None k e = absurd (true≢false (sym e))
+client-is (Some j) k e = ap (λ (m : ℕ). Some m) (eqb-true j k e)
+
+submit-is : (q : Request) (n : ℕ) → is_submit_of q n ≡ true → (a : Action) × (q ≡ requests.Submit n a)
+submit-is (requests.Submit seq action) n e = (action, ap (λ (m : ℕ). requests.Submit m action) (eqb-true seq n e))
+submit-is (requests.Join client life interest) n e = absurd (true≢false (sym e))
+submit-is (requests.Done results) n e = absurd (true≢false (sym e))
+submit-is requests.Poll n e = absurd (true≢false (sym e))
+submit-is requests.Leave n e = absurd (true≢false (sym e))
+submit-is requests.Bad n e = absurd (true≢false (sym e))
+submit-is requests.End n e = absurd (true≢false (sym e))
+
+tells-new : (e : Entry) (h : List Entry) (k : ℕ) (a : Action) → client_of h e.session ≡ Some k → e.request ≡ requests.Submit (next_seq h k) a →
+    (w : Logged) → e.reply ≡ w → (j : ℕ) (o : Outcome) → slice_get (outcome_in (suc (length (accepted h))) w) j ≡ Some o →
+    (j ≡ 0) × TellsOwn (accepted (e ∷ h)) k (next_seq h k) o
+tells-new e h k a client asked (logged.Relay seq commit head positions) is zero o at = (
+  refl,
+  subst (TellsOwn (accepted (e ∷ h)) k (next_seq h k)) (same_Some (Accepted (suc (length (accepted h)))) o at)
+      (made-new e h k (next_seq h k) a client asked refl (ap is_relay is)),
+)
+tells-new e h k a client asked (logged.Relay seq commit head positions) is (suc j) o at = absurd (none-some o at)
+tells-new e h k a client asked (logged.Dropped seq chain far) is zero o at =
+    (refl, subst (TellsOwn (accepted (e ∷ h)) k (next_seq h k)) (same_Some (Dropped chain far) o at) tt)
+tells-new e h k a client asked (logged.Dropped seq chain far) is (suc j) o at = absurd (none-some o at)
+tells-new e h k a client asked (logged.Welcome commit head) is j o at = absurd (none-some o at)
+tells-new e h k a client asked (logged.Settled seq pos) is j o at = absurd (none-some o at)
+tells-new e h k a client asked (logged.Noted commit) is j o at = absurd (none-some o at)
+tells-new e h k a client asked logged.Idle is j o at = absurd (none-some o at)
+tells-new e h k a client asked (logged.Refused code detail) is j o at = absurd (none-some o at)
+tells-new e h k a client asked logged.Bye is j o at = absurd (none-some o at)
+
+get-append_cases : {X : Type 0} (xs ys : List X) (i : ℕ) (x : X) → slice_get (xs ++ ys) i ≡ Some x →
+    (slice_get xs i ≡ Some x) ⊎ ((j : ℕ) × ((i ≡ length xs + j) × (slice_get ys j ≡ Some x)))
+get-append_cases [] ys i x e = inr (i, (omega arith, e))
+get-append_cases (z ∷ xs) ys zero x e = inl e
+get-append_cases (z ∷ xs) ys (suc i) x e =
+    elim (get-append_cases xs ys i x e) [ inl s ↦ inl s | inr s ↦ (let q : i ≡ length xs + s.0 = s.1.0 in inr (s.0, (omega arith, s.1.1))) ]
+
+tells-own : (h : List Entry) (k n : ℕ) (o : Outcome) → slice_get (outcomes_of h k) n ≡ Some o → TellsOwn (accepted h) k (suc n) o
+tells-own [] k n o e = absurd (none-some o e)
+tells-own (d ∷ h) k n o e =
+    let before = tells-own h k n o in
+    let test : Bool = is_client (client_of h d.session) k && is_submit_of d.request (suc (length (outcomes_of h k))) in
+    let more = outcome_in (suc (length (accepted h))) d.reply in
+    elim (get-append_cases (outcomes_of h k) (if test then more else []) n o e) [
+      | inl f ↦ tells-more (accepted h) (added d h) k (suc n) o (before f)
+      | inr f ↦ elim (cases_Bool test) [
+        | inr x ↦ absurd (none-some o (sym (ap (λ (l : List Outcome). slice_get l f.0) (cond-false test more [] x)) ∙ f.1.1))
+        | inl x ↦
+            (let parts = and_parts (is_client (client_of h d.session) k) (is_submit_of d.request (suc (length (outcomes_of h k)))) x in
+            let submit = submit-is d.request (next_seq h k) parts.1 in
+            let now = tells-new d h k submit.0 (client-is (client_of h d.session) k parts.0) submit.1 d.reply refl f.0 o
+            (sym (ap (λ (l : List Outcome). slice_get l f.0) (cond-true test more [] x)) ∙ f.1.1) in
+            let place : n ≡ length (outcomes_of h k) + f.0 = f.1.0 in
+            let none : f.0 ≡ 0 = now.0 in
+            let at : length (outcomes_of h k) ≡ n = omega arith in
+            subst (λ (m : ℕ). TellsOwn (accepted (d ∷ h)) k (suc m) o) at now.1)
+      ]
+    ]
+
+-- The position of a kept outcome is that of the client's action with this number.
+pub kept-made : (h : List Entry) (k seq p : ℕ) → kept_outcome h k seq ≡ Some (Accepted p) → IsMadeBy (accepted h) k seq p
+kept-made h k seq p e = at seq (kept-is h k seq (Accepted p) e)
+  where
+    at : (n : ℕ) → outcome_at (outcomes_of h k) n ≡ Some (Accepted p) → IsMadeBy (accepted h) k n p
+    at zero f = absurd (none-some (Accepted p) f)
+    at (suc n) f = tells-own h k n (Accepted p) f

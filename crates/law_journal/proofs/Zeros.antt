@@ -1,0 +1,85 @@
+-- A relay tells the number of its Submit, or 0 to a Poll.
+use Rattle.std.proofs.Common.{◌≡◌, ◌↔◌, ℕ, zero, suc, ◌+◌, ◌≤◌, Bool, true, false, List, ◌∷◌, length, Option, Some, None, refl, sym, ap, subst, arith, nat_le, true≢false}
+use Rattle.std.specs.Prelude.{if◌then◌else◌}
+use Rattle.std.proofs.lemmas.Option.{none-some}
+use Rattle.sv_wire.specs.declared.message.Request.{Request}
+use Rattle.sv_wire.specs.declared.message.Request.TheVariants as requests
+use Rattle.sv_wire.specs.declared.message.Reply.{Reply}
+use Rattle.sv_wire.specs.declared.message.Reply.TheVariants as replies
+use Rattle.sv_journal.specs.declared.entry.Entry.{Entry}
+use Rattle.sv_journal.specs.declared.entry.Logged.{Logged}
+use Rattle.sv_journal.specs.declared.entry.Logged.TheVariants as logged
+use Rattle.sv_journal.specs.History.{is_relay, Outcome, Accepted, Authored, outcomes_of, accepted, next_seq, full_reply}
+use Rattle.sv_journal.specs.Sessions.{kept_count, outcome_at, kept_outcome}
+use Rattle.sv_journal.specs.Answer.{Rules}
+use Rattle.sv_journal.specs.Serving.{Keeping, is_poll, reply_for, IsKeeping}
+use Rattle.sv_journal.proofs.Replies.{each_reply}
+use Rattle.law_journal.specs.Numbered.{IsNumberFor, TellsNumber, IsZeroForPolls, OfEntry, ServedRelaysTellTheirNumbers, ServedRelaysOfZeroAnswerPolls}
+use Rattle.law_journal.proofs.EveryEntry.{entry_of, each-entry, each-map}
+
+-- ---- Kept outcomes
+
+some_if : (b : Bool) (o : Option Outcome) (x : Outcome) → (if b then o else None) ≡ Some x → o ≡ Some x
+some_if true o x f = f
+some_if false o x f = absurd (none-some x f)
+
+pub kept-is : (h : List Entry) (k seq : ℕ) (o : Outcome) → kept_outcome h k seq ≡ Some o → outcome_at (outcomes_of h k) seq ≡ Some o
+kept-is h k seq o e = some_if (nat_le (next_seq h k) (seq + kept_count)) (outcome_at (outcomes_of h k) seq) o e
+
+-- There is no outcome of the number 0.
+kept-some : (h : List Entry) (k seq : ℕ) (o : Outcome) → kept_outcome h k seq ≡ Some o → 1 ≤ seq
+kept-some h k zero o e = absurd (none-some o (kept-is h k zero o e))
+kept-some h k (suc n) o e = omega arith
+
+-- ---- Each reply
+
+not-relayed : (A : List Authored) (q : Request) (w : Logged) → is_relay w ≡ false → TellsNumber q (full_reply A w)
+not-relayed A q (logged.Relay seq commit head positions) e = absurd (true≢false e)
+not-relayed A q (logged.Welcome commit head) e = tt
+not-relayed A q (logged.Dropped seq chain far) e = tt
+not-relayed A q (logged.Settled seq pos) e = tt
+not-relayed A q (logged.Noted commit) e = tt
+not-relayed A q logged.Idle e = tt
+not-relayed A q (logged.Refused code detail) e = tt
+not-relayed A q logged.Bye e = tt
+
+told : (k : Keeping) → IsKeeping k → (r : Rules) (h : List Entry) (s : ℕ) (q : Request) → OfEntry TellsNumber h (entry_of s q (reply_for k r h s q))
+told k law r h s q = each_reply k law r h s (λ (w : Logged). TellsNumber q (full_reply (accepted (entry_of s q w ∷ h)) w)) q (record {
+  other = λ w e. not-relayed (accepted (entry_of s q w ∷ h)) q w e;
+  fresh = λ j seq a client asked next good chain.
+      let number : seq ≡ suc (length (outcomes_of h j)) = next in
+      let some : 1 ≤ seq = omega arith in
+      subst (λ (x : Request). IsNumberFor x seq) (sym asked) (refl, some);
+  again = λ j seq p a client asked kept above. subst (λ (x : Request). IsNumberFor x seq) (sym asked) (refl, kept-some h j seq (Accepted p) kept);
+  poll = λ j p ps client asked open_still first. subst (λ (x : Request). IsNumberFor x 0) (sym asked) refl;
+})
+
+pub served_tell_numbers : ServedRelaysTellTheirNumbers
+served_tell_numbers k r h law legal = each-entry k r (OfEntry TellsNumber) (λ g s q before. told k law r g s q) h legal
+
+-- ---- Zero
+
+pub zero-for : (q : Request) (n : ℕ) → IsNumberFor q n → (n ≡ 0) ↔ (q ≡ requests.Poll)
+zero-for (requests.Submit seq a) n is =
+    let some : 1 ≤ n = is.1 in
+    ((λ (e : n ≡ 0). absurd (omega arith)), (λ (e : requests.Submit seq a ≡ requests.Poll). absurd (true≢false (sym (ap is_poll e)))))
+zero-for requests.Poll n is = ((λ e. refl), (λ e. is))
+zero-for (requests.Join client life interest) n is = absurd is
+zero-for (requests.Done results) n is = absurd is
+zero-for requests.Leave n is = absurd is
+zero-for requests.Bad n is = absurd is
+zero-for requests.End n is = absurd is
+
+zero-of : (q : Request) (reply : Reply) → TellsNumber q reply → IsZeroForPolls q reply
+zero-of q (replies.Relay seq commit head items) is = zero-for q seq is
+zero-of q (replies.Welcome commit head) is = tt
+zero-of q (replies.Dropped seq chain far) is = tt
+zero-of q (replies.Settled seq pos) is = tt
+zero-of q (replies.Noted commit) is = tt
+zero-of q replies.Idle is = tt
+zero-of q (replies.Refused code detail) is = tt
+zero-of q replies.Bye is = tt
+
+pub served_zero : ServedRelaysOfZeroAnswerPolls
+served_zero k r h law legal =
+    each-map (OfEntry TellsNumber) (OfEntry IsZeroForPolls) (λ g e is. zero-of e.request (full_reply (accepted (e ∷ g)) e.reply) is) h (served_tell_numbers k r h law legal)

@@ -1,0 +1,5 @@
+pub mod Committed
+pub mod Entries
+pub mod Numbered
+pub mod Brought
+pub mod Opened

@@ -1,0 +1,12 @@
+//! Laws of journals, of the replies that clients take, and of the rules that scenarios give: facts that readers take for granted.
+#![tactic(auto)]
+
+mod commits;
+mod opening;
+mod relays;
+
+pub use commits::{commit_is_the_greatest, journals_keep_what_they_have};
+pub use opening::scenarios_open_within_limits;
+pub use relays::{
+    relays_bring_what_is_asked, relays_of_zero_answer_polls, sessions_in_order_get_items,
+};

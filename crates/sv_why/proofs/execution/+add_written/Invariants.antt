@@ -1,5 +1,0 @@
-use Rattle.std.proofs.Common.{length}
-use Rattle.sv_why.proofs.execution.+add_written.Given as goal
-
-abbrev pub decreases-add_written : goal.decreases-add_written
-decreases-add_written l = length l.reads.now
