@@ -55,11 +55,11 @@ impl<N: Net + Drop, C: Crew + Drop> Desk<N, C> {
 }
 
 /// A desk at which nothing fails.
-pub fn desk_of<R: Wait + Sync>(
-    rt: &R,
+pub fn desk_of<'r, R: Wait + Sync>(
+    rt: &'r R,
     alloc: Global,
     text: &str,
-) -> Result<Desk<PipeNet<'_, R>, ThreadCrew>, AllocError> {
+) -> Result<Desk<PipeNet<'r, R>, ThreadCrew>, AllocError> {
     Desk::new(
         alloc,
         text,

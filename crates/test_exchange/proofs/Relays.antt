@@ -23,14 +23,14 @@ use Rattle.sv_wire.specs.Grammar.{IsWireValue, IsWireAction, IsWireHead}
 use Rattle.sv_world.specs.Ranges.{expr_fits_step, stmt_fits_step, stmt_fits, ObjectFits}
 use Rattle.sv_wire.specs.Ranges.{HeldFits, ActionFits, ItemFits}
 use Rattle.sv_wire.specs.Laws.{IsReply}
-use Rattle.test_exchange.specs.Worked.{greatest, great_held, great_heads, great_reads, great_stmt, great_body, great_action, great_item, great_items}
+use Rattle.test_exchange.specs.Worked.{greatest_number, great_held, great_heads, great_reads, great_stmt, great_body, great_action, great_item, great_items}
 
 all_push : {A : Type 0} (P : A → Type 0) (xs : List A) (x : A) → AllByRecursion P xs → P x → AllByRecursion P (xs ++ x ∷ [])
 all_push P [] x all h = (h, tt)
 all_push P (y ∷ ys) x all h = (all.0, all_push P ys x all.1 h)
 
-greatest_fits : FitsSigned w64 greatest
-greatest_fits = fits_signed_from_abs w64 greatest (omega arith)
+greatest_fits : FitsSigned w64 greatest_number
+greatest_fits = fits_signed_from_abs w64 greatest_number (omega arith)
 
 -- ---- Values
 
@@ -81,13 +81,13 @@ reads_fit zero few = tt
 reads_fit (suc n) few = all_push ObjectFits (great_reads n) (record { 0 = n }) (reads_fit n (omega arith)) (omega arith)
 
 stmt_size : stmt_nodes great_stmt ≡ 2
-stmt_size = set_nodes 0 0 (exprs.Lit greatest) ∙ ap (λ (n : ℕ). 1 + n) (lit_nodes greatest)
+stmt_size = set_nodes 0 0 (exprs.Lit greatest_number) ∙ ap (λ (n : ℕ). 1 + n) (lit_nodes greatest_number)
 
 stmt_levels : stmt_depth great_stmt ≡ 2
-stmt_levels = set_depth 0 0 (exprs.Lit greatest) ∙ ap (λ (n : ℕ). 1 + n) (lit_depth greatest)
+stmt_levels = set_depth 0 0 (exprs.Lit greatest_number) ∙ ap (λ (n : ℕ). 1 + n) (lit_depth greatest_number)
 
 stmt_fit : stmt_fits great_stmt ≡ true
-stmt_fit = set_fold Bool stmt_fits_step 0 0 (exprs.Lit greatest) ∙ lit_fold Bool expr_fits_step greatest
+stmt_fit = set_fold Bool stmt_fits_step 0 0 (exprs.Lit greatest_number) ∙ lit_fold Bool expr_fits_step greatest_number
 
 nodes-push : (xs : List Stmt) (x : Stmt) → body_nodes (xs ++ x ∷ []) ≡ body_nodes xs + stmt_nodes x
 nodes-push [] x = omega (arith, nodes_more x [])

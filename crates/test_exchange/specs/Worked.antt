@@ -8,11 +8,11 @@ use Rattle.sv_world.specs.declared.action.Stmt.TheVariants as stmts
 use Rattle.sv_wire.specs.declared.message.Held.{Held}
 use Rattle.sv_wire.specs.declared.message.Item.{Item}
 
-abbrev pub greatest : ℤ
-greatest = pos 9223372036854775807
+abbrev pub greatest_number : ℤ
+greatest_number = pos 9223372036854775807
 
 abbrev pub great_held : ℕ → Held
-great_held n = record { object = record { 0 = n }; value = greatest ∷ greatest ∷ greatest ∷ greatest ∷ [] }
+great_held n = record { object = record { 0 = n }; value = greatest_number ∷ greatest_number ∷ greatest_number ∷ greatest_number ∷ [] }
 
 unfoldable pub great_heads : ℕ → List Held
 great_heads zero = []
@@ -23,7 +23,7 @@ great_reads zero = []
 great_reads (suc n) = great_reads n ++ record { 0 = n } ∷ []
 
 abbrev pub great_stmt : Stmt
-great_stmt = stmts.Set 0 0 (exprs.Lit greatest)
+great_stmt = stmts.Set 0 0 (exprs.Lit greatest_number)
 
 unfoldable pub great_body : ℕ → List Stmt
 great_body zero = []

@@ -1,7 +1,7 @@
 //! A great relay: as many values, items, reads and statements as a relay may have.
 ghost use Rattle.std.specs.Prelude.{◌≡◌, [], ◌∷◌, IfOk};
 ghost use Rattle.sv_wire.specs.Laws.{IsReply};
-ghost use Rattle.test_exchange.specs.Worked.{greatest, great_heads, great_reads, great_body, great_action, great_items};
+ghost use Rattle.test_exchange.specs.Worked.{greatest_number, great_heads, great_reads, great_body, great_action, great_items};
 
 use std::alloc::{AllocError, Global};
 use sv_wire::{Held, Item, Reply};
@@ -10,7 +10,7 @@ use sv_world::{
 };
 
 fn great_value(alloc: Global) -> Result<Value, AllocError>
-    ensures { IfOk result (λ value. value ≡ greatest ∷ greatest ∷ greatest ∷ greatest ∷ []) }
+    ensures { IfOk result (λ value. value ≡ greatest_number ∷ greatest_number ∷ greatest_number ∷ greatest_number ∷ []) }
 {
     let mut value = Value::new(alloc);
     value.push(i64::MAX)?;

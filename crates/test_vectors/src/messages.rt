@@ -144,32 +144,26 @@ fn messages_are_written(rt: HostRuntime) -> Result<(), Fail> {
     Ok(())
 }
 
+/// Payloads that are no requests, with the offset and the cause of the first fault.
+const REFUSED_REQUESTS: &[(&[u8], u32, WireCause)] = &[
+    (&[], 0, WireCause::Short),
+    (&[6], 1, WireCause::Short),
+    (&[2, 0], 0, WireCause::Kind),
+    (&[7, 0], 0, WireCause::Kind),
+    (&[0x81, 0], 0, WireCause::Kind),
+    (&[4, 0], 1, WireCause::Rest),
+    (&[6, 0, 0, 0, 1, 0], 5, WireCause::Count),
+    (&[6, 0, 0, 0, 1, 2, 0, 1, 0, 0, 9], 8, WireCause::Order),
+    (&[6, 0, 0, 0, 1, 1, 0, 0, 0, 2, 9], 8, WireCause::Mask),
+    (&[1, 0, 0, 0, 0], 3, WireCause::Short),
+    (&[3, 0], 1, WireCause::Count),
+];
+
 #[test]
 fn refused_requests(rt: HostRuntime) {
-    let alloc = rt.alloc();
-    request_is_refused(&rt, alloc, &[], 0, WireCause::Short);
-    request_is_refused(&rt, alloc, &[6], 1, WireCause::Short);
-    request_is_refused(&rt, alloc, &[2, 0], 0, WireCause::Kind);
-    request_is_refused(&rt, alloc, &[7, 0], 0, WireCause::Kind);
-    request_is_refused(&rt, alloc, &[0x81, 0], 0, WireCause::Kind);
-    request_is_refused(&rt, alloc, &[4, 0], 1, WireCause::Rest);
-    request_is_refused(&rt, alloc, &[6, 0, 0, 0, 1, 0], 5, WireCause::Count);
-    request_is_refused(
-        &rt,
-        alloc,
-        &[6, 0, 0, 0, 1, 2, 0, 1, 0, 0, 9],
-        8,
-        WireCause::Order,
-    );
-    request_is_refused(
-        &rt,
-        alloc,
-        &[6, 0, 0, 0, 1, 1, 0, 0, 0, 2, 9],
-        8,
-        WireCause::Mask,
-    );
-    request_is_refused(&rt, alloc, &[1, 0, 0, 0, 0], 3, WireCause::Short);
-    request_is_refused(&rt, alloc, &[3, 0], 1, WireCause::Count);
+    for (payload, at, cause) in REFUSED_REQUESTS {
+        request_is_refused(&rt, rt.alloc(), payload, *at, *cause);
+    }
 }
 
 /// A payload with the byte at a place left out.
@@ -300,15 +294,25 @@ fn edited_relays(rt: HostRuntime) -> Result<(), Fail> {
     Ok(())
 }
 
+/// The same of replies.
+const REFUSED_REPLIES: &[(&[u8], u32, WireCause)] = &[
+    (
+        &[0x81, 0, 0, 0, 0, 0, 1, 0, 0, 1, 0, 0, 0, 0, 0, 0, 0],
+        10,
+        WireCause::Short,
+    ),
+    (&[0x81, 0, 0, 0, 0, 2, 17], 5, WireCause::Count),
+    (&[0x85, 0, 0, 0], 1, WireCause::Short),
+    (&[0x85, 0, 0, 0, 1, 0], 5, WireCause::Rest),
+    (&[0x87, 0, 0, 0, 0, 0], 1, WireCause::Code),
+    (&[0x87, 12, 0, 0, 0, 0], 1, WireCause::Code),
+];
+
 #[test]
 fn refused_replies(rt: HostRuntime) {
-    let alloc = rt.alloc();
-    reply_is_refused(&rt, alloc, &WELCOME[..17], 10, WireCause::Short);
-    reply_is_refused(&rt, alloc, &[0x81, 0, 0, 0, 0, 2, 17], 5, WireCause::Count);
-    reply_is_refused(&rt, alloc, &[0x85, 0, 0, 0], 1, WireCause::Short);
-    reply_is_refused(&rt, alloc, &[0x85, 0, 0, 0, 1, 0], 5, WireCause::Rest);
-    reply_is_refused(&rt, alloc, &[0x87, 0, 0, 0, 0, 0], 1, WireCause::Code);
-    reply_is_refused(&rt, alloc, &[0x87, 12, 0, 0, 0, 0], 1, WireCause::Code);
+    for (payload, at, cause) in REFUSED_REPLIES {
+        reply_is_refused(&rt, rt.alloc(), payload, *at, *cause);
+    }
 }
 
 /// Appends a value of four numbers.

@@ -1,5 +1,3 @@
-use Rattle.std.specs.Prelude.{◌≡◌, length}
-use Rattle.std.proofs.lemmas.List.Elements.{All-from_recursion}
 use Rattle.sv_journal.specs.Laws.{AreWithinLimits}
 use Rattle.sv_scenario.specs.declared.scenario.Scenario.{Scenario}
 use Rattle.sv_scenario.specs.Limits.{IsGoodScenario}
@@ -10,10 +8,10 @@ limits_of : (scenario : Scenario) → IsGoodScenario scenario → AreWithinLimit
 limits_of scenario good =
     let w = good.world in
     record {
-      some_attrs = w.some_attrs;
-      few_attrs = w.few_attrs;
+      some_attrs = w.shape.some_attrs;
+      few_attrs = w.shape.few_attrs;
       objects = w.objects;
-      attrs = All-from_recursion (λ value. length value ≡ scenario.world.shape.attrs) scenario.world.values w.attrs;
+      attrs = w.attrs;
       bound = good.bound;
     }
 

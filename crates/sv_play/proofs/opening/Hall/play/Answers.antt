@@ -13,7 +13,7 @@ use Rattle.sv_play.specs.Playing.{IsThreadedRun, TookAllIn}
 use Rattle.sv_play.proofs.Ready.{tasks_ready}
 use Rattle.sv_play.proofs.Sent.{client-field-sends, trace-field-sends, step-syncs}
 use Rattle.sv_play.proofs.Done.{passes, numbers, room, are_pairs, are_calm, two_differ, owed_enough, took_all, threaded, told_all}
-use Rattle.sv_play.proofs.play.Hall.play.Goals as goal
+use Rattle.sv_play.proofs.opening.Hall.play.Goals as goal
 
 pub run_all-requires-clause-ready : goal.run_all-requires-clause-ready
 run_all-requires-clause-ready g c κs within =
