@@ -60,12 +60,7 @@ pub fn desk_of<'r, R: Wait + Sync>(
     alloc: Global,
     text: &str,
 ) -> Result<Desk<PipeNet<'r, R>, ThreadCrew>, AllocError> {
-    Desk::new(
-        alloc,
-        text,
-        PipeNet::new(alloc, rt),
-        ThreadCrew::new(alloc),
-    )
+    Desk::new(alloc, text, PipeNet::new(alloc, rt), ThreadCrew::new(alloc))
 }
 
 /// The program's answer there.

@@ -6,8 +6,8 @@ use std::sync::Wait;
 use std::test::Fail;
 use std::thread::Threads;
 use sv_link::{FewCrew, OpenGate, PipeNet, ThreadCrew};
-use test_calls::examples::{FIRST, FIRST_REPORT};
 use test_calls::Printed;
+use test_calls::examples::{FIRST, FIRST_REPORT};
 
 /// What has a call that fails.
 #[derive(Clone, Copy)]

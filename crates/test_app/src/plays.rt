@@ -8,9 +8,9 @@ use std::sync::Wait;
 use std::test::Fail;
 use std::thread::Threads;
 use sv_link::{HoldGate, OpenGate, TcpNet, ThreadCrew};
+use test_calls::Printed;
 use test_calls::examples::*;
 use test_calls::scenarios::*;
-use test_calls::Printed;
 
 /// Words, the scenario, and what is printed.
 type Row<'a> = (&'a str, &'a str, &'a str);

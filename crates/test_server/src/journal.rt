@@ -64,12 +64,7 @@ fn relay(alloc: Global, seq: u32, positions: &[u32]) -> Result<Logged, AllocErro
 }
 
 // A tree that is let go at the end of its scope makes a long proof; a call that takes it makes none.
-fn add(
-    journal: &mut Journal,
-    session: u16,
-    request: Request,
-    reply: Logged,
-) -> Result<(), Fail> {
+fn add(journal: &mut Journal, session: u16, request: Request, reply: Logged) -> Result<(), Fail> {
     let entry = Entry {
         session,
         request,

@@ -121,12 +121,7 @@ fn built(alloc: Global, built: Built) -> Result<(bool, i64), AllocError> {
 }
 
 /// Whether the operator is void on the two numbers, and what it gives. Where it is void the number stays 5.
-fn operated(
-    alloc: Global,
-    operator: &str,
-    left: &str,
-    right: &str,
-) -> Result<(bool, i64), Fail> {
+fn operated(alloc: Global, operator: &str, left: &str, right: &str) -> Result<(bool, i64), Fail> {
     let stmt = format!(in alloc; "set @0.0 ({left} {operator} {right});")?;
     run(alloc, stmt.as_str())
 }
