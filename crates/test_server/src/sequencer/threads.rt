@@ -52,10 +52,7 @@ fn visit_by_two<R: Threads + Wait + Sync>(
 {
     let (lock, mut keeper) = match SeqLock::new(alloc, sequencer, 2) {
         Ok(made) => made,
-        Err((refused, error)) => {
-            drop(refused);
-            return Err(Fail::from(error));
-        }
+        Err((_, error)) => return Err(Fail::from(error)),
     };
     let one = lock.split(&mut keeper);
     let two = lock.split(&mut keeper);
