@@ -174,8 +174,10 @@ fn is_unknown(alloc: Global, versions: &Versions, pending: &mut Pending) -> Resu
 {
     make(alloc, pending, versions, 1, PLUS_1)?;
     make(alloc, pending, versions, 2, KEEP)?;
-    Ok(matches!(pending.overlay(FIRST), Overlay::Unknown)
-        && matches!(pending.overlay(SECOND), Overlay::Unwritten))
+    Ok(
+        matches!(pending.overlay(FIRST), Overlay::Unknown)
+            && matches!(pending.overlay(SECOND), Overlay::Unwritten),
+    )
 }
 
 #[test]
