@@ -41,10 +41,7 @@ fn serve_two<R: Threads + Wait + Sync, E: End + Send>(
     let sequencer = opened(alloc)?;
     let (lock, mut keeper) = match SeqLock::new(alloc, sequencer, 2) {
         Ok(made) => made,
-        Err((refused, error)) => {
-            drop(refused);
-            return Err(Fail::from(error));
-        }
+        Err((_, error)) => return Err(Fail::from(error)),
     };
     let mut first = lock.split(&mut keeper);
     let mut second = lock.split(&mut keeper);
@@ -69,7 +66,7 @@ fn serve_two<R: Threads + Wait + Sync, E: End + Send>(
     );
     lock.join(&mut keeper, first);
     lock.join(&mut keeper, second);
-    drop(lock.close(keeper));
+    let _sequencer = lock.close(keeper);
     Ok((left, right))
 }
 

@@ -25,8 +25,8 @@ session-sends g κs y e =
     let f : IsSend (ShrRef (named 8) κs.1.1.1.1.1.1.1.1.0 gate.the_row) = shr_send (named 8) κs.1.1.1.1.1.1.1.1.0 gate.the_row gate-syncs in
     arg_send _ no _ (six-send _ (ShrRef (named 6) κs.1.1.1.1.1.1.0 (param 0 g.row.R)) Global.the_row (ShrRef (named 7) κs.1.1.1.1.1.1.1.0 lock-row) pass-row (param 1 g.row.E) (ShrRef (named 8) κs.1.1.1.1.1.1.1.1.0 gate.the_row) a send c pass-sends e f)
 
-pub close-requires-clause-ended : goal.close-requires-clause-ended
-close-requires-clause-ended g c =
+pub close-sequencer-requires-clause-ended : goal.close-sequencer-requires-clause-ended
+close-sequencer-requires-clause-ended g c =
     let keeper = c.join-2.new.keeper in
     let made : keeper.made ≡ 2 = search rules in
     let numbers : map (λ x. x.0) keeper.ended ≡ 0 ∷ 1 ∷ [] = search rules in
