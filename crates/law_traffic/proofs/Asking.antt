@@ -11,7 +11,7 @@ use Rattle.sv_client.specs.Taking.{Identity}
 use Rattle.sv_client.specs.Proper.{MayFollow, AreProper}
 use Rattle.sv_scenario.specs.declared.scenario.Step.{Step}
 use Rattle.sv_script.specs.Following.{FollowsTo}
-use Rattle.sv_schedule.proofs.DoneCounts.{asked-few}
+use Rattle.law_schedule.proofs.DoneCounts.{asked-few}
 
 here_or_not : (o : Option ℕ) (s : ℕ) → (o ≡ Some s) ⊎ (o ≡ Some s → ⊥)
 here_or_not None s = inr (λ e. none-some s e)

@@ -15,7 +15,7 @@ use Rattle.sv_script.specs.Following.{Follows, must_join}
 use Rattle.sv_system.specs.Fits.{is_join_of, has_session, AreApart, AreAllApart}
 use Rattle.sv_system.specs.Records.{AreTracesOf, EachTrace}
 use Rattle.sv_system.proofs.Asked.{any-reverse}
-use Rattle.sv_schedule.proofs.SoundTraces.{begun_more, joins-within, joined-within}
+use Rattle.law_schedule.proofs.SoundTraces.{begun_more, joins-within, joined-within}
 
 -- The trace that a session is one of, with what holds of it.
 pub record IsOwner (P : Plan → Trace → Type 0) (Ls : List Trace) (s : ℕ) : Type 0 where

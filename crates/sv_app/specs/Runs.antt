@@ -10,7 +10,7 @@ use Rattle.sv_scenario.specs.declared.scenario.Scenario.{Scenario}
 use Rattle.sv_gen.specs.Generated.{generated}
 use Rattle.sv_script.specs.Telling.{told_lines}
 use Rattle.sv_system.specs.Records.{IsPlayed}
-use Rattle.sv_schedule.specs.Records.{IsReplay}
+use Rattle.law_schedule.specs.Records.{IsReplay}
 use Rattle.sv_report.specs.Report.{report_text}
 use Rattle.sv_report.specs.Summary.{summary_text}
 use Rattle.sv_play.specs.Playing.{IsThreadedRun}

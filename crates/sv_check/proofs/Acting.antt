@@ -27,7 +27,7 @@ use Rattle.sv_system.specs.Fronts.{IsFront}
 use Rattle.sv_system.specs.Outcomes.{is_quit}
 use Rattle.sv_system.proofs.Entered.{replies-one}
 use Rattle.sv_system.proofs.Fronts.{front-all, front-then}
-use Rattle.sv_schedule.proofs.SoundTraces.{joined-within}
+use Rattle.law_schedule.proofs.SoundTraces.{joined-within}
 use Rattle.sv_replay.proofs.Events.{is_got, asks_up, asks_got}
 use Rattle.sv_client.specs.Seen.{ClientView}
 use Rattle.sv_check.specs.declared.actor.Actor.{Actor}

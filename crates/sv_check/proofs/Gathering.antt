@@ -25,9 +25,9 @@ use Rattle.sv_script.specs.Following.{FollowsTo, FollowsToEnd, IsCarriedOut, ste
 use Rattle.sv_script.specs.Laws.{StepsAreDoneInOrder, EndsDoAllSteps}
 use Rattle.sv_system.specs.Fits.{is_join_of, has_session, is_owned, FitsIn, FitsOne, Fits, AreApart, AreAllApart}
 use Rattle.sv_system.specs.Records.{AreTracesOf, EachTrace, IsRecordOf, ScriptsAreFollowed, rules_of, ends_in}
-use Rattle.sv_schedule.proofs.DoneCounts.{joins-counted, joins-few, low-joined, finished-joined, one_if}
-use Rattle.sv_schedule.proofs.DoneFacts.{any-turned}
-use Rattle.sv_schedule.proofs.SoundTraces.{joined-within}
+use Rattle.law_schedule.proofs.DoneCounts.{joins-counted, joins-few, low-joined, finished-joined, one_if}
+use Rattle.law_schedule.proofs.DoneFacts.{any-turned}
+use Rattle.law_schedule.proofs.SoundTraces.{joined-within}
 use Rattle.sv_check.specs.Parts.{IsWholeTrace, AreFirstTraces, IsOf}
 
 -- ---- The sessions of a trace

@@ -16,7 +16,7 @@ use Rattle.sv_script.specs.Following.{FollowsTo, is_finished}
 use Rattle.sv_player.proofs.Raised.{up_follows, up_finished}
 use Rattle.sv_system.specs.Fits.{is_join_of, requests_in, replies_in}
 use Rattle.sv_system.specs.Fronts.{IsFront}
-use Rattle.sv_schedule.proofs.DoneFacts.{any-turned}
+use Rattle.law_schedule.proofs.DoneFacts.{any-turned}
 use Rattle.sv_check.specs.declared.actor.Actor.{Actor}
 use Rattle.sv_check.specs.Parts.{IsWholeTrace, IsOf}
 use Rattle.sv_check.specs.Acting.{IsActing, IsSettled, IsAmiss, Settles, identity, journal_events}

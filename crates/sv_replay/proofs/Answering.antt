@@ -12,9 +12,9 @@ use Rattle.sv_journal.specs.History.{accepted}
 use Rattle.sv_journal.specs.Sessions.{is_end, is_ended}
 use Rattle.sv_system.specs.Fits.{requests_in, replies_in}
 use Rattle.sv_system.proofs.Entered.{is_of, of-from}
-use Rattle.sv_schedule.specs.Players.{Player, asked_in_run, has_closed}
-use Rattle.sv_schedule.specs.Serving.{Run, Server, entry_by, served, serves_next, is_stop, is_stopped, session_served}
-use Rattle.sv_schedule.specs.Served.{RepliesNameAccepted, KeepsSound}
+use Rattle.law_schedule.specs.Players.{Player, asked_in_run, has_closed}
+use Rattle.law_schedule.specs.Serving.{Run, Server, entry_by, served, serves_next, is_stop, is_stopped, session_served}
+use Rattle.law_schedule.specs.Served.{RepliesNameAccepted, KeepsSound}
 use Rattle.sv_exchange.specs.View.{ExchangeView}
 use Rattle.sv_replay.specs.Players.{got_in_run, IsChannel}
 use Rattle.sv_replay.specs.Serving.{whole_reply, next_history, next_channel}

@@ -17,9 +17,9 @@ use Rattle.sv_client.specs.Proper.{AreProper, Proper, identity_of}
 use Rattle.sv_scenario.specs.declared.scenario.Scenario.{Scenario}
 use Rattle.sv_system.specs.Fits.{is_join_of, has_session, AreApart, AreAllApart}
 use Rattle.sv_system.proofs.Asked.{current-joined, any-reverse}
-use Rattle.sv_schedule.specs.Players.{Player, trace_of_player, asked_in_run, has_closed}
-use Rattle.sv_schedule.specs.Serving.{Run, Server, traces_of}
-use Rattle.sv_schedule.specs.Served.{FitsServer, IsSoundOver}
+use Rattle.law_schedule.specs.Players.{Player, trace_of_player, asked_in_run, has_closed}
+use Rattle.law_schedule.specs.Serving.{Run, Server, traces_of}
+use Rattle.law_schedule.specs.Served.{FitsServer, IsSoundOver}
 use Rattle.sv_replay.specs.Players.{asked_by_player, got_in_run}
 
 -- ---- A session that was not begun

@@ -11,8 +11,8 @@ use Rattle.sv_journal.specs.declared.entry.Entry.{Entry}
 use Rattle.sv_journal.specs.History.{accepted}
 use Rattle.sv_client.specs.Traces.{got}
 use Rattle.sv_system.specs.Fits.{requests_in, replies_in}
-use Rattle.sv_schedule.specs.Players.{Player, asked_in_run, has_closed}
-use Rattle.sv_schedule.specs.Serving.{Run}
+use Rattle.law_schedule.specs.Players.{Player, asked_in_run, has_closed}
+use Rattle.law_schedule.specs.Serving.{Run}
 use Rattle.sv_exchange.specs.View.{ExchangeView}
 use Rattle.sv_replay.specs.Players.{asked_by_player, got_in_run, Moves, IsChannel}
 use Rattle.sv_replay.proofs.Apart.{OthersSilent, all_ask_nothing, all_get_nothing, flat_moved, commutes_with_none, none_commutes, later_of, nothing}

@@ -19,7 +19,7 @@ use Rattle.sv_script.specs.Following.{must_join}
 use Rattle.sv_system.specs.Fits.{is_join_of}
 use Rattle.sv_system.specs.Outcomes.{is_quit}
 use Rattle.sv_system.proofs.Asked.{current-joined}
-use Rattle.sv_schedule.specs.Players.{Player, open_session, has_closed}
+use Rattle.law_schedule.specs.Players.{Player, open_session, has_closed}
 use Rattle.sv_replay.specs.Players.{session_of, asked_by_player, IsFit, Moves, is_closing}
 use Rattle.sv_replay.proofs.Places.{place_between, place_within}
 use Rattle.sv_replay.proofs.Events.{is_got, up_must, either_way, asks_up, asks_got, gets_none, gets_one, not_begun, keeps_closed, closes_now, begins_one}

@@ -11,10 +11,10 @@ use Rattle.sv_scenario.specs.Sessions.{session_count}
 use Rattle.sv_sequencer.specs.Step.{SequencerView, history}
 use Rattle.sv_system.specs.declared.played.Played.{Played}
 use Rattle.sv_system.specs.Records.{IsPlayed}
-use Rattle.sv_schedule.specs.Players.{repeated}
-use Rattle.sv_schedule.specs.Serving.{Run, Server, turns_served, round_served, opening_run, run_served, traces_of}
-use Rattle.sv_schedule.specs.Schedule.{rules_of, plain_server, scheduled_run}
-use Rattle.sv_schedule.specs.Records.{IsReplay}
+use Rattle.law_schedule.specs.Players.{repeated}
+use Rattle.law_schedule.specs.Serving.{Run, Server, turns_served, round_served, opening_run, run_served, traces_of}
+use Rattle.law_schedule.specs.Schedule.{rules_of, plain_server, scheduled_run}
+use Rattle.law_schedule.specs.Records.{IsReplay}
 use Rattle.sv_replay.specs.declared.schedule.Ran.{Ran}
 use Rattle.sv_replay.specs.Serving.{ServerView}
 use Rattle.sv_replay.specs.Machine.{Stage, run_of, Became}

@@ -9,11 +9,11 @@ use Rattle.sv_world.specs.Control.{below}
 use Rattle.sv_scenario.specs.declared.scenario.Scenario.{Scenario}
 use Rattle.sv_scenario.specs.declared.scenario.Turn.TheVariants as turns
 use Rattle.sv_scenario.specs.Sessions.{session_count}
-use Rattle.sv_schedule.specs.Players.{Player, at_player, repeated}
-use Rattle.sv_schedule.specs.Serving.{Run, Server, session_served, all_served, sessions_served, turn_served, after_clients, after_served, after_takes, round_served}
-use Rattle.sv_schedule.specs.Served.{KeepsSound}
-use Rattle.sv_schedule.specs.Done.{IsRunDone}
-use Rattle.sv_schedule.proofs.DoneStill.{round-still}
+use Rattle.law_schedule.specs.Players.{Player, at_player, repeated}
+use Rattle.law_schedule.specs.Serving.{Run, Server, session_served, all_served, sessions_served, turn_served, after_clients, after_served, after_takes, round_served}
+use Rattle.law_schedule.specs.Served.{KeepsSound}
+use Rattle.law_schedule.specs.Done.{IsRunDone}
+use Rattle.law_schedule.proofs.DoneStill.{round-still}
 use Rattle.sv_replay.specs.declared.playing.Playing.{Playing}
 use Rattle.sv_replay.specs.Machine.{player_of, Stage, run_of, IsMachine, Became, Heads, after_session, after_take}
 use Rattle.sv_replay.proofs.Turns.{repeated-still, turned_from, turned-next, turned-all}

@@ -21,12 +21,12 @@ use Rattle.sv_scenario.specs.Sessions.{session_count}
 use Rattle.sv_script.specs.Following.{FollowsTo}
 use Rattle.sv_system.specs.Fits.{requests_in, IsEndLast}
 use Rattle.sv_system.proofs.Entered.{is_of}
-use Rattle.sv_schedule.specs.Players.{Player}
-use Rattle.sv_schedule.specs.Serving.{Run, Server}
-use Rattle.sv_schedule.specs.Sound.{has_joined}
-use Rattle.sv_schedule.specs.Served.{AreHeard, IsSoundOver}
-use Rattle.sv_schedule.proofs.DoneCounts.{asked-few}
-use Rattle.sv_schedule.proofs.SoundCalls.{IsPlayer, player-at}
+use Rattle.law_schedule.specs.Players.{Player}
+use Rattle.law_schedule.specs.Serving.{Run, Server}
+use Rattle.law_schedule.specs.Sound.{has_joined}
+use Rattle.law_schedule.specs.Served.{AreHeard, IsSoundOver}
+use Rattle.law_schedule.proofs.DoneCounts.{asked-few}
+use Rattle.law_schedule.proofs.SoundCalls.{IsPlayer, player-at}
 use Rattle.sv_replay.specs.Players.{asked_by_player}
 
 -- ---- Entries by their sessions

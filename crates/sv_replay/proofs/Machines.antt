@@ -19,13 +19,13 @@ use Rattle.sv_scenario.specs.Sessions.{sessions_of_plan, session_count}
 use Rattle.sv_script.specs.Following.{must_join}
 use Rattle.sv_system.specs.Fits.{replies_in}
 use Rattle.sv_system.proofs.Asked.{current-joined}
-use Rattle.sv_schedule.specs.Players.{Player, at_player, player_turn, open_session, takes, take_in, take_turn}
-use Rattle.sv_schedule.specs.Serving.{Run, Server, session_served, turn_served}
-use Rattle.sv_schedule.specs.Schedule.{rules_of}
-use Rattle.sv_schedule.specs.Sound.{ArePlaying}
-use Rattle.sv_schedule.specs.Served.{RepliesNameAccepted, IsSoundOver}
-use Rattle.sv_schedule.proofs.SoundLaws.{turns-sound}
-use Rattle.sv_schedule.proofs.SoundCalls.{IsPlayer, player-at, session-next, session-last, turn-player}
+use Rattle.law_schedule.specs.Players.{Player, at_player, player_turn, open_session, takes, take_in, take_turn}
+use Rattle.law_schedule.specs.Serving.{Run, Server, session_served, turn_served}
+use Rattle.law_schedule.specs.Schedule.{rules_of}
+use Rattle.law_schedule.specs.Sound.{ArePlaying}
+use Rattle.law_schedule.specs.Served.{RepliesNameAccepted, IsSoundOver}
+use Rattle.law_schedule.proofs.SoundLaws.{turns-sound}
+use Rattle.law_schedule.proofs.SoundCalls.{IsPlayer, player-at, session-next, session-last, turn-player}
 use Rattle.sv_replay.specs.declared.playing.Playing.{Playing}
 use Rattle.sv_exchange.specs.View.{ExchangeView, new_exchange}
 use Rattle.sv_replay.specs.Players.{session_of, IsFit, IsChannel, taken_from}

@@ -29,15 +29,15 @@ use Rattle.sv_system.proofs.Entered.{of-from, request-there}
 use Rattle.sv_asked.specs.Asked.{EventFits, HasNumbers, RequestsAreMessages, RepliesAreMessages, AcceptedAreFew}
 use Rattle.sv_asked.proofs.Every.{each-at}
 use Rattle.sv_asked.proofs.Owned.{entry-at, end-fits}
-use Rattle.sv_schedule.specs.Players.{Player, trace_of_player}
-use Rattle.sv_schedule.specs.Serving.{Run, Server, traces_of}
-use Rattle.sv_schedule.specs.Schedule.{rules_of, plain_server}
-use Rattle.sv_schedule.specs.Sound.{IsSound, has_joined}
-use Rattle.sv_schedule.specs.Served.{IsSoundOver}
-use Rattle.sv_schedule.proofs.SoundPlain.{plain-keeps, sound-plain}
-use Rattle.sv_schedule.proofs.DoneCounts.{asked-few}
-use Rattle.sv_schedule.proofs.DoneFacts.{following, next-taken}
-use Rattle.sv_schedule.proofs.SoundCalls.{player-at}
+use Rattle.law_schedule.specs.Players.{Player, trace_of_player}
+use Rattle.law_schedule.specs.Serving.{Run, Server, traces_of}
+use Rattle.law_schedule.specs.Schedule.{rules_of, plain_server}
+use Rattle.law_schedule.specs.Sound.{IsSound, has_joined}
+use Rattle.law_schedule.specs.Served.{IsSoundOver}
+use Rattle.law_schedule.proofs.SoundPlain.{plain-keeps, sound-plain}
+use Rattle.law_schedule.proofs.DoneCounts.{asked-few}
+use Rattle.law_schedule.proofs.DoneFacts.{following, next-taken}
+use Rattle.law_schedule.proofs.SoundCalls.{player-at}
 use Rattle.sv_replay.specs.Players.{asked_by_player}
 use Rattle.sv_replay.specs.Messages.{AsksMessages}
 use Rattle.sv_replay.specs.Playable.{IsPlayable}

@@ -24,7 +24,7 @@ use Rattle.sv_scenario.specs.declared.scenario.Step.{Step}
 use Rattle.sv_scenario.specs.declared.scenario.Step.TheVariants as steps
 use Rattle.sv_script.specs.Following.{must_join, is_welcomed}
 use Rattle.sv_system.specs.Outcomes.{is_quit}
-use Rattle.sv_schedule.specs.Players.{Player, player_turn, next_step, last_steps, if_free, is_calm, is_settled, does, takes, takes_if}
+use Rattle.law_schedule.specs.Players.{Player, player_turn, next_step, last_steps, if_free, is_calm, is_settled, does, takes, takes_if}
 use Rattle.sv_replay.specs.declared.playing.Playing.{Playing}
 use Rattle.sv_exchange.specs.View.{ExchangeView, TakesReply}
 use Rattle.sv_replay.specs.Messages.{AsksMessages}

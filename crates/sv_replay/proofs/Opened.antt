@@ -10,11 +10,11 @@ use Rattle.sv_scenario.specs.declared.scenario.Plan.{Plan}
 use Rattle.sv_scenario.specs.declared.scenario.Scenario.{Scenario}
 use Rattle.sv_scenario.specs.Limits.{IsGoodScenario}
 use Rattle.sv_scenario.specs.Sessions.{sessions_of_plan, sessions_in, session_count}
-use Rattle.sv_schedule.specs.Players.{Player, players_from, asked_in_run, has_closed}
-use Rattle.sv_schedule.specs.Serving.{Run, opening_run}
-use Rattle.sv_schedule.specs.Schedule.{rules_of}
-use Rattle.sv_schedule.specs.Served.{IsSoundOver}
-use Rattle.sv_schedule.proofs.SoundLaws.{opening-sound}
+use Rattle.law_schedule.specs.Players.{Player, players_from, asked_in_run, has_closed}
+use Rattle.law_schedule.specs.Serving.{Run, opening_run}
+use Rattle.law_schedule.specs.Schedule.{rules_of}
+use Rattle.law_schedule.specs.Served.{IsSoundOver}
+use Rattle.law_schedule.proofs.SoundLaws.{opening-sound}
 use Rattle.sv_exchange.specs.View.{ExchangeView, new_exchange}
 use Rattle.sv_replay.specs.Players.{got_in_run, IsChannel}
 use Rattle.sv_replay.specs.Playable.{IsPlayable}

@@ -3,7 +3,7 @@ use Rattle.std.proofs.Common.{◌≡◌, ℕ, ◌+◌, ◌-◌, ◌<◌, ◌≤�
 use Rattle.std.proofs.lemmas.Bool.{cases_Bool}
 use Rattle.sv_client.specs.Traces.{joins}
 use Rattle.sv_script.specs.Following.{must_join}
-use Rattle.sv_schedule.specs.Players.{Player}
+use Rattle.law_schedule.specs.Players.{Player}
 use Rattle.sv_replay.specs.Players.{session_of, IsFit}
 
 pub place_between : (p : Player) → must_join p.events ≡ true → session_of p ≡ p.first + joins p.events

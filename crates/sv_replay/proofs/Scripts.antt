@@ -18,9 +18,9 @@ use Rattle.sv_script.specs.Following.{DoesStep, FollowsTo, after_syncs, passed_s
 use Rattle.sv_asked.specs.Asked.{EventFits}
 use Rattle.sv_asked.specs.Numbers.{StepFits, PlanFits}
 use Rattle.sv_asked.proofs.Every.{each-reverse}
-use Rattle.sv_schedule.specs.Players.{Player, trace_of_player}
-use Rattle.sv_schedule.specs.Serving.{traces_of}
-use Rattle.sv_schedule.specs.Sound.{IsPlaying, ArePlaying}
+use Rattle.law_schedule.specs.Players.{Player, trace_of_player}
+use Rattle.law_schedule.specs.Serving.{traces_of}
+use Rattle.law_schedule.specs.Sound.{IsPlaying, ArePlaying}
 use Rattle.sv_replay.specs.Playable.{MadeActionsFit}
 
 synced_fit : (ss : List Step) → AllByRecursion StepFits ss → AllByRecursion StepFits (after_syncs ss)

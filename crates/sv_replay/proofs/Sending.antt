@@ -16,10 +16,10 @@ use Rattle.sv_scenario.specs.Sessions.{session_count}
 use Rattle.sv_script.specs.Following.{must_join}
 use Rattle.sv_system.specs.Fits.{is_join_of}
 use Rattle.sv_system.proofs.Asked.{current-joined}
-use Rattle.sv_schedule.specs.Players.{Player, at_player, player_turn, take_turn, open_session, has_closed, does}
-use Rattle.sv_schedule.specs.Serving.{Run, Server, served, session_served, turn_served}
-use Rattle.sv_schedule.specs.Served.{IsSoundOver}
-use Rattle.sv_schedule.proofs.SoundLaws.{turns-sound}
+use Rattle.law_schedule.specs.Players.{Player, at_player, player_turn, take_turn, open_session, has_closed, does}
+use Rattle.law_schedule.specs.Serving.{Run, Server, served, session_served, turn_served}
+use Rattle.law_schedule.specs.Served.{IsSoundOver}
+use Rattle.law_schedule.proofs.SoundLaws.{turns-sound}
 use Rattle.sv_exchange.specs.View.{ExchangeView, new_exchange}
 use Rattle.sv_replay.specs.Players.{session_of, IsFit, IsNextFine}
 use Rattle.sv_replay.specs.Messages.{AsksMessages}

@@ -24,11 +24,11 @@ use Rattle.sv_client.specs.Traces.{asked, asked_by, submit_of, pending_of, curre
 use Rattle.sv_system.specs.Fits.{replies_in}
 use Rattle.sv_system.proofs.Fronts.{fronts-same}
 use Rattle.sv_system.proofs.Entered.{as-many, replies-one}
-use Rattle.sv_schedule.specs.Players.{Player, asked_in_run}
-use Rattle.sv_schedule.specs.Serving.{Server, is_stop, is_stop_reply, served}
-use Rattle.sv_schedule.specs.Schedule.{plain_server}
-use Rattle.sv_schedule.specs.Served.{RepliesNameAccepted}
-use Rattle.sv_schedule.proofs.SoundReplies.{replies-grow}
+use Rattle.law_schedule.specs.Players.{Player, asked_in_run}
+use Rattle.law_schedule.specs.Serving.{Server, is_stop, is_stop_reply, served}
+use Rattle.law_schedule.specs.Schedule.{plain_server}
+use Rattle.law_schedule.specs.Served.{RepliesNameAccepted}
+use Rattle.law_schedule.proofs.SoundReplies.{replies-grow}
 use Rattle.sv_sequencer.specs.Step.{SequencerView, history, entry_of, Grew, Answered}
 use Rattle.sv_exchange.specs.View.{ExchangeView, TakesRequest}
 use Rattle.sv_replay.specs.Serving.{ServerView, Answers, sequencer_view, whole_reply, next_history, next_channel, with_answer, Entered, Served, one_if}

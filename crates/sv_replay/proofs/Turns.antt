@@ -1,6 +1,6 @@
 -- Turns repeated until nothing changes, and turns of one element of a list after the other.
 use Rattle.std.proofs.Common.{◌≡◌, ◌⊎◌, inl, inr, ℕ, zero, suc, ◌+◌, ◌<◌, ◌≤◌, List, [], ◌∷◌, map, length, set, Some, slice_get, refl, sym, ap, ◌∙◌, arith}
-use Rattle.sv_schedule.specs.Players.{Player, repeated, at_player}
+use Rattle.law_schedule.specs.Players.{Player, repeated, at_player}
 
 -- ---- Repeated turns
 

@@ -17,9 +17,9 @@ use Rattle.sv_client.specs.Taking.{Fault, first_fault_of_reply}
 use Rattle.sv_script.specs.Following.{must_join}
 use Rattle.sv_system.specs.Fits.{requests_in, replies_in}
 use Rattle.sv_system.proofs.Entered.{is_of}
-use Rattle.sv_schedule.specs.Players.{Player, asked_in_run, has_closed, open_session, takes, takes_if, take_in, take_turn, at_player, repeated, does, take_turns}
-use Rattle.sv_schedule.specs.Serving.{Run, Server, served, is_stopped, session_served}
-use Rattle.sv_schedule.specs.Served.{KeepsSound}
+use Rattle.law_schedule.specs.Players.{Player, asked_in_run, has_closed, open_session, takes, takes_if, take_in, take_turn, at_player, repeated, does, take_turns}
+use Rattle.law_schedule.specs.Serving.{Run, Server, served, is_stopped, session_served}
+use Rattle.law_schedule.specs.Served.{KeepsSound}
 use Rattle.sv_replay.specs.Machine.{after_session, after_take}
 use Rattle.sv_replay.specs.Serving.{one_if}
 use Rattle.sv_replay.specs.Work.{work_left, work_in, work_for, work_of_session, work_of_client, Found}

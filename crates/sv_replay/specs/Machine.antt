@@ -11,10 +11,10 @@ use Rattle.sv_scenario.specs.declared.scenario.Step.{Step}
 use Rattle.sv_scenario.specs.Limits.{IsGoodScenario}
 use Rattle.sv_scenario.specs.Sessions.{session_count}
 use Rattle.sv_script.specs.Following.{must_join, is_welcomed}
-use Rattle.sv_schedule.specs.Players.{Player, at_player, take_turns}
-use Rattle.sv_schedule.specs.Serving.{Run, Server, all_served}
-use Rattle.sv_schedule.specs.Schedule.{rules_of}
-use Rattle.sv_schedule.specs.Served.{IsSoundOver}
+use Rattle.law_schedule.specs.Players.{Player, at_player, take_turns}
+use Rattle.law_schedule.specs.Serving.{Run, Server, all_served}
+use Rattle.law_schedule.specs.Schedule.{rules_of}
+use Rattle.law_schedule.specs.Served.{IsSoundOver}
 use Rattle.sv_replay.specs.declared.machine.Machine.{Machine}
 use Rattle.sv_replay.specs.declared.playing.Playing.{Playing}
 use Rattle.sv_exchange.specs.View.{ExchangeView, new_exchange}

@@ -2,7 +2,7 @@
 use Rattle.std.specs.Prelude.{ℕ, All}
 use Rattle.sv_world.specs.Limits.{most_sessions}
 use Rattle.sv_wire.specs.Laws.{IsRequest}
-use Rattle.sv_schedule.specs.Players.{Player}
+use Rattle.law_schedule.specs.Players.{Player}
 use Rattle.sv_replay.specs.Players.{asked_by_player, IsFit}
 
 -- Whatever a player asked, in whichever session, is a message.

@@ -13,10 +13,10 @@ use Rattle.sv_scenario.specs.Limits.{IsGoodScenario}
 use Rattle.sv_system.specs.Fits.{replies_in}
 use Rattle.sv_asked.specs.Asked.{EventFits}
 use Rattle.sv_asked.specs.Numbers.{ScenarioFits}
-use Rattle.sv_schedule.specs.Players.{Player}
-use Rattle.sv_schedule.specs.Serving.{Run, Server, traces_of}
-use Rattle.sv_schedule.specs.Schedule.{rules_of, plain_server}
-use Rattle.sv_schedule.specs.Served.{KeepsSound, IsSoundOver}
+use Rattle.law_schedule.specs.Players.{Player}
+use Rattle.law_schedule.specs.Serving.{Run, Server, traces_of}
+use Rattle.law_schedule.specs.Schedule.{rules_of, plain_server}
+use Rattle.law_schedule.specs.Served.{KeepsSound, IsSoundOver}
 use Rattle.sv_replay.specs.Messages.{AsksMessages}
 
 -- The runs over the server stay sound. In a sound one whatever is asked and replied is a message, and no client refuses its next reply.

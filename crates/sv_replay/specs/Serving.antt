@@ -10,8 +10,8 @@ use Rattle.sv_journal.specs.History.{accepted, full_reply, committed_of}
 use Rattle.sv_journal.specs.Answer.{Rules}
 use Rattle.sv_journal.specs.Sessions.{is_ended}
 use Rattle.sv_sequencer.specs.Step.{SequencerView, history}
-use Rattle.sv_schedule.specs.Serving.{Server, is_stop, served, serves_next}
-use Rattle.sv_schedule.specs.Schedule.{plain_server}
+use Rattle.law_schedule.specs.Serving.{Server, is_stop, served, serves_next}
+use Rattle.law_schedule.specs.Schedule.{plain_server}
 use Rattle.sv_exchange.specs.View.{ExchangeView}
 
 -- ---- Servers

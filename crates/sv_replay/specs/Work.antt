@@ -6,8 +6,8 @@ use Rattle.sv_journal.specs.History.{accepted}
 use Rattle.sv_journal.specs.Sessions.{is_ended}
 use Rattle.sv_client.specs.Traces.{got}
 use Rattle.sv_system.specs.Fits.{requests_in, replies_in}
-use Rattle.sv_schedule.specs.Players.{Player, asked_in_run, open_session}
-use Rattle.sv_schedule.specs.Serving.{Run}
+use Rattle.law_schedule.specs.Players.{Player, asked_in_run, open_session}
+use Rattle.law_schedule.specs.Serving.{Run}
 
 -- A session's waiting requests and its End.
 abbrev pub work_left : List Player → ℕ → List Entry → ℕ

@@ -5,8 +5,8 @@ ghost use Rattle.sv_journal.specs.Sessions.{is_ended};
 ghost use Rattle.sv_scenario.specs.declared.scenario.Turn.TheVariants as turns;
 ghost use Rattle.sv_scenario.specs.Limits.{IsGoodTurn};
 ghost use Rattle.sv_scenario.specs.Sessions.{session_count};
-ghost use Rattle.sv_schedule.specs.Players.{Player, repeated};
-ghost use Rattle.sv_schedule.specs.Serving.{turn_served, turns_served, after_clients, after_served, after_takes, round_served};
+ghost use Rattle.law_schedule.specs.Players.{Player, repeated};
+ghost use Rattle.law_schedule.specs.Serving.{turn_served, turns_served, after_clients, after_served, after_takes, round_served};
 ghost use Rattle.sv_replay.specs.Machine.{stage_of, run_of, IsMachine, Went, after_session, after_take};
 ghost use Rattle.sv_replay.specs.Work.{Found, work_of_session, work_of_client};
 

@@ -4,9 +4,9 @@ ghost use Rattle.std.specs.Prelude.{◌≡◌, ℕ, false, [], ◌+◌, ◌<◌,
 ghost use Rattle.sv_world.specs.Limits.{most_clients};
 ghost use Rattle.sv_scenario.specs.Limits.{IsGoodScenario, IsGoodPlan};
 ghost use Rattle.sv_scenario.specs.Sessions.{session_count, sessions_of_plan};
-ghost use Rattle.sv_schedule.specs.Players.{players_from};
-ghost use Rattle.sv_schedule.specs.Serving.{opening_run};
-ghost use Rattle.sv_schedule.specs.Schedule.{rules_of};
+ghost use Rattle.law_schedule.specs.Players.{players_from};
+ghost use Rattle.law_schedule.specs.Serving.{opening_run};
+ghost use Rattle.law_schedule.specs.Schedule.{rules_of};
 ghost use Rattle.sv_exchange.specs.View.{new_exchange};
 ghost use Rattle.sv_replay.specs.Playable.{IsPlayable};
 ghost use Rattle.sv_replay.specs.Machine.{player_of, AreFlags, stage_of, run_of, IsMachine};

@@ -8,7 +8,7 @@ ghost use Rattle.sv_client.specs.Proper.{MayMake, MayPoll, MayLeave};
 ghost use Rattle.sv_client.specs.Seen.{newly_asked};
 ghost use Rattle.sv_scenario.specs.declared.scenario.Step.TheVariants as steps;
 ghost use Rattle.sv_script.specs.Following.{must_join};
-ghost use Rattle.sv_schedule.specs.Players.{player_turn, next_step, last_steps, takes, trace_of_player, is_calm, is_settled};
+ghost use Rattle.law_schedule.specs.Players.{player_turn, next_step, last_steps, takes, trace_of_player, is_calm, is_settled};
 ghost use Rattle.sv_wire.specs.Laws.{IsRequest};
 ghost use Rattle.sv_exchange.specs.View.{ExchangeView};
 ghost use Rattle.sv_replay.specs.Messages.{AsksMessages, IsNext};

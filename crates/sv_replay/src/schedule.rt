@@ -3,10 +3,10 @@ ghost use Rattle.std.specs.Prelude.{◌≡◌, ◌<◌, [], map, reverse, IfOk, 
 ghost use Rattle.sv_world.specs.Limits.{most_sessions};
 ghost use Rattle.sv_scenario.specs.Limits.{IsGoodScenario};
 ghost use Rattle.sv_system.specs.Records.{IsPlayed};
-ghost use Rattle.sv_schedule.specs.Players.{trace_of_player};
-ghost use Rattle.sv_schedule.specs.Serving.{run_served, traces_of};
-ghost use Rattle.sv_schedule.specs.Schedule.{rules_of, scheduled_run};
-ghost use Rattle.sv_schedule.specs.Records.{IsReplay};
+ghost use Rattle.law_schedule.specs.Players.{trace_of_player};
+ghost use Rattle.law_schedule.specs.Serving.{run_served, traces_of};
+ghost use Rattle.law_schedule.specs.Schedule.{rules_of, scheduled_run};
+ghost use Rattle.law_schedule.specs.Records.{IsReplay};
 ghost use Rattle.sv_replay.specs.declared.playing.Playing.{Playing};
 ghost use Rattle.sv_replay.specs.Playable.{IsPlayable};
 ghost use Rattle.sv_replay.specs.Machine.{player_of, stage_of, run_of, IsMachine};
@@ -21,7 +21,7 @@ use std::alloc::{AllocError, Global};
 use sv_asked::read_scenario_numbers;
 use sv_client::Trace;
 use sv_scenario::Scenario;
-use sv_schedule::scheduled_runs_are_replays;
+use law_schedule::scheduled_runs_are_replays;
 use sv_system::Played;
 use sv_world::List;
 

@@ -4,7 +4,7 @@ ghost use Rattle.std.specs.Prelude.{◌≡◌, ◌<◌, ◌+◌, [], ◌∷◌, 
 ghost use Rattle.sv_wire.specs.declared.message.Request.TheVariants as requests;
 ghost use Rattle.sv_wire.specs.Laws.{IsReply};
 ghost use Rattle.sv_journal.specs.Sessions.{is_ended};
-ghost use Rattle.sv_schedule.specs.Serving.{is_stop_code, is_stop_reply};
+ghost use Rattle.law_schedule.specs.Serving.{is_stop_code, is_stop_reply};
 ghost use Rattle.sv_replay.specs.Serving.{whole_reply, with_answer, AnswersMessage, Entered, Served, one_if};
 
 use crate::server::Server;

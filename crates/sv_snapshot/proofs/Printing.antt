@@ -15,7 +15,7 @@ use Rattle.sv_client.specs.declared.trace.Trace.{Trace}
 use Rattle.sv_client.specs.Proper.{Proper}
 use Rattle.sv_scenario.specs.declared.scenario.Scenario.{Scenario}
 use Rattle.sv_scenario.specs.Limits.{IsGoodScenario}
-use Rattle.sv_schedule.specs.Records.{IsReplay}
+use Rattle.law_schedule.specs.Records.{IsReplay}
 use Rattle.sv_system.specs.Fits.{Fits}
 use Rattle.sv_system.specs.Records.{rules_of}
 use Rattle.sv_command.specs.Reading.{IsRead}

@@ -26,16 +26,16 @@ use Rattle.sv_system.specs.Fits.{requests_in, is_join_of, has_session, FitsOne, 
 use Rattle.sv_system.specs.Served.{is_session_of, FitsBut, HaveSameForm, AreSameButValues, FitsButValues}
 use Rattle.sv_system.proofs.Fronts.{get-push_cases}
 use Rattle.sv_system.proofs.Entered.{is_of}
-use Rattle.sv_schedule.specs.Players.{Player, trace_of_player}
-use Rattle.sv_schedule.specs.Serving.{Run, Server, traces_of}
-use Rattle.sv_schedule.specs.Schedule.{rules_of}
-use Rattle.sv_schedule.specs.Sound.{has_joined}
-use Rattle.sv_schedule.specs.Served.{IsServed, AreHeard, KeepsSound, HearsJoins, FitsServer, IsSoundOver}
-use Rattle.sv_schedule.proofs.DoneFacts.{any-turned}
-use Rattle.sv_schedule.proofs.DoneLists.{map-here, any-found, any-there}
-use Rattle.sv_schedule.proofs.SoundPlayers.{front-push}
-use Rattle.sv_schedule.proofs.SoundCalls.{player-at}
-use Rattle.sv_schedule.proofs.SoundOwned.{begun-client, client-heard}
+use Rattle.law_schedule.specs.Players.{Player, trace_of_player}
+use Rattle.law_schedule.specs.Serving.{Run, Server, traces_of}
+use Rattle.law_schedule.specs.Schedule.{rules_of}
+use Rattle.law_schedule.specs.Sound.{has_joined}
+use Rattle.law_schedule.specs.Served.{IsServed, AreHeard, KeepsSound, HearsJoins, FitsServer, IsSoundOver}
+use Rattle.law_schedule.proofs.DoneFacts.{any-turned}
+use Rattle.law_schedule.proofs.DoneLists.{map-here, any-found, any-there}
+use Rattle.law_schedule.proofs.SoundPlayers.{front-push}
+use Rattle.law_schedule.proofs.SoundCalls.{player-at}
+use Rattle.law_schedule.proofs.SoundOwned.{begun-client, client-heard}
 use Rattle.sv_witness.specs.Lies.{lied}
 use Rattle.sv_witness.specs.Witnessed.{agreed, witnessed_reply, IsWitnessed}
 use Rattle.sv_witness.specs.Run.{heard_of, witness_of, liar_of}

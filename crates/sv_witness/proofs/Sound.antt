@@ -39,17 +39,17 @@ use Rattle.sv_asked.proofs.Evaluated.{IsNumber}
 use Rattle.sv_asked.proofs.Made.{Makes, Asks, asked-have}
 use Rattle.sv_asked.proofs.Owned.{entry-at, SubmitHas, submit-asked, end-submits, end-fits, event-makes, accepted-have}
 use Rattle.sv_asked.proofs.Spent.{served-few}
-use Rattle.sv_schedule.specs.Players.{Player, trace_of_player}
-use Rattle.sv_schedule.specs.Serving.{Run, Server, traces_of}
-use Rattle.sv_schedule.specs.Schedule.{rules_of}
-use Rattle.sv_schedule.specs.Served.{IsHeard, AreHeard, FitsServer, IsSoundOver}
-use Rattle.sv_schedule.specs.Sound.{has_joined}
-use Rattle.sv_schedule.proofs.DoneCounts.{asked-few}
-use Rattle.sv_schedule.proofs.DoneFacts.{any-turned, same-who, same-events}
-use Rattle.sv_schedule.proofs.DoneLists.{map-here}
-use Rattle.sv_schedule.proofs.SoundCalls.{player-at}
-use Rattle.sv_schedule.proofs.SoundLaws.{run-sound}
-use Rattle.sv_schedule.proofs.SoundOwned.{session-owned}
+use Rattle.law_schedule.specs.Players.{Player, trace_of_player}
+use Rattle.law_schedule.specs.Serving.{Run, Server, traces_of}
+use Rattle.law_schedule.specs.Schedule.{rules_of}
+use Rattle.law_schedule.specs.Served.{IsHeard, AreHeard, FitsServer, IsSoundOver}
+use Rattle.law_schedule.specs.Sound.{has_joined}
+use Rattle.law_schedule.proofs.DoneCounts.{asked-few}
+use Rattle.law_schedule.proofs.DoneFacts.{any-turned, same-who, same-events}
+use Rattle.law_schedule.proofs.DoneLists.{map-here}
+use Rattle.law_schedule.proofs.SoundCalls.{player-at}
+use Rattle.law_schedule.proofs.SoundLaws.{run-sound}
+use Rattle.law_schedule.proofs.SoundOwned.{session-owned}
 use Rattle.sv_replay.specs.Players.{asked_by_player}
 use Rattle.sv_replay.specs.Messages.{AsksMessages}
 use Rattle.sv_replay.specs.Playable.{MadeActionsFit}

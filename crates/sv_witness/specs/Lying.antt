@@ -7,8 +7,8 @@ use Rattle.sv_scenario.specs.declared.scenario.Scenario.{Scenario}
 use Rattle.sv_scenario.specs.Limits.{IsGoodScenario}
 use Rattle.sv_asked.specs.Numbers.{ScenarioFits}
 use Rattle.sv_sequencer.specs.Step.{history}
-use Rattle.sv_schedule.specs.Serving.{traces_of}
-use Rattle.sv_schedule.specs.Schedule.{rules_of}
+use Rattle.law_schedule.specs.Serving.{traces_of}
+use Rattle.law_schedule.specs.Schedule.{rules_of}
 use Rattle.sv_replay.specs.Serving.{ServerView}
 use Rattle.sv_replay.specs.Playable.{IsPlayable}
 use Rattle.sv_witness.specs.declared.liar.Lying.{Lying}

@@ -8,8 +8,8 @@ use Rattle.sv_journal.specs.History.{client_of, is_client, actions_of}
 use Rattle.sv_journal.specs.Answer.{Rules}
 use Rattle.sv_client.specs.declared.trace.Trace.{Trace}
 use Rattle.sv_scenario.specs.declared.scenario.Scenario.{Scenario}
-use Rattle.sv_schedule.specs.Serving.{Run, Server, run_served, traces_of}
-use Rattle.sv_schedule.specs.Schedule.{rules_of}
+use Rattle.law_schedule.specs.Serving.{Run, Server, run_served, traces_of}
+use Rattle.law_schedule.specs.Schedule.{rules_of}
 use Rattle.sv_witness.specs.Reports.{agreed_commit, agreed_world}
 use Rattle.sv_witness.specs.Witnessed.{witnessed_reply, IsWitnessed}
 use Rattle.sv_witness.specs.Disputes.{disputes_of, NamesClient}

@@ -1,7 +1,7 @@
 //! The lines of a witnessed run.
 ghost use Rattle.std.specs.Prelude.{◌≡◌, [], length, string_bytes, IfOk};
 ghost use Rattle.sv_scenario.specs.Limits.{IsGoodScenario};
-ghost use Rattle.sv_schedule.specs.Schedule.{rules_of};
+ghost use Rattle.law_schedule.specs.Schedule.{rules_of};
 ghost use Rattle.sv_sequencer.specs.Step.{history};
 ghost use Rattle.sv_witness.specs.Lines.{witness_text};
 ghost use Rattle.sv_witness.specs.Lying.{WitnessesArePlayable, RunsAreWitnessed};

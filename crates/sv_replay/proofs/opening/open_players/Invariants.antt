@@ -2,7 +2,7 @@
 use Rattle.std.proofs.Common.{◌≡◌, ◌+◌, ◌++◌, map, drop}
 use Rattle.std.specs.List.{AllByRecursion}
 use Rattle.sv_scenario.specs.Sessions.{sessions_in, session_count}
-use Rattle.sv_schedule.specs.Players.{players_from}
+use Rattle.law_schedule.specs.Players.{players_from}
 use Rattle.sv_replay.specs.Machine.{player_of, AreFlags}
 use Rattle.sv_replay.proofs.opening.open_players.Given as goal
 

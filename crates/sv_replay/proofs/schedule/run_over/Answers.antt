@@ -1,7 +1,7 @@
 -- What a machine leaves is what its run leaves.
 use Rattle.std.proofs.Common.{ap, ◌∙◌}
-use Rattle.sv_schedule.specs.Serving.{Run, most_rounds, run_served}
-use Rattle.sv_schedule.specs.Schedule.{rules_of}
+use Rattle.law_schedule.specs.Serving.{Run, most_rounds, run_served}
+use Rattle.law_schedule.specs.Schedule.{rules_of}
 use Rattle.sv_replay.specs.Machine.{stage_of}
 use Rattle.sv_replay.proofs.Ended.{ran, still_serves, still_opened, left_rules, left_server, left_history, left_traces}
 use Rattle.sv_replay.proofs.schedule.run_over.Goals as goal

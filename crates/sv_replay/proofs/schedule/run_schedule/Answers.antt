@@ -1,8 +1,8 @@
 -- The run over a sequencer is the scheduled one.
 use Rattle.std.proofs.Common.{length, reverse, sym, ap, subst, ◌∙◌}
 use Rattle.sv_journal.specs.Answer.{Rules}
-use Rattle.sv_schedule.specs.Serving.{run_served}
-use Rattle.sv_schedule.specs.Schedule.{plain_server}
+use Rattle.law_schedule.specs.Serving.{run_served}
+use Rattle.law_schedule.specs.Schedule.{plain_server}
 use Rattle.sv_replay.specs.Playable.{IsPlayable}
 use Rattle.sv_replay.proofs.Ended.{run_scheduled, journal_of, traces_are, played_of, replay_of}
 use Rattle.sv_replay.proofs.schedule.run_schedule.Goals as goal

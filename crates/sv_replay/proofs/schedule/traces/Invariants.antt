@@ -1,6 +1,6 @@
 -- The traces so far are those of the first players.
 use Rattle.std.proofs.Common.{◌≡◌, map}
-use Rattle.sv_schedule.specs.Players.{trace_of_player}
+use Rattle.law_schedule.specs.Players.{trace_of_player}
 use Rattle.sv_replay.specs.Machine.{player_of}
 use Rattle.sv_replay.proofs.schedule.traces.Given as goal
 

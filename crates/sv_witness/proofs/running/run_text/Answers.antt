@@ -1,7 +1,7 @@
 -- The text of a run is that of the witnessed run.
 use Rattle.std.proofs.Common.{length, reverse, sym, ap, subst, ◌∙◌}
 use Rattle.sv_journal.specs.Answer.{Rules}
-use Rattle.sv_schedule.specs.Serving.{run_served}
+use Rattle.law_schedule.specs.Serving.{run_served}
 use Rattle.sv_replay.specs.Playable.{IsPlayable}
 use Rattle.sv_witness.specs.Run.{witness_of}
 use Rattle.sv_witness.proofs.Ran.{run-texts}

@@ -1,8 +1,8 @@
 -- The turns of all clients.
 use Rattle.std.proofs.Common.{◌+◌, arith}
 use Rattle.sv_replay.proofs.Turns.{turned_from}
-use Rattle.sv_schedule.specs.Players.{player_turn}
-use Rattle.sv_schedule.specs.Serving.{Run}
+use Rattle.law_schedule.specs.Players.{player_turn}
+use Rattle.law_schedule.specs.Serving.{Run}
 use Rattle.sv_replay.specs.Machine.{stage_of, run_of}
 use Rattle.sv_replay.proofs.Machines.{clients_are}
 use Rattle.sv_replay.proofs.Heading.{heads_next, heads_end, clients_next, clients_all, same_clients, players_are}

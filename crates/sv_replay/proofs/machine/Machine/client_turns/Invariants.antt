@@ -1,6 +1,6 @@
 -- The turns that are left lead to where all lead.
-use Rattle.sv_schedule.specs.Players.{player_turn}
-use Rattle.sv_schedule.specs.Serving.{Run, after_clients}
+use Rattle.law_schedule.specs.Players.{player_turn}
+use Rattle.law_schedule.specs.Serving.{Run, after_clients}
 use Rattle.sv_replay.specs.Machine.{stage_of, run_of, Heads}
 use Rattle.sv_replay.proofs.Turns.{turned_from}
 use Rattle.sv_replay.proofs.machine.Machine.client_turns.Given as goal

@@ -1,9 +1,9 @@
 -- A further round of a run that is done changes nothing.
 use Rattle.std.proofs.Common.{◌-◌, refl, arith}
 use Rattle.sv_scenario.specs.Sessions.{session_count}
-use Rattle.sv_schedule.specs.Players.{repeated}
-use Rattle.sv_schedule.specs.Serving.{Run, round_served}
-use Rattle.sv_schedule.specs.Done.{IsRunDone}
+use Rattle.law_schedule.specs.Players.{repeated}
+use Rattle.law_schedule.specs.Serving.{Run, round_served}
+use Rattle.law_schedule.specs.Done.{IsRunDone}
 use Rattle.sv_replay.specs.Machine.{stage_of, run_of}
 use Rattle.sv_replay.proofs.Heading.{heads_start, heads_end, rounds_start, rounds_more, rounds_end, done_became}
 use Rattle.sv_replay.proofs.machine.Machine.run_rounds.Goals as goal

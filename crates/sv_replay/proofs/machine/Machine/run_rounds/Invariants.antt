@@ -1,8 +1,8 @@
 -- The rounds that are left lead to where all lead.
 use Rattle.std.proofs.Common.{◌-◌}
 use Rattle.sv_scenario.specs.Sessions.{session_count}
-use Rattle.sv_schedule.specs.Players.{repeated}
-use Rattle.sv_schedule.specs.Serving.{Run, round_served}
+use Rattle.law_schedule.specs.Players.{repeated}
+use Rattle.law_schedule.specs.Serving.{Run, round_served}
 use Rattle.sv_replay.specs.Machine.{stage_of, run_of, Heads}
 use Rattle.sv_replay.proofs.machine.Machine.run_rounds.Given as goal
 

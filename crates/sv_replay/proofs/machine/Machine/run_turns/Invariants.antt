@@ -1,6 +1,6 @@
 -- The turns that are left lead to where all lead.
 use Rattle.std.proofs.Common.{drop}
-use Rattle.sv_schedule.specs.Serving.{Run, turns_served}
+use Rattle.law_schedule.specs.Serving.{Run, turns_served}
 use Rattle.sv_replay.specs.Machine.{stage_of, run_of, Heads}
 use Rattle.sv_replay.proofs.machine.Machine.run_turns.Given as goal
 

@@ -4,7 +4,7 @@ use Rattle.sv_world.specs.Control.{below}
 use Rattle.sv_journal.specs.Answer.{Rules}
 use Rattle.sv_scenario.specs.declared.scenario.Scenario.{Scenario}
 use Rattle.sv_scenario.specs.Sessions.{session_count}
-use Rattle.sv_schedule.specs.Serving.{Run, Server, sessions_served, all_served}
+use Rattle.law_schedule.specs.Serving.{Run, Server, sessions_served, all_served}
 use Rattle.sv_replay.specs.Machine.{stage_of, run_of}
 use Rattle.sv_replay.proofs.Heading.{heads_next, heads_end, sessions_next, sessions_end}
 use Rattle.sv_replay.proofs.machine.Machine.session_turns.Goals as goal

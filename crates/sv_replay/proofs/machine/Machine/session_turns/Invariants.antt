@@ -2,7 +2,7 @@
 use Rattle.std.proofs.Common.{drop}
 use Rattle.sv_world.specs.Control.{below}
 use Rattle.sv_scenario.specs.Sessions.{session_count}
-use Rattle.sv_schedule.specs.Serving.{Run, sessions_served, after_served}
+use Rattle.law_schedule.specs.Serving.{Run, sessions_served, after_served}
 use Rattle.sv_replay.specs.Machine.{stage_of, run_of, Heads}
 use Rattle.sv_replay.proofs.machine.Machine.session_turns.Given as goal
 

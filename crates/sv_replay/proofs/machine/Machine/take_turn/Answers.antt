@@ -4,7 +4,7 @@ use Rattle.std.specs.Vec.{with_item}
 use Rattle.std.proofs.lemmas.Result.{on_ok_weaker}
 use Rattle.std.proofs.lemmas.List.{get_or_read}
 use Rattle.sv_scenario.specs.declared.scenario.Turn.TheVariants as turns
-use Rattle.sv_schedule.specs.Players.{Player, take_turn}
+use Rattle.law_schedule.specs.Players.{Player, take_turn}
 use Rattle.sv_exchange.specs.View.{ExchangeView, new_exchange}
 use Rattle.sv_replay.specs.Players.{session_of, taken_from}
 use Rattle.sv_replay.specs.Machine.{player_of, Moved, run_of, stage_of}

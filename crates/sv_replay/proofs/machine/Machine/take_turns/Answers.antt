@@ -1,7 +1,7 @@
 -- The replies of all clients.
 use Rattle.std.proofs.Common.{◌+◌, arith}
-use Rattle.sv_schedule.specs.Players.{take_turns}
-use Rattle.sv_schedule.specs.Serving.{Run}
+use Rattle.law_schedule.specs.Players.{take_turns}
+use Rattle.law_schedule.specs.Serving.{Run}
 use Rattle.sv_replay.specs.Machine.{stage_of, run_of}
 use Rattle.sv_replay.proofs.Machines.{clients_are}
 use Rattle.sv_replay.proofs.Turns.{turned_from}

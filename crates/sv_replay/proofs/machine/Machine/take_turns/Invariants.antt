@@ -1,6 +1,6 @@
 -- The clients that are left lead to where all lead.
-use Rattle.sv_schedule.specs.Players.{take_turns}
-use Rattle.sv_schedule.specs.Serving.{Run, after_takes}
+use Rattle.law_schedule.specs.Players.{take_turns}
+use Rattle.law_schedule.specs.Serving.{Run, after_takes}
 use Rattle.sv_replay.specs.Machine.{stage_of, run_of, Heads}
 use Rattle.sv_replay.proofs.Turns.{turned_from}
 use Rattle.sv_replay.proofs.machine.Machine.take_turns.Given as goal

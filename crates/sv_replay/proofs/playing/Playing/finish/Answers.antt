@@ -3,7 +3,7 @@ use Rattle.std.proofs.Common.{true, false, [], refl, sym, ◌∙◌, subst}
 use Rattle.std.proofs.lemmas.Result.{on_ok_weaker}
 use Rattle.sv_client.specs.declared.trace.Event.TheVariants as events
 use Rattle.sv_client.proofs.Shifts.{up_session}
-use Rattle.sv_schedule.specs.Players.{Player}
+use Rattle.law_schedule.specs.Players.{Player}
 use Rattle.sv_replay.specs.Messages.{IsNext}
 use Rattle.sv_replay.specs.Machine.{player_of, Moved}
 use Rattle.sv_replay.proofs.Moving.{waits_last, leaves, closes, down_leave, does_player, same_link, left_is, ready_moved, closed_moved, still_at}

@@ -4,7 +4,7 @@ use Rattle.std.proofs.lemmas.Result.{on_ok_weaker}
 use Rattle.sv_client.specs.declared.trace.Event.TheVariants as events
 use Rattle.sv_scenario.specs.declared.scenario.Step.{Step}
 use Rattle.sv_scenario.specs.declared.scenario.Step.TheVariants as steps
-use Rattle.sv_schedule.specs.Players.{next_step}
+use Rattle.law_schedule.specs.Players.{next_step}
 use Rattle.sv_replay.specs.Machine.{player_of, Moved}
 use Rattle.sv_replay.proofs.Moving.{does_player, same_link, ready_moved, sync_moved}
 use Rattle.sv_replay.proofs.playing.Playing.step.Goals as goal

@@ -1,7 +1,7 @@
 -- A reply is taken where the client's end is open.
 use Rattle.std.proofs.Common.{sym, ◌∙◌, subst}
 use Rattle.std.proofs.lemmas.Result.{on_ok_weaker}
-use Rattle.sv_schedule.specs.Players.{Player}
+use Rattle.law_schedule.specs.Players.{Player}
 use Rattle.sv_replay.specs.Messages.{AsksMessages}
 use Rattle.sv_replay.specs.Machine.{player_of, Moved}
 use Rattle.sv_replay.proofs.Events.{up_must}

@@ -1,7 +1,7 @@
 -- A turn makes the client the next player.
 use Rattle.std.proofs.Common.{sym, ◌∙◌, subst}
 use Rattle.std.proofs.lemmas.Result.{on_ok_weaker}
-use Rattle.sv_schedule.specs.Players.{Player}
+use Rattle.law_schedule.specs.Players.{Player}
 use Rattle.sv_replay.specs.Messages.{IsNext}
 use Rattle.sv_replay.specs.Machine.{player_of, Moved}
 use Rattle.sv_replay.proofs.Events.{up_must, up_welcomed}

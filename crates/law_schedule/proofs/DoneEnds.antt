@@ -1,0 +1,177 @@
+-- Once all clients have closed, a round ends all sessions, and a further one changes nothing.
+use Rattle.std.proofs.Common.{◌≡◌, ℕ, suc, ◌+◌, ◌-◌, ◌≤◌, ◌<◌, Bool, true, false, ◌&&◌, ◌||◌, ◌==◌, not, inl, inr, List, [], ◌∷◌, map, Option, Some, slice_get, refl, sym, ap, ◌∙◌, subst, arith, eqb-true, true≢false}
+use Rattle.std.specs.List.{list_any}
+use Rattle.std.proofs.lemmas.Bool.{cond-true, cond-false, cases_Bool, cases_lt, and_parts, and_from, or_cases}
+use Rattle.std.proofs.lemmas.List.Elements.{All-from_recursion}
+use Rattle.sv_world.specs.declared.world.Shape.{Shape}
+use Rattle.sv_world.specs.Control.{below}
+use Rattle.sv_world.proofs.Bases.{is_in-below}
+use Rattle.sv_journal.specs.declared.entry.Entry.{Entry}
+use Rattle.sv_journal.specs.Sessions.{is_end, is_ended}
+use Rattle.sv_journal.specs.Answer.{Rules}
+use Rattle.sv_client.specs.Traces.{is_session}
+use Rattle.sv_scenario.specs.declared.scenario.Plan.{Plan}
+use Rattle.sv_scenario.specs.declared.scenario.Scenario.{Scenario}
+use Rattle.sv_scenario.specs.Limits.{IsGoodPlan, IsGoodScenario}
+use Rattle.sv_scenario.specs.Sessions.{sessions_of_plan, sessions_in, session_count}
+use Rattle.sv_script.proofs.Ends.{none-left}
+use Rattle.sv_system.specs.Fits.{IsEndLast, is_join_of}
+use Rattle.sv_system.specs.Laws.{NeverRefused}
+use Rattle.law_schedule.specs.Players.{Player, open_session, has_closed, player_turn, take_turns, repeated}
+use Rattle.law_schedule.specs.Serving.{Run, after_clients}
+use Rattle.law_schedule.specs.Schedule.{rules_of, plain_server, round, after_sessions}
+use Rattle.law_schedule.specs.Sound.{IsPlaying, ArePlaying, IsSound}
+use Rattle.sv_system.specs.Records.{ends_in}
+use Rattle.law_schedule.specs.Done.{IsRunDone}
+use Rattle.law_schedule.proofs.DoneGiven.{StaySound}
+use Rattle.law_schedule.proofs.DoneLists.{repeated-sum, repeated-still, map-from, any-there, each-found, each-from}
+use Rattle.law_schedule.proofs.DoneSessions.{quiet-round}
+use Rattle.law_schedule.proofs.DoneStill.{round-still}
+use Rattle.law_schedule.proofs.DoneFacts.{following}
+use Rattle.law_schedule.proofs.DoneCounts.{low-joined, finished-joined, all-joined}
+use Rattle.law_schedule.proofs.DoneShut.{open-closed, turn-closed, stays-closed}
+use Rattle.law_schedule.proofs.DoneRounds.{IsGoing, going-clients, going-round, going-rounds, falling-first, falling-rounds, fallen-closed}
+
+-- ---- Whose a session is
+
+pub record IsOwner (shape : Shape) (plans : List Plan) (ps : List Player) (s : ℕ) : Type 0 where
+  pub place : ℕ
+  pub player : Player
+  pub at : slice_get ps place ≡ Some player
+  pub plan : Plan
+  pub there : slice_get plans place ≡ Some plan
+  pub number : ℕ
+  pub from : ℕ
+  pub playing : IsPlaying shape number from plan player
+  pub low : from ≤ s
+  pub high : s < from + sessions_of_plan plan
+
+pub owner : (shape : Shape) (k from : ℕ) (plans : List Plan) (ps : List Player) (s : ℕ) → ArePlaying shape k from plans ps → from ≤ s → s < from + sessions_in plans →
+    IsOwner shape plans ps s
+owner shape k from [] [] s a l m = absurd (omega (arith, l, m))
+owner shape k from [] (p ∷ ps) s a l m = absurd a
+owner shape k from (plan ∷ plans) [] s a l m = absurd a
+owner shape k from (plan ∷ plans) (p ∷ ps) s a l m =
+    let later = owner shape (suc k) (from + sessions_of_plan plan) plans ps s a.1 in
+    elim (cases_lt s (from + sessions_of_plan plan)) [
+      | inl x ↦ record { place = 0; player = p; at = refl; plan = plan; there = refl; number = k; from = from; playing = a.0; low = l; high = x }
+      | inr x ↦
+          (let o = later x (omega (arith, m)) in
+          record {
+            place = suc o.place;
+            player = o.player;
+            at = o.at;
+            plan = o.plan;
+            there = o.there;
+            number = o.number;
+            from = o.from;
+            playing = o.playing;
+            low = o.low;
+            high = o.high;
+          })
+    ]
+
+-- ---- Where all have closed
+
+abbrev pub AreClosed : Run → Type 0
+AreClosed run = (i : ℕ) (p : Player) → slice_get run.players i ≡ Some p → p.closed ≡ true
+
+pub record WasJoined (run : Run) (s : ℕ) : Type 0 where
+  pub place : ℕ
+  pub player : Player
+  pub at : slice_get run.players place ≡ Some player
+  pub joined : list_any (is_join_of s) player.events ≡ true
+
+-- Each session was joined by a player.
+pub was-joined : (scenario : Scenario) → IsGoodScenario scenario → (run : Run) → IsSound scenario run → AreClosed run → (s : ℕ) → s < session_count scenario → WasJoined run s
+was-joined scenario good run sound closed s l =
+    let o = owner scenario.world.shape 0 0 scenario.clients run.players s sound.players (omega arith) (omega (arith, l)) in
+    let p = o.player in
+    let f = following scenario good run sound o.place p o.at in
+    let plan = each-found (IsGoodPlan scenario.world.shape) scenario.clients o.place o.plan good.plans o.there in
+    let finished = o.playing.closed (closed o.place p o.at) in
+    let none = none-left p.who p.first o.plan.steps p.events o.playing.before f.proper plan.quit o.playing.follows finished in
+    let all = all-joined p.who o.plan.steps p.events o.playing.before o.playing.follows (finished-joined p.events finished) none in
+    let low = o.low in
+    let high = o.high in
+    let first = o.playing.first in
+    record { place = o.place; player = p; at = o.at; joined = low-joined p.who p.first p.events s f.proper (omega (arith, low, first)) (omega (arith, high, first, all)) }
+
+closed-by : (p : Player) (s : ℕ) → p.closed ≡ true → list_any (is_join_of s) p.events ≡ true → has_closed s p ≡ true
+closed-by p s c j =
+    and_from (list_any (is_join_of s) p.events) (not (is_session (open_session p) s)) j (ap (λ (o : Option ℕ). not (is_session o s)) (open-closed p c))
+
+round-closed : (r : Rules) (run : Run) → AreClosed run → AreClosed (round r run)
+round-closed r run closed i q at =
+    let h = (after_sessions r (after_clients run)).history in
+    let m = map-from (take_turns h) (map player_turn run.players) i q at in
+    let k = map-from player_turn run.players i m.0 m.1.0 in
+    ap (λ (x : Player). x.closed) (m.1.1 ∙ ap (take_turns h) k.1.1) ∙ stays-closed h k.0 (closed i k.0 k.1.0)
+
+clients-closed : (run : Run) → AreClosed run → AreClosed (after_clients run)
+clients-closed run closed i q at =
+    let k = map-from player_turn run.players i q at in
+    ap (λ (x : Player). x.closed) (k.1.1 ∙ turn-closed k.0 (closed i k.0 k.1.0)) ∙ closed i k.0 k.1.0
+
+-- Then a round ends all sessions.
+pub closed-done : (scenario : Scenario) → IsGoodScenario scenario → StaySound scenario → (run : Run) → IsGoing scenario run → AreClosed run →
+    IsRunDone scenario (round (rules_of scenario) run)
+closed-done scenario good stay run g closed = record {
+  closed = All-from_recursion (λ (p : Player). p.closed ≡ true) (round (rules_of scenario) run).players
+      (each-from (λ (p : Player). p.closed ≡ true) (round (rules_of scenario) run).players (round-closed (rules_of scenario) run closed));
+  ended = λ s l.
+      let clients = after_clients run in
+      let w = was-joined scenario good clients (going-clients scenario good stay run g).sound (clients-closed run closed) s l in
+      let shut = any-there (has_closed s) clients.players w.place w.player w.at (closed-by w.player s (clients-closed run closed w.place w.player w.at) w.joined) in
+      elim (quiet-round (rules_of scenario) clients.players s (below (session_count scenario)) run.history (is_in-below (session_count scenario) s l)) [
+        | inl e ↦ e
+        | inr x ↦ absurd (true≢false (sym shut ∙ x.1.1))
+      ];
+}
+
+-- ---- So many rounds are enough
+
+pub rounds-done : (scenario : Scenario) → IsGoodScenario scenario → NeverRefused → StaySound scenario → (run : Run) → IsGoing scenario run → (n : ℕ) → 777 ≤ n →
+    IsRunDone scenario (repeated n (round (rules_of scenario)) run)
+rounds-done scenario good honest stay run g n l =
+    let f : Run → Run = round (rules_of scenario) in
+    let first : Run = f run in
+    let closing : Run = repeated 775 f first in
+    let g1 : IsGoing scenario first = going-round scenario good stay run g in
+    let g2 : IsGoing scenario closing = going-rounds scenario good honest stay 775 first g1 in
+    let closed : AreClosed closing = fallen-closed scenario good honest stay closing (falling-rounds scenario good honest stay 775 first g1 (falling-first scenario good honest stay run g)) in
+    let done : IsRunDone scenario (f closing) = closed-done scenario good stay closing g2 closed in
+    let split : n ≡ suc (775 + suc (n - 777)) = omega (arith, l) in
+    let there : repeated n f run ≡ f closing =
+    ap (λ (k : ℕ). repeated k f run) split ∙ repeated-sum 775 (suc (n - 777)) f first ∙ repeated-still (n - 777) f (f closing) (round-still (plain_server (rules_of scenario)) scenario (f closing) done) in
+    subst (IsRunDone scenario) (sym there) done
+
+-- ---- Ends
+
+none-ended : (h : List Entry) (s : ℕ) → is_ended h s ≡ false → ends_in h s ≡ 0
+none-ended [] s e = refl
+none-ended (d ∷ h) s e =
+    let now = cond-false (d.session == s && is_end d.request) (suc (ends_in h s)) (ends_in h s) (first-false (d.session == s && is_end d.request) (is_ended h s) e) in
+    now ∙ none-ended h s (second-false (d.session == s && is_end d.request) (is_ended h s) e)
+  where
+    first-false : (a b : Bool) → (a || b) ≡ false → a ≡ false
+    first-false true b x = x
+    first-false false b x = refl
+
+    second-false : (a b : Bool) → (a || b) ≡ false → b ≡ false
+    second-false true b x = absurd (true≢false x)
+    second-false false b x = x
+
+-- A session that had its End had one.
+pub one-end : (h : List Entry) (s : ℕ) → IsEndLast h s → is_ended h s ≡ true → ends_in h s ≡ 1
+one-end [] s l e = cc
+one-end (d ∷ h) s l e =
+    let later = one-end h s l.1 in
+    elim (cases_Bool (d.session == s && is_end d.request)) [
+      | inl x ↦
+          (let p = and_parts (d.session == s) (is_end d.request) x in
+          cond-true (d.session == s && is_end d.request) (suc (ends_in h s)) (ends_in h s) x ∙ ap suc (none-ended h s (l.0 (eqb-true d.session s p.0))))
+      | inr x ↦
+          cond-false (d.session == s && is_end d.request) (suc (ends_in h s)) (ends_in h s) x
+          ∙ later (elim (or_cases (d.session == s && is_end d.request) (is_ended h s) e) [ inl y ↦ absurd (true≢false (sym y ∙ x)) | inr y ↦ y ])
+    ]
