@@ -47,7 +47,8 @@ fn copy_items(alloc: Global, items: &[Item]) -> Result<List<Item>, AllocError>
     Ok(List::from_vec(copies))
 }
 
-fn copy_result(alloc: Global, found: &Done1) -> Result<Done1, AllocError>
+/// An equal copy.
+pub fn copy_result(alloc: Global, found: &Done1) -> Result<Done1, AllocError>
     ensures { IfOk result (λ copy. copy ≡ found.now) }
 {
     Ok(Done1 {

@@ -21,7 +21,7 @@ mod replies;
 mod requests;
 mod stmts;
 
-pub use copying::{copy_head, copy_reply, copy_request};
+pub use copying::{copy_head, copy_reply, copy_request, copy_result};
 pub use decoding::{decode_reply, decode_request};
 pub use encoding::{encode_reply, encode_reply_into, encode_request, encode_request_into};
 pub use fault::{Malformed, WireCause, WireFault};
