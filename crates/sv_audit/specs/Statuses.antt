@@ -1,7 +1,7 @@
 -- How a call ends, and what each status says. `held` is what the scenario's file holds and `told` what the report's does, where that is told.
 use Rattle.std.specs.Prelude.{◌≡◌, ◌≢◌, ◌⊎◌, ℕ, ◌<◌, List, [], ◌++◌, length, take, Option, Some, None, codes, unwrap_or, Result, Ok, Err, string_bytes, IfSome}
 use Rattle.std.specs.Fmt.{decimal}
-use Rattle.sv_bytes.specs.Writing.{Told as IsTold}
+use Rattle.sv_bytes.specs.Writing.{GrewOrRose}
 use Rattle.sv_command.specs.declared.ending.Ending.TheVariants as plain
 use Rattle.sv_command.specs.Endings.{IsPrinted, IsCutShort, Ends as PlainEnds}
 use Rattle.sv_command.specs.Lines.{file_line}
@@ -107,4 +107,4 @@ pub record TellsStatus (sure : List ℕ → Type 0) (contents : List ℕ → Opt
   pub unread : status ≡ 4 → IfSome asked (λ (a : Asked). NamesUnread sure a line)
   pub wrong : status ≡ 9 → IfSome asked (λ (a : Asked). TellsWrong (contents a.scenario) (contents a.report) line)
   pub plain_is : status ≢ 3 → status ≢ 4 → status ≢ 9 → line ≡ status_line words_line status (scenario_named asked)
-  pub told_is : IsTold old new before after line
+  pub told_is : GrewOrRose old new before after line

@@ -1,7 +1,7 @@
 //! How a call ends.
 ghost use Rattle.std.specs.Prelude.{◌≡◌};
 ghost use Rattle.std.specs.Option.{option_copied, option_map};
-ghost use Rattle.sv_bytes.specs.Writing.{Told};
+ghost use Rattle.sv_bytes.specs.Writing.{GrewOrRose};
 ghost use Rattle.sv_audit.specs.Statuses.{line_of, status_of, wrong_line};
 ghost use Rattle.sv_audit.specs.Words.{asked_by};
 
@@ -47,7 +47,7 @@ impl From<AllocError> for AuditEnding {
 }
 
 fn tell_wrong<E: Sink>(line: u32, err: &mut E)
-    ensures { Told (E.taken err.old) (E.taken err.new) (E.faults err.old) (E.faults err.new) (wrong_line line) }
+    ensures { GrewOrRose (E.taken err.old) (E.taken err.new) (E.faults err.old) (E.faults err.new) (wrong_line line) }
 {
     tell_number(b"wrong line ", line, err)
 }
@@ -59,7 +59,7 @@ pub(crate) fn tell<E: Sink>(
     audit: Option<Audit<'_>>,
     err: &mut E,
 )
-    ensures { Told (E.taken err.old) (E.taken err.new) (E.faults err.old) (E.faults err.new) (line_of words_line.now (option_map asked_by audit.entry) ending.now) }
+    ensures { GrewOrRose (E.taken err.old) (E.taken err.new) (E.faults err.old) (E.faults err.new) (line_of words_line.now (option_map asked_by audit.entry) ending.now) }
 {
     match ending {
         AuditEnding::Plain(ending) => {

@@ -36,6 +36,6 @@ joined_pieces [] = []
 joined_pieces (piece ∷ pieces) = piece.now ++ joined_pieces pieces
 
 -- the sink was given a text: it grew by just that where its count did not rise, and else by a front part of it
-pub record Told (old now : Option (List ℕ)) (before after : ℕ) (text : List ℕ) : Type 0 where
+pub record GrewOrRose (old now : Option (List ℕ)) (before after : ℕ) (text : List ℕ) : Type 0 where
   pub part : GrewByPart old now text
   pub whole : ¬ Rose before after → Grew old now text

@@ -2,7 +2,7 @@
 ghost use Rattle.std.specs.Prelude.{◌≡◌, ℕ, ◌<◌, List, ◌++◌, Option, length, MatchBool, IsTrue};
 ghost use Rattle.std.specs.Bool.{OnTrue};
 ghost use Rattle.sv_bytes.specs.Faults.{WriteCause, Rose};
-ghost use Rattle.sv_bytes.specs.Writing.{TakesSome, WritesFront, Grew, GrewByPart, Told, joined_pieces};
+ghost use Rattle.sv_bytes.specs.Writing.{TakesSome, WritesFront, Grew, GrewByPart, GrewOrRose, joined_pieces};
 
 /// What `write` answers.
 #[derive(Clone, Copy, Debug, PartialEq, Eq)]
@@ -32,7 +32,7 @@ pub trait Sink {
 pub fn write_all<K: Sink>(sink: &mut K, bytes: &[u8]) -> bool
     ensures whole { OnTrue result (Grew (K.taken sink.old) (K.taken sink.new) bytes.now) }
     ensures part { GrewByPart (K.taken sink.old) (K.taken sink.new) bytes.now }
-    ensures told { Told (K.taken sink.old) (K.taken sink.new) (K.faults sink.old) (K.faults sink.new) bytes.now }
+    ensures told { GrewOrRose (K.taken sink.old) (K.taken sink.new) (K.faults sink.old) (K.faults sink.new) bytes.now }
     ensures cause { MatchBool result (K.faults sink.new ≡ K.faults sink.old) (Rose (K.faults sink.old) (K.faults sink.new)) }
 {
     let mut done = 0;
@@ -49,7 +49,7 @@ pub fn write_all<K: Sink>(sink: &mut K, bytes: &[u8]) -> bool
 pub fn write_pieces<K: Sink>(sink: &mut K, pieces: &[&[u8]]) -> bool
     ensures whole { OnTrue result (Grew (K.taken sink.old) (K.taken sink.new) (joined_pieces pieces.now)) }
     ensures part { GrewByPart (K.taken sink.old) (K.taken sink.new) (joined_pieces pieces.now) }
-    ensures told { Told (K.taken sink.old) (K.taken sink.new) (K.faults sink.old) (K.faults sink.new) (joined_pieces pieces.now) }
+    ensures told { GrewOrRose (K.taken sink.old) (K.taken sink.new) (K.faults sink.old) (K.faults sink.new) (joined_pieces pieces.now) }
     ensures cause { MatchBool result (K.faults sink.new ≡ K.faults sink.old) (Rose (K.faults sink.old) (K.faults sink.new)) }
 {
     for piece in pieces {

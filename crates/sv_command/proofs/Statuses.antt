@@ -3,7 +3,7 @@ use Rattle.std.proofs.Common.{◌≡◌, ◌≢◌, ◌↔◌, ◌⊎◌, inl, i
 use Rattle.std.specs.Prelude.{string_bytes, IfSome, String}
 use Rattle.std.specs.declared.alloc.Global.{Global}
 use Rattle.sv_bytes.specs.Faults.{Rose}
-use Rattle.sv_bytes.specs.Writing.{Told}
+use Rattle.sv_bytes.specs.Writing.{GrewOrRose}
 use Rattle.sv_command.specs.declared.ending.Ending.{Ending}
 use Rattle.sv_command.specs.declared.ending.Ending.TheVariants as endings
 use Rattle.sv_command.specs.Reading.{IsRefused}
@@ -126,7 +126,7 @@ module _ (before now : Counts) where
 
 module _ (words_line : List ℕ) (held named : Option (List ℕ)) (t0 t1 : Option (List ℕ)) (n0 n1 : ℕ) where
   -- An ending tells its status where its line is written. It tells of no scenario only where that was refused.
-  pub told_is : (e : Ending) → ((line : String Global) → e ≡ endings.Scenario line → IsRefused held (string_bytes line)) → Told t0 t1 n0 n1 (line_of words_line e named)
+  pub told_is : (e : Ending) → ((line : String Global) → e ≡ endings.Scenario line → IsRefused held (string_bytes line)) → GrewOrRose t0 t1 n0 n1 (line_of words_line e named)
       → TellsStatus words_line (status_of e) held named t0 t1 n0 n1
   told_is endings.Done refused t = record { line = line_of words_line endings.Done named; faulty = λ s. absurd (omega arith); plain = λ s. refl; told = t }
   told_is endings.Words refused t = record { line = line_of words_line endings.Words named; faulty = λ s. absurd (omega arith); plain = λ s. refl; told = t }

@@ -2,7 +2,7 @@
 use Rattle.std.specs.Prelude.{◌≡◌, ◌≢◌, ◌↔◌, ℕ, ◌==◌, List, [], Option, codes, if◌then◌else◌, unwrap_or}
 use Rattle.std.specs.Prelude.{Result, Ok, Err, string_bytes}
 use Rattle.sv_bytes.specs.Faults.{Rose}
-use Rattle.sv_bytes.specs.Writing.{Told}
+use Rattle.sv_bytes.specs.Writing.{GrewOrRose}
 use Rattle.sv_scenario.specs.declared.scenario.Scenario.{Scenario}
 use Rattle.sv_scenario.specs.Limits.{IsGoodScenario}
 use Rattle.sv_scenario.specs.Scenarios.{scenario_of}
@@ -109,4 +109,4 @@ pub record TellsStatus (words_line : List ℕ) (status : ℕ) (held named : Opti
   pub line : List ℕ
   pub faulty : status ≡ 3 → IsRefused held line
   pub plain : status ≢ 3 → line ≡ status_line words_line status named
-  pub told : Told old now before after line
+  pub told : GrewOrRose old now before after line

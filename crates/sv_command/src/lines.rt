@@ -2,7 +2,7 @@
 ghost use Rattle.std.specs.Prelude.{◌≡◌, ◌++◌, codes, string_bytes, OnOk};
 ghost use Rattle.std.specs.Fmt.{decimal};
 ghost use Rattle.std.specs.List.{flat_map};
-ghost use Rattle.sv_bytes.specs.Writing.{Told};
+ghost use Rattle.sv_bytes.specs.Writing.{GrewOrRose};
 ghost use Rattle.sv_command.specs.Lines.{ended_line, file_line};
 
 use itoa::Buffer;
@@ -23,21 +23,21 @@ pub fn append_lines(lines: &[Text], text: &mut String) -> Result<(), AllocError>
 
 /// Writes a whole line, with its end.
 pub fn tell_line<E: Sink>(line: &[u8], err: &mut E)
-    ensures { Told (E.taken err.old) (E.taken err.new) (E.faults err.old) (E.faults err.new) line.now }
+    ensures { GrewOrRose (E.taken err.old) (E.taken err.new) (E.faults err.old) (E.faults err.new) line.now }
 {
     write_all(err, line);
 }
 
 /// Writes the line that names a file that can't be read.
 pub fn tell_file<E: Sink>(name: &str, err: &mut E)
-    ensures { Told (E.taken err.old) (E.taken err.new) (E.faults err.old) (E.faults err.new) (file_line name.now) }
+    ensures { GrewOrRose (E.taken err.old) (E.taken err.new) (E.faults err.old) (E.faults err.new) (file_line name.now) }
 {
     write_pieces(err, &[b"file: ", name.as_bytes(), b"\n"]);
 }
 
 /// Writes a line that ends with a number.
 pub fn tell_number<E: Sink>(words: &[u8], number: u32, err: &mut E)
-    ensures { Told (E.taken err.old) (E.taken err.new) (E.faults err.old) (E.faults err.new) (words.now ++ decimal number ++ codes "\n") }
+    ensures { GrewOrRose (E.taken err.old) (E.taken err.new) (E.faults err.old) (E.faults err.new) (words.now ++ decimal number ++ codes "\n") }
 {
     let mut buffer = Buffer::new();
     write_pieces(err, &[words, buffer.format(number).as_bytes(), b"\n"]);
@@ -45,7 +45,7 @@ pub fn tell_number<E: Sink>(words: &[u8], number: u32, err: &mut E)
 
 /// Writes a line that ends with two numbers.
 pub fn tell_numbers<E: Sink>(words: &[u8], first: u32, second: u32, err: &mut E)
-    ensures { Told (E.taken err.old) (E.taken err.new) (E.faults err.old) (E.faults err.new) (words.now ++ decimal first ++ codes " " ++ decimal second ++ codes "\n") }
+    ensures { GrewOrRose (E.taken err.old) (E.taken err.new) (E.faults err.old) (E.faults err.new) (words.now ++ decimal first ++ codes " " ++ decimal second ++ codes "\n") }
 {
     let mut one = Buffer::new();
     let mut other = Buffer::new();

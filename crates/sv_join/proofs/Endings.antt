@@ -3,7 +3,7 @@ use Rattle.std.proofs.Common.{◌≡◌, ◌≢◌, ◌↔◌, ◌⊎◌, inl, i
 use Rattle.std.specs.Prelude.{string_bytes, IfSome, Ok}
 use Rattle.std.proofs.lemmas.Option.{slice_get_within}
 use Rattle.sv_bytes.specs.Faults.{Rose}
-use Rattle.sv_bytes.specs.Writing.{Told as IsTold}
+use Rattle.sv_bytes.specs.Writing.{GrewOrRose}
 use Rattle.sv_link.specs.Ends.{Told}
 use Rattle.sv_scenario.specs.declared.scenario.Scenario.{Scenario}
 use Rattle.sv_scenario.specs.Scenarios.{scenario_of}
@@ -232,7 +232,7 @@ module _ {E : Type 0} (told : E → Told) (faults : E → ℕ) (calm : E → Typ
     range_of (endings.Reply fault) h = inr (inr (inr (omega arith, omega arith)))
     range_of endings.Closed h = inr (inr (inr (omega arith, omega arith)))
 
-    told_of : (t0 t1 : Option (List ℕ)) (n0 n1 : ℕ) (named : Option (List ℕ)) (e : JoinEnding) → Ends told faults calm asked held door before now old new e → IsTold t0 t1 n0 n1 (line_of e named)
+    told_of : (t0 t1 : Option (List ℕ)) (n0 n1 : ℕ) (named : Option (List ℕ)) (e : JoinEnding) → Ends told faults calm asked held door before now old new e → GrewOrRose t0 t1 n0 n1 (line_of e named)
         → TellsStatus told faults calm (Some asked) held named door (status_of e) t0 t1 n0 n1
     told_of t0 t1 n0 n1 named (endings.Plain plain.Done) h t = record { line = line_of (endings.Plain plain.Done) named; faulty = λ s. absurd (omega arith); reply = λ s. absurd (omega arith); plain_is = λ x y. refl; told_is = t }
     told_of t0 t1 n0 n1 named (endings.Plain plain.Words) h t = absurd h.0
@@ -277,7 +277,7 @@ module _ {E : Type 0} (told : E → Told) (faults : E → ℕ) (calm : E → Typ
         inr (inl (omega (arith, two), omega (arith, two)))
     range_is (Some x) e w h = range_of x (contents x.file) e h
 
-    pub told_is : (t0 t1 : Option (List ℕ)) (n0 n1 : ℕ) (a : Option Asked) (e : JoinEnding) → ((e ≡ endings.Plain plain.Words) ↔ (a ≡ None)) → AllEnds a e → IsTold t0 t1 n0 n1 (line_of e (named_by a))
+    pub told_is : (t0 t1 : Option (List ℕ)) (n0 n1 : ℕ) (a : Option Asked) (e : JoinEnding) → ((e ≡ endings.Plain plain.Words) ↔ (a ≡ None)) → AllEnds a e → GrewOrRose t0 t1 n0 n1 (line_of e (named_by a))
         → TellsStatus told faults calm a (held_of contents (named_by a)) (named_by a) door (status_of e) t0 t1 n0 n1
     told_is t0 t1 n0 n1 None e w h t =
         let is = w.1 refl in

@@ -1,7 +1,7 @@
 -- How a join ends, and what each status says.
 use Rattle.std.specs.Prelude.{◌≡◌, ◌≢◌, ◌↔◌, ◌⊎◌, ℕ, ◌<◌, ◌≤◌, ◌==◌, List, length, take, Option, codes, if◌then◌else◌, Result, Ok, Err, string_bytes, IfSome}
 use Rattle.sv_bytes.specs.Faults.{Rose}
-use Rattle.sv_bytes.specs.Writing.{Told as IsTold}
+use Rattle.sv_bytes.specs.Writing.{GrewOrRose}
 use Rattle.sv_link.specs.Ends.{Told}
 use Rattle.sv_scenario.specs.declared.scenario.Scenario.{Scenario}
 use Rattle.sv_scenario.specs.Scenarios.{scenario_of}
@@ -154,4 +154,4 @@ module _ {E : Type 0} (told : E → Told) (faults : E → ℕ) (calm : E → Typ
     pub faulty : status ≡ 3 → IsRefused held line
     pub reply : status ≡ 11 → IfSome asked (λ a. TellsReply a held door line)
     pub plain_is : status ≢ 3 → status ≢ 11 → line ≡ status_line status named
-    pub told_is : IsTold old new before after line
+    pub told_is : GrewOrRose old new before after line

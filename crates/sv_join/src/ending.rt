@@ -1,7 +1,7 @@
 //! How a join ends.
 ghost use Rattle.std.specs.Prelude.{◌≡◌};
 ghost use Rattle.std.specs.Option.{option_copied};
-ghost use Rattle.sv_bytes.specs.Writing.{Told};
+ghost use Rattle.sv_bytes.specs.Writing.{GrewOrRose};
 ghost use Rattle.sv_join.specs.Faults.{cause_number, reply_line, take_line};
 ghost use Rattle.sv_join.specs.Statuses.{line_of, status_of};
 
@@ -83,7 +83,7 @@ fn cause_number(cause: WireCause) -> u8
 }
 
 fn tell_take<E: Sink>(fault: TakeFault, err: &mut E)
-    ensures { Told (E.taken err.old) (E.taken err.new) (E.faults err.old) (E.faults err.new) (take_line fault) }
+    ensures { GrewOrRose (E.taken err.old) (E.taken err.new) (E.faults err.old) (E.faults err.new) (take_line fault) }
 {
     match fault {
         TakeFault::Unasked => tell_line(b"reply: unasked\n", err),
@@ -98,7 +98,7 @@ fn tell_take<E: Sink>(fault: TakeFault, err: &mut E)
 }
 
 fn tell_reply<E: Sink>(fault: ReplyFault, err: &mut E)
-    ensures { Told (E.taken err.old) (E.taken err.new) (E.faults err.old) (E.faults err.new) (reply_line fault) }
+    ensures { GrewOrRose (E.taken err.old) (E.taken err.new) (E.faults err.old) (E.faults err.new) (reply_line fault) }
 {
     match fault {
         ReplyFault::Take(fault) => tell_take(fault, err),
@@ -114,7 +114,7 @@ fn tell_reply<E: Sink>(fault: ReplyFault, err: &mut E)
 
 /// Writes the line that tells of an ending. It takes no memory.
 pub(crate) fn tell<E: Sink>(ending: &JoinEnding, named: Option<&str>, err: &mut E)
-    ensures { Told (E.taken err.old) (E.taken err.new) (E.faults err.old) (E.faults err.new) (line_of ending.now (option_copied named.entry)) }
+    ensures { GrewOrRose (E.taken err.old) (E.taken err.new) (E.faults err.old) (E.faults err.new) (line_of ending.now (option_copied named.entry)) }
 {
     match ending {
         JoinEnding::Plain(ending) => {

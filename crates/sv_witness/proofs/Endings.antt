@@ -2,7 +2,7 @@
 use Rattle.std.proofs.Common.{◌≡◌, ◌≢◌, ◌↔◌, ◌⊎◌, inl, inr, refl, arith, ℕ, ◌≤◌, List, length, take, Option, Some, None, sym, ap, subst}
 use Rattle.std.specs.Prelude.{string_bytes, option_map, IfSome, Ok, Err, String}
 use Rattle.std.specs.declared.alloc.Global.{Global}
-use Rattle.sv_bytes.specs.Writing.{Grew, GrewByPart, Told}
+use Rattle.sv_bytes.specs.Writing.{Grew, GrewByPart, GrewOrRose}
 use Rattle.sv_scenario.specs.declared.scenario.Scenario.{Scenario}
 use Rattle.sv_scenario.specs.Scenarios.{scenario_of}
 use Rattle.sv_command.specs.declared.ending.Ending.{Ending}
@@ -158,7 +158,7 @@ module _ (old new : Option (List ℕ)) where
     range_is (Some x) e w h = range_of x (contents x.file) e h
 
     pub told_is : (words_line : List ℕ) (t0 t1 : Option (List ℕ)) (n0 n1 : ℕ) (a : Option Asked) (e : Ending) → ((e ≡ endings.Words) ↔ (a ≡ None)) → AllEnds a e
-        → Told t0 t1 n0 n1 (line_of words_line e (named_by a)) → TellsStatus words_line (status_of e) (held_of contents (named_by a)) (named_by a) t0 t1 n0 n1
+        → GrewOrRose t0 t1 n0 n1 (line_of words_line e (named_by a)) → TellsStatus words_line (status_of e) (held_of contents (named_by a)) (named_by a) t0 t1 n0 n1
     told_is words_line t0 t1 n0 n1 None e w h t = plain_told words_line None None t0 t1 n0 n1 e (λ line is. absurd (words_alone e line (w.1 refl) is)) t
     told_is words_line t0 t1 n0 n1 (Some x) e w h t =
         plain_told words_line (contents x.file) (Some x.file) t0 t1 n0 n1 e (λ line is. refused_is (IsText x (contents x.file)) (EndsEarly x (contents x.file)) old new e h line is) t
