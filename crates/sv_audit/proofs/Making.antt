@@ -9,7 +9,7 @@ use Rattle.sv_system.specs.declared.played.Played.{Played}
 use Rattle.sv_command.specs.declared.ending.Ending.{Ending}
 use Rattle.sv_command.specs.declared.ending.Ending.TheVariants as plain
 use Rattle.sv_command.specs.Endings.{IsMade}
-use Rattle.sv_command.specs.Reading.{IsFront, IsRead, IsRefused}
+use Rattle.sv_command.specs.Reading.{IsFileFront, IsRead, IsRefused}
 use Rattle.sv_command.specs.Statuses.{Counts, IsGiven, IsUnread}
 use Rattle.sv_command.proofs.Counts.{came}
 use Rattle.sv_check.specs.Consistent.{IsReportOf}
@@ -43,7 +43,7 @@ module _ (held told : Option (List ℕ)) (place : Option Asking) where
   unread_made (endings.Wrong line) h = absurd h
   unread_made (endings.Plain plain.Range) h = absurd h
 
-  pub refused_made : (bytes : List ℕ) (e : Ending) → IsFront held bytes → IsGiven bytes (Err e) → EndsEarly held told place (endings.Plain e)
+  pub refused_made : (bytes : List ℕ) (e : Ending) → IsFileFront held bytes → IsGiven bytes (Err e) → EndsEarly held told place (endings.Plain e)
   refused_made bytes (plain.Scenario line) front h = record { bytes = bytes; front = front; fault = h.fault; faulty = h.faulty; told = h.told }
   refused_made bytes plain.Memory front h = tt
   refused_made bytes plain.File front h = absurd h
@@ -54,7 +54,7 @@ module _ (held told : Option (List ℕ)) (place : Option Asking) where
   refused_made bytes plain.Start front h = absurd h
   refused_made bytes plain.Range front h = absurd h
 
-  module _ (source bytes : List ℕ) (scenario : Scenario) (front : IsFront held source) (is : scenario_of source ≡ Ok scenario) (report : IsReportFront told bytes) where
+  module _ (source bytes : List ℕ) (scenario : Scenario) (front : IsFileFront held source) (is : scenario_of source ≡ Ok scenario) (report : IsReportFront told bytes) where
     pub are_read : AreRead held told scenario bytes
     are_read = record { scenario_is = record { bytes = source; front = front; read = is }; report_is = report }
 

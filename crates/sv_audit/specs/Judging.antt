@@ -70,16 +70,16 @@ pub record IsExplained (scenario : Scenario) (played : Played) (place : Asking) 
   pub explains : Explains scenario.world.values (actions_of (reverse played.journal.entries)) place.object place.pos positions value
   pub text_is : text ≡ why_text (accepted (reverse played.journal.entries)) place.object positions value
 
-abbrev pub IsAnswer : Scenario → Played → Option Asking → List ℕ → Type 0
-IsAnswer scenario played None text = text ≡ codes "yes\n"
-IsAnswer scenario played (Some place) text = IsExplained scenario played place text
+abbrev pub IsAnswerText : Scenario → Played → Option Asking → List ℕ → Type 0
+IsAnswerText scenario played None text = text ≡ codes "yes\n"
+IsAnswerText scenario played (Some place) text = IsExplained scenario played place text
 
 -- The report is one of the scenario, and the text answers what is asked of it.
 pub record IsText (held told : Option (List ℕ)) (place : Option Asking) (text : List ℕ) : Type 0 where
   pub scenario : Scenario
   pub played : Played
   pub approved : IsApproved held told scenario played
-  pub answer : IsAnswer scenario played place text
+  pub answer : IsAnswerText scenario played place text
 
 -- ---- The parts of a call, for private clauses
 
@@ -97,7 +97,7 @@ IsOverAt scenario played (Some place) = IsOver scenario played place
 
 -- the answer, or why there is none
 abbrev pub IsAnswered : Scenario → Played → Option Asking → Result (String Global) AuditEnding → Type 0
-IsAnswered scenario played place (Ok text) = IsAnswer scenario played place (string_bytes text)
+IsAnswered scenario played place (Ok text) = IsAnswerText scenario played place (string_bytes text)
 IsAnswered scenario played place (Err (endings.Plain plain.Range)) = IsOverAt scenario played place
 IsAnswered scenario played place (Err (endings.Plain plain.Memory)) = Unit {0}
 IsAnswered scenario played place (Err _) = ⊥

@@ -1,6 +1,6 @@
 //! Both files are read before any of them is judged.
 ghost use Rattle.std.specs.Prelude.{◌≢◌, ℕ, ◌≤◌, Err, IfOk, IfErr, length};
-ghost use Rattle.sv_command.specs.Reading.{IsFront};
+ghost use Rattle.sv_command.specs.Reading.{IsFileFront};
 ghost use Rattle.sv_command.specs.Statuses.{counts};
 ghost use Rattle.sv_command.specs.declared.ending.Ending.TheVariants as plain;
 ghost use Rattle.sv_audit.specs.Judging.{report_limit, IsReportFront};
@@ -44,7 +44,7 @@ pub(crate) fn read_both<F: Files>(
     audit: Audit<'_>,
     files: &mut F,
 ) -> Result<Both, AuditEnding>
-    ensures scenario { IfOk result (λ both. IsFront (F.contents files.old audit.entry.scenario.now) both.scenario.items) }
+    ensures scenario { IfOk result (λ both. IsFileFront (F.contents files.old audit.entry.scenario.now) both.scenario.items) }
     ensures report { IfOk result (λ both. IsReportFront (F.contents files.old audit.entry.report.now) both.report.items) }
     ensures bound { IfOk result (λ both. length both.report.items ≤ report_limit) }
     ensures unread { IfErr result AreUnread }

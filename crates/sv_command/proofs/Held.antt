@@ -6,7 +6,7 @@ use Rattle.sv_scenario.specs.declared.scenario.Scenario.{Scenario}
 use Rattle.sv_scenario.specs.Scenarios.{scenario_of}
 use Rattle.sv_command.specs.declared.ending.Ending.{Ending}
 use Rattle.sv_command.specs.declared.ending.Ending.TheVariants as endings
-use Rattle.sv_command.specs.Reading.{read_limit, held_of, IsFront, IsRead, IsRefused, IsNoScenario, HoldsScenario}
+use Rattle.sv_command.specs.Reading.{read_limit, held_of, IsFileFront, IsRead, IsRefused, IsNoScenario, HoldsScenario}
 use Rattle.sv_command.specs.Statuses.{Counts, Raises, IsGiven, IsScenarioRead, IsUnread, ending_of}
 use Rattle.sv_command.proofs.Counts.{came}
 
@@ -26,7 +26,7 @@ unread held endings.Range u = absurd u
 pub unread_by : (held : Option (List ℕ)) (r : Result Scenario Ending) (e : Ending) → IsErrAnd r (λ x. x ≡ e) → IsUnread e → IsScenarioRead held r
 unread_by held r e by u = rw (came r e by) (unread held e u)
 
-pub given_read : (held : Option (List ℕ)) (bytes : List ℕ) (r : Result Scenario Ending) → IsFront held bytes → IsGiven bytes r → IsScenarioRead held r
+pub given_read : (held : Option (List ℕ)) (bytes : List ℕ) (r : Result Scenario Ending) → IsFileFront held bytes → IsGiven bytes r → IsScenarioRead held r
 given_read held bytes (Ok scenario) front g = (record { bytes = bytes; front = front; read = g.0 }, g.1)
 given_read held bytes (Err (endings.Scenario line)) front g = record { bytes = bytes; front = front; fault = g.fault; faulty = g.faulty; told = g.told }
 given_read held bytes (Err endings.Memory) front g = tt

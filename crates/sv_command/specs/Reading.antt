@@ -14,20 +14,20 @@ abbrev pub held_of : (List ℕ → Option (List ℕ)) → Option (List ℕ) → 
 held_of contents named = option_and_then contents named
 
 -- The bytes that were read of a file, by what it holds, where that is told.
-abbrev pub IsFront : Option (List ℕ) → List ℕ → Type 0
-IsFront (Some all) bytes = bytes ≡ take read_limit all
-IsFront None bytes = Unit {0}
+abbrev pub IsFileFront : Option (List ℕ) → List ℕ → Type 0
+IsFileFront (Some all) bytes = bytes ≡ take read_limit all
+IsFileFront None bytes = Unit {0}
 
 -- What was read of the file is this scenario.
 pub record IsRead (held : Option (List ℕ)) (scenario : Scenario) : Type 0 where
   pub bytes : List ℕ
-  pub front : IsFront held bytes
+  pub front : IsFileFront held bytes
   pub read : scenario_of bytes ≡ Ok scenario
 
 -- What was read of the file is no scenario, and this line tells of its first fault.
 pub record IsRefused (held : Option (List ℕ)) (line : List ℕ) : Type 0 where
   pub bytes : List ℕ
-  pub front : IsFront held bytes
+  pub front : IsFileFront held bytes
   pub fault : ScenarioFault
   pub faulty : scenario_of bytes ≡ Err fault
   pub told : line ≡ fault_line fault

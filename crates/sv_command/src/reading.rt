@@ -1,7 +1,7 @@
 //! The scenario of a file.
 ghost use Rattle.std.specs.Prelude.{◌≡◌, ◌≢◌, List, ℕ, Err, IfOk, IfErr, string_bytes};
 ghost use Rattle.sv_scenario.specs.Lines.{fault_line};
-ghost use Rattle.sv_command.specs.Reading.{IsFront};
+ghost use Rattle.sv_command.specs.Reading.{IsFileFront};
 ghost use Rattle.sv_command.specs.Statuses.{Counts, IsGiven, IsScenarioRead, IsUnread, Raises, ending_of};
 
 use crate::ending::Ending;
@@ -14,7 +14,7 @@ const READ_LIMIT: usize = 4_194_305;
 
 /// What is read of a scenario's file.
 pub fn scenario_bytes<F: Files>(alloc: Global, file: &str, files: &mut F) -> Result<Vec<u8>, Ending>
-    ensures front { IfOk result (λ bytes. IsFront (F.contents files.old file.now) bytes.items) }
+    ensures front { IfOk result (λ bytes. IsFileFront (F.contents files.old file.now) bytes.items) }
     ensures unread { IfErr result IsUnread }
     ensures raises { (k : Counts) → Raises (record k { files = F.faults files.old }) (record k { files = F.faults files.new }) (ending_of result) }
     ensures sure { F.sure files.old file.now → result ≢ Err Ending.File }

@@ -7,9 +7,9 @@ use Rattle.sv_frame.proofs.Fronts.{length-frame}
 use Rattle.sv_link.specs.Ends.{Told, sending, Sends}
 use Rattle.sv_link.specs.declared.ends.Sent.{Sent}
 use Rattle.sv_link.specs.declared.ends.Sent.TheVariants as answers
-use Rattle.sv_exchange.specs.Outgoing.{Posts as Puts}
+use Rattle.sv_exchange.specs.Outgoing.{Posts}
 use Rattle.sv_session.specs.Serving.{ended_by}
-use Rattle.sv_session.specs.Rounds.{IsBroken, Posts, PostsLast, ReadsLast}
+use Rattle.sv_session.specs.Rounds.{IsBroken, PostsOn, PostsLast, ReadsLast}
 use Rattle.sv_session.specs.declared.outcome.SessionOut.{SessionOut}
 use Rattle.sv_session.specs.declared.outcome.SessionOut.TheVariants as outs
 
@@ -29,7 +29,7 @@ told_twice : (told : Told) (a b : List ℕ) → sending (sending told a) b ≡ s
 told_twice told a b = ap (λ (l : List ℕ). record told { sent = l }) (append_assoc told.sent a b)
 
 -- the frame was not put
-pub put_failed : (old : Told) (waiting payload : List ℕ) (answer : Sent) (new : Told) (left : List ℕ) (stop : Option SessionOut) (out : SessionOut) → Puts old waiting (frame payload) answer new left →
+pub put_failed : (old : Told) (waiting payload : List ℕ) (answer : Sent) (new : Told) (left : List ℕ) (stop : Option SessionOut) (out : SessionOut) → Posts old waiting (frame payload) answer new left →
     answer ≢ answers.Whole → IsBroken out → PostsLast old (waiting ++ frame payload) stop out new
 put_failed old waiting payload answer new left stop out puts not_whole broken =
     record {
@@ -40,10 +40,10 @@ put_failed old waiting payload answer new left stop out puts not_whole broken =
     }
 
 -- the frame was put, and the loop goes on
-pub put_whole : (old : Told) (waiting payload : List ℕ) (new : Told) (left : List ℕ) → Puts old waiting (frame payload) answers.Whole new left → Posts old (waiting ++ frame payload) new left
+pub put_whole : (old : Told) (waiting payload : List ℕ) (new : Told) (left : List ℕ) → Posts old waiting (frame payload) answers.Whole new left → PostsOn old (waiting ++ frame payload) new left
 put_whole old waiting payload new left puts = record { sent = puts.sent; told = puts.told; all = puts.whole refl }
 
-module _ (old : Told) (due : List ℕ) (mid : Told) (waits : List ℕ) (posts : Posts old due mid waits) (new : Told) where
+module _ (old : Told) (due : List ℕ) (mid : Told) (waits : List ℕ) (posts : PostsOn old due mid waits) (new : Told) where
   -- then all that waited was sent
   pub flushed : (reason : SessionOut) → Sends mid waits answers.Whole new → PostsLast old due (Some reason) reason new
   flushed reason sends =

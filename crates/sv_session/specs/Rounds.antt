@@ -36,7 +36,7 @@ pub record BeginsWith (stream : List ℕ) (taken : List Request) (rest : List �
   pub left : (more : List ℕ) → (split_frames (stream ++ more)).1 ≡ (split_frames (rest ++ more)).1
 
 -- a request was taken off. Where it is Bad nothing more is said of what is left
-pub record Takes (old : List ℕ) (request : Request) (new : List ℕ) : Type 0 where
+pub record TakesRequest (old : List ℕ) (request : Request) (new : List ℕ) : Type 0 where
   pub first : (after : List Request) × (requests_read old ≡ request ∷ after)
   pub next : request ≢ requests.Bad → BeginsWith old (request ∷ []) new
   pub asked : is_end request ≡ false
@@ -72,7 +72,7 @@ abbrev pub IsBroken : SessionOut → Type 0
 IsBroken out = (out ≡ outs.LinkFault) ⊎ (out ≡ outs.Memory)
 
 -- bytes were sent, and what is left to send waits
-pub record Posts (old : Told) (due : List ℕ) (new : Told) (left : List ℕ) : Type 0 where
+pub record PostsOn (old : Told) (due : List ℕ) (new : Told) (left : List ℕ) : Type 0 where
   pub sent : List ℕ
   pub told : new ≡ sending old sent
   pub all : sent ++ left ≡ due

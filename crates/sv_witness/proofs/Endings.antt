@@ -15,7 +15,7 @@ use Rattle.sv_command.proofs.Statuses.{file_is, told_is as plain_told}
 use Rattle.sv_command.proofs.Left.{printed_by, cut_by, ends_early, refused_is}
 use Rattle.sv_witness.specs.declared.words.Witnessing.{Witnessing}
 use Rattle.sv_witness.specs.Words.{Asked, asked_by, named_by}
-use Rattle.sv_witness.specs.Statuses.{IsWithin, IsOver, IsText, LacksLiar, EndsEarly, Leaves}
+use Rattle.sv_witness.specs.Statuses.{IsLiarWithin, IsLiarOver, IsText, LacksLiar, EndsEarly, Leaves}
 
 -- ---- Statuses
 
@@ -25,18 +25,18 @@ sure_is sure (Some x) e h = λ s f. h s (file_is e f)
 
 -- ---- What was read
 
-not_over : (clients : ℕ) (liar : Option ℕ) → IsWithin clients liar → IsOver clients liar → ⊥
+not_over : (clients : ℕ) (liar : Option ℕ) → IsLiarWithin clients liar → IsLiarOver clients liar → ⊥
 not_over clients None within over = over
 not_over clients (Some k) within over = omega (arith, within, over)
 
 module _ (P : Type 0) where
   -- It has the liar.
-  not_lacking : (asked : Asked) (held : Option (List ℕ)) (scenario : Scenario) → IsRead held scenario → IsWithin (length scenario.clients) asked.liar → IfSome held (λ all. LacksLiar asked (take read_limit all) → P)
+  not_lacking : (asked : Asked) (held : Option (List ℕ)) (scenario : Scenario) → IsRead held scenario → IsLiarWithin (length scenario.clients) asked.liar → IfSome held (λ all. LacksLiar asked (take read_limit all) → P)
   not_lacking asked None scenario r within = tt
   not_lacking asked (Some all) scenario r within = λ lacks.
       let read : scenario_of r.bytes ≡ Ok lacks.scenario = rw r.front lacks.read in
-      let its : IsWithin (length lacks.scenario.clients) asked.liar =
-      subst (λ (x : Scenario). IsWithin (length x.clients) asked.liar) (same_scenario scenario lacks.scenario r.bytes r.read read) within in
+      let its : IsLiarWithin (length lacks.scenario.clients) asked.liar =
+      subst (λ (x : Scenario). IsLiarWithin (length x.clients) asked.liar) (same_scenario scenario lacks.scenario r.bytes r.read read) within in
       absurd (not_over (length lacks.scenario.clients) asked.liar its lacks.over)
 
   -- What was refused is none.

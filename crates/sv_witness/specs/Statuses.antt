@@ -16,8 +16,8 @@ use Rattle.sv_witness.specs.Words.{Asked}
 -- ---- The text
 
 -- The liar is one of so many clients, if there is one.
-abbrev pub IsWithin : ℕ → Option ℕ → Type 0
-IsWithin clients liar = IfSome liar (λ k. k < clients)
+abbrev pub IsLiarWithin : ℕ → Option ℕ → Type 0
+IsLiarWithin clients liar = IfSome liar (λ k. k < clients)
 
 -- The text has the lines of the witnessed run that the scenario's schedule gives.
 pub record IsRunText (scenario : Scenario) (liar : Option ℕ) (text : List ℕ) : Type 0 where
@@ -30,25 +30,25 @@ pub record IsRunText (scenario : Scenario) (liar : Option ℕ) (text : List ℕ)
 pub record IsText (asked : Asked) (held : Option (List ℕ)) (text : List ℕ) : Type 0 where
   pub scenario : Scenario
   pub read : IsRead held scenario
-  pub within : IsWithin (length scenario.clients) asked.liar
+  pub within : IsLiarWithin (length scenario.clients) asked.liar
   pub run : IsRunText scenario asked.liar text
 
 -- The liar is none of so many clients.
-abbrev pub IsOver : ℕ → Option ℕ → Type 0
-IsOver clients None = ⊥
-IsOver clients (Some k) = clients ≤ k
+abbrev pub IsLiarOver : ℕ → Option ℕ → Type 0
+IsLiarOver clients None = ⊥
+IsLiarOver clients (Some k) = clients ≤ k
 
 -- What was read of the file is a scenario that has no client of the liar's number.
 pub record IsOutside (asked : Asked) (held : Option (List ℕ)) : Type 0 where
   pub scenario : Scenario
   pub read : IsRead held scenario
-  pub over : IsOver (length scenario.clients) asked.liar
+  pub over : IsLiarOver (length scenario.clients) asked.liar
 
 -- The bytes are a scenario that has no client of the liar's number.
 pub record LacksLiar (asked : Asked) (bytes : List ℕ) : Type 0 where
   pub scenario : Scenario
   pub read : scenario_of bytes ≡ Ok scenario
-  pub over : IsOver (length scenario.clients) asked.liar
+  pub over : IsLiarOver (length scenario.clients) asked.liar
 
 -- ---- Endings
 

@@ -3,7 +3,7 @@ ghost use Rattle.std.specs.Prelude.{◌≡◌, ◌≢◌, ◌↔◌, ◌⊎◌, 
 ghost use Rattle.sv_command.specs.Endings.{Ends, IsMade};
 ghost use Rattle.sv_command.specs.Reading.{held_of, HoldsScenario};
 ghost use Rattle.sv_command.specs.Statuses.{counts, ending_of, NoneRose, Raises, TellsFaults, TellsStatus};
-ghost use Rattle.sv_witness.specs.Statuses.{EndsEarly, IsOver, IsText, IsWithin, Leaves};
+ghost use Rattle.sv_witness.specs.Statuses.{EndsEarly, IsLiarOver, IsText, IsLiarWithin, Leaves};
 ghost use Rattle.sv_witness.specs.Words.{asked_by, named_by, witnessing_of, words_line};
 
 use crate::running::run_text;
@@ -14,8 +14,8 @@ use sv_command::{Ending, scenario_in, status_of, tell};
 
 /// Whether the liar is one of so many clients, if there is one.
 fn is_within(clients: usize, liar: Option<u16>) -> bool
-    ensures within { result ≡ true → IsWithin clients liar }
-    ensures over { result ≡ false → IsOver clients liar }
+    ensures within { result ≡ true → IsLiarWithin clients liar }
+    ensures over { result ≡ false → IsLiarOver clients liar }
 {
     match liar {
         Some(number) => (number as usize) < clients,

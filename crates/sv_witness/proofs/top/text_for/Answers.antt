@@ -3,7 +3,7 @@ use Rattle.std.proofs.Common.{ℕ, refl, subst}
 use Rattle.sv_command.specs.declared.ending.Ending.TheVariants as endings
 use Rattle.sv_command.specs.Statuses.{counts}
 use Rattle.sv_command.proofs.Counts.{raised_by}
-use Rattle.sv_witness.specs.Statuses.{IsWithin}
+use Rattle.sv_witness.specs.Statuses.{IsLiarWithin}
 use Rattle.sv_witness.proofs.top.text_for.Goals as goal
 
 pub returns-in_err-scenario-clause-raises : goal.returns-in_err-scenario-clause-raises
@@ -24,6 +24,6 @@ pub returns-clause-made : goal.returns-clause-made
 returns-clause-made g c = record {
   scenario = c.in_ok-scenario.scenario;
   read = c.in_ok-scenario.ensures.read.0;
-  within = subst (λ (n : ℕ). IsWithin n c.args.asked.liar) c.len.ensures (c.if-not-is_within.ensures.within refl);
+  within = subst (λ (n : ℕ). IsLiarWithin n c.args.asked.liar) c.len.ensures (c.if-not-is_within.ensures.within refl);
   run = c.in_ok-run_text.ensures;
 }
