@@ -17,7 +17,7 @@ use Rattle.sv_journal.specs.Sessions.{is_end, is_ended}
 use Rattle.sv_journal.specs.Answer.{Rules}
 use Rattle.sv_client.specs.declared.trace.Event.{Event}
 use Rattle.sv_client.specs.declared.trace.Event.TheVariants as events
-use Rattle.sv_client.specs.Traces.{submit_of, pending_of, held_of, done_for, is_session, current_session, makes, joins, asked_by, asked}
+use Rattle.sv_client.specs.Traces.{submit_of, pending_of, held_of, done_for, is_session, current_session, makes, joins, asked_by_event, asked}
 use Rattle.sv_system.specs.Fits.{requests_in}
 use Rattle.sv_system.proofs.Tests.{each-append}
 use Rattle.law_schedule.specs.Players.{Player, asked_in_run, has_closed}
@@ -49,7 +49,7 @@ if-asked : (b : Bool) (qs : List Request) → AreAsked qs → AreAsked (if b the
 if-asked true qs a = a
 if-asked false qs a = tt
 
-event-asked : (client : ClientId) (interest : List ObjectId) (t : List Event) (e : Event) (s : ℕ) → AreAsked (asked_by client interest t e s)
+event-asked : (client : ClientId) (interest : List ObjectId) (t : List Event) (e : Event) (s : ℕ) → AreAsked (asked_by_event client interest t e s)
 event-asked client interest t (events.Join n) s =
     if-asked (n == s) (requests.Join client (suc (joins t)) interest ∷ map submit_of (pending_of t)) (refl, submits-asked (pending_of t))
 event-asked client interest t (events.Make action) s = if-asked (is_session (current_session t) s) (requests.Submit (suc (makes t)) action ∷ []) (refl, tt)
@@ -63,7 +63,7 @@ event-asked client interest t (events.Show objects) s = tt
 all-asked : (client : ClientId) (interest : List ObjectId) (t : List Event) (s : ℕ) → AreAsked (asked client interest t s)
 all-asked client interest [] s = tt
 all-asked client interest (e ∷ t) s =
-    each-append (λ (q : Request). is_end q ≡ false) (asked client interest t s) (asked_by client interest t e s) (all-asked client interest t s) (event-asked client interest t e s)
+    each-append (λ (q : Request). is_end q ≡ false) (asked client interest t s) (asked_by_event client interest t e s) (all-asked client interest t s) (event-asked client interest t e s)
 
 run-asked : (ps : List Player) (s : ℕ) → AreAsked (asked_in_run ps s)
 run-asked [] s = tt

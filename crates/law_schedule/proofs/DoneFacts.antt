@@ -25,7 +25,7 @@ use Rattle.sv_system.specs.Laws.{NeverRefused}
 use Rattle.law_schedule.specs.Players.{Player, trace_of_player}
 use Rattle.law_schedule.specs.Serving.{Run, traces_of}
 use Rattle.law_schedule.specs.Schedule.{rules_of}
-use Rattle.law_schedule.specs.Sound.{IsLeft, IsPlaying, ArePlaying, IsSound}
+use Rattle.law_schedule.specs.Sound.{AreStepsLeft, IsPlaying, ArePlaying, IsSound}
 use Rattle.law_schedule.proofs.DoneLists.{map-here, each-found}
 
 -- ---- The player's plan
@@ -72,7 +72,7 @@ pub record IsFollowing (scenario : Scenario) (h : List Entry) (p : Player) : Typ
   pub proper : AreProper p.who p.first p.events
   pub before : List Step
   pub follows : FollowsTo p.who plan.steps p.events before
-  pub left : IsLeft p before
+  pub left : AreStepsLeft p before
   pub finished : p.closed ≡ true → is_finished p.events ≡ true
   pub within : p.first + sessions_of_plan plan ≤ session_count scenario
   pub fits : (s : ℕ) → list_any (is_join_of s) p.events ≡ true → IsFit h p s

@@ -18,7 +18,7 @@ use Rattle.sv_journal.specs.History.{either, is_welcome, joining, client_of}
 use Rattle.sv_journal.specs.Sessions.{is_end}
 use Rattle.sv_client.specs.declared.trace.Event.{Event}
 use Rattle.sv_client.specs.declared.trace.Event.TheVariants as events
-use Rattle.sv_client.specs.Traces.{current_session, is_session, pending_of, held_of, submit_of, done_for, asked, asked_by}
+use Rattle.sv_client.specs.Traces.{current_session, is_session, pending_of, held_of, submit_of, done_for, asked, asked_by_event}
 use Rattle.sv_scenario.specs.declared.scenario.Scenario.{Scenario}
 use Rattle.sv_scenario.specs.Limits.{IsGoodScenario}
 use Rattle.sv_system.specs.Fits.{requests_in, AreApart, AreAllApart}
@@ -57,7 +57,7 @@ done-joins k held replies.Idle = tt
 done-joins k held (replies.Refused code detail) = tt
 done-joins k held replies.Bye = tt
 
-event-joins : (client : ClientId) (interest : List ObjectId) (t : List Event) (e : Event) (s : ℕ) → AllByRecursion (JoinsAs client.0) (asked_by client interest t e s)
+event-joins : (client : ClientId) (interest : List ObjectId) (t : List Event) (e : Event) (s : ℕ) → AllByRecursion (JoinsAs client.0) (asked_by_event client interest t e s)
 event-joins client interest t (events.Join n) s =
     where-each (JoinsAs client.0) (n == s) _ (λ j e. sym (same_Some client.0 j e), submits-join client.0 (pending_of t))
 event-joins client interest t (events.Make a) s = where-each (JoinsAs client.0) (is_session (current_session t) s) _ (λ j e. absurd (none-some j e), tt)
@@ -71,7 +71,7 @@ event-joins client interest t (events.Show os) s = tt
 trace-joins : (client : ClientId) (interest : List ObjectId) (t : List Event) (s : ℕ) → AllByRecursion (JoinsAs client.0) (asked client interest t s)
 trace-joins client interest [] s = tt
 trace-joins client interest (e ∷ t) s =
-    both-each (JoinsAs client.0) (asked client interest t s) (asked_by client interest t e s) (trace-joins client interest t s) (event-joins client interest t e s)
+    both-each (JoinsAs client.0) (asked client interest t s) (asked_by_event client interest t e s) (trace-joins client interest t s) (event-joins client interest t e s)
 
 end-joins : (request : Request) → is_end request ≡ true → joining request ≡ None
 end-joins (requests.Join client life interest) e = absurd (true≢false (sym e))

@@ -25,7 +25,7 @@ use Rattle.law_schedule.specs.Players.{Player, trace_of_player}
 use Rattle.law_schedule.specs.Serving.{Run, after_clients, after_takes, opening_run, traces_of}
 use Rattle.law_schedule.specs.Schedule.{rules_of, plain_server, turned, after_sessions, round, scheduled_run}
 use Rattle.law_schedule.specs.Sound.{IsSound}
-use Rattle.law_schedule.specs.Served.{IsServed, AreHeard, KeepsSound, FitsServer, IsSoundOver}
+use Rattle.law_schedule.specs.Served.{IsServersOwn, AreHeard, KeepsSound, FitsServer, IsSoundOver}
 use Rattle.law_schedule.proofs.SoundReplies.{all-names}
 use Rattle.law_schedule.proofs.SoundPlayers.{front-push}
 use Rattle.law_schedule.proofs.SoundEntries.{begun_by}
@@ -33,12 +33,12 @@ use Rattle.law_schedule.proofs.SoundLaws.{traces-have, opening-sound, turns-soun
 
 -- ---- Its journals are the legal ones
 
-legal-served : (r : Rules) (h : List Entry) → Legal r h → IsServed (plain_server r) h
+legal-served : (r : Rules) (h : List Entry) → Legal r h → IsServersOwn (plain_server r) h
 legal-served r [] l = tt
 legal-served r (e ∷ h) l =
     ((e.request, ap (λ (reply : Logged). record { session = e.session; request = e.request; reply = reply }) l.0), legal-served r h l.1)
 
-served-legal : (r : Rules) (h : List Entry) → IsServed (plain_server r) h → Legal r h
+served-legal : (r : Rules) (h : List Entry) → IsServersOwn (plain_server r) h → Legal r h
 served-legal r [] a = tt
 served-legal r (e ∷ h) a = (
   ap (λ (d : Entry). d.reply) a.0.1 ∙ ap (λ (request : Request). reply_to r h e.session request) (sym (ap (λ (d : Entry). d.request) a.0.1)),

@@ -16,7 +16,7 @@ use Rattle.sv_journal.specs.History.{accepted}
 use Rattle.sv_journal.specs.Sessions.{is_end}
 use Rattle.sv_client.specs.declared.trace.Event.{Event}
 use Rattle.sv_client.specs.declared.trace.Event.TheVariants as events
-use Rattle.sv_client.specs.Traces.{joins, makes, current_session, pending_of, asked, asked_by, got}
+use Rattle.sv_client.specs.Traces.{joins, makes, current_session, pending_of, asked, asked_by_event, got}
 use Rattle.sv_client.specs.Taking.{Identity, Fault, Unasked, outstanding, fault_after, first_fault_of_reply}
 use Rattle.sv_client.specs.Proper.{AreProper, MayFollow, MayJoin, MayMake, MayPoll, MayLeave, IsGoodIdentity, in_session}
 use Rattle.sv_client.proofs.Sessions.{no_got}
@@ -157,7 +157,7 @@ module _ (server : Server) (shape : Shape) (h : List Entry) (k s : ℕ) (plan : 
       got = g i j;
       heard =
           heard-more server h i (asked p.who.client p.who.interest p.events i) (asked p.who.client p.who.interest (e ∷ p.events) i)
-          (front-append (asked p.who.client p.who.interest p.events i) (asked_by p.who.client p.who.interest p.events e i)) (a i j);
+          (front-append (asked p.who.client p.who.interest p.events i) (asked_by_event p.who.client p.who.interest p.events e i)) (a i j);
       ended = n i j;
     };
   }

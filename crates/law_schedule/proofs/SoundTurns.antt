@@ -19,7 +19,7 @@ use Rattle.sv_system.specs.Fits.{requests_in}
 use Rattle.law_schedule.specs.Players.{Player, player_turn, take_turn, take_turns, asked_in_run, has_closed, repeated, at_player}
 use Rattle.law_schedule.specs.Serving.{Run, Server, served, serves_next, is_stopped, session_served, all_served, sessions_served, turn_served, turns_served, after_clients, after_served, round_served}
 use Rattle.law_schedule.specs.Sound.{ArePlaying}
-use Rattle.law_schedule.specs.Served.{IsServed, KeepsSound}
+use Rattle.law_schedule.specs.Served.{IsServersOwn, KeepsSound}
 use Rattle.law_schedule.proofs.SoundPlayers.{IsFitting, turn-kept, take-kept, takes-all_kept}
 use Rattle.law_schedule.proofs.SoundEntries.{IsNextOf, entries-fit, begun_by, none-asked_in, closed-begun, stopped-begun, unused-unless_begun, drop-get}
 use Rattle.law_schedule.proofs.SoundRuns.{IsAlone, all-alone, all-own, AreKept, KeepsEach, one-kept, each-kept}
@@ -34,7 +34,7 @@ below-known (suc n) m l = all-push (λ s. s < m) (below n) n (below-known n m (o
 
 -- What is true of a history and players.
 pub record AreStanding (server : Server) (scenario : Scenario) (h : List Entry) (ps : List Player) : Type 0 where
-  pub served : IsServed server h
+  pub served : IsServersOwn server h
   pub sessions : AllByRecursion (λ (e : Entry). e.session < session_count scenario) h
   pub begun : AllByRecursion (λ (e : Entry). begun_by ps e.session ≡ true) h
   pub playing : ArePlaying scenario.world.shape 0 0 scenario.clients ps

@@ -24,9 +24,9 @@ use Rattle.law_schedule.specs.Sound.{ArePlaying, has_joined}
 -- ---- Journals of a server
 
 -- The journal is the server's own: each entry is what it makes of some request, after the entries before it.
-abbrev pub IsServed : Server → List Entry → Type 0
-IsServed server [] = Unit {0}
-IsServed server (e ∷ h) = ((request : Request) × (e ≡ entry_by server h e.session request)) × IsServed server h
+abbrev pub IsServersOwn : Server → List Entry → Type 0
+IsServersOwn server [] = Unit {0}
+IsServersOwn server (e ∷ h) = ((request : Request) × (e ≡ entry_by server h e.session request)) × IsServersOwn server h
 
 -- An entry is of the next of these requests, as the server heard it after the entries before.
 pub record IsHeard (server : Server) (e : Entry) (h : List Entry) (s : ℕ) (asked : List Request) : Type 0 where
@@ -48,7 +48,7 @@ RepliesNameAccepted h = AllByRecursion (λ (e : Entry). NamesAccepted (length (a
 pub record KeepsSound (server : Server) : Type 0 where
   pub ends : (h : List Entry) (s : ℕ) (request : Request) → is_end (server.hears h s request) ≡ is_end request
   pub bye : (h : List Entry) (s : ℕ) → server.answers h s requests.End ≡ logged.Bye
-  pub named : (h : List Entry) → IsServed server h → RepliesNameAccepted h
+  pub named : (h : List Entry) → IsServersOwn server h → RepliesNameAccepted h
 
 -- It hears who joins.
 abbrev pub HearsJoins : Server → Type 0
@@ -70,7 +70,7 @@ pub record FitsServer (server : Server) (shape : Shape) (h : List Entry) (L : Tr
 -- The journal is the server's own and fits the traces, which are apart; each of its entries, an End too, is of a session that a player joined;
 -- and each player did its script so far.
 pub record IsSoundOver (server : Server) (scenario : Scenario) (run : Run) : Type 0 where
-  pub served : IsServed server run.history
+  pub served : IsServersOwn server run.history
   pub fits : All (FitsServer server scenario.world.shape run.history) (traces_of run)
   pub apart : AreAllApart (traces_of run)
   pub sessions : All (λ (e : Entry). e.session < session_count scenario) run.history

@@ -26,8 +26,8 @@ pub data ArePassed : List Step → List Step → Type 0 where
 
 -- The player's steps are those that its events leave, but for the syncs that it passed since the last one; it passes them where nothing is
 -- outstanding.
-abbrev pub IsLeft : Player → List Step → Type 0
-IsLeft p before = (p.left ≡ before) ⊎ ((outstanding p.who p.events ≡ []) × ArePassed before p.left)
+abbrev pub AreStepsLeft : Player → List Step → Type 0
+AreStepsLeft p before = (p.left ≡ before) ⊎ ((outstanding p.who p.events ≡ []) × ArePassed before p.left)
 
 -- The k-th client, with sessions from s on, did its script so far. It passes syncs only while it is in a session.
 pub record IsPlaying (shape : Shape) (k s : ℕ) (plan : Plan) (p : Player) : Type 0 where
@@ -35,7 +35,7 @@ pub record IsPlaying (shape : Shape) (k s : ℕ) (plan : Plan) (p : Player) : Ty
   pub first : p.first ≡ s
   pub before : List Step
   pub follows : FollowsTo p.who plan.steps p.events before
-  pub left : IsLeft p before
+  pub left : AreStepsLeft p before
   pub apart : must_join p.events ≡ true → p.left ≡ before
   pub closed : p.closed ≡ true → is_finished p.events ≡ true
   pub quit : (t : List Event) → p.events ≡ events.Quit ∷ t → p.closed ≡ true

@@ -6,7 +6,7 @@ use Rattle.std.proofs.lemmas.Option.{none-some, same_Some}
 use Rattle.sv_wire.specs.declared.message.Request.{Request}
 use Rattle.sv_client.specs.declared.trace.Event.{Event}
 use Rattle.sv_client.specs.declared.trace.Event.TheVariants as events
-use Rattle.sv_client.specs.Traces.{current_session, is_session, asked_by, asked}
+use Rattle.sv_client.specs.Traces.{current_session, is_session, asked_by_event, asked}
 use Rattle.sv_client.specs.Taking.{Identity}
 use Rattle.sv_client.specs.Proper.{MayFollow, AreProper}
 use Rattle.sv_scenario.specs.declared.scenario.Step.{Step}
@@ -32,7 +32,7 @@ not_of : (n s : ℕ) (qs : List Request) → (Some n ≡ Some s → ⊥) → (if
 not_of n s qs f = cond-false (n == s) qs [] (elim (cases_Bool (n == s)) [ inr e ↦ e | inl e ↦ absurd (f (ap Some (eqb-true n s e))) ])
 
 -- An event asks nothing but in the session that is the last one after it.
-none_elsewhere : (who : Identity) (first : ℕ) (t : List Event) (e : Event) (s : ℕ) → MayFollow who first t e → (current_session (e ∷ t) ≡ Some s → ⊥) → asked_by who.client who.interest t e s ≡ []
+none_elsewhere : (who : Identity) (first : ℕ) (t : List Event) (e : Event) (s : ℕ) → MayFollow who first t e → (current_session (e ∷ t) ≡ Some s → ⊥) → asked_by_event who.client who.interest t e s ≡ []
 none_elsewhere who first t (events.Join n) s may away = not_of n s _ away
 none_elsewhere who first t (events.Make action) s may away = not_here (current_session t) _ s away
 none_elsewhere who first t events.Poll s may away = not_here (current_session t) _ s away
@@ -52,6 +52,6 @@ few_asked who first script (e ∷ t) left s few p f =
       | inr away ↦
           let before = few_asked who first script t f.0 s few p.1 f.1.0 in
           let none = ap (λ (l : List Request). length l) (none_elsewhere who first t e s p.0 away) in
-          let sum = length-append (asked who.client who.interest t s) (asked_by who.client who.interest t e s) in
+          let sum = length-append (asked who.client who.interest t s) (asked_by_event who.client who.interest t e s) in
           omega (arith, before, none, sum)
     ]

@@ -26,7 +26,7 @@ use Rattle.sv_sequencer.specs.Step.{entry_of}
 use Rattle.sv_lock.specs.Passes.{session_number}
 use Rattle.sv_lock.proofs.Histories.{prefix_trans}
 use Rattle.sv_session.specs.Requests.{stop_of, StopsFor, due_frames}
-use Rattle.sv_session.specs.Serving.{Explains, ended_by}
+use Rattle.sv_session.specs.Serving.{ExplainsOut, ended_by}
 use Rattle.sv_session.specs.declared.outcome.SessionOut.{SessionOut}
 use Rattle.sv_session.specs.declared.outcome.SessionOut.TheVariants as outs
 use Rattle.sv_system.specs.Fronts.{IsFront}
@@ -44,7 +44,7 @@ use Rattle.law_traffic.proofs.Messages.{request_frames_both, front_all, AreTaken
 
 -- ---- Outcomes
 
-all_sent : (out : SessionOut) (stream : List ℕ) (answered : List Entry) (sent due : List ℕ) → out ≢ outs.LinkFault → out ≢ outs.Memory → Explains out stream answered sent due → sent ≡ due
+all_sent : (out : SessionOut) (stream : List ℕ) (answered : List Entry) (sent due : List ℕ) → out ≢ outs.LinkFault → out ≢ outs.Memory → ExplainsOut out stream answered sent due → sent ≡ due
 all_sent outs.Left stream answered sent due l m e = e.1
 all_sent outs.Closed stream answered sent due l m e = e.1
 all_sent outs.Ended stream answered sent due l m e = e.1
@@ -185,7 +185,7 @@ module _ (stay : FullRepliesStay) (name : LegalRelaysNameAccepted) (journal : Li
         stop = stops (accepted history) f.last.reply reason f.stop;
       }
 
-  ending : (out : SessionOut) → out ≢ outs.LinkFault → out ≢ outs.Memory → Explains out d.served.served.received answered d.served.served.sent (due_frames d.served.after.seen answered) →
+  ending : (out : SessionOut) → out ≢ outs.LinkFault → out ≢ outs.Memory → ExplainsOut out d.served.served.received answered d.served.served.sent (due_frames d.served.after.seen answered) →
       EndsWithStop all ⊎ TookAll (ended_by out false) d.served.served.received steps
   ending outs.Closed l m e =
       inr (record { ended_is = refl; items = came.items ∙ ap (λ (qs : List Request). map Payload (map request_bytes qs)) (sym came.came ∙ sym e.0.all) })

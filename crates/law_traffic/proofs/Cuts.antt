@@ -7,7 +7,7 @@ use Rattle.sv_frame.specs.Frames.{frame, frames_of, FitsFrame, first_frame, too_
 use Rattle.sv_frame.specs.Streams.{split_frames, with_first}
 use Rattle.sv_frame.proofs.Fronts.{none_or_some, first_frame-append, first_frame-frame, too_long-append, no_frame_if_too_long}
 use Rattle.sv_frame.proofs.Splitting.{split-none, split-some, split-empty}
-use Rattle.law_traffic.specs.Cuts.{IsCut, CutFramesAreFrontFrames}
+use Rattle.law_traffic.specs.Cuts.{IsCutStream, CutFramesAreFrontFrames}
 
 pub front_none : {A : Type 0} (xs ys : List A) → xs ++ ys ≡ [] → xs ≡ []
 front_none [] ys e = refl
@@ -28,15 +28,15 @@ not_long payload stream more after fits e =
           absurd (none-some (payload, after) (sym no ∙ found))
     ]
 
-cut_none : (stream : List ℕ) → stream ≡ [] → IsCut [] stream
+cut_none : (stream : List ℕ) → stream ≡ [] → IsCutStream [] stream
 cut_none stream e =
     record { taken = []; left = []; are = refl; rest = []; whole = e; split = ap split_frames e ∙ split-empty; none = empty_short }
 
-cut_here : (p : List ℕ) (ps : List (List ℕ)) (stream more : List ℕ) → FitsFrame p → stream ++ more ≡ frame p ++ frames_of ps → first_frame stream ≡ None → IsCut (p ∷ ps) stream
+cut_here : (p : List ℕ) (ps : List (List ℕ)) (stream more : List ℕ) → FitsFrame p → stream ++ more ≡ frame p ++ frames_of ps → first_frame stream ≡ None → IsCutStream (p ∷ ps) stream
 cut_here p ps stream more fits e none =
     record { taken = []; left = p ∷ ps; are = refl; rest = stream; whole = refl; split = split-none stream none; none = not_long p stream more (frames_of ps) fits e }
 
-cut_next : (p : List ℕ) (ps : List (List ℕ)) (stream after : List ℕ) → first_frame stream ≡ Some (p, after) → stream ≡ frame p ++ after → IsCut ps after → IsCut (p ∷ ps) stream
+cut_next : (p : List ℕ) (ps : List (List ℕ)) (stream after : List ℕ) → first_frame stream ≡ Some (p, after) → stream ≡ frame p ++ after → IsCutStream ps after → IsCutStream (p ∷ ps) stream
 cut_next p ps stream after first is c =
     record {
       taken = p ∷ c.taken;
@@ -48,7 +48,7 @@ cut_next p ps stream after first is c =
       none = c.none;
     }
 
-cut : (payloads : List (List ℕ)) (stream more : List ℕ) → AllByRecursion FitsFrame payloads → stream ++ more ≡ frames_of payloads → IsCut payloads stream
+cut : (payloads : List (List ℕ)) (stream more : List ℕ) → AllByRecursion FitsFrame payloads → stream ++ more ≡ frames_of payloads → IsCutStream payloads stream
 cut [] stream more fits e = cut_none stream (front_none stream more e)
 cut (p ∷ ps) stream more fits e =
     elim (none_or_some (first_frame stream)) [

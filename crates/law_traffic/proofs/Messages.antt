@@ -16,8 +16,8 @@ use Rattle.sv_wire.specs.Spelling.{request_bytes, reply_bytes}
 use Rattle.sv_wire.specs.Laws.{IsRequest, IsReply}
 use Rattle.sv_exchange.proofs.Sizes.{request_short, reply_short, request_back, reply_back}
 use Rattle.sv_session.specs.Requests.{read_or_bad, request_for, requests_read}
-use Rattle.law_traffic.specs.Cuts.{IsCut}
-use Rattle.sv_player.specs.Carried.{request_frames, was_read, BeginsWith}
+use Rattle.law_traffic.specs.Cuts.{IsCutStream}
+use Rattle.sv_player.specs.Carried.{request_frames, was_read, BeginsWithReplies}
 use Rattle.law_traffic.specs.Traffic.{reply_frames}
 use Rattle.law_traffic.proofs.Cuts.{cut_frames_are_front_frames}
 
@@ -99,7 +99,7 @@ pub record AreTaken (asked : List Request) (stream : List ℕ) : Type 0 where
   pub rest : List ℕ
   pub whole : stream ≡ request_frames first ++ rest
 
-items_of : (stream : List ℕ) (payloads : List (List ℕ)) (c : IsCut payloads stream) → incoming_items stream ≡ map Payload c.taken
+items_of : (stream : List ℕ) (payloads : List (List ℕ)) (c : IsCutStream payloads stream) → incoming_items stream ≡ map Payload c.taken
 unfolding incoming_items
 items_of stream payloads c =
     ap (λ (split : List (List ℕ) × List ℕ). map Payload split.0 ++ too_long_item (too_long split.1)) c.split
@@ -148,7 +148,7 @@ pub record AreGot (sent : List Reply) (stream : List ℕ) (gots : List Reply) (r
   pub whole : stream ≡ reply_frames gots ++ rest
   pub next : IsPrefix rest (reply_frames more)
 
-pub got_first : (sent : List Reply) (stream : List ℕ) (gots : List Reply) (rest : List ℕ) → AllByRecursion IsReply sent → IsPrefix stream (reply_frames sent) → BeginsWith stream gots rest →
+pub got_first : (sent : List Reply) (stream : List ℕ) (gots : List Reply) (rest : List ℕ) → AllByRecursion IsReply sent → IsPrefix stream (reply_frames sent) → BeginsWithReplies stream gots rest →
     AreGot sent stream gots rest
 got_first sent stream gots rest messages p b =
     let frames : IsPrefix stream (frames_of (map reply_bytes sent)) = (p.0, p.1 ∙ reply_frames_are sent) in

@@ -32,7 +32,7 @@ use Rattle.sv_client.specs.declared.trace.Event.TheVariants as events
 use Rattle.sv_asked.proofs.Every.{each-right}
 use Rattle.sv_session.specs.declared.outcome.SessionOut.TheVariants as outs
 use Rattle.sv_exchange.proofs.Sizes.{reply_short, reply_back}
-use Rattle.sv_player.specs.Carried.{BeginsWith}
+use Rattle.sv_player.specs.Carried.{BeginsWithReplies}
 use Rattle.sv_player.specs.Stops.{NoneCame, is_cut}
 use Rattle.sv_player.specs.Played.{replies_of}
 use Rattle.law_traffic.specs.Sessions.{Over, IsSessionDone}
@@ -128,7 +128,7 @@ none_awaited shape L s proper stop =
 -- ---- An open session
 
 module _ (stay : FullRepliesStay) (name : LegalRelaysNameAccepted) (journal : List Entry) (L : Trace) (s : ℕ) (x : Over) (d : IsSessionDone journal L s x)
-    (sendable : AllByRecursion IsReply (all stay name journal L s x d)) (rest : List ℕ) (begins : BeginsWith x.client.received (replies_of L s) rest) where
+    (sendable : AllByRecursion IsReply (all stay name journal L s x d)) (rest : List ℕ) (begins : BeginsWithReplies x.client.received (replies_of L s) rest) where
   abbrev whole_all : List Reply
   whole_all = all stay name journal L s x d
 

@@ -27,7 +27,7 @@ use Rattle.sv_script.specs.Following.{FollowsToEnd}
 use Rattle.sv_system.proofs.Asked.{any-reverse, current-joined}
 use Rattle.sv_asked.specs.Asked.{RepliesAreMessages}
 use Rattle.sv_system.specs.Laws.{NeverRefused}
-use Rattle.sv_player.specs.Carried.{BeginsWith}
+use Rattle.sv_player.specs.Carried.{BeginsWithReplies}
 use Rattle.sv_player.specs.Stops.{IsShut, IsBadRest, first_payload}
 use Rattle.sv_player.specs.Played.{replies_of}
 use Rattle.sv_player.specs.declared.outcome.ReplyFault.{ReplyFault}
@@ -145,7 +145,7 @@ module _ (stay : FullRepliesStay) (name : LegalRelaysNameAccepted) (messages : R
         let awaited = shut.awaited in
         omega (arith, same, awaited)
 
-    pub next_taken : NeverRefused → (rest : List ℕ) → BeginsWith x.client.received (replies_of L s) rest → IsTakeable scenario.world.shape L rest
+    pub next_taken : NeverRefused → (rest : List ℕ) → BeginsWithReplies x.client.received (replies_of L s) rest → IsTakeable scenario.world.shape L rest
     next_taken law rest begins =
         let limits = limits_of scenario good.good in
         let w = mine_well.1 in
@@ -157,7 +157,7 @@ module _ (stay : FullRepliesStay) (name : LegalRelaysNameAccepted) (messages : R
 
   -- ---- The ends of traces
 
-  not_bad : NeverRefused → (L : Trace) (s : ℕ) (x : Over) → IsOpenIn Ls sessions L s x → (rest : List ℕ) → BeginsWith x.client.received (replies_of L s) rest → (payload : List ℕ) (fault : ReplyFault) →
+  not_bad : NeverRefused → (L : Trace) (s : ℕ) (x : Over) → IsOpenIn Ls sessions L s x → (rest : List ℕ) → BeginsWithReplies x.client.received (replies_of L s) rest → (payload : List ℕ) (fault : ReplyFault) →
       IsBadRest (identity_of scenario.world.shape L) (reverse L.events) rest payload fault → ⊥
   not_bad law L s x o rest begins payload (reply_faults.Wire fault) bad =
       let first = framed rest payload bad.0 in

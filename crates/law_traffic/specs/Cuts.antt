@@ -6,7 +6,7 @@ use Rattle.sv_frame.specs.Frames.{frames_of, FitsFrame, too_long}
 use Rattle.sv_frame.specs.Streams.{split_frames}
 
 -- The stream is the frames of the first of these payloads, and a rest that is less than a frame.
-pub record IsCut (payloads : List (List ℕ)) (stream : List ℕ) : Type 0 where
+pub record IsCutStream (payloads : List (List ℕ)) (stream : List ℕ) : Type 0 where
   pub taken : List (List ℕ)
   pub left : List (List ℕ)
   pub are : payloads ≡ taken ++ left
@@ -16,4 +16,4 @@ pub record IsCut (payloads : List (List ℕ)) (stream : List ℕ) : Type 0 where
   pub none : too_long rest ≡ None
 
 abbrev pub CutFramesAreFrontFrames : Type 0
-CutFramesAreFrontFrames = (payloads : List (List ℕ)) (stream : List ℕ) → AllByRecursion FitsFrame payloads → IsPrefix stream (frames_of payloads) → IsCut payloads stream
+CutFramesAreFrontFrames = (payloads : List (List ℕ)) (stream : List ℕ) → AllByRecursion FitsFrame payloads → IsPrefix stream (frames_of payloads) → IsCutStream payloads stream

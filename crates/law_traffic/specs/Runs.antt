@@ -14,10 +14,10 @@ use Rattle.sv_scenario.specs.Limits.{IsGoodScenario}
 use Rattle.sv_scenario.specs.Sessions.{sessions_of_plan, session_count}
 use Rattle.sv_script.specs.Following.{Follows, FollowsToEnd}
 use Rattle.sv_system.specs.Records.{rules_of, AreTracesOf, EachTrace, ScriptsAreFollowed, IsRecordOf, IsFullRecord}
-use Rattle.sv_player.specs.Carried.{BeginsWith}
+use Rattle.sv_player.specs.Carried.{BeginsWithReplies}
 use Rattle.sv_player.specs.Stops.{is_cut, IsShut}
 use Rattle.sv_player.specs.Played.{replies_of, IsOpenSession}
-use Rattle.law_traffic.specs.Sessions.{Over, transcript, IsSettled, IsSessionDone}
+use Rattle.law_traffic.specs.Sessions.{Over, transcript, EndsMatched, IsSessionDone}
 use Rattle.law_traffic.specs.Traffic.{IsTraffic}
 use Rattle.law_traffic.specs.Stuck.{IsStopped, IsTakeable}
 
@@ -88,7 +88,7 @@ NoClientIsShut = (scenario : Scenario) (journal : List Entry) (Ls : List Trace) 
 -- Each reply that comes next in an open session is one that its client takes.
 abbrev pub NextRepliesAreTaken : Type 0
 NextRepliesAreTaken = (scenario : Scenario) (journal : List Entry) (Ls : List Trace) (sessions : List Over) (L : Trace) (s : ℕ) (x : Over) (rest : List ℕ) →
-    IsGoodRun scenario → IsRun scenario journal Ls sessions → IsOpenIn Ls sessions L s x → BeginsWith x.client.received (replies_of L s) rest →
+    IsGoodRun scenario → IsRun scenario journal Ls sessions → IsOpenIn Ls sessions L s x → BeginsWithReplies x.client.received (replies_of L s) rest →
     IsTakeable scenario.world.shape L rest
 
 -- So players stop for their scripts alone.
@@ -98,5 +98,5 @@ PlayersComeToTheirEnds = (scenario : Scenario) (journal : List Entry) (Ls : List
 
 -- No fault was counted at an end of a session that was settled and not cut.
 abbrev pub UncutSessionsHaveNoFault : Type 0
-UncutSessionsHaveNoFault = (L : Trace) (s : ℕ) (x : Over) → IsSettled L s x → is_cut (reverse L.events) s ≡ false →
+UncutSessionsHaveNoFault = (L : Trace) (s : ℕ) (x : Over) → EndsMatched L s x → is_cut (reverse L.events) s ≡ false →
     (x.server_faults ≡ 0) × (x.client_faults ≡ 0)

@@ -14,7 +14,7 @@ use Rattle.sv_lock.specs.Passes.{session_number}
 use Rattle.sv_session.specs.Serving.{SessionPass, Served, SessionCause}
 use Rattle.sv_session.specs.declared.outcome.SessionOut.{SessionOut}
 use Rattle.sv_session.specs.declared.outcome.SessionOut.TheVariants as outs
-use Rattle.sv_player.specs.Carried.{request_frames, BeginsWith}
+use Rattle.sv_player.specs.Carried.{request_frames, BeginsWithReplies}
 use Rattle.sv_player.specs.Stops.{is_cut}
 use Rattle.sv_player.specs.Played.{replies_of}
 
@@ -49,10 +49,10 @@ pub record IsCarried (L : Trace) (s : ℕ) (x : Over) : Type 0 where
   pub sent : x.client.sent ≡ request_frames (requests_of L s)
   pub messages : All IsRequest (requests_of L s)
   pub rest : List ℕ
-  pub received : BeginsWith x.client.received (replies_of L s) rest
+  pub received : BeginsWithReplies x.client.received (replies_of L s) rest
 
 -- The two ends matched: each received what the other sent, as far as it went, and no fault counts.
-pub record IsSettled (L : Trace) (s : ℕ) (x : Over) : Type 0 where
+pub record EndsMatched (L : Trace) (s : ℕ) (x : Over) : Type 0 where
   pub arrived : BothArrived x.server x.client
   pub faultless : counted (is_cut (reverse L.events) s) x.server_faults x.client_faults ≡ 0
 
@@ -60,4 +60,4 @@ pub record IsSettled (L : Trace) (s : ℕ) (x : Over) : Type 0 where
 pub record IsSessionDone (journal : List Entry) (L : Trace) (s : ℕ) (x : Over) : Type 0 where
   pub served : IsSessionServed journal s x
   pub carried : IsCarried L s x
-  pub settled : IsSettled L s x
+  pub settled : EndsMatched L s x

@@ -6,7 +6,7 @@ use Rattle.sv_bytes.specs.Writing.{Grew, GrewByPart}
 use Rattle.sv_command.specs.declared.ending.Ending.{Ending}
 use Rattle.sv_command.specs.declared.ending.Ending.TheVariants as endings
 use Rattle.sv_command.specs.Endings.{Ends, IsCutShort, IsPrinted, OrWords}
-use Rattle.sv_command.specs.Reading.{read_limit, held_of, IsNoScenario, IsRefused}
+use Rattle.sv_command.specs.Reading.{read_limit, held_by_file, IsNoScenario, IsRefused}
 use Rattle.sv_command.specs.Statuses.{status_of, Counts, Raises, NoneRose}
 use Rattle.sv_command.proofs.Held.{Faulty, read_is, holds_none, always, unheld}
 use Rattle.sv_command.proofs.Statuses.{range_is as plain_range}
@@ -30,14 +30,14 @@ text_ready (Some x) held m text t = record { command = x; command_is = refl; sce
 
 module _ (contents : List ℕ → Option (List ℕ)) (P : Type 0) where
   -- Where there is something to run, a file that is named holds a scenario.
-  ready_is : (a : Option Asked) → IsReady a (held_of contents (named_by a)) → IfSome (held_of contents (named_by a)) (λ all. IsNoScenario (take read_limit all) → P)
+  ready_is : (a : Option Asked) → IsReady a (held_by_file contents (named_by a)) → IfSome (held_by_file contents (named_by a)) (λ all. IsNoScenario (take read_limit all) → P)
   ready_is None r = tt
   ready_is (Some (Play file form)) r = read_is (contents file) P r.scenario (scenario_for (Play file form) (contents file) r)
   ready_is (Some (Replay file)) r = read_is (contents file) P r.scenario (scenario_for (Replay file) (contents file) r)
   ready_is (Some (Load size)) r = tt
 
   refused_is_none : {F N C : Type 0} (a : Option Asked) (line : List ℕ) (f0 f1 : F) (n0 n1 : N) (c0 c1 : C) → LeavesAlone a 3 f0 f1 n0 n1 c0 c1
-      → IsRefused (held_of contents (named_by a)) line → CanRun a (held_of contents (named_by a)) → P
+      → IsRefused (held_by_file contents (named_by a)) line → CanRun a (held_by_file contents (named_by a)) → P
   refused_is_none None line f0 f1 n0 n1 c0 c1 l r can = absurd can
   refused_is_none (Some (Play file form)) line f0 f1 n0 n1 c0 c1 l r can = holds_none (contents file) P line r can
   refused_is_none (Some (Replay file)) line f0 f1 n0 n1 c0 c1 l r can = holds_none (contents file) P line r can
@@ -55,33 +55,33 @@ abbrev pub Leaves : Option Asked → Option (List ℕ) → Moved → Option (Lis
 Leaves a held m old now e = Ends (IsTextFor a held m) (OrWords (EndsEarly a held)) old now e
 
 module _ (contents : List ℕ → Option (List ℕ)) (m : Moved) (given : Option Command) (command : Command) (is : given ≡ Some command) where
-  text_given : (text : List ℕ) → IsText (asked_by command) (held_of contents (file_of (asked_by command))) m text
-      → IsTextFor (option_map asked_by given) (held_of contents (named_by (option_map asked_by given))) m text
-  text_given text told = subst (λ (o : Option Command). IsTextFor (option_map asked_by o) (held_of contents (named_by (option_map asked_by o))) m text) (sym is) told
+  text_given : (text : List ℕ) → IsText (asked_by command) (held_by_file contents (file_of (asked_by command))) m text
+      → IsTextFor (option_map asked_by given) (held_by_file contents (named_by (option_map asked_by given))) m text
+  text_given text told = subst (λ (o : Option Command). IsTextFor (option_map asked_by o) (held_by_file contents (named_by (option_map asked_by o))) m text) (sym is) told
 
-  pub printed_given : (text bytes : List ℕ) (old now : Option (List ℕ)) → bytes ≡ text → IsText (asked_by command) (held_of contents (file_of (asked_by command))) m text → Grew old now bytes
-      → IsPrinted (IsTextFor (option_map asked_by given) (held_of contents (named_by (option_map asked_by given))) m) old now
+  pub printed_given : (text bytes : List ℕ) (old now : Option (List ℕ)) → bytes ≡ text → IsText (asked_by command) (held_by_file contents (file_of (asked_by command))) m text → Grew old now bytes
+      → IsPrinted (IsTextFor (option_map asked_by given) (held_by_file contents (named_by (option_map asked_by given))) m) old now
   printed_given text bytes old now same told grew =
-      printed_by (IsTextFor (option_map asked_by given) (held_of contents (named_by (option_map asked_by given))) m) old now text bytes same (text_given text told) grew
+      printed_by (IsTextFor (option_map asked_by given) (held_by_file contents (named_by (option_map asked_by given))) m) old now text bytes same (text_given text told) grew
 
-  pub cut_given : (text bytes : List ℕ) (old now : Option (List ℕ)) → bytes ≡ text → IsText (asked_by command) (held_of contents (file_of (asked_by command))) m text → GrewByPart old now bytes
-      → IsCutShort (IsTextFor (option_map asked_by given) (held_of contents (named_by (option_map asked_by given))) m) old now
+  pub cut_given : (text bytes : List ℕ) (old now : Option (List ℕ)) → bytes ≡ text → IsText (asked_by command) (held_by_file contents (file_of (asked_by command))) m text → GrewByPart old now bytes
+      → IsCutShort (IsTextFor (option_map asked_by given) (held_by_file contents (named_by (option_map asked_by given))) m) old now
   cut_given text bytes old now same told part =
-      cut_by (IsTextFor (option_map asked_by given) (held_of contents (named_by (option_map asked_by given))) m) old now text bytes same (text_given text told) part
+      cut_by (IsTextFor (option_map asked_by given) (held_by_file contents (named_by (option_map asked_by given))) m) old now text bytes same (text_given text told) part
 
-  pub early_given : (old : Option (List ℕ)) (e : Ending) → EndsEarly (Some (asked_by command)) (held_of contents (file_of (asked_by command))) e
-      → Leaves (option_map asked_by given) (held_of contents (named_by (option_map asked_by given))) m old old e
+  pub early_given : (old : Option (List ℕ)) (e : Ending) → EndsEarly (Some (asked_by command)) (held_by_file contents (file_of (asked_by command))) e
+      → Leaves (option_map asked_by given) (held_by_file contents (named_by (option_map asked_by given))) m old old e
   early_given old e h =
       let asked : Option Asked = Some (asked_by command) in
-      let held = held_of contents (file_of (asked_by command)) in
-      subst (λ (o : Option Command). Leaves (option_map asked_by o) (held_of contents (named_by (option_map asked_by o))) m old old e) (sym is)
+      let held = held_by_file contents (file_of (asked_by command)) in
+      subst (λ (o : Option Command). Leaves (option_map asked_by o) (held_by_file contents (named_by (option_map asked_by o))) m old old e) (sym is)
       (ends_early (IsTextFor asked held m) (OrWords (EndsEarly asked held)) old (λ x. x) (λ x. x) e (or_words (EndsEarly asked held) e h))
 
 -- ---- What is left of a call, by its status
 
 module _ (a : Option Asked) (contents : List ℕ → Option (List ℕ)) (m : Moved) (old now : Option (List ℕ)) where
   abbrev held : Option (List ℕ)
-  held = held_of contents (named_by a)
+  held = held_by_file contents (named_by a)
 
   pub range_is : (e : Ending) → Leaves a held m old now e → (status_of e ≡ 0) ⊎ ((2 ≤ status_of e) × (status_of e ≤ 8))
   range_is e h = plain_range e (unranged (IsTextFor a held m) (OrWords (EndsEarly a held)) old now (λ x. x) e h)

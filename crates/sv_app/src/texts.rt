@@ -1,7 +1,7 @@
 //! The text that tells what is asked for.
 ghost use Rattle.std.specs.Prelude.{◌≡◌, ◌≢◌, ℕ, None, Some, Err, IfSome};
 ghost use Rattle.sv_command.specs.Endings.{IsMade};
-ghost use Rattle.sv_command.specs.Reading.{held_of};
+ghost use Rattle.sv_command.specs.Reading.{held_by_file};
 ghost use Rattle.sv_command.specs.Statuses.{Counts, counts, Raises, ending_of, status_of};
 ghost use Rattle.sv_play.specs.Settling.{SomeDiffer};
 ghost use Rattle.sv_app.specs.Words.{Play, Replay, Load, IsSize, IsSized, asked_by, file_of};
@@ -111,9 +111,9 @@ pub(crate) fn text_for<F: Files, N: Net, C: Crew, G: Gate + Sync, R: Threads + W
     crew: &mut C,
 ) -> Result<String, Ending>
     requires sized { IsSized command }
-    ensures made { IsMade (IsText (asked_by command.entry) (held_of (F.contents files.old) (file_of (asked_by command.entry)))
+    ensures made { IsMade (IsText (asked_by command.entry) (held_by_file (F.contents files.old) (file_of (asked_by command.entry)))
         (moved (N.settled net.old) (N.settled net.new) (C.ran crew.old) (C.ran crew.new)))
-        (EndsEarly (Some (asked_by command.entry)) (held_of (F.contents files.old) (file_of (asked_by command.entry)))) result }
+        (EndsEarly (Some (asked_by command.entry)) (held_by_file (F.contents files.old) (file_of (asked_by command.entry)))) result }
     ensures raises { (k : ℕ) → Raises (counts (F.faults files.old) (C.faults crew.old) (N.faults net.old) k) (counts (F.faults files.new) (C.faults crew.new) (N.faults net.new) k) (ending_of result) }
     ensures sure { IfSome (file_of (asked_by command.entry)) (λ name. F.sure files.old name → result ≢ Err Ending.File) }
     ensures apart { LeavesAlone (Some (asked_by command.entry)) (status_of (ending_of result)) files.old files.new net.old net.new crew.old crew.new }

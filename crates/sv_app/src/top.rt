@@ -3,7 +3,7 @@ ghost use Rattle.std.specs.Prelude.{◌≡◌, ◌≢◌, ◌↔◌, ◌⊎◌, 
 ghost use Rattle.sv_play.specs.Settling.{SomeDiffer};
 ghost use Rattle.sv_app.specs.Words.{IsSized, asked_by, command_of, named_by};
 ghost use Rattle.sv_command.specs.Endings.{Ends, IsCutShort, IsPrinted, OrWords};
-ghost use Rattle.sv_command.specs.Reading.{read_limit, held_of, IsNoScenario};
+ghost use Rattle.sv_command.specs.Reading.{read_limit, held_by_file, IsNoScenario};
 ghost use Rattle.sv_command.specs.Statuses.{counts, NoneRose, Raises, TellsFaults, TellsStatus, status_of};
 ghost use Rattle.sv_app.specs.Runs.{moved, IsTextFor};
 ghost use Rattle.sv_app.specs.Statuses.{CanRun, EndsEarly, LeavesAlone, words_line};
@@ -31,9 +31,9 @@ fn decide<F: Files, N: Net, C: Crew, G: Gate + Sync, K: Sink, R: Threads + Wait 
 ) -> Ending
     requires sized { IfSome command IsSized }
     ensures words { (result ≡ Ending.Words) ↔ (option_map asked_by command.entry ≡ None) }
-    ensures ends { Ends (IsTextFor (option_map asked_by command.entry) (held_of (F.contents files.old) (named_by (option_map asked_by command.entry)))
+    ensures ends { Ends (IsTextFor (option_map asked_by command.entry) (held_by_file (F.contents files.old) (named_by (option_map asked_by command.entry)))
         (moved (N.settled net.old) (N.settled net.new) (C.ran crew.old) (C.ran crew.new)))
-        (OrWords (EndsEarly (option_map asked_by command.entry) (held_of (F.contents files.old) (named_by (option_map asked_by command.entry))))) (K.taken out.old) (K.taken out.new) result }
+        (OrWords (EndsEarly (option_map asked_by command.entry) (held_by_file (F.contents files.old) (named_by (option_map asked_by command.entry))))) (K.taken out.old) (K.taken out.new) result }
     ensures raises { Raises (counts (F.faults files.old) (C.faults crew.old) (N.faults net.old) (K.faults out.old))
         (counts (F.faults files.new) (C.faults crew.new) (N.faults net.new) (K.faults out.new)) result }
     ensures sure { IfSome (named_by (option_map asked_by command.entry)) (λ name. F.sure files.old name → result ≢ Ending.File) }
@@ -76,16 +76,16 @@ pub fn run<F: Files, N: Net, C: Crew, G: Gate + Sync, K: Sink, E: Sink, R: Threa
     ensures sure { IfSome (named_by (command_of (map string_bytes words.now))) (λ name. F.sure files.old name → result ≢ 4) }
     ensures apart { LeavesAlone (command_of (map string_bytes words.now)) result files.old files.new net.old net.new crew.old crew.new }
     ensures calm { N.calm net.old → result ≡ 6 → SomeDiffer N.E.told N.E.calm (N.made net.old) (N.made net.new) }
-    ensures faulty { IfSome (held_of (F.contents files.old) (named_by (command_of (map string_bytes words.now))))
+    ensures faulty { IfSome (held_by_file (F.contents files.old) (named_by (command_of (map string_bytes words.now))))
         (λ all. IsNoScenario (take read_limit all) → (result ≡ 3) ⊎ (result ≡ 4) ⊎ (result ≡ 8)) }
-    ensures printed { result ≡ 0 → IsPrinted (IsTextFor (command_of (map string_bytes words.now)) (held_of (F.contents files.old) (named_by (command_of (map string_bytes words.now))))
+    ensures printed { result ≡ 0 → IsPrinted (IsTextFor (command_of (map string_bytes words.now)) (held_by_file (F.contents files.old) (named_by (command_of (map string_bytes words.now))))
         (moved (N.settled net.old) (N.settled net.new) (C.ran crew.old) (C.ran crew.new))) (K.taken out.old) (K.taken out.new) }
-    ensures part { result ≡ 5 → IsCutShort (IsTextFor (command_of (map string_bytes words.now)) (held_of (F.contents files.old) (named_by (command_of (map string_bytes words.now))))
+    ensures part { result ≡ 5 → IsCutShort (IsTextFor (command_of (map string_bytes words.now)) (held_by_file (F.contents files.old) (named_by (command_of (map string_bytes words.now))))
         (moved (N.settled net.old) (N.settled net.new) (C.ran crew.old) (C.ran crew.new))) (K.taken out.old) (K.taken out.new) }
     ensures nothing { result ≢ 0 → result ≢ 5 → K.taken out.new ≡ K.taken out.old }
-    ensures told { TellsStatus words_line result (held_of (F.contents files.old) (named_by (command_of (map string_bytes words.now)))) (named_by (command_of (map string_bytes words.now)))
+    ensures told { TellsStatus words_line result (held_by_file (F.contents files.old) (named_by (command_of (map string_bytes words.now)))) (named_by (command_of (map string_bytes words.now)))
         (E.taken err.old) (E.taken err.new) (E.faults err.old) (E.faults err.new) }
-    ensures complete { CanRun (command_of (map string_bytes words.now)) (held_of (F.contents files.old) (named_by (command_of (map string_bytes words.now))))
+    ensures complete { CanRun (command_of (map string_bytes words.now)) (held_by_file (F.contents files.old) (named_by (command_of (map string_bytes words.now))))
         → NoneRose (counts (F.faults files.old) (C.faults crew.old) (N.faults net.old) (K.faults out.old))
         (counts (F.faults files.new) (C.faults crew.new) (N.faults net.new) (K.faults out.new))
         → (result ≡ 0) ⊎ (result ≡ 8) }

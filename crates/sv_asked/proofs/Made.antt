@@ -13,7 +13,7 @@ use Rattle.sv_wire.specs.declared.message.Reply.{Reply}
 use Rattle.sv_wire.specs.declared.message.Reply.TheVariants as replies
 use Rattle.sv_client.specs.declared.trace.Event.{Event}
 use Rattle.sv_client.specs.declared.trace.Event.TheVariants as events
-use Rattle.sv_client.specs.Traces.{joins, makes, current_session, is_session, held_of, with_reply, pending_of, submit_of, done_for, asked_by, asked}
+use Rattle.sv_client.specs.Traces.{joins, makes, current_session, is_session, held_of, with_reply, pending_of, submit_of, done_for, asked_by_event, asked}
 use Rattle.sv_system.proofs.Pendings.{Numbered, key_of, keys, without_first, settles, keys-with}
 use Rattle.sv_asked.proofs.Every.{each-append, each-if}
 
@@ -69,7 +69,7 @@ module _ (P : Action → Type 0) where
   done-have held (replies.Refused code detail) = tt
   done-have held replies.Bye = tt
 
-  by-have : (client : ClientId) (interest : List ObjectId) (t : List Event) (e : Event) (s : ℕ) → Makes e → AllByRecursion Makes t → AllByRecursion Asks (asked_by client interest t e s)
+  by-have : (client : ClientId) (interest : List ObjectId) (t : List Event) (e : Event) (s : ℕ) → Makes e → AllByRecursion Makes t → AllByRecursion Asks (asked_by_event client interest t e s)
   by-have client interest t (events.Join n) s h all =
       each-if Asks (eqb n s) (requests.Join client (suc (joins t)) interest ∷ map submit_of (pending_of t)) (tt, submits-have (pending_of t) (pending-have t all))
   by-have client interest t (events.Make a) s h all = each-if Asks (is_session (current_session t) s) (requests.Submit (suc (makes t)) a ∷ []) (h, tt)
@@ -84,4 +84,4 @@ module _ (P : Action → Type 0) where
   pub asked-have : (client : ClientId) (interest : List ObjectId) (t : List Event) (s : ℕ) → AllByRecursion Makes t → AllByRecursion Asks (asked client interest t s)
   asked-have client interest [] s all = tt
   asked-have client interest (e ∷ t) s all =
-      each-append Asks (asked client interest t s) (asked_by client interest t e s) (asked-have client interest t s all.1) (by-have client interest t e s all.0 all.1)
+      each-append Asks (asked client interest t s) (asked_by_event client interest t e s) (asked-have client interest t s all.1) (by-have client interest t e s all.0 all.1)

@@ -15,7 +15,7 @@ use Rattle.sv_command.proofs.Counts.{came}
 use Rattle.sv_check.specs.Consistent.{IsReportOf}
 use Rattle.sv_audit.specs.declared.ending.AuditEnding.{AuditEnding}
 use Rattle.sv_audit.specs.declared.ending.AuditEnding.TheVariants as endings
-use Rattle.sv_audit.specs.Judging.{IsReportFront, AreRead, IsApproved, IsJudged, IsAnswered, IsOverAt, IsText, report_size}
+use Rattle.sv_audit.specs.Judging.{IsReportFront, AreRead, IsApproved, IsJudged, AnswersOrEnds, IsOverAt, IsText, report_size}
 use Rattle.sv_audit.specs.Statuses.{Raises, EndsEarly, AreUnread, ending_of}
 use Rattle.sv_audit.specs.Words.{Asking}
 
@@ -80,7 +80,7 @@ module _ (held told : Option (List ℕ)) (scenario : Scenario) (played : Played)
   over_made None h = absurd h
   over_made (Some asking) h = record { scenario = scenario; played = played; approved = approved; over = h }
 
-  pub answer_made : (place : Option Asking) (r : Result (String Global) AuditEnding) → IsAnswered scenario played place r → IsMade (IsText held told place) (EndsEarly held told place) r
+  pub answer_made : (place : Option Asking) (r : Result (String Global) AuditEnding) → AnswersOrEnds scenario played place r → IsMade (IsText held told place) (EndsEarly held told place) r
   answer_made place (Ok text) h = record { scenario = scenario; played = played; approved = approved; answer = h }
   answer_made place (Err (endings.Plain plain.Range)) h = over_made place h
   answer_made place (Err (endings.Plain plain.Memory)) h = tt
@@ -149,7 +149,7 @@ judged_calm scenario bytes (endings.Plain plain.Start) h = absurd h
 judged_calm scenario bytes endings.Report h = absurd h
 judged_calm scenario bytes (endings.Plain plain.Range) h = absurd h
 
-pub answer_calm : (scenario : Scenario) (played : Played) (place : Option Asking) (r : Result (String Global) AuditEnding) → IsAnswered scenario played place r → IsCalm (ending_of r)
+pub answer_calm : (scenario : Scenario) (played : Played) (place : Option Asking) (r : Result (String Global) AuditEnding) → AnswersOrEnds scenario played place r → IsCalm (ending_of r)
 answer_calm scenario played place (Ok text) h = tt
 answer_calm scenario played place (Err (endings.Plain plain.Range)) h = tt
 answer_calm scenario played place (Err (endings.Plain plain.Memory)) h = tt

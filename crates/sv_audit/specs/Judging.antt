@@ -96,8 +96,8 @@ IsOverAt scenario played None = ⊥
 IsOverAt scenario played (Some place) = IsOver scenario played place
 
 -- the answer, or why there is none
-abbrev pub IsAnswered : Scenario → Played → Option Asking → Result (String Global) AuditEnding → Type 0
-IsAnswered scenario played place (Ok text) = IsAnswerText scenario played place (string_bytes text)
-IsAnswered scenario played place (Err (endings.Plain plain.Range)) = IsOverAt scenario played place
-IsAnswered scenario played place (Err (endings.Plain plain.Memory)) = Unit {0}
-IsAnswered scenario played place (Err _) = ⊥
+abbrev pub AnswersOrEnds : Scenario → Played → Option Asking → Result (String Global) AuditEnding → Type 0
+AnswersOrEnds scenario played place (Ok text) = IsAnswerText scenario played place (string_bytes text)
+AnswersOrEnds scenario played place (Err (endings.Plain plain.Range)) = IsOverAt scenario played place
+AnswersOrEnds scenario played place (Err (endings.Plain plain.Memory)) = Unit {0}
+AnswersOrEnds scenario played place (Err _) = ⊥

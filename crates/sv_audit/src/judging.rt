@@ -1,7 +1,7 @@
 //! What a report is judged as, and what is answered then.
 ghost use Rattle.std.specs.Prelude.{◌≡◌, ◌≤◌, codes, length, option_map, string_bytes, Some, IfOk};
 ghost use Rattle.sv_scenario.specs.Limits.{IsGoodScenario};
-ghost use Rattle.sv_audit.specs.Judging.{report_limit, IsAnswered, IsJudged};
+ghost use Rattle.sv_audit.specs.Judging.{report_limit, AnswersOrEnds, IsJudged};
 ghost use Rattle.sv_audit.specs.Words.{place_by};
 
 use crate::ending::AuditEnding;
@@ -44,7 +44,7 @@ fn explained(
     played: &Played,
     place: Place,
 ) -> Result<String, AuditEnding>
-    ensures { IsAnswered scenario.now played.now (option_map place_by (Some place)) result }
+    ensures { AnswersOrEnds scenario.now played.now (option_map place_by (Some place)) result }
 {
     if place.object.0 >= scenario.world.shape.objects
         || place.pos as usize > played.journal.accepted_count()
@@ -70,7 +70,7 @@ pub(crate) fn answered(
     played: &Played,
     place: Option<Place>,
 ) -> Result<String, AuditEnding>
-    ensures { IsAnswered scenario.now played.now (option_map place_by place) result }
+    ensures { AnswersOrEnds scenario.now played.now (option_map place_by place) result }
 {
     match place {
         Some(place) => explained(alloc, scenario, played, place),

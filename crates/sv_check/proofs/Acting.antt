@@ -32,7 +32,7 @@ use Rattle.sv_replay.proofs.Events.{is_got, asks_up, asks_got}
 use Rattle.sv_client.specs.Seen.{ClientView}
 use Rattle.sv_check.specs.declared.actor.Actor.{Actor}
 use Rattle.sv_check.specs.Serving.{full_replies}
-use Rattle.sv_check.specs.Acting.{IsActing, HasAsked, HasGot, AreFlags, IsSettled, IsUnsettled, IsAmiss, WentOn, Settles, Joined, GotReply, Made, IsNextPlace, IsNextEvent, journal_events, replies_before, cuts_session, is_other}
+use Rattle.sv_check.specs.Acting.{IsActing, HasAsked, HasGot, AreFlags, IsSettled, IsUnsettled, IsAmiss, WentOn, LookedAt, Joined, GotReply, Made, IsNextPlace, IsNextEvent, journal_events, replies_before, cuts_session, is_other}
 use Rattle.sv_check.proofs.Told.{current_joined}
 use Rattle.sv_check.proofs.Settling.{turned_more, got_there, there_got, map_there, same_Some, split_turned}
 
@@ -470,7 +470,7 @@ gets entries a b s p reply g m n is next r d =
 
 -- ---- Going on
 
-pub went_joined : (entries : List Entry) (a m b : Actor) → IsActing entries a → must_join a.client.events ≡ true → joins a.client.events < 64 → Settles entries a m → Joined m b → WentOn entries a b
+pub went_joined : (entries : List Entry) (a m b : Actor) → IsActing entries a → must_join a.client.events ≡ true → joins a.client.events < 64 → LookedAt entries a m → Joined m b → WentOn entries a b
 went_joined entries a m b g n l d j =
     let from : Joined (record a { fits = m.fits }) b = subst (λ (x : Actor). Joined x b) d.same j in
     record {

@@ -11,7 +11,7 @@ use Rattle.sv_client.specs.Traces.{is_join, joins, current_session, got}
 use Rattle.sv_client.specs.Taking.{Identity, outstanding}
 use Rattle.sv_client.specs.Proper.{MayFollow}
 use Rattle.sv_scenario.specs.declared.scenario.Step.{Step}
-use Rattle.sv_script.specs.Following.{MayCome, DoesStep, Leaves, must_join, is_finished, passed_syncs, event_of}
+use Rattle.sv_script.specs.Following.{MayCome, DoesStep, LeavesSession, must_join, is_finished, passed_syncs, event_of}
 use Rattle.sv_script.specs.Laws.{is_got}
 use Rattle.sv_report.specs.Report.{event_text}
 use Rattle.sv_check.specs.Next.{GetsNextReply, ComesNext}
@@ -133,12 +133,12 @@ module _ (who : Identity) (first : ℕ) (R : ℕ → List Reply) (t : List Event
       (same_Some e f (sym d.event ∙ ap event_of step ∙ n.event), same_others d.step n.step left more next)
 
   -- No step is left where the client leaves.
-  leave_or_step : (e : Event) (left more : List Step) → Leaves who t before left → DoesStep who t before e more → ⊥
+  leave_or_step : (e : Event) (left more : List Step) → LeavesSession who t before left → DoesStep who t before e more → ⊥
   leave_or_step e left more l d =
       let none : passed_syncs (outstanding who t) before ≡ [] = ap (λ (os : List Request). passed_syncs os before) l.settled ∙ l.done in
       none_first d.step more (sym none ∙ d.next)
 
-  leaves_at : (e : Event) (left : List Step) → is_leave e ≡ true → MayCome who t before e left → Leaves who t before left
+  leaves_at : (e : Event) (left : List Step) → is_leave e ≡ true → MayCome who t before e left → LeavesSession who t before left
   leaves_at e left l m = subst (λ (d : Event). MayCome who t before d left) (leave_is e l) m
 
   same_others_done : (e f : Event) (left more : List Step) → is_join e ≡ false → is_join f ≡ false → is_got e ≡ false → is_got f ≡ false →

@@ -14,7 +14,7 @@ use Rattle.sv_scenario.specs.declared.scenario.Scenario.{Scenario}
 use Rattle.sv_scenario.specs.Sessions.{sessions_of_plan, sessions_in}
 use Rattle.sv_system.specs.Records.{AreTracesOf, EachTrace}
 use Rattle.sv_report.specs.Report.{trace_text}
-use Rattle.sv_check.specs.Parts.{IsWholeJournal, IsTraceSoFar, IsWholeTrace, AreFirstTraces, IsOf, IsPart}
+use Rattle.sv_check.specs.Parts.{IsWholeJournal, IsTraceSoFar, IsWholeTrace, AreFirstTraces, IsOf, IsReportPart}
 use Rattle.sv_check.proofs.GoingOn.{is_of}
 use Rattle.sv_check.proofs.WorldParts.{so_far}
 
@@ -81,7 +81,7 @@ module _ (scenario : Scenario) (h entries : List Entry) (in_order : entries ≡ 
 
   -- The client's first lines behind whole traces.
   pub client_front : (before : List Plan) (plan : Plan) (plans : List Plan) (Ls : List Trace) (L : Trace) (text : List ℕ) → scenario.clients ≡ before ++ plan ∷ plans → AreFirstTraces shape h before Ls →
-      IsOf (length before) (sessions_in before) plan L → IsTraceSoFar scenario h plan L → text ≡ (J ++ flat_map (trace_text entries) Ls) ++ trace_text entries L → IsPart scenario text
+      IsOf (length before) (sessions_in before) plan L → IsTraceSoFar scenario h plan L → text ≡ (J ++ flat_map (trace_text entries) Ls) ++ trace_text entries L → IsReportPart scenario text
   client_front before plan plans Ls L text c d o g e = inr (inr (inl (record {
     h = h;
     journal = journal;
@@ -97,7 +97,7 @@ module _ (scenario : Scenario) (h entries : List Entry) (in_order : entries ≡ 
     text_is = e ∙ ap (λ (es : List Entry). (journal_text shape es ++ flat_map (trace_text es) Ls) ++ trace_text es L) in_order;
   })))
 
-  journal_front : IsPart scenario (J ++ [])
+  journal_front : IsReportPart scenario (J ++ [])
   journal_front = inr (inl (record {
     count = length entries;
     h = h;
@@ -109,7 +109,7 @@ module _ (scenario : Scenario) (h entries : List Entry) (in_order : entries ≡ 
         ∙ ap (λ (g : List Entry). codes "journal " ++ decimal (length entries) ++ 10 ∷ entry_lines shape (accepted g) 1 (reverse h)) (reverse-reverse h);
   }))
 
-  pub traces_front : (before plans : List Plan) (Ls : List Trace) → scenario.clients ≡ before ++ plans → AreFirstTraces shape h before Ls → IsPart scenario (J ++ flat_map (trace_text entries) Ls)
+  pub traces_front : (before plans : List Plan) (Ls : List Trace) → scenario.clients ≡ before ++ plans → AreFirstTraces shape h before Ls → IsReportPart scenario (J ++ flat_map (trace_text entries) Ls)
   traces_front [] plans [] c d = journal_front
   traces_front [] plans (L ∷ Ls) c d = absurd d.clients
   traces_front (p ∷ before) plans [] c d = absurd d.clients

@@ -34,7 +34,7 @@ use Rattle.sv_check.specs.Parts.{IsEntryAfter, AreEntries}
 use Rattle.sv_check.specs.Stopping.{IfWrong}
 use Rattle.sv_check.specs.declared.journal.Served.{Served}
 use Rattle.sv_check.specs.Serving.{IsServed, entries_of}
-use Rattle.sv_check.specs.Entering.{ServedOne, HasServed, header_text, NoHeader, lines_of, line_after, TellsEntry, NoEntry, EntriesAreTold, BreaksOff}
+use Rattle.sv_check.specs.Entering.{ServedOne, HasServed, header_text, NoHeader, lines_of, line_after, TellsEntry, NoEntry, EntriesAreTold, TextBreaksOff}
 use Rattle.sv_check.proofs.Entries.{AreEntriesAfter, turned_more}
 use Rattle.sv_check.proofs.Journals.{after_none}
 use Rattle.sv_check.proofs.JournalParts.{line_stays, line_is_after, first_right}
@@ -245,7 +245,7 @@ module _ (stay : FullRepliesStay) (names : LegalRelaysNameAccepted) (scenario : 
       ∙ lines_stay front [] (reverse more) 1 tt (after_none scenario front a) ∙ ap (λ (h : List Entry). entry_lines form (accepted h) 1 front) plain
 
   -- Where the text differs from the printed lines.
-  pub breaks_off : (es : List Entry) (text : List ℕ) (left : ℕ) → AreEntries scenario (reverse es) → Differs text (lines_of form es) left → BreaksOff form es text left
+  pub breaks_off : (es : List Entry) (text : List ℕ) (left : ℕ) → AreEntries scenario (reverse es) → Differs text (lines_of form es) left → TextBreaksOff form es text left
   breaks_off es text left a d =
       let at = differs_at form (accepted (reverse es)) 1 es text left (all_fit scenario es a) d in
       let all : AreEntries scenario (reverse (at.before ++ at.entry ∷ at.behind)) = subst (λ (l : List Entry). AreEntries scenario (reverse l)) at.entries a in
@@ -264,13 +264,13 @@ module _ (stay : FullRepliesStay) (names : LegalRelaysNameAccepted) (scenario : 
       }
 
   pub broken_result : {B : Type 0} (r : Result B Stop) (es : List Entry) (text lines : List ℕ) → AreEntries scenario (reverse es) → lines ≡ lines_of form es → IfErr r (λ e. StopsAt text lines e) →
-      IfWrong r (BreaksOff form es text)
+      IfWrong r (TextBreaksOff form es text)
   broken_result (Ok x) es text lines a is d = tt
   broken_result (Err (stop.Wrong left)) es text lines a is d = breaks_off es text left a (subst (λ (l : List ℕ). Differs text l left) is d)
   broken_result (Err stop.Memory) es text lines a is d = tt
 
   -- The entry that breaks off is none that the text tells.
-  pub broken_none : (es : List Entry) (text : List ℕ) (left : ℕ) → AreEntries scenario (reverse es) → EntriesAreTold scenario [] es text → (b : BreaksOff form es text left) →
+  pub broken_none : (es : List Entry) (text : List ℕ) (left : ℕ) → AreEntries scenario (reverse es) → EntriesAreTold scenario [] es text → (b : TextBreaksOff form es text left) →
       NoEntry scenario b.front b.rest
   broken_none es text left a told b e rest right is =
       let all : AreEntries scenario (reverse (b.front ++ b.next ∷ b.more)) = subst (λ (l : List Entry). AreEntries scenario (reverse l)) b.entries_are a in

@@ -13,7 +13,7 @@ use Rattle.sv_scenario.specs.declared.scenario.Scenario.{Scenario}
 use Rattle.sv_scenario.specs.Sessions.{session_count}
 use Rattle.sv_report.specs.Report.{trace_text, value_lines}
 use Rattle.sv_lines.proofs.Splitting.{others_are, number_split}
-use Rattle.sv_check.specs.Parts.{IsEntryAfter, AreEntries, IsWholeJournal, IsJournalPart, IsClientPart, IsWorldPart, IsPart}
+use Rattle.sv_check.specs.Parts.{IsEntryAfter, AreEntries, IsWholeJournal, IsJournalPart, IsClientPart, IsWorldPart, IsReportPart}
 use Rattle.sv_check.specs.Entering.{header_text, lines_of, line_after}
 use Rattle.sv_check.proofs.Entries.{in_order, entries_tell, names_of, same_reply_text}
 use Rattle.sv_check.proofs.Journals.{after_none, plain_lines}
@@ -230,7 +230,7 @@ module _ (stay : FullRepliesStay) (names : LegalRelaysNameAccepted) (scenario : 
           omega (arith, none, one, two)
 
       -- Any part that begins with the first lines of a journal.
-      pub in_part : IsPart scenario (X ++ y) → (y ≡ []) ⊎ GoesOn scenario count es y
+      pub in_part : IsReportPart scenario (X ++ y) → (y ≡ []) ⊎ GoesOn scenario count es y
       in_part p =
           elim p [
             | inl none ↦ absurd (begun none)

@@ -21,12 +21,12 @@ use Rattle.sv_check.specs.declared.journal.Served.{Served}
 use Rattle.sv_check.specs.Serving.{IsServed, entries_of}
 use Rattle.sv_check.proofs.Serving.{whole_ended}
 use Rattle.sv_check.specs.Consistent.{IsReport}
-use Rattle.sv_check.specs.Parts.{AreEntries, IsWholeJournal, IsJournalPart, IsPart}
+use Rattle.sv_check.specs.Parts.{AreEntries, IsWholeJournal, IsJournalPart, IsReportPart}
 use Rattle.sv_lines.specs.Lines.{after_lines}
 use Rattle.sv_lines.specs.declared.stop.Stop.{Stop}
 use Rattle.sv_lines.specs.declared.stop.Stop.TheVariants as stop
 use Rattle.sv_check.specs.Stopping.{IsStop, IfWrong}
-use Rattle.sv_check.specs.Entering.{lines_of, line_after, header_text, NoHeader, NoEntry, EntriesAreTold, HasServedAll, BreaksOff}
+use Rattle.sv_check.specs.Entering.{lines_of, line_after, header_text, NoHeader, NoEntry, EntriesAreTold, HasServedAll, TextBreaksOff}
 use Rattle.sv_check.proofs.Asking.{entries_right}
 use Rattle.sv_check.proofs.JournalLines.{broken_none, behind_all}
 use Rattle.sv_check.proofs.JournalParts.{first_right, headed_is, headed, headed_more, headed_long, some_lines, GoesOn, in_whole, in_part, clients_behind, clients_split, world_behind, world_split}
@@ -79,7 +79,7 @@ module _ (stay : FullRepliesStay) (names : LegalRelaysNameAccepted) (order : Ste
         let five = length-append X y in
         omega (arith, one, two, three, four, five, short)
 
-    no_part : (y next : List ℕ) → rest ≡ y ++ next → (y ≡ [] → ⊥) → IsPart scenario (X ++ y) → ⊥
+    no_part : (y next : List ℕ) → rest ≡ y ++ next → (y ≡ [] → ⊥) → IsReportPart scenario (X ++ y) → ⊥
     no_part y next is some p =
         elim (in_part stay names scenario good.sessions count es y small within right (within_text y next is) p) [
           | inl e ↦ some e
@@ -91,9 +91,9 @@ module _ (stay : FullRepliesStay) (names : LegalRelaysNameAccepted) (order : Ste
         goes_wrong y next is
         (in_whole stay names scenario good.sessions count es y small within right (within_text y next is) r.0 (behind_journal (X ++ y) r) (pair_journal (X ++ y) r) (report_split (X ++ y) r))
 
-    no_line : (line next : List ℕ) → rest ≡ line ++ 10 ∷ next → IsPart scenario (X ++ line ++ 10 ∷ []) → ⊥
+    no_line : (line next : List ℕ) → rest ≡ line ++ 10 ∷ next → IsReportPart scenario (X ++ line ++ 10 ∷ []) → ⊥
     no_line line next is p =
-        no_part (line ++ 10 ∷ []) next (is ∙ sym (append_assoc line (10 ∷ []) next)) (never_empty line []) (subst (IsPart scenario) (append_assoc X line (10 ∷ [])) p)
+        no_part (line ++ 10 ∷ []) next (is ∙ sym (append_assoc line (10 ∷ []) next)) (never_empty line []) (subst (IsReportPart scenario) (append_assoc X line (10 ∷ [])) p)
 
     no_end : rest ≡ [] → IsReport scenario X → ⊥
     no_end is r = no_report [] [] is (subst (IsReport scenario) (sym (append-nil X)) r)
@@ -149,7 +149,7 @@ module _ (stay : FullRepliesStay) (names : LegalRelaysNameAccepted) (order : Ste
     never_report : (y next : List ℕ) → text ≡ y ++ next → IsReport scenario y → ⊥
     never_report y next is r = never_whole y next (behind_journal y r) (reverse r.0) is (report_split y r)
 
-    never_part : (y next : List ℕ) → text ≡ y ++ next → (y ≡ [] → ⊥) → IsPart scenario y → ⊥
+    never_part : (y next : List ℕ) → text ≡ y ++ next → (y ≡ [] → ⊥) → IsReportPart scenario y → ⊥
     never_part y next is some p =
         elim p [
           | inl e ↦ some e
@@ -186,7 +186,7 @@ module _ (stay : FullRepliesStay) (names : LegalRelaysNameAccepted) (order : Ste
         split ∙ headed_is count lines ∙ ap (headed count) is ∙ sym (headed_more count (lines_of scenario.world.shape front) rest)
 
     -- The line of an entry differs from what was printed.
-    pub stop_broken : length es ≤ count → EntriesAreTold scenario [] es lines → (left : ℕ) → BreaksOff scenario.world.shape es lines left → IsStop scenario text left
+    pub stop_broken : length es ≤ count → EntriesAreTold scenario [] es lines → (left : ℕ) → TextBreaksOff scenario.world.shape es lines left → IsStop scenario text left
     stop_broken within told left b =
         let all : AreEntries scenario (reverse (b.front ++ b.next ∷ b.more)) = subst (λ (l : List Entry). AreEntries scenario (reverse l)) b.entries_are right in
         let front = first_right stay names scenario b.front b.more b.next all in
@@ -220,7 +220,7 @@ module _ (stay : FullRepliesStay) (names : LegalRelaysNameAccepted) (order : Ste
           | inr x ↦ (let less = told.some x in omega (arith, less))
         ]
 
-    pub served_broken : (left : ℕ) → BreaksOff scenario.world.shape (entries_of served) lines left → IsStop scenario text left
+    pub served_broken : (left : ℕ) → TextBreaksOff scenario.world.shape (entries_of served) lines left → IsStop scenario text left
     served_broken left b = stop_broken count text lines small short split (entries_of served) g.entries no_more told.told left b
 
     module _ (rest : List ℕ) (is : lines ≡ lines_of scenario.world.shape (entries_of served) ++ rest) where

@@ -7,7 +7,7 @@ use Rattle.sv_client.specs.declared.trace.Event.{Event}
 use Rattle.sv_scenario.specs.declared.scenario.Scenario.{Scenario}
 use Rattle.sv_report.specs.Report.{event_text, event_lines, trace_text}
 use Rattle.sv_lines.proofs.EntryLines.{then_inner, inner_decimal}
-use Rattle.sv_check.specs.Parts.{IsClientPart, IsPart}
+use Rattle.sv_check.specs.Parts.{IsClientPart, IsReportPart}
 use Rattle.sv_check.proofs.FrontParts.{traces_front}
 use Rattle.sv_check.proofs.GoingOn.{client_line}
 use Rattle.sv_check.proofs.InnerLines.{event_inner}
@@ -31,7 +31,7 @@ module _ (scenario : Scenario) (text : List ℕ) (short : length text < 2 ^ 32) 
       omega (arith, long, size, short)
 
   -- The last line is that of the last event, or the client's first one.
-  pub client_less : (t : List Event) → reverse p.L.events ≡ t → HasLast (IsPart scenario) text
+  pub client_less : (t : List Event) → reverse p.L.events ≡ t → HasLast (IsReportPart scenario) text
   client_less [] none =
       let head = client_line p.L.client.0 in
       record {

@@ -9,7 +9,7 @@ use Rattle.sv_journal.specs.Laws.{FullRepliesStay, LegalRelaysNameAccepted}
 use Rattle.sv_journal.specs.Text.{entry_line, entry_lines}
 use Rattle.sv_scenario.specs.declared.scenario.Scenario.{Scenario}
 use Rattle.sv_lines.proofs.EntryLines.{then_inner, inner_decimal, inner_line, line_inner, lines_append}
-use Rattle.sv_check.specs.Parts.{AreEntries, IsPart}
+use Rattle.sv_check.specs.Parts.{AreEntries, IsReportPart}
 use Rattle.sv_check.proofs.JournalLines.{told_fits, front_lines}
 use Rattle.sv_check.proofs.JournalParts.{headed}
 use Rattle.sv_check.proofs.WholeLines.{behind_both, HasLast}
@@ -41,7 +41,7 @@ module _ (stay : FullRepliesStay) (names : LegalRelaysNameAccepted) (scenario : 
       ∙ ap (λ (l : List ℕ). l ++ entry_line shape A n e) same
       ∙ sym (append_assoc (lines h) (inner_line shape A n e) (10 ∷ []))
 
-  pub journal_less : (count : ℕ) (h : List Entry) (text : List ℕ) → count < 2 ^ 32 → length h ≤ count → AreEntries scenario h → text ≡ headed count (lines h) → HasLast (IsPart scenario) text
+  pub journal_less : (count : ℕ) (h : List Entry) (text : List ℕ) → count < 2 ^ 32 → length h ≤ count → AreEntries scenario h → text ≡ headed count (lines h) → HasLast (IsReportPart scenario) text
   journal_less count [] text small within a e = record {
     before = [];
     line = codes "journal " ++ decimal count;

@@ -7,7 +7,7 @@ use Rattle.sv_journal.specs.Pieces.{held_text}
 use Rattle.sv_scenario.specs.declared.scenario.Scenario.{Scenario}
 use Rattle.sv_report.specs.Report.{trace_text, value_lines}
 use Rattle.sv_lines.proofs.EntryLines.{then_inner, inner_decimal, inner_held}
-use Rattle.sv_check.specs.Parts.{IsWorldPart, IsPart}
+use Rattle.sv_check.specs.Parts.{IsWorldPart, IsReportPart}
 use Rattle.sv_check.proofs.FrontParts.{traces_front}
 use Rattle.sv_check.proofs.Pairs.{text_long}
 use Rattle.sv_check.proofs.Reports.{traffic_text, front_apart}
@@ -58,7 +58,7 @@ module _ (scenario : Scenario) (text : List ℕ) (short : length text < 2 ^ 32) 
       omega (arith, long, size, short)
 
   -- The last line is that of a value, or `world C`.
-  pub world_less : (n : ℕ) → n ≤ scenario.world.shape.objects → text ≡ X ++ codes "world " ++ decimal commit ++ 10 ∷ value_lines 0 (take n values) → HasLast (IsPart scenario) text
+  pub world_less : (n : ℕ) → n ≤ scenario.world.shape.objects → text ≡ X ++ codes "world " ++ decimal commit ++ 10 ∷ value_lines 0 (take n values) → HasLast (IsReportPart scenario) text
   world_less zero within e = record {
     before = X;
     line = world_line commit;

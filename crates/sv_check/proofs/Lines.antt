@@ -25,7 +25,7 @@ use Rattle.sv_check.specs.declared.actor.Actor.{Actor}
 use Rattle.sv_check.specs.Parts.{AreSomeEntries}
 use Rattle.sv_check.specs.Next.{IsLineOf, journal_replies}
 use Rattle.sv_check.specs.Serving.{full_replies}
-use Rattle.sv_check.specs.Acting.{IsActing, IsNextEvent, NoNextEvent, IsNextPlace, NoNextPlace, NoneComes, Settles, Joined, GotReply, journal_events, replies_before, begins_got, is_other}
+use Rattle.sv_check.specs.Acting.{IsActing, IsNextEvent, NoNextEvent, IsNextPlace, NoNextPlace, NoneComes, LookedAt, Joined, GotReply, journal_events, replies_before, begins_got, is_other}
 use Rattle.sv_check.proofs.Settling.{same_Some}
 use Rattle.sv_check.proofs.Refusing.{never_taken, none_left}
 use Rattle.sv_check.proofs.Acting.{may_follow, latest_is, one_before, front_before}
@@ -46,7 +46,7 @@ pub join_other : (entries : List Entry) (a : Actor) (text line : List ℕ) (left
 join_other entries a text line left l m is none =
     (l, other_join a.client.who a.first entries a.client.events a.left.now text m (λ few. no_line (codes "join s" ++ decimal (a.first + joins a.client.events)) text line is none))
 
-pub join_told : (entries : List Entry) (a m b : Actor) (text line rest : List ℕ) → Settles entries a m → Joined m b → line ≡ (codes "join s" ++ decimal (a.first + joins a.client.events)) ++ 10 ∷ [] →
+pub join_told : (entries : List Entry) (a m b : Actor) (text line rest : List ℕ) → LookedAt entries a m → Joined m b → line ≡ (codes "join s" ++ decimal (a.first + joins a.client.events)) ++ 10 ∷ [] →
     text ≡ line ++ rest → IsLineOf entries (journal_events a) (journal_events b) text rest
 join_told entries a m b text line rest d j is whole =
     let from : Joined (record a { fits = m.fits }) b = subst (λ (x : Actor). Joined x b) d.same j in

@@ -5,7 +5,7 @@ use Rattle.std.proofs.Math.Seq.{take-append_seam}
 use Rattle.std.proofs.lemmas.Bool.{cond_both}
 use Rattle.sv_lines.specs.Lines.{line_ends}
 use Rattle.sv_scenario.specs.declared.scenario.Scenario.{Scenario}
-use Rattle.sv_check.specs.Parts.{IsPart}
+use Rattle.sv_check.specs.Parts.{IsReportPart}
 use Rattle.sv_check.specs.Stopping.{IsStop}
 use Rattle.sv_check.specs.Wrong.{IsFirstWrong}
 
@@ -23,13 +23,13 @@ ends_fewer (c ∷ text) e =
     let less : line_ends text < suc (length text) = omega (arith, more) in
     subst (λ (b : ℕ). line_ends (b ∷ text) < suc (length text)) (sym e) less
 
-begins : (scenario : Scenario) (text : List ℕ) → IsPart scenario text → (text ≡ []) ⊎ (get_or text 0 0 ≡ 106)
+begins : (scenario : Scenario) (text : List ℕ) → IsReportPart scenario text → (text ≡ []) ⊎ (get_or text 0 0 ≡ 106)
 begins scenario text (inl e) = inl e
 begins scenario text (inr (inl p)) = inr (ap (λ (l : List ℕ). get_or l 0 0) p.text_is)
 begins scenario text (inr (inr (inl p))) = inr (ap (λ (l : List ℕ). get_or l 0 0) p.text_is)
 begins scenario text (inr (inr (inr p))) = inr (ap (λ (l : List ℕ). get_or l 0 0) p.text_is)
 
-few_ends : (scenario : Scenario) (text : List ℕ) → IsPart scenario text → length text < 2 ^ 32 → line_ends text + 1 < 2 ^ 32
+few_ends : (scenario : Scenario) (text : List ℕ) → IsReportPart scenario text → length text < 2 ^ 32 → line_ends text + 1 < 2 ^ 32
 few_ends scenario text p short = elim (begins scenario text p) [
   | inl e ↦ (let none : line_ends text ≡ 0 = ap line_ends e in omega (arith, none))
   | inr e ↦ (let fewer = ends_fewer text e in omega (arith, fewer, short))

@@ -17,7 +17,7 @@ use Rattle.sv_report.specs.Report.{event_text, event_lines, trace_text, value_li
 use Rattle.sv_report.proofs.Standing.{left_more}
 use Rattle.sv_lines.proofs.Splitting.{others_are, number_split}
 use Rattle.sv_check.specs.Consistent.{IsReport}
-use Rattle.sv_check.specs.Parts.{AreEntries, IsJournalPart, IsWholeJournal, IsTraceSoFar, AreFirstTraces, IsOf, IsClientPart, IsWorldPart, IsPart}
+use Rattle.sv_check.specs.Parts.{AreEntries, IsJournalPart, IsWholeJournal, IsTraceSoFar, AreFirstTraces, IsOf, IsClientPart, IsWorldPart, IsReportPart}
 use Rattle.sv_check.specs.Stopping.{IsStop}
 use Rattle.sv_check.specs.Clients.{PartStops, NoClient, IsClientStop}
 use Rattle.sv_check.proofs.Entries.{entries_tell}
@@ -46,8 +46,8 @@ begins_some line b = some_head line b.rest [] 10 (append-nil (line ++ 10 ∷ b.r
 
 -- Behind the text X, nothing that is left in y goes on: `On z` says that z goes on with a right line.
 pub record GoesNotOn (scenario : Scenario) (X y : List ℕ) (On : List ℕ → Type 0) : Type 0 where
-  pub part : IsPart scenario X
-  pub parts : (z : List ℕ) → length (X ++ z) < 2 ^ 64 → IsPart scenario (X ++ z) → (z ≡ []) ⊎ On z
+  pub part : IsReportPart scenario X
+  pub parts : (z : List ℕ) → length (X ++ z) < 2 ^ 64 → IsReportPart scenario (X ++ z) → (z ≡ []) ⊎ On z
   pub worlds : (z : List ℕ) → length (X ++ z) < 2 ^ 64 → IsWorldPart scenario (X ++ z) → On z
   pub more : (z rest : List ℕ) → On z → On (z ++ rest)
   pub some : On [] → ⊥
@@ -72,7 +72,7 @@ stop_at scenario text X y left On reports e short is g = record {
     size : length text ≡ length (X ++ y)
     size = ap length e
 
-    line_wrong : (line next : List ℕ) → All (λ byte. byte ≢ 10) line → y ≡ line ++ 10 ∷ next → IsPart scenario (X ++ line ++ 10 ∷ []) → ⊥
+    line_wrong : (line next : List ℕ) → All (λ byte. byte ≢ 10) line → y ≡ line ++ 10 ∷ next → IsReportPart scenario (X ++ line ++ 10 ∷ []) → ⊥
     line_wrong line next a s p =
         let z = line ++ 10 ∷ [] in
         let whole : y ≡ z ++ next = s ∙ sym (append_assoc line (10 ∷ []) next) in
@@ -83,7 +83,7 @@ stop_at scenario text X y left On reports e short is g = record {
         let four = ap length whole in
         let same = size in
         let fits : length (X ++ z) < 2 ^ 64 = omega (arith, same, short, one, two, three, four) in
-        elim (g.parts z fits (subst (IsPart scenario) apart p)) [
+        elim (g.parts z fits (subst (IsReportPart scenario) apart p)) [
           | inl none ↦ absurd (some_head line [] [] 10 (append-nil z ∙ none))
           | inr on ↦ absurd (g.none (subst On (sym whole) (g.more z next on)))
         ]
@@ -178,7 +178,7 @@ module _ (stay : FullRepliesStay) (names : LegalRelaysNameAccepted) (scenario : 
       text
 
   -- What stands behind the whole journal in a part of a report: nothing, or the clients' parts and the world's lines.
-  part_rest : (w : List ℕ) → length (J ++ w) < 2 ^ 64 → IsPart scenario (J ++ w) → (w ≡ []) ⊎ Rest scenario entries (Unit {0}) 0 0 scenario.clients w
+  part_rest : (w : List ℕ) → length (J ++ w) < 2 ^ 64 → IsReportPart scenario (J ++ w) → (w ≡ []) ⊎ Rest scenario entries (Unit {0}) 0 0 scenario.clients w
   part_rest w short (inl none) = absurd (some_journal w none)
   part_rest w short (inr (inl p)) = inl (journal_part w p)
   part_rest w short (inr (inr (inl p))) = inr (client_part w short p)
@@ -195,11 +195,11 @@ module _ (stay : FullRepliesStay) (names : LegalRelaysNameAccepted) (scenario : 
         (subst (λ (ps : List Plan). Rest scenario entries P 0 0 ps (T ++ w)) clients r)
 
     -- Behind the traces of the first clients: nothing, or the rest from the next client on.
-    pub part_behind : (w : List ℕ) → length ((J ++ T) ++ w) < 2 ^ 64 → IsPart scenario ((J ++ T) ++ w) →
+    pub part_behind : (w : List ℕ) → length ((J ++ T) ++ w) < 2 ^ 64 → IsReportPart scenario ((J ++ T) ++ w) →
         (w ≡ []) ⊎ Rest scenario entries (Unit {0}) (length before) (sessions_in before) plans w
     part_behind w short p =
         let apart = append_assoc J T w in
-        elim (part_rest (T ++ w) (subst (λ (l : List ℕ). length l < 2 ^ 64) apart short) (subst (IsPart scenario) apart p)) [
+        elim (part_rest (T ++ w) (subst (λ (l : List ℕ). length l < 2 ^ 64) apart short) (subst (IsReportPart scenario) apart p)) [
           | inl none ↦ inl (none_behind T w none)
           | inr r ↦ elim (peeled (Unit {0}) w r) [
             | inl none ↦ inl none.1
@@ -255,10 +255,10 @@ module _ (stay : FullRepliesStay) (names : LegalRelaysNameAccepted) (scenario : 
     on_none y left p (inr n) = p.not_whole n.whole
 
     behind_part : (L : Trace) (z : List ℕ) (g : IsTraceSoFar scenario (reverse entries) plan L) → IsOf (length before) (sessions_in before) plan L →
-        (U : List ℕ) → U ≡ trace_text entries L → length ((F ++ U) ++ z) < 2 ^ 64 → IsPart scenario ((F ++ U) ++ z) → (z ≡ []) ⊎ On L g.follows.left z
+        (U : List ℕ) → U ≡ trace_text entries L → length ((F ++ U) ++ z) < 2 ^ 64 → IsReportPart scenario ((F ++ U) ++ z) → (z ≡ []) ⊎ On L g.follows.left z
     behind_part L z g o U is fits p =
         let apart : (F ++ U) ++ z ≡ F ++ (trace_text entries L ++ z) = append_assoc F U z ∙ ap (λ (l : List ℕ). F ++ (l ++ z)) is in
-        elim (part_behind before (plan ∷ plans) clients Ls done (trace_text entries L ++ z) (subst (λ (l : List ℕ). length l < 2 ^ 64) apart fits) (subst (IsPart scenario) apart p)) [
+        elim (part_behind before (plan ∷ plans) clients Ls done (trace_text entries L ++ z) (subst (λ (l : List ℕ). length l < 2 ^ 64) apart fits) (subst (IsReportPart scenario) apart p)) [
           | inl none ↦ absurd (some_head (client_line L.client.0) (event_lines entries (reverse L.events)) z 10 none)
           | inr r ↦ elim (going scenario entries (Unit {0}) (length before) (sessions_in before) plan plans L z o g r) [
             | inl e ↦ inl e.1

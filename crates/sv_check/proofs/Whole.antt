@@ -19,7 +19,7 @@ use Rattle.sv_system.specs.Fronts.{IsFront}
 use Rattle.law_schedule.proofs.DoneFacts.{any-turned}
 use Rattle.sv_check.specs.declared.actor.Actor.{Actor}
 use Rattle.sv_check.specs.Parts.{IsWholeTrace, IsOf}
-use Rattle.sv_check.specs.Acting.{IsActing, IsSettled, IsAmiss, Settles, identity, journal_events}
+use Rattle.sv_check.specs.Acting.{IsActing, IsSettled, IsAmiss, LookedAt, identity, journal_events}
 use Rattle.sv_check.proofs.Acting.{begun_settled, latest_settled, latest_amiss}
 use Rattle.sv_check.proofs.Told.{current_joined}
 
@@ -76,10 +76,10 @@ module _ (entries : List Entry) (a : Actor) (shape : Shape) (plan : Plan) (g : I
       ]
 
 -- The trace is the same after its sessions were looked at.
-same_trace : (entries : List Entry) (a b : Actor) → Settles entries a b → trace_from b.first b.client ≡ trace_from a.first a.client
+same_trace : (entries : List Entry) (a b : Actor) → LookedAt entries a b → trace_from b.first b.client ≡ trace_from a.first a.client
 same_trace entries a b d = ap (λ (x : Actor). trace_from x.first x.client) d.same
 
-pub finished : (entries : List Entry) (a b : Actor) (number : ℕ) (shape : Shape) (plan : Plan) (L : Trace) → IsActing entries a → a.finished ≡ true → Settles entries a b → b.fits ≡ true →
+pub finished : (entries : List Entry) (a b : Actor) (number : ℕ) (shape : Shape) (plan : Plan) (L : Trace) → IsActing entries a → a.finished ≡ true → LookedAt entries a b → b.fits ≡ true →
     a.client.who ≡ identity number shape plan → a.script.now ≡ plan.steps → L ≡ trace_from b.first b.client → Proper b.client.who.shape L → IsWholeTrace shape (reverse entries) plan L
 finished entries a b number shape plan L g done d fits who script is proper =
     let same : L ≡ trace_from a.first a.client = is ∙ same_trace entries a b d in
@@ -90,14 +90,14 @@ finished entries a b number shape plan L g done d fits who script is proper =
     (whole entries a shape plan g done shape_is script (subst (Proper shape) same proper_is)
     (begun_settled entries a.client.who (journal_events a) a.asked.items a.fits g.asks (latest_settled entries a g all.1) all.0))
 
-pub unfit : (entries : List Entry) (a b : Actor) (shape : Shape) (plan : Plan) → IsActing entries a → Settles entries a b → b.fits ≡ false →
+pub unfit : (entries : List Entry) (a b : Actor) (shape : Shape) (plan : Plan) → IsActing entries a → LookedAt entries a b → b.fits ≡ false →
     IsWholeTrace shape (reverse entries) plan (trace_from a.first a.client) → ⊥
 unfit entries a b shape plan g d f w = unfit_of entries a shape plan g b.fits d.unfit f w
 
-pub trace_is : (entries : List Entry) (a b : Actor) (L : Trace) → Settles entries a b → L ≡ trace_from b.first b.client → L ≡ trace_from a.first a.client
+pub trace_is : (entries : List Entry) (a b : Actor) (L : Trace) → LookedAt entries a b → L ≡ trace_from b.first b.client → L ≡ trace_from a.first a.client
 trace_is entries a b L d is = is ∙ same_trace entries a b d
 
-pub of_part : (entries : List Entry) (a b : Actor) (number first : ℕ) (shape : Shape) (plan : Plan) (L : Trace) → Settles entries a b → a.client.who ≡ identity number shape plan → a.first ≡ first →
+pub of_part : (entries : List Entry) (a b : Actor) (number first : ℕ) (shape : Shape) (plan : Plan) (L : Trace) → LookedAt entries a b → a.client.who ≡ identity number shape plan → a.first ≡ first →
     L ≡ trace_from b.first b.client → IsOf number first plan L
 of_part entries a b number first shape plan L d who from is =
     let who_is : b.client.who ≡ identity number shape plan = ap (λ (x : Actor). x.client.who) d.same ∙ who in

@@ -25,7 +25,7 @@ use Rattle.law_schedule.proofs.DoneFacts.{any-turned}
 use Rattle.sv_report.specs.Report.{trace_text, value_lines}
 use Rattle.sv_report.specs.Again.{lines_after}
 use Rattle.sv_lines.proofs.Splitting.{others_are, number_split}
-use Rattle.sv_check.specs.Parts.{AreEntries, IsJournalPart, IsWholeJournal, IsTraceSoFar, IsWholeTrace, AreFirstTraces, IsOf, IsClientPart, IsWorldPart, IsPart}
+use Rattle.sv_check.specs.Parts.{AreEntries, IsJournalPart, IsWholeJournal, IsTraceSoFar, IsWholeTrace, AreFirstTraces, IsOf, IsClientPart, IsWorldPart, IsReportPart}
 use Rattle.sv_check.proofs.Entries.{entries_tell}
 use Rattle.sv_check.proofs.Journals.{journal_parts, after_none, plain_lines, journals_tell}
 use Rattle.sv_check.proofs.Further.{after, after_start, ComeTo, come, none_more, events_part, some_line}
@@ -203,7 +203,7 @@ module _ (stay : FullRepliesStay) (names : LegalRelaysNameAccepted) (scenario : 
       tells.1 ∙ worlds
 
   -- Behind the journal and all traces a part has nothing, or the world's first lines.
-  pub part_goes : (z : List ℕ) → length (X ++ z) < 2 ^ 64 → IsPart scenario (X ++ z) → (z ≡ []) ⊎ IsWorldOf scenario h z
+  pub part_goes : (z : List ℕ) → length (X ++ z) < 2 ^ 64 → IsReportPart scenario (X ++ z) → (z ≡ []) ⊎ IsWorldOf scenario h z
   part_goes z short (inl none) = inl (none_behind X z none)
   part_goes z short (inr (inl p)) = inl (journal_part z short p)
   part_goes z short (inr (inr (inl p))) = inl (client_part z short p)

@@ -26,7 +26,7 @@ use Rattle.sv_asked.proofs.Facts.{RequestsFit, committed-fits}
 use Rattle.sv_report.specs.Report.{trace_text, value_lines, world_text}
 use Rattle.sv_lines.specs.Lines.{line_width, after_lines, Differs}
 use Rattle.sv_lines.specs.Told.{IsTold}
-use Rattle.sv_check.specs.Parts.{AreEntries, IsWholeJournal, IsWholeTrace, AreFirstTraces, IsOf, IsPart}
+use Rattle.sv_check.specs.Parts.{AreEntries, IsWholeJournal, IsWholeTrace, AreFirstTraces, IsOf, IsReportPart}
 use Rattle.sv_check.specs.Consistent.{IsConsistent, IsReportOfPair, IsReport}
 use Rattle.sv_check.specs.Stopping.{IsStop}
 use Rattle.sv_check.proofs.Reports.{traffic_text, front_apart, all_values, journal_whole, traces_whole, report_full}
@@ -144,7 +144,7 @@ module _ (stay : FullRepliesStay) (names : LegalRelaysNameAccepted) (order : Ste
   front : (k : ℕ) → W ≡ world_front (commit_of h) values k ++ value_lines k (drop k values)
   front k = front_world (commit_of h) values small few_values fits k
 
-  goes : (z : List ℕ) → length (X ++ z) < 2 ^ 64 → IsPart scenario (X ++ z) → (z ≡ []) ⊎ IsWorldOf scenario h z
+  goes : (z : List ℕ) → length (X ++ z) < 2 ^ 64 → IsReportPart scenario (X ++ z) → (z ≡ []) ⊎ IsWorldOf scenario h z
   goes z short p = part_goes stay names scenario good.sessions h journal Ls traces z short p
 
   -- A report has the whole world.
@@ -153,7 +153,7 @@ module _ (stay : FullRepliesStay) (names : LegalRelaysNameAccepted) (order : Ste
       let f = report_full order few messages scenario good numbers (X ++ z) r in
       world_part stay names scenario good.sessions h journal Ls traces z short f.part ∙ ap (λ (n : ℕ). world_front (commit_of h) values n) f.all ∙ full
 
-  traces_part : (plans : List Plan) → scenario.clients ≡ plans → 1 ≤ length plans → IsPart scenario X
+  traces_part : (plans : List Plan) → scenario.clients ≡ plans → 1 ≤ length plans → IsReportPart scenario X
   traces_part [] e some = absurd (omega (arith, some))
   traces_part (plan ∷ plans) e some =
       let t : AreFirstTraces scenario.world.shape h (plan ∷ plans) Ls = subst (λ (ps : List Plan). AreFirstTraces scenario.world.shape h ps Ls) e traces in
@@ -177,7 +177,7 @@ module _ (stay : FullRepliesStay) (names : LegalRelaysNameAccepted) (order : Ste
             ∙ sym (append_assoc J (flat_map (trace_text (reverse h)) m.Ms) (trace_text (reverse h) m.L));
       })))
 
-  world_is_part : (z : List ℕ) (count : ℕ) → count ≤ scenario.world.shape.objects → z ≡ world_front (commit_of h) values count → IsPart scenario (X ++ z)
+  world_is_part : (z : List ℕ) (count : ℕ) → count ≤ scenario.world.shape.objects → z ≡ world_front (commit_of h) values count → IsReportPart scenario (X ++ z)
   world_is_part z count within e = inr (inr (inr (record {
     h = h;
     journal = journal;
@@ -189,12 +189,12 @@ module _ (stay : FullRepliesStay) (names : LegalRelaysNameAccepted) (order : Ste
   })))
 
   -- What was taken is a part.
-  taken_part : (same : List ℕ) → (same ≡ []) ⊎ IsWorldFront (commit_of h) values same → IsPart scenario (X ++ same)
-  taken_part same (inl none) = subst (IsPart scenario) (sym (ap (λ (l : List ℕ). X ++ l) none ∙ append-nil X)) (traces_part scenario.clients refl good.some_clients)
+  taken_part : (same : List ℕ) → (same ≡ []) ⊎ IsWorldFront (commit_of h) values same → IsReportPart scenario (X ++ same)
+  taken_part same (inl none) = subst (IsReportPart scenario) (sym (ap (λ (l : List ℕ). X ++ l) none ∙ append-nil X)) (traces_part scenario.clients refl good.some_clients)
   taken_part same (inr w) = world_is_part same w.count (let within = w.within in let is = size in omega (arith, within, is)) w.text_is
 
   -- A line behind what was taken that makes it a longer part is one of the world's.
-  piece_goes : (y same line next : List ℕ) → length (X ++ y) < 2 ^ 64 → y ≡ same ++ line ++ 10 ∷ next → IsPart scenario ((X ++ same) ++ line ++ 10 ∷ []) →
+  piece_goes : (y same line next : List ℕ) → length (X ++ y) < 2 ^ 64 → y ≡ same ++ line ++ 10 ∷ next → IsReportPart scenario ((X ++ same) ++ line ++ 10 ∷ []) →
       (more : List ℕ) × (W ≡ same ++ ((line ++ 10 ∷ []) ++ more))
   piece_goes y same line next short e p =
       let piece = line ++ 10 ∷ [] in
@@ -203,7 +203,7 @@ module _ (stay : FullRepliesStay) (names : LegalRelaysNameAccepted) (order : Ste
       let whole : y ≡ z ++ next =
       e ∙ append_assoc same line (10 ∷ next) ∙ ap (λ (l : List ℕ). same ++ l) (sym (append_assoc line (10 ∷ []) next)) ∙ sym (append_assoc same piece next) in
       let sum : length (X ++ y) ≡ length (X ++ z) + length next = ap length (ap (λ (l : List ℕ). X ++ l) whole ∙ sym (append_assoc X z next)) ∙ length-append (X ++ z) next in
-      elim (goes z (omega (arith, sum, short)) (subst (IsPart scenario) apart p)) [
+      elim (goes z (omega (arith, sum, short)) (subst (IsReportPart scenario) apart p)) [
         | inl none ↦ (let a = ap length none in let b = length-append same piece in let d = length-append line (10 ∷ []) in absurd (omega (arith, a, b, d)))
         | inr w ↦ (
           value_lines w.count (drop w.count values),

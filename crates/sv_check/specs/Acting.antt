@@ -146,7 +146,7 @@ pub record IsAmiss (entries : List Entry) (a : Actor) : Type 0 where
   pub not_settled : IsSettled (reverse entries) a.asked.items which → ⊥
 
 -- The latest session was looked at.
-pub record Settles (entries : List Entry) (old new : Actor) : Type 0 where
+pub record LookedAt (entries : List Entry) (old new : Actor) : Type 0 where
   pub same : new ≡ record old { fits = new.fits }
   pub fits : new.fits ≡ true → (old.fits ≡ true) × ((s : ℕ) → old.session ≡ Some s → IsSettled (reverse entries) old.asked.items s)
   pub unfit : new.fits ≡ false → (old.fits ≡ false) ⊎ IsAmiss entries old

@@ -59,7 +59,7 @@ pub record HasServedAll (scenario : Scenario) (served : Served) (text : List ℕ
   pub none : whole ≡ false → NoEntry scenario (entries_of served) (after_lines (length (entries_of served)) text)
 
 -- The text begins with the lines of the first of these entries, and not with the next one.
-pub record BreaksOff (shape : Shape) (entries : List Entry) (text : List ℕ) (left : ℕ) : Type 0 where
+pub record TextBreaksOff (shape : Shape) (entries : List Entry) (text : List ℕ) (left : ℕ) : Type 0 where
   pub front : List Entry
   pub next : Entry
   pub more : List Entry

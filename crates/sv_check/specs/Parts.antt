@@ -110,5 +110,5 @@ pub record IsWorldPart (scenario : Scenario) (text : List ℕ) : Type 0 where
 -- ---- Any part
 
 -- Some first lines of a report, with nothing wrong so far.
-abbrev pub IsPart : Scenario → List ℕ → Type 0
-IsPart scenario text = (text ≡ []) ⊎ (IsJournalPart scenario text ⊎ (IsClientPart scenario text ⊎ IsWorldPart scenario text))
+abbrev pub IsReportPart : Scenario → List ℕ → Type 0
+IsReportPart scenario text = (text ≡ []) ⊎ (IsJournalPart scenario text ⊎ (IsClientPart scenario text ⊎ IsWorldPart scenario text))

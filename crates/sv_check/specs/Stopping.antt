@@ -4,7 +4,7 @@ use Rattle.sv_lines.specs.declared.stop.Stop.{Stop}
 use Rattle.sv_lines.specs.declared.stop.Stop.TheVariants as stop
 use Rattle.sv_scenario.specs.declared.scenario.Scenario.{Scenario}
 use Rattle.sv_check.specs.Consistent.{IsReport}
-use Rattle.sv_check.specs.Parts.{IsPart}
+use Rattle.sv_check.specs.Parts.{IsReportPart}
 use Rattle.sv_check.specs.Wrong.{IsWrongNext}
 
 -- All but the last `left` bytes are a part of a report, and the line with which these begin is wrong.
@@ -13,7 +13,7 @@ pub record IsStop (scenario : Scenario) (text : List ℕ) (left : ℕ) : Type 0 
   pub rest : List ℕ
   pub split : text ≡ before ++ rest
   pub left_is : left ≡ length rest
-  pub part : IsPart scenario before
+  pub part : IsReportPart scenario before
   pub wrong : IsWrongNext scenario before rest
   pub none : IsReport scenario text → ⊥
 

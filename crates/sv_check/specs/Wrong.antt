@@ -3,12 +3,12 @@ use Rattle.std.specs.Prelude.{◌≡◌, ◌≢◌, ℕ, suc, List, [], ◌∷�
 use Rattle.sv_lines.specs.Lines.{line_ends}
 use Rattle.sv_scenario.specs.declared.scenario.Scenario.{Scenario}
 use Rattle.sv_check.specs.Consistent.{IsReport}
-use Rattle.sv_check.specs.Parts.{IsPart}
+use Rattle.sv_check.specs.Parts.{IsReportPart}
 
 -- The line that comes next after the text `before` is wrong: it is no further line of a part, or it has no line end, or there is none where
 -- the report is not whole.
 pub record IsWrongNext (scenario : Scenario) (before rest : List ℕ) : Type 0 where
-  pub line : (line next : List ℕ) → All (λ byte. byte ≢ 10) line → rest ≡ line ++ 10 ∷ next → IsPart scenario (before ++ line ++ 10 ∷ []) → ⊥
+  pub line : (line next : List ℕ) → All (λ byte. byte ≢ 10) line → rest ≡ line ++ 10 ∷ next → IsReportPart scenario (before ++ line ++ 10 ∷ []) → ⊥
   pub unfinished : rest ≡ [] → IsReport scenario before → ⊥
 
 -- Line n is the first wrong one, counted from 1, where the place after the last line counts as a line: the lines before it are a part of a
@@ -19,6 +19,6 @@ pub record IsFirstWrong (scenario : Scenario) (text : List ℕ) (n : ℕ) : Type
   pub rest : List ℕ
   pub split : text ≡ before ++ rest
   pub number : n ≡ suc (line_ends before)
-  pub part : IsPart scenario before
+  pub part : IsReportPart scenario before
   pub wrong : IsWrongNext scenario before rest
   pub none : IsReport scenario text → ⊥

@@ -11,7 +11,7 @@ ghost use Rattle.sv_report.specs.Again.{MayDo};
 ghost use Rattle.sv_report.specs.Report.{event_text};
 ghost use Rattle.sv_script.specs.Following.{must_join, is_welcomed, is_finished};
 ghost use Rattle.sv_check.specs.Serving.{HasReplies, entries_of};
-ghost use Rattle.sv_check.specs.Acting.{IsActing, WentOn, IsNextEvent, IsNextPlace, NoNextPlace, NoneComes, Settles, Joined, GotReply, Made, journal_events, begins_got, is_other};
+ghost use Rattle.sv_check.specs.Acting.{IsActing, WentOn, IsNextEvent, IsNextPlace, NoNextPlace, NoneComes, LookedAt, Joined, GotReply, Made, journal_events, begins_got, is_other};
 ghost use Rattle.sv_check.specs.Parts.{AreSomeEntries};
 ghost use Rattle.sv_check.specs.Next.{IsLineOf, NoEvent};
 ghost use Rattle.sv_check.specs.Stopping.{IfWrong};
@@ -116,7 +116,7 @@ fn got_line(alloc: Global, session: u16, number: usize) -> Result<String, AllocE
 impl<'a> Actor<'a> {
     /// Looks whether the journal has the first requests of its latest session.
     pub(crate) fn settle(&mut self, entries: &[Entry])
-        ensures { Settles entries.now self.old self.new }
+        ensures { LookedAt entries.now self.old self.new }
     {
         if let Some(session) = self.session {
             self.fits = self.fits && is_settled(entries, session, self.asked.as_slice());

@@ -10,7 +10,7 @@ ghost use Rattle.sv_system.specs.Records.{rules_of};
 ghost use Rattle.sv_lines.specs.declared.stop.Stop.TheVariants.{Wrong};
 ghost use Rattle.sv_lines.specs.Told.{IsTold};
 ghost use Rattle.sv_check.specs.Serving.{IsServed, AreEnded, entries_of};
-ghost use Rattle.sv_check.specs.Entering.{header_text, NoHeader, lines_of, HasServed, HasServedAll, BreaksOff};
+ghost use Rattle.sv_check.specs.Entering.{header_text, NoHeader, lines_of, HasServed, HasServedAll, TextBreaksOff};
 ghost use Rattle.sv_check.specs.Parts.{IsWholeJournal};
 ghost use Rattle.sv_check.specs.Stopping.{IsStop, IfWrong};
 
@@ -174,7 +174,7 @@ impl Served {
     ) -> Result<&'a [u8], Stop>
         requires { IsServed scenario.now self.now }
         ensures taken { IfOk result (λ rest. text.now ≡ lines_of scenario.now.world.shape (entries_of self.now) ++ rest.now) }
-        ensures wrong { IfWrong result (BreaksOff scenario.now.world.shape (entries_of self.now) text.now) }
+        ensures wrong { IfWrong result (TextBreaksOff scenario.now.world.shape (entries_of self.now) text.now) }
     {
         full_replies_stay();
         legal_relays_name_accepted();

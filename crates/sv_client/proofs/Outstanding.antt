@@ -10,7 +10,7 @@ use Rattle.sv_wire.specs.declared.message.Request.{Request}
 use Rattle.sv_wire.specs.declared.message.Request.TheVariants as requests
 use Rattle.sv_client.specs.declared.trace.Event.{Event}
 use Rattle.sv_client.specs.declared.trace.Event.TheVariants as events
-use Rattle.sv_client.specs.Traces.{joins, makes, current_session, is_session, asked, asked_by, got, done_for, held_of, pending_of, submit_of}
+use Rattle.sv_client.specs.Traces.{joins, makes, current_session, is_session, asked, asked_by_event, got, done_for, held_of, pending_of, submit_of}
 use Rattle.sv_client.specs.Taking.{Identity, outstanding, unanswered, fault_after, first_fault_of_reply}
 use Rattle.sv_client.specs.Proper.{AreProper, MayGet, in_session}
 use Rattle.sv_client.proofs.Sessions.{no_got, no_asked, some_current}
@@ -46,12 +46,12 @@ got_less who t s reply m =
 -- No more is got in a session than was asked in it.
 pub got_within : (who : Identity) (first : ℕ) (t : List Event) → AreProper who first t → (k : ℕ) → length (got t k) ≤ length (asked who.client who.interest t k)
 got_within who first [] p k = omega arith
-got_within who first (events.Join s ∷ t) p k = more_asked (length (got t k)) (asked who.client who.interest t k) (asked_by who.client who.interest t (events.Join s) k) (got_within who first t p.1 k)
-got_within who first (events.Make a ∷ t) p k = more_asked (length (got t k)) (asked who.client who.interest t k) (asked_by who.client who.interest t (events.Make a) k) (got_within who first t p.1 k)
-got_within who first (events.Poll ∷ t) p k = more_asked (length (got t k)) (asked who.client who.interest t k) (asked_by who.client who.interest t events.Poll k) (got_within who first t p.1 k)
-got_within who first (events.Leave ∷ t) p k = more_asked (length (got t k)) (asked who.client who.interest t k) (asked_by who.client who.interest t events.Leave k) (got_within who first t p.1 k)
+got_within who first (events.Join s ∷ t) p k = more_asked (length (got t k)) (asked who.client who.interest t k) (asked_by_event who.client who.interest t (events.Join s) k) (got_within who first t p.1 k)
+got_within who first (events.Make a ∷ t) p k = more_asked (length (got t k)) (asked who.client who.interest t k) (asked_by_event who.client who.interest t (events.Make a) k) (got_within who first t p.1 k)
+got_within who first (events.Poll ∷ t) p k = more_asked (length (got t k)) (asked who.client who.interest t k) (asked_by_event who.client who.interest t events.Poll k) (got_within who first t p.1 k)
+got_within who first (events.Leave ∷ t) p k = more_asked (length (got t k)) (asked who.client who.interest t k) (asked_by_event who.client who.interest t events.Leave k) (got_within who first t p.1 k)
 got_within who first (events.Got s reply ∷ t) p k =
-    more_asked (length (got (events.Got s reply ∷ t) k)) (asked who.client who.interest t k) (asked_by who.client who.interest t (events.Got s reply) k)
+    more_asked (length (got (events.Got s reply ∷ t) k)) (asked who.client who.interest t k) (asked_by_event who.client who.interest t (events.Got s reply) k)
     (got_one (eqb s k) (got t k) reply (length (asked who.client who.interest t k)) (λ same. subst (λ (n : ℕ). length (got t n) < length (asked who.client who.interest t n)) (eqb-true s k same) (got_less who t s reply p.0)) (got_within who first t p.1 k))
 got_within who first (events.Cut ∷ t) p k = more_asked (length (got t k)) (asked who.client who.interest t k) [] (got_within who first t p.1 k)
 got_within who first (events.Quit ∷ t) p k = more_asked (length (got t k)) (asked who.client who.interest t k) [] (got_within who first t p.1 k)
@@ -79,8 +79,8 @@ when false xs ys e = cc
 
 -- One more request is outstanding after an event that asks one of the last session.
 asked_more : (who : Identity) (first : ℕ) (t : List Event) → AreProper who first t → (s : ℕ) → current_session t ≡ Some s → (e : Event) (rs : List Request)
-    → asked_by who.client who.interest t e s ≡ rs
-    → drop (length (got t s)) (asked who.client who.interest t s ++ asked_by who.client who.interest t e s) ≡ outstanding who t ++ rs
+    → asked_by_event who.client who.interest t e s ≡ rs
+    → drop (length (got t s)) (asked who.client who.interest t s ++ asked_by_event who.client who.interest t e s) ≡ outstanding who t ++ rs
 asked_more who first t p s c e rs h =
     ap (λ (xs : List Request). drop (length (got t s)) (asked who.client who.interest t s ++ xs)) h ∙ more_asked_now who first t p s c rs
 
@@ -105,7 +105,7 @@ outstanding_left who first t p j =
     ap (unanswered who (events.Leave ∷ t)) c.1
     ∙ asked_more who first t p c.0 c.1 events.Leave (requests.Leave ∷ []) (when (is_session (current_session t) c.0) _ _ (is_current t c.0 c.1))
 
-no_more : (who : Identity) (t : List Event) (e : Event) (o : Option ℕ) → ((s : ℕ) → got (e ∷ t) s ≡ got t s) → ((s : ℕ) → asked_by who.client who.interest t e s ≡ [])
+no_more : (who : Identity) (t : List Event) (e : Event) (o : Option ℕ) → ((s : ℕ) → got (e ∷ t) s ≡ got t s) → ((s : ℕ) → asked_by_event who.client who.interest t e s ≡ [])
     → unanswered who (e ∷ t) o ≡ unanswered who t o
 no_more who t e None g a = refl
 no_more who t e (Some s) g a = rw (g s, a s, append-nil (asked who.client who.interest t s)) refl

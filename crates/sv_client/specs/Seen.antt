@@ -12,7 +12,7 @@ use Rattle.sv_client.specs.declared.trace.Mark.TheVariants as marks
 use Rattle.sv_client.specs.declared.trace.Trace.{Trace}
 use Rattle.sv_client.specs.declared.fault.TakeFault.{TakeFault}
 use Rattle.sv_client.specs.declared.fault.TakeFault.TheVariants as faults
-use Rattle.sv_client.specs.Traces.{current_session, asked_by}
+use Rattle.sv_client.specs.Traces.{current_session, asked_by_event}
 use Rattle.sv_client.specs.Taking.{Identity, Fault, Unasked, WrongKind, BadOrder, BadItem, Missing}
 
 -- A client: who it is, the events of its trace with the latest first, where its first session is 0, and the values that its store holds.
@@ -35,7 +35,7 @@ latest_session t = unwrap_or (current_session t) 0
 
 -- The requests that an event asks, after the events t: of the session that then is the last one.
 abbrev pub newly_asked : Identity → List Event → Event → List Request
-newly_asked who t e = asked_by who.client who.interest t e (latest_session (e ∷ t))
+newly_asked who t e = asked_by_event who.client who.interest t e (latest_session (e ∷ t))
 
 -- The fault of a reply that a refusal names. Running out of memory is no fault of the reply.
 abbrev pub fault_named : TakeFault → Option Fault

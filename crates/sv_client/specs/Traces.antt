@@ -143,19 +143,19 @@ abbrev pub submit_of : PendingAction → Request
 submit_of p = requests.Submit p.seq p.action
 
 -- The requests that an event asks of session s, after the events t.
-abbrev pub asked_by : ClientId → List ObjectId → List Event → Event → ℕ → List Request
-asked_by client interest t (events.Join n) s =
+abbrev pub asked_by_event : ClientId → List ObjectId → List Event → Event → ℕ → List Request
+asked_by_event client interest t (events.Join n) s =
     if n == s then requests.Join client (suc (joins t)) interest ∷ map submit_of (pending_of t) else []
-asked_by client interest t (events.Make action) s =
+asked_by_event client interest t (events.Make action) s =
     if is_session (current_session t) s then requests.Submit (suc (makes t)) action ∷ [] else []
-asked_by client interest t events.Poll s = if is_session (current_session t) s then requests.Poll ∷ [] else []
-asked_by client interest t events.Leave s = if is_session (current_session t) s then requests.Leave ∷ [] else []
-asked_by client interest t (events.Got n reply) s = if n == s then done_for (held_of t) reply else []
-asked_by client interest t _ s = []
+asked_by_event client interest t events.Poll s = if is_session (current_session t) s then requests.Poll ∷ [] else []
+asked_by_event client interest t events.Leave s = if is_session (current_session t) s then requests.Leave ∷ [] else []
+asked_by_event client interest t (events.Got n reply) s = if n == s then done_for (held_of t) reply else []
+asked_by_event client interest t _ s = []
 
 abbrev pub asked : ClientId → List ObjectId → List Event → ℕ → List Request
 asked client interest [] s = []
-asked client interest (e ∷ t) s = asked client interest t s ++ asked_by client interest t e s
+asked client interest (e ∷ t) s = asked client interest t s ++ asked_by_event client interest t e s
 
 -- The requests of a session that a trace asks, in order.
 abbrev pub requests_of : Trace → ℕ → List Request

@@ -6,7 +6,7 @@ use Rattle.sv_scenario.specs.declared.scenario.Scenario.{Scenario}
 use Rattle.sv_scenario.specs.Scenarios.{scenario_of}
 use Rattle.sv_command.specs.declared.ending.Ending.{Ending}
 use Rattle.sv_command.specs.declared.ending.Ending.TheVariants as endings
-use Rattle.sv_command.specs.Reading.{read_limit, held_of, IsFileFront, IsRead, IsRefused, IsNoScenario, HoldsScenario}
+use Rattle.sv_command.specs.Reading.{read_limit, held_by_file, IsFileFront, IsRead, IsRefused, IsNoScenario, HoldsScenario}
 use Rattle.sv_command.specs.Statuses.{Counts, Raises, IsGiven, IsScenarioRead, IsUnread, ending_of}
 use Rattle.sv_command.proofs.Counts.{came}
 
@@ -86,10 +86,10 @@ always P Q None p = tt
 always P Q (Some all) p = λ q. p
 
 -- Where no file is named, nothing is held.
-pub unheld : (P : List ℕ → Type 0) (contents : List ℕ → Option (List ℕ)) (named : Option (List ℕ)) → named ≡ None → IfSome (held_of contents named) P
+pub unheld : (P : List ℕ → Type 0) (contents : List ℕ → Option (List ℕ)) (named : Option (List ℕ)) → named ≡ None → IfSome (held_by_file contents named) P
 unheld P contents None n = tt
 unheld P contents (Some name) n = absurd cc
 
-pub unnamed : (contents : List ℕ → Option (List ℕ)) (named : Option (List ℕ)) → named ≡ None → HoldsScenario (held_of contents named) → ⊥
+pub unnamed : (contents : List ℕ → Option (List ℕ)) (named : Option (List ℕ)) → named ≡ None → HoldsScenario (held_by_file contents named) → ⊥
 unnamed contents None n can = can
 unnamed contents (Some name) n can = cc

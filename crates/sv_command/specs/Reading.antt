@@ -10,8 +10,8 @@ abbrev pub read_limit : ℕ
 read_limit = 4194305
 
 -- What the file that is named holds, where there is one and that is told.
-abbrev pub held_of : (List ℕ → Option (List ℕ)) → Option (List ℕ) → Option (List ℕ)
-held_of contents named = option_and_then contents named
+abbrev pub held_by_file : (List ℕ → Option (List ℕ)) → Option (List ℕ) → Option (List ℕ)
+held_by_file contents named = option_and_then contents named
 
 -- The bytes that were read of a file, by what it holds, where that is told.
 abbrev pub IsFileFront : Option (List ℕ) → List ℕ → Type 0

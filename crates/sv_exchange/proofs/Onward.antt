@@ -4,7 +4,7 @@ use Rattle.std.proofs.lemmas.List.{take-append-drop, drop-drop, take_at, length-
 use Rattle.sv_link.specs.declared.side.Side.{Side}
 use Rattle.sv_link.specs.declared.side.Side.TheVariants.{Server, Client}
 use Rattle.sv_link.specs.Sides.{SideView, LinkView, other, side_of, with_side, unread, after_read, after_write}
-use Rattle.sv_exchange.specs.Streams.{IsWithin, IsReadOn, IsSameToRead, IsSameLink, Wrote}
+use Rattle.sv_exchange.specs.Streams.{IsWithin, SideReadOn, IsSameToRead, IsSameLink, Wrote}
 
 pub side_with_same : (link : LinkView) (side : Side) (x : SideView) → side_of (with_side link side x) side ≡ x
 side_with_same link Server x = refl
@@ -34,11 +34,11 @@ own_closed old new side piece wrote =
     let after = after_write (side_of wrote.link side) piece in
     ap (λ (l : LinkView). (side_of l side).closed) wrote.written ∙ (ap (λ (x : SideView). x.closed) (side_with_same wrote.link side after) ∙ (same_side old wrote.link side wrote.same).closed)
 
-pub read_on_none : (link : LinkView) (side : Side) → IsWithin (side_of link (other side)) → IsReadOn link link side
+pub read_on_none : (link : LinkView) (side : Side) → IsWithin (side_of link (other side)) → SideReadOn link link side
 read_on_none link side within = record { own = refl; written = refl; closed = refl; within = within }
 
 -- after so many bytes more of the other side were read
-pub read_on_more : (first old new : LinkView) (side : Side) (count : ℕ) → new ≡ with_side old (other side) (after_read (side_of old (other side)) count) → count ≤ length (unread (side_of old (other side))) → IsReadOn first old side → IsReadOn first new side
+pub read_on_more : (first old new : LinkView) (side : Side) (count : ℕ) → new ≡ with_side old (other side) (after_read (side_of old (other side)) count) → count ≤ length (unread (side_of old (other side))) → SideReadOn first old side → SideReadOn first new side
 read_on_more first old new side count e few so_far =
     let sender = side_of old (other side) in
     let is : side_of new (other side) ≡ after_read sender count = ap (λ (l : LinkView). side_of l (other side)) e ∙ side_with_same old (other side) (after_read sender count) in

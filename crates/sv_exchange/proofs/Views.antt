@@ -11,7 +11,7 @@ use Rattle.sv_wire.specs.Messages.{request_at, reply_at}
 use Rattle.sv_wire.specs.Spelling.{request_bytes, reply_bytes}
 use Rattle.sv_exchange.specs.declared.carrying.Buffers.{Buffers}
 use Rattle.sv_exchange.specs.declared.exchange.Exchange.TheInside.{Inside}
-use Rattle.sv_exchange.specs.Streams.{IsReadOn, IsSameLink, Wrote}
+use Rattle.sv_exchange.specs.Streams.{SideReadOn, IsSameLink, Wrote}
 use Rattle.sv_exchange.specs.Carried.{waiting, TakesFirst}
 use Rattle.sv_exchange.specs.View.{ExchangeView, TakesRequest, TakesReply}
 use Rattle.sv_exchange.specs.Invariant.{view_of, IsExchange}
@@ -77,7 +77,7 @@ reply_sent e link m is message wrote =
 abbrev pub server_read : Inside → LinkView → List ℕ → Inside
 server_read e link server = record { alloc = e.alloc; link = link; server = server; client = e.client; buffers = e.buffers }
 
-pub request_taken : {F : Type 0} (e : Inside) (link : LinkView) (server : List ℕ) (r : Result (Option Request) F) → IsReadOn e.link link Server →
+pub request_taken : {F : Type 0} (e : Inside) (link : LinkView) (server : List ℕ) (r : Result (Option Request) F) → SideReadOn e.link link Server →
     IfOk r (λ answer. TakesFirst answer (waiting request_at e.server e.link.client) (waiting request_at server link.client)) →
     IfOk r (λ answer. TakesRequest (view_of e) (view_of (server_read e link server)) answer)
 request_taken e link server (Ok None) on taken =
@@ -86,7 +86,7 @@ request_taken e link server (Ok (Some m)) on taken =
     same_view _ _ _ _ _ _ _ _ taken (ap (waiting reply_at e.client) (sym on.own)) (sym on.closed) (ap (λ (x : SideView). x.closed) (sym on.own))
 request_taken e link server (Err f) on taken = tt
 
-pub request_stays : {X F : Type 0} (e : Inside) (link : LinkView) (server : List ℕ) (r : Result X F) → IsReadOn e.link link Server →
+pub request_stays : {X F : Type 0} (e : Inside) (link : LinkView) (server : List ℕ) (r : Result X F) → SideReadOn e.link link Server →
     OnErr r (waiting request_at server link.client ≡ waiting request_at e.server e.link.client) → OnErr r (view_of (server_read e link server) ≡ view_of e)
 request_stays e link server (Ok x) on same = tt
 request_stays e link server (Err f) on same =
@@ -95,7 +95,7 @@ request_stays e link server (Err f) on same =
 abbrev pub client_read : Inside → LinkView → List ℕ → Inside
 client_read e link client = record { alloc = e.alloc; link = link; server = e.server; client = client; buffers = e.buffers }
 
-pub reply_taken : {F : Type 0} (e : Inside) (link : LinkView) (client : List ℕ) (r : Result (Option Reply) F) → IsReadOn e.link link Client →
+pub reply_taken : {F : Type 0} (e : Inside) (link : LinkView) (client : List ℕ) (r : Result (Option Reply) F) → SideReadOn e.link link Client →
     IfOk r (λ answer. TakesFirst answer (waiting reply_at e.client e.link.server) (waiting reply_at client link.server)) →
     IfOk r (λ answer. TakesReply (view_of e) (view_of (client_read e link client)) answer)
 reply_taken e link client (Ok None) on taken =
@@ -104,7 +104,7 @@ reply_taken e link client (Ok (Some m)) on taken =
     same_view _ _ _ _ _ _ _ _ (ap (waiting request_at e.server) (sym on.own)) taken (ap (λ (x : SideView). x.closed) (sym on.own)) (sym on.closed)
 reply_taken e link client (Err f) on taken = tt
 
-pub reply_stays : {X F : Type 0} (e : Inside) (link : LinkView) (client : List ℕ) (r : Result X F) → IsReadOn e.link link Client →
+pub reply_stays : {X F : Type 0} (e : Inside) (link : LinkView) (client : List ℕ) (r : Result X F) → SideReadOn e.link link Client →
     OnErr r (waiting reply_at client link.server ≡ waiting reply_at e.client e.link.server) → OnErr r (view_of (client_read e link client) ≡ view_of e)
 reply_stays e link client (Ok x) on same = tt
 reply_stays e link client (Err f) on same =

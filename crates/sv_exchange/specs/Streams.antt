@@ -13,7 +13,7 @@ abbrev pub IsWithin : SideView → Type 0
 IsWithin side = side.read ≤ length side.written
 
 -- one side read on, and nothing else changed
-pub record IsReadOn (old new : LinkView) (side : Side) : Type 0 where
+pub record SideReadOn (old new : LinkView) (side : Side) : Type 0 where
   pub own : side_of new side ≡ side_of old side
   pub written : (side_of new (other side)).written ≡ (side_of old (other side)).written
   pub closed : (side_of new (other side)).closed ≡ (side_of old (other side)).closed

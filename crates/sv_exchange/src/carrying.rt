@@ -2,7 +2,7 @@
 ghost use Rattle.std.specs.Prelude.{◌≡◌, IfOk, OnOk, OnErr, IfSome};
 ghost use Rattle.sv_frame.specs.Frames.{frame};
 ghost use Rattle.sv_link.specs.Sides.{other, side_of};
-ghost use Rattle.sv_exchange.specs.Streams.{IsReadOn, IsSameLink, Wrote};
+ghost use Rattle.sv_exchange.specs.Streams.{SideReadOn, IsSameLink, Wrote};
 ghost use Rattle.sv_exchange.specs.Carried.{IsLane, TakesFirst, waiting};
 
 use crate::inbox::{Inbox, Incoming};
@@ -56,7 +56,7 @@ pub(crate) fn take<M: Message>(
 ) -> Result<Option<M>, AllocError>
     requires lane { IsLane M.is_message M.spelled M.read_at inbox.old (side_of link.old (other side)) }
     ensures lane { IsLane M.is_message M.spelled M.read_at inbox.new (side_of link.new (other side)) }
-    ensures link { IsReadOn link.old link.new side }
+    ensures link { SideReadOn link.old link.new side }
     ensures taken { IfOk result (λ answer. TakesFirst answer (waiting M.read_at inbox.old (side_of link.old (other side))) (waiting M.read_at inbox.new (side_of link.new (other side)))) }
     ensures message { IfOk result (λ answer. IfSome answer M.is_message) }
     ensures err { OnErr result (waiting M.read_at inbox.new (side_of link.new (other side)) ≡ waiting M.read_at inbox.old (side_of link.old (other side))) }

@@ -1,7 +1,7 @@
 //! Reading a link into a frame reader.
 ghost use Rattle.std.specs.Prelude.{◌≡◌, ◌≤◌, [], ◌++◌, length};
 ghost use Rattle.sv_link.specs.Sides.{other, side_of, unread};
-ghost use Rattle.sv_exchange.specs.Streams.{IsWithin, IsReadOn, IsFilled};
+ghost use Rattle.sv_exchange.specs.Streams.{IsWithin, SideReadOn, IsFilled};
 
 use sv_frame::FrameReader;
 use sv_link::{MemLink, Side};
@@ -14,7 +14,7 @@ pub(crate) fn fill(link: &mut MemLink, side: Side, reader: &mut FrameReader)
     requires { IsWithin (side_of link.old (other side)) }
     ensures same { reader.new ++ unread (side_of link.new (other side)) ≡ reader.old ++ unread (side_of link.old (other side)) }
     ensures filled { IsFilled reader.new (unread (side_of link.new (other side))) }
-    ensures link { IsReadOn link.old link.new side }
+    ensures link { SideReadOn link.old link.new side }
 {
     let mut piece = [0; MOVED_AT_ONCE];
     while link.waiting(side) > 0 && reader.spare() > 0 {

@@ -5,7 +5,7 @@ ghost use Rattle.sv_link.specs.Sides.{other, side_of, unread};
 ghost use Rattle.sv_frame.specs.Answers.{ReadsInto, Skips};
 ghost use Rattle.sv_frame.specs.Frames.{greatest_frame, first_frame};
 ghost use Rattle.sv_exchange.specs.Incoming.{ReadsFirst, Takes, KeepsRoom, first_payload_of, IsReadAs};
-ghost use Rattle.sv_exchange.specs.Streams.{IsFilled, IsReadOn, IsWithin, not_taken};
+ghost use Rattle.sv_exchange.specs.Streams.{IsFilled, SideReadOn, IsWithin, not_taken};
 
 use crate::filling::fill;
 use crate::message::Message;
@@ -76,7 +76,7 @@ impl Inbox {
         requires { IsWithin (side_of link.old (other side)) }
         ensures same { not_taken self.new (side_of link.new (other side)) ≡ not_taken self.old (side_of link.old (other side)) }
         ensures filled { IsFilled self.new (unread (side_of link.new (other side))) }
-        ensures link { IsReadOn link.old link.new side }
+        ensures link { SideReadOn link.old link.new side }
     {
         fill(link, side, &mut self.reader);
     }

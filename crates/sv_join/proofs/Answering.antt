@@ -12,14 +12,14 @@ use Rattle.sv_player.specs.declared.outcome.ReplyFault.{ReplyFault}
 use Rattle.sv_join.specs.Legal.{IsLegalServer}
 use Rattle.sv_join.specs.declared.outcome.JoinFault.{JoinFault}
 use Rattle.sv_join.specs.declared.outcome.JoinFault.TheVariants as join_faults
-use Rattle.sv_join.specs.Joining.{Passed, passages_of, IsPlay, IsLeft, ConnectCause, DoorCause, answer_of}
+use Rattle.sv_join.specs.Joining.{Passed, passages_of, IsPlay, IsLeftOfPlay, ConnectCause, DoorCause, answer_of}
 
 module _ {E : Type 0} (told : E → Told) (faults : E → ℕ) (calm : E → Type 0) where
   pub left_of : (scenario : Scenario) (k : ℕ) (door : Passed) (before now : ℕ) (trace : Trace) (cause : PlayerCause) (lines : Vec (List ℕ) Global)
       → IsPlay told faults calm scenario k door trace cause → (cause ≢ causes.Memory → lines.items ≡ told_lines trace)
       → ((session : ℕ) (payload : Vec ℕ Global) (fault : ReplyFault) (play : IsPlay told faults calm scenario k door trace (causes.BadReply session payload fault))
       → IsLegalServer scenario trace (passages_of told faults play.left) → ⊥)
-      → IsLeft told faults calm scenario k door before now (answer_of cause trace lines)
+      → IsLeftOfPlay told faults calm scenario k door before now (answer_of cause trace lines)
   left_of scenario k door before now trace causes.Finished lines play told_is never =
       record { cause = causes.Finished; ended = inl refl; play = play; to_end = play.follows.finished refl; lines = told_is (λ e. cc) }
   left_of scenario k door before now trace causes.Quit lines play told_is never =
@@ -32,7 +32,7 @@ module _ {E : Type 0} (told : E → Told) (faults : E → ℕ) (calm : E → Typ
 
   -- an end could not be made
   pub left_unmade : (scenario : Scenario) (k : ℕ) (door : Passed) (before now : ℕ) (fault : JoinFault) → ConnectCause {A = Unit {0}} before now (Err fault)
-      → IsLeft told faults calm scenario k door before now (Err fault)
+      → IsLeftOfPlay told faults calm scenario k door before now (Err fault)
   left_unmade scenario k door before now join_faults.Link cause = inl cause
   left_unmade scenario k door before now join_faults.Memory cause = tt
   left_unmade scenario k door before now (join_faults.Reply fault) cause = absurd cause

@@ -8,7 +8,7 @@ use Rattle.sv_link.specs.Ends.{Told}
 use Rattle.sv_scenario.specs.declared.scenario.Scenario.{Scenario}
 use Rattle.sv_scenario.specs.Scenarios.{scenario_of}
 use Rattle.sv_command.specs.declared.ending.Ending.TheVariants as plain
-use Rattle.sv_command.specs.Reading.{IsRead, IsRefused, HoldsScenario, held_of, read_limit}
+use Rattle.sv_command.specs.Reading.{IsRead, IsRefused, HoldsScenario, held_by_file, read_limit}
 use Rattle.sv_command.specs.Statuses.{Counts, NoneRose}
 use Rattle.sv_command.proofs.Held.{Faulty, always, both, same_scenario, read_is, holds_none}
 use Rattle.sv_command.proofs.Statuses.{words_is as plain_words_is, file_is as plain_file_is, link_is as plain_link_is, quiet, untold}
@@ -278,7 +278,7 @@ module _ {E : Type 0} (told : E → Told) (faults : E → ℕ) (calm : E → Typ
     range_is (Some x) e w h = range_of x (contents x.file) e h
 
     pub told_is : (t0 t1 : Option (List ℕ)) (n0 n1 : ℕ) (a : Option Asked) (e : JoinEnding) → ((e ≡ endings.Plain plain.Words) ↔ (a ≡ None)) → AllEnds a e → GrewOrRose t0 t1 n0 n1 (line_of e (named_by a))
-        → TellsStatus told faults calm a (held_of contents (named_by a)) (named_by a) door (status_of e) t0 t1 n0 n1
+        → TellsStatus told faults calm a (held_by_file contents (named_by a)) (named_by a) door (status_of e) t0 t1 n0 n1
     told_is t0 t1 n0 n1 None e w h t =
         let is = w.1 refl in
         let two : status_of e ≡ 2 = ap status_of is in
@@ -289,7 +289,7 @@ module _ {E : Type 0} (told : E → Told) (faults : E → ℕ) (calm : E → Typ
     nothing_is None e h alone z f = alone refl
     nothing_is (Some x) e h alone z f = (leaves_is x (contents x.file) e h).nothing z f
 
-    pub complete_is : (b c : Counts) (a : Option Asked) (e : JoinEnding) → AllEnds a e → Raises b c e → HoldsScenario (held_of contents (named_by a)) → NoneRose b c
+    pub complete_is : (b c : Counts) (a : Option Asked) (e : JoinEnding) → AllEnds a e → Raises b c e → HoldsScenario (held_by_file contents (named_by a)) → NoneRose b c
         → (status_of e ≡ 0) ⊎ (status_of e ≡ 6) ⊎ (status_of e ≡ 8) ⊎ ((10 ≤ status_of e) × (status_of e ≤ 12))
     complete_is b c None e h r can none = absurd can
     complete_is b c (Some x) e h r can none = complete_of x (contents x.file) b c e h r can none

@@ -36,7 +36,7 @@ use Rattle.sv_system.specs.Records.{rules_of}
 use Rattle.sv_asked.specs.Asked.{RepliesAreMessages}
 use Rattle.sv_asked.proofs.Every.{each-append, each-right}
 use Rattle.sv_exchange.proofs.Sizes.{reply_short, reply_back}
-use Rattle.sv_player.specs.Carried.{BeginsWith}
+use Rattle.sv_player.specs.Carried.{BeginsWithReplies}
 use Rattle.sv_player.specs.Stops.{IsBadRest, first_payload}
 use Rattle.sv_player.specs.Played.{IsOpenSession, replies_of}
 use Rattle.sv_player.specs.declared.outcome.ReplyFault.{ReplyFault}
@@ -125,7 +125,7 @@ at_length (y ∷ ys) w ws = at_length ys w ws
 module _ (law : NeverRefused) (messages : RepliesAreMessages) (scenario : Scenario) (good : IsGoodScenario scenario) (opening : All ValueFits scenario.world.values)
     (L : Trace) (script : List Step) (few : length script ≤ 256) (proper : Proper scenario.world.shape L) (follows : Follows scenario.world.shape script L) (passages : List Passage)
     (server : IsLegalServer scenario L passages) (s : ℕ) (p : Passage) (there : slice_get passages s ≡ Some p) (session : IsOpenSession L s)
-    (rest : List ℕ) (begins : BeginsWith p.received (replies_of L s) rest) where
+    (rest : List ℕ) (begins : BeginsWithReplies p.received (replies_of L s) rest) where
   abbrev own : Identity
   own = identity_of scenario.world.shape L
 

@@ -30,7 +30,7 @@ use Rattle.sv_system.specs.Laws.{NeverRefused}
 use Rattle.sv_door.specs.Doors.{Passage, passage_of}
 use Rattle.sv_join.specs.declared.steady.Steady.{Steady}
 use Rattle.sv_join.specs.Legal.{IsLegalServer}
-use Rattle.sv_join.specs.Joining.{Passed, passed, passages_of, IsPlay, IsNewEnd, IsClientOf}
+use Rattle.sv_join.specs.Joining.{Passed, passed, passages_of, IsPlay, IsNewEnd, IsScenarioClient}
 use Rattle.sv_join.proofs.Places.{EachPlace, map_at}
 use Rattle.sv_join.proofs.Lawful.{not_refused}
 use Rattle.sv_join.proofs.Unwrapping.{inner, steady_told, steady_faults, steady_calm, done_inside, cause_inside, new_inside}
@@ -41,7 +41,7 @@ plan_at P (x ∷ plans) zero plan all e = subst P (same_Some x plan e) all.0
 plan_at P (x ∷ plans) (suc k) plan all e = plan_at P plans k plan all.1 e
 
 -- the client that its number names
-pub client_as : (scenario : Scenario) (k : ℕ) (plan : Plan) (client : ClientView) → IsClientOf scenario k client → slice_get scenario.clients k ≡ Some plan → client ≡ new_client (record { 0 = k }) scenario.world.shape plan.interest
+pub client_as : (scenario : Scenario) (k : ℕ) (plan : Plan) (client : ClientView) → IsScenarioClient scenario k client → slice_get scenario.clients k ≡ Some plan → client ≡ new_client (record { 0 = k }) scenario.world.shape plan.interest
 client_as scenario k plan client x is =
     x.client_is ∙ ap (λ (p : Plan). new_client (record { 0 = k }) scenario.world.shape p.interest) (same_Some x.plan plan (sym x.plan_is ∙ is))
 
@@ -68,7 +68,7 @@ few_sessions scenario good k plan e =
     let all = good.sessions in
     omega (arith, own, all)
 
-pub may_play : (scenario : Scenario) → IsGoodScenario scenario → (k : ℕ) (plan : Plan) (client : ClientView) (steps : List Step) → IsClientOf scenario k client → slice_get scenario.clients k ≡ Some plan → steps ≡ plan.steps
+pub may_play : (scenario : Scenario) → IsGoodScenario scenario → (k : ℕ) (plan : Plan) (client : ClientView) (steps : List Step) → IsScenarioClient scenario k client → slice_get scenario.clients k ≡ Some plan → steps ≡ plan.steps
     → MayPlay client.who steps
 may_play scenario good k plan client steps x is same =
     let who : Identity = record { client = record { 0 = k }; interest = plan.interest; shape = scenario.world.shape } in
@@ -120,7 +120,7 @@ module _ {E : Type 0} (told : E → Told) (faults : E → ℕ) (calm : E → Typ
       }
 
   pub played : (S : Type 0) (scenario : Scenario) (k made : ℕ) (before now : List Passage) (plan : Plan) (client : ClientView) (steps : List Step) (trace : Trace) (cause : PlayerCause) (old new : List (Steady E))
-      → IsClientOf scenario k client → slice_get scenario.clients k ≡ Some plan → steps ≡ plan.steps → length old ≡ sessions_of_plan plan
+      → IsScenarioClient scenario k client → slice_get scenario.clients k ≡ Some plan → steps ≡ plan.steps → length old ≡ sessions_of_plan plan
       → EachPlace (λ j (s : Steady E). IsNewEnd told faults calm S (made + j) s.end) old
       → AreDone (steady_told told faults calm) (steady_faults told faults calm) (steady_calm told faults calm) trace cause 0 old new
       → now ≡ before ++ passages_of (λ (s : Steady E). told s.end) (λ (s : Steady E). faults s.end) new

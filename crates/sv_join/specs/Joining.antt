@@ -61,7 +61,7 @@ module _ {E : Type 0} (told : E → Told) (faults : E → ℕ) (calm : E → Typ
     pub shows : IsCause told faults calm scenario.world.shape trace 0 ends left cause
 
   -- Client k came to the end of its script: it left, or quit. The lines tell the changes of its views.
-  pub record IsJoined (scenario : Scenario) (k : ℕ) (door : Passed) (joined : Joined) : Type 0 where
+  pub record IsWholePlay (scenario : Scenario) (k : ℕ) (door : Passed) (joined : Joined) : Type 0 where
     pub cause : PlayerCause
     pub ended : (cause ≡ causes.Finished) ⊎ (cause ≡ causes.Quit)
     pub play : IsPlay scenario k door joined.trace cause
@@ -69,12 +69,12 @@ module _ {E : Type 0} (told : E → Told) (faults : E → ℕ) (calm : E → Typ
     pub lines : joined.lines.items ≡ told_lines joined.trace
 
   -- Client k was stopped by a fault of an end, in the session that it has open.
-  pub record IsBroken (scenario : Scenario) (k : ℕ) (door : Passed) : Type 0 where
+  pub record IsBrokenPlay (scenario : Scenario) (k : ℕ) (door : Passed) : Type 0 where
     pub trace : Trace
     pub play : IsPlay scenario k door trace causes.LinkFault
 
   -- Client k was stopped by a reply that it does not take, in the session that it has open.
-  pub record IsRefusing (scenario : Scenario) (k : ℕ) (door : Passed) (fault : ReplyFault) : Type 0 where
+  pub record IsRefusingPlay (scenario : Scenario) (k : ℕ) (door : Passed) (fault : ReplyFault) : Type 0 where
     pub trace : Trace
     pub session : ℕ
     pub payload : Vec ℕ Global
@@ -83,17 +83,17 @@ module _ {E : Type 0} (told : E → Told) (faults : E → ℕ) (calm : E → Typ
     pub lawless : IsLegalServer scenario trace (passages_of told faults play.left) → ⊥
 
   -- Client k awaits a reply over an end that told that no more will come, in the session that it has open.
-  pub record IsClosed (scenario : Scenario) (k : ℕ) (door : Passed) : Type 0 where
+  pub record IsClosedPlay (scenario : Scenario) (k : ℕ) (door : Passed) : Type 0 where
     pub trace : Trace
     pub play : IsPlay scenario k door trace causes.Closed
 
   -- what is left of a play, by what it answers
-  abbrev pub IsLeft : Scenario → ℕ → Passed → (faults_before faults_now : ℕ) → Result Joined JoinFault → Type 0
-  IsLeft scenario k door before now (Ok joined) = IsJoined scenario k door joined
-  IsLeft scenario k door before now (Err join_faults.Link) = Rose before now ⊎ IsBroken scenario k door
-  IsLeft scenario k door before now (Err (join_faults.Reply fault)) = IsRefusing scenario k door fault
-  IsLeft scenario k door before now (Err join_faults.Closed) = IsClosed scenario k door
-  IsLeft scenario k door before now (Err join_faults.Memory) = Unit {0}
+  abbrev pub IsLeftOfPlay : Scenario → ℕ → Passed → (faults_before faults_now : ℕ) → Result Joined JoinFault → Type 0
+  IsLeftOfPlay scenario k door before now (Ok joined) = IsWholePlay scenario k door joined
+  IsLeftOfPlay scenario k door before now (Err join_faults.Link) = Rose before now ⊎ IsBrokenPlay scenario k door
+  IsLeftOfPlay scenario k door before now (Err (join_faults.Reply fault)) = IsRefusingPlay scenario k door fault
+  IsLeftOfPlay scenario k door before now (Err join_faults.Closed) = IsClosedPlay scenario k door
+  IsLeftOfPlay scenario k door before now (Err join_faults.Memory) = Unit {0}
 
 -- the door's count of faults rises just where an end could not be made
 abbrev pub DoorCause : {A : Type 0} → ℕ → ℕ → Result A JoinFault → Type 0
@@ -118,7 +118,7 @@ answer_of (causes.BadReply session payload fault) trace lines = Err (join_faults
 answer_of causes.Memory trace lines = Err join_faults.Memory
 
 -- client k of the scenario, which did nothing yet
-pub record IsClientOf (scenario : Scenario) (k : ℕ) (client : ClientView) : Type 0 where
+pub record IsScenarioClient (scenario : Scenario) (k : ℕ) (client : ClientView) : Type 0 where
   pub plan : Plan
   pub plan_is : slice_get scenario.clients k ≡ Some plan
   pub client_is : client ≡ new_client (record { 0 = k }) scenario.world.shape plan.interest

@@ -16,7 +16,7 @@ use Rattle.sv_join.specs.declared.outcome.JoinFault.TheVariants as faults
 use Rattle.sv_join.specs.declared.ending.JoinEnding.{JoinEnding}
 use Rattle.sv_join.specs.declared.ending.JoinEnding.TheVariants as endings
 use Rattle.sv_join.specs.Faults.{reply_line}
-use Rattle.sv_join.specs.Joining.{Passed, IsJoined, IsBroken, IsRefusing, IsClosed}
+use Rattle.sv_join.specs.Joining.{Passed, IsWholePlay, IsBrokenPlay, IsRefusingPlay, IsClosedPlay}
 use Rattle.sv_join.specs.Texts.{join_text}
 use Rattle.sv_join.specs.Words.{Asked}
 
@@ -76,7 +76,7 @@ module _ {E : Type 0} (told : E → Told) (faults : E → ℕ) (calm : E → Typ
     pub scenario : Scenario
     pub read : IsRead held scenario
     pub joined : Joined
-    pub play : IsJoined told faults calm scenario asked.number door joined
+    pub play : IsWholePlay told faults calm scenario asked.number door joined
     pub text_is : text ≡ join_text joined.trace
 
   -- The door's count of faults rose, or an end of the client that is asked for failed, in the session that it has open.
@@ -84,19 +84,19 @@ module _ {E : Type 0} (told : E → Told) (faults : E → ℕ) (calm : E → Typ
     pub scenario : Scenario
     pub read : IsRead held scenario
     pub within : asked.number < length scenario.clients
-    pub cause : Rose before now ⊎ IsBroken told faults calm scenario asked.number door
+    pub cause : Rose before now ⊎ IsBrokenPlay told faults calm scenario asked.number door
 
   -- The client that is asked for was stopped by a reply that it does not take, for this fault.
   pub record IsReplyRefused (asked : Asked) (held : Option (List ℕ)) (door : Passed) (fault : ReplyFault) : Type 0 where
     pub scenario : Scenario
     pub read : IsRead held scenario
-    pub play : IsRefusing told faults calm scenario asked.number door fault
+    pub play : IsRefusingPlay told faults calm scenario asked.number door fault
 
   -- The client that is asked for awaits a reply over an end that told that no more will come.
   pub record IsShutOut (asked : Asked) (held : Option (List ℕ)) (door : Passed) : Type 0 where
     pub scenario : Scenario
     pub read : IsRead held scenario
-    pub play : IsClosed told faults calm scenario asked.number door
+    pub play : IsClosedPlay told faults calm scenario asked.number door
 
   -- an ending without a text
   abbrev pub EndsEarly : Asked → Option (List ℕ) → Passed → (before now : ℕ) → JoinEnding → Type 0

@@ -7,7 +7,7 @@ ghost use Rattle.sv_watch.specs.Told.{change_line};
 ghost use Rattle.sv_client.specs.Seen.{new_client};
 ghost use Rattle.sv_scenario.specs.Limits.{IsGoodPlan, IsGoodScenario};
 ghost use Rattle.sv_scenario.specs.Sessions.{sessions_of_plan};
-ghost use Rattle.sv_join.specs.Joining.{passed, passages_of, answer_of, ConnectCause, DoorCause, IsClientOf, IsLeft, IsNewEnd};
+ghost use Rattle.sv_join.specs.Joining.{passed, passages_of, answer_of, ConnectCause, DoorCause, IsScenarioClient, IsLeftOfPlay, IsNewEnd};
 
 use crate::outcome::{JoinFault, Joined};
 use crate::steady::Steady;
@@ -102,9 +102,9 @@ fn play_over<D: Door>(
 ) -> Result<Joined, JoinFault>
     requires good { IsGoodScenario seat.now.scenario.now }
     requires number { seat.now.number < length seat.now.scenario.now.clients }
-    requires client { IsClientOf seat.now.scenario.now seat.now.number client }
+    requires client { IsScenarioClient seat.now.scenario.now seat.now.number client }
     requires watch { watch.now.shape ≡ seat.now.scenario.now.world.shape }
-    ensures left { IsLeft D.E.told D.E.faults D.E.calm seat.now.scenario.now seat.now.number (passed (D.made door.old) (D.given door.old) (D.given door.new)) (D.faults door.old) (D.faults door.new) result }
+    ensures left { IsLeftOfPlay D.E.told D.E.faults D.E.calm seat.now.scenario.now seat.now.number (passed (D.made door.old) (D.given door.old) (D.given door.new)) (D.faults door.old) (D.faults door.new) result }
     ensures owed { D.owed door.new ≡ D.owed door.old }
     ensures cause { DoorCause (D.faults door.old) (D.faults door.new) result }
     ensures sure { D.sure door.old seat.now.port → result ≢ Err JoinFault.Link }
@@ -141,7 +141,7 @@ pub(crate) fn join_as<D: Door>(
 ) -> Result<Joined, JoinFault>
     requires good { IsGoodScenario seat.now.scenario.now }
     requires number { seat.now.number < length seat.now.scenario.now.clients }
-    ensures left { IsLeft D.E.told D.E.faults D.E.calm seat.now.scenario.now seat.now.number (passed (D.made door.old) (D.given door.old) (D.given door.new)) (D.faults door.old) (D.faults door.new) result }
+    ensures left { IsLeftOfPlay D.E.told D.E.faults D.E.calm seat.now.scenario.now seat.now.number (passed (D.made door.old) (D.given door.old) (D.given door.new)) (D.faults door.old) (D.faults door.new) result }
     ensures owed { D.owed door.new ≡ D.owed door.old }
     ensures cause { DoorCause (D.faults door.old) (D.faults door.new) result }
     ensures sure { D.sure door.old seat.now.port → result ≢ Err JoinFault.Link }

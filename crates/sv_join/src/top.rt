@@ -1,7 +1,7 @@
 //! The top call of a client that joins another program's server.
 ghost use Rattle.std.specs.Prelude.{◌≡◌, ◌≢◌, ◌↔◌, ◌⊎◌, ◌≤◌, ℕ, map, option_map, string_bytes, None, Err, IfSome};
 ghost use Rattle.sv_command.specs.Endings.{IsMade};
-ghost use Rattle.sv_command.specs.Reading.{held_of, HoldsScenario};
+ghost use Rattle.sv_command.specs.Reading.{held_by_file, HoldsScenario};
 ghost use Rattle.sv_command.specs.Statuses.{counts, NoneRose};
 ghost use Rattle.sv_join.specs.Joining.{passed};
 ghost use Rattle.sv_join.specs.Statuses.{Ends, EndsEarly, IsText, Leaves, Raises, TellsJoinFaults, TellsStatus, ending_of};
@@ -104,9 +104,9 @@ pub fn run_join<F: Files, D: Door, K: Sink, E: Sink>(
     // All ends that were made were given back.
     ensures owed { D.owed door.new ≡ D.owed door.old }
     ensures told { TellsStatus D.E.told D.E.faults D.E.calm (join_of (map string_bytes words.now))
-        (held_of (F.contents files.old) (named_by (join_of (map string_bytes words.now)))) (named_by (join_of (map string_bytes words.now)))
+        (held_by_file (F.contents files.old) (named_by (join_of (map string_bytes words.now)))) (named_by (join_of (map string_bytes words.now)))
         (passed (D.made door.old) (D.given door.old) (D.given door.new)) result (E.taken err.old) (E.taken err.new) (E.faults err.old) (E.faults err.new) }
-    ensures complete { HoldsScenario (held_of (F.contents files.old) (named_by (join_of (map string_bytes words.now))))
+    ensures complete { HoldsScenario (held_by_file (F.contents files.old) (named_by (join_of (map string_bytes words.now))))
         → NoneRose (counts (F.faults files.old) 0 (D.faults door.old) (K.faults out.old)) (counts (F.faults files.new) 0 (D.faults door.new) (K.faults out.new))
         → (result ≡ 0) ⊎ (result ≡ 6) ⊎ (result ≡ 8) ⊎ ((10 ≤ result) × (result ≤ 12)) }
 {

@@ -4,7 +4,7 @@ use Rattle.sv_wire.specs.declared.message.Reply.{Reply}
 use Rattle.sv_client.specs.declared.trace.Event.{Event}
 use Rattle.sv_client.specs.declared.trace.Event.TheVariants as events
 use Rattle.sv_client.specs.Seen.{ClientView, with_event}
-use Rattle.sv_pilot.specs.Doings.{AreReplies, HasTaken, Did}
+use Rattle.sv_pilot.specs.Doings.{OnlyReplies, HasTaken, Did}
 
 pub none_taken : (old new : ClientView) → new ≡ old → HasTaken old new
 none_taken old new e = record { who = ap (λ (c : ClientView). c.who) e; replies = []; only = tt; events = ap (λ (c : ClientView). c.events) e }
@@ -12,7 +12,7 @@ none_taken old new e = record { who = ap (λ (c : ClientView). c.who) e; replies
 pub one_taken : (old new : ClientView) (s : ℕ) (reply : Reply) → new.who ≡ old.who → new.events ≡ events.Got s reply ∷ old.events → HasTaken old new
 one_taken old new s reply who e = record { who = who; replies = events.Got s reply ∷ []; only = tt; events = e }
 
-both : (xs ys : List Event) → AreReplies xs → AreReplies ys → AreReplies (xs ++ ys)
+both : (xs ys : List Event) → OnlyReplies xs → OnlyReplies ys → OnlyReplies (xs ++ ys)
 both [] ys p q = q
 both (events.Got s reply ∷ xs) ys p q = both xs ys p q
 both (events.Join s ∷ xs) ys p q = absurd p

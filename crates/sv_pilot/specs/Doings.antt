@@ -12,23 +12,23 @@ use Rattle.sv_client.specs.Proper.{MayMake}
 use Rattle.sv_client.specs.Seen.{ClientView}
 
 -- these events are replies that were taken
-abbrev pub AreReplies : List Event → Type 0
-AreReplies [] = Unit {0}
-AreReplies (events.Got s reply ∷ t) = AreReplies t
-AreReplies (_ ∷ t) = ⊥
+abbrev pub OnlyReplies : List Event → Type 0
+OnlyReplies [] = Unit {0}
+OnlyReplies (events.Got s reply ∷ t) = OnlyReplies t
+OnlyReplies (_ ∷ t) = ⊥
 
 -- It took some replies, and did nothing else.
 pub record HasTaken (old new : ClientView) : Type 0 where
   pub who : new.who ≡ old.who
   pub replies : List Event
-  pub only : AreReplies replies
+  pub only : OnlyReplies replies
   pub events : new.events ≡ replies ++ old.events
 
 -- It did one thing, then took some replies, and did nothing else.
 pub record Did (e : Event) (old new : ClientView) : Type 0 where
   pub who : new.who ≡ old.who
   pub replies : List Event
-  pub only : AreReplies replies
+  pub only : OnlyReplies replies
   pub events : new.events ≡ replies ++ e ∷ old.events
 
 -- no reply is due

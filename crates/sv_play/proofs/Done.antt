@@ -20,9 +20,9 @@ use Rattle.sv_play.specs.declared.tasks.Task.{Task}
 use Rattle.sv_play.specs.declared.tasks.TaskOut.{TaskOut}
 use Rattle.sv_play.specs.declared.gathering.Left.{Left}
 use Rattle.sv_play.specs.Places.{EachPlace, EachClient}
-use Rattle.sv_play.specs.Tasks.{services_of, parts_of, serviced_of, played_of, Keeps}
+use Rattle.sv_play.specs.Tasks.{services_of, parts_of, serviced_of, played_of, KeepsTask}
 use Rattle.sv_play.specs.Given.{Setting, keeper_after, IsPart, IsService}
-use Rattle.sv_play.specs.Left.{own_of, ends_of, transcripts_of, Agrees, HasRoom, HasFewSessions, Gathered, Joined, IsOfLock, IsServiced, HasPlayed}
+use Rattle.sv_play.specs.Left.{own_of, ends_of, transcripts_of, EndsAgree, HasRoom, HasFewSessions, Gathered, JoinedPasses, IsOfLock, IsServiced, HasPlayed}
 use Rattle.sv_play.specs.Settling.{AnyZip, Differ, ArePair, AreCalm, SomeDiffer}
 use Rattle.sv_play.specs.Playing.{IsThreadedRun, TookAllIn}
 use Rattle.sv_play.proofs.Places.{clients_count}
@@ -33,7 +33,7 @@ use Rattle.sv_play.proofs.Keepers.{just_of, below_of, legal_of, all_taken_in}
 module _ {E G W : Type 0} (told : E → Told) (faults : E → ℕ) (calm : E → Type 0) (shape_of : W → Shape) (run : Setting)
     (ts : List (Task E G W)) (os : List (TaskOut E)) (count : length (services_of ts) ≡ session_count run.scenario)
     (services : EachPlace (IsService told faults calm run) (services_of ts)) (parts : EachClient (IsPart told faults calm shape_of run) 0 0 run.scenario.clients (parts_of ts))
-    (kept : AllZip (Keeps told faults calm) ts os) where
+    (kept : AllZip (KeepsTask told faults calm) ts os) where
   abbrev ys : List (Serviced E)
   ys = serviced_of os
 
@@ -69,7 +69,7 @@ module _ {E G W : Type 0} (told : E → Told) (faults : E → ℕ) (calm : E →
       ∙ (ap (λ n. n + length (parts_of ts)) count
       ∙ ap (λ n. session_count run.scenario + n) (clients_count (IsPart told faults calm shape_of run) 0 0 run.scenario.clients (parts_of ts) parts))
 
-  module _ (left : Left E) (k : SessionPass) (gathered : Gathered os left) (joined : Joined ys (keeper_after (session_count run.scenario) run.lock run.scenario) k) where
+  module _ (left : Left E) (k : SessionPass) (gathered : Gathered os left) (joined : JoinedPasses ys (keeper_after (session_count run.scenario) run.lock run.scenario) k) where
     pub are_pairs : (made : ℕ) → made ≡ run.pairs + session_count run.scenario → AllZip (ArePair told made) left.servers.items left.clients.items
     are_pairs made is =
         subst (λ servers. AllZip (ArePair told made) servers left.clients.items) (sym gathered.servers)
@@ -107,9 +107,9 @@ module _ {E G W : Type 0} (told : E → Told) (faults : E → ℕ) (calm : E →
 
       -- ---- The record
 
-      module _ (lacked : left.lacked ≡ false) (agree : AllZip (Agrees told faults) left.servers.items left.clients.items) where
-        agree_is : AllZip (Agrees told faults) (map (λ (y : Serviced E). y.end) ys) (flat_map ends_of ps)
-        agree_is = subst (λ servers. AllZip (Agrees told faults) servers (flat_map ends_of ps)) gathered.servers (subst (AllZip (Agrees told faults) left.servers.items) gathered.clients agree)
+      module _ (lacked : left.lacked ≡ false) (agree : AllZip (EndsAgree told faults) left.servers.items left.clients.items) where
+        agree_is : AllZip (EndsAgree told faults) (map (λ (y : Serviced E). y.end) ys) (flat_map ends_of ps)
+        agree_is = subst (λ servers. AllZip (EndsAgree told faults) servers (flat_map ends_of ps)) gathered.servers (subst (AllZip (EndsAgree told faults) left.servers.items) gathered.clients agree)
 
         enough : length ys ≡ length (flat_map ends_of ps)
         enough = as_many told faults calm run ys ps all_served served played

@@ -14,7 +14,7 @@ use Rattle.law_traffic.specs.Runs.{IsGoodRun}
 use Rattle.sv_play.specs.declared.tasks.Serviced.{Serviced}
 use Rattle.sv_play.specs.Places.{EachPlace}
 use Rattle.sv_play.specs.Given.{Setting, keeper_after}
-use Rattle.sv_play.specs.Left.{own_of, Knows, Joined, IsServiced}
+use Rattle.sv_play.specs.Left.{own_of, KeeperKnows, JoinedPasses, IsServiced}
 use Rattle.sv_play.specs.Playing.{TookAllIn}
 use Rattle.sv_play.proofs.Whole.{numbers_are, in_range, number_of}
 
@@ -24,8 +24,8 @@ some_sessions (plan ∷ plans) l = omega arith
 
 module _ {E : Type 0} (told : E → Told) (faults : E → ℕ) (calm : E → Type 0) (run : Setting)
     (ys : List (Serviced E)) (served : EachPlace (IsServiced told faults calm run) ys) (count : length ys ≡ session_count run.scenario)
-    (k : SessionPass) (joined : Joined ys (keeper_after (session_count run.scenario) run.lock run.scenario) k) (good : IsGoodRun run.scenario) where
-  knows : Knows k
+    (k : SessionPass) (joined : JoinedPasses ys (keeper_after (session_count run.scenario) run.lock run.scenario) k) (good : IsGoodRun run.scenario) where
+  knows : KeeperKnows k
   knows = joined.knows (subst (λ n. 0 < n) (sym count) (some_sessions run.scenario.clients good.good.some_clients))
 
   pub just_of : AreJust (λ (e : Entry). e.session) k.seen (map own_of ys)

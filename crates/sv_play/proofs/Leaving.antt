@@ -26,7 +26,7 @@ use Rattle.sv_play.specs.declared.tasks.TaskOut.{TaskOut}
 use Rattle.sv_play.specs.declared.tasks.TaskOut.TheVariants as outs
 use Rattle.sv_play.specs.declared.gathering.ClientEnd.{ClientEnd}
 use Rattle.sv_play.specs.Places.{EachPlace, EachClient}
-use Rattle.sv_play.specs.Tasks.{services_of, parts_of, serviced_of, played_of, TookPart, WasServed, Keeps}
+use Rattle.sv_play.specs.Tasks.{services_of, parts_of, serviced_of, played_of, TookPart, WasServed, KeepsTask}
 use Rattle.sv_play.specs.Given.{Setting, IsPart, IsService, pass_of}
 use Rattle.sv_play.specs.Left.{ends_from, ends_of, HasFewSessions, IsOfLock, IsServiced, HasPlayed}
 use Rattle.sv_play.specs.Settling.{AnyZip, Differ, ArePair, AreCalm, SomeDiffer}
@@ -72,7 +72,7 @@ module _ {E G : Type 0} (told : E → Told) (faults : E → ℕ) (calm : E → T
   served_left run xs ys given all = each_zip (IsService told faults calm run) (WasServed told faults calm) (IsServiced told faults calm run) xs ys given all (service_left run)
 
 module _ {E G W : Type 0} (told : E → Told) (faults : E → ℕ) (calm : E → Type 0) where
-  pub split_served : (ts : List (Task E G W)) (os : List (TaskOut E)) → AllZip (Keeps told faults calm) ts os → AllZip (WasServed told faults calm) (services_of ts) (serviced_of os)
+  pub split_served : (ts : List (Task E G W)) (os : List (TaskOut E)) → AllZip (KeepsTask told faults calm) ts os → AllZip (WasServed told faults calm) (services_of ts) (serviced_of os)
   split_served [] [] all = tt
   split_served [] (o ∷ os) all = absurd all
   split_served (t ∷ ts) [] all = absurd all
@@ -81,7 +81,7 @@ module _ {E G W : Type 0} (told : E → Told) (faults : E → ℕ) (calm : E →
   split_served (tasks.Play x ∷ ts) (outs.Served y ∷ os) all = absurd all.0
   split_served (tasks.Play x ∷ ts) (outs.Played y ∷ os) all = split_served ts os all.1
 
-  pub split_played : (ts : List (Task E G W)) (os : List (TaskOut E)) → AllZip (Keeps told faults calm) ts os → AllZip (IsTaken told faults calm) (parts_of ts) (played_of os)
+  pub split_played : (ts : List (Task E G W)) (os : List (TaskOut E)) → AllZip (KeepsTask told faults calm) ts os → AllZip (IsTaken told faults calm) (parts_of ts) (played_of os)
   split_played [] [] all = tt
   split_played [] (o ∷ os) all = absurd all
   split_played (t ∷ ts) [] all = absurd all
@@ -90,17 +90,17 @@ module _ {E G W : Type 0} (told : E → Told) (faults : E → ℕ) (calm : E →
   split_played (tasks.Play x ∷ ts) (outs.Served y ∷ os) all = absurd all.0
   split_played (tasks.Play x ∷ ts) (outs.Played y ∷ os) all = (all.0, split_played ts os all.1)
 
-  pub services_left : (run : Setting) (ts : List (Task E G W)) (os : List (TaskOut E)) → EachPlace (IsService told faults calm run) (services_of ts) → AllZip (Keeps told faults calm) ts os →
+  pub services_left : (run : Setting) (ts : List (Task E G W)) (os : List (TaskOut E)) → EachPlace (IsService told faults calm run) (services_of ts) → AllZip (KeepsTask told faults calm) ts os →
       (s : ℕ) (y : Serviced E) → slice_get (serviced_of os) s ≡ Some y → IsServiced told faults calm run s y
   services_left run ts os given all = served_left told faults calm run (services_of ts) (serviced_of os) given (split_served ts os all)
 
-  pub parts_left : (run : Setting) (shape_of : W → Shape) (ts : List (Task E G W)) (os : List (TaskOut E)) → EachClient (IsPart told faults calm shape_of run) 0 0 run.scenario.clients (parts_of ts) → AllZip (Keeps told faults calm) ts os →
+  pub parts_left : (run : Setting) (shape_of : W → Shape) (ts : List (Task E G W)) (os : List (TaskOut E)) → EachClient (IsPart told faults calm shape_of run) 0 0 run.scenario.clients (parts_of ts) → AllZip (KeepsTask told faults calm) ts os →
       EachClient (HasPlayed told faults calm run) 0 0 run.scenario.clients (played_of os)
   parts_left run shape_of ts os given all =
       each_client_zip (IsPart told faults calm shape_of run) (IsTaken told faults calm) (HasPlayed told faults calm run) 0 0 run.scenario.clients (parts_of ts) (played_of os) given (split_played ts os all)
       (λ k s plan x y. part_left told faults calm run k s plan shape_of x y)
 
-  pub served_count : (ts : List (Task E G W)) (os : List (TaskOut E)) → AllZip (Keeps told faults calm) ts os → length (serviced_of os) ≡ length (services_of ts)
+  pub served_count : (ts : List (Task E G W)) (os : List (TaskOut E)) → AllZip (KeepsTask told faults calm) ts os → length (serviced_of os) ≡ length (services_of ts)
   served_count ts os all = AllZip-long (WasServed told faults calm) (services_of ts) (serviced_of os) (split_served ts os all)
 
   pub task_count : (ts : List (Task E G W)) → length ts ≡ length (services_of ts) + length (parts_of ts)

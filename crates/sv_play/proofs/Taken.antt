@@ -16,7 +16,7 @@ use Rattle.sv_play.specs.declared.tasks.TaskOut.TheVariants as outs
 use Rattle.sv_play.specs.declared.gathering.ClientEnd.{ClientEnd}
 use Rattle.sv_play.specs.declared.gathering.Left.{Left}
 use Rattle.sv_play.specs.Tasks.{serviced_of, played_of}
-use Rattle.sv_play.specs.Left.{own_of, ends_of, is_memory, is_unplayed, Gathered, Knows, Joined}
+use Rattle.sv_play.specs.Left.{own_of, ends_of, is_memory, is_unplayed, Gathered, KeeperKnows, JoinedPasses}
 
 neither : (a b : Bool) → (a || b) ≡ false → (a ≡ false) × (b ≡ false)
 neither true b e = absurd (true≢false e)
@@ -95,11 +95,11 @@ module _ {E : Type 0} where
   all_seen [] old new on all = tt
   all_seen (y ∷ ys) old new on all = (prefix_trans y.pass.seen old new all.0 on, all_seen ys old new on all.1)
 
-  pub joined_none : (k : SessionPass) → Joined {E = E} [] k k
+  pub joined_none : (k : SessionPass) → JoinedPasses {E = E} [] k k
   joined_none k = record { lock = refl; session = refl; base = refl; made = refl; ended = sym (append-nil k.ended); seen = tt; knows = λ some. absurd (omega (arith, some)) }
 
-  pub joined_more : (ys : List (Serviced E)) (y : Serviced E) (k a b : SessionPass) → Joined ys k a → b.lock ≡ a.lock → b.session ≡ a.session → b.base ≡ a.base → b.made ≡ a.made →
-      b.ended ≡ a.ended ++ own_of y ∷ [] → IsPrefix a.seen b.seen → IsPrefix y.pass.seen b.seen → Knows b → Joined (ys ++ y ∷ []) k b
+  pub joined_more : (ys : List (Serviced E)) (y : Serviced E) (k a b : SessionPass) → JoinedPasses ys k a → b.lock ≡ a.lock → b.session ≡ a.session → b.base ≡ a.base → b.made ≡ a.made →
+      b.ended ≡ a.ended ++ own_of y ∷ [] → IsPrefix a.seen b.seen → IsPrefix y.pass.seen b.seen → KeeperKnows b → JoinedPasses (ys ++ y ∷ []) k b
   joined_more ys y k a b j lock session base made ended on own knows =
       record {
         lock = lock ∙ j.lock;
@@ -113,10 +113,10 @@ module _ {E : Type 0} where
         knows = λ some. knows;
       }
 
-  pub joined_server : (os : List (TaskOut E)) (y : Serviced E) (k a b : SessionPass) → Joined (serviced_of os) k a → b.lock ≡ a.lock → b.session ≡ a.session → b.base ≡ a.base → b.made ≡ a.made →
-      b.ended ≡ a.ended ++ own_of y ∷ [] → IsPrefix a.seen b.seen → IsPrefix y.pass.seen b.seen → Knows b → Joined (serviced_of (os ++ outs.Served y ∷ [])) k b
+  pub joined_server : (os : List (TaskOut E)) (y : Serviced E) (k a b : SessionPass) → JoinedPasses (serviced_of os) k a → b.lock ≡ a.lock → b.session ≡ a.session → b.base ≡ a.base → b.made ≡ a.made →
+      b.ended ≡ a.ended ++ own_of y ∷ [] → IsPrefix a.seen b.seen → IsPrefix y.pass.seen b.seen → KeeperKnows b → JoinedPasses (serviced_of (os ++ outs.Served y ∷ [])) k b
   joined_server os y k a b j lock session base made ended on own knows =
-      subst (λ (ys : List (Serviced E)). Joined ys k b) (sym (served_more os y)) (joined_more (serviced_of os) y k a b j lock session base made ended on own knows)
+      subst (λ (ys : List (Serviced E)). JoinedPasses ys k b) (sym (served_more os y)) (joined_more (serviced_of os) y k a b j lock session base made ended on own knows)
 
-  pub joined_client : (os : List (TaskOut E)) (y : PlayerOut E) (k a : SessionPass) → Joined (serviced_of os) k a → Joined (serviced_of (os ++ outs.Played y ∷ [])) k a
-  joined_client os y k a j = subst (λ (ys : List (Serviced E)). Joined ys k a) (sym (served_same os y)) j
+  pub joined_client : (os : List (TaskOut E)) (y : PlayerOut E) (k a : SessionPass) → JoinedPasses (serviced_of os) k a → JoinedPasses (serviced_of (os ++ outs.Played y ∷ [])) k a
+  joined_client os y k a j = subst (λ (ys : List (Serviced E)). JoinedPasses ys k a) (sym (served_same os y)) j

@@ -34,7 +34,7 @@ use Rattle.sv_play.specs.declared.tasks.Serviced.{Serviced}
 use Rattle.sv_play.specs.declared.gathering.ClientEnd.{ClientEnd}
 use Rattle.sv_play.specs.Places.{EachPlace, EachClient}
 use Rattle.sv_play.specs.Given.{Setting, pass_of}
-use Rattle.sv_play.specs.Left.{own_of, is_memory, is_unplayed, ends_of, over_of, overs_of, transcripts_of, Agrees, IsServiced, HasPlayed}
+use Rattle.sv_play.specs.Left.{own_of, is_memory, is_unplayed, ends_of, over_of, overs_of, transcripts_of, EndsAgree, IsServiced, HasPlayed}
 use Rattle.sv_play.proofs.Places.{at_place, map_at, zip_at, each_client_map, each_client_both, each_client_with, each_client_all, each_client_trace, flat_place}
 use Rattle.sv_play.proofs.Leaving.{end_at, own_count}
 
@@ -89,7 +89,7 @@ module _ {E : Type 0} (told : E → Told) (faults : E → ℕ) (calm : E → Typ
       (played : EachClient (HasPlayed told faults calm run) 0 0 run.scenario.clients ps)
       (served_with : AllByRecursion (λ (y : Serviced E). is_memory y.out ≡ false) ys)
       (played_with : AllByRecursion (λ (y : PlayerOut E). is_unplayed y.cause ≡ false) ps)
-      (agree : AllZip (Agrees told faults) (map (λ (y : Serviced E). y.end) ys) (flat_map ends_of ps))
+      (agree : AllZip (EndsAgree told faults) (map (λ (y : Serviced E). y.end) ys) (flat_map ends_of ps))
       (seen : AllByRecursion (λ (y : Serviced E). IsPrefix y.pass.seen J) ys)
       (just : AreJust (λ (e : Entry). e.session) J (map own_of ys))
       (same_count : length ys ≡ length (flat_map ends_of ps)) where
@@ -160,7 +160,7 @@ module _ {E : Type 0} (told : E → Told) (faults : E → ℕ) (calm : E → Typ
         pub cut : Bool
         pub cut_is : cut ≡ is_cut (reverse p.trace.events) (s + j)
         pub client_at : slice_get ends (s + j) ≡ Some (record { end = b; cut = cut })
-        pub agrees : Agrees told faults server.end (record { end = b; cut = cut })
+        pub agrees : EndsAgree told faults server.end (record { end = b; cut = cut })
 
       at : (j : ℕ) (b : E) → slice_get p.ends.items j ≡ Some b → At j b
       at j b e =
@@ -180,7 +180,7 @@ module _ {E : Type 0} (told : E → Told) (faults : E → ℕ) (calm : E → Typ
             cut = cut;
             cut_is = ap (λ n. is_cut (reverse p.trace.events) (n + j)) h.played_is.trace.first_is;
             client_at = there;
-            agrees = zip_at (Agrees told faults) (map (λ (w : Serviced E). w.end) ys) ends (s + j) y.0.end z agree (map_at (λ (w : Serviced E). w.end) ys (s + j) y.0 y.1) there;
+            agrees = zip_at (EndsAgree told faults) (map (λ (w : Serviced E). w.end) ys) ends (s + j) y.0.end z agree (map_at (λ (w : Serviced E). w.end) ys (s + j) y.0 y.1) there;
           }
 
       abbrev over_at : (j : ℕ) (b : E) → slice_get p.ends.items j ≡ Some b → (x : Over) × (slice_get overs (s + j) ≡ Some x) × (x.client ≡ told b)

@@ -81,20 +81,20 @@ pub record IsOfLock {E : Type 0} (lock : LockView) (y : Serviced E) : Type 0 whe
   pub session : IsSome y.pass.session
 
 -- what a keeper knows that took a pass in
-pub record Knows (keeper : SessionPass) : Type 0 where
+pub record KeeperKnows (keeper : SessionPass) : Type 0 where
   pub just : AreJust (λ (e : Entry). e.session) keeper.seen keeper.ended
   pub below : AreBelow (λ (e : Entry). e.session) keeper.made keeper.seen
   pub legal : Legal keeper.base (reverse keeper.seen)
 
 -- the keeper took in the passes of these sessions, in order
-pub record Joined {E : Type 0} (ys : List (Serviced E)) (old new : SessionPass) : Type 0 where
+pub record JoinedPasses {E : Type 0} (ys : List (Serviced E)) (old new : SessionPass) : Type 0 where
   pub lock : new.lock ≡ old.lock
   pub session : new.session ≡ old.session
   pub base : new.base ≡ old.base
   pub made : new.made ≡ old.made
   pub ended : new.ended ≡ old.ended ++ map own_of ys
   pub seen : AllByRecursion (λ (y : Serviced E). IsPrefix y.pass.seen new.seen) ys
-  pub knows : 0 < length ys → Knows new
+  pub knows : 0 < length ys → KeeperKnows new
 
 module _ {E : Type 0} (told : E → Told) (faults : E → ℕ) where
   -- a session that is over
@@ -114,7 +114,7 @@ module _ {E : Type 0} (told : E → Told) (faults : E → ℕ) where
       transcript_of (told server) (faults server) (told z.end) (faults z.end) ∷ transcripts_of servers zs
 
   -- the two ends of a pair agree
-  pub record Agrees (server : E) (z : ClientEnd E) : Type 0 where
+  pub record EndsAgree (server : E) (z : ClientEnd E) : Type 0 where
     pub arrived : BothArrived (told server) (told z.end)
     pub faultless : counted z.cut (faults server) (faults z.end) ≡ 0
 

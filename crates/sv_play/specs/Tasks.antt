@@ -87,7 +87,7 @@ module _ {E G : Type 0} (told : E → Told) (faults : E → ℕ) (calm : E → T
     pub calm_is : calm x.end → calm y.end
 
 module _ {E G W : Type 0} (told : E → Told) (faults : E → ℕ) (calm : E → Type 0) where
-  abbrev pub Keeps : Task E G W → TaskOut E → Type 0
-  Keeps (tasks.Serve x) (outs.Served y) = WasServed told faults calm x y
-  Keeps (tasks.Play x) (outs.Played y) = TookPart told faults calm x.client x.script.now x.first x.ends.items y
-  Keeps _ _ = ⊥
+  abbrev pub KeepsTask : Task E G W → TaskOut E → Type 0
+  KeepsTask (tasks.Serve x) (outs.Served y) = WasServed told faults calm x y
+  KeepsTask (tasks.Play x) (outs.Played y) = TookPart told faults calm x.client x.script.now x.first x.ends.items y
+  KeepsTask _ _ = ⊥

@@ -7,7 +7,7 @@ ghost use Rattle.sv_client.specs.declared.trace.Event.{Event};
 ghost use Rattle.sv_client.specs.Traces.{current_session};
 ghost use Rattle.sv_player.specs.Stops.{is_cut};
 ghost use Rattle.sv_play.specs.Tasks.{serviced_of, played_of};
-ghost use Rattle.sv_play.specs.Left.{ends_from, ends_of, is_memory, is_unplayed, HasRoom, HasFewSessions, Gathered, Joined, IsOfLock};
+ghost use Rattle.sv_play.specs.Left.{ends_from, ends_of, is_memory, is_unplayed, HasRoom, HasFewSessions, Gathered, JoinedPasses, IsOfLock};
 
 use crate::tasks::{Serviced, TaskOut};
 use std::alloc::{AllocError, Global};
@@ -159,7 +159,7 @@ pub(crate) fn gather<E: End>(
     requires empty { Gathered [] left.old }
     requires room { HasRoom (length (serviced_of outs.items)) (length (flat_map ends_of (played_of outs.items))) (length (played_of outs.items)) left.old }
     ensures gathered { Gathered outs.items left.new }
-    ensures joined { Joined (serviced_of outs.items) keeper.old keeper.new }
+    ensures joined { JoinedPasses (serviced_of outs.items) keeper.old keeper.new }
 {
     for out in outs {
         match out {

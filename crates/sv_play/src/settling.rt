@@ -1,7 +1,7 @@
 //! Settling all pairs of a run.
 ghost use Rattle.std.specs.Prelude.{◌≡◌, ◌≤◌, true, false, length, ◌++◌};
 ghost use Rattle.std.specs.List.{AllZip};
-ghost use Rattle.sv_play.specs.Left.{transcripts_of, Agrees};
+ghost use Rattle.sv_play.specs.Left.{transcripts_of, EndsAgree};
 ghost use Rattle.sv_play.specs.Settling.{SettledCause, ArePair, AreCalm, AnyZip, Differ};
 
 use crate::gathering::ClientEnd;
@@ -16,7 +16,7 @@ pub(crate) fn settle_all<N: Net>(
     requires pairs { AllZip (ArePair N.E.told (N.made net.old)) servers.items clients.items }
     requires owed { length servers.items ≤ N.owed net.old }
     ensures settled { result ≡ true → N.settled net.new ≡ N.settled net.old ++ transcripts_of N.E.told N.E.faults servers.items clients.items }
-    ensures agree { result ≡ true → AllZip (Agrees N.E.told N.E.faults) servers.items clients.items }
+    ensures agree { result ≡ true → AllZip (EndsAgree N.E.told N.E.faults) servers.items clients.items }
     ensures cause { SettledCause (N.faults net.old) (N.faults net.new) result }
     ensures made { N.made net.new ≡ N.made net.old }
     ensures calm { N.calm net.old → N.calm net.new }

@@ -150,13 +150,13 @@ impl<'a, E: End, W: Teller> Part<'a, E, W> {
 }
 
 impl<'a, E: End + Send, G: Gate + Sync, W: Teller + Sync> Job for Task<'a, E, G, W> {
-    ghost use Rattle.sv_play.specs.Tasks.{IsReady, Keeps};
+    ghost use Rattle.sv_play.specs.Tasks.{IsReady, KeepsTask};
 
     type Out = TaskOut<E>;
 
     ghost ready = { IsReady E.told W.shape };
 
-    ghost keeps = { Keeps E.told E.faults E.calm };
+    ghost keeps = { KeepsTask E.told E.faults E.calm };
 
     fn run<R: Threads + Wait + Sync>(self, rt: &R) -> TaskOut<E> {
         match self {

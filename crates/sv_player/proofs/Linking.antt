@@ -18,7 +18,7 @@ use Rattle.sv_wire.specs.Spelling.{request_bytes}
 use Rattle.sv_client.specs.declared.trace.Event.{Event}
 use Rattle.sv_client.specs.Traces.{asked, got}
 use Rattle.sv_client.specs.Taking.{Identity}
-use Rattle.sv_player.specs.Carried.{request_frames, was_read, BeginsWith, Posted, PostedPart, IsLinked, IsLinkedInPart}
+use Rattle.sv_player.specs.Carried.{request_frames, was_read, BeginsWithReplies, Posted, PostedPart, IsLinked, IsLinkedInPart}
 
 -- ---- Frames
 
@@ -81,10 +81,10 @@ posted_none told waiting =
 
 -- ---- Received replies
 
-pub begins_none : BeginsWith [] [] []
+pub begins_none : BeginsWithReplies [] [] []
 begins_none = record { payloads = []; whole = refl; fit = tt; read = refl }
 
-pub begins_more : (stream rest bytes : List ℕ) (replies : List Reply) → BeginsWith stream replies rest → BeginsWith (stream ++ bytes) replies (rest ++ bytes)
+pub begins_more : (stream rest bytes : List ℕ) (replies : List Reply) → BeginsWithReplies stream replies rest → BeginsWithReplies (stream ++ bytes) replies (rest ++ bytes)
 begins_more stream rest bytes replies b =
     record {
       payloads = b.payloads;
@@ -109,8 +109,8 @@ fits stream payload after e =
     let len : length payload ≡ n = ap length p.payload_is ∙ length-take-le n (drop 4 stream) (omega (arith, length-drop 4 stream, p.enough)) in
     omega (arith, p.within, len)
 
-pub begins_next : (stream rest after payload : List ℕ) (replies : List Reply) (reply : Reply) → BeginsWith stream replies rest → TakesOff payload rest after → FitsFrame payload → reply_at payload ≡ Ok reply →
-    BeginsWith stream (replies ++ reply ∷ []) after
+pub begins_next : (stream rest after payload : List ℕ) (replies : List Reply) (reply : Reply) → BeginsWithReplies stream replies rest → TakesOff payload rest after → FitsFrame payload → reply_at payload ≡ Ok reply →
+    BeginsWithReplies stream (replies ++ reply ∷ []) after
 begins_next stream rest after payload replies reply b t f e =
     record {
       payloads = b.payloads ++ payload ∷ [];
@@ -155,7 +155,7 @@ module _ (who : Identity) (t u : List Event) (s : ℕ) (requests : List Request)
         open_is = ap (λ (e : Told). e.closed) p.told ∙ l.open_is;
         sent = sent_posted old new reader waiting left l p;
         messages = messages_more l.messages fine;
-        received = subst (λ (gots : List Reply). BeginsWith new.received gots reader) (sym gets) (subst (λ (bytes : List ℕ). BeginsWith bytes (got t s) reader) (sym (ap (λ (e : Told). e.received) p.told)) l.received);
+        received = subst (λ (gots : List Reply). BeginsWithReplies new.received gots reader) (sym gets) (subst (λ (bytes : List ℕ). BeginsWithReplies bytes (got t s) reader) (sym (ap (λ (e : Told). e.received) p.told)) l.received);
       }
 
   -- it was posted in part
@@ -164,7 +164,7 @@ module _ (who : Identity) (t u : List Event) (s : ℕ) (requests : List Request)
       record {
         sent = sent_part old new reader waiting l p;
         rest = reader;
-        received = subst (λ (gots : List Reply). BeginsWith new.received gots reader) (sym gets) (subst (λ (bytes : List ℕ). BeginsWith bytes (got t s) reader) (sym (ap (λ (e : Told). e.received) p.told)) l.received);
+        received = subst (λ (gots : List Reply). BeginsWithReplies new.received gots reader) (sym gets) (subst (λ (bytes : List ℕ). BeginsWithReplies bytes (got t s) reader) (sym (ap (λ (e : Told). e.received) p.told)) l.received);
       }
 
   -- nothing of it was posted
@@ -173,5 +173,5 @@ module _ (who : Identity) (t u : List Event) (s : ℕ) (requests : List Request)
       record {
         sent = (waiting ++ request_frames requests, sym (append_assoc end.sent waiting (request_frames requests)) ∙ ap (λ w. w ++ request_frames requests) l.sent ∙ sym frames_are);
         rest = reader;
-        received = subst (λ (gots : List Reply). BeginsWith end.received gots reader) (sym gets) l.received;
+        received = subst (λ (gots : List Reply). BeginsWithReplies end.received gots reader) (sym gets) l.received;
       }

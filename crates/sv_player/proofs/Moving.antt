@@ -28,7 +28,7 @@ use Rattle.sv_player.specs.declared.outcome.PlayerCause.{PlayerCause}
 use Rattle.sv_player.specs.Carried.{request_frames, IsLinked}
 use Rattle.sv_player.specs.Going.{IsGoing, Did, IsHere, IsReady}
 use Rattle.sv_player.specs.Partings.{parting_step, parting_event, parting_ending}
-use Rattle.sv_player.specs.Sessions.{IsAt, Onward, HasEnded, Ended, Stopped, GoesOn, Got, IsMoved}
+use Rattle.sv_player.specs.Sessions.{IsAt, Onward, HasEnded, Ended, Stopped, SessionGoesOn, Got, IsMoved}
 use Rattle.sv_player.proofs.Posting.{none_posted}
 use Rattle.sv_player.proofs.Onward.{IsOf}
 use Rattle.sv_player.proofs.Going.{few_events, going_on, does_step, still_within, within_settled, bye_finishes, left_here}
@@ -37,22 +37,22 @@ use Rattle.sv_player.proofs.Turns.{onward_more, onward_by, before_move, show_due
 -- ---- The session goes on
 
 -- More happened, and it is ready for the next move.
-pub moved_on : (s : ℕ) (e : Event) (p q : Player) (b : Buffers) (end : Told) → GoesOn s e p q b end → IsReady q.client.who q.client.events q.left.now → IsMoved (Ok None) s p q b end
+pub moved_on : (s : ℕ) (e : Event) (p q : Player) (b : Buffers) (end : Told) → SessionGoesOn s e p q b end → IsReady q.client.who q.client.events q.left.now → IsMoved (Ok None) s p q b end
 moved_on s e p q b end turn ready = (turn.at, turn.onward, ready, omega (arith, ap (λ (t : List Event). length t) turn.events))
 
 -- An event that leaves it in its session, and does not take its Welcome.
-ready_after : (s : ℕ) (e : Event) (p q : Player) (b : Buffers) (end : Told) → GoesOn s e p q b end → in_session (e ∷ p.client.events) ≡ true → must_join (e ∷ p.client.events) ≡ false →
+ready_after : (s : ℕ) (e : Event) (p q : Player) (b : Buffers) (end : Told) → SessionGoesOn s e p q b end → in_session (e ∷ p.client.events) ≡ true → must_join (e ∷ p.client.events) ≡ false →
     is_finished (e ∷ p.client.events) ≡ false → is_welcomed (e ∷ p.client.events) ≡ true → IsReady q.client.who q.client.events q.left.now
 ready_after s e p q b end turn within joined here welcomed =
     rw turn.events (record { here_is = record { joined = joined; here = here; within = inl within }; welcomed = welcomed })
 
 module _ (s : ℕ) (p q : Player) (b c : Buffers) (old new : Told) (at : IsAt s p b old) (ready : IsReady p.client.who p.client.events p.left.now) where
-  pub made_on : (action : Action) (rest : List Step) → unsynced p.client.who p.client.events p.left.now ≡ steps.Act action ∷ rest → GoesOn s (events.Make action) p q c new → IsMoved (Ok None) s p q c new
+  pub made_on : (action : Action) (rest : List Step) → unsynced p.client.who p.client.events p.left.now ≡ steps.Act action ∷ rest → SessionGoesOn s (events.Make action) p q c new → IsMoved (Ok None) s p q c new
   made_on action rest next turn =
       moved_on s (events.Make action) p q c new turn
       (ready_after s (events.Make action) p q c new turn (still_within p.client.who p.client.events p.left.now (steps.Act action) rest ready next) refl refl ready.welcomed)
 
-  pub polled_on : (rest : List Step) → unsynced p.client.who p.client.events p.left.now ≡ steps.Poll ∷ rest → GoesOn s events.Poll p q c new → IsMoved (Ok None) s p q c new
+  pub polled_on : (rest : List Step) → unsynced p.client.who p.client.events p.left.now ≡ steps.Poll ∷ rest → SessionGoesOn s events.Poll p q c new → IsMoved (Ok None) s p q c new
   polled_on rest next turn =
       moved_on s events.Poll p q c new turn (ready_after s events.Poll p q c new turn (still_within p.client.who p.client.events p.left.now steps.Poll rest ready next) refl refl ready.welcomed)
 
@@ -64,7 +64,7 @@ module _ (s : ℕ) (p q : Player) (b c : Buffers) (old new : Told) (at : IsAt s 
       moved_on s (events.Show objects) p q b old turn
       (ready_after s (events.Show objects) p q b old turn (still_within p.client.who p.client.events p.left.now (steps.Show objects) rest ready next) refl refl ready.welcomed)
 
-  pub left_on : outstanding p.client.who p.client.events ≡ [] → GoesOn s events.Leave p q c new → q.left.now ≡ [] → IsMoved (Ok None) s p q c new
+  pub left_on : outstanding p.client.who p.client.events ≡ [] → SessionGoesOn s events.Leave p q c new → q.left.now ≡ [] → IsMoved (Ok None) s p q c new
   left_on settled turn none =
       moved_on s events.Leave p q c new turn
       (rw (turn.onward.who, turn.events, none)
@@ -143,11 +143,11 @@ got_moves s false ending p q b end e g =
 
 -- ---- The session begins
 
-pub joined_here : (s : ℕ) (p q : Player) (b : Buffers) (end : Told) → GoesOn s (events.Join s) p q b end → IsHere q.client.who q.client.events q.left.now
+pub joined_here : (s : ℕ) (p q : Player) (b : Buffers) (end : Told) → SessionGoesOn s (events.Join s) p q b end → IsHere q.client.who q.client.events q.left.now
 joined_here s p q b end turn = rw turn.events (record { joined = refl; here = refl; within = inl refl })
 
 -- Its Join is awaited.
-pub joined_awaits : (p q : Player) (b : Buffers) (end : Told) → IsGoing p → GoesOn (joins p.client.events) (events.Join (joins p.client.events)) p q b end → 0 < length (outstanding q.client.who q.client.events)
+pub joined_awaits : (p q : Player) (b : Buffers) (end : Told) → IsGoing p → SessionGoesOn (joins p.client.events) (events.Join (joins p.client.events)) p q b end → 0 < length (outstanding q.client.who q.client.events)
 joined_awaits p q b end going turn =
     rw (turn.onward.who, turn.events, outstanding_joined p.client.who 0 p.client.events going.proper (joins p.client.events) (omega arith)) (omega arith)
 

@@ -7,7 +7,7 @@ use Rattle.sv_world.specs.declared.world.ObjectId.{ObjectId}
 use Rattle.sv_wire.specs.declared.message.Request.{Request}
 use Rattle.sv_client.specs.declared.trace.Event.{Event}
 use Rattle.sv_client.specs.declared.trace.Event.TheVariants as events
-use Rattle.sv_client.specs.Traces.{current_session, is_session, asked, asked_by, got}
+use Rattle.sv_client.specs.Traces.{current_session, is_session, asked, asked_by_event, got}
 use Rattle.sv_client.specs.Taking.{Identity}
 use Rattle.sv_client.specs.Seen.{newly_asked}
 use Rattle.sv_player.specs.Stops.{is_cut}
@@ -31,7 +31,7 @@ current_not t s n c ne = ap (λ o. is_session o n) c ∙ ne_eqb s n (λ e. ne (s
 pub asks_other : (client : ClientId) (interest : List ObjectId) (s : ℕ) (t : List Event) (e : Event) → IsOf s t e → (n : ℕ) → n ≢ s → asked client interest (e ∷ t) n ≡ asked client interest t n
 asks_other client interest s t e of n ne = ap (λ (rs : List Request). asked client interest t n ++ rs) (none e of) ∙ append-nil (asked client interest t n)
   where
-    none : (e : Event) → IsOf s t e → asked_by client interest t e n ≡ []
+    none : (e : Event) → IsOf s t e → asked_by_event client interest t e n ≡ []
     none (events.Join m) of = if_none m n _ (λ e. ne (sym e ∙ of))
     none (events.Got m reply) of = if_none m n _ (λ e. ne (sym e ∙ of))
     none (events.Make a) of = if_not (is_session (current_session t) n) _ [] (current_not t s n of ne)
@@ -69,4 +69,4 @@ cuts_other s t (events.Show objects) of n ne = refl
 pub asks_here : (who : Identity) (s : ℕ) (t : List Event) (e : Event) → current_session (e ∷ t) ≡ Some s →
     asked who.client who.interest (e ∷ t) s ≡ asked who.client who.interest t s ++ newly_asked who t e
 asks_here who s t e c =
-    ap (λ (n : ℕ). asked who.client who.interest t s ++ asked_by who.client who.interest t e n) (sym (ap (λ (o : Option ℕ). unwrap_or o 0) c))
+    ap (λ (n : ℕ). asked who.client who.interest t s ++ asked_by_event who.client who.interest t e n) (sym (ap (λ (o : Option ℕ). unwrap_or o 0) c))

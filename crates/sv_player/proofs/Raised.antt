@@ -28,10 +28,10 @@ use Rattle.sv_script.specs.Following.{DoesStep, MayCome, FollowsTo, must_join, i
 use Rattle.sv_script.specs.Telling.{same_view, change_of, changes_of}
 use Rattle.sv_player.specs.declared.outcome.ReplyFault.{ReplyFault}
 use Rattle.sv_player.specs.declared.outcome.ReplyFault.TheVariants as faults
-use Rattle.sv_player.specs.Carried.{BeginsWith}
+use Rattle.sv_player.specs.Carried.{BeginsWithReplies}
 use Rattle.sv_player.specs.Stops.{IsBad, IsBadRest, IsShut, is_cut}
 use Rattle.sv_player.specs.Played.{has_quit, has_left}
-use Rattle.sv_player.specs.Ends.{IsOpen}
+use Rattle.sv_player.specs.Ends.{IsUncut}
 use Rattle.sv_player.proofs.Going.{bye_finishes}
 
 bye_leaves : (s : ℕ) (reply : Reply) (t : List Event) → has_left (events.Got s reply ∷ t) ≡ is_bye reply
@@ -181,7 +181,7 @@ module _ (first : ℕ) where
 
   -- ---- Why it stopped
 
-  pub up_open : (t : List Event) (k : ℕ) → IsOpen t k → IsOpen (Up first t) (k + first)
+  pub up_open : (t : List Event) (k : ℕ) → IsUncut t k → IsUncut (Up first t) (k + first)
   up_open t k o = record { current = up_current first t ∙ ap (option_map (λ (n : ℕ). n + first)) o.current; open_is = up_cut t k ∙ o.open_is }
 
   pub up_shut : (who : Identity) (t : List Event) (k : ℕ) (end : Told) → IsShut who t k end → IsShut who (Up first t) (k + first) end
@@ -190,7 +190,7 @@ module _ (first : ℕ) where
         awaited = rw (up_got first t k, up_asked first who t k) s.awaited;
         ended = s.ended;
         rest = s.rest;
-        received = subst (λ (rs : List Reply). BeginsWith end.received rs s.rest) (sym (up_got first t k)) s.received;
+        received = subst (λ (rs : List Reply). BeginsWithReplies end.received rs s.rest) (sym (up_got first t k)) s.received;
         none = s.none;
       }
 
@@ -207,6 +207,6 @@ module _ (first : ℕ) where
   up_bad who t k end payload fault b =
       record {
         rest = b.rest;
-        received = subst (λ (rs : List Reply). BeginsWith end.received rs b.rest) (sym (up_got first t k)) b.received;
+        received = subst (λ (rs : List Reply). BeginsWithReplies end.received rs b.rest) (sym (up_got first t k)) b.received;
         bad = up_bad_rest who t b.rest payload fault b.bad;
       }

@@ -27,11 +27,11 @@ use Rattle.sv_player.specs.declared.buffers.Buffers.{Buffers}
 use Rattle.sv_player.specs.declared.outcome.PlayerCause.{PlayerCause}
 use Rattle.sv_player.specs.declared.outcome.PlayerCause.TheVariants as causes
 use Rattle.sv_player.specs.declared.playing.Player.{Player}
-use Rattle.sv_player.specs.Carried.{request_frames, BeginsWith, PostedPart}
+use Rattle.sv_player.specs.Carried.{request_frames, BeginsWithReplies, PostedPart}
 use Rattle.sv_script.specs.Following.{is_bye}
 use Rattle.sv_player.specs.Going.{IsHere}
 use Rattle.sv_player.specs.declared.outcome.ReplyFault.TheVariants as faults
-use Rattle.sv_player.specs.Waiting.{IsFlushed, Grew, GrewToEnd}
+use Rattle.sv_player.specs.Waiting.{IsFlushed, MoreCame, CameToEnd}
 use Rattle.sv_player.specs.Sessions.{IsAt, Stopped, IsReason, IsFrameFault, IsSent}
 use Rattle.sv_player.proofs.Linking.{frames_none, begins_more, linked_part}
 use Rattle.sv_player.proofs.Turns.{onward_self, begun_idle}
@@ -53,7 +53,7 @@ flushed_at s p b c old new at sent none same =
           };
     }
 
-pub grew_at : (s : ℕ) (p : Player) (b c : Buffers) (old new : Told) → IsAt s p b old → Grew old b.reader new c.reader → c.outbox ≡ b.outbox → IsAt s p c new
+pub grew_at : (s : ℕ) (p : Player) (b c : Buffers) (old new : Told) → IsAt s p b old → MoreCame old b.reader new c.reader → c.outbox ≡ b.outbox → IsAt s p c new
 grew_at s p b c old new at grew same =
     record {
       going = at.going;
@@ -125,7 +125,7 @@ stops_sending s p b end new cause at here why posted =
       ];
     }
 
-pub frame_reason : (who : Identity) (t : List Event) (first s : ℕ) (end : Told) (rest : List ℕ) (cause : PlayerCause) → BeginsWith end.received (got t s) rest → IsFrameFault who t (s + first) rest cause → IsReason who t first s end cause
+pub frame_reason : (who : Identity) (t : List Event) (first s : ℕ) (end : Told) (rest : List ℕ) (cause : PlayerCause) → BeginsWithReplies end.received (got t s) rest → IsFrameFault who t (s + first) rest cause → IsReason who t first s end cause
 frame_reason who t first s end rest causes.Finished b f = absurd f
 frame_reason who t first s end rest causes.Quit b f = absurd f
 frame_reason who t first s end rest causes.LinkFault b f = absurd f
@@ -174,18 +174,18 @@ frame_came rest payload e n =
 -- ---- What ends a wait
 
 module _ (s : ℕ) (p : Player) (b c : Buffers) (old new : Told) (at : IsAt s p b old) (here : IsHere p.client.who p.client.events p.left.now) (none : b.outbox ≡ []) (same : c.outbox ≡ b.outbox) where
-  pub wait_stops : (cause : PlayerCause) → Grew old b.reader new c.reader → IsReason p.client.who p.client.events p.first s new cause → Stopped s p p new cause
+  pub wait_stops : (cause : PlayerCause) → MoreCame old b.reader new c.reader → IsReason p.client.who p.client.events p.first s new cause → Stopped s p p new cause
   wait_stops cause grew reason = stops_at s p c new cause (grew_at s p b c old new at grew same) here (same ∙ none) reason
 
   -- The next frame is too long.
-  pub long_stops : (session n : ℕ) (payload : Vec ℕ) → session ≡ s + p.first → payload.items ≡ [] → Grew old b.reader new c.reader → too_long c.reader ≡ Some n →
+  pub long_stops : (session n : ℕ) (payload : Vec ℕ) → session ≡ s + p.first → payload.items ≡ [] → MoreCame old b.reader new c.reader → too_long c.reader ≡ Some n →
       Stopped s p p new (causes.BadReply session payload (faults.TooLong n))
   long_stops session n payload number empty grew long =
       wait_stops (causes.BadReply session payload (faults.TooLong n)) grew
       (number, record { rest = c.reader; received = (grew_at s p b c old new at grew same).linked.received; bad = (empty, long) })
 
   -- No more will come.
-  pub shut_stops : 0 < length (outstanding p.client.who p.client.events) → GrewToEnd old b.reader new c.reader → Stopped s p p new causes.Closed
+  pub shut_stops : 0 < length (outstanding p.client.who p.client.events) → CameToEnd old b.reader new c.reader → Stopped s p p new causes.Closed
   shut_stops some g =
       let there = ended_at s p c g.last new (grew_at s p b c old g.last at g.grew same) g.ended in
       stops_at s p c new causes.Closed there here (same ∙ none) (shut_reason s p c new there some (ap (λ (t : Told). t.ended) g.ended) g.none)

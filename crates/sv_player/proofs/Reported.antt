@@ -24,10 +24,10 @@ use Rattle.sv_script.specs.Telling.{changes_of, told_lines}
 use Rattle.sv_player.specs.declared.outcome.PlayerCause.{PlayerCause}
 use Rattle.sv_player.specs.declared.outcome.PlayerCause.TheVariants as causes
 use Rattle.sv_player.specs.declared.playing.Player.{Player}
-use Rattle.sv_player.specs.Carried.{request_frames, BeginsWith}
+use Rattle.sv_player.specs.Carried.{request_frames, BeginsWithReplies}
 use Rattle.sv_player.specs.Stops.{IsBad, IsShut}
 use Rattle.sv_player.specs.Played.{replies_of, IsTraceOf, IsDone, IsIdle, IsOpenSession, AreDone, HasOpen, IsCause, IsExact, HasFollowed, has_quit, has_left}
-use Rattle.sv_player.specs.Ends.{IsOpen, AreKept, IsClosed, IsLeft, IsStuck, IsWhy, HasPlayed}
+use Rattle.sv_player.specs.Ends.{IsUncut, AreKept, IsClosedEnd, IsLeft, IsStuck, IsWhy, HasPlayed}
 use Rattle.sv_player.proofs.Listed.{after, before}
 use Rattle.sv_player.proofs.Linking.{frames_none}
 use Rattle.sv_player.proofs.Stepping.{left_none}
@@ -84,12 +84,12 @@ module _ {E : Type 0} (told : E → Told) (faults : E → ℕ) (calm : E → Typ
   pub played_over : (p0 p : Player) (was old mid : List E) (cause : PlayerCause) → was ≡ old → HasPlayed told faults calm p0 p was mid cause → HasPlayed told faults calm p0 p old mid cause
   played_over p0 p was old mid cause e h = subst (λ (es : List E). HasPlayed told faults calm p0 p es mid cause) e h
 
-  pub closed_over : (was mid now new : List E) → was ≡ mid → now ≡ new → AreKept (λ n. IsClosed told faults calm) was now → AreKept (λ n. IsClosed told faults calm) mid new
+  pub closed_over : (was mid now new : List E) → was ≡ mid → now ≡ new → AreKept (λ n. IsClosedEnd told faults calm) was now → AreKept (λ n. IsClosedEnd told faults calm) mid new
   closed_over was mid now new e f h =
-      subst (λ (es : List E). AreKept (λ n. IsClosed told faults calm) mid es) f (subst (λ (es : List E). AreKept (λ n. IsClosed told faults calm) es now) e h)
+      subst (λ (es : List E). AreKept (λ n. IsClosedEnd told faults calm) mid es) f (subst (λ (es : List E). AreKept (λ n. IsClosedEnd told faults calm) es now) e h)
 
 module _ {E : Type 0} (told : E → Told) (faults : E → ℕ) (calm : E → Type 0) (p0 p : Player) (old mid new : List E) (cause : PlayerCause) (T : Trace)
-    (played : HasPlayed told faults calm p0 p old mid cause) (closed : AreKept (λ n. IsClosed told faults calm) mid new)
+    (played : HasPlayed told faults calm p0 p old mid cause) (closed : AreKept (λ n. IsClosedEnd told faults calm) mid new)
     (trace : T ≡ trace_from p0.first p.client) (proper : Proper p.client.who.shape T) where
   events_are : reverse T.events ≡ Up p0.first p.client.events
   events_are = ap (λ (x : Trace). reverse x.events) trace ∙ reverse-reverse (map (raised p0.first) p.client.events)
@@ -122,14 +122,14 @@ module _ {E : Type 0} (told : E → Told) (faults : E → ℕ) (calm : E → Typ
       (subst (λ (es : List Event). P p.client.who es (p0.first + k)) (sym events_are)
       (subst (P p.client.who (Up p0.first p.client.events)) (sym (at_number k)) h))
 
-  open_session : (k : ℕ) → IsOpen p.client.events k → IsOpenSession T (p0.first + k)
+  open_session : (k : ℕ) → IsUncut p.client.events k → IsOpenSession T (p0.first + k)
   open_session k o =
-      let up = in_trace (λ w es n. IsOpen es n) k (up_open p0.first p.client.events k o) in
+      let up = in_trace (λ w es n. IsUncut es n) k (up_open p0.first p.client.events k o) in
       record { current = up.current; open_is = up.open_is }
 
   -- ---- Ends
 
-  end_done : (k : ℕ) (a m b : E) → IsLeft told faults calm p.client.who p.client.events cause k a m → IsClosed told faults calm m b → IsDone T cause (p0.first + k) (told a) (told b)
+  end_done : (k : ℕ) (a m b : E) → IsLeft told faults calm p.client.who p.client.events cause k a m → IsClosedEnd told faults calm m b → IsDone T cause (p0.first + k) (told a) (told b)
   end_done k a m b l c =
       subst (λ (e : Told). IsDone T cause (p0.first + k) (told a) e) (sym c.told_is) (record {
         closed_is = refl;
@@ -139,13 +139,13 @@ module _ {E : Type 0} (told : E → Told) (faults : E → ℕ) (calm : E → Typ
         whole = λ w. l.carried.whole w ∙ ap (λ (rs : List Request). request_frames rs) (sym (requests_are k));
         messages = λ w. subst (All IsRequest) (sym (requests_are k)) (l.carried.messages w);
         rest = l.carried.rest;
-        received = subst (λ (rs : List Reply). BeginsWith (told m).received rs l.carried.rest) (sym (replies_are k)) l.carried.received;
+        received = subst (λ (rs : List Reply). BeginsWithReplies (told m).received rs l.carried.rest) (sym (replies_are k)) l.carried.received;
       })
 
   none_sent : (sent : List ℕ) (rs : List Request) → rs ≡ [] → IsPrefix sent (request_frames rs) → sent ≡ []
   none_sent sent rs none prefix = left_none sent prefix.0 (prefix.1 ∙ ap (λ (qs : List Request). request_frames qs) none ∙ frames_none)
 
-  end_idle : (k : ℕ) (a m b : E) → IsLeft told faults calm p.client.who p.client.events cause k a m → IsClosed told faults calm m b → joins (reverse T.events) ≤ k → IsIdle T (p0.first + k) (told b)
+  end_idle : (k : ℕ) (a m b : E) → IsLeft told faults calm p.client.who p.client.events cause k a m → IsClosedEnd told faults calm m b → joins (reverse T.events) ≤ k → IsIdle T (p0.first + k) (told b)
   end_idle k a m b l c few =
       let begun : joins (reverse T.events) ≡ joins p.client.events = ap joins events_are ∙ up_joins p0.first p.client.events in
       let none = no_asked p.client.who 0 p.client.events played.proper k (omega (arith, few, begun)) in
@@ -156,7 +156,7 @@ module _ {E : Type 0} (told : E → Told) (faults : E → ℕ) (calm : E → Typ
         received = ap (λ (e : Told). e.received) c.told_is ∙ l.carried.idle none;
       }
 
-  fault_at : (k : ℕ) (a m b : E) → (faults m ≡ faults a) ⊎ ((cause ≡ causes.LinkFault) × IsOpen p.client.events k) → IsClosed told faults calm m b →
+  fault_at : (k : ℕ) (a m b : E) → (faults m ≡ faults a) ⊎ ((cause ≡ causes.LinkFault) × IsUncut p.client.events k) → IsClosedEnd told faults calm m b →
       (faults b ≡ faults a) ⊎ ((cause ≡ causes.LinkFault) × IsOpenSession T (p0.first + k))
   fault_at k a m b (inl f) c = inl (c.faults_are ∙ f)
   fault_at k a m b (inr o) c = inr (o.0, open_session k o.1)
@@ -166,17 +166,17 @@ module _ {E : Type 0} (told : E → Told) (faults : E → ℕ) (calm : E → Typ
       record {
         count = closed.count ∙ played.ends.count;
         each = λ k a b was is.
-            let m = before (λ n. IsClosed told faults calm) mid new closed k b is in
+            let m = before (λ n. IsClosedEnd told faults calm) mid new closed k b is in
             end_done k a m.0 b (played.ends.each k a m.0 was m.1) (closed.each k m.0 b m.1 is);
         idle = λ k b is few.
-            let m = before (λ n. IsClosed told faults calm) mid new closed k b is in
+            let m = before (λ n. IsClosedEnd told faults calm) mid new closed k b is in
             let a = before (IsLeft told faults calm p.client.who p.client.events cause) old mid played.ends k m.0 m.1 in
             end_idle k a.0 m.0 b (played.ends.each k a.0 m.0 a.1 m.1) (closed.each k m.0 b m.1 is) few;
         faults_are = λ k a b was is.
-            let m = before (λ n. IsClosed told faults calm) mid new closed k b is in
+            let m = before (λ n. IsClosedEnd told faults calm) mid new closed k b is in
             fault_at k a m.0 b (played.ends.each k a m.0 was m.1).faults_are (closed.each k m.0 b m.1 is);
         calm_is = λ k a b was is was_calm.
-            let m = before (λ n. IsClosed told faults calm) mid new closed k b is in
+            let m = before (λ n. IsClosedEnd told faults calm) mid new closed k b is in
             (closed.each k m.0 b m.1 is).calm_is ((played.ends.each k a m.0 was m.1).calm_is was_calm);
       }
 
@@ -184,7 +184,7 @@ module _ {E : Type 0} (told : E → Told) (faults : E → ℕ) (calm : E → Typ
 
   stuck_open : (P : ℕ → Told → Type 0) (c : PlayerCause) → (s : IsStuck told faults calm p.client.who p.client.events p0.first c old mid) → P (p0.first + s.place) (record (told s.after) { closed = true }) → HasOpen told faults calm P T p0.first new
   stuck_open P c s h =
-      let b = after (λ n. IsClosed told faults calm) mid new closed s.place s.after s.is in
+      let b = after (λ n. IsClosedEnd told faults calm) mid new closed s.place s.after s.is in
       record {
         place = s.place;
         after = b.0;
@@ -197,7 +197,7 @@ module _ {E : Type 0} (told : E → Told) (faults : E → ℕ) (calm : E → Typ
   cause_by causes.Finished h = ap has_left events_are ∙ up_left p0.first p.client.events ∙ h
   cause_by causes.Quit h = ap has_quit events_are ∙ up_quit p0.first p.client.events ∙ h
   cause_by causes.LinkFault s =
-      let b = after (λ n. IsClosed told faults calm) mid new closed s.place s.after s.is in
+      let b = after (λ n. IsClosedEnd told faults calm) mid new closed s.place s.after s.is in
       record {
         place = s.place;
         before = s.before;

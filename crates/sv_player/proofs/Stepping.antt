@@ -25,12 +25,12 @@ use Rattle.sv_player.specs.declared.outcome.Ending.TheVariants as endings
 use Rattle.sv_player.specs.declared.outcome.PlayerCause.{PlayerCause}
 use Rattle.sv_player.specs.declared.outcome.PlayerCause.TheVariants as causes
 use Rattle.sv_player.specs.declared.playing.Player.{Player}
-use Rattle.sv_player.specs.Carried.{request_frames, BeginsWith}
+use Rattle.sv_player.specs.Carried.{request_frames, BeginsWithReplies}
 use Rattle.sv_player.specs.Going.{one_more_if, IsGoing, IsNew}
 use Rattle.sv_player.specs.Stops.{is_cut}
 use Rattle.sv_player.specs.Sessions.{IsFresh, IsSameEnd, IsReason, HasEnded, Ended, Stopped}
 use Rattle.sv_player.specs.Played.{SentAll, has_quit, has_left}
-use Rattle.sv_player.specs.Ends.{IsCarried, IsOpen, IsPlayedNext, NextCause, AreKept, IsClosed, IsClosing, IsSoFar, IsPlaying, IsLeft, IsStuck, IsWhy, HasPlayed}
+use Rattle.sv_player.specs.Ends.{IsCarried, IsUncut, IsPlayedNext, NextCause, AreKept, IsClosedEnd, IsClosing, IsSoFar, IsPlaying, IsLeft, IsStuck, IsWhy, HasPlayed}
 use Rattle.sv_player.proofs.Linking.{frames_none, prefix_of, begins_none}
 use Rattle.sv_player.proofs.Listed.{all_there, before, kept_set, set_is}
 
@@ -92,7 +92,7 @@ carried_on W V f who w t u n a b e asks gets c =
       whole = λ v. c.whole (f v) ∙ ap (λ (rs : List Request). request_frames rs) (sym asks);
       messages = λ v. subst (All IsRequest) (sym asks) (c.messages (f v));
       rest = c.rest;
-      received = subst (λ (rs : List Reply). BeginsWith b.received rs c.rest) (sym gets) c.received;
+      received = subst (λ (rs : List Reply). BeginsWithReplies b.received rs c.rest) (sym gets) c.received;
       idle = λ none. c.idle (sym asks ∙ none);
     })
 
@@ -105,7 +105,7 @@ carried_fresh who n a f =
       whole = λ _. none;
       messages = λ _. All-nil IsRequest;
       rest = [];
-      received = subst (λ (bytes : List ℕ). BeginsWith bytes [] []) (sym f.received) begins_none;
+      received = subst (λ (bytes : List ℕ). BeginsWithReplies bytes [] []) (sym f.received) begins_none;
       idle = λ _. f.received;
     }
 
@@ -138,7 +138,7 @@ carried_stopped s p q old new cause same d =
 
 -- The count of faults at a stop.
 count_at : (cause : PlayerCause) (before now : ℕ) (t : List Event) (s : ℕ) → NextCause before now (Some cause) → (cause ≢ causes.Memory → current_session t ≡ Some s) → is_cut t s ≡ false →
-    (now ≡ before) ⊎ ((cause ≡ causes.LinkFault) × IsOpen t s)
+    (now ≡ before) ⊎ ((cause ≡ causes.LinkFault) × IsUncut t s)
 count_at causes.Finished before now t s n current open_is = inl n
 count_at causes.Quit before now t s n current open_is = inl n
 count_at causes.LinkFault before now t s n current open_is = inr (refl, record { current = current (λ e. cc); open_is = open_is })
@@ -237,7 +237,7 @@ module _ {E : Type 0} (told : E → Told) (faults : E → ℕ) (calm : E → Typ
     left_ends : (cause : PlayerCause) → q.client.who ≡ p.client.who →
         ((n : ℕ) → n ≢ k → asked p.client.who.client p.client.who.interest q.client.events n ≡ asked p.client.who.client p.client.who.interest p.client.events n) →
         ((n : ℕ) → n ≢ k → got q.client.events n ≡ got p.client.events n) →
-        IsCarried (SentAll cause) q.client.who q.client.events k (told x) (told y) → (faults y ≡ faults x) ⊎ ((cause ≡ causes.LinkFault) × IsOpen q.client.events k) →
+        IsCarried (SentAll cause) q.client.who q.client.events k (told x) (told y) → (faults y ≡ faults x) ⊎ ((cause ≡ causes.LinkFault) × IsUncut q.client.events k) →
         AreKept (IsLeft told faults calm q.client.who q.client.events cause) old (slice_set now k y)
     left_ends cause who asks gets carried f =
         kept_set (IsSoFar told faults calm p.client.who p.client.events) (IsLeft told faults calm q.client.who q.client.events cause) old now k x y playing.ends at_k
@@ -248,7 +248,7 @@ module _ {E : Type 0} (told : E → Told) (faults : E → ℕ) (calm : E → Typ
         })
         (λ a was r. record {
           carried = subst (λ (e : E). IsCarried (SentAll cause) q.client.who q.client.events k (told e) (told y)) (came a r) carried;
-          faults_are = subst (λ (e : E). (faults y ≡ faults e) ⊎ ((cause ≡ causes.LinkFault) × IsOpen q.client.events k)) (came a r) f;
+          faults_are = subst (λ (e : E). (faults y ≡ faults e) ⊎ ((cause ≡ causes.LinkFault) × IsUncut q.client.events k)) (came a r) f;
           calm_is = λ c. calm_is (subst calm (sym (came a r)) c);
         })
 
@@ -325,16 +325,16 @@ module _ {E : Type 0} (told : E → Told) (faults : E → ℕ) (calm : E → Typ
   pub none_closed : (ends : List E) → AreKept (IsClosing told faults calm 0) ends ends
   none_closed ends = record { count = refl; each = λ n a b was is. record { below = λ l. absurd (omega arith); ahead = λ _. same_Some b a (sym is ∙ was) } }
 
-  pub one_closed : (old now : List E) (k : ℕ) (x y : E) → AreKept (IsClosing told faults calm k) old now → slice_get now k ≡ Some x → IsClosed told faults calm x y →
+  pub one_closed : (old now : List E) (k : ℕ) (x y : E) → AreKept (IsClosing told faults calm k) old now → slice_get now k ≡ Some x → IsClosedEnd told faults calm x y →
       AreKept (IsClosing told faults calm (k + 1)) old (slice_set now k y)
   one_closed old now k x y kept at_k c =
       kept_set (IsClosing told faults calm k) (IsClosing told faults calm (k + 1)) old now k x y kept at_k
       (λ n a b ne r. record { below = λ l. r.below (omega (arith, l, ne)); ahead = λ l. r.ahead (omega arith) })
       (λ a was r. record {
-        below = λ _. subst (λ (e : E). IsClosed told faults calm e y) (r.ahead (omega arith)) c;
+        below = λ _. subst (λ (e : E). IsClosedEnd told faults calm e y) (r.ahead (omega arith)) c;
         ahead = λ l. absurd (omega arith);
       })
 
-  pub all_closed : (old now : List E) (k : ℕ) → length now ≤ k → AreKept (IsClosing told faults calm k) old now → AreKept (λ n. IsClosed told faults calm) old now
+  pub all_closed : (old now : List E) (k : ℕ) → length now ≤ k → AreKept (IsClosing told faults calm k) old now → AreKept (λ n. IsClosedEnd told faults calm) old now
   all_closed old now k few kept =
       record { count = kept.count; each = λ n a b was is. (kept.each n a b was is).below (omega (arith, few, slice_get_within now n b is)) }

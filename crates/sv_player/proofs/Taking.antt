@@ -19,7 +19,7 @@ use Rattle.sv_player.specs.declared.buffers.Buffers.{Buffers}
 use Rattle.sv_player.specs.declared.outcome.PlayerCause.{PlayerCause}
 use Rattle.sv_player.specs.declared.outcome.PlayerCause.TheVariants as causes
 use Rattle.sv_player.specs.declared.playing.Player.{Player}
-use Rattle.sv_player.specs.Carried.{request_frames, BeginsWith, Posted, PostedPart}
+use Rattle.sv_player.specs.Carried.{request_frames, BeginsWithReplies, Posted, PostedPart}
 use Rattle.sv_script.specs.Following.{is_bye}
 use Rattle.sv_player.specs.Going.{IsGoing, Did, DidInPart, IsHere}
 use Rattle.sv_player.specs.Sessions.{IsAt, IsFirst, Got, Stopped, IsReason}
@@ -65,10 +65,10 @@ module _ (s : ℕ) (reply : Reply) (p q : Player) (b : Buffers) (end : Told) (at
   asks_are : asked p.client.who.client p.client.who.interest (e ∷ t) s ≡ asked p.client.who.client p.client.who.interest t s ++ asks
   asks_are = asks_here p.client.who s t e at.current
 
-  received : (reader : List ℕ) → Skips b.reader reader → BeginsWith end.received (got (e ∷ t) s) reader
+  received : (reader : List ℕ) → Skips b.reader reader → BeginsWithReplies end.received (got (e ∷ t) s) reader
   received reader skips =
       let off = skipped b.reader reader first.payload first.first skips in
-      subst (λ (gots : List Reply). BeginsWith end.received gots reader) (sym (got_one s reply t))
+      subst (λ (gots : List Reply). BeginsWithReplies end.received gots reader) (sym (got_one s reply t))
       (begins_next end.received b.reader reader first.payload (got t s) reply at.linked.received off.0 off.1 first.read)
 
   -- Its Done, if it makes one, was posted.
@@ -90,7 +90,7 @@ module _ (s : ℕ) (reply : Reply) (p q : Player) (b : Buffers) (end : Told) (at
                           open_is = ap (λ (x : Told). x.closed) posted.told ∙ at.linked.open_is;
                           sent = sent_posted p.client.who t (e ∷ t) s asks asks_are end new b.reader b.outbox c.outbox at.linked posted;
                           messages = messages_more p.client.who t (e ∷ t) s asks asks_are at.linked.messages messages;
-                          received = subst (λ (bytes : List ℕ). BeginsWith bytes (got (e ∷ t) s) c.reader) (sym (ap (λ (x : Told). x.received) posted.told)) (received c.reader skips);
+                          received = subst (λ (bytes : List ℕ). BeginsWithReplies bytes (got (e ∷ t) s) c.reader) (sym (ap (λ (x : Told). x.received) posted.told)) (received c.reader skips);
                         });
                   };
               onward = onward_by s e p q refl did.who did.script did.first did.events;
@@ -117,7 +117,7 @@ module _ (s : ℕ) (reply : Reply) (p q : Player) (b : Buffers) (end : Told) (at
             (record {
               sent = sent_part p.client.who t (e ∷ t) s asks asks_are end new b.reader b.outbox at.linked posted;
               rest = reader;
-              received = subst (λ (bytes : List ℕ). BeginsWith bytes (got (e ∷ t) s) reader) (sym (ap (λ (x : Told). x.received) posted.told)) (received reader skips);
+              received = subst (λ (bytes : List ℕ). BeginsWithReplies bytes (got (e ∷ t) s) reader) (sym (ap (λ (x : Told). x.received) posted.told)) (received reader skips);
             });
         whole = λ x y. absurd (elim why [ inl l ↦ x l | inr m ↦ y m ]);
         messages = λ x y. absurd (elim why [ inl l ↦ x l | inr m ↦ y m ]);

@@ -26,7 +26,7 @@ use Rattle.sv_player.specs.declared.outcome.PlayerCause.TheVariants as causes
 use Rattle.sv_player.specs.declared.playing.Player.{Player}
 use Rattle.sv_player.specs.Carried.{request_frames, Posted, PostedPart, IsLinked}
 use Rattle.sv_player.specs.Going.{IsGoing, Did, DidInPart, IsReady}
-use Rattle.sv_player.specs.Sessions.{IsAt, Onward, IsReason, Stopped, GoesOn, IsTurn, IsSent, IsFresh, FaultCause}
+use Rattle.sv_player.specs.Sessions.{IsAt, Onward, IsReason, Stopped, SessionGoesOn, IsTurn, IsSent, IsFresh, FaultCause}
 use Rattle.sv_player.specs.Waiting.{PutBehind}
 use Rattle.sv_player.proofs.Linking.{frames_none, begins_none, linked_posted, linked_part, linked_still}
 use Rattle.sv_player.proofs.Onward.{IsOf, asks_other, gets_other, cuts_other, asks_here}
@@ -101,7 +101,7 @@ module _ (s : ℕ) (e : Event) (left : List Step) (p q : Player) (end : Told) (r
   asks = newly_asked p.client.who t e
 
   -- It was done and posted.
-  pub goes_by : (b : Buffers) (new : Told) → b.reader ≡ reader → Did e left p q → Posted end outbox (request_frames asks) new b.outbox → All IsRequest asks → GoesOn s e p q b new
+  pub goes_by : (b : Buffers) (new : Told) → b.reader ≡ reader → Did e left p q → Posted end outbox (request_frames asks) new b.outbox → All IsRequest asks → SessionGoesOn s e p q b new
   goes_by b new same did posted fine =
       record {
         at =

@@ -24,7 +24,7 @@ abbrev pub was_read : Reply → Result Reply Malformed
 was_read reply = Ok reply
 
 -- a stream begins with the frames of payloads that are read as these replies, in order, and this comes after them
-pub record BeginsWith (stream : List ℕ) (replies : List Reply) (rest : List ℕ) : Type 0 where
+pub record BeginsWithReplies (stream : List ℕ) (replies : List Reply) (rest : List ℕ) : Type 0 where
   pub payloads : List (List ℕ)
   pub whole : stream ≡ frames_of payloads ++ rest
   pub fit : AllByRecursion FitsFrame payloads
@@ -58,10 +58,10 @@ pub record IsLinked (who : Identity) (t : List Event) (s : ℕ) (end : Told) (re
   pub open_is : end.closed ≡ false
   pub sent : end.sent ++ outbox ≡ request_frames (asked who.client who.interest t s)
   pub messages : All IsRequest (asked who.client who.interest t s)
-  pub received : BeginsWith end.received (got t s) reader
+  pub received : BeginsWithReplies end.received (got t s) reader
 
 -- Whatever stopped the client, the end of session s sent a front part of what was asked, and received the replies that were got.
 pub record IsLinkedInPart (who : Identity) (t : List Event) (s : ℕ) (end : Told) : Type 0 where
   pub sent : IsPrefix end.sent (request_frames (asked who.client who.interest t s))
   pub rest : List ℕ
-  pub received : BeginsWith end.received (got t s) rest
+  pub received : BeginsWithReplies end.received (got t s) rest

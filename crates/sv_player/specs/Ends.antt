@@ -15,7 +15,7 @@ use Rattle.sv_player.specs.declared.outcome.Ending.TheVariants as endings
 use Rattle.sv_player.specs.declared.outcome.PlayerCause.{PlayerCause}
 use Rattle.sv_player.specs.declared.outcome.PlayerCause.TheVariants as causes
 use Rattle.sv_player.specs.declared.playing.Player.{Player}
-use Rattle.sv_player.specs.Carried.{request_frames, BeginsWith}
+use Rattle.sv_player.specs.Carried.{request_frames, BeginsWithReplies}
 use Rattle.sv_player.specs.Going.{AreTold, IsGoing}
 use Rattle.sv_player.specs.Stops.{is_cut}
 use Rattle.sv_player.specs.Sessions.{IsSameEnd, IsReason, Ended, Stopped}
@@ -30,11 +30,11 @@ pub record IsCarried (W : Type 0) (who : Identity) (t : List Event) (n : ℕ) (o
   pub whole : W → new.sent ≡ request_frames (asked who.client who.interest t n)
   pub messages : W → All IsRequest (asked who.client who.interest t n)
   pub rest : List ℕ
-  pub received : BeginsWith new.received (got t n) rest
+  pub received : BeginsWithReplies new.received (got t n) rest
   pub idle : asked who.client who.interest t n ≡ [] → new.received ≡ []
 
 -- the session that was begun last, where the events neither cut nor quit in it
-pub record IsOpen (t : List Event) (n : ℕ) : Type 0 where
+pub record IsUncut (t : List Event) (n : ℕ) : Type 0 where
   pub current : current_session t ≡ Some n
   pub open_is : is_cut t n ≡ false
 
@@ -59,14 +59,14 @@ pub record AreKept {E : Type 0} (R : ℕ → E → E → Type 0) (old new : List
 
 module _ {E : Type 0} (told : E → Told) (faults : E → ℕ) (calm : E → Type 0) where
   -- an end that was closed, and nothing else
-  pub record IsClosed (a b : E) : Type 0 where
+  pub record IsClosedEnd (a b : E) : Type 0 where
     pub told_is : told b ≡ record (told a) { closed = true }
     pub faults_are : faults b ≡ faults a
     pub calm_is : calm a → calm b
 
   -- the ends below a place were closed, and the others are as they were
   pub record IsClosing (place n : ℕ) (a b : E) : Type 0 where
-    pub below : n < place → IsClosed a b
+    pub below : n < place → IsClosedEnd a b
     pub ahead : place ≤ n → b ≡ a
 
   -- The sessions so far are over. The ends of later ones are as they were.
@@ -89,7 +89,7 @@ module _ {E : Type 0} (told : E → Told) (faults : E → ℕ) (calm : E → Typ
   -- What the end of session n is when the player stops.
   pub record IsLeft (who : Identity) (t : List Event) (cause : PlayerCause) (n : ℕ) (a b : E) : Type 0 where
     pub carried : IsCarried (SentAll cause) who t n (told a) (told b)
-    pub faults_are : (faults b ≡ faults a) ⊎ ((cause ≡ causes.LinkFault) × IsOpen t n)
+    pub faults_are : (faults b ≡ faults a) ⊎ ((cause ≡ causes.LinkFault) × IsUncut t n)
     pub calm_is : calm a → calm b
 
   -- Something stopped the player in the session that is open, and shows at its end.
@@ -99,7 +99,7 @@ module _ {E : Type 0} (told : E → Told) (faults : E → ℕ) (calm : E → Typ
     pub after : E
     pub was : slice_get old place ≡ Some before
     pub is : slice_get new place ≡ Some after
-    pub session : IsOpen t place
+    pub session : IsUncut t place
     pub going_on : is_finished t ≡ false
     pub rose : NextCause (faults before) (faults after) (Some cause)
     pub reason : IsReason who t first place (told after) cause

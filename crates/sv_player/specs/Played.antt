@@ -18,7 +18,7 @@ use Rattle.sv_script.specs.Following.{Follows, FollowsToEnd}
 use Rattle.sv_player.specs.Stops.{IsBad, IsShut, is_cut}
 use Rattle.sv_player.specs.declared.outcome.PlayerCause.{PlayerCause}
 use Rattle.sv_player.specs.declared.outcome.PlayerCause.TheVariants as causes
-use Rattle.sv_player.specs.Carried.{request_frames, BeginsWith}
+use Rattle.sv_player.specs.Carried.{request_frames, BeginsWithReplies}
 
 abbrev pub replies_of : Trace → ℕ → List Rattle.sv_wire.specs.declared.message.Reply.Reply
 replies_of trace s = got (reverse trace.events) s
@@ -44,7 +44,7 @@ pub record IsDone (trace : Trace) (cause : PlayerCause) (s : ℕ) (old new : Tol
   pub whole : SentAll cause → new.sent ≡ request_frames (requests_of trace s)
   pub messages : SentAll cause → All IsRequest (requests_of trace s)
   pub rest : List ℕ
-  pub received : BeginsWith new.received (replies_of trace s) rest
+  pub received : BeginsWithReplies new.received (replies_of trace s) rest
 
 -- Session s was not begun: nothing was asked or got in it, and nothing sent or received over its end.
 pub record IsIdle (trace : Trace) (s : ℕ) (end : Told) : Type 0 where

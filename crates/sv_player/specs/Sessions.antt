@@ -24,7 +24,7 @@ use Rattle.sv_player.specs.declared.outcome.PlayerCause.TheVariants as causes
 use Rattle.sv_player.specs.declared.playing.Player.{Player}
 use Rattle.sv_player.specs.declared.outcome.Ending.{Ending}
 use Rattle.sv_player.specs.declared.outcome.Ending.TheVariants as endings
-use Rattle.sv_player.specs.Carried.{request_frames, BeginsWith, Posted, PostedPart, IsLinked, IsLinkedInPart}
+use Rattle.sv_player.specs.Carried.{request_frames, BeginsWithReplies, Posted, PostedPart, IsLinked, IsLinkedInPart}
 use Rattle.sv_player.specs.Going.{AreTold, IsGoing, IsHere, IsReady}
 
 -- The player is in session s, over this end.
@@ -59,7 +59,7 @@ pub record Ended (s : ℕ) (old new : Player) (end : Told) (ending : Ending) : T
   pub sent : end.sent ≡ request_frames (asked new.client.who.client new.client.who.interest new.client.events s)
   pub messages : All IsRequest (asked new.client.who.client new.client.who.interest new.client.events s)
   pub rest : List ℕ
-  pub received : BeginsWith end.received (got new.client.events s) rest
+  pub received : BeginsWithReplies end.received (got new.client.events s) rest
 
 -- ---- Why a player stops
 
@@ -102,20 +102,20 @@ pub record Stopped (s : ℕ) (old new : Player) (end : Told) (cause : PlayerCaus
   pub reason : IsReason new.client.who new.client.events new.first s end cause
 
 -- The player did this event in session s, and goes on.
-pub record GoesOn (s : ℕ) (e : Event) (old new : Player) (b : Buffers) (end : Told) : Type 0 where
+pub record SessionGoesOn (s : ℕ) (e : Event) (old new : Player) (b : Buffers) (end : Told) : Type 0 where
   pub at : IsAt s new b end
   pub onward : Onward s old new
   pub events : new.client.events ≡ e ∷ old.client.events
 
 -- what an event of a player answers
 abbrev pub IsTurn : Result Unit PlayerCause → ℕ → Event → Player → Player → Buffers → Told → Type 0
-IsTurn (Ok _) s e old new b end = GoesOn s e old new b end
+IsTurn (Ok _) s e old new b end = SessionGoesOn s e old new b end
 IsTurn (Err cause) s e old new b end = Stopped s old new end cause
 
 -- The player got a reply in session s, and goes on, or it was the Bye.
 pub record Got (s : ℕ) (bye : Bool) (old new : Player) (b : Buffers) (end : Told) : Type 0 where
   pub reply : Reply
-  pub turn : GoesOn s (events.Got s reply) old new b end
+  pub turn : SessionGoesOn s (events.Got s reply) old new b end
   pub left : new.left.now ≡ old.left.now
   pub bye_is : bye ≡ is_finished new.client.events
   pub whole : bye ≡ true → b.outbox ≡ []
@@ -132,9 +132,9 @@ IsMoved (Ok (Some ending)) s old new b end = Ended s old new end ending
 IsMoved (Err cause) s old new b end = Stopped s old new end cause
 
 -- what a session answers
-abbrev pub IsPlayed : Result Ending PlayerCause → ℕ → Player → Player → Told → Type 0
-IsPlayed (Ok ending) s old new end = Ended s old new end ending
-IsPlayed (Err cause) s old new end = Stopped s old new end cause
+abbrev pub IsSessionPlayed : Result Ending PlayerCause → ℕ → Player → Player → Told → Type 0
+IsSessionPlayed (Ok ending) s old new end = Ended s old new end ending
+IsSessionPlayed (Err cause) s old new end = Stopped s old new end cause
 
 -- It is the same end of the same pair.
 pub record IsSameEnd (old new : Told) : Type 0 where

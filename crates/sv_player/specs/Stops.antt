@@ -13,7 +13,7 @@ use Rattle.sv_client.specs.Taking.{Identity}
 use Rattle.sv_client.specs.Answers.{IsTakeFault}
 use Rattle.sv_player.specs.declared.outcome.ReplyFault.{ReplyFault}
 use Rattle.sv_player.specs.declared.outcome.ReplyFault.TheVariants as faults
-use Rattle.sv_player.specs.Carried.{BeginsWith}
+use Rattle.sv_player.specs.Carried.{BeginsWithReplies}
 
 -- the trace cut session s, or quit in it
 abbrev pub is_cut : List Event → ℕ → Bool
@@ -31,7 +31,7 @@ abbrev pub first_payload : List ℕ → Option (List ℕ)
 first_payload rest = option_map (λ (f : List ℕ × List ℕ). f.0) (first_frame rest)
 
 -- The payload is read as a reply that the client does not take, for this fault.
-pub record IsRefused (who : Identity) (t : List Event) (payload : List ℕ) (fault : TakeFault) : Type 0 where
+pub record IsNotTaken (who : Identity) (t : List Event) (payload : List ℕ) (fault : TakeFault) : Type 0 where
   pub reply : Reply
   pub read : reply_at payload ≡ Ok reply
   pub fault_is : IsTakeFault who t reply fault
@@ -39,7 +39,7 @@ pub record IsRefused (who : Identity) (t : List Event) (payload : List ℕ) (fau
 
 -- why the first frame of the rest that was received is no reply that can be taken
 abbrev pub IsBadRest : Identity → List Event → List ℕ → List ℕ → ReplyFault → Type 0
-IsBadRest who t rest payload (faults.Take fault) = (first_payload rest ≡ Some payload) × IsRefused who t payload fault
+IsBadRest who t rest payload (faults.Take fault) = (first_payload rest ≡ Some payload) × IsNotTaken who t payload fault
 IsBadRest who t rest payload (faults.Wire fault) = (first_payload rest ≡ Some payload) × (reply_at payload ≡ Err fault)
 IsBadRest who t rest payload (faults.TooLong n) = (payload ≡ []) × (too_long rest ≡ Some n)
 
@@ -48,11 +48,11 @@ pub record IsShut (who : Identity) (t : List Event) (s : ℕ) (end : Told) : Typ
   pub awaited : length (got t s) < length (asked who.client who.interest t s)
   pub ended : end.ended ≡ true
   pub rest : List ℕ
-  pub received : BeginsWith end.received (got t s) rest
+  pub received : BeginsWithReplies end.received (got t s) rest
   pub none : NoneCame rest
 
 -- The rest that was received in session s begins with no reply that can be taken.
 pub record IsBad (who : Identity) (t : List Event) (s : ℕ) (end : Told) (payload : List ℕ) (fault : ReplyFault) : Type 0 where
   pub rest : List ℕ
-  pub received : BeginsWith end.received (got t s) rest
+  pub received : BeginsWithReplies end.received (got t s) rest
   pub bad : IsBadRest who t rest payload fault

@@ -32,14 +32,14 @@ IsFrontOf (Some (waited.TooLong n)) rest = too_long rest ≡ Some n
 IsFrontOf (Some _) rest = ⊥
 
 -- so many bytes more came
-pub record Grew (old : Told) (before : List ℕ) (new : Told) (after : List ℕ) : Type 0 where
+pub record MoreCame (old : Told) (before : List ℕ) (new : Told) (after : List ℕ) : Type 0 where
   pub bytes : List ℕ
   pub told : new ≡ receiving old bytes
   pub rest : after ≡ before ++ bytes
 
 -- bytes came; or the end told that no more will come; or nothing changed
 abbrev pub IsReadOn : Option Waited → Told → List ℕ → Told → List ℕ → Type 0
-IsReadOn None old before new after = Grew old before new after × (length before < length after)
+IsReadOn None old before new after = MoreCame old before new after × (length before < length after)
 IsReadOn (Some waited.Ended) old before new after = (new ≡ record old { ended = true }) × (after ≡ before)
 IsReadOn (Some waited.Failed) old before new after = (new ≡ old) × (after ≡ before)
 IsReadOn (Some waited.Memory) old before new after = (new ≡ old) × (after ≡ before)
@@ -50,19 +50,19 @@ ReadOnCause before now (Some waited.Failed) = Rose before now
 ReadOnCause before now _ = now ≡ before
 
 -- bytes came, and then the end told that no more will come
-pub record GrewToEnd (old : Told) (before : List ℕ) (new : Told) (after : List ℕ) : Type 0 where
+pub record CameToEnd (old : Told) (before : List ℕ) (new : Told) (after : List ℕ) : Type 0 where
   pub last : Told
-  pub grew : Grew old before last after
+  pub grew : MoreCame old before last after
   pub ended : new ≡ record last { ended = true }
   pub none : NoneCame after
 
 -- what came while a reply was awaited, and what ended the wait
 abbrev pub IsWaited : Waited → Told → List ℕ → Told → List ℕ → Type 0
-IsWaited waited.Came old before new after = Grew old before new after × (first_frame after ≢ None)
-IsWaited (waited.TooLong n) old before new after = Grew old before new after × (too_long after ≡ Some n)
-IsWaited waited.Ended old before new after = GrewToEnd old before new after
-IsWaited waited.Failed old before new after = Grew old before new after
-IsWaited waited.Memory old before new after = Grew old before new after
+IsWaited waited.Came old before new after = MoreCame old before new after × (first_frame after ≢ None)
+IsWaited (waited.TooLong n) old before new after = MoreCame old before new after × (too_long after ≡ Some n)
+IsWaited waited.Ended old before new after = CameToEnd old before new after
+IsWaited waited.Failed old before new after = MoreCame old before new after
+IsWaited waited.Memory old before new after = MoreCame old before new after
 
 abbrev pub WaitedCause : ℕ → ℕ → Waited → Type 0
 WaitedCause before now waited.Failed = Rose before now

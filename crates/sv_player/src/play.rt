@@ -9,7 +9,7 @@ ghost use Rattle.sv_script.specs.Following.{must_join};
 ghost use Rattle.sv_script.specs.Telling.{told_lines};
 ghost use Rattle.sv_player.specs.Going.{IsGoing, IsNew, MayPlay};
 ghost use Rattle.sv_player.specs.Sessions.{IsFresh, IsSameEnd};
-ghost use Rattle.sv_player.specs.Ends.{IsPlayedNext, NextCause, AreKept, IsClosed, HasPlayed};
+ghost use Rattle.sv_player.specs.Ends.{IsPlayedNext, NextCause, AreKept, IsClosedEnd, HasPlayed};
 ghost use Rattle.sv_player.specs.Played.{IsTraceOf, HasFollowed, AreDone, IsCause, IsExact};
 
 use crate::outcome::{Ending, PlayerCause, PlayerOut};
@@ -85,7 +85,7 @@ impl<'a> Player<'a> {
 
 /// Closes all ends.
 fn close_all<E: End>(ends: &mut [E])
-    ensures { AreKept (λ n. IsClosed E.told E.faults E.calm) ends.old ends.new }
+    ensures { AreKept (λ n. IsClosedEnd E.told E.faults E.calm) ends.old ends.new }
 {
     for place in 0..ends.len() {
         ends[place].close();

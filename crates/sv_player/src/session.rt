@@ -17,7 +17,7 @@ ghost use Rattle.sv_player.specs.declared.outcome.PlayerCause.TheVariants as cau
 ghost use Rattle.sv_player.specs.Carried.{request_frames, which_end};
 ghost use Rattle.sv_player.specs.Going.{IsGoing, IsHere, IsReady, Did};
 ghost use Rattle.sv_player.specs.Partings.{parting_step};
-ghost use Rattle.sv_player.specs.Sessions.{IsAt, IsFresh, IsSameEnd, IsTurn, IsReceived, IsMoved, IsPlayed, IsSent, IsAnswered, FaultCause, IsFirst, IsFrameFault};
+ghost use Rattle.sv_player.specs.Sessions.{IsAt, IsFresh, IsSameEnd, IsTurn, IsReceived, IsMoved, IsSessionPlayed, IsSent, IsAnswered, FaultCause, IsFirst, IsFrameFault};
 
 use crate::buffers::{Buffers, Waited};
 use crate::moves::{Making, Move};
@@ -143,7 +143,7 @@ impl<'a> Player<'a> {
         requires at { IsAt (latest_session self.old.client.events) self.old buffers.old (E.told end.old) }
         requires ready { IsReady self.old.client.who self.old.client.events self.old.left.now }
         requires next { unsynced self.old.client.who self.old.client.events self.old.left.now ≡ parting_step parting ∷ rest.now }
-        ensures played { IsPlayed result (latest_session self.old.client.events) self.old self.new (E.told end.new) }
+        ensures played { IsSessionPlayed result (latest_session self.old.client.events) self.old self.new (E.told end.new) }
         ensures same_end { which_end (E.told end.new) ≡ which_end (E.told end.old) }
         ensures cause { FaultCause (E.faults end.old) (E.faults end.new) result }
         ensures calm { E.calm end.old → E.calm end.new }
@@ -415,7 +415,7 @@ impl<'a> Player<'a> {
         requires needed { must_join self.old.client.events ≡ true }
         requires few { joins self.old.client.events < most_sessions }
         requires fresh { IsFresh (E.told end.old) }
-        ensures played { IsPlayed result (joins self.old.client.events) self.old self.new (E.told end.new) }
+        ensures played { IsSessionPlayed result (joins self.old.client.events) self.old self.new (E.told end.new) }
         ensures end { IsSameEnd (E.told end.old) (E.told end.new) }
         ensures cause { FaultCause (E.faults end.old) (E.faults end.new) result }
         ensures calm { E.calm end.old → E.calm end.new }

@@ -8,7 +8,7 @@ use Rattle.sv_wire.specs.declared.message.Request.{Request}
 use Rattle.sv_wire.specs.declared.message.Reply.{Reply}
 use Rattle.sv_client.specs.declared.trace.Event.{Event}
 use Rattle.sv_client.specs.declared.trace.Event.TheVariants as events
-use Rattle.sv_client.specs.Traces.{joins, is_join, current_session, is_session, asked, asked_by, got}
+use Rattle.sv_client.specs.Traces.{joins, is_join, current_session, is_session, asked, asked_by_event, got}
 use Rattle.sv_client.specs.Taking.{Identity}
 use Rattle.sv_client.specs.Proper.{AreProper}
 use Rattle.sv_client.specs.Seen.{raised, latest_session, newly_asked}
@@ -138,7 +138,7 @@ module _ (who : Identity) (first : ℕ) (t : List Event) (left : List Step) (fit
   begun_here (events.Show os) j g = joined_it (sym j.needed)
 
   asks_here : (e : Event) → JoinsNext t e → is_got e ≡ false → (s : ℕ) →
-      asked who.client who.interest (Up first t) s ++ asked_by who.client who.interest (Up first t) (raised first e) s
+      asked who.client who.interest (Up first t) s ++ asked_by_event who.client who.interest (Up first t) (raised first e) s
       ≡ asked who.client who.interest (Up first t) s ++ (if session_of old == s then newly_asked who t e else [])
   asks_here e j g s = ap (λ (rs : List Request). asked who.client who.interest (Up first t) s ++ rs)
       (asks_up who first t e g s ∙ ap (λ (n : ℕ). if n == s then newly_asked who t e else []) (place_is e j))

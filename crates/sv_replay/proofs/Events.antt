@@ -8,7 +8,7 @@ use Rattle.sv_wire.specs.declared.message.Request.TheVariants as requests
 use Rattle.sv_wire.specs.declared.message.Reply.{Reply}
 use Rattle.sv_client.specs.declared.trace.Event.{Event}
 use Rattle.sv_client.specs.declared.trace.Event.TheVariants as events
-use Rattle.sv_client.specs.Traces.{joins, current_session, is_session, makes, asked_by, got}
+use Rattle.sv_client.specs.Traces.{joins, current_session, is_session, makes, asked_by_event, got}
 use Rattle.sv_client.specs.Taking.{Identity}
 use Rattle.sv_client.specs.Proper.{AreProper}
 use Rattle.sv_client.specs.Seen.{raised, latest_session, newly_asked}
@@ -62,7 +62,7 @@ is_got _ = false
 
 -- What an event asks is asked of the session that then is the last one.
 pub asks_up : (who : Identity) (first : ℕ) (t : List Event) (e : Event) → is_got e ≡ false → (s : ℕ) →
-    asked_by who.client who.interest (Up first t) (raised first e) s ≡ (if latest_session (e ∷ t) + first == s then newly_asked who t e else [])
+    asked_by_event who.client who.interest (Up first t) (raised first e) s ≡ (if latest_session (e ∷ t) + first == s then newly_asked who t e else [])
 asks_up who first t (events.Join n) g s = rw (up_joins first t, up_pending first t, eq-eqb n n refl) refl
 asks_up who first t (events.Make a) g s =
     asked_once first t s (requests.Submit (suc (makes (Up first t))) a ∷ []) (requests.Submit (suc (makes t)) a ∷ []) (ap (λ n. requests.Submit (suc n) a ∷ []) (up_makes first t))
@@ -75,7 +75,7 @@ asks_up who first t (events.Show os) g s = sym (either_way (latest_session t + f
 
 -- What a reply of the last session makes a client ask.
 pub asks_got : (who : Identity) (first : ℕ) (t : List Event) (m : ℕ) (reply : Reply) → m ≡ latest_session t → (s : ℕ) →
-    asked_by who.client who.interest (Up first t) (events.Got (m + first) reply) s ≡ (if m + first == s then newly_asked who t (events.Got m reply) else [])
+    asked_by_event who.client who.interest (Up first t) (events.Got (m + first) reply) s ≡ (if m + first == s then newly_asked who t (events.Got m reply) else [])
 asks_got who first t m reply e s = rw (up_held first t, eq-eqb m (latest_session t) e) refl
 
 -- ---- Got

@@ -11,7 +11,7 @@ use Rattle.sv_journal.specs.declared.entry.Entry.{Entry}
 use Rattle.sv_journal.specs.Sessions.{is_end, is_ended}
 use Rattle.sv_client.specs.declared.trace.Event.{Event}
 use Rattle.sv_client.specs.declared.trace.Event.TheVariants as events
-use Rattle.sv_client.specs.Traces.{current_session, is_session, asked, asked_by}
+use Rattle.sv_client.specs.Traces.{current_session, is_session, asked, asked_by_event}
 use Rattle.sv_client.specs.Taking.{Identity}
 use Rattle.sv_client.specs.Proper.{AreProper, MayFollow}
 use Rattle.sv_scenario.specs.declared.scenario.Scenario.{Scenario}
@@ -122,7 +122,7 @@ end_once (e ∷ h) s last =
 
 -- ---- Requests asked
 
-elsewhere : (who : Identity) (first : ℕ) (t : List Event) (e : Event) (s : ℕ) → MayFollow who first t e → is_session (current_session (e ∷ t)) s ≡ false → asked_by who.client who.interest t e s ≡ []
+elsewhere : (who : Identity) (first : ℕ) (t : List Event) (e : Event) (s : ℕ) → MayFollow who first t e → is_session (current_session (e ∷ t)) s ≡ false → asked_by_event who.client who.interest t e s ≡ []
 elsewhere who first t (events.Join n) s may f = cond-false (n == s) _ [] f
 elsewhere who first t (events.Make a) s may f = cond-false (is_session (current_session t) s) _ [] f
 elsewhere who first t events.Poll s may f = cond-false (is_session (current_session t) s) _ [] f

@@ -29,9 +29,9 @@ use Rattle.law_schedule.proofs.SoundCalls.{IsPlayer, player-at, session-next, se
 use Rattle.sv_replay.specs.declared.playing.Playing.{Playing}
 use Rattle.sv_exchange.specs.View.{ExchangeView, new_exchange}
 use Rattle.sv_replay.specs.Players.{session_of, IsFit, IsChannel, taken_from}
-use Rattle.sv_replay.specs.Serving.{ServerView, Served, next_history, next_channel}
+use Rattle.sv_replay.specs.Serving.{ServerView, HadTurn, next_history, next_channel}
 use Rattle.sv_replay.specs.Playable.{IsPlayable}
-use Rattle.sv_replay.specs.Machine.{player_of, AreFlags, Moved, Stage, run_of, IsMachine, Became}
+use Rattle.sv_replay.specs.Machine.{player_of, AreFlags, MovedPlayer, Stage, run_of, IsMachine, Became}
 use Rattle.sv_replay.proofs.Apart.{OthersSilent, sound_silent, got_by_one}
 use Rattle.sv_replay.proofs.Doing.{session_current}
 use Rattle.sv_replay.proofs.Moving.{take_shut, take_between, take_linked}
@@ -153,14 +153,14 @@ module _ (m w : Stage) (k : ℕ) (p q : Playing) (d : ExchangeView) (is : IsMach
   abbrev moved_run : Run
   moved_run = record { history = (run_of m).history; players = after }
 
-  quiet : IsSoundOver m.serves.server m.scenario moved_run → (moves : Moved (player_of q) p q c d) → OthersSilent n k (run_of m).players ⊎ ((moves.sent ≡ []) × (moves.taken ≡ []))
+  quiet : IsSoundOver m.serves.server m.scenario moved_run → (moves : MovedPlayer (player_of q) p q c d) → OthersSilent n k (run_of m).players ⊎ ((moves.sent ≡ []) × (moves.taken ≡ []))
   quiet sound moves = elim moves.moves.begun [
     | inr none ↦ inr none
     | inl begun ↦ inl (silent_unset n k (run_of m).players (player_of q)
         (sound_silent m.serves.server m.scenario moved_run n k (player_of q) sound (get_set (run_of m).players k (player_of p) (player_of q) place) begun))
   ]
 
-  channel_at : IsSoundOver m.serves.server m.scenario moved_run → (moves : Moved (player_of q) p q c d) → (s : ℕ) → s < session_count m.scenario →
+  channel_at : IsSoundOver m.serves.server m.scenario moved_run → (moves : MovedPlayer (player_of q) p q c d) → (s : ℕ) → s < session_count m.scenario →
       IsChannel moved_run s (get_or (set m.channels n d) s new_exchange)
   channel_at sound moves s l = elim (cases_Bool (n == s)) [
     | inl y ↦ (let same : n ≡ s = eqb-true n s y in
@@ -175,13 +175,13 @@ module _ (m w : Stage) (k : ℕ) (p q : Playing) (d : ExchangeView) (is : IsMach
   ]
 
   -- The machine after it is in step with the run after it.
-  pub moved_became : (f : Player → Player) (turn : Turn) → Moved (f (player_of p)) p q c d →
+  pub moved_became : (f : Player → Player) (turn : Turn) → MovedPlayer (f (player_of p)) p q c d →
       turn_served m.serves.server (run_of m) turn ≡ record { history = (run_of m).history; players = at_player (run_of m).players k f } →
       IsGoodTurn (length m.scenario.clients) (session_count m.scenario) turn →
       w.scenario ≡ m.scenario → w.serves ≡ m.serves → w.players ≡ set m.players k q → w.channels ≡ set m.channels n d →
       Became m w (turn_served m.serves.server (run_of m) turn)
   moved_became f turn did turns good scenario serves players channels =
-      let moves : Moved (player_of q) p q c d = subst (λ (x : Player). Moved x p q c d) (sym did.player) did in
+      let moves : MovedPlayer (player_of q) p q c d = subst (λ (x : Player). MovedPlayer x p q c d) (sym did.player) did in
       let next : turn_served m.serves.server (run_of m) turn ≡ moved_run =
       turns ∙ ap (λ (ps : List Player). record { history = (run_of m).history; players = ps })
       (place-is f (run_of m).players k (player_of p) place ∙ ap (λ (x : Player). set (run_of m).players k x) (sym did.player)) in
@@ -241,7 +241,7 @@ module _ (m w : Stage) (s : ℕ) (d : ExchangeView) (is : IsMachine m) (l : s < 
         (other_served m.serves.server is.playable.keeps h ps s own (is.channels s l) n (get_or m.channels n new_exchange) f named (is.channels n k)))
   ]
 
-  pub served_became : Served s m.serves w.serves own d →
+  pub served_became : HadTurn s m.serves w.serves own d →
       w.scenario ≡ m.scenario → w.players ≡ m.players → w.channels ≡ set m.channels s d → Became m w (turn_served m.serves.server (run_of m) (turns.Session s))
   served_became served scenario players channels =
       let new : run_of w ≡ run_at after_turn ps =

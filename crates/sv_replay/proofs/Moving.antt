@@ -29,7 +29,7 @@ use Rattle.sv_replay.specs.declared.playing.Playing.{Playing}
 use Rattle.sv_exchange.specs.View.{ExchangeView, TakesReply}
 use Rattle.sv_replay.specs.Messages.{AsksMessages}
 use Rattle.sv_replay.specs.Players.{session_of, asked_by_player, IsFit, Moves, is_closing, taken_from}
-use Rattle.sv_replay.specs.Machine.{player_of, AreFlags, IsReady, Does, Moved}
+use Rattle.sv_replay.specs.Machine.{player_of, AreFlags, IsReady, Does, MovedPlayer}
 use Rattle.sv_replay.proofs.Events.{is_got, up_must}
 use Rattle.sv_replay.proofs.Doing.{player, session_latest, JoinsNext, event_moves, close_moves, got_moves, still_moves, left_moves}
 
@@ -45,7 +45,7 @@ at_closed : (who : Identity) (first : ℕ) (t : List Event) (left : List Step) (
 at_closed who first t left b P e h = subst (λ x. P (player who first t left x)) (sym e) h
 
 pub does_moved : (e : Event) (rest : List Step) (closed : Bool) (p q : Playing) (c d : ExchangeView) → IsFit 64 (player_of p) → p.closed ≡ false → JoinsNext p.client.events e →
-    is_got e ≡ false → closed ≡ is_quit e → Does e rest closed p q c d → Moved (next_player p e rest) p q c d
+    is_got e ≡ false → closed ≡ is_quit e → Does e rest closed p q c d → MovedPlayer (next_player p e rest) p q c d
 does_moved e rest closed p q c d fit linked j g quits did =
     let who = p.client.who in
     let t = p.client.events in
@@ -68,7 +68,7 @@ or_none : (b : Bool) → b ≡ (b || false)
 or_none true = refl
 or_none false = refl
 
-pub still_moved : (p : Playing) (c : ExchangeView) → AreFlags p → Moved (player_of p) p p c c
+pub still_moved : (p : Playing) (c : ExchangeView) → AreFlags p → MovedPlayer (player_of p) p p c c
 still_moved p c flags = record {
   player = refl;
   flags = flags;
@@ -168,9 +168,9 @@ no_join t e j m = record { needed = j ∙ sym m; next = λ n is. absurd (let oth
 
 -- A ready client did an event that is no join.
 pub ready_moved : (e : Event) (rest : List Step) (next : Player) (p q : Playing) (c d : ExchangeView) → IsReady p → is_got e ≡ false → is_join e ≡ false →
-    next ≡ next_player p e rest → Does e rest (is_quit e) p q c d → Moved next p q c d
+    next ≡ next_player p e rest → Does e rest (is_quit e) p q c d → MovedPlayer next p q c d
 ready_moved e rest next p q c d ready g j is did =
-    subst (λ (n : Player). Moved n p q c d) (sym is)
+    subst (λ (n : Player). MovedPlayer n p q c d) (sym is)
     (does_moved e rest (is_quit e) p q c d ready.fit ready.linked (no_join p.client.events e j ready.joined) g refl did)
 
 -- As it did before, where the flag of a closed link is as it was.
@@ -181,13 +181,13 @@ pub left_is : (e : Event) (rest other : List Step) (p q : Playing) (c d : Exchan
 left_is e rest other p q c d same did = subst (λ (ss : List Step). Does e ss false p q c d) same did
 
 pub joined_moved : (p q : Playing) (c d : ExchangeView) → IsFit 64 (player_of p) → p.closed ≡ false → must_join p.client.events ≡ true →
-    Does (events.Join (joins p.client.events)) p.left.now p.closed p q c d → Moved (player_turn (player_of p)) p q c d
+    Does (events.Join (joins p.client.events)) p.left.now p.closed p q c d → MovedPlayer (player_turn (player_of p)) p q c d
 joined_moved p q c d fit linked m did =
-    subst (λ (n : Player). Moved n p q c d) (sym (joins_player p linked m))
+    subst (λ (n : Player). MovedPlayer n p q c d) (sym (joins_player p linked m))
     (does_moved (events.Join (joins p.client.events)) p.left.now p.closed p q c d fit linked (record { needed = sym m; next = λ n is. (cc) }) refl linked did)
 
-pub still_at : (next : Player) (p : Playing) (c : ExchangeView) → next ≡ player_of p → AreFlags p → Moved next p p c c
-still_at next p c is flags = subst (λ (n : Player). Moved n p p c c) (sym is) (still_moved p c flags)
+pub still_at : (next : Player) (p : Playing) (c : ExchangeView) → next ≡ player_of p → AreFlags p → MovedPlayer next p p c c
+still_at next p c is flags = subst (λ (n : Player). MovedPlayer n p p c c) (sym is) (still_moved p c flags)
 
 -- Steps left are no matter for the connection.
 sync_moves : (p : Player) (rest : List Step) → Moves (session_of p) p (next_step p (steps.Sync ∷ rest)) [] [] false
@@ -199,7 +199,7 @@ sync_moves p rest = go (is_settled p)
 
 -- A sync was passed, or not yet.
 pub sync_moved : (p q : Playing) (rest : List Step) (c : ExchangeView) → player_of q ≡ next_step (player_of p) (steps.Sync ∷ rest) → AreFlags q →
-    Moved (next_step (player_of p) (steps.Sync ∷ rest)) p q c c
+    MovedPlayer (next_step (player_of p) (steps.Sync ∷ rest)) p q c c
 sync_moved p q rest c is flags = record {
   player = is;
   flags = flags;
@@ -214,7 +214,7 @@ sync_moved p q rest c is flags = record {
 }
 
 -- A client closed its link for good.
-pub closed_moved : (p : Playing) (c d : ExchangeView) → IsReady p → AreFlags p → d ≡ record c { closed = true } → Moved (record (player_of p) { closed = true }) p (record p { closed = true }) c d
+pub closed_moved : (p : Playing) (c d : ExchangeView) → IsReady p → AreFlags p → d ≡ record c { closed = true } → MovedPlayer (record (player_of p) { closed = true }) p (record p { closed = true }) c d
 closed_moved p c d ready flags is =
     let who = p.client.who in
     let t = p.client.events in
@@ -252,9 +252,9 @@ refuses who t reply faults.Memory other is = absurd (other refl)
 pub first_of : {X : Type 0} (x : X) (xs ys : List X) → xs ≡ x ∷ ys → slice_get xs 0 ≡ Some x
 first_of x xs ys e = ap (λ zs. slice_get zs 0) e
 
-pub none_waits : (p : Playing) (c d : ExchangeView) (s : ℕ) → TakesReply c d None → AreFlags p → Moved (takes (player_of p) s (slice_get c.replies 0)) p p c d
+pub none_waits : (p : Playing) (c d : ExchangeView) (s : ℕ) → TakesReply c d None → AreFlags p → MovedPlayer (takes (player_of p) s (slice_get c.replies 0)) p p c d
 none_waits p c d s h flags =
-    subst (λ (v : ExchangeView). Moved (takes (player_of p) s (slice_get c.replies 0)) p p c v) (sym h.1)
+    subst (λ (v : ExchangeView). MovedPlayer (takes (player_of p) s (slice_get c.replies 0)) p p c v) (sym h.1)
     (still_at _ p c (ap (takes (player_of p) s) (ap (λ (rs : List Reply). slice_get rs 0) h.0)) flags)
 
 took_fine : (p : Player) (s : ℕ) (reply : Reply) → first_fault_of_reply p.who p.events reply ≡ None → takes p s (Some reply) ≡ does p (events.Got s reply) p.left
@@ -279,13 +279,13 @@ pub took_moved : (p q : Playing) (c b d : ExchangeView) (reply : Reply) → IsFi
     TakesReply c b (Some reply) → first_fault_of_reply p.client.who p.client.events reply ≡ None →
     q.client.who ≡ p.client.who → q.client.events ≡ got_now p.client.events reply ∷ p.client.events → q.first ≡ p.first → q.left.now ≡ p.left.now → q.closed ≡ p.closed →
     AreFlags p → q.between ≡ p.between → q.welcomed ≡ true → d ≡ record b { requests = b.requests ++ newly_asked p.client.who p.client.events (got_now p.client.events reply) } →
-    Moved (takes (player_of p) (session_of (player_of p)) (slice_get c.replies 0)) p q c d
+    MovedPlayer (takes (player_of p) (session_of (player_of p)) (slice_get c.replies 0)) p q c d
 took_moved p q c b d reply fit linked joined h fine who es first left closed flags between welcomed sent =
     let k = p.client.who in
     let t = p.client.events in
     let e = got_now t reply in
     let free : IsFit 64 (player k p.first t p.left.now false) = subst (λ b. IsFit 64 (player k p.first t p.left.now b)) linked fit in
-    subst (λ (x : Player). Moved x p q c d) (sym (took_next p c reply fit linked joined (first_of reply c.replies b.replies (ap (λ (v : ExchangeView). v.replies) h)) fine)) (record {
+    subst (λ (x : Player). MovedPlayer x p q c d) (sym (took_next p c reply fit linked joined (first_of reply c.replies b.replies (ap (λ (v : ExchangeView). v.replies) h)) fine)) (record {
       player = same_player q.client.who k q.first p.first q.client.events (e ∷ t) q.left.now p.left.now q.closed false who first es left (closed ∙ linked);
       flags = record {
         between = between ∙ flags.between ∙ joined ∙ ap must_join (sym es);

@@ -23,7 +23,7 @@ use Rattle.law_schedule.proofs.SoundLaws.{turns-sound}
 use Rattle.sv_exchange.specs.View.{ExchangeView, new_exchange}
 use Rattle.sv_replay.specs.Players.{session_of, IsFit, IsNextFine}
 use Rattle.sv_replay.specs.Messages.{AsksMessages}
-use Rattle.sv_replay.specs.Serving.{ServerView, AnswersMessage, one_if, Served}
+use Rattle.sv_replay.specs.Serving.{ServerView, AnswersMessage, one_if, HadTurn}
 use Rattle.sv_replay.specs.Work.{work_of_session, work_of_client, Found}
 use Rattle.sv_replay.specs.declared.playing.Playing.{Playing}
 use Rattle.sv_replay.specs.Machine.{player_of, Stage, run_of, IsMachine}
@@ -147,7 +147,7 @@ pub both_told : {A E : Type 0} (r : Result A E) (P : Type 0) (Q R : A → Type 0
 both_told (Ok x) P Q R f p q = f x p q
 both_told (Err e) P Q R f p q = tt
 
-pub session_found : (m w : Stage) (s : ℕ) (d : ExchangeView) (found : Bool) → IsMachine m → s < session_count m.scenario → Served s m.serves w.serves (get_or m.channels s new_exchange) d →
+pub session_found : (m w : Stage) (s : ℕ) (d : ExchangeView) (found : Bool) → IsMachine m → s < session_count m.scenario → HadTurn s m.serves w.serves (get_or m.channels s new_exchange) d →
     w.players ≡ m.players → length w.serves.history ≡ length m.serves.history + one_if found → Found (work_of_session s) (run_of m) (run_of w) found
 session_found m w s d found is l served players long =
     let server = m.serves.server in

@@ -20,7 +20,7 @@ use Rattle.sv_journal.specs.Sessions.{is_end, is_ended}
 use Rattle.sv_journal.specs.Answer.{reply_to}
 use Rattle.sv_client.specs.declared.trace.Event.{Event}
 use Rattle.sv_client.specs.declared.trace.Event.TheVariants as events
-use Rattle.sv_client.specs.Traces.{asked, asked_by, submit_of, pending_of, current_session, is_session, held_of, done_for}
+use Rattle.sv_client.specs.Traces.{asked, asked_by_event, submit_of, pending_of, current_session, is_session, held_of, done_for}
 use Rattle.sv_system.specs.Fits.{replies_in}
 use Rattle.sv_system.proofs.Fronts.{fronts-same}
 use Rattle.sv_system.proofs.Entered.{as-many, replies-one}
@@ -29,9 +29,9 @@ use Rattle.law_schedule.specs.Serving.{Server, is_stop, is_stop_reply, served}
 use Rattle.law_schedule.specs.Schedule.{plain_server}
 use Rattle.law_schedule.specs.Served.{RepliesNameAccepted}
 use Rattle.law_schedule.proofs.SoundReplies.{replies-grow}
-use Rattle.sv_sequencer.specs.Step.{SequencerView, history, entry_of, Grew, Answered}
+use Rattle.sv_sequencer.specs.Step.{SequencerView, history, entry_of, GrewByEntry, Answered}
 use Rattle.sv_exchange.specs.View.{ExchangeView, TakesRequest}
-use Rattle.sv_replay.specs.Serving.{ServerView, Answers, sequencer_view, whole_reply, next_history, next_channel, with_answer, Entered, Served, one_if}
+use Rattle.sv_replay.specs.Serving.{ServerView, Answers, sequencer_view, whole_reply, next_history, next_channel, with_answer, Entered, HadTurn, one_if}
 
 -- ---- What is never asked
 
@@ -60,7 +60,7 @@ both_asked : {X : Type 0} (P : X → Type 0) (xs ys : List X) → AllByRecursion
 both_asked P [] ys a b = b
 both_asked P (x ∷ xs) ys a b = (a.0, both_asked P xs ys a.1 b)
 
-event_asked : (client : ClientId) (interest : List ObjectId) (t : List Event) (e : Event) (s : ℕ) → AllByRecursion (λ (q : Request). is_end q ≡ false) (asked_by client interest t e s)
+event_asked : (client : ClientId) (interest : List ObjectId) (t : List Event) (e : Event) (s : ℕ) → AllByRecursion (λ (q : Request). is_end q ≡ false) (asked_by_event client interest t e s)
 event_asked client interest t (events.Join n) s = where_asked (λ (q : Request). is_end q ≡ false) (n == s) _ (refl, submits_asked (pending_of t))
 event_asked client interest t (events.Make a) s = where_asked (λ (q : Request). is_end q ≡ false) (is_session (current_session t) s) _ (refl, tt)
 event_asked client interest t events.Poll s = where_asked (λ (q : Request). is_end q ≡ false) (is_session (current_session t) s) _ (refl, tt)
@@ -73,7 +73,7 @@ event_asked client interest t (events.Show os) s = tt
 trace_asked : (client : ClientId) (interest : List ObjectId) (t : List Event) (s : ℕ) → AllByRecursion (λ (q : Request). is_end q ≡ false) (asked client interest t s)
 trace_asked client interest [] s = tt
 trace_asked client interest (e ∷ t) s =
-    both_asked (λ (q : Request). is_end q ≡ false) (asked client interest t s) (asked_by client interest t e s) (trace_asked client interest t s) (event_asked client interest t e s)
+    both_asked (λ (q : Request). is_end q ≡ false) (asked client interest t s) (asked_by_event client interest t e s) (trace_asked client interest t s) (event_asked client interest t e s)
 
 run_asked : (ps : List Player) (s : ℕ) → AllByRecursion (λ (q : Request). is_end q ≡ false) (asked_in_run ps s)
 run_asked [] s = tt
@@ -133,19 +133,19 @@ module _ (server : Server) (h : List Entry) (s : ℕ) (c : ExchangeView) where
       })
   next_asked q qs e t is = (rw (e, t, is) refl, rw (e, t, is) refl)
 
-pub serves_ended : (s : ℕ) (v : ServerView) (c : ExchangeView) → true ≡ is_ended v.history s → Served s v v c c
+pub serves_ended : (s : ℕ) (v : ServerView) (c : ExchangeView) → true ≡ is_ended v.history s → HadTurn s v v c c
 serves_ended s v c e =
     let n = next_ended v.server v.history s c (sym e) in
     record { rules = refl; server = refl; entries = sym n.0; channel = sym n.1 }
 
 pub serves_end : (s : ℕ) (v w : ServerView) (c d : ExchangeView) → is_ended v.history s ≡ false → c.stopped ≡ true →
-    Entered s requests.End v w d (record c { stopped = true }) → Served s v w c d
+    Entered s requests.End v w d (record c { stopped = true }) → HadTurn s v w c d
 serves_end s v w c d e t done =
     let n = next_stopped v.server v.history s c e t in
     record { rules = done.rules; server = done.server; entries = done.entries ∙ sym n.0; channel = done.channel ∙ sym n.1 }
 
 pub serves_closed : (s : ℕ) (v w : ServerView) (c b d : ExchangeView) → is_ended v.history s ≡ false → c.stopped ≡ false → TakesRequest c b None → b.closed ≡ true →
-    Entered s requests.End v w d (record b { stopped = true }) → Served s v w c d
+    Entered s requests.End v w d (record b { stopped = true }) → HadTurn s v w c d
 serves_closed s v w c b d e t none k done =
     let n = next_closed v.server v.history s c e t none.0 (ap (λ (x : ExchangeView). x.closed) (sym none.1) ∙ k) in
     record {
@@ -155,13 +155,13 @@ serves_closed s v w c b d e t none k done =
       channel = done.channel ∙ ap (λ (x : ExchangeView). record x { stopped = true }) none.1 ∙ sym n.1;
     }
 
-pub serves_idle : (s : ℕ) (v : ServerView) (c b : ExchangeView) → is_ended v.history s ≡ false → c.stopped ≡ false → TakesRequest c b None → b.closed ≡ false → Served s v v c b
+pub serves_idle : (s : ℕ) (v : ServerView) (c b : ExchangeView) → is_ended v.history s ≡ false → c.stopped ≡ false → TakesRequest c b None → b.closed ≡ false → HadTurn s v v c b
 serves_idle s v c b e t none k =
     let n = next_idle v.server v.history s c e t none.0 (ap (λ (x : ExchangeView). x.closed) (sym none.1) ∙ k) in
     record { rules = refl; server = refl; entries = sym n.0; channel = none.1 ∙ sym n.1 }
 
 pub serves_asked : (s : ℕ) (v w : ServerView) (c b d : ExchangeView) (q : Request) → is_ended v.history s ≡ false → c.stopped ≡ false → TakesRequest c b (Some q) →
-    Entered s q v w d (with_answer v.server v.history s q b) → Served s v w c d
+    Entered s q v w d (with_answer v.server v.history s q b) → HadTurn s v w c d
 serves_asked s v w c b d q e t some done =
     let n = next_asked v.server v.history s c q b.requests e t (ap (λ (x : ExchangeView). x.requests) some) in
     record {
@@ -201,7 +201,7 @@ end_entered v w s reply b d done stop = record { rules = done.rules; server = do
 
 -- ---- The sequencer
 
-grew_history : (v w : SequencerView) (e : Entry) → Grew v w e → history w ≡ e ∷ history v
+grew_history : (v w : SequencerView) (e : Entry) → GrewByEntry v w e → history w ≡ e ∷ history v
 grew_history v w e g = ap reverse g.entries ∙ reverse-append v.journal.entries (e ∷ [])
 
 pub sequencer_answers : (v w : SequencerView) (s : ℕ) (q : Request) (r : Result Reply AllocError) → IfOk r (Answered v w s q) → IfOk r (Answers (sequencer_view v) (sequencer_view w) s q)

@@ -57,7 +57,7 @@ pub record Does (e : Event) (rest : List Step) (closed : Bool) (old new : Playin
   pub channel : d ≡ record c { requests = c.requests ++ newly_asked old.client.who old.client.events e; closed = c.closed || is_closing e }
 
 -- A turn made a client the next player, by what it did over its session's connection.
-pub record Moved (next : Player) (old new : Playing) (c d : ExchangeView) : Type 0 where
+pub record MovedPlayer (next : Player) (old new : Playing) (c d : ExchangeView) : Type 0 where
   pub player : player_of new ≡ next
   pub flags : AreFlags new
   pub sent : List Request

@@ -10,6 +10,6 @@ abbrev pub AsksMessages : Player → Type 0
 AsksMessages p = (s : ℕ) → All IsRequest (asked_by_player p s)
 
 -- A player as it may stand after a turn.
-pub record IsNext (p : Player) : Type 0 where
+pub record IsAfterTurn (p : Player) : Type 0 where
   pub fit : IsFit most_sessions p
   pub asks : AsksMessages p

@@ -88,7 +88,7 @@ pub record Entered (s : ℕ) (request : Request) (old new : ServerView) (c after
   pub channel : c ≡ after
 
 -- A session had its turn.
-pub record Served (s : ℕ) (old new : ServerView) (c d : ExchangeView) : Type 0 where
+pub record HadTurn (s : ℕ) (old new : ServerView) (c d : ExchangeView) : Type 0 where
   pub rules : new.rules ≡ old.rules
   pub server : new.server ≡ old.server
   pub entries : new.history ≡ next_history old.server old.history s c

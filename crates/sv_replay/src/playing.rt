@@ -11,10 +11,10 @@ ghost use Rattle.sv_script.specs.Following.{must_join};
 ghost use Rattle.law_schedule.specs.Players.{player_turn, next_step, last_steps, takes, trace_of_player, is_calm, is_settled};
 ghost use Rattle.sv_wire.specs.Laws.{IsRequest};
 ghost use Rattle.sv_exchange.specs.View.{ExchangeView};
-ghost use Rattle.sv_replay.specs.Messages.{AsksMessages, IsNext};
+ghost use Rattle.sv_replay.specs.Messages.{AsksMessages, IsAfterTurn};
 ghost use Rattle.sv_replay.specs.Players.{session_of, IsFit, IsNextFine, taken_from};
 ghost use Rattle.sv_replay.specs.Serving.{one_if};
-ghost use Rattle.sv_replay.specs.Machine.{player_of, AreFlags, IsReady, Does, Moved};
+ghost use Rattle.sv_replay.specs.Machine.{player_of, AreFlags, IsReady, Does, MovedPlayer};
 
 use std::alloc::{AllocError, Global};
 use sv_client::{Client, MakeFault, Mark, PollFault, TakeFault, Trace};
@@ -79,9 +79,9 @@ impl<'a> Playing<'a> {
     pub(crate) fn turn(&mut self, alloc: Global, channel: &mut Exchange) -> Result<(), AllocError>
         requires flags { AreFlags self.old }
         requires fit { IsFit most_sessions (player_of self.old) }
-        requires after { IsNext (player_turn (player_of self.old)) }
+        requires after { IsAfterTurn (player_turn (player_of self.old)) }
         requires open { self.old.closed ≡ false → channel.old.closed ≡ false }
-        ensures { OnOk result (Moved (player_turn (player_of self.old)) self.old self.new channel.old channel.new) }
+        ensures { OnOk result (MovedPlayer (player_turn (player_of self.old)) self.old self.new channel.old channel.new) }
     {
         if self.closed {
             return Ok(());
@@ -112,9 +112,9 @@ impl<'a> Playing<'a> {
     fn step(&mut self, alloc: Global, channel: &mut Exchange) -> Result<(), AllocError>
         requires flags { AreFlags self.old }
         requires ready { IsReady self.old }
-        requires after { IsNext (next_step (player_of self.old) self.old.left.now) }
+        requires after { IsAfterTurn (next_step (player_of self.old) self.old.left.now) }
         requires open { channel.old.closed ≡ false }
-        ensures { OnOk result (Moved (next_step (player_of self.old) self.old.left.now) self.old self.new channel.old channel.new) }
+        ensures { OnOk result (MovedPlayer (next_step (player_of self.old) self.old.left.now) self.old self.new channel.old channel.new) }
     {
         let Some((step, rest)) = self.left.split_first() else {
             return self.finish(channel);
@@ -155,9 +155,9 @@ impl<'a> Playing<'a> {
     ) -> Result<(), AllocError>
         requires flags { AreFlags self.old }
         requires ready { IsReady self.old }
-        requires after { IsNext (next_step (player_of self.old) (steps.Act action.now ∷ rest.now)) }
+        requires after { IsAfterTurn (next_step (player_of self.old) (steps.Act action.now ∷ rest.now)) }
         requires open { channel.old.closed ≡ false }
-        ensures { OnOk result (Moved (next_step (player_of self.old) (steps.Act action.now ∷ rest.now)) self.old self.new channel.old channel.new) }
+        ensures { OnOk result (MovedPlayer (next_step (player_of self.old) (steps.Act action.now ∷ rest.now)) self.old self.new channel.old channel.new) }
     {
         if self.client.pending() < MOST_PENDING && self.is_calm() {
             self.make(alloc, channel, action, rest)
@@ -193,9 +193,9 @@ impl<'a> Playing<'a> {
     fn poll(&mut self, channel: &mut Exchange, rest: &'a [Step]) -> Result<(), AllocError>
         requires flags { AreFlags self.old }
         requires ready { IsReady self.old }
-        requires after { IsNext (next_step (player_of self.old) (steps.Poll ∷ rest.now)) }
+        requires after { IsAfterTurn (next_step (player_of self.old) (steps.Poll ∷ rest.now)) }
         requires open { channel.old.closed ≡ false }
-        ensures { OnOk result (Moved (next_step (player_of self.old) (steps.Poll ∷ rest.now)) self.old self.new channel.old channel.new) }
+        ensures { OnOk result (MovedPlayer (next_step (player_of self.old) (steps.Poll ∷ rest.now)) self.old self.new channel.old channel.new) }
     {
         if self.is_calm() {
             self.ask(channel, rest)
@@ -275,10 +275,10 @@ impl<'a> Playing<'a> {
     fn finish(&mut self, channel: &mut Exchange) -> Result<(), AllocError>
         requires flags { AreFlags self.old }
         requires ready { IsReady self.old }
-        requires after { IsNext (last_steps (player_of self.old)) }
+        requires after { IsAfterTurn (last_steps (player_of self.old)) }
         requires open { channel.old.closed ≡ false }
         requires none { self.old.left.now ≡ [] }
-        ensures { OnOk result (Moved (last_steps (player_of self.old)) self.old self.new channel.old channel.new) }
+        ensures { OnOk result (MovedPlayer (last_steps (player_of self.old)) self.old self.new channel.old channel.new) }
     {
         if !self.is_settled() {
             return Ok(());
@@ -309,7 +309,7 @@ impl<'a> Playing<'a> {
         requires after { AsksMessages (taken_from channel.old.replies (player_of self.old)) }
         requires open { self.old.closed ≡ false → must_join self.old.client.events ≡ false → channel.old.closed ≡ false }
         requires fine { self.old.closed ≡ false → must_join self.old.client.events ≡ false → IsNextFine self.old.client.who self.old.client.events channel.old.replies }
-        ensures taken { OnOk result (Moved (taken_from channel.old.replies (player_of self.old)) self.old self.new channel.old channel.new) }
+        ensures taken { OnOk result (MovedPlayer (taken_from channel.old.replies (player_of self.old)) self.old self.new channel.old channel.new) }
         ensures found { IfOk result (λ found. length self.new.client.events ≡ length self.old.client.events + one_if found) }
     {
         if self.closed || self.between {
@@ -326,7 +326,7 @@ impl<'a> Playing<'a> {
         requires after { AsksMessages (takes (player_of self.old) (session_of (player_of self.old)) (slice_get channel.old.replies 0)) }
         requires open { channel.old.closed ≡ false }
         requires fine { IsNextFine self.old.client.who self.old.client.events channel.old.replies }
-        ensures taken { OnOk result (Moved (takes (player_of self.old) (session_of (player_of self.old)) (slice_get channel.old.replies 0)) self.old self.new channel.old channel.new) }
+        ensures taken { OnOk result (MovedPlayer (takes (player_of self.old) (session_of (player_of self.old)) (slice_get channel.old.replies 0)) self.old self.new channel.old channel.new) }
         ensures found { IfOk result (λ found. length self.new.client.events ≡ length self.old.client.events + one_if found) }
     {
         let Some(reply) = channel.next_reply()? else {

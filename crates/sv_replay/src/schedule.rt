@@ -17,11 +17,11 @@ use crate::opening::{open_machine, open_sequencer};
 use crate::played::played_of;
 use crate::playing::Playing;
 use crate::server::Server;
+use law_schedule::scheduled_runs_are_replays;
 use std::alloc::{AllocError, Global};
 use sv_asked::read_scenario_numbers;
 use sv_client::Trace;
 use sv_scenario::Scenario;
-use law_schedule::scheduled_runs_are_replays;
 use sv_system::Played;
 use sv_world::List;
 

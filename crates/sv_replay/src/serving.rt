@@ -5,7 +5,7 @@ ghost use Rattle.sv_wire.specs.declared.message.Request.TheVariants as requests;
 ghost use Rattle.sv_wire.specs.Laws.{IsReply};
 ghost use Rattle.sv_journal.specs.Sessions.{is_ended};
 ghost use Rattle.law_schedule.specs.Serving.{is_stop_code, is_stop_reply};
-ghost use Rattle.sv_replay.specs.Serving.{whole_reply, with_answer, AnswersMessage, Entered, Served, one_if};
+ghost use Rattle.sv_replay.specs.Serving.{whole_reply, with_answer, AnswersMessage, Entered, HadTurn, one_if};
 
 use crate::server::Server;
 use std::alloc::AllocError;
@@ -41,7 +41,7 @@ pub(crate) fn serve<S: Server>(
 ) -> Result<bool, AllocError>
     requires session { session < (S.view server.old).rules.sessions }
     requires message { AnswersMessage (S.view server.old).server (S.view server.old).history session channel.old }
-    ensures served { OnOk result (Served session (S.view server.old) (S.view server.new) channel.old channel.new) }
+    ensures served { OnOk result (HadTurn session (S.view server.old) (S.view server.new) channel.old channel.new) }
     ensures found { IfOk result (λ found. length (S.view server.new).history ≡ length (S.view server.old).history + one_if found) }
 {
     if server.is_ended(session) {

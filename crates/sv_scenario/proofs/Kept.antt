@@ -32,7 +32,7 @@ use Rattle.sv_scenario.specs.Limits.{AreObjects, IsGoodShow, IsGoodStep, quits_l
 use Rattle.sv_scenario.specs.Numbers.{number_within, list_within, count_items, attribute_of, value_of, values_of}
 use Rattle.sv_scenario.specs.Objects.{known, object_of, shown_of, not_below, next_object, ascending_from, interest_of}
 use Rattle.sv_scenario.specs.Scenarios.{world_with, world_of, reach_of, few_sessions, clients_of, scenario_in, scenario_of, value_in}
-use Rattle.sv_scenario.specs.Scripts.{read_text, unless_bad, act_of, word_step, only, step_by, step_of, is_end, steps_from, steps_of, plan_of, plans_of}
+use Rattle.sv_scenario.specs.Scripts.{read_text, unless_bad, act_of, word_step, only, step_by, step_of, has_no_items, steps_from, steps_of, plan_of, plans_of}
 use Rattle.sv_scenario.specs.Sessions.{sessions_in}
 use Rattle.sv_scenario.specs.Turns.{number_below, numbered, turn_in, turn_of, turns_of}
 use Rattle.sv_scenario.proofs.Parts.{bound, keyed_ok, given_ok, chosen, at_key_of, at_key_if, number_ok, list_ok, all_ok}
@@ -234,7 +234,7 @@ quits_cons (steps.Show objects) (next ∷ ss) on last = last
 quits_cons steps.Cut (next ∷ ss) on last = last
 quits_cons steps.Quit (next ∷ ss) on last = on (omega arith)
 
-not_end : (ds : Items) → 0 < count_items ds → is_end ds ≡ false
+not_end : (ds : Items) → 0 < count_items ds → has_no_items ds ≡ false
 not_end no_items some = absurd (omega (arith, some))
 not_end (item d ds) some = refl
 
@@ -249,9 +249,9 @@ record IsScript (shape : Shape) (before xs : List Step) (n : ℕ) : Type 0 where
 script_ok : (shape : Shape) (before : List Step) (ds : Items) (xs : List Step) → steps_from shape before ds ≡ Ok xs → IsScript shape before xs (count_items ds)
 script_ok shape before no_items xs is = let e : before ≡ xs = cc in record { new = []; is = sym e ∙ sym (append-nil before); all = tt; count = refl; quit = refl }
 script_ok shape before (item d ds) xs is =
-    let p = bound (at_place (length before) (step_of shape (is_end ds) d)) (λ step. steps_from shape (before ++ step ∷ []) ds) xs is in
+    let p = bound (at_place (length before) (step_of shape (has_no_items ds) d)) (λ step. steps_from shape (before ++ step ∷ []) ds) xs is in
     let r = script_ok shape (before ++ p.0 ∷ []) ds xs p.2 in
-    let s = step_ok shape (is_end ds) d p.0 (keyed_ok (decimal (length before)) (step_of shape (is_end ds) d) p.0 p.1) in
+    let s = step_ok shape (has_no_items ds) d p.0 (keyed_ok (decimal (length before)) (step_of shape (has_no_items ds) d) p.0 p.1) in
     let count : length r.new ≡ count_items ds = r.count in
     record {
       new = p.0 ∷ r.new;

@@ -74,13 +74,13 @@ step_by shape is_last None None None = refuse causes.Kind
 unfoldable pub step_of : Shape → Bool → Data → Read Step
 step_of shape is_last d = step_by shape is_last (as_str d) (only (codes "act") d) (only (codes "show") d)
 
-abbrev pub is_end : Items → Bool
-is_end no_items = true
-is_end (item d ds) = false
+abbrev pub has_no_items : Items → Bool
+has_no_items no_items = true
+has_no_items (item d ds) = false
 
 abbrev pub steps_from : Shape → List Step → Items → Read (List Step)
 steps_from shape before no_items = Ok before
-steps_from shape before (item d ds) = at_place (length before) (step_of shape (is_end ds) d) >>= λ step. steps_from shape (before ++ step ∷ []) ds
+steps_from shape before (item d ds) = at_place (length before) (step_of shape (has_no_items ds) d) >>= λ step. steps_from shape (before ++ step ∷ []) ds
 
 -- The script of one client.
 unfoldable pub steps_of : Shape → Data → Read (List Step)

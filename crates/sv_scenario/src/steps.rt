@@ -5,7 +5,7 @@ ghost use Rattle.serde_json.specs.View.{view, items_view};
 ghost use Rattle.sv_text.specs.Reading.{reading};
 ghost use Rattle.sv_text.specs.Tokens.{tokens_of};
 ghost use Rattle.sv_scenario.specs.Faults.{Gives};
-ghost use Rattle.sv_scenario.specs.Scripts.{read_text, act_of, act_step, show_step, word_step, only, step_of, is_end, steps_from, steps_of};
+ghost use Rattle.sv_scenario.specs.Scripts.{read_text, act_of, act_step, show_step, word_step, only, step_of, has_no_items, steps_from, steps_of};
 
 use crate::numbers::list_within;
 use crate::objects::shown_of;
@@ -108,8 +108,8 @@ fn step_of(alloc: Global, shape: Shape, is_last: bool, value: &Value) -> Result<
 }
 
 #[tactic(auto, using(crate::proofs::Counts::some_left))]
-fn is_end(values: &[Value]) -> bool
-    ensures { result ≡ is_end (items_view values.now) }
+fn has_no_items(values: &[Value]) -> bool
+    ensures { result ≡ has_no_items (items_view values.now) }
 {
     match values {
         [] => true,
@@ -123,7 +123,7 @@ fn each_step(alloc: Global, shape: Shape, values: &[Value]) -> Result<Vec<Step>,
     let mut all = Vec::new(alloc);
     let mut rest = values;
     while let [value, tail @ ..] = rest {
-        let is_last = is_end(tail);
+        let is_last = has_no_items(tail);
         let step = at_place(alloc, all.len(), step_of(alloc, shape, is_last, value))?;
         all.push(step)?;
         rest = tail;

@@ -81,7 +81,7 @@ pub record Gets (t : List Event) (before left : List Step) : Type 0 where
   pub same : left ≡ before
 
 -- A client leaves when all steps are done and nothing is outstanding.
-pub record Leaves (who : Identity) (t : List Event) (before left : List Step) : Type 0 where
+pub record LeavesSession (who : Identity) (t : List Event) (before left : List Step) : Type 0 where
   pub joined : must_join t ≡ false
   pub welcomed : is_welcomed t ≡ true
   pub here : is_finished t ≡ false
@@ -93,7 +93,7 @@ pub record Leaves (who : Identity) (t : List Event) (before left : List Step) : 
 abbrev pub MayCome : Identity → List Event → List Step → Event → List Step → Type 0
 MayCome who t before (events.Join s) left = Joins t before left
 MayCome who t before (events.Got s reply) left = Gets t before left
-MayCome who t before events.Leave left = Leaves who t before left
+MayCome who t before events.Leave left = LeavesSession who t before left
 MayCome who t before e left = DoesStep who t before e left
 
 -- The events follow the script as far as they go, and these steps are left.

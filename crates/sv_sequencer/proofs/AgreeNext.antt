@@ -15,7 +15,7 @@ use Rattle.sv_sequencer.specs.declared.clients.Outcome.{Outcome as OutcomeRow}
 use Rattle.sv_sequencer.specs.declared.sessions.SessionRow.{SessionRow}
 use Rattle.sv_sequencer.specs.Agreement.{IsClientRow, Agrees}
 use Rattle.sv_sequencer.specs.Clients.{client_row, outcome_value}
-use Rattle.sv_sequencer.specs.Decisions.{IsNext}
+use Rattle.sv_sequencer.specs.Decisions.{IsNextSubmit}
 use Rattle.sv_sequencer.specs.Fits.{QueueFits}
 use Rattle.sv_sequencer.specs.Step.{entry_of}
 use Rattle.sv_sequencer.proofs.AgreeSteps.{sent-quiet, named-quiet, commit-same, life-quiet, AreAfter, rows-next}
@@ -34,7 +34,7 @@ get-push (x ∷ xs) y z (suc n) h = get-push xs y z n h
 abbrev pub settled_row : (ℕ → ClientRow) → ℕ → OutcomeRow → ℕ → ClientRow
 settled_row rows k o j = cond (nat_eq k j) (record (rows k) { outcomes = (rows k).outcomes ++ o ∷ [] }) (rows j)
 
-pub client-next : (h : List Entry) (e : Entry) (k seq : ℕ) (o : OutcomeRow) (rows : ℕ → ClientRow) → IsNext h e.session e.request k seq →
+pub client-next : (h : List Entry) (e : Entry) (k seq : ℕ) (o : OutcomeRow) (rows : ℕ → ClientRow) → IsNextSubmit h e.session e.request k seq →
     outcome_in (suc (length (accepted h))) e.reply ≡ outcome_value o ∷ [] → is_welcome e.reply ≡ false →
     ((j : ℕ) → IsClientRow h j (rows j)) → (j : ℕ) → IsClientRow (e ∷ h) j (settled_row rows k o j)
 client-next h e k seq o rows is out quiet old j = record {
@@ -53,7 +53,7 @@ client-next h e k seq o rows is out quiet old j = record {
     at true q = map_push outcome_value (rows k).outcomes o ∙ ap (λ os. os ++ outcome_value o ∷ []) (old k).outcomes
     at false q = (old j).outcomes
 
-pub settles-next : (h : List Entry) (e : Entry) (k seq j : ℕ) (out : Outcome) → IsNext h e.session e.request k seq →
+pub settles-next : (h : List Entry) (e : Entry) (k seq j : ℕ) (out : Outcome) → IsNextSubmit h e.session e.request k seq →
     outcome_in (suc (length (accepted h))) e.reply ≡ out ∷ [] → length (outcomes_of (e ∷ h) j) ≤ length (outcomes_of h j) + 1
 settles-next h e k seq j out is q =
     let same = outcomes-next e h k seq j is ∙ ap (λ os. cond (nat_eq k j) (outcomes_of h k ++ os) (outcomes_of h j)) q in
@@ -63,7 +63,7 @@ settles-next h e k seq j out is q =
     go true t = (let same : length (outcomes_of h k) ≡ length (outcomes_of h j) = ap (λ i. length (outcomes_of h i)) (eqb-true k j t) in omega (arith, length-append (outcomes_of h k) (out ∷ [])))
     go false t = omega arith
 
-pub placed-next : (h : List Entry) (e : Entry) (k seq : ℕ) (out : Outcome) (m : ℕ) → IsNext h e.session e.request k seq →
+pub placed-next : (h : List Entry) (e : Entry) (k seq : ℕ) (out : Outcome) (m : ℕ) → IsNextSubmit h e.session e.request k seq →
     outcome_in (suc (length (accepted h))) e.reply ≡ out ∷ [] → ((p : ℕ) → out ≡ Accepted p → p ≤ m) →
     ((j n p : ℕ) → slice_get (outcomes_of h j) n ≡ Some (Accepted p) → p ≤ m) →
     (j n p : ℕ) → slice_get (outcomes_of (e ∷ h) j) n ≡ Some (Accepted p) → p ≤ m
@@ -78,7 +78,7 @@ placed-next h e k seq out m is q new' old j n p g =
 -- A new action is dropped.
 pub agree-drop : (r : Rules) (h : List Entry) (v : QueueView) (rows next : List SessionRow) (clients after : Clients) (owed s : ℕ) (request : Request) (k seq chain far : ℕ)
     (o : OutcomeRow) → outcome_value o ≡ Dropped chain far →
-    Agrees r h v rows clients owed → length rows ≡ r.sessions → s < r.sessions → IsNext h s request k seq → is_end request ≡ false →
+    Agrees r h v rows clients owed → length rows ≡ r.sessions → s < r.sessions → IsNextSubmit h s request k seq → is_end request ≡ false →
     AreAfter (entry_of s request (logged.Dropped seq chain far)) rows next → ((j : ℕ) → client_row after j ≡ settled_row (client_row clients) k o j) →
     Agrees r (entry_of s request (logged.Dropped seq chain far) ∷ h) v next after owed
 agree-drop r h v rows next clients after owed s request k seq chain far o value a count low is more rows' clients' = record {

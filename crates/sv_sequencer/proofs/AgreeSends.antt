@@ -18,7 +18,7 @@ use Rattle.sv_sequencer.specs.declared.clients.Outcome.TheVariants as rows
 use Rattle.sv_sequencer.specs.declared.sessions.SessionRow.{SessionRow}
 use Rattle.sv_sequencer.specs.Agreement.{IsClientRow, Agrees}
 use Rattle.sv_sequencer.specs.Clients.{client_row, outcome_value}
-use Rattle.sv_sequencer.specs.Decisions.{IsOld, IsNext, IsJoin, action_in}
+use Rattle.sv_sequencer.specs.Decisions.{IsOld, IsNextSubmit, IsJoin, action_in}
 use Rattle.sv_sequencer.specs.Fits.{QueueFits}
 use Rattle.sv_sequencer.specs.Relays.{marked_all, given_all}
 use Rattle.sv_sequencer.specs.Step.{entry_of}
@@ -90,7 +90,7 @@ agree-relay r h v old next clients owed s request seq c head ps at a count low i
 -- A new action is accepted as the last one, and sent.
 pub agree-accept : (r : Rules) (h : List Entry) (v : QueueView) (old next : List SessionRow) (clients after : Clients) (owed s : ℕ) (request : Request)
     (k seq c m : ℕ) (head : List Held) (ps : List ℕ) → c ≡ v.commit → m ≡ suc (last_position v) →
-    Agrees r h v old clients owed → length old ≡ r.sessions → s < r.sessions → IsNext h s request k seq → is_end request ≡ false →
+    Agrees r h v old clients owed → length old ≡ r.sessions → s < r.sessions → IsNextSubmit h s request k seq → is_end request ≡ false →
     AreAfter (entry_of s request (logged.Relay seq c head ps)) old next →
     ((j : ℕ) → client_row after j ≡ settled_row (client_row clients) k (rows.Accepted m) j) →
     All (IsUncommitted (with_action v (record { 0 = k }) seq (action_in request))) ps →

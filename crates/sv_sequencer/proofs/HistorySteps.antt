@@ -4,7 +4,7 @@ use Rattle.std.proofs.lemmas.Bool.{cases_eq, eq-eqb, eqb-true, ne_eqb, cond-true
 use Rattle.sv_wire.specs.declared.message.Request.{Request}
 use Rattle.sv_journal.specs.declared.entry.Entry.{Entry}
 use Rattle.sv_journal.specs.History.{Authored, either, is_relay, is_noted, is_client, is_submit_of, outcome_in, new_action, client_of, outcomes_of, accepted, next_seq, result_at, run_length, installed, actions_of, reports}
-use Rattle.sv_sequencer.specs.Decisions.{IsOld, IsNext, action_in}
+use Rattle.sv_sequencer.specs.Decisions.{IsOld, IsNextSubmit, action_in}
 use Rattle.sv_sequencer.specs.Fits.{actions_in, values_after}
 
 -- ---- Accepted actions and outcomes
@@ -35,20 +35,20 @@ outcomes-old e h k old =
 abbrev pub authored_by : ℕ → ℕ → Request → Authored
 authored_by k seq request = record { client = k; seq = seq; action = action_in request }
 
-pub new_action-next : (h : List Entry) (s : ℕ) (request : Request) (k seq : ℕ) → IsNext h s request k seq →
+pub new_action-next : (h : List Entry) (s : ℕ) (request : Request) (k seq : ℕ) → IsNextSubmit h s request k seq →
     new_action (client_of h s) (next_seq h) request ≡ authored_by k seq request ∷ []
 new_action-next h s request k seq is =
     ap (λ c. new_action c (next_seq h) request) is.client
     ∙ subst (λ r. new_action (Some k) (next_seq h) r ≡ record { client = k; seq = seq; action = action_in r } ∷ []) (sym is.submit)
     (cond-true (nat_eq seq (next_seq h k)) (record { client = k; seq = seq; action = action_in request } ∷ []) [] (eq-eqb seq (next_seq h k) is.next))
 
-pub accepted-next : (e : Entry) (h : List Entry) (k seq : ℕ) → is_relay e.reply ≡ true → IsNext h e.session e.request k seq →
+pub accepted-next : (e : Entry) (h : List Entry) (k seq : ℕ) → is_relay e.reply ≡ true → IsNextSubmit h e.session e.request k seq →
     accepted (e ∷ h) ≡ accepted h ++ authored_by k seq e.request ∷ []
 accepted-next e h k seq q is =
     ap (λ b. accepted h ++ cond b (new_action (client_of h e.session) (λ j. suc (length (outcomes_of h j))) e.request) []) q
     ∙ ap (λ xs. accepted h ++ xs) (new_action-next h e.session e.request k seq is)
 
-is_next-of : (h : List Entry) (s : ℕ) (request : Request) (k seq j : ℕ) → IsNext h s request k seq →
+is_next-of : (h : List Entry) (s : ℕ) (request : Request) (k seq j : ℕ) → IsNextSubmit h s request k seq →
     (is_client (client_of h s) j && is_submit_of request (next_seq h j)) ≡ nat_eq k j
 is_next-of h s request k seq j is =
     ap (λ c. is_client c j && is_submit_of request (next_seq h j)) is.client
@@ -58,7 +58,7 @@ is_next-of h s request k seq j is =
       | inr ne ↦ rw (ne_eqb k j ne) refl
     ]
 
-pub outcomes-next : (e : Entry) (h : List Entry) (k seq j : ℕ) → IsNext h e.session e.request k seq →
+pub outcomes-next : (e : Entry) (h : List Entry) (k seq j : ℕ) → IsNextSubmit h e.session e.request k seq →
     outcomes_of (e ∷ h) j ≡ cond (nat_eq k j) (outcomes_of h k ++ outcome_in (suc (length (accepted h))) e.reply) (outcomes_of h j)
 outcomes-next e h k seq j is =
     ap (λ b. outcomes_of h j ++ cond b (outcome_in (suc (length (accepted h))) e.reply) []) (is_next-of h e.session e.request k seq j is)

@@ -58,7 +58,7 @@ pub record IsOld (h : List Entry) (s : ℕ) (request : Request) : Type 0 where
   pub outcomes : (k : ℕ) → (is_client (client_of h s) k && is_submit_of request (next_seq h k)) ≡ false
 
 -- The request is a client's next Submit, in a session that may ask more.
-pub record IsNext (h : List Entry) (s : ℕ) (request : Request) (k seq : ℕ) : Type 0 where
+pub record IsNextSubmit (h : List Entry) (s : ℕ) (request : Request) (k seq : ℕ) : Type 0 where
   pub client : client_of h s ≡ Some k
   pub submit : request ≡ requests.Submit seq (action_in request)
   pub next : seq ≡ next_seq h k
@@ -75,11 +75,11 @@ pub record IsJoin (r : Rules) (h : List Entry) (request : Request) (k life : ℕ
 abbrev pub Holds : Rules → List Entry → ℕ → Request → Decision → Type 0
 Holds r h s request (decisions.Refuse refusal detail) = Unit {0}
 Holds r h s request (decisions.Welcome client life) = IsJoin r h request client life
-Holds r h s request (decisions.Drop client seq chain far) = IsNext h s request client seq
+Holds r h s request (decisions.Drop client seq chain far) = IsNextSubmit h s request client seq
 Holds r h s request (decisions.Repeat seq chain far) = IsOld h s request
 Holds r h s request (decisions.Settle seq pos) = Unit {0}
 Holds r h s request (decisions.Relay seq pos) = IsOld h s request × ((commit_of h < pos) × (pos ≤ length (accepted h)))
-Holds r h s request (decisions.Accept client seq) = IsNext h s request client seq × (first_fault_of_action r.world.shape (action_in request) ≡ None)
+Holds r h s request (decisions.Accept client seq) = IsNextSubmit h s request client seq × (first_fault_of_action r.world.shape (action_in request) ≡ None)
 Holds r h s request decisions.Note = (request ≡ requests.Done (results_in request)) × (list_any (is_bad_result r h s) (results_in request) ≡ false)
 Holds r h s request decisions.Idle = Unit {0}
 Holds r h s request decisions.Leave = Unit {0}

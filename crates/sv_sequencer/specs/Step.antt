@@ -22,13 +22,13 @@ abbrev pub entry_of : ℕ → Request → Logged → Entry
 entry_of s request reply = record { session = s; request = request; reply = reply }
 
 -- The journal grew by just an entry.
-pub record Grew (old new : SequencerView) (e : Entry) : Type 0 where
+pub record GrewByEntry (old new : SequencerView) (e : Entry) : Type 0 where
   pub rules : new.rules ≡ old.rules
   pub entries : new.journal.entries ≡ old.journal.entries ++ e ∷ []
 
 -- A step answered a request by the reply that the journal's history gives, in full.
 pub record Answered (old new : SequencerView) (s : ℕ) (request : Request) (reply : Reply) : Type 0 where
-  pub grew : Grew old new (entry_of s request (reply_to old.rules (history old) s request))
+  pub grew : GrewByEntry old new (entry_of s request (reply_to old.rules (history old) s request))
   pub whole : reply ≡ full_reply (accepted (history new)) (reply_to old.rules (history old) s request)
 
 -- Nothing changed but the room for more entries.

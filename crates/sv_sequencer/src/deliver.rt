@@ -18,7 +18,7 @@ ghost use Rattle.sv_sequencer.specs.declared.decision.Decision.TheVariants as de
 ghost use Rattle.sv_sequencer.specs.declared.clients.Outcome.TheVariants as rows;
 ghost use Rattle.sv_sequencer.specs.Clients.{client_row};
 ghost use Rattle.sv_sequencer.specs.Cores.{core_rules, Keeps, CarriedOut, Remained};
-ghost use Rattle.sv_sequencer.specs.Decisions.{IsJoin, IsNext, IsOld, interest_in, action_in, results_in};
+ghost use Rattle.sv_sequencer.specs.Decisions.{IsJoin, IsNextSubmit, IsOld, interest_in, action_in, results_in};
 ghost use Rattle.sv_sequencer.specs.Relays.{held_in, item_in, marked_all, given_all, with_reports, CanReport};
 
 use crate::answer::Answer;
@@ -184,7 +184,7 @@ impl Core {
         requires keeps { Keeps self.old h }
         requires session { session < (core_rules self.old).sessions }
         requires more { is_end request.now ≡ false }
-        requires next { IsNext h session request.now id.client id.seq }
+        requires next { IsNextSubmit h session request.now id.client id.seq }
         ensures ok { IfOk result (CarriedOut self.old self.new h session request.now (decisions.Drop id.client id.seq found.count found.far)) }
         ensures err { OnErr result (Remained self.old self.new h) }
     {
@@ -237,7 +237,7 @@ impl Core {
         requires keeps { Keeps self.old h }
         requires session { session < (core_rules self.old).sessions }
         requires more { is_end request.now ≡ false }
-        requires next { IsNext h session request.now id.client id.seq }
+        requires next { IsNextSubmit h session request.now id.client id.seq }
         requires fault { first_fault_of_action (core_rules self.old).world.shape (action_in request.now) ≡ None }
         ensures ok { IfOk result (CarriedOut self.old self.new h session request.now (decisions.Accept id.client id.seq)) }
         ensures err { OnErr result (Remained self.old self.new h) }
@@ -259,7 +259,7 @@ impl Core {
         requires keeps { Keeps self.old h }
         requires session { session < (core_rules self.old).sessions }
         requires more { is_end request.now ≡ false }
-        requires next { IsNext h session request.now id.client id.seq }
+        requires next { IsNextSubmit h session request.now id.client id.seq }
         requires action { action.now ≡ action_in request.now }
         requires good { IsGoodAction (core_rules self.old).world.shape action.now }
         ensures ok { IfOk result (CarriedOut self.old self.new h session request.now (decisions.Accept id.client id.seq)) }

@@ -5,7 +5,7 @@ ghost use Rattle.sv_journal.specs.declared.entry.Entry.{Entry};
 ghost use Rattle.sv_journal.specs.declared.entry.Logged.TheVariants as logged;
 ghost use Rattle.sv_journal.specs.Sessions.{is_end, is_ended};
 ghost use Rattle.sv_journal.specs.Answer.{Legal};
-ghost use Rattle.sv_sequencer.specs.Step.{history, entry_of, Grew, Answered, Stayed};
+ghost use Rattle.sv_sequencer.specs.Step.{history, entry_of, GrewByEntry, Answered, Stayed};
 
 use crate::answer::Answer;
 use crate::sequencer::Sequencer;
@@ -63,7 +63,7 @@ impl Sequencer {
         requires past { h ≡ history self.old }
         requires session { session < self.old.rules.sessions }
         requires first { is_ended h session ≡ false }
-        ensures { Grew self.old self.new (entry_of session requests.End logged.Bye) }
+        ensures { GrewByEntry self.old self.new (entry_of session requests.End logged.Bye) }
     {
         self.core.end(session);
         self.journal.push(Entry {

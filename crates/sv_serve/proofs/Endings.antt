@@ -6,7 +6,7 @@ use Rattle.sv_bytes.specs.Writing.{Grew, GrewByPart}
 use Rattle.sv_command.specs.declared.ending.Ending.{Ending}
 use Rattle.sv_command.specs.declared.ending.Ending.TheVariants as endings
 use Rattle.sv_command.specs.Endings.{Ends, IsCutShort, IsPrinted, OrWords}
-use Rattle.sv_command.specs.Reading.{read_limit, held_of, IsRefused, IsNoScenario, HoldsScenario}
+use Rattle.sv_command.specs.Reading.{read_limit, held_by_file, IsRefused, IsNoScenario, HoldsScenario}
 use Rattle.sv_command.specs.Statuses.{status_of, Counts, counts, Raises, NoneRose}
 use Rattle.sv_command.proofs.Counts.{same_counts}
 use Rattle.sv_command.proofs.Statuses.{link_is, range_is as plain_range}
@@ -74,20 +74,20 @@ abbrev pub Leaves : Option (List ℕ) → Moved → Option (List ℕ) → Option
 Leaves held m old now e = Ends (IsText held m) (OrWords (EndsEarly held)) old now e
 
 module _ (contents : List ℕ → Option (List ℕ)) (m : Moved) (given : Option Command) (command : Command) (is : given ≡ Some command) where
-  text_given : (text : List ℕ) → IsText (contents command.file.now) m text → IsText (held_of contents (named_by (option_map asked_by given))) m text
-  text_given text told = subst (λ (o : Option Command). IsText (held_of contents (named_by (option_map asked_by o))) m text) (sym is) told
+  text_given : (text : List ℕ) → IsText (contents command.file.now) m text → IsText (held_by_file contents (named_by (option_map asked_by given))) m text
+  text_given text told = subst (λ (o : Option Command). IsText (held_by_file contents (named_by (option_map asked_by o))) m text) (sym is) told
 
   pub printed_given : (text bytes : List ℕ) (old now : Option (List ℕ)) → bytes ≡ text → IsText (contents command.file.now) m text → Grew old now bytes
-      → IsPrinted (IsText (held_of contents (named_by (option_map asked_by given))) m) old now
-  printed_given text bytes old now same told grew = printed_by (IsText (held_of contents (named_by (option_map asked_by given))) m) old now text bytes same (text_given text told) grew
+      → IsPrinted (IsText (held_by_file contents (named_by (option_map asked_by given))) m) old now
+  printed_given text bytes old now same told grew = printed_by (IsText (held_by_file contents (named_by (option_map asked_by given))) m) old now text bytes same (text_given text told) grew
 
   pub cut_given : (text bytes : List ℕ) (old now : Option (List ℕ)) → bytes ≡ text → IsText (contents command.file.now) m text → GrewByPart old now bytes
-      → IsCutShort (IsText (held_of contents (named_by (option_map asked_by given))) m) old now
-  cut_given text bytes old now same told part = cut_by (IsText (held_of contents (named_by (option_map asked_by given))) m) old now text bytes same (text_given text told) part
+      → IsCutShort (IsText (held_by_file contents (named_by (option_map asked_by given))) m) old now
+  cut_given text bytes old now same told part = cut_by (IsText (held_by_file contents (named_by (option_map asked_by given))) m) old now text bytes same (text_given text told) part
 
-  pub early_given : (old : Option (List ℕ)) (e : Ending) → EndsEarly (contents command.file.now) e → Leaves (held_of contents (named_by (option_map asked_by given))) m old old e
+  pub early_given : (old : Option (List ℕ)) (e : Ending) → EndsEarly (contents command.file.now) e → Leaves (held_by_file contents (named_by (option_map asked_by given))) m old old e
   early_given old e h =
-      subst (λ (o : Option Command). Leaves (held_of contents (named_by (option_map asked_by o))) m old old e) (sym is)
+      subst (λ (o : Option Command). Leaves (held_by_file contents (named_by (option_map asked_by o))) m old old e) (sym is)
       (ends_early (IsText (contents command.file.now) m) (OrWords (EndsEarly (contents command.file.now))) old (λ x. x) (λ x. x) e (or_words (EndsEarly (contents command.file.now)) e h))
 
 -- ---- What is left of a call, by its status
@@ -110,7 +110,7 @@ module _ (held : Option (List ℕ)) (m : Moved) (old now : Option (List ℕ)) wh
 
 module _ (a : Option Asked) (contents : List ℕ → Option (List ℕ)) (m : Moved) (old now : Option (List ℕ)) where
   abbrev held : Option (List ℕ)
-  held = held_of contents (named_by a)
+  held = held_by_file contents (named_by a)
 
   pub faulty_is : (e : Ending) → ((e ≡ endings.Words) ↔ (a ≡ None)) → Leaves held m old now e
       → IfSome held (λ all. IsNoScenario (take read_limit all) → Faulty (status_of e))

@@ -20,7 +20,7 @@ use Rattle.sv_play.specs.declared.tasks.Serviced.{Serviced}
 use Rattle.sv_play.specs.Places.{EachPlace}
 use Rattle.sv_play.specs.Tasks.{WasServed}
 use Rattle.sv_play.specs.Given.{Setting, keeper_after, pass_of, IsService}
-use Rattle.sv_play.specs.Left.{is_memory, IsOfLock, Joined, IsServiced}
+use Rattle.sv_play.specs.Left.{is_memory, IsOfLock, JoinedPasses, IsServiced}
 use Rattle.sv_play.specs.Playing.{TookAllIn}
 use Rattle.sv_play.proofs.Places.{each_all, at_place, unmap_at}
 use Rattle.sv_play.proofs.Leaving.{served_left, all_of_lock}
@@ -68,7 +68,7 @@ module _ {E G : Type 0} (told : E → Told) (faults : E → ℕ) (calm : E → T
       each_within (IsServiced told faults calm run) (IsServedOf told made) ys served
       (λ s y low service. let pair = ap (λ (t : Told). t.pair) service.served.told in omega (arith, is, low, pair, all_served))
 
-  module _ (k : SessionPass) (joined : Joined ys (keeper_after (session_count run.scenario) run.lock run.scenario) k) (good : IsGoodRun run.scenario) where
+  module _ (k : SessionPass) (joined : JoinedPasses ys (keeper_after (session_count run.scenario) run.lock run.scenario) k) (good : IsGoodRun run.scenario) where
     pub took_all : TookAllIn run.scenario (keeper_after 0 run.lock run.scenario) k
     took_all = all_taken_in told faults calm run ys served all_served k joined good
 

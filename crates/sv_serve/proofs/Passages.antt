@@ -22,7 +22,7 @@ use Rattle.sv_sequencer.specs.Step.{entry_of}
 use Rattle.sv_lock.specs.Histories.{entries_of}
 use Rattle.sv_lock.specs.Passes.{session_number}
 use Rattle.sv_session.specs.Requests.{stop_of, StopsFor, requests_read, due_frames}
-use Rattle.sv_session.specs.Serving.{SessionPass, Served, SessionCause, Explains, ended_by}
+use Rattle.sv_session.specs.Serving.{SessionPass, Served, SessionCause, ExplainsOut, ended_by}
 use Rattle.sv_session.specs.declared.outcome.SessionOut.{SessionOut}
 use Rattle.sv_session.specs.declared.outcome.SessionOut.TheVariants as outs
 use Rattle.sv_system.specs.Fits.{requests_in, replies_in}
@@ -36,7 +36,7 @@ use Rattle.sv_serve.specs.Passages.{AnsweredAll, IsPassageOf}
 -- ---- Outcomes
 
 -- Where the link held and there was memory, all that was due was sent.
-all_sent : (out : SessionOut) (stream : List ℕ) (answered : List Entry) (sent due : List ℕ) → out ≢ outs.LinkFault → out ≢ outs.Memory → Explains out stream answered sent due → sent ≡ due
+all_sent : (out : SessionOut) (stream : List ℕ) (answered : List Entry) (sent due : List ℕ) → out ≢ outs.LinkFault → out ≢ outs.Memory → ExplainsOut out stream answered sent due → sent ≡ due
 all_sent outs.Left stream answered sent due l m e = e.1
 all_sent outs.Closed stream answered sent due l m e = e.1
 all_sent outs.Ended stream answered sent due l m e = e.1
@@ -137,7 +137,7 @@ module _ (stay : FullRepliesStay) (name : LegalRelaysNameAccepted) (J : List Ent
   abbrev HowItEnded : Type 0
   HowItEnded = EndsWithStop (replies_in (accepted h) h s) ⊎ AnsweredAll h s x ⊎ (x.faulty ≡ true)
 
-  how_ended : (o : SessionOut) → out ≡ o → Explains o d.served.received answered d.served.sent (due_frames d.after.seen answered) → HowItEnded
+  how_ended : (o : SessionOut) → out ≡ o → ExplainsOut o d.served.received answered d.served.sent (due_frames d.after.seen answered) → HowItEnded
   how_ended outs.Closed is e =
       inr (inl (record {
         closed = ap (λ (t : Told). t.ended) d.served.told ∙ ap (λ (o : SessionOut). ended_by o false) is;

@@ -1,7 +1,7 @@
 //! Taking in what the sessions left.
 ghost use Rattle.std.specs.Prelude.{◌≡◌, ◌+◌, ◌≤◌, ◌++◌, ◌||◌, false, length, None};
 ghost use Rattle.std.specs.List.{AllByRecursion};
-ghost use Rattle.sv_play.specs.Left.{is_memory, IsOfLock, Joined};
+ghost use Rattle.sv_play.specs.Left.{is_memory, IsOfLock, JoinedPasses};
 ghost use Rattle.sv_play.specs.declared.tasks.Serviced.{Serviced as Left};
 ghost use Rattle.sv_serve.specs.Giving.{kept_served, IsServedOf};
 
@@ -32,7 +32,7 @@ pub(crate) fn take_in<D: Door>(
     requires passes { AllByRecursion (IsOfLock lock.now) served.items }
     requires own { AllByRecursion (IsServedOf D.E.told (D.made door.old)) served.items }
     requires owed { length served.items ≤ D.owed door.old }
-    ensures joined { Joined served.items keeper.old keeper.new }
+    ensures joined { JoinedPasses served.items keeper.old keeper.new }
     ensures given { D.given door.new ≡ D.given door.old ++ kept_served D.E.told D.E.faults served.items }
     ensures made { D.made door.new ≡ D.made door.old }
     ensures owed { D.owed door.old ≡ D.owed door.new + length served.items }

@@ -1,7 +1,7 @@
 //! The top call of a server by itself.
 ghost use Rattle.std.specs.Prelude.{◌≡◌, ◌≢◌, ◌↔◌, ◌⊎◌, ◌≤◌, ℕ, take, map, option_map, string_bytes, None, IfSome};
 ghost use Rattle.sv_command.specs.Endings.{Ends, IsCutShort, IsPrinted, OrWords};
-ghost use Rattle.sv_command.specs.Reading.{read_limit, held_of, HoldsScenario, IsNoScenario};
+ghost use Rattle.sv_command.specs.Reading.{read_limit, held_by_file, HoldsScenario, IsNoScenario};
 ghost use Rattle.sv_command.specs.Statuses.{counts, NoneRose, Raises, TellsFaults, TellsStatus, status_of};
 ghost use Rattle.sv_serve.specs.Words.{asked_by, command_of, named_by, words_line};
 ghost use Rattle.sv_serve.specs.Giving.{doorway};
@@ -28,8 +28,8 @@ fn decide<F: Files, D: Door, C: Crew, G: Gate + Sync, K: Sink, R: Threads + Wait
     out: &mut K,
 ) -> Ending
     ensures words { (result ≡ Ending.Words) ↔ (option_map asked_by command.entry ≡ None) }
-    ensures ends { Ends (IsText (held_of (F.contents files.old) (named_by (option_map asked_by command.entry))) (moved (D.given door.old) (D.given door.new) (C.ran crew.old) (C.ran crew.new)))
-        (OrWords (EndsEarly (held_of (F.contents files.old) (named_by (option_map asked_by command.entry))))) (K.taken out.old) (K.taken out.new) result }
+    ensures ends { Ends (IsText (held_by_file (F.contents files.old) (named_by (option_map asked_by command.entry))) (moved (D.given door.old) (D.given door.new) (C.ran crew.old) (C.ran crew.new)))
+        (OrWords (EndsEarly (held_by_file (F.contents files.old) (named_by (option_map asked_by command.entry))))) (K.taken out.old) (K.taken out.new) result }
     ensures raises { Raises (counts (F.faults files.old) (C.faults crew.old) (D.faults door.old) (K.faults out.old))
         (counts (F.faults files.new) (C.faults crew.new) (D.faults door.new) (K.faults out.new)) result }
     ensures sure { IfSome (named_by (option_map asked_by command.entry)) (λ name. F.sure files.old name → result ≢ Ending.File) }
@@ -85,16 +85,16 @@ pub fn run_serve<
     ensures apart { LeavesAlone result files.old files.new door.old door.new crew.old crew.new }
     ensures back { GivesBackBut result (C.ran crew.old) (C.ran crew.new)
         (doorway (D.given door.old) (D.made door.old) (D.owed door.old)) (doorway (D.given door.new) (D.made door.new) (D.owed door.new)) }
-    ensures faulty { IfSome (held_of (F.contents files.old) (named_by (command_of (map string_bytes words.now))))
+    ensures faulty { IfSome (held_by_file (F.contents files.old) (named_by (command_of (map string_bytes words.now))))
         (λ all. IsNoScenario (take read_limit all) → (result ≡ 3) ⊎ (result ≡ 4) ⊎ (result ≡ 8)) }
-    ensures printed { result ≡ 0 → IsPrinted (IsText (held_of (F.contents files.old) (named_by (command_of (map string_bytes words.now))))
+    ensures printed { result ≡ 0 → IsPrinted (IsText (held_by_file (F.contents files.old) (named_by (command_of (map string_bytes words.now))))
         (moved (D.given door.old) (D.given door.new) (C.ran crew.old) (C.ran crew.new))) (K.taken out.old) (K.taken out.new) }
-    ensures part { result ≡ 5 → IsCutShort (IsText (held_of (F.contents files.old) (named_by (command_of (map string_bytes words.now))))
+    ensures part { result ≡ 5 → IsCutShort (IsText (held_by_file (F.contents files.old) (named_by (command_of (map string_bytes words.now))))
         (moved (D.given door.old) (D.given door.new) (C.ran crew.old) (C.ran crew.new))) (K.taken out.old) (K.taken out.new) }
     ensures nothing { result ≢ 0 → result ≢ 5 → K.taken out.new ≡ K.taken out.old }
-    ensures told { TellsStatus words_line result (held_of (F.contents files.old) (named_by (command_of (map string_bytes words.now)))) (named_by (command_of (map string_bytes words.now)))
+    ensures told { TellsStatus words_line result (held_by_file (F.contents files.old) (named_by (command_of (map string_bytes words.now)))) (named_by (command_of (map string_bytes words.now)))
         (E.taken err.old) (E.taken err.new) (E.faults err.old) (E.faults err.new) }
-    ensures complete { HoldsScenario (held_of (F.contents files.old) (named_by (command_of (map string_bytes words.now))))
+    ensures complete { HoldsScenario (held_by_file (F.contents files.old) (named_by (command_of (map string_bytes words.now))))
         → NoneRose (counts (F.faults files.old) (C.faults crew.old) (D.faults door.old) (K.faults out.old))
         (counts (F.faults files.new) (C.faults crew.new) (D.faults door.new) (K.faults out.new))
         → (result ≡ 0) ⊎ (result ≡ 8) }

@@ -15,7 +15,7 @@ use Rattle.sv_lock.specs.Histories.{entries_of, GoesOn}
 use Rattle.sv_lock.specs.Passes.{session_number}
 use Rattle.sv_link.specs.Ends.{Told}
 use Rattle.sv_session.specs.Requests.{due_frames}
-use Rattle.sv_session.specs.Serving.{SessionPass, IsSamePass, Explains, Served}
+use Rattle.sv_session.specs.Serving.{SessionPass, IsSamePass, ExplainsOut, Served}
 use Rattle.sv_session.specs.Rounds.{stand, Halts}
 use Rattle.sv_session.specs.declared.outcome.SessionOut.{SessionOut}
 use Rattle.sv_session.proofs.Replies.{frames_on}
@@ -55,6 +55,6 @@ module _ (law : FullRepliesStay) (old : Told) (before : SessionPass) (out : Sess
         no_other = h.no_end;
         requests = h.requests;
         replies = subst (λ l. IsPrefix h.sent l) due h.replies;
-        cause = subst (λ l. Explains out h.received h.answered h.sent l) due h.cause;
+        cause = subst (λ l. ExplainsOut out h.received h.answered h.sent l) due h.cause;
         exactly = λ reason stop all. h.exactly reason stop (all ∙ sym due);
       }

@@ -16,8 +16,8 @@ use Rattle.sv_lock.specs.Passes.{LockView, session_number}
 use Rattle.sv_lock.proofs.Histories.{prefix_self, prefix_trans}
 use Rattle.sv_link.specs.Ends.{Told}
 use Rattle.sv_session.specs.Requests.{requests_read, entry_requests, due_frames, stop_after, StopsFor}
-use Rattle.sv_session.specs.Serving.{SessionPass, IsSamePass, MayServe, BreaksOff, TookAll, Explains, ended_by}
-use Rattle.sv_session.specs.Rounds.{Stand, BeginsWith, StepsOn, Onward, Halts}
+use Rattle.sv_session.specs.Serving.{SessionPass, IsSamePass, MayServe, BreaksOff, TookAll, ExplainsOut, ended_by}
+use Rattle.sv_session.specs.Rounds.{Stand, BeginsWithRequests, StepsOn, Onward, Halts}
 use Rattle.sv_session.specs.declared.outcome.SessionOut.{SessionOut}
 use Rattle.sv_session.specs.declared.outcome.SessionOut.TheVariants as outs
 use Rattle.sv_session.proofs.Streams.{begins_with_none, begins_and_more, begins_twice, begins_so, leaves_so}
@@ -76,7 +76,7 @@ joined_last told s t r q ended = ap (λ (u : Told). record u { ended = ended }) 
 -- ---- What an outcome says, after more rounds
 
 explains_later : (out : SessionOut) (stream rest : List ℕ) (x y : List Entry) (s t due left : List ℕ) → stop_after x ≡ None → requests_read stream ≡ entry_requests x ++ requests_read rest →
-    too_long (split_frames stream).1 ≡ too_long (split_frames rest).1 → due ≡ s ++ left → Explains out rest y t left → Explains out stream (x ++ y) (s ++ t) due
+    too_long (split_frames stream).1 ≡ too_long (split_frames rest).1 → due ≡ s ++ left → ExplainsOut out rest y t left → ExplainsOut out stream (x ++ y) (s ++ t) due
 explains_later out stream rest x y s t due left on asked same is = by_out out
   where
     stops_later : (reason : SessionOut) → StopsFor reason y × (t ≡ left) → StopsFor reason (x ++ y) × (s ++ t ≡ due)
@@ -111,7 +111,7 @@ explains_later out stream rest x y s t due left on asked same is = by_out out
       ap (λ l. s ++ l) f.1 ∙ sym is,
     )
 
-    by_out : (out : SessionOut) → Explains out rest y t left → Explains out stream (x ++ y) (s ++ t) due
+    by_out : (out : SessionOut) → ExplainsOut out rest y t left → ExplainsOut out stream (x ++ y) (s ++ t) due
     by_out outs.Left f = stops_later outs.Left f
     by_out outs.Closed f = all_later f
     by_out outs.Ended f = stops_later outs.Ended f
@@ -132,9 +132,9 @@ module _ (law : FullRepliesStay) (a b : Stand) (p : Onward a b) where
       ∙ (ap (λ l. l ++ due_frames after.seen y) (sym p.replies) ∙ append_assoc p.sent b.outbox (due_frames after.seen y))))
 
   -- what came goes on from what was not taken
-  begins_later : (more : List ℕ) → BeginsWith (a.inbox ++ (p.received ++ more)) (entry_requests p.answered) (b.inbox ++ more)
+  begins_later : (more : List ℕ) → BeginsWithRequests (a.inbox ++ (p.received ++ more)) (entry_requests p.answered) (b.inbox ++ more)
   begins_later more =
-      subst (λ s. BeginsWith s (entry_requests p.answered) (b.inbox ++ more)) (append_assoc a.inbox p.received more)
+      subst (λ s. BeginsWithRequests s (entry_requests p.answered) (b.inbox ++ more)) (append_assoc a.inbox p.received more)
       (begins_and_more (a.inbox ++ p.received) more (entry_requests p.answered) b.inbox p.requests)
 
   pub onward_twice : (c : Stand) → Onward b c → Onward a c
@@ -146,7 +146,7 @@ module _ (law : FullRepliesStay) (a b : Stand) (p : Onward a b) where
         told = q.told ∙ (ap (λ (t : Told). record t { sent = t.sent ++ q.sent; received = t.received ++ q.received }) p.told ∙ joined_told a.told p.sent q.sent p.received q.received);
         steps = steps_twice a.pass p.answered b.pass q.answered c.pass p.steps q.steps;
         no_end = All-append (λ (e : Entry). is_end e.request ≡ false) p.answered q.answered p.no_end q.no_end;
-        requests = subst (λ l. BeginsWith (a.inbox ++ (p.received ++ q.received)) l c.inbox) (sym (map-append (λ (e : Entry). e.request) p.answered q.answered))
+        requests = subst (λ l. BeginsWithRequests (a.inbox ++ (p.received ++ q.received)) l c.inbox) (sym (map-append (λ (e : Entry). e.request) p.answered q.answered))
             (begins_twice (a.inbox ++ (p.received ++ q.received)) (entry_requests p.answered) (b.inbox ++ q.received) (entry_requests q.answered) c.inbox (begins_later q.received) q.requests);
         replies = append_assoc p.sent q.sent c.outbox ∙ (ap (λ l. p.sent ++ l) q.replies ∙ sym (due_later c.pass q.answered q.steps.goes_on));
         on = on_after p.answered q.answered p.on ∙ q.on;
@@ -181,7 +181,7 @@ onward_self a =
       told = sym (ap (λ (l : List ℕ). record a.told { sent = l; received = a.told.received ++ [] }) (append-nil a.told.sent) ∙ ap (λ (l : List ℕ). record a.told { received = l }) (append-nil a.told.received));
       steps = steps_none a.pass;
       no_end = All-nil (λ (e : Entry). is_end e.request ≡ false);
-      requests = subst (λ s. BeginsWith s [] a.inbox) (sym (append-nil a.inbox)) (begins_with_none a.inbox);
+      requests = subst (λ s. BeginsWithRequests s [] a.inbox) (sym (append-nil a.inbox)) (begins_with_none a.inbox);
       replies = sym (ap (λ l. a.outbox ++ l) (frames_of_none a.pass.seen) ∙ append-nil a.outbox);
       on = refl;
     }

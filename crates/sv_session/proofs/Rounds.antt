@@ -24,9 +24,9 @@ use Rattle.sv_lock.specs.Histories.{GoesOn}
 use Rattle.sv_lock.specs.Passes.{session_number}
 use Rattle.sv_link.specs.Ends.{Told}
 use Rattle.sv_session.specs.Requests.{requests_read, due_frames, stop_of, stop_after, StopsFor}
-use Rattle.sv_session.specs.Serving.{SessionPass, IsSamePass, BreaksOff, Explains, ended_by}
-use Rattle.sv_session.specs.Answers.{IsReplyPosted, IsRead, IsRound}
-use Rattle.sv_session.specs.Rounds.{Stand, stand, BeginsWith, TakesRequest, StepsOn, Steps, IsBroken, PostsOn, PostsLast, ReadsOn, ReadsLast, Onward, Halts}
+use Rattle.sv_session.specs.Serving.{SessionPass, IsSamePass, BreaksOff, ExplainsOut, ended_by}
+use Rattle.sv_session.specs.Answers.{IsReplyPosted, ReadsOnOrEnds, IsRound}
+use Rattle.sv_session.specs.Rounds.{Stand, stand, BeginsWithRequests, TakesRequest, StepsOn, Steps, IsBroken, PostsOn, PostsLast, ReadsOn, ReadsLast, Onward, Halts}
 use Rattle.sv_session.specs.declared.outcome.SessionOut.{SessionOut}
 use Rattle.sv_session.specs.declared.outcome.SessionOut.TheVariants as outs
 use Rattle.sv_session.proofs.Streams.{begins_with_none, none_yet, none_left}
@@ -129,7 +129,7 @@ module _ (a : Stand) (q : Request) (reply : Reply) (inbox : List ℕ) (told : To
         told = posts.told ∙ received_none posts.sent;
         steps = s.on;
         no_end = no_end_here;
-        requests = subst (λ l. BeginsWith l (s.entry.request ∷ []) inbox) (sym (append-nil a.inbox)) (subst (λ (x : Request). BeginsWith a.inbox (x ∷ []) inbox) (sym s.asks) (takes.next (not_bad none)));
+        requests = subst (λ l. BeginsWithRequests l (s.entry.request ∷ []) inbox) (sym (append-nil a.inbox)) (subst (λ (x : Request). BeginsWithRequests a.inbox (x ∷ []) inbox) (sym s.asks) (takes.next (not_bad none)));
         replies = posts.all ∙ due_same;
         on = alone ∙ none;
       }
@@ -152,14 +152,14 @@ module _ (a : Stand) (q : Request) (reply : Reply) (inbox : List ℕ) (told : To
   ended_same out (inr (inl is)) b = ap (λ o. ended_by o b) is
   ended_same out (inr (inr is)) b = ap (λ o. ended_by o b) is
 
-  explains_stop : (out : SessionOut) → stop_of (logged_of reply) ≡ Some out → (stream sent due : List ℕ) → sent ≡ due → Explains out stream (s.entry ∷ []) sent due
+  explains_stop : (out : SessionOut) → stop_of (logged_of reply) ≡ Some out → (stream sent due : List ℕ) → sent ≡ due → ExplainsOut out stream (s.entry ∷ []) sent due
   explains_stop out is stream sent due all =
-      each_reason (λ o. stop_of (logged_of reply) ≡ Some o → Explains o stream (s.entry ∷ []) sent due) (logged_of reply) out is
+      each_reason (λ o. stop_of (logged_of reply) ≡ Some o → ExplainsOut o stream (s.entry ∷ []) sent due) (logged_of reply) out is
       (λ e. (stops_for outs.Left e, all)) (λ e. (stops_for outs.Malformed e, all)) (λ e. (stops_for outs.Ended e, all)) (λ e. (stops_for outs.Spent e, all)) is
 
-  explains_broken : (out : SessionOut) → IsBroken out → (stream sent due : List ℕ) → Explains out stream (s.entry ∷ []) sent due
-  explains_broken out (inl is) stream sent due = subst (λ o. Explains o stream (s.entry ∷ []) sent due) (sym is) breaks
-  explains_broken out (inr is) stream sent due = subst (λ o. Explains o stream (s.entry ∷ []) sent due) (sym is) breaks
+  explains_broken : (out : SessionOut) → IsBroken out → (stream sent due : List ℕ) → ExplainsOut out stream (s.entry ∷ []) sent due
+  explains_broken out (inl is) stream sent due = subst (λ o. ExplainsOut o stream (s.entry ∷ []) sent due) (sym is) breaks
+  explains_broken out (inr is) stream sent due = subst (λ o. ExplainsOut o stream (s.entry ∷ []) sent due) (sym is) breaks
 
   pub halts_answered : (out : SessionOut) → PostsLast a.told (a.outbox ++ frame (reply_bytes reply)) (stop_of (logged_of reply)) out told → Halts a out told pass
   halts_answered out posts =
@@ -181,7 +181,7 @@ module _ (a : Stand) (q : Request) (reply : Reply) (inbox : List ℕ) (told : To
       kinds (inr w) = inr w.0
 
       cause : ((stop_of (logged_of reply) ≡ Some out) × (posts.sent ≡ a.outbox ++ frame (reply_bytes reply))) ⊎ (IsBroken out × (posts.sent ≢ a.outbox ++ frame (reply_bytes reply))) →
-          Explains out (a.inbox ++ []) (s.entry ∷ []) posts.sent (a.outbox ++ due_frames pass.seen (s.entry ∷ []))
+          ExplainsOut out (a.inbox ++ []) (s.entry ∷ []) posts.sent (a.outbox ++ due_frames pass.seen (s.entry ∷ []))
       cause (inl w) = explains_stop out w.0 (a.inbox ++ []) posts.sent _ (w.1 ∙ due_same)
       cause (inr w) = explains_broken out w.0 (a.inbox ++ []) posts.sent _
 
@@ -225,7 +225,7 @@ module _ (a : Stand) where
     told = reads.told;
     steps = steps_none a.pass;
     no_end = All-nil (λ (e : Entry). is_end e.request ≡ false);
-    requests = subst (λ l. BeginsWith (a.inbox ++ reads.bytes) [] l) (sym reads.grew) (begins_with_none (a.inbox ++ reads.bytes));
+    requests = subst (λ l. BeginsWithRequests (a.inbox ++ reads.bytes) [] l) (sym reads.grew) (begins_with_none (a.inbox ++ reads.bytes));
     replies = append-nil a.outbox ∙ sym due_none;
     on = refl;
   }
@@ -247,11 +247,11 @@ module _ (a : Stand) where
       breaks_none : BreaksOff []
       breaks_none = record { before = []; last = []; are = refl; few = omega arith; on = refl }
 
-      cause : ((out ≡ outs.Closed) × (reads.sent ≡ a.outbox)) ⊎ IsBroken out → Explains out (a.inbox ++ []) [] reads.sent (a.outbox ++ due_frames a.pass.seen [])
-      cause (inl w) = subst (λ o. Explains o (a.inbox ++ []) [] reads.sent (a.outbox ++ due_frames a.pass.seen [])) (sym w.0)
+      cause : ((out ≡ outs.Closed) × (reads.sent ≡ a.outbox)) ⊎ IsBroken out → ExplainsOut out (a.inbox ++ []) [] reads.sent (a.outbox ++ due_frames a.pass.seen [])
+      cause (inl w) = subst (λ o. ExplainsOut o (a.inbox ++ []) [] reads.sent (a.outbox ++ due_frames a.pass.seen [])) (sym w.0)
           (record { on = refl; all = sym (ap requests_read (append-nil a.inbox) ∙ none_yet a.inbox no_frame no_length); rest = ap (λ l. too_long (split_frames l).1) (append-nil a.inbox) ∙ none_left a.inbox no_frame no_length }, w.1 ∙ sym due_none)
-      cause (inr (inl w)) = subst (λ o. Explains o (a.inbox ++ []) [] reads.sent (a.outbox ++ due_frames a.pass.seen [])) (sym w) breaks_none
-      cause (inr (inr w)) = subst (λ o. Explains o (a.inbox ++ []) [] reads.sent (a.outbox ++ due_frames a.pass.seen [])) (sym w) breaks_none
+      cause (inr (inl w)) = subst (λ o. ExplainsOut o (a.inbox ++ []) [] reads.sent (a.outbox ++ due_frames a.pass.seen [])) (sym w) breaks_none
+      cause (inr (inr w)) = subst (λ o. ExplainsOut o (a.inbox ++ []) [] reads.sent (a.outbox ++ due_frames a.pass.seen [])) (sym w) breaks_none
 
 -- ---- What the round answers
 
@@ -260,7 +260,7 @@ pub round_posted : (result : Option SessionOut) (a : Stand) (q : Request) (reply
 round_posted None a q reply inbox told pass outbox takes s posts = on_answered a q reply inbox told pass takes s outbox posts.0 posts.1
 round_posted (Some out) a q reply inbox told pass outbox takes s posts = halts_answered a q reply inbox told pass takes s out posts
 
-pub round_read : (result : Option SessionOut) (a : Stand) (told : Told) (inbox outbox : List ℕ) → first_frame a.inbox ≡ None → too_long a.inbox ≡ None → IsRead result a.told a.outbox a.inbox told inbox outbox →
+pub round_read : (result : Option SessionOut) (a : Stand) (told : Told) (inbox outbox : List ℕ) → first_frame a.inbox ≡ None → too_long a.inbox ≡ None → ReadsOnOrEnds result a.told a.outbox a.inbox told inbox outbox →
     IsRound result a (stand told a.pass inbox outbox)
 round_read None a told inbox outbox no_frame no_length reads = subst (λ l. Onward a (stand told a.pass inbox l)) (sym reads.1) (on_read a told inbox reads.0)
 round_read (Some out) a told inbox outbox no_frame no_length reads = halts_read a out told no_frame no_length reads

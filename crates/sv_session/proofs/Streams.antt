@@ -9,7 +9,7 @@ use Rattle.sv_wire.specs.declared.message.Request.{Request}
 use Rattle.sv_wire.specs.declared.message.Request.TheVariants as requests
 use Rattle.sv_wire.specs.Messages.{request_at}
 use Rattle.sv_session.specs.Requests.{read_or_bad, request_for, requests_read}
-use Rattle.sv_session.specs.Rounds.{BeginsWith}
+use Rattle.sv_session.specs.Rounds.{BeginsWithRequests}
 
 -- the requests of a stream, by what it splits into
 requests_by : List (List ℕ) × List ℕ → List Request
@@ -29,7 +29,7 @@ first_request stream payload after e =
     by_split stream (with_first payload (split_frames after)) (split-some stream payload after e)
     ∙ (one_more payload (split_frames after) ∙ ap (λ (qs : List Request). read_or_bad (request_at payload) ∷ qs) (sym (by_split after (split_frames after) refl)))
 
-pub begins_with_frame : (stream payload after : List ℕ) → first_frame stream ≡ Some (payload, after) → BeginsWith stream (read_or_bad (request_at payload) ∷ []) after
+pub begins_with_frame : (stream payload after : List ℕ) → first_frame stream ≡ Some (payload, after) → BeginsWithRequests stream (read_or_bad (request_at payload) ∷ []) after
 begins_with_frame stream payload after e =
     record {
       asked = λ more. first_request (stream ++ more) payload (after ++ more) (first_frame-append stream more payload after e);
@@ -57,28 +57,28 @@ none_left stream no_frame no_length = ap (λ (s : List (List ℕ) × List ℕ). 
 
 -- ---- Streams that go on
 
-pub begins_with_none : (stream : List ℕ) → BeginsWith stream [] stream
+pub begins_with_none : (stream : List ℕ) → BeginsWithRequests stream [] stream
 begins_with_none stream = record { asked = λ more. refl; left = λ more. refl }
 
-pub begins_and_more : (stream more : List ℕ) (taken : List Request) (rest : List ℕ) → BeginsWith stream taken rest → BeginsWith (stream ++ more) taken (rest ++ more)
+pub begins_and_more : (stream more : List ℕ) (taken : List Request) (rest : List ℕ) → BeginsWithRequests stream taken rest → BeginsWithRequests (stream ++ more) taken (rest ++ more)
 begins_and_more stream more taken rest begins =
     record {
       asked = λ after. ap requests_read (append_assoc stream more after) ∙ (begins.asked (more ++ after) ∙ ap (λ (s : List ℕ). taken ++ requests_read s) (sym (append_assoc rest more after)));
       left = λ after. ap (λ (s : List ℕ). (split_frames s).1) (append_assoc stream more after) ∙ (begins.left (more ++ after) ∙ ap (λ (s : List ℕ). (split_frames s).1) (sym (append_assoc rest more after)));
     }
 
-pub begins_twice : (stream : List ℕ) (first : List Request) (between : List ℕ) (second : List Request) (rest : List ℕ) → BeginsWith stream first between → BeginsWith between second rest →
-    BeginsWith stream (first ++ second) rest
+pub begins_twice : (stream : List ℕ) (first : List Request) (between : List ℕ) (second : List Request) (rest : List ℕ) → BeginsWithRequests stream first between → BeginsWithRequests between second rest →
+    BeginsWithRequests stream (first ++ second) rest
 begins_twice stream first between second rest a b =
     record {
       asked = λ more. a.asked more ∙ (ap (λ (qs : List Request). first ++ qs) (b.asked more) ∙ sym (append_assoc first second (requests_read (rest ++ more))));
       left = λ more. a.left more ∙ b.left more;
     }
 
-pub begins_so : (stream : List ℕ) (taken : List Request) (rest : List ℕ) → BeginsWith stream taken rest → requests_read stream ≡ taken ++ requests_read rest
+pub begins_so : (stream : List ℕ) (taken : List Request) (rest : List ℕ) → BeginsWithRequests stream taken rest → requests_read stream ≡ taken ++ requests_read rest
 begins_so stream taken rest begins =
     ap requests_read (sym (append-nil stream)) ∙ (begins.asked [] ∙ ap (λ (s : List ℕ). taken ++ requests_read s) (append-nil rest))
 
-pub leaves_so : (stream : List ℕ) (taken : List Request) (rest : List ℕ) → BeginsWith stream taken rest → too_long (split_frames stream).1 ≡ too_long (split_frames rest).1
+pub leaves_so : (stream : List ℕ) (taken : List Request) (rest : List ℕ) → BeginsWithRequests stream taken rest → too_long (split_frames stream).1 ≡ too_long (split_frames rest).1
 leaves_so stream taken rest begins =
     ap (λ (s : List ℕ). too_long (split_frames s).1) (sym (append-nil stream)) ∙ (ap too_long (begins.left []) ∙ ap (λ (s : List ℕ). too_long (split_frames s).1) (append-nil rest))

@@ -10,7 +10,7 @@ use Rattle.sv_wire.specs.declared.message.Request.TheVariants as requests
 use Rattle.sv_wire.specs.Messages.{request_at}
 use Rattle.sv_exchange.specs.Incoming.{FirstReads}
 use Rattle.sv_session.specs.Requests.{read_or_bad, requests_read}
-use Rattle.sv_session.specs.Rounds.{BeginsWith, TakesRequest}
+use Rattle.sv_session.specs.Rounds.{BeginsWithRequests, TakesRequest}
 use Rattle.sv_session.proofs.Streams.{first_request, begins_with_frame, long_is_bad}
 use Rattle.sv_session.proofs.Decoded.{decoded_no_end}
 
@@ -27,7 +27,7 @@ whole_taken old new request reads skip =
     let at = skipped (first_frame old) reads.payload old new reads.first skip in
     record {
       first = (requests_read new, first_request old reads.payload new at ∙ ap (λ (r : Result Request Malformed). read_or_bad r ∷ requests_read new) reads.is);
-      next = λ _. subst (λ (r : Result Request Malformed). BeginsWith old (read_or_bad r ∷ []) new) reads.is (begins_with_frame old reads.payload new at);
+      next = λ _. subst (λ (r : Result Request Malformed). BeginsWithRequests old (read_or_bad r ∷ []) new) reads.is (begins_with_frame old reads.payload new at);
       asked = decoded_no_end reads.payload request reads.is;
     }
 

@@ -20,9 +20,9 @@ IsReplyPosted None stop old due new left = (stop ≡ None) × PostsOn old due ne
 IsReplyPosted (Some out) stop old due new left = PostsLast old due stop out new
 
 -- all that was due was sent and more bytes came; or the loop ends
-abbrev pub IsRead : Option SessionOut → Told → List ℕ → List ℕ → Told → List ℕ → List ℕ → Type 0
-IsRead None old due inbox new after left = ReadsOn old due inbox new after × (left ≡ [])
-IsRead (Some out) old due inbox new after left = ReadsLast old due out new
+abbrev pub ReadsOnOrEnds : Option SessionOut → Told → List ℕ → List ℕ → Told → List ℕ → List ℕ → Type 0
+ReadsOnOrEnds None old due inbox new after left = ReadsOn old due inbox new after × (left ≡ [])
+ReadsOnOrEnds (Some out) old due inbox new after left = ReadsLast old due out new
 
 -- the loop goes on, or it ends
 abbrev pub IsRound : Option SessionOut → Stand → Stand → Type 0

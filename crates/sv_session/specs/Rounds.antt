@@ -14,7 +14,7 @@ use Rattle.sv_journal.specs.Text.{NamesAccepted}
 use Rattle.sv_sequencer.specs.Shared.{logged_of}
 use Rattle.sv_link.specs.Ends.{Told, sending, receiving}
 use Rattle.sv_session.specs.Requests.{requests_read, entry_requests, reply_payload, due_frames, stop_of, stop_after}
-use Rattle.sv_session.specs.Serving.{SessionPass, IsSamePass, Explains, ended_by}
+use Rattle.sv_session.specs.Serving.{SessionPass, IsSamePass, ExplainsOut, ended_by}
 use Rattle.sv_session.specs.declared.outcome.SessionOut.{SessionOut}
 use Rattle.sv_session.specs.declared.outcome.SessionOut.TheVariants as outs
 
@@ -31,14 +31,14 @@ stand told pass inbox outbox = record { told = told; pass = pass; inbox = inbox;
 -- ---- Requests that are taken
 
 -- a stream begins with these requests, however it goes on; and this is what it goes on from
-pub record BeginsWith (stream : List ℕ) (taken : List Request) (rest : List ℕ) : Type 0 where
+pub record BeginsWithRequests (stream : List ℕ) (taken : List Request) (rest : List ℕ) : Type 0 where
   pub asked : (more : List ℕ) → requests_read (stream ++ more) ≡ taken ++ requests_read (rest ++ more)
   pub left : (more : List ℕ) → (split_frames (stream ++ more)).1 ≡ (split_frames (rest ++ more)).1
 
 -- a request was taken off. Where it is Bad nothing more is said of what is left
 pub record TakesRequest (old : List ℕ) (request : Request) (new : List ℕ) : Type 0 where
   pub first : (after : List Request) × (requests_read old ≡ request ∷ after)
-  pub next : request ≢ requests.Bad → BeginsWith old (request ∷ []) new
+  pub next : request ≢ requests.Bad → BeginsWithRequests old (request ∷ []) new
   pub asked : is_end request ≡ false
 
 -- ---- Requests that are stepped
@@ -109,7 +109,7 @@ pub record Onward (a b : Stand) : Type 0 where
   pub told : b.told ≡ record a.told { sent = a.told.sent ++ sent; received = a.told.received ++ received }
   pub steps : StepsOn a.pass answered b.pass
   pub no_end : All (λ (e : Entry). is_end e.request ≡ false) answered
-  pub requests : BeginsWith (a.inbox ++ received) (entry_requests answered) b.inbox
+  pub requests : BeginsWithRequests (a.inbox ++ received) (entry_requests answered) b.inbox
   pub replies : sent ++ b.outbox ≡ a.outbox ++ due_frames b.pass.seen answered
   pub on : stop_after answered ≡ None
 
@@ -123,5 +123,5 @@ pub record Halts (a : Stand) (out : SessionOut) (new : Told) (after : SessionPas
   pub no_end : All (λ (e : Entry). is_end e.request ≡ false) answered
   pub requests : IsPrefix (entry_requests answered) (requests_read (a.inbox ++ received))
   pub replies : IsPrefix sent (a.outbox ++ due_frames after.seen answered)
-  pub cause : Explains out (a.inbox ++ received) answered sent (a.outbox ++ due_frames after.seen answered)
+  pub cause : ExplainsOut out (a.inbox ++ received) answered sent (a.outbox ++ due_frames after.seen answered)
   pub exactly : (reason : SessionOut) → stop_after answered ≡ Some reason → sent ≡ a.outbox ++ due_frames after.seen answered → out ≡ reason

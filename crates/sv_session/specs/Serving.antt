@@ -53,11 +53,11 @@ pub record TookAll (stream : List ℕ) (answered : List Entry) : Type 0 where
   pub rest : too_long (split_frames stream).1 ≡ None
 
 -- What an outcome says of the bytes that came, the requests that were answered, what was sent, and what was due.
-abbrev pub Explains : SessionOut → List ℕ → List Entry → List ℕ → List ℕ → Type 0
-Explains outs.Closed stream answered sent due = TookAll stream answered × (sent ≡ due)
-Explains outs.LinkFault stream answered sent due = BreaksOff answered
-Explains outs.Memory stream answered sent due = BreaksOff answered
-Explains reason stream answered sent due = StopsFor reason answered × (sent ≡ due)
+abbrev pub ExplainsOut : SessionOut → List ℕ → List Entry → List ℕ → List ℕ → Type 0
+ExplainsOut outs.Closed stream answered sent due = TookAll stream answered × (sent ≡ due)
+ExplainsOut outs.LinkFault stream answered sent due = BreaksOff answered
+ExplainsOut outs.Memory stream answered sent due = BreaksOff answered
+ExplainsOut reason stream answered sent due = StopsFor reason answered × (sent ≡ due)
 
 -- The end's answer Ended is the last that is read.
 abbrev pub ended_by : SessionOut → Bool → Bool
@@ -83,5 +83,5 @@ pub record Served (old : Told) (before : SessionPass) (out : SessionOut) (new : 
   pub no_other : All (λ (e : Entry). is_end e.request ≡ false) answered
   pub requests : IsPrefix (entry_requests answered) (requests_read received)
   pub replies : IsPrefix sent (due_frames after.seen answered)
-  pub cause : Explains out received answered sent (due_frames after.seen answered)
+  pub cause : ExplainsOut out received answered sent (due_frames after.seen answered)
   pub exactly : (reason : SessionOut) → stop_after answered ≡ Some reason → sent ≡ due_frames after.seen answered → out ≡ reason

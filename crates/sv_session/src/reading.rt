@@ -1,7 +1,7 @@
 //! Reading on, once every request that came is answered.
 ghost use Rattle.std.specs.Prelude.{◌≡◌, ◌≢◌, ◌<◌, [], false, length, Some, IfOk};
 ghost use Rattle.sv_frame.specs.Frames.{greatest_frame};
-ghost use Rattle.sv_session.specs.Answers.{IsRead, RoundCause};
+ghost use Rattle.sv_session.specs.Answers.{ReadsOnOrEnds, RoundCause};
 
 use crate::outcome::SessionOut;
 use std::alloc::{AllocError, Global};
@@ -19,7 +19,7 @@ pub(crate) struct Buffers {
 pub(crate) fn read_on<E: End>(buffers: &mut Buffers, end: &mut E) -> Option<SessionOut>
     requires open { (E.told end.old).closed ≡ false }
     requires room { length buffers.old.inbox < greatest_frame }
-    ensures reads { IsRead result (E.told end.old) buffers.old.outbox buffers.old.inbox (E.told end.new) buffers.new.inbox buffers.new.outbox }
+    ensures reads { ReadsOnOrEnds result (E.told end.old) buffers.old.outbox buffers.old.inbox (E.told end.new) buffers.new.inbox buffers.new.outbox }
     ensures cause { RoundCause (E.faults end.old) (E.faults end.new) result }
     ensures calm { E.calm end.old → (result ≢ Some SessionOut.LinkFault) × E.calm end.new }
 {

@@ -6,7 +6,7 @@ use Rattle.sv_command.specs.declared.ending.Ending.{Ending}
 use Rattle.sv_command.specs.declared.ending.Ending.TheVariants as endings
 use Rattle.sv_bytes.specs.Writing.{Grew, GrewByPart}
 use Rattle.sv_command.specs.Endings.{Ends, IsCutShort, IsMade, IsPrinted, OrWords}
-use Rattle.sv_command.specs.Reading.{read_limit, held_of, IsRefused, IsNoScenario, HoldsScenario}
+use Rattle.sv_command.specs.Reading.{read_limit, held_by_file, IsRefused, IsNoScenario, HoldsScenario}
 use Rattle.sv_command.specs.Statuses.{status_of, Counts, Raises, NoneRose}
 use Rattle.sv_command.proofs.Held.{Faulty, read_is, holds_none, always, unheld, unnamed}
 use Rattle.sv_command.proofs.Left.{early_made, printed_by, cut_by, ends_early, or_words, printed_is as left_printed, part_is as left_part, nothing_is as left_nothing, refused_is as left_refused}
@@ -22,18 +22,18 @@ Leaves held old now e = Ends (IsText held) (OrWords (EndsEarly held)) old now e
 -- ---- What was printed, by the name
 
 module _ (contents : List ℕ → Option (List ℕ)) (named : Option (List ℕ)) (name : List ℕ) (is : named ≡ Some name) where
-  text_named : (text : List ℕ) → IsText (contents name) text → IsText (held_of contents named) text
-  text_named text told = subst (λ (o : Option (List ℕ)). IsText (held_of contents o) text) (sym is) told
+  text_named : (text : List ℕ) → IsText (contents name) text → IsText (held_by_file contents named) text
+  text_named text told = subst (λ (o : Option (List ℕ)). IsText (held_by_file contents o) text) (sym is) told
 
-  pub printed_named : (text bytes : List ℕ) (old now : Option (List ℕ)) → bytes ≡ text → IsText (contents name) text → Grew old now bytes → IsPrinted (IsText (held_of contents named)) old now
-  printed_named text bytes old now same told grew = printed_by (IsText (held_of contents named)) old now text bytes same (text_named text told) grew
+  pub printed_named : (text bytes : List ℕ) (old now : Option (List ℕ)) → bytes ≡ text → IsText (contents name) text → Grew old now bytes → IsPrinted (IsText (held_by_file contents named)) old now
+  printed_named text bytes old now same told grew = printed_by (IsText (held_by_file contents named)) old now text bytes same (text_named text told) grew
 
-  pub cut_named : (text bytes : List ℕ) (old now : Option (List ℕ)) → bytes ≡ text → IsText (contents name) text → GrewByPart old now bytes → IsCutShort (IsText (held_of contents named)) old now
-  cut_named text bytes old now same told part = cut_by (IsText (held_of contents named)) old now text bytes same (text_named text told) part
+  pub cut_named : (text bytes : List ℕ) (old now : Option (List ℕ)) → bytes ≡ text → IsText (contents name) text → GrewByPart old now bytes → IsCutShort (IsText (held_by_file contents named)) old now
+  cut_named text bytes old now same told part = cut_by (IsText (held_by_file contents named)) old now text bytes same (text_named text told) part
 
-  pub early_named : (old : Option (List ℕ)) (e : Ending) → EndsEarly (contents name) e → Leaves (held_of contents named) old old e
+  pub early_named : (old : Option (List ℕ)) (e : Ending) → EndsEarly (contents name) e → Leaves (held_by_file contents named) old old e
   early_named old e h =
-      subst (λ (o : Option (List ℕ)). Leaves (held_of contents o) old old e) (sym is)
+      subst (λ (o : Option (List ℕ)). Leaves (held_by_file contents o) old old e) (sym is)
       (ends_early (IsText (contents name)) (OrWords (EndsEarly (contents name))) old (λ x. x) (λ x. x) e (or_words (EndsEarly (contents name)) e h))
 
 -- ---- What is left, by the status
@@ -64,7 +64,7 @@ module _ (held old now : Option (List ℕ)) where
 
 module _ (named : Option (List ℕ)) (contents : List ℕ → Option (List ℕ)) (old now : Option (List ℕ)) where
   abbrev held : Option (List ℕ)
-  held = held_of contents named
+  held = held_by_file contents named
 
   pub faulty_is : (e : Ending) → ((e ≡ endings.Words) ↔ (named ≡ None)) → Leaves held old now e
       → IfSome held (λ all. IsNoScenario (take read_limit all) → Faulty (status_of e))

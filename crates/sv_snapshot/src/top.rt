@@ -2,7 +2,7 @@
 ghost use Rattle.std.specs.Prelude.{◌≡◌, ◌≢◌, ◌↔◌, ◌⊎◌, ◌≤◌, ℕ, take, map, string_bytes, None, IfSome};
 ghost use Rattle.std.specs.Option.{option_copied};
 ghost use Rattle.sv_command.specs.Endings.{Ends, IsCutShort, IsPrinted, OrWords};
-ghost use Rattle.sv_command.specs.Reading.{read_limit, held_of, HoldsScenario, IsNoScenario};
+ghost use Rattle.sv_command.specs.Reading.{read_limit, held_by_file, HoldsScenario, IsNoScenario};
 ghost use Rattle.sv_command.specs.Statuses.{counts, NoneRose, Raises, TellsFaults, TellsStatus};
 ghost use Rattle.sv_snapshot.specs.Words.{file_in, words_line};
 ghost use Rattle.sv_snapshot.specs.Statuses.{EndsEarly, IsText};
@@ -21,7 +21,7 @@ fn decide<F: Files, K: Sink>(
     out: &mut K,
 ) -> Ending
     ensures words { (result ≡ Ending.Words) ↔ (option_copied file.entry ≡ None) }
-    ensures ends { Ends (IsText (held_of (F.contents files.old) (option_copied file.entry))) (OrWords (EndsEarly (held_of (F.contents files.old) (option_copied file.entry))))
+    ensures ends { Ends (IsText (held_by_file (F.contents files.old) (option_copied file.entry))) (OrWords (EndsEarly (held_by_file (F.contents files.old) (option_copied file.entry))))
         (K.taken out.old) (K.taken out.new) result }
     ensures raises { Raises (counts (F.faults files.old) 0 0 (K.faults out.old)) (counts (F.faults files.new) 0 0 (K.faults out.new)) result }
     ensures sure { IfSome (option_copied file.entry) (λ name. F.sure files.old name → result ≢ Ending.File) }
@@ -58,14 +58,14 @@ pub fn run_looks<F: Files, K: Sink, E: Sink>(
     ensures faults { TellsFaults result (counts (F.faults files.old) 0 0 (K.faults out.old)) (counts (F.faults files.new) 0 0 (K.faults out.new)) }
     ensures sure { IfSome (file_in (map string_bytes words.now)) (λ name. F.sure files.old name → result ≢ 4) }
     ensures apart { result ≡ 2 → files.new ≡ files.old }
-    ensures faulty { IfSome (held_of (F.contents files.old) (file_in (map string_bytes words.now)))
+    ensures faulty { IfSome (held_by_file (F.contents files.old) (file_in (map string_bytes words.now)))
         (λ all. IsNoScenario (take read_limit all) → (result ≡ 3) ⊎ (result ≡ 4) ⊎ (result ≡ 8)) }
-    ensures printed { result ≡ 0 → IsPrinted (IsText (held_of (F.contents files.old) (file_in (map string_bytes words.now)))) (K.taken out.old) (K.taken out.new) }
-    ensures part { result ≡ 5 → IsCutShort (IsText (held_of (F.contents files.old) (file_in (map string_bytes words.now)))) (K.taken out.old) (K.taken out.new) }
+    ensures printed { result ≡ 0 → IsPrinted (IsText (held_by_file (F.contents files.old) (file_in (map string_bytes words.now)))) (K.taken out.old) (K.taken out.new) }
+    ensures part { result ≡ 5 → IsCutShort (IsText (held_by_file (F.contents files.old) (file_in (map string_bytes words.now)))) (K.taken out.old) (K.taken out.new) }
     ensures nothing { result ≢ 0 → result ≢ 5 → K.taken out.new ≡ K.taken out.old }
-    ensures told { TellsStatus words_line result (held_of (F.contents files.old) (file_in (map string_bytes words.now))) (file_in (map string_bytes words.now))
+    ensures told { TellsStatus words_line result (held_by_file (F.contents files.old) (file_in (map string_bytes words.now))) (file_in (map string_bytes words.now))
         (E.taken err.old) (E.taken err.new) (E.faults err.old) (E.faults err.new) }
-    ensures complete { HoldsScenario (held_of (F.contents files.old) (file_in (map string_bytes words.now)))
+    ensures complete { HoldsScenario (held_by_file (F.contents files.old) (file_in (map string_bytes words.now)))
         → NoneRose (counts (F.faults files.old) 0 0 (K.faults out.old)) (counts (F.faults files.new) 0 0 (K.faults out.new))
         → (result ≡ 0) ⊎ (result ≡ 8) }
 {

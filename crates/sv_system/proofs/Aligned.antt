@@ -12,7 +12,7 @@ use Rattle.sv_wire.specs.declared.message.Reply.{Reply}
 use Rattle.sv_wire.specs.declared.message.Reply.TheVariants as replies
 use Rattle.sv_client.specs.declared.trace.Event.{Event}
 use Rattle.sv_client.specs.declared.trace.Event.TheVariants as events
-use Rattle.sv_client.specs.Traces.{joins, makes, current_session, is_session, held_of, with_reply, pending_of, submit_of, asked_by, asked, got}
+use Rattle.sv_client.specs.Traces.{joins, makes, current_session, is_session, held_of, with_reply, pending_of, submit_of, asked_by_event, asked, got}
 use Rattle.sv_client.specs.Taking.{Identity, allows, is_for_front, ends_with_front, is_good_relay, is_bad_relay, is_bad_head, has_bad_item}
 use Rattle.sv_client.specs.Proper.{AreProper}
 use Rattle.sv_system.proofs.Asked.{may-answer, begun-or_not}
@@ -126,7 +126,7 @@ module _ (who : Identity) (first : ℕ) where
       let ans = may-answer who first t s r p.0 in
       let n = length (got t s) in
       let qs = asked who.client who.interest t s in
-      let more = asked_by who.client who.interest t (events.Got s r) s in
+      let more = asked_by_event who.client who.interest t (events.Got s r) s in
       let within : n < length qs = slice_get_within qs n ans.request ans.asked_there in
       let got_now : length (got (events.Got s r ∷ t) s) ≡ suc n = ap length (cond-true (s == s) (got t s ++ r ∷ []) (got t s) (eq-eqb s s refl)) ∙ length-append (got t s) (r ∷ []) ∙ add-one n in
       let rest : submits (drop (suc n) qs) ≡ (if settles r then without_first (keys (pending_of t)) else keys (pending_of t)) =

@@ -32,7 +32,7 @@ use Rattle.sv_journal.specs.Serving.{Keeping, with_last_rows, polled_after, Lega
 use Rattle.sv_journal.proofs.Kept.{client-kept, next-kept, kept_outcome-kept, accepted-kept, sent-kept}
 use Rattle.sv_client.specs.declared.trace.Event.{Event}
 use Rattle.sv_client.specs.declared.trace.Event.TheVariants as events
-use Rattle.sv_client.specs.Traces.{joins, makes, current_session, is_session, held_of, with_reply, head_held, results_of, done_for, pending_of, submit_of, asked_by, asked, got}
+use Rattle.sv_client.specs.Traces.{joins, makes, current_session, is_session, held_of, with_reply, head_held, results_of, done_for, pending_of, submit_of, asked_by_event, asked, got}
 use Rattle.sv_client.specs.Taking.{Identity, allows, items_of, is_bad_head, is_bad_relay, is_good_relay, has_bad_item}
 use Rattle.sv_client.specs.Proper.{AreProper, identity_of}
 use Rattle.sv_system.specs.Fits.{replies_in}
@@ -120,9 +120,9 @@ module _ (who : Identity) (first : ℕ) where
   never-bad [] s i e = none-some requests.Bad e
   never-bad (ev ∷ t) s i e =
       let before = never-bad t s i in
-      elim (get-append_cases (asked who.client who.interest t s) (asked_by who.client who.interest t ev s) i requests.Bad e) [ inl f ↦ before f | inr f ↦ now ev f.0 f.1.1 ]
+      elim (get-append_cases (asked who.client who.interest t s) (asked_by_event who.client who.interest t ev s) i requests.Bad e) [ inl f ↦ before f | inr f ↦ now ev f.0 f.1.1 ]
     where
-      now : (ev : Event) (j : ℕ) → slice_get (asked_by who.client who.interest t ev s) j ≡ Some requests.Bad → ⊥
+      now : (ev : Event) (j : ℕ) → slice_get (asked_by_event who.client who.interest t ev s) j ≡ Some requests.Bad → ⊥
       now (events.Join m) j g = not-bad_join (m == s) (requests.Join who.client (suc (joins t)) who.interest) (pending_of t) j refl g
       now (events.Got m r) j g = not-bad_done (m == s) (held_of t) r j g
       now (events.Make action) j g = not-bad_if (is_session (current_session t) s) (requests.Submit (suc (makes t)) action) j refl g

@@ -16,7 +16,7 @@ use Rattle.sv_wire.specs.declared.message.Reply.{Reply}
 use Rattle.sv_wire.specs.declared.message.Reply.TheVariants as replies
 use Rattle.sv_client.specs.declared.trace.Event.{Event}
 use Rattle.sv_client.specs.declared.trace.Event.TheVariants as events
-use Rattle.sv_client.specs.Traces.{joins, makes, current_session, is_session, held_of, head_held, results_of, done_for, pending_of, submit_of, asked_by, asked, got}
+use Rattle.sv_client.specs.Traces.{joins, makes, current_session, is_session, held_of, head_held, results_of, done_for, pending_of, submit_of, asked_by_event, asked, got}
 use Rattle.sv_client.specs.Taking.{Identity, unanswered, allows, Fault, WrongKind, Unasked, fault_after, is_out_of_order, has_bad_item, BadOrder, BadItem}
 use Rattle.sv_client.specs.Proper.{MayGet, MayJoin, AreProper}
 use Rattle.sv_system.specs.Fronts.{IsFront}
@@ -56,7 +56,7 @@ module _ (who : Identity) (first : ℕ) where
   pub asked-part : (t u : List Event) → IsPart t u → (s : ℕ) → IsFront (asked who.client who.interest t s) (asked who.client who.interest u s)
   asked-part t whole all s = front-all (asked_in_trace t s)
   asked-part t whole (then_one {u} e b) s =
-      front-then (asked_in_trace t s) (asked_in_trace u s) (asked_in_trace (e ∷ u) s) (asked-part t u b s) (front-append (asked_in_trace u s) (asked_by who.client who.interest u e s))
+      front-then (asked_in_trace t s) (asked_in_trace u s) (asked_in_trace (e ∷ u) s) (asked-part t u b s) (front-append (asked_in_trace u s) (asked_by_event who.client who.interest u e s))
 
   -- ---- Gots
 
@@ -218,7 +218,7 @@ module _ (who : Identity) (first : ℕ) where
   no-done_join true q ps (suc j) results e f = no-done_submits ps j results e
   no-done_join false q ps j results e f = none-some (requests.Done results) e
 
-  done-of_event : (e : Event) (t : List Event) (s j : ℕ) (results : List Done1) → slice_get (asked_by who.client who.interest t e s) j ≡ Some (requests.Done results) →
+  done-of_event : (e : Event) (t : List Event) (s j : ℕ) (results : List Done1) → slice_get (asked_by_event who.client who.interest t e s) j ≡ Some (requests.Done results) →
       IsDone (e ∷ t) s (length (asked_in_trace t s) + j) results
   done-of_event (events.Got m r) t s j results e =
       elim (cases_Bool (m == s)) [
@@ -240,7 +240,7 @@ module _ (who : Identity) (first : ℕ) where
   done-when [] s n results e = absurd (none-some (requests.Done results) e)
   done-when (ev ∷ t) s n results e =
       let before = done-when t s n results in
-      elim (get-append_cases (asked_in_trace t s) (asked_by who.client who.interest t ev s) n (requests.Done results) e) [
+      elim (get-append_cases (asked_in_trace t s) (asked_by_event who.client who.interest t ev s) n (requests.Done results) e) [
         | inl g ↦ done-later ev t s n results (before g)
         | inr g ↦ subst (λ (k : ℕ). IsDone (ev ∷ t) s k results) (sym g.1.0) (done-of_event ev t s g.0 results g.1.1)
       ]
@@ -258,8 +258,8 @@ module _ (who : Identity) (first : ℕ) where
   begun-more : (t : List Event) (e : Event) (s : ℕ) → joins t ≤ joins (e ∷ t) → IsBegun t s → IsBegun (e ∷ t) s
   begun-more t e s l b = record {
     life = b.life;
-    rest = b.rest ++ asked_by who.client who.interest t e s;
-    asked_are = ap (λ (qs : List Request). qs ++ asked_by who.client who.interest t e s) b.asked_are;
+    rest = b.rest ++ asked_by_event who.client who.interest t e s;
+    asked_are = ap (λ (qs : List Request). qs ++ asked_by_event who.client who.interest t e s) b.asked_are;
     numbered = b.numbered;
     among = (let m : b.life ≤ joins t = b.among in omega arith);
   }
@@ -268,11 +268,11 @@ module _ (who : Identity) (first : ℕ) where
   abbrev IsBegunOrNot : List Event → ℕ → Type 0
   IsBegunOrNot t s = ((asked who.client who.interest t s ≡ []) × (current_session t ≡ Some s → ⊥)) ⊎ IsBegun t s
 
-  still-not : (t : List Event) (e : Event) (s : ℕ) → joins t ≤ joins (e ∷ t) → ((current_session t ≡ Some s → ⊥) → asked_by who.client who.interest t e s ≡ []) →
+  still-not : (t : List Event) (e : Event) (s : ℕ) → joins t ≤ joins (e ∷ t) → ((current_session t ≡ Some s → ⊥) → asked_by_event who.client who.interest t e s ≡ []) →
       (current_session (e ∷ t) ≡ current_session t) → IsBegunOrNot t s → IsBegunOrNot (e ∷ t) s
   still-not t e s l f c (inr b) = inr (begun-more t e s l b)
   still-not t e s l f c (inl b) =
-      inl (ap (λ (qs : List Request). qs ++ asked_by who.client who.interest t e s) b.0 ∙ f b.1, λ g. b.1 (sym c ∙ g))
+      inl (ap (λ (qs : List Request). qs ++ asked_by_event who.client who.interest t e s) b.0 ∙ f b.1, λ g. b.1 (sym c ∙ g))
 
   other-session : (o : Option ℕ) (s : ℕ) → (o ≡ Some s → ⊥) → is_session o s ≡ false
   other-session None s f = refl

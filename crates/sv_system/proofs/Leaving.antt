@@ -14,7 +14,7 @@ use Rattle.sv_wire.specs.declared.message.Reply.{Reply}
 use Rattle.sv_wire.specs.declared.message.Reply.TheVariants as replies
 use Rattle.sv_client.specs.declared.trace.Event.{Event}
 use Rattle.sv_client.specs.declared.trace.Event.TheVariants as events
-use Rattle.sv_client.specs.Traces.{joins, makes, current_session, is_session, held_of, done_for, pending_of, submit_of, asked_by, asked, got}
+use Rattle.sv_client.specs.Traces.{joins, makes, current_session, is_session, held_of, done_for, pending_of, submit_of, asked_by_event, asked, got}
 use Rattle.sv_client.specs.Taking.{Identity, allows, unanswered}
 use Rattle.sv_client.specs.Proper.{MayFollow, MayJoin, AreProper, in_session}
 use Rattle.sv_system.proofs.Asked.{get-append_cases, may-answer, IsBegun, begun-or_not}
@@ -86,7 +86,7 @@ module _ (who : Identity) (first : ℕ) where
   }
 
   join-now : (t : List Event) (m s j : ℕ) (client : ClientId) (life : ℕ) (interest : List ObjectId) → MayJoin first t m → AreProper who first t →
-      slice_get (asked_by who.client who.interest t (events.Join m) s) j ≡ Some (requests.Join client life interest) →
+      slice_get (asked_by_event who.client who.interest t (events.Join m) s) j ≡ Some (requests.Join client life interest) →
       IsJoinAsked who first (events.Join m ∷ t) s (length (here t s) + j) client life interest
   join-now t m s j client life interest may p e =
       let now = requests.Join who.client (suc (joins t)) who.interest ∷ map submit_of (pending_of t) in
@@ -126,7 +126,7 @@ module _ (who : Identity) (first : ℕ) where
   join-asked [] p s i client life interest e = absurd (none-some (requests.Join client life interest) e)
   join-asked (ev ∷ t) p s i client life interest e =
       let before = join-asked t p.1 s i client life interest in
-      elim (get-append_cases (here t s) (asked_by who.client who.interest t ev s) i (requests.Join client life interest) e) [
+      elim (get-append_cases (here t s) (asked_by_event who.client who.interest t ev s) i (requests.Join client life interest) e) [
         | inl f ↦ joined-more t ev s i client life interest (grows ev) (before f)
         | inr f ↦ subst (λ (n : ℕ). IsJoinAsked who first (ev ∷ t) s n client life interest) (sym f.1.0) (now ev p.0 f.0 f.1.1)
       ]
@@ -141,7 +141,7 @@ module _ (who : Identity) (first : ℕ) where
       grows events.Quit = omega arith
       grows (events.Show objects) = omega arith
 
-      now : (ev : Event) → MayFollow who first t ev → (j : ℕ) → slice_get (asked_by who.client who.interest t ev s) j ≡ Some (requests.Join client life interest) →
+      now : (ev : Event) → MayFollow who first t ev → (j : ℕ) → slice_get (asked_by_event who.client who.interest t ev s) j ≡ Some (requests.Join client life interest) →
           IsJoinAsked who first (ev ∷ t) s (length (here t s) + j) client life interest
       now (events.Join m) may j g = join-now t m s j client life interest may p.1 g
       now (events.Got m r) may j g = absurd (true≢false (no-join_done (m == s) (held_of t) r j (requests.Join client life interest) g).0)
@@ -187,7 +187,7 @@ module _ (who : Identity) (first : ℕ) where
       }
 
   -- one more event that asks nothing in the session
-  leave-still : (t : List Event) (e : Event) (s i : ℕ) → AreProper who first (e ∷ t) → asked_by who.client who.interest t e s ≡ [] → length (got t s) ≤ length (got (e ∷ t) s) →
+  leave-still : (t : List Event) (e : Event) (s i : ℕ) → AreProper who first (e ∷ t) → asked_by_event who.client who.interest t e s ≡ [] → length (got t s) ≤ length (got (e ∷ t) s) →
       (current_session (e ∷ t) ≡ Some s → in_session (e ∷ t) ≡ false) → slice_get (here (e ∷ t) s) i ≡ Some requests.Leave → IsLeaveLast t s i → IsLeaveLast (e ∷ t) s i
   leave-still t e s i p none more out there b = record {
     last = ap length (ap (λ (qs : List Request). here t s ++ qs) none ∙ append-nil (here t s)) ∙ b.last;
@@ -208,7 +208,7 @@ module _ (who : Identity) (first : ℕ) where
 
   -- After a Leave a reply asks nothing, since it answers the Leave.
   got-asks_none : (t : List Event) (m : ℕ) (r : Reply) (s i : ℕ) → AreProper who first (events.Got m r ∷ t) → slice_get (here t s) i ≡ Some requests.Leave → IsLeaveLast t s i →
-      asked_by who.client who.interest t (events.Got m r) s ≡ []
+      asked_by_event who.client who.interest t (events.Got m r) s ≡ []
   got-asks_none t m r s i p there b =
       elim (cases_Bool (m == s)) [
         | inr f ↦ cond-false (m == s) _ _ f
@@ -260,7 +260,7 @@ module _ (who : Identity) (first : ℕ) where
   leave-last [] p s i e = absurd (none-some requests.Leave e)
   leave-last (ev ∷ t) p s i e =
       let before = leave-last t p.1 s i in
-      elim (get-append_cases (here t s) (asked_by who.client who.interest t ev s) i requests.Leave e) [
+      elim (get-append_cases (here t s) (asked_by_event who.client who.interest t ev s) i requests.Leave e) [
         | inl f ↦ leave-later t ev s i p f e (before f)
         | inr f ↦ subst (IsLeaveLast (ev ∷ t) s) (sym f.1.0) (now ev p f.0 f.1.1 (subst (λ (n : ℕ). slice_get (here (ev ∷ t) s) n ≡ Some requests.Leave) f.1.0 e))
       ]
@@ -277,7 +277,7 @@ module _ (who : Identity) (first : ℕ) where
       session-is None s e = absurd (true≢false (sym e))
       session-is (Some n) s e = ap Some (eqb-true n s e)
 
-      now : (ev : Event) → AreProper who first (ev ∷ t) → (j : ℕ) → slice_get (asked_by who.client who.interest t ev s) j ≡ Some requests.Leave →
+      now : (ev : Event) → AreProper who first (ev ∷ t) → (j : ℕ) → slice_get (asked_by_event who.client who.interest t ev s) j ≡ Some requests.Leave →
           slice_get (here (ev ∷ t) s) (length (here t s) + j) ≡ Some requests.Leave → IsLeaveLast (ev ∷ t) s (length (here t s) + j)
       now events.Leave q j g there =
           let o = one-if (is_session (current_session t) s) requests.Leave requests.Leave j g in

@@ -12,7 +12,7 @@ use Rattle.sv_wire.specs.declared.message.Request.{Request}
 use Rattle.sv_wire.specs.declared.message.Request.TheVariants as requests
 use Rattle.sv_client.specs.declared.trace.Event.{Event}
 use Rattle.sv_client.specs.declared.trace.Event.TheVariants as events
-use Rattle.sv_client.specs.Traces.{joins, makes, current_session, is_session, held_of, with_reply, pending_of, submit_of, asked_by, asked}
+use Rattle.sv_client.specs.Traces.{joins, makes, current_session, is_session, held_of, with_reply, pending_of, submit_of, asked_by_event, asked}
 use Rattle.sv_client.specs.Taking.{Identity}
 use Rattle.sv_system.proofs.Fronts.{front-append, get-last}
 use Rattle.sv_system.proofs.Tests.{each-append}
@@ -109,7 +109,7 @@ module _ (who : Identity) (first : ℕ) where
   join-made t true (suc j) n a e = submits-made (IsMade t) (pending_of t) (pending-made t) j n a e
   join-made t false j n a e = absurd (none-some (requests.Submit n a) e)
 
-  event-made : (ev : Event) (t : List Event) (s j n : ℕ) (a : Action) → slice_get (asked_by who.client who.interest t ev s) j ≡ Some (requests.Submit n a) → IsMade (ev ∷ t) (n, a)
+  event-made : (ev : Event) (t : List Event) (s j n : ℕ) (a : Action) → slice_get (asked_by_event who.client who.interest t ev s) j ≡ Some (requests.Submit n a) → IsMade (ev ∷ t) (n, a)
   event-made (events.Join m) t s j n a e = join-made t (m == s) j n a e
   event-made (events.Make action) t s j n a e = submit-if (IsMade (events.Make action ∷ t)) (is_session (current_session t) s) (suc (makes t)) action (made-now action t) j n a e
   event-made (events.Got m r) t s j n a e = absurd (no-submit_done who first (m == s) (held_of t) r j n a e)
@@ -124,7 +124,7 @@ module _ (who : Identity) (first : ℕ) where
   submit-made [] s i n a e = absurd (none-some (requests.Submit n a) e)
   submit-made (ev ∷ t) s i n a e =
       let before = submit-made t s i n a in
-      elim (get-append_cases (asked who.client who.interest t s) (asked_by who.client who.interest t ev s) i (requests.Submit n a) e) [
+      elim (get-append_cases (asked who.client who.interest t s) (asked_by_event who.client who.interest t ev s) i (requests.Submit n a) e) [
         | inl f ↦ made-later ev t (n, a) (before f)
         | inr f ↦ event-made ev t s f.0 n a f.1.1
       ]

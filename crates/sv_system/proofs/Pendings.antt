@@ -13,7 +13,7 @@ use Rattle.sv_wire.specs.declared.message.Reply.{Reply}
 use Rattle.sv_wire.specs.declared.message.Reply.TheVariants as replies
 use Rattle.sv_client.specs.declared.trace.Event.{Event}
 use Rattle.sv_client.specs.declared.trace.Event.TheVariants as events
-use Rattle.sv_client.specs.Traces.{makes, held_of, with_reply, head_held, results_of, last_values, are_same, without_front, settled_by, pending_with, done_for, pending_of, submit_of, asked_by, asked, got}
+use Rattle.sv_client.specs.Traces.{makes, held_of, with_reply, head_held, results_of, last_values, are_same, without_front, settled_by, pending_with, done_for, pending_of, submit_of, asked_by_event, asked, got}
 use Rattle.sv_client.specs.Taking.{Identity}
 use Rattle.sv_client.specs.Proper.{MayMake, AreProper}
 use Rattle.sv_system.proofs.Asked.{may-answer}
@@ -189,7 +189,7 @@ module _ (who : Identity) (first : ℕ) where
   got-fewer (events.Got m r ∷ t) p s =
       let less : length (got t s) ≤ length (asked_there t s) = got-fewer t p.1 s in
       let a = may-answer who first t m r p.0 in
-      let more = asked_by who.client who.interest t (events.Got m r) s in
+      let more = asked_by_event who.client who.interest t (events.Got m r) s in
       let all' : length (asked_there t s ++ more) ≡ length (asked_there t s) + length more = length-append (asked_there t s) more in
       elim (cases_Bool (m == s)) [
         | inr e ↦ (let same : length (got (events.Got m r ∷ t) s) ≡ length (got t s) = ap length (cond-false (m == s) (got t s ++ r ∷ []) (got t s) e) in omega arith)
@@ -201,14 +201,14 @@ module _ (who : Identity) (first : ℕ) where
       ]
   got-fewer (events.Join m ∷ t) p s = fewer-more (events.Join m) t s (got-fewer t p.1 s)
     where
-      fewer-more : (e : Event) (t : List Event) (s : ℕ) → length (got t s) ≤ length (asked_there t s) → length (got t s) ≤ length (asked_there t s ++ asked_by who.client who.interest t e s)
-      fewer-more e t s l = (let a : length (asked_there t s ++ asked_by who.client who.interest t e s) ≡ length (asked_there t s) + length (asked_by who.client who.interest t e s) = length-append (asked_there t s) (asked_by who.client who.interest t e s) in omega arith)
-  got-fewer (events.Make action ∷ t) p s = (let l : length (got t s) ≤ length (asked_there t s) = got-fewer t p.1 s in let a : length (asked_there (events.Make action ∷ t) s) ≡ length (asked_there t s) + length (asked_by who.client who.interest t (events.Make action) s) = length-append (asked_there t s) _ in omega arith)
-  got-fewer (events.Poll ∷ t) p s = (let l : length (got t s) ≤ length (asked_there t s) = got-fewer t p.1 s in let a : length (asked_there (events.Poll ∷ t) s) ≡ length (asked_there t s) + length (asked_by who.client who.interest t events.Poll s) = length-append (asked_there t s) _ in omega arith)
-  got-fewer (events.Leave ∷ t) p s = (let l : length (got t s) ≤ length (asked_there t s) = got-fewer t p.1 s in let a : length (asked_there (events.Leave ∷ t) s) ≡ length (asked_there t s) + length (asked_by who.client who.interest t events.Leave s) = length-append (asked_there t s) _ in omega arith)
-  got-fewer (events.Cut ∷ t) p s = (let l : length (got t s) ≤ length (asked_there t s) = got-fewer t p.1 s in let a : length (asked_there (events.Cut ∷ t) s) ≡ length (asked_there t s) + length (asked_by who.client who.interest t events.Cut s) = length-append (asked_there t s) _ in omega arith)
-  got-fewer (events.Quit ∷ t) p s = (let l : length (got t s) ≤ length (asked_there t s) = got-fewer t p.1 s in let a : length (asked_there (events.Quit ∷ t) s) ≡ length (asked_there t s) + length (asked_by who.client who.interest t events.Quit s) = length-append (asked_there t s) _ in omega arith)
-  got-fewer (events.Show objects ∷ t) p s = (let l : length (got t s) ≤ length (asked_there t s) = got-fewer t p.1 s in let a : length (asked_there (events.Show objects ∷ t) s) ≡ length (asked_there t s) + length (asked_by who.client who.interest t (events.Show objects) s) = length-append (asked_there t s) _ in omega arith)
+      fewer-more : (e : Event) (t : List Event) (s : ℕ) → length (got t s) ≤ length (asked_there t s) → length (got t s) ≤ length (asked_there t s ++ asked_by_event who.client who.interest t e s)
+      fewer-more e t s l = (let a : length (asked_there t s ++ asked_by_event who.client who.interest t e s) ≡ length (asked_there t s) + length (asked_by_event who.client who.interest t e s) = length-append (asked_there t s) (asked_by_event who.client who.interest t e s) in omega arith)
+  got-fewer (events.Make action ∷ t) p s = (let l : length (got t s) ≤ length (asked_there t s) = got-fewer t p.1 s in let a : length (asked_there (events.Make action ∷ t) s) ≡ length (asked_there t s) + length (asked_by_event who.client who.interest t (events.Make action) s) = length-append (asked_there t s) _ in omega arith)
+  got-fewer (events.Poll ∷ t) p s = (let l : length (got t s) ≤ length (asked_there t s) = got-fewer t p.1 s in let a : length (asked_there (events.Poll ∷ t) s) ≡ length (asked_there t s) + length (asked_by_event who.client who.interest t events.Poll s) = length-append (asked_there t s) _ in omega arith)
+  got-fewer (events.Leave ∷ t) p s = (let l : length (got t s) ≤ length (asked_there t s) = got-fewer t p.1 s in let a : length (asked_there (events.Leave ∷ t) s) ≡ length (asked_there t s) + length (asked_by_event who.client who.interest t events.Leave s) = length-append (asked_there t s) _ in omega arith)
+  got-fewer (events.Cut ∷ t) p s = (let l : length (got t s) ≤ length (asked_there t s) = got-fewer t p.1 s in let a : length (asked_there (events.Cut ∷ t) s) ≡ length (asked_there t s) + length (asked_by_event who.client who.interest t events.Cut s) = length-append (asked_there t s) _ in omega arith)
+  got-fewer (events.Quit ∷ t) p s = (let l : length (got t s) ≤ length (asked_there t s) = got-fewer t p.1 s in let a : length (asked_there (events.Quit ∷ t) s) ≡ length (asked_there t s) + length (asked_by_event who.client who.interest t events.Quit s) = length-append (asked_there t s) _ in omega arith)
+  got-fewer (events.Show objects ∷ t) p s = (let l : length (got t s) ≤ length (asked_there t s) = got-fewer t p.1 s in let a : length (asked_there (events.Show objects ∷ t) s) ≡ length (asked_there t s) + length (asked_by_event who.client who.interest t (events.Show objects) s) = length-append (asked_there t s) _ in omega arith)
 
   -- The Submits among the outstanding requests of a session.
   abbrev pub waiting : List Event → ℕ → List Numbered
@@ -240,7 +240,7 @@ module _ (who : Identity) (first : ℕ) where
   quiet-done held (replies.Refused code detail) = refl
   quiet-done held replies.Bye = refl
 
-  pub quiet-got : (m : ℕ) (r : Reply) (t : List Event) (s : ℕ) → submits (asked_by who.client who.interest t (events.Got m r) s) ≡ []
+  pub quiet-got : (m : ℕ) (r : Reply) (t : List Event) (s : ℕ) → submits (asked_by_event who.client who.interest t (events.Got m r) s) ≡ []
   quiet-got m r t s = go (m == s)
     where
       go : (b : Bool) → submits (if b then done_for (held_of t) r else []) ≡ []

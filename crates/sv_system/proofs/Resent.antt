@@ -14,7 +14,7 @@ use Rattle.sv_wire.specs.declared.message.Reply.TheVariants as replies
 use Rattle.sv_versions.specs.Held.{Held}
 use Rattle.sv_client.specs.declared.trace.Event.{Event}
 use Rattle.sv_client.specs.declared.trace.Event.TheVariants as events
-use Rattle.sv_client.specs.Traces.{joins, makes, current_session, is_session, held_of, with_reply, done_for, pending_of, submit_of, asked_by, asked, got}
+use Rattle.sv_client.specs.Traces.{joins, makes, current_session, is_session, held_of, with_reply, done_for, pending_of, submit_of, asked_by_event, asked, got}
 use Rattle.sv_client.specs.Taking.{Identity}
 use Rattle.sv_client.specs.Proper.{AreProper}
 use Rattle.sv_system.proofs.Asked.{get-append_cases, may-answer, begun-or_not}
@@ -125,10 +125,10 @@ module _ (who : Identity) (first : ℕ) where
   other-none None s n q c f = refl
   other-none (Some m) s n q c f = cond-false (m == n) (q ∷ []) [] (ne_eqb m n (λ x. f (sym (same_Some m s c) ∙ x)))
 
-  asked-as_before : (t : List Event) (ev : Event) (n j k : ℕ) (a : Action) → asked_by who.client who.interest t ev n ≡ [] →
+  asked-as_before : (t : List Event) (ev : Event) (n j k : ℕ) (a : Action) → asked_by_event who.client who.interest t ev n ≡ [] →
       slice_get (here (ev ∷ t) n) j ≡ Some (requests.Submit k a) → slice_get (here t n) j ≡ Some (requests.Submit k a)
   asked-as_before t ev n j k a none e =
-      elim (get-append_cases (here t n) (asked_by who.client who.interest t ev n) j (requests.Submit k a) e) [
+      elim (get-append_cases (here t n) (asked_by_event who.client who.interest t ev n) j (requests.Submit k a) e) [
         | inl f ↦ f
         | inr f ↦ absurd (none-some (requests.Submit k a) (sym (ap (λ (qs : List Request). slice_get qs f.0) none) ∙ f.1.1))
       ]
@@ -189,14 +189,14 @@ module _ (who : Identity) (first : ℕ) where
   no-poll_join false m ps j e = none-some requests.Poll e
 
   earlier-asked : (t : List Event) (ev : Event) (s i n : ℕ) (q p : Request) → i < n → slice_get (here t s) n ≡ Some p → slice_get (here (ev ∷ t) s) i ≡ Some q → slice_get (here t s) i ≡ Some q
-  earlier-asked t ev s i n q p l e f = (let w : n < length (here t s) = slice_get_within (here t s) n p e in get-left (here t s) (asked_by who.client who.interest t ev s) i q (omega arith) f)
+  earlier-asked t ev s i n q p l e f = (let w : n < length (here t s) = slice_get_within (here t s) n p e in get-left (here t s) (asked_by_event who.client who.interest t ev s) i q (omega arith) f)
 
   -- In the current session a Submit that is asked after a Poll is of an action made after the Join.
   pub after-poll : (t : List Event) → AreProper who first t → (s i n k : ℕ) (a : Action) → current_session t ≡ Some s → i < n →
       slice_get (asked who.client who.interest t s) i ≡ Some requests.Poll → slice_get (asked who.client who.interest t s) n ≡ Some (requests.Submit k a) → joined_makes t < k
   after-poll [] p s i n k a c l e f = absurd (none-some s c)
   after-poll (ev ∷ t) p s i n k a c l e f =
-      elim (get-append_cases (here t s) (asked_by who.client who.interest t ev s) n (requests.Submit k a) f) [
+      elim (get-append_cases (here t s) (asked_by_event who.client who.interest t ev s) n (requests.Submit k a) f) [
         | inl g ↦ left ev p c (earlier-asked t ev s i n requests.Poll (requests.Submit k a) l g e) g (after-poll t p.1 s i n k a)
         | inr g ↦ now ev p c g.0 g.1.0 g.1.1 e
       ]
@@ -217,12 +217,12 @@ module _ (who : Identity) (first : ℕ) where
       left (events.Show objects) q c x y before = before c l x y
 
       now : (ev : Event) → AreProper who first (ev ∷ t) → current_session (ev ∷ t) ≡ Some s → (j : ℕ) → n ≡ length (here t s) + j →
-          slice_get (asked_by who.client who.interest t ev s) j ≡ Some (requests.Submit k a) → slice_get (here (ev ∷ t) s) i ≡ Some requests.Poll → joined_makes (ev ∷ t) < k
+          slice_get (asked_by_event who.client who.interest t ev s) j ≡ Some (requests.Submit k a) → slice_get (here (ev ∷ t) s) i ≡ Some requests.Poll → joined_makes (ev ∷ t) < k
       now (events.Make action) q c j z g x =
           (let m : suc (makes t) ≡ k = made-now (is_session (current_session t) s) (suc (makes t)) action j k a g in let w : joined_makes t ≤ makes t = joined-most t in omega arith)
       now (events.Join m) q c j z g x =
           elim (begun-or_not who first t q.1 s) [
-            | inl y ↦ absurd (no-poll_join (m == s) (suc (joins t)) (pending_of t) i (sym (ap (λ (qs : List Request). slice_get (qs ++ asked_by who.client who.interest t (events.Join m) s) i) y.0) ∙ x))
+            | inl y ↦ absurd (no-poll_join (m == s) (suc (joins t)) (pending_of t) i (sym (ap (λ (qs : List Request). slice_get (qs ++ asked_by_event who.client who.interest t (events.Join m) s) i) y.0) ∙ x))
             | inr y ↦ (let number : m ≡ first + joins t = q.0.next in let is : m ≡ s = same_Some m s c in let o : s + 1 ≡ first + y.life = y.numbered in let w : y.life ≤ joins t = y.among in absurd (omega arith))
           ]
       now (events.Got m r) q c j z g x = absurd (no-submit_done (m == s) (held_of t) r j k a g)

@@ -19,7 +19,7 @@ use Rattle.sv_journal.specs.Answer.{Rules}
 use Rattle.sv_journal.specs.Serving.{Keeping, LegalFor, IsKeeping}
 use Rattle.sv_client.specs.declared.trace.Event.{Event}
 use Rattle.sv_client.specs.declared.trace.Event.TheVariants as events
-use Rattle.sv_client.specs.Traces.{joins, makes, current_session, is_session, held_of, with_reply, done_for, pending_of, submit_of, asked_by, asked, got}
+use Rattle.sv_client.specs.Traces.{joins, makes, current_session, is_session, held_of, with_reply, done_for, pending_of, submit_of, asked_by_event, asked, got}
 use Rattle.sv_client.specs.Taking.{Identity}
 use Rattle.sv_client.specs.Proper.{AreProper, identity_of}
 use Rattle.sv_system.specs.Fits.{requests_in, has_session}
@@ -74,7 +74,7 @@ module _ (who : Identity) (first : ℕ) where
   submit-most [] p s i n a e = absurd (none-some (requests.Submit n a) e)
   submit-most (ev ∷ t) p s i n a e =
       let before = submit-most t p.1 s i n a in
-      elim (get-append_cases (asked who.client who.interest t s) (asked_by who.client who.interest t ev s) i (requests.Submit n a) e) [
+      elim (get-append_cases (asked who.client who.interest t s) (asked_by_event who.client who.interest t ev s) i (requests.Submit n a) e) [
         | inl f ↦ (let l : n ≤ makes t = before f in let m : makes t ≤ makes (ev ∷ t) = grows ev in omega arith)
         | inr f ↦ now ev f.0 f.1.1
       ]
@@ -116,7 +116,7 @@ module _ (who : Identity) (first : ℕ) where
       done-now true (replies.Refused code detail) j g = none-some (requests.Submit n a) g
       done-now true replies.Bye j g = none-some (requests.Submit n a) g
 
-      now : (ev : Event) → (j : ℕ) → slice_get (asked_by who.client who.interest t ev s) j ≡ Some (requests.Submit n a) → n ≤ makes (ev ∷ t)
+      now : (ev : Event) → (j : ℕ) → slice_get (asked_by_event who.client who.interest t ev s) j ≡ Some (requests.Submit n a) → n ≤ makes (ev ∷ t)
       now (events.Join m) j g = join-now (m == s) j g
       now (events.Got m r) j g = absurd (done-now (m == s) r j g)
       now (events.Make action) j g = make-now (is_session (current_session t) s) action j g

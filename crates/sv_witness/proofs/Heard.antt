@@ -30,7 +30,7 @@ use Rattle.law_schedule.specs.Players.{Player, trace_of_player}
 use Rattle.law_schedule.specs.Serving.{Run, Server, traces_of}
 use Rattle.law_schedule.specs.Schedule.{rules_of}
 use Rattle.law_schedule.specs.Sound.{has_joined}
-use Rattle.law_schedule.specs.Served.{IsServed, AreHeard, KeepsSound, HearsJoins, FitsServer, IsSoundOver}
+use Rattle.law_schedule.specs.Served.{IsServersOwn, AreHeard, KeepsSound, HearsJoins, FitsServer, IsSoundOver}
 use Rattle.law_schedule.proofs.DoneFacts.{any-turned}
 use Rattle.law_schedule.proofs.DoneLists.{map-here, any-found, any-there}
 use Rattle.law_schedule.proofs.SoundPlayers.{front-push}
@@ -103,7 +103,7 @@ witness-byes r liar h s = heard-by (λ (x : Request). witnessed_reply r h s x �
 
 -- ---- Its journal
 
-pub witness-served : (r : Rules) (liar : Option ℕ) (h : List Entry) → IsServed (witness_of r liar) h → IsWitnessed r h
+pub witness-served : (r : Rules) (liar : Option ℕ) (h : List Entry) → IsServersOwn (witness_of r liar) h → IsWitnessed r h
 witness-served r liar [] a = tt
 witness-served r liar (e ∷ h) a = (
   ap (λ (d : Entry). d.reply) a.0.1 ∙ ap (λ (q : Request). witnessed_reply r h e.session q) (sym (ap (λ (d : Entry). d.request) a.0.1)),

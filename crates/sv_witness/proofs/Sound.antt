@@ -54,7 +54,7 @@ use Rattle.sv_replay.specs.Players.{asked_by_player}
 use Rattle.sv_replay.specs.Messages.{AsksMessages}
 use Rattle.sv_replay.specs.Playable.{MadeActionsFit}
 use Rattle.sv_replay.proofs.Lengths.{owner_of, history_few}
-use Rattle.sv_witness.specs.Lies.{greatest, lied, lied_result, lied_value}
+use Rattle.sv_witness.specs.Lies.{greatest_int, lied, lied_result, lied_value}
 use Rattle.sv_witness.specs.Reports.{agreed_history}
 use Rattle.sv_witness.specs.Witnessed.{agreed, IsWitnessed}
 use Rattle.sv_witness.specs.Run.{witness_of, witnessed_run, liar_of, IsWitnessedRun}
@@ -68,7 +68,7 @@ use Rattle.sv_witness.proofs.Heard.{heard-by, heard-joins, witness-served, witne
 
 -- ---- A lie has numbers of their types
 
-raised-fits : (n : ℤ) → IsNumber n → (b : Bool) → int_lt n greatest ≡ b → IsNumber (if b then n +ℤ pos 1 else n)
+raised-fits : (n : ℤ) → IsNumber n → (b : Bool) → int_lt n greatest_int ≡ b → IsNumber (if b then n +ℤ pos 1 else n)
 raised-fits n f false e = f
 raised-fits (pos n) f true e = record { sfits = omega (arith, ltb-true n 9223372036854775807 e) }
 raised-fits (negsuc n) f true e =
@@ -77,7 +77,7 @@ raised-fits (negsuc n) f true e =
 
 value-fits : (v : List ℤ) → ValueFits v → ValueFits (lied_value v)
 value-fits [] all = tt
-value-fits (n ∷ ns) all = (raised-fits n all.0 (int_lt n greatest) refl, all.1)
+value-fits (n ∷ ns) all = (raised-fits n all.0 (int_lt n greatest_int) refl, all.1)
 
 values-fit : (vs : List (List ℤ)) → AllByRecursion ValueFits vs → AllByRecursion ValueFits (map lied_value vs)
 values-fit [] all = tt

@@ -25,7 +25,7 @@ use Rattle.sv_witness.specs.Reports.{agreed_history, agreed_commit}
 use Rattle.sv_journal.specs.Serving.{with_results, noted_after}
 use Rattle.sv_witness.specs.Witnessed.{agreed, witnessed_reply}
 use Rattle.sv_witness.specs.Disputes.{with_disputes}
-use Rattle.sv_witness.specs.Kept.{RowView, kept_at, counted_results, with_values, agreed_results, new_disputes, Stands}
+use Rattle.sv_witness.specs.Kept.{RowView, kept_at, counted_results, with_values, agreed_results, new_disputes, KeepsBeside}
 use Rattle.sv_witness.specs.Invariant.{view_of, IsWitness}
 use Rattle.sv_witness.specs.Standing.{emptied, Standing, Replied}
 use Rattle.sv_witness.specs.Step.{Witnesses}
@@ -40,7 +40,7 @@ pub after-quiet : (old core : Core) (rows : List RowView) (ds : List Dispute) (h
     Standing core rows ds (entry_of s q x.logged ∷ h)
 after-quiet old core rows ds h s q d x is done told quiet = record {
   keeps = subst (Keeps core) (ap (λ (w : Logged). entry_of s (emptied q) w ∷ agreed_history h) (sym done.logged) ∙ sym (quiet-entry (entry_of s q x.logged) h silent)) done.keeps;
-  stands = subst (λ (r : Rules). Stands r rows ds (entry_of s q x.logged ∷ h)) (sym done.rules)
+  stands = subst (λ (r : Rules). KeepsBeside r rows ds (entry_of s q x.logged ∷ h)) (sym done.rules)
       (quiet-stands (core_rules old) rows ds (entry_of s q x.logged) h silent (done.logged ∙ told) is.stands);
 }
   where
@@ -94,8 +94,8 @@ module _ (old core : Core) (rows : List RowView) (ds : List Dispute) (h : List E
     owed = done.owed;
     standing = record {
       keeps = noted-keeps;
-      stands = subst (λ (r : Rules). Stands r new made (entry_of s (requests.Done results) x.logged ∷ h)) (sym done.rules)
-          (subst (λ (w : Logged). Stands (core_rules old) new made (entry_of s (requests.Done results) w ∷ h)) (sym noted)
+      stands = subst (λ (r : Rules). KeepsBeside r new made (entry_of s (requests.Done results) x.logged ∷ h)) (sym done.rules)
+          (subst (λ (w : Logged). KeepsBeside (core_rules old) new made (entry_of s (requests.Done results) w ∷ h)) (sym noted)
           (noted-stands (core_rules old) h s k results joined good rows new ds after (sym noted ∙ told)
           (subst (λ (w : Logged). (p : ℕ) → agreed_commit (entry_of s (requests.Done results) w ∷ h) < p →
           kept_at new p ≡ with_values k (reported p (counted_results (agreed_commit h) rows k results)) (kept_at rows p)) noted now)
@@ -121,7 +121,7 @@ pub after-end : (old core : Core) (rows : List RowView) (ds : List Dispute) (h :
     Keeps core (entry_of s requests.End logged.Bye ∷ agreed_history h) → Standing core rows ds (entry_of s requests.End logged.Bye ∷ h)
 after-end old core rows ds h s is same keeps = record {
   keeps = subst (Keeps core) (sym (quiet-entry (entry_of s requests.End logged.Bye) h refl)) keeps;
-  stands = subst (λ (r : Rules). Stands r rows ds (entry_of s requests.End logged.Bye ∷ h)) (sym same)
+  stands = subst (λ (r : Rules). KeepsBeside r rows ds (entry_of s requests.End logged.Bye ∷ h)) (sym same)
       (quiet-stands (core_rules old) rows ds (entry_of s requests.End logged.Bye) h refl refl is.stands);
 }
 
@@ -143,7 +143,7 @@ ended-agreed (e ∷ h) s = ap₂ (λ (a b : Bool). (e.session == s && a) || b) (
 -- ---- The fields
 
 -- Rows that have the same reports serve as well.
-pub same-stands : (r : Rules) (rows new : List RowView) (ds : List Dispute) (h : List Entry) → AreSame rows new → Stands r rows ds h → Stands r new ds h
+pub same-stands : (r : Rules) (rows new : List RowView) (ds : List Dispute) (h : List Entry) → AreSame rows new → KeepsBeside r rows ds h → KeepsBeside r new ds h
 same-stands r rows new ds h same is = record {
   legal = is.legal;
   reports = λ p above. same p ∙ is.reports p above;
@@ -172,9 +172,9 @@ pub still : (a b : Inside) → IsWitness a → core_rules b.core ≡ core_rules 
     b.journal.entries ≡ a.journal.entries → a.journal.spare ≤ b.journal.spare → AreSame a.testimony.reports b.testimony.reports → b.testimony.disputes.items ≡ a.testimony.disputes.items → IsWitness b
 still a b is rules owed keeps entries spare rows disputes = record {
   keeps = subst (λ (es : List Entry). Keeps b.core (agreed_history (reverse es))) (sym entries) keeps;
-  stands = subst (λ (es : List Entry). Stands (core_rules b.core) b.testimony.reports b.testimony.disputes.items (reverse es)) (sym entries)
-      (subst (λ (r : Rules). Stands r b.testimony.reports b.testimony.disputes.items (reverse a.journal.entries)) (sym rules)
-      (subst (λ (ds : List Dispute). Stands (core_rules a.core) b.testimony.reports ds (reverse a.journal.entries)) (sym disputes)
+  stands = subst (λ (es : List Entry). KeepsBeside (core_rules b.core) b.testimony.reports b.testimony.disputes.items (reverse es)) (sym entries)
+      (subst (λ (r : Rules). KeepsBeside r b.testimony.reports b.testimony.disputes.items (reverse a.journal.entries)) (sym rules)
+      (subst (λ (ds : List Dispute). KeepsBeside (core_rules a.core) b.testimony.reports ds (reverse a.journal.entries)) (sym disputes)
       (same-stands (core_rules a.core) a.testimony.reports b.testimony.reports a.testimony.disputes.items (reverse a.journal.entries) rows is.stands)));
   room = (let enough : owed_by a.core ≤ a.journal.spare = is.room in omega arith);
 }
@@ -192,7 +192,7 @@ module _ (a b : Inside) (m : JournalView) (s : ℕ) (q copy : Request) (x : Answ
   pub entered : owed_by a.core + 1 ≤ m.spare → IsWitness b
   entered room = record {
     keeps = subst (λ (l : List Entry). Keeps b.core (agreed_history l)) (sym past) done.standing.keeps;
-    stands = subst (λ (l : List Entry). Stands (core_rules b.core) b.testimony.reports b.testimony.disputes.items l) (sym past) done.standing.stands;
+    stands = subst (λ (l : List Entry). KeepsBeside (core_rules b.core) b.testimony.reports b.testimony.disputes.items l) (sym past) done.standing.stands;
     room = (let owed : owed_by b.core ≡ owed_by a.core = done.owed in
         let left : b.journal.spare ≡ m.spare - 1 = ap (λ (j : JournalView). j.spare) put in
         omega arith);

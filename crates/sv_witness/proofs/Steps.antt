@@ -22,7 +22,7 @@ use Rattle.sv_witness.specs.Reports.{agreed_history, agreed_result, agreed_commi
 use Rattle.sv_journal.specs.Serving.{noted_after, polled_after}
 use Rattle.sv_witness.specs.Witnessed.{agreed, witnessed_reply}
 use Rattle.sv_witness.specs.Disputes.{with_disputes}
-use Rattle.sv_witness.specs.Kept.{RowView, kept_at, KeepsReports, counted_results, AreOnce, with_values, agreed_results, new_disputes, Stands}
+use Rattle.sv_witness.specs.Kept.{RowView, kept_at, KeepsReports, counted_results, AreOnce, with_values, agreed_results, new_disputes, KeepsBeside}
 use Rattle.sv_witness.specs.Standing.{emptied}
 use Rattle.sv_witness.proofs.Agreed.{results-agreed}
 use Rattle.sv_witness.proofs.KeptRows.{ascending-once}
@@ -33,7 +33,7 @@ use Rattle.sv_witness.proofs.Same.{accepted-agreed}
 -- ---- Entries that are no noted Done
 
 pub quiet-stands : (r : Rules) (rows : List RowView) (ds : List Dispute) (e : Entry) (h : List Entry) → is_noted e.reply ≡ false →
-    e.reply ≡ witnessed_reply r h e.session e.request → Stands r rows ds h → Stands r rows ds (e ∷ h)
+    e.reply ≡ witnessed_reply r h e.session e.request → KeepsBeside r rows ds h → KeepsBeside r rows ds (e ∷ h)
 quiet-stands r rows ds e h quiet reply is = record {
   legal = (reply, is.legal);
   reports = keeps-quiet rows e h quiet is.reports;
@@ -111,8 +111,8 @@ module _ (r : Rules) (h : List Entry) (s k : ℕ) (results : List Done1) (joined
 
   pub noted-stands : (rows new : List RowView) (ds : List Dispute) (c : ℕ) → logged.Noted c ≡ witnessed_reply r h s (requests.Done results) →
       ((p : ℕ) → agreed_commit (entry_of s (requests.Done results) (logged.Noted c) ∷ h) < p →
-      kept_at new p ≡ with_values k (reported p (counted_results (agreed_commit h) rows k results)) (kept_at rows p)) → Stands r rows ds h →
-      Stands r new (with_disputes (new_disputes rows k (counted_results (agreed_commit h) rows k results)) ds) (entry_of s (requests.Done results) (logged.Noted c) ∷ h)
+      kept_at new p ≡ with_values k (reported p (counted_results (agreed_commit h) rows k results)) (kept_at rows p)) → KeepsBeside r rows ds h →
+      KeepsBeside r new (with_disputes (new_disputes rows k (counted_results (agreed_commit h) rows k results)) ds) (entry_of s (requests.Done results) (logged.Noted c) ∷ h)
   noted-stands rows new ds c reply now is =
       let e : Entry = entry_of s (requests.Done results) (logged.Noted c) in
       record {

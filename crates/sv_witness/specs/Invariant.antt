@@ -4,7 +4,7 @@ use Rattle.sv_sequencer.specs.Cores.{core_rules, owed_by, Keeps}
 use Rattle.sv_sequencer.specs.Step.{SequencerView}
 use Rattle.sv_witness.specs.declared.witness.Witness.TheInside.{Inside}
 use Rattle.sv_witness.specs.Reports.{agreed_history}
-use Rattle.sv_witness.specs.Kept.{Stands}
+use Rattle.sv_witness.specs.Kept.{KeepsBeside}
 
 abbrev pub view_of : Inside → SequencerView
 view_of a = record { rules = core_rules a.core; journal = a.journal }
@@ -12,5 +12,5 @@ view_of a = record { rules = core_rules a.core; journal = a.journal }
 -- The core stands where the history of what was agreed leads, what is kept beside it stands by the journal, and there is room for the Ends to come.
 pub record IsWitness (a : Inside) : Type 0 where
   pub keeps : Keeps a.core (agreed_history (reverse a.journal.entries))
-  pub stands : Stands (core_rules a.core) a.testimony.reports a.testimony.disputes.items (reverse a.journal.entries)
+  pub stands : KeepsBeside (core_rules a.core) a.testimony.reports a.testimony.disputes.items (reverse a.journal.entries)
   pub room : owed_by a.core ≤ a.journal.spare

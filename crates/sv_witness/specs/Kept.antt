@@ -76,7 +76,7 @@ new_disputes rows k counted =
 
 -- What a server keeps beside its core, of a journal with these entries: the journal is legal, the rows keep its reports, no position is reported
 -- that was not accepted, and its disputes are these.
-pub record Stands (r : Rules) (rows : List RowView) (disputes : List Dispute) (h : List Entry) : Type 0 where
+pub record KeepsBeside (r : Rules) (rows : List RowView) (disputes : List Dispute) (h : List Entry) : Type 0 where
   pub legal : IsWitnessed r h
   pub reports : KeepsReports rows h
   pub within : (p : ℕ) → length (accepted h) < p → reports_of h p ≡ []

@@ -5,12 +5,12 @@ use Rattle.sv_wire.specs.declared.message.Request.{Request}
 use Rattle.sv_wire.specs.declared.message.Request.TheVariants as requests
 
 -- The greatest number that an attribute can have. It can't be raised, and stays.
-abbrev pub greatest : ℤ
-greatest = pos 9223372036854775807
+abbrev pub greatest_int : ℤ
+greatest_int = pos 9223372036854775807
 
 abbrev pub lied_value : List ℤ → List ℤ
 lied_value [] = []
-lied_value (n ∷ ns) = (if int_lt n greatest then n +ℤ pos 1 else n) ∷ ns
+lied_value (n ∷ ns) = (if int_lt n greatest_int then n +ℤ pos 1 else n) ∷ ns
 
 abbrev pub lied_result : Done1 → Done1
 lied_result d = record d { values = map lied_value d.values }

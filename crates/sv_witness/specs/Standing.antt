@@ -14,7 +14,7 @@ use Rattle.sv_sequencer.specs.Cores.{core_rules, owed_by, Keeps}
 use Rattle.sv_sequencer.specs.Step.{entry_of}
 use Rattle.sv_witness.specs.declared.report.Dispute.{Dispute}
 use Rattle.sv_witness.specs.Reports.{agreed_history}
-use Rattle.sv_witness.specs.Kept.{RowView, Stands}
+use Rattle.sv_witness.specs.Kept.{RowView, KeepsBeside}
 use Rattle.sv_witness.specs.Witnessed.{witnessed_reply}
 
 -- ---- What is decided otherwise than the core decides
@@ -40,7 +40,7 @@ first_of (p ∷ ps) = decisions.Relay 0 p
 -- Of a journal with these entries the core stands where the history of what was agreed leads, and all that is kept beside it stands.
 pub record Standing (core : Core) (rows : List RowView) (disputes : List Dispute) (h : List Entry) : Type 0 where
   pub keeps : Keeps core (agreed_history h)
-  pub stands : Stands (core_rules core) rows disputes h
+  pub stands : KeepsBeside (core_rules core) rows disputes h
 
 -- A request was answered by the witnessed reply, in full, and all that is kept stands by its entry. The journal has still to get that.
 pub record Replied (old new : Core) (rows : List RowView) (disputes : List Dispute) (h : List Entry) (s : ℕ) (request : Request) (answer : Answer) : Type 0 where

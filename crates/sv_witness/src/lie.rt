@@ -1,6 +1,6 @@
 //! The lie that a client can be let tell.
 ghost use Rattle.std.specs.Prelude.{◌≡◌, pos, ◌+ℤ◌, int_lt, map, if◌then◌else◌, IfOk};
-ghost use Rattle.sv_witness.specs.Lies.{greatest, lied, lied_result, lied_value};
+ghost use Rattle.sv_witness.specs.Lies.{greatest_int, lied, lied_result, lied_value};
 
 use std::alloc::{AllocError, Global};
 use sv_wire::{Done1, Request, copy_request};
@@ -8,7 +8,7 @@ use sv_world::{List, Value, copy_value};
 
 /// 1 more, where there is one more.
 fn raised(number: i64) -> i64
-    ensures { result ≡ (if int_lt number greatest then number +ℤ pos 1 else number) }
+    ensures { result ≡ (if int_lt number greatest_int then number +ℤ pos 1 else number) }
 {
     if number < i64::MAX {
         number + 1

@@ -12,7 +12,7 @@ ghost use Rattle.sv_journal.specs.Answer.{is_bad_done};
 ghost use Rattle.sv_journal.specs.Serving.{is_poll, noted_after, polled_after};
 ghost use Rattle.sv_sequencer.specs.Cores.{core_rules, queue_of, Keeps, CarriedOut, Remained};
 ghost use Rattle.sv_sequencer.specs.Decisions.{Holds, reply_by, results_in};
-ghost use Rattle.sv_sequencer.specs.Step.{history, entry_of, Grew, Stayed};
+ghost use Rattle.sv_sequencer.specs.Step.{history, entry_of, GrewByEntry, Stayed};
 ghost use Rattle.sv_witness.specs.Reports.{agreed_history};
 ghost use Rattle.sv_witness.specs.Kept.{kept_at, HasRoomFor, counted_results, agreed_results, new_disputes};
 ghost use Rattle.sv_witness.specs.Due.{due_in};
@@ -206,7 +206,7 @@ impl Witness {
         requires past { h ≡ history self.old }
         requires session { session < self.old.rules.sessions }
         requires first { is_ended h session ≡ false }
-        ensures { Grew self.old self.new (entry_of session requests.End logged.Bye) }
+        ensures { GrewByEntry self.old self.new (entry_of session requests.End logged.Bye) }
     {
         self.core.end(session);
         self.journal.push(Entry {

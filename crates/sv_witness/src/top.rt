@@ -1,7 +1,7 @@
 //! The top call of a witnessed run.
 ghost use Rattle.std.specs.Prelude.{◌≡◌, ◌≢◌, ◌↔◌, ◌⊎◌, ◌≤◌, ℕ, true, false, map, option_map, string_bytes, None, Err, IfSome};
 ghost use Rattle.sv_command.specs.Endings.{Ends, IsMade};
-ghost use Rattle.sv_command.specs.Reading.{held_of, HoldsScenario};
+ghost use Rattle.sv_command.specs.Reading.{held_by_file, HoldsScenario};
 ghost use Rattle.sv_command.specs.Statuses.{counts, ending_of, NoneRose, Raises, TellsFaults, TellsStatus};
 ghost use Rattle.sv_witness.specs.Statuses.{EndsEarly, IsLiarOver, IsText, IsLiarWithin, Leaves};
 ghost use Rattle.sv_witness.specs.Words.{asked_by, named_by, witnessing_of, words_line};
@@ -82,9 +82,9 @@ pub fn run_witness<F: Files, K: Sink, E: Sink>(
     ensures apart { result ≡ 2 → files.new ≡ files.old }
     ensures nothing { result ≢ 0 → result ≢ 5 → K.taken out.new ≡ K.taken out.old }
     ensures left { IfSome (witnessing_of (map string_bytes words.now)) (λ a. Leaves a (F.contents files.old a.file) (K.taken out.old) (K.taken out.new) result) }
-    ensures told { TellsStatus words_line result (held_of (F.contents files.old) (named_by (witnessing_of (map string_bytes words.now)))) (named_by (witnessing_of (map string_bytes words.now)))
+    ensures told { TellsStatus words_line result (held_by_file (F.contents files.old) (named_by (witnessing_of (map string_bytes words.now)))) (named_by (witnessing_of (map string_bytes words.now)))
         (E.taken err.old) (E.taken err.new) (E.faults err.old) (E.faults err.new) }
-    ensures complete { HoldsScenario (held_of (F.contents files.old) (named_by (witnessing_of (map string_bytes words.now))))
+    ensures complete { HoldsScenario (held_by_file (F.contents files.old) (named_by (witnessing_of (map string_bytes words.now))))
         → NoneRose (counts (F.faults files.old) 0 0 (K.faults out.old)) (counts (F.faults files.new) 0 0 (K.faults out.new))
         → (result ≡ 0) ⊎ (result ≡ 8) ⊎ (result ≡ 10) }
 {

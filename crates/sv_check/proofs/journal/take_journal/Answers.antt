@@ -4,7 +4,7 @@ use Rattle.std.proofs.lemmas.Result.{err_from_is_err_and}
 use Rattle.sv_journal.specs.Answer.{Rules}
 use Rattle.sv_check.specs.declared.journal.Served.{Served}
 use Rattle.sv_check.specs.Serving.{entries_of}
-use Rattle.sv_check.specs.Entering.{NoHeader, BreaksOff}
+use Rattle.sv_check.specs.Entering.{NoHeader, TextBreaksOff}
 use Rattle.sv_check.specs.Stopping.{IsStop}
 use Rattle.sv_check.proofs.Serving.{whole_journal}
 use Rattle.sv_check.proofs.JournalStops.{stop_first, served_broken, served_unread, served_open, wrong_at, passed_on}
@@ -27,7 +27,7 @@ returns-in_err-rest-clause-wrong c =
     let scenario = c.args.scenario.now in
     let served = c.serve_all.new.self in
     let p = err_from_is_err_and c.from_residual-in_err-rest.result c.from_residual-in_err-rest.ensures.1 in
-    passed_on (Bor (List ℕ)) (Served × Bor (List ℕ)) c.from_residual-in_err-rest.result p.0 c.in_err-rest.field-0.0 (BreaksOff scenario.world.shape (entries_of served) c.in_ok-count.entries.now) (IsStop scenario text) p.1 p.2
+    passed_on (Bor (List ℕ)) (Served × Bor (List ℕ)) c.from_residual-in_err-rest.result p.0 c.in_err-rest.field-0.0 (TextBreaksOff scenario.world.shape (entries_of served) c.in_ok-count.entries.now) (IsStop scenario text) p.1 p.2
     (λ left b. served_broken c.laws_of_runs.ensures.stay c.laws_of_runs.ensures.named c.laws_of_runs.ensures.steps c.laws_of_runs.ensures.few c.laws_of_runs.ensures.messages
     scenario c.requires.good c.requires.fits c.in_ok-count.count text c.in_ok-count.entries.now c.in_ok-count.ensures.small c.requires.short c.in_ok-count.ensures.taken
     served c.in_ok-whole.ensures.served c.in_ok-whole.whole c.in_ok-whole.ensures.told left b)

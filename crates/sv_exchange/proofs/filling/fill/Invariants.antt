@@ -1,13 +1,13 @@
 -- The loop invariant and the measure of `fill`.
 use Rattle.std.proofs.Common.{◌≡◌, ◌++◌, length}
 use Rattle.sv_link.specs.Sides.{other, side_of, unread}
-use Rattle.sv_exchange.specs.Streams.{IsReadOn}
+use Rattle.sv_exchange.specs.Streams.{SideReadOn}
 use Rattle.sv_exchange.proofs.filling.fill.Given as goal
 
 abbrev pub invariant-loop-reader : goal.invariant-loop-reader
 invariant-loop-reader l =
     record {
-      link : IsReadOn l.fn.link l.link l.side;
+      link : SideReadOn l.fn.link l.link l.side;
       same : l.reader ++ unread (side_of l.link (other l.side)) ≡ l.fn.reader ++ unread (side_of l.fn.link (other l.side));
     }
 

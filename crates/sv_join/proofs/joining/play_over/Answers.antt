@@ -3,7 +3,7 @@ use Rattle.std.proofs.Common.{◌≡◌, ◌<◌, ◌++◌, slice_get, get_or, S
 use Rattle.std.specs.List.{AllByRecursion}
 use Rattle.sv_player.specs.Played.{IsCause}
 use Rattle.sv_join.specs.declared.steady.Steady.{Steady}
-use Rattle.sv_join.specs.Joining.{passed, passages_of, IsLeft}
+use Rattle.sv_join.specs.Joining.{passed, passages_of, IsLeftOfPlay}
 use Rattle.sv_join.proofs.Unwrapping.{steady_told, steady_faults, steady_calm, no_fault, all_own, all_fresh}
 use Rattle.sv_join.proofs.Played.{plan_there, few_sessions, may_play, played, never_lawful}
 use Rattle.sv_join.proofs.Answering.{left_of, broken_by}
@@ -53,7 +53,7 @@ returns-clause-left g c =
     (c.in_default.ensures.count ∙ c.sessions_of_plan-count.ensures.count) c.in_default.ensures.new c.play_client-cause.ensures.ends given c.play_client-cause.ensures.trace c.play_client-cause.ensures.follows
     c.play_client-cause.ensures.cause in
     subst
-    (λ r. IsLeft E.told E.faults E.calm scenario c.args.seat.now.number (passed (g.D.Door.made c.args.door.now) (g.D.Door.given c.args.door.now) (g.D.Door.given c.give_all_back-2.new.door)) (g.D.Door.faults c.args.door.now)
+    (λ r. IsLeftOfPlay E.told E.faults E.calm scenario c.args.seat.now.number (passed (g.D.Door.made c.args.door.now) (g.D.Door.given c.args.door.now) (g.D.Door.given c.give_all_back-2.new.door)) (g.D.Door.faults c.args.door.now)
     (g.D.Door.faults c.give_all_back-2.new.door) r)
     (sym c.answer.ensures) (left_of E.told E.faults E.calm scenario c.args.seat.now.number _ _ _ out.trace out.cause out.lines play c.play_client-cause.ensures.lines
     (never_lawful E.told E.faults E.calm c.honest_clients_are_never_refused.ensures.faults c.replies_are_messages.ensures scenario c.requires.good c.read_scenario_numbers.ensures.values c.args.seat.now.number _ out.trace))

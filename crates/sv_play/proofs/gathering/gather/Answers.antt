@@ -3,7 +3,7 @@ use Rattle.std.proofs.Common.{◌+◌, ◌≤◌, ◌++◌, [], ◌∷◌, lengt
 use Rattle.std.specs.Vec.{vec_capacity}
 use Rattle.std.specs.List.{AllByRecursion, flat_map}
 use Rattle.sv_play.specs.Tasks.{serviced_of, played_of}
-use Rattle.sv_play.specs.Left.{ends_of, HasRoom, HasFewSessions, Gathered, Joined, IsOfLock}
+use Rattle.sv_play.specs.Left.{ends_of, HasRoom, HasFewSessions, Gathered, JoinedPasses, IsOfLock}
 use Rattle.sv_play.proofs.Leaving.{ends_count}
 use Rattle.sv_play.proofs.Taken.{gathered_server, gathered_client, joined_server, joined_client}
 use Rattle.sv_play.proofs.gathering.gather.Goals as goal
@@ -29,7 +29,7 @@ loop-out-preserved-in-Served g c =
           subst (λ o. Gathered (yielded ++ o ∷ []) left) (sym f.is)
           (gathered_server yielded f.field-0 c.loop-out.left left i.gathered t.server t.lacked (ap (λ v. v.items) t.same.0) (ap (λ v. v.items) t.same.1) (ap (λ v. v.items) t.same.2));
       joined =
-          subst (λ o. Joined (serviced_of (yielded ++ o ∷ [])) c.args.keeper.now c.join.new.keeper) (sym f.is)
+          subst (λ o. JoinedPasses (serviced_of (yielded ++ o ∷ [])) c.args.keeper.now c.join.new.keeper) (sym f.is)
           (joined_server yielded f.field-0 c.args.keeper.now c.loop-out.keeper c.join.new.keeper i.joined j.same.0 j.same.1 j.same.2 j.same.4 j.ended j.seen.0 j.seen.1
           (record { just = j.just; below = j.below; legal = j.lawful }));
       passes = (subst (λ os. AllByRecursion (IsOfLock c.args.lock.now) (serviced_of os)) e i.passes).1;
@@ -80,7 +80,7 @@ loop-out-preserved g c =
       gathered =
           subst (λ o. Gathered (yielded ++ o ∷ []) left) (sym f.is)
           (gathered_client yielded p c.loop-out.left left i.gathered t.ends t.trace t.lines t.lacked (ap (λ v. v.items) t.same));
-      joined = subst (λ o. Joined (serviced_of (yielded ++ o ∷ [])) c.args.keeper.now c.loop-out.keeper) (sym f.is) (joined_client yielded p c.args.keeper.now c.loop-out.keeper i.joined);
+      joined = subst (λ o. JoinedPasses (serviced_of (yielded ++ o ∷ [])) c.args.keeper.now c.loop-out.keeper) (sym f.is) (joined_client yielded p c.args.keeper.now c.loop-out.keeper i.joined);
       passes = subst (λ os. AllByRecursion (IsOfLock c.args.lock.now) (serviced_of os)) e i.passes;
       numbers = (subst (λ os. AllByRecursion HasFewSessions (played_of os)) e i.numbers).1;
       room =

@@ -2,7 +2,7 @@
 use Rattle.std.proofs.Common.{◌≡◌, ◌++◌, length}
 use Rattle.std.specs.List.{AllByRecursion, flat_map}
 use Rattle.sv_play.specs.Tasks.{serviced_of, played_of}
-use Rattle.sv_play.specs.Left.{ends_of, HasRoom, HasFewSessions, Gathered, Joined, IsOfLock}
+use Rattle.sv_play.specs.Left.{ends_of, HasRoom, HasFewSessions, Gathered, JoinedPasses, IsOfLock}
 use Rattle.sv_play.proofs.gathering.gather.Given as goal
 
 abbrev pub invariant-loop-out : goal.invariant-loop-out
@@ -11,7 +11,7 @@ invariant-loop-out g l =
     record {
       all : l.yielded ++ rest ≡ l.fn.outs.items;
       gathered : Gathered l.yielded l.left;
-      joined : Joined (serviced_of l.yielded) l.initial.keeper l.keeper;
+      joined : JoinedPasses (serviced_of l.yielded) l.initial.keeper l.keeper;
       passes : AllByRecursion (IsOfLock l.lock) (serviced_of rest);
       numbers : AllByRecursion HasFewSessions (played_of rest);
       room : HasRoom (length (serviced_of rest)) (length (flat_map ends_of (played_of rest))) (length (played_of rest)) l.left;

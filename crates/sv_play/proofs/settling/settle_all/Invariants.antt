@@ -2,7 +2,7 @@
 use Rattle.std.proofs.Common.{◌≡◌, ◌≤◌, true, false, length, ◌++◌}
 use Rattle.std.specs.List.{AllZip}
 use Rattle.std.specs.Vec.Iter.{into_iter_items}
-use Rattle.sv_play.specs.Left.{transcripts_of, Agrees}
+use Rattle.sv_play.specs.Left.{transcripts_of, EndsAgree}
 use Rattle.sv_play.specs.Settling.{SettledCause, ArePair, AreCalm, AnyZip, Differ}
 use Rattle.sv_play.proofs.settling.settle_all.Given as goal
 
@@ -17,7 +17,7 @@ invariant-loop-server g l =
       owed : length servers ≤ g.N.Net.owed l.net;
       made : g.N.Net.made l.net ≡ g.N.Net.made l.fn.net;
       settled : l.matched ≡ true → g.N.Net.settled l.net ++ transcripts_of told faults servers clients ≡ g.N.Net.settled l.fn.net ++ transcripts_of told faults l.fn.servers.items l.fn.clients.items;
-      agree : l.matched ≡ true → AllZip (Agrees told faults) servers clients → AllZip (Agrees told faults) l.fn.servers.items l.fn.clients.items;
+      agree : l.matched ≡ true → AllZip (EndsAgree told faults) servers clients → AllZip (EndsAgree told faults) l.fn.servers.items l.fn.clients.items;
       cause : SettledCause (g.N.Net.faults l.fn.net) (g.N.Net.faults l.net) l.matched;
       calm : g.N.Net.calm l.fn.net → g.N.Net.calm l.net;
       calms : AllZip (AreCalm g.N.E.End.calm) l.fn.servers.items l.fn.clients.items → AllZip (AreCalm g.N.E.End.calm) servers clients;

@@ -5,7 +5,7 @@ use Rattle.std.proofs.Crossing.{crosses}
 use Rattle.sv_sequencer.proofs.Sent.{lock-syncs, pass-sends}
 use Rattle.law_traffic.specs.Runs.{IsGoodRun}
 use Rattle.sv_play.specs.Given.{setting}
-use Rattle.sv_play.specs.Left.{Joined}
+use Rattle.sv_play.specs.Left.{JoinedPasses}
 use Rattle.sv_play.specs.Playing.{TookAllIn}
 use Rattle.sv_play.proofs.Ready.{services_ready}
 use Rattle.sv_serve.specs.Giving.{kept_served}
@@ -47,7 +47,7 @@ returns-clause-hosted g c =
     let left = c.take_in.ensures in
     let ys = c.in-Done.served.items in
     let k = c.take_in.new.keeper in
-    let joined = subst (λ b. Joined ys b k) t.keeper left.joined in
+    let joined = subst (λ b. JoinedPasses ys b k) t.keeper left.joined in
     let good : IsGoodRun c.args.host.now.scenario.now = record { good = c.requires.good; opening = c.read_scenario_numbers.ensures.values } in
     hosted g.D.E.End.told g.D.E.End.faults g.D.E.End.calm run c.in_ok-services.services.items ys t.count t.services c.in-Done.ensures.kept k joined good
     c.full_replies_stay.ensures c.legal_relays_name_accepted.ensures (left.lacked (search rules))
@@ -61,7 +61,7 @@ returns-clause-keeper g c =
     let t = c.in_ok-services.ensures in
     let ys = c.in-Done.served.items in
     let k = c.take_in.new.keeper in
-    let joined = subst (λ b. Joined ys b k) t.keeper c.take_in.ensures.joined in
+    let joined = subst (λ b. JoinedPasses ys b k) t.keeper c.take_in.ensures.joined in
     let good : IsGoodRun c.args.host.now.scenario.now = record { good = c.requires.good; opening = c.read_scenario_numbers.ensures.values } in
     subst (λ b. TookAllIn c.args.host.now.scenario.now b k) (sym c.requires.keeper)
     (took_all g.D.E.End.told g.D.E.End.faults g.D.E.End.calm run c.in_ok-services.services.items ys t.count t.services c.in-Done.ensures.kept k joined good)

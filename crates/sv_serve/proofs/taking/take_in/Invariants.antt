@@ -1,7 +1,7 @@
 -- The sessions that are still to be taken in.
 use Rattle.std.proofs.Common.{◌≡◌, ◌+◌, ◌≤◌, ◌++◌, false, length}
 use Rattle.std.specs.List.{AllByRecursion}
-use Rattle.sv_play.specs.Left.{is_memory, IsOfLock, Joined}
+use Rattle.sv_play.specs.Left.{is_memory, IsOfLock, JoinedPasses}
 use Rattle.sv_serve.specs.Giving.{kept_served, IsServedOf}
 use Rattle.sv_serve.proofs.taking.take_in.Given as goal
 
@@ -12,7 +12,7 @@ invariant-loop-session g l =
     let faults = g.D.E.End.faults in
     record {
       all : l.yielded ++ rest ≡ l.fn.served.items;
-      joined : Joined l.yielded l.initial.keeper l.keeper;
+      joined : JoinedPasses l.yielded l.initial.keeper l.keeper;
       given : g.D.Door.given l.door ≡ g.D.Door.given l.initial.door ++ kept_served told faults l.yielded;
       passes : AllByRecursion (IsOfLock l.lock) rest;
       own : AllByRecursion (IsServedOf told (g.D.Door.made l.initial.door)) rest;

@@ -8,7 +8,7 @@ use Rattle.sv_script.specs.Telling.{told_lines}
 use Rattle.law_traffic.specs.Runs.{IsGoodRun}
 use Rattle.sv_play.specs.Given.{setting}
 use Rattle.sv_play.specs.Tasks.{serviced_of}
-use Rattle.sv_play.specs.Left.{transcripts_of, HasRoom, Joined}
+use Rattle.sv_play.specs.Left.{transcripts_of, HasRoom, JoinedPasses}
 use Rattle.sv_play.specs.Playing.{IsThreadedRun, TookAllIn}
 use Rattle.sv_play.proofs.Ready.{tasks_ready}
 use Rattle.sv_play.proofs.Sent.{client-field-sends, trace-field-sends, step-syncs}
@@ -75,7 +75,7 @@ settle_all-requires-clause-pairs g c κs within =
     let kept = c.in-Done.ensures.kept in
     let left = c.gather.new.left in
     let k = c.gather.new.keeper in
-    let joined = subst (λ b. Joined (serviced_of os) b k) t.keeper c.gather.ensures.joined in
+    let joined = subst (λ b. JoinedPasses (serviced_of os) b k) t.keeper c.gather.ensures.joined in
     are_pairs told faults calm _ run ts os t.count t.services t.parts kept left k c.gather.ensures.gathered joined (g.N.Net.made c.open.new.net) t.pairs.0
 
 pub settle_all-requires-clause-owed : goal.settle_all-requires-clause-owed
@@ -90,7 +90,7 @@ settle_all-requires-clause-owed g c κs within =
     let kept = c.in-Done.ensures.kept in
     let left = c.gather.new.left in
     let k = c.gather.new.keeper in
-    let joined = subst (λ b. Joined (serviced_of os) b k) t.keeper c.gather.ensures.joined in
+    let joined = subst (λ b. JoinedPasses (serviced_of os) b k) t.keeper c.gather.ensures.joined in
     let enough = owed_enough told faults calm _ run ts os t.count t.services t.parts kept left k c.gather.ensures.gathered joined in
     let owed = t.pairs.1 in
     omega (arith, enough, owed)
@@ -113,7 +113,7 @@ returns-then-not-settle_all-clause-certain g c =
     let kept = c.in-Done.ensures.kept in
     let left = c.gather.new.left in
     let k = c.gather.new.keeper in
-    let joined = subst (λ b. Joined (serviced_of os) b k) t.keeper c.gather.ensures.joined in
+    let joined = subst (λ b. JoinedPasses (serviced_of os) b k) t.keeper c.gather.ensures.joined in
     λ q e.
     two_differ told faults calm _ run ts os t.count t.services t.parts kept left k c.gather.ensures.gathered joined (g.N.Net.made c.settle_all.new.net) (c.settle_all.ensures.made ∙ t.pairs.0) q
     (c.settle_all.ensures.certain (search rules) (t.calm q).1 (are_calm told faults calm _ run ts os t.count t.services t.parts kept left k c.gather.ensures.gathered joined q))
@@ -130,7 +130,7 @@ returns-clause-run g c =
     let kept = c.in-Done.ensures.kept in
     let left = c.gather.new.left in
     let k = c.gather.new.keeper in
-    let joined = subst (λ b. Joined (serviced_of os) b k) t.keeper c.gather.ensures.joined in
+    let joined = subst (λ b. JoinedPasses (serviced_of os) b k) t.keeper c.gather.ensures.joined in
     let good : IsGoodRun c.args.self.now.scenario.now = record { good = c.requires.good; opening = c.read_scenario_numbers.ensures.values } in
     let settled = c.settle_all.ensures.settled (search rules) in
     subst (λ traces. IsThreadedRun c.args.self.now.scenario.now (reverse k.seen) traces (g.N.Net.settled c.args.net.now) (g.N.Net.settled c.settle_all.new.net) (g.C.Crew.ran c.args.crew.now) (g.C.Crew.ran c.run_all.new.self)) (sym c.from_vec.ensures)
@@ -150,7 +150,7 @@ returns-clause-lines g c =
     let kept = c.in-Done.ensures.kept in
     let left = c.gather.new.left in
     let k = c.gather.new.keeper in
-    let joined = subst (λ b. Joined (serviced_of os) b k) t.keeper c.gather.ensures.joined in
+    let joined = subst (λ b. JoinedPasses (serviced_of os) b k) t.keeper c.gather.ensures.joined in
     let good : IsGoodRun c.args.self.now.scenario.now = record { good = c.requires.good; opening = c.read_scenario_numbers.ensures.values } in
     c.in_ok-all_lines.ensures
     ∙ (told_all told faults calm _ run ts os t.count t.services t.parts kept left k c.gather.ensures.gathered joined good c.if-lacked.false (c.settle_all.ensures.agree (search rules)) ∙ ap (flat_map told_lines) (sym c.from_vec.ensures))
@@ -167,7 +167,7 @@ returns-clause-keeper g c =
     let kept = c.in-Done.ensures.kept in
     let left = c.gather.new.left in
     let k = c.gather.new.keeper in
-    let joined = subst (λ b. Joined (serviced_of os) b k) t.keeper c.gather.ensures.joined in
+    let joined = subst (λ b. JoinedPasses (serviced_of os) b k) t.keeper c.gather.ensures.joined in
     let good : IsGoodRun c.args.self.now.scenario.now = record { good = c.requires.good; opening = c.read_scenario_numbers.ensures.values } in
     subst (λ b. TookAllIn c.args.self.now.scenario.now b k) (sym c.requires.keeper)
     (took_all told faults calm _ run ts os t.count t.services t.parts kept left k c.gather.ensures.gathered joined good)

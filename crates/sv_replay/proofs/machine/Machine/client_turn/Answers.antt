@@ -7,7 +7,7 @@ use Rattle.sv_scenario.specs.declared.scenario.Turn.TheVariants as turns
 use Rattle.law_schedule.specs.Players.{player_turn}
 use Rattle.sv_exchange.specs.View.{ExchangeView, new_exchange}
 use Rattle.sv_replay.specs.Players.{session_of}
-use Rattle.sv_replay.specs.Machine.{player_of, Moved, stage_of}
+use Rattle.sv_replay.specs.Machine.{player_of, MovedPlayer, stage_of}
 use Rattle.sv_replay.proofs.Machines.{clients_are, player_read, player_flags, player_known, player_fits, player_fits_after, get_map, moved_became}
 use Rattle.sv_replay.proofs.Sending.{turn_asks, link_open}
 use Rattle.sv_replay.proofs.machine.Machine.client_turn.Goals as goal
@@ -75,6 +75,6 @@ returns g c =
     get_or_read m.channels c.session-session.result _ known c.index_mut.ensures.value new_exchange ∙ ap (λ n. get_or m.channels n new_exchange) here in
     on_ok_weaker c.turn.result
     (λ did. moved_became m w k p q d is (player_read m k p is c.requires.client c.index_mut-player.ensures.value) player_turn (turns.Client k)
-    (subst (λ (v : ExchangeView). Moved (player_turn (player_of p)) p q v d) read did) refl c.requires.client refl refl refl
+    (subst (λ (v : ExchangeView). MovedPlayer (player_turn (player_of p)) p q v d) read did) refl c.requires.client refl refl refl
     (ap (λ n. set m.channels n d) here))
     c.turn.ensures

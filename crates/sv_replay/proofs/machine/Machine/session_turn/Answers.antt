@@ -5,7 +5,7 @@ use Rattle.std.proofs.lemmas.Result.{on_ok_weaker}
 use Rattle.std.proofs.lemmas.List.{get_or_read}
 use Rattle.sv_journal.specs.Answer.{Rules}
 use Rattle.sv_exchange.specs.View.{ExchangeView, new_exchange}
-use Rattle.sv_replay.specs.Serving.{AnswersMessage, Served, one_if}
+use Rattle.sv_replay.specs.Serving.{AnswersMessage, HadTurn, one_if}
 use Rattle.sv_replay.specs.Work.{work_of_session, Found}
 use Rattle.sv_replay.specs.Machine.{stage_of, run_of}
 use Rattle.sv_replay.proofs.Machines.{served_became}
@@ -32,7 +32,7 @@ returns-clause-became g c =
     let read : c.index_mut.result.now ≡ get_or m.channels s new_exchange = get_or_read m.channels s _ (omega (arith, is.count, c.requires.session)) c.index_mut.ensures.value new_exchange in
     on_ok_weaker c.serve.result
     (λ served. served_became m w s c.serve.new.channel is c.requires.session
-    (subst (λ (v : ExchangeView). Served s m.serves w.serves v c.serve.new.channel) read served) refl refl refl)
+    (subst (λ (v : ExchangeView). HadTurn s m.serves w.serves v c.serve.new.channel) read served) refl refl refl)
     c.serve.ensures.served
 
 pub returns-clause-found : goal.returns-clause-found
@@ -42,8 +42,8 @@ returns-clause-found g c =
     let is = c.requires.machine in
     let w = stage_of g.S.Server.view (record c.args.self.now { server = c.serve.new.server; channels = with_item c.args.self.now.channels s c.serve.new.channel }) in
     let read : c.index_mut.result.now ≡ get_or m.channels s new_exchange = get_or_read m.channels s _ (omega (arith, is.count, c.requires.session)) c.index_mut.ensures.value new_exchange in
-    both_told c.serve.result (Served s m.serves w.serves c.index_mut.result.now c.serve.new.channel)
+    both_told c.serve.result (HadTurn s m.serves w.serves c.index_mut.result.now c.serve.new.channel)
     (λ found. length w.serves.history ≡ length m.serves.history + one_if found) (Found (work_of_session s) (run_of m) (run_of w))
     (λ found served long. session_found m w s c.serve.new.channel found is c.requires.session
-    (subst (λ (v : ExchangeView). Served s m.serves w.serves v c.serve.new.channel) read served) refl long)
+    (subst (λ (v : ExchangeView). HadTurn s m.serves w.serves v c.serve.new.channel) read served) refl long)
     c.serve.ensures.served c.serve.ensures.found

@@ -7,7 +7,7 @@ use Rattle.sv_scenario.specs.declared.scenario.Turn.TheVariants as turns
 use Rattle.law_schedule.specs.Players.{Player, take_turn}
 use Rattle.sv_exchange.specs.View.{ExchangeView, new_exchange}
 use Rattle.sv_replay.specs.Players.{session_of, taken_from}
-use Rattle.sv_replay.specs.Machine.{player_of, Moved, run_of, stage_of}
+use Rattle.sv_replay.specs.Machine.{player_of, MovedPlayer, run_of, stage_of}
 use Rattle.sv_client.proofs.Shifts.{up_fault}
 use Rattle.sv_replay.specs.Messages.{AsksMessages}
 use Rattle.sv_replay.specs.Serving.{one_if}
@@ -101,8 +101,8 @@ returns-clause-became g c =
     get_or_read m.channels c.session-session.result _ known c.index_mut.ensures.value new_exchange ∙ ap (λ n. get_or m.channels n new_exchange) here in
     on_ok_weaker c.take.result
     (λ did. moved_became m w k p q d is at (take_turn (run_of m).history) (turns.Take k)
-    (subst (λ (x : Player). Moved x p q (get_or m.channels (session_of (player_of p)) new_exchange) d) (taken_is m k (player_of p) is (get_map player_of m.players k p at))
-    (subst (λ (v : ExchangeView). Moved (taken_from v.replies (player_of p)) p q v d) read did)) refl c.requires.client refl refl refl
+    (subst (λ (x : Player). MovedPlayer x p q (get_or m.channels (session_of (player_of p)) new_exchange) d) (taken_is m k (player_of p) is (get_map player_of m.players k p at))
+    (subst (λ (v : ExchangeView). MovedPlayer (taken_from v.replies (player_of p)) p q v d) read did)) refl c.requires.client refl refl refl
     (ap (λ n. set m.channels n d) here))
     c.take.ensures.taken
 
@@ -121,7 +121,7 @@ returns-clause-found g c =
     let known : c.session-session.result < length m.channels = omega (arith, fit.known, is.count, here) in
     let read : c.index_mut.result.now ≡ get_or m.channels (session_of (player_of p)) new_exchange =
     get_or_read m.channels c.session-session.result _ known c.index_mut.ensures.value new_exchange ∙ ap (λ n. get_or m.channels n new_exchange) here in
-    both_told c.take.result (Moved (taken_from c.index_mut.result.now.replies (player_of p)) p q c.index_mut.result.now d)
+    both_told c.take.result (MovedPlayer (taken_from c.index_mut.result.now.replies (player_of p)) p q c.index_mut.result.now d)
     (λ found. length q.client.events ≡ length p.client.events + one_if found) (Found (work_of_client k) (run_of m) (run_of w))
     (λ found did long. client_found m w k p q found at
     (did.player ∙ ap (λ (v : ExchangeView). taken_from v.replies (player_of p)) read ∙ taken_is m k (player_of p) is (get_map player_of m.players k p at)) refl refl long)

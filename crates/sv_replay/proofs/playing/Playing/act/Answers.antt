@@ -4,7 +4,7 @@ use Rattle.std.proofs.lemmas.Result.{on_ok_weaker}
 use Rattle.sv_client.specs.declared.trace.Event.TheVariants as events
 use Rattle.sv_client.specs.Traces.{pending_of}
 use Rattle.sv_client.proofs.Shifts.{up_pending}
-use Rattle.sv_replay.specs.Messages.{IsNext}
+use Rattle.sv_replay.specs.Messages.{IsAfterTurn}
 use Rattle.sv_replay.specs.Machine.{player_of}
 use Rattle.sv_replay.proofs.Moving.{acts, waits_full, waits_busy, down_make, does_player, same_link, asks_ready, ready_moved, still_at}
 use Rattle.sv_replay.proofs.playing.Playing.act.Goals as goal
@@ -14,7 +14,7 @@ pub make-requires-clause-may : goal.make-requires-clause-may
 make-requires-clause-may c =
     let p = c.args.self.now in
     let few : length (pending_of (player_of p).events) < 8 = subst (λ n. n < 8) (c.pending.ensures ∙ ap length (sym (up_pending p.first p.client.events))) c.if-pending-lt-MOST_PENDING.true in
-    let after = subst IsNext (acts (player_of p) c.args.action.now c.args.rest.now few (sym c.if-is_calm.ensures)) c.requires.after in
+    let after = subst IsAfterTurn (acts (player_of p) c.args.action.now c.args.rest.now few (sym c.if-is_calm.ensures)) c.requires.after in
     down_make p.client.who p.first p.client.events c.args.action.now after.fit.proper.0
 
 pub make-requires-clause-messages : goal.make-requires-clause-messages

@@ -4,8 +4,8 @@ use Rattle.std.proofs.lemmas.Result.{on_ok_weaker}
 use Rattle.sv_client.specs.declared.trace.Event.TheVariants as events
 use Rattle.sv_client.proofs.Shifts.{up_session}
 use Rattle.law_schedule.specs.Players.{Player}
-use Rattle.sv_replay.specs.Messages.{IsNext}
-use Rattle.sv_replay.specs.Machine.{player_of, Moved}
+use Rattle.sv_replay.specs.Messages.{IsAfterTurn}
+use Rattle.sv_replay.specs.Machine.{player_of, MovedPlayer}
 use Rattle.sv_replay.proofs.Moving.{waits_last, leaves, closes, down_leave, does_player, same_link, left_is, ready_moved, closed_moved, still_at}
 use Rattle.sv_replay.proofs.playing.Playing.finish.Goals as goal
 
@@ -18,7 +18,7 @@ pub leave-requires-clause-may : goal.leave-requires-clause-may
 leave-requires-clause-may c =
     let p = c.args.self.now in
     let next = leaves (player_of p) (sym c.if-not-is_settled.ensures) (up_session p.first p.client.events ∙ sym c.if-in_session.ensures) in
-    let after = subst IsNext next c.requires.after in
+    let after = subst IsAfterTurn next c.requires.after in
     down_leave p.client.who p.first p.client.events after.fit.proper.0
 
 pub returns-then-in_session : goal.returns-then-in_session
@@ -34,5 +34,5 @@ pub returns : goal.returns
 returns c =
     let p = c.args.self.now in
     let next = closes (player_of p) (sym c.if-not-is_settled.ensures) (up_session p.first p.client.events ∙ sym c.if-in_session.ensures) in
-    subst (λ (n : Player). Moved n p (record p { closed = true }) c.args.channel.now c.close.new.self) (sym next)
+    subst (λ (n : Player). MovedPlayer n p (record p { closed = true }) c.args.channel.now c.close.new.self) (sym next)
     (closed_moved p c.args.channel.now c.close.new.self c.requires.ready c.requires.flags c.close.ensures)

@@ -2,7 +2,7 @@
 use Rattle.std.proofs.Common.{false, refl, sym, ◌∙◌, subst}
 use Rattle.std.proofs.lemmas.Result.{on_ok_weaker}
 use Rattle.sv_client.specs.declared.trace.Event.TheVariants as events
-use Rattle.sv_replay.specs.Messages.{IsNext}
+use Rattle.sv_replay.specs.Messages.{IsAfterTurn}
 use Rattle.sv_replay.specs.Machine.{player_of}
 use Rattle.sv_replay.proofs.Moving.{polls, waits_poll, down_poll, does_player, same_link, ready_moved, still_at}
 use Rattle.sv_replay.proofs.playing.Playing.poll.Goals as goal
@@ -10,7 +10,7 @@ use Rattle.sv_replay.proofs.playing.Playing.poll.Goals as goal
 pub ask-requires-clause-may : goal.ask-requires-clause-may
 ask-requires-clause-may c =
     let p = c.args.self.now in
-    let after = subst IsNext (polls (player_of p) c.args.rest.now (sym c.if-is_calm.ensures)) c.requires.after in
+    let after = subst IsAfterTurn (polls (player_of p) c.args.rest.now (sym c.if-is_calm.ensures)) c.requires.after in
     down_poll p.client.who p.first p.client.events after.fit.proper.0
 
 pub returns-then-is_calm : goal.returns-then-is_calm

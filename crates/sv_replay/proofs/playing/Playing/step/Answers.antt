@@ -5,7 +5,7 @@ use Rattle.sv_client.specs.declared.trace.Event.TheVariants as events
 use Rattle.sv_scenario.specs.declared.scenario.Step.{Step}
 use Rattle.sv_scenario.specs.declared.scenario.Step.TheVariants as steps
 use Rattle.law_schedule.specs.Players.{next_step}
-use Rattle.sv_replay.specs.Machine.{player_of, Moved}
+use Rattle.sv_replay.specs.Machine.{player_of, MovedPlayer}
 use Rattle.sv_replay.proofs.Moving.{does_player, same_link, ready_moved, sync_moved}
 use Rattle.sv_replay.proofs.playing.Playing.step.Goals as goal
 
@@ -14,7 +14,7 @@ returns-in-Sync c =
     let p = c.args.self.now in
     let rest = c.in-Some.rest.now in
     let left : p.left.now ≡ steps.Sync ∷ rest = c.in-Some.ensures.cases.0 ∙ ap (λ (s : Step). s ∷ rest) c.in-Sync.is in
-    subst (λ (ss : List Step). Moved (next_step (player_of p) ss) p c.sync.new.self c.args.channel.now c.args.channel.now) (sym left)
+    subst (λ (ss : List Step). MovedPlayer (next_step (player_of p) ss) p c.sync.new.self c.args.channel.now c.args.channel.now) (sym left)
     (sync_moved p c.sync.new.self rest c.args.channel.now c.sync.ensures.player c.sync.ensures.flags)
 
 pub returns-in-Show : goal.returns-in-Show

@@ -3,7 +3,7 @@ use Rattle.std.proofs.Common.{sym, ◌∙◌, subst}
 use Rattle.std.proofs.lemmas.Result.{on_ok_weaker}
 use Rattle.law_schedule.specs.Players.{Player}
 use Rattle.sv_replay.specs.Messages.{AsksMessages}
-use Rattle.sv_replay.specs.Machine.{player_of, Moved}
+use Rattle.sv_replay.specs.Machine.{player_of, MovedPlayer}
 use Rattle.sv_replay.proofs.Events.{up_must}
 use Rattle.sv_replay.proofs.Moving.{take_shut, take_between, take_linked, still_at}
 use Rattle.sv_replay.proofs.playing.Playing.take.Goals as goal
@@ -30,6 +30,6 @@ returns-clause-taken c =
     let p = c.args.self.now in
     let d = c.args.channel.now in
     on_ok_weaker c.take_next.result
-    (λ did. subst (λ (x : Player). Moved x p c.take_next.new.self d c.take_next.new.channel)
+    (λ did. subst (λ (x : Player). MovedPlayer x p c.take_next.new.self d c.take_next.new.channel)
     (sym (take_linked (player_of p) d.replies c.if-self.false (up_must p.first p.client.events ∙ sym c.requires.flags.between ∙ c.if-self-2.false))) did)
     c.take_next.ensures.taken

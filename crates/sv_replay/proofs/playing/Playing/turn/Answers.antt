@@ -2,8 +2,8 @@
 use Rattle.std.proofs.Common.{sym, ◌∙◌, subst}
 use Rattle.std.proofs.lemmas.Result.{on_ok_weaker}
 use Rattle.law_schedule.specs.Players.{Player}
-use Rattle.sv_replay.specs.Messages.{IsNext}
-use Rattle.sv_replay.specs.Machine.{player_of, Moved}
+use Rattle.sv_replay.specs.Messages.{IsAfterTurn}
+use Rattle.sv_replay.specs.Machine.{player_of, MovedPlayer}
 use Rattle.sv_replay.proofs.Events.{up_must, up_welcomed}
 use Rattle.sv_replay.proofs.Moving.{turn_closed, turn_waits, turn_steps, may_join, asks_join, joined_moved, still_at}
 use Rattle.sv_replay.proofs.playing.Playing.turn.Goals as goal
@@ -27,12 +27,12 @@ returns-then-self-2 c =
 pub step-requires-clause-after : goal.step-requires-clause-after
 step-requires-clause-after c =
     let p = c.args.self.now in
-    subst IsNext (turn_steps (player_of p) c.if-self.false (up_must p.first p.client.events ∙ sym c.requires.flags.between ∙ c.if-self-2.false) (up_welcomed p.first p.client.events ∙ sym c.requires.flags.welcomed ∙ c.if-self-3.true)) c.requires.after
+    subst IsAfterTurn (turn_steps (player_of p) c.if-self.false (up_must p.first p.client.events ∙ sym c.requires.flags.between ∙ c.if-self-2.false) (up_welcomed p.first p.client.events ∙ sym c.requires.flags.welcomed ∙ c.if-self-3.true)) c.requires.after
 
 pub returns-then-self-3 : goal.returns-then-self-3
 returns-then-self-3 c =
     let p = c.args.self.now in
-    on_ok_weaker c.step.result (λ h. subst (λ (n : Player). Moved n p c.step.new.self c.args.channel.now c.step.new.channel)
+    on_ok_weaker c.step.result (λ h. subst (λ (n : Player). MovedPlayer n p c.step.new.self c.args.channel.now c.step.new.channel)
     (sym (turn_steps (player_of p) c.if-self.false (up_must p.first p.client.events ∙ sym c.requires.flags.between ∙ c.if-self-2.false) (up_welcomed p.first p.client.events ∙ sym c.requires.flags.welcomed ∙ c.if-self-3.true))) h) c.step.ensures
 
 pub returns : goal.returns

@@ -8,7 +8,7 @@ use Rattle.sv_journal.specs.View.{JournalView}
 use Rattle.sv_sequencer.specs.Cores.{core_rules, Keeps}
 use Rattle.sv_sequencer.specs.Step.{SequencerView, history, entry_of}
 use Rattle.sv_witness.specs.Reports.{agreed_history}
-use Rattle.sv_witness.specs.Kept.{Stands}
+use Rattle.sv_witness.specs.Kept.{KeepsBeside}
 use Rattle.sv_witness.proofs.Stepped.{after-end, ended-agreed}
 use Rattle.sv_witness.proofs.witness.Witness.end.Goals as goal
 
@@ -32,6 +32,6 @@ invariant_of-self g c =
     (subst (λ (l : List Entry). Keeps c.end.new.self (e ∷ agreed_history l)) at c.end.ensures.keeps) in
     record {
       keeps = subst (λ (l : List Entry). Keeps c.end.new.self (agreed_history l)) (sym past) ended.keeps;
-      stands = subst (λ (l : List Entry). Stands (core_rules c.end.new.self) a.testimony.reports a.testimony.disputes.items l) (sym past) ended.stands;
+      stands = subst (λ (l : List Entry). KeepsBeside (core_rules c.end.new.self) a.testimony.reports a.testimony.disputes.items l) (sym past) ended.stands;
       room = omega (arith, c.end.ensures.owed, c.self.invariant.room, ap (λ (j : JournalView). j.spare) c.push.ensures);
     }

@@ -9,7 +9,7 @@ use Rattle.sv_sequencer.specs.Decisions.{results_in}
 use Rattle.sv_sequencer.specs.Step.{SequencerView}
 use Rattle.sv_witness.specs.Reports.{agreed_history}
 use Rattle.sv_witness.specs.declared.report.Dispute.{Dispute}
-use Rattle.sv_witness.specs.Kept.{counted_results, agreed_results, new_disputes, Stands}
+use Rattle.sv_witness.specs.Kept.{counted_results, agreed_results, new_disputes, KeepsBeside}
 use Rattle.sv_witness.specs.Witnessed.{agreed, witnessed_reply}
 use Rattle.sv_witness.proofs.KeptRows.{same-counted, same-agreed, same-disputes}
 use Rattle.sv_witness.proofs.Same.{client-agreed}
@@ -50,7 +50,7 @@ install-installed-requires g c =
     let good = subst (λ (w : SequencerView). is_bad_done w.rules (agreed_history h) s (results_in q) ≡ false) (sym c.self.view_is) c.requires.1.1.1.0 in
     let reply = subst (λ (w : SequencerView). witnessed_reply w.rules h s q ≡ noted_after agreed h s q) (sym c.self.view_is) c.requires.1.1.1.1 in
     let low = subst (λ (w : SequencerView). s < w.rules.sessions) (sym c.self.view_is) c.requires.1.0 in
-    let stands = subst (λ (ds : List Dispute). Stands (core_rules a.core) new ds h) (sym c.note_ahead-noted.ensures.disputes)
+    let stands = subst (λ (ds : List Dispute). KeepsBeside (core_rules a.core) new ds h) (sym c.note_ahead-noted.ensures.disputes)
     (same-stands (core_rules a.core) rows new a.testimony.disputes.items h same is.stands) in
     let named = sym said.client in
     let counted = said.counted ∙ ap (λ (w : QueueView). counted_results w.commit rows k c.results_of.result.now) c.queue.ensures ∙ ap (counted_results v.commit rows k) c.results_of.ensures
