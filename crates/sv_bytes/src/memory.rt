@@ -1,7 +1,11 @@
 //! Files and a sink in memory.
-ghost use Rattle.std.specs.Prelude.{◌≡◌, ℕ, ◌<◌, List, [], ◌∷◌, ◌++◌, IfOk, OnOk, OnErr};
+ghost use Rattle.std.specs.Prelude.{◌≡◌, ◌≢◌, ℕ, ◌+◌, ◌-◌, ◌^◌, ◌<◌, ◌≤◌, List, [], ◌∷◌, ◌++◌, Some, None, is_some, length, Contains, IfOk, OnOk, OnErr, ◌↔◌, ◌⊎◌, true};
 ghost use Rattle.std.specs.Option.{option_copied};
+ghost use Rattle.std.specs.Vec.{vec_len, vec_capacity};
+ghost use Rattle.sv_bytes.specs.Plans.{next_call};
+ghost use Rattle.sv_bytes.specs.Reading.{BeginsAt, is_ready, IsPiece, ReadsNext};
 ghost use Rattle.sv_bytes.specs.Stored.{contents_of};
+ghost use Rattle.sv_bytes.specs.Writing.{TakesSome, WritesFront};
 
 use super::faults::FaultCount;
 use super::plan::Plan;
@@ -23,12 +27,14 @@ pub struct MemFiles {
 }
 
 impl MemFiles {
-    ghost use Rattle.sv_bytes.specs.Memory.{files_of, failing_reads, read_step};
+    ghost use Rattle.sv_bytes.specs.Memory.{files_of, failing_reads, read_step, reads_made, file_left, files_faults, SameReads, can_give, GaveJust, KeepsRest};
 
     /// No file, and no call that fails.
     pub fn new(alloc: Global) -> MemFiles
         ensures none { files_of result ≡ [] }
         ensures calm { failing_reads result ≡ [] }
+        ensures step { read_step result ≡ 2 ^ 64 - 1 }
+        ensures calls { (reads_made result ≡ 0) × (file_left result ≡ None) × (files_faults result ≡ 0) }
     {
         MemFiles {
             alloc,
@@ -44,6 +50,7 @@ impl MemFiles {
         ensures ok { OnOk result (files_of self.new ≡ files_of self.old ++ (name.now, bytes.now) ∷ []) }
         ensures err { OnErr result (files_of self.new ≡ files_of self.old) }
         ensures plan { (failing_reads self.new ≡ failing_reads self.old) × (read_step self.new ≡ read_step self.old) }
+        ensures calls { SameReads self.old self.new }
     {
         let name = Vec::from_slice(self.alloc, name.as_bytes())?;
         let bytes = Vec::from_slice(self.alloc, bytes)?;
@@ -56,6 +63,7 @@ impl MemFiles {
         ensures ok { OnOk result (failing_reads self.new ≡ failing_reads self.old ++ call ∷ []) }
         ensures err { OnErr result (failing_reads self.new ≡ failing_reads self.old) }
         ensures rest { (files_of self.new ≡ files_of self.old) × (read_step self.new ≡ read_step self.old) }
+        ensures calls { SameReads self.old self.new }
     {
         self.plan.fail_at(call)
     }
@@ -65,8 +73,63 @@ impl MemFiles {
         requires { 0 < step }
         ensures step { read_step self.new ≡ step }
         ensures rest { (files_of self.new ≡ files_of self.old) × (failing_reads self.new ≡ failing_reads self.old) }
+        ensures calls { SameReads self.old self.new }
     {
         self.plan.step = step;
+    }
+
+    /// What `begin` does: it fails just where this call is listed, or no file has the name.
+    pub fn open(&mut self, name: &str) -> Begun
+        ensures made { reads_made self.new ≡ next_call (reads_made self.old) }
+        ensures fails { result ≡ Begun.Failed ↔ (Contains (failing_reads self.new) (reads_made self.new) ⊎ (contents_of (files_of self.old) name.now ≡ None)) }
+        ensures begins { BeginsAt (contents_of (files_of self.old) name.now) (file_left self.new) result }
+        ensures open { is_some (file_left self.new) ≡ is_ready result }
+        ensures fault { result ≡ Begun.Failed → files_faults self.new ≡ files_faults self.old + 1 }
+        ensures faultless { result ≢ Begun.Failed → files_faults self.new ≡ files_faults self.old }
+        ensures rest { (files_of self.new ≡ files_of self.old) × (failing_reads self.new ≡ failing_reads self.old) × (read_step self.new ≡ read_step self.old) }
+    {
+        self.current = None;
+        if self.plan.next_fails() {
+            self.faults.raise();
+            return Begun::Failed;
+        }
+        let Some(bytes) = find(&self.stored, name.as_bytes()) else {
+            self.faults.raise();
+            return Begun::Failed;
+        };
+        let Ok(bytes) = Vec::from_slice(self.alloc, bytes) else {
+            return Begun::Memory;
+        };
+        self.current = Some(Unread::new(bytes));
+        Begun::Ready
+    }
+
+    /// What `read` does: it fails just where this call is listed, and else gives as much as is left, fits, and the step allows.
+    pub fn give(&mut self, into: &mut [u8]) -> Read
+        requires open { is_some (file_left self.old) ≡ true }
+        requires room { 0 < length into.old }
+        ensures made { reads_made self.new ≡ next_call (reads_made self.old) }
+        ensures fails { result ≡ Read.Failed ↔ Contains (failing_reads self.new) (reads_made self.new) }
+        ensures piece { IsPiece (length into.old) result }
+        ensures just { GaveJust (can_give (file_left self.old) (length into.old) (read_step self.old)) result }
+        ensures bytes { ReadsNext (file_left self.old) (file_left self.new) into.new result }
+        ensures kept { KeepsRest into.old into.new result }
+        ensures fault { result ≡ Read.Failed → files_faults self.new ≡ files_faults self.old + 1 }
+        ensures faultless { result ≢ Read.Failed → files_faults self.new ≡ files_faults self.old }
+        ensures rest { (files_of self.new ≡ files_of self.old) × (failing_reads self.new ≡ failing_reads self.old) × (read_step self.new ≡ read_step self.old) }
+    {
+        if self.plan.next_fails() {
+            self.faults.raise();
+            return Read::Failed;
+        }
+        let step = self.plan.step;
+        let Some(unread) = &mut self.current else {
+            unreachable!()
+        };
+        match unread.read(into, step) {
+            0 => Read::Ended,
+            count => Read::Got(count),
+        }
     }
 }
 
@@ -88,35 +151,11 @@ impl Files for MemFiles {
     ghost faults = { λ s. s.faults.value };
 
     fn begin(&mut self, name: &str) -> Begun {
-        self.current = None;
-        if self.plan.next_fails() {
-            self.faults.raise();
-            return Begun::Failed;
-        }
-        let Some(bytes) = find(&self.stored, name.as_bytes()) else {
-            self.faults.raise();
-            return Begun::Failed;
-        };
-        let Ok(bytes) = Vec::from_slice(self.alloc, bytes) else {
-            return Begun::Memory;
-        };
-        self.current = Some(Unread::new(bytes));
-        Begun::Ready
+        self.open(name)
     }
 
     fn read(&mut self, into: &mut [u8]) -> Read {
-        if self.plan.next_fails() {
-            self.faults.raise();
-            return Read::Failed;
-        }
-        let step = self.plan.step;
-        let Some(unread) = &mut self.current else {
-            unreachable!()
-        };
-        match unread.read(into, step) {
-            0 => Read::Ended,
-            count => Read::Got(count),
-        }
+        self.give(into)
     }
 }
 
@@ -138,20 +177,26 @@ fn find<'a>(stored: &'a [Stored], name: &[u8]) -> Option<&'a [u8]>
 #[derive(Drop)]
 pub struct MemSink {
     bytes: Vec<u8>,
+    room: usize,
     plan: Plan,
     faults: FaultCount,
+    ghost fits: { (vec_len bytes ≤ room) × (room ≤ vec_capacity bytes) },
 }
 
 impl MemSink {
-    ghost use Rattle.sv_bytes.specs.Memory.{sink_bytes, failing_writes, write_step};
+    ghost use Rattle.sv_bytes.specs.Memory.{sink_bytes, failing_writes, write_step, sink_room, writes_made, sink_faults, SameWrites, can_take, TookJust};
 
     /// An empty sink with room for so many bytes, and no call that fails.
     pub fn with_room(alloc: Global, room: usize) -> Result<MemSink, AllocError>
         ensures empty { IfOk result (λ sink. sink_bytes sink ≡ []) }
         ensures calm { IfOk result (λ sink. failing_writes sink ≡ []) }
+        ensures room { IfOk result (λ sink. sink_room sink ≡ room) }
+        ensures step { IfOk result (λ sink. write_step sink ≡ 2 ^ 64 - 1) }
+        ensures calls { IfOk result (λ sink. (writes_made sink ≡ 0) × (sink_faults sink ≡ 0)) }
     {
         Ok(MemSink {
             bytes: Vec::with_capacity(alloc, room)?,
+            room,
             plan: Plan::new(alloc),
             faults: FaultCount::new(),
         })
@@ -169,6 +214,7 @@ impl MemSink {
         ensures ok { OnOk result (failing_writes self.new ≡ failing_writes self.old ++ call ∷ []) }
         ensures err { OnErr result (failing_writes self.new ≡ failing_writes self.old) }
         ensures rest { (sink_bytes self.new ≡ sink_bytes self.old) × (write_step self.new ≡ write_step self.old) }
+        ensures calls { SameWrites self.old self.new }
     {
         self.plan.fail_at(call)
     }
@@ -178,8 +224,31 @@ impl MemSink {
         requires { 0 < step }
         ensures step { write_step self.new ≡ step }
         ensures rest { (sink_bytes self.new ≡ sink_bytes self.old) × (failing_writes self.new ≡ failing_writes self.old) }
+        ensures calls { SameWrites self.old self.new }
     {
         self.plan.step = step;
+    }
+
+    /// What `write` does: it fails just where this call is listed or it can take no byte, and else takes as much as there is room and the
+    /// step allows.
+    pub fn take_front(&mut self, piece: &[u8]) -> Wrote
+        ensures made { writes_made self.new ≡ next_call (writes_made self.old) }
+        ensures fails { result ≡ Wrote.Failed ↔ (Contains (failing_writes self.new) (writes_made self.new) ⊎ (can_take self.old (length piece.now) ≡ 0)) }
+        ensures count { TakesSome (length piece.now) result }
+        ensures just { TookJust (can_take self.old (length piece.now)) result }
+        ensures bytes { WritesFront (Some (sink_bytes self.old)) (Some (sink_bytes self.new)) piece.now result }
+        ensures fault { result ≡ Wrote.Failed → sink_faults self.new ≡ sink_faults self.old + 1 }
+        ensures faultless { result ≢ Wrote.Failed → sink_faults self.new ≡ sink_faults self.old }
+        ensures rest { (sink_room self.new ≡ sink_room self.old) × (failing_writes self.new ≡ failing_writes self.old) × (write_step self.new ≡ write_step self.old) }
+    {
+        let room = self.room - self.bytes.len();
+        let count = piece.len().min(room).min(self.plan.step);
+        if self.plan.next_fails() || count == 0 {
+            self.faults.raise();
+            return Wrote::Failed;
+        }
+        self.bytes.extend_from_slice(&piece[..count]).unwrap();
+        Wrote::Took(count)
     }
 }
 
@@ -192,13 +261,6 @@ impl Sink for MemSink {
     ghost faults = { λ s. s.faults.value };
 
     fn write(&mut self, piece: &[u8]) -> Wrote {
-        let room = self.bytes.capacity() - self.bytes.len();
-        let count = piece.len().min(room).min(self.plan.step);
-        if self.plan.next_fails() || count == 0 {
-            self.faults.raise();
-            return Wrote::Failed;
-        }
-        self.bytes.extend_from_slice(&piece[..count]).unwrap();
-        Wrote::Took(count)
+        self.take_front(piece)
     }
 }

@@ -1,5 +1,6 @@
 //! Which calls of an object in memory fail, and how many bytes one moves.
-ghost use Rattle.std.specs.Prelude.{◌≡◌, ◌+◌, ◌<◌, [], ◌∷◌, ◌++◌, Contains, IsTrue, OnOk, OnErr, ◌↔◌, ◌^◌, min, ◌-◌};
+ghost use Rattle.std.specs.Prelude.{◌≡◌, ◌<◌, [], ◌∷◌, ◌++◌, Contains, IsTrue, OnOk, OnErr, ◌↔◌, ◌^◌, ◌-◌};
+ghost use Rattle.sv_bytes.specs.Plans.{next_call};
 
 use std::alloc::{AllocError, Global};
 
@@ -18,6 +19,8 @@ impl Plan {
     /// No call fails, and a call moves as many bytes as it can.
     pub fn new(alloc: Global) -> Plan
         ensures calm { result.failing.items ≡ [] }
+        ensures made { result.made ≡ 0 }
+        ensures step { result.step ≡ 2 ^ 64 - 1 }
     {
         Plan {
             failing: Vec::new(alloc),
@@ -39,7 +42,7 @@ impl Plan {
     /// Counts one call more, and answers whether this call fails.
     pub fn next_fails(&mut self) -> bool
         ensures fails { IsTrue result ↔ Contains self.new.failing.items self.new.made }
-        ensures made { self.new.made ≡ min (self.old.made + 1) (2 ^ 64 - 1) }
+        ensures made { self.new.made ≡ next_call self.old.made }
         ensures rest { (self.new.failing ≡ self.old.failing) × (self.new.step ≡ self.old.step) }
     {
         self.made = self.made.saturating_add(1);

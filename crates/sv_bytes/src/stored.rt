@@ -61,6 +61,7 @@ impl Unread {
     pub(crate) fn read(&mut self, into: &mut [u8], step: usize) -> usize
         ensures count { result ≡ min (min (length self.old) (length into.old)) step }
         ensures bytes { take result into.new ≡ take result self.old }
+        ensures kept { drop result into.new ≡ drop result into.old }
         ensures left { self.new ≡ drop result self.old }
     {
         let rest = &self.bytes[self.place..];
