@@ -1,11 +1,11 @@
 -- A body changes neither how many values there are nor how many numbers each has.
-use Rattle.std.proofs.Common.{◌≡◌, ℕ, zero, suc, ◌+◌, ◌<◌, Bool, true, false, List, [], ◌∷◌, length, map, get_or, set, ℤ, pos, Option, Some, None, refl, ap, sym, ◌∙◌, subst, arith, length-set}
-use Rattle.std.specs.Prelude.{All, IfSome, option_map, option_and_then, slice_set, slice_index_or}
+use Rattle.std.proofs.Common.{◌≡◌, ℕ, zero, suc, Bool, true, false, List, [], ◌∷◌, length, map, get_or, set, ℤ, Option, Some, None, refl, ap, sym, ◌∙◌, subst, arith, length-set}
+use Rattle.std.specs.Prelude.{All, IfSome, option_map, option_and_then}
 use Rattle.sv_eval.specs.Evaluation.{Slots, with_number, expr_number, cond_holds, choose, in_order, stmt_step, stmt_after, body_after}
 use Rattle.sv_world.specs.declared.action.Stmt.{Stmt, map-Stmt}
 use Rattle.sv_world.specs.declared.action.Stmt.TheOpen.{Stmt-F}
 use Rattle.sv_world.specs.declared.action.Stmt.TheViews.{roll-Stmt}
-use Rattle.sv_world.specs.declared.action.Stmt.TheFolds.{fold-Stmt, fold-roll-Stmt, ind-Stmt}
+use Rattle.sv_world.specs.declared.action.Stmt.TheFolds.{fold-roll-Stmt, ind-Stmt}
 
 -- How many numbers each value has.
 abbrev pub lengths : Slots → List ℕ

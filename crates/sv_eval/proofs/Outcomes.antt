@@ -1,12 +1,11 @@
 -- The result of an action has one value for each written object, each as long as the values that were read.
-use Rattle.std.proofs.Common.{◌≡◌, ℕ, ◌+◌, List, length, map, Option, Some, None, ◌∙◌, sym}
+use Rattle.std.proofs.Common.{◌≡◌, ℕ, List, length, Option, Some, None, ◌∙◌, sym}
 use Rattle.std.specs.Prelude.{All, IfSome}
 use Rattle.std.proofs.lemmas.List.{length-map}
 use Rattle.sv_world.specs.Sets.{at_mask, read_set, write_set}
 use Rattle.sv_world.specs.declared.action.Action.{Action}
 use Rattle.sv_world.specs.declared.world.ObjectId.{ObjectId}
 use Rattle.sv_eval.specs.Evaluation.{Slots, body_after, outcome_by, outcome_of}
-use Rattle.sv_eval.specs.declared.outcome.Outcome.{Outcome}
 use Rattle.sv_eval.proofs.Lengths.{lengths, body_keeps, same_count, same_shape}
 use Rattle.sv_eval.proofs.Masks.{at_mask_all, at_mask_lengths}
 

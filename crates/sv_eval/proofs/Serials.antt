@@ -1,14 +1,13 @@
 -- Serial worlds have as many objects as the opening world, with as many numbers each, and change only where an action writes.
-use Rattle.std.proofs.Common.{◌≡◌, ℕ, zero, suc, ◌+◌, ◌<◌, Bool, true, false, ◌||◌, nat_eq, List, [], ◌∷◌, length, map, get_or, set, ℤ, Option, Some, None, refl, sym, ap, ◌∙◌, subst, arith, length-set}
-use Rattle.std.specs.Prelude.{All, IfSome, slice_get, slice_index_or, slice_set}
+use Rattle.std.proofs.Common.{◌≡◌, ℕ, zero, suc, ◌<◌, Bool, true, false, ◌||◌, nat_eq, List, [], ◌∷◌, length, get_or, set, ℤ, Option, Some, None, refl, sym, ◌∙◌, subst, arith, length-set}
+use Rattle.std.specs.Prelude.{All, IfSome, slice_get}
 use Rattle.std.proofs.lemmas.Bool.Decides.{nat_tests}
 use Rattle.std.proofs.lemmas.Grind.{common_steps}
 use Rattle.sv_world.specs.Control.{is_in}
 use Rattle.sv_world.specs.Sets.{read_set, write_set}
 use Rattle.sv_world.specs.declared.action.Action.{Action}
 use Rattle.sv_eval.specs.Evaluation.{Slots, outcome_of}
-use Rattle.sv_eval.specs.Serial.{values_at, put_all, world_after, world_after_some, serial_world}
-use Rattle.sv_eval.specs.declared.outcome.Outcome.{Outcome}
+use Rattle.sv_eval.specs.Serial.{values_at, put_all, world_after_some, serial_world}
 use Rattle.sv_eval.proofs.Lists.{all_head, all_tail, all_cons, all_set, all_at}
 use Rattle.sv_eval.proofs.Outcomes.{outcome_shaped}
 

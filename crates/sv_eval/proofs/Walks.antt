@@ -1,23 +1,18 @@
 -- What each node makes of its parts.
-use Rattle.std.proofs.Common.{◌≡◌, ℕ, suc, ℤ, Bool, true, false, not, List, [], ◌∷◌, map, length, drop, Option, Some, None, refl, sym, ap, ◌∙◌, subst, arith}
-use Rattle.std.proofs.Math.Seq.{drop-nil}
+use Rattle.std.proofs.Common.{◌≡◌, ℕ, suc, ℤ, Bool, true, not, List, [], ◌∷◌, drop, Option, Some, None, refl, sym, ap, ◌∙◌, subst}
 use Rattle.std.specs.Prelude.{option_map, option_and_then}
 use Rattle.sv_world.specs.declared.action.Expr.{Expr}
 use Rattle.sv_world.specs.declared.action.Expr.TheVariants as expr
-use Rattle.sv_world.specs.declared.action.Cond.{Cond}
-use Rattle.sv_world.specs.declared.action.Cond.TheVariants as test
-use Rattle.sv_world.specs.declared.action.Stmt.{Stmt}
-use Rattle.sv_world.specs.declared.action.Stmt.TheVariants as stmt
 use Rattle.sv_world.specs.declared.node.Operator.{Operator}
 use Rattle.sv_world.specs.declared.node.Operator.TheVariants.{Add, Sub, Mul, Div, Rem, Min, Max}
 use Rattle.sv_world.specs.declared.node.Comparison.{Comparison}
 use Rattle.sv_world.specs.declared.node.Comparison.TheVariants.{Eq, Lt, Le}
 use Rattle.sv_world.specs.declared.node.Connective.{Connective}
 use Rattle.sv_world.specs.declared.node.Connective.TheVariants.{And, Or}
-use Rattle.sv_world.specs.Parts.{Part, Expression, Condition, Statement, Block, Bad, first, block, binary_by, compare_by, join_by, binary, comparison, connective, negated, assignment, choice, with_statement, is_expr, is_cond, is_stmt, is_block}
+use Rattle.sv_world.specs.Parts.{Part, Expression, Condition, Statement, Block, first, block, binary, comparison, connective, negated, assignment, choice, with_statement, is_stmt, is_block}
 use Rattle.sv_world.proofs.Layers.{binary_layer, compare_layer, join_layer, lit_fold, attr_fold, binary_fold, compare_fold, join_fold, not_fold, set_fold, if_fold}
 use Rattle.sv_world.proofs.Sorted.{binary_exprs, compare_exprs, join_conds, not_cond, set_expr, if_parts, more_parts, first_kind}
-use Rattle.sv_eval.specs.Evaluation.{Slots, attribute_in, with_number, both, expr_step, expr_number, cond_step, cond_holds, choose, in_order, stmt_step, stmt_after, body_after}
+use Rattle.sv_eval.specs.Evaluation.{Slots, attribute_in, with_number, both, expr_step, expr_number, cond_step, cond_holds, choose, stmt_step}
 use Rattle.sv_eval.specs.Walks.{combined, compared, connected, part_number, part_holds, part_after, block_after}
 
 both_none_is : {A B : Type 0} (give : A → A → Option B) (x : Option A) → None ≡ both give x None

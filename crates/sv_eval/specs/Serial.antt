@@ -3,7 +3,6 @@ use Rattle.std.specs.Prelude.{ℕ, zero, suc, ℤ, List, [], ◌∷◌, map, sli
 use Rattle.sv_world.specs.Sets.{read_set, write_set}
 use Rattle.sv_world.specs.declared.action.Action.{Action}
 use Rattle.sv_eval.specs.Evaluation.{outcome_of}
-use Rattle.sv_eval.specs.declared.outcome.Outcome.{Outcome}
 
 -- The values that some objects have in a world. An object beyond it has no numbers.
 abbrev pub values_at : List (List ℤ) → List ℕ → List (List ℤ)

@@ -1,5 +1,5 @@
 -- What an action's nodes make of the values that it reads.
-use Rattle.std.specs.Prelude.{ℕ, ℤ, int_lt, int_le, Bool, ◌&&◌, ◌||◌, List, Option, Some, None}
+use Rattle.std.specs.Prelude.{ℤ, int_lt, int_le, Bool, ◌&&◌, ◌||◌, Option, Some, None}
 use Rattle.std.specs.Int.{int_min, int_max}
 use Rattle.std.specs.Ordering.{int_eq}
 use Rattle.sv_world.specs.declared.node.Operator.{Operator}
@@ -8,7 +8,7 @@ use Rattle.sv_world.specs.declared.node.Comparison.{Comparison}
 use Rattle.sv_world.specs.declared.node.Comparison.TheVariants.{Eq, Lt, Le}
 use Rattle.sv_world.specs.declared.node.Connective.{Connective}
 use Rattle.sv_world.specs.declared.node.Connective.TheVariants.{And, Or}
-use Rattle.sv_world.specs.Parts.{Part, Expression, Condition, Statement, Block, Bad}
+use Rattle.sv_world.specs.Parts.{Part, Expression, Condition, Statement, Block}
 use Rattle.sv_eval.specs.Numbers.{sum_of, difference_of, product_of, quotient_of, remainder_of}
 use Rattle.sv_eval.specs.Evaluation.{Slots, expr_number, cond_holds, stmt_after, body_after}
 

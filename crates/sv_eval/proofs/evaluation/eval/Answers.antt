@@ -1,5 +1,5 @@
 -- The result has the shape and the number of the values.
-use Rattle.std.proofs.Common.{◌≡◌, ℕ, length, sym, subst}
+use Rattle.std.proofs.Common.{◌≡◌, length, sym, subst}
 use Rattle.std.specs.Prelude.{All}
 use Rattle.sv_world.specs.Sets.{write_set}
 use Rattle.sv_eval.specs.declared.outcome.Outcome.{Outcome}

@@ -1,5 +1,5 @@
 -- One more statement of a block.
-use Rattle.std.proofs.Common.{◌≡◌, ◌+◌, ◌-◌, ◌<◌, suc, drop, length, arith, refl, ◌∙◌}
+use Rattle.std.proofs.Common.{◌≡◌, ◌+◌, ◌-◌, suc, drop, arith, refl, ◌∙◌}
 use Rattle.sv_world.specs.Parts.{parts}
 use Rattle.sv_eval.proofs.Walks.{next_gives}
 use Rattle.sv_world.proofs.Sorted.{next_kind, next_behind}

@@ -1,5 +1,5 @@
 -- Each call has fewer nodes before it, and the statements that are left of a block give what all give.
-use Rattle.std.proofs.Common.{◌≡◌, ◌+◌, ◌-◌, ◌*◌, ◌<◌, true, length, drop}
+use Rattle.std.proofs.Common.{◌≡◌, ◌-◌, ◌<◌, true, length, drop}
 use Rattle.sv_world.specs.Parts.{first, parts, block, is_block}
 use Rattle.sv_eval.specs.Walks.{block_after}
 use Rattle.sv_eval.proofs.run.+statements.Given as goal
