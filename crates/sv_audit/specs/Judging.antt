@@ -1,5 +1,5 @@
 -- What was read of the two files, and how the report was judged.
-use Rattle.std.specs.Prelude.{◌≡◌, ◌⊎◌, ℕ, ◌<◌, ◌≤◌, ℤ, List, length, reverse, take, Option, Some, None, codes, Result, Ok, Err, String, string_bytes}
+use Rattle.std.specs.Prelude.{◌≡◌, ◌⊎◌, ℕ, ◌+◌, ◌<◌, ◌≤◌, ℤ, List, length, reverse, take, Option, Some, None, codes, Result, Ok, Err, String, string_bytes}
 use Rattle.std.specs.declared.alloc.Global.{Global}
 use Rattle.sv_scenario.specs.declared.scenario.Scenario.{Scenario}
 use Rattle.sv_system.specs.declared.played.Played.{Played}
@@ -20,7 +20,7 @@ report_size = 67108864
 
 -- A report is read so far and no further: one byte more than it may have.
 abbrev pub report_limit : ℕ
-report_limit = 67108865
+report_limit = report_size + 1
 
 -- The bytes that were read of the report, by what its file holds, where that is told.
 abbrev pub IsReportFront : Option (List ℕ) → List ℕ → Type 0

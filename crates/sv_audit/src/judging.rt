@@ -15,7 +15,7 @@ use sv_system::Played;
 use sv_why::why;
 
 /// The most bytes that a report may have.
-const REPORT_SIZE: usize = 67_108_864;
+pub(crate) const REPORT_SIZE: usize = 67_108_864;
 
 /// The run whose report was read.
 pub(crate) fn judged(

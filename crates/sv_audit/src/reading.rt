@@ -8,13 +8,14 @@ ghost use Rattle.sv_audit.specs.Statuses.{AreUnread, Raises, ending_of};
 ghost use Rattle.sv_audit.specs.declared.ending.AuditEnding.TheVariants as endings;
 
 use crate::ending::AuditEnding;
+use crate::judging::REPORT_SIZE;
 use crate::words::Audit;
 use std::alloc::Global;
 use sv_bytes::{FileFault, Files, read_all};
 use sv_command::{Ending, scenario_bytes};
 
 /// A report is read so far and no further: one byte more than one may have.
-const REPORT_LIMIT: usize = 67_108_865;
+const REPORT_LIMIT: usize = REPORT_SIZE + 1;
 
 /// What was read of both files.
 #[derive(Debug, Drop)]

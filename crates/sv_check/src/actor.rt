@@ -18,10 +18,10 @@ ghost use Rattle.sv_check.specs.Stopping.{IfWrong};
 
 use crate::journal::Served;
 use crate::moves::next_event;
-use crate::settled::{is_end, is_settled};
+use crate::settled::is_settled;
 use std::alloc::{AllocError, Global};
 use sv_client::{Client, Event, MakeFault, Mark, PollFault, TakeFault, Trace};
-use sv_journal::Entry;
+use sv_journal::{Entry, is_end};
 use sv_lines::{Stop, take_line};
 use sv_report::{append_after, append_before};
 use sv_scenario::Step;

@@ -1,17 +1,10 @@
 //! Whether the journal has the first requests of a session.
 ghost use Rattle.std.specs.Prelude.{◌≡◌, ◌<◌, true, false, length, reverse, get_or, slice_get, Some};
-ghost use Rattle.sv_journal.specs.Sessions.{is_end};
 ghost use Rattle.sv_check.specs.Acting.{IsSettled};
 
-use sv_journal::Entry;
+use sv_journal::{Entry, is_end};
 use sv_lines::same_request;
 use sv_wire::Request;
-
-pub(crate) fn is_end(request: &Request) -> bool
-    ensures { result ≡ is_end request.now }
-{
-    matches!(request, Request::End)
-}
 
 /// Whether a request is the next one of those asked.
 #[tactic(auto, using(crate::proofs::Settling::got_there, crate::proofs::Settling::there_got))]

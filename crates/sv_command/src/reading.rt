@@ -7,10 +7,12 @@ ghost use Rattle.sv_command.specs.Statuses.{Counts, IsGiven, IsScenarioRead, IsU
 use crate::ending::Ending;
 use std::alloc::{AllocError, Global};
 use sv_bytes::{FileFault, Files, read_all};
-use sv_scenario::{ReadFault, Scenario, ScenarioFault, append_fault_line, read_scenario};
+use sv_scenario::{
+    MOST_BYTES, ReadFault, Scenario, ScenarioFault, append_fault_line, read_scenario,
+};
 
 /// A scenario's file is read so far and no further: one byte more than a scenario may have.
-const READ_LIMIT: usize = 4_194_305;
+const READ_LIMIT: usize = MOST_BYTES + 1;
 
 /// What is read of a scenario's file.
 pub fn scenario_bytes<F: Files>(alloc: Global, file: &str, files: &mut F) -> Result<Vec<u8>, Ending>

@@ -1,4 +1,7 @@
 //! The entries of a journal.
+ghost use Rattle.std.specs.Prelude.{◌≡◌};
+ghost use Rattle.sv_journal.specs.Sessions.{is_end};
+
 use sv_wire::{Held, Request};
 use sv_world::List;
 
@@ -41,4 +44,11 @@ pub struct Entry {
     pub session: u16,
     pub request: Request,
     pub reply: Logged,
+}
+
+/// Whether a request is the End of a session.
+pub fn is_end(request: &Request) -> bool
+    ensures { result ≡ is_end request.now }
+{
+    matches!(request, Request::End)
 }

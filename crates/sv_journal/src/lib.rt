@@ -9,7 +9,7 @@ mod print;
 mod rows;
 mod text;
 
-pub use entry::{Entry, Logged};
+pub use entry::{Entry, Logged, is_end};
 pub use journal::Journal;
 pub use laws::{
     examples_are_answered, full_replies_stay, legal_actions_are_good, legal_journals_are_plain,

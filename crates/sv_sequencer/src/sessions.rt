@@ -1,12 +1,12 @@
 //! What a core keeps of each session, and what an entry makes of it.
 ghost use Rattle.std.specs.Prelude.{◌≡◌, ℕ, ◌<◌, ◌&&◌, ◌==◌, false, None, length, slice_index_or, replicate, IfOk, if◌then◌else◌};
 ghost use Rattle.sv_journal.specs.History.{either, is_welcome, joining};
-ghost use Rattle.sv_journal.specs.Sessions.{is_last, welcomes, is_end};
+ghost use Rattle.sv_journal.specs.Sessions.{is_last, welcomes};
 ghost use Rattle.sv_sequencer.specs.Rows.{no_session, session_after};
 ghost use Rattle.sv_sequencer.specs.Step.{entry_of};
 
 use std::alloc::{AllocError, Global};
-use sv_journal::Logged;
+use sv_journal::{Logged, is_end};
 use sv_wire::{Refusal, Request};
 use sv_world::MOST_REQUESTS;
 
@@ -174,14 +174,5 @@ fn joining(request: &Request) -> Option<u16>
     match request {
         Request::Join { client, .. } => Some(client.0),
         _ => None,
-    }
-}
-
-fn is_end(request: &Request) -> bool
-    ensures { result ≡ is_end request.now }
-{
-    match request {
-        Request::End => true,
-        _ => false,
     }
 }
