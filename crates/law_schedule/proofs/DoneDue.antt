@@ -19,7 +19,7 @@ use Rattle.sv_client.specs.declared.trace.Event.{Event}
 use Rattle.sv_client.specs.declared.trace.Event.TheVariants as events
 use Rattle.sv_client.specs.Traces.{submit_of, pending_of, held_of, done_for, is_session, current_session, makes, joins, asked_by_event, asked}
 use Rattle.sv_system.specs.Fits.{requests_in}
-use Rattle.sv_system.proofs.Tests.{each-append}
+use Rattle.sv_system.proofs.Every.{each-append}
 use Rattle.law_schedule.specs.Players.{Player, asked_in_run, has_closed}
 use Rattle.law_schedule.specs.Serving.{is_stop, is_stopped}
 use Rattle.law_schedule.specs.Schedule.{plainly_served, session_turn, session_turns, sessions_turned}

@@ -26,7 +26,7 @@ use Rattle.sv_script.specs.Following.{must_join}
 use Rattle.sv_script.proofs.Due.{kind-of}
 use Rattle.sv_system.specs.Fits.{requests_in, replies_in}
 use Rattle.sv_system.proofs.Entered.{as-many}
-use Rattle.sv_system.proofs.Tests.{each-append}
+use Rattle.sv_system.proofs.Every.{each-append}
 use Rattle.sv_system.specs.Laws.{NeverRefused}
 use Rattle.law_schedule.specs.Players.{Player, does, open_session, takes, takes_if, take_in, take_turn, take_turns, repeated}
 use Rattle.law_schedule.specs.Serving.{Run}

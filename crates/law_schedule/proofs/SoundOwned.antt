@@ -1,5 +1,5 @@
 -- In a sound run each session that was joined as a client is one that this client's player joined, where the server hears who joins.
-use Rattle.std.proofs.Common.{◌≡◌, ℕ, zero, suc, Bool, true, false, ◌==◌, ◌&&◌, not, inl, inr, List, [], ◌∷◌, ◌++◌, map, length, Option, Some, None, slice_get, refl, sym, ap, subst, ◌∙◌, eqb-true, eq-eqb, true≢false}
+use Rattle.std.proofs.Common.{◌≡◌, ℕ, zero, suc, Bool, true, false, ◌==◌, ◌&&◌, not, inl, inr, List, [], ◌∷◌, map, length, Option, Some, None, slice_get, refl, sym, ap, subst, ◌∙◌, eqb-true, eq-eqb, true≢false}
 use Rattle.std.specs.Prelude.{if◌then◌else◌}
 use Rattle.std.specs.List.{list_any, AllByRecursion}
 use Rattle.std.proofs.lemmas.Bool.{cases_Bool, cond-true, cond-false, and_parts, and_from, not_from_false}
@@ -22,6 +22,7 @@ use Rattle.sv_client.specs.Traces.{current_session, is_session, pending_of, held
 use Rattle.sv_scenario.specs.declared.scenario.Scenario.{Scenario}
 use Rattle.sv_scenario.specs.Limits.{IsGoodScenario}
 use Rattle.sv_system.specs.Fits.{requests_in, AreApart, AreAllApart}
+use Rattle.sv_system.proofs.Every.{each-if, each-append}
 use Rattle.law_schedule.specs.Players.{Player, trace_of_player}
 use Rattle.law_schedule.specs.Serving.{Run, Server}
 use Rattle.law_schedule.specs.Sound.{has_joined}
@@ -34,14 +35,6 @@ use Rattle.law_schedule.proofs.SoundCalls.{player-at}
 -- Where the request is a Join, it is this client's.
 abbrev JoinsAs : ℕ → Request → Type 0
 JoinsAs k request = (j : ℕ) → joining request ≡ Some j → j ≡ k
-
-where-each : {X : Type 0} (P : X → Type 0) (b : Bool) (xs : List X) → AllByRecursion P xs → AllByRecursion P (if b then xs else [])
-where-each P true xs a = a
-where-each P false xs a = tt
-
-both-each : {X : Type 0} (P : X → Type 0) (xs ys : List X) → AllByRecursion P xs → AllByRecursion P ys → AllByRecursion P (xs ++ ys)
-both-each P [] ys a b = b
-both-each P (x ∷ xs) ys a b = (a.0, both-each P xs ys a.1 b)
 
 submits-join : (k : ℕ) (ps : List PendingAction) → AllByRecursion (JoinsAs k) (map submit_of ps)
 submits-join k [] = tt
@@ -59,11 +52,11 @@ done-joins k held replies.Bye = tt
 
 event-joins : (client : ClientId) (interest : List ObjectId) (t : List Event) (e : Event) (s : ℕ) → AllByRecursion (JoinsAs client.0) (asked_by_event client interest t e s)
 event-joins client interest t (events.Join n) s =
-    where-each (JoinsAs client.0) (n == s) _ (λ j e. sym (same_Some client.0 j e), submits-join client.0 (pending_of t))
-event-joins client interest t (events.Make a) s = where-each (JoinsAs client.0) (is_session (current_session t) s) _ (λ j e. absurd (none-some j e), tt)
-event-joins client interest t events.Poll s = where-each (JoinsAs client.0) (is_session (current_session t) s) _ (λ j e. absurd (none-some j e), tt)
-event-joins client interest t events.Leave s = where-each (JoinsAs client.0) (is_session (current_session t) s) _ (λ j e. absurd (none-some j e), tt)
-event-joins client interest t (events.Got n reply) s = where-each (JoinsAs client.0) (n == s) _ (done-joins client.0 (held_of t) reply)
+    each-if (JoinsAs client.0) (n == s) _ (λ j e. sym (same_Some client.0 j e), submits-join client.0 (pending_of t))
+event-joins client interest t (events.Make a) s = each-if (JoinsAs client.0) (is_session (current_session t) s) _ (λ j e. absurd (none-some j e), tt)
+event-joins client interest t events.Poll s = each-if (JoinsAs client.0) (is_session (current_session t) s) _ (λ j e. absurd (none-some j e), tt)
+event-joins client interest t events.Leave s = each-if (JoinsAs client.0) (is_session (current_session t) s) _ (λ j e. absurd (none-some j e), tt)
+event-joins client interest t (events.Got n reply) s = each-if (JoinsAs client.0) (n == s) _ (done-joins client.0 (held_of t) reply)
 event-joins client interest t events.Cut s = tt
 event-joins client interest t events.Quit s = tt
 event-joins client interest t (events.Show os) s = tt
@@ -71,7 +64,7 @@ event-joins client interest t (events.Show os) s = tt
 trace-joins : (client : ClientId) (interest : List ObjectId) (t : List Event) (s : ℕ) → AllByRecursion (JoinsAs client.0) (asked client interest t s)
 trace-joins client interest [] s = tt
 trace-joins client interest (e ∷ t) s =
-    both-each (JoinsAs client.0) (asked client interest t s) (asked_by_event client interest t e s) (trace-joins client interest t s) (event-joins client interest t e s)
+    each-append (JoinsAs client.0) (asked client interest t s) (asked_by_event client interest t e s) (trace-joins client interest t s) (event-joins client interest t e s)
 
 end-joins : (request : Request) → is_end request ≡ true → joining request ≡ None
 end-joins (requests.Join client life interest) e = absurd (true≢false (sym e))

@@ -20,7 +20,7 @@ use Rattle.sv_journal.specs.Text.{NamesAccepted}
 use Rattle.sv_system.specs.Fronts.{IsFront}
 use Rattle.sv_system.specs.Fits.{replies_in}
 use Rattle.sv_system.proofs.Entered.{replies-one}
-use Rattle.sv_system.proofs.Tests.{each-from_is_in}
+use Rattle.sv_system.proofs.Every.{each-member}
 use Rattle.sv_system.proofs.Histories.{same, after, accepted-grows, actions-count}
 use Rattle.sv_system.proofs.Replies.{Tells, new_of, legal-tells}
 use Rattle.law_schedule.specs.Served.{RepliesNameAccepted}
@@ -57,7 +57,7 @@ names-here r e h l = go e.reply refl (legal-tells r e h l)
     go (logged.Relay seq commit head positions) is t =
         let count = length (accepted (e ∷ h)) in
         All-from_recursion (λ p. (1 ≤ p) × (p ≤ count)) positions
-        (each-from_is_in (λ p. (1 ≤ p) × (p ≤ count)) positions (λ j m.
+        (each-member (λ p. (1 ≤ p) × (p ≤ count)) positions (λ j m.
         let b = needed-bounds (actions_of h ++ new_of h e.session e.request) (commit_of h) (sent_to h e.session) t.target t.above j
         (subst (λ (ps : List ℕ). is_in j ps ≡ true) t.positions_are m) in
         (omega (arith, b.0), omega (arith, b.1, t.accepted_to, accepted-with e h (ap is_relay is)))))

@@ -1,5 +1,5 @@
 -- Turns and rounds keep what is true of a run, said by its players.
-use Rattle.std.proofs.Common.{◌≡◌, ℕ, zero, suc, ◌<◌, ◌≤◌, true, false, List, [], ◌∷◌, ◌++◌, map, drop, length, Some, slice_get, refl, sym, ap, ◌∙◌, arith, true≢false}
+use Rattle.std.proofs.Common.{◌≡◌, ℕ, zero, suc, ◌<◌, ◌≤◌, true, false, List, [], ◌∷◌, map, drop, length, Some, slice_get, refl, sym, ap, ◌∙◌, arith, true≢false}
 use Rattle.std.specs.Prelude.{if◌then◌else◌}
 use Rattle.std.specs.List.{list_any, AllByRecursion}
 use Rattle.std.proofs.lemmas.Bool.{cond_both, true_from_ne_false}
@@ -16,6 +16,7 @@ use Rattle.sv_scenario.specs.declared.scenario.Turn.TheVariants as turns
 use Rattle.sv_scenario.specs.Limits.{IsGoodScenario, IsGoodTurn}
 use Rattle.sv_scenario.specs.Sessions.{session_count}
 use Rattle.sv_system.specs.Fits.{requests_in}
+use Rattle.sv_system.proofs.Every.{each-push}
 use Rattle.law_schedule.specs.Players.{Player, player_turn, take_turn, take_turns, asked_in_run, has_closed, repeated, at_player}
 use Rattle.law_schedule.specs.Serving.{Run, Server, served, serves_next, is_stopped, session_served, all_served, sessions_served, turn_served, turns_served, after_clients, after_served, round_served}
 use Rattle.law_schedule.specs.Sound.{ArePlaying}
@@ -24,13 +25,9 @@ use Rattle.law_schedule.proofs.SoundPlayers.{IsFitting, turn-kept, take-kept, ta
 use Rattle.law_schedule.proofs.SoundEntries.{IsNextOf, entries-fit, begun_by, none-asked_in, closed-begun, stopped-begun, unused-unless_begun, drop-get}
 use Rattle.law_schedule.proofs.SoundRuns.{IsAlone, all-alone, all-own, AreKept, KeepsEach, one-kept, each-kept}
 
-all-push : {X : Type 0} (P : X → Type 0) (xs : List X) (x : X) → AllByRecursion P xs → P x → AllByRecursion P (xs ++ x ∷ [])
-all-push P [] x a p = (p, tt)
-all-push P (y ∷ xs) x a p = (a.0, all-push P xs x a.1 p)
-
 pub below-known : (n m : ℕ) → n ≤ m → AllByRecursion (λ s. s < m) (below n)
 below-known zero m l = tt
-below-known (suc n) m l = all-push (λ s. s < m) (below n) n (below-known n m (omega (arith, l))) (omega (arith, l))
+below-known (suc n) m l = each-push (λ s. s < m) (below n) n (below-known n m (omega (arith, l))) (omega (arith, l))
 
 -- What is true of a history and players.
 pub record AreStanding (server : Server) (scenario : Scenario) (h : List Entry) (ps : List Player) : Type 0 where

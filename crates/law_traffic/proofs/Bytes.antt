@@ -36,11 +36,12 @@ use Rattle.sv_system.proofs.Fronts.{front-append}
 use Rattle.sv_player.specs.Carried.{request_frames}
 use Rattle.sv_player.specs.Stops.{is_cut}
 use Rattle.sv_player.specs.Played.{replies_of}
+use Rattle.sv_system.proofs.Every.{each-left}
 use Rattle.law_traffic.specs.Sessions.{Over, transcript, IsSessionDone}
 use Rattle.law_traffic.specs.Traffic.{reply_frames, is_stop_reply, EndsWithStop, TookAll, IsTraffic}
 use Rattle.law_traffic.proofs.Ours.{mine, requests_are, replies_are, one_end, end_is_last}
 use Rattle.law_traffic.proofs.Dues.{full_over, due_is}
-use Rattle.law_traffic.proofs.Messages.{request_frames_both, front_all, AreTaken, taken, AreGot, got_first}
+use Rattle.law_traffic.proofs.Messages.{request_frames_both, AreTaken, taken, AreGot, got_first}
 
 -- ---- Outcomes
 
@@ -136,7 +137,7 @@ module _ (stay : FullRepliesStay) (name : LegalRelaysNameAccepted) (journal : Li
 
   -- each request of the journal is a message
   pub steps_messages : AllByRecursion IsRequest steps
-  steps_messages = front_all IsRequest steps (d.served.served.requests.0 ++ came.second) (subst (AllByRecursion IsRequest) (sym steps_asked) messages)
+  steps_messages = each-left IsRequest steps (d.served.served.requests.0 ++ came.second) (subst (AllByRecursion IsRequest) (sym steps_asked) messages)
 
   -- no more requests were stepped than asked
   pub steps_few : length answered ≤ length (requests_of L s)

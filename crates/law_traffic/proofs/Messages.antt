@@ -18,6 +18,7 @@ use Rattle.sv_exchange.proofs.Sizes.{request_short, reply_short, request_back, r
 use Rattle.sv_session.specs.Requests.{read_or_bad, request_for, requests_read}
 use Rattle.law_traffic.specs.Cuts.{IsCutStream}
 use Rattle.sv_player.specs.Carried.{request_frames, was_read, BeginsWithReplies}
+use Rattle.sv_system.proofs.Every.{each-left}
 use Rattle.law_traffic.specs.Traffic.{reply_frames}
 use Rattle.law_traffic.proofs.Cuts.{cut_frames_are_front_frames}
 
@@ -43,10 +44,6 @@ parted f (x ∷ all) (y ∷ front) back e =
       front_is = ap₂ (λ a l. a ∷ l) (ap (λ l. get_or l 0 y) e) rest.front_is;
       back_is = rest.back_is;
     }
-
-pub front_all : {X : Type 0} (P : X → Type 0) (xs ys : List X) → AllByRecursion P (xs ++ ys) → AllByRecursion P xs
-front_all P [] ys all = tt
-front_all P (x ∷ xs) ys all = (all.0, front_all P xs ys all.1)
 
 -- ---- Frames
 
@@ -114,7 +111,7 @@ taken asked stream messages p =
     let frames : IsPrefix stream (frames_of (map request_bytes asked)) = (p.0, p.1 ∙ request_frames_are asked) in
     let c = cut_frames_are_front_frames (map request_bytes asked) stream (requests_fit asked messages) frames in
     let part = parted request_bytes asked c.taken c.left c.are in
-    let fine = front_all IsRequest part.first part.second (subst (AllByRecursion IsRequest) part.are messages) in
+    let fine = each-left IsRequest part.first part.second (subst (AllByRecursion IsRequest) part.are messages) in
     let items : incoming_items stream ≡ map Payload (map request_bytes part.first) = items_of stream (map request_bytes asked) c ∙ ap (λ l. map Payload l) (sym part.front_is) in
     record {
       first = part.first;
@@ -158,7 +155,7 @@ got_first sent stream gots rest messages p b =
     let all : map reply_bytes sent ≡ b.payloads ++ ((split_frames rest).0 ++ c.left) =
     c.are ∙ (ap (λ (l : List (List ℕ)). l ++ c.left) came ∙ append_assoc b.payloads (split_frames rest).0 c.left) in
     let part = parted reply_bytes sent b.payloads ((split_frames rest).0 ++ c.left) all in
-    let fine = front_all IsReply part.first part.second (subst (AllByRecursion IsReply) part.are messages) in
+    let fine = each-left IsReply part.first part.second (subst (AllByRecursion IsReply) part.are messages) in
     let first : part.first ≡ gots = same_read part.first gots (sym (replies_back part.first fine) ∙ (ap (λ l. map reply_at l) part.front_is ∙ b.read)) in
     let are : sent ≡ gots ++ part.second = part.are ∙ ap (λ (l : List Reply). l ++ part.second) first in
     let whole : stream ≡ reply_frames gots ++ rest =

@@ -21,7 +21,7 @@ use Rattle.sv_system.specs.Fits.{is_join_of, has_session, is_owned, FitsIn, Fits
 use Rattle.sv_system.specs.Records.{ends_in, EachTrace, IsRecordOf}
 use Rattle.sv_system.proofs.Asked.{begun-or_not, any-reverse}
 use Rattle.sv_asked.specs.Asked.{RepliesAreMessages}
-use Rattle.sv_asked.proofs.Every.{each-append, each-reverse}
+use Rattle.sv_system.proofs.Every.{each-append, each-reverse}
 use Rattle.law_schedule.proofs.DoneCounts.{low-joined}
 use Rattle.law_traffic.specs.Sessions.{Over, IsSessionDone}
 use Rattle.law_traffic.specs.Runs.{IsRun, IsGoodRun}

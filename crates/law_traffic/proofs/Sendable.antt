@@ -10,19 +10,20 @@ use Rattle.sv_journal.specs.declared.entry.Entry.{Entry}
 use Rattle.sv_journal.specs.declared.entry.Logged.TheVariants as logged
 use Rattle.sv_journal.specs.History.{Authored, accepted, full_reply}
 use Rattle.sv_journal.specs.Sessions.{is_end}
-use Rattle.sv_journal.specs.Laws.{FullRepliesStay, LegalRelaysNameAccepted, AreWithinLimits}
+use Rattle.sv_journal.specs.Laws.{FullRepliesStay, LegalRelaysNameAccepted}
 use Rattle.sv_sequencer.specs.Step.{entry_of}
 use Rattle.sv_client.specs.declared.trace.Trace.{Trace}
 use Rattle.sv_client.specs.Proper.{Proper, identity_of}
 use Rattle.sv_scenario.specs.declared.scenario.Plan.{Plan}
 use Rattle.sv_scenario.specs.declared.scenario.Scenario.{Scenario}
-use Rattle.sv_scenario.specs.Limits.{IsGoodPlan, IsGoodScenario}
+use Rattle.sv_scenario.specs.Limits.{IsGoodPlan}
 use Rattle.sv_scenario.specs.Sessions.{session_count}
 use Rattle.sv_script.specs.Following.{Follows}
 use Rattle.sv_system.specs.Fits.{replies_in}
 use Rattle.sv_system.specs.Records.{rules_of, EachTrace}
 use Rattle.sv_asked.specs.Asked.{RepliesAreMessages}
-use Rattle.sv_asked.proofs.Every.{each-append, each-reverse}
+use Rattle.sv_system.proofs.Every.{each-append, each-reverse}
+use Rattle.sv_system.proofs.Limits.{limits_of, objects_few}
 use Rattle.law_traffic.specs.Sessions.{Over, IsSessionDone}
 use Rattle.law_traffic.specs.Runs.{EachSession, IsRun, IsGoodRun}
 use Rattle.law_traffic.proofs.Ours.{mine}
@@ -46,19 +47,6 @@ all_well_done scenario journal sessions [] (L ∷ Ls) g p f d = absurd f
 all_well_done scenario journal sessions (plan ∷ plans) [] g p f d = absurd f
 all_well_done scenario journal sessions (plan ∷ plans) (L ∷ Ls) g p f d =
     (record { good = g.0; proper = p.0; follows = f.0; done = d.0 }, all_well_done scenario journal sessions plans Ls g.1 p.1 f.1 d.1)
-
--- ---- The rules
-
-pub limits_of : (scenario : Scenario) → IsGoodScenario scenario → AreWithinLimits (rules_of scenario)
-limits_of scenario good =
-    let w = good.world in
-    record {
-      some_attrs = w.shape.some_attrs;
-      few_attrs = w.shape.few_attrs;
-      objects = w.objects;
-      attrs = w.attrs;
-      bound = good.bound;
-    }
 
 -- ---- Replies of a session
 
@@ -133,9 +121,8 @@ module _ (stay : FullRepliesStay) (name : LegalRelaysNameAccepted) (messages : R
       let few = few_entries (session_count scenario) journal under few_in in
       let same = reversed_short journal in
       let most = good.good.sessions in
-      let objects = good.good.world.shape.few_objects in
       recursion_from_All (λ (e : Entry). IsReply (full_reply (accepted (reverse journal)) e.reply)) (reverse journal)
-      (messages (rules_of scenario) (reverse journal) (limits_of scenario good.good) (omega (arith, objects)) good.opening fits (omega (arith, few, same, most)) run.legal)
+      (messages (rules_of scenario) (reverse journal) (limits_of scenario good.good) (objects_few scenario good.good) good.opening fits (omega (arith, few, same, most)) run.legal)
 
   pub sendable : (s : ℕ) → AllByRecursion IsReply (replies_in (accepted (reverse journal)) (reverse journal) s)
   sendable s = sendable_in (accepted (reverse journal)) (reverse journal) s all_sendable

@@ -29,7 +29,7 @@ use Rattle.sv_system.proofs.Fronts.{get-last}
 use Rattle.sv_system.proofs.Leaving.{leave-last}
 use Rattle.sv_system.proofs.Order.{never-refused}
 use Rattle.sv_client.specs.declared.trace.Event.TheVariants as events
-use Rattle.sv_asked.proofs.Every.{each-right}
+use Rattle.sv_system.proofs.Every.{each-right}
 use Rattle.sv_session.specs.declared.outcome.SessionOut.TheVariants as outs
 use Rattle.sv_exchange.proofs.Sizes.{reply_short, reply_back}
 use Rattle.sv_player.specs.Carried.{BeginsWithReplies}

@@ -32,6 +32,7 @@ use Rattle.sv_player.specs.Stops.{IsShut, IsBadRest, first_payload}
 use Rattle.sv_player.specs.Played.{replies_of}
 use Rattle.sv_player.specs.declared.outcome.ReplyFault.{ReplyFault}
 use Rattle.sv_player.specs.declared.outcome.ReplyFault.TheVariants as reply_faults
+use Rattle.sv_system.proofs.Limits.{limits_of}
 use Rattle.law_traffic.specs.Sessions.{Over, transcript, IsSessionDone}
 use Rattle.law_traffic.specs.Traffic.{IsTraffic}
 use Rattle.law_traffic.specs.Stuck.{IsStopped, IsTakeable}
@@ -40,7 +41,7 @@ use Rattle.law_traffic.proofs.Asking.{few_asked}
 use Rattle.law_traffic.proofs.Bytes.{all, all_are, traffic_of}
 use Rattle.law_traffic.proofs.Owners.{in_range}
 use Rattle.law_traffic.proofs.Recorded.{fits}
-use Rattle.law_traffic.proofs.Sendable.{IsWellDone, well, limits_of, sendable}
+use Rattle.law_traffic.proofs.Sendable.{IsWellDone, well, sendable}
 use Rattle.law_traffic.proofs.Stuck.{takeable, none_is_awaited}
 
 trace_at : (P : Plan → Trace → Type 0) (plans : List Plan) (Ls : List Trace) (i : ℕ) (L : Trace) → EachTrace P plans Ls → slice_get Ls i ≡ Some L → (plan : Plan) × P plan L

@@ -21,7 +21,7 @@ use Rattle.sv_journal.specs.Serving.{Keeping, reply_for, IsKeeping}
 use Rattle.sv_journal.proofs.Kept.{commit_within-kept}
 use Rattle.sv_journal.proofs.Replies.{IsDetail, each_row}
 use Rattle.sv_system.proofs.Histories.{actions-count, kept-is, kept-within}
-use Rattle.sv_asked.proofs.Every.{each-at, each-get, each-append, each-if, each-map, each-member}
+use Rattle.sv_system.proofs.Every.{each-at, each-get, each-append, each-if, each-map, each-member}
 use Rattle.sv_asked.proofs.Evaluated.{AreNumbers}
 use Rattle.sv_asked.proofs.Facts.{RequestsFit, requests-kept, accepted-short, outcomes-short, life-fits, committed-fits, chain-short, IsInPlane, plane-of, far-near}
 

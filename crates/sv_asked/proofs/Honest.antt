@@ -41,7 +41,7 @@ use Rattle.sv_system.proofs.Asked.{done-when}
 use Rattle.sv_system.proofs.Leaving.{join-asked}
 use Rattle.sv_system.proofs.Window.{submit-most}
 use Rattle.sv_asked.specs.Asked.{EventFits, HasNumbers, RequestsAreMessages, ServedRequestsFit}
-use Rattle.sv_asked.proofs.Every.{each-at, each-map, each-more, each-place, each-reverse}
+use Rattle.sv_system.proofs.Every.{each-at, each-map, each-more, each-place, each-reverse}
 use Rattle.sv_asked.proofs.Worlds.{HasFit, IsGoodValue, serial_good}
 use Rattle.sv_asked.proofs.Made.{Makes, Asks, asked-have}
 use Rattle.sv_asked.proofs.Owned.{actions-fit}

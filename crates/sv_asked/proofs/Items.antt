@@ -33,7 +33,7 @@ use Rattle.sv_system.specs.Served.{FitsButValues}
 use Rattle.sv_system.proofs.Fronts.{get-last}
 use Rattle.sv_system.proofs.Entered.{entered}
 use Rattle.sv_system.proofs.Asked.{IsPart, part-rest, proper-part, got-part, got-when, got-answers, may-answer, current-joined, any-part, any-reverse}
-use Rattle.sv_asked.proofs.Every.{each-get, each-map, each-more}
+use Rattle.sv_system.proofs.Every.{each-get, each-map, each-more}
 use Rattle.sv_asked.proofs.Owned.{entry-at}
 use Rattle.sv_asked.proofs.Reported.{IsFineItem}
 

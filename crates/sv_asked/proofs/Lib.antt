@@ -1,4 +1,3 @@
-pub mod Every
 pub mod Evaluated
 pub mod Worlds
 pub mod Made

@@ -15,7 +15,7 @@ use Rattle.sv_client.specs.declared.trace.Event.{Event}
 use Rattle.sv_client.specs.declared.trace.Event.TheVariants as events
 use Rattle.sv_client.specs.Traces.{joins, makes, current_session, is_session, held_of, with_reply, pending_of, submit_of, done_for, asked_by_event, asked}
 use Rattle.sv_system.proofs.Pendings.{Numbered, key_of, keys, without_first, settles, keys-with}
-use Rattle.sv_asked.proofs.Every.{each-append, each-if}
+use Rattle.sv_system.proofs.Every.{each-append, each-if}
 
 module _ (P : Action → Type 0) where
   -- It holds of the action that an event makes.

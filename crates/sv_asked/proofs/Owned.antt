@@ -20,7 +20,7 @@ use Rattle.sv_system.specs.Fits.{requests_in, has_session, FitsOne, is_owned, Fi
 use Rattle.sv_system.proofs.Histories.{IsEarlier, same, after, earlier-rest}
 use Rattle.sv_system.proofs.Entered.{of-from, request-there}
 use Rattle.sv_asked.specs.Asked.{EventFits}
-use Rattle.sv_asked.proofs.Every.{each-at, each-append, each-if, each-map, each-more, each-reverse}
+use Rattle.sv_system.proofs.Every.{each-at, each-append, each-if, each-map, each-more, each-reverse}
 use Rattle.sv_asked.proofs.Made.{Makes, Asks, asked-have}
 
 -- what holds of each entry holds of one of them

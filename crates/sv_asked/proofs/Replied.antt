@@ -20,7 +20,7 @@ use Rattle.sv_journal.specs.Text.{NamesAccepted}
 use Rattle.sv_journal.specs.Laws.{ServedRelaysNameAccepted, ServedActionsAreGood, ServedRepliesAreMessages}
 use Rattle.sv_journal.proofs.Plain.{plain-keeping, plain-legal}
 use Rattle.sv_asked.specs.Asked.{RepliesAreMessages, ServedRepliesFit}
-use Rattle.sv_asked.proofs.Every.{each-get, each-map, each-more}
+use Rattle.sv_system.proofs.Every.{each-get, each-map, each-more}
 use Rattle.sv_asked.proofs.Evaluated.{AreNumbers}
 use Rattle.sv_asked.proofs.Facts.{RequestsFit, accepted-short, IsAuthoredFit, blank-fits, accepted-fits, IsInPlane, plane-of}
 use Rattle.sv_asked.proofs.Answered.{LoggedFits, RepliesFit, reply-fits}

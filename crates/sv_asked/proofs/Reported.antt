@@ -24,7 +24,7 @@ use Rattle.sv_client.specs.declared.trace.Event.TheVariants as events
 use Rattle.sv_client.specs.Traces.{head_held, held_at, item_result, item_held, with_items, with_reply, held_of, results_of}
 use Rattle.sv_system.specs.Serial.{IsSerial}
 use Rattle.sv_system.proofs.Asked.{IsPart, all, then_one}
-use Rattle.sv_asked.proofs.Every.{each-left, each-right, each-more}
+use Rattle.sv_system.proofs.Every.{each-left, each-right, each-more}
 use Rattle.sv_asked.proofs.Evaluated.{mask_fits}
 use Rattle.sv_asked.proofs.Worlds.{IsGoodValue}
 

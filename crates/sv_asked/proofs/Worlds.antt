@@ -10,7 +10,7 @@ use Rattle.sv_eval.specs.Serial.{values_at, put_all, world_after_some, serial_wo
 use Rattle.sv_eval.proofs.Serials.{serial_length, serial_shaped}
 use Rattle.sv_world.specs.Ranges.{stmt_fits}
 use Rattle.sv_wire.specs.Ranges.{ValueFits}
-use Rattle.sv_asked.proofs.Every.{each-get}
+use Rattle.sv_system.proofs.Every.{each-get}
 use Rattle.sv_asked.proofs.Evaluated.{AreNumbers, all_set, outcome_fits}
 
 -- The numbers in an action's body are those of their types.

@@ -15,7 +15,6 @@ use Rattle.sv_wire.specs.Laws.{IsRequest}
 use Rattle.sv_journal.specs.declared.entry.Entry.{Entry}
 use Rattle.sv_journal.specs.Sessions.{is_end, is_ended}
 use Rattle.sv_journal.specs.Answer.{Rules}
-use Rattle.sv_journal.specs.Laws.{AreWithinLimits}
 use Rattle.sv_client.specs.declared.trace.Event.{Event}
 use Rattle.sv_client.specs.declared.trace.Event.TheVariants as events
 use Rattle.sv_client.specs.declared.trace.Trace.{Trace}
@@ -36,7 +35,8 @@ use Rattle.sv_system.proofs.Histories.{IsEarlier, same, after, earlier-rest, ear
 use Rattle.sv_system.proofs.Entered.{of-from, request-there}
 use Rattle.sv_asked.specs.Asked.{EventFits, HasNumbers, RequestsAreMessages, AcceptedAreFew}
 use Rattle.sv_asked.specs.Numbers.{StepFits, PlanFits, ScenarioFits}
-use Rattle.sv_asked.proofs.Every.{each-at, each-left, each-reverse}
+use Rattle.sv_system.proofs.Every.{each-at, each-left, each-reverse}
+use Rattle.sv_system.proofs.Limits.{limits_of, objects_few}
 use Rattle.sv_asked.proofs.Owned.{entry-at}
 use Rattle.sv_asked.proofs.Made.{Makes, Asks, asked-have}
 use Rattle.sv_lines.specs.Told.{IsTold}
@@ -183,18 +183,9 @@ module _ (scenario : Scenario) (H : List Entry) (Ls : List Trace) (good : IsGood
   abbrev shape : Shape
   shape = scenario.world.shape
 
-  limits : AreWithinLimits r
-  limits = record {
-    some_attrs = good.world.shape.some_attrs;
-    few_attrs = good.world.shape.few_attrs;
-    objects = good.world.objects;
-    attrs = good.world.attrs;
-    bound = good.bound;
-  }
-
   has_numbers : HasNumbers r H Ls
   has_numbers = record {
-    objects = omega (arith, good.world.shape.few_objects);
+    objects = objects_few scenario good;
     opening = numbers.values;
     made = All-from_recursion (λ (L : Trace). All EventFits L.events) Ls (all_made_fit order shape scenario.clients Ls w (recursion_from_All PlanFits scenario.clients numbers.plans));
     positions = (let most = few r H (session_count scenario) g.legal g.sessions in omega (arith, most, good.sessions));
@@ -207,7 +198,7 @@ module _ (scenario : Scenario) (H : List Entry) (Ls : List Trace) (good : IsGood
   request_told i L there s n q at =
       let made = made_checked (identity_of shape L) L.first (reverse L.events) (one_of i L there).proper.events in
       let checked = each-at (Asks (IsChecked shape)) (requests_of L s) n q (asked-have (IsChecked shape) L.client L.interest (reverse L.events) s made) at in
-      let all = messages r H Ls i L s limits has_numbers g.legal g.fits there in
+      let all = messages r H Ls i L s (limits_of scenario good) has_numbers g.legal g.fits there in
       asked_told shape q checked (each-at IsRequest (requests_of L s) n q (recursion_from_All IsRequest (requests_of L s) all) at)
 
   entry_told : (e : Entry) (h : List Entry) → IsEarlier (e ∷ h) H → IsTold shape e.request

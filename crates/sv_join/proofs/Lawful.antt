@@ -34,7 +34,7 @@ use Rattle.sv_script.specs.Following.{Follows}
 use Rattle.sv_system.specs.Fits.{replies_in}
 use Rattle.sv_system.specs.Records.{rules_of}
 use Rattle.sv_asked.specs.Asked.{RepliesAreMessages}
-use Rattle.sv_asked.proofs.Every.{each-append, each-right}
+use Rattle.sv_system.proofs.Every.{each-append, each-right}
 use Rattle.sv_exchange.proofs.Sizes.{reply_short, reply_back}
 use Rattle.sv_player.specs.Carried.{BeginsWithReplies}
 use Rattle.sv_player.specs.Stops.{IsBadRest, first_payload}
@@ -45,9 +45,9 @@ use Rattle.law_traffic.specs.Traffic.{reply_frames}
 use Rattle.law_traffic.proofs.Asking.{few_asked}
 use Rattle.law_traffic.proofs.Cuts.{front_none, empty_short, not_long}
 use Rattle.law_traffic.proofs.Messages.{AreGot, got_first}
-use Rattle.law_traffic.proofs.Sendable.{limits_of}
 use Rattle.sv_system.specs.Laws.{NeverRefused}
 use Rattle.sv_door.specs.Doors.{Passage}
+use Rattle.sv_system.proofs.Limits.{limits_of, objects_few}
 use Rattle.sv_join.specs.Legal.{numbered_from, IsLegalServer}
 
 -- ---- The next reply of a stream of frames
@@ -140,10 +140,9 @@ module _ (law : NeverRefused) (messages : RepliesAreMessages) (scenario : Scenar
 
   sendable : AllByRecursion IsReply all
   sendable =
-      let objects = good.world.shape.few_objects in
       sendable_in (accepted server.journal) server.journal (s + server.first)
       (recursion_from_All (λ (e : Entry). IsReply (full_reply (accepted server.journal) e.reply)) server.journal
-      (messages (rules_of scenario) server.journal (limits_of scenario good) (omega (arith, objects)) opening server.requests server.short server.legal))
+      (messages (rules_of scenario) server.journal (limits_of scenario good) (objects_few scenario good) opening server.requests server.short server.legal))
 
   g : AreGot all p.received (replies_of L s) rest
   g = got_first all p.received (replies_of L s) rest sendable (server.received s p there) begins

@@ -18,7 +18,7 @@ use Rattle.sv_scenario.specs.Sessions.{cuts_in}
 use Rattle.sv_session.specs.Serving.{MayServe}
 use Rattle.sv_player.specs.Going.{MayPlay}
 use Rattle.sv_player.specs.Sessions.{IsFresh}
-use Rattle.law_traffic.proofs.Sendable.{limits_of}
+use Rattle.sv_system.proofs.Limits.{limits_of}
 use Rattle.sv_play.specs.declared.tasks.Service.{Service}
 use Rattle.sv_play.specs.declared.tasks.Part.{Part}
 use Rattle.sv_play.specs.declared.tasks.Task.{Task}

@@ -1,15 +1,16 @@
 -- One task's out more.
-use Rattle.std.proofs.Common.{◌≡◌, ℕ, Bool, true, false, ◌||◌, List, [], ◌∷◌, ◌++◌, map, refl, sym, ap, subst, ◌∙◌, append_assoc, append-nil, true≢false, arith}
+use Rattle.std.proofs.Common.{◌≡◌, ℕ, false, ◌||◌, List, [], ◌∷◌, ◌++◌, map, refl, sym, ap, subst, ◌∙◌, append_assoc, append-nil, arith}
 use Rattle.std.specs.List.{AllByRecursion, flat_map}
 use Rattle.std.proofs.lemmas.List.{map-append}
 use Rattle.std.proofs.lemmas.List.Concat.{flat_map-append}
+use Rattle.std.proofs.lemmas.Bool.{or_parts}
 use mathlib.Core.List.{IsPrefix}
 use Rattle.sv_journal.specs.declared.entry.Entry.{Entry}
 use Rattle.sv_lock.proofs.Histories.{prefix_trans}
 use Rattle.sv_client.specs.declared.trace.Trace.{Trace}
 use Rattle.sv_session.specs.Serving.{SessionPass}
 use Rattle.sv_player.specs.declared.outcome.PlayerOut.{PlayerOut}
-use Rattle.sv_asked.proofs.Every.{each-append}
+use Rattle.sv_system.proofs.Every.{each-push}
 use Rattle.sv_play.specs.declared.tasks.Serviced.{Serviced}
 use Rattle.sv_play.specs.declared.tasks.TaskOut.{TaskOut}
 use Rattle.sv_play.specs.declared.tasks.TaskOut.TheVariants as outs
@@ -17,13 +18,6 @@ use Rattle.sv_play.specs.declared.gathering.ClientEnd.{ClientEnd}
 use Rattle.sv_play.specs.declared.gathering.Left.{Left}
 use Rattle.sv_play.specs.Tasks.{serviced_of, played_of}
 use Rattle.sv_play.specs.Left.{own_of, ends_of, is_memory, is_unplayed, Gathered, KeeperKnows, JoinedPasses}
-
-neither : (a b : Bool) → (a || b) ≡ false → (a ≡ false) × (b ≡ false)
-neither true b e = absurd (true≢false e)
-neither false b e = (refl, e)
-
-each_more : {X : Type 0} (P : X → Type 0) (xs : List X) (x : X) → AllByRecursion P xs → P x → AllByRecursion P (xs ++ x ∷ [])
-each_more P xs x all one = each-append P xs (x ∷ []) all (one, tt)
 
 module _ {E : Type 0} where
   served_more : (os : List (TaskOut E)) (y : Serviced E) → serviced_of (os ++ outs.Served y ∷ []) ≡ serviced_of os ++ y ∷ []
@@ -57,11 +51,11 @@ module _ {E : Type 0} where
         traces = traces ∙ g.traces ∙ ap (map (λ (x : PlayerOut E). x.trace)) (sym (played_same os y));
         lines = lines ∙ g.lines ∙ ap (map (λ (x : PlayerOut E). x.lines)) (sym (played_same os y));
         served = λ none.
-            let both = neither a.lacked (is_memory y.out) (sym lacked ∙ none) in
+            let both = or_parts a.lacked (is_memory y.out) (sym lacked ∙ none) in
             subst (AllByRecursion (λ (x : Serviced E). is_memory x.out ≡ false)) (sym (served_more os y))
-            (each_more (λ (x : Serviced E). is_memory x.out ≡ false) (serviced_of os) y (g.served both.0) both.1);
+            (each-push (λ (x : Serviced E). is_memory x.out ≡ false) (serviced_of os) y (g.served both.0) both.1);
         played = λ none.
-            let both = neither a.lacked (is_memory y.out) (sym lacked ∙ none) in
+            let both = or_parts a.lacked (is_memory y.out) (sym lacked ∙ none) in
             subst (AllByRecursion (λ (x : PlayerOut E). is_unplayed x.cause ≡ false)) (sym (played_same os y)) (g.played both.0);
       }
 
@@ -81,12 +75,12 @@ module _ {E : Type 0} where
             lines ∙ ap (λ l. l ++ y.lines ∷ []) g.lines
             ∙ sym (map-append (λ (x : PlayerOut E). x.lines) (played_of os) (y ∷ [])) ∙ ap (map (λ (x : PlayerOut E). x.lines)) (sym (played_more os y));
         served = λ none.
-            let both = neither a.lacked (is_unplayed y.cause) (sym lacked ∙ none) in
+            let both = or_parts a.lacked (is_unplayed y.cause) (sym lacked ∙ none) in
             subst (AllByRecursion (λ (x : Serviced E). is_memory x.out ≡ false)) (sym (served_same os y)) (g.served both.0);
         played = λ none.
-            let both = neither a.lacked (is_unplayed y.cause) (sym lacked ∙ none) in
+            let both = or_parts a.lacked (is_unplayed y.cause) (sym lacked ∙ none) in
             subst (AllByRecursion (λ (x : PlayerOut E). is_unplayed x.cause ≡ false)) (sym (played_more os y))
-            (each_more (λ (x : PlayerOut E). is_unplayed x.cause ≡ false) (played_of os) y (g.played both.0) both.1);
+            (each-push (λ (x : PlayerOut E). is_unplayed x.cause ≡ false) (played_of os) y (g.played both.0) both.1);
       }
 
   -- ---- The keeper
@@ -109,7 +103,7 @@ module _ {E : Type 0} where
         ended =
             ended ∙ ap (λ (l : List (ℕ × List Entry)). l ++ own_of y ∷ []) j.ended ∙ append_assoc k.ended (map own_of ys) (own_of y ∷ [])
             ∙ ap (λ (l : List (ℕ × List Entry)). k.ended ++ l) (sym (map-append own_of ys (y ∷ [])));
-        seen = each_more (λ (x : Serviced E). IsPrefix x.pass.seen b.seen) ys y (all_seen ys a.seen b.seen on j.seen) own;
+        seen = each-push (λ (x : Serviced E). IsPrefix x.pass.seen b.seen) ys y (all_seen ys a.seen b.seen on j.seen) own;
         knows = λ some. knows;
       }
 

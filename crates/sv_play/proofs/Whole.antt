@@ -26,7 +26,7 @@ use Rattle.sv_player.specs.Played.{SentAll, IsCause}
 use Rattle.sv_player.specs.declared.outcome.PlayerOut.{PlayerOut}
 use Rattle.sv_player.specs.declared.outcome.PlayerCause.{PlayerCause}
 use Rattle.sv_player.specs.declared.outcome.PlayerCause.TheVariants as causes
-use Rattle.sv_asked.proofs.Every.{each-at}
+use Rattle.sv_system.proofs.Every.{each-at, each-map}
 use Rattle.law_traffic.specs.Sessions.{Over, transcript, IsSessionServed, IsSessionDone}
 use Rattle.law_traffic.specs.Stuck.{IsStopped}
 use Rattle.law_traffic.specs.Runs.{EachSession, IsRun, EndOrAreStopped}
@@ -265,10 +265,6 @@ module _ {E : Type 0} (told : E → Told) (faults : E → ℕ) (calm : E → Typ
     traces_are k s (plan ∷ plans) (q ∷ qs) all =
         (all.0.trace.client_is, all.0.trace.interest, all.0.trace.first_is, traces_are (suc k) (s + sessions_of_plan plan) plans qs all.1)
 
-    all_mapped : {X Y : Type 0} (P : Y → Type 0) (f : X → Y) (xs : List X) → AllByRecursion (λ x. P (f x)) xs → AllByRecursion P (map f xs)
-    all_mapped P f [] all = tt
-    all_mapped P f (x ∷ xs) all = (all.0, all_mapped P f xs all.1)
-
     pub is_run : Legal (rules_of run.scenario) (reverse J) → AreBelow (λ (e : Entry). e.session) (session_count run.scenario) J → IsRun run.scenario J Ls overs
     is_run legal below =
         record {
@@ -277,7 +273,7 @@ module _ {E : Type 0} (told : E → Told) (faults : E → ℕ) (calm : E → Typ
           clients = traces_are 0 0 run.scenario.clients ps played;
           proper =
               All-from_recursion (Proper run.scenario.world.shape) Ls
-              (all_mapped (Proper run.scenario.world.shape) (λ (y : PlayerOut E). y.trace) ps
+              (each-map (Proper run.scenario.world.shape) (λ (y : PlayerOut E). y.trace) ps
               (each_client_all (HasPlayed told faults calm run) (λ (y : PlayerOut E). Proper run.scenario.world.shape y.trace) 0 0 run.scenario.clients ps played (λ k s plan y h. h.trace.proper)));
           follows =
               each_client_trace (HasPlayed told faults calm run) (λ plan L. Follows run.scenario.world.shape plan.steps L) (λ (y : PlayerOut E). y.trace) 0 0 run.scenario.clients ps played

@@ -28,6 +28,7 @@ use Rattle.law_schedule.proofs.SoundLaws.{turns-sound}
 use Rattle.law_schedule.proofs.SoundCalls.{IsPlayer, player-at, session-next, session-last, turn-player}
 use Rattle.sv_replay.specs.declared.playing.Playing.{Playing}
 use Rattle.sv_exchange.specs.View.{ExchangeView, new_exchange}
+use Rattle.sv_system.proofs.Every.{each-at}
 use Rattle.sv_replay.specs.Players.{session_of, IsFit, IsChannel, taken_from}
 use Rattle.sv_replay.specs.Serving.{ServerView, HadTurn, next_history, next_channel}
 use Rattle.sv_replay.specs.Playable.{IsPlayable}
@@ -101,11 +102,6 @@ all_set P [] k y p a = tt
 all_set P (x ∷ xs) zero y p a = (p, a.1)
 all_set P (x ∷ xs) (suc k) y p a = (a.0, all_set P xs k y p a.1)
 
-all_at : {X : Type 0} (P : X → Type 0) (xs : List X) (k : ℕ) (x : X) → AllByRecursion P xs → slice_get xs k ≡ Some x → P x
-all_at P [] k x a e = cc
-all_at P (y ∷ ys) zero x a e = let same : y ≡ x = cc in subst P same a.0
-all_at P (y ∷ ys) (suc k) x a e = all_at P ys k x a.1 e
-
 -- Setting what stands there changes nothing.
 pub set_same : {X : Type 0} (xs : List X) (k : ℕ) (x y : X) → slice_get xs k ≡ Some x → y ≡ x → set xs k y ≡ xs
 set_same [] k x y e s = cc
@@ -118,7 +114,7 @@ silent_unset n zero (p ∷ ps) q h = h
 silent_unset n (suc k) (p ∷ ps) q h = (h.0, silent_unset n k ps q h.1)
 
 pub flags_at : (m : Stage) → IsMachine m → (k : ℕ) (p : Playing) → slice_get m.players k ≡ Some p → AreFlags p
-flags_at m is k p at = all_at AreFlags m.players k p (recursion_from_All AreFlags m.players is.flags) at
+flags_at m is k p at = each-at AreFlags m.players k p (recursion_from_All AreFlags m.players is.flags) at
 
 -- ---- The same scenario and server
 

@@ -1,6 +1,6 @@
 -- A scenario can be run over the server that answers by the table: whatever is asked and replied in a sound run is a message, and no client refuses its
 -- next reply.
-use Rattle.std.proofs.Common.{◌≡◌, ℕ, ◌^◌, ◌≤◌, true, inl, inr, List, [], ◌∷◌, length, Some, None, slice_get, refl, subst, arith}
+use Rattle.std.proofs.Common.{◌≡◌, ℕ, true, inl, inr, List, [], ◌∷◌, length, Some, None, slice_get, refl, subst, arith}
 use Rattle.std.specs.Prelude.{All}
 use Rattle.std.specs.List.{list_any, AllByRecursion}
 use Rattle.std.proofs.lemmas.Bool.{cases_Bool}
@@ -13,7 +13,6 @@ use Rattle.sv_journal.specs.declared.entry.Entry.{Entry}
 use Rattle.sv_journal.specs.History.{accepted, full_reply}
 use Rattle.sv_journal.specs.Sessions.{is_end}
 use Rattle.sv_journal.specs.Answer.{Rules}
-use Rattle.sv_journal.specs.Laws.{AreWithinLimits}
 use Rattle.sv_client.specs.declared.trace.Event.{Event}
 use Rattle.sv_client.specs.declared.trace.Trace.{Trace}
 use Rattle.sv_client.specs.Traces.{current_session, asked, got}
@@ -27,7 +26,8 @@ use Rattle.sv_system.specs.Laws.{NeverRefused}
 use Rattle.sv_system.proofs.Histories.{IsEarlier, same, earlier-rest}
 use Rattle.sv_system.proofs.Entered.{of-from, request-there}
 use Rattle.sv_asked.specs.Asked.{EventFits, HasNumbers, RequestsAreMessages, RepliesAreMessages, AcceptedAreFew}
-use Rattle.sv_asked.proofs.Every.{each-at}
+use Rattle.sv_system.proofs.Every.{each-at}
+use Rattle.sv_system.proofs.Limits.{limits_of, objects_few}
 use Rattle.sv_asked.proofs.Owned.{entry-at, end-fits}
 use Rattle.law_schedule.specs.Players.{Player, trace_of_player}
 use Rattle.law_schedule.specs.Serving.{Run, Server, traces_of}
@@ -54,21 +54,9 @@ module _ (scenario : Scenario) (run : Run) (good : IsGoodScenario scenario) (num
   abbrev H : List Entry
   H = run.history
 
-  limits : AreWithinLimits r
-  limits = record {
-    some_attrs = good.world.shape.some_attrs;
-    few_attrs = good.world.shape.few_attrs;
-    objects = good.world.objects;
-    attrs = good.world.attrs;
-    bound = good.bound;
-  }
-
-  objects_few : scenario.world.shape.objects ≤ 2 ^ 16
-  objects_few = omega (arith, good.world.shape.few_objects)
-
   has_numbers : AcceptedAreFew → HasNumbers r H (traces_of run)
   has_numbers few = record {
-    objects = objects_few;
+    objects = objects_few scenario good;
     opening = numbers.values;
     made = All-from_recursion (λ (L : Trace). All EventFits L.events) (traces_of run)
         (players_made scenario.world.shape 0 0 scenario.clients run.players (recursion_from_All PlanFits scenario.clients numbers.plans) sound.players);
@@ -77,7 +65,7 @@ module _ (scenario : Scenario) (run : Run) (good : IsGoodScenario scenario) (num
 
   asks : RequestsAreMessages → AcceptedAreFew → (k : ℕ) (p : Player) → slice_get run.players k ≡ Some p → AsksMessages p
   asks law few k p at s =
-      let all = law r H (traces_of run) k (trace_of_player p) s limits (has_numbers few) sound.legal sound.fits (get_map trace_of_player run.players k p at) in
+      let all = law r H (traces_of run) k (trace_of_player p) s (limits_of scenario good) (has_numbers few) sound.legal sound.fits (get_map trace_of_player run.players k p at) in
       subst (λ (t : List Event). All IsRequest (asked p.who.client p.who.interest t s)) (reverse-reverse p.events) all
 
   module _ (law : RequestsAreMessages) (few : AcceptedAreFew) where
@@ -109,7 +97,7 @@ module _ (law : RequestsAreMessages) (few : AcceptedAreFew) (replied : RepliesAr
       let sound = sound-plain scenario run over in
       let short = history_few plain scenario run good over in
       let asked = All-from_recursion (λ (e : Entry). RequestFits e.request) run.history (entries_fit scenario run good numbers sound law few run.history same) in
-      replied (rules_of scenario) run.history (limits scenario run good numbers sound) (objects_few scenario run good numbers sound) numbers.values asked (omega (arith, short)) sound.legal
+      replied (rules_of scenario) run.history (limits_of scenario good) (objects_few scenario good) numbers.values asked (omega (arith, short)) sound.legal
 
   plain_taken : (run : Run) (k : ℕ) (p : Player) (s : ℕ) (reply : Reply) → IsSoundOver plain scenario run → slice_get run.players k ≡ Some p →
       current_session p.events ≡ Some s → slice_get (replies_in (accepted run.history) run.history s) (length (got p.events s)) ≡ Some reply → first_fault_of_reply p.who p.events reply ≡ None

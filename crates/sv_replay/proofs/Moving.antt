@@ -6,7 +6,7 @@ use Rattle.std.proofs.lemmas.List.{append-nil}
 use Rattle.std.proofs.lemmas.Option.{none-some}
 use Rattle.std.proofs.lemmas.List.Elements.{recursion_from_All, All-from_recursion}
 use Rattle.sv_wire.specs.Laws.{IsRequest}
-use Rattle.sv_asked.proofs.Every.{each-right}
+use Rattle.sv_system.proofs.Every.{each-right}
 use Rattle.sv_world.specs.declared.action.Action.{Action}
 use Rattle.sv_wire.specs.declared.message.Reply.{Reply}
 use Rattle.sv_wire.specs.declared.message.Request.{Request}

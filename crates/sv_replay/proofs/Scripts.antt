@@ -17,7 +17,7 @@ use Rattle.sv_scenario.specs.Sessions.{sessions_of_plan}
 use Rattle.sv_script.specs.Following.{DoesStep, FollowsTo, after_syncs, passed_syncs, event_of}
 use Rattle.sv_asked.specs.Asked.{EventFits}
 use Rattle.sv_asked.specs.Numbers.{StepFits, PlanFits}
-use Rattle.sv_asked.proofs.Every.{each-reverse}
+use Rattle.sv_system.proofs.Every.{each-reverse}
 use Rattle.law_schedule.specs.Players.{Player, trace_of_player}
 use Rattle.law_schedule.specs.Serving.{traces_of}
 use Rattle.law_schedule.specs.Sound.{IsPlaying, ArePlaying}

@@ -1,6 +1,6 @@
 -- What a session's turn by its connection makes of a server, and that a sequencer answers as a server is to.
 use Rattle.std.proofs.Common.{◌≡◌, ℕ, zero, suc, ◌+◌, Bool, true, false, ◌==◌, List, [], ◌∷◌, ◌++◌, map, drop, length, reverse, Some, None, Result, Ok, Err, refl, sym, ap, subst, ◌∙◌, arith}
-use Rattle.std.specs.Prelude.{if◌then◌else◌, IfOk}
+use Rattle.std.specs.Prelude.{IfOk}
 use Rattle.std.specs.declared.alloc.AllocError.{AllocError}
 use Rattle.std.specs.List.{AllByRecursion}
 use Rattle.std.proofs.lemmas.List.{reverse-append}
@@ -31,6 +31,7 @@ use Rattle.law_schedule.specs.Served.{RepliesNameAccepted}
 use Rattle.law_schedule.proofs.SoundReplies.{replies-grow}
 use Rattle.sv_sequencer.specs.Step.{SequencerView, history, entry_of, GrewByEntry, Answered}
 use Rattle.sv_exchange.specs.View.{ExchangeView, TakesRequest}
+use Rattle.sv_system.proofs.Every.{each-if, each-append}
 use Rattle.sv_replay.specs.Serving.{ServerView, Answers, sequencer_view, whole_reply, next_history, next_channel, with_answer, Entered, HadTurn, one_if}
 
 -- ---- What is never asked
@@ -52,20 +53,12 @@ done_asked held replies.Idle = tt
 done_asked held (replies.Refused code detail) = tt
 done_asked held replies.Bye = tt
 
-where_asked : {X : Type 0} (P : X → Type 0) (b : Bool) (xs : List X) → AllByRecursion P xs → AllByRecursion P (if b then xs else [])
-where_asked P true xs a = a
-where_asked P false xs a = tt
-
-both_asked : {X : Type 0} (P : X → Type 0) (xs ys : List X) → AllByRecursion P xs → AllByRecursion P ys → AllByRecursion P (xs ++ ys)
-both_asked P [] ys a b = b
-both_asked P (x ∷ xs) ys a b = (a.0, both_asked P xs ys a.1 b)
-
 event_asked : (client : ClientId) (interest : List ObjectId) (t : List Event) (e : Event) (s : ℕ) → AllByRecursion (λ (q : Request). is_end q ≡ false) (asked_by_event client interest t e s)
-event_asked client interest t (events.Join n) s = where_asked (λ (q : Request). is_end q ≡ false) (n == s) _ (refl, submits_asked (pending_of t))
-event_asked client interest t (events.Make a) s = where_asked (λ (q : Request). is_end q ≡ false) (is_session (current_session t) s) _ (refl, tt)
-event_asked client interest t events.Poll s = where_asked (λ (q : Request). is_end q ≡ false) (is_session (current_session t) s) _ (refl, tt)
-event_asked client interest t events.Leave s = where_asked (λ (q : Request). is_end q ≡ false) (is_session (current_session t) s) _ (refl, tt)
-event_asked client interest t (events.Got n reply) s = where_asked (λ (q : Request). is_end q ≡ false) (n == s) _ (done_asked (held_of t) reply)
+event_asked client interest t (events.Join n) s = each-if (λ (q : Request). is_end q ≡ false) (n == s) _ (refl, submits_asked (pending_of t))
+event_asked client interest t (events.Make a) s = each-if (λ (q : Request). is_end q ≡ false) (is_session (current_session t) s) _ (refl, tt)
+event_asked client interest t events.Poll s = each-if (λ (q : Request). is_end q ≡ false) (is_session (current_session t) s) _ (refl, tt)
+event_asked client interest t events.Leave s = each-if (λ (q : Request). is_end q ≡ false) (is_session (current_session t) s) _ (refl, tt)
+event_asked client interest t (events.Got n reply) s = each-if (λ (q : Request). is_end q ≡ false) (n == s) _ (done_asked (held_of t) reply)
 event_asked client interest t events.Cut s = tt
 event_asked client interest t events.Quit s = tt
 event_asked client interest t (events.Show os) s = tt
@@ -73,12 +66,12 @@ event_asked client interest t (events.Show os) s = tt
 trace_asked : (client : ClientId) (interest : List ObjectId) (t : List Event) (s : ℕ) → AllByRecursion (λ (q : Request). is_end q ≡ false) (asked client interest t s)
 trace_asked client interest [] s = tt
 trace_asked client interest (e ∷ t) s =
-    both_asked (λ (q : Request). is_end q ≡ false) (asked client interest t s) (asked_by_event client interest t e s) (trace_asked client interest t s) (event_asked client interest t e s)
+    each-append (λ (q : Request). is_end q ≡ false) (asked client interest t s) (asked_by_event client interest t e s) (trace_asked client interest t s) (event_asked client interest t e s)
 
 run_asked : (ps : List Player) (s : ℕ) → AllByRecursion (λ (q : Request). is_end q ≡ false) (asked_in_run ps s)
 run_asked [] s = tt
 run_asked (p ∷ ps) s =
-    both_asked (λ (q : Request). is_end q ≡ false) (asked p.who.client p.who.interest p.events s) (asked_in_run ps s) (trace_asked p.who.client p.who.interest p.events s) (run_asked ps s)
+    each-append (λ (q : Request). is_end q ≡ false) (asked p.who.client p.who.interest p.events s) (asked_in_run ps s) (trace_asked p.who.client p.who.interest p.events s) (run_asked ps s)
 
 dropped_asked : {X : Type 0} (P : X → Type 0) (n : ℕ) (xs : List X) (y : X) (ys : List X) → AllByRecursion P xs → drop n xs ≡ y ∷ ys → P y
 dropped_asked P zero [] y ys a e = cc

@@ -13,7 +13,7 @@ use Rattle.sv_scenario.specs.Sessions.{session_count}
 use Rattle.sv_session.specs.Serving.{SessionPass}
 use Rattle.sv_session.specs.declared.outcome.SessionOut.{SessionOut}
 use Rattle.sv_session.specs.declared.outcome.SessionOut.TheVariants as outs
-use Rattle.sv_asked.proofs.Every.{each-at, each-reverse}
+use Rattle.sv_system.proofs.Every.{each-at, each-reverse}
 use Rattle.law_traffic.specs.Runs.{IsGoodRun}
 use Rattle.sv_play.specs.declared.tasks.Service.{Service}
 use Rattle.sv_play.specs.declared.tasks.Serviced.{Serviced}

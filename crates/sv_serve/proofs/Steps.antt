@@ -1,6 +1,5 @@
 -- One session more, and giving all ends back.
-use Rattle.std.proofs.Common.{◌≡◌, ℕ, ◌+◌, ◌≤◌, Bool, true, false, ◌||◌, List, [], ◌∷◌, ◌++◌, length, reverse, refl, sym, ap, subst, ◌∙◌, arith, true≢false}
-use Rattle.std.specs.List.{AllByRecursion}
+use Rattle.std.proofs.Common.{◌≡◌, ℕ, ◌+◌, ◌≤◌, List, [], ◌∷◌, ◌++◌, length, reverse, sym, ap, subst, ◌∙◌, arith}
 use Rattle.std.proofs.lemmas.List.{length-map, reverse-reverse}
 use Rattle.sv_link.specs.Ends.{Told}
 use Rattle.sv_journal.specs.declared.entry.Entry.{Entry}
@@ -9,7 +8,6 @@ use Rattle.sv_journal.specs.Laws.{LegalRelaysNameAccepted}
 use Rattle.sv_journal.specs.Text.{RelaysNameAccepted}
 use Rattle.sv_scenario.specs.declared.scenario.Plan.{Plan}
 use Rattle.sv_scenario.specs.Sessions.{sessions_in}
-use Rattle.sv_asked.proofs.Every.{each-append}
 use Rattle.sv_play.specs.declared.tasks.Service.{Service}
 use Rattle.sv_play.specs.declared.tasks.Serviced.{Serviced}
 use Rattle.sv_door.specs.Doors.{Passage}
@@ -22,13 +20,6 @@ some_sessions (plan ∷ plans) l = omega arith
 -- A legal journal can be printed.
 pub named : LegalRelaysNameAccepted → (r : Rules) (entries : List Entry) → Legal r (reverse entries) → RelaysNameAccepted entries
 named law r entries legal = subst RelaysNameAccepted (reverse-reverse entries) (law r (reverse entries) legal)
-
-pub neither : (a b : Bool) → (a || b) ≡ false → (a ≡ false) × (b ≡ false)
-neither true b e = absurd (true≢false e)
-neither false b e = (refl, e)
-
-pub each_more : {X : Type 0} (P : X → Type 0) (xs : List X) (x : X) → AllByRecursion P xs → P x → AllByRecursion P (xs ++ x ∷ [])
-each_more P xs x all one = each-append P xs (x ∷ []) all (one, tt)
 
 module _ {E : Type 0} (told : E → Told) (faults : E → ℕ) (given0 given1 : List Passage) (made0 made1 owed0 owed1 : ℕ) where
   pub unserved_back : {G : Type 0} (xs : List (Service E G)) → given1 ≡ given0 ++ kept_unserved told faults xs → made1 ≡ made0 + length xs → owed1 ≡ owed0 →

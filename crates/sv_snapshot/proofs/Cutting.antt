@@ -30,7 +30,8 @@ use Rattle.sv_client.specs.Answers.{got_now}
 use Rattle.sv_system.specs.Serial.{IsSerial, AreSerial, is_covered, AreSupplied, IsSufficient, AreSufficient, ValuesAreSerial, RelaysAreSufficient}
 use Rattle.sv_system.proofs.Covers.{covered-found}
 use Rattle.sv_system.proofs.Serials.{serial-since}
-use Rattle.sv_system.proofs.Tests.{any-left, each-append}
+use Rattle.sv_system.proofs.Tests.{any-left}
+use Rattle.sv_system.proofs.Every.{each-append, each-left}
 use Rattle.sv_snapshot.specs.declared.snapshot.Snapshot.{Snapshot}
 use Rattle.sv_snapshot.specs.Snapshots.{is_look, last_item, read_all_below, snapshot_at, snapshot_by, snapshots_in, snapshots_of, snapshots_of_trace}
 use Rattle.sv_snapshot.specs.Cuts.{IsCut, IsShaped}
@@ -39,17 +40,13 @@ use Rattle.sv_snapshot.proofs.Readable.{readable}
 
 -- ---- Values held before others
 
-front : {X : Type 0} (P : X → Type 0) (xs ys : List X) → AllByRecursion P (xs ++ ys) → AllByRecursion P xs
-front P [] ys h = tt
-front P (x ∷ xs) ys h = (h.0, front P xs ys h.1)
-
 before_items : (P : Held → Type 0) (items : List Item) (held : List Held) → AllByRecursion P (with_items held items) → AllByRecursion P held
 before_items P [] held h = h
-before_items P (item ∷ items) held h = front P held (item_held held item) (before_items P items (held ++ item_held held item) h)
+before_items P (item ∷ items) held h = each-left P held (item_held held item) (before_items P items (held ++ item_held held item) h)
 
 before_reply : (P : Held → Type 0) (reply : Reply) (held : List Held) → AllByRecursion P (with_reply held reply) → AllByRecursion P held
-before_reply P (replies.Welcome commit head) held h = front P held (head_held commit head) h
-before_reply P (replies.Relay seq commit head items) held h = front P held (head_held commit head) (before_items P items (held ++ head_held commit head) h)
+before_reply P (replies.Welcome commit head) held h = each-left P held (head_held commit head) h
+before_reply P (replies.Relay seq commit head items) held h = each-left P held (head_held commit head) (before_items P items (held ++ head_held commit head) h)
 before_reply P (replies.Dropped seq chain far) held h = h
 before_reply P (replies.Settled seq pos) held h = h
 before_reply P (replies.Noted commit) held h = h

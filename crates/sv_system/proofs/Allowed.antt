@@ -39,7 +39,7 @@ use Rattle.sv_system.specs.Fits.{replies_in}
 use Rattle.sv_system.specs.Served.{AreSameButValues, FitsButValues}
 use Rattle.sv_system.proofs.Awaited.{Truthful}
 use Rattle.sv_system.proofs.Fronts.{front-then, get-last}
-use Rattle.sv_system.proofs.Tests.{each-append}
+use Rattle.sv_system.proofs.Every.{each-append}
 use Rattle.sv_system.specs.Journals.{IsSerialResult}
 use Rattle.sv_system.proofs.Histories.{IsEarlier, same, earlier-then, earlier-rest, earlier-served, accepted-grows}
 use Rattle.sv_system.proofs.Lawful.{legal-relay, positions-within, kept-action}

@@ -1,5 +1,5 @@
 -- What the laws of whole runs say of each client of a scenario.
-use Rattle.std.proofs.Common.{◌≡◌, ℕ, zero, suc, true, List, [], ◌∷◌, reverse, Some, All, slice_get, refl, subst}
+use Rattle.std.proofs.Common.{◌≡◌, ℕ, zero, suc, true, List, [], ◌∷◌, reverse, Some, All, slice_get, subst}
 use Rattle.std.specs.List.{AllByRecursion}
 use Rattle.std.proofs.lemmas.List.Elements.{All-from_recursion}
 use Rattle.std.proofs.lemmas.Option.{none-some, same_Some}
@@ -13,6 +13,7 @@ use Rattle.sv_script.specs.Laws.{EndsDoAllSteps}
 use Rattle.sv_system.specs.Fits.{FitsOne}
 use Rattle.sv_system.specs.Outcomes.{HasOutcomes}
 use Rattle.sv_system.specs.Records.{ScriptsAreFollowed, ScriptsAreDone}
+use Rattle.sv_system.proofs.Every.{each-place}
 
 finished-at : (shape : Shape) (plans : List Plan) (Ls : List Trace) → ScriptsAreFollowed shape plans Ls → (i : ℕ) (L : Trace) → slice_get Ls i ≡ Some L →
     is_finished (reverse L.events) ≡ true
@@ -22,15 +23,11 @@ finished-at shape (plan ∷ plans) [] d i L e = absurd d
 finished-at shape (plan ∷ plans) (M ∷ Ms) d zero L e = subst (λ (N : Trace). is_finished (reverse N.events) ≡ true) (same_Some M L e) d.0.finished
 finished-at shape (plan ∷ plans) (M ∷ Ms) d (suc i) L e = finished-at shape plans Ms d.1 i L e
 
-each-index : {X : Type 0} (P : X → Type 0) (xs : List X) → ((i : ℕ) (x : X) → slice_get xs i ≡ Some x → P x) → AllByRecursion P xs
-each-index P [] f = tt
-each-index P (x ∷ xs) f = (f 0 x refl, each-index P xs (λ i y e. f (suc i) y e))
-
 -- Each client has its outcomes, where those have them that finished.
 pub outcomes-each : (shape : Shape) (h : List Entry) (plans : List Plan) (Ls : List Trace) →
     ((i : ℕ) (L : Trace) → slice_get Ls i ≡ Some L → is_finished (reverse L.events) ≡ true → HasOutcomes h L) → ScriptsAreFollowed shape plans Ls → All (HasOutcomes h) Ls
 outcomes-each shape h plans Ls law d =
-    All-from_recursion (HasOutcomes h) Ls (each-index (HasOutcomes h) Ls (λ i L e. law i L e (finished-at shape plans Ls d i L e)))
+    All-from_recursion (HasOutcomes h) Ls (each-place (HasOutcomes h) Ls (λ i L e. law i L e (finished-at shape plans Ls d i L e)))
 
 -- Each client did all of its script.
 pub scripts-done : EndsDoAllSteps → (shape : Shape) (h : List Entry) (plans : List Plan) (Ls : List Trace) → AllByRecursion (IsGoodPlan shape) plans →

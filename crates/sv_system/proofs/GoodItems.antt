@@ -28,7 +28,8 @@ use Rattle.sv_client.specs.Taking.{Identity, is_bad_head, is_for_front, ends_wit
 use Rattle.sv_client.specs.Proper.{identity_of}
 use Rattle.sv_system.specs.Served.{FitsButValues}
 use Rattle.sv_system.proofs.Awaited.{Truthful}
-use Rattle.sv_system.proofs.Tests.{each-is_in, three-false}
+use Rattle.sv_system.proofs.Tests.{three-false}
+use Rattle.sv_system.proofs.Every.{each-is_in}
 use Rattle.sv_system.proofs.Histories.{IsEarlier, earlier-rest, earlier-served, accepted-grows}
 use Rattle.sv_system.proofs.Replies.{AnswersSubmit, AnswersKept, TellsFor, IsRelayReply, IsWelcomeReply, served-tells}
 use Rattle.sv_system.proofs.Lawful.{IsLegalRelay, legal-relay, positions-within}

@@ -1,10 +1,10 @@
 -- Histories and their earlier parts: what was accepted stays, and each kept position was accepted.
-use Rattle.std.proofs.Common.{◌≡◌, ℕ, zero, suc, ◌+◌, ◌<◌, ◌≤◌, Bool, true, false, ◌&&◌, ◌==◌, inl, inr, List, [], ◌∷◌, ◌++◌, map, length, Option, Some, None, is_some, slice_get, nat_le, sym, ap, ◌∙◌, subst, arith, append_assoc, append-nil, eqb-true, true≢false}
+use Rattle.std.proofs.Common.{◌≡◌, ℕ, zero, suc, ◌+◌, ◌<◌, ◌≤◌, Bool, true, false, ◌&&◌, ◌==◌, inl, inr, List, [], ◌∷◌, ◌++◌, map, length, Option, Some, None, is_some, nat_le, sym, ap, ◌∙◌, subst, arith, append_assoc, append-nil, eqb-true, true≢false}
 use Rattle.std.specs.Prelude.{if◌then◌else◌}
 use Rattle.std.specs.List.{AllByRecursion}
 use Rattle.std.proofs.lemmas.Bool.{cond_both, cond-true, cond-false, cases_Bool, cases_eq, and_parts}
 use Rattle.std.proofs.lemmas.List.{length-append, map-append, length-map}
-use Rattle.std.proofs.lemmas.Option.{none-some, same_Some, slice_get_within}
+use Rattle.std.proofs.lemmas.Option.{none-some, slice_get_within}
 use Rattle.sv_world.specs.Control.{action_at}
 use Rattle.sv_world.specs.declared.action.Action.{Action}
 use Rattle.sv_world.proofs.Writers.{action_at-append}
@@ -17,7 +17,7 @@ use Rattle.sv_journal.specs.History.{Authored, Outcome, Accepted, Dropped, clien
 use Rattle.sv_journal.specs.Sessions.{outcome_at, kept_count, kept_outcome}
 use Rattle.sv_journal.specs.Answer.{Rules, Legal}
 use Rattle.sv_journal.specs.Serving.{Keeping, LegalFor, with_results, IsKeeping}
-use Rattle.sv_system.proofs.Tests.{each-append}
+use Rattle.sv_system.proofs.Every.{each-append, each-at}
 
 -- A history is an earlier part of another one, or the whole.
 pub data IsEarlier (h : List Entry) : List Entry → Type 0 where
@@ -137,14 +137,9 @@ outcomes-within (e ∷ h) k =
           subst (AllByRecursion (IsWithin (length (accepted (e ∷ h))))) (sym (cond-true test more [] f)) (outcome-within h e k e.reply p.0 p.1))
     ])
 
-each-get : {X : Type 0} (P : X → Type 0) (xs : List X) (i : ℕ) (x : X) → AllByRecursion P xs → slice_get xs i ≡ Some x → P x
-each-get P [] i x h e = absurd (none-some x e)
-each-get P (y ∷ ys) zero x h e = subst P (same_Some y x e) h.0
-each-get P (y ∷ ys) (suc i) x h e = each-get P ys i x h.1 e
-
 at-within : (h : List Entry) (k seq p : ℕ) → outcome_at (outcomes_of h k) seq ≡ Some (Accepted p) → (0 < p) × (p ≤ length (accepted h))
 at-within h k zero p e = absurd (none-some (Accepted p) e)
-at-within h k (suc n) p e = each-get (IsWithin (length (accepted h))) (outcomes_of h k) n (Accepted p) (outcomes-within h k) e
+at-within h k (suc n) p e = each-at (IsWithin (length (accepted h))) (outcomes_of h k) n (Accepted p) (outcomes-within h k) e
 
 some_if : (b : Bool) (o : Option Outcome) (x : Outcome) → (if b then o else None) ≡ Some x → o ≡ Some x
 some_if true o x f = f

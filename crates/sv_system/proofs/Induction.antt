@@ -36,7 +36,7 @@ use Rattle.sv_system.specs.Serial.{AreSerial, reply_held}
 use Rattle.sv_system.specs.Delivery.{Delivery, Telling, AreLawful, tellings_to, telling_in, tellings_got}
 use Rattle.sv_system.specs.Journals.{delivery_by, deliveries_of, IsSerialResult, ResultsAreSerial}
 use Rattle.sv_system.proofs.Fronts.{front-then}
-use Rattle.sv_system.proofs.Tests.{each-append}
+use Rattle.sv_system.proofs.Every.{each-append}
 use Rattle.sv_system.proofs.Items.{IsPlain}
 use Rattle.sv_system.proofs.Taken.{plain-at, IsWell, all-well}
 use Rattle.sv_system.proofs.Histories.{IsEarlier, same, after, earlier-rest, earlier-served}

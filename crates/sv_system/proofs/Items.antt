@@ -23,7 +23,8 @@ use Rattle.sv_wire.specs.declared.message.Item.{Item}
 use Rattle.sv_journal.specs.History.{Authored, item_at}
 use Rattle.sv_client.specs.Traces.{held_at, item_result, item_held, with_items}
 use Rattle.sv_system.specs.Serial.{IsSerial, AreSerial, is_covered, IsSupplied, AreSupplied}
-use Rattle.sv_system.proofs.Tests.{any-left, any-right, each-append, each-is_in, each-from_is_in, at_mask-members, at_mask-ascending}
+use Rattle.sv_system.proofs.Tests.{any-left, any-right, at_mask-members, at_mask-ascending}
+use Rattle.sv_system.proofs.Every.{each-append, each-is_in, each-member}
 use Rattle.sv_system.proofs.Covers.{is_held, covered-held, covered-found}
 use Rattle.sv_system.proofs.Serials.{serial-step, serial-since, put-serial}
 
@@ -118,7 +119,7 @@ module _ (objects : ℕ) (opening : List (List ℤ)) (count : length opening ≡
       (outcome_of a (map (λ x. unwrap_or (read_below held x (suc n)) []) (read_set a))).writes
       (serial-step opening acts n ∙ ap (λ (vs : List (List ℤ)). put_all world (write_set a) (outcome_of a vs).writes) (sym (reads-serial held n (read_set a) serial covered)))
       (at_mask-ascending a.mask 0 (read_set a) (plain (suc n)).0)
-      (each-from_is_in (λ (x : ℕ). x < length world) (write_set a)
+      (each-member (λ (x : ℕ). x < length world) (write_set a)
       (λ x m. subst (λ (l : ℕ). x < l) (sym (serial_length opening acts n ∙ count))
       (each-is_in (λ (y : ℕ). y < objects) (read_set a) (plain (suc n)).1 x (at_mask-members a.mask 0 (read_set a) x m))))
 
@@ -170,7 +171,7 @@ module _ (objects : ℕ) (opening : List (List ℤ)) (count : length opening ≡
   items-supplied [] held asc serial waiting = (tt, serial)
   items-supplied (k ∷ ks) held asc serial waiting =
       let acts = actions_in A in
-      let covered = each-from_is_in (λ x. is_covered x (last_writer acts x k) k held ≡ true) (read_set (action_at acts k)) (first-covered held k ks asc waiting) in
+      let covered = each-member (λ x. is_covered x (last_writer acts x k) k held ≡ true) (read_set (action_at acts k)) (first-covered held k ks asc waiting) in
       let here = item-serial held k serial covered in
       let more = item_held held (item_at A k) in
       let rest = items-supplied ks (held ++ more) (ascending-tail k ks asc)

@@ -11,6 +11,7 @@ pub mod Commits
 pub mod Covers
 pub mod Dones
 pub mod Entered
+pub mod Every
 pub mod Fronts
 pub mod Full
 pub mod GoodItems
@@ -21,6 +22,7 @@ pub mod Items
 pub mod Judged
 pub mod Lawful
 pub mod Leaving
+pub mod Limits
 pub mod Made
 pub mod NeverSent
 pub mod NextReply

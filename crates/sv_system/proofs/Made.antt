@@ -15,8 +15,7 @@ use Rattle.sv_client.specs.declared.trace.Event.TheVariants as events
 use Rattle.sv_client.specs.Traces.{joins, makes, current_session, is_session, held_of, with_reply, pending_of, submit_of, asked_by_event, asked}
 use Rattle.sv_client.specs.Taking.{Identity}
 use Rattle.sv_system.proofs.Fronts.{front-append, get-last}
-use Rattle.sv_system.proofs.Tests.{each-append}
-use Rattle.sv_system.proofs.Tellings.{each-weaker}
+use Rattle.sv_system.proofs.Every.{each-append, each-more}
 use Rattle.sv_system.proofs.Asked.{get-append_cases}
 use Rattle.sv_system.proofs.Pendings.{Numbered, keys, without_first, settles, keys-with, keys-made}
 use Rattle.sv_system.proofs.Aligned.{is_submit}
@@ -90,7 +89,7 @@ module _ (who : Identity) (first : ℕ) where
       let now = events.Make action ∷ t in
       subst (AllByRecursion (IsMade now)) (sym (keys-made who first action t))
       (each-append (IsMade now) (keys (pending_of t)) ((suc (makes t), action) ∷ [])
-      (each-weaker (IsMade t) (IsMade now) (keys (pending_of t)) (λ k m. made-later (events.Make action) t k m) (pending-made t)) (made-now action t, tt))
+      (each-more (IsMade t) (IsMade now) (λ k m. made-later (events.Make action) t k m) (keys (pending_of t)) (pending-made t)) (made-now action t, tt))
   pending-made (events.Got s r ∷ t) =
       let before = pending-made t in
       let ks = keys (pending_of t) in

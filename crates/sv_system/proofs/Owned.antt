@@ -18,11 +18,7 @@ use Rattle.sv_system.specs.Served.{is_session_of, FitsBut, no_client, OwnsSessio
 use Rattle.sv_system.proofs.Histories.{IsEarlier, same, after}
 use Rattle.sv_system.proofs.Asking.{IsServed, fits-but_values}
 use Rattle.sv_system.proofs.Opened.{welcomed-by, join-of}
-
-each-at : {X : Type 0} (P : X → Type 0) (xs : List X) (i : ℕ) (x : X) → AllByRecursion P xs → slice_get xs i ≡ Some x → P x
-each-at P [] i x h e = absurd (none-some x e)
-each-at P (y ∷ ys) zero x h e = subst P (same_Some y x e) h.0
-each-at P (y ∷ ys) (suc i) x h e = each-at P ys i x h.1 e
+use Rattle.sv_system.proofs.Every.{each-at}
 
 apart-same : (Ls : List Trace) → AreAllApart Ls → (i j : ℕ) (L M : Trace) → slice_get Ls i ≡ Some L → slice_get Ls j ≡ Some M → L.client ≡ M.client → L ≡ M
 apart-same [] apart i j L M a b e = absurd (none-some L a)

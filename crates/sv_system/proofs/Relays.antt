@@ -16,7 +16,8 @@ use Rattle.sv_wire.specs.declared.message.Held.{Held as Sent}
 use Rattle.sv_client.specs.Traces.{head_held}
 use Rattle.sv_system.specs.Serial.{is_covered}
 use Rattle.sv_system.specs.Delivery.{Delivery, told_positions, head_objects, told_commits, known_at, known_values, IsRelayed}
-use Rattle.sv_system.proofs.Tests.{any-left, any-right, each-is_in}
+use Rattle.sv_system.proofs.Tests.{any-left, any-right}
+use Rattle.sv_system.proofs.Every.{each-is_in}
 use Rattle.sv_system.proofs.Covers.{is_held, covered-held}
 use Rattle.sv_system.proofs.Items.{IsPlain, AreWaiting}
 

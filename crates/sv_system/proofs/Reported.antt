@@ -13,7 +13,7 @@ use Rattle.sv_journal.specs.History.{Authored, item_at}
 use Rattle.sv_client.specs.Traces.{item_result, item_held, results_of}
 use Rattle.sv_system.specs.Serial.{IsSerial, AreSerial, is_covered}
 use Rattle.sv_system.specs.Journals.{serial_result, IsSerialResult}
-use Rattle.sv_system.proofs.Tests.{each-append, each-from_is_in}
+use Rattle.sv_system.proofs.Every.{each-append, each-member}
 use Rattle.sv_system.proofs.Items.{actions_in, item-action, IsPlain, AreWaiting, reads-serial, first-covered, rest-waiting, item-serial}
 
 module _ (objects : ℕ) (opening : List (List ℤ)) (count : length opening ≡ objects) (A : List Authored) (plain : (k : ℕ) → IsPlain objects (action_at (actions_in A) k)) where
@@ -36,7 +36,7 @@ module _ (objects : ℕ) (opening : List (List ℤ)) (count : length opening ≡
   items-reported [] held asc serial waiting = tt
   items-reported (k ∷ ks) held asc serial waiting =
       let acts = actions_in A in
-      let covered = each-from_is_in (λ x. is_covered x (last_writer acts x k) k held ≡ true) (read_set (action_at acts k)) (first-covered objects opening count A plain held k ks asc waiting) in
+      let covered = each-member (λ x. is_covered x (last_writer acts x k) k held ≡ true) (read_set (action_at acts k)) (first-covered objects opening count A plain held k ks asc waiting) in
       let here = item-serial objects opening count A plain held k serial covered in
       let more = item_held held (item_at A k) in (
         item-reported held k serial covered,

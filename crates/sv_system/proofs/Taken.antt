@@ -21,11 +21,12 @@ use Rattle.sv_system.specs.Fronts.{IsFront}
 use Rattle.sv_system.specs.Serial.{AreSerial, AreSupplied, AreSufficient}
 use Rattle.sv_system.specs.Delivery.{Delivery, Telling, AreLawful, tellings_to, telling_in, tellings_got}
 use Rattle.sv_system.proofs.Fronts.{front-then, front-append, get-last, fronts-same}
-use Rattle.sv_system.proofs.Tests.{any-left, each-append}
+use Rattle.sv_system.proofs.Tests.{any-left}
+use Rattle.sv_system.proofs.Every.{each-append, each-more}
 use Rattle.sv_system.proofs.Items.{actions_in, IsPlain, items-keep}
 use Rattle.sv_system.proofs.Relays.{Knows}
 use Rattle.sv_system.specs.Journals.{IsSerialResult}
-use Rattle.sv_system.proofs.Tellings.{IsTaken, AreTaken, with_telling, telling_of, taken-more, each-weaker, knows-taken, IsTakenWell, delivery-taken, told-at}
+use Rattle.sv_system.proofs.Tellings.{IsTaken, AreTaken, with_telling, telling_of, taken-more, knows-taken, IsTakenWell, delivery-taken, told-at}
 
 -- Each position's action has what the check promises, also where it is blank.
 pub plain-at : (shape : Shape) (A : List Authored) → All (λ (a : Authored). IsGoodAction shape a.action) A → (k : ℕ) → IsPlain shape.objects (action_at (actions_in A) k)
@@ -103,8 +104,8 @@ module _ (objects : ℕ) (opening : List (List ℤ)) (count : length opening ≡
 
   more-taken : (held : List Held) (T : Telling) → (tellings : List Telling) → AreTaken held tellings → AreTaken (with_telling held T) tellings
   more-taken held T tellings h =
-      each-weaker (IsTaken held) (IsTaken (with_telling held T)) tellings
-      (taken-more held (with_telling held T) (λ p g. items-keep p (held ++ head_held T.commit T.head) T.items (any-left p held (head_held T.commit T.head) g))) h
+      each-more (IsTaken held) (IsTaken (with_telling held T))
+      (taken-more held (with_telling held T) (λ p g. items-keep p (held ++ head_held T.commit T.head) T.items (any-left p held (head_held T.commit T.head) g))) tellings h
 
   taken-now : (s : ℕ) (r : Reply) (t : List Event) (T : Telling) → telling_in r ≡ T ∷ [] → IsWell t → IsTaken (with_telling (held_of t) T) T → (n : ℕ) →
       AreTaken (with_telling (held_of t) T) (tellings_got (events.Got s r ∷ t) n)

@@ -15,7 +15,8 @@ use Rattle.sv_client.specs.Traces.{head_held, with_items, results_of}
 use Rattle.sv_system.specs.Fronts.{IsFront}
 use Rattle.sv_system.specs.Serial.{IsSerial, AreSerial, AreSupplied}
 use Rattle.sv_system.specs.Delivery.{Delivery, Telling, told_positions, told_commits, head_objects, IsRelayed, IsLawful, AreLawful, tellings_to}
-use Rattle.sv_system.proofs.Tests.{any-right, each-append}
+use Rattle.sv_system.proofs.Tests.{any-right}
+use Rattle.sv_system.proofs.Every.{each-append, each-left, each-last, each-more}
 use Rattle.sv_system.proofs.Fronts.{front-all, front-then, front-append, get-push_cases}
 use Rattle.sv_system.proofs.Covers.{is_held}
 use Rattle.sv_system.proofs.Items.{actions_in, item-action, IsPlain, AreWaiting, items-keep, items-have, items-supplied}
@@ -38,25 +39,13 @@ with_telling held T = with_items (held ++ head_held T.commit T.head) T.items
 abbrev pub telling_of : List Authored → Delivery → Telling
 telling_of A d = record { commit = d.commit; head = d.head; items = map (item_at A) d.positions }
 
-each-front : {X : Type 0} (P : X → Type 0) (xs ys : List X) → AllByRecursion P (xs ++ ys) → AllByRecursion P xs
-each-front P [] ys h = tt
-each-front P (x ∷ xs) ys h = (h.0, each-front P xs ys h.1)
-
-each-last : {X : Type 0} (P : X → Type 0) (xs : List X) (y : X) → AllByRecursion P (xs ++ y ∷ []) → P y
-each-last P [] y h = h.0
-each-last P (x ∷ xs) y h = each-last P xs y h.1
-
-pub each-weaker : {X : Type 0} (P Q : X → Type 0) (xs : List X) → ((x : X) → P x → Q x) → AllByRecursion P xs → AllByRecursion Q xs
-each-weaker P Q [] f h = tt
-each-weaker P Q (x ∷ xs) f h = (f x h.0, each-weaker P Q xs f h.1)
-
 -- What was taken stays taken.
 pub taken-more : (held more : List Held) → ((p : Held → Bool) → list_any p held ≡ true → list_any p more ≡ true) → (T : Telling) → IsTaken held T → IsTaken more T
 taken-more held more keeps T t = (
   λ x m. keeps (λ h. h.object == x && h.pos == T.commit) (t.0 x m),
-  each-weaker (λ (item : Item). (x : ℕ) → is_in x (write_set item.action) ≡ true → is_held x item.pos held ≡ true)
-      (λ (item : Item). (x : ℕ) → is_in x (write_set item.action) ≡ true → is_held x item.pos more ≡ true) T.items
-      (λ item f x m. keeps (λ h. h.object == x && h.pos == item.pos) (f x m)) t.1,
+  each-more (λ (item : Item). (x : ℕ) → is_in x (write_set item.action) ≡ true → is_held x item.pos held ≡ true)
+      (λ (item : Item). (x : ℕ) → is_in x (write_set item.action) ≡ true → is_held x item.pos more ≡ true)
+      (λ item f x m. keeps (λ h. h.object == x && h.pos == item.pos) (f x m)) T.items t.1,
 )
 
 item-taken : (A : List Authored) (held : List Held) (ks : List ℕ) (k x : ℕ) →
@@ -82,7 +71,7 @@ module _ (A : List Authored) (held : List Held) (s : ℕ) where
             (subst (λ (l : List ℕ). is_in q l ≡ true) (cond-false test _ _ (and_left (d.session == s) (is_in x (head_objects d.head)) e)) m)
         | inl e ↦
             (let all : AreTaken held (tellings_to A ds s ++ T ∷ []) = subst (AreTaken held) (cond-true (d.session == s) _ _ e) taken in
-            let before = each-front (IsTaken held) (tellings_to A ds s) (T ∷ []) all in
+            let before = each-left (IsTaken held) (tellings_to A ds s) (T ∷ []) all in
             elim (cases_Bool test) [
               | inr f ↦ earlier before (subst (λ (l : List ℕ). is_in q l ≡ true) (cond-false test _ _ f) m)
               | inl f ↦ elim (is_in-append_cases q (told_commits ds s x) (d.commit ∷ []) (subst (λ (l : List ℕ). is_in q l ≡ true) (cond-true test _ _ f) m)) [
@@ -104,7 +93,7 @@ module _ (A : List Authored) (held : List Held) (s : ℕ) where
         | inl e ↦
             (let all : AreTaken held (tellings_to A ds s ++ T ∷ []) = subst (AreTaken held) (cond-true (d.session == s) _ _ e) taken in
             elim (is_in-append_cases q (told_positions ds s) d.positions (subst (λ (l : List ℕ). is_in q l ≡ true) (cond-true (d.session == s) _ _ e) m)) [
-              | inl n ↦ earlier (each-front (IsTaken held) (tellings_to A ds s) (T ∷ []) all) n
+              | inl n ↦ earlier (each-left (IsTaken held) (tellings_to A ds s) (T ∷ []) all) n
               | inr n ↦ item-taken A held d.positions q x (each-last (IsTaken held) (tellings_to A ds s) T all).1 n w
             ])
       ]

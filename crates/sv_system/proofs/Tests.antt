@@ -1,6 +1,6 @@
--- Tests and facts of all elements of a list, and the objects that an action writes.
-use Rattle.std.proofs.Common.{◌≡◌, ℕ, ◌+◌, Bool, true, false, ◌||◌, inl, inr, List, [], ◌∷◌, ◌++◌, refl, sym, ◌∙◌, subst, true≢false}
-use Rattle.std.specs.List.{list_any, AllByRecursion}
+-- Tests of the elements of a list, and the objects that an action writes.
+use Rattle.std.proofs.Common.{◌≡◌, ℕ, ◌+◌, Bool, true, false, ◌||◌, inl, inr, List, [], ◌∷◌, ◌++◌, refl, ◌∙◌, subst, true≢false}
+use Rattle.std.specs.List.{list_any}
 use Rattle.std.proofs.lemmas.Bool.{cond_both, or_cases, or_left, or_right}
 use Rattle.std.proofs.lemmas.List.Folds.{list_any-append}
 use Rattle.sv_world.specs.Control.{is_in}
@@ -35,23 +35,6 @@ any-left p xs ys h = list_any-append p xs ys ∙ or_left (list_any p xs) (list_a
 
 pub any-right : {X : Type 0} (p : X → Bool) (xs ys : List X) → list_any p ys ≡ true → list_any p (xs ++ ys) ≡ true
 any-right p xs ys h = list_any-append p xs ys ∙ or_right (list_any p xs) (list_any p ys) h
-
-pub each-append : {X : Type 0} (P : X → Type 0) (xs ys : List X) → AllByRecursion P xs → AllByRecursion P ys → AllByRecursion P (xs ++ ys)
-each-append P [] ys h g = g
-each-append P (x ∷ xs) ys h g = (h.0, each-append P xs ys h.1 g)
-
--- What holds of each number of a list holds of each that is in it.
-pub each-is_in : (P : ℕ → Type 0) (xs : List ℕ) → AllByRecursion P xs → (k : ℕ) → is_in k xs ≡ true → P k
-each-is_in P [] h k m = cc
-each-is_in P (x ∷ xs) h k m =
-    elim (is_in-cons_cases k x xs m) [
-      | inl e ↦ subst P (sym e) h.0
-      | inr r ↦ each-is_in P xs h.1 k r
-    ]
-
-pub each-from_is_in : (P : ℕ → Type 0) (xs : List ℕ) → ((k : ℕ) → is_in k xs ≡ true → P k) → AllByRecursion P xs
-each-from_is_in P [] f = tt
-each-from_is_in P (x ∷ xs) f = (f x (is_in-head x xs), each-from_is_in P xs (λ k m. f k (is_in-tail k x xs m)))
 
 -- ---- The elements at a mask's slots
 

@@ -26,7 +26,8 @@ use Rattle.sv_system.specs.Fits.{has_session, FitsOne, is_owned, Fits}
 use Rattle.sv_system.specs.Serial.{IsSerial, AreSerial, results_held, request_held, reply_held, entry_held, ValuesAreSerial, AreSufficient, RelaysAreSufficient}
 use Rattle.sv_system.specs.Delivery.{AreLawful}
 use Rattle.sv_system.specs.Journals.{deliveries_of, serial_result, IsSerialResult, ResultsAreSerial}
-use Rattle.sv_system.proofs.Tests.{each-append, each-is_in, each-from_is_in, at_mask-members, at_mask-ascending}
+use Rattle.sv_system.proofs.Tests.{at_mask-members, at_mask-ascending}
+use Rattle.sv_system.proofs.Every.{each-append, each-is_in, each-member}
 use Rattle.sv_system.proofs.Serials.{serial-step, put-serial}
 use Rattle.sv_system.proofs.Histories.{IsEarlier, same, earlier-rest}
 use Rattle.sv_system.proofs.Asking.{fits-but_values}
@@ -136,7 +137,7 @@ module _ (r : Rules) (H : List Entry) (Ls : List Trace) (count : length r.world.
           put-serial r.world.values acts (suc n) world (write_set a) d.values
           (serial-step r.world.values acts n ∙ ap (put_all world (write_set a)) (sym values))
           (at_mask-ascending a.mask 0 (read_set a) (plain-acts plain plain-keeping r H count legal_for (suc n)).0)
-          (each-from_is_in (λ (x : ℕ). x < length world) (write_set a)
+          (each-member (λ (x : ℕ). x < length world) (write_set a)
           (λ x m. subst (λ (l : ℕ). x < l) (sym (serial_length r.world.values acts n ∙ count))
           (each-is_in (λ (y : ℕ). y < r.world.shape.objects) (read_set a) (plain-acts plain plain-keeping r H count legal_for (suc n)).1 x (at_mask-members a.mask 0 (read_set a) x m)))))
 

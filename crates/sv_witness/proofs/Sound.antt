@@ -1,6 +1,6 @@
 -- A sound run over a witnessing server: whatever is asked and replied in it is a message, no client refuses its next reply, and what is agreed is
 -- the serial execution.
-use Rattle.std.proofs.Common.{◌≡◌, ℕ, suc, ◌-◌, ◌^◌, ◌≤◌, Bool, true, false, inl, inr, List, [], ◌∷◌, map, length, reverse, Option, Some, None, slice_get, ℤ, pos, negsuc, refl, sym, ap, subst, arith, ltb, ltb-true, filter}
+use Rattle.std.proofs.Common.{◌≡◌, ℕ, suc, ◌-◌, ◌≤◌, Bool, true, false, inl, inr, List, [], ◌∷◌, map, length, reverse, Option, Some, None, slice_get, ℤ, pos, negsuc, refl, sym, ap, subst, arith, ltb, ltb-true, filter}
 use Rattle.std.specs.Prelude.{All, int_lt, ◌+ℤ◌, if◌then◌else◌}
 use Rattle.std.specs.List.{list_any, AllByRecursion}
 use Rattle.std.proofs.lemmas.Bool.{cases_Bool, cond_both}
@@ -16,7 +16,7 @@ use Rattle.sv_journal.specs.declared.entry.Entry.{Entry}
 use Rattle.sv_journal.specs.History.{Authored, accepted, actions_of, full_reply}
 use Rattle.sv_journal.specs.Sessions.{is_end}
 use Rattle.sv_journal.specs.Answer.{Rules}
-use Rattle.sv_journal.specs.Laws.{AreWithinLimits, ServedRelaysNameAccepted}
+use Rattle.sv_journal.specs.Laws.{ServedRelaysNameAccepted}
 use Rattle.sv_client.specs.declared.trace.Event.{Event}
 use Rattle.sv_client.specs.declared.trace.Trace.{Trace}
 use Rattle.sv_client.specs.Traces.{current_session, asked, got, held_of}
@@ -34,7 +34,8 @@ use Rattle.sv_system.proofs.Induction.{whole-well}
 use Rattle.sv_system.proofs.NextReply.{served-no_fault}
 use Rattle.sv_asked.specs.Asked.{EventFits, HasNumbers, ServedRequestsFit, ServedRepliesFit}
 use Rattle.sv_asked.specs.Numbers.{ScenarioFits}
-use Rattle.sv_asked.proofs.Every.{each-at, each-map, each-more, each-reverse}
+use Rattle.sv_system.proofs.Every.{each-at, each-map, each-more, each-reverse}
+use Rattle.sv_system.proofs.Limits.{limits_of, objects_few}
 use Rattle.sv_asked.proofs.Evaluated.{IsNumber}
 use Rattle.sv_asked.proofs.Made.{Makes, Asks, asked-have}
 use Rattle.sv_asked.proofs.Owned.{entry-at, SubmitHas, submit-asked, end-submits, end-fits, event-makes, accepted-have}
@@ -186,18 +187,6 @@ module _ (scenario : Scenario) (liar : Option ℕ) (run : Run) (good : IsGoodSce
 
   -- ---- What is asked is a message
 
-  limits : AreWithinLimits r
-  limits = record {
-    some_attrs = good.world.shape.some_attrs;
-    few_attrs = good.world.shape.few_attrs;
-    objects = good.world.objects;
-    attrs = good.world.attrs;
-    bound = good.bound;
-  }
-
-  objects-few : shape.objects ≤ 2 ^ 16
-  objects-few = omega (arith, good.world.shape.few_objects)
-
   -- A player asked it, and the server heard it.
   abbrev IsOfPlayer : Entry → List Entry → Type 0
   IsOfPlayer e g = (k : ℕ) × ((p : Player) × ((slice_get run.players k ≡ Some p) × IsHeard server e g e.session (asked_by_player p e.session)))
@@ -240,7 +229,7 @@ module _ (scenario : Scenario) (liar : Option ℕ) (run : Run) (good : IsGoodSce
 
     has-numbers : (k : ℕ) (p : Player) → slice_get run.players k ≡ Some p → HasNumbers r H (trace_of_player p ∷ [])
     has-numbers k p at = record {
-      objects = objects-few;
+      objects = objects_few scenario good;
       opening = numbers.values;
       made = All-from_recursion (λ (M : Trace). All EventFits M.events) (trace_of_player p ∷ []) (made-at k p at, tt);
       positions = (let most = served-few agreed r H (session_count scenario) agreed-keeping legal sound.sessions in omega (arith, most, good.sessions));
@@ -252,7 +241,7 @@ module _ (scenario : Scenario) (liar : Option ℕ) (run : Run) (good : IsGoodSce
           let L = trace_of_player p in
           let held : AreSerial r.world.values (actions_of H) (held_of (reverse L.events)) =
           (whole-well agreed agreed-keeping r H good.world.objects legal serial L (trace-fits k p at)).serial in
-          let all = asked-fit agreed r H L s agreed-keeping limits (has-numbers k p at) actions-fit legal (trace-fits k p at) held in
+          let all = asked-fit agreed r H L s agreed-keeping (limits_of scenario good) (has-numbers k p at) actions-fit legal (trace-fits k p at) held in
           subst (λ (t : List Event). All IsRequest (asked p.who.client p.who.interest t s)) (same-events p) all
 
       -- ---- What is replied is a message
@@ -276,7 +265,7 @@ module _ (scenario : Scenario) (liar : Option ℕ) (run : Run) (good : IsGoodSce
       pub replied : ServedRepliesFit → All (λ (e : Entry). IsReply (full_reply (accepted H) e.reply)) H
       replied law =
           let short = history_few server scenario run good sound in
-          law agreed r H agreed-keeping limits objects-few numbers.values (All-from_recursion (λ (e : Entry). RequestFits e.request) H (entries-fit H same)) (omega (arith, short)) legal
+          law agreed r H agreed-keeping (limits_of scenario good) (objects_few scenario good) numbers.values (All-from_recursion (λ (e : Entry). RequestFits e.request) H (entries-fit H same)) (omega (arith, short)) legal
 
 -- ---- Runs
 

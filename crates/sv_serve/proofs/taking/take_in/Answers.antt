@@ -2,10 +2,11 @@
 use Rattle.std.proofs.Common.{◌++◌, [], ◌∷◌, sym, ap, subst, ◌∙◌, append_assoc, false, ◌≡◌, length, arith}
 use Rattle.std.specs.List.{AllByRecursion}
 use Rattle.std.proofs.lemmas.List.{map-append}
+use Rattle.std.proofs.lemmas.Bool.{or_parts}
+use Rattle.sv_system.proofs.Every.{each-push}
 use Rattle.sv_play.specs.Left.{is_memory, IsOfLock}
 use Rattle.sv_play.proofs.Taken.{joined_more}
 use Rattle.sv_serve.specs.Giving.{kept_of, kept_served, IsServedOf}
-use Rattle.sv_serve.proofs.Steps.{neither, each_more}
 use Rattle.sv_serve.proofs.taking.take_in.Goals as goal
 
 pub give_back-requires-clause-own : goal.give_back-requires-clause-own
@@ -48,6 +49,6 @@ loop-session-preserved g c =
       made = b.made ∙ i.made;
       faults = b.faults ∙ i.faults;
       lacked = λ none.
-          let both = neither c.loop-session.lacked (is_memory y.out) (sym c.lacks-lacked.ensures ∙ none) in
-          each_more (λ x. is_memory x.out ≡ false) yielded y (i.lacked both.0) both.1;
+          let both = or_parts c.loop-session.lacked (is_memory y.out) (sym c.lacks-lacked.ensures ∙ none) in
+          each-push (λ x. is_memory x.out ≡ false) yielded y (i.lacked both.0) both.1;
     }
