@@ -5,18 +5,12 @@ use Rattle.sv_journal.specs.declared.entry.Entry.{Entry}
 use Rattle.sv_journal.specs.Answer.{Rules}
 use Rattle.sv_journal.specs.History.{commit_of, committed_of}
 use Rattle.sv_client.specs.declared.trace.Trace.{Trace}
-use Rattle.sv_scenario.specs.declared.scenario.Plan.{Plan}
 use Rattle.sv_scenario.specs.declared.scenario.Scenario.{Scenario}
-use Rattle.sv_scenario.specs.Sessions.{sessions_in}
 use Rattle.sv_system.specs.Records.{rules_of}
 use Rattle.sv_play.specs.Playing.{IsThreadedRun}
 use Rattle.sv_script.specs.Telling.{told_lines}
 use Rattle.sv_app.specs.declared.playing.Threaded.{Threaded}
 use Rattle.sv_app.specs.Runs.{Moved, IsThreaded}
-
-pub some_sessions : (plans : List Plan) → 1 ≤ length plans → 1 ≤ sessions_in plans
-some_sessions [] l = absurd (omega arith)
-some_sessions (plan ∷ plans) l = omega arith
 
 module _ (scenario : Scenario) (m : Moved) (threaded : Threaded) (entries seen : List Entry) (Ls : List Trace)
     (run : IsThreadedRun scenario (reverse seen) Ls m.settled_before m.settled_now m.ran_before m.ran_now) (took : entries ≡ seen) (same : threaded.played.journal.entries ≡ entries)

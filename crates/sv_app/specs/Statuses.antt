@@ -1,8 +1,6 @@
 -- How a call of `run` ends.
 use Rattle.std.specs.Prelude.{◌≡◌, ◌≢◌, ℕ, List, Option, Some, None, codes, string_bytes}
 use Rattle.sv_scenario.specs.declared.scenario.Scenario.{Scenario}
-use Rattle.sv_play.specs.declared.outcome.PlayFault.{PlayFault}
-use Rattle.sv_play.specs.declared.outcome.PlayFault.TheVariants as faults
 use Rattle.sv_command.specs.declared.ending.Ending.{Ending}
 use Rattle.sv_command.specs.declared.ending.Ending.TheVariants as endings
 use Rattle.sv_command.specs.Reading.{IsRefused, HoldsScenario}
@@ -10,11 +8,6 @@ use Rattle.sv_app.specs.Words.{Asked, Play, Replay, Load}
 use Rattle.sv_app.specs.Runs.{IsScenarioFor}
 
 -- ---- What is asked for
-
-abbrev pub ending_of_fault : PlayFault → Ending
-ending_of_fault faults.Start = endings.Start
-ending_of_fault faults.Link = endings.Link
-ending_of_fault faults.Memory = endings.Memory
 
 -- What is not touched, before and after, and never told of: the net and the crew by a replay, the files by a load, and all three where
 -- nothing is asked for.

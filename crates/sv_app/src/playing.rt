@@ -1,7 +1,6 @@
 //! Runs on threads, and how they are told.
 ghost use Rattle.std.specs.Prelude.{◌≡◌, ◌++◌, reverse, codes, string_bytes, IfOk, Err};
 ghost use Rattle.std.specs.Fmt.{decimal};
-ghost use Rattle.sv_watch.specs.Told.{change_line};
 ghost use Rattle.sv_scenario.specs.Limits.{IsGoodScenario};
 ghost use Rattle.sv_play.specs.Playing.{PlayCause};
 ghost use Rattle.sv_play.specs.Settling.{SomeDiffer};
@@ -13,13 +12,13 @@ use std::sync::Wait;
 use std::thread::Threads;
 use sv_command::{Stage, append_lines};
 use sv_link::{Crew, Gate, Net};
-use sv_lock::SeqLock;
-use sv_play::{PlayFault, Playing, play_all};
+use sv_play::{PlayFault, Playing, lock_sequencer, play_all};
 use sv_replay::{open_sequencer, played_of};
 use sv_report::{brief, report};
-use sv_scenario::{Scenario, sessions_of};
+use sv_scenario::Scenario;
+use sv_script::told_watch;
 use sv_system::Played;
-use sv_watch::{Change, Line, Watch, told_line};
+use sv_watch::Line;
 
 /// What a run on threads leaves.
 #[derive(Debug, Drop)]
@@ -42,23 +41,10 @@ pub(crate) fn run_on_threads<N: Net, C: Crew, G: Gate + Sync, R: Threads + Wait 
     ensures calm { N.calm net.old → result ≡ Err PlayFault.Link → SomeDiffer N.E.told N.E.calm (N.made net.old) (N.made net.new) }
 {
     let alloc = stage.alloc;
-    let callback = Box::new(
-        alloc,
-        move |change: &Change| -> Result<Line, AllocError>
-            ensures { IfOk result (λ line. line ≡ change_line change.now) }
-        { told_line(alloc, change) },
-    )?;
     let shape = scenario.world.shape;
-    let watch = Watch::new(shape, callback);
+    let watch = told_watch(alloc, shape)?;
     let sequencer = open_sequencer(alloc, scenario)?;
-    let (lock, mut keeper) = match SeqLock::new(alloc, sequencer, sessions_of(scenario)) {
-        Ok(made) => made,
-        Err((refused, _)) => {
-            // A tree that is let go at the end of its scope makes a long proof.
-            drop(refused);
-            return Err(PlayFault::Memory);
-        }
-    };
+    let (lock, mut keeper) = lock_sequencer(alloc, scenario, sequencer)?;
     let Playing { traces, lines } = play_all(
         stage.rt,
         alloc,

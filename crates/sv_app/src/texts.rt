@@ -6,7 +6,7 @@ ghost use Rattle.sv_command.specs.Statuses.{Counts, counts, Raises, ending_of, s
 ghost use Rattle.sv_play.specs.Settling.{SomeDiffer};
 ghost use Rattle.sv_app.specs.Words.{Play, Replay, Load, IsSize, IsSized, asked_by, file_of};
 ghost use Rattle.sv_app.specs.Runs.{Moved, moved, IsText};
-ghost use Rattle.sv_app.specs.Statuses.{EndsEarly, LeavesAlone, ending_of_fault};
+ghost use Rattle.sv_app.specs.Statuses.{EndsEarly, LeavesAlone};
 
 use crate::playing::{form_text, load_text, run_on_threads};
 use crate::words::{Command, Form};
@@ -18,21 +18,10 @@ use sv_bytes::Files;
 use sv_command::{Ending, Stage, scenario_in};
 use sv_gen::generate;
 use sv_link::{Crew, Gate, Net};
-use sv_play::PlayFault;
+use sv_play::ending_of_fault;
 use sv_replay::run_schedule;
 use sv_report::report;
 use sv_scenario::Scenario;
-
-/// How a call ends where its run on threads failed.
-fn ending_of_fault(fault: PlayFault) -> Ending
-    ensures { result ≡ ending_of_fault fault }
-{
-    match fault {
-        PlayFault::Start => Ending::Start,
-        PlayFault::Link => Ending::Link,
-        PlayFault::Memory => Ending::Memory,
-    }
-}
 
 /// Leaves a scenario and what its run kept to the system, which takes them back when the program ends. On one thread, to free them piece by
 /// piece takes up to a sixth of a load's time.

@@ -18,7 +18,7 @@ use Rattle.sv_play.specs.Left.{own_of, KeeperKnows, JoinedPasses, IsServiced}
 use Rattle.sv_play.specs.Playing.{TookAllIn}
 use Rattle.sv_play.proofs.Whole.{numbers_are, in_range, number_of}
 
-some_sessions : (plans : List Plan) → 1 ≤ length plans → 0 < sessions_in plans
+pub some_sessions : (plans : List Plan) → 1 ≤ length plans → 0 < sessions_in plans
 some_sessions [] l = absurd (omega (arith, l))
 some_sessions (plan ∷ plans) l = omega arith
 

@@ -5,5 +5,6 @@ pub mod Taken
 pub mod Leaving
 pub mod Whole
 pub mod Keepers
+pub mod Endings
 pub mod Done
 pub mod Sent

@@ -5,3 +5,4 @@ pub mod Left
 pub mod Opening
 pub mod Settling
 pub mod Playing
+pub mod Endings

@@ -7,20 +7,19 @@ use Rattle.sv_command.specs.declared.ending.Ending.{Ending}
 use Rattle.sv_command.specs.declared.ending.Ending.TheVariants as endings
 use Rattle.sv_command.specs.Endings.{Ends, IsCutShort, IsPrinted, OrWords}
 use Rattle.sv_command.specs.Reading.{read_limit, held_by_file, IsRefused, IsNoScenario, HoldsScenario}
-use Rattle.sv_command.specs.Statuses.{status_of, Counts, counts, Raises, NoneRose}
-use Rattle.sv_command.proofs.Counts.{same_counts}
+use Rattle.sv_command.specs.Statuses.{status_of, Counts, Raises, NoneRose}
 use Rattle.sv_command.proofs.Statuses.{link_is, range_is as plain_range}
 use Rattle.sv_command.proofs.Held.{Faulty, read_is, holds_none, always, unheld, unnamed}
 use Rattle.sv_command.proofs.Left.{printed_by, cut_by, ends_early, or_words, unranged, printed_is as left_printed, part_is as left_part, nothing_is as left_nothing, refused_is as left_refused}
 use Rattle.sv_sequencer.specs.Step.{SequencerView}
 use Rattle.sv_play.specs.declared.outcome.PlayFault.{PlayFault}
 use Rattle.sv_play.specs.declared.outcome.PlayFault.TheVariants as faults
-use Rattle.sv_play.specs.Playing.{PlayCause}
+use Rattle.sv_play.specs.Endings.{ending_of_fault}
 use Rattle.sv_serve.specs.declared.words.Command.{Command}
 use Rattle.sv_serve.specs.Words.{Asked, asked_by, named_by}
 use Rattle.sv_serve.specs.Giving.{Doorway, GaveAllBack, GivesBack}
 use Rattle.sv_serve.specs.Hosting.{Moved}
-use Rattle.sv_serve.specs.Statuses.{ending_of_fault, IsText, EndsEarly, LeavesAlone, GivesBackBut}
+use Rattle.sv_serve.specs.Statuses.{IsText, EndsEarly, LeavesAlone, GivesBackBut}
 
 -- ---- The ends
 
@@ -40,14 +39,6 @@ fault_back faults.Start ran_before ran_now old new h = inr (inl refl, h)
 fault_back faults.Link ran_before ran_now old new h = inl h
 fault_back faults.Memory ran_before ran_now old new (inl h) = inl h
 fault_back faults.Memory ran_before ran_now old new (inr h) = inr (inr refl, h)
-
--- ---- Counts
-
-pub fault_raises : (f0 f1 c0 c1 d0 d1 k : ℕ) (fault : PlayFault) → f1 ≡ f0 → PlayCause {A = SequencerView} c0 c1 d0 d1 (Err fault) →
-    Raises (counts f0 c0 d0 k) (counts f1 c1 d1 k) (ending_of_fault fault)
-fault_raises f0 f1 c0 c1 d0 d1 k faults.Start f p = (p.0, same_counts f0 f1 c1 c1 d0 d1 k f refl p.1)
-fault_raises f0 f1 c0 c1 d0 d1 k faults.Link f p = (p.1, same_counts f0 f1 c0 c1 d1 d1 k f p.0 refl)
-fault_raises f0 f1 c0 c1 d0 d1 k faults.Memory f p = same_counts f0 f1 c0 c1 d0 d1 k f p.0 p.1
 
 -- ---- What a status excludes
 

@@ -1,21 +1,15 @@
 -- One session more, and giving all ends back.
-use Rattle.std.proofs.Common.{◌≡◌, ℕ, ◌+◌, ◌≤◌, List, [], ◌∷◌, ◌++◌, length, reverse, sym, ap, subst, ◌∙◌, arith}
+use Rattle.std.proofs.Common.{◌≡◌, ℕ, ◌+◌, List, ◌++◌, length, reverse, sym, ap, subst, ◌∙◌}
 use Rattle.std.proofs.lemmas.List.{length-map, reverse-reverse}
 use Rattle.sv_link.specs.Ends.{Told}
 use Rattle.sv_journal.specs.declared.entry.Entry.{Entry}
 use Rattle.sv_journal.specs.Answer.{Rules, Legal}
 use Rattle.sv_journal.specs.Laws.{LegalRelaysNameAccepted}
 use Rattle.sv_journal.specs.Text.{RelaysNameAccepted}
-use Rattle.sv_scenario.specs.declared.scenario.Plan.{Plan}
-use Rattle.sv_scenario.specs.Sessions.{sessions_in}
 use Rattle.sv_play.specs.declared.tasks.Service.{Service}
 use Rattle.sv_play.specs.declared.tasks.Serviced.{Serviced}
 use Rattle.sv_door.specs.Doors.{Passage}
 use Rattle.sv_serve.specs.Giving.{doorway, kept_of, kept_unserved, kept_served, GaveAllBack}
-
-pub some_sessions : (plans : List Plan) → 1 ≤ length plans → 1 ≤ sessions_in plans
-some_sessions [] l = absurd (omega arith)
-some_sessions (plan ∷ plans) l = omega arith
 
 -- A legal journal can be printed.
 pub named : LegalRelaysNameAccepted → (r : Rules) (entries : List Entry) → Legal r (reverse entries) → RelaysNameAccepted entries

@@ -7,8 +7,6 @@ use Rattle.sv_journal.specs.declared.entry.Entry.{Entry}
 use Rattle.sv_journal.specs.History.{commit_of}
 use Rattle.sv_journal.specs.Text.{journal_text}
 use Rattle.sv_scenario.specs.declared.scenario.Scenario.{Scenario}
-use Rattle.sv_play.specs.declared.outcome.PlayFault.{PlayFault}
-use Rattle.sv_play.specs.declared.outcome.PlayFault.TheVariants as faults
 use Rattle.sv_command.specs.declared.ending.Ending.{Ending}
 use Rattle.sv_command.specs.declared.ending.Ending.TheVariants as endings
 use Rattle.sv_command.specs.Reading.{IsRead, IsRefused}
@@ -35,11 +33,6 @@ pub record IsText (held : Option (List ℕ)) (m : Moved) (text : List ℕ) : Typ
 pub record IsReady (held : Option (List ℕ)) : Type 0 where
   pub scenario : Scenario
   pub scenario_is : IsRead held scenario
-
-abbrev pub ending_of_fault : PlayFault → Ending
-ending_of_fault faults.Start = endings.Start
-ending_of_fault faults.Link = endings.Link
-ending_of_fault faults.Memory = endings.Memory
 
 -- An ending without a text. Threads and connections are only told of where there was a scenario to serve.
 abbrev pub EndsEarly : Option (List ℕ) → Ending → Type 0

@@ -17,10 +17,10 @@ use sv_asked::read_scenario_numbers;
 use sv_door::Door;
 use sv_journal::{full_replies_stay, legal_relays_name_accepted};
 use sv_link::{Crew, Gate, Ran};
-use sv_lock::{Pass, SeqLock};
-use sv_play::PlayFault;
+use sv_lock::Pass;
+use sv_play::{PlayFault, lock_sequencer};
 use sv_replay::open_sequencer;
-use sv_scenario::{Scenario, sessions_of};
+use sv_scenario::Scenario;
 use sv_sequencer::Sequencer;
 
 /// Serves each session over a connection of its own, all at once, and waits for all of them.
@@ -77,14 +77,7 @@ pub fn serve_scenario<D: Door, C: Crew, G: Gate + Sync, R: Threads + Wait + Sync
     ensures certain { D.sure door.old port → result ≢ Err PlayFault.Link }
 {
     let sequencer = open_sequencer(alloc, scenario)?;
-    let (lock, mut keeper) = match SeqLock::new(alloc, sequencer, sessions_of(scenario)) {
-        Ok(made) => made,
-        Err((refused, _)) => {
-            // A tree that is let go at the end of its scope makes a long proof.
-            drop(refused);
-            return Err(PlayFault::Memory);
-        }
-    };
+    let (lock, mut keeper) = lock_sequencer(alloc, scenario, sequencer)?;
     let host = Host {
         alloc,
         scenario,

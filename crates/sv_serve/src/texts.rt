@@ -5,7 +5,7 @@ ghost use Rattle.sv_command.specs.Statuses.{counts, Raises, ending_of, status_of
 ghost use Rattle.sv_sequencer.specs.Step.{history};
 ghost use Rattle.sv_serve.specs.Giving.{doorway};
 ghost use Rattle.sv_serve.specs.Hosting.{moved};
-ghost use Rattle.sv_serve.specs.Statuses.{ending_of_fault, hosted_text, EndsEarly, GivesBackBut, IsText, LeavesAlone};
+ghost use Rattle.sv_serve.specs.Statuses.{hosted_text, EndsEarly, GivesBackBut, IsText, LeavesAlone};
 
 use crate::hosting::serve_scenario;
 use crate::words::Command;
@@ -17,19 +17,9 @@ use sv_command::{Ending, Stage, scenario_in};
 use sv_door::Door;
 use sv_journal::{legal_relays_name_accepted, print_journal};
 use sv_link::{Crew, Gate};
-use sv_play::PlayFault;
+use sv_play::ending_of_fault;
 use sv_sequencer::Sequencer;
 use sv_world::Shape;
-
-fn ending_of_fault(fault: PlayFault) -> Ending
-    ensures { result ≡ ending_of_fault fault }
-{
-    match fault {
-        PlayFault::Start => Ending::Start,
-        PlayFault::Link => Ending::Link,
-        PlayFault::Memory => Ending::Memory,
-    }
-}
 
 /// The journal part of the report, and the commit.
 fn hosted_text(alloc: Global, shape: Shape, sequencer: &Sequencer) -> Result<String, AllocError>

@@ -3,7 +3,8 @@ use Rattle.std.proofs.Common.{ap}
 use Rattle.sv_command.specs.declared.ending.Ending.TheVariants as endings
 use Rattle.sv_command.specs.Statuses.{Counts, counts}
 use Rattle.sv_command.proofs.Counts.{raised_by, same_counts}
-use Rattle.sv_app.proofs.Making.{fault_raises}
+use Rattle.sv_play.proofs.Endings.{fault_raises}
+use Rattle.sv_app.specs.declared.playing.Threaded.{Threaded}
 use Rattle.sv_app.proofs.texts.play.Goals as goal
 
 pub returns-in_err-scenario-clause-raises : goal.returns-in_err-scenario-clause-raises
@@ -14,7 +15,7 @@ returns-in_err-scenario-clause-raises g c =
 pub returns-in-Err-clause-raises : goal.returns-in-Err-clause-raises
 returns-in-Err-clause-raises g c =
     λ k. rw c.ending_of_fault.ensures
-    (fault_raises _ _ _ _ _ _ k c.in-Err.fault (ap (λ (x : Counts). x.files) (c.in_ok-scenario.ensures.raises (counts 0 0 0 0))) c.in-Err.ensures.cause)
+    (fault_raises Threaded _ _ _ _ _ _ k c.in-Err.fault (ap (λ (x : Counts). x.files) (c.in_ok-scenario.ensures.raises (counts 0 0 0 0))) c.in-Err.ensures.cause)
 
 pub returns-in_err-text-clause-raises : goal.returns-in_err-text-clause-raises
 returns-in_err-text-clause-raises g c =

@@ -3,7 +3,9 @@ use Rattle.std.proofs.Common.{ap, arith}
 use Rattle.sv_command.specs.declared.ending.Ending.TheVariants as endings
 use Rattle.sv_command.specs.Statuses.{Counts, counts}
 use Rattle.sv_command.proofs.Counts.{came, raised_by, same_counts}
-use Rattle.sv_serve.proofs.Endings.{fault_raises, touched}
+use Rattle.sv_sequencer.specs.Step.{SequencerView}
+use Rattle.sv_play.proofs.Endings.{fault_raises}
+use Rattle.sv_serve.proofs.Endings.{touched}
 use Rattle.sv_serve.proofs.texts.served_text.Goals as goal
 
 pub returns-in_err-scenario-clause-raises : goal.returns-in_err-scenario-clause-raises
@@ -14,7 +16,7 @@ returns-in_err-scenario-clause-raises g c =
 pub returns-in-Err-clause-raises : goal.returns-in-Err-clause-raises
 returns-in-Err-clause-raises g c =
     λ k. rw c.ending_of_fault.ensures
-    (fault_raises _ _ _ _ _ _ k c.in-Err.fault (ap (λ (x : Counts). x.files) (c.in_ok-scenario.ensures.raises (counts 0 0 0 0))) c.in-Err.ensures.cause)
+    (fault_raises SequencerView _ _ _ _ _ _ k c.in-Err.fault (ap (λ (x : Counts). x.files) (c.in_ok-scenario.ensures.raises (counts 0 0 0 0))) c.in-Err.ensures.cause)
 
 pub returns-in_err-hosted_text-clause-raises : goal.returns-in_err-hosted_text-clause-raises
 returns-in_err-hosted_text-clause-raises g c =

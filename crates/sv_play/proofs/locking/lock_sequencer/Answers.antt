@@ -1,7 +1,7 @@
 -- A scenario has sessions, and not too many.
 use Rattle.std.proofs.Common.{arith}
-use Rattle.sv_serve.proofs.Steps.{some_sessions}
-use Rattle.sv_serve.proofs.hosting.serve_scenario.Goals as goal
+use Rattle.sv_play.proofs.Keepers.{some_sessions}
+use Rattle.sv_play.proofs.locking.lock_sequencer.Goals as goal
 
 pub new-requires-clause-passes : goal.new-requires-clause-passes
 new-requires-clause-passes g c =
