@@ -1,8 +1,7 @@
 -- What holds of each relay that a client took.
-use Rattle.std.proofs.Common.{◌≡◌, ◌↔◌, ℕ, suc, ◌≤◌, Bool, true, false, not, ◌==◌, List, [], ◌∷◌, ◌++◌, length, ℤ, Option, Some, None, refl, sym, ap, arith, eqb-true, true≢false}
-use Rattle.std.specs.Prelude.{if◌then◌else◌}
+use Rattle.std.proofs.Common.{◌≡◌, ◌↔◌, ℕ, suc, ◌≤◌, true, false, not, ◌==◌, List, [], ◌∷◌, ◌++◌, length, ℤ, Option, None, refl, sym, ap, arith, eqb-true, true≢false}
 use Rattle.std.specs.List.{AllByRecursion}
-use Rattle.std.proofs.lemmas.Bool.{cond_both, and_parts, or_parts}
+use Rattle.std.proofs.lemmas.Bool.{cond_both, and_parts, or_parts, not-false}
 use Rattle.std.proofs.lemmas.Option.{none-some}
 use Rattle.sv_versions.specs.Held.{Held}
 use Rattle.sv_pending.specs.Pending.{PendingAction, kept_of, redone_after, redone}
@@ -16,8 +15,9 @@ use Rattle.sv_journal.specs.Serving.{is_poll}
 use Rattle.sv_client.specs.declared.trace.Event.{Event}
 use Rattle.sv_client.specs.declared.trace.Event.TheVariants as events
 use Rattle.sv_client.specs.Traces.{makes, held_of, with_reply, head_held, results_of, last_values, are_same, without_front, settled_by, pending_with, pending_of}
-use Rattle.sv_client.specs.Taking.{Identity, outstanding, allows, is_out_of_order, is_bad_head, is_for_front, ends_with_front, is_good_relay, is_bad_relay, has_bad_item, Fault, Unasked, WrongKind, BadOrder, BadItem, fault_after}
+use Rattle.sv_client.specs.Taking.{Identity, outstanding, allows, is_out_of_order, is_bad_head, is_for_front, ends_with_front, is_good_relay, is_bad_relay, has_bad_item, Unasked, fault_after}
 use Rattle.sv_client.specs.Proper.{AreProper}
+use Rattle.sv_client.proofs.Faultless.{kind-of, good-of}
 use Rattle.law_journal.specs.Entries.{ForOldest, EachTaken}
 use Rattle.law_journal.specs.Numbered.{IsZeroForPolls, TakenRelaysOfZeroAnswerPolls}
 use Rattle.law_journal.specs.Brought.{HasItems, TakenRelaysHaveItems}
@@ -78,20 +78,6 @@ front-some n (p ∷ ps) all e = (let same : n ≡ p.seq = eqb-true n p.seq e in 
 
 -- ---- A relay without a fault
 
-not_not : (b : Bool) → not b ≡ false → b ≡ true
-not_not true e = refl
-not_not false e = absurd (true≢false e)
-
-kind-of : (b : Bool) (o : Option Fault) → (if not b then Some WrongKind else o) ≡ None → b ≡ true
-kind-of true o e = refl
-kind-of false o e = absurd (none-some WrongKind (sym e))
-
-good-of : (b c d : Bool) (o : Option Fault) → (if not b then Some WrongKind else if c then Some BadOrder else if d then Some BadItem else o) ≡ None → d ≡ false
-good-of true true d o e = absurd (none-some BadOrder (sym e))
-good-of true false true o e = absurd (none-some BadItem (sym e))
-good-of true false false o e = refl
-good-of false c d o e = absurd (none-some WrongKind (sym e))
-
 some-items : (items : List Item) → (length items == 0) ≡ false → 1 ≤ length items
 some-items [] e = absurd (true≢false e)
 some-items (i ∷ items) e = omega arith
@@ -104,7 +90,7 @@ module _ (who : Identity) (ps : List PendingAction) (all : AreNumbered ps) (seq 
   good-relay q good = (or_parts (is_bad_head who.shape head) (is_bad_relay who ps q seq items) good).1
 
   for-request : (q : Request) → has_bad_item who ps q relay ≡ false → is_good_relay who ps q seq items ≡ true
-  for-request q good = not_not (is_good_relay who ps q seq items) (or_parts _ (not (is_good_relay who ps q seq items)) (good-relay q good)).1
+  for-request q good = not-false (is_good_relay who ps q seq items) (or_parts _ (not (is_good_relay who ps q seq items)) (good-relay q good)).1
 
   has-items : (q : Request) → has_bad_item who ps q relay ≡ false → 1 ≤ length items
   has-items q good = some-items items (or_parts (length items == 0) _ (or_parts _ (not (is_good_relay who ps q seq items)) (good-relay q good)).0).0

@@ -1,5 +1,5 @@
 -- Who made the action at a position: an outcome that tells a position is that of the action there.
-use Rattle.std.proofs.Common.{◌≡◌, ℕ, zero, suc, ◌+◌, ◌≤◌, Bool, true, ◌&&◌, ◌==◌, ◌⊎◌, inl, inr, List, [], ◌∷◌, ◌++◌, length, Option, Some, None, slice_get, refl, sym, ap, ◌∙◌, subst, arith, eq-eqb, eqb-true, true≢false, length-append}
+use Rattle.std.proofs.Common.{◌≡◌, ℕ, zero, suc, ◌+◌, ◌≤◌, Bool, true, ◌&&◌, ◌==◌, inl, inr, List, [], ◌∷◌, ◌++◌, length, Option, Some, None, slice_get, refl, sym, ap, ◌∙◌, subst, arith, eq-eqb, eqb-true, true≢false, length-append}
 use Rattle.std.specs.Prelude.{if◌then◌else◌}
 use Rattle.std.proofs.lemmas.Bool.{cond-true, cond-false, cases_Bool, and_parts}
 use Rattle.std.proofs.lemmas.List.{get_or_append_left, get_or_push}
@@ -13,9 +13,10 @@ use Rattle.sv_journal.specs.declared.entry.Logged.{Logged}
 use Rattle.sv_journal.specs.declared.entry.Logged.TheVariants as logged
 use Rattle.sv_journal.specs.History.{is_relay, client_of, is_client, is_submit_of, Outcome, Accepted, Dropped, outcome_in, outcomes_of, Authored, new_action, accepted, next_seq, authored_at}
 use Rattle.sv_journal.specs.Sessions.{outcome_at, kept_outcome}
+use Rattle.sv_system.proofs.Asked.{get-append_cases}
+use Rattle.sv_system.proofs.Histories.{kept-is}
 use Rattle.law_journal.specs.Brought.{IsMadeBy}
 use Rattle.law_journal.proofs.Staying.{added}
-use Rattle.law_journal.proofs.Zeros.{kept-is}
 
 -- ---- Accepted actions and more
 
@@ -127,13 +128,6 @@ tells-new e h k a client asked (logged.Noted commit) is j o at = absurd (none-so
 tells-new e h k a client asked logged.Idle is j o at = absurd (none-some o at)
 tells-new e h k a client asked (logged.Refused code detail) is j o at = absurd (none-some o at)
 tells-new e h k a client asked logged.Bye is j o at = absurd (none-some o at)
-
-get-append_cases : {X : Type 0} (xs ys : List X) (i : ℕ) (x : X) → slice_get (xs ++ ys) i ≡ Some x →
-    (slice_get xs i ≡ Some x) ⊎ ((j : ℕ) × ((i ≡ length xs + j) × (slice_get ys j ≡ Some x)))
-get-append_cases [] ys i x e = inr (i, (omega arith, e))
-get-append_cases (z ∷ xs) ys zero x e = inl e
-get-append_cases (z ∷ xs) ys (suc i) x e =
-    elim (get-append_cases xs ys i x e) [ inl s ↦ inl s | inr s ↦ (let q : i ≡ length xs + s.0 = s.1.0 in inr (s.0, (omega arith, s.1.1))) ]
 
 tells-own : (h : List Entry) (k n : ℕ) (o : Outcome) → slice_get (outcomes_of h k) n ≡ Some o → TellsOwn (accepted h) k (suc n) o
 tells-own [] k n o e = absurd (none-some o e)

@@ -1,6 +1,5 @@
 -- A relay tells the number of its Submit, or 0 to a Poll.
-use Rattle.std.proofs.Common.{◌≡◌, ◌↔◌, ℕ, zero, suc, ◌+◌, ◌≤◌, Bool, true, false, List, ◌∷◌, length, Option, Some, None, refl, sym, ap, subst, arith, nat_le, true≢false}
-use Rattle.std.specs.Prelude.{if◌then◌else◌}
+use Rattle.std.proofs.Common.{◌≡◌, ◌↔◌, ℕ, zero, suc, ◌≤◌, true, false, List, ◌∷◌, length, Some, refl, sym, ap, subst, arith, true≢false}
 use Rattle.std.proofs.lemmas.Option.{none-some}
 use Rattle.sv_wire.specs.declared.message.Request.{Request}
 use Rattle.sv_wire.specs.declared.message.Request.TheVariants as requests
@@ -9,22 +8,16 @@ use Rattle.sv_wire.specs.declared.message.Reply.TheVariants as replies
 use Rattle.sv_journal.specs.declared.entry.Entry.{Entry}
 use Rattle.sv_journal.specs.declared.entry.Logged.{Logged}
 use Rattle.sv_journal.specs.declared.entry.Logged.TheVariants as logged
-use Rattle.sv_journal.specs.History.{is_relay, Outcome, Accepted, Authored, outcomes_of, accepted, next_seq, full_reply}
-use Rattle.sv_journal.specs.Sessions.{kept_count, outcome_at, kept_outcome}
+use Rattle.sv_journal.specs.History.{is_relay, Outcome, Accepted, Authored, outcomes_of, accepted, full_reply}
+use Rattle.sv_journal.specs.Sessions.{kept_outcome}
 use Rattle.sv_journal.specs.Answer.{Rules}
 use Rattle.sv_journal.specs.Serving.{Keeping, is_poll, reply_for, IsKeeping}
 use Rattle.sv_journal.proofs.Replies.{each_reply}
+use Rattle.sv_system.proofs.Histories.{kept-is}
 use Rattle.law_journal.specs.Numbered.{IsNumberFor, TellsNumber, IsZeroForPolls, OfEntry, ServedRelaysTellTheirNumbers, ServedRelaysOfZeroAnswerPolls}
 use Rattle.law_journal.proofs.EveryEntry.{entry_of, each-entry, each-map}
 
 -- ---- Kept outcomes
-
-some_if : (b : Bool) (o : Option Outcome) (x : Outcome) → (if b then o else None) ≡ Some x → o ≡ Some x
-some_if true o x f = f
-some_if false o x f = absurd (none-some x f)
-
-pub kept-is : (h : List Entry) (k seq : ℕ) (o : Outcome) → kept_outcome h k seq ≡ Some o → outcome_at (outcomes_of h k) seq ≡ Some o
-kept-is h k seq o e = some_if (nat_le (next_seq h k) (seq + kept_count)) (outcome_at (outcomes_of h k) seq) o e
 
 -- There is no outcome of the number 0.
 kept-some : (h : List Entry) (k seq : ℕ) (o : Outcome) → kept_outcome h k seq ≡ Some o → 1 ≤ seq

@@ -22,8 +22,8 @@ use Rattle.sv_client.proofs.Outstanding.{outstanding_got}
 use Rattle.sv_scenario.specs.declared.scenario.Scenario.{Scenario}
 use Rattle.sv_scenario.specs.declared.scenario.Turn.TheVariants as turns
 use Rattle.sv_scenario.specs.Limits.{IsGoodScenario}
+use Rattle.sv_client.proofs.Faultless.{kind-of}
 use Rattle.sv_script.specs.Following.{must_join}
-use Rattle.sv_script.proofs.Due.{kind-of}
 use Rattle.sv_system.specs.Fits.{requests_in, replies_in}
 use Rattle.sv_system.proofs.Entered.{as-many}
 use Rattle.sv_system.proofs.Every.{each-append}

@@ -9,7 +9,6 @@ use Rattle.sv_world.proofs.Bases.{is_in-below}
 use Rattle.sv_wire.specs.declared.message.Request.{Request}
 use Rattle.sv_wire.specs.declared.message.Request.TheVariants as requests
 use Rattle.sv_wire.specs.declared.message.Reply.{Reply}
-use Rattle.sv_wire.specs.declared.message.Reply.TheVariants as replies
 use Rattle.sv_journal.specs.declared.entry.Entry.{Entry}
 use Rattle.sv_journal.specs.declared.entry.Logged.{Logged}
 use Rattle.sv_journal.specs.declared.entry.Logged.TheVariants as logged
@@ -33,6 +32,7 @@ use Rattle.sv_system.proofs.Entered.{is_of, as-many, replies-earlier}
 use Rattle.sv_system.proofs.Asked.{part-rest, asked-part, got-when, got-answers, begun-or_not, current-joined}
 use Rattle.sv_system.proofs.Leaving.{leave-last}
 use Rattle.sv_system.specs.Laws.{NeverRefused}
+use Rattle.sv_system.proofs.Order.{leave-only, never-refused}
 use Rattle.law_schedule.specs.Players.{Player, open_session, has_closed, take_turns}
 use Rattle.law_schedule.specs.Serving.{Run, is_stop, after_takes}
 use Rattle.law_schedule.specs.Schedule.{rules_of, after_sessions}
@@ -81,28 +81,10 @@ spent-by (e ∷ h) s x =
       | inr y ↦ (let w = later y in record { entry = w.entry; before = w.before; earlier = after e w.earlier; of_it = w.of_it; stop = w.stop })
     ]
 
-bye-of : (q : Request) → allows q replies.Bye ≡ true → q ≡ requests.Leave
-bye-of requests.Leave a = refl
-bye-of (requests.Join client life interest) a = absurd (true≢false (sym a))
-bye-of (requests.Submit seq x) a = absurd (true≢false (sym a))
-bye-of (requests.Done results) a = absurd (true≢false (sym a))
-bye-of requests.Poll a = absurd (true≢false (sym a))
-bye-of requests.Bad a = absurd (true≢false (sym a))
-bye-of requests.End a = absurd (true≢false (sym a))
-
-refused-of : (q : Request) (code detail : ℕ) → allows q (replies.Refused code detail) ≡ false
-refused-of requests.Leave code detail = refl
-refused-of (requests.Join client life interest) code detail = refl
-refused-of (requests.Submit seq x) code detail = refl
-refused-of (requests.Done results) code detail = refl
-refused-of requests.Poll code detail = refl
-refused-of requests.Bad code detail = refl
-refused-of requests.End code detail = refl
-
 -- A reply that a client took and that stops its session answers a Leave.
 stops-leave : (q : Request) (A : List Authored) (reply : Logged) → is_stop reply ≡ true → allows q (full_reply A reply) ≡ true → q ≡ requests.Leave
-stops-leave q A logged.Bye l a = bye-of q a
-stops-leave q A (logged.Refused code detail) l a = absurd (true≢false (sym a ∙ refused-of q code detail))
+stops-leave q A logged.Bye l a = leave-only q a
+stops-leave q A (logged.Refused code detail) l a = absurd (true≢false (sym a ∙ never-refused q code detail))
 stops-leave q A (logged.Welcome commit head) l a = absurd (true≢false (sym l))
 stops-leave q A (logged.Relay seq commit head positions) l a = absurd (true≢false (sym l))
 stops-leave q A (logged.Dropped seq chain far) l a = absurd (true≢false (sym l))

@@ -21,9 +21,9 @@ use Rattle.sv_client.proofs.Outstanding.{outstanding_joined, outstanding_made, o
 use Rattle.sv_scenario.specs.declared.scenario.Step.{Step}
 use Rattle.sv_scenario.specs.declared.scenario.Step.TheVariants as steps
 use Rattle.sv_scenario.specs.Sessions.{cuts_by, cuts_in}
+use Rattle.sv_client.proofs.Faultless.{kind-of}
 use Rattle.sv_script.specs.Following.{DoesStep, MayCome, FollowsTo, must_join, is_finished, after_syncs, passed_syncs, event_of}
 use Rattle.sv_script.proofs.Beginnings.{step-less, event-less}
-use Rattle.sv_script.proofs.Due.{kind-of}
 use Rattle.sv_system.specs.Fits.{is_join_of}
 
 -- ---- After a Leave

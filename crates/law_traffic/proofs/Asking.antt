@@ -11,6 +11,7 @@ use Rattle.sv_client.specs.Taking.{Identity}
 use Rattle.sv_client.specs.Proper.{MayFollow, AreProper}
 use Rattle.sv_scenario.specs.declared.scenario.Step.{Step}
 use Rattle.sv_script.specs.Following.{FollowsTo}
+use Rattle.sv_system.proofs.Asked.{other-session}
 use Rattle.law_schedule.proofs.DoneCounts.{asked-few}
 
 here_or_not : (o : Option ℕ) (s : ℕ) → (o ≡ Some s) ⊎ (o ≡ Some s → ⊥)
@@ -21,12 +22,8 @@ here_or_not (Some n) s = elim (cases_Bool (n == s)) [ inl e ↦ inl (ap Some (eq
     other n s e f =
         true≢false (sym (eq-eqb n s (same_Some n s f)) ∙ e)
 
-other_session : (o : Option ℕ) (s : ℕ) → (o ≡ Some s → ⊥) → is_session o s ≡ false
-other_session None s f = refl
-other_session (Some n) s f = elim (cases_Bool (n == s)) [ inr e ↦ e | inl e ↦ absurd (f (ap Some (eqb-true n s e))) ]
-
 not_here : (o : Option ℕ) (q : Request) (s : ℕ) → (o ≡ Some s → ⊥) → (if is_session o s then q ∷ [] else []) ≡ []
-not_here o q s f = cond-false (is_session o s) (q ∷ []) [] (other_session o s f)
+not_here o q s f = cond-false (is_session o s) (q ∷ []) [] (other-session o s f)
 
 not_of : (n s : ℕ) (qs : List Request) → (Some n ≡ Some s → ⊥) → (if n == s then qs else []) ≡ []
 not_of n s qs f = cond-false (n == s) qs [] (elim (cases_Bool (n == s)) [ inr e ↦ e | inl e ↦ absurd (f (ap Some (eqb-true n s e))) ])

@@ -1,5 +1,5 @@
 -- The results that a client reports are within the grammar, where what it holds is serial.
-use Rattle.std.proofs.Common.{◌≡◌, ℕ, suc, ◌+◌, ◌^◌, ◌<◌, ◌≤◌, Bool, true, false, cond, List, [], ◌∷◌, ◌++◌, length, map, ℤ, refl, sym, ap, subst, ◌∙◌, arith}
+use Rattle.std.proofs.Common.{◌≡◌, ℕ, suc, ◌+◌, ◌^◌, ◌<◌, ◌≤◌, Bool, true, false, cond, List, [], ◌∷◌, ◌++◌, length, map, ℤ, sym, subst, ◌∙◌, arith}
 use Rattle.std.specs.Prelude.{slice_index_or, unwrap_or}
 use Rattle.std.proofs.lemmas.List.{length-map}
 use Rattle.std.specs.List.{AllByRecursion}
@@ -25,6 +25,7 @@ use Rattle.sv_client.specs.Traces.{head_held, held_at, item_result, item_held, w
 use Rattle.sv_system.specs.Serial.{IsSerial}
 use Rattle.sv_system.proofs.Asked.{IsPart, all, then_one}
 use Rattle.sv_system.proofs.Every.{each-left, each-right, each-more}
+use Rattle.sv_system.proofs.Dones.{results-count}
 use Rattle.sv_asked.proofs.Evaluated.{mask_fits}
 use Rattle.sv_asked.proofs.Worlds.{IsGoodValue}
 
@@ -113,10 +114,6 @@ module _ (attrs : ℕ) (opening : List (List ℤ)) (acts : List Action) (some : 
   held-part : (t u : List Event) → IsPart t u → AllByRecursion Serial (held_of u) → AllByRecursion Serial (held_of t)
   held-part t whole all h = h
   held-part t whole (then_one {u} e b) h = held-part t u b (event-front e u h)
-
-  results-count : (held : List Held) (items : List Item) → length (results_of held items) ≡ length items
-  results-count held [] = refl
-  results-count held (item ∷ items) = ap suc (results-count (held ++ item_held held item) items)
 
   -- The Done for a relay that was got is a message.
   pub done-is : (s seq commit : ℕ) (head : List Sent) (items : List Item) (before u : List Event) → IsPart (events.Got s (replies.Relay seq commit head items) ∷ before) u →

@@ -5,6 +5,7 @@ pub mod Standing
 pub mod Lasts
 pub mod Keeping
 pub mod Equal
+pub mod Faultless
 pub mod Looking
 pub mod Beyond
 pub mod Shifts

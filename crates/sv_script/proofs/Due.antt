@@ -1,6 +1,5 @@
 -- How many replies the outstanding requests may bring, where a relay's Done brings one more.
-use Rattle.std.proofs.Common.{◌≡◌, ℕ, suc, ◌+◌, ◌*◌, ◌≤◌, Bool, true, false, List, [], ◌∷◌, ◌++◌, length, map, drop, Option, Some, None, refl, sym, ap, arith}
-use Rattle.std.specs.Prelude.{not, if◌then◌else◌}
+use Rattle.std.proofs.Common.{◌≡◌, ℕ, suc, ◌+◌, ◌*◌, ◌≤◌, true, List, [], ◌∷◌, ◌++◌, length, map, drop, None, sym, ap, arith}
 use Rattle.std.proofs.lemmas.Option.{none-some}
 use Rattle.sv_world.specs.declared.action.Action.{Action}
 use Rattle.sv_world.specs.declared.world.ObjectId.{ObjectId}
@@ -13,9 +12,10 @@ use Rattle.sv_wire.specs.declared.message.Request.TheVariants as requests
 use Rattle.sv_client.specs.declared.trace.Event.{Event}
 use Rattle.sv_client.specs.declared.trace.Event.TheVariants as events
 use Rattle.sv_client.specs.Traces.{held_of, pending_of, submit_of, done_for, makes}
-use Rattle.sv_client.specs.Taking.{Identity, Fault, Unasked, WrongKind, outstanding, allows, fault_after}
+use Rattle.sv_client.specs.Taking.{Identity, Unasked, outstanding, allows, fault_after}
 use Rattle.sv_client.specs.Proper.{AreProper, MayGet, MayJoin, in_session}
 use Rattle.sv_client.proofs.Outstanding.{outstanding_joined, outstanding_made, outstanding_polled, outstanding_left, outstanding_cut, outstanding_quit, outstanding_shown, outstanding_got}
+use Rattle.sv_client.proofs.Faultless.{kind-of}
 use Rattle.sv_script.proofs.Pending.{pending-few}
 
 abbrev pub due_of : Request → ℕ
@@ -90,10 +90,6 @@ due-done held q (replies.Noted commit) e = omega (arith, due-some q)
 due-done held q replies.Idle e = omega (arith, due-some q)
 due-done held q (replies.Refused code detail) e = omega (arith, due-some q)
 due-done held q replies.Bye e = omega (arith, due-some q)
-
-pub kind-of : (b : Bool) (o : Option Fault) → (if not b then Some WrongKind else o) ≡ None → b ≡ true
-kind-of true o e = refl
-kind-of false o e = absurd (none-some WrongKind (sym e))
 
 due-answered : (who : Identity) (t : List Event) (reply : Reply) (os : List Request) → fault_after who t os reply ≡ None
     → suc (due (drop 1 os ++ done_for (held_of t) reply)) ≤ due os

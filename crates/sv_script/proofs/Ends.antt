@@ -20,8 +20,8 @@ use Rattle.sv_client.proofs.Outstanding.{outstanding_joined, outstanding_made, o
 use Rattle.sv_scenario.specs.declared.scenario.Step.{Step}
 use Rattle.sv_scenario.specs.declared.scenario.Step.TheVariants as steps
 use Rattle.sv_scenario.specs.Limits.{quits_last}
+use Rattle.sv_client.proofs.Faultless.{kind-of}
 use Rattle.sv_script.specs.Following.{DoesStep, FollowsTo, FollowsToEnd, IsCarriedOut, MayCome, after_syncs, passed_syncs, event_of, events_of, steps_done, is_finished}
-use Rattle.sv_script.proofs.Due.{kind-of}
 use Rattle.sv_script.proofs.Steps.{steps-in_order}
 
 -- ---- A Leave that is outstanding

@@ -1,7 +1,7 @@
 -- The outstanding Submits of the current session are the pending actions, in order; what was answered before is settled.
 use Rattle.std.proofs.Common.{◌≡◌, ℕ, zero, suc, ◌+◌, ◌<◌, ◌≤◌, Bool, true, false, not, ◌==◌, inl, inr, List, [], ◌∷◌, ◌++◌, map, drop, length, Option, Some, slice_get, refl, sym, ap, ap₂, ◌∙◌, subst, arith, eqb-true, eq-eqb, true≢false, append-nil, add-one}
 use Rattle.std.specs.Prelude.{if◌then◌else◌}
-use Rattle.std.proofs.lemmas.Bool.{cond-true, cond-false, and_parts, or_parts, ne_eqb}
+use Rattle.std.proofs.lemmas.Bool.{cond-true, cond-false, and_parts, or_parts, ne_eqb, not-false}
 use Rattle.std.proofs.lemmas.List.{length-append, drop-append-le}
 use Rattle.std.proofs.lemmas.Option.{none-some, same_Some, slice_get_within}
 use Rattle.sv_world.specs.declared.action.Action.{Action}
@@ -29,15 +29,11 @@ front-number seq (p ∷ ps) n f e = eqb-true seq p.seq e ∙ f.0
 not-zero : (seq n : ℕ) → seq ≡ suc n → (seq == 0) ≡ false
 not-zero seq n e = ne_eqb seq 0 (λ z. let f : suc n ≡ 0 = sym e ∙ z in absurd (omega arith))
 
-not_not : (b : Bool) → not b ≡ false → b ≡ true
-not_not true e = refl
-not_not false e = absurd (true≢false e)
-
 -- A reply that a client takes settles the front exactly where it answers a Submit.
 pub settles-submit : (who : Identity) (t : List Event) (q : Request) (r : Reply) → IsCounted t → allows q r ≡ true → has_bad_item who (pending_of t) q r ≡ false → settles r ≡ is_submit q
 settles-submit who t (requests.Submit seq a) (replies.Relay n commit head items) c k g =
     let bad : is_bad_relay who (pending_of t) (requests.Submit seq a) n items ≡ false = (or_parts (is_bad_head who.shape head) (is_bad_relay who (pending_of t) (requests.Submit seq a) n items) g).1 in
-    let good : is_good_relay who (pending_of t) (requests.Submit seq a) n items ≡ true = not_not (is_good_relay who (pending_of t) (requests.Submit seq a) n items) (or_parts _ (not (is_good_relay who (pending_of t) (requests.Submit seq a) n items)) bad).1 in
+    let good : is_good_relay who (pending_of t) (requests.Submit seq a) n items ≡ true = not-false (is_good_relay who (pending_of t) (requests.Submit seq a) n items) (or_parts _ (not (is_good_relay who (pending_of t) (requests.Submit seq a) n items)) bad).1 in
     let front : is_for_front n (pending_of t) ≡ true = (and_parts (is_for_front n (pending_of t)) (ends_with_front who (pending_of t) items) good).0 in
     ap not (not-zero n (settled t) (front-number n (pending_of t) (suc (settled t)) c.numbered front))
 settles-submit who t (requests.Submit seq a) (replies.Dropped n chain far) c k g = refl
@@ -49,7 +45,7 @@ settles-submit who t (requests.Submit seq a) (replies.Refused code detail) c k g
 settles-submit who t (requests.Submit seq a) replies.Bye c k g = absurd (true≢false (sym k))
 settles-submit who t requests.Poll (replies.Relay n commit head items) c k g =
     let bad : is_bad_relay who (pending_of t) requests.Poll n items ≡ false = (or_parts (is_bad_head who.shape head) (is_bad_relay who (pending_of t) requests.Poll n items) g).1 in
-    let good : (n == 0) ≡ true = not_not (n == 0) (or_parts _ (not (n == 0)) bad).1 in
+    let good : (n == 0) ≡ true = not-false (n == 0) (or_parts _ (not (n == 0)) bad).1 in
     ap not good
 settles-submit who t requests.Poll replies.Idle c k g = refl
 settles-submit who t requests.Poll (replies.Dropped n chain far) c k g = absurd (true≢false (sym k))

@@ -5,15 +5,13 @@ use Rattle.std.proofs.lemmas.Bool.{cond-true, cond-false, cases_Bool}
 use Rattle.std.proofs.lemmas.Option.{none-some}
 use Rattle.sv_pending.specs.Pending.{PendingAction}
 use Rattle.sv_versions.specs.Held.{Held}
-use Rattle.sv_wire.specs.declared.message.Request.{Request}
-use Rattle.sv_wire.specs.declared.message.Request.TheVariants as requests
 use Rattle.sv_wire.specs.declared.message.Reply.{Reply}
 use Rattle.sv_wire.specs.declared.message.Reply.TheVariants as replies
 use Rattle.sv_journal.specs.History.{Authored, accepted, outcomes_of, next_seq}
 use Rattle.sv_client.specs.declared.trace.Event.{Event}
 use Rattle.sv_client.specs.declared.trace.Event.TheVariants as events
 use Rattle.sv_client.specs.Traces.{makes, current_session, held_of, with_reply, pending_with, pending_of, asked, got}
-use Rattle.sv_client.specs.Taking.{Identity, outstanding, unanswered, allows}
+use Rattle.sv_client.specs.Taking.{Identity, outstanding, unanswered}
 use Rattle.sv_client.specs.Proper.{AreProper, in_session, identity_of}
 use Rattle.sv_script.specs.Following.{is_finished}
 use Rattle.sv_system.specs.Outcomes.{is_quit, HasOutcomes}
@@ -25,7 +23,7 @@ use Rattle.sv_system.proofs.Asked.{all, may-answer, any-reverse}
 use Rattle.sv_system.proofs.Pendings.{keys, settled, counted, submits}
 use Rattle.sv_system.proofs.Aligned.{aligned}
 use Rattle.sv_system.proofs.Leaving.{leave-last}
-use Rattle.sv_system.proofs.Order.{got-replied}
+use Rattle.sv_system.proofs.Order.{got-replied, leave-only}
 use Rattle.sv_system.proofs.Window.{settled-next, outcomes-made}
 
 -- ---- Nothing is pending once a client left
@@ -84,19 +82,10 @@ module _ (who : Identity) (first : ℕ) where
       let within : length (keys (pending_of t)) ≤ makes t = c.within in
       omega arith
 
-  by-bye : (q : Request) → allows q replies.Bye ≡ true → q ≡ requests.Leave
-  by-bye requests.Leave e = refl
-  by-bye (requests.Join client life interest) e = absurd (true≢false (sym e))
-  by-bye (requests.Submit n a) e = absurd (true≢false (sym e))
-  by-bye (requests.Done results) e = absurd (true≢false (sym e))
-  by-bye requests.Poll e = absurd (true≢false (sym e))
-  by-bye requests.Bad e = absurd (true≢false (sym e))
-  by-bye requests.End e = absurd (true≢false (sym e))
-
   bye-left : (s : ℕ) (t : List Event) → AreProper who first (events.Got s replies.Bye ∷ t) → in_session t ≡ false
   bye-left s t p =
       let a = may-answer who first t s replies.Bye p.0 in
-      (leave-last who first t p.1 s (length (got t s)) (a.asked_there ∙ ap Some (by-bye a.request a.kind))).out a.current
+      (leave-last who first t p.1 s (length (got t s)) (a.asked_there ∙ ap Some (leave-only a.request a.kind))).out a.current
 
   -- A trace that is finished and did not quit left its session.
   pub finished-left : (t : List Event) → AreProper who first t → is_finished t ≡ true → list_any is_quit t ≡ false → in_session t ≡ false

@@ -17,11 +17,16 @@ use Rattle.sv_wire.specs.declared.message.Reply.TheVariants as replies
 use Rattle.sv_client.specs.declared.trace.Event.{Event}
 use Rattle.sv_client.specs.declared.trace.Event.TheVariants as events
 use Rattle.sv_client.specs.Traces.{joins, makes, current_session, is_session, held_of, head_held, results_of, done_for, pending_of, submit_of, asked_by_event, asked, got}
-use Rattle.sv_client.specs.Taking.{Identity, unanswered, allows, Fault, WrongKind, Unasked, fault_after, is_out_of_order, has_bad_item, BadOrder, BadItem}
+use Rattle.sv_client.specs.Taking.{Identity, unanswered, allows, Unasked, fault_after, is_out_of_order, has_bad_item}
 use Rattle.sv_client.specs.Proper.{MayGet, MayJoin, AreProper}
+use Rattle.sv_client.proofs.Faultless.{kind-of, order-of, good-of}
 use Rattle.sv_system.specs.Fronts.{IsFront}
 use Rattle.sv_system.specs.Fits.{is_join_of}
 use Rattle.sv_system.proofs.Fronts.{front-all, front-then, front-append, get-push_cases}
+
+pub other-session : (o : Option ℕ) (s : ℕ) → (o ≡ Some s → ⊥) → is_session o s ≡ false
+other-session None s f = refl
+other-session (Some n) s f = elim (cases_Bool (n == s)) [ inr e ↦ e | inl e ↦ absurd (f (ap Some (eqb-true n s e))) ]
 
 -- The events up to some one.
 pub data IsPart (t : List Event) : List Event → Type 0 where
@@ -116,21 +121,6 @@ module _ (who : Identity) (first : ℕ) where
     pub kind : allows request reply ≡ true
     pub ordered : is_out_of_order t reply ≡ false
     pub good : has_bad_item who (pending_of t) request reply ≡ false
-
-  kind-of : (b : Bool) (o : Option Fault) → (if not b then Some WrongKind else o) ≡ None → b ≡ true
-  kind-of true o e = refl
-  kind-of false o e = absurd (none-some WrongKind (sym e))
-
-  order-of : (b c : Bool) (o : Option Fault) → (if not b then Some WrongKind else if c then Some BadOrder else o) ≡ None → c ≡ false
-  order-of true true o e = absurd (none-some BadOrder (sym e))
-  order-of true false o e = refl
-  order-of false c o e = absurd (none-some WrongKind (sym e))
-
-  good-of : (b c d : Bool) (o : Option Fault) → (if not b then Some WrongKind else if c then Some BadOrder else if d then Some BadItem else o) ≡ None → d ≡ false
-  good-of true true d o e = absurd (none-some BadOrder (sym e))
-  good-of true false true o e = absurd (none-some BadItem (sym e))
-  good-of true false false o e = refl
-  good-of false c d o e = absurd (none-some WrongKind (sym e))
 
   answers-first : (t : List Event) (s : ℕ) (reply : Reply) (qs : List Request) → current_session t ≡ Some s → drop (length (got t s)) (asked_in_trace t s) ≡ qs →
       fault_after who t qs reply ≡ None → Answers t s reply
@@ -273,10 +263,6 @@ module _ (who : Identity) (first : ℕ) where
   still-not t e s l f c (inr b) = inr (begun-more t e s l b)
   still-not t e s l f c (inl b) =
       inl (ap (λ (qs : List Request). qs ++ asked_by_event who.client who.interest t e s) b.0 ∙ f b.1, λ g. b.1 (sym c ∙ g))
-
-  other-session : (o : Option ℕ) (s : ℕ) → (o ≡ Some s → ⊥) → is_session o s ≡ false
-  other-session None s f = refl
-  other-session (Some n) s f = elim (cases_Bool (n == s)) [ inr e ↦ e | inl e ↦ absurd (f (ap Some (eqb-true n s e))) ]
 
   not-asked : (t : List Event) (q : Request) (s : ℕ) → (current_session t ≡ Some s → ⊥) → (if is_session (current_session t) s then q ∷ [] else []) ≡ []
   not-asked t q s f = cond-false (is_session (current_session t) s) _ _ (other-session (current_session t) s f)

@@ -9,12 +9,12 @@ use Rattle.sv_journal.specs.declared.entry.Logged.{Logged}
 use Rattle.sv_journal.specs.declared.entry.Logged.TheVariants as logged
 use Rattle.sv_journal.specs.History.{Outcome, Accepted, Dropped, client_of, is_client, is_noted, is_submit_of, outcome_in, outcomes_of, accepted, next_seq, result_at, reports, run_length, commit_of, either}
 use Rattle.sv_journal.specs.Sessions.{outcome_at}
-use Rattle.sv_system.proofs.Histories.{IsEarlier, same, after, accepted-grows, commit-most, committed-has}
+use Rattle.sv_system.proofs.Histories.{IsEarlier, same, after, accepted-grows, commit-most, committed-has, run-most}
 use Rattle.sv_system.proofs.Asked.{get-append_cases}
 
 -- ---- The commit grows
 
-run-least : (test : ℕ → Bool) (n m : ℕ) → m ≤ n → ((p : ℕ) → 0 < p → p ≤ m → test p ≡ true) → m ≤ run_length test n
+pub run-least : (test : ℕ → Bool) (n m : ℕ) → m ≤ n → ((p : ℕ) → 0 < p → p ≤ m → test p ≡ true) → m ≤ run_length test n
 run-least test zero m l f = omega arith
 run-least test (suc n) m l f =
     let less = run-least test n m in
@@ -24,17 +24,11 @@ run-least test (suc n) m l f =
       | inr d ↦ less (omega arith) f
       | inl d ↦
           (let most : n ≤ run_length test n = run-least test n n (omega arith) (λ p a b. f p a (omega arith)) in
-          let top : run_length test n ≤ n = run-top test n in
+          let top : run_length test n ≤ n = run-most test n in
           let both : ((run_length test n == n) && test (suc n)) ≡ true =
           and_from (run_length test n == n) (test (suc n)) (eq-eqb (run_length test n) n (omega arith)) (f (suc n) (omega arith) (omega arith)) in
           absurd (true≢false (sym both ∙ e)))
     ])
-  where
-    run-top : (test : ℕ → Bool) (n : ℕ) → run_length test n ≤ n
-    run-top test zero = omega arith
-    run-top test (suc n) =
-        let less = run-top test n in
-        cond_both ((run_length test n == n) && test (suc n)) (suc n) (run_length test n) (λ (m : ℕ). m ≤ suc n) (λ e. omega arith) (λ e. omega arith)
 
 some-stays : (o other : Option (List (List ℤ))) → is_some o ≡ true → is_some (either o other) ≡ true
 some-stays (Some x) other e = refl

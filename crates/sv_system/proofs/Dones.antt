@@ -43,7 +43,7 @@ sent-now d h s p e m =
     subst (λ (l : List ℕ). is_in p l ≡ true) (sym (cond-true (d.session == s) (sent_to h s ++ positions_in d.reply) (sent_to h s) (eq-eqb d.session s e)))
     (is_in-append_right p (sent_to h s) (positions_in d.reply) m)
 
-results-count : (held : List Held) (items : List Item) → length (results_of held items) ≡ length items
+pub results-count : (held : List Held) (items : List Item) → length (results_of held items) ≡ length items
 results-count held [] = refl
 results-count held (item ∷ items) = ap suc (results-count (held ++ item_held held item) items)
 

@@ -31,7 +31,7 @@ use Rattle.sv_system.proofs.Awaited.{Truthful}
 use Rattle.sv_system.proofs.Tests.{three-false}
 use Rattle.sv_system.proofs.Every.{each-is_in}
 use Rattle.sv_system.proofs.Histories.{IsEarlier, earlier-rest, earlier-served, accepted-grows}
-use Rattle.sv_system.proofs.Replies.{AnswersSubmit, AnswersKept, TellsFor, IsRelayReply, IsWelcomeReply, served-tells}
+use Rattle.sv_system.proofs.Replies.{AnswersSubmit, AnswersKept, TellsFor, IsRelayReply, IsWelcomeReply, served-tells, logged_head}
 use Rattle.sv_system.proofs.Lawful.{IsLegalRelay, legal-relay, positions-within}
 use Rattle.sv_system.proofs.Induction.{accepted-good}
 use Rattle.sv_system.proofs.Opened.{asks-other}
@@ -148,10 +148,6 @@ module _ (truthful : Truthful) where
       ap (is_bad_head r.world.shape) (ap logged_head (sym is ∙ w.0))
       ∙ good-heads xs (λ x m. each-is_in (λ (y : ℕ). y < r.world.shape.objects) xs
       (objects-below r.world.shape.objects L.interest (recursion_from_All (λ (o : ObjectId). o.0 < r.world.shape.objects) L.interest this_one.proper.who.objects)) x m)
-    where
-      logged_head : Logged → List Sent
-      logged_head (logged.Welcome commit head) = head
-      logged_head _ = []
 
   relay-fits : (seq commit : ℕ) (head : List Sent) (positions : List ℕ) → e.reply ≡ logged.Relay seq commit head positions →
       is_good_relay who (pending_of whole) e.request seq (map (item_at A) positions) ≡ true

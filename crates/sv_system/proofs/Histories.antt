@@ -164,7 +164,7 @@ kept-below h k seq p e = kept-old h k seq (Accepted p) e
 
 -- ---- The commit
 
-run-most : (test : ℕ → Bool) (n : ℕ) → run_length test n ≤ n
+pub run-most : (test : ℕ → Bool) (n : ℕ) → run_length test n ≤ n
 run-most test zero = omega arith
 run-most test (suc n) =
     let less = run-most test n in

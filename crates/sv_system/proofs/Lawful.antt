@@ -29,12 +29,9 @@ use Rattle.sv_system.specs.Journals.{delivery_by, deliveries_of, serial_result, 
 use Rattle.sv_system.proofs.Serials.{serial-step}
 use Rattle.sv_system.proofs.Histories.{IsEarlier, same, after, earlier-rest, actions-earlier, actions-count, accepted-grows, action_at-earlier, committed-has}
 use Rattle.sv_system.proofs.Replies.{new_of, TellsFor, IsRelayReply, IsWelcomeReply, served-tells}
+use Rattle.sv_system.proofs.Replied.{no_more}
 
 -- ---- What the deliveries told
-
-no_more : {X : Type 0} (b : Bool) (xs : List X) → (if b then xs ++ [] else xs) ≡ xs
-no_more true xs = append-nil xs
-no_more false xs = refl
 
 told-by : (reply : Logged) (t count s : ℕ) (ds : List Delivery) (sent : List ℕ) → told_positions ds s ≡ sent →
     told_positions (delivery_by t count reply ++ ds) s ≡ (if t == s then sent ++ positions_in reply else sent)

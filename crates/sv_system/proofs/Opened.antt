@@ -11,7 +11,6 @@ use Rattle.sv_wire.specs.declared.message.Held.{Held as Sent}
 use Rattle.sv_wire.specs.declared.message.Request.{Request}
 use Rattle.sv_wire.specs.declared.message.Request.TheVariants as requests
 use Rattle.sv_wire.specs.declared.message.Reply.{Reply}
-use Rattle.sv_wire.specs.declared.message.Reply.TheVariants as replies
 use Rattle.sv_journal.specs.declared.entry.Entry.{Entry}
 use Rattle.sv_journal.specs.declared.entry.Logged.{Logged}
 use Rattle.sv_journal.specs.declared.entry.Logged.TheVariants as logged
@@ -32,7 +31,7 @@ use Rattle.sv_system.proofs.Entered.{is_of, of-parts, of-from, as-many, replies-
 use Rattle.sv_system.proofs.Asking.{is_done, asked-there}
 use Rattle.sv_system.proofs.Asked.{all, part-rest, asked-part, got-when, got-answers, current-last, current-joined}
 use Rattle.sv_system.proofs.Leaving.{IsJoinAsked, join-asked, leave-last}
-use Rattle.sv_system.proofs.Order.{get-some, never-refused, got-replied, joined-has, welcome-legal}
+use Rattle.sv_system.proofs.Order.{get-some, never-refused, got-replied, joined-has, welcome-legal, leave-only}
 
 -- ---- Where a session's client comes from
 
@@ -153,15 +152,6 @@ ended-since d h whole s (after {g} c b) is e = or_right ((c.session == s) && is_
 
 last-kinds : (q : Request) (A : List Authored) (reply : Logged) → is_last reply ≡ true → allows q (full_reply A reply) ≡ true → q ≡ requests.Leave
 last-kinds q A logged.Bye l a = leave-only q a
-  where
-    leave-only : (q : Request) → allows q replies.Bye ≡ true → q ≡ requests.Leave
-    leave-only requests.Leave a = refl
-    leave-only (requests.Join client life interest) a = absurd (true≢false (sym a))
-    leave-only (requests.Submit seq x) a = absurd (true≢false (sym a))
-    leave-only (requests.Done results) a = absurd (true≢false (sym a))
-    leave-only requests.Poll a = absurd (true≢false (sym a))
-    leave-only requests.Bad a = absurd (true≢false (sym a))
-    leave-only requests.End a = absurd (true≢false (sym a))
 last-kinds q A (logged.Refused code detail) l a = absurd (true≢false (sym a ∙ never-refused q code detail))
 last-kinds q A (logged.Welcome commit head) l a = absurd (true≢false (sym l))
 last-kinds q A (logged.Relay seq commit head positions) l a = absurd (true≢false (sym l))

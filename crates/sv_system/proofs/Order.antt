@@ -62,6 +62,16 @@ welcome-logged A q client life interest e logged.Idle a = absurd (true≢false (
 welcome-logged A q client life interest e (logged.Refused code detail) a = absurd (true≢false (sym a ∙ ap (λ (p : Request). allows p (replies.Refused code detail)) e))
 welcome-logged A q client life interest e logged.Bye a = absurd (true≢false (sym a ∙ ap (λ (p : Request). allows p replies.Bye) e))
 
+-- A Bye answers a Leave alone.
+pub leave-only : (q : Request) → allows q replies.Bye ≡ true → q ≡ requests.Leave
+leave-only requests.Leave a = refl
+leave-only (requests.Join client life interest) a = absurd (true≢false (sym a))
+leave-only (requests.Submit seq x) a = absurd (true≢false (sym a))
+leave-only (requests.Done results) a = absurd (true≢false (sym a))
+leave-only requests.Poll a = absurd (true≢false (sym a))
+leave-only requests.Bad a = absurd (true≢false (sym a))
+leave-only requests.End a = absurd (true≢false (sym a))
+
 -- A refusal is never got.
 pub never-refused : (q : Request) (code detail : ℕ) → allows q (replies.Refused code detail) ≡ false
 never-refused (requests.Join client life interest) code detail = refl

@@ -37,7 +37,7 @@ use Rattle.sv_system.proofs.Tests.{four-false}
 use Rattle.sv_system.proofs.Awaited.{Awaited}
 use Rattle.sv_system.proofs.Covers.{covered-found}
 use Rattle.sv_system.proofs.Histories.{IsEarlier, same, earlier-rest, earlier-served}
-use Rattle.sv_system.proofs.Replies.{TellsFor, IsWelcomeReply, served-tells}
+use Rattle.sv_system.proofs.Replies.{TellsFor, IsWelcomeReply, served-tells, logged_head}
 use Rattle.sv_system.proofs.Lawful.{IsLegalRelay, legal-relay, objects-named}
 use Rattle.sv_system.proofs.Entered.{is_of, replies-earlier}
 use Rattle.sv_system.proofs.Asked.{all}
@@ -142,10 +142,6 @@ module _ (awaited : Awaited) where
       (not_from_true (is_ascending (head_objects head))
       (subst (λ (ys : List ℕ). is_ascending ys ≡ true) (sym (ap head_objects heads ∙ objects-named r (K.kept g) xs)) this_one.proper.who.ascending))
       refl refl (not-back commit (omega arith))
-    where
-      logged_head : Logged → List Sent
-      logged_head (logged.Welcome commit head) = head
-      logged_head _ = []
 
   -- The next reply is in order.
   pub ordered : (reply : Logged) → e.reply ≡ reply → is_out_of_order whole (full_reply A reply) ≡ false

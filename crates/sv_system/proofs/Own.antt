@@ -6,7 +6,6 @@ use Rattle.sv_world.specs.declared.action.Action.{Action}
 use Rattle.sv_world.proofs.Needs.{needed-sent, needed-ends}
 use Rattle.sv_pending.specs.Pending.{PendingAction}
 use Rattle.sv_wire.specs.declared.message.Held.{Held as Sent}
-use Rattle.sv_wire.specs.declared.message.Request.{Request}
 use Rattle.sv_wire.specs.declared.message.Request.TheVariants as requests
 use Rattle.sv_journal.specs.declared.entry.Entry.{Entry}
 use Rattle.sv_journal.specs.declared.entry.Logged.TheVariants as logged
@@ -29,7 +28,7 @@ use Rattle.sv_system.proofs.Pendings.{Numbered, keys}
 use Rattle.sv_system.proofs.Aligned.{is_submit}
 use Rattle.sv_system.proofs.Asking.{is_done, asked-there}
 use Rattle.sv_system.proofs.Opened.{has, asks-other, own-session, session-client}
-use Rattle.sv_system.proofs.Window.{submit-named, client-some}
+use Rattle.sv_system.proofs.Window.{submit-named, client-some, submit_number}
 use Rattle.sv_system.proofs.NeverSent.{IsAcceptance, acceptance-of}
 use Rattle.sv_system.proofs.NonEmpty.{positions-some}
 use Rattle.sv_system.proofs.Made.{IsMade, made-same, submit-made}
@@ -164,10 +163,6 @@ module _ (awaited : Awaited) where
                   ∙ authored-new e g H k n a b (t.joined ∙ ap Some own) is seq y)
             ])
       ]
-    where
-      submit_number : Request → ℕ
-      submit_number (requests.Submit n a) = n
-      submit_number _ = 0
 
   -- The positions of a relay that is the next reply end with the one that it is of.
   pub positions-end : (seq commit : ℕ) (head : List Sent) (positions : List ℕ) → e.reply ≡ logged.Relay seq commit head positions →

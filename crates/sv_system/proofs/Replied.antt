@@ -50,7 +50,7 @@ flat-if : {X Y : Type 0} (f : X → List Y) (b : Bool) (xs : List X) (y : X) →
 flat-if f true xs y = flat_map-append f xs (y ∷ []) ∙ ap (λ l. flat_map f xs ++ l) (append-nil (f y))
 flat-if f false xs y = refl
 
-no_more : {X : Type 0} (b : Bool) (xs : List X) → (if b then xs ++ [] else xs) ≡ xs
+pub no_more : {X : Type 0} (b : Bool) (xs : List X) → (if b then xs ++ [] else xs) ≡ xs
 no_more true xs = append-nil xs
 no_more false xs = refl
 

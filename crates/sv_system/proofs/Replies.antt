@@ -64,6 +64,11 @@ pub record IsWelcomeReply (K : Keeping) (r : Rules) (h : List Entry) (s : ℕ) (
   pub commit_is : commit ≡ commit_of (K.kept h)
   pub head_is : head ≡ committed_held r (K.kept h) (map (λ (o : ObjectId). o.0) interest)
 
+-- The head of a welcome.
+abbrev pub logged_head : Logged → List Held
+logged_head (logged.Welcome commit head) = head
+logged_head _ = []
+
 -- A reply to a client's Submit with this number, whose outcome is kept or which has the client's next number.
 abbrev pub AnswersSubmit : List Entry → ℕ → Request → ℕ → Type 0
 AnswersSubmit h s q n =

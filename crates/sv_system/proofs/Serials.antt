@@ -15,7 +15,7 @@ use Rattle.sv_eval.proofs.Serials.{put_all_elsewhere}
 use Rattle.sv_client.specs.Traces.{held_at}
 use Rattle.sv_system.specs.Serial.{AreSerial}
 
-after_at : (world : List (List ℤ)) (A : List Action) (p : ℕ) → world_after_some world (slice_get A p) ≡ world_after world (slice_index_or A p blank)
+pub after_at : (world : List (List ℤ)) (A : List Action) (p : ℕ) → world_after_some world (slice_get A p) ≡ world_after world (slice_index_or A p blank)
 after_at world [] p = refl
 after_at world (a ∷ A) zero = refl
 after_at world (a ∷ A) (suc p) = after_at world A p

@@ -44,7 +44,7 @@ no-submit_if true p zero n a f e = true≢false (sym (ap is_submit (same_Some p 
 no-submit_if true p (suc j) n a f e = none-some (requests.Submit n a) e
 no-submit_if false p j n a f e = none-some (requests.Submit n a) e
 
-abbrev submit_number : Request → ℕ
+abbrev pub submit_number : Request → ℕ
 submit_number (requests.Submit n a) = n
 submit_number _ = 0
 
@@ -54,11 +54,7 @@ AreMost n (p ∷ ps) = (p.seq ≤ n) × AreMost n ps
 
 most-submits : (n : ℕ) (ps : List PendingAction) → AreMost n ps → (j m : ℕ) (a : Action) → slice_get (map submit_of ps) j ≡ Some (requests.Submit m a) → m ≤ n
 most-submits n [] h j m a e = absurd (none-some (requests.Submit m a) e)
-most-submits n (p ∷ ps) h zero m a e = subst (λ (k : ℕ). k ≤ n) (ap number (same_Some (requests.Submit p.seq p.action) (requests.Submit m a) e)) h.0
-  where
-    number : Request → ℕ
-    number (requests.Submit k b) = k
-    number _ = 0
+most-submits n (p ∷ ps) h zero m a e = subst (λ (k : ℕ). k ≤ n) (ap submit_number (same_Some (requests.Submit p.seq p.action) (requests.Submit m a) e)) h.0
 most-submits n (p ∷ ps) h (suc j) m a e = most-submits n ps h.1 j m a e
 
 most-from : (n top : ℕ) (ps : List PendingAction) → AreFrom n (keys ps) → n + length (keys ps) ≤ suc top → AreMost top ps
@@ -96,11 +92,7 @@ module _ (who : Identity) (first : ℕ) where
 
       make-now : (b : Bool) (action : Action) (j : ℕ) → slice_get (if b then requests.Submit (suc (makes t)) action ∷ [] else []) j ≡ Some (requests.Submit n a) → n ≤ suc (makes t)
       make-now true action zero g =
-          (let f : suc (makes t) ≡ n = ap number (same_Some (requests.Submit (suc (makes t)) action) (requests.Submit n a) g) in omega arith)
-        where
-          number : Request → ℕ
-          number (requests.Submit k b) = k
-          number _ = 0
+          (let f : suc (makes t) ≡ n = ap submit_number (same_Some (requests.Submit (suc (makes t)) action) (requests.Submit n a) g) in omega arith)
       make-now true action (suc j) g = absurd (none-some (requests.Submit n a) g)
       make-now false action j g = absurd (none-some (requests.Submit n a) g)
 

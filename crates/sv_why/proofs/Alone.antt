@@ -1,16 +1,17 @@
 -- The actions that a value comes from, executed alone, give the value of the serial world.
 use Rattle.std.proofs.Common.{◌≡◌, ℕ, zero, suc, ◌+◌, ◌<◌, ◌≤◌, Bool, true, false, ◌||◌, nat_eq, List, [], ◌∷◌, ◌++◌, map, length, ℤ, Option, Some, get_or, set, slice_get, refl, sym, ◌∙◌, ap, ap₂, subst, arith, length-set, eq-eqb}
-use Rattle.std.specs.Prelude.{slice_index_or, slice_set, if◌then◌else◌}
+use Rattle.std.specs.Prelude.{slice_set, if◌then◌else◌}
 use Rattle.std.specs.List.{list_any}
 use Rattle.std.proofs.lemmas.Bool.{false_from_ne_true, or_left, or_right, cond_both}
 use Rattle.std.proofs.lemmas.List.{length-map, length-append, map-append}
 use Rattle.sv_world.specs.declared.action.Action.{Action}
-use Rattle.sv_world.specs.Control.{is_in, blank, action_at}
+use Rattle.sv_world.specs.Control.{is_in, action_at}
 use Rattle.sv_world.specs.Sets.{read_set, write_set}
 use Rattle.sv_world.proofs.Members.{is_in-head, is_in-tail}
 use Rattle.sv_eval.specs.Evaluation.{outcome_of}
 use Rattle.sv_eval.specs.Serial.{values_at, put_all, world_after, world_after_some, serial_world}
 use Rattle.sv_eval.proofs.Serials.{put_all_elsewhere, serial_length}
+use Rattle.sv_system.proofs.Serials.{after_at}
 use Rattle.sv_why.specs.Reasons.{reasons_of, world_by}
 use Rattle.sv_why.specs.Walks.{walk}
 use Rattle.sv_why.proofs.Walks.{any_from, walk_is_reasons}
@@ -40,11 +41,6 @@ agree-values v w (x ∷ xs) h =
     ap₂ (λ (u : List ℤ) (us : List (List ℤ)). u ∷ us) (h x (is_in-head x xs)) (agree-values v w xs (λ y m. h y (is_in-tail y x xs m)))
 
 -- ---- Worlds position by position
-
-after_at : (world : List (List ℤ)) (A : List Action) (p : ℕ) → world_after_some world (slice_get A p) ≡ world_after world (slice_index_or A p blank)
-after_at world [] p = refl
-after_at world (a ∷ A) zero = refl
-after_at world (a ∷ A) (suc p) = after_at world A p
 
 get-front : (A B : List Action) (p : ℕ) → p < length A → slice_get (A ++ B) p ≡ slice_get A p
 get-front [] B p l = absurd (omega arith)

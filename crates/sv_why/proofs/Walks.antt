@@ -4,10 +4,11 @@ use Rattle.std.specs.Prelude.{if◌then◌else◌}
 use Rattle.std.specs.List.{list_any}
 use Rattle.std.proofs.lemmas.Bool.{cases_eq, cases_Bool, false_from_ne_true, or_cases, or_left, or_right, cond_both, cond-true, cond-false}
 use Rattle.sv_world.specs.declared.action.Action.{Action}
-use Rattle.sv_world.specs.Sets.{read_set, write_set, at_mask, is_in_mask}
+use Rattle.sv_world.specs.Sets.{read_set, write_set}
 use Rattle.sv_world.specs.Control.{is_in, action_at, last_writer, missing_writers, wanted_up_to}
 use Rattle.sv_world.proofs.Members.{is_in-head, is_in-tail, is_in-cons_cases, is_in-one, is_in-append_left, is_in-append_right, is_in-append_cases}
 use Rattle.sv_world.proofs.Writers.{last_writer-most, last_writer-writes, missing_writers-parts, missing_writers-has}
+use Rattle.sv_system.proofs.Tests.{at_mask-members}
 use Rattle.sv_why.specs.Reasons.{writer_by, reasons_of}
 use Rattle.sv_why.specs.Walks.{walk}
 
@@ -54,20 +55,8 @@ walk-left A n p t = cond-false (list_any p (write_set (action_at A (suc n)))) (w
 
 -- ---- What an action writes it reads
 
-masked_in : (mask k x : ℕ) (xs : List ℕ) → is_in x (at_mask mask k xs) ≡ true → is_in x xs ≡ true
-masked_in mask k x [] h = h
-masked_in mask k x (y ∷ ys) h =
-    let rest = masked_in mask (k + 1) x ys in
-    cond_both (is_in_mask mask k) (y ∷ at_mask mask (k + 1) ys) (at_mask mask (k + 1) ys) (λ (zs : List ℕ). is_in x zs ≡ true → is_in x (y ∷ ys) ≡ true)
-    (λ e g. elim (is_in-cons_cases x y (at_mask mask (k + 1) ys) g) [
-      | inl s ↦ subst (λ (z : ℕ). is_in x (z ∷ ys) ≡ true) s (is_in-head x ys)
-      | inr r ↦ is_in-tail x y ys (rest r)
-    ])
-    (λ e g. is_in-tail x y ys (rest g))
-    h
-
 written_is_read : (a : Action) (x : ℕ) → is_in x (write_set a) ≡ true → is_in x (read_set a) ≡ true
-written_is_read a x h = masked_in a.mask 0 x (read_set a) h
+written_is_read a x h = at_mask-members a.mask 0 (read_set a) x h
 
 -- ---- Wanted objects and wanted positions
 

@@ -22,6 +22,7 @@ use Rattle.sv_journal.specs.Serving.{is_poll, with_last_rows, noted_after, polle
 use Rattle.sv_sequencer.specs.declared.decision.Decision.{Decision}
 use Rattle.sv_sequencer.specs.declared.decision.Decision.TheVariants as decisions
 use Rattle.sv_sequencer.specs.Decisions.{reply_by, results_in, IsOld, Holds}
+use Rattle.sv_system.proofs.Aligned.{is_submit}
 use Rattle.sv_witness.specs.Reports.{agreed_history, due_to}
 use Rattle.sv_witness.specs.Standing.{emptied, answers_poll, first_of}
 use Rattle.sv_witness.specs.Witnessed.{agreed, witnessed_reply}
@@ -174,10 +175,6 @@ is-plain r g s q (decisions.Drop client seq chain far) other unasked holds = tt
 is-plain r g s q (decisions.Repeat seq chain far) other unasked holds = tt
 is-plain r g s q (decisions.Settle seq pos) other unasked holds = tt
 is-plain r g s q decisions.Leave other unasked holds = tt
-
-abbrev is_submit : Request → Bool
-is_submit (requests.Submit seq a) = true
-is_submit _ = false
 
 -- A Done gives no client a new outcome.
 done-old : (g : List Entry) (s : ℕ) (results : List Done1) → IsOld g s (requests.Done results)
