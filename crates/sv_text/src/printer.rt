@@ -8,7 +8,7 @@ ghost use Rattle.sv_world.specs.Ranges.{is_zero};
 ghost use Rattle.sv_text.specs.Tokens.{tokens_of};
 ghost use Rattle.sv_text.specs.Reading.{reading};
 ghost use Rattle.sv_text.specs.Printable.{IsWithinGrammar};
-ghost use Rattle.sv_text.specs.Canonical.{object_in, ref_text, pair_text, test_text, op_text, comparison_text, joint_text, set_part, not_part, if_part, run_text, block_part, other_part, part_text, else_part, body_text, object_text, spaced_objects, written, origin_text, canonical};
+ghost use Rattle.sv_text.specs.Canonical.{object_in, ref_text, between, pair_text, op_text, comparison_text, joint_text, set_part, not_part, if_part, run_text, block_part, other_part, part_text, else_part, body_text, object_text, spaced_objects, written, origin_text, canonical};
 
 use std::alloc::{AllocError, Global};
 use std::fmt::Write;
@@ -106,47 +106,31 @@ fn put_head(
     match head {
         ExprHead::Lit(number) => put_number(out, number),
         ExprHead::Attr { slot, attr } => put_ref(out, reads, slot, attr),
-        ExprHead::Binary(operator) => put_pair(out, reads, operator, nodes),
+        ExprHead::Binary(operator) => put_pair(out, reads, "(", op_text(operator), ")", nodes),
     }
 }
 
+/// Two expressions, with what stands before, between and behind them.
 #[cycle(expression)]
 fn put_pair(
     out: &mut String,
     reads: &[ObjectId],
-    operator: Operator,
+    before: &str,
+    middle: &str,
+    after: &str,
     nodes: &mut NodeCursor<'_>,
 ) -> Result<(), AllocError>
     requires left { is_expr (first (parts nodes.old)) ≡ true }
     requires right { is_expr (second (parts nodes.old)) ≡ true }
-    ensures text { OnOk result (string_bytes out.new ≡ string_bytes out.old ++ pair_text (part_text reads.now (first (parts nodes.old))) (op_text operator) (part_text reads.now (second (parts nodes.old)))) }
+    ensures text { OnOk result (string_bytes out.new ≡ string_bytes out.old ++ between before.now (part_text reads.now (first (parts nodes.old))) middle.now (part_text reads.now (second (parts nodes.old))) after.now) }
     ensures rest { OnOk result (parts nodes.new ≡ drop 2 (parts nodes.old)) }
     ensures shorter { OnOk result (length nodes.new < length nodes.old) }
 {
-    out.push_str("(")?;
+    out.push_str(before)?;
     put_expr(out, reads, nodes)?;
-    out.push_str(op_text(operator))?;
+    out.push_str(middle)?;
     put_expr(out, reads, nodes)?;
-    out.push_str(")")
-}
-
-fn put_test(
-    out: &mut String,
-    reads: &[ObjectId],
-    comparison: Comparison,
-    nodes: &mut NodeCursor<'_>,
-) -> Result<(), AllocError>
-    requires left { is_expr (first (parts nodes.old)) ≡ true }
-    requires right { is_expr (second (parts nodes.old)) ≡ true }
-    ensures text { OnOk result (string_bytes out.new ≡ string_bytes out.old ++ test_text (part_text reads.now (first (parts nodes.old))) (comparison_text comparison) (part_text reads.now (second (parts nodes.old)))) }
-    ensures rest { OnOk result (parts nodes.new ≡ drop 2 (parts nodes.old)) }
-    ensures shorter { OnOk result (length nodes.new < length nodes.old) }
-{
-    out.push_str("[")?;
-    put_expr(out, reads, nodes)?;
-    out.push_str(comparison_text(comparison))?;
-    put_expr(out, reads, nodes)?;
-    out.push_str("]")
+    out.push_str(after)
 }
 
 #[cycle(condition)]
@@ -162,7 +146,9 @@ fn put_cond(
     ensures shorter { OnOk result (length nodes.new < length nodes.old) }
 {
     match nodes.cond() {
-        CondHead::Compare(comparison) => put_test(out, reads, comparison, nodes),
+        CondHead::Compare(comparison) => {
+            put_pair(out, reads, "[", comparison_text(comparison), "]", nodes)
+        }
         CondHead::Join(joint) => put_joined(out, reads, joint, nodes),
         CondHead::Not => put_not(out, reads, nodes),
     }
