@@ -1,4 +1,7 @@
 //! Traces of clients, and their events.
+ghost use Rattle.std.specs.Prelude.{◌≡◌};
+ghost use Rattle.sv_client.specs.Traces.{is_make};
+
 use sv_wire::Reply;
 use sv_world::{Action, ClientId, List, ObjectId};
 
@@ -19,6 +22,13 @@ pub enum Event {
     Quit,
     /// It looked at these objects.
     Show(List<ObjectId>),
+}
+
+/// Whether a client made an action by an event.
+pub fn is_make(event: &Event) -> bool
+    ensures { result ≡ is_make event.now }
+{
+    matches!(event, Event::Make(_))
 }
 
 /// What is noted in a trace beside the calls of a client.

@@ -1,19 +1,12 @@
 //! The text that tells a client's play.
 ghost use Rattle.std.specs.Prelude.{◌≡◌, string_bytes, IfOk};
-ghost use Rattle.sv_client.specs.Traces.{is_make};
 ghost use Rattle.sv_script.specs.Telling.{told_lines};
 ghost use Rattle.sv_join.specs.Texts.{join_text, made_by};
 
 use crate::outcome::Joined;
 use std::alloc::{AllocError, Global};
-use sv_client::{Event, Trace};
+use sv_client::{Trace, is_make};
 use sv_command::append_lines;
-
-fn is_make(event: &Event) -> bool
-    ensures { result ≡ is_make event.now }
-{
-    matches!(event, Event::Make(_))
-}
 
 /// How many actions a client made.
 fn made_by(trace: &Trace) -> usize

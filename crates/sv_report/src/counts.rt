@@ -2,17 +2,11 @@
 ghost use Rattle.std.specs.Prelude.{◌≡◌, ◌≤◌, All, length, reverse};
 ghost use Rattle.sv_client.specs.declared.trace.Trace.{Trace};
 ghost use Rattle.sv_world.specs.Limits.{most_clients};
-ghost use Rattle.sv_client.specs.Traces.{is_make, makes};
+ghost use Rattle.sv_client.specs.Traces.{makes};
 ghost use Rattle.sv_client.specs.Proper.{most_made};
 ghost use Rattle.sv_report.specs.Summary.{made_count};
 
-use sv_client::{Event, Trace};
-
-fn is_make(event: &Event) -> bool
-    ensures { result ≡ is_make event.now }
-{
-    matches!(event, Event::Make(_))
-}
+use sv_client::{Event, Trace, is_make};
 
 /// How many of the events make an action.
 fn made_by(events: &[Event]) -> usize
