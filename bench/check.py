@@ -7,7 +7,6 @@ once, and the answers of one call each, which are looked at. Beside the time tha
 machine lengthens less.
 """
 
-import json
 import os
 import statistics
 import subprocess
@@ -16,9 +15,7 @@ import tempfile
 import time
 from typing import NamedTuple
 
-from loads import load
-
-SIZES = (1, 16, 96, 192)
+from loads import SIZES, write_load
 
 
 class Call(NamedTuple):
@@ -61,10 +58,8 @@ def main(program, rounds):
         print("| Size | Actions | Report, MB | Lines | `check`: ms, best | median | ms of a processor, best | MB/s of that | µs a line | MB of memory | `replay`: ms of a processor, best | `check` / `replay` | `why`: ms of a processor, best |")
         print("|---|---|---|---|---|---|---|---|---|---|---|---|---|")
         for n in SIZES:
-            scenario, actions = load(n)
-            path, report = f"{folder}/{n}.json", f"{folder}/{n}.out"
-            with open(path, "w") as it:
-                json.dump(scenario, it)
+            path, _, actions = write_load(folder, n)
+            report = f"{folder}/{n}.out"
             text = answer([program, "replay", path])
             with open(report, "wb") as it:
                 it.write(text)

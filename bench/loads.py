@@ -1,5 +1,9 @@
 """The generated load as scenario files."""
 
+import json
+
+SIZES = (1, 16, 96, 192)
+
 
 def act(b, h, j):
     t, u, v = 1 + j % 3, b + j % 4, b + (j + 1 + h) % 4
@@ -22,3 +26,12 @@ def load(n):
             clients.append({"interest": [first + k for k in range(4)], "steps": steps})
     objects = [[100 + o, 0] for o in range(4 * pairs * rounds)]
     return {"attrs": 2, "objects": objects, "bound": 32, "clients": clients}, 32 * pairs * rounds
+
+
+def write_load(folder, n):
+    """Writes the load of size n into a file, and answers its path, the scenario, and how many actions it makes."""
+    scenario, actions = load(n)
+    path = f"{folder}/{n}.json"
+    with open(path, "w") as file:
+        json.dump(scenario, file)
+    return path, scenario, actions

@@ -22,19 +22,4 @@ for _ in $(seq "$rounds"); do
         fi
     done
 done >"$work/figures"
-python3 - "$work/figures" <<'END'
-import statistics
-import sys
-
-figures = {}
-for line in open(sys.argv[1]):
-    kind, threads, calls, _, nanos = line.split()
-    figures.setdefault((kind, int(threads)), []).append(int(nanos) / int(calls))
-columns = {"lock": "The lock", "mutex": "Mutex here", "rust": "Mutex of Rust", "before": "The lock before"}
-kinds = [kind for kind in columns if (kind, 1) in figures]
-print("| Threads | " + " | ".join(columns[kind] for kind in kinds) + " |")
-print("|---|" + "---|" * len(kinds))
-for threads in (1, 2, 4, 8, 64):
-    cells = [figures[kind, threads] for kind in kinds]
-    print(f"| {threads} | " + " | ".join(f"{min(cell):,.0f} ({statistics.median(cell):,.0f})" for cell in cells) + " |")
-END
+python3 "$here/lock.py" "$work/figures"

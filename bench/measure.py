@@ -5,11 +5,12 @@ python3 bench/measure.py REPOSITORY PEER [ROUNDS]
 """
 import os
 import re
-import shutil
 import statistics
 import subprocess
 import sys
 import tempfile
+
+from peers import built_peer
 
 REPOSITORY, PEER = (os.path.abspath(path) for path in sys.argv[1:3])
 ROUNDS = int(sys.argv[3]) if len(sys.argv) > 3 else 25
@@ -27,15 +28,6 @@ SESSIONS = 64
 
 def output(*words, **options):
     return subprocess.run(words, stdout=subprocess.PIPE, check=True, **options).stdout.decode()
-
-
-def built_peer(work):
-    """The peer may lie in a folder that may not be written, so it is built in a copy."""
-    copy = os.path.join(work, "peer")
-    shutil.copytree(PEER, copy, ignore=shutil.ignore_patterns("target"))
-    subprocess.run(["chmod", "-R", "u+w", copy], check=True)
-    subprocess.run(["cargo", "build", "--release", "--offline", "--quiet"], cwd=copy, check=True)
-    return os.path.join(copy, "target", "release", "peer")
 
 
 def built_bench():
@@ -167,7 +159,7 @@ def measure_steps(figures, peer, bench, work):
 
 def main():
     with tempfile.TemporaryDirectory() as work:
-        peer, bench, trees = built_peer(work), built_bench(), built_trees(work)
+        peer, bench, trees = built_peer(work, PEER), built_bench(), built_trees(work)
         size = corpora(peer, work)
         figures = Figures()
         for _ in range(ROUNDS):

@@ -1,21 +1,13 @@
 """Times loads of some sizes over TCP and over links in memory: the program, and the plain Rust peer, in turn."""
 
-import shutil
 import statistics
 import subprocess
 import sys
 import tempfile
 import time
 
-from loads import load
-
-SIZES = (1, 16, 96, 192)
-
-
-def peer_of(folder, sources):
-    shutil.copytree(sources, f"{folder}/peer", ignore=shutil.ignore_patterns("target"))
-    subprocess.run(["cargo", "build", "--release", "--offline", "-q"], cwd=f"{folder}/peer", check=True)
-    return f"{folder}/peer/target/release/peer"
+from loads import SIZES, load
+from peers import built_peer
 
 
 def run(words):
@@ -50,7 +42,7 @@ def print_row(n, link, ours, theirs):
 
 def main(program, in_memory, sources, rounds):
     with tempfile.TemporaryDirectory() as folder:
-        peer = peer_of(folder, sources)
+        peer = built_peer(folder, sources)
         print("| Links | Size | Actions | Here: actions/s, best | median | µs an action, best | Peer: actions/s, best | median | Here / peer, best | median |")
         print("|---|---|---|---|---|---|---|---|---|---|")
         for n in SIZES:

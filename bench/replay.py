@@ -1,22 +1,13 @@
 """Times replays of the generated load of some sizes: the program, and the plain Rust peer, which prints a summary or its journal too, in turn."""
 
-import json
-import shutil
 import statistics
 import subprocess
 import sys
 import tempfile
 import time
 
-from loads import load
-
-SIZES = (1, 16, 96, 192)
-
-
-def peer_of(folder, sources):
-    shutil.copytree(sources, f"{folder}/peer", ignore=shutil.ignore_patterns("target"))
-    subprocess.run(["cargo", "build", "--release", "--offline", "-q"], cwd=f"{folder}/peer", check=True)
-    return f"{folder}/peer/target/release/peer"
+from loads import SIZES, write_load
+from peers import built_peer
 
 
 def seconds(words):
@@ -27,17 +18,14 @@ def seconds(words):
 
 def main(program, sources, rounds):
     with tempfile.TemporaryDirectory() as folder:
-        peer = peer_of(folder, sources)
+        peer = built_peer(folder, sources)
         print(
             "| Size | Actions | Here: actions/s, best | median | µs an action, best | Peer with its journal: actions/s, best | median | Here / peer, best | median "
             "| Peer without: actions/s, best | Here / peer, best |"
         )
         print("|---|---|---|---|---|---|---|---|---|---|---|")
         for n in SIZES:
-            scenario, actions = load(n)
-            path = f"{folder}/{n}.json"
-            with open(path, "w") as it:
-                json.dump(scenario, it)
+            path, _, actions = write_load(folder, n)
             ours, theirs, brief = [], [], []
             for _ in range(rounds):
                 ours.append(seconds([program, "replay", path]))

@@ -18,19 +18,4 @@ for _ in $(seq "$rounds"); do
         "$program" take $work_of | sed "s/^take/here ${work_of% *}/"
     done
 done >"$work/figures"
-python3 - "$work/figures" <<'END'
-import statistics
-import sys
-
-rates = {}
-for line in open(sys.argv[1]):
-    side, items, turns, _, nanos = line.split()
-    rates.setdefault((side, int(items)), []).append(int(turns) * 1e9 / int(nanos))
-print("| Items | Rust: best | median | Here: best | median | Here / Rust: best | median |")
-print("|---|---|---|---|---|---|---|")
-for items in (1, 33):
-    rust, here = rates["rust", items], rates["here", items]
-    best, median = max(here) / max(rust), statistics.median(here) / statistics.median(rust)
-    cells = [f"{way(side):,.0f}" for side in (rust, here) for way in (max, statistics.median)]
-    print(f"| {items} | {' | '.join(cells)} | {best:.2f} | {median:.2f} |")
-END
+python3 "$here/take.py" "$work/figures"

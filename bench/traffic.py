@@ -5,7 +5,6 @@
 A broadcast sends each accepted action once to each client, as an item without a frame. The report is read by tests/outside/report.py.
 """
 
-import json
 import os
 import subprocess
 import sys
@@ -15,9 +14,8 @@ here = os.path.dirname(os.path.abspath(__file__))
 sys.path[:0] = [here, os.path.join(os.path.dirname(here), "tests", "outside")]
 
 from report import read_report  # noqa: E402
-from loads import load  # noqa: E402
+from loads import SIZES, write_load  # noqa: E402
 
-SIZES = (1, 16, 96, 192)
 FRAME = 4
 
 
@@ -96,10 +94,7 @@ def main(program, command):
     print("|---|---|---|---|---|---|---|---|---|")
     with tempfile.TemporaryDirectory() as folder:
         for size in SIZES:
-            scenario, _ = load(size)
-            path = f"{folder}/{size}.json"
-            with open(path, "w") as file:
-                json.dump(scenario, file)
+            path, scenario, _ = write_load(folder, size)
             text = subprocess.run([program, command, path], check=True, stdout=subprocess.PIPE).stdout.decode()
             clients = len(scenario["clients"])
             report = read_report(text, clients, len(scenario["objects"]), False)

@@ -259,41 +259,27 @@ class Reader:
             return ("ref", target, attribute)
         if not self.stands("("):
             self.fault(EXPECTED)
+        return self.pair(above, self.expression, OPERATORS, ")")
+
+    def pair(self, above, part, joints, end):
+        """What joins two parts, and these; their opening bracket is at hand."""
         self.begin(above)
         self.advance()
-        left = self.expression(above + 1)
-        if not self.stands(*OPERATORS):
+        left = part(above + 1)
+        if not self.stands(*joints):
             self.fault(EXPECTED)
-        operator = self.token.text
-        self.take(operator)
-        right = self.expression(above + 1)
-        self.take(")")
-        return (operator, left, right)
+        joint = self.token.text
+        self.take(joint)
+        right = part(above + 1)
+        self.take(end)
+        return (joint, left, right)
 
     def condition(self, above):
         """A comparison, two conditions joined, or `not`."""
         if self.stands("["):
-            self.begin(above)
-            self.advance()
-            left = self.expression(above + 1)
-            if not self.stands(*SIGNS):
-                self.fault(EXPECTED)
-            sign = self.token.text
-            self.take(sign)
-            right = self.expression(above + 1)
-            self.take("]")
-            return ("compare", sign, left, right)
+            return ("compare", *self.pair(above, self.expression, SIGNS, "]"))
         if self.stands("("):
-            self.begin(above)
-            self.advance()
-            left = self.condition(above + 1)
-            if not self.stands("and", "or"):
-                self.fault(EXPECTED)
-            word = self.token.text
-            self.take(word)
-            right = self.condition(above + 1)
-            self.take(")")
-            return (word, left, right)
+            return self.pair(above, self.condition, ("and", "or"), ")")
         if self.stands("not"):
             self.begin(above)
             self.advance()

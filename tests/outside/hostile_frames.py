@@ -264,6 +264,8 @@ class Journal(StandIn):
 class Campaign:
     """What all worlds came to."""
 
+    worlds_are = World
+
     def __init__(self, program, room):
         self.program, self.room = program, room
         self.answered = self.malformed = self.entries = self.reset = self.lost = self.wrong = self.worlds = 0
@@ -278,7 +280,7 @@ class Campaign:
 
     def world(self, seed, frames):
         """One world, until its sessions are over or so many frames were sent in all."""
-        world = World(self, seed)
+        world = self.worlds_are(self, seed)
         while world.open and sum(self.kinds.values()) < frames:
             world.burst()
         world.close()

@@ -69,13 +69,7 @@ class Piped(World):
 class PipeCampaign(Campaign):
     """The same campaign over links in memory."""
 
-    def world(self, seed, frames):
-        """One world."""
-        world = Piped(self, seed)
-        while world.open and sum(self.kinds.values()) < frames:
-            world.burst()
-        world.close()
-        self.count(world)
+    worlds_are = Piped
 
     def add(self, other):
         """What another process came to."""

@@ -55,16 +55,21 @@ class StaleHeads(Server):
         return reply
 
 
+def take_over(server, session, client, sets):
+    """Adds a client's new session to each set that has an older one of its."""
+    older = {other for other, owner in enumerate(server.client_of) if owner == client}
+    for sessions in sets:
+        if sessions & older:
+            sessions.add(session)
+
+
 class MarksByClient(Server):
     """Takes what it sent to a client's older session as sent."""
 
     def join(self, session, request):
         reply = super().join(session, request)
         if reply.kind == "welcome":
-            older = {other for other, owner in enumerate(self.client_of) if owner == request.client}
-            for queued in self.queue:
-                if queued.marks & older:
-                    queued.marks.add(session)
+            take_over(self, session, request.client, [queued.marks for queued in self.queue])
         return reply
 
 
@@ -74,10 +79,7 @@ class GivesByClient(Server):
     def join(self, session, request):
         reply = super().join(session, request)
         if reply.kind == "welcome":
-            older = {other for other, owner in enumerate(self.client_of) if owner == request.client}
-            for given in self.given:
-                if given & older:
-                    given.add(session)
+            take_over(self, session, request.client, self.given)
         return reply
 
 
