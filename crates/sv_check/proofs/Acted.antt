@@ -146,12 +146,12 @@ events_stopped entries old number first shape plan y text left few good who from
 -- ---- The loop over the events
 
 -- The actor went on from the old one, by the events whose lines were taken, each of at least one byte.
-pub record Takes (entries : List Entry) (old now : Actor) (text rest : List ℕ) (count : ℕ) : Type 0 where
+pub record TookEvents (entries : List Entry) (old now : Actor) (text rest : List ℕ) (count : ℕ) : Type 0 where
   pub on : WentOn entries old now
   pub taken : event_lines entries (journal_events old) ++ text ≡ event_lines entries (journal_events now) ++ rest
   pub less : count + length rest ≤ length text
 
-pub takes_none : (entries : List Entry) (a : Actor) (text : List ℕ) → IsActing entries a → Takes entries a a text text 0
+pub takes_none : (entries : List Entry) (a : Actor) (text : List ℕ) → IsActing entries a → TookEvents entries a a text text 0
 takes_none entries a text g = record { on = record { acting = g; who = refl; first = refl; script = refl }; taken = refl; less = omega arith }
 
 line_shorter : (entries : List Entry) (old now : List Event) (text rest : List ℕ) → IsLineOf entries old now text rest → suc (length rest) ≤ length text
@@ -160,8 +160,8 @@ line_shorter entries old now text rest l =
     let sum = length-append (event_text entries old l.event) (10 ∷ rest) in
     omega (arith, whole, sum)
 
-pub takes_more : (entries : List Entry) (old a b : Actor) (text rest more : List ℕ) (count : ℕ) → Takes entries old a text rest count → WentOn entries a b →
-    IsLineOf entries (journal_events a) (journal_events b) rest more → Takes entries old b text more (count + 1)
+pub takes_more : (entries : List Entry) (old a b : Actor) (text rest more : List ℕ) (count : ℕ) → TookEvents entries old a text rest count → WentOn entries a b →
+    IsLineOf entries (journal_events a) (journal_events b) rest more → TookEvents entries old b text more (count + 1)
 takes_more entries old a b text rest more count t w l =
     let shorter = line_shorter entries (journal_events a) (journal_events b) rest more l in
     let less = t.less in
@@ -180,7 +180,7 @@ wrong_as A B P Q stop.Memory f is g h = subst (λ (x : Stop). IfWrong {A = B} (E
 abbrev pub NoLine : List Entry → Actor → List ℕ → ℕ → Type 0
 NoLine entries a rest left = (left ≡ length rest) × NoEvent a.client.who a.first entries (journal_events a) a.left.now rest
 
-pub line_stopped : (entries : List Entry) (old a : Actor) (text rest : List ℕ) (count left : ℕ) → Takes entries old a text rest count → a.finished ≡ false → NoLine entries a rest left →
+pub line_stopped : (entries : List Entry) (old a : Actor) (text rest : List ℕ) (count left : ℕ) → TookEvents entries old a text rest count → a.finished ≡ false → NoLine entries a rest left →
     EventsStop entries old text left
 line_stopped entries old a text rest count left t here n =
     record { now = a; on = t.on; here = here; rest = rest; text_is = t.taken; left_is = n.0; none = n.1 }
@@ -190,7 +190,7 @@ no_length [] e = refl
 no_length (x ∷ xs) e = absurd (omega (arith, e))
 
 -- All of the text was taken.
-pub text_stopped : (entries : List Entry) (old a : Actor) (text rest : List ℕ) (count left : ℕ) → Takes entries old a text rest count → length text ≤ count → a.finished ≡ false → left ≡ length rest →
+pub text_stopped : (entries : List Entry) (old a : Actor) (text rest : List ℕ) (count left : ℕ) → TookEvents entries old a text rest count → length text ≤ count → a.finished ≡ false → left ≡ length rest →
     EventsStop entries old text left
 text_stopped entries old a text rest count left t all here is =
     let less = t.less in

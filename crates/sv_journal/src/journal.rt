@@ -128,7 +128,8 @@ impl Journal {
         ensures action { result.1.now ≡ (authored_at (accepted (reverse self.now.entries)) pos).action }
     {
         let place = self.accepted[pos as usize - 1].place;
-        match &self.entries[place].request {
+        let entry = &self.entries[place];
+        match &entry.request {
             Request::Submit { seq, action } => (*seq, action),
             _ => unreachable!(),
         }

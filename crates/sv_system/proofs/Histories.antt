@@ -79,15 +79,15 @@ action_at-earlier h g b k l =
 
 -- ---- Outcomes
 
-abbrev pub IsWithin : ℕ → Outcome → Type 0
-IsWithin n (Accepted p) = (0 < p) × (p ≤ n)
-IsWithin n (Dropped chain far) = Unit {0}
+abbrev pub IsOutcomeWithin : ℕ → Outcome → Type 0
+IsOutcomeWithin n (Accepted p) = (0 < p) × (p ≤ n)
+IsOutcomeWithin n (Dropped chain far) = Unit {0}
 
-within-more : (m n : ℕ) → m ≤ n → (o : Outcome) → IsWithin m o → IsWithin n o
+within-more : (m n : ℕ) → m ≤ n → (o : Outcome) → IsOutcomeWithin m o → IsOutcomeWithin n o
 within-more m n l (Accepted p) h = let q : p ≤ m = h.1 in (h.0, omega arith)
 within-more m n l (Dropped chain far) h = h
 
-all-within-more : (m n : ℕ) → m ≤ n → (os : List Outcome) → AllByRecursion (IsWithin m) os → AllByRecursion (IsWithin n) os
+all-within-more : (m n : ℕ) → m ≤ n → (os : List Outcome) → AllByRecursion (IsOutcomeWithin m) os → AllByRecursion (IsOutcomeWithin n) os
 all-within-more m n l [] h = h
 all-within-more m n l (o ∷ os) h = (within-more m n l o h.0, all-within-more m n l os h.1)
 
@@ -108,7 +108,7 @@ abbrev newly : Entry → List Entry → List Authored
 newly e h = if is_relay e.reply then new_action (client_of h e.session) (λ k. suc (length (outcomes_of h k))) e.request else []
 
 outcome-within : (h : List Entry) (e : Entry) (k : ℕ) (reply : Logged) → is_client (client_of h e.session) k ≡ true → is_submit_of e.request (suc (length (outcomes_of h k))) ≡ true →
-    AllByRecursion (IsWithin (length (accepted h ++ (if is_relay reply then new_action (client_of h e.session) (λ k. suc (length (outcomes_of h k))) e.request else [])))) (outcome_in (suc (length (accepted h))) reply)
+    AllByRecursion (IsOutcomeWithin (length (accepted h ++ (if is_relay reply then new_action (client_of h e.session) (λ k. suc (length (outcomes_of h k))) e.request else [])))) (outcome_in (suc (length (accepted h))) reply)
 outcome-within h e k (logged.Relay seq commit head positions) c s =
     let new = new_action (client_of h e.session) (λ k. suc (length (outcomes_of h k))) e.request in
     let one : length new ≡ 1 = new-counts (client_of h e.session) (λ k. suc (length (outcomes_of h k))) k e.request c s in
@@ -123,23 +123,23 @@ outcome-within h e k (logged.Refused code detail) c s = tt
 outcome-within h e k logged.Bye c s = tt
 
 -- Each outcome's position was accepted.
-pub outcomes-within : (h : List Entry) (k : ℕ) → AllByRecursion (IsWithin (length (accepted h))) (outcomes_of h k)
+pub outcomes-within : (h : List Entry) (k : ℕ) → AllByRecursion (IsOutcomeWithin (length (accepted h))) (outcomes_of h k)
 outcomes-within [] k = tt
 outcomes-within (e ∷ h) k =
     let test : Bool = is_client (client_of h e.session) k && is_submit_of e.request (suc (length (outcomes_of h k))) in
     let more = outcome_in (suc (length (accepted h))) e.reply in
     let before = all-within-more (length (accepted h)) (length (accepted (e ∷ h))) (accepted-grows h (e ∷ h) (after e same)) (outcomes_of h k) (outcomes-within h k) in
-    each-append (IsWithin (length (accepted (e ∷ h)))) (outcomes_of h k) (if test then more else []) before
+    each-append (IsOutcomeWithin (length (accepted (e ∷ h)))) (outcomes_of h k) (if test then more else []) before
     (elim (cases_Bool test) [
-      | inr f ↦ subst (AllByRecursion (IsWithin (length (accepted (e ∷ h))))) (sym (cond-false test more [] f)) tt
+      | inr f ↦ subst (AllByRecursion (IsOutcomeWithin (length (accepted (e ∷ h))))) (sym (cond-false test more [] f)) tt
       | inl f ↦
           (let p = and_parts (is_client (client_of h e.session) k) (is_submit_of e.request (suc (length (outcomes_of h k)))) f in
-          subst (AllByRecursion (IsWithin (length (accepted (e ∷ h))))) (sym (cond-true test more [] f)) (outcome-within h e k e.reply p.0 p.1))
+          subst (AllByRecursion (IsOutcomeWithin (length (accepted (e ∷ h))))) (sym (cond-true test more [] f)) (outcome-within h e k e.reply p.0 p.1))
     ])
 
 at-within : (h : List Entry) (k seq p : ℕ) → outcome_at (outcomes_of h k) seq ≡ Some (Accepted p) → (0 < p) × (p ≤ length (accepted h))
 at-within h k zero p e = absurd (none-some (Accepted p) e)
-at-within h k (suc n) p e = each-at (IsWithin (length (accepted h))) (outcomes_of h k) n (Accepted p) (outcomes-within h k) e
+at-within h k (suc n) p e = each-at (IsOutcomeWithin (length (accepted h))) (outcomes_of h k) n (Accepted p) (outcomes-within h k) e
 
 some_if : (b : Bool) (o : Option Outcome) (x : Outcome) → (if b then o else None) ≡ Some x → o ≡ Some x
 some_if true o x f = f

@@ -11,8 +11,8 @@ index-requires c =
     let seen = ap (λ (v : JournalView). length (accepted (reverse v.entries))) c.self.view_is in
     omega (arith, c.requires.first, c.requires.last, seen, a.accepted.ok.0, ap length c.self.invariant.0.places, places_count (reverse a.entries.items))
 
-pub index-requires-2 : goal.index-requires-2
-index-requires-2 c =
+pub index-requires-entry : goal.index-requires-entry
+index-requires-entry c =
     let a = c.self.inside in
     let seen = ap (λ (v : JournalView). length (accepted (reverse v.entries))) c.self.view_is in
     let row = c.index.result.now in
@@ -25,7 +25,7 @@ unreachable-requires c =
     let seen = ap (λ (v : JournalView). length (accepted (reverse v.entries))) c.self.view_is in
     let row = c.index.result.now in
     let is = c.index.ensures ∙ ap (λ rows. get_or rows (c.args.pos - 1) row) c.self.invariant.0.places in
-    let told = told_at a.entries.items c.args.pos c.requires.first (omega (arith, c.requires.last, seen)) row is c.index-2.result.now c.index-2.ensures in
+    let told = told_at a.entries.items c.args.pos c.requires.first (omega (arith, c.requires.last, seen)) row is c.index-entry.result.now c.index-entry.ensures in
     c.in_default.not-Submit told.seq told.action told.asked
 
 pub returns-clause-seq : goal.returns-clause-seq
@@ -34,7 +34,7 @@ returns-clause-seq c =
     let seen = ap (λ (v : JournalView). length (accepted (reverse v.entries))) c.self.view_is in
     let row = c.index.result.now in
     let is = c.index.ensures ∙ ap (λ rows. get_or rows (c.args.pos - 1) row) c.self.invariant.0.places in
-    let told = told_at a.entries.items c.args.pos c.requires.first (omega (arith, c.requires.last, seen)) row is c.index-2.result.now c.index-2.ensures in
+    let told = told_at a.entries.items c.args.pos c.requires.first (omega (arith, c.requires.last, seen)) row is c.index-entry.result.now c.index-entry.ensures in
     let same = submits_are c.in-Submit.seq told.seq c.in-Submit.action told.action (sym c.in-Submit.is ∙ told.asked) in
     same.0 ∙ sym (ap (λ (m : Authored). m.seq) told.told) ∙ ap (λ (v : JournalView). (authored_at (accepted (reverse v.entries)) c.args.pos).seq) c.self.view_is
 
@@ -44,6 +44,6 @@ returns-clause-action c =
     let seen = ap (λ (v : JournalView). length (accepted (reverse v.entries))) c.self.view_is in
     let row = c.index.result.now in
     let is = c.index.ensures ∙ ap (λ rows. get_or rows (c.args.pos - 1) row) c.self.invariant.0.places in
-    let told = told_at a.entries.items c.args.pos c.requires.first (omega (arith, c.requires.last, seen)) row is c.index-2.result.now c.index-2.ensures in
+    let told = told_at a.entries.items c.args.pos c.requires.first (omega (arith, c.requires.last, seen)) row is c.index-entry.result.now c.index-entry.ensures in
     let same = submits_are c.in-Submit.seq told.seq c.in-Submit.action told.action (sym c.in-Submit.is ∙ told.asked) in
     same.1 ∙ sym (ap (λ (m : Authored). m.action) told.told) ∙ ap (λ (v : JournalView). (authored_at (accepted (reverse v.entries)) c.args.pos).action) c.self.view_is
