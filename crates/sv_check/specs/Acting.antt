@@ -16,7 +16,7 @@ use Rattle.sv_client.specs.Taking.{Identity, first_fault_of_reply}
 use Rattle.sv_client.specs.Answers.{got_now}
 use Rattle.sv_client.specs.Proper.{AreProper}
 use Rattle.sv_client.specs.Seen.{with_event, newly_asked}
-use Rattle.sv_report.specs.Again.{MayDo, IsPlace, behind_next, numbered}
+use Rattle.sv_report.specs.Again.{MayDo, IsPlace, behind_next, all_raised}
 use Rattle.sv_report.specs.Report.{entry_number}
 use Rattle.sv_scenario.specs.declared.scenario.Step.{Step}
 use Rattle.sv_script.specs.Following.{FollowsTo, MayCome, event_of, must_join, is_bye, is_welcomed, is_finished}
@@ -28,7 +28,7 @@ use Rattle.sv_check.specs.Next.{NoEvent}
 
 -- Its events, with the numbers that its sessions have in the journal.
 abbrev pub journal_events : Actor → List Event
-journal_events a = numbered a.first a.client.events
+journal_events a = all_raised a.first a.client.events
 
 -- Who the client with a number and a plan is.
 abbrev pub identity : ℕ → Shape → Plan → Identity

@@ -18,9 +18,9 @@ use Rattle.sv_client.specs.Proper.{MayFollow}
 use Rattle.sv_client.specs.Seen.{raised}
 use Rattle.sv_client.proofs.Shifts.{up_joins, up_makes, up_session, up_held, up_pending, up_current, up_outstanding, up_fault}
 use Rattle.sv_report.specs.Report.{entry_number, event_text, kept_text, shown_text}
-use Rattle.sv_report.specs.Again.{MayDo, again, numbered, text_of, number_from, IsPlace}
+use Rattle.sv_report.specs.Again.{MayDo, again, all_raised, text_of, number_from, IsPlace}
 
-pub may_do : (first : ℕ) (who : Identity) (t : List Event) (e : Event) → MayFollow who first (numbered first t) e → MayDo who t e
+pub may_do : (first : ℕ) (who : Identity) (t : List Event) (e : Event) → MayFollow who first (all_raised first t) e → MayDo who t e
 may_do first who t (events.Join s) m = subst (λ (n : ℕ). n < 64) (up_joins first t) m.few
 may_do first who t (events.Make a) m = record {
   joined = sym (up_session first t) ∙ m.joined;
@@ -44,7 +44,7 @@ latest_is first s None e = cc
 latest_is first s (Some k) e = cc
 
 -- The event that the client does is that of the trace, but for the number of its session.
-pub same_event : (first : ℕ) (who : Identity) (t : List Event) (e : Event) → MayFollow who first (numbered first t) e → raised first (again t e) ≡ e
+pub same_event : (first : ℕ) (who : Identity) (t : List Event) (e : Event) → MayFollow who first (all_raised first t) e → raised first (again t e) ≡ e
 same_event first who t (events.Join s) m =
     let same : joins t + first ≡ s = omega (arith, m.next, up_joins first t) in ap (λ (n : ℕ). events.Join n) same
 same_event first who t (events.Make a) m = refl
@@ -67,19 +67,19 @@ abbrev seen_text : List Held → List PendingAction → List ObjectId → List �
 seen_text held pending objects = codes "show " ++ bracketed (λ (o : ObjectId). shown_text o.0 (view_over held pending o.0)) objects
 
 -- Its text is that of the trace.
-pub same_text : (first : ℕ) (entries : List Entry) (place : ℕ) (who : Identity) (t : List Event) (e : Event) → MayFollow who first (numbered first t) e
-    → IsPlace entries (numbered first t) place → text_of (number_from entries place e) t e ≡ event_text entries (numbered first t) e
+pub same_text : (first : ℕ) (entries : List Entry) (place : ℕ) (who : Identity) (t : List Event) (e : Event) → MayFollow who first (all_raised first t) e
+    → IsPlace entries (all_raised first t) place → text_of (number_from entries place e) t e ≡ event_text entries (all_raised first t) e
 same_text first entries place who t (events.Join s) m h = refl
 same_text first entries place who t (events.Make a) m h =
-    made_is (makes t + 1) (suc (makes (numbered first t))) (held_of t) (held_of (numbered first t)) (pending_of t) (pending_of (numbered first t)) a
+    made_is (makes t + 1) (suc (makes (all_raised first t))) (held_of t) (held_of (all_raised first t)) (pending_of t) (pending_of (all_raised first t)) a
     (omega (arith, up_makes first t)) (sym (up_held first t)) (sym (up_pending first t))
 same_text first entries place who t events.Poll m h = refl
 same_text first entries place who t events.Leave m h = refl
 same_text first entries place who t (events.Got s reply) m h =
-    let n = length (got (numbered first t) s) in
+    let n = length (got (all_raised first t) s) in
     let plain : n + 0 ≡ n = omega arith in
     ap (λ (k : ℕ). codes "got s" ++ decimal s ++ codes " #" ++ decimal k) (sym (h.numbers s 0 m.current) ∙ ap (λ (k : ℕ). entry_number entries s k 1) plain)
 same_text first entries place who t events.Cut m h = refl
 same_text first entries place who t events.Quit m h = refl
 same_text first entries place who t (events.Show os) m h =
-    ap (λ (xs : List Held). seen_text xs (pending_of t) os) (sym (up_held first t)) ∙ ap (λ (xs : List PendingAction). seen_text (held_of (numbered first t)) xs os) (sym (up_pending first t))
+    ap (λ (xs : List Held). seen_text xs (pending_of t) os) (sym (up_held first t)) ∙ ap (λ (xs : List PendingAction). seen_text (held_of (all_raised first t)) xs os) (sym (up_pending first t))

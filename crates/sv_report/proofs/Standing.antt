@@ -6,7 +6,7 @@ use Rattle.sv_client.specs.declared.trace.Event.{Event}
 use Rattle.sv_client.specs.Taking.{Identity}
 use Rattle.sv_client.specs.Proper.{AreProper, MayFollow}
 use Rattle.sv_report.specs.Report.{event_text}
-use Rattle.sv_report.specs.Again.{MayComeAfter, IsPlace, again, numbered, place_after, number_from, text_of, lines_after}
+use Rattle.sv_report.specs.Again.{MayComeAfter, IsPlace, again, all_raised, place_after, number_from, text_of, lines_after}
 use Rattle.sv_report.proofs.Lines.{first_back, one_more}
 use Rattle.sv_report.proofs.Doing.{same_event, same_text}
 use Rattle.sv_report.proofs.Seeking.{next_place, first_place}
@@ -36,17 +36,17 @@ pub stands_at : (entries : List Entry) (first : ℕ) (who : Identity) (t es : Li
 stands_at entries first who t es place i e l is h = subst (λ xs. Stands entries first who t place xs) (left_more es i e l is) h
 
 -- After the next event.
-done_on : (first : ℕ) (who : Identity) (t u : List Event) (e : Event) → MayFollow who first (numbered first t) e → u ≡ again t e ∷ t → numbered first u ≡ e ∷ numbered first t
-done_on first who t u e m is = ap (numbered first) is ∙ ap (λ f. f ∷ numbered first t) (same_event first who t e m)
+done_on : (first : ℕ) (who : Identity) (t u : List Event) (e : Event) → MayFollow who first (all_raised first t) e → u ≡ again t e ∷ t → all_raised first u ≡ e ∷ all_raised first t
+done_on first who t u e m is = ap (all_raised first) is ∙ ap (λ f. f ∷ all_raised first t) (same_event first who t e m)
 
-pub goes_on : (entries : List Entry) (first : ℕ) (who : Identity) (t u es : List Event) (place : ℕ) (e : Event) → Stands entries first who (numbered first t) place (e ∷ es)
-    → u ≡ again t e ∷ t → Stands entries first who (numbered first u) (place_after entries place e) es
+pub goes_on : (entries : List Entry) (first : ℕ) (who : Identity) (t u es : List Event) (place : ℕ) (e : Event) → Stands entries first who (all_raised first t) place (e ∷ es)
+    → u ≡ again t e ∷ t → Stands entries first who (all_raised first u) (place_after entries place e) es
 goes_on entries first who t u es place e h is = subst (λ xs. Stands entries first who xs (place_after entries place e) es)
     (sym (done_on first who t u e h.after.0 is))
     (record {
       before = (h.after.0, h.before);
       after = h.after.1;
-      where_next = next_place who first entries (numbered first t) e place h.before h.after.0 h.where_next;
+      where_next = next_place who first entries (all_raised first t) e place h.before h.after.0 h.where_next;
     })
 
 -- Its line is that of the trace.
@@ -54,15 +54,15 @@ line_is : (out new text line : List ℕ) → text ≡ line → new ≡ (out ++ t
 line_is out new text line e n = n ∙ append_assoc out text (10 ∷ []) ∙ ap (λ z. out ++ (z ++ 10 ∷ [])) e
 
 pub told_on : (entries : List Entry) (first : ℕ) (who : Identity) (t u es : List Event) (place number i : ℕ) (e : Event) (out new whole : List ℕ)
-    → i < length es → e ≡ get_or es i e → Stands entries first who (numbered first t) place (drop i es)
+    → i < length es → e ≡ get_or es i e → Stands entries first who (all_raised first t) place (drop i es)
     → number ≡ number_from entries place e → u ≡ again t e ∷ t → new ≡ (out ++ text_of number t e) ++ 10 ∷ []
-    → out ++ lines_after entries (numbered first t) (drop i es) ≡ whole
-    → new ++ lines_after entries (numbered first u) (drop (i + 1) es) ≡ whole
+    → out ++ lines_after entries (all_raised first t) (drop i es) ≡ whole
+    → new ++ lines_after entries (all_raised first u) (drop (i + 1) es) ≡ whole
 told_on entries first who t u es place number i e out new whole l is h k d n w =
-    let here = stands_at entries first who (numbered first t) es place i e l is h in
-    let line = event_text entries (numbered first t) e ++ 10 ∷ [] in
+    let here = stands_at entries first who (all_raised first t) es place i e l is h in
+    let line = event_text entries (all_raised first t) e ++ 10 ∷ [] in
     let text = ap (λ (m : ℕ). text_of m t e) k ∙ same_text first entries place who t e here.after.0 here.where_next in
     ap (λ (xs : List Event). new ++ lines_after entries xs (drop (i + 1) es)) (done_on first who t u e here.after.0 d)
-    ∙ one_more out new line (lines_after entries (numbered first t) (drop i es)) (lines_after entries (e ∷ numbered first t) (drop (i + 1) es)) whole
-    (line_is out new (text_of number t e) (event_text entries (numbered first t) e) text n)
-    (ap (λ (xs : List Event). lines_after entries (numbered first t) xs) (left_more es i e l is)) w
+    ∙ one_more out new line (lines_after entries (all_raised first t) (drop i es)) (lines_after entries (e ∷ all_raised first t) (drop (i + 1) es)) whole
+    (line_is out new (text_of number t e) (event_text entries (all_raised first t) e) text n)
+    (ap (λ (xs : List Event). lines_after entries (all_raised first t) xs) (left_more es i e l is)) w

@@ -20,8 +20,8 @@ use Rattle.sv_report.specs.Report.{entry_number, event_text, kept_text, shown_te
 -- ---- Events
 
 -- The events, where the first session has another number.
-abbrev pub numbered : ℕ → List Event → List Event
-numbered first t = map (raised first) t
+abbrev pub all_raised : ℕ → List Event → List Event
+all_raised first t = map (raised first) t
 
 -- A client that did the events t may do an event, whatever the number of its session is.
 abbrev pub MayDo : Identity → List Event → Event → Type 0

@@ -26,7 +26,7 @@ use Rattle.sv_play.proofs.Places.{each_all, at_place, unmap_at}
 use Rattle.sv_play.proofs.Leaving.{served_left, all_of_lock}
 use Rattle.sv_play.proofs.Whole.{just_at}
 use Rattle.sv_play.proofs.Keepers.{just_of, below_of, legal_of, all_taken_in}
-use Rattle.sv_serve.specs.Giving.{kept_of, kept_served, IsUnservedOf, IsServedOf}
+use Rattle.sv_serve.specs.Giving.{passage_kept, kept_served, IsUnservedOf, IsServedOf}
 use Rattle.sv_serve.specs.Passages.{IsPassageOf}
 use Rattle.sv_serve.specs.Hosting.{Moved, IsHosted}
 use Rattle.sv_serve.proofs.Passages.{WasHosted, passage_is, one_end_is}
@@ -91,7 +91,7 @@ module _ {E G : Type 0} (told : E → Told) (faults : E → ℕ) (calm : E → T
 
       each_passage : EachPlace (IsPassageOf (reverse k.seen)) (kept_served told faults ys)
       each_passage s x e =
-          let y = unmap_at (λ (y : Serviced E). kept_of told faults y.end) ys s x e in
+          let y = unmap_at (λ (y : Serviced E). passage_kept told faults y.end) ys s x e in
           subst (IsPassageOf (reverse k.seen) s) y.2 (passage_is stay name k.seen s y.0.out (told y.0.end) (faults y.0.end) (was_hosted s y.0 y.1))
 
       pub hosted : (m : Moved) → m.given_now ≡ m.given_before ++ kept_served told faults ys → m.ran_now ≡ m.ran_before ++ length xs ∷ [] → IsHosted run.scenario (reverse k.seen) m
@@ -106,7 +106,7 @@ module _ {E G : Type 0} (told : E → Told) (faults : E → ℕ) (calm : E → T
                 one_end_is stay name k.seen s y.0.out (told y.0.end) (faults y.0.end) (was_hosted s y.0 y.1);
             passages = kept_served told faults ys;
             given = given;
-            count = length-map ys (λ (y : Serviced E). kept_of told faults y.end) ∙ all_served;
+            count = length-map ys (λ (y : Serviced E). passage_kept told faults y.end) ∙ all_served;
             each = each_passage;
             ran = ran ∙ ap (λ (n : ℕ). m.ran_before ++ n ∷ []) count;
           }

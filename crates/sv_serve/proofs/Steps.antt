@@ -9,7 +9,7 @@ use Rattle.sv_journal.specs.Text.{RelaysNameAccepted}
 use Rattle.sv_play.specs.declared.tasks.Service.{Service}
 use Rattle.sv_play.specs.declared.tasks.Serviced.{Serviced}
 use Rattle.sv_door.specs.Doors.{Passage}
-use Rattle.sv_serve.specs.Giving.{doorway, kept_of, kept_unserved, kept_served, GaveAllBack}
+use Rattle.sv_serve.specs.Giving.{doorway, passage_kept, kept_unserved, kept_served, GaveAllBack}
 
 -- A legal journal can be printed.
 pub named : LegalRelaysNameAccepted → (r : Rules) (entries : List Entry) → Legal r (reverse entries) → RelaysNameAccepted entries
@@ -19,11 +19,11 @@ module _ {E : Type 0} (told : E → Told) (faults : E → ℕ) (given0 given1 : 
   pub unserved_back : {G : Type 0} (xs : List (Service E G)) → given1 ≡ given0 ++ kept_unserved told faults xs → made1 ≡ made0 + length xs → owed1 ≡ owed0 →
       GaveAllBack (doorway given0 made0 owed0) (doorway given1 made1 owed1)
   unserved_back xs given made owed =
-      let same = length-map xs (λ (x : Service E _). kept_of told faults x.end) in
+      let same = length-map xs (λ (x : Service E _). passage_kept told faults x.end) in
       record { passages = kept_unserved told faults xs; given = given; made = made ∙ ap (λ (n : ℕ). made0 + n) (sym same); owed = owed }
 
   pub served_back : (ys : List (Serviced E)) → given1 ≡ given0 ++ kept_served told faults ys → made1 ≡ made0 + length ys → owed1 ≡ owed0 →
       GaveAllBack (doorway given0 made0 owed0) (doorway given1 made1 owed1)
   served_back ys given made owed =
-      let same = length-map ys (λ (y : Serviced E). kept_of told faults y.end) in
+      let same = length-map ys (λ (y : Serviced E). passage_kept told faults y.end) in
       record { passages = kept_served told faults ys; given = given; made = made ∙ ap (λ (n : ℕ). made0 + n) (sym same); owed = owed }

@@ -31,15 +31,15 @@ GivesBack ran_before ran_now old new (Err faults.Start) = ran_now ≡ ran_before
 GivesBack ran_before ran_now old new (Err faults.Memory) = GaveAllBack old new ⊎ (ran_now ≡ ran_before)
 
 module _ {E : Type 0} (told : E → Told) (faults : E → ℕ) where
-  abbrev pub kept_of : E → Passage
-  kept_of end = passage_of (told end) (faults end)
+  abbrev pub passage_kept : E → Passage
+  passage_kept end = passage_of (told end) (faults end)
 
   -- what is kept of the ends of sessions that are to be served, and of those that were
   abbrev pub kept_unserved : {G : Type 0} → List (Service E G) → List Passage
-  kept_unserved xs = map (λ (x : Service E _). kept_of x.end) xs
+  kept_unserved xs = map (λ (x : Service E _). passage_kept x.end) xs
 
   abbrev pub kept_served : List (Serviced E) → List Passage
-  kept_served ys = map (λ (y : Serviced E). kept_of y.end) ys
+  kept_served ys = map (λ (y : Serviced E). passage_kept y.end) ys
 
 module _ {E : Type 0} (told : E → Told) where
   -- a door that made so many ends made these

@@ -26,7 +26,7 @@ use Rattle.sv_link.specs.Ends.{Told}
 use Rattle.sv_session.specs.Requests.{requests_read, due_frames, stop_of, stop_after, StopsFor}
 use Rattle.sv_session.specs.Serving.{SessionPass, IsSamePass, BreaksOff, ExplainsOut, ended_by}
 use Rattle.sv_session.specs.Answers.{IsReplyPosted, ReadsOnOrEnds, IsRound}
-use Rattle.sv_session.specs.Rounds.{Stand, stand, BeginsWithRequests, TakesRequest, StepsOn, Steps, IsBroken, PostsOn, PostsLast, ReadsOn, ReadsLast, Onward, Halts}
+use Rattle.sv_session.specs.Rounds.{Stand, stand, BeginsWithRequests, TakesOffRequest, StepsOn, Steps, IsBroken, PostsOn, PostsLast, ReadsOn, ReadsLast, Onward, Halts}
 use Rattle.sv_session.specs.declared.outcome.SessionOut.{SessionOut}
 use Rattle.sv_session.specs.declared.outcome.SessionOut.TheVariants as outs
 use Rattle.sv_session.proofs.Streams.{begins_with_none, none_yet, none_left}
@@ -99,7 +99,7 @@ steps_if before after request (Err e) names messages limits no_end same on mine 
 
 -- ---- A reply is posted
 
-module _ (a : Stand) (q : Request) (reply : Reply) (inbox : List ℕ) (told : Told) (pass : SessionPass) (takes : TakesRequest a.inbox q inbox) (s : Steps a.pass q reply pass) where
+module _ (a : Stand) (q : Request) (reply : Reply) (inbox : List ℕ) (told : Told) (pass : SessionPass) (takes : TakesOffRequest a.inbox q inbox) (s : Steps a.pass q reply pass) where
   due_same : a.outbox ++ frame (reply_bytes reply) ≡ a.outbox ++ due_frames pass.seen (s.entry ∷ [])
   due_same = ap (λ l. a.outbox ++ l) (ap frame s.whole ∙ sym (frames_of_one pass.seen s.entry))
 
@@ -255,7 +255,7 @@ module _ (a : Stand) where
 
 -- ---- What the round answers
 
-pub round_posted : (result : Option SessionOut) (a : Stand) (q : Request) (reply : Reply) (inbox : List ℕ) (told : Told) (pass : SessionPass) (outbox : List ℕ) → TakesRequest a.inbox q inbox → Steps a.pass q reply pass →
+pub round_posted : (result : Option SessionOut) (a : Stand) (q : Request) (reply : Reply) (inbox : List ℕ) (told : Told) (pass : SessionPass) (outbox : List ℕ) → TakesOffRequest a.inbox q inbox → Steps a.pass q reply pass →
     IsReplyPosted result (stop_of (logged_of reply)) a.told (a.outbox ++ frame (reply_bytes reply)) told outbox → IsRound result a (stand told pass inbox outbox)
 round_posted None a q reply inbox told pass outbox takes s posts = on_answered a q reply inbox told pass takes s outbox posts.0 posts.1
 round_posted (Some out) a q reply inbox told pass outbox takes s posts = halts_answered a q reply inbox told pass takes s out posts

@@ -3,14 +3,14 @@ use Rattle.std.specs.Prelude.{◌≡◌, ℕ, ◌<◌, List, [], length, Option,
 use Rattle.sv_frame.specs.Frames.{first_frame, too_long, greatest_frame}
 use Rattle.sv_link.specs.Ends.{Told}
 use Rattle.sv_session.specs.Serving.{SessionCause}
-use Rattle.sv_session.specs.Rounds.{Stand, TakesRequest, PostsOn, PostsLast, ReadsOn, ReadsLast, Onward, Halts}
+use Rattle.sv_session.specs.Rounds.{Stand, TakesOffRequest, PostsOn, PostsLast, ReadsOn, ReadsLast, Onward, Halts}
 use Rattle.sv_session.specs.declared.outcome.SessionOut.{SessionOut}
 use Rattle.sv_session.specs.declared.taking.Taken.{Taken}
 use Rattle.sv_session.specs.declared.taking.Taken.TheVariants as taken
 
 -- a request was taken off; or less than a frame waits; or there was no memory. The last two take nothing off
 abbrev pub IsTaken : Taken → List ℕ → List ℕ → Type 0
-IsTaken (taken.Request request) old new = TakesRequest old request new
+IsTaken (taken.Request request) old new = TakesOffRequest old request new
 IsTaken taken.NotYet old new = (new ≡ old) × (first_frame old ≡ None) × (too_long old ≡ None) × (length old < greatest_frame)
 IsTaken taken.Memory old new = new ≡ old
 

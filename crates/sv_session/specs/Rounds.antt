@@ -36,7 +36,7 @@ pub record BeginsWithRequests (stream : List ℕ) (taken : List Request) (rest :
   pub left : (more : List ℕ) → (split_frames (stream ++ more)).1 ≡ (split_frames (rest ++ more)).1
 
 -- a request was taken off. Where it is Bad nothing more is said of what is left
-pub record TakesRequest (old : List ℕ) (request : Request) (new : List ℕ) : Type 0 where
+pub record TakesOffRequest (old : List ℕ) (request : Request) (new : List ℕ) : Type 0 where
   pub first : (after : List Request) × (requests_read old ≡ request ∷ after)
   pub next : request ≢ requests.Bad → BeginsWithRequests old (request ∷ []) new
   pub asked : is_end request ≡ false

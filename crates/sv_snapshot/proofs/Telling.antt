@@ -9,7 +9,7 @@ use Rattle.sv_client.specs.Traces.{held_of}
 use Rattle.sv_client.specs.Taking.{Identity}
 use Rattle.sv_client.specs.Proper.{MayFollow}
 use Rattle.sv_client.proofs.Shifts.{up_held}
-use Rattle.sv_report.specs.Again.{MayComeAfter, again, numbered}
+use Rattle.sv_report.specs.Again.{MayComeAfter, again, all_raised}
 use Rattle.sv_report.proofs.Doing.{same_event}
 use Rattle.sv_report.proofs.Lines.{first_back}
 use Rattle.sv_snapshot.specs.declared.snapshot.Snapshot.{Snapshot}
@@ -28,20 +28,20 @@ pub told_are : (client : ClientId) (es : List Event) → snapshots_in client (re
 told_are client es = ap (snapshots_in client) (sym (append-nil (reverse es))) ∙ told_onto client es []
 
 -- After the next event, which the client does under its own number of the session.
-done_on : (first : ℕ) (who : Identity) (t u : List Event) (e : Event) → MayFollow who first (numbered first t) e → u ≡ again t e ∷ t → numbered first u ≡ e ∷ numbered first t
-done_on first who t u e m is = ap (numbered first) is ∙ ap (λ f. f ∷ numbered first t) (same_event first who t e m)
+done_on : (first : ℕ) (who : Identity) (t u : List Event) (e : Event) → MayFollow who first (all_raised first t) e → u ≡ again t e ∷ t → all_raised first u ≡ e ∷ all_raised first t
+done_on first who t u e m is = ap (all_raised first) is ∙ ap (λ f. f ∷ all_raised first t) (same_event first who t e m)
 
-pub goes_on : (first : ℕ) (who : Identity) (t u es : List Event) (e : Event) → MayComeAfter who first (numbered first t) (e ∷ es) → u ≡ again t e ∷ t →
-    MayComeAfter who first (numbered first u) es
+pub goes_on : (first : ℕ) (who : Identity) (t u es : List Event) (e : Event) → MayComeAfter who first (all_raised first t) (e ∷ es) → u ≡ again t e ∷ t →
+    MayComeAfter who first (all_raised first u) es
 goes_on first who t u es e m is = subst (λ xs. MayComeAfter who first xs es) (sym (done_on first who t u e m.0 is)) m.1
 
 -- The snapshots so far and those of the events left are all, also after the next event.
 pub told_on : (client : ClientId) (first : ℕ) (who : Identity) (t u es : List Event) (e : Event) (old new whole : List Snapshot) (more : Option Snapshot) →
-    MayFollow who first (numbered first t) e → u ≡ again t e ∷ t → more ≡ snapshot_by client (held_of u) e → new ≡ old ++ option_to_list more →
-    old ++ snapshots_after client (numbered first t) (e ∷ es) ≡ whole → new ++ snapshots_after client (numbered first u) es ≡ whole
+    MayFollow who first (all_raised first t) e → u ≡ again t e ∷ t → more ≡ snapshot_by client (held_of u) e → new ≡ old ++ option_to_list more →
+    old ++ snapshots_after client (all_raised first t) (e ∷ es) ≡ whole → new ++ snapshots_after client (all_raised first u) es ≡ whole
 told_on client first who t u es e old new whole more m is made grew w =
-    let before = numbered first t in
-    let on : numbered first u ≡ e ∷ before = done_on first who t u e m is in
+    let before = all_raised first t in
+    let on : all_raised first u ≡ e ∷ before = done_on first who t u e m is in
     let held : held_of u ≡ held_of (e ∷ before) = sym (up_held first u) ∙ ap held_of on in
     let told : option_to_list more ≡ told_by_last client before e = ap (λ (o : Option Snapshot). option_to_list o) (made ∙ ap (λ (hs : List Held). snapshot_by client hs e) held) in
     ap (λ (xs : List Event). new ++ snapshots_after client xs es) on

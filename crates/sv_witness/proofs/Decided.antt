@@ -24,7 +24,7 @@ use Rattle.sv_sequencer.specs.declared.decision.Decision.TheVariants as decision
 use Rattle.sv_sequencer.specs.Decisions.{reply_by, results_in, IsOld, Holds}
 use Rattle.sv_system.proofs.Aligned.{is_submit}
 use Rattle.sv_witness.specs.Reports.{agreed_history, due_to}
-use Rattle.sv_witness.specs.Standing.{emptied, answers_poll, first_of}
+use Rattle.sv_witness.specs.Standing.{emptied, answers_poll, first_relay}
 use Rattle.sv_witness.specs.Witnessed.{agreed, witnessed_reply}
 use Rattle.sv_witness.proofs.Routes.{IsPlain, plain-reply, plain-quiet, noted-may, due-uncommitted, poll-old}
 use Rattle.sv_witness.proofs.Same.{accepted-agreed}
@@ -259,21 +259,21 @@ module _ (r : Rules) (h : List Entry) (s : ℕ) (q : Request) (d : Decision) (mo
 
 -- What is decided on a Poll that is not refused.
 module _ (r : Rules) (h : List Entry) (s : ℕ) where
-  due-holds : (ps : List ℕ) → due_to h s ≡ ps → Holds r (agreed_history h) s requests.Poll (first_of ps)
+  due-holds : (ps : List ℕ) → due_to h s ≡ ps → Holds r (agreed_history h) s requests.Poll (first_relay ps)
   due-holds [] is = tt
   due-holds (p ∷ ps) is =
       let open_still = due-uncommitted h s p ps is in
       (poll-old (agreed_history h) s, (open_still.0, subst (λ (A : List Authored). p ≤ length A) (sym (accepted-agreed h)) open_still.1))
 
-  due-reply : (ps : List ℕ) → due_to h s ≡ ps → reply_by r (agreed_history h) s requests.Poll (first_of ps) ≡ polled_after agreed r h s
+  due-reply : (ps : List ℕ) → due_to h s ≡ ps → reply_by r (agreed_history h) s requests.Poll (first_relay ps) ≡ polled_after agreed r h s
   due-reply [] is = sym (poll-none r h s is)
   due-reply (p ∷ ps) is = sym (poll-some r h s p ps is)
 
-  module _ (q : Request) (d : Decision) (poll : q ≡ requests.Poll) (is : d ≡ first_of (due_to h s)) (reply : witnessed_reply r h s q ≡ polled_after agreed r h s) where
+  module _ (q : Request) (d : Decision) (poll : q ≡ requests.Poll) (is : d ≡ first_relay (due_to h s)) (reply : witnessed_reply r h s q ≡ polled_after agreed r h s) where
     pub poll-holds : Holds r (agreed_history h) s (emptied q) d
     poll-holds =
         subst (λ (x : Decision). Holds r (agreed_history h) s (emptied q) x) (sym is)
-        (subst (λ (x : Request). Holds r (agreed_history h) s (emptied x) (first_of (due_to h s))) (sym poll) (due-holds (due_to h s) refl))
+        (subst (λ (x : Request). Holds r (agreed_history h) s (emptied x) (first_relay (due_to h s))) (sym poll) (due-holds (due_to h s) refl))
 
     pub poll-told : reply_by r (agreed_history h) s (emptied q) d ≡ witnessed_reply r h s q
     poll-told =

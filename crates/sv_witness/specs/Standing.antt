@@ -31,9 +31,9 @@ answers_poll q (decisions.Relay seq pos) = is_poll q
 answers_poll q _ = false
 
 -- A Poll is sent the first of the positions that are due.
-abbrev pub first_of : List ℕ → Decision
-first_of [] = decisions.Idle
-first_of (p ∷ ps) = decisions.Relay 0 p
+abbrev pub first_relay : List ℕ → Decision
+first_relay [] = decisions.Idle
+first_relay (p ∷ ps) = decisions.Relay 0 p
 
 -- ---- What is kept
 

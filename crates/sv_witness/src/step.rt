@@ -16,7 +16,7 @@ ghost use Rattle.sv_sequencer.specs.Step.{history, entry_of, GrewByEntry, Stayed
 ghost use Rattle.sv_witness.specs.Reports.{agreed_history};
 ghost use Rattle.sv_witness.specs.Kept.{kept_at, HasRoomFor, counted_results, agreed_results, new_disputes};
 ghost use Rattle.sv_witness.specs.Due.{due_in};
-ghost use Rattle.sv_witness.specs.Standing.{emptied, answers_poll, first_of, Standing, Replied};
+ghost use Rattle.sv_witness.specs.Standing.{emptied, answers_poll, first_relay, Standing, Replied};
 ghost use Rattle.sv_witness.specs.Step.{Witnesses};
 ghost use Rattle.sv_witness.specs.Witnessed.{agreed, IsWitnessed, witnessed_reply};
 
@@ -55,7 +55,7 @@ fn answers_poll(request: &Request, decision: Decision) -> bool
 
 /// What is done on a Poll that is not refused: the lowest position that is due is sent.
 fn due_decision(core: &Core, reports: &Reports, asker: Asker) -> Decision
-    ensures { result ≡ first_of (due_in (queue_of core.now) reports.now asker.client asker.session) }
+    ensures { result ≡ first_relay (due_in (queue_of core.now) reports.now asker.client asker.session) }
 {
     match first_due(core.queue(), reports, asker) {
         Some(pos) => Decision::Relay { seq: 0, pos },

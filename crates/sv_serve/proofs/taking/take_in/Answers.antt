@@ -6,7 +6,7 @@ use Rattle.std.proofs.lemmas.Bool.{or_parts}
 use Rattle.sv_system.proofs.Every.{each-push}
 use Rattle.sv_play.specs.Left.{is_memory, IsOfLock}
 use Rattle.sv_play.proofs.Taken.{joined_more}
-use Rattle.sv_serve.specs.Giving.{kept_of, kept_served, IsServedOf}
+use Rattle.sv_serve.specs.Giving.{passage_kept, kept_served, IsServedOf}
 use Rattle.sv_serve.proofs.taking.take_in.Goals as goal
 
 pub give_back-requires-clause-own : goal.give_back-requires-clause-own
@@ -40,8 +40,8 @@ loop-session-preserved g c =
           (record { just = j.just; below = j.below; legal = j.lawful });
       given =
           b.given
-          ∙ (ap (λ l. l ++ kept_of told faults y.end ∷ []) i.given
-          ∙ (append_assoc before (kept_served told faults yielded) (kept_of told faults y.end ∷ []) ∙ ap (λ l. before ++ l) (sym (map-append (λ x. kept_of told faults x.end) yielded (y ∷ [])))));
+          ∙ (ap (λ l. l ++ passage_kept told faults y.end ∷ []) i.given
+          ∙ (append_assoc before (kept_served told faults yielded) (passage_kept told faults y.end ∷ []) ∙ ap (λ l. before ++ l) (sym (map-append (λ x. passage_kept told faults x.end) yielded (y ∷ [])))));
       passes = (subst (AllByRecursion (IsOfLock c.args.lock.now)) e i.passes).1;
       own = (subst (AllByRecursion (IsServedOf told (g.D.Door.made c.args.door.now))) e i.own).1;
       enough = omega (arith, size, enough, less);

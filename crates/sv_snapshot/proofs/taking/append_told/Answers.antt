@@ -5,7 +5,7 @@ use Rattle.sv_client.specs.declared.trace.Event.{Event}
 use Rattle.sv_client.specs.Traces.{held_of}
 use Rattle.sv_client.specs.Taking.{Identity}
 use Rattle.sv_client.specs.Proper.{AreProper}
-use Rattle.sv_report.specs.Again.{MayComeAfter, numbered}
+use Rattle.sv_report.specs.Again.{MayComeAfter, all_raised}
 use Rattle.sv_report.proofs.Doing.{may_do}
 use Rattle.sv_report.proofs.Standing.{begins, left_more}
 use Rattle.sv_snapshot.specs.declared.snapshot.Snapshot.{Snapshot}
@@ -23,8 +23,8 @@ loop-event-init c =
     let proper = subst (λ (xs : List Event). AreProper who first (reverse xs)) (sym c.as_slice-events.ensures) c.requires.proper in
     record {
       who = refl;
-      after = subst (λ (xs : List Event). MayComeAfter who first (numbered first xs) es) (sym c.requires.start) (begins [] first who es proper).after;
-      told = ap (λ (xs : List Event). c.args.snapshots.now.items ++ snapshots_after who.client (numbered first xs) es) c.requires.start;
+      after = subst (λ (xs : List Event). MayComeAfter who first (all_raised first xs) es) (sym c.requires.start) (begins [] first who es proper).after;
+      told = ap (λ (xs : List Event). c.args.snapshots.now.items ++ snapshots_after who.client (all_raised first xs) es) c.requires.start;
     }
 
 pub do_again-requires : goal.do_again-requires
@@ -33,7 +33,7 @@ do_again-requires c =
     let first = c.args.trace.now.first in
     let e = c.event-item.result in
     let es = c.as_slice-events.result.now in
-    let after = subst (λ xs. MayComeAfter l.client.who first (numbered first l.client.events) xs) (left_more es l.event-index e c.loop-event-test.true c.event-item.is) l.invariant.after in
+    let after = subst (λ xs. MayComeAfter l.client.who first (all_raised first l.client.events) xs) (left_more es l.event-index e c.loop-event-test.true c.event-item.is) l.invariant.after in
     may_do first l.client.who l.client.events e after.0
 
 pub snapshot_by-requires : goal.snapshot_by-requires
@@ -43,7 +43,7 @@ snapshot_by-requires c =
     let e = c.event-item.result in
     let es = c.as_slice-events.result.now in
     let done = c.in_ok-do_again.ensures in
-    let after = subst (λ xs. MayComeAfter l.client.who first (numbered first l.client.events) xs) (left_more es l.event-index e c.loop-event-test.true c.event-item.is) l.invariant.after in
+    let after = subst (λ xs. MayComeAfter l.client.who first (all_raised first l.client.events) xs) (left_more es l.event-index e c.loop-event-test.true c.event-item.is) l.invariant.after in
     let mine = readable l.client.who l.client.events e (may_do first l.client.who l.client.events e after.0) in
     subst (λ (w : Identity). IsReadable w c.do_again.new.client.events e) (sym done.who)
     (subst (λ (xs : List Event). IsReadable l.client.who xs e) (sym done.events) mine)
@@ -58,14 +58,14 @@ loop-event-preserved c =
     let u = c.do_again.new.client.events in
     let rest = drop (l.event-index + 1) es in
     let left = left_more es l.event-index e c.loop-event-test.true c.event-item.is in
-    let after = subst (λ xs. MayComeAfter l.client.who first (numbered first l.client.events) xs) left l.invariant.after in
+    let after = subst (λ xs. MayComeAfter l.client.who first (all_raised first l.client.events) xs) left l.invariant.after in
     let mine = c.args.client.now.who.client in
     record {
       who = done.who ∙ l.invariant.who;
-      after = subst (λ (w : Identity). MayComeAfter w first (numbered first u) rest) (sym done.who) (goes_on first l.client.who l.client.events u rest e after done.events);
+      after = subst (λ (w : Identity). MayComeAfter w first (all_raised first u) rest) (sym done.who) (goes_on first l.client.who l.client.events u rest e after done.events);
       told = told_on mine first l.client.who l.client.events u rest e l.snapshots.items c.push_some.new.snapshots.items _ c.in_ok-more.more after.0 done.events
           (c.in_ok-more.ensures ∙ ap (λ (w : Identity). snapshot_by w.client (held_of u) e) (done.who ∙ l.invariant.who)) c.in_ok-push_some.ensures
-          (sym (ap (λ (xs : List Event). l.snapshots.items ++ snapshots_after mine (numbered first l.client.events) xs) left) ∙ l.invariant.told);
+          (sym (ap (λ (xs : List Event). l.snapshots.items ++ snapshots_after mine (all_raised first l.client.events) xs) left) ∙ l.invariant.told);
     }
 
 pub returns : goal.returns
@@ -74,7 +74,7 @@ returns c =
     let first = c.args.trace.now.first in
     let es = c.as_slice-events.result.now in
     let mine = c.args.client.now.who.client in
-    let ended = at_drop_all (λ (xs : List Event). l.snapshots.items ++ snapshots_after mine (numbered first l.client.events) xs) es l.event-index c.loop-event-test.false in
+    let ended = at_drop_all (λ (xs : List Event). l.snapshots.items ++ snapshots_after mine (all_raised first l.client.events) xs) es l.event-index c.loop-event-test.false in
     sym (append-nil l.snapshots.items) ∙ sym ended ∙ l.invariant.told
     ∙ ap (λ (xs : List Snapshot). c.args.snapshots.now.items ++ xs) (sym (told_are mine es))
     ∙ ap (λ (xs : List Event). c.args.snapshots.now.items ++ snapshots_in mine (reverse xs)) c.as_slice-events.ensures

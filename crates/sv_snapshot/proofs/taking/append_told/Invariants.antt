@@ -1,6 +1,6 @@
 -- The snapshots of the events so far.
 use Rattle.std.proofs.Common.{◌≡◌, [], ◌++◌, drop}
-use Rattle.sv_report.specs.Again.{MayComeAfter, numbered}
+use Rattle.sv_report.specs.Again.{MayComeAfter, all_raised}
 use Rattle.sv_snapshot.specs.Again.{snapshots_after}
 use Rattle.sv_snapshot.proofs.taking.append_told.Given as goal
 
@@ -8,7 +8,7 @@ use Rattle.sv_snapshot.proofs.taking.append_told.Given as goal
 abbrev pub invariant-loop-event : goal.invariant-loop-event
 invariant-loop-event l = record {
   who : l.client.who ≡ l.fn.client.who;
-  after : MayComeAfter l.client.who l.trace.first (numbered l.trace.first l.client.events) (drop l.event-index l.events);
-  told : l.snapshots.items ++ snapshots_after l.fn.client.who.client (numbered l.trace.first l.client.events) (drop l.event-index l.events)
+  after : MayComeAfter l.client.who l.trace.first (all_raised l.trace.first l.client.events) (drop l.event-index l.events);
+  told : l.snapshots.items ++ snapshots_after l.fn.client.who.client (all_raised l.trace.first l.client.events) (drop l.event-index l.events)
       ≡ l.fn.snapshots.items ++ snapshots_after l.fn.client.who.client [] l.events;
 }

@@ -4,7 +4,7 @@ use Rattle.sv_journal.specs.Sessions.{is_end}
 use Rattle.sv_sequencer.specs.Cores.{core_rules, queue_of}
 use Rattle.sv_sequencer.specs.Step.{SequencerView}
 use Rattle.sv_witness.specs.Reports.{agreed_history, due_to}
-use Rattle.sv_witness.specs.Standing.{first_of}
+use Rattle.sv_witness.specs.Standing.{first_relay}
 use Rattle.sv_witness.proofs.Decided.{poll-holds, poll-told, poll-quiet}
 use Rattle.sv_witness.proofs.DuePositions.{due-are}
 use Rattle.sv_witness.proofs.Same.{client-agreed}
@@ -26,9 +26,9 @@ keep-requires g c =
     let is = stands-for a c.args.self.now h c.self.invariant c.self.view_is c.requires.0 in
     let low : s < (core_rules a.core).sessions = subst (λ (v : SequencerView). s < v.rules.sessions) (sym c.self.view_is) c.requires.1.0 in
     let joined = sym (client-agreed h s) ∙ sym (c.client.ensures (agreed_history h) is.keeps) ∙ c.in-Some.is in
-    let due : d ≡ first_of (due_to h s) =
+    let due : d ≡ first_relay (due_to h s) =
     c.due_decision-decision.ensures
-    ∙ ap first_of (due-are (core_rules a.core) h (queue_of a.core) a.testimony.reports k s (omega (arith, low, is.keeps.few_sessions)) joined is.stands.reports is.keeps.commit is.keeps.sound.sent is.keeps.fits) in
+    ∙ ap first_relay (due-are (core_rules a.core) h (queue_of a.core) a.testimony.reports k s (omega (arith, low, is.keeps.few_sessions)) joined is.stands.reports is.keeps.commit is.keeps.sound.sent is.keeps.fits) in
     let asked = c.requires.1.1.0 in
     let reply = c.requires.1.1.1 in (
       c.requires.0,
