@@ -1,11 +1,12 @@
 -- No value is held of an object that the world does not have.
-use Rattle.std.proofs.Common.{◌≡◌, ℕ, ◌+◌, ◌<◌, ◌≤◌, Bool, true, false, eqb, nat_le, List, [], ◌∷◌, ◌++◌, map, None, option_map, refl, ap, ◌∙◌, arith}
-use Rattle.std.specs.Prelude.{ℤ, if◌then◌else◌, All}
+use Rattle.std.proofs.Common.{◌≡◌, ℕ, ◌+◌, ◌<◌, ◌≤◌, eqb, nat_le, List, [], ◌∷◌, ◌++◌, map, None, option_map, refl, ap, ◌∙◌, arith}
+use Rattle.std.specs.Prelude.{ℤ, All}
 use Rattle.std.specs.List.{count_by}
 use Rattle.std.proofs.lemmas.Bool.{ne_eqb}
 use Rattle.std.proofs.lemmas.List.Elements.{filter-append, All-nil, All-cons, All-head, All-tail}
 use Rattle.sv_world.specs.declared.world.ObjectId.{ObjectId}
-use Rattle.sv_world.specs.Sets.{is_in_mask, at_mask, read_set, write_set}
+use Rattle.sv_world.specs.Sets.{read_set, write_set}
+use Rattle.sv_eval.proofs.Masks.{at_mask_all}
 use Rattle.sv_versions.specs.Held.{Held, versions_of, newest, latest, count_up_to, AnswersAbove}
 use Rattle.sv_pending.specs.Made.{ReadsWithin}
 use Rattle.sv_wire.specs.declared.message.Held.{Held as Sent}
@@ -43,22 +44,13 @@ module _ (n x : ℕ) (over : n ≤ x) where
       let low = All-head (λ (k : ℕ). k < n) o os w in
       free_one x (record { object = o; pos = pos; value = v }) (held_at pos os vs) (omega (arith, low, over)) (at_free pos os vs (All-tail (λ (k : ℕ). k < n) o os w))
 
-  kept_one : (b : Bool) (o : ℕ) (os : List ℕ) → o < n → All (λ k. k < n) os → All (λ k. k < n) (if b then o ∷ os else os)
-  kept_one true o os l w = All-cons (λ (k : ℕ). k < n) o os l w
-  kept_one false o os l w = w
-
-  masked : (mask k : ℕ) (os : List ℕ) → All (λ o. o < n) os → All (λ o. o < n) (at_mask mask k os)
-  masked mask k [] w = All-nil (λ (o : ℕ). o < n)
-  masked mask k (o ∷ os) w =
-      kept_one (is_in_mask mask k) o (at_mask mask (k + 1) os) (All-head (λ (j : ℕ). j < n) o os w) (masked mask (k + 1) os (All-tail (λ (j : ℕ). j < n) o os w))
-
   numbers_within : (os : List ObjectId) → All (λ (o : ObjectId). o.0 < n) os → All (λ k. k < n) (map (λ (o : ObjectId). o.0) os)
   numbers_within [] w = All-nil (λ (k : ℕ). k < n)
   numbers_within (o ∷ os) w =
       All-cons (λ (k : ℕ). k < n) o.0 (map (λ (o : ObjectId). o.0) os) (All-head (λ (o : ObjectId). o.0 < n) o os w) (numbers_within os (All-tail (λ (o : ObjectId). o.0 < n) o os w))
 
   item_free : (held : List Held) (item : Item) → ReadsWithin n item.action → IsFree x (item_held held item)
-  item_free held item w = at_free item.pos (write_set item.action) (item_result held item) (masked item.action.mask 0 (read_set item.action) (numbers_within item.action.reads w))
+  item_free held item w = at_free item.pos (write_set item.action) (item_result held item) (at_mask_all (λ k. k < n) item.action.mask 0 (read_set item.action) (numbers_within item.action.reads w))
 
   items_free : (held : List Held) (items : List Item) → IsFree x held → ItemsReadWithin n items → IsFree x (with_items held items)
   items_free held [] e w = e

@@ -3,7 +3,7 @@ use Rattle.std.proofs.Common.{◌≡◌, ℕ, ◌-◌, ◌<◌, List, [], ◌∷
 use Rattle.std.specs.Prelude.{ℤ}
 use Rattle.std.proofs.lemmas.List.{take_all}
 use Rattle.sv_world.specs.declared.world.ObjectId.{ObjectId}
-use Rattle.sv_world.specs.Sets.{read_set, write_set}
+use Rattle.sv_world.specs.Sets.{numbers_of, read_set, write_set}
 use Rattle.sv_eval.specs.Evaluation.{outcome_of}
 use Rattle.sv_versions.specs.Held.{Held, AnswersAbove}
 use Rattle.sv_wire.specs.declared.message.Item.{Item}
@@ -11,17 +11,17 @@ use Rattle.sv_wire.specs.declared.message.Done1.{Done1}
 use Rattle.sv_client.specs.declared.fault.TakeFault.{TakeFault}
 use Rattle.sv_client.specs.Traces.{held_at, item_result, item_held, results_of}
 use Rattle.sv_client.specs.Taking.{first_unheld, first_missing_of, missing_at}
-use Rattle.sv_client.specs.Evaluating.{numbers, values_below, IsMissing, IsEvaluated, AreEvaluated}
+use Rattle.sv_client.specs.Evaluating.{values_below, IsMissing, IsEvaluated, AreEvaluated}
 use Rattle.sv_client.proofs.Standing.{missing_same, values_same}
 
 pub item_done : (told : ℕ) (kept all after : List Held) (item : Item) (os : List ObjectId) (values writes : List (List ℤ)) → AnswersAbove told kept all → told < item.pos
     → first_unheld kept item.pos (read_set item.action) ≡ None → values ≡ values_below kept item.pos (read_set item.action)
-    → writes ≡ (outcome_of item.action values).writes → numbers os ≡ write_set item.action
-    → AnswersAbove told after (all ++ held_at item.pos (numbers os) writes)
+    → writes ≡ (outcome_of item.action values).writes → numbers_of os ≡ write_set item.action
+    → AnswersAbove told after (all ++ held_at item.pos (numbers_of os) writes)
     → IsEvaluated told all item (Ok writes) after
 item_done told kept all after item os values writes a l m v w o s =
     let same : writes ≡ item_result all item = w ∙ ap (λ (vs : List (List ℤ)). (outcome_of item.action vs).writes) (v ∙ values_same a item.pos l (read_set item.action)) in
-    let held : held_at item.pos (numbers os) writes ≡ item_held all item = ap (λ (xs : List ℕ). held_at item.pos xs writes) o ∙ ap (held_at item.pos (write_set item.action)) same in
+    let held : held_at item.pos (numbers_of os) writes ≡ item_held all item = ap (λ (xs : List ℕ). held_at item.pos xs writes) o ∙ ap (held_at item.pos (write_set item.action)) same in
     (sym (missing_same a item.pos l (read_set item.action)) ∙ m, same, subst (λ (hs : List Held). AnswersAbove told after (all ++ hs)) held s)
 
 pub items_more : (told : ℕ) (all between after : List Held) (item : Item) (items : List Item) (values : List (List ℤ)) (before middle results : List Done1) (r : Result Unit TakeFault)

@@ -9,7 +9,6 @@ pub mod Faultless
 pub mod Looking
 pub mod Beyond
 pub mod Shifts
-pub mod Masked
 pub mod Items
 pub mod Takes
 pub mod Looks

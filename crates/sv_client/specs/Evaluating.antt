@@ -15,9 +15,6 @@ use Rattle.sv_client.specs.Traces.{item_result, item_held, with_items, with_repl
 use Rattle.sv_client.specs.Taking.{first_unheld, first_missing_of, missing_at, missing_fault, missing_in, items_of, head_of}
 use Rattle.sv_client.specs.Seen.{fault_named}
 
-abbrev pub numbers : List ObjectId → List ℕ
-numbers objects = map (λ (o : ObjectId). o.0) objects
-
 -- The objects are some of a world of so many.
 abbrev pub AreWithin : ℕ → List ObjectId → Type 0
 AreWithin n objects = All (λ (o : ObjectId). o.0 < n) objects

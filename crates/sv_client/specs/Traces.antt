@@ -2,8 +2,6 @@
 -- Events stand here with the latest first: `e ∷ t` is t, and then e. A trace itself has them in order.
 use Rattle.std.specs.Prelude.{ℕ, suc, ℤ, Bool, true, false, ◌==◌, List, [], ◌∷◌, ◌++◌, map, reverse, Option, Some, None, unwrap_or, if◌then◌else◌}
 use Rattle.std.specs.List.{zip}
-use Rattle.std.specs.Ordering.{int_eq}
-use lib.Pointwise.{pointwise}
 use Rattle.sv_world.specs.declared.world.ClientId.{ClientId}
 use Rattle.sv_world.specs.declared.world.ObjectId.{ObjectId}
 use Rattle.sv_world.specs.Sets.{read_set, write_set}
@@ -20,6 +18,7 @@ use Rattle.sv_wire.specs.declared.message.Reply.TheVariants as replies
 use Rattle.sv_client.specs.declared.trace.Event.{Event}
 use Rattle.sv_client.specs.declared.trace.Event.TheVariants as events
 use Rattle.sv_client.specs.declared.trace.Trace.{Trace}
+use Rattle.sv_client.specs.Same.{are_same_values}
 
 -- ---- Counts
 
@@ -104,7 +103,7 @@ last_values (d ∷ []) = Some d.values
 last_values (d ∷ e ∷ ds) = last_values (e ∷ ds)
 
 abbrev pub are_same : Option (List (List ℤ)) → Option (List (List ℤ)) → Bool
-are_same (Some vs) (Some ws) = pointwise (pointwise int_eq) vs ws
+are_same (Some vs) (Some ws) = are_same_values vs ws
 are_same _ _ = false
 
 abbrev pub without_front : List PendingAction → List PendingAction

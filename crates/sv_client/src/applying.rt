@@ -6,28 +6,16 @@ ghost use Rattle.sv_pending.specs.Pending.{redone};
 ghost use Rattle.sv_wire.specs.declared.message.Reply.TheVariants as replies;
 ghost use Rattle.sv_client.specs.declared.fault.TakeFault.TheVariants as faults;
 ghost use Rattle.sv_client.specs.Traces.{are_same, last_values, settled_by, without_front};
-ghost use Rattle.sv_client.specs.Same.{are_same_values};
 ghost use Rattle.sv_client.specs.Evaluating.{IsHeadWithin, ItemsReadWithin, ItemsAreAbove, IsFitting, IsApplied, keeps_front};
 
 use crate::evaluating::{evaluate_items, hold_head};
 use crate::fault::TakeFault;
+use crate::same::are_same_values;
 use std::alloc::AllocError;
 use sv_pending::Pending;
 use sv_versions::{Undo, Versions};
 use sv_wire::{Done1, Held, Item, Reply, Request};
 use sv_world::{List, Value};
-
-fn are_same_values(values: &[Value], others: &[Value]) -> bool
-    ensures { result ≡ are_same_values values.now others.now }
-{
-    let [value, rest @ ..] = values else {
-        return others.is_empty();
-    };
-    let [other, other_rest @ ..] = others else {
-        return false;
-    };
-    value.as_slice() == other.as_slice() && are_same_values(rest, other_rest)
-}
 
 /// Whether a result is there and is the one that was kept.
 fn is_kept(own: Option<&[Value]>, kept: Option<&[Value]>) -> bool

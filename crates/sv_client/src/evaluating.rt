@@ -1,19 +1,19 @@
 //! Evaluating the items of a relay, each on the values that the earlier ones left.
-ghost use Rattle.std.specs.Prelude.{◌≡◌, ◌++◌, ◌<◌, ℕ, List, [], ◌∷◌, option_map, unwrap_or, IfOk, OnOk, if◌then◌else◌};
-ghost use Rattle.sv_world.specs.Sets.{at_mask, is_in_mask};
+ghost use Rattle.std.specs.Prelude.{◌≡◌, ◌++◌, ◌<◌, ℕ, List, [], option_map, unwrap_or, IfOk, OnOk};
+ghost use Rattle.sv_world.specs.Sets.{numbers_of};
 ghost use Rattle.sv_versions.specs.Held.{Held as Kept, AnswersAbove, read_below};
 ghost use Rattle.sv_versions.specs.Undone.{undone};
 ghost use Rattle.sv_pending.specs.Made.{ReadsWithin};
 ghost use Rattle.sv_client.specs.Traces.{head_held, held_at};
 ghost use Rattle.sv_client.specs.Taking.{first_unheld};
-ghost use Rattle.sv_client.specs.Evaluating.{numbers, AreWithin, IsHeadWithin, ItemsReadWithin, ItemsAreAbove, values_below, IsEvaluated, AreEvaluated};
+ghost use Rattle.sv_client.specs.Evaluating.{AreWithin, IsHeadWithin, ItemsReadWithin, ItemsAreAbove, values_below, IsEvaluated, AreEvaluated};
 
 use crate::fault::TakeFault;
-use std::alloc::{AllocError, Global};
-use sv_eval::eval;
+use std::alloc::AllocError;
+use sv_eval::{eval, written_objects};
 use sv_versions::{Undo, Versions};
 use sv_wire::{Done1, Held, Item};
-use sv_world::{List, ObjectId, Value, copy_value, is_in_mask};
+use sv_world::{List, ObjectId, Value, copy_value};
 
 /// Holds the values of a head at its reply's commit.
 pub(crate) fn hold_head(
@@ -46,7 +46,7 @@ fn hold_values(
     requires { AreWithin versions.old.shape.objects objects.now }
     ensures shape { versions.new.shape ≡ versions.old.shape }
     ensures undone { undone undo.new versions.new.held ≡ undone undo.old versions.old.held }
-    ensures held { OnOk result ((told : ℕ) (all : List Kept) → AnswersAbove told versions.old.held all → AnswersAbove told versions.new.held (all ++ held_at pos (numbers objects.now) values.now)) }
+    ensures held { OnOk result ((told : ℕ) (all : List Kept) → AnswersAbove told versions.old.held all → AnswersAbove told versions.new.held (all ++ held_at pos (numbers_of objects.now) values.now)) }
 {
     let [object, other_objects @ ..] = objects else {
         return Ok(());
@@ -59,35 +59,10 @@ fn hold_values(
     hold_values(versions, undo, pos, other_objects, other_values)
 }
 
-/// The objects at the slots in a mask.
-fn masked(alloc: Global, mask: u16, objects: &[ObjectId]) -> Result<List<ObjectId>, AllocError>
-    ensures { IfOk result (λ masked. masked ≡ at_mask mask 0 objects.now) }
-{
-    let mut masked = List::new(alloc);
-    for (slot, object) in objects.iter().enumerate() {
-        push_masked(&mut masked, mask, slot, *object)?;
-    }
-    Ok(masked)
-}
-
-fn push_masked(
-    masked: &mut List<ObjectId>,
-    mask: u16,
-    slot: usize,
-    object: ObjectId,
-) -> Result<(), AllocError>
-    ensures { OnOk result (masked.new ≡ masked.old ++ (if is_in_mask mask slot then object ∷ [] else [])) }
-{
-    if is_in_mask(mask, slot) {
-        return masked.push(object);
-    }
-    Ok(())
-}
-
 /// The first of the objects that has no value below a position.
 fn first_unheld(versions: &Versions, pos: u32, objects: &[ObjectId]) -> Option<ObjectId>
     requires { AreWithin versions.now.shape.objects objects.now }
-    ensures { option_map (λ o. o.0) result ≡ first_unheld versions.now.held pos (numbers objects.now) }
+    ensures { option_map (λ o. o.0) result ≡ first_unheld versions.now.held pos (numbers_of objects.now) }
 {
     let [object, rest @ ..] = objects else {
         return None;
@@ -115,7 +90,7 @@ fn values_below(
     objects: &[ObjectId],
 ) -> Result<Vec<Value>, AllocError>
     requires { AreWithin versions.now.shape.objects objects.now }
-    ensures { IfOk result (λ values. values.items ≡ values_below versions.now.held pos (numbers objects.now)) }
+    ensures { IfOk result (λ values. values.items ≡ values_below versions.now.held pos (numbers_of objects.now)) }
 {
     let mut values = Vec::with_capacity(versions.alloc(), objects.len())?;
     for object in objects {
@@ -145,12 +120,12 @@ fn evaluate_item(
     let values = values_below(versions, item.pos, reads)?;
     let alloc = versions.alloc();
     let outcome = eval(alloc, &item.action, &values)?;
-    let objects = masked(alloc, item.action.mask, reads)?;
+    let written = written_objects(alloc, &item.action)?;
     hold_values(
         versions,
         undo,
         item.pos,
-        objects.as_slice(),
+        written.as_slice(),
         outcome.writes.as_slice(),
     )?;
     Ok(outcome.writes)

@@ -19,6 +19,6 @@ mod view;
 pub use client::Client;
 pub use fault::{MakeFault, PollFault, TakeFault};
 pub use limits::MOST_MADE;
-pub use same::{same_action, same_actions_are_equal};
+pub use same::{are_same_values, same_action, same_actions_are_equal, same_values_are_equal};
 pub use trace::{Event, Mark, Trace, is_make};
 pub use view::View;

@@ -1,9 +1,9 @@
-//! Whether two actions are the same.
-ghost use Rattle.std.specs.Prelude.{◌≡◌, true, ◌↔◌};
+//! Whether two actions are the same, and whether two lists of values are.
+ghost use Rattle.std.specs.Prelude.{◌≡◌, ℤ, List, true, ◌↔◌};
 ghost use Rattle.sv_world.specs.declared.action.Action.{Action};
-ghost use Rattle.sv_client.specs.Same.{is_same_action, is_same_point, are_same_reads};
+ghost use Rattle.sv_client.specs.Same.{is_same_action, is_same_point, are_same_reads, are_same_values};
 
-use sv_world::{Action, ObjectId, Point, same_body};
+use sv_world::{Action, ObjectId, Point, Value, same_body};
 
 /// Whether two actions are equal.
 #[tactic(auto, unfolding(crate::specs::Same::is_same_action))]
@@ -33,4 +33,22 @@ fn same_point(point: Point, other: Point) -> bool
 /// A law of actions: the test that two are the same is passed just by equal ones.
 pub fn same_actions_are_equal()
     ensures { (a b : Action) → (is_same_action a b ≡ true) ↔ (a ≡ b) }
+{}
+
+/// Whether two lists of values are equal.
+pub fn are_same_values(values: &[Value], others: &[Value]) -> bool
+    ensures { result ≡ are_same_values values.now others.now }
+{
+    let [value, rest @ ..] = values else {
+        return others.is_empty();
+    };
+    let [other, other_rest @ ..] = others else {
+        return false;
+    };
+    value.as_slice() == other.as_slice() && are_same_values(rest, other_rest)
+}
+
+/// A law of lists of values: the test that two are the same is passed just by equal ones.
+pub fn same_values_are_equal()
+    ensures { (vs ws : List (List ℤ)) → (are_same_values vs ws ≡ true) ↔ (vs ≡ ws) }
 {}

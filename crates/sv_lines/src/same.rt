@@ -2,35 +2,23 @@
 ghost use Rattle.std.specs.Prelude.{◌≡◌, true};
 ghost use Rattle.sv_wire.specs.declared.message.Request.TheVariants as requests;
 
-use sv_client::{same_action, same_actions_are_equal};
+use sv_client::{are_same_values, same_action, same_actions_are_equal, same_values_are_equal};
 use sv_wire::{Done1, Request};
 use sv_world::{Action, ClientId, ObjectId, Value};
 
-fn same_value(value: &[i64], other: &[i64]) -> bool
-    ensures same { result ≡ true → value.now ≡ other.now }
-    ensures all { value.now ≡ other.now → result ≡ true }
-{
-    value == other
-}
-
-fn same_values(values: &[Value], others: &[Value]) -> bool
+fn equal_values(values: &[Value], others: &[Value]) -> bool
     ensures same { result ≡ true → values.now ≡ others.now }
     ensures all { values.now ≡ others.now → result ≡ true }
 {
-    let [value, values @ ..] = values else {
-        return others.is_empty();
-    };
-    let [other, others @ ..] = others else {
-        return false;
-    };
-    same_value(value.as_slice(), other.as_slice()) && same_values(values, others)
+    same_values_are_equal();
+    are_same_values(values, others)
 }
 
 fn same_result(done: &Done1, other: &Done1) -> bool
     ensures same { result ≡ true → done.now ≡ other.now }
     ensures all { done.now ≡ other.now → result ≡ true }
 {
-    done.pos == other.pos && same_values(done.values.as_slice(), other.values.as_slice())
+    done.pos == other.pos && equal_values(done.values.as_slice(), other.values.as_slice())
 }
 
 fn same_results(results: &[Done1], others: &[Done1]) -> bool

@@ -8,9 +8,9 @@ ghost use Rattle.sv_client.specs.Traces.{pending_of};
 ghost use Rattle.sv_report.specs.Report.{kept_text};
 ghost use Rattle.sv_report.specs.Again.{last_kept_text};
 
-use crate::written::written_objects;
 use std::alloc::{AllocError, Global};
 use sv_client::Client;
+use sv_eval::written_objects;
 use sv_journal::append_held;
 use sv_world::{Action, ObjectId, Value};
 
@@ -52,7 +52,7 @@ fn append_result(
     ensures { OnOk result (string_bytes out.new ≡ string_bytes out.old ++ kept_text (write_set action.now) (Some values.now)) }
 {
     let written = written_objects(alloc, action)?;
-    append_list(&written, values, out)
+    append_list(written.as_slice(), values, out)
 }
 
 /// Appends objects with their values, as `[0=(6) 2=(7)]`.

@@ -14,7 +14,6 @@ mod totals;
 mod trace;
 mod values;
 mod whole;
-mod written;
 
 pub use again::do_again;
 pub use event::{append_after, append_before};
@@ -22,4 +21,3 @@ pub use laws::drops_are_outcomes;
 pub use summary::brief;
 pub use values::append_world;
 pub use whole::report;
-pub use written::written_objects;

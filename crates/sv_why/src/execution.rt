@@ -4,8 +4,7 @@ ghost use Rattle.sv_world.specs.declared.world.ObjectId.{ObjectId};
 ghost use Rattle.sv_eval.specs.Serial.{put_all, values_at, world_after};
 
 use std::alloc::{AllocError, Global};
-use sv_eval::eval;
-use sv_report::written_objects;
+use sv_eval::{eval, written_objects};
 use sv_world::{Action, List, ObjectId, Value, copy_value};
 
 /// An object's value, without numbers where the object is beyond the world.
@@ -67,5 +66,5 @@ pub(crate) fn execute(
     let values = values_at(alloc, world.as_slice(), action.reads.as_slice())?;
     let outcome = eval(alloc, action, values.as_slice())?;
     let written = written_objects(alloc, action)?;
-    put_all(alloc, &written, outcome.writes.as_slice(), world)
+    put_all(alloc, written.as_slice(), outcome.writes.as_slice(), world)
 }
