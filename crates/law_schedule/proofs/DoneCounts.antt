@@ -5,7 +5,6 @@ use Rattle.std.proofs.lemmas.Bool.{cond-true, cases_eq, or_cases, or_left, or_ri
 use Rattle.std.proofs.lemmas.List.{length-append, length-drop}
 use Rattle.std.proofs.lemmas.Option.{none-some, same_Some}
 use Rattle.sv_wire.specs.declared.message.Request.{Request}
-use Rattle.sv_wire.specs.declared.message.Request.TheVariants as requests
 use Rattle.sv_wire.specs.declared.message.Reply.{Reply}
 use Rattle.sv_client.specs.declared.trace.Event.{Event}
 use Rattle.sv_client.specs.declared.trace.Event.TheVariants as events
@@ -15,11 +14,11 @@ use Rattle.sv_client.specs.Proper.{AreProper, in_session}
 use Rattle.sv_client.proofs.Sessions.{no_got, some_current}
 use Rattle.sv_client.proofs.Outstanding.{outstanding_in, got_within}
 use Rattle.sv_scenario.specs.declared.scenario.Step.{Step}
-use Rattle.sv_scenario.specs.declared.scenario.Step.TheVariants as steps
-use Rattle.sv_scenario.specs.Sessions.{cuts_by, cuts_in}
-use Rattle.sv_script.specs.Following.{DoesStep, FollowsTo, after_syncs, passed_syncs, event_of, must_join, is_welcomed, is_finished}
+use Rattle.sv_scenario.specs.Sessions.{cuts_in}
+use Rattle.sv_script.specs.Following.{FollowsTo, must_join, is_welcomed, is_finished}
 use Rattle.sv_script.proofs.Beginnings.{step-less, event-less}
-use Rattle.sv_script.proofs.Due.{due, due_of, due-joined, due-made, due-polled, due-left, due-got, due-cut, due-quit, due-shown}
+use Rattle.sv_script.proofs.Due.{due, due-joined, due-made, due-polled, due-left, due-got, due-cut, due-quit, due-shown, due-some}
+use Rattle.sv_script.proofs.Cuts.{cuts-synced, cuts-done}
 use Rattle.sv_system.specs.Fits.{is_join_of}
 
 -- ---- What is asked in a session
@@ -89,18 +88,9 @@ module _ (who : Identity) (first : ℕ) (script : List Step) where
       let fewer = step-less who t f.0 (events.Show objects) left f.1.1 in
       omega (arith, before, ends, fewer)
 
-due-one : (q : Request) → 1 ≤ due_of q
-due-one (requests.Join client life interest) = omega arith
-due-one (requests.Submit seq action) = omega arith
-due-one (requests.Done results) = omega arith
-due-one requests.Poll = omega arith
-due-one requests.Leave = omega arith
-due-one requests.End = omega arith
-due-one requests.Bad = omega arith
-
 due-each : (qs : List Request) → length qs ≤ due qs
 due-each [] = omega arith
-due-each (q ∷ qs) = let a = due-one q in let b = due-each qs in omega (arith, a, b)
+due-each (q ∷ qs) = let a = due-some q in let b = due-each qs in omega (arith, a, b)
 
 -- At most 530 requests are asked in a session.
 pub asked-few : (who : Identity) (first : ℕ) (script : List Step) (t : List Event) (left : List Step) (s : ℕ) → length script ≤ 256 → AreProper who first t →
@@ -113,43 +103,6 @@ asked-few who first script t left s few p f c =
     omega (arith, few, most, waits, rest, within)
 
 -- ---- Sessions
-
-abbrev cut_of : Event → ℕ
-cut_of (events.Join s) = 0
-cut_of (events.Got s reply) = 0
-cut_of events.Leave = 0
-cut_of (events.Make action) = 0
-cut_of events.Poll = 0
-cut_of events.Cut = 1
-cut_of events.Quit = 0
-cut_of (events.Show objects) = 0
-
-cuts-of : (step : Step) (e : Event) → event_of step ≡ Some e → cuts_by step ≡ cut_of e
-cuts-of (steps.Act action) e h = ap cut_of (same_Some (events.Make action) e h)
-cuts-of steps.Poll e h = ap cut_of (same_Some events.Poll e h)
-cuts-of steps.Sync e h = absurd (none-some e h)
-cuts-of (steps.Show objects) e h = ap cut_of (same_Some (events.Show objects) e h)
-cuts-of steps.Cut e h = ap cut_of (same_Some events.Cut e h)
-cuts-of steps.Quit e h = ap cut_of (same_Some events.Quit e h)
-
-pub cuts-synced : (ss : List Step) → cuts_in (after_syncs ss) ≡ cuts_in ss
-cuts-synced [] = refl
-cuts-synced (steps.Act action ∷ ss) = refl
-cuts-synced (steps.Poll ∷ ss) = refl
-cuts-synced (steps.Sync ∷ ss) = let more = cuts-synced ss in omega (arith, more)
-cuts-synced (steps.Show objects ∷ ss) = refl
-cuts-synced (steps.Cut ∷ ss) = refl
-cuts-synced (steps.Quit ∷ ss) = refl
-
-cuts-passed : (os : List Request) (ss : List Step) → cuts_in (passed_syncs os ss) ≡ cuts_in ss
-cuts-passed [] ss = cuts-synced ss
-cuts-passed (o ∷ os) ss = refl
-
-cuts-done : (who : Identity) (t : List Event) (before : List Step) (e : Event) (left : List Step) → DoesStep who t before e left → cuts_in before ≡ cut_of e + cuts_in left
-cuts-done who t before e left d =
-    let all = sym (cuts-passed (outstanding who t) before) ∙ ap cuts_in d.next in
-    let one = cuts-of d.step e d.event in
-    omega (arith, all, one)
 
 -- The sessions begun, and those to come: one for each cut that is left, and one where a Join is next.
 pub joins-counted : (who : Identity) (script : List Step) (t : List Event) (left : List Step) → FollowsTo who script t left →

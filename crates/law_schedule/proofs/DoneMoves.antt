@@ -2,7 +2,7 @@
 use Rattle.std.proofs.Common.{◌≡◌, ℕ, suc, ◌+◌, ◌*◌, ◌≤◌, ◌<◌, Bool, true, false, ◌&&◌, not, ◌⊎◌, inl, inr, List, [], ◌∷◌, length, refl, sym, ap, ap₂, ◌∙◌, subst, arith, eqb-true, true≢false}
 use Rattle.std.specs.Prelude.{if◌then◌else◌, nat_lt}
 use Rattle.std.proofs.lemmas.Bool.{cond-true, cond-false, cases_Bool, and_from, lt-ltb}
-use Rattle.std.proofs.lemmas.List.{length-map}
+use Rattle.std.proofs.lemmas.List.{length-map, nil_from_length}
 use Rattle.sv_client.specs.declared.trace.Event.{Event}
 use Rattle.sv_client.specs.declared.trace.Event.TheVariants as events
 use Rattle.sv_client.specs.Traces.{joins, current_session, pending_of}
@@ -77,12 +77,8 @@ moved-by p s step ss e o left joined inside current =
 
 -- ---- Where nothing is outstanding
 
-length-none : {X : Type 0} (xs : List X) → length xs ≡ 0 → xs ≡ []
-length-none [] e = refl
-length-none (x ∷ xs) e = absurd (omega (arith, e))
-
 pub settled-none : (p : Player) → is_settled p ≡ true → outstanding p.who p.events ≡ []
-settled-none p e = length-none (outstanding p.who p.events) (eqb-true (length (outstanding p.who p.events)) 0 e)
+settled-none p e = nil_from_length (outstanding p.who p.events) (eqb-true (length (outstanding p.who p.events)) 0 e)
 
 calm-settled : (p : Player) → is_settled p ≡ true → is_calm p ≡ true
 calm-settled p e = let none = ap length (settled-none p e) in lt-ltb (length (outstanding p.who p.events)) 16 (omega (arith, none))

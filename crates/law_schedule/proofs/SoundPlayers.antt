@@ -4,6 +4,7 @@ use Rattle.std.specs.Prelude.{if◌then◌else◌}
 use Rattle.std.specs.List.{list_any, AllByRecursion}
 use Rattle.std.proofs.lemmas.Bool.{or_cases, or_right, cases_Bool, cond_both, and_parts, not-false, false_from_ne_true}
 use Rattle.std.proofs.lemmas.Option.{none-some}
+use Rattle.std.proofs.lemmas.List.{nil_from_length}
 use Rattle.sv_world.specs.declared.action.Action.{Action}
 use Rattle.sv_world.specs.declared.world.Shape.{Shape}
 use Rattle.sv_world.specs.Faults.{first_fault_of_action}
@@ -106,10 +107,6 @@ all-passed_left P left whole (sync {ss} x) a = all-passed_left P left ss x a.1
 passed-same : (os : List Request) (ss : List Step) → after_syncs ss ≡ ss → passed_syncs os ss ≡ ss
 passed-same [] ss e = e
 passed-same (o ∷ os) ss e = refl
-
-no-length : {X : Type 0} (xs : List X) → length xs ≡ 0 → xs ≡ []
-no-length [] e = refl
-no-length (x ∷ xs) e = absurd (omega (arith, e))
 
 abbrev ends_with_quit : List Event → Bool
 ends_with_quit (events.Quit ∷ t) = true
@@ -318,7 +315,7 @@ module _ (server : Server) (shape : Shape) (h : List Entry) (k s : ℕ) (plan : 
     may-poll ss l t = record { joined = still-in steps.Poll ss m l; calm = ltb-true (length (outstanding p.who p.events)) 16 t }
 
     settled-nil : is_settled p ≡ true → outstanding p.who p.events ≡ []
-    settled-nil t = no-length (outstanding p.who p.events) (eqb-true (length (outstanding p.who p.events)) 0 t)
+    settled-nil t = nil_from_length (outstanding p.who p.events) (eqb-true (length (outstanding p.who p.events)) 0 t)
 
     pub may-leave : is_settled p ≡ true → in_session p.events ≡ true → MayLeave p.who p.events
     may-leave t i = record { joined = i; settled = settled-nil t }

@@ -1,40 +1,29 @@
 -- What a proper trace that follows a script is like after its Leave and at its end, and how often it joins and makes.
-use Rattle.std.proofs.Common.{◌≡◌, ℕ, suc, ◌+◌, ◌<◌, ◌≤◌, Bool, true, false, ◌==◌, ◌⊎◌, inl, inr, List, [], ◌∷◌, ◌++◌, map, drop, length, Option, Some, None, refl, sym, ap, subst, ◌∙◌, arith, eqb-true, true≢false}
+use Rattle.std.proofs.Common.{◌≡◌, ℕ, suc, ◌+◌, ◌<◌, ◌≤◌, Bool, true, false, ◌==◌, ◌⊎◌, inl, inr, List, [], ◌∷◌, ◌++◌, drop, length, Option, None, refl, sym, ap, subst, ◌∙◌, arith, eqb-true, true≢false}
 use Rattle.std.specs.Prelude.{if◌then◌else◌}
 use Rattle.std.specs.List.{list_any, AllByRecursion}
-use Rattle.std.proofs.lemmas.Bool.{or_cases, or_parts, or_left, or_right}
+use Rattle.std.proofs.lemmas.Bool.{or_cases, or_parts}
 use Rattle.std.proofs.lemmas.List.{append-nil}
-use Rattle.std.proofs.lemmas.List.Folds.{list_any-append}
-use Rattle.std.proofs.lemmas.Option.{none-some, same_Some}
-use Rattle.sv_versions.specs.Held.{Held}
-use Rattle.sv_pending.specs.Pending.{PendingAction}
 use Rattle.sv_wire.specs.declared.message.Reply.{Reply}
 use Rattle.sv_wire.specs.declared.message.Reply.TheVariants as replies
 use Rattle.sv_wire.specs.declared.message.Request.{Request}
 use Rattle.sv_wire.specs.declared.message.Request.TheVariants as requests
 use Rattle.sv_client.specs.declared.trace.Event.{Event}
 use Rattle.sv_client.specs.declared.trace.Event.TheVariants as events
-use Rattle.sv_client.specs.Traces.{joins, makes, current_session, is_session, held_of, pending_of, submit_of, done_for, asked}
-use Rattle.sv_client.specs.Taking.{Identity, Unasked, outstanding, allows, fault_after}
+use Rattle.sv_client.specs.Traces.{joins, makes, current_session, is_session, held_of, pending_of, done_for, asked}
+use Rattle.sv_client.specs.Taking.{Identity, outstanding, allows, fault_after}
 use Rattle.sv_client.specs.Proper.{AreProper, in_session}
 use Rattle.sv_client.proofs.Outstanding.{outstanding_joined, outstanding_made, outstanding_polled, outstanding_left, outstanding_cut, outstanding_quit, outstanding_shown, outstanding_got}
 use Rattle.sv_scenario.specs.declared.scenario.Step.{Step}
-use Rattle.sv_scenario.specs.declared.scenario.Step.TheVariants as steps
-use Rattle.sv_scenario.specs.Sessions.{cuts_by, cuts_in}
+use Rattle.sv_scenario.specs.Sessions.{cuts_in}
 use Rattle.sv_client.proofs.Faultless.{kind-of}
-use Rattle.sv_script.specs.Following.{DoesStep, MayCome, FollowsTo, must_join, is_finished, after_syncs, passed_syncs, event_of}
-use Rattle.sv_script.proofs.Beginnings.{step-less, event-less}
+use Rattle.sv_script.specs.Following.{FollowsTo, must_join, is_finished}
+use Rattle.sv_script.proofs.Beginnings.{step-less, event-less, all-after}
+use Rattle.sv_script.proofs.Ends.{has_leave, leave-append, leave-rest, no-submit, no-done, bye-after, no-step}
 use Rattle.sv_system.specs.Fits.{is_join_of}
+use Rattle.law_schedule.proofs.DoneCounts.{one_if, joins-counted}
 
 -- ---- After a Leave
-
-passed-none : (os : List Request) → passed_syncs os [] ≡ []
-passed-none [] = refl
-passed-none (o ∷ os) = refl
-
-no-step : (who : Identity) (t : List Event) (before : List Step) (e : Event) (left : List Step) → DoesStep who t before e left → before ≡ [] → ⊥
-no-step who t before e left d b =
-    let none : d.step ∷ left ≡ [] = sym d.next ∙ ap (passed_syncs (outstanding who t)) b ∙ passed-none (outstanding who t) in cc
 
 -- A client that left its latest session has no step left.
 pub nothing-left : (who : Identity) (first : ℕ) (script : List Step) (t : List Event) (left : List Step) → AreProper who first t → FollowsTo who script t left →
@@ -51,43 +40,6 @@ nothing-left who first script (events.Quit ∷ t) left p f i m =
 nothing-left who first script (events.Show objects ∷ t) left p f i m =
     absurd (no-step who t f.0 (events.Show objects) left f.1.1 (nothing-left who first script t f.0 p.1 f.1.0 i f.1.1.joined))
 
-abbrev is_leave : Request → Bool
-is_leave (requests.Join client life interest) = false
-is_leave (requests.Submit seq action) = false
-is_leave (requests.Done results) = false
-is_leave requests.Poll = false
-is_leave requests.Leave = true
-is_leave requests.End = false
-is_leave requests.Bad = false
-
-abbrev has_leave : List Request → Bool
-has_leave rs = list_any is_leave rs
-
-leave-before : (xs ys : List Request) → has_leave ys ≡ false → has_leave (xs ++ ys) ≡ true → has_leave xs ≡ true
-leave-before xs ys n e =
-    elim (or_cases (has_leave xs) (has_leave ys) (sym (list_any-append is_leave xs ys) ∙ e)) [
-      | inl h ↦ h
-      | inr h ↦ absurd (true≢false (sym h ∙ n))
-    ]
-
-leave-rest : (xs : List Request) → has_leave (drop 1 xs) ≡ true → has_leave xs ≡ true
-leave-rest [] e = e
-leave-rest (x ∷ xs) e = or_right (is_leave x) (has_leave xs) e
-
-no-submit : (ps : List PendingAction) → has_leave (map submit_of ps) ≡ false
-no-submit [] = refl
-no-submit (p ∷ ps) = no-submit ps
-
-no-done : (held : List Held) (reply : Reply) → has_leave (done_for held reply) ≡ false
-no-done held (replies.Relay seq commit head items) = refl
-no-done held (replies.Welcome commit head) = refl
-no-done held (replies.Dropped seq chain far) = refl
-no-done held (replies.Settled seq pos) = refl
-no-done held (replies.Noted commit) = refl
-no-done held replies.Idle = refl
-no-done held (replies.Refused code detail) = refl
-no-done held replies.Bye = refl
-
 -- Where a Leave is outstanding, the client left its latest session.
 leave-out : (who : Identity) (first : ℕ) (t : List Event) → AreProper who first t → has_leave (outstanding who t) ≡ true → in_session t ≡ false
 leave-out who first [] p h = refl
@@ -96,13 +48,13 @@ leave-out who first (events.Join s ∷ t) p h =
 leave-out who first (events.Leave ∷ t) p h = refl
 leave-out who first (events.Got s reply ∷ t) p h =
     let now : has_leave (drop 1 (outstanding who t) ++ done_for (held_of t) reply) ≡ true = sym (ap has_leave (outstanding_got who first t s reply p.1 p.0)) ∙ h in
-    leave-out who first t p.1 (leave-rest (outstanding who t) (leave-before (drop 1 (outstanding who t)) (done_for (held_of t) reply) (no-done (held_of t) reply) now))
+    leave-out who first t p.1 (leave-rest (outstanding who t) (leave-append (drop 1 (outstanding who t)) (done_for (held_of t) reply) (no-done (held_of t) reply) now))
 leave-out who first (events.Make action ∷ t) p h =
     let now : has_leave (outstanding who t ++ requests.Submit (suc (makes t)) action ∷ []) ≡ true = sym (ap has_leave (outstanding_made who first t action p.1 p.0.joined)) ∙ h in
-    leave-out who first t p.1 (leave-before (outstanding who t) (requests.Submit (suc (makes t)) action ∷ []) refl now)
+    leave-out who first t p.1 (leave-append (outstanding who t) (requests.Submit (suc (makes t)) action ∷ []) refl now)
 leave-out who first (events.Poll ∷ t) p h =
     let now : has_leave (outstanding who t ++ requests.Poll ∷ []) ≡ true = sym (ap has_leave (outstanding_polled who first t p.1 p.0.joined)) ∙ h in
-    leave-out who first t p.1 (leave-before (outstanding who t) (requests.Poll ∷ []) refl now)
+    leave-out who first t p.1 (leave-append (outstanding who t) (requests.Poll ∷ []) refl now)
 leave-out who first (events.Cut ∷ t) p h = leave-out who first t p.1 (sym (ap has_leave (outstanding_cut who t)) ∙ h)
 leave-out who first (events.Quit ∷ t) p h = leave-out who first t p.1 (sym (ap has_leave (outstanding_quit who t)) ∙ h)
 leave-out who first (events.Show objects ∷ t) p h = leave-out who first t p.1 (sym (ap has_leave (outstanding_shown who t objects)) ∙ h)
@@ -142,19 +94,6 @@ left-or_finished who first script (events.Show objects ∷ t) left p f i m =
       | inl o ↦ inl (outstanding_shown who t objects ∙ o)
       | inr e ↦ absurd (true≢false (sym e ∙ f.1.1.here))
     ]
-
-bye-answers : (q : Request) → allows q replies.Bye ≡ true → is_leave q ≡ true
-bye-answers (requests.Join client life interest) e = absurd (true≢false (sym e))
-bye-answers (requests.Submit seq action) e = absurd (true≢false (sym e))
-bye-answers (requests.Done results) e = absurd (true≢false (sym e))
-bye-answers requests.Poll e = absurd (true≢false (sym e))
-bye-answers requests.Leave e = refl
-bye-answers requests.End e = absurd (true≢false (sym e))
-bye-answers requests.Bad e = absurd (true≢false (sym e))
-
-bye-after : (who : Identity) (t : List Event) (os : List Request) → fault_after who t os replies.Bye ≡ None → has_leave os ≡ true
-bye-after who t [] e = absurd (none-some Unasked (sym e))
-bye-after who t (q ∷ qs) e = or_left (is_leave q) (has_leave qs) (bye-answers q (kind-of (allows q replies.Bye) _ e))
 
 -- After the Bye nothing is outstanding, and the client is in no session.
 bye-last : (who : Identity) (first : ℕ) (script : List Step) (s : ℕ) (t : List Event) (left : List Step) → AreProper who first (events.Got s replies.Bye ∷ t) →
@@ -203,54 +142,18 @@ makes-within who script (events.Cut ∷ t) left f = omega (arith, makes-within w
 makes-within who script (events.Quit ∷ t) left f = omega (arith, makes-within who script t f.0 f.1.0, event-less who t f.0 events.Quit left f.1.1)
 makes-within who script (events.Show objects ∷ t) left f = omega (arith, makes-within who script t f.0 f.1.0, event-less who t f.0 (events.Show objects) left f.1.1)
 
-cuts-synced : (ss : List Step) → cuts_in (after_syncs ss) ≡ cuts_in ss
-cuts-synced [] = refl
-cuts-synced (steps.Act action ∷ ss) = refl
-cuts-synced (steps.Poll ∷ ss) = refl
-cuts-synced (steps.Sync ∷ ss) = omega (arith, cuts-synced ss)
-cuts-synced (steps.Show objects ∷ ss) = refl
-cuts-synced (steps.Cut ∷ ss) = refl
-cuts-synced (steps.Quit ∷ ss) = refl
-
-cuts-passed : (os : List Request) (ss : List Step) → cuts_in (passed_syncs os ss) ≡ cuts_in ss
-cuts-passed [] ss = cuts-synced ss
-cuts-passed (o ∷ os) ss = refl
-
-cuts-step : (who : Identity) (t : List Event) (before : List Step) (e : Event) (left : List Step) → (d : DoesStep who t before e left) → cuts_in before ≡ cuts_by d.step + cuts_in left
-cuts-step who t before e left d = sym (cuts-passed (outstanding who t) before) ∙ ap cuts_in d.next
-
-cut-by : (step : Step) → event_of step ≡ Some events.Cut → cuts_by step ≡ 1
-cut-by (steps.Act action) e = (let g : events.Make action ≡ events.Cut = same_Some _ _ e in cc)
-cut-by steps.Poll e = (let g : events.Poll ≡ events.Cut = same_Some _ _ e in cc)
-cut-by steps.Sync e = absurd (none-some _ e)
-cut-by (steps.Show objects) e = (let g : events.Show objects ≡ events.Cut = same_Some _ _ e in cc)
-cut-by steps.Cut e = refl
-cut-by steps.Quit e = (let g : events.Quit ≡ events.Cut = same_Some _ _ e in cc)
-
 -- A client in its session has begun one more than it cut.
 abbrev pub begun_more : Bool → ℕ
 begun_more true = 0
 begun_more false = 1
 
-later-step : (who : Identity) (t : List Event) (before : List Step) (e : Event) (left : List Step) (all : ℕ) → DoesStep who t before e left →
-    joins t + cuts_in before ≤ all + begun_more (must_join t) → joins t + cuts_in left ≤ all + 1
-later-step who t before e left all d le = omega (arith, le, cuts-step who t before e left d, ap begun_more d.joined)
+begun-or_next : (b : Bool) → one_if b + begun_more b ≡ 1
+begun-or_next true = refl
+begun-or_next false = refl
 
 pub joins-within : (who : Identity) (script : List Step) (t : List Event) (left : List Step) → FollowsTo who script t left →
     joins t + cuts_in left ≤ cuts_in script + begun_more (must_join t)
-joins-within who script [] left f = omega (arith, ap cuts_in f)
-joins-within who script (events.Join s ∷ t) left f =
-    omega (arith, joins-within who script t f.0 f.1.0, ap begun_more f.1.1.needed, ap cuts_in f.1.1.same)
-joins-within who script (events.Got s reply ∷ t) left f =
-    omega (arith, joins-within who script t f.0 f.1.0, ap begun_more f.1.1.joined, ap cuts_in f.1.1.same)
-joins-within who script (events.Leave ∷ t) left f =
-    omega (arith, joins-within who script t f.0 f.1.0, ap begun_more f.1.1.joined, ap cuts_in f.1.1.same)
-joins-within who script (events.Cut ∷ t) left f =
-    omega (arith, joins-within who script t f.0 f.1.0, ap begun_more f.1.1.joined, cuts-step who t f.0 events.Cut left f.1.1, cut-by f.1.1.step f.1.1.event)
-joins-within who script (events.Make action ∷ t) left f = later-step who t f.0 (events.Make action) left (cuts_in script) f.1.1 (joins-within who script t f.0 f.1.0)
-joins-within who script (events.Poll ∷ t) left f = later-step who t f.0 events.Poll left (cuts_in script) f.1.1 (joins-within who script t f.0 f.1.0)
-joins-within who script (events.Quit ∷ t) left f = later-step who t f.0 events.Quit left (cuts_in script) f.1.1 (joins-within who script t f.0 f.1.0)
-joins-within who script (events.Show objects ∷ t) left f = later-step who t f.0 (events.Show objects) left (cuts_in script) f.1.1 (joins-within who script t f.0 f.1.0)
+joins-within who script t left f = omega (arith, joins-counted who script t left f, begun-or_next (must_join t))
 
 -- A client that has not to join has joined.
 pub joined-once : (who : Identity) (script : List Step) (t : List Event) (left : List Step) → FollowsTo who script t left → must_join t ≡ false → 1 ≤ joins t
@@ -263,36 +166,6 @@ joined-once who script (events.Make action ∷ t) left f m = joined-once who scr
 joined-once who script (events.Poll ∷ t) left f m = joined-once who script t f.0 f.1.0 f.1.1.joined
 joined-once who script (events.Quit ∷ t) left f m = joined-once who script t f.0 f.1.0 f.1.1.joined
 joined-once who script (events.Show objects ∷ t) left f m = joined-once who script t f.0 f.1.0 f.1.1.joined
-
--- ---- Steps that are left
-
-all-synced : (P : Step → Type 0) (ss : List Step) → AllByRecursion P ss → AllByRecursion P (after_syncs ss)
-all-synced P [] a = a
-all-synced P (steps.Act action ∷ ss) a = a
-all-synced P (steps.Poll ∷ ss) a = a
-all-synced P (steps.Sync ∷ ss) a = all-synced P ss a.1
-all-synced P (steps.Show objects ∷ ss) a = a
-all-synced P (steps.Cut ∷ ss) a = a
-all-synced P (steps.Quit ∷ ss) a = a
-
-all-passed : (P : Step → Type 0) (os : List Request) (ss : List Step) → AllByRecursion P ss → AllByRecursion P (passed_syncs os ss)
-all-passed P [] ss a = all-synced P ss a
-all-passed P (o ∷ os) ss a = a
-
-all-step : (P : Step → Type 0) (who : Identity) (t : List Event) (before : List Step) (e : Event) (left : List Step) → DoesStep who t before e left →
-    AllByRecursion P before → AllByRecursion P left
-all-step P who t before e left d a = (subst (AllByRecursion P) d.next (all-passed P (outstanding who t) before a)).1
-
-all-after : (P : Step → Type 0) (who : Identity) (t : List Event) (before : List Step) (e : Event) (left : List Step) → MayCome who t before e left →
-    AllByRecursion P before → AllByRecursion P left
-all-after P who t before (events.Join s) left m a = subst (AllByRecursion P) (sym m.same) a
-all-after P who t before (events.Got s reply) left m a = subst (AllByRecursion P) (sym m.same) a
-all-after P who t before events.Leave left m a = subst (AllByRecursion P) (sym m.same) tt
-all-after P who t before (events.Make action) left m a = all-step P who t before (events.Make action) left m a
-all-after P who t before events.Poll left m a = all-step P who t before events.Poll left m a
-all-after P who t before events.Cut left m a = all-step P who t before events.Cut left m a
-all-after P who t before events.Quit left m a = all-step P who t before events.Quit left m a
-all-after P who t before (events.Show objects) left m a = all-step P who t before (events.Show objects) left m a
 
 -- What holds of each step of a script holds of those that are left.
 pub all-left : (P : Step → Type 0) (who : Identity) (script : List Step) (t : List Event) (left : List Step) → FollowsTo who script t left →

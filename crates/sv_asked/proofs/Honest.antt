@@ -14,7 +14,6 @@ use Rattle.sv_eval.specs.Serial.{serial_world}
 use Rattle.sv_wire.specs.declared.message.Done1.{Done1}
 use Rattle.sv_wire.specs.declared.message.Request.{Request}
 use Rattle.sv_wire.specs.declared.message.Request.TheVariants as requests
-use Rattle.sv_wire.specs.Grammar.{IsWireAction}
 use Rattle.sv_world.specs.Ranges.{ObjectFits}
 use Rattle.sv_wire.specs.Ranges.{ValueFits, ActionFits}
 use Rattle.sv_wire.specs.Laws.{IsRequest}
@@ -32,6 +31,7 @@ use Rattle.sv_client.specs.declared.trace.Trace.{Trace}
 use Rattle.sv_client.specs.Traces.{joins, makes, held_of, requests_of}
 use Rattle.sv_client.specs.Taking.{Identity}
 use Rattle.sv_client.specs.Proper.{AreProper, IsGoodIdentity, identity_of}
+use Rattle.sv_client.proofs.Sendable.{wire_action}
 use Rattle.sv_system.specs.Fits.{FitsOne}
 use Rattle.sv_system.specs.Served.{FitsButValues}
 use Rattle.sv_system.specs.Laws.{ReplicasAreSerial}
@@ -78,17 +78,6 @@ few-makes who first (events.Show objects ∷ t) p = few-makes who first t p.1
 abbrev IsMade : Shape → Action → Type 0
 IsMade shape a = (first_fault_of_action shape a ≡ None) × ActionFits a
 
-wire-action : (shape : Shape) (a : Action) → IsGoodAction shape a → IsWireAction a
-wire-action shape a good =
-    record {
-      some_reads = good.some_reads;
-      few_reads = good.few_reads;
-      ascending = good.ascending;
-      mask = good.mask;
-      few_nodes = good.few_nodes;
-      shallow = good.shallow;
-    }
-
 made : (who : Identity) (first : ℕ) (t : List Event) → AreProper who first t → AllByRecursion EventFits t → AllByRecursion (Makes (IsMade who.shape)) t
 made who first [] p f = tt
 made who first (events.Make a ∷ t) p f = ((p.0.good, f.0), made who first t p.1 f.1)
@@ -114,7 +103,7 @@ join-is who life good objects few =
     }
 
 submit-is : (shape : Shape) (n : ℕ) (a : Action) → n ≤ 65536 → IsMade shape a → IsRequest (requests.Submit n a)
-submit-is shape n a few m = record { within = wire-action shape a (good_of_none shape a m.0); fits = (omega (arith, few), m.1) }
+submit-is shape n a few m = record { within = wire_action shape a (good_of_none shape a m.0); fits = (omega (arith, few), m.1) }
 
 module _ (r : Rules) (H : List Entry) (L : Trace) (s : ℕ) (limits : AreWithinLimits r) (numbers : HasNumbers r H (L ∷ [])) (one : FitsButValues r.world.shape H L)
     (named : All (λ (e : Entry). NamesAccepted (length (accepted H)) e.reply) H) (small : All (λ (e : Entry). length (positions_in e.reply) ≤ r.bound + 1) H)

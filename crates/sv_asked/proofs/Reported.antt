@@ -1,10 +1,10 @@
 -- The results that a client reports are within the grammar, where what it holds is serial.
-use Rattle.std.proofs.Common.{◌≡◌, ℕ, suc, ◌+◌, ◌^◌, ◌<◌, ◌≤◌, Bool, true, false, cond, List, [], ◌∷◌, ◌++◌, length, map, ℤ, sym, subst, ◌∙◌, arith}
+use Rattle.std.proofs.Common.{◌≡◌, ℕ, ◌+◌, ◌^◌, ◌<◌, ◌≤◌, List, [], ◌∷◌, ◌++◌, length, map, ℤ, sym, subst, ◌∙◌, arith}
 use Rattle.std.specs.Prelude.{slice_index_or, unwrap_or}
 use Rattle.std.proofs.lemmas.List.{length-map}
 use Rattle.std.specs.List.{AllByRecursion}
 use Rattle.std.proofs.lemmas.List.Elements.{All-from_recursion}
-use Rattle.sv_world.specs.Sets.{is_in_mask, at_mask, read_set, write_set}
+use Rattle.sv_world.specs.Sets.{read_set, write_set}
 use Rattle.sv_world.specs.declared.action.Action.{Action}
 use Rattle.sv_world.specs.declared.world.ObjectId.{ObjectId}
 use Rattle.sv_eval.specs.Serial.{serial_world}
@@ -22,20 +22,13 @@ use Rattle.sv_wire.specs.Laws.{IsRequest}
 use Rattle.sv_client.specs.declared.trace.Event.{Event}
 use Rattle.sv_client.specs.declared.trace.Event.TheVariants as events
 use Rattle.sv_client.specs.Traces.{head_held, held_at, item_result, item_held, with_items, with_reply, held_of, results_of}
+use Rattle.sv_client.proofs.Items.{results_count}
+use Rattle.sv_client.proofs.Sendable.{masked_fewer}
 use Rattle.sv_system.specs.Serial.{IsSerial}
 use Rattle.sv_system.proofs.Asked.{IsPart, all, then_one}
 use Rattle.sv_system.proofs.Every.{each-left, each-right, each-more}
-use Rattle.sv_system.proofs.Dones.{results-count}
 use Rattle.sv_asked.proofs.Evaluated.{mask_fits}
 use Rattle.sv_asked.proofs.Worlds.{IsGoodValue}
-
-mask-fewer : {A : Type 0} (mask k : ℕ) (xs : List A) → length (at_mask mask k xs) ≤ length xs
-mask-fewer mask k [] = omega arith
-mask-fewer mask k (x ∷ xs) = go (is_in_mask mask k) (mask-fewer mask (k + 1) xs)
-  where
-    go : (b : Bool) → length (at_mask mask (k + 1) xs) ≤ length xs → length (cond b (x ∷ at_mask mask (k + 1) xs) (at_mask mask (k + 1) xs)) ≤ suc (length xs)
-    go true less = omega (arith, less)
-    go false less = omega (arith, less)
 
 -- An item whose action reads few objects, which are among so many.
 pub record IsFineItem (objects : ℕ) (i : Item) : Type 0 where
@@ -68,7 +61,7 @@ module _ (attrs : ℕ) (opening : List (List ℤ)) (acts : List Action) (some : 
       let values = map (λ x. unwrap_or (read_below held x item.pos) []) (read_set a) in
       let as_many : length values ≡ length a.reads = length-map (read_set a) (λ x. unwrap_or (read_below held x item.pos) []) ∙ length-map a.reads (λ (o : ObjectId). o.0) in
       let count : length (item_result held item) ≡ length (write_set a) = outcome_counted a values as_many in
-      let written : length (write_set a) ≤ length (read_set a) = mask-fewer a.mask 0 (read_set a) in
+      let written : length (write_set a) ≤ length (read_set a) = masked_fewer a.mask 0 (read_set a) in
       let reads : length (read_set a) ≡ length a.reads = length-map a.reads (λ (o : ObjectId). o.0) in
       let goods = values-good item.pos (write_set a) (item_result held item) count (mask_fits (λ x. x < length opening) a.mask 0 (read_set a) fine.within) h in (
         record {
@@ -126,8 +119,8 @@ module _ (attrs : ℕ) (opening : List (List ℤ)) (acts : List Action) (some : 
       record {
         within =
             record {
-              some = omega (arith, results-count held items, one);
-              few = omega (arith, results-count held items, most);
+              some = omega (arith, results_count held items, one);
+              few = omega (arith, results_count held items, most);
               each = All-from_recursion IsWireResult results (each-more IsFineResult IsWireResult (λ d f. f.0) results each);
             };
         fits = each-more IsFineResult ResultFits (λ d f. f.1) results each;

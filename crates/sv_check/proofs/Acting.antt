@@ -6,7 +6,6 @@ use denote.Ref.{Bor as Ref}
 use Rattle.std.proofs.lemmas.Bool.{eqb-true, eq-eqb, ne_eqb, or_right}
 use Rattle.sv_wire.specs.declared.message.Request.{Request}
 use Rattle.sv_wire.specs.declared.message.Reply.{Reply}
-use Rattle.sv_wire.specs.declared.message.Reply.TheVariants as replies
 use Rattle.sv_journal.specs.declared.entry.Entry.{Entry}
 use Rattle.sv_journal.specs.History.{Authored, accepted, full_reply}
 use Rattle.sv_client.specs.declared.trace.Event.{Event}
@@ -21,7 +20,7 @@ use Rattle.sv_client.proofs.Sessions.{no_got, no_asked}
 use Rattle.sv_report.specs.Again.{MayDo, IsPlace, behind_next, place_after}
 use Rattle.sv_report.proofs.Seeking.{next_place}
 use Rattle.sv_scenario.specs.declared.scenario.Step.{Step}
-use Rattle.sv_script.specs.Following.{FollowsTo, MayCome, is_bye, must_join, is_welcomed, is_finished}
+use Rattle.sv_script.specs.Following.{FollowsTo, MayCome, must_join, is_welcomed, is_finished}
 use Rattle.sv_system.specs.Fits.{is_join_of, replies_in}
 use Rattle.sv_system.specs.Fronts.{IsFront}
 use Rattle.sv_system.specs.Outcomes.{is_quit}
@@ -30,6 +29,7 @@ use Rattle.sv_system.proofs.Fronts.{front-all, front-then}
 use Rattle.law_schedule.proofs.SoundTraces.{joined-within}
 use Rattle.sv_replay.proofs.Events.{is_got, asks_up, asks_got}
 use Rattle.sv_client.specs.Seen.{ClientView}
+use Rattle.sv_player.proofs.Going.{bye_finishes}
 use Rattle.sv_check.specs.declared.actor.Actor.{Actor}
 use Rattle.sv_check.specs.Serving.{full_replies}
 use Rattle.sv_check.specs.Acting.{IsActing, HasAsked, HasGot, AreFlags, IsSettled, IsUnsettled, IsAmiss, WentOn, LookedAt, Joined, GotReply, Made, IsNextPlace, IsNextEvent, journal_events, replies_before, cuts_session, is_other}
@@ -436,16 +436,6 @@ got_asks entries first who t reply requests more fits k c h is = record {
       );
 }
 
-bye_is : (s : ℕ) (reply : Reply) (t : List Event) → is_finished (events.Got s reply ∷ t) ≡ is_bye reply
-bye_is s (replies.Welcome commit head) t = refl
-bye_is s (replies.Relay seq commit head items) t = refl
-bye_is s (replies.Dropped seq chain far) t = refl
-bye_is s (replies.Settled seq pos) t = refl
-bye_is s (replies.Noted commit) t = refl
-bye_is s replies.Idle t = refl
-bye_is s (replies.Refused code detail) t = refl
-bye_is s replies.Bye t = refl
-
 pub gets : (entries : List Entry) (a b : Actor) (s p : ℕ) (reply : Reply) → IsActing entries a → must_join a.client.events ≡ false → is_finished a.client.events ≡ false →
     a.session ≡ Some s → IsNextPlace entries a.place s p → slice_get (full_replies entries) p ≡ Some reply → GotReply reply p a b → IsActing entries b
 gets entries a b s p reply g m n is next r d =
@@ -461,7 +451,7 @@ gets entries a b s p reply g m n is next r d =
         session = g.flags.session ∙ ap (λ (u : List Event). current_session (map (raised a.first) u)) (sym d.done);
         between = g.flags.between ∙ m ∙ ap (λ (u : List Event). must_join u) (sym d.done);
         welcomed = ap (λ (u : List Event). is_welcomed u) (sym d.done);
-        finished = sym (bye_is (latest_session a.client.events) reply a.client.events) ∙ ap (λ (u : List Event). is_finished u) (sym d.done);
+        finished = sym (bye_finishes (latest_session a.client.events) reply a.client.events) ∙ ap (λ (u : List Event). is_finished u) (sym d.done);
       };
       gets = rw d.done (got_gets entries a.first a.client.events a.place p s reply current next r g.gets);
       stands = rw d.done (got_stands entries a.first a.client.who a.client.events a.place p s reply current next proper g.stands);

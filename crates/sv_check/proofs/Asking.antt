@@ -1,9 +1,8 @@
 -- The entries of a consistent journal are right ones, whose lines tell them. A history is the list of a journal's entries with the latest first.
-use Rattle.std.proofs.Common.{◌≡◌, ℕ, zero, suc, ◌+◌, ◌^◌, ◌<◌, ◌≤◌, Bool, true, false, ◌&&◌, eqb, inl, inr, List, [], ◌∷◌, ◌++◌, length, length-append, reverse, slice_get, Option, Some, None, refl, sym, ap, subst, ◌∙◌, arith, true≢false}
+use Rattle.std.proofs.Common.{◌≡◌, ℕ, zero, suc, ◌+◌, ◌^◌, ◌<◌, ◌≤◌, true, false, ◌&&◌, eqb, inl, inr, List, [], ◌∷◌, ◌++◌, length, length-append, reverse, slice_get, Option, Some, None, refl, sym, ap, subst, arith, true≢false}
 use Rattle.std.specs.Prelude.{All, if◌then◌else◌}
 use Rattle.std.specs.List.{list_any, AllByRecursion}
 use Rattle.std.proofs.lemmas.Bool.{cases_Bool, or_cases, eq-eqb, cond_both}
-use Rattle.std.proofs.lemmas.Option.{none-some, same_Some}
 use Rattle.std.proofs.lemmas.List.{reverse-reverse}
 use Rattle.std.proofs.lemmas.List.Elements.{recursion_from_All, All-from_recursion}
 use Rattle.sv_world.specs.declared.action.Action.{Action}
@@ -24,7 +23,6 @@ use Rattle.sv_client.specs.Proper.{AreProper, identity_of}
 use Rattle.sv_scenario.specs.declared.scenario.Plan.{Plan}
 use Rattle.sv_scenario.specs.declared.scenario.Scenario.{Scenario}
 use Rattle.sv_scenario.specs.declared.scenario.Step.{Step}
-use Rattle.sv_scenario.specs.declared.scenario.Step.TheVariants as steps
 use Rattle.sv_scenario.specs.Limits.{IsGoodScenario}
 use Rattle.sv_scenario.specs.Sessions.{session_count}
 use Rattle.sv_script.specs.Following.{FollowsToEnd, is_step, steps_done, events_of, event_of, led_by}
@@ -39,8 +37,10 @@ use Rattle.sv_system.proofs.Every.{each-at, each-left, each-reverse}
 use Rattle.sv_system.proofs.Limits.{limits_of, objects_few}
 use Rattle.sv_asked.proofs.Owned.{entry-at}
 use Rattle.sv_asked.proofs.Made.{Makes, Asks, asked-have}
+use Rattle.sv_replay.proofs.Scripts.{event_fits}
 use Rattle.sv_lines.specs.Told.{IsTold}
 use Rattle.sv_check.specs.Parts.{IsEntryAfter, AreEntries}
+use Rattle.sv_check.proofs.Serving.{some_ended}
 
 -- ---- The actions that are made are those of the scripts
 
@@ -48,17 +48,9 @@ with_fits : (o : Option Event) (es : List Event) → ((e : Event) → o ≡ Some
 with_fits None es f all = all
 with_fits (Some e) es f all = (f e refl, all)
 
-step_fits : (step : Step) (e : Event) → event_of step ≡ Some e → StepFits step → EventFits e
-step_fits (steps.Act action) e h f = subst EventFits (same_Some (events.Make action) e h) f
-step_fits steps.Poll e h f = subst EventFits (same_Some events.Poll e h) tt
-step_fits steps.Sync e h f = absurd (none-some e h)
-step_fits (steps.Show objects) e h f = subst EventFits (same_Some (events.Show objects) e h) tt
-step_fits steps.Cut e h f = subst EventFits (same_Some events.Cut e h) tt
-step_fits steps.Quit e h f = subst EventFits (same_Some events.Quit e h) tt
-
 script_fits : (ss : List Step) → AllByRecursion StepFits ss → AllByRecursion EventFits (events_of ss)
 script_fits [] all = tt
-script_fits (step ∷ ss) all = with_fits (event_of step) (events_of ss) (λ e h. step_fits step e h all.0) (script_fits ss all.1)
+script_fits (step ∷ ss) all = with_fits (event_of step) (events_of ss) (λ e h. event_fits step e h all.0) (script_fits ss all.1)
 
 last_apart : (P : Event → Type 0) (es : List Event) (e : Event) → AllByRecursion P (es ++ e ∷ []) → P e × AllByRecursion P es
 last_apart P [] e all = (all.0, tt)
@@ -154,22 +146,10 @@ ends_more s h whole (after {g} e b) =
 one_end : (e : Entry) (h : List Entry) → is_end e.request ≡ true → ends_in (e ∷ h) e.session ≡ suc (ends_in h e.session)
 one_end e h t = let here = eq-eqb e.session e.session refl in rw (here, t) refl
 
-some_end : (h : List Entry) (s : ℕ) → is_ended h s ≡ true → 1 ≤ ends_in h s
-some_end [] s e = absurd (true≢false (sym e))
-some_end (d ∷ h) s e = go (eqb d.session s && is_end d.request) refl (some_end h s)
-  where
-    go : (b : Bool) → (eqb d.session s && is_end d.request) ≡ b → (is_ended h s ≡ true → 1 ≤ ends_in h s) → 1 ≤ ends_in (d ∷ h) s
-    go true q earlier = rw q (omega arith)
-    go false q earlier =
-        elim (or_cases (eqb d.session s && is_end d.request) (is_ended h s) e) [
-          | inl x ↦ absurd (true≢false (sym x ∙ q))
-          | inr x ↦ rw q (earlier x)
-        ]
-
 not_ended : (h : List Entry) (s : ℕ) → ends_in h s ≡ 0 → is_ended h s ≡ false
 not_ended h s none =
     elim (cases_Bool (is_ended h s)) [
-      | inl x ↦ (let some = some_end h s x in absurd (omega (arith, some, none)))
+      | inl x ↦ (let some = some_ended h s x in absurd (omega (arith, some, none)))
       | inr x ↦ x
     ]
 

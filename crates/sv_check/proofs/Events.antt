@@ -28,13 +28,13 @@ pub record IsGot (R : ℕ → List Reply) (t : List Event) (e : Event) : Type 0 
   pub current : current_session t ≡ Some session
   pub next : slice_get (R session) (length (got t session)) ≡ Some reply
 
-same_first : (a b : Step) (xs ys : List Step) → a ∷ xs ≡ b ∷ ys → a ≡ b
+pub same_first : (a b : Step) (xs ys : List Step) → a ∷ xs ≡ b ∷ ys → a ≡ b
 same_first a b xs ys e = cc
 
 same_others : (a b : Step) (xs ys : List Step) → a ∷ xs ≡ b ∷ ys → xs ≡ ys
 same_others a b xs ys e = cc
 
-none_first : (a : Step) (xs : List Step) → [] ≡ a ∷ xs → ⊥
+pub none_first : (a : Step) (xs : List Step) → [] ≡ a ∷ xs → ⊥
 none_first a xs e = cc
 
 -- ---- By kinds

@@ -25,9 +25,10 @@ use Rattle.sv_report.specs.Report.{event_text, event_lines, trace_text}
 use Rattle.sv_report.specs.Again.{lines_after}
 use Rattle.sv_check.specs.Next.{ComesNext, journal_replies}
 use Rattle.sv_check.specs.Parts.{IsWholeTrace, IsTraceSoFar, IsOf}
-use Rattle.sv_check.proofs.Told.{line_first}
+use Rattle.sv_check.proofs.Told.{line_first, none_behind}
 use Rattle.sv_check.proofs.Traces.{IsFine, same_trace, trace_parts, line_behind, trace_tells}
 use Rattle.sv_check.proofs.Further.{after, after_start, ComeTo, IsFurther, IsShorter, come, none_after, none_more, events_part, some_line}
+use Rattle.sv_check.proofs.Splits.{is_of}
 
 -- ---- Texts
 
@@ -36,10 +37,6 @@ pub record Begins (line z : List ℕ) : Type 0 where
   pub rest : List ℕ
   pub text : z ≡ line ++ 10 ∷ rest
 
-pub none_behind : (a w : List ℕ) → a ++ w ≡ [] → w ≡ []
-none_behind [] w e = e
-none_behind (c ∷ a) w e = cc
-
 pub some_head : (a b w : List ℕ) (c : ℕ) → (a ++ (c ∷ b)) ++ w ≡ [] → ⊥
 some_head [] b w c e = cc
 some_head (d ∷ a) b w c e = cc
@@ -47,10 +44,6 @@ some_head (d ∷ a) b w c e = cc
 -- The line with which a client's part begins.
 abbrev pub client_line : ℕ → List ℕ
 client_line k = codes "client " ++ decimal k
-
--- A client by the same number, with the same first session.
-pub is_of : (k s i n : ℕ) (plan : Plan) (L : Trace) → k ≡ i → s ≡ n → IsOf k s plan L → IsOf i n plan L
-is_of k s i n plan L e f o = record { client = o.client ∙ ap (λ (m : ℕ). record { 0 = m }) e; interest = o.interest; first_is = o.first_is ∙ f }
 
 -- ---- Two traces of one client
 

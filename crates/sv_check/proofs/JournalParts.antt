@@ -16,7 +16,7 @@ use Rattle.sv_lines.proofs.Splitting.{others_are, number_split}
 use Rattle.sv_check.specs.Parts.{IsEntryAfter, AreEntries, IsWholeJournal, IsJournalPart, IsClientPart, IsWorldPart, IsReportPart}
 use Rattle.sv_check.specs.Entering.{header_text, lines_of, line_after}
 use Rattle.sv_check.proofs.Entries.{in_order, entries_tell, names_of, same_reply_text}
-use Rattle.sv_check.proofs.Journals.{after_none, plain_lines}
+use Rattle.sv_check.proofs.Journals.{after_none, plain_lines, lines_long}
 
 -- ---- Texts
 
@@ -44,16 +44,6 @@ no_line shape A n e rest same =
     let two = length-append (entry_line shape A n e) rest in
     let none : 0 ≡ length (entry_line shape A n e ++ rest) = ap length same in
     omega (arith, one, two, none)
-
-pub some_lines : (shape : Shape) (A : List Authored) (n : ℕ) (es : List Entry) → length es ≤ length (entry_lines shape A n es)
-some_lines shape A n [] = omega arith
-some_lines shape A n (e ∷ es) =
-    let line = entry_line shape A n e in
-    let front = decimal n ++ codes " s" ++ decimal e.session ++ codes " " ++ request_text shape e.request ++ codes " -> " ++ reply_text A e.reply in
-    let one : length line ≡ length front + 1 = length-append front (10 ∷ []) in
-    let sum = length-append line (entry_lines shape A (n + 1) es) in
-    let more = some_lines shape A (n + 1) es in
-    omega (arith, one, sum, more)
 
 pub headed_long : (count : ℕ) (lines z : List ℕ) → length lines ≤ length (headed count lines ++ z)
 headed_long count lines z =
@@ -203,7 +193,7 @@ module _ (stay : FullRepliesStay) (names : LegalRelaysNameAccepted) (scenario : 
       in_whole h z whole same =
           let gs = reverse h in
           let is : reverse gs ≡ h = reverse-reverse h in
-          let size : length gs ≤ length (lines_of shape gs) = some_lines shape (accepted (reverse gs)) 1 gs in
+          let size : length gs ≤ length (lines_of shape gs) = lines_long shape (accepted (reverse gs)) 1 gs in
           let long = headed_long (length gs) (lines_of shape gs) z in
           let equal : length (X ++ y) ≡ length (headed (length gs) (lines_of shape gs) ++ z) = ap length same in
           let parts = headed_splits count (length gs) (lines_of shape es ++ y) (lines_of shape gs ++ z) (omega (arith, small)) (omega (arith, size, long, equal, short))

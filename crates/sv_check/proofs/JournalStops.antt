@@ -29,7 +29,8 @@ use Rattle.sv_check.specs.Stopping.{IsStop, IfWrong}
 use Rattle.sv_check.specs.Entering.{lines_of, line_after, header_text, NoHeader, NoEntry, EntriesAreTold, HasServedAll, TextBreaksOff}
 use Rattle.sv_check.proofs.Asking.{entries_right}
 use Rattle.sv_check.proofs.JournalLines.{broken_none, behind_all}
-use Rattle.sv_check.proofs.JournalParts.{first_right, headed_is, headed, headed_more, headed_long, some_lines, GoesOn, in_whole, in_part, clients_behind, clients_split, world_behind, world_split}
+use Rattle.sv_check.proofs.JournalParts.{first_right, headed_is, headed, headed_more, headed_long, GoesOn, in_whole, in_part, clients_behind, clients_split, world_behind, world_split}
+use Rattle.sv_check.proofs.Journals.{lines_long}
 
 never_empty : (line next : List ℕ) → line ++ 10 ∷ next ≡ [] → ⊥
 never_empty [] next e = cc
@@ -135,7 +136,7 @@ module _ (stay : FullRepliesStay) (names : LegalRelaysNameAccepted) (order : Ste
     few_entries : (y next z : List ℕ) (es : List Entry) → text ≡ y ++ next → y ≡ journal_text scenario.world.shape es ++ z → length es < 2 ^ 32
     few_entries y next z es is same =
         let lines = lines_of scenario.world.shape es in
-        let one : length es ≤ length lines = some_lines scenario.world.shape (accepted (reverse es)) 1 es in
+        let one : length es ≤ length lines = lines_long scenario.world.shape (accepted (reverse es)) 1 es in
         let two = headed_long (length es) lines z in
         let three : length y ≡ length (headed (length es) lines ++ z) = ap length same in
         let four : length text ≡ length (y ++ next) = ap length is in

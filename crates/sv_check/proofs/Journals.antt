@@ -1,7 +1,7 @@
 -- A journal's text tells its entries, which stand in order here.
 use Rattle.std.proofs.Common.{◌≡◌, ℕ, ◌+◌, ◌^◌, ◌<◌, ◌≤◌, List, [], ◌∷◌, ◌++◌, length, length-append, reverse, refl, sym, ap, subst, ◌∙◌, arith, decimal, append_assoc, append-nil}
 use Rattle.std.specs.Prelude.{codes}
-use Rattle.std.proofs.lemmas.List.{append_cancel_left}
+use Rattle.std.proofs.lemmas.List.{append_cancel_left, nil_from_length}
 use Rattle.sv_world.specs.declared.world.Shape.{Shape}
 use Rattle.sv_journal.specs.declared.entry.Entry.{Entry}
 use Rattle.sv_journal.specs.History.{accepted}
@@ -13,15 +13,22 @@ use Rattle.sv_lines.proofs.Splitting.{others_are, number_split}
 use Rattle.sv_check.specs.Parts.{AreEntries}
 use Rattle.sv_check.proofs.Entries.{AreEntriesAfter, in_order, entries_tell}
 
-none_left : (more : List Entry) → length more ≡ 0 → more ≡ []
-none_left [] e = refl
-none_left (d ∷ more) e = absurd (omega (arith, e))
-
 pub journal_parts : (shape : Shape) (es : List Entry) (x : List ℕ) →
     journal_text shape es ++ x ≡ codes "journal " ++ (decimal (length es) ++ (10 ∷ (entry_lines shape (accepted (reverse es)) 1 es ++ x)))
 journal_parts shape es x =
     let lines = entry_lines shape (accepted (reverse es)) 1 es in
     append_assoc (codes "journal " ++ decimal (length es)) (10 ∷ lines) x ∙ append_assoc (codes "journal ") (decimal (length es)) (10 ∷ (lines ++ x))
+
+-- It has no fewer bytes than entries.
+pub lines_long : (shape : Shape) (A : List Authored) (n : ℕ) (es : List Entry) → length es ≤ length (entry_lines shape A n es)
+lines_long shape A n [] = omega arith
+lines_long shape A n (e ∷ es) =
+    let line = entry_line shape A n e in
+    let front = decimal n ++ codes " s" ++ decimal e.session ++ codes " " ++ request_text shape e.request ++ codes " -> " ++ reply_text A e.reply in
+    let one : length line ≡ length front + 1 = length-append front (10 ∷ []) in
+    let sum = length-append line (entry_lines shape A (n + 1) es) in
+    let more = lines_long shape A (n + 1) es in
+    omega (arith, one, sum, more)
 
 pub after_none : (scenario : Scenario) (es : List Entry) → AreEntries scenario (reverse es) → AreEntriesAfter scenario [] es
 after_none scenario es a = (in_order scenario es [] (subst (AreEntries scenario) (sym (append-nil (reverse es))) a)).1
@@ -37,7 +44,7 @@ journal_rest stay names scenario few es fs x y p q long same =
     let goes = entries_tell stay names scenario few es fs [] 1 x y tt (after_none scenario es p) (after_none scenario fs q) (omega (arith, long))
     (plain_lines shape es x ∙ same ∙ sym (plain_lines shape fs y)) in
     let counts : length fs ≡ length es + length goes.more = ap length goes.entries ∙ length-append es goes.more in
-    let none : goes.more ≡ [] = none_left goes.more (omega (arith, counts, long)) in (
+    let none : goes.more ≡ [] = nil_from_length goes.more (omega (arith, counts, long)) in (
       sym (goes.entries ∙ ap (λ (m : List Entry). es ++ m) none ∙ append-nil es),
       goes.text ∙ ap (λ (m : List Entry). entry_lines shape (accepted (reverse fs ++ [])) (1 + length es) m ++ y) none,
     )

@@ -23,6 +23,7 @@ pub mod WorldParts
 pub mod WorldStops
 pub mod Reporting
 pub mod Numbering
+pub mod Splits
 pub mod GoingOn
 pub mod Stops
 pub mod Acted

@@ -11,6 +11,7 @@ use Rattle.sv_scenario.specs.declared.scenario.Step.TheVariants as steps
 use Rattle.sv_script.specs.Following.{MayCome, DoesStep, passed_syncs, unsynced, event_of, must_join, is_welcomed, is_finished}
 use Rattle.sv_check.specs.Acting.{IsNextEvent, NoNextEvent, NotNow, is_other}
 use Rattle.sv_check.proofs.Settling.{same_Some}
+use Rattle.sv_check.proofs.Events.{none_first, same_first}
 
 comes : (who : Identity) (t : List Event) (before : List Step) (step : Step) (left : List Step) (e : Event) → must_join t ≡ false → is_welcomed t ≡ true → is_finished t ≡ false →
     unsynced who t before ≡ step ∷ left → event_of step ≡ Some e → MayCome who t before e left
@@ -54,12 +55,6 @@ next_leave who t before left e j w h n none is may = subst (λ (x : Event). IsNe
 })
 
 -- ---- Where none comes
-
-none_first : (a : Step) (xs : List Step) → [] ≡ a ∷ xs → ⊥
-none_first a xs e = cc
-
-same_first : (a b : Step) (xs ys : List Step) → a ∷ xs ≡ b ∷ ys → a ≡ b
-same_first a b xs ys e = cc
 
 module _ (who : Identity) (t : List Event) (before : List Step) where
   -- No step is left.

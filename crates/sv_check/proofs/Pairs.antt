@@ -1,14 +1,14 @@
 -- Two consistent reports with one text are of equal pairs.
-use Rattle.std.proofs.Common.{◌≡◌, ℕ, ◌+◌, ◌^◌, ◌<◌, ◌≤◌, List, [], ◌∷◌, ◌++◌, length, length-append, reverse, refl, sym, ap, subst, ◌∙◌, arith, decimal, append_assoc}
+use Rattle.std.proofs.Common.{◌≡◌, ℕ, ◌+◌, ◌^◌, ◌<◌, ◌≤◌, List, ◌∷◌, ◌++◌, length, length-append, reverse, refl, sym, ap, subst, ◌∙◌, arith, decimal, append_assoc}
 use Rattle.std.specs.Prelude.{codes}
 use Rattle.std.specs.List.{flat_map}
 use Rattle.std.proofs.lemmas.List.{reverse-reverse}
 use Rattle.std.proofs.lemmas.List.Elements.{recursion_from_All}
 use Rattle.sv_world.specs.declared.world.Shape.{Shape}
 use Rattle.sv_journal.specs.declared.entry.Entry.{Entry}
-use Rattle.sv_journal.specs.History.{Authored, accepted, commit_of, committed_of}
+use Rattle.sv_journal.specs.History.{accepted, commit_of, committed_of}
 use Rattle.sv_journal.specs.Laws.{FullRepliesStay, LegalRelaysNameAccepted}
-use Rattle.sv_journal.specs.Text.{entry_line, entry_lines, journal_text, request_text, reply_text}
+use Rattle.sv_journal.specs.Text.{entry_lines, journal_text}
 use Rattle.sv_client.specs.declared.trace.Trace.{Trace}
 use Rattle.sv_scenario.specs.declared.scenario.Scenario.{Scenario}
 use Rattle.sv_scenario.specs.Limits.{IsGoodScenario}
@@ -21,23 +21,13 @@ use Rattle.sv_report.specs.Report.{trace_text, world_text, report_text}
 use Rattle.sv_check.specs.Parts.{AreEntries}
 use Rattle.sv_check.specs.Consistent.{IsConsistent, IsReportOfPair}
 use Rattle.sv_check.proofs.Asking.{entries_right}
-use Rattle.sv_check.proofs.Journals.{journals_tell}
+use Rattle.sv_check.proofs.Journals.{journals_tell, lines_long}
 use Rattle.sv_check.proofs.Traces.{IsFine, all_fine, traces_tell}
 
 -- ---- A journal has no more entries than its text has bytes
 
 pub longer : (a b : List ℕ) → length b ≤ length (a ++ b)
 longer a b = let sum = length-append a b in omega (arith, sum)
-
-pub lines_long : (shape : Shape) (A : List Authored) (n : ℕ) (es : List Entry) → length es ≤ length (entry_lines shape A n es)
-lines_long shape A n [] = omega arith
-lines_long shape A n (e ∷ es) =
-    let line = entry_line shape A n e in
-    let front = decimal n ++ codes " s" ++ decimal e.session ++ codes " " ++ request_text shape e.request ++ codes " -> " ++ reply_text A e.reply in
-    let one : length line ≡ length front + 1 = length-append front (10 ∷ []) in
-    let sum = length-append line (entry_lines shape A (n + 1) es) in
-    let more = lines_long shape A (n + 1) es in
-    omega (arith, one, sum, more)
 
 pub text_long : (shape : Shape) (es : List Entry) (traces world : List ℕ) → length es ≤ length ((journal_text shape es ++ traces) ++ world)
 text_long shape es traces world =

@@ -21,10 +21,12 @@ use Rattle.sv_check.specs.Parts.{AreEntries, IsJournalPart, IsWholeJournal, IsTr
 use Rattle.sv_check.specs.Stopping.{IsStop}
 use Rattle.sv_check.specs.Clients.{PartStops, NoClient, IsClientStop}
 use Rattle.sv_check.proofs.Entries.{entries_tell}
-use Rattle.sv_check.proofs.Journals.{journal_parts, after_none, plain_lines, journals_tell}
-use Rattle.sv_check.proofs.Pairs.{longer, lines_long}
-use Rattle.sv_check.proofs.FrontParts.{lines_append, client_front, traces_front}
-use Rattle.sv_check.proofs.GoingOn.{Begins, client_line, none_behind, some_head, head_text, Rest, rest_begins, peel, GoesOn, going, client_rest, world_rest}
+use Rattle.sv_check.proofs.Journals.{journal_parts, after_none, plain_lines, journals_tell, lines_long}
+use Rattle.sv_check.proofs.Pairs.{longer}
+use Rattle.sv_check.proofs.FrontParts.{client_front, traces_front}
+use Rattle.sv_check.proofs.GoingOn.{Begins, client_line, some_head, head_text, Rest, rest_begins, peel, GoesOn, going, client_rest, world_rest}
+use Rattle.sv_check.proofs.Told.{none_behind}
+use Rattle.sv_check.proofs.Splits.{lines_append}
 
 -- ---- Texts
 

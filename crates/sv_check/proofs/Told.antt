@@ -28,6 +28,10 @@ abbrev pub AreNext : Identity → ℕ → (ℕ → List Reply) → List Event �
 AreNext who first R t before [] = is_finished t ≡ true
 AreNext who first R t before (e ∷ es) = (left : List Step) × (ComesNext who first R t before e left × AreNext who first R (e ∷ t) left es)
 
+pub none_behind : (a w : List ℕ) → a ++ w ≡ [] → w ≡ []
+none_behind [] w e = e
+none_behind (c ∷ a) w e = cc
+
 pub line_rest : (line lines more x y : List ℕ) (left : List ℕ) → left ≡ line ++ 10 ∷ [] → (left ++ lines) ++ x ≡ (left ++ more) ++ y → lines ++ x ≡ more ++ y
 line_rest line lines more x y left is same = append_cancel_left left (lines ++ x) (more ++ y) (sym (append_assoc left lines x) ∙ same ∙ append_assoc left more y)
 

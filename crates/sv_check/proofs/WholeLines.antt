@@ -6,7 +6,7 @@ use Rattle.std.proofs.lemmas.Bool.{eqb-true, eqb-false}
 use Rattle.sv_lines.specs.Lines.{line_ends}
 use Rattle.sv_lines.proofs.Splitting.{first_is, others_are}
 use Rattle.sv_lines.proofs.EntryLines.{IsInner, ends_append, one_end}
-use Rattle.sv_check.proofs.GoingOn.{none_behind}
+use Rattle.sv_check.proofs.Told.{none_behind}
 
 pub behind_both : (a b line : List ℕ) → a ++ (b ++ line ++ 10 ∷ []) ≡ (a ++ b) ++ line ++ 10 ∷ []
 behind_both a b line = sym (append_assoc a (b ++ line) (10 ∷ [])) ∙ ap (λ (l : List ℕ). l ++ 10 ∷ []) (sym (append_assoc a b line))

@@ -33,10 +33,7 @@ use Rattle.sv_check.proofs.Traces.{IsFine, trace_parts, line_behind, trace_tells
 use Rattle.sv_check.proofs.Pairs.{text_long}
 use Rattle.sv_check.proofs.Reports.{traffic_text, front_apart}
 use Rattle.sv_check.proofs.WorldLines.{world_front}
-
-pub none_behind : (a w : List ℕ) → a ++ w ≡ [] → w ≡ []
-none_behind [] w e = e
-none_behind (c ∷ a) w e = cc
+use Rattle.sv_check.proofs.Told.{none_behind}
 
 -- ---- Traces
 

@@ -1,5 +1,5 @@
 -- Where the world's lines stop being right, the next line is the first wrong one. A history is the list of a journal's entries with the latest first.
-use Rattle.std.proofs.Common.{◌≡◌, ◌⊎◌, inl, inr, ℕ, suc, ◌+◌, ◌^◌, ◌<◌, ◌≤◌, ℤ, List, [], ◌∷◌, ◌++◌, length, length-append, reverse, take, drop, refl, sym, ap, subst, ◌∙◌, arith, append_assoc, append-nil}
+use Rattle.std.proofs.Common.{◌≡◌, ◌⊎◌, inl, inr, ℕ, ◌+◌, ◌^◌, ◌<◌, ◌≤◌, ℤ, List, [], ◌∷◌, ◌++◌, length, length-append, reverse, take, drop, refl, sym, ap, subst, ◌∙◌, arith, append_assoc, append-nil}
 use Rattle.std.specs.List.{AllByRecursion, flat_map}
 use Rattle.std.proofs.lemmas.List.{append_cancel_left, reverse-reverse, take-append-drop}
 use Rattle.std.proofs.lemmas.List.Elements.{recursion_from_All}
@@ -16,9 +16,9 @@ use Rattle.sv_client.specs.declared.trace.Trace.{Trace}
 use Rattle.sv_scenario.specs.declared.scenario.Plan.{Plan}
 use Rattle.sv_scenario.specs.declared.scenario.Scenario.{Scenario}
 use Rattle.sv_scenario.specs.Limits.{IsGoodScenario}
-use Rattle.sv_scenario.specs.Sessions.{sessions_of_plan, sessions_in, session_count}
+use Rattle.sv_scenario.specs.Sessions.{sessions_in, session_count}
 use Rattle.sv_script.specs.Laws.{StepsAreDoneInOrder}
-use Rattle.sv_system.specs.Records.{rules_of, AreTracesOf, EachTrace}
+use Rattle.sv_system.specs.Records.{rules_of}
 use Rattle.sv_system.proofs.Histories.{commit-most}
 use Rattle.sv_asked.specs.Asked.{RequestsAreMessages, AcceptedAreFew}
 use Rattle.sv_asked.specs.Numbers.{ScenarioFits}
@@ -26,12 +26,13 @@ use Rattle.sv_asked.proofs.Facts.{RequestsFit, committed-fits}
 use Rattle.sv_report.specs.Report.{trace_text, value_lines, world_text}
 use Rattle.sv_lines.specs.Lines.{line_width, after_lines, Differs}
 use Rattle.sv_lines.specs.Told.{IsTold}
-use Rattle.sv_check.specs.Parts.{AreEntries, IsWholeJournal, IsWholeTrace, AreFirstTraces, IsOf, IsReportPart}
+use Rattle.sv_check.specs.Parts.{AreEntries, IsWholeJournal, IsWholeTrace, AreFirstTraces, IsReportPart}
 use Rattle.sv_check.specs.Consistent.{IsConsistent, IsReportOfPair, IsReport}
 use Rattle.sv_check.specs.Stopping.{IsStop}
 use Rattle.sv_check.proofs.Reports.{traffic_text, front_apart, all_values, journal_whole, traces_whole, report_full}
 use Rattle.sv_check.proofs.WorldLines.{world_line, world_front, IsWorldFront, front_world, front_of, next_line, inner_of}
 use Rattle.sv_check.proofs.WorldParts.{IsWorldOf, so_far, world_part, part_goes}
+use Rattle.sv_check.proofs.Splits.{IsSplit, split_last, lines_append, is_of}
 
 -- ---- The numbers of the world
 
@@ -47,61 +48,6 @@ told_fits shape requests.End t = tt
 requests_fit : (scenario : Scenario) (h : List Entry) → AreEntries scenario h → RequestsFit h
 requests_fit scenario [] a = tt
 requests_fit scenario (e ∷ h) a = (told_fits scenario.world.shape e.request a.0.told, requests_fit scenario h a.1)
-
--- ---- The last trace
-
--- The traces are those of some clients and the last one's.
-record IsSplit (P : Plan → Trace → Type 0) (k s : ℕ) (plans : List Plan) (Ls : List Trace) : Type 0 where
-  before : List Plan
-  plan : Plan
-  Ms : List Trace
-  L : Trace
-  plans_are : plans ≡ before ++ plan ∷ []
-  traces_are : Ls ≡ Ms ++ L ∷ []
-  clients : AreTracesOf k s before Ms
-  each : EachTrace P before Ms
-  of : IsOf (k + length before) (s + sessions_in before) plan L
-  it : P plan L
-
-split_last : (P : Plan → Trace → Type 0) (k s : ℕ) (plan : Plan) (plans : List Plan) (Ls : List Trace) → AreTracesOf k s (plan ∷ plans) Ls → EachTrace P (plan ∷ plans) Ls → IsSplit P k s (plan ∷ plans) Ls
-split_last P k s plan plans [] a e = absurd a
-split_last P k s plan [] (L ∷ []) a e =
-    let number : k ≡ k + 0 = omega arith in
-    let start : s ≡ s + 0 = omega arith in
-    record {
-      before = [];
-      plan = plan;
-      Ms = [];
-      L = L;
-      plans_are = refl;
-      traces_are = refl;
-      clients = tt;
-      each = tt;
-      of = record { client = a.0 ∙ ap (λ (m : ℕ). record { 0 = m }) number; interest = a.1; first_is = a.2 ∙ start };
-      it = e.0;
-    }
-split_last P k s plan [] (L ∷ M ∷ Ls) a e = absurd a.3
-split_last P k s plan (q ∷ qs) (L ∷ Ls) a e =
-    let m = split_last P (suc k) (s + sessions_of_plan plan) q qs Ls a.3 e.1 in
-    let number : suc k + length m.before ≡ k + suc (length m.before) = omega arith in
-    let start : s + sessions_of_plan plan + sessions_in m.before ≡ s + (sessions_of_plan plan + sessions_in m.before) = omega arith in
-    record {
-      before = plan ∷ m.before;
-      plan = m.plan;
-      Ms = L ∷ m.Ms;
-      L = m.L;
-      plans_are = ap (λ (ps : List Plan). plan ∷ ps) m.plans_are;
-      traces_are = ap (λ (Ns : List Trace). L ∷ Ns) m.traces_are;
-      clients = (a.0, a.1, a.2, m.clients);
-      each = (e.0, m.each);
-      of = record { client = m.of.client ∙ ap (λ (n : ℕ). record { 0 = n }) number; interest = m.of.interest; first_is = m.of.first_is ∙ start };
-      it = m.it;
-    }
-
-last_text : (entries : List Entry) (Ms : List Trace) (L : Trace) → flat_map (trace_text entries) (Ms ++ L ∷ []) ≡ flat_map (trace_text entries) Ms ++ trace_text entries L
-last_text entries [] L = append-nil (trace_text entries L)
-last_text entries (M ∷ Ms) L =
-    ap (λ (l : List ℕ). trace_text entries M ++ l) (last_text entries Ms L) ∙ sym (append_assoc (trace_text entries M) (flat_map (trace_text entries) Ms) (trace_text entries L))
 
 -- ---- The stops
 
@@ -157,25 +103,27 @@ module _ (stay : FullRepliesStay) (names : LegalRelaysNameAccepted) (order : Ste
   traces_part [] e some = absurd (omega (arith, some))
   traces_part (plan ∷ plans) e some =
       let t : AreFirstTraces scenario.world.shape h (plan ∷ plans) Ls = subst (λ (ps : List Plan). AreFirstTraces scenario.world.shape h ps Ls) e traces in
-      let m = split_last (IsWholeTrace scenario.world.shape h) 0 0 plan plans Ls t.clients t.whole in
-      let number : 0 + length m.before ≡ length m.before = omega arith in
-      let start : 0 + sessions_in m.before ≡ sessions_in m.before = omega arith in
+      let m = last_of plan plans Ls t in
       let J = journal_text scenario.world.shape (reverse h) in
       inr (inr (inl (record {
         h = h;
         journal = journal;
-        before = m.before;
+        before = m.first;
         plan = m.plan;
         after = [];
-        plans = e ∙ m.plans_are;
+        plans = e ∙ m.plans;
         Ls = m.Ms;
         done = record { clients = m.clients; whole = m.each };
         L = m.L;
-        next = record { client = m.of.client ∙ ap (λ (n : ℕ). record { 0 = n }) number; interest = m.of.interest; first_is = m.of.first_is ∙ start };
-        so_far = so_far scenario h m.plan m.L m.it;
-        text_is = ap (λ (Ns : List Trace). J ++ flat_map (trace_text (reverse h)) Ns) m.traces_are ∙ ap (λ (l : List ℕ). J ++ l) (last_text (reverse h) m.Ms m.L)
+        next = is_of (0 + length m.first) (0 + sessions_in m.first) (length m.first) (sessions_in m.first) m.plan m.L (omega arith) (omega arith) m.of;
+        so_far = so_far scenario h m.plan m.L m.whole;
+        text_is = ap (λ (Ns : List Trace). J ++ flat_map (trace_text (reverse h)) Ns) m.traces ∙ ap (λ (l : List ℕ). J ++ l) (lines_append (reverse h) m.Ms m.L)
             ∙ sym (append_assoc J (flat_map (trace_text (reverse h)) m.Ms) (trace_text (reverse h) m.L));
       })))
+    where
+      last_of : (plan : Plan) (plans : List Plan) (Ms : List Trace) → AreFirstTraces scenario.world.shape h (plan ∷ plans) Ms → IsSplit (IsWholeTrace scenario.world.shape h) 0 0 (plan ∷ plans) Ms
+      last_of plan plans [] t = absurd t.clients
+      last_of plan plans (M ∷ Ms) t = split_last (IsWholeTrace scenario.world.shape h) 0 0 plan plans M Ms t.clients t.whole
 
   world_is_part : (z : List ℕ) (count : ℕ) → count ≤ scenario.world.shape.objects → z ≡ world_front (commit_of h) values count → IsReportPart scenario (X ++ z)
   world_is_part z count within e = inr (inr (inr (record {

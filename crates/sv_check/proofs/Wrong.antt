@@ -14,7 +14,7 @@ use Rattle.sv_client.proofs.Shifts.{Up, up_joins, up_outstanding}
 use Rattle.sv_scenario.specs.declared.scenario.Step.{Step}
 use Rattle.sv_script.specs.Following.{MayCome, DoesStep, must_join, is_welcomed, passed_syncs}
 use Rattle.sv_script.specs.Laws.{is_got}
-use Rattle.sv_player.proofs.Raised.{up_finished}
+use Rattle.sv_player.proofs.Raised.{up_finished, up_must_join, up_welcomed}
 use Rattle.sv_report.specs.Report.{event_text}
 use Rattle.sv_report.proofs.Doing.{may_do}
 use Rattle.sv_check.specs.Next.{GetsNextReply, ComesNext, NoEvent, journal_replies}
@@ -25,32 +25,10 @@ use Rattle.sv_check.proofs.Acting.{may_follow}
 -- ---- With the numbers of the journal, and without
 
 module _ (first : ℕ) where
-  pub up_must : (t : List Event) → must_join (Up first t) ≡ must_join t
-  up_must [] = refl
-  up_must (events.Join s ∷ t) = refl
-  up_must (events.Make a ∷ t) = refl
-  up_must (events.Poll ∷ t) = refl
-  up_must (events.Leave ∷ t) = refl
-  up_must (events.Got s reply ∷ t) = refl
-  up_must (events.Cut ∷ t) = refl
-  up_must (events.Quit ∷ t) = refl
-  up_must (events.Show objects ∷ t) = refl
-
-  up_welcomed : (t : List Event) → is_welcomed (Up first t) ≡ is_welcomed t
-  up_welcomed [] = refl
-  up_welcomed (events.Join s ∷ t) = refl
-  up_welcomed (events.Make a ∷ t) = up_welcomed t
-  up_welcomed (events.Poll ∷ t) = up_welcomed t
-  up_welcomed (events.Leave ∷ t) = up_welcomed t
-  up_welcomed (events.Got s reply ∷ t) = refl
-  up_welcomed (events.Cut ∷ t) = up_welcomed t
-  up_welcomed (events.Quit ∷ t) = up_welcomed t
-  up_welcomed (events.Show objects ∷ t) = up_welcomed t
-
   down_does : (who : Identity) (t : List Event) (before : List Step) (e : Event) (left : List Step) → DoesStep who (Up first t) before e left → DoesStep who t before e left
   down_does who t before e left d = record {
-    joined = sym (up_must t) ∙ d.joined;
-    welcomed = sym (up_welcomed t) ∙ d.welcomed;
+    joined = sym (up_must_join first t) ∙ d.joined;
+    welcomed = sym (up_welcomed first t) ∙ d.welcomed;
     here = sym (up_finished first t) ∙ d.here;
     step = d.step;
     next = sym (ap (λ (os : List Request). passed_syncs os before) (up_outstanding first who t)) ∙ d.next;
@@ -58,11 +36,11 @@ module _ (first : ℕ) where
   }
 
   down_come : (who : Identity) (t : List Event) (before : List Step) (e : Event) (left : List Step) → MayCome who (Up first t) before e left → MayCome who t before e left
-  down_come who t before (events.Join s) left m = record { needed = sym (up_must t) ∙ m.needed; same = m.same }
-  down_come who t before (events.Got s reply) left m = record { joined = sym (up_must t) ∙ m.joined; here = sym (up_finished first t) ∙ m.here; same = m.same }
+  down_come who t before (events.Join s) left m = record { needed = sym (up_must_join first t) ∙ m.needed; same = m.same }
+  down_come who t before (events.Got s reply) left m = record { joined = sym (up_must_join first t) ∙ m.joined; here = sym (up_finished first t) ∙ m.here; same = m.same }
   down_come who t before events.Leave left m = record {
-    joined = sym (up_must t) ∙ m.joined;
-    welcomed = sym (up_welcomed t) ∙ m.welcomed;
+    joined = sym (up_must_join first t) ∙ m.joined;
+    welcomed = sym (up_welcomed first t) ∙ m.welcomed;
     here = sym (up_finished first t) ∙ m.here;
     settled = sym (up_outstanding first who t) ∙ m.settled;
     done = m.done;
@@ -141,7 +119,7 @@ module _ (who : Identity) (first : ℕ) (entries : List Entry) (t : List Event) 
   kind_of e rest is = sym (letter who first (journal_replies entries) (Up first t) before entries e (10 ∷ rest)) ∙ ap begins_got (sym is)
 
   not_join : (e : Event) (left : List Step) → must_join t ≡ false → ComesNext who first (journal_replies entries) (Up first t) before e left → is_join e ≡ false
-  not_join e left j n = joined_at who first (journal_replies entries) (Up first t) before e left n.comes ∙ up_must first t ∙ j
+  not_join e left j n = joined_at who first (journal_replies entries) (Up first t) before e left n.comes ∙ up_must_join first t ∙ j
 
   -- Where the text does not begin as that of a reply, its event is a step or the Leave, which the client may do.
   move_of : (e : Event) (left : List Step) (rest : List ℕ) → begins_got text ≡ false → must_join t ≡ false →
@@ -170,7 +148,7 @@ module _ (who : Identity) (first : ℕ) (entries : List Entry) (t : List Event) 
   pub other_join : must_join t ≡ true → (joins t < 64 → (rest : List ℕ) → text ≡ (codes "join s" ++ decimal (first + joins t)) ++ 10 ∷ rest → ⊥) →
       NoEvent who first entries (Up first t) before text
   other_join j none e left rest n is =
-      let kind : is_join e ≡ true = joined_at who first (journal_replies entries) (Up first t) before e left n.comes ∙ up_must first t ∙ j in
+      let kind : is_join e ≡ true = joined_at who first (journal_replies entries) (Up first t) before e left n.comes ∙ up_must_join first t ∙ j in
       let same : e ≡ events.Join (first + joins (Up first t)) = join_is who first (journal_replies entries) (Up first t) before e kind n.follows in
       let follows : MayFollow who first (Up first t) (events.Join (first + joins (Up first t))) = subst (λ (d : Event). MayFollow who first (Up first t) d) same n.follows in
       none (subst (λ (k : ℕ). k < 64) (up_joins first t) follows.few) rest

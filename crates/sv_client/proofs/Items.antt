@@ -1,5 +1,5 @@
 -- Items that are evaluated on a store that stands for all values held.
-use Rattle.std.proofs.Common.{◌≡◌, ℕ, ◌-◌, ◌<◌, List, [], ◌∷◌, ◌++◌, length, drop, take, get_or, Option, None, Result, Ok, Err, sym, ap, subst, ◌∙◌, append_assoc, arith}
+use Rattle.std.proofs.Common.{◌≡◌, ℕ, suc, ◌-◌, ◌<◌, List, [], ◌∷◌, ◌++◌, length, drop, take, get_or, Option, None, Result, Ok, Err, refl, sym, ap, subst, ◌∙◌, append_assoc, arith}
 use Rattle.std.specs.Prelude.{ℤ}
 use Rattle.std.proofs.lemmas.List.{take_all}
 use Rattle.sv_world.specs.declared.world.ObjectId.{ObjectId}
@@ -38,6 +38,10 @@ items_more told all between after item items values before middle results (Ok u)
     )
 items_more told all between after item items values before middle results (Err fault) e m h =
     subst (λ (o : Option ℕ). IsMissing (missing_at item.pos o (first_missing_of (all ++ item_held all item) items)) fault) (sym e.0) h
+
+pub results_count : (held : List Held) (items : List Item) → length (results_of held items) ≡ length items
+results_count held [] = refl
+results_count held (item ∷ items) = ap suc (results_count (held ++ item_held held item) items)
 
 pub front_is : (xs : List Item) (item : Item) → 0 < length xs → item ≡ get_or xs 0 item → xs ≡ item ∷ take (length xs - 1) (drop 1 xs)
 front_is [] item l e = absurd (omega arith)

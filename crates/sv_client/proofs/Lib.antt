@@ -9,6 +9,7 @@ pub mod Faultless
 pub mod Looking
 pub mod Beyond
 pub mod Shifts
+pub mod Sendable
 pub mod Items
 pub mod Takes
 pub mod Looks

@@ -116,7 +116,7 @@ head_within shape (h ∷ head) e =
     let g = neither (nat_le shape.objects h.object.0) (not (eqb (length h.value) shape.attrs)) f.0 in
     All-cons (λ (h : Sent). h.object.0 < shape.objects) h head (leb-false shape.objects h.object.0 g.0) (head_within shape head f.1)
 
-none_is : (o : Option BadAction) → not (is_none o) ≡ false → o ≡ None
+pub none_is : (o : Option BadAction) → not (is_none o) ≡ false → o ≡ None
 none_is None e = refl
 none_is (Some b) e = cc
 

@@ -1,10 +1,9 @@
 -- A client with pending actions awaits replies: each has a Submit that is outstanding.
 use Rattle.std.proofs.Common.{◌≡◌, ℕ, suc, ◌+◌, ◌≤◌, Bool, true, false, ◌&&◌, not, eqb, List, [], ◌∷◌, ◌++◌, length, map, drop, ℤ, Option, refl, sym, ap, subst, arith, eqb-true}
-use Rattle.std.specs.Prelude.{if◌then◌else◌}
-use Rattle.std.proofs.lemmas.Bool.{ne_eqb}
+use Rattle.std.proofs.lemmas.Bool.{ne_eqb, cond-false, not-false, or_parts}
 use Rattle.std.proofs.lemmas.List.{length-append}
 use Rattle.sv_versions.specs.Held.{Held}
-use Rattle.sv_pending.specs.Pending.{PendingAction, kept_of, redone, redone_after}
+use Rattle.sv_pending.specs.Pending.{PendingAction, kept_of, redone}
 use Rattle.sv_wire.specs.declared.message.Request.{Request}
 use Rattle.sv_wire.specs.declared.message.Request.TheVariants as requests
 use Rattle.sv_wire.specs.declared.message.Reply.{Reply}
@@ -15,8 +14,8 @@ use Rattle.sv_client.specs.Traces.{makes, held_of, with_reply, pending_of, pendi
 use Rattle.sv_client.specs.Taking.{Identity, outstanding, allows, is_bad_head, is_bad_relay, is_good_relay, is_for_front, ends_with_front, has_bad_item}
 use Rattle.sv_client.specs.Proper.{AreProper}
 use Rattle.sv_client.proofs.Outstanding.{outstanding_joined, outstanding_made, outstanding_polled, outstanding_left, outstanding_cut, outstanding_quit, outstanding_shown, outstanding_got}
+use Rattle.sv_script.proofs.Pending.{redone-count, either-few, replied-few}
 use Rattle.sv_player.proofs.Well.{is_well}
-use Rattle.sv_player.proofs.Sizes.{neither}
 use Rattle.sv_player.proofs.Wire.{AreWirePending, pending_are}
 
 abbrev submit_count : Request → ℕ
@@ -60,71 +59,32 @@ no_submits held replies.Bye = refl
 
 -- ---- How many are pending after a reply
 
-redone_from : (held : List Held) (earlier ps : List PendingAction) → length (redone_after held earlier ps) ≡ length earlier + length ps
-redone_from held earlier [] = omega arith
-redone_from held earlier (p ∷ ps) =
-    let again : PendingAction = record p { kept = kept_of held earlier p.action } in
-    omega (arith, redone_from held (earlier ++ again ∷ []) ps, length-append earlier (again ∷ []))
-
-redone_count : (held : List Held) (ps : List PendingAction) → length (redone held ps) ≡ length ps
-redone_count held ps = omega (arith, redone_from held [] ps)
-
-without_count : (ps : List PendingAction) → length (without_front ps) ≤ length ps
-without_count [] = omega arith
-without_count (p ∷ ps) = omega arith
-
-either_few : (b : Bool) (xs ys : List PendingAction) (n : ℕ) → length xs ≤ n → length ys ≤ n → length (if b then xs else ys) ≤ n
-either_few true xs ys n f g = f
-either_few false xs ys n f g = g
-
-settled_few : (held : List Held) (own : Option (List (List ℤ))) (ps : List PendingAction) → length (settled_by held own ps) ≤ length ps
-settled_few held own [] = omega arith
-settled_few held own (p ∷ ps) = either_few (are_same own p.kept) ps (redone held ps) (length (p ∷ ps)) (omega arith) (omega (arith, redone_count held ps))
-
-replied_few : (before after : List Held) (reply : Reply) (ps : List PendingAction) → length (pending_with before after reply ps) ≤ length ps
-replied_few before after (replies.Relay seq commit head items) ps = either_few (eqb seq 0) ps _ (length ps) (omega arith) (settled_few after _ ps)
-replied_few before after (replies.Dropped seq chain far) ps = omega (arith, redone_count after (without_front ps), without_count ps)
-replied_few before after (replies.Settled seq pos) ps = omega (arith, redone_count after (without_front ps), without_count ps)
-replied_few before after (replies.Welcome commit head) ps = omega arith
-replied_few before after (replies.Noted commit) ps = omega arith
-replied_few before after replies.Idle ps = omega arith
-replied_few before after (replies.Refused code detail) ps = omega arith
-replied_few before after replies.Bye ps = omega arith
-
 -- The reply to a Submit settles the front.
 front_gone : (seq : ℕ) (held : List Held) (ps : List PendingAction) → is_for_front seq ps ≡ true → suc (length (redone held (without_front ps))) ≤ length ps
 front_gone seq held [] e = cc
-front_gone seq held (p ∷ ps) e = omega (arith, redone_count held ps)
+front_gone seq held (p ∷ ps) e = omega (arith, redone-count held ps)
 
 settled_one : (held : List Held) (own : Option (List (List ℤ))) (seq : ℕ) (ps : List PendingAction) → is_for_front seq ps ≡ true → suc (length (settled_by held own ps)) ≤ length ps
 settled_one held own seq [] e = cc
-settled_one held own seq (p ∷ ps) e = let few = either_few (are_same own p.kept) ps (redone held ps) (length ps) (omega arith) (omega (arith, redone_count held ps)) in omega (arith, few)
+settled_one held own seq (p ∷ ps) e = let few = either-few (are_same own p.kept) ps (redone held ps) (length ps) (omega arith) (omega (arith, redone-count held ps)) in omega (arith, few)
 
 no_zero : (seq : ℕ) (ps : List PendingAction) → AreWirePending ps → is_for_front seq ps ≡ true → eqb seq 0 ≡ false
 no_zero seq [] all e = cc
 no_zero seq (p ∷ ps) all e = let same = eqb-true seq p.seq e in ne_eqb seq 0 (λ z. absurd (omega (arith, same, z, all.0.1)))
 
-if_false : {X : Type 0} (b : Bool) (x y : X) → b ≡ false → (if b then x else y) ≡ y
-if_false true x y e = cc
-if_false false x y e = refl
-
 both_true : (a b : Bool) → (a && b) ≡ true → a ≡ true
 both_true true b e = refl
 both_true false b e = cc
 
-not_not : (b : Bool) → not b ≡ false → b ≡ true
-not_not true e = refl
-not_not false e = cc
-
 submit_settles : (who : Identity) (n : ℕ) (a : Rattle.sv_world.specs.declared.action.Action.Action) (before after : List Held) (reply : Reply) (ps : List PendingAction) → AreWirePending ps → allows (requests.Submit n a) reply ≡ true →
     has_bad_item who ps (requests.Submit n a) reply ≡ false → suc (length (pending_with before after reply ps)) ≤ length ps
 submit_settles who n a before after (replies.Relay seq commit head items) ps all k bad =
-    let f = neither (is_bad_head who.shape head) (is_bad_relay who ps (requests.Submit n a) seq items) bad in
-    let g = neither _ (not (is_good_relay who ps (requests.Submit n a) seq items)) f.1 in
-    let front = both_true (is_for_front seq ps) (ends_with_front who ps items) (not_not (is_good_relay who ps (requests.Submit n a) seq items) g.1) in
-    subst (λ (qs : List PendingAction). suc (length qs) ≤ length ps) (sym (if_false (eqb seq 0) ps _ (no_zero seq ps all front))) (settled_one after _ seq ps front)
-submit_settles who n a before after (replies.Dropped seq chain far) ps all k bad = front_gone seq after ps (not_not (is_for_front seq ps) bad)
-submit_settles who n a before after (replies.Settled seq pos) ps all k bad = front_gone seq after ps (not_not (is_for_front seq ps) bad)
+    let f = or_parts (is_bad_head who.shape head) (is_bad_relay who ps (requests.Submit n a) seq items) bad in
+    let g = or_parts _ (not (is_good_relay who ps (requests.Submit n a) seq items)) f.1 in
+    let front = both_true (is_for_front seq ps) (ends_with_front who ps items) (not-false (is_good_relay who ps (requests.Submit n a) seq items) g.1) in
+    subst (λ (qs : List PendingAction). suc (length qs) ≤ length ps) (sym (cond-false (eqb seq 0) ps _ (no_zero seq ps all front))) (settled_one after _ seq ps front)
+submit_settles who n a before after (replies.Dropped seq chain far) ps all k bad = front_gone seq after ps (not-false (is_for_front seq ps) bad)
+submit_settles who n a before after (replies.Settled seq pos) ps all k bad = front_gone seq after ps (not-false (is_for_front seq ps) bad)
 submit_settles who n a before after (replies.Welcome commit head) ps all k bad = cc
 submit_settles who n a before after (replies.Noted commit) ps all k bad = cc
 submit_settles who n a before after replies.Idle ps all k bad = cc
@@ -134,12 +94,12 @@ submit_settles who n a before after replies.Bye ps all k bad = cc
 answered : (who : Identity) (request : Request) (before after : List Held) (reply : Reply) (ps : List PendingAction) → AreWirePending ps → allows request reply ≡ true → has_bad_item who ps request reply ≡ false →
     submit_count request + length (pending_with before after reply ps) ≤ length ps
 answered who (requests.Submit n a) before after reply ps all k bad = omega (arith, submit_settles who n a before after reply ps all k bad)
-answered who (requests.Join client life interest) before after reply ps all k bad = omega (arith, replied_few before after reply ps)
-answered who (requests.Done results) before after reply ps all k bad = omega (arith, replied_few before after reply ps)
-answered who requests.Poll before after reply ps all k bad = omega (arith, replied_few before after reply ps)
-answered who requests.Leave before after reply ps all k bad = omega (arith, replied_few before after reply ps)
-answered who requests.Bad before after reply ps all k bad = omega (arith, replied_few before after reply ps)
-answered who requests.End before after reply ps all k bad = omega (arith, replied_few before after reply ps)
+answered who (requests.Join client life interest) before after reply ps all k bad = omega (arith, replied-few before after reply ps)
+answered who (requests.Done results) before after reply ps all k bad = omega (arith, replied-few before after reply ps)
+answered who requests.Poll before after reply ps all k bad = omega (arith, replied-few before after reply ps)
+answered who requests.Leave before after reply ps all k bad = omega (arith, replied-few before after reply ps)
+answered who requests.Bad before after reply ps all k bad = omega (arith, replied-few before after reply ps)
+answered who requests.End before after reply ps all k bad = omega (arith, replied-few before after reply ps)
 
 -- ---- Traces
 

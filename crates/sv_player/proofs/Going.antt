@@ -1,10 +1,8 @@
 -- A player's events keep what is true of it.
 use Rattle.std.proofs.Common.{◌≡◌, ◌⊎◌, inl, inr, ℕ, suc, ◌+◌, ◌<◌, ◌≤◌, true, false, List, [], ◌∷◌, ◌++◌, length, Some, None, refl, sym, ap, subst, ◌∙◌, arith, true≢false}
 use Rattle.std.specs.List.{AllByRecursion}
-use Rattle.std.proofs.lemmas.Option.{none-some, same_Some}
 use Rattle.sv_world.specs.declared.action.Action.{Action}
 use Rattle.sv_world.proofs.Good.{none_of_good}
-use Rattle.sv_world.specs.declared.world.Shape.{Shape}
 use Rattle.sv_wire.specs.declared.message.Request.{Request}
 use Rattle.sv_wire.specs.declared.message.Request.TheVariants as requests
 use Rattle.sv_wire.specs.declared.message.Reply.{Reply}
@@ -18,85 +16,31 @@ use Rattle.sv_client.proofs.Outstanding.{outstanding_left}
 use Rattle.sv_scenario.specs.declared.scenario.Step.{Step}
 use Rattle.sv_scenario.specs.declared.scenario.Step.TheVariants as steps
 use Rattle.sv_scenario.specs.Limits.{IsGoodStep}
-use Rattle.sv_scenario.specs.Sessions.{cuts_by, cuts_in}
-use Rattle.sv_script.specs.Following.{DoesStep, MayCome, FollowsTo, must_join, is_finished, after_syncs, passed_syncs, unsynced, event_of, is_bye}
+use Rattle.sv_scenario.specs.Sessions.{cuts_in}
+use Rattle.sv_script.specs.Following.{DoesStep, MayCome, FollowsTo, must_join, is_finished, passed_syncs, unsynced, event_of, is_bye}
 use Rattle.sv_script.proofs.Counts.{events-few}
+use Rattle.sv_script.proofs.Beginnings.{all-passed, all-step, passed-less, step-less}
+use Rattle.sv_script.proofs.Ends.{passed-none}
+use Rattle.sv_script.proofs.Cuts.{cuts-done}
 use Rattle.sv_player.specs.declared.playing.Player.{Player}
 use Rattle.sv_player.specs.Going.{one_more_if, IsBudget, IsGoing, Did, IsHere, IsReady}
 use Rattle.sv_player.proofs.Well.{is_well}
 
 -- ---- The steps that are left
 
-good_synced : (shape : Shape) (ss : List Step) → AllByRecursion (IsGoodStep shape) ss → AllByRecursion (IsGoodStep shape) (after_syncs ss)
-good_synced shape [] all = tt
-good_synced shape (steps.Act action ∷ ss) all = all
-good_synced shape (steps.Poll ∷ ss) all = all
-good_synced shape (steps.Sync ∷ ss) all = good_synced shape ss all.1
-good_synced shape (steps.Show objects ∷ ss) all = all
-good_synced shape (steps.Cut ∷ ss) all = all
-good_synced shape (steps.Quit ∷ ss) all = all
-
-good_passed : (shape : Shape) (os : List Request) (ss : List Step) → AllByRecursion (IsGoodStep shape) ss → AllByRecursion (IsGoodStep shape) (passed_syncs os ss)
-good_passed shape [] ss all = good_synced shape ss all
-good_passed shape (o ∷ os) ss all = all
-
 -- The next step, and those after it, are good.
 pub good_next : (who : Identity) (t : List Event) (left : List Step) (step : Step) (rest : List Step) → AllByRecursion (IsGoodStep who.shape) left → unsynced who t left ≡ step ∷ rest →
     IsGoodStep who.shape step × AllByRecursion (IsGoodStep who.shape) rest
-good_next who t left step rest all e = subst (AllByRecursion (IsGoodStep who.shape)) e (good_passed who.shape (outstanding who t) left all)
-
-fewer_synced : (ss : List Step) → length (after_syncs ss) ≤ length ss
-fewer_synced [] = omega arith
-fewer_synced (steps.Act action ∷ ss) = omega arith
-fewer_synced (steps.Poll ∷ ss) = omega arith
-fewer_synced (steps.Sync ∷ ss) = omega (arith, fewer_synced ss)
-fewer_synced (steps.Show objects ∷ ss) = omega arith
-fewer_synced (steps.Cut ∷ ss) = omega arith
-fewer_synced (steps.Quit ∷ ss) = omega arith
-
-fewer_passed : (os : List Request) (ss : List Step) → length (passed_syncs os ss) ≤ length ss
-fewer_passed [] ss = fewer_synced ss
-fewer_passed (o ∷ os) ss = omega arith
-
-cuts_synced : (ss : List Step) → cuts_in (after_syncs ss) ≡ cuts_in ss
-cuts_synced [] = refl
-cuts_synced (steps.Act action ∷ ss) = refl
-cuts_synced (steps.Poll ∷ ss) = refl
-cuts_synced (steps.Sync ∷ ss) = omega (arith, cuts_synced ss)
-cuts_synced (steps.Show objects ∷ ss) = refl
-cuts_synced (steps.Cut ∷ ss) = refl
-cuts_synced (steps.Quit ∷ ss) = refl
-
-cuts_passed : (os : List Request) (ss : List Step) → cuts_in (passed_syncs os ss) ≡ cuts_in ss
-cuts_passed [] ss = cuts_synced ss
-cuts_passed (o ∷ os) ss = refl
-
-step_shorter : (who : Identity) (t : List Event) (before : List Step) (e : Event) (left : List Step) → DoesStep who t before e left → suc (length left) ≤ length before
-step_shorter who t before e left d = omega (arith, fewer_passed (outstanding who t) before, ap (λ (ss : List Step). length ss) d.next)
-
-step_cuts : (who : Identity) (t : List Event) (before : List Step) (e : Event) (left : List Step) → (d : DoesStep who t before e left) → cuts_by d.step + cuts_in left ≡ cuts_in before
-step_cuts who t before e left d = sym (ap cuts_in d.next) ∙ cuts_passed (outstanding who t) before
-
-is_cut_step : (step : Step) → event_of step ≡ Some events.Cut → cuts_by step ≡ 1
-is_cut_step (steps.Act action) e = (let g : events.Make action ≡ events.Cut = same_Some _ _ e in cc)
-is_cut_step steps.Poll e = (let g : events.Poll ≡ events.Cut = same_Some _ _ e in cc)
-is_cut_step steps.Sync e = absurd (none-some _ e)
-is_cut_step (steps.Show objects) e = (let g : events.Show objects ≡ events.Cut = same_Some _ _ e in cc)
-is_cut_step steps.Cut e = refl
-is_cut_step steps.Quit e = (let g : events.Quit ≡ events.Cut = same_Some _ _ e in cc)
-
-step_good : (who : Identity) (t : List Event) (before : List Step) (e : Event) (left : List Step) → DoesStep who t before e left → AllByRecursion (IsGoodStep who.shape) before →
-    AllByRecursion (IsGoodStep who.shape) left
-step_good who t before e left d all = (good_next who t before d.step left all d.next).1
+good_next who t left step rest all e = subst (AllByRecursion (IsGoodStep who.shape)) e (all-passed (IsGoodStep who.shape) (outstanding who t) left all)
 
 -- An event that does a step, and is no Cut.
 by_step : (who : Identity) (script : List Step) (t : List Event) (before : List Step) (e : Event) (left : List Step) → DoesStep who t before e left → IsBudget who script t before →
     makes (e ∷ t) ≤ suc (makes t) → joins (e ∷ t) ≡ joins t → must_join (e ∷ t) ≡ false → IsBudget who script (e ∷ t) left
 by_step who script t before e left d b m j n =
     record {
-      good = step_good who t before e left d b.good;
-      few = omega (arith, b.few, m, step_shorter who t before e left d);
-      sessions = omega (arith, b.sessions, j, step_cuts who t before e left d, ap one_more_if n, ap one_more_if d.joined);
+      good = all-step (IsGoodStep who.shape) who t before e left d b.good;
+      few = omega (arith, b.few, m, step-less who t before e left d);
+      sessions = omega (arith, b.sessions, j, cuts-done who t before e left d, ap one_more_if n, ap one_more_if d.joined);
     }
 
 pub budget_on : (who : Identity) (script : List Step) (t : List Event) (before : List Step) (e : Event) (left : List Step) → MayCome who t before e left → IsBudget who script t before →
@@ -125,9 +69,9 @@ budget_on who script t before (events.Show objects) left c b = by_step who scrip
 budget_on who script t before events.Quit left c b = by_step who script t before events.Quit left c b (omega arith) refl refl
 budget_on who script t before events.Cut left c b =
     record {
-      good = step_good who t before events.Cut left c b.good;
-      few = omega (arith, b.few, step_shorter who t before events.Cut left c);
-      sessions = omega (arith, b.sessions, step_cuts who t before events.Cut left c, is_cut_step c.step c.event, ap one_more_if c.joined);
+      good = all-step (IsGoodStep who.shape) who t before events.Cut left c b.good;
+      few = omega (arith, b.few, step-less who t before events.Cut left c);
+      sessions = omega (arith, b.sessions, cuts-done who t before events.Cut left c, ap one_more_if c.joined);
     }
 
 -- ---- Going on
@@ -157,17 +101,13 @@ going_on p q e left g may come d =
 
 -- ---- A player that is ready
 
-unsynced_none : (os : List Request) → passed_syncs os [] ≡ []
-unsynced_none [] = refl
-unsynced_none (o ∷ os) = refl
-
 -- With a step to do, it did not leave.
 pub still_within : (who : Identity) (t : List Event) (left : List Step) (step : Step) (rest : List Step) → IsReady who t left → unsynced who t left ≡ step ∷ rest → in_session t ≡ true
 still_within who t left step rest r e = go r.here_is.within
   where
     go : (in_session t ≡ true) ⊎ ((outstanding who t ≡ requests.Leave ∷ []) × (left ≡ [])) → in_session t ≡ true
     go (inl y) = y
-    go (inr n) = (let none : step ∷ rest ≡ [] = sym e ∙ ap (passed_syncs (outstanding who t)) n.1 ∙ unsynced_none (outstanding who t) in cc)
+    go (inr n) = (let none : step ∷ rest ≡ [] = sym e ∙ ap (passed_syncs (outstanding who t)) n.1 ∙ passed-none (outstanding who t) in cc)
 
 pub does_step : (who : Identity) (t : List Event) (left : List Step) (step : Step) (rest : List Step) (e : Event) → IsReady who t left → unsynced who t left ≡ step ∷ rest → event_of step ≡ Some e →
     DoesStep who t left e rest
@@ -230,7 +170,7 @@ pub may_make : (p : Player) (action : Action) (rest : List Step) → IsGoing p �
     length (pending_of p.client.events) < 8 → length (outstanding p.client.who p.client.events) < 16 → MayMake p.client.who p.client.events action
 may_make p action rest g r next room calm =
     let good = good_next p.client.who p.client.events p.left.now (steps.Act action) rest g.budget.good next in
-    let some = fewer_passed (outstanding p.client.who p.client.events) p.left.now in
+    let some = passed-less (outstanding p.client.who p.client.events) p.left.now in
     record {
       joined = still_within p.client.who p.client.events p.left.now (steps.Act action) rest r next;
       good = none_of_good p.client.who.shape action good.0;

@@ -1,7 +1,7 @@
 -- What an event of one session leaves of the others.
 use Rattle.std.proofs.Common.{◌≡◌, ◌≢◌, ℕ, Bool, true, false, ◌||◌, eqb, List, [], ◌∷◌, ◌++◌, Option, Some, refl, sym, ap, ◌∙◌, append-nil}
 use Rattle.std.specs.Prelude.{unwrap_or, if◌then◌else◌}
-use Rattle.std.proofs.lemmas.Bool.{ne_eqb}
+use Rattle.std.proofs.lemmas.Bool.{ne_eqb, cond-false}
 use Rattle.sv_world.specs.declared.world.ClientId.{ClientId}
 use Rattle.sv_world.specs.declared.world.ObjectId.{ObjectId}
 use Rattle.sv_wire.specs.declared.message.Request.{Request}
@@ -18,12 +18,8 @@ IsOf s t (events.Join n) = n ≡ s
 IsOf s t (events.Got n reply) = n ≡ s
 IsOf s t e = current_session t ≡ Some s
 
-if_not : {X : Type 0} (b : Bool) (x y : X) → b ≡ false → (if b then x else y) ≡ y
-if_not true x y e = cc
-if_not false x y e = refl
-
 if_none : {X : Type 0} (n s : ℕ) (xs : List X) → n ≢ s → (if eqb n s then xs else []) ≡ []
-if_none n s xs ne = if_not (eqb n s) xs [] (ne_eqb n s ne)
+if_none n s xs ne = cond-false (eqb n s) xs [] (ne_eqb n s ne)
 
 current_not : (t : List Event) (s n : ℕ) → current_session t ≡ Some s → n ≢ s → is_session (current_session t) n ≡ false
 current_not t s n c ne = ap (λ o. is_session o n) c ∙ ne_eqb s n (λ e. ne (sym e))
@@ -34,16 +30,16 @@ asks_other client interest s t e of n ne = ap (λ (rs : List Request). asked cli
     none : (e : Event) → IsOf s t e → asked_by_event client interest t e n ≡ []
     none (events.Join m) of = if_none m n _ (λ e. ne (sym e ∙ of))
     none (events.Got m reply) of = if_none m n _ (λ e. ne (sym e ∙ of))
-    none (events.Make a) of = if_not (is_session (current_session t) n) _ [] (current_not t s n of ne)
-    none events.Poll of = if_not (is_session (current_session t) n) _ [] (current_not t s n of ne)
-    none events.Leave of = if_not (is_session (current_session t) n) _ [] (current_not t s n of ne)
+    none (events.Make a) of = cond-false (is_session (current_session t) n) _ [] (current_not t s n of ne)
+    none events.Poll of = cond-false (is_session (current_session t) n) _ [] (current_not t s n of ne)
+    none events.Leave of = cond-false (is_session (current_session t) n) _ [] (current_not t s n of ne)
     none events.Cut of = refl
     none events.Quit of = refl
     none (events.Show objects) of = refl
 
 pub gets_other : (s : ℕ) (t : List Event) (e : Event) → IsOf s t e → (n : ℕ) → n ≢ s → got (e ∷ t) n ≡ got t n
 gets_other s t (events.Join m) of n ne = refl
-gets_other s t (events.Got m reply) of n ne = if_not (eqb m n) _ (got t n) (ne_eqb m n (λ e. ne (sym e ∙ of)))
+gets_other s t (events.Got m reply) of n ne = cond-false (eqb m n) _ (got t n) (ne_eqb m n (λ e. ne (sym e ∙ of)))
 gets_other s t (events.Make a) of n ne = refl
 gets_other s t events.Poll of n ne = refl
 gets_other s t events.Leave of n ne = refl

@@ -74,7 +74,7 @@ module _ (first : ℕ) where
   up_cut (events.Quit ∷ t) k = ap₂ (λ (a b : Bool). a || b) (up_is t k) (up_cut t k)
   up_cut (events.Show objects ∷ t) k = up_cut t k
 
-  up_must_join : (t : List Event) → must_join (Up first t) ≡ must_join t
+  pub up_must_join : (t : List Event) → must_join (Up first t) ≡ must_join t
   up_must_join [] = refl
   up_must_join (events.Join s ∷ t) = refl
   up_must_join (events.Make a ∷ t) = refl
@@ -85,7 +85,7 @@ module _ (first : ℕ) where
   up_must_join (events.Quit ∷ t) = refl
   up_must_join (events.Show objects ∷ t) = refl
 
-  up_welcomed : (t : List Event) → is_welcomed (Up first t) ≡ is_welcomed t
+  pub up_welcomed : (t : List Event) → is_welcomed (Up first t) ≡ is_welcomed t
   up_welcomed [] = refl
   up_welcomed (events.Join s ∷ t) = refl
   up_welcomed (events.Make a ∷ t) = up_welcomed t

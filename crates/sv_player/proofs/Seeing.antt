@@ -7,11 +7,11 @@ use Rattle.sv_watch.specs.declared.change.Change.{Change}
 use Rattle.sv_watch.specs.Told.{change_line}
 use Rattle.sv_world.specs.declared.world.ObjectId.{ObjectId}
 use Rattle.sv_client.specs.declared.trace.Event.{Event}
-use Rattle.sv_client.specs.declared.trace.Event.TheVariants as events
 use Rattle.sv_client.specs.Traces.{view_of}
 use Rattle.sv_client.specs.Seen.{ClientView}
 use Rattle.sv_script.specs.Telling.{same_view}
 use Rattle.sv_script.specs.Laws.{may_tell}
+use Rattle.sv_script.proofs.Told.{quiet-view}
 use Rattle.sv_player.specs.declared.telling.Seen.{Seen}
 use Rattle.sv_player.specs.Seen.{seen_of, seen_by, seen_again, change_since, changes_since}
 use Rattle.sv_player.proofs.Mapped.{flat_more, take_all}
@@ -34,19 +34,9 @@ seen_anew t u (x ∷ xs) = ap (λ (ss : List Seen). seen_of u x ∷ ss) (seen_an
 
 -- ---- Events that change no view
 
-quiet_view : (e : Event) (t : List Event) (x : ℕ) → may_tell e ≡ false → view_of t x ≡ view_of (e ∷ t) x
-quiet_view (events.Join s) t x h = refl
-quiet_view events.Poll t x h = refl
-quiet_view events.Leave t x h = refl
-quiet_view events.Cut t x h = refl
-quiet_view events.Quit t x h = refl
-quiet_view (events.Show objects) t x h = refl
-quiet_view (events.Make action) t x h = cc
-quiet_view (events.Got s reply) t x h = cc
-
 pub quiet_seen : (e : Event) (t : List Event) (xs : List ObjectId) → may_tell e ≡ false → seen_by t xs ≡ seen_by (e ∷ t) xs
 quiet_seen e t [] h = refl
-quiet_seen e t (x ∷ xs) h = ap₂ (λ (v : Option (List ℤ)) (ss : List Seen). record { object = x; view = v } ∷ ss) (quiet_view e t x.0 h) (quiet_seen e t xs h)
+quiet_seen e t (x ∷ xs) h = ap₂ (λ (v : Option (List ℤ)) (ss : List Seen). record { object = x; view = v } ∷ ss) (quiet-view e t x.0 h) (quiet_seen e t xs h)
 
 -- ---- Lines
 

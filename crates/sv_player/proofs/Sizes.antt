@@ -3,6 +3,7 @@ use Rattle.std.proofs.Common.{◌≡◌, ℕ, Bool, true, false, ◌||◌, not, 
 use Rattle.std.specs.Prelude.{All, nat_le, is_none, unwrap_or, if◌then◌else◌}
 use Rattle.std.specs.Option.{IfSome}
 use Rattle.std.proofs.lemmas.List.Elements.{All-nil, All-cons, All-append, All-head, All-tail}
+use Rattle.std.proofs.lemmas.Bool.{or_parts, not-false}
 use Rattle.sv_world.specs.declared.world.Shape.{Shape}
 use Rattle.sv_world.specs.Sets.{read_set, write_set}
 use Rattle.sv_eval.proofs.Outcomes.{outcome_shaped}
@@ -24,14 +25,6 @@ use Rattle.sv_client.specs.Proper.{AreProper}
 use Rattle.sv_player.proofs.Well.{is_well}
 
 -- ---- Tests
-
-pub neither : (a b : Bool) → (a || b) ≡ false → (a ≡ false) × (b ≡ false)
-neither true b e = cc
-neither false b e = (refl, e)
-
-not_not : (b : Bool) → not b ≡ false → b ≡ true
-not_not true e = refl
-not_not false e = cc
 
 module _ (attrs : ℕ) where
   -- It holds values of the right length alone.
@@ -89,10 +82,10 @@ module _ (attrs : ℕ) where
   head_long : (shape : Shape) (commit : ℕ) (head : List Sent) → shape.attrs ≡ attrs → is_bad_head shape head ≡ false → AreLong (head_held commit head)
   head_long shape commit [] s e = All-nil (λ (h : Held). IsLong attrs h.value)
   head_long shape commit (h ∷ head) s e =
-      let f = neither (nat_le shape.objects h.object.0 || not (eqb (length h.value) shape.attrs)) (is_bad_head shape head) e in
-      let g = neither (nat_le shape.objects h.object.0) (not (eqb (length h.value) shape.attrs)) f.0 in
+      let f = or_parts (nat_le shape.objects h.object.0 || not (eqb (length h.value) shape.attrs)) (is_bad_head shape head) e in
+      let g = or_parts (nat_le shape.objects h.object.0) (not (eqb (length h.value) shape.attrs)) f.0 in
       All-cons (λ (k : Held). IsLong attrs k.value) (record { object = h.object.0; pos = commit; value = h.value }) (head_held commit head)
-      (eqb-true (length h.value) shape.attrs (not_not (eqb (length h.value) shape.attrs) g.1) ∙ s) (head_long shape commit head s f.1)
+      (eqb-true (length h.value) shape.attrs (not-false (eqb (length h.value) shape.attrs) g.1) ∙ s) (head_long shape commit head s f.1)
 
   pub with_head : (shape : Shape) (held : List Held) (commit : ℕ) (head : List Sent) → shape.attrs ≡ attrs → AreLong held → is_bad_head shape head ≡ false → AreLong (held ++ head_held commit head)
   with_head shape held commit head s a e = All-append (λ (h : Held). IsLong attrs h.value) held (head_held commit head) a (head_long shape commit head s e)
@@ -101,7 +94,7 @@ module _ (attrs : ℕ) where
       has_bad_item who ps request reply ≡ false → missing_in held reply ≡ None → AreLong (with_reply held reply)
   reply_long who held ps request (replies.Welcome commit head) s a b m = with_head who.shape held commit head s a b
   reply_long who held ps request (replies.Relay seq commit head items) s a b m =
-      let f = neither (is_bad_head who.shape head) (is_bad_relay who ps request seq items) b in
+      let f = or_parts (is_bad_head who.shape head) (is_bad_relay who ps request seq items) b in
       items_long (held ++ head_held commit head) items (with_head who.shape held commit head s a f.0) m
   reply_long who held ps request (replies.Dropped seq chain far) s a b m = a
   reply_long who held ps request (replies.Settled seq pos) s a b m = a

@@ -1,16 +1,16 @@
 -- What a client of a proper trace asks is within the grammar of messages, whatever it was replied.
-use Rattle.std.proofs.Common.{◌≡◌, ℕ, suc, ◌+◌, ◌≤◌, Bool, true, false, cond, ◌||◌, not, eqb, List, [], ◌∷◌, ◌++◌, length, map, ℤ, Option, Some, None, refl, sym, ap, ◌∙◌, subst, arith, eq-eqb}
+use Rattle.std.proofs.Common.{◌≡◌, ℕ, suc, ◌+◌, ◌≤◌, Bool, true, false, ◌||◌, not, eqb, List, [], ◌∷◌, ◌++◌, length, map, ℤ, Option, None, refl, sym, ◌∙◌, subst, arith, eq-eqb}
 use Rattle.std.specs.Prelude.{All, is_none, unwrap_or, if◌then◌else◌}
 use Rattle.std.specs.List.{AllByRecursion, list_any}
 use Rattle.std.proofs.lemmas.List.{length-map}
 use Rattle.std.proofs.lemmas.List.Elements.{All-nil, All-cons, All-head, All-tail, All-from_recursion}
+use Rattle.std.proofs.lemmas.Bool.{cond-true, or_parts}
 use Rattle.sv_world.specs.Faults.{first_fault_of_action, IsGoodAction}
 use Rattle.sv_world.proofs.Good.{good_of_none}
-use Rattle.sv_world.specs.declared.check.BadAction.{BadAction}
 use Rattle.sv_world.specs.declared.action.Action.{Action}
 use Rattle.sv_world.specs.declared.world.ObjectId.{ObjectId}
 use Rattle.sv_world.specs.declared.world.Shape.{Shape}
-use Rattle.sv_world.specs.Sets.{is_in_mask, at_mask, read_set}
+use Rattle.sv_world.specs.Sets.{read_set}
 use Rattle.sv_eval.proofs.Outcomes.{outcome_counted}
 use Rattle.sv_versions.specs.Held.{Held, read_below}
 use Rattle.sv_pending.specs.Pending.{PendingAction, kept_of, redone_after, redone}
@@ -30,19 +30,11 @@ use Rattle.sv_client.specs.Seen.{newly_asked}
 use Rattle.sv_client.specs.Answers.{got_now}
 use Rattle.sv_client.proofs.Takes.{newly_got}
 use Rattle.sv_world.specs.Worlds.{IsGoodShape}
+use Rattle.sv_client.proofs.Sendable.{wire_action, masked_fewer}
+use Rattle.sv_client.proofs.Items.{results_count}
+use Rattle.sv_client.proofs.Looking.{none_is}
 use Rattle.sv_player.proofs.Well.{is_well}
-use Rattle.sv_player.proofs.Sizes.{AreLong, neither, with_head, result_long, item_more, both_found, held_long}
-
-wire_action : (shape : Shape) (a : Action) → IsGoodAction shape a → IsWireAction a
-wire_action shape a good =
-    record {
-      some_reads = good.some_reads;
-      few_reads = good.few_reads;
-      ascending = good.ascending;
-      mask = good.mask;
-      few_nodes = good.few_nodes;
-      shallow = good.shallow;
-    }
+use Rattle.sv_player.proofs.Sizes.{AreLong, with_head, result_long, item_more, both_found, held_long}
 
 -- ---- Pending actions
 
@@ -102,16 +94,12 @@ submits_are (p ∷ ps) all = (all.0.0, submits_are ps all.1)
 
 -- ---- Joins, and requests of one
 
-when : {X : Type 0} (b : Bool) (xs ys : List X) → b ≡ true → (if b then xs else ys) ≡ xs
-when true xs ys e = refl
-when false xs ys e = cc
-
 pub join_asks : (who : Identity) (t : List Event) → IsGoodIdentity who → AreProper who 0 t → All IsWireRequest (newly_asked who t (events.Join (joins t)))
 join_asks who t good p =
     let n = joins t in
     let list = requests.Join who.client (suc n) who.interest ∷ map submit_of (pending_of t) in
     let all : AllByRecursion IsWireRequest list = (record { few = good.few; ascending = good.ascending }, submits_are (pending_of t) (pending_are who 0 t p)) in
-    subst (All IsWireRequest) (sym (when (eqb n n) list [] (eq-eqb n n refl))) (All-from_recursion IsWireRequest list all)
+    subst (All IsWireRequest) (sym (cond-true (eqb n n) list [] (eq-eqb n n refl))) (All-from_recursion IsWireRequest list all)
 
 only : (b : Bool) (q r : Request) → r ∷ [] ≡ (if b then q ∷ [] else []) → r ≡ q
 only true q r e = cc
@@ -128,22 +116,6 @@ pub leave_asks : (who : Identity) (t : List Event) (request : Request) → reque
 leave_asks who t request e = subst IsWireRequest (sym (only _ requests.Leave request e)) tt
 
 -- ---- Results
-
-mask_fewer : {A : Type 0} (mask k : ℕ) (xs : List A) → length (at_mask mask k xs) ≤ length xs
-mask_fewer mask k [] = omega arith
-mask_fewer mask k (x ∷ xs) = go (is_in_mask mask k) (mask_fewer mask (k + 1) xs)
-  where
-    go : (b : Bool) → length (at_mask mask (k + 1) xs) ≤ length xs → length (cond b (x ∷ at_mask mask (k + 1) xs) (at_mask mask (k + 1) xs)) ≤ suc (length xs)
-    go true less = omega (arith, less)
-    go false less = omega (arith, less)
-
-results_counted : (held : List Held) (items : List Item) → length (results_of held items) ≡ length items
-results_counted held [] = refl
-results_counted held (item ∷ items) = ap suc (results_counted (held ++ item_held held item) items)
-
-no_fault : (o : Option BadAction) → not (is_none o) ≡ false → o ≡ None
-no_fault None e = refl
-no_fault (Some b) e = cc
 
 abbrev has_fault : Shape → Item → Bool
 has_fault shape i = not (is_none (first_fault_of_action shape i.action))
@@ -162,7 +134,7 @@ module _ (shape : Shape) (good : IsGoodShape shape) where
       let a = item.action in
       let as_many = length-map (read_set a) (λ x. unwrap_or (read_below held x item.pos) []) ∙ length-map a.reads (λ (o : ObjectId). o.0) in
       let count = outcome_counted a (map (λ x. unwrap_or (read_below held x item.pos) []) (read_set a)) as_many in
-      let written = mask_fewer a.mask 0 (read_set a) in
+      let written = masked_fewer a.mask 0 (read_set a) in
       let reads = length-map a.reads (λ (o : ObjectId). o.0) in
       record {
         few = omega (arith, count, written, reads, action.few_reads);
@@ -173,9 +145,9 @@ module _ (shape : Shape) (good : IsGoodShape shape) where
       AllByRecursion IsWireResult (results_of held items)
   results_are held [] long fine found = tt
   results_are held (item ∷ items) long fine found =
-      let f = neither (has_fault shape item) (list_any (has_fault shape) items) fine in
+      let f = or_parts (has_fault shape item) (list_any (has_fault shape) items) fine in
       let g = both_found shape.attrs item.pos (first_unheld held item.pos (read_set item.action)) (first_missing_of (held ++ item_held held item) items) found in (
-        result_is held item long (good_of_none shape item.action (no_fault (first_fault_of_action shape item.action) f.0)) g.0,
+        result_is held item long (good_of_none shape item.action (none_is (first_fault_of_action shape item.action) f.0)) g.0,
         results_are (held ++ item_held held item) items (item_more shape.attrs held item long g.0) f.1 g.1,
       )
 
@@ -186,16 +158,16 @@ some_items (i ∷ is) e = omega arith
 dones_are : (who : Identity) (t : List Event) (request : Request) (reply : Reply) → IsGoodShape who.shape → AreProper who 0 t → IsWireReply reply →
     has_bad_item who (pending_of t) request reply ≡ false → missing_in (held_of t) reply ≡ None → All IsWireRequest (done_for (held_of t) reply)
 dones_are who t request (replies.Relay seq commit head items) shape p wire bad found =
-    let f = neither (is_bad_head who.shape head) (is_bad_relay who (pending_of t) request seq items) bad in
-    let g = neither (eqb (length items) 0 || list_any (has_fault who.shape) items) (not (is_good_relay who (pending_of t) request seq items)) f.1 in
-    let h = neither (eqb (length items) 0) (list_any (has_fault who.shape) items) g.0 in
+    let f = or_parts (is_bad_head who.shape head) (is_bad_relay who (pending_of t) request seq items) bad in
+    let g = or_parts (eqb (length items) 0 || list_any (has_fault who.shape) items) (not (is_good_relay who (pending_of t) request seq items)) f.1 in
+    let h = or_parts (eqb (length items) 0) (list_any (has_fault who.shape) items) g.0 in
     let held = held_of t ++ head_held commit head in
     let results = results_of held items in
     let long = with_head who.shape.attrs who.shape (held_of t) commit head refl (held_long who 0 t p) f.0 in
     let done : IsWireDone results =
     record {
-      some = omega (arith, results_counted held items, some_items items h.0);
-      few = omega (arith, results_counted held items, wire.few);
+      some = omega (arith, results_count held items, some_items items h.0);
+      few = omega (arith, results_count held items, wire.few);
       each = All-from_recursion IsWireResult results (results_are who.shape shape held items long h.1 found);
     } in
     All-cons IsWireRequest (requests.Done results) [] done (All-nil IsWireRequest)

@@ -5,7 +5,6 @@ use Rattle.std.specs.List.{AllByRecursion}
 use Rattle.std.proofs.lemmas.List.Elements.{recursion_from_All, All-from_recursion}
 use Rattle.std.proofs.lemmas.Option.{none-some, same_Some}
 use Rattle.sv_world.specs.declared.world.Shape.{Shape}
-use Rattle.sv_wire.specs.declared.message.Request.{Request}
 use Rattle.sv_client.specs.declared.trace.Event.{Event}
 use Rattle.sv_client.specs.declared.trace.Event.TheVariants as events
 use Rattle.sv_client.specs.declared.trace.Trace.{Trace}
@@ -14,7 +13,8 @@ use Rattle.sv_scenario.specs.declared.scenario.Plan.{Plan}
 use Rattle.sv_scenario.specs.declared.scenario.Step.{Step}
 use Rattle.sv_scenario.specs.declared.scenario.Step.TheVariants as steps
 use Rattle.sv_scenario.specs.Sessions.{sessions_of_plan}
-use Rattle.sv_script.specs.Following.{DoesStep, FollowsTo, after_syncs, passed_syncs, event_of}
+use Rattle.sv_script.specs.Following.{DoesStep, FollowsTo, event_of}
+use Rattle.sv_script.proofs.Beginnings.{all-passed}
 use Rattle.sv_asked.specs.Asked.{EventFits}
 use Rattle.sv_asked.specs.Numbers.{StepFits, PlanFits}
 use Rattle.sv_system.proofs.Every.{each-reverse}
@@ -23,20 +23,7 @@ use Rattle.law_schedule.specs.Serving.{traces_of}
 use Rattle.law_schedule.specs.Sound.{IsPlaying, ArePlaying}
 use Rattle.sv_replay.specs.Playable.{MadeActionsFit}
 
-synced_fit : (ss : List Step) → AllByRecursion StepFits ss → AllByRecursion StepFits (after_syncs ss)
-synced_fit [] all = tt
-synced_fit (steps.Act action ∷ ss) all = all
-synced_fit (steps.Poll ∷ ss) all = all
-synced_fit (steps.Sync ∷ ss) all = synced_fit ss all.1
-synced_fit (steps.Show objects ∷ ss) all = all
-synced_fit (steps.Cut ∷ ss) all = all
-synced_fit (steps.Quit ∷ ss) all = all
-
-passed_fit : (os : List Request) (ss : List Step) → AllByRecursion StepFits ss → AllByRecursion StepFits (passed_syncs os ss)
-passed_fit [] ss all = synced_fit ss all
-passed_fit (o ∷ os) ss all = all
-
-event_fits : (step : Step) (e : Event) → event_of step ≡ Some e → StepFits step → EventFits e
+pub event_fits : (step : Step) (e : Event) → event_of step ≡ Some e → StepFits step → EventFits e
 event_fits (steps.Act action) e h f = subst EventFits (same_Some (events.Make action) e h) f
 event_fits steps.Poll e h f = subst EventFits (same_Some events.Poll e h) tt
 event_fits steps.Sync e h f = absurd (none-some e h)
@@ -47,7 +34,7 @@ event_fits steps.Quit e h f = subst EventFits (same_Some events.Quit e h) tt
 step_done : (who : Identity) (t : List Event) (before : List Step) (e : Event) (left : List Step) → DoesStep who t before e left → AllByRecursion StepFits before →
     EventFits e × AllByRecursion StepFits left
 step_done who t before e left d all =
-    let next : AllByRecursion StepFits (d.step ∷ left) = subst (AllByRecursion StepFits) d.next (passed_fit (outstanding who t) before all) in
+    let next : AllByRecursion StepFits (d.step ∷ left) = subst (AllByRecursion StepFits) d.next (all-passed StepFits (outstanding who t) before all) in
     (event_fits d.step e d.event next.0, next.1)
 
 -- What was made so far, and what is left to do.

@@ -1,5 +1,6 @@
 -- The beginnings of a trace that follows a script, and the steps that they leave.
-use Rattle.std.proofs.Common.{◌≡◌, suc, ◌≤◌, List, [], ◌∷◌, ◌++◌, length, reverse, ap, subst, ◌∙◌, arith}
+use Rattle.std.proofs.Common.{◌≡◌, suc, ◌≤◌, List, [], ◌∷◌, ◌++◌, length, reverse, sym, ap, subst, ◌∙◌, arith}
+use Rattle.std.specs.List.{AllByRecursion}
 use Rattle.std.proofs.lemmas.List.{reverse-append}
 use Rattle.sv_world.specs.declared.world.Shape.{Shape}
 use Rattle.sv_wire.specs.declared.message.Request.{Request}
@@ -21,7 +22,7 @@ synced-less (steps.Show objects ∷ ss) = omega arith
 synced-less (steps.Cut ∷ ss) = omega arith
 synced-less (steps.Quit ∷ ss) = omega arith
 
-passed-less : (os : List Request) (ss : List Step) → length (passed_syncs os ss) ≤ length ss
+pub passed-less : (os : List Request) (ss : List Step) → length (passed_syncs os ss) ≤ length ss
 passed-less [] ss = synced-less ss
 passed-less (o ∷ os) ss = omega arith
 
@@ -41,6 +42,35 @@ event-less who t before events.Poll left m = omega (arith, step-less who t befor
 event-less who t before events.Cut left m = omega (arith, step-less who t before events.Cut left m)
 event-less who t before events.Quit left m = omega (arith, step-less who t before events.Quit left m)
 event-less who t before (events.Show objects) left m = omega (arith, step-less who t before (events.Show objects) left m)
+
+-- What holds of each step that is left goes on to hold.
+all-synced : (P : Step → Type 0) (ss : List Step) → AllByRecursion P ss → AllByRecursion P (after_syncs ss)
+all-synced P [] a = a
+all-synced P (steps.Act action ∷ ss) a = a
+all-synced P (steps.Poll ∷ ss) a = a
+all-synced P (steps.Sync ∷ ss) a = all-synced P ss a.1
+all-synced P (steps.Show objects ∷ ss) a = a
+all-synced P (steps.Cut ∷ ss) a = a
+all-synced P (steps.Quit ∷ ss) a = a
+
+pub all-passed : (P : Step → Type 0) (os : List Request) (ss : List Step) → AllByRecursion P ss → AllByRecursion P (passed_syncs os ss)
+all-passed P [] ss a = all-synced P ss a
+all-passed P (o ∷ os) ss a = a
+
+pub all-step : (P : Step → Type 0) (who : Identity) (t : List Event) (before : List Step) (e : Event) (left : List Step) → DoesStep who t before e left →
+    AllByRecursion P before → AllByRecursion P left
+all-step P who t before e left d a = (subst (AllByRecursion P) d.next (all-passed P (outstanding who t) before a)).1
+
+pub all-after : (P : Step → Type 0) (who : Identity) (t : List Event) (before : List Step) (e : Event) (left : List Step) → MayCome who t before e left →
+    AllByRecursion P before → AllByRecursion P left
+all-after P who t before (events.Join s) left m a = subst (AllByRecursion P) (sym m.same) a
+all-after P who t before (events.Got s reply) left m a = subst (AllByRecursion P) (sym m.same) a
+all-after P who t before events.Leave left m a = subst (AllByRecursion P) (sym m.same) tt
+all-after P who t before (events.Make action) left m a = all-step P who t before (events.Make action) left m a
+all-after P who t before events.Poll left m a = all-step P who t before events.Poll left m a
+all-after P who t before events.Cut left m a = all-step P who t before events.Cut left m a
+all-after P who t before events.Quit left m a = all-step P who t before events.Quit left m a
+all-after P who t before (events.Show objects) left m a = all-step P who t before (events.Show objects) left m a
 
 pub beginnings-follow : (who : Identity) (script : List Step) (later t : List Event) (left : List Step) → FollowsTo who script (later ++ t) left →
     (before : List Step) × (FollowsTo who script t before × (length left ≤ length before))

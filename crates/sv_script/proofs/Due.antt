@@ -62,7 +62,7 @@ pub due-left : (who : Identity) (first : ℕ) (t : List Event) → AreProper who
     → due (outstanding who (events.Leave ∷ t)) ≡ due (outstanding who t) + 1
 due-left who first t p j = due-pushed (outstanding who t) _ requests.Leave (outstanding_left who first t p j)
 
-due-some : (q : Request) → 1 ≤ due_of q
+pub due-some : (q : Request) → 1 ≤ due_of q
 due-some (requests.Join client life interest) = omega arith
 due-some (requests.Submit seq action) = omega arith
 due-some (requests.Done results) = omega arith

@@ -26,7 +26,7 @@ use Rattle.sv_script.proofs.Steps.{steps-in_order}
 
 -- ---- A Leave that is outstanding
 
-abbrev is_leave : Request → Bool
+abbrev pub is_leave : Request → Bool
 is_leave (requests.Join client life interest) = false
 is_leave (requests.Submit seq action) = false
 is_leave (requests.Done results) = false
@@ -35,11 +35,11 @@ is_leave requests.Leave = true
 is_leave requests.End = false
 is_leave requests.Bad = false
 
-abbrev has_leave : List Request → Bool
+abbrev pub has_leave : List Request → Bool
 has_leave [] = false
 has_leave (r ∷ rs) = is_leave r || has_leave rs
 
-leave-append : (xs ys : List Request) → has_leave ys ≡ false → has_leave (xs ++ ys) ≡ true → has_leave xs ≡ true
+pub leave-append : (xs ys : List Request) → has_leave ys ≡ false → has_leave (xs ++ ys) ≡ true → has_leave xs ≡ true
 leave-append [] ys n e = absurd (true≢false (sym e ∙ n))
 leave-append (x ∷ xs) ys n e =
     elim (or_cases (is_leave x) (has_leave (xs ++ ys)) e) [
@@ -47,15 +47,15 @@ leave-append (x ∷ xs) ys n e =
       | inr h ↦ or_right (is_leave x) (has_leave xs) (leave-append xs ys n h)
     ]
 
-leave-rest : (xs : List Request) → has_leave (drop 1 xs) ≡ true → has_leave xs ≡ true
+pub leave-rest : (xs : List Request) → has_leave (drop 1 xs) ≡ true → has_leave xs ≡ true
 leave-rest [] e = cc
 leave-rest (x ∷ xs) e = or_right (is_leave x) (has_leave xs) e
 
-no-submit : (ps : List PendingAction) → has_leave (map submit_of ps) ≡ false
+pub no-submit : (ps : List PendingAction) → has_leave (map submit_of ps) ≡ false
 no-submit [] = refl
 no-submit (p ∷ ps) = no-submit ps
 
-no-done : (held : List Held) (reply : Reply) → has_leave (done_for held reply) ≡ false
+pub no-done : (held : List Held) (reply : Reply) → has_leave (done_for held reply) ≡ false
 no-done held (replies.Relay seq commit head items) = refl
 no-done held (replies.Welcome commit head) = refl
 no-done held (replies.Dropped seq chain far) = refl
@@ -65,11 +65,11 @@ no-done held replies.Idle = refl
 no-done held (replies.Refused code detail) = refl
 no-done held replies.Bye = refl
 
-passed-none : (os : List Request) → passed_syncs os [] ≡ []
+pub passed-none : (os : List Request) → passed_syncs os [] ≡ []
 passed-none [] = refl
 passed-none (o ∷ os) = refl
 
-no-step : (who : Identity) (t : List Event) (before : List Step) (e : Event) (left : List Step) → DoesStep who t before e left → before ≡ [] → ⊥
+pub no-step : (who : Identity) (t : List Event) (before : List Step) (e : Event) (left : List Step) → DoesStep who t before e left → before ≡ [] → ⊥
 no-step who t before e left d b =
     let none : d.step ∷ left ≡ [] = sym d.next ∙ ap (passed_syncs (outstanding who t)) b ∙ passed-none (outstanding who t) in cc
 
@@ -157,7 +157,7 @@ bye-answers requests.Leave e = refl
 bye-answers requests.End e = cc
 bye-answers requests.Bad e = cc
 
-bye-after : (who : Identity) (t : List Event) (os : List Request) → fault_after who t os replies.Bye ≡ None → has_leave os ≡ true
+pub bye-after : (who : Identity) (t : List Event) (os : List Request) → fault_after who t os replies.Bye ≡ None → has_leave os ≡ true
 bye-after who t [] e = absurd (none-some Unasked (sym e))
 bye-after who t (q ∷ qs) e = or_left (is_leave q) (has_leave qs) (bye-answers q (kind-of (allows q replies.Bye) _ e))
 

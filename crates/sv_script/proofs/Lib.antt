@@ -4,6 +4,7 @@ pub mod Steps
 pub mod Pending
 pub mod Due
 pub mod Counts
+pub mod Cuts
 pub mod Ends
 pub mod Places
 pub mod Told

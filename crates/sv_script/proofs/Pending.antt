@@ -20,8 +20,11 @@ redone-length held earlier (p ∷ ps) =
     let more = length-append earlier (again ∷ []) in
     omega (arith, rest, more)
 
+pub redone-count : (held : List Held) (ps : List PendingAction) → length (redone held ps) ≡ length ps
+redone-count held ps = omega (arith, redone-length held [] ps)
+
 redone-few : (held : List Held) (ps : List PendingAction) → length (redone held ps) ≤ length ps
-redone-few held ps = omega (arith, redone-length held [] ps)
+redone-few held ps = omega (arith, redone-count held ps)
 
 front-fewer : (ps : List PendingAction) → length (without_front ps) ≤ length ps
 front-fewer [] = omega arith
@@ -30,7 +33,7 @@ front-fewer (p ∷ ps) = omega arith
 redone-front : (held : List Held) (ps : List PendingAction) → length (redone held (without_front ps)) ≤ length ps
 redone-front held ps = omega (arith, redone-few held (without_front ps), front-fewer ps)
 
-either-few : (b : Bool) (xs ys : List PendingAction) (n : ℕ) → length xs ≤ n → length ys ≤ n → length (if b then xs else ys) ≤ n
+pub either-few : (b : Bool) (xs ys : List PendingAction) (n : ℕ) → length xs ≤ n → length ys ≤ n → length (if b then xs else ys) ≤ n
 either-few true xs ys n f g = f
 either-few false xs ys n f g = g
 
@@ -39,7 +42,7 @@ settled-few held own [] = omega arith
 settled-few held own (p ∷ ps) =
     either-few (are_same own p.kept) ps (redone held ps) (length (p ∷ ps)) (omega arith) (omega (arith, redone-few held ps))
 
-replied-few : (before after : List Held) (reply : Reply) (ps : List PendingAction) → length (pending_with before after reply ps) ≤ length ps
+pub replied-few : (before after : List Held) (reply : Reply) (ps : List PendingAction) → length (pending_with before after reply ps) ≤ length ps
 replied-few before after (replies.Relay seq commit head items) ps =
     either-few (seq == 0) ps _ (length ps) (omega arith) (settled-few after _ ps)
 replied-few before after (replies.Dropped seq chain far) ps = redone-front after ps

@@ -108,7 +108,7 @@ lines-at_once trace es later e =
 
 -- ---- Events that change nothing
 
-quiet-view : (e : Event) (t : List Event) (x : ℕ) → may_tell e ≡ false → view_of t x ≡ view_of (e ∷ t) x
+pub quiet-view : (e : Event) (t : List Event) (x : ℕ) → may_tell e ≡ false → view_of t x ≡ view_of (e ∷ t) x
 quiet-view (events.Join s) t x h = refl
 quiet-view events.Poll t x h = refl
 quiet-view events.Leave t x h = refl

@@ -22,6 +22,7 @@ use Rattle.sv_journal.specs.History.{Authored, accepted, actions_of, item_at, co
 use Rattle.sv_journal.specs.Sessions.{positions_in, sent_to}
 use Rattle.sv_journal.specs.Answer.{Rules, is_bad_result, is_bad_done}
 use Rattle.sv_client.specs.Traces.{item_result, item_held, results_of}
+use Rattle.sv_client.proofs.Items.{results_count}
 use Rattle.sv_system.specs.Journals.{serial_result}
 use Rattle.sv_system.proofs.Tests.{three-false, four-false}
 use Rattle.sv_system.proofs.Items.{IsPlain, item-action}
@@ -42,10 +43,6 @@ pub sent-now : (d : Entry) (h : List Entry) (s p : ℕ) → d.session ≡ s → 
 sent-now d h s p e m =
     subst (λ (l : List ℕ). is_in p l ≡ true) (sym (cond-true (d.session == s) (sent_to h s ++ positions_in d.reply) (sent_to h s) (eq-eqb d.session s e)))
     (is_in-append_right p (sent_to h s) (positions_in d.reply) m)
-
-pub results-count : (held : List Held) (items : List Item) → length (results_of held items) ≡ length items
-results-count held [] = refl
-results-count held (item ∷ items) = ap suc (results-count (held ++ item_held held item) items)
 
 results-places : (held : List Held) (items : List Item) → map (λ (d : Done1). d.pos) (results_of held items) ≡ map (λ (i : Item). i.pos) items
 results-places held [] = refl
@@ -131,7 +128,7 @@ module _ (r : Rules) (H : List Entry) (count : length r.world.values ≡ r.world
       AllByRecursion (IsSerialResult r.world.values acts) (results_of held (map (item_at A) ks)) → is_bad_done r g s (results_of held (map (item_at A) ks)) ≡ false
   good-done world-shaped held ks asc some few f h =
       let results = results_of held (map (item_at A) ks) in
-      let many : length results ≡ length ks = results-count held (map (item_at A) ks) ∙ length-map ks (item_at A) in
+      let many : length results ≡ length ks = results_count held (map (item_at A) ks) ∙ length-map ks (item_at A) in
       let places : map (λ (d : Done1). d.pos) results ≡ ks = results-places held (map (item_at A) ks) ∙ positions-back A ks in
       four-false (length results == 0) (nat_lt 33 (length results)) (not (is_ascending (map (λ (d : Done1). d.pos) results))) (list_any (is_bad_result r g s) results)
       (ap (λ (n : ℕ). n == 0) many ∙ some)
