@@ -1,5 +1,4 @@
 -- The lemmas of a join.
-pub mod Places
 pub mod Unwrapping
 pub mod Lawful
 pub mod Played

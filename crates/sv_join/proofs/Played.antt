@@ -27,11 +27,12 @@ use Rattle.sv_player.specs.declared.outcome.PlayerCause.{PlayerCause}
 use Rattle.sv_player.specs.declared.outcome.PlayerCause.TheVariants as causes
 use Rattle.sv_player.specs.declared.outcome.ReplyFault.{ReplyFault}
 use Rattle.sv_system.specs.Laws.{NeverRefused}
+use Rattle.sv_system.specs.Places.{EachPlace}
+use Rattle.sv_system.proofs.Places.{map_at}
 use Rattle.sv_door.specs.Doors.{Passage, passage_of}
 use Rattle.sv_join.specs.declared.steady.Steady.{Steady}
 use Rattle.sv_join.specs.Legal.{IsLegalServer}
 use Rattle.sv_join.specs.Joining.{Passed, passed, passages_of, IsPlay, IsNewEnd, IsScenarioClient}
-use Rattle.sv_join.proofs.Places.{EachPlace, map_at}
 use Rattle.sv_join.proofs.Lawful.{not_refused}
 use Rattle.sv_join.proofs.Unwrapping.{inner, steady_told, steady_faults, steady_calm, done_inside, cause_inside, new_inside}
 

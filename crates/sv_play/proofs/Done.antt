@@ -12,6 +12,7 @@ use Rattle.sv_scenario.specs.Sessions.{session_count}
 use Rattle.sv_script.specs.Telling.{told_lines}
 use Rattle.sv_session.specs.Serving.{SessionPass}
 use Rattle.sv_system.specs.Records.{rules_of}
+use Rattle.sv_system.specs.Places.{EachPlace}
 use Rattle.sv_player.specs.declared.outcome.PlayerOut.{PlayerOut}
 use Rattle.law_traffic.specs.Sessions.{Over, transcript}
 use Rattle.law_traffic.specs.Runs.{IsGoodRun, IsRun, TrafficIsRecorded, RunsLeaveFullRecords, RunsMoveTheirTraffic}
@@ -19,7 +20,7 @@ use Rattle.sv_play.specs.declared.tasks.Serviced.{Serviced}
 use Rattle.sv_play.specs.declared.tasks.Task.{Task}
 use Rattle.sv_play.specs.declared.tasks.TaskOut.{TaskOut}
 use Rattle.sv_play.specs.declared.gathering.Left.{Left}
-use Rattle.sv_play.specs.Places.{EachPlace, EachClient}
+use Rattle.sv_play.specs.Places.{EachClient}
 use Rattle.sv_play.specs.Tasks.{services_of, parts_of, serviced_of, played_of, KeepsTask}
 use Rattle.sv_play.specs.Given.{Setting, keeper_after, IsPart, IsService}
 use Rattle.sv_play.specs.Left.{own_of, ends_of, transcripts_of, EndsAgree, HasRoom, HasFewSessions, Gathered, JoinedPasses, IsOfLock, IsServiced, HasPlayed}

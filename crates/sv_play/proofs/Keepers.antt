@@ -10,9 +10,9 @@ use Rattle.sv_scenario.specs.declared.scenario.Plan.{Plan}
 use Rattle.sv_scenario.specs.Sessions.{sessions_in, session_count}
 use Rattle.sv_session.specs.Serving.{SessionPass}
 use Rattle.sv_system.specs.Records.{rules_of}
+use Rattle.sv_system.specs.Places.{EachPlace}
 use Rattle.law_traffic.specs.Runs.{IsGoodRun}
 use Rattle.sv_play.specs.declared.tasks.Serviced.{Serviced}
-use Rattle.sv_play.specs.Places.{EachPlace}
 use Rattle.sv_play.specs.Given.{Setting, keeper_after}
 use Rattle.sv_play.specs.Left.{own_of, KeeperKnows, JoinedPasses, IsServiced}
 use Rattle.sv_play.specs.Playing.{TookAllIn}

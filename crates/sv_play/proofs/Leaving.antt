@@ -25,12 +25,14 @@ use Rattle.sv_play.specs.declared.tasks.Serviced.{Serviced}
 use Rattle.sv_play.specs.declared.tasks.TaskOut.{TaskOut}
 use Rattle.sv_play.specs.declared.tasks.TaskOut.TheVariants as outs
 use Rattle.sv_play.specs.declared.gathering.ClientEnd.{ClientEnd}
-use Rattle.sv_play.specs.Places.{EachPlace, EachClient}
+use Rattle.sv_system.specs.Places.{EachPlace}
+use Rattle.sv_system.proofs.Places.{each_all, at_place, unmap_at}
+use Rattle.sv_play.specs.Places.{EachClient}
 use Rattle.sv_play.specs.Tasks.{services_of, parts_of, serviced_of, played_of, TookPart, WasServed, KeepsTask}
 use Rattle.sv_play.specs.Given.{Setting, IsPart, IsService, pass_of}
 use Rattle.sv_play.specs.Left.{ends_from, ends_of, HasFewSessions, IsOfLock, IsServiced, HasPlayed}
 use Rattle.sv_play.specs.Settling.{AnyZip, Differ, ArePair, AreCalm, SomeDiffer}
-use Rattle.sv_play.proofs.Places.{each_all, each_zip, each_client_zip, each_client_all, each_client_map, at_place, unmap_at, zip_from, flat_length, flat_each}
+use Rattle.sv_play.proofs.Places.{each_zip, each_client_zip, each_client_all, each_client_map, zip_from, flat_length, flat_each}
 
 -- ---- Each kind by itself
 

@@ -12,7 +12,8 @@ use Rattle.sv_play.specs.declared.tasks.Service.{Service}
 use Rattle.sv_play.specs.declared.tasks.Part.{Part}
 use Rattle.sv_play.specs.declared.tasks.Task.{Task}
 use Rattle.sv_play.specs.declared.tasks.Task.TheVariants as tasks
-use Rattle.sv_play.specs.Places.{EachPlace, EachClient}
+use Rattle.sv_system.specs.Places.{EachPlace}
+use Rattle.sv_play.specs.Places.{EachClient}
 use Rattle.sv_play.specs.Tasks.{services_of, parts_of}
 use Rattle.sv_play.specs.Given.{Setting, ends_given, IsNewEnd, IsEndOf, IsPartOf, IsPart}
 use Rattle.sv_play.proofs.Places.{each_client_map, each_client_both, flat_place}

@@ -1,24 +1,15 @@
 -- Lists by their places, and one thing for each client.
-use Rattle.std.proofs.Common.{◌≡◌, ℕ, zero, suc, ◌+◌, ◌<◌, List, [], ◌∷◌, ◌++◌, map, length, slice_get, Some, option_map, refl, sym, ap, subst, ◌∙◌, arith, append_assoc, length-append}
+use Rattle.std.proofs.Common.{◌≡◌, ℕ, zero, suc, ◌+◌, List, [], ◌∷◌, ◌++◌, map, length, slice_get, Some, refl, sym, ap, subst, ◌∙◌, arith, append_assoc, length-append}
 use Rattle.std.specs.List.{AllByRecursion, AllZip, flat_map}
-use Rattle.std.proofs.lemmas.Option.{none-some, same_Some, slice_get-map}
+use Rattle.std.proofs.lemmas.Option.{none-some, same_Some}
 use Rattle.sv_client.specs.declared.trace.Trace.{Trace}
 use Rattle.sv_scenario.specs.declared.scenario.Plan.{Plan}
 use Rattle.sv_scenario.specs.Sessions.{sessions_of_plan, sessions_in}
 use Rattle.sv_system.specs.Records.{EachTrace}
-use Rattle.sv_play.specs.Places.{EachPlace, EachClient}
+use Rattle.sv_system.specs.Places.{EachPlace}
+use Rattle.sv_play.specs.Places.{EachClient}
 
 -- ---- Places
-
-pub each_push : {X : Type 0} (P : ℕ → X → Type 0) (xs : List X) (x : X) → EachPlace P xs → P (length xs) x → (k : ℕ) (y : X) → slice_get (xs ++ x ∷ []) k ≡ Some y → P k y
-each_push P [] x all one zero y e = subst (P 0) (same_Some x y e) one
-each_push P [] x all one (suc k) y e = absurd (none-some y e)
-each_push P (z ∷ zs) x all one zero y e = all 0 y e
-each_push P (z ∷ zs) x all one (suc k) y e = each_push (λ n. P (suc n)) zs x (λ n. all (suc n)) one k y e
-
-pub each_all : {X : Type 0} (P : ℕ → X → Type 0) (Q : X → Type 0) (xs : List X) → EachPlace P xs → ((k : ℕ) (x : X) → P k x → Q x) → AllByRecursion Q xs
-each_all P Q [] all f = tt
-each_all P Q (x ∷ xs) all f = (f 0 x (all 0 x refl), each_all (λ n. P (suc n)) Q xs (λ n. all (suc n)) (λ n. f (suc n)))
 
 pub each_zip : {X Y : Type 0} (P : ℕ → X → Type 0) (R : X → Y → Type 0) (Q : ℕ → Y → Type 0) (xs : List X) (ys : List Y) → EachPlace P xs → AllZip R xs ys →
     ((k : ℕ) (x : X) (y : Y) → P k x → R x y → Q k y) → (k : ℕ) (y : Y) → slice_get ys k ≡ Some y → Q k y
@@ -27,20 +18,6 @@ each_zip P R Q [] (y ∷ ys) all zip f k w e = absurd zip
 each_zip P R Q (x ∷ xs) [] all zip f k w e = absurd zip
 each_zip P R Q (x ∷ xs) (y ∷ ys) all zip f zero w e = subst (Q 0) (same_Some y w e) (f 0 x y (all 0 x refl) zip.0)
 each_zip P R Q (x ∷ xs) (y ∷ ys) all zip f (suc k) w e = each_zip (λ n. P (suc n)) R (λ n. Q (suc n)) xs ys (λ n. all (suc n)) zip.1 (λ n. f (suc n)) k w e
-
-pub at_place : {X : Type 0} (xs : List X) (k : ℕ) → k < length xs → (x : X) × (slice_get xs k ≡ Some x)
-at_place [] k l = absurd (omega (arith, l))
-at_place (x ∷ xs) zero l = (x, refl)
-at_place (x ∷ xs) (suc k) l = at_place xs k (omega (arith, l))
-
-pub map_at : {X Y : Type 0} (f : X → Y) (xs : List X) (k : ℕ) (x : X) → slice_get xs k ≡ Some x → slice_get (map f xs) k ≡ Some (f x)
-map_at f xs k x e = slice_get-map f xs k ∙ ap (option_map f) e
-
--- what stands at a place of a mapped list
-pub unmap_at : {X Y : Type 0} (f : X → Y) (xs : List X) (k : ℕ) (y : Y) → slice_get (map f xs) k ≡ Some y → (x : X) × (slice_get xs k ≡ Some x) × (f x ≡ y)
-unmap_at f [] k y e = absurd (none-some y e)
-unmap_at f (x ∷ xs) zero y e = (x, refl, same_Some (f x) y e)
-unmap_at f (x ∷ xs) (suc k) y e = unmap_at f xs k y e
 
 pub zip_at : {X Y : Type 0} (R : X → Y → Type 0) (xs : List X) (ys : List Y) (k : ℕ) (x : X) (y : Y) → AllZip R xs ys → slice_get xs k ≡ Some x → slice_get ys k ≡ Some y → R x y
 zip_at R [] ys k x y all ex ey = absurd (none-some x ex)

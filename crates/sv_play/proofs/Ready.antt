@@ -19,14 +19,16 @@ use Rattle.sv_session.specs.Serving.{MayServe}
 use Rattle.sv_player.specs.Going.{MayPlay}
 use Rattle.sv_player.specs.Sessions.{IsFresh}
 use Rattle.sv_system.proofs.Limits.{limits_of}
+use Rattle.sv_system.specs.Places.{EachPlace}
+use Rattle.sv_system.proofs.Places.{each_all}
 use Rattle.sv_play.specs.declared.tasks.Service.{Service}
 use Rattle.sv_play.specs.declared.tasks.Part.{Part}
 use Rattle.sv_play.specs.declared.tasks.Task.{Task}
 use Rattle.sv_play.specs.declared.tasks.Task.TheVariants as tasks
-use Rattle.sv_play.specs.Places.{EachPlace, EachClient}
+use Rattle.sv_play.specs.Places.{EachClient}
 use Rattle.sv_play.specs.Tasks.{services_of, parts_of, MayBeServed, MayTakePart, IsReady}
 use Rattle.sv_play.specs.Given.{Setting, IsEndOf, IsPart, IsService}
-use Rattle.sv_play.proofs.Places.{each_all, each_client_all}
+use Rattle.sv_play.proofs.Places.{each_client_all}
 
 module _ {E W : Type 0} (told : E → Told) (shape_of : W → Shape) where
   abbrev IsPartReady : Part E W → Type 0

@@ -27,15 +27,17 @@ use Rattle.sv_player.specs.declared.outcome.PlayerOut.{PlayerOut}
 use Rattle.sv_player.specs.declared.outcome.PlayerCause.{PlayerCause}
 use Rattle.sv_player.specs.declared.outcome.PlayerCause.TheVariants as causes
 use Rattle.sv_system.proofs.Every.{each-at, each-map}
+use Rattle.sv_system.specs.Places.{EachPlace}
+use Rattle.sv_system.proofs.Places.{at_place, map_at}
 use Rattle.law_traffic.specs.Sessions.{Over, transcript, IsSessionServed, IsSessionDone}
 use Rattle.law_traffic.specs.Stuck.{IsStopped}
 use Rattle.law_traffic.specs.Runs.{EachSession, IsRun, EndOrAreStopped}
 use Rattle.sv_play.specs.declared.tasks.Serviced.{Serviced}
 use Rattle.sv_play.specs.declared.gathering.ClientEnd.{ClientEnd}
-use Rattle.sv_play.specs.Places.{EachPlace, EachClient}
+use Rattle.sv_play.specs.Places.{EachClient}
 use Rattle.sv_play.specs.Given.{Setting, pass_of}
 use Rattle.sv_play.specs.Left.{own_of, is_memory, is_unplayed, ends_of, over_of, overs_of, transcripts_of, EndsAgree, IsServiced, HasPlayed}
-use Rattle.sv_play.proofs.Places.{at_place, map_at, zip_at, each_client_map, each_client_both, each_client_with, each_client_all, each_client_trace, flat_place}
+use Rattle.sv_play.proofs.Places.{zip_at, each_client_map, each_client_both, each_client_with, each_client_all, each_client_trace, flat_place}
 use Rattle.sv_play.proofs.Leaving.{end_at, own_count}
 
 -- ---- Sessions that are over

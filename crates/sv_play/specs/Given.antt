@@ -13,9 +13,9 @@ use Rattle.sv_scenario.specs.Limits.{IsGoodPlan}
 use Rattle.sv_scenario.specs.Sessions.{sessions_of_plan, session_count}
 use Rattle.sv_session.specs.Serving.{SessionPass}
 use Rattle.sv_system.specs.Records.{rules_of}
+use Rattle.sv_system.specs.Places.{EachPlace}
 use Rattle.sv_play.specs.declared.tasks.Service.{Service}
 use Rattle.sv_play.specs.declared.tasks.Part.{Part}
-use Rattle.sv_play.specs.Places.{EachPlace}
 
 -- a keeper of the lock over a new sequencer of the scenario, which made so many passes and took none in
 abbrev pub keeper_after : ℕ → LockView → Scenario → SessionPass

@@ -29,7 +29,7 @@ use Rattle.sv_play.specs.declared.tasks.Serviced.{Serviced}
 use Rattle.sv_play.specs.declared.tasks.TaskOut.{TaskOut}
 use Rattle.sv_play.specs.declared.gathering.ClientEnd.{ClientEnd}
 use Rattle.sv_play.specs.declared.gathering.Left.{Left}
-use Rattle.sv_play.specs.Places.{EachPlace}
+use Rattle.sv_system.specs.Places.{EachPlace}
 use Rattle.sv_play.specs.Tasks.{serviced_of, played_of}
 use Rattle.sv_play.specs.Given.{Setting, IsEndOf, pass_of}
 

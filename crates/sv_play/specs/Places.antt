@@ -1,11 +1,7 @@
--- Lists by their places, and one thing for each client of a scenario.
-use Rattle.std.specs.Prelude.{◌≡◌, ℕ, suc, ◌+◌, List, [], ◌∷◌, slice_get, Some}
+-- One thing for each client of a scenario.
+use Rattle.std.specs.Prelude.{ℕ, suc, ◌+◌, List, [], ◌∷◌}
 use Rattle.sv_scenario.specs.declared.scenario.Plan.{Plan}
 use Rattle.sv_scenario.specs.Sessions.{sessions_of_plan}
-
--- this holds of each element and its place
-abbrev pub EachPlace : {X : Type 0} → (ℕ → X → Type 0) → List X → Type 0
-EachPlace {X = X} P xs = (k : ℕ) (x : X) → slice_get xs k ≡ Some x → P k x
 
 -- There is one for each client, in order, and this holds of it: of clients numbered from k on, with sessions numbered from s on.
 abbrev pub EachClient : {X : Type 0} → (ℕ → ℕ → Plan → X → Type 0) → ℕ → ℕ → List Plan → List X → Type 0

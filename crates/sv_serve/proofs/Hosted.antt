@@ -14,15 +14,15 @@ use Rattle.sv_session.specs.Serving.{SessionPass}
 use Rattle.sv_session.specs.declared.outcome.SessionOut.{SessionOut}
 use Rattle.sv_session.specs.declared.outcome.SessionOut.TheVariants as outs
 use Rattle.sv_system.proofs.Every.{each-at, each-reverse}
+use Rattle.sv_system.specs.Places.{EachPlace}
+use Rattle.sv_system.proofs.Places.{each_all, at_place, unmap_at}
 use Rattle.law_traffic.specs.Runs.{IsGoodRun}
 use Rattle.sv_play.specs.declared.tasks.Service.{Service}
 use Rattle.sv_play.specs.declared.tasks.Serviced.{Serviced}
-use Rattle.sv_play.specs.Places.{EachPlace}
 use Rattle.sv_play.specs.Tasks.{WasServed}
 use Rattle.sv_play.specs.Given.{Setting, keeper_after, pass_of, IsService}
 use Rattle.sv_play.specs.Left.{is_memory, IsOfLock, JoinedPasses, IsServiced}
 use Rattle.sv_play.specs.Playing.{TookAllIn}
-use Rattle.sv_play.proofs.Places.{each_all, at_place, unmap_at}
 use Rattle.sv_play.proofs.Leaving.{served_left, all_of_lock}
 use Rattle.sv_play.proofs.Whole.{just_at}
 use Rattle.sv_play.proofs.Keepers.{just_of, below_of, legal_of, all_taken_in}

@@ -6,7 +6,7 @@ use Rattle.sv_journal.specs.Answer.{Legal}
 use Rattle.sv_scenario.specs.declared.scenario.Scenario.{Scenario}
 use Rattle.sv_scenario.specs.Sessions.{session_count}
 use Rattle.sv_system.specs.Records.{rules_of, ends_in}
-use Rattle.sv_play.specs.Places.{EachPlace}
+use Rattle.sv_system.specs.Places.{EachPlace}
 use Rattle.sv_door.specs.Doors.{Passage}
 use Rattle.sv_serve.specs.Passages.{IsPassageOf}
 

@@ -4,7 +4,7 @@ ghost use Rattle.std.specs.List.{AllByRecursion};
 ghost use Rattle.sv_link.specs.declared.side.Side.TheVariants.{Server};
 ghost use Rattle.sv_scenario.specs.Limits.{IsGoodScenario};
 ghost use Rattle.sv_scenario.specs.Sessions.{session_count};
-ghost use Rattle.sv_play.specs.Places.{EachPlace};
+ghost use Rattle.sv_system.specs.Places.{EachPlace};
 ghost use Rattle.sv_play.specs.Given.{keeper_after, pass_of, setting, IsNewEnd, IsService};
 ghost use Rattle.sv_play.specs.Opening.{OpeningCause};
 ghost use Rattle.sv_serve.specs.Giving.{doorway, kept_unserved, GaveAllBack, IsUnservedOf};

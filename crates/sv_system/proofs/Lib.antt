@@ -34,6 +34,7 @@ pub mod Ordered
 pub mod Own
 pub mod Owned
 pub mod Pendings
+pub mod Places
 pub mod Relays
 pub mod Replied
 pub mod Replies

@@ -1,4 +1,5 @@
 pub mod Fronts
+pub mod Places
 pub mod Fits
 pub mod Journals
 pub mod Serial

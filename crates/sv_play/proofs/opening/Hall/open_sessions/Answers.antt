@@ -3,7 +3,7 @@ use Rattle.std.proofs.Common.{◌≡◌, ◌+◌, length, slice_get, sym, ap, �
 use Rattle.sv_session.specs.Serving.{SessionPass}
 use Rattle.sv_link.specs.declared.side.Side.TheVariants.{Server, Client}
 use Rattle.sv_play.specs.Given.{keeper_after, pass_of, setting, IsEndOf, IsService}
-use Rattle.sv_play.proofs.Places.{each_push}
+use Rattle.sv_system.proofs.Places.{each_push}
 use Rattle.sv_play.proofs.Opened.{new_end_as}
 use Rattle.sv_play.proofs.opening.Hall.open_sessions.Goals as goal
 

@@ -1,7 +1,7 @@
 -- The sessions so far were opened, each with its pair and its pass.
 use Rattle.std.proofs.Common.{◌≡◌, ◌+◌, length}
 use Rattle.sv_link.specs.declared.side.Side.TheVariants.{Client}
-use Rattle.sv_play.specs.Places.{EachPlace}
+use Rattle.sv_system.specs.Places.{EachPlace}
 use Rattle.sv_play.specs.Given.{keeper_after, setting, IsEndOf, IsService}
 use Rattle.sv_play.proofs.opening.Hall.open_sessions.Given as goal
 

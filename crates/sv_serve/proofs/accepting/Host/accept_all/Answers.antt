@@ -3,7 +3,7 @@ use Rattle.std.proofs.Common.{rules, ◌≡◌, ◌+◌, length, slice_get, sym,
 use Rattle.sv_link.specs.declared.side.Side.TheVariants.{Server}
 use Rattle.sv_session.specs.Serving.{SessionPass}
 use Rattle.sv_play.specs.Given.{keeper_after, pass_of, setting, IsService}
-use Rattle.sv_play.proofs.Places.{each_push}
+use Rattle.sv_system.proofs.Places.{each_push}
 use Rattle.sv_play.proofs.Opened.{new_end_as}
 use Rattle.sv_serve.proofs.Endings.{on_err, none_made}
 use Rattle.sv_serve.proofs.Hosted.{unserved_own}

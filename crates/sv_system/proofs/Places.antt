@@ -2,10 +2,7 @@
 use Rattle.std.proofs.Common.{◌≡◌, ℕ, zero, suc, ◌<◌, List, [], ◌∷◌, ◌++◌, map, length, slice_get, Some, option_map, refl, ap, subst, ◌∙◌, arith}
 use Rattle.std.specs.List.{AllByRecursion}
 use Rattle.std.proofs.lemmas.Option.{none-some, same_Some, slice_get-map}
-
--- this holds of each element and its place
-abbrev pub EachPlace : {X : Type 0} → (ℕ → X → Type 0) → List X → Type 0
-EachPlace {X = X} P xs = (k : ℕ) (x : X) → slice_get xs k ≡ Some x → P k x
+use Rattle.sv_system.specs.Places.{EachPlace}
 
 pub each_push : {X : Type 0} (P : ℕ → X → Type 0) (xs : List X) (x : X) → EachPlace P xs → P (length xs) x → (k : ℕ) (y : X) → slice_get (xs ++ x ∷ []) k ≡ Some y → P k y
 each_push P [] x all one zero y e = subst (P 0) (same_Some x y e) one
