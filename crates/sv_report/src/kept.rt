@@ -1,8 +1,7 @@
 //! The result that a client keeps of an action that it made.
-ghost use Rattle.std.specs.Prelude.{◌≡◌, ◌-◌, ◌++◌, ◌∷◌, map, length, option_map, slice_get, string_bytes, Some, OnOk};
+ghost use Rattle.std.specs.Prelude.{◌≡◌, ◌-◌, ◌++◌, ◌∷◌, length, option_map, slice_get, string_bytes, Some, OnOk};
 ghost use Rattle.std.specs.List.{flat_map, zip};
-ghost use Rattle.sv_world.specs.declared.world.ObjectId.{ObjectId};
-ghost use Rattle.sv_world.specs.Sets.{write_set};
+ghost use Rattle.sv_world.specs.Sets.{numbers_of, write_set};
 ghost use Rattle.sv_journal.specs.Pieces.{joined, held_text};
 ghost use Rattle.sv_client.specs.Traces.{pending_of};
 ghost use Rattle.sv_report.specs.Report.{kept_text};
@@ -57,7 +56,7 @@ fn append_result(
 
 /// Appends objects with their values, as `[0=(6) 2=(7)]`.
 fn append_list(objects: &[ObjectId], values: &[Value], out: &mut String) -> Result<(), AllocError>
-    ensures { OnOk result (string_bytes out.new ≡ string_bytes out.old ++ kept_text (map (λ (o : ObjectId). o.0) objects.now) (Some values.now)) }
+    ensures { OnOk result (string_bytes out.new ≡ string_bytes out.old ++ kept_text (numbers_of objects.now) (Some values.now)) }
 {
     out.push_str("[")?;
     append_first(objects, values, out)?;
@@ -66,7 +65,7 @@ fn append_list(objects: &[ObjectId], values: &[Value], out: &mut String) -> Resu
 
 fn append_first(objects: &[ObjectId], values: &[Value], out: &mut String) -> Result<(), AllocError>
     ensures { OnOk result (string_bytes out.new ≡ string_bytes out.old
-        ++ joined 32 (λ p. held_text p.0 p.1) (zip (map (λ (o : ObjectId). o.0) objects.now) values.now)) }
+        ++ joined 32 (λ p. held_text p.0 p.1) (zip (numbers_of objects.now) values.now)) }
 {
     let [object, objects @ ..] = objects else {
         return Ok(());
@@ -80,7 +79,7 @@ fn append_first(objects: &[ObjectId], values: &[Value], out: &mut String) -> Res
 
 fn append_more(objects: &[ObjectId], values: &[Value], out: &mut String) -> Result<(), AllocError>
     ensures { OnOk result (string_bytes out.new ≡ string_bytes out.old
-        ++ flat_map (λ p. 32 ∷ held_text p.0 p.1) (zip (map (λ (o : ObjectId). o.0) objects.now) values.now)) }
+        ++ flat_map (λ p. 32 ∷ held_text p.0 p.1) (zip (numbers_of objects.now) values.now)) }
 {
     let [object, objects @ ..] = objects else {
         return Ok(());

@@ -1,6 +1,6 @@
 //! Executing one action on a whole world.
-ghost use Rattle.std.specs.Prelude.{◌≡◌, [], map, slice_index_or, IfOk, OnOk};
-ghost use Rattle.sv_world.specs.declared.world.ObjectId.{ObjectId};
+ghost use Rattle.std.specs.Prelude.{◌≡◌, [], slice_index_or, IfOk, OnOk};
+ghost use Rattle.sv_world.specs.Sets.{numbers_of};
 ghost use Rattle.sv_eval.specs.Serial.{put_all, values_at, world_after};
 
 use std::alloc::{AllocError, Global};
@@ -27,7 +27,7 @@ fn values_at(
     world: &[Value],
     objects: &[ObjectId],
 ) -> Result<List<Value>, AllocError>
-    ensures { IfOk result (λ values. values ≡ values_at world.now (map (λ (o : ObjectId). o.0) objects.now)) }
+    ensures { IfOk result (λ values. values ≡ values_at world.now (numbers_of objects.now)) }
 {
     let mut values = Vec::with_capacity(alloc, objects.len())?;
     for object in objects {
@@ -43,7 +43,7 @@ fn put_all(
     values: &[Value],
     world: &mut List<Value>,
 ) -> Result<(), AllocError>
-    ensures { OnOk result (world.new ≡ put_all world.old (map (λ (o : ObjectId). o.0) objects.now) values.now) }
+    ensures { OnOk result (world.new ≡ put_all world.old (numbers_of objects.now) values.now) }
 {
     let [object, objects @ ..] = objects else {
         return Ok(());

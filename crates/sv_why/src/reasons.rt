@@ -1,9 +1,8 @@
 //! The positions that a value comes from, by a walk down the accepted actions with the set of the objects that are wanted.
-ghost use Rattle.std.specs.Prelude.{◌≡◌, ℕ, ◌+◌, ◌-◌, ◌^◌, ◌<◌, ◌≤◌, ◌||◌, ◌++◌, nat_eq, map, length, reverse, IfOk, OnOk};
+ghost use Rattle.std.specs.Prelude.{◌≡◌, ℕ, ◌+◌, ◌-◌, ◌^◌, ◌<◌, ◌≤◌, ◌||◌, ◌++◌, nat_eq, length, reverse, IfOk, OnOk};
 ghost use Rattle.std.specs.List.{list_any};
-ghost use Rattle.sv_world.specs.declared.world.ObjectId.{ObjectId};
 ghost use Rattle.sv_world.specs.Control.{is_in};
-ghost use Rattle.sv_world.specs.Sets.{at_mask};
+ghost use Rattle.sv_world.specs.Sets.{at_mask, numbers_of};
 ghost use Rattle.sv_journal.specs.History.{accepted, actions_of};
 ghost use Rattle.sv_why.specs.Reasons.{reasons_of};
 ghost use Rattle.sv_why.specs.Walks.{is_wanted, walk};
@@ -35,7 +34,7 @@ fn want(wanted: &mut List<bool>, object: ObjectId)
 fn want_all(wanted: &mut List<bool>, objects: &[ObjectId])
     requires { length wanted.old ≡ 65536 }
     ensures count { length wanted.new ≡ 65536 }
-    ensures marked { (x : ℕ) → is_wanted wanted.new x ≡ (is_in x (map (λ (o : ObjectId). o.0) objects.now) || is_wanted wanted.old x) }
+    ensures marked { (x : ℕ) → is_wanted wanted.new x ≡ (is_in x (numbers_of objects.now) || is_wanted wanted.old x) }
 {
     let [object, rest @ ..] = objects else {
         return;
@@ -47,7 +46,7 @@ fn want_all(wanted: &mut List<bool>, objects: &[ObjectId])
 /// Whether some of these reads, whose slots begin with `slot`, is in the mask and wanted.
 fn writes_wanted(wanted: &List<bool>, mask: u16, slot: usize, reads: &[ObjectId]) -> bool
     requires { slot + length reads.now < 2 ^ 64 }
-    ensures { result ≡ list_any (is_wanted wanted.now) (at_mask mask slot (map (λ (o : ObjectId). o.0) reads.now)) }
+    ensures { result ≡ list_any (is_wanted wanted.now) (at_mask mask slot (numbers_of reads.now)) }
 {
     let [object, rest @ ..] = reads else {
         return false;
