@@ -10,7 +10,6 @@ const OBJECTS: u16 = 1000;
 
 type Value = Vec<i64>;
 
-#[derive(Clone)]
 #[allow(dead_code)]
 enum Expr {
     Lit(i64),
@@ -19,21 +18,18 @@ enum Expr {
     Mul(Box<Expr>, Box<Expr>),
 }
 
-#[derive(Clone)]
 struct Set {
     slot: u8,
     attr: u8,
     expr: Expr,
 }
 
-#[derive(Clone)]
 struct Action {
     reads: Vec<u16>,
     mask: u16,
     body: Vec<Set>,
 }
 
-#[derive(Clone)]
 #[allow(dead_code)]
 struct Item {
     pos: u32,
@@ -42,7 +38,6 @@ struct Item {
     action: Action,
 }
 
-#[derive(Clone)]
 enum Reply {
     Welcome { commit: u32, head: Vec<(u16, Value)> },
     Relay { seq: u32, commit: u32, head: Vec<(u16, Value)>, items: Vec<Item> },
@@ -264,10 +259,10 @@ impl Client {
         }
     }
 
-    fn take(&mut self, reply: &Reply) -> Result<Option<Results>, Fault> {
-        self.look_at(reply)?;
+    fn take(&mut self, reply: Reply) -> Result<Option<Results>, Fault> {
+        self.look_at(&reply)?;
         let mut undo = Vec::new();
-        let results = match self.apply(&mut undo, reply) {
+        let results = match self.apply(&mut undo, &reply) {
             Ok(results) => results,
             Err(fault) => {
                 while let Some(change) = undo.pop() {
@@ -276,14 +271,14 @@ impl Client {
                 return Err(fault);
             }
         };
-        self.events.push(Event::Got(0, reply.clone()));
         self.awaited.pop_front();
         if results.is_some() {
             self.awaited.push_back(Awaited::Done);
         }
-        let (Reply::Welcome { commit, .. } | Reply::Relay { commit, .. } | Reply::Noted { commit }) = reply;
+        let (Reply::Welcome { commit, .. } | Reply::Relay { commit, .. } | Reply::Noted { commit }) = &reply;
         self.told = self.told.max(*commit);
         self.versions.prune(self.told);
+        self.events.push(Event::Got(0, reply));
         Ok(results)
     }
 
@@ -310,20 +305,21 @@ fn main() {
     let held = (0..OBJECTS).map(|_| Vec::new()).collect();
     let mut client = Client { versions: Versions { held, crowded: Vec::new() }, awaited: VecDeque::new(), events: Vec::new(), told: 0 };
     client.ask(Awaited::Join, Event::Join(0));
-    client.take(&Reply::Welcome { commit: 0, head: Vec::new() }).expect("no fault");
+    client.take(Reply::Welcome { commit: 0, head: Vec::new() }).expect("no fault");
     client.ask(Awaited::Poll, Event::Poll);
-    client.take(&relay(0, 1, (0..OBJECTS).map(|object| (object, vec![0])).collect())).expect("no fault");
-    client.take(&Reply::Noted { commit: 1 }).expect("no fault");
+    client.take(relay(0, 1, (0..OBJECTS).map(|object| (object, vec![0])).collect())).expect("no fault");
+    client.take(Reply::Noted { commit: 1 }).expect("no fault");
     let turns: Vec<(Reply, Reply)> = (0..turns)
         .map(|turn| (relay(1 + turn * items, items, Vec::new()), Reply::Noted { commit: 1 + (turn + 1) * items }))
         .collect();
     let mut sum = 0;
+    let count = turns.len();
     let start = Instant::now();
-    for (relay, noted) in &turns {
+    for (relay, noted) in turns {
         client.ask(Awaited::Poll, Event::Poll);
         sum += black_box(client.take(relay).expect("no fault")).map_or(0, |results| results.len());
         black_box(client.take(noted).expect("no fault"));
     }
     let nanos = start.elapsed().as_nanos();
-    println!("take {} {sum} {nanos}", turns.len());
+    println!("take {count} {sum} {nanos}");
 }

@@ -26,7 +26,7 @@ use sv_lines::{Stop, take_line};
 use sv_report::{append_after, append_before};
 use sv_scenario::Step;
 use sv_script::is_bye;
-use sv_wire::{Reply, Request};
+use sv_wire::{Reply, Request, copy_reply};
 use sv_world::{Action, MOST_SESSIONS, ObjectId, Shape, copy_action, copy_objects};
 
 /// A client that does its script.
@@ -165,12 +165,13 @@ impl<'a> Actor<'a> {
     }
 
     /// Gets a reply. Whether the client takes it.
-    fn get(&mut self, reply: &Reply, place: usize) -> Result<bool, AllocError>
+    fn get(&mut self, alloc: Global, reply: &Reply, place: usize) -> Result<bool, AllocError>
         requires { place + 1 < 2 ^ 64 }
         ensures took { IfOk result (λ took. took ≡ true → GotReply reply.now place self.old self.new) }
         ensures refused { IfOk result (λ took. took ≡ false → first_fault_of_reply self.old.client.who self.old.client.events reply.now ≡ None → ⊥) }
     {
-        match self.client.take(reply) {
+        let copy = copy_reply(alloc, reply)?;
+        match self.client.take(copy) {
             Ok(None) => {}
             Ok(Some(done)) => self.asked.push(done)?,
             Err(TakeFault::Memory) => return Err(AllocError),
@@ -210,7 +211,7 @@ impl<'a> Actor<'a> {
         let Some(rest) = behind_line(text, line.as_bytes()) else {
             return Err(Stop::Wrong { left: text.len() });
         };
-        if self.get(&served.replies[place], place)? {
+        if self.get(alloc, &served.replies[place], place)? {
             Ok(rest)
         } else {
             Err(Stop::Wrong { left: text.len() })

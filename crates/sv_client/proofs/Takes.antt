@@ -117,7 +117,7 @@ pub sessions_are : (who : Identity) (t : List Event) (reply : Reply) (store : St
 sessions_are who t reply store pending ks sessions made commit joined is fine =
     is.counts.sessions_are ∙ latest_count who t is.proper (latest_session t) (latest_in who t (current_session t) (asked_some (outstanding who t) fine.request fine.rest fine.asked))
 
-pub got_event : (sessions : ℕ) (t : List Event) (reply copy : Reply) → sessions ≡ latest_session t + 1 → copy ≡ reply → events.Got (sessions - 1) copy ≡ got_now t reply
-got_event sessions t reply copy e h =
+pub got_event : (sessions : ℕ) (t : List Event) (reply : Reply) → sessions ≡ latest_session t + 1 → events.Got (sessions - 1) reply ≡ got_now t reply
+got_event sessions t reply e =
     let s : sessions - 1 ≡ latest_session t = omega (arith, e) in
-    ap (λ (n : ℕ). events.Got n copy) s ∙ ap (λ (r : Reply). events.Got (latest_session t) r) h
+    ap (λ (n : ℕ). events.Got n reply) s

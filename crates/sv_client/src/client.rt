@@ -22,7 +22,7 @@ use std::alloc::{AllocError, Global};
 use std::marker::Model;
 use sv_pending::{Overlay, Pending, PendingItem};
 use sv_versions::Versions;
-use sv_wire::{Reply, Request, copy_reply};
+use sv_wire::{Reply, Request};
 use sv_world::{
     Action, ClientId, List, MOST_OUTSTANDING, MOST_PENDING, ObjectId, Shape, check_action,
     copy_action, copy_objects,
@@ -316,29 +316,28 @@ impl Client {
 
     /// Takes the reply to the oldest outstanding request, and answers the Done of a relay.
     ///
-    /// Values at or below the greatest commit told are dropped, but for the last one of each object.
-    pub fn take(&mut self, reply: &Reply) -> Result<Option<Request>, TakeFault>
-        ensures done { IfOk result (λ done. option_to_list done ≡ newly_asked self.old.who self.old.events (got_now self.old.events reply.now)) }
-        ensures fine { OnOk result (first_fault_of_reply self.old.who self.old.events reply.now ≡ None) }
-        ensures fault { IfErr result (IsTakeFault self.old.who self.old.events reply.now) }
+    /// Values at or below the greatest commit told are dropped, but for the last one of each object. The reply itself stands in the trace; one that is refused is let go.
+    pub fn take(&mut self, reply: Reply) -> Result<Option<Request>, TakeFault>
+        ensures done { IfOk result (λ done. option_to_list done ≡ newly_asked self.old.who self.old.events (got_now self.old.events reply)) }
+        ensures fine { OnOk result (first_fault_of_reply self.old.who self.old.events reply ≡ None) }
+        ensures fault { IfErr result (IsTakeFault self.old.who self.old.events reply) }
         ensures who { OnOk result (self.new.who ≡ self.old.who) }
-        ensures got { OnOk result (self.new.events ≡ got_now self.old.events reply.now ∷ self.old.events) }
+        ensures got { OnOk result (self.new.events ≡ got_now self.old.events reply ∷ self.old.events) }
         ensures kept { OnOk result (AnswersAbove (told self.new.events) self.new.kept (held_of self.new.events)) }
         ensures few { OnOk result ((x : ℕ) → count_up_to self.new.kept x (told self.new.events) ≤ 1) }
         ensures err { OnErr result (self.new ≡ self.old) }
     {
-        self.look_at(reply)?;
-        let copy = copy_reply(self.alloc, reply)?;
+        self.look_at(&reply)?;
         self.events.reserve(1)?;
         let done = take_reply(
             &mut self.versions,
             &mut self.pending,
             &mut self.awaited,
             &mut self.told,
-            reply,
+            &reply,
         )?;
         let session = self.sessions - 1;
-        self.events.push_reserved(Event::Got(session, copy));
+        self.events.push_reserved(Event::Got(session, reply));
         Ok(done)
     }
 

@@ -242,11 +242,11 @@ impl<E: End, L: Listener> Pilot<E, L> {
         ensures blame { IfErr result IsNotOfGame }
     {
         let reply = self.connection.receive()?;
-        self.take(&reply)
+        self.take(reply)
     }
 
     /// Takes a reply, reports the results that it asks for, and tells what it changed.
-    fn take(&mut self, reply: &Reply) -> Result<(), Trouble>
+    fn take(&mut self, reply: Reply) -> Result<(), Trouble>
         ensures taken { HasTaken self.old self.new }
         ensures blame { IfErr result IsNotOfGame }
     {

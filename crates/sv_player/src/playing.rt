@@ -143,21 +143,17 @@ impl<'a> Player<'a> {
     }
 
     /// Takes a reply, and answers the Done of a relay.
-    pub(crate) fn take(
-        &mut self,
-        reply: &Reply,
-        watch: &Watch,
-    ) -> Result<Option<Request>, TakeFault>
+    pub(crate) fn take(&mut self, reply: Reply, watch: &Watch) -> Result<Option<Request>, TakeFault>
         requires watch { watch.now.shape ≡ self.old.client.who.shape }
         requires going { IsGoing self.old }
         requires count { self.old.count ≤ most_events }
-        ensures fine { OnOk result (first_fault_of_reply self.old.client.who self.old.client.events reply.now ≡ None) }
-        ensures done { IfOk result (λ done. option_to_list done ≡ newly_asked self.old.client.who self.old.client.events (got_now self.old.client.events reply.now)) }
-        ensures ok { OnOk result (Did (got_now self.old.client.events reply.now) self.old.left.now self.old self.new) }
-        ensures fault { IfErr result (IsTakeFault self.old.client.who self.old.client.events reply.now) }
+        ensures fine { OnOk result (first_fault_of_reply self.old.client.who self.old.client.events reply ≡ None) }
+        ensures done { IfOk result (λ done. option_to_list done ≡ newly_asked self.old.client.who self.old.client.events (got_now self.old.client.events reply)) }
+        ensures ok { OnOk result (Did (got_now self.old.client.events reply) self.old.left.now self.old self.new) }
+        ensures fault { IfErr result (IsTakeFault self.old.client.who self.old.client.events reply) }
         ensures refused { IfErr result (λ fault. fault ≢ faults.Memory → self.new ≡ self.old) }
-        ensures part { OnErr result (DidInPart (got_now self.old.client.events reply.now) self.old self.new) }
-        ensures known { OnErr result (self.new.client.events ≡ got_now self.old.client.events reply.now ∷ self.old.client.events → first_fault_of_reply self.old.client.who self.old.client.events reply.now ≡ None) }
+        ensures part { OnErr result (DidInPart (got_now self.old.client.events reply) self.old self.new) }
+        ensures known { OnErr result (self.new.client.events ≡ got_now self.old.client.events reply ∷ self.old.client.events → first_fault_of_reply self.old.client.who self.old.client.events reply ≡ None) }
     {
         let done = self.client.take(reply)?;
         self.tell(watch)?;

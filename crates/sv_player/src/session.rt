@@ -223,11 +223,12 @@ impl<'a> Player<'a> {
         ensures calm { E.calm end.old → E.calm end.new }
     {
         let reply = self.read_first(&buffers.reader)?;
-        match self.take(&reply, watch) {
+        let bye = is_bye(&reply);
+        match self.take(reply, watch) {
             Ok(done) => {
                 buffers.reader.skip();
                 self.answer(done, buffers, end)?;
-                Ok(is_bye(&reply))
+                Ok(bye)
             }
             Err(TakeFault::Memory) => {
                 // The reply may stand in the trace already.
@@ -317,7 +318,7 @@ impl<'a> Player<'a> {
         let Some(reply) = self.plain_first(&buffers.reader) else {
             return self.take_flushed(watch, buffers, end);
         };
-        match self.take(&reply, watch) {
+        match self.take(reply, watch) {
             Ok(done) => {
                 buffers.reader.skip();
                 self.answer(done, buffers, end)?;

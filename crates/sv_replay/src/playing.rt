@@ -332,7 +332,7 @@ impl<'a> Playing<'a> {
         let Some(reply) = channel.next_reply()? else {
             return Ok(false);
         };
-        match self.client.take(&reply) {
+        match self.client.take(reply) {
             Ok(done) => {
                 self.taken(channel, done)?;
                 Ok(true)

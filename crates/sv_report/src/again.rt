@@ -10,7 +10,7 @@ ghost use Rattle.sv_report.specs.Again.{MayDo, again};
 
 use std::alloc::{AllocError, Global};
 use sv_client::{Client, Event, MakeFault, Mark, PollFault, TakeFault};
-use sv_wire::Reply;
+use sv_wire::{Reply, copy_reply};
 use sv_world::{Action, List, ObjectId, copy_action, copy_objects};
 
 fn join_again(client: &mut Client) -> Result<(), AllocError>
@@ -60,13 +60,14 @@ fn leave_again(client: &mut Client) -> Result<(), AllocError>
     Ok(())
 }
 
-fn take_again(client: &mut Client, reply: &Reply) -> Result<(), AllocError>
+fn take_again(alloc: Global, client: &mut Client, reply: &Reply) -> Result<(), AllocError>
     requires { first_fault_of_reply client.old.who client.old.events reply.now ≡ None }
     ensures who { OnOk result (client.new.who ≡ client.old.who) }
     ensures events { OnOk result (client.new.events ≡ got_now client.old.events reply.now ∷ client.old.events) }
     ensures err { OnErr result (client.new ≡ client.old) }
 {
-    match client.take(reply) {
+    let copy = copy_reply(alloc, reply)?;
+    match client.take(copy) {
         Ok(_) => Ok(()),
         Err(TakeFault::Memory) => Err(AllocError),
         Err(_) => unreachable!(),
@@ -96,7 +97,7 @@ pub fn do_again(alloc: Global, client: &mut Client, event: &Event) -> Result<(),
         Event::Make(action) => make_again(alloc, client, action),
         Event::Poll => poll_again(client),
         Event::Leave => leave_again(client),
-        Event::Got(_, reply) => take_again(client, reply),
+        Event::Got(_, reply) => take_again(alloc, client, reply),
         Event::Cut => client.note(Mark::Cut),
         Event::Quit => client.note(Mark::Quit),
         Event::Show(objects) => show_again(alloc, client, objects.as_slice()),

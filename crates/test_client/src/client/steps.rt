@@ -138,13 +138,10 @@ fn takes(alloc: Global, client: &mut Client, answer: Answer, expected: Told) -> 
     ensures { client.new.who ≡ client.old.who }
 {
     let reply = reply_of(alloc, answer)?;
-    let is_so = match client.take(&reply) {
+    Ok(match client.take(reply) {
         Ok(asked) => tells(asked, expected),
         Err(fault) => matches!(expected, Told::Fault(other) if other == fault),
-    };
-    // At the end of its scope it would make a long proof; a call that takes it makes none.
-    drop(reply);
-    Ok(is_so)
+    })
 }
 
 fn holds_below(client: &Client, object: u16, pos: u32, expected: Option<i64>) -> bool

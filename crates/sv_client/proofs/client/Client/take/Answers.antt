@@ -20,7 +20,7 @@ pub overflow_sub-session : goal.overflow_sub-session
 overflow_sub-session c =
     let who = who_is c.self.inside in
     let t = reverse c.self.inside.events.items in
-    let reply = c.args.reply.now in
+    let reply = c.args.reply in
     let fine : IsFine who t reply = subst (λ (v : ClientView). IsFine v.who v.events reply) (sym c.self.view_is) c.in_ok-look_at.ensures.ok in
     let count = sessions_are who t reply c.self.inside.versions c.self.inside.pending c.self.inside.awaited.items c.self.inside.sessions c.self.inside.made c.self.inside.told c.self.inside.joined c.self.invariant fine in
     omega (arith, count)
@@ -29,7 +29,7 @@ pub take_reply-requires-clause-fits : goal.take_reply-requires-clause-fits
 take_reply-requires-clause-fits c =
     let who = who_is c.self.inside in
     let t = reverse c.self.inside.events.items in
-    let reply = c.args.reply.now in
+    let reply = c.args.reply in
     let fine : IsFine who t reply = subst (λ (v : ClientView). IsFine v.who v.events reply) (sym c.self.view_is) c.in_ok-look_at.ensures.ok in
     subst (λ (s : Shape). IsFitting s.objects c.self.inside.told reply) (sym c.self.invariant.held.shape)
     (subst (λ (n : ℕ). IsFitting c.self.inside.shape.objects n reply) (sym c.self.invariant.counts.commit_is) (fitting who t reply fine))
@@ -38,7 +38,7 @@ pub take_reply-requires-clause-awaited : goal.take_reply-requires-clause-awaited
 take_reply-requires-clause-awaited c =
     let who = who_is c.self.inside in
     let t = reverse c.self.inside.events.items in
-    let reply = c.args.reply.now in
+    let reply = c.args.reply in
     let fine : IsFine who t reply = subst (λ (v : ClientView). IsFine v.who v.events reply) (sym c.self.view_is) c.in_ok-look_at.ensures.ok in
     awaits_one who t reply c.self.inside.versions c.self.inside.pending c.self.inside.awaited.items c.self.inside.sessions c.self.inside.made c.self.inside.told c.self.inside.joined c.self.invariant fine
 
@@ -46,13 +46,13 @@ pub invariant_of-self-2 : goal.invariant_of-self-2
 invariant_of-self-2 c =
     let who = who_is c.self.inside in
     let t = reverse c.self.inside.events.items in
-    let reply = c.args.reply.now in
+    let reply = c.args.reply in
     let fine : IsFine who t reply = subst (λ (v : ClientView). IsFine v.who v.events reply) (sym c.self.view_is) c.in_ok-look_at.ensures.ok in
     let taken : IsTaken who t reply c.in_ok-done.done c.take_reply.new.versions c.take_reply.new.pending c.take_reply.new.awaited.items c.take_reply.new.told = c.in_ok-done.ensures.ok who t c.self.inside.sessions c.self.inside.made c.self.inside.joined c.self.invariant fine in
     let count = sessions_are who t reply c.self.inside.versions c.self.inside.pending c.self.inside.awaited.items c.self.inside.sessions c.self.inside.made c.self.inside.told c.self.inside.joined c.self.invariant fine in
-    let event = got_event c.self.inside.sessions t reply c.in_ok-copy.copy count c.in_ok-copy.ensures in
+    let event = got_event c.self.inside.sessions t reply count in
     let all = reverse_push c.self.inside.events.items c.push_reserved.new.self.items (got_now t reply)
-    (c.push_reserved.ensures.items ∙ ap (λ (es : List Event). es ++ events.Got (c.self.inside.sessions - 1) c.in_ok-copy.copy ∷ []) c.in_ok-reserve.ensures.items ∙ ap (λ (e : Event). c.self.inside.events.items ++ e ∷ []) event) in
+    (c.push_reserved.ensures.items ∙ ap (λ (es : List Event). es ++ events.Got (c.self.inside.sessions - 1) reply ∷ []) c.in_ok-reserve.ensures.items ∙ ap (λ (e : Event). c.self.inside.events.items ++ e ∷ []) event) in
     subst (λ (es : List Event). IsClientOf who es c.take_reply.new.versions c.take_reply.new.pending c.take_reply.new.awaited.items c.self.inside.sessions c.self.inside.made c.take_reply.new.told c.self.inside.joined) (sym all)
     (got_keeps who t reply c.self.inside.versions c.self.inside.pending c.self.inside.awaited.items c.take_reply.new.awaited.items c.self.inside.sessions c.self.inside.made c.self.inside.told c.take_reply.new.told c.self.inside.joined c.take_reply.new.versions c.take_reply.new.pending c.self.invariant taken.fine taken.held taken.actions taken.awaited taken.commit_is)
 
@@ -60,7 +60,7 @@ pub returns-clause-done : goal.returns-clause-done
 returns-clause-done c =
     let who = who_is c.self.inside in
     let t = reverse c.self.inside.events.items in
-    let reply = c.args.reply.now in
+    let reply = c.args.reply in
     let fine : IsFine who t reply = subst (λ (v : ClientView). IsFine v.who v.events reply) (sym c.self.view_is) c.in_ok-look_at.ensures.ok in
     let taken : IsTaken who t reply c.in_ok-done.done c.take_reply.new.versions c.take_reply.new.pending c.take_reply.new.awaited.items c.take_reply.new.told = c.in_ok-done.ensures.ok who t c.self.inside.sessions c.self.inside.made c.self.inside.joined c.self.invariant fine in
     rw (← c.self.view_is) taken.asked
@@ -69,7 +69,7 @@ pub returns-clause-fine : goal.returns-clause-fine
 returns-clause-fine c =
     let who = who_is c.self.inside in
     let t = reverse c.self.inside.events.items in
-    let reply = c.args.reply.now in
+    let reply = c.args.reply in
     let fine : IsFine who t reply = subst (λ (v : ClientView). IsFine v.who v.events reply) (sym c.self.view_is) c.in_ok-look_at.ensures.ok in
     let taken : IsTaken who t reply c.in_ok-done.done c.take_reply.new.versions c.take_reply.new.pending c.take_reply.new.awaited.items c.take_reply.new.told = c.in_ok-done.ensures.ok who t c.self.inside.sessions c.self.inside.made c.self.inside.joined c.self.invariant fine in
     rw (← c.self.view_is) taken.fine
@@ -78,45 +78,45 @@ pub returns-clause-got : goal.returns-clause-got
 returns-clause-got c =
     let who = who_is c.self.inside in
     let t = reverse c.self.inside.events.items in
-    let reply = c.args.reply.now in
+    let reply = c.args.reply in
     let fine : IsFine who t reply = subst (λ (v : ClientView). IsFine v.who v.events reply) (sym c.self.view_is) c.in_ok-look_at.ensures.ok in
     let count = sessions_are who t reply c.self.inside.versions c.self.inside.pending c.self.inside.awaited.items c.self.inside.sessions c.self.inside.made c.self.inside.told c.self.inside.joined c.self.invariant fine in
-    let event = got_event c.self.inside.sessions t reply c.in_ok-copy.copy count c.in_ok-copy.ensures in
+    let event = got_event c.self.inside.sessions t reply count in
     let all = reverse_push c.self.inside.events.items c.push_reserved.new.self.items (got_now t reply)
-    (c.push_reserved.ensures.items ∙ ap (λ (es : List Event). es ++ events.Got (c.self.inside.sessions - 1) c.in_ok-copy.copy ∷ []) c.in_ok-reserve.ensures.items ∙ ap (λ (e : Event). c.self.inside.events.items ++ e ∷ []) event) in
+    (c.push_reserved.ensures.items ∙ ap (λ (es : List Event). es ++ events.Got (c.self.inside.sessions - 1) reply ∷ []) c.in_ok-reserve.ensures.items ∙ ap (λ (e : Event). c.self.inside.events.items ++ e ∷ []) event) in
     all ∙ ap (λ (v : ClientView). got_now v.events reply ∷ v.events) c.self.view_is
 
 pub returns-clause-kept : goal.returns-clause-kept
 returns-clause-kept c =
     let who = who_is c.self.inside in
     let t = reverse c.self.inside.events.items in
-    let reply = c.args.reply.now in
+    let reply = c.args.reply in
     let fine : IsFine who t reply = subst (λ (v : ClientView). IsFine v.who v.events reply) (sym c.self.view_is) c.in_ok-look_at.ensures.ok in
     let taken : IsTaken who t reply c.in_ok-done.done c.take_reply.new.versions c.take_reply.new.pending c.take_reply.new.awaited.items c.take_reply.new.told = c.in_ok-done.ensures.ok who t c.self.inside.sessions c.self.inside.made c.self.inside.joined c.self.invariant fine in
     let count = sessions_are who t reply c.self.inside.versions c.self.inside.pending c.self.inside.awaited.items c.self.inside.sessions c.self.inside.made c.self.inside.told c.self.inside.joined c.self.invariant fine in
-    let event = got_event c.self.inside.sessions t reply c.in_ok-copy.copy count c.in_ok-copy.ensures in
+    let event = got_event c.self.inside.sessions t reply count in
     let all = reverse_push c.self.inside.events.items c.push_reserved.new.self.items (got_now t reply)
-    (c.push_reserved.ensures.items ∙ ap (λ (es : List Event). es ++ events.Got (c.self.inside.sessions - 1) c.in_ok-copy.copy ∷ []) c.in_ok-reserve.ensures.items ∙ ap (λ (e : Event). c.self.inside.events.items ++ e ∷ []) event) in
+    (c.push_reserved.ensures.items ∙ ap (λ (es : List Event). es ++ events.Got (c.self.inside.sessions - 1) reply ∷ []) c.in_ok-reserve.ensures.items ∙ ap (λ (e : Event). c.self.inside.events.items ++ e ∷ []) event) in
     subst (λ (es : List Event). AnswersAbove (told es) c.take_reply.new.versions.held (held_of es)) (sym all) taken.held.answers
 
 pub returns-clause-few : goal.returns-clause-few
 returns-clause-few c =
     let who = who_is c.self.inside in
     let t = reverse c.self.inside.events.items in
-    let reply = c.args.reply.now in
+    let reply = c.args.reply in
     let fine : IsFine who t reply = subst (λ (v : ClientView). IsFine v.who v.events reply) (sym c.self.view_is) c.in_ok-look_at.ensures.ok in
     let taken : IsTaken who t reply c.in_ok-done.done c.take_reply.new.versions c.take_reply.new.pending c.take_reply.new.awaited.items c.take_reply.new.told = c.in_ok-done.ensures.ok who t c.self.inside.sessions c.self.inside.made c.self.inside.joined c.self.invariant fine in
     let count = sessions_are who t reply c.self.inside.versions c.self.inside.pending c.self.inside.awaited.items c.self.inside.sessions c.self.inside.made c.self.inside.told c.self.inside.joined c.self.invariant fine in
-    let event = got_event c.self.inside.sessions t reply c.in_ok-copy.copy count c.in_ok-copy.ensures in
+    let event = got_event c.self.inside.sessions t reply count in
     let all = reverse_push c.self.inside.events.items c.push_reserved.new.self.items (got_now t reply)
-    (c.push_reserved.ensures.items ∙ ap (λ (es : List Event). es ++ events.Got (c.self.inside.sessions - 1) c.in_ok-copy.copy ∷ []) c.in_ok-reserve.ensures.items ∙ ap (λ (e : Event). c.self.inside.events.items ++ e ∷ []) event) in
+    (c.push_reserved.ensures.items ∙ ap (λ (es : List Event). es ++ events.Got (c.self.inside.sessions - 1) reply ∷ []) c.in_ok-reserve.ensures.items ∙ ap (λ (e : Event). c.self.inside.events.items ++ e ∷ []) event) in
     subst (λ (es : List Event). (x : ℕ) → count_up_to c.take_reply.new.versions.held x (told es) ≤ 1) (sym all) taken.held.few
 
 pub returns-in_err-done-clause-fault : goal.returns-in_err-done-clause-fault
 returns-in_err-done-clause-fault c =
     let who = who_is c.self.inside in
     let t = reverse c.self.inside.events.items in
-    let reply = c.args.reply.now in
+    let reply = c.args.reply in
     let fine : IsFine who t reply = subst (λ (v : ClientView). IsFine v.who v.events reply) (sym c.self.view_is) c.in_ok-look_at.ensures.ok in
     let failed = err_from_is_err_and c.from_residual-in_err-done.result c.from_residual-in_err-done.ensures.1 in
     rw (failed.1, failed.2)

@@ -9,10 +9,10 @@ pub returns-in_err-answer-clause-taken : goal.returns-in_err-answer-clause-taken
 returns-in_err-answer-clause-taken g c =
     let p = c.self.inside.client in
     subst (λ (v : ClientView). HasTaken v c.take.new.self) c.self.view_is
-    (got_then p c.take.new.self c.take.new.self (latest_session p.events) c.args.reply.now c.in_ok-done.ensures.who c.in_ok-done.ensures.got refl)
+    (got_then p c.take.new.self c.take.new.self (latest_session p.events) c.args.reply c.in_ok-done.ensures.who c.in_ok-done.ensures.got refl)
 
 pub returns-clause-taken : goal.returns-clause-taken
 returns-clause-taken g c =
     let p = c.self.inside.client in
     subst (λ (v : ClientView). HasTaken v c.tell.new.self) c.self.view_is
-    (got_then p c.take.new.self c.tell.new.self (latest_session p.events) c.args.reply.now c.in_ok-done.ensures.who c.in_ok-done.ensures.got c.tell.ensures.same)
+    (got_then p c.take.new.self c.tell.new.self (latest_session p.events) c.args.reply c.in_ok-done.ensures.who c.in_ok-done.ensures.got c.tell.ensures.same)

@@ -7,11 +7,11 @@ use Rattle.sv_player.proofs.playing.Player.take.Goals as goal
 pub tell-requires-clause-changes : goal.tell-requires-clause-changes
 tell-requires-clause-changes g c =
     let p = c.args.self.now in
-    event_changes p c.requires.going c.take.new.self (got_now p.client.events c.args.reply.now) c.in_ok-done.ensures.who c.in_ok-done.ensures.got
-    c.args.watch.now.shape c.requires.watch (record { current = latest_is p.client.who p.client.events c.args.reply.now c.in_ok-done.ensures.fine; taken = c.in_ok-done.ensures.fine })
+    event_changes p c.requires.going c.take.new.self (got_now p.client.events c.args.reply) c.in_ok-done.ensures.who c.in_ok-done.ensures.got
+    c.args.watch.now.shape c.requires.watch (record { current = latest_is p.client.who p.client.events c.args.reply c.in_ok-done.ensures.fine; taken = c.in_ok-done.ensures.fine })
 
 pub returns-clause-ok : goal.returns-clause-ok
 returns-clause-ok g c =
     let p = c.args.self.now in
-    did_told p c.requires.going c.take.new.self (got_now p.client.events c.args.reply.now) c.in_ok-done.ensures.who c.in_ok-done.ensures.got
+    did_told p c.requires.going c.take.new.self (got_now p.client.events c.args.reply) c.in_ok-done.ensures.who c.in_ok-done.ensures.got
     p.left.now c.tell.new.self c.tell.ensures.same.0 c.tell.ensures.same.1 c.tell.ensures.same.3 c.tell.ensures.same.2 c.in_ok-tell.ensures.told c.in_ok-tell.ensures.seen c.tell.ensures.count

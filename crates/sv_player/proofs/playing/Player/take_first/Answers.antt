@@ -54,7 +54,7 @@ returns-in-Ok-clause-received g c =
     let s = latest_session p.client.events in
     let mid : Buffers = record { reader = c.skip.new.self; outbox = b.outbox } in
     answer_goes s c.in_ok-reply.reply p c.take.new.self b end c.requires.at c.requires.here c.in_ok-reply.ensures.reply (λ e. c.requires.flushed) c.in-Ok.ensures.fine c.in-Ok.ensures.ok c.in-Ok.done
-    c.in-Ok.ensures.done mid c.answer.new.buffers (g.E.End.told c.answer.new.end) c.skip.ensures refl c.is_bye.result c.is_bye.ensures c.answer.ensures.reader
+    c.in-Ok.ensures.done mid c.answer.new.buffers (g.E.End.told c.answer.new.end) c.skip.ensures refl c.is_bye-bye.result c.is_bye-bye.ensures c.answer.ensures.reader
     c.in_ok-answer-in-Ok.ensures.posted c.in_ok-answer-in-Ok.ensures.are_messages c.answer.ensures.quiet
 
 pub returns-in-Err-Memory-clause-received : goal.returns-in-Err-Memory-clause-received
