@@ -1,24 +1,8 @@
 //! Calls of the checker over files in memory.
 use std::alloc::{AllocError, Global};
 use sv_audit::run_check;
-use sv_bytes::{MemFiles, MemSink};
 use test_calls::examples::{CONFLICT, CONFLICT_REPORT, FIRST, FIRST_REPORT, LOOKS, LOOKS_REPORT};
-use test_calls::{Command, Printed, answered, files};
-
-/// The call that checks reports.
-pub struct Audit;
-
-impl Command for Audit {
-    fn run(
-        alloc: Global,
-        words: &[String],
-        files: &mut MemFiles,
-        out: &mut MemSink,
-        err: &mut MemSink,
-    ) -> u8 {
-        run_check(alloc, words, files, out, err)
-    }
-}
+use test_calls::{Printed, call, files};
 
 /// Three scenarios and their reports, and one that is no scenario.
 pub const FILES: [(&str, &str); 7] = [
@@ -34,5 +18,5 @@ pub const FILES: [(&str, &str); 7] = [
 /// The checker's answer to a line of words.
 pub fn called(alloc: Global, line: &str) -> Result<Printed, AllocError> {
     let files = files(alloc, &FILES)?;
-    answered::<Audit>(alloc, line, files)
+    call(run_check, alloc, line, files, Printed::nothing(alloc)?)
 }

@@ -1,10 +1,11 @@
 //! What the checker answers to words, files and outputs.
-use crate::calls::{Audit, FILES, called};
+use crate::calls::{FILES, called};
 use std::alloc::{AllocError, Global};
 use std::test::Fail;
+use sv_audit::run_check;
 use sv_bytes::MemFiles;
 use test_calls::examples::FIRST;
-use test_calls::{Cut, answered, files, is_cut_short};
+use test_calls::{Printed, call, files};
 
 const CHECK_WORDS: &str = "words: check SCENARIO REPORT\n";
 
@@ -110,10 +111,17 @@ fn the_file_whose_reading_failed_is_named(rt: HostRuntime) -> Result<(), Fail> {
         (5, "file: first.out\n"),
         (6, "file: first.out\n"),
     ];
-    for (call, err) in named {
-        let files = failing(rt.alloc(), call)?;
-        let printed = answered::<Audit>(rt.alloc(), "check first.json first.out", files)?;
-        assert!(&rt; printed.is(4, "", err), "call {call}");
+    for (number, err) in named {
+        let files = failing(rt.alloc(), number)?;
+        let printed = Printed::nothing(rt.alloc())?;
+        let printed = call(
+            run_check,
+            rt.alloc(),
+            "check first.json first.out",
+            files,
+            printed,
+        )?;
+        assert!(&rt; printed.is(4, "", err), "call {number}");
     }
     Ok(())
 }
@@ -125,12 +133,9 @@ fn failing_outputs_are_told(rt: HostRuntime) -> Result<(), Fail> {
         "why conflict.json conflict.out 0 2",
     ] {
         let files = files(rt.alloc(), &FILES)?;
-        let cut = Cut {
-            step: 1_000,
-            call: 1,
-        };
-        let is_so = is_cut_short::<Audit>(rt.alloc(), line, files, cut, "")?;
-        assert!(&rt; is_so, "{line}");
+        let printed = Printed::cut(rt.alloc(), 1_000, 1)?;
+        let printed = call(run_check, rt.alloc(), line, files, printed)?;
+        assert!(&rt; printed.is(5, "", "out\n"), "{line}");
     }
     Ok(())
 }
@@ -158,7 +163,14 @@ fn with_too_long(alloc: Global) -> Result<MemFiles, AllocError> {
 #[test]
 fn too_long_reports_have_no_line(rt: HostRuntime) -> Result<(), Fail> {
     let files = with_too_long(rt.alloc())?;
-    let printed = answered::<Audit>(rt.alloc(), "check first.json long", files)?;
+    let printed = Printed::nothing(rt.alloc())?;
+    let printed = call(
+        run_check,
+        rt.alloc(),
+        "check first.json long",
+        files,
+        printed,
+    )?;
     assert!(&rt; printed.is(9, "", "wrong line 0\n"));
     Ok(())
 }

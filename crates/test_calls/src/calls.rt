@@ -23,6 +23,21 @@ impl Printed {
         })
     }
 
+    /// The same with an output that takes at most so many bytes at a time, and whose call of this number fails.
+    pub fn cut(alloc: Global, step: usize, call: u64) -> Result<Printed, AllocError> {
+        let mut printed = Printed::nothing(alloc)?;
+        printed.out.take_at_most(step.max(1));
+        printed.out.fail_at(call)?;
+        Ok(printed)
+    }
+
+    /// The same where no line can be written beside the output.
+    pub fn untold(alloc: Global) -> Result<Printed, AllocError> {
+        let mut printed = Printed::nothing(alloc)?;
+        printed.err.fail_at(1)?;
+        Ok(printed)
+    }
+
     /// Whether it is this status, with just these outputs.
     pub fn has(&self, status: u8, out: &str, err: &str) -> bool {
         self.status == status
@@ -36,18 +51,6 @@ impl Printed {
         drop(self);
         is_so
     }
-}
-
-/// A command that needs no more than files and outputs.
-pub trait Command {
-    /// Its status for these words.
-    fn run(
-        alloc: Global,
-        words: &[String],
-        files: &mut MemFiles,
-        out: &mut MemSink,
-        err: &mut MemSink,
-    ) -> u8;
 }
 
 pub fn words(alloc: Global, line: &str) -> Result<Vec<String>, AllocError> {
@@ -67,20 +70,32 @@ pub fn files(alloc: Global, named: &[(&str, &str)]) -> Result<MemFiles, AllocErr
     Ok(files)
 }
 
+/// The same files with short reads, of which the call of this number fails.
+pub fn unread(mut files: MemFiles, call: u64) -> Result<MemFiles, AllocError> {
+    files.fail_at(call)?;
+    files.give_at_most(40);
+    Ok(files)
+}
+
 /// The file `a` with this text.
 pub fn held(alloc: Global, text: &str) -> Result<MemFiles, AllocError> {
     files(alloc, &[("a", text)])
 }
 
-/// Calls a command with a line of words, and lets the files go. What it prints comes behind what was printed.
-pub fn call<C: Command>(
+/// Calls a command that needs no more than files and outputs, and lets the files go. What it prints comes behind what was printed.
+pub fn call<C>(
+    command: C,
     alloc: Global,
     line: &str,
     mut files: MemFiles,
-    printed: &mut Printed,
-) -> Result<(), AllocError> {
+    mut printed: Printed,
+) -> Result<Printed, AllocError>
+where
+    C: Fn(Global, &[String], &mut MemFiles, &mut MemSink, &mut MemSink) -> u8,
+    requires { C.IsAlwaysCallable command }
+{
     let words = words(alloc, line)?;
-    let status = C::run(
+    let status = command(
         alloc,
         &words,
         &mut files,
@@ -89,16 +104,5 @@ pub fn call<C: Command>(
     );
     printed.status = status;
     drop(files);
-    Ok(())
-}
-
-/// The answer of a command to a line of words, over these files.
-pub fn answered<C: Command>(
-    alloc: Global,
-    line: &str,
-    files: MemFiles,
-) -> Result<Printed, AllocError> {
-    let mut printed = Printed::nothing(alloc)?;
-    call::<C>(alloc, line, files, &mut printed)?;
     Ok(printed)
 }

@@ -5,9 +5,7 @@
 mod calls;
 mod ends;
 pub mod examples;
-mod faults;
 pub mod scenarios;
 
-pub use calls::{Command, Printed, answered, files, held, words};
+pub use calls::{Printed, call, files, held, unread, words};
 pub use ends::ScriptEnd;
-pub use faults::{Cut, is_cut_short, is_unread, keeps_status};

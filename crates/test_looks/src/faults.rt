@@ -1,8 +1,9 @@
 //! Words, files and outputs that fail.
-use crate::calls::{Looks, called};
+use crate::calls::called;
 use std::test::Fail;
+use sv_snapshot::run_looks;
 use test_calls::scenarios::LOOK;
-use test_calls::{Cut, held, is_cut_short, is_unread, keeps_status};
+use test_calls::{Printed, call, held, unread};
 
 const WORDS_LINE: &str = "words: looks FILE\n";
 
@@ -33,15 +34,15 @@ fn calls_are_answered(rt: HostRuntime) -> Result<(), Fail> {
 
 #[test]
 fn failing_outputs_are_told(rt: HostRuntime) -> Result<(), Fail> {
-    for (step, call, front) in [
+    for (step, failing, front) in [
         (100, 1, ""),
         (5, 2, "look "),
         (11, 3, "look c0 1 at 1 [0=(5)]"),
     ] {
         let files = held(rt.alloc(), LOOK)?;
-        let cut = Cut { step, call };
-        let is_so = is_cut_short::<Looks>(rt.alloc(), "looks a", files, cut, front)?;
-        assert!(&rt; is_so, "{front}");
+        let printed = Printed::cut(rt.alloc(), step, failing)?;
+        let printed = call(run_looks, rt.alloc(), "looks a", files, printed)?;
+        assert!(&rt; printed.is(5, front, "out\n"), "{front}");
     }
     Ok(())
 }
@@ -49,9 +50,10 @@ fn failing_outputs_are_told(rt: HostRuntime) -> Result<(), Fail> {
 #[test]
 fn failing_files_are_told(rt: HostRuntime) -> Result<(), Fail> {
     for failing in [1, 2, 3] {
-        let files = held(rt.alloc(), LOOK)?;
-        let is_so = is_unread::<Looks>(rt.alloc(), "looks a", files, failing, "file: a\n")?;
-        assert!(&rt; is_so, "{failing}");
+        let files = unread(held(rt.alloc(), LOOK)?, failing)?;
+        let printed = Printed::nothing(rt.alloc())?;
+        let printed = call(run_looks, rt.alloc(), "looks a", files, printed)?;
+        assert!(&rt; printed.is(4, "", "file: a\n"), "{failing}");
     }
     Ok(())
 }
@@ -59,6 +61,8 @@ fn failing_files_are_told(rt: HostRuntime) -> Result<(), Fail> {
 #[test]
 fn a_lost_line_changes_no_status(rt: HostRuntime) -> Result<(), Fail> {
     let files = held(rt.alloc(), LOOK)?;
-    assert!(&rt; keeps_status::<Looks>(rt.alloc(), "looks b", files, 4)?);
+    let printed = Printed::untold(rt.alloc())?;
+    let printed = call(run_looks, rt.alloc(), "looks b", files, printed)?;
+    assert!(&rt; printed.is(4, "", ""));
     Ok(())
 }

@@ -12,6 +12,7 @@ use sv_link::OpenGate;
 use sv_lock::{Pass, SeqLock};
 use sv_sequencer::Sequencer;
 use sv_session::{SessionOut, serve_session};
+use test_asked::locked;
 use test_calls::ScriptEnd;
 
 /// What comes, in pieces, the outcome, and the frames of the replies.
@@ -57,13 +58,7 @@ fn serve<R: Wait>(
     let mut end = ScriptEnd::new(alloc, coming, failing, 0)?;
     end.move_at_most(step);
     let sequencer = opened(alloc)?;
-    let (lock, mut keeper) = match SeqLock::new(alloc, sequencer, 1) {
-        Ok(made) => made,
-        Err((refused, error)) => {
-            drop(refused);
-            return Err(Fail::from(error));
-        }
-    };
+    let (lock, mut keeper) = locked(alloc, sequencer)?;
     let mut pass = lock.split(&mut keeper);
     let served = serve_by(rt, alloc, &lock, &mut pass, end);
     lock.join(&mut keeper, pass);

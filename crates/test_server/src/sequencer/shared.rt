@@ -10,7 +10,7 @@ use std::test::Fail;
 use sv_lock::{Pass, SeqLock};
 use sv_sequencer::Sequencer;
 use sv_wire::Request;
-use test_asked::{asked_in, check_lines};
+use test_asked::{asked_in, check_lines, locked};
 
 /// One request that is no End. It tells whether it was answered.
 pub fn call<R: Wait>(
@@ -60,13 +60,7 @@ fn through_a_pass<R: Wait>(
     requires sessions { sequencer.rules.sessions ≡ 4 }
     requires empty { sequencer.journal.entries ≡ [] }
 {
-    let (lock, mut keeper) = match SeqLock::new(alloc, sequencer, 1) {
-        Ok(made) => made,
-        Err((refused, error)) => {
-            drop(refused);
-            return Err(Fail::from(error));
-        }
-    };
+    let (lock, mut keeper) = locked(alloc, sequencer)?;
     let mut pass = lock.split(&mut keeper);
     let answer = call_all(rt, alloc, &lock, &mut pass, lines);
     lock.join(&mut keeper, pass);
