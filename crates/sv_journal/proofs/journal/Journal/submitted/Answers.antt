@@ -11,8 +11,8 @@ index-requires c =
     let seen = ap (λ (v : JournalView). length (accepted (reverse v.entries))) c.self.view_is in
     omega (arith, c.requires.first, c.requires.last, seen, a.accepted.ok.0, ap length c.self.invariant.0.places, places_count (reverse a.entries.items))
 
-pub index-requires-entry : goal.index-requires-entry
-index-requires-entry c =
+pub index-entry-requires : goal.index-entry-requires
+index-entry-requires c =
     let a = c.self.inside in
     let seen = ap (λ (v : JournalView). length (accepted (reverse v.entries))) c.self.view_is in
     let row = c.index.result.now in
