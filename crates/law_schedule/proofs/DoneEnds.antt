@@ -22,9 +22,11 @@ use Rattle.law_schedule.specs.Serving.{Run, after_clients}
 use Rattle.law_schedule.specs.Schedule.{rules_of, plain_server, round, after_sessions}
 use Rattle.law_schedule.specs.Sound.{IsPlaying, ArePlaying, IsSound}
 use Rattle.sv_system.specs.Records.{ends_in}
+use Rattle.sv_system.proofs.Places.{unmap_at}
+use Rattle.sv_system.proofs.Every.{each-at, each-place}
 use Rattle.law_schedule.specs.Done.{IsRunDone}
 use Rattle.law_schedule.proofs.DoneGiven.{StaySound}
-use Rattle.law_schedule.proofs.DoneLists.{repeated-sum, repeated-still, map-from, any-there, each-found, each-from}
+use Rattle.law_schedule.proofs.DoneLists.{repeated-sum, repeated-still, any-there}
 use Rattle.law_schedule.proofs.DoneSessions.{quiet-round}
 use Rattle.law_schedule.proofs.DoneStill.{round-still}
 use Rattle.law_schedule.proofs.DoneFacts.{following}
@@ -88,7 +90,7 @@ was-joined scenario good run sound closed s l =
     let o = owner scenario.world.shape 0 0 scenario.clients run.players s sound.players (omega arith) (omega (arith, l)) in
     let p = o.player in
     let f = following scenario good run sound o.place p o.at in
-    let plan = each-found (IsGoodPlan scenario.world.shape) scenario.clients o.place o.plan good.plans o.there in
+    let plan = each-at (IsGoodPlan scenario.world.shape) scenario.clients o.place o.plan good.plans o.there in
     let finished = o.playing.closed (closed o.place p o.at) in
     let none = none-left p.who p.first o.plan.steps p.events o.playing.before f.proper plan.quit o.playing.follows finished in
     let all = all-joined p.who o.plan.steps p.events o.playing.before o.playing.follows (finished-joined p.events finished) none in
@@ -104,21 +106,21 @@ closed-by p s c j =
 round-closed : (r : Rules) (run : Run) → AreClosed run → AreClosed (round r run)
 round-closed r run closed i q at =
     let h = (after_sessions r (after_clients run)).history in
-    let m = map-from (take_turns h) (map player_turn run.players) i q at in
-    let k = map-from player_turn run.players i m.0 m.1.0 in
-    ap (λ (x : Player). x.closed) (m.1.1 ∙ ap (take_turns h) k.1.1) ∙ stays-closed h k.0 (closed i k.0 k.1.0)
+    let m = unmap_at (take_turns h) (map player_turn run.players) i q at in
+    let k = unmap_at player_turn run.players i m.0 m.1 in
+    ap (λ (x : Player). x.closed) (sym m.2 ∙ ap (take_turns h) (sym k.2)) ∙ stays-closed h k.0 (closed i k.0 k.1)
 
 clients-closed : (run : Run) → AreClosed run → AreClosed (after_clients run)
 clients-closed run closed i q at =
-    let k = map-from player_turn run.players i q at in
-    ap (λ (x : Player). x.closed) (k.1.1 ∙ turn-closed k.0 (closed i k.0 k.1.0)) ∙ closed i k.0 k.1.0
+    let k = unmap_at player_turn run.players i q at in
+    ap (λ (x : Player). x.closed) (sym k.2 ∙ turn-closed k.0 (closed i k.0 k.1)) ∙ closed i k.0 k.1
 
 -- Then a round ends all sessions.
 pub closed-done : (scenario : Scenario) → IsGoodScenario scenario → StaySound scenario → (run : Run) → IsGoing scenario run → AreClosed run →
     IsRunDone scenario (round (rules_of scenario) run)
 closed-done scenario good stay run g closed = record {
   closed = All-from_recursion (λ (p : Player). p.closed ≡ true) (round (rules_of scenario) run).players
-      (each-from (λ (p : Player). p.closed ≡ true) (round (rules_of scenario) run).players (round-closed (rules_of scenario) run closed));
+      (each-place (λ (p : Player). p.closed ≡ true) (round (rules_of scenario) run).players (round-closed (rules_of scenario) run closed));
   ended = λ s l.
       let clients = after_clients run in
       let w = was-joined scenario good clients (going-clients scenario good stay run g).sound (clients-closed run closed) s l in

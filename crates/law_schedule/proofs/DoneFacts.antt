@@ -22,11 +22,12 @@ use Rattle.sv_system.specs.Fronts.{IsFront}
 use Rattle.sv_system.specs.Fits.{requests_in, replies_in, IsEndLast, is_join_of, FitsOne, AreApart, AreAllApart}
 use Rattle.sv_system.proofs.Asked.{any-reverse}
 use Rattle.sv_system.specs.Laws.{NeverRefused}
+use Rattle.sv_system.proofs.Places.{map_at}
+use Rattle.sv_system.proofs.Every.{each-at}
 use Rattle.law_schedule.specs.Players.{Player, trace_of_player}
 use Rattle.law_schedule.specs.Serving.{Run, traces_of}
 use Rattle.law_schedule.specs.Schedule.{rules_of}
 use Rattle.law_schedule.specs.Sound.{AreStepsLeft, IsPlaying, ArePlaying, IsSound}
-use Rattle.law_schedule.proofs.DoneLists.{map-here, each-found}
 
 -- ---- The player's plan
 
@@ -100,10 +101,10 @@ module _ (scenario : Scenario) (good : IsGoodScenario scenario) (run : Run) (sou
   who-is = same-who shape p shape-is
 
   pub trace-at : slice_get (traces_of run) i ≡ Some (trace_of_player p)
-  trace-at = map-here trace_of_player run.players i p at
+  trace-at = map_at trace_of_player run.players i p at
 
   fit : FitsOne shape run.history (trace_of_player p)
-  fit = each-found (FitsOne shape run.history) (traces_of run) i (trace_of_player p) (recursion_from_All (FitsOne shape run.history) (traces_of run) sound.fits.each) trace-at
+  fit = each-at (FitsOne shape run.history) (traces_of run) i (trace_of_player p) (recursion_from_All (FitsOne shape run.history) (traces_of run) sound.fits.each) trace-at
 
   proper-now : AreProper p.who p.first p.events
   proper-now =
@@ -121,7 +122,7 @@ module _ (scenario : Scenario) (good : IsGoodScenario scenario) (run : Run) (sou
 
   pub following : IsFollowing scenario run.history p
   following =
-      let plan = each-found (IsGoodPlan shape) scenario.clients i plays.plan good.plans plays.there in
+      let plan = each-at (IsGoodPlan shape) scenario.clients i plays.plan good.plans plays.there in
       let play = plays.playing in
       let low = plays.within in
       let same = play.first in
@@ -164,12 +165,12 @@ one-owner [] i j p q s a e f x y = absurd (none-some p e)
 one-owner (o ∷ ps) zero zero p q s a e f x y = sym (same_Some o p e) ∙ same_Some o q f
 one-owner (o ∷ ps) zero (suc j) p q s a e f x y =
     absurd (apart-here o q s
-    (each-found (AreApart (trace_of_player o)) (map trace_of_player ps) j (trace_of_player q)
-    (recursion_from_All (AreApart (trace_of_player o)) (map trace_of_player ps) a.0) (map-here trace_of_player ps j q f))
+    (each-at (AreApart (trace_of_player o)) (map trace_of_player ps) j (trace_of_player q)
+    (recursion_from_All (AreApart (trace_of_player o)) (map trace_of_player ps) a.0) (map_at trace_of_player ps j q f))
     (subst (λ (r : Player). list_any (is_join_of s) r.events ≡ true) (sym (same_Some o p e)) x) y)
 one-owner (o ∷ ps) (suc i) zero p q s a e f x y =
     absurd (apart-here o p s
-    (each-found (AreApart (trace_of_player o)) (map trace_of_player ps) i (trace_of_player p)
-    (recursion_from_All (AreApart (trace_of_player o)) (map trace_of_player ps) a.0) (map-here trace_of_player ps i p e))
+    (each-at (AreApart (trace_of_player o)) (map trace_of_player ps) i (trace_of_player p)
+    (recursion_from_All (AreApart (trace_of_player o)) (map trace_of_player ps) a.0) (map_at trace_of_player ps i p e))
     (subst (λ (r : Player). list_any (is_join_of s) r.events ≡ true) (sym (same_Some o q f)) y) x)
 one-owner (o ∷ ps) (suc i) (suc j) p q s a e f x y = one-owner ps i j p q s a.1 e f x y

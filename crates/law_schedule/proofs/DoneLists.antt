@@ -1,10 +1,11 @@
 -- Repetition, the places of a list, and tests of its elements.
-use Rattle.std.proofs.Common.{◌≡◌, ℕ, zero, suc, ◌+◌, ◌≤◌, Bool, true, inl, inr, List, [], ◌∷◌, map, length, Some, slice_get, refl, sym, ap, ◌∙◌, subst, arith, true≢false}
-use Rattle.std.specs.List.{list_any, flat_map, AllByRecursion}
+use Rattle.std.proofs.Common.{◌≡◌, ℕ, zero, suc, ◌+◌, ◌≤◌, Bool, true, inl, inr, List, [], ◌∷◌, map, length, Some, slice_get, refl, sym, ap, ◌∙◌, arith, true≢false}
+use Rattle.std.specs.List.{list_any, flat_map}
 use Rattle.std.proofs.lemmas.Bool.{or_cases, or_left, or_right}
 use Rattle.std.proofs.lemmas.List.{length-append}
 use Rattle.std.proofs.lemmas.List.Concat.{flat_map-cons}
 use Rattle.std.proofs.lemmas.Option.{none-some, same_Some}
+use Rattle.sv_system.proofs.Places.{map_at}
 use Rattle.law_schedule.specs.Players.{Player, at_player, repeated}
 
 -- ---- Repetition
@@ -24,29 +25,10 @@ repeated-keeps P f keep (suc n) x h = repeated-keeps P f keep n (f x) (keep x h)
 
 -- ---- Places
 
-pub map-here : {A B : Type 0} (f : A → B) (xs : List A) (k : ℕ) (x : A) → slice_get xs k ≡ Some x → slice_get (map f xs) k ≡ Some (f x)
-map-here f [] k x e = absurd (none-some x e)
-map-here f (y ∷ ys) zero x e = ap (λ z. Some (f z)) (same_Some y x e)
-map-here f (y ∷ ys) (suc k) x e = map-here f ys k x e
-
-pub map-from : {A B : Type 0} (f : A → B) (xs : List A) (k : ℕ) (y : B) → slice_get (map f xs) k ≡ Some y → (x : A) × ((slice_get xs k ≡ Some x) × (y ≡ f x))
-map-from f [] k y e = absurd (none-some y e)
-map-from f (x ∷ xs) zero y e = (x, (refl, sym (same_Some (f x) y e)))
-map-from f (x ∷ xs) (suc k) y e = map-from f xs k y e
-
 pub at-here : (ps : List Player) (k : ℕ) (f : Player → Player) (p : Player) → slice_get ps k ≡ Some p → slice_get (at_player ps k f) k ≡ Some (f p)
 at-here [] k f p e = absurd (none-some p e)
 at-here (q ∷ ps) zero f p e = ap (λ z. Some (f z)) (same_Some q p e)
 at-here (q ∷ ps) (suc k) f p e = at-here ps k f p e
-
-pub each-found : {A : Type 0} (P : A → Type 0) (xs : List A) (k : ℕ) (x : A) → AllByRecursion P xs → slice_get xs k ≡ Some x → P x
-each-found P [] k x h e = absurd (none-some x e)
-each-found P (y ∷ ys) zero x h e = subst P (same_Some y x e) h.0
-each-found P (y ∷ ys) (suc k) x h e = each-found P ys k x h.1 e
-
-pub each-from : {A : Type 0} (P : A → Type 0) (xs : List A) → ((k : ℕ) (x : A) → slice_get xs k ≡ Some x → P x) → AllByRecursion P xs
-each-from P [] f = tt
-each-from P (x ∷ xs) f = (f 0 x refl, each-from P xs (λ k y e. f (suc k) y e))
 
 -- ---- Tests
 
@@ -69,7 +51,7 @@ pub any-mapped : {A B : Type 0} (t : A → Bool) (u : B → Bool) (f : A → B) 
     list_any t xs ≡ true → list_any u (map f xs) ≡ true
 any-mapped t u f xs keep h =
     let g = any-found t xs h in
-    any-there u (map f xs) g.0 (f g.1.0) (map-here f xs g.0 g.1.0 g.1.1.0) (keep g.0 g.1.0 g.1.1.0 g.1.1.1)
+    any-there u (map f xs) g.0 (f g.1.0) (map_at f xs g.0 g.1.0 g.1.1.0) (keep g.0 g.1.0 g.1.1.0 g.1.1.1)
 
 pub any-at : (t : Player → Bool) (f : Player → Player) (ps : List Player) (k : ℕ) → ((p : Player) → slice_get ps k ≡ Some p → t p ≡ true → t (f p) ≡ true) →
     list_any t ps ≡ true → list_any t (at_player ps k f) ≡ true

@@ -13,13 +13,13 @@ use Rattle.sv_scenario.specs.Sessions.{sessions_of_plan}
 use Rattle.sv_script.specs.Following.{FollowsTo, FollowsToEnd, is_finished}
 use Rattle.sv_system.specs.Records.{AreTracesOf, IsRecordOf, ScriptsAreFollowed}
 use Rattle.sv_system.specs.Laws.{NeverRefused}
+use Rattle.sv_system.proofs.Every.{each-at}
 use Rattle.law_schedule.specs.Players.{Player, repeated, trace_of_player}
 use Rattle.law_schedule.specs.Serving.{Run, opening_run, most_rounds, traces_of}
 use Rattle.law_schedule.specs.Schedule.{rules_of, all_turned, round, scheduled_run}
 use Rattle.law_schedule.specs.Sound.{IsPlaying, ArePlaying, IsSound}
 use Rattle.law_schedule.specs.Done.{IsRunDone}
 use Rattle.law_schedule.proofs.DoneGiven.{StaySound}
-use Rattle.law_schedule.proofs.DoneLists.{each-found}
 use Rattle.law_schedule.proofs.DoneFacts.{following, same-who, same-events}
 use Rattle.law_schedule.proofs.DoneRounds.{IsGoing, going-turned, going-rounds}
 use Rattle.law_schedule.proofs.DoneEnds.{was-joined, rounds-done, one-end}
@@ -62,7 +62,7 @@ record-of scenario good run sound done =
       fits = sound.fits;
       sessions = sound.sessions;
       ended = λ s l.
-          let w = was-joined scenario good run sound (λ i p at. each-found (λ (q : Player). q.closed ≡ true) run.players i p closed at) s l in
+          let w = was-joined scenario good run sound (λ i p at. each-at (λ (q : Player). q.closed ≡ true) run.players i p closed at) s l in
           one-end run.history s ((following scenario good run sound w.place w.player w.at).fits s w.joined).ended (done.ended s l);
       clients = traces-of scenario.world.shape 0 0 scenario.clients run.players sound.players;
     }

@@ -15,12 +15,13 @@ use Rattle.sv_scenario.specs.Limits.{IsGoodScenario, IsGoodTurn}
 use Rattle.sv_scenario.specs.Sessions.{cuts_in, session_count}
 use Rattle.sv_script.specs.Following.{must_join, is_welcomed}
 use Rattle.sv_system.specs.Laws.{NeverRefused}
+use Rattle.sv_system.proofs.Places.{map_at, unmap_at}
 use Rattle.law_schedule.specs.Players.{Player, is_settled, has_closed, player_turn, take_turn, take_turns, repeated}
 use Rattle.law_schedule.specs.Serving.{Run, after_clients, after_takes}
 use Rattle.law_schedule.specs.Schedule.{rules_of, turned, all_turned, after_sessions, round}
 use Rattle.law_schedule.specs.Sound.{ArePassed, none, sync, IsSound}
 use Rattle.law_schedule.proofs.DoneGiven.{StaySound}
-use Rattle.law_schedule.proofs.DoneLists.{map-here, map-from, repeated-keeps}
+use Rattle.law_schedule.proofs.DoneLists.{repeated-keeps}
 use Rattle.law_schedule.proofs.DoneDue.{EndsAreDue, due-turn, due-round}
 use Rattle.law_schedule.proofs.DoneFacts.{following}
 use Rattle.law_schedule.proofs.DoneCounts.{one_if, left-less, cuts-less, current-there}
@@ -166,7 +167,7 @@ module _ (scenario : Scenario) (good : IsGoodScenario scenario) (honest : NeverR
   going = going-clients scenario good stay run g
 
   there : slice_get clients.players i ≡ Some turn
-  there = map-here player_turn run.players i p at
+  there = map_at player_turn run.players i p at
 
   waited : (s : ℕ) → IsOpen turn s → HasWaited s turn (take_turns h turn)
   waited s o = has-waited scenario good honest stay clients going.sound going.due i turn there s o
@@ -239,9 +240,9 @@ module _ (scenario : Scenario) (good : IsGoodScenario scenario) (honest : NeverR
   was-there : (run : Run) (i : ℕ) (q : Player) → slice_get (round r run).players i ≡ Some q → WasThere run i q
   was-there run i q at =
       let h = (after_sessions r (after_clients run)).history in
-      let m = map-from (take_turns h) (map player_turn run.players) i q at in
-      let k = map-from player_turn run.players i m.0 m.1.0 in
-      record { before = k.0; at = k.1.0; same = m.1.1 ∙ ap (take_turns h) k.1.1 }
+      let m = unmap_at (take_turns h) (map player_turn run.players) i q at in
+      let k = unmap_at player_turn run.players i m.0 m.1 in
+      record { before = k.0; at = k.1; same = sym m.2 ∙ ap (take_turns h) (sym k.2) }
 
   -- After one round each player has at most 775 to do.
   pub falling-first : (run : Run) → IsGoing scenario run → IsFalling 775 (round r run)

@@ -33,12 +33,13 @@ use Rattle.sv_system.proofs.Asked.{part-rest, asked-part, got-when, got-answers,
 use Rattle.sv_system.proofs.Leaving.{leave-last}
 use Rattle.sv_system.specs.Laws.{NeverRefused}
 use Rattle.sv_system.proofs.Order.{leave-only, never-refused}
+use Rattle.sv_system.proofs.Places.{map_at}
 use Rattle.law_schedule.specs.Players.{Player, open_session, has_closed, take_turns}
 use Rattle.law_schedule.specs.Serving.{Run, is_stop, after_takes}
 use Rattle.law_schedule.specs.Schedule.{rules_of, after_sessions}
 use Rattle.law_schedule.specs.Sound.{IsSound}
 use Rattle.law_schedule.proofs.DoneGiven.{StaySound}
-use Rattle.law_schedule.proofs.DoneLists.{map-here, any-found, piece-shorter}
+use Rattle.law_schedule.proofs.DoneLists.{any-found, piece-shorter}
 use Rattle.law_schedule.proofs.DoneSessions.{is_spent, IsQuiet, quiet-round}
 use Rattle.law_schedule.proofs.DoneDue.{EndsAreDue, due-round}
 use Rattle.law_schedule.proofs.DoneFacts.{IsFollowing, IsFit, following, one-owner}
@@ -168,7 +169,7 @@ module _ (scenario : Scenario) (good : IsGoodScenario scenario) (honest : NeverR
   now = record p { events = taken.events }
 
   there : slice_get (after_takes stepped).players i ≡ Some now
-  there = map-here (take_turns h) run.players i p at ∙ ap Some taken.same
+  there = map_at (take_turns h) run.players i p at ∙ ap Some taken.same
 
   facts : IsFollowing scenario h now
   facts = following scenario good (after_takes stepped) (stay.takes stepped sound-after) i now there

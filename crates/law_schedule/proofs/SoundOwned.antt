@@ -22,12 +22,13 @@ use Rattle.sv_client.specs.Traces.{current_session, is_session, pending_of, held
 use Rattle.sv_scenario.specs.declared.scenario.Scenario.{Scenario}
 use Rattle.sv_scenario.specs.Limits.{IsGoodScenario}
 use Rattle.sv_system.specs.Fits.{requests_in, AreApart, AreAllApart}
-use Rattle.sv_system.proofs.Every.{each-if, each-append}
+use Rattle.sv_system.proofs.Every.{each-if, each-append, each-at}
+use Rattle.sv_system.proofs.Places.{map_at}
 use Rattle.law_schedule.specs.Players.{Player, trace_of_player}
 use Rattle.law_schedule.specs.Serving.{Run, Server}
 use Rattle.law_schedule.specs.Sound.{has_joined}
 use Rattle.law_schedule.specs.Served.{AreHeard, HearsJoins, IsSoundOver}
-use Rattle.law_schedule.proofs.DoneLists.{map-here, each-found, any-found}
+use Rattle.law_schedule.proofs.DoneLists.{any-found}
 use Rattle.law_schedule.proofs.SoundCalls.{player-at}
 
 -- ---- A client joins as itself alone
@@ -121,7 +122,7 @@ client-heard server hears p (e ∷ h) s k heard c = go (client_of h s) refl (λ 
     go None is earlier =
         let now = joins-now e s k (client_of h s) is c in
         let one = heard.0 (and_from (e.session == s) (not (is_end e.request)) (eq-eqb e.session s now.0) (not_from_false (is_end e.request) now.1.0)) in
-        let joins = each-found (JoinsAs p.who.client.0) (asked p.who.client p.who.interest p.events s) (length (requests_in h s)) one.request
+        let joins = each-at (JoinsAs p.who.client.0) (asked p.who.client p.who.interest p.events s) (length (requests_in h s)) one.request
         (trace-joins p.who.client p.who.interest p.events s) one.next in
         joins k (sym (hears h s one.request) ∙ ap joining (sym one.heard) ∙ now.1.1)
 
@@ -131,12 +132,12 @@ one-client : (ps : List Player) (i j : ℕ) (p q : Player) → AreAllApart (map 
 one-client [] i j p q a e f same = absurd (none-some p e)
 one-client (o ∷ ps) zero zero p q a e f same = sym (same_Some o p e) ∙ same_Some o q f
 one-client (o ∷ ps) zero (suc j) p q a e f same =
-    absurd ((each-found (AreApart (trace_of_player o)) (map trace_of_player ps) j (trace_of_player q)
-    (recursion_from_All (AreApart (trace_of_player o)) (map trace_of_player ps) a.0) (map-here trace_of_player ps j q f)).clients
+    absurd ((each-at (AreApart (trace_of_player o)) (map trace_of_player ps) j (trace_of_player q)
+    (recursion_from_All (AreApart (trace_of_player o)) (map trace_of_player ps) a.0) (map_at trace_of_player ps j q f)).clients
     (ap (λ (x : Player). x.who.client) (same_Some o p e) ∙ same))
 one-client (o ∷ ps) (suc i) zero p q a e f same =
-    absurd ((each-found (AreApart (trace_of_player o)) (map trace_of_player ps) i (trace_of_player p)
-    (recursion_from_All (AreApart (trace_of_player o)) (map trace_of_player ps) a.0) (map-here trace_of_player ps i p e)).clients
+    absurd ((each-at (AreApart (trace_of_player o)) (map trace_of_player ps) i (trace_of_player p)
+    (recursion_from_All (AreApart (trace_of_player o)) (map trace_of_player ps) a.0) (map_at trace_of_player ps i p e)).clients
     (ap (λ (x : Player). x.who.client) (same_Some o q f) ∙ sym same))
 one-client (o ∷ ps) (suc i) (suc j) p q a e f same = one-client ps i j p q a.1 e f same
 

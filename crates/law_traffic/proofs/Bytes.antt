@@ -45,7 +45,8 @@ use Rattle.law_traffic.proofs.Messages.{request_frames_both, AreTaken, taken, Ar
 
 -- ---- Outcomes
 
-all_sent : (out : SessionOut) (stream : List ℕ) (answered : List Entry) (sent due : List ℕ) → out ≢ outs.LinkFault → out ≢ outs.Memory → ExplainsOut out stream answered sent due → sent ≡ due
+-- Where the link held and there was memory, all that was due was sent.
+pub all_sent : (out : SessionOut) (stream : List ℕ) (answered : List Entry) (sent due : List ℕ) → out ≢ outs.LinkFault → out ≢ outs.Memory → ExplainsOut out stream answered sent due → sent ≡ due
 all_sent outs.Left stream answered sent due l m e = e.1
 all_sent outs.Closed stream answered sent due l m e = e.1
 all_sent outs.Ended stream answered sent due l m e = e.1
@@ -60,6 +61,7 @@ stop_code false true c x y z reason e = refl
 stop_code false false true x y z reason e = refl
 stop_code false false false x y z reason e = absurd (none-some reason e)
 
+-- A reply for which a loop stops is one of the last replies.
 stops : (A : List Authored) (reply : Logged) (reason : SessionOut) → stop_of reply ≡ Some reason → is_stop_reply (full_reply A reply) ≡ true
 stops A logged.Bye reason e = refl
 stops A (logged.Refused code detail) reason e = stop_code (eqb code 1) (eqb code 4) (eqb code 9) outs.Malformed outs.Ended outs.Spent reason e
@@ -69,6 +71,17 @@ stops A (logged.Dropped seq chain far) reason e = absurd (none-some reason e)
 stops A (logged.Settled seq place) reason e = absurd (none-some reason e)
 stops A (logged.Noted commit) reason e = absurd (none-some reason e)
 stops A logged.Idle reason e = absurd (none-some reason e)
+
+-- The replies to entries of which the last stops a loop end with it.
+pub stopped_by : (journal answered : List Entry) (reason : SessionOut) → StopsFor reason answered → EndsWithStop (full_over journal answered)
+stopped_by journal answered reason f =
+    let A = accepted (reverse journal) in
+    record {
+      before = full_over journal f.before;
+      last = full_reply A f.last.reply;
+      are = ap (full_over journal) f.are ∙ map-append (λ (e : Entry). full_reply A e.reply) f.before (f.last ∷ []);
+      stop = stops A f.last.reply reason f.stop;
+    }
 
 -- ---- The session
 
@@ -177,23 +190,14 @@ module _ (stay : FullRepliesStay) (name : LegalRelaysNameAccepted) (journal : Li
       let none : x.server_faults + x.client_faults ≡ 0 = sym (ap (λ (b : Bool). counted b x.server_faults x.client_faults) open_is) ∙ d.settled.faultless in
       no_fault (omega (arith, none))
 
-  stopped : (reason : SessionOut) → StopsFor reason answered → EndsWithStop all
-  stopped reason f =
-      record {
-        before = full_over journal f.before;
-        last = full_reply (accepted history) f.last.reply;
-        are = ap (full_over journal) f.are ∙ map-append (λ (e : Entry). full_reply (accepted history) e.reply) f.before (f.last ∷ []);
-        stop = stops (accepted history) f.last.reply reason f.stop;
-      }
-
   ending : (out : SessionOut) → out ≢ outs.LinkFault → out ≢ outs.Memory → ExplainsOut out d.served.served.received answered d.served.served.sent (due_frames d.served.after.seen answered) →
       EndsWithStop all ⊎ TookAll (ended_by out false) d.served.served.received steps
   ending outs.Closed l m e =
       inr (record { ended_is = refl; items = came.items ∙ ap (λ (qs : List Request). map Payload (map request_bytes qs)) (sym came.came ∙ sym e.0.all) })
-  ending outs.Left l m e = inl (stopped outs.Left e.0)
-  ending outs.Ended l m e = inl (stopped outs.Ended e.0)
-  ending outs.Malformed l m e = inl (stopped outs.Malformed e.0)
-  ending outs.Spent l m e = inl (stopped outs.Spent e.0)
+  ending outs.Left l m e = inl (stopped_by journal answered outs.Left e.0)
+  ending outs.Ended l m e = inl (stopped_by journal answered outs.Ended e.0)
+  ending outs.Malformed l m e = inl (stopped_by journal answered outs.Malformed e.0)
+  ending outs.Spent l m e = inl (stopped_by journal answered outs.Spent e.0)
   ending outs.LinkFault l m e = absurd (l refl)
   ending outs.Memory l m e = absurd (m refl)
 

@@ -8,5 +8,6 @@ pub mod Counted
 pub mod Owners
 pub mod Sendable
 pub mod Recorded
+pub mod Takeable
 pub mod Stuck
 pub mod Whole

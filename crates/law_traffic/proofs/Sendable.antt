@@ -50,7 +50,7 @@ all_well_done scenario journal sessions (plan ∷ plans) (L ∷ Ls) g p f d =
 
 -- ---- Replies of a session
 
-sendable_in : (A : List Authored) (h : List Entry) (s : ℕ) → AllByRecursion (λ (e : Entry). IsReply (full_reply A e.reply)) h → AllByRecursion IsReply (replies_in A h s)
+pub sendable_in : (A : List Authored) (h : List Entry) (s : ℕ) → AllByRecursion (λ (e : Entry). IsReply (full_reply A e.reply)) h → AllByRecursion IsReply (replies_in A h s)
 sendable_in A [] s all = tt
 sendable_in A (e ∷ h) s all = go (e.session == s && not (is_end e.request)) (sendable_in A h s all.1)
   where

@@ -1,19 +1,17 @@
 -- No client of a run that is done waits at an end that is shut, or for a reply that it does not take.
-use Rattle.std.proofs.Common.{◌≡◌, ◌≢◌, ℕ, true, false, inl, inr, List, [], ◌∷◌, ◌++◌, length, map, reverse, Some, None, slice_get, Ok, refl, sym, ap, subst, ◌∙◌, arith, append-nil, length-append, true≢false}
+use Rattle.std.proofs.Common.{◌≡◌, ◌≢◌, ℕ, true, false, inl, inr, List, [], ◌∷◌, ◌++◌, length, map, reverse, Some, None, slice_get, refl, sym, ap, subst, ◌∙◌, arith, append-nil, length-append, true≢false}
 use Rattle.std.specs.List.{AllByRecursion}
 use Rattle.std.proofs.lemmas.List.{length-map, append_cancel_left}
-use Rattle.std.proofs.lemmas.Option.{none-some, same_Some}
-use mathlib.Core.List.{IsPrefix}
-use Rattle.sv_frame.specs.Frames.{frame, frames_of, FitsFrame, first_frame, too_long}
+use Rattle.std.proofs.lemmas.Option.{none-some}
+use Rattle.sv_frame.specs.Frames.{frames_of, FitsFrame, first_frame, too_long}
 use Rattle.sv_frame.specs.Streams.{incoming_items, too_long_item, StreamItem}
 use Rattle.sv_frame.specs.Streams.StreamItem.{Payload}
-use Rattle.sv_frame.proofs.Fronts.{first_frame-append, first_frame-frame, first_frame-shorter}
+use Rattle.sv_frame.proofs.Fronts.{first_frame-frame}
 use Rattle.sv_frame.proofs.Splitting.{split-all_frames}
 use Rattle.sv_wire.specs.declared.message.Request.{Request}
 use Rattle.sv_wire.specs.declared.message.Request.TheVariants as requests
 use Rattle.sv_wire.specs.declared.message.Reply.{Reply}
 use Rattle.sv_wire.specs.declared.message.Reply.TheVariants as replies
-use Rattle.sv_wire.specs.Messages.{reply_at}
 use Rattle.sv_wire.specs.Spelling.{request_bytes, reply_bytes}
 use Rattle.sv_wire.specs.Laws.{IsReply}
 use Rattle.sv_journal.specs.declared.entry.Entry.{Entry}
@@ -27,52 +25,23 @@ use Rattle.sv_world.specs.declared.world.Shape.{Shape}
 use Rattle.sv_system.proofs.Asked.{got-when, got-answers, part-rest, asked-part}
 use Rattle.sv_system.proofs.Fronts.{get-last}
 use Rattle.sv_system.proofs.Leaving.{leave-last}
-use Rattle.sv_system.proofs.Order.{never-refused}
+use Rattle.sv_system.proofs.Order.{never-refused, leave-only}
 use Rattle.sv_client.specs.declared.trace.Event.TheVariants as events
 use Rattle.sv_system.proofs.Every.{each-right}
 use Rattle.sv_session.specs.declared.outcome.SessionOut.TheVariants as outs
-use Rattle.sv_exchange.proofs.Sizes.{reply_short, reply_back}
+use Rattle.sv_exchange.proofs.Sizes.{reply_short}
 use Rattle.sv_player.specs.Carried.{BeginsWithReplies}
 use Rattle.sv_player.specs.Stops.{NoneCame, is_cut}
 use Rattle.sv_player.specs.Played.{replies_of}
 use Rattle.law_traffic.specs.Sessions.{Over, IsSessionDone}
 use Rattle.law_traffic.specs.Traffic.{reply_frames, is_stop_reply, EndsWithStop, TookAll}
 use Rattle.law_traffic.specs.Stuck.{IsTakeable}
-use Rattle.law_traffic.proofs.Cuts.{front_none, empty_short, not_long}
+use Rattle.law_traffic.proofs.Cuts.{empty_short}
 use Rattle.law_traffic.proofs.Messages.{requests_fit, request_frames_are, reply_frames_both, AreGot, got_first}
 use Rattle.law_traffic.proofs.Bytes.{answered, steps, all, messages, received_part, sent_whole, no_fault_open, how_ended}
+use Rattle.law_traffic.proofs.Takeable.{one_frame, takeable_by}
 
 -- ---- Frames of replies
-
-one_frame : (w : Reply) (ws : List Reply) → reply_frames (w ∷ ws) ≡ frame (reply_bytes w) ++ reply_frames ws
-unfolding reply_frames
-one_frame w ws = refl
-
-no_frames : reply_frames [] ≡ []
-unfolding reply_frames
-no_frames = refl
-
--- The reply that comes next, whose frame a rest begins with.
-record IsNext (more : List Reply) (payload : List ℕ) : Type 0 where
-  pub reply : Reply
-  pub others : List Reply
-  pub are : more ≡ reply ∷ others
-  pub bytes : payload ≡ reply_bytes reply
-
-next_of : (more : List Reply) (rest payload after : List ℕ) → AllByRecursion IsReply more → IsPrefix rest (reply_frames more) → first_frame rest ≡ Some (payload, after) → IsNext more payload
-next_of [] rest payload after fine p first =
-    let longer = first_frame-shorter (rest ++ p.0) payload (after ++ p.0) (first_frame-append rest p.0 payload after first) in
-    let none = ap (λ (l : List ℕ). length l) (p.1 ∙ no_frames) in
-    absurd (omega (arith, longer, none))
-next_of (w ∷ ws) rest payload after fine p first =
-    let here = first_frame-append rest p.0 payload after first in
-    let there = ap first_frame (p.1 ∙ one_frame w ws) ∙ first_frame-frame (reply_bytes w) (reply_frames ws) (reply_short w fine.0) in
-    let same = same_Some {A = List ℕ × List ℕ} (payload, after ++ p.0) (reply_bytes w, reply_frames ws) (sym here ∙ there) in
-    record { reply = w; others = ws; are = refl; bytes = ap (λ (q : List ℕ × List ℕ). q.0) same }
-
-next_short : (more : List Reply) (rest : List ℕ) → AllByRecursion IsReply more → IsPrefix rest (reply_frames more) → too_long rest ≡ None
-next_short [] rest fine p = ap too_long (front_none rest p.0 (p.1 ∙ no_frames)) ∙ empty_short
-next_short (w ∷ ws) rest fine p = not_long (reply_bytes w) rest p.0 (reply_frames ws) (reply_short w fine.0) (p.1 ∙ one_frame w ws)
 
 no_more : (more : List Reply) (rest : List ℕ) → AllByRecursion IsReply more → rest ≡ reply_frames more → first_frame rest ≡ None → more ≡ []
 no_more [] rest fine is none = refl
@@ -93,13 +62,7 @@ counted_items qs = length-map (map request_bytes qs) Payload ∙ length-map qs r
 
 stop_answers : (q : Request) (w : Reply) → is_stop_reply w ≡ true → allows q w ≡ true → q ≡ requests.Leave
 stop_answers q (replies.Refused code detail) stop kind = absurd (true≢false (sym kind ∙ never-refused q code detail))
-stop_answers requests.Leave replies.Bye stop kind = refl
-stop_answers (requests.Join client life interest) replies.Bye stop kind = cc
-stop_answers (requests.Submit seq action) replies.Bye stop kind = cc
-stop_answers (requests.Done results) replies.Bye stop kind = cc
-stop_answers requests.Poll replies.Bye stop kind = cc
-stop_answers requests.Bad replies.Bye stop kind = cc
-stop_answers requests.End replies.Bye stop kind = cc
+stop_answers q replies.Bye stop kind = leave-only q kind
 stop_answers q (replies.Welcome commit head) stop kind = cc
 stop_answers q (replies.Relay seq commit head items) stop kind = cc
 stop_answers q (replies.Dropped seq chain far) stop kind = cc
@@ -143,21 +106,7 @@ module _ (stay : FullRepliesStay) (name : LegalRelaysNameAccepted) (journal : Li
 
   -- the reply that comes next is the first that was not got
   pub takeable : (shape : Shape) → ((w : Reply) → slice_get whole_all (length (replies_of L s)) ≡ Some w → first_fault_of_reply (identity_of shape L) (reverse L.events) w ≡ None) → IsTakeable shape L rest
-  takeable shape taken =
-      record {
-        short = next_short g.more rest more_fine g.next;
-        next = λ payload after first. found payload (next_of g.more rest payload after more_fine g.next first);
-      }
-    where
-      at_length : (xs : List Reply) (w : Reply) (ws : List Reply) → slice_get (xs ++ w ∷ ws) (length xs) ≡ Some w
-      at_length [] w ws = refl
-      at_length (y ∷ ys) w ws = at_length ys w ws
-
-      found : (payload : List ℕ) → IsNext g.more payload → (w : Reply) × ((reply_at payload ≡ Ok w) × (first_fault_of_reply (identity_of shape L) (reverse L.events) w ≡ None))
-      found payload n =
-          let are : whole_all ≡ replies_of L s ++ n.reply ∷ n.others = g.are ∙ ap (λ (l : List Reply). replies_of L s ++ l) n.are in
-          let fine = (subst (AllByRecursion IsReply) n.are more_fine).0 in
-          (n.reply, (ap reply_at n.bytes ∙ reply_back n.reply fine, taken n.reply (ap (λ (l : List Reply). slice_get l (length (replies_of L s))) are ∙ at_length (replies_of L s) n.reply n.others)))
+  takeable shape taken = takeable_by shape L whole_all x.client.received (replies_of L s) rest sendable g taken
 
   module _ (shape : Shape) (proper : Proper shape L) (open_is : is_cut (reverse L.events) s ≡ false) (ended : x.client.ended ≡ true) (none : NoneCame rest) where
     faultless : x.out ≢ outs.LinkFault

@@ -1,23 +1,16 @@
 -- The open sessions of a run, and the traffic of all sessions.
-use Rattle.std.proofs.Common.{◌≡◌, ℕ, zero, suc, ◌+◌, ◌-◌, Bool, true, List, [], ◌∷◌, length, map, reverse, Some, None, slice_get, Option, option_map, Result, Ok, Err, ◌≢◌, inl, inr, ◌⊎◌, sym, ap, subst, ◌∙◌, arith, refl}
+use Rattle.std.proofs.Common.{◌≡◌, ℕ, zero, suc, ◌+◌, ◌-◌, Bool, true, List, [], ◌∷◌, length, map, reverse, Some, slice_get, inl, inr, ◌⊎◌, sym, ap, subst, ◌∙◌, arith, refl}
 use Rattle.std.specs.List.{AllByRecursion}
 use Rattle.std.proofs.lemmas.List.{length-map}
 use Rattle.std.proofs.lemmas.Option.{none-some, same_Some}
 use Rattle.sv_link.specs.Nets.{counted}
-use Rattle.sv_wire.specs.declared.fault.Malformed.{Malformed}
 use Rattle.sv_wire.specs.declared.message.Reply.{Reply}
 use Rattle.sv_wire.specs.Laws.{IsReply}
 use Rattle.sv_journal.specs.declared.entry.Entry.{Entry}
 use Rattle.sv_journal.specs.Laws.{FullRepliesStay, LegalRelaysNameAccepted}
 use Rattle.sv_client.specs.declared.trace.Trace.{Trace}
 use Rattle.sv_client.specs.Traces.{got}
-use Rattle.sv_client.specs.Taking.{Identity, first_fault_of_reply}
-use Rattle.sv_client.specs.declared.fault.TakeFault.{TakeFault}
-use Rattle.sv_client.specs.declared.fault.TakeFault.TheVariants as take_faults
-use Rattle.sv_client.specs.declared.trace.Event.{Event}
-use Rattle.sv_client.specs.Answers.{IsTakeFault}
 use Rattle.sv_world.specs.declared.world.Shape.{Shape}
-use Rattle.sv_frame.specs.Frames.{first_frame}
 use Rattle.sv_client.specs.Proper.{identity_of}
 use Rattle.sv_scenario.specs.declared.scenario.Plan.{Plan}
 use Rattle.sv_scenario.specs.declared.scenario.Scenario.{Scenario}
@@ -28,11 +21,10 @@ use Rattle.sv_system.proofs.Asked.{any-reverse, current-joined}
 use Rattle.sv_asked.specs.Asked.{RepliesAreMessages}
 use Rattle.sv_system.specs.Laws.{NeverRefused}
 use Rattle.sv_player.specs.Carried.{BeginsWithReplies}
-use Rattle.sv_player.specs.Stops.{IsShut, IsBadRest, first_payload}
+use Rattle.sv_player.specs.Stops.{IsShut}
 use Rattle.sv_player.specs.Played.{replies_of}
-use Rattle.sv_player.specs.declared.outcome.ReplyFault.{ReplyFault}
-use Rattle.sv_player.specs.declared.outcome.ReplyFault.TheVariants as reply_faults
 use Rattle.sv_system.proofs.Limits.{limits_of}
+use Rattle.sv_system.proofs.Places.{map_at}
 use Rattle.law_traffic.specs.Sessions.{Over, transcript, IsSessionDone}
 use Rattle.law_traffic.specs.Traffic.{IsTraffic}
 use Rattle.law_traffic.specs.Stuck.{IsStopped, IsTakeable}
@@ -43,6 +35,7 @@ use Rattle.law_traffic.proofs.Owners.{in_range}
 use Rattle.law_traffic.proofs.Recorded.{fits}
 use Rattle.law_traffic.proofs.Sendable.{IsWellDone, well, sendable}
 use Rattle.law_traffic.proofs.Stuck.{takeable, none_is_awaited}
+use Rattle.law_traffic.proofs.Takeable.{not_bad}
 
 trace_at : (P : Plan → Trace → Type 0) (plans : List Plan) (Ls : List Trace) (i : ℕ) (L : Trace) → EachTrace P plans Ls → slice_get Ls i ≡ Some L → (plan : Plan) × P plan L
 trace_at P [] [] i L e m = absurd (none-some L m)
@@ -57,35 +50,6 @@ each_trace P Q [] [] e f = tt
 each_trace P Q [] (M ∷ Ms) e f = absurd e
 each_trace P Q (plan ∷ plans) [] e f = absurd e
 each_trace P Q (plan ∷ plans) (M ∷ Ms) e f = (f 0 plan M refl e.0, each_trace P Q plans Ms e.1 (λ i. f (suc i)))
-
-same_reply : (x y : Reply) → ◌≡◌ {A = Result Reply Malformed} (Ok x) (Ok y) → x ≡ y
-same_reply x y e = ap value e
-  where
-    value : Result Reply Malformed → Reply
-    value (Ok w) = w
-    value _ = x
-
--- the frame whose payload comes first
-framed : (rest payload : List ℕ) → first_payload rest ≡ Some payload → (after : List ℕ) × (first_frame rest ≡ Some (payload, after))
-framed rest payload e = go (first_frame rest) e
-  where
-    go : (o : Option (List ℕ × List ℕ)) → option_map (λ (f : List ℕ × List ℕ). f.0) o ≡ Some payload → (after : List ℕ) × (o ≡ Some (payload, after))
-    go None e = absurd (none-some payload e)
-    go (Some f) e = (f.1, ap (λ (p : List ℕ). Some (p, f.1)) (same_Some f.0 payload e))
-
--- a reply that is refused has a fault
-not_fine : (who : Identity) (t : List Event) (reply : Reply) (fault : TakeFault) → fault ≢ take_faults.Memory → IsTakeFault who t reply fault → first_fault_of_reply who t reply ≡ None → ⊥
-not_fine who t reply take_faults.Unasked some is none = cc
-not_fine who t reply take_faults.WrongKind some is none = cc
-not_fine who t reply take_faults.BadOrder some is none = cc
-not_fine who t reply take_faults.BadItem some is none = cc
-not_fine who t reply (take_faults.Missing pos object) some is none = cc
-not_fine who t reply take_faults.Memory some is none = some refl
-
-map_there : {X Y : Type 0} (f : X → Y) (xs : List X) (i : ℕ) (x : X) → slice_get xs i ≡ Some x → slice_get (map f xs) i ≡ Some (f x)
-map_there f [] i x e = absurd (none-some x e)
-map_there f (y ∷ ys) zero x e = ap (λ z. Some (f z)) (same_Some y x e)
-map_there f (y ∷ ys) (suc i) x e = map_there f ys i x e
 
 module _ (stay : FullRepliesStay) (name : LegalRelaysNameAccepted) (messages : RepliesAreMessages) (scenario : Scenario) (journal : List Entry) (Ls : List Trace) (sessions : List Over)
     (good : IsGoodRun scenario) (run : IsRun scenario journal Ls sessions) where
@@ -102,7 +66,7 @@ module _ (stay : FullRepliesStay) (name : LegalRelaysNameAccepted) (messages : R
       let found = w.done n low in (
         transcript found.0,
         (
-          map_there transcript sessions (L.first + n) found.0 found.1.0,
+          map_at transcript sessions (L.first + n) found.0 found.1.0,
           traffic_of stay name journal L (L.first + n) found.0 found.1.1 (sendable stay name messages scenario journal Ls sessions good run (L.first + n)),
         ),
       )
@@ -158,28 +122,13 @@ module _ (stay : FullRepliesStay) (name : LegalRelaysNameAccepted) (messages : R
 
   -- ---- The ends of traces
 
-  not_bad : NeverRefused → (L : Trace) (s : ℕ) (x : Over) → IsOpenIn Ls sessions L s x → (rest : List ℕ) → BeginsWithReplies x.client.received (replies_of L s) rest → (payload : List ℕ) (fault : ReplyFault) →
-      IsBadRest (identity_of scenario.world.shape L) (reverse L.events) rest payload fault → ⊥
-  not_bad law L s x o rest begins payload (reply_faults.Wire fault) bad =
-      let first = framed rest payload bad.0 in
-      let n = (next_taken L s x o law rest begins).next payload first.0 first.1 in
-      let same : Ok n.0 ≡ Err fault = sym n.1.0 ∙ bad.1 in
-      cc
-  not_bad law L s x o rest begins payload (reply_faults.Take fault) bad =
-      let first = framed rest payload bad.0 in
-      let n = (next_taken L s x o law rest begins).next payload first.0 first.1 in
-      let refused = bad.1 in
-      let same : n.0 ≡ refused.reply = same_reply n.0 refused.reply (sym n.1.0 ∙ refused.read) in
-      not_fine (identity_of scenario.world.shape L) (reverse L.events) refused.reply fault refused.some refused.fault_is
-      (sym (ap (first_fault_of_reply (identity_of scenario.world.shape L) (reverse L.events)) same) ∙ n.1.1)
-  not_bad law L s x o rest begins payload (reply_faults.TooLong n) bad = none-some n (sym (next_taken L s x o law rest begins).short ∙ bad.1)
-
   not_stopped : NeverRefused → (i : ℕ) (L : Trace) → slice_get Ls i ≡ Some L → IsStopped scenario.world.shape L sessions → ⊥
   not_stopped law i L member stop =
       let o : IsOpenIn Ls sessions L stop.session stop.over = record { place = i; member = member; session = stop.open_is; there = stop.there } in
       elim stop.how [
         | inl shut ↦ not_shut L stop.session stop.over o scenario.world.shape shut
-        | inr bad ↦ not_bad law L stop.session stop.over o bad.bad.rest bad.bad.received bad.payload bad.fault bad.bad.bad
+        | inr bad ↦
+            not_bad scenario.world.shape L bad.bad.rest (next_taken L stop.session stop.over o law bad.bad.rest bad.bad.received) bad.payload bad.fault bad.bad.bad
       ]
 
   to_the_end : NeverRefused → (i : ℕ) (plan : Plan) (L : Trace) → slice_get Ls i ≡ Some L → FollowsToEnd scenario.world.shape plan.steps L ⊎ IsStopped scenario.world.shape L sessions →

@@ -4,6 +4,7 @@ use Rattle.std.specs.Prelude.{if◌then◌else◌, unwrap_or}
 use Rattle.std.specs.List.{list_any}
 use denote.Ref.{Bor as Ref}
 use Rattle.std.proofs.lemmas.Bool.{eqb-true, eq-eqb, ne_eqb, or_right}
+use Rattle.std.proofs.lemmas.Option.{same_Some}
 use Rattle.sv_wire.specs.declared.message.Request.{Request}
 use Rattle.sv_wire.specs.declared.message.Reply.{Reply}
 use Rattle.sv_journal.specs.declared.entry.Entry.{Entry}
@@ -30,11 +31,12 @@ use Rattle.law_schedule.proofs.SoundTraces.{joined-within}
 use Rattle.sv_replay.proofs.Events.{is_got, asks_up, asks_got}
 use Rattle.sv_client.specs.Seen.{ClientView}
 use Rattle.sv_player.proofs.Going.{bye_finishes}
+use Rattle.sv_system.proofs.Places.{map_at}
 use Rattle.sv_check.specs.declared.actor.Actor.{Actor}
 use Rattle.sv_check.specs.Serving.{full_replies}
 use Rattle.sv_check.specs.Acting.{IsActing, HasAsked, HasGot, AreFlags, IsSettled, IsUnsettled, IsAmiss, WentOn, LookedAt, Joined, GotReply, Made, IsNextPlace, IsNextEvent, journal_events, replies_before, cuts_session, is_other}
 use Rattle.sv_check.proofs.Told.{current_joined}
-use Rattle.sv_check.proofs.Settling.{turned_more, got_there, there_got, map_there, same_Some, split_turned}
+use Rattle.sv_check.proofs.Settling.{turned_more, got_there, there_got, split_turned}
 
 -- ---- The latest session
 
@@ -366,7 +368,7 @@ pub one_before : (entries : List Entry) (from s p : ℕ) (reply : Reply) → IsN
 one_before entries from s p reply n r =
     let e = n.entry in
     let here = got_there entries p e n.found in
-    let whole : full_reply (accepted (reverse entries)) e.reply ≡ reply = same_Some _ _ (sym (map_there (λ (d : Entry). full_reply (accepted (reverse entries)) d.reply) entries p e n.found) ∙ r) in
+    let whole : full_reply (accepted (reverse entries)) e.reply ≡ reply = same_Some _ _ (sym (map_at (λ (d : Entry). full_reply (accepted (reverse entries)) d.reply) entries p e n.found) ∙ r) in
     ap (λ (h : List Entry). replies_in (accepted (reverse entries)) h s) (turned_more entries p e here.0 here.1)
     ∙ rw (eq-eqb e.session s n.session, n.asks) refl
     ∙ ap (λ (x : Reply). replies_before entries p s ++ x ∷ []) whole
@@ -492,7 +494,7 @@ went_did entries a b e g m n o left next d = record {
 pub reply_there : (entries : List Entry) (items : List Reply) (from s p : ℕ) (reply : Reply) → IsNextPlace entries from s p → items ≡ full_replies entries → reply ≡ get_or items p reply →
     slice_get (full_replies entries) p ≡ Some reply
 reply_there entries items from s p reply n same is =
-    let whole = map_there (λ (d : Entry). full_reply (accepted (reverse entries)) d.reply) entries p n.entry n.found in
+    let whole = map_at (λ (d : Entry). full_reply (accepted (reverse entries)) d.reply) entries p n.entry n.found in
     let within = (got_there (full_replies entries) p (full_reply (accepted (reverse entries)) n.entry.reply) whole).0 in
     there_got (full_replies entries) p reply within (is ∙ ap (λ (rs : List Reply). get_or rs p reply) same)
 

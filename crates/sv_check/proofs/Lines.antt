@@ -4,6 +4,7 @@ use Rattle.std.specs.Prelude.{codes, MatchOption}
 use Rattle.std.proofs.lemmas.List.{length-map}
 use Rattle.std.specs.Fmt.{decimal}
 use denote.Ref.{Bor as Ref}
+use Rattle.std.proofs.lemmas.Option.{same_Some}
 use Rattle.sv_wire.specs.declared.message.Reply.{Reply}
 use Rattle.sv_journal.specs.declared.entry.Entry.{Entry}
 use Rattle.sv_journal.specs.History.{accepted, full_reply}
@@ -26,7 +27,6 @@ use Rattle.sv_check.specs.Parts.{AreSomeEntries}
 use Rattle.sv_check.specs.Next.{IsLineOf, journal_replies}
 use Rattle.sv_check.specs.Serving.{full_replies}
 use Rattle.sv_check.specs.Acting.{IsActing, IsNextEvent, NoNextEvent, IsNextPlace, NoNextPlace, NoneComes, LookedAt, Joined, GotReply, journal_events, replies_before, begins_got, is_other}
-use Rattle.sv_check.proofs.Settling.{same_Some}
 use Rattle.sv_check.proofs.Refusing.{never_taken, none_left}
 use Rattle.sv_check.proofs.Acting.{may_follow, latest_is, one_before, front_before}
 use Rattle.sv_check.proofs.Wrong.{line_of, no_line, none_moves, not_welcomed, other_move, other_join, none_got}

@@ -1,5 +1,6 @@
 -- The next step of a client.
 use Rattle.std.proofs.Common.{◌≡◌, true, false, true≢false, List, [], ◌∷◌, Some, refl, sym, ap, subst, ◌∙◌}
+use Rattle.std.proofs.lemmas.Option.{same_Some}
 use Rattle.sv_wire.specs.declared.message.Request.{Request}
 use Rattle.sv_client.specs.declared.trace.Event.{Event}
 use Rattle.sv_client.specs.declared.trace.Event.TheVariants as events
@@ -10,7 +11,6 @@ use Rattle.sv_scenario.specs.declared.scenario.Step.{Step}
 use Rattle.sv_scenario.specs.declared.scenario.Step.TheVariants as steps
 use Rattle.sv_script.specs.Following.{MayCome, DoesStep, passed_syncs, unsynced, event_of, must_join, is_welcomed, is_finished}
 use Rattle.sv_check.specs.Acting.{IsNextEvent, NoNextEvent, NotNow, is_other}
-use Rattle.sv_check.proofs.Settling.{same_Some}
 use Rattle.sv_check.proofs.Events.{none_first, same_first}
 
 comes : (who : Identity) (t : List Event) (before : List Step) (step : Step) (left : List Step) (e : Event) → must_join t ≡ false → is_welcomed t ≡ true → is_finished t ≡ false →

@@ -1,7 +1,8 @@
 -- The entries of a session beside the requests that were asked in it, entry by entry.
-use Rattle.std.proofs.Common.{◌≡◌, ℕ, zero, suc, ◌+◌, ◌<◌, ◌≤◌, Bool, true, false, eqb, List, [], ◌∷◌, ◌++◌, length, take, drop, map, reverse, get_or, slice_get, Some, refl, sym, ap, subst, ◌∙◌, arith, true≢false}
+use Rattle.std.proofs.Common.{◌≡◌, ℕ, zero, suc, ◌+◌, ◌<◌, ◌≤◌, Bool, true, false, eqb, List, [], ◌∷◌, ◌++◌, length, take, drop, reverse, get_or, slice_get, Some, refl, sym, ap, subst, ◌∙◌, arith, true≢false}
 use Rattle.std.proofs.lemmas.Bool.{eqb-true, eq-eqb}
-use Rattle.std.proofs.lemmas.List.{take_more, reverse-append}
+use Rattle.std.proofs.lemmas.List.{take_more, reverse-append, take-append-drop}
+use Rattle.std.proofs.lemmas.Option.{same_Some}
 use Rattle.sv_wire.specs.declared.message.Request.{Request}
 use Rattle.sv_journal.specs.declared.entry.Entry.{Entry}
 use Rattle.sv_journal.specs.Sessions.{is_end, is_ended}
@@ -18,27 +19,14 @@ turned_more xs i x l e =
 
 -- ---- Places of lists
 
-pub same_Some : {X : Type 0} (x y : X) → Some x ≡ Some y → x ≡ y
-same_Some x y e = cc
-
 pub got_there : {X : Type 0} (xs : List X) (i : ℕ) (x : X) → slice_get xs i ≡ Some x → (i < length xs) × (x ≡ get_or xs i x)
 got_there [] i x e = cc
 got_there (y ∷ ys) zero x e = (omega arith, sym (same_Some y x e))
 got_there (y ∷ ys) (suc i) x e = let h = got_there ys i x e in (omega (arith, h.0), h.1)
 
-pub map_there : {X Y : Type 0} (f : X → Y) (xs : List X) (i : ℕ) (x : X) → slice_get xs i ≡ Some x → slice_get (map f xs) i ≡ Some (f x)
-map_there f [] i x e = cc
-map_there f (y ∷ ys) zero x e = ap (λ z. Some (f z)) (same_Some y x e)
-map_there f (y ∷ ys) (suc i) x e = map_there f ys i x e
-
-pub take_drop : {X : Type 0} (n : ℕ) (xs : List X) → take n xs ++ drop n xs ≡ xs
-take_drop zero xs = refl
-take_drop (suc n) [] = refl
-take_drop (suc n) (x ∷ xs) = ap (λ ys. x ∷ ys) (take_drop n xs)
-
 -- All entries, turned, are the later ones over the first ones.
 pub split_turned : {X : Type 0} (n : ℕ) (xs : List X) → reverse (drop n xs) ++ reverse (take n xs) ≡ reverse xs
-split_turned n xs = sym (reverse-append (take n xs) (drop n xs)) ∙ ap reverse (take_drop n xs)
+split_turned n xs = sym (reverse-append (take n xs) (drop n xs)) ∙ ap reverse (take-append-drop n xs)
 
 pub there_got : {X : Type 0} (xs : List X) (i : ℕ) (x : X) → i < length xs → x ≡ get_or xs i x → slice_get xs i ≡ Some x
 there_got [] i x l e = absurd (omega (arith, l))

@@ -14,9 +14,10 @@ use Rattle.law_schedule.specs.Serving.{Run, Server, session_served, all_served, 
 use Rattle.law_schedule.specs.Served.{KeepsSound}
 use Rattle.law_schedule.specs.Done.{IsRunDone}
 use Rattle.law_schedule.proofs.DoneStill.{round-still}
+use Rattle.law_schedule.proofs.DoneLists.{repeated-still}
 use Rattle.sv_replay.specs.declared.playing.Playing.{Playing}
 use Rattle.sv_replay.specs.Machine.{player_of, Stage, run_of, IsMachine, Became, Heads, after_session, after_take}
-use Rattle.sv_replay.proofs.Turns.{repeated-still, turned_from, turned-next, turned-all}
+use Rattle.sv_replay.proofs.Turns.{turned_from, turned-next, turned-all}
 use Rattle.sv_replay.proofs.Machines.{clients_are}
 use Rattle.sv_replay.proofs.Working.{serve_again, serve_still, take_again, take_still}
 

@@ -3,7 +3,7 @@ use Rattle.std.proofs.Common.{◌≡◌, ◌≢◌, ◌⊎◌, inl, inr, ℕ, ze
 use Rattle.std.specs.Prelude.{All}
 use Rattle.std.specs.List.{AllByRecursion}
 use Rattle.std.proofs.lemmas.Bool.{cases_Bool}
-use Rattle.std.proofs.lemmas.List.{get_or-set_same, get_or-set_other, length-set, length-map}
+use Rattle.std.proofs.lemmas.List.{get_or-set_same, get_or-set_other, length-set, length-map, map-set}
 use Rattle.std.proofs.lemmas.List.Elements.{recursion_from_All, All-from_recursion}
 use Rattle.sv_wire.specs.declared.message.Reply.{Reply}
 use Rattle.sv_world.specs.declared.world.Shape.{Shape}
@@ -29,6 +29,7 @@ use Rattle.law_schedule.proofs.SoundCalls.{IsPlayer, player-at, session-next, se
 use Rattle.sv_replay.specs.declared.playing.Playing.{Playing}
 use Rattle.sv_exchange.specs.View.{ExchangeView, new_exchange}
 use Rattle.sv_system.proofs.Every.{each-at}
+use Rattle.sv_system.proofs.Places.{map_at}
 use Rattle.sv_replay.specs.Players.{session_of, IsFit, IsChannel, taken_from}
 use Rattle.sv_replay.specs.Serving.{ServerView, HadTurn, next_history, next_channel}
 use Rattle.sv_replay.specs.Playable.{IsPlayable}
@@ -82,20 +83,10 @@ get_at (x ∷ xs) (suc k) d l = get_at xs k d (omega arith)
 pub read_at : {X : Type 0} (xs : List X) (k : ℕ) (x : X) → k < length xs → x ≡ get_or xs k x → slice_get xs k ≡ Some x
 read_at xs k x l e = get_at xs k x l ∙ ap (λ y. Some y) (sym e)
 
-pub get_map : {X Y : Type 0} (f : X → Y) (xs : List X) (k : ℕ) (x : X) → slice_get xs k ≡ Some x → slice_get (map f xs) k ≡ Some (f x)
-get_map f [] k x e = cc
-get_map f (y ∷ ys) zero x e = let same : y ≡ x = cc in ap (λ z. Some (f z)) same
-get_map f (y ∷ ys) (suc k) x e = get_map f ys k x e
-
 pub get_set : {X : Type 0} (xs : List X) (k : ℕ) (x y : X) → slice_get xs k ≡ Some x → slice_get (set xs k y) k ≡ Some y
 get_set [] k x y e = cc
 get_set (z ∷ zs) zero x y e = refl
 get_set (z ∷ zs) (suc k) x y e = get_set zs k x y e
-
-pub map_set : {X Y : Type 0} (f : X → Y) (xs : List X) (k : ℕ) (y : X) → map f (set xs k y) ≡ set (map f xs) k (f y)
-map_set f [] k y = refl
-map_set f (x ∷ xs) zero y = refl
-map_set f (x ∷ xs) (suc k) y = ap (λ zs. f x ∷ zs) (map_set f xs k y)
 
 all_set : {X : Type 0} (P : X → Type 0) (xs : List X) (k : ℕ) (y : X) → P y → AllByRecursion P xs → AllByRecursion P (set xs k y)
 all_set P [] k y p a = tt
@@ -141,7 +132,7 @@ module _ (m w : Stage) (k : ℕ) (p q : Playing) (d : ExchangeView) (is : IsMach
   after = set (run_of m).players k (player_of q)
 
   place : slice_get (run_of m).players k ≡ Some (player_of p)
-  place = get_map player_of m.players k p at
+  place = map_at player_of m.players k p at
 
   known : n < session_count m.scenario
   known = (fit_at m.serves.server m.scenario (run_of m) is.good is.sound k (player_of p) place).known
@@ -186,7 +177,7 @@ module _ (m w : Stage) (k : ℕ) (p q : Playing) (d : ExchangeView) (is : IsMach
       let new : run_of w ≡ moved_run =
       ap (λ (v : ServerView). run_at v.history (map player_of w.players)) serves
       ∙ ap (λ (xs : List Playing). run_at (run_of m).history (map player_of xs)) players
-      ∙ ap (λ (ps : List Player). run_at (run_of m).history ps) (map_set player_of m.players k q) in
+      ∙ ap (λ (ps : List Player). run_at (run_of m).history ps) (map-set player_of m.players k q) in
       let same : m.serves.server ≡ w.serves.server = sym (ap (λ (v : ServerView). v.server) serves) in
       record {
         scenario = scenario;
@@ -271,7 +262,7 @@ module _ (m : Stage) (k : ℕ) (p : Playing) (is : IsMachine m) (l : k < length 
   player_flags = flags_at m is k p player_read
 
   pub player_known : IsFit (session_count m.scenario) (player_of p)
-  player_known = fit_at m.serves.server m.scenario (run_of m) is.good is.sound k (player_of p) (get_map player_of m.players k p player_read)
+  player_known = fit_at m.serves.server m.scenario (run_of m) is.good is.sound k (player_of p) (map_at player_of m.players k p player_read)
 
   pub player_fits : IsFit 64 (player_of p)
   player_fits = fewer_fit (session_count m.scenario) (player_of p) is.good.sessions player_known
@@ -279,7 +270,7 @@ module _ (m : Stage) (k : ℕ) (p : Playing) (is : IsMachine m) (l : k < length 
   pub player_fits_after : IsFit 64 (player_turn (player_of p))
   player_fits_after =
       fewer_fit (session_count m.scenario) (player_turn (player_of p)) is.good.sessions
-      (fit_after m.serves.server m.scenario (run_of m) is.good is.sound k (player_of p) (get_map player_of m.players k p player_read))
+      (fit_after m.serves.server m.scenario (run_of m) is.good is.sound k (player_of p) (map_at player_of m.players k p player_read))
 
 -- ---- What a player takes
 
@@ -343,5 +334,5 @@ taken_is m k p is at = elim (cases_Bool p.closed) [
 pub firsts_few : (m : Stage) → IsMachine m → All (λ (p : Playing). p.first < 64) m.players
 firsts_few m is = λ k d l.
     let p = get_or m.players k d in
-    let at = get_map player_of m.players k p (get_at m.players k d l) in
+    let at = map_at player_of m.players k p (get_at m.players k d l) in
     first_few (player_of p) (fewer_fit (session_count m.scenario) (player_of p) is.good.sessions (fit_at m.serves.server m.scenario (run_of m) is.good is.sound k (player_of p) at))

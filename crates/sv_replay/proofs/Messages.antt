@@ -28,6 +28,7 @@ use Rattle.sv_system.proofs.Entered.{of-from, request-there}
 use Rattle.sv_asked.specs.Asked.{EventFits, HasNumbers, RequestsAreMessages, RepliesAreMessages, AcceptedAreFew}
 use Rattle.sv_system.proofs.Every.{each-at}
 use Rattle.sv_system.proofs.Limits.{limits_of, objects_few}
+use Rattle.sv_system.proofs.Places.{map_at}
 use Rattle.sv_asked.proofs.Owned.{entry-at, end-fits}
 use Rattle.law_schedule.specs.Players.{Player, trace_of_player}
 use Rattle.law_schedule.specs.Serving.{Run, Server, traces_of}
@@ -42,7 +43,6 @@ use Rattle.sv_replay.specs.Players.{asked_by_player}
 use Rattle.sv_replay.specs.Messages.{AsksMessages}
 use Rattle.sv_replay.specs.Playable.{IsPlayable}
 use Rattle.sv_replay.proofs.Scripts.{players_made}
-use Rattle.sv_replay.proofs.Machines.{get_map}
 use Rattle.sv_replay.proofs.Lengths.{owner_of, history_few}
 
 -- ---- A run
@@ -65,7 +65,7 @@ module _ (scenario : Scenario) (run : Run) (good : IsGoodScenario scenario) (num
 
   asks : RequestsAreMessages → AcceptedAreFew → (k : ℕ) (p : Player) → slice_get run.players k ≡ Some p → AsksMessages p
   asks law few k p at s =
-      let all = law r H (traces_of run) k (trace_of_player p) s (limits_of scenario good) (has_numbers few) sound.legal sound.fits (get_map trace_of_player run.players k p at) in
+      let all = law r H (traces_of run) k (trace_of_player p) s (limits_of scenario good) (has_numbers few) sound.legal sound.fits (map_at trace_of_player run.players k p at) in
       subst (λ (t : List Event). All IsRequest (asked p.who.client p.who.interest t s)) (reverse-reverse p.events) all
 
   module _ (law : RequestsAreMessages) (few : AcceptedAreFew) where

@@ -3,7 +3,7 @@ use Rattle.std.proofs.Common.{◌≡◌, ℕ, zero, suc, ◌+◌, ◌<◌, Bool,
 use Rattle.std.specs.Prelude.{All, Result, Ok, Err, OnOk, IfOk}
 use Rattle.std.specs.List.{list_any}
 use Rattle.std.proofs.lemmas.Bool.{cases_Bool, or_left}
-use Rattle.std.proofs.lemmas.List.{length-map}
+use Rattle.std.proofs.lemmas.List.{length-map, map-set}
 use Rattle.std.proofs.lemmas.List.Elements.{recursion_from_All}
 use Rattle.sv_wire.specs.Laws.{IsReply}
 use Rattle.sv_journal.specs.declared.entry.Entry.{Entry}
@@ -21,6 +21,7 @@ use Rattle.law_schedule.specs.Serving.{Run, Server, served, session_served, turn
 use Rattle.law_schedule.specs.Served.{IsSoundOver}
 use Rattle.law_schedule.proofs.SoundLaws.{turns-sound}
 use Rattle.sv_exchange.specs.View.{ExchangeView, new_exchange}
+use Rattle.sv_system.proofs.Places.{map_at}
 use Rattle.sv_replay.specs.Players.{session_of, IsFit, IsNextFine}
 use Rattle.sv_replay.specs.Messages.{AsksMessages}
 use Rattle.sv_replay.specs.Serving.{ServerView, AnswersMessage, one_if, HadTurn}
@@ -34,7 +35,7 @@ use Rattle.sv_replay.proofs.Doing.{session_current}
 use Rattle.sv_replay.proofs.Turns.{place-is}
 use Rattle.sv_replay.proofs.Served.{next_asked}
 use Rattle.sv_replay.proofs.Answering.{run_at, session_turn_is}
-use Rattle.sv_replay.proofs.Machines.{get_map, get_set, map_set, fit_at, open_is, waits_first}
+use Rattle.sv_replay.proofs.Machines.{get_set, fit_at, open_is, waits_first}
 use Rattle.sv_replay.proofs.Working.{turn_found, take_found}
 
 place_turned : (f : Player → Player) (ps : List Player) (k : ℕ) (p : Player) → slice_get ps k ≡ Some p → slice_get (at_player ps k f) k ≡ Some (f p)
@@ -167,8 +168,8 @@ client_found m w k p q found at took serves players long =
     let new : run_of w ≡ record { history = h; players = set ps k (player_of q) } =
     ap (λ (v : ServerView). run_at v.history (map player_of w.players)) serves
     ∙ ap (λ (xs : List Playing). run_at h (map player_of xs)) players
-    ∙ ap (λ (xs : List Player). run_at h xs) (map_set player_of m.players k q) in
+    ∙ ap (λ (xs : List Player). run_at h xs) (map-set player_of m.players k q) in
     let more : length (player_of q).events ≡ length (player_of p).events + one_if found =
     length-map q.client.events (raised q.first) ∙ long ∙ ap (λ (n : ℕ). n + one_if found) (sym (length-map p.client.events (raised p.first))) in
     subst (λ (run : Run). Found (work_of_client k) (run_of m) run found) (sym new)
-    (take_found h ps k (player_of p) (player_of q) found (get_map player_of m.players k p at) took more)
+    (take_found h ps k (player_of p) (player_of q) found (map_at player_of m.players k p at) took more)

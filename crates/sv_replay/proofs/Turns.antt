@@ -1,12 +1,9 @@
 -- Turns repeated until nothing changes, and turns of one element of a list after the other.
 use Rattle.std.proofs.Common.{◌≡◌, ◌⊎◌, inl, inr, ℕ, zero, suc, ◌+◌, ◌<◌, ◌≤◌, List, [], ◌∷◌, map, length, set, Some, slice_get, refl, sym, ap, ◌∙◌, arith}
 use Rattle.law_schedule.specs.Players.{Player, repeated, at_player}
+use Rattle.law_schedule.proofs.DoneLists.{repeated-still}
 
 -- ---- Repeated turns
-
-pub repeated-still : {A : Type 0} (n : ℕ) (f : A → A) (x : A) → f x ≡ x → repeated n f x ≡ x
-repeated-still zero f x e = refl
-repeated-still (suc n) f x e = ap (repeated n f) e ∙ repeated-still n f x e
 
 pub repeated-outer : {A : Type 0} (n : ℕ) (f : A → A) (x : A) → repeated n f (f x) ≡ f (repeated n f x)
 repeated-outer zero f x = refl

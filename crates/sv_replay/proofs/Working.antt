@@ -20,10 +20,11 @@ use Rattle.sv_system.proofs.Entered.{is_of}
 use Rattle.law_schedule.specs.Players.{Player, asked_in_run, has_closed, open_session, takes, takes_if, take_in, take_turn, at_player, repeated, does, take_turns}
 use Rattle.law_schedule.specs.Serving.{Run, Server, served, is_stopped, session_served}
 use Rattle.law_schedule.specs.Served.{KeepsSound}
+use Rattle.law_schedule.proofs.DoneLists.{repeated-still}
 use Rattle.sv_replay.specs.Machine.{after_session, after_take}
 use Rattle.sv_replay.specs.Serving.{one_if}
 use Rattle.sv_replay.specs.Work.{work_left, work_in, work_for, work_of_session, work_of_client, Found}
-use Rattle.sv_replay.proofs.Turns.{repeated-still, repeated-enough, place-is, place-again, place-none}
+use Rattle.sv_replay.proofs.Turns.{repeated-enough, place-is, place-again, place-none}
 use Rattle.sv_replay.proofs.Machines.{get_set, set_same}
 
 -- ---- A session's turns

@@ -1,9 +1,7 @@
 -- One session that was served: what its connection moved, against the journal of all sessions.
-use Rattle.std.proofs.Common.{◌≡◌, ◌≢◌, ◌⊎◌, ℕ, Bool, true, false, List, [], ◌∷◌, ◌++◌, map, reverse, inl, inr, Some, None, cond, ◌||◌, eqb, refl, sym, ap, subst, ◌∙◌, true≢false}
+use Rattle.std.proofs.Common.{◌≡◌, ◌≢◌, ◌⊎◌, ℕ, true, false, List, [], ◌∷◌, ◌++◌, map, reverse, inl, inr, None, refl, sym, ap, subst, ◌∙◌, true≢false}
 use Rattle.std.specs.List.{AllByRecursion}
 use Rattle.std.proofs.lemmas.Bool.{lt-ltb}
-use Rattle.std.proofs.lemmas.Option.{none-some}
-use Rattle.std.proofs.lemmas.List.{map-append}
 use Rattle.std.proofs.lemmas.List.Elements.{recursion_from_All}
 use mathlib.Core.List.{IsPrefix}
 use Rattle.sv_frame.specs.Frames.{too_long}
@@ -13,54 +11,25 @@ use Rattle.sv_link.specs.declared.side.Side.TheVariants.{Server}
 use Rattle.sv_wire.specs.declared.message.Request.{Request}
 use Rattle.sv_wire.specs.declared.message.Request.TheVariants as requests
 use Rattle.sv_journal.specs.declared.entry.Entry.{Entry}
-use Rattle.sv_journal.specs.declared.entry.Logged.{Logged}
 use Rattle.sv_journal.specs.declared.entry.Logged.TheVariants as logged
-use Rattle.sv_journal.specs.History.{Authored, accepted, full_reply}
+use Rattle.sv_journal.specs.History.{accepted}
 use Rattle.sv_journal.specs.Sessions.{is_end}
 use Rattle.sv_journal.specs.Laws.{FullRepliesStay, LegalRelaysNameAccepted}
 use Rattle.sv_sequencer.specs.Step.{entry_of}
 use Rattle.sv_lock.specs.Histories.{entries_of}
 use Rattle.sv_lock.specs.Passes.{session_number}
-use Rattle.sv_session.specs.Requests.{stop_of, StopsFor, requests_read, due_frames}
+use Rattle.sv_session.specs.Requests.{StopsFor, requests_read, due_frames}
 use Rattle.sv_session.specs.Serving.{SessionPass, Served, SessionCause, ExplainsOut, ended_by}
 use Rattle.sv_session.specs.declared.outcome.SessionOut.{SessionOut}
 use Rattle.sv_session.specs.declared.outcome.SessionOut.TheVariants as outs
 use Rattle.sv_system.specs.Fits.{requests_in, replies_in}
 use Rattle.sv_system.specs.Records.{ends_in}
-use Rattle.law_traffic.specs.Traffic.{reply_frames, is_stop_reply, EndsWithStop}
+use Rattle.law_traffic.specs.Traffic.{reply_frames, EndsWithStop}
 use Rattle.law_traffic.proofs.Ours.{requests_are, replies_are, one_end}
 use Rattle.law_traffic.proofs.Dues.{full_over, due_is}
 use Rattle.sv_door.specs.Doors.{Passage, passage_of}
+use Rattle.law_traffic.proofs.Bytes.{all_sent, stopped_by}
 use Rattle.sv_serve.specs.Passages.{AnsweredAll, IsPassageOf}
-
--- ---- Outcomes
-
--- Where the link held and there was memory, all that was due was sent.
-all_sent : (out : SessionOut) (stream : List ℕ) (answered : List Entry) (sent due : List ℕ) → out ≢ outs.LinkFault → out ≢ outs.Memory → ExplainsOut out stream answered sent due → sent ≡ due
-all_sent outs.Left stream answered sent due l m e = e.1
-all_sent outs.Closed stream answered sent due l m e = e.1
-all_sent outs.Ended stream answered sent due l m e = e.1
-all_sent outs.Malformed stream answered sent due l m e = e.1
-all_sent outs.Spent stream answered sent due l m e = e.1
-all_sent outs.LinkFault stream answered sent due l m e = absurd (l refl)
-all_sent outs.Memory stream answered sent due l m e = absurd (m refl)
-
-stop_code : (a b c : Bool) (x y z : SessionOut) (reason : SessionOut) → cond a (Some x) (cond b (Some y) (cond c (Some z) None)) ≡ Some reason → (a || b || c) ≡ true
-stop_code true b c x y z reason e = refl
-stop_code false true c x y z reason e = refl
-stop_code false false true x y z reason e = refl
-stop_code false false false x y z reason e = absurd (none-some reason e)
-
--- A reply for which a loop stops is one of the last replies.
-stops : (A : List Authored) (reply : Logged) (reason : SessionOut) → stop_of reply ≡ Some reason → is_stop_reply (full_reply A reply) ≡ true
-stops A logged.Bye reason e = refl
-stops A (logged.Refused code detail) reason e = stop_code (eqb code 1) (eqb code 4) (eqb code 9) outs.Malformed outs.Ended outs.Spent reason e
-stops A (logged.Welcome commit head) reason e = absurd (none-some reason e)
-stops A (logged.Relay seq commit head positions) reason e = absurd (none-some reason e)
-stops A (logged.Dropped seq chain far) reason e = absurd (none-some reason e)
-stops A (logged.Settled seq place) reason e = absurd (none-some reason e)
-stops A (logged.Noted commit) reason e = absurd (none-some reason e)
-stops A logged.Idle reason e = absurd (none-some reason e)
 
 -- ---- The session
 
@@ -125,14 +94,7 @@ module _ (stay : FullRepliesStay) (name : LegalRelaysNameAccepted) (J : List Ent
       ∙ (all_sent out d.served.received answered d.served.sent (due_frames d.after.seen answered) (λ same. absurd (true≢false (sym (faulted same) ∙ faultless))) d.memory d.served.cause ∙ due)
 
   stopped : (reason : SessionOut) → StopsFor reason answered → EndsWithStop (replies_in (accepted h) h s)
-  stopped reason f =
-      subst EndsWithStop (sym replies_all)
-      (record {
-        before = full_over J f.before;
-        last = full_reply (accepted h) f.last.reply;
-        are = ap (full_over J) f.are ∙ map-append (λ (e : Entry). full_reply (accepted h) e.reply) f.before (f.last ∷ []);
-        stop = stops (accepted h) f.last.reply reason f.stop;
-      })
+  stopped reason f = subst EndsWithStop (sym replies_all) (stopped_by J answered reason f)
 
   abbrev HowItEnded : Type 0
   HowItEnded = EndsWithStop (replies_in (accepted h) h s) ⊎ AnsweredAll h s x ⊎ (x.faulty ≡ true)

@@ -1,8 +1,8 @@
 -- A trace that fits the journal of a server but for the values that its Dones report: its other requests are those that it asked.
-use Rattle.std.proofs.Common.{◌≡◌, ℕ, zero, suc, ◌==◌, Bool, true, false, ◌||◌, ◌&&◌, not, nat_lt, List, [], ◌∷◌, map, length, ℤ, Some, slice_get, refl, sym, ap, ap₂, ◌∙◌, true≢false, subst}
+use Rattle.std.proofs.Common.{◌≡◌, ℕ, ◌==◌, Bool, true, false, ◌||◌, ◌&&◌, not, nat_lt, List, [], ◌∷◌, map, length, ℤ, Some, slice_get, refl, sym, ap, ap₂, ◌∙◌, true≢false, subst}
 use Rattle.std.specs.List.{list_any, list_all}
 use Rattle.std.proofs.lemmas.List.{length-map}
-use Rattle.std.proofs.lemmas.Option.{none-some, same_Some}
+use Rattle.std.proofs.lemmas.Option.{same_Some}
 use Rattle.sv_world.specs.declared.world.Shape.{Shape}
 use Rattle.sv_world.specs.Control.{is_in, action_at}
 use Rattle.sv_world.specs.Faults.{is_ascending}
@@ -24,6 +24,7 @@ use Rattle.sv_client.specs.Taking.{Identity, allows, has_bad_item}
 use Rattle.sv_system.specs.Fronts.{IsFront}
 use Rattle.sv_system.specs.Fits.{requests_in, FitsIn, FitsOne}
 use Rattle.sv_system.specs.Served.{HaveSameForm, AreSameButValues, FitsInButValues, FitsButValues}
+use Rattle.sv_system.proofs.Places.{unmap_at}
 
 -- A journal that is legal for a keeping, and a trace that fits it but for the values that its Dones report.
 pub record IsServed (K : Keeping) (r : Rules) (H : List Entry) (L : Trace) : Type 0 where
@@ -106,17 +107,12 @@ fits-in h L s f = record { got = f.got; asked = λ i q e. (q, (f.asked i q e, sa
 pub fits-but_values : (shape : Shape) (h : List Entry) (L : Trace) → FitsOne shape h L → FitsButValues shape h L
 fits-but_values shape h L f = record { proper = f.proper; sessions = λ s has. fits-in h L s (f.sessions s has) }
 
-get-map : (f : Request → Request) (rs : List Request) (i : ℕ) (q : Request) → slice_get (map f rs) i ≡ Some q → (p : Request) × ((slice_get rs i ≡ Some p) × (q ≡ f p))
-get-map f [] i q e = absurd (none-some q e)
-get-map f (r ∷ rs) zero q e = (r, (refl, sym (same_Some (f r) q e)))
-get-map f (r ∷ rs) (suc i) q e = get-map f rs i q e
-
 -- So is a trace of which the journal has what a function makes of its requests that changes values alone.
 pub asked-but : (f : Request → Request) → ((p : Request) → AreSameButValues p (f p)) → (qs rs : List Request) → IsFront qs (map f rs) → (i : ℕ) (q : Request) → slice_get qs i ≡ Some q →
     (p : Request) × ((slice_get rs i ≡ Some p) × AreSameButValues p q)
 asked-but f alike qs rs front i q e =
-    let x = get-map f rs i q (front i q e) in
-    (x.0, (x.1.0, subst (AreSameButValues x.0) (sym x.1.1) (alike x.0)))
+    let x = unmap_at f rs i q (front i q e) in
+    (x.0, (x.1, subst (AreSameButValues x.0) x.2 (alike x.0)))
 
 -- ---- Replies and faults
 

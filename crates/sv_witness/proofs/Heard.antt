@@ -26,13 +26,14 @@ use Rattle.sv_system.specs.Fits.{requests_in, is_join_of, has_session, FitsOne, 
 use Rattle.sv_system.specs.Served.{is_session_of, FitsBut, HaveSameForm, AreSameButValues, FitsButValues}
 use Rattle.sv_system.proofs.Fronts.{get-push_cases}
 use Rattle.sv_system.proofs.Entered.{is_of}
+use Rattle.sv_system.proofs.Places.{map_at}
 use Rattle.law_schedule.specs.Players.{Player, trace_of_player}
 use Rattle.law_schedule.specs.Serving.{Run, Server, traces_of}
 use Rattle.law_schedule.specs.Schedule.{rules_of}
 use Rattle.law_schedule.specs.Sound.{has_joined}
 use Rattle.law_schedule.specs.Served.{IsServersOwn, AreHeard, KeepsSound, HearsJoins, FitsServer, IsSoundOver}
 use Rattle.law_schedule.proofs.DoneFacts.{any-turned}
-use Rattle.law_schedule.proofs.DoneLists.{map-here, any-found, any-there}
+use Rattle.law_schedule.proofs.DoneLists.{any-found, any-there}
 use Rattle.law_schedule.proofs.SoundPlayers.{front-push}
 use Rattle.law_schedule.proofs.SoundCalls.{player-at}
 use Rattle.law_schedule.proofs.SoundOwned.{begun-client, client-heard}
@@ -227,7 +228,7 @@ module _ (scenario : Scenario) (liar : Option ℕ) (run : Run) (good : IsGoodSce
       let q = o.1.0 in
       let a = player-at served_by scenario run good sound o.0 q o.1.1.0 in
       let number = client-heard served_by (heard-joins (rules_of scenario) liar) q run.history s k (a.fitting.sessions s o.1.1.1).heard c in
-      any-there (λ (L : Trace). L.client.0 == k && has_session L s) (traces_of run) o.0 (trace_of_player q) (map-here trace_of_player run.players o.0 q o.1.1.0)
+      any-there (λ (L : Trace). L.client.0 == k && has_session L s) (traces_of run) o.0 (trace_of_player q) (map_at trace_of_player run.players o.0 q o.1.1.0)
       (and_from (q.who.client.0 == k) (has_session (trace_of_player q) s) (eq-eqb q.who.client.0 k (sym number)) (any-turned (is_join_of s) q.events o.1.1.1))
 
   abbrev others : List Trace

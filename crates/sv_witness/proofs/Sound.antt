@@ -36,6 +36,7 @@ use Rattle.sv_asked.specs.Asked.{EventFits, HasNumbers, ServedRequestsFit, Serve
 use Rattle.sv_asked.specs.Numbers.{ScenarioFits}
 use Rattle.sv_system.proofs.Every.{each-at, each-map, each-more, each-reverse}
 use Rattle.sv_system.proofs.Limits.{limits_of, objects_few}
+use Rattle.sv_system.proofs.Places.{map_at}
 use Rattle.sv_asked.proofs.Evaluated.{IsNumber}
 use Rattle.sv_asked.proofs.Made.{Makes, Asks, asked-have}
 use Rattle.sv_asked.proofs.Owned.{entry-at, SubmitHas, submit-asked, end-submits, end-fits, event-makes, accepted-have}
@@ -47,7 +48,6 @@ use Rattle.law_schedule.specs.Served.{IsHeard, AreHeard, FitsServer, IsSoundOver
 use Rattle.law_schedule.specs.Sound.{has_joined}
 use Rattle.law_schedule.proofs.DoneCounts.{asked-few}
 use Rattle.law_schedule.proofs.DoneFacts.{any-turned, same-who, same-events}
-use Rattle.law_schedule.proofs.DoneLists.{map-here}
 use Rattle.law_schedule.proofs.SoundCalls.{player-at}
 use Rattle.law_schedule.proofs.SoundLaws.{run-sound}
 use Rattle.law_schedule.proofs.SoundOwned.{session-owned}
@@ -164,7 +164,7 @@ module _ (scenario : Scenario) (liar : Option ℕ) (run : Run) (good : IsGoodSce
   trace-fits k p at =
       witness-fits r liar shape H (trace_of_player p)
       (each-at (FitsServer server shape H) (traces_of run) k (trace_of_player p) (recursion_from_All (FitsServer server shape H) (traces_of run) sound.fits)
-      (map-here trace_of_player run.players k p at))
+      (map_at trace_of_player run.players k p at))
 
   trace-owns : (k : ℕ) (p : Player) → slice_get run.players k ≡ Some p → OwnsSessions H (trace_of_player p)
   trace-owns k p at s c = any-turned (is_join_of s) p.events (session-owned server (heard-joins r liar) scenario run good sound k p at s c)
@@ -204,7 +204,7 @@ module _ (scenario : Scenario) (liar : Option ℕ) (run : Run) (good : IsGoodSce
     made-at k p at =
         each-at (λ (L : Trace). All EventFits L.events) (traces_of run) k (trace_of_player p)
         (recursion_from_All (λ (L : Trace). All EventFits L.events) (traces_of run) (scripts server scenario run numbers sound))
-        (map-here trace_of_player run.players k p at)
+        (map_at trace_of_player run.players k p at)
 
     makes-at : (k : ℕ) (p : Player) → slice_get run.players k ≡ Some p → AllByRecursion (Makes ActionFits) p.events
     makes-at k p at =

@@ -6,9 +6,10 @@ use Rattle.std.proofs.lemmas.List.{get_or_read}
 use Rattle.sv_scenario.specs.declared.scenario.Turn.TheVariants as turns
 use Rattle.law_schedule.specs.Players.{player_turn}
 use Rattle.sv_exchange.specs.View.{ExchangeView, new_exchange}
+use Rattle.sv_system.proofs.Places.{map_at}
 use Rattle.sv_replay.specs.Players.{session_of}
 use Rattle.sv_replay.specs.Machine.{player_of, MovedPlayer, stage_of}
-use Rattle.sv_replay.proofs.Machines.{clients_are, player_read, player_flags, player_known, player_fits, player_fits_after, get_map, moved_became}
+use Rattle.sv_replay.proofs.Machines.{clients_are, player_read, player_flags, player_known, player_fits, player_fits_after, moved_became}
 use Rattle.sv_replay.proofs.Sending.{turn_asks, link_open}
 use Rattle.sv_replay.proofs.machine.Machine.client_turn.Goals as goal
 
@@ -39,7 +40,7 @@ turn-requires-clause-after g c =
     let k = c.args.client in
     let p = c.index_mut-player.result.now in
     let is = c.requires.machine in
-    let at = get_map player_of m.players k p (player_read m k p is c.requires.client c.index_mut-player.ensures.value) in
+    let at = map_at player_of m.players k p (player_read m k p is c.requires.client c.index_mut-player.ensures.value) in
     record {
       fit = player_fits_after m k p is c.requires.client c.index_mut-player.ensures.value;
       asks = turn_asks m k (player_of p) is c.requires.client at;
@@ -52,7 +53,7 @@ turn-requires-clause-open g c =
     let p = c.index_mut-player.result.now in
     let is = c.requires.machine in
     let here = c.session-session.ensures in
-    let at = get_map player_of m.players k p (player_read m k p is c.requires.client c.index_mut-player.ensures.value) in
+    let at = map_at player_of m.players k p (player_read m k p is c.requires.client c.index_mut-player.ensures.value) in
     let fit = player_known m k p is c.requires.client c.index_mut-player.ensures.value in
     let known : c.session-session.result < length m.channels = omega (arith, fit.known, is.count, here) in
     let read : c.index_mut.result.now ≡ get_or m.channels (session_of (player_of p)) new_exchange =

@@ -9,12 +9,13 @@ use Rattle.sv_exchange.specs.View.{ExchangeView, new_exchange}
 use Rattle.sv_replay.specs.Players.{session_of, taken_from}
 use Rattle.sv_replay.specs.Machine.{player_of, MovedPlayer, run_of, stage_of}
 use Rattle.sv_client.proofs.Shifts.{up_fault}
+use Rattle.sv_system.proofs.Places.{map_at}
 use Rattle.sv_replay.specs.Messages.{AsksMessages}
 use Rattle.sv_replay.specs.Serving.{one_if}
 use Rattle.sv_replay.specs.Work.{work_of_client, Found}
 use Rattle.sv_replay.proofs.Events.{up_must}
 use Rattle.sv_replay.proofs.Sending.{take_asks, link_open, reply_fine, both_told, client_found}
-use Rattle.sv_replay.proofs.Machines.{clients_are, player_read, player_flags, player_known, player_fits, get_map, taken_is, moved_became}
+use Rattle.sv_replay.proofs.Machines.{clients_are, player_read, player_flags, player_known, player_fits, taken_is, moved_became}
 use Rattle.sv_replay.proofs.machine.Machine.take_turn.Goals as goal
 
 pub index_mut-player-requires : goal.index_mut-player-requires
@@ -45,7 +46,7 @@ take-requires-clause-after g c =
     let p = c.index_mut-player.result.now in
     let is = c.requires.machine in
     let here = c.session-session.ensures in
-    let at = get_map player_of m.players k p (player_read m k p is c.requires.client c.index_mut-player.ensures.value) in
+    let at = map_at player_of m.players k p (player_read m k p is c.requires.client c.index_mut-player.ensures.value) in
     let fit = player_known m k p is c.requires.client c.index_mut-player.ensures.value in
     let known : c.session-session.result < length m.channels = omega (arith, fit.known, is.count, here) in
     let read : c.index_mut.result.now ≡ get_or m.channels (session_of (player_of p)) new_exchange =
@@ -60,7 +61,7 @@ take-requires-clause-open g c =
     let p = c.index_mut-player.result.now in
     let is = c.requires.machine in
     let here = c.session-session.ensures in
-    let at = get_map player_of m.players k p (player_read m k p is c.requires.client c.index_mut-player.ensures.value) in
+    let at = map_at player_of m.players k p (player_read m k p is c.requires.client c.index_mut-player.ensures.value) in
     let fit = player_known m k p is c.requires.client c.index_mut-player.ensures.value in
     let known : c.session-session.result < length m.channels = omega (arith, fit.known, is.count, here) in
     let read : c.index_mut.result.now ≡ get_or m.channels (session_of (player_of p)) new_exchange =
@@ -74,7 +75,7 @@ take-requires-clause-fine g c =
     let p = c.index_mut-player.result.now in
     let is = c.requires.machine in
     let here = c.session-session.ensures in
-    let at = get_map player_of m.players k p (player_read m k p is c.requires.client c.index_mut-player.ensures.value) in
+    let at = map_at player_of m.players k p (player_read m k p is c.requires.client c.index_mut-player.ensures.value) in
     let fit = player_known m k p is c.requires.client c.index_mut-player.ensures.value in
     let known : c.session-session.result < length m.channels = omega (arith, fit.known, is.count, here) in
     let read : c.index_mut.result.now ≡ get_or m.channels (session_of (player_of p)) new_exchange =
@@ -101,7 +102,7 @@ returns-clause-became g c =
     get_or_read m.channels c.session-session.result _ known c.index_mut.ensures.value new_exchange ∙ ap (λ n. get_or m.channels n new_exchange) here in
     on_ok_weaker c.take.result
     (λ did. moved_became m w k p q d is at (take_turn (run_of m).history) (turns.Take k)
-    (subst (λ (x : Player). MovedPlayer x p q (get_or m.channels (session_of (player_of p)) new_exchange) d) (taken_is m k (player_of p) is (get_map player_of m.players k p at))
+    (subst (λ (x : Player). MovedPlayer x p q (get_or m.channels (session_of (player_of p)) new_exchange) d) (taken_is m k (player_of p) is (map_at player_of m.players k p at))
     (subst (λ (v : ExchangeView). MovedPlayer (taken_from v.replies (player_of p)) p q v d) read did)) refl c.requires.client refl refl refl
     (ap (λ n. set m.channels n d) here))
     c.take.ensures.taken
@@ -124,5 +125,5 @@ returns-clause-found g c =
     both_told c.take.result (MovedPlayer (taken_from c.index_mut.result.now.replies (player_of p)) p q c.index_mut.result.now d)
     (λ found. length q.client.events ≡ length p.client.events + one_if found) (Found (work_of_client k) (run_of m) (run_of w))
     (λ found did long. client_found m w k p q found at
-    (did.player ∙ ap (λ (v : ExchangeView). taken_from v.replies (player_of p)) read ∙ taken_is m k (player_of p) is (get_map player_of m.players k p at)) refl refl long)
+    (did.player ∙ ap (λ (v : ExchangeView). taken_from v.replies (player_of p)) read ∙ taken_is m k (player_of p) is (map_at player_of m.players k p at)) refl refl long)
     c.take.ensures.taken c.take.ensures.found
