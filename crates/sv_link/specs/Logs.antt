@@ -1,4 +1,5 @@
 -- What an end keeps of its own calls.
+use Rattle.std.specs.Prelude.{ℕ, ◌+◌, ◌-◌, ◌^◌, ◌<◌, min}
 use Rattle.sv_link.specs.Ends.{Told}
 use Rattle.sv_link.specs.declared.log.EndLog.{EndLog}
 use Rattle.sv_link.specs.declared.ends.EndRead.{EndRead}
@@ -29,3 +30,11 @@ abbrev pub IsWriteFault : EndWrote → Type 0
 IsWriteFault (wrote.Took n) = ⊥
 IsWriteFault wrote.Failed = Unit {0}
 IsWriteFault wrote.Memory = Unit {0}
+
+-- a fault can be counted: the count is not full
+abbrev pub CountsFault : EndLog → Type 0
+CountsFault log = log.faults + 1 < 2 ^ 64
+
+-- the log's count of faults after one more, which stops where it is full
+abbrev pub faults_after : EndLog → ℕ
+faults_after log = min (log.faults + 1) (2 ^ 64 - 1)

@@ -1,7 +1,7 @@
 //! What an end tells of itself, kept beside whatever carries its bytes.
-ghost use Rattle.std.specs.Prelude.{◌≡◌, ◌+◌, if◌then◌else◌};
+ghost use Rattle.std.specs.Prelude.{◌≡◌, ◌+◌, if◌then◌else◌, IsTrue, ◌↔◌};
 ghost use Rattle.sv_link.specs.Ends.{new_end, EndReadCause, EndWriteCause};
-ghost use Rattle.sv_link.specs.Logs.{told_of, IsReadFault, IsWriteFault};
+ghost use Rattle.sv_link.specs.Logs.{told_of, IsReadFault, IsWriteFault, CountsFault, faults_after};
 
 use crate::ends::{EndRead, EndWrote};
 use crate::side::Side;
@@ -43,6 +43,8 @@ impl EndLog {
     fn counts_fault(&mut self) -> bool
         ensures told { told_of self.new ≡ told_of self.old }
         ensures faults { self.new.faults ≡ (if result then self.old.faults + 1 else self.old.faults) }
+        ensures counts { IsTrue result ↔ CountsFault self.old }
+        ensures counted { self.new.faults ≡ faults_after self.old }
     {
         let Some(faults) = self.faults.checked_add(1) else {
             return false;
@@ -56,6 +58,8 @@ impl EndLog {
         ensures fault { IsReadFault result }
         ensures told { told_of self.new ≡ told_of self.old }
         ensures cause { EndReadCause self.old.faults self.new.faults result }
+        ensures failed { result ≡ EndRead.Failed ↔ CountsFault self.old }
+        ensures counted { self.new.faults ≡ faults_after self.old }
     {
         if self.counts_fault() {
             EndRead::Failed
@@ -69,6 +73,8 @@ impl EndLog {
         ensures fault { IsWriteFault result }
         ensures told { told_of self.new ≡ told_of self.old }
         ensures cause { EndWriteCause self.old.faults self.new.faults result }
+        ensures failed { result ≡ EndWrote.Failed ↔ CountsFault self.old }
+        ensures counted { self.new.faults ≡ faults_after self.old }
     {
         if self.counts_fault() {
             EndWrote::Failed

@@ -59,6 +59,7 @@ pub(crate) fn settle_pair(
     ensures owed { book.old.owed ≡ suc book.new.owed }
     ensures cause { SettleCause book.old.faults.value book.new.faults.value (counted cut server.faults client.faults) result }
     ensures certain { refused ≡ false → counted cut server.faults client.faults ≡ 0 → BothArrived (told_of server) (told_of client) → result ≡ Settle.Matched }
+    ensures refuses { refused ≡ true → result ≡ Settle.Failed }
 {
     let arrived = both_arrived(&server, &client);
     let faultless = cut || (server.faults == 0 && client.faults == 0);

@@ -1,5 +1,8 @@
 //! An end of a connection in memory.
-ghost use Rattle.std.specs.Prelude.{◌≡◌};
+ghost use Rattle.std.specs.Prelude.{◌≡◌, ◌<◌, ◌↔◌, min, length};
+ghost use Rattle.sv_link.specs.Ends.{Reads, Writes, EndReadCause, EndWriteCause};
+ghost use Rattle.sv_link.specs.Logs.{IsReadFault, IsWriteFault, CountsFault, faults_after};
+ghost use Rattle.sv_link.specs.Pipes.{CountsCall, IsListed, EndGotAtMost, EndTookJust, pipe_told};
 
 use crate::ends::{End, EndRead, EndWrote};
 use crate::log::{EndLog, MOST_READ};
@@ -46,25 +49,17 @@ impl<'r, R: Wait> PipeEnd<'r, R> {
         pipe.close(rt, log.side);
         log
     }
-}
 
-impl<'r, R: Wait> Drop for PipeEnd<'r, R> {
-    fn drop(self) {
-        let _log = self.into_log();
-    }
-}
-
-impl<'r, R: Wait> End for PipeEnd<'r, R> {
-    ghost use Rattle.std.specs.Prelude.{◌≡◌, []};
-    ghost use Rattle.sv_link.specs.Logs.{told_of};
-
-    ghost told = { λ e. told_of e.log };
-
-    ghost faults = { λ e. e.log.faults };
-
-    ghost calm = { λ e. (e.plan.failing.items ≡ []) × (e.log.faults ≡ 0) };
-
-    fn read(&mut self, into: &mut [u8]) -> EndRead {
+    /// What `read` does: it fails just where this call is listed, and else gives no more bytes than its step allows.
+    pub fn receive(&mut self, into: &mut [u8]) -> EndRead
+        requires room { 0 < length into.old }
+        ensures plan { CountsCall self.old.plan self.new.plan }
+        ensures fails { result ≡ EndRead.Failed ↔ (IsListed self.new.plan × CountsFault self.old.log) }
+        ensures listed { IsListed self.new.plan → IsReadFault result × (self.new.log.faults ≡ faults_after self.old.log) }
+        ensures most { EndGotAtMost (min (min (length into.old) self.old.plan.step) MOST_READ) result }
+        ensures told { Reads (pipe_told self.old) into.new result (pipe_told self.new) }
+        ensures cause { EndReadCause self.old.log.faults self.new.log.faults result }
+    {
         if self.plan.next_fails() {
             return self.log.read_failed();
         }
@@ -84,7 +79,16 @@ impl<'r, R: Wait> End for PipeEnd<'r, R> {
         EndRead::Got(count)
     }
 
-    fn write(&mut self, piece: &[u8]) -> EndWrote {
+    /// What `write` does: it fails just where this call is listed, and else takes as many bytes as its step allows, or finds no memory.
+    pub fn send(&mut self, piece: &[u8]) -> EndWrote
+        requires some { 0 < length piece.now }
+        ensures plan { CountsCall self.old.plan self.new.plan }
+        ensures fails { result ≡ EndWrote.Failed ↔ (IsListed self.new.plan × CountsFault self.old.log) }
+        ensures listed { IsListed self.new.plan → IsWriteFault result × (self.new.log.faults ≡ faults_after self.old.log) }
+        ensures just { EndTookJust (min (length piece.now) self.old.plan.step) result }
+        ensures told { Writes (pipe_told self.old) piece.now result (pipe_told self.new) }
+        ensures cause { EndWriteCause self.old.log.faults self.new.log.faults result }
+    {
         if self.plan.next_fails() {
             return self.log.write_failed();
         }
@@ -98,6 +102,31 @@ impl<'r, R: Wait> End for PipeEnd<'r, R> {
         }
         self.log.sent.extend_from_slice(piece).unwrap();
         EndWrote::Took(piece.len())
+    }
+}
+
+impl<'r, R: Wait> Drop for PipeEnd<'r, R> {
+    fn drop(self) {
+        let _log = self.into_log();
+    }
+}
+
+impl<'r, R: Wait> End for PipeEnd<'r, R> {
+    ghost use Rattle.std.specs.Prelude.{◌≡◌, []};
+    ghost use Rattle.sv_link.specs.Logs.{told_of};
+
+    ghost told = { λ e. told_of e.log };
+
+    ghost faults = { λ e. e.log.faults };
+
+    ghost calm = { λ e. (e.plan.failing.items ≡ []) × (e.log.faults ≡ 0) };
+
+    fn read(&mut self, into: &mut [u8]) -> EndRead {
+        self.receive(into)
+    }
+
+    fn write(&mut self, piece: &[u8]) -> EndWrote {
+        self.send(piece)
     }
 
     fn close(&mut self) {

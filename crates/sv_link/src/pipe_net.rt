@@ -1,7 +1,11 @@
 //! A net whose connections lie in memory.
-ghost use Rattle.std.specs.Prelude.{◌≡◌, ◌<◌, [], ◌∷◌, ◌++◌, IfOk, OnOk, OnErr};
+ghost use Rattle.std.specs.Prelude.{◌≡◌, ◌<◌, suc, [], ◌∷◌, ◌++◌, ◌↔◌, IfOk, OnOk, OnErr, IsTrue};
+ghost use Rattle.sv_link.specs.Logs.{told_of};
+ghost use Rattle.sv_link.specs.Nets.{BothArrived, Settles, SettleCause, counted, MakesPair, OwesPair, PairCause};
+ghost use Rattle.sv_link.specs.Pipes.{IsCopied, SomeReceived};
 
 use crate::book::Book;
+use crate::log::EndLog;
 use crate::nets::{Net, Pair, Settle};
 use crate::pairs::{Settled, open_pair, settle_pair};
 use crate::pipe::Pipe;
@@ -25,7 +29,7 @@ pub struct PipeNet<'r, R: Wait> {
 }
 
 impl<'r, R: Wait> PipeNet<'r, R> {
-    ghost use Rattle.sv_link.specs.Pipes.{IsNewNet, book_of, plans_of};
+    ghost use Rattle.sv_link.specs.Pipes.{IsNewNet, book_of, plans_of, pipe_told, pipe_faults, CountsCall, IsListed, HavePlans, RefusesEnds};
 
     /// No pair was made, and no call fails.
     pub fn new(alloc: Global, rt: &'r R) -> PipeNet<'r, R>
@@ -87,24 +91,18 @@ impl<'r, R: Wait> PipeNet<'r, R> {
         self.server.step = step;
         self.client.step = step;
     }
-}
 
-impl<'r, R: Wait + Sync> Net for PipeNet<'r, R> {
-    ghost use Rattle.sv_link.specs.Pipes.{plans_of, HasNoPlan};
-
-    type E = PipeEnd<'r, R>;
-
-    ghost settled = { λ n. n.book.kept.items };
-
-    ghost made = { λ n. n.book.made };
-
-    ghost owed = { λ n. n.book.owed };
-
-    ghost faults = { λ n. n.book.faults.value };
-
-    ghost calm = { λ n. HasNoPlan (plans_of n) };
-
-    fn pair(&mut self) -> Pair<PipeEnd<'r, R>> {
+    /// What `pair` does: it fails just where this call is listed, and an end that it makes has the list and the step for its side.
+    pub fn make_pair(&mut self) -> Pair<PipeEnd<'r, R>>
+        ensures calls { CountsCall self.old.calls self.new.calls }
+        ensures fails { result ≡ Pair.Failed ↔ IsListed self.new.calls }
+        ensures ends { HavePlans self.old result }
+        ensures plans { (self.new.server ≡ self.old.server) × (self.new.client ≡ self.old.client) × (self.new.settlings ≡ self.old.settlings) }
+        ensures made { MakesPair pipe_told pipe_faults self.old.book.made self.new.book.made result }
+        ensures owed { OwesPair self.old.book.owed self.new.book.owed result }
+        ensures settled { self.new.book.kept.items ≡ self.old.book.kept.items }
+        ensures cause { PairCause self.old.book.faults.value self.new.book.faults.value result }
+    {
         if self.calls.next_fails() {
             self.book.count_fault();
             return Pair::Failed;
@@ -130,19 +128,82 @@ impl<'r, R: Wait + Sync> Net for PipeNet<'r, R> {
         Pair::Made(server, client)
     }
 
-    fn settle(&mut self, server: PipeEnd<'r, R>, client: PipeEnd<'r, R>, cut: bool) -> Settle {
+    // Counts the call and the settling, and answers whether these two ends are settled as failed whatever they tell.
+    fn refuses(&mut self, server: &EndLog, client: &EndLog) -> bool
+        ensures refused { IsTrue result ↔ RefusesEnds self.new (told_of server.now) (told_of client.now) }
+        ensures calls { CountsCall self.old.calls self.new.calls × CountsCall self.old.settlings self.new.settlings }
+        ensures same { (self.new.server ≡ self.old.server) × (self.new.client ≡ self.old.client) × (self.new.book ≡ self.old.book) }
+    {
+        let is_changed = self.changes(server, client);
+        self.calls.next_fails() || is_changed
+    }
+
+    // Counts the settling, and answers whether a byte of it is taken as changed.
+    fn changes(&mut self, server: &EndLog, client: &EndLog) -> bool
+        ensures changed { IsTrue result ↔ (IsListed self.new.settlings × SomeReceived (told_of server.now) (told_of client.now)) }
+        ensures settlings { CountsCall self.old.settlings self.new.settlings }
+        ensures same { (self.new.server ≡ self.old.server) × (self.new.client ≡ self.old.client) × (self.new.book ≡ self.old.book) × (self.new.calls ≡ self.old.calls) }
+    {
+        self.settlings.next_fails() && some_received(server, client)
+    }
+
+    /// What `settle` does: it fails where its lists say so, and else just where bytes differ or a fault counts.
+    pub fn settle_ends(
+        &mut self,
+        server: PipeEnd<'r, R>,
+        client: PipeEnd<'r, R>,
+        cut: bool,
+    ) -> Settle
+        requires owed { 0 < self.old.book.owed }
+        ensures calls { CountsCall self.old.calls self.new.calls × CountsCall self.old.settlings self.new.settlings }
+        ensures plans { (self.new.server ≡ self.old.server) × (self.new.client ≡ self.old.client) }
+        ensures refused { RefusesEnds self.new (pipe_told server.entry) (pipe_told client.entry) → result ≡ Settle.Failed }
+        ensures certain { ¬ RefusesEnds self.new (pipe_told server.entry) (pipe_told client.entry) → counted cut (pipe_faults server.entry) (pipe_faults client.entry) ≡ 0 → BothArrived (pipe_told server.entry) (pipe_told client.entry) → result ≡ Settle.Matched }
+        ensures settles { Settles (pipe_told server.entry) (pipe_faults server.entry) (pipe_told client.entry) (pipe_faults client.entry) cut self.old.book.kept.items self.new.book.kept.items result }
+        ensures made { self.new.book.made ≡ self.old.book.made }
+        ensures owed { self.old.book.owed ≡ suc self.new.book.owed }
+        ensures cause { SettleCause self.old.book.faults.value self.new.book.faults.value (counted cut (pipe_faults server.entry) (pipe_faults client.entry)) result }
+    {
         let server = server.into_log();
         let client = client.into_log();
-        let came = !server.received.is_empty() || !client.received.is_empty();
-        let changed = self.settlings.next_fails() && came;
-        let refused = self.calls.next_fails() || changed;
+        let refused = self.refuses(&server, &client);
         settle_pair(&mut self.book, server, client, cut, refused)
     }
 }
 
+impl<'r, R: Wait + Sync> Net for PipeNet<'r, R> {
+    ghost use Rattle.sv_link.specs.Pipes.{plans_of, HasNoPlan};
+
+    type E = PipeEnd<'r, R>;
+
+    ghost settled = { λ n. n.book.kept.items };
+
+    ghost made = { λ n. n.book.made };
+
+    ghost owed = { λ n. n.book.owed };
+
+    ghost faults = { λ n. n.book.faults.value };
+
+    ghost calm = { λ n. HasNoPlan (plans_of n) };
+
+    fn pair(&mut self) -> Pair<PipeEnd<'r, R>> {
+        self.make_pair()
+    }
+
+    fn settle(&mut self, server: PipeEnd<'r, R>, client: PipeEnd<'r, R>, cut: bool) -> Settle {
+        self.settle_ends(server, client, cut)
+    }
+}
+
+fn some_received(server: &EndLog, client: &EndLog) -> bool
+    ensures { IsTrue result ↔ SomeReceived (told_of server.now) (told_of client.now) }
+{
+    !server.received.is_empty() || !client.received.is_empty()
+}
+
 /// A plan that fails at the same calls, for another object.
 pub fn copied_plan(alloc: Global, plan: &Plan) -> Result<Plan, AllocError>
-    ensures { IfOk result (λ copy. copy.failing.items ≡ plan.now.failing.items) }
+    ensures { IfOk result (IsCopied plan.now) }
 {
     Ok(Plan {
         failing: Vec::from_slice(alloc, &plan.failing)?,
