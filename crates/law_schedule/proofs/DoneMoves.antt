@@ -16,9 +16,9 @@ use Rattle.sv_script.specs.Following.{must_join, is_welcomed}
 use Rattle.sv_system.proofs.Aligned.{aligned}
 use Rattle.sv_system.proofs.Pendings.{key_of, keys, submits}
 use Rattle.law_schedule.specs.Players.{Player, does, if_free, is_calm, is_settled, last_steps, next_step, player_turn}
-use Rattle.law_schedule.proofs.DoneCounts.{one_if}
 use Rattle.law_schedule.proofs.DoneTakes.{IsOpen}
 use Rattle.law_schedule.proofs.DoneShut.{turn-joins, turn-steps}
+use Rattle.law_schedule.proofs.DoneCounts.{one_if}
 
 -- The Leave and the closing, or the closing alone.
 abbrev pub last_to_go : Bool → Bool → ℕ

@@ -24,7 +24,7 @@ use Rattle.law_schedule.proofs.DoneGiven.{StaySound}
 use Rattle.law_schedule.proofs.DoneLists.{repeated-keeps}
 use Rattle.law_schedule.proofs.DoneDue.{EndsAreDue, due-turn, due-round}
 use Rattle.law_schedule.proofs.DoneFacts.{following}
-use Rattle.law_schedule.proofs.DoneCounts.{one_if, left-less, cuts-less, current-there}
+use Rattle.law_schedule.proofs.DoneCounts.{left-less, cuts-less, current-there, one_if}
 use Rattle.law_schedule.proofs.DoneTakes.{AreDones, IsOpen, takes-none}
 use Rattle.law_schedule.proofs.DoneWaits.{HasWaited, has-waited}
 use Rattle.law_schedule.proofs.DoneShut.{open-closed, open-none, stays-closed, shut-turn, shut-take, due-mapped, due-at}

@@ -22,11 +22,12 @@ use Rattle.law_schedule.specs.Players.{Player, is_calm, is_settled, player_turn,
 use Rattle.law_schedule.specs.Serving.{Run, Server}
 use Rattle.law_schedule.specs.Sound.{IsPlaying, ArePlaying, has_joined}
 use Rattle.law_schedule.specs.Served.{IsSoundOver}
-use Rattle.law_schedule.proofs.SoundTraces.{begun_more, joins-within, joined-once}
+use Rattle.law_schedule.proofs.SoundTraces.{joined-once}
 use Rattle.law_schedule.proofs.SoundPlayers.{IsFitting, IsKept, IsUnused, may-join, may-make, may-poll, may-leave, turn-kept, take-kept}
 use Rattle.law_schedule.proofs.SoundEntries.{begun_by, unused-unless_begun}
 use Rattle.law_schedule.proofs.SoundRuns.{AreOwn, all-own}
 use Rattle.law_schedule.proofs.SoundLaws.{sound-stands}
+use Rattle.law_schedule.proofs.DoneCounts.{joins-counted, one_if}
 
 -- A player of a run with so many sessions, with its number, its first session and its plan. No entry is of a session that it did not join yet.
 pub record IsPlayer (server : Server) (shape : Shape) (sessions : ℕ) (h : List Entry) (p : Player) : Type 0 where
@@ -75,13 +76,13 @@ module _ (server : Server) (shape : Shape) (sessions : ℕ) (h : List Entry) (p 
   -- The session that it joins next, and the one that it joined last, is one of the run.
   pub session-next : must_join p.events ≡ true → p.first + joins p.events < sessions
   session-next m =
-      let most = joins-within p.who a.plan.steps p.events a.playing.before a.playing.follows in
-      omega (arith, most, ap begun_more m, a.playing.first, a.within)
+      let most = joins-counted p.who a.plan.steps p.events a.playing.before a.playing.follows in
+      omega (arith, most, ap one_if m, a.playing.first, a.within)
 
   pub session-last : must_join p.events ≡ false → (1 ≤ joins p.events) × (p.first + joins p.events ≤ sessions)
   session-last m =
-      let most = joins-within p.who a.plan.steps p.events a.playing.before a.playing.follows in
-      (joined-once p.who a.plan.steps p.events a.playing.before a.playing.follows m, omega (arith, most, ap begun_more m, a.playing.first, a.within))
+      let most = joins-counted p.who a.plan.steps p.events a.playing.before a.playing.follows in
+      (joined-once p.who a.plan.steps p.events a.playing.before a.playing.follows m, omega (arith, most, ap one_if m, a.playing.first, a.within))
 
   -- ---- Each call
 

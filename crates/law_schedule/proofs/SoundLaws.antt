@@ -1,9 +1,10 @@
 -- A run over a server is sound at each moment: its players' traces fit its journal.
 use Rattle.std.proofs.Common.{◌≡◌, ℕ, suc, ◌+◌, ◌<◌, ◌≤◌, Bool, true, false, ◌||◌, inl, List, [], ◌∷◌, map, reverse, length, refl, sym, ap, subst, ◌∙◌, arith, true≢false}
 use Rattle.std.specs.List.{list_any, AllByRecursion}
-use Rattle.std.proofs.lemmas.List.{reverse-reverse, reverse-append}
+use Rattle.std.proofs.lemmas.List.{reverse-append}
 use Rattle.std.proofs.lemmas.List.Elements.{All-from_recursion, recursion_from_All}
 use Rattle.std.proofs.lemmas.List.Folds.{list_any-append}
+use mathlib.Core.Bool.{or-false, or_comm}
 use Rattle.sv_world.specs.Control.{below}
 use Rattle.sv_world.specs.declared.world.ClientId.{ClientId}
 use Rattle.sv_world.specs.declared.world.ObjectId.{ObjectId}
@@ -30,24 +31,15 @@ use Rattle.law_schedule.proofs.SoundPlayers.{FitsAt, IsFitting}
 use Rattle.law_schedule.proofs.SoundEntries.{begun_by}
 use Rattle.law_schedule.proofs.SoundRuns.{in-plan}
 use Rattle.law_schedule.proofs.SoundTurns.{AreStanding, below-known, sessions-stand, clients-stand, takes-stand, turned-stands, all-turned_stands, round-stands, rounds-stand}
+use Rattle.law_schedule.proofs.DoneFacts.{same-events}
 
 -- ---- A player and its trace
-
-or-other : (a b : Bool) → (a || b) ≡ (b || a)
-or-other true true = refl
-or-other true false = refl
-or-other false true = refl
-or-other false false = refl
-
-or-none : (b : Bool) → (b || false) ≡ b
-or-none true = refl
-or-none false = refl
 
 any-reverse : (test : Event → Bool) (t : List Event) → list_any test (reverse t) ≡ list_any test t
 any-reverse test [] = refl
 any-reverse test (e ∷ t) =
-    ap (list_any test) (reverse-append (e ∷ []) t) ∙ list_any-append test (reverse t) (e ∷ []) ∙ or-other (list_any test (reverse t)) (test e || false)
-    ∙ ap (λ (b : Bool). b || list_any test (reverse t)) (or-none (test e)) ∙ ap (λ (b : Bool). test e || b) (any-reverse test t)
+    ap (list_any test) (reverse-append (e ∷ []) t) ∙ list_any-append test (reverse t) (e ∷ []) ∙ or_comm (list_any test (reverse t)) (test e || false)
+    ∙ ap (λ (b : Bool). b || list_any test (reverse t)) (or-false (test e)) ∙ ap (λ (b : Bool). test e || b) (any-reverse test t)
 
 trace-has : (p : Player) (n : ℕ) → has_session (trace_of_player p) n ≡ has_joined p n
 trace-has p n = any-reverse (is_join_of n) p.events
@@ -59,9 +51,6 @@ traces-have (p ∷ ps) n = rw (trace-has p n, traces-have ps n) refl
 same-who : (shape : Shape) (k s : ℕ) (plan : Plan) (p : Player) → IsPlaying shape k s plan p → identity_of shape (trace_of_player p) ≡ p.who
 same-who shape k s plan p w =
     ap (λ (who : Identity). record { client = who.client; interest = who.interest; shape = shape }) w.who ∙ sym w.who
-
-same-events : (p : Player) → reverse (trace_of_player p).events ≡ p.events
-same-events p = reverse-reverse p.events
 
 proper-from : (shape : Shape) (k s : ℕ) (plan : Plan) (p : Player) → IsPlaying shape k s plan p → IsGoodIdentity p.who → AreProper p.who p.first p.events → Proper shape (trace_of_player p)
 proper-from shape k s plan p w good proper = record {

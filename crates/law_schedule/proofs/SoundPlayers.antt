@@ -34,7 +34,8 @@ use Rattle.law_schedule.specs.Players.{Player, does, is_calm, is_settled, last_s
 use Rattle.law_schedule.specs.Serving.{Server}
 use Rattle.law_schedule.specs.Sound.{ArePassed, none, sync, IsPlaying, has_joined}
 use Rattle.law_schedule.specs.Served.{AreHeard}
-use Rattle.law_schedule.proofs.SoundTraces.{IsNoQuit, nothing-left, left-or_finished, finished-settled, makes-within, joins-within, begun_more, all-left, joined-within}
+use Rattle.law_schedule.proofs.SoundTraces.{IsNoQuit, nothing-left, left-or_finished, finished-settled, makes-within, all-left, joined-within}
+use Rattle.law_schedule.proofs.DoneCounts.{joins-counted, one_if}
 
 -- ---- What is true of a player beside the history
 
@@ -190,7 +191,7 @@ module _ (server : Server) (shape : Shape) (h : List Entry) (k s : ℕ) (plan : 
   -- ---- A Join
 
   joins-few : must_join p.events ≡ true → joins p.events + 1 ≤ sessions_of_plan plan
-  joins-few m = (let most = joins-within p.who plan.steps p.events w.before w.follows in omega (arith, most, ap begun_more m))
+  joins-few m = (let most = joins-counted p.who plan.steps p.events w.before w.follows in omega (arith, most, ap one_if m))
 
   abbrev new_session : ℕ
   new_session = p.first + joins p.events

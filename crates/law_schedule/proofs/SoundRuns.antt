@@ -9,13 +9,13 @@ use Rattle.sv_client.specs.Traces.{asked}
 use Rattle.sv_scenario.specs.declared.scenario.Plan.{Plan}
 use Rattle.sv_scenario.specs.Limits.{IsGoodPlan}
 use Rattle.sv_scenario.specs.Sessions.{sessions_of_plan, sessions_in}
-use Rattle.sv_script.specs.Following.{must_join}
 use Rattle.law_schedule.specs.Players.{Player, asked_in_run, at_player}
 use Rattle.law_schedule.specs.Serving.{Server}
 use Rattle.law_schedule.specs.Sound.{IsPlaying, ArePlaying, has_joined}
-use Rattle.law_schedule.proofs.SoundTraces.{joined-within, joins-within, begun_more, none-asked}
+use Rattle.law_schedule.proofs.SoundTraces.{joined-within, none-asked}
 use Rattle.law_schedule.proofs.SoundPlayers.{IsFitting, IsKept}
 use Rattle.law_schedule.proofs.SoundEntries.{begun_by, none-asked_in}
+use Rattle.law_schedule.proofs.DoneCounts.{joins-counted}
 
 -- ---- Players have sessions of their own
 
@@ -24,13 +24,8 @@ pub in-plan : (server : Server) (shape : Shape) (h : List Entry) (k s : ℕ) (pl
     (s ≤ n) × (n < s + sessions_of_plan plan)
 in-plan server shape h k s plan p n w fit j =
     let b = joined-within p.who p.first p.events n fit.proper j in
-    let most = joins-within p.who plan.steps p.events w.before w.follows in
-    let one : begun_more (must_join p.events) ≤ 1 = at-most-one (must_join p.events) in
-    (omega (arith, b.0, w.first), omega (arith, b.1, w.first, most, one))
-  where
-    at-most-one : (b : Bool) → begun_more b ≤ 1
-    at-most-one true = omega arith
-    at-most-one false = omega arith
+    let most = joins-counted p.who plan.steps p.events w.before w.follows in
+    (omega (arith, b.0, w.first), omega (arith, b.1, w.first, most))
 
 pub begun-above : (server : Server) (shape : Shape) (h : List Entry) (k s : ℕ) (plans : List Plan) (ps : List Player) (n : ℕ) → ArePlaying shape k s plans ps → AllByRecursion (IsFitting server h) ps →
     begun_by ps n ≡ true → s ≤ n

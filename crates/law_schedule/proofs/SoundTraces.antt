@@ -15,13 +15,11 @@ use Rattle.sv_client.specs.Taking.{Identity, outstanding, allows, fault_after}
 use Rattle.sv_client.specs.Proper.{AreProper, in_session}
 use Rattle.sv_client.proofs.Outstanding.{outstanding_joined, outstanding_made, outstanding_polled, outstanding_left, outstanding_cut, outstanding_quit, outstanding_shown, outstanding_got}
 use Rattle.sv_scenario.specs.declared.scenario.Step.{Step}
-use Rattle.sv_scenario.specs.Sessions.{cuts_in}
 use Rattle.sv_client.proofs.Faultless.{kind-of}
 use Rattle.sv_script.specs.Following.{FollowsTo, must_join, is_finished}
 use Rattle.sv_script.proofs.Beginnings.{step-less, event-less, all-after}
 use Rattle.sv_script.proofs.Ends.{has_leave, leave-append, leave-rest, no-submit, no-done, bye-after, no-step}
 use Rattle.sv_system.specs.Fits.{is_join_of}
-use Rattle.law_schedule.proofs.DoneCounts.{one_if, joins-counted}
 
 -- ---- After a Leave
 
@@ -141,19 +139,6 @@ makes-within who script (events.Poll ∷ t) left f = omega (arith, makes-within 
 makes-within who script (events.Cut ∷ t) left f = omega (arith, makes-within who script t f.0 f.1.0, event-less who t f.0 events.Cut left f.1.1)
 makes-within who script (events.Quit ∷ t) left f = omega (arith, makes-within who script t f.0 f.1.0, event-less who t f.0 events.Quit left f.1.1)
 makes-within who script (events.Show objects ∷ t) left f = omega (arith, makes-within who script t f.0 f.1.0, event-less who t f.0 (events.Show objects) left f.1.1)
-
--- A client in its session has begun one more than it cut.
-abbrev pub begun_more : Bool → ℕ
-begun_more true = 0
-begun_more false = 1
-
-begun-or_next : (b : Bool) → one_if b + begun_more b ≡ 1
-begun-or_next true = refl
-begun-or_next false = refl
-
-pub joins-within : (who : Identity) (script : List Step) (t : List Event) (left : List Step) → FollowsTo who script t left →
-    joins t + cuts_in left ≤ cuts_in script + begun_more (must_join t)
-joins-within who script t left f = omega (arith, joins-counted who script t left f, begun-or_next (must_join t))
 
 -- A client that has not to join has joined.
 pub joined-once : (who : Identity) (script : List Step) (t : List Event) (left : List Step) → FollowsTo who script t left → must_join t ≡ false → 1 ≤ joins t

@@ -36,12 +36,13 @@ use Rattle.sv_system.proofs.Fronts.{front-append}
 use Rattle.sv_player.specs.Carried.{request_frames}
 use Rattle.sv_player.specs.Stops.{is_cut}
 use Rattle.sv_player.specs.Played.{replies_of}
+use Rattle.sv_player.proofs.Linking.{frames_append}
 use Rattle.sv_system.proofs.Every.{each-left}
 use Rattle.law_traffic.specs.Sessions.{Over, transcript, IsSessionDone}
 use Rattle.law_traffic.specs.Traffic.{reply_frames, is_stop_reply, EndsWithStop, TookAll, IsTraffic}
 use Rattle.law_traffic.proofs.Ours.{mine, requests_are, replies_are, one_end, end_is_last}
 use Rattle.law_traffic.proofs.Dues.{full_over, due_is}
-use Rattle.law_traffic.proofs.Messages.{request_frames_both, AreTaken, taken, AreGot, got_first}
+use Rattle.law_traffic.proofs.Messages.{AreTaken, taken, AreGot, got_first}
 
 -- ---- Outcomes
 
@@ -164,7 +165,7 @@ module _ (stay : FullRepliesStay) (name : LegalRelaysNameAccepted) (journal : Li
   stepped = (
     request_frames d.served.served.requests.0 ++ came.rest,
     sym (append_assoc (request_frames steps) (request_frames d.served.served.requests.0) came.rest)
-        ∙ (ap (λ (l : List ℕ). l ++ came.rest) (sym (request_frames_both steps d.served.served.requests.0) ∙ ap request_frames steps_first)
+        ∙ (ap (λ (l : List ℕ). l ++ came.rest) (sym (frames_append steps d.served.served.requests.0) ∙ ap request_frames steps_first)
         ∙ (sym came.whole ∙ sym server_received)),
   )
 

@@ -58,10 +58,6 @@ pub reply_frames_are : (ws : List Reply) → reply_frames ws ≡ frames_of (map 
 unfolding reply_frames
 reply_frames_are ws = refl
 
-pub request_frames_both : (xs ys : List Request) → request_frames (xs ++ ys) ≡ request_frames xs ++ request_frames ys
-unfolding request_frames
-request_frames_both xs ys = ap frames_of (map-append request_bytes xs ys) ∙ flat_map-append frame (map request_bytes xs) (map request_bytes ys)
-
 pub reply_frames_both : (xs ys : List Reply) → reply_frames (xs ++ ys) ≡ reply_frames xs ++ reply_frames ys
 unfolding reply_frames
 reply_frames_both xs ys = ap frames_of (map-append reply_bytes xs ys) ∙ flat_map-append frame (map reply_bytes xs) (map reply_bytes ys)
@@ -125,18 +121,18 @@ taken asked stream messages p =
 
 -- ---- Replies that came
 
-same_read : (xs ys : List Reply) → map was_read xs ≡ map was_read ys → xs ≡ ys
-same_read [] [] e = refl
-same_read [] (y ∷ ys) e = cc
-same_read (x ∷ xs) [] e = cc
-same_read (x ∷ xs) (y ∷ ys) e = ap₂ (λ a l. a ∷ l) (same_ok (ap (λ l. get_or l 0 (was_read x)) e)) (same_read xs ys (ap (drop 1) e))
+pub same_reply : (x y : Reply) → ◌≡◌ {A = Result Reply Malformed} (Ok x) (Ok y) → x ≡ y
+same_reply x y e = ap value e
   where
     value : Result Reply Malformed → Reply
     value (Ok w) = w
     value _ = x
 
-    same_ok : was_read x ≡ was_read y → x ≡ y
-    same_ok e = ap value e
+same_read : (xs ys : List Reply) → map was_read xs ≡ map was_read ys → xs ≡ ys
+same_read [] [] e = refl
+same_read [] (y ∷ ys) e = cc
+same_read (x ∷ xs) [] e = cc
+same_read (x ∷ xs) (y ∷ ys) e = ap₂ (λ a l. a ∷ l) (same_reply x y (ap (λ l. get_or l 0 (was_read x)) e)) (same_read xs ys (ap (drop 1) e))
 
 -- The replies that were got of the frames of replies: the first of them, and the frames of the others may have come in part.
 pub record AreGot (sent : List Reply) (stream : List ℕ) (gots : List Reply) (rest : List ℕ) : Type 0 where

@@ -5,6 +5,7 @@ use Rattle.std.specs.List.{AllByRecursion}
 use Rattle.std.proofs.lemmas.Bool.{cond-true, cond-false, and_from, not_from_false}
 use Rattle.std.proofs.lemmas.List.{map-append, reverse-append}
 use Rattle.std.proofs.lemmas.List.Elements.{filter-append, filter_passes, recursion_from_All}
+use mathlib.Core.Bool.{and-false}
 use Rattle.sv_wire.specs.declared.message.Request.{Request}
 use Rattle.sv_wire.specs.declared.message.Request.TheVariants as requests
 use Rattle.sv_wire.specs.declared.message.Reply.{Reply}
@@ -87,12 +88,8 @@ IsOurs s e = (e.session ≡ s) × (is_end e.request ≡ false)
 ours_true : (s : ℕ) (e : Entry) → IsOurs s e → (e.session == s && not (is_end e.request)) ≡ true
 ours_true s e o = and_from (e.session == s) (not (is_end e.request)) (eq-eqb e.session s o.0) (not_from_false (is_end e.request) o.1)
 
-no_end : (b : Bool) → (b && false) ≡ false
-no_end true = refl
-no_end false = refl
-
 ours_false : (s : ℕ) (e : Entry) → IsOurs s e → (e.session == s && is_end e.request) ≡ false
-ours_false s e o = ap (λ (b : Bool). e.session == s && b) o.1 ∙ no_end (e.session == s)
+ours_false s e o = ap (λ (b : Bool). e.session == s && b) o.1 ∙ and-false (e.session == s)
 
 requests_ours : (s : ℕ) (h : List Entry) → AllByRecursion (IsOurs s) h → requests_in h s ≡ reverse (map (λ (e : Entry). e.request) h)
 requests_ours s [] all = refl
@@ -149,14 +146,14 @@ module _ (s : ℕ) (j answered : List Entry) (just : mine s j ≡ answered ++ en
   requests_are =
       requests_mine (reverse j) s
       ∙ (ap (λ (h : List Entry). requests_in h s) latest
-      ∙ (cond-false (s == s && false) (requests_in (reverse answered) s ++ requests.End ∷ []) (requests_in (reverse answered) s) (no_end (s == s))
+      ∙ (cond-false (s == s && false) (requests_in (reverse answered) s ++ requests.End ∷ []) (requests_in (reverse answered) s) (and-false (s == s))
       ∙ (requests_ours s (reverse answered) ours ∙ map_reversed (λ (e : Entry). e.request) answered)))
 
   pub replies_are : (A : List Authored) → replies_in A (reverse j) s ≡ map (λ (e : Entry). full_reply A e.reply) answered
   replies_are A =
       replies_mine A (reverse j) s
       ∙ (ap (λ (h : List Entry). replies_in A h s) latest
-      ∙ (cond-false (s == s && false) (replies_in A (reverse answered) s ++ full_reply A logged.Bye ∷ []) (replies_in A (reverse answered) s) (no_end (s == s))
+      ∙ (cond-false (s == s && false) (replies_in A (reverse answered) s ++ full_reply A logged.Bye ∷ []) (replies_in A (reverse answered) s) (and-false (s == s))
       ∙ (replies_ours A s (reverse answered) ours ∙ map_reversed (λ (e : Entry). full_reply A e.reply) answered)))
 
   pub one_end : ends_in (reverse j) s ≡ 1

@@ -1,5 +1,5 @@
 -- Each session of a scenario is one of just one of its traces.
-use Rattle.std.proofs.Common.{◌≡◌, ◌⊎◌, ℕ, suc, ◌+◌, ◌-◌, ◌<◌, ◌≤◌, Bool, true, false, ltb, inl, inr, List, [], ◌∷◌, reverse, Some, slice_get, refl, sym, ap, subst, arith}
+use Rattle.std.proofs.Common.{◌≡◌, ◌⊎◌, ℕ, suc, ◌+◌, ◌-◌, ◌<◌, ◌≤◌, true, ltb, inl, inr, List, [], ◌∷◌, reverse, Some, slice_get, refl, sym, ap, subst, arith}
 use Rattle.std.specs.List.{list_any, AllByRecursion}
 use Rattle.std.proofs.lemmas.Bool.{cases_Bool, ltb-true, ltb-false}
 use Rattle.std.proofs.lemmas.List.{reverse-reverse}
@@ -11,11 +11,12 @@ use Rattle.sv_client.specs.declared.trace.Trace.{Trace}
 use Rattle.sv_client.specs.Proper.{Proper, identity_of}
 use Rattle.sv_scenario.specs.declared.scenario.Plan.{Plan}
 use Rattle.sv_scenario.specs.Sessions.{sessions_of_plan, sessions_in}
-use Rattle.sv_script.specs.Following.{Follows, must_join}
+use Rattle.sv_script.specs.Following.{Follows}
 use Rattle.sv_system.specs.Fits.{is_join_of, has_session, AreApart, AreAllApart}
 use Rattle.sv_system.specs.Records.{AreTracesOf, EachTrace}
 use Rattle.sv_system.proofs.Asked.{any-reverse}
-use Rattle.law_schedule.proofs.SoundTraces.{begun_more, joins-within, joined-within}
+use Rattle.law_schedule.proofs.SoundTraces.{joined-within}
+use Rattle.law_schedule.proofs.DoneCounts.{joins-counted}
 
 -- The trace that a session is one of, with what holds of it.
 pub record IsOwner (P : Plan → Trace → Type 0) (Ls : List Trace) (s : ℕ) : Type 0 where
@@ -48,10 +49,6 @@ owner P k from s (plan ∷ plans) (L ∷ Ls) a e above under =
 
 -- ---- Sessions that were joined
 
-at_most_one : (b : Bool) → begun_more b ≤ 1
-at_most_one true = omega arith
-at_most_one false = omega arith
-
 -- The sessions that a trace joined are its own.
 pub in_range : (shape : Shape) (plan : Plan) (L : Trace) (s : ℕ) → Proper shape L → Follows shape plan.steps L → has_session L s ≡ true → (L.first ≤ s) × (s < L.first + sessions_of_plan plan)
 in_range shape plan L s proper follows has =
@@ -59,9 +56,8 @@ in_range shape plan L s proper follows has =
     let whole = reverse L.events in
     let there : list_any (is_join_of s) whole ≡ true = any-reverse (is_join_of s) whole (subst (λ (l : List Event). list_any (is_join_of s) l ≡ true) (sym (reverse-reverse L.events)) has) in
     let b = joined-within who L.first whole s proper.events there in
-    let most = joins-within who plan.steps whole follows.left follows.follows in
-    let one = at_most_one (must_join whole) in
-    (b.0, omega (arith, b.1, most, one))
+    let most = joins-counted who plan.steps whole follows.left follows.follows in
+    (b.0, omega (arith, b.1, most))
 
 -- Traces after some number of clients and of sessions.
 pub record IsAfter (k from : ℕ) (L : Trace) : Type 0 where

@@ -1,12 +1,11 @@
 -- The reply that comes next in a session is one that the client takes, where each that is legal is one.
-use Rattle.std.proofs.Common.{◌≡◌, ◌≢◌, ℕ, List, [], ◌∷◌, ◌++◌, length, reverse, Option, Some, None, option_map, slice_get, Result, Ok, Err, refl, sym, ap, subst, ◌∙◌, arith}
+use Rattle.std.proofs.Common.{◌≡◌, ◌≢◌, ℕ, List, [], ◌∷◌, ◌++◌, length, reverse, Option, Some, None, option_map, slice_get, Ok, Err, refl, sym, ap, subst, ◌∙◌, arith}
 use Rattle.std.specs.List.{AllByRecursion}
 use Rattle.std.proofs.lemmas.Option.{none-some, same_Some}
 use mathlib.Core.List.{IsPrefix}
 use Rattle.sv_world.specs.declared.world.Shape.{Shape}
 use Rattle.sv_frame.specs.Frames.{frame, first_frame, too_long}
 use Rattle.sv_frame.proofs.Fronts.{first_frame-append, first_frame-frame, first_frame-shorter}
-use Rattle.sv_wire.specs.declared.fault.Malformed.{Malformed}
 use Rattle.sv_wire.specs.declared.message.Reply.{Reply}
 use Rattle.sv_wire.specs.Messages.{reply_at}
 use Rattle.sv_wire.specs.Spelling.{reply_bytes}
@@ -26,7 +25,7 @@ use Rattle.sv_player.specs.declared.outcome.ReplyFault.TheVariants as reply_faul
 use Rattle.law_traffic.specs.Traffic.{reply_frames}
 use Rattle.law_traffic.specs.Stuck.{IsTakeable}
 use Rattle.law_traffic.proofs.Cuts.{front_none, empty_short, not_long}
-use Rattle.law_traffic.proofs.Messages.{AreGot}
+use Rattle.law_traffic.proofs.Messages.{AreGot, same_reply}
 
 -- ---- Frames of replies
 
@@ -92,13 +91,6 @@ module _ (shape : Shape) (L : Trace) where
           (n.reply, (ap reply_at n.bytes ∙ reply_back n.reply message, taken n.reply (ap (λ (l : List Reply). slice_get l (length gots)) are ∙ at_length gots n.reply n.others)))
 
 -- ---- No bad one
-
-same_reply : (x y : Reply) → ◌≡◌ {A = Result Reply Malformed} (Ok x) (Ok y) → x ≡ y
-same_reply x y e = ap value e
-  where
-    value : Result Reply Malformed → Reply
-    value (Ok w) = w
-    value _ = x
 
 -- the frame whose payload comes first
 framed : (rest payload : List ℕ) → first_payload rest ≡ Some payload → (after : List ℕ) × (first_frame rest ≡ Some (payload, after))

@@ -1,24 +1,19 @@
 -- The positions of an explanation, and the answer that tells it.
-use Rattle.std.proofs.Common.{◌≡◌, ℕ, zero, suc, ◌<◌, ◌≤◌, true, inl, inr, List, [], ◌∷◌, ℤ, length, reverse, subst, arith, refl}
+use Rattle.std.proofs.Common.{◌≡◌, ℕ, ◌<◌, ◌≤◌, true, inl, inr, List, [], ℤ, length, reverse, subst, arith, refl}
 use Rattle.std.specs.Prelude.{All}
 use Rattle.std.proofs.lemmas.Bool.{cases_eq}
 use Rattle.sv_world.specs.declared.action.Action.{Action}
 use Rattle.sv_world.specs.Control.{is_in}
-use Rattle.sv_world.proofs.Members.{is_in-head, is_in-tail}
 use Rattle.sv_world.proofs.Needs.{needed-bounds, needed-iff}
 use Rattle.sv_world.proofs.Writers.{last_writer-most}
 use Rattle.sv_journal.specs.History.{accepted, actions_of}
 use Rattle.sv_scenario.specs.declared.scenario.Scenario.{Scenario}
 use Rattle.sv_system.specs.declared.played.Played.{Played}
 use Rattle.sv_why.specs.Reasons.{writer_by, Explains}
+use Rattle.sv_why.proofs.Wanting.{all-members}
 use Rattle.sv_audit.specs.Judging.{IsExplained}
 use Rattle.sv_audit.specs.Texts.{why_text}
 use Rattle.sv_audit.specs.Words.{Asking}
-
-all-members : (P : ℕ → Type 0) (xs : List ℕ) → ((j : ℕ) → is_in j xs ≡ true → P j) → All P xs
-all-members P [] h k d l = absurd (omega arith)
-all-members P (x ∷ xs) h zero d l = h x (is_in-head x xs)
-all-members P (x ∷ xs) h (suc k) d l = all-members P xs (λ j m. h j (is_in-tail j x xs m)) k d (omega arith)
 
 -- They are positions up to the one that is asked for.
 pub bounded : (opening : List (List ℤ)) (A : List Action) (x pos most : ℕ) (ks : List ℕ) (value : List ℤ) → Explains opening A x pos ks value → pos ≤ most → All (λ p. (1 ≤ p) × (p ≤ most)) ks

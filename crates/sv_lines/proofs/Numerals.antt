@@ -185,7 +185,7 @@ IsRead {A} P text Stop reader = (a : A) (rest : List ℕ) → P a → Stop rest 
 abbrev pub NoNumber : List ℕ → Type 0
 NoNumber rest = Ends is_numeric rest
 
-digit_numeric : (c : ℕ) → is_ascii_digit c ≡ true → is_numeric c ≡ true
+pub digit_numeric : (c : ℕ) → is_ascii_digit c ≡ true → is_numeric c ≡ true
 digit_numeric c h = rw h refl
 
 natural_is : (bound n : ℕ) → bound ≤ 2 ^ 64 → n < bound → Digits bound (decimal n)

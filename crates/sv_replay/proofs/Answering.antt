@@ -4,6 +4,7 @@ use Rattle.std.specs.Prelude.{if◌then◌else◌}
 use Rattle.std.specs.List.{list_any}
 use Rattle.std.proofs.lemmas.Bool.{cases_Bool, cond-true, cond-false}
 use Rattle.std.proofs.lemmas.List.{drop-append-le, drop-drop, length-append, length-drop}
+use mathlib.Core.Bool.{or-false}
 use Rattle.sv_wire.specs.declared.message.Reply.{Reply}
 use Rattle.sv_wire.specs.declared.message.Request.{Request}
 use Rattle.sv_wire.specs.declared.message.Request.TheVariants as requests
@@ -91,11 +92,7 @@ module _ (server : Server) (keeps : KeepsSound server) (h : List Entry) (ps : Li
       }
     where
       stops_here : (s : ℕ) (h : List Entry) (b : Bool) → is_stopped h s ≡ false → ((s == s && b) || is_stopped h s) ≡ b
-      stops_here s h b f = rw (eq-eqb s s refl, f) (or_false b)
-        where
-          or_false : (b : Bool) → (b || false) ≡ b
-          or_false true = refl
-          or_false false = refl
+      stops_here s h b f = rw (eq-eqb s s refl, f) (or-false b)
 
       next_left : {X : Type 0} (n : ℕ) (xs : List X) (y : X) (ys : List X) → drop n xs ≡ y ∷ ys → drop (n + 1) xs ≡ ys
       next_left n xs y ys e = sym (drop-drop 1 n xs) ∙ ap (λ zs. drop 1 zs) e

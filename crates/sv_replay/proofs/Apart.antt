@@ -1,8 +1,7 @@
 -- Each session is of one player alone: the others ask and get nothing in it.
-use Rattle.std.proofs.Common.{◌≡◌, inl, inr, ℕ, zero, suc, Bool, true, false, eqb, List, [], ◌∷◌, ◌++◌, map, drop, reverse, set, slice_get, Option, Some, None, refl, sym, ap, subst, ◌∙◌, eqb-true, append_assoc, append-nil}
-use Rattle.std.specs.Prelude.{if◌then◌else◌}
+use Rattle.std.proofs.Common.{◌≡◌, inl, inr, ℕ, zero, suc, true, false, eqb, List, [], ◌∷◌, ◌++◌, map, drop, reverse, set, slice_get, Option, Some, None, refl, sym, ap, subst, ◌∙◌, eqb-true, append_assoc, append-nil}
 use Rattle.std.specs.List.{list_any, flat_map, AllByRecursion}
-use Rattle.std.proofs.lemmas.Bool.{cases_Bool}
+use Rattle.std.proofs.lemmas.Bool.{cases_Bool, cond-false}
 use Rattle.std.proofs.lemmas.List.{reverse-reverse}
 use Rattle.std.proofs.lemmas.List.Elements.{recursion_from_All}
 use Rattle.sv_world.specs.declared.world.Shape.{Shape}
@@ -38,10 +37,6 @@ not_in t n e = go (current_session t) refl
     go None c = refl
     go (Some s) c = not_joined t n s e c
 
-pub nothing : {X : Type 0} (b : Bool) (xs : List X) → b ≡ false → (if b then xs else []) ≡ []
-nothing true xs e = cc
-nothing false xs e = refl
-
 neither : {X : Type 0} (xs ys : List X) → xs ≡ [] → ys ≡ [] → xs ++ ys ≡ []
 neither xs ys e h = rw (e, h) refl
 
@@ -54,11 +49,11 @@ join_parts n s t e = elim (cases_Bool (eqb s n)) [
 pub none_asked : (who : Identity) (first : ℕ) (t : List Event) → AreProper who first t → (n : ℕ) → list_any (is_join_of n) t ≡ false → asked who.client who.interest t n ≡ []
 none_asked who first [] p n e = refl
 none_asked who first (events.Join s ∷ t) p n e =
-    neither _ _ (none_asked who first t p.1 n (join_parts n s t e).1) (nothing (eqb s n) _ (join_parts n s t e).0)
-none_asked who first (events.Make a ∷ t) p n e = neither _ _ (none_asked who first t p.1 n e) (nothing (is_session (current_session t) n) _ (not_in t n e))
-none_asked who first (events.Poll ∷ t) p n e = neither _ _ (none_asked who first t p.1 n e) (nothing (is_session (current_session t) n) _ (not_in t n e))
-none_asked who first (events.Leave ∷ t) p n e = neither _ _ (none_asked who first t p.1 n e) (nothing (is_session (current_session t) n) _ (not_in t n e))
-none_asked who first (events.Got s reply ∷ t) p n e = neither _ _ (none_asked who first t p.1 n e) (nothing (eqb s n) (done_for (held_of t) reply) (not_joined t n s e p.0.current))
+    neither _ _ (none_asked who first t p.1 n (join_parts n s t e).1) (cond-false (eqb s n) _ [] (join_parts n s t e).0)
+none_asked who first (events.Make a ∷ t) p n e = neither _ _ (none_asked who first t p.1 n e) (cond-false (is_session (current_session t) n) _ [] (not_in t n e))
+none_asked who first (events.Poll ∷ t) p n e = neither _ _ (none_asked who first t p.1 n e) (cond-false (is_session (current_session t) n) _ [] (not_in t n e))
+none_asked who first (events.Leave ∷ t) p n e = neither _ _ (none_asked who first t p.1 n e) (cond-false (is_session (current_session t) n) _ [] (not_in t n e))
+none_asked who first (events.Got s reply ∷ t) p n e = neither _ _ (none_asked who first t p.1 n e) (cond-false (eqb s n) (done_for (held_of t) reply) [] (not_joined t n s e p.0.current))
 none_asked who first (events.Cut ∷ t) p n e = neither _ _ (none_asked who first t p.1 n e) refl
 none_asked who first (events.Quit ∷ t) p n e = neither _ _ (none_asked who first t p.1 n e) refl
 none_asked who first (events.Show os ∷ t) p n e = neither _ _ (none_asked who first t p.1 n e) refl

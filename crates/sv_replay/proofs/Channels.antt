@@ -2,7 +2,7 @@
 use Rattle.std.proofs.Common.{◌≡◌, ◌⊎◌, inl, inr, ℕ, zero, suc, ◌+◌, ◌-◌, ◌≤◌, Bool, true, false, ◌||◌, ◌==◌, List, [], ◌∷◌, ◌++◌, drop, length, set, slice_get, Some, refl, sym, ap, subst, ◌∙◌, arith, eqb-true, eq-eqb, append-nil}
 use Rattle.std.specs.Prelude.{if◌then◌else◌}
 use Rattle.std.specs.List.{list_any}
-use Rattle.std.proofs.lemmas.Bool.{cases_Bool}
+use Rattle.std.proofs.lemmas.Bool.{cases_Bool, cond-false}
 use Rattle.std.proofs.lemmas.List.{drop-append-le, drop-drop, length-append, length-drop}
 use Rattle.std.proofs.Math.Seq.{drop-append_seam}
 use Rattle.sv_wire.specs.declared.message.Reply.{Reply}
@@ -15,7 +15,7 @@ use Rattle.law_schedule.specs.Players.{Player, asked_in_run, has_closed}
 use Rattle.law_schedule.specs.Serving.{Run}
 use Rattle.sv_exchange.specs.View.{ExchangeView}
 use Rattle.sv_replay.specs.Players.{asked_by_player, got_in_run, Moves, IsChannel}
-use Rattle.sv_replay.proofs.Apart.{OthersSilent, all_ask_nothing, all_get_nothing, flat_moved, commutes_with_none, none_commutes, later_of, nothing}
+use Rattle.sv_replay.proofs.Apart.{OthersSilent, all_ask_nothing, all_get_nothing, flat_moved, commutes_with_none, none_commutes, later_of}
 use Rattle.sv_replay.proofs.Events.{either_way}
 
 -- ---- Lists
@@ -69,7 +69,7 @@ module _ (h : List Entry) (ps : List Player) (k n : ℕ) (p q : Player) (sent : 
   ask_commutes s = elim quiet [
     | inr none ↦ none_commutes (if n == s then sent else []) (asked_in_run (drop (suc k) ps) s) (rw none.0 (either_way (n == s) []))
     | inl silent ↦ elim (cases_Bool (n == s)) [
-      | inr f ↦ none_commutes (if n == s then sent else []) (asked_in_run (drop (suc k) ps) s) (nothing (n == s) sent f)
+      | inr f ↦ none_commutes (if n == s then sent else []) (asked_in_run (drop (suc k) ps) s) (cond-false (n == s) sent [] f)
       | inl y ↦ commutes_with_none (if n == s then sent else []) (asked_in_run (drop (suc k) ps) s)
           (subst (λ (i : ℕ). asked_in_run (drop (suc k) ps) i ≡ []) (eqb-true n s y) (all_ask_nothing n (drop (suc k) ps) (later_of n k ps silent)))
     ]
@@ -79,7 +79,7 @@ module _ (h : List Entry) (ps : List Player) (k n : ℕ) (p q : Player) (sent : 
   get_commutes s = elim quiet [
     | inr none ↦ none_commutes (if n == s then taken else []) (got_in_run (drop (suc k) ps) s) (rw none.1 (either_way (n == s) []))
     | inl silent ↦ elim (cases_Bool (n == s)) [
-      | inr f ↦ none_commutes (if n == s then taken else []) (got_in_run (drop (suc k) ps) s) (nothing (n == s) taken f)
+      | inr f ↦ none_commutes (if n == s then taken else []) (got_in_run (drop (suc k) ps) s) (cond-false (n == s) taken [] f)
       | inl y ↦ commutes_with_none (if n == s then taken else []) (got_in_run (drop (suc k) ps) s)
           (subst (λ (i : ℕ). got_in_run (drop (suc k) ps) i ≡ []) (eqb-true n s y) (all_get_nothing n (drop (suc k) ps) (later_of n k ps silent)))
     ]
@@ -95,7 +95,7 @@ module _ (h : List Entry) (ps : List Player) (k n : ℕ) (p q : Player) (sent : 
   closed_moved s = any_moved (has_closed s) (if n == s then closing else false) k ps p q at (m.closes s)
 
   more_none : {X : Type 0} (s : ℕ) (xs more : List X) → (n == s) ≡ false → xs ++ (if n == s then more else []) ≡ xs
-  more_none s xs more f = ap (λ ys. xs ++ ys) (nothing (n == s) more f) ∙ append-nil xs
+  more_none s xs more f = ap (λ ys. xs ++ ys) (cond-false (n == s) more [] f) ∙ append-nil xs
 
   -- The connections of other sessions stay.
   pub other_stays : (s : ℕ) (c : ExchangeView) → (n == s) ≡ false → IsChannel before s c → IsChannel moved s c

@@ -5,6 +5,7 @@ use Rattle.std.specs.List.{list_any}
 use Rattle.std.proofs.lemmas.Bool.{cases_Bool, or_left}
 use Rattle.std.proofs.lemmas.List.{length-map, map-set}
 use Rattle.std.proofs.lemmas.List.Elements.{recursion_from_All}
+use mathlib.Core.Bool.{and-false}
 use Rattle.sv_wire.specs.Laws.{IsReply}
 use Rattle.sv_journal.specs.declared.entry.Entry.{Entry}
 use Rattle.sv_journal.specs.History.{accepted, full_reply}
@@ -45,10 +46,6 @@ silent_before : (n k : ℕ) (f : Player → Player) (ps : List Player) → Other
 silent_before n k f [] h = tt
 silent_before n zero f (p ∷ ps) h = h
 silent_before n (suc k) f (p ∷ ps) h = (h.0, silent_before n k f ps h.1)
-
-and_false : (b : Bool) → (b && false) ≡ false
-and_false true = refl
-and_false false = refl
 
 -- ---- A client's turn
 
@@ -98,7 +95,7 @@ module _ (m : Stage) (k : ℕ) (p : Player) (is : IsMachine m) (l : k < length m
       let opened : open_session p ≡ Some n = open_is p linked joined ∙ session_current p fit.proper joined (fit.begun joined) in
       ap (λ o. list_any (is_join_of n) p.events && not (is_session o n)) opened
       ∙ ap (λ (b : Bool). list_any (is_join_of n) p.events && not b) (eq-eqb n n refl)
-      ∙ and_false (list_any (is_join_of n) p.events)
+      ∙ and-false (list_any (is_join_of n) p.events)
 
   own_next : must_join p.events ≡ true → has_closed n p ≡ false
   own_next between =

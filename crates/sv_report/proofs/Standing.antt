@@ -36,7 +36,7 @@ pub stands_at : (entries : List Entry) (first : ℕ) (who : Identity) (t es : Li
 stands_at entries first who t es place i e l is h = subst (λ xs. Stands entries first who t place xs) (left_more es i e l is) h
 
 -- After the next event.
-done_on : (first : ℕ) (who : Identity) (t u : List Event) (e : Event) → MayFollow who first (all_raised first t) e → u ≡ again t e ∷ t → all_raised first u ≡ e ∷ all_raised first t
+pub done_on : (first : ℕ) (who : Identity) (t u : List Event) (e : Event) → MayFollow who first (all_raised first t) e → u ≡ again t e ∷ t → all_raised first u ≡ e ∷ all_raised first t
 done_on first who t u e m is = ap (all_raised first) is ∙ ap (λ f. f ∷ all_raised first t) (same_event first who t e m)
 
 pub goes_on : (entries : List Entry) (first : ℕ) (who : Identity) (t u es : List Event) (place : ℕ) (e : Event) → Stands entries first who (all_raised first t) place (e ∷ es)

@@ -5,6 +5,7 @@ use Rattle.std.proofs.lemmas.List.{get_or-set_same, get_or-set_other}
 use Rattle.std.proofs.lemmas.List.Elements.{filter-append}
 use Rattle.std.proofs.lemmas.List.Folds.{list_any-append}
 use Rattle.std.specs.List.{list_any}
+use mathlib.Core.Bool.{or-false, or_comm, and-true}
 use Rattle.sv_world.specs.declared.action.Action.{Action}
 use Rattle.sv_world.specs.declared.world.Shape.{Shape}
 use Rattle.sv_world.specs.declared.world.World.{World}
@@ -24,10 +25,6 @@ use Rattle.sv_journal.specs.Sessions.{names}
 use Rattle.sv_sequencer.specs.Fits.{actions_in, values_after, was_given, IsEntry, QueueFits}
 use Rattle.sv_sequencer.specs.Relays.{marked_all, given_all}
 
-pub or_false : (b : Bool) → (b || false) ≡ b
-or_false true = refl
-or_false false = refl
-
 pub entry-same : (v : QueueView) (p : ℕ) (e : Queued) → v.commit < p → p ≤ last_position v → entry_at (with_entry v p e) p ≡ e
 entry-same v p e low high = get_or-set_same v.entries (p - v.commit - 1) e no_entry (omega arith)
 
@@ -45,7 +42,7 @@ was_given-late acts sent named x c p late =
     ap (list_any T) (ap (λ ys. named ++ ys) (filter-append W sent (p ∷ [])) ∙ sym (append_assoc named (filter W sent) (filter W (p ∷ []))))
     ∙ list_any-append T (named ++ filter W sent) (filter W (p ∷ []))
     ∙ ap (λ b. list_any T (named ++ filter W sent) || b) (none (W p))
-    ∙ or_false (list_any T (named ++ filter W sent))
+    ∙ or-false (list_any T (named ++ filter W sent))
   where
     T : ℕ → Bool
     T q = nat_le (last_writer acts x (suc c)) q && nat_le q c
@@ -116,12 +113,6 @@ sent_also-none s S t = go (nat_eq s t)
     go true = sym (append-nil (S t))
     go false = refl
 
-or_swap : (a b : Bool) → (a || b) ≡ (b || a)
-or_swap true true = refl
-or_swap true false = refl
-or_swap false true = refl
-or_swap false false = refl
-
 nat_eq_swap : (a b : ℕ) → nat_eq a b ≡ nat_eq b a
 nat_eq_swap a b = elim (cases_eq a b) [ inl e ↦ eq-eqb a b e ∙ sym (eq-eqb b a (sym e)) | inr ne ↦ ne_eqb a b ne ∙ sym (ne_eqb b a (λ e. ne (sym e))) ]
 
@@ -130,8 +121,8 @@ pub is_sent_also : (s p : ℕ) (S : ℕ → List ℕ) (t q : ℕ) → is_in q (s
 is_sent_also s p S t q = go (nat_eq s t)
   where
     go : (b : Bool) → is_in q (cond b (S t ++ p ∷ []) (S t)) ≡ (is_in q (S t) || (b && nat_eq q p))
-    go true = is_in-append q (S t) (p ∷ []) ∙ ap (λ d. is_in q (S t) || d) (or_false (nat_eq q p))
-    go false = sym (or_false (is_in q (S t)))
+    go true = is_in-append q (S t) (p ∷ []) ∙ ap (λ d. is_in q (S t) || d) (or-false (nat_eq q p))
+    go false = sym (or-false (is_in q (S t)))
 
 marked-entry : (A : List Authored) (R : ℕ → Option (List (List ℤ))) (S : ℕ → List ℕ) (p s : ℕ) (q : Queued) → IsEntry A R S p q →
     IsEntry A R (sent_also s (p ∷ []) S) p (record q { marks = with_session s q.marks })
@@ -144,13 +135,9 @@ marked-entry A R S p s q e = record {
       in_sessions (λ u. nat_eq u s || is_in u q.marks) t small
       ∙ ap (λ b. nat_eq t s || b) (e.marks t small)
       ∙ ap (λ b. b || is_in p (S t)) (nat_eq_swap t s)
-      ∙ or_swap (nat_eq s t) (is_in p (S t))
-      ∙ sym (is_sent_also s p S t p ∙ ap (λ b. is_in p (S t) || b) (ap (λ b. nat_eq s t && b) (eq-eqb p p refl) ∙ and_true (nat_eq s t)));
+      ∙ or_comm (nat_eq s t) (is_in p (S t))
+      ∙ sym (is_sent_also s p S t p ∙ ap (λ b. is_in p (S t) || b) (ap (λ b. nat_eq s t && b) (eq-eqb p p refl) ∙ and-true (nat_eq s t)));
 }
-  where
-    and_true : (b : Bool) → (b && true) ≡ b
-    and_true true = refl
-    and_true false = refl
 
 other-entry : (A : List Authored) (R : ℕ → Option (List (List ℤ))) (S : ℕ → List ℕ) (p k s : ℕ) (q : Queued) → (k ≡ p → ⊥) → IsEntry A R S k q →
     IsEntry A R (sent_also s (p ∷ []) S) k q
@@ -160,7 +147,7 @@ other-entry A R S p k s q ne e = record {
   action = e.action;
   result = e.result;
   marks = λ t small. e.marks t small
-      ∙ sym (is_sent_also s p S t k ∙ ap (λ b. is_in k (S t) || b) (ap (λ b. nat_eq s t && b) (ne_eqb k p ne) ∙ and_right (nat_eq s t) false refl) ∙ or_false (is_in k (S t)));
+      ∙ sym (is_sent_also s p S t k ∙ ap (λ b. is_in k (S t) || b) (ap (λ b. nat_eq s t && b) (ne_eqb k p ne) ∙ and_right (nat_eq s t) false refl) ∙ or-false (is_in k (S t)));
 }
 
 pub fits-mark : (w : World) (A : List Authored) (R : ℕ → Option (List (List ℤ))) (S : ℕ → List ℕ) (N : ℕ → ℕ → List ℕ) (v : QueueView) (p s : ℕ) →
@@ -213,7 +200,7 @@ named_also s head c N t x = cond (nat_eq s t) (N t x ++ cond (names head x) (c �
 -- The pairs once a session was given a head.
 given-all-pair : (v : QueueView) (head : List Held) (s x t : ℕ) → x < v.shape.objects → t < 64 →
     is_pair x t (given_all v head s).given ≡ (is_pair x t v.given || (nat_eq s t && names head x))
-given-all-pair v [] s x t low small = sym (ap (λ b. is_pair x t v.given || b) (and_right (nat_eq s t) false refl) ∙ or_false (is_pair x t v.given))
+given-all-pair v [] s x t low small = sym (ap (λ b. is_pair x t v.given || b) (and_right (nat_eq s t) false refl) ∙ or-false (is_pair x t v.given))
 given-all-pair v (o ∷ os) s x t low small =
     given-all-pair (with_given v o.object.0 s) os s x t low small
     ∙ ap (λ b. b || (nat_eq s t && names os x)) (is_pair-where (λ y u. (nat_eq y o.object.0 && nat_eq u s) || is_pair y u v.given) x t v.shape.objects low small
@@ -249,5 +236,5 @@ fits-given w A R S N v head s f = record {
     go : (b d : Bool) (x t : ℕ) → (was_given (actions_in A) (S t) (N t x) x v.commit || (b && d))
         ≡ was_given (actions_in A) (S t) (cond b (N t x ++ cond d (v.commit ∷ []) []) (N t x)) x v.commit
     go true true x t = or_right (was_given (actions_in A) (S t) (N t x) x v.commit) true refl ∙ sym (was_given-named (actions_in A) (S t) (N t x) x v.commit)
-    go true false x t = or_false (was_given (actions_in A) (S t) (N t x) x v.commit) ∙ ap (λ ks. was_given (actions_in A) (S t) ks x v.commit) (sym (append-nil (N t x)))
-    go false d x t = or_false (was_given (actions_in A) (S t) (N t x) x v.commit)
+    go true false x t = or-false (was_given (actions_in A) (S t) (N t x) x v.commit) ∙ ap (λ ks. was_given (actions_in A) (S t) ks x v.commit) (sym (append-nil (N t x)))
+    go false d x t = or-false (was_given (actions_in A) (S t) (N t x) x v.commit)

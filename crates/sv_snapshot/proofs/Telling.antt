@@ -10,8 +10,8 @@ use Rattle.sv_client.specs.Taking.{Identity}
 use Rattle.sv_client.specs.Proper.{MayFollow}
 use Rattle.sv_client.proofs.Shifts.{up_held}
 use Rattle.sv_report.specs.Again.{MayComeAfter, again, all_raised}
-use Rattle.sv_report.proofs.Doing.{same_event}
 use Rattle.sv_report.proofs.Lines.{first_back}
+use Rattle.sv_report.proofs.Standing.{done_on}
 use Rattle.sv_snapshot.specs.declared.snapshot.Snapshot.{Snapshot}
 use Rattle.sv_snapshot.specs.Snapshots.{snapshot_by, snapshots_in}
 use Rattle.sv_snapshot.specs.Again.{snapshots_after}
@@ -26,10 +26,6 @@ told_onto client (e ∷ es) t = ap (snapshots_in client) (first_back e es t) ∙
 
 pub told_are : (client : ClientId) (es : List Event) → snapshots_in client (reverse es) ≡ snapshots_after client [] es
 told_are client es = ap (snapshots_in client) (sym (append-nil (reverse es))) ∙ told_onto client es []
-
--- After the next event, which the client does under its own number of the session.
-done_on : (first : ℕ) (who : Identity) (t u : List Event) (e : Event) → MayFollow who first (all_raised first t) e → u ≡ again t e ∷ t → all_raised first u ≡ e ∷ all_raised first t
-done_on first who t u e m is = ap (all_raised first) is ∙ ap (λ f. f ∷ all_raised first t) (same_event first who t e m)
 
 pub goes_on : (first : ℕ) (who : Identity) (t u es : List Event) (e : Event) → MayComeAfter who first (all_raised first t) (e ∷ es) → u ≡ again t e ∷ t →
     MayComeAfter who first (all_raised first u) es

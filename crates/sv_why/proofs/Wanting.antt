@@ -34,10 +34,6 @@ or_move true false c = refl
 or_move false true c = refl
 or_move false false c = refl
 
-pub or_none : (b : Bool) → (b || false) ≡ b
-or_none true = refl
-or_none false = refl
-
 -- A flag is set in a list that is that with this one set.
 pub mark-at : (ws vs : List Bool) (o i x : ℕ) → vs ≡ set ws i true → i ≡ o → length ws ≡ 65536 → o < 65536 → get_or vs x false ≡ (nat_eq x o || get_or ws x false)
 mark-at ws vs o i x e is len low =
@@ -98,7 +94,7 @@ module _ (A : List Action) (at : ℕ) (a : Action) (reads : List ObjectId) (p q 
 pub no-reasons : (A : List Action) (x pos : ℕ) → writer_by A x pos ≡ 0 → reasons_of A x pos ≡ []
 no-reasons A x pos e = rw e refl
 
-all-members : (P : ℕ → Type 0) (xs : List ℕ) → ((j : ℕ) → is_in j xs ≡ true → P j) → All P xs
+pub all-members : (P : ℕ → Type 0) (xs : List ℕ) → ((j : ℕ) → is_in j xs ≡ true → P j) → All P xs
 all-members P [] h k d l = absurd (omega arith)
 all-members P (x ∷ xs) h zero d l = h x (is_in-head x xs)
 all-members P (x ∷ xs) h (suc k) d l = all-members P xs (λ j m. h j (is_in-tail j x xs m)) k d (omega arith)

@@ -2,6 +2,7 @@
 use Rattle.std.proofs.Common.{◌≡◌, ℕ, ◌≤◌, Bool, true, false, ◌&&◌, ◌||◌, ◌==◌, nat_le, nat_lt, map, List, [], ◌∷◌, length, Option, Some, None, refl, sym, ap, ◌∙◌, subst, true≢false}
 use Rattle.std.specs.Prelude.{if◌then◌else◌}
 use Rattle.std.proofs.lemmas.Bool.{cond-true, cond_both}
+use mathlib.Core.Bool.{and-false}
 use Rattle.sv_world.specs.declared.action.Action.{Action}
 use Rattle.sv_world.specs.declared.check.BadAction.{BadAction}
 use Rattle.sv_world.specs.declared.world.ObjectId.{ObjectId}
@@ -28,7 +29,8 @@ use Rattle.sv_witness.specs.Standing.{emptied, answers_poll, first_relay}
 use Rattle.sv_witness.specs.Witnessed.{agreed, witnessed_reply}
 use Rattle.sv_witness.proofs.Routes.{IsPlain, plain-reply, plain-quiet, noted-may, due-uncommitted, poll-old}
 use Rattle.sv_witness.proofs.Same.{accepted-agreed}
-use Rattle.sv_witness.proofs.Steps.{poll-none, poll-some, polled-quiet}
+use Rattle.sv_witness.proofs.Steps.{poll-none, poll-some}
+use Rattle.sv_witness.proofs.Forms.{polled-quiet}
 
 -- ---- Only a Poll is answered Idle
 
@@ -186,11 +188,7 @@ done-old g s results = record { accepts = accepts (client_of g s); outcomes = ou
 
     outcomes : (o : Option ℕ) (k : ℕ) → (is_client o k && is_submit_of (requests.Done results) (next_seq g k)) ≡ false
     outcomes None k = refl
-    outcomes (Some j) k = never (j == k)
-      where
-        never : (b : Bool) → (b && false) ≡ false
-        never true = refl
-        never false = refl
+    outcomes (Some j) k = and-false (j == k)
 
 done-holds : (r : Rules) (g : List Entry) (s : ℕ) (results : List Done1) (d : Decision) → IsPlain (requests.Done results) d → Holds r g s (requests.Done results) d →
     Holds r g s (requests.Done []) d

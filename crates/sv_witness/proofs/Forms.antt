@@ -36,7 +36,7 @@ use Rattle.sv_witness.proofs.Same.{accepted-agreed}
 
 -- ---- Noted Dones
 
-polled-quiet : (r : Rules) (h : List Entry) (s : ℕ) (ps : List ℕ) → is_noted (reply_to_poll r h s ps) ≡ false
+pub polled-quiet : (r : Rules) (h : List Entry) (s : ℕ) (ps : List ℕ) → is_noted (reply_to_poll r h s ps) ≡ false
 polled-quiet r h s [] = refl
 polled-quiet r h s (p ∷ ps) = refl
 

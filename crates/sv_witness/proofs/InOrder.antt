@@ -3,6 +3,7 @@ use Rattle.std.proofs.Common.{◌≡◌, ℕ, Bool, true, false, ◌||◌, List,
 use Rattle.std.specs.Prelude.{if◌then◌else◌}
 use Rattle.std.specs.List.{list_any}
 use mathlib.Core.List.{reverse_aux}
+use mathlib.Core.Bool.{or-false}
 use Rattle.sv_witness.specs.declared.report.Report.{Report}
 use Rattle.sv_witness.specs.declared.report.Dispute.{Dispute}
 use Rattle.sv_witness.specs.Reports.{gives}
@@ -13,10 +14,6 @@ or-move true true c = refl
 or-move true false c = refl
 or-move false true c = refl
 or-move false false c = refl
-
-or-false : (b : Bool) → (b || false) ≡ b
-or-false true = refl
-or-false false = refl
 
 any-onto : {X : Type 0} (test : X → Bool) (xs ys : List X) → list_any test (reverse_aux xs ys) ≡ (list_any test xs || list_any test ys)
 any-onto test [] ys = refl

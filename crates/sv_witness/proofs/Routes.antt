@@ -2,6 +2,7 @@
 use Rattle.std.proofs.Common.{◌≡◌, ℕ, suc, ◌<◌, ◌≤◌, Bool, true, false, ◌&&◌, not, ◌==◌, nat_eq, nat_lt, nat_le, List, [], ◌∷◌, filter, length, Option, Some, None, is_some, is_none, refl, sym, ap, ◌∙◌, arith, true≢false}
 use Rattle.std.specs.Prelude.{if◌then◌else◌}
 use Rattle.std.proofs.lemmas.Bool.{cond-false, and_parts, ltb-true, or_left, or_right, eq-eqb}
+use mathlib.Core.Bool.{and-false}
 use Rattle.sv_world.specs.Control.{is_in, below}
 use Rattle.sv_world.specs.Limits.{most_requests}
 use Rattle.sv_world.proofs.Bases.{below-is_in}
@@ -141,8 +142,4 @@ poll-old h s = record { accepts = accepts (client_of h s); outcomes = outcomes (
 
     outcomes : (o : Option ℕ) (k : ℕ) → (is_client o k && is_submit_of requests.Poll (next_seq h k)) ≡ false
     outcomes None k = refl
-    outcomes (Some j) k = never (j == k)
-      where
-        never : (b : Bool) → (b && false) ≡ false
-        never true = refl
-        never false = refl
+    outcomes (Some j) k = and-false (j == k)

@@ -56,10 +56,6 @@ pub poll-some : (r : Rules) (h : List Entry) (s p : ℕ) (rest : List ℕ) → d
     polled_after agreed r h s ≡ relay_of r (agreed_history h) (actions_of (agreed_history h)) s 0 p
 poll-some r h s p rest is = ap (reply_to_poll r (agreed_history h) s) is
 
-pub polled-quiet : (r : Rules) (h : List Entry) (s : ℕ) (ps : List ℕ) → is_noted (reply_to_poll r h s ps) ≡ false
-polled-quiet r h s [] = refl
-polled-quiet r h s (p ∷ ps) = refl
-
 -- ---- Results that are not bad
 
 pub none-filter : (bad test : Done1 → Bool) (ds : List Done1) → list_any bad ds ≡ false → list_any bad (filter test ds) ≡ false
