@@ -1,6 +1,7 @@
 //! Runs on threads, and how they are told.
 ghost use Rattle.std.specs.Prelude.{◌≡◌, ◌++◌, reverse, codes, string_bytes, IfOk, Err};
 ghost use Rattle.std.specs.Fmt.{decimal};
+ghost use Rattle.sv_watch.specs.Told.{change_line};
 ghost use Rattle.sv_scenario.specs.Limits.{IsGoodScenario};
 ghost use Rattle.sv_play.specs.Playing.{PlayCause};
 ghost use Rattle.sv_play.specs.Settling.{SomeDiffer};
@@ -16,9 +17,8 @@ use sv_play::{PlayFault, Playing, lock_sequencer, play_all};
 use sv_replay::{open_sequencer, played_of};
 use sv_report::{brief, report};
 use sv_scenario::Scenario;
-use sv_script::told_watch;
 use sv_system::Played;
-use sv_watch::Line;
+use sv_watch::{Change, Line, Watch, told_line};
 
 /// What a run on threads leaves.
 #[derive(Debug, Drop)]
@@ -42,7 +42,13 @@ pub(crate) fn run_on_threads<N: Net, C: Crew, G: Gate + Sync, R: Threads + Wait 
 {
     let alloc = stage.alloc;
     let shape = scenario.world.shape;
-    let watch = told_watch(alloc, shape)?;
+    let callback = Box::new(
+        alloc,
+        move |change: &Change| -> Result<Line, AllocError>
+            ensures { IfOk result (λ line. line ≡ change_line change.now) }
+        { told_line(alloc, change) },
+    )?;
+    let watch = Watch::new(shape, callback);
     let sequencer = open_sequencer(alloc, scenario)?;
     let (lock, mut keeper) = lock_sequencer(alloc, scenario, sequencer)?;
     let Playing { traces, lines } = play_all(

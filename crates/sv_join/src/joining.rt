@@ -3,6 +3,7 @@ ghost use Rattle.std.specs.Prelude.{◌≡◌, ◌≢◌, ℕ, ◌+◌, ◌<◌,
 ghost use Rattle.std.specs.List.{AllByRecursion};
 ghost use Rattle.std.specs.Vec.{vec_capacity};
 ghost use Rattle.sv_world.specs.Limits.{most_clients};
+ghost use Rattle.sv_watch.specs.Told.{change_line};
 ghost use Rattle.sv_client.specs.Seen.{new_client};
 ghost use Rattle.sv_scenario.specs.Limits.{IsGoodPlan, IsGoodScenario};
 ghost use Rattle.sv_scenario.specs.Sessions.{sessions_of_plan};
@@ -16,9 +17,8 @@ use sv_client::{Client, Trace};
 use sv_door::{Door, Made};
 use sv_player::{PlayerCause, PlayerOut, play_client};
 use sv_scenario::{Plan, Scenario, sessions_of_plan};
-use sv_script::told_watch;
 use sv_system::honest_clients_are_never_refused;
-use sv_watch::{Line, Watch};
+use sv_watch::{Change, Line, Watch, told_line};
 use sv_world::{ClientId, Shape, copy_objects};
 
 /// The client of a scenario that is played, and the port of its server.
@@ -151,6 +151,12 @@ pub(crate) fn join_as<D: Door>(
     let shape = scenario.world.shape;
     let plan = &scenario.clients.as_slice()[number as usize];
     let client = open_client(alloc, shape, number, plan)?;
-    let watch = told_watch(alloc, shape)?;
+    let callback = Box::new(
+        alloc,
+        move |change: &Change| -> Result<Line, AllocError>
+            ensures { IfOk result (λ line. line ≡ change_line change.now) }
+        { told_line(alloc, change) },
+    )?;
+    let watch = Watch::new(shape, callback);
     play_over(alloc, seat, client, &watch, door)
 }

@@ -10,4 +10,4 @@ pub use following::{
     steps_are_done_in_order,
 };
 pub use going::{is_bye, unsynced};
-pub use telling::{changes_are_told_at_once, each_change_is_told, told_watch};
+pub use telling::{changes_are_told_at_once, each_change_is_told};

@@ -1,11 +1,10 @@
 //! Tests of the callbacks that are told of changes.
 ghost use Rattle.std.specs.Prelude.{◌≡◌, IfOk, All};
-ghost use Rattle.sv_watch.specs.Told.{HasLength, IsChangeIn};
+ghost use Rattle.sv_watch.specs.Told.{change_line, HasLength, IsChangeIn};
 
 use std::alloc::{AllocError, Global};
 use std::test::Fail;
-use sv_script::told_watch;
-use sv_watch::{Change, Line, told_line};
+use sv_watch::{Change, Line, Watch, told_line};
 use sv_world::{ClientId, ObjectId, Shape, Value};
 
 fn view(alloc: Global, number: Option<i64>) -> Result<Option<Value>, AllocError>
@@ -45,11 +44,17 @@ fn is_shared<T: Sync>(_value: &T) -> bool {
 fn told(alloc: Global, changes: &[Change]) -> Result<Vec<Line>, AllocError>
     requires { All (IsChangeIn (record { objects = 1; attrs = 1 })) changes.now }
 {
+    let callback = Box::new(
+        alloc,
+        move |change: &Change| -> Result<Line, AllocError>
+            ensures { IfOk result (λ line. line ≡ change_line change.now) }
+        { told_line(alloc, change) },
+    )?;
     let shape = Shape {
         objects: 1,
         attrs: 1,
     };
-    let watch = told_watch(alloc, shape)?;
+    let watch = Watch::new(shape, callback);
     let mut lines = Vec::new(alloc);
     if is_shared(&watch) {
         watch.tell(changes, &mut lines)?;
