@@ -1,12 +1,11 @@
 -- Who made the action at a position: an outcome that tells a position is that of the action there.
-use Rattle.std.proofs.Common.{◌≡◌, ℕ, zero, suc, ◌+◌, ◌≤◌, Bool, true, ◌&&◌, ◌==◌, inl, inr, List, [], ◌∷◌, ◌++◌, length, Option, Some, None, slice_get, refl, sym, ap, ◌∙◌, subst, arith, eq-eqb, eqb-true, true≢false, length-append}
+use Rattle.std.proofs.Common.{◌≡◌, ℕ, zero, suc, ◌+◌, ◌≤◌, Bool, true, ◌&&◌, ◌==◌, inl, inr, List, [], ◌∷◌, ◌++◌, length, Option, Some, slice_get, refl, sym, ap, ◌∙◌, subst, arith, eq-eqb, length-append}
 use Rattle.std.specs.Prelude.{if◌then◌else◌}
 use Rattle.std.proofs.lemmas.Bool.{cond-true, cond-false, cases_Bool, and_parts}
 use Rattle.std.proofs.lemmas.List.{get_or_append_left, get_or_push}
 use Rattle.std.proofs.lemmas.Option.{none-some, same_Some}
 use Rattle.sv_world.specs.declared.action.Action.{Action}
 use Rattle.sv_world.specs.Control.{blank}
-use Rattle.sv_wire.specs.declared.message.Request.{Request}
 use Rattle.sv_wire.specs.declared.message.Request.TheVariants as requests
 use Rattle.sv_journal.specs.declared.entry.Entry.{Entry}
 use Rattle.sv_journal.specs.declared.entry.Logged.{Logged}
@@ -15,6 +14,7 @@ use Rattle.sv_journal.specs.History.{is_relay, client_of, is_client, is_submit_o
 use Rattle.sv_journal.specs.Sessions.{outcome_at, kept_outcome}
 use Rattle.sv_system.proofs.Asked.{get-append_cases}
 use Rattle.sv_system.proofs.Histories.{kept-is}
+use Rattle.sv_system.proofs.Window.{client-some, submit-named}
 use Rattle.law_journal.specs.Brought.{IsMadeBy}
 use Rattle.law_journal.proofs.Staying.{added}
 
@@ -97,19 +97,6 @@ tells-more : (A more : List Authored) (k n : ℕ) (o : Outcome) → TellsOwn A k
 tells-more A more k n (Accepted p) own = made-more A more k n p own
 tells-more A more k n (Dropped chain far) own = tt
 
-client-is : (o : Option ℕ) (k : ℕ) → is_client o k ≡ true → o ≡ Some k
-client-is None k e = absurd (true≢false (sym e))
-client-is (Some j) k e = ap (λ (m : ℕ). Some m) (eqb-true j k e)
-
-submit-is : (q : Request) (n : ℕ) → is_submit_of q n ≡ true → (a : Action) × (q ≡ requests.Submit n a)
-submit-is (requests.Submit seq action) n e = (action, ap (λ (m : ℕ). requests.Submit m action) (eqb-true seq n e))
-submit-is (requests.Join client life interest) n e = absurd (true≢false (sym e))
-submit-is (requests.Done results) n e = absurd (true≢false (sym e))
-submit-is requests.Poll n e = absurd (true≢false (sym e))
-submit-is requests.Leave n e = absurd (true≢false (sym e))
-submit-is requests.Bad n e = absurd (true≢false (sym e))
-submit-is requests.End n e = absurd (true≢false (sym e))
-
 tells-new : (e : Entry) (h : List Entry) (k : ℕ) (a : Action) → client_of h e.session ≡ Some k → e.request ≡ requests.Submit (next_seq h k) a →
     (w : Logged) → e.reply ≡ w → (j : ℕ) (o : Outcome) → slice_get (outcome_in (suc (length (accepted h))) w) j ≡ Some o →
     (j ≡ 0) × TellsOwn (accepted (e ∷ h)) k (next_seq h k) o
@@ -141,8 +128,8 @@ tells-own (d ∷ h) k n o e =
         | inr x ↦ absurd (none-some o (sym (ap (λ (l : List Outcome). slice_get l f.0) (cond-false test more [] x)) ∙ f.1.1))
         | inl x ↦
             (let parts = and_parts (is_client (client_of h d.session) k) (is_submit_of d.request (suc (length (outcomes_of h k)))) x in
-            let submit = submit-is d.request (next_seq h k) parts.1 in
-            let now = tells-new d h k submit.0 (client-is (client_of h d.session) k parts.0) submit.1 d.reply refl f.0 o
+            let submit = submit-named d.request (next_seq h k) parts.1 in
+            let now = tells-new d h k submit.0 (client-some (client_of h d.session) k parts.0) submit.1 d.reply refl f.0 o
             (sym (ap (λ (l : List Outcome). slice_get l f.0) (cond-true test more [] x)) ∙ f.1.1) in
             let place : n ≡ length (outcomes_of h k) + f.0 = f.1.0 in
             let none : f.0 ≡ 0 = now.0 in

@@ -2,7 +2,7 @@
 use Rattle.std.proofs.Common.{◌≡◌, ℕ, zero, suc, Bool, true, false, ◌&&◌, ◌||◌, ◌==◌, not, ◌⊎◌, inl, inr, List, [], ◌∷◌, map, length, drop, refl, sym, ap, ◌∙◌, subst, eqb-true, true≢false}
 use Rattle.std.specs.Prelude.{if◌then◌else◌}
 use Rattle.std.specs.List.{list_any, AllByRecursion}
-use Rattle.std.proofs.lemmas.Bool.{cases_Bool, and_parts, and_from, or_cases, or_left, or_right, not_from_false}
+use Rattle.std.proofs.lemmas.Bool.{cases_Bool, and_parts, and_from, or_cases, or_left, or_right, not_from_false, or_parts}
 use Rattle.std.proofs.lemmas.List.Concat.{flat_map-cons}
 use Rattle.sv_pending.specs.Pending.{PendingAction}
 use Rattle.sv_versions.specs.Held.{Held}
@@ -19,7 +19,7 @@ use Rattle.sv_client.specs.declared.trace.Event.{Event}
 use Rattle.sv_client.specs.declared.trace.Event.TheVariants as events
 use Rattle.sv_client.specs.Traces.{submit_of, pending_of, held_of, done_for, is_session, current_session, makes, joins, asked_by_event, asked}
 use Rattle.sv_system.specs.Fits.{requests_in}
-use Rattle.sv_system.proofs.Every.{each-append}
+use Rattle.sv_system.proofs.Every.{each-append, each-if}
 use Rattle.law_schedule.specs.Players.{Player, asked_in_run, has_closed}
 use Rattle.law_schedule.specs.Serving.{is_stop, is_stopped}
 use Rattle.law_schedule.specs.Schedule.{plainly_served, session_turn, session_turns, sessions_turned}
@@ -45,17 +45,13 @@ done-asked held replies.Idle = tt
 done-asked held (replies.Refused code detail) = tt
 done-asked held replies.Bye = tt
 
-if-asked : (b : Bool) (qs : List Request) → AreAsked qs → AreAsked (if b then qs else [])
-if-asked true qs a = a
-if-asked false qs a = tt
-
 event-asked : (client : ClientId) (interest : List ObjectId) (t : List Event) (e : Event) (s : ℕ) → AreAsked (asked_by_event client interest t e s)
 event-asked client interest t (events.Join n) s =
-    if-asked (n == s) (requests.Join client (suc (joins t)) interest ∷ map submit_of (pending_of t)) (refl, submits-asked (pending_of t))
-event-asked client interest t (events.Make action) s = if-asked (is_session (current_session t) s) (requests.Submit (suc (makes t)) action ∷ []) (refl, tt)
-event-asked client interest t events.Poll s = if-asked (is_session (current_session t) s) (requests.Poll ∷ []) (refl, tt)
-event-asked client interest t events.Leave s = if-asked (is_session (current_session t) s) (requests.Leave ∷ []) (refl, tt)
-event-asked client interest t (events.Got n reply) s = if-asked (n == s) (done_for (held_of t) reply) (done-asked (held_of t) reply)
+    each-if (λ (q : Request). is_end q ≡ false) (n == s) (requests.Join client (suc (joins t)) interest ∷ map submit_of (pending_of t)) (refl, submits-asked (pending_of t))
+event-asked client interest t (events.Make action) s = each-if (λ (q : Request). is_end q ≡ false) (is_session (current_session t) s) (requests.Submit (suc (makes t)) action ∷ []) (refl, tt)
+event-asked client interest t events.Poll s = each-if (λ (q : Request). is_end q ≡ false) (is_session (current_session t) s) (requests.Poll ∷ []) (refl, tt)
+event-asked client interest t events.Leave s = each-if (λ (q : Request). is_end q ≡ false) (is_session (current_session t) s) (requests.Leave ∷ []) (refl, tt)
+event-asked client interest t (events.Got n reply) s = each-if (λ (q : Request). is_end q ≡ false) (n == s) (done_for (held_of t) reply) (done-asked (held_of t) reply)
 event-asked client interest t events.Cut s = tt
 event-asked client interest t events.Quit s = tt
 event-asked client interest t (events.Show objects) s = tt
@@ -76,7 +72,7 @@ drop-asked zero qs a = a
 drop-asked (suc n) [] a = tt
 drop-asked (suc n) (q ∷ qs) a = drop-asked n qs a.1
 
-next-asked : (ps : List Player) (s n : ℕ) (q : Request) (rest : List Request) → drop n (asked_in_run ps s) ≡ q ∷ rest → is_end q ≡ false
+pub next-asked : (ps : List Player) (s n : ℕ) (q : Request) (rest : List Request) → drop n (asked_in_run ps s) ≡ q ∷ rest → is_end q ≡ false
 next-asked ps s n q rest e = (subst AreAsked e (drop-asked n (asked_in_run ps s) (run-asked ps s))).0
 
 -- ---- Ends that are due
@@ -90,7 +86,7 @@ spent-first [] s n c = cc
 spent-first (e ∷ h) s n c =
     let later = spent-first h s in
     let here = (e.session == s && not (is_end e.request)) && is_stop e.reply in
-    let none = or-none (e.session == s && is_end e.request) (is_ended h s) n in
+    let none = or_parts (e.session == s && is_end e.request) (is_ended h s) n in
     elim (or_cases (e.session == s && is_stop e.reply) (is_stopped h s) c) [
       | inr x ↦ or_right here (is_spent h s) (later none.1 x)
       | inl x ↦
@@ -99,10 +95,6 @@ spent-first (e ∷ h) s n c =
           (and_from (e.session == s) (not (is_end e.request)) p.0 (not_from_false (is_end e.request) (other-false (e.session == s) (is_end e.request) p.0 none.0))) p.1))
     ]
   where
-    or-none : (a b : Bool) → (a || b) ≡ false → (a ≡ false) × (b ≡ false)
-    or-none true b x = absurd (true≢false x)
-    or-none false b x = (refl, x)
-
     other-false : (a b : Bool) → a ≡ true → (a && b) ≡ false → b ≡ false
     other-false true b x y = y
     other-false false b x y = absurd (true≢false (sym x))

@@ -1,7 +1,7 @@
 -- Once all clients have closed, a round ends all sessions, and a further one changes nothing.
-use Rattle.std.proofs.Common.{◌≡◌, ℕ, suc, ◌+◌, ◌-◌, ◌≤◌, ◌<◌, Bool, true, false, ◌&&◌, ◌||◌, ◌==◌, not, inl, inr, List, [], ◌∷◌, map, Option, Some, slice_get, refl, sym, ap, ◌∙◌, subst, arith, eqb-true, true≢false}
+use Rattle.std.proofs.Common.{◌≡◌, ℕ, suc, ◌+◌, ◌-◌, ◌≤◌, ◌<◌, true, false, ◌&&◌, ◌==◌, not, inl, inr, List, [], ◌∷◌, map, Option, Some, slice_get, refl, sym, ap, ◌∙◌, subst, arith, eqb-true, true≢false}
 use Rattle.std.specs.List.{list_any}
-use Rattle.std.proofs.lemmas.Bool.{cond-true, cond-false, cases_Bool, cases_lt, and_parts, and_from, or_cases}
+use Rattle.std.proofs.lemmas.Bool.{cond-true, cond-false, cases_Bool, cases_lt, and_parts, and_from, or_cases, or_parts}
 use Rattle.std.proofs.lemmas.List.Elements.{All-from_recursion}
 use Rattle.sv_world.specs.declared.world.Shape.{Shape}
 use Rattle.sv_world.specs.Control.{below}
@@ -150,19 +150,11 @@ rounds-done scenario good honest stay run g n l =
 
 -- ---- Ends
 
-none-ended : (h : List Entry) (s : ℕ) → is_ended h s ≡ false → ends_in h s ≡ 0
+pub none-ended : (h : List Entry) (s : ℕ) → is_ended h s ≡ false → ends_in h s ≡ 0
 none-ended [] s e = refl
 none-ended (d ∷ h) s e =
-    let now = cond-false (d.session == s && is_end d.request) (suc (ends_in h s)) (ends_in h s) (first-false (d.session == s && is_end d.request) (is_ended h s) e) in
-    now ∙ none-ended h s (second-false (d.session == s && is_end d.request) (is_ended h s) e)
-  where
-    first-false : (a b : Bool) → (a || b) ≡ false → a ≡ false
-    first-false true b x = x
-    first-false false b x = refl
-
-    second-false : (a b : Bool) → (a || b) ≡ false → b ≡ false
-    second-false true b x = absurd (true≢false x)
-    second-false false b x = x
+    let now = cond-false (d.session == s && is_end d.request) (suc (ends_in h s)) (ends_in h s) (or_parts (d.session == s && is_end d.request) (is_ended h s) e).0 in
+    now ∙ none-ended h s (or_parts (d.session == s && is_end d.request) (is_ended h s) e).1
 
 -- A session that had its End had one.
 pub one-end : (h : List Entry) (s : ℕ) → IsEndLast h s → is_ended h s ≡ true → ends_in h s ≡ 1

@@ -33,7 +33,7 @@ use Rattle.sv_system.proofs.Asked.{part-rest, asked-part, got-when, got-answers,
 use Rattle.sv_system.proofs.Leaving.{leave-last}
 use Rattle.sv_system.specs.Laws.{NeverRefused}
 use Rattle.sv_system.proofs.Order.{leave-only, never-refused}
-use Rattle.sv_system.proofs.Places.{map_at}
+use Rattle.sv_system.proofs.Places.{map_at, at_place}
 use Rattle.law_schedule.specs.Players.{Player, open_session, has_closed, take_turns}
 use Rattle.law_schedule.specs.Serving.{Run, is_stop, after_takes}
 use Rattle.law_schedule.specs.Schedule.{rules_of, after_sessions}
@@ -47,11 +47,6 @@ use Rattle.law_schedule.proofs.DoneCounts.{joins-few, joined-low, got-welcomed}
 use Rattle.law_schedule.proofs.DoneTakes.{AreDones, dones-drop, IsOpen, open-from, asks, IsTaken, takes-all}
 
 -- ---- Lists
-
-some-at : {X : Type 0} (xs : List X) (n : ℕ) → n < length xs → (x : X) × (slice_get xs n ≡ Some x)
-some-at [] n l = absurd (omega (arith, l))
-some-at (x ∷ xs) zero l = (x, refl)
-some-at (x ∷ xs) (suc n) l = some-at xs n (omega (arith, l))
 
 drop-past : (n : ℕ) (xs ys : List Request) → length xs ≤ n → AreDones ys → AreDones (drop n (xs ++ ys))
 drop-past n [] ys l a = dones-drop n ys a
@@ -104,7 +99,7 @@ spent-answered who first t h s proper front all w =
     replies-earlier A (w.entry ∷ w.before) h w.earlier s n reply
     (ap (λ (l : List Reply). slice_get l n) (cond-true (is_of w.entry s) _ _ w.of_it) ∙ get-last (replies_in A w.before s) reply) in
     let within = slice_get_within (replies_in A h s) n reply there in
-    let found = some-at (got t s) n (omega (arith, within, all)) in
+    let found = at_place (got t s) n (omega (arith, within, all)) in
     let took : slice_get (got t s) n ≡ Some reply = found.1 ∙ sym (front n found.0 found.1) ∙ there in
     let g = got-when who first t s n reply took in
     let a = got-answers who first t proper s n reply g in

@@ -1,3 +1,4 @@
+pub mod Asking
 pub mod DoneCounts
 pub mod DoneDue
 pub mod DoneEnds

@@ -60,7 +60,7 @@ module _ (server : Server) (keeps : KeepsSound server) (h : List Entry) (named :
 abbrev pub begun_by : List Player → ℕ → Bool
 begun_by ps n = list_any (λ (p : Player). has_joined p n) ps
 
-both-empty : {X : Type 0} (xs ys : List X) → xs ≡ [] → ys ≡ [] → xs ++ ys ≡ []
+pub both-empty : {X : Type 0} (xs ys : List X) → xs ≡ [] → ys ≡ [] → xs ++ ys ≡ []
 both-empty xs ys e f = rw (e, f) refl
 
 pub none-asked_in : (server : Server) (h : List Entry) (ps : List Player) (n : ℕ) → AllByRecursion (IsFitting server h) ps → begun_by ps n ≡ false → asked_in_run ps n ≡ []

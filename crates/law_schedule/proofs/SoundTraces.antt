@@ -176,7 +176,7 @@ joined-within who first (events.Cut ∷ t) n p h = joined-within who first t n p
 joined-within who first (events.Quit ∷ t) n p h = joined-within who first t n p.1 h
 joined-within who first (events.Show objects ∷ t) n p h = joined-within who first t n p.1 h
 
-not-current : (t : List Event) (n : ℕ) → list_any (is_join_of n) t ≡ false → is_session (current_session t) n ≡ false
+pub not-current : (t : List Event) (n : ℕ) → list_any (is_join_of n) t ≡ false → is_session (current_session t) n ≡ false
 not-current [] n h = refl
 not-current (events.Join s ∷ t) n h = (or_parts (s == n) (list_any (is_join_of n) t) h).0
 not-current (events.Make action ∷ t) n h = not-current t n h

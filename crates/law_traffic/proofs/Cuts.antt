@@ -7,11 +7,8 @@ use Rattle.sv_frame.specs.Frames.{frame, frames_of, FitsFrame, first_frame, too_
 use Rattle.sv_frame.specs.Streams.{split_frames, with_first}
 use Rattle.sv_frame.proofs.Fronts.{none_or_some, first_frame-append, first_frame-frame, too_long-append, no_frame_if_too_long}
 use Rattle.sv_frame.proofs.Splitting.{split-none, split-some, split-empty}
+use Rattle.sv_player.proofs.Stepping.{left_none}
 use Rattle.law_traffic.specs.Cuts.{IsCutStream, CutFramesAreFrontFrames}
-
-pub front_none : {A : Type 0} (xs ys : List A) → xs ++ ys ≡ [] → xs ≡ []
-front_none [] ys e = refl
-front_none (x ∷ xs) ys e = cc
 
 pub empty_short : too_long [] ≡ None
 unfolding too_long
@@ -49,7 +46,7 @@ cut_next p ps stream after first is c =
     }
 
 cut : (payloads : List (List ℕ)) (stream more : List ℕ) → AllByRecursion FitsFrame payloads → stream ++ more ≡ frames_of payloads → IsCutStream payloads stream
-cut [] stream more fits e = cut_none stream (front_none stream more e)
+cut [] stream more fits e = cut_none stream (left_none stream more e)
 cut (p ∷ ps) stream more fits e =
     elim (none_or_some (first_frame stream)) [
       | inl none ↦ cut_here p ps stream more fits.0 e none

@@ -3,7 +3,6 @@ pub mod Ours
 pub mod Messages
 pub mod Dues
 pub mod Bytes
-pub mod Asking
 pub mod Counted
 pub mod Owners
 pub mod Sendable

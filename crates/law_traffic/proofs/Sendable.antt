@@ -24,11 +24,11 @@ use Rattle.sv_system.specs.Records.{rules_of, EachTrace}
 use Rattle.sv_asked.specs.Asked.{RepliesAreMessages}
 use Rattle.sv_system.proofs.Every.{each-append, each-reverse}
 use Rattle.sv_system.proofs.Limits.{limits_of, objects_few}
+use Rattle.law_schedule.proofs.Asking.{few-asked}
 use Rattle.law_traffic.specs.Sessions.{Over, IsSessionDone}
 use Rattle.law_traffic.specs.Runs.{EachSession, IsRun, IsGoodRun}
 use Rattle.law_traffic.proofs.Ours.{mine}
 use Rattle.law_traffic.proofs.Bytes.{answered, just, steps_messages, steps_few}
-use Rattle.law_traffic.proofs.Asking.{few_asked}
 use Rattle.law_traffic.proofs.Counted.{AreUnder, each_by_session, few_entries}
 use Rattle.law_traffic.proofs.Owners.{IsOwner, owner}
 
@@ -99,7 +99,7 @@ module _ (stay : FullRepliesStay) (name : LegalRelaysNameAccepted) (messages : R
       let is = ap (λ (l : List Entry). length l) (just stay name journal o.trace s (session_of s o) d) in
       let sum = length-append a (entry_of s requests.End logged.Bye ∷ []) in
       let less = steps_few stay name journal o.trace s (session_of s o) d in
-      let most = few_asked (identity_of scenario.world.shape o.trace) o.trace.first o.plan.steps (reverse o.trace.events) o.holds.follows.left s o.holds.good.few_steps o.holds.proper.events o.holds.follows.follows in
+      let most = few-asked (identity_of scenario.world.shape o.trace) o.trace.first o.plan.steps (reverse o.trace.events) o.holds.follows.left s o.holds.good.few_steps o.holds.proper.events o.holds.follows.follows in
       omega (arith, is, sum, less, most)
 
   all_fit : AllByRecursion (λ (e : Entry). RequestFits e.request) journal

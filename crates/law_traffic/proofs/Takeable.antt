@@ -22,9 +22,10 @@ use Rattle.sv_exchange.proofs.Sizes.{reply_short, reply_back}
 use Rattle.sv_player.specs.Stops.{IsBadRest, first_payload}
 use Rattle.sv_player.specs.declared.outcome.ReplyFault.{ReplyFault}
 use Rattle.sv_player.specs.declared.outcome.ReplyFault.TheVariants as reply_faults
+use Rattle.sv_player.proofs.Stepping.{left_none}
 use Rattle.law_traffic.specs.Traffic.{reply_frames}
 use Rattle.law_traffic.specs.Stuck.{IsTakeable}
-use Rattle.law_traffic.proofs.Cuts.{front_none, empty_short, not_long}
+use Rattle.law_traffic.proofs.Cuts.{empty_short, not_long}
 use Rattle.law_traffic.proofs.Messages.{AreGot, same_reply}
 
 -- ---- Frames of replies
@@ -56,7 +57,7 @@ next_of (w ∷ ws) rest payload after fine p first =
     record { reply = w; others = ws; are = refl; bytes = ap (λ (q : List ℕ × List ℕ). q.0) same }
 
 next_short : (more : List Reply) (rest : List ℕ) → AllByRecursion IsReply more → IsPrefix rest (reply_frames more) → too_long rest ≡ None
-next_short [] rest fine p = ap too_long (front_none rest p.0 (p.1 ∙ no_frames)) ∙ empty_short
+next_short [] rest fine p = ap too_long (left_none rest p.0 (p.1 ∙ no_frames)) ∙ empty_short
 next_short (w ∷ ws) rest fine p = not_long (reply_bytes w) rest p.0 (reply_frames ws) (reply_short w fine.0) (p.1 ∙ one_frame w ws)
 
 -- ---- The reply that comes next

@@ -25,11 +25,11 @@ use Rattle.sv_player.specs.Stops.{IsShut}
 use Rattle.sv_player.specs.Played.{replies_of}
 use Rattle.sv_system.proofs.Limits.{limits_of}
 use Rattle.sv_system.proofs.Places.{map_at}
+use Rattle.law_schedule.proofs.Asking.{few-asked}
 use Rattle.law_traffic.specs.Sessions.{Over, transcript, IsSessionDone}
 use Rattle.law_traffic.specs.Traffic.{IsTraffic}
 use Rattle.law_traffic.specs.Stuck.{IsStopped, IsTakeable}
 use Rattle.law_traffic.specs.Runs.{EachSession, IsRun, IsGoodRun, IsOpenIn, TrafficIsRecorded, EndOrAreStopped, UncutSessionsHaveNoFault}
-use Rattle.law_traffic.proofs.Asking.{few_asked}
 use Rattle.law_traffic.proofs.Bytes.{all, all_are, traffic_of}
 use Rattle.law_traffic.proofs.Owners.{in_range}
 use Rattle.law_traffic.proofs.Recorded.{fits}
@@ -114,7 +114,7 @@ module _ (stay : FullRepliesStay) (name : LegalRelaysNameAccepted) (messages : R
     next_taken law rest begins =
         let limits = limits_of scenario good.good in
         let w = mine_well.1 in
-        let few = few_asked (identity_of scenario.world.shape L) L.first mine_well.0.steps (reverse L.events) w.follows.left s w.good.few_steps w.proper.events w.follows.follows in
+        let few = few-asked (identity_of scenario.world.shape L) L.first mine_well.0.steps (reverse L.events) w.follows.left s w.good.few_steps w.proper.events w.follows.follows in
         takeable stay name journal L s x open_done can_be_sent rest begins scenario.world.shape
         (λ reply there. law (rules_of scenario) (reverse journal) Ls o.place L s reply limits.objects limits.attrs limits.bound run.legal
         (fits stay name messages scenario journal Ls sessions good run) o.member o.session.current (omega (arith, few))

@@ -20,6 +20,7 @@ use Rattle.sv_eval.specs.Numbers.{in_i64, sum_of, difference_of, product_of, quo
 use Rattle.sv_eval.specs.Evaluation.{Slots, attribute_in, with_number, both, expr_step, expr_number, cond_holds, choose, in_order, stmt_step, stmt_after, body_after, outcome_by, outcome_of}
 use Rattle.sv_world.specs.Ranges.{is_i64, is_zero, expr_fits_step, expr_fits, cond_fits, stmt_fits_step, stmt_fits}
 use Rattle.sv_wire.specs.Ranges.{ValueFits}
+use Rattle.sv_system.proofs.Every.{each-get}
 
 -- ---- Numbers
 
@@ -86,11 +87,6 @@ both_fit give gives (Some x) (Some y) p q = gives x y p q
 abbrev pub AreNumbers : Slots → Type 0
 AreNumbers slots = AllByRecursion ValueFits slots
 
-all_at : {A : Type 0} (P : A → Type 0) (xs : List A) (k : ℕ) (d : A) → AllByRecursion P xs → P d → P (get_or xs k d)
-all_at P [] k d all h = h
-all_at P (x ∷ xs) zero d all h = all.0
-all_at P (x ∷ xs) (suc k) d all h = all_at P xs k d all.1 h
-
 pub all_set : {A : Type 0} (P : A → Type 0) (xs : List A) (k : ℕ) (y : A) → AllByRecursion P xs → P y → AllByRecursion P (set xs k y)
 all_set P [] k y all h = tt
 all_set P (x ∷ xs) zero y all h = (h, all.1)
@@ -100,11 +96,11 @@ zero_fits : IsNumber (pos 0)
 zero_fits = fits_signed_from_abs w64 (pos 0) (omega arith)
 
 number_fits : (slots : Slots) (slot attr : ℕ) → AreNumbers slots → IsNumber (attribute_in slots slot attr)
-number_fits slots slot attr all = all_at IsNumber (get_or slots slot []) attr (pos 0) (all_at ValueFits slots slot [] all tt) zero_fits
+number_fits slots slot attr all = each-get IsNumber (get_or slots slot []) attr (pos 0) (each-get ValueFits slots slot [] all tt) zero_fits
 
 with_number_fits : (slots : Slots) (slot attr : ℕ) (n : ℤ) → AreNumbers slots → IsNumber n → AreNumbers (with_number slots slot attr n)
 with_number_fits slots slot attr n all h =
-    all_set ValueFits slots slot (set (get_or slots slot []) attr n) all (all_set IsNumber (get_or slots slot []) attr n (all_at ValueFits slots slot [] all tt) h)
+    all_set ValueFits slots slot (set (get_or slots slot []) attr n) all (all_set IsNumber (get_or slots slot []) attr n (each-get ValueFits slots slot [] all tt) h)
 
 -- ---- Expressions
 

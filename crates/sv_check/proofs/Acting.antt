@@ -31,12 +31,14 @@ use Rattle.law_schedule.proofs.SoundTraces.{joined-within}
 use Rattle.sv_replay.proofs.Events.{is_got, asks_up, asks_got}
 use Rattle.sv_client.specs.Seen.{ClientView}
 use Rattle.sv_player.proofs.Going.{bye_finishes}
+use Rattle.sv_player.proofs.Onward.{or_none}
 use Rattle.sv_system.proofs.Places.{map_at}
+use Rattle.sv_system.proofs.Asked.{current-joined}
+use Rattle.sv_replay.proofs.Machines.{read_at}
 use Rattle.sv_check.specs.declared.actor.Actor.{Actor}
 use Rattle.sv_check.specs.Serving.{full_replies}
 use Rattle.sv_check.specs.Acting.{IsActing, HasAsked, HasGot, AreFlags, IsSettled, IsUnsettled, IsAmiss, WentOn, LookedAt, Joined, GotReply, Made, IsNextPlace, IsNextEvent, journal_events, replies_before, cuts_session, is_other}
-use Rattle.sv_check.proofs.Told.{current_joined}
-use Rattle.sv_check.proofs.Settling.{turned_more, got_there, there_got, split_turned}
+use Rattle.sv_check.proofs.Settling.{turned_more, got_there, split_turned}
 
 -- ---- The latest session
 
@@ -151,7 +153,7 @@ module _ (entries : List Entry) (first : ℕ) (who : Identity) (t : List Event) 
         (begun_settled entries who (Up first t) requests fits h (late f).1 (late f).0 s before);
     unfit = λ f. elim (amiss f) [
       | inl old ↦ (let u = h.unfit old in (u.0, left_unsettled u.0 u.1.begun u.1.not_settled))
-      | inr new ↦ (new.which, left_unsettled new.which (current_joined (Up first t) new.which new.latest) new.not_settled)
+      | inr new ↦ (new.which, left_unsettled new.which (current-joined (Up first t) new.which new.latest) new.not_settled)
     ];
   }
 
@@ -321,9 +323,6 @@ other_stands entries first who t e place o p h =
     let proper = up_proper first who (e ∷ t) p in
     subst (IsPlace entries (raised first e ∷ Up first t)) (other_place entries first place e o)
     (next_place who first entries (Up first t) (raised first e) place proper.1 proper.0 h)
-
-or_none : (a b : Bool) → a ≡ false → (a || b) ≡ b
-or_none a b e = rw e refl
 
 -- It does the event, with these steps left.
 pub did : (entries : List Entry) (a b : Actor) (e : Event) → IsActing entries a → must_join a.client.events ≡ false → is_finished a.client.events ≡ false →
@@ -496,7 +495,7 @@ pub reply_there : (entries : List Entry) (items : List Reply) (from s p : ℕ) (
 reply_there entries items from s p reply n same is =
     let whole = map_at (λ (d : Entry). full_reply (accepted (reverse entries)) d.reply) entries p n.entry n.found in
     let within = (got_there (full_replies entries) p (full_reply (accepted (reverse entries)) n.entry.reply) whole).0 in
-    there_got (full_replies entries) p reply within (is ∙ ap (λ (rs : List Reply). get_or rs p reply) same)
+    read_at (full_replies entries) p reply within (is ∙ ap (λ (rs : List Reply). get_or rs p reply) same)
 
 pub went_reply : (entries es : List Entry) (items : List Reply) (a b : Actor) (s p : ℕ) (reply : Reply) → es ≡ entries → IsActing entries a → must_join a.client.events ≡ false →
     is_finished a.client.events ≡ false → a.session ≡ Some s → IsNextPlace es a.place s p → items ≡ full_replies entries → reply ≡ get_or items p reply → GotReply reply p a b → WentOn entries a b

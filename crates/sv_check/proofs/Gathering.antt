@@ -1,16 +1,15 @@
 -- From whole traces and a whole journal to the record of a run.
-use Rattle.std.proofs.Common.{◌≡◌, ℕ, zero, suc, ◌+◌, ◌<◌, ◌≤◌, ◌⊎◌, inl, inr, Bool, true, false, ◌&&◌, ◌||◌, eqb, List, [], ◌∷◌, ◌++◌, map, length, take, drop, get_or, reverse, refl, sym, ap, subst, ◌∙◌, arith, true≢false, append-nil}
+use Rattle.std.proofs.Common.{◌≡◌, ℕ, zero, suc, ◌+◌, ◌<◌, ◌≤◌, ◌⊎◌, inl, inr, true, false, ◌&&◌, ◌||◌, eqb, List, [], ◌∷◌, ◌++◌, map, length, take, drop, get_or, reverse, refl, sym, ap, subst, ◌∙◌, arith, true≢false, append-nil}
 use Rattle.std.specs.Prelude.{All}
 use Rattle.std.specs.List.{list_any, AllByRecursion}
 use Rattle.std.proofs.lemmas.Bool.{cases_lt, or_left, or_right}
-use Rattle.std.proofs.lemmas.List.{reverse-reverse, take_more, length-take}
+use Rattle.std.proofs.lemmas.List.{take_more, length-take}
 use Rattle.std.proofs.lemmas.List.Elements.{All-nil, All-cons, All-from_recursion, recursion_from_All}
 use Rattle.sv_world.specs.declared.world.ClientId.{ClientId}
 use Rattle.sv_world.specs.declared.world.Shape.{Shape}
 use Rattle.sv_journal.specs.declared.entry.Entry.{Entry}
 use Rattle.sv_journal.specs.Sessions.{is_end}
 use Rattle.sv_journal.specs.Answer.{Legal}
-use Rattle.sv_client.specs.declared.trace.Event.{Event}
 use Rattle.sv_client.specs.declared.trace.Trace.{Trace}
 use Rattle.sv_client.specs.Traces.{joins}
 use Rattle.sv_client.specs.Taking.{Identity}
@@ -25,15 +24,13 @@ use Rattle.sv_script.specs.Following.{FollowsTo, FollowsToEnd, IsCarriedOut, ste
 use Rattle.sv_script.specs.Laws.{StepsAreDoneInOrder, EndsDoAllSteps}
 use Rattle.sv_system.specs.Fits.{is_join_of, has_session, is_owned, FitsIn, FitsOne, Fits, AreApart, AreAllApart}
 use Rattle.sv_system.specs.Records.{AreTracesOf, EachTrace, IsRecordOf, ScriptsAreFollowed, rules_of, ends_in}
+use Rattle.sv_system.proofs.Asked.{any-reverse}
 use Rattle.law_schedule.proofs.DoneCounts.{joins-counted, joins-few, low-joined, finished-joined, one_if}
 use Rattle.law_schedule.proofs.DoneFacts.{any-turned}
 use Rattle.law_schedule.proofs.SoundTraces.{joined-within}
 use Rattle.sv_check.specs.Parts.{IsWholeTrace, AreFirstTraces, IsOf}
 
 -- ---- The sessions of a trace
-
-pub any_back : (t : Event → Bool) (xs : List Event) → list_any t (reverse xs) ≡ true → list_any t xs ≡ true
-any_back t xs h = subst (λ (ys : List Event). list_any t ys ≡ true) (reverse-reverse xs) (any-turned t (reverse xs) h)
 
 no_cuts : (ss : List Step) → events_of ss ≡ [] → cuts_in ss ≡ 0
 no_cuts [] e = refl
@@ -75,7 +72,7 @@ has_each : StepsAreDoneInOrder → EndsDoAllSteps → (shape : Shape) (plan : Pl
     L.first ≤ n → n < L.first + sessions_of_plan plan → has_session L n ≡ true
 has_each begun whole shape plan L n p q f low high =
     let all = all_joined begun whole shape plan L p q f in
-    any_back (is_join_of n) L.events (low-joined (identity_of shape L) L.first (reverse L.events) n p.events low (omega (arith, high, all)))
+    any-reverse (is_join_of n) L.events (low-joined (identity_of shape L) L.first (reverse L.events) n p.events low (omega (arith, high, all)))
 
 -- ---- All traces
 

@@ -14,10 +14,10 @@ use Rattle.sv_scenario.specs.declared.scenario.Scenario.{Scenario}
 use Rattle.sv_script.specs.Following.{FollowsTo}
 use Rattle.sv_system.specs.Fits.{is_join_of, replies_in}
 use Rattle.sv_system.specs.Fronts.{IsFront}
+use Rattle.sv_system.proofs.Asked.{any-reverse}
 use Rattle.sv_report.specs.Report.{event_text, event_lines, trace_text}
 use Rattle.sv_check.specs.Next.{GotFronts}
 use Rattle.sv_check.specs.Parts.{IsTraceSoFar}
-use Rattle.sv_check.proofs.Gathering.{any_back}
 use Rattle.sv_check.proofs.GoingOn.{client_line}
 use Rattle.sv_check.proofs.Told.{fronts_less}
 use Rattle.sv_check.proofs.WholeLines.{behind_both}
@@ -46,7 +46,7 @@ module _ (L : Trace) (e : Event) (t : List Event) (latest : reverse L.events ≡
     turned = sym (reverse-reverse t)
 
     all_got : GotFronts R (reverse L.events)
-    all_got s j = far.got_is s (any_back (is_join_of s) L.events j)
+    all_got s j = far.got_is s (any-reverse (is_join_of s) L.events j)
 
     gets : GotFronts R t
     gets = fronts_less who L.first R e t (subst (GotFronts R) latest all_got)
@@ -58,5 +58,5 @@ module _ (L : Trace) (e : Event) (t : List Event) (latest : reverse L.events ≡
         record {
           proper = record { who = far.proper.who; events = subst (AreProper who L.first) turned proper.1 };
           follows = record { left = done.0; follows = subst (λ (u : List Event). FollowsTo who plan.steps u done.0) turned done.1.0 };
-          got_is = λ s j. subst (λ (u : List Event). IsFront (got u s) (R s)) turned (gets s (any_back (is_join_of s) t j));
+          got_is = λ s j. subst (λ (u : List Event). IsFront (got u s) (R s)) turned (gets s (any-reverse (is_join_of s) t j));
         }

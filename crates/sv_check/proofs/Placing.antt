@@ -6,11 +6,12 @@ use Rattle.sv_journal.specs.declared.entry.Entry.{Entry}
 use Rattle.sv_journal.specs.History.{accepted}
 use Rattle.sv_journal.specs.Sessions.{is_end}
 use Rattle.sv_system.specs.Fits.{replies_in}
+use Rattle.sv_replay.proofs.Machines.{read_at}
 use Rattle.sv_report.specs.Report.{entry_number}
 use Rattle.sv_report.specs.Again.{behind_next}
 use Rattle.sv_report.proofs.Standing.{left_more}
 use Rattle.sv_check.specs.Acting.{replies_before, next_entry, IsNextPlace, NoNextPlace}
-use Rattle.sv_check.proofs.Settling.{turned_more, there_got}
+use Rattle.sv_check.proofs.Settling.{turned_more}
 
 -- No entry of the session stands from one place on up to another.
 pub record IsSought (entries : List Entry) (from s place : ℕ) : Type 0 where
@@ -46,7 +47,7 @@ module _ (entries : List Entry) (from s i : ℕ) (e : Entry) (l : i < length ent
   pub sought_place : eqb e.session s ≡ true → is_end e.request ≡ false → IsNextPlace entries from s i
   sought_place same goes_on = record {
     entry = e;
-    found = there_got entries i e l is;
+    found = read_at entries i e l is;
     session = eqb-true e.session s same;
     asks = goes_on;
     between = g.between;

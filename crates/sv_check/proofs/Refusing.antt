@@ -18,6 +18,7 @@ use Rattle.sv_system.specs.Records.{rules_of}
 use Rattle.sv_system.specs.Fits.{replies_in}
 use Rattle.sv_system.proofs.Entered.{is_of, of-parts}
 use Rattle.sv_system.proofs.Fronts.{get-push_cases}
+use Rattle.sv_system.proofs.Order.{never-refused}
 use Rattle.sv_report.proofs.Lines.{first_back}
 use Rattle.sv_check.specs.Parts.{IsEntryAfter, AreEntries, AreSomeEntries}
 use Rattle.sv_check.specs.Next.{journal_replies}
@@ -30,19 +31,10 @@ abbrev pub is_refused : Reply → Bool
 is_refused (replies.Refused code detail) = true
 is_refused _ = false
 
-never_allowed : (request : Request) (code detail : ℕ) → allows request (replies.Refused code detail) ≡ false
-never_allowed (requests.Join client life interest) code detail = refl
-never_allowed (requests.Submit seq action) code detail = refl
-never_allowed (requests.Done results) code detail = refl
-never_allowed requests.Poll code detail = refl
-never_allowed requests.Leave code detail = refl
-never_allowed requests.Bad code detail = refl
-never_allowed requests.End code detail = refl
-
 refused_after : (who : Identity) (t : List Event) (os : List Request) (code detail : ℕ) → fault_after who t os (replies.Refused code detail) ≡ None → ⊥
 refused_after who t [] code detail e = let clash : Some Unasked ≡ None = e in cc
 refused_after who t (request ∷ os) code detail e =
-    let clash : Some WrongKind ≡ None = sym (cond-true (not (allows request (replies.Refused code detail))) (Some WrongKind) _ (ap not (never_allowed request code detail))) ∙ e in
+    let clash : Some WrongKind ≡ None = sym (cond-true (not (allows request (replies.Refused code detail))) (Some WrongKind) _ (ap not (never-refused request code detail))) ∙ e in
     cc
 
 pub never_taken : (who : Identity) (t : List Event) (reply : Reply) → is_refused reply ≡ true → first_fault_of_reply who t reply ≡ None → ⊥

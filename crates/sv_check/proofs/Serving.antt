@@ -1,7 +1,7 @@
 -- The server that a report's journal tells of, with one request more.
 use Rattle.std.proofs.Common.{◌≡◌, ℕ, ◌<◌, ◌≤◌, inl, inr, Bool, true, false, ◌&&◌, ◌||◌, eqb, List, [], ◌∷◌, ◌++◌, map, length, reverse, refl, sym, ap, ap₂, subst, ◌∙◌, arith, true≢false}
 use Rattle.std.specs.Prelude.{All}
-use Rattle.std.proofs.lemmas.Bool.{or_cases, or_parts, cases_Bool, and_parts, eqb-true}
+use Rattle.std.proofs.lemmas.Bool.{or_cases, cases_Bool, and_parts, eqb-true}
 use Rattle.std.proofs.lemmas.List.{reverse-append, reverse-reverse, map-append}
 use Rattle.std.specs.List.{AllByRecursion}
 use Rattle.std.proofs.lemmas.List.Elements.{All-cons, recursion_from_All}
@@ -18,17 +18,11 @@ use Rattle.sv_scenario.specs.declared.scenario.Scenario.{Scenario}
 use Rattle.sv_scenario.specs.Limits.{IsGoodScenario}
 use Rattle.sv_scenario.specs.Sessions.{session_count}
 use Rattle.sv_system.specs.Records.{rules_of, ends_in}
+use Rattle.law_schedule.proofs.DoneEnds.{none-ended}
 use Rattle.sv_lines.specs.Told.{IsTold}
 use Rattle.sv_check.specs.declared.journal.Served.{Served}
 use Rattle.sv_check.specs.Parts.{AreEntries, IsWholeJournal}
 use Rattle.sv_check.specs.Serving.{full_replies, entries_of, IsServed, AreEnded}
-
--- A session that had no End has none.
-pub none_ended : (h : List Entry) (s : ℕ) → is_ended h s ≡ false → ends_in h s ≡ 0
-none_ended [] s e = refl
-none_ended (d ∷ h) s e =
-    let p = or_parts (eqb d.session s && is_end d.request) (is_ended h s) e in
-    rw p.0 (none_ended h s p.1)
 
 -- A session that had its End has one at least.
 pub some_ended : (h : List Entry) (s : ℕ) → is_ended h s ≡ true → 1 ≤ ends_in h s
@@ -50,7 +44,7 @@ once_more h e once first s = go (eqb e.session s && is_end e.request) refl
     go : (b : Bool) → (eqb e.session s && is_end e.request) ≡ b → ends_in (e ∷ h) s ≤ 1
     go true q =
         (let p = and_parts (eqb e.session s) (is_end e.request) q in
-        let none = none_ended h s (subst (λ (n : ℕ). is_ended h n ≡ false) (eqb-true e.session s p.0) (first p.1)) in
+        let none = none-ended h s (subst (λ (n : ℕ). is_ended h n ≡ false) (eqb-true e.session s p.0) (first p.1)) in
         rw q (omega (arith, none)))
     go false q = rw q (once s)
 
@@ -134,5 +128,5 @@ pub whole_ended : (scenario : Scenario) (h : List Entry) → IsWholeJournal scen
 whole_ended scenario h whole s l =
     elim (cases_Bool (is_ended h s)) [
       | inl x ↦ x
-      | inr x ↦ (let one = whole.ended s l in let none = none_ended h s x in absurd (omega (arith, one, none)))
+      | inr x ↦ (let one = whole.ended s l in let none = none-ended h s x in absurd (omega (arith, one, none)))
     ]

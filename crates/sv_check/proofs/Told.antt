@@ -1,14 +1,13 @@
 -- The lines of a trace tell its events. Events stand with the latest first, but for es and fs, which stand in order; R s are the replies of session s.
 use Rattle.std.proofs.Common.{◌≡◌, ℕ, ◌+◌, Bool, true, false, cond, eqb, List, [], ◌∷◌, ◌++◌, length, reverse, slice_get, Some, refl, sym, ap, subst, ◌∙◌, true≢false, append_assoc, append-nil}
 use Rattle.std.specs.List.{list_any}
-use Rattle.std.proofs.lemmas.Bool.{cond_both, cond-true, eq-eqb, or_left, or_right}
-use Rattle.std.proofs.lemmas.Option.{none-some, same_Some}
+use Rattle.std.proofs.lemmas.Bool.{cond_both, cond-true, eq-eqb, or_right}
 use Rattle.std.proofs.lemmas.List.{append_cancel_left}
 use Rattle.sv_wire.specs.declared.message.Reply.{Reply}
 use Rattle.sv_journal.specs.declared.entry.Entry.{Entry}
 use Rattle.sv_client.specs.declared.trace.Event.{Event}
 use Rattle.sv_client.specs.declared.trace.Event.TheVariants as events
-use Rattle.sv_client.specs.Traces.{current_session, got}
+use Rattle.sv_client.specs.Traces.{got}
 use Rattle.sv_client.specs.Taking.{Identity}
 use Rattle.sv_client.specs.Proper.{AreProper, MayFollow}
 use Rattle.sv_scenario.specs.declared.scenario.Step.{Step}
@@ -16,6 +15,7 @@ use Rattle.sv_script.specs.Following.{FollowsTo, MayCome, is_finished}
 use Rattle.sv_system.specs.Fits.{is_join_of}
 use Rattle.sv_system.specs.Fronts.{IsFront}
 use Rattle.sv_system.proofs.Fronts.{front-all, front-append, front-then, get-last}
+use Rattle.sv_system.proofs.Asked.{current-joined}
 use Rattle.sv_report.specs.Report.{event_text}
 use Rattle.sv_report.specs.Again.{lines_after}
 use Rattle.sv_report.proofs.Lines.{first_back}
@@ -63,17 +63,6 @@ module _ (who : Identity) (first : ℕ) (R : ℕ → List Reply) (entries : List
 
 -- ---- From a trace to its events in order
 
-pub current_joined : (t : List Event) (s : ℕ) → current_session t ≡ Some s → list_any (is_join_of s) t ≡ true
-current_joined [] s e = absurd (none-some s e)
-current_joined (events.Join n ∷ t) s e = or_left (eqb n s) (list_any (is_join_of s) t) (eq-eqb n s (same_Some n s e))
-current_joined (events.Make action ∷ t) s e = current_joined t s e
-current_joined (events.Poll ∷ t) s e = current_joined t s e
-current_joined (events.Leave ∷ t) s e = current_joined t s e
-current_joined (events.Got n reply ∷ t) s e = current_joined t s e
-current_joined (events.Cut ∷ t) s e = current_joined t s e
-current_joined (events.Quit ∷ t) s e = current_joined t s e
-current_joined (events.Show objects ∷ t) s e = current_joined t s e
-
 got_one : (e : Event) (t : List Event) (s : ℕ) → IsFront (got t s) (got (e ∷ t) s)
 got_one (events.Got n reply) t s =
     cond_both (eqb n s) (got t s ++ reply ∷ []) (got t s) (λ (rs : List Reply). IsFront (got t s) rs) (λ h. front-append (got t s) (reply ∷ [])) (λ h. front-all (got t s))
@@ -94,7 +83,7 @@ module _ (who : Identity) (first : ℕ) (R : ℕ → List Reply) where
       ap (λ (rs : List Reply). slice_get rs (length (got t s))) (cond-true (eqb s s) (got t s ++ reply ∷ []) (got t s) (eq-eqb s s refl)) ∙ get-last (got t s) reply
 
   pub gets_next : (e : Event) (t : List Event) → MayFollow who first t e → GotFronts R (e ∷ t) → GetsNextReply R t e
-  gets_next (events.Got s reply) t m g = g s (or_right false (list_any (is_join_of s) t) (current_joined t s m.current)) (length (got t s)) reply (got_last t s reply)
+  gets_next (events.Got s reply) t m g = g s (or_right false (list_any (is_join_of s) t) (current-joined t s m.current)) (length (got t s)) reply (got_last t s reply)
   gets_next (events.Join s) t m g = tt
   gets_next (events.Make action) t m g = tt
   gets_next events.Poll t m g = tt

@@ -16,12 +16,12 @@ use Rattle.sv_script.specs.Following.{FollowsTo, is_finished}
 use Rattle.sv_player.proofs.Raised.{up_follows, up_finished}
 use Rattle.sv_system.specs.Fits.{is_join_of, requests_in, replies_in}
 use Rattle.sv_system.specs.Fronts.{IsFront}
+use Rattle.sv_system.proofs.Asked.{current-joined}
 use Rattle.law_schedule.proofs.DoneFacts.{any-turned}
 use Rattle.sv_check.specs.declared.actor.Actor.{Actor}
 use Rattle.sv_check.specs.Parts.{IsWholeTrace, IsOf}
 use Rattle.sv_check.specs.Acting.{IsActing, IsSettled, IsAmiss, LookedAt, identity, journal_events}
 use Rattle.sv_check.proofs.Acting.{begun_settled, latest_settled, latest_amiss}
-use Rattle.sv_check.proofs.Told.{current_joined}
 
 module _ (entries : List Entry) (a : Actor) (shape : Shape) (plan : Plan) (g : IsActing entries a) where
   abbrev M : Trace
@@ -72,7 +72,7 @@ module _ (entries : List Entry) (a : Actor) (shape : Shape) (plan : Plan) (g : I
   unfit_of fits unfit f w =
       elim (unfit f) [
         | inl old ↦ (let u = g.asks.unfit old in u.1.not_settled (settled_in w u.0 u.1.begun))
-        | inr new ↦ (let l = latest_amiss entries a g new in l.not_settled (settled_in w l.which (current_joined (journal_events a) l.which l.latest)))
+        | inr new ↦ (let l = latest_amiss entries a g new in l.not_settled (settled_in w l.which (current-joined (journal_events a) l.which l.latest)))
       ]
 
 -- The trace is the same after its sessions were looked at.

@@ -3,15 +3,11 @@ use Rattle.std.proofs.Common.{◌≡◌, ◌⊎◌, inl, inr, ℕ, ◌+◌, ◌^
 use Rattle.std.specs.List.{AllByRecursion, flat_map}
 use Rattle.std.proofs.lemmas.List.{append_cancel_left, reverse-reverse, take-append-drop}
 use Rattle.std.proofs.lemmas.List.Elements.{recursion_from_All}
-use Rattle.sv_world.specs.declared.world.Shape.{Shape}
-use Rattle.sv_wire.specs.Ranges.{ValueFits, RequestFits}
-use Rattle.sv_wire.specs.declared.message.Request.{Request}
-use Rattle.sv_wire.specs.declared.message.Request.TheVariants as requests
+use Rattle.sv_wire.specs.Ranges.{ValueFits}
 use Rattle.sv_journal.specs.declared.entry.Entry.{Entry}
 use Rattle.sv_journal.specs.History.{commit_of, committed_of}
 use Rattle.sv_journal.specs.Laws.{FullRepliesStay, LegalRelaysNameAccepted}
 use Rattle.sv_journal.specs.Text.{journal_text}
-use Rattle.sv_replay.proofs.Committed.{committed_length}
 use Rattle.sv_client.specs.declared.trace.Trace.{Trace}
 use Rattle.sv_scenario.specs.declared.scenario.Plan.{Plan}
 use Rattle.sv_scenario.specs.declared.scenario.Scenario.{Scenario}
@@ -23,9 +19,9 @@ use Rattle.sv_system.proofs.Histories.{commit-most}
 use Rattle.sv_asked.specs.Asked.{RequestsAreMessages, AcceptedAreFew}
 use Rattle.sv_asked.specs.Numbers.{ScenarioFits}
 use Rattle.sv_asked.proofs.Facts.{RequestsFit, committed-fits}
+use Rattle.sv_replay.proofs.Committed.{committed_length}
 use Rattle.sv_report.specs.Report.{trace_text, value_lines, world_text}
 use Rattle.sv_lines.specs.Lines.{line_width, after_lines, Differs}
-use Rattle.sv_lines.specs.Told.{IsTold}
 use Rattle.sv_check.specs.Parts.{AreEntries, IsWholeJournal, IsWholeTrace, AreFirstTraces, IsReportPart}
 use Rattle.sv_check.specs.Consistent.{IsConsistent, IsReportOfPair, IsReport}
 use Rattle.sv_check.specs.Stopping.{IsStop}
@@ -33,17 +29,9 @@ use Rattle.sv_check.proofs.Reports.{traffic_text, front_apart, all_values, journ
 use Rattle.sv_check.proofs.WorldLines.{world_line, world_front, IsWorldFront, front_world, front_of, next_line, inner_of}
 use Rattle.sv_check.proofs.WorldParts.{IsWorldOf, so_far, world_part, part_goes}
 use Rattle.sv_check.proofs.Splits.{IsSplit, split_last, lines_append, is_of}
+use Rattle.sv_check.proofs.JournalLines.{told_fits}
 
 -- ---- The numbers of the world
-
-told_fits : (shape : Shape) (q : Request) → IsTold shape q → RequestFits q
-told_fits shape (requests.Join client life interest) t = t
-told_fits shape (requests.Submit seq action) t = t.0
-told_fits shape (requests.Done results) t = t
-told_fits shape requests.Poll t = tt
-told_fits shape requests.Leave t = tt
-told_fits shape requests.Bad t = absurd t
-told_fits shape requests.End t = tt
 
 requests_fit : (scenario : Scenario) (h : List Entry) → AreEntries scenario h → RequestsFit h
 requests_fit scenario [] a = tt

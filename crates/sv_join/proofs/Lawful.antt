@@ -27,11 +27,11 @@ use Rattle.sv_player.specs.Carried.{BeginsWithReplies}
 use Rattle.sv_player.specs.Stops.{IsBadRest}
 use Rattle.sv_player.specs.Played.{IsOpenSession, replies_of}
 use Rattle.sv_player.specs.declared.outcome.ReplyFault.{ReplyFault}
-use Rattle.law_traffic.proofs.Asking.{few_asked}
 use Rattle.law_traffic.proofs.Messages.{AreGot, got_first}
 use Rattle.sv_system.specs.Laws.{NeverRefused}
 use Rattle.sv_door.specs.Doors.{Passage}
 use Rattle.sv_system.proofs.Limits.{limits_of, objects_few}
+use Rattle.law_schedule.proofs.Asking.{few-asked}
 use Rattle.law_traffic.proofs.Sendable.{sendable_in}
 use Rattle.law_traffic.proofs.Takeable.{takeable_by, not_bad}
 use Rattle.sv_join.specs.Legal.{numbered_from, IsLegalServer}
@@ -65,7 +65,7 @@ module _ (law : NeverRefused) (messages : RepliesAreMessages) (scenario : Scenar
 
   few_here : length (requests_of (numbered_from server.first L) (s + server.first)) ≤ 1024
   few_here =
-      let count = few_asked own L.first script done follows.left s few proper.events follows.follows in
+      let count = few-asked own L.first script done follows.left s few proper.events follows.follows in
       let same = ap (λ (l : List Event). length (asked L.client L.interest l (s + server.first))) up ∙ ap length (up_asked server.first own done s) in
       omega (arith, count, same)
 

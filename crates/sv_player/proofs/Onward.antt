@@ -47,7 +47,7 @@ gets_other s t events.Cut of n ne = refl
 gets_other s t events.Quit of n ne = refl
 gets_other s t (events.Show objects) of n ne = refl
 
-or_none : (a b : Bool) → a ≡ false → (a || b) ≡ b
+pub or_none : (a b : Bool) → a ≡ false → (a || b) ≡ b
 or_none true b e = cc
 or_none false b e = refl
 

@@ -17,9 +17,10 @@ use Rattle.law_schedule.specs.Players.{Player, asked_in_run, has_closed}
 use Rattle.law_schedule.specs.Serving.{Run, Server, entry_by, served, serves_next, is_stop, is_stopped, session_served}
 use Rattle.law_schedule.specs.Served.{RepliesNameAccepted, KeepsSound}
 use Rattle.sv_exchange.specs.View.{ExchangeView}
+use Rattle.law_schedule.proofs.DoneDue.{next-asked}
 use Rattle.sv_replay.specs.Players.{got_in_run, IsChannel}
 use Rattle.sv_replay.specs.Serving.{whole_reply, next_history, next_channel}
-use Rattle.sv_replay.proofs.Served.{waiting_asked, replies_stay, next_ended, next_stopped, next_closed, next_idle, next_asked}
+use Rattle.sv_replay.proofs.Served.{replies_stay, next_ended, next_stopped, next_closed, next_idle, next_asked}
 
 abbrev pub run_at : List Entry → List Player → Run
 run_at h ps = record { history = h; players = ps }
@@ -69,7 +70,7 @@ module _ (server : Server) (keeps : KeepsSound server) (h : List Entry) (ps : Li
       IsChannel (run_at (e ∷ h) ps) s (record c { requests = qs; replies = c.replies ++ whole_reply server h s q ∷ []; stopped = is_stop (server.answers h s q) })
   asked_entry c qs waits running is =
       let left : drop (length (requests_in h s)) (asked_in_run ps s) ≡ q ∷ qs = sym is.requests ∙ waits in
-      let asked : is_end q ≡ false = waiting_asked ps s (length (requests_in h s)) q qs left in
+      let asked : is_end q ≡ false = next-asked ps s (length (requests_in h s)) q qs left in
       let of_it : is_of e s ≡ true = of-from e s refl (keeps.ends h s q ∙ asked) in
       let asks : requests_in (e ∷ h) s ≡ requests_in h s ++ server.hears h s q ∷ [] = cond-true (is_of e s) (requests_in h s ++ server.hears h s q ∷ []) (requests_in h s) of_it in
       let gives : replies_in (accepted (e ∷ h)) (e ∷ h) s ≡ replies_in (accepted h) h s ++ whole_reply server h s q ∷ [] =

@@ -1,5 +1,5 @@
 -- Each session is of one player alone: the others ask and get nothing in it.
-use Rattle.std.proofs.Common.{◌≡◌, inl, inr, ℕ, zero, suc, true, false, eqb, List, [], ◌∷◌, ◌++◌, map, drop, reverse, set, slice_get, Option, Some, None, refl, sym, ap, subst, ◌∙◌, eqb-true, append_assoc, append-nil}
+use Rattle.std.proofs.Common.{◌≡◌, inl, inr, ℕ, zero, suc, true, false, eqb, List, [], ◌∷◌, ◌++◌, map, drop, reverse, set, slice_get, Some, refl, sym, ap, subst, ◌∙◌, eqb-true, append_assoc, append-nil}
 use Rattle.std.specs.List.{list_any, flat_map, AllByRecursion}
 use Rattle.std.proofs.lemmas.Bool.{cases_Bool, cond-false}
 use Rattle.std.proofs.lemmas.List.{reverse-reverse}
@@ -19,6 +19,8 @@ use Rattle.sv_system.proofs.Asked.{current-joined, any-reverse}
 use Rattle.law_schedule.specs.Players.{Player, trace_of_player, asked_in_run, has_closed}
 use Rattle.law_schedule.specs.Serving.{Run, Server, traces_of}
 use Rattle.law_schedule.specs.Served.{FitsServer, IsSoundOver}
+use Rattle.law_schedule.proofs.SoundEntries.{both-empty}
+use Rattle.law_schedule.proofs.SoundTraces.{not-current}
 use Rattle.sv_replay.specs.Players.{asked_by_player, got_in_run}
 
 -- ---- A session that was not begun
@@ -30,16 +32,6 @@ not_joined t n s e c = elim (cases_Bool (eqb s n)) [
       let here : list_any (is_join_of n) t ≡ true = subst (λ k. list_any (is_join_of k) t ≡ true) (eqb-true s n y) there in cc)
 ]
 
-not_in : (t : List Event) (n : ℕ) → list_any (is_join_of n) t ≡ false → is_session (current_session t) n ≡ false
-not_in t n e = go (current_session t) refl
-  where
-    go : (o : Option ℕ) → current_session t ≡ o → is_session o n ≡ false
-    go None c = refl
-    go (Some s) c = not_joined t n s e c
-
-neither : {X : Type 0} (xs ys : List X) → xs ≡ [] → ys ≡ [] → xs ++ ys ≡ []
-neither xs ys e h = rw (e, h) refl
-
 join_parts : (n s : ℕ) (t : List Event) → list_any (is_join_of n) (events.Join s ∷ t) ≡ false → (eqb s n ≡ false) × (list_any (is_join_of n) t ≡ false)
 join_parts n s t e = elim (cases_Bool (eqb s n)) [
   | inl y ↦ absurd (let h : list_any (is_join_of n) (events.Join s ∷ t) ≡ true = rw y refl in cc)
@@ -49,14 +41,14 @@ join_parts n s t e = elim (cases_Bool (eqb s n)) [
 pub none_asked : (who : Identity) (first : ℕ) (t : List Event) → AreProper who first t → (n : ℕ) → list_any (is_join_of n) t ≡ false → asked who.client who.interest t n ≡ []
 none_asked who first [] p n e = refl
 none_asked who first (events.Join s ∷ t) p n e =
-    neither _ _ (none_asked who first t p.1 n (join_parts n s t e).1) (cond-false (eqb s n) _ [] (join_parts n s t e).0)
-none_asked who first (events.Make a ∷ t) p n e = neither _ _ (none_asked who first t p.1 n e) (cond-false (is_session (current_session t) n) _ [] (not_in t n e))
-none_asked who first (events.Poll ∷ t) p n e = neither _ _ (none_asked who first t p.1 n e) (cond-false (is_session (current_session t) n) _ [] (not_in t n e))
-none_asked who first (events.Leave ∷ t) p n e = neither _ _ (none_asked who first t p.1 n e) (cond-false (is_session (current_session t) n) _ [] (not_in t n e))
-none_asked who first (events.Got s reply ∷ t) p n e = neither _ _ (none_asked who first t p.1 n e) (cond-false (eqb s n) (done_for (held_of t) reply) [] (not_joined t n s e p.0.current))
-none_asked who first (events.Cut ∷ t) p n e = neither _ _ (none_asked who first t p.1 n e) refl
-none_asked who first (events.Quit ∷ t) p n e = neither _ _ (none_asked who first t p.1 n e) refl
-none_asked who first (events.Show os ∷ t) p n e = neither _ _ (none_asked who first t p.1 n e) refl
+    both-empty _ _ (none_asked who first t p.1 n (join_parts n s t e).1) (cond-false (eqb s n) _ [] (join_parts n s t e).0)
+none_asked who first (events.Make a ∷ t) p n e = both-empty _ _ (none_asked who first t p.1 n e) (cond-false (is_session (current_session t) n) _ [] (not-current t n e))
+none_asked who first (events.Poll ∷ t) p n e = both-empty _ _ (none_asked who first t p.1 n e) (cond-false (is_session (current_session t) n) _ [] (not-current t n e))
+none_asked who first (events.Leave ∷ t) p n e = both-empty _ _ (none_asked who first t p.1 n e) (cond-false (is_session (current_session t) n) _ [] (not-current t n e))
+none_asked who first (events.Got s reply ∷ t) p n e = both-empty _ _ (none_asked who first t p.1 n e) (cond-false (eqb s n) (done_for (held_of t) reply) [] (not_joined t n s e p.0.current))
+none_asked who first (events.Cut ∷ t) p n e = both-empty _ _ (none_asked who first t p.1 n e) refl
+none_asked who first (events.Quit ∷ t) p n e = both-empty _ _ (none_asked who first t p.1 n e) refl
+none_asked who first (events.Show os ∷ t) p n e = both-empty _ _ (none_asked who first t p.1 n e) refl
 
 pub none_got : (who : Identity) (first : ℕ) (t : List Event) → AreProper who first t → (n : ℕ) → list_any (is_join_of n) t ≡ false → got t n ≡ []
 none_got who first [] p n e = refl
@@ -131,11 +123,11 @@ sound_silent server scenario run n k q sound at has =
 
 pub all_ask_nothing : (n : ℕ) (ps : List Player) → AllByRecursion (IsSilent n) ps → asked_in_run ps n ≡ []
 all_ask_nothing n [] h = refl
-all_ask_nothing n (p ∷ ps) h = neither _ _ h.0.asks (all_ask_nothing n ps h.1)
+all_ask_nothing n (p ∷ ps) h = both-empty _ _ h.0.asks (all_ask_nothing n ps h.1)
 
 pub all_get_nothing : (n : ℕ) (ps : List Player) → AllByRecursion (IsSilent n) ps → got_in_run ps n ≡ []
 all_get_nothing n [] h = refl
-all_get_nothing n (p ∷ ps) h = neither _ _ h.0.gets (all_get_nothing n ps h.1)
+all_get_nothing n (p ∷ ps) h = both-empty _ _ h.0.gets (all_get_nothing n ps h.1)
 
 -- What all got in a session is what its player got.
 pub got_by_one : (n k : ℕ) (ps : List Player) (q : Player) → OthersSilent n k ps → slice_get ps k ≡ Some q → got_in_run ps n ≡ got q.events n

@@ -1,5 +1,5 @@
 -- The journal of a sound run is short: each session has at most 530 requests, and an End.
-use Rattle.std.proofs.Common.{◌≡◌, ℕ, zero, suc, ◌+◌, ◌*◌, ◌<◌, ◌≤◌, Bool, true, false, ◌&&◌, ◌||◌, ◌==◌, not, inl, inr, List, [], ◌∷◌, ◌++◌, length, Option, Some, None, slice_get, refl, sym, ap, ◌∙◌, arith, eqb-true, eq-eqb, append-nil, true≢false}
+use Rattle.std.proofs.Common.{◌≡◌, ℕ, zero, suc, ◌+◌, ◌*◌, ◌<◌, ◌≤◌, Bool, true, false, ◌&&◌, ◌||◌, ◌==◌, not, inl, inr, List, [], ◌∷◌, ◌++◌, length, Some, slice_get, refl, sym, ap, ◌∙◌, arith, eqb-true, eq-eqb, true≢false}
 use Rattle.std.specs.Prelude.{if◌then◌else◌}
 use Rattle.std.specs.List.{list_any, AllByRecursion}
 use Rattle.std.proofs.lemmas.Bool.{cases_Bool, cases_eq, cond_both, cond-true, cond-false, or_cases}
@@ -9,24 +9,17 @@ use Rattle.std.proofs.lemmas.Option.{slice_get_within}
 use Rattle.sv_wire.specs.declared.message.Request.{Request}
 use Rattle.sv_journal.specs.declared.entry.Entry.{Entry}
 use Rattle.sv_journal.specs.Sessions.{is_end, is_ended}
-use Rattle.sv_client.specs.declared.trace.Event.{Event}
-use Rattle.sv_client.specs.declared.trace.Event.TheVariants as events
-use Rattle.sv_client.specs.Traces.{current_session, is_session, asked, asked_by_event}
-use Rattle.sv_client.specs.Taking.{Identity}
-use Rattle.sv_client.specs.Proper.{AreProper, MayFollow}
 use Rattle.sv_scenario.specs.declared.scenario.Scenario.{Scenario}
-use Rattle.sv_scenario.specs.declared.scenario.Step.{Step}
 use Rattle.sv_scenario.specs.Limits.{IsGoodScenario}
 use Rattle.sv_scenario.specs.Sessions.{session_count}
-use Rattle.sv_script.specs.Following.{FollowsTo}
 use Rattle.sv_system.specs.Fits.{requests_in, IsEndLast}
 use Rattle.sv_system.proofs.Entered.{is_of}
 use Rattle.law_schedule.specs.Players.{Player}
 use Rattle.law_schedule.specs.Serving.{Run, Server}
 use Rattle.law_schedule.specs.Sound.{has_joined}
 use Rattle.law_schedule.specs.Served.{AreHeard, IsSoundOver}
-use Rattle.law_schedule.proofs.DoneCounts.{asked-few}
 use Rattle.law_schedule.proofs.SoundCalls.{IsPlayer, player-at}
+use Rattle.law_schedule.proofs.Asking.{few-asked}
 use Rattle.sv_replay.specs.Players.{asked_by_player}
 
 -- ---- Entries by their sessions
@@ -122,33 +115,8 @@ end_once (e ∷ h) s last =
 
 -- ---- Requests asked
 
-elsewhere : (who : Identity) (first : ℕ) (t : List Event) (e : Event) (s : ℕ) → MayFollow who first t e → is_session (current_session (e ∷ t)) s ≡ false → asked_by_event who.client who.interest t e s ≡ []
-elsewhere who first t (events.Join n) s may f = cond-false (n == s) _ [] f
-elsewhere who first t (events.Make a) s may f = cond-false (is_session (current_session t) s) _ [] f
-elsewhere who first t events.Poll s may f = cond-false (is_session (current_session t) s) _ [] f
-elsewhere who first t events.Leave s may f = cond-false (is_session (current_session t) s) _ [] f
-elsewhere who first t (events.Got n reply) s may f = cond-false (n == s) _ [] (sym (ap (λ (o : Option ℕ). is_session o s) may.current) ∙ f)
-elsewhere who first t events.Cut s may f = refl
-elsewhere who first t events.Quit s may f = refl
-elsewhere who first t (events.Show objects) s may f = refl
-
-session_here : (o : Option ℕ) (s : ℕ) → is_session o s ≡ true → o ≡ Some s
-session_here None s t = cc
-session_here (Some n) s t = ap (λ (k : ℕ). Some k) (eqb-true n s t)
-
-asked_most : (who : Identity) (first : ℕ) (script : List Step) (t : List Event) (left : List Step) (s : ℕ) → length script ≤ 256 → AreProper who first t →
-    FollowsTo who script t left → length (asked who.client who.interest t s) ≤ 530
-asked_most who first script [] left s few p f = omega arith
-asked_most who first script (e ∷ t) left s few p f =
-    let before = asked_most who first script t f.0 s few p.1 f.1.0 in
-    elim (cases_Bool (is_session (current_session (e ∷ t)) s)) [
-      | inl y ↦ asked-few who first script (e ∷ t) left s few p f (session_here (current_session (e ∷ t)) s y)
-      | inr n ↦ (let none = ap (λ (rs : List Request). asked who.client who.interest t s ++ rs) (elsewhere who first t e s p.0 n) ∙ append-nil (asked who.client who.interest t s) in
-          let same = ap (λ (rs : List Request). length rs) none in omega (arith, before, same))
-    ]
-
 player_asks : (server : Server) (scenario : Scenario) (run : Run) (p : Player) (s : ℕ) → IsPlayer server scenario.world.shape (session_count scenario) run.history p → length (asked_by_player p s) ≤ 530
-player_asks server scenario run p s a = asked_most p.who p.first a.plan.steps p.events a.playing.before s a.good.few_steps a.fitting.proper a.playing.follows
+player_asks server scenario run p s a = few-asked p.who p.first a.plan.steps p.events a.playing.before s a.good.few_steps a.fitting.proper a.playing.follows
 
 -- The journal has no more requests of a session than are asked in it.
 heard_few : (server : Server) (h : List Entry) (s : ℕ) (qs : List Request) → AreHeard server h s qs → length (requests_in h s) ≤ length qs

@@ -1,87 +1,30 @@
 -- What a session's turn by its connection makes of a server, and that a sequencer answers as a server is to.
-use Rattle.std.proofs.Common.{◌≡◌, ℕ, zero, suc, ◌+◌, Bool, true, false, ◌==◌, List, [], ◌∷◌, ◌++◌, map, drop, length, reverse, Some, None, Result, Ok, Err, refl, sym, ap, subst, ◌∙◌, arith}
+use Rattle.std.proofs.Common.{◌≡◌, ℕ, ◌+◌, Bool, true, false, List, [], ◌∷◌, ◌++◌, length, reverse, Some, None, Result, Ok, Err, refl, sym, ap, ◌∙◌, arith}
 use Rattle.std.specs.Prelude.{IfOk}
 use Rattle.std.specs.declared.alloc.AllocError.{AllocError}
-use Rattle.std.specs.List.{AllByRecursion}
 use Rattle.std.proofs.lemmas.List.{reverse-append}
 use Rattle.sv_wire.specs.declared.message.Reply.{Reply}
 use Rattle.sv_wire.specs.declared.message.Request.{Request}
 use Rattle.sv_wire.specs.declared.message.Request.TheVariants as requests
-use Rattle.sv_wire.specs.declared.message.Reply.TheVariants as replies
-use Rattle.sv_pending.specs.Pending.{PendingAction}
-use Rattle.sv_world.specs.declared.world.ClientId.{ClientId}
-use Rattle.sv_world.specs.declared.world.ObjectId.{ObjectId}
-use Rattle.sv_versions.specs.Held.{Held}
 use Rattle.sv_journal.specs.declared.entry.Entry.{Entry}
 use Rattle.sv_journal.specs.declared.entry.Logged.{Logged}
 use Rattle.sv_journal.specs.declared.entry.Logged.TheVariants as logged
 use Rattle.sv_journal.specs.History.{Authored, accepted, full_reply}
 use Rattle.sv_journal.specs.Sessions.{is_end, is_ended}
 use Rattle.sv_journal.specs.Answer.{reply_to}
-use Rattle.sv_client.specs.declared.trace.Event.{Event}
-use Rattle.sv_client.specs.declared.trace.Event.TheVariants as events
-use Rattle.sv_client.specs.Traces.{asked, asked_by_event, submit_of, pending_of, current_session, is_session, held_of, done_for}
 use Rattle.sv_system.specs.Fits.{replies_in}
 use Rattle.sv_system.proofs.Fronts.{fronts-same}
 use Rattle.sv_system.proofs.Entered.{as-many, replies-one}
-use Rattle.law_schedule.specs.Players.{Player, asked_in_run}
 use Rattle.law_schedule.specs.Serving.{Server, is_stop, is_stop_reply, served}
 use Rattle.law_schedule.specs.Schedule.{plain_server}
 use Rattle.law_schedule.specs.Served.{RepliesNameAccepted}
 use Rattle.law_schedule.proofs.SoundReplies.{replies-grow}
 use Rattle.sv_sequencer.specs.Step.{SequencerView, history, entry_of, GrewByEntry, Answered}
 use Rattle.sv_exchange.specs.View.{ExchangeView, TakesRequest}
-use Rattle.sv_system.proofs.Every.{each-if, each-append}
 use Rattle.sv_replay.specs.Serving.{ServerView, Answers, sequencer_view, whole_reply, next_history, next_channel, with_answer, Entered, HadTurn, one_if}
-
--- ---- What is never asked
 
 IsAsked : Request → Type 0
 IsAsked q = is_end q ≡ false
-
-submits_asked : (ps : List PendingAction) → AllByRecursion (λ (q : Request). is_end q ≡ false) (map submit_of ps)
-submits_asked [] = tt
-submits_asked (p ∷ ps) = (refl, submits_asked ps)
-
-done_asked : (held : List Held) (reply : Reply) → AllByRecursion (λ (q : Request). is_end q ≡ false) (done_for held reply)
-done_asked held (replies.Welcome commit head) = tt
-done_asked held (replies.Relay seq commit head items) = (refl, tt)
-done_asked held (replies.Dropped seq chain far) = tt
-done_asked held (replies.Settled seq pos) = tt
-done_asked held (replies.Noted commit) = tt
-done_asked held replies.Idle = tt
-done_asked held (replies.Refused code detail) = tt
-done_asked held replies.Bye = tt
-
-event_asked : (client : ClientId) (interest : List ObjectId) (t : List Event) (e : Event) (s : ℕ) → AllByRecursion (λ (q : Request). is_end q ≡ false) (asked_by_event client interest t e s)
-event_asked client interest t (events.Join n) s = each-if (λ (q : Request). is_end q ≡ false) (n == s) _ (refl, submits_asked (pending_of t))
-event_asked client interest t (events.Make a) s = each-if (λ (q : Request). is_end q ≡ false) (is_session (current_session t) s) _ (refl, tt)
-event_asked client interest t events.Poll s = each-if (λ (q : Request). is_end q ≡ false) (is_session (current_session t) s) _ (refl, tt)
-event_asked client interest t events.Leave s = each-if (λ (q : Request). is_end q ≡ false) (is_session (current_session t) s) _ (refl, tt)
-event_asked client interest t (events.Got n reply) s = each-if (λ (q : Request). is_end q ≡ false) (n == s) _ (done_asked (held_of t) reply)
-event_asked client interest t events.Cut s = tt
-event_asked client interest t events.Quit s = tt
-event_asked client interest t (events.Show os) s = tt
-
-trace_asked : (client : ClientId) (interest : List ObjectId) (t : List Event) (s : ℕ) → AllByRecursion (λ (q : Request). is_end q ≡ false) (asked client interest t s)
-trace_asked client interest [] s = tt
-trace_asked client interest (e ∷ t) s =
-    each-append (λ (q : Request). is_end q ≡ false) (asked client interest t s) (asked_by_event client interest t e s) (trace_asked client interest t s) (event_asked client interest t e s)
-
-run_asked : (ps : List Player) (s : ℕ) → AllByRecursion (λ (q : Request). is_end q ≡ false) (asked_in_run ps s)
-run_asked [] s = tt
-run_asked (p ∷ ps) s =
-    each-append (λ (q : Request). is_end q ≡ false) (asked p.who.client p.who.interest p.events s) (asked_in_run ps s) (trace_asked p.who.client p.who.interest p.events s) (run_asked ps s)
-
-dropped_asked : {X : Type 0} (P : X → Type 0) (n : ℕ) (xs : List X) (y : X) (ys : List X) → AllByRecursion P xs → drop n xs ≡ y ∷ ys → P y
-dropped_asked P zero [] y ys a e = cc
-dropped_asked P zero (x ∷ xs) y ys a e = let same : x ≡ y = cc in subst P same a.0
-dropped_asked P (suc n) [] y ys a e = cc
-dropped_asked P (suc n) (x ∷ xs) y ys a e = dropped_asked P n xs y ys a.1 e
-
--- An End is never asked.
-pub waiting_asked : (ps : List Player) (s n : ℕ) (q : Request) (qs : List Request) → drop n (asked_in_run ps s) ≡ q ∷ qs → is_end q ≡ false
-waiting_asked ps s n q qs e = dropped_asked (λ (q : Request). is_end q ≡ false) n (asked_in_run ps s) q qs (run_asked ps s) e
 
 -- ---- Tests
 
