@@ -38,7 +38,7 @@ impl<N: Net + Drop, C: Crew + Drop> Desk<N, C> {
     ) -> Result<Printed, AllocError> {
         let mut desk = self;
         let words = words(alloc, line)?;
-        let status = run(
+        desk.printed.status = run(
             rt,
             alloc,
             &words,
@@ -49,7 +49,6 @@ impl<N: Net + Drop, C: Crew + Drop> Desk<N, C> {
             &mut desk.printed.out,
             &mut desk.printed.err,
         );
-        desk.printed.status = status;
         Ok(desk.printed)
     }
 }

@@ -69,7 +69,7 @@ impl<D: Door> Program<D> {
         let mut files = held(self.alloc, self.scenario)?;
         let mut printed = Printed::nothing(self.alloc)?;
         let mut crew = ThreadCrew::new(self.alloc);
-        let status = run_serve(
+        printed.status = run_serve(
             rt,
             self.alloc,
             &words,
@@ -80,7 +80,6 @@ impl<D: Door> Program<D> {
             &mut printed.out,
             &mut printed.err,
         );
-        printed.status = status;
         Ok(printed)
     }
 
@@ -88,7 +87,7 @@ impl<D: Door> Program<D> {
         let words = words_with(self.alloc, self.call.line, self.port)?;
         let mut files = held(self.alloc, self.scenario)?;
         let mut printed = Printed::nothing(self.alloc)?;
-        let status = run_join(
+        printed.status = run_join(
             self.alloc,
             &words,
             &mut files,
@@ -96,7 +95,6 @@ impl<D: Door> Program<D> {
             &mut printed.out,
             &mut printed.err,
         );
-        printed.status = status;
         Ok(printed)
     }
 }

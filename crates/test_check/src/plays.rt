@@ -46,7 +46,7 @@ fn answer_of<R: Threads + Wait + Sync>(
     let mut net = PipeNet::new(alloc, rt);
     let mut crew = ThreadCrew::new(alloc);
     let mut printed = Printed::nothing(alloc)?;
-    let status = run(
+    printed.status = run(
         rt,
         alloc,
         &words,
@@ -57,7 +57,6 @@ fn answer_of<R: Threads + Wait + Sync>(
         &mut printed.out,
         &mut printed.err,
     );
-    printed.status = status;
     Ok(printed)
 }
 

@@ -16,7 +16,7 @@ pub fn called<D: Door>(alloc: Global, line: &str, door: &mut D) -> Result<Printe
     let words = words(alloc, line)?;
     let mut files = held(alloc, FIRST)?;
     let mut printed = Printed::nothing(alloc)?;
-    let status = run_join(
+    printed.status = run_join(
         alloc,
         &words,
         &mut files,
@@ -24,7 +24,6 @@ pub fn called<D: Door>(alloc: Global, line: &str, door: &mut D) -> Result<Printe
         &mut printed.out,
         &mut printed.err,
     );
-    printed.status = status;
     Ok(printed)
 }
 

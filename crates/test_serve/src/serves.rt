@@ -35,7 +35,7 @@ fn called<R: Threads + Wait + Sync, C: Crew>(
     let mut files = held(alloc, FIRST)?;
     let mut printed = Printed::nothing(alloc)?;
     let mut door = ScriptDoor::new(alloc, scripts);
-    let status = run_serve(
+    printed.status = run_serve(
         rt,
         alloc,
         &words,
@@ -46,7 +46,6 @@ fn called<R: Threads + Wait + Sync, C: Crew>(
         &mut printed.out,
         &mut printed.err,
     );
-    printed.status = status;
     Ok(printed)
 }
 

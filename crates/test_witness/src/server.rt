@@ -18,6 +18,7 @@ type Told<'a> = (u16, &'a [i64]);
 /// A server of objects of one number each, its journal's lines, and how it then stands.
 #[derive(Clone, Copy)]
 struct Case<'a> {
+    name: &'a str,
     numbers: &'a [i64],
     lines: &'a str,
     /// The position of each dispute, the first report of it, and the first one that differs.
@@ -128,16 +129,17 @@ fn are_disputes(disputes: &[Dispute], expected: &[(u32, Told, Told)]) -> bool {
 fn compare_all(alloc: Global, witness: &Witness, case: &Case) -> Result<(), Fail>
     requires some { 0 < witness.now.rules.world.shape.objects }
 {
+    let name = case.name;
     let objects = u16::try_from(case.numbers.len()).unwrap_or(u16::MAX);
     check_lines(alloc, witness.journal(), objects, 0, case.lines)?;
     if !are_disputes(witness.disputes(), case.disputes) {
-        return Err(Fail::new("other disputes"));
+        return Err(Fail::new(format_args!("{name}: other disputes")));
     }
     if witness.commit() != case.commit {
-        return Err(Fail::new("another commit"));
+        return Err(Fail::new(format_args!("{name}: another commit")));
     }
     if witness.committed(ObjectId(0)).as_slice() != [case.first].as_slice() {
-        return Err(Fail::new("another committed value"));
+        return Err(Fail::new(format_args!("{name}: another committed value")));
     }
     Ok(())
 }

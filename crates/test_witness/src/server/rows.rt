@@ -2,10 +2,12 @@
 use super::{Case, check};
 use std::test::Fail;
 
-/// Client 0 reports 7 where 1 is right. Its report alone installs nothing; once two others give 1, that is installed.
-const LIAR_IS_OUTVOTED: Case = Case {
-    numbers: &[0],
-    lines: "\
+const CASES: &[Case] = &[
+    // Client 0 reports 7 where 1 is right. Its report alone installs nothing; once two others give 1, that is installed.
+    Case {
+        name: "a liar is outvoted",
+        numbers: &[0],
+        lines: "\
 1 s0 join c0 1 [] -> welcome 0 []
 2 s1 join c1 1 [] -> welcome 0 []
 3 s2 join c2 1 [] -> welcome 0 []
@@ -17,15 +19,15 @@ const LIAR_IS_OUTVOTED: Case = Case {
 9 s2 poll -> relay 0 at 0 [0=(0)] [1:c0.1]
 10 s2 done [1:(1)] -> noted 1
 ",
-    disputes: &[(1, (0, &[7]), (1, &[1]))],
-    commit: 1,
-    first: 1,
-};
-
-/// The same as the program lets client 0 lie: it reports 2 where 1 is right.
-const PROGRAM: Case = Case {
-    numbers: &[0],
-    lines: "\
+        disputes: &[(1, (0, &[7]), (1, &[1]))],
+        commit: 1,
+        first: 1,
+    },
+    // The same as the program lets client 0 lie: it reports 2 where 1 is right.
+    Case {
+        name: "the program at the core",
+        numbers: &[0],
+        lines: "\
 1 s0 join c0 1 [] -> welcome 0 []
 2 s1 join c1 1 [] -> welcome 0 []
 3 s2 join c2 1 [] -> welcome 0 []
@@ -36,15 +38,15 @@ const PROGRAM: Case = Case {
 8 s1 done [1:(1)] -> noted 0
 9 s2 done [1:(1)] -> noted 1
 ",
-    disputes: &[(1, (0, &[2]), (1, &[1]))],
-    commit: 1,
-    first: 1,
-};
-
-/// Client 0 gives one value in two of its sessions: that is one report. Two others then give another.
-const CLIENT_COUNTS_ONCE: Case = Case {
-    numbers: &[0],
-    lines: "\
+        disputes: &[(1, (0, &[2]), (1, &[1]))],
+        commit: 1,
+        first: 1,
+    },
+    // Client 0 gives one value in two of its sessions: that is one report. Two others then give another.
+    Case {
+        name: "a client counts once",
+        numbers: &[0],
+        lines: "\
 1 s0 join c0 1 [] -> welcome 0 []
 2 s0 submit 1 reads 0 writes 0 { set @0.0 (@0.0 + 1); } -> relay 1 at 0 [0=(0)] [1:c0.1]
 3 s0 done [1:(7)] -> noted 0
@@ -60,15 +62,15 @@ const CLIENT_COUNTS_ONCE: Case = Case {
 13 s3 done [1:(1)] -> noted 1
 14 s3 poll -> idle
 ",
-    disputes: &[(1, (0, &[7]), (1, &[1]))],
-    commit: 1,
-    first: 1,
-};
-
-/// A client's first report stands: a second one, that says what others say, does not count, and takes nothing back.
-const SECOND_REPORT: Case = Case {
-    numbers: &[0],
-    lines: "\
+        disputes: &[(1, (0, &[7]), (1, &[1]))],
+        commit: 1,
+        first: 1,
+    },
+    // A client's first report stands: a second one, that says what others say, does not count, and takes nothing back.
+    Case {
+        name: "a second report",
+        numbers: &[0],
+        lines: "\
 1 s0 join c0 1 [] -> welcome 0 []
 2 s1 join c1 1 [] -> welcome 0 []
 3 s0 submit 1 reads 0 writes 0 { set @0.0 (@0.0 + 1); } -> relay 1 at 0 [0=(0)] [1:c0.1]
@@ -78,15 +80,15 @@ const SECOND_REPORT: Case = Case {
 7 s0 done [1:(1)] -> noted 0
 8 s1 done [1:(7)] -> noted 0
 ",
-    disputes: &[(1, (0, &[7]), (1, &[1]))],
-    commit: 0,
-    first: 0,
-};
-
-/// Client 0 lies in its first session and in its second one, each time of another position.
-const LIAR_JOINS_AGAIN: Case = Case {
-    numbers: &[0],
-    lines: "\
+        disputes: &[(1, (0, &[7]), (1, &[1]))],
+        commit: 0,
+        first: 0,
+    },
+    // Client 0 lies in its first session and in its second one, each time of another position.
+    Case {
+        name: "the liar joins again",
+        numbers: &[0],
+        lines: "\
 1 s0 join c0 1 [] -> welcome 0 []
 2 s1 join c1 1 [] -> welcome 0 []
 3 s2 join c2 1 [] -> welcome 0 []
@@ -104,15 +106,15 @@ const LIAR_JOINS_AGAIN: Case = Case {
 15 s2 poll -> relay 0 at 1 [] [2:c0.2]
 16 s2 done [2:(2)] -> noted 2
 ",
-    disputes: &[(1, (0, &[7]), (1, &[1])), (2, (0, &[7]), (1, &[2]))],
-    commit: 2,
-    first: 2,
-};
-
-/// Of three written objects one is lied about. The dispute has the whole values of both.
-const ONE_OBJECT_OF_THREE: Case = Case {
-    numbers: &[0, 0, 0],
-    lines: "\
+        disputes: &[(1, (0, &[7]), (1, &[1])), (2, (0, &[7]), (1, &[2]))],
+        commit: 2,
+        first: 2,
+    },
+    // Of three written objects one is lied about. The dispute has the whole values of both.
+    Case {
+        name: "one object of three",
+        numbers: &[0, 0, 0],
+        lines: "\
 1 s0 join c0 1 [] -> welcome 0 []
 2 s1 join c1 1 [] -> welcome 0 []
 3 s2 join c2 1 [] -> welcome 0 []
@@ -124,28 +126,28 @@ const ONE_OBJECT_OF_THREE: Case = Case {
 9 s2 done [1:(1)(2)(3)] -> noted 1
 10 s3 join c3 1 [0 1 2] -> welcome 1 [0=(1) 1=(2) 2=(3)]
 ",
-    disputes: &[(1, (0, &[1, 2, 3]), (1, &[1, 9, 3]))],
-    commit: 1,
-    first: 1,
-};
-
-/// An action that writes nothing is committed by its first report.
-const LOOK_NEEDS_ONE: Case = Case {
-    numbers: &[0],
-    lines: "\
+        disputes: &[(1, (0, &[1, 2, 3]), (1, &[1, 9, 3]))],
+        commit: 1,
+        first: 1,
+    },
+    // An action that writes nothing is committed by its first report.
+    Case {
+        name: "a look needs one report",
+        numbers: &[0],
+        lines: "\
 1 s0 join c0 1 [] -> welcome 0 []
 2 s0 submit 1 reads 0 writes { } -> relay 1 at 0 [0=(0)] [1:c0.1]
 3 s0 done [1:] -> noted 1
 ",
-    disputes: &[],
-    commit: 1,
-    first: 0,
-};
-
-/// A position that is committed is beyond dispute: a later report of it does not count.
-const LATE_REPORT: Case = Case {
-    numbers: &[0],
-    lines: "\
+        disputes: &[],
+        commit: 1,
+        first: 0,
+    },
+    // A position that is committed is beyond dispute: a later report of it does not count.
+    Case {
+        name: "a late report",
+        numbers: &[0],
+        lines: "\
 1 s0 join c0 1 [] -> welcome 0 []
 2 s1 join c1 1 [] -> welcome 0 []
 3 s2 join c2 1 [] -> welcome 0 []
@@ -156,15 +158,15 @@ const LATE_REPORT: Case = Case {
 8 s1 done [1:(1)] -> noted 1
 9 s2 done [1:(7)] -> noted 1
 ",
-    disputes: &[],
-    commit: 1,
-    first: 1,
-};
-
-/// A position whose result is agreed, but waits for one before it, is still open to dispute. Polls ask for the lowest position first.
-const WAITING_RESULT: Case = Case {
-    numbers: &[0, 0],
-    lines: "\
+        disputes: &[],
+        commit: 1,
+        first: 1,
+    },
+    // A position whose result is agreed, but waits for one before it, is still open to dispute. Polls ask for the lowest position first.
+    Case {
+        name: "a result waits",
+        numbers: &[0, 0],
+        lines: "\
 1 s0 join c0 1 [] -> welcome 0 []
 2 s1 join c1 1 [] -> welcome 0 []
 3 s2 join c2 1 [] -> welcome 0 []
@@ -180,15 +182,15 @@ const WAITING_RESULT: Case = Case {
 13 s1 done [1:(1)] -> noted 2
 14 s3 join c3 1 [0 1] -> welcome 2 [0=(1) 1=(5)]
 ",
-    disputes: &[(2, (0, &[5]), (2, &[7]))],
-    commit: 2,
-    first: 1,
-};
-
-/// A Done that is refused is no report, of none of its positions.
-const REFUSED_REPORT: Case = Case {
-    numbers: &[0],
-    lines: "\
+        disputes: &[(2, (0, &[5]), (2, &[7]))],
+        commit: 2,
+        first: 1,
+    },
+    // A Done that is refused is no report, of none of its positions.
+    Case {
+        name: "refused reports",
+        numbers: &[0],
+        lines: "\
 1 s0 join c0 1 [] -> welcome 0 []
 2 s1 join c1 1 [] -> welcome 0 []
 3 s0 submit 1 reads 0 writes 0 { set @0.0 (@0.0 + 1); } -> relay 1 at 0 [0=(0)] [1:c0.1]
@@ -200,49 +202,16 @@ const REFUSED_REPORT: Case = Case {
 9 s1 poll -> relay 0 at 0 [0=(0)] [1:c0.1]
 10 s1 done [1:(1)] -> noted 1
 ",
-    disputes: &[],
-    commit: 1,
-    first: 1,
-};
+        disputes: &[],
+        commit: 1,
+        first: 1,
+    },
+];
 
 #[test]
-fn liar_is_outvoted(rt: HostRuntime) -> Result<(), Fail> {
-    check(rt.alloc(), &LIAR_IS_OUTVOTED)
-}
-
-#[test]
-fn program_at_the_core(rt: HostRuntime) -> Result<(), Fail> {
-    check(rt.alloc(), &PROGRAM)
-}
-
-#[test]
-fn clients_count_once(rt: HostRuntime) -> Result<(), Fail> {
-    check(rt.alloc(), &CLIENT_COUNTS_ONCE)?;
-    check(rt.alloc(), &SECOND_REPORT)
-}
-
-#[test]
-fn liar_joins_again(rt: HostRuntime) -> Result<(), Fail> {
-    check(rt.alloc(), &LIAR_JOINS_AGAIN)
-}
-
-#[test]
-fn one_object_of_three(rt: HostRuntime) -> Result<(), Fail> {
-    check(rt.alloc(), &ONE_OBJECT_OF_THREE)
-}
-
-#[test]
-fn looks_and_late_reports(rt: HostRuntime) -> Result<(), Fail> {
-    check(rt.alloc(), &LOOK_NEEDS_ONE)?;
-    check(rt.alloc(), &LATE_REPORT)
-}
-
-#[test]
-fn results_wait(rt: HostRuntime) -> Result<(), Fail> {
-    check(rt.alloc(), &WAITING_RESULT)
-}
-
-#[test]
-fn refused_reports(rt: HostRuntime) -> Result<(), Fail> {
-    check(rt.alloc(), &REFUSED_REPORT)
+fn cases_go_as_they_tell(rt: HostRuntime) -> Result<(), Fail> {
+    for case in CASES {
+        check(rt.alloc(), case)?;
+    }
+    Ok(())
 }
