@@ -20,7 +20,7 @@ use Rattle.std.proofs.lemmas.Str.Parse.{IsNumeralModel, numerals_by_value, tells
 use Rattle.sv_text.proofs.Spelled.{decimal_digits}
 use Rattle.sv_lines.specs.Reading.{is_numeric, numeral, behind_numeral, behind_front, is_number, natural, integer, number_read, signed_read}
 use Rattle.sv_lines.proofs.Splitting.{all_pass, decimal_passes, Ends}
-use Rattle.sv_lines.proofs.Telling.{IsLong, signed_passes}
+use Rattle.sv_lines.proofs.Telling.{IsLong, signed_passes, digit_numeric}
 
 -- ---- Known bytes
 
@@ -184,9 +184,6 @@ IsRead {A} P text Stop reader = (a : A) (rest : List ℕ) → P a → Stop rest 
 
 abbrev pub NoNumber : List ℕ → Type 0
 NoNumber rest = Ends is_numeric rest
-
-pub digit_numeric : (c : ℕ) → is_ascii_digit c ≡ true → is_numeric c ≡ true
-digit_numeric c h = rw h refl
 
 natural_is : (bound n : ℕ) → bound ≤ 2 ^ 64 → n < bound → Digits bound (decimal n)
 natural_is bound n wide low =

@@ -13,9 +13,11 @@ use Rattle.sv_wire.specs.Ranges.{ValueFits, ResultFits}
 use Rattle.sv_journal.specs.Pieces.{joined, bracketed, value_text, objects_text, result_text}
 use Rattle.sv_lines.specs.Reading.{is_numeric}
 use Rattle.sv_lines.proofs.Splitting.{all_pass, both_pass, decimal_passes, Ends, first_is, others_are, class_split, number_split, number_begins, Tells, Anything, behind_tells}
-use Rattle.sv_lines.proofs.Numerals.{digit_numeric}
 
 -- ---- Signed numbers
+
+pub digit_numeric : (c : ℕ) → is_ascii_digit c ≡ true → is_numeric c ≡ true
+digit_numeric c h = rw h refl
 
 abbrev pub IsLong : ℤ → Type 0
 IsLong (pos n) = n < 2 ^ 63
