@@ -1,14 +1,20 @@
 -- Doors in memory: their lists of calls that fail.
-use Rattle.std.specs.Prelude.{◌≡◌, ℕ, List, []}
+use Rattle.std.specs.Prelude.{◌≡◌, ◌≢◌, ℕ, ◌-◌, ◌^◌, ◌⊎◌, List, []}
 use Rattle.sv_link.specs.Books.{IsNewBook}
+use Rattle.sv_link.specs.Pipes.{IsListed, IsCopied}
 use Rattle.sv_link.specs.declared.book.Book.{Book}
+use Rattle.sv_link.specs.declared.pipe_end.PipeEnd.{PipeEnd}
 use Rattle.sv_door.specs.Doors.{Passage}
+use Rattle.sv_door.specs.declared.doors.Made.{Made}
+use Rattle.sv_door.specs.declared.doors.Made.TheVariants as made
 use Rattle.sv_door.specs.declared.pipe_door.PipeDoor.{PipeDoor}
 
--- the numbers of the calls that fail, of the door and of each end; and how many bytes a call of an end moves at most
+-- The numbers of the calls that fail, of the door and of each end; how many calls of the door were made; and how many bytes a call of an end
+-- moves at most.
 pub record Plans : Type 0 where
   pub calls : List ℕ
   pub ends : List ℕ
+  pub calls_made : ℕ
   pub step : ℕ
 
 -- nothing fails
@@ -22,6 +28,7 @@ module _ {R : Type 0} where
       record {
         calls = door.calls.failing.items;
         ends = door.ends.failing.items;
+        calls_made = door.calls.made;
         step = door.ends.step;
       }
 
@@ -37,7 +44,18 @@ module _ {R : Type 0} where
     pub here : port_of door ≡ port
     pub plans : HasNoPlan (plans_of door)
 
-  -- no end was made, and nothing fails at this port
+  -- no end was made, no call was counted, nothing fails at this port, and ends move as much as they can
   pub record IsNewDoor (port : ℕ) (door : PipeDoor R) : Type 0 where
     pub book : IsNewBook (book_of door)
     pub sure : IsSureOf door port
+    pub counts : (plans_of door).calls_made ≡ 0
+    pub steps : (plans_of door).step ≡ 2 ^ 64 - 1
+
+  -- a call at this port fails: it is listed, or the door is at another port
+  abbrev pub IsTurnedAway : PipeDoor R → ℕ → Type 0
+  IsTurnedAway door port = IsListed door.calls ⊎ (port ≢ port_of door)
+
+  -- a new end fails at the calls that the door has for its ends
+  abbrev pub HasEndPlan : PipeDoor R → Made (PipeEnd R) → Type 0
+  HasEndPlan door (made.End end) = IsCopied door.ends end.plan
+  HasEndPlan door _ = Unit {0}

@@ -1,6 +1,9 @@
 //! A door in memory, for threads.
-ghost use Rattle.std.specs.Prelude.{◌≡◌, ◌<◌, [], ◌∷◌, ◌++◌, IfOk, IfSome, OnOk, OnErr, false};
+ghost use Rattle.std.specs.Prelude.{◌≡◌, ◌<◌, [], ◌∷◌, ◌++◌, IfOk, IfSome, IsTrue, OnOk, OnErr, ◌↔◌};
 ghost use Rattle.sv_link.specs.Books.{CanOpen};
+ghost use Rattle.sv_link.specs.Pipes.{CountsCall, IsCopied, pipe_told, pipe_faults};
+ghost use Rattle.sv_link.specs.declared.side.Side.TheVariants.{Server, Client};
+ghost use Rattle.sv_door.specs.Doors.{MakesEnd, OwesEnd, MadeCause};
 
 use crate::doors::{Door, Made};
 use crate::hall::Hall;
@@ -28,7 +31,7 @@ pub struct PipeDoor<'r, R: Wait> {
 }
 
 impl<'r, R: Wait> PipeDoor<'r, R> {
-    ghost use Rattle.sv_door.specs.Pipes.{IsNewDoor, IsSureOf, book_of, plans_of, port_of};
+    ghost use Rattle.sv_door.specs.Pipes.{IsNewDoor, book_of, plans_of, port_of, IsTurnedAway, HasEndPlan};
 
     /// The first door of its port. No end was made, and no call fails.
     pub fn new(alloc: Global, rt: &'r R, port: u16) -> Result<PipeDoor<'r, R>, AllocError>
@@ -89,8 +92,9 @@ impl<'r, R: Wait> PipeDoor<'r, R> {
 
     // Counts the call, and answers whether it fails.
     fn refuses(&mut self, port: u16) -> bool
-        ensures sure { IsSureOf self.old port → result ≡ false }
-        ensures same { (book_of self.new ≡ book_of self.old) × (port_of self.new ≡ port_of self.old) × (plans_of self.new ≡ plans_of self.old) }
+        ensures refused { IsTrue result ↔ IsTurnedAway self.new port }
+        ensures calls { CountsCall self.old.calls self.new.calls }
+        ensures same { (book_of self.new ≡ book_of self.old) × (port_of self.new ≡ port_of self.old) × (self.new.ends ≡ self.old.ends) }
     {
         let is_listed = self.calls.next_fails();
         is_listed || port != self.port
@@ -98,13 +102,67 @@ impl<'r, R: Wait> PipeDoor<'r, R> {
 
     // Takes the room for an end, and gives the plan of its calls. None where there is no memory.
     fn prepares(&mut self) -> Option<Plan>
-        ensures plan { IfSome result (λ plan. plan.failing.items ≡ (plans_of self.old).ends) }
+        ensures plan { IfSome result (IsCopied self.old.ends) }
         ensures room { IfSome result (λ plan. CanOpen self.new.book) }
         ensures book { (self.new.book.kept.items ≡ self.old.book.kept.items) × (self.new.book.made ≡ self.old.book.made) × (self.new.book.owed ≡ self.old.book.owed) × (self.new.book.faults ≡ self.old.book.faults) }
-        ensures same { (port_of self.new ≡ port_of self.old) × (plans_of self.new ≡ plans_of self.old) }
+        ensures same { (port_of self.new ≡ port_of self.old) × (self.new.calls ≡ self.old.calls) × (self.new.ends ≡ self.old.ends) }
     {
         let plan = copied_plan(self.alloc, &self.ends).ok()?;
         self.book.takes_room().then_some(plan)
+    }
+
+    /// What `accept` does: it fails just where this call is listed or the port is not the door's, and the end has the door's list and step.
+    pub fn make_server_end(&mut self, port: u16) -> Made<PipeEnd<'r, R>>
+        ensures calls { CountsCall self.old.calls self.new.calls }
+        ensures fails { result ≡ Made.Failed ↔ IsTurnedAway self.new port }
+        ensures plan { HasEndPlan self.old result }
+        ensures rest { (port_of self.new ≡ port_of self.old) × (self.new.ends ≡ self.old.ends) }
+        ensures made { MakesEnd pipe_told pipe_faults Server self.old.book.made self.new.book.made result }
+        ensures owed { OwesEnd self.old.book.owed self.new.book.owed result }
+        ensures given { self.new.book.kept.items ≡ self.old.book.kept.items }
+        ensures cause { MadeCause self.old.book.faults.value self.new.book.faults.value result }
+    {
+        if self.refuses(port) {
+            self.book.count_fault();
+            return Made::Failed;
+        }
+        let Some(plan) = self.prepares() else {
+            return Made::Memory;
+        };
+        let pipe = self.hall.take(self.rt);
+        let log = open_end(&mut self.book, self.alloc, Side::Server);
+        Made::End(PipeEnd::new(self.rt, pipe, plan, log))
+    }
+
+    /// What `connect` does: it fails where `make_server_end` does.
+    pub fn make_client_end(&mut self, port: u16) -> Made<PipeEnd<'r, R>>
+        ensures calls { CountsCall self.old.calls self.new.calls }
+        ensures fails { result ≡ Made.Failed ↔ IsTurnedAway self.new port }
+        ensures plan { HasEndPlan self.old result }
+        ensures rest { (port_of self.new ≡ port_of self.old) × (self.new.ends ≡ self.old.ends) }
+        ensures made { MakesEnd pipe_told pipe_faults Client self.old.book.made self.new.book.made result }
+        ensures owed { OwesEnd self.old.book.owed self.new.book.owed result }
+        ensures given { self.new.book.kept.items ≡ self.old.book.kept.items }
+        ensures cause { MadeCause self.old.book.faults.value self.new.book.faults.value result }
+    {
+        if self.refuses(port) {
+            self.book.count_fault();
+            return Made::Failed;
+        }
+        let Some(plan) = self.prepares() else {
+            return Made::Memory;
+        };
+        let Ok(pipe) = Arc::new(self.alloc, Pipe::new(self.alloc)) else {
+            return Made::Memory;
+        };
+        let Ok(shared) = Arc::try_clone(&pipe) else {
+            return Made::Memory;
+        };
+        if self.hall.put(self.rt, shared).is_err() {
+            return Made::Memory;
+        }
+        let log = open_end(&mut self.book, self.alloc, Side::Client);
+        Made::End(PipeEnd::new(self.rt, pipe, plan, log))
     }
 }
 
@@ -124,37 +182,11 @@ impl<'r, R: Wait + Sync> Door for PipeDoor<'r, R> {
     ghost sure = { IsSureOf };
 
     fn accept(&mut self, port: u16) -> Made<PipeEnd<'r, R>> {
-        if self.refuses(port) {
-            self.book.count_fault();
-            return Made::Failed;
-        }
-        let Some(plan) = self.prepares() else {
-            return Made::Memory;
-        };
-        let pipe = self.hall.take(self.rt);
-        let log = open_end(&mut self.book, self.alloc, Side::Server);
-        Made::End(PipeEnd::new(self.rt, pipe, plan, log))
+        self.make_server_end(port)
     }
 
     fn connect(&mut self, port: u16) -> Made<PipeEnd<'r, R>> {
-        if self.refuses(port) {
-            self.book.count_fault();
-            return Made::Failed;
-        }
-        let Some(plan) = self.prepares() else {
-            return Made::Memory;
-        };
-        let Ok(pipe) = Arc::new(self.alloc, Pipe::new(self.alloc)) else {
-            return Made::Memory;
-        };
-        let Ok(shared) = Arc::try_clone(&pipe) else {
-            return Made::Memory;
-        };
-        if self.hall.put(self.rt, shared).is_err() {
-            return Made::Memory;
-        }
-        let log = open_end(&mut self.book, self.alloc, Side::Client);
-        Made::End(PipeEnd::new(self.rt, pipe, plan, log))
+        self.make_client_end(port)
     }
 
     fn give_back(&mut self, end: PipeEnd<'r, R>) {
