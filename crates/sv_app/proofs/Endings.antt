@@ -11,9 +11,11 @@ use Rattle.sv_command.specs.Statuses.{status_of, Counts, Raises, NoneRose}
 use Rattle.sv_command.proofs.Held.{Faulty, read_is, holds_none, always, unheld}
 use Rattle.sv_command.proofs.Statuses.{range_is as plain_range}
 use Rattle.sv_command.proofs.Left.{printed_by, cut_by, ends_early, or_words, unranged, printed_is as left_printed, part_is as left_part, nothing_is as left_nothing, refused_is as left_refused}
+use Rattle.sv_link.specs.Nets.{Transcript}
+use Rattle.sv_play.specs.Moved.{Moved}
 use Rattle.sv_app.specs.declared.words.Command.{Command}
 use Rattle.sv_app.specs.Words.{Asked, Play, Replay, Load, asked_by, file_of, named_by}
-use Rattle.sv_app.specs.Runs.{Moved, IsScenarioFor, IsText, IsTextFor}
+use Rattle.sv_app.specs.Runs.{IsScenarioFor, IsText, IsTextFor}
 use Rattle.sv_app.specs.Statuses.{LeavesAlone, IsReady, EndsEarly, CanRun}
 
 -- ---- What was read
@@ -24,7 +26,7 @@ scenario_for a held r =
     subst (λ (x : Asked). IsScenarioFor x held r.scenario) e r.scenario_is
 
 -- A text tells a run of a scenario.
-text_ready : (a : Option Asked) (held : Option (List ℕ)) (m : Moved) (text : List ℕ) → IsTextFor a held m text → IsReady a held
+text_ready : (a : Option Asked) (held : Option (List ℕ)) (m : Moved Transcript) (text : List ℕ) → IsTextFor a held m text → IsReady a held
 text_ready None held m text t = absurd t
 text_ready (Some x) held m text t = record { command = x; command_is = refl; scenario = t.scenario; scenario_is = t.scenario_is }
 
@@ -51,10 +53,10 @@ unasked held (Some a) n can = cc
 -- ---- What is left of a call, by the words
 
 -- by what is asked for, and what the file holds
-abbrev pub Leaves : Option Asked → Option (List ℕ) → Moved → Option (List ℕ) → Option (List ℕ) → Ending → Type 0
+abbrev pub Leaves : Option Asked → Option (List ℕ) → Moved Transcript → Option (List ℕ) → Option (List ℕ) → Ending → Type 0
 Leaves a held m old now e = Ends (IsTextFor a held m) (OrWords (EndsEarly a held)) old now e
 
-module _ (contents : List ℕ → Option (List ℕ)) (m : Moved) (given : Option Command) (command : Command) (is : given ≡ Some command) where
+module _ (contents : List ℕ → Option (List ℕ)) (m : Moved Transcript) (given : Option Command) (command : Command) (is : given ≡ Some command) where
   text_given : (text : List ℕ) → IsText (asked_by command) (held_by_file contents (file_of (asked_by command))) m text
       → IsTextFor (option_map asked_by given) (held_by_file contents (named_by (option_map asked_by given))) m text
   text_given text told = subst (λ (o : Option Command). IsTextFor (option_map asked_by o) (held_by_file contents (named_by (option_map asked_by o))) m text) (sym is) told
@@ -79,7 +81,7 @@ module _ (contents : List ℕ → Option (List ℕ)) (m : Moved) (given : Option
 
 -- ---- What is left of a call, by its status
 
-module _ (a : Option Asked) (contents : List ℕ → Option (List ℕ)) (m : Moved) (old now : Option (List ℕ)) where
+module _ (a : Option Asked) (contents : List ℕ → Option (List ℕ)) (m : Moved Transcript) (old now : Option (List ℕ)) where
   abbrev held : Option (List ℕ)
   held = held_by_file contents (named_by a)
 

@@ -1,21 +1,23 @@
 -- What is left of a run on threads.
 use Rattle.std.proofs.Common.{◌≡◌, ◌≤◌, List, [], ◌∷◌, length, reverse, sym, ap, ◌∙◌, arith}
 use Rattle.std.specs.List.{flat_map}
+use Rattle.sv_link.specs.Nets.{Transcript}
 use Rattle.sv_journal.specs.declared.entry.Entry.{Entry}
 use Rattle.sv_journal.specs.Answer.{Rules}
 use Rattle.sv_journal.specs.History.{commit_of, committed_of}
 use Rattle.sv_client.specs.declared.trace.Trace.{Trace}
 use Rattle.sv_scenario.specs.declared.scenario.Scenario.{Scenario}
 use Rattle.sv_system.specs.Records.{rules_of}
+use Rattle.sv_play.specs.Moved.{Moved}
 use Rattle.sv_play.specs.Playing.{IsThreadedRun}
 use Rattle.sv_script.specs.Telling.{told_lines}
 use Rattle.sv_app.specs.declared.playing.Threaded.{Threaded}
-use Rattle.sv_app.specs.Runs.{Moved, IsThreaded}
+use Rattle.sv_app.specs.Runs.{IsThreaded}
 
-module _ (scenario : Scenario) (m : Moved) (threaded : Threaded) (entries seen : List Entry) (Ls : List Trace)
-    (run : IsThreadedRun scenario (reverse seen) Ls m.settled_before m.settled_now m.ran_before m.ran_now) (took : entries ≡ seen) (same : threaded.played.journal.entries ≡ entries)
+module _ (scenario : Scenario) (m : Moved Transcript) (threaded : Threaded) (entries seen : List Entry) (Ls : List Trace)
+    (run : IsThreadedRun scenario (reverse seen) Ls m.kept_before m.kept_now m.ran_before m.ran_now) (took : entries ≡ seen) (same : threaded.played.journal.entries ≡ entries)
     (traces : threaded.played.traces ≡ Ls) where
-  run_is : IsThreadedRun scenario (reverse threaded.played.journal.entries) threaded.played.traces m.settled_before m.settled_now m.ran_before m.ran_now
+  run_is : IsThreadedRun scenario (reverse threaded.played.journal.entries) threaded.played.traces m.kept_before m.kept_now m.ran_before m.ran_now
   run_is = rw (same ∙ took) (rw traces run)
 
   pub threaded_is : (rules : Rules) → rules ≡ rules_of scenario → threaded.played.shape ≡ scenario.world.shape → threaded.played.commit ≡ commit_of (reverse entries)

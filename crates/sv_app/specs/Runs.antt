@@ -13,6 +13,7 @@ use Rattle.sv_system.specs.Records.{IsPlayed}
 use Rattle.law_schedule.specs.Records.{IsReplay}
 use Rattle.sv_report.specs.Report.{report_text}
 use Rattle.sv_report.specs.Summary.{summary_text}
+use Rattle.sv_play.specs.Moved.{Moved}
 use Rattle.sv_play.specs.Playing.{IsThreadedRun}
 use Rattle.sv_command.specs.Lines.{ended_line}
 use Rattle.sv_command.specs.Reading.{IsRead}
@@ -31,22 +32,12 @@ IsScenarioFor (Load size) held scenario = scenario ≡ generated size
 
 -- ---- The record
 
--- What a net and a crew tell, before a run and after it: the transcripts of the pairs that were settled, and the numbers of jobs that ran.
-pub record Moved : Type 0 where
-  pub settled_before : List Transcript
-  pub settled_now : List Transcript
-  pub ran_before : List ℕ
-  pub ran_now : List ℕ
-
-abbrev pub moved : List Transcript → List Transcript → List ℕ → List ℕ → Moved
-moved settled_before settled_now ran_before ran_now =
-    record { settled_before = settled_before; settled_now = settled_now; ran_before = ran_before; ran_now = ran_now }
-
--- The record of the run: of the scenario's schedule for a replay, and else of threads, whose net has each session's transcript more.
-abbrev pub IsRecordFor : Asked → Moved → Scenario → List Entry → List Trace → Type 0
-IsRecordFor (Play file form) m scenario h Ls = IsThreadedRun scenario h Ls m.settled_before m.settled_now m.ran_before m.ran_now
+-- The record of the run: of the scenario's schedule for a replay, and else of threads, whose net has each session's transcript more: kept
+-- are the transcripts of the pairs that were settled.
+abbrev pub IsRecordFor : Asked → Moved Transcript → Scenario → List Entry → List Trace → Type 0
+IsRecordFor (Play file form) m scenario h Ls = IsThreadedRun scenario h Ls m.kept_before m.kept_now m.ran_before m.ran_now
 IsRecordFor (Replay file) m scenario h Ls = IsReplay scenario h Ls
-IsRecordFor (Load size) m scenario h Ls = IsThreadedRun scenario h Ls m.settled_before m.settled_now m.ran_before m.ran_now
+IsRecordFor (Load size) m scenario h Ls = IsThreadedRun scenario h Ls m.kept_before m.kept_now m.ran_before m.ran_now
 
 -- ---- The text
 
@@ -66,7 +57,7 @@ text_for (Load size) scenario h Ls = codes "load " ++ decimal size ++ codes "\n"
 
 -- The text tells the run that is asked for: its journal and its clients' traces are a record of the scenario's traffic, with serial values,
 -- sufficient relays and each script carried out.
-pub record IsText (asked : Asked) (held : Option (List ℕ)) (m : Moved) (text : List ℕ) : Type 0 where
+pub record IsText (asked : Asked) (held : Option (List ℕ)) (m : Moved Transcript) (text : List ℕ) : Type 0 where
   pub scenario : Scenario
   pub h : List Entry
   pub Ls : List Trace
@@ -75,12 +66,12 @@ pub record IsText (asked : Asked) (held : Option (List ℕ)) (m : Moved) (text :
   pub text_is : text ≡ text_for asked scenario h Ls
 
 -- The text tells it where something is asked for, and else there is none.
-abbrev pub IsTextFor : Option Asked → Option (List ℕ) → Moved → List ℕ → Type 0
+abbrev pub IsTextFor : Option Asked → Option (List ℕ) → Moved Transcript → List ℕ → Type 0
 IsTextFor (Some asked) held m text = IsText asked held m text
 IsTextFor None held m text = ⊥
 
 -- What is left of a run on threads.
-pub record IsThreaded (scenario : Scenario) (m : Moved) (threaded : Threaded) : Type 0 where
-  pub run : IsThreadedRun scenario (reverse threaded.played.journal.entries) threaded.played.traces m.settled_before m.settled_now m.ran_before m.ran_now
+pub record IsThreaded (scenario : Scenario) (m : Moved Transcript) (threaded : Threaded) : Type 0 where
+  pub run : IsThreadedRun scenario (reverse threaded.played.journal.entries) threaded.played.traces m.kept_before m.kept_now m.ran_before m.ran_now
   pub played : IsPlayed scenario threaded.played
   pub lines : threaded.lines.items ≡ flat_map told_lines threaded.played.traces

@@ -3,9 +3,10 @@ ghost use Rattle.std.specs.Prelude.{◌≡◌, ◌++◌, reverse, codes, string_
 ghost use Rattle.std.specs.Fmt.{decimal};
 ghost use Rattle.sv_watch.specs.Told.{change_line};
 ghost use Rattle.sv_scenario.specs.Limits.{IsGoodScenario};
+ghost use Rattle.sv_play.specs.Moved.{moved};
 ghost use Rattle.sv_play.specs.Playing.{PlayCause};
 ghost use Rattle.sv_play.specs.Settling.{SomeDiffer};
-ghost use Rattle.sv_app.specs.Runs.{moved, IsThreaded, form_text};
+ghost use Rattle.sv_app.specs.Runs.{IsThreaded, form_text};
 
 use crate::words::Form;
 use std::alloc::{AllocError, Global};

@@ -3,9 +3,11 @@ ghost use Rattle.std.specs.Prelude.{◌≡◌, ◌≢◌, ℕ, None, Some, Err, 
 ghost use Rattle.sv_command.specs.Endings.{IsMade};
 ghost use Rattle.sv_command.specs.Reading.{held_by_file};
 ghost use Rattle.sv_command.specs.Statuses.{Counts, counts, Raises, ending_of, status_of};
+ghost use Rattle.sv_link.specs.Nets.{Transcript};
+ghost use Rattle.sv_play.specs.Moved.{Moved, moved};
 ghost use Rattle.sv_play.specs.Settling.{SomeDiffer};
 ghost use Rattle.sv_app.specs.Words.{Play, Replay, Load, IsSize, IsSized, asked_by, file_of};
-ghost use Rattle.sv_app.specs.Runs.{Moved, moved, IsText};
+ghost use Rattle.sv_app.specs.Runs.{IsText};
 ghost use Rattle.sv_app.specs.Statuses.{EndsEarly, LeavesAlone};
 
 use crate::playing::{form_text, load_text, run_on_threads};
@@ -32,7 +34,7 @@ fn leave<T: Drop>(scenario: Scenario, kept: T) {
 
 /// The report of the run of a file's schedule.
 fn replay<F: Files>(alloc: Global, file: &str, files: &mut F) -> Result<String, Ending>
-    ensures made { (m : Moved) → IsMade (IsText (Replay file.now) (F.contents files.old file.now) m) (EndsEarly (Some (Replay file.now)) (F.contents files.old file.now)) result }
+    ensures made { (m : Moved Transcript) → IsMade (IsText (Replay file.now) (F.contents files.old file.now) m) (EndsEarly (Some (Replay file.now)) (F.contents files.old file.now)) result }
     ensures raises { (k : Counts) → Raises (record k { files = F.faults files.old }) (record k { files = F.faults files.new }) (ending_of result) }
     ensures sure { F.sure files.old file.now → result ≢ Err Ending.File }
 {

@@ -1,11 +1,12 @@
 //! The top call of runs: played, replayed or made up.
 ghost use Rattle.std.specs.Prelude.{◌≡◌, ◌≢◌, ◌↔◌, ◌⊎◌, ◌≤◌, ℕ, take, map, option_map, string_bytes, None, IfSome};
+ghost use Rattle.sv_play.specs.Moved.{moved};
 ghost use Rattle.sv_play.specs.Settling.{SomeDiffer};
 ghost use Rattle.sv_app.specs.Words.{IsSized, asked_by, command_of, named_by};
 ghost use Rattle.sv_command.specs.Endings.{Ends, IsCutShort, IsPrinted, OrWords};
 ghost use Rattle.sv_command.specs.Reading.{read_limit, held_by_file, IsNoScenario};
 ghost use Rattle.sv_command.specs.Statuses.{counts, NoneRose, Raises, TellsFaults, TellsStatus, status_of};
-ghost use Rattle.sv_app.specs.Runs.{moved, IsTextFor};
+ghost use Rattle.sv_app.specs.Runs.{IsTextFor};
 ghost use Rattle.sv_app.specs.Statuses.{CanRun, EndsEarly, LeavesAlone, words_line};
 
 use crate::texts::text_for;

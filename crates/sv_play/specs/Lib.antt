@@ -6,3 +6,4 @@ pub mod Opening
 pub mod Settling
 pub mod Playing
 pub mod Endings
+pub mod Moved

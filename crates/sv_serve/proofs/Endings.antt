@@ -14,11 +14,12 @@ use Rattle.sv_command.proofs.Left.{printed_by, cut_by, ends_early, or_words, unr
 use Rattle.sv_sequencer.specs.Step.{SequencerView}
 use Rattle.sv_play.specs.declared.outcome.PlayFault.{PlayFault}
 use Rattle.sv_play.specs.declared.outcome.PlayFault.TheVariants as faults
+use Rattle.sv_play.specs.Moved.{Moved}
 use Rattle.sv_play.specs.Endings.{ending_of_fault}
+use Rattle.sv_door.specs.Doors.{Passage}
 use Rattle.sv_serve.specs.declared.words.Command.{Command}
 use Rattle.sv_serve.specs.Words.{Asked, asked_by, named_by}
 use Rattle.sv_serve.specs.Giving.{Doorway, GaveAllBack, GivesBack}
-use Rattle.sv_serve.specs.Hosting.{Moved}
 use Rattle.sv_serve.specs.Statuses.{IsText, EndsEarly, LeavesAlone, GivesBackBut}
 
 -- ---- The ends
@@ -61,10 +62,10 @@ certain_is sure (Some x) e h = λ s six. h s (link_is e six)
 -- ---- What is left of a call, by the words
 
 -- by what the file holds
-abbrev pub Leaves : Option (List ℕ) → Moved → Option (List ℕ) → Option (List ℕ) → Ending → Type 0
+abbrev pub Leaves : Option (List ℕ) → Moved Passage → Option (List ℕ) → Option (List ℕ) → Ending → Type 0
 Leaves held m old now e = Ends (IsText held m) (OrWords (EndsEarly held)) old now e
 
-module _ (contents : List ℕ → Option (List ℕ)) (m : Moved) (given : Option Command) (command : Command) (is : given ≡ Some command) where
+module _ (contents : List ℕ → Option (List ℕ)) (m : Moved Passage) (given : Option Command) (command : Command) (is : given ≡ Some command) where
   text_given : (text : List ℕ) → IsText (contents command.file.now) m text → IsText (held_by_file contents (named_by (option_map asked_by given))) m text
   text_given text told = subst (λ (o : Option Command). IsText (held_by_file contents (named_by (option_map asked_by o))) m text) (sym is) told
 
@@ -83,7 +84,7 @@ module _ (contents : List ℕ → Option (List ℕ)) (m : Moved) (given : Option
 
 -- ---- What is left of a call, by its status
 
-module _ (held : Option (List ℕ)) (m : Moved) (old now : Option (List ℕ)) where
+module _ (held : Option (List ℕ)) (m : Moved Passage) (old now : Option (List ℕ)) where
   pub range_is : (e : Ending) → Leaves held m old now e → (status_of e ≡ 0) ⊎ ((2 ≤ status_of e) × (status_of e ≤ 8))
   range_is e h = plain_range e (unranged (IsText held m) (OrWords (EndsEarly held)) old now (λ x. x) e h)
 
@@ -99,7 +100,7 @@ module _ (held : Option (List ℕ)) (m : Moved) (old now : Option (List ℕ)) wh
   pub refused_is : (e : Ending) → Leaves held m old now e → (line : String Global) → e ≡ endings.Scenario line → IsRefused held (string_bytes line)
   refused_is e h line is = left_refused (IsText held m) (OrWords (EndsEarly held)) old now e h line is
 
-module _ (a : Option Asked) (contents : List ℕ → Option (List ℕ)) (m : Moved) (old now : Option (List ℕ)) where
+module _ (a : Option Asked) (contents : List ℕ → Option (List ℕ)) (m : Moved Passage) (old now : Option (List ℕ)) where
   abbrev held : Option (List ℕ)
   held = held_by_file contents (named_by a)
 

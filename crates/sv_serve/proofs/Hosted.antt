@@ -22,13 +22,15 @@ use Rattle.sv_play.specs.declared.tasks.Serviced.{Serviced}
 use Rattle.sv_play.specs.Tasks.{WasServed}
 use Rattle.sv_play.specs.Given.{Setting, keeper_after, pass_of, IsService}
 use Rattle.sv_play.specs.Left.{is_memory, IsOfLock, JoinedPasses, IsServiced}
+use Rattle.sv_play.specs.Moved.{Moved}
 use Rattle.sv_play.specs.Playing.{TookAllIn}
 use Rattle.sv_play.proofs.Leaving.{served_left, all_of_lock}
 use Rattle.sv_play.proofs.Whole.{just_at}
 use Rattle.sv_play.proofs.Keepers.{just_of, below_of, legal_of, all_taken_in}
+use Rattle.sv_door.specs.Doors.{Passage}
 use Rattle.sv_serve.specs.Giving.{passage_kept, kept_served, IsUnservedOf, IsServedOf}
 use Rattle.sv_serve.specs.Passages.{IsPassageOf}
-use Rattle.sv_serve.specs.Hosting.{Moved, IsHosted}
+use Rattle.sv_serve.specs.Hosting.{IsHosted}
 use Rattle.sv_serve.proofs.Passages.{WasHosted, passage_is, one_end_is}
 
 -- What a fact of a place and its bound gives of all.
@@ -94,7 +96,7 @@ module _ {E G : Type 0} (told : E → Told) (faults : E → ℕ) (calm : E → T
           let y = unmap_at (λ (y : Serviced E). passage_kept told faults y.end) ys s x e in
           subst (IsPassageOf (reverse k.seen) s) y.2 (passage_is stay name k.seen s y.0.out (told y.0.end) (faults y.0.end) (was_hosted s y.0 y.1))
 
-      pub hosted : (m : Moved) → m.given_now ≡ m.given_before ++ kept_served told faults ys → m.ran_now ≡ m.ran_before ++ length xs ∷ [] → IsHosted run.scenario (reverse k.seen) m
+      pub hosted : (m : Moved Passage) → m.kept_now ≡ m.kept_before ++ kept_served told faults ys → m.ran_now ≡ m.ran_before ++ length xs ∷ [] → IsHosted run.scenario (reverse k.seen) m
       hosted m given ran =
           record {
             legal = legal_of told faults calm run ys served all_served k joined good;

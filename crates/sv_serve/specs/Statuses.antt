@@ -10,8 +10,10 @@ use Rattle.sv_scenario.specs.declared.scenario.Scenario.{Scenario}
 use Rattle.sv_command.specs.declared.ending.Ending.{Ending}
 use Rattle.sv_command.specs.declared.ending.Ending.TheVariants as endings
 use Rattle.sv_command.specs.Reading.{IsRead, IsRefused}
+use Rattle.sv_play.specs.Moved.{Moved}
+use Rattle.sv_door.specs.Doors.{Passage}
 use Rattle.sv_serve.specs.Giving.{Doorway, GaveAllBack}
-use Rattle.sv_serve.specs.Hosting.{Moved, IsHosted}
+use Rattle.sv_serve.specs.Hosting.{IsHosted}
 
 -- ---- The text
 
@@ -20,7 +22,7 @@ abbrev pub hosted_text : Shape → List Entry → List ℕ
 hosted_text shape h = journal_text shape (reverse h) ++ codes "commit " ++ decimal (commit_of h) ++ codes "\n"
 
 -- The text tells what was answered in the sessions of the file's scenario.
-pub record IsText (held : Option (List ℕ)) (m : Moved) (text : List ℕ) : Type 0 where
+pub record IsText (held : Option (List ℕ)) (m : Moved Passage) (text : List ℕ) : Type 0 where
   pub scenario : Scenario
   pub h : List Entry
   pub scenario_is : IsRead held scenario

@@ -4,9 +4,10 @@ ghost use Rattle.sv_scenario.specs.Limits.{IsGoodScenario};
 ghost use Rattle.sv_scenario.specs.Sessions.{session_count};
 ghost use Rattle.sv_sequencer.specs.Step.{history};
 ghost use Rattle.sv_play.specs.Given.{keeper_after};
+ghost use Rattle.sv_play.specs.Moved.{moved};
 ghost use Rattle.sv_play.specs.Playing.{PlayCause, TookAllIn};
 ghost use Rattle.sv_serve.specs.Giving.{doorway, GivesBack};
-ghost use Rattle.sv_serve.specs.Hosting.{moved, IsHosted};
+ghost use Rattle.sv_serve.specs.Hosting.{IsHosted};
 
 use crate::accepting::Host;
 use crate::taking::take_in;

@@ -3,8 +3,8 @@ ghost use Rattle.std.specs.Prelude.{◌≡◌, ◌≢◌, ℕ, Some, Err, IfOk, 
 ghost use Rattle.sv_command.specs.Endings.{IsMade};
 ghost use Rattle.sv_command.specs.Statuses.{counts, Raises, ending_of, status_of};
 ghost use Rattle.sv_sequencer.specs.Step.{history};
+ghost use Rattle.sv_play.specs.Moved.{moved};
 ghost use Rattle.sv_serve.specs.Giving.{doorway};
-ghost use Rattle.sv_serve.specs.Hosting.{moved};
 ghost use Rattle.sv_serve.specs.Statuses.{hosted_text, EndsEarly, GivesBackBut, IsText, LeavesAlone};
 
 use crate::hosting::serve_scenario;

@@ -3,9 +3,9 @@ ghost use Rattle.std.specs.Prelude.{◌≡◌, ◌≢◌, ◌↔◌, ◌⊎◌, 
 ghost use Rattle.sv_command.specs.Endings.{Ends, IsCutShort, IsPrinted, OrWords};
 ghost use Rattle.sv_command.specs.Reading.{read_limit, held_by_file, HoldsScenario, IsNoScenario};
 ghost use Rattle.sv_command.specs.Statuses.{counts, NoneRose, Raises, TellsFaults, TellsStatus, status_of};
+ghost use Rattle.sv_play.specs.Moved.{moved};
 ghost use Rattle.sv_serve.specs.Words.{asked_by, command_of, named_by, words_line};
 ghost use Rattle.sv_serve.specs.Giving.{doorway};
-ghost use Rattle.sv_serve.specs.Hosting.{moved};
 ghost use Rattle.sv_serve.specs.Statuses.{EndsEarly, GivesBackBut, IsText, LeavesAlone};
 
 use crate::texts::served_text;

@@ -3,7 +3,7 @@ use Rattle.std.proofs.Common.{rules, ap, ◌∙◌}
 use Rattle.sv_lock.specs.Passes.{PassView}
 use Rattle.sv_journal.specs.declared.entry.Entry.{Entry}
 use Rattle.sv_journal.specs.Answer.{Rules}
-use Rattle.sv_app.specs.Runs.{moved}
+use Rattle.sv_play.specs.Moved.{moved}
 use Rattle.sv_app.proofs.Threads.{threaded_is}
 use Rattle.sv_app.proofs.playing.run_on_threads.Goals as goal
 

@@ -2,7 +2,7 @@
 use Rattle.std.proofs.Common.{refl}
 use Rattle.sv_command.specs.Statuses.{counts}
 use Rattle.sv_command.proofs.Counts.{unthreaded, link_status}
-use Rattle.sv_app.specs.Runs.{moved}
+use Rattle.sv_play.specs.Moved.{moved}
 use Rattle.sv_app.proofs.texts.text_for.Goals as goal
 
 pub returns-in-Replay-clause-made : goal.returns-in-Replay-clause-made

@@ -6,10 +6,10 @@ use Rattle.sv_sequencer.proofs.Sent.{lock-syncs, pass-sends}
 use Rattle.law_traffic.specs.Runs.{IsGoodRun}
 use Rattle.sv_play.specs.Given.{setting}
 use Rattle.sv_play.specs.Left.{JoinedPasses}
+use Rattle.sv_play.specs.Moved.{moved}
 use Rattle.sv_play.specs.Playing.{TookAllIn}
 use Rattle.sv_play.proofs.Ready.{services_ready}
 use Rattle.sv_serve.specs.Giving.{kept_served}
-use Rattle.sv_serve.specs.Hosting.{moved}
 use Rattle.sv_serve.proofs.Steps.{served_back}
 use Rattle.sv_serve.proofs.Hosted.{all_served, passes, served_own, took_all, hosted}
 use Rattle.sv_serve.proofs.hosting.serve_sessions.Goals as goal
