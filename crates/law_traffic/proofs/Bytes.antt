@@ -1,13 +1,11 @@
 -- One session that is done: its bytes against the journal and the trace.
-use Rattle.std.proofs.Common.{◌≡◌, ◌≢◌, ◌⊎◌, ℕ, ◌+◌, ◌<◌, Bool, true, false, cond, ◌||◌, eqb, List, [], ◌∷◌, ◌++◌, length, map, reverse, inl, inr, Some, None, refl, sym, ap, subst, ◌∙◌, append_assoc, arith, ◌≤◌, length-append}
+use Rattle.std.proofs.Common.{◌≡◌, ◌≢◌, ◌⊎◌, ℕ, ◌+◌, ◌<◌, Bool, false, List, [], ◌∷◌, ◌++◌, length, map, reverse, inl, inr, refl, sym, ap, subst, ◌∙◌, append_assoc, arith, ◌≤◌, length-append}
 use Rattle.std.specs.List.{AllByRecursion}
 use Rattle.std.proofs.lemmas.Bool.{ltb-false}
-use Rattle.std.proofs.lemmas.List.{map-append, length-map}
+use Rattle.std.proofs.lemmas.List.{length-map}
 use Rattle.std.proofs.lemmas.List.Elements.{recursion_from_All}
-use Rattle.std.proofs.lemmas.Option.{none-some}
 use mathlib.Core.List.{IsPrefix}
 use Rattle.sv_frame.specs.Streams.StreamItem.{Payload}
-use Rattle.sv_link.specs.Ends.{Told}
 use Rattle.sv_link.specs.Nets.{counted}
 use Rattle.sv_wire.specs.declared.message.Request.{Request}
 use Rattle.sv_wire.specs.declared.message.Request.TheVariants as requests
@@ -15,74 +13,34 @@ use Rattle.sv_wire.specs.declared.message.Reply.{Reply}
 use Rattle.sv_wire.specs.Spelling.{request_bytes}
 use Rattle.sv_wire.specs.Laws.{IsRequest, IsReply}
 use Rattle.sv_journal.specs.declared.entry.Entry.{Entry}
-use Rattle.sv_journal.specs.declared.entry.Logged.{Logged}
 use Rattle.sv_journal.specs.declared.entry.Logged.TheVariants as logged
-use Rattle.sv_journal.specs.History.{Authored, accepted, full_reply}
-use Rattle.sv_journal.specs.Sessions.{is_end}
+use Rattle.sv_journal.specs.History.{accepted}
 use Rattle.sv_journal.specs.Laws.{FullRepliesStay, LegalRelaysNameAccepted}
 use Rattle.sv_client.specs.declared.trace.Trace.{Trace}
 use Rattle.sv_client.specs.Traces.{requests_of}
 use Rattle.sv_sequencer.specs.Step.{entry_of}
-use Rattle.sv_lock.specs.Passes.{session_number}
 use Rattle.sv_lock.proofs.Histories.{prefix_trans}
-use Rattle.sv_session.specs.Requests.{stop_of, StopsFor, due_frames}
+use Rattle.sv_journal.specs.Sessions.{is_end}
+use Rattle.sv_session.specs.Requests.{due_frames}
 use Rattle.sv_session.specs.Serving.{ExplainsOut, ended_by}
 use Rattle.sv_session.specs.declared.outcome.SessionOut.{SessionOut}
 use Rattle.sv_session.specs.declared.outcome.SessionOut.TheVariants as outs
 use Rattle.sv_system.specs.Fronts.{IsFront}
 use Rattle.sv_system.specs.Fits.{requests_in, replies_in, FitsIn}
-use Rattle.sv_system.specs.Records.{ends_in}
 use Rattle.sv_system.proofs.Fronts.{front-append}
 use Rattle.sv_player.specs.Carried.{request_frames}
 use Rattle.sv_player.specs.Stops.{is_cut}
 use Rattle.sv_player.specs.Played.{replies_of}
 use Rattle.sv_player.proofs.Linking.{frames_append}
+use Rattle.sv_system.specs.Records.{ends_in}
 use Rattle.sv_system.proofs.Every.{each-left}
 use Rattle.law_traffic.specs.Sessions.{Over, transcript, IsSessionDone}
-use Rattle.law_traffic.specs.Traffic.{reply_frames, is_stop_reply, EndsWithStop, TookAll, IsTraffic}
-use Rattle.law_traffic.proofs.Ours.{mine, requests_are, replies_are, one_end, end_is_last}
-use Rattle.law_traffic.proofs.Dues.{full_over, due_is}
+use Rattle.law_traffic.specs.Traffic.{reply_frames, EndsWithStop, TookAll, IsTraffic}
+use Rattle.law_traffic.proofs.Ours.{mine, end_is_last}
+use Rattle.law_traffic.proofs.Dues.{full_over}
+use Rattle.law_traffic.proofs.Loops.{stopped_by}
+use Rattle.law_traffic.proofs.Loops as loops
 use Rattle.law_traffic.proofs.Messages.{AreTaken, taken, AreGot, got_first}
-
--- ---- Outcomes
-
--- Where the link held and there was memory, all that was due was sent.
-pub all_sent : (out : SessionOut) (stream : List ℕ) (answered : List Entry) (sent due : List ℕ) → out ≢ outs.LinkFault → out ≢ outs.Memory → ExplainsOut out stream answered sent due → sent ≡ due
-all_sent outs.Left stream answered sent due l m e = e.1
-all_sent outs.Closed stream answered sent due l m e = e.1
-all_sent outs.Ended stream answered sent due l m e = e.1
-all_sent outs.Malformed stream answered sent due l m e = e.1
-all_sent outs.Spent stream answered sent due l m e = e.1
-all_sent outs.LinkFault stream answered sent due l m e = absurd (l refl)
-all_sent outs.Memory stream answered sent due l m e = absurd (m refl)
-
-stop_code : (a b c : Bool) (x y z : SessionOut) (reason : SessionOut) → cond a (Some x) (cond b (Some y) (cond c (Some z) None)) ≡ Some reason → (a || b || c) ≡ true
-stop_code true b c x y z reason e = refl
-stop_code false true c x y z reason e = refl
-stop_code false false true x y z reason e = refl
-stop_code false false false x y z reason e = absurd (none-some reason e)
-
--- A reply for which a loop stops is one of the last replies.
-stops : (A : List Authored) (reply : Logged) (reason : SessionOut) → stop_of reply ≡ Some reason → is_stop_reply (full_reply A reply) ≡ true
-stops A logged.Bye reason e = refl
-stops A (logged.Refused code detail) reason e = stop_code (eqb code 1) (eqb code 4) (eqb code 9) outs.Malformed outs.Ended outs.Spent reason e
-stops A (logged.Welcome commit head) reason e = absurd (none-some reason e)
-stops A (logged.Relay seq commit head positions) reason e = absurd (none-some reason e)
-stops A (logged.Dropped seq chain far) reason e = absurd (none-some reason e)
-stops A (logged.Settled seq place) reason e = absurd (none-some reason e)
-stops A (logged.Noted commit) reason e = absurd (none-some reason e)
-stops A logged.Idle reason e = absurd (none-some reason e)
-
--- The replies to entries of which the last stops a loop end with it.
-pub stopped_by : (journal answered : List Entry) (reason : SessionOut) → StopsFor reason answered → EndsWithStop (full_over journal answered)
-stopped_by journal answered reason f =
-    let A = accepted (reverse journal) in
-    record {
-      before = full_over journal f.before;
-      last = full_reply A f.last.reply;
-      are = ap (full_over journal) f.are ∙ map-append (λ (e : Entry). full_reply A e.reply) f.before (f.last ∷ []);
-      stop = stops A f.last.reply reason f.stop;
-    }
 
 -- ---- The session
 
@@ -99,26 +57,20 @@ module _ (stay : FullRepliesStay) (name : LegalRelaysNameAccepted) (journal : Li
   abbrev pub all : List Reply
   all = full_over journal answered
 
-  own_is : d.served.after.mine ≡ answered ++ entry_of s requests.End logged.Bye ∷ []
-  own_is =
-      d.served.served.mine
-      ∙ (ap (λ (l : List Entry). (l ++ answered) ++ entry_of (session_number d.served.before) requests.End logged.Bye ∷ []) d.served.new
-      ∙ ap (λ (n : ℕ). answered ++ entry_of n requests.End logged.Bye ∷ []) d.served.number)
-
   pub just : mine s journal ≡ answered ++ entry_of s requests.End logged.Bye ∷ []
-  just = d.served.just ∙ own_is
+  just = loops.just journal s x.out x.server x.server_faults d.served
 
   pub others : AllByRecursion (λ (e : Entry). is_end e.request ≡ false) answered
-  others = recursion_from_All (λ (e : Entry). is_end e.request ≡ false) answered d.served.served.no_other
+  others = loops.others journal s x.out x.server x.server_faults d.served
 
-  pub steps_are : requests_in history s ≡ steps
-  steps_are = requests_are s journal answered just others
+  steps_are : requests_in history s ≡ steps
+  steps_are = loops.steps_are journal s x.out x.server x.server_faults d.served
 
   pub all_are : replies_in (accepted history) history s ≡ all
-  all_are = replies_are s journal answered just others (accepted history)
+  all_are = loops.all_are journal s x.out x.server x.server_faults d.served
 
   pub ends_are : ends_in history s ≡ 1
-  ends_are = one_end s journal answered just others
+  ends_are = loops.ends_are journal s x.out x.server x.server_faults d.served
 
   pub messages : AllByRecursion IsRequest (requests_of L s)
   messages = recursion_from_All IsRequest (requests_of L s) d.carried.messages
@@ -126,13 +78,7 @@ module _ (stay : FullRepliesStay) (name : LegalRelaysNameAccepted) (journal : Li
   -- ---- Requests
 
   server_received : x.server.received ≡ d.served.served.received
-  server_received = ap (λ (t : Told). t.received) d.served.served.told
-
-  server_sent : x.server.sent ≡ d.served.served.sent
-  server_sent = ap (λ (t : Told). t.sent) d.served.served.told
-
-  server_ended : x.server.ended ≡ ended_by x.out false
-  server_ended = ap (λ (t : Told). t.ended) d.served.served.told
+  server_received = loops.received_is journal s x.out x.server x.server_faults d.served
 
   pub came : AreTaken (requests_of L s) d.served.served.received
   came =
@@ -171,17 +117,11 @@ module _ (stay : FullRepliesStay) (name : LegalRelaysNameAccepted) (journal : Li
 
   -- ---- Replies
 
-  due : due_frames d.served.after.seen answered ≡ reply_frames all
-  due =
-      due_is stay name d.served.after.base d.served.after.seen journal answered (entry_of s requests.End logged.Bye ∷ []) (session_number d.served.after)
-      d.served.served.lawful (d.served.served.just ∙ own_is) d.served.seen
-
   sent_part : IsPrefix x.server.sent (reply_frames all)
-  sent_part = subst (λ (l : List ℕ). IsPrefix l (reply_frames all)) (sym server_sent) (d.served.served.replies.0, d.served.served.replies.1 ∙ due)
+  sent_part = loops.sent_part journal s x.out x.server x.server_faults d.served stay name
 
   pub sent_whole : x.out ≢ outs.LinkFault → x.server.sent ≡ reply_frames all
-  sent_whole faultless =
-      server_sent ∙ (all_sent x.out d.served.served.received answered d.served.served.sent (due_frames d.served.after.seen answered) faultless d.served.memory d.served.served.cause ∙ due)
+  sent_whole = loops.sent_whole journal s x.out x.server x.server_faults d.served stay name
 
   no_fault : x.server_faults ≡ 0 → x.out ≢ outs.LinkFault
   no_fault none failed = let rose : 0 < x.server_faults = d.served.cause.0 failed in omega (arith, rose, none)
@@ -205,7 +145,7 @@ module _ (stay : FullRepliesStay) (name : LegalRelaysNameAccepted) (journal : Li
   pub how_ended : x.out ≢ outs.LinkFault → EndsWithStop all ⊎ TookAll x.server.ended x.server.received steps
   how_ended faultless =
       subst (λ (l : List ℕ). EndsWithStop all ⊎ TookAll x.server.ended l steps) (sym server_received)
-      (subst (λ (b : Bool). EndsWithStop all ⊎ TookAll b d.served.served.received steps) (sym server_ended) (ending x.out faultless d.served.memory d.served.served.cause))
+      (subst (λ (b : Bool). EndsWithStop all ⊎ TookAll b d.served.served.received steps) (sym (loops.ended_is journal s x.out x.server x.server_faults d.served)) (ending x.out faultless d.served.memory d.served.served.cause))
 
   pub received_part : IsPrefix x.client.received (reply_frames all)
   received_part = prefix_trans x.client.received x.server.sent (reply_frames all) d.settled.arrived.to_client.part sent_part

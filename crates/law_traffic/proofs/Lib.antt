@@ -2,6 +2,7 @@ pub mod Cuts
 pub mod Ours
 pub mod Messages
 pub mod Dues
+pub mod Loops
 pub mod Bytes
 pub mod Counted
 pub mod Owners

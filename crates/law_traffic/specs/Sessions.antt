@@ -30,17 +30,17 @@ pub record Over : Type 0 where
 abbrev pub transcript : Over → Transcript
 transcript x = transcript_of x.server x.server_faults x.client x.client_faults
 
--- The loop of session s served a new end by a new pass, and the journal has all that the pass had seen and, of this session, the pass's own
--- entries alone.
-pub record IsSessionServed (journal : List Entry) (s : ℕ) (x : Over) : Type 0 where
+-- The loop of session s, which stopped for this cause, served a new end by a new pass: the end as it is now, with its count of faults. The
+-- journal has all that the pass had seen and, of this session, the pass's own entries alone.
+pub record IsSessionServed (journal : List Entry) (s : ℕ) (out : SessionOut) (end : Told) (faults : ℕ) : Type 0 where
   pub pair : ℕ
   pub before : SessionPass
   pub after : SessionPass
   pub new : before.mine ≡ []
   pub number : session_number before ≡ s
-  pub served : Served (new_end pair Server) before x.out x.server after
-  pub cause : SessionCause 0 x.server_faults x.out
-  pub memory : x.out ≢ outs.Memory
+  pub served : Served (new_end pair Server) before out end after
+  pub cause : SessionCause 0 faults out
+  pub memory : out ≢ outs.Memory
   pub seen : IsPrefix after.seen journal
   pub just : entries_of (λ (e : Entry). e.session) s journal ≡ after.mine
 
@@ -58,6 +58,6 @@ pub record EndsMatched (L : Trace) (s : ℕ) (x : Over) : Type 0 where
 
 -- Session s of the trace is done.
 pub record IsSessionDone (journal : List Entry) (L : Trace) (s : ℕ) (x : Over) : Type 0 where
-  pub served : IsSessionServed journal s x
+  pub served : IsSessionServed journal s x.out x.server x.server_faults
   pub carried : IsCarried L s x
   pub settled : EndsMatched L s x

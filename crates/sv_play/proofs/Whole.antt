@@ -72,17 +72,45 @@ module _ {E : Type 0} where
 pub in_range : (m n : ℕ) → n < m → Contains (range_with_len 0 m) n
 in_range m n low = (n, subst (λ l. n < l) (sym (length-range_with_len 0 m)) low, get_or-range_with_len 0 m n n low ∙ zero-add n)
 
+not_memory : (out : SessionOut) → is_memory out ≡ false → out ≢ session_outs.Memory
+not_memory session_outs.Memory none same = cc
+not_memory session_outs.Left none same = cc
+not_memory session_outs.Closed none same = cc
+not_memory session_outs.Ended none same = cc
+not_memory session_outs.Malformed none same = cc
+not_memory session_outs.Spent none same = cc
+not_memory session_outs.LinkFault none same = cc
+
 module _ {E : Type 0} (told : E → Told) (faults : E → ℕ) (calm : E → Type 0) (run : Setting) where
   pub number_of : (s : ℕ) (y : Serviced E) → IsServiced told faults calm run s y → session_number y.pass ≡ s
   number_of s y h = ap (λ (o : Option ℕ). unwrap_or o 0) h.served.same.session
 
   -- The journal has, of each session, just its pass's entries.
-  pub just_at : (J : List Entry) (ys : List (Serviced E)) → EachPlace (IsServiced told faults calm run) ys → AreJust (λ (e : Entry). e.session) J (map own_of ys) →
+  just_at : (J : List Entry) (ys : List (Serviced E)) → EachPlace (IsServiced told faults calm run) ys → AreJust (λ (e : Entry). e.session) J (map own_of ys) →
       (s : ℕ) (y : Serviced E) → slice_get ys s ≡ Some y → entries_of (λ (e : Entry). e.session) s J ≡ y.pass.mine
   just_at J ys served just s y e =
       let own = each-at (λ (x : ℕ × List Entry). entries_of (λ (e : Entry). e.session) x.0 J ≡ x.1) (map own_of ys) s (own_of y)
       (recursion_from_All (λ (x : ℕ × List Entry). entries_of (λ (e : Entry). e.session) x.0 J ≡ x.1) (map own_of ys) just) (map_at own_of ys s y e) in
       subst (λ n. entries_of (λ (e : Entry). e.session) n J ≡ y.pass.mine) (number_of s y (served s y e)) own
+
+  -- Where all had memory, each session was served by its loop.
+  pub session_served : (J : List Entry) (ys : List (Serviced E)) → EachPlace (IsServiced told faults calm run) ys → AllByRecursion (λ (y : Serviced E). is_memory y.out ≡ false) ys →
+      AllByRecursion (λ (y : Serviced E). IsPrefix y.pass.seen J) ys → AreJust (λ (e : Entry). e.session) J (map own_of ys) →
+      (s : ℕ) (y : Serviced E) → slice_get ys s ≡ Some y → IsSessionServed J s y.out (told y.end) (faults y.end)
+  session_served J ys served with_memory seen just s y e =
+      let h = served s y e in
+      record {
+        pair = run.pairs + s;
+        before = pass_of s run.lock run.scenario;
+        after = y.pass;
+        new = refl;
+        number = refl;
+        served = h.served;
+        cause = h.cause;
+        memory = not_memory y.out (each-at (λ (x : Serviced E). is_memory x.out ≡ false) ys s y with_memory e);
+        seen = each-at (λ (x : Serviced E). IsPrefix x.pass.seen J) ys s y seen e;
+        just = just_at J ys served just s y e;
+      }
 
   -- ---- The run
 
@@ -103,31 +131,6 @@ module _ {E : Type 0} (told : E → Told) (faults : E → ℕ) (calm : E → Typ
 
     abbrev Ls : List Trace
     Ls = map (λ (y : PlayerOut E). y.trace) ps
-
-    memory_not : (out : SessionOut) → is_memory out ≡ false → out ≢ session_outs.Memory
-    memory_not session_outs.Memory none same = cc
-    memory_not session_outs.Left none same = cc
-    memory_not session_outs.Closed none same = cc
-    memory_not session_outs.Ended none same = cc
-    memory_not session_outs.Malformed none same = cc
-    memory_not session_outs.Spent none same = cc
-    memory_not session_outs.LinkFault none same = cc
-
-    is_served : (s : ℕ) (y : Serviced E) (z : ClientEnd E) → slice_get ys s ≡ Some y → IsSessionServed J s (over_of told faults y z)
-    is_served s y z e =
-        let h = served s y e in
-        record {
-          pair = run.pairs + s;
-          before = pass_of s run.lock run.scenario;
-          after = y.pass;
-          new = refl;
-          number = refl;
-          served = h.served;
-          cause = h.cause;
-          memory = memory_not y.out (each-at (λ (x : Serviced E). is_memory x.out ≡ false) ys s y served_with e);
-          seen = each-at (λ (x : Serviced E). IsPrefix x.pass.seen J) ys s y seen e;
-          just = just_at J ys served just s y e;
-        }
 
     -- ---- One client
 
@@ -230,7 +233,7 @@ module _ {E : Type 0} (told : E → Told) (faults : E → ℕ) (calm : E → Typ
             (
               overs_at told faults ys ends (s + j) t.server z t.server_at t.client_at,
               record {
-                served = is_served (s + j) t.server z t.server_at;
+                served = session_served J ys served served_with seen just (s + j) t.server t.server_at;
                 carried = record { sent = d.whole whole; messages = d.messages whole; rest = d.rest; received = d.received };
                 settled =
                     record {

@@ -1,37 +1,36 @@
 -- All sessions of a scenario that were served.
-use Rattle.std.proofs.Common.{◌≡◌, ◌≢◌, ℕ, ◌+◌, ◌<◌, ◌≤◌, false, List, [], ◌∷◌, ◌++◌, length, reverse, slice_get, Some, refl, ap, subst, ◌∙◌, arith}
+use Rattle.std.proofs.Common.{◌≡◌, ℕ, ◌+◌, ◌<◌, ◌≤◌, false, List, [], ◌∷◌, ◌++◌, length, reverse, slice_get, Some, ap, subst, ◌∙◌, arith}
 use Rattle.std.specs.List.{AllByRecursion, AllZip}
 use Rattle.std.proofs.lemmas.List.{length-map}
 use Rattle.std.proofs.lemmas.List.Elements.{All-from_recursion, recursion_from_All}
 use Rattle.std.proofs.lemmas.Option.{slice_get_within}
 use Rattle.std.proofs.lemmas.Slice.Zip.{AllZip-long}
-use mathlib.Core.List.{IsPrefix}
 use Rattle.sv_link.specs.Ends.{Told}
 use Rattle.sv_journal.specs.declared.entry.Entry.{Entry}
 use Rattle.sv_journal.specs.Laws.{FullRepliesStay, LegalRelaysNameAccepted}
 use Rattle.sv_scenario.specs.Sessions.{session_count}
 use Rattle.sv_session.specs.Serving.{SessionPass}
-use Rattle.sv_session.specs.declared.outcome.SessionOut.{SessionOut}
-use Rattle.sv_session.specs.declared.outcome.SessionOut.TheVariants as outs
-use Rattle.sv_system.proofs.Every.{each-at, each-reverse}
+use Rattle.sv_system.proofs.Every.{each-reverse}
 use Rattle.sv_system.specs.Places.{EachPlace}
 use Rattle.sv_system.proofs.Places.{each_all, at_place, unmap_at}
 use Rattle.law_traffic.specs.Runs.{IsGoodRun}
 use Rattle.sv_play.specs.declared.tasks.Service.{Service}
 use Rattle.sv_play.specs.declared.tasks.Serviced.{Serviced}
 use Rattle.sv_play.specs.Tasks.{WasServed}
-use Rattle.sv_play.specs.Given.{Setting, keeper_after, pass_of, IsService}
+use Rattle.sv_play.specs.Given.{Setting, keeper_after, IsService}
 use Rattle.sv_play.specs.Left.{is_memory, IsOfLock, JoinedPasses, IsServiced}
 use Rattle.sv_play.specs.Moved.{Moved}
 use Rattle.sv_play.specs.Playing.{TookAllIn}
 use Rattle.sv_play.proofs.Leaving.{served_left, all_of_lock}
-use Rattle.sv_play.proofs.Whole.{just_at}
+use Rattle.sv_play.proofs.Whole.{session_served}
 use Rattle.sv_play.proofs.Keepers.{just_of, below_of, legal_of, all_taken_in}
 use Rattle.sv_door.specs.Doors.{Passage}
+use Rattle.law_traffic.specs.Sessions.{IsSessionServed}
+use Rattle.law_traffic.proofs.Loops.{ends_are}
 use Rattle.sv_serve.specs.Giving.{passage_kept, kept_served, IsUnservedOf, IsServedOf}
 use Rattle.sv_serve.specs.Passages.{IsPassageOf}
 use Rattle.sv_serve.specs.Hosting.{IsHosted}
-use Rattle.sv_serve.proofs.Passages.{WasHosted, passage_is, one_end_is}
+use Rattle.sv_serve.proofs.Passages.{passage_is}
 
 -- What a fact of a place and its bound gives of all.
 each_within : {X : Type 0} (P : ℕ → X → Type 0) (Q : X → Type 0) (xs : List X) → EachPlace P xs → ((k : ℕ) (x : X) → k < length xs → P k x → Q x) → AllByRecursion Q xs
@@ -44,15 +43,6 @@ module _ {E G : Type 0} (told : E → Told) (faults : E → ℕ) (calm : E → T
   unserved_own xs services made most =
       each_within (IsService told faults calm run) (IsUnservedOf told made) xs services
       (λ k x low service. let pair = ap (λ (t : Told). t.pair) service.end.told_is in omega (arith, most, low, pair))
-
-not_memory : (out : SessionOut) → is_memory out ≡ false → out ≢ outs.Memory
-not_memory outs.Memory none same = cc
-not_memory outs.Left none same = cc
-not_memory outs.Closed none same = cc
-not_memory outs.Ended none same = cc
-not_memory outs.Malformed none same = cc
-not_memory outs.Spent none same = cc
-not_memory outs.LinkFault none same = cc
 
 module _ {E G : Type 0} (told : E → Told) (faults : E → ℕ) (calm : E → Type 0) (run : Setting) (xs : List (Service E G)) (ys : List (Serviced E))
     (count : length xs ≡ session_count run.scenario) (services : EachPlace (IsService told faults calm run) xs) (kept : AllZip (WasServed told faults calm) xs ys) where
@@ -75,26 +65,13 @@ module _ {E G : Type 0} (told : E → Told) (faults : E → ℕ) (calm : E → T
     took_all = all_taken_in told faults calm run ys served all_served k joined good
 
     module _ (stay : FullRepliesStay) (name : LegalRelaysNameAccepted) (with_memory : AllByRecursion (λ (y : Serviced E). is_memory y.out ≡ false) ys) where
-      was_hosted : (s : ℕ) (y : Serviced E) → slice_get ys s ≡ Some y → WasHosted k.seen s y.out (told y.end) (faults y.end)
-      was_hosted s y e =
-          let h = served s y e in
-          record {
-            pair = run.pairs + s;
-            before = pass_of s run.lock run.scenario;
-            after = y.pass;
-            new = refl;
-            number = refl;
-            served = h.served;
-            cause = h.cause;
-            memory = not_memory y.out (each-at (λ (x : Serviced E). is_memory x.out ≡ false) ys s y with_memory e);
-            seen = each-at (λ (x : Serviced E). IsPrefix x.pass.seen k.seen) ys s y joined.seen e;
-            just = just_at told faults calm run k.seen ys served (just_of told faults calm run ys served all_served k joined good) s y e;
-          }
+      was_served : (s : ℕ) (y : Serviced E) → slice_get ys s ≡ Some y → IsSessionServed k.seen s y.out (told y.end) (faults y.end)
+      was_served = session_served told faults calm run k.seen ys served with_memory joined.seen (just_of told faults calm run ys served all_served k joined good)
 
       each_passage : EachPlace (IsPassageOf (reverse k.seen)) (kept_served told faults ys)
       each_passage s x e =
           let y = unmap_at (λ (y : Serviced E). passage_kept told faults y.end) ys s x e in
-          subst (IsPassageOf (reverse k.seen) s) y.2 (passage_is stay name k.seen s y.0.out (told y.0.end) (faults y.0.end) (was_hosted s y.0 y.1))
+          subst (IsPassageOf (reverse k.seen) s) y.2 (passage_is stay name k.seen s y.0.out (told y.0.end) (faults y.0.end) (was_served s y.0 y.1))
 
       pub hosted : (m : Moved Passage) → m.kept_now ≡ m.kept_before ++ kept_served told faults ys → m.ran_now ≡ m.ran_before ++ length xs ∷ [] → IsHosted run.scenario (reverse k.seen) m
       hosted m given ran =
@@ -105,7 +82,7 @@ module _ {E G : Type 0} (told : E → Told) (faults : E → ℕ) (calm : E → T
                 All-from_recursion P (reverse k.seen) (each-reverse P k.seen (recursion_from_All P k.seen (below_of told faults calm run ys served all_served k joined good)));
             ended = λ s low.
                 let y = at_place ys s (omega (arith, low, all_served)) in
-                one_end_is stay name k.seen s y.0.out (told y.0.end) (faults y.0.end) (was_hosted s y.0 y.1);
+                ends_are k.seen s y.0.out (told y.0.end) (faults y.0.end) (was_served s y.0 y.1);
             passages = kept_served told faults ys;
             given = given;
             count = length-map ys (λ (y : Serviced E). passage_kept told faults y.end) ∙ all_served;
