@@ -1,7 +1,6 @@
 //! Runs on threads, and how they are told.
 ghost use Rattle.std.specs.Prelude.{◌≡◌, ◌++◌, reverse, codes, string_bytes, IfOk, Err};
 ghost use Rattle.std.specs.Fmt.{decimal};
-ghost use Rattle.sv_watch.specs.Told.{change_line};
 ghost use Rattle.sv_scenario.specs.Limits.{IsGoodScenario};
 ghost use Rattle.sv_play.specs.Moved.{moved};
 ghost use Rattle.sv_play.specs.Playing.{PlayCause};
@@ -43,12 +42,7 @@ pub(crate) fn run_on_threads<N: Net, C: Crew, G: Gate + Sync, R: Threads + Wait 
 {
     let alloc = stage.alloc;
     let shape = scenario.world.shape;
-    let callback = Box::new(
-        alloc,
-        move |change: &Change| -> Result<Line, AllocError>
-            ensures { IfOk result (λ line. line ≡ change_line change.now) }
-        { told_line(alloc, change) },
-    )?;
+    let callback = Box::new(alloc, move |change: &Change| told_line(alloc, change))?;
     let watch = Watch::new(shape, callback);
     let sequencer = open_sequencer(alloc, scenario)?;
     let (lock, mut keeper) = lock_sequencer(alloc, scenario, sequencer)?;

@@ -3,7 +3,6 @@ ghost use Rattle.std.specs.Prelude.{◌≡◌, ◌≢◌, ℕ, ◌+◌, ◌<◌,
 ghost use Rattle.std.specs.List.{AllByRecursion};
 ghost use Rattle.std.specs.Vec.{vec_capacity};
 ghost use Rattle.sv_world.specs.Limits.{most_clients};
-ghost use Rattle.sv_watch.specs.Told.{change_line};
 ghost use Rattle.sv_client.specs.Seen.{new_client};
 ghost use Rattle.sv_scenario.specs.Limits.{IsGoodPlan, IsGoodScenario};
 ghost use Rattle.sv_scenario.specs.Sessions.{sessions_of_plan};
@@ -151,12 +150,7 @@ pub(crate) fn join_as<D: Door>(
     let shape = scenario.world.shape;
     let plan = &scenario.clients.as_slice()[number as usize];
     let client = open_client(alloc, shape, number, plan)?;
-    let callback = Box::new(
-        alloc,
-        move |change: &Change| -> Result<Line, AllocError>
-            ensures { IfOk result (λ line. line ≡ change_line change.now) }
-        { told_line(alloc, change) },
-    )?;
+    let callback = Box::new(alloc, move |change: &Change| told_line(alloc, change))?;
     let watch = Watch::new(shape, callback);
     play_over(alloc, seat, client, &watch, door)
 }

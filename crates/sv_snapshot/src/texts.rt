@@ -26,12 +26,7 @@ fn lines_of(alloc: Global, shape: Shape, snapshots: &[Snapshot]) -> Result<Vec<L
     requires { All (IsShaped shape) snapshots.now }
     ensures { IfOk result (λ lines. lines.items ≡ map look_line snapshots.now) }
 {
-    let callback = Box::new(
-        alloc,
-        move |snapshot: &Snapshot| -> Result<Line, AllocError>
-            ensures { IfOk result (λ line. line ≡ look_line snapshot.now) }
-        { look_line(alloc, snapshot) },
-    )?;
+    let callback = Box::new(alloc, move |snapshot: &Snapshot| look_line(alloc, snapshot))?;
     let looker = Looker::new(shape, callback);
     let mut lines = Vec::new(alloc);
     looker.tell(snapshots, &mut lines)?;

@@ -1,6 +1,6 @@
 //! Tests of the callbacks that are told of changes.
 ghost use Rattle.std.specs.Prelude.{◌≡◌, IfOk, All};
-ghost use Rattle.sv_watch.specs.Told.{change_line, HasLength, IsChangeIn};
+ghost use Rattle.sv_watch.specs.Told.{HasLength, IsChangeIn};
 
 use std::alloc::{AllocError, Global};
 use std::test::Fail;
@@ -44,12 +44,7 @@ fn is_shared<T: Sync>(_value: &T) -> bool {
 fn told(alloc: Global, changes: &[Change]) -> Result<Vec<Line>, AllocError>
     requires { All (IsChangeIn (record { objects = 1; attrs = 1 })) changes.now }
 {
-    let callback = Box::new(
-        alloc,
-        move |change: &Change| -> Result<Line, AllocError>
-            ensures { IfOk result (λ line. line ≡ change_line change.now) }
-        { told_line(alloc, change) },
-    )?;
+    let callback = Box::new(alloc, move |change: &Change| told_line(alloc, change))?;
     let shape = Shape {
         objects: 1,
         attrs: 1,
