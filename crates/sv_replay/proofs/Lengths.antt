@@ -2,7 +2,7 @@
 use Rattle.std.proofs.Common.{◌≡◌, ℕ, zero, suc, ◌+◌, ◌*◌, ◌<◌, ◌≤◌, Bool, true, false, ◌&&◌, ◌||◌, ◌==◌, not, inl, inr, List, [], ◌∷◌, ◌++◌, length, Some, slice_get, refl, sym, ap, ◌∙◌, arith, eqb-true, eq-eqb, true≢false}
 use Rattle.std.specs.Prelude.{if◌then◌else◌}
 use Rattle.std.specs.List.{list_any, AllByRecursion}
-use Rattle.std.proofs.lemmas.Bool.{cases_Bool, cases_eq, cond_both, cond-true, cond-false, or_cases}
+use Rattle.std.proofs.lemmas.Bool.{cases_Bool, cases_eq, cond_both, cond-true, cond-false, or_cases, or_parts}
 use Rattle.std.proofs.lemmas.List.{length-append}
 use Rattle.std.proofs.lemmas.List.Elements.{recursion_from_All}
 use Rattle.std.proofs.lemmas.Option.{slice_get_within}
@@ -75,11 +75,7 @@ running_parts e h s f is = go (is_end e.request) (is_ended h s) (sym (ap (λ (b 
     go false false e = (refl, refl)
 
 running_rest : (e : Entry) (h : List Entry) (s : ℕ) → is_ended (e ∷ h) s ≡ false → is_ended h s ≡ false
-running_rest e h s f = go (e.session == s && is_end e.request) (is_ended h s) f
-  where
-    go : (a b : Bool) → (a || b) ≡ false → b ≡ false
-    go true b e = cc
-    go false b e = e
+running_rest e h s f = (or_parts (e.session == s && is_end e.request) (is_ended h s) f).1
 
 one_more : (e : Entry) (h : List Entry) (s : ℕ) → e.session ≡ s → is_end e.request ≡ false → length (requests_in (e ∷ h) s) ≡ length (requests_in h s) + 1
 one_more e h s is f =

@@ -1,5 +1,5 @@
 -- A core's fields once results are noted and installed.
-use Rattle.std.proofs.Common.{◌≡◌, ℕ, zero, suc, ◌<◌, ◌≤◌, Bool, true, false, List, [], ◌∷◌, length, All, Option, ℤ, Some, None, is_some, slice_get, refl, sym, ◌∙◌, ap, subst, arith}
+use Rattle.std.proofs.Common.{◌≡◌, ℕ, suc, ◌<◌, ◌≤◌, true, false, List, [], ◌∷◌, length, All, Option, ℤ, Some, None, is_some, slice_get, refl, sym, ◌∙◌, ap, subst, arith}
 use Rattle.std.proofs.lemmas.Bool.{both_ways, ne_eqb}
 use Rattle.sv_world.specs.Control.{is_in}
 use Rattle.sv_wire.specs.declared.message.Done1.{Done1}
@@ -21,7 +21,7 @@ use Rattle.sv_sequencer.proofs.AgreeSteps.{sent-quiet, named-quiet, life-quiet, 
 use Rattle.sv_sequencer.proofs.FitInstalls.{fits-installed, installed-commit}
 use Rattle.sv_sequencer.proofs.FitMarks.{fits-same}
 use Rattle.sv_sequencer.proofs.FitReports.{fits-reports, commit-reports}
-use Rattle.sv_sequencer.proofs.HistorySteps.{accepted-quiet, outcomes-quiet, run_length-is, run_length-passes}
+use Rattle.sv_sequencer.proofs.HistorySteps.{accepted-quiet, outcomes-quiet, run_length-is, run_length-passes, run_length-ext}
 use Rattle.sv_sequencer.proofs.SoundSteps.{all_left-falls, owed-same, sound-next}
 
 -- Of results at positions up to a number, none is for a later one.
@@ -77,13 +77,9 @@ noted r h v e c ds is asks low at sound f = (fitted, (commit, rises))
         × ((ready_installed w).commit < length (accepted h) → is_some (R (suc (ready_installed w).commit)) ≡ false)))
     facts = installed-commit r.world (accepted h) R (sent_to h) (named_to h) w.shape w.commit w.committed w.entries w.given done kept
 
-    run_same : (f g : ℕ → Bool) (n : ℕ) → ((p : ℕ) → f p ≡ g p) → run_length f n ≡ run_length g n
-    run_same f g zero q = refl
-    run_same f g (suc n) q = rw (run_same f g n q, q (suc n)) refl
-
     commit : (ready_installed w).commit ≡ commit_of (e ∷ h)
     commit = sym (ap (run_length (λ p. is_some (result_at (e ∷ h) p))) (ap length same)
-        ∙ run_same (λ p. is_some (result_at (e ∷ h) p)) (λ p. is_some (R p)) (length (accepted h)) (λ p. ap is_some (sym (results p)))
+        ∙ run_length-ext (λ p. is_some (result_at (e ∷ h) p)) (λ p. is_some (R p)) (length (accepted h)) (λ p. ap is_some (sym (results p)))
         ∙ run_length-is (λ p. is_some (R p)) (length (accepted h)) (ready_installed w).commit facts.1.0 facts.1.1.0 facts.1.1.1)
 
     rises : commit_of h ≤ commit_of (e ∷ h)

@@ -1,5 +1,5 @@
 -- A core's fields once positions are sent to a session, and once one begins.
-use Rattle.std.proofs.Common.{◌≡◌, ℕ, zero, suc, ◌+◌, ◌<◌, Bool, true, false, ◌&&◌, cond, nat_eq, max, List, [], ◌∷◌, ◌++◌, map, length, All, is_some, slice_get, refl, sym, ◌∙◌, ap, subst, arith, length-append}
+use Rattle.std.proofs.Common.{◌≡◌, ℕ, suc, ◌+◌, ◌<◌, Bool, true, false, ◌&&◌, cond, nat_eq, max, List, [], ◌∷◌, ◌++◌, map, length, All, is_some, slice_get, refl, sym, ◌∙◌, ap, subst, arith, length-append}
 use Rattle.std.proofs.lemmas.Bool.{both_ways, cond_both, cond-false, eqb-true, and_right}
 use Rattle.sv_world.specs.Control.{is_in}
 use Rattle.sv_world.proofs.Members.{is_in-one}
@@ -26,7 +26,7 @@ use Rattle.sv_sequencer.proofs.AgreeNext.{settled_row, client-next, settles-next
 use Rattle.sv_sequencer.proofs.AgreeSteps.{sent-quiet, commit-same, life-quiet, AreAfter, rows-next}
 use Rattle.sv_sequencer.proofs.FitMarks.{sent_also, named_also, fits-same, fits-marked, fits-given, commit-marked}
 use Rattle.sv_sequencer.proofs.FitPush.{fits-pushed}
-use Rattle.sv_sequencer.proofs.HistorySteps.{accepted-quiet, accepted-old, accepted-next, authored_by, outcomes-quiet, outcomes-old, result-quiet}
+use Rattle.sv_sequencer.proofs.HistorySteps.{accepted-quiet, accepted-old, accepted-next, authored_by, outcomes-quiet, outcomes-old, result-quiet, run_length-ext}
 use Rattle.sv_sequencer.proofs.SoundSteps.{all_left-falls, all_left-takes, owed-same, sound-next}
 
 pub commit-given : (v : QueueView) (head : List Held) (s : ℕ) → (given_all v head s).commit ≡ v.commit
@@ -139,14 +139,10 @@ agree-accept r h v old next clients after owed s request k seq c m head ps at la
     results : (p : ℕ) → result_at (e ∷ h) p ≡ result_at h p
     results p = result-quiet e h p refl
 
-    run_same : (f g : ℕ → Bool) (n : ℕ) → ((p : ℕ) → f p ≡ g p) → run_length f n ≡ run_length g n
-    run_same f g zero q = refl
-    run_same f g (suc n) q = rw (run_same f g n q, q (suc n)) refl
-
     commit : commit_of (e ∷ h) ≡ commit_of h
     commit =
         ap (run_length (λ p. is_some (result_at (e ∷ h) p))) (let n : length (accepted (e ∷ h)) ≡ suc (length (accepted h)) = omega (arith, longer) in n)
-        ∙ run_same (λ p. is_some (result_at (e ∷ h) p)) (λ p. is_some (result_at h p)) (suc (length (accepted h))) (λ p. ap is_some (results p))
+        ∙ run_length-ext (λ p. is_some (result_at (e ∷ h) p)) (λ p. is_some (result_at h p)) (suc (length (accepted h))) (λ p. ap is_some (results p))
         ∙ cond-false (nat_eq (run_length (λ p. is_some (result_at h p)) (length (accepted h))) (length (accepted h)) && is_some (result_at h (suc (length (accepted h)))))
         (suc (length (accepted h))) (run_length (λ p. is_some (result_at h p)) (length (accepted h)))
         (and_right (nat_eq (run_length (λ p. is_some (result_at h p)) (length (accepted h))) (length (accepted h))) (is_some (result_at h (suc (length (accepted h)))))

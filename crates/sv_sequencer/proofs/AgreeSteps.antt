@@ -1,5 +1,5 @@
 -- A core's fields against a history with one more entry.
-use Rattle.std.proofs.Common.{◌≡◌, ℕ, zero, suc, ◌<◌, Bool, true, false, ◌&&◌, cond, nat_eq, max, List, [], ◌∷◌, ◌++◌, length, get_or, is_some, slice_get, refl, sym, ◌∙◌, ap, subst, arith, append-nil}
+use Rattle.std.proofs.Common.{◌≡◌, ℕ, ◌<◌, Bool, true, false, ◌&&◌, cond, nat_eq, max, List, [], ◌∷◌, ◌++◌, length, get_or, is_some, slice_get, refl, sym, ◌∙◌, ap, subst, arith, append-nil}
 use Rattle.std.proofs.lemmas.Bool.{both_ways}
 use Rattle.sv_world.specs.Control.{is_in}
 use Rattle.sv_wire.specs.declared.message.Request.{Request}
@@ -17,7 +17,7 @@ use Rattle.sv_sequencer.specs.Fits.{QueueFits}
 use Rattle.sv_sequencer.specs.Rows.{no_session, session_after, IsSessionRow}
 use Rattle.sv_sequencer.specs.Step.{entry_of}
 use Rattle.sv_sequencer.proofs.FitMarks.{fits-same}
-use Rattle.sv_sequencer.proofs.HistorySteps.{accepted-quiet, result-quiet}
+use Rattle.sv_sequencer.proofs.HistorySteps.{accepted-quiet, result-quiet, run_length-ext}
 use Rattle.sv_sequencer.proofs.SoundSteps.{row-next, all_left-falls, sound-next}
 
 pub sent-quiet : (e : Entry) (h : List Entry) (s : ℕ) → positions_in e.reply ≡ [] → sent_to h s ≡ sent_to (e ∷ h) s
@@ -33,10 +33,6 @@ named-quiet e h s x q = go (nat_eq e.session s)
     go : (b : Bool) → named_to h s x ≡ cond b (named_to h s x ++ named_in e.reply x) (named_to h s x)
     go true = sym (ap (λ xs. named_to h s x ++ xs) q ∙ append-nil (named_to h s x))
     go false = refl
-
-run_length-ext : (f g : ℕ → Bool) (n : ℕ) → ((p : ℕ) → f p ≡ g p) → run_length f n ≡ run_length g n
-run_length-ext f g zero same = refl
-run_length-ext f g (suc n) same = rw (run_length-ext f g n same, same (suc n)) refl
 
 pub commit-same : (e : Entry) (h : List Entry) → accepted (e ∷ h) ≡ accepted h → ((p : ℕ) → result_at (e ∷ h) p ≡ result_at h p) → commit_of (e ∷ h) ≡ commit_of h
 commit-same e h same results =

@@ -1,9 +1,10 @@
 -- What one more entry makes of what a history says.
 use Rattle.std.proofs.Common.{◌≡◌, ℕ, zero, suc, ◌<◌, ◌≤◌, Bool, true, false, ◌&&◌, cond, nat_eq, ◌⊎◌, inl, inr, List, [], ◌∷◌, ◌++◌, length, Option, ℤ, Some, None, refl, sym, ◌∙◌, ap, subst, arith, append-nil}
-use Rattle.std.proofs.lemmas.Bool.{cases_eq, eq-eqb, eqb-true, ne_eqb, cond-true, cond-false, cond_both, and_right, both_ways}
+use Rattle.std.proofs.lemmas.Bool.{cases_eq, eq-eqb, eqb-true, ne_eqb, cond-true, cond-false, and_right, both_ways}
 use Rattle.sv_wire.specs.declared.message.Request.{Request}
 use Rattle.sv_journal.specs.declared.entry.Entry.{Entry}
 use Rattle.sv_journal.specs.History.{Authored, either, is_relay, is_noted, is_client, is_submit_of, outcome_in, new_action, client_of, outcomes_of, accepted, next_seq, result_at, run_length, installed, actions_of, reports}
+use Rattle.sv_journal.proofs.Commits.{run_within}
 use Rattle.sv_sequencer.specs.Decisions.{IsOld, IsNextSubmit, action_in}
 use Rattle.sv_sequencer.specs.Fits.{actions_in, values_after}
 
@@ -78,11 +79,10 @@ either-nothing None = refl
 pub result-quiet : (e : Entry) (h : List Entry) (p : ℕ) → is_noted e.reply ≡ false → result_at (e ∷ h) p ≡ result_at h p
 result-quiet e h p q = ap (λ b. either (result_at h p) (cond b (reports p e.request) None)) q ∙ either-nothing (result_at h p)
 
-pub run_length-most : (test : ℕ → Bool) (n : ℕ) → run_length test n ≤ n
-run_length-most test zero = omega arith
-run_length-most test (suc n) =
-    let less = run_length-most test n in
-    cond_both (nat_eq (run_length test n) n && test (suc n)) (suc n) (run_length test n) (λ m. m ≤ suc n) (λ e. omega arith) (λ e. omega arith)
+-- Tests that agree pass as far.
+pub run_length-ext : (f g : ℕ → Bool) (n : ℕ) → ((p : ℕ) → f p ≡ g p) → run_length f n ≡ run_length g n
+run_length-ext f g zero same = refl
+run_length-ext f g (suc n) same = rw (run_length-ext f g n same, same (suc n)) refl
 
 -- The number up to which all pass a test, and the next one does not, is the length of the run.
 pub run_length-is : (test : ℕ → Bool) (n c : ℕ) → c ≤ n → ((p : ℕ) → 0 < p → p ≤ c → test p ≡ true) → (c < n → test (suc c) ≡ false) → run_length test n ≡ c
@@ -111,7 +111,7 @@ run_length-passes test (suc n) p low high = go (nat_eq (run_length test n) n) re
 
 pub run_length-stops : (test : ℕ → Bool) (n : ℕ) → run_length test n < n → test (suc (run_length test n)) ≡ false
 run_length-stops test zero low = absurd (omega arith)
-run_length-stops test (suc n) low = go (nat_eq (run_length test n) n) refl (test (suc n)) refl low (run_length-stops test n) (run_length-most test n)
+run_length-stops test (suc n) low = go (nat_eq (run_length test n) n) refl (test (suc n)) refl low (run_length-stops test n) (run_within test n)
   where
     go : (b : Bool) → nat_eq (run_length test n) n ≡ b → (d : Bool) → test (suc n) ≡ d → cond (b && d) (suc n) (run_length test n) < suc n →
         (run_length test n < n → test (suc (run_length test n)) ≡ false) → run_length test n ≤ n → test (suc (cond (b && d) (suc n) (run_length test n))) ≡ false

@@ -23,11 +23,12 @@ use Rattle.sv_journal.specs.Serving.{is_poll, with_last_rows, noted_after, polle
 use Rattle.sv_sequencer.specs.declared.decision.Decision.{Decision}
 use Rattle.sv_sequencer.specs.declared.decision.Decision.TheVariants as decisions
 use Rattle.sv_sequencer.specs.Decisions.{reply_by, results_in, IsOld, Holds}
+use Rattle.sv_sequencer.proofs.Kept.{old-poll}
 use Rattle.sv_system.proofs.Aligned.{is_submit}
 use Rattle.sv_witness.specs.Reports.{agreed_history, due_to}
 use Rattle.sv_witness.specs.Standing.{emptied, answers_poll, first_relay}
 use Rattle.sv_witness.specs.Witnessed.{agreed, witnessed_reply}
-use Rattle.sv_witness.proofs.Routes.{IsPlain, plain-reply, plain-quiet, noted-may, due-uncommitted, poll-old}
+use Rattle.sv_witness.proofs.Routes.{IsPlain, plain-reply, plain-quiet, noted-may, due-uncommitted}
 use Rattle.sv_witness.proofs.Same.{accepted-agreed}
 use Rattle.sv_witness.proofs.Steps.{poll-none, poll-some}
 use Rattle.sv_witness.proofs.Forms.{polled-quiet}
@@ -261,7 +262,7 @@ module _ (r : Rules) (h : List Entry) (s : ℕ) where
   due-holds [] is = tt
   due-holds (p ∷ ps) is =
       let open_still = due-uncommitted h s p ps is in
-      (poll-old (agreed_history h) s, (open_still.0, subst (λ (A : List Authored). p ≤ length A) (sym (accepted-agreed h)) open_still.1))
+      (old-poll (agreed_history h) s, (open_still.0, subst (λ (A : List Authored). p ≤ length A) (sym (accepted-agreed h)) open_still.1))
 
   due-reply : (ps : List ℕ) → due_to h s ≡ ps → reply_by r (agreed_history h) s requests.Poll (first_relay ps) ≡ polled_after agreed r h s
   due-reply [] is = sym (poll-none r h s is)

@@ -1,8 +1,7 @@
 -- What the decisions by the history of what was agreed are to a witnessing server, and which entries that history has of them.
-use Rattle.std.proofs.Common.{◌≡◌, ℕ, suc, ◌<◌, ◌≤◌, Bool, true, false, ◌&&◌, not, ◌==◌, nat_eq, nat_lt, nat_le, List, [], ◌∷◌, filter, length, Option, Some, None, is_some, is_none, refl, sym, ap, ◌∙◌, arith, true≢false}
+use Rattle.std.proofs.Common.{◌≡◌, ℕ, suc, ◌<◌, ◌≤◌, Bool, true, false, ◌&&◌, not, nat_eq, nat_lt, nat_le, List, [], ◌∷◌, filter, length, Option, Some, None, is_some, is_none, refl, sym, ap, ◌∙◌, arith, true≢false}
 use Rattle.std.specs.Prelude.{if◌then◌else◌}
 use Rattle.std.proofs.lemmas.Bool.{cond-false, and_parts, ltb-true, or_left, or_right, eq-eqb}
-use mathlib.Core.Bool.{and-false}
 use Rattle.sv_world.specs.Control.{is_in, below}
 use Rattle.sv_world.specs.Limits.{most_requests}
 use Rattle.sv_world.proofs.Bases.{below-is_in}
@@ -12,12 +11,12 @@ use Rattle.sv_wire.specs.declared.message.Request.TheVariants as requests
 use Rattle.sv_wire.specs.declared.refusal.Refusal.TheVariants as refusals
 use Rattle.sv_journal.specs.declared.entry.Entry.{Entry}
 use Rattle.sv_journal.specs.declared.entry.Logged.TheVariants as logged
-use Rattle.sv_journal.specs.History.{is_noted, client_of, is_client, is_submit_of, new_action, next_seq, accepted, reports}
+use Rattle.sv_journal.specs.History.{is_noted, client_of, accepted, reports}
 use Rattle.sv_journal.specs.Sessions.{is_over, asked_in, sent_to}
 use Rattle.sv_journal.specs.Answer.{Rules, refused_as, is_bad_done, commit_with, reply_to_member, reply_to_request}
 use Rattle.sv_sequencer.specs.declared.decision.Decision.{Decision}
 use Rattle.sv_sequencer.specs.declared.decision.Decision.TheVariants as decisions
-use Rattle.sv_sequencer.specs.Decisions.{reply_by, IsOld}
+use Rattle.sv_sequencer.specs.Decisions.{reply_by}
 use Rattle.sv_witness.specs.declared.report.Report.{Report}
 use Rattle.sv_witness.specs.Reports.{has_reported, counted_in, agreed_values, brings_agreement, reports_of, agreed_history, agreed_result, agreed_commit, is_due, due_to}
 use Rattle.sv_journal.specs.Serving.{is_poll, with_last_rows, with_results}
@@ -132,14 +131,3 @@ due-uncommitted h s p rest is =
     let b = and_parts (nat_lt (agreed_commit h) p && is_none (agreed_result h p)) (not (is_in p (sent_to h s))) a.0 in
     let c = and_parts (nat_lt (agreed_commit h) p) (is_none (agreed_result h p)) b.0 in
     (ltb-true (agreed_commit h) p c.0, omega arith)
-
-pub poll-old : (h : List Entry) (s : ℕ) → IsOld h s requests.Poll
-poll-old h s = record { accepts = accepts (client_of h s); outcomes = outcomes (client_of h s) }
-  where
-    accepts : (o : Option ℕ) → new_action o (next_seq h) requests.Poll ≡ []
-    accepts None = refl
-    accepts (Some k) = refl
-
-    outcomes : (o : Option ℕ) (k : ℕ) → (is_client o k && is_submit_of requests.Poll (next_seq h k)) ≡ false
-    outcomes None k = refl
-    outcomes (Some j) k = and-false (j == k)
