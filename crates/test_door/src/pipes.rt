@@ -14,11 +14,8 @@ fn meets_on_threads(rt: HostRuntime) -> Result<(), Fail> {
         let at_server = PipeDoor::new(rt.alloc(), &rt, PORT)?;
         let at_client = at_server.another()?;
         let delays = Delays { server, client };
-        let heard = meet_twice(&rt, at_server, at_client, PORT, delays)?;
-        assert!(&rt;
-            heard == ([Some(1), Some(2)], [Some(11), Some(12)]),
-            "{server} {client}"
-        );
+        let met = meet_twice(&rt, at_server, at_client, PORT, delays)?;
+        assert!(&rt; met, "{server} {client}");
     }
     Ok(())
 }

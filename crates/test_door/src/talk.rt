@@ -71,14 +71,14 @@ pub(crate) struct Delays {
     pub(crate) client: u64,
 }
 
-/// Two meetings of a server and a client, each on a thread of its own: what the server heard, and the client.
+/// Whether a server and a client, each on a thread of its own, meet twice and hear each other.
 pub(crate) fn meet_twice<R: Threads + Wait + Clock + Sync, D: Door + Send + Drop>(
     rt: &R,
     server: D,
     client: D,
     port: u16,
     delays: Delays,
-) -> Result<([Option<u8>; 2], [Option<u8>; 2]), AllocError> {
+) -> Result<bool, AllocError> {
     thread::scope(thread::scope_env(), rt, move |scope| {
         let serving = scope.spawn(move || {
             let mut door = server;
@@ -88,6 +88,7 @@ pub(crate) fn meet_twice<R: Threads + Wait + Clock + Sync, D: Door + Send + Drop
         let mut door = client;
         waits(rt, delays.client);
         let at_client = [visits(&mut door, port, 1), visits(&mut door, port, 2)];
-        Ok((serving.join(rt), at_client))
+        let at_server = serving.join(rt);
+        Ok(at_server == [Some(1), Some(2)] && at_client == [Some(11), Some(12)])
     })
 }

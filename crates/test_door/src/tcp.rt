@@ -26,11 +26,8 @@ fn meets_over_tcp(rt: HostRuntime) -> Result<(), Fail> {
         let at_server = TcpDoor::new(rt.alloc(), &rt);
         let at_client = TcpDoor::new(rt.alloc(), &rt);
         let delays = Delays { server, client };
-        let heard = meet_twice(&rt, at_server, at_client, port, delays)?;
-        assert!(&rt;
-            heard == ([Some(1), Some(2)], [Some(11), Some(12)]),
-            "{server} {client}"
-        );
+        let met = meet_twice(&rt, at_server, at_client, port, delays)?;
+        assert!(&rt; met, "{server} {client}");
     }
     Ok(())
 }
