@@ -5,6 +5,7 @@ use Rattle.std.specs.List.{list_any}
 use Rattle.std.proofs.lemmas.Bool.{cases_Bool, cond-false}
 use Rattle.std.proofs.lemmas.List.{drop-append-le, drop-drop, length-append, length-drop}
 use Rattle.std.proofs.Math.Seq.{drop-append_seam}
+use mathlib.Core.Bool.{or-false, or_assoc}
 use Rattle.sv_wire.specs.declared.message.Reply.{Reply}
 use Rattle.sv_wire.specs.declared.message.Request.{Request}
 use Rattle.sv_journal.specs.declared.entry.Entry.{Entry}
@@ -40,20 +41,12 @@ swap false true false = refl
 swap false false true = refl
 swap false false false = refl
 
-or_none : (a : Bool) → (a || false) ≡ a
-or_none true = refl
-or_none false = refl
-
-or_in : (a b c : Bool) → (a || (b || c)) ≡ ((a || b) || c)
-or_in true b c = refl
-or_in false b c = refl
-
 any_moved : (f : Player → Bool) (more : Bool) (k : ℕ) (ps : List Player) (p q : Player) → slice_get ps k ≡ Some p → f q ≡ (f p || more) → list_any f (set ps k q) ≡ (list_any f ps || more)
 any_moved f more k [] p q e grown = cc
 any_moved f more zero (r ∷ ps) p q e grown =
     let same : p ≡ r = cc in
     ap (λ b. b || list_any f ps) (grown ∙ ap (λ x. f x || more) same) ∙ swap (f r) more (list_any f ps)
-any_moved f more (suc k) (r ∷ ps) p q e grown = ap (λ b. f r || b) (any_moved f more k ps p q e grown) ∙ or_in (f r) (list_any f ps) more
+any_moved f more (suc k) (r ∷ ps) p q e grown = ap (λ b. f r || b) (any_moved f more k ps p q e grown) ∙ sym (or_assoc (f r) (list_any f ps) more)
 
 -- ---- One player moved
 
@@ -65,25 +58,23 @@ module _ (h : List Entry) (ps : List Player) (k n : ℕ) (p q : Player) (sent : 
   abbrev pub moved : Run
   moved = record { history = h; players = set ps k q }
 
-  ask_commutes : (s : ℕ) → (if n == s then sent else []) ++ asked_in_run (drop (suc k) ps) s ≡ asked_in_run (drop (suc k) ps) s ++ (if n == s then sent else [])
-  ask_commutes s = elim quiet [
-    | inr none ↦ none_commutes (if n == s then sent else []) (asked_in_run (drop (suc k) ps) s) (rw none.0 (either_way (n == s) []))
-    | inl silent ↦ elim (cases_Bool (n == s)) [
-      | inr f ↦ none_commutes (if n == s then sent else []) (asked_in_run (drop (suc k) ps) s) (cond-false (n == s) sent [] f)
-      | inl y ↦ commutes_with_none (if n == s then sent else []) (asked_in_run (drop (suc k) ps) s)
-          (subst (λ (i : ℕ). asked_in_run (drop (suc k) ps) i ≡ []) (eqb-true n s y) (all_ask_nothing n (drop (suc k) ps) (later_of n k ps silent)))
-    ]
+  -- What the later ones have in a session is nothing where this one has something.
+  commutes : {X : Type 0} (more : List X) (later : ℕ → List X) (s : ℕ) → (later n ≡ []) ⊎ (more ≡ []) → (if n == s then more else []) ++ later s ≡ later s ++ (if n == s then more else [])
+  commutes more later s (inr none) = none_commutes (if n == s then more else []) (later s) (rw none (either_way (n == s) []))
+  commutes more later s (inl silent) = elim (cases_Bool (n == s)) [
+    | inr f ↦ none_commutes (if n == s then more else []) (later s) (cond-false (n == s) more [] f)
+    | inl y ↦ commutes_with_none (if n == s then more else []) (later s) (subst (λ (i : ℕ). later i ≡ []) (eqb-true n s y) silent)
   ]
 
+  ask_commutes : (s : ℕ) → (if n == s then sent else []) ++ asked_in_run (drop (suc k) ps) s ≡ asked_in_run (drop (suc k) ps) s ++ (if n == s then sent else [])
+  ask_commutes s =
+      commutes sent (asked_in_run (drop (suc k) ps)) s
+      (elim quiet [ inl silent ↦ inl (all_ask_nothing n (drop (suc k) ps) (later_of n k ps silent)) | inr none ↦ inr none.0 ])
+
   get_commutes : (s : ℕ) → (if n == s then taken else []) ++ got_in_run (drop (suc k) ps) s ≡ got_in_run (drop (suc k) ps) s ++ (if n == s then taken else [])
-  get_commutes s = elim quiet [
-    | inr none ↦ none_commutes (if n == s then taken else []) (got_in_run (drop (suc k) ps) s) (rw none.1 (either_way (n == s) []))
-    | inl silent ↦ elim (cases_Bool (n == s)) [
-      | inr f ↦ none_commutes (if n == s then taken else []) (got_in_run (drop (suc k) ps) s) (cond-false (n == s) taken [] f)
-      | inl y ↦ commutes_with_none (if n == s then taken else []) (got_in_run (drop (suc k) ps) s)
-          (subst (λ (i : ℕ). got_in_run (drop (suc k) ps) i ≡ []) (eqb-true n s y) (all_get_nothing n (drop (suc k) ps) (later_of n k ps silent)))
-    ]
-  ]
+  get_commutes s =
+      commutes taken (got_in_run (drop (suc k) ps)) s
+      (elim quiet [ inl silent ↦ inl (all_get_nothing n (drop (suc k) ps) (later_of n k ps silent)) | inr none ↦ inr none.1 ])
 
   asked_moved : (s : ℕ) → asked_in_run (set ps k q) s ≡ asked_in_run ps s ++ (if n == s then sent else [])
   asked_moved s = flat_moved (λ (r : Player). asked_by_player r s) (if n == s then sent else []) k ps p q at (m.asks s) (ask_commutes s)
@@ -102,7 +93,7 @@ module _ (h : List Entry) (ps : List Player) (k n : ℕ) (p q : Player) (sent : 
   other_stays s c f is =
       let asks : asked_in_run (set ps k q) s ≡ asked_in_run ps s = asked_moved s ∙ more_none s (asked_in_run ps s) sent f in
       let gets : got_in_run (set ps k q) s ≡ got_in_run ps s = got_moved s ∙ more_none s (got_in_run ps s) taken f in
-      let shuts : list_any (has_closed s) (set ps k q) ≡ list_any (has_closed s) ps = closed_moved s ∙ rw f (or_none (list_any (has_closed s) ps)) in
+      let shuts : list_any (has_closed s) (set ps k q) ≡ list_any (has_closed s) ps = closed_moved s ∙ rw f (or-false (list_any (has_closed s) ps)) in
       record {
         asked = subst (λ (rs : List Request). length (requests_in h s) ≤ length rs) (sym asks) is.asked;
         requests = is.requests ∙ ap (λ (rs : List Request). drop (length (requests_in h s)) rs) (sym asks);

@@ -5,6 +5,7 @@ use Rattle.std.proofs.lemmas.Bool.{and_from, and_right, lt-ltb, le-ltb}
 use Rattle.std.proofs.lemmas.List.{append-nil}
 use Rattle.std.proofs.lemmas.Option.{none-some}
 use Rattle.std.proofs.lemmas.List.Elements.{recursion_from_All, All-from_recursion}
+use mathlib.Core.Bool.{or-false}
 use Rattle.sv_wire.specs.Laws.{IsRequest}
 use Rattle.sv_system.proofs.Every.{each-right}
 use Rattle.sv_world.specs.declared.action.Action.{Action}
@@ -64,10 +65,6 @@ does_moved e rest closed p q c d fit linked j g quits did =
       stopped = ap (λ (v : ExchangeView). v.stopped) did.channel;
     }
 
-or_none : (b : Bool) → b ≡ (b || false)
-or_none true = refl
-or_none false = refl
-
 pub still_moved : (p : Playing) (c : ExchangeView) → AreFlags p → MovedPlayer (player_of p) p p c c
 still_moved p c flags = record {
   player = refl;
@@ -78,7 +75,7 @@ still_moved p c flags = record {
   moves = still_moves (player_of p);
   requests = sym (append-nil c.requests);
   replies = refl;
-  closed = or_none c.closed;
+  closed = sym (or-false c.closed);
   stopped = refl;
 }
 
@@ -209,7 +206,7 @@ sync_moved p q rest c is flags = record {
   moves = sync_moves (player_of p) rest;
   requests = sym (append-nil c.requests);
   replies = refl;
-  closed = or_none c.closed;
+  closed = sym (or-false c.closed);
   stopped = refl;
 }
 
@@ -298,7 +295,7 @@ took_moved p q c b d reply fit linked joined h fine who es first left closed fla
           (got_moves k p.first t p.left.now free joined (latest_session t) reply refl);
       requests = ap (λ (v : ExchangeView). v.requests) sent ∙ ap (λ (v : ExchangeView). v.requests ++ newly_asked k t e) (sym h);
       replies = ap (λ (v : ExchangeView). v.replies) h ∙ ap (λ (rs : List Reply). reply ∷ rs) (sym (ap (λ (v : ExchangeView). v.replies) sent));
-      closed = ap (λ (v : ExchangeView). v.closed) sent ∙ ap (λ (v : ExchangeView). v.closed) (sym h) ∙ or_none c.closed;
+      closed = ap (λ (v : ExchangeView). v.closed) sent ∙ ap (λ (v : ExchangeView). v.closed) (sym h) ∙ sym (or-false c.closed);
       stopped = ap (λ (v : ExchangeView). v.stopped) sent ∙ ap (λ (v : ExchangeView). v.stopped) (sym h);
     })
 

@@ -1,15 +1,11 @@
 -- Reported results whose positions are committed, or have a result already, change nothing.
 use Rattle.std.proofs.Common.{◌≡◌, ℕ, Bool, true, false, ◌&&◌, cond, nat_lt, inl, inr, Some, List, [], ◌∷◌, filter, is_none, refl, sym, ◌∙◌, ap, subst}
-use Rattle.std.proofs.lemmas.Bool.{cases_eq, ltb-true}
+use Rattle.std.proofs.lemmas.Bool.{cases_eq, ltb-true, and_parts}
 use Rattle.sv_wire.specs.declared.message.Done1.{Done1}
 use Rattle.sv_queue.specs.declared.queued.Queued.{Queued}
 use Rattle.sv_queue.specs.Queue.{QueueView, entry_at, with_result}
 use Rattle.sv_sequencer.specs.Relays.{is_missing, with_report, with_reports}
 use Rattle.sv_sequencer.proofs.FitMarks.{entry-other}
-
-left_of : (a b : Bool) → (a && b) ≡ true → a ≡ true
-left_of true b h = refl
-left_of false b h = h
 
 -- What is missing after a report was missing before it.
 missing-still : (v : QueueView) (d : Done1) (k : ℕ) → is_missing (with_report v d) k ≡ true → is_missing v k ≡ true
@@ -22,8 +18,8 @@ missing-still v d k = go (is_missing v d.pos) refl
     other m h = elim (cases_eq k d.pos) [
       | inl is ↦ subst (λ n. is_missing v n ≡ true) (sym is) m
       | inr ne ↦ subst (λ (q : Queued). (nat_lt v.commit k && is_none q.result) ≡ true)
-          (entry-other v d.pos k e (ltb-true v.commit d.pos (left_of (nat_lt v.commit d.pos) (is_none (entry_at v d.pos).result) m))
-          (ltb-true v.commit k (left_of (nat_lt v.commit k) (is_none (entry_at (with_result v d.pos d.values) k).result) h)) ne) h
+          (entry-other v d.pos k e (ltb-true v.commit d.pos (and_parts (nat_lt v.commit d.pos) (is_none (entry_at v d.pos).result) m).0)
+          (ltb-true v.commit k (and_parts (nat_lt v.commit k) (is_none (entry_at (with_result v d.pos d.values) k).result) h).0) ne) h
     ]
 
     go : (b : Bool) → is_missing v d.pos ≡ b → is_missing (cond b (with_result v d.pos d.values) v) k ≡ true → is_missing v k ≡ true

@@ -1,6 +1,6 @@
 -- The sequencer's step in the words of a shared object.
-use Rattle.std.proofs.Common.{◌≡◌, ℕ, Bool, false, true, ◌==◌, ◌||◌, ◌&&◌, if◌then◌else◌, List, [], ◌∷◌, ◌++◌, map, reverse, All, Result, Ok, Err, IfOk, refl, sym, ◌∙◌, ap, subst}
-use Rattle.std.proofs.lemmas.Bool.{or_parts}
+use Rattle.std.proofs.Common.{◌≡◌, ℕ, Bool, false, true, ◌==◌, ◌&&◌, if◌then◌else◌, List, [], ◌∷◌, ◌++◌, map, reverse, All, Result, Ok, Err, IfOk, refl, sym, ◌∙◌, ap, subst}
+use Rattle.std.proofs.lemmas.Bool.{or_parts, or_from}
 use Rattle.std.proofs.lemmas.List.{reverse-append}
 use Rattle.std.proofs.lemmas.List.Elements.{All-head, All-tail}
 use Rattle.sv_wire.specs.declared.message.Item.{Item}
@@ -63,15 +63,11 @@ step-whole old new s q o answers = both-ok o (λ r a. answer-whole old new s q r
 abbrev IsNoEnd : Entry → Type 0
 IsNoEnd e = is_end e.request ≡ false
 
-both-none : (a b : Bool) → a ≡ false → b ≡ false → (a || b) ≡ false
-both-none true b p q = p
-both-none false b p q = q
-
 none-after : (h : List Entry) (e : Entry) (s : ℕ) → is_ended h s ≡ false → ((e.session == s) && is_end e.request) ≡ false → is_ended (h ++ e ∷ []) s ≡ false
-none-after [] e s none quiet = both-none ((e.session == s) && is_end e.request) false quiet refl
+none-after [] e s none quiet = or_from ((e.session == s) && is_end e.request) false quiet refl
 none-after (x ∷ h) e s none quiet =
     let parts = or_parts ((x.session == s) && is_end x.request) (is_ended h s) none in
-    both-none ((x.session == s) && is_end x.request) (is_ended (h ++ e ∷ []) s) parts.0 (none-after h e s parts.1 quiet)
+    or_from ((x.session == s) && is_end x.request) (is_ended (h ++ e ∷ []) s) parts.0 (none-after h e s parts.1 quiet)
 
 kept-parts : (b : Bool) (e : Entry) (es : List Entry) → All IsNoEnd (if b then e ∷ es else es) → ((b && is_end e.request) ≡ false) × All IsNoEnd es
 kept-parts true e es all = (All-head IsNoEnd e es all, All-tail IsNoEnd e es all)
