@@ -1,46 +1,72 @@
 -- One step of a sequencer, put together.
-use Rattle.std.proofs.Common.{◌≡◌, ℕ, ◌+◌, ◌<◌, ◌≤◌, ℤ, List, [], ◌∷◌, ◌++◌, map, reverse, All, Option, refl, sym, ◌∙◌, ap, subst, arith}
+use Rattle.std.proofs.Common.{◌≡◌, ℕ, ◌<◌, ◌≤◌, false, true≢false, ℤ, List, [], ◌∷◌, map, reverse, All, Option, Result, Ok, Err, IfOk, OnErr, refl, sym, ◌∙◌, ap, subst, arith}
 use Rattle.std.proofs.lemmas.List.{reverse-append}
 use Rattle.sv_world.specs.declared.world.World.{World}
 use Rattle.sv_wire.specs.declared.message.Held.{Held}
 use Rattle.sv_wire.specs.declared.message.Item.{Item}
+use Rattle.sv_wire.specs.declared.message.Reply.{Reply}
 use Rattle.sv_wire.specs.declared.message.Reply.TheVariants as replies
+use Rattle.sv_wire.specs.declared.message.Request.{Request}
 use Rattle.sv_wire.specs.declared.message.Request.TheVariants as requests
 use Rattle.sv_journal.specs.declared.entry.Entry.{Entry}
 use Rattle.sv_journal.specs.declared.entry.Logged.TheVariants as logged
 use Rattle.sv_journal.specs.View.{JournalView}
 use Rattle.sv_journal.specs.History.{Authored, full_reply}
-use Rattle.sv_journal.specs.Answer.{Rules, Legal}
+use Rattle.sv_journal.specs.Sessions.{is_end}
+use Rattle.sv_journal.specs.Answer.{Rules, reply_to_request, reply_to, Legal}
 use Rattle.sv_influence.proofs.Places.{members-all}
 use Rattle.sv_queue.specs.Queue.{QueueView, IsUncommitted}
+use Rattle.sv_sequencer.specs.declared.decision.Decision.{Decision}
 use Rattle.sv_sequencer.specs.declared.sequencer.Sequencer.TheInside.{Inside}
 use Rattle.sv_sequencer.specs.declared.server_core.Core.{Core}
-use Rattle.sv_sequencer.specs.Cores.{core_rules, owed_by, Keeps}
+use Rattle.sv_sequencer.specs.Cores.{core_rules, owed_by, Keeps, decided_entry}
+use Rattle.sv_sequencer.specs.Decisions.{reply_by}
+use Rattle.sv_sequencer.specs.Entering.{HasRoomForEnds, TookEntry, EnteredReply, NothingEntered}
 use Rattle.sv_sequencer.specs.Fits.{QueueFits}
 use Rattle.sv_sequencer.specs.Invariant.{IsSequencer}
 use Rattle.sv_sequencer.specs.Relays.{item_in}
-use Rattle.sv_sequencer.specs.Step.{entry_of}
 use Rattle.sv_sequencer.proofs.Replies.{items-are}
 
--- A sequencer's fields once a session had its End.
-pub after-end : (a : Inside) (core : Core) (j : JournalView) (s : ℕ) → IsSequencer a → core_rules core ≡ core_rules a.core → owed_by core + 1 ≡ owed_by a.core →
-    Keeps core (entry_of s requests.End logged.Bye ∷ reverse a.journal.entries) → j.entries ≡ a.journal.entries ++ entry_of s requests.End logged.Bye ∷ [] → a.journal.spare ≤ j.spare + 1 →
-    IsSequencer (record { core = core; journal = j })
-after-end a core j s is same falls stands grown room = record {
-  legal = subst (λ (r : Rules). Legal r (reverse j.entries)) (sym same) (subst (Legal (core_rules a.core)) (sym past) (refl, is.legal));
-  keeps = subst (Keeps core) (sym past) stands;
-  room = (let enough : owed_by a.core ≤ a.journal.spare = is.room in omega arith);
-}
-  where
-    past : reverse j.entries ≡ entry_of s requests.End logged.Bye ∷ reverse a.journal.entries
-    past = ap reverse grown ∙ reverse-append a.journal.entries (entry_of s requests.End logged.Bye ∷ [])
+-- A request that is no End is answered by the table.
+pub reply-open : (r : Rules) (h : List Entry) (s : ℕ) (q : Request) → is_end q ≡ false → reply_to r h s q ≡ reply_to_request r h s q
+reply-open r h s (requests.Join client life interest) more = refl
+reply-open r h s (requests.Submit seq action) more = refl
+reply-open r h s (requests.Done results) more = refl
+reply-open r h s requests.Poll more = refl
+reply-open r h s requests.Leave more = refl
+reply-open r h s requests.Bad more = refl
+reply-open r h s requests.End more = absurd (true≢false more)
 
--- Its fields as it is opened.
-pub as-opened : (core : Core) (j : JournalView) → j.entries ≡ [] → Keeps core [] → owed_by core ≤ j.spare → IsSequencer (record { core = core; journal = j })
+-- A sequencer's fields as it is opened.
+pub as-opened : (core : Core) (j : JournalView) → j.entries ≡ [] → Keeps core [] → HasRoomForEnds core j → IsSequencer (record { core = core; journal = j })
 as-opened core j none stands room = record {
   legal = subst (λ (es : List Entry). Legal (core_rules core) (reverse es)) (sym none) tt;
   keeps = subst (λ (es : List Entry). Keeps core (reverse es)) (sym none) stands;
   room = room;
+}
+
+-- Its fields once an entry came with the reply that its history gives.
+pub after-entry : (a : Inside) (core : Core) (j : JournalView) (e : Entry) → IsSequencer a → TookEntry a.core core a.journal j (reverse a.journal.entries) e e →
+    e.reply ≡ reply_to (core_rules a.core) (reverse a.journal.entries) e.session e.request → IsSequencer (record { core = core; journal = j })
+after-entry a core j e is done told = record {
+  legal = subst (λ (r : Rules). Legal r (reverse j.entries)) (sym done.rules) (subst (Legal (core_rules a.core)) (sym past) (told, is.legal));
+  keeps = subst (Keeps core) (sym past) done.keeps;
+  room = done.room;
+}
+  where
+    past : reverse j.entries ≡ e ∷ reverse a.journal.entries
+    past = ap reverse done.entries ∙ reverse-append a.journal.entries (e ∷ [])
+
+-- Its fields once a request was answered, or memory ran out.
+pub after-reply : {E : Type 0} (a : Inside) (core : Core) (j : JournalView) (s : ℕ) (q : Request) (d : Decision) (result : Result Reply E) → IsSequencer a →
+    reply_by (core_rules a.core) (reverse a.journal.entries) s q d ≡ reply_to (core_rules a.core) (reverse a.journal.entries) s q →
+    IfOk result (EnteredReply a.core core a.journal j (reverse a.journal.entries) s q q d) → OnErr result (NothingEntered a.core core a.journal j (reverse a.journal.entries)) →
+    IsSequencer (record { core = core; journal = j })
+after-reply a core j s q d (Ok reply) is told done none = after-entry a core j (decided_entry a.core (reverse a.journal.entries) s q d) is done.entered told
+after-reply a core j s q d (Err error) is told done none = record {
+  legal = subst (λ (r : Rules). Legal r (reverse j.entries)) (sym none.core.rules) (subst (λ (es : List Entry). Legal (core_rules a.core) (reverse es)) (sym none.entries) is.legal);
+  keeps = subst (λ (es : List Entry). Keeps core (reverse es)) (sym none.entries) none.core.keeps;
+  room = (let enough : owed_by a.core ≤ a.journal.spare = is.room in omega (arith, none.core.owed, none.room));
 }
 
 -- A relay in full, from what a fitting queue has at its positions.

@@ -1,8 +1,9 @@
 -- What a sequencer's fields keep.
-use Rattle.std.specs.Prelude.{◌≤◌, reverse}
+use Rattle.std.specs.Prelude.{reverse}
 use Rattle.sv_journal.specs.Answer.{Legal}
 use Rattle.sv_sequencer.specs.declared.sequencer.Sequencer.TheInside.{Inside}
-use Rattle.sv_sequencer.specs.Cores.{core_rules, owed_by, Keeps}
+use Rattle.sv_sequencer.specs.Cores.{core_rules, Keeps}
+use Rattle.sv_sequencer.specs.Entering.{HasRoomForEnds}
 use Rattle.sv_sequencer.specs.Step.{SequencerView}
 
 abbrev pub view_of : Inside → SequencerView
@@ -12,4 +13,4 @@ view_of a = record { rules = core_rules a.core; journal = a.journal }
 pub record IsSequencer (a : Inside) : Type 0 where
   pub legal : Legal (core_rules a.core) (reverse a.journal.entries)
   pub keeps : Keeps a.core (reverse a.journal.entries)
-  pub room : owed_by a.core ≤ a.journal.spare
+  pub room : HasRoomForEnds a.core a.journal

@@ -3,6 +3,7 @@ pub mod Agreement
 pub mod Clients
 pub mod Cores
 pub mod Decisions
+pub mod Entering
 pub mod Fits
 pub mod Invariant
 pub mod Orphans

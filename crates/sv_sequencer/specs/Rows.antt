@@ -1,5 +1,5 @@
 -- What a core keeps of each session, and what an entry makes of it.
-use Rattle.std.specs.Prelude.{◌≡◌, ℕ, ◌-◌, Bool, false, ◌&&◌, ◌||◌, not, ◌==◌, List, [], ◌∷◌, None, if◌then◌else◌}
+use Rattle.std.specs.Prelude.{◌≡◌, ℕ, ◌-◌, false, ◌&&◌, ◌||◌, not, ◌==◌, List, None, if◌then◌else◌}
 use Rattle.sv_world.specs.Limits.{most_requests}
 use Rattle.sv_journal.specs.declared.entry.Entry.{Entry}
 use Rattle.sv_journal.specs.History.{either, is_welcome, joining, client_of}

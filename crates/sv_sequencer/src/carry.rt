@@ -1,15 +1,13 @@
 //! What is decided is done: whatever may run out of memory comes first.
 ghost use Rattle.std.specs.Prelude.{◌≡◌, ℕ, List, ◌+◌, ◌<◌, true, false, ◌∷◌, IfOk, OnErr};
 ghost use Rattle.sv_wire.specs.declared.message.Request.{Request};
-ghost use Rattle.sv_wire.specs.declared.message.Request.TheVariants as requests;
 ghost use Rattle.sv_journal.specs.declared.entry.Entry.{Entry};
-ghost use Rattle.sv_journal.specs.declared.entry.Logged.TheVariants as logged;
 ghost use Rattle.sv_journal.specs.History.{Authored, full_reply};
 ghost use Rattle.sv_journal.specs.Sessions.{is_end, is_ended};
 ghost use Rattle.sv_journal.specs.Answer.{Rules};
 ghost use Rattle.sv_sequencer.specs.Cores.{core_rules, owed_by, Keeps, CarriedOut, Remained};
 ghost use Rattle.sv_sequencer.specs.Decisions.{reply_by, changes_nothing, Holds};
-ghost use Rattle.sv_sequencer.specs.Step.{entry_of};
+ghost use Rattle.sv_sequencer.specs.Step.{end_entry};
 
 use crate::answer::Answer;
 use crate::decision::{ActionId, Decision};
@@ -68,7 +66,7 @@ impl Core {
         requires first { is_ended h session ≡ false }
         ensures rules { core_rules self.new ≡ core_rules self.old }
         ensures owed { owed_by self.new + 1 ≡ owed_by self.old }
-        ensures keeps { Keeps self.new (entry_of session requests.End logged.Bye ∷ h) }
+        ensures keeps { Keeps self.new (end_entry session ∷ h) }
     {
         note(&mut self.sessions, session, &Request::End, &Logged::Bye);
         self.owed -= 1;

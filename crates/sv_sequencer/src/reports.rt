@@ -13,8 +13,8 @@ use std::alloc::{AllocError, Global};
 use std::marker::Brand;
 use std::sync::ledger::{Blank, Ledger};
 use sv_queue::{Queue, Steps};
-use sv_wire::Done1;
-use sv_world::{Action, List, MOST_ITEMS, Value, copy_values, is_in_mask};
+use sv_wire::{Done1, copy_result};
+use sv_world::{Action, List, MOST_ITEMS, Value, is_in_mask};
 
 /// Whether the results that a session reports may not be taken.
 pub fn are_bad(queue: &Queue, session: u16, results: &[Done1]) -> bool
@@ -121,20 +121,10 @@ pub fn copy_missing(
     let mut copies = Vec::new(alloc);
     for found in results {
         if is_missing::<Brand>(queue, found.pos, Blank::new(1)) {
-            copies.push(copy_report(alloc, found)?)?;
+            copies.push(copy_result(alloc, found)?)?;
         }
     }
     Ok(copies)
-}
-
-/// An equal copy.
-pub fn copy_report(alloc: Global, found: &Done1) -> Result<Done1, AllocError>
-    ensures { IfOk result (λ copy. copy ≡ found.now) }
-{
-    Ok(Done1 {
-        pos: found.pos,
-        values: copy_values(alloc, found.values.as_slice())?,
-    })
 }
 
 /// Whether a position is not committed and has no result yet.

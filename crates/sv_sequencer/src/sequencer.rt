@@ -7,6 +7,7 @@ ghost use Rattle.sv_journal.specs.Answer.{Legal};
 ghost use Rattle.sv_journal.specs.Sessions.{is_ended};
 ghost use Rattle.sv_sequencer.specs.Step.{history};
 
+use crate::entering::open_core;
 use crate::server_core::Core;
 use std::alloc::{AllocError, Global};
 use std::marker::Model;
@@ -57,9 +58,7 @@ impl Sequencer {
         ensures rules { IfOk result (λ s. s.rules ≡ record { world = world; bound = bound; reach = reach; sessions = sessions }) }
         ensures empty { IfOk result (λ s. s.journal.entries ≡ []) }
     {
-        let core = Core::new(alloc, world, bound, reach, sessions)?;
-        let mut journal = Journal::new(alloc);
-        journal.reserve(sessions as usize)?;
+        let (core, journal) = open_core(alloc, world, bound, reach, sessions)?;
         Ok(Sequencer { core, journal })
     }
 

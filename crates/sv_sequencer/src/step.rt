@@ -1,32 +1,14 @@
 //! A step of the sequencer: what its core decides and does goes into its journal.
-ghost use Rattle.std.specs.Prelude.{◌≡◌, List, ◌-◌, ◌<◌, [], ◌∷◌, ◌++◌, true, false, IfOk, IsOk, OnErr};
-ghost use Rattle.sv_wire.specs.declared.message.Request.TheVariants as requests;
+ghost use Rattle.std.specs.Prelude.{◌≡◌, List, ◌<◌, true, false, IfOk, IsOk, OnErr};
 ghost use Rattle.sv_journal.specs.declared.entry.Entry.{Entry};
-ghost use Rattle.sv_journal.specs.declared.entry.Logged.TheVariants as logged;
 ghost use Rattle.sv_journal.specs.Sessions.{is_end, is_ended};
 ghost use Rattle.sv_journal.specs.Answer.{Legal};
-ghost use Rattle.sv_sequencer.specs.Step.{history, entry_of, GrewByEntry, Answered, Stayed};
+ghost use Rattle.sv_sequencer.specs.Step.{history, end_entry, GrewByEntry, Answered, Stayed};
 
-use crate::answer::Answer;
+use crate::entering::{enter_end, enter_reply};
 use crate::sequencer::Sequencer;
 use std::alloc::AllocError;
-use sv_journal::{Entry, Journal, Logged};
-use sv_wire::{Reply, Request, copy_request};
-
-/// Enters a request with its reply into a journal that has room, and gives the reply in full.
-pub fn enter(journal: &mut Journal, session: u16, request: Request, answer: Answer) -> Reply
-    requires { 0 < journal.old.spare }
-    ensures journal { journal.new ≡ record { entries = journal.old.entries ++ entry_of session request answer.logged ∷ []; spare = journal.old.spare - 1 } }
-    ensures reply { result ≡ answer.reply }
-{
-    let Answer { logged, reply } = answer;
-    journal.push(Entry {
-        session,
-        request,
-        reply: logged,
-    });
-    reply
-}
+use sv_wire::{Reply, Request};
 
 impl Sequencer {
     /// Answers a request of a session, whose End comes at most once, and enters both into the journal.
@@ -63,14 +45,9 @@ impl Sequencer {
         requires past { h ≡ history self.old }
         requires session { session < self.old.rules.sessions }
         requires first { is_ended h session ≡ false }
-        ensures { GrewByEntry self.old self.new (entry_of session requests.End logged.Bye) }
+        ensures { GrewByEntry self.old self.new (end_entry session) }
     {
-        self.core.end(session);
-        self.journal.push(Entry {
-            session,
-            request: Request::End,
-            reply: Logged::Bye,
-        });
+        enter_end(&mut self.core, &mut self.journal, session);
     }
 
     /// Answers a request that is no End. `h` is the journal's history. The room for the Ends that are to come stays.
@@ -83,15 +60,13 @@ impl Sequencer {
         ensures err { OnErr result (Stayed self.old self.new) }
     {
         let decision = self.core.decide(session, request);
-        self.journal.reserve(self.core.owed as usize + 1)?;
-        let copy = copy_request(self.core.alloc, request)?;
-        match self.core.carry_out(session, request, decision) {
-            Ok(answer) => Ok(enter(&mut self.journal, session, copy, answer)),
-            Err(error) => {
-                // A tree that is let go at the end of its scope makes a long proof; a call that takes it, none.
-                drop(copy);
-                Err(error)
-            }
-        }
+        enter_reply(
+            &mut self.core,
+            &mut self.journal,
+            session,
+            request,
+            request,
+            decision,
+        )
     }
 }

@@ -18,7 +18,7 @@ use Rattle.sv_journal.specs.declared.entry.Logged.{Logged}
 use Rattle.sv_journal.specs.declared.entry.Logged.TheVariants as logged
 use Rattle.sv_journal.specs.History.{Authored, is_noted, client_of, is_client, is_submit_of, new_action, Outcome, Accepted, Dropped, actions_of, next_seq, commit_of}
 use Rattle.sv_journal.specs.Sessions.{is_end, is_over, is_live, asked_in, life_of, kept_outcome}
-use Rattle.sv_journal.specs.Answer.{Rules, refused_as, is_over_reach, is_bad_done, is_good_interest, reply_to_checked, reply_to_submit, reply_to_join, reply_to_client, reply_to_member, reply_to_request, reply_to}
+use Rattle.sv_journal.specs.Answer.{Rules, refused_as, is_over_reach, is_bad_done, is_good_interest, reply_to_checked, reply_to_submit, reply_to_join, reply_to_client, reply_to_member, reply_to_request}
 use Rattle.sv_journal.specs.Serving.{is_poll, with_last_rows, noted_after, polled_after}
 use Rattle.sv_sequencer.specs.declared.decision.Decision.{Decision}
 use Rattle.sv_sequencer.specs.declared.decision.Decision.TheVariants as decisions
@@ -28,6 +28,7 @@ use Rattle.sv_system.proofs.Aligned.{is_submit}
 use Rattle.sv_witness.specs.Reports.{agreed_history, due_to}
 use Rattle.sv_witness.specs.Standing.{emptied, answers_poll, first_relay}
 use Rattle.sv_witness.specs.Witnessed.{agreed, witnessed_reply}
+use Rattle.sv_sequencer.proofs.Stepped.{reply-open}
 use Rattle.sv_witness.proofs.Routes.{IsPlain, plain-reply, plain-quiet, noted-may, due-uncommitted}
 use Rattle.sv_witness.proofs.Same.{accepted-agreed}
 use Rattle.sv_witness.proofs.Steps.{poll-none, poll-some}
@@ -104,19 +105,10 @@ poll-is requests.End is = absurd (true≢false (sym is))
 
 -- ---- Any decision
 
-open-reply : (r : Rules) (g : List Entry) (s : ℕ) (q : Request) → is_end q ≡ false → reply_to r g s q ≡ reply_to_request r g s q
-open-reply r g s (requests.Join client life interest) more = refl
-open-reply r g s (requests.Submit seq a) more = refl
-open-reply r g s (requests.Done results) more = refl
-open-reply r g s requests.Poll more = refl
-open-reply r g s requests.Leave more = refl
-open-reply r g s requests.Bad more = refl
-open-reply r g s requests.End more = absurd (true≢false more)
-
 module _ (r : Rules) (h : List Entry) (s : ℕ) (q : Request) (d : Decision) (more : is_end q ≡ false)
     (told : reply_by r (agreed_history h) s q d ≡ reply_to_request r (agreed_history h) s q) where
   decided-reply : witnessed_reply r h s q ≡ with_last_rows agreed r h s q (reply_by r (agreed_history h) s q d)
-  decided-reply = ap (with_last_rows agreed r h s q) (open-reply r (agreed_history h) s q more ∙ sym told)
+  decided-reply = ap (with_last_rows agreed r h s q) (reply-open r (agreed_history h) s q more ∙ sym told)
 
   -- ---- A Done is noted
 

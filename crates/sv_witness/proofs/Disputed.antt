@@ -2,12 +2,9 @@
 use Rattle.std.proofs.Common.{◌≡◌, ℕ, Bool, true, false, ◌||◌, inl, inr, List, [], ◌∷◌, ◌++◌, length, All, ℤ, Option, Some, None, option_to_list, refl, sym, ap, ◌∙◌, subst, suc, true≢false}
 use Rattle.std.specs.Prelude.{if◌then◌else◌}
 use Rattle.std.specs.List.{list_any, flat_map, AllByRecursion}
-use Rattle.std.specs.Ordering.{int_eq}
-use Rattle.std.proofs.lemmas.Bool.{cases_eq, and_from, eq-eqb}
-use Rattle.std.proofs.lemmas.Bool.Decides.{Decides-int_eq}
+use Rattle.std.proofs.lemmas.Bool.{cases_eq, eq-eqb}
 use Rattle.std.proofs.lemmas.List.Elements.{All-from_recursion, All-weaker}
 use Rattle.std.proofs.lemmas.Option.{none-some, same_Some}
-use lib.Pointwise.{pointwise}
 use Rattle.sv_world.specs.Control.{below}
 use Rattle.sv_journal.specs.declared.entry.Entry.{Entry}
 use Rattle.sv_journal.specs.History.{either, accepted}
@@ -18,17 +15,7 @@ use Rattle.sv_witness.specs.Reports.{is_by, gives, is_nothing, agreed_values, re
 use Rattle.sv_witness.specs.Agreement.{IsAmong, here, there, AreTwo}
 use Rattle.sv_witness.specs.Disputes.{first_report, dispute_about, disputes_of, NamesClient}
 use Rattle.sv_witness.specs.Honesty.{IsDisputed, AllGiveBut, NoneGiveNone}
-use Rattle.sv_witness.proofs.Two.{none-among, AreOfDifferent, reports-different, two-agree}
-
--- ---- Values are the same as themselves
-
-value-self : (v : List ℤ) → pointwise int_eq v v ≡ true
-value-self [] = refl
-value-self (n ∷ v) = and_from (int_eq n n) (pointwise int_eq v v) ((Decides-int_eq n n).1 refl) (value-self v)
-
-pub values-self : (vs : List (List ℤ)) → are_same_values vs vs ≡ true
-values-self [] = refl
-values-self (v ∷ vs) = and_from (pointwise int_eq v v) (are_same_values vs vs) (value-self v) (values-self vs)
+use Rattle.sv_witness.proofs.Two.{values-self, none-among, AreOfDifferent, reports-different, two-agree}
 
 -- ---- One dispute
 

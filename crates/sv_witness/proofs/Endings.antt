@@ -1,6 +1,6 @@
 -- What the status of an ending says.
 use Rattle.std.proofs.Common.{◌≡◌, ◌≢◌, ◌↔◌, ◌⊎◌, inl, inr, refl, arith, ℕ, ◌≤◌, List, length, take, Option, Some, None, sym, ap, subst}
-use Rattle.std.specs.Prelude.{string_bytes, option_map, IfSome, Ok, Err, String}
+use Rattle.std.specs.Prelude.{string_bytes, option_map, IfSome, Ok, String}
 use Rattle.std.specs.declared.alloc.Global.{Global}
 use Rattle.sv_bytes.specs.Writing.{Grew, GrewByPart, GrewOrRose}
 use Rattle.sv_scenario.specs.declared.scenario.Scenario.{Scenario}

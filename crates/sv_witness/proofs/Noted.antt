@@ -22,7 +22,8 @@ use Rattle.sv_witness.specs.Reports.{is_by, gives, with_first_report, counted_in
 use Rattle.sv_witness.specs.Disputes.{dispute_about, disputes_of, dispute_in, with_disputes}
 use Rattle.sv_witness.specs.Kept.{RowView, kept_at, KeepsReports, report_by, counts_as_report, counted_results, AreOnce, with_values, agrees, brings, agreed_results, new_disputes}
 use Rattle.sv_witness.proofs.Agreed.{reported-filter, without}
-use Rattle.sv_witness.proofs.Disputed.{values-self, dispute-place}
+use Rattle.sv_witness.proofs.Disputed.{dispute-place}
+use Rattle.sv_witness.proofs.Two.{values-self}
 use Rattle.sv_witness.proofs.InOrder.{dispute_after, dispute-turned}
 use Rattle.sv_witness.proofs.KeptRows.{unreported}
 use Rattle.sv_witness.proofs.Listed.{listing, listing-is, listing-same, about, listing-all}

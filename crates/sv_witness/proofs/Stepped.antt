@@ -1,5 +1,5 @@
 -- One step of a witnessing server, put together: what its fields keep once its core did what was decided and the journal has an entry more.
-use Rattle.std.proofs.Common.{◌≡◌, ℕ, ◌+◌, ◌-◌, ◌<◌, ◌≤◌, false, Some, List, [], ◌∷◌, ◌++◌, sym, ap, ◌∙◌, subst, reverse, refl, Bool, ◌||◌, ◌&&◌, ◌==◌, ap₂, arith}
+use Rattle.std.proofs.Common.{◌≡◌, ℕ, ◌+◌, ◌<◌, ◌≤◌, false, Some, List, [], ◌∷◌, ◌++◌, sym, ap, ◌∙◌, subst, reverse, refl, Bool, ◌||◌, ◌&&◌, ◌==◌, ap₂, Result, Ok, Err, IfOk, OnErr, arith}
 use Rattle.std.proofs.lemmas.List.{reverse-append}
 use Rattle.sv_wire.specs.declared.message.Done1.{Done1}
 use Rattle.sv_wire.specs.declared.message.Reply.{Reply}
@@ -12,13 +12,13 @@ use Rattle.sv_journal.specs.History.{is_noted, client_of, accepted, reported, co
 use Rattle.sv_journal.specs.Sessions.{is_end, is_ended}
 use Rattle.sv_journal.specs.View.{JournalView}
 use Rattle.sv_journal.specs.Answer.{Rules, is_bad_done}
-use Rattle.sv_sequencer.specs.declared.answer.Answer.{Answer}
 use Rattle.sv_sequencer.specs.declared.decision.Decision.{Decision}
 use Rattle.sv_sequencer.specs.declared.decision.Decision.TheVariants as decisions
 use Rattle.sv_sequencer.specs.declared.server_core.Core.{Core}
-use Rattle.sv_sequencer.specs.Cores.{core_rules, owed_by, queue_of, Keeps, CarriedOut}
+use Rattle.sv_sequencer.specs.Cores.{core_rules, owed_by, queue_of, Keeps}
 use Rattle.sv_sequencer.specs.Decisions.{reply_by}
-use Rattle.sv_sequencer.specs.Step.{SequencerView, history, entry_of}
+use Rattle.sv_sequencer.specs.Entering.{HasRoomForEnds, EnteredReply, NothingEntered}
+use Rattle.sv_sequencer.specs.Step.{SequencerView, history, entry_of, end_entry}
 use Rattle.sv_witness.specs.declared.report.Dispute.{Dispute}
 use Rattle.sv_witness.specs.declared.witness.Witness.TheInside.{Inside}
 use Rattle.sv_witness.specs.Reports.{agreed_history, agreed_commit}
@@ -27,82 +27,73 @@ use Rattle.sv_witness.specs.Witnessed.{agreed, witnessed_reply}
 use Rattle.sv_witness.specs.Disputes.{with_disputes}
 use Rattle.sv_witness.specs.Kept.{RowView, kept_at, counted_results, with_values, agreed_results, new_disputes, KeepsBeside}
 use Rattle.sv_witness.specs.Invariant.{view_of, IsWitness}
-use Rattle.sv_witness.specs.Standing.{emptied, Standing, Replied}
+use Rattle.sv_witness.specs.Standing.{emptied, Standing, witnessed_entry, Replied}
 use Rattle.sv_witness.specs.Step.{Witnesses}
 use Rattle.sv_witness.proofs.KeptRows.{AreSame}
 use Rattle.sv_witness.proofs.Routes.{quiet-entry}
 use Rattle.sv_witness.proofs.Steps.{quiet-stands, quiet-whole, noted-stands, noted-entry, noted-reply}
 
--- The core stands where the entry leads, in which a Done has no results.
-pub after-quiet : (old core : Core) (rows : List RowView) (ds : List Dispute) (h : List Entry) (s : ℕ) (q : Request) (d : Decision) (x : Answer) → Standing old rows ds h →
-    CarriedOut old core (agreed_history h) s (emptied q) d x →
+-- A request that is not noted was answered: the core stands where the entry leads, in which a Done has no results.
+pub quiet-replied : (old core : Core) (before after : JournalView) (rows : List RowView) (ds : List Dispute) (h : List Entry) (s : ℕ) (q : Request) (d : Decision) (reply : Reply) →
+    Standing old rows ds h → EnteredReply old core before after (agreed_history h) s q (emptied q) d reply →
     reply_by (core_rules old) (agreed_history h) s (emptied q) d ≡ witnessed_reply (core_rules old) h s q → is_noted (witnessed_reply (core_rules old) h s q) ≡ false →
-    Standing core rows ds (entry_of s q x.logged ∷ h)
-after-quiet old core rows ds h s q d x is done told quiet = record {
-  keeps = subst (Keeps core) (ap (λ (w : Logged). entry_of s (emptied q) w ∷ agreed_history h) (sym done.logged) ∙ sym (quiet-entry (entry_of s q x.logged) h silent)) done.keeps;
-  stands = subst (λ (r : Rules). KeepsBeside r rows ds (entry_of s q x.logged ∷ h)) (sym done.rules)
-      (quiet-stands (core_rules old) rows ds (entry_of s q x.logged) h silent (done.logged ∙ told) is.stands);
-}
-  where
-    silent : is_noted x.logged ≡ false
-    silent = ap is_noted (done.logged ∙ told) ∙ quiet
-
--- So an entry that is not noted was answered as it should be.
-pub quiet-replied : (old core : Core) (rows : List RowView) (ds : List Dispute) (h : List Entry) (s : ℕ) (q : Request) (d : Decision) (x : Answer) → Standing old rows ds h →
-    CarriedOut old core (agreed_history h) s (emptied q) d x →
-    reply_by (core_rules old) (agreed_history h) s (emptied q) d ≡ witnessed_reply (core_rules old) h s q → is_noted (witnessed_reply (core_rules old) h s q) ≡ false →
-    Replied old core rows ds h s q x
-quiet-replied old core rows ds h s q d x is done told quiet = record {
-  rules = done.rules;
-  owed = done.owed;
-  standing = after-quiet old core rows ds h s q d x is done told quiet;
-  logged = done.logged ∙ told;
+    Replied old core before after rows ds h s q reply
+quiet-replied old core before after rows ds h s q d reply is done told quiet = record {
+  rules = done.entered.rules;
+  standing = record {
+    keeps = subst (Keeps core) (ap (λ (w : Logged). entry_of s (emptied q) w ∷ agreed_history h) told ∙ sym (quiet-entry e h quiet)) done.entered.keeps;
+    stands = subst (λ (r : Rules). KeepsBeside r rows ds (e ∷ h)) (sym done.entered.rules) (quiet-stands (core_rules old) rows ds e h quiet refl is.stands);
+  };
+  entries = done.entered.entries ∙ ap (λ (w : Logged). before.entries ++ entry_of s q w ∷ []) told;
+  room = done.entered.room;
   whole =
       done.whole
-      ∙ ap (λ (w : Logged). full_reply (accepted (entry_of s (emptied q) w ∷ agreed_history h)) w) (sym done.logged)
-      ∙ quiet-whole (entry_of s q x.logged) h x.logged (ap is_noted (done.logged ∙ told) ∙ quiet);
+      ∙ ap (λ (w : Logged). full_reply (accepted (entry_of s (emptied q) w ∷ agreed_history h)) w) told
+      ∙ quiet-whole e h (witnessed_reply (core_rules old) h s q) quiet;
 }
+  where
+    e : Entry
+    e = witnessed_entry (core_rules old) h s q
 
--- The core stands where a noted Done leads, which in its history has the results that brought agreement.
-module _ (old core : Core) (rows : List RowView) (ds : List Dispute) (h : List Entry) (s k : ℕ) (results : List Done1) (x : Answer) (is : Standing old rows ds h)
+-- A Done was noted: the core stands where the entry leads, in which it has the results that brought agreement.
+module _ (old core : Core) (before after : JournalView) (rows : List RowView) (ds : List Dispute) (h : List Entry) (s k : ℕ) (results : List Done1) (reply : Reply) (is : Standing old rows ds h)
     (joined : client_of h s ≡ Some k) (good : is_bad_done (core_rules old) (agreed_history h) s results ≡ false)
-    (reply : witnessed_reply (core_rules old) h s (requests.Done results) ≡ noted_after agreed h s (requests.Done results))
-    (done : CarriedOut old core (agreed_history h) s (requests.Done (agreed_results (queue_of old) rows (counted_results (agreed_commit h) rows k results))) decisions.Note x) where
-  told : x.logged ≡ witnessed_reply (core_rules old) h s (requests.Done results)
-  told = done.logged ∙ noted-reply (core_rules old) h s k results joined good rows (queue_of old) is.stands.reports is.keeps.fits is.keeps.commit ∙ sym reply
+    (answer : witnessed_reply (core_rules old) h s (requests.Done results) ≡ noted_after agreed h s (requests.Done results))
+    (done : EnteredReply old core before after (agreed_history h) s (requests.Done results) (requests.Done (agreed_results (queue_of old) rows (counted_results (agreed_commit h) rows k results)))
+    decisions.Note reply) where
+  told : reply_by (core_rules old) (agreed_history h) s (requests.Done (agreed_results (queue_of old) rows (counted_results (agreed_commit h) rows k results))) decisions.Note
+      ≡ witnessed_reply (core_rules old) h s (requests.Done results)
+  told = noted-reply (core_rules old) h s k results joined good rows (queue_of old) is.stands.reports is.keeps.fits is.keeps.commit ∙ sym answer
 
-  abbrev after : ℕ
-  after = commit_of (agreed_history (entry_of s (requests.Done results) (logged.Noted 0) ∷ h))
+  abbrev last : ℕ
+  last = commit_of (agreed_history (entry_of s (requests.Done results) (logged.Noted 0) ∷ h))
 
-  noted : x.logged ≡ logged.Noted after
-  noted = told ∙ reply
-
-  pub noted-keeps : Keeps core (agreed_history (entry_of s (requests.Done results) x.logged ∷ h))
+  pub noted-keeps : Keeps core (agreed_history (witnessed_entry (core_rules old) h s (requests.Done results) ∷ h))
   noted-keeps =
-      subst (λ (w : Logged). Keeps core (agreed_history (entry_of s (requests.Done results) w ∷ h))) (sym noted)
+      subst (λ (w : Logged). Keeps core (agreed_history (entry_of s (requests.Done results) w ∷ h))) (sym answer)
       (subst (Keeps core)
-      (ap (λ (w : Logged). entry_of s (requests.Done (agreed_results (queue_of old) rows (counted_results (agreed_commit h) rows k results))) w ∷ agreed_history h) (sym done.logged ∙ noted)
-      ∙ sym (noted-entry (core_rules old) h s k results joined good rows (queue_of old) after is.stands.reports is.keeps.fits is.keeps.commit))
-      done.keeps)
+      (ap (λ (w : Logged). entry_of s (requests.Done (agreed_results (queue_of old) rows (counted_results (agreed_commit h) rows k results))) w ∷ agreed_history h) (told ∙ answer)
+      ∙ sym (noted-entry (core_rules old) h s k results joined good rows (queue_of old) last is.stands.reports is.keeps.fits is.keeps.commit))
+      done.entered.keeps)
 
   pub noted-replied : (new : List RowView) →
-      ((p : ℕ) → agreed_commit (entry_of s (requests.Done results) x.logged ∷ h) < p →
+      ((p : ℕ) → agreed_commit (witnessed_entry (core_rules old) h s (requests.Done results) ∷ h) < p →
       kept_at new p ≡ with_values k (reported p (counted_results (agreed_commit h) rows k results)) (kept_at rows p)) →
-      Replied old core new (with_disputes (new_disputes rows k (counted_results (agreed_commit h) rows k results)) ds) h s (requests.Done results) x
+      Replied old core before after new (with_disputes (new_disputes rows k (counted_results (agreed_commit h) rows k results)) ds) h s (requests.Done results) reply
   noted-replied new now = record {
-    rules = done.rules;
-    owed = done.owed;
+    rules = done.entered.rules;
     standing = record {
       keeps = noted-keeps;
-      stands = subst (λ (r : Rules). KeepsBeside r new made (entry_of s (requests.Done results) x.logged ∷ h)) (sym done.rules)
-          (subst (λ (w : Logged). KeepsBeside (core_rules old) new made (entry_of s (requests.Done results) w ∷ h)) (sym noted)
-          (noted-stands (core_rules old) h s k results joined good rows new ds after (sym noted ∙ told)
+      stands = subst (λ (r : Rules). KeepsBeside r new made (witnessed_entry (core_rules old) h s (requests.Done results) ∷ h)) (sym done.entered.rules)
+          (subst (λ (w : Logged). KeepsBeside (core_rules old) new made (entry_of s (requests.Done results) w ∷ h)) (sym answer)
+          (noted-stands (core_rules old) h s k results joined good rows new ds last (sym answer)
           (subst (λ (w : Logged). (p : ℕ) → agreed_commit (entry_of s (requests.Done results) w ∷ h) < p →
-          kept_at new p ≡ with_values k (reported p (counted_results (agreed_commit h) rows k results)) (kept_at rows p)) noted now)
+          kept_at new p ≡ with_values k (reported p (counted_results (agreed_commit h) rows k results)) (kept_at rows p)) answer now)
           is.stands));
     };
-    logged = told;
-    whole = done.whole ∙ ap (λ (w : Logged). full_reply (accepted (entry_of s (requests.Done results) x.logged ∷ h)) w) (sym done.logged);
+    entries = done.entered.entries ∙ ap (λ (w : Logged). before.entries ++ entry_of s (requests.Done results) w ∷ []) told;
+    room = done.entered.room;
+    whole = done.whole ∙ ap (full_reply (accepted (witnessed_entry (core_rules old) h s (requests.Done results) ∷ h))) told;
   }
     where
       made : List Dispute
@@ -118,11 +109,10 @@ as-opened core rows ds es none no_rows no_disputes keeps =
 
 -- Once a session had its End.
 pub after-end : (old core : Core) (rows : List RowView) (ds : List Dispute) (h : List Entry) (s : ℕ) → Standing old rows ds h → core_rules core ≡ core_rules old →
-    Keeps core (entry_of s requests.End logged.Bye ∷ agreed_history h) → Standing core rows ds (entry_of s requests.End logged.Bye ∷ h)
+    Keeps core (end_entry s ∷ agreed_history h) → Standing core rows ds (end_entry s ∷ h)
 after-end old core rows ds h s is same keeps = record {
-  keeps = subst (Keeps core) (sym (quiet-entry (entry_of s requests.End logged.Bye) h refl)) keeps;
-  stands = subst (λ (r : Rules). KeepsBeside r rows ds (entry_of s requests.End logged.Bye ∷ h)) (sym same)
-      (quiet-stands (core_rules old) rows ds (entry_of s requests.End logged.Bye) h refl refl is.stands);
+  keeps = subst (Keeps core) (sym (quiet-entry (end_entry s) h refl)) keeps;
+  stands = subst (λ (r : Rules). KeepsBeside r rows ds (end_entry s ∷ h)) (sym same) (quiet-stands (core_rules old) rows ds (end_entry s) h refl refl is.stands);
 }
 
 -- ---- Ends
@@ -157,49 +147,56 @@ stands-for a v h is view past =
     subst (λ (l : List Entry). Standing a.core a.testimony.reports a.testimony.disputes.items l) (ap history view ∙ sym past) (record { keeps = is.keeps; stands = is.stands })
 
 -- A request that is not noted was answered, by a server whose history its caller names.
-pub kept-replied : (a : Inside) (core : Core) (h : List Entry) (v : SequencerView) (s : ℕ) (q : Request) (d : Decision) (x : Answer) → IsWitness a → view_of a ≡ v → h ≡ history v →
-    CarriedOut a.core core (agreed_history h) s (emptied q) d x →
+pub kept-replied : (a : Inside) (core : Core) (j : JournalView) (h : List Entry) (v : SequencerView) (s : ℕ) (q : Request) (d : Decision) (reply : Reply) →
+    IsWitness a → view_of a ≡ v → h ≡ history v → EnteredReply a.core core a.journal j (agreed_history h) s q (emptied q) d reply →
     reply_by v.rules (agreed_history h) s (emptied q) d ≡ witnessed_reply v.rules h s q → is_noted (witnessed_reply v.rules h s q) ≡ false →
-    Replied a.core core a.testimony.reports a.testimony.disputes.items (reverse a.journal.entries) s q x
-kept-replied a core h v s q d x is view past done told quiet =
-    subst (λ (l : List Entry). Replied a.core core a.testimony.reports a.testimony.disputes.items l s q x) (past ∙ sym (ap history view))
-    (quiet-replied a.core core a.testimony.reports a.testimony.disputes.items h s q d x (stands-for a v h is view past) done
+    Replied a.core core a.journal j a.testimony.reports a.testimony.disputes.items (reverse a.journal.entries) s q reply
+kept-replied a core j h v s q d reply is view past done told quiet =
+    subst (λ (l : List Entry). Replied a.core core a.journal j a.testimony.reports a.testimony.disputes.items l s q reply) (past ∙ sym (ap history view))
+    (quiet-replied a.core core a.journal j a.testimony.reports a.testimony.disputes.items h s q d reply (stands-for a v h is view past) done
     (subst (λ (w : SequencerView). reply_by w.rules (agreed_history h) s (emptied q) d ≡ witnessed_reply w.rules h s q) (sym view) told)
     (subst (λ (w : SequencerView). is_noted (witnessed_reply w.rules h s q) ≡ false) (sym view) quiet))
 
 -- Nothing changed but room.
-pub still : (a b : Inside) → IsWitness a → core_rules b.core ≡ core_rules a.core → owed_by b.core ≡ owed_by a.core → Keeps b.core (agreed_history (reverse a.journal.entries)) →
-    b.journal.entries ≡ a.journal.entries → a.journal.spare ≤ b.journal.spare → AreSame a.testimony.reports b.testimony.reports → b.testimony.disputes.items ≡ a.testimony.disputes.items → IsWitness b
-still a b is rules owed keeps entries spare rows disputes = record {
-  keeps = subst (λ (es : List Entry). Keeps b.core (agreed_history (reverse es))) (sym entries) keeps;
-  stands = subst (λ (es : List Entry). KeepsBeside (core_rules b.core) b.testimony.reports b.testimony.disputes.items (reverse es)) (sym entries)
-      (subst (λ (r : Rules). KeepsBeside r b.testimony.reports b.testimony.disputes.items (reverse a.journal.entries)) (sym rules)
+still : (a b : Inside) → IsWitness a → NothingEntered a.core b.core a.journal b.journal (agreed_history (reverse a.journal.entries)) →
+    AreSame a.testimony.reports b.testimony.reports → b.testimony.disputes.items ≡ a.testimony.disputes.items → IsWitness b
+still a b is none rows disputes = record {
+  keeps = subst (λ (es : List Entry). Keeps b.core (agreed_history (reverse es))) (sym none.entries) none.core.keeps;
+  stands = subst (λ (es : List Entry). KeepsBeside (core_rules b.core) b.testimony.reports b.testimony.disputes.items (reverse es)) (sym none.entries)
+      (subst (λ (r : Rules). KeepsBeside r b.testimony.reports b.testimony.disputes.items (reverse a.journal.entries)) (sym none.core.rules)
       (subst (λ (ds : List Dispute). KeepsBeside (core_rules a.core) b.testimony.reports ds (reverse a.journal.entries)) (sym disputes)
       (same-stands (core_rules a.core) a.testimony.reports b.testimony.reports a.testimony.disputes.items (reverse a.journal.entries) rows is.stands)));
-  room = (let enough : owed_by a.core ≤ a.journal.spare = is.room in omega arith);
+  room = (let enough : owed_by a.core ≤ a.journal.spare = is.room in omega (arith, none.core.owed, none.room));
 }
 
--- A request was answered, and its entry is in the journal.
-module _ (a b : Inside) (m : JournalView) (s : ℕ) (q copy : Request) (x : Answer) (done : Replied a.core b.core b.testimony.reports b.testimony.disputes.items (reverse a.journal.entries) s q x)
-    (same : m.entries ≡ a.journal.entries) (is : copy ≡ q)
-    (put : b.journal ≡ record { entries = m.entries ++ entry_of s copy x.logged ∷ []; spare = m.spare - 1 }) where
-  entries : b.journal.entries ≡ a.journal.entries ++ entry_of s q x.logged ∷ []
-  entries = ap (λ (j : JournalView). j.entries) put ∙ ap₂ (λ (es : List Entry) (r : Request). es ++ entry_of s r x.logged ∷ []) same is
+-- The journal has an entry more, by which all that is kept stands.
+pub grown : (b : Inside) (es : List Entry) (e : Entry) → b.journal.entries ≡ es ++ e ∷ [] → Standing b.core b.testimony.reports b.testimony.disputes.items (e ∷ reverse es) →
+    HasRoomForEnds b.core b.journal → IsWitness b
+grown b es e grew is room = record {
+  keeps = subst (λ (l : List Entry). Keeps b.core (agreed_history l)) (sym past) is.keeps;
+  stands = subst (λ (l : List Entry). KeepsBeside (core_rules b.core) b.testimony.reports b.testimony.disputes.items l) (sym past) is.stands;
+  room = room;
+}
+  where
+    past : reverse b.journal.entries ≡ e ∷ reverse es
+    past = ap reverse grew ∙ reverse-append es (e ∷ [])
 
-  past : reverse b.journal.entries ≡ entry_of s q x.logged ∷ reverse a.journal.entries
-  past = ap reverse entries ∙ reverse-append a.journal.entries (entry_of s q x.logged ∷ [])
+-- A request was answered, or memory ran out.
+pub after-reply : {E : Type 0} (a b : Inside) (s : ℕ) (q : Request) (result : Result Reply E) → IsWitness a →
+    IfOk result (Replied a.core b.core a.journal b.journal b.testimony.reports b.testimony.disputes.items (reverse a.journal.entries) s q) →
+    OnErr result (NothingEntered a.core b.core a.journal b.journal (agreed_history (reverse a.journal.entries))) →
+    OnErr result (AreSame a.testimony.reports b.testimony.reports) → OnErr result (b.testimony.disputes.items ≡ a.testimony.disputes.items) → IsWitness b
+after-reply a b s q (Ok reply) is done none rows disputes =
+    grown b a.journal.entries (witnessed_entry (core_rules a.core) (reverse a.journal.entries) s q) done.entries done.standing done.room
+after-reply a b s q (Err error) is done none rows disputes = still a b is none rows disputes
 
-  pub entered : owed_by a.core + 1 ≤ m.spare → IsWitness b
-  entered room = record {
-    keeps = subst (λ (l : List Entry). Keeps b.core (agreed_history l)) (sym past) done.standing.keeps;
-    stands = subst (λ (l : List Entry). KeepsBeside (core_rules b.core) b.testimony.reports b.testimony.disputes.items l) (sym past) done.standing.stands;
-    room = (let owed : owed_by b.core ≡ owed_by a.core = done.owed in
-        let left : b.journal.spare ≡ m.spare - 1 = ap (λ (j : JournalView). j.spare) put in
-        omega arith);
-  }
-
-  pub witnessed : (v : SequencerView) → view_of a ≡ v → (reply : Reply) → reply ≡ x.reply → Witnesses v (view_of b) s q reply
-  witnessed v view reply told = subst (λ (w : SequencerView). Witnesses w (view_of b) s q reply) view (record {
-    grew = record { rules = done.rules; entries = entries ∙ ap (λ (w : Logged). a.journal.entries ++ entry_of s q w ∷ []) done.logged };
-    whole = told ∙ done.whole ∙ ap₂ (λ (l : List Entry) (w : Logged). full_reply (accepted l) w) (sym past) done.logged;
-  })
+-- So it was answered as it should be, as the server is seen.
+pub witnessed : (a b : Inside) (s : ℕ) (q : Request) (v : SequencerView) → view_of a ≡ v → (reply : Reply) →
+    Replied a.core b.core a.journal b.journal b.testimony.reports b.testimony.disputes.items (reverse a.journal.entries) s q reply → Witnesses v (view_of b) s q reply
+witnessed a b s q v view reply done = subst (λ (w : SequencerView). Witnesses w (view_of b) s q reply) view (record {
+  grew = record { rules = done.rules; entries = done.entries };
+  whole =
+      done.whole
+      ∙ ap (λ (l : List Entry). full_reply (accepted l) (witnessed_reply (core_rules a.core) (reverse a.journal.entries) s q))
+      (sym (ap reverse done.entries ∙ reverse-append a.journal.entries (witnessed_entry (core_rules a.core) (reverse a.journal.entries) s q ∷ [])));
+})

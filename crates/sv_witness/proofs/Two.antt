@@ -1,12 +1,11 @@
 -- What reports agree on was given by two different clients, or gives nothing.
-use Rattle.std.proofs.Common.{◌≡◌, ℕ, Bool, true, false, ◌||◌, ◌⊎◌, inl, inr, List, [], ◌∷◌, ℤ, Option, Some, None, refl, sym, ap, ◌∙◌, eq-eqb, true≢false}
+use Rattle.std.proofs.Common.{◌≡◌, ℕ, Bool, true, false, ◌||◌, ◌⊎◌, inl, inr, List, [], ◌∷◌, ℤ, Option, Some, None, refl, sym, ◌∙◌, eq-eqb, true≢false}
 use Rattle.std.specs.Prelude.{if◌then◌else◌}
 use Rattle.std.specs.List.{list_any}
-use Rattle.std.specs.Ordering.{int_eq}
-use Rattle.std.proofs.lemmas.Bool.{or_cases, or_parts, and_parts}
+use Rattle.std.proofs.lemmas.Bool.{or_cases, or_parts}
 use Rattle.std.proofs.lemmas.Bool.Decides.{Decides-int_eq}
 use Rattle.std.proofs.lemmas.Option.{none-some, same_Some}
-use lib.Pointwise.{pointwise}
+use lib.Pointwise.{pointwise_decides}
 use Rattle.sv_journal.specs.declared.entry.Entry.{Entry}
 use Rattle.sv_journal.specs.History.{either, client_of, commit_of}
 use Rattle.sv_client.specs.Same.{are_same_values}
@@ -16,21 +15,11 @@ use Rattle.sv_witness.specs.Agreement.{IsAmong, here, there, AreTwo, TwoAgree}
 
 -- ---- Values that are the same
 
-value-same : (v w : List ℤ) → pointwise int_eq v w ≡ true → v ≡ w
-value-same [] [] h = refl
-value-same [] (n ∷ w) h = cc
-value-same (m ∷ v) [] h = cc
-value-same (m ∷ v) (n ∷ w) h =
-    let e = and_parts (int_eq m n) (pointwise int_eq v w) h in
-    ap (λ (k : ℤ). k ∷ v) ((Decides-int_eq m n).0 e.0) ∙ ap (λ (l : List ℤ). n ∷ l) (value-same v w e.1)
-
 pub values-same : (vs ws : List (List ℤ)) → are_same_values vs ws ≡ true → vs ≡ ws
-values-same [] [] h = refl
-values-same [] (w ∷ ws) h = cc
-values-same (v ∷ vs) [] h = cc
-values-same (v ∷ vs) (w ∷ ws) h =
-    let e = and_parts (pointwise int_eq v w) (are_same_values vs ws) h in
-    ap (λ (k : List ℤ). k ∷ vs) (value-same v w e.0) ∙ ap (λ (l : List (List ℤ)). w ∷ l) (values-same vs ws e.1)
+values-same vs ws = (pointwise_decides (pointwise_decides Decides-int_eq) vs ws).0
+
+pub values-self : (vs : List (List ℤ)) → are_same_values vs vs ≡ true
+values-self vs = (pointwise_decides (pointwise_decides Decides-int_eq) vs vs).1 refl
 
 nothing-none : (vs : List (List ℤ)) → is_nothing vs ≡ true → vs ≡ []
 nothing-none [] e = refl

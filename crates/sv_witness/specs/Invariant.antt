@@ -1,6 +1,7 @@
 -- What a witnessing server's fields keep.
-use Rattle.std.specs.Prelude.{◌≤◌, reverse}
-use Rattle.sv_sequencer.specs.Cores.{core_rules, owed_by, Keeps}
+use Rattle.std.specs.Prelude.{reverse}
+use Rattle.sv_sequencer.specs.Cores.{core_rules, Keeps}
+use Rattle.sv_sequencer.specs.Entering.{HasRoomForEnds}
 use Rattle.sv_sequencer.specs.Step.{SequencerView}
 use Rattle.sv_witness.specs.declared.witness.Witness.TheInside.{Inside}
 use Rattle.sv_witness.specs.Reports.{agreed_history}
@@ -13,4 +14,4 @@ view_of a = record { rules = core_rules a.core; journal = a.journal }
 pub record IsWitness (a : Inside) : Type 0 where
   pub keeps : Keeps a.core (agreed_history (reverse a.journal.entries))
   pub stands : KeepsBeside (core_rules a.core) a.testimony.reports a.testimony.disputes.items (reverse a.journal.entries)
-  pub room : owed_by a.core ≤ a.journal.spare
+  pub room : HasRoomForEnds a.core a.journal

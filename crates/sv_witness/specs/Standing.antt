@@ -1,16 +1,19 @@
 -- What a witnessing server keeps beside its journal, and what answering a request makes of it.
 -- A history is the list of a journal's entries with the latest first.
-use Rattle.std.specs.Prelude.{◌≡◌, ℕ, Bool, true, false, List, [], ◌∷◌}
+use Rattle.std.specs.Prelude.{◌≡◌, ℕ, Bool, true, false, List, [], ◌∷◌, ◌++◌}
+use Rattle.sv_wire.specs.declared.message.Reply.{Reply}
 use Rattle.sv_wire.specs.declared.message.Request.{Request}
 use Rattle.sv_wire.specs.declared.message.Request.TheVariants as requests
 use Rattle.sv_journal.specs.declared.entry.Entry.{Entry}
 use Rattle.sv_journal.specs.History.{accepted, full_reply}
+use Rattle.sv_journal.specs.Answer.{Rules}
 use Rattle.sv_journal.specs.Serving.{is_poll}
-use Rattle.sv_sequencer.specs.declared.answer.Answer.{Answer}
+use Rattle.sv_journal.specs.View.{JournalView}
 use Rattle.sv_sequencer.specs.declared.decision.Decision.{Decision}
 use Rattle.sv_sequencer.specs.declared.decision.Decision.TheVariants as decisions
 use Rattle.sv_sequencer.specs.declared.server_core.Core.{Core}
-use Rattle.sv_sequencer.specs.Cores.{core_rules, owed_by, Keeps}
+use Rattle.sv_sequencer.specs.Cores.{core_rules, Keeps}
+use Rattle.sv_sequencer.specs.Entering.{HasRoomForEnds}
 use Rattle.sv_sequencer.specs.Step.{entry_of}
 use Rattle.sv_witness.specs.declared.report.Dispute.{Dispute}
 use Rattle.sv_witness.specs.Reports.{agreed_history}
@@ -42,10 +45,14 @@ pub record Standing (core : Core) (rows : List RowView) (disputes : List Dispute
   pub keeps : Keeps core (agreed_history h)
   pub stands : KeepsBeside (core_rules core) rows disputes h
 
--- A request was answered by the witnessed reply, in full, and all that is kept stands by its entry. The journal has still to get that.
-pub record Replied (old new : Core) (rows : List RowView) (disputes : List Dispute) (h : List Entry) (s : ℕ) (request : Request) (answer : Answer) : Type 0 where
+-- The entry of a request, with the witnessed reply.
+abbrev pub witnessed_entry : Rules → List Entry → ℕ → Request → Entry
+witnessed_entry r h s request = entry_of s request (witnessed_reply r h s request)
+
+-- A request was answered by the witnessed reply, in full, and all that is kept stands by its entry, which the journal has.
+pub record Replied (old new : Core) (before after : JournalView) (rows : List RowView) (disputes : List Dispute) (h : List Entry) (s : ℕ) (request : Request) (reply : Reply) : Type 0 where
   pub rules : core_rules new ≡ core_rules old
-  pub owed : owed_by new ≡ owed_by old
-  pub standing : Standing new rows disputes (entry_of s request answer.logged ∷ h)
-  pub logged : answer.logged ≡ witnessed_reply (core_rules old) h s request
-  pub whole : answer.reply ≡ full_reply (accepted (entry_of s request answer.logged ∷ h)) answer.logged
+  pub standing : Standing new rows disputes (witnessed_entry (core_rules old) h s request ∷ h)
+  pub entries : after.entries ≡ before.entries ++ witnessed_entry (core_rules old) h s request ∷ []
+  pub room : HasRoomForEnds new after
+  pub whole : reply ≡ full_reply (accepted (witnessed_entry (core_rules old) h s request ∷ h)) (witnessed_reply (core_rules old) h s request)

@@ -8,13 +8,13 @@ ghost use Rattle.sv_witness.specs.Reports.{is_by};
 ghost use Rattle.sv_witness.specs.Kept.{kept_at, report_by, counts_as_report, counted_results, agrees, brings, agreed_results, new_disputes};
 
 use crate::report::{Dispute, Report};
-use crate::reports::{Reports, are_same_values};
+use crate::reports::Reports;
 use std::alloc::{AllocError, Global};
 use std::marker::Brand;
 use std::sync::ledger::{Blank, Ledger};
+use sv_client::are_same_values;
 use sv_queue::{Queue, Steps};
-use sv_sequencer::copy_report;
-use sv_wire::Done1;
+use sv_wire::{Done1, copy_result};
 use sv_world::{ClientId, copy_values};
 
 /// What the results of a client are: those that count as its reports, of these the ones that bring agreement, and the disputes that they make.
@@ -71,7 +71,7 @@ fn copy_counted(
     let mut copies = Vec::new(alloc);
     for found in results {
         if counts(reports, commit, client, found.pos) {
-            copies.push(copy_report(alloc, found)?)?;
+            copies.push(copy_result(alloc, found)?)?;
         }
     }
     Ok(copies)
@@ -90,7 +90,7 @@ fn copy_agreed(
     let mut copies = Vec::new(alloc);
     for found in counted {
         if brings::<Brand>(queue, reports, found, Blank::new(1)) {
-            copies.push(copy_report(alloc, found)?)?;
+            copies.push(copy_result(alloc, found)?)?;
         }
     }
     Ok(copies)

@@ -7,8 +7,7 @@ use crate::reports::Reports;
 use crate::testimony::Testimony;
 use crate::witness::Witness;
 use std::alloc::{AllocError, Global};
-use sv_journal::Journal;
-use sv_sequencer::Core;
+use sv_sequencer::open_core;
 use sv_world::World;
 
 impl Witness {
@@ -31,9 +30,7 @@ impl Witness {
         ensures rules { IfOk result (λ s. s.rules ≡ record { world = world; bound = bound; reach = reach; sessions = sessions }) }
         ensures empty { IfOk result (λ s. s.journal.entries ≡ []) }
     {
-        let core = Core::new(alloc, world, bound, reach, sessions)?;
-        let mut journal = Journal::new(alloc);
-        journal.reserve(sessions as usize)?;
+        let (core, journal) = open_core(alloc, world, bound, reach, sessions)?;
         Ok(Witness {
             alloc,
             core,

@@ -3,13 +3,13 @@ ghost use Rattle.std.specs.Prelude.{◌≡◌, ℕ, ◌<◌, ◌≤◌, ◌||◌
 ghost use Rattle.std.specs.List.{list_any, AllByRecursion};
 ghost use Rattle.sv_wire.specs.declared.message.Done1.{Done1};
 ghost use Rattle.sv_journal.specs.History.{reported};
-ghost use Rattle.sv_client.specs.Same.{are_same_values};
 ghost use Rattle.sv_witness.specs.Reports.{is_by, gives, is_nothing};
 ghost use Rattle.sv_witness.specs.Kept.{no_row, kept_at, HasRoomFor, AreOnce, report_by, with_values, agrees};
 
 use crate::report::Report;
 use std::alloc::{AllocError, Global};
 use std::marker::Model;
+use sv_client::are_same_values;
 use sv_wire::Done1;
 use sv_world::{ClientId, Value};
 
@@ -67,7 +67,7 @@ impl Row {
     }
 }
 
-/// The reports of all positions above the commit, each position's in the row at its place. Row 0 is of no position.
+/// The reports of all positions above the commit, each position's in the row at its place. The first row is of no position.
 #[derive(Debug, Drop)]
 pub struct Reports {
     alloc: Global,
@@ -221,18 +221,6 @@ fn are_given(reports: &[Report], values: &[Value]) -> bool
         return false;
     };
     are_same_values(first.values.as_slice(), values) || are_given(rest, values)
-}
-
-pub fn are_same_values(values: &[Value], others: &[Value]) -> bool
-    ensures { result ≡ are_same_values values.now others.now }
-{
-    let [value, rest @ ..] = values else {
-        return others.is_empty();
-    };
-    let [other, other_rest @ ..] = others else {
-        return false;
-    };
-    value.as_slice() == other.as_slice() && are_same_values(rest, other_rest)
 }
 
 /// Makes room for a report of each result's position.

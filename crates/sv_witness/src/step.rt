@@ -1,18 +1,18 @@
 //! A step of a witnessing server. Its core decides by the history of what was agreed, but for what is noted and what is polled.
-ghost use Rattle.std.specs.Prelude.{◌≡◌, ℕ, ◌≤◌, ◌<◌, ◌+◌, List, ◌-◌, [], ◌∷◌, ◌++◌, length, true, false, Some, All, IfOk, IsOk, OnErr, OnOk, vec_len, vec_capacity};
+ghost use Rattle.std.specs.Prelude.{◌≡◌, ℕ, ◌≤◌, ◌<◌, ◌+◌, List, length, true, false, Some, All, IfOk, IsOk, OnErr, OnOk, vec_len, vec_capacity};
 ghost use Rattle.std.specs.List.{AllByRecursion};
 ghost use Rattle.sv_wire.specs.declared.message.Done1.{Done1};
 ghost use Rattle.sv_wire.specs.declared.message.Request.TheVariants as requests;
 ghost use Rattle.sv_queue.specs.Queue.{last_position};
 ghost use Rattle.sv_journal.specs.declared.entry.Entry.{Entry};
-ghost use Rattle.sv_journal.specs.declared.entry.Logged.TheVariants as logged;
 ghost use Rattle.sv_journal.specs.History.{client_of, is_noted};
 ghost use Rattle.sv_journal.specs.Sessions.{is_end, is_ended};
 ghost use Rattle.sv_journal.specs.Answer.{is_bad_done};
 ghost use Rattle.sv_journal.specs.Serving.{is_poll, noted_after, polled_after};
-ghost use Rattle.sv_sequencer.specs.Cores.{core_rules, queue_of, Keeps, CarriedOut, Remained};
+ghost use Rattle.sv_sequencer.specs.Cores.{core_rules, queue_of, Keeps};
 ghost use Rattle.sv_sequencer.specs.Decisions.{Holds, reply_by, results_in};
-ghost use Rattle.sv_sequencer.specs.Step.{history, entry_of, GrewByEntry, Stayed};
+ghost use Rattle.sv_sequencer.specs.Entering.{EnteredReply, NothingEntered};
+ghost use Rattle.sv_sequencer.specs.Step.{history, end_entry, GrewByEntry, Stayed};
 ghost use Rattle.sv_witness.specs.Reports.{agreed_history};
 ghost use Rattle.sv_witness.specs.Kept.{kept_at, HasRoomFor, counted_results, agreed_results, new_disputes};
 ghost use Rattle.sv_witness.specs.Due.{due_in};
@@ -27,10 +27,10 @@ use crate::reports::{Reports, add_all, reserve_all};
 use crate::testimony::{Asker, Testimony};
 use crate::witness::Witness;
 use std::alloc::{AllocError, Global};
-use sv_journal::{Entry, Logged};
+use sv_journal::Journal;
 use sv_queue::Queue;
-use sv_sequencer::{Answer, Core, Decision, enter, results_of};
-use sv_wire::{Done1, Reply, Request, copy_request};
+use sv_sequencer::{Core, Decision, enter_end, enter_reply, results_of};
+use sv_wire::{Done1, Reply, Request};
 use sv_world::List;
 
 fn is_poll(request: &Request) -> bool
@@ -87,43 +87,46 @@ fn note_ahead(
     Ok(noting)
 }
 
-/// Does what was decided on a request. In the history of what was agreed, `h`, a Done that is not noted has no results.
-fn carry_emptied(
+/// Does what was decided on a request that is not noted, and enters it. In the history of what was agreed, `h`, a Done that is not noted has no
+/// results.
+fn enter_emptied(
     alloc: Global,
     core: &mut Core,
+    journal: &mut Journal,
     session: u16,
     request: &Request,
     decision: Decision,
-) -> Result<Answer, AllocError>
+) -> Result<Reply, AllocError>
     ghost h: { List Entry }
     requires keeps { Keeps core.old h }
     requires session { session < (core_rules core.old).sessions }
     requires more { is_end request.now ≡ false }
     requires holds { Holds (core_rules core.old) h session (emptied request.now) decision }
-    ensures ok { IfOk result (CarriedOut core.old core.new h session (emptied request.now) decision) }
-    ensures err { OnErr result (Remained core.old core.new h) }
+    ensures ok { IfOk result (EnteredReply core.old core.new journal.old journal.new h session request.now (emptied request.now) decision) }
+    ensures err { OnErr result (NothingEntered core.old core.new journal.old journal.new h) }
 {
     if let Request::Done { .. } = request {
         let done = Request::Done {
             results: List::new(alloc),
         };
-        let carried = core.carry_out(session, &done, decision);
+        let entered = enter_reply(core, journal, session, request, &done, decision);
         // A tree that is let go at the end of its scope makes a long proof; a call that takes it, none.
         drop(done);
-        return carried;
+        return entered;
     }
-    core.carry_out(session, request, decision)
+    enter_reply(core, journal, session, request, request, decision)
 }
 
-/// Notes a Done that is not bad, when all is known of its results and there is room for what they change: those that bring agreement are
-/// installed, and all count as the client's reports. `h` is the journal's history.
+/// Notes a Done that is not bad, when all is known of its results and there is room for what they change, and enters it: those that bring
+/// agreement are installed, and all count as the client's reports. `h` is the journal's history.
 fn install(
     core: &mut Core,
+    journal: &mut Journal,
     testimony: &mut Testimony,
     session: u16,
     request: &Request,
     noting: Noting,
-) -> Result<Answer, AllocError>
+) -> Result<Reply, AllocError>
     ghost h: { List Entry }
     requires standing { Standing core.old testimony.old.reports testimony.old.disputes.items h }
     requires session { session < (core_rules core.old).sessions }
@@ -136,8 +139,8 @@ fn install(
     requires made { noting.disputes.items ≡ new_disputes testimony.old.reports noting.client noting.counted.items }
     requires rows { AllByRecursion (λ (d : Done1). HasRoomFor testimony.old.reports d.pos) noting.counted.items }
     requires places { vec_len testimony.old.disputes + length noting.disputes.items ≤ vec_capacity testimony.old.disputes }
-    ensures ok { IfOk result (Replied core.old core.new testimony.new.reports testimony.new.disputes.items h session request.now) }
-    ensures core { OnErr result (Remained core.old core.new (agreed_history h)) }
+    ensures ok { IfOk result (Replied core.old core.new journal.old journal.new testimony.new.reports testimony.new.disputes.items h session request.now) }
+    ensures err { OnErr result (NothingEntered core.old core.new journal.old journal.new (agreed_history h)) }
     ensures testimony { OnErr result (testimony.new ≡ testimony.old) }
 {
     let Noting {
@@ -150,14 +153,14 @@ fn install(
         results: List::from_vec(agreed),
     };
     let before = core.commit();
-    let carried = core.carry_out(session, &done, Decision::Note);
+    let entered = enter_reply(core, journal, session, request, &done, Decision::Note);
     drop(done);
-    match carried {
-        Ok(answer) => {
+    match entered {
+        Ok(reply) => {
             add_all(&mut testimony.reports, client, counted);
             enter_all(&mut testimony.disputes, made);
             testimony.reports.forget(before, core.commit());
-            Ok(answer)
+            Ok(reply)
         }
         Err(error) => {
             drop(counted);
@@ -206,14 +209,9 @@ impl Witness {
         requires past { h ≡ history self.old }
         requires session { session < self.old.rules.sessions }
         requires first { is_ended h session ≡ false }
-        ensures { GrewByEntry self.old self.new (entry_of session requests.End logged.Bye) }
+        ensures { GrewByEntry self.old self.new (end_entry session) }
     {
-        self.core.end(session);
-        self.journal.push(Entry {
-            session,
-            request: Request::End,
-            reply: Logged::Bye,
-        });
+        enter_end(&mut self.core, &mut self.journal, session);
     }
 
     /// Answers a request that is no End. `h` is the journal's history.
@@ -252,15 +250,14 @@ impl Witness {
         ensures ok { IfOk result (Witnesses self.old self.new session request.now) }
         ensures err { OnErr result (Stayed self.old self.new) }
     {
-        self.journal.reserve(self.core.owed() as usize + 1)?;
-        let copy = copy_request(self.alloc, request)?;
-        match carry_emptied(self.alloc, &mut self.core, session, request, decision) {
-            Ok(answer) => Ok(enter(&mut self.journal, session, copy, answer)),
-            Err(error) => {
-                drop(copy);
-                Err(error)
-            }
-        }
+        enter_emptied(
+            self.alloc,
+            &mut self.core,
+            &mut self.journal,
+            session,
+            request,
+            decision,
+        )
     }
 
     /// Answers a Poll that is not refused: with the lowest position that is due. `h` is the journal's history.
@@ -296,35 +293,20 @@ impl Witness {
         let Some(client) = self.core.client(session) else {
             return Err(AllocError);
         };
-        self.journal.reserve(self.core.owed() as usize + 1)?;
-        let copy = copy_request(self.alloc, request)?;
-        let noted = note_ahead(
+        let noting = note_ahead(
             self.alloc,
             self.core.queue(),
             &mut self.testimony,
             client,
             results_of(request),
-        );
-        let noting = match noted {
-            Ok(noting) => noting,
-            Err(error) => {
-                drop(copy);
-                return Err(error);
-            }
-        };
-        let installed = install(
+        )?;
+        install(
             &mut self.core,
+            &mut self.journal,
             &mut self.testimony,
             session,
             request,
             noting,
-        );
-        match installed {
-            Ok(answer) => Ok(enter(&mut self.journal, session, copy, answer)),
-            Err(error) => {
-                drop(copy);
-                Err(error)
-            }
-        }
+        )
     }
 }

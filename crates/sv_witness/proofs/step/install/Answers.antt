@@ -5,13 +5,14 @@ use Rattle.sv_wire.specs.declared.message.Done1.{Done1}
 use Rattle.sv_wire.specs.declared.message.Request.TheVariants as requests
 use Rattle.sv_journal.specs.Answer.{is_bad_result}
 use Rattle.sv_sequencer.specs.declared.decision.Decision.TheVariants as decisions
-use Rattle.sv_sequencer.specs.Cores.{core_rules, CarriedOut}
+use Rattle.sv_sequencer.specs.Cores.{core_rules}
+use Rattle.sv_sequencer.specs.Entering.{EnteredReply}
 use Rattle.sv_witness.specs.Reports.{agreed_history}
 use Rattle.sv_witness.proofs.Installed.{install-good, install-once, installed}
 use Rattle.sv_witness.proofs.step.install.Goals as goal
 
-pub carry_out-carried-requires : goal.carry_out-carried-requires
-carry_out-carried-requires g c =
+pub enter_reply-entered-requires : goal.enter_reply-entered-requires
+enter_reply-entered-requires g c =
     let n = c.args.noting in
     let r = c.requires in
     let standing = r.0 in (
@@ -42,7 +43,7 @@ returns-in-Ok-clause-ok g c =
     let n = c.args.noting in
     let r = c.requires in
     installed c.args.core.now c.args.testimony.now.reports c.args.testimony.now.disputes.items g.h c.args.session n.client c.args.request.now n.counted.items n.agreed.items n.disputes.items
-    r.0 r.1.1.0 r.1.1.1.0 r.1.1.1.1.0 r.1.1.1.1.1.0 r.1.1.1.1.1.1.0 r.1.1.1.1.1.1.1.0 r.1.1.1.1.1.1.1.1.0 c.carry_out-carried.new.self c.in-Ok.answer
-    (subst (λ (l : List Done1). CarriedOut c.args.core.now c.carry_out-carried.new.self (agreed_history g.h) c.args.session (requests.Done l) decisions.Note c.in-Ok.answer) c.from_vec.ensures
-    c.in-Ok.ensures.ok)
+    r.0 r.1.1.0 r.1.1.1.0 r.1.1.1.1.0 r.1.1.1.1.1.0 r.1.1.1.1.1.1.0 r.1.1.1.1.1.1.1.0 r.1.1.1.1.1.1.1.1.0 c.enter_reply-entered.new.core c.args.journal.now c.enter_reply-entered.new.journal c.in-Ok.reply
+    (subst (λ (l : List Done1). EnteredReply c.args.core.now c.enter_reply-entered.new.core c.args.journal.now c.enter_reply-entered.new.journal (agreed_history g.h) c.args.session c.args.request.now
+    (requests.Done l) decisions.Note c.in-Ok.reply) c.from_vec.ensures c.in-Ok.ensures.ok)
     c.commit.result c.add_all.new.reports c.forget.new.self c.enter_all.new.disputes.items c.commit.ensures c.add_all.ensures c.forget.ensures c.enter_all.ensures

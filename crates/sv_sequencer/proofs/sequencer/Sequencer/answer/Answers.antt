@@ -1,7 +1,12 @@
 -- What the check leaves to prove of `Sequencer::answer`.
-use Rattle.std.proofs.Common.{◌<◌, sym, ◌∙◌, ap, subst}
-use Rattle.sv_sequencer.specs.Cores.{Keeps}
+use Rattle.std.proofs.Common.{◌≡◌, ◌<◌, List, IfOk, OnErr, sym, ◌∙◌, ap, subst}
+use Rattle.sv_journal.specs.declared.entry.Entry.{Entry}
+use Rattle.sv_journal.specs.Answer.{reply_to}
+use Rattle.sv_sequencer.specs.Cores.{core_rules, Keeps}
+use Rattle.sv_sequencer.specs.Decisions.{reply_by}
+use Rattle.sv_sequencer.specs.Entering.{EnteredReply, NothingEntered}
 use Rattle.sv_sequencer.specs.Step.{SequencerView, history}
+use Rattle.sv_sequencer.proofs.Stepped.{reply-open, after-reply}
 use Rattle.sv_sequencer.proofs.sequencer.Sequencer.answer.Goals as goal
 
 pub decide-decision-requires : goal.decide-decision-requires
@@ -10,8 +15,23 @@ decide-decision-requires g c = (
   subst (λ (v : SequencerView). c.args.session < v.rules.sessions) (sym c.self.view_is) c.requires.1.0,
 )
 
-pub carry_out-requires : goal.carry_out-requires
-carry_out-requires g c = (
+pub enter_reply-requires : goal.enter_reply-requires
+enter_reply-requires g c = (
   subst (Keeps c.self.inside.core) (ap history c.self.view_is ∙ sym c.requires.0) c.self.invariant.keeps,
   (subst (λ (v : SequencerView). c.args.session < v.rules.sessions) (sym c.self.view_is) c.requires.1.0, (c.requires.1.1, c.decide-decision.ensures.holds)),
 )
+
+pub invariant_of-self : goal.invariant_of-self
+invariant_of-self g c =
+    let a = c.self.inside in
+    let s = c.args.session in
+    let q = c.args.request.now in
+    let d = c.decide-decision.result in
+    let core = c.enter_reply.new.core in
+    let journal = c.enter_reply.new.journal in
+    let at = c.requires.0 ∙ sym (ap history c.self.view_is) in
+    let told = c.decide-decision.ensures.reply ∙ sym (reply-open (core_rules a.core) g.h s q c.requires.1.1) in
+    after-reply a core journal s q d c.enter_reply.result c.self.invariant
+    (subst (λ (h : List Entry). reply_by (core_rules a.core) h s q d ≡ reply_to (core_rules a.core) h s q) at told)
+    (subst (λ (h : List Entry). IfOk c.enter_reply.result (EnteredReply a.core core a.journal journal h s q q d)) at c.enter_reply.ensures.ok)
+    (subst (λ (h : List Entry). OnErr c.enter_reply.result (NothingEntered a.core core a.journal journal h)) at c.enter_reply.ensures.err)

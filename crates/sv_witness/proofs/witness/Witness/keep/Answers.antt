@@ -1,16 +1,18 @@
 -- What the check leaves to prove of `Witness::keep`.
-use Rattle.std.proofs.Common.{◌<◌, List, sym, ◌∙◌, ap, subst, arith}
+use Rattle.std.proofs.Common.{◌<◌, List, OnErr, refl, sym, ◌∙◌, ap, subst}
+use Rattle.std.proofs.lemmas.Result.{IfOk-weaker, on_err_weaker}
 use Rattle.sv_journal.specs.declared.entry.Entry.{Entry}
 use Rattle.sv_sequencer.specs.Cores.{Keeps}
 use Rattle.sv_sequencer.specs.Decisions.{Holds}
+use Rattle.sv_sequencer.specs.Entering.{NothingEntered}
 use Rattle.sv_sequencer.specs.Step.{SequencerView, history}
 use Rattle.sv_witness.specs.Reports.{agreed_history}
 use Rattle.sv_witness.specs.Standing.{emptied}
-use Rattle.sv_witness.proofs.Stepped.{kept-replied, entered, witnessed}
+use Rattle.sv_witness.proofs.Stepped.{kept-replied, after-reply, witnessed}
 use Rattle.sv_witness.proofs.witness.Witness.keep.Goals as goal
 
-pub carry_emptied-requires : goal.carry_emptied-requires
-carry_emptied-requires g c = (
+pub enter_emptied-requires : goal.enter_emptied-requires
+enter_emptied-requires g c = (
   subst (λ (h : List Entry). Keeps c.self.inside.core (agreed_history h)) (ap history c.self.view_is ∙ sym c.requires.0) c.self.invariant.keeps,
   (
     subst (λ (v : SequencerView). c.args.session < v.rules.sessions) (sym c.self.view_is) c.requires.1.0,
@@ -21,18 +23,25 @@ carry_emptied-requires g c = (
   ),
 )
 
-pub invariant_of-self-in-Ok : goal.invariant_of-self-in-Ok
-invariant_of-self-in-Ok g c =
+pub invariant_of-self : goal.invariant_of-self
+invariant_of-self g c =
     let a = c.self.inside in
-    let done = kept-replied a c.carry_emptied.new.core g.h c.args.self.now c.args.session c.args.request.now c.args.decision c.in-Ok.answer c.self.invariant c.self.view_is c.requires.0
-    c.in-Ok.ensures.ok c.requires.1.1.1.1.0 c.requires.1.1.1.1.1 in
-    entered a _ c.reserve.new.self c.args.session c.args.request.now c.in_ok-copy.copy c.in-Ok.answer done c.reserve.ensures.entries c.in_ok-copy.ensures c.enter.ensures.journal
-    (omega (arith, c.in_ok-reserve.ensures.ok, c.owed.ensures))
+    let s = c.args.session in
+    let q = c.args.request.now in
+    let result = c.enter_emptied.result in
+    let core = c.enter_emptied.new.core in
+    let journal = c.enter_emptied.new.journal in
+    let done = IfOk-weaker result _ _ (λ reply is. kept-replied a core journal g.h c.args.self.now s q c.args.decision reply c.self.invariant c.self.view_is c.requires.0 is
+    c.requires.1.1.1.1.0 c.requires.1.1.1.1.1) c.enter_emptied.ensures.ok in
+    let none = subst (λ (h : List Entry). OnErr result (NothingEntered a.core core a.journal journal (agreed_history h))) (c.requires.0 ∙ sym (ap history c.self.view_is)) c.enter_emptied.ensures.err in
+    after-reply a (record a { core = core; journal = journal }) s q result c.self.invariant done none (on_err_weaker result _ _ (λ _ p. refl) none) (on_err_weaker result _ _ (λ _. refl) none)
 
-pub returns-in-Ok-clause-ok : goal.returns-in-Ok-clause-ok
-returns-in-Ok-clause-ok g c =
+pub returns-clause-ok : goal.returns-clause-ok
+returns-clause-ok g c =
     let a = c.self.inside in
-    let done = kept-replied a c.carry_emptied.new.core g.h c.args.self.now c.args.session c.args.request.now c.args.decision c.in-Ok.answer c.self.invariant c.self.view_is c.requires.0
-    c.in-Ok.ensures.ok c.requires.1.1.1.1.0 c.requires.1.1.1.1.1 in
-    witnessed a (record a { core = c.carry_emptied.new.core; journal = c.enter.new.journal }) c.reserve.new.self c.args.session c.args.request.now c.in_ok-copy.copy c.in-Ok.answer done
-    c.reserve.ensures.entries c.in_ok-copy.ensures c.enter.ensures.journal c.args.self.now c.self.view_is _ c.enter.ensures.reply
+    let s = c.args.session in
+    let q = c.args.request.now in
+    let core = c.enter_emptied.new.core in
+    let journal = c.enter_emptied.new.journal in
+    IfOk-weaker c.enter_emptied.result _ _ (λ reply is. witnessed a (record a { core = core; journal = journal }) s q c.args.self.now c.self.view_is reply
+    (kept-replied a core journal g.h c.args.self.now s q c.args.decision reply c.self.invariant c.self.view_is c.requires.0 is c.requires.1.1.1.1.0 c.requires.1.1.1.1.1)) c.enter_emptied.ensures.ok

@@ -2,5 +2,5 @@
 use Rattle.sv_witness.specs.Reports.{agreed_history}
 use Rattle.sv_witness.proofs.witness.Witness.keep.Given as goal
 
-abbrev pub ghost-carry_emptied : goal.ghost-carry_emptied
-ghost-carry_emptied g a = agreed_history g.h
+abbrev pub ghost-enter_emptied : goal.ghost-enter_emptied
+ghost-enter_emptied g a = agreed_history g.h

@@ -1,27 +1,32 @@
 -- What the check leaves to prove of `Witness::note_results`.
-use Rattle.std.proofs.Common.{◌≡◌, ◌<◌, ◌≤◌, false, All, List, Some, sym, ◌∙◌, ap, subst}
+use Rattle.std.proofs.Common.{◌≡◌, ◌<◌, ◌≤◌, false, All, List, Some, IfOk, OnErr, sym, ◌∙◌, ap, subst}
+use Rattle.std.proofs.lemmas.Result.{IfOk-weaker, on_err_weaker}
 use Rattle.sv_wire.specs.declared.message.Done1.{Done1}
 use Rattle.sv_queue.specs.Queue.{QueueView, last_position}
+use Rattle.sv_journal.specs.declared.entry.Entry.{Entry}
 use Rattle.sv_journal.specs.Answer.{is_bad_done}
 use Rattle.sv_journal.specs.Serving.{noted_after}
 use Rattle.sv_sequencer.specs.Cores.{core_rules, queue_of}
 use Rattle.sv_sequencer.specs.Decisions.{results_in}
-use Rattle.sv_sequencer.specs.Step.{SequencerView}
+use Rattle.sv_sequencer.specs.Entering.{NothingEntered}
+use Rattle.sv_sequencer.specs.Step.{SequencerView, history}
+use Rattle.sv_witness.specs.declared.testimony.Testimony.{Testimony}
 use Rattle.sv_witness.specs.Reports.{agreed_history}
 use Rattle.sv_witness.specs.declared.report.Dispute.{Dispute}
-use Rattle.sv_witness.specs.Kept.{counted_results, agreed_results, new_disputes, KeepsBeside}
+use Rattle.sv_witness.specs.Kept.{kept_at, counted_results, agreed_results, new_disputes, KeepsBeside}
+use Rattle.sv_witness.specs.Standing.{Replied}
 use Rattle.sv_witness.specs.Witnessed.{agreed, witnessed_reply}
 use Rattle.sv_witness.proofs.KeptRows.{same-counted, same-agreed, same-disputes}
 use Rattle.sv_witness.proofs.Same.{client-agreed}
-use Rattle.sv_witness.proofs.Stepped.{stands-for, same-stands}
+use Rattle.sv_witness.proofs.Stepped.{stands-for, same-stands, after-reply, witnessed}
 use Rattle.sv_witness.proofs.Steps.{reported-low}
 use Rattle.sv_witness.proofs.witness.Witness.note_results.Goals as goal
 
 pub client-requires : goal.client-requires
 client-requires g c = subst (λ (v : SequencerView). c.args.session < v.rules.sessions) (sym c.self.view_is) c.requires.1.0
 
-pub note_ahead-noted-requires : goal.note_ahead-noted-requires
-note_ahead-noted-requires g c =
+pub note_ahead-noting-requires : goal.note_ahead-noting-requires
+note_ahead-noting-requires g c =
     let a = c.self.inside in
     let h = g.h in
     let s = c.args.session in
@@ -32,8 +37,8 @@ note_ahead-noted-requires g c =
     (subst (All (λ (d : Done1). d.pos ≤ last_position (queue_of a.core))) (sym c.results_of.ensures)
     (reported-low (core_rules a.core) h s c.in-Some.client (results_in c.args.request.now) joined good (queue_of a.core) is.keeps.fits.last))
 
-pub install-installed-requires : goal.install-installed-requires
-install-installed-requires g c =
+pub install-requires : goal.install-requires
+install-requires g c =
     let a = c.self.inside in
     let h = g.h in
     let s = c.args.session in
@@ -41,16 +46,16 @@ install-installed-requires g c =
     let q = c.args.request.now in
     let v = queue_of a.core in
     let rows = a.testimony.reports in
-    let new = c.note_ahead-noted.new.testimony.reports in
-    let noting = c.in-Ok.noting in
-    let said = c.in-Ok.ensures in
-    let same = c.note_ahead-noted.ensures.reports in
+    let new = c.note_ahead-noting.new.testimony.reports in
+    let noting = c.in_ok-noting.noting in
+    let said = c.in_ok-noting.ensures in
+    let same = c.note_ahead-noting.ensures.reports in
     let is = stands-for a c.args.self.now h c.self.invariant c.self.view_is c.requires.0 in
     let joined = sym (client-agreed h s) ∙ sym (c.client.ensures (agreed_history h) is.keeps) ∙ c.in-Some.is in
     let good = subst (λ (w : SequencerView). is_bad_done w.rules (agreed_history h) s (results_in q) ≡ false) (sym c.self.view_is) c.requires.1.1.1.0 in
     let reply = subst (λ (w : SequencerView). witnessed_reply w.rules h s q ≡ noted_after agreed h s q) (sym c.self.view_is) c.requires.1.1.1.1 in
     let low = subst (λ (w : SequencerView). s < w.rules.sessions) (sym c.self.view_is) c.requires.1.0 in
-    let stands = subst (λ (ds : List Dispute). KeepsBeside (core_rules a.core) new ds h) (sym c.note_ahead-noted.ensures.disputes)
+    let stands = subst (λ (ds : List Dispute). KeepsBeside (core_rules a.core) new ds h) (sym c.note_ahead-noting.ensures.disputes)
     (same-stands (core_rules a.core) rows new a.testimony.disputes.items h same is.stands) in
     let named = sym said.client in
     let counted = said.counted ∙ ap (λ (w : QueueView). counted_results w.commit rows k c.results_of.result.now) c.queue.ensures ∙ ap (counted_results v.commit rows k) c.results_of.ensures
@@ -62,3 +67,31 @@ install-installed-requires g c =
       record { keeps = is.keeps; stands = stands },
       (low, (joined ∙ ap Some named, (c.requires.1.1.0, (good, (reply, (counted, (brought, (made, (said.rows, said.places))))))))),
     )
+
+pub invariant_of-self : goal.invariant_of-self
+invariant_of-self g c =
+    let a = c.self.inside in
+    let s = c.args.session in
+    let q = c.args.request.now in
+    let result = c.install.result in
+    let core = c.install.new.core in
+    let journal = c.install.new.journal in
+    let kept = c.install.new.testimony in
+    let at = c.requires.0 ∙ sym (ap history c.self.view_is) in
+    after-reply a (record a { core = core; journal = journal; testimony = kept }) s q result c.self.invariant
+    (subst (λ (h : List Entry). IfOk result (Replied a.core core a.journal journal kept.reports kept.disputes.items h s q)) at c.install.ensures.ok)
+    (subst (λ (h : List Entry). OnErr result (NothingEntered a.core core a.journal journal (agreed_history h))) at c.install.ensures.err)
+    (on_err_weaker result _ _ (λ same p. ap (λ (t : Testimony). kept_at t.reports p) same ∙ c.note_ahead-noting.ensures.reports p) c.install.ensures.testimony)
+    (on_err_weaker result _ _ (λ same. ap (λ (t : Testimony). t.disputes.items) same ∙ c.note_ahead-noting.ensures.disputes) c.install.ensures.testimony)
+
+pub returns-clause-ok : goal.returns-clause-ok
+returns-clause-ok g c =
+    let a = c.self.inside in
+    let s = c.args.session in
+    let q = c.args.request.now in
+    let core = c.install.new.core in
+    let journal = c.install.new.journal in
+    let kept = c.install.new.testimony in
+    let at = c.requires.0 ∙ sym (ap history c.self.view_is) in
+    IfOk-weaker c.install.result _ _ (witnessed a (record a { core = core; journal = journal; testimony = kept }) s q c.args.self.now c.self.view_is)
+    (subst (λ (h : List Entry). IfOk c.install.result (Replied a.core core a.journal journal kept.reports kept.disputes.items h s q)) at c.install.ensures.ok)

@@ -1,6 +1,0 @@
--- What gets smaller in `are_same_values`.
-use Rattle.std.proofs.Common.{length}
-use Rattle.sv_witness.proofs.reports.+are_same_values.Given as goal
-
-abbrev pub decreases-are_same_values : goal.decreases-are_same_values
-decreases-are_same_values l = length l.values.now
