@@ -1,5 +1,5 @@
 -- Replies that a pilot takes, one after the other.
-use Rattle.std.proofs.Common.{◌≡◌, ℕ, List, [], ◌∷◌, ◌++◌, sym, ap, ◌∙◌, append_assoc}
+use Rattle.std.proofs.Common.{◌≡◌, ℕ, List, [], ◌∷◌, ◌++◌, length, refl, sym, ap, ◌∙◌, arith, append_assoc}
 use Rattle.sv_wire.specs.declared.message.Reply.{Reply}
 use Rattle.sv_client.specs.declared.trace.Event.{Event}
 use Rattle.sv_client.specs.declared.trace.Event.TheVariants as events
@@ -39,6 +39,10 @@ did_then e old mid new m k = record {
   only = k.only;
   events = k.events ∙ ap (λ (c : ClientView). k.replies ++ c.events) m;
 }
+
+pub none_left : {X : Type 0} (xs : List X) → length xs ≡ 0 → xs ≡ []
+none_left [] e = refl
+none_left (x ∷ xs) e = absurd (omega (arith, e))
 
 pub got_then : (old mid new : ClientView) (s : ℕ) (reply : Reply) → mid.who ≡ old.who → mid.events ≡ events.Got s reply ∷ old.events → new ≡ mid → HasTaken old new
 got_then old mid new s reply who e same = taken_more old mid new (one_taken old mid s reply who e) (none_taken mid new same)
