@@ -28,6 +28,12 @@ got_there (y ∷ ys) (suc i) x e = let h = got_there ys i x e in (omega (arith, 
 pub split_turned : {X : Type 0} (n : ℕ) (xs : List X) → reverse (drop n xs) ++ reverse (take n xs) ≡ reverse xs
 split_turned n xs = sym (reverse-append (take n xs) (drop n xs)) ∙ ap reverse (take-append-drop n xs)
 
+-- A tactic names it.
+pub there_got : {X : Type 0} (xs : List X) (i : ℕ) (x : X) → i < length xs → x ≡ get_or xs i x → slice_get xs i ≡ Some x
+there_got [] i x l e = absurd (omega (arith, l))
+there_got (y ∷ ys) zero x l e = ap (λ z. Some z) (sym e)
+there_got (y ∷ ys) (suc i) x l e = there_got ys i x (omega (arith, l)) e
+
 -- ---- Entry by entry
 
 -- Of the entries h so far, the requests of session s are the first `next` of those asked.
