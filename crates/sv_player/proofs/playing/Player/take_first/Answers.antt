@@ -46,8 +46,8 @@ returns-in_err-answer-in-Ok-clause-received g c =
     c.in-Ok.ensures.done mid c.answer.new.buffers (g.E.End.told c.answer.new.end) c.skip.ensures refl c.in_err-answer-in-Ok.field-0.0 c.in_err-answer-in-Ok.ensures.posted
     c.in_err-answer-in-Ok.ensures.some)
 
-pub returns-in-Ok-clause-received : goal.returns-in-Ok-clause-received
-returns-in-Ok-clause-received g c =
+pub returns-in_ok-answer-in-Ok-clause-received : goal.returns-in_ok-answer-in-Ok-clause-received
+returns-in_ok-answer-in-Ok-clause-received g c =
     let p = c.args.self.now in
     let b = c.args.buffers.now in
     let end = g.E.End.told c.args.end.now in
@@ -66,8 +66,8 @@ returns-in-Err-Memory-clause-received g c =
     got_early s c.in_ok-reply.reply p c.take.new.self b end c.requires.at c.requires.here c.in_ok-reply.ensures.reply c.skip-in-Err-Memory.new.self c.in-Err-Memory.ensures.known
     c.in-Err-Memory.ensures.part c.skip-in-Err-Memory.ensures
 
-pub returns-clause-received : goal.returns-clause-received
-returns-clause-received g c =
+pub returns-in-Err-clause-received : goal.returns-in-Err-clause-received
+returns-in-Err-clause-received g c =
     let p = c.args.self.now in
     let b = c.args.buffers.now in
     let end = g.E.End.told c.args.end.now in

@@ -37,8 +37,8 @@ returns-in_err-answer-in-Ok-clause-received g c =
     c.in-Ok.ensures.ok c.in-Ok.done c.in-Ok.ensures.done mid c.answer.new.buffers (g.E.End.told c.answer.new.end) c.skip.ensures refl c.in_err-answer-in-Ok.field-0.0
     c.in_err-answer-in-Ok.ensures.posted c.in_err-answer-in-Ok.ensures.some)
 
-pub returns-in-Ok-clause-received : goal.returns-in-Ok-clause-received
-returns-in-Ok-clause-received g c =
+pub returns-in_ok-answer-in-Ok-clause-received : goal.returns-in_ok-answer-in-Ok-clause-received
+returns-in_ok-answer-in-Ok-clause-received g c =
     let p = c.args.self.now in
     let b = c.args.buffers.now in
     let end = g.E.End.told c.args.end.now in
@@ -71,8 +71,8 @@ returns-in_err-sent_whole-in-Err-clause-received g c =
     (flush_stops s p b end (g.E.End.told c.flush.new.end) c.flush.new.self.outbox c.flush.result c.in_err-sent_whole-in-Err.field-0.0 c.requires.at c.requires.here c.flush.ensures.sends
     c.in_err-sent_whole-in-Err.ensures))
 
-pub returns-clause-received : goal.returns-clause-received
-returns-clause-received g c =
+pub returns-in_ok-sent_whole-in-Err-clause-received : goal.returns-in_ok-sent_whole-in-Err-clause-received
+returns-in_ok-sent_whole-in-Err-clause-received g c =
     let p = c.args.self.now in
     let b = c.args.buffers.now in
     let end = g.E.End.told c.args.end.now in
