@@ -22,8 +22,8 @@ taken-requires-clause-messages c =
     subst (All IsRequest) (sym c.in-Ok.ensures.done)
     (asks_got_now p c.args.channel.now c.in-Some.reply c.requires.fit c.requires.linked c.requires.joined first c.in-Ok.ensures.fine c.requires.after)
 
-pub returns-in-Ok-clause-taken : goal.returns-in-Ok-clause-taken
-returns-in-Ok-clause-taken c =
+pub returns-in_ok-taken-in-Ok-clause-taken : goal.returns-in_ok-taken-in-Ok-clause-taken
+returns-in_ok-taken-in-Ok-clause-taken c =
     let p = c.args.self.now in
     let q = c.taken.new.self in
     let b = c.next_reply.new.self in
