@@ -278,7 +278,7 @@ module _ {E : Type 0} (told : E → Told) (faults : E → ℕ) (calm : E → Typ
           clients = traces_are 0 0 run.scenario.clients ps played;
           proper =
               All-from_recursion (Proper run.scenario.world.shape) Ls
-              (each-map (Proper run.scenario.world.shape) (λ (y : PlayerOut E). y.trace) ps
+              (each-map (λ (y : PlayerOut E). y.trace) (Proper run.scenario.world.shape) ps
               (each_client_all (HasPlayed told faults calm run) (λ (y : PlayerOut E). Proper run.scenario.world.shape y.trace) 0 0 run.scenario.clients ps played (λ k s plan y h. h.trace.proper)));
           follows =
               each_client_trace (HasPlayed told faults calm run) (λ plan L. Follows run.scenario.world.shape plan.steps L) (λ (y : PlayerOut E). y.trace) 0 0 run.scenario.clients ps played

@@ -4,7 +4,7 @@ use Rattle.sv_play.proofs.Keepers.{some_sessions}
 use Rattle.sv_play.proofs.locking.lock_sequencer.Goals as goal
 
 pub new-requires-clause-passes : goal.new-requires-clause-passes
-new-requires-clause-passes g c =
+new-requires-clause-passes c =
     let some = some_sessions c.args.scenario.now.clients c.requires.good.some_clients in
     let most = c.requires.good.sessions in
     let is = c.sessions_of.ensures in
