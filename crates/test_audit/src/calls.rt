@@ -1,6 +1,7 @@
 //! Calls of the checker over files in memory.
 use std::alloc::{AllocError, Global};
 use sv_audit::run_check;
+use sv_bytes::{MemFiles, MemSink};
 use test_calls::examples::{CONFLICT, CONFLICT_REPORT, FIRST, FIRST_REPORT, LOOKS, LOOKS_REPORT};
 use test_calls::{Printed, call, files};
 
@@ -15,8 +16,19 @@ pub const FILES: [(&str, &str); 7] = [
     ("none.json", "{}"),
 ];
 
+/// The checker, over objects in memory.
+pub fn checked(
+    alloc: Global,
+    words: &[String],
+    files: &mut MemFiles,
+    out: &mut MemSink,
+    err: &mut MemSink,
+) -> u8 {
+    run_check(alloc, words, files, out, err)
+}
+
 /// The checker's answer to a line of words.
 pub fn called(alloc: Global, line: &str) -> Result<Printed, AllocError> {
     let files = files(alloc, &FILES)?;
-    call(run_check, alloc, line, files, Printed::nothing(alloc)?)
+    call(checked, alloc, line, files, Printed::nothing(alloc)?)
 }

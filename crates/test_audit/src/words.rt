@@ -1,8 +1,7 @@
 //! What the checker answers to words, files and outputs.
-use crate::calls::{FILES, called};
+use crate::calls::{FILES, called, checked};
 use std::alloc::{AllocError, Global};
 use std::test::Fail;
-use sv_audit::run_check;
 use sv_bytes::MemFiles;
 use test_calls::examples::FIRST;
 use test_calls::{Printed, call, files};
@@ -134,7 +133,7 @@ fn failing_outputs_are_told(rt: HostRuntime) -> Result<(), Fail> {
     ] {
         let files = files(rt.alloc(), &FILES)?;
         let printed = Printed::cut(rt.alloc(), 1_000, 1)?;
-        let printed = call(run_check, rt.alloc(), line, files, printed)?;
+        let printed = call(checked, rt.alloc(), line, files, printed)?;
         assert!(&rt; printed.is(5, "", "out\n"), "{line}");
     }
     Ok(())

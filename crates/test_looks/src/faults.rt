@@ -1,7 +1,6 @@
 //! Words, files and outputs that fail.
-use crate::calls::called;
+use crate::calls::{called, looks};
 use std::test::Fail;
-use sv_snapshot::run_looks;
 use test_calls::scenarios::LOOK;
 use test_calls::{Printed, call, held, unread};
 
@@ -41,7 +40,7 @@ fn failing_outputs_are_told(rt: HostRuntime) -> Result<(), Fail> {
     ] {
         let files = held(rt.alloc(), LOOK)?;
         let printed = Printed::cut(rt.alloc(), step, failing)?;
-        let printed = call(run_looks, rt.alloc(), "looks a", files, printed)?;
+        let printed = call(looks, rt.alloc(), "looks a", files, printed)?;
         assert!(&rt; printed.is(5, front, "out\n"), "{front}");
     }
     Ok(())
@@ -52,7 +51,7 @@ fn failing_files_are_told(rt: HostRuntime) -> Result<(), Fail> {
     for failing in [1, 2, 3] {
         let files = unread(held(rt.alloc(), LOOK)?, failing)?;
         let printed = Printed::nothing(rt.alloc())?;
-        let printed = call(run_looks, rt.alloc(), "looks a", files, printed)?;
+        let printed = call(looks, rt.alloc(), "looks a", files, printed)?;
         assert!(&rt; printed.is(4, "", "file: a\n"), "{failing}");
     }
     Ok(())
@@ -62,7 +61,7 @@ fn failing_files_are_told(rt: HostRuntime) -> Result<(), Fail> {
 fn a_lost_line_changes_no_status(rt: HostRuntime) -> Result<(), Fail> {
     let files = held(rt.alloc(), LOOK)?;
     let printed = Printed::untold(rt.alloc())?;
-    let printed = call(run_looks, rt.alloc(), "looks b", files, printed)?;
+    let printed = call(looks, rt.alloc(), "looks b", files, printed)?;
     assert!(&rt; printed.is(4, "", ""));
     Ok(())
 }

@@ -1,7 +1,7 @@
 //! Files and outputs that fail.
+use crate::calls::witnessed;
 use crate::texts::FILES;
 use std::test::Fail;
-use sv_witness::run_witness;
 use test_calls::{Printed, call, files, unread};
 
 /// Prints `accepted 1`, `dispute 1 c0 (2) c1 (1)`, `world 1` and `0=(1)`.
@@ -16,7 +16,7 @@ fn failing_outputs_are_told(rt: HostRuntime) -> Result<(), Fail> {
     ] {
         let files = files(rt.alloc(), &FILES)?;
         let printed = Printed::cut(rt.alloc(), step, failing)?;
-        let printed = call(run_witness, rt.alloc(), LINE, files, printed)?;
+        let printed = call(witnessed, rt.alloc(), LINE, files, printed)?;
         assert!(&rt; printed.is(5, front, "out\n"), "{front}");
     }
     Ok(())
@@ -27,7 +27,7 @@ fn failing_files_are_told(rt: HostRuntime) -> Result<(), Fail> {
     for failing in [1, 2, 3] {
         let files = unread(files(rt.alloc(), &FILES)?, failing)?;
         let printed = Printed::nothing(rt.alloc())?;
-        let printed = call(run_witness, rt.alloc(), LINE, files, printed)?;
+        let printed = call(witnessed, rt.alloc(), LINE, files, printed)?;
         assert!(&rt; printed.is(4, "", "file: program.json\n"), "{failing}");
     }
     Ok(())
