@@ -4,9 +4,9 @@ use Rattle.std.specs.Prelude.{codes}
 use Rattle.std.proofs.lemmas.List.{append_cancel_left, nil_from_length}
 use Rattle.sv_world.specs.declared.world.Shape.{Shape}
 use Rattle.sv_journal.specs.declared.entry.Entry.{Entry}
-use Rattle.sv_journal.specs.History.{accepted}
+use Rattle.sv_journal.specs.History.{accepted, Authored}
 use Rattle.sv_journal.specs.Laws.{FullRepliesStay, LegalRelaysNameAccepted}
-use Rattle.sv_journal.specs.Text.{entry_lines, journal_text}
+use Rattle.sv_journal.specs.Text.{entry_lines, journal_text, entry_line, request_text, reply_text}
 use Rattle.sv_scenario.specs.declared.scenario.Scenario.{Scenario}
 use Rattle.sv_scenario.specs.Sessions.{session_count}
 use Rattle.sv_lines.proofs.Splitting.{others_are, number_split}
