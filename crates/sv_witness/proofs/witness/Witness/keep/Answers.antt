@@ -34,7 +34,7 @@ invariant_of-self g c =
     let done = IfOk-weaker result _ _ (λ reply is. kept-replied a core journal g.h c.args.self.now s q c.args.decision reply c.self.invariant c.self.view_is c.requires.0 is
     c.requires.1.1.1.1.0 c.requires.1.1.1.1.1) c.enter_emptied.ensures.ok in
     let none = subst (λ (h : List Entry). OnErr result (NothingEntered a.core core a.journal journal (agreed_history h))) (c.requires.0 ∙ sym (ap history c.self.view_is)) c.enter_emptied.ensures.err in
-    after-reply a (record a { core = core; journal = journal }) s q result c.self.invariant done none (on_err_weaker result _ _ (λ _ p. refl) none) (on_err_weaker result _ _ (λ _. refl) none)
+    after-reply a (record a { core = core; journal = journal }) s q result c.self.invariant done none (on_err_weaker result (λ _ p. refl) none) (on_err_weaker result (λ _. refl) none)
 
 pub returns-clause-ok : goal.returns-clause-ok
 returns-clause-ok g c =

@@ -25,8 +25,8 @@ use Rattle.sv_witness.proofs.witness.Witness.note_results.Goals as goal
 pub client-requires : goal.client-requires
 client-requires g c = subst (λ (v : SequencerView). c.args.session < v.rules.sessions) (sym c.self.view_is) c.requires.1.0
 
-pub note_ahead-noting-requires : goal.note_ahead-noting-requires
-note_ahead-noting-requires g c =
+pub note_ahead-requires : goal.note_ahead-requires
+note_ahead-requires g c =
     let a = c.self.inside in
     let h = g.h in
     let s = c.args.session in
@@ -46,16 +46,16 @@ install-requires g c =
     let q = c.args.request.now in
     let v = queue_of a.core in
     let rows = a.testimony.reports in
-    let new = c.note_ahead-noting.new.testimony.reports in
+    let new = c.note_ahead.new.testimony.reports in
     let noting = c.in_ok-noting.noting in
     let said = c.in_ok-noting.ensures in
-    let same = c.note_ahead-noting.ensures.reports in
+    let same = c.note_ahead.ensures.reports in
     let is = stands-for a c.args.self.now h c.self.invariant c.self.view_is c.requires.0 in
     let joined = sym (client-agreed h s) ∙ sym (c.client.ensures (agreed_history h) is.keeps) ∙ c.in-Some.is in
     let good = subst (λ (w : SequencerView). is_bad_done w.rules (agreed_history h) s (results_in q) ≡ false) (sym c.self.view_is) c.requires.1.1.1.0 in
     let reply = subst (λ (w : SequencerView). witnessed_reply w.rules h s q ≡ noted_after agreed h s q) (sym c.self.view_is) c.requires.1.1.1.1 in
     let low = subst (λ (w : SequencerView). s < w.rules.sessions) (sym c.self.view_is) c.requires.1.0 in
-    let stands = subst (λ (ds : List Dispute). KeepsBeside (core_rules a.core) new ds h) (sym c.note_ahead-noting.ensures.disputes)
+    let stands = subst (λ (ds : List Dispute). KeepsBeside (core_rules a.core) new ds h) (sym c.note_ahead.ensures.disputes)
     (same-stands (core_rules a.core) rows new a.testimony.disputes.items h same is.stands) in
     let named = sym said.client in
     let counted = said.counted ∙ ap (λ (w : QueueView). counted_results w.commit rows k c.results_of.result.now) c.queue.ensures ∙ ap (counted_results v.commit rows k) c.results_of.ensures
@@ -68,8 +68,8 @@ install-requires g c =
       (low, (joined ∙ ap Some named, (c.requires.1.1.0, (good, (reply, (counted, (brought, (made, (said.rows, said.places))))))))),
     )
 
-pub invariant_of-self : goal.invariant_of-self
-invariant_of-self g c =
+pub invariant_of-self-2 : goal.invariant_of-self-2
+invariant_of-self-2 g c =
     let a = c.self.inside in
     let s = c.args.session in
     let q = c.args.request.now in
@@ -81,8 +81,8 @@ invariant_of-self g c =
     after-reply a (record a { core = core; journal = journal; testimony = kept }) s q result c.self.invariant
     (subst (λ (h : List Entry). IfOk result (Replied a.core core a.journal journal kept.reports kept.disputes.items h s q)) at c.install.ensures.ok)
     (subst (λ (h : List Entry). OnErr result (NothingEntered a.core core a.journal journal (agreed_history h))) at c.install.ensures.err)
-    (on_err_weaker result _ _ (λ same p. ap (λ (t : Testimony). kept_at t.reports p) same ∙ c.note_ahead-noting.ensures.reports p) c.install.ensures.testimony)
-    (on_err_weaker result _ _ (λ same. ap (λ (t : Testimony). t.disputes.items) same ∙ c.note_ahead-noting.ensures.disputes) c.install.ensures.testimony)
+    (on_err_weaker result (λ same p. ap (λ (t : Testimony). kept_at t.reports p) same ∙ c.note_ahead.ensures.reports p) c.install.ensures.testimony)
+    (on_err_weaker result (λ same. ap (λ (t : Testimony). t.disputes.items) same ∙ c.note_ahead.ensures.disputes) c.install.ensures.testimony)
 
 pub returns-clause-ok : goal.returns-clause-ok
 returns-clause-ok g c =
