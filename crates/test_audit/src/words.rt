@@ -114,7 +114,7 @@ fn the_file_whose_reading_failed_is_named(rt: HostRuntime) -> Result<(), Fail> {
         let files = failing(rt.alloc(), number)?;
         let printed = Printed::nothing(rt.alloc())?;
         let printed = call(
-            run_check,
+            checked,
             rt.alloc(),
             "check first.json first.out",
             files,

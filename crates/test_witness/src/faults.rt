@@ -38,7 +38,7 @@ fn a_lost_line_changes_no_status(rt: HostRuntime) -> Result<(), Fail> {
     let files = files(rt.alloc(), &FILES)?;
     let printed = Printed::untold(rt.alloc())?;
     let printed = call(
-        run_witness,
+        witnessed,
         rt.alloc(),
         "witness program.json 3",
         files,
