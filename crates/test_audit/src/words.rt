@@ -163,13 +163,7 @@ fn with_too_long(alloc: Global) -> Result<MemFiles, AllocError> {
 fn too_long_reports_have_no_line(rt: HostRuntime) -> Result<(), Fail> {
     let files = with_too_long(rt.alloc())?;
     let printed = Printed::nothing(rt.alloc())?;
-    let printed = call(
-        run_check,
-        rt.alloc(),
-        "check first.json long",
-        files,
-        printed,
-    )?;
+    let printed = call(checked, rt.alloc(), "check first.json long", files, printed)?;
     assert!(&rt; printed.is(9, "", "wrong line 0\n"));
     Ok(())
 }
