@@ -19,7 +19,7 @@ PAGE = os.path.join(TOP, "docs", "GUARANTEES.md")
 BEGIN, END = "<!-- calls: begin -->", "<!-- calls: end -->"
 WAITS = re.compile(r"\bR: [^,>{]*\bWait\b|impl Wait")
 SYSTEM = {"End", "Net", "Crew", "Door"}
-REFUSES = re.compile(r"^(Result|Option)<|^(io::Result|Begun|Read|Wrote|EndRead|EndWrote|Pair|Settle|Ran|Made|Sent|Next|Filled|Incoming|View|Overlay|"
+REFUSES = re.compile(r"^(Result|Option)<|^(io::Result|Begun|Read|Wrote|EndRead|EndWrote|Pair|Settle|Ran|EndMade|Sent|Next|Filled|Incoming|View|Overlay|"
                      r"Views|SessionOut|PlayerOut|Posted|Put|Played)\b")
 REFUSED = re.compile(r"\b(OnErr|IfErr|IsErr|Err|None|IsNone|Memory|Failed|Match\w*|IsOk|IsSome|Rose|faults|Is\w*Cause|option_\w+|Refus\w*|"
                      r"refus\w*|fault\w*|\w*Cause\w*)\b")

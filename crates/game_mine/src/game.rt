@@ -7,7 +7,7 @@ use std::rt::Clock;
 use std::thread;
 use std::time::Duration;
 use sv_client::Client;
-use sv_door::{Door, Made};
+use sv_door::{Door, EndMade};
 use sv_link::End;
 use sv_pilot::{Listener, Pilot, Trouble};
 use sv_world::{ClientId, List, ObjectId, Shape};
@@ -117,9 +117,9 @@ fn connected<D: Door>(door: &mut D, port: u16) -> Result<D::E, Trouble>
     ensures open { IfOk result (λ end. (D.E.told end).closed ≡ false) }
 {
     match door.connect(port) {
-        Made::End(end) => Ok(end),
-        Made::Failed => Err(Trouble::Link),
-        Made::Memory => Err(Trouble::Memory),
+        EndMade::End(end) => Ok(end),
+        EndMade::Failed => Err(Trouble::Link),
+        EndMade::Memory => Err(Trouble::Memory),
     }
 }
 

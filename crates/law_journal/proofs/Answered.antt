@@ -5,7 +5,7 @@ use Rattle.std.proofs.lemmas.Bool.{cond_both, and_parts, or_parts, not-false}
 use Rattle.std.proofs.lemmas.Option.{none-some}
 use Rattle.sv_versions.specs.Held.{Held}
 use Rattle.sv_pending.specs.Pending.{PendingAction, kept_of, redone_after, redone}
-use Rattle.sv_wire.specs.declared.message.Held.{Held as Sent}
+use Rattle.sv_wire.specs.declared.message.ObjectValue.{ObjectValue}
 use Rattle.sv_wire.specs.declared.message.Item.{Item}
 use Rattle.sv_wire.specs.declared.message.Request.{Request}
 use Rattle.sv_wire.specs.declared.message.Request.TheVariants as requests
@@ -82,7 +82,7 @@ some-items : (items : List Item) → (length items == 0) ≡ false → 1 ≤ len
 some-items [] e = absurd (true≢false e)
 some-items (i ∷ items) e = omega arith
 
-module _ (who : Identity) (ps : List PendingAction) (all : AreNumbered ps) (seq commit : ℕ) (head : List Sent) (items : List Item) where
+module _ (who : Identity) (ps : List PendingAction) (all : AreNumbered ps) (seq commit : ℕ) (head : List ObjectValue) (items : List Item) where
   abbrev relay : Reply
   relay = replies.Relay seq commit head items
 

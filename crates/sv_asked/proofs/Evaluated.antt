@@ -17,7 +17,7 @@ use Rattle.sv_world.specs.declared.action.Stmt.TheOpen.{Stmt-F}
 use Rattle.sv_world.specs.declared.action.Stmt.TheViews.{roll-Stmt}
 use Rattle.sv_world.specs.declared.action.Stmt.TheFolds.{fold-roll-Stmt, ind-Stmt}
 use Rattle.sv_eval.specs.Numbers.{in_i64, sum_of, difference_of, product_of, quotient_of, remainder_of}
-use Rattle.sv_eval.specs.Evaluation.{Slots, attribute_in, with_number, both, expr_step, expr_number, cond_holds, choose, in_order, stmt_step, stmt_after, body_after, outcome_by, outcome_of}
+use Rattle.sv_eval.specs.Evaluation.{Slots, attribute_in, with_number, both, expr_step, expr_number, cond_holds, choose, in_order, stmt_step, stmt_after, body_after, effect_by, effect_of}
 use Rattle.sv_world.specs.Ranges.{is_i64, is_zero, expr_fits_step, expr_fits, cond_fits, stmt_fits_step, stmt_fits}
 use Rattle.sv_wire.specs.Ranges.{ValueFits}
 use Rattle.sv_system.proofs.Every.{each-get}
@@ -199,11 +199,11 @@ mask_fits P mask k (x ∷ xs) all = go (is_in_mask mask k) (mask_fits P mask (k 
     go true rest = (all.0, rest)
     go false rest = rest
 
-outcome_fits_by : (mask : ℕ) (values : Slots) (after : Option Slots) → AreNumbers values → AreNumbersIfAny after → AreNumbers (outcome_by mask values after).writes
+outcome_fits_by : (mask : ℕ) (values : Slots) (after : Option Slots) → AreNumbers values → AreNumbersIfAny after → AreNumbers (effect_by mask values after).writes
 outcome_fits_by mask values None all h = mask_fits ValueFits mask 0 values all
 outcome_fits_by mask values (Some slots) all h = mask_fits ValueFits mask 0 slots h
 
 -- The result of an action has numbers of 64 bits.
-pub outcome_fits : (a : Action) (values : Slots) → all_true (map stmt_fits a.body) ≡ true → AreNumbers values → AreNumbers (outcome_of a values).writes
-unfolding outcome_of
+pub outcome_fits : (a : Action) (values : Slots) → all_true (map stmt_fits a.body) ≡ true → AreNumbers values → AreNumbers (effect_of a values).writes
+unfolding effect_of
 outcome_fits a values h all = outcome_fits_by a.mask values (body_after a.body values) all (body_keeps a.body h values all)

@@ -10,7 +10,7 @@ use Rattle.sv_world.specs.Sets.{read_set}
 use Rattle.sv_world.specs.Faults.{IsGoodAction}
 use Rattle.sv_world.specs.declared.action.Action.{Action}
 use Rattle.sv_pending.specs.Pending.{PendingAction}
-use Rattle.sv_wire.specs.declared.message.Held.{Held as Sent}
+use Rattle.sv_wire.specs.declared.message.ObjectValue.{ObjectValue as Sent}
 use Rattle.sv_wire.specs.declared.message.Item.{Item}
 use Rattle.sv_wire.specs.declared.message.Request.{Request}
 use Rattle.sv_wire.specs.declared.message.Reply.{Reply}

@@ -8,9 +8,9 @@ use Rattle.sv_world.specs.Sets.{read_set, write_set}
 use Rattle.sv_world.specs.declared.action.Action.{Action}
 use Rattle.sv_world.specs.declared.world.ObjectId.{ObjectId}
 use Rattle.sv_eval.specs.Serial.{serial_world}
-use Rattle.sv_eval.proofs.Outcomes.{outcome_counted}
+use Rattle.sv_eval.proofs.Effects.{effect_counted}
 use Rattle.sv_versions.specs.Held.{Held, read_below}
-use Rattle.sv_wire.specs.declared.message.Held.{Held as Sent}
+use Rattle.sv_wire.specs.declared.message.ObjectValue.{ObjectValue}
 use Rattle.sv_wire.specs.declared.message.Item.{Item}
 use Rattle.sv_wire.specs.declared.message.Done1.{Done1}
 use Rattle.sv_wire.specs.declared.message.Request.TheVariants as requests
@@ -60,7 +60,7 @@ module _ (attrs : ℕ) (opening : List (List ℤ)) (acts : List Action) (some : 
       let a = item.action in
       let values = map (λ x. unwrap_or (read_below held x item.pos) []) (read_set a) in
       let as_many : length values ≡ length a.reads = length-map (read_set a) (λ x. unwrap_or (read_below held x item.pos) []) ∙ length-map a.reads (λ (o : ObjectId). o.0) in
-      let count : length (item_result held item) ≡ length (write_set a) = outcome_counted a values as_many in
+      let count : length (item_result held item) ≡ length (write_set a) = effect_counted a values as_many in
       let written : length (write_set a) ≤ length (read_set a) = masked_fewer a.mask 0 (read_set a) in
       let reads : length (read_set a) ≡ length a.reads = length-map a.reads (λ (o : ObjectId). o.0) in
       let goods = values-good item.pos (write_set a) (item_result held item) count (mask_fits (λ x. x < length opening) a.mask 0 (read_set a) fine.within) h in (
@@ -109,7 +109,7 @@ module _ (attrs : ℕ) (opening : List (List ℤ)) (acts : List Action) (some : 
   held-part t whole (then_one {u} e b) h = held-part t u b (event-front e u h)
 
   -- The Done for a relay that was got is a message.
-  pub done-is : (s seq commit : ℕ) (head : List Sent) (items : List Item) (before u : List Event) → IsPart (events.Got s (replies.Relay seq commit head items) ∷ before) u →
+  pub done-is : (s seq commit : ℕ) (head : List ObjectValue) (items : List Item) (before u : List Event) → IsPart (events.Got s (replies.Relay seq commit head items) ∷ before) u →
       AllByRecursion Serial (held_of u) → AllByRecursion (IsFineItem (length opening)) items → 1 ≤ length items → length items ≤ 33 →
       IsRequest (requests.Done (results_of (held_of before ++ head_held commit head) items))
   done-is s seq commit head items before u part h fine one most =

@@ -5,7 +5,7 @@ use Rattle.std.specs.List.{AllByRecursion}
 use Rattle.sv_world.specs.Sets.{read_set, write_set}
 use Rattle.sv_world.specs.Trees.{all_true}
 use Rattle.sv_world.specs.declared.action.Action.{Action}
-use Rattle.sv_eval.specs.Evaluation.{Slots, outcome_of}
+use Rattle.sv_eval.specs.Evaluation.{Slots, effect_of}
 use Rattle.sv_eval.specs.Serial.{values_at, put_all, world_after_some, serial_world}
 use Rattle.sv_eval.proofs.Serials.{serial_length, serial_shaped}
 use Rattle.sv_world.specs.Ranges.{stmt_fits}
@@ -29,7 +29,7 @@ values_at_fits world (x ∷ xs) h = (each-get ValueFits world x [] h tt, values_
 after_fits : (world : Slots) (acts : List Action) (p : ℕ) → AllByRecursion HasFit acts → AreNumbers world → AreNumbers (world_after_some world (slice_get acts p))
 after_fits world [] p all h = h
 after_fits world (a ∷ acts) zero all h =
-    put_all_fits world (write_set a) (outcome_of a (values_at world (read_set a))).writes h (outcome_fits a (values_at world (read_set a)) all.0 (values_at_fits world (read_set a) h))
+    put_all_fits world (write_set a) (effect_of a (values_at world (read_set a))).writes h (outcome_fits a (values_at world (read_set a)) all.0 (values_at_fits world (read_set a) h))
 after_fits world (a ∷ acts) (suc p) all h = after_fits world acts p all.1 h
 
 pub serial_fits : (opening : Slots) (acts : List Action) (p : ℕ) → AllByRecursion HasFit acts → AreNumbers opening → AreNumbers (serial_world opening acts p)

@@ -15,7 +15,7 @@ use Rattle.sv_command.proofs.Statuses.{words_is as plain_words_is, file_is as pl
 use Rattle.sv_audit.specs.declared.ending.AuditEnding.{AuditEnding}
 use Rattle.sv_audit.specs.declared.ending.AuditEnding.TheVariants as endings
 use Rattle.sv_audit.specs.Judging.{IsReportFront, IsApproved, IsOutside, report_size, report_limit}
-use Rattle.sv_audit.specs.Statuses.{status_of, Raises, Ends, EndsEarly, Leaves, IsPlaceOutside, line_of, wrong_line, TellsStatus, NamesUnread}
+use Rattle.sv_audit.specs.Statuses.{status_of, Raises, Ends, EndsEarly, Leaves, IsPlaceOutside, audit_line, wrong_line, TellsStatus, NamesUnread}
 use Rattle.sv_audit.specs.Words.{Asked, Asking, scenario_named}
 
 -- ---- Statuses
@@ -207,9 +207,9 @@ module _ (contents : List ℕ → Option (List ℕ)) (old new : Option (List ℕ
 module _ (sure : List ℕ → Type 0) (contents : List ℕ → Option (List ℕ)) (words_line : List ℕ) (old new t0 t1 : Option (List ℕ)) (n0 n1 : ℕ) where
   -- An ending whose line is that of its status.
   told_plain : (a : Option Asked) (e : AuditEnding) → (status_of e ≡ 3 → ⊥) → (status_of e ≡ 4 → ⊥) → (status_of e ≡ 9 → ⊥) →
-      line_of words_line a e ≡ status_line words_line (status_of e) (scenario_named a) → GrewOrRose t0 t1 n0 n1 (line_of words_line a e) → TellsStatus sure contents words_line a (status_of e) t0 t1 n0 n1
+      audit_line words_line a e ≡ status_line words_line (status_of e) (scenario_named a) → GrewOrRose t0 t1 n0 n1 (audit_line words_line a e) → TellsStatus sure contents words_line a (status_of e) t0 t1 n0 n1
   told_plain a e x y z is t = record {
-    line = line_of words_line a e;
+    line = audit_line words_line a e;
     faulty = λ s. absurd (x s);
     unread = λ s. absurd (y s);
     wrong = λ s. absurd (z s);
@@ -219,7 +219,7 @@ module _ (sure : List ℕ → Type 0) (contents : List ℕ → Option (List ℕ)
 
   module _ (x : Asked) where
     told_of : (e : AuditEnding) → Ends (contents x.scenario) (contents x.report) x.place old new e → (sure x.scenario → e ≢ endings.Plain plain.File) →
-        (sure x.report → e ≢ endings.Report) → GrewOrRose t0 t1 n0 n1 (line_of words_line (Some x) e) → TellsStatus sure contents words_line (Some x) (status_of e) t0 t1 n0 n1
+        (sure x.report → e ≢ endings.Report) → GrewOrRose t0 t1 n0 n1 (audit_line words_line (Some x) e) → TellsStatus sure contents words_line (Some x) (status_of e) t0 t1 n0 n1
     told_of (endings.Plain plain.Done) h p q t = told_plain (Some x) (endings.Plain plain.Done) (λ s. omega arith) (λ s. omega arith) (λ s. omega arith) refl t
     told_of (endings.Plain plain.Out) h p q t = told_plain (Some x) (endings.Plain plain.Out) (λ s. omega arith) (λ s. omega arith) (λ s. omega arith) refl t
     told_of (endings.Plain plain.Memory) h p q t = told_plain (Some x) (endings.Plain plain.Memory) (λ s. omega arith) (λ s. omega arith) (λ s. omega arith) refl t
@@ -261,10 +261,10 @@ module _ (sure : List ℕ → Type 0) (contents : List ℕ → Option (List ℕ)
     told_of (endings.Plain plain.Link) h p q t = absurd h.0
 
   pub told_is : (a : Option Asked) (e : AuditEnding) → ((e ≡ endings.Plain plain.Words) ↔ (a ≡ None)) → AllEnds contents old new a e → IfSome a (λ (x : Asked). sure x.scenario → e ≢ endings.Plain plain.File) →
-      IfSome a (λ (x : Asked). sure x.report → e ≢ endings.Report) → GrewOrRose t0 t1 n0 n1 (line_of words_line a e) → TellsStatus sure contents words_line a (status_of e) t0 t1 n0 n1
+      IfSome a (λ (x : Asked). sure x.report → e ≢ endings.Report) → GrewOrRose t0 t1 n0 n1 (audit_line words_line a e) → TellsStatus sure contents words_line a (status_of e) t0 t1 n0 n1
   told_is None e w h p q t = no_words e (w.1 refl) t
     where
-      no_words : (e : AuditEnding) → e ≡ endings.Plain plain.Words → GrewOrRose t0 t1 n0 n1 (line_of words_line None e) → TellsStatus sure contents words_line None (status_of e) t0 t1 n0 n1
+      no_words : (e : AuditEnding) → e ≡ endings.Plain plain.Words → GrewOrRose t0 t1 n0 n1 (audit_line words_line None e) → TellsStatus sure contents words_line None (status_of e) t0 t1 n0 n1
       no_words e is t =
           let two : status_of e ≡ 2 = ap status_of is in
           told_plain None e (λ s. omega (arith, two, s)) (λ s. omega (arith, two, s)) (λ s. omega (arith, two, s)) (rw is refl) t

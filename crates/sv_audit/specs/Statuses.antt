@@ -6,7 +6,7 @@ use Rattle.sv_command.specs.declared.ending.Ending.TheVariants as plain
 use Rattle.sv_command.specs.Endings.{IsPrinted, IsCutShort, Ends as PlainEnds}
 use Rattle.sv_command.specs.Lines.{file_line}
 use Rattle.sv_command.specs.Reading.{IsRefused, IsNoScenario, read_limit}
-use Rattle.sv_command.specs.Statuses.{Counts, IsUnread, Raises as PlainRaises, status_of as plain_status, line_of as plain_line, status_line}
+use Rattle.sv_command.specs.Statuses.{Counts, IsUnread, Raises as PlainRaises, status_of as plain_status, ending_line, status_line}
 use Rattle.sv_audit.specs.declared.ending.AuditEnding.{AuditEnding}
 use Rattle.sv_audit.specs.declared.ending.AuditEnding.TheVariants as endings
 use Rattle.sv_audit.specs.Judging.{IsText, IsWrong, IsOutside, report_size}
@@ -83,10 +83,10 @@ abbrev pub wrong_line : ℕ → List ℕ
 wrong_line number = codes "wrong line " ++ decimal number ++ codes "\n"
 
 -- The line that tells of an ending, by the line that tells which words the call knows.
-abbrev pub line_of : List ℕ → Option Asked → AuditEnding → List ℕ
-line_of words_line asked (endings.Plain ending) = plain_line words_line ending (scenario_named asked)
-line_of words_line asked endings.Report = file_line (unwrap_or (report_named asked) [])
-line_of words_line asked (endings.Wrong line) = wrong_line line
+abbrev pub audit_line : List ℕ → Option Asked → AuditEnding → List ℕ
+audit_line words_line asked (endings.Plain ending) = ending_line words_line ending (scenario_named asked)
+audit_line words_line asked endings.Report = file_line (unwrap_or (report_named asked) [])
+audit_line words_line asked (endings.Wrong line) = wrong_line line
 
 -- The line names one of the two files, and not one that is sure to be read.
 pub record NamesUnread (sure : List ℕ → Type 0) (asked : Asked) (line : List ℕ) : Type 0 where

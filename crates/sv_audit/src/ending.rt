@@ -2,7 +2,7 @@
 ghost use Rattle.std.specs.Prelude.{◌≡◌};
 ghost use Rattle.std.specs.Option.{option_copied, option_map};
 ghost use Rattle.sv_bytes.specs.Writing.{GrewOrRose};
-ghost use Rattle.sv_audit.specs.Statuses.{line_of, status_of, wrong_line};
+ghost use Rattle.sv_audit.specs.Statuses.{audit_line, status_of, wrong_line};
 ghost use Rattle.sv_audit.specs.Words.{asked_by};
 
 use crate::words::{Audit, report_named, scenario_named};
@@ -59,7 +59,7 @@ pub(crate) fn tell<E: Sink>(
     audit: Option<Audit<'_>>,
     err: &mut E,
 )
-    ensures { GrewOrRose (E.taken err.old) (E.taken err.new) (E.faults err.old) (E.faults err.new) (line_of words_line.now (option_map asked_by audit.entry) ending.now) }
+    ensures { GrewOrRose (E.taken err.old) (E.taken err.new) (E.faults err.old) (E.faults err.new) (audit_line words_line.now (option_map asked_by audit.entry) ending.now) }
 {
     match ending {
         AuditEnding::Plain(ending) => {

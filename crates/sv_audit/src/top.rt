@@ -16,7 +16,7 @@ use crate::reading::read_both;
 use crate::words::{Audit, audit_of, words_line};
 use std::alloc::Global;
 use sv_bytes::{Files, Sink, write_all};
-use sv_command::{Ending, scenario_of};
+use sv_command::{Ending, given_scenario};
 
 /// The text that answers what is asked. It is whole before any of it is printed.
 fn text_for<F: Files>(alloc: Global, audit: Audit<'_>, files: &mut F) -> Result<String, AuditEnding>
@@ -27,7 +27,7 @@ fn text_for<F: Files>(alloc: Global, audit: Audit<'_>, files: &mut F) -> Result<
     ensures sure_report { F.sure files.old audit.entry.report.now → result ≢ Err endings.Report }
 {
     let both = read_both(alloc, audit, files)?;
-    let scenario = scenario_of(alloc, &both.scenario)?;
+    let scenario = given_scenario(alloc, &both.scenario)?;
     let played = judged(alloc, &scenario, &both.report)?;
     answered(alloc, &scenario, &played, audit.place)
 }

@@ -14,7 +14,7 @@ mod writing;
 pub use again::{read_again, write_again};
 pub use faults::FaultCount;
 pub use memory::{MemFiles, MemSink};
-pub use plan::Plan;
+pub use plan::CallPlan;
 pub use reading::{Begun, FileFault, Files, Read, read_all};
 pub use system::{OsFiles, OsSink};
 pub use writing::{Sink, Wrote, write_all, write_pieces};

@@ -8,7 +8,7 @@ ghost use Rattle.sv_bytes.specs.Stored.{contents_of};
 ghost use Rattle.sv_bytes.specs.Writing.{TakesSome, WritesFront};
 
 use super::faults::FaultCount;
-use super::plan::Plan;
+use super::plan::CallPlan;
 use super::reading::{Begun, Files, Read};
 use super::stored::{Stored, Unread};
 use super::writing::{Sink, Wrote};
@@ -22,7 +22,7 @@ pub struct MemFiles {
     alloc: Global,
     stored: Vec<Stored>,
     current: Option<Unread>,
-    plan: Plan,
+    plan: CallPlan,
     faults: FaultCount,
 }
 
@@ -40,7 +40,7 @@ impl MemFiles {
             alloc,
             stored: Vec::new(alloc),
             current: None,
-            plan: Plan::new(alloc),
+            plan: CallPlan::new(alloc),
             faults: FaultCount::new(),
         }
     }
@@ -178,7 +178,7 @@ fn find<'a>(stored: &'a [Stored], name: &[u8]) -> Option<&'a [u8]>
 pub struct MemSink {
     bytes: Vec<u8>,
     room: usize,
-    plan: Plan,
+    plan: CallPlan,
     faults: FaultCount,
     ghost fits: { (vec_len bytes ≤ room) × (room ≤ vec_capacity bytes) },
 }
@@ -197,7 +197,7 @@ impl MemSink {
         Ok(MemSink {
             bytes: Vec::with_capacity(alloc, room)?,
             room,
-            plan: Plan::new(alloc),
+            plan: CallPlan::new(alloc),
             faults: FaultCount::new(),
         })
     }

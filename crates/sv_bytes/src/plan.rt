@@ -8,21 +8,21 @@ use std::alloc::{AllocError, Global};
 ///
 /// Calls are counted from 1. The count stops at `u64::MAX`.
 #[derive(Drop)]
-pub struct Plan {
+pub struct CallPlan {
     pub failing: Vec<u64>,
     pub made: u64,
     pub step: usize,
     ghost moves: { 0 < step },
 }
 
-impl Plan {
+impl CallPlan {
     /// No call fails, and a call moves as many bytes as it can.
-    pub fn new(alloc: Global) -> Plan
+    pub fn new(alloc: Global) -> CallPlan
         ensures calm { result.failing.items ≡ [] }
         ensures made { result.made ≡ 0 }
         ensures step { result.step ≡ 2 ^ 64 - 1 }
     {
-        Plan {
+        CallPlan {
             failing: Vec::new(alloc),
             made: 0,
             step: usize::MAX,

@@ -21,8 +21,8 @@ use Rattle.sv_scenario.specs.Limits.{IsGoodPlan}
 use Rattle.sv_script.specs.Following.{FollowsTo, Follows, is_finished}
 use Rattle.sv_player.proofs.Raised.{up_follows, up_finished}
 use Rattle.sv_system.specs.Fronts.{IsFront}
-use Rattle.sv_lines.specs.declared.stop.Stop.{Stop}
-use Rattle.sv_lines.specs.declared.stop.Stop.TheVariants as stop
+use Rattle.sv_lines.specs.declared.stop.LineStop.{LineStop}
+use Rattle.sv_lines.specs.declared.stop.LineStop.TheVariants as stop
 use Rattle.sv_report.specs.Report.{event_text, event_lines, trace_text}
 use Rattle.sv_check.specs.declared.actor.Actor.{Actor}
 use Rattle.sv_check.specs.Acting.{IsActing, WentOn, identity, journal_events}
@@ -172,9 +172,9 @@ takes_more entries old a b text rest more count t w l =
     }
 
 -- What is said of a place goes with the same stop.
-pub wrong_as : (A B : Type 0) (P Q : ℕ → Type 0) (e f : Stop) → f ≡ e → ((left : ℕ) → P left → Q left) → IfWrong {A = A} (Err e) P → IfWrong {A = B} (Err f) Q
-wrong_as A B P Q (stop.Wrong left) f is g h = subst (λ (x : Stop). IfWrong {A = B} (Err x) Q) (sym is) (g left h)
-wrong_as A B P Q stop.Memory f is g h = subst (λ (x : Stop). IfWrong {A = B} (Err x) Q) (sym is) tt
+pub wrong_as : (A B : Type 0) (P Q : ℕ → Type 0) (e f : LineStop) → f ≡ e → ((left : ℕ) → P left → Q left) → IfWrong {A = A} (Err e) P → IfWrong {A = B} (Err f) Q
+wrong_as A B P Q (stop.Wrong left) f is g h = subst (λ (x : LineStop). IfWrong {A = B} (Err x) Q) (sym is) (g left h)
+wrong_as A B P Q stop.Memory f is g h = subst (λ (x : LineStop). IfWrong {A = B} (Err x) Q) (sym is) tt
 
 -- Why the next event's line was not taken.
 abbrev pub NoLine : List Entry → Actor → List ℕ → ℕ → Type 0
@@ -205,15 +205,15 @@ line_missing number text line left is differs e = record {
 }
 
 -- The same at the exit of a `?`.
-pub wrong_from : (A B : Type 0) (P Q : ℕ → Type 0) (e : Stop) (r : Result B Stop) → IsErrAnd r (λ (y : Stop). y ≡ e) → ((left : ℕ) → P left → Q left) → IfWrong {A = A} (Err e) P → IfWrong {A = B} r Q
+pub wrong_from : (A B : Type 0) (P Q : ℕ → Type 0) (e : LineStop) (r : Result B LineStop) → IsErrAnd r (λ (y : LineStop). y ≡ e) → ((left : ℕ) → P left → Q left) → IfWrong {A = A} (Err e) P → IfWrong {A = B} r Q
 wrong_from A B P Q e r s g h =
     let p = err_from_is_err_and r s in
-    subst (λ (x : Result B Stop). IfWrong {A = B} x Q) (sym p.1) (wrong_as A B P Q e p.0 p.2 g h)
+    subst (λ (x : Result B LineStop). IfWrong {A = B} x Q) (sym p.1) (wrong_as A B P Q e p.0 p.2 g h)
 
 -- The client's first line was not taken.
-pub missing_from : (B : Type 0) (shape : Shape) (entries : List Entry) (number first : ℕ) (plan : Plan) (text line : List ℕ) (e : Stop) (r : Result B Stop) → IsErrAnd r (λ (y : Stop). y ≡ e) →
+pub missing_from : (B : Type 0) (shape : Shape) (entries : List Entry) (number first : ℕ) (plan : Plan) (text line : List ℕ) (e : LineStop) (r : Result B LineStop) → IsErrAnd r (λ (y : LineStop). y ≡ e) →
     e ≡ stop.Wrong (length text) → line ≡ client_line number ++ 10 ∷ [] → ((rest : List ℕ) → text ≢ line ++ rest) → IfWrong {A = B} r (IsClientStop shape entries number first plan text)
 missing_from B shape entries number first plan text line e r s w l differs =
     let p = err_from_is_err_and r s in
-    subst (λ (x : Result B Stop). IfWrong {A = B} x (IsClientStop shape entries number first plan text)) (sym p.1)
-    (subst (λ (y : Stop). IfWrong {A = B} (Err y) (IsClientStop shape entries number first plan text)) (sym (p.2 ∙ w)) (inl (line_missing number text line (length text) l differs refl)))
+    subst (λ (x : Result B LineStop). IfWrong {A = B} x (IsClientStop shape entries number first plan text)) (sym p.1)
+    (subst (λ (y : LineStop). IfWrong {A = B} (Err y) (IsClientStop shape entries number first plan text)) (sym (p.2 ∙ w)) (inl (line_missing number text line (length text) l differs refl)))

@@ -21,6 +21,7 @@ use Rattle.sv_client.proofs.Sessions.{no_got, no_asked}
 use Rattle.sv_report.specs.Again.{MayDo, IsPlace, behind_next, place_after}
 use Rattle.sv_report.proofs.Seeking.{next_place}
 use Rattle.sv_scenario.specs.declared.scenario.Step.{Step}
+use Rattle.sv_script.specs.Laws.{is_got}
 use Rattle.sv_script.specs.Following.{FollowsTo, MayCome, must_join, is_welcomed, is_finished}
 use Rattle.sv_system.specs.Fits.{is_join_of, replies_in}
 use Rattle.sv_system.specs.Fronts.{IsFront}
@@ -28,7 +29,7 @@ use Rattle.sv_system.specs.Outcomes.{is_quit}
 use Rattle.sv_system.proofs.Entered.{replies-one}
 use Rattle.sv_system.proofs.Fronts.{front-all, front-then}
 use Rattle.law_schedule.proofs.SoundTraces.{joined-within}
-use Rattle.sv_replay.proofs.Events.{is_got, asks_up, asks_got}
+use Rattle.sv_replay.proofs.Events.{asks_up, asks_got}
 use Rattle.sv_client.specs.Seen.{ClientView}
 use Rattle.sv_player.proofs.Going.{bye_finishes}
 use Rattle.sv_player.proofs.Onward.{or_none}
@@ -37,7 +38,7 @@ use Rattle.sv_system.proofs.Asked.{current-joined}
 use Rattle.sv_replay.proofs.Machines.{read_at}
 use Rattle.sv_check.specs.declared.actor.Actor.{Actor}
 use Rattle.sv_check.specs.Serving.{full_replies}
-use Rattle.sv_check.specs.Acting.{IsActing, HasAsked, HasGot, AreFlags, IsSettled, IsUnsettled, IsAmiss, WentOn, LookedAt, Joined, GotReply, Made, IsNextPlace, IsNextEvent, journal_events, replies_before, cuts_session, is_other}
+use Rattle.sv_check.specs.Acting.{IsActing, HasAsked, HasGot, AreFlags, IsSettled, IsUnsettled, IsAmiss, WentOn, LookedAt, Joined, GotReply, DidEvent, IsNextPlace, IsNextEvent, journal_events, replies_before, cuts_session, is_other}
 use Rattle.sv_check.proofs.Settling.{turned_more, got_there, split_turned}
 
 -- ---- The latest session
@@ -326,7 +327,7 @@ other_stands entries first who t e place o p h =
 
 -- It does the event, with these steps left.
 pub did : (entries : List Entry) (a b : Actor) (e : Event) → IsActing entries a → must_join a.client.events ≡ false → is_finished a.client.events ≡ false →
-    is_other e ≡ true → MayDo a.client.who a.client.events e → (left : Ref (List Step)) → MayCome a.client.who a.client.events a.left.now e left.now → Made e a b →
+    is_other e ≡ true → MayDo a.client.who a.client.events e → (left : Ref (List Step)) → MayCome a.client.who a.client.events a.left.now e left.now → DidEvent e a b →
     IsActing entries (record b { left = left })
 did entries a b e g m n o may left comes d =
     let is = other_is a.first a.client.events e o in
@@ -481,7 +482,7 @@ went_got entries a b s p reply g m n is next r d = record {
 }
 
 pub went_did : (entries : List Entry) (a b : Actor) (e : Event) → IsActing entries a → must_join a.client.events ≡ false → is_finished a.client.events ≡ false →
-    is_other e ≡ true → (left : Ref (List Step)) → IsNextEvent a.client.who a.client.events a.left.now e left.now → Made e a b → WentOn entries a (record b { left = left })
+    is_other e ≡ true → (left : Ref (List Step)) → IsNextEvent a.client.who a.client.events a.left.now e left.now → DidEvent e a b → WentOn entries a (record b { left = left })
 went_did entries a b e g m n o left next d = record {
   acting = did entries a b e g m n o next.may left next.comes d;
   who = ap (λ (c : ClientView). c.who) d.client;

@@ -23,8 +23,8 @@ use Rattle.sv_system.specs.Records.{rules_of}
 use Rattle.sv_lines.specs.declared.request.Asked.{Asked}
 use Rattle.sv_lines.specs.declared.stop.Unread.{Unread}
 use Rattle.sv_lines.specs.declared.stop.Unread.TheVariants as unread
-use Rattle.sv_lines.specs.declared.stop.Stop.{Stop}
-use Rattle.sv_lines.specs.declared.stop.Stop.TheVariants as stop
+use Rattle.sv_lines.specs.declared.stop.LineStop.{LineStop}
+use Rattle.sv_lines.specs.declared.stop.LineStop.TheVariants as stop
 use Rattle.sv_lines.specs.Lines.{line_width, after_lines, Differs, StopsAt}
 use Rattle.sv_lines.specs.Reading.{Gives, behind_front, number_read}
 use Rattle.sv_lines.specs.Told.{IsTold, asking_text}
@@ -263,7 +263,7 @@ module _ (stay : FullRepliesStay) (names : LegalRelaysNameAccepted) (scenario : 
         left_is = at.left_is;
       }
 
-  pub broken_result : {B : Type 0} (r : Result B Stop) (es : List Entry) (text lines : List ℕ) → AreEntries scenario (reverse es) → lines ≡ lines_of form es → IfErr r (λ e. StopsAt text lines e) →
+  pub broken_result : {B : Type 0} (r : Result B LineStop) (es : List Entry) (text lines : List ℕ) → AreEntries scenario (reverse es) → lines ≡ lines_of form es → IfErr r (λ e. StopsAt text lines e) →
       IfWrong r (TextBreaksOff form es text)
   broken_result (Ok x) es text lines a is d = tt
   broken_result (Err (stop.Wrong left)) es text lines a is d = breaks_off es text left a (subst (λ (l : List ℕ). Differs text l left) is d)

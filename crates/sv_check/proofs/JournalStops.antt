@@ -23,8 +23,8 @@ use Rattle.sv_check.proofs.Serving.{whole_ended}
 use Rattle.sv_check.specs.Consistent.{IsReport}
 use Rattle.sv_check.specs.Parts.{AreEntries, IsWholeJournal, IsJournalPart, IsReportPart}
 use Rattle.sv_lines.specs.Lines.{after_lines}
-use Rattle.sv_lines.specs.declared.stop.Stop.{Stop}
-use Rattle.sv_lines.specs.declared.stop.Stop.TheVariants as stop
+use Rattle.sv_lines.specs.declared.stop.LineStop.{LineStop}
+use Rattle.sv_lines.specs.declared.stop.LineStop.TheVariants as stop
 use Rattle.sv_check.specs.Stopping.{IsStop, IfWrong}
 use Rattle.sv_check.specs.Entering.{lines_of, line_after, header_text, NoHeader, NoEntry, EntriesAreTold, HasServedAll, TextBreaksOff}
 use Rattle.sv_check.proofs.Asking.{entries_right}
@@ -235,16 +235,16 @@ module _ (stay : FullRepliesStay) (names : LegalRelaysNameAccepted) (order : Ste
 
 -- ---- Stops that are passed on
 
-pub wrong_at : (B : Type 0) (r : Result B Stop) (y e : Stop) (n : ℕ) (P : ℕ → Type 0) → r ≡ Err y → y ≡ e → e ≡ stop.Wrong n → P n → IfWrong r P
+pub wrong_at : (B : Type 0) (r : Result B LineStop) (y e : LineStop) (n : ℕ) (P : ℕ → Type 0) → r ≡ Err y → y ≡ e → e ≡ stop.Wrong n → P n → IfWrong r P
 wrong_at B r y e n P is same wrong p =
-    let all : r ≡ Err (stop.Wrong n) = is ∙ ap (λ (s : Stop). Err s) (same ∙ wrong) in
-    subst (λ (q : Result B Stop). IfWrong q P) (sym all) p
+    let all : r ≡ Err (stop.Wrong n) = is ∙ ap (λ (s : LineStop). Err s) (same ∙ wrong) in
+    subst (λ (q : Result B LineStop). IfWrong q P) (sym all) p
 
-wrong_more : (A B : Type 0) (e : Stop) (P Q : ℕ → Type 0) → ((left : ℕ) → P left → Q left) → IfWrong {A = A} (Err e) P → IfWrong {A = B} (Err e) Q
+wrong_more : (A B : Type 0) (e : LineStop) (P Q : ℕ → Type 0) → ((left : ℕ) → P left → Q left) → IfWrong {A = A} (Err e) P → IfWrong {A = B} (Err e) Q
 wrong_more A B (stop.Wrong left) P Q f p = f left p
 wrong_more A B stop.Memory P Q f p = tt
 
-pub passed_on : (A B : Type 0) (r : Result B Stop) (y e : Stop) (P Q : ℕ → Type 0) → r ≡ Err y → y ≡ e → ((left : ℕ) → P left → Q left) → IfWrong {A = A} (Err e) P → IfWrong r Q
+pub passed_on : (A B : Type 0) (r : Result B LineStop) (y e : LineStop) (P Q : ℕ → Type 0) → r ≡ Err y → y ≡ e → ((left : ℕ) → P left → Q left) → IfWrong {A = A} (Err e) P → IfWrong r Q
 passed_on A B r y e P Q is same f p =
-    let all : r ≡ Err e = is ∙ ap (λ (s : Stop). Err s) same in
-    subst (λ (q : Result B Stop). IfWrong q Q) (sym all) (wrong_more A B e P Q f p)
+    let all : r ≡ Err e = is ∙ ap (λ (s : LineStop). Err s) same in
+    subst (λ (q : Result B LineStop). IfWrong q Q) (sym all) (wrong_more A B e P Q f p)

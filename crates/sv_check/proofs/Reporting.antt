@@ -19,8 +19,8 @@ use Rattle.sv_system.specs.declared.played.Played.{Played}
 use Rattle.sv_asked.specs.Asked.{RequestsAreMessages, AcceptedAreFew}
 use Rattle.sv_asked.specs.Numbers.{ScenarioFits}
 use Rattle.sv_report.specs.Report.{trace_text, world_text}
-use Rattle.sv_lines.specs.declared.stop.Stop.{Stop}
-use Rattle.sv_lines.specs.declared.stop.Stop.TheVariants as stop
+use Rattle.sv_lines.specs.declared.stop.LineStop.{LineStop}
+use Rattle.sv_lines.specs.declared.stop.LineStop.TheVariants as stop
 use Rattle.sv_lines.specs.Lines.{Differs, StopsAt}
 use Rattle.sv_check.specs.Consistent.{IsReportOfPair, IsReportOf}
 use Rattle.sv_check.specs.Serving.{IsServed, AreEnded, entries_of}
@@ -74,12 +74,12 @@ before_is scenario served Ls played text clients world o e f =
     ∙ ap (λ (Ms : List Trace). (journal_text scenario.world.shape played.journal.entries ++ flat_map (trace_text played.journal.entries) Ms) ++ world) (sym o.traces)
 
 -- What is said of an error is said of the answer to which a `?` makes it.
-pub wrong_by : {A : Type 0} (r : Result A Stop) (e : Stop) → IsErrAnd r (λ (x : Stop). x ≡ e) → (P : ℕ → Type 0) → IfWrong {A = A} (Err e) P → IfWrong r P
+pub wrong_by : {A : Type 0} (r : Result A LineStop) (e : LineStop) → IsErrAnd r (λ (x : LineStop). x ≡ e) → (P : ℕ → Type 0) → IfWrong {A = A} (Err e) P → IfWrong r P
 wrong_by {A} (Ok a) e i P w = absurd i
-wrong_by {A} (Err x) e i P w = subst (λ (y : Stop). IfWrong {A = A} (Err y) P) (sym i) w
+wrong_by {A} (Err x) e i P w = subst (λ (y : LineStop). IfWrong {A = A} (Err y) P) (sym i) w
 
 -- What is said of a text is said of the same text.
-pub wrong_of : (A B : Type 0) (scenario : Scenario) (text other : List ℕ) (e : Stop) → text ≡ other → IfWrong {A = A} (Err e) (IsStop scenario other) → IfWrong {A = B} (Err e) (IsStop scenario text)
+pub wrong_of : (A B : Type 0) (scenario : Scenario) (text other : List ℕ) (e : LineStop) → text ≡ other → IfWrong {A = A} (Err e) (IsStop scenario other) → IfWrong {A = B} (Err e) (IsStop scenario text)
 wrong_of A B scenario text other (stop.Wrong left) same w = subst (λ (l : List ℕ). IsStop scenario l left) (sym same) w
 wrong_of A B scenario text other stop.Memory same w = tt
 
@@ -108,7 +108,7 @@ module _ (stay : FullRepliesStay) (names : LegalRelaysNameAccepted) (order : Ste
       (differs_stop stay names order few messages scenario good numbers h played.traces r.consistent last left fits (subst (λ (ls : List ℕ). Differs last ls left) world d))
 
   -- A line that differs from the world's next one is the first wrong line.
-  pub stops_at : (A : Type 0) (e : Stop) → StopsAt last lines e → IfWrong {A = A} (Err e) (IsStop scenario text)
+  pub stops_at : (A : Type 0) (e : LineStop) → StopsAt last lines e → IfWrong {A = A} (Err e) (IsStop scenario text)
   stops_at A (stop.Wrong left) d = differs_at left d
   stops_at A stop.Memory d = absurd d
 

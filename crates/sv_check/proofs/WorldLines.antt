@@ -16,7 +16,7 @@ use Rattle.sv_report.specs.Report.{value_lines, world_text}
 use Rattle.sv_lines.specs.Lines.{is_inner, line_width, after_lines}
 use Rattle.sv_lines.proofs.Splitting.{all_pass, both_pass, pass_append, decimal_passes}
 use Rattle.sv_lines.proofs.Numerals.{front_stops}
-use Rattle.sv_lines.proofs.Telling.{IsLong, all_long}
+use Rattle.sv_lines.proofs.Telling.{IsI64, all_long}
 use Rattle.sv_lines.proofs.Counting.{width_within}
 
 -- ---- Texts that end no line
@@ -30,17 +30,17 @@ digit_inner c h = grind (arith, nat_tests)
 decimal_inner : (n : ℕ) → n < 2 ^ 64 → IsInner (decimal n)
 decimal_inner n f = decimal_passes is_inner digit_inner n f
 
-signed_inner : (z : ℤ) → IsLong z → IsInner (signed_decimal z)
+signed_inner : (z : ℤ) → IsI64 z → IsInner (signed_decimal z)
 signed_inner (pos n) f = decimal_inner n (omega (arith, f))
 signed_inner (negsuc n) f = both_pass true (all_pass is_inner (decimal (suc n))) refl (decimal_inner (suc n) (omega (arith, f)))
 
-others_inner : (v : List ℤ) → AllByRecursion IsLong v → IsInner (flat_map (λ (z : ℤ). 44 ∷ signed_decimal z) v)
+others_inner : (v : List ℤ) → AllByRecursion IsI64 v → IsInner (flat_map (λ (z : ℤ). 44 ∷ signed_decimal z) v)
 others_inner [] f = refl
 others_inner (z ∷ v) f =
     pass_append is_inner (44 ∷ signed_decimal z) (flat_map (λ (y : ℤ). 44 ∷ signed_decimal y) v)
     (both_pass true (all_pass is_inner (signed_decimal z)) refl (signed_inner z f.0)) (others_inner v f.1)
 
-joined_inner : (v : List ℤ) → AllByRecursion IsLong v → IsInner (joined 44 signed_decimal v)
+joined_inner : (v : List ℤ) → AllByRecursion IsI64 v → IsInner (joined 44 signed_decimal v)
 joined_inner [] f = refl
 joined_inner (z ∷ v) f = pass_append is_inner (signed_decimal z) (flat_map (λ (y : ℤ). 44 ∷ signed_decimal y) v) (signed_inner z f.0) (others_inner v f.1)
 

@@ -184,7 +184,7 @@ cuts_session events.Cut = true
 cuts_session _ = false
 
 -- It did such an event.
-pub record Made (e : Event) (old new : Actor) : Type 0 where
+pub record DidEvent (e : Event) (old new : Actor) : Type 0 where
   pub client : new.client ≡ with_event old.client e
   pub same : new ≡ record old {
     client = new.client;

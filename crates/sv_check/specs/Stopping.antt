@@ -1,7 +1,7 @@
 -- Where the reading of a text stops.
 use Rattle.std.specs.Prelude.{◌≡◌, ℕ, List, ◌++◌, length, Result, Err}
-use Rattle.sv_lines.specs.declared.stop.Stop.{Stop}
-use Rattle.sv_lines.specs.declared.stop.Stop.TheVariants as stop
+use Rattle.sv_lines.specs.declared.stop.LineStop.{LineStop}
+use Rattle.sv_lines.specs.declared.stop.LineStop.TheVariants as stop
 use Rattle.sv_scenario.specs.declared.scenario.Scenario.{Scenario}
 use Rattle.sv_check.specs.Consistent.{IsReport}
 use Rattle.sv_check.specs.Parts.{IsReportPart}
@@ -18,6 +18,6 @@ pub record IsStop (scenario : Scenario) (text : List ℕ) (left : ℕ) : Type 0 
   pub none : IsReport scenario text → ⊥
 
 -- What is said of the place where a line was wrong; nothing is said where all was taken, or memory ran out.
-abbrev pub IfWrong : {A : Type 0} → Result A Stop → (ℕ → Type 0) → Type 0
+abbrev pub IfWrong : {A : Type 0} → Result A LineStop → (ℕ → Type 0) → Type 0
 IfWrong (Err (stop.Wrong left)) P = P left
 IfWrong _ P = Unit {0}

@@ -11,7 +11,7 @@ ghost use Rattle.sv_report.specs.Again.{MayDo};
 ghost use Rattle.sv_report.specs.Report.{event_text};
 ghost use Rattle.sv_script.specs.Following.{must_join, is_welcomed, is_finished};
 ghost use Rattle.sv_check.specs.Serving.{HasReplies, entries_of};
-ghost use Rattle.sv_check.specs.Acting.{IsActing, WentOn, IsNextEvent, IsNextPlace, NoNextPlace, NoneComes, LookedAt, Joined, GotReply, Made, journal_events, begins_got, is_other};
+ghost use Rattle.sv_check.specs.Acting.{IsActing, WentOn, IsNextEvent, IsNextPlace, NoNextPlace, NoneComes, LookedAt, Joined, GotReply, DidEvent, journal_events, begins_got, is_other};
 ghost use Rattle.sv_check.specs.Parts.{AreSomeEntries};
 ghost use Rattle.sv_check.specs.Next.{IsLineOf, NoEvent};
 ghost use Rattle.sv_check.specs.Stopping.{IfWrong};
@@ -20,9 +20,9 @@ use crate::journal::Served;
 use crate::moves::next_event;
 use crate::settled::is_settled;
 use std::alloc::{AllocError, Global};
-use sv_client::{Client, Event, MakeFault, Mark, PollFault, TakeFault, Trace};
+use sv_client::{Client, Event, MakeFault, TraceMark, PollFault, TakeFault, Trace};
 use sv_journal::{Entry, is_end};
-use sv_lines::{Stop, take_line};
+use sv_lines::{LineStop, take_line};
 use sv_report::{append_after, append_before};
 use sv_scenario::Step;
 use sv_script::is_bye;
@@ -144,7 +144,7 @@ impl<'a> Actor<'a> {
         alloc: Global,
         served: &Served,
         text: &'b [u8],
-    ) -> Result<&'b [u8], Stop>
+    ) -> Result<&'b [u8], LineStop>
         requires acting { IsActing (entries_of served.now) self.old }
         requires needed { must_join self.old.client.events ≡ true }
         ensures on { OnOk result (WentOn (entries_of served.now) self.old self.new) }
@@ -152,12 +152,12 @@ impl<'a> Actor<'a> {
         ensures wrong { IfWrong result (NoneComes (entries_of served.now) self.old text.now) }
     {
         if self.client.sessions() >= MOST_SESSIONS {
-            return Err(Stop::Wrong { left: text.len() });
+            return Err(LineStop::Wrong { left: text.len() });
         }
         let session = self.first + self.client.sessions();
         let line = join_line(alloc, session)?;
         let Some(rest) = behind_line(text, line.as_bytes()) else {
-            return Err(Stop::Wrong { left: text.len() });
+            return Err(LineStop::Wrong { left: text.len() });
         };
         self.settle(served.sequencer.journal().entries());
         self.join()?;
@@ -189,7 +189,7 @@ impl<'a> Actor<'a> {
         alloc: Global,
         served: &Served,
         text: &'b [u8],
-    ) -> Result<&'b [u8], Stop>
+    ) -> Result<&'b [u8], LineStop>
         requires acting { IsActing (entries_of served.now) self.old }
         requires replies { HasReplies served.now }
         requires right { AreSomeEntries (reverse (entries_of served.now)) }
@@ -202,25 +202,25 @@ impl<'a> Actor<'a> {
     {
         let entries = served.sequencer.journal().entries();
         let Some(session) = self.session else {
-            return Err(Stop::Wrong { left: text.len() });
+            return Err(LineStop::Wrong { left: text.len() });
         };
         let Some(place) = next_place(entries, session, self.place) else {
-            return Err(Stop::Wrong { left: text.len() });
+            return Err(LineStop::Wrong { left: text.len() });
         };
         let line = got_line(alloc, session, place + 1)?;
         let Some(rest) = behind_line(text, line.as_bytes()) else {
-            return Err(Stop::Wrong { left: text.len() });
+            return Err(LineStop::Wrong { left: text.len() });
         };
         if self.get(alloc, &served.replies[place], place)? {
             Ok(rest)
         } else {
-            Err(Stop::Wrong { left: text.len() })
+            Err(LineStop::Wrong { left: text.len() })
         }
     }
 
     fn make(&mut self, alloc: Global, action: &Action) -> Result<(), AllocError>
         requires { MayDo self.old.client.who self.old.client.events (events.Make action.now) }
-        ensures { OnOk result (Made (events.Make action.now) self.old self.new) }
+        ensures { OnOk result (DidEvent (events.Make action.now) self.old self.new) }
     {
         let copy = copy_action(alloc, action)?;
         match self.client.make(copy) {
@@ -235,7 +235,7 @@ impl<'a> Actor<'a> {
 
     fn poll(&mut self) -> Result<(), AllocError>
         requires { MayDo self.old.client.who self.old.client.events events.Poll }
-        ensures { OnOk result (Made events.Poll self.old self.new) }
+        ensures { OnOk result (DidEvent events.Poll self.old self.new) }
     {
         match self.client.poll() {
             Ok(request) => {
@@ -249,7 +249,7 @@ impl<'a> Actor<'a> {
 
     fn leave(&mut self) -> Result<(), AllocError>
         requires { MayDo self.old.client.who self.old.client.events events.Leave }
-        ensures { OnOk result (Made events.Leave self.old self.new) }
+        ensures { OnOk result (DidEvent events.Leave self.old self.new) }
     {
         let request = self.client.leave()?;
         self.asked.push(request)?;
@@ -257,24 +257,24 @@ impl<'a> Actor<'a> {
     }
 
     fn show(&mut self, alloc: Global, objects: &[ObjectId]) -> Result<(), AllocError>
-        ensures { OnOk result (Made (events.Show objects.now) self.old self.new) }
+        ensures { OnOk result (DidEvent (events.Show objects.now) self.old self.new) }
     {
         let copy = copy_objects(alloc, objects)?;
-        self.client.note(Mark::Show(copy))
+        self.client.note(TraceMark::Show(copy))
     }
 
     fn cut(&mut self) -> Result<(), AllocError>
-        ensures { OnOk result (Made events.Cut self.old self.new) }
+        ensures { OnOk result (DidEvent events.Cut self.old self.new) }
     {
-        self.client.note(Mark::Cut)?;
+        self.client.note(TraceMark::Cut)?;
         self.between = true;
         Ok(())
     }
 
     fn quit(&mut self) -> Result<(), AllocError>
-        ensures { OnOk result (Made events.Quit self.old self.new) }
+        ensures { OnOk result (DidEvent events.Quit self.old self.new) }
     {
-        self.client.note(Mark::Quit)?;
+        self.client.note(TraceMark::Quit)?;
         self.finished = true;
         Ok(())
     }
@@ -283,7 +283,7 @@ impl<'a> Actor<'a> {
     fn act(&mut self, alloc: Global, event: &Event) -> Result<(), AllocError>
         requires may { MayDo self.old.client.who self.old.client.events event.now }
         requires other { is_other event.now ≡ true }
-        ensures { OnOk result (Made event.now self.old self.new) }
+        ensures { OnOk result (DidEvent event.now self.old self.new) }
     {
         match event {
             Event::Make(action) => self.make(alloc, action),
@@ -347,7 +347,7 @@ impl<'a> Actor<'a> {
         alloc: Global,
         served: &Served,
         text: &'b [u8],
-    ) -> Result<&'b [u8], Stop>
+    ) -> Result<&'b [u8], LineStop>
         requires acting { IsActing (entries_of served.now) self.old }
         requires joined { must_join self.old.client.events ≡ false }
         requires welcomed { is_welcomed self.old.client.events ≡ true }
@@ -358,12 +358,12 @@ impl<'a> Actor<'a> {
         ensures wrong { IfWrong result (NoneComes (entries_of served.now) self.old text.now) }
     {
         let Some((event, left)) = next_event(alloc, self.shape, &self.client, self.left)? else {
-            return Err(Stop::Wrong { left: text.len() });
+            return Err(LineStop::Wrong { left: text.len() });
         };
         let line = self.tell_next(alloc, served, &event, left)?;
         match behind_line(text, line.as_bytes()) {
             Some(rest) => Ok(rest),
-            None => Err(Stop::Wrong { left: text.len() }),
+            None => Err(LineStop::Wrong { left: text.len() }),
         }
     }
 
@@ -373,7 +373,7 @@ impl<'a> Actor<'a> {
         alloc: Global,
         served: &Served,
         text: &'b [u8],
-    ) -> Result<&'b [u8], Stop>
+    ) -> Result<&'b [u8], LineStop>
         requires acting { IsActing (entries_of served.now) self.old }
         requires replies { HasReplies served.now }
         requires right { AreSomeEntries (reverse (entries_of served.now)) }
@@ -391,7 +391,7 @@ impl<'a> Actor<'a> {
         if self.welcomed {
             return self.take_step(alloc, served, text);
         }
-        Err(Stop::Wrong { left: text.len() })
+        Err(LineStop::Wrong { left: text.len() })
     }
 
     /// What it did.

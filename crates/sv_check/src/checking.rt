@@ -18,7 +18,7 @@ use crate::runs::laws_of_runs;
 use std::alloc::{AllocError, Global};
 use sv_asked::read_scenario_numbers;
 use sv_client::Trace;
-use sv_lines::{Stop, line_ends, take_lines};
+use sv_lines::{LineStop, line_ends, take_lines};
 use sv_replay::played_of;
 use sv_report::append_world;
 use sv_scenario::Scenario;
@@ -53,7 +53,7 @@ fn take_traffic<'a>(
     alloc: Global,
     scenario: &Scenario,
     text: &'a [u8],
-) -> Result<(Played, &'a [u8]), Stop>
+) -> Result<(Played, &'a [u8]), LineStop>
     requires good { IsGoodScenario scenario.now }
     requires short { length text.now < 2 ^ 32 }
     ensures right { IfOk result (λ r. IsRightPlayed scenario.now r.0) }
@@ -83,7 +83,7 @@ fn take_world(
     played: &Played,
     text: &[u8],
     last: &[u8],
-) -> Result<(), Stop>
+) -> Result<(), LineStop>
     requires good { IsGoodScenario scenario.now }
     requires right { IsRightPlayed scenario.now played.now }
     requires short { length text.now < 2 ^ 32 }
@@ -98,12 +98,12 @@ fn take_world(
     if rest.is_empty() {
         Ok(())
     } else {
-        Err(Stop::Wrong { left: rest.len() })
+        Err(LineStop::Wrong { left: rest.len() })
     }
 }
 
 /// What the lines of the whole text tell, where none is wrong.
-fn read_report(alloc: Global, scenario: &Scenario, text: &[u8]) -> Result<Played, Stop>
+fn read_report(alloc: Global, scenario: &Scenario, text: &[u8]) -> Result<Played, LineStop>
     requires good { IsGoodScenario scenario.now }
     requires short { length text.now < 2 ^ 32 }
     ensures report { IfOk result (λ played. IsReportOf scenario.now text.now played) }
@@ -147,9 +147,9 @@ pub fn check(alloc: Global, scenario: &Scenario, text: &[u8]) -> Result<Verdict,
 {
     match read_report(alloc, scenario, text) {
         Ok(played) => Ok(Verdict::Yes(played)),
-        Err(Stop::Wrong { left }) => Ok(Verdict::No {
+        Err(LineStop::Wrong { left }) => Ok(Verdict::No {
             line: line_number(scenario, text, left),
         }),
-        Err(Stop::Memory) => Err(AllocError),
+        Err(LineStop::Memory) => Err(AllocError),
     }
 }

@@ -20,7 +20,7 @@ use crate::runs::laws_of_runs;
 use std::alloc::{AllocError, Global};
 use sv_asked::read_scenario_numbers;
 use sv_client::{Client, Trace};
-use sv_lines::{Stop, take_line};
+use sv_lines::{LineStop, take_line};
 use sv_scenario::{Plan, Scenario, sessions_of_plan};
 use sv_world::{ClientId, List, Shape, copy_objects};
 
@@ -68,7 +68,7 @@ fn take_events<'a>(
     served: &Served,
     actor: &mut Actor<'_>,
     text: &'a [u8],
-) -> Result<&'a [u8], Stop>
+) -> Result<&'a [u8], LineStop>
     requires acting { IsActing (entries_of served.now) actor.old }
     requires replies { HasReplies served.now }
     requires right { AreSomeEntries (reverse (entries_of served.now)) }
@@ -87,7 +87,7 @@ fn take_events<'a>(
     if actor.finished {
         Ok(rest)
     } else {
-        Err(Stop::Wrong { left: rest.len() })
+        Err(LineStop::Wrong { left: rest.len() })
     }
 }
 
@@ -125,7 +125,7 @@ fn take_client<'a>(
     served: &Served,
     part: &Part<'_>,
     text: &'a [u8],
-) -> Result<(Trace, &'a [u8]), Stop>
+) -> Result<(Trace, &'a [u8]), LineStop>
     requires replies { HasReplies served.now }
     requires right { AreSomeEntries (reverse (entries_of served.now)) }
     requires number { part.now.number < most_clients }
@@ -142,7 +142,7 @@ fn take_client<'a>(
     let rest = take_events(alloc, served, &mut actor, rest)?;
     match finish(served, part, actor) {
         Some(trace) => Ok((trace, rest)),
-        None => Err(Stop::Wrong { left: rest.len() }),
+        None => Err(LineStop::Wrong { left: rest.len() }),
     }
 }
 
@@ -152,7 +152,7 @@ pub(crate) fn take_clients<'a>(
     scenario: &Scenario,
     served: &Served,
     text: &'a [u8],
-) -> Result<(List<Trace>, &'a [u8]), Stop>
+) -> Result<(List<Trace>, &'a [u8]), LineStop>
     requires good { IsGoodScenario scenario.now }
     requires replies { HasReplies served.now }
     requires journal { IsWholeJournal scenario.now (reverse (entries_of served.now)) }

@@ -7,7 +7,7 @@ ghost use Rattle.sv_journal.specs.Answer.{Legal, reply_to};
 ghost use Rattle.sv_sequencer.specs.Step.{history, entry_of};
 ghost use Rattle.sv_journal.specs.Text.{journal_text};
 ghost use Rattle.sv_system.specs.Records.{rules_of};
-ghost use Rattle.sv_lines.specs.declared.stop.Stop.TheVariants.{Wrong};
+ghost use Rattle.sv_lines.specs.declared.stop.LineStop.TheVariants.{Wrong};
 ghost use Rattle.sv_lines.specs.Told.{IsTold};
 ghost use Rattle.sv_check.specs.Serving.{IsServed, AreEnded, entries_of};
 ghost use Rattle.sv_check.specs.Entering.{header_text, NoHeader, lines_of, HasServed, HasServedAll, TextBreaksOff};
@@ -18,7 +18,7 @@ use crate::runs::laws_of_runs;
 use std::alloc::{AllocError, Global};
 use sv_journal::{full_replies_stay, legal_relays_name_accepted, print_journal};
 use sv_lines::{
-    Asked, Stop, Unread, asked_at, expect, line_length, number_at, take_line, take_lines,
+    Asked, LineStop, Unread, asked_at, expect, line_length, number_at, take_line, take_lines,
 };
 use sv_replay::open_sequencer;
 use sv_scenario::Scenario;
@@ -33,13 +33,13 @@ pub(crate) struct Served {
 }
 
 /// The number of entries that the first line tells, and what comes after the line.
-fn take_header(alloc: Global, text: &[u8]) -> Result<(u32, &[u8]), Stop>
+fn take_header(alloc: Global, text: &[u8]) -> Result<(u32, &[u8]), LineStop>
     ensures taken { IfOk result (λ r. text.now ≡ header_text r.0 ++ r.1.now) }
     ensures small { IfOk result (λ r. r.0 < 2 ^ 32) }
     ensures wrong { IfWrong result (λ left. (left ≡ length text.now) × NoHeader text.now) }
 {
     let Some(count) = told_count(text) else {
-        return Err(Stop::Wrong { left: text.len() });
+        return Err(LineStop::Wrong { left: text.len() });
     };
     let line = format!(in alloc; "journal {count}\n")?;
     let rest = take_line(text, line.as_bytes())?;
@@ -47,10 +47,10 @@ fn take_header(alloc: Global, text: &[u8]) -> Result<(u32, &[u8]), Stop>
 }
 
 /// The stop at the line with which a text begins.
-fn stop_at(text: &[u8]) -> Stop
+fn stop_at(text: &[u8]) -> LineStop
     ensures { result ≡ Wrong (length text.now) }
 {
-    Stop::Wrong { left: text.len() }
+    LineStop::Wrong { left: text.len() }
 }
 
 /// The number of the first line. Where the text begins with such a line, it is that number.
@@ -171,7 +171,7 @@ impl Served {
         alloc: Global,
         scenario: &Scenario,
         text: &'a [u8],
-    ) -> Result<&'a [u8], Stop>
+    ) -> Result<&'a [u8], LineStop>
         requires { IsServed scenario.now self.now }
         ensures taken { IfOk result (λ rest. text.now ≡ lines_of scenario.now.world.shape (entries_of self.now) ++ rest.now) }
         ensures wrong { IfWrong result (TextBreaksOff scenario.now.world.shape (entries_of self.now) text.now) }
@@ -203,7 +203,7 @@ pub(crate) fn take_journal<'a>(
     alloc: Global,
     scenario: &Scenario,
     text: &'a [u8],
-) -> Result<(Served, &'a [u8]), Stop>
+) -> Result<(Served, &'a [u8]), LineStop>
     requires good { IsGoodScenario scenario.now }
     requires fits { ScenarioFits scenario.now }
     requires short { length text.now < 2 ^ 32 }

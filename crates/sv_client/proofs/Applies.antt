@@ -3,7 +3,7 @@ use Rattle.std.proofs.Common.{◌≡◌, ℕ, List, [], ◌∷◌, ◌++◌, dro
 use Rattle.std.specs.Prelude.{if◌then◌else◌}
 use Rattle.sv_versions.specs.Held.{Held, AnswersAbove}
 use Rattle.sv_pending.specs.Pending.{PendingAction}
-use Rattle.sv_wire.specs.declared.message.Held.{Held as Sent}
+use Rattle.sv_wire.specs.declared.message.ObjectValue.{ObjectValue}
 use Rattle.sv_wire.specs.declared.message.Item.{Item}
 use Rattle.sv_wire.specs.declared.message.Done1.{Done1}
 use Rattle.sv_wire.specs.declared.message.Request.TheVariants as requests
@@ -13,7 +13,7 @@ use Rattle.sv_client.specs.Taking.{first_missing_of}
 use Rattle.sv_client.specs.Evaluating.{IsApplied}
 use Rattle.sv_client.proofs.Standing.{settled_same}
 
-pub relay_applied : (told seq commit : ℕ) (all kept : List Held) (head : List Sent) (items : List Item) (results : List Done1) (before after : List PendingAction)
+pub relay_applied : (told seq commit : ℕ) (all kept : List Held) (head : List ObjectValue) (items : List Item) (results : List Done1) (before after : List PendingAction)
     → AnswersAbove told kept (with_items (all ++ head_held commit head) items) → first_missing_of (all ++ head_held commit head) items ≡ None
     → results ≡ results_of (all ++ head_held commit head) items
     → after ≡ (if eqb seq 0 then before else settled_by kept (last_values results) before)

@@ -9,7 +9,7 @@ use Rattle.sv_world.specs.Sets.{read_set, write_set}
 use Rattle.sv_eval.proofs.Masks.{at_mask_all}
 use Rattle.sv_versions.specs.Held.{Held, versions_of, newest, latest, count_up_to, AnswersAbove}
 use Rattle.sv_pending.specs.Made.{ReadsWithin}
-use Rattle.sv_wire.specs.declared.message.Held.{Held as Sent}
+use Rattle.sv_wire.specs.declared.message.ObjectValue.{ObjectValue}
 use Rattle.sv_wire.specs.declared.message.Item.{Item}
 use Rattle.sv_wire.specs.declared.message.Reply.{Reply}
 use Rattle.sv_wire.specs.declared.message.Reply.TheVariants as replies
@@ -31,11 +31,11 @@ free_one : (x : ℕ) (k : Held) (held : List Held) → k.object < x → IsFree x
 free_one x k held l e = rw (ne_eqb k.object x (λ s. absurd (omega (arith, s, l)))) e
 
 module _ (n x : ℕ) (over : n ≤ x) where
-  head_free : (commit : ℕ) (head : List Sent) → IsHeadWithin n head → IsFree x (head_held commit head)
+  head_free : (commit : ℕ) (head : List ObjectValue) → IsHeadWithin n head → IsFree x (head_held commit head)
   head_free commit [] w = refl
   head_free commit (h ∷ head) w =
-      let low = All-head (λ (s : Sent). s.object.0 < n) h head w in
-      free_one x (record { object = h.object.0; pos = commit; value = h.value }) (head_held commit head) (omega (arith, low, over)) (head_free commit head (All-tail (λ (s : Sent). s.object.0 < n) h head w))
+      let low = All-head (λ (s : ObjectValue). s.object.0 < n) h head w in
+      free_one x (record { object = h.object.0; pos = commit; value = h.value }) (head_held commit head) (omega (arith, low, over)) (head_free commit head (All-tail (λ (s : ObjectValue). s.object.0 < n) h head w))
 
   at_free : (pos : ℕ) (objects : List ℕ) (values : List (List ℤ)) → All (λ o. o < n) objects → IsFree x (held_at pos objects values)
   at_free pos [] values w = refl

@@ -4,7 +4,7 @@ use Rattle.std.specs.Prelude.{ℤ}
 use Rattle.std.proofs.lemmas.List.{take_all}
 use Rattle.sv_world.specs.declared.world.ObjectId.{ObjectId}
 use Rattle.sv_world.specs.Sets.{numbers_of, read_set, write_set}
-use Rattle.sv_eval.specs.Evaluation.{outcome_of}
+use Rattle.sv_eval.specs.Evaluation.{effect_of}
 use Rattle.sv_versions.specs.Held.{Held, AnswersAbove}
 use Rattle.sv_wire.specs.declared.message.Item.{Item}
 use Rattle.sv_wire.specs.declared.message.Done1.{Done1}
@@ -16,11 +16,11 @@ use Rattle.sv_client.proofs.Standing.{missing_same, values_same}
 
 pub item_done : (told : ℕ) (kept all after : List Held) (item : Item) (os : List ObjectId) (values writes : List (List ℤ)) → AnswersAbove told kept all → told < item.pos
     → first_unheld kept item.pos (read_set item.action) ≡ None → values ≡ values_below kept item.pos (read_set item.action)
-    → writes ≡ (outcome_of item.action values).writes → numbers_of os ≡ write_set item.action
+    → writes ≡ (effect_of item.action values).writes → numbers_of os ≡ write_set item.action
     → AnswersAbove told after (all ++ held_at item.pos (numbers_of os) writes)
     → IsEvaluated told all item (Ok writes) after
 item_done told kept all after item os values writes a l m v w o s =
-    let same : writes ≡ item_result all item = w ∙ ap (λ (vs : List (List ℤ)). (outcome_of item.action vs).writes) (v ∙ values_same a item.pos l (read_set item.action)) in
+    let same : writes ≡ item_result all item = w ∙ ap (λ (vs : List (List ℤ)). (effect_of item.action vs).writes) (v ∙ values_same a item.pos l (read_set item.action)) in
     let held : held_at item.pos (numbers_of os) writes ≡ item_held all item = ap (λ (xs : List ℕ). held_at item.pos xs writes) o ∙ ap (held_at item.pos (write_set item.action)) same in
     (sym (missing_same a item.pos l (read_set item.action)) ∙ m, same, subst (λ (hs : List Held). AnswersAbove told after (all ++ hs)) held s)
 

@@ -14,8 +14,8 @@ use Rattle.sv_client.specs.declared.kinds.Awaited.{Awaited}
 use Rattle.sv_client.specs.declared.kinds.Awaited.TheVariants as kinds
 use Rattle.sv_client.specs.declared.trace.Event.{Event}
 use Rattle.sv_client.specs.declared.trace.Event.TheVariants as events
-use Rattle.sv_client.specs.declared.trace.Mark.{Mark}
-use Rattle.sv_client.specs.declared.trace.Mark.TheVariants as marks
+use Rattle.sv_client.specs.declared.trace.TraceMark.{TraceMark}
+use Rattle.sv_client.specs.declared.trace.TraceMark.TheVariants as marks
 use Rattle.sv_client.specs.Traces.{joins, makes, current_session, is_session, held_of, pending_of, submit_of}
 use Rattle.sv_client.specs.Taking.{Identity, outstanding, unanswered, told, first_fault_of_reply}
 use Rattle.sv_client.specs.Proper.{AreProper, MayMake, MayPoll, MayLeave, in_session}
@@ -153,7 +153,7 @@ module _ (who : Identity) (t : List Event) (store : Store) (pending : PendingLis
     };
   }
 
-  pub noted_keeps : (mark : Mark) → IsClientOf who (event_of_mark mark ∷ t) store pending ks sessions made commit joined
+  pub noted_keeps : (mark : TraceMark) → IsClientOf who (event_of_mark mark ∷ t) store pending ks sessions made commit joined
   noted_keeps marks.Cut = noted events.Cut (tt, is.proper) refl refl refl (outstanding_cut who t) refl refl refl
   noted_keeps marks.Quit = noted events.Quit (tt, is.proper) refl refl refl (outstanding_quit who t) refl refl refl
   noted_keeps (marks.Show os) = noted (events.Show os) (tt, is.proper) refl refl refl (outstanding_shown who t os) refl refl refl

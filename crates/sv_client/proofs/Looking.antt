@@ -10,7 +10,7 @@ use Rattle.sv_world.proofs.Good.{good_of_none}
 use Rattle.sv_pending.specs.Made.{ReadsWithin}
 use Rattle.sv_pending.specs.Pending.{PendingAction}
 use Rattle.sv_pending.proofs.Places.{reads_within}
-use Rattle.sv_wire.specs.declared.message.Held.{Held as Sent}
+use Rattle.sv_wire.specs.declared.message.ObjectValue.{ObjectValue as Sent}
 use Rattle.sv_wire.specs.declared.message.Item.{Item}
 use Rattle.sv_wire.specs.declared.message.Reply.{Reply}
 use Rattle.sv_wire.specs.declared.message.Reply.TheVariants as replies

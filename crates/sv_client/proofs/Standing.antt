@@ -3,7 +3,7 @@ use Rattle.std.proofs.Common.{◌≡◌, ℕ, ◌<◌, List, [], ◌∷◌, ◌+
 use Rattle.std.specs.Prelude.{ℤ, if◌then◌else◌}
 use Rattle.sv_world.specs.declared.action.Action.{Action}
 use Rattle.sv_world.specs.Sets.{read_set}
-use Rattle.sv_eval.specs.Evaluation.{outcome_of}
+use Rattle.sv_eval.specs.Evaluation.{effect_of}
 use Rattle.sv_versions.specs.Held.{Held, AnswersAbove, latest, read_below}
 use Rattle.sv_pending.specs.Pending.{PendingAction, view_under, overlay_of, view_over, views_over, kept_of, redone, redone_after}
 use Rattle.sv_client.specs.Traces.{are_same, settled_by}
@@ -22,7 +22,7 @@ module _ {told : ℕ} {kept all : List Held} (stands : AnswersAbove told kept al
   views_same ps (x ∷ xs) = rw (view_same ps x, views_same ps xs) refl
 
   pub kept_same : (ps : List PendingAction) (a : Action) → kept_of kept ps a ≡ kept_of all ps a
-  kept_same ps a = ap (option_map (λ values. (outcome_of a values).writes)) (views_same ps (read_set a))
+  kept_same ps a = ap (option_map (λ values. (effect_of a values).writes)) (views_same ps (read_set a))
 
   pub redone_after_same : (earlier ps : List PendingAction) → redone_after kept earlier ps ≡ redone_after all earlier ps
   redone_after_same earlier [] = refl

@@ -5,7 +5,7 @@ use Rattle.sv_world.specs.Sets.{read_set}
 use Rattle.sv_versions.specs.Held.{Held, AnswersAbove, read_below}
 use Rattle.sv_pending.specs.Pending.{PendingAction}
 use Rattle.sv_pending.specs.Made.{ReadsWithin}
-use Rattle.sv_wire.specs.declared.message.Held.{Held as Sent}
+use Rattle.sv_wire.specs.declared.message.ObjectValue.{ObjectValue}
 use Rattle.sv_wire.specs.declared.message.Item.{Item}
 use Rattle.sv_wire.specs.declared.message.Done1.{Done1}
 use Rattle.sv_wire.specs.declared.message.Request.{Request}
@@ -19,8 +19,8 @@ use Rattle.sv_client.specs.Seen.{fault_named}
 abbrev pub AreWithin : ℕ → List ObjectId → Type 0
 AreWithin n objects = All (λ (o : ObjectId). o.0 < n) objects
 
-abbrev pub IsHeadWithin : ℕ → List Sent → Type 0
-IsHeadWithin n head = All (λ (h : Sent). h.object.0 < n) head
+abbrev pub IsHeadWithin : ℕ → List ObjectValue → Type 0
+IsHeadWithin n head = All (λ (h : ObjectValue). h.object.0 < n) head
 
 abbrev pub ItemsReadWithin : ℕ → List Item → Type 0
 ItemsReadWithin n items = All (λ (i : Item). ReadsWithin n i.action) items

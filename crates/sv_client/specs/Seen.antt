@@ -7,8 +7,8 @@ use Rattle.sv_versions.specs.Held.{Held}
 use Rattle.sv_wire.specs.declared.message.Request.{Request}
 use Rattle.sv_client.specs.declared.trace.Event.{Event}
 use Rattle.sv_client.specs.declared.trace.Event.TheVariants as events
-use Rattle.sv_client.specs.declared.trace.Mark.{Mark}
-use Rattle.sv_client.specs.declared.trace.Mark.TheVariants as marks
+use Rattle.sv_client.specs.declared.trace.TraceMark.{TraceMark}
+use Rattle.sv_client.specs.declared.trace.TraceMark.TheVariants as marks
 use Rattle.sv_client.specs.declared.trace.Trace.{Trace}
 use Rattle.sv_client.specs.declared.fault.TakeFault.{TakeFault}
 use Rattle.sv_client.specs.declared.fault.TakeFault.TheVariants as faults
@@ -47,7 +47,7 @@ fault_named (faults.Missing pos object) = Some (Missing pos object.0)
 fault_named faults.Memory = None
 
 -- The event that a note appends.
-abbrev pub event_of_mark : Mark → Event
+abbrev pub event_of_mark : TraceMark → Event
 event_of_mark marks.Cut = events.Cut
 event_of_mark marks.Quit = events.Quit
 event_of_mark (marks.Show objects) = events.Show objects

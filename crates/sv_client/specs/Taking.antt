@@ -9,7 +9,7 @@ use Rattle.sv_world.specs.Faults.{first_fault_of_action, is_ascending}
 use Rattle.sv_world.specs.Sets.{read_set}
 use Rattle.sv_versions.specs.Held.{Held, read_below}
 use Rattle.sv_pending.specs.Pending.{PendingAction}
-use Rattle.sv_wire.specs.declared.message.Held.{Held as Sent}
+use Rattle.sv_wire.specs.declared.message.ObjectValue.{ObjectValue}
 use Rattle.sv_wire.specs.declared.message.Item.{Item}
 use Rattle.sv_wire.specs.declared.message.Request.{Request}
 use Rattle.sv_wire.specs.declared.message.Reply.{Reply}
@@ -67,7 +67,7 @@ allows request reply = allows_awaited (kind_of request) reply
 
 -- ---- Order
 
-abbrev pub head_of : Reply → List Sent
+abbrev pub head_of : Reply → List ObjectValue
 head_of (replies.Welcome commit head) = head
 head_of (replies.Relay seq commit head items) = head
 head_of _ = []
@@ -76,8 +76,8 @@ abbrev pub items_of : Reply → List Item
 items_of (replies.Relay seq commit head items) = items
 items_of _ = []
 
-abbrev pub head_ascends : List Sent → Bool
-head_ascends head = is_ascending (map (λ (h : Sent). h.object.0) head)
+abbrev pub head_ascends : List ObjectValue → Bool
+head_ascends head = is_ascending (map (λ (h : ObjectValue). h.object.0) head)
 
 abbrev pub items_ascend : List Item → Bool
 items_ascend items = is_ascending (map (λ (i : Item). i.pos) items)
@@ -107,8 +107,8 @@ is_out_of_order t reply = is_disordered (told t) reply
 
 -- ---- Items
 
-abbrev pub is_bad_head : Shape → List Sent → Bool
-is_bad_head shape head = list_any (λ (h : Sent). nat_le shape.objects h.object.0 || not (length h.value == shape.attrs)) head
+abbrev pub is_bad_head : Shape → List ObjectValue → Bool
+is_bad_head shape head = list_any (λ (h : ObjectValue). nat_le shape.objects h.object.0 || not (length h.value == shape.attrs)) head
 
 -- The reply to the Submit of a pending action is for that one.
 abbrev pub is_for_front : ℕ → List PendingAction → Bool

@@ -5,10 +5,10 @@ use Rattle.std.specs.List.{zip}
 use Rattle.sv_world.specs.declared.world.ClientId.{ClientId}
 use Rattle.sv_world.specs.declared.world.ObjectId.{ObjectId}
 use Rattle.sv_world.specs.Sets.{read_set, write_set}
-use Rattle.sv_eval.specs.Evaluation.{outcome_of}
+use Rattle.sv_eval.specs.Evaluation.{effect_of}
 use Rattle.sv_versions.specs.Held.{Held, read_below}
 use Rattle.sv_pending.specs.Pending.{PendingAction, kept_of, redone, view_over}
-use Rattle.sv_wire.specs.declared.message.Held.{Held as Sent}
+use Rattle.sv_wire.specs.declared.message.ObjectValue.{ObjectValue}
 use Rattle.sv_wire.specs.declared.message.Item.{Item}
 use Rattle.sv_wire.specs.declared.message.Done1.{Done1}
 use Rattle.sv_wire.specs.declared.message.Request.{Request}
@@ -53,8 +53,8 @@ is_session None s = false
 -- ---- Values held
 
 -- The values of a head, held at its reply's commit.
-abbrev pub head_held : ℕ → List Sent → List Held
-head_held commit head = map (λ (h : Sent). record { object = h.object.0; pos = commit; value = h.value }) head
+abbrev pub head_held : ℕ → List ObjectValue → List Held
+head_held commit head = map (λ (h : ObjectValue). record { object = h.object.0; pos = commit; value = h.value }) head
 
 -- The values of objects at a position.
 abbrev pub held_at : ℕ → List ℕ → List (List ℤ) → List Held
@@ -62,7 +62,7 @@ held_at pos objects values = map (λ (p : ℕ × List ℤ). record { object = p.
 
 -- The result of an item: its action on what is held of each object that it reads at the greatest position below it.
 abbrev pub item_result : List Held → Item → List (List ℤ)
-item_result held item = (outcome_of item.action (map (λ x. unwrap_or (read_below held x item.pos) []) (read_set item.action))).writes
+item_result held item = (effect_of item.action (map (λ x. unwrap_or (read_below held x item.pos) []) (read_set item.action))).writes
 
 abbrev pub item_held : List Held → Item → List Held
 item_held held item = held_at item.pos (write_set item.action) (item_result held item)

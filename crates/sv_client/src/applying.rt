@@ -14,7 +14,7 @@ use crate::same::are_same_values;
 use std::alloc::AllocError;
 use sv_pending::Pending;
 use sv_versions::{Undo, Versions};
-use sv_wire::{Done1, Held, Item, Reply, Request};
+use sv_wire::{Done1, ObjectValue, Item, Reply, Request};
 use sv_world::{List, Value};
 
 /// Whether a result is there and is the one that was kept.
@@ -106,7 +106,7 @@ fn settle_by(
 struct Brought<'a> {
     seq: u32,
     commit: u32,
-    head: &'a [Held],
+    head: &'a [ObjectValue],
     items: &'a [Item],
 }
 
@@ -138,7 +138,7 @@ fn apply_welcome(
     versions: &mut Versions,
     undo: &mut Undo,
     commit: u32,
-    head: &[Held],
+    head: &[ObjectValue],
 ) -> Result<Option<Request>, TakeFault>
     requires { IsHeadWithin versions.old.shape.objects head.now }
     ensures versions { versions.new.shape ≡ versions.old.shape }

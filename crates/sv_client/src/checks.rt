@@ -7,10 +7,10 @@ ghost use Rattle.sv_client.specs.Taking.{has_bad_action, is_good_answer, is_unfi
 use crate::kinds::Awaited;
 use crate::same::same_action;
 use sv_pending::{Pending, PendingItem};
-use sv_wire::{Held, Item, Reply};
+use sv_wire::{ObjectValue, Item, Reply};
 use sv_world::{ClientId, Shape, check_action};
 
-fn head_ascends(head: &[Held]) -> bool
+fn head_ascends(head: &[ObjectValue]) -> bool
     ensures { result ≡ head_ascends head.now }
 {
     let [first, rest @ ..] = head else {
@@ -77,7 +77,7 @@ pub(crate) fn is_out_of_order(told: u32, reply: &Reply) -> bool
     }
 }
 
-fn is_bad_head(shape: Shape, head: &[Held]) -> bool
+fn is_bad_head(shape: Shape, head: &[ObjectValue]) -> bool
     ensures { result ≡ is_bad_head shape head.now }
 {
     for held in head {

@@ -16,7 +16,7 @@ use crate::fault::{MakeFault, PollFault, TakeFault};
 use crate::kinds::{Awaited, allows_kind};
 use crate::raising::raise_events;
 use crate::taken::take_reply;
-use crate::trace::{Event, Mark, Trace};
+use crate::trace::{Event, TraceMark, Trace};
 use crate::view::View;
 use std::alloc::{AllocError, Global};
 use std::marker::Model;
@@ -224,14 +224,14 @@ impl Client {
     }
 
     /// Notes an event in the trace, and changes nothing else.
-    pub fn note(&mut self, mark: Mark) -> Result<(), AllocError>
+    pub fn note(&mut self, mark: TraceMark) -> Result<(), AllocError>
         ensures ok { OnOk result (self.new ≡ with_event self.old (event_of_mark mark)) }
         ensures err { OnErr result (self.new ≡ self.old) }
     {
         let event = match mark {
-            Mark::Cut => Event::Cut,
-            Mark::Quit => Event::Quit,
-            Mark::Show(objects) => Event::Show(objects),
+            TraceMark::Cut => Event::Cut,
+            TraceMark::Quit => Event::Quit,
+            TraceMark::Show(objects) => Event::Show(objects),
         };
         self.events.push(event)?;
         Ok(())

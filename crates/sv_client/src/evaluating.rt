@@ -12,7 +12,7 @@ use crate::fault::TakeFault;
 use std::alloc::AllocError;
 use sv_eval::{eval, written_objects};
 use sv_versions::{Undo, Versions};
-use sv_wire::{Done1, Held, Item};
+use sv_wire::{Done1, ObjectValue, Item};
 use sv_world::{List, ObjectId, Value, copy_value};
 
 /// Holds the values of a head at its reply's commit.
@@ -20,7 +20,7 @@ pub(crate) fn hold_head(
     versions: &mut Versions,
     undo: &mut Undo,
     commit: u32,
-    head: &[Held],
+    head: &[ObjectValue],
 ) -> Result<(), AllocError>
     requires { IsHeadWithin versions.old.shape.objects head.now }
     ensures shape { versions.new.shape ≡ versions.old.shape }

@@ -33,7 +33,7 @@ pub fn is_make(event: &Event) -> bool
 
 /// What is noted in a trace beside the calls of a client.
 #[derive(Debug, Drop)]
-pub enum Mark {
+pub enum TraceMark {
     Cut,
     Quit,
     Show(List<ObjectId>),

@@ -7,7 +7,7 @@ use Rattle.sv_bytes.specs.Writing.{GrewOrRose}
 use Rattle.sv_command.specs.declared.ending.Ending.{Ending}
 use Rattle.sv_command.specs.declared.ending.Ending.TheVariants as endings
 use Rattle.sv_command.specs.Reading.{IsRefused}
-use Rattle.sv_command.specs.Statuses.{status_of, Counts, Raises, TellsFaults, line_of, TellsStatus}
+use Rattle.sv_command.specs.Statuses.{status_of, Counts, Raises, TellsFaults, ending_line, TellsStatus}
 
 -- ---- Statuses
 
@@ -126,14 +126,14 @@ module _ (before now : Counts) where
 
 module _ (words_line : List ℕ) (held named : Option (List ℕ)) (t0 t1 : Option (List ℕ)) (n0 n1 : ℕ) where
   -- An ending tells its status where its line is written. It tells of no scenario only where that was refused.
-  pub told_is : (e : Ending) → ((line : String Global) → e ≡ endings.Scenario line → IsRefused held (string_bytes line)) → GrewOrRose t0 t1 n0 n1 (line_of words_line e named)
+  pub told_is : (e : Ending) → ((line : String Global) → e ≡ endings.Scenario line → IsRefused held (string_bytes line)) → GrewOrRose t0 t1 n0 n1 (ending_line words_line e named)
       → TellsStatus words_line (status_of e) held named t0 t1 n0 n1
-  told_is endings.Done refused t = record { line = line_of words_line endings.Done named; faulty = λ s. absurd (omega arith); plain = λ s. refl; told = t }
-  told_is endings.Words refused t = record { line = line_of words_line endings.Words named; faulty = λ s. absurd (omega arith); plain = λ s. refl; told = t }
-  told_is endings.File refused t = record { line = line_of words_line endings.File named; faulty = λ s. absurd (omega arith); plain = λ s. refl; told = t }
-  told_is endings.Start refused t = record { line = line_of words_line endings.Start named; faulty = λ s. absurd (omega arith); plain = λ s. refl; told = t }
-  told_is endings.Link refused t = record { line = line_of words_line endings.Link named; faulty = λ s. absurd (omega arith); plain = λ s. refl; told = t }
-  told_is endings.Out refused t = record { line = line_of words_line endings.Out named; faulty = λ s. absurd (omega arith); plain = λ s. refl; told = t }
-  told_is endings.Memory refused t = record { line = line_of words_line endings.Memory named; faulty = λ s. absurd (omega arith); plain = λ s. refl; told = t }
-  told_is endings.Range refused t = record { line = line_of words_line endings.Range named; faulty = λ s. absurd (omega arith); plain = λ s. refl; told = t }
+  told_is endings.Done refused t = record { line = ending_line words_line endings.Done named; faulty = λ s. absurd (omega arith); plain = λ s. refl; told = t }
+  told_is endings.Words refused t = record { line = ending_line words_line endings.Words named; faulty = λ s. absurd (omega arith); plain = λ s. refl; told = t }
+  told_is endings.File refused t = record { line = ending_line words_line endings.File named; faulty = λ s. absurd (omega arith); plain = λ s. refl; told = t }
+  told_is endings.Start refused t = record { line = ending_line words_line endings.Start named; faulty = λ s. absurd (omega arith); plain = λ s. refl; told = t }
+  told_is endings.Link refused t = record { line = ending_line words_line endings.Link named; faulty = λ s. absurd (omega arith); plain = λ s. refl; told = t }
+  told_is endings.Out refused t = record { line = ending_line words_line endings.Out named; faulty = λ s. absurd (omega arith); plain = λ s. refl; told = t }
+  told_is endings.Memory refused t = record { line = ending_line words_line endings.Memory named; faulty = λ s. absurd (omega arith); plain = λ s. refl; told = t }
+  told_is endings.Range refused t = record { line = ending_line words_line endings.Range named; faulty = λ s. absurd (omega arith); plain = λ s. refl; told = t }
   told_is (endings.Scenario line) refused t = record { line = string_bytes line; faulty = λ s. refused line refl; plain = λ s. absurd (s refl); told = t }

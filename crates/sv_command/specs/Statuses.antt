@@ -83,16 +83,16 @@ NoneRose before now = (¬ Rose before.files now.files) × (¬ Rose before.crew n
 -- ---- The line that a call writes beside its output
 
 -- The line that tells of an ending, by the line that tells which words the call knows.
-abbrev pub line_of : List ℕ → Ending → Option (List ℕ) → List ℕ
-line_of words_line endings.Done named = []
-line_of words_line endings.Words named = words_line
-line_of words_line (endings.Scenario line) named = string_bytes line
-line_of words_line endings.File named = file_line (unwrap_or named [])
-line_of words_line endings.Out named = codes "out\n"
-line_of words_line endings.Link named = codes "link\n"
-line_of words_line endings.Start named = codes "start\n"
-line_of words_line endings.Memory named = codes "memory\n"
-line_of words_line endings.Range named = codes "range\n"
+abbrev pub ending_line : List ℕ → Ending → Option (List ℕ) → List ℕ
+ending_line words_line endings.Done named = []
+ending_line words_line endings.Words named = words_line
+ending_line words_line (endings.Scenario line) named = string_bytes line
+ending_line words_line endings.File named = file_line (unwrap_or named [])
+ending_line words_line endings.Out named = codes "out\n"
+ending_line words_line endings.Link named = codes "link\n"
+ending_line words_line endings.Start named = codes "start\n"
+ending_line words_line endings.Memory named = codes "memory\n"
+ending_line words_line endings.Range named = codes "range\n"
 
 -- The line of a status other than 3.
 abbrev pub status_line : List ℕ → ℕ → Option (List ℕ) → List ℕ

@@ -2,7 +2,7 @@
 ghost use Rattle.std.specs.Prelude.{◌≡◌};
 ghost use Rattle.std.specs.Option.{option_copied};
 ghost use Rattle.sv_bytes.specs.Writing.{GrewOrRose};
-ghost use Rattle.sv_command.specs.Statuses.{line_of, status_of};
+ghost use Rattle.sv_command.specs.Statuses.{ending_line, status_of};
 
 use crate::lines::{tell_file, tell_line};
 use std::alloc::AllocError;
@@ -52,7 +52,7 @@ impl From<AllocError> for Ending {
 /// Writes the line that tells of an ending. `words_line` is the whole line that tells which words the call knows, with its line's end, and
 /// `named` is the file that the words name. Where the writing fails, a front part of the line was written, and nobody is told.
 pub fn tell<E: Sink>(ending: &Ending, words_line: &[u8], named: Option<&str>, err: &mut E)
-    ensures { GrewOrRose (E.taken err.old) (E.taken err.new) (E.faults err.old) (E.faults err.new) (line_of words_line.now ending.now (option_copied named.entry)) }
+    ensures { GrewOrRose (E.taken err.old) (E.taken err.new) (E.faults err.old) (E.faults err.new) (ending_line words_line.now ending.now (option_copied named.entry)) }
 {
     match ending {
         Ending::Done => tell_line(b"", err),

@@ -40,7 +40,7 @@ fn line_of_fault(alloc: Global, fault: &ScenarioFault) -> Result<String, AllocEr
 }
 
 /// The scenario that bytes are. The answer is never another ending than `Scenario` and `Memory`.
-pub fn scenario_of(alloc: Global, bytes: &[u8]) -> Result<Scenario, Ending>
+pub fn given_scenario(alloc: Global, bytes: &[u8]) -> Result<Scenario, Ending>
     ensures { IsGiven bytes.now result }
 {
     match read_scenario(alloc, bytes) {
@@ -57,5 +57,5 @@ pub fn scenario_in<F: Files>(alloc: Global, file: &str, files: &mut F) -> Result
     ensures sure { F.sure files.old file.now → result ≢ Err Ending.File }
 {
     let bytes = scenario_bytes(alloc, file, files)?;
-    scenario_of(alloc, &bytes)
+    given_scenario(alloc, &bytes)
 }

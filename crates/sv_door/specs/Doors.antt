@@ -3,8 +3,8 @@ use Rattle.std.specs.Prelude.{◌≡◌, ℕ, suc, Bool, nat_lt, List}
 use Rattle.sv_bytes.specs.Faults.{Rose}
 use Rattle.sv_link.specs.Ends.{Told, new_end}
 use Rattle.sv_link.specs.declared.side.Side.{Side}
-use Rattle.sv_door.specs.declared.doors.Made.{Made}
-use Rattle.sv_door.specs.declared.doors.Made.TheVariants as made
+use Rattle.sv_door.specs.declared.doors.EndMade.{EndMade}
+use Rattle.sv_door.specs.declared.doors.EndMade.TheVariants as made
 
 -- What is kept of an end that was given back: the bytes that it sent and received, whether a read of it answered Ended, and whether it had
 -- a fault.
@@ -20,27 +20,27 @@ passage_of end faults = record { sent = end.sent; received = end.received; ended
 
 module _ {E : Type 0} (told : E → Told) (faults : E → ℕ) where
   -- a new end of this side, under the next number
-  abbrev pub MakesEnd : Side → ℕ → ℕ → Made E → Type 0
+  abbrev pub MakesEnd : Side → ℕ → ℕ → EndMade E → Type 0
   MakesEnd side before now (made.End end) = (now ≡ suc before) × (told end ≡ new_end before side) × (faults end ≡ 0)
   MakesEnd side before now made.Failed = now ≡ before
   MakesEnd side before now made.Memory = now ≡ before
 
 module _ {E : Type 0} where
   -- an end that was made is owed until it is given back
-  abbrev pub OwesEnd : ℕ → ℕ → Made E → Type 0
+  abbrev pub OwesEnd : ℕ → ℕ → EndMade E → Type 0
   OwesEnd before now (made.End end) = now ≡ suc before
   OwesEnd before now made.Failed = now ≡ before
   OwesEnd before now made.Memory = now ≡ before
 
   -- a door's count of faults rises just where an end could not be made
-  abbrev pub MadeCause : ℕ → ℕ → Made E → Type 0
+  abbrev pub MadeCause : ℕ → ℕ → EndMade E → Type 0
   MadeCause before now (made.End end) = now ≡ before
   MadeCause before now made.Failed = Rose before now
   MadeCause before now made.Memory = now ≡ before
 
 -- a door that is sure of the port gives a calm end, or there is no memory
 module _ {E : Type 0} (calm : E → Type 0) where
-  abbrev pub IsCalmMade : Made E → Type 0
+  abbrev pub IsCalmMade : EndMade E → Type 0
   IsCalmMade (made.End end) = calm end
   IsCalmMade made.Failed = ⊥
   IsCalmMade made.Memory = Unit {0}

@@ -5,8 +5,8 @@ use Rattle.sv_link.specs.Pipes.{IsListed, IsCopied}
 use Rattle.sv_link.specs.declared.book.Book.{Book}
 use Rattle.sv_link.specs.declared.pipe_end.PipeEnd.{PipeEnd}
 use Rattle.sv_door.specs.Doors.{Passage}
-use Rattle.sv_door.specs.declared.doors.Made.{Made}
-use Rattle.sv_door.specs.declared.doors.Made.TheVariants as made
+use Rattle.sv_door.specs.declared.doors.EndMade.{EndMade}
+use Rattle.sv_door.specs.declared.doors.EndMade.TheVariants as made
 use Rattle.sv_door.specs.declared.pipe_door.PipeDoor.{PipeDoor}
 
 -- The numbers of the calls that fail, of the door and of each end; how many calls of the door were made; and how many bytes a call of an end
@@ -56,6 +56,6 @@ module _ {R : Type 0} where
   IsTurnedAway door port = IsListed door.calls ⊎ (port ≢ port_of door)
 
   -- a new end fails at the calls that the door has for its ends
-  abbrev pub HasEndPlan : PipeDoor R → Made (PipeEnd R) → Type 0
+  abbrev pub HasEndPlan : PipeDoor R → EndMade (PipeEnd R) → Type 0
   HasEndPlan door (made.End end) = IsCopied door.ends end.plan
   HasEndPlan door _ = Unit {0}

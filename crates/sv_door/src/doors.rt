@@ -7,7 +7,7 @@ use sv_link::End;
 
 /// What `accept` and `connect` answer.
 #[derive(Debug, Drop)]
-pub enum Made<E> {
+pub enum EndMade<E> {
     /// A new end of a connection.
     End(E),
 
@@ -38,7 +38,7 @@ pub trait Door {
     ghost sure: { Self → ℕ → Type 0 };
 
     /// Waits for a client at this port, and makes the server's end of a connection to it.
-    fn accept(&mut self, port: u16) -> Made<Self::E>
+    fn accept(&mut self, port: u16) -> EndMade<Self::E>
         ensures made { MakesEnd Self.E.told Self.E.faults Server (made self.old) (made self.new) result }
         ensures owed { OwesEnd (owed self.old) (owed self.new) result }
         ensures given { given self.new ≡ given self.old }
@@ -47,7 +47,7 @@ pub trait Door {
         ensures stays_sure { (p : ℕ) → sure self.old p → sure self.new p };
 
     /// Connects to a server at this port, and makes the client's end. It may wait for the server.
-    fn connect(&mut self, port: u16) -> Made<Self::E>
+    fn connect(&mut self, port: u16) -> EndMade<Self::E>
         ensures made { MakesEnd Self.E.told Self.E.faults Client (made self.old) (made self.new) result }
         ensures owed { OwesEnd (owed self.old) (owed self.new) result }
         ensures given { given self.new ≡ given self.old }

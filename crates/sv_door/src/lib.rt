@@ -7,6 +7,6 @@ mod pipe_door;
 mod returned;
 mod tcp_door;
 
-pub use doors::{Door, Made};
+pub use doors::{Door, EndMade};
 pub use pipe_door::PipeDoor;
 pub use tcp_door::TcpDoor;

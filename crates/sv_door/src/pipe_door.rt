@@ -5,12 +5,12 @@ ghost use Rattle.sv_link.specs.Pipes.{CountsCall, IsCopied, pipe_told, pipe_faul
 ghost use Rattle.sv_link.specs.declared.side.Side.TheVariants.{Server, Client};
 ghost use Rattle.sv_door.specs.Doors.{MakesEnd, OwesEnd, MadeCause};
 
-use crate::doors::{Door, Made};
+use crate::doors::{Door, EndMade};
 use crate::hall::Hall;
 use crate::returned::{Returned, open_end, take_back};
 use std::alloc::{AllocError, Global};
 use std::sync::{Arc, Wait};
-use sv_bytes::Plan;
+use sv_bytes::CallPlan;
 use sv_link::{Book, Pipe, PipeEnd, Side, copied_plan};
 
 /// Connections in memory at one port, between threads that have a door each: [`another`](PipeDoor::another) makes the next thread's.
@@ -26,8 +26,8 @@ pub struct PipeDoor<'r, R: Wait> {
     hall: Arc<Hall, Global>,
     port: u16,
     book: Book<Returned>,
-    calls: Plan,
-    ends: Plan,
+    calls: CallPlan,
+    ends: CallPlan,
 }
 
 impl<'r, R: Wait> PipeDoor<'r, R> {
@@ -58,8 +58,8 @@ impl<'r, R: Wait> PipeDoor<'r, R> {
             hall,
             port,
             book: Book::new(alloc),
-            calls: Plan::new(alloc),
-            ends: Plan::new(alloc),
+            calls: CallPlan::new(alloc),
+            ends: CallPlan::new(alloc),
         }
     }
 
@@ -101,7 +101,7 @@ impl<'r, R: Wait> PipeDoor<'r, R> {
     }
 
     // Takes the room for an end, and gives the plan of its calls. None where there is no memory.
-    fn prepares(&mut self) -> Option<Plan>
+    fn prepares(&mut self) -> Option<CallPlan>
         ensures plan { IfSome result (IsCopied self.old.ends) }
         ensures room { IfSome result (λ plan. CanOpen self.new.book) }
         ensures book { (self.new.book.kept.items ≡ self.old.book.kept.items) × (self.new.book.made ≡ self.old.book.made) × (self.new.book.owed ≡ self.old.book.owed) × (self.new.book.faults ≡ self.old.book.faults) }
@@ -112,9 +112,9 @@ impl<'r, R: Wait> PipeDoor<'r, R> {
     }
 
     /// What `accept` does: it fails just where this call is listed or the port is not the door's, and the end has the door's list and step.
-    pub fn make_server_end(&mut self, port: u16) -> Made<PipeEnd<'r, R>>
+    pub fn make_server_end(&mut self, port: u16) -> EndMade<PipeEnd<'r, R>>
         ensures calls { CountsCall self.old.calls self.new.calls }
-        ensures fails { result ≡ Made.Failed ↔ IsTurnedAway self.new port }
+        ensures fails { result ≡ EndMade.Failed ↔ IsTurnedAway self.new port }
         ensures plan { HasEndPlan self.old result }
         ensures rest { (port_of self.new ≡ port_of self.old) × (self.new.ends ≡ self.old.ends) }
         ensures made { MakesEnd pipe_told pipe_faults Server self.old.book.made self.new.book.made result }
@@ -124,20 +124,20 @@ impl<'r, R: Wait> PipeDoor<'r, R> {
     {
         if self.refuses(port) {
             self.book.count_fault();
-            return Made::Failed;
+            return EndMade::Failed;
         }
         let Some(plan) = self.prepares() else {
-            return Made::Memory;
+            return EndMade::Memory;
         };
         let pipe = self.hall.take(self.rt);
         let log = open_end(&mut self.book, self.alloc, Side::Server);
-        Made::End(PipeEnd::new(self.rt, pipe, plan, log))
+        EndMade::End(PipeEnd::new(self.rt, pipe, plan, log))
     }
 
     /// What `connect` does: it fails where `make_server_end` does.
-    pub fn make_client_end(&mut self, port: u16) -> Made<PipeEnd<'r, R>>
+    pub fn make_client_end(&mut self, port: u16) -> EndMade<PipeEnd<'r, R>>
         ensures calls { CountsCall self.old.calls self.new.calls }
-        ensures fails { result ≡ Made.Failed ↔ IsTurnedAway self.new port }
+        ensures fails { result ≡ EndMade.Failed ↔ IsTurnedAway self.new port }
         ensures plan { HasEndPlan self.old result }
         ensures rest { (port_of self.new ≡ port_of self.old) × (self.new.ends ≡ self.old.ends) }
         ensures made { MakesEnd pipe_told pipe_faults Client self.old.book.made self.new.book.made result }
@@ -147,22 +147,22 @@ impl<'r, R: Wait> PipeDoor<'r, R> {
     {
         if self.refuses(port) {
             self.book.count_fault();
-            return Made::Failed;
+            return EndMade::Failed;
         }
         let Some(plan) = self.prepares() else {
-            return Made::Memory;
+            return EndMade::Memory;
         };
         let Ok(pipe) = Arc::new(self.alloc, Pipe::new(self.alloc)) else {
-            return Made::Memory;
+            return EndMade::Memory;
         };
         let Ok(shared) = Arc::try_clone(&pipe) else {
-            return Made::Memory;
+            return EndMade::Memory;
         };
         if self.hall.put(self.rt, shared).is_err() {
-            return Made::Memory;
+            return EndMade::Memory;
         }
         let log = open_end(&mut self.book, self.alloc, Side::Client);
-        Made::End(PipeEnd::new(self.rt, pipe, plan, log))
+        EndMade::End(PipeEnd::new(self.rt, pipe, plan, log))
     }
 }
 
@@ -181,11 +181,11 @@ impl<'r, R: Wait + Sync> Door for PipeDoor<'r, R> {
 
     ghost sure = { IsSureOf };
 
-    fn accept(&mut self, port: u16) -> Made<PipeEnd<'r, R>> {
+    fn accept(&mut self, port: u16) -> EndMade<PipeEnd<'r, R>> {
         self.make_server_end(port)
     }
 
-    fn connect(&mut self, port: u16) -> Made<PipeEnd<'r, R>> {
+    fn connect(&mut self, port: u16) -> EndMade<PipeEnd<'r, R>> {
         self.make_client_end(port)
     }
 

@@ -3,7 +3,7 @@ ghost use Rattle.std.specs.Prelude.{◌≡◌};
 ghost use Rattle.sv_link.specs.Books.{IsNewBook, CanOpen};
 ghost use Rattle.sv_door.specs.Doors.{MakesEnd, OwesEnd, MadeCause};
 
-use crate::doors::{Door, Made};
+use crate::doors::{Door, EndMade};
 use crate::returned::{Returned, open_end, take_back};
 use std::alloc::Global;
 use std::io::{ErrorKind, Write};
@@ -64,7 +64,7 @@ impl<'r, R: Sockets<Listener = TcpListener, Stream = TcpStream> + Clock> TcpDoor
     }
 
     // The end that a new stream is, or why there is none.
-    fn entered(&mut self, stream: io::Result<TcpStream>, side: Side) -> Made<TcpEnd>
+    fn entered(&mut self, stream: io::Result<TcpStream>, side: Side) -> EndMade<TcpEnd>
         requires room { CanOpen self.old.book }
         ensures made { MakesEnd end_told end_faults side self.old.book.made self.new.book.made result }
         ensures owed { OwesEnd self.old.book.owed self.new.book.owed result }
@@ -74,12 +74,12 @@ impl<'r, R: Sockets<Listener = TcpListener, Stream = TcpStream> + Clock> TcpDoor
         match stream {
             Ok(stream) => {
                 let log = open_end(&mut self.book, self.alloc, side);
-                Made::End(TcpEnd::new(stream, log))
+                EndMade::End(TcpEnd::new(stream, log))
             }
-            Err(error) if error.kind() == ErrorKind::OutOfMemory => Made::Memory,
+            Err(error) if error.kind() == ErrorKind::OutOfMemory => EndMade::Memory,
             Err(_) => {
                 self.book.count_fault();
-                Made::Failed
+                EndMade::Failed
             }
         }
     }
@@ -98,17 +98,17 @@ impl<'r, R: Sockets<Listener = TcpListener, Stream = TcpStream> + Clock> Door fo
 
     ghost sure = { λ _ _. ⊥ };
 
-    fn accept(&mut self, port: u16) -> Made<TcpEnd> {
+    fn accept(&mut self, port: u16) -> EndMade<TcpEnd> {
         if !self.book.takes_room() {
-            return Made::Memory;
+            return EndMade::Memory;
         }
         let stream = self.accepted(port);
         self.entered(stream, Side::Server)
     }
 
-    fn connect(&mut self, port: u16) -> Made<TcpEnd> {
+    fn connect(&mut self, port: u16) -> EndMade<TcpEnd> {
         if !self.book.takes_room() {
-            return Made::Memory;
+            return EndMade::Memory;
         }
         let stream = connected(self.rt, port);
         self.entered(stream, Side::Client)

@@ -2,6 +2,6 @@
 pub mod Lengths
 pub mod Lists
 pub mod Masks
-pub mod Outcomes
+pub mod Effects
 pub mod Serials
 pub mod Walks

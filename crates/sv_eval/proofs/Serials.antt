@@ -6,10 +6,10 @@ use Rattle.std.proofs.lemmas.Grind.{common_steps}
 use Rattle.sv_world.specs.Control.{is_in}
 use Rattle.sv_world.specs.Sets.{read_set, write_set}
 use Rattle.sv_world.specs.declared.action.Action.{Action}
-use Rattle.sv_eval.specs.Evaluation.{Slots, outcome_of}
+use Rattle.sv_eval.specs.Evaluation.{Slots, effect_of}
 use Rattle.sv_eval.specs.Serial.{values_at, put_all, world_after_some, serial_world}
 use Rattle.sv_eval.proofs.Lists.{all_head, all_tail, all_cons, all_set, all_at}
-use Rattle.sv_eval.proofs.Outcomes.{outcome_shaped}
+use Rattle.sv_eval.proofs.Effects.{effect_shaped}
 
 pub put_all_length : (world : Slots) (objects : List ℕ) (values : Slots) → length (put_all world objects values) ≡ length world
 put_all_length world [] values = refl
@@ -31,7 +31,7 @@ values_at_shaped P world (x ∷ xs) h below =
 pub after_some_length : (world : Slots) (action : Option Action) → length (world_after_some world action) ≡ length world
 after_some_length world None = refl
 after_some_length world (Some a) =
-    put_all_length world (write_set a) (outcome_of a (values_at world (read_set a))).writes
+    put_all_length world (write_set a) (effect_of a (values_at world (read_set a))).writes
 
 pub serial_length : (opening : Slots) (actions : List Action) (p : ℕ) → length (serial_world opening actions p) ≡ length opening
 serial_length opening actions zero = refl
@@ -42,8 +42,8 @@ after_some_shaped : (attrs : ℕ) (world : Slots) (action : Option Action) → A
     → IfSome action (λ a. All (λ x. x < length world) (read_set a)) → All (λ value. length value ≡ attrs) (world_after_some world action)
 after_some_shaped attrs world None h below = h
 after_some_shaped attrs world (Some a) h below =
-    put_all_shaped (λ value. length value ≡ attrs) world (write_set a) (outcome_of a (values_at world (read_set a))).writes h
-    (outcome_shaped attrs a (values_at world (read_set a)) (values_at_shaped (λ value. length value ≡ attrs) world (read_set a) h below))
+    put_all_shaped (λ value. length value ≡ attrs) world (write_set a) (effect_of a (values_at world (read_set a))).writes h
+    (effect_shaped attrs a (values_at world (read_set a)) (values_at_shaped (λ value. length value ≡ attrs) world (read_set a) h below))
 
 pub serial_shaped : (attrs : ℕ) (opening : Slots) (actions : List Action) (p : ℕ) → All (λ value. length value ≡ attrs) opening
     → All (λ a. All (λ x. x < length opening) (read_set a)) actions → All (λ value. length value ≡ attrs) (serial_world opening actions p)

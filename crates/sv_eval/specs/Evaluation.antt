@@ -14,7 +14,7 @@ use Rattle.sv_world.specs.declared.action.Stmt.{Stmt}
 use Rattle.sv_world.specs.declared.action.Stmt.TheOpen.{Stmt-F}
 use Rattle.sv_world.specs.declared.action.Stmt.TheFolds.{fold-Stmt}
 use Rattle.sv_eval.specs.Numbers.{sum_of, difference_of, product_of, quotient_of, remainder_of}
-use Rattle.sv_eval.specs.declared.outcome.Outcome.{Outcome}
+use Rattle.sv_eval.specs.declared.effect.Effect.{Effect}
 
 -- The values of an action's slots while it runs.
 abbrev pub Slots : Type 0
@@ -85,10 +85,10 @@ abbrev pub body_after : List Stmt → Slots → Option Slots
 body_after body = in_order (map stmt_after body)
 
 -- The written values: those after the body, or those before it where the body is void.
-abbrev pub outcome_by : ℕ → Slots → Option Slots → Outcome
-outcome_by mask values None = record { void = true; writes = at_mask mask 0 values }
-outcome_by mask values (Some slots) = record { void = false; writes = at_mask mask 0 slots }
+abbrev pub effect_by : ℕ → Slots → Option Slots → Effect
+effect_by mask values None = record { void = true; writes = at_mask mask 0 values }
+effect_by mask values (Some slots) = record { void = false; writes = at_mask mask 0 slots }
 
 -- The result of an action on the values of its reads.
-unfoldable pub outcome_of : Action → List (List ℤ) → Outcome
-outcome_of a values = outcome_by a.mask values (body_after a.body values)
+unfoldable pub effect_of : Action → List (List ℤ) → Effect
+effect_of a values = effect_by a.mask values (body_after a.body values)

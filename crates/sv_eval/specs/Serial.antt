@@ -2,7 +2,7 @@
 use Rattle.std.specs.Prelude.{ℕ, zero, suc, ℤ, List, [], ◌∷◌, map, slice_get, slice_index_or, slice_set, Option, Some, None}
 use Rattle.sv_world.specs.Sets.{read_set, write_set}
 use Rattle.sv_world.specs.declared.action.Action.{Action}
-use Rattle.sv_eval.specs.Evaluation.{outcome_of}
+use Rattle.sv_eval.specs.Evaluation.{effect_of}
 
 -- The values that some objects have in a world. An object beyond it has no numbers.
 abbrev pub values_at : List (List ℤ) → List ℕ → List (List ℤ)
@@ -16,7 +16,7 @@ put_all world (x ∷ xs) (v ∷ vs) = put_all (slice_set world x v) xs vs
 
 -- The world after an action: the values of what it writes are replaced by its result on the values of what it reads.
 abbrev pub world_after : List (List ℤ) → Action → List (List ℤ)
-world_after world a = put_all world (write_set a) (outcome_of a (values_at world (read_set a))).writes
+world_after world a = put_all world (write_set a) (effect_of a (values_at world (read_set a))).writes
 
 abbrev pub world_after_some : List (List ℤ) → Option Action → List (List ℤ)
 world_after_some world None = world

@@ -1,9 +1,9 @@
 //! The evaluation of an action on the values of its reads.
 ghost use Rattle.std.specs.Prelude.{◌≡◌, ℕ, IfOk, All, length};
 ghost use Rattle.sv_world.specs.Sets.{at_mask, write_set};
-ghost use Rattle.sv_eval.specs.Evaluation.{outcome_of};
+ghost use Rattle.sv_eval.specs.Evaluation.{effect_of};
 
-use crate::Outcome;
+use crate::Effect;
 use crate::run::run_body;
 use std::alloc::{AllocError, Global};
 use sv_world::{Action, List, Value, copy_value, copy_values, is_in_mask};
@@ -11,29 +11,29 @@ use sv_world::{Action, List, Value, copy_value, copy_values, is_in_mask};
 /// The result of an action on one value for each of its reads.
 ///
 /// Slots and attributes beyond the values are read as 0, and setting them does nothing.
-pub fn eval(alloc: Global, action: &Action, values: &[Value]) -> Result<Outcome, AllocError>
-    ensures exact { IfOk result (λ outcome. outcome ≡ outcome_of action.now values.now) }
-    ensures shaped { (attrs : ℕ) → All (λ value. length value ≡ attrs) values.now → IfOk result (λ outcome. All (λ value. length value ≡ attrs) outcome.writes) }
-    ensures counted { length values.now ≡ length action.now.reads → IfOk result (λ outcome. length outcome.writes ≡ length (write_set action.now)) }
+pub fn eval(alloc: Global, action: &Action, values: &[Value]) -> Result<Effect, AllocError>
+    ensures exact { IfOk result (λ effect. effect ≡ effect_of action.now values.now) }
+    ensures shaped { (attrs : ℕ) → All (λ value. length value ≡ attrs) values.now → IfOk result (λ effect. All (λ value. length value ≡ attrs) effect.writes) }
+    ensures counted { length values.now ≡ length action.now.reads → IfOk result (λ effect. length effect.writes ≡ length (write_set action.now)) }
 {
-    let outcome = evaluate(alloc, action, values)?;
-    Ok(outcome)
+    let effect = evaluate(alloc, action, values)?;
+    Ok(effect)
 }
 
-#[tactic(auto, unfolding(crate::specs::Evaluation::outcome_of))]
-fn evaluate(alloc: Global, action: &Action, values: &[Value]) -> Result<Outcome, AllocError>
-    ensures { IfOk result (λ outcome. outcome ≡ outcome_of action.now values.now) }
+#[tactic(auto, unfolding(crate::specs::Evaluation::effect_of))]
+fn evaluate(alloc: Global, action: &Action, values: &[Value]) -> Result<Effect, AllocError>
+    ensures { IfOk result (λ effect. effect ≡ effect_of action.now values.now) }
 {
     let mut slots = copy_values(alloc, values)?.into_vec();
     if run_body(&action.body, slots.as_mut_slice()) {
         let writes = take_masked(alloc, action.mask, slots)?;
-        Ok(Outcome {
+        Ok(Effect {
             void: false,
             writes,
         })
     } else {
         let writes = copy_masked(alloc, action.mask, values)?;
-        Ok(Outcome { void: true, writes })
+        Ok(Effect { void: true, writes })
     }
 }
 

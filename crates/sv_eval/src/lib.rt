@@ -2,12 +2,12 @@
 #![tactic(auto)]
 
 mod evaluation;
-mod outcome;
+mod effect;
 mod run;
 mod serial;
 mod written;
 
 pub use evaluation::eval;
-pub use outcome::Outcome;
+pub use effect::Effect;
 pub use serial::serial_worlds_keep_their_shape;
 pub use written::written_objects;

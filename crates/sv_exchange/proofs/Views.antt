@@ -14,7 +14,7 @@ use Rattle.sv_exchange.specs.declared.exchange.Exchange.TheInside.{Inside}
 use Rattle.sv_exchange.specs.Streams.{SideReadOn, IsSameLink, Wrote}
 use Rattle.sv_exchange.specs.Carried.{waiting, TakesFirst}
 use Rattle.sv_exchange.specs.View.{ExchangeView, TakesRequest, TakesReply}
-use Rattle.sv_exchange.specs.Invariant.{view_of, IsExchange}
+use Rattle.sv_exchange.specs.Invariant.{model_of, IsExchange}
 use Rattle.sv_exchange.proofs.Sizes.{requests_spelled, replies_spelled}
 use Rattle.sv_exchange.proofs.Onward.{own_closed, other_unwritten}
 use Rattle.sv_exchange.proofs.Lanes.{sent, lane_same, waits_same, lane_read_same, waits_read_same}
@@ -44,7 +44,7 @@ same_link_kept e link is same =
       replies = lane_read_same IsReply reply_bytes reply_at replies_spelled e.client e.link.server link.server same.server is.replies;
     }
 
-pub same_link_view : (e : Inside) (link : LinkView) → IsSameLink e.link link → view_of (with_link e link) ≡ view_of e
+pub same_link_view : (e : Inside) (link : LinkView) → IsSameLink e.link link → model_of (with_link e link) ≡ model_of e
 same_link_view e link same =
     same_view _ _ _ _ _ _ _ _
     (waits_read_same IsRequest request_bytes request_at requests_spelled e.server e.link.client link.client same.client)
@@ -55,7 +55,7 @@ same_link_view e link same =
 -- ---- A message is sent
 
 pub request_sent : (e : Inside) (link : LinkView) (m : Request) → IsExchange e → IsRequest m → Wrote e.link link Client (frame (request_bytes m)) →
-    IsExchange (with_link e link) × (view_of (with_link e link) ≡ record (view_of e) { requests = (view_of e).requests ++ m ∷ [] })
+    IsExchange (with_link e link) × (model_of (with_link e link) ≡ record (model_of e) { requests = (model_of e).requests ++ m ∷ [] })
 request_sent e link m is message wrote =
     let own = sent IsRequest request_bytes request_at requests_spelled e.server e.link link Client m wrote message is.requests in
     let rest = other_unwritten e.link link Client _ wrote in (
@@ -64,7 +64,7 @@ request_sent e link m is message wrote =
     )
 
 pub reply_sent : (e : Inside) (link : LinkView) (m : Reply) → IsExchange e → IsReply m → Wrote e.link link Server (frame (reply_bytes m)) →
-    IsExchange (with_link e link) × (view_of (with_link e link) ≡ record (view_of e) { replies = (view_of e).replies ++ m ∷ [] })
+    IsExchange (with_link e link) × (model_of (with_link e link) ≡ record (model_of e) { replies = (model_of e).replies ++ m ∷ [] })
 reply_sent e link m is message wrote =
     let own = sent IsReply reply_bytes reply_at replies_spelled e.client e.link link Server m wrote message is.replies in
     let rest = other_unwritten e.link link Server _ wrote in (
@@ -79,7 +79,7 @@ server_read e link server = record { alloc = e.alloc; link = link; server = serv
 
 pub request_taken : {F : Type 0} (e : Inside) (link : LinkView) (server : List ℕ) (r : Result (Option Request) F) → SideReadOn e.link link Server →
     IfOk r (λ answer. TakesFirst answer (waiting request_at e.server e.link.client) (waiting request_at server link.client)) →
-    IfOk r (λ answer. TakesRequest (view_of e) (view_of (server_read e link server)) answer)
+    IfOk r (λ answer. TakesRequest (model_of e) (model_of (server_read e link server)) answer)
 request_taken e link server (Ok None) on taken =
     (taken.0, same_view _ _ _ _ _ _ _ _ taken.1 (ap (waiting reply_at e.client) on.own) on.closed (ap (λ (x : SideView). x.closed) on.own))
 request_taken e link server (Ok (Some m)) on taken =
@@ -87,7 +87,7 @@ request_taken e link server (Ok (Some m)) on taken =
 request_taken e link server (Err f) on taken = tt
 
 pub request_stays : {X F : Type 0} (e : Inside) (link : LinkView) (server : List ℕ) (r : Result X F) → SideReadOn e.link link Server →
-    OnErr r (waiting request_at server link.client ≡ waiting request_at e.server e.link.client) → OnErr r (view_of (server_read e link server) ≡ view_of e)
+    OnErr r (waiting request_at server link.client ≡ waiting request_at e.server e.link.client) → OnErr r (model_of (server_read e link server) ≡ model_of e)
 request_stays e link server (Ok x) on same = tt
 request_stays e link server (Err f) on same =
     same_view _ _ _ _ _ _ _ _ same (ap (waiting reply_at e.client) on.own) on.closed (ap (λ (x : SideView). x.closed) on.own)
@@ -97,7 +97,7 @@ client_read e link client = record { alloc = e.alloc; link = link; server = e.se
 
 pub reply_taken : {F : Type 0} (e : Inside) (link : LinkView) (client : List ℕ) (r : Result (Option Reply) F) → SideReadOn e.link link Client →
     IfOk r (λ answer. TakesFirst answer (waiting reply_at e.client e.link.server) (waiting reply_at client link.server)) →
-    IfOk r (λ answer. TakesReply (view_of e) (view_of (client_read e link client)) answer)
+    IfOk r (λ answer. TakesReply (model_of e) (model_of (client_read e link client)) answer)
 reply_taken e link client (Ok None) on taken =
     (taken.0, same_view _ _ _ _ _ _ _ _ (ap (waiting request_at e.server) on.own) taken.1 (ap (λ (x : SideView). x.closed) on.own) on.closed)
 reply_taken e link client (Ok (Some m)) on taken =
@@ -105,7 +105,7 @@ reply_taken e link client (Ok (Some m)) on taken =
 reply_taken e link client (Err f) on taken = tt
 
 pub reply_stays : {X F : Type 0} (e : Inside) (link : LinkView) (client : List ℕ) (r : Result X F) → SideReadOn e.link link Client →
-    OnErr r (waiting reply_at client link.server ≡ waiting reply_at e.client e.link.server) → OnErr r (view_of (client_read e link client) ≡ view_of e)
+    OnErr r (waiting reply_at client link.server ≡ waiting reply_at e.client e.link.server) → OnErr r (model_of (client_read e link client) ≡ model_of e)
 reply_stays e link client (Ok x) on same = tt
 reply_stays e link client (Err f) on same =
     same_view _ _ _ _ _ _ _ _ (ap (waiting request_at e.server) on.own) same (ap (λ (x : SideView). x.closed) on.own) on.closed
@@ -118,7 +118,7 @@ request_kept (Ok x) e link m is message ok err = (request_sent e link m is messa
 request_kept (Err f) e link m is message ok err = same_link_kept e link is err
 
 pub request_seen : {X F : Type 0} (r : Result X F) (e : Inside) (link : LinkView) (m : Request) → IsExchange e → IsRequest m →
-    OnOk r (Wrote e.link link Client (frame (request_bytes m))) → OnOk r (view_of (with_link e link) ≡ record (view_of e) { requests = (view_of e).requests ++ m ∷ [] })
+    OnOk r (Wrote e.link link Client (frame (request_bytes m))) → OnOk r (model_of (with_link e link) ≡ record (model_of e) { requests = (model_of e).requests ++ m ∷ [] })
 request_seen (Ok x) e link m is message ok = (request_sent e link m is message ok).1
 request_seen (Err f) e link m is message ok = tt
 
@@ -128,11 +128,11 @@ reply_kept (Ok x) e link m is message ok err = (reply_sent e link m is message o
 reply_kept (Err f) e link m is message ok err = same_link_kept e link is err
 
 pub reply_seen : {X F : Type 0} (r : Result X F) (e : Inside) (link : LinkView) (m : Reply) → IsExchange e → IsReply m →
-    OnOk r (Wrote e.link link Server (frame (reply_bytes m))) → OnOk r (view_of (with_link e link) ≡ record (view_of e) { replies = (view_of e).replies ++ m ∷ [] })
+    OnOk r (Wrote e.link link Server (frame (reply_bytes m))) → OnOk r (model_of (with_link e link) ≡ record (model_of e) { replies = (model_of e).replies ++ m ∷ [] })
 reply_seen (Ok x) e link m is message ok = (reply_sent e link m is message ok).1
 reply_seen (Err f) e link m is message ok = tt
 
-pub unsent_seen : {X F : Type 0} (r : Result X F) (e : Inside) (link : LinkView) → OnErr r (IsSameLink e.link link) → OnErr r (view_of (with_link e link) ≡ view_of e)
+pub unsent_seen : {X F : Type 0} (r : Result X F) (e : Inside) (link : LinkView) → OnErr r (IsSameLink e.link link) → OnErr r (model_of (with_link e link) ≡ model_of e)
 unsent_seen (Ok x) e link err = tt
 unsent_seen (Err f) e link err = same_link_view e link err
 
@@ -146,9 +146,9 @@ closed_kept e link is closes =
       replies = is.replies;
     })
 
-pub closed_view : (e : Inside) (link : LinkView) → link ≡ with_side e.link Client (after_close e.link.client) → view_of (with_link e link) ≡ record (view_of e) { closed = true }
+pub closed_view : (e : Inside) (link : LinkView) → link ≡ with_side e.link Client (after_close e.link.client) → model_of (with_link e link) ≡ record (model_of e) { closed = true }
 closed_view e link closes =
-    ap (λ (l : LinkView). view_of (with_link e l)) closes
+    ap (λ (l : LinkView). model_of (with_link e l)) closes
     ∙ same_view _ _ _ _ _ _ _ _ (waits_same IsRequest request_bytes request_at requests_spelled e.server e.server e.link.client (after_close e.link.client) refl) refl refl refl
 
 pub stopped_kept : (e : Inside) (link : LinkView) → IsExchange e → link ≡ with_side e.link Server (after_close e.link.server) → IsExchange (with_link e link)
@@ -159,7 +159,7 @@ stopped_kept e link is closes =
       replies = lane_same IsReply reply_bytes reply_at replies_spelled e.client e.client e.link.server (after_close e.link.server) refl is.replies.within is.replies;
     })
 
-pub stopped_view : (e : Inside) (link : LinkView) → link ≡ with_side e.link Server (after_close e.link.server) → view_of (with_link e link) ≡ record (view_of e) { stopped = true }
+pub stopped_view : (e : Inside) (link : LinkView) → link ≡ with_side e.link Server (after_close e.link.server) → model_of (with_link e link) ≡ record (model_of e) { stopped = true }
 stopped_view e link closes =
-    ap (λ (l : LinkView). view_of (with_link e l)) closes
+    ap (λ (l : LinkView). model_of (with_link e l)) closes
     ∙ same_view _ _ _ _ _ _ _ _ refl (waits_same IsReply reply_bytes reply_at replies_spelled e.client e.client e.link.server (after_close e.link.server) refl) refl refl

@@ -8,8 +8,8 @@ use Rattle.sv_exchange.specs.declared.exchange.Exchange.TheInside.{Inside}
 use Rattle.sv_exchange.specs.Carried.{waiting, IsLane}
 use Rattle.sv_exchange.specs.View.{ExchangeView}
 
-abbrev pub view_of : Inside → ExchangeView
-view_of e =
+abbrev pub model_of : Inside → ExchangeView
+model_of e =
     record {
       requests = waiting request_at e.server e.link.client;
       replies = waiting reply_at e.client e.link.server;

@@ -35,9 +35,9 @@ impl Model for Exchange {
 
     ghost coded = { Prim.hlevel (codes, request.the_row.coded, reply.the_row.coded) };
 
-    ghost use Rattle.sv_exchange.specs.Invariant.{view_of, IsExchange};
+    ghost use Rattle.sv_exchange.specs.Invariant.{model_of, IsExchange};
 
-    ghost view = { view_of };
+    ghost view = { model_of };
 
     ghost invariant = { IsExchange };
 }

@@ -16,7 +16,7 @@ use Rattle.sv_join.specs.declared.ending.JoinEnding.{JoinEnding}
 use Rattle.sv_join.specs.declared.ending.JoinEnding.TheVariants as endings
 use Rattle.sv_join.specs.Joining.{Passed}
 use Rattle.sv_join.specs.Words.{Asked, named_by}
-use Rattle.sv_join.specs.Statuses.{status_of, Raises, TellsJoinFaults, LacksClient, Ends, Leaves, line_of, TellsStatus}
+use Rattle.sv_join.specs.Statuses.{status_of, Raises, TellsJoinFaults, LacksClient, Ends, Leaves, join_line, TellsStatus}
 
 -- ---- Statuses
 
@@ -232,20 +232,20 @@ module _ {E : Type 0} (told : E → Told) (faults : E → ℕ) (calm : E → Typ
     range_of (endings.Reply fault) h = inr (inr (inr (omega arith, omega arith)))
     range_of endings.Closed h = inr (inr (inr (omega arith, omega arith)))
 
-    told_of : (t0 t1 : Option (List ℕ)) (n0 n1 : ℕ) (named : Option (List ℕ)) (e : JoinEnding) → Ends told faults calm asked held door before now old new e → GrewOrRose t0 t1 n0 n1 (line_of e named)
+    told_of : (t0 t1 : Option (List ℕ)) (n0 n1 : ℕ) (named : Option (List ℕ)) (e : JoinEnding) → Ends told faults calm asked held door before now old new e → GrewOrRose t0 t1 n0 n1 (join_line e named)
         → TellsStatus told faults calm (Some asked) held named door (status_of e) t0 t1 n0 n1
-    told_of t0 t1 n0 n1 named (endings.Plain plain.Done) h t = record { line = line_of (endings.Plain plain.Done) named; faulty = λ s. absurd (omega arith); reply = λ s. absurd (omega arith); plain_is = λ x y. refl; told_is = t }
+    told_of t0 t1 n0 n1 named (endings.Plain plain.Done) h t = record { line = join_line (endings.Plain plain.Done) named; faulty = λ s. absurd (omega arith); reply = λ s. absurd (omega arith); plain_is = λ x y. refl; told_is = t }
     told_of t0 t1 n0 n1 named (endings.Plain plain.Words) h t = absurd h.0
     told_of t0 t1 n0 n1 named (endings.Plain (plain.Scenario line)) h t = record { line = string_bytes line; faulty = λ s. h.0; reply = λ s. absurd (omega arith); plain_is = λ x y. absurd (x refl); told_is = t }
-    told_of t0 t1 n0 n1 named (endings.Plain plain.File) h t = record { line = line_of (endings.Plain plain.File) named; faulty = λ s. absurd (omega arith); reply = λ s. absurd (omega arith); plain_is = λ x y. refl; told_is = t }
+    told_of t0 t1 n0 n1 named (endings.Plain plain.File) h t = record { line = join_line (endings.Plain plain.File) named; faulty = λ s. absurd (omega arith); reply = λ s. absurd (omega arith); plain_is = λ x y. refl; told_is = t }
     told_of t0 t1 n0 n1 named (endings.Plain plain.Start) h t = absurd h.0
-    told_of t0 t1 n0 n1 named (endings.Plain plain.Link) h t = record { line = line_of (endings.Plain plain.Link) named; faulty = λ s. absurd (omega arith); reply = λ s. absurd (omega arith); plain_is = λ x y. refl; told_is = t }
-    told_of t0 t1 n0 n1 named (endings.Plain plain.Out) h t = record { line = line_of (endings.Plain plain.Out) named; faulty = λ s. absurd (omega arith); reply = λ s. absurd (omega arith); plain_is = λ x y. refl; told_is = t }
-    told_of t0 t1 n0 n1 named (endings.Plain plain.Memory) h t = record { line = line_of (endings.Plain plain.Memory) named; faulty = λ s. absurd (omega arith); reply = λ s. absurd (omega arith); plain_is = λ x y. refl; told_is = t }
-    told_of t0 t1 n0 n1 named (endings.Plain plain.Range) h t = record { line = line_of (endings.Plain plain.Range) named; faulty = λ s. absurd (omega arith); reply = λ s. absurd (omega arith); plain_is = λ x y. refl; told_is = t }
+    told_of t0 t1 n0 n1 named (endings.Plain plain.Link) h t = record { line = join_line (endings.Plain plain.Link) named; faulty = λ s. absurd (omega arith); reply = λ s. absurd (omega arith); plain_is = λ x y. refl; told_is = t }
+    told_of t0 t1 n0 n1 named (endings.Plain plain.Out) h t = record { line = join_line (endings.Plain plain.Out) named; faulty = λ s. absurd (omega arith); reply = λ s. absurd (omega arith); plain_is = λ x y. refl; told_is = t }
+    told_of t0 t1 n0 n1 named (endings.Plain plain.Memory) h t = record { line = join_line (endings.Plain plain.Memory) named; faulty = λ s. absurd (omega arith); reply = λ s. absurd (omega arith); plain_is = λ x y. refl; told_is = t }
+    told_of t0 t1 n0 n1 named (endings.Plain plain.Range) h t = record { line = join_line (endings.Plain plain.Range) named; faulty = λ s. absurd (omega arith); reply = λ s. absurd (omega arith); plain_is = λ x y. refl; told_is = t }
     told_of t0 t1 n0 n1 named (endings.Reply fault) h t =
-        record { line = line_of (endings.Reply fault) named; faulty = λ s. absurd (omega arith); reply = λ s. record { fault = fault; refused = h.0; line_is = refl }; plain_is = λ x y. absurd (y refl); told_is = t }
-    told_of t0 t1 n0 n1 named endings.Closed h t = record { line = line_of endings.Closed named; faulty = λ s. absurd (omega arith); reply = λ s. absurd (omega arith); plain_is = λ x y. refl; told_is = t }
+        record { line = join_line (endings.Reply fault) named; faulty = λ s. absurd (omega arith); reply = λ s. record { fault = fault; refused = h.0; line_is = refl }; plain_is = λ x y. absurd (y refl); told_is = t }
+    told_of t0 t1 n0 n1 named endings.Closed h t = record { line = join_line endings.Closed named; faulty = λ s. absurd (omega arith); reply = λ s. absurd (omega arith); plain_is = λ x y. refl; told_is = t }
 
     abbrev Complete : ℕ → Type 0
     Complete n = (n ≡ 0) ⊎ (n ≡ 6) ⊎ (n ≡ 8) ⊎ ((10 ≤ n) × (n ≤ 12))
@@ -277,12 +277,12 @@ module _ {E : Type 0} (told : E → Told) (faults : E → ℕ) (calm : E → Typ
         inr (inl (omega (arith, two), omega (arith, two)))
     range_is (Some x) e w h = range_of x (contents x.file) e h
 
-    pub told_is : (t0 t1 : Option (List ℕ)) (n0 n1 : ℕ) (a : Option Asked) (e : JoinEnding) → ((e ≡ endings.Plain plain.Words) ↔ (a ≡ None)) → AllEnds a e → GrewOrRose t0 t1 n0 n1 (line_of e (named_by a))
+    pub told_is : (t0 t1 : Option (List ℕ)) (n0 n1 : ℕ) (a : Option Asked) (e : JoinEnding) → ((e ≡ endings.Plain plain.Words) ↔ (a ≡ None)) → AllEnds a e → GrewOrRose t0 t1 n0 n1 (join_line e (named_by a))
         → TellsStatus told faults calm a (held_by_file contents (named_by a)) (named_by a) door (status_of e) t0 t1 n0 n1
     told_is t0 t1 n0 n1 None e w h t =
         let is = w.1 refl in
         let two : status_of e ≡ 2 = ap status_of is in
-        record { line = line_of e None; faulty = λ s. absurd (omega (arith, two, s)); reply = λ s. tt; plain_is = λ x y. rw is refl; told_is = t }
+        record { line = join_line e None; faulty = λ s. absurd (omega (arith, two, s)); reply = λ s. tt; plain_is = λ x y. rw is refl; told_is = t }
     told_is t0 t1 n0 n1 (Some x) e w h t = told_of x (contents x.file) t0 t1 n0 n1 (Some x.file) e h t
 
     pub nothing_is : (a : Option Asked) (e : JoinEnding) → AllEnds a e → (a ≡ None → new ≡ old) → status_of e ≢ 0 → status_of e ≢ 5 → new ≡ old

@@ -9,7 +9,7 @@ use Rattle.sv_player.specs.declared.outcome.ReplyFault.{ReplyFault}
 use Rattle.sv_command.specs.declared.ending.Ending.TheVariants as plain
 use Rattle.sv_command.specs.Endings.{IsPrinted, IsCutShort, Ends as PlainEnds}
 use Rattle.sv_command.specs.Reading.{IsRead, IsRefused, IsNoScenario, read_limit}
-use Rattle.sv_command.specs.Statuses.{Counts, status_of as plain_status, line_of as plain_line, status_line as plain_status_line}
+use Rattle.sv_command.specs.Statuses.{Counts, status_of as plain_status, ending_line, status_line}
 use Rattle.sv_join.specs.declared.outcome.Joined.{Joined}
 use Rattle.sv_join.specs.declared.outcome.JoinFault.{JoinFault}
 use Rattle.sv_join.specs.declared.outcome.JoinFault.TheVariants as faults
@@ -132,14 +132,14 @@ abbrev pub words_line : List ℕ
 words_line = codes "words: join FILE K PORT\n"
 
 -- The line that tells of an ending.
-abbrev pub line_of : JoinEnding → Option (List ℕ) → List ℕ
-line_of (endings.Plain ending) named = plain_line words_line ending named
-line_of (endings.Reply fault) named = reply_line fault
-line_of endings.Closed named = codes "closed\n"
+abbrev pub join_line : JoinEnding → Option (List ℕ) → List ℕ
+join_line (endings.Plain ending) named = ending_line words_line ending named
+join_line (endings.Reply fault) named = reply_line fault
+join_line endings.Closed named = codes "closed\n"
 
 -- The line of a status other than 3 and 11.
-abbrev pub status_line : ℕ → Option (List ℕ) → List ℕ
-status_line status named = if status == 12 then codes "closed\n" else plain_status_line words_line status named
+abbrev pub join_status_line : ℕ → Option (List ℕ) → List ℕ
+join_status_line status named = if status == 12 then codes "closed\n" else status_line words_line status named
 
 module _ {E : Type 0} (told : E → Told) (faults : E → ℕ) (calm : E → Type 0) where
   -- The reply that was refused, and the line that tells why.
@@ -153,5 +153,5 @@ module _ {E : Type 0} (told : E → Told) (faults : E → ℕ) (calm : E → Typ
     pub line : List ℕ
     pub faulty : status ≡ 3 → IsRefused held line
     pub reply : status ≡ 11 → IfSome asked (λ a. TellsReply a held door line)
-    pub plain_is : status ≢ 3 → status ≢ 11 → line ≡ status_line status named
+    pub plain_is : status ≢ 3 → status ≢ 11 → line ≡ join_status_line status named
     pub told_is : GrewOrRose old new before after line

@@ -3,7 +3,7 @@ ghost use Rattle.std.specs.Prelude.{◌≡◌};
 ghost use Rattle.std.specs.Option.{option_copied};
 ghost use Rattle.sv_bytes.specs.Writing.{GrewOrRose};
 ghost use Rattle.sv_join.specs.Faults.{cause_number, reply_line, take_line};
-ghost use Rattle.sv_join.specs.Statuses.{line_of, status_of};
+ghost use Rattle.sv_join.specs.Statuses.{join_line, status_of};
 
 use crate::outcome::JoinFault;
 use std::alloc::AllocError;
@@ -114,7 +114,7 @@ fn tell_reply<E: Sink>(fault: ReplyFault, err: &mut E)
 
 /// Writes the line that tells of an ending. It takes no memory.
 pub(crate) fn tell<E: Sink>(ending: &JoinEnding, named: Option<&str>, err: &mut E)
-    ensures { GrewOrRose (E.taken err.old) (E.taken err.new) (E.faults err.old) (E.faults err.new) (line_of ending.now (option_copied named.entry)) }
+    ensures { GrewOrRose (E.taken err.old) (E.taken err.new) (E.faults err.old) (E.faults err.new) (join_line ending.now (option_copied named.entry)) }
 {
     match ending {
         JoinEnding::Plain(ending) => {

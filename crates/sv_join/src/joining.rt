@@ -13,7 +13,7 @@ use crate::steady::Steady;
 use std::alloc::{AllocError, Global};
 use sv_asked::{read_scenario_numbers, replies_are_messages};
 use sv_client::{Client, Trace};
-use sv_door::{Door, Made};
+use sv_door::{Door, EndMade};
 use sv_player::{PlayerCause, PlayerOut, play_client};
 use sv_scenario::{Plan, Scenario, sessions_of_plan};
 use sv_system::honest_clients_are_never_refused;
@@ -47,9 +47,9 @@ fn connect_all<D: Door>(
 {
     for _ in 0..count {
         match door.connect(port) {
-            Made::End(end) => ends.push_reserved(Steady { end }),
-            Made::Failed => return Err(JoinFault::Link),
-            Made::Memory => return Err(JoinFault::Memory),
+            EndMade::End(end) => ends.push_reserved(Steady { end }),
+            EndMade::Failed => return Err(JoinFault::Link),
+            EndMade::Memory => return Err(JoinFault::Memory),
         }
     }
     Ok(())

@@ -8,7 +8,7 @@ use Rattle.std.proofs.lemmas.List.Elements.{All-from_recursion, recursion_from_A
 use Rattle.sv_world.specs.declared.action.Action.{Action}
 use Rattle.sv_world.specs.Control.{is_in, needed_for, head_for}
 use Rattle.sv_world.specs.Faults.{is_ascending}
-use Rattle.sv_wire.specs.declared.message.Held.{Held}
+use Rattle.sv_wire.specs.declared.message.ObjectValue.{ObjectValue}
 use Rattle.sv_wire.specs.Grammar.{IsWireValue, IsWireHead}
 use Rattle.sv_journal.specs.declared.entry.Entry.{Entry}
 use Rattle.sv_journal.specs.History.{commit_of, committed_of}
@@ -27,27 +27,27 @@ abbrev pub HeadWithin : Type 0
 HeadWithin = (objects : ℕ) (A : List Action) (commit : ℕ) (sent given : List ℕ) (i x : ℕ) → is_in x (head_for objects A commit sent given i) ≡ true → x < objects
 
 -- At most so many objects, ascending, with values within the grammar.
-pub record IsHead (most : ℕ) (head : List Held) : Type 0 where
+pub record IsHead (most : ℕ) (head : List ObjectValue) : Type 0 where
   pub few : length head ≤ most
-  pub ascending : is_ascending (map (λ (v : Held). v.object.0) head) ≡ true
-  pub values : AllByRecursion (λ (v : Held). IsWireValue v.value) head
+  pub ascending : is_ascending (map (λ (v : ObjectValue). v.object.0) head) ≡ true
+  pub values : AllByRecursion (λ (v : ObjectValue). IsWireValue v.value) head
 
-pub wire_head : (most : ℕ) (head : List Held) → most ≤ 528 → IsHead most head → IsWireHead head
+pub wire_head : (most : ℕ) (head : List ObjectValue) → most ≤ 528 → IsHead most head → IsWireHead head
 wire_head most head le h = record {
   few = omega (arith, h.few, le);
   ascending = h.ascending;
-  values = All-from_recursion (λ (v : Held). IsWireValue v.value) head h.values;
+  values = All-from_recursion (λ (v : ObjectValue). IsWireValue v.value) head h.values;
 }
 
-abbrev held : List (List ℤ) → ℕ → Held
+abbrev held : List (List ℤ) → ℕ → ObjectValue
 held world x = record { object = record { 0 = x }; value = slice_index_or world x [] }
 
-objects_of : (world : List (List ℤ)) (xs : List ℕ) → map (λ (v : Held). v.object.0) (map (held world) xs) ≡ xs
+objects_of : (world : List (List ℤ)) (xs : List ℕ) → map (λ (v : ObjectValue). v.object.0) (map (held world) xs) ≡ xs
 objects_of world [] = refl
 objects_of world (x ∷ xs) = ap (λ (ys : List ℕ). x ∷ ys) (objects_of world xs)
 
 values_of : (n : ℕ) (world : List (List ℤ)) (xs : List ℕ) → 1 ≤ n → n ≤ 4 → HaveNumbers n world → AllByRecursion (λ x. x < length world) xs →
-    AllByRecursion (λ (v : Held). IsWireValue v.value) (map (held world) xs)
+    AllByRecursion (λ (v : ObjectValue). IsWireValue v.value) (map (held world) xs)
 values_of n world [] some few all low = tt
 values_of n world (x ∷ xs) some few all low =
     let count = All-from_recursion (λ (v : List ℤ). length v ≡ n) world all x [] low.0 in

@@ -11,7 +11,7 @@ use Rattle.sv_world.specs.Faults.{first_fault_of_action, cause_number, is_ascend
 use Rattle.sv_world.specs.Limits.{most_clients, most_interest, most_items, most_requests}
 use Rattle.sv_world.specs.Sets.{write_set}
 use Rattle.sv_wire.specs.declared.message.Done1.{Done1}
-use Rattle.sv_wire.specs.declared.message.Held.{Held}
+use Rattle.sv_wire.specs.declared.message.ObjectValue.{ObjectValue}
 use Rattle.sv_wire.specs.declared.message.Request.{Request}
 use Rattle.sv_wire.specs.declared.message.Request.TheVariants as requests
 use Rattle.sv_wire.specs.declared.refusal.Refusal.{Refusal}
@@ -41,7 +41,7 @@ refused_as refusal detail = refused (code_of refusal) detail
 -- ---- Relays
 
 -- Objects with their committed values.
-abbrev pub committed_held : Rules → List Entry → List ℕ → List Held
+abbrev pub committed_held : Rules → List Entry → List ℕ → List ObjectValue
 committed_held r h xs = map (λ x. record { object = record { 0 = x }; value = slice_index_or (committed_of r.world.values h) x [] }) xs
 
 -- The relay of position i of the actions A to a session: what the session lacks of it, and the base values that go with that.

@@ -2,7 +2,7 @@
 use Rattle.std.specs.Prelude.{◌≡◌, ℕ, pos, negsuc, ℤ, List, [], ◌∷◌, map, length, reverse, Option, Some, None}
 use Rattle.sv_world.specs.declared.action.Action.{Action}
 use Rattle.sv_world.specs.declared.world.ObjectId.{ObjectId}
-use Rattle.sv_wire.specs.declared.message.Held.{Held}
+use Rattle.sv_wire.specs.declared.message.ObjectValue.{ObjectValue}
 use Rattle.sv_wire.specs.declared.message.Request.{Request}
 use Rattle.sv_wire.specs.declared.message.Request.TheVariants as requests
 use Rattle.sv_wire.specs.declared.refusal.Refusal.TheVariants as refusals
@@ -37,7 +37,7 @@ join client life interest = requests.Join (record { 0 = client }) life (objects 
 abbrev pub done : List (ℕ × List ℕ) → Request
 done results = requests.Done (map (λ r. record { pos = r.0; values = map (λ n. pos n ∷ []) r.1 }) results)
 
-abbrev pub held : ℕ → ℕ → Held
+abbrev pub held : ℕ → ℕ → ObjectValue
 held object n = record { object = record { 0 = object }; value = pos n ∷ [] }
 
 -- A session, what it asks, and the reply.

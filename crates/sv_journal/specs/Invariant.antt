@@ -5,8 +5,8 @@ use Rattle.sv_journal.specs.declared.journal.Journal.TheInside.{Inside}
 use Rattle.sv_journal.specs.Rows.{AreAllRows}
 use Rattle.sv_journal.specs.View.{JournalView}
 
-abbrev pub view_of : Inside → JournalView
-view_of a = record { entries = a.entries.items; spare = a.spare }
+abbrev pub model_of : Inside → JournalView
+model_of a = record { entries = a.entries.items; spare = a.spare }
 
 -- What is spare is room for so many entries, and for all their rows.
 pub record HasSpare (a : Inside) : Type 0 where

@@ -4,7 +4,7 @@ use Rattle.std.specs.List.{flat_map}
 use Rattle.std.specs.Fmt.{decimal, signed_decimal}
 use Rattle.sv_world.specs.declared.world.ObjectId.{ObjectId}
 use Rattle.sv_wire.specs.declared.message.Done1.{Done1}
-use Rattle.sv_wire.specs.declared.message.Held.{Held}
+use Rattle.sv_wire.specs.declared.message.ObjectValue.{ObjectValue}
 
 -- Texts in a row, with a byte between each two.
 abbrev pub joined : {A : Type 0} → ℕ → (A → List ℕ) → List A → List ℕ
@@ -23,8 +23,8 @@ value_text value = codes "(" ++ joined 44 signed_decimal value ++ codes ")"
 abbrev pub held_text : ℕ → List ℤ → List ℕ
 held_text object value = decimal object ++ codes "=" ++ value_text value
 
-abbrev pub head_text : List Held → List ℕ
-head_text head = bracketed (λ (h : Held). held_text h.object.0 h.value) head
+abbrev pub head_text : List ObjectValue → List ℕ
+head_text head = bracketed (λ (h : ObjectValue). held_text h.object.0 h.value) head
 
 abbrev pub objects_text : List ObjectId → List ℕ
 objects_text objects = bracketed (λ (o : ObjectId). decimal o.0) objects

@@ -5,7 +5,7 @@ use Rattle.std.specs.List.{list_any}
 use Rattle.sv_world.specs.Control.{is_in, below, action_at, last_writer}
 use Rattle.sv_world.specs.Limits.{most_pending}
 use Rattle.sv_world.specs.Sets.{write_set}
-use Rattle.sv_wire.specs.declared.message.Held.{Held}
+use Rattle.sv_wire.specs.declared.message.ObjectValue.{ObjectValue}
 use Rattle.sv_wire.specs.declared.message.Request.{Request}
 use Rattle.sv_wire.specs.declared.message.Request.TheVariants as requests
 use Rattle.sv_wire.specs.declared.refusal.Refusal.TheVariants as refusals
@@ -86,8 +86,8 @@ abbrev pub sent_to : List Entry → ℕ → List ℕ
 sent_to [] s = []
 sent_to (e ∷ h) s = if e.session == s then sent_to h s ++ positions_in e.reply else sent_to h s
 
-abbrev pub names : List Held → ℕ → Bool
-names head x = is_in x (map (λ (v : Held). v.object.0) head)
+abbrev pub names : List ObjectValue → ℕ → Bool
+names head x = is_in x (map (λ (v : ObjectValue). v.object.0) head)
 
 -- The commit of a reply whose head names an object.
 abbrev pub named_in : Logged → ℕ → List ℕ

@@ -2,7 +2,7 @@
 ghost use Rattle.std.specs.Prelude.{◌≡◌};
 ghost use Rattle.sv_journal.specs.Sessions.{is_end};
 
-use sv_wire::{Held, Request};
+use sv_wire::{ObjectValue, Request};
 use sv_world::List;
 
 /// A reply as the journal keeps it: a relay names the positions of its items, whose actions stand in the journal already.
@@ -10,12 +10,12 @@ use sv_world::List;
 pub enum Logged {
     Welcome {
         commit: u32,
-        head: List<Held>,
+        head: List<ObjectValue>,
     },
     Relay {
         seq: u32,
         commit: u32,
-        head: List<Held>,
+        head: List<ObjectValue>,
         positions: List<u32>,
     },
     Dropped {

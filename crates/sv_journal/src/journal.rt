@@ -33,9 +33,9 @@ impl Model for Journal {
 
     ghost coded = { Prim.hlevel (codes, entry.the_row.coded) };
 
-    ghost use Rattle.sv_journal.specs.Invariant.{view_of, IsJournal};
+    ghost use Rattle.sv_journal.specs.Invariant.{model_of, IsJournal};
 
-    ghost view = { view_of };
+    ghost view = { model_of };
 
     ghost invariant = { IsJournal };
 }

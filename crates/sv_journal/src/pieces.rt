@@ -2,7 +2,7 @@
 ghost use Rattle.std.specs.Prelude.{◌≡◌, ◌≤◌, ◌∷◌, ◌++◌, All, length, reverse, string_bytes, OnOk};
 ghost use Rattle.std.specs.List.{flat_map};
 ghost use Rattle.sv_wire.specs.declared.message.Done1.{Done1};
-ghost use Rattle.sv_wire.specs.declared.message.Held.{Held};
+ghost use Rattle.sv_wire.specs.declared.message.ObjectValue.{ObjectValue};
 ghost use Rattle.sv_journal.specs.History.{accepted};
 ghost use Rattle.sv_journal.specs.Pieces.{joined, bracketed, value_text, held_text, head_text, result_text};
 ghost use Rattle.sv_journal.specs.Text.{item_text};
@@ -10,11 +10,11 @@ ghost use Rattle.sv_journal.specs.Text.{item_text};
 use crate::journal::Journal;
 use crate::text::{append_held, append_value};
 use std::alloc::AllocError;
-use sv_wire::{Done1, Held};
+use sv_wire::{Done1, ObjectValue};
 use sv_world::Value;
 
 /// Appends a head, as `[0=(5) 3=(7)]`.
-pub fn append_head(head: &[Held], out: &mut String) -> Result<(), AllocError>
+pub fn append_head(head: &[ObjectValue], out: &mut String) -> Result<(), AllocError>
     ensures { OnOk result (string_bytes out.new ≡ string_bytes out.old ++ head_text head.now) }
 {
     out.push_str("[")?;
@@ -22,8 +22,8 @@ pub fn append_head(head: &[Held], out: &mut String) -> Result<(), AllocError>
     out.push_str("]")
 }
 
-fn append_head_values(head: &[Held], out: &mut String) -> Result<(), AllocError>
-    ensures { OnOk result (string_bytes out.new ≡ string_bytes out.old ++ joined 32 (λ (h : Held). held_text h.object.0 h.value) head.now) }
+fn append_head_values(head: &[ObjectValue], out: &mut String) -> Result<(), AllocError>
+    ensures { OnOk result (string_bytes out.new ≡ string_bytes out.old ++ joined 32 (λ (h : ObjectValue). held_text h.object.0 h.value) head.now) }
 {
     let [first, rest @ ..] = head else {
         return Ok(());
@@ -32,8 +32,8 @@ fn append_head_values(head: &[Held], out: &mut String) -> Result<(), AllocError>
     append_more_head_values(rest, out)
 }
 
-fn append_more_head_values(head: &[Held], out: &mut String) -> Result<(), AllocError>
-    ensures { OnOk result (string_bytes out.new ≡ string_bytes out.old ++ flat_map (λ (h : Held). 32 ∷ held_text h.object.0 h.value) head.now) }
+fn append_more_head_values(head: &[ObjectValue], out: &mut String) -> Result<(), AllocError>
+    ensures { OnOk result (string_bytes out.new ≡ string_bytes out.old ++ flat_map (λ (h : ObjectValue). 32 ∷ held_text h.object.0 h.value) head.now) }
 {
     for held in head {
         out.push_str(" ")?;

@@ -11,7 +11,7 @@ use crate::text::append_objects;
 use crate::{Entry, Logged};
 use std::alloc::AllocError;
 use sv_text::append_action;
-use sv_wire::{Done1, Held, Request};
+use sv_wire::{Done1, ObjectValue, Request};
 use sv_world::{Action, ClientId, ObjectId, Shape, check_action};
 
 fn append_shown(shape: Shape, action: &Action, out: &mut String) -> Result<(), AllocError>
@@ -73,7 +73,7 @@ fn append_request(shape: Shape, request: &Request, out: &mut String) -> Result<(
     }
 }
 
-fn append_welcome(commit: u32, head: &[Held], out: &mut String) -> Result<(), AllocError>
+fn append_welcome(commit: u32, head: &[ObjectValue], out: &mut String) -> Result<(), AllocError>
     ensures { OnOk result (string_bytes out.new ≡ string_bytes out.old ++ codes "welcome " ++ decimal commit ++ codes " " ++ head_text head.now) }
 {
     write!(out, "welcome {commit} ")?;
@@ -83,7 +83,7 @@ fn append_welcome(commit: u32, head: &[Held], out: &mut String) -> Result<(), Al
 /// Appends what a relay gives and what it sends.
 fn append_relayed(
     journal: &Journal,
-    head: &[Held],
+    head: &[ObjectValue],
     positions: &[u32],
     out: &mut String,
 ) -> Result<(), AllocError>

@@ -12,7 +12,7 @@ use Rattle.sv_world.specs.declared.action.Action.{Action}
 use Rattle.sv_world.specs.declared.check.BadAction.{BadAction}
 use Rattle.sv_world.specs.Faults.{first_fault_of_action}
 use Rattle.sv_wire.specs.Ranges.{ActionFits, RequestFits}
-use Rattle.sv_wire.specs.declared.message.Held.{Held}
+use Rattle.sv_wire.specs.declared.message.ObjectValue.{ObjectValue}
 use Rattle.sv_wire.specs.declared.message.Done1.{Done1}
 use Rattle.sv_wire.specs.declared.message.Request.{Request}
 use Rattle.sv_wire.specs.declared.message.Request.TheVariants as requests
@@ -107,8 +107,8 @@ inner_result d =
 pub inner_held : (object : ℕ) (v : List ℤ) → IsInner (held_text object v)
 inner_held object v = then_inner (decimal object ++ codes "=") (value_text v) (then_inner (decimal object) (codes "=") (inner_decimal object) refl) (inner_value v)
 
-inner_head : (head : List Held) → IsInner (head_text head)
-inner_head head = inner_bracketed (λ (h : Held). held_text h.object.0 h.value) (λ h. inner_held h.object.0 h.value) head
+inner_head : (head : List ObjectValue) → IsInner (head_text head)
+inner_head head = inner_bracketed (λ (h : ObjectValue). held_text h.object.0 h.value) (λ h. inner_held h.object.0 h.value) head
 
 -- ---- Requests and replies
 

@@ -20,7 +20,7 @@ use Rattle.std.proofs.lemmas.Str.Parse.{IsNumeralModel, numerals_by_value, tells
 use Rattle.sv_text.proofs.Spelled.{decimal_digits}
 use Rattle.sv_lines.specs.Reading.{is_numeric, numeral, behind_numeral, behind_front, is_number, natural, integer, number_read, signed_read}
 use Rattle.sv_lines.proofs.Splitting.{all_pass, decimal_passes, Ends}
-use Rattle.sv_lines.proofs.Telling.{IsLong, signed_passes, digit_numeric}
+use Rattle.sv_lines.proofs.Telling.{IsI64, signed_passes, digit_numeric}
 
 -- ---- Known bytes
 
@@ -180,7 +180,7 @@ module _ (text ds rest : List ℕ) (front : ds ≡ numeral text) (behind : rest 
 
 -- A thing is read where its text stands, whatever comes behind it that does not go on with it.
 abbrev pub IsRead : {A : Type 0} → (A → Type 0) → (A → List ℕ) → (List ℕ → Type 0) → (List ℕ → Option (A × List ℕ)) → Type 0
-IsRead {A} P text Stop reader = (a : A) (rest : List ℕ) → P a → Stop rest → reader (text a ++ rest) ≡ Some (a, rest)
+IsRead {A} P text LineStop reader = (a : A) (rest : List ℕ) → P a → LineStop rest → reader (text a ++ rest) ≡ Some (a, rest)
 
 abbrev pub NoNumber : List ℕ → Type 0
 NoNumber rest = Ends is_numeric rest
@@ -201,7 +201,7 @@ first_digit : (ds : List ℕ) → all_ascii_digits ds ≡ true → get_or ds 0 0
 first_digit [] f e = omega (arith, e)
 first_digit (c ∷ cs) f e = true≢false (sym (and_parts (is_ascii_digit c) (all_ascii_digits cs) f).0 ∙ ap is_ascii_digit e)
 
-integer_of : (z : ℤ) → IsLong z → integer (signed_decimal z) ≡ Some z
+integer_of : (z : ℤ) → IsI64 z → integer (signed_decimal z) ≡ Some z
 unfolding integer
 integer_of (pos n) f =
     let small : n < 2 ^ 64 = omega (arith, f) in
@@ -210,7 +210,7 @@ integer_of (negsuc n) f =
     let small : suc n < 2 ^ 64 = omega (arith, f) in
     rw (number_true (2 ^ 63 + 1) (decimal (suc n)) (natural_is (2 ^ 63 + 1) (suc n) (omega arith) (omega (arith, f))), digits_value-decimal own (suc n) small) refl
 
-pub signed_is_read : IsRead IsLong signed_decimal NoNumber signed_read
+pub signed_is_read : IsRead IsI64 signed_decimal NoNumber signed_read
 unfolding signed_read
 signed_is_read z rest f stop =
     let passes = signed_passes z f in

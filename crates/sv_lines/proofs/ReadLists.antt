@@ -11,7 +11,7 @@ use Rattle.sv_journal.specs.Pieces.{joined, bracketed, value_text, objects_text,
 use Rattle.sv_lines.specs.Reading.{Read, ◌>>=◌, behind_front, next_read, joined_by, listed_by, number_read, signed_read, object_read, objects_read, value_read, values_by, values_read, result_read, results_read}
 use Rattle.sv_lines.proofs.Splitting.{Anything}
 use Rattle.sv_lines.proofs.Numerals.{IsRead, NoNumber, number_is_read, signed_is_read}
-use Rattle.sv_lines.proofs.Telling.{IsLong, NeverBegins, NoValue, all_long, signed_begins, result_parts}
+use Rattle.sv_lines.proofs.Telling.{IsI64, NeverBegins, NoValue, all_long, signed_begins, result_parts}
 use Rattle.sv_lines.proofs.Splitting.{number_begins}
 
 -- ---- One byte
@@ -39,8 +39,8 @@ list_goes_on : (close byte : ℕ) (rest : List ℕ) → (close ≡ byte → ⊥)
 unfolding next_read
 list_goes_on close byte rest differ = rw (byte_not_there close byte rest differ, byte_there byte rest) refl
 
-module _ {A : Type 0} (P : A → Type 0) (text : A → List ℕ) (Stop : List ℕ → Type 0) (reader : List ℕ → Read A) (is_read : IsRead P text Stop reader) (close byte : ℕ)
-    (differ : close ≡ byte → ⊥) (next : (l : List ℕ) → Stop (byte ∷ l)) (last : (l : List ℕ) → Stop (close ∷ l)) (never : NeverBegins P text close) where
+module _ {A : Type 0} (P : A → Type 0) (text : A → List ℕ) (LineStop : List ℕ → Type 0) (reader : List ℕ → Read A) (is_read : IsRead P text LineStop reader) (close byte : ℕ)
+    (differ : close ≡ byte → ⊥) (next : (l : List ℕ) → LineStop (byte ∷ l)) (last : (l : List ℕ) → LineStop (close ∷ l)) (never : NeverBegins P text close) where
   abbrev others : List A → List ℕ
   others xs = flat_map (λ e. byte ∷ text e) xs
 
@@ -87,7 +87,7 @@ objects_are_read os rest f stop =
 value_is_read : (v : List ℤ) (rest : List ℕ) → ValueFits v → value_read (joined 44 signed_decimal v ++ 41 ∷ rest) ≡ Some (v, rest)
 unfolding value_read
 value_is_read v rest f =
-    listed_read IsLong signed_decimal NoNumber signed_read signed_is_read 41 44 (λ e. omega (arith, e)) (λ l. refl) (λ l. refl)
+    listed_read IsI64 signed_decimal NoNumber signed_read signed_is_read 41 44 (λ e. omega (arith, e)) (λ l. refl) (λ l. refl)
     (λ a x y p e. signed_begins a x 41 y p refl e) v rest (all_long v f)
 
 no_value : (rest : List ℕ) → NoValue rest → behind_front (40 ∷ []) rest ≡ None

@@ -72,17 +72,17 @@ number_begins n x b y small g e = begins_pass is_ascii_digit (decimal n) x b y (
 
 -- A text tells its subject, with what comes behind it, where that passes a test.
 abbrev pub Tells : {A : Type 0} → (A → Type 0) → (A → List ℕ) → (List ℕ → Type 0) → Type 0
-Tells {A} P text Stop = (a b : A) (x y : List ℕ) → P a → P b → Stop x → Stop y → text a ++ x ≡ text b ++ y → (a ≡ b) × (x ≡ y)
+Tells {A} P text LineStop = (a b : A) (x y : List ℕ) → P a → P b → LineStop x → LineStop y → text a ++ x ≡ text b ++ y → (a ≡ b) × (x ≡ y)
 
 abbrev pub Anything : List ℕ → Type 0
 Anything rest = Unit {0}
 
-module _ {A : Type 0} (P : A → Type 0) (text : A → List ℕ) (Stop : List ℕ → Type 0) (tells : Tells P text Stop) (byte close : ℕ) (differ : byte ≡ close → ⊥)
-    (next : (l : List ℕ) → Stop (byte ∷ l)) (last : (l : List ℕ) → Stop (close ∷ l)) where
+module _ {A : Type 0} (P : A → Type 0) (text : A → List ℕ) (LineStop : List ℕ → Type 0) (tells : Tells P text LineStop) (byte close : ℕ) (differ : byte ≡ close → ⊥)
+    (next : (l : List ℕ) → LineStop (byte ∷ l)) (last : (l : List ℕ) → LineStop (close ∷ l)) where
   abbrev pub behind : List A → List ℕ
   behind xs = flat_map (λ e. byte ∷ text e) xs
 
-  behind_stops : (xs : List A) (x : List ℕ) → Stop (behind xs ++ close ∷ x)
+  behind_stops : (xs : List A) (x : List ℕ) → LineStop (behind xs ++ close ∷ x)
   behind_stops [] x = last x
   behind_stops (a ∷ xs) x = next (text a ++ behind xs ++ close ∷ x)
 

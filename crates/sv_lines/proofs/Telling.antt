@@ -19,18 +19,18 @@ use Rattle.sv_lines.proofs.Splitting.{all_pass, both_pass, decimal_passes, Ends,
 pub digit_numeric : (c : ℕ) → is_ascii_digit c ≡ true → is_numeric c ≡ true
 digit_numeric c h = rw h refl
 
-abbrev pub IsLong : ℤ → Type 0
-IsLong (pos n) = n < 2 ^ 63
-IsLong (negsuc n) = n < 2 ^ 63
+abbrev pub IsI64 : ℤ → Type 0
+IsI64 (pos n) = n < 2 ^ 63
+IsI64 (negsuc n) = n < 2 ^ 63
 
-pub signed_passes : (z : ℤ) → IsLong z → all_pass is_numeric (signed_decimal z) ≡ true
+pub signed_passes : (z : ℤ) → IsI64 z → all_pass is_numeric (signed_decimal z) ≡ true
 signed_passes (pos n) f = decimal_passes is_numeric digit_numeric n (omega (arith, f))
 signed_passes (negsuc n) f = both_pass true (all_pass is_numeric (decimal (suc n))) refl (decimal_passes is_numeric digit_numeric (suc n) (omega (arith, f)))
 
 no_minus : (n : ℕ) (s : List ℕ) → n < 2 ^ 64 → decimal n ≡ 45 ∷ s → ⊥
 no_minus n s f e = number_begins n [] 45 s f refl (append-nil (decimal n) ∙ e)
 
-signed_same : (y z : ℤ) → IsLong y → IsLong z → signed_decimal y ≡ signed_decimal z → y ≡ z
+signed_same : (y z : ℤ) → IsI64 y → IsI64 z → signed_decimal y ≡ signed_decimal z → y ≡ z
 signed_same (pos m) (pos n) f g e = ap pos (decimal_injective m n (omega (arith, f)) (omega (arith, g)) e)
 signed_same (pos m) (negsuc n) f g e = absurd (no_minus m (decimal (suc n)) (omega (arith, f)) e)
 signed_same (negsuc m) (pos n) f g e = absurd (no_minus n (decimal (suc m)) (omega (arith, g)) (sym e))
@@ -39,12 +39,12 @@ signed_same (negsuc m) (negsuc n) f g e =
     let plain : m ≡ n = omega (arith, same) in
     ap negsuc plain
 
-pub signed_tells : Tells IsLong signed_decimal (Ends is_numeric)
+pub signed_tells : Tells IsI64 signed_decimal (Ends is_numeric)
 signed_tells y z a b f g stop end e =
     let parts = class_split is_numeric (signed_decimal y) (signed_decimal z) a b (signed_passes y f) (signed_passes z g) stop end e in
     (signed_same y z f g parts.0, parts.1)
 
-pub signed_begins : (z : ℤ) (x : List ℕ) (b : ℕ) (y : List ℕ) → IsLong z → is_numeric b ≡ false → signed_decimal z ++ x ≡ b ∷ y → ⊥
+pub signed_begins : (z : ℤ) (x : List ℕ) (b : ℕ) (y : List ℕ) → IsI64 z → is_numeric b ≡ false → signed_decimal z ++ x ≡ b ∷ y → ⊥
 signed_begins (pos n) x b y f g e = number_begins n x b y (omega (arith, f)) (no_digit b g) e
   where
     no_digit : (c : ℕ) → is_numeric c ≡ false → is_ascii_digit c ≡ false
@@ -62,12 +62,12 @@ signed_begins (negsuc n) x b y f g e =
 abbrev pub NeverBegins : {A : Type 0} → (A → Type 0) → (A → List ℕ) → ℕ → Type 0
 NeverBegins {A} P text close = (a : A) (x y : List ℕ) → P a → text a ++ x ≡ close ∷ y → ⊥
 
-module _ {A : Type 0} (P : A → Type 0) (text : A → List ℕ) (Stop : List ℕ → Type 0) (tells : Tells P text Stop) (byte close : ℕ) (differ : byte ≡ close → ⊥)
-    (next : (l : List ℕ) → Stop (byte ∷ l)) (last : (l : List ℕ) → Stop (close ∷ l)) (never : NeverBegins P text close) where
+module _ {A : Type 0} (P : A → Type 0) (text : A → List ℕ) (LineStop : List ℕ → Type 0) (tells : Tells P text LineStop) (byte close : ℕ) (differ : byte ≡ close → ⊥)
+    (next : (l : List ℕ) → LineStop (byte ∷ l)) (last : (l : List ℕ) → LineStop (close ∷ l)) (never : NeverBegins P text close) where
   abbrev rests : List A → List ℕ
   rests xs = flat_map (λ e. byte ∷ text e) xs
 
-  rest_stops : (xs : List A) (x : List ℕ) → Stop (rests xs ++ close ∷ x)
+  rest_stops : (xs : List A) (x : List ℕ) → LineStop (rests xs ++ close ∷ x)
   rest_stops [] x = last x
   rest_stops (a ∷ xs) x = next (text a ++ rests xs ++ close ∷ x)
 
@@ -78,7 +78,7 @@ module _ {A : Type 0} (P : A → Type 0) (text : A → List ℕ) (Stop : List �
   joined_tells (a ∷ xs) (b ∷ ys) x y p q e =
       let regrouped = sym (append_assoc (text a) (rests xs) (close ∷ x)) ∙ e ∙ append_assoc (text b) (rests ys) (close ∷ y) in
       let one = tells a b (rests xs ++ close ∷ x) (rests ys ++ close ∷ y) p.0 q.0 (rest_stops xs x) (rest_stops ys y) regrouped in
-      let more = behind_tells P text Stop tells byte close differ next last xs ys x y p.1 q.1 one.1 in
+      let more = behind_tells P text LineStop tells byte close differ next last xs ys x y p.1 q.1 one.1 in
       (ap (λ (c : A). c ∷ xs) one.0 ∙ ap (λ (l : List A). b ∷ l) more.0, more.1)
 
   pub between_tells : (start : ℕ) → Tells (AllByRecursion P) (λ xs. (start ∷ joined byte text xs) ++ close ∷ []) Anything
@@ -97,16 +97,16 @@ pub objects_tell : Tells (AllByRecursion ObjectFits) objects_text Anything
 objects_tell = between_tells ObjectFits (λ (o : ObjectId). decimal o.0) (Ends is_ascii_digit) object_tells 32 93 (λ e. omega (arith, e)) (λ l. refl) (λ l. refl)
     (λ a x y f e. number_begins a.0 x 93 y (omega (arith, f)) refl e) 91
 
-long_of : (z : ℤ) → FitsSigned w64 z → IsLong z
+long_of : (z : ℤ) → FitsSigned w64 z → IsI64 z
 long_of (pos n) f = omega (arith, f)
 long_of (negsuc n) f = omega (arith, f)
 
-pub all_long : (v : List ℤ) → ValueFits v → AllByRecursion IsLong v
+pub all_long : (v : List ℤ) → ValueFits v → AllByRecursion IsI64 v
 all_long [] f = tt
 all_long (z ∷ v) f = (long_of z f.0, all_long v f.1)
 
 pub value_tells : Tells ValueFits value_text Anything
-value_tells v w x y f g = between_tells IsLong signed_decimal (Ends is_numeric) signed_tells 44 41 (λ e. omega (arith, e)) (λ l. refl) (λ l. refl)
+value_tells v w x y f g = between_tells IsI64 signed_decimal (Ends is_numeric) signed_tells 44 41 (λ e. omega (arith, e)) (λ l. refl) (λ l. refl)
     (λ a x y f e. signed_begins a x 41 y f refl e) 40 v w x y (all_long v f) (all_long w g)
 
 -- What comes behind values does not begin with a value.

@@ -1,8 +1,8 @@
 -- The lines of a text, each with its line end.
 use Rattle.std.specs.Prelude.{◌≡◌, ◌≢◌, ℕ, zero, suc, ◌+◌, ◌<◌, Bool, ◌==◌, not, nat_lt, cond, List, [], ◌∷◌, ◌++◌, length, take, drop}
 use Rattle.std.specs.List.{prefix_len}
-use Rattle.sv_lines.specs.declared.stop.Stop.{Stop}
-use Rattle.sv_lines.specs.declared.stop.Stop.TheVariants as stop
+use Rattle.sv_lines.specs.declared.stop.LineStop.{LineStop}
+use Rattle.sv_lines.specs.declared.stop.LineStop.TheVariants as stop
 
 -- A byte that ends no line.
 abbrev pub is_inner : ℕ → Bool
@@ -34,6 +34,6 @@ pub record Differs (text lines : List ℕ) (left : ℕ) : Type 0 where
   pub left_is : left ≡ length after
 
 -- Why taking them stopped.
-abbrev pub StopsAt : List ℕ → List ℕ → Stop → Type 0
+abbrev pub StopsAt : List ℕ → List ℕ → LineStop → Type 0
 StopsAt text lines (stop.Wrong left) = Differs text lines left
 StopsAt text lines stop.Memory = ⊥

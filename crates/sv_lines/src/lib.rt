@@ -18,4 +18,4 @@ pub use lines::{line_ends, line_length, take_line, take_lines};
 pub use numbers::{expect, number_at};
 pub use request::{Asked, asked_at};
 pub use same::same_request;
-pub use stop::{Stop, Unread};
+pub use stop::{LineStop, Unread};

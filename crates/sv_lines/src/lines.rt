@@ -1,21 +1,21 @@
 //! The lines of a text.
 ghost use Rattle.std.specs.Prelude.{◌≡◌, ◌≢◌, ◌<◌, ◌≤◌, ◌^◌, ◌%◌, ◌++◌, List, ℕ, length, IfOk, IfErr};
-ghost use Rattle.sv_lines.specs.declared.stop.Stop.TheVariants.{Wrong};
+ghost use Rattle.sv_lines.specs.declared.stop.LineStop.TheVariants.{Wrong};
 ghost use Rattle.std.specs.List.{prefix_len};
 ghost use Rattle.sv_lines.specs.Lines.{is_inner, line_width, line_ends, StopsAt};
 
 use crate::numbers::behind;
-use crate::stop::Stop;
+use crate::stop::LineStop;
 
 /// What comes after a line that has to come next.
-pub fn take_line<'a>(text: &'a [u8], line: &[u8]) -> Result<&'a [u8], Stop>
+pub fn take_line<'a>(text: &'a [u8], line: &[u8]) -> Result<&'a [u8], LineStop>
     ensures taken { IfOk result (λ rest. text.now ≡ line.now ++ rest.now) }
     ensures wrong { IfErr result (λ e. e ≡ Wrong (length text.now)) }
     ensures differs { IfErr result (λ _. (rest : List ℕ) → text.now ≢ line.now ++ rest) }
 {
     match behind(text, line) {
         Some(rest) => Ok(rest),
-        None => Err(Stop::Wrong { left: text.len() }),
+        None => Err(LineStop::Wrong { left: text.len() }),
     }
 }
 
@@ -38,7 +38,7 @@ pub fn line_length(text: &[u8]) -> usize
 }
 
 /// What comes after lines that have to come next.
-pub fn take_lines<'a>(text: &'a [u8], lines: &[u8]) -> Result<&'a [u8], Stop>
+pub fn take_lines<'a>(text: &'a [u8], lines: &[u8]) -> Result<&'a [u8], LineStop>
     ensures taken { IfOk result (λ rest. text.now ≡ lines.now ++ rest.now) }
     ensures stops { IfErr result (λ e. StopsAt text.now lines.now e) }
 {

@@ -5,29 +5,29 @@ use std::alloc::{AllocError, AllocFailed};
 
 /// Why reading stopped.
 #[derive(Clone, Copy, Debug, Drop)]
-pub enum Stop {
+pub enum LineStop {
     /// The line that comes next, with so many bytes left of the text, is wrong.
     Wrong { left: usize },
     Memory,
 }
 
-impl From<AllocError> for Stop {
-    ghost use Rattle.sv_lines.specs.declared.stop.Stop.TheVariants.{Memory};
+impl From<AllocError> for LineStop {
+    ghost use Rattle.sv_lines.specs.declared.stop.LineStop.TheVariants.{Memory};
 
     ghost from_gives = { λ _ e. e ≡ Memory };
 
-    fn from(_error: AllocError) -> Stop {
-        Stop::Memory
+    fn from(_error: AllocError) -> LineStop {
+        LineStop::Memory
     }
 }
 
-impl<T: Drop> From<AllocFailed<T>> for Stop {
-    ghost use Rattle.sv_lines.specs.declared.stop.Stop.TheVariants.{Memory};
+impl<T: Drop> From<AllocFailed<T>> for LineStop {
+    ghost use Rattle.sv_lines.specs.declared.stop.LineStop.TheVariants.{Memory};
 
     ghost from_gives = { λ _ e. e ≡ Memory };
 
-    fn from(_error: AllocFailed<T>) -> Stop {
-        Stop::Memory
+    fn from(_error: AllocFailed<T>) -> LineStop {
+        LineStop::Memory
     }
 }
 

@@ -32,17 +32,17 @@ abbrev pub receiving : Told → List ℕ → Told
 receiving end bytes = record end { received = end.received ++ bytes }
 
 -- a read gave the next bytes, at the front of `into`; or told that no more will come; or did nothing
-abbrev pub Reads : Told → List ℕ → EndRead → Told → Type 0
-Reads old into (read.Got n) new = (0 < n) × (n ≤ length into) × (new ≡ receiving old (take n into))
-Reads old into read.Ended new = new ≡ record old { ended = true }
-Reads old into read.Failed new = new ≡ old
-Reads old into read.Memory new = new ≡ old
+abbrev pub EndReads : Told → List ℕ → EndRead → Told → Type 0
+EndReads old into (read.Got n) new = (0 < n) × (n ≤ length into) × (new ≡ receiving old (take n into))
+EndReads old into read.Ended new = new ≡ record old { ended = true }
+EndReads old into read.Failed new = new ≡ old
+EndReads old into read.Memory new = new ≡ old
 
 -- a write took the front of the piece, or did nothing
-abbrev pub Writes : Told → List ℕ → EndWrote → Told → Type 0
-Writes old piece (wrote.Took n) new = (0 < n) × (n ≤ length piece) × (new ≡ sending old (take n piece))
-Writes old piece wrote.Failed new = new ≡ old
-Writes old piece wrote.Memory new = new ≡ old
+abbrev pub EndWrites : Told → List ℕ → EndWrote → Told → Type 0
+EndWrites old piece (wrote.Took n) new = (0 < n) × (n ≤ length piece) × (new ≡ sending old (take n piece))
+EndWrites old piece wrote.Failed new = new ≡ old
+EndWrites old piece wrote.Memory new = new ≡ old
 
 -- an end's count of faults rises just where a call answers that it failed
 abbrev pub EndReadCause : ℕ → ℕ → EndRead → Type 0

@@ -46,7 +46,7 @@ pub record BothArrived (server client : Told) : Type 0 where
   pub to_client : Arrived server.sent client.received client.ended
 
 -- the two ends of one pair of a net that made so many
-pub record IsPair (made : ℕ) (server client : Told) : Type 0 where
+pub record AreTwoEnds (made : ℕ) (server client : Told) : Type 0 where
   pub same : server.pair ≡ client.pair
   pub made_here : server.pair < made
   pub server_side : server.side ≡ Server

@@ -1,7 +1,7 @@
 -- Nets and ends in memory: their lists of calls that fail.
 use Rattle.std.specs.Prelude.{◌≡◌, ◌≢◌, ℕ, ◌-◌, ◌^◌, ◌≤◌, ◌⊎◌, List, [], Contains}
 use Rattle.sv_bytes.specs.Plans.{next_call}
-use Rattle.sv_bytes.specs.declared.plan.Plan.{Plan}
+use Rattle.sv_bytes.specs.declared.plan.CallPlan.{CallPlan}
 use Rattle.sv_link.specs.Books.{IsNewBook}
 use Rattle.sv_link.specs.Ends.{Told}
 use Rattle.sv_link.specs.Logs.{told_of}
@@ -17,17 +17,17 @@ use Rattle.sv_link.specs.declared.pipe_end.PipeEnd.{PipeEnd}
 use Rattle.sv_link.specs.declared.pipe_net.PipeNet.{PipeNet}
 
 -- one call more was counted
-pub record CountsCall (old new : Plan) : Type 0 where
+pub record CountsCall (old new : CallPlan) : Type 0 where
   pub made : new.made ≡ next_call old.made
   pub failing : new.failing ≡ old.failing
   pub step : new.step ≡ old.step
 
 -- the call that was counted last is one that fails
-abbrev pub IsListed : Plan → Type 0
+abbrev pub IsListed : CallPlan → Type 0
 IsListed plan = Contains plan.failing.items plan.made
 
 -- the same list and step, for an object that made no call yet
-pub record IsCopied (plan copy : Plan) : Type 0 where
+pub record IsCopied (plan copy : CallPlan) : Type 0 where
   pub failing : copy.failing.items ≡ plan.failing.items
   pub made : copy.made ≡ 0
   pub step : copy.step ≡ plan.step

@@ -1,6 +1,6 @@
 //! An end of a connection, which a thread holds.
 ghost use Rattle.std.specs.Prelude.{◌≡◌, ◌≢◌, ℕ, ◌<◌, false, true, length};
-ghost use Rattle.sv_link.specs.Ends.{Told, Reads, Writes, Sends, EndReadCause, EndWriteCause, SentCause};
+ghost use Rattle.sv_link.specs.Ends.{Told, EndReads, EndWrites, Sends, EndReadCause, EndWriteCause, SentCause};
 
 /// What a read of an end answers.
 #[derive(Clone, Copy, Debug, PartialEq, Eq)]
@@ -48,15 +48,15 @@ pub trait End: Drop {
     fn read(&mut self, into: &mut [u8]) -> EndRead
         requires open { (told self.old).closed ≡ false }
         requires room { 0 < length into.old }
-        ensures told { Reads (told self.old) into.new result (told self.new) }
+        ensures told { EndReads (told self.old) into.new result (told self.new) }
         ensures cause { EndReadCause (faults self.old) (faults self.new) result }
         ensures calm { calm self.old → (result ≢ EndRead.Failed) × calm self.new };
 
-    /// Writes the front of the piece, as much as is taken at once.
+    /// EndWrites the front of the piece, as much as is taken at once.
     fn write(&mut self, piece: &[u8]) -> EndWrote
         requires open { (told self.old).closed ≡ false }
         requires some { 0 < length piece.now }
-        ensures told { Writes (told self.old) piece.now result (told self.new) }
+        ensures told { EndWrites (told self.old) piece.now result (told self.new) }
         ensures cause { EndWriteCause (faults self.old) (faults self.new) result }
         ensures calm { calm self.old → (result ≢ EndWrote.Failed) × calm self.new };
 
@@ -80,7 +80,7 @@ pub enum Sent {
     Memory,
 }
 
-/// Writes all bytes to an end, in as many writes as it takes.
+/// EndWrites all bytes to an end, in as many writes as it takes.
 pub fn send_all<E: End>(end: &mut E, bytes: &[u8]) -> Sent
     requires open { (E.told end.old).closed ≡ false }
     ensures told { Sends (E.told end.old) bytes.now result (E.told end.new) }

@@ -1,6 +1,6 @@
 //! Where pairs of ends come from, and where they are settled.
 ghost use Rattle.std.specs.Prelude.{◌≡◌, ℕ, suc, ◌<◌, List};
-ghost use Rattle.sv_link.specs.Nets.{Transcript, BothArrived, IsPair, Settles, SettleCause, counted, MakesPair, OwesPair, PairCause, IsCalmPair};
+ghost use Rattle.sv_link.specs.Nets.{Transcript, BothArrived, AreTwoEnds, Settles, SettleCause, counted, MakesPair, OwesPair, PairCause, IsCalmPair};
 
 use crate::ends::End;
 
@@ -57,7 +57,7 @@ pub trait Net {
     /// Takes both ends of a pair in, and compares them. `cut` says that the client left the session on its own: then no fault of the two
     /// ends counts. It takes no memory.
     fn settle(&mut self, server: Self::E, client: Self::E, cut: bool) -> Settle
-        requires pair { IsPair (made self.old) (Self.E.told server) (Self.E.told client) }
+        requires pair { AreTwoEnds (made self.old) (Self.E.told server) (Self.E.told client) }
         requires owed { 0 < owed self.old }
         ensures settles { Settles (Self.E.told server) (Self.E.faults server) (Self.E.told client) (Self.E.faults client) cut (settled self.old) (settled self.new) result }
         ensures made { made self.new ≡ made self.old }

@@ -1,6 +1,6 @@
 //! An end of a connection in memory.
 ghost use Rattle.std.specs.Prelude.{◌≡◌, ◌<◌, ◌↔◌, min, length};
-ghost use Rattle.sv_link.specs.Ends.{Reads, Writes, EndReadCause, EndWriteCause};
+ghost use Rattle.sv_link.specs.Ends.{EndReads, EndWrites, EndReadCause, EndWriteCause};
 ghost use Rattle.sv_link.specs.Logs.{IsReadFault, IsWriteFault, CountsFault, faults_after};
 ghost use Rattle.sv_link.specs.Pipes.{CountsCall, IsListed, EndGotAtMost, EndTookJust, pipe_told};
 
@@ -9,7 +9,7 @@ use crate::log::{EndLog, MOST_READ};
 use crate::pipe::Pipe;
 use std::alloc::Global;
 use std::sync::{Arc, Wait};
-use sv_bytes::Plan;
+use sv_bytes::CallPlan;
 
 /// An end of a connection in memory.
 ///
@@ -18,13 +18,13 @@ use sv_bytes::Plan;
 pub struct PipeEnd<'r, R: Wait> {
     rt: &'r R,
     pipe: Arc<Pipe, Global>,
-    plan: Plan,
+    plan: CallPlan,
     log: EndLog,
 }
 
 impl<'r, R: Wait> PipeEnd<'r, R> {
     /// The end of the log's side.
-    pub fn new(rt: &'r R, pipe: Arc<Pipe, Global>, plan: Plan, log: EndLog) -> PipeEnd<'r, R>
+    pub fn new(rt: &'r R, pipe: Arc<Pipe, Global>, plan: CallPlan, log: EndLog) -> PipeEnd<'r, R>
         ensures log { result.log ≡ log }
         ensures plan { result.plan ≡ plan }
     {
@@ -57,7 +57,7 @@ impl<'r, R: Wait> PipeEnd<'r, R> {
         ensures fails { result ≡ EndRead.Failed ↔ (IsListed self.new.plan × CountsFault self.old.log) }
         ensures listed { IsListed self.new.plan → IsReadFault result × (self.new.log.faults ≡ faults_after self.old.log) }
         ensures most { EndGotAtMost (min (min (length into.old) self.old.plan.step) MOST_READ) result }
-        ensures told { Reads (pipe_told self.old) into.new result (pipe_told self.new) }
+        ensures told { EndReads (pipe_told self.old) into.new result (pipe_told self.new) }
         ensures cause { EndReadCause self.old.log.faults self.new.log.faults result }
     {
         if self.plan.next_fails() {
@@ -86,7 +86,7 @@ impl<'r, R: Wait> PipeEnd<'r, R> {
         ensures fails { result ≡ EndWrote.Failed ↔ (IsListed self.new.plan × CountsFault self.old.log) }
         ensures listed { IsListed self.new.plan → IsWriteFault result × (self.new.log.faults ≡ faults_after self.old.log) }
         ensures just { EndTookJust (min (length piece.now) self.old.plan.step) result }
-        ensures told { Writes (pipe_told self.old) piece.now result (pipe_told self.new) }
+        ensures told { EndWrites (pipe_told self.old) piece.now result (pipe_told self.new) }
         ensures cause { EndWriteCause self.old.log.faults self.new.log.faults result }
     {
         if self.plan.next_fails() {

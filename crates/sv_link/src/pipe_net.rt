@@ -12,7 +12,7 @@ use crate::pipe::Pipe;
 use crate::pipe_end::PipeEnd;
 use std::alloc::{AllocError, Global};
 use std::sync::{Arc, Wait};
-use sv_bytes::Plan;
+use sv_bytes::CallPlan;
 
 /// Connections in memory, whose ends go to two threads. It has lists of calls that fail.
 ///
@@ -22,10 +22,10 @@ pub struct PipeNet<'r, R: Wait> {
     alloc: Global,
     rt: &'r R,
     book: Book<Settled>,
-    calls: Plan,
-    server: Plan,
-    client: Plan,
-    settlings: Plan,
+    calls: CallPlan,
+    server: CallPlan,
+    client: CallPlan,
+    settlings: CallPlan,
 }
 
 impl<'r, R: Wait> PipeNet<'r, R> {
@@ -39,10 +39,10 @@ impl<'r, R: Wait> PipeNet<'r, R> {
             alloc,
             rt,
             book: Book::new(alloc),
-            calls: Plan::new(alloc),
-            server: Plan::new(alloc),
-            client: Plan::new(alloc),
-            settlings: Plan::new(alloc),
+            calls: CallPlan::new(alloc),
+            server: CallPlan::new(alloc),
+            client: CallPlan::new(alloc),
+            settlings: CallPlan::new(alloc),
         }
     }
 
@@ -202,10 +202,10 @@ fn some_received(server: &EndLog, client: &EndLog) -> bool
 }
 
 /// A plan that fails at the same calls, for another object.
-pub fn copied_plan(alloc: Global, plan: &Plan) -> Result<Plan, AllocError>
+pub fn copied_plan(alloc: Global, plan: &CallPlan) -> Result<CallPlan, AllocError>
     ensures { IfOk result (IsCopied plan.now) }
 {
-    Ok(Plan {
+    Ok(CallPlan {
         failing: Vec::from_slice(alloc, &plan.failing)?,
         made: 0,
         step: plan.step,

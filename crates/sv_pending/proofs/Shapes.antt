@@ -9,8 +9,8 @@ use Rattle.sv_world.specs.declared.action.Action.{Action}
 use Rattle.sv_world.specs.declared.world.ObjectId.{ObjectId}
 use Rattle.sv_world.specs.Control.{is_in}
 use Rattle.sv_world.specs.Sets.{read_set, write_set}
-use Rattle.sv_eval.specs.Evaluation.{outcome_of}
-use Rattle.sv_eval.proofs.Outcomes.{outcome_shaped, outcome_counted}
+use Rattle.sv_eval.specs.Evaluation.{effect_of}
+use Rattle.sv_eval.proofs.Effects.{effect_shaped, effect_counted}
 use Rattle.sv_versions.specs.Held.{Held, latest}
 use Rattle.sv_versions.proofs.Laws.{latest_has}
 use Rattle.sv_pending.specs.Pending.{PendingAction, Overlaid, Unwritten, Unknown, Kept, value_beside, kept_for, last_of, overlay_of, view_under, view_over, views_over, kept_of, redone_after, redone}
@@ -69,10 +69,10 @@ views_shaped attrs held ps (x ∷ xs) a s =
     suc_is attrs (length xs + 1) (length (x ∷ xs)) (views_over held ps (x ∷ xs)) (omega arith)
     (views_more attrs (length xs) (view_over held ps x) (views_over held ps xs) (view_shaped attrs x held ps a s) (views_shaped attrs held ps xs a s))
 
-outcome_long : (attrs : ℕ) (action : Action) (views : Option (List (List ℤ))) → IfSome views (λ vs. (length vs ≡ length (read_set action)) × All (IsLong attrs) vs) → IfSome (option_map (λ values. (outcome_of action values).writes) views) (λ vs. (length vs ≡ length (write_set action)) × All (IsLong attrs) vs)
+outcome_long : (attrs : ℕ) (action : Action) (views : Option (List (List ℤ))) → IfSome views (λ vs. (length vs ≡ length (read_set action)) × All (IsLong attrs) vs) → IfSome (option_map (λ values. (effect_of action values).writes) views) (λ vs. (length vs ≡ length (write_set action)) × All (IsLong attrs) vs)
 outcome_long attrs action None a = tt
 outcome_long attrs action (Some vs) a =
-    (outcome_counted action vs (a.0 ∙ length-map action.reads (λ (o : ObjectId). o.0)), outcome_shaped attrs action vs a.1)
+    (effect_counted action vs (a.0 ∙ length-map action.reads (λ (o : ObjectId). o.0)), effect_shaped attrs action vs a.1)
 
 -- so is each kept result
 pub kept_shaped : (attrs : ℕ) (held : List Held) (ps : List PendingAction) (action : Action) → All (λ h. IsLong attrs h.value) held → AreShaped attrs ps → IfSome (kept_of held ps action) (λ vs. (length vs ≡ length (write_set action)) × All (IsLong attrs) vs)

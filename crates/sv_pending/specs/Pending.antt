@@ -3,7 +3,7 @@ use Rattle.std.specs.Prelude.{ℕ, ℤ, ◌==◌, List, [], ◌∷◌, ◌++◌,
 use Rattle.sv_world.specs.declared.action.Action.{Action}
 use Rattle.sv_world.specs.Control.{is_in}
 use Rattle.sv_world.specs.Sets.{read_set, write_set}
-use Rattle.sv_eval.specs.Evaluation.{outcome_of}
+use Rattle.sv_eval.specs.Evaluation.{effect_of}
 use Rattle.sv_versions.specs.Held.{Held, latest}
 
 -- An action that was made and is not settled yet, the client's number for it, and its kept result: the values that it would give its
@@ -55,7 +55,7 @@ views_over held pending (x ∷ xs) =
 
 -- What an action would give its written objects, on the views of what it reads.
 abbrev pub kept_of : List Held → List PendingAction → Action → Option (List (List ℤ))
-kept_of held pending action = option_map (λ values. (outcome_of action values).writes) (views_over held pending (read_set action))
+kept_of held pending action = option_map (λ values. (effect_of action values).writes) (views_over held pending (read_set action))
 
 -- Pending actions with all kept results thrown away and computed again, in order, each on the views that the earlier ones give.
 abbrev pub redone_after : List Held → List PendingAction → List PendingAction → List PendingAction

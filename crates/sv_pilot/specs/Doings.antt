@@ -32,11 +32,11 @@ pub record Did (e : Event) (old new : ClientView) : Type 0 where
   pub events : new.events ≡ replies ++ e ∷ old.events
 
 -- no reply is due
-abbrev pub IsSettled : ClientView → Type 0
-IsSettled c = outstanding c.who c.events ≡ []
+abbrev pub NoReplyIsDue : ClientView → Type 0
+NoReplyIsDue c = outstanding c.who c.events ≡ []
 
 -- It made an action of the text, which it might make, and then took some replies.
-pub record Made (text : List ℕ) (old new : ClientView) : Type 0 where
+pub record MadeAction (text : List ℕ) (old new : ClientView) : Type 0 where
   pub action : Action
   pub is_text : IsActionText action (tokens_of text)
   pub may : MayMake old.who old.events action

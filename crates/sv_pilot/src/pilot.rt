@@ -9,7 +9,7 @@ ghost use Rattle.sv_client.specs.Taking.{outstanding};
 ghost use Rattle.sv_client.specs.Proper.{MayMake, MayPoll, MayLeave, in_session, most_made};
 ghost use Rattle.sv_pilot.specs.declared.trouble.Trouble.TheVariants as troubles;
 ghost use Rattle.sv_pilot.specs.Troubles.{IsNotOfGame, trouble_of_text};
-ghost use Rattle.sv_pilot.specs.Doings.{HasTaken, Did, IsSettled, Made, NoneMayBeMade, number_seen, text_limit};
+ghost use Rattle.sv_pilot.specs.Doings.{HasTaken, Did, NoReplyIsDue, MadeAction, NoneMayBeMade, number_seen, text_limit};
 
 use crate::connection::Connection;
 use crate::seen::{Listener, Seen, tell_all, unseen};
@@ -103,7 +103,7 @@ impl<E: End, L: Listener> Pilot<E, L> {
     /// Begins a session, and is told the objects of the interest. At most 64 are begun.
     #[tactic(auto, using(crate::proofs::Taking::did_then))]
     pub fn join(&mut self) -> Result<(), Trouble>
-        ensures joined { OnOk result (Did (events.Join (joins self.old.events)) self.old self.new × IsSettled self.new) }
+        ensures joined { OnOk result (Did (events.Join (joins self.old.events)) self.old self.new × NoReplyIsDue self.new) }
         ensures stopped { OnErr result ((self.new ≡ self.old) ⊎ Did (events.Join (joins self.old.events)) self.old self.new) }
         ensures refused { IfErr result (λ trouble. trouble ≡ troubles.Game → (self.new ≡ self.old) × (most_sessions ≤ joins self.old.events)) }
     {
@@ -128,8 +128,8 @@ impl<E: End, L: Listener> Pilot<E, L> {
     /// Makes the action of a text of less than 1,000 bytes. The listener is called at once for what it is expected to change, and again where
     /// that was wrong.
     pub fn act(&mut self, text: &str) -> Result<(), Trouble>
-        ensures made { OnOk result (Made text.now self.old self.new × IsSettled self.new) }
-        ensures stopped { OnErr result ((self.new ≡ self.old) ⊎ Made text.now self.old self.new) }
+        ensures made { OnOk result (MadeAction text.now self.old self.new × NoReplyIsDue self.new) }
+        ensures stopped { OnErr result ((self.new ≡ self.old) ⊎ MadeAction text.now self.old self.new) }
         ensures refused { IfErr result (λ trouble. trouble ≡ troubles.Game → (self.new ≡ self.old) × ((text_limit ≤ length text.now) ⊎ NoneMayBeMade text.now self.old)) }
     {
         let action = self.read(text)?;
@@ -160,7 +160,7 @@ impl<E: End, L: Listener> Pilot<E, L> {
     fn make(&mut self, action: Action) -> Result<(), Trouble>
         requires joined { in_session self.old.events ≡ true }
         requires few { makes self.old.events < most_made }
-        ensures made { OnOk result (MayMake self.old.who self.old.events action × Did (events.Make action) self.old self.new × IsSettled self.new) }
+        ensures made { OnOk result (MayMake self.old.who self.old.events action × Did (events.Make action) self.old self.new × NoReplyIsDue self.new) }
         ensures stopped { OnErr result ((self.new ≡ self.old) ⊎ (MayMake self.old.who self.old.events action × Did (events.Make action) self.old self.new)) }
         ensures refused { IfErr result (λ trouble. trouble ≡ troubles.Game → (self.new ≡ self.old) × (MayMake self.old.who self.old.events action → ⊥)) }
     {
@@ -171,7 +171,7 @@ impl<E: End, L: Listener> Pilot<E, L> {
     /// Asks for an action that another client abandoned, if one is to be had.
     #[tactic(auto, using(crate::proofs::Taking::did_then))]
     pub fn poll(&mut self) -> Result<(), Trouble>
-        ensures polled { OnOk result (Did events.Poll self.old self.new × IsSettled self.new) }
+        ensures polled { OnOk result (Did events.Poll self.old self.new × NoReplyIsDue self.new) }
         ensures stopped { OnErr result ((self.new ≡ self.old) ⊎ Did events.Poll self.old self.new) }
         ensures refused { IfErr result (λ trouble. trouble ≡ troubles.Game → (self.new ≡ self.old) × (MayPoll self.old.who self.old.events → ⊥)) }
     {
@@ -185,7 +185,7 @@ impl<E: End, L: Listener> Pilot<E, L> {
     /// Leaves the session.
     #[tactic(auto, using(crate::proofs::Taking::did_then))]
     pub fn leave(&mut self) -> Result<(), Trouble>
-        ensures left { OnOk result (Did events.Leave self.old self.new × IsSettled self.new) }
+        ensures left { OnOk result (Did events.Leave self.old self.new × NoReplyIsDue self.new) }
         ensures stopped { OnErr result ((self.new ≡ self.old) ⊎ Did events.Leave self.old self.new) }
         ensures refused { IfErr result (λ trouble. trouble ≡ troubles.Game → (self.new ≡ self.old) × (MayLeave self.old.who self.old.events → ⊥)) }
     {
@@ -205,7 +205,7 @@ impl<E: End, L: Listener> Pilot<E, L> {
     /// Sends a request that was just made, with what it is expected to change told, and takes all replies.
     fn ask(&mut self, request: &Request) -> Result<(), Trouble>
         ensures taken { HasTaken self.old self.new }
-        ensures settled { OnOk result (IsSettled self.new) }
+        ensures settled { OnOk result (NoReplyIsDue self.new) }
         ensures blame { IfErr result IsNotOfGame }
     {
         self.tell()?;
@@ -216,7 +216,7 @@ impl<E: End, L: Listener> Pilot<E, L> {
     /// Whether no reply is due.
     #[tactic(auto, using(crate::proofs::Taking::none_left))]
     fn is_settled(&self) -> bool
-        ensures { result ≡ true → IsSettled self.now }
+        ensures { result ≡ true → NoReplyIsDue self.now }
     {
         self.client.outstanding() == 0
     }
@@ -224,7 +224,7 @@ impl<E: End, L: Listener> Pilot<E, L> {
     /// Takes replies until none is due.
     fn settle(&mut self) -> Result<(), Trouble>
         ensures taken { HasTaken self.old self.new }
-        ensures settled { OnOk result (IsSettled self.new) }
+        ensures settled { OnOk result (NoReplyIsDue self.new) }
         ensures blame { IfErr result IsNotOfGame }
     {
         for _ in 0..REPLIES {

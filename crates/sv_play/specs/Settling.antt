@@ -2,7 +2,7 @@
 use Rattle.std.specs.Prelude.{◌≡◌, ◌⊎◌, ℕ, ◌≤◌, Bool, true, false, List, [], ◌∷◌}
 use Rattle.sv_bytes.specs.Faults.{Rose}
 use Rattle.sv_link.specs.Ends.{Told}
-use Rattle.sv_link.specs.Nets.{BothArrived, IsPair}
+use Rattle.sv_link.specs.Nets.{BothArrived, AreTwoEnds}
 use Rattle.sv_play.specs.declared.gathering.ClientEnd.{ClientEnd}
 
 -- a net's count of faults rises just where not all pairs matched
@@ -24,7 +24,7 @@ module _ {E : Type 0} (told : E → Told) where
 module _ {E : Type 0} (told : E → Told) where
   -- the two ends of a pair of a net that made so many
   abbrev pub ArePair : ℕ → E → ClientEnd E → Type 0
-  ArePair made server z = IsPair made (told server) (told z.end)
+  ArePair made server z = AreTwoEnds made (told server) (told z.end)
 
 module _ {E : Type 0} (calm : E → Type 0) where
   abbrev pub AreCalm : E → ClientEnd E → Type 0
@@ -37,6 +37,6 @@ module _ {E : Type 0} (told : E → Told) (calm : E → Type 0) where
     pub client : E
     pub server_calm : calm server
     pub client_calm : calm client
-    pub pair : IsPair made (told server) (told client)
+    pub pair : AreTwoEnds made (told server) (told client)
     pub since : before ≤ (told server).pair
     pub differ : BothArrived (told server) (told client) → ⊥

@@ -14,8 +14,8 @@ use Rattle.sv_client.specs.declared.trace.Event.{Event}
 use Rattle.sv_client.specs.Traces.{view_of}
 use Rattle.sv_client.specs.Taking.{Identity}
 use Rattle.sv_client.specs.Proper.{IsGoodIdentity, AreProper, MayFollow}
-use Rattle.sv_client.specs.declared.trace.Mark.{Mark}
-use Rattle.sv_client.specs.declared.trace.Mark.TheVariants as marks
+use Rattle.sv_client.specs.declared.trace.TraceMark.{TraceMark}
+use Rattle.sv_client.specs.declared.trace.TraceMark.TheVariants as marks
 use Rattle.sv_client.specs.Seen.{ClientView, event_of_mark}
 use Rattle.sv_scenario.specs.declared.scenario.Step.{Step}
 use Rattle.sv_script.specs.Telling.{same_view, change_by, change_of, changes_of}
@@ -88,7 +88,7 @@ did_quiet e left p q who es script first l lines same count quiet =
     }
 
 -- A mark changes no view.
-pub mark_quiet : (mark : Mark) → may_tell (event_of_mark mark) ≡ false
+pub mark_quiet : (mark : TraceMark) → may_tell (event_of_mark mark) ≡ false
 mark_quiet marks.Cut = refl
 mark_quiet marks.Quit = refl
 mark_quiet (marks.Show objects) = refl

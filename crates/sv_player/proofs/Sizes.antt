@@ -6,13 +6,13 @@ use Rattle.std.proofs.lemmas.List.Elements.{All-nil, All-cons, All-append, All-h
 use Rattle.std.proofs.lemmas.Bool.{or_parts, not-false}
 use Rattle.sv_world.specs.declared.world.Shape.{Shape}
 use Rattle.sv_world.specs.Sets.{read_set, write_set}
-use Rattle.sv_eval.proofs.Outcomes.{outcome_shaped}
+use Rattle.sv_eval.proofs.Effects.{effect_shaped}
 use Rattle.sv_versions.specs.Held.{Held, read_below}
 use Rattle.sv_versions.proofs.Laws.{read_below_has}
 use Rattle.sv_pending.specs.Pending.{PendingAction, redone}
 use Rattle.sv_pending.specs.Shapes.{IsLong, AreShaped}
 use Rattle.sv_pending.proofs.Shapes.{view_shaped, kept_shaped, redone_shaped, shaped_push}
-use Rattle.sv_wire.specs.declared.message.Held.{Held as Sent}
+use Rattle.sv_wire.specs.declared.message.ObjectValue.{ObjectValue}
 use Rattle.sv_wire.specs.declared.message.Item.{Item}
 use Rattle.sv_wire.specs.declared.message.Request.{Request}
 use Rattle.sv_wire.specs.declared.message.Reply.{Reply}
@@ -61,7 +61,7 @@ module _ (attrs : ℕ) where
       (found_long (read_below held x pos) f.0 (read_below_has (IsLong attrs) held x pos a)) (reads_long held pos xs a f.1)
 
   pub result_long : (held : List Held) (item : Item) → AreLong held → first_unheld held item.pos (read_set item.action) ≡ None → AllLong (item_result held item)
-  result_long held item a e = outcome_shaped attrs item.action (map (read_at held item.pos) (read_set item.action)) (reads_long held item.pos (read_set item.action) a e)
+  result_long held item a e = effect_shaped attrs item.action (map (read_at held item.pos) (read_set item.action)) (reads_long held item.pos (read_set item.action) a e)
 
   pub item_more : (held : List Held) (item : Item) → AreLong held → first_unheld held item.pos (read_set item.action) ≡ None → AreLong (held ++ item_held held item)
   item_more held item a e =
@@ -79,7 +79,7 @@ module _ (attrs : ℕ) where
 
   -- ---- Replies
 
-  head_long : (shape : Shape) (commit : ℕ) (head : List Sent) → shape.attrs ≡ attrs → is_bad_head shape head ≡ false → AreLong (head_held commit head)
+  head_long : (shape : Shape) (commit : ℕ) (head : List ObjectValue) → shape.attrs ≡ attrs → is_bad_head shape head ≡ false → AreLong (head_held commit head)
   head_long shape commit [] s e = All-nil (λ (h : Held). IsLong attrs h.value)
   head_long shape commit (h ∷ head) s e =
       let f = or_parts (nat_le shape.objects h.object.0 || not (eqb (length h.value) shape.attrs)) (is_bad_head shape head) e in
@@ -87,7 +87,7 @@ module _ (attrs : ℕ) where
       All-cons (λ (k : Held). IsLong attrs k.value) (record { object = h.object.0; pos = commit; value = h.value }) (head_held commit head)
       (eqb-true (length h.value) shape.attrs (not-false (eqb (length h.value) shape.attrs) g.1) ∙ s) (head_long shape commit head s f.1)
 
-  pub with_head : (shape : Shape) (held : List Held) (commit : ℕ) (head : List Sent) → shape.attrs ≡ attrs → AreLong held → is_bad_head shape head ≡ false → AreLong (held ++ head_held commit head)
+  pub with_head : (shape : Shape) (held : List Held) (commit : ℕ) (head : List ObjectValue) → shape.attrs ≡ attrs → AreLong held → is_bad_head shape head ≡ false → AreLong (held ++ head_held commit head)
   with_head shape held commit head s a e = All-append (λ (h : Held). IsLong attrs h.value) held (head_held commit head) a (head_long shape commit head s e)
 
   reply_long : (who : Identity) (held : List Held) (ps : List PendingAction) (request : Request) (reply : Reply) → who.shape.attrs ≡ attrs → AreLong held →

@@ -11,7 +11,7 @@ use Rattle.sv_world.specs.declared.action.Action.{Action}
 use Rattle.sv_world.specs.declared.world.ObjectId.{ObjectId}
 use Rattle.sv_world.specs.declared.world.Shape.{Shape}
 use Rattle.sv_world.specs.Sets.{read_set}
-use Rattle.sv_eval.proofs.Outcomes.{outcome_counted}
+use Rattle.sv_eval.proofs.Effects.{effect_counted}
 use Rattle.sv_versions.specs.Held.{Held, read_below}
 use Rattle.sv_pending.specs.Pending.{PendingAction, kept_of, redone_after, redone}
 use Rattle.sv_pending.specs.Shapes.{IsLong}
@@ -133,7 +133,7 @@ module _ (shape : Shape) (good : IsGoodShape shape) where
   result_is held item long action found =
       let a = item.action in
       let as_many = length-map (read_set a) (λ x. unwrap_or (read_below held x item.pos) []) ∙ length-map a.reads (λ (o : ObjectId). o.0) in
-      let count = outcome_counted a (map (λ x. unwrap_or (read_below held x item.pos) []) (read_set a)) as_many in
+      let count = effect_counted a (map (λ x. unwrap_or (read_below held x item.pos) []) (read_set a)) as_many in
       let written = masked_fewer a.mask 0 (read_set a) in
       let reads = length-map a.reads (λ (o : ObjectId). o.0) in
       record {

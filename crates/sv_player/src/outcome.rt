@@ -4,7 +4,7 @@ ghost use Rattle.sv_client.specs.Seen.{event_of_mark};
 ghost use Rattle.sv_player.specs.Partings.{parting_event, parting_ending};
 
 use std::alloc::{AllocError, AllocFailed};
-use sv_client::{Mark, TakeFault, Trace};
+use sv_client::{TraceMark, TakeFault, Trace};
 use sv_watch::Line;
 use sv_wire::Malformed;
 
@@ -58,12 +58,12 @@ pub(crate) enum Parting {
 
 impl Parting {
     /// What the trace notes of it.
-    pub(crate) fn mark(self) -> Mark
+    pub(crate) fn mark(self) -> TraceMark
         ensures { event_of_mark result ≡ parting_event self }
     {
         match self {
-            Parting::Cut => Mark::Cut,
-            Parting::Quit => Mark::Quit,
+            Parting::Cut => TraceMark::Cut,
+            Parting::Quit => TraceMark::Quit,
         }
     }
 

@@ -15,7 +15,7 @@ ghost use Rattle.sv_player.specs.Going.{IsGoing, Did, DidInPart};
 
 use crate::telling::{Seen, tell_changes};
 use std::alloc::{AllocError, Global};
-use sv_client::{Client, MakeFault, Mark, PollFault, TakeFault};
+use sv_client::{Client, MakeFault, TraceMark, PollFault, TakeFault};
 use sv_scenario::Step;
 use sv_watch::{Line, Watch};
 use sv_wire::{Reply, Request};
@@ -131,7 +131,7 @@ impl<'a> Player<'a> {
     }
 
     /// Does a step that asks for nothing: a show, a cut or a quit.
-    pub(crate) fn note(&mut self, mark: Mark, rest: &'a [Step]) -> Result<(), AllocError>
+    pub(crate) fn note(&mut self, mark: TraceMark, rest: &'a [Step]) -> Result<(), AllocError>
         requires count { self.old.count ≤ most_events }
         ensures ok { OnOk result (Did (event_of_mark mark) rest.now self.old self.new) }
         ensures err { OnErr result (self.new ≡ self.old) }

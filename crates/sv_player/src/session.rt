@@ -23,7 +23,7 @@ use crate::buffers::{Buffers, Waited};
 use crate::moves::{Making, Move};
 use crate::outcome::{Ending, Parting, PlayerCause, ReplyFault};
 use crate::playing::Player;
-use sv_client::{Mark, TakeFault};
+use sv_client::{TraceMark, TakeFault};
 use sv_frame::{FrameReader, Next};
 use sv_link::{End, Sent};
 use sv_scenario::Step;
@@ -128,7 +128,7 @@ impl<'a> Player<'a> {
         ensures memory { IfErr result (λ cause. cause ≡ causes.Memory) }
     {
         let copy = copy_objects(self.alloc, objects.as_slice())?;
-        self.note(Mark::Show(copy), rest)?;
+        self.note(TraceMark::Show(copy), rest)?;
         Ok(())
     }
 

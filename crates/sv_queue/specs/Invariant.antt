@@ -11,8 +11,8 @@ use Rattle.sv_queue.specs.Pairs.{pairs_of}
 use Rattle.sv_queue.specs.Queue.{QueueView, entry_actions}
 use Rattle.sv_world.specs.Worlds.{IsGoodShape, HaveAttrs}
 
-abbrev pub view_of : Inside → QueueView
-view_of a = record {
+abbrev pub model_of : Inside → QueueView
+model_of a = record {
   shape = a.shape;
   commit = a.commit;
   committed = a.committed;

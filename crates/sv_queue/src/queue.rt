@@ -45,9 +45,9 @@ impl Model for Queue {
 
     ghost coded = { Prim.hlevel (codes, queued.the_row.coded) };
 
-    ghost use Rattle.sv_queue.specs.Invariant.{view_of, IsQueue};
+    ghost use Rattle.sv_queue.specs.Invariant.{model_of, IsQueue};
 
-    ghost view = { view_of };
+    ghost view = { model_of };
 
     ghost invariant = { IsQueue };
 }

@@ -15,6 +15,7 @@ use Rattle.sv_client.specs.Seen.{raised, latest_session, newly_asked}
 use Rattle.sv_client.proofs.Shifts.{Up, up_joins, up_current}
 use Rattle.sv_client.proofs.Sessions.{session_after, current_is}
 use Rattle.sv_scenario.specs.declared.scenario.Step.{Step}
+use Rattle.sv_script.specs.Laws.{is_got}
 use Rattle.sv_script.specs.Following.{must_join}
 use Rattle.sv_system.specs.Fits.{is_join_of}
 use Rattle.sv_system.specs.Outcomes.{is_quit}
@@ -22,7 +23,7 @@ use Rattle.sv_system.proofs.Asked.{current-joined}
 use Rattle.law_schedule.specs.Players.{Player, open_session, has_closed}
 use Rattle.sv_replay.specs.Players.{session_of, asked_by_player, IsFit, Moves, is_closing}
 use Rattle.sv_replay.proofs.Places.{place_between, place_within}
-use Rattle.sv_replay.proofs.Events.{is_got, up_must, either_way, asks_up, asks_got, gets_none, gets_one, not_begun, keeps_closed, closes_now, begins_one}
+use Rattle.sv_replay.proofs.Events.{up_must, either_way, asks_up, asks_got, gets_none, gets_one, not_begun, keeps_closed, closes_now, begins_one}
 
 -- A player by its client's own events.
 abbrev pub player : Identity → ℕ → List Event → List Step → Bool → Player

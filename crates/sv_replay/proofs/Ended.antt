@@ -15,7 +15,7 @@ use Rattle.law_schedule.specs.Players.{repeated}
 use Rattle.law_schedule.specs.Serving.{Run, Server, turns_served, round_served, opening_run, run_served, traces_of}
 use Rattle.law_schedule.specs.Schedule.{rules_of, plain_server, scheduled_run}
 use Rattle.law_schedule.specs.Records.{IsReplay}
-use Rattle.sv_replay.specs.declared.schedule.Ran.{Ran}
+use Rattle.sv_replay.specs.declared.schedule.ServedRun.{ServedRun}
 use Rattle.sv_replay.specs.Serving.{ServerView}
 use Rattle.sv_replay.specs.Machine.{Stage, run_of, Became}
 
@@ -45,19 +45,19 @@ still_opened scenario o t w same turns rounds = rounds.machine.rules ∙ ap rule
 
 -- What is left is seen as its machine's server was.
 module _ {S : Type 0} (view : S → ServerView) (server : S) where
-  pub left_rules : (r : Result (Ran S) AllocError) (rules : Rules) → IfOk r (λ (x : Ran S). x.server ≡ server) → (view server).rules ≡ rules → IfOk r (λ (x : Ran S). (view x.server).rules ≡ rules)
+  pub left_rules : (r : Result (ServedRun S) AllocError) (rules : Rules) → IfOk r (λ (x : ServedRun S). x.server ≡ server) → (view server).rules ≡ rules → IfOk r (λ (x : ServedRun S). (view x.server).rules ≡ rules)
   left_rules (Ok x) rules same is = ap (λ (s : S). (view s).rules) same ∙ is
   left_rules (Err e) rules same is = tt
 
-  pub left_server : (r : Result (Ran S) AllocError) (by_it : Server) → IfOk r (λ (x : Ran S). x.server ≡ server) → (view server).server ≡ by_it → IfOk r (λ (x : Ran S). (view x.server).server ≡ by_it)
+  pub left_server : (r : Result (ServedRun S) AllocError) (by_it : Server) → IfOk r (λ (x : ServedRun S). x.server ≡ server) → (view server).server ≡ by_it → IfOk r (λ (x : ServedRun S). (view x.server).server ≡ by_it)
   left_server (Ok x) by_it same is = ap (λ (s : S). (view s).server) same ∙ is
   left_server (Err e) by_it same is = tt
 
-  pub left_history : (r : Result (Ran S) AllocError) (h : List Entry) → IfOk r (λ (x : Ran S). x.server ≡ server) → (view server).history ≡ h → IfOk r (λ (x : Ran S). (view x.server).history ≡ h)
+  pub left_history : (r : Result (ServedRun S) AllocError) (h : List Entry) → IfOk r (λ (x : ServedRun S). x.server ≡ server) → (view server).history ≡ h → IfOk r (λ (x : ServedRun S). (view x.server).history ≡ h)
   left_history (Ok x) h same is = ap (λ (s : S). (view s).history) same ∙ is
   left_history (Err e) h same is = tt
 
-pub left_traces : {S : Type 0} (r : Result (Ran S) AllocError) (run target : Run) → run ≡ target → IfOk r (λ (x : Ran S). x.traces ≡ traces_of run) → IfOk r (λ (x : Ran S). x.traces ≡ traces_of target)
+pub left_traces : {S : Type 0} (r : Result (ServedRun S) AllocError) (run target : Run) → run ≡ target → IfOk r (λ (x : ServedRun S). x.traces ≡ traces_of run) → IfOk r (λ (x : ServedRun S). x.traces ≡ traces_of target)
 left_traces (Ok x) run target same is = is ∙ ap traces_of same
 left_traces (Err e) run target same is = tt
 

@@ -14,6 +14,7 @@ use Rattle.sv_client.specs.Proper.{AreProper}
 use Rattle.sv_client.specs.Seen.{raised, latest_session, newly_asked}
 use Rattle.sv_client.proofs.Shifts.{Up, up_joins, up_pending, up_held, up_makes, up_current}
 use Rattle.sv_client.proofs.Sessions.{apart}
+use Rattle.sv_script.specs.Laws.{is_got}
 use Rattle.sv_script.specs.Following.{must_join, is_welcomed}
 use Rattle.sv_system.specs.Fits.{is_join_of}
 
@@ -55,10 +56,6 @@ one_asked (Some n) first s xs = rw (eq-eqb n n refl) refl
 asked_once : (first : ℕ) (t : List Event) (s : ℕ) (xs ys : List Request) → xs ≡ ys →
     (if is_session (current_session (Up first t)) s then xs else []) ≡ (if latest_session t + first == s then (if is_session (current_session t) (latest_session t) then ys else []) else [])
 asked_once first t s xs ys e = rw (up_current first t, e) (one_asked (current_session t) first s ys)
-
-abbrev pub is_got : Event → Bool
-is_got (events.Got s reply) = true
-is_got _ = false
 
 -- What an event asks is asked of the session that then is the last one.
 pub asks_up : (who : Identity) (first : ℕ) (t : List Event) (e : Event) → is_got e ≡ false → (s : ℕ) →

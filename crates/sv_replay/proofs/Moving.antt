@@ -23,6 +23,7 @@ use Rattle.sv_client.specs.Seen.{raised, latest_session, newly_asked}
 use Rattle.sv_client.proofs.Shifts.{Up, up_joins, up_makes, up_session, up_pending, up_outstanding, up_fault}
 use Rattle.sv_scenario.specs.declared.scenario.Step.{Step}
 use Rattle.sv_scenario.specs.declared.scenario.Step.TheVariants as steps
+use Rattle.sv_script.specs.Laws.{is_got}
 use Rattle.sv_script.specs.Following.{must_join, is_welcomed}
 use Rattle.sv_system.specs.Outcomes.{is_quit}
 use Rattle.law_schedule.specs.Players.{Player, player_turn, next_step, last_steps, if_free, is_calm, is_settled, does, takes, takes_if}
@@ -31,7 +32,7 @@ use Rattle.sv_exchange.specs.View.{ExchangeView, TakesReply}
 use Rattle.sv_replay.specs.Messages.{AsksMessages}
 use Rattle.sv_replay.specs.Players.{session_of, asked_by_player, IsFit, Moves, is_closing, taken_from}
 use Rattle.sv_replay.specs.Machine.{player_of, AreFlags, IsReady, Does, MovedPlayer}
-use Rattle.sv_replay.proofs.Events.{is_got, up_must}
+use Rattle.sv_replay.proofs.Events.{up_must}
 use Rattle.sv_replay.proofs.Doing.{player, session_latest, JoinsNext, event_moves, close_moves, got_moves, still_moves, left_moves}
 
 -- The player after an event.

@@ -13,5 +13,5 @@ mod serving;
 pub use laws::made_actions_fit;
 pub use opening::{open_sequencer, opening_world};
 pub use played::{committed_values, played_of};
-pub use schedule::{Ran, run_over, run_schedule};
+pub use schedule::{ServedRun, run_over, run_schedule};
 pub use server::Server;

@@ -17,7 +17,7 @@ ghost use Rattle.sv_replay.specs.Serving.{one_if};
 ghost use Rattle.sv_replay.specs.Machine.{player_of, AreFlags, IsReady, Does, MovedPlayer};
 
 use std::alloc::{AllocError, Global};
-use sv_client::{Client, MakeFault, Mark, PollFault, TakeFault, Trace};
+use sv_client::{Client, MakeFault, TraceMark, PollFault, TakeFault, Trace};
 use sv_exchange::Exchange;
 use sv_scenario::Step;
 use sv_wire::Request;
@@ -242,7 +242,7 @@ impl<'a> Playing<'a> {
         ensures { (c : ExchangeView) → OnOk result (Does (events.Show objects.now) rest.now self.old.closed self.old self.new c c) }
     {
         let copy = copy_objects(alloc, objects.as_slice())?;
-        self.client.note(Mark::Show(copy))?;
+        self.client.note(TraceMark::Show(copy))?;
         self.left = rest;
         Ok(())
     }
@@ -252,7 +252,7 @@ impl<'a> Playing<'a> {
         requires ready { IsReady self.old }
         ensures { OnOk result (Does events.Cut rest.now self.old.closed self.old self.new channel.old channel.new) }
     {
-        self.client.note(Mark::Cut)?;
+        self.client.note(TraceMark::Cut)?;
         channel.close();
         self.left = rest;
         self.between = true;
@@ -264,7 +264,7 @@ impl<'a> Playing<'a> {
         requires ready { IsReady self.old }
         ensures { OnOk result (Does events.Quit rest.now true self.old self.new channel.old channel.new) }
     {
-        self.client.note(Mark::Quit)?;
+        self.client.note(TraceMark::Quit)?;
         channel.close();
         self.left = rest;
         self.closed = true;

@@ -43,13 +43,13 @@ pub fn run_schedule(alloc: Global, scenario: &Scenario) -> Result<Played, AllocE
     // A number is known to be of its type once it is read, and only such numbers can be sent.
     read_scenario_numbers(scenario);
     let sequencer = open_sequencer(alloc, scenario)?;
-    let Ran { server, traces } = run_over(alloc, scenario, sequencer)?;
+    let ServedRun { server, traces } = run_over(alloc, scenario, sequencer)?;
     played_of(alloc, scenario.world.shape, server, traces)
 }
 
 /// A server after a run, and what each client did.
 #[derive(Drop)]
-pub struct Ran<S> {
+pub struct ServedRun<S> {
     pub server: S,
     pub traces: List<Trace>,
 }
@@ -59,7 +59,7 @@ pub fn run_over<S: Server>(
     alloc: Global,
     scenario: &Scenario,
     server: S,
-) -> Result<Ran<S>, AllocError>
+) -> Result<ServedRun<S>, AllocError>
     requires good { IsGoodScenario scenario.now }
     requires playable { IsPlayable scenario.now (S.view server).server }
     requires rules { (S.view server).rules ≡ rules_of scenario.now }
@@ -76,7 +76,7 @@ pub fn run_over<S: Server>(
 }
 
 /// What a machine's run leaves.
-fn left<S: Server>(machine: Machine<'_, S>) -> Result<Ran<S>, AllocError>
+fn left<S: Server>(machine: Machine<'_, S>) -> Result<ServedRun<S>, AllocError>
     requires { IsMachine (stage_of S.view machine) }
     ensures server { IfOk result (λ ran. ran.server ≡ machine.entry.server) }
     ensures traces { IfOk result (λ ran. ran.traces ≡ traces_of (run_of (stage_of S.view machine.entry))) }
@@ -88,7 +88,7 @@ fn left<S: Server>(machine: Machine<'_, S>) -> Result<Ran<S>, AllocError>
         ..
     } = machine;
     let traces = traces(alloc, players)?;
-    Ok(Ran { server, traces })
+    Ok(ServedRun { server, traces })
 }
 
 /// What each client did.

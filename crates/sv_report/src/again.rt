@@ -9,7 +9,7 @@ ghost use Rattle.sv_client.specs.Answers.{got_now};
 ghost use Rattle.sv_report.specs.Again.{MayDo, again};
 
 use std::alloc::{AllocError, Global};
-use sv_client::{Client, Event, MakeFault, Mark, PollFault, TakeFault};
+use sv_client::{Client, Event, MakeFault, TraceMark, PollFault, TakeFault};
 use sv_wire::{Reply, copy_reply};
 use sv_world::{Action, List, ObjectId, copy_action, copy_objects};
 
@@ -80,7 +80,7 @@ fn show_again(alloc: Global, client: &mut Client, objects: &[ObjectId]) -> Resul
     ensures err { OnErr result (client.new ≡ client.old) }
 {
     let copy = copy_objects(alloc, objects)?;
-    client.note(Mark::Show(copy))
+    client.note(TraceMark::Show(copy))
 }
 
 /// Does an event of a trace again, which the client may do next. It fails only where memory runs out, and then the client is as it was.
@@ -98,8 +98,8 @@ pub fn do_again(alloc: Global, client: &mut Client, event: &Event) -> Result<(),
         Event::Poll => poll_again(client),
         Event::Leave => leave_again(client),
         Event::Got(_, reply) => take_again(alloc, client, reply),
-        Event::Cut => client.note(Mark::Cut),
-        Event::Quit => client.note(Mark::Quit),
+        Event::Cut => client.note(TraceMark::Cut),
+        Event::Quit => client.note(TraceMark::Quit),
         Event::Show(objects) => show_again(alloc, client, objects.as_slice()),
     }
 }

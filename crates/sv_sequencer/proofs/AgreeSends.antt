@@ -4,7 +4,7 @@ use Rattle.std.proofs.lemmas.Bool.{both_ways, cond_both, cond-false, eqb-true, a
 use Rattle.sv_world.specs.Control.{is_in}
 use Rattle.sv_world.proofs.Members.{is_in-one}
 use Rattle.sv_influence.proofs.Places.{members-all}
-use Rattle.sv_wire.specs.declared.message.Held.{Held}
+use Rattle.sv_wire.specs.declared.message.ObjectValue.{ObjectValue}
 use Rattle.sv_wire.specs.declared.message.Request.{Request}
 use Rattle.sv_journal.specs.declared.entry.Entry.{Entry}
 use Rattle.sv_journal.specs.declared.entry.Logged.TheVariants as logged
@@ -29,16 +29,16 @@ use Rattle.sv_sequencer.proofs.FitPush.{fits-pushed}
 use Rattle.sv_sequencer.proofs.HistorySteps.{accepted-quiet, accepted-old, accepted-next, authored_by, outcomes-quiet, outcomes-old, result-quiet, run_length-ext}
 use Rattle.sv_sequencer.proofs.SoundSteps.{all_left-falls, all_left-takes, owed-same, sound-next}
 
-pub commit-given : (v : QueueView) (head : List Held) (s : ℕ) → (given_all v head s).commit ≡ v.commit
+pub commit-given : (v : QueueView) (head : List ObjectValue) (s : ℕ) → (given_all v head s).commit ≡ v.commit
 commit-given v [] s = refl
 commit-given v (x ∷ xs) s = commit-given (with_given v x.object.0 s) xs s
 
 -- The commits that a reply's head names.
-head-at : (head : List Held) (c x q : ℕ) → is_in q (cond (names head x) (c ∷ []) []) ≡ true → q ≡ c
+head-at : (head : List ObjectValue) (c x q : ℕ) → is_in q (cond (names head x) (c ∷ []) []) ≡ true → q ≡ c
 head-at head c x q = cond_both (names head x) (c ∷ []) [] (λ xs. is_in q xs ≡ true → q ≡ c) (λ t m. is_in-one q c m) (λ t m. cc)
 
 -- The queue after a relay, against a history with its entry.
-fits-relay : (r : Rules) (h : List Entry) (e : Entry) (v : QueueView) (s seq : ℕ) (head : List Held) (ps : List ℕ) → e.session ≡ s → e.reply ≡ logged.Relay seq v.commit head ps →
+fits-relay : (r : Rules) (h : List Entry) (e : Entry) (v : QueueView) (s seq : ℕ) (head : List ObjectValue) (ps : List ℕ) → e.session ≡ s → e.reply ≡ logged.Relay seq v.commit head ps →
     All (IsUncommitted v) ps → QueueFits r.world (accepted (e ∷ h)) (result_at h) (sent_to h) (named_to h) v →
     QueueFits r.world (accepted (e ∷ h)) (result_at (e ∷ h)) (sent_to (e ∷ h)) (named_to (e ∷ h)) (given_all (marked_all v ps s) head s)
 fits-relay r h e v s seq head ps at is low f =
@@ -52,7 +52,7 @@ fits-relay r h e v s seq head ps at is low f =
 
 -- A position that is there is sent, on a Poll or a repeated Submit.
 pub agree-relay : (r : Rules) (h : List Entry) (v : QueueView) (old next : List SessionRow) (clients : Clients) (owed s : ℕ) (request : Request)
-    (seq c : ℕ) (head : List Held) (ps : List ℕ) → c ≡ v.commit →
+    (seq c : ℕ) (head : List ObjectValue) (ps : List ℕ) → c ≡ v.commit →
     Agrees r h v old clients owed → length old ≡ r.sessions → s < r.sessions → IsOld h s request → is_end request ≡ false →
     AreAfter (entry_of s request (logged.Relay seq c head ps)) old next → All (IsUncommitted v) ps →
     Agrees r (entry_of s request (logged.Relay seq c head ps) ∷ h) (given_all (marked_all v ps s) head s) next clients owed
@@ -89,7 +89,7 @@ agree-relay r h v old next clients owed s request seq c head ps at a count low i
 
 -- A new action is accepted as the last one, and sent.
 pub agree-accept : (r : Rules) (h : List Entry) (v : QueueView) (old next : List SessionRow) (clients after : Clients) (owed s : ℕ) (request : Request)
-    (k seq c m : ℕ) (head : List Held) (ps : List ℕ) → c ≡ v.commit → m ≡ suc (last_position v) →
+    (k seq c m : ℕ) (head : List ObjectValue) (ps : List ℕ) → c ≡ v.commit → m ≡ suc (last_position v) →
     Agrees r h v old clients owed → length old ≡ r.sessions → s < r.sessions → IsNextSubmit h s request k seq → is_end request ≡ false →
     AreAfter (entry_of s request (logged.Relay seq c head ps)) old next →
     ((j : ℕ) → client_row after j ≡ settled_row (client_row clients) k (rows.Accepted m) j) →
@@ -154,7 +154,7 @@ joined_row rows k life j = cond (nat_eq k j) (record (rows k) { life = life }) (
 
 -- A session begins.
 pub agree-welcome : (r : Rules) (h : List Entry) (v : QueueView) (old next : List SessionRow) (clients after : Clients) (owed s : ℕ) (request : Request)
-    (k life c : ℕ) (head : List Held) → c ≡ v.commit →
+    (k life c : ℕ) (head : List ObjectValue) → c ≡ v.commit →
     Agrees r h v old clients owed → length old ≡ r.sessions → s < r.sessions → IsJoin r h request k life → is_end request ≡ false →
     AreAfter (entry_of s request (logged.Welcome c head)) old next → ((j : ℕ) → client_row after j ≡ joined_row (client_row clients) k life j) →
     Agrees r (entry_of s request (logged.Welcome c head) ∷ h) (given_all v head s) next after owed

@@ -12,7 +12,7 @@ use Rattle.sv_world.specs.declared.world.World.{World}
 use Rattle.sv_world.specs.Control.{is_in, action_at, last_writer}
 use Rattle.sv_world.specs.Sets.{write_set}
 use Rattle.sv_world.proofs.Writers.{last_writer-most}
-use Rattle.sv_wire.specs.declared.message.Held.{Held}
+use Rattle.sv_wire.specs.declared.message.ObjectValue.{ObjectValue}
 use Rattle.sv_queue.specs.declared.queued.Queued.{Queued}
 use Rattle.sv_queue.specs.Pairs.{is_pair}
 use Rattle.sv_queue.specs.Queue.{QueueView, IsUncommitted, last_position, entry_at, no_entry, place_of, with_entry, with_mark, with_given}
@@ -194,11 +194,11 @@ shape-marked v (p ∷ ps) s = shape-marked (with_mark v p s) ps s
 -- ---- Heads
 
 -- A head of a reply at a commit named to one session more.
-abbrev pub named_also : ℕ → List Held → ℕ → (ℕ → ℕ → List ℕ) → ℕ → ℕ → List ℕ
+abbrev pub named_also : ℕ → List ObjectValue → ℕ → (ℕ → ℕ → List ℕ) → ℕ → ℕ → List ℕ
 named_also s head c N t x = cond (nat_eq s t) (N t x ++ cond (names head x) (c ∷ []) []) (N t x)
 
 -- The pairs once a session was given a head.
-given-all-pair : (v : QueueView) (head : List Held) (s x t : ℕ) → x < v.shape.objects → t < 64 →
+given-all-pair : (v : QueueView) (head : List ObjectValue) (s x t : ℕ) → x < v.shape.objects → t < 64 →
     is_pair x t (given_all v head s).given ≡ (is_pair x t v.given || (nat_eq s t && names head x))
 given-all-pair v [] s x t low small = sym (ap (λ b. is_pair x t v.given || b) (and_right (nat_eq s t) false refl) ∙ or-false (is_pair x t v.given))
 given-all-pair v (o ∷ os) s x t low small =
@@ -214,7 +214,7 @@ given-all-pair v (o ∷ os) s x t low small =
     go true false false d = refl
     go false b c d = refl
 
-pub fits-given : (w : World) (A : List Authored) (R : ℕ → Option (List (List ℤ))) (S : ℕ → List ℕ) (N : ℕ → ℕ → List ℕ) (v : QueueView) (head : List Held) (s : ℕ) →
+pub fits-given : (w : World) (A : List Authored) (R : ℕ → Option (List (List ℤ))) (S : ℕ → List ℕ) (N : ℕ → ℕ → List ℕ) (v : QueueView) (head : List ObjectValue) (s : ℕ) →
     QueueFits w A R S N v → QueueFits w A R S (named_also s head v.commit N) (given_all v head s)
 fits-given w A R S N v head s f = record {
   shape = (same head v).0 ∙ f.shape;
@@ -228,7 +228,7 @@ fits-given w A R S N v head s f = record {
       ∙ ap (was_given (actions_in A) (S t) (named_also s head v.commit N t x) x) (sym (same head v).1.1.1.0);
 }
   where
-    same : (hs : List Held) (u : QueueView) → ((given_all u hs s).shape ≡ u.shape) × ((last_position (given_all u hs s) ≡ last_position u)
+    same : (hs : List ObjectValue) (u : QueueView) → ((given_all u hs s).shape ≡ u.shape) × ((last_position (given_all u hs s) ≡ last_position u)
         × (((given_all u hs s).committed ≡ u.committed) × (((given_all u hs s).commit ≡ u.commit) × ((k : ℕ) → entry_at (given_all u hs s) k ≡ entry_at u k))))
     same [] u = (refl, (refl, (refl, (refl, λ k. refl))))
     same (o ∷ os) u = same os (with_given u o.object.0 s)

@@ -10,7 +10,7 @@ use Rattle.sv_world.specs.Sets.{is_in_mask, at_mask}
 use Rattle.sv_world.proofs.Bases.{head_for-iff, below-is_in}
 use Rattle.sv_world.proofs.Members.{is_in-head, is_in-filter_parts}
 use Rattle.sv_world.proofs.Needs.{needed-bounds}
-use Rattle.sv_wire.specs.declared.message.Held.{Held}
+use Rattle.sv_wire.specs.declared.message.ObjectValue.{ObjectValue}
 use Rattle.sv_influence.specs.Lacking.{lacking, base_objects}
 use Rattle.sv_influence.proofs.Places.{all-members}
 use Rattle.sv_world.specs.declared.action.Action.{Action}
@@ -89,12 +89,12 @@ orphan-within h p rest is =
     (low, omega arith)
 
 -- Objects below a number, with their values.
-pub held-low : (v : QueueView) (n : ℕ) (xs : List ℕ) → All (λ x. x < n) xs → All (λ (x : Held). x.object.0 < n) (held_in v xs)
+pub held-low : (v : QueueView) (n : ℕ) (xs : List ℕ) → All (λ x. x < n) xs → All (λ (x : ObjectValue). x.object.0 < n) (held_in v xs)
 held-low v n xs all i d low =
     let lt : i < length xs = omega (arith, low, length-map xs (λ x. held x)) in
-    subst (λ (y : Held). y.object.0 < n) (sym (read_mapped (λ x. held x) xs i 0 d lt)) (all i 0 lt)
+    subst (λ (y : ObjectValue). y.object.0 < n) (sym (read_mapped (λ x. held x) xs i 0 d lt)) (all i 0 lt)
   where
-    held : ℕ → Held
+    held : ℕ → ObjectValue
     held x = record { object = record { 0 = x }; value = slice_index_or v.committed x [] }
 
 pub bases-below : (v : QueueView) (s p : ℕ) → All (λ x. x < v.shape.objects) (base_objects v s p)

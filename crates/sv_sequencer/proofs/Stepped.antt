@@ -2,7 +2,7 @@
 use Rattle.std.proofs.Common.{◌≡◌, ℕ, ◌<◌, ◌≤◌, false, true≢false, ℤ, List, [], ◌∷◌, map, reverse, All, Option, Result, Ok, Err, IfOk, OnErr, refl, sym, ◌∙◌, ap, subst, arith}
 use Rattle.std.proofs.lemmas.List.{reverse-append}
 use Rattle.sv_world.specs.declared.world.World.{World}
-use Rattle.sv_wire.specs.declared.message.Held.{Held}
+use Rattle.sv_wire.specs.declared.message.ObjectValue.{ObjectValue}
 use Rattle.sv_wire.specs.declared.message.Item.{Item}
 use Rattle.sv_wire.specs.declared.message.Reply.{Reply}
 use Rattle.sv_wire.specs.declared.message.Reply.TheVariants as replies
@@ -71,7 +71,7 @@ after-reply a core j s q d (Err error) is told done none = record {
 
 -- A relay in full, from what a fitting queue has at its positions.
 pub relayed-whole : (w : World) (A : List Authored) (R : ℕ → Option (List (List ℤ))) (S : ℕ → List ℕ) (N : ℕ → ℕ → List ℕ) (v : QueueView)
-    (seq c : ℕ) (head sent : List Held) (ps : List ℕ) (items : List Item) → QueueFits w A R S N v → sent ≡ head → items ≡ map (item_in v) ps → All (IsUncommitted v) ps →
+    (seq c : ℕ) (head sent : List ObjectValue) (ps : List ℕ) (items : List Item) → QueueFits w A R S N v → sent ≡ head → items ≡ map (item_in v) ps → All (IsUncommitted v) ps →
     replies.Relay seq c sent items ≡ full_reply A (logged.Relay seq c head ps)
 relayed-whole w A R S N v seq c head sent ps items f same are within =
     ap (λ xs. replies.Relay seq c xs items) same

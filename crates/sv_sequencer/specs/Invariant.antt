@@ -6,8 +6,8 @@ use Rattle.sv_sequencer.specs.Cores.{core_rules, Keeps}
 use Rattle.sv_sequencer.specs.Entering.{HasRoomForEnds}
 use Rattle.sv_sequencer.specs.Step.{SequencerView}
 
-abbrev pub view_of : Inside → SequencerView
-view_of a = record { rules = core_rules a.core; journal = a.journal }
+abbrev pub model_of : Inside → SequencerView
+model_of a = record { rules = core_rules a.core; journal = a.journal }
 
 -- The journal is legal, the core stands where its history leads, and it has room for the Ends to come.
 pub record IsSequencer (a : Inside) : Type 0 where

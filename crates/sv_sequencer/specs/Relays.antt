@@ -4,13 +4,13 @@ use Rattle.std.specs.List.{list_all}
 use Rattle.sv_world.specs.Control.{is_in, action_at}
 use Rattle.sv_world.specs.Sets.{write_set}
 use Rattle.sv_wire.specs.declared.message.Done1.{Done1}
-use Rattle.sv_wire.specs.declared.message.Held.{Held}
+use Rattle.sv_wire.specs.declared.message.ObjectValue.{ObjectValue}
 use Rattle.sv_wire.specs.declared.message.Item.{Item}
 use Rattle.sv_world.specs.Worlds.{HaveAttrs}
 use Rattle.sv_queue.specs.Queue.{QueueView, last_position, entry_at, queue_actions, sent_positions, with_mark, with_given, with_result}
 
 -- Objects with their committed values in a queue.
-abbrev pub held_in : QueueView → List ℕ → List Held
+abbrev pub held_in : QueueView → List ℕ → List ObjectValue
 held_in v xs = map (λ x. record { object = record { 0 = x }; value = slice_index_or v.committed x [] }) xs
 
 -- What a relay says of a position of a queue.
@@ -23,7 +23,7 @@ marked_all v [] s = v
 marked_all v (p ∷ ps) s = marked_all (with_mark v p s) ps s
 
 -- The queue once a session was given some objects.
-abbrev pub given_all : QueueView → List Held → ℕ → QueueView
+abbrev pub given_all : QueueView → List ObjectValue → ℕ → QueueView
 given_all v [] s = v
 given_all v (x ∷ xs) s = given_all (with_given v x.object.0 s) xs s
 

@@ -6,7 +6,7 @@ ghost use Rattle.sv_world.specs.Faults.{first_fault_of_action, IsGoodAction};
 ghost use Rattle.sv_world.specs.Limits.{most_sessions};
 ghost use Rattle.sv_queue.specs.Queue.{IsUncommitted, last_position, with_action};
 ghost use Rattle.sv_influence.specs.Lacking.{lacking, base_objects};
-ghost use Rattle.sv_wire.specs.declared.message.Held.{Held};
+ghost use Rattle.sv_wire.specs.declared.message.ObjectValue.{ObjectValue};
 ghost use Rattle.sv_wire.specs.declared.message.Reply.TheVariants as replies;
 ghost use Rattle.sv_wire.specs.declared.message.Request.TheVariants as requests;
 ghost use Rattle.sv_journal.specs.declared.entry.Logged.TheVariants as logged;
@@ -48,7 +48,7 @@ fn interest_of(request: &Request) -> &[ObjectId]
 }
 
 /// The results that a Done reports.
-pub fn results_of(request: &Request) -> &[Done1]
+pub fn reported_by(request: &Request) -> &[Done1]
     ensures { result.now ≡ results_in request.now }
 {
     match request {
@@ -109,7 +109,7 @@ fn relay_and_settle(
 /// Marks what a relay sends, and notes what it gives.
 fn deliver(queue: &mut Queue, relayed: &Relayed, session: u16)
     requires positions { All (IsUncommitted queue.old) relayed.now.positions }
-    requires objects { All (λ (x : Held). x.object.0 < queue.old.shape.objects) relayed.now.head }
+    requires objects { All (λ (x : ObjectValue). x.object.0 < queue.old.shape.objects) relayed.now.head }
     requires session { session < most_sessions }
     ensures { queue.new ≡ given_all (marked_all queue.old relayed.now.positions session) relayed.now.head session }
 {
@@ -154,7 +154,7 @@ fn send(
     relayed: Relayed,
 ) -> Answer
     requires positions { All (IsUncommitted queue.old) relayed.positions }
-    requires objects { All (λ (x : Held). x.object.0 < queue.old.shape.objects) relayed.head }
+    requires objects { All (λ (x : ObjectValue). x.object.0 < queue.old.shape.objects) relayed.head }
     requires session { session < most_sessions }
     requires count { length rows.old.items < 65536 }
     ensures queue { queue.new ≡ given_all (marked_all queue.old relayed.positions session) relayed.head session }
@@ -322,7 +322,7 @@ impl Core {
         ensures ok { IfOk result (CarriedOut self.old self.new h session request.now decisions.Note) }
         ensures err { OnErr result (Remained self.old self.new h) }
     {
-        let results = copy_missing(self.alloc, &self.queue, results_of(request))?;
+        let results = copy_missing(self.alloc, &self.queue, reported_by(request))?;
         set_reports(&mut self.queue, results);
         self.queue.install();
         let commit = self.queue.commit();

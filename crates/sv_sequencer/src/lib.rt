@@ -20,7 +20,7 @@ mod step;
 
 pub use answer::Answer;
 pub use decision::Decision;
-pub use deliver::results_of;
+pub use deliver::reported_by;
 pub use entering::{enter_end, enter_reply, open_core};
 pub use object::Opened;
 pub use sequencer::Sequencer;

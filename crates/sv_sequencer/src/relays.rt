@@ -2,7 +2,7 @@
 ghost use Rattle.std.specs.Prelude.{◌≡◌, ℕ, ◌<◌, ◌≤◌, [], ◌∷◌, map, length, All, IfOk};
 ghost use Rattle.sv_world.specs.declared.world.ObjectId.{ObjectId};
 ghost use Rattle.sv_world.specs.Limits.{most_sessions};
-ghost use Rattle.sv_wire.specs.declared.message.Held.{Held};
+ghost use Rattle.sv_wire.specs.declared.message.ObjectValue.{ObjectValue};
 ghost use Rattle.sv_queue.specs.Queue.{IsUncommitted};
 ghost use Rattle.sv_influence.specs.Lacking.{lacking, base_objects};
 ghost use Rattle.sv_sequencer.specs.Relays.{held_in, item_in, marked_all, given_all};
@@ -12,15 +12,15 @@ use std::marker::Brand;
 use std::sync::ledger::{Blank, Ledger};
 use sv_influence::closure;
 use sv_queue::{Queue, Steps};
-use sv_wire::{Held, Item, copy_head};
+use sv_wire::{ObjectValue, Item, copy_head};
 use sv_world::{List, ObjectId, copy_action, copy_value};
 
 /// What a relay of a position has, once for the journal and once for the reply.
 #[derive(Drop)]
 pub struct Relayed {
-    pub head: List<Held>,
+    pub head: List<ObjectValue>,
     pub positions: List<u32>,
-    pub sent_head: List<Held>,
+    pub sent_head: List<ObjectValue>,
     pub items: List<Item>,
 }
 
@@ -70,14 +70,14 @@ pub fn base_values(
     alloc: Global,
     queue: &Queue,
     objects: &[ObjectId],
-) -> Result<List<Held>, AllocError>
+) -> Result<List<ObjectValue>, AllocError>
     requires { All (λ (o : ObjectId). o.0 < queue.now.shape.objects) objects.now }
     ensures { IfOk result (λ head. head ≡ held_in queue.now (map (λ (o : ObjectId). o.0) objects.now)) }
 {
     let mut head = Vec::with_capacity(alloc, objects.len())?;
     for object in objects {
         let value = copy_value(alloc, queue.committed(*object))?;
-        head.push(Held {
+        head.push(ObjectValue {
             object: *object,
             value,
         })?;
@@ -135,8 +135,8 @@ pub fn mark_all(queue: &mut Queue, positions: &[u32], session: u16)
 }
 
 /// Notes that a session was given the objects of a head.
-pub fn give_all(queue: &mut Queue, head: &[Held], session: u16)
-    requires objects { All (λ (x : Held). x.object.0 < queue.old.shape.objects) head.now }
+pub fn give_all(queue: &mut Queue, head: &[ObjectValue], session: u16)
+    requires objects { All (λ (x : ObjectValue). x.object.0 < queue.old.shape.objects) head.now }
     requires session { session < most_sessions }
     ensures { queue.new ≡ given_all queue.old head.now session }
 {

@@ -31,9 +31,9 @@ impl Model for Sequencer {
 
     ghost coded = { Prim.hlevel (codes, entry.the_row.coded) };
 
-    ghost use Rattle.sv_sequencer.specs.Invariant.{view_of, IsSequencer};
+    ghost use Rattle.sv_sequencer.specs.Invariant.{model_of, IsSequencer};
 
-    ghost view = { view_of };
+    ghost view = { model_of };
 
     ghost invariant = { IsSequencer };
 }

@@ -10,7 +10,7 @@ ghost use Rattle.sv_play.specs.Opening.{OpeningCause};
 ghost use Rattle.sv_serve.specs.Giving.{doorway, kept_unserved, GaveAllBack, IsUnservedOf};
 
 use std::alloc::Global;
-use sv_door::{Door, Made};
+use sv_door::{Door, EndMade};
 use sv_link::Gate;
 use sv_lock::{Pass, SeqLock};
 use sv_play::{PlayFault, Service};
@@ -48,9 +48,9 @@ impl<'a, G: Gate> Host<'a, G> {
         ensures stays_sure { (p : ℕ) → D.sure door.old p → D.sure door.new p }
     {
         let end = match door.accept(self.port) {
-            Made::End(end) => end,
-            Made::Failed => return Err(PlayFault::Link),
-            Made::Memory => return Err(PlayFault::Memory),
+            EndMade::End(end) => end,
+            EndMade::Failed => return Err(PlayFault::Link),
+            EndMade::Memory => return Err(PlayFault::Memory),
         };
         Ok(Service {
             alloc: self.alloc,

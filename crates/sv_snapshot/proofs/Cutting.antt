@@ -13,7 +13,7 @@ use Rattle.sv_world.specs.declared.world.Shape.{Shape}
 use Rattle.sv_eval.specs.Serial.{serial_world}
 use Rattle.sv_versions.specs.Held.{Held, read_below}
 use Rattle.sv_pending.specs.Made.{ReadsWithin}
-use Rattle.sv_wire.specs.declared.message.Held.{Held as Sent}
+use Rattle.sv_wire.specs.declared.message.ObjectValue.{ObjectValue}
 use Rattle.sv_wire.specs.declared.message.Item.{Item}
 use Rattle.sv_wire.specs.declared.message.Reply.{Reply}
 use Rattle.sv_wire.specs.declared.message.Reply.TheVariants as replies
@@ -106,8 +106,8 @@ module _ (opening : List (List ℤ)) (A : List Action) where
       IsCoveredBy A held item → IsCut opening A (record { client = client; seq = seq; pos = item.pos; values = read_all_below held item.pos item.action.reads })
   taken_cut client seq held item l within serial covered = record {
     place = l;
-    objects = All-map (λ (v : Sent). v.object.0 < length opening) _ item.action.reads within;
-    values = All-map (λ (v : Sent). v.value ≡ slice_index_or (serial_world opening A (item.pos - 1)) v.object.0 []) _ item.action.reads
+    objects = All-map (λ (v : ObjectValue). v.object.0 < length opening) _ item.action.reads within;
+    values = All-map (λ (v : ObjectValue). v.value ≡ slice_index_or (serial_world opening A (item.pos - 1)) v.object.0 []) _ item.action.reads
         (All-from_recursion _ item.action.reads (all_at_place held item.pos item.action.reads l serial covered));
   }
 

@@ -4,7 +4,7 @@ use Rattle.std.specs.List.{AllByRecursion}
 use Rattle.std.proofs.lemmas.Bool.{and_parts, leb-false, lt-leb, ltb-true, or_parts, not-false, ltb-false}
 use Rattle.std.proofs.lemmas.List.Elements.{All-from_recursion, All-nil}
 use Rattle.sv_world.specs.Faults.{is_ascending}
-use Rattle.sv_wire.specs.declared.message.Held.{Held as Sent}
+use Rattle.sv_wire.specs.declared.message.ObjectValue.{ObjectValue as Sent}
 use Rattle.sv_wire.specs.declared.message.Item.{Item}
 use Rattle.sv_wire.specs.declared.message.Reply.{Reply}
 use Rattle.sv_wire.specs.declared.message.Reply.TheVariants as replies

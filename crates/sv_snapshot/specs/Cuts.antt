@@ -3,7 +3,7 @@ use Rattle.std.specs.Prelude.{◌≡◌, ◌-◌, ◌<◌, ℤ, List, [], length
 use Rattle.sv_world.specs.declared.action.Action.{Action}
 use Rattle.sv_world.specs.declared.world.Shape.{Shape}
 use Rattle.sv_eval.specs.Serial.{serial_world}
-use Rattle.sv_wire.specs.declared.message.Held.{Held as Sent}
+use Rattle.sv_wire.specs.declared.message.ObjectValue.{ObjectValue as Sent}
 use Rattle.sv_snapshot.specs.declared.snapshot.Snapshot.{Snapshot}
 
 -- Each value is the one that its object has in the serial world just before the snapshot's position, all at this one position.

@@ -7,7 +7,7 @@ use Rattle.sv_world.specs.declared.action.Point.{Point}
 use Rattle.sv_world.specs.declared.world.ClientId.{ClientId}
 use Rattle.sv_world.specs.declared.world.ObjectId.{ObjectId}
 use Rattle.sv_versions.specs.Held.{Held, read_below}
-use Rattle.sv_wire.specs.declared.message.Held.{Held as Sent}
+use Rattle.sv_wire.specs.declared.message.ObjectValue.{ObjectValue}
 use Rattle.sv_wire.specs.declared.message.Item.{Item}
 use Rattle.sv_wire.specs.declared.message.Reply.TheVariants as replies
 use Rattle.sv_client.specs.declared.trace.Event.{Event}
@@ -29,7 +29,7 @@ look_at objects origin = record { reads = objects; mask = 0; origin = origin; bo
 -- ---- Snapshots
 
 -- The values of objects below a position, where these values are held.
-abbrev pub read_all_below : List Held → ℕ → List ObjectId → List Sent
+abbrev pub read_all_below : List Held → ℕ → List ObjectId → List ObjectValue
 read_all_below held pos objects = map (λ (o : ObjectId). record { object = o; value = unwrap_or (read_below held o.0 pos) [] }) objects
 
 abbrev pub last_item : List Item → Option Item

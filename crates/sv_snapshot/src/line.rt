@@ -1,7 +1,7 @@
 //! The line that tells a snapshot.
 ghost use Rattle.std.specs.Prelude.{◌≡◌, ◌∷◌, ◌++◌, string_bytes, IfOk, OnOk};
 ghost use Rattle.std.specs.List.{flat_map};
-ghost use Rattle.sv_wire.specs.declared.message.Held.{Held};
+ghost use Rattle.sv_wire.specs.declared.message.ObjectValue.{ObjectValue};
 ghost use Rattle.sv_journal.specs.Pieces.{head_text, held_text, joined};
 ghost use Rattle.sv_snapshot.specs.Lines.{look_line};
 
@@ -9,11 +9,11 @@ use crate::snapshot::Snapshot;
 use std::alloc::{AllocError, Global};
 use sv_journal::append_held;
 use sv_watch::Line;
-use sv_wire::Held;
+use sv_wire::ObjectValue;
 use sv_world::Text;
 
-fn append_more(values: &[Held], text: &mut String) -> Result<(), AllocError>
-    ensures { OnOk result (string_bytes text.new ≡ string_bytes text.old ++ flat_map (λ (h : Held). 32 ∷ held_text h.object.0 h.value) values.now) }
+fn append_more(values: &[ObjectValue], text: &mut String) -> Result<(), AllocError>
+    ensures { OnOk result (string_bytes text.new ≡ string_bytes text.old ++ flat_map (λ (h : ObjectValue). 32 ∷ held_text h.object.0 h.value) values.now) }
 {
     for held in values {
         text.push_str(" ")?;
@@ -22,8 +22,8 @@ fn append_more(values: &[Held], text: &mut String) -> Result<(), AllocError>
     Ok(())
 }
 
-fn append_first(values: &[Held], text: &mut String) -> Result<(), AllocError>
-    ensures { OnOk result (string_bytes text.new ≡ string_bytes text.old ++ joined 32 (λ (h : Held). held_text h.object.0 h.value) values.now) }
+fn append_first(values: &[ObjectValue], text: &mut String) -> Result<(), AllocError>
+    ensures { OnOk result (string_bytes text.new ≡ string_bytes text.old ++ joined 32 (λ (h : ObjectValue). held_text h.object.0 h.value) values.now) }
 {
     let [first, rest @ ..] = values else {
         return Ok(());
@@ -33,7 +33,7 @@ fn append_first(values: &[Held], text: &mut String) -> Result<(), AllocError>
 }
 
 /// Appends values in square brackets, as `[0=(11) 1=(20)]`.
-fn append_values(values: &[Held], text: &mut String) -> Result<(), AllocError>
+fn append_values(values: &[ObjectValue], text: &mut String) -> Result<(), AllocError>
     ensures { OnOk result (string_bytes text.new ≡ string_bytes text.old ++ head_text values.now) }
 {
     text.push_str("[")?;

@@ -20,7 +20,7 @@ use std::alloc::{AllocError, Global};
 use sv_client::{Client, Event, Trace, View};
 use sv_report::do_again;
 use sv_system::{Played, replicas_equal_serial_execution};
-use sv_wire::{Held, Item, Reply};
+use sv_wire::{ObjectValue, Item, Reply};
 use sv_world::{List, ObjectId, Shape, Value, copy_objects, copy_value};
 
 /// The value of an object below a position. A client that took a relay holds one of each object that the last item reads.
@@ -46,7 +46,7 @@ fn values_below(
     client: &Client,
     objects: &[ObjectId],
     pos: u32,
-) -> Result<List<Held>, AllocError>
+) -> Result<List<ObjectValue>, AllocError>
     requires objects { AreWithin client.now.who.shape.objects objects.now }
     requires above { told client.now.events < pos }
     ensures { IfOk result (λ values. values ≡ read_all_below (held_of client.now.events) pos objects.now) }
@@ -54,7 +54,7 @@ fn values_below(
     let mut values = List::new(alloc);
     for object in objects {
         let value = value_below(alloc, client, *object, pos)?;
-        values.push(Held {
+        values.push(ObjectValue {
             object: *object,
             value,
         })?;

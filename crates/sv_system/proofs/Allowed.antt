@@ -16,7 +16,7 @@ use Rattle.sv_eval.proofs.Serials.{serial_shaped}
 use Rattle.sv_versions.specs.Held.{Held}
 use Rattle.sv_pending.specs.Pending.{PendingAction}
 use Rattle.sv_wire.specs.declared.message.Done1.{Done1}
-use Rattle.sv_wire.specs.declared.message.Held.{Held as Sent}
+use Rattle.sv_wire.specs.declared.message.ObjectValue.{ObjectValue}
 use Rattle.sv_wire.specs.declared.message.Item.{Item}
 use Rattle.sv_wire.specs.declared.message.Request.{Request}
 use Rattle.sv_wire.specs.declared.message.Request.TheVariants as requests
@@ -301,7 +301,7 @@ module _ (truthful : Truthful) where
       here : (j : ℕ) → j ≤ length (accepted (K.kept g)) → action_at (actions_of H) j ≡ action_at (actions_of (K.kept g)) j
       here j l = kept-action K keeps r H g earlier j (subst (λ (n : ℕ). j ≤ n) (ap length (accepted-kept K keeps g)) l)
 
-      relay-part : (q : Request) (seq commit : ℕ) (head : List Sent) (items : List Item) (t : List Event) → has_bad_item who (pending_of t) q (replies.Relay seq commit head items) ≡ false →
+      relay-part : (q : Request) (seq commit : ℕ) (head : List ObjectValue) (items : List Item) (t : List Event) → has_bad_item who (pending_of t) q (replies.Relay seq commit head items) ≡ false →
           allows q (replies.Relay seq commit head items) ≡ true → is_bad_relay who (pending_of t) q seq items ≡ false
       relay-part q seq commit head items t f kind = (or_parts (is_bad_head who.shape head) (is_bad_relay who (pending_of t) q seq items) f).1
 

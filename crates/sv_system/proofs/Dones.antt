@@ -12,7 +12,7 @@ use Rattle.sv_world.specs.declared.action.Action.{Action}
 use Rattle.sv_world.specs.declared.world.ObjectId.{ObjectId}
 use Rattle.sv_world.proofs.Members.{is_in-head, is_in-tail, is_in-append_left, is_in-append_right}
 use Rattle.sv_eval.specs.Serial.{values_at, serial_world}
-use Rattle.sv_eval.proofs.Outcomes.{outcome_counted, outcome_shaped}
+use Rattle.sv_eval.proofs.Effects.{effect_counted, effect_shaped}
 use Rattle.sv_eval.proofs.Serials.{serial_length}
 use Rattle.sv_versions.specs.Held.{Held, read_below}
 use Rattle.sv_wire.specs.declared.message.Done1.{Done1}
@@ -77,7 +77,7 @@ module _ (r : Rules) (H : List Entry) (count : length r.world.values ≡ r.world
       let a = action_at acts (suc n) in
       let world = serial_world r.world.values acts n in
       recursion_from_All (λ (v : List ℤ). length v ≡ r.world.shape.attrs) (serial_result r.world.values acts (suc n))
-      (outcome_shaped r.world.shape.attrs a (values_at world (read_set a)) (read-shaped world (world-shaped n) (read_set a)
+      (effect_shaped r.world.shape.attrs a (values_at world (read_set a)) (read-shaped world (world-shaped n) (read_set a)
       (subst (λ (m : ℕ). All (λ x. x < m) (read_set a)) (sym (serial_length r.world.values acts n)) (reads-below (suc n)))))
     where
       read-shaped : (world : List (List ℤ)) → All (λ (v : List ℤ). length v ≡ r.world.shape.attrs) world → (xs : List ℕ) → All (λ x. x < length world) xs → All (λ (v : List ℤ). length v ≡ r.world.shape.attrs) (values_at world xs)
@@ -97,7 +97,7 @@ module _ (r : Rules) (H : List Entry) (count : length r.world.values ≡ r.world
       let a = action_at (actions_of g) k in
       let action : (item_at A k).action ≡ a = item-action A k ∙ here k high in
       let size : length values ≡ length (write_set a) =
-      outcome_counted (item_at A k).action (map (λ x. unwrap_or (read_below held x k) []) (read_set (item_at A k).action))
+      effect_counted (item_at A k).action (map (λ x. unwrap_or (read_below held x k) []) (read_set (item_at A k).action))
       (length-map (read_set (item_at A k).action) (λ x. unwrap_or (read_below held x k) []) ∙ length-map (item_at A k).action.reads (λ (o : ObjectId). o.0))
       ∙ ap (λ (c : Action). length (write_set c)) action in
       let long : list_all (λ (v : List ℤ). length v == r.world.shape.attrs) values ≡ true =

@@ -11,7 +11,7 @@ use Rattle.sv_world.specs.declared.world.ObjectId.{ObjectId}
 use Rattle.sv_world.proofs.Bases.{head_for-iff}
 use Rattle.sv_world.proofs.Good.{none_of_good}
 use Rattle.sv_world.proofs.Members.{is_in-head, is_in-tail}
-use Rattle.sv_wire.specs.declared.message.Held.{Held as Sent}
+use Rattle.sv_wire.specs.declared.message.ObjectValue.{ObjectValue as Sent}
 use Rattle.sv_wire.specs.declared.message.Item.{Item}
 use Rattle.sv_wire.specs.declared.message.Request.{Request}
 use Rattle.sv_wire.specs.declared.message.Request.TheVariants as requests

@@ -14,9 +14,9 @@ use Rattle.sv_world.specs.declared.world.ObjectId.{ObjectId}
 use Rattle.sv_world.proofs.Members.{is_in-head, is_in-tail, is_in-cons_cases}
 use Rattle.sv_world.proofs.Ascending.{ascending-tail, ascending-head}
 use Rattle.sv_world.proofs.Writers.{last_writer-writes}
-use Rattle.sv_eval.specs.Evaluation.{outcome_of}
+use Rattle.sv_eval.specs.Evaluation.{effect_of}
 use Rattle.sv_eval.specs.Serial.{values_at, put_all, serial_world}
-use Rattle.sv_eval.proofs.Outcomes.{outcome_counted}
+use Rattle.sv_eval.proofs.Effects.{effect_counted}
 use Rattle.sv_eval.proofs.Serials.{serial_length}
 use Rattle.sv_versions.specs.Held.{Held, read_below}
 use Rattle.sv_wire.specs.declared.message.Item.{Item}
@@ -60,7 +60,7 @@ held_at-has pos (y ∷ ys) (v ∷ vs) x e m =
 pub item-has : (held : List Held) (item : Item) (x : ℕ) → is_in x (write_set item.action) ≡ true → is_held x item.pos (item_held held item) ≡ true
 item-has held item x m =
     held_at-has item.pos (write_set item.action) (item_result held item) x
-    (outcome_counted item.action (map (λ y. unwrap_or (read_below held y item.pos) []) (read_set item.action))
+    (effect_counted item.action (map (λ y. unwrap_or (read_below held y item.pos) []) (read_set item.action))
     (length-map (read_set item.action) (λ y. unwrap_or (read_below held y item.pos) []) ∙ length-map item.action.reads (λ (o : ObjectId). o.0)))
     m
 
@@ -109,15 +109,15 @@ module _ (objects : ℕ) (opening : List (List ℤ)) (count : length opening ≡
   results-serial : (held : List Held) (k : ℕ) → AreSerial opening (actions_in A) held →
       AllByRecursion (λ x. is_covered x (last_writer (actions_in A) x k) k held ≡ true) (read_set (action_at (actions_in A) k)) →
       AreSerial opening (actions_in A) (held_at k (write_set (action_at (actions_in A) k))
-      (outcome_of (action_at (actions_in A) k) (map (λ x. unwrap_or (read_below held x k) []) (read_set (action_at (actions_in A) k)))).writes)
+      (effect_of (action_at (actions_in A) k) (map (λ x. unwrap_or (read_below held x k) []) (read_set (action_at (actions_in A) k)))).writes)
   results-serial held zero serial covered = tt
   results-serial held (suc n) serial covered =
       let acts = actions_in A in
       let a = action_at acts (suc n) in
       let world = serial_world opening acts n in
       put-serial opening acts (suc n) world (write_set a)
-      (outcome_of a (map (λ x. unwrap_or (read_below held x (suc n)) []) (read_set a))).writes
-      (serial-step opening acts n ∙ ap (λ (vs : List (List ℤ)). put_all world (write_set a) (outcome_of a vs).writes) (sym (reads-serial held n (read_set a) serial covered)))
+      (effect_of a (map (λ x. unwrap_or (read_below held x (suc n)) []) (read_set a))).writes
+      (serial-step opening acts n ∙ ap (λ (vs : List (List ℤ)). put_all world (write_set a) (effect_of a vs).writes) (sym (reads-serial held n (read_set a) serial covered)))
       (at_mask-ascending a.mask 0 (read_set a) (plain (suc n)).0)
       (each-member (λ (x : ℕ). x < length world) (write_set a)
       (λ x m. subst (λ (l : ℕ). x < l) (sym (serial_length opening acts n ∙ count))
@@ -128,7 +128,7 @@ module _ (objects : ℕ) (opening : List (List ℤ)) (count : length opening ≡
       IsSupplied (actions_in A) held (item_at A k) × AreSerial opening (actions_in A) (item_held held (item_at A k))
   item-serial held k serial covered =
       subst (λ (a : Action). All (λ x. is_covered x (last_writer (actions_in A) x k) k held ≡ true) (read_set a)
-      × AreSerial opening (actions_in A) (held_at k (write_set a) (outcome_of a (map (λ x. unwrap_or (read_below held x k) []) (read_set a))).writes))
+      × AreSerial opening (actions_in A) (held_at k (write_set a) (effect_of a (map (λ x. unwrap_or (read_below held x k) []) (read_set a))).writes))
       (sym (item-action A k)) (
         All-from_recursion (λ x. is_covered x (last_writer (actions_in A) x k) k held ≡ true) (read_set (action_at (actions_in A) k)) covered,
         results-serial held k serial covered,

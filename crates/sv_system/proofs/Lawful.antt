@@ -13,7 +13,7 @@ use Rattle.sv_world.proofs.Members.{is_in-head, is_in-tail, is_in-append_cases}
 use Rattle.sv_world.proofs.Writers.{last_writer-same}
 use Rattle.sv_world.proofs.Needs.{needed-sent, needed-bounds}
 use Rattle.sv_eval.specs.Serial.{put_all, serial_world}
-use Rattle.sv_wire.specs.declared.message.Held.{Held as Sent}
+use Rattle.sv_wire.specs.declared.message.ObjectValue.{ObjectValue as Sent}
 use Rattle.sv_journal.specs.declared.entry.Entry.{Entry}
 use Rattle.sv_journal.specs.declared.entry.Logged.{Logged}
 use Rattle.sv_journal.specs.declared.entry.Logged.TheVariants as logged

@@ -12,7 +12,7 @@ use Rattle.sv_world.proofs.Members.{is_in-head}
 use Rattle.sv_world.proofs.Needs.{needed-ascending, needed-bounds}
 use Rattle.sv_world.proofs.Bases.{head_for-ascending}
 use Rattle.sv_versions.specs.Held.{Held, read_below}
-use Rattle.sv_wire.specs.declared.message.Held.{Held as Sent}
+use Rattle.sv_wire.specs.declared.message.ObjectValue.{ObjectValue}
 use Rattle.sv_wire.specs.declared.message.Item.{Item}
 use Rattle.sv_wire.specs.declared.message.Reply.{Reply}
 use Rattle.sv_wire.specs.declared.message.Reply.TheVariants as replies
@@ -117,7 +117,7 @@ module _ (awaited : Awaited) where
   not-back : (c : ℕ) → commit_of (K.kept g) ≤ c → goes_back (Some c) (told whole) ≡ false
   not-back c l = le-ltb c (told whole) (let t : told whole ≤ commit_of (K.kept g) = told-least in omega arith)
 
-  relay-ordered : (seq commit : ℕ) (head : List Sent) (positions : List ℕ) → IsLegalRelay K r e g commit head positions → is_out_of_order whole (full_reply A (logged.Relay seq commit head positions)) ≡ false
+  relay-ordered : (seq commit : ℕ) (head : List ObjectValue) (positions : List ℕ) → IsLegalRelay K r e g commit head positions → is_out_of_order whole (full_reply A (logged.Relay seq commit head positions)) ≡ false
   relay-ordered seq commit head positions t =
       let xs = head_for r.world.shape.objects (actions_of (e ∷ g)) (commit_of (K.kept g)) (sent_to g e.session) (already_given r.world.shape.objects (K.kept g) e.session) t.target in
       let needed = needed_for (actions_of (e ∷ g)) (commit_of (K.kept g)) (sent_to g e.session) t.target in
@@ -132,7 +132,7 @@ module _ (awaited : Awaited) where
       (λ k m. subst (λ (n : ℕ). n < k) (sym c) (needed-bounds (actions_of (e ∷ g)) (commit_of (K.kept g)) (sent_to g e.session) t.target t.above k (subst (λ (ks : List ℕ). is_in k ks ≡ true) t.positions_are m)).0))
       (not-back commit (omega arith))
 
-  welcome-ordered : (commit : ℕ) (head : List Sent) → IsWelcomeReply K r g e.session e.request commit head → e.reply ≡ logged.Welcome commit head → is_out_of_order whole (replies.Welcome commit head) ≡ false
+  welcome-ordered : (commit : ℕ) (head : List ObjectValue) → IsWelcomeReply K r g e.session e.request commit head → e.reply ≡ logged.Welcome commit head → is_out_of_order whole (replies.Welcome commit head) ≡ false
   welcome-ordered commit head t is =
       let w = join-welcomed awaited t.client t.life t.interest t.request in
       let xs = map (λ (o : ObjectId). o.0) L.interest in

@@ -5,7 +5,7 @@ use Rattle.sv_world.specs.Control.{is_in, blank}
 use Rattle.sv_world.specs.declared.action.Action.{Action}
 use Rattle.sv_world.proofs.Needs.{needed-sent, needed-ends}
 use Rattle.sv_pending.specs.Pending.{PendingAction}
-use Rattle.sv_wire.specs.declared.message.Held.{Held as Sent}
+use Rattle.sv_wire.specs.declared.message.ObjectValue.{ObjectValue as Sent}
 use Rattle.sv_wire.specs.declared.message.Request.TheVariants as requests
 use Rattle.sv_journal.specs.declared.entry.Entry.{Entry}
 use Rattle.sv_journal.specs.declared.entry.Logged.TheVariants as logged

@@ -12,7 +12,7 @@ use Rattle.sv_world.proofs.Writers.{last_writer-below, last_writer-writes, last_
 use Rattle.sv_world.proofs.Needs.{needed-ascending, needed-bounds, needed-agree, needed-closed_writer}
 use Rattle.sv_world.proofs.Bases.{head_for-agree, head_for-iff}
 use Rattle.sv_versions.specs.Held.{Held}
-use Rattle.sv_wire.specs.declared.message.Held.{Held as Sent}
+use Rattle.sv_wire.specs.declared.message.ObjectValue.{ObjectValue}
 use Rattle.sv_client.specs.Traces.{head_held}
 use Rattle.sv_system.specs.Serial.{is_covered}
 use Rattle.sv_system.specs.Delivery.{Delivery, told_positions, head_objects, told_commits, known_at, known_values, IsRelayed}
@@ -30,7 +30,7 @@ any-number p (x ∷ xs) h =
       | inr r ↦ (let q = any-number p xs r in (q.0, (is_in-tail q.0 x xs q.1.0, q.1.1)))
     ]
 
-pub head-has : (commit : ℕ) (head : List Sent) (x : ℕ) → is_in x (head_objects head) ≡ true → is_held x commit (head_held commit head) ≡ true
+pub head-has : (commit : ℕ) (head : List ObjectValue) (x : ℕ) → is_in x (head_objects head) ≡ true → is_held x commit (head_held commit head) ≡ true
 head-has commit [] x m = cc
 head-has commit (v ∷ vs) x m =
     elim (is_in-cons_cases x v.object.0 (head_objects vs) m) [

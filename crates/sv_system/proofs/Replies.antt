@@ -10,7 +10,7 @@ use Rattle.sv_world.specs.Control.{is_in, needed_for, head_for, chain_length}
 use Rattle.sv_world.specs.Faults.{first_fault_of_action}
 use Rattle.sv_world.proofs.Members.{is_in-head}
 use Rattle.sv_wire.specs.declared.message.Done1.{Done1}
-use Rattle.sv_wire.specs.declared.message.Held.{Held}
+use Rattle.sv_wire.specs.declared.message.ObjectValue.{ObjectValue}
 use Rattle.sv_wire.specs.declared.message.Request.{Request}
 use Rattle.sv_wire.specs.declared.message.Request.TheVariants as requests
 use Rattle.sv_journal.specs.declared.entry.Entry.{Entry}
@@ -39,7 +39,7 @@ RelayKind K r h s k q i =
     ⊎ ((q ≡ requests.Poll) × (is_in i (K.due h s) ≡ true))
 
 -- A relay answers a client of the session: it is the relay of some position above the commit, among the actions with the new one.
-pub record IsRelayReply (K : Keeping) (r : Rules) (h : List Entry) (s : ℕ) (q : Request) (commit : ℕ) (head : List Held) (positions : List ℕ) : Type 0 where
+pub record IsRelayReply (K : Keeping) (r : Rules) (h : List Entry) (s : ℕ) (q : Request) (commit : ℕ) (head : List ObjectValue) (positions : List ℕ) : Type 0 where
   pub client : ℕ
   pub joined : client_of h s ≡ Some client
   pub checked : AllByRecursion (λ a. first_fault_of_action r.world.shape a ≡ None) (new_of h s q)
@@ -53,7 +53,7 @@ pub record IsRelayReply (K : Keeping) (r : Rules) (h : List Entry) (s : ℕ) (q 
       (already_given r.world.shape.objects (K.kept h) s) target)
 
 -- A welcome answers a Join of a greater life, in a session that was not joined before.
-pub record IsWelcomeReply (K : Keeping) (r : Rules) (h : List Entry) (s : ℕ) (q : Request) (commit : ℕ) (head : List Held) : Type 0 where
+pub record IsWelcomeReply (K : Keeping) (r : Rules) (h : List Entry) (s : ℕ) (q : Request) (commit : ℕ) (head : List ObjectValue) : Type 0 where
   pub client : ClientId
   pub life : ℕ
   pub interest : List ObjectId
@@ -65,7 +65,7 @@ pub record IsWelcomeReply (K : Keeping) (r : Rules) (h : List Entry) (s : ℕ) (
   pub head_is : head ≡ committed_held r (K.kept h) (map (λ (o : ObjectId). o.0) interest)
 
 -- The head of a welcome.
-abbrev pub logged_head : Logged → List Held
+abbrev pub logged_head : Logged → List ObjectValue
 logged_head (logged.Welcome commit head) = head
 logged_head _ = []
 

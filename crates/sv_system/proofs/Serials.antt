@@ -9,7 +9,7 @@ use Rattle.sv_world.specs.Sets.{read_set, write_set}
 use Rattle.sv_world.specs.declared.action.Action.{Action}
 use Rattle.sv_world.proofs.Ascending.{ascending-tail, ascending-head}
 use Rattle.sv_world.proofs.Writers.{last_writer-unwritten}
-use Rattle.sv_eval.specs.Evaluation.{outcome_of}
+use Rattle.sv_eval.specs.Evaluation.{effect_of}
 use Rattle.sv_eval.specs.Serial.{values_at, put_all, world_after, world_after_some, serial_world}
 use Rattle.sv_eval.proofs.Serials.{put_all_elsewhere}
 use Rattle.sv_client.specs.Traces.{held_at}
@@ -31,7 +31,7 @@ module _ (opening : List (List ℤ)) (A : List Action) where
       let a = action_at A (suc p) in
       let world = serial_world opening A p in
       ap (λ (w : List (List ℤ)). slice_index_or w x []) (serial-step p)
-      ∙ put_all_elsewhere world (write_set a) (outcome_of a (values_at world (read_set a))).writes x e
+      ∙ put_all_elsewhere world (write_set a) (effect_of a (values_at world (read_set a))).writes x e
 
   serial-stays : (x low p : ℕ) → low ≤ p → ((k : ℕ) → low < k → k ≤ p → is_in x (write_set (action_at A k)) ≡ false) →
       slice_index_or (serial_world opening A p) x [] ≡ slice_index_or (serial_world opening A low) x []

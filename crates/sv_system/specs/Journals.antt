@@ -4,7 +4,7 @@ use Rattle.std.specs.Prelude.{◌≡◌, ℕ, zero, suc, ◌<◌, ℤ, List, [],
 use Rattle.sv_world.specs.declared.action.Action.{Action}
 use Rattle.sv_world.specs.Control.{action_at}
 use Rattle.sv_world.specs.Sets.{read_set}
-use Rattle.sv_eval.specs.Evaluation.{outcome_of}
+use Rattle.sv_eval.specs.Evaluation.{effect_of}
 use Rattle.sv_eval.specs.Serial.{values_at, serial_world}
 use Rattle.sv_wire.specs.declared.message.Done1.{Done1}
 use Rattle.sv_journal.specs.declared.entry.Entry.{Entry}
@@ -29,7 +29,7 @@ deliveries_of (e ∷ h) = delivery_by e.session (length (accepted (e ∷ h))) e.
 abbrev pub serial_result : List (List ℤ) → List Action → ℕ → List (List ℤ)
 serial_result opening A zero = []
 serial_result opening A (suc p) =
-    (outcome_of (action_at A (suc p)) (values_at (serial_world opening A p) (read_set (action_at A (suc p))))).writes
+    (effect_of (action_at A (suc p)) (values_at (serial_world opening A p) (read_set (action_at A (suc p))))).writes
 
 -- A reported result is that of the serial execution at its position.
 abbrev pub IsSerialResult : List (List ℤ) → List Action → Done1 → Type 0

@@ -1,7 +1,7 @@
 //! Honest clients are never refused.
 ghost use Rattle.std.specs.Prelude.{◌≡◌, ◌≤◌, ℕ, List, length, reverse, slice_get, Some, []};
 ghost use Rattle.sv_world.specs.Limits.{most_requests};
-ghost use Rattle.sv_wire.specs.declared.message.Held.{Held};
+ghost use Rattle.sv_wire.specs.declared.message.ObjectValue.{ObjectValue};
 ghost use Rattle.sv_wire.specs.declared.message.Item.{Item};
 ghost use Rattle.sv_wire.specs.declared.message.Reply.TheVariants.{Relay};
 ghost use Rattle.sv_journal.specs.declared.entry.Entry.{Entry};
@@ -21,7 +21,7 @@ ghost use Rattle.sv_system.specs.Laws.{NeverRefused};
 /// session `s`.
 pub fn honest_clients_are_never_refused()
     ensures faults { NeverRefused }
-    ensures items { (r : Rules) (h : List Entry) (Ls : List Trace) (i : ℕ) (L : Trace) (s seq commit : ℕ) (head : List Held) (items : List Item) →
+    ensures items { (r : Rules) (h : List Entry) (Ls : List Trace) (i : ℕ) (L : Trace) (s seq commit : ℕ) (head : List ObjectValue) (items : List Item) →
         Legal r h → Fits r.world.shape h Ls → slice_get Ls i ≡ Some L →
         current_session (reverse L.events) ≡ Some s → length (requests_of L s) ≤ most_requests →
         slice_get (replies_in (accepted h) h s) (length (got (reverse L.events) s)) ≡ Some (Relay seq commit head items) → items ≡ [] → ⊥ }

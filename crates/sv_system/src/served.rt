@@ -5,7 +5,7 @@ ghost use Rattle.sv_world.specs.Faults.{IsGoodAction};
 ghost use Rattle.sv_world.specs.Limits.{most_bound, most_requests};
 ghost use Rattle.sv_eval.specs.Serial.{serial_world};
 ghost use Rattle.sv_wire.specs.declared.message.Done1.{Done1};
-ghost use Rattle.sv_wire.specs.declared.message.Held.{Held};
+ghost use Rattle.sv_wire.specs.declared.message.ObjectValue.{ObjectValue};
 ghost use Rattle.sv_wire.specs.declared.message.Item.{Item};
 ghost use Rattle.sv_wire.specs.declared.message.Reply.{Reply};
 ghost use Rattle.sv_wire.specs.declared.message.Reply.TheVariants.{Relay};
@@ -78,7 +78,7 @@ pub fn served_clients_are_never_refused()
         current_session (reverse L.events) ≡ Some s → length (requests_of L s) ≤ most_requests →
         slice_get (replies_in (accepted h) h s) (length (got (reverse L.events) s)) ≡ Some reply →
         first_fault_of_reply (identity_of r.world.shape L) (reverse L.events) reply ≡ None }
-    ensures items { (k : Keeping) (r : Rules) (h : List Entry) (L : Trace) (s seq commit : ℕ) (head : List Held) (items : List Item) → IsKeeping k →
+    ensures items { (k : Keeping) (r : Rules) (h : List Entry) (L : Trace) (s seq commit : ℕ) (head : List ObjectValue) (items : List Item) → IsKeeping k →
         LegalFor k r h → FitsButValues r.world.shape h L → OwnsSessions h L →
         current_session (reverse L.events) ≡ Some s → length (requests_of L s) ≤ most_requests →
         slice_get (replies_in (accepted h) h s) (length (got (reverse L.events) s)) ≡ Some (Relay seq commit head items) → items ≡ [] → ⊥ }

@@ -5,7 +5,7 @@ ghost use Rattle.sv_versions.specs.Undone.{undone};
 
 use crate::crowded::{keep_crowded, list_object, prune_each};
 use crate::history::History;
-use crate::undo::{Change, Undo};
+use crate::undo::{Replaced, Undo};
 use std::alloc::{AllocError, Global};
 use std::marker::Model;
 use sv_world::{ObjectId, Shape, Value};
@@ -117,7 +117,7 @@ impl Versions {
         ensures undone { undone undo.new self.new.held ≡ undone undo.old self.old.held }
     {
         let was = self.replace(object, pos, value)?;
-        if let Err(failed) = undo.changes.push(Change { object, pos, was }) {
+        if let Err(failed) = undo.changes.push(Replaced { object, pos, was }) {
             self.restore(failed.value);
             return Err(AllocError);
         }
@@ -142,7 +142,7 @@ impl Versions {
         keep_crowded(&mut self.crowded, &self.histories);
     }
 
-    fn restore(&mut self, change: Change)
+    fn restore(&mut self, change: Replaced)
         ensures { self.new ≡ record self.old { held = restored change.object.0 change.pos change.was self.old.held } }
     {
         let index = change.object.0 as usize;

@@ -5,7 +5,7 @@ use sv_world::{ObjectId, Value};
 
 /// What a put changed: at this position of the object another value stood before, or none.
 #[derive(Debug, Drop)]
-pub struct Change {
+pub struct Replaced {
     pub object: ObjectId,
     pub pos: u32,
     pub was: Option<Value>,
@@ -16,14 +16,14 @@ pub struct Change {
 /// Contracts see the changes, the latest first.
 #[derive(Debug, Drop)]
 pub struct Undo {
-    pub(crate) changes: Vec<Change>,
+    pub(crate) changes: Vec<Replaced>,
 }
 
 impl Model for Undo {
     ghost use Rattle.std.specs.Prelude.{List, reverse};
-    ghost use Rattle.sv_versions.specs.declared.undo.Change.{Change};
+    ghost use Rattle.sv_versions.specs.declared.undo.Replaced.{Replaced};
 
-    ghost Value = { List Change };
+    ghost Value = { List Replaced };
 
     ghost view = { λ u. reverse u.changes.items };
 }

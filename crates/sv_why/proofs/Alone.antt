@@ -8,7 +8,7 @@ use Rattle.sv_world.specs.declared.action.Action.{Action}
 use Rattle.sv_world.specs.Control.{is_in, action_at}
 use Rattle.sv_world.specs.Sets.{read_set, write_set}
 use Rattle.sv_world.proofs.Members.{is_in-head, is_in-tail}
-use Rattle.sv_eval.specs.Evaluation.{outcome_of}
+use Rattle.sv_eval.specs.Evaluation.{effect_of}
 use Rattle.sv_eval.specs.Serial.{values_at, put_all, world_after, world_after_some, serial_world}
 use Rattle.sv_eval.proofs.Serials.{put_all_elsewhere, serial_length}
 use Rattle.sv_system.proofs.Serials.{after_at}
@@ -101,13 +101,13 @@ walk-agrees opening A (suc n) p x h =
     let values : values_at part rs ≡ values_at old rs = agree-values part old rs (λ y m. taken y (or_left (is_in y rs) (p y) m)) in
     let count : length part ≡ length old = serial_length opening (map (action_at A) (walk A n more)) (length (walk A n more)) ∙ sym (serial_length opening A n) in
     ap (λ (world : List (List ℤ)). get_or world x []) (by-push opening A (walk A n more) (suc n))
-    ∙ ap (λ (vs : List (List ℤ)). get_or (put_all part ws (outcome_of a vs).writes) x []) values
-    ∙ agree-put part old ws (outcome_of a (values_at old rs)).writes x count (taken x (or_right (is_in x rs) (p x) h))
+    ∙ ap (λ (vs : List (List ℤ)). get_or (put_all part ws (effect_of a vs).writes) x []) values
+    ∙ agree-put part old ws (effect_of a (values_at old rs)).writes x count (taken x (or_right (is_in x rs) (p x) h))
     ∙ sym (ap (λ (world : List (List ℤ)). get_or world x []) step))
     (λ t.
     let out : is_in x ws ≡ false = false_from_ne_true (is_in x ws) (λ m. let u : list_any p ws ≡ true = any_from p x ws m h in cc) in
     left
-    ∙ sym (put_all_elsewhere old ws (outcome_of a (values_at old rs)).writes x out)
+    ∙ sym (put_all_elsewhere old ws (effect_of a (values_at old rs)).writes x out)
     ∙ sym (ap (λ (world : List (List ℤ)). get_or world x []) step))
 
 -- The actions that a value comes from give it alone.

@@ -11,7 +11,7 @@ use Rattle.byteorder.specs.Endian.{big_bytes}
 use Rattle.byteorder.specs.Numbers.{big_number-reads_back, length-bytes_high_first}
 use Rattle.sv_world.specs.Faults.{is_ascending}
 use Rattle.sv_world.specs.declared.world.ObjectId.{ObjectId}
-use Rattle.sv_wire.specs.declared.message.Held.{Held}
+use Rattle.sv_wire.specs.declared.message.ObjectValue.{ObjectValue}
 use Rattle.sv_wire.specs.declared.message.Done1.{Done1}
 use Rattle.sv_wire.specs.Steps.{Read, Turn, several, in_turn}
 use Rattle.sv_wire.specs.Fields.{byte_from, number_from, int_from, count_from, head_count_from, object_from, objects_from, value_from, held_from, helds_from, head_from, result_from}
@@ -98,7 +98,7 @@ unfolding value_from
 value_again v rest is fits =
     rw (count_again 1 4 (length v) (flat_map (int_bytes w64) v ++ rest) is.0 is.1) (several_again (int_from w64) (int_bytes w64) (SFits w64) int64_again v rest fits)
 
-pub held_again : (least : ℕ) (h : Held) (rest : List ℕ) → least ≤ h.object.0 → IsWireValue h.value × HeldFits h → held_from least (held_bytes h ++ rest) ≡ Ok (h, h.object.0 + 1, rest)
+pub held_again : (least : ℕ) (h : ObjectValue) (rest : List ℕ) → least ≤ h.object.0 → IsWireValue h.value × HeldFits h → held_from least (held_bytes h ++ rest) ≡ Ok (h, h.object.0 + 1, rest)
 unfolding held_from
 held_again least h rest le fits =
     let regrouped : held_bytes h ++ rest ≡ object_bytes h.object ++ (value_bytes h.value ++ rest) = append_assoc (object_bytes h.object) (value_bytes h.value) rest in
@@ -109,13 +109,13 @@ pub both_of_each : {A : Type 0} (P Q : A → Type 0) (xs : List A) → AllByRecu
 both_of_each P Q [] p q = tt
 both_of_each P Q (x ∷ xs) p q = ((p.0, q.0), both_of_each P Q xs p.1 q.1)
 
-pub head_again : (head : List Held) (rest : List ℕ) → IsWireHead head → AllByRecursion HeldFits head → head_from (head_bytes head ++ rest) ≡ Ok (head, rest)
+pub head_again : (head : List ObjectValue) (rest : List ℕ) → IsWireHead head → AllByRecursion HeldFits head → head_from (head_bytes head ++ rest) ≡ Ok (head, rest)
 unfolding head_from helds_from head_count_from
 head_again head rest is fits =
     let regrouped : head_bytes head ++ rest ≡ big_bytes 2 (length head) ++ (flat_map held_bytes head ++ rest) = append_assoc (big_bytes 2 (length head)) (flat_map held_bytes head) rest in
-    let each = both_of_each (λ (h : Held). IsWireValue h.value) HeldFits head (recursion_from_All (λ (h : Held). IsWireValue h.value) head is.values) fits in
+    let each = both_of_each (λ (h : ObjectValue). IsWireValue h.value) HeldFits head (recursion_from_All (λ (h : ObjectValue). IsWireValue h.value) head is.values) fits in
     let few : ltb 528 (length head) ≡ false = le-ltb 528 (length head) is.few in
-    let turns = in_turn_again held_from held_bytes (λ (h : Held). h.object.0) (λ h. IsWireValue h.value × HeldFits h) held_again 0 head rest (climbs (λ (h : Held). h.object.0) head is.ascending) each in
+    let turns = in_turn_again held_from held_bytes (λ (h : ObjectValue). h.object.0) (λ h. IsWireValue h.value × HeldFits h) held_again 0 head rest (climbs (λ (h : ObjectValue). h.object.0) head is.ascending) each in
     ap head_from regrouped ∙ rw (number_again 2 (length head) (flat_map held_bytes head ++ rest) (omega (arith, is.few)), few, turns) refl
 
 pub result_again : (r : Done1) (rest : List ℕ) → IsWireResult r × ResultFits r → result_from (result_bytes r ++ rest) ≡ Ok (r, rest)

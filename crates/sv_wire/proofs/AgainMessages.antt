@@ -9,7 +9,7 @@ use Rattle.byteorder.specs.Endian.{big_bytes}
 use Rattle.sv_world.specs.declared.action.Action.{Action}
 use Rattle.sv_world.specs.declared.action.Point.{Point}
 use Rattle.sv_wire.specs.declared.fault.Stop.{Stop}
-use Rattle.sv_wire.specs.declared.message.Held.{Held}
+use Rattle.sv_wire.specs.declared.message.ObjectValue.{ObjectValue}
 use Rattle.sv_wire.specs.declared.message.Item.{Item}
 use Rattle.sv_wire.specs.declared.message.Request.{Request}
 use Rattle.sv_wire.specs.declared.message.Request.TheVariants.{Join, Submit, Done, Poll, Leave, Bad, End}
@@ -99,11 +99,11 @@ request_again Leave rest is fits = refl
 request_again Bad rest is fits = absurd is
 request_again End rest is fits = absurd is
 
-welcome_again : (commit : ℕ) (head : List Held) (rest : List ℕ) → IsWireHead head → commit < 2 ^ 32 → AllByRecursion HeldFits head → welcome_from (big_bytes 4 commit ++ (head_bytes head ++ rest)) ≡ Ok (Welcome commit head, rest)
+welcome_again : (commit : ℕ) (head : List ObjectValue) (rest : List ℕ) → IsWireHead head → commit < 2 ^ 32 → AllByRecursion HeldFits head → welcome_from (big_bytes 4 commit ++ (head_bytes head ++ rest)) ≡ Ok (Welcome commit head, rest)
 unfolding welcome_from
 welcome_again commit head rest is lt fits = rw (number_again 4 commit (head_bytes head ++ rest) (omega arith), head_again head rest is fits) refl
 
-relay_again : (seq commit : ℕ) (head : List Held) (items : List Item) (rest : List ℕ) → IsWireReply (Relay seq commit head items) → ReplyFits (Relay seq commit head items)
+relay_again : (seq commit : ℕ) (head : List ObjectValue) (items : List Item) (rest : List ℕ) → IsWireReply (Relay seq commit head items) → ReplyFits (Relay seq commit head items)
     → relay_from (big_bytes 4 seq ++ (big_bytes 4 commit ++ (head_bytes head ++ (length items ∷ (flat_map item_bytes items ++ rest))))) ≡ Ok (Relay seq commit head items, rest)
 unfolding relay_from
 relay_again seq commit head items rest is fits =

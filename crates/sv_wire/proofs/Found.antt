@@ -12,7 +12,7 @@ use Rattle.byteorder.specs.Numbers.{big_from-lt}
 use Rattle.sv_world.specs.Faults.{is_ascending}
 use Rattle.sv_world.specs.declared.world.ObjectId.{ObjectId}
 use Rattle.sv_wire.specs.declared.fault.WireCause.TheVariants.{Count, Order}
-use Rattle.sv_wire.specs.declared.message.Held.{Held}
+use Rattle.sv_wire.specs.declared.message.ObjectValue.{ObjectValue}
 use Rattle.sv_wire.specs.declared.message.Done1.{Done1}
 use Rattle.sv_wire.specs.Steps.{◌>>=◌, Read, Turn, stop, several, in_turn}
 use Rattle.sv_wire.specs.Fields.{byte_from, number_from, int_from, count_from, head_count_from, object_from, objects_from, value_from, held_from, helds_from, head_from, result_from}
@@ -174,16 +174,16 @@ value_takes bytes x fits e =
     let t = several_takes (int_from w64) (int_bytes w64) (λ _. Unit {0}) (λ b y h k. (int64_takes b y h k, tt)) n.0.0 n.0.1 x c.bytes_left n.2 in
     (subst (λ (k : ℕ). Takes bytes (k ∷ flat_map (int_bytes w64) x.0) x.1) (sym t.1) (after c t.0), (omega (arith, few.0, t.1), omega (arith, few.1, t.1)))
 
-held_takes : (least : ℕ) (bytes : List ℕ) (x : Held × ℕ × List ℕ) → IsBytes bytes → held_from least bytes ≡ Ok x → Takes bytes (held_bytes x.0) x.2 × (least ≤ x.0.object.0) × (x.1 ≡ x.0.object.0 + 1) × IsWireValue x.0.value
+held_takes : (least : ℕ) (bytes : List ℕ) (x : ObjectValue × ℕ × List ℕ) → IsBytes bytes → held_from least bytes ≡ Ok x → Takes bytes (held_bytes x.0) x.2 × (least ≤ x.0.object.0) × (x.1 ≡ x.0.object.0 + 1) × IsWireValue x.0.value
 unfolding held_from
 held_takes least bytes x fits e =
     let o = bind_ok (object_from least bytes) (λ object. value_from object.2 >>= λ value. Ok (record { object = object.0; value = value.0 }, object.1, value.1)) x e in
     let v = bind_ok (value_from o.0.2) (λ value. Ok (record { object = o.0.0; value = value.0 }, o.0.1, value.1)) x o.2 in
     let s = object_takes least bytes o.0 fits o.1 in
     let t = value_takes o.0.2 v.0 s.0.bytes_left v.1 in
-    subst (λ (y : Held × ℕ × List ℕ). Takes bytes (held_bytes y.0) y.2 × (least ≤ y.0.object.0) × (y.1 ≡ y.0.object.0 + 1) × IsWireValue y.0.value) (ok_is (record { object = o.0.0; value = v.0.0 }, o.0.1, v.0.1) x v.2) (after s.0 t.0, s.1, s.2, t.1)
+    subst (λ (y : ObjectValue × ℕ × List ℕ). Takes bytes (held_bytes y.0) y.2 × (least ≤ y.0.object.0) × (y.1 ≡ y.0.object.0 + 1) × IsWireValue y.0.value) (ok_is (record { object = o.0.0; value = v.0.0 }, o.0.1, v.0.1) x v.2) (after s.0 t.0, s.1, s.2, t.1)
 
-pub head_takes : (bytes : List ℕ) (x : List Held × List ℕ) → IsBytes bytes → head_from bytes ≡ Ok x → Takes bytes (head_bytes x.0) x.1 × IsWireHead x.0
+pub head_takes : (bytes : List ℕ) (x : List ObjectValue × List ℕ) → IsBytes bytes → head_from bytes ≡ Ok x → Takes bytes (head_bytes x.0) x.1 × IsWireHead x.0
 unfolding head_from helds_from head_count_from
 head_takes bytes x fits e =
     let n = bind_ok (number_from 2 bytes >>= λ n. cond (ltb 528 n.0) (stop bytes Count) (Ok (n.0, n.1))) (λ n. in_turn held_from n.0 0 n.1 >>= λ head. Ok (head.0, head.2)) x e in
@@ -193,14 +193,14 @@ head_takes bytes x fits e =
     let s = number_takes 2 exact2 bytes m.0 fits m.1 in
     let c : Takes bytes (big_bytes 2 n.0.0) n.0.1 × (n.0.0 ≤ 528) = subst (λ (y : ℕ × List ℕ). Takes bytes (big_bytes 2 y.0) y.1 × (y.0 ≤ 528)) g.1 (s.0, few) in
     let h = bind_ok (in_turn held_from n.0.0 0 n.0.1) (λ head. Ok (head.0, head.2)) x n.2 in
-    let t = in_turn_takes held_from held_bytes (λ (h : Held). h.object.0) (λ (h : Held). IsWireValue h.value) held_takes n.0.0 0 n.0.1 h.0 c.0.bytes_left h.1 in
+    let t = in_turn_takes held_from held_bytes (λ (h : ObjectValue). h.object.0) (λ (h : ObjectValue). IsWireValue h.value) held_takes n.0.0 0 n.0.1 h.0 c.0.bytes_left h.1 in
     let whole : Takes bytes (head_bytes h.0.0) h.0.2 = subst (λ (k : ℕ). Takes bytes (big_bytes 2 k ++ flat_map held_bytes h.0.0) h.0.2) (sym t.1) (after c.0 t.0) in
-    subst (λ (y : List Held × List ℕ). Takes bytes (head_bytes y.0) y.1 × IsWireHead y.0) (ok_is (h.0.0, h.0.2) x h.2) (
+    subst (λ (y : List ObjectValue × List ℕ). Takes bytes (head_bytes y.0) y.1 × IsWireHead y.0) (ok_is (h.0.0, h.0.2) x h.2) (
       whole,
       record {
         few = omega (arith, c.1, t.1);
-        ascending = ascends (λ (h : Held). h.object.0) 0 h.0.0 t.2;
-        values = All-from_recursion (λ (h : Held). IsWireValue h.value) h.0.0 t.3;
+        ascending = ascends (λ (h : ObjectValue). h.object.0) 0 h.0.0 t.2;
+        values = All-from_recursion (λ (h : ObjectValue). IsWireValue h.value) h.0.0 t.3;
       },
     )
 

@@ -5,7 +5,7 @@ use Rattle.byteorder.specs.Endian.{big_number}
 use Rattle.sv_world.specs.Limits.{most_attrs, most_reads}
 use Rattle.sv_world.specs.declared.world.ObjectId.{ObjectId}
 use Rattle.sv_wire.specs.declared.fault.WireCause.TheVariants.{Short, Count, Order}
-use Rattle.sv_wire.specs.declared.message.Held.{Held}
+use Rattle.sv_wire.specs.declared.message.ObjectValue.{ObjectValue}
 use Rattle.sv_wire.specs.declared.message.Done1.{Done1}
 use Rattle.sv_wire.specs.Steps.{Read, Turn, ◌>>=◌, stop, several, in_turn}
 
@@ -59,17 +59,17 @@ value_from bytes = do
   n ← count_from 1 most_attrs bytes
   several (int_from w64) n.0 n.1
 
-unfoldable pub held_from : ℕ → List ℕ → Turn Held
+unfoldable pub held_from : ℕ → List ℕ → Turn ObjectValue
 held_from least bytes = do
   object ← object_from least bytes
   value ← value_from object.2
   Ok (record { object = object.0; value = value.0 }, object.1, value.1)
 
 -- n objects and their values, ascending
-unfoldable pub helds_from : ℕ → List ℕ → Read (List Held)
+unfoldable pub helds_from : ℕ → List ℕ → Read (List ObjectValue)
 helds_from n bytes = ascending_from held_from n bytes
 
-unfoldable pub head_from : List ℕ → Read (List Held)
+unfoldable pub head_from : List ℕ → Read (List ObjectValue)
 head_from bytes = do
   n ← head_count_from bytes
   helds_from n.0 n.1

@@ -8,7 +8,7 @@ use Rattle.sv_world.specs.declared.action.Action.{Action}
 use Rattle.sv_world.specs.declared.world.ObjectId.{ObjectId}
 use Rattle.sv_wire.specs.Fields.{most_held}
 use Rattle.sv_wire.specs.Refusals.{last_code}
-use Rattle.sv_wire.specs.declared.message.Held.{Held}
+use Rattle.sv_wire.specs.declared.message.ObjectValue.{ObjectValue}
 use Rattle.sv_wire.specs.declared.message.Done1.{Done1}
 use Rattle.sv_wire.specs.declared.message.Item.{Item}
 use Rattle.sv_wire.specs.declared.message.Request.{Request}
@@ -19,10 +19,10 @@ use Rattle.sv_wire.specs.declared.message.Reply.TheVariants.{Welcome, Relay, Dro
 abbrev pub IsWireValue : List ℤ → Type 0
 IsWireValue v = (1 ≤ length v) × (length v ≤ most_attrs)
 
-pub record IsWireHead (head : List Held) : Type 0 where
+pub record IsWireHead (head : List ObjectValue) : Type 0 where
   pub few : length head ≤ most_held
-  pub ascending : is_ascending (map (λ (h : Held). h.object.0) head) ≡ true
-  pub values : All (λ (h : Held). IsWireValue h.value) head
+  pub ascending : is_ascending (map (λ (h : ObjectValue). h.object.0) head) ≡ true
+  pub values : All (λ (h : ObjectValue). IsWireValue h.value) head
 
 pub record IsWireResult (r : Done1) : Type 0 where
   pub few : length r.values ≤ most_reads
@@ -45,7 +45,7 @@ pub record IsWireDone (results : List Done1) : Type 0 where
   pub few : length results ≤ most_items
   pub each : All IsWireResult results
 
-pub record IsWireRelay (head : List Held) (items : List Item) : Type 0 where
+pub record IsWireRelay (head : List ObjectValue) (items : List Item) : Type 0 where
   pub base : IsWireHead head
   pub few : length items ≤ most_items
   pub each : All (λ (i : Item). IsWireAction i.action) items

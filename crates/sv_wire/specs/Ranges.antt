@@ -4,7 +4,7 @@ use Rattle.std.specs.List.{AllByRecursion}
 use Rattle.std.specs.Int.{w32, w64}
 use Rattle.sv_world.specs.Ranges.{ObjectFits, body_fits}
 use Rattle.sv_world.specs.declared.action.Action.{Action}
-use Rattle.sv_wire.specs.declared.message.Held.{Held}
+use Rattle.sv_wire.specs.declared.message.ObjectValue.{ObjectValue}
 use Rattle.sv_wire.specs.declared.message.Done1.{Done1}
 use Rattle.sv_wire.specs.declared.message.Item.{Item}
 use Rattle.sv_wire.specs.declared.message.Request.{Request}
@@ -15,7 +15,7 @@ use Rattle.sv_wire.specs.declared.message.Reply.TheVariants.{Welcome, Relay, Dro
 abbrev pub ValueFits : List ℤ → Type 0
 ValueFits v = AllByRecursion (FitsSigned w64) v
 
-abbrev pub HeldFits : Held → Type 0
+abbrev pub HeldFits : ObjectValue → Type 0
 HeldFits h = ObjectFits h.object × ValueFits h.value
 
 abbrev pub ResultFits : Done1 → Type 0

@@ -23,7 +23,7 @@ use Rattle.sv_world.specs.declared.node.Comparison.{Comparison}
 use Rattle.sv_world.specs.declared.node.Comparison.TheVariants.{Eq, Lt, Le}
 use Rattle.sv_world.specs.declared.node.Connective.{Connective}
 use Rattle.sv_world.specs.declared.node.Connective.TheVariants.{And, Or}
-use Rattle.sv_wire.specs.declared.message.Held.{Held}
+use Rattle.sv_wire.specs.declared.message.ObjectValue.{ObjectValue}
 use Rattle.sv_wire.specs.declared.message.Done1.{Done1}
 use Rattle.sv_wire.specs.declared.message.Item.{Item}
 use Rattle.sv_wire.specs.declared.message.Request.{Request}
@@ -42,10 +42,10 @@ object_bytes o = big_bytes 2 o.0
 abbrev pub value_bytes : List ℤ → List ℕ
 value_bytes v = length v ∷ flat_map (int_bytes w64) v
 
-abbrev pub held_bytes : Held → List ℕ
+abbrev pub held_bytes : ObjectValue → List ℕ
 held_bytes h = object_bytes h.object ++ value_bytes h.value
 
-abbrev pub head_bytes : List Held → List ℕ
+abbrev pub head_bytes : List ObjectValue → List ℕ
 head_bytes head = big_bytes 2 (length head) ++ flat_map held_bytes head
 
 abbrev pub result_bytes : Done1 → List ℕ

@@ -2,21 +2,21 @@
 ghost use Rattle.std.specs.Prelude.{◌≡◌, IfOk};
 ghost use Rattle.sv_wire.specs.declared.message.Reply.TheVariants as reply;
 
-use crate::message::{Done1, Held, Item, Reply, Request};
+use crate::message::{Done1, ObjectValue, Item, Reply, Request};
 use std::alloc::{AllocError, Global};
 use sv_world::{List, copy_action, copy_objects, copy_value, copy_values};
 
-fn copy_held(alloc: Global, held: &Held) -> Result<Held, AllocError>
+fn copy_held(alloc: Global, held: &ObjectValue) -> Result<ObjectValue, AllocError>
     ensures { IfOk result (λ copy. copy ≡ held.now) }
 {
-    Ok(Held {
+    Ok(ObjectValue {
         object: held.object,
         value: copy_value(alloc, &held.value)?,
     })
 }
 
 /// An equal copy.
-pub fn copy_head(alloc: Global, head: &[Held]) -> Result<List<Held>, AllocError>
+pub fn copy_head(alloc: Global, head: &[ObjectValue]) -> Result<List<ObjectValue>, AllocError>
     ensures { IfOk result (λ copy. copy ≡ head.now) }
 {
     let mut copies = Vec::with_capacity(alloc, head.len())?;
@@ -99,7 +99,7 @@ fn copy_relay(
     alloc: Global,
     seq: u32,
     commit: u32,
-    head: &[Held],
+    head: &[ObjectValue],
     items: &[Item],
 ) -> Result<Reply, AllocError>
     ensures { IfOk result (λ copy. copy ≡ reply.Relay seq commit head.now items.now) }

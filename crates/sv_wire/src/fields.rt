@@ -5,7 +5,7 @@ ghost use Rattle.sv_wire.specs.Steps.{Gives, several, in_turn};
 ghost use Rattle.sv_wire.specs.Fields.{byte_from, number_from, int_from, count_from, head_count_from, object_from, objects_from, value_from, held_from, helds_from, head_from, result_from};
 
 use crate::fault::{ReadFault, WireCause, stop_at};
-use crate::message::{Done1, Held};
+use crate::message::{Done1, ObjectValue};
 use byteorder::{BigEndian, ByteOrder};
 use std::alloc::{AllocError, Global};
 use sv_world::{List, MOST_ATTRS, MOST_READS, ObjectId, Reads, Value};
@@ -142,15 +142,15 @@ fn value_of(alloc: Global, bytes: &[u8]) -> Result<(Value, &[u8]), ReadFault>
 }
 
 #[tactic(auto, unfolding(crate::specs::Fields::held_from))]
-fn held_of(alloc: Global, least: u32, bytes: &[u8]) -> Result<(Held, u32, &[u8]), ReadFault>
+fn held_of(alloc: Global, least: u32, bytes: &[u8]) -> Result<(ObjectValue, u32, &[u8]), ReadFault>
     ensures { Gives (λ x. (x.0, x.1, x.2.now)) result (held_from least bytes.now) }
 {
     let (object, next, rest) = object_of(least, bytes)?;
     let (value, rest) = value_of(alloc, rest)?;
-    Ok((Held { object, value }, next, rest))
+    Ok((ObjectValue { object, value }, next, rest))
 }
 
-fn helds_of(alloc: Global, count: u16, bytes: &[u8]) -> Result<(List<Held>, &[u8]), ReadFault>
+fn helds_of(alloc: Global, count: u16, bytes: &[u8]) -> Result<(List<ObjectValue>, &[u8]), ReadFault>
     ensures { Gives (λ x. (x.0, x.1.now)) result (helds_from count bytes.now) }
 {
     let mut head = list_for(alloc, usize::from(count))?;
@@ -166,7 +166,7 @@ fn helds_of(alloc: Global, count: u16, bytes: &[u8]) -> Result<(List<Held>, &[u8
 }
 
 #[tactic(auto, unfolding(crate::specs::Fields::head_from))]
-pub fn head_of(alloc: Global, bytes: &[u8]) -> Result<(List<Held>, &[u8]), ReadFault>
+pub fn head_of(alloc: Global, bytes: &[u8]) -> Result<(List<ObjectValue>, &[u8]), ReadFault>
     ensures { Gives (λ x. (x.0, x.1.now)) result (head_from bytes.now) }
 {
     let (count, rest) = head_count_of(bytes)?;

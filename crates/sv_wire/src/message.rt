@@ -3,7 +3,7 @@ use sv_world::{Action, ClientId, List, ObjectId, Value};
 
 /// The value of an object.
 #[derive(Debug, Drop)]
-pub struct Held {
+pub struct ObjectValue {
     pub object: ObjectId,
     pub value: Value,
 }
@@ -55,14 +55,14 @@ pub enum Reply {
     /// The session has begun. `head` has the committed values of the whole interest.
     Welcome {
         commit: u32,
-        head: List<Held>,
+        head: List<ObjectValue>,
     },
     /// Actions to evaluate, ascending by position, and the committed values that they read and the session lacks. `seq` is that of the
     /// Submit that it answers, and 0 for a Poll.
     Relay {
         seq: u32,
         commit: u32,
-        head: List<Held>,
+        head: List<ObjectValue>,
         items: List<Item>,
     },
     /// The action is not accepted: `chain` actions influence it, the farthest at the distance `far`.

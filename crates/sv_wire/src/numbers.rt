@@ -4,7 +4,7 @@ ghost use Rattle.std.specs.Prelude.{◌^◌, ◌<◌, All, FitsSigned};
 ghost use Rattle.std.specs.Int.{w32, w64};
 ghost use Rattle.sv_wire.specs.Ranges.{ValueFits, HeldFits, ResultFits, ActionFits, ItemFits, RequestFits, ReplyFits};
 
-use crate::message::{Done1, Held, Item, Reply, Request};
+use crate::message::{Done1, ObjectValue, Item, Reply, Request};
 use sv_world::{Action, Point, Value, read_object, read_objects};
 
 fn read_u8(number: u8)
@@ -55,14 +55,14 @@ pub fn read_values(values: &[Value])
     }
 }
 
-fn read_held(held: &Held)
+fn read_held(held: &ObjectValue)
     ensures { HeldFits held.now }
 {
     read_object(held.object);
     read_value(&held.value);
 }
 
-fn read_head(head: &[Held])
+fn read_head(head: &[ObjectValue])
     ensures { All HeldFits head.now }
 {
     for held in head {

@@ -6,7 +6,7 @@ ghost use Rattle.byteorder.specs.Endian.{big_bytes};
 ghost use Rattle.sv_wire.specs.Spelling.{int_bytes, object_bytes, value_bytes, held_bytes, head_bytes, result_bytes, point_bytes};
 ghost use Rattle.sv_wire.specs.Grammar.{IsWireValue, IsWireHead, IsWireResult};
 
-use crate::message::{Done1, Held};
+use crate::message::{Done1, ObjectValue};
 use byteorder::{BigEndian, ByteOrder};
 use std::alloc::AllocError;
 use sv_world::{ObjectId, Point, Value};
@@ -74,7 +74,7 @@ fn put_value(out: &mut Vec<u8>, value: &Value) -> Result<(), AllocError>
     Ok(())
 }
 
-fn put_held(out: &mut Vec<u8>, held: &Held) -> Result<(), AllocError>
+fn put_held(out: &mut Vec<u8>, held: &ObjectValue) -> Result<(), AllocError>
     requires { IsWireValue held.now.value }
     ensures { OnOk result (out.new.items ≡ out.old.items ++ held_bytes held.now) }
 {
@@ -83,7 +83,7 @@ fn put_held(out: &mut Vec<u8>, held: &Held) -> Result<(), AllocError>
     Ok(())
 }
 
-fn put_helds(out: &mut Vec<u8>, head: &[Held]) -> Result<(), AllocError>
+fn put_helds(out: &mut Vec<u8>, head: &[ObjectValue]) -> Result<(), AllocError>
     requires { All (λ h. IsWireValue h.value) head.now }
     ensures { OnOk result (out.new.items ≡ out.old.items ++ flat_map held_bytes head.now) }
 {
@@ -93,7 +93,7 @@ fn put_helds(out: &mut Vec<u8>, head: &[Held]) -> Result<(), AllocError>
     Ok(())
 }
 
-pub fn put_head(out: &mut Vec<u8>, head: &[Held]) -> Result<(), AllocError>
+pub fn put_head(out: &mut Vec<u8>, head: &[ObjectValue]) -> Result<(), AllocError>
     requires { IsWireHead head.now }
     ensures { OnOk result (out.new.items ≡ out.old.items ++ head_bytes head.now) }
 {

@@ -9,7 +9,7 @@ use Rattle.sv_command.specs.declared.ending.Ending.{Ending}
 use Rattle.sv_command.specs.declared.ending.Ending.TheVariants as endings
 use Rattle.sv_command.specs.Endings.{Ends}
 use Rattle.sv_command.specs.Reading.{IsRead, IsRefused, HoldsScenario, held_by_file, read_limit}
-use Rattle.sv_command.specs.Statuses.{Counts, Raises, NoneRose, TellsStatus, line_of, status_of}
+use Rattle.sv_command.specs.Statuses.{Counts, Raises, NoneRose, TellsStatus, ending_line, status_of}
 use Rattle.sv_command.proofs.Held.{Faulty, always, both, same_scenario, read_is, holds_none}
 use Rattle.sv_command.proofs.Statuses.{file_is, told_is as plain_told}
 use Rattle.sv_command.proofs.Left.{printed_by, cut_by, ends_early, refused_is}
@@ -158,7 +158,7 @@ module _ (old new : Option (List ℕ)) where
     range_is (Some x) e w h = range_of x (contents x.file) e h
 
     pub told_is : (words_line : List ℕ) (t0 t1 : Option (List ℕ)) (n0 n1 : ℕ) (a : Option Asked) (e : Ending) → ((e ≡ endings.Words) ↔ (a ≡ None)) → AllEnds a e
-        → GrewOrRose t0 t1 n0 n1 (line_of words_line e (named_by a)) → TellsStatus words_line (status_of e) (held_by_file contents (named_by a)) (named_by a) t0 t1 n0 n1
+        → GrewOrRose t0 t1 n0 n1 (ending_line words_line e (named_by a)) → TellsStatus words_line (status_of e) (held_by_file contents (named_by a)) (named_by a) t0 t1 n0 n1
     told_is words_line t0 t1 n0 n1 None e w h t = plain_told words_line None None t0 t1 n0 n1 e (λ line is. absurd (words_alone e line (w.1 refl) is)) t
     told_is words_line t0 t1 n0 n1 (Some x) e w h t =
         plain_told words_line (contents x.file) (Some x.file) t0 t1 n0 n1 e (λ line is. refused_is (IsText x (contents x.file)) (EndsEarly x (contents x.file)) old new e h line is) t

@@ -12,7 +12,7 @@ use Rattle.sv_world.specs.Control.{is_in, action_at}
 use Rattle.sv_world.specs.Faults.{is_ascending}
 use Rattle.sv_world.specs.Sets.{read_set, write_set}
 use Rattle.sv_eval.specs.Serial.{values_at, serial_world}
-use Rattle.sv_eval.proofs.Outcomes.{outcome_counted}
+use Rattle.sv_eval.proofs.Effects.{effect_counted}
 use Rattle.sv_wire.specs.declared.message.Done1.{Done1}
 use Rattle.sv_wire.specs.declared.message.Request.{Request}
 use Rattle.sv_wire.specs.declared.message.Request.TheVariants as requests
@@ -145,7 +145,7 @@ serial-nothing : (opening : List (List ℤ)) (A : List Action) (p : ℕ) → len
 serial-nothing opening A zero none = refl
 serial-nothing opening A (suc n) none =
     nil_from_length (serial_result opening A (suc n))
-    (outcome_counted a (values_at (serial_world opening A n) (read_set a))
+    (effect_counted a (values_at (serial_world opening A n) (read_set a))
     (length-map (read_set a) _ ∙ length-map a.reads (λ (o : ObjectId). o.0)) ∙ none)
   where
     a : Action

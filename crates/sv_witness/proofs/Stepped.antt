@@ -26,7 +26,7 @@ use Rattle.sv_journal.specs.Serving.{with_results, noted_after}
 use Rattle.sv_witness.specs.Witnessed.{agreed, witnessed_reply}
 use Rattle.sv_witness.specs.Disputes.{with_disputes}
 use Rattle.sv_witness.specs.Kept.{RowView, kept_at, counted_results, with_values, agreed_results, new_disputes, KeepsBeside}
-use Rattle.sv_witness.specs.Invariant.{view_of, IsWitness}
+use Rattle.sv_witness.specs.Invariant.{model_of, IsWitness}
 use Rattle.sv_witness.specs.Standing.{emptied, Standing, witnessed_entry, Replied}
 use Rattle.sv_witness.specs.Step.{Witnesses}
 use Rattle.sv_witness.proofs.KeptRows.{AreSame}
@@ -142,13 +142,13 @@ same-stands r rows new ds h same is = record {
 }
 
 -- A server's fields stand for a history that its caller names.
-pub stands-for : (a : Inside) (v : SequencerView) (h : List Entry) → IsWitness a → view_of a ≡ v → h ≡ history v → Standing a.core a.testimony.reports a.testimony.disputes.items h
+pub stands-for : (a : Inside) (v : SequencerView) (h : List Entry) → IsWitness a → model_of a ≡ v → h ≡ history v → Standing a.core a.testimony.reports a.testimony.disputes.items h
 stands-for a v h is view past =
     subst (λ (l : List Entry). Standing a.core a.testimony.reports a.testimony.disputes.items l) (ap history view ∙ sym past) (record { keeps = is.keeps; stands = is.stands })
 
 -- A request that is not noted was answered, by a server whose history its caller names.
 pub kept-replied : (a : Inside) (core : Core) (j : JournalView) (h : List Entry) (v : SequencerView) (s : ℕ) (q : Request) (d : Decision) (reply : Reply) →
-    IsWitness a → view_of a ≡ v → h ≡ history v → EnteredReply a.core core a.journal j (agreed_history h) s q (emptied q) d reply →
+    IsWitness a → model_of a ≡ v → h ≡ history v → EnteredReply a.core core a.journal j (agreed_history h) s q (emptied q) d reply →
     reply_by v.rules (agreed_history h) s (emptied q) d ≡ witnessed_reply v.rules h s q → is_noted (witnessed_reply v.rules h s q) ≡ false →
     Replied a.core core a.journal j a.testimony.reports a.testimony.disputes.items (reverse a.journal.entries) s q reply
 kept-replied a core j h v s q d reply is view past done told quiet =
@@ -191,9 +191,9 @@ after-reply a b s q (Ok reply) is done none rows disputes =
 after-reply a b s q (Err error) is done none rows disputes = still a b is none rows disputes
 
 -- So it was answered as it should be, as the server is seen.
-pub witnessed : (a b : Inside) (s : ℕ) (q : Request) (v : SequencerView) → view_of a ≡ v → (reply : Reply) →
-    Replied a.core b.core a.journal b.journal b.testimony.reports b.testimony.disputes.items (reverse a.journal.entries) s q reply → Witnesses v (view_of b) s q reply
-witnessed a b s q v view reply done = subst (λ (w : SequencerView). Witnesses w (view_of b) s q reply) view (record {
+pub witnessed : (a b : Inside) (s : ℕ) (q : Request) (v : SequencerView) → model_of a ≡ v → (reply : Reply) →
+    Replied a.core b.core a.journal b.journal b.testimony.reports b.testimony.disputes.items (reverse a.journal.entries) s q reply → Witnesses v (model_of b) s q reply
+witnessed a b s q v view reply done = subst (λ (w : SequencerView). Witnesses w (model_of b) s q reply) view (record {
   grew = record { rules = done.rules; entries = done.entries };
   whole =
       done.whole

@@ -7,8 +7,8 @@ use Rattle.sv_witness.specs.declared.witness.Witness.TheInside.{Inside}
 use Rattle.sv_witness.specs.Reports.{agreed_history}
 use Rattle.sv_witness.specs.Kept.{KeepsBeside}
 
-abbrev pub view_of : Inside → SequencerView
-view_of a = record { rules = core_rules a.core; journal = a.journal }
+abbrev pub model_of : Inside → SequencerView
+model_of a = record { rules = core_rules a.core; journal = a.journal }
 
 -- The core stands where the history of what was agreed leads, what is kept beside it stands by the journal, and there is room for the Ends to come.
 pub record IsWitness (a : Inside) : Type 0 where

@@ -13,7 +13,7 @@ use crate::witness::Witness;
 use std::alloc::{AllocError, Global};
 use sv_asked::{read_scenario_numbers, served_replies_fit, served_requests_fit};
 use sv_journal::served_relays_name_accepted;
-use sv_replay::{Ran, committed_values, made_actions_fit, opening_world, run_over};
+use sv_replay::{ServedRun, committed_values, made_actions_fit, opening_world, run_over};
 use sv_scenario::{Scenario, sessions_of};
 
 /// A scenario can be run over a witnessing server that hears lies of one client, or of none; and the run is as it is said to be.
@@ -77,7 +77,7 @@ pub(crate) fn run_text(
         witness,
         liar,
     };
-    let Ran { server, traces } = run_over(alloc, scenario, lying)?;
+    let ServedRun { server, traces } = run_over(alloc, scenario, lying)?;
     drop(traces);
     text_of(alloc, &server, scenario.world.shape.objects)
 }

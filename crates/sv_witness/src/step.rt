@@ -29,7 +29,7 @@ use crate::witness::Witness;
 use std::alloc::{AllocError, Global};
 use sv_journal::Journal;
 use sv_queue::Queue;
-use sv_sequencer::{Core, Decision, enter_end, enter_reply, results_of};
+use sv_sequencer::{Core, Decision, enter_end, enter_reply, reported_by};
 use sv_wire::{Done1, Reply, Request};
 use sv_world::List;
 
@@ -298,7 +298,7 @@ impl Witness {
             self.core.queue(),
             &mut self.testimony,
             client,
-            results_of(request),
+            reported_by(request),
         )?;
         install(
             &mut self.core,

@@ -35,9 +35,9 @@ impl Model for Witness {
 
     ghost coded = { Prim.hlevel (codes, entry.the_row.coded) };
 
-    ghost use Rattle.sv_witness.specs.Invariant.{view_of, IsWitness};
+    ghost use Rattle.sv_witness.specs.Invariant.{model_of, IsWitness};
 
-    ghost view = { view_of };
+    ghost view = { model_of };
 
     ghost invariant = { IsWitness };
 }

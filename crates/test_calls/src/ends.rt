@@ -5,7 +5,7 @@ ghost use Rattle.sv_link.specs.declared.side.Side.TheVariants.{Server};
 ghost use Rattle.test_calls.specs.Scripts.{told_of_script, faults_of_script};
 
 use std::alloc::{AllocError, Global};
-use sv_bytes::{FaultCount, Plan};
+use sv_bytes::{FaultCount, CallPlan};
 use sv_link::{End, EndRead, EndWrote};
 
 /// The server's end. Reads give the next bytes of `coming`, and after them answer that no more will come. It keeps what is sent to it. Its plan
@@ -13,7 +13,7 @@ use sv_link::{End, EndRead, EndWrote};
 #[derive(Drop)]
 pub struct ScriptEnd<'a> {
     coming: &'a [u8],
-    plan: Plan,
+    plan: CallPlan,
     sent: Vec<u8>,
     received: Vec<u8>,
     ended: bool,
@@ -33,7 +33,7 @@ impl<'a> ScriptEnd<'a> {
         ensures told { IfOk result (λ end. told_of_script end ≡ new_end number Server) }
         ensures faults { IfOk result (λ end. faults_of_script end ≡ 0) }
     {
-        let mut plan = Plan::new(alloc);
+        let mut plan = CallPlan::new(alloc);
         plan.fail_at(failing)?;
         Ok(ScriptEnd {
             coming,

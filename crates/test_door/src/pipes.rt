@@ -3,7 +3,7 @@ use crate::talk::{Delays, hears, meet_twice, says};
 use std::alloc::{AllocError, Global};
 use std::sync::Wait;
 use std::test::Fail;
-use sv_door::{Door, Made, PipeDoor};
+use sv_door::{Door, EndMade, PipeDoor};
 use sv_link::{End, EndRead, EndWrote};
 
 const PORT: u16 = 7000;
@@ -26,13 +26,13 @@ fn meets_in_order(rt: HostRuntime) -> Result<(), Fail> {
     let mut first = PipeDoor::new(rt.alloc(), &rt, PORT)?;
     let mut second = first.another()?;
     let mut server = second.another()?;
-    let (Made::End(mut one), Made::End(mut two)) = (first.connect(PORT), second.connect(PORT))
+    let (EndMade::End(mut one), EndMade::End(mut two)) = (first.connect(PORT), second.connect(PORT))
     else {
         panic!(&rt; "two clients connect");
     };
     assert!(&rt; says(&mut two, 2) && says(&mut one, 1));
     for byte in [1, 2] {
-        let Made::End(mut end) = server.accept(PORT) else {
+        let EndMade::End(mut end) = server.accept(PORT) else {
             panic!(&rt; "a client is accepted");
         };
         assert!(&rt; hears(&mut end) == Some(byte), "{byte}");
@@ -81,10 +81,10 @@ fn meeting<R: Wait + Sync>(
     let mut at_client = at_server.another()?;
     fails(&mut at_server, server)?;
     fails(&mut at_client, client)?;
-    let Made::End(mut visitor) = at_client.connect(client.port) else {
+    let EndMade::End(mut visitor) = at_client.connect(client.port) else {
         return Ok(Went::Alone);
     };
-    let Made::End(mut host) = at_server.accept(server.port) else {
+    let EndMade::End(mut host) = at_server.accept(server.port) else {
         return Ok(Went::Unaccepted);
     };
     let there = if says(&mut visitor, 1) {
@@ -132,11 +132,11 @@ fn fails_where_it_is_told(rt: HostRuntime) -> Result<(), Fail> {
 #[test]
 fn moves_few_bytes(rt: HostRuntime) -> Result<(), Fail> {
     let mut door = PipeDoor::new(rt.alloc(), &rt, PORT)?;
-    let Made::End(mut client) = door.connect(PORT) else {
+    let EndMade::End(mut client) = door.connect(PORT) else {
         panic!(&rt; "a client connects");
     };
     door.move_at_most(2);
-    let Made::End(mut server) = door.accept(PORT) else {
+    let EndMade::End(mut server) = door.accept(PORT) else {
         panic!(&rt; "the client is accepted");
     };
     let mut into = [0; 4];

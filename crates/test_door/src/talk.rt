@@ -7,7 +7,7 @@ use std::sync::Wait;
 use std::thread;
 use std::thread::Threads;
 use std::time::Duration;
-use sv_door::{Door, Made};
+use sv_door::{Door, EndMade};
 use sv_link::{End, EndRead, EndWrote};
 
 /// The byte that comes, if one does.
@@ -40,7 +40,7 @@ pub(crate) fn says<E: End>(end: &mut E, byte: u8) -> bool
 
 /// What a server hears that then says a byte.
 fn serves<D: Door>(door: &mut D, port: u16, byte: u8) -> Option<u8> {
-    let Made::End(mut end) = door.accept(port) else {
+    let EndMade::End(mut end) = door.accept(port) else {
         return None;
     };
     let heard = hears(&mut end);
@@ -51,7 +51,7 @@ fn serves<D: Door>(door: &mut D, port: u16, byte: u8) -> Option<u8> {
 
 /// What a client hears that first says a byte.
 fn visits<D: Door>(door: &mut D, port: u16, byte: u8) -> Option<u8> {
-    let Made::End(mut end) = door.connect(port) else {
+    let EndMade::End(mut end) = door.connect(port) else {
         return None;
     };
     let _ = says(&mut end, byte);

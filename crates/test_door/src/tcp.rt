@@ -7,7 +7,7 @@ use std::sync::Wait;
 use std::test::Fail;
 use std::thread::Threads;
 use std::{io, thread};
-use sv_door::{Door, Made, TcpDoor};
+use sv_door::{Door, EndMade, TcpDoor};
 
 /// A listener at some port, and the port.
 fn listening<R: Sockets<Listener = TcpListener, Stream = TcpStream>>(
@@ -39,11 +39,11 @@ fn asks_for_another<
     thread::scope(thread::scope_env(), rt, move |scope| {
         let client = scope.spawn(move || {
             let mut door = TcpDoor::new(alloc, rt);
-            matches!(door.connect(port), Made::End(_))
+            matches!(door.connect(port), EndMade::End(_))
         })?;
         let mut door = TcpDoor::new(alloc, rt);
-        let is_met = matches!(door.accept(port), Made::End(_));
-        let accepts_again = matches!(door.accept(other), Made::End(_));
+        let is_met = matches!(door.accept(port), EndMade::End(_));
+        let accepts_again = matches!(door.accept(other), EndMade::End(_));
         Ok((client.join(rt) && is_met, accepts_again))
     })
 }
@@ -52,7 +52,7 @@ fn asks_for_another<
 fn refuses_ports(rt: HostRuntime) -> Result<(), Fail> {
     let (listener, taken) = listening(&rt)?;
     let mut door = TcpDoor::new(rt.alloc(), &rt);
-    assert!(&rt; matches!(door.accept(taken), Made::Failed));
+    assert!(&rt; matches!(door.accept(taken), EndMade::Failed));
     let (free, port) = listening(&rt)?;
     drop(free);
     assert!(&rt; asks_for_another(&rt, rt.alloc(), port, taken)? == (true, false));

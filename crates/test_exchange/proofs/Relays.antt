@@ -13,7 +13,7 @@ use Rattle.sv_world.proofs.Bases.{below-ascending}
 use Rattle.sv_world.specs.declared.world.ObjectId.{ObjectId}
 use Rattle.sv_world.specs.declared.action.Expr.TheVariants as exprs
 use Rattle.sv_world.specs.declared.action.Stmt.{Stmt}
-use Rattle.sv_wire.specs.declared.message.Held.{Held}
+use Rattle.sv_wire.specs.declared.message.ObjectValue.{ObjectValue}
 use Rattle.sv_wire.specs.declared.message.Item.{Item}
 use Rattle.sv_wire.specs.declared.message.Reply.TheVariants as replies
 use Rattle.sv_wire.proofs.Append.{nodes_more}
@@ -39,15 +39,15 @@ unfolding great_heads
 heads_count zero = refl
 heads_count (suc n) = omega (arith, length-append (great_heads n) (great_held n ∷ []), heads_count n)
 
-heads_below : (n : ℕ) → map (λ (h : Held). h.object.0) (great_heads n) ≡ below n
+heads_below : (n : ℕ) → map (λ (h : ObjectValue). h.object.0) (great_heads n) ≡ below n
 unfolding great_heads
 heads_below zero = refl
-heads_below (suc n) = map-append (λ (h : Held). h.object.0) (great_heads n) (great_held n ∷ []) ∙ ap (λ (l : List ℕ). l ++ n ∷ []) (heads_below n)
+heads_below (suc n) = map-append (λ (h : ObjectValue). h.object.0) (great_heads n) (great_held n ∷ []) ∙ ap (λ (l : List ℕ). l ++ n ∷ []) (heads_below n)
 
-heads_valued : (n : ℕ) → AllByRecursion (λ (h : Held). IsWireValue h.value) (great_heads n)
+heads_valued : (n : ℕ) → AllByRecursion (λ (h : ObjectValue). IsWireValue h.value) (great_heads n)
 unfolding great_heads
 heads_valued zero = tt
-heads_valued (suc n) = all_push (λ (h : Held). IsWireValue h.value) (great_heads n) (great_held n) (heads_valued n) (omega arith, omega arith)
+heads_valued (suc n) = all_push (λ (h : ObjectValue). IsWireValue h.value) (great_heads n) (great_held n) (heads_valued n) (omega arith, omega arith)
 
 heads_fit : (n : ℕ) → n ≤ 528 → AllByRecursion HeldFits (great_heads n)
 unfolding great_heads
@@ -60,7 +60,7 @@ heads_are n few =
     record {
       few = omega (arith, heads_count n);
       ascending = ap is_ascending (heads_below n) ∙ below-ascending n;
-      values = All-from_recursion (λ (h : Held). IsWireValue h.value) (great_heads n) (heads_valued n);
+      values = All-from_recursion (λ (h : ObjectValue). IsWireValue h.value) (great_heads n) (heads_valued n);
     }
 
 -- ---- The action

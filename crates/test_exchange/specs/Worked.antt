@@ -5,16 +5,16 @@ use Rattle.sv_world.specs.declared.action.Action.{Action}
 use Rattle.sv_world.specs.declared.action.Expr.TheVariants as exprs
 use Rattle.sv_world.specs.declared.action.Stmt.{Stmt}
 use Rattle.sv_world.specs.declared.action.Stmt.TheVariants as stmts
-use Rattle.sv_wire.specs.declared.message.Held.{Held}
+use Rattle.sv_wire.specs.declared.message.ObjectValue.{ObjectValue}
 use Rattle.sv_wire.specs.declared.message.Item.{Item}
 
 abbrev pub greatest_number : ℤ
 greatest_number = pos 9223372036854775807
 
-abbrev pub great_held : ℕ → Held
+abbrev pub great_held : ℕ → ObjectValue
 great_held n = record { object = record { 0 = n }; value = greatest_number ∷ greatest_number ∷ greatest_number ∷ greatest_number ∷ [] }
 
-unfoldable pub great_heads : ℕ → List Held
+unfoldable pub great_heads : ℕ → List ObjectValue
 great_heads zero = []
 great_heads (suc n) = great_heads n ++ great_held n ∷ []
 

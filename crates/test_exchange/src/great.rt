@@ -4,7 +4,7 @@ ghost use Rattle.sv_wire.specs.Laws.{IsReply};
 ghost use Rattle.test_exchange.specs.Worked.{greatest_number, great_heads, great_reads, great_body, great_action, great_items};
 
 use std::alloc::{AllocError, Global};
-use sv_wire::{Held, Item, Reply};
+use sv_wire::{ObjectValue, Item, Reply};
 use sv_world::{
     Action, Body, ClientId, Expr, List, ObjectId, Point, Reads, Stmt, Value, has_short_blocks,
 };
@@ -21,12 +21,12 @@ fn great_value(alloc: Global) -> Result<Value, AllocError>
 }
 
 #[tactic(auto, using(crate::proofs::Relays::heads_more))]
-fn great_head(alloc: Global) -> Result<List<Held>, AllocError>
+fn great_head(alloc: Global) -> Result<List<ObjectValue>, AllocError>
     ensures { IfOk result (λ head. head ≡ great_heads 528) }
 {
     let mut head = List::new(alloc);
     for object in 0..528u16 {
-        head.push(Held {
+        head.push(ObjectValue {
             object: ObjectId(object),
             value: great_value(alloc)?,
         })?;

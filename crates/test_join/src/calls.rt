@@ -3,7 +3,7 @@ use std::alloc::{AllocError, Global};
 use std::sync::Wait;
 use std::thread;
 use std::thread::Threads;
-use sv_door::{Door, Made, PipeDoor};
+use sv_door::{Door, EndMade, PipeDoor};
 use sv_join::run_join;
 use sv_link::{End, send_all};
 use test_calls::examples::FIRST;
@@ -29,7 +29,7 @@ pub fn called<D: Door>(alloc: Global, line: &str, door: &mut D) -> Result<Printe
 
 /// Takes a client in, sends it these bytes and closes.
 fn serves<D: Door>(door: &mut D, bytes: &[u8]) {
-    let Made::End(mut end) = door.accept(PORT) else {
+    let EndMade::End(mut end) = door.accept(PORT) else {
         return;
     };
     send_all(&mut end, bytes);

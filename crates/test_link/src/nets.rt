@@ -1,6 +1,6 @@
 //! Nets: what their ends carry, and how they are settled.
 ghost use Rattle.std.specs.Prelude.{◌≡◌, ◌<◌, false, length};
-ghost use Rattle.sv_link.specs.Nets.{IsPair};
+ghost use Rattle.sv_link.specs.Nets.{AreTwoEnds};
 
 use std::alloc::{AllocError, Global};
 use std::process::Abort;

@@ -2,14 +2,14 @@
 use std::alloc::{AllocError, Global};
 use std::test::Fail;
 use sv_snapshot::{Snapshot, look_line};
-use sv_wire::Held;
+use sv_wire::ObjectValue;
 use sv_world::{ClientId, List, ObjectId, Value};
 
 /// A look of two objects with two numbers each.
 fn snapshot(alloc: Global) -> Result<Snapshot, AllocError> {
     let mut values = List::new(alloc);
     for (object, numbers) in [(9, [-3, 4]), (4095, [0, i64::MIN])] {
-        values.push(Held {
+        values.push(ObjectValue {
             object: ObjectId(object),
             value: Value::from_slice(alloc, &numbers)?,
         })?;

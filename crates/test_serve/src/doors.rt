@@ -5,7 +5,7 @@ ghost use Rattle.std.specs.Vec.{vec_len, vec_capacity};
 use std::alloc::Global;
 use std::marker::Model;
 use sv_bytes::FaultCount;
-use sv_door::{Door, Made};
+use sv_door::{Door, EndMade};
 use test_calls::ScriptEnd;
 
 /// What a client sends before it closes, and the call of the server's end that fails, by its number from 1. Where this is 0 none fails.
@@ -68,29 +68,29 @@ impl<'a> Door for ScriptDoor<'a> {
 
     ghost sure = { λ d port. ⊥ };
 
-    fn accept(&mut self, _port: u16) -> Made<ScriptEnd<'static>> {
+    fn accept(&mut self, _port: u16) -> EndMade<ScriptEnd<'static>> {
         let Some(script) = self.scripts.first() else {
             self.faults.raise();
-            return Made::Failed;
+            return EndMade::Failed;
         };
         let Ok(end) = ScriptEnd::new(self.alloc, script.coming, script.failing, self.made) else {
-            return Made::Memory;
+            return EndMade::Memory;
         };
         let Some(owed) = self.owed.checked_add(1) else {
-            return Made::Memory;
+            return EndMade::Memory;
         };
         if self.made == u64::MAX || self.given.reserve(owed).is_err() {
-            return Made::Memory;
+            return EndMade::Memory;
         }
         self.scripts = &self.scripts[1..];
         self.made += 1;
         self.owed = owed;
-        Made::End(end)
+        EndMade::End(end)
     }
 
-    fn connect(&mut self, _port: u16) -> Made<ScriptEnd<'static>> {
+    fn connect(&mut self, _port: u16) -> EndMade<ScriptEnd<'static>> {
         self.faults.raise();
-        Made::Failed
+        EndMade::Failed
     }
 
     fn give_back(&mut self, end: ScriptEnd<'static>) {

@@ -90,7 +90,7 @@ fn five(alloc: Global) -> Result<List<Value>, AllocError> {
 }
 
 /// Whether the action is void on 5, and what it makes of it.
-fn outcome_of(alloc: Global, action: &Action) -> Result<(bool, i64), AllocError> {
+fn effect_of(alloc: Global, action: &Action) -> Result<(bool, i64), AllocError> {
     let values = five(alloc)?;
     let outcome = eval(alloc, action, values.as_slice())?;
     Ok((outcome.void, first_number(outcome.writes.as_slice())))
@@ -100,7 +100,7 @@ fn outcome_of(alloc: Global, action: &Action) -> Result<(bool, i64), AllocError>
 fn run(alloc: Global, stmts: &str) -> Result<(bool, i64), Fail> {
     let text = format!(in alloc; "reads 0 writes 0 {{ {stmts} }}")?;
     let action = action_of(alloc, text.as_str())?;
-    let told = outcome_of(alloc, &action);
+    let told = effect_of(alloc, &action);
     drop(action);
     Ok(told?)
 }
@@ -115,7 +115,7 @@ fn built(alloc: Global, built: Built) -> Result<(bool, i64), AllocError> {
         origin: Point { x: 0, y: 0 },
         body,
     };
-    let told = outcome_of(alloc, &action);
+    let told = effect_of(alloc, &action);
     drop(action);
     told
 }

@@ -2,7 +2,7 @@
 use std::alloc::Global;
 use std::test::Fail;
 use sv_text::parse_action;
-use sv_wire::{Held, Item, Reply};
+use sv_wire::{ObjectValue, Item, Reply};
 use sv_world::{Action, ClientId, List, ObjectId, Value};
 
 /// What an action sets its first object to, in a world of one number for each object.
@@ -70,11 +70,11 @@ fn value_of(alloc: Global, number: i64) -> Result<Value, Fail> {
     Ok(value)
 }
 
-fn head_of(alloc: Global, values: &[(u16, i64)]) -> Result<List<Held>, Fail> {
+fn head_of(alloc: Global, values: &[(u16, i64)]) -> Result<List<ObjectValue>, Fail> {
     let mut head = List::new(alloc);
     for (object, number) in values {
         let value = value_of(alloc, *number)?;
-        head.push(Held {
+        head.push(ObjectValue {
             object: ObjectId(*object),
             value,
         })?;

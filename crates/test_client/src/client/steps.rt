@@ -4,7 +4,7 @@ ghost use Rattle.std.specs.Prelude.{◌≡◌};
 use super::data::{Answer, Deed, action_of, objects_of, reply_of};
 use std::alloc::Global;
 use std::test::Fail;
-use sv_client::{Client, Mark, TakeFault, View};
+use sv_client::{Client, TraceMark, TakeFault, View};
 use sv_wire::{Done1, Request};
 use sv_world::ObjectId;
 
@@ -86,7 +86,7 @@ fn leaves(client: &mut Client) -> Result<bool, Fail>
 fn cuts(client: &mut Client) -> Result<bool, Fail>
     ensures { client.new.who ≡ client.old.who }
 {
-    client.note(Mark::Cut)?;
+    client.note(TraceMark::Cut)?;
     Ok(true)
 }
 
@@ -99,7 +99,7 @@ fn shows(
     ensures { client.new.who ≡ client.old.who }
 {
     let objects = objects_of(alloc, &[object])?;
-    client.note(Mark::Show(objects))?;
+    client.note(TraceMark::Show(objects))?;
     Ok(number(client.view(ObjectId(object))) == expected)
 }
 

@@ -6,7 +6,7 @@ use super::scans::{
 };
 use std::alloc::{AllocError, Global};
 use sv_journal::{Entry, Logged};
-use sv_wire::{Done1, Held, Request};
+use sv_wire::{Done1, ObjectValue, Request};
 use sv_world::{
     Action, ClientId, List, ObjectId, Shape, Value, check_action, copy_value, is_ascending,
 };
@@ -311,12 +311,12 @@ impl<'a> Past<'a> {
     }
 
     /// Objects with their committed values.
-    fn held(&self, objects: &[ObjectId]) -> Result<List<Held>, AllocError> {
+    fn held(&self, objects: &[ObjectId]) -> Result<List<ObjectValue>, AllocError> {
         let mut head = List::new(self.alloc);
         for object in objects {
             if let Some(value) = self.committed(object.0) {
                 let value = copy_value(self.alloc, value)?;
-                head.push(Held {
+                head.push(ObjectValue {
                     object: *object,
                     value,
                 })?;

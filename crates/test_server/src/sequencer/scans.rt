@@ -3,7 +3,7 @@
 //! Positions count from 1, and an action at a position is the one before it in `actions`.
 use std::alloc::{AllocError, Global};
 use sv_journal::{Entry, Logged};
-use sv_wire::{Done1, Held, Request};
+use sv_wire::{Done1, ObjectValue, Request};
 use sv_world::{Action, List, Value, is_in_mask};
 
 /// An outcome: whose it is, the entry that told it, and the action's position, 0 for a dropped one.
@@ -215,7 +215,7 @@ pub fn is_sent(entries: &[Entry], session: u16, pos: u32) -> bool {
 
 /// The commit of a reply whose head names an object.
 fn named_at(reply: &Logged, object: u16) -> Option<u32> {
-    let (commit, head): (u32, &List<Held>) = match reply {
+    let (commit, head): (u32, &List<ObjectValue>) = match reply {
         Logged::Welcome { commit, head } => (*commit, head),
         Logged::Relay { commit, head, .. } => (*commit, head),
         _ => return None,

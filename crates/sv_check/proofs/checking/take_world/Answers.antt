@@ -1,7 +1,7 @@
 -- What is proved by hand of `take_world`.
 use Rattle.std.proofs.Common.{rules, arith}
 use Rattle.std.proofs.lemmas.Bool.Decides.{nat_tests}
-use Rattle.sv_lines.specs.declared.stop.Stop.TheVariants as stop
+use Rattle.sv_lines.specs.declared.stop.LineStop.TheVariants as stop
 use Rattle.sv_check.specs.Stopping.{IsStop}
 use Rattle.sv_check.proofs.Reporting.{wrong_by, stops_at, wrong_more, report_whole}
 use Rattle.sv_check.proofs.checking.take_world.Goals as goal

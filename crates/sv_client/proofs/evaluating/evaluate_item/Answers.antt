@@ -3,7 +3,7 @@ use Rattle.std.proofs.Common.{◌<◌, ◌∙◌, ◌++◌, List, option_map, sy
 use Rattle.std.specs.Prelude.{ℤ}
 use Rattle.sv_world.specs.declared.world.ObjectId.{ObjectId}
 use Rattle.sv_world.specs.Sets.{numbers_of}
-use Rattle.sv_eval.specs.Evaluation.{outcome_of}
+use Rattle.sv_eval.specs.Evaluation.{effect_of}
 use Rattle.sv_eval.proofs.Masks.{at_mask_all}
 use Rattle.sv_versions.specs.Held.{AnswersAbove}
 use Rattle.sv_client.specs.Traces.{held_at}
@@ -24,7 +24,7 @@ returns-clause-evaluated c =
     let kept = c.args.versions.now.held in
     let missing = ap (λ (os : List ObjectId). first_unheld kept item.pos (numbers_of os)) (sym c.as_slice-reads.ensures) ∙ sym c.first_unheld.ensures ∙ ap (option_map (λ (o : ObjectId). o.0)) c.in_default.is in
     let values = c.in_ok-values.ensures ∙ ap (λ (os : List ObjectId). values_below kept item.pos (numbers_of os)) c.as_slice-reads.ensures in
-    let writes = ap (λ o. o.writes) c.in_ok-outcome.ensures.exact ∙ ap (λ (vs : List (List ℤ)). (outcome_of item.action vs).writes) c.deref.ensures.value in
+    let writes = ap (λ o. o.writes) c.in_ok-outcome.ensures.exact ∙ ap (λ (vs : List (List ℤ)). (effect_of item.action vs).writes) c.deref.ensures.value in
     λ told all a l.
     let held = subst (λ (vs : List (List ℤ)). AnswersAbove told c.hold_values.new.versions.held (all ++ held_at item.pos (numbers_of c.in_ok-written.written) vs)) c.as_slice-2.ensures
     (subst (λ (os : List ObjectId). AnswersAbove told c.hold_values.new.versions.held (all ++ held_at item.pos (numbers_of os) c.as_slice-2.result.now)) c.as_slice.ensures (c.in_ok-hold_values.ensures.held told all a)) in

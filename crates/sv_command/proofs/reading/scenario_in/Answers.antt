@@ -10,10 +10,10 @@ pub returns-in_err-bytes-clause-raises : goal.returns-in_err-bytes-clause-raises
 returns-in_err-bytes-clause-raises g c = λ k. raised_by c.from_residual.result c.in_err-bytes.field-0.0 c.from_residual.ensures.1 _ _ (c.in_err-bytes.ensures.raises k)
 
 pub returns-clause-read : goal.returns-clause-read
-returns-clause-read g c = given_read _ _ c.scenario_of.result c.in_ok-bytes.ensures.front (rw c.deref.ensures.value at c.scenario_of.ensures)
+returns-clause-read g c = given_read _ _ c.given_scenario.result c.in_ok-bytes.ensures.front (rw c.deref.ensures.value at c.given_scenario.ensures)
 
 pub returns-clause-raises : goal.returns-clause-raises
-returns-clause-raises g c = λ k. given_raises _ c.scenario_of.result c.scenario_of.ensures _ _ (c.in_ok-bytes.ensures.raises k)
+returns-clause-raises g c = λ k. given_raises _ c.given_scenario.result c.given_scenario.ensures _ _ (c.in_ok-bytes.ensures.raises k)
 
 pub returns-clause-sure : goal.returns-clause-sure
-returns-clause-sure g c = λ sure s. given_not_file _ c.scenario_of.result c.scenario_of.ensures s
+returns-clause-sure g c = λ sure s. given_not_file _ c.given_scenario.result c.given_scenario.ensures s

@@ -1,7 +1,7 @@
 -- What the check leaves to prove of `deliver`.
 use Rattle.std.proofs.Common.{◌≡◌, ℕ, ◌<◌, List, All, sym, ◌∙◌, ap, subst}
 use Rattle.sv_world.specs.declared.world.Shape.{Shape}
-use Rattle.sv_wire.specs.declared.message.Held.{Held}
+use Rattle.sv_wire.specs.declared.message.ObjectValue.{ObjectValue}
 use Rattle.sv_queue.specs.Queue.{QueueView}
 use Rattle.sv_sequencer.proofs.FitMarks.{shape-marked}
 use Rattle.sv_sequencer.proofs.deliver.deliver.Goals as goal
@@ -10,5 +10,5 @@ pub give_all-requires-clause-objects : goal.give_all-requires-clause-objects
 give_all-requires-clause-objects c =
     let shape : c.mark_all.new.queue.shape.objects ≡ c.args.queue.now.shape.objects =
     ap (λ (v : QueueView). v.shape.objects) c.mark_all.ensures ∙ ap (λ (d : Shape). d.objects) (shape-marked c.args.queue.now c.as_slice.result.now c.args.session) in
-    subst (λ (xs : List Held). All (λ (x : Held). x.object.0 < c.mark_all.new.queue.shape.objects) xs) (sym c.as_slice-2.ensures)
-    (subst (λ (n : ℕ). All (λ (x : Held). x.object.0 < n) c.args.relayed.now.head) (sym shape) c.requires.objects)
+    subst (λ (xs : List ObjectValue). All (λ (x : ObjectValue). x.object.0 < c.mark_all.new.queue.shape.objects) xs) (sym c.as_slice-2.ensures)
+    (subst (λ (n : ℕ). All (λ (x : ObjectValue). x.object.0 < n) c.args.relayed.now.head) (sym shape) c.requires.objects)

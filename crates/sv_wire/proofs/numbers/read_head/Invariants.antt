@@ -1,8 +1,8 @@
 -- The loop invariant of `read_head`.
 use Rattle.std.proofs.Common.{ℕ, ◌<◌, get_or}
-use Rattle.sv_wire.specs.declared.message.Held.{Held}
+use Rattle.sv_wire.specs.declared.message.ObjectValue.{ObjectValue}
 use Rattle.sv_wire.specs.Ranges.{HeldFits}
 use Rattle.sv_wire.proofs.numbers.read_head.Given as goal
 
 abbrev pub invariant-loop-held : goal.invariant-loop-held
-invariant-loop-held l = (k : ℕ) (d : Held) → k < l.held-index → HeldFits (get_or l.head k d)
+invariant-loop-held l = (k : ℕ) (d : ObjectValue) → k < l.held-index → HeldFits (get_or l.head k d)

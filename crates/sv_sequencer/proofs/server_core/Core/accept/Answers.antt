@@ -1,7 +1,7 @@
 -- What the check leaves to prove of `Core::accept`.
 use Rattle.std.proofs.Common.{◌≡◌, ◌<◌, suc, List, [], ◌∷◌, ◌++◌, map, length, All, refl, sym, ◌∙◌, ap, subst, arith}
 use Rattle.sv_world.specs.declared.world.ClientId.{ClientId}
-use Rattle.sv_wire.specs.declared.message.Held.{Held}
+use Rattle.sv_wire.specs.declared.message.ObjectValue.{ObjectValue}
 use Rattle.sv_wire.specs.declared.message.Reply.TheVariants as replies
 use Rattle.sv_journal.specs.declared.entry.Logged.{Logged}
 use Rattle.sv_journal.specs.declared.entry.Logged.TheVariants as logged
@@ -37,7 +37,7 @@ send-requires-clause-positions g c =
 pub send-requires-clause-objects : goal.send-requires-clause-objects
 send-requires-clause-objects g c =
     let Q = c.take_in.new.queue in
-    subst (λ (xs : List Held). All (λ (x : Held). x.object.0 < Q.shape.objects) xs) (sym c.in_ok-relayed.ensures.head)
+    subst (λ (xs : List ObjectValue). All (λ (x : ObjectValue). x.object.0 < Q.shape.objects) xs) (sym c.in_ok-relayed.ensures.head)
     (held-low Q Q.shape.objects (base_objects Q c.args.session (last_position Q)) (bases-below Q c.args.session (last_position Q)))
 
 pub returns-clause-ok : goal.returns-clause-ok

@@ -23,7 +23,7 @@ copy_missing-requires g c =
     let a = c.args.self.now in
     let k = c.requires.0 in
     let small : c.args.session < 64 = omega (arith, c.requires.1.0, k.few_sessions) in
-    subst (All (CanReport a.queue)) (sym c.results_of.ensures)
+    subst (All (CanReport a.queue)) (sym c.reported_by.ensures)
     (can_report_done (core_rules a) g.h a.queue c.args.session (results_in c.args.request.now) small k.commit k.sound.sent k.fits c.requires.1.1.1)
 
 pub set_reports-requires : goal.set_reports-requires
@@ -31,10 +31,10 @@ set_reports-requires g c =
     let a = c.args.self.now in
     let k = c.requires.0 in
     let small : c.args.session < 64 = omega (arith, c.requires.1.0, k.few_sessions) in
-    let can : All (CanReport a.queue) c.results_of.result.now =
-    subst (All (CanReport a.queue)) (sym c.results_of.ensures)
+    let can : All (CanReport a.queue) c.reported_by.result.now =
+    subst (All (CanReport a.queue)) (sym c.reported_by.ensures)
     (can_report_done (core_rules a) g.h a.queue c.args.session (results_in c.args.request.now) small k.commit k.sound.sent k.fits c.requires.1.1.1) in
-    subst (All (CanReport a.queue)) (sym c.in_ok-results.ensures) (All-filter (λ (d : Done1). is_missing a.queue d.pos) (CanReport a.queue) c.results_of.result.now can)
+    subst (All (CanReport a.queue)) (sym c.in_ok-results.ensures) (All-filter (λ (d : Done1). is_missing a.queue d.pos) (CanReport a.queue) c.reported_by.result.now can)
 
 pub returns-clause-ok : goal.returns-clause-ok
 returns-clause-ok g c =
@@ -52,7 +52,7 @@ returns-clause-ok g c =
     let within : All (λ (d : Done1). d.pos ≤ last_position v) ds = λ i d l. (can i d l).last in
     let queue : c.install.new.self ≡ ready_installed (with_reports v ds) =
     c.install.ensures.installed
-    ∙ ap ready_installed (c.set_reports.ensures ∙ ap (with_reports v) c.in_ok-results.ensures ∙ reports-missing v c.results_of.result.now ∙ ap (with_reports v) c.results_of.ensures) in
+    ∙ ap ready_installed (c.set_reports.ensures ∙ ap (with_reports v) c.in_ok-results.ensures ∙ reports-missing v c.reported_by.result.now ∙ ap (with_reports v) c.reported_by.ensures) in
     let at : n ≡ (ready_installed (with_reports v ds)).commit = c.commit-commit.ensures ∙ ap (λ (w : QueueView). w.commit) queue in
     let told = noted (core_rules a) h v (entry_of s (requests.Done ds) (logged.Noted 0)) 0 ds refl refl within k.commit k.sound k.fits in
     let said : logged.Noted n ≡ logged.Noted (commit_with h s ds) = ap logged.Noted (at ∙ told.1.0) in

@@ -1,6 +1,6 @@
 -- What the check leaves to prove of `Core::relay`.
 use Rattle.std.proofs.Common.{◌≡◌, ◌≤◌, ◌<◌, List, ◌∷◌, map, All, refl, sym, ◌∙◌, ap, subst, arith}
-use Rattle.sv_wire.specs.declared.message.Held.{Held}
+use Rattle.sv_wire.specs.declared.message.ObjectValue.{ObjectValue}
 use Rattle.sv_wire.specs.declared.message.Reply.TheVariants as replies
 use Rattle.sv_journal.specs.declared.entry.Logged.{Logged}
 use Rattle.sv_journal.specs.declared.entry.Logged.TheVariants as logged
@@ -34,7 +34,7 @@ send-requires-clause-positions g c =
 pub send-requires-clause-objects : goal.send-requires-clause-objects
 send-requires-clause-objects g c =
     let v = c.args.self.now.queue in
-    subst (λ (xs : List Held). All (λ (x : Held). x.object.0 < v.shape.objects) xs) (sym c.in_ok-relayed.ensures.head)
+    subst (λ (xs : List ObjectValue). All (λ (x : ObjectValue). x.object.0 < v.shape.objects) xs) (sym c.in_ok-relayed.ensures.head)
     (held-low v v.shape.objects (base_objects v c.args.session c.args.pos) (bases-below v c.args.session c.args.pos))
 
 pub returns-clause-ok : goal.returns-clause-ok

@@ -1,6 +1,6 @@
 -- What the check leaves to prove of `Core::welcome`.
 use Rattle.std.proofs.Common.{◌≡◌, ◌<◌, ℕ, List, ◌∷◌, All, refl, sym, ◌∙◌, ap, subst}
-use Rattle.sv_wire.specs.declared.message.Held.{Held}
+use Rattle.sv_wire.specs.declared.message.ObjectValue.{ObjectValue}
 use Rattle.sv_wire.specs.declared.message.Reply.TheVariants as replies
 use Rattle.sv_journal.specs.declared.entry.Logged.TheVariants as logged
 use Rattle.sv_journal.specs.History.{accepted, commit_of}
@@ -32,7 +32,7 @@ give_all-requires-clause-objects g c =
     let objects = ap (λ d. d.objects) c.requires.0.fits.shape in
     let low = subst (λ (n : ℕ). All (λ x. x < n) (interest_in c.args.request.now)) (sym objects) c.requires.1.1.1.interest in
     let head : c.as_slice-2.result.now ≡ held_in v (interest_in c.args.request.now) = c.as_slice-2.ensures ∙ c.in_ok-head.ensures ∙ ap (held_in v) c.interest_of.ensures in
-    subst (λ (xs : List Held). All (λ (x : Held). x.object.0 < v.shape.objects) xs) (sym head) (held-low v v.shape.objects (interest_in c.args.request.now) low)
+    subst (λ (xs : List ObjectValue). All (λ (x : ObjectValue). x.object.0 < v.shape.objects) xs) (sym head) (held-low v v.shape.objects (interest_in c.args.request.now) low)
 
 pub returns-clause-ok : goal.returns-clause-ok
 returns-clause-ok g c =

@@ -33,8 +33,8 @@ note_ahead-requires g c =
     let is = stands-for a c.args.self.now h c.self.invariant c.self.view_is c.requires.0 in
     let joined = sym (client-agreed h s) ∙ sym (c.client.ensures (agreed_history h) is.keeps) ∙ c.in-Some.is in
     let good = subst (λ (v : SequencerView). is_bad_done v.rules (agreed_history h) s (results_in c.args.request.now) ≡ false) (sym c.self.view_is) c.requires.1.1.1.0 in
-    subst (λ (v : QueueView). All (λ (d : Done1). d.pos ≤ last_position v) c.results_of.result.now) (sym c.queue.ensures)
-    (subst (All (λ (d : Done1). d.pos ≤ last_position (queue_of a.core))) (sym c.results_of.ensures)
+    subst (λ (v : QueueView). All (λ (d : Done1). d.pos ≤ last_position v) c.reported_by.result.now) (sym c.queue.ensures)
+    (subst (All (λ (d : Done1). d.pos ≤ last_position (queue_of a.core))) (sym c.reported_by.ensures)
     (reported-low (core_rules a.core) h s c.in-Some.client (results_in c.args.request.now) joined good (queue_of a.core) is.keeps.fits.last))
 
 pub install-requires : goal.install-requires
@@ -58,7 +58,7 @@ install-requires g c =
     let stands = subst (λ (ds : List Dispute). KeepsBeside (core_rules a.core) new ds h) (sym c.note_ahead.ensures.disputes)
     (same-stands (core_rules a.core) rows new a.testimony.disputes.items h same is.stands) in
     let named = sym said.client in
-    let counted = said.counted ∙ ap (λ (w : QueueView). counted_results w.commit rows k c.results_of.result.now) c.queue.ensures ∙ ap (counted_results v.commit rows k) c.results_of.ensures
+    let counted = said.counted ∙ ap (λ (w : QueueView). counted_results w.commit rows k c.reported_by.result.now) c.queue.ensures ∙ ap (counted_results v.commit rows k) c.reported_by.ensures
     ∙ sym (same-counted rows new same v.commit k (results_in q)) ∙ ap (λ n. counted_results v.commit new n (results_in q)) named in
     let brought = said.agreed ∙ ap (agreed_results c.queue.result.now rows) (sym said.counted) ∙ ap (λ (w : QueueView). agreed_results w rows noting.counted.items) c.queue.ensures
     ∙ sym (same-agreed rows new same v noting.counted.items) in
