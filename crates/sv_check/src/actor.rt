@@ -20,7 +20,7 @@ use crate::journal::Served;
 use crate::moves::next_event;
 use crate::settled::is_settled;
 use std::alloc::{AllocError, Global};
-use sv_client::{Client, Event, MakeFault, TraceMark, PollFault, TakeFault, Trace};
+use sv_client::{Client, Event, MakeFault, PollFault, TakeFault, Trace, TraceMark};
 use sv_journal::{Entry, is_end};
 use sv_lines::{LineStop, take_line};
 use sv_report::{append_after, append_before};

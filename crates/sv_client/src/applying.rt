@@ -14,7 +14,7 @@ use crate::same::are_same_values;
 use std::alloc::AllocError;
 use sv_pending::Pending;
 use sv_versions::{Undo, Versions};
-use sv_wire::{Done1, ObjectValue, Item, Reply, Request};
+use sv_wire::{Done1, Item, ObjectValue, Reply, Request};
 use sv_world::{List, Value};
 
 /// Whether a result is there and is the one that was kept.

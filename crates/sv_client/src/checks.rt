@@ -7,7 +7,7 @@ ghost use Rattle.sv_client.specs.Taking.{has_bad_action, is_good_answer, is_unfi
 use crate::kinds::Awaited;
 use crate::same::same_action;
 use sv_pending::{Pending, PendingItem};
-use sv_wire::{ObjectValue, Item, Reply};
+use sv_wire::{Item, ObjectValue, Reply};
 use sv_world::{ClientId, Shape, check_action};
 
 fn head_ascends(head: &[ObjectValue]) -> bool

@@ -16,7 +16,7 @@ use crate::fault::{MakeFault, PollFault, TakeFault};
 use crate::kinds::{Awaited, allows_kind};
 use crate::raising::raise_events;
 use crate::taken::take_reply;
-use crate::trace::{Event, TraceMark, Trace};
+use crate::trace::{Event, Trace, TraceMark};
 use crate::view::View;
 use std::alloc::{AllocError, Global};
 use std::marker::Model;

@@ -12,7 +12,7 @@ use crate::fault::TakeFault;
 use std::alloc::AllocError;
 use sv_eval::{eval, written_objects};
 use sv_versions::{Undo, Versions};
-use sv_wire::{Done1, ObjectValue, Item};
+use sv_wire::{Done1, Item, ObjectValue};
 use sv_world::{List, ObjectId, Value, copy_value};
 
 /// Holds the values of a head at its reply's commit.

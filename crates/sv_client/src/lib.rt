@@ -20,5 +20,5 @@ pub use client::Client;
 pub use fault::{MakeFault, PollFault, TakeFault};
 pub use limits::MOST_MADE;
 pub use same::{are_same_values, same_action, same_actions_are_equal, same_values_are_equal};
-pub use trace::{Event, TraceMark, Trace, is_make};
+pub use trace::{Event, Trace, TraceMark, is_make};
 pub use view::View;

@@ -1,13 +1,13 @@
 //! What actions do to the values that they read.
 #![tactic(auto)]
 
-mod evaluation;
 mod effect;
+mod evaluation;
 mod run;
 mod serial;
 mod written;
 
-pub use evaluation::eval;
 pub use effect::Effect;
+pub use evaluation::eval;
 pub use serial::serial_worlds_keep_their_shape;
 pub use written::written_objects;

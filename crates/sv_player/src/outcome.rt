@@ -4,7 +4,7 @@ ghost use Rattle.sv_client.specs.Seen.{event_of_mark};
 ghost use Rattle.sv_player.specs.Partings.{parting_event, parting_ending};
 
 use std::alloc::{AllocError, AllocFailed};
-use sv_client::{TraceMark, TakeFault, Trace};
+use sv_client::{TakeFault, Trace, TraceMark};
 use sv_watch::Line;
 use sv_wire::Malformed;
 

@@ -15,7 +15,7 @@ ghost use Rattle.sv_player.specs.Going.{IsGoing, Did, DidInPart};
 
 use crate::telling::{Seen, tell_changes};
 use std::alloc::{AllocError, Global};
-use sv_client::{Client, MakeFault, TraceMark, PollFault, TakeFault};
+use sv_client::{Client, MakeFault, PollFault, TakeFault, TraceMark};
 use sv_scenario::Step;
 use sv_watch::{Line, Watch};
 use sv_wire::{Reply, Request};

@@ -23,7 +23,7 @@ use crate::buffers::{Buffers, Waited};
 use crate::moves::{Making, Move};
 use crate::outcome::{Ending, Parting, PlayerCause, ReplyFault};
 use crate::playing::Player;
-use sv_client::{TraceMark, TakeFault};
+use sv_client::{TakeFault, TraceMark};
 use sv_frame::{FrameReader, Next};
 use sv_link::{End, Sent};
 use sv_scenario::Step;

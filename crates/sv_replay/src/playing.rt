@@ -17,7 +17,7 @@ ghost use Rattle.sv_replay.specs.Serving.{one_if};
 ghost use Rattle.sv_replay.specs.Machine.{player_of, AreFlags, IsReady, Does, MovedPlayer};
 
 use std::alloc::{AllocError, Global};
-use sv_client::{Client, MakeFault, TraceMark, PollFault, TakeFault, Trace};
+use sv_client::{Client, MakeFault, PollFault, TakeFault, Trace, TraceMark};
 use sv_exchange::Exchange;
 use sv_scenario::Step;
 use sv_wire::Request;

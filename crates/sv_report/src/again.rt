@@ -9,7 +9,7 @@ ghost use Rattle.sv_client.specs.Answers.{got_now};
 ghost use Rattle.sv_report.specs.Again.{MayDo, again};
 
 use std::alloc::{AllocError, Global};
-use sv_client::{Client, Event, MakeFault, TraceMark, PollFault, TakeFault};
+use sv_client::{Client, Event, MakeFault, PollFault, TakeFault, TraceMark};
 use sv_wire::{Reply, copy_reply};
 use sv_world::{Action, List, ObjectId, copy_action, copy_objects};
 

@@ -12,7 +12,7 @@ use std::marker::Brand;
 use std::sync::ledger::{Blank, Ledger};
 use sv_influence::closure;
 use sv_queue::{Queue, Steps};
-use sv_wire::{ObjectValue, Item, copy_head};
+use sv_wire::{Item, ObjectValue, copy_head};
 use sv_world::{List, ObjectId, copy_action, copy_value};
 
 /// What a relay of a position has, once for the journal and once for the reply.

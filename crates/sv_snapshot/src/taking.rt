@@ -20,7 +20,7 @@ use std::alloc::{AllocError, Global};
 use sv_client::{Client, Event, Trace, View};
 use sv_report::do_again;
 use sv_system::{Played, replicas_equal_serial_execution};
-use sv_wire::{ObjectValue, Item, Reply};
+use sv_wire::{Item, ObjectValue, Reply};
 use sv_world::{List, ObjectId, Shape, Value, copy_objects, copy_value};
 
 /// The value of an object below a position. A client that took a relay holds one of each object that the last item reads.

@@ -2,7 +2,7 @@
 ghost use Rattle.std.specs.Prelude.{◌≡◌, IfOk};
 ghost use Rattle.sv_wire.specs.declared.message.Reply.TheVariants as reply;
 
-use crate::message::{Done1, ObjectValue, Item, Reply, Request};
+use crate::message::{Done1, Item, ObjectValue, Reply, Request};
 use std::alloc::{AllocError, Global};
 use sv_world::{List, copy_action, copy_objects, copy_value, copy_values};
 

@@ -8,7 +8,7 @@ ghost use Rattle.sv_wire.specs.Spelling.{action_bytes, item_bytes, request_bytes
 ghost use Rattle.sv_wire.specs.Grammar.{IsWireAction, IsWireRelay, IsWireRequest, IsWireReply};
 ghost use Rattle.sv_wire.specs.Messages.{request_at, reply_at};
 
-use crate::message::{ObjectValue, Item, Reply, Request};
+use crate::message::{Item, ObjectValue, Reply, Request};
 use crate::numbers::{read_reply, read_request};
 use crate::put::{put_head, put_objects, put_point, put_results, put_u16, put_u32};
 use crate::put_body::put_body;

@@ -150,7 +150,11 @@ fn held_of(alloc: Global, least: u32, bytes: &[u8]) -> Result<(ObjectValue, u32,
     Ok((ObjectValue { object, value }, next, rest))
 }
 
-fn helds_of(alloc: Global, count: u16, bytes: &[u8]) -> Result<(List<ObjectValue>, &[u8]), ReadFault>
+fn helds_of(
+    alloc: Global,
+    count: u16,
+    bytes: &[u8],
+) -> Result<(List<ObjectValue>, &[u8]), ReadFault>
     ensures { Gives (λ x. (x.0, x.1.now)) result (helds_from count bytes.now) }
 {
     let mut head = list_for(alloc, usize::from(count))?;

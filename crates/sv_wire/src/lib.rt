@@ -26,6 +26,6 @@ pub use decoding::{decode_reply, decode_request};
 pub use encoding::{encode_reply, encode_reply_into, encode_request, encode_request_into};
 pub use fault::{Malformed, WireCause, WireFault};
 pub use laws::{encoded_is_read_back, no_payload_begins_another, one_payload};
-pub use message::{Done1, ObjectValue, Item, Reply, Request};
+pub use message::{Done1, Item, ObjectValue, Reply, Request};
 pub use numbers::{read_action, read_reply, read_request, read_values};
 pub use refusal::Refusal;

@@ -4,7 +4,7 @@ ghost use Rattle.std.specs.Prelude.{◌^◌, ◌<◌, All, FitsSigned};
 ghost use Rattle.std.specs.Int.{w32, w64};
 ghost use Rattle.sv_wire.specs.Ranges.{ValueFits, HeldFits, ResultFits, ActionFits, ItemFits, RequestFits, ReplyFits};
 
-use crate::message::{Done1, ObjectValue, Item, Reply, Request};
+use crate::message::{Done1, Item, ObjectValue, Reply, Request};
 use sv_world::{Action, Point, Value, read_object, read_objects};
 
 fn read_u8(number: u8)

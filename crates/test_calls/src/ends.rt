@@ -5,7 +5,7 @@ ghost use Rattle.sv_link.specs.declared.side.Side.TheVariants.{Server};
 ghost use Rattle.test_calls.specs.Scripts.{told_of_script, faults_of_script};
 
 use std::alloc::{AllocError, Global};
-use sv_bytes::{FaultCount, CallPlan};
+use sv_bytes::{CallPlan, FaultCount};
 use sv_link::{End, EndRead, EndWrote};
 
 /// The server's end. Reads give the next bytes of `coming`, and after them answer that no more will come. It keeps what is sent to it. Its plan

@@ -4,7 +4,7 @@ ghost use Rattle.sv_wire.specs.Laws.{IsReply};
 ghost use Rattle.test_exchange.specs.Worked.{greatest_number, great_heads, great_reads, great_body, great_action, great_items};
 
 use std::alloc::{AllocError, Global};
-use sv_wire::{ObjectValue, Item, Reply};
+use sv_wire::{Item, ObjectValue, Reply};
 use sv_world::{
     Action, Body, ClientId, Expr, List, ObjectId, Point, Reads, Stmt, Value, has_short_blocks,
 };

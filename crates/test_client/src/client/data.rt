@@ -2,7 +2,7 @@
 use std::alloc::Global;
 use std::test::Fail;
 use sv_text::parse_action;
-use sv_wire::{ObjectValue, Item, Reply};
+use sv_wire::{Item, ObjectValue, Reply};
 use sv_world::{Action, ClientId, List, ObjectId, Value};
 
 /// What an action sets its first object to, in a world of one number for each object.

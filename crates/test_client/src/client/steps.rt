@@ -4,7 +4,7 @@ ghost use Rattle.std.specs.Prelude.{◌≡◌};
 use super::data::{Answer, Deed, action_of, objects_of, reply_of};
 use std::alloc::Global;
 use std::test::Fail;
-use sv_client::{Client, TraceMark, TakeFault, View};
+use sv_client::{Client, TakeFault, TraceMark, View};
 use sv_wire::{Done1, Request};
 use sv_world::ObjectId;
 
