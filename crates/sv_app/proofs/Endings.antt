@@ -1,5 +1,5 @@
 -- What the status of an ending of `run` says.
-use Rattle.std.proofs.Common.{◌≡◌, ◌≢◌, ◌↔◌, ◌⊎◌, ◌≤◌, inl, inr, refl, arith, ℕ, List, take, Option, Some, None, sym, ap, subst}
+use Rattle.std.proofs.Common.{◌≡◌, ◌≢◌, ◌↔◌, ◌⊎◌, ◌≤◌, inl, inr, refl, ℕ, List, take, Option, Some, None, sym, ap, subst}
 use Rattle.std.specs.Prelude.{string_bytes, option_map, IfSome, String}
 use Rattle.std.specs.declared.alloc.Global.{Global}
 use Rattle.sv_bytes.specs.Writing.{Grew, GrewByPart}

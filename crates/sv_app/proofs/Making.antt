@@ -1,6 +1,6 @@
 -- How the text of a call comes about, and why there is none.
-use Rattle.std.proofs.Common.{◌≡◌, refl, ℕ, List, Option, Some, sym, ap, ◌∙◌}
-use Rattle.std.specs.Prelude.{reverse, IsErrAnd, Result, Err, String}
+use Rattle.std.proofs.Common.{◌≡◌, ℕ, List, Option, Some, sym, ap, ◌∙◌}
+use Rattle.std.specs.Prelude.{reverse, IsErrAnd, Result, String}
 use Rattle.std.specs.declared.alloc.Global.{Global}
 use Rattle.std.proofs.lemmas.List.{reverse-reverse}
 use Rattle.sv_link.specs.Nets.{Transcript}

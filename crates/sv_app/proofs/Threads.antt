@@ -1,5 +1,5 @@
 -- What is left of a run on threads.
-use Rattle.std.proofs.Common.{◌≡◌, ◌≤◌, List, [], ◌∷◌, length, reverse, sym, ap, ◌∙◌, arith}
+use Rattle.std.proofs.Common.{◌≡◌, List, reverse, sym, ap, ◌∙◌}
 use Rattle.std.specs.List.{flat_map}
 use Rattle.sv_link.specs.Nets.{Transcript}
 use Rattle.sv_journal.specs.declared.entry.Entry.{Entry}

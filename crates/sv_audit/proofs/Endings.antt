@@ -7,15 +7,15 @@ use Rattle.sv_system.specs.declared.played.Played.{Played}
 use Rattle.sv_bytes.specs.Faults.{Rose}
 use Rattle.sv_bytes.specs.Writing.{GrewOrRose}
 use Rattle.sv_command.specs.declared.ending.Ending.TheVariants as plain
-use Rattle.sv_command.specs.Reading.{IsRead, IsRefused, HoldsScenario, IsNoScenario, read_limit}
+use Rattle.sv_command.specs.Reading.{HoldsScenario, IsNoScenario, read_limit}
 use Rattle.sv_command.specs.Lines.{file_line}
 use Rattle.sv_command.specs.Statuses.{Counts, NoneRose, status_line}
 use Rattle.sv_command.proofs.Held.{Faulty, always, read_is, holds_none}
 use Rattle.sv_command.proofs.Statuses.{words_is as plain_words_is, file_is as plain_file_is, faults_are as plain_faults, untold}
 use Rattle.sv_audit.specs.declared.ending.AuditEnding.{AuditEnding}
 use Rattle.sv_audit.specs.declared.ending.AuditEnding.TheVariants as endings
-use Rattle.sv_audit.specs.Judging.{IsReportFront, IsApproved, IsOutside, report_size, report_limit}
-use Rattle.sv_audit.specs.Statuses.{status_of, Raises, Ends, EndsEarly, Leaves, IsPlaceOutside, audit_line, wrong_line, TellsStatus, NamesUnread}
+use Rattle.sv_audit.specs.Judging.{IsReportFront, IsApproved, report_size, report_limit}
+use Rattle.sv_audit.specs.Statuses.{status_of, Raises, Ends, Leaves, IsPlaceOutside, audit_line, wrong_line, TellsStatus}
 use Rattle.sv_audit.specs.Words.{Asked, Asking, scenario_named}
 
 -- ---- Statuses

@@ -1,21 +1,19 @@
 -- The text of an answer, or why there is none, from the parts of the call; and the counts of faults.
-use Rattle.std.proofs.Common.{◌≡◌, refl, sym, ap, ◌∙◌, subst, ℕ, ◌<◌, ◌≤◌, List, length, Option, Some, None}
-use Rattle.std.specs.Prelude.{IsErrAnd, IfErr, Result, Ok, Err, String, string_bytes}
+use Rattle.std.proofs.Common.{◌≡◌, subst, ℕ, List, Option, Some, None}
+use Rattle.std.specs.Prelude.{IsErrAnd, IfErr, Result, Ok, Err, String}
 use Rattle.std.specs.declared.alloc.Global.{Global}
 use Rattle.sv_scenario.specs.declared.scenario.Scenario.{Scenario}
-use Rattle.sv_scenario.specs.Limits.{IsGoodScenario}
 use Rattle.sv_scenario.specs.Scenarios.{scenario_of}
 use Rattle.sv_system.specs.declared.played.Played.{Played}
 use Rattle.sv_command.specs.declared.ending.Ending.{Ending}
 use Rattle.sv_command.specs.declared.ending.Ending.TheVariants as plain
 use Rattle.sv_command.specs.Endings.{IsMade}
-use Rattle.sv_command.specs.Reading.{IsFileFront, IsRead, IsRefused}
+use Rattle.sv_command.specs.Reading.{IsFileFront}
 use Rattle.sv_command.specs.Statuses.{Counts, IsGiven, IsUnread}
 use Rattle.sv_command.proofs.Counts.{came}
-use Rattle.sv_check.specs.Consistent.{IsReportOf}
 use Rattle.sv_audit.specs.declared.ending.AuditEnding.{AuditEnding}
 use Rattle.sv_audit.specs.declared.ending.AuditEnding.TheVariants as endings
-use Rattle.sv_audit.specs.Judging.{IsReportFront, AreRead, IsApproved, IsJudged, AnswersOrEnds, IsOverAt, IsText, report_size}
+use Rattle.sv_audit.specs.Judging.{IsReportFront, AreRead, IsApproved, IsJudged, AnswersOrEnds, IsOverAt, IsText}
 use Rattle.sv_audit.specs.Statuses.{Raises, EndsEarly, AreUnread, ending_of}
 use Rattle.sv_audit.specs.Words.{Asking}
 

@@ -1,6 +1,6 @@
 -- What is left of a call, by how it ended.
 use Rattle.std.proofs.Common.{◌≡◌, ◌≢◌, refl, arith, ℕ, List, Option, subst}
-use Rattle.std.specs.Prelude.{IsErrAnd, Result, String, string_bytes}
+use Rattle.std.specs.Prelude.{IsErrAnd, Result, String}
 use Rattle.std.specs.declared.alloc.Global.{Global}
 use Rattle.sv_bytes.specs.Writing.{Grew, GrewByPart}
 use Rattle.sv_command.specs.declared.ending.Ending.{Ending}

@@ -2,7 +2,6 @@
 use Rattle.std.proofs.Common.{◌≡◌, ◌≢◌, ◌↔◌, ◌⊎◌, inl, inr, refl, arith, ℕ, ◌<◌, ◌≤◌, List, length, take, Option, Some, None, ap}
 use Rattle.std.specs.Prelude.{string_bytes, IfSome, Ok}
 use Rattle.std.proofs.lemmas.Option.{slice_get_within}
-use Rattle.sv_bytes.specs.Faults.{Rose}
 use Rattle.sv_bytes.specs.Writing.{GrewOrRose}
 use Rattle.sv_link.specs.Ends.{Told}
 use Rattle.sv_scenario.specs.declared.scenario.Scenario.{Scenario}

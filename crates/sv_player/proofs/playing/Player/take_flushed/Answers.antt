@@ -1,8 +1,7 @@
 -- What is proved by hand of `Player::take_flushed`.
-use Rattle.std.proofs.Common.{subst}
 use Rattle.std.proofs.lemmas.Result.{err_from_is_err_and}
 use Rattle.sv_client.specs.Seen.{latest_session}
-use Rattle.sv_player.proofs.Receiving.{flush_stops, flush_sends}
+use Rattle.sv_player.proofs.Receiving.{flush_stops}
 use Rattle.sv_player.proofs.playing.Player.take_flushed.Goals as goal
 
 pub returns-in_err-sent_whole-clause-received : goal.returns-in_err-sent_whole-clause-received
