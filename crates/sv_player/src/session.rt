@@ -223,20 +223,7 @@ impl<'a> Player<'a> {
         ensures calm { E.calm end.old → E.calm end.new }
     {
         let reply = self.read_first(&buffers.reader)?;
-        let bye = is_bye(&reply);
-        match self.take(reply, watch) {
-            Ok(done) => {
-                buffers.reader.skip();
-                self.answer(done, buffers, end)?;
-                Ok(bye)
-            }
-            Err(TakeFault::Memory) => {
-                // The reply may stand in the trace already.
-                buffers.reader.skip();
-                Err(PlayerCause::Memory)
-            }
-            Err(fault) => Err(self.refusal(&buffers.reader, fault)),
-        }
+        self.take_reply(reply, watch, buffers, end)
     }
 
     /// Sends the Done of a relay that was taken.
@@ -260,6 +247,46 @@ impl<'a> Player<'a> {
         match done {
             Some(request) => sent_whole(buffers.post(&request, end)),
             None => Ok(()),
+        }
+    }
+
+    /// Takes a reply that was read of the first frame, and sends what it leads to. Whether it was the Bye, before which nothing waits.
+    ///
+    /// Before a fault is told, all that waits is sent.
+    fn take_reply<E: End>(
+        &mut self,
+        reply: Reply,
+        watch: &Watch,
+        buffers: &mut Buffers,
+        end: &mut E,
+    ) -> Result<bool, PlayerCause>
+        requires watch { watch.now.shape ≡ self.old.client.who.shape }
+        requires at { IsAt (latest_session self.old.client.events) self.old buffers.old (E.told end.old) }
+        requires here { IsHere self.old.client.who self.old.client.events self.old.left.now }
+        requires came { first_frame buffers.old.reader ≢ None }
+        requires first { IsFirst buffers.old.reader reply }
+        requires flushed { is_bye reply ≡ true → buffers.old.outbox ≡ [] }
+        ensures received { IsReceived result (latest_session self.old.client.events) self.old self.new buffers.new (E.told end.new) }
+        ensures same_end { which_end (E.told end.new) ≡ which_end (E.told end.old) }
+        ensures cause { FaultCause (E.faults end.old) (E.faults end.new) result }
+        ensures calm { E.calm end.old → E.calm end.new }
+    {
+        let bye = is_bye(&reply);
+        match self.take(reply, watch) {
+            Ok(done) => {
+                buffers.reader.skip();
+                self.answer(done, buffers, end)?;
+                Ok(bye)
+            }
+            Err(TakeFault::Memory) => {
+                // The reply may stand in the trace already.
+                buffers.reader.skip();
+                Err(PlayerCause::Memory)
+            }
+            Err(fault) => {
+                sent_whole(buffers.flush(end))?;
+                Err(self.refusal(&buffers.reader, fault))
+            }
         }
     }
 
@@ -318,21 +345,7 @@ impl<'a> Player<'a> {
         let Some(reply) = self.plain_first(&buffers.reader) else {
             return self.take_flushed(watch, buffers, end);
         };
-        match self.take(reply, watch) {
-            Ok(done) => {
-                buffers.reader.skip();
-                self.answer(done, buffers, end)?;
-                Ok(false)
-            }
-            Err(TakeFault::Memory) => {
-                buffers.reader.skip();
-                Err(PlayerCause::Memory)
-            }
-            Err(fault) => {
-                sent_whole(buffers.flush(end))?;
-                Err(self.refusal(&buffers.reader, fault))
-            }
-        }
+        self.take_reply(reply, watch, buffers, end)
     }
 
     /// Takes the next reply. What waits is sent before it waits for one. Whether it was the Bye.
