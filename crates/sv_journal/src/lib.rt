@@ -17,6 +17,7 @@ pub use laws::{
     served_actions_are_good, served_relays_are_small, served_relays_name_accepted,
     served_replies_are_messages,
 };
+pub use pieces::{append_head, append_values};
 pub use print::{print_journal, relays_name_accepted};
 pub use rows::{count_after, joining_client, make_client_rows, make_count_rows, new_seq};
 pub use text::{append_held, append_objects, append_value};

@@ -79,7 +79,8 @@ fn append_result(done: &Done1, out: &mut String) -> Result<(), AllocError>
     append_values(done.values.as_slice(), out)
 }
 
-fn append_values(values: &[Value], out: &mut String) -> Result<(), AllocError>
+/// Appends values, as `(7)(8)`.
+pub fn append_values(values: &[Value], out: &mut String) -> Result<(), AllocError>
     ensures { OnOk result (string_bytes out.new ≡ string_bytes out.old ++ flat_map value_text values.now) }
 {
     for value in values {

@@ -1,23 +1,13 @@
 //! The printed lines of a witnessed run.
 ghost use Rattle.std.specs.Prelude.{◌≡◌, ◌++◌, string_bytes, IfOk, OnOk};
 ghost use Rattle.std.specs.List.{flat_map};
-ghost use Rattle.sv_journal.specs.Pieces.{value_text};
 ghost use Rattle.sv_witness.specs.Lines.{report_part, dispute_line, run_lines};
 
 use crate::report::{Dispute, Report};
 use std::alloc::{AllocError, Global};
-use sv_journal::append_value;
+use sv_journal::append_values;
 use sv_report::append_world;
 use sv_world::Value;
-
-fn append_values(values: &[Value], out: &mut String) -> Result<(), AllocError>
-    ensures { OnOk result (string_bytes out.new ≡ string_bytes out.old ++ flat_map value_text values.now) }
-{
-    for value in values {
-        append_value(value.as_slice(), out)?;
-    }
-    Ok(())
-}
 
 fn append_report(report: &Report, out: &mut String) -> Result<(), AllocError>
     ensures { OnOk result (string_bytes out.new ≡ string_bytes out.old ++ report_part report.now) }
