@@ -16,7 +16,6 @@ use Rattle.sv_wire.specs.declared.message.Request.TheVariants as requests
 use Rattle.sv_wire.specs.declared.refusal.Refusal.TheVariants as refusals
 use Rattle.sv_journal.specs.declared.entry.Entry.{Entry}
 use Rattle.sv_journal.specs.declared.entry.Logged.{Logged}
-use Rattle.sv_journal.specs.declared.entry.Logged.TheVariants as logged
 use Rattle.sv_journal.specs.History.{client_of, Outcome, Accepted, Dropped, accepted, actions_of, next_seq, result_at, commit_of}
 use Rattle.sv_journal.specs.Sessions.{is_over, is_live, asked_in, life_of, kept_outcome, positions_in, sent_to}
 use Rattle.sv_journal.specs.Answer.{Rules, refused_as, is_over_reach, reply_to_good, reply_to_checked, reply_to_submit, is_bad_done, is_abandoned, orphans, reply_to_poll, is_good_interest, reply_to_join, reply_to_client, reply_to_member, reply_to, Legal}

@@ -1,5 +1,5 @@
 -- One step of a witnessing server, put together: what its fields keep once its core did what was decided and the journal has an entry more.
-use Rattle.std.proofs.Common.{◌≡◌, ℕ, ◌+◌, ◌<◌, ◌≤◌, false, Some, List, [], ◌∷◌, ◌++◌, sym, ap, ◌∙◌, subst, reverse, refl, Bool, ◌||◌, ◌&&◌, ◌==◌, ap₂, Result, Ok, Err, IfOk, OnErr, arith}
+use Rattle.std.proofs.Common.{◌≡◌, ℕ, ◌<◌, ◌≤◌, false, Some, List, [], ◌∷◌, ◌++◌, sym, ap, ◌∙◌, subst, reverse, refl, Bool, ◌||◌, ◌&&◌, ◌==◌, ap₂, Result, Ok, Err, IfOk, OnErr, arith}
 use Rattle.std.proofs.lemmas.List.{reverse-append}
 use Rattle.sv_wire.specs.declared.message.Done1.{Done1}
 use Rattle.sv_wire.specs.declared.message.Reply.{Reply}
