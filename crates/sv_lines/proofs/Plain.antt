@@ -9,21 +9,12 @@ use Rattle.std.proofs.lemmas.Bool.Decides.{nat_tests}
 use Rattle.sv_world.specs.declared.world.ObjectId.{ObjectId}
 use Rattle.sv_world.specs.declared.action.Point.{Point}
 use Rattle.sv_world.specs.declared.action.Action.{Action}
-use Rattle.sv_world.specs.declared.action.Expr.{Expr, map-Expr}
+use Rattle.sv_world.specs.declared.action.Expr.{Expr}
 use Rattle.sv_world.specs.declared.action.Expr.TheVariants as expr
-use Rattle.sv_world.specs.declared.action.Expr.TheOpen.{Expr-F}
-use Rattle.sv_world.specs.declared.action.Expr.TheViews.{roll-Expr}
-use Rattle.sv_world.specs.declared.action.Expr.TheFolds.{ind-Expr}
-use Rattle.sv_world.specs.declared.action.Cond.{Cond, map-Cond}
+use Rattle.sv_world.specs.declared.action.Cond.{Cond}
 use Rattle.sv_world.specs.declared.action.Cond.TheVariants as test
-use Rattle.sv_world.specs.declared.action.Cond.TheOpen.{Cond-F}
-use Rattle.sv_world.specs.declared.action.Cond.TheViews.{roll-Cond}
-use Rattle.sv_world.specs.declared.action.Cond.TheFolds.{ind-Cond}
-use Rattle.sv_world.specs.declared.action.Stmt.{Stmt, map-Stmt}
+use Rattle.sv_world.specs.declared.action.Stmt.{Stmt}
 use Rattle.sv_world.specs.declared.action.Stmt.TheVariants as stmt
-use Rattle.sv_world.specs.declared.action.Stmt.TheOpen.{Stmt-F}
-use Rattle.sv_world.specs.declared.action.Stmt.TheViews.{roll-Stmt}
-use Rattle.sv_world.specs.declared.action.Stmt.TheFolds.{ind-Stmt}
 use Rattle.sv_world.specs.declared.node.Operator.{Operator}
 use Rattle.sv_world.specs.declared.node.Operator.TheVariants as ops
 use Rattle.sv_world.specs.declared.node.Comparison.{Comparison}
@@ -34,6 +25,7 @@ use Rattle.sv_world.specs.Faults.{is_in_plane, has_origin}
 use Rattle.sv_world.specs.Parts.{binary_by, compare_by, join_by}
 use Rattle.sv_world.specs.Ranges.{is_i64, is_byte, expr_fits, cond_fits, stmt_fits, body_fits, is_zero, ObjectFits}
 use Rattle.sv_world.proofs.Ranged.{lit_fits, attr_fits, binary_fits, compare_fits, join_fits, not_fits, set_fits, if_fits}
+use Rattle.sv_world.proofs.TreeInduction.{each_expr, each_cond, all_stmts}
 use Rattle.sv_text.specs.Canonical.{object_in, ref_text, between, op_text, comparison_text, joint_text, expr_text, cond_text, spaced, block_text, else_text, stmt_text, object_text, spaced_objects, written, origin_text, body_text, canonical}
 use Rattle.sv_text.specs.Printable.{IsPrintable}
 use Rattle.sv_text.proofs.Layers.{pair_text_is, lit_text, attr_text, test_text_is, joint_text_is, not_text, set_text_is, if_text}
@@ -103,19 +95,8 @@ module _ (reads : List ObjectId) (small : (slot : ℕ) → object_in reads slot 
       let fit = and_parts (expr_fits a) (expr_fits b) (sym (binary_fits o a b) ∙ f) in
       subst IsPlain (sym (pair_text_is o a b reads)) (plain_between (codes "(") (expr_text reads a) (op_text o) (expr_text reads b) (codes ")") refl (p fit.0) (op_plain o) (q fit.1) refl)
 
-  expr_layer : {Z : Type 0} (p : Z → Expr) → ((z : Z) → ExprPlain (p z)) → (y : Expr-F Z) → ExprPlain (roll-Expr (map-Expr Z Expr p y))
-  expr_layer p q (Expr-F.Lit n) = subst (λ (e : Expr). ExprPlain e) (sym (expr.rolls-Lit n)) (lit_plain n)
-  expr_layer p q (Expr-F.Attr slot attr) = subst (λ (e : Expr). ExprPlain e) (sym (expr.rolls-Attr slot attr)) (attr_plain slot attr)
-  expr_layer p q (Expr-F.Add a b) = subst (λ (e : Expr). ExprPlain e) (sym (expr.rolls-Add (p a) (p b))) (pair_plain ops.Add (p a) (p b) (q a) (q b))
-  expr_layer p q (Expr-F.Sub a b) = subst (λ (e : Expr). ExprPlain e) (sym (expr.rolls-Sub (p a) (p b))) (pair_plain ops.Sub (p a) (p b) (q a) (q b))
-  expr_layer p q (Expr-F.Mul a b) = subst (λ (e : Expr). ExprPlain e) (sym (expr.rolls-Mul (p a) (p b))) (pair_plain ops.Mul (p a) (p b) (q a) (q b))
-  expr_layer p q (Expr-F.Div a b) = subst (λ (e : Expr). ExprPlain e) (sym (expr.rolls-Div (p a) (p b))) (pair_plain ops.Div (p a) (p b) (q a) (q b))
-  expr_layer p q (Expr-F.Rem a b) = subst (λ (e : Expr). ExprPlain e) (sym (expr.rolls-Rem (p a) (p b))) (pair_plain ops.Rem (p a) (p b) (q a) (q b))
-  expr_layer p q (Expr-F.Min a b) = subst (λ (e : Expr). ExprPlain e) (sym (expr.rolls-Min (p a) (p b))) (pair_plain ops.Min (p a) (p b) (q a) (q b))
-  expr_layer p q (Expr-F.Max a b) = subst (λ (e : Expr). ExprPlain e) (sym (expr.rolls-Max (p a) (p b))) (pair_plain ops.Max (p a) (p b) (q a) (q b))
-
   expr_plain : (e : Expr) → ExprPlain e
-  expr_plain = ind-Expr ExprPlain (λ x y is. subst (λ (z : Expr-F Expr). ExprPlain (roll-Expr z)) is (expr_layer (λ e. e.0) (λ e. e.1) y))
+  expr_plain = each_expr ExprPlain lit_plain attr_plain pair_plain
 
   abbrev CondPlain : Cond → Type 0
   CondPlain c = cond_fits c ≡ true → IsPlain (cond_text reads c)
@@ -134,16 +115,8 @@ module _ (reads : List ObjectId) (small : (slot : ℕ) → object_in reads slot 
   not_plain : (a : Cond) → CondPlain a → CondPlain (test.Not a)
   not_plain a p f = subst IsPlain (sym (not_text a reads)) (then_plain (codes "not ") (cond_text reads a) refl (p (sym (not_fits a) ∙ f)))
 
-  cond_layer : {Z : Type 0} (p : Z → Cond) → ((z : Z) → CondPlain (p z)) → (y : Cond-F Z) → CondPlain (roll-Cond (map-Cond Z Cond p y))
-  cond_layer p q (Cond-F.Eq a b) = subst (λ (c : Cond). CondPlain c) (sym (test.rolls-Eq a b)) (test_plain comparisons.Eq a b)
-  cond_layer p q (Cond-F.Lt a b) = subst (λ (c : Cond). CondPlain c) (sym (test.rolls-Lt a b)) (test_plain comparisons.Lt a b)
-  cond_layer p q (Cond-F.Le a b) = subst (λ (c : Cond). CondPlain c) (sym (test.rolls-Le a b)) (test_plain comparisons.Le a b)
-  cond_layer p q (Cond-F.And a b) = subst (λ (c : Cond). CondPlain c) (sym (test.rolls-And (p a) (p b))) (both_plain joints.And (p a) (p b) (q a) (q b))
-  cond_layer p q (Cond-F.Or a b) = subst (λ (c : Cond). CondPlain c) (sym (test.rolls-Or (p a) (p b))) (both_plain joints.Or (p a) (p b) (q a) (q b))
-  cond_layer p q (Cond-F.Not a) = subst (λ (c : Cond). CondPlain c) (sym (test.rolls-Not (p a))) (not_plain (p a) (q a))
-
   cond_plain : (c : Cond) → CondPlain c
-  cond_plain = ind-Cond CondPlain (λ x y is. subst (λ (z : Cond-F Cond). CondPlain (roll-Cond z)) is (cond_layer (λ e. e.0) (λ e. e.1) y))
+  cond_plain = each_cond CondPlain test_plain both_plain not_plain
 
   -- ---- Statements
 
@@ -186,20 +159,8 @@ module _ (reads : List ObjectId) (small : (slot : ℕ) → object_in reads slot 
       (then_plain (head ++ codes " ") (block_text (texts xs)) (then_plain head (codes " ") (then_plain (codes "if ") (cond_text reads c) refl (cond_plain c fit.0)) refl) (block_plain xs p both.0))
       (else_plain ys q both.1))
 
-  each_plain : {Z : Type 0} (p : Z → Stmt) → ((z : Z) → StmtPlain (p z)) → (zs : List Z) → AllByRecursion StmtPlain (map p zs)
-  each_plain p q [] = tt
-  each_plain p q (z ∷ zs) = (q z, each_plain p q zs)
-
-  stmt_layer : {Z : Type 0} (p : Z → Stmt) → ((z : Z) → StmtPlain (p z)) → (y : Stmt-F Z) → StmtPlain (roll-Stmt (map-Stmt Z Stmt p y))
-  stmt_layer p q (Stmt-F.Set slot attr e) = subst (λ (s : Stmt). StmtPlain s) (sym (stmt.rolls-Set slot attr e)) (set_plain slot attr e)
-  stmt_layer p q (Stmt-F.If c xs ys) = subst (λ (s : Stmt). StmtPlain s) (sym (stmt.rolls-If c (map p xs) (map p ys))) (if_plain c (map p xs) (map p ys) (each_plain p q xs) (each_plain p q ys))
-
-  stmt_plain : (s : Stmt) → StmtPlain s
-  stmt_plain = ind-Stmt StmtPlain (λ x y is. subst (λ (z : Stmt-F Stmt). StmtPlain (roll-Stmt z)) is (stmt_layer (λ e. e.0) (λ e. e.1) y))
-
   all_plain : (xs : List Stmt) → AllByRecursion StmtPlain xs
-  all_plain [] = tt
-  all_plain (x ∷ xs) = (stmt_plain x, all_plain xs)
+  all_plain = all_stmts StmtPlain set_plain if_plain
 
   pub body_plain : (xs : List Stmt) → body_fits xs ≡ true → IsPlain (body_text reads xs)
   body_plain xs f = block_plain xs (all_plain xs) f

@@ -9,21 +9,12 @@ use Rattle.std.proofs.lemmas.List.Sums.{sum_by-cons}
 use Rattle.sv_world.specs.declared.world.ObjectId.{ObjectId}
 use Rattle.sv_world.specs.declared.action.Point.{Point}
 use Rattle.sv_world.specs.declared.action.Action.{Action}
-use Rattle.sv_world.specs.declared.action.Expr.{Expr, map-Expr}
+use Rattle.sv_world.specs.declared.action.Expr.{Expr}
 use Rattle.sv_world.specs.declared.action.Expr.TheVariants as expr
-use Rattle.sv_world.specs.declared.action.Expr.TheOpen.{Expr-F}
-use Rattle.sv_world.specs.declared.action.Expr.TheViews.{roll-Expr}
-use Rattle.sv_world.specs.declared.action.Expr.TheFolds.{ind-Expr}
-use Rattle.sv_world.specs.declared.action.Cond.{Cond, map-Cond}
+use Rattle.sv_world.specs.declared.action.Cond.{Cond}
 use Rattle.sv_world.specs.declared.action.Cond.TheVariants as test
-use Rattle.sv_world.specs.declared.action.Cond.TheOpen.{Cond-F}
-use Rattle.sv_world.specs.declared.action.Cond.TheViews.{roll-Cond}
-use Rattle.sv_world.specs.declared.action.Cond.TheFolds.{ind-Cond}
-use Rattle.sv_world.specs.declared.action.Stmt.{Stmt, map-Stmt}
+use Rattle.sv_world.specs.declared.action.Stmt.{Stmt}
 use Rattle.sv_world.specs.declared.action.Stmt.TheVariants as stmt
-use Rattle.sv_world.specs.declared.action.Stmt.TheOpen.{Stmt-F}
-use Rattle.sv_world.specs.declared.action.Stmt.TheViews.{roll-Stmt}
-use Rattle.sv_world.specs.declared.action.Stmt.TheFolds.{ind-Stmt}
 use Rattle.sv_world.specs.declared.node.Operator.{Operator}
 use Rattle.sv_world.specs.declared.node.Operator.TheVariants as ops
 use Rattle.sv_world.specs.declared.node.Comparison.{Comparison}
@@ -35,6 +26,7 @@ use Rattle.sv_world.specs.Parts.{binary_by, compare_by, join_by}
 use Rattle.sv_world.specs.Ranges.{is_i64, is_byte, expr_fits, cond_fits, stmt_fits, body_fits, is_zero, ObjectFits}
 use Rattle.sv_world.specs.Trees.{expr_nodes, cond_nodes, stmt_nodes, body_nodes}
 use Rattle.sv_world.proofs.Ranged.{lit_fits, attr_fits, binary_fits, compare_fits, join_fits, not_fits, set_fits, if_fits}
+use Rattle.sv_world.proofs.TreeInduction.{each_expr, each_cond, all_stmts}
 use Rattle.sv_text.specs.Canonical.{object_in, ref_text, between, op_text, comparison_text, joint_text, expr_text, cond_text, spaced, block_part, block_text, else_text, stmt_text, object_text, spaced_objects, written, origin_text, body_text, canonical}
 use Rattle.sv_text.specs.Printable.{IsPrintable}
 use Rattle.sv_text.proofs.Layers.{pair_text_is, pair_nodes, lit_text, lit_nodes, attr_text, attr_nodes, test_text_is, test_nodes, joint_text_is, joint_nodes, not_text, not_nodes, set_text_is, set_nodes, if_text, if_nodes}
@@ -112,19 +104,8 @@ module _ (reads : List ObjectId) (small : (slot : ℕ) → object_in reads slot 
       subst (λ (t : List ℕ). length t ≤ 60 * expr_nodes (binary_by o a b)) (sym (pair_text_is o a b reads))
       (pair_short (codes "(") (expr_text reads a) (op_text o) (expr_text reads b) (codes ")") (expr_nodes (binary_by o a b)) (expr_nodes a) (expr_nodes b) (pair_nodes o a b) (omega arith) (omega arith) (op_short o) (p fit.0) (q fit.1))
 
-  expr_layer : {Z : Type 0} (p : Z → Expr) → ((z : Z) → ExprShort (p z)) → (y : Expr-F Z) → ExprShort (roll-Expr (map-Expr Z Expr p y))
-  expr_layer p q (Expr-F.Lit n) = subst (λ (e : Expr). ExprShort e) (sym (expr.rolls-Lit n)) (lit_short n)
-  expr_layer p q (Expr-F.Attr slot attr) = subst (λ (e : Expr). ExprShort e) (sym (expr.rolls-Attr slot attr)) (attr_short slot attr)
-  expr_layer p q (Expr-F.Add a b) = subst (λ (e : Expr). ExprShort e) (sym (expr.rolls-Add (p a) (p b))) (binary_short ops.Add (p a) (p b) (q a) (q b))
-  expr_layer p q (Expr-F.Sub a b) = subst (λ (e : Expr). ExprShort e) (sym (expr.rolls-Sub (p a) (p b))) (binary_short ops.Sub (p a) (p b) (q a) (q b))
-  expr_layer p q (Expr-F.Mul a b) = subst (λ (e : Expr). ExprShort e) (sym (expr.rolls-Mul (p a) (p b))) (binary_short ops.Mul (p a) (p b) (q a) (q b))
-  expr_layer p q (Expr-F.Div a b) = subst (λ (e : Expr). ExprShort e) (sym (expr.rolls-Div (p a) (p b))) (binary_short ops.Div (p a) (p b) (q a) (q b))
-  expr_layer p q (Expr-F.Rem a b) = subst (λ (e : Expr). ExprShort e) (sym (expr.rolls-Rem (p a) (p b))) (binary_short ops.Rem (p a) (p b) (q a) (q b))
-  expr_layer p q (Expr-F.Min a b) = subst (λ (e : Expr). ExprShort e) (sym (expr.rolls-Min (p a) (p b))) (binary_short ops.Min (p a) (p b) (q a) (q b))
-  expr_layer p q (Expr-F.Max a b) = subst (λ (e : Expr). ExprShort e) (sym (expr.rolls-Max (p a) (p b))) (binary_short ops.Max (p a) (p b) (q a) (q b))
-
   expr_short : (e : Expr) → ExprShort e
-  expr_short = ind-Expr ExprShort (λ x y is. subst (λ (z : Expr-F Expr). ExprShort (roll-Expr z)) is (expr_layer (λ e. e.0) (λ e. e.1) y))
+  expr_short = each_expr ExprShort lit_short attr_short binary_short
 
   abbrev CondShort : Cond → Type 0
   CondShort c = cond_fits c ≡ true → length (cond_text reads c) ≤ 60 * cond_nodes c
@@ -144,16 +125,8 @@ module _ (reads : List ObjectId) (small : (slot : ℕ) → object_in reads slot 
   not_short : (a : Cond) → CondShort a → CondShort (test.Not a)
   not_short a p f = omega (arith, ap length (not_text a reads), length-append (codes "not ") (cond_text reads a), not_nodes a, p (sym (not_fits a) ∙ f))
 
-  cond_layer : {Z : Type 0} (p : Z → Cond) → ((z : Z) → CondShort (p z)) → (y : Cond-F Z) → CondShort (roll-Cond (map-Cond Z Cond p y))
-  cond_layer p q (Cond-F.Eq a b) = subst (λ (c : Cond). CondShort c) (sym (test.rolls-Eq a b)) (compare_short comparisons.Eq a b)
-  cond_layer p q (Cond-F.Lt a b) = subst (λ (c : Cond). CondShort c) (sym (test.rolls-Lt a b)) (compare_short comparisons.Lt a b)
-  cond_layer p q (Cond-F.Le a b) = subst (λ (c : Cond). CondShort c) (sym (test.rolls-Le a b)) (compare_short comparisons.Le a b)
-  cond_layer p q (Cond-F.And a b) = subst (λ (c : Cond). CondShort c) (sym (test.rolls-And (p a) (p b))) (both_short joints.And (p a) (p b) (q a) (q b))
-  cond_layer p q (Cond-F.Or a b) = subst (λ (c : Cond). CondShort c) (sym (test.rolls-Or (p a) (p b))) (both_short joints.Or (p a) (p b) (q a) (q b))
-  cond_layer p q (Cond-F.Not a) = subst (λ (c : Cond). CondShort c) (sym (test.rolls-Not (p a))) (not_short (p a) (q a))
-
   cond_short : (c : Cond) → CondShort c
-  cond_short = ind-Cond CondShort (λ x y is. subst (λ (z : Cond-F Cond). CondShort (roll-Cond z)) is (cond_layer (λ e. e.0) (λ e. e.1) y))
+  cond_short = each_cond CondShort compare_short both_short not_short
 
   -- ---- Statements, each with the space before it
 
@@ -205,20 +178,8 @@ module _ (reads : List ObjectId) (small : (slot : ℕ) → object_in reads slot 
         if_nodes c xs ys,
       )
 
-  each_short : {Z : Type 0} (p : Z → Stmt) → ((z : Z) → StmtShort (p z)) → (zs : List Z) → AllByRecursion StmtShort (map p zs)
-  each_short p q [] = tt
-  each_short p q (z ∷ zs) = (q z, each_short p q zs)
-
-  stmt_layer : {Z : Type 0} (p : Z → Stmt) → ((z : Z) → StmtShort (p z)) → (y : Stmt-F Z) → StmtShort (roll-Stmt (map-Stmt Z Stmt p y))
-  stmt_layer p q (Stmt-F.Set slot attr e) = subst (λ (s : Stmt). StmtShort s) (sym (stmt.rolls-Set slot attr e)) (set_short slot attr e)
-  stmt_layer p q (Stmt-F.If c xs ys) = subst (λ (s : Stmt). StmtShort s) (sym (stmt.rolls-If c (map p xs) (map p ys))) (if_short c (map p xs) (map p ys) (each_short p q xs) (each_short p q ys))
-
-  stmt_short : (s : Stmt) → StmtShort s
-  stmt_short = ind-Stmt StmtShort (λ x y is. subst (λ (z : Stmt-F Stmt). StmtShort (roll-Stmt z)) is (stmt_layer (λ e. e.0) (λ e. e.1) y))
-
   all_short : (xs : List Stmt) → AllByRecursion StmtShort xs
-  all_short [] = tt
-  all_short (x ∷ xs) = (stmt_short x, all_short xs)
+  all_short = all_stmts StmtShort set_short if_short
 
 -- ---- Whole actions
 

@@ -4,16 +4,10 @@ use Rattle.std.specs.Fmt.{signed_decimal}
 use Rattle.std.proofs.lemmas.Bool.{and_parts, ltb-true}
 use Rattle.sv_world.specs.Trees.{expr_nodes, cond_nodes, expr_depth, cond_depth, expr_passes, cond_passes}
 use Rattle.sv_world.specs.declared.world.ObjectId.{ObjectId}
-use Rattle.sv_world.specs.declared.action.Expr.{Expr, map-Expr}
+use Rattle.sv_world.specs.declared.action.Expr.{Expr}
 use Rattle.sv_world.specs.declared.action.Expr.TheVariants as expr
-use Rattle.sv_world.specs.declared.action.Expr.TheOpen.{Expr-F}
-use Rattle.sv_world.specs.declared.action.Expr.TheViews.{roll-Expr}
-use Rattle.sv_world.specs.declared.action.Expr.TheFolds.{ind-Expr}
-use Rattle.sv_world.specs.declared.action.Cond.{Cond, map-Cond}
+use Rattle.sv_world.specs.declared.action.Cond.{Cond}
 use Rattle.sv_world.specs.declared.action.Cond.TheVariants as test
-use Rattle.sv_world.specs.declared.action.Cond.TheOpen.{Cond-F}
-use Rattle.sv_world.specs.declared.action.Cond.TheViews.{roll-Cond}
-use Rattle.sv_world.specs.declared.action.Cond.TheFolds.{ind-Cond}
 use Rattle.sv_world.specs.Parts.{binary_by as with_op, compare_by as with_comparison, join_by as with_joint}
 use Rattle.sv_text.specs.declared.token.Mark.{Mark}
 use Rattle.sv_text.specs.declared.token.Mark.TheVariants as marks
@@ -32,6 +26,7 @@ use Rattle.sv_text.specs.Canonical.{object_in, ref_text, expr_text, cond_text, o
 use Rattle.sv_world.specs.Ranges.{is_byte, expr_fits, cond_fits}
 use Rattle.sv_text.proofs.Lexing.{blank_front}
 use Rattle.sv_world.proofs.Ranged.{binary_fits as pair_fits, lit_fits, attr_fits, compare_fits as test_fits, join_fits as joint_fits, not_fits}
+use Rattle.sv_world.proofs.TreeInduction.{each_expr, each_cond}
 use Rattle.sv_text.proofs.Layers.{pair_text_is, pair_nodes, pair_depth, pair_passes, lit_text, lit_nodes, lit_depth, attr_text, attr_nodes, attr_depth, attr_passes, test_text_is, test_nodes, test_depth, test_passes, joint_text_is, joint_nodes, joint_depth, joint_passes, not_text, not_nodes, not_depth, not_passes}
 use Rattle.sv_text.proofs.Spelled.{toks, lexeme, Stops, spelled, spaced_stands, is_bracket, bracket_stands, number_stands, ref_bytes, ref_stands}
 
@@ -201,19 +196,8 @@ module _ (reads : List ObjectId) (own : HasSlots reads) where
             })),
       )
 
-  expr_layer : {Z : Type 0} (p : Z → Expr) → ((z : Z) → ExprStands reads (p z)) → (y : Expr-F Z) → ExprStands reads (roll-Expr (map-Expr Z Expr p y))
-  expr_layer p q (Expr-F.Lit n) = subst (λ (e : Expr). ExprStands reads e) (sym (expr.rolls-Lit n)) (lit_stands n)
-  expr_layer p q (Expr-F.Attr slot attr) = subst (λ (e : Expr). ExprStands reads e) (sym (expr.rolls-Attr slot attr)) (attr_stands slot attr)
-  expr_layer p q (Expr-F.Add a b) = subst (λ (e : Expr). ExprStands reads e) (sym (expr.rolls-Add (p a) (p b))) (pair_stands ops.Add (p a) (p b) (q a) (q b))
-  expr_layer p q (Expr-F.Sub a b) = subst (λ (e : Expr). ExprStands reads e) (sym (expr.rolls-Sub (p a) (p b))) (pair_stands ops.Sub (p a) (p b) (q a) (q b))
-  expr_layer p q (Expr-F.Mul a b) = subst (λ (e : Expr). ExprStands reads e) (sym (expr.rolls-Mul (p a) (p b))) (pair_stands ops.Mul (p a) (p b) (q a) (q b))
-  expr_layer p q (Expr-F.Div a b) = subst (λ (e : Expr). ExprStands reads e) (sym (expr.rolls-Div (p a) (p b))) (pair_stands ops.Div (p a) (p b) (q a) (q b))
-  expr_layer p q (Expr-F.Rem a b) = subst (λ (e : Expr). ExprStands reads e) (sym (expr.rolls-Rem (p a) (p b))) (pair_stands ops.Rem (p a) (p b) (q a) (q b))
-  expr_layer p q (Expr-F.Min a b) = subst (λ (e : Expr). ExprStands reads e) (sym (expr.rolls-Min (p a) (p b))) (pair_stands ops.Min (p a) (p b) (q a) (q b))
-  expr_layer p q (Expr-F.Max a b) = subst (λ (e : Expr). ExprStands reads e) (sym (expr.rolls-Max (p a) (p b))) (pair_stands ops.Max (p a) (p b) (q a) (q b))
-
   pub expr_stands : (e : Expr) → ExprStands reads e
-  expr_stands = ind-Expr (ExprStands reads) (λ x y is. subst (λ (z : Expr-F Expr). ExprStands reads (roll-Expr z)) is (expr_layer (λ e. e.0) (λ e. e.1) y))
+  expr_stands = each_expr (ExprStands reads) lit_stands attr_stands pair_stands
 
 -- ---- conditions
 
@@ -340,13 +324,5 @@ module _ (reads : List ObjectId) (own : HasSlots reads) where
             }))),
       )
 
-  cond_layer : {Z : Type 0} (p : Z → Cond) → ((z : Z) → CondStands reads (p z)) → (y : Cond-F Z) → CondStands reads (roll-Cond (map-Cond Z Cond p y))
-  cond_layer p q (Cond-F.Eq a b) = subst (λ (c : Cond). CondStands reads c) (sym (test.rolls-Eq a b)) (test_stands comparisons.Eq a b)
-  cond_layer p q (Cond-F.Lt a b) = subst (λ (c : Cond). CondStands reads c) (sym (test.rolls-Lt a b)) (test_stands comparisons.Lt a b)
-  cond_layer p q (Cond-F.Le a b) = subst (λ (c : Cond). CondStands reads c) (sym (test.rolls-Le a b)) (test_stands comparisons.Le a b)
-  cond_layer p q (Cond-F.And a b) = subst (λ (c : Cond). CondStands reads c) (sym (test.rolls-And (p a) (p b))) (joint_stands joints.And (p a) (p b) (q a) (q b))
-  cond_layer p q (Cond-F.Or a b) = subst (λ (c : Cond). CondStands reads c) (sym (test.rolls-Or (p a) (p b))) (joint_stands joints.Or (p a) (p b) (q a) (q b))
-  cond_layer p q (Cond-F.Not a) = subst (λ (c : Cond). CondStands reads c) (sym (test.rolls-Not (p a))) (not_stands (p a) (q a))
-
   pub cond_stands : (c : Cond) → CondStands reads c
-  cond_stands = ind-Cond (CondStands reads) (λ x y is. subst (λ (z : Cond-F Cond). CondStands reads (roll-Cond z)) is (cond_layer (λ e. e.0) (λ e. e.1) y))
+  cond_stands = each_cond (CondStands reads) test_stands joint_stands not_stands

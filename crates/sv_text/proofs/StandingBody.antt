@@ -7,11 +7,8 @@ use Rattle.sv_world.specs.Trees.{expr_nodes, cond_nodes, stmt_nodes, body_nodes,
 use Rattle.sv_world.specs.declared.world.ObjectId.{ObjectId}
 use Rattle.sv_world.specs.declared.action.Expr.{Expr}
 use Rattle.sv_world.specs.declared.action.Cond.{Cond}
-use Rattle.sv_world.specs.declared.action.Stmt.{Stmt, map-Stmt}
+use Rattle.sv_world.specs.declared.action.Stmt.{Stmt}
 use Rattle.sv_world.specs.declared.action.Stmt.TheVariants as stmt
-use Rattle.sv_world.specs.declared.action.Stmt.TheOpen.{Stmt-F}
-use Rattle.sv_world.specs.declared.action.Stmt.TheViews.{roll-Stmt}
-use Rattle.sv_world.specs.declared.action.Stmt.TheFolds.{ind-Stmt}
 use Rattle.sv_text.specs.declared.token.Mark.{Mark}
 use Rattle.sv_text.specs.declared.token.Mark.TheVariants as marks
 use Rattle.sv_text.specs.declared.token.Lexeme.{Lexeme}
@@ -20,6 +17,7 @@ use Rattle.sv_text.specs.Grammar.{Place, IsMark, IsRef, AreAll, IsBlock, MayBeEl
 use Rattle.sv_text.specs.Canonical.{object_in, ref_text, expr_text, cond_text, spaced, block_text, else_text, stmt_text}
 use Rattle.sv_world.specs.Ranges.{is_byte, expr_fits, cond_fits, stmt_fits, body_fits}
 use Rattle.sv_world.proofs.Ranged.{set_fits, if_fits}
+use Rattle.sv_world.proofs.TreeInduction.{all_stmts}
 use Rattle.sv_text.proofs.Layers.{set_text_is, set_nodes, set_depth, set_passes, if_text, if_nodes, if_depth, if_passes}
 use Rattle.sv_text.proofs.Spelled.{toks, spelled, is_bracket, ref_bytes, ref_stands}
 use Rattle.sv_text.proofs.Standing.{blank_at, between_stands, word_node, bracket_mark, along, regroup, ref_text_is, below, HasSlots, expr_stands, cond_stands}
@@ -179,17 +177,5 @@ module _ (reads : List ObjectId) where
             })),
       )
 
-  each_stands : {Z : Type 0} (p : Z → Stmt) → ((z : Z) → StmtStands reads (p z)) → (zs : List Z) → AllByRecursion (StmtStands reads) (map p zs)
-  each_stands p q [] = tt
-  each_stands p q (z ∷ zs) = (q z, each_stands p q zs)
-
-  stmt_layer : HasSlots reads → {Z : Type 0} (p : Z → Stmt) → ((z : Z) → StmtStands reads (p z)) → (y : Stmt-F Z) → StmtStands reads (roll-Stmt (map-Stmt Z Stmt p y))
-  stmt_layer own p q (Stmt-F.Set slot attr e) = subst (λ (s : Stmt). StmtStands reads s) (sym (stmt.rolls-Set slot attr e)) (set_stands own slot attr e)
-  stmt_layer own p q (Stmt-F.If c xs ys) = subst (λ (s : Stmt). StmtStands reads s) (sym (stmt.rolls-If c (map p xs) (map p ys))) (if_stands own c (map p xs) (map p ys) (each_stands p q xs) (each_stands p q ys))
-
-  stmt_stands : HasSlots reads → (s : Stmt) → StmtStands reads s
-  stmt_stands own = ind-Stmt (StmtStands reads) (λ x y is. subst (λ (z : Stmt-F Stmt). StmtStands reads (roll-Stmt z)) is (stmt_layer own (λ e. e.0) (λ e. e.1) y))
-
   pub all_stand : HasSlots reads → (xs : List Stmt) → AllByRecursion (StmtStands reads) xs
-  all_stand own [] = tt
-  all_stand own (x ∷ xs) = (stmt_stands own x, all_stand own xs)
+  all_stand own = all_stmts (StmtStands reads) (set_stands own) (if_stands own)

@@ -5,28 +5,16 @@ use Rattle.std.specs.Int.{w64}
 use Rattle.std.proofs.lemmas.Bool.{lt-ltb, leb-true}
 use Rattle.std.proofs.lemmas.List.{length-map}
 use Rattle.sv_world.specs.Trees.{expr_nodes, cond_nodes, stmt_nodes, body_nodes, expr_depth, cond_depth, stmt_depth, body_depth, all_true}
-use Rattle.sv_world.specs.declared.action.Expr.{Expr, map-Expr}
+use Rattle.sv_world.specs.declared.action.Expr.{Expr}
 use Rattle.sv_world.specs.declared.action.Expr.TheVariants as expr
-use Rattle.sv_world.specs.declared.action.Expr.TheOpen.{Expr-F}
-use Rattle.sv_world.specs.declared.action.Expr.TheViews.{roll-Expr}
-use Rattle.sv_world.specs.declared.action.Expr.TheFolds.{ind-Expr}
-use Rattle.sv_world.specs.declared.action.Cond.{Cond, map-Cond}
+use Rattle.sv_world.specs.declared.action.Cond.{Cond}
 use Rattle.sv_world.specs.declared.action.Cond.TheVariants as test
-use Rattle.sv_world.specs.declared.action.Cond.TheOpen.{Cond-F}
-use Rattle.sv_world.specs.declared.action.Cond.TheViews.{roll-Cond}
-use Rattle.sv_world.specs.declared.action.Cond.TheFolds.{ind-Cond}
-use Rattle.sv_world.specs.declared.action.Stmt.{Stmt, map-Stmt}
+use Rattle.sv_world.specs.declared.action.Stmt.{Stmt}
 use Rattle.sv_world.specs.declared.action.Stmt.TheVariants as stmt
-use Rattle.sv_world.specs.declared.action.Stmt.TheOpen.{Stmt-F}
-use Rattle.sv_world.specs.declared.action.Stmt.TheViews.{roll-Stmt}
-use Rattle.sv_world.specs.declared.action.Stmt.TheFolds.{ind-Stmt}
 use Rattle.sv_world.specs.declared.node.Operator.{Operator}
-use Rattle.sv_world.specs.declared.node.Operator.TheVariants.{Add, Sub, Mul, Div, Rem, Min, Max}
 use Rattle.sv_wire.specs.declared.nodes.ExprKind.TheVariants as expr_kind
 use Rattle.sv_world.specs.declared.node.Comparison.{Comparison}
-use Rattle.sv_world.specs.declared.node.Comparison.TheVariants.{Eq, Lt, Le}
 use Rattle.sv_world.specs.declared.node.Connective.{Connective}
-use Rattle.sv_world.specs.declared.node.Connective.TheVariants.{And, Or}
 use Rattle.sv_wire.specs.declared.nodes.CondKind.TheVariants as cond_kind
 use Rattle.sv_wire.specs.declared.nodes.StmtKind.TheVariants as stmt_kind
 use Rattle.sv_wire.specs.Steps.{Turn, in_turn}
@@ -40,6 +28,7 @@ use Rattle.sv_wire.proofs.Trees.{expr_from_is, cond_from_is, stmt_from_is}
 use Rattle.sv_wire.proofs.Append.{nodes_more}
 use Rattle.sv_wire.proofs.Again.{int64_again, and_left, and_right}
 use Rattle.sv_world.proofs.Ranged.{binary_fits as fits_by, lit_fits, compare_fits, join_fits, not_fits, set_fits, if_fits}
+use Rattle.sv_world.proofs.TreeInduction.{each_expr, each_cond, all_stmts}
 use Rattle.sv_wire.proofs.Layers.{bytes_by, nodes_by, depth_by, kind_by, lit_bytes, lit_nodes, lit_depth, attr_bytes, attr_nodes, attr_depth, compare_bytes, compare_nodes, compare_depth, compare_kind, join_bytes, join_nodes, join_depth, join_kind, not_bytes, not_nodes, not_depth, set_bytes, set_nodes, set_depth, if_bytes, if_nodes, if_depth}
 
 node_again : {K : Type 0} (kind_of : ℕ → Option K) (kind : K) (b : ℕ) → kind_of b ≡ Some kind → (depth nodes : ℕ) (rest : List ℕ) → 0 < depth → nodes < 64 → node_from kind_of depth nodes (b ∷ rest) ≡ Ok (kind, rest)
@@ -106,19 +95,8 @@ pair_again o a b p q depth nodes rest fits deep few =
     (omega arith)
     (pair_read o a b p q depth nodes rest (and_left (expr_fits a) (expr_fits b) both) (and_right (expr_fits a) (expr_fits b) both) (omega arith) (omega arith) (omega arith))
 
-expr_layer : {Z : Type 0} (p : Z → Expr) → ((z : Z) → ExprAgain (p z)) → (y : Expr-F Z) → ExprAgain (roll-Expr (map-Expr Z Expr p y))
-expr_layer p q (Expr-F.Lit n) = subst (λ (e : Expr). ExprAgain e) (sym (expr.rolls-Lit n)) (lit_again n)
-expr_layer p q (Expr-F.Attr slot attr) = subst (λ (e : Expr). ExprAgain e) (sym (expr.rolls-Attr slot attr)) (attr_again slot attr)
-expr_layer p q (Expr-F.Add a b) = subst (λ (e : Expr). ExprAgain e) (sym (expr.rolls-Add (p a) (p b))) (pair_again Add (p a) (p b) (q a) (q b))
-expr_layer p q (Expr-F.Sub a b) = subst (λ (e : Expr). ExprAgain e) (sym (expr.rolls-Sub (p a) (p b))) (pair_again Sub (p a) (p b) (q a) (q b))
-expr_layer p q (Expr-F.Mul a b) = subst (λ (e : Expr). ExprAgain e) (sym (expr.rolls-Mul (p a) (p b))) (pair_again Mul (p a) (p b) (q a) (q b))
-expr_layer p q (Expr-F.Div a b) = subst (λ (e : Expr). ExprAgain e) (sym (expr.rolls-Div (p a) (p b))) (pair_again Div (p a) (p b) (q a) (q b))
-expr_layer p q (Expr-F.Rem a b) = subst (λ (e : Expr). ExprAgain e) (sym (expr.rolls-Rem (p a) (p b))) (pair_again Rem (p a) (p b) (q a) (q b))
-expr_layer p q (Expr-F.Min a b) = subst (λ (e : Expr). ExprAgain e) (sym (expr.rolls-Min (p a) (p b))) (pair_again Min (p a) (p b) (q a) (q b))
-expr_layer p q (Expr-F.Max a b) = subst (λ (e : Expr). ExprAgain e) (sym (expr.rolls-Max (p a) (p b))) (pair_again Max (p a) (p b) (q a) (q b))
-
 pub expr_again : (e : Expr) → ExprAgain e
-expr_again = ind-Expr ExprAgain (λ x y is. subst (λ (z : Expr-F Expr). ExprAgain (roll-Expr z)) is (expr_layer (λ e. e.0) (λ e. e.1) y))
+expr_again = each_expr ExprAgain lit_again attr_again pair_again
 
 -- ---- conditions
 
@@ -183,16 +161,8 @@ not_again a p depth nodes rest fits deep few =
     along (cond_from depth nodes) (cond_bytes (test.Not a) ++ rest) (0x35 ∷ (cond_bytes a ++ rest)) (test.Not a) (nodes + 1 + cond_nodes a) (nodes + cond_nodes (test.Not a)) rest
     (ap (λ (t : List ℕ). t ++ rest) (not_bytes a)) (omega arith) (not_read a p depth nodes rest (sym (not_fits a) ∙ fits) (omega arith) (omega arith))
 
-cond_layer : {Z : Type 0} (p : Z → Cond) → ((z : Z) → CondAgain (p z)) → (y : Cond-F Z) → CondAgain (roll-Cond (map-Cond Z Cond p y))
-cond_layer p q (Cond-F.Eq a b) = subst (λ (c : Cond). CondAgain c) (sym (test.rolls-Eq a b)) (compare_again Eq a b)
-cond_layer p q (Cond-F.Lt a b) = subst (λ (c : Cond). CondAgain c) (sym (test.rolls-Lt a b)) (compare_again Lt a b)
-cond_layer p q (Cond-F.Le a b) = subst (λ (c : Cond). CondAgain c) (sym (test.rolls-Le a b)) (compare_again Le a b)
-cond_layer p q (Cond-F.And a b) = subst (λ (c : Cond). CondAgain c) (sym (test.rolls-And (p a) (p b))) (join_again And (p a) (p b) (q a) (q b))
-cond_layer p q (Cond-F.Or a b) = subst (λ (c : Cond). CondAgain c) (sym (test.rolls-Or (p a) (p b))) (join_again Or (p a) (p b) (q a) (q b))
-cond_layer p q (Cond-F.Not a) = subst (λ (c : Cond). CondAgain c) (sym (test.rolls-Not (p a))) (not_again (p a) (q a))
-
 pub cond_again : (c : Cond) → CondAgain c
-cond_again = ind-Cond CondAgain (λ x y is. subst (λ (z : Cond-F Cond). CondAgain (roll-Cond z)) is (cond_layer (λ e. e.0) (λ e. e.1) y))
+cond_again = each_cond CondAgain compare_again join_again not_again
 
 -- ---- statements
 
@@ -270,20 +240,8 @@ if_again c xs ys p q depth nodes rest fits deep few =
     (if_read c xs ys p q depth nodes rest (and_left (cond_fits c) (all_true (map stmt_fits xs) && all_true (map stmt_fits ys)) parts)
     (and_left (all_true (map stmt_fits xs)) (all_true (map stmt_fits ys)) lists) (and_right (all_true (map stmt_fits xs)) (all_true (map stmt_fits ys)) lists) (omega arith) (omega arith) (omega arith) (omega arith))
 
-each_again : {Z : Type 0} (p : Z → Stmt) → ((z : Z) → StmtAgain (p z)) → (zs : List Z) → AllByRecursion StmtAgain (map p zs)
-each_again p q [] = tt
-each_again p q (z ∷ zs) = (q z, each_again p q zs)
-
-stmt_layer : {Z : Type 0} (p : Z → Stmt) → ((z : Z) → StmtAgain (p z)) → (y : Stmt-F Z) → StmtAgain (roll-Stmt (map-Stmt Z Stmt p y))
-stmt_layer p q (Stmt-F.Set slot attr value) = subst (λ (s : Stmt). StmtAgain s) (sym (stmt.rolls-Set slot attr value)) (set_again slot attr value)
-stmt_layer p q (Stmt-F.If c xs ys) = subst (λ (s : Stmt). StmtAgain s) (sym (stmt.rolls-If c (map p xs) (map p ys))) (if_again c (map p xs) (map p ys) (each_again p q xs) (each_again p q ys))
-
-pub stmt_again : (s : Stmt) → StmtAgain s
-stmt_again = ind-Stmt StmtAgain (λ x y is. subst (λ (z : Stmt-F Stmt). StmtAgain (roll-Stmt z)) is (stmt_layer (λ e. e.0) (λ e. e.1) y))
-
 all_again : (xs : List Stmt) → AllByRecursion StmtAgain xs
-all_again [] = tt
-all_again (x ∷ xs) = (stmt_again x, all_again xs)
+all_again = all_stmts StmtAgain set_again if_again
 
 pub body_again : (xs : List Stmt) (rest : List ℕ) → all_true (map stmt_fits xs) ≡ true → body_depth xs ≤ 8 → body_nodes xs ≤ 64 → body_from (body_bytes xs ++ rest) ≡ Ok (xs, rest)
 unfolding body_from

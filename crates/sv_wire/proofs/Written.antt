@@ -4,16 +4,10 @@ use Rattle.std.specs.List.{flat_map}
 use Rattle.std.proofs.lemmas.Grind.{flat_map-append}
 use Rattle.std.proofs.lemmas.List.{append-nil}
 use Rattle.std.proofs.lemmas.List.Concat.{flat_map-cons}
-use Rattle.sv_world.specs.declared.action.Expr.{Expr, map-Expr}
+use Rattle.sv_world.specs.declared.action.Expr.{Expr}
 use Rattle.sv_world.specs.declared.action.Expr.TheVariants as expr
-use Rattle.sv_world.specs.declared.action.Expr.TheOpen.{Expr-F}
-use Rattle.sv_world.specs.declared.action.Expr.TheViews.{roll-Expr}
-use Rattle.sv_world.specs.declared.action.Expr.TheFolds.{ind-Expr}
-use Rattle.sv_world.specs.declared.action.Cond.{Cond, map-Cond}
+use Rattle.sv_world.specs.declared.action.Cond.{Cond}
 use Rattle.sv_world.specs.declared.action.Cond.TheVariants as test
-use Rattle.sv_world.specs.declared.action.Cond.TheOpen.{Cond-F}
-use Rattle.sv_world.specs.declared.action.Cond.TheViews.{roll-Cond}
-use Rattle.sv_world.specs.declared.action.Cond.TheFolds.{ind-Cond}
 use Rattle.sv_world.specs.declared.action.Stmt.{Stmt, map-Stmt}
 use Rattle.sv_world.specs.declared.action.Stmt.TheVariants as stmt
 use Rattle.sv_world.specs.declared.action.Stmt.TheOpen.{Stmt-F}
@@ -22,15 +16,13 @@ use Rattle.sv_world.specs.declared.action.Stmt.TheFolds.{ind-Stmt}
 use Rattle.sv_world.specs.declared.node.Node.{Node}
 use Rattle.sv_world.specs.declared.node.Node.TheVariants as node
 use Rattle.sv_world.specs.declared.node.Operator.{Operator}
-use Rattle.sv_world.specs.declared.node.Operator.TheVariants.{Add, Sub, Mul, Div, Rem, Min, Max}
 use Rattle.sv_world.specs.declared.node.Comparison.{Comparison}
-use Rattle.sv_world.specs.declared.node.Comparison.TheVariants.{Eq, Lt, Le}
 use Rattle.sv_world.specs.declared.node.Connective.{Connective}
-use Rattle.sv_world.specs.declared.node.Connective.TheVariants.{And, Or}
 use Rattle.sv_world.specs.Parts.{binary_by, compare_by, join_by, Block, parts}
 use Rattle.sv_world.specs.Spelled.{expr_spelled, cond_spelled, stmt_spelled, run_spelled, body_spelled}
 use Rattle.sv_world.proofs.Layers.{lit_spelled, attr_spelled, binary_spelled, compare_spelled, join_spelled, not_spelled, set_spelled, if_spelled}
 use Rattle.sv_world.proofs.Back.{body_back}
+use Rattle.sv_world.proofs.TreeInduction.{each_expr, each_cond}
 use Rattle.sv_wire.specs.Spelling.{expr_bytes, cond_bytes, stmt_bytes, body_bytes, node_bytes}
 use Rattle.sv_wire.proofs.Append.{body_is}
 use Rattle.sv_wire.proofs.Layers.{lit_bytes, attr_bytes, bytes_by, compare_bytes, join_bytes, not_bytes, set_bytes, if_bytes}
@@ -57,19 +49,8 @@ attr_written slot attr = over (node.Attr slot attr) [] (expr_spelled (expr.Attr 
 binary_written : (o : Operator) (a b : Expr) → ExprWritten a → ExprWritten b → ExprWritten (binary_by o a b)
 binary_written o a b left right = over (node.Binary o) (expr_spelled a ++ expr_spelled b) (expr_spelled (binary_by o a b)) (expr_bytes a ++ expr_bytes b) (expr_bytes (binary_by o a b)) (binary_spelled o a b) (bytes_by o a b) (two (expr_spelled a) (expr_spelled b) (expr_bytes a) (expr_bytes b) left right)
 
-expr_layer : {Z : Type 0} (p : Z → Expr) → ((z : Z) → ExprWritten (p z)) → (y : Expr-F Z) → ExprWritten (roll-Expr (map-Expr Z Expr p y))
-expr_layer p each (Expr-F.Lit n) = subst ExprWritten (sym (expr.rolls-Lit n)) (lit_written n)
-expr_layer p each (Expr-F.Attr slot attr) = subst ExprWritten (sym (expr.rolls-Attr slot attr)) (attr_written slot attr)
-expr_layer p each (Expr-F.Add x y) = subst ExprWritten (sym (expr.rolls-Add (p x) (p y))) (binary_written Add (p x) (p y) (each x) (each y))
-expr_layer p each (Expr-F.Sub x y) = subst ExprWritten (sym (expr.rolls-Sub (p x) (p y))) (binary_written Sub (p x) (p y) (each x) (each y))
-expr_layer p each (Expr-F.Mul x y) = subst ExprWritten (sym (expr.rolls-Mul (p x) (p y))) (binary_written Mul (p x) (p y) (each x) (each y))
-expr_layer p each (Expr-F.Div x y) = subst ExprWritten (sym (expr.rolls-Div (p x) (p y))) (binary_written Div (p x) (p y) (each x) (each y))
-expr_layer p each (Expr-F.Rem x y) = subst ExprWritten (sym (expr.rolls-Rem (p x) (p y))) (binary_written Rem (p x) (p y) (each x) (each y))
-expr_layer p each (Expr-F.Min x y) = subst ExprWritten (sym (expr.rolls-Min (p x) (p y))) (binary_written Min (p x) (p y) (each x) (each y))
-expr_layer p each (Expr-F.Max x y) = subst ExprWritten (sym (expr.rolls-Max (p x) (p y))) (binary_written Max (p x) (p y) (each x) (each y))
-
 expr_written : (e : Expr) → ExprWritten e
-expr_written = ind-Expr ExprWritten (λ x y is. subst (λ (z : Expr-F Expr). ExprWritten (roll-Expr z)) is (expr_layer (λ e. e.0) (λ e. e.1) y))
+expr_written = each_expr ExprWritten lit_written attr_written binary_written
 
 abbrev CondWritten : Cond → Type 0
 CondWritten c = written (cond_spelled c) ≡ cond_bytes c
@@ -83,16 +64,8 @@ join_written o a b left right = over (node.Join o) (cond_spelled a ++ cond_spell
 not_written : (a : Cond) → CondWritten a → CondWritten (test.Not a)
 not_written a one = over node.Not (cond_spelled a) (cond_spelled (test.Not a)) (cond_bytes a) (cond_bytes (test.Not a)) (not_spelled a) (not_bytes a) one
 
-cond_layer : {Z : Type 0} (p : Z → Cond) → ((z : Z) → CondWritten (p z)) → (y : Cond-F Z) → CondWritten (roll-Cond (map-Cond Z Cond p y))
-cond_layer p each (Cond-F.Eq a b) = subst CondWritten (sym (test.rolls-Eq a b)) (compare_written Eq a b)
-cond_layer p each (Cond-F.Lt a b) = subst CondWritten (sym (test.rolls-Lt a b)) (compare_written Lt a b)
-cond_layer p each (Cond-F.Le a b) = subst CondWritten (sym (test.rolls-Le a b)) (compare_written Le a b)
-cond_layer p each (Cond-F.And x y) = subst CondWritten (sym (test.rolls-And (p x) (p y))) (join_written And (p x) (p y) (each x) (each y))
-cond_layer p each (Cond-F.Or x y) = subst CondWritten (sym (test.rolls-Or (p x) (p y))) (join_written Or (p x) (p y) (each x) (each y))
-cond_layer p each (Cond-F.Not x) = subst CondWritten (sym (test.rolls-Not (p x))) (not_written (p x) (each x))
-
 cond_written : (c : Cond) → CondWritten c
-cond_written = ind-Cond CondWritten (λ x y is. subst (λ (z : Cond-F Cond). CondWritten (roll-Cond z)) is (cond_layer (λ e. e.0) (λ e. e.1) y))
+cond_written = each_cond CondWritten compare_written join_written not_written
 
 abbrev StmtWritten : Stmt → Type 0
 StmtWritten s = written (stmt_spelled s) ≡ stmt_bytes s

@@ -17,4 +17,5 @@ pub mod Sorted
 pub mod Sound
 pub mod Spells
 pub mod Sweeps
+pub mod TreeInduction
 pub mod Writers

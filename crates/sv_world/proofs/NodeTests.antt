@@ -1,15 +1,9 @@
 -- The tests of a body's nodes, one by one, are those of its trees.
 use Rattle.std.proofs.Common.{◌≡◌, ℕ, ◌+◌, Bool, true, false, ◌&&◌, List, [], ◌∷◌, ◌++◌, map, refl, sym, ap, ◌∙◌, subst, arith}
-use Rattle.sv_world.specs.declared.action.Expr.{Expr, map-Expr}
+use Rattle.sv_world.specs.declared.action.Expr.{Expr}
 use Rattle.sv_world.specs.declared.action.Expr.TheVariants as expr
-use Rattle.sv_world.specs.declared.action.Expr.TheOpen.{Expr-F}
-use Rattle.sv_world.specs.declared.action.Expr.TheViews.{roll-Expr}
-use Rattle.sv_world.specs.declared.action.Expr.TheFolds.{ind-Expr}
-use Rattle.sv_world.specs.declared.action.Cond.{Cond, map-Cond}
+use Rattle.sv_world.specs.declared.action.Cond.{Cond}
 use Rattle.sv_world.specs.declared.action.Cond.TheVariants as test
-use Rattle.sv_world.specs.declared.action.Cond.TheOpen.{Cond-F}
-use Rattle.sv_world.specs.declared.action.Cond.TheViews.{roll-Cond}
-use Rattle.sv_world.specs.declared.action.Cond.TheFolds.{ind-Cond}
 use Rattle.sv_world.specs.declared.action.Stmt.{Stmt, map-Stmt}
 use Rattle.sv_world.specs.declared.action.Stmt.TheVariants as stmt
 use Rattle.sv_world.specs.declared.action.Stmt.TheOpen.{Stmt-F}
@@ -17,11 +11,8 @@ use Rattle.sv_world.specs.declared.action.Stmt.TheViews.{roll-Stmt}
 use Rattle.sv_world.specs.declared.action.Stmt.TheFolds.{ind-Stmt}
 use Rattle.sv_world.specs.declared.node.Node.{Node}
 use Rattle.sv_world.specs.declared.node.Operator.{Operator}
-use Rattle.sv_world.specs.declared.node.Operator.TheVariants.{Add, Sub, Mul, Div, Rem, Min, Max}
 use Rattle.sv_world.specs.declared.node.Comparison.{Comparison}
-use Rattle.sv_world.specs.declared.node.Comparison.TheVariants.{Eq, Lt, Le}
 use Rattle.sv_world.specs.declared.node.Connective.{Connective}
-use Rattle.sv_world.specs.declared.node.Connective.TheVariants.{And, Or}
 use Rattle.sv_world.specs.NodeTests.{node_passes, nodes_pass, nodes_weight}
 use Rattle.sv_world.specs.Parts.{Part, Expression, Condition, Statement, Block, binary_by, compare_by, join_by, parts}
 use Rattle.sv_world.specs.PartTrees.{part_nodes, part_passes}
@@ -30,6 +21,7 @@ use Rattle.sv_world.specs.Trees.{body_nodes, body_passes}
 use Rattle.sv_world.proofs.Back.{body_back}
 use Rattle.sv_world.proofs.Layers.{lit_spelled, attr_spelled, binary_spelled, compare_spelled, join_spelled, not_spelled, set_spelled, if_spelled}
 use Rattle.sv_world.proofs.Measured.{lit_nodes, attr_nodes, binary_nodes, compare_nodes, join_nodes, not_nodes, set_nodes, if_nodes, more_nodes, lit_passes, attr_passes, binary_passes, compare_passes, join_passes, not_passes, set_passes, if_passes, more_passes}
+use Rattle.sv_world.proofs.TreeInduction.{each_expr, each_cond}
 
 and_assoc : (x y z : Bool) → ((x && y) && z) ≡ (x && (y && z))
 and_assoc true y z = refl
@@ -85,19 +77,8 @@ binary_counts o a b x y = record {
   weight = omega (arith, ap nodes_weight (binary_spelled o a b), two_weigh (expr_spelled a) (expr_spelled b) (Expression a) (Expression b) x y, binary_nodes o (Expression a) (Expression b) refl);
 }
 
-expr_layer : {Z : Type 0} (p : Z → Expr) → ((z : Z) → ExprCounts (p z)) → (y : Expr-F Z) → ExprCounts (roll-Expr (map-Expr Z Expr p y))
-expr_layer p each (Expr-F.Lit n) = subst ExprCounts (sym (expr.rolls-Lit n)) (lit_counts n)
-expr_layer p each (Expr-F.Attr slot attr) = subst ExprCounts (sym (expr.rolls-Attr slot attr)) (attr_counts slot attr)
-expr_layer p each (Expr-F.Add x y) = subst ExprCounts (sym (expr.rolls-Add (p x) (p y))) (binary_counts Add (p x) (p y) (each x) (each y))
-expr_layer p each (Expr-F.Sub x y) = subst ExprCounts (sym (expr.rolls-Sub (p x) (p y))) (binary_counts Sub (p x) (p y) (each x) (each y))
-expr_layer p each (Expr-F.Mul x y) = subst ExprCounts (sym (expr.rolls-Mul (p x) (p y))) (binary_counts Mul (p x) (p y) (each x) (each y))
-expr_layer p each (Expr-F.Div x y) = subst ExprCounts (sym (expr.rolls-Div (p x) (p y))) (binary_counts Div (p x) (p y) (each x) (each y))
-expr_layer p each (Expr-F.Rem x y) = subst ExprCounts (sym (expr.rolls-Rem (p x) (p y))) (binary_counts Rem (p x) (p y) (each x) (each y))
-expr_layer p each (Expr-F.Min x y) = subst ExprCounts (sym (expr.rolls-Min (p x) (p y))) (binary_counts Min (p x) (p y) (each x) (each y))
-expr_layer p each (Expr-F.Max x y) = subst ExprCounts (sym (expr.rolls-Max (p x) (p y))) (binary_counts Max (p x) (p y) (each x) (each y))
-
 expr_counts : (e : Expr) → ExprCounts e
-expr_counts = ind-Expr ExprCounts (λ x y is. subst (λ (z : Expr-F Expr). ExprCounts (roll-Expr z)) is (expr_layer (λ e. e.0) (λ e. e.1) y))
+expr_counts = each_expr ExprCounts lit_counts attr_counts binary_counts
 
 -- ---- conditions
 
@@ -122,16 +103,8 @@ not_counts a x = record {
   weight = omega (arith, ap nodes_weight (not_spelled a), x.weight, not_nodes (Condition a) refl);
 }
 
-cond_layer : {Z : Type 0} (p : Z → Cond) → ((z : Z) → CondCounts (p z)) → (y : Cond-F Z) → CondCounts (roll-Cond (map-Cond Z Cond p y))
-cond_layer p each (Cond-F.Eq a b) = subst CondCounts (sym (test.rolls-Eq a b)) (compare_counts Eq a b)
-cond_layer p each (Cond-F.Lt a b) = subst CondCounts (sym (test.rolls-Lt a b)) (compare_counts Lt a b)
-cond_layer p each (Cond-F.Le a b) = subst CondCounts (sym (test.rolls-Le a b)) (compare_counts Le a b)
-cond_layer p each (Cond-F.And x y) = subst CondCounts (sym (test.rolls-And (p x) (p y))) (join_counts And (p x) (p y) (each x) (each y))
-cond_layer p each (Cond-F.Or x y) = subst CondCounts (sym (test.rolls-Or (p x) (p y))) (join_counts Or (p x) (p y) (each x) (each y))
-cond_layer p each (Cond-F.Not x) = subst CondCounts (sym (test.rolls-Not (p x))) (not_counts (p x) (each x))
-
 cond_counts : (c : Cond) → CondCounts c
-cond_counts = ind-Cond CondCounts (λ x y is. subst (λ (z : Cond-F Cond). CondCounts (roll-Cond z)) is (cond_layer (λ e. e.0) (λ e. e.1) y))
+cond_counts = each_cond CondCounts compare_counts join_counts not_counts
 
 -- ---- statements and blocks
 

@@ -3,16 +3,10 @@ use Rattle.std.proofs.Common.{◌≡◌, ℕ, ℤ, Bool, true, false, ◌&&◌, 
 use Rattle.std.specs.List.{flat_map}
 use Rattle.std.proofs.lemmas.List.Concat.{flat_map-cons}
 use Rattle.sv_world.specs.Trees.{all_true}
-use Rattle.sv_world.specs.declared.action.Expr.{Expr, map-Expr}
+use Rattle.sv_world.specs.declared.action.Expr.{Expr}
 use Rattle.sv_world.specs.declared.action.Expr.TheVariants as expr
-use Rattle.sv_world.specs.declared.action.Expr.TheOpen.{Expr-F}
-use Rattle.sv_world.specs.declared.action.Expr.TheViews.{roll-Expr}
-use Rattle.sv_world.specs.declared.action.Expr.TheFolds.{ind-Expr}
-use Rattle.sv_world.specs.declared.action.Cond.{Cond, map-Cond}
+use Rattle.sv_world.specs.declared.action.Cond.{Cond}
 use Rattle.sv_world.specs.declared.action.Cond.TheVariants as test
-use Rattle.sv_world.specs.declared.action.Cond.TheOpen.{Cond-F}
-use Rattle.sv_world.specs.declared.action.Cond.TheViews.{roll-Cond}
-use Rattle.sv_world.specs.declared.action.Cond.TheFolds.{ind-Cond}
 use Rattle.sv_world.specs.declared.action.Stmt.{Stmt, map-Stmt}
 use Rattle.sv_world.specs.declared.action.Stmt.TheVariants as stmt
 use Rattle.sv_world.specs.declared.action.Stmt.TheOpen.{Stmt-F}
@@ -31,6 +25,7 @@ use Rattle.sv_world.specs.Spelled.{expr_spelled, cond_spelled, stmt_spelled, run
 use Rattle.sv_world.specs.Ranges.{is_i64, is_byte, expr_fits_step, expr_fits, cond_fits_step, cond_fits, stmt_fits_step, stmt_fits, body_fits, node_fits}
 use Rattle.sv_world.proofs.Layers.{binary_layer, compare_layer, join_layer, lit_fold, attr_fold, binary_fold, compare_fold, join_fold, not_fold, set_fold, if_fold, lit_spelled, attr_spelled, binary_spelled, compare_spelled, join_spelled, not_spelled, set_spelled, if_spelled}
 use Rattle.sv_world.proofs.Back.{body_back}
+use Rattle.sv_world.proofs.TreeInduction.{each_expr, each_cond}
 
 -- ---- the test of a tree at each kind of node
 
@@ -112,19 +107,8 @@ attr_ranged slot attr = over (node.Attr slot attr) [] (expr_spelled (expr.Attr s
 binary_ranged : (o : Operator) (a b : Expr) → ExprRanged a → ExprRanged b → ExprRanged (binary_by o a b)
 binary_ranged o a b left right = over (node.Binary o) (expr_spelled a ++ expr_spelled b) (expr_spelled (binary_by o a b)) (expr_fits a && expr_fits b) (expr_fits (binary_by o a b)) (binary_spelled o a b) (binary_fits o a b) (two (expr_spelled a) (expr_spelled b) (expr_fits a) (expr_fits b) left right)
 
-expr_layer : {Z : Type 0} (p : Z → Expr) → ((z : Z) → ExprRanged (p z)) → (y : Expr-F Z) → ExprRanged (roll-Expr (map-Expr Z Expr p y))
-expr_layer p each (Expr-F.Lit n) = subst ExprRanged (sym (expr.rolls-Lit n)) (lit_ranged n)
-expr_layer p each (Expr-F.Attr slot attr) = subst ExprRanged (sym (expr.rolls-Attr slot attr)) (attr_ranged slot attr)
-expr_layer p each (Expr-F.Add x y) = subst ExprRanged (sym (expr.rolls-Add (p x) (p y))) (binary_ranged Add (p x) (p y) (each x) (each y))
-expr_layer p each (Expr-F.Sub x y) = subst ExprRanged (sym (expr.rolls-Sub (p x) (p y))) (binary_ranged Sub (p x) (p y) (each x) (each y))
-expr_layer p each (Expr-F.Mul x y) = subst ExprRanged (sym (expr.rolls-Mul (p x) (p y))) (binary_ranged Mul (p x) (p y) (each x) (each y))
-expr_layer p each (Expr-F.Div x y) = subst ExprRanged (sym (expr.rolls-Div (p x) (p y))) (binary_ranged Div (p x) (p y) (each x) (each y))
-expr_layer p each (Expr-F.Rem x y) = subst ExprRanged (sym (expr.rolls-Rem (p x) (p y))) (binary_ranged Rem (p x) (p y) (each x) (each y))
-expr_layer p each (Expr-F.Min x y) = subst ExprRanged (sym (expr.rolls-Min (p x) (p y))) (binary_ranged Min (p x) (p y) (each x) (each y))
-expr_layer p each (Expr-F.Max x y) = subst ExprRanged (sym (expr.rolls-Max (p x) (p y))) (binary_ranged Max (p x) (p y) (each x) (each y))
-
 expr_ranged : (e : Expr) → ExprRanged e
-expr_ranged = ind-Expr ExprRanged (λ x y is. subst (λ (z : Expr-F Expr). ExprRanged (roll-Expr z)) is (expr_layer (λ e. e.0) (λ e. e.1) y))
+expr_ranged = each_expr ExprRanged lit_ranged attr_ranged binary_ranged
 
 abbrev CondRanged : Cond → Type 0
 CondRanged c = all_fit (cond_spelled c) ≡ cond_fits c
@@ -138,16 +122,8 @@ join_ranged o a b left right = over (node.Join o) (cond_spelled a ++ cond_spelle
 not_ranged : (a : Cond) → CondRanged a → CondRanged (test.Not a)
 not_ranged a one = over node.Not (cond_spelled a) (cond_spelled (test.Not a)) (cond_fits a) (cond_fits (test.Not a)) (not_spelled a) (not_fits a) one
 
-cond_layer : {Z : Type 0} (p : Z → Cond) → ((z : Z) → CondRanged (p z)) → (y : Cond-F Z) → CondRanged (roll-Cond (map-Cond Z Cond p y))
-cond_layer p each (Cond-F.Eq a b) = subst CondRanged (sym (test.rolls-Eq a b)) (compare_ranged Eq a b)
-cond_layer p each (Cond-F.Lt a b) = subst CondRanged (sym (test.rolls-Lt a b)) (compare_ranged Lt a b)
-cond_layer p each (Cond-F.Le a b) = subst CondRanged (sym (test.rolls-Le a b)) (compare_ranged Le a b)
-cond_layer p each (Cond-F.And x y) = subst CondRanged (sym (test.rolls-And (p x) (p y))) (join_ranged And (p x) (p y) (each x) (each y))
-cond_layer p each (Cond-F.Or x y) = subst CondRanged (sym (test.rolls-Or (p x) (p y))) (join_ranged Or (p x) (p y) (each x) (each y))
-cond_layer p each (Cond-F.Not x) = subst CondRanged (sym (test.rolls-Not (p x))) (not_ranged (p x) (each x))
-
 cond_ranged : (c : Cond) → CondRanged c
-cond_ranged = ind-Cond CondRanged (λ x y is. subst (λ (z : Cond-F Cond). CondRanged (roll-Cond z)) is (cond_layer (λ e. e.0) (λ e. e.1) y))
+cond_ranged = each_cond CondRanged compare_ranged join_ranged not_ranged
 
 abbrev StmtRanged : Stmt → Type 0
 StmtRanged s = all_fit (stmt_spelled s) ≡ stmt_fits s

@@ -1,16 +1,10 @@
 -- The nodes that spell a tree spell that tree, whatever stands behind them.
 use Rattle.std.proofs.Common.{◌≡◌, ℕ, suc, List, [], ◌∷◌, ◌++◌, length, map, drop, refl, sym, ap, ◌∙◌, subst, append_assoc, eq-eqb}
 use Rattle.std.proofs.lemmas.List.{append-nil}
-use Rattle.sv_world.specs.declared.action.Expr.{Expr, map-Expr}
+use Rattle.sv_world.specs.declared.action.Expr.{Expr}
 use Rattle.sv_world.specs.declared.action.Expr.TheVariants as expr
-use Rattle.sv_world.specs.declared.action.Expr.TheOpen.{Expr-F}
-use Rattle.sv_world.specs.declared.action.Expr.TheViews.{roll-Expr}
-use Rattle.sv_world.specs.declared.action.Expr.TheFolds.{ind-Expr}
-use Rattle.sv_world.specs.declared.action.Cond.{Cond, map-Cond}
+use Rattle.sv_world.specs.declared.action.Cond.{Cond}
 use Rattle.sv_world.specs.declared.action.Cond.TheVariants as test
-use Rattle.sv_world.specs.declared.action.Cond.TheOpen.{Cond-F}
-use Rattle.sv_world.specs.declared.action.Cond.TheViews.{roll-Cond}
-use Rattle.sv_world.specs.declared.action.Cond.TheFolds.{ind-Cond}
 use Rattle.sv_world.specs.declared.action.Stmt.{Stmt, map-Stmt}
 use Rattle.sv_world.specs.declared.action.Stmt.TheVariants as stmt
 use Rattle.sv_world.specs.declared.action.Stmt.TheOpen.{Stmt-F}
@@ -18,14 +12,12 @@ use Rattle.sv_world.specs.declared.action.Stmt.TheViews.{roll-Stmt}
 use Rattle.sv_world.specs.declared.action.Stmt.TheFolds.{ind-Stmt}
 use Rattle.sv_world.specs.declared.node.Node.{Node}
 use Rattle.sv_world.specs.declared.node.Operator.{Operator}
-use Rattle.sv_world.specs.declared.node.Operator.TheVariants.{Add, Sub, Mul, Div, Rem, Min, Max}
 use Rattle.sv_world.specs.declared.node.Comparison.{Comparison}
-use Rattle.sv_world.specs.declared.node.Comparison.TheVariants.{Eq, Lt, Le}
 use Rattle.sv_world.specs.declared.node.Connective.{Connective}
-use Rattle.sv_world.specs.declared.node.Connective.TheVariants.{And, Or}
 use Rattle.sv_world.specs.Parts.{binary_by, compare_by, join_by, Part, Expression, Condition, Statement, Block, first, second, third, binary, comparison, connective, negated, assignment, choice, with_statement, block, kept, sized, parts, block_in, IsBody}
 use Rattle.sv_world.specs.Spelled.{expr_spelled, cond_spelled, stmt_spelled, run_spelled, body_spelled}
 use Rattle.sv_world.proofs.Layers.{lit_spelled, attr_spelled, binary_spelled, compare_spelled, join_spelled, not_spelled, set_spelled, if_spelled}
+use Rattle.sv_world.proofs.TreeInduction.{each_expr, each_cond}
 
 -- The nodes u spell p, whatever stands behind them.
 abbrev Spells : List Node → Part → Type 0
@@ -56,19 +48,8 @@ binary_spells o a b left right ns =
     ap (λ (u : List Node). parts (u ++ ns)) (binary_spelled o a b)
     ∙ ap (λ (ps : List Part). binary o (first ps) (second ps) ∷ drop 2 ps) (two (expr_spelled a) (expr_spelled b) (Expression a) (Expression b) left right ns)
 
-expr_layer : {Z : Type 0} (p : Z → Expr) → ((z : Z) → ExprSpells (p z)) → (y : Expr-F Z) → ExprSpells (roll-Expr (map-Expr Z Expr p y))
-expr_layer p each (Expr-F.Lit n) = subst ExprSpells (sym (expr.rolls-Lit n)) (lit_spells n)
-expr_layer p each (Expr-F.Attr slot attr) = subst ExprSpells (sym (expr.rolls-Attr slot attr)) (attr_spells slot attr)
-expr_layer p each (Expr-F.Add x y) = subst ExprSpells (sym (expr.rolls-Add (p x) (p y))) (binary_spells Add (p x) (p y) (each x) (each y))
-expr_layer p each (Expr-F.Sub x y) = subst ExprSpells (sym (expr.rolls-Sub (p x) (p y))) (binary_spells Sub (p x) (p y) (each x) (each y))
-expr_layer p each (Expr-F.Mul x y) = subst ExprSpells (sym (expr.rolls-Mul (p x) (p y))) (binary_spells Mul (p x) (p y) (each x) (each y))
-expr_layer p each (Expr-F.Div x y) = subst ExprSpells (sym (expr.rolls-Div (p x) (p y))) (binary_spells Div (p x) (p y) (each x) (each y))
-expr_layer p each (Expr-F.Rem x y) = subst ExprSpells (sym (expr.rolls-Rem (p x) (p y))) (binary_spells Rem (p x) (p y) (each x) (each y))
-expr_layer p each (Expr-F.Min x y) = subst ExprSpells (sym (expr.rolls-Min (p x) (p y))) (binary_spells Min (p x) (p y) (each x) (each y))
-expr_layer p each (Expr-F.Max x y) = subst ExprSpells (sym (expr.rolls-Max (p x) (p y))) (binary_spells Max (p x) (p y) (each x) (each y))
-
 pub expr_spells : (e : Expr) (ns : List Node) → parts (expr_spelled e ++ ns) ≡ Expression e ∷ parts ns
-expr_spells = ind-Expr ExprSpells (λ x y is. subst (λ (z : Expr-F Expr). ExprSpells (roll-Expr z)) is (expr_layer (λ e. e.0) (λ e. e.1) y))
+expr_spells = each_expr ExprSpells lit_spells attr_spells binary_spells
 
 -- ---- conditions
 
@@ -90,16 +71,8 @@ not_spells a one ns =
     ap (λ (u : List Node). parts (u ++ ns)) (not_spelled a)
     ∙ ap (λ (ps : List Part). negated (first ps) ∷ drop 1 ps) (one ns)
 
-cond_layer : {Z : Type 0} (p : Z → Cond) → ((z : Z) → CondSpells (p z)) → (y : Cond-F Z) → CondSpells (roll-Cond (map-Cond Z Cond p y))
-cond_layer p each (Cond-F.Eq a b) = subst CondSpells (sym (test.rolls-Eq a b)) (compare_spells Eq a b)
-cond_layer p each (Cond-F.Lt a b) = subst CondSpells (sym (test.rolls-Lt a b)) (compare_spells Lt a b)
-cond_layer p each (Cond-F.Le a b) = subst CondSpells (sym (test.rolls-Le a b)) (compare_spells Le a b)
-cond_layer p each (Cond-F.And x y) = subst CondSpells (sym (test.rolls-And (p x) (p y))) (join_spells And (p x) (p y) (each x) (each y))
-cond_layer p each (Cond-F.Or x y) = subst CondSpells (sym (test.rolls-Or (p x) (p y))) (join_spells Or (p x) (p y) (each x) (each y))
-cond_layer p each (Cond-F.Not x) = subst CondSpells (sym (test.rolls-Not (p x))) (not_spells (p x) (each x))
-
 pub cond_spells : (c : Cond) (ns : List Node) → parts (cond_spelled c ++ ns) ≡ Condition c ∷ parts ns
-cond_spells = ind-Cond CondSpells (λ x y is. subst (λ (z : Cond-F Cond). CondSpells (roll-Cond z)) is (cond_layer (λ e. e.0) (λ e. e.1) y))
+cond_spells = each_cond CondSpells compare_spells join_spells not_spells
 
 -- ---- statements and blocks
 
